@@ -1,0 +1,5 @@
+pub mod Forests
+pub mod Holes
+pub mod OneTree
+pub mod Leading
+pub mod OneAnswer

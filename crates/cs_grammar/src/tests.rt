@@ -1,0 +1,74 @@
+use super::*;
+use std::alloc::{AllocError, Global};
+use std::test::Fail;
+
+// e : e '+' t | t ;  t : NUM | '(' e ')' ;  with NUM 1, '+' 2, '(' 3, ')' 4, e 1, t 2.
+fn sums(alloc: Global) -> Result<Vec<Rule>, AllocError> {
+    let e = Symbol::Nonterminal(1);
+    let t = Symbol::Nonterminal(2);
+    let mut rules = Vec::new(alloc);
+    rules.push(Rule::new(1, [e, Symbol::Token(2), t].to_vec(alloc)?))?;
+    rules.push(Rule::new(1, [t].to_vec(alloc)?))?;
+    rules.push(Rule::new(2, [Symbol::Token(1)].to_vec(alloc)?))?;
+    rules.push(Rule::new(2, [Symbol::Token(3), e, Symbol::Token(4)].to_vec(alloc)?))?;
+    Ok(rules)
+}
+
+#[test]
+fn derivations_of_sums(rt: HostRuntime) -> Result<(), Fail> {
+    let alloc = rt.alloc();
+    let rules = sums(alloc)?;
+    assert!(rt; Grammar::fits(4, 2, 1, &rules));
+    let grammar = Grammar::new(4, 2, 1, rules);
+    assert_eq!(rt;
+        (grammar.tokens(), grammar.nonterminals(), grammar.start()),
+        (4, 2, 1)
+    );
+    assert_eq!(rt; grammar.rules().len(), 4);
+    let cases: [(&[u16], Result<&[u16], ExpandError>); 6] = [
+        (&[1, 2, 3, 3], Ok(&[1, 2, 1])),
+        (&[2, 4, 2, 3], Ok(&[3, 1, 4])),
+        (&[2, 3, 3], Err(ExpandError::TooMany { at: 2 })),
+        (&[2, 4], Err(ExpandError::TooFew)),
+        (&[2, 1], Err(ExpandError::WrongRule { at: 1 })),
+        (&[0], Err(ExpandError::WrongRule { at: 0 })),
+    ];
+    for (code, want) in cases {
+        let mut derivation = Derivation::new(alloc);
+        derivation.extend_from_slice(code)?;
+        assert!(rt; derivation.rules().len() < 10);
+        match (expand(alloc, &grammar, &derivation), want) {
+            (Ok(tokens), Ok(want)) => assert_eq!(rt; tokens.as_slice(), want),
+            (Err(error), Err(want)) => assert_eq!(rt; error, want),
+            _ => panic!(rt; "the other outcome at {code:?}"),
+        }
+    }
+    Ok(())
+}
+
+#[test]
+fn what_fits(rt: HostRuntime) -> Result<(), Fail> {
+    let alloc = rt.alloc();
+    let rules = sums(alloc)?;
+    let cases = [
+        (4, 2, 1, true),
+        (512, 1024, 2, true),
+        (3, 2, 1, false),
+        (4, 1, 1, false),
+        (4, 2, 0, false),
+        (4, 2, 3, false),
+        (513, 2, 1, false),
+        (4, 1025, 1, false),
+    ];
+    for (tokens, nonterminals, start, want) in cases {
+        assert_eq!(rt;
+            Grammar::fits(tokens, nonterminals, start, &rules),
+            want,
+            "{tokens} {nonterminals} {start}"
+        );
+    }
+    let mut derivation = Derivation::new(alloc);
+    derivation.push(3)?;
+    assert_eq!(rt; derivation.rules(), [3].as_slice());
+    Ok(())
+}
