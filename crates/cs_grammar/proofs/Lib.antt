@@ -3,3 +3,4 @@ pub mod Holes
 pub mod OneTree
 pub mod Leading
 pub mod OneAnswer
+pub mod Measures

@@ -1,0 +1,49 @@
+-- What the code and the yield of a tree hold.
+use Rattle.std.proofs.Common.{◌≡◌, ℕ, ◌-◌, ◌≤◌, List, [], ◌∷◌, Some, length, sym, subst, arith, length-append}
+use Rattle.std.specs.Prelude.{All, slice_get}
+use Rattle.std.proofs.lemmas.List.Elements.{All-append, All-nil, All-cons, All-head, All-tail}
+use Rattle.std.proofs.lemmas.Option.{slice_get_within, get_or_from_slice_get}
+use Rattle.cs_grammar.specs.declared.symbol.Symbol.{Symbol}
+use Rattle.cs_grammar.specs.declared.symbol.Symbol.TheVariants.{Nonterminal}
+use Rattle.cs_grammar.specs.Grammar.{Production, Syntax, IsRule, IsNumberOf, IsSymbol, IsRuleOf, IsGrammar}
+use Rattle.cs_grammar.specs.Leftmost.{IsYield}
+use Rattle.cs_grammar.specs.Tree.{Tree, Leaf, Node, Forest, Bare, Grown, IsTree, AreTrees, size, sizes, code, codes_of, yield, yields}
+
+-- a tree has a node for each entry of its code
+mutual
+  pub length-code : (t : Tree) → length (code t) ≤ size t
+  length-code (Leaf t) = omega arith
+  length-code (Node r children) = omega (arith, length-codes_of children)
+
+  pub length-codes_of : (f : Forest) → length (codes_of f) ≤ sizes f
+  length-codes_of Bare = omega arith
+  length-codes_of (Grown t f) = omega (arith, length-code t, length-codes_of f, length-append (code t) (codes_of f))
+
+-- what holds of each member of a list holds of the one at a place
+pub All-at : {A : Type 0} (P : A → Type 0) (xs : List A) (k : ℕ) (x : A) → All P xs → slice_get xs k ≡ Some x → P x
+All-at P xs k x all at = subst P (get_or_from_slice_get xs k x x at) (all k x (slice_get_within xs k x at))
+
+-- a rule of a well-formed grammar is of its tokens and nonterminals
+pub IsRuleOf-rule : (g : Syntax) (r : ℕ) (p : Production) → IsGrammar g → IsRule g r p → IsRuleOf g.tokens g.nonterminals p
+IsRuleOf-rule g r p well rule = All-at (IsRuleOf g.tokens g.nonterminals) g.rules (r - 1) p well.rules rule.at
+
+-- the tokens of a yield are tokens of the grammar
+module _ (g : Syntax) (well : IsGrammar g) where
+  mutual
+    pub IsNumberOf-yield : (t : Tree) (x : Symbol) → IsTree g x t → IsSymbol g.tokens g.nonterminals x → All (IsNumberOf g.tokens) (yield t)
+    IsNumberOf-yield (Leaf s) x h within =
+        All-cons (IsNumberOf g.tokens) s [] (subst (IsSymbol g.tokens g.nonterminals) h within) (All-nil (IsNumberOf g.tokens))
+    IsNumberOf-yield (Node r f) x h within = IsNumberOf-yields f h.0.right h.3 (IsRuleOf-rule g r h.0 well h.1).right
+
+    pub IsNumberOf-yields : (f : Forest) (xs : List Symbol) → AreTrees g xs f → All (IsSymbol g.tokens g.nonterminals) xs → All (IsNumberOf g.tokens) (yields f)
+    IsNumberOf-yields Bare [] h within = All-nil (IsNumberOf g.tokens)
+    IsNumberOf-yields Bare (x ∷ xs) h within = absurd h
+    IsNumberOf-yields (Grown t f) [] h within = absurd h
+    IsNumberOf-yields (Grown t f) (x ∷ xs) h within =
+        All-append (IsNumberOf g.tokens) (yield t) (yields f)
+        (IsNumberOf-yield t x h.0 (All-head (IsSymbol g.tokens g.nonterminals) x xs within))
+        (IsNumberOf-yields f xs h.1 (All-tail (IsSymbol g.tokens g.nonterminals) x xs within))
+
+  pub IsNumberOf-IsYield : (rules tokens : List ℕ) → IsYield g rules tokens → All (IsNumberOf g.tokens) tokens
+  IsNumberOf-IsYield rules tokens y =
+      subst (All (IsNumberOf g.tokens)) (sym y.yield) (IsNumberOf-yield y.tree (Nonterminal g.start) y.is_tree well.start)
