@@ -1,0 +1,9 @@
+pub mod Ahead
+pub mod Digits
+pub mod Fronts
+pub mod CommentSizes
+pub mod QuotedSizes
+pub mod PartSizes
+pub mod BlockSteps
+pub mod LiteralValues
+pub mod WordLists

@@ -1,0 +1,73 @@
+//! Comments.
+
+ghost use Rattle.std.specs.Prelude.{◌≡◌, ℕ, ◌-◌, ◌<◌, ◌≤◌, ◌==◌, ◌↔◌, length, drop, IsTrue, IfSome, IfNone};
+ghost use Rattle.std.specs.List.{position_or_len};
+ghost use Rattle.cs_ctext.specs.Comments.{IsComment, OpensComment};
+ghost use Rattle.cs_ctext.specs.Scans as scans;
+
+use crate::bytes::{from_offset, has_pair};
+
+/// Skips the comment that begins at `at`, and answers the offset behind it.
+///
+/// `/*` goes through the next `*/`, which shares no byte with the opener, so `/*/` isn't closed. `//` goes up to the next
+/// newline, which isn't part of it, or to the end. `None` comes exactly where `/*` isn't closed.
+pub fn skip_comment(bytes: &[u8], at: usize) -> Option<usize>
+    requires { OpensComment (drop at bytes.now) }
+    ensures closed { IfSome result (λ end. IsComment (drop at bytes.now) (end - at)) }
+    ensures within { IfSome result (λ end. (at < end) × (end ≤ length bytes.now)) }
+    ensures unclosed { IfNone result ((size : ℕ) → ¬ IsComment (drop at bytes.now) size) }
+{
+    let size = comment_size(from_offset(bytes, at))?;
+    Some(at + size)
+}
+
+/// Whether a comment begins at `at`, closed or not.
+pub fn opens_comment(bytes: &[u8], at: usize) -> bool
+    ensures { IsTrue result ↔ OpensComment (drop at bytes.now) }
+{
+    opens(bytes, at)
+}
+
+/// Whether a comment begins at the place.
+pub fn opens(text: &[u8], at: usize) -> bool
+    ensures { result ≡ scans.opens_comment (drop at text.now) }
+{
+    has_pair(text, at, b'/', b'*') || has_pair(text, at, b'/', b'/')
+}
+
+/// The size of the comment in front of the text.
+#[tactic(auto, using(crate::proofs::Fronts::comment_within))]
+pub fn comment_size(text: &[u8]) -> Option<usize>
+    requires { IsTrue (scans.opens_comment text.now) }
+    ensures size { result ≡ scans.comment_size text.now }
+    ensures within { IfSome result (λ size. (0 < size) × (size ≤ length text.now)) }
+{
+    let inside = from_offset(text, 2);
+    if has_pair(text, 0, b'/', b'/') {
+        return Some(line_size(inside) + 2);
+    }
+    let size = closing_size(inside)?;
+    Some(size + 2)
+}
+
+/// The size of what stands before the next newline, or of the whole text.
+fn line_size(text: &[u8]) -> usize
+    ensures size { result ≡ position_or_len (λ b. b == 10) text.now }
+    ensures within { result ≤ length text.now }
+{
+    text.iter().take_while(|byte| **byte != b'\n').count()
+}
+
+/// The size through the first `*/`.
+#[tactic(auto, using(crate::proofs::Fronts::pair_within))]
+fn closing_size(text: &[u8]) -> Option<usize>
+    ensures size { result ≡ scans.closing_size text.now }
+    ensures within { IfSome result (λ size. size ≤ length text.now) }
+{
+    for index in 0..text.len() {
+        if has_pair(text, index, b'*', b'/') {
+            return Some(index + 2);
+        }
+    }
+    None
+}
