@@ -15,7 +15,7 @@ mod symbol;
 pub use derivation::Derivation;
 pub use expansion::{ExpandError, expand};
 pub use grammar::Grammar;
-pub use laws::one_tree;
+pub use laws::{one_outcome, one_tree};
 pub use rule::Rule;
 pub use symbol::{Mark, Symbol};
 

@@ -47,6 +47,26 @@ fn derivations_of_sums(rt: HostRuntime) -> Result<(), Fail> {
 }
 
 #[test]
+fn a_deep_derivation(rt: HostRuntime) -> Result<(), Fail> {
+    let alloc = rt.alloc();
+    let rules = sums(alloc)?;
+    assert!(rt; Grammar::fits(4, 2, 1, &rules));
+    let grammar = Grammar::new(4, 2, 1, rules);
+    let mut derivation = Derivation::new(alloc);
+    for (rule, times) in [(1, 100_000), (2, 1), (3, 100_001)] {
+        for _ in 0..times {
+            derivation.push(rule)?;
+        }
+    }
+    assert!(rt; derivation.rules().len() < 300_000);
+    match expand(alloc, &grammar, &derivation) {
+        Ok(tokens) => assert_eq!(rt; tokens.len(), 200_001),
+        Err(error) => panic!(rt; "{error}"),
+    }
+    Ok(())
+}
+
+#[test]
 fn what_fits(rt: HostRuntime) -> Result<(), Fail> {
     let alloc = rt.alloc();
     let rules = sums(alloc)?;
