@@ -1,0 +1,185 @@
+-- How many tokens, nonterminals, rules and symbols the items can give.
+use Rattle.std.proofs.Common.{◌≡◌, ℕ, suc, ◌+◌, ◌<◌, ◌≤◌, Bool, true, false, cond, List, [], ◌∷◌, ◌++◌, length, get_or, length-append, sym, ap, ◌∙◌, arith}
+use Rattle.std.specs.Prelude.{Option, Some, None, filter, not}
+use Rattle.std.specs.List.{All}
+use Rattle.std.proofs.lemmas.List.Elements.{All-nil, All-cons, All-append, All-map}
+use Rattle.cs_yacc.specs.declared.name.TokenName.{TokenName}
+use Rattle.cs_yacc.specs.declared.name.TokenName.TheVariants.{Word}
+use Rattle.cs_yacc.specs.Items.{Item, mark, token, unknown, name, literal, colon, semicolon, bar, Placed, items_of, ReadsTo, Ends, at_end, Reads}
+use Rattle.cs_yacc.specs.Meaning.{same_word, distinct, from_each, word_at, left_at, left_sides, nonterminals, spelled, is_in_use, tokens, body, bodies, SpelledRule, rules_of, rules_at, rules, begins_with_colon}
+use Rattle.std.proofs.lemmas.List.{length-map, get_or-map}
+use Rattle.cs_yacc.specs.declared.item.Placed as held_item
+use Rattle.cs_yacc.specs.Views.{placed_of, placed_all}
+use Rattle.cs_yacc.specs.declared.word.Word as code
+use Rattle.cs_yacc.specs.declared.spelled.SpelledRule as held
+use Rattle.cs_yacc.specs.WordView.{word_of, words_of}
+use Rattle.cs_yacc.specs.RuleView.{opened, next_left, rule_of, spelled_rules}
+use Rattle.cs_yacc.proofs.Reading.{follows_within}
+use Rattle.cs_yacc.proofs.RuleLoop.{pending, rule_step}
+
+-- ---- items
+
+few_to : (bytes : List ℕ) (from : ℕ) (ps : List Placed) (to : ℕ) → from ≤ length bytes → ReadsTo bytes from ps to → from + length ps ≤ to
+few_to bytes from [] to le r = omega (arith, r)
+few_to bytes from (p ∷ ps) to le r =
+    let w = follows_within bytes from p r.0 le r.1 in
+    let rest : r.0 + length ps ≤ to = few_to bytes r.0 ps to w.1 r.2 in
+    omega (arith, w.0, rest)
+
+ends_within : (bytes : List ℕ) (ps : List Placed) (to : ℕ) → Ends bytes ps to → to ≤ length bytes
+ends_within bytes ps to (at_end le g) = le
+
+-- there are at most as many items as bytes
+pub few_items : (bytes : List ℕ) (ps : List Placed) → Reads bytes ps → length ps ≤ length bytes
+few_items bytes ps r = omega (arith, few_to bytes 0 ps r.to (omega arith) r.read, ends_within bytes ps r.to r.ends)
+
+-- ---- words
+
+filter_few_step : {X : Type 0} (b : Bool) (x : X) (ys : List X) (n : ℕ) → length ys ≤ n → length (cond b (x ∷ ys) ys) ≤ suc n
+filter_few_step true x ys n h = omega arith
+filter_few_step false x ys n h = omega arith
+
+filter_few : {X : Type 0} (p : X → Bool) (xs : List X) → length (filter p xs) ≤ length xs
+filter_few p [] = omega arith
+filter_few p (x ∷ xs) = filter_few_step (p x) x (filter p xs) (length xs) (filter_few p xs)
+
+distinct_few : (ws : List TokenName) → length (distinct ws) ≤ length ws
+distinct_few [] = omega arith
+distinct_few (w ∷ ws) = omega (arith, distinct_few ws, filter_few (λ v. not (same_word w v)) (distinct ws))
+
+from_each_few : {A : Type 0} (f : Item → List Item → List A) → ((i : Item) (r : List Item) → length (f i r) ≤ 1) → (items : List Item) → length (from_each f items) ≤ length items
+from_each_few f one [] = omega arith
+from_each_few f one (i ∷ items) = omega (arith, one i items, from_each_few f one items, length-append (f i items) (from_each f items))
+
+one_left : (i : Item) (r : List Item) → length (left_at i r) ≤ 1
+one_left mark r = omega arith
+one_left token r = omega arith
+one_left (unknown w) r = omega arith
+one_left (name n) r = by_colon (begins_with_colon r)
+  where
+    by_colon : (b : Bool) → length (cond b (Word n ∷ []) []) ≤ 1
+    by_colon true = omega arith
+    by_colon false = omega arith
+one_left (literal b) r = omega arith
+one_left colon r = omega arith
+one_left semicolon r = omega arith
+one_left bar r = omega arith
+
+one_word : (i : Item) (r : List Item) → length (word_at i) ≤ 1
+one_word mark r = omega arith
+one_word token r = omega arith
+one_word (unknown w) r = omega arith
+one_word (name n) r = omega arith
+one_word (literal b) r = omega arith
+one_word colon r = omega arith
+one_word semicolon r = omega arith
+one_word bar r = omega arith
+
+pub few_nonterminals : (items : List Item) → length (nonterminals items) ≤ length items
+few_nonterminals items = omega (arith, distinct_few (left_sides items), from_each_few left_at one_left items)
+
+pub few_tokens : (items : List Item) → length (tokens items) ≤ length items
+few_tokens items =
+    omega (arith, distinct_few (filter (is_in_use items) (spelled items)), filter_few (is_in_use items) (spelled items), from_each_few (λ i _. word_at i) one_word items)
+
+-- ---- rules
+
+one_opened : (left : Option TokenName) (i : Item) (r : List Item) → length (opened left i r) ≤ 1
+one_opened None i r = omega arith
+one_opened (Some l) mark r = omega arith
+one_opened (Some l) token r = omega arith
+one_opened (Some l) (unknown w) r = omega arith
+one_opened (Some l) (name n) r = omega arith
+one_opened (Some l) (literal b) r = omega arith
+one_opened (Some l) colon r = omega arith
+one_opened (Some l) semicolon r = omega arith
+one_opened (Some l) bar r = omega arith
+
+few_pending : (left : Option TokenName) (items : List Item) → length (pending left (bodies items) ++ rules items) ≤ length items
+few_pending None [] = omega arith
+few_pending (Some l) [] = omega arith
+few_pending left (i ∷ items) =
+    let next = next_left left i items in
+    let rest = few_pending next items in
+    let both = length-append (opened next i items) (pending next (bodies items) ++ rules items) in
+    omega (arith, ap length (rule_step left i items), both, rest, one_opened next i items)
+
+pub few_rules : (items : List Item) → length (rules items) ≤ length items
+few_rules items = few_pending None items
+
+-- the code's words are as many as the words that they are
+pub few_keys : (keys : List code.Word) (ws : List TokenName) (n : ℕ) → words_of keys ≡ ws → length ws ≤ n → length keys ≤ n
+few_keys keys ws n e le = omega (arith, ap length e, length-map keys word_of)
+
+pub few_spelled : (held_rules : List held.SpelledRule) (rs : List SpelledRule) (n : ℕ) → spelled_rules held_rules ≡ rs → length rs ≤ n → length held_rules ≤ n
+few_spelled held_rules rs n e le = omega (arith, ap length e, length-map held_rules rule_of)
+
+-- a right side of a list of rules in which each is short
+pub right_within : (held_rules : List held.SpelledRule) (k : ℕ) (r : held.SpelledRule) (n : ℕ) → r ≡ get_or held_rules k r → k < length held_rules
+    → All (λ (s : SpelledRule). length s.right < n) (spelled_rules held_rules) → length r.right.items < n
+right_within held_rules k r n is lt all =
+    let at : get_or (spelled_rules held_rules) k (rule_of r) ≡ rule_of r = get_or-map rule_of held_rules k r (rule_of r) lt ∙ ap rule_of (sym is) in
+    let short : length (get_or (spelled_rules held_rules) k (rule_of r)).right < n = all k (rule_of r) (omega (arith, length-map held_rules rule_of)) in
+    let size : length (words_of r.right.items) < n = rw at at short in
+    omega (arith, size, length-map r.right.items word_of)
+
+-- ---- right sides
+
+few_body : (items : List Item) → length (body items) ≤ length items
+few_body [] = omega arith
+few_body (mark ∷ items) = omega arith
+few_body (token ∷ items) = omega arith
+few_body (unknown w ∷ items) = omega arith
+few_body (name n ∷ items) = by_colon (begins_with_colon items) (few_body items)
+  where
+    by_colon : (b : Bool) → length (body items) ≤ length items → length (cond b [] (Word n ∷ body items)) ≤ suc (length items)
+    by_colon true h = omega arith
+    by_colon false h = omega arith
+few_body (literal b ∷ items) = omega (arith, few_body items)
+few_body (colon ∷ items) = omega arith
+few_body (semicolon ∷ items) = omega arith
+few_body (bar ∷ items) = omega arith
+
+module _ (n : ℕ) where
+  abbrev IsShort : List TokenName → Type 0
+  IsShort right = length right ≤ n
+
+  short_bodies : (items : List Item) → length items ≤ n → All IsShort (bodies items)
+  short_bodies [] le = All-nil IsShort
+  short_bodies (mark ∷ items) le = short_bodies items (omega arith)
+  short_bodies (token ∷ items) le = short_bodies items (omega arith)
+  short_bodies (unknown w ∷ items) le = short_bodies items (omega arith)
+  short_bodies (name m ∷ items) le = by_colon (begins_with_colon items) (short_bodies items (omega arith))
+    where
+      by_colon : (b : Bool) → All IsShort (bodies items) → All IsShort (cond b [] (bodies items))
+      by_colon true h = All-nil IsShort
+      by_colon false h = h
+  short_bodies (literal b ∷ items) le = short_bodies items (omega arith)
+  short_bodies (colon ∷ items) le = All-cons IsShort (body items) (bodies items) (omega (arith, few_body items)) (short_bodies items (omega arith))
+  short_bodies (semicolon ∷ items) le = short_bodies items (omega arith)
+  short_bodies (bar ∷ items) le = All-cons IsShort (body items) (bodies items) (omega (arith, few_body items)) (short_bodies items (omega arith))
+
+  abbrev HasShort : SpelledRule → Type 0
+  HasShort r = length r.right ≤ n
+
+  short_at : (i : Item) (items : List Item) → length items ≤ n → All HasShort (rules_at i items)
+  short_at mark items le = All-nil HasShort
+  short_at token items le = All-nil HasShort
+  short_at (unknown w) items le = All-nil HasShort
+  short_at (name m) items le = by_colon (begins_with_colon items)
+    where
+      by_colon : (b : Bool) → All HasShort (cond b (rules_of (Word m) (bodies items)) [])
+      by_colon true = All-map HasShort (λ right. record { left = Word m; right = right }) (bodies items) (short_bodies items le)
+      by_colon false = All-nil HasShort
+  short_at (literal b) items le = All-nil HasShort
+  short_at colon items le = All-nil HasShort
+  short_at semicolon items le = All-nil HasShort
+  short_at bar items le = All-nil HasShort
+
+  pub short_rights : (items : List Item) → length items ≤ n → All (λ (r : SpelledRule). length r.right ≤ n) (rules items)
+  short_rights [] le = All-nil HasShort
+  short_rights (i ∷ items) le = All-append HasShort (rules_at i items) (rules items) (short_at i items (omega arith)) (short_rights items (omega arith))
+
+-- the code's items are as many as the items that they are
+pub few_held : (held_items : List held_item.Placed) → length (items_of (placed_all held_items)) ≡ length held_items
+few_held held_items = length-map (placed_all held_items) (λ (p : Placed). p.item) ∙ length-map held_items placed_of

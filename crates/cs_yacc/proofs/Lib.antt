@@ -1,0 +1,14 @@
+pub mod Front
+pub mod Reading
+pub mod Known
+pub mod Taken
+pub mod Words
+pub mod Loops
+pub mod RuleLoop
+pub mod Numbers
+pub mod OneFile
+pub mod Counts
+pub mod Names
+pub mod Fits
+pub mod Whole
+pub mod Examples

@@ -1,0 +1,132 @@
+-- Loops over the items, from the front.
+use Rattle.std.proofs.Common.{append_assoc, true, false, ◌≢◌, ◌≡◌, ℕ, ◌+◌, ◌<◌, ◌≤◌, Bool, List, [], ◌∷◌, ◌++◌, length, drop, get_or, refl, sym, ap, subst, ◌∙◌}
+use Rattle.std.specs.Prelude.{Option, Some, None, filter, not, ◌&&◌}
+use Rattle.std.proofs.lemmas.List.{at_drop_more, at_drop_all, append-nil}
+use Rattle.indexmap.specs.IndexSet.{insert_all}
+use Rattle.cs_yacc.specs.declared.item.Placed as held
+use Rattle.cs_yacc.specs.declared.item.Item.TheVariants as variants
+use Rattle.cs_yacc.specs.declared.spelled.SpelledRule as prods
+use Rattle.cs_yacc.specs.RuleView.{spelled_rules}
+use Rattle.cs_yacc.specs.WordView.{words_of}
+use Rattle.std.specs.List.{flat_map}
+use Rattle.std.proofs.lemmas.List.Elements.{filter-append}
+use Rattle.cs_yacc.specs.Items.{Item, mark, token, unknown, name, literal, colon, semicolon, bar, items_of}
+use Rattle.cs_yacc.specs.Views.{item_of, placed_all}
+use Rattle.cs_yacc.specs.declared.name.TokenName.{TokenName}
+use Rattle.cs_yacc.specs.Meaning.{same_word, distinct, from_each, body, listed, first_at, has_word, used, nonterminals, left_sides, is_in_use, word_at, spelled, tokens}
+use Rattle.cs_yacc.proofs.Words.{Gathers, Gathers-more, Gathers-ends, has_distinct}
+
+-- what is left from an index on
+abbrev pub rest_at : List held.Placed → ℕ → List Item
+rest_at items k = items_of (placed_all (drop k items))
+
+pub rest_more : (items : List held.Placed) (k : ℕ) (p : held.Placed) → k < length items → rest_at items k ≡ item_of (get_or items k p).item ∷ rest_at items (k + 1)
+rest_more items k p lt = at_drop_more (λ xs. items_of (placed_all xs)) items k p lt
+
+pub rest_all : (items : List held.Placed) (k : ℕ) → length items ≤ k → rest_at items k ≡ []
+rest_all items k le = at_drop_all (λ xs. items_of (placed_all xs)) items k le
+
+module _ (f : Item → List Item → List TokenName) (items : List held.Placed) where
+  pub gather_step : (k : ℕ) (p : held.Placed) (old new ws all : List TokenName) (after : List held.Placed) → Gathers old (from_each f (rest_at items k)) all → k < length items
+      → after ≡ drop (k + 1) items → ws ≡ f (item_of (get_or items k p).item) (items_of (placed_all after)) → new ≡ insert_all same_word old ws → Gathers new (from_each f (rest_at items (k + 1))) all
+  gather_step k p old new ws all after g lt e is made =
+      let step : from_each f (rest_at items k) ≡ f (item_of (get_or items k p).item) (rest_at items (k + 1)) ++ from_each f (rest_at items (k + 1)) = ap (from_each f) (rest_more items k p lt) in
+      let given : ws ≡ f (item_of (get_or items k p).item) (rest_at items (k + 1)) = is ∙ ap (λ (x : List held.Placed). f (item_of (get_or items k p).item) (items_of (placed_all x))) e in
+      rw made (Gathers-more old (from_each f (rest_at items k)) (from_each f (rest_at items (k + 1))) all ws g (rw given step))
+
+  pub gather_ends : (k : ℕ) (table all : List TokenName) → Gathers table (from_each f (rest_at items k)) all → length items ≤ k → table ≡ distinct all
+  gather_ends k table all g le = Gathers-ends table all (subst (λ (x : List Item). Gathers table (from_each f x) all) (rest_all items k le) g)
+
+-- ---- a body
+
+module _ (items : List held.Placed) (total : List TokenName) where
+  pub body_more : (k : ℕ) (p : held.Placed) (words new : List TokenName) (w : TokenName) (after : List held.Placed) → words ++ body (rest_at items k) ≡ total → k < length items → after ≡ drop (k + 1) items
+      → body (item_of (get_or items k p).item ∷ items_of (placed_all after)) ≡ w ∷ body (items_of (placed_all after)) → new ≡ words ++ w ∷ [] → new ++ body (rest_at items (k + 1)) ≡ total
+  body_more k p words new w after so_far lt e step made =
+      let here : body (rest_at items k) ≡ w ∷ body (rest_at items (k + 1)) =
+      ap body (rest_more items k p lt) ∙ subst (λ (x : List held.Placed). body (item_of (get_or items k p).item ∷ items_of (placed_all x)) ≡ w ∷ body (items_of (placed_all x))) e step in
+      rw made (append_assoc words (w ∷ []) (body (rest_at items (k + 1))) ∙ ap (λ (x : List TokenName). words ++ x) (sym here) ∙ so_far)
+
+  pub body_stops : (k : ℕ) (p : held.Placed) (words : List TokenName) (after : List held.Placed) → words ++ body (rest_at items k) ≡ total → k < length items → after ≡ drop (k + 1) items
+      → body (item_of (get_or items k p).item ∷ items_of (placed_all after)) ≡ [] → words ≡ total
+  body_stops k p words after so_far lt e step =
+      let here : body (rest_at items k) ≡ [] = ap body (rest_more items k p lt) ∙ subst (λ (x : List held.Placed). body (item_of (get_or items k p).item ∷ items_of (placed_all x)) ≡ []) e step in
+      sym (append-nil words) ∙ ap (λ (x : List TokenName). words ++ x) (sym here) ∙ so_far
+
+  pub body_ends : (k : ℕ) (words : List TokenName) → words ++ body (rest_at items k) ≡ total → length items ≤ k → words ≡ total
+  body_ends k words so_far le = sym (append-nil words) ∙ ap (λ (x : List TokenName). words ++ x) (sym (ap body (rest_all items k le))) ∙ so_far
+
+-- ---- a list of names
+
+-- an item that is no name ends the list
+pub listed_stops : (i : Item) (items : List Item) → ((n : List ℕ) → i ≢ name n) → listed (i ∷ items) ≡ []
+listed_stops mark items h = refl
+listed_stops token items h = refl
+listed_stops (unknown w) items h = refl
+listed_stops (name n) items h = absurd (h n refl)
+listed_stops (literal b) items h = refl
+listed_stops colon items h = refl
+listed_stops semicolon items h = refl
+listed_stops bar items h = refl
+
+-- ---- the first item that passes
+
+module _ (t : Item → List Item → Bool) (items : List held.Placed) (total : Option ℕ) where
+  pub first_more : (k : ℕ) (p : held.Placed) (b : Bool) → first_at t (placed_all (drop k items)) ≡ total → k < length items
+      → b ≡ t (item_of (get_or items k p).item) (rest_at items (k + 1)) → b ≡ false → first_at t (placed_all (drop (k + 1) items)) ≡ total
+  first_more k p b so_far lt is no_pass =
+      let here : first_at t (placed_all (drop k items)) ≡ first_at t (placed_all (drop (k + 1) items)) = at_drop_more (λ xs. first_at t (placed_all xs)) items k p lt ∙ rw (sym is ∙ no_pass) refl in
+      sym here ∙ so_far
+
+  pub first_found : (k : ℕ) (p : held.Placed) (b : Bool) → first_at t (placed_all (drop k items)) ≡ total → k < length items
+      → b ≡ t (item_of (get_or items k p).item) (rest_at items (k + 1)) → b ≡ true → Some (get_or items k p).at ≡ total
+  first_found k p b so_far lt is passes =
+      let here : first_at t (placed_all (drop k items)) ≡ Some (get_or items k p).at = at_drop_more (λ xs. first_at t (placed_all xs)) items k p lt ∙ rw (sym is ∙ passes) refl in
+      sym here ∙ so_far
+
+  pub first_none : (k : ℕ) → first_at t (placed_all (drop k items)) ≡ total → length items ≤ k → None ≡ total
+  first_none k so_far le = sym (at_drop_all (λ xs. first_at t (placed_all xs)) items k le) ∙ so_far
+
+-- the element that a loop's item has where there is none
+abbrev pub no_item : held.Placed
+no_item = record { at = 0; item = variants.Mark }
+
+-- the same as code tests it, with the items behind
+module _ (t : Item → List Item → Bool) (items : List held.Placed) (total : Option ℕ) (k : ℕ) (b : Bool) (after : List held.Placed) (so_far : first_at t (placed_all (drop k items)) ≡ total) (lt : k < length items)
+    (behind : after ≡ drop (k + 1) items) (is : b ≡ t (item_of (get_or items k no_item).item) (items_of (placed_all after))) where
+  here : b ≡ t (item_of (get_or items k no_item).item) (rest_at items (k + 1))
+  here = is ∙ ap (λ (x : List held.Placed). t (item_of (get_or items k no_item).item) (items_of (placed_all x))) behind
+
+  pub passes_not : b ≡ false → first_at t (placed_all (drop (k + 1) items)) ≡ total
+  passes_not e = first_more t items total k no_item b so_far lt here e
+
+  pub passes : b ≡ true → Some (get_or items k no_item).at ≡ total
+  passes e = first_found t items total k no_item b so_far lt here e
+
+-- ---- tokens
+
+filter_same : (p q : TokenName → Bool) → ((w : TokenName) → p w ≡ q w) → (ws : List TokenName) → filter p ws ≡ filter q ws
+filter_same p q h [] = refl
+filter_same p q h (w ∷ ws) = rw (h w, filter_same p q h ws) refl
+
+-- the tests of the tables are those of the items
+pub in_use_is : (all : List Item) (used_table left_table ws : List TokenName) → used_table ≡ distinct (used all) → left_table ≡ nonterminals all
+    → filter (λ w. has_word used_table w && not (has_word left_table w)) ws ≡ filter (is_in_use all) ws
+in_use_is all used_table left_table ws u n =
+    filter_same (λ w. has_word used_table w && not (has_word left_table w)) (is_in_use all) (λ w. rw (u, n, has_distinct (used all) w, has_distinct (left_sides all) w) refl) ws
+
+filter-from_each : (p : TokenName → Bool) (items : List Item) → from_each (λ i _. filter p (word_at i)) items ≡ filter p (spelled items)
+filter-from_each p [] = refl
+filter-from_each p (i ∷ items) = rw (filter-from_each p items) (sym (filter-append p (word_at i) (spelled items)))
+
+pub tokens_end : (all : List Item) (items : List held.Placed) (k : ℕ) (table : List TokenName) → Gathers table (from_each (λ i _. filter (is_in_use all) (word_at i)) (rest_at items k)) (from_each (λ i _. filter (is_in_use all) (word_at i)) all)
+    → length items ≤ k → table ≡ tokens all
+tokens_end all items k table g le = gather_ends (λ i _. filter (is_in_use all) (word_at i)) items k table _ g le ∙ ap distinct (filter-from_each (is_in_use all) all)
+
+-- ---- words of the rules
+
+pub used_more : (rules : List prods.SpelledRule) (k : ℕ) (p : prods.SpelledRule) (old new right : List TokenName) (all : List TokenName) → Gathers old (flat_map (λ r. r.right) (spelled_rules (drop k rules))) all → k < length rules
+    → right ≡ words_of (get_or rules k p).right.items → new ≡ insert_all same_word old right → Gathers new (flat_map (λ r. r.right) (spelled_rules (drop (k + 1) rules))) all
+used_more rules k p old new right all g lt is made =
+    let step = at_drop_more (λ xs. flat_map (λ r. r.right) (spelled_rules xs)) rules k p lt in
+    rw made (Gathers-more old _ (flat_map (λ r. r.right) (spelled_rules (drop (k + 1) rules))) all right g (rw is step))

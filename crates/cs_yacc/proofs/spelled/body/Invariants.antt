@@ -1,0 +1,10 @@
+use Rattle.std.proofs.Common.{◌≡◌, ◌++◌}
+use Rattle.cs_yacc.specs.Items.{items_of}
+use Rattle.cs_yacc.specs.Meaning.{body}
+use Rattle.cs_yacc.specs.Views.{placed_all}
+use Rattle.cs_yacc.specs.WordView.{words_of}
+use Rattle.cs_yacc.proofs.Loops.{rest_at}
+use Rattle.cs_yacc.proofs.spelled.body.Given as goal
+
+abbrev pub invariant-loop-index : goal.invariant-loop-index
+invariant-loop-index l = words_of l.words.items ++ body (rest_at l.items l.index) ≡ body (items_of (placed_all l.items))

@@ -1,0 +1,23 @@
+-- A yacc file as contracts see it: a grammar, and the names of its symbols.
+use Rattle.std.specs.Prelude.{◌≡◌, ◌≢◌, ℕ, List, ◌++◌, length, map}
+use Rattle.std.specs.List.{AllPairs}
+use Rattle.cs_grammar.specs.Grammar.{Syntax, IsGrammar}
+use Rattle.cs_yacc.specs.declared.name.TokenName.{TokenName}
+use Rattle.cs_yacc.specs.declared.name.TokenName.TheVariants.{Word}
+
+-- Token t has the name at the place t - 1, and so has nonterminal n in its list.
+pub record File : Type 0 where
+  pub grammar : Syntax
+  pub token_names : List TokenName
+  pub nonterminal_names : List (List ℕ)
+
+-- the names of the tokens, and behind them those of the nonterminals
+abbrev pub all_names : File → List TokenName
+all_names f = f.token_names ++ map Word f.nonterminal_names
+
+-- the grammar is well formed, each of its symbols has a name, and all names differ
+pub record IsFile (f : File) : Type 0 where
+  pub grammar : IsGrammar f.grammar
+  pub tokens : length f.token_names ≡ f.grammar.tokens
+  pub nonterminals : length f.nonterminal_names ≡ f.grammar.nonterminals
+  pub differ : AllPairs (λ a b. a ≢ b) (all_names f)

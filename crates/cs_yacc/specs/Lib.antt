@@ -1,0 +1,11 @@
+pub mod Bytes
+pub mod Items
+pub mod Table
+pub mod File
+pub mod Meaning
+pub mod Reading
+pub mod Views
+pub mod PlaceView
+pub mod WordView
+pub mod RuleView
+pub mod Steps

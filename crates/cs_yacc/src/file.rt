@@ -1,0 +1,85 @@
+// What a yacc file says.
+
+ghost use Rattle.std.specs.Prelude.{◌≡◌};
+ghost use Rattle.cs_yacc.specs.File.{IsFile};
+
+use crate::name::{Name, TokenName};
+use cs_grammar::Grammar;
+use std::marker::Model;
+
+/// The grammar of a yacc file, and the names of its symbols. Token `t` has the name at `t - 1`, and so has nonterminal
+/// `n` in its list. Each symbol has a name, and all names differ.
+#[derive(Debug, Drop)]
+pub struct YaccFile {
+    grammar: Grammar,
+    token_names: Vec<TokenName>,
+    nonterminal_names: Vec<Name>,
+}
+
+impl Model for YaccFile {
+    ghost use Rattle.cs_yacc.specs.File.{File, IsFile};
+
+    ghost Value = { File };
+
+    ghost view = { λ f. record {
+      grammar = f.grammar;
+      token_names = f.token_names.items;
+      nonterminal_names = f.nonterminal_names.items;
+    } };
+
+    ghost invariant = { λ f. IsFile (record {
+      grammar = f.grammar;
+      token_names = f.token_names.items;
+      nonterminal_names = f.nonterminal_names.items;
+    }) };
+}
+
+impl YaccFile {
+    /// The file of these, which fit each other.
+    pub(crate) fn new(
+        grammar: Grammar,
+        token_names: Vec<TokenName>,
+        nonterminal_names: Vec<Name>,
+    ) -> YaccFile
+        requires { IsFile (record {
+          grammar = grammar;
+          token_names = token_names.items;
+          nonterminal_names = nonterminal_names.items;
+        }) }
+        ensures { result ≡ record {
+          grammar = grammar;
+          token_names = token_names.items;
+          nonterminal_names = nonterminal_names.items;
+        } }
+    {
+        YaccFile {
+            grammar,
+            token_names,
+            nonterminal_names,
+        }
+    }
+
+    /// The grammar.
+    pub fn grammar(&self) -> &Grammar
+        ensures grammar { result.now ≡ self.now.grammar }
+        ensures named { IsFile self.now }
+    {
+        &self.grammar
+    }
+
+    /// The names of the tokens, in the order of their numbers.
+    pub fn token_names(&self) -> &[TokenName]
+        ensures names { result.now ≡ self.now.token_names }
+        ensures named { IsFile self.now }
+    {
+        &self.token_names
+    }
+
+    /// The names of the nonterminals, in the order of their numbers.
+    pub fn nonterminal_names(&self) -> &[Name]
+        ensures names { result.now ≡ self.now.nonterminal_names }
+        ensures named { IsFile self.now }
+    {
+        &self.nonterminal_names
+    }
+}

@@ -1,0 +1,42 @@
+// Words: what may be a symbol.
+
+ghost use Rattle.std.specs.Prelude.{◌≡◌, Bool, OnOk, OnErr, IfOk, map, length, option_copied, IsTrue};
+ghost use Rattle.cs_yacc.specs.Meaning as spec;
+ghost use Rattle.cs_yacc.specs.WordView.{word_of, words_of, words_in};
+ghost use Rattle.indexmap.specs.IndexSet.{insert_key, insert_all};
+
+use indexmap::IndexSet;
+use std::alloc::AllocError;
+
+/// A name or a byte between quotes, in the bytes of the file.
+#[derive(Clone, Copy, Debug, PartialEq, Eq, Hash)]
+pub enum Word<'a> {
+    Named(&'a [u8]),
+    Quoted(u8),
+}
+
+/// Puts the word last, if the words lack it.
+pub fn add<'a>(words: &mut IndexSet<Word<'a>>, word: Word<'a>) -> Result<(), AllocError>
+    ensures { OnOk result (words_of words.new.keys ≡ insert_key spec.same_word (words_of words.old.keys) (word_of word.entry)) }
+{
+    words.insert(word)?;
+    Ok(())
+}
+
+pub fn add_some<'a>(
+    words: &mut IndexSet<Word<'a>>,
+    word: Option<Word<'a>>,
+) -> Result<(), AllocError>
+    ensures { OnOk result (words_of words.new.keys ≡ insert_all spec.same_word (words_of words.old.keys) (words_in word.entry)) }
+{
+    match word {
+        Some(word) => add(words, word),
+        None => Ok(()),
+    }
+}
+
+pub fn has(words: &IndexSet<Word<'_>>, word: Word<'_>) -> bool
+    ensures { result ≡ spec.has_word (words_of words.now.keys) (word_of word.entry) }
+{
+    words.contains(&word)
+}
