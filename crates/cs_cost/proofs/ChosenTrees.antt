@@ -1,0 +1,253 @@
+-- A symbol with a tree has a chosen tree, and only one.
+use Rattle.std.proofs.Common.{◌≡◌, ℕ, zero, suc, ◌+◌, ◌-◌, ◌<◌, ◌≤◌, ◌⊎◌, List, [], ◌∷◌, Some, length, get_or, refl, sym, ap, ◌∙◌, subst, ⊎_elim, inl, inr, arith}
+use Rattle.std.specs.Prelude.{slice_get}
+use Rattle.std.proofs.lemmas.Bool.{cases_eq, cases_lt}
+use Rattle.std.proofs.lemmas.Option.{slice_get_within, slice_get-get_or}
+use Rattle.cs_grammar.specs.declared.symbol.Symbol.{Symbol}
+use Rattle.cs_grammar.specs.declared.symbol.Symbol.TheVariants.{Token, Nonterminal}
+use Rattle.cs_grammar.specs.Grammar.{Production, Syntax, IsRule}
+use Rattle.cs_grammar.specs.Tree.{Tree, Leaf, Node, Forest, Bare, Grown, IsTree, AreTrees, size, sizes}
+use Rattle.cs_grammar.proofs.OneTree.{one_rule}
+use Rattle.cs_cost.specs.Chosen.{IsFirst, IsChosen, AreChosen}
+
+pub size_above : (t : Tree) → 0 < size t
+size_above (Leaf t) = omega arith
+size_above (Node r f) = omega arith
+
+module _ (g : Syntax) where
+  -- a chosen tree is a tree
+  mutual
+    pub IsTree-chosen : (t : Tree) (x : Symbol) → IsChosen g x t → IsTree g x t
+    IsTree-chosen (Leaf s) x h = h
+    IsTree-chosen (Node r f) x h = (h.0, h.1, h.2, AreTrees-chosen f h.0.right h.4)
+
+    pub AreTrees-chosen : (f : Forest) (xs : List Symbol) → AreChosen g xs f → AreTrees g xs f
+    AreTrees-chosen Bare [] h = tt
+    AreTrees-chosen Bare (x ∷ xs) h = absurd h
+    AreTrees-chosen (Grown t f) [] h = absurd h
+    AreTrees-chosen (Grown t f) (x ∷ xs) h = (IsTree-chosen t x h.0, AreTrees-chosen f xs h.1)
+
+  -- a symbol has one chosen tree
+  mutual
+    pub one_chosen : (t u : Tree) (x : Symbol) → IsChosen g x t → IsChosen g x u → t ≡ u
+    one_chosen (Leaf s) (Leaf s') x ht hu = let same : s ≡ s' = cc in ap Leaf same
+    one_chosen (Leaf s) (Node q h) x ht hu = let e = hu.2 in absurd cc
+    one_chosen (Node r f) (Leaf s) x ht hu = let e = ht.2 in absurd cc
+    one_chosen (Node r f) (Node q h) x ht hu =
+        let t_is = IsTree-chosen (Node r f) x ht in
+        let u_is = IsTree-chosen (Node q h) x hu in
+        let below = ht.3.least (Node q h) u_is in
+        let above = hu.3.least (Node r f) t_is in
+        let lower = ht.3.lowest q h u_is (omega (arith, below, above)) in
+        let higher = hu.3.lowest r f t_is (omega (arith, below, above)) in
+        let rule : r ≡ q = omega (arith, lower, higher) in
+        let same = one_rule g r q ht.0 hu.0 rule ht.1 hu.1 in
+        let there = subst (λ (p : Production). AreChosen g p.right h) (sym same) hu.4 in
+        let trees = all_chosen f h ht.0.right ht.4 there in
+        cc
+
+    pub all_chosen : (f h : Forest) (xs : List Symbol) → AreChosen g xs f → AreChosen g xs h → f ≡ h
+    all_chosen Bare Bare xs cf ch = refl
+    all_chosen Bare (Grown u h) [] cf ch = absurd ch
+    all_chosen Bare (Grown u h) (x ∷ xs) cf ch = absurd cf
+    all_chosen (Grown t f) Bare [] cf ch = absurd cf
+    all_chosen (Grown t f) Bare (x ∷ xs) cf ch = absurd ch
+    all_chosen (Grown t f) (Grown u h) [] cf ch = absurd cf
+    all_chosen (Grown t f) (Grown u h) (x ∷ xs) cf ch =
+        let first = one_chosen t u x cf.0 ch.0 in
+        let others = all_chosen f h xs cf.1 ch.1 in
+        cc
+
+-- the chosen tree of a symbol, which is of least size
+pub record LeastTree (g : Syntax) (x : Symbol) : Type 0 where
+  pub tree : Tree
+  pub chosen : IsChosen g x tree
+  pub least : (u : Tree) → IsTree g x u → size tree ≤ size u
+
+-- the chosen trees of some symbols, which are of least size together
+pub record LeastForest (g : Syntax) (xs : List Symbol) : Type 0 where
+  pub trees : Forest
+  pub chosen : AreChosen g xs trees
+  pub least : (f : Forest) → AreTrees g xs f → sizes trees ≤ sizes f
+
+-- each tree of x has more than n nodes, or there is a chosen one
+abbrev pub Settled : Syntax → ℕ → Symbol → Type 0
+Settled g n x = ((t : Tree) → IsTree g x t → n < size t) ⊎ LeastTree g x
+
+abbrev pub AreSettled : Syntax → ℕ → List Symbol → Type 0
+AreSettled g n xs = ((f : Forest) → AreTrees g xs f → n < sizes f) ⊎ LeastForest g xs
+
+-- each tree of m whose rule is at most i has more than n nodes
+abbrev pub NoNode : Syntax → ℕ → ℕ → ℕ → Type 0
+NoNode g m n i = (q : ℕ) (f : Forest) → q ≤ i → IsTree g (Nonterminal m) (Node q f) → n < size (Node q f)
+
+-- the first least one of those trees, which has at most n nodes
+pub record BestNode (g : Syntax) (m n i : ℕ) : Type 0 where
+  pub number : ℕ
+  pub rule : Production
+  pub is_rule : IsRule g number rule
+  pub of_left : rule.left ≡ m
+  pub trees : Forest
+  pub chosen : AreChosen g rule.right trees
+  pub within : number ≤ i
+  pub small : 1 + sizes trees ≤ n
+  pub least : (q : ℕ) (f : Forest) → q ≤ i → IsTree g (Nonterminal m) (Node q f) → 1 + sizes trees ≤ size (Node q f)
+  pub lowest : (q : ℕ) (f : Forest) → q ≤ i → IsTree g (Nonterminal m) (Node q f) → size (Node q f) ≡ 1 + sizes trees → number ≤ q
+
+module _ (g : Syntax) where
+  pub forest_settled : (n : ℕ) → ((x : Symbol) → Settled g n x) → (xs : List Symbol) → AreSettled g n xs
+  forest_settled n each [] = inr (record { trees = Bare; chosen = tt; least = λ f h. omega arith })
+  forest_settled n each (x ∷ xs) =
+      ⊎_elim
+      (λ none. inl (λ f h. no_first f h none))
+      (λ t. ⊎_elim
+      (λ none. inl (λ f h. no_others f h none))
+      (λ ts. inr (record { trees = Grown t.tree ts.trees; chosen = (t.chosen, ts.chosen); least = λ f h. both f h t ts }))
+      (forest_settled n each xs))
+      (each x)
+    where
+      no_first : (f : Forest) → AreTrees g (x ∷ xs) f → ((t : Tree) → IsTree g x t → n < size t) → n < sizes f
+      no_first Bare h none = absurd h
+      no_first (Grown t f) h none = omega (arith, none t h.0)
+
+      no_others : (f : Forest) → AreTrees g (x ∷ xs) f → ((f : Forest) → AreTrees g xs f → n < sizes f) → n < sizes f
+      no_others Bare h none = absurd h
+      no_others (Grown t f) h none = omega (arith, none f h.1)
+
+      both : (f : Forest) → AreTrees g (x ∷ xs) f → (t : LeastTree g x) → (ts : LeastForest g xs) → size t.tree + sizes ts.trees ≤ sizes f
+      both Bare h t ts = absurd h
+      both (Grown u f) h t ts = omega (arith, t.least u h.0, ts.least f h.1)
+
+  module _ (m n i : ℕ) (p : Production) (rule : IsRule g (suc i) p) where
+    -- a node at most at rule i + 1 is at most at rule i, or its rule is this one
+    node_cases : (q : ℕ) (f : Forest) → q ≤ suc i → IsTree g (Nonterminal m) (Node q f) → (q ≤ i) ⊎ ((q ≡ suc i) × (p.left ≡ m) × AreTrees g p.right f)
+    node_cases q f le h =
+        ⊎_elim (λ lower. inl (omega (arith, lower)))
+        (λ not_lower.
+        let same : q ≡ suc i = omega (arith, le, not_lower) in
+        let is = one_rule g q (suc i) h.0 p same h.1 rule in
+        inr (same, (let e = h.2 in let left : h.0.left ≡ p.left = ap (λ (o : Production). o.left) is in cc), subst (λ (o : Production). AreTrees g o.right f) is h.3))
+        (cases_lt q (suc i))
+
+    -- the rule has no tree of m of at most n nodes
+    pub node_skipped : (p.left ≡ m → (f : Forest) → AreTrees g p.right f → n < 1 + sizes f) → NoNode g m n i ⊎ BestNode g m n i → NoNode g m n (suc i) ⊎ BestNode g m n (suc i)
+    node_skipped none so_far =
+        ⊎_elim
+        (λ before. inl (λ q f le h. ⊎_elim (λ lower. before q f lower h) (λ here. none here.1 f here.2) (node_cases q f le h)))
+        (λ best. inr (record {
+          number = best.number;
+          rule = best.rule;
+          is_rule = best.is_rule;
+          of_left = best.of_left;
+          trees = best.trees;
+          chosen = best.chosen;
+          within = omega (arith, best.within);
+          small = best.small;
+          least = λ q f le h. ⊎_elim (λ lower. best.least q f lower h) (λ here. omega (arith, none here.1 f here.2, best.small)) (node_cases q f le h);
+          lowest = λ q f le h e. ⊎_elim (λ lower. best.lowest q f lower h e) (λ here. omega (arith, here.0, best.within)) (node_cases q f le h);
+        }))
+        so_far
+
+    -- the rule has a least tree of m of at most n nodes
+    module _ (left : p.left ≡ m) (ts : LeastForest g p.right) (small : 1 + sizes ts.trees ≤ n) where
+      node_taken : ((q : ℕ) (f : Forest) → q ≤ i → IsTree g (Nonterminal m) (Node q f) → 1 + sizes ts.trees < size (Node q f)) → BestNode g m n (suc i)
+      node_taken dearer = record {
+        number = suc i;
+        rule = p;
+        is_rule = rule;
+        of_left = left;
+        trees = ts.trees;
+        chosen = ts.chosen;
+        within = omega arith;
+        small = small;
+        least = λ q f le h. ⊎_elim (λ lower. omega (arith, dearer q f lower h)) (λ here. omega (arith, ts.least f here.2)) (node_cases q f le h);
+        lowest = λ q f le h e. ⊎_elim (λ lower. absurd (omega (arith, dearer q f lower h, e))) (λ here. omega (arith, here.0)) (node_cases q f le h);
+      }
+
+      node_kept : (best : BestNode g m n i) → 1 + sizes best.trees ≤ 1 + sizes ts.trees → BestNode g m n (suc i)
+      node_kept best cheaper = record {
+        number = best.number;
+        rule = best.rule;
+        is_rule = best.is_rule;
+        of_left = best.of_left;
+        trees = best.trees;
+        chosen = best.chosen;
+        within = omega (arith, best.within);
+        small = best.small;
+        least = λ q f le h. ⊎_elim (λ lower. best.least q f lower h) (λ here. omega (arith, ts.least f here.2, cheaper)) (node_cases q f le h);
+        lowest = λ q f le h e. ⊎_elim (λ lower. best.lowest q f lower h e) (λ here. omega (arith, here.0, best.within)) (node_cases q f le h);
+      }
+
+      pub node_found : NoNode g m n i ⊎ BestNode g m n i → BestNode g m n (suc i)
+      node_found so_far =
+          ⊎_elim
+          (λ none. node_taken (λ q f le h. omega (arith, none q f le h, small)))
+          (λ best. ⊎_elim
+          (λ less. node_taken (λ q f le h. omega (arith, best.least q f le h, less)))
+          (λ not_less. node_kept best not_less)
+          (cases_lt (1 + sizes ts.trees) (1 + sizes best.trees)))
+          so_far
+
+  nodes_settled : (n m : ℕ) → ((x : Symbol) → Settled g n x) → (i : ℕ) → i ≤ length g.rules → NoNode g m (suc n) i ⊎ BestNode g m (suc n) i
+  nodes_settled n m each zero le = inl (λ q f below h. absurd (omega (arith, below, h.1.above_zero)))
+  nodes_settled n m each (suc i) le =
+      let so_far = nodes_settled n m each i (omega (arith, le)) in
+      ⊎_elim
+      (λ left. ⊎_elim
+      (λ none. node_skipped m (suc n) i p rule (λ e f h. omega (arith, none f h)) so_far)
+      (λ ts. ⊎_elim
+      (λ large. node_skipped m (suc n) i p rule (λ e f h. omega (arith, large, ts.least f h)) so_far)
+      (λ small. inr (node_found m (suc n) i p rule left ts (omega (arith, small)) so_far))
+      (cases_lt n (sizes ts.trees)))
+      (forest_settled n each p.right))
+      (λ other. node_skipped m (suc n) i p rule (λ e. absurd (other e)) so_far)
+      (cases_eq p.left m)
+    where
+      p : Production
+      p = get_or g.rules i (record { left = 0; right = [] })
+
+      rule : IsRule g (suc i) p
+      rule = record {
+        above_zero = omega arith;
+        at = (let e : suc i - 1 ≡ i = omega arith in rw e (slice_get-get_or g.rules i (record { left = 0; right = [] }) (omega (arith, le))));
+      }
+
+  -- which of the two it is, is known
+  pub settled : (n : ℕ) (x : Symbol) → Settled g n x
+  settled zero x = inl (λ t h. size_above t)
+  settled (suc n) (Token t) = inr (record { tree = Leaf t; chosen = refl; least = λ u h. size_above u })
+  settled (suc n) (Nonterminal m) =
+      ⊎_elim (λ none. inl (λ t h. larger none t h)) (λ best. inr (found best)) (nodes_settled n m (settled n) (length g.rules) (omega arith))
+    where
+      of_rules : (q : ℕ) (f : Forest) → IsTree g (Nonterminal m) (Node q f) → q ≤ length g.rules
+      of_rules q f h = omega (arith, slice_get_within g.rules (q - 1) h.0 h.1.at)
+
+      larger : NoNode g m (suc n) (length g.rules) → (t : Tree) → IsTree g (Nonterminal m) t → suc n < size t
+      larger none (Leaf s) h = absurd cc
+      larger none (Node q f) h = none q f (of_rules q f h) h
+
+      least : (best : BestNode g m (suc n) (length g.rules)) → (t : Tree) → IsTree g (Nonterminal m) t → 1 + sizes best.trees ≤ size t
+      least best (Leaf s) h = absurd cc
+      least best (Node q f) h = best.least q f (of_rules q f h) h
+
+      found : BestNode g m (suc n) (length g.rules) → LeastTree g (Nonterminal m)
+      found best = record {
+        tree = Node best.number best.trees;
+        chosen = (
+          best.rule,
+          best.is_rule,
+          ap Nonterminal (sym best.of_left),
+          record { least = least best; lowest = λ q f h e. best.lowest q f (of_rules q f h) h e },
+          best.chosen,
+        );
+        least = least best;
+      }
+
+  -- a symbol with a tree has a chosen tree, of least size
+  pub chosen_exists : (x : Symbol) (t : Tree) → IsTree g x t → LeastTree g x
+  chosen_exists x t h = ⊎_elim (λ none. absurd (omega (arith, none t h))) (λ least. least) (settled (size t) x)
+
+  -- a chosen tree is of least size
+  pub chosen_least : (x : Symbol) (t u : Tree) → IsTree g x t → IsChosen g x u → size u ≤ size t
+  chosen_least x t (Leaf s) ht hu = size_above t
+  chosen_least x t (Node r f) ht hu = hu.3.least t ht

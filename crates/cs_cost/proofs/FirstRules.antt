@@ -1,0 +1,167 @@
+-- The lowest rules of least cost.
+use Rattle.std.proofs.Common.{◌≡◌, ℕ, ◌+◌, ◌-◌, ◌<◌, ◌≤◌, ◌≢◌, ◌⊎◌, List, Some, length, get_or, refl, sym, ap, ◌∙◌, subst, ⊎_elim, inl, inr, arith, below_more}
+use Rattle.std.specs.Prelude.{slice_get}
+use Rattle.std.proofs.Math.ListN.{set}
+use Rattle.std.proofs.lemmas.Bool.{cases_eq}
+use Rattle.std.proofs.lemmas.List.{length-set, get_or-set_same, get_or-set_other, get_or_default}
+use Rattle.std.proofs.lemmas.Option.{slice_get_within}
+use Rattle.cs_grammar.specs.declared.symbol.Symbol.{Symbol}
+use Rattle.cs_grammar.specs.declared.symbol.Symbol.TheVariants.{Token, Nonterminal}
+use Rattle.cs_grammar.specs.Grammar.{Production, Syntax, IsRule, IsNumberOf}
+use Rattle.cs_grammar.specs.Tree.{Tree, Leaf, Node, IsTree, size}
+use Rattle.cs_cost.specs.declared.cost.Cost.{Cost}
+use Rattle.cs_cost.specs.declared.cost.Cost.TheVariants.{Never}
+use Rattle.cs_cost.specs.Least.{IsCost}
+use Rattle.cs_cost.specs.Rank.{capped, rank, cost_of, entry}
+use Rattle.cs_cost.specs.Trees.{cost_in, node_cost, IsTreeOf, IsCostTable, IsFirstRule, AreFirstRules}
+use Rattle.cs_cost.proofs.Ranks.{rank-cost_of, IsCost-from, cost_low, cost_reached}
+use Rattle.cs_cost.proofs.TreeCosts.{IsReached, IsReached-holds, forest_at_most}
+use Rattle.cs_cost.proofs.Rounds.{rule_at, well_formed_at}
+use Rattle.cs_cost.proofs.Tables.{entry-at}
+
+-- no tree of a symbol is smaller than the table of a grammar says
+pub symbol_low : (limit : ℕ) (g : Syntax) (table : List Cost) → IsCostTable limit g table → (x : Symbol) (t : Tree) → IsTree g x t → rank limit (cost_in limit table x) ≤ capped limit (size t)
+symbol_low limit g table exact (Token s) (Leaf t) h = omega (arith, rank-cost_of limit 1)
+symbol_low limit g table exact (Token s) (Node r f) h = let e = h.2 in absurd cc
+symbol_low limit g table exact (Nonterminal n) t h = cost_low limit (IsTreeOf g n) size (entry table n) (exact.exact n) t h
+
+-- and some tree of it is as small as the table says
+pub symbols_reached : (limit : ℕ) (g : Syntax) (table : List Cost) → IsCostTable limit g table → IsReached limit g (cost_in limit table)
+symbols_reached limit g table exact =
+    IsReached-holds limit g table (record {
+      each = exact.each;
+      reached = λ n h. cost_reached limit (IsTreeOf g n) size (entry table n) (exact.exact n) h;
+    })
+
+-- so it says what the least tree of each symbol costs
+pub symbol_cost : (limit : ℕ) (g : Syntax) (table : List Cost) → IsCostTable limit g table → (x : Symbol) → IsCost limit (IsTree g x) size (cost_in limit table x)
+symbol_cost limit g table exact x =
+    let is_reached = symbols_reached limit g table exact in
+    IsCost-from limit (IsTree g x) size (cost_in limit table x) (is_reached.each x) (is_reached.reached x) (symbol_low limit g table exact x)
+
+-- no rule of the left side at an index below i costs what the table says
+pub record NoneBefore (limit : ℕ) (g : Syntax) (table : List Cost) (left i : ℕ) : Type 0 where
+  pub dearer : (k : ℕ) → (o : Production) → k < i → slice_get g.rules k ≡ Some o → o.left ≡ left → rank limit (entry table left) < rank limit (node_cost limit table o.right)
+
+module _ (limit : ℕ) (g : Syntax) (table : List Cost) (left i : ℕ) (q : Production) (at : slice_get g.rules i ≡ Some q) (so_far : NoneBefore limit g table left i) where
+  pub none_more : (q.left ≡ left → rank limit (entry table left) < rank limit (node_cost limit table q.right)) → NoneBefore limit g table left (i + 1)
+  none_more here = record {
+    dearer = λ k o within.
+        below_more (λ n. (u : Production) → slice_get g.rules n ≡ Some u → u.left ≡ left → rank limit (entry table left) < rank limit (node_cost limit table u.right)) i
+        (λ n lt u. so_far.dearer n u lt)
+        (λ u e. let same : q ≡ u = cc in subst (λ w. w.left ≡ left → rank limit (entry table left) < rank limit (node_cost limit table w.right)) same here)
+        k within o;
+  }
+
+  pub first_here : q.left ≡ left → rank limit (node_cost limit table q.right) ≤ rank limit (entry table left) → IsFirstRule limit g table left (i + 1)
+  first_here is_left cheap = record {
+    rule = q;
+    number = rule_at g i q at;
+    of_left = is_left;
+    cost = cheap;
+    earlier = λ s o lower rule e. so_far.dearer (s - 1) o (let above = rule.above_zero in omega arith) rule.at e;
+  }
+
+-- a nonterminal within the limit has a rule of its cost
+module _ (limit : ℕ) (g : Syntax) (table : List Cost) (exact : IsCostTable limit g table) (left i : ℕ) (all : length g.rules ≤ i) (so_far : NoneBefore limit g table left i) where
+  no_tree : (t : Tree) → IsTree g (Nonterminal left) t → capped limit (size t) ≤ rank limit (entry table left) → ⊥
+  no_tree (Leaf s) h small = cc
+  no_tree (Node r f) h small =
+      let of_left : h.0.left ≡ left = (let e = h.2 in cc) in
+      let within = slice_get_within g.rules (r - 1) h.0 h.1.at in
+      let dear = so_far.dearer (r - 1) h.0 (omega (arith, within, all)) h.1.at of_left in
+      let cheap = forest_at_most limit g (cost_in limit table) (symbol_low limit g table exact) f h.0.right (cost_of limit 1) 1 (omega (arith, rank-cost_of limit 1)) h.3 in
+      omega (arith, dear, cheap, small)
+
+  pub some_rule : rank limit (entry table left) ≤ limit → ⊥
+  some_rule small =
+      let t = cost_reached limit (IsTreeOf g left) size (entry table left) (exact.exact left) (omega (arith, small)) in
+      no_tree t.0 t.1 t.2
+
+-- the first rule of a nonterminal among those below index i, or 0 where there is none yet
+abbrev pub IsFirstSoFar : ℕ → Syntax → List Cost → ℕ → ℕ → ℕ → Type 0
+IsFirstSoFar limit g table i n r = ((r ≡ 0) × NoneBefore limit g table n i) ⊎ IsFirstRule limit g table n r
+
+pub record FirstsSoFar (limit : ℕ) (g : Syntax) (table : List Cost) (firsts : List ℕ) (i : ℕ) : Type 0 where
+  pub many : length firsts ≡ g.nonterminals
+  pub each : (n : ℕ) → IsNumberOf g.nonterminals n → IsFirstSoFar limit g table i n (get_or firsts (n - 1) 0)
+
+module _ (limit : ℕ) (g : Syntax) (table : List Cost) (firsts : List ℕ) (i : ℕ) (q : Production) (at : slice_get g.rules i ≡ Some q) (so_far : FirstsSoFar limit g table firsts i) where
+  -- what was known of a nonterminal stays, where this rule is none of its first
+  kept : (n r : ℕ) → (r ≡ 0 → q.left ≡ n → rank limit (entry table n) < rank limit (node_cost limit table q.right)) → IsFirstSoFar limit g table i n r → IsFirstSoFar limit g table (i + 1) n r
+  kept n r here known =
+      ⊎_elim (λ none. inl (none.0, none_more limit g table n i q at none.1 (here none.0))) (λ first. inr first) known
+
+  -- the left side has its first rule, or this one costs more
+  pub firsts_kept : (get_or firsts (q.left - 1) 0 ≡ 0 → rank limit (entry table q.left) < rank limit (node_cost limit table q.right)) → FirstsSoFar limit g table firsts (i + 1)
+  firsts_kept here = record {
+    many = so_far.many;
+    each = λ n number.
+        kept n (get_or firsts (n - 1) 0)
+        (λ zero left. subst (λ m. rank limit (entry table m) < rank limit (node_cost limit table q.right)) left
+        (here (ap (λ m. get_or firsts (m - 1) 0) left ∙ zero)))
+        (so_far.each n number);
+  }
+
+  -- this rule is the first of its left side
+  pub firsts_more : IsNumberOf g.nonterminals q.left → get_or firsts (q.left - 1) 0 ≡ 0 → rank limit (node_cost limit table q.right) ≤ rank limit (entry table q.left) → FirstsSoFar limit g table (set firsts (q.left - 1) (i + 1)) (i + 1)
+  firsts_more number unset cheap = record {
+    many = length-set firsts (q.left - 1) (i + 1) ∙ so_far.many;
+    each = λ n is_number. ⊎_elim (λ same. here n same) (λ other. there n is_number other) (cases_eq n q.left);
+  }
+    where
+      none : NoneBefore limit g table q.left i
+      none =
+          ⊎_elim (λ known. known.1)
+          (λ first. absurd (omega (arith, unset, first.number.above_zero)))
+          (so_far.each q.left number)
+
+      here : (n : ℕ) → n ≡ q.left → IsFirstSoFar limit g table (i + 1) n (get_or (set firsts (q.left - 1) (i + 1)) (n - 1) 0)
+      here n same =
+          let within : q.left - 1 < length firsts = omega (arith, number, so_far.many) in
+          let first : IsFirstSoFar limit g table (i + 1) q.left (i + 1) = inr (first_here limit g table q.left i q at none refl cheap) in
+          let read : i + 1 ≡ get_or (set firsts (q.left - 1) (i + 1)) (n - 1) 0 =
+          sym (ap (λ m. get_or (set firsts (q.left - 1) (i + 1)) (m - 1) 0) same ∙ get_or-set_same firsts (q.left - 1) (i + 1) 0 within) in
+          subst (λ m. IsFirstSoFar limit g table (i + 1) m (get_or (set firsts (q.left - 1) (i + 1)) (n - 1) 0)) (sym same)
+          (subst (IsFirstSoFar limit g table (i + 1) q.left) read first)
+
+      there : (n : ℕ) → IsNumberOf g.nonterminals n → (n ≡ q.left → ⊥) → IsFirstSoFar limit g table (i + 1) n (get_or (set firsts (q.left - 1) (i + 1)) (n - 1) 0)
+      there n is_number other =
+          let apart : n - 1 ≢ q.left - 1 = λ e. other (omega (arith, e, number, is_number)) in
+          subst (IsFirstSoFar limit g table (i + 1) n) (sym (get_or-set_other firsts (q.left - 1) (n - 1) (i + 1) 0 apart))
+          (kept n (get_or firsts (n - 1) 0) (λ zero left. absurd (other (sym left))) (so_far.each n is_number))
+
+-- behind the last rule
+pub firsts_all : (limit : ℕ) (g : Syntax) (table : List Cost) (firsts : List ℕ) (i : ℕ) → IsCostTable limit g table → length g.rules ≤ i → FirstsSoFar limit g table firsts i → AreFirstRules limit g table firsts
+firsts_all limit g table firsts i exact all so_far = record {
+  many = so_far.many;
+  each = λ n number small.
+      ⊎_elim (λ none. absurd (some_rule limit g table exact n i all none.1 small)) (λ first. first) (so_far.each n number);
+}
+
+-- what the loop over the rules has found out
+module _ (limit : ℕ) (g : Syntax) (table : List Cost) (firsts : List ℕ) (i : ℕ) (q : Production) (left x : ℕ) (c d : Cost) (exact : IsCostTable limit g table) (at : slice_get g.rules i ≡ Some q) (is_left : left ≡ q.left) (read : x ≡ get_or firsts (left - 1) x) (so_far : FirstsSoFar limit g table firsts i) where
+  number : IsNumberOf g.nonterminals q.left
+  number = (well_formed_at g i q exact.grammar at).left
+
+  says : entry table q.left ≡ get_or table (left - 1) d
+  says =
+      let within : q.left - 1 < length table = omega (arith, number, exact.many) in
+      entry-at table q.left number.0 ∙ get_or_default table (q.left - 1) Never d within ∙ ap (λ n. get_or table (n - 1) d) (sym is_left)
+
+  first_is : get_or firsts (q.left - 1) 0 ≡ x
+  first_is =
+      let within : q.left - 1 < length firsts = omega (arith, number, so_far.many) in
+      get_or_default firsts (q.left - 1) 0 x within ∙ ap (λ n. get_or firsts (n - 1) x) (sym is_left) ∙ sym read
+
+  pub step_taken : x ≡ 0 → c ≡ node_cost limit table q.right → (rank limit (get_or table (left - 1) d) < rank limit c → ⊥) → FirstsSoFar limit g table (set firsts (left - 1) (i + 1)) (i + 1)
+  step_taken unset is_cost not_below =
+      subst (λ n. FirstsSoFar limit g table (set firsts (n - 1) (i + 1)) (i + 1)) (sym is_left)
+      (firsts_more limit g table firsts i q at so_far number (first_is ∙ unset) (omega (arith, not_below, ap (rank limit) says, ap (rank limit) is_cost)))
+
+  pub step_dearer : c ≡ node_cost limit table q.right → rank limit (get_or table (left - 1) d) < rank limit c → FirstsSoFar limit g table firsts (i + 1)
+  step_dearer is_cost below =
+      firsts_kept limit g table firsts i q at so_far (λ unset. omega (arith, below, ap (rank limit) says, ap (rank limit) is_cost))
+
+  pub step_known : (x ≡ 0 → ⊥) → FirstsSoFar limit g table firsts (i + 1)
+  step_known known = firsts_kept limit g table firsts i q at so_far (λ unset. absurd (known (sym first_is ∙ unset)))

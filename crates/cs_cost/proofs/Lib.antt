@@ -1,0 +1,13 @@
+pub mod Ranks
+pub mod Tables
+pub mod TreeCosts
+pub mod ChosenTrees
+pub mod Rounds
+pub mod FirstRules
+pub mod Written
+pub mod Steps
+pub mod EmbedRounds
+pub mod FirstSteps
+pub mod ChosenContexts
+pub mod Ways
+pub mod RuleGoals

@@ -1,0 +1,34 @@
+use Rattle.std.proofs.Common.{◌≡◌, ◌≤◌, List, length, refl, sym, ap, ◌∙◌, subst}
+use Rattle.std.specs.Prelude.{slice_get}
+use Rattle.std.proofs.lemmas.Bool.{OnFalse_from, false≢true}
+use Rattle.std.proofs.lemmas.Option.{slice_get_read}
+use Rattle.cs_grammar.specs.declared.TheConstants.{LIMIT}
+use Rattle.cs_grammar.specs.Grammar.{Production}
+use Rattle.cs_cost.specs.Trees.{node_cost}
+use Rattle.cs_cost.proofs.Rounds.{Relaxes, relaxes_lower, relaxes_kept, relaxes_closed}
+use Rattle.cs_cost.proofs.trees.relax.Goals as goal
+use Rattle.cs_cost.proofs.trees.relax.Goals.{then-is_below, else-is_below}
+
+pub loop-rule-preserved : goal.loop-rule-preserved
+loop-rule-preserved c =
+    let g = c.args.grammar.now in
+    let i = c.loop-rule.rule-index in
+    let q = c.rule-item.result in
+    let table = c.loop-rule.table in
+    let here = slice_get_read _ _ i q refl c.loop-rule-test.true c.rule-item.is in
+    let at = ap (λ (rules : List Production). slice_get rules i) (sym c.rules-rule-items.ensures.rules) ∙ here in
+    let is_cost = c.node_cost-cost.ensures.cost ∙ ap (node_cost LIMIT table) c.right.ensures in
+    elim c.if-is_below.branch [
+      | then-is_below w ↦
+          rw (w.table-is, w.changed-is)
+          (relaxes_lower LIMIT g _ table _ i q _ _ _ c.rules-rule-items.ensures.well_formed at c.left.ensures is_cost c.loop-rule.invariant c.node_cost-cost.ensures.capped (c.is_below.ensures.0 w.if-is_below.true))
+      | else-is_below w ↦
+          rw (w.table-is, w.changed-is)
+          (relaxes_kept LIMIT g _ table _ i q _ _ _ c.rules-rule-items.ensures.well_formed at c.left.ensures is_cost c.loop-rule.invariant (λ below. false≢true (sym w.if-is_below.false ∙ c.is_below.ensures.1 below)))
+    ]
+
+pub returns-clause-closed : goal.returns-clause-closed
+returns-clause-closed c =
+    OnFalse_from _ _ (λ unchanged.
+    relaxes_closed LIMIT _ _ _ _ (subst (λ (rules : List Production). length rules ≤ c.loop-rule.rule-index) c.rules-rule-items.ensures.rules c.loop-rule-test.false)
+    (subst (λ b. Relaxes LIMIT c.args.grammar.now c.args.table.now c.loop-rule.table b c.loop-rule.rule-index) unchanged c.loop-rule.invariant))

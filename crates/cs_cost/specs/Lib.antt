@@ -1,0 +1,10 @@
+pub mod Least
+pub mod Rank
+pub mod Holds
+pub mod Chosen
+pub mod Trees
+pub mod Parts
+pub mod ChosenContext
+pub mod Verdict
+pub mod Embeds
+pub mod Tables
