@@ -1,0 +1,5 @@
+pub mod Lines
+pub mod Verdicts
+pub mod Entries
+pub mod Files
+pub mod Endings

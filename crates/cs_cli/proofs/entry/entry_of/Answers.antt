@@ -1,0 +1,15 @@
+use Rattle.std.proofs.Common.{subst, sym}
+use Rattle.cs_grammar.specs.declared.symbol.Symbol.TheVariants.{Nonterminal}
+use Rattle.cs_grammar.specs.Grammar.{Syntax}
+use Rattle.cs_grammar.specs.Tree.{IsDerivation}
+use Rattle.cs_cli.proofs.Verdicts.{verdict_small, verdict_derivation}
+use Rattle.cs_cli.proofs.entry.entry_of.Goals as goal
+
+pub tokens_of-requires-clause-small : goal.tokens_of-requires-clause-small
+tokens_of-requires-clause-small c =
+    verdict_small c.args.costs.now c.args.rule c.in_ok-verdict.verdict c.in-Found.size c.in-Found.derivation c.in-Found.is c.in_ok-verdict.ensures
+
+pub tokens_of-requires-clause-derivation : goal.tokens_of-requires-clause-derivation
+tokens_of-requires-clause-derivation c =
+    let is = verdict_derivation c.args.costs.now c.args.rule c.in_ok-verdict.verdict c.in-Found.size c.in-Found.derivation c.in-Found.is c.in_ok-verdict.ensures in
+    subst (λ (g : Syntax). IsDerivation g (Nonterminal g.start) c.in-Found.derivation) (sym c.grammar.ensures) is

@@ -1,0 +1,4 @@
+pub mod Entry
+pub mod Manifest
+pub mod Words
+pub mod Ending
