@@ -3,3 +3,4 @@ pub mod Verdicts
 pub mod Entries
 pub mod Files
 pub mod Endings
+pub mod OneManifest

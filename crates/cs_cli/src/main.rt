@@ -4,6 +4,7 @@
 
 mod ending;
 mod entry;
+mod laws;
 mod manifest;
 mod report;
 mod run;
