@@ -7,12 +7,12 @@ use Rattle.std.proofs.lemmas.Option.{slice_get_within, slice_get-get_or}
 use Rattle.cs_grammar.specs.declared.symbol.Symbol.{Symbol}
 use Rattle.cs_grammar.specs.declared.symbol.Symbol.TheVariants.{Token, Nonterminal}
 use Rattle.cs_grammar.specs.Grammar.{Production, Syntax, IsRule}
-use Rattle.cs_grammar.specs.Tree.{Tree, Forest, Bare, Grown, AreTrees, sizes}
+use Rattle.cs_grammar.specs.Tree.{Forest, Bare, Grown, AreTrees}
 use Rattle.cs_grammar.specs.Context.{Context, Hole, Under, IsContext, context_size}
 use Rattle.cs_grammar.proofs.OneTree.{one_rule}
 use Rattle.cs_cost.specs.Chosen.{AreChosen}
-use Rattle.cs_cost.specs.ChosenContext.{count, IsAtMost, IsFirstContext, IsChosenContext}
-use Rattle.cs_cost.proofs.ChosenTrees.{AreTrees-chosen, all_chosen, LeastForest, AreSettled, settled, forest_settled}
+use Rattle.cs_cost.specs.ChosenContext.{count, IsAtMost, IsChosenContext}
+use Rattle.cs_cost.proofs.ChosenTrees.{AreTrees-chosen, all_chosen, LeastForest, settled, forest_settled}
 use Rattle.cs_cost.proofs.Steps.{at_seam, split_at, one_split}
 
 -- trees of some symbols are as many
@@ -107,9 +107,6 @@ module _ (g : Syntax) (b : Symbol) (n : ℕ) where
   later : (r k q j : ℕ) → IsBefore r k q j → IsBefore r k q (j + 1)
   later r k q j h = ⊎_elim (λ lower. inl lower) (λ here. inr (here.0, omega (arith, here.1))) h
 
-  before_at_most : (r k q j : ℕ) → IsBefore r k q j → IsAtMost r k q j
-  before_at_most r k q j h = ⊎_elim (λ lower. inl lower) (λ here. inr (here.0, omega (arith, here.1))) h
-
   -- where the best so far stays the best
   best_kept : (q j q' j' : ℕ) → (best : BestContext g b n q j) → IsBefore best.number (count best.left) q' j' → ((o : Context) (r : ℕ) (f h : Forest) → IsBefore r (count f) q' j' → IsContext g b (Under o r f h) → IsBefore r (count f) q j ⊎ ((context_size (Under best.outer best.number best.left best.right) ≤ context_size (Under o r f h)) × IsAtMost best.number (count best.left) r (count f))) → BestContext g b n q' j'
   best_kept q j q' j' best earlier cases = record {
@@ -159,9 +156,6 @@ module _ (g : Syntax) (b : Symbol) (n : ℕ) where
 
     -- the least context at this place
     module _ (xs ys : List Symbol) (e : p.right ≡ xs ++ b ∷ ys) (place : length xs ≡ j) (outer : LeastContext g (Nonterminal p.left)) (left : LeastForest g xs) (right : LeastForest g ys) where
-      here_size : ℕ
-      here_size = context_size (Under outer.context q left.trees right.trees)
-
       at_place : count left.trees ≡ j
       at_place = count_is g left.trees xs (AreTrees-chosen g left.trees xs left.chosen) ∙ place
 

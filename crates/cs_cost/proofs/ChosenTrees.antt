@@ -1,6 +1,5 @@
 -- A symbol with a tree has a chosen tree, and only one.
-use Rattle.std.proofs.Common.{◌≡◌, ℕ, zero, suc, ◌+◌, ◌-◌, ◌<◌, ◌≤◌, ◌⊎◌, List, [], ◌∷◌, Some, length, get_or, refl, sym, ap, ◌∙◌, subst, ⊎_elim, inl, inr, arith}
-use Rattle.std.specs.Prelude.{slice_get}
+use Rattle.std.proofs.Common.{◌≡◌, ℕ, zero, suc, ◌+◌, ◌-◌, ◌<◌, ◌≤◌, ◌⊎◌, List, [], ◌∷◌, length, get_or, refl, sym, ap, subst, ⊎_elim, inl, inr, arith}
 use Rattle.std.proofs.lemmas.Bool.{cases_eq, cases_lt}
 use Rattle.std.proofs.lemmas.Option.{slice_get_within, slice_get-get_or}
 use Rattle.cs_grammar.specs.declared.symbol.Symbol.{Symbol}
@@ -8,7 +7,7 @@ use Rattle.cs_grammar.specs.declared.symbol.Symbol.TheVariants.{Token, Nontermin
 use Rattle.cs_grammar.specs.Grammar.{Production, Syntax, IsRule}
 use Rattle.cs_grammar.specs.Tree.{Tree, Leaf, Node, Forest, Bare, Grown, IsTree, AreTrees, size, sizes}
 use Rattle.cs_grammar.proofs.OneTree.{one_rule}
-use Rattle.cs_cost.specs.Chosen.{IsFirst, IsChosen, AreChosen}
+use Rattle.cs_cost.specs.Chosen.{IsChosen, AreChosen}
 
 pub size_above : (t : Tree) → 0 < size t
 size_above (Leaf t) = omega arith

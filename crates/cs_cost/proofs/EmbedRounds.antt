@@ -1,25 +1,23 @@
 -- A round over the steps outwards.
-use Rattle.std.proofs.Common.{◌≡◌, ℕ, ◌+◌, ◌-◌, ◌<◌, ◌≤◌, Bool, true, false, List, [], ◌∷◌, ◌++◌, Some, length, get_or, replicate, refl, sym, ap, ◌∙◌, subst, ⊎_elim, inl, inr, arith, below_more}
+use Rattle.std.proofs.Common.{◌≡◌, ℕ, ◌+◌, ◌-◌, ◌<◌, ◌≤◌, Bool, true, false, List, [], ◌∷◌, ◌++◌, Some, length, get_or, refl, sym, ap, ◌∙◌, subst, ⊎_elim, inl, arith, below_more}
 use Rattle.std.specs.Prelude.{slice_get, All}
 use Rattle.std.specs.List.{sum_by}
 use Rattle.std.proofs.Math.ListN.{set}
 use Rattle.std.proofs.lemmas.Bool.{cases_eq}
-use Rattle.std.proofs.lemmas.List.{length-set, length-replicate, length-append}
+use Rattle.std.proofs.lemmas.List.{length-set, length-append}
 use Rattle.std.proofs.lemmas.List.Elements.{All-get_or}
 use Rattle.std.proofs.lemmas.Option.{slice_get_within, slice_get-get_or}
 use Rattle.cs_grammar.specs.declared.symbol.Symbol.{Symbol}
 use Rattle.cs_grammar.specs.declared.symbol.Symbol.TheVariants.{Nonterminal}
-use Rattle.cs_grammar.specs.Grammar.{Production, Syntax, IsRule, IsNumberOf, IsGrammar, IsSymbol}
-use Rattle.cs_grammar.specs.Tree.{Forest, sizes}
-use Rattle.cs_grammar.specs.Context.{Context, Hole, Under, IsContext, context_size}
+use Rattle.cs_grammar.specs.Grammar.{Syntax, IsNumberOf, IsGrammar, IsSymbol}
+use Rattle.cs_grammar.specs.Context.{Context, Hole, Under, context_size}
 use Rattle.cs_cost.specs.declared.cost.Cost.{Cost}
-use Rattle.cs_cost.specs.declared.cost.Cost.TheVariants.{Never, Least}
+use Rattle.cs_cost.specs.declared.cost.Cost.TheVariants.{Never}
 use Rattle.cs_cost.specs.declared.embeds.Step.{Step}
-use Rattle.cs_cost.specs.Least.{IsCost}
-use Rattle.cs_cost.specs.Rank.{capped, rank, IsCapped, plus, entry}
-use Rattle.cs_cost.specs.Embeds.{IsContextOf, AreSiblings, siblings_size, IsStep, IsEarlier, AreSteps, step_cost, IsSoundEmbed, IsBelowStep, IsClosedEmbed, IsEmbedTable}
+use Rattle.cs_cost.specs.Rank.{capped, rank, IsCapped, entry}
+use Rattle.cs_cost.specs.Embeds.{IsContextOf, AreSiblings, siblings_size, IsStep, AreSteps, step_cost, IsSoundEmbed, IsBelowStep, IsClosedEmbed, IsEmbedTable}
 use Rattle.cs_cost.proofs.Ranks.{plus_at_most, plus_reached, IsCapped-plus, cost_low, cost_reached, cost_capped}
-use Rattle.cs_cost.proofs.Tables.{entry-set_same, entry-set_other, IsCapped-entry, sum-set, Holds-replicate, Holds-set, exact_entry}
+use Rattle.cs_cost.proofs.Tables.{entry-set_other, IsCapped-entry, sum-set, Holds-set, exact_entry}
 use Rattle.cs_cost.proofs.Rounds.{well_formed_at}
 use Rattle.cs_cost.proofs.Steps.{step_at}
 
@@ -154,17 +152,6 @@ pub embeds_closed : (limit : ℕ) (g : Syntax) (steps : List Step) (start embeds
 embeds_closed limit g steps start embeds i all so_far = record {
   below = λ k s at. so_far.closed refl k s (omega (arith, all, slice_get_within steps k s at)) at;
 }
-
--- the table at the start
-pub embeds_start : (limit : ℕ) (g : Syntax) → IsNumberOf g.nonterminals g.start → IsSoundEmbed limit g (set (replicate g.nonterminals Never) (g.start - 1) (Least 0))
-embeds_start limit g number =
-    let number' : IsNumberOf (length (replicate g.nonterminals Never)) g.start = subst (λ m. IsNumberOf m g.start) (sym (length-replicate g.nonterminals Never)) number in
-    record {
-      many = length-set (replicate g.nonterminals Never) (g.start - 1) (Least 0) ∙ length-replicate g.nonterminals Never;
-      start = ap (rank limit) (entry-set_same (replicate g.nonterminals Never) g.start (Least 0) number');
-      holds = Holds-set limit (IsContextOf g) context_size (replicate g.nonterminals Never) g.start (Least 0) (Holds-replicate limit (IsContextOf g) context_size g.nonterminals)
-          number' (omega arith) (λ h. (Hole, refl, omega arith));
-    }
 
 -- what a loop reads of a step that is past the end
 abbrev pub no_step : Step

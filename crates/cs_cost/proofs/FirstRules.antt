@@ -2,22 +2,20 @@
 use Rattle.std.proofs.Common.{◌≡◌, ℕ, ◌+◌, ◌-◌, ◌<◌, ◌≤◌, ◌≢◌, ◌⊎◌, List, Some, length, get_or, refl, sym, ap, ◌∙◌, subst, ⊎_elim, inl, inr, arith, below_more}
 use Rattle.std.specs.Prelude.{slice_get}
 use Rattle.std.proofs.Math.ListN.{set}
-use Rattle.std.proofs.lemmas.Bool.{cases_eq}
-use Rattle.std.proofs.lemmas.List.{length-set, get_or-set_same, get_or-set_other, get_or_default}
+use Rattle.std.proofs.lemmas.Bool.{cases_eq, cases_lt}
+use Rattle.std.proofs.lemmas.List.{length-set, get_or-set_same, get_or-set_other}
 use Rattle.std.proofs.lemmas.Option.{slice_get_within}
 use Rattle.cs_grammar.specs.declared.symbol.Symbol.{Symbol}
 use Rattle.cs_grammar.specs.declared.symbol.Symbol.TheVariants.{Token, Nonterminal}
-use Rattle.cs_grammar.specs.Grammar.{Production, Syntax, IsRule, IsNumberOf}
+use Rattle.cs_grammar.specs.Grammar.{Production, Syntax, IsNumberOf}
 use Rattle.cs_grammar.specs.Tree.{Tree, Leaf, Node, IsTree, size}
 use Rattle.cs_cost.specs.declared.cost.Cost.{Cost}
-use Rattle.cs_cost.specs.declared.cost.Cost.TheVariants.{Never}
 use Rattle.cs_cost.specs.Least.{IsCost}
 use Rattle.cs_cost.specs.Rank.{capped, rank, cost_of, entry}
 use Rattle.cs_cost.specs.Trees.{cost_in, node_cost, IsTreeOf, IsCostTable, IsFirstRule, AreFirstRules}
 use Rattle.cs_cost.proofs.Ranks.{rank-cost_of, IsCost-from, cost_low, cost_reached}
 use Rattle.cs_cost.proofs.TreeCosts.{IsReached, IsReached-holds, forest_at_most}
 use Rattle.cs_cost.proofs.Rounds.{rule_at, well_formed_at}
-use Rattle.cs_cost.proofs.Tables.{entry-at}
 
 -- no tree of a symbol is smaller than the table of a grammar says
 pub symbol_low : (limit : ℕ) (g : Syntax) (table : List Cost) → IsCostTable limit g table → (x : Symbol) (t : Tree) → IsTree g x t → rank limit (cost_in limit table x) ≤ capped limit (size t)
@@ -140,28 +138,19 @@ firsts_all limit g table firsts i exact all so_far = record {
 }
 
 -- what the loop over the rules has found out
-module _ (limit : ℕ) (g : Syntax) (table : List Cost) (firsts : List ℕ) (i : ℕ) (q : Production) (left x : ℕ) (c d : Cost) (exact : IsCostTable limit g table) (at : slice_get g.rules i ≡ Some q) (is_left : left ≡ q.left) (read : x ≡ get_or firsts (left - 1) x) (so_far : FirstsSoFar limit g table firsts i) where
-  number : IsNumberOf g.nonterminals q.left
-  number = (well_formed_at g i q exact.grammar at).left
-
-  says : entry table q.left ≡ get_or table (left - 1) d
-  says =
-      let within : q.left - 1 < length table = omega (arith, number, exact.many) in
-      entry-at table q.left number.0 ∙ get_or_default table (q.left - 1) Never d within ∙ ap (λ n. get_or table (n - 1) d) (sym is_left)
-
-  first_is : get_or firsts (q.left - 1) 0 ≡ x
-  first_is =
-      let within : q.left - 1 < length firsts = omega (arith, number, so_far.many) in
-      get_or_default firsts (q.left - 1) 0 x within ∙ ap (λ n. get_or firsts (n - 1) x) (sym is_left) ∙ sym read
-
-  pub step_taken : x ≡ 0 → c ≡ node_cost limit table q.right → (rank limit (get_or table (left - 1) d) < rank limit c → ⊥) → FirstsSoFar limit g table (set firsts (left - 1) (i + 1)) (i + 1)
-  step_taken unset is_cost not_below =
+module _ (limit : ℕ) (g : Syntax) (table : List Cost) (firsts : List ℕ) (i : ℕ) (q : Production) (left : ℕ) (right : List Symbol) (exact : IsCostTable limit g table) (at : slice_get g.rules i ≡ Some q) (is_left : left ≡ q.left) (is_right : right ≡ q.right) (so_far : FirstsSoFar limit g table firsts i) where
+  pub step_taken : get_or firsts (left - 1) 0 ≡ 0 → rank limit (node_cost limit table right) ≤ rank limit (entry table left) → FirstsSoFar limit g table (set firsts (left - 1) (i + 1)) (i + 1)
+  step_taken unset cheap =
       subst (λ n. FirstsSoFar limit g table (set firsts (n - 1) (i + 1)) (i + 1)) (sym is_left)
-      (firsts_more limit g table firsts i q at so_far number (first_is ∙ unset) (omega (arith, not_below, ap (rank limit) says, ap (rank limit) is_cost)))
+      (firsts_more limit g table firsts i q at so_far (well_formed_at g i q exact.grammar at).left (ap (λ n. get_or firsts (n - 1) 0) (sym is_left) ∙ unset)
+      (omega (arith, cheap, ap (λ n. rank limit (entry table n)) is_left, ap (λ (l : List Symbol). rank limit (node_cost limit table l)) is_right)))
 
-  pub step_dearer : c ≡ node_cost limit table q.right → rank limit (get_or table (left - 1) d) < rank limit c → FirstsSoFar limit g table firsts (i + 1)
-  step_dearer is_cost below =
-      firsts_kept limit g table firsts i q at so_far (λ unset. omega (arith, below, ap (rank limit) says, ap (rank limit) is_cost))
-
-  pub step_known : (x ≡ 0 → ⊥) → FirstsSoFar limit g table firsts (i + 1)
-  step_known known = firsts_kept limit g table firsts i q at so_far (λ unset. absurd (known (sym first_is ∙ unset)))
+  pub step_passed : ((get_or firsts (left - 1) 0 ≡ 0) × (rank limit (node_cost limit table right) ≤ rank limit (entry table left)) → ⊥) → FirstsSoFar limit g table firsts (i + 1)
+  step_passed not_first =
+      firsts_kept limit g table firsts i q at so_far (λ unset.
+      ⊎_elim (λ dear. dear)
+      (λ cheap. absurd (not_first (
+        ap (λ n. get_or firsts (n - 1) 0) is_left ∙ unset,
+        omega (arith, cheap, ap (λ n. rank limit (entry table n)) is_left, ap (λ (l : List Symbol). rank limit (node_cost limit table l)) is_right),
+      )))
+      (cases_lt (rank limit (entry table q.left)) (rank limit (node_cost limit table q.right))))

@@ -5,16 +5,13 @@ use Rattle.std.proofs.Math.ListN.{set}
 use Rattle.std.proofs.lemmas.Bool.{cases_eq, cases_lt}
 use Rattle.std.proofs.lemmas.List.{length-set, get_or-set_same, get_or-set_other, length-replicate, get_or-replicate}
 use Rattle.std.proofs.lemmas.Option.{slice_get_within, slice_get-get_or}
-use Rattle.cs_grammar.specs.declared.symbol.Symbol.{Symbol}
-use Rattle.cs_grammar.specs.declared.symbol.Symbol.TheVariants.{Nonterminal}
-use Rattle.cs_grammar.specs.Grammar.{Production, Syntax, IsRule, IsNumberOf}
-use Rattle.cs_grammar.specs.Context.{Context, Hole, Under, IsContext, context_size}
+use Rattle.cs_grammar.specs.Grammar.{Syntax, IsNumberOf}
+use Rattle.cs_grammar.specs.Context.{Context, Hole, Under, context_size}
 use Rattle.cs_grammar.specs.Tree.{Forest}
 use Rattle.cs_cost.specs.declared.cost.Cost.{Cost}
 use Rattle.cs_cost.specs.declared.embeds.Step.{Step}
-use Rattle.cs_cost.specs.Least.{IsCost}
-use Rattle.cs_cost.specs.Rank.{capped, rank, plus, entry}
-use Rattle.cs_cost.specs.Embeds.{IsContextOf, AreSiblings, siblings_size, IsStep, IsEarlier, AreSteps, step_cost, IsEmbedTable, IsFirstStep, AreFirstSteps}
+use Rattle.cs_cost.specs.Rank.{capped, rank, entry}
+use Rattle.cs_cost.specs.Embeds.{IsContextOf, AreSiblings, siblings_size, IsEarlier, AreSteps, step_cost, IsEmbedTable, IsFirstStep, AreFirstSteps}
 use Rattle.cs_cost.proofs.Ranks.{plus_at_most, plus_written, cost_low, cost_reached, cost_least}
 use Rattle.cs_cost.specs.ChosenContext.{count}
 use Rattle.cs_cost.proofs.ChosenContexts.{count_is}

@@ -1,9 +1,9 @@
 -- A round over the rules.
-use Rattle.std.proofs.Common.{◌≡◌, ℕ, ◌+◌, ◌-◌, ◌<◌, ◌≤◌, Bool, true, false, List, Some, length, get_or, refl, sym, ap, ◌∙◌, subst, arith, below_more, replicate}
+use Rattle.std.proofs.Common.{◌≡◌, ℕ, ◌+◌, ◌-◌, ◌<◌, ◌≤◌, Bool, true, false, List, Some, length, refl, sym, ap, ◌∙◌, subst, arith, below_more, replicate}
 use Rattle.std.specs.Prelude.{slice_get}
 use Rattle.std.specs.List.{sum_by}
 use Rattle.std.proofs.Math.ListN.{set}
-use Rattle.std.proofs.lemmas.List.{length-set, get_or_default, length-replicate}
+use Rattle.std.proofs.lemmas.List.{length-set, length-replicate}
 use Rattle.std.proofs.lemmas.Option.{slice_get_within, get_or_from_slice_get}
 use Rattle.cs_grammar.specs.Grammar.{Production, Syntax, IsRule, IsNumberOf, IsRuleOf, IsGrammar}
 use Rattle.cs_grammar.specs.Tree.{Tree, Node, size}
@@ -11,7 +11,7 @@ use Rattle.cs_cost.specs.declared.cost.Cost.{Cost}
 use Rattle.cs_cost.specs.declared.cost.Cost.TheVariants.{Never}
 use Rattle.cs_cost.specs.Rank.{capped, rank, IsCapped, entry}
 use Rattle.cs_cost.specs.Trees.{IsTreeOf, cost_in, node_cost, IsSound, IsClosed, IsBelowRule}
-use Rattle.cs_cost.proofs.Tables.{entry-at, sum-set, Holds-replicate, Holds-set}
+use Rattle.cs_cost.proofs.Tables.{sum-set, Holds-replicate, Holds-set}
 use Rattle.cs_cost.proofs.TreeCosts.{IsReached-holds, node_reached}
 
 -- the rule at an index is one of the grammar's
@@ -47,20 +47,16 @@ pub record Relaxes (limit : ℕ) (g : Syntax) (start table : List Cost) (changed
   pub falls : changed ≡ true → sum_by (rank limit) table < sum_by (rank limit) start
   pub closed : changed ≡ false → (k : ℕ) (p : Production) → k < i → slice_get g.rules k ≡ Some p → IsBelowRule limit table p
 
-module _ (limit : ℕ) (g : Syntax) (start table : List Cost) (changed : Bool) (i : ℕ) (q : Production) (left : ℕ) (c d : Cost) (grammar : IsGrammar g) (at : slice_get g.rules i ≡ Some q) (is_left : left ≡ q.left) (is_cost : c ≡ node_cost limit table q.right) (so_far : Relaxes limit g start table changed i) where
+module _ (limit : ℕ) (g : Syntax) (start table : List Cost) (changed : Bool) (i : ℕ) (q : Production) (left : ℕ) (c : Cost) (grammar : IsGrammar g) (at : slice_get g.rules i ≡ Some q) (is_left : left ≡ q.left) (is_cost : c ≡ node_cost limit table q.right) (so_far : Relaxes limit g start table changed i) where
   number : IsNumberOf g.nonterminals q.left
   number = (well_formed_at g i q grammar at).left
 
-  says : entry table q.left ≡ get_or table (left - 1) d
-  says =
-      let within : q.left - 1 < length table = omega (arith, number, so_far.sound.many) in
-      entry-at table q.left number.0 ∙ get_or_default table (q.left - 1) Never d within ∙ ap (λ n. get_or table (n - 1) d) (sym is_left)
-
   -- a rule that makes its left side cost less
-  pub relaxes_lower : IsCapped limit c → rank limit c < rank limit (get_or table (left - 1) d) → Relaxes limit g start (set table (left - 1) c) true (i + 1)
+  pub relaxes_lower : IsCapped limit c → rank limit c < rank limit (entry table left) → Relaxes limit g start (set table (left - 1) c) true (i + 1)
   relaxes_lower is_capped below =
       let sound = sound_step limit g table (i + 1) q so_far.sound (rule_at g i q at) number (subst (IsCapped limit) is_cost is_capped) in
-      let fall = sum-set limit table q.left c (subst (λ n. IsNumberOf n q.left) (sym so_far.sound.many) number) (omega (arith, below, ap (rank limit) says)) in
+      let less : rank limit c < rank limit (entry table q.left) = omega (arith, below, ap (λ n. rank limit (entry table n)) is_left) in
+      let fall = sum-set limit table q.left c (subst (λ n. IsNumberOf n q.left) (sym so_far.sound.many) number) less in
       let fall' = subst (λ n. sum_by (rank limit) (set table (n - 1) c) < sum_by (rank limit) table) (sym is_left) fall in
       record {
         sound = subst (λ n. IsSound limit g (set table (n - 1) c)) (sym is_left) (subst (λ e. IsSound limit g (set table (q.left - 1) e)) (sym is_cost) sound);
@@ -70,7 +66,7 @@ module _ (limit : ℕ) (g : Syntax) (start table : List Cost) (changed : Bool) (
       }
 
   -- a rule that makes nothing cost less
-  pub relaxes_kept : (rank limit c < rank limit (get_or table (left - 1) d) → ⊥) → Relaxes limit g start table changed (i + 1)
+  pub relaxes_kept : rank limit (entry table left) ≤ rank limit c → Relaxes limit g start table changed (i + 1)
   relaxes_kept not_below = record {
     sound = so_far.sound;
     no_more = so_far.no_more;
@@ -82,7 +78,7 @@ module _ (limit : ℕ) (g : Syntax) (start table : List Cost) (changed : Bool) (
   }
     where
       here : IsBelowRule limit table q
-      here = omega (arith, not_below, ap (rank limit) says, ap (rank limit) is_cost)
+      here = omega (arith, not_below, ap (rank limit) is_cost, ap (λ n. rank limit (entry table n)) is_left)
 
 -- a round that changed nothing
 pub relaxes_closed : (limit : ℕ) (g : Syntax) (start table : List Cost) (i : ℕ) → length g.rules ≤ i → Relaxes limit g start table false i → IsClosed limit g table

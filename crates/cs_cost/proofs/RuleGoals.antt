@@ -5,9 +5,9 @@ use Rattle.std.proofs.lemmas.List.{reverse-append}
 use Rattle.std.proofs.lemmas.List.Elements.{All-cons, All-append}
 use Rattle.cs_grammar.specs.declared.symbol.Symbol.{Symbol}
 use Rattle.cs_grammar.specs.declared.symbol.Symbol.TheVariants.{Nonterminal}
-use Rattle.cs_grammar.specs.Grammar.{Production, Syntax, IsRule, IsNumberOf}
+use Rattle.cs_grammar.specs.Grammar.{Production, Syntax, IsRule}
 use Rattle.cs_grammar.specs.Tree.{Tree, Node, Forest, Bare, Grown, IsTree, AreTrees, size, sizes, code, codes_of}
-use Rattle.cs_grammar.specs.Context.{Context, IsContext, context_size, code_before, code_after, plug}
+use Rattle.cs_grammar.specs.Context.{IsContext, context_size, code_before, code_after, plug}
 use Rattle.cs_grammar.proofs.OneTree.{one_rule}
 use Rattle.cs_grammar.proofs.Holes.{IsTree-plug, size-plug, code-plug, found_whole, UsesRule-plug}
 use Rattle.cs_cost.specs.declared.cost.Cost.{Cost}

@@ -7,7 +7,7 @@ use Rattle.std.proofs.lemmas.Option.{slice_get_within, slice_get_read}
 use Rattle.cs_grammar.specs.declared.symbol.Symbol.{Symbol}
 use Rattle.cs_grammar.specs.declared.symbol.Symbol.TheVariants.{Token, Nonterminal}
 use Rattle.cs_grammar.specs.Grammar.{Production, Syntax, IsRule, IsNumberOf}
-use Rattle.cs_grammar.specs.Tree.{Forest, AreTrees, sizes}
+use Rattle.cs_grammar.specs.Tree.{Forest, sizes}
 use Rattle.cs_grammar.proofs.OneTree.{one_rule}
 use Rattle.cs_cost.specs.declared.cost.Cost.{Cost}
 use Rattle.cs_cost.specs.declared.embeds.Step.{Step}
@@ -112,14 +112,6 @@ get_cases (z ∷ l) x y zero h = inl h
 get_cases (z ∷ l) x y (suc i) h = ⊎_elim (λ old. inl old) (λ new. inr (omega (arith, new.0), new.1)) (get_cases l x y i h)
 
 module _ (limit : ℕ) (g : Syntax) where
-  -- there are no steps before the first rule
-  pub steps_none : AreStepsTo limit g 1 0 []
-  steps_none = record {
-    each = λ i s e. absurd cc;
-    every = λ r p xs ys n rule e early. absurd (⊎_elim (λ lower. omega (arith, lower, rule.above_zero)) (λ here. omega (arith, here.1)) early);
-    ordered = λ i k s t lt e f. absurd cc;
-  }
-
   later : (r k q j : ℕ) → IsEarlier r k q j → IsEarlier r k q (j + 1)
   later r k q j h = ⊎_elim (λ lower. inl lower) (λ here. inr (here.0, omega (arith, here.1))) h
 

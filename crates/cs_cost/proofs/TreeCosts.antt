@@ -1,17 +1,15 @@
 -- What a table says of a symbol is what its least tree costs.
-use Rattle.std.proofs.Common.{◌≡◌, ℕ, ◌+◌, ◌≤◌, List, [], ◌∷◌, refl, arith}
-use Rattle.std.specs.Prelude.{All}
+use Rattle.std.proofs.Common.{ℕ, ◌+◌, ◌≤◌, List, [], ◌∷◌, refl, arith}
 use Rattle.cs_grammar.specs.declared.symbol.Symbol.{Symbol}
 use Rattle.cs_grammar.specs.declared.symbol.Symbol.TheVariants.{Token, Nonterminal}
 use Rattle.cs_grammar.specs.Grammar.{Production, Syntax, IsRule}
 use Rattle.cs_grammar.specs.Tree.{Tree, Leaf, Node, Forest, Bare, Grown, IsTree, AreTrees, size, sizes}
 use Rattle.cs_cost.specs.declared.cost.Cost.{Cost}
-use Rattle.cs_cost.specs.declared.cost.Cost.TheVariants.{Never, Large, Least}
 use Rattle.cs_cost.specs.Least.{IsCost}
 use Rattle.cs_cost.specs.Rank.{capped, rank, IsCapped, cost_of, plus, sum_from, entry}
 use Rattle.cs_cost.specs.Holds.{Holds}
-use Rattle.cs_cost.specs.Trees.{IsTreeOf, cost_in, node_cost, IsClosed, IsSound}
-use Rattle.cs_cost.proofs.Ranks.{rank-cost_of, IsCapped-cost_of, plus_at_most, plus_reached, IsCapped-plus, IsCost-from, cost_low, cost_reached}
+use Rattle.cs_cost.specs.Trees.{IsTreeOf, cost_in, IsClosed, IsSound}
+use Rattle.cs_cost.proofs.Ranks.{rank-cost_of, IsCapped-cost_of, plus_at_most, plus_reached, IsCapped-plus}
 use Rattle.cs_cost.proofs.Tables.{IsCapped-entry, exact_entry}
 
 module _ (limit : ℕ) (g : Syntax) (table : List Cost) (closed : IsClosed limit g table) where

@@ -1,5 +1,5 @@
 -- The way out from a nonterminal to the start symbol.
-use Rattle.std.proofs.Common.{◌≡◌, ◌≢◌, ℕ, zero, suc, ◌+◌, ◌-◌, ◌<◌, ◌≤◌, ◌⊎◌, List, [], ◌∷◌, ◌++◌, Option, Some, None, length, get_or, map, reverse, take, drop, refl, sym, ap, ◌∙◌, subst, ⊎_elim, inl, inr, arith, append_assoc, append-nil}
+use Rattle.std.proofs.Common.{◌≡◌, ◌≢◌, ℕ, ◌+◌, ◌-◌, ◌<◌, ◌≤◌, List, [], ◌∷◌, ◌++◌, Option, Some, None, length, get_or, map, reverse, take, drop, refl, sym, ap, ◌∙◌, subst, ⊎_elim, inl, inr, arith, append_assoc, append-nil}
 use Rattle.std.specs.Prelude.{slice_get, All, Result, Ok, Err, OnOk, is_ok, if◌then◌else◌}
 use Rattle.std.proofs.lemmas.Bool.{cases_eq, cases_lt}
 use Rattle.std.proofs.lemmas.List.{map-append, reverse-append, take_at, drop_at, length_push}
@@ -7,18 +7,18 @@ use Rattle.std.proofs.lemmas.Option.{slice_get_read}
 use Rattle.std.proofs.lemmas.List.Elements.{All-nil, All-cons, All-head, All-tail, All-append}
 use Rattle.cs_grammar.specs.declared.symbol.Symbol.{Symbol}
 use Rattle.cs_grammar.specs.declared.symbol.Symbol.TheVariants.{Nonterminal}
-use Rattle.cs_grammar.specs.Grammar.{Production, Syntax, IsRule, IsNumberOf, IsSymbol, IsGrammar}
-use Rattle.cs_grammar.specs.Tree.{Forest, Bare, Grown, code, codes_of, sizes}
-use Rattle.cs_grammar.specs.Context.{Context, Hole, Under, IsContext, context_size, code_before, code_after, join}
+use Rattle.cs_grammar.specs.Grammar.{Production, Syntax, IsNumberOf, IsSymbol, IsGrammar}
+use Rattle.cs_grammar.specs.Tree.{Forest, Bare, Grown, codes_of}
+use Rattle.cs_grammar.specs.Context.{Context, Hole, Under, context_size, code_before, code_after, join}
 use Rattle.cs_grammar.proofs.Forests.{codes_of-join}
 use Rattle.cs_grammar.proofs.OneTree.{one_rule}
 use Rattle.cs_cost.specs.declared.cost.Cost.{Cost}
 use Rattle.cs_cost.specs.declared.embeds.Step.{Step}
 use Rattle.cs_cost.specs.declared.writing.Part.{Part}
 use Rattle.cs_cost.specs.declared.writing.Part.TheVariants.{Rule, Whole}
-use Rattle.cs_cost.specs.Rank.{capped, rank, plus, entry}
+use Rattle.cs_cost.specs.Rank.{rank, entry}
 use Rattle.cs_cost.specs.Chosen.{AreChosen}
-use Rattle.cs_cost.specs.ChosenContext.{count, IsAtMost, IsChosenContext}
+use Rattle.cs_cost.specs.ChosenContext.{count, IsChosenContext}
 use Rattle.cs_cost.specs.Parts.{IsText, IsWithin}
 use Rattle.cs_cost.specs.Embeds.{IsContextOf, AreSiblings, siblings_size, IsStep, IsEarlier, step_cost, IsEmbedTable, IsFirstStep, AreFirstSteps, StepsOut, IsWay}
 use Rattle.cs_cost.proofs.Ranks.{plus_written, cost_low, cost_least}
@@ -65,9 +65,6 @@ module _ (limit : ℕ) (g : Syntax) (embeds : List Cost) (exact : IsEmbedTable l
   -- a context that takes this step and is as small as the table says
   around : (c : Context) × IsContextOf g s.outer c × (context_size c ≡ rank limit (entry embeds s.outer))
   around = cost_least limit (IsContextOf g s.outer) context_size (entry embeds s.outer) (exact.exact s.outer) (omega (arith, outer_less, small))
-
-  taken : Context
-  taken = Under around.0 s.rule siblings.0.0 siblings.0.1
 
   taken_is : IsContextOf g n (Under around.0 s.rule siblings.0.0 siblings.0.1)
   taken_is = (

@@ -1,26 +1,26 @@
 -- The chosen trees' codes are written.
-use Rattle.std.proofs.Common.{◌≡◌, ℕ, zero, suc, ◌+◌, ◌-◌, ◌<◌, ◌≤◌, List, [], ◌∷◌, ◌++◌, Some, length, get_or, map, reverse, refl, sym, ap, ◌∙◌, subst, ⊎_elim, arith, append_assoc, append-nil}
-use Rattle.std.specs.Prelude.{slice_get, All, slice_index}
+use Rattle.std.proofs.Common.{◌≡◌, ℕ, ◌+◌, ◌-◌, ◌<◌, ◌≤◌, List, [], ◌∷◌, ◌++◌, get_or, map, reverse, refl, sym, ap, ◌∙◌, subst, ⊎_elim, arith, append_assoc}
+use Rattle.std.specs.Prelude.{All}
 use Rattle.std.specs.List.{sum_by}
 use Rattle.std.proofs.lemmas.Bool.{cases_lt}
 use Rattle.std.proofs.lemmas.List.{reverse-append}
 use Rattle.std.proofs.lemmas.List.Sums.{sum_by-cons, sum_by-append}
 use Rattle.std.proofs.lemmas.List.Elements.{All-nil, All-cons, All-head, All-tail, All-append}
-use Rattle.std.proofs.lemmas.Option.{slice_get-get_or, get_or_from_slice_get}
+use Rattle.std.proofs.lemmas.Option.{get_or_from_slice_get}
 use Rattle.cs_grammar.specs.declared.symbol.Symbol.{Symbol}
 use Rattle.cs_grammar.specs.declared.symbol.Symbol.TheVariants.{Token, Nonterminal}
-use Rattle.cs_grammar.specs.Grammar.{Production, Syntax, IsRule, IsNumberOf, IsSymbol, IsRuleOf}
+use Rattle.cs_grammar.specs.Grammar.{Production, Syntax, IsRule, IsNumberOf, IsSymbol}
 use Rattle.cs_grammar.specs.Tree.{Tree, Leaf, Node, Forest, Bare, Grown, IsTree, AreTrees, size, sizes, code, codes_of}
 use Rattle.cs_grammar.proofs.OneTree.{one_rule}
 use Rattle.cs_cost.specs.declared.cost.Cost.{Cost}
 use Rattle.cs_cost.specs.declared.writing.Part.{Part}
 use Rattle.cs_cost.specs.declared.writing.Part.TheVariants.{Rule, Whole}
-use Rattle.cs_cost.specs.Rank.{capped, rank, cost_of, plus, sum_from, entry}
+use Rattle.cs_cost.specs.Rank.{rank, cost_of, plus, sum_from, entry}
 use Rattle.cs_cost.specs.Chosen.{IsChosen, AreChosen}
-use Rattle.cs_cost.specs.Trees.{IsTreeOf, cost_in, node_cost, IsCostTable, IsFirstRule, AreFirstRules}
+use Rattle.cs_cost.specs.Trees.{IsTreeOf, cost_in, node_cost, IsCostTable, IsFirstRule}
 use Rattle.cs_cost.specs.Parts.{IsText, IsWithin, Opens}
 use Rattle.cs_cost.proofs.Ranks.{rank-cost_of, plus_written, cost_least}
-use Rattle.cs_cost.proofs.TreeCosts.{forest_at_most, node_reached, IsReached}
+use Rattle.cs_cost.proofs.TreeCosts.{forest_at_most, node_reached}
 use Rattle.cs_cost.proofs.ChosenTrees.{IsTree-chosen, AreTrees-chosen}
 use Rattle.cs_cost.proofs.Rounds.{well_formed_at}
 use Rattle.cs_cost.proofs.FirstRules.{symbol_low, symbols_reached}
@@ -67,9 +67,6 @@ forest_within limit g (Grown t f) (x ∷ xs) h le each =
     (forest_within limit g f xs h.1 (omega (arith, le)) (All-tail (IsSymbol g.tokens g.nonterminals) x xs each))
 
 module _ (limit : ℕ) (g : Syntax) (table : List Cost) (exact : IsCostTable limit g table) (left r : ℕ) (first : IsFirstRule limit g table left r) (small : rank limit (entry table left) ≤ limit) where
-  node_least : (t : Tree) → IsTree g (Nonterminal left) t → rank limit (node_cost limit table first.rule.right) ≤ capped limit (size t)
-  node_least t h = omega (arith, first.cost, symbol_low limit g table exact (Nonterminal left) t h)
-
   -- the rule costs what the table says
   pub node_is : rank limit (node_cost limit table first.rule.right) ≡ rank limit (entry table left)
   node_is =
@@ -113,9 +110,6 @@ pub record Writes (limit : ℕ) (g : Syntax) (table : List Cost) (start_parts : 
   pub rest : (text : List ℕ) → IsText g start_parts text → (more : List ℕ) × IsText g parts more × (out ++ more ≡ start ++ text)
 
 module _ (limit : ℕ) (g : Syntax) (table : List Cost) (start_parts : List Part) (start : List ℕ) where
-  pub writes_start : All (IsWithin limit g) start_parts → Writes limit g table start_parts start start_parts start
-  writes_start h = record { within = h; rest = λ text is. (text, is, refl) }
-
   pub writes_rule : (r : ℕ) (parts : List Part) (out : List ℕ) → Writes limit g table start_parts start (Rule r ∷ parts) out → Writes limit g table start_parts start parts (out ++ r ∷ [])
   writes_rule r parts out so_far = record {
     within = All-tail (IsWithin limit g) (Rule r) parts so_far.within;
@@ -156,12 +150,6 @@ module _ (limit : ℕ) (g : Syntax) (table : List Cost) (start_parts : List Part
           rest = λ text is. let m = so_far.rest text is in node_written parts out (start ++ text) m.0 m.1.1 m.1.0 small m.1.2 m.1.3 m.1.4 m.2;
         }
 
--- with nothing pending all is written
-pub writes_all : (limit : ℕ) (g : Syntax) (table : List Cost) (start_parts : List Part) (start out text : List ℕ) → Writes limit g table start_parts start [] out → IsText g start_parts text → out ≡ start ++ text
-writes_all limit g table start_parts start out text so_far is =
-    let m = so_far.rest text is in
-    sym (append-nil out) ∙ ap (λ (s : List ℕ). out ++ s) (sym m.1) ∙ m.2
-
 -- the front of what stood in reverse
 pub pending_front : (items rest : List Part) (part : Part) → items ≡ rest ++ part ∷ [] → reverse items ≡ part ∷ reverse rest
 pending_front items rest part e = ap reverse e ∙ reverse-append rest (part ∷ [])
@@ -197,13 +185,7 @@ module _ (limit : ℕ) (table : List Cost) where
       ap (λ (ps : List Part). sum_by (part_work limit table) ps) (pending_front items rest part e)
       ∙ sum_by-cons (part_work limit table) part (reverse rest)
 
-  -- each step leaves less to write
-  pub rule_falls : (r : ℕ) (items rest : List Part) → items ≡ rest ++ Rule r ∷ [] → sum_by (part_work limit table) (reverse rest) < sum_by (part_work limit table) (reverse items)
-  rule_falls r items rest e = omega (arith, work_front items rest (Rule r) e)
-
-  pub leaf_falls : (t : ℕ) (items rest : List Part) → 0 < limit → items ≡ rest ++ Whole (Token t) ∷ [] → sum_by (part_work limit table) (reverse rest) < sum_by (part_work limit table) (reverse items)
-  leaf_falls t items rest above e = omega (arith, work_front items rest (Whole (Token t)) e, rank-cost_of limit 1)
-
+  -- a node that is written leaves less to write
   pub node_falls : (g : Syntax) (n : ℕ) (items rest after : List Part) (old new : List ℕ) → IsCostTable limit g table → rank limit (entry table n) ≤ limit → items ≡ rest ++ Whole (Nonterminal n) ∷ [] → Opens limit g table n rest after old new → sum_by (part_work limit table) (reverse after) < sum_by (part_work limit table) (reverse items)
   node_falls g n items rest after old new exact small e opens =
       let there = ap (λ (ps : List Part). sum_by (part_work limit table) ps) opens.pending

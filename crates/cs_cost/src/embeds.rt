@@ -1,6 +1,6 @@
 // The way from the start symbol: what the least context of each nonterminal costs, and the first step of the chosen one.
 
-ghost use Rattle.std.specs.Prelude.{◌≡◌, ◌+◌, ◌-◌, ◌<◌, ◌≤◌, IfOk, OnOk, ◌↔◌, IsTrue, length, slice_set, slice_index_or, All};
+ghost use Rattle.std.specs.Prelude.{◌≡◌, ◌+◌, ◌-◌, ◌<◌, ◌≤◌, IfOk, OnOk, ◌↔◌, IsTrue, length, slice_index_or, All};
 ghost use Rattle.std.specs.List.{sum_by};
 ghost use Rattle.std.specs.Bool.{OnTrue, OnFalse};
 ghost use Rattle.cs_grammar.specs.Grammar.{IsNumberOf};
@@ -9,7 +9,7 @@ ghost use Rattle.cs_cost.specs.Trees.{IsCostTable};
 ghost use Rattle.cs_cost.specs.Embeds.{AreStepsTo, AreSteps, step_cost, IsSoundEmbed, IsClosedEmbed, IsEmbedTable, AreFirstSteps, AreEmbeds, IsStep, StepsOut, IsWay};
 
 use crate::cost::{Cost, is_below, plus};
-use crate::trees::sum_from;
+use crate::trees::{lower, sum_from};
 use crate::writing::{Part, put_first};
 use cs_grammar::{Grammar, LIMIT, Symbol};
 use std::alloc::{AllocError, Global};
@@ -75,23 +75,6 @@ fn all_steps<'g>(
         push_steps(grammar, costs, (place + 1) as u16, &mut list)?;
     }
     Ok(Steps { grammar, list })
-}
-
-// Writes a cost that is below the table's, and says whether it was.
-fn lower(table: &mut [Cost], number: u16, cost: Cost) -> bool
-    requires number { IsNumberOf (length table.old) number }
-    requires table { All (IsCapped LIMIT) table.old }
-    requires cost { IsCapped LIMIT cost }
-    ensures lowered { OnTrue result ((table.new ≡ slice_set table.old (number - 1) cost) × (rank LIMIT cost < rank LIMIT (entry table.old number))) }
-    ensures kept { OnFalse result ((table.new ≡ table.old) × (rank LIMIT (entry table.old number) ≤ rank LIMIT cost)) }
-{
-    let place = number as usize - 1;
-    if is_below(cost, table[place]) {
-        table[place] = cost;
-        true
-    } else {
-        false
-    }
 }
 
 // What a context costs whose first step outwards is this one.

@@ -1,10 +1,10 @@
 // What the least tree of each nonterminal costs, and the rule at the root of each chosen tree.
 
-ghost use Rattle.std.specs.Prelude.{◌≡◌, ◌<◌, IfOk, length, All};
+ghost use Rattle.std.specs.Prelude.{◌≡◌, ◌-◌, ◌<◌, ◌≤◌, ◌↔◌, IsTrue, IfOk, length, slice_set, slice_index, All};
 ghost use Rattle.std.specs.List.{sum_by};
 ghost use Rattle.std.specs.Bool.{OnTrue, OnFalse};
-ghost use Rattle.cs_grammar.specs.Grammar.{IsSymbol};
-ghost use Rattle.cs_cost.specs.Rank.{rank, IsCapped, sum_from};
+ghost use Rattle.cs_grammar.specs.Grammar.{IsNumberOf, IsSymbol};
+ghost use Rattle.cs_cost.specs.Rank.{rank, IsCapped, sum_from, entry};
 ghost use Rattle.cs_cost.specs.Trees.{cost_in, node_cost, IsSound, IsClosed, IsCostTable, AreFirstRules};
 
 use crate::cost::{Cost, is_below, plus};
@@ -45,6 +45,23 @@ pub(crate) fn node_cost(table: &[Cost], right: &[Symbol]) -> Cost
     sum_from(table, Cost::Least(1), right)
 }
 
+// Writes a cost that is below the table's, and says whether it was.
+pub(crate) fn lower(table: &mut [Cost], number: u16, cost: Cost) -> bool
+    requires number { IsNumberOf (length table.old) number }
+    requires table { All (IsCapped LIMIT) table.old }
+    requires cost { IsCapped LIMIT cost }
+    ensures lowered { OnTrue result ((table.new ≡ slice_set table.old (number - 1) cost) × (rank LIMIT cost < rank LIMIT (entry table.old number))) }
+    ensures kept { OnFalse result ((table.new ≡ table.old) × (rank LIMIT (entry table.old number) ≤ rank LIMIT cost)) }
+{
+    let place = number as usize - 1;
+    if is_below(cost, table[place]) {
+        table[place] = cost;
+        true
+    } else {
+        false
+    }
+}
+
 // Goes once over the rules, and says whether the table has changed.
 fn relax(grammar: &Grammar, table: &mut [Cost]) -> bool
     requires { IsSound LIMIT grammar.now table.old }
@@ -55,9 +72,7 @@ fn relax(grammar: &Grammar, table: &mut [Cost]) -> bool
     let mut changed = false;
     for rule in grammar.rules() {
         let cost = node_cost(table, rule.right());
-        let place = rule.left() as usize - 1;
-        if is_below(cost, table[place]) {
-            table[place] = cost;
+        if lower(table, rule.left(), cost) {
             changed = true;
         }
     }
@@ -83,6 +98,19 @@ pub(crate) fn cost_table(alloc: Global, grammar: &Grammar) -> Result<Vec<Cost>, 
     Ok(table)
 }
 
+// Whether a rule costs no more than the table says of its left side, and no rule of the left side is known so far.
+fn is_first(table: &[Cost], firsts: &[u16], left: u16, right: &[Symbol]) -> bool
+    requires table { All (IsCapped LIMIT) table.now }
+    requires firsts { length firsts.now ≡ length table.now }
+    requires left { IsNumberOf (length table.now) left }
+    requires right { All (IsSymbol MOST_TOKENS (length table.now)) right.now }
+    ensures { IsTrue result ↔ ((slice_index firsts.now (left - 1) ≡ 0)
+        × (rank LIMIT (node_cost LIMIT table.now right.now) ≤ rank LIMIT (entry table.now left))) }
+{
+    let place = left as usize - 1;
+    firsts[place] == 0 && !is_below(table[place], node_cost(table, right))
+}
+
 // The rule at the root of the chosen tree of each nonterminal that has one within the limit.
 pub(crate) fn first_rules(
     alloc: Global,
@@ -94,9 +122,9 @@ pub(crate) fn first_rules(
 {
     let mut firsts = vec![in alloc; 0u16; grammar.nonterminals() as usize]?;
     for (place, rule) in grammar.rules().iter().enumerate() {
-        let left = rule.left() as usize - 1;
-        if firsts[left] == 0 && !is_below(table[left], node_cost(table, rule.right())) {
-            firsts[left] = (place + 1) as u16;
+        let left = rule.left();
+        if is_first(table, &firsts, left, rule.right()) {
+            firsts[left as usize - 1] = (place + 1) as u16;
         }
     }
     Ok(firsts)

@@ -1,7 +1,5 @@
-use Rattle.std.proofs.Common.{◌≡◌, ◌≤◌, List, length, get_or, Some, refl, sym, ap, ◌∙◌, subst}
-use Rattle.std.specs.Prelude.{slice_get}
+use Rattle.std.proofs.Common.{◌≤◌, List, length, subst}
 use Rattle.std.proofs.lemmas.Bool.{OnFalse_from, OnFalse_at, OnTrue_at}
-use Rattle.std.proofs.lemmas.Option.{slice_get-get_or}
 use Rattle.cs_grammar.specs.declared.TheConstants.{LIMIT}
 use Rattle.cs_cost.specs.declared.embeds.Step.{Step}
 use Rattle.cs_cost.proofs.EmbedRounds.{EmbedsSoFar, no_step, step_read, step_ready, embeds_lower, embeds_kept, embeds_closed}

@@ -1,9 +1,8 @@
-use Rattle.std.proofs.Common.{◌≡◌, ◌++◌, List, [], ◌∷◌, reverse, refl, sym, ap, ◌∙◌, subst, arith}
+use Rattle.std.proofs.Common.{◌++◌, [], ◌∷◌, ap, ◌∙◌}
 use Rattle.cs_grammar.specs.declared.TheConstants.{LIMIT}
 use Rattle.cs_cost.specs.declared.writing.Part.{Part}
-use Rattle.cs_cost.specs.declared.writing.Part.TheVariants.{Rule, Whole}
-use Rattle.cs_grammar.specs.declared.symbol.Symbol.TheVariants.{Token, Nonterminal}
-use Rattle.cs_cost.proofs.Written.{writes_start, loop_rule, loop_leaf, loop_node, front_within, rule_falls, leaf_falls, node_falls, writes_all}
+use Rattle.cs_cost.specs.declared.writing.Part.TheVariants.{Whole}
+use Rattle.cs_cost.proofs.Written.{loop_rule, loop_leaf, loop_node, front_within, node_falls}
 use Rattle.cs_cost.proofs.writing.write.Goals as goal
 
 pub loop-part-preserved-in-Continue-1 : goal.loop-part-preserved-in-Continue-1
