@@ -11,7 +11,7 @@ ghost use Rattle.cs_cost.specs.Verdict.{IsVerdict, HasThrough, IsCodeThrough};
 use crate::cost::{Cost, plus};
 use crate::embeds::{Embeds, embeds_of, way_out};
 use crate::through::Through;
-use crate::trees::{cost_in, cost_table, first_rules, node_cost};
+use crate::trees::{Trees, cost_in, node_cost, trees_of};
 use crate::writing::{Part, put_first, write};
 use cs_grammar::{Derivation, Grammar, LIMIT, Symbol};
 use std::alloc::{AllocError, Global};
@@ -20,9 +20,7 @@ use std::marker::Model;
 /// What the least tree of each symbol of a grammar costs, and which tree is chosen.
 #[derive(Debug, Drop)]
 pub struct Costs<'g> {
-    grammar: &'g Grammar,
-    table: Vec<Cost>,
-    firsts: Vec<u16>,
+    trees: Trees<'g>,
     embeds: Embeds,
 }
 
@@ -32,9 +30,9 @@ impl<'g> Model for Costs<'g> {
 
     ghost Value = { Syntax };
 
-    ghost view = { λ c. c.grammar.now };
+    ghost view = { λ c. c.trees.grammar.now };
 
-    ghost invariant = { λ c. AreTables c.grammar.now c.table.items c.firsts.items c.embeds };
+    ghost invariant = { λ c. AreTables c.trees c.embeds };
 }
 
 impl<'g> Costs<'g> {
@@ -42,22 +40,16 @@ impl<'g> Costs<'g> {
     pub fn new(alloc: Global, grammar: &'g Grammar) -> Result<Costs<'g>, AllocError>
         ensures { IfOk result (λ costs. costs ≡ grammar.now) }
     {
-        let table = cost_table(alloc, grammar)?;
-        let firsts = first_rules(alloc, grammar, &table)?;
-        let embeds = embeds_of(alloc, grammar, &table)?;
-        Ok(Costs {
-            grammar,
-            table,
-            firsts,
-            embeds,
-        })
+        let trees = trees_of(alloc, grammar)?;
+        let embeds = embeds_of(alloc, grammar, &trees.table)?;
+        Ok(Costs { trees, embeds })
     }
 
     /// The grammar that these are the costs of.
     pub fn grammar(&self) -> &'g Grammar
         ensures { result.now ≡ self.now }
     {
-        self.grammar
+        self.trees.grammar
     }
 
     /// What the least tree of a symbol costs: `Never` where it has none, `Large` where each of its trees has more than
@@ -66,7 +58,7 @@ impl<'g> Costs<'g> {
         requires { IsSymbol self.now.tokens self.now.nonterminals symbol }
         ensures { IsCost LIMIT (IsTree self.now symbol) size result }
     {
-        cost_in(&self.table, symbol)
+        cost_in(&self.trees.table, symbol)
     }
 
     /// Appends the code of the chosen tree of a symbol, whose cost is a number of nodes. After a refusal `into` is
@@ -77,16 +69,10 @@ impl<'g> Costs<'g> {
         ensures ok { OnOk result (AppendsChosen self.now symbol into.old into.new) }
         ensures err { OnErr result (into.new ≡ into.old) }
     {
-        let alloc = *self.table.allocator();
+        let alloc = *self.trees.table.allocator();
         let mut pending = vec![in alloc; Part::Whole(symbol)]?;
         let mut out = Vec::new(alloc);
-        write(
-            self.grammar,
-            &self.table,
-            &self.firsts,
-            &mut pending,
-            &mut out,
-        )?;
+        write(&self.trees, &mut pending, &mut out)?;
         into.extend_from_slice(&out)
     }
 
@@ -96,9 +82,9 @@ impl<'g> Costs<'g> {
         requires { IsNumberOf (length self.now.rules) rule }
         ensures { IfOk result (IsVerdict self.now rule) }
     {
-        let goal = &self.grammar.rules()[rule as usize - 1];
+        let goal = &self.trees.grammar.rules()[rule as usize - 1];
         let around = cost_in(&self.embeds.table, Symbol::Nonterminal(goal.left()));
-        let node = node_cost(&self.table, goal.right());
+        let node = node_cost(&self.trees.table, goal.right());
         match plus(around, node) {
             Cost::Never => Ok(Through::Nowhere),
             Cost::Large => Ok(Through::Large),
@@ -115,22 +101,16 @@ impl<'g> Costs<'g> {
         requires found { HasThrough self.now rule }
         ensures { IfOk result (IsCodeThrough self.now rule) }
     {
-        let alloc = *self.table.allocator();
-        let goal = &self.grammar.rules()[rule as usize - 1];
-        let way = way_out(alloc, self.grammar, &self.embeds, goal.left())?;
+        let alloc = *self.trees.table.allocator();
+        let goal = &self.trees.grammar.rules()[rule as usize - 1];
+        let way = way_out(alloc, self.trees.grammar, &self.embeds, goal.left())?;
         let mut pending = Vec::new(alloc);
         put_first(&mut pending, &way.after)?;
         put_first(&mut pending, goal.right())?;
         pending.push(Part::Rule(rule))?;
         pending.extend_from_slice(&way.before)?;
         let mut out = Vec::new(alloc);
-        write(
-            self.grammar,
-            &self.table,
-            &self.firsts,
-            &mut pending,
-            &mut out,
-        )?;
+        write(&self.trees, &mut pending, &mut out)?;
         let mut derivation = Derivation::new(alloc);
         derivation.extend_from_slice(&out)?;
         Ok(derivation)

@@ -5,6 +5,7 @@ ghost use Rattle.std.specs.List.{sum_by};
 ghost use Rattle.std.specs.Bool.{OnTrue, OnFalse};
 ghost use Rattle.cs_grammar.specs.Grammar.{IsNumberOf, IsSymbol};
 ghost use Rattle.cs_cost.specs.Rank.{rank, IsCapped, sum_from, entry};
+ghost use Rattle.cs_cost.specs.Tables.{AreTrees};
 ghost use Rattle.cs_cost.specs.Trees.{cost_in, node_cost, IsSound, IsClosed, IsCostTable, AreFirstRules};
 
 use crate::cost::{Cost, is_below, plus};
@@ -90,7 +91,7 @@ fn relaxed(alloc: Global, grammar: &Grammar) -> Result<Vec<Cost>, AllocError>
 }
 
 // What the least tree of each nonterminal costs.
-pub(crate) fn cost_table(alloc: Global, grammar: &Grammar) -> Result<Vec<Cost>, AllocError>
+fn cost_table(alloc: Global, grammar: &Grammar) -> Result<Vec<Cost>, AllocError>
     ensures { IfOk result (λ table. IsCostTable LIMIT grammar.now table.items) }
 {
     let _rules = grammar.rules();
@@ -112,11 +113,7 @@ fn is_first(table: &[Cost], firsts: &[u16], left: u16, right: &[Symbol]) -> bool
 }
 
 // The rule at the root of the chosen tree of each nonterminal that has one within the limit.
-pub(crate) fn first_rules(
-    alloc: Global,
-    grammar: &Grammar,
-    table: &[Cost],
-) -> Result<Vec<u16>, AllocError>
+fn first_rules(alloc: Global, grammar: &Grammar, table: &[Cost]) -> Result<Vec<u16>, AllocError>
     requires { IsCostTable LIMIT grammar.now table.now }
     ensures { IfOk result (λ firsts. AreFirstRules LIMIT grammar.now table.now firsts.items) }
 {
@@ -128,4 +125,25 @@ pub(crate) fn first_rules(
         }
     }
     Ok(firsts)
+}
+
+// What the least trees of a grammar cost, and the rules at the roots of the chosen ones.
+#[derive(Debug, Drop)]
+pub(crate) struct Trees<'g> {
+    pub(crate) grammar: &'g Grammar,
+    pub(crate) table: Vec<Cost>,
+    pub(crate) firsts: Vec<u16>,
+}
+
+pub(crate) fn trees_of<'g>(alloc: Global, grammar: &'g Grammar) -> Result<Trees<'g>, AllocError>
+    ensures grammar { IfOk result (λ trees. trees.grammar.now ≡ grammar.now) }
+    ensures tables { IfOk result AreTrees }
+{
+    let table = cost_table(alloc, grammar)?;
+    let firsts = first_rules(alloc, grammar, &table)?;
+    Ok(Trees {
+        grammar,
+        table,
+        firsts,
+    })
 }

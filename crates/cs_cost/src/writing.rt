@@ -2,13 +2,13 @@
 
 ghost use Rattle.std.specs.Prelude.{◌≡◌, ◌≤◌, ◌++◌, ℕ, List, map, reverse, OnOk, All};
 ghost use Rattle.cs_cost.specs.declared.writing.Part.TheVariants.{Whole};
-ghost use Rattle.cs_cost.specs.Trees.{IsCostTable, AreFirstRules};
+ghost use Rattle.cs_cost.specs.Tables.{AreTrees};
 ghost use Rattle.cs_grammar.specs.Grammar.{IsNumberOf};
 ghost use Rattle.cs_cost.specs.Rank.{rank, entry};
 ghost use Rattle.cs_cost.specs.Parts.{IsText, IsWithin, Opens};
 
-use crate::cost::Cost;
-use cs_grammar::{Grammar, LIMIT, Symbol};
+use crate::trees::Trees;
+use cs_grammar::{LIMIT, Symbol};
 use std::alloc::AllocError;
 
 // What is still to be written: the number of a rule, or the code of the chosen tree of a symbol.
@@ -30,36 +30,31 @@ pub(crate) fn put_first(pending: &mut Vec<Part>, symbols: &[Symbol]) -> Result<(
 
 // Writes the number of a nonterminal's first rule, and puts the rule's right side in front of what is pending.
 fn open_up(
-    grammar: &Grammar,
-    table: &[Cost],
-    firsts: &[u16],
+    trees: &Trees,
     left: u16,
     pending: &mut Vec<Part>,
     out: &mut Vec<u16>,
 ) -> Result<(), AllocError>
-    requires firsts { AreFirstRules LIMIT grammar.now table.now firsts.now }
-    requires left { IsNumberOf grammar.now.nonterminals left }
-    requires within { rank LIMIT (entry table.now left) ≤ LIMIT }
-    ensures { OnOk result (Opens LIMIT grammar.now table.now left pending.old.items pending.new.items out.old.items out.new.items) }
+    requires trees { AreTrees trees.now }
+    requires left { IsNumberOf trees.now.grammar.now.nonterminals left }
+    requires within { rank LIMIT (entry trees.now.table.items left) ≤ LIMIT }
+    ensures { OnOk result (Opens LIMIT trees.now.grammar.now trees.now.table.items left pending.old.items pending.new.items out.old.items out.new.items) }
 {
-    let number = firsts[left as usize - 1];
+    let number = trees.firsts[left as usize - 1];
     out.push(number)?;
-    let rule = &grammar.rules()[number as usize - 1];
+    let rule = &trees.grammar.rules()[number as usize - 1];
     put_first(pending, rule.right())
 }
 
 // Writes what is pending, which stands in reverse.
 pub(crate) fn write(
-    grammar: &Grammar,
-    table: &[Cost],
-    firsts: &[u16],
+    trees: &Trees,
     pending: &mut Vec<Part>,
     out: &mut Vec<u16>,
 ) -> Result<(), AllocError>
-    requires exact { IsCostTable LIMIT grammar.now table.now }
-    requires firsts { AreFirstRules LIMIT grammar.now table.now firsts.now }
-    requires within { All (IsWithin LIMIT grammar.now) (reverse pending.old.items) }
-    ensures { OnOk result ((text : List ℕ) → IsText grammar.now (reverse pending.old.items) text
+    requires trees { AreTrees trees.now }
+    requires within { All (IsWithin LIMIT trees.now.grammar.now) (reverse pending.old.items) }
+    ensures { OnOk result ((text : List ℕ) → IsText trees.now.grammar.now (reverse pending.old.items) text
         → out.new.items ≡ out.old.items ++ text) }
 {
     while let Some(part) = pending.pop() {
@@ -67,7 +62,7 @@ pub(crate) fn write(
             Part::Rule(number) => out.push(number)?,
             Part::Whole(Symbol::Token(_)) => {}
             Part::Whole(Symbol::Nonterminal(left)) => {
-                open_up(grammar, table, firsts, left, pending, out)?;
+                open_up(trees, left, pending, out)?;
             }
         }
     }

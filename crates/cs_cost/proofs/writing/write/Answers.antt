@@ -16,17 +16,17 @@ loop-part-preserved-in-Whole-Token c =
 
 pub open_up-requires-clause-left : goal.open_up-requires-clause-left
 open_up-requires-clause-left c =
-    (front_within LIMIT _ _ _ _ _ _ _ _ c.requires.exact (c.in-Some.ensures.items ∙ ap (λ (p : Part). c.pop.new.self.items ++ p ∷ []) (c.in-Whole-Nonterminal.is ∙ ap Whole (rw c.in-Whole-Nonterminal.is at c.in-Whole-Nonterminal.field-0-is))) c.loop-part.invariant).0
+    (front_within LIMIT _ _ _ _ _ _ _ _ c.requires.trees.costs (c.in-Some.ensures.items ∙ ap (λ (p : Part). c.pop.new.self.items ++ p ∷ []) (c.in-Whole-Nonterminal.is ∙ ap Whole (rw c.in-Whole-Nonterminal.is at c.in-Whole-Nonterminal.field-0-is))) c.loop-part.invariant).0
 
 pub open_up-requires-clause-within : goal.open_up-requires-clause-within
 open_up-requires-clause-within c =
-    (front_within LIMIT _ _ _ _ _ _ _ _ c.requires.exact (c.in-Some.ensures.items ∙ ap (λ (p : Part). c.pop.new.self.items ++ p ∷ []) (c.in-Whole-Nonterminal.is ∙ ap Whole (rw c.in-Whole-Nonterminal.is at c.in-Whole-Nonterminal.field-0-is))) c.loop-part.invariant).1
+    (front_within LIMIT _ _ _ _ _ _ _ _ c.requires.trees.costs (c.in-Some.ensures.items ∙ ap (λ (p : Part). c.pop.new.self.items ++ p ∷ []) (c.in-Whole-Nonterminal.is ∙ ap Whole (rw c.in-Whole-Nonterminal.is at c.in-Whole-Nonterminal.field-0-is))) c.loop-part.invariant).1
 
 pub loop-part-preserved : goal.loop-part-preserved
 loop-part-preserved c =
-    loop_node LIMIT _ _ _ _ _ _ _ _ _ _ c.requires.exact (c.in-Some.ensures.items ∙ ap (λ (p : Part). c.pop.new.self.items ++ p ∷ []) (c.in-Whole-Nonterminal.is ∙ ap Whole (rw c.in-Whole-Nonterminal.is at c.in-Whole-Nonterminal.field-0-is))) c.in_ok-open_up-in-Whole-Nonterminal.ensures c.loop-part.invariant
+    loop_node LIMIT _ _ _ _ _ _ _ _ _ _ c.requires.trees.costs (c.in-Some.ensures.items ∙ ap (λ (p : Part). c.pop.new.self.items ++ p ∷ []) (c.in-Whole-Nonterminal.is ∙ ap Whole (rw c.in-Whole-Nonterminal.is at c.in-Whole-Nonterminal.field-0-is))) c.in_ok-open_up-in-Whole-Nonterminal.ensures c.loop-part.invariant
 
 pub loop-part-smaller : goal.loop-part-smaller
 loop-part-smaller c =
     let at_end = c.in-Some.ensures.items ∙ ap (λ (p : Part). c.pop.new.self.items ++ p ∷ []) (c.in-Whole-Nonterminal.is ∙ ap Whole (rw c.in-Whole-Nonterminal.is at c.in-Whole-Nonterminal.field-0-is)) in
-    node_falls LIMIT _ _ _ _ _ _ _ _ c.requires.exact (front_within LIMIT _ _ _ _ _ _ _ _ c.requires.exact at_end c.loop-part.invariant).1 at_end c.in_ok-open_up-in-Whole-Nonterminal.ensures
+    node_falls LIMIT _ _ _ _ _ _ _ _ c.requires.trees.costs (front_within LIMIT _ _ _ _ _ _ _ _ c.requires.trees.costs at_end c.loop-part.invariant).1 at_end c.in_ok-open_up-in-Whole-Nonterminal.ensures

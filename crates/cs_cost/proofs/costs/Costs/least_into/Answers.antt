@@ -12,7 +12,7 @@ use Rattle.cs_cost.proofs.costs.Costs.least_into.Goals as goal
 pub returns-clause-ok : goal.returns-clause-ok
 returns-clause-ok c =
     let x = c.args.symbol in
-    let g = c.self.inside.grammar.now in
+    let g = c.self.inside.trees.grammar.now in
     let least = (subst (λ (g : Syntax). HasLeast g x) (sym c.self.view_is) c.requires.least).1.1.reached in
     let t = chosen_exists g x least.0 least.1 in
     let is : IsText g (reverse c.in_ok-pending.pending.items) (code t.tree) =
@@ -21,6 +21,6 @@ returns-clause-ok c =
     (λ e. record {
       tree = t.tree;
       chosen = subst (λ (g : Syntax). IsChosen g x t.tree) c.self.view_is t.chosen;
-      text = e ∙ ap (λ (s : List ℕ). c.args.into.now ++ s) (c.deref-3.ensures.value ∙ c.in_ok-write.ensures (code t.tree) is ∙ ap (λ (s : List ℕ). s ++ code t.tree) c.new-out.ensures.items);
+      text = e ∙ ap (λ (s : List ℕ). c.args.into.now ++ s) (c.deref.ensures.value ∙ c.in_ok-write.ensures (code t.tree) is ∙ ap (λ (s : List ℕ). s ++ code t.tree) c.new-out.ensures.items);
     })
     c.extend_from_slice.ensures.ok

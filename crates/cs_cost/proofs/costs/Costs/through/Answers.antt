@@ -16,11 +16,11 @@ use Rattle.cs_cost.proofs.costs.Costs.through.Goals.{After-plus}
 -- what the sum says of the trees that use the rule
 told : (c : After-plus) (cost : Cost) → cost ≡ plus LIMIT c.cost_in-around.result c.node_cost-node.result → IsCost LIMIT (IsThrough c.args.self.now c.args.rule) size cost
 told c cost is =
-    let g = c.self.inside.grammar.now in
+    let g = c.self.inside.trees.grammar.now in
     let number = subst (λ (s : Syntax). IsNumberOf (length s.rules) c.args.rule) (sym c.self.view_is) c.requires in
     let rule = rule_numbered g c.args.rule c.index-rules-rule.result _ number c.rules.ensures.rules c.index-rules-rule.is in
     subst (λ (s : Syntax). IsCost LIMIT (IsThrough s c.args.rule) size cost) c.self.view_is
-    (verdict_cost LIMIT g c.self.inside.table.items c.self.inside.embeds.table.items c.self.invariant.costs c.self.invariant.contexts.exact c.args.rule c.index-rules-rule.result
+    (verdict_cost LIMIT g c.self.inside.trees.table.items c.self.inside.embeds.table.items c.self.invariant.of_trees.costs c.self.invariant.of_contexts.exact c.args.rule c.index-rules-rule.result
     c.left.result _ c.cost_in-around.result c.node_cost-node.result cost _ _ rule c.left.ensures c.right.ensures c.deref-2.ensures.value c.deref.ensures.value c.cost_in-around.ensures c.node_cost-node.ensures.cost is)
 
 pub chosen_through-requires-clause-found : goal.chosen_through-requires-clause-found
