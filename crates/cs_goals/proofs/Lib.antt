@@ -1,0 +1,8 @@
+pub mod Numbered
+pub mod Remaining
+pub mod Walks
+pub mod Followed
+pub mod Awaiting
+pub mod Decided
+pub mod Members
+pub mod Once

@@ -1,0 +1,83 @@
+// Goals of coverage, and which of them a grammar has.
+
+ghost use Rattle.std.specs.Prelude.{◌↔◌, IsTrue};
+ghost use Rattle.cs_goals.specs.Goal.{IsGoal, IsOccurrence, IsLeft, IsRight};
+
+use crate::lookup::rule_at;
+use cs_grammar::{Grammar, Mark, Symbol};
+
+/// What a derivation tree is to show. Rules and places are counted from 1.
+#[derive(Clone, Copy, Debug, PartialEq, Eq)]
+pub enum Goal {
+    /// A node has this rule.
+    Rule(u16),
+    /// A node with the rule `outer` has a node with the rule `inner` as its child at `place`.
+    Context { outer: u16, place: u16, inner: u16 },
+    /// In the framed yield `left` is directly followed by `right`.
+    Pair { left: Mark, right: Mark },
+}
+
+/// The criteria of which goals are wanted: rule coverage, context-dependent rule coverage, pairs of neighbours.
+#[derive(Clone, Copy, Debug, PartialEq, Eq)]
+pub struct Criteria {
+    pub rule: bool,
+    pub cdrc: bool,
+    pub pair: bool,
+}
+
+/// Whether the goal is one of the grammar's: a rule goal of one of its rules, a context goal of a nonterminal at a place
+/// of one of its rules and a rule of that nonterminal, a pair goal of the begin mark or a token, and a token or the end
+/// mark.
+pub fn fits_goal(grammar: &Grammar, goal: &Goal) -> bool
+    ensures { IsTrue result ↔ IsGoal grammar.now goal.now }
+{
+    match *goal {
+        Goal::Rule(rule) => rule_at(grammar, rule).is_some(),
+        Goal::Context {
+            outer,
+            place,
+            inner,
+        } => fits_context(grammar, outer, place, inner),
+        Goal::Pair { left, right } => {
+            fits_left(grammar.tokens(), left) && fits_right(grammar.tokens(), right)
+        }
+    }
+}
+
+fn fits_context(grammar: &Grammar, outer: u16, place: u16, inner: u16) -> bool
+    ensures { IsTrue result ↔ IsOccurrence grammar.now outer place inner }
+{
+    let Some(outer) = rule_at(grammar, outer) else {
+        return false;
+    };
+    let Some(inner) = rule_at(grammar, inner) else {
+        return false;
+    };
+    let Some(place) = (place as usize).checked_sub(1) else {
+        return false;
+    };
+    match outer.right().get(place) {
+        Some(Symbol::Nonterminal(nonterminal)) => *nonterminal == inner.left(),
+        _ => false,
+    }
+}
+
+fn fits_left(tokens: u16, mark: Mark) -> bool
+    ensures { IsTrue result ↔ IsLeft tokens mark }
+{
+    match mark {
+        Mark::Begin => true,
+        Mark::Token(token) => 0 < token && token <= tokens,
+        Mark::End => false,
+    }
+}
+
+fn fits_right(tokens: u16, mark: Mark) -> bool
+    ensures { IsTrue result ↔ IsRight tokens mark }
+{
+    match mark {
+        Mark::Begin => false,
+        Mark::Token(token) => 0 < token && token <= tokens,
+        Mark::End => true,
+    }
+}

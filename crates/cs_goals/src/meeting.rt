@@ -1,0 +1,79 @@
+// Which derivations meet a goal.
+
+ghost use Rattle.std.specs.Prelude.{◌≡◌, ◌↔◌, ◌++◌, IsTrue, IfOk, OnOk, reverse};
+ghost use Rattle.cs_grammar.specs.Tree.{IsDerivation};
+ghost use Rattle.cs_goals.specs.Meets.{IsMeeting};
+ghost use Rattle.cs_goals.specs.Awaits.{awaits};
+
+use crate::goal::Goal;
+use crate::lookup::rule_numbered;
+use crate::yields::{has_pair, yield_of};
+use cs_grammar::{Derivation, Grammar, Symbol};
+use std::alloc::{AllocError, Global};
+
+/// Whether the tree of a derivation of the start symbol meets the goal. A code has one tree. The code is read once, with
+/// a stack in memory.
+pub fn meets(
+    alloc: Global,
+    grammar: &Grammar,
+    goal: &Goal,
+    derivation: &Derivation,
+) -> Result<bool, AllocError>
+    requires { IsDerivation grammar.now (Symbol.Nonterminal grammar.now.start) derivation.now }
+    ensures { IfOk result (λ met. IsTrue met ↔ IsMeeting grammar.now goal.now derivation.now) }
+{
+    match *goal {
+        Goal::Rule(rule) => Ok(derivation.rules().contains(&rule)),
+        Goal::Context {
+            outer,
+            place,
+            inner,
+        } => meets_context(alloc, grammar, derivation, outer, place, inner),
+        Goal::Pair { left, right } => {
+            let tokens = yield_of(alloc, grammar, derivation)?;
+            Ok(has_pair(&tokens, left, right))
+        }
+    }
+}
+
+// Whether some node with the rule `outer` has a node with the rule `inner` as its child at the place. The stack says of
+// each open nonterminal whether it is such a child.
+fn meets_context(
+    alloc: Global,
+    grammar: &Grammar,
+    derivation: &Derivation,
+    outer: u16,
+    place: u16,
+    inner: u16,
+) -> Result<bool, AllocError>
+    requires { IsDerivation grammar.now (Symbol.Nonterminal grammar.now.start) derivation.now }
+    ensures { IfOk result (λ met. IsTrue met ↔ IsMeeting grammar.now (Goal.Context outer place inner) derivation.now) }
+{
+    let mut pending = vec![in alloc; false]?;
+    for number in derivation.rules() {
+        let is_awaited = pending.pop().unwrap_or(false);
+        if is_awaited && *number == inner {
+            return Ok(true);
+        }
+        let rule = rule_numbered(grammar, *number);
+        await_child(
+            &mut pending,
+            rule.right(),
+            if *number == outer { place } else { 0 },
+        )?;
+    }
+    Ok(false)
+}
+
+// Puts the nonterminals of a right side in front of the open ones, which stand in reverse; the one at the place, counted
+// from 1, is awaited.
+fn await_child(pending: &mut Vec<bool>, right: &[Symbol], place: u16) -> Result<(), AllocError>
+    ensures { OnOk result (reverse pending.new.items ≡ awaits place right.now ++ reverse pending.old.items) }
+{
+    for at in (0..right.len()).rev() {
+        if let Symbol::Nonterminal(_) = right[at] {
+            pending.push(at + 1 == place as usize)?;
+        }
+    }
+    Ok(())
+}
