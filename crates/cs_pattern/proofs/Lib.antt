@@ -1,0 +1,11 @@
+pub mod Picked
+pub mod Bit
+pub mod Numbers
+pub mod Walking
+pub mod Moving
+pub mod Membership
+pub mod Intervals
+pub mod Readings
+pub mod Named
+pub mod OneDerivation
+pub mod HasDerivation

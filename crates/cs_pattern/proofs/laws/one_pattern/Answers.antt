@@ -1,0 +1,8 @@
+use Rattle.std.proofs.Common.{◌∙◌, ap}
+use Rattle.cs_pattern.specs.Items.{items_of}
+use Rattle.cs_pattern.proofs.Readings.{one_reading}
+use Rattle.cs_pattern.proofs.OneDerivation.{one_derivation}
+use Rattle.cs_pattern.proofs.laws.one_pattern.Goals as goal
+
+pub returns : goal.returns
+returns c = λ bytes xs ys t u r s d e. one_derivation (items_of xs) t u d (ap items_of (one_reading bytes xs ys r s) ∙ e)

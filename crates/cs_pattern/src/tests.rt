@@ -1,0 +1,302 @@
+use super::*;
+use std::alloc::{AllocError, Global};
+use std::test::Fail;
+
+// The runs of a set's members, in hexadecimal.
+fn show_set(out: &mut String, set: &ByteSet) -> Result<(), AllocError> {
+    let mut before = false;
+    for byte in 0..=255 {
+        let after = byte < 255 && set.contains(byte + 1);
+        if set.contains(byte) {
+            if !before {
+                write!(out, " {byte:02x}")?;
+            }
+            if before && !after {
+                write!(out, "-{byte:02x}")?;
+            }
+        }
+        before = set.contains(byte);
+    }
+    Ok(())
+}
+
+#[cycle(show)]
+fn show(out: &mut String, pattern: &Pattern) -> Result<(), AllocError> {
+    match pattern {
+        Pattern::Empty => out.push_str("e")?,
+        Pattern::Class(set) => {
+            out.push_str("<")?;
+            show_set(out, set)?;
+            out.push_str(" >")?;
+        }
+        Pattern::Join(parts) => show_all(out, "J(", parts)?,
+        Pattern::Either(parts) => show_all(out, "E(", parts)?,
+        Pattern::Many(part) => {
+            out.push_str("M(")?;
+            show(out, part)?;
+            out.push_str(")")?;
+        }
+    }
+    Ok(())
+}
+
+#[cycle(show)]
+fn show_all(out: &mut String, begin: &str, parts: &[Pattern]) -> Result<(), AllocError> {
+    out.push_str(begin)?;
+    for i in 0..parts.len() {
+        show(out, &parts[i])?;
+    }
+    out.push_str(")")
+}
+
+// What reading answers, as text.
+fn answer(alloc: Global, bytes: &[u8], definitions: &Checked) -> Result<String, AllocError> {
+    if bytes.len() > MOST_BYTES {
+        return format!(in alloc; "long");
+    }
+    match read_pattern(alloc, bytes, definitions) {
+        Ok(pattern) => {
+            let mut out = String::new(alloc);
+            show(&mut out, &pattern)?;
+            Ok(out)
+        }
+        Err(PatternError::Fault(fault)) => format!(in alloc; "{fault:?}"),
+        Err(PatternError::Memory) => Err(AllocError),
+    }
+}
+
+// A text and what reading it answers, separated by a tab.
+const ROWS: &str = "\
+a\t< 61 >\n\
+ab\tJ(< 61 >< 62 >)\n\
+a|bc\tE(< 61 >J(< 62 >< 63 >))\n\
+ab*\tJ(< 61 >M(< 62 >))\n\
+(ab)*\tM(J(< 61 >< 62 >))\n\
+a+\tJ(< 61 >M(< 61 >))\n\
+a?\tE(< 61 >e)\n\
+a{1}\tJ(< 61 >)\n\
+a{2,}\tJ(< 61 >< 61 >M(< 61 >))\n\
+a{0,}\tM(< 61 >)\n\
+a{1,3}\tJ(< 61 >E(< 61 >e)E(< 61 >e))\n\
+a{0,1}\tJ(E(< 61 >e))\n\
+ab{2}\tJ(< 61 >J(< 62 >< 62 >))\n\
+a{002}\tJ(< 61 >< 61 >)\n\
+a{1001}\tSyntax { at: 1 }\n\
+a{0}\tSyntax { at: 1 }\n\
+a{0,0}\tSyntax { at: 1 }\n\
+a{2,1}\tSyntax { at: 1 }\n\
+a{4294967298}\tSyntax { at: 1 }\n\
+a{}\tSyntax { at: 1 }\n\
+a{2,3\tSyntax { at: 1 }\n\
+a**\tM(M(< 61 >))\n\
+*a\tSyntax { at: 0 }\n\
+a||b\tSyntax { at: 2 }\n\
+a|\tSyntax { at: 2 }\n\
+()\tSyntax { at: 1 }\n\
+(a\tSyntax { at: 2 }\n\
+a)\tSyntax { at: 1 }\n\
+\tSyntax { at: 0 }\n\
+(a|b)c\tJ(E(< 61 >< 62 >)< 63 >)\n\
+((a))\t< 61 >\n\
+^ab\tAnchor { at: 0 }\n\
+ab$\tAnchor { at: 2 }\n\
+a/b\tTrailing { at: 1 }\n\
+<S>a\tCondition { at: 0 }\n\
+a<\tJ(< 61 >< 3c >)\n\
+a b\tSyntax { at: 1 }\n\
+]}\tJ(< 5d >< 7d >)\n\
+\\n\\a\tJ(< 0a >< 07 >)\n\
+\\x41\t< 41 >\n\
+\\x4g\tJ(< 04 >< 67 >)\n\
+\\x414\tJ(< 41 >< 34 >)\n\
+\\x\t< 78 >\n\
+\\xg\tJ(< 78 >< 67 >)\n\
+\\1011\tJ(< 41 >< 31 >)\n\
+\\08\tJ(< 00 >< 38 >)\n\
+\\8\t< 38 >\n\
+\\377\t< ff >\n\
+\\400\tSyntax { at: 0 }\n\
+\\^\\ \tJ(< 5e >< 20 >)\n\
+\\\tSyntax { at: 0 }\n\
+.\t< 00-09 0b-ff >\n\
+\"\"\te\n\
+\"a\"\tJ(< 61 >)\n\
+\"a.\"*\tM(J(< 61 >< 2e >))\n\
+\"a\\\"\\x41\"\tJ(< 61 >< 22 >< 41 >)\n\
+a\"b\tSyntax { at: 1 }\n\
+\"\\400\"\tSyntax { at: 0 }\n\
+[]a]\t< 5d 61 >\n\
+[^a]\t< 00-60 62-ff >\n\
+[^]]\t< 00-5c 5e-ff >\n\
+[a^]\t< 5e 61 >\n\
+[a-c]\t< 61-63 >\n\
+[a-a]\t< 61 >\n\
+[b-a]\tSyntax { at: 0 }\n\
+[a-]\t< 2d 61 >\n\
+[-a]\t< 2d 61 >\n\
+[--a]\t< 2d-61 >\n\
+[a-c-e]\t< 2d 61-63 65 >\n\
+[a\\-c]\t< 2d 61 63 >\n\
+[\\]-a]\t< 5d-61 >\n\
+[\\t ]\t< 09 20 >\n\
+[[:digit:]-]\t< 2d 30-39 >\n\
+[[:digit:]-z]\tSyntax { at: 0 }\n\
+[a-[:digit:]]\tSyntax { at: 0 }\n\
+[[:foo:]]\tSyntax { at: 0 }\n\
+[[:punct:][:blank:]]\t< 09 20-2f 3a-40 5b-60 7b-7e >\n\
+[[:a]\t< 3a 5b 61 >\n\
+[[:]\t< 3a 5b >\n\
+[[.a.]]\tCollation { at: 0 }\n\
+a[[=b=]]\tCollation { at: 1 }\n\
+[[.a.]b-a]\tCollation { at: 0 }\n\
+[[.a.]\tSyntax { at: 0 }\n\
+[a\tSyntax { at: 0 }\n\
+[]\tSyntax { at: 0 }\n\
+[\\400]\tSyntax { at: 0 }\n\
+[^\\0-\\377]\tSyntax { at: 0 }\n\
+{x}\tUndefinedName { at: 0 }\n\
+a{x-1}\tUndefinedName { at: 1 }\n\
+{1x}\tSyntax { at: 0 }\n\
+{-x}\tSyntax { at: 0 }\n\
+{x\tSyntax { at: 0 }\n\
+a{1000}{9}\tTooManyPositions { most: 8192 }\n\
+(a{2}|b)?\tE(E(J(< 61 >< 61 >)< 62 >)e)\n\
+a{x}^\tAnchor { at: 4 }\n\
+";
+
+#[test]
+fn texts_without_definitions(rt: HostRuntime) -> Result<(), Fail> {
+    let alloc = rt.alloc();
+    let none = Definitions::new(alloc).check()?;
+    let mut count = 0u32;
+    for row in ROWS.lines() {
+        if let Some((text, want)) = row.split_once('\t') {
+            let found = answer(alloc, text.as_bytes(), &none)?;
+            assert_eq!(rt; found.as_str(), want, "{text}");
+            count = count.wrapping_add(1);
+        }
+    }
+    assert_eq!(rt; count, 95);
+    for text in [b"a\t".as_slice(), b"a\\\n".as_slice()] {
+        let found = answer(alloc, text, &none)?;
+        assert_eq!(rt; found.as_str(), "Syntax { at: 1 }");
+    }
+    Ok(())
+}
+
+fn define(alloc: Global, texts: &[(&[u8], &[u8])]) -> Result<Definitions, DefinitionError> {
+    let mut definitions = Definitions::new(alloc);
+    for (name, text) in texts {
+        definitions.add(name, text)?;
+    }
+    Ok(definitions)
+}
+
+#[test]
+fn definitions_are_checked_in_order(rt: HostRuntime) -> Result<(), Fail> {
+    let alloc = rt.alloc();
+    let cases: [(&[(&[u8], &[u8])], &str); 8] = [
+        (
+            &[(b"A", b"{B}"), (b"B", b"{A}")],
+            "Fault { index: 0, fault: DefinitionCycle { at: 0 } }",
+        ),
+        (
+            &[(b"A", b"{B}"), (b"B", b"c{C}"), (b"C", b"x{B}")],
+            "Fault { index: 1, fault: DefinitionCycle { at: 1 } }",
+        ),
+        (
+            &[(b"A", b"{A}"), (b"B", b"{C}")],
+            "Fault { index: 1, fault: UndefinedName { at: 0 } }",
+        ),
+        (
+            &[(b"A", b"{C}"), (b"B", b"a)")],
+            "Fault { index: 1, fault: Syntax { at: 1 } }",
+        ),
+        (
+            &[(b"A", b"<a"), (b"B", b"^")],
+            "Fault { index: 0, fault: Condition { at: 0 } }",
+        ),
+        (
+            &[(b"A", b"{B}{9}"), (b"B", b"a{1000}")],
+            "Fault { index: 0, fault: TooManyPositions { most: 8192 } }",
+        ),
+        (
+            &[(b"A", b"{B}"), (b"B", b"")],
+            "Fault { index: 1, fault: Syntax { at: 0 } }",
+        ),
+        (
+            &[
+                (b"A", b"{B}{D}"),
+                (b"B", b"b"),
+                (b"D", b"{E}{B}"),
+                (b"E", b"e|f"),
+            ],
+            "none",
+        ),
+    ];
+    for (texts, want) in cases {
+        let found = match define(alloc, texts)?.check() {
+            Ok(_) => format!(in alloc; "none")?,
+            Err(error) => format!(in alloc; "{error:?}")?,
+        };
+        assert_eq!(rt; found.as_str(), want);
+    }
+    let mut twice = define(alloc, &[(b"A", b"a")])?;
+    assert_eq!(rt; twice.add(b"A", b"b"), Err(DefinitionError::Twice));
+    Ok(())
+}
+
+#[test]
+fn names_are_put_in_as_trees(rt: HostRuntime) -> Result<(), Fail> {
+    let alloc = rt.alloc();
+    let definitions = define(alloc, &[(b"p", b"{q}{r}"), (b"q", b"a|b"), (b"r", b"{q}c")])?;
+    let checked = definitions.check()?;
+    let found = answer(alloc, b"{q}*{p}", &checked)?;
+    assert_eq!(rt;
+        found.as_str(),
+        "J(M(E(< 61 >< 62 >))J(E(< 61 >< 62 >)J(E(< 61 >< 62 >)< 63 >)))"
+    );
+    Ok(())
+}
+
+// Fourteen definitions, each of which uses the one before twice.
+fn doubled(alloc: Global) -> Result<Definitions, DefinitionError> {
+    let mut definitions = Definitions::new(alloc);
+    definitions.add(b"a", b"xx")?;
+    for letter in b'b'..=b'n' {
+        let before = letter.wrapping_sub(1);
+        definitions.add(&[letter], &[b'{', before, b'}', b'{', before, b'}'])?;
+    }
+    Ok(definitions)
+}
+
+#[test]
+fn doubled_definitions_are_refused_by_their_leaves(rt: HostRuntime) -> Result<(), Fail> {
+    let fault = PatternFault::TooManyPositions { most: 8192 };
+    let refused = doubled(rt.alloc())?.check().err();
+    assert_eq!(rt; refused, Some(CheckError::Fault { index: 13, fault }));
+    Ok(())
+}
+
+fn push_all(text: &mut Vec<u8>, byte: u8, times: u32) -> Result<(), AllocError> {
+    for _ in 0..times {
+        text.push(byte)?;
+    }
+    Ok(())
+}
+
+#[test]
+fn the_depth_is_told(rt: HostRuntime) -> Result<(), Fail> {
+    let alloc = rt.alloc();
+    let none = Definitions::new(alloc).check()?;
+    for groups in [300_000u32, 201] {
+        let mut text = Vec::new(alloc);
+        push_all(&mut text, b'(', groups)?;
+        text.push(b'a')?;
+        push_all(&mut text, b')', groups)?;
+        let found = answer(alloc, &text, &none)?;
+        let want = format!(in alloc; "TooDeep {{ found: {groups}, most: 200 }}")?;
+        assert_eq!(rt; found.as_str(), want.as_str());
+    }
+    Ok(())
+}
