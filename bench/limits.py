@@ -51,7 +51,16 @@ def wide(rules, symbols):
     return "%%\ns : n ;\nn : 'x' " + f"| {side} " * rules + ";\n"
 
 
+def one_mebibyte():
+    """A file of just the most bytes: comments, actions and rules."""
+    text = "%token NUM\n%%\ns : NUM ;\n"
+    piece = "a : NUM { " + "if (x) { y('}'); } /* } */ " * 8 + "} | ;\n"
+    text += piece * min(4000, (1048576 - len(text) - 4) // len(piece))
+    return text + "/*" + " " * (1048576 - len(text) - 4) + "*/"
+
+
 ROWS = [
+    ("1,048,576 bytes", one_mebibyte),
     ("1,024 nonterminals in a chain", lambda: chain(1024)),
     ("the same, the last one first", lambda: turned_chain(1023)),
     ("8,192 rules of up to 12 symbols", lambda: random_rules(1024, 8, 12, 1)),

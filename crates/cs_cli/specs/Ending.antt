@@ -5,7 +5,7 @@ use Rattle.cs_io.specs.Desk.{file_of, IsMissing}
 use Rattle.cs_io.specs.Sink.{GrewByPrefix}
 use Rattle.cs_yacc.specs.declared.TheConstants.{MOST_BYTES}
 use Rattle.cs_yacc.specs.declared.error.YaccError.{YaccError}
-use Rattle.cs_yacc.specs.declared.error.YaccError.TheVariants.{NotYet, Undefined, Limit, Memory}
+use Rattle.cs_yacc.specs.declared.error.YaccError.TheVariants.{BadItem, Unended, UnknownDirective, Syntax, SecondStart, TokenOnLeft, Undefined, StartNotNonterminal, Limit, Memory}
 use Rattle.cs_yacc.specs.declared.error.YaccLimit.{YaccLimit}
 use Rattle.cs_yacc.specs.declared.error.YaccLimit.TheVariants.{Tokens, Nonterminals, Rules, RightSide}
 use Rattle.cs_yacc.specs.File.{File}
@@ -79,8 +79,14 @@ limit_words Rules = codes "Rules"
 limit_words RightSide = codes "RightSide"
 
 abbrev pub refusal_line : YaccError → List ℕ
-refusal_line NotYet = codes "conform: yacc: NotYet\n"
+refusal_line (BadItem at) = codes "conform: yacc: BadItem at " ++ decimal at ++ codes "\n"
+refusal_line (Unended at) = codes "conform: yacc: Unended at " ++ decimal at ++ codes "\n"
+refusal_line (UnknownDirective at) = codes "conform: yacc: UnknownDirective at " ++ decimal at ++ codes "\n"
+refusal_line (Syntax at) = codes "conform: yacc: Syntax at " ++ decimal at ++ codes "\n"
+refusal_line (SecondStart at) = codes "conform: yacc: SecondStart at " ++ decimal at ++ codes "\n"
+refusal_line (TokenOnLeft at) = codes "conform: yacc: TokenOnLeft at " ++ decimal at ++ codes "\n"
 refusal_line (Undefined at) = codes "conform: yacc: Undefined at " ++ decimal at ++ codes "\n"
+refusal_line (StartNotNonterminal at) = codes "conform: yacc: StartNotNonterminal at " ++ decimal at ++ codes "\n"
 refusal_line (Limit which found most) =
     codes "conform: yacc: Limit " ++ (limit_words which ++ (codes " " ++ (decimal found ++ (codes " of " ++ (decimal most ++ codes "\n")))))
 refusal_line Memory = codes "conform: out of memory\n"

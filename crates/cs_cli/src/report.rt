@@ -59,8 +59,18 @@ fn refusal(alloc: Global, error: YaccError) -> Result<String, AllocError>
     ensures { IfOk result (λ line. string_bytes line ≡ refusal_line error) }
 {
     match error {
-        YaccError::NotYet => String::from_str(alloc, "conform: yacc: NotYet\n"),
+        YaccError::BadItem { at } => format!(in alloc; "conform: yacc: BadItem at {at}\n"),
+        YaccError::Unended { at } => format!(in alloc; "conform: yacc: Unended at {at}\n"),
+        YaccError::UnknownDirective { at } => format!(in alloc;
+            "conform: yacc: UnknownDirective at {at}\n"
+        ),
+        YaccError::Syntax { at } => format!(in alloc; "conform: yacc: Syntax at {at}\n"),
+        YaccError::SecondStart { at } => format!(in alloc; "conform: yacc: SecondStart at {at}\n"),
+        YaccError::TokenOnLeft { at } => format!(in alloc; "conform: yacc: TokenOnLeft at {at}\n"),
         YaccError::Undefined { at } => format!(in alloc; "conform: yacc: Undefined at {at}\n"),
+        YaccError::StartNotNonterminal { at } => format!(in alloc;
+            "conform: yacc: StartNotNonterminal at {at}\n"
+        ),
         YaccError::Limit { which, found, most } => {
             let which = limit_name(which);
             Ok(format!(in alloc; "conform: yacc: Limit {which} {found} of {most}\n")?)

@@ -48,7 +48,7 @@ fn words(alloc: Global, texts: &[&str]) -> Result<Vec<String>, AllocError> {
 fn rules_of_files(rt: HostRuntime) -> Result<(), Fail> {
     let alloc = rt.alloc();
     let words = words(alloc, &["rules", "g1.y"])?;
-    let rows: [(&[u8], u8, &[u8], &[u8]); 7] = [
+    let rows: [(&[u8], u8, &[u8], &[u8]); 8] = [
         (SUMS, 0, SUMS_RULES, b""),
         (
             b"%%\na : a | 'x' ;\n",
@@ -62,10 +62,21 @@ fn rules_of_files(rt: HostRuntime) -> Result<(), Fail> {
             b"conform 1 rules\ntoken 1 'x'\ntoken 2 'y'\ntoken 3 'z'\nrule 1 s :\nrule 2 s : t 'x'\nrule 3 t : t 'y'\nrule 4 u : 'z'\ngoal 1 rule 1 size 1\n  derive 1\n  tokens\ngoal 2 rule 2 infeasible\ngoal 3 rule 3 infeasible\ngoal 4 rule 4 infeasible\nend goals 4 feasible 1 infeasible 3 large 0 negatives 0\n",
             b"",
         ),
-        (b"", 1, b"", b"conform: yacc: NotYet\n"),
+        (b"", 1, b"", b"conform: yacc: Syntax at 0\n"),
         (b"%%\ns : t ;", 1, b"", b"conform: yacc: Undefined at 7\n"),
-        (b"%%\ns : { x } ;", 1, b"", b"conform: yacc: NotYet\n"),
-        (b"\0\xff%%", 1, b"", b"conform: yacc: NotYet\n"),
+        (
+            b"%%\ns : { x } ;",
+            0,
+            b"conform 1 rules\nrule 1 s :\ngoal 1 rule 1 size 1\n  derive 1\n  tokens\nend goals 1 feasible 1 infeasible 0 large 0 negatives 0\n",
+            b"",
+        ),
+        (b"\0\xff%%", 1, b"", b"conform: yacc: BadItem at 0\n"),
+        (
+            b"%token NUM\n%%\ne : e '+' t | t ; t : NUM { x",
+            1,
+            b"",
+            b"conform: yacc: Unended at 40\n",
+        ),
     ];
     for (file, status, written, said) in rows {
         let mut desk = desk(alloc, file, &[])?;
@@ -148,7 +159,7 @@ fn files_about_the_most_bytes(rt: HostRuntime) -> Result<(), Fail> {
     let alloc = rt.alloc();
     let words = words(alloc, &["rules", "g1.y"])?;
     let rows: [(usize, &[u8]); 2] = [
-        (1_048_576, b"conform: yacc: NotYet\n"),
+        (1_048_576, b"conform: yacc: Syntax at 1048576\n"),
         (1_048_577, b"conform: yacc: Length above 1048576\n"),
     ];
     for (length, said) in rows {

@@ -1,12 +1,12 @@
 -- How many tokens, nonterminals, rules and symbols the items can give.
 use Rattle.std.proofs.Common.{◌≡◌, ℕ, suc, ◌+◌, ◌<◌, ◌≤◌, Bool, true, false, cond, List, [], ◌∷◌, ◌++◌, length, get_or, length-append, sym, ap, ◌∙◌, arith}
-use Rattle.std.specs.Prelude.{Option, Some, None, filter, not}
+use Rattle.std.specs.Prelude.{Option, Some, None, filter, not, ◌&&◌}
 use Rattle.std.specs.List.{All}
-use Rattle.std.proofs.lemmas.List.Elements.{All-nil, All-cons, All-append, All-map}
+use Rattle.std.proofs.lemmas.List.Elements.{All-nil, All-cons, All-append, All-map, All-filter}
 use Rattle.cs_yacc.specs.declared.name.TokenName.{TokenName}
 use Rattle.cs_yacc.specs.declared.name.TokenName.TheVariants.{Word}
-use Rattle.cs_yacc.specs.Items.{Item, mark, token, unknown, name, literal, colon, semicolon, bar, Placed, items_of, ReadsTo, Ends, at_end, Reads}
-use Rattle.cs_yacc.specs.Meaning.{same_word, distinct, from_each, word_at, left_at, left_sides, nonterminals, spelled, is_in_use, tokens, body, bodies, SpelledRule, rules_of, rules_at, rules, begins_with_colon}
+use Rattle.cs_yacc.specs.Items.{Item, name, literal, colon, bar, Placed, items_of, Reached, start, marks_behind, ReadsTo, Reads}
+use Rattle.cs_yacc.specs.Meaning.{same_word, distinct, from_each, word_at, left_at, left_sides, nonterminals, spelled, is_in_use, tokens, body, bodies, SpelledRule, rules_of, rules_at, rules, is_kept, kept, is_idle, meant_one, opens_prec, meant_behind, meant, begins_with_colon}
 use Rattle.std.proofs.lemmas.List.{length-map, get_or-map}
 use Rattle.cs_yacc.specs.declared.item.Placed as held_item
 use Rattle.cs_yacc.specs.Views.{placed_of, placed_all}
@@ -19,19 +19,16 @@ use Rattle.cs_yacc.proofs.RuleLoop.{pending, rule_step}
 
 -- ---- items
 
-few_to : (bytes : List ℕ) (from : ℕ) (ps : List Placed) (to : ℕ) → from ≤ length bytes → ReadsTo bytes from ps to → from + length ps ≤ to
-few_to bytes from [] to le r = omega (arith, r)
-few_to bytes from (p ∷ ps) to le r =
-    let w = follows_within bytes from p r.0 le r.1 in
-    let rest : r.0 + length ps ≤ to = few_to bytes r.0 ps to w.1 r.2 in
-    omega (arith, w.0, rest)
-
-ends_within : (bytes : List ℕ) (ps : List Placed) (to : ℕ) → Ends bytes ps to → to ≤ length bytes
-ends_within bytes ps to (at_end le g) = le
+few_to : (bytes : List ℕ) (r : Reached) (ps : List Placed) (to : Reached) → ReadsTo bytes r ps to → (r.at + length ps ≤ to.at) × (r.at ≤ length bytes → to.at ≤ length bytes)
+few_to bytes r [] to x = rw x (omega arith, λ le. le)
+few_to bytes r (p ∷ ps) to x =
+    let w = follows_within bytes r.at p x.1 x.2 in
+    let rest = few_to bytes (record { at = x.1; marks = marks_behind r.marks p.item }) ps to x.3 in
+    (omega (arith, w.0, rest.0), λ le. rest.1 w.1)
 
 -- there are at most as many items as bytes
 pub few_items : (bytes : List ℕ) (ps : List Placed) → Reads bytes ps → length ps ≤ length bytes
-few_items bytes ps r = omega (arith, few_to bytes 0 ps r.to (omega arith) r.read, ends_within bytes ps r.to r.ends)
+few_items bytes ps r = let f = few_to bytes start ps r.to r.read in omega (arith, f.0, f.1 (omega arith))
 
 -- ---- words
 
@@ -52,48 +49,30 @@ from_each_few f one [] = omega arith
 from_each_few f one (i ∷ items) = omega (arith, one i items, from_each_few f one items, length-append (f i items) (from_each f items))
 
 one_left : (i : Item) (r : List Item) → length (left_at i r) ≤ 1
-one_left mark r = omega arith
-one_left token r = omega arith
-one_left (unknown w) r = omega arith
 one_left (name n) r = by_colon (begins_with_colon r)
   where
     by_colon : (b : Bool) → length (cond b (Word n ∷ []) []) ≤ 1
     by_colon true = omega arith
     by_colon false = omega arith
-one_left (literal b) r = omega arith
-one_left colon r = omega arith
-one_left semicolon r = omega arith
-one_left bar r = omega arith
+one_left i r = omega arith
 
 one_word : (i : Item) (r : List Item) → length (word_at i) ≤ 1
-one_word mark r = omega arith
-one_word token r = omega arith
-one_word (unknown w) r = omega arith
 one_word (name n) r = omega arith
-one_word (literal b) r = omega arith
-one_word colon r = omega arith
-one_word semicolon r = omega arith
-one_word bar r = omega arith
+one_word i r = omega arith
 
 pub few_nonterminals : (items : List Item) → length (nonterminals items) ≤ length items
 few_nonterminals items = omega (arith, distinct_few (left_sides items), from_each_few left_at one_left items)
 
-pub few_tokens : (items : List Item) → length (tokens items) ≤ length items
-few_tokens items =
-    omega (arith, distinct_few (filter (is_in_use items) (spelled items)), filter_few (is_in_use items) (spelled items), from_each_few (λ i _. word_at i) one_word items)
+pub few_tokens : (used lefts : List TokenName) (items : List Item) → length (tokens used lefts items) ≤ length items
+few_tokens used lefts items =
+    omega (arith, distinct_few (filter (is_in_use used lefts) (spelled items)), filter_few (is_in_use used lefts) (spelled items), from_each_few (λ i _. word_at i) one_word items)
 
 -- ---- rules
 
 one_opened : (left : Option TokenName) (i : Item) (r : List Item) → length (opened left i r) ≤ 1
 one_opened None i r = omega arith
-one_opened (Some l) mark r = omega arith
-one_opened (Some l) token r = omega arith
-one_opened (Some l) (unknown w) r = omega arith
-one_opened (Some l) (name n) r = omega arith
-one_opened (Some l) (literal b) r = omega arith
 one_opened (Some l) colon r = omega arith
-one_opened (Some l) semicolon r = omega arith
-one_opened (Some l) bar r = omega arith
+one_opened (Some l) i r = omega arith
 
 few_pending : (left : Option TokenName) (items : List Item) → length (pending left (bodies items) ++ rules items) ≤ length items
 few_pending None [] = omega arith
@@ -104,8 +83,23 @@ few_pending left (i ∷ items) =
     let both = length-append (opened next i items) (pending next (bodies items) ++ rules items) in
     omega (arith, ap length (rule_step left i items), both, rest, one_opened next i items)
 
-pub few_rules : (items : List Item) → length (rules items) ≤ length items
-few_rules items = few_pending None items
+pub few_rules : (items : List Item) → length (kept items) ≤ length items
+few_rules items = omega (arith, few_pending None items, filter_few is_kept (rules items))
+
+-- the items with a meaning are no more than all
+one_meant : (b : Bool) (p : Placed) → length (meant_one b p) ≤ 1
+one_meant b p = by_test (not b && not (is_idle p.item))
+  where
+    by_test : (t : Bool) → length (cond t (p ∷ []) []) ≤ 1
+    by_test true = omega arith
+    by_test false = omega arith
+
+few_behind : (b : Bool) (ps : List Placed) → length (meant_behind b ps) ≤ length ps
+few_behind b [] = omega arith
+few_behind b (p ∷ ps) = omega (arith, one_meant b p, few_behind (opens_prec b p.item) ps, length-append (meant_one b p) (meant_behind (opens_prec b p.item) ps))
+
+pub few_meant : (ps : List Placed) → length (meant ps) ≤ length ps
+few_meant ps = few_behind false ps
 
 -- the code's words are as many as the words that they are
 pub few_keys : (keys : List code.Word) (ws : List TokenName) (n : ℕ) → words_of keys ≡ ws → length ws ≤ n → length keys ≤ n
@@ -127,18 +121,13 @@ right_within held_rules k r n is lt all =
 
 few_body : (items : List Item) → length (body items) ≤ length items
 few_body [] = omega arith
-few_body (mark ∷ items) = omega arith
-few_body (token ∷ items) = omega arith
-few_body (unknown w ∷ items) = omega arith
 few_body (name n ∷ items) = by_colon (begins_with_colon items) (few_body items)
   where
     by_colon : (b : Bool) → length (body items) ≤ length items → length (cond b [] (Word n ∷ body items)) ≤ suc (length items)
     by_colon true h = omega arith
     by_colon false h = omega arith
 few_body (literal b ∷ items) = omega (arith, few_body items)
-few_body (colon ∷ items) = omega arith
-few_body (semicolon ∷ items) = omega arith
-few_body (bar ∷ items) = omega arith
+few_body (i ∷ items) = omega arith
 
 module _ (n : ℕ) where
   abbrev IsShort : List TokenName → Type 0
@@ -146,39 +135,32 @@ module _ (n : ℕ) where
 
   short_bodies : (items : List Item) → length items ≤ n → All IsShort (bodies items)
   short_bodies [] le = All-nil IsShort
-  short_bodies (mark ∷ items) le = short_bodies items (omega arith)
-  short_bodies (token ∷ items) le = short_bodies items (omega arith)
-  short_bodies (unknown w ∷ items) le = short_bodies items (omega arith)
   short_bodies (name m ∷ items) le = by_colon (begins_with_colon items) (short_bodies items (omega arith))
     where
       by_colon : (b : Bool) → All IsShort (bodies items) → All IsShort (cond b [] (bodies items))
       by_colon true h = All-nil IsShort
       by_colon false h = h
-  short_bodies (literal b ∷ items) le = short_bodies items (omega arith)
   short_bodies (colon ∷ items) le = All-cons IsShort (body items) (bodies items) (omega (arith, few_body items)) (short_bodies items (omega arith))
-  short_bodies (semicolon ∷ items) le = short_bodies items (omega arith)
   short_bodies (bar ∷ items) le = All-cons IsShort (body items) (bodies items) (omega (arith, few_body items)) (short_bodies items (omega arith))
+  short_bodies (i ∷ items) le = short_bodies items (omega arith)
 
   abbrev HasShort : SpelledRule → Type 0
   HasShort r = length r.right ≤ n
 
   short_at : (i : Item) (items : List Item) → length items ≤ n → All HasShort (rules_at i items)
-  short_at mark items le = All-nil HasShort
-  short_at token items le = All-nil HasShort
-  short_at (unknown w) items le = All-nil HasShort
   short_at (name m) items le = by_colon (begins_with_colon items)
     where
       by_colon : (b : Bool) → All HasShort (cond b (rules_of (Word m) (bodies items)) [])
       by_colon true = All-map HasShort (λ right. record { left = Word m; right = right }) (bodies items) (short_bodies items le)
       by_colon false = All-nil HasShort
-  short_at (literal b) items le = All-nil HasShort
-  short_at colon items le = All-nil HasShort
-  short_at semicolon items le = All-nil HasShort
-  short_at bar items le = All-nil HasShort
+  short_at i items le = All-nil HasShort
 
-  pub short_rights : (items : List Item) → length items ≤ n → All (λ (r : SpelledRule). length r.right ≤ n) (rules items)
-  short_rights [] le = All-nil HasShort
-  short_rights (i ∷ items) le = All-append HasShort (rules_at i items) (rules items) (short_at i items (omega arith)) (short_rights items (omega arith))
+  short_rules : (items : List Item) → length items ≤ n → All (λ (r : SpelledRule). length r.right ≤ n) (rules items)
+  short_rules [] le = All-nil HasShort
+  short_rules (i ∷ items) le = All-append HasShort (rules_at i items) (rules items) (short_at i items (omega arith)) (short_rules items (omega arith))
+
+  pub short_rights : (items : List Item) → length items ≤ n → All (λ (r : SpelledRule). length r.right ≤ n) (kept items)
+  short_rights items le = All-filter is_kept HasShort (rules items) (short_rules items le)
 
 -- the code's items are as many as the items that they are
 pub few_held : (held_items : List held_item.Placed) → length (items_of (placed_all held_items)) ≡ length held_items

@@ -1,6 +1,6 @@
--- What a plain file within the limits gives is well formed.
-use Rattle.std.proofs.Common.{◌≡◌, ◌≢◌, ℕ, ◌<◌, ◌≤◌, Bool, true, false, cond, List, [], ◌∷◌, length, length-append, refl, sym, subst, ◌∙◌, arith, ◌⊎◌, inl, inr}
-use Rattle.std.specs.Prelude.{Option, Some, None, nat_lt}
+-- What a file within the limits gives is well formed.
+use Rattle.std.proofs.Common.{◌≡◌, ◌≢◌, ℕ, ◌<◌, ◌≤◌, Bool, true, false, cond, List, [], ◌∷◌, ◌++◌, length, length-append, refl, sym, subst, ◌∙◌, arith, ◌⊎◌, inl, inr}
+use Rattle.std.specs.Prelude.{Option, Some, None, nat_lt, not, ◌&&◌}
 use Rattle.std.specs.List.{All}
 use Rattle.std.proofs.lemmas.List.{length-map}
 use Rattle.std.proofs.lemmas.Bool.{false≢true, lt-ltb}
@@ -9,13 +9,15 @@ use Rattle.cs_grammar.specs.declared.TheConstants.{MOST_TOKENS, MOST_NONTERMINAL
 use Rattle.cs_grammar.specs.declared.symbol.Symbol.TheVariants.{Token, Nonterminal}
 use Rattle.cs_grammar.specs.Grammar.{IsSymbol, IsRuleOf}
 use Rattle.cs_yacc.specs.declared.name.TokenName.{TokenName}
+use Rattle.cs_yacc.specs.declared.name.TokenName.TheVariants.{Word, Byte}
 use Rattle.cs_yacc.specs.declared.error.YaccLimit.{YaccLimit}
 use Rattle.cs_yacc.specs.declared.error.YaccLimit.TheVariants.{Tokens, Nonterminals, Rules, RightSide}
 use Rattle.cs_yacc.specs.declared.error.YaccError.{YaccError}
-use Rattle.cs_yacc.specs.Items.{Item, mark, token, unknown, name, literal, colon, semicolon, bar}
-use Rattle.cs_yacc.specs.Table.{Place, declarations, list, names, rules, left, body, closed, Row, Leads, IsTaken}
-use Rattle.cs_yacc.specs.Meaning.{same_word, has_word, distinct, number_of, symbol_of, numbered, left_at, left_sides, nonterminals, tokens, SpelledRule, above, or_else, long_right, limit_passed, bytes_of, file_of}
-use Rattle.cs_yacc.specs.Meaning as spec
+use Rattle.cs_yacc.specs.declared.directive.Directive.{Directive}
+use Rattle.cs_yacc.specs.declared.directive.Directive.TheVariants as directives
+use Rattle.cs_yacc.specs.Items.{Item, mark, prologue, directive, name, literal, number, tag, block, colon, semicolon, comma, Placed, items_of}
+use Rattle.cs_yacc.specs.Table.{Place, declarations, start, union, expect, list, tagged, entry, counted, behind_comma, rules, left, body, named, prec, closed, done, behind_directive, in_declarations, in_entry, Row, may_end, MayEnd, Leads, IsTaken}
+use Rattle.cs_yacc.specs.Meaning.{has_word, distinct, number_of, symbol_of, numbered, left_at, left_sides, nonterminals, tokens_of, SpelledRule, kept, above, or_else, long_right, limit_passed, bytes_of, number_or_first, start_of, start_item, is_no_left, wrong_start, file_of, is_prec, is_idle, opens_prec, meant_behind, meant, word_at, used}
 use Rattle.cs_yacc.specs.File.{IsFile}
 use Rattle.cs_yacc.proofs.Names.{IsIn, number_within, names_differ, lefts_known, rights_known}
 
@@ -45,128 +47,180 @@ short (r ∷ rs) e =
 -- ---- a left side
 
 abbrev IsEarly : Place → Type 0
-IsEarly declarations = Unit {0}
-IsEarly list = Unit {0}
-IsEarly names = Unit {0}
-IsEarly rules = Unit {0}
 IsEarly left = ⊥
 IsEarly body = ⊥
+IsEarly named = ⊥
+IsEarly prec = ⊥
 IsEarly closed = ⊥
+IsEarly done = ⊥
+IsEarly place = Unit {0}
 
--- items that lead on from the rules begin with a left side
-some_left : (i : Item) (items : List Item) (next : Place) → Row rules i next → Leads next items closed → 0 < length (left_sides (i ∷ items))
-some_left mark items next row l = absurd cc
-some_left token items next row l = absurd cc
-some_left (unknown w) items next row l = absurd cc
-some_left (name n) items next row l = let e : left ≡ next = cc in behind items (subst (λ p. Leads p items closed) (sym e) l)
-  where
-    behind : (items : List Item) → Leads left items closed → 0 < length (left_sides (name n ∷ items))
-    behind [] l = absurd cc
-    behind (mark ∷ items) l = let e = l.1 in absurd cc
-    behind (token ∷ items) l = let e = l.1 in absurd cc
-    behind (unknown w ∷ items) l = let e = l.1 in absurd cc
-    behind (name m ∷ items) l = let e = l.1 in absurd cc
-    behind (literal b ∷ items) l = let e = l.1 in absurd cc
-    behind (colon ∷ items) l = omega arith
-    behind (semicolon ∷ items) l = let e = l.1 in absurd cc
-    behind (bar ∷ items) l = let e = l.1 in absurd cc
-some_left (literal b) items next row l = absurd cc
-some_left colon items next row l = absurd cc
-some_left semicolon items next row l = absurd cc
-some_left bar items next row l = absurd cc
+by_directive : (d : Directive) (next : Place) → behind_directive d ≡ Some next → IsEarly next × (is_prec (directive d) ≡ false)
+by_directive directives.Start next row = let e : start ≡ next = cc in (subst IsEarly e tt, refl)
+by_directive directives.Union next row = let e : union ≡ next = cc in (subst IsEarly e tt, refl)
+by_directive directives.Expect next row = let e : expect ≡ next = cc in (subst IsEarly e tt, refl)
+by_directive directives.Prec next row = absurd cc
+by_directive directives.Empty next row = absurd cc
+by_directive d next row = let e : list ≡ next = cc in (subst IsEarly e tt, refl)
 
-lefts_more : (i : Item) (items : List Item) → 0 < length (left_sides items) → 0 < length (left_sides (i ∷ items))
-lefts_more i items h = omega (arith, length-append (left_at i items) (left_sides items))
+by_declared : (i : Item) (next : Place) → in_declarations i ≡ Some next → IsEarly next × (is_prec i ≡ false)
+by_declared (directive d) next row = by_directive d next row
+by_declared prologue next row = let e : declarations ≡ next = cc in (subst IsEarly e tt, refl)
+by_declared semicolon next row = let e : declarations ≡ next = cc in (subst IsEarly e tt, refl)
+by_declared mark next row = let e : rules ≡ next = cc in (subst IsEarly e tt, refl)
+by_declared i next row = absurd cc
 
-early_next : (p : Place) (i : Item) (next : Place) → IsEarly p → Row p i next → (p ≡ rules) ⊎ IsEarly next
+by_entry : (i : Item) (next : Place) → in_entry i ≡ Some next → IsEarly next × (is_prec i ≡ false)
+by_entry (name n) next row = let e : entry ≡ next = cc in (subst IsEarly e tt, refl)
+by_entry (literal b) next row = let e : entry ≡ next = cc in (subst IsEarly e tt, refl)
+by_entry i next row = by_declared i next row
+
+early_next : (p : Place) (i : Item) (next : Place) → IsEarly p → Row p i next → (p ≡ rules) ⊎ (IsEarly next × (is_prec i ≡ false))
+early_next declarations i next h row = inr (by_declared i next row)
+early_next start (name n) next h row = let e : declarations ≡ next = cc in inr (subst IsEarly e tt, refl)
+early_next union block next h row = let e : declarations ≡ next = cc in inr (subst IsEarly e tt, refl)
+early_next expect number next h row = let e : declarations ≡ next = cc in inr (subst IsEarly e tt, refl)
+early_next list tag next h row = let e : tagged ≡ next = cc in inr (subst IsEarly e tt, refl)
+early_next list (name n) next h row = let e : entry ≡ next = cc in inr (subst IsEarly e tt, refl)
+early_next list (literal b) next h row = let e : entry ≡ next = cc in inr (subst IsEarly e tt, refl)
+early_next tagged (name n) next h row = let e : entry ≡ next = cc in inr (subst IsEarly e tt, refl)
+early_next tagged (literal b) next h row = let e : entry ≡ next = cc in inr (subst IsEarly e tt, refl)
+early_next entry number next h row = let e : counted ≡ next = cc in inr (subst IsEarly e tt, refl)
+early_next entry comma next h row = let e : behind_comma ≡ next = cc in inr (subst IsEarly e tt, refl)
+early_next entry i next h row = inr (by_entry i next row)
+early_next counted comma next h row = let e : behind_comma ≡ next = cc in inr (subst IsEarly e tt, refl)
+early_next counted i next h row = inr (by_entry i next row)
+early_next behind_comma i next h row = inr (by_entry i next row)
 early_next rules i next h row = inl refl
 early_next left i next h row = absurd h
 early_next body i next h row = absurd h
+early_next named i next h row = absurd h
+early_next prec i next h row = absurd h
 early_next closed i next h row = absurd h
-early_next declarations mark next h row = let e : rules ≡ next = cc in inr (subst IsEarly e tt)
-early_next declarations token next h row = let e : list ≡ next = cc in inr (subst IsEarly e tt)
-early_next list (name n) next h row = let e : names ≡ next = cc in inr (subst IsEarly e tt)
-early_next names (name n) next h row = let e : names ≡ next = cc in inr (subst IsEarly e tt)
-early_next names mark next h row = let e : rules ≡ next = cc in inr (subst IsEarly e tt)
-early_next names token next h row = let e : list ≡ next = cc in inr (subst IsEarly e tt)
+early_next done i next h row = absurd h
 early_next p i next h row = absurd cc
 
-not_closed : (p : Place) → IsEarly p → p ≡ closed → ⊥
-not_closed declarations h e = cc
-not_closed list h e = cc
-not_closed names h e = cc
-not_closed rules h e = cc
-not_closed left h e = h
-not_closed body h e = h
-not_closed closed h e = h
+early_ends : (p : Place) → IsEarly p → may_end p ≡ true → ⊥
+early_ends left h e = h
+early_ends body h e = h
+early_ends named h e = h
+early_ends prec h e = h
+early_ends closed h e = h
+early_ends done h e = h
+early_ends p h e = false≢true e
 
-has_left : (p : Place) (items : List Item) → IsEarly p → Leads p items closed → 0 < length (left_sides items)
-has_left p [] h l = absurd (not_closed p h l)
-has_left p (i ∷ items) h l =
-    elim (early_next p i l.0 h l.1) [
-      | inl e ↦ some_left i items l.0 (subst (λ q. Row q i l.0) e l.1) l.2
-      | inr f ↦ lefts_more i items (has_left l.0 items f l.2)
+lefts_more : (i : Item) (items : List Item) → 0 < length (left_sides items) → 0 < length (left_sides (i ∷ items))
+lefts_more i items h = omega (arith, h, length-append (left_at i items) (left_sides items))
+
+-- an item that stands before, with or without a meaning
+meant_left : (b : Bool) (p : Placed) (rest : List Placed) → 0 < length (left_sides (items_of rest)) → 0 < length (left_sides (items_of (cond b (p ∷ []) [] ++ rest)))
+meant_left true p rest h = lefts_more p.item (items_of rest) h
+meant_left false p rest h = h
+
+-- a name and a colon are a left side
+name_colon : (p q : Placed) (ps : List Placed) (i j : Item) (next after : Place) → p.item ≡ i → q.item ≡ j → Row rules i next → Row left j after → 0 < length (left_sides (items_of (meant_behind false (p ∷ q ∷ ps))))
+name_colon p q ps (name n) colon next after e f r s = rw (e, f) (omega arith)
+name_colon p q ps (name n) j next after e f r s = absurd cc
+name_colon p q ps i j next after e f r s = absurd cc
+
+row_rules : (i : Item) (next : Place) → Row rules i next → next ≡ left
+row_rules (name n) next row = cc
+row_rules i next row = absurd cc
+
+has_left : (p : Place) (ps : List Placed) (ending : Place) → IsEarly p → Leads p (items_of ps) ending → MayEnd ending → 0 < length (left_sides (items_of (meant_behind false ps)))
+has_left p [] ending h l m = absurd (early_ends p h (subst MayEnd (sym l) m))
+has_left p (q ∷ ps) ending h l m =
+    elim (early_next p q.item l.0 h l.1) [
+      | inl e ↦ at_rules q ps (l.0) (subst (λ (x : Place). Row x q.item l.0) e l.1) l.2
+      | inr f ↦ meant_left (not false && not (is_idle q.item)) q (meant_behind (opens_prec false q.item) ps) (subst (λ (b : Bool). 0 < length (left_sides (items_of (meant_behind b ps)))) (sym f.1) (has_left l.0 ps ending f.0 l.2 m))
     ]
+  where
+    at_rules : (q : Placed) (ps : List Placed) (next : Place) → Row rules q.item next → Leads next (items_of ps) ending → 0 < length (left_sides (items_of (meant_behind false (q ∷ ps))))
+    at_rules q [] next row k = let e : next ≡ left = row_rules q.item next row in let f : may_end left ≡ true = subst MayEnd (sym k ∙ e) m in absurd (false≢true f)
+    at_rules q (r ∷ ps) next row k = let e : next ≡ left = row_rules q.item next row in name_colon q r ps q.item r.item next k.0 refl refl row (subst (λ (x : Place). Row x r.item k.0) e k.1)
 
 distinct_some : (ws : List TokenName) → 0 < length ws → 0 < length (distinct ws)
 distinct_some [] h = h
 distinct_some (w ∷ ws) h = omega arith
 
 -- a file that is taken has a nonterminal
-some_nonterminal : (items : List Item) → IsTaken items → 1 ≤ length (nonterminals items)
-some_nonterminal items t =
-    let l : Leads declarations items closed = subst (λ p. Leads declarations items p) t.2 t.1 in
-    omega (arith, distinct_some (left_sides items) (has_left declarations items tt l))
+some_nonterminal : (all : List Placed) → IsTaken (items_of all) → 1 ≤ length (nonterminals (items_of (meant all)))
+some_nonterminal all t = omega (arith, distinct_some (left_sides (items_of (meant all))) (has_left declarations all t.0 tt t.1 t.2))
+
+-- ---- the start symbol
+
+start_one : (lefts : List TokenName) (at : ℕ) (i : Item) → cond (is_no_left lefts i) (Some at) None ≡ None → 1 ≤ length lefts → (1 ≤ number_or_first lefts (word_at i)) × (number_or_first lefts (word_at i) ≤ length lefts)
+start_one lefts at (name n) h le = by_test (has_word lefts (Word n)) refl
+  where
+    by_test : (b : Bool) → has_word lefts (Word n) ≡ b → (1 ≤ number_of lefts (Word n)) × (number_of lefts (Word n) ≤ length lefts)
+    by_test true e = (omega arith, number_within lefts (Word n) e)
+    by_test false e = let g : cond (is_no_left lefts (name n)) (Some at) None ≡ Some at = rw e refl in let k : None ≡ Some at = sym h ∙ g in absurd cc
+start_one lefts at (literal c) h le = by_test (has_word lefts (Byte c)) refl
+  where
+    by_test : (b : Bool) → has_word lefts (Byte c) ≡ b → (1 ≤ number_of lefts (Byte c)) × (number_of lefts (Byte c) ≤ length lefts)
+    by_test true e = (omega arith, number_within lefts (Byte c) e)
+    by_test false e = let g : cond (is_no_left lefts (literal c)) (Some at) None ≡ Some at = rw e refl in let k : None ≡ Some at = sym h ∙ g in absurd cc
+start_one lefts at i h le = (omega arith, le)
+
+start_fits : (lefts : List TokenName) (ps : List Placed) → wrong_start lefts ps ≡ None → 1 ≤ length lefts → (1 ≤ start_of lefts ps) × (start_of lefts ps ≤ length lefts)
+start_fits lefts [] h le = (omega arith, le)
+start_fits lefts (p ∷ ps) h le = start_one lefts p.at p.item h le
 
 -- ---- the grammar
 
-module _ (items : List Item) where
-  symbol_fits : (w : TokenName) → (has_word (nonterminals items) w ≡ false → IsIn (tokens items) w)
-      → IsSymbol (length (tokens items)) (length (nonterminals items)) (symbol_of (tokens items) (nonterminals items) w)
+module _ (all : List Placed) where
+  abbrev items : List Item
+  items = items_of (meant all)
+
+  abbrev tokens : List TokenName
+  tokens = tokens_of all (meant all)
+
+  symbol_fits : (w : TokenName) → (has_word (nonterminals items) w ≡ false → IsIn tokens w)
+      → IsSymbol (length tokens) (length (nonterminals items)) (symbol_of tokens (nonterminals items) w)
   symbol_fits w known = by_test (has_word (nonterminals items) w) refl
     where
       by_test : (b : Bool) → has_word (nonterminals items) w ≡ b
-          → IsSymbol (length (tokens items)) (length (nonterminals items)) (cond b (Nonterminal (number_of (nonterminals items) w)) (Token (number_of (tokens items) w)))
+          → IsSymbol (length tokens) (length (nonterminals items)) (cond b (Nonterminal (number_of (nonterminals items) w)) (Token (number_of tokens w)))
       by_test true e = (omega arith, number_within (nonterminals items) w e)
-      by_test false e = (omega arith, number_within (tokens items) w (known e))
+      by_test false e = (omega arith, number_within tokens w (known e))
 
-  rule_fits : (r : SpelledRule) → IsIn (nonterminals items) r.left → All (λ w. has_word (nonterminals items) w ≡ false → IsIn (tokens items) w) r.right → length r.right ≤ MOST_SYMBOLS
-      → IsRuleOf (length (tokens items)) (length (nonterminals items)) (numbered (tokens items) (nonterminals items) r)
+  rule_fits : (r : SpelledRule) → IsIn (nonterminals items) r.left → All (λ w. has_word (nonterminals items) w ≡ false → IsIn tokens w) r.right → length r.right ≤ MOST_SYMBOLS
+      → IsRuleOf (length tokens) (length (nonterminals items)) (numbered tokens (nonterminals items) r)
   rule_fits r is_left known few = record {
     left = (omega arith, number_within (nonterminals items) r.left is_left);
-    short = omega (arith, length-map r.right (symbol_of (tokens items) (nonterminals items)));
+    short = omega (arith, length-map r.right (symbol_of tokens (nonterminals items)));
     right =
-        All-map (IsSymbol (length (tokens items)) (length (nonterminals items))) (symbol_of (tokens items) (nonterminals items)) r.right
-        (All-weaker (λ w. has_word (nonterminals items) w ≡ false → IsIn (tokens items) w) (λ w. IsSymbol (length (tokens items)) (length (nonterminals items)) (symbol_of (tokens items) (nonterminals items) w)) symbol_fits r.right known);
+        All-map (IsSymbol (length tokens) (length (nonterminals items))) (symbol_of tokens (nonterminals items)) r.right
+        (All-weaker (λ w. has_word (nonterminals items) w ≡ false → IsIn tokens w) (λ w. IsSymbol (length tokens) (length (nonterminals items)) (symbol_of tokens (nonterminals items) w)) symbol_fits r.right known);
   }
 
   abbrev behind_nonterminals : Option YaccError
-  behind_nonterminals = or_else (above Rules (length (spec.rules items)) MOST_RULES) (long_right (spec.rules items))
+  behind_nonterminals = or_else (above Rules (length (kept items)) MOST_RULES) (long_right (kept items))
 
   abbrev behind_tokens : Option YaccError
   behind_tokens = or_else (above Nonterminals (length (nonterminals items)) MOST_NONTERMINALS) behind_nonterminals
 
   -- what a file means that is taken and within the limits is well formed
-  pub file_fits : IsTaken items → limit_passed (tokens items) (nonterminals items) (spec.rules items) ≡ None → IsFile (file_of items)
-  file_fits taken none =
-      let tokens_fit = not_above Tokens (length (tokens items)) MOST_TOKENS (first_none (above Tokens (length (tokens items)) MOST_TOKENS) behind_tokens none) in
-      let none_2 : behind_tokens ≡ None = second_none (above Tokens (length (tokens items)) MOST_TOKENS) behind_tokens none in
+  pub file_fits : IsTaken (items_of all) → wrong_start (nonterminals items) (start_item all) ≡ None → limit_passed tokens (nonterminals items) (kept items) ≡ None → IsFile (file_of all (meant all))
+  file_fits taken started none =
+      let tokens_fit = not_above Tokens (length tokens) MOST_TOKENS (first_none (above Tokens (length tokens) MOST_TOKENS) behind_tokens none) in
+      let none_2 : behind_tokens ≡ None = second_none (above Tokens (length tokens) MOST_TOKENS) behind_tokens none in
       let nonterminals_fit = not_above Nonterminals (length (nonterminals items)) MOST_NONTERMINALS (first_none (above Nonterminals (length (nonterminals items)) MOST_NONTERMINALS) behind_nonterminals none_2) in
       let none_3 : behind_nonterminals ≡ None = second_none (above Nonterminals (length (nonterminals items)) MOST_NONTERMINALS) behind_nonterminals none_2 in
-      let rules_fit = not_above Rules (length (spec.rules items)) MOST_RULES (first_none (above Rules (length (spec.rules items)) MOST_RULES) (long_right (spec.rules items)) none_3) in
-      let none_4 : long_right (spec.rules items) ≡ None = second_none (above Rules (length (spec.rules items)) MOST_RULES) (long_right (spec.rules items)) none_3 in
-      let shorts = short (spec.rules items) none_4 in
-      let fit : All (λ (r : SpelledRule). IsRuleOf (length (tokens items)) (length (nonterminals items)) (numbered (tokens items) (nonterminals items) r)) (spec.rules items) =
-      λ k d lt. rule_fits _ (lefts_known items k d lt) (rights_known items k d lt) (shorts k d lt) in
+      let rules_fit = not_above Rules (length (kept items)) MOST_RULES (first_none (above Rules (length (kept items)) MOST_RULES) (long_right (kept items)) none_3) in
+      let none_4 : long_right (kept items) ≡ None = second_none (above Rules (length (kept items)) MOST_RULES) (long_right (kept items)) none_3 in
+      let shorts = short (kept items) none_4 in
+      let fit : All (λ (r : SpelledRule). IsRuleOf (length tokens) (length (nonterminals items)) (numbered tokens (nonterminals items) r)) (kept items) =
+      λ k d lt. rule_fits _ (lefts_known items k d lt) (rights_known all k d lt) (shorts k d lt) in
       record {
         grammar = record {
           tokens = tokens_fit;
           nonterminals = nonterminals_fit;
-          few = omega (arith, rules_fit, length-map (spec.rules items) (numbered (tokens items) (nonterminals items)));
-          start = (omega arith, some_nonterminal items taken);
-          rules = All-map (IsRuleOf (length (tokens items)) (length (nonterminals items))) (numbered (tokens items) (nonterminals items)) (spec.rules items) fit;
+          few = omega (arith, rules_fit, length-map (kept items) (numbered tokens (nonterminals items)));
+          start = start_fits (nonterminals items) (start_item all) started (some_nonterminal all taken);
+          rules = All-map (IsRuleOf (length tokens) (length (nonterminals items))) (numbered tokens (nonterminals items)) (kept items) fit;
         };
         tokens = refl;
         nonterminals = length-map (nonterminals items) bytes_of;
-        differ = names_differ items;
+        differ = names_differ (used (kept items)) (items_of all) items;
       }

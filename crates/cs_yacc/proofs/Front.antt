@@ -1,14 +1,13 @@
 -- Which item stands at the front of a text.
-use Rattle.std.proofs.Common.{◌≡◌, ◌≢◌, ℕ, zero, suc, ◌+◌, ◌≤◌, ◌<◌, Bool, true, false, cond, List, [], ◌∷◌, ◌++◌, length, get_or, take, drop, refl, sym, ap, subst, ◌∙◌, one-add, add-one, arith, ◌⊎◌, inl, inr, take-append-drop}
-use Rattle.std.specs.Prelude.{IsTrue, codes, IsSomeAnd, slice_get, Some}
+use Rattle.std.proofs.Common.{◌≡◌, ℕ, zero, suc, ◌+◌, ◌≤◌, Bool, true, false, cond, List, [], ◌∷◌, ◌++◌, length, take, Some, None, refl, sym, ap, subst, ◌∙◌, one-add, arith, inl, inr}
+use Rattle.std.specs.Prelude.{IsTrue, codes}
 use Rattle.std.specs.List.{AllByRecursion, prefix_len}
-use Rattle.std.specs.Str.{bytes_eq}
-use Rattle.std.proofs.lemmas.List.{length-take-le}
-use Rattle.std.proofs.lemmas.Bool.{false≢true}
-use Rattle.std.proofs.lemmas.Slice.Eq.{bytes_eq-Decides}
-use Rattle.std.proofs.lemmas.List.Sums.{prefix_len-le-length}
-use Rattle.cs_yacc.specs.Bytes.{begins_name, is_name_byte, is_word_byte, is_plain_byte}
-use Rattle.cs_yacc.specs.Items.{Item, mark, token, unknown, name, literal, colon, semicolon, bar, IsWord, Spells, Begins, BeginsNothing}
+use Rattle.std.proofs.lemmas.Bool.{false≢true, cases_lt}
+use Rattle.std.proofs.lemmas.Bool.Decides.{nat_tests}
+use Rattle.cs_ctext.proofs.LiteralValues.{same_literal}
+use Rattle.cs_yacc.specs.Bytes.{begins_name, is_word_byte, is_digit}
+use Rattle.cs_yacc.specs.Directives.{directive_of}
+use Rattle.cs_yacc.specs.Items.{Item, mark, prologue, directive, unknown, name, literal, number, tag, block, colon, semicolon, bar, comma, Shows, IsWord, IsNumber, IsPrologue, IsTag, Spells, Begins, BeginsNothing, IsKnown}
 
 -- ---- runs of bytes
 
@@ -28,277 +27,190 @@ run_longest p zero text le h = omega arith
 run_longest p (suc n) [] le h = absurd (omega arith)
 run_longest p (suc n) (c ∷ text) le h = rw h.0 (omega (arith, run_longest p n text (omega arith) h.1))
 
+-- ---- shown bytes
+
+pub shows_within : (text w : List ℕ) (n : ℕ) → Shows text w n → n ≤ length text
+shows_within text w zero h = omega arith
+shows_within [] w (suc n) h = absurd (omega (arith, ap length h.0, h.1))
+shows_within (c ∷ text) w (suc n) h =
+    let size : n ≡ length (take n text) = omega (arith, ap length h.0, h.1) in
+    omega (arith, shows_within text (take n text) n (refl, size))
+
+pub shows_cons : (c : ℕ) (text : List ℕ) (d : ℕ) (w : List ℕ) (n : ℕ) → Shows (c ∷ text) (d ∷ w) n → (c ≡ d) × (m : ℕ) × Shows text w m × (n ≡ suc m)
+shows_cons c text d w zero h = absurd (omega (arith, h.1))
+shows_cons c text d w (suc m) h = let e : c ∷ take m text ≡ d ∷ w = h.0 in (cc, m, (cc, omega (arith, h.1)), refl)
+
+shows_nothing : (d : ℕ) (w : List ℕ) (n : ℕ) → Shows [] (d ∷ w) n → ⊥
+shows_nothing d w n h = omega (arith, shows_within [] (d ∷ w) n h, h.1)
+
+pub shows_run : (p : ℕ → Bool) (text w : List ℕ) (n : ℕ) → Shows text w n → AllByRecursion (λ c. IsTrue (p c)) w → n ≤ prefix_len p text
+shows_run p text w n h all = run_longest p n text (shows_within text w n h) (subst (AllByRecursion (λ c. IsTrue (p c))) (sym h.0) all)
+
 -- ---- what a front can be
 
-pub spells_nothing : (item : Item) → Spells [] item → ⊥
-spells_nothing mark e = cc
-spells_nothing token e = cc
-spells_nothing (unknown w) h = absurd cc
-spells_nothing (name []) h = h.1
-spells_nothing (name (c ∷ n)) h = absurd cc
-spells_nothing (literal b) h = absurd cc
-spells_nothing colon e = cc
-spells_nothing semicolon e = cc
-spells_nothing bar e = cc
-
--- the first byte of an item
-abbrev pub Heads : ℕ → Item → Type 0
-Heads c mark = c ≡ 37
-Heads c token = c ≡ 37
-Heads c (unknown w) = c ≡ 37
-Heads c (name n) = IsTrue (begins_name c)
-Heads c (literal b) = c ≡ 39
-Heads c colon = c ≡ 58
-Heads c semicolon = c ≡ 59
-Heads c bar = c ≡ 124
-
-pub head_of : (c : ℕ) (text : List ℕ) (item : Item) → Spells (c ∷ text) item → Heads c item
-head_of c text mark e = cc
-head_of c text token e = cc
-head_of c text (unknown w) h = let e : c ∷ text ≡ 37 ∷ w = h.0 in cc
-head_of c text (name []) h = absurd h.1
-head_of c text (name (d ∷ n)) h = let e : c ≡ d = cc (h.0) in rw e h.1.0
-head_of c text (literal b) h = let e : c ∷ text ≡ 39 ∷ b ∷ 39 ∷ [] = h.0 in cc
-head_of c text colon e = cc
-head_of c text semicolon e = cc
-head_of c text bar e = cc
-
--- ---- signs
-
-sign_longest : (c : ℕ) (text : List ℕ) (other : Item) (n : ℕ) → c ≢ 37 → c ≢ 39 → begins_name c ≡ false → n ≤ length (c ∷ text) → Spells (take n (c ∷ text)) other → n ≤ 1
-sign_longest c text other zero p q r le h = omega arith
-sign_longest c text other (suc m) p q r le h = sized other h (head_of c (take m text) other h)
+pub spells_nothing : (n : ℕ) (item : Item) → Spells [] n item → ⊥
+spells_nothing n mark h = shows_nothing 37 (37 ∷ []) n h
+spells_nothing n prologue h = let e : [] ≡ 37 ∷ 123 ∷ [] = h.opened in cc
+spells_nothing n (directive d) h = shows_nothing 37 h.0 n h.1
+spells_nothing n (unknown w) h = shows_nothing 37 w n h.0
+spells_nothing n (name []) h = h.1
+spells_nothing n (name (c ∷ w)) h = shows_nothing c w n h.0
+spells_nothing n (literal b) h = let e = h.spelled in absurd cc
+spells_nothing n number h = some_digits h.0 h.1 h.2
   where
-    len : length (take m text) ≡ m
-    len = length-take-le m text (omega arith)
+    some_digits : (w : List ℕ) → Shows [] w n → IsNumber w → ⊥
+    some_digits [] s i = i
+    some_digits (c ∷ w) s i = shows_nothing c w n s
+spells_nothing n tag h = h
+spells_nothing n block h = h
+spells_nothing n colon h = shows_nothing 58 [] n h
+spells_nothing n semicolon h = shows_nothing 59 [] n h
+spells_nothing n bar h = shows_nothing 124 [] n h
+spells_nothing n comma h = shows_nothing 44 [] n h
 
-    sized : (i : Item) → Spells (c ∷ take m text) i → Heads c i → suc m ≤ 1
-    sized mark e f = absurd (p f)
-    sized token e f = absurd (p f)
-    sized (unknown w) e f = absurd (p f)
-    sized (name n) e f = absurd cc
-    sized (literal b) e f = absurd (q f)
-    sized colon e f = omega (arith, len, ap length e)
-    sized semicolon e f = omega (arith, len, ap length e)
-    sized bar e f = omega (arith, len, ap length e)
+-- the kind of first byte that an item has
+abbrev pub class : Item → ℕ
+class mark = 37
+class prologue = 37
+class (directive d) = 37
+class (unknown w) = 37
+class (name n) = 0
+class (literal b) = 39
+class number = 1
+class tag = 60
+class block = 123
+class colon = 58
+class semicolon = 59
+class bar = 124
+class comma = 44
 
-pub begins_colon : (text : List ℕ) → Begins (58 ∷ text) colon 1
-begins_colon text = record {
-  within = omega arith;
-  spelled = refl;
-  longest = λ other n le h. sign_longest 58 text other n (omega arith) (omega arith) refl le h;
-}
+abbrev pub byte_class : ℕ → ℕ
+byte_class c = cond (begins_name c) 0 (cond (is_digit c) 1 c)
 
-pub begins_semicolon : (text : List ℕ) → Begins (59 ∷ text) semicolon 1
-begins_semicolon text = record {
-  within = omega arith;
-  spelled = refl;
-  longest = λ other n le h. sign_longest 59 text other n (omega arith) (omega arith) refl le h;
-}
+digit_no_name : (c : ℕ) → is_digit c ≡ true → begins_name c ≡ false
+digit_no_name c h = grind (arith, nat_tests)
 
-pub begins_bar : (text : List ℕ) → Begins (124 ∷ text) bar 1
-begins_bar text = record {
-  within = omega arith;
-  spelled = refl;
-  longest = λ other n le h. sign_longest 124 text other n (omega arith) (omega arith) refl le h;
-}
+class_first : (c d : ℕ) (k : ℕ) → c ≡ d → k ≡ byte_class d → k ≡ byte_class c
+class_first c d k e h = rw e h
 
--- ---- names
-
-pub begins_name_at : (c : ℕ) (text : List ℕ) → IsTrue (begins_name c)
-    → Begins (c ∷ text) (name (take (prefix_len is_name_byte (c ∷ text)) (c ∷ text))) (prefix_len is_name_byte (c ∷ text))
-begins_name_at c text first =
-    let byte : is_name_byte c ≡ true = rw first refl in
-    let size : prefix_len is_name_byte (c ∷ text) ≡ suc (prefix_len is_name_byte text) = rw (byte, one-add) refl in
-    let all = run_passes is_name_byte text in
-    rw size (record {
-      within = omega (arith, prefix_len-le-length is_name_byte text);
-      spelled = (refl, (first, all));
-      longest = λ other n le h. name_longest other n le h;
-    })
+pub class_is : (c : ℕ) (text : List ℕ) (n : ℕ) (i : Item) → Spells (c ∷ text) n i → class i ≡ byte_class c
+class_is c text n mark h = class_first c 37 37 ((shows_cons c text 37 (37 ∷ []) n h).0) refl
+class_is c text n prologue h = let e : c ∷ take 1 text ≡ 37 ∷ 123 ∷ [] = h.opened in let f : c ≡ 37 = cc in class_first c 37 37 f refl
+class_is c text n (directive d) h = class_first c 37 37 ((shows_cons c text 37 h.0 n h.1).0) refl
+class_is c text n (unknown w) h = class_first c 37 37 ((shows_cons c text 37 w n h.0).0) refl
+class_is c text n (name []) h = absurd h.1
+class_is c text n (name (d ∷ w)) h = let f : begins_name d ≡ true = h.1.0 in class_first c d 0 ((shows_cons c text d w n h.0).0) (rw f refl)
+class_is c text n (literal b) h = let e : c ∷ text ≡ 39 ∷ (h.character ++ 39 ∷ h.rest) = h.spelled in let f : c ≡ 39 = cc in class_first c 39 39 f refl
+class_is c text n number h = some_digits h.0 h.1 h.2
   where
-    name_longest : (other : Item) (n : ℕ) → n ≤ length (c ∷ text) → Spells (take n (c ∷ text)) other → n ≤ suc (prefix_len is_name_byte text)
-    name_longest other zero le h = omega arith
-    name_longest other (suc m) le h = sized other h (head_of c (take m text) other h)
-      where
-        ne : (k : ℕ) → begins_name k ≡ false → c ≡ k → ⊥
-        ne k not_first e = let g : begins_name k ≡ true = rw (← e) first in cc
+    some_digits : (w : List ℕ) → Shows (c ∷ text) w n → IsNumber w → 1 ≡ byte_class c
+    some_digits [] s i = absurd i
+    some_digits (d ∷ w) s i = let f : is_digit d ≡ true = i.0 in let g : begins_name d ≡ false = digit_no_name d f in class_first c d 1 ((shows_cons c text d w n s).0) (rw (g, f) refl)
+class_is c text n tag h = class_first c 60 60 h.0 refl
+class_is c text n block h = class_first c 123 123 h.0 refl
+class_is c text n colon h = class_first c 58 58 ((shows_cons c text 58 [] n h).0) refl
+class_is c text n semicolon h = class_first c 59 59 ((shows_cons c text 59 [] n h).0) refl
+class_is c text n bar h = class_first c 124 124 ((shows_cons c text 124 [] n h).0) refl
+class_is c text n comma h = class_first c 44 44 ((shows_cons c text 44 [] n h).0) refl
 
-        sized : (i : Item) → Spells (c ∷ take m text) i → Heads c i → suc m ≤ suc (prefix_len is_name_byte text)
-        sized mark e f = absurd (ne 37 refl f)
-        sized token e f = absurd (ne 37 refl f)
-        sized (unknown w) e f = absurd (ne 37 refl f)
-        sized (name []) e f = absurd e.1
-        sized (name (d ∷ n)) e f =
-            let same : n ≡ take m text = cc (e.0) in
-            omega (arith, run_longest is_name_byte m text (omega arith) (subst (AllByRecursion (λ x. IsTrue (is_name_byte x))) same e.1.1))
-        sized (literal b) e f = absurd (ne 39 refl f)
-        sized colon e f = absurd (ne 58 refl f)
-        sized semicolon e f = absurd (ne 59 refl f)
-        sized bar e f = absurd (ne 124 refl f)
+-- ---- the second byte behind `%`
 
--- ---- what `%` begins
+word_second : (c d : ℕ) (rest word : List ℕ) (n : ℕ) → Shows (c ∷ d ∷ rest) (37 ∷ word) n → IsWord word → is_word_byte d ≡ true
+word_second c d rest [] n h w = absurd w
+word_second c d rest (x ∷ word) n h w =
+    let a = shows_cons c (d ∷ rest) 37 (x ∷ word) n h in
+    let b = shows_cons d rest x word a.1 a.2 in
+    rw b.0 w.0
 
-percent_longest : (text : List ℕ) (other : Item) (n : ℕ) → n ≤ length (37 ∷ text) → Spells (take n (37 ∷ text)) other
-    → (n ≡ 2) ⊎ (n ≤ suc (prefix_len is_word_byte text))
-percent_longest text other zero le h = inr (omega arith)
-percent_longest text other (suc m) le h = sized other h (head_of 37 (take m text) other h)
+word_short : (c : ℕ) (word : List ℕ) (n : ℕ) → Shows (c ∷ []) (37 ∷ word) n → IsWord word → ⊥
+word_short c [] n h w = w
+word_short c (x ∷ word) n h w = let a = shows_cons c [] 37 (x ∷ word) n h in shows_nothing x word a.1 a.2
+
+no_word_37 : is_word_byte 37 ≡ true → ⊥
+no_word_37 e = false≢true e
+
+no_word_123 : is_word_byte 123 ≡ true → ⊥
+no_word_123 e = false≢true e
+
+pub mark_no_word : (text word : List ℕ) (m n : ℕ) → Shows text (codes "%%") m → Shows text (37 ∷ word) n → IsWord word → ⊥
+mark_no_word [] word m n h g w = shows_nothing 37 (37 ∷ []) m h
+mark_no_word (c ∷ []) word m n h g w = word_short c word n g w
+mark_no_word (c ∷ d ∷ rest) word m n h g w =
+    let a = shows_cons c (d ∷ rest) 37 (37 ∷ []) m h in
+    let b = shows_cons d rest 37 [] a.1 a.2 in
+    no_word_37 (rw b.0 at (word_second c d rest word n g w))
+
+pub prologue_no_word : (text word : List ℕ) (n : ℕ) → take 2 text ≡ codes "%{" → Shows text (37 ∷ word) n → IsWord word → ⊥
+prologue_no_word [] word n e g w = cc
+prologue_no_word (c ∷ []) word n e g w = word_short c word n g w
+prologue_no_word (c ∷ d ∷ rest) word n e g w =
+    let f : c ∷ d ∷ [] ≡ 37 ∷ 123 ∷ [] = e in
+    let s : d ≡ 123 = cc in
+    no_word_123 (rw s at (word_second c d rest word n g w))
+
+pub mark_no_prologue : (text : List ℕ) (n : ℕ) → Shows text (codes "%%") n → take 2 text ≡ codes "%{" → ⊥
+mark_no_prologue text n h e = let f : n ≡ 2 = h.1 in let g : take 2 text ≡ codes "%%" = rw f at h.0 in cc
+
+pub same_prologue : (text : List ℕ) (m n : ℕ) → IsPrologue text m → IsPrologue text n → m ≡ n
+same_prologue text m n p q =
+    elim (cases_lt p.inside q.inside) [
+      | inl lt ↦ absurd (q.first p.inside lt p.closed)
+      | inr ge ↦ elim (cases_lt q.inside p.inside) [
+        | inl lt ↦ absurd (p.first q.inside lt q.closed)
+        | inr le ↦ omega (arith, p.ends, q.ends)
+      ]
+    ]
+
+pub same_tag : (text : List ℕ) (m n : ℕ) → IsTag text m → IsTag text n → m ≡ n
+same_tag [] m n p q = absurd p
+same_tag (c ∷ text) m n p q = omega (arith, p.2, q.2)
+
+-- ---- a text spells one item
+
+same_word : (text v w : List ℕ) (n : ℕ) → Shows text (37 ∷ v) n → Shows text (37 ∷ w) n → v ≡ w
+same_word text v w n p q = let e : 37 ∷ v ≡ 37 ∷ w = sym p.0 ∙ q.0 in cc
+
+pub same_item : (text : List ℕ) (n : ℕ) (i j : Item) → Spells text n i → Spells text n j → i ≡ j
+same_item [] n i j p q = absurd (spells_nothing n i p)
+same_item (c ∷ text) n i j p q = pick i j p q (class_is c text n i p ∙ sym (class_is c text n j q))
   where
-    len : length (take m text) ≡ m
-    len = length-take-le m text (omega arith)
+    pick : (i j : Item) → Spells (c ∷ text) n i → Spells (c ∷ text) n j → class i ≡ class j → i ≡ j
+    pick mark mark p q e = refl
+    pick mark prologue p q e = absurd (mark_no_prologue (c ∷ text) n p q.opened)
+    pick mark (directive d) p q e = absurd (mark_no_word (c ∷ text) q.0 n n p q.1 q.2)
+    pick mark (unknown w) p q e = absurd (mark_no_word (c ∷ text) w n n p q.0 q.1)
+    pick prologue mark p q e = absurd (mark_no_prologue (c ∷ text) n q p.opened)
+    pick prologue prologue p q e = refl
+    pick prologue (directive d) p q e = absurd (prologue_no_word (c ∷ text) q.0 n p.opened q.1 q.2)
+    pick prologue (unknown w) p q e = absurd (prologue_no_word (c ∷ text) w n p.opened q.0 q.1)
+    pick (directive d) mark p q e = absurd (mark_no_word (c ∷ text) p.0 n n q p.1 p.2)
+    pick (directive d) prologue p q e = absurd (prologue_no_word (c ∷ text) p.0 n q.opened p.1 p.2)
+    pick (directive d) (directive f) p q e = let s : p.0 ≡ q.0 = same_word (c ∷ text) p.0 q.0 n p.1 q.1 in let t : directive_of p.0 ≡ directive_of q.0 = ap directive_of s in let u : Some d ≡ Some f = sym p.3 ∙ t ∙ q.3 in cc
+    pick (directive d) (unknown w) p q e = let s : p.0 ≡ w = same_word (c ∷ text) p.0 w n p.1 q.0 in let t : directive_of p.0 ≡ directive_of w = ap directive_of s in let u : Some d ≡ None = sym p.3 ∙ t ∙ q.2 in absurd cc
+    pick (unknown v) mark p q e = absurd (mark_no_word (c ∷ text) v n n q p.0 p.1)
+    pick (unknown v) prologue p q e = absurd (prologue_no_word (c ∷ text) v n q.opened p.0 p.1)
+    pick (unknown v) (directive f) p q e = let s : q.0 ≡ v = same_word (c ∷ text) q.0 v n q.1 p.0 in let t : directive_of q.0 ≡ directive_of v = ap directive_of s in let u : Some f ≡ None = sym q.3 ∙ t ∙ p.2 in absurd cc
+    pick (unknown v) (unknown w) p q e = ap unknown (same_word (c ∷ text) v w n p.0 q.0)
+    pick (name v) (name w) p q e = ap name (sym p.0.0 ∙ q.0.0)
+    pick (literal a) (literal b) p q e = ap literal ((same_literal (c ∷ text) a b n n p q).0)
+    pick number number p q e = refl
+    pick tag tag p q e = refl
+    pick block block p q e = refl
+    pick colon colon p q e = refl
+    pick semicolon semicolon p q e = refl
+    pick bar bar p q e = refl
+    pick comma comma p q e = refl
+    pick i j p q e = absurd (omega arith)
 
-    sized : (i : Item) → Spells (37 ∷ take m text) i → Heads 37 i → (suc m ≡ 2) ⊎ (suc m ≤ suc (prefix_len is_word_byte text))
-    sized mark e f = inl (omega (arith, len, ap length e))
-    sized token e f =
-        let same : codes "token" ≡ take m text = cc e in
-        inr (omega (arith, run_longest is_word_byte m text (omega arith) (subst (AllByRecursion (λ x. IsTrue (is_word_byte x))) same (refl, (refl, (refl, (refl, (refl, tt))))))))
-    sized (unknown []) e f = absurd e.1
-    sized (unknown (d ∷ w)) e f =
-        let same : d ∷ w ≡ take m text = cc (e.0) in
-        inr (omega (arith, run_longest is_word_byte m text (omega arith) (subst (AllByRecursion (λ x. IsTrue (is_word_byte x))) same e.1)))
-    sized (name n) e f = absurd (false≢true f)
-    sized (literal b) e f = absurd (omega arith)
-    sized colon e f = absurd (omega arith)
-    sized semicolon e f = absurd (omega arith)
-    sized bar e f = absurd (omega arith)
+pub same_size : (text : List ℕ) (i j : Item) (m n : ℕ) → Begins text i m → Begins text j n → (m ≡ n) × (i ≡ j)
+same_size text i j m n a b =
+    let e : m ≡ n = omega (arith, a.longest j n b.within b.spelled, b.longest i m a.within a.spelled) in
+    (e, same_item text m i j a.spelled (rw e b.spelled))
 
-IsWord-from : (text : List ℕ) → 0 < length text → AllByRecursion (λ c. IsTrue (is_word_byte c)) text → IsWord text
-IsWord-from [] lt h = absurd (omega arith)
-IsWord-from (c ∷ text) lt h = h
-
-pub begins_mark : (text : List ℕ) → Begins (37 ∷ 37 ∷ text) mark 2
-begins_mark text = record {
-  within = omega arith;
-  spelled = refl;
-  longest = λ other n le h. elim (percent_longest (37 ∷ text) other n le h) [ inl e ↦ omega arith | inr f ↦ omega arith ];
-}
-
-module _ (text : List ℕ) (some : 0 < prefix_len is_word_byte text) where
-  directive_longest : (other : Item) (n : ℕ) → n ≤ length (37 ∷ text) → Spells (take n (37 ∷ text)) other → n ≤ suc (prefix_len is_word_byte text)
-  directive_longest other n le h = elim (percent_longest text other n le h) [ inl e ↦ omega arith | inr f ↦ f ]
-
-  pub begins_token : take (prefix_len is_word_byte text) text ≡ codes "token" → Begins (37 ∷ text) token (suc (prefix_len is_word_byte text))
-  begins_token e = record {
-    within = omega (arith, prefix_len-le-length is_word_byte text);
-    spelled = ap (λ (w : List ℕ). 37 ∷ w) e;
-    longest = directive_longest;
-  }
-
-  pub begins_unknown : take (prefix_len is_word_byte text) text ≢ codes "token"
-      → Begins (37 ∷ text) (unknown (take (prefix_len is_word_byte text) text)) (suc (prefix_len is_word_byte text))
-  begins_unknown ne =
-      let len = length-take-le (prefix_len is_word_byte text) text (prefix_len-le-length is_word_byte text) in
-      record {
-        within = omega (arith, prefix_len-le-length is_word_byte text);
-        spelled = (refl, IsWord-from _ (omega arith) (run_passes is_word_byte text), ne);
-        longest = directive_longest;
-      }
-
-pub nothing_percent : (text : List ℕ) → prefix_len is_word_byte text ≡ 0 → ((rest : List ℕ) → text ≢ 37 ∷ rest) → BeginsNothing (37 ∷ text)
-nothing_percent text no_word not_mark item zero known b = spells_nothing item b.spelled
-nothing_percent text no_word not_mark item (suc m) known b = sized item b.spelled (head_of 37 (take m text) item b.spelled)
+-- a directive of an unknown word is nothing that reading takes
+pub nothing_unknown : (text : List ℕ) (w : List ℕ) (n : ℕ) → Begins text (unknown w) n → BeginsNothing text
+nothing_unknown text w n u item size known b = not_known item known (same_size text (unknown w) item n size u b).1
   where
-    le : m ≤ length text
-    le = omega (arith, b.within)
-
-    long : (w : List ℕ) → w ≡ take m text → 0 < length w → AllByRecursion (λ c. IsTrue (is_word_byte c)) w → ⊥
-    long w same lt all =
-        let r = run_longest is_word_byte m text le (subst (AllByRecursion (λ x. IsTrue (is_word_byte x))) same all) in
-        omega (arith, r, ap length same, length-take-le m text le)
-
-    sized : (i : Item) → Spells (37 ∷ take m text) i → Heads 37 i → ⊥
-    sized mark e f =
-        let same : take m text ≡ 37 ∷ [] = cc e in
-        not_mark (drop m text) (sym (take-append-drop m text) ∙ ap (λ (x : List ℕ). x ++ drop m text) same)
-    sized token e f = let same : codes "token" ≡ take m text = cc e in long (codes "token") same (omega arith) (refl, (refl, (refl, (refl, (refl, tt)))))
-    sized (unknown []) e f = e.1
-    sized (unknown (d ∷ w)) e f = let same : d ∷ w ≡ take m text = cc (e.0) in long (d ∷ w) same (omega arith) e.1
-    sized (name n) e f = false≢true f
-    sized (literal c) e f = omega arith
-    sized colon e f = omega arith
-    sized semicolon e f = omega arith
-    sized bar e f = omega arith
-
--- ---- literals
-
-literal_front : (text : List ℕ) (item : Item) (n : ℕ) → n ≤ length (39 ∷ text) → Spells (take n (39 ∷ text)) item
-    → (n ≡ 3) × (b : ℕ) × (rest : List ℕ) × (text ≡ b ∷ 39 ∷ rest) × IsTrue (is_plain_byte b)
-literal_front text item zero le h = absurd (spells_nothing item h)
-literal_front text item (suc m) le h = sized item h (head_of 39 (take m text) item h)
-  where
-    len : length (take m text) ≡ m
-    len = length-take-le m text (omega arith)
-
-    sized : (i : Item) → Spells (39 ∷ take m text) i → Heads 39 i → (suc m ≡ 3) × (b : ℕ) × (rest : List ℕ) × (text ≡ b ∷ 39 ∷ rest) × IsTrue (is_plain_byte b)
-    sized mark e f = absurd (omega arith)
-    sized token e f = absurd (omega arith)
-    sized (unknown w) e f = absurd (omega arith)
-    sized (name n) e f = absurd (false≢true f)
-    sized (literal b) e f =
-        let same : take m text ≡ b ∷ 39 ∷ [] = cc (e.0) in
-        (omega (arith, len, ap length same), b, drop m text, sym (take-append-drop m text) ∙ ap (λ (x : List ℕ). x ++ drop m text) same, e.1)
-    sized colon e f = absurd (omega arith)
-    sized semicolon e f = absurd (omega arith)
-    sized bar e f = absurd (omega arith)
-
-pub begins_literal : (b : ℕ) (text : List ℕ) → IsTrue (is_plain_byte b) → Begins (39 ∷ b ∷ 39 ∷ text) (literal b) 3
-begins_literal b text plain = record {
-  within = omega arith;
-  spelled = (refl, plain);
-  longest = λ other n le h. omega (arith, (literal_front (b ∷ 39 ∷ text) other n le h).0);
-}
-
-pub nothing_quote : (text : List ℕ) → ((b : ℕ) (rest : List ℕ) → text ≡ b ∷ 39 ∷ rest → IsTrue (is_plain_byte b) → ⊥) → BeginsNothing (39 ∷ text)
-nothing_quote text no_literal item n known b = let f = literal_front text item n b.within b.spelled in no_literal f.1 f.2 f.3 f.4
-
--- ---- nothing
-
-pub nothing_empty : BeginsNothing []
-nothing_empty item zero known b = spells_nothing item b.spelled
-nothing_empty item (suc n) known b = spells_nothing item b.spelled
-
-pub nothing_at : (c : ℕ) (text : List ℕ) → c ≢ 37 → c ≢ 39 → c ≢ 58 → c ≢ 59 → c ≢ 124 → begins_name c ≡ false → BeginsNothing (c ∷ text)
-nothing_at c text p q r s t u item zero known b = spells_nothing item b.spelled
-nothing_at c text p q r s t u item (suc n) known b = sized item (head_of c (take n text) item b.spelled)
-  where
-    sized : (i : Item) → Heads c i → ⊥
-    sized mark f = p f
-    sized token f = p f
-    sized (unknown w) f = p f
-    sized (name m) f = cc
-    sized (literal d) f = q f
-    sized colon f = r f
-    sized semicolon f = s f
-    sized bar f = t f
-
--- ---- the same as code tests it
-
-pub mark_at : (text : List ℕ) → slice_get text 0 ≡ Some 37 → Begins (37 ∷ text) mark 2
-mark_at [] e = absurd cc
-mark_at (c ∷ text) e = let f : c ≡ 37 = cc in rw f (begins_mark text)
-
-pub nothing_percent_at : (text : List ℕ) → prefix_len is_word_byte text ≡ 0 → (slice_get text 0 ≡ Some 37 → ⊥) → BeginsNothing (37 ∷ text)
-nothing_percent_at text e no_mark = nothing_percent text e (λ rest same. no_mark (ap (λ (x : List ℕ). slice_get x 0) same))
-
-pub literal_is : (text : List ℕ) → slice_get text 1 ≡ Some 39 → is_plain_byte (get_or text 0 0) ≡ true → Begins (39 ∷ text) (literal (get_or text 0 0)) 3
-literal_is [] e p = absurd cc
-literal_is (b ∷ []) e p = absurd cc
-literal_is (b ∷ c ∷ text) e p = let f : c ≡ 39 = cc in rw f (begins_literal b text p)
-
-pub nothing_quote_at : (text : List ℕ) → (slice_get text 1 ≡ Some 39 → is_plain_byte (get_or text 0 0) ≡ true → ⊥) → BeginsNothing (39 ∷ text)
-nothing_quote_at text no_literal = nothing_quote text (λ b rest same plain. no_literal (ap (λ (x : List ℕ). slice_get x 1) same) (rw same plain))
-
-pub name_is : (text : List ℕ) → IsSomeAnd (slice_get text 0) (λ c. IsTrue (begins_name c)) → Begins text (name (take (prefix_len is_name_byte text) text)) (prefix_len is_name_byte text)
-name_is [] h = absurd h
-name_is (c ∷ text) h = begins_name_at c text h
-
-pub nothing_is : (text : List ℕ) (c : ℕ) → 0 < length text → get_or text 0 0 ≡ c → c ≢ 37 → c ≢ 39 → c ≢ 58 → c ≢ 59 → c ≢ 124 → begins_name c ≡ false → BeginsNothing text
-nothing_is [] c lt e p q r s t u = absurd (omega arith)
-nothing_is (d ∷ text) c lt e p q r s t u = rw e (nothing_at c text p q r s t u)
-
-pub token_is : (text : List ℕ) (n : ℕ) (w : List ℕ) (b : Bool) → n ≡ prefix_len is_word_byte text → (n ≡ 0 → ⊥) → b ≡ bytes_eq (take n text) w → w ≡ codes "token" → b ≡ true
-    → Begins (37 ∷ text) token (n + 1)
-token_is text n w b size some same is true_it =
-    let e : take n text ≡ codes "token" = (bytes_eq-Decides (take n text) w).0 (sym same ∙ true_it) ∙ is in
-    let f : take (prefix_len is_word_byte text) text ≡ codes "token" = ap (λ (k : ℕ). take k text) (sym size) ∙ e in
-    rw (add-one, size) (begins_token text (omega arith) f)
+    not_known : (i : Item) → IsKnown i → unknown w ≡ i → ⊥
+    not_known (unknown v) k e = k
+    not_known i k e = absurd cc

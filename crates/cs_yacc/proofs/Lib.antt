@@ -1,11 +1,14 @@
+pub mod Gaps
 pub mod Front
+pub mod Begin
 pub mod Reading
 pub mod Known
-pub mod Taken
+pub mod Stopping
 pub mod Words
 pub mod Loops
 pub mod RuleLoop
 pub mod Numbers
+pub mod Stuck
 pub mod OneFile
 pub mod Counts
 pub mod Names

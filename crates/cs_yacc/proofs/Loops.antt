@@ -1,6 +1,6 @@
 -- Loops over the items, from the front.
-use Rattle.std.proofs.Common.{append_assoc, true, false, ◌≢◌, ◌≡◌, ℕ, ◌+◌, ◌<◌, ◌≤◌, Bool, List, [], ◌∷◌, ◌++◌, length, drop, get_or, refl, sym, ap, subst, ◌∙◌}
-use Rattle.std.specs.Prelude.{Option, Some, None, filter, not, ◌&&◌}
+use Rattle.std.proofs.Common.{append_assoc, true, false, ◌≡◌, ℕ, ◌+◌, ◌<◌, ◌≤◌, Bool, List, [], ◌∷◌, ◌++◌, length, drop, get_or, refl, sym, ap, subst, ◌∙◌}
+use Rattle.std.specs.Prelude.{Option, Some, None, filter}
 use Rattle.std.proofs.lemmas.List.{at_drop_more, at_drop_all, append-nil}
 use Rattle.indexmap.specs.IndexSet.{insert_all}
 use Rattle.cs_yacc.specs.declared.item.Placed as held
@@ -10,11 +10,11 @@ use Rattle.cs_yacc.specs.RuleView.{spelled_rules}
 use Rattle.cs_yacc.specs.WordView.{words_of}
 use Rattle.std.specs.List.{flat_map}
 use Rattle.std.proofs.lemmas.List.Elements.{filter-append}
-use Rattle.cs_yacc.specs.Items.{Item, mark, token, unknown, name, literal, colon, semicolon, bar, items_of}
-use Rattle.cs_yacc.specs.Views.{item_of, placed_all}
+use Rattle.cs_yacc.specs.Items.{Item, Placed, items_of}
+use Rattle.cs_yacc.specs.Views.{item_of, placed_of, placed_all}
 use Rattle.cs_yacc.specs.declared.name.TokenName.{TokenName}
-use Rattle.cs_yacc.specs.Meaning.{same_word, distinct, from_each, body, listed, first_at, has_word, used, nonterminals, left_sides, is_in_use, word_at, spelled, tokens}
-use Rattle.cs_yacc.proofs.Words.{Gathers, Gathers-more, Gathers-ends, has_distinct}
+use Rattle.cs_yacc.specs.Meaning.{same_word, distinct, from_each, body, first_at, word_at, spelled, meant_one, meant_behind, opens_prec}
+use Rattle.cs_yacc.proofs.Words.{Gathers, Gathers-more, Gathers-ends}
 
 -- what is left from an index on
 abbrev pub rest_at : List held.Placed → ℕ → List Item
@@ -56,19 +56,6 @@ module _ (items : List held.Placed) (total : List TokenName) where
   pub body_ends : (k : ℕ) (words : List TokenName) → words ++ body (rest_at items k) ≡ total → length items ≤ k → words ≡ total
   body_ends k words so_far le = sym (append-nil words) ∙ ap (λ (x : List TokenName). words ++ x) (sym (ap body (rest_all items k le))) ∙ so_far
 
--- ---- a list of names
-
--- an item that is no name ends the list
-pub listed_stops : (i : Item) (items : List Item) → ((n : List ℕ) → i ≢ name n) → listed (i ∷ items) ≡ []
-listed_stops mark items h = refl
-listed_stops token items h = refl
-listed_stops (unknown w) items h = refl
-listed_stops (name n) items h = absurd (h n refl)
-listed_stops (literal b) items h = refl
-listed_stops colon items h = refl
-listed_stops semicolon items h = refl
-listed_stops bar items h = refl
-
 -- ---- the first item that passes
 
 module _ (t : Item → List Item → Bool) (items : List held.Placed) (total : Option ℕ) where
@@ -105,23 +92,13 @@ module _ (t : Item → List Item → Bool) (items : List held.Placed) (total : O
 
 -- ---- tokens
 
-filter_same : (p q : TokenName → Bool) → ((w : TokenName) → p w ≡ q w) → (ws : List TokenName) → filter p ws ≡ filter q ws
-filter_same p q h [] = refl
-filter_same p q h (w ∷ ws) = rw (h w, filter_same p q h ws) refl
-
--- the tests of the tables are those of the items
-pub in_use_is : (all : List Item) (used_table left_table ws : List TokenName) → used_table ≡ distinct (used all) → left_table ≡ nonterminals all
-    → filter (λ w. has_word used_table w && not (has_word left_table w)) ws ≡ filter (is_in_use all) ws
-in_use_is all used_table left_table ws u n =
-    filter_same (λ w. has_word used_table w && not (has_word left_table w)) (is_in_use all) (λ w. rw (u, n, has_distinct (used all) w, has_distinct (left_sides all) w) refl) ws
-
 filter-from_each : (p : TokenName → Bool) (items : List Item) → from_each (λ i _. filter p (word_at i)) items ≡ filter p (spelled items)
 filter-from_each p [] = refl
 filter-from_each p (i ∷ items) = rw (filter-from_each p items) (sym (filter-append p (word_at i) (spelled items)))
 
-pub tokens_end : (all : List Item) (items : List held.Placed) (k : ℕ) (table : List TokenName) → Gathers table (from_each (λ i _. filter (is_in_use all) (word_at i)) (rest_at items k)) (from_each (λ i _. filter (is_in_use all) (word_at i)) all)
-    → length items ≤ k → table ≡ tokens all
-tokens_end all items k table g le = gather_ends (λ i _. filter (is_in_use all) (word_at i)) items k table _ g le ∙ ap distinct (filter-from_each (is_in_use all) all)
+pub tokens_end : (p : TokenName → Bool) (all : List Item) (items : List held.Placed) (k : ℕ) (table : List TokenName) → Gathers table (from_each (λ i _. filter p (word_at i)) (rest_at items k)) (from_each (λ i _. filter p (word_at i)) all)
+    → length items ≤ k → table ≡ distinct (filter p (spelled all))
+tokens_end p all items k table g le = gather_ends (λ i _. filter p (word_at i)) items k table _ g le ∙ ap distinct (filter-from_each p all)
 
 -- ---- words of the rules
 
@@ -130,3 +107,15 @@ pub used_more : (rules : List prods.SpelledRule) (k : ℕ) (p : prods.SpelledRul
 used_more rules k p old new right all g lt is made =
     let step = at_drop_more (λ xs. flat_map (λ r. r.right) (spelled_rules xs)) rules k p lt in
     rw made (Gathers-more old _ (flat_map (λ r. r.right) (spelled_rules (drop (k + 1) rules))) all right g (rw is step))
+
+-- ---- items with a meaning
+
+pub meant_more : (items : List held.Placed) (total : List Placed) (k : ℕ) (old new : List Placed) (b next : Bool) → old ++ meant_behind b (placed_all (drop k items)) ≡ total → k < length items
+    → new ≡ old ++ meant_one b (placed_of (get_or items k no_item)) → next ≡ opens_prec b (item_of (get_or items k no_item).item) → new ++ meant_behind next (placed_all (drop (k + 1) items)) ≡ total
+meant_more items total k old new b next so_far lt made is =
+    let step = at_drop_more (λ xs. meant_behind b (placed_all xs)) items k no_item lt in
+    rw (made, is) (append_assoc old (meant_one b (placed_of (get_or items k no_item))) (meant_behind (opens_prec b (item_of (get_or items k no_item).item)) (placed_all (drop (k + 1) items)))
+    ∙ ap (λ (x : List Placed). old ++ x) (sym step) ∙ so_far)
+
+pub meant_ends : (items : List held.Placed) (total : List Placed) (k : ℕ) (old : List Placed) (b : Bool) → old ++ meant_behind b (placed_all (drop k items)) ≡ total → length items ≤ k → old ≡ total
+meant_ends items total k old b so_far le = sym (append-nil old) ∙ ap (λ (x : List Placed). old ++ x) (sym (at_drop_all (λ xs. meant_behind b (placed_all xs)) items k le)) ∙ so_far

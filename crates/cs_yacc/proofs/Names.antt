@@ -7,8 +7,8 @@ use Rattle.std.proofs.lemmas.List.Elements.{All-nil, All-cons, All-head, All-tai
 use Rattle.std.proofs.lemmas.List.Kept.{AllPairs-cons, AllPairs-filter}
 use Rattle.cs_yacc.specs.declared.name.TokenName.{TokenName}
 use Rattle.cs_yacc.specs.declared.name.TokenName.TheVariants.{Word, Byte}
-use Rattle.cs_yacc.specs.Items.{Item, mark, token, unknown, name, literal, colon, semicolon, bar}
-use Rattle.cs_yacc.specs.Meaning.{same_word, has_word, distinct, number_of, bytes_of, left_at, left_sides, nonterminals, spelled, used, is_in_use, tokens, body, bodies, SpelledRule, rules_of, rules_at, rules, begins_with_colon}
+use Rattle.cs_yacc.specs.Items.{Item, name, literal, colon, bar, Placed, items_of}
+use Rattle.cs_yacc.specs.Meaning.{same_word, has_word, distinct, number_of, bytes_of, left_at, left_sides, nonterminals, spelled, used, is_in_use, tokens, body, bodies, SpelledRule, rules_of, rules_at, rules, is_kept, kept, is_idle, opens_prec, meant_behind, meant, tokens_of, begins_with_colon}
 use Rattle.cs_yacc.proofs.Words.{same_is, same_self, has_distinct}
 
 -- ---- words in a list
@@ -101,18 +101,12 @@ abbrev IsNamed : TokenName → Type 0
 IsNamed w = Word (bytes_of w) ≡ w
 
 named_at : (i : Item) (r : List Item) → All IsNamed (left_at i r)
-named_at mark r = All-nil IsNamed
-named_at token r = All-nil IsNamed
-named_at (unknown w) r = All-nil IsNamed
 named_at (name n) r = by_colon (begins_with_colon r)
   where
     by_colon : (b : Bool) → All IsNamed (cond b (Word n ∷ []) [])
     by_colon true = All-cons IsNamed (Word n) [] refl (All-nil IsNamed)
     by_colon false = All-nil IsNamed
-named_at (literal b) r = All-nil IsNamed
-named_at colon r = All-nil IsNamed
-named_at semicolon r = All-nil IsNamed
-named_at bar r = All-nil IsNamed
+named_at i r = All-nil IsNamed
 
 lefts_named : (items : List Item) → All IsNamed (left_sides items)
 lefts_named [] = All-nil IsNamed
@@ -132,52 +126,38 @@ not-back false h = refl
 
 -- ---- all names differ
 
-pub names_differ : (items : List Item) → AllPairs (λ a b. a ≢ b) (tokens items ++ map Word (map bytes_of (nonterminals items)))
-names_differ items =
+pub names_differ : (used : List TokenName) (all items : List Item) → AllPairs (λ a b. a ≢ b) (tokens used (nonterminals items) all ++ map Word (map bytes_of (nonterminals items)))
+names_differ used all items =
     let ns = nonterminals items in
-    let ts = filter (is_in_use items) (spelled items) in
+    let ts = filter (is_in_use used ns) (spelled all) in
     let named : map Word (map bytes_of ns) ≡ ns = words_back ns (All-distinct IsNamed (left_sides items) (lefts_named items)) in
-    let lefts : All (IsIn (left_sides items)) ns = All-distinct (IsIn (left_sides items)) (left_sides items) (has_self (left_sides items)) in
-    let apart : (w : TokenName) → is_in_use items w ≡ true → All (Differ w) ns = λ w in_use.
-    let none : has_word (left_sides items) w ≡ false = not-back (has_word (left_sides items) w) (and-right (has_word (used items) w) (not (has_word (left_sides items) w)) in_use) in
-    All-weaker (IsIn (left_sides items)) (Differ w) (λ v there same. false≢true (sym none ∙ ap (has_word (left_sides items)) same ∙ there)) ns lefts in
-    let all : All (λ w. All (Differ w) ns) (tokens items) =
-    All-weaker (λ w. is_in_use items w ≡ true) (λ w. All (Differ w) ns) apart (tokens items) (All-distinct (λ w. is_in_use items w ≡ true) ts (passes_all (is_in_use items) (spelled items))) in
-    rw named (differ_append (tokens items) ns (distinct_differ ts) (distinct_differ (left_sides items)) all)
+    let apart : (w : TokenName) → is_in_use used ns w ≡ true → All (Differ w) ns = λ w in_use.
+    let none : has_word ns w ≡ false = not-back (has_word ns w) (and-right (has_word used w) (not (has_word ns w)) in_use) in
+    All-weaker (IsIn ns) (Differ w) (λ v there same. false≢true (sym none ∙ ap (has_word ns) same ∙ there)) ns (has_self ns) in
+    let every : All (λ w. All (Differ w) ns) (distinct ts) =
+    All-weaker (λ w. is_in_use used ns w ≡ true) (λ w. All (Differ w) ns) apart (distinct ts) (All-distinct (λ w. is_in_use used ns w ≡ true) ts (passes_all (is_in_use used ns) (spelled all))) in
+    rw named (differ_append (distinct ts) ns (distinct_differ ts) (distinct_differ (left_sides items)) every)
 
 -- ---- each word of a rule is known
 
 module _ (P : TokenName → Type 0) where
   body_spelled : (items : List Item) → All P (spelled items) → All P (body items)
   body_spelled [] h = h
-  body_spelled (mark ∷ items) h = All-nil P
-  body_spelled (token ∷ items) h = All-nil P
-  body_spelled (unknown w ∷ items) h = All-nil P
   body_spelled (name n ∷ items) h = by_colon (begins_with_colon items) (body_spelled items (All-tail P (Word n) (spelled items) h))
     where
       by_colon : (b : Bool) → All P (body items) → All P (cond b [] (Word n ∷ body items))
       by_colon true g = All-nil P
       by_colon false g = All-cons P (Word n) (body items) (All-head P (Word n) (spelled items) h) g
   body_spelled (literal b ∷ items) h = All-cons P (Byte b) (body items) (All-head P (Byte b) (spelled items) h) (body_spelled items (All-tail P (Byte b) (spelled items) h))
-  body_spelled (colon ∷ items) h = All-nil P
-  body_spelled (semicolon ∷ items) h = All-nil P
-  body_spelled (bar ∷ items) h = All-nil P
+  body_spelled (i ∷ items) h = All-nil P
 
   spelled_tail : (i : Item) (items : List Item) → All P (spelled (i ∷ items)) → All P (spelled items)
-  spelled_tail mark items h = h
-  spelled_tail token items h = h
-  spelled_tail (unknown w) items h = h
   spelled_tail (name n) items h = All-tail P (Word n) (spelled items) h
   spelled_tail (literal b) items h = All-tail P (Byte b) (spelled items) h
-  spelled_tail colon items h = h
-  spelled_tail semicolon items h = h
-  spelled_tail bar items h = h
+  spelled_tail i items h = h
 
   bodies_spelled : (items : List Item) → All P (spelled items) → All (All P) (bodies items)
   bodies_spelled [] h = All-nil (All P)
-  bodies_spelled (mark ∷ items) h = bodies_spelled items h
-  bodies_spelled (token ∷ items) h = bodies_spelled items h
-  bodies_spelled (unknown w ∷ items) h = bodies_spelled items h
   bodies_spelled (name n ∷ items) h = by_colon (begins_with_colon items) (bodies_spelled items (All-tail P (Word n) (spelled items) h))
     where
       by_colon : (b : Bool) → All (All P) (bodies items) → All (All P) (cond b [] (bodies items))
@@ -185,25 +165,19 @@ module _ (P : TokenName → Type 0) where
       by_colon false g = g
   bodies_spelled (literal b ∷ items) h = bodies_spelled items (All-tail P (Byte b) (spelled items) h)
   bodies_spelled (colon ∷ items) h = All-cons (All P) (body items) (bodies items) (body_spelled items h) (bodies_spelled items h)
-  bodies_spelled (semicolon ∷ items) h = bodies_spelled items h
   bodies_spelled (bar ∷ items) h = All-cons (All P) (body items) (bodies items) (body_spelled items h) (bodies_spelled items h)
+  bodies_spelled (i ∷ items) h = bodies_spelled items h
 
   abbrev HasRight : SpelledRule → Type 0
   HasRight r = All P r.right
 
   rights_at : (i : Item) (items : List Item) → All P (spelled items) → All HasRight (rules_at i items)
-  rights_at mark items h = All-nil HasRight
-  rights_at token items h = All-nil HasRight
-  rights_at (unknown w) items h = All-nil HasRight
   rights_at (name n) items h = by_colon (begins_with_colon items)
     where
       by_colon : (b : Bool) → All HasRight (cond b (rules_of (Word n) (bodies items)) [])
       by_colon true = All-map HasRight (λ right. record { left = Word n; right = right }) (bodies items) (bodies_spelled items h)
       by_colon false = All-nil HasRight
-  rights_at (literal b) items h = All-nil HasRight
-  rights_at colon items h = All-nil HasRight
-  rights_at semicolon items h = All-nil HasRight
-  rights_at bar items h = All-nil HasRight
+  rights_at i items h = All-nil HasRight
 
   rights_spelled : (items : List Item) → All P (spelled items) → All (λ (r : SpelledRule). All P r.right) (rules items)
   rights_spelled [] h = All-nil HasRight
@@ -219,18 +193,12 @@ module _ (P : TokenName → Type 0) where
 
   lefts_of : (items : List Item) → All P (left_sides items) → All (λ (r : SpelledRule). P r.left) (rules items)
   lefts_of [] h = All-nil HasLeft
-  lefts_of (mark ∷ items) h = lefts_of items h
-  lefts_of (token ∷ items) h = lefts_of items h
-  lefts_of (unknown w ∷ items) h = lefts_of items h
   lefts_of (name n ∷ items) h = by_colon (begins_with_colon items) h (λ g. lefts_of items g)
     where
       by_colon : (b : Bool) → All P (cond b (Word n ∷ []) [] ++ left_sides items) → (All P (left_sides items) → All HasLeft (rules items)) → All HasLeft (cond b (rules_of (Word n) (bodies items)) [] ++ rules items)
       by_colon true g rest = All-append HasLeft (rules_of (Word n) (bodies items)) (rules items) (all_left (Word n) (bodies items) (All-head P (Word n) (left_sides items) g)) (rest (All-tail P (Word n) (left_sides items) g))
       by_colon false g rest = rest g
-  lefts_of (literal b ∷ items) h = lefts_of items h
-  lefts_of (colon ∷ items) h = lefts_of items h
-  lefts_of (semicolon ∷ items) h = lefts_of items h
-  lefts_of (bar ∷ items) h = lefts_of items h
+  lefts_of (i ∷ items) h = lefts_of items h
 
   rights_of : (rs : List SpelledRule) → All P (flat_map (λ (r : SpelledRule). r.right) rs) → All (λ (r : SpelledRule). All P r.right) rs
   rights_of [] h = All-nil HasRight
@@ -245,19 +213,42 @@ module _ (P : TokenName → Type 0) where
       back [] g = g
       back (w ∷ ws) g = back ws (All-tail P w (ws ++ flat_map (λ (r : SpelledRule). r.right) rs) g)
 
--- a rule's left side is a nonterminal
-pub lefts_known : (items : List Item) → All (λ (r : SpelledRule). IsIn (nonterminals items) r.left) (rules items)
-lefts_known items = lefts_of (IsIn (nonterminals items)) items (All-weaker (IsIn (left_sides items)) (IsIn (nonterminals items)) (λ w h. has_distinct (left_sides items) w ∙ h) (left_sides items) (has_self (left_sides items)))
+  -- the items with a meaning spell what all items spell
+  meant_spelled : (b : Bool) (ps : List Placed) → All P (spelled (items_of ps)) → All P (spelled (items_of (meant_behind b ps)))
+  meant_spelled b [] h = All-nil P
+  meant_spelled b (p ∷ ps) h = by_test (not b && not (is_idle p.item)) (meant_spelled (opens_prec b p.item) ps (spelled_tail p.item (items_of ps) h))
+    where
+      rest : List Placed
+      rest = meant_behind (opens_prec b p.item) ps
 
--- a word of a rule that is no nonterminal is a token
-pub rights_known : (items : List Item) → All (λ (r : SpelledRule). All (λ w. has_word (nonterminals items) w ≡ false → IsIn (tokens items) w) r.right) (rules items)
-rights_known items =
-    let in_text = rights_spelled (IsIn (spelled items)) items (has_self (spelled items)) in
-    let in_rules = rights_of (IsIn (used items)) (rules items) (has_self (used items)) in
+      by_test : (t : Bool) → All P (spelled (items_of rest)) → All P (spelled (items_of (cond t (p ∷ []) [] ++ rest)))
+      by_test true g = both p.item h g
+        where
+          both : (i : Item) → All P (spelled (i ∷ items_of ps)) → All P (spelled (items_of rest)) → All P (spelled (i ∷ items_of rest))
+          both (name n) h g = All-cons P (Word n) (spelled (items_of rest)) (All-head P (Word n) (spelled (items_of ps)) h) g
+          both (literal b) h g = All-cons P (Byte b) (spelled (items_of rest)) (All-head P (Byte b) (spelled (items_of ps)) h) g
+          both i h g = g
+      by_test false g = g
+
+-- a kept rule's left side is a nonterminal
+pub lefts_known : (items : List Item) → All (λ (r : SpelledRule). IsIn (nonterminals items) r.left) (kept items)
+lefts_known items =
+    All-filter is_kept (λ (r : SpelledRule). IsIn (nonterminals items) r.left) (rules items)
+    (lefts_of (IsIn (nonterminals items)) items (All-weaker (IsIn (left_sides items)) (IsIn (nonterminals items)) (λ w h. has_distinct (left_sides items) w ∙ h) (left_sides items) (has_self (left_sides items))))
+
+-- a word of a kept rule that is no nonterminal is a token
+pub rights_known : (all : List Placed) → All (λ (r : SpelledRule). All (λ w. has_word (nonterminals (items_of (meant all))) w ≡ false → IsIn (tokens_of all (meant all)) w) r.right) (kept (items_of (meant all)))
+rights_known all =
+    let items = items_of (meant all) in
+    let there = spelled (items_of all) in
+    let in_text = All-filter is_kept (λ (r : SpelledRule). All (IsIn there) r.right) (rules items) (rights_spelled (IsIn there) items (meant_spelled (IsIn there) false all (has_self there))) in
+    let words = flat_map (λ (r : SpelledRule). r.right) (kept items) in
+    let in_rules = rights_of (IsIn words) (kept items) (has_self words) in
     λ k d lt j e le. λ none. known _ (in_text k d lt j e le) (in_rules k d lt j e le) none
   where
-    known : (w : TokenName) → IsIn (spelled items) w → IsIn (used items) w → has_word (nonterminals items) w ≡ false → IsIn (tokens items) w
+    known : (w : TokenName) → IsIn (spelled (items_of all)) w → IsIn (flat_map (λ (r : SpelledRule). r.right) (kept (items_of (meant all)))) w → has_word (nonterminals (items_of (meant all))) w ≡ false → IsIn (tokens_of all (meant all)) w
     known w there in_rule none =
-        let no_left : has_word (left_sides items) w ≡ false = sym (has_distinct (left_sides items) w) ∙ none in
-        let in_use : is_in_use items w ≡ true = rw (in_rule, no_left) refl in
-        has_distinct (filter (is_in_use items) (spelled items)) w ∙ in_filter (is_in_use items) w (spelled items) in_use there
+        let items = items_of (meant all) in
+        let is_used : has_word (used (kept items)) w ≡ true = has_distinct (flat_map (λ (r : SpelledRule). r.right) (kept items)) w ∙ in_rule in
+        let in_use : is_in_use (used (kept items)) (nonterminals items) w ≡ true = rw (is_used, none) refl in
+        has_distinct (filter (is_in_use (used (kept items)) (nonterminals items)) (spelled (items_of all))) w ∙ in_filter (is_in_use (used (kept items)) (nonterminals items)) w (spelled (items_of all)) in_use there

@@ -1,307 +1,240 @@
 -- Reading a text item by item.
-use Rattle.std.proofs.Common.{◌≡◌, ◌≢◌, ℕ, zero, suc, ◌+◌, ◌-◌, ◌≤◌, ◌<◌, Bool, true, false, cond, List, [], ◌∷◌, ◌++◌, length, length-append, take, drop, refl, sym, ap, subst, ◌∙◌, one-add, arith, append_assoc}
-use Rattle.std.specs.Prelude.{codes}
-use Rattle.std.specs.List.{prefix_len}
-use Rattle.std.proofs.lemmas.Bool.{false≢true}
+use Rattle.std.proofs.Common.{◌≡◌, ℕ, suc, ◌+◌, ◌-◌, ◌≤◌, ◌<◌, true, false, List, [], ◌∷◌, ◌++◌, length, drop, refl, sym, subst, ◌∙◌, arith, inl, inr}
 use Rattle.std.proofs.lemmas.Bool.Decides.{nat_tests}
-use Rattle.std.proofs.lemmas.List.{length-drop, drop-drop, append-nil, drop_all}
-use Rattle.std.proofs.lemmas.List.Sums.{prefix_len-le-length}
-use Rattle.cs_yacc.specs.Bytes.{is_blank, begins_name, is_word_byte}
-use Rattle.cs_yacc.specs.Items.{Item, mark, token, unknown, name, literal, colon, semicolon, bar, IsWord, Spells, Begins, BeginsNothing, IsGap, nothing, blank, IsKnown, Placed, Follows, ReadsTo, Ends, at_end, Reads, Stops, StopsAt}
-use Rattle.std.specs.Str.{bytes_eq}
-use Rattle.std.proofs.lemmas.Slice.Eq.{bytes_eq-Decides}
-use Rattle.cs_yacc.proofs.Front.{head_of, spells_nothing, nothing_empty, Heads, begins_unknown}
+use Rattle.std.proofs.lemmas.List.{length-drop, drop-drop, drop_all}
+use Rattle.cs_ctext.specs.Comments.{IsComment, OpensComment}
+use Rattle.cs_ctext.proofs.PartSizes.{opens-comment, opens-slash}
+use Rattle.cs_yacc.specs.Bytes.{is_blank, begins_name, is_digit}
+use Rattle.cs_yacc.specs.Items.{Item, mark, prologue, directive, unknown, name, literal, number, tag, block, colon, semicolon, bar, comma, IsNumber, Spells, Begins, BeginsNothing, IsGap, blank, comment, IsKnown, Placed, Follows, Reached, start, marks_behind, ReadsTo, Ends, at_mark, at_end, Reads, Stops, StopsAt}
+use Rattle.cs_yacc.proofs.Gaps.{NoGap, same_gap}
+use Rattle.cs_yacc.proofs.Front.{spells_nothing, class, byte_class, class_is, same_size}
 
--- ---- one item
+-- ---- an item is no gap
 
--- the kind of first byte that an item has
-abbrev class : Item → ℕ
-class mark = 37
-class token = 37
-class (unknown w) = 37
-class (name n) = 0
-class (literal b) = 39
-class colon = 58
-class semicolon = 59
-class bar = 124
+blank_class : (c : ℕ) → is_blank c ≡ true → byte_class c ≡ c
+blank_class c h = let f : begins_name c ≡ false = grind (arith, nat_tests) in let g : is_digit c ≡ false = grind (arith, nat_tests) in rw (f, g) refl
 
-class_is : (c : ℕ) (i : Item) → Heads c i → class i ≡ cond (begins_name c) 0 c
-class_is c mark f = rw f refl
-class_is c token f = rw f refl
-class_is c (unknown w) f = rw f refl
-class_is c (name n) f = rw f refl
-class_is c (literal b) f = rw f refl
-class_is c colon f = rw f refl
-class_is c semicolon f = rw f refl
-class_is c bar f = rw f refl
+blank_small : (c : ℕ) → is_blank c ≡ true → (2 ≤ c) × (c ≤ 32)
+blank_small c h = (grind (arith, nat_tests), grind (arith, nat_tests))
 
-not_mark_word : (c : ℕ) (text w : List ℕ) → c ∷ text ≡ 37 ∷ 37 ∷ [] → c ∷ text ≡ 37 ∷ w → IsWord w → ⊥
-not_mark_word c text [] e f h = h
-not_mark_word c text (d ∷ w) e f h = let g : d ≡ 37 = cc in let k : is_word_byte 37 ≡ true = subst (λ (x : ℕ). is_word_byte x ≡ true) g h.0 in false≢true k
+class_big : (i : Item) (c : ℕ) → class i ≡ c → 2 ≤ c → c ≤ 32 → ⊥
+class_big mark c e l g = omega arith
+class_big prologue c e l g = omega arith
+class_big (directive d) c e l g = omega arith
+class_big (unknown w) c e l g = omega arith
+class_big (name n) c e l g = omega arith
+class_big (literal b) c e l g = omega arith
+class_big number c e l g = omega arith
+class_big tag c e l g = omega arith
+class_big block c e l g = omega arith
+class_big colon c e l g = omega arith
+class_big semicolon c e l g = omega arith
+class_big bar c e l g = omega arith
+class_big comma c e l g = omega arith
 
--- a text spells one item
-pub same_item : (text : List ℕ) (i j : Item) → Spells text i → Spells text j → i ≡ j
-same_item [] i j p q = absurd (spells_nothing i p)
-same_item (c ∷ text) i j p q = pick i j p q (class_is c i (head_of c text i p) ∙ sym (class_is c j (head_of c text j q)))
-  where
-    pick : (i j : Item) → Spells (c ∷ text) i → Spells (c ∷ text) j → class i ≡ class j → i ≡ j
-    pick mark mark p q e = refl
-    pick mark token p q e = absurd cc
-    pick mark (unknown w) p q e = absurd (not_mark_word c text w p q.0 q.1)
-    pick token mark p q e = absurd cc
-    pick token token p q e = refl
-    pick token (unknown w) p q e = absurd (q.2 (cc (p, q.0)))
-    pick (unknown v) mark p q e = absurd (not_mark_word c text v q p.0 p.1)
-    pick (unknown v) token p q e = absurd (p.2 (cc (p.0, q)))
-    pick (unknown v) (unknown w) p q e = let f : v ≡ w = cc (p.0, q.0) in ap unknown f
-    pick (name m) (name n) p q e = let f : m ≡ n = cc (p.0, q.0) in ap name f
-    pick (literal a) (literal b) p q e = let f : a ≡ b = cc (p.0, q.0) in ap literal f
-    pick colon colon p q e = refl
-    pick semicolon semicolon p q e = refl
-    pick bar bar p q e = refl
-    pick i j p q e = absurd (omega arith)
+class_slash : (i : Item) → class i ≡ 47 → ⊥
+class_slash mark e = omega arith
+class_slash i e = omega arith
 
-pub same_size : (text : List ℕ) (i j : Item) (m n : ℕ) → Begins text i m → Begins text j n → (m ≡ n) × (i ≡ j)
-same_size text i j m n a b =
-    let e : m ≡ n = omega (arith, a.longest j n b.within b.spelled, b.longest i m a.within a.spelled) in
-    (e, same_item (take m text) i j a.spelled (rw e b.spelled))
+item_no_blank : (c : ℕ) (text : List ℕ) (n : ℕ) (i : Item) → Spells (c ∷ text) n i → is_blank c ≡ true → ⊥
+item_no_blank c text n i h e =
+    let b = blank_small c e in
+    class_big i c (class_is c text n i h ∙ blank_class c e) b.0 b.1
 
--- a directive of an unknown word is nothing that reading takes
-nothing_unknown : (text : List ℕ) (w : List ℕ) (n : ℕ) → Begins text (unknown w) n → BeginsNothing text
-nothing_unknown text w n u item size known b = not_known item known (same_size text (unknown w) item n size u b).1
-  where
-    not_known : (i : Item) → IsKnown i → unknown w ≡ i → ⊥
-    not_known mark k e = absurd cc
-    not_known token k e = absurd cc
-    not_known (unknown v) k e = k
-    not_known (name v) k e = absurd cc
-    not_known (literal c) k e = absurd cc
-    not_known colon k e = absurd cc
-    not_known semicolon k e = absurd cc
-    not_known bar k e = absurd cc
+item_no_comment : (text : List ℕ) (n : ℕ) (i : Item) (k : ℕ) → Spells text n i → IsComment text k → ⊥
+item_no_comment [] n i k h is = spells_nothing n i h
+item_no_comment (c ∷ text) n i k h is = let f : c ≡ 47 = opens-slash c text (opens-comment (c ∷ text) k is) in class_slash i (class_is c text n i h ∙ rw f refl)
 
-pub unknown_is : (text : List ℕ) (n : ℕ) (w : List ℕ) (b : Bool) → n ≡ prefix_len is_word_byte text → (n ≡ 0 → ⊥) → b ≡ bytes_eq (take n text) w → w ≡ codes "token" → b ≡ false → BeginsNothing (37 ∷ text)
-unknown_is text n w b size some same is no_match =
-    let ne : take (prefix_len is_word_byte text) text ≢ codes "token" = λ f.
-    let e : take n text ≡ w = ap (λ (k : ℕ). take k text) size ∙ f ∙ sym is in
-    let true_it : b ≡ true = same ∙ (bytes_eq-Decides (take n text) w).1 e in
-    cc in
-    nothing_unknown (37 ∷ text) _ _ (begins_unknown text (omega arith) ne)
+item_no_gap : {text : List ℕ} {m : ℕ} (i : Item) (n : ℕ) → Spells text n i → IsGap text (suc m) → ⊥
+item_no_gap i n h (blank {b = b} {text = text} e g) = item_no_blank b text n i h e
+item_no_gap {text = text} i n h (comment {c = c} is g e) = item_no_comment text n i c h is
 
--- ---- gaps
-
-name_not_blank : (c : ℕ) → begins_name c ≡ true → is_blank c ≡ false
-name_not_blank c h = grind (arith, nat_tests)
-
-not_blank : (c : ℕ) (i : Item) → Heads c i → is_blank c ≡ false
-not_blank c mark f = rw f refl
-not_blank c token f = rw f refl
-not_blank c (unknown w) f = rw f refl
-not_blank c (name n) f = name_not_blank c f
-not_blank c (literal b) f = rw f refl
-not_blank c colon f = rw f refl
-not_blank c semicolon f = rw f refl
-not_blank c bar f = rw f refl
-
-gap_step : (c : ℕ) (text : List ℕ) (b : Bool) → is_blank c ≡ b → IsGap text (prefix_len is_blank text) → IsGap (c ∷ text) (cond b (1 + prefix_len is_blank text) 0)
-gap_step c text true e g = rw one-add (blank e g)
-gap_step c text false e g = nothing
-
-pub gap_len : (text : List ℕ) → IsGap text (prefix_len is_blank text)
-gap_len [] = nothing
-gap_len (c ∷ text) = gap_step c text (is_blank c) refl (gap_len text)
-
--- no item begins with a blank
-item_not_blank : (text : List ℕ) (i : Item) (n : ℕ) → Begins text i n → prefix_len is_blank text ≡ 0
-item_not_blank [] i n b = refl
-item_not_blank (c ∷ text) i zero b = absurd (spells_nothing i b.spelled)
-item_not_blank (c ∷ text) i (suc n) b = rw (not_blank c i (head_of c (take n text) i b.spelled)) refl
-
--- a gap in front of an item is the longest
-pub gap_is : {text : List ℕ} {n : ℕ} (i : Item) (size : ℕ) → IsGap text n → Begins (drop n text) i size → n ≡ prefix_len is_blank text
-gap_is {text} i size nothing b = sym (item_not_blank text i size b)
-gap_is i size (blank e g) b = rw (e, one-add) (ap suc (gap_is i size g b))
-
-pub gap_within : {text : List ℕ} {n : ℕ} → IsGap text n → n ≤ prefix_len is_blank text
-gap_within nothing = omega arith
-gap_within (blank e g) = rw e (omega (arith, gap_within g))
-
-no_run : (text : List ℕ) (n : ℕ) → IsGap text n → ((m : ℕ) → IsGap text (suc m) → ⊥) → 0 ≡ n
-no_run text zero g h = refl
-no_run text (suc n) g h = absurd (h n g)
-
--- a gap that no gap follows is the longest
-pub gap_stops : {text : List ℕ} {n : ℕ} → IsGap text n → ((m : ℕ) → IsGap (drop n text) (suc m) → ⊥) → n ≡ prefix_len is_blank text
-gap_stops {text} nothing h = no_run text (prefix_len is_blank text) (gap_len text) h
-gap_stops (blank e g) h = rw (e, one-add) (ap suc (gap_stops g h))
-
-abbrev placed : ℕ → Item → Placed
-placed a i = record { at = a; item = i }
-
-placed_same : (a b : ℕ) (i j : Item) → a ≡ b → i ≡ j → placed a i ≡ placed b j
-placed_same a b i j e f = rw (e, f) refl
-
-run_ends_step : (p : ℕ → Bool) (c : ℕ) (text : List ℕ) (b : Bool) → p c ≡ b → prefix_len p (drop (prefix_len p text) text) ≡ 0 → prefix_len p (drop (cond b (1 + prefix_len p text) 0) (c ∷ text)) ≡ 0
-run_ends_step p c text true e h = rw one-add h
-run_ends_step p c text false e h = rw e refl
-
--- the longest run ends
-pub run_ends : (p : ℕ → Bool) (text : List ℕ) → prefix_len p (drop (prefix_len p text) text) ≡ 0
-run_ends p [] = refl
-run_ends p (c ∷ text) = run_ends_step p c text (p c) refl (run_ends p text)
+spells_some : (text : List ℕ) (i : Item) (n : ℕ) → Spells text n i → 0 < length text
+spells_some [] i n h = absurd (spells_nothing n i h)
+spells_some (c ∷ text) i n h = omega arith
 
 -- ---- what stands next
 
+placed_same : (p q : Placed) → p.at ≡ q.at → p.item ≡ q.item → p ≡ q
+placed_same p q e f = let g : Placed = record { at = p.at; item = p.item } in rw (e, f) refl
+
+word_some : (d : ℕ) (w : List ℕ) (n : ℕ) → n ≡ length (d ∷ w) → 0 < n
+word_some d w n e = omega arith
+
+spells_size : (text : List ℕ) (n : ℕ) (i : Item) → Spells text n i → 0 < n
+spells_size text n mark h = omega (arith, h.1)
+spells_size text n prologue h = omega (arith, h.ends)
+spells_size text n (directive d) h = word_some 37 h.0 n h.1.1
+spells_size text n (unknown w) h = word_some 37 w n h.0.1
+spells_size text n (name []) h = absurd h.1
+spells_size text n (name (c ∷ w)) h = word_some c w n h.0.1
+spells_size text n (literal b) h = omega (arith, h.ends)
+spells_size text n number h = some_digits h.0 h.1.1 h.2
+  where
+    some_digits : (w : List ℕ) → n ≡ length w → IsNumber w → 0 < n
+    some_digits [] s i = absurd i
+    some_digits (d ∷ w) s i = omega arith
+spells_size [] n tag h = absurd h
+spells_size (c ∷ text) n tag h = omega (arith, h.2)
+spells_size [] n block h = absurd h
+spells_size (c ∷ text) n block h = omega (arith, h.3)
+spells_size text n colon h = omega (arith, h.1)
+spells_size text n semicolon h = omega (arith, h.1)
+spells_size text n bar h = omega (arith, h.1)
+spells_size text n comma h = omega (arith, h.1)
+
+none_comment : (text : List ℕ) (n : ℕ) → IsComment text n → text ≡ [] → ⊥
+none_comment [] n is e = none (opens-comment [] n is)
+  where
+    none : OpensComment [] → ⊥
+    none (inl h) = cc
+    none (inr h) = cc
+none_comment (c ∷ text) n is e = cc
+
+none_gap : {text : List ℕ} {n : ℕ} → IsGap text (suc n) → text ≡ [] → ⊥
+none_gap (blank e g) f = absurd cc
+none_gap {text = text} (comment {c = c} is g e) f = none_comment text c is f
+
+at_end_no_gap : (bytes : List ℕ) (at : ℕ) → length bytes ≤ at → NoGap (drop at bytes)
+at_end_no_gap bytes at le = λ n g. none_gap g (drop_all at bytes le)
+
 module _ (bytes : List ℕ) (from : ℕ) where
-  -- the length of the gap behind the offset
-  abbrev pub skipped : ℕ
-  skipped = prefix_len is_blank (drop from bytes)
+  -- where a gap ends, it ends at one place
+  gap_at : (n m : ℕ) → IsGap (drop from bytes) n → IsGap (drop from bytes) m → NoGap (drop (from + n) bytes) → NoGap (drop (from + m) bytes) → n ≡ m
+  gap_at n m g h p q = same_gap g h (subst NoGap (sym (drop-drop n from bytes)) p) (subst NoGap (sym (drop-drop m from bytes)) q)
 
-  pub skipped_within : from ≤ length bytes → from + skipped ≤ length bytes
-  skipped_within le = omega (arith, prefix_len-le-length is_blank (drop from bytes), length-drop from bytes)
-
-  pub next_ends : (items : List Placed) → from ≤ length bytes → from + skipped ≡ length bytes → Ends bytes items from
-  next_ends items le e = let n : length bytes - from ≡ skipped = omega arith in at_end le (rw n (gap_len (drop from bytes)))
-
-  pub next_stops : from ≤ length bytes → from + skipped ≢ length bytes → BeginsNothing (drop (from + skipped) bytes) → Stops bytes from (from + skipped)
-  next_stops le ne none = record {
-    gap = (skipped, gap_len (drop from bytes), refl);
-    left = omega (arith, skipped_within le);
-    no_gap = λ n g.
-        let e : drop (from + skipped) bytes ≡ drop skipped (drop from bytes) = sym (drop-drop skipped from bytes) in
-        let h : IsGap (drop skipped (drop from bytes)) (suc n) = rw (← e) g in
-        omega (arith, gap_within h, run_ends is_blank (drop from bytes));
-    no_item = none;
-  }
-
-  -- the same, of the offset and the text that the code has
-  pub ends_is : (at : ℕ) (items : List Placed) → from ≤ length bytes → at ≡ from + skipped → at ≡ length bytes → Ends bytes items from
-  ends_is at items le is e = next_ends items le (sym is ∙ e)
-
-  pub follows_is : (at : ℕ) (text : List ℕ) (item : Item) (size : ℕ) → at ≡ from + skipped → text ≡ drop at bytes → Begins text item size → IsKnown item
-      → Follows bytes from (record { at = at; item = item }) (at + size)
-  follows_is at text item size is e b k = record { gap = (skipped, gap_len (drop from bytes), is); item = (size, rw (← e) b, refl); known = k }
-
-  pub stops_is : (at : ℕ) (text : List ℕ) → from ≤ length bytes → at ≡ from + skipped → at ≢ length bytes → text ≡ drop at bytes → BeginsNothing text → Stops bytes from at
-  stops_is at text le is ne e none =
-      let here : BeginsNothing (drop (from + skipped) bytes) = λ item size k b. none item size k (rw (e, is) b) in
-      rw is (next_stops le (λ same. ne (is ∙ same)) here)
-
-  -- where an item follows
-  pub follows_at : (p : Placed) (to : ℕ) → Follows bytes from p to → p.at ≡ from + skipped
-  follows_at p to f =
-      let e : drop p.at bytes ≡ drop f.gap.0 (drop from bytes) = rw f.gap.2 (sym (drop-drop f.gap.0 from bytes)) in
-      let b : Begins (drop f.gap.0 (drop from bytes)) p.item f.item.0 = rw (← e) f.item.1 in
-      f.gap.2 ∙ ap (λ (n : ℕ). from + n) (gap_is p.item f.item.0 f.gap.1 b)
+  ends_gap : (p : Placed) (to : ℕ) (f : Follows bytes from p to) → NoGap (drop (from + f.gap.0) bytes)
+  ends_gap p to f = subst (λ (k : ℕ). NoGap (drop k bytes)) f.gap.2 (λ n g. item_no_gap p.item f.item.0 f.item.1.spelled g)
 
   pub follows_same : (p q : Placed) (to u : ℕ) → Follows bytes from p to → Follows bytes from q u → (p ≡ q) × (to ≡ u)
   follows_same p q to u f g =
-      let at : p.at ≡ q.at = follows_at p to f ∙ sym (follows_at q u g) in
-      let b : Begins (drop p.at bytes) q.item g.item.0 = rw at g.item.1 in
+      let size : f.gap.0 ≡ g.gap.0 = gap_at f.gap.0 g.gap.0 f.gap.1 g.gap.1 (ends_gap p to f) (ends_gap q u g) in
+      let at : p.at ≡ q.at = omega (arith, f.gap.2, g.gap.2) in
+      let b : Begins (drop p.at bytes) q.item g.item.0 = subst (λ (k : ℕ). Begins (drop k bytes) q.item g.item.0) (sym at) g.item.1 in
       let s = same_size (drop p.at bytes) p.item q.item f.item.0 g.item.0 f.item.1 b in
-      let e : p.item ≡ q.item = s.1 in
-      (placed_same p.at q.at p.item q.item at e, omega (arith, s.0, f.item.2, g.item.2))
+      (placed_same p q at s.1, omega (arith, s.0, f.item.2, g.item.2))
 
   -- an item is longer than nothing, and within the bytes
-  pub follows_within : (p : Placed) (to : ℕ) → from ≤ length bytes → Follows bytes from p to → (from < to) × (to ≤ length bytes)
-  follows_within p to le f =
-      let at = follows_at p to f in
-      let some : 0 < f.item.0 = not_zero f.item.0 f.item.1 in
-      (omega (arith, f.item.2, f.gap.2), omega (arith, f.item.2, f.item.1.within, length-drop p.at bytes, skipped_within le))
-    where
-      not_zero : (n : ℕ) → Begins (drop p.at bytes) p.item n → 0 < n
-      not_zero zero b = absurd (spells_nothing p.item b.spelled)
-      not_zero (suc n) b = omega arith
+  pub follows_within : (p : Placed) (to : ℕ) → Follows bytes from p to → (from < to) × (to ≤ length bytes)
+  follows_within p to f =
+      let some : 0 < f.item.0 = spells_size (drop p.at bytes) f.item.0 p.item f.item.1.spelled in
+      let left : 0 < length (drop p.at bytes) = spells_some (drop p.at bytes) p.item f.item.0 f.item.1.spelled in
+      (omega (arith, f.item.2, f.gap.2), omega (arith, f.item.2, f.item.1.within, length-drop p.at bytes))
 
-  pub follows_not_ends : (p : Placed) (to : ℕ) (items : List Placed) → Follows bytes from p to → Ends bytes items from → ⊥
-  follows_not_ends p to items f (at_end le g) =
-      let at = follows_at p to f in
-      let all = gap_within g in
-      let none : drop p.at bytes ≡ [] = drop_all p.at bytes (omega (arith, at, all)) in
-      nothing_empty p.item f.item.0 f.known (rw (← none) f.item.1)
+  follows_not_end : (p : Placed) (to : ℕ) → from ≤ length bytes → Follows bytes from p to → IsGap (drop from bytes) (length bytes - from) → ⊥
+  follows_not_end p to le f g =
+      let size : f.gap.0 ≡ length bytes - from = gap_at f.gap.0 (length bytes - from) f.gap.1 g (ends_gap p to f) (at_end_no_gap bytes (from + (length bytes - from)) (omega arith)) in
+      let none : drop p.at bytes ≡ [] = drop_all p.at bytes (omega (arith, size, f.gap.2)) in
+      spells_nothing f.item.0 p.item (subst (λ (t : List ℕ). Spells t f.item.0 p.item) none f.item.1.spelled)
 
-  pub stops_at : (at : ℕ) → Stops bytes from at → at ≡ from + skipped
-  stops_at at s =
-      let e : drop at bytes ≡ drop s.gap.0 (drop from bytes) = rw s.gap.2 (sym (drop-drop s.gap.0 from bytes)) in
-      s.gap.2 ∙ ap (λ (n : ℕ). from + n) (gap_stops s.gap.1 (λ m g. s.no_gap m (rw e g)))
+  stop_ends : (at : ℕ) (s : Stops bytes from at) → NoGap (drop (from + s.gap.0) bytes)
+  stop_ends at s = subst (λ (k : ℕ). NoGap (drop k bytes)) s.gap.2 s.no_gap
 
-  pub follows_not_stops : (p : Placed) (to at : ℕ) → Follows bytes from p to → Stops bytes from at → ⊥
+  follows_not_stops : (p : Placed) (to at : ℕ) → Follows bytes from p to → Stops bytes from at → ⊥
   follows_not_stops p to at f s =
-      let e : at ≡ p.at = stops_at at s ∙ sym (follows_at p to f) in
-      s.no_item p.item f.item.0 f.known (rw e f.item.1)
+      let size : f.gap.0 ≡ s.gap.0 = gap_at f.gap.0 s.gap.0 f.gap.1 s.gap.1 (ends_gap p to f) (stop_ends at s) in
+      let same : p.at ≡ at = omega (arith, f.gap.2, s.gap.2) in
+      s.no_item p.item f.item.0 f.known (subst (λ (k : ℕ). Begins (drop k bytes) p.item f.item.0) same f.item.1)
 
--- ---- reading on
+  stops_same : (a b : ℕ) → Stops bytes from a → Stops bytes from b → a ≡ b
+  stops_same a b s t = omega (arith, s.gap.2, t.gap.2, gap_at s.gap.0 t.gap.0 s.gap.1 t.gap.1 (stop_ends a s) (stop_ends b t))
 
--- from the offset these items stand, and reading ends behind them; all items are these
-pub record ReadsFrom (bytes : List ℕ) (all : List Placed) (from : ℕ) (items : List Placed) : Type 0 where
-  pub to : ℕ
-  pub read : ReadsTo bytes from items to
-  pub ends : Ends bytes all to
+  stops_not_end : (at : ℕ) → from ≤ length bytes → Stops bytes from at → IsGap (drop from bytes) (length bytes - from) → ⊥
+  stops_not_end at le s g =
+      let size : s.gap.0 ≡ length bytes - from = gap_at s.gap.0 (length bytes - from) s.gap.1 g (stop_ends at s) (at_end_no_gap bytes (from + (length bytes - from)) (omega arith)) in
+      omega (arith, size, s.gap.2, s.left)
 
-pub ReadsTo-push : (bytes : List ℕ) (from : ℕ) (ps : List Placed) (mid : ℕ) (p : Placed) (to : ℕ) → ReadsTo bytes from ps mid → Follows bytes mid p to → ReadsTo bytes from (ps ++ p ∷ []) to
-ReadsTo-push bytes from [] mid p to r f = (to, rw r f, refl)
-ReadsTo-push bytes from (q ∷ ps) mid p to r f = (r.0, r.1, ReadsTo-push bytes r.0 ps mid p to r.2 f)
+-- ---- where reading halts
 
--- What is read so far: these items, up to the offset, and whatever the bytes are read into goes on from there.
-pub record HasRead (bytes : List ℕ) (items : List Placed) (from : ℕ) : Type 0 where
-  pub within : from ≤ length bytes
-  pub few : length items ≤ from
-  pub read : ReadsTo bytes 0 items from
-  pub only : (all : List Placed) → Reads bytes all → (rest : List Placed) × (all ≡ items ++ rest) × ReadsFrom bytes all from rest
+-- no item follows there
+abbrev Halts : List ℕ → Reached → Type 0
+Halts bytes r = (p : Placed) (to : ℕ) → r.marks < 2 → Follows bytes r.at p to → ⊥
 
-pub HasRead-none : (bytes : List ℕ) → HasRead bytes [] 0
-HasRead-none bytes = record { within = omega arith; few = omega arith; read = refl; only = λ all r. (all, refl, record { to = r.to; read = r.read; ends = r.ends }) }
+ends_halts : (bytes : List ℕ) (r : Reached) → Ends bytes r → Halts bytes r
+ends_halts bytes r (at_mark e) p to lt f = omega arith
+ends_halts bytes r (at_end l le g) p to lt f = follows_not_end bytes r.at p to le f g
 
-goes_on : (bytes : List ℕ) (from : ℕ) (p : Placed) (to : ℕ) (items all rest : List Placed) → Follows bytes from p to → all ≡ items ++ rest → ReadsFrom bytes all from rest
-    → (more : List Placed) × (all ≡ (items ++ p ∷ []) ++ more) × ReadsFrom bytes all to more
-goes_on bytes from p to items all [] f e r = absurd (follows_not_ends bytes from p to all f (rw r.read r.ends))
-goes_on bytes from p to items all (q ∷ rest) f e r =
-    let s = follows_same bytes from q p r.read.0 to r.read.1 f in
-    let g : all ≡ (items ++ p ∷ []) ++ rest = e ∙ rw (s.0) (sym (append_assoc items (p ∷ []) rest)) in
-    (rest, g, record { to = r.to; read = rw (← s.1) (r.read.2); ends = r.ends })
+stops_halts : (bytes : List ℕ) (r : Reached) (at : ℕ) → Stops bytes r.at at → Halts bytes r
+stops_halts bytes r at s p to lt f = follows_not_stops bytes r.at p to at f s
 
-pub HasRead-more : (bytes : List ℕ) (items : List Placed) (from : ℕ) (p : Placed) (to : ℕ) → HasRead bytes items from → Follows bytes from p to → HasRead bytes (items ++ p ∷ []) to
-HasRead-more bytes items from p to h f =
-    let w = follows_within bytes from p to h.within f in
-    record {
-      within = w.1;
-      few = omega (arith, h.few, w.0, length-append items (p ∷ []));
-      read = ReadsTo-push bytes 0 items from p to h.read f;
-      only = λ all r. let o = h.only all r in goes_on bytes from p to items all o.0 f o.1 o.2;
-    }
+ends_not_stops : (bytes : List ℕ) (r : Reached) (at : ℕ) → r.marks < 2 → Ends bytes r → Stops bytes r.at at → ⊥
+ends_not_stops bytes r at lt (at_mark e) s = omega arith
+ends_not_stops bytes r at lt (at_end l le g) s = stops_not_end bytes r.at at le s g
 
-all_read : (bytes : List ℕ) (from : ℕ) (items some all rest : List Placed) → Ends bytes some from → all ≡ items ++ rest → ReadsFrom bytes all from rest → all ≡ items
-all_read bytes from items some all [] ends e r = e ∙ append-nil items
-all_read bytes from items some all (q ∷ rest) ends e r = absurd (follows_not_ends bytes from q r.read.0 some r.read.1 ends)
+abbrev behind : Reached → Item → ℕ → Reached
+behind r i to = record { at = to; marks = marks_behind r.marks i }
 
--- at the end: the bytes are read into these items and no others
-pub HasRead-ends : (bytes : List ℕ) (items : List Placed) (from : ℕ) → HasRead bytes items from → Ends bytes items from → Reads bytes items × ((all : List Placed) → Reads bytes all → all ≡ items)
-HasRead-ends bytes items from h ends =
-    (record { to = from; read = h.read; ends = ends }, λ all r. let o = h.only all r in all_read bytes from items items all o.0 ends o.1 o.2)
-
-ends_not_stops : (bytes : List ℕ) (from at : ℕ) (items : List Placed) → Ends bytes items from → Stops bytes from at → ⊥
-ends_not_stops bytes from at items (at_end le g) s = omega (arith, stops_at bytes from at s, gap_within g, s.left)
-
-none_read : (bytes : List ℕ) (from at : ℕ) (all rest : List Placed) → Stops bytes from at → ReadsFrom bytes all from rest → ⊥
-none_read bytes from at all [] s r = ends_not_stops bytes from at all (rw r.read r.ends) s
-none_read bytes from at all (q ∷ rest) s r = follows_not_stops bytes from q r.read.0 at r.read.1 s
-
--- where reading stops: the bytes are read into no items
-pub HasRead-stops : (bytes : List ℕ) (items : List Placed) (from at : ℕ) → HasRead bytes items from → Stops bytes from at → StopsAt bytes items at × ((all : List Placed) → Reads bytes all → ⊥)
-HasRead-stops bytes items from at h s = (record { from = from; read = h.read; stops = s }, λ all r. let o = h.only all r in none_read bytes from at all o.0 s o.2)
-
--- ---- one reading
-
-one_from : (bytes : List ℕ) (from : ℕ) (all others ps qs : List Placed) → ReadsFrom bytes all from ps → ReadsFrom bytes others from qs → ps ≡ qs
-one_from bytes from all others [] [] r s = refl
-one_from bytes from all others [] (q ∷ qs) r s = absurd (follows_not_ends bytes from q s.read.0 all s.read.1 (rw r.read r.ends))
-one_from bytes from all others (p ∷ ps) [] r s = absurd (follows_not_ends bytes from p r.read.0 others r.read.1 (rw s.read s.ends))
-one_from bytes from all others (p ∷ ps) (q ∷ qs) r s =
-    let same = follows_same bytes from p q r.read.0 s.read.0 r.read.1 s.read.1 in
-    let there : ReadsTo bytes r.read.0 qs s.to = rw same.1 (s.read.2) in
-    let rest : ps ≡ qs = one_from bytes r.read.0 all others ps qs (record { to = r.to; read = r.read.2; ends = r.ends }) (record { to = s.to; read = there; ends = s.ends }) in
-    rw (same.0, rest) refl
+same_walk : (bytes : List ℕ) (r : Reached) (ps qs : List Placed) (a b : Reached) → ReadsTo bytes r ps a → ReadsTo bytes r qs b → Halts bytes a → Halts bytes b → (ps ≡ qs) × (a ≡ b)
+same_walk bytes r [] [] a b x y h k = (refl, sym x ∙ y)
+same_walk bytes r [] (q ∷ qs) a b x y h k = absurd (subst (Halts bytes) (sym x) h q y.1 y.0 y.2)
+same_walk bytes r (p ∷ ps) [] a b x y h k = absurd (subst (Halts bytes) (sym y) k p x.1 x.0 x.2)
+same_walk bytes r (p ∷ ps) (q ∷ qs) a b x y h k =
+    let s = follows_same bytes r.at p q x.1 y.1 x.2 y.2 in
+    let there : ReadsTo bytes (behind r p.item x.1) qs b = rw (s.0, s.1) y.3 in
+    let rest = same_walk bytes (behind r p.item x.1) ps qs a b x.3 there h k in
+    (rw (s.0, rest.0) refl, rest.1)
 
 -- a text is read into one list of items
 pub one_reading : (bytes : List ℕ) (ps qs : List Placed) → Reads bytes ps → Reads bytes qs → ps ≡ qs
-one_reading bytes ps qs r s = one_from bytes 0 ps qs ps qs (record { to = r.to; read = r.read; ends = r.ends }) (record { to = s.to; read = s.read; ends = s.ends })
+one_reading bytes ps qs r s = (same_walk bytes start ps qs r.to s.to r.read s.read (ends_halts bytes r.to r.ends) (ends_halts bytes s.to s.ends)).0
+
+-- reading stops at one place
+pub one_stop : (bytes : List ℕ) (ps qs : List Placed) (a b : ℕ) → StopsAt bytes ps a → StopsAt bytes qs b → a ≡ b
+one_stop bytes ps qs a b r s =
+    let same = (same_walk bytes start ps qs r.from s.from r.read s.read (stops_halts bytes r.from a r.stops) (stops_halts bytes s.from b s.stops)).1 in
+    stops_same bytes r.from.at a b r.stops (subst (λ (x : Reached). Stops bytes x.at b) (sym same) s.stops)
+
+-- a text that reading stops in isn't read
+pub stopped_not_read : (bytes : List ℕ) (ps qs : List Placed) (at : ℕ) → StopsAt bytes ps at → Reads bytes qs → ⊥
+stopped_not_read bytes ps qs at s r =
+    let same = (same_walk bytes start ps qs s.from r.to s.read r.read (stops_halts bytes s.from at s.stops) (ends_halts bytes r.to r.ends)).1 in
+    ends_not_stops bytes s.from at s.more (subst (Ends bytes) (sym same) r.ends) s.stops
+
+-- ---- reading on
+
+ReadsTo-push : (bytes : List ℕ) (r : Reached) (ps : List Placed) (mid : Reached) (p : Placed) (to : ℕ) → ReadsTo bytes r ps mid → mid.marks < 2 → Follows bytes mid.at p to → ReadsTo bytes r (ps ++ p ∷ []) (behind mid p.item to)
+ReadsTo-push bytes r [] mid p to x lt f = rw x (lt, to, f, refl)
+ReadsTo-push bytes r (q ∷ ps) mid p to x lt f = (x.0, x.1, x.2, ReadsTo-push bytes (behind r q.item x.1) ps mid p to x.3 lt f)
+
+-- What is read so far: these items, up to there.
+pub record HasRead (bytes : List ℕ) (items : List Placed) (r : Reached) : Type 0 where
+  pub within : r.at ≤ length bytes
+  pub few : r.marks ≤ 2
+  pub read : ReadsTo bytes start items r
+
+pub HasRead-none : (bytes : List ℕ) → HasRead bytes [] start
+HasRead-none bytes = record { within = omega arith; few = omega arith; read = refl }
+
+few_behind : (i : Item) (m : ℕ) → m < 2 → marks_behind m i ≤ 2
+few_behind mark m lt = omega arith
+few_behind i m lt = omega arith
+
+pub HasRead-more : (bytes : List ℕ) (items all : List Placed) (from marks : ℕ) (p : Placed) (to now : ℕ) → HasRead bytes items (record { at = from; marks = marks }) → marks < 2 → Follows bytes from p to → now ≡ marks_behind marks p.item → all ≡ items ++ p ∷ []
+    → HasRead bytes all (record { at = to; marks = now })
+HasRead-more bytes items all from marks p to now h lt f e g =
+    rw (e, g) (record {
+      within = (follows_within bytes from p to f).1;
+      few = few_behind p.item marks lt;
+      read = ReadsTo-push bytes start items (record { at = from; marks = marks }) p to h.read lt f;
+    })
+
+pub read_to_end : (bytes : List ℕ) (items : List Placed) (r : Reached) → HasRead bytes items r → Ends bytes r → Reads bytes items
+read_to_end bytes items r h e = record { to = r; read = h.read; ends = e }
+
+pub read_to_mark : (bytes : List ℕ) (items : List Placed) (from marks : ℕ) → HasRead bytes items (record { at = from; marks = marks }) → 2 ≤ marks → Reads bytes items
+read_to_mark bytes items from marks h le = let e : marks ≡ 2 = omega (arith, h.few) in read_to_end bytes items (record { at = from; marks = marks }) h (at_mark e)
+
+pub read_to_stop : (bytes : List ℕ) (items : List Placed) (r : Reached) (at : ℕ) → HasRead bytes items r → r.marks < 2 → Stops bytes r.at at → StopsAt bytes items at
+read_to_stop bytes items r at h lt s = record { from = r; read = h.read; more = lt; stops = s }
+
+-- ---- the next item, as the code finds it
+
+module _ (bytes : List ℕ) (from at : ℕ) (gap : IsGap (drop from bytes) (at - from)) (after : from ≤ at) (ends : NoGap (drop at bytes)) where
+  pub end_is : at ≡ length bytes → (marks : ℕ) → marks < 2 → Ends bytes (record { at = from; marks = marks })
+  end_is e marks lt = at_end lt (omega arith) (rw e at gap)
+
+  pub follows_is : (text : List ℕ) (i : Item) (n : ℕ) → text ≡ drop at bytes → Begins text i n → IsKnown i → Follows bytes from (record { at = at; item = i }) (at + n)
+  follows_is text i n e b k = record { gap = (at - from, gap, omega arith); item = (n, subst (λ (t : List ℕ). Begins t i n) e b, refl); known = k }
+
+  pub stops_is : (text : List ℕ) → at < length bytes → text ≡ drop at bytes → BeginsNothing text → Stops bytes from at
+  stops_is text lt e none = record { gap = (at - from, gap, omega arith); left = lt; no_gap = ends; no_item = subst BeginsNothing e none }

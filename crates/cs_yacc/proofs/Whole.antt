@@ -1,79 +1,101 @@
 -- From the tables to what the reader answers.
-use Rattle.std.proofs.Common.{◌≡◌, ℕ, Bool, true, false, cond, List, [], ◌∷◌, length, refl, sym, subst, ◌∙◌}
+use Rattle.std.proofs.Common.{◌≡◌, ◌≤◌, ℕ, Bool, true, false, cond, List, [], ◌∷◌, length, refl, sym, ap, subst, ◌∙◌, arith}
 use Rattle.std.specs.Prelude.{Option, Some, None, Result, Ok, Err, nat_lt, option_map}
 use Rattle.cs_grammar.specs.declared.TheConstants.{MOST_TOKENS, MOST_NONTERMINALS, MOST_RULES, MOST_SYMBOLS}
+use Rattle.cs_yacc.specs.declared.item.Placed as held
 use Rattle.cs_yacc.specs.declared.name.TokenName.{TokenName}
 use Rattle.cs_yacc.specs.declared.error.YaccLimit.{YaccLimit}
 use Rattle.cs_yacc.specs.declared.error.YaccLimit.TheVariants.{Tokens, Nonterminals, Rules, RightSide}
 use Rattle.cs_yacc.specs.declared.error.YaccError.{YaccError}
-use Rattle.cs_yacc.specs.declared.error.YaccError.TheVariants.{NotYet, Undefined, Limit, Memory}
-use Rattle.cs_yacc.specs.Items.{Item, mark, token, unknown, name, literal, colon, semicolon, bar, Placed, items_of}
+use Rattle.cs_yacc.specs.declared.error.YaccError.TheVariants.{BadItem, Unended, UnknownDirective, Syntax, SecondStart, TokenOnLeft, Undefined, StartNotNonterminal, Limit, Memory}
+use Rattle.cs_yacc.specs.Items.{Placed, items_of, Reads}
+use Rattle.cs_yacc.specs.Table.{declarations, IsTaken, IsStuck, stuck_at}
 use Rattle.cs_yacc.specs.File.{File, IsFile}
-use Rattle.cs_yacc.specs.Meaning.{distinct, declared, left_sides, SpelledRule, rules, nonterminals, tokens, file_with, file_of, is_undefined, first_at, behind_mark, undefined_at, above, long_right, limit_passed, fault_of, err_or, or_else, outcome, ArePlain, IsPlain}
+use Rattle.cs_yacc.specs.Meaning.{declared_tokens, SpelledRule, kept, used, nonterminals, tokens, tokens_of, meant, start_item, wrong_start, file_with, file_of, is_start, behind_start, is_token_on_left, is_undefined, behind_mark, first_at, name_fault, above, long_right, limit_passed, or_else, unless, numbered_file, outcome}
 use Rattle.cs_yacc.specs.Reading.{IsYaccFile, Refuses, Answers}
-use Rattle.cs_yacc.specs.Steps.{IsGiven, given_by, AnswersItems}
-use Rattle.cs_yacc.proofs.Words.{has_distinct}
-use Rattle.cs_yacc.proofs.Numbers.{first_same}
+use Rattle.cs_yacc.specs.Steps.{IsGiven, AnswersItems}
+use Rattle.cs_yacc.specs.Views.{placed_of, placed_all}
+use Rattle.std.proofs.lemmas.List.{length-map}
+use Rattle.cs_yacc.proofs.Counts.{few_meant, few_held}
 use Rattle.cs_yacc.proofs.Fits.{file_fits}
+use Rattle.cs_yacc.proofs.Stuck.{stuck_from_some, taken_from_none}
 
 -- what is given may be answered
 is_given : (r given : Result File YaccError) → given ≡ r → IsGiven r given
-is_given (Ok f) given e = e
-is_given (Err NotYet) given e = e
-is_given (Err (Undefined at)) given e = e
-is_given (Err (Limit which found most)) given e = e
 is_given (Err Memory) given e = tt
+is_given r given e = e
 
--- ---- behind the undefined names
+-- ---- the tables are those of the items
 
--- the tables are those of the items
-module _ (ps : List Placed) (token_table left_table : List TokenName) (spelled : List SpelledRule) (s : spelled ≡ rules (items_of ps)) (t : token_table ≡ tokens (items_of ps)) (l : left_table ≡ nonterminals (items_of ps)) where
-  limit_same : limit_passed token_table left_table spelled ≡ limit_passed (tokens (items_of ps)) (nonterminals (items_of ps)) (rules (items_of ps))
-  limit_same = rw (s, t, l) refl
+module _ (all items : List Placed) (used_table token_table left_table : List TokenName) (start : List Placed) (spelled : List SpelledRule) (i : items ≡ meant all) (s : spelled ≡ kept (items_of items)) (u : used_table ≡ used spelled) (l : left_table ≡ nonterminals (items_of items))
+    (t : token_table ≡ tokens used_table left_table (items_of all)) (b : start ≡ start_item all) where
+  tokens_same : token_table ≡ tokens_of all items
+  tokens_same = t ∙ rw (u, s, l) refl
 
-  file_same : file_with token_table left_table spelled ≡ file_of (items_of ps)
-  file_same = rw (s, t, l) refl
+  limit_same : limit_passed token_table left_table spelled ≡ limit_passed (tokens_of all items) (nonterminals (items_of items)) (kept (items_of items))
+  limit_same = rw (tokens_same, l, s) refl
 
-  pub gives_limit : (e : YaccError) → limit_passed token_table left_table spelled ≡ Some e → IsGiven (Err e) (given_by ps)
-  gives_limit e found = let f : limit_passed (tokens (items_of ps)) (nonterminals (items_of ps)) (rules (items_of ps)) ≡ Some e = sym limit_same ∙ found in is_given (Err e) (given_by ps) (rw f refl)
+  file_same : file_with token_table left_table start spelled ≡ file_of all items
+  file_same = rw (tokens_same, l, b, s) refl
 
-  pub gives_file : (f : File) → limit_passed token_table left_table spelled ≡ None → f ≡ file_with token_table left_table spelled → IsGiven (Ok f) (given_by ps)
-  gives_file f none made =
-      let no_fault : limit_passed (tokens (items_of ps)) (nonterminals (items_of ps)) (rules (items_of ps)) ≡ None = sym limit_same ∙ none in
-      let is : file_of (items_of ps) ≡ f = sym (made ∙ file_same) in
-      rw (no_fault, is) refl
+  pub gives_same : (r : Result File YaccError) → IsGiven r (unless (limit_passed token_table left_table spelled) (Ok (file_with token_table left_table start spelled))) → IsGiven r (numbered_file all items)
+  gives_same r g = let e : unless (limit_passed token_table left_table spelled) (Ok (file_with token_table left_table start spelled)) ≡ numbered_file all items = rw (limit_same, file_same) refl in subst (IsGiven r) e g
 
-  pub tables_fit : ArePlain ps → limit_passed token_table left_table spelled ≡ None → IsFile (file_with token_table left_table spelled)
-  tables_fit plain none = subst IsFile (sym file_same) (file_fits (items_of ps) plain.taken (sym limit_same ∙ none))
+  pub tables_fit : IsTaken (items_of all) → wrong_start left_table (start_item all) ≡ None → limit_passed token_table left_table spelled ≡ None → IsFile (file_with token_table left_table start spelled)
+  tables_fit taken started none =
+      let first : wrong_start (nonterminals (items_of (meant all))) (start_item all) ≡ None = rw (l, i) at started in
+      let whole : limit_passed (tokens_of all (meant all)) (nonterminals (items_of (meant all))) (kept (items_of (meant all))) ≡ None = rw i at (sym limit_same ∙ none) in
+      rw (file_same, i) (file_fits all taken first whole)
 
--- ---- undefined names
+-- the items with a meaning are no more than all
+pub few_with_meaning : (all items : List held.Placed) → placed_all items ≡ meant (placed_all all) → length (items_of (placed_all items)) ≤ length all
+few_with_meaning all items e = omega (arith, few_held items, few_held all, few_meant (placed_all all), ap length e, few_placed all, few_placed items)
+  where
+    few_placed : (xs : List held.Placed) → length (placed_all xs) ≡ length xs
+    few_placed xs = length-map xs placed_of
 
-undefined_is : (ds ls : List TokenName) (i : Item) (r : List Item) → is_undefined (distinct ds) (distinct ls) i r ≡ is_undefined ds ls i r
-undefined_is ds ls mark r = refl
-undefined_is ds ls token r = refl
-undefined_is ds ls (unknown w) r = refl
-undefined_is ds ls (name n) r = rw (has_distinct ds, has_distinct ls) refl
-undefined_is ds ls (literal b) r = refl
-undefined_is ds ls colon r = refl
-undefined_is ds ls semicolon r = refl
-undefined_is ds ls bar r = refl
+-- ---- faults of names
 
-module _ (ps behind : List Placed) (dt lt : List TokenName) (b : behind ≡ behind_mark ps) (d : dt ≡ distinct (declared (items_of ps))) (l : lt ≡ nonterminals (items_of ps)) where
-  tables_undefined : first_at (is_undefined dt lt) behind ≡ undefined_at ps
-  tables_undefined = rw (b, d, l) (first_same (is_undefined (distinct (declared (items_of ps))) (distinct (left_sides (items_of ps)))) (is_undefined (declared (items_of ps)) (left_sides (items_of ps))) (undefined_is (declared (items_of ps)) (left_sides (items_of ps))) (behind_mark ps))
+module _ (all items : List Placed) (ds ls : List TokenName) (i : items ≡ meant all) (d : ds ≡ declared_tokens (items_of items)) (l : ls ≡ nonterminals (items_of items)) where
+  fault_same : name_fault all items ds ls ≡ name_fault all (meant all) (declared_tokens (items_of (meant all))) (nonterminals (items_of (meant all)))
+  fault_same = rw (d, l, i) refl
 
-  pub gives_undefined : (at : ℕ) → Some at ≡ first_at (is_undefined dt lt) behind → outcome ps ≡ Err (Undefined at)
-  gives_undefined at e = let f : undefined_at ps ≡ Some at = sym (e ∙ tables_undefined) in rw f refl
+  pub gives_fault : (e : YaccError) → Some e ≡ name_fault all items ds ls → IsGiven (Err e) (outcome all)
+  gives_fault e found = let f : name_fault all (meant all) (declared_tokens (items_of (meant all))) (nonterminals (items_of (meant all))) ≡ Some e = sym (found ∙ fault_same) in is_given (Err e) (outcome all) (rw f refl)
 
-  pub gives_rest : (r : Result File YaccError) → None ≡ first_at (is_undefined dt lt) behind → IsGiven r (given_by ps) → IsGiven r (outcome ps)
-  gives_rest r e g = let f : undefined_at ps ≡ None = sym (e ∙ tables_undefined) in subst (IsGiven r) (rw f refl) g
+  pub gives_rest : (r : Result File YaccError) → None ≡ name_fault all items ds ls → IsGiven r (numbered_file all items) → IsGiven r (outcome all)
+  gives_rest r none g =
+      let f : name_fault all (meant all) (declared_tokens (items_of (meant all))) (nonterminals (items_of (meant all))) ≡ None = sym (none ∙ fault_same) in
+      let h : numbered_file all items ≡ outcome all = rw (f, i) refl in
+      subst (IsGiven r) h g
 
--- ---- a plain file is not refused as none
+second_none : {A : Type 0} (o p : Option A) → or_else o p ≡ None → p ≡ None
+second_none None p e = e
+second_none (Some x) p e = absurd cc
+
+map_none : (f : ℕ → YaccError) (o : Option ℕ) → option_map f o ≡ None → o ≡ None
+map_none f None e = refl
+map_none f (Some x) e = absurd cc
+
+pub started : (all items : List Placed) (ds ls : List TokenName) → None ≡ name_fault all items ds ls → wrong_start ls (start_item all) ≡ None
+started all items ds ls none =
+    map_none StartNotNonterminal (wrong_start ls (start_item all))
+    (second_none (option_map Undefined (first_at (is_undefined ds ls) (behind_mark items))) _
+    (second_none (option_map TokenOnLeft (first_at (is_token_on_left ds) items)) _
+    (second_none (option_map SecondStart (first_at is_start (behind_start all))) _ (sym none))))
+
+-- ---- what the meaning gives is a file or a fault of meaning
+
+abbrev IsMeant : YaccError → Type 0
+IsMeant (BadItem at) = ⊥
+IsMeant (Unended at) = ⊥
+IsMeant (UnknownDirective at) = ⊥
+IsMeant (Syntax at) = ⊥
+IsMeant e = Unit {0}
 
 abbrev IsFound : Option YaccError → Type 0
 IsFound None = Unit {0}
-IsFound (Some NotYet) = ⊥
-IsFound (Some e) = Unit {0}
+IsFound (Some e) = IsMeant e
 
 or_else_found : (o p : Option YaccError) → IsFound o → IsFound p → IsFound (or_else o p)
 or_else_found None p h g = g
@@ -90,52 +112,71 @@ long_found : (rs : List SpelledRule) → IsFound (long_right rs)
 long_found [] = tt
 long_found (r ∷ rs) = or_else_found (above RightSide (length r.right) MOST_SYMBOLS) (long_right rs) (above_found RightSide (length r.right) MOST_SYMBOLS) (long_found rs)
 
-no_not_yet : (o : Option YaccError) (f : File) → IsFound o → err_or o f ≡ Err NotYet → ⊥
-no_not_yet None f h e = cc
-no_not_yet (Some NotYet) f h e = h
-no_not_yet (Some (Undefined at)) f h e = cc
-no_not_yet (Some (Limit which found most)) f h e = cc
-no_not_yet (Some Memory) f h e = cc
+limit_found : (ts ns : List TokenName) (rs : List SpelledRule) → IsFound (limit_passed ts ns rs)
+limit_found ts ns rs =
+    or_else_found (above Tokens (length ts) MOST_TOKENS) _ (above_found Tokens (length ts) MOST_TOKENS)
+    (or_else_found (above Nonterminals (length ns) MOST_NONTERMINALS) _ (above_found Nonterminals (length ns) MOST_NONTERMINALS)
+    (or_else_found (above Rules (length rs) MOST_RULES) (long_right rs) (above_found Rules (length rs) MOST_RULES) (long_found rs)))
 
-fault_found : (ps : List Placed) → IsFound (fault_of ps)
-fault_found ps =
-    or_else_found (option_map Undefined (undefined_at ps)) (limit_passed ts ns rs) (undefined_found (undefined_at ps))
-    (or_else_found (above Tokens (length ts) MOST_TOKENS) behind_tokens (above_found Tokens (length ts) MOST_TOKENS)
-    (or_else_found (above Nonterminals (length ns) MOST_NONTERMINALS) behind_nonterminals (above_found Nonterminals (length ns) MOST_NONTERMINALS)
-    (or_else_found (above Rules (length rs) MOST_RULES) (long_right rs) (above_found Rules (length rs) MOST_RULES) (long_found rs))))
-  where
-    ts : List TokenName
-    ts = tokens (items_of ps)
+map_found : (f : ℕ → YaccError) → ((n : ℕ) → IsMeant (f n)) → (o : Option ℕ) → IsFound (option_map f o)
+map_found f h None = tt
+map_found f h (Some n) = h n
 
-    ns : List TokenName
-    ns = nonterminals (items_of ps)
+name_found : (all items : List Placed) (ds ls : List TokenName) → IsFound (name_fault all items ds ls)
+name_found all items ds ls =
+    or_else_found (option_map SecondStart (first_at is_start (behind_start all))) _ (map_found SecondStart (λ n. tt) _)
+    (or_else_found (option_map TokenOnLeft (first_at (is_token_on_left ds) items)) _ (map_found TokenOnLeft (λ n. tt) _)
+    (or_else_found (option_map Undefined (first_at (is_undefined ds ls) (behind_mark items))) _ (map_found Undefined (λ n. tt) _) (map_found StartNotNonterminal (λ n. tt) _)))
 
-    rs : List SpelledRule
-    rs = rules (items_of ps)
+unless_meant : (o : Option YaccError) (r : Result File YaccError) (e : YaccError) → IsFound o → (r ≡ Err e → IsMeant e) → unless o r ≡ Err e → IsMeant e
+unless_meant None r e h g f = g f
+unless_meant (Some d) r e h g f = let same : d ≡ e = cc in subst IsMeant same h
 
-    behind_nonterminals : Option YaccError
-    behind_nonterminals = or_else (above Rules (length rs) MOST_RULES) (long_right rs)
+ok_meant : (f : File) (e : YaccError) → Ok f ≡ Err e → IsMeant e
+ok_meant f e h = absurd cc
 
-    behind_tokens : Option YaccError
-    behind_tokens = or_else (above Nonterminals (length ns) MOST_NONTERMINALS) behind_nonterminals
+outcome_meant : (all : List Placed) (e : YaccError) → outcome all ≡ Err e → IsMeant e
+outcome_meant all e =
+    let items = items_of (meant all) in
+    unless_meant (name_fault all (meant all) (declared_tokens items) (nonterminals items)) (numbered_file all (meant all)) e (name_found all (meant all) (declared_tokens items) (nonterminals items))
+    (unless_meant (limit_passed (tokens_of all (meant all)) (nonterminals items) (kept items)) (Ok (file_of all (meant all))) e (limit_found (tokens_of all (meant all)) (nonterminals items) (kept items)) (ok_meant (file_of all (meant all)) e))
 
-    undefined_found : (o : Option ℕ) → IsFound (option_map Undefined o)
-    undefined_found None = tt
-    undefined_found (Some at) = tt
-
--- what is given for the items of a plain file is the answer
-pub answers_from : (bytes : List ℕ) (ps : List Placed) (r : Result File YaccError) → IsPlain bytes ps → IsGiven r (outcome ps) → Answers bytes r
+-- what is given for the items of a file is the answer
+pub answers_from : (bytes : List ℕ) (ps : List Placed) (r : Result File YaccError) → Reads bytes ps → IsTaken (items_of ps) → IsGiven r (outcome ps) → Answers bytes r
 unfolding IsYaccFile Refuses
-answers_from bytes ps (Ok f) p g = record { items = ps; plain = p; is = g }
-answers_from bytes ps (Err NotYet) p g = absurd (no_not_yet (fault_of ps) (file_of (items_of ps)) (fault_found ps) g)
-answers_from bytes ps (Err (Undefined at)) p g = record { items = ps; plain = p; is = g }
-answers_from bytes ps (Err (Limit which found most)) p g = record { items = ps; plain = p; is = g }
-answers_from bytes ps (Err Memory) p g = tt
+answers_from bytes ps (Ok f) p t g = record { items = ps; read = p; taken = t; is = g }
+answers_from bytes ps (Err (BadItem at)) p t g = absurd (outcome_meant ps (BadItem at) g)
+answers_from bytes ps (Err (Unended at)) p t g = absurd (outcome_meant ps (Unended at) g)
+answers_from bytes ps (Err (UnknownDirective at)) p t g = absurd (outcome_meant ps (UnknownDirective at) g)
+answers_from bytes ps (Err (Syntax at)) p t g = absurd (outcome_meant ps (Syntax at) g)
+answers_from bytes ps (Err (SecondStart at)) p t g = record { items = ps; read = p; taken = t; is = g }
+answers_from bytes ps (Err (TokenOnLeft at)) p t g = record { items = ps; read = p; taken = t; is = g }
+answers_from bytes ps (Err (Undefined at)) p t g = record { items = ps; read = p; taken = t; is = g }
+answers_from bytes ps (Err (StartNotNonterminal at)) p t g = record { items = ps; read = p; taken = t; is = g }
+answers_from bytes ps (Err (Limit which found most)) p t g = record { items = ps; read = p; taken = t; is = g }
+answers_from bytes ps (Err Memory) p t g = tt
 
 -- so is an error of reading the items
 pub answers_err : (bytes : List ℕ) (e : YaccError) → AnswersItems bytes (Err e) → Answers bytes (Err e)
 unfolding Refuses
-answers_err bytes NotYet h = h
+answers_err bytes (BadItem at) h = h
+answers_err bytes (Unended at) h = h
+answers_err bytes (UnknownDirective at) h = h
+answers_err bytes (Syntax at) h = absurd h
+answers_err bytes (SecondStart at) h = absurd h
+answers_err bytes (TokenOnLeft at) h = absurd h
 answers_err bytes (Undefined at) h = absurd h
+answers_err bytes (StartNotNonterminal at) h = absurd h
 answers_err bytes (Limit which found most) h = absurd h
 answers_err bytes Memory h = tt
+
+-- and an item that the table doesn't take
+pub answers_stuck : (bytes : List ℕ) (ps : List Placed) (at : ℕ) → Reads bytes ps → IsStuck (length bytes) ps at → Answers bytes (Err (Syntax at))
+unfolding Refuses
+answers_stuck bytes ps at r s = (ps, r, s)
+
+pub stuck_answers : (bytes : List ℕ) (ps qs : List Placed) (n at : ℕ) → Reads bytes ps → qs ≡ ps → n ≡ length bytes → Some at ≡ stuck_at declarations n qs → Answers bytes (Err (Syntax at))
+stuck_answers bytes ps qs n at r e f s = answers_stuck bytes ps at r (stuck_from_some (length bytes) ps at (rw (e, f) at s))
+
+pub taken_items : (bytes : List ℕ) (ps qs : List Placed) (n : ℕ) → qs ≡ ps → None ≡ stuck_at declarations n qs → IsTaken (items_of ps)
+taken_items bytes ps qs n e s = rw (← e) (taken_from_none n qs s)

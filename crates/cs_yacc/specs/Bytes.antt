@@ -1,9 +1,14 @@
 -- Kinds of bytes in a yacc file (POSIX yacc, the grammar file).
-use Rattle.std.specs.Prelude.{ℕ, Bool, ◌==◌, nat_le, ◌&&◌, ◌||◌}
+use Rattle.std.specs.Prelude.{ℕ, Bool, false, ◌==◌, nat_le, ◌&&◌, ◌||◌, List, [], ◌∷◌}
 
 -- space, tab, newline, vertical tab, form feed, carriage return
 abbrev pub is_blank : ℕ → Bool
 is_blank b = (b == 32) || (nat_le 9 b && nat_le b 13)
+
+-- the text begins with a blank
+abbrev pub begins_blank : List ℕ → Bool
+begins_blank [] = false
+begins_blank (b ∷ text) = is_blank b
 
 abbrev pub is_letter : ℕ → Bool
 is_letter b = (nat_le 65 b && nat_le b 90) || (nat_le 97 b && nat_le b 122)
@@ -23,6 +28,6 @@ is_name_byte b = begins_name b || is_digit b
 abbrev pub is_word_byte : ℕ → Bool
 is_word_byte b = is_letter b || is_digit b || (b == 95) || (b == 45)
 
--- what stands plain between quotes: `!` to `~`, but for the quote and the backslash
-abbrev pub is_plain_byte : ℕ → Bool
-is_plain_byte b = nat_le 33 b && nat_le b 38 || nat_le 40 b && nat_le b 91 || nat_le 93 b && nat_le b 126
+-- `>` or newline: what closes a tag, and what leaves it open
+abbrev pub ends_tag : ℕ → Bool
+ends_tag b = (b == 62) || (b == 10)

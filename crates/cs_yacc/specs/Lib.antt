@@ -1,4 +1,5 @@
 pub mod Bytes
+pub mod Directives
 pub mod Items
 pub mod Table
 pub mod File

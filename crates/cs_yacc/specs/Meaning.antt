@@ -1,5 +1,5 @@
 -- What the items of a yacc file mean (POSIX yacc, the grammar file).
-use Rattle.std.specs.Prelude.{◌≡◌, ℕ, suc, Bool, true, false, ◌==◌, ◌&&◌, not, if◌then◌else◌, List, [], ◌∷◌, ◌++◌, length, map, filter, Option, Some, None, option_map, Result, Ok, Err, nat_lt, codes}
+use Rattle.std.specs.Prelude.{ℕ, suc, Bool, true, false, ◌==◌, ◌&&◌, not, if◌then◌else◌, List, [], ◌∷◌, ◌++◌, length, map, take, filter, Option, Some, None, option_map, Result, Ok, Err, nat_lt, codes}
 use Rattle.std.specs.List.{list_any, position_or_len, flat_map}
 use Rattle.std.specs.Str.{bytes_eq}
 use Rattle.cs_grammar.specs.declared.TheConstants.{MOST_TOKENS, MOST_NONTERMINALS, MOST_RULES, MOST_SYMBOLS}
@@ -11,18 +11,20 @@ use Rattle.cs_yacc.specs.declared.name.TokenName.TheVariants.{Word, Byte}
 use Rattle.cs_yacc.specs.declared.error.YaccLimit.{YaccLimit}
 use Rattle.cs_yacc.specs.declared.error.YaccLimit.TheVariants.{Tokens, Nonterminals, Rules, RightSide}
 use Rattle.cs_yacc.specs.declared.error.YaccError.{YaccError}
-use Rattle.cs_yacc.specs.declared.error.YaccError.TheVariants.{Undefined, Limit}
-use Rattle.cs_yacc.specs.Items.{Item, mark, token, name, literal, colon, bar, Placed, items_of, Reads}
-use Rattle.cs_yacc.specs.Table.{IsTaken}
+use Rattle.cs_yacc.specs.declared.error.YaccError.TheVariants.{SecondStart, TokenOnLeft, Undefined, StartNotNonterminal, Limit}
+use Rattle.cs_yacc.specs.declared.directive.Directive.{Directive}
+use Rattle.cs_yacc.specs.declared.directive.Directive.TheVariants as directives
+use Rattle.cs_yacc.specs.Items.{Item, mark, directive, name, literal, number, tag, block, colon, bar, comma, Placed, items_of}
 use Rattle.cs_yacc.specs.File.{File}
 
 abbrev pub or_else : {A : Type 0} → Option A → Option A → Option A
 or_else None o = o
 or_else (Some x) o = Some x
 
-abbrev pub err_or : {A E : Type 0} → Option E → A → Result A E
-err_or None x = Ok x
-err_or (Some e) x = Err e
+-- the error, where there is one
+abbrev pub unless : {A E : Type 0} → Option E → Result A E → Result A E
+unless None r = r
+unless (Some e) r = Err e
 
 -- ---- words: a name, or a byte between quotes. Two spellings of one byte are one word.
 
@@ -79,20 +81,83 @@ abbrev pub behind_mark : List Placed → List Placed
 behind_mark [] = []
 behind_mark (p ∷ ps) = if is_mark p.item then ps else behind_mark ps
 
+abbrev pub is_start : Item → List Item → Bool
+is_start (directive directives.Start) items = true
+is_start i items = false
+
+-- the items behind the first `%start`
+abbrev pub behind_start : List Placed → List Placed
+behind_start [] = []
+behind_start (p ∷ ps) = if is_start p.item (items_of ps) then ps else behind_start ps
+
+-- the item behind the first `%start`, which names the start symbol
+abbrev pub start_item : List Placed → List Placed
+start_item ps = take 1 (behind_start ps)
+
+-- ---- items with a meaning
+
+abbrev pub is_prec : Item → Bool
+is_prec (directive directives.Prec) = true
+is_prec i = false
+
+-- an item that has no meaning: `%empty`, a block, a tag, a number, a comma; `%prec` has one for the symbol behind it alone
+abbrev pub is_idle : Item → Bool
+is_idle (directive directives.Prec) = true
+is_idle (directive directives.Empty) = true
+is_idle block = true
+is_idle tag = true
+is_idle number = true
+is_idle comma = true
+is_idle i = false
+
+-- the item, unless it has no meaning; the flag says whether `%prec` stands directly before, and then it has none
+abbrev pub meant_one : Bool → Placed → List Placed
+meant_one behind_prec p = if not behind_prec && not (is_idle p.item) then p ∷ [] else []
+
+-- whether the next item is the symbol of this `%prec`
+abbrev pub opens_prec : Bool → Item → Bool
+opens_prec behind_prec i = not behind_prec && is_prec i
+
+-- the items with a meaning
+abbrev pub meant_behind : Bool → List Placed → List Placed
+meant_behind behind_prec [] = []
+meant_behind behind_prec (p ∷ ps) = meant_one behind_prec p ++ meant_behind (opens_prec behind_prec p.item) ps
+
+abbrev pub meant : List Placed → List Placed
+meant ps = meant_behind false ps
+
 -- ---- declarations
 
--- the names of the list that begins here
+-- the names of the list that begins here; literals may stand between them
 abbrev pub listed : List Item → List TokenName
 listed (name n ∷ items) = Word n ∷ listed items
+listed (literal b ∷ items) = listed items
 listed items = []
+
+-- whether the directive declares the names of its list; `%type` doesn't
+abbrev pub declares : Directive → Bool
+declares directives.Token = true
+declares directives.Left = true
+declares directives.Right = true
+declares directives.Nonassoc = true
+declares directives.Precedence = true
+declares d = false
 
 -- a list word declares the names of its list
 abbrev pub declared_at : Item → List Item → List TokenName
-declared_at token items = listed items
+declared_at (directive d) items = if declares d then listed items else []
 declared_at i items = []
 
 abbrev pub declared : List Item → List TokenName
 declared = from_each declared_at
+
+-- the name `error`, which is always declared
+abbrev pub error_word : TokenName
+error_word = Word (codes "error")
+
+-- the declared tokens, each once
+abbrev pub declared_tokens : List Item → List TokenName
+declared_tokens items = distinct (error_word ∷ declared items)
 
 -- ---- rules
 
@@ -135,26 +200,33 @@ rules_at i items = []
 abbrev pub rules : List Item → List SpelledRule
 rules = from_each rules_at
 
+-- a rule is kept unless its body holds `error`
+abbrev pub is_kept : SpelledRule → Bool
+is_kept r = not (has_word r.right error_word)
+
+abbrev pub kept : List Item → List SpelledRule
+kept items = filter is_kept (rules items)
+
 -- ---- numbers
 
 -- the nonterminals, in the order of their first left sides
 abbrev pub nonterminals : List Item → List TokenName
 nonterminals items = distinct (left_sides items)
 
--- the words of the rules' right sides
-abbrev pub used : List Item → List TokenName
-used items = flat_map (λ r. r.right) (rules items)
+-- the words of the rules' right sides, each once
+abbrev pub used : List SpelledRule → List TokenName
+used rules = distinct (flat_map (λ r. r.right) rules)
 
 -- a token in use stands in a rule, and is no left side
-abbrev pub is_in_use : List Item → TokenName → Bool
-is_in_use items w = has_word (used items) w && not (has_word (left_sides items) w)
+abbrev pub is_in_use : List TokenName → List TokenName → TokenName → Bool
+is_in_use used lefts w = has_word used w && not (has_word lefts w)
 
 abbrev pub spelled : List Item → List TokenName
 spelled = from_each (λ i items. word_at i)
 
 -- the tokens in use, in the order of the first items that spell them
-abbrev pub tokens : List Item → List TokenName
-tokens items = distinct (filter (is_in_use items) (spelled items))
+abbrev pub tokens : List TokenName → List TokenName → List Item → List TokenName
+tokens used lefts items = distinct (filter (is_in_use used lefts) (spelled items))
 
 -- the symbol that a word stands for, where these are the tokens and the nonterminals
 abbrev pub symbol_of : List TokenName → List TokenName → TokenName → Symbol
@@ -163,23 +235,33 @@ symbol_of tokens nonterminals w = if has_word nonterminals w then Nonterminal (n
 abbrev pub numbered : List TokenName → List TokenName → SpelledRule → Production
 numbered tokens nonterminals r = record { left = number_of nonterminals r.left; right = map (symbol_of tokens nonterminals) r.right }
 
--- the file of these tokens, nonterminals and rules: the start symbol is the first nonterminal
-abbrev pub file_with : List TokenName → List TokenName → List SpelledRule → File
-file_with tokens nonterminals rules = record {
-  grammar = record { tokens = length tokens; nonterminals = length nonterminals; start = 1; rules = map (numbered tokens nonterminals) rules };
+-- the number of the first word, or 1
+abbrev pub number_or_first : List TokenName → List TokenName → ℕ
+number_or_first lefts [] = 1
+number_or_first lefts (w ∷ ws) = number_of lefts w
+
+-- the start symbol: what the item behind `%start` names, or the first left side
+abbrev pub start_of : List TokenName → List Placed → ℕ
+start_of lefts [] = 1
+start_of lefts (p ∷ ps) = number_or_first lefts (word_at p.item)
+
+-- the file of these tokens, nonterminals and rules, with the item that names the start symbol
+abbrev pub file_with : List TokenName → List TokenName → List Placed → List SpelledRule → File
+file_with tokens nonterminals start rules = record {
+  grammar = record { tokens = length tokens; nonterminals = length nonterminals; start = start_of nonterminals start; rules = map (numbered tokens nonterminals) rules };
   token_names = tokens;
   nonterminal_names = map bytes_of nonterminals;
 }
 
--- what the items mean
-abbrev pub file_of : List Item → File
-file_of items = file_with (tokens items) (nonterminals items) (rules items)
+-- the tokens of all items, where these have a meaning
+abbrev pub tokens_of : List Placed → List Placed → List TokenName
+tokens_of all items = tokens (used (kept (items_of items))) (nonterminals (items_of items)) (items_of all)
+
+-- what all items mean, where these have a meaning
+abbrev pub file_of : List Placed → List Placed → File
+file_of all items = file_with (tokens_of all items) (nonterminals (items_of items)) (start_item all) (kept (items_of items))
 
 -- ---- refusals
-
--- the name `error`
-abbrev pub is_error : Item → List Item → Bool
-is_error i items = has_word (word_at i) (Word (codes "error"))
 
 -- a left side that is a declared token
 abbrev pub is_token_on_left : List TokenName → Item → List Item → Bool
@@ -190,9 +272,23 @@ abbrev pub is_undefined : List TokenName → List TokenName → Item → List It
 is_undefined declared lefts (name n) items = not (has_word declared (Word n)) && not (has_word lefts (Word n))
 is_undefined declared lefts i items = false
 
--- the offset of the first name of a body that is neither a token nor a left side
-abbrev pub undefined_at : List Placed → Option ℕ
-undefined_at ps = first_at (is_undefined (declared (items_of ps)) (left_sides (items_of ps))) (behind_mark ps)
+-- an item that names no left side
+abbrev pub is_no_left : List TokenName → Item → Bool
+is_no_left lefts i = not (list_any (has_word lefts) (word_at i))
+
+-- the offset of the item that names the start symbol, where it names no left side
+abbrev pub wrong_start : List TokenName → List Placed → Option ℕ
+wrong_start lefts [] = None
+wrong_start lefts (p ∷ ps) = if is_no_left lefts p.item then Some p.at else None
+
+-- The first fault of names: a second `%start`; a left side that is a declared token; a name of a body that is neither a
+-- token nor a left side; a start symbol that is no left side.
+abbrev pub name_fault : List Placed → List Placed → List TokenName → List TokenName → Option YaccError
+name_fault all items declared lefts =
+    or_else (option_map SecondStart (first_at is_start (behind_start all)))
+    (or_else (option_map TokenOnLeft (first_at (is_token_on_left declared) items))
+    (or_else (option_map Undefined (first_at (is_undefined declared lefts) (behind_mark items)))
+    (option_map StartNotNonterminal (wrong_start lefts (start_item all)))))
 
 abbrev pub above : YaccLimit → ℕ → ℕ → Option YaccError
 above which found most = if nat_lt most found then Some (Limit which found most) else None
@@ -210,23 +306,14 @@ limit_passed tokens nonterminals rules =
     (or_else (above Rules (length rules) MOST_RULES)
     (long_right rules)))
 
--- the first fault of a plain file
-abbrev pub fault_of : List Placed → Option YaccError
-fault_of ps = or_else (option_map Undefined (undefined_at ps)) (limit_passed (tokens (items_of ps)) (nonterminals (items_of ps)) (rules (items_of ps)))
+-- what all items give where no name is at fault and these have a meaning
+abbrev pub numbered_file : List Placed → List Placed → Result File YaccError
+numbered_file all items = unless (limit_passed (tokens_of all items) (nonterminals (items_of items)) (kept (items_of items))) (Ok (file_of all items))
 
--- what a plain file gives
+-- what all items give, where these have a meaning
+abbrev pub outcome_with : List Placed → List Placed → Result File YaccError
+outcome_with all items = unless (name_fault all items (declared_tokens (items_of items)) (nonterminals (items_of items))) (numbered_file all items)
+
+-- what the items of a file give: what they mean, or the first fault
 abbrev pub outcome : List Placed → Result File YaccError
-outcome ps = err_or (fault_of ps) (file_of (items_of ps))
-
--- ---- plain files
-
--- The items are those of a plain file: the table takes them, none is the name `error`, and no left side is declared.
-pub record ArePlain (ps : List Placed) : Type 0 where
-  pub taken : IsTaken (items_of ps)
-  pub no_error : first_at is_error ps ≡ None
-  pub no_token_on_left : first_at (is_token_on_left (declared (items_of ps))) ps ≡ None
-
--- The bytes are a plain file of these items.
-pub record IsPlain (bytes : List ℕ) (ps : List Placed) : Type 0 where
-  pub read : Reads bytes ps
-  pub plain : ArePlain ps
+outcome ps = outcome_with ps (meant ps)

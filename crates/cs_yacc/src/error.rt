@@ -17,12 +17,44 @@ pub enum YaccLimit {
 /// Why a file is refused. Offsets are in bytes, from 0. The first error that fits is given.
 #[derive(Clone, Copy, Debug, PartialEq, Eq, Error)]
 pub enum YaccError {
-    /// The bytes are no plain file.
-    #[error("not a plain file")]
-    NotYet,
+    /// No item begins at `at`, where reading stops.
+    #[error("no item at {at}")]
+    BadItem {
+        at: u32,
+    },
+    /// The comment, prologue or block that begins at `at` isn't closed.
+    #[error("open at {at}")]
+    Unended {
+        at: u32,
+    },
+    /// The directive at `at` has a word that isn't known.
+    #[error("unknown directive at {at}")]
+    UnknownDirective {
+        at: u32,
+    },
+    /// The item at `at` may not come there; or the file may not end, and `at` is its length.
+    #[error("syntax at {at}")]
+    Syntax {
+        at: u32,
+    },
+    /// The second `%start` stands at `at`.
+    #[error("second start at {at}")]
+    SecondStart {
+        at: u32,
+    },
+    /// The first left side that is a declared token or `error` stands at `at`.
+    #[error("token on the left at {at}")]
+    TokenOnLeft {
+        at: u32,
+    },
     /// The first name of a body that is neither token nor left side stands at `at`.
     #[error("undefined name at {at}")]
     Undefined {
+        at: u32,
+    },
+    /// The name behind `%start`, at `at`, is no left side.
+    #[error("start symbol without rules at {at}")]
+    StartNotNonterminal {
         at: u32,
     },
     /// The number found is above the most. The limits are tried in the order of `YaccLimit`.

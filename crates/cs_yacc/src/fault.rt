@@ -1,14 +1,17 @@
 // The first faults of the items.
 
 ghost use Rattle.std.specs.Prelude.{◌≡◌, ◌≤◌, length};
+ghost use Rattle.std.specs.Option.{option_to_list};
 ghost use Rattle.cs_yacc.specs.Items.{items_of};
 ghost use Rattle.cs_yacc.specs.Meaning as spec;
 ghost use Rattle.cs_yacc.specs.Views.{item_of, placed_all};
 ghost use Rattle.cs_yacc.specs.WordView.{word_of, words_of};
 
+use crate::directive::Directive;
+use crate::error::YaccError;
 use crate::gather::{behind, left_at};
 use crate::item::{Item, Placed};
-use crate::word::{Word, has};
+use crate::word::{Word, has, word_at};
 use indexmap::IndexSet;
 
 /// The items behind the first mark.
@@ -23,21 +26,41 @@ pub fn behind_mark<'i, 'a>(items: &'i [Placed<'a>]) -> &'i [Placed<'a>]
     &items[items.len()..]
 }
 
-fn is_error(item: Item<'_>, _behind: &[Placed<'_>]) -> bool
-    ensures { result ≡ spec.is_error (item_of item.entry) (items_of (placed_all _behind.now)) }
+fn is_start(item: Item<'_>, _behind: &[Placed<'_>]) -> bool
+    ensures { result ≡ spec.is_start (item_of item.entry) (items_of (placed_all _behind.now)) }
 {
-    match item {
-        Item::Name(name) => name == b"error".as_slice(),
-        _ => false,
+    matches!(item, Item::Directive(Directive::Start))
+}
+
+/// The items behind the first `%start`.
+fn behind_start<'i, 'a>(items: &'i [Placed<'a>]) -> &'i [Placed<'a>]
+    ensures { placed_all result.now ≡ spec.behind_start (placed_all items.now) }
+{
+    for (index, placed) in items.iter().enumerate() {
+        let after = behind(items, index);
+        if is_start(placed.item, after) {
+            return after;
+        }
+    }
+    &items[items.len()..]
+}
+
+/// The item that names the start symbol.
+pub fn start_item<'a>(items: &[Placed<'a>]) -> Option<Placed<'a>>
+    ensures { placed_all (option_to_list result) ≡ spec.start_item (placed_all items.now) }
+{
+    match behind_start(items).split_first() {
+        Some((first, _)) => Some(*first),
+        None => None,
     }
 }
 
-/// The offset of the first name `error`.
-pub fn first_error(items: &[Placed<'_>]) -> Option<u32>
-    ensures { result ≡ spec.first_at spec.is_error (placed_all items.now) }
+/// The offset of the first `%start`.
+fn first_start(items: &[Placed<'_>]) -> Option<u32>
+    ensures { result ≡ spec.first_at spec.is_start (placed_all items.now) }
 {
     for (index, placed) in items.iter().enumerate() {
-        if is_error(placed.item, behind(items, index)) {
+        if is_start(placed.item, behind(items, index)) {
             return Some(placed.at);
         }
     }
@@ -54,7 +77,7 @@ fn is_token_on_left(declared: &IndexSet<Word<'_>>, item: Item<'_>, behind: &[Pla
 }
 
 /// The offset of the first left side that is declared.
-pub fn first_token_on_left(items: &[Placed<'_>], declared: &IndexSet<Word<'_>>) -> Option<u32>
+fn first_token_on_left(items: &[Placed<'_>], declared: &IndexSet<Word<'_>>) -> Option<u32>
     ensures { result ≡ spec.first_at (spec.is_token_on_left (words_of declared.now.keys)) (placed_all items.now) }
 {
     for (index, placed) in items.iter().enumerate() {
@@ -80,7 +103,7 @@ fn is_undefined(
 }
 
 /// The offset of the first name that is neither declared nor a left side.
-pub fn first_undefined(
+fn first_undefined(
     items: &[Placed<'_>],
     declared: &IndexSet<Word<'_>>,
     lefts: &IndexSet<Word<'_>>,
@@ -93,4 +116,47 @@ pub fn first_undefined(
         }
     }
     None
+}
+
+fn is_no_left(lefts: &IndexSet<Word<'_>>, item: Item<'_>) -> bool
+    ensures { result ≡ spec.is_no_left (words_of lefts.now.keys) (item_of item.entry) }
+{
+    match word_at(item) {
+        Some(word) => !has(lefts, word),
+        None => true,
+    }
+}
+
+/// The offset of the name behind `%start`, where it is no left side.
+fn wrong_start(items: &[Placed<'_>], lefts: &IndexSet<Word<'_>>) -> Option<u32>
+    ensures { result ≡ spec.wrong_start (words_of lefts.now.keys) (spec.start_item (placed_all items.now)) }
+{
+    match start_item(items) {
+        Some(placed) if is_no_left(lefts, placed.item) => Some(placed.at),
+        _ => None,
+    }
+}
+
+/// The first fault that lies in names.
+pub fn name_fault(
+    all: &[Placed<'_>],
+    items: &[Placed<'_>],
+    declared: &IndexSet<Word<'_>>,
+    lefts: &IndexSet<Word<'_>>,
+) -> Option<YaccError>
+    ensures { result ≡ spec.name_fault (placed_all all.now) (placed_all items.now) (words_of declared.now.keys) (words_of lefts.now.keys) }
+{
+    if let Some(at) = first_start(behind_start(all)) {
+        return Some(YaccError::SecondStart { at });
+    }
+    if let Some(at) = first_token_on_left(items, declared) {
+        return Some(YaccError::TokenOnLeft { at });
+    }
+    if let Some(at) = first_undefined(behind_mark(items), declared, lefts) {
+        return Some(YaccError::Undefined { at });
+    }
+    match wrong_start(all, lefts) {
+        Some(at) => Some(YaccError::StartNotNonterminal { at }),
+        None => None,
+    }
 }

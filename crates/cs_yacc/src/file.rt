@@ -1,6 +1,6 @@
 // What a yacc file says.
 
-ghost use Rattle.std.specs.Prelude.{◌≡◌};
+ghost use Rattle.std.specs.Prelude.{◌≡◌, ◌≢◌, ◌↔◌, ◌<◌, ◌-◌, ℕ, Some, IsTrue, IfSome, IfNone, slice_get};
 ghost use Rattle.cs_yacc.specs.File.{IsFile};
 
 use crate::name::{Name, TokenName};
@@ -81,5 +81,49 @@ impl YaccFile {
         ensures named { IsFile self.now }
     {
         &self.nonterminal_names
+    }
+
+    /// The token in use of the name; `None` where no token in use has it.
+    pub fn token(&self, name: &[u8]) -> Option<u16>
+        ensures found { IfSome result (λ t. (0 < t) × (slice_get self.now.token_names (t - 1) ≡ Some (TokenName.Word name.now))) }
+        ensures none { IfNone result ((k : ℕ) → slice_get self.now.token_names k ≢ Some (TokenName.Word name.now)) }
+    {
+        for (index, token) in self.token_names.iter().enumerate() {
+            if is_word(token, name) {
+                return Some(index as u16 + 1);
+            }
+        }
+        None
+    }
+
+    /// The token in use of the literal; `None` where no token in use has it.
+    pub fn literal(&self, byte: u8) -> Option<u16>
+        ensures found { IfSome result (λ t. (0 < t) × (slice_get self.now.token_names (t - 1) ≡ Some (TokenName.Byte byte))) }
+        ensures none { IfNone result ((k : ℕ) → slice_get self.now.token_names k ≢ Some (TokenName.Byte byte)) }
+    {
+        for (index, token) in self.token_names.iter().enumerate() {
+            if is_byte(token, byte) {
+                return Some(index as u16 + 1);
+            }
+        }
+        None
+    }
+}
+
+fn is_word(token: &TokenName, name: &[u8]) -> bool
+    ensures { IsTrue result ↔ (token.now ≡ TokenName.Word name.now) }
+{
+    match token {
+        TokenName::Word(word) => word.bytes() == name,
+        TokenName::Byte(_) => false,
+    }
+}
+
+fn is_byte(token: &TokenName, byte: u8) -> bool
+    ensures { IsTrue result ↔ (token.now ≡ TokenName.Byte byte) }
+{
+    match token {
+        TokenName::Word(_) => false,
+        TokenName::Byte(own) => *own == byte,
     }
 }

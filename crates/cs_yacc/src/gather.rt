@@ -2,16 +2,16 @@
 
 ghost use Rattle.std.specs.Prelude.{◌≡◌, ◌&&◌, not, filter, ◌+◌, ◌<◌, IfOk, OnOk, map, length, drop};
 ghost use Rattle.indexmap.specs.IndexSet.{insert_all};
-ghost use Rattle.std.specs.List.{flat_map};
 ghost use Rattle.cs_yacc.specs.RuleView.{spelled_rules};
 ghost use Rattle.cs_yacc.specs.Items.{items_of};
 ghost use Rattle.cs_yacc.specs.Meaning as spec;
 ghost use Rattle.cs_yacc.specs.Views.{item_of, placed_all};
 ghost use Rattle.cs_yacc.specs.WordView.{words_of, words_in};
 
+use crate::directive::Directive;
 use crate::item::{Item, Placed};
 use crate::spelled::SpelledRule;
-use crate::word::{Word, add, add_some, has};
+use crate::word::{Word, add, add_some, has, word_at};
 use indexmap::IndexSet;
 use std::alloc::{AllocError, Global};
 
@@ -60,10 +60,11 @@ fn add_listed<'a>(words: &mut IndexSet<Word<'a>>, items: &[Placed<'a>]) -> Resul
     ensures { OnOk result (words_of words.new.keys ≡ insert_all spec.same_word (words_of words.old.keys) (spec.listed (items_of (placed_all items.now)))) }
 {
     for placed in items {
-        let Item::Name(name) = placed.item else {
-            return Ok(());
-        };
-        add(words, Word::Named(name))?;
+        match placed.item {
+            Item::Name(name) => add(words, Word::Named(name))?,
+            Item::Literal(_) => {}
+            _ => return Ok(()),
+        }
     }
     Ok(())
 }
@@ -76,16 +77,23 @@ fn add_declared<'a>(
     ensures { OnOk result (words_of words.new.keys ≡ insert_all spec.same_word (words_of words.old.keys) (spec.declared_at (item_of item.entry) (items_of (placed_all behind.now)))) }
 {
     match item {
-        Item::Token => add_listed(words, behind),
+        Item::Directive(
+            Directive::Token
+            | Directive::Left
+            | Directive::Right
+            | Directive::Nonassoc
+            | Directive::Precedence,
+        ) => add_listed(words, behind),
         _ => Ok(()),
     }
 }
 
-/// The declared tokens, each once.
+/// The declared tokens and `error`, each once.
 pub fn declared<'a>(alloc: Global, items: &[Placed<'a>]) -> Result<IndexSet<Word<'a>>, AllocError>
-    ensures { IfOk result (λ s. words_of s.keys ≡ spec.distinct (spec.declared (items_of (placed_all items.now)))) }
+    ensures { IfOk result (λ s. words_of s.keys ≡ spec.declared_tokens (items_of (placed_all items.now))) }
 {
     let mut words = IndexSet::new(alloc);
+    add(&mut words, Word::Named(b"error"))?;
     for (index, placed) in items.iter().enumerate() {
         add_declared(&mut words, placed.item, behind(items, index))?;
     }
@@ -103,7 +111,7 @@ fn add_all<'a>(words: &mut IndexSet<Word<'a>>, right: &[Word<'a>]) -> Result<(),
 
 /// The words of the rules' right sides, each once.
 pub fn used<'a>(alloc: Global, rules: &[SpelledRule<'a>]) -> Result<IndexSet<Word<'a>>, AllocError>
-    ensures { IfOk result (λ s. words_of s.keys ≡ spec.distinct (flat_map (λ r. r.right) (spelled_rules rules.now))) }
+    ensures { IfOk result (λ s. words_of s.keys ≡ spec.used (spelled_rules rules.now)) }
 {
     let mut words = IndexSet::new(alloc);
     for rule in rules {
@@ -117,13 +125,9 @@ fn token_at<'a>(
     used: &IndexSet<Word<'a>>,
     lefts: &IndexSet<Word<'a>>,
 ) -> Option<Word<'a>>
-    ensures { words_in result ≡ filter (λ w. spec.has_word (words_of used.now.keys) w && not (spec.has_word (words_of lefts.now.keys) w)) (spec.word_at (item_of item.entry)) }
+    ensures { words_in result ≡ filter (spec.is_in_use (words_of used.now.keys) (words_of lefts.now.keys)) (spec.word_at (item_of item.entry)) }
 {
-    let word = match item {
-        Item::Name(name) => Word::Named(name),
-        Item::Literal(byte) => Word::Quoted(byte),
-        _ => return None,
-    };
+    let word = word_at(item)?;
     if has(used, word) && !has(lefts, word) {
         Some(word)
     } else {
@@ -138,9 +142,7 @@ pub fn tokens<'a>(
     used: &IndexSet<Word<'a>>,
     lefts: &IndexSet<Word<'a>>,
 ) -> Result<IndexSet<Word<'a>>, AllocError>
-    requires used { words_of used.now.keys ≡ spec.distinct (spec.used (items_of (placed_all items.now))) }
-    requires lefts { words_of lefts.now.keys ≡ spec.nonterminals (items_of (placed_all items.now)) }
-    ensures { IfOk result (λ s. words_of s.keys ≡ spec.tokens (items_of (placed_all items.now))) }
+    ensures { IfOk result (λ s. words_of s.keys ≡ spec.tokens (words_of used.now.keys) (words_of lefts.now.keys) (items_of (placed_all items.now))) }
 {
     let mut words = IndexSet::new(alloc);
     for placed in items {

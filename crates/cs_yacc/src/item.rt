@@ -1,25 +1,34 @@
 // The items of a yacc file.
 
-ghost use Rattle.std.specs.Prelude.{MatchResult, IsOkAnd, ◌≡◌, ◌↔◌, Some, ◌∷◌, ◌+◌, ◌≤◌, ℕ, List, length, drop, take, IfSome, IfNone, IfOk, MatchOption, IsSomeAnd, IsTrue, slice_get};
-ghost use Rattle.std.specs.List.{prefix_len};
+ghost use Rattle.std.specs.Prelude.{◌≡◌, ◌<◌, ℕ, suc, true, false, length, drop, IfSome, IfNone, IsTrue, IsSomeAnd, slice_get, Some};
+ghost use Rattle.std.specs.List.{prefix_len, position_or_len};
+ghost use Rattle.cs_ctext.specs.Comments.{IsComment, OpensComment};
+ghost use Rattle.cs_ctext.specs.Scans as scans;
 ghost use Rattle.cs_yacc.specs.Bytes as kinds;
 ghost use Rattle.cs_yacc.specs.Items as spec;
-ghost use Rattle.cs_yacc.specs.Views.{item_of, placed_all, FindsItem, IsNext};
+ghost use Rattle.cs_yacc.specs.Views.{item_of, FindsFront};
 
-use crate::MOST_BYTES;
-use crate::bytes::{begins_name, is_blank, is_name_byte, is_plain_byte, is_word_byte};
-use std::alloc::{AllocError, Global};
+use crate::bytes::{
+    begins_name, ends_tag, from_offset, has_at, has_pair, is_digit, is_name_byte, is_word_byte,
+};
+use crate::directive::{Directive, directive_of};
+use cs_ctext::{opens_comment, read_literal, skip_block};
 
 /// A piece of a yacc file.
 #[derive(Clone, Copy, Debug)]
 pub enum Item<'a> {
     Mark,
-    Token,
+    Prologue,
+    Directive(Directive),
     Name(&'a [u8]),
     Literal(u8),
+    Number,
+    Tag,
+    Block,
     Colon,
     Semicolon,
     Bar,
+    Comma,
 }
 
 /// An item, and the offset of its first byte.
@@ -29,16 +38,22 @@ pub struct Placed<'a> {
     pub item: Item<'a>,
 }
 
+/// What stands at the front of a text.
+#[derive(Clone, Copy, Debug)]
+pub enum Front<'a> {
+    /// An item of this size.
+    Item(Item<'a>, usize),
+    /// A comment, prologue or block that isn't closed.
+    Open,
+    /// A directive of an unknown word.
+    Unknown,
+    Nothing,
+}
+
 fn name_len(text: &[u8]) -> usize
     ensures { result ≡ prefix_len kinds.is_name_byte text.now }
 {
     text.iter().take_while(|b| is_name_byte(**b)).count()
-}
-
-fn blank_len(text: &[u8]) -> usize
-    ensures { result ≡ prefix_len kinds.is_blank text.now }
-{
-    text.iter().take_while(|b| is_blank(**b)).count()
 }
 
 fn word_len(text: &[u8]) -> usize
@@ -47,135 +62,158 @@ fn word_len(text: &[u8]) -> usize
     text.iter().take_while(|b| is_word_byte(**b)).count()
 }
 
-/// Whether the byte stands at the index.
-fn has_at(text: &[u8], index: usize, byte: u8) -> bool
-    ensures { IsTrue result ↔ (slice_get text.now index ≡ Some byte) }
+fn digits_len(text: &[u8]) -> usize
+    ensures { result ≡ prefix_len kinds.is_digit text.now }
 {
-    text.get(index).copied() == Some(byte)
+    text.iter().take_while(|b| is_digit(**b)).count()
+}
+
+/// The offset of the first `>` or newline, or the length.
+fn tag_len(text: &[u8]) -> usize
+    ensures { result ≡ position_or_len kinds.ends_tag text.now }
+{
+    text.iter().take_while(|b| !ends_tag(**b)).count()
+}
+
+/// The offset of the first `%}`.
+fn closing_at(text: &[u8]) -> Option<usize>
+    ensures found { IfSome result (λ i. scans.begins_with_two 37 125 (drop i text.now) ≡ true) }
+    ensures first { IfSome result (λ i. (k : ℕ) → k < i → scans.begins_with_two 37 125 (drop k text.now) ≡ false) }
+    ensures none { IfNone result ((k : ℕ) → scans.begins_with_two 37 125 (drop k text.now) ≡ false) }
+{
+    for index in 0..text.len() {
+        if has_pair(text, index, b'%', b'}') {
+            return Some(index);
+        }
+    }
+    None
+}
+
+fn prologue_at(text: &[u8]) -> Front<'_>
+    requires percent { slice_get text.now 0 ≡ Some 37 }
+    requires brace { scans.begins_with 123 (drop 1 text.now) ≡ true }
+    ensures { FindsFront text.now result }
+{
+    match closing_at(from_offset(text, 2)) {
+        Some(inside) => Front::Item(Item::Prologue, inside + 4),
+        None => Front::Open,
+    }
+}
+
+fn directive_at(text: &[u8]) -> Front<'_>
+    requires percent { slice_get text.now 0 ≡ Some 37 }
+    requires no_mark { scans.begins_with 37 (drop 1 text.now) ≡ false }
+    requires no_prologue { scans.begins_with 123 (drop 1 text.now) ≡ false }
+    ensures { FindsFront text.now result }
+{
+    let behind = from_offset(text, 1);
+    let size = word_len(behind);
+    if size == 0 {
+        return Front::Nothing;
+    }
+    match directive_of(&behind[..size]) {
+        Some(directive) => Front::Item(Item::Directive(directive), size + 1),
+        None => Front::Unknown,
+    }
 }
 
 /// What a `%` in front of the text begins.
-fn percent_at(text: &[u8]) -> Option<(Item<'_>, usize)>
-    ensures { FindsItem (37 ∷ text.now) result }
+fn percent_at(text: &[u8]) -> Front<'_>
+    requires { slice_get text.now 0 ≡ Some 37 }
+    ensures { FindsFront text.now result }
 {
-    if has_at(text, 0, b'%') {
-        return Some((Item::Mark, 2));
-    }
-    let size = word_len(text);
-    if size == 0 {
-        return None;
-    }
-    if &text[..size] == b"token".as_slice() {
-        Some((Item::Token, size + 1))
+    if has_at(text, 1, b'%') {
+        Front::Item(Item::Mark, 2)
+    } else if has_at(text, 1, b'{') {
+        prologue_at(text)
     } else {
-        None
+        directive_at(text)
     }
 }
 
 /// What a quote in front of the text begins.
-fn literal_at(text: &[u8]) -> Option<(Item<'_>, usize)>
-    ensures { FindsItem (39 ∷ text.now) result }
+fn literal_at(text: &[u8]) -> Front<'_>
+    requires { slice_get text.now 0 ≡ Some 39 }
+    ensures { FindsFront text.now result }
 {
-    if !has_at(text, 1, b'\'') {
-        return None;
-    }
-    let byte = text[0];
-    if is_plain_byte(byte) {
-        Some((Item::Literal(byte), 3))
-    } else {
-        None
+    match read_literal(text, 0) {
+        Some((byte, size)) => Front::Item(Item::Literal(byte), size),
+        None => Front::Nothing,
     }
 }
 
-fn name_at(text: &[u8]) -> (Item<'_>, usize)
+/// What a `<` in front of the text begins.
+fn tag_at(text: &[u8]) -> Front<'_>
+    requires { slice_get text.now 0 ≡ Some 60 }
+    ensures { FindsFront text.now result }
+{
+    let inside = from_offset(text, 1);
+    let size = tag_len(inside);
+    if has_at(inside, size, b'>') {
+        Front::Item(Item::Tag, size + 2)
+    } else {
+        Front::Nothing
+    }
+}
+
+/// What a `{` in front of the text begins.
+fn block_at(text: &[u8]) -> Front<'_>
+    requires { slice_get text.now 0 ≡ Some 123 }
+    ensures { FindsFront text.now result }
+{
+    match skip_block(text, 0) {
+        Some(size) => Front::Item(Item::Block, size),
+        None => Front::Open,
+    }
+}
+
+fn name_at(text: &[u8]) -> Front<'_>
     requires { IsSomeAnd (slice_get text.now 0) (λ c. IsTrue (kinds.begins_name c)) }
-    ensures { spec.Begins text.now (item_of result.0) result.1 }
+    ensures { FindsFront text.now result }
 {
     let size = name_len(text);
-    (Item::Name(&text[..size]), size)
+    Front::Item(Item::Name(&text[..size]), size)
 }
 
-/// The item at the front of the text, and its size.
-fn item_at(text: &[u8]) -> Option<(Item<'_>, usize)>
-    ensures { FindsItem text.now result }
+fn number_at(text: &[u8]) -> Front<'_>
+    requires { IsSomeAnd (slice_get text.now 0) (λ c. IsTrue (kinds.is_digit c)) }
+    ensures { FindsFront text.now result }
 {
-    let [first, rest @ ..] = text else {
-        return None;
-    };
-    match *first {
-        b'%' => percent_at(rest),
-        b'\'' => literal_at(rest),
-        b':' => Some((Item::Colon, 1)),
-        b';' => Some((Item::Semicolon, 1)),
-        b'|' => Some((Item::Bar, 1)),
-        b if begins_name(b) => Some(name_at(text)),
-        _ => None,
+    let size = digits_len(text);
+    Front::Item(Item::Number, size)
+}
+
+/// What a `/` in front of the text begins, where no closed comment stands there.
+fn slash_at(text: &[u8]) -> Front<'_>
+    requires slash { slice_get text.now 0 ≡ Some 47 }
+    requires no_comment { (n : ℕ) → ¬ IsComment text.now n }
+    ensures { FindsFront text.now result }
+{
+    if opens_comment(text, 0) {
+        Front::Open
+    } else {
+        Front::Nothing
     }
 }
 
-/// What stands behind an offset.
-enum Next<'a> {
-    Item { placed: Placed<'a>, end: usize },
-    End,
-    Stop { at: usize },
-}
-
-/// The bytes from the offset on.
-fn from_offset(bytes: &[u8], from: usize) -> &[u8]
-    requires { from ≤ length bytes.now }
-    ensures { result.now ≡ drop from bytes.now }
+/// What stands at the front of the text, where neither a blank nor a closed comment stands there.
+pub fn front_of(text: &[u8]) -> Front<'_>
+    requires some { 0 < length text.now }
+    requires no_gap { (n : ℕ) → ¬ spec.IsGap text.now (suc n) }
+    ensures { FindsFront text.now result }
 {
-    &bytes[from..]
-}
-
-/// The offset behind the gap that begins at the offset.
-#[tactic(auto, using(crate::proofs::Reading::skipped_within))]
-fn skip_gap(bytes: &[u8], from: usize) -> usize
-    requires { from ≤ length bytes.now }
-    ensures skipped { result ≡ from + prefix_len kinds.is_blank (drop from bytes.now) }
-    ensures within { result ≤ length bytes.now }
-{
-    from + blank_len(from_offset(bytes, from))
-}
-
-fn next_item(bytes: &[u8], from: usize) -> Next<'_>
-    requires within { from ≤ length bytes.now }
-    requires short { length bytes.now ≤ MOST_BYTES }
-    ensures { IsNext bytes.now from result }
-{
-    let at = skip_gap(bytes, from);
-    if at == bytes.len() {
-        return Next::End;
-    }
-    match item_at(from_offset(bytes, at)) {
-        Some((item, size)) => Next::Item {
-            placed: Placed {
-                at: at as u32,
-                item,
-            },
-            end: at + size,
-        },
-        None => Next::Stop { at },
-    }
-}
-
-/// The items of the bytes, or the offset where reading stops.
-pub fn items(alloc: Global, bytes: &[u8]) -> Result<Result<Vec<Placed<'_>>, usize>, AllocError>
-    requires { length bytes.now ≤ MOST_BYTES }
-    ensures read { IfOk result (λ read. MatchResult read (λ v. spec.Reads bytes.now (placed_all v.items))
-        (λ at. (ps : List spec.Placed) × spec.StopsAt bytes.now ps at)) }
-    ensures only { IfOk result (λ read. (ps : List spec.Placed) → spec.Reads bytes.now ps → IsOkAnd read (λ v. ps ≡ placed_all v.items)) }
-{
-    let mut items = Vec::new(alloc);
-    let mut from = 0;
-    loop {
-        match next_item(bytes, from) {
-            Next::Item { placed, end } => {
-                items.push(placed)?;
-                from = end;
-            }
-            Next::End => return Ok(Ok(items)),
-            Next::Stop { at } => return Ok(Err(at)),
-        }
+    match text[0] {
+        b'%' => percent_at(text),
+        b'\'' => literal_at(text),
+        b'<' => tag_at(text),
+        b'{' => block_at(text),
+        b'/' => slash_at(text),
+        b':' => Front::Item(Item::Colon, 1),
+        b';' => Front::Item(Item::Semicolon, 1),
+        b'|' => Front::Item(Item::Bar, 1),
+        b',' => Front::Item(Item::Comma, 1),
+        b if begins_name(b) => name_at(text),
+        b if is_digit(b) => number_at(text),
+        _ => Front::Nothing,
     }
 }

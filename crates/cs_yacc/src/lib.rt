@@ -1,4 +1,4 @@
-//! Plain yacc files, read exactly: the grammar of a file, and the names of its tokens and nonterminals.
+//! Yacc files, read exactly: the grammar of a file, and the names of its tokens and nonterminals.
 //!
 //! The layers above call `read_yacc` and go on with the `YaccFile`: its grammar is well formed, each of its numbers has a
 //! name, and all names differ. Which bytes are accepted, what file they mean and why others are refused stands in
@@ -7,12 +7,16 @@
 #![tactic(auto)]
 
 mod bytes;
+mod directive;
 mod error;
 mod fault;
 mod file;
+mod gap;
 mod gather;
 mod item;
+mod items;
 mod laws;
+mod meant;
 mod name;
 mod number;
 mod read;

@@ -2,11 +2,14 @@
 
 ghost use Rattle.std.specs.Prelude.{◌≡◌, ◌<◌, ◌≤◌, ◌+◌, ◌^◌, IfOk, length, map};
 ghost use Rattle.cs_yacc.specs.Meaning as spec;
+ghost use Rattle.std.specs.Option.{option_to_list};
+ghost use Rattle.cs_yacc.specs.Views.{placed_all};
 ghost use Rattle.cs_yacc.specs.RuleView.{rule_of, spelled_rules};
 ghost use Rattle.cs_yacc.specs.WordView.{word_of, words_of};
 
+use crate::item::Placed;
 use crate::spelled::SpelledRule;
-use crate::word::Word;
+use crate::word::{Word, word_at};
 use cs_grammar::{Rule, Symbol};
 use indexmap::IndexSet;
 use std::alloc::{AllocError, Global};
@@ -18,6 +21,20 @@ fn number(words: &IndexSet<Word<'_>>, word: Word<'_>) -> u16
 {
     let index = words.get_index_of(&word).unwrap_or(words.len());
     index as u16 + 1
+}
+
+/// The number of the start symbol: that of the item's word, or 1.
+pub fn start_number(lefts: &IndexSet<Word<'_>>, start: Option<Placed<'_>>) -> u16
+    requires { length lefts.now.keys + 1 < 2 ^ 16 }
+    ensures { result ≡ spec.start_of (words_of lefts.now.keys) (placed_all (option_to_list start.entry)) }
+{
+    match start {
+        Some(placed) => match word_at(placed.item) {
+            Some(word) => number(lefts, word),
+            None => 1,
+        },
+        None => 1,
+    }
 }
 
 fn symbol(tokens: &IndexSet<Word<'_>>, lefts: &IndexSet<Word<'_>>, word: Word<'_>) -> Symbol

@@ -1,25 +1,29 @@
-// Reads a whole plain file.
+// Reads a whole file.
 
 ghost use Rattle.std.specs.Prelude.{List, ℕ, ◌≡◌, ◌<◌, ◌≤◌, ◌^◌, IfOk, IsTrue, All, length, map, ◌↔◌};
+ghost use Rattle.std.specs.Option.{option_to_list};
 ghost use Rattle.cs_yacc.specs.File.{IsFile};
 ghost use Rattle.cs_yacc.specs.Items.{items_of};
 ghost use Rattle.cs_yacc.specs.Meaning as spec;
 ghost use Rattle.cs_yacc.specs.Reading.{Answers};
 ghost use Rattle.cs_yacc.specs.RuleView.{spelled_rules};
-ghost use Rattle.cs_yacc.specs.Steps.{FindsFault, AnswersItems, IsGiven, given_by};
+ghost use Rattle.cs_yacc.specs.Steps.{FindsFault, IsGiven};
+ghost use Rattle.cs_yacc.specs.Table.{IsTaken};
 ghost use Rattle.cs_yacc.specs.Views.{placed_all};
 ghost use Rattle.cs_yacc.specs.WordView.{word_of, words_of};
 
 use crate::MOST_BYTES;
 use crate::error::{YaccError, YaccLimit};
-use crate::fault::{behind_mark, first_error, first_token_on_left, first_undefined};
+use crate::fault::{name_fault, start_item};
 use crate::file::YaccFile;
 use crate::gather::{declared, nonterminals, tokens, used};
-use crate::item::{Placed, items};
+use crate::item::Placed;
+use crate::items::items;
+use crate::meant::meant;
 use crate::name::{Name, TokenName};
-use crate::number::numbered_rules;
+use crate::number::{numbered_rules, start_number};
 use crate::spelled::{SpelledRule, spelled_rules};
-use crate::table::is_taken;
+use crate::table::syntax_fault;
 use crate::word::Word;
 use cs_grammar::{Grammar, MOST_NONTERMINALS, MOST_RULES, MOST_SYMBOLS, MOST_TOKENS};
 use indexmap::IndexSet;
@@ -84,34 +88,6 @@ fn check_rights(rules: &[SpelledRule<'_>]) -> Result<(), YaccError>
     Ok(())
 }
 
-/// The items of a plain file.
-fn plain_items(alloc: Global, bytes: &[u8]) -> Result<Vec<Placed<'_>>, YaccError>
-    requires { length bytes.now ≤ MOST_BYTES }
-    ensures { AnswersItems bytes.now result }
-{
-    match items(alloc, bytes)? {
-        Ok(items) => {
-            if is_plain(alloc, &items)? {
-                Ok(items)
-            } else {
-                Err(YaccError::NotYet)
-            }
-        }
-        Err(_) => Err(YaccError::NotYet),
-    }
-}
-
-/// Whether the items are those of a plain file.
-fn is_plain(alloc: Global, items: &[Placed<'_>]) -> Result<bool, AllocError>
-    ensures { IfOk result (λ b. IsTrue b ↔ spec.ArePlain (placed_all items.now)) }
-{
-    if !is_taken(items) || first_error(items).is_some() {
-        return Ok(false);
-    }
-    let declared = declared(alloc, items)?;
-    Ok(first_token_on_left(items, &declared).is_none())
-}
-
 fn check_limits(
     tokens: &IndexSet<Word<'_>>,
     lefts: &IndexSet<Word<'_>>,
@@ -137,62 +113,92 @@ fn build(
     alloc: Global,
     tokens: &IndexSet<Word<'_>>,
     lefts: &IndexSet<Word<'_>>,
+    start: Option<Placed<'_>>,
     spelled: &[SpelledRule<'_>],
 ) -> Result<YaccFile, AllocError>
-    requires { IsFile (spec.file_with (words_of tokens.now.keys) (words_of lefts.now.keys) (spelled_rules spelled.now)) }
-    ensures { IfOk result (λ f. f ≡ spec.file_with (words_of tokens.now.keys) (words_of lefts.now.keys) (spelled_rules spelled.now)) }
+    requires { IsFile (spec.file_with (words_of tokens.now.keys) (words_of lefts.now.keys) (placed_all (option_to_list start)) (spelled_rules spelled.now)) }
+    ensures { IfOk result (λ f. f ≡ spec.file_with (words_of tokens.now.keys) (words_of lefts.now.keys) (placed_all (option_to_list start.entry)) (spelled_rules spelled.now)) }
 {
     let token_names = token_names(alloc, tokens.as_slice())?;
     let nonterminal_names = nonterminal_names(alloc, lefts.as_slice())?;
     let rules = numbered_rules(alloc, tokens, lefts, spelled)?;
-    let grammar = Grammar::new(tokens.len() as u16, lefts.len() as u16, 1, rules);
+    let start = start_number(lefts, start);
+    let grammar = Grammar::new(tokens.len() as u16, lefts.len() as u16, start, rules);
     Ok(YaccFile::new(grammar, token_names, nonterminal_names))
 }
 
-/// The rest of reading, where no name is undefined.
-fn numbered(
+/// The file of the tables, where no limit is passed.
+fn limited(
     alloc: Global,
-    items: &[Placed<'_>],
+    all: &[Placed<'_>],
+    tokens: &IndexSet<Word<'_>>,
     lefts: &IndexSet<Word<'_>>,
+    spelled: &[SpelledRule<'_>],
 ) -> Result<YaccFile, YaccError>
-    requires few { length items.now ≤ MOST_BYTES }
-    requires plain { spec.ArePlain (placed_all items.now) }
-    requires lefts { words_of lefts.now.keys ≡ spec.nonterminals (items_of (placed_all items.now)) }
-    ensures { IsGiven result (given_by (placed_all items.now)) }
+    requires tokens { length tokens.now.keys < 2 ^ 32 }
+    requires lefts { length lefts.now.keys < 2 ^ 32 }
+    requires rules { length spelled.now < 2 ^ 32 }
+    requires rights { All (λ r. length r.right < 2 ^ 32) (spelled_rules spelled.now) }
+    requires fits { spec.limit_passed (words_of tokens.now.keys) (words_of lefts.now.keys) (spelled_rules spelled.now) ≡ None → IsFile (spec.file_with (words_of tokens.now.keys) (words_of lefts.now.keys) (spec.start_item (placed_all all.now)) (spelled_rules spelled.now)) }
+    ensures { IsGiven result (spec.unless (spec.limit_passed (words_of tokens.now.keys) (words_of lefts.now.keys) (spelled_rules spelled.now)) (Ok (spec.file_with (words_of tokens.now.keys) (words_of lefts.now.keys) (spec.start_item (placed_all all.now)) (spelled_rules spelled.now)))) }
 {
-    let spelled = spelled_rules(alloc, items)?;
-    let used = used(alloc, &spelled)?;
-    let tokens = tokens(alloc, items, &used, lefts)?;
-    check_limits(&tokens, lefts, &spelled)?;
-    Ok(build(alloc, &tokens, lefts, &spelled)?)
-}
-
-/// What the items of a plain file mean.
-fn meaning(alloc: Global, items: &[Placed<'_>]) -> Result<YaccFile, YaccError>
-    requires few { length items.now ≤ MOST_BYTES }
-    requires plain { spec.ArePlain (placed_all items.now) }
-    ensures { IsGiven result (spec.outcome (placed_all items.now)) }
-{
-    let declared = declared(alloc, items)?;
-    let lefts = nonterminals(alloc, items)?;
-    match first_undefined(behind_mark(items), &declared, &lefts) {
-        Some(at) => Err(YaccError::Undefined { at }),
-        None => numbered(alloc, items, &lefts),
+    match check_limits(tokens, lefts, spelled) {
+        Ok(()) => Ok(build(alloc, tokens, lefts, start_item(all), spelled)?),
+        Err(fault) => Err(fault),
     }
 }
 
-/// Reads a plain yacc file: the marks, `%token` lists, names, bytes between quotes, and the signs `:`, `|` and `;`. The
-/// bytes are at most 1,048,576.
+/// The rest of reading, where no name is at fault.
+fn numbered(
+    alloc: Global,
+    all: &[Placed<'_>],
+    items: &[Placed<'_>],
+    lefts: &IndexSet<Word<'_>>,
+) -> Result<YaccFile, YaccError>
+    requires few { length all.now ≤ MOST_BYTES }
+    requires taken { IsTaken (items_of (placed_all all.now)) }
+    requires items { placed_all items.now ≡ spec.meant (placed_all all.now) }
+    requires lefts { words_of lefts.now.keys ≡ spec.nonterminals (items_of (placed_all items.now)) }
+    requires start { spec.wrong_start (words_of lefts.now.keys) (spec.start_item (placed_all all.now)) ≡ None }
+    ensures { IsGiven result (spec.numbered_file (placed_all all.now) (placed_all items.now)) }
+{
+    let spelled = spelled_rules(alloc, items)?;
+    let used = used(alloc, &spelled)?;
+    let tokens = tokens(alloc, all, &used, lefts)?;
+    limited(alloc, all, &tokens, lefts, &spelled)
+}
+
+/// What the items mean, where the table takes them.
+fn meaning(alloc: Global, all: &[Placed<'_>]) -> Result<YaccFile, YaccError>
+    requires few { length all.now ≤ MOST_BYTES }
+    requires taken { IsTaken (items_of (placed_all all.now)) }
+    ensures { IsGiven result (spec.outcome (placed_all all.now)) }
+{
+    let items = meant(alloc, all)?;
+    let declared = declared(alloc, &items)?;
+    let lefts = nonterminals(alloc, &items)?;
+    match name_fault(all, &items, &declared, &lefts) {
+        Some(fault) => Err(fault),
+        None => numbered(alloc, all, &items, &lefts),
+    }
+}
+
+/// Reads a yacc file of at most 1,048,576 bytes: the marks, prologues, directives, names, literals, numbers, tags, blocks
+/// and signs of POSIX yacc's grammar file, with `%empty` and `%precedence`.
 ///
-/// `NotYet` comes exactly where the bytes are no plain file; `Undefined` where they are one, at the first name of a body
-/// that is neither token nor left side; `Limit` where neither holds and a number is above its most. `Memory` is want of
-/// memory. Source: POSIX yacc, the grammar file.
+/// `Ok` comes exactly where the bytes are accepted, with the file that they mean. `BadItem`, `Unended` and
+/// `UnknownDirective` come where reading of items stops, then `Syntax` where the items stand in a wrong order, then the
+/// faults of names in the order of `YaccError`, then `Limit`. `Memory` is want of memory. Source: POSIX yacc, the grammar
+/// file.
 pub fn read_yacc(alloc: Global, bytes: &[u8]) -> Result<YaccFile, YaccError>
     requires { length bytes.now ≤ MOST_BYTES }
     ensures { Answers bytes.now result }
 {
-    match plain_items(alloc, bytes) {
-        Ok(items) => meaning(alloc, &items),
-        Err(fault) => Err(fault),
+    match items(alloc, bytes) {
+        Ok(items) => match syntax_fault(&items, bytes.len()) {
+            Some(at) => Err(YaccError::Syntax { at }),
+            None => meaning(alloc, &items),
+        },
+        Err(error) => Err(error),
     }
 }

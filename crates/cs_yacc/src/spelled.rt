@@ -1,6 +1,6 @@
 // The rules, as the file spells them.
 
-ghost use Rattle.std.specs.Prelude.{◌≡◌, ◌++◌, ◌∷◌, [], IfOk, OnOk, MatchOption, option_map};
+ghost use Rattle.std.specs.Prelude.{◌≡◌, ◌++◌, ◌∷◌, [], filter, IfOk, OnOk, MatchOption, option_map};
 ghost use Rattle.cs_yacc.specs.Items.{items_of};
 ghost use Rattle.cs_yacc.specs.Meaning as spec;
 ghost use Rattle.cs_yacc.specs.Views.{item_of, placed_all};
@@ -9,7 +9,7 @@ ghost use Rattle.cs_yacc.specs.RuleView.{spelled_rules, opened, next_left};
 
 use crate::gather::{begins_with_colon, behind, left_at};
 use crate::item::{Item, Placed};
-use crate::word::Word;
+use crate::word::{Word, holds_error};
 use std::alloc::{AllocError, Global};
 
 /// A left side and one of its bodies.
@@ -59,7 +59,7 @@ fn left_behind<'a>(
     }
 }
 
-/// Adds the rule whose body the item opens.
+/// Adds the rule whose body the item opens, unless the body holds `error`.
 fn push_rule<'a>(
     alloc: Global,
     rules: &mut Vec<SpelledRule<'a>>,
@@ -67,24 +67,26 @@ fn push_rule<'a>(
     item: Item<'a>,
     behind: &[Placed<'a>],
 ) -> Result<(), AllocError>
-    ensures { OnOk result (spelled_rules rules.new.items ≡ spelled_rules rules.old.items ++ opened (option_map word_of left.entry) (item_of item.entry) (items_of (placed_all behind.now))) }
+    ensures { OnOk result (spelled_rules rules.new.items ≡ spelled_rules rules.old.items ++ filter spec.is_kept (opened (option_map word_of left.entry) (item_of item.entry) (items_of (placed_all behind.now)))) }
 {
     match (left, item) {
         (Some(left), Item::Colon | Item::Bar) => {
             let right = body(alloc, behind)?;
-            rules.push(SpelledRule { left, right })?;
+            if !holds_error(&right) {
+                rules.push(SpelledRule { left, right })?;
+            }
             Ok(())
         }
         _ => Ok(()),
     }
 }
 
-/// The rules, in the file's order.
+/// The rules without those whose body holds `error`, in the file's order.
 pub fn spelled_rules<'a>(
     alloc: Global,
     items: &[Placed<'a>],
 ) -> Result<Vec<SpelledRule<'a>>, AllocError>
-    ensures { IfOk result (λ v. spelled_rules v.items ≡ spec.rules (items_of (placed_all items.now))) }
+    ensures { IfOk result (λ v. spelled_rules v.items ≡ spec.kept (items_of (placed_all items.now))) }
 {
     let mut rules = Vec::new(alloc);
     let mut left = None;

@@ -68,35 +68,124 @@ fn counts(alloc: Global, text: &[u8]) -> Result<(u16, u16, usize), YaccError>
 
 #[test]
 fn texts_at_the_edges(rt: HostRuntime) {
-    let cases: [(&[u8], Result<(u16, u16, usize), YaccError>); 20] = [
-        (b"", Err(YaccError::NotYet)),
+    let cases: [(&[u8], Result<(u16, u16, usize), YaccError>); 12] = [
         (b"%%\ns : t ;", Err(YaccError::Undefined { at: 7 })),
-        (b"%%\ns : { x } ;", Err(YaccError::NotYet)),
-        (b"%%\ns : ;", Ok((0, 1, 1))),
+        (b"%%\ns : { x } ;", Ok((0, 1, 1))),
         (b"%%s:||;", Ok((0, 1, 3))),
-        (b"%%\ns : '!' '~' ;", Ok((2, 1, 1))),
-        (b"%%\ns : ' ' ;", Err(YaccError::NotYet)),
-        (b"%%\ns : '\x7F' ;", Err(YaccError::NotYet)),
-        (b"%%\ns : ''' ;", Err(YaccError::NotYet)),
-        (b"%tokens A\n%%\ns : A ;", Err(YaccError::NotYet)),
-        (b"%token s\n%%\ns : ;", Err(YaccError::NotYet)),
-        (b"%%\ns : t ; t : ;", Ok((0, 2, 2))),
-        (b"%%\ns : ; t : ; s : ;", Ok((0, 2, 3))),
+        (b"%%\ns : ' ' '\x7F' ;", Ok((2, 1, 1))),
         (b"%token A A\n%token A\n%%\ns : A ;", Ok((1, 1, 1))),
-        (b"%token A B\n%%\ns : B ;", Ok((1, 1, 1))),
         (
             b"%token A\n%%\ns : a A b ;",
             Err(YaccError::Undefined { at: 16 }),
         ),
-        (b"%%\ns : error ;", Err(YaccError::NotYet)),
-        (b"%%\ns : 'a'", Err(YaccError::NotYet)),
-        (b"%%\ns : ; %%", Err(YaccError::NotYet)),
-        (b"%%", Err(YaccError::NotYet)),
+        (b"%%\ns : error ;", Ok((0, 1, 0))),
+        (b"%%\ns : 'a'", Ok((1, 1, 1))),
+        (b"%%\na : b b : 'x'", Ok((1, 2, 2))),
+        (b"%%\na : 'x' ; | 'y' ;", Ok((2, 1, 2))),
+        (b"%%\ns : 'x' | error ';' ;", Ok((1, 1, 1))),
+        (b"%%\ns : ; %% 'open", Ok((0, 1, 1))),
     ];
     for (text, want) in cases {
         assert!(rt; text.len() <= MOST_BYTES);
         assert_eq!(rt; counts(rt.alloc(), text), want, "{text:?}");
     }
+}
+
+#[test]
+fn refusals_by_place(rt: HostRuntime) {
+    let cases: [(&[u8], YaccError); 20] = [
+        (b"", YaccError::Syntax { at: 0 }),
+        (b"%%\na : 'x' ; b\n", YaccError::Syntax { at: 15 }),
+        (b"%%\n%%\n", YaccError::Syntax { at: 3 }),
+        (
+            b"%token A B\n%%\nA : 'x' ;",
+            YaccError::TokenOnLeft { at: 14 },
+        ),
+        (b"%%\nerror : 'x' ;", YaccError::TokenOnLeft { at: 3 }),
+        (
+            b"%start s\n%start t\n%%\ns : ;",
+            YaccError::SecondStart { at: 9 },
+        ),
+        (
+            b"%start t\n%%\ns : 'x' ;",
+            YaccError::StartNotNonterminal { at: 7 },
+        ),
+        (b"%code {x}", YaccError::UnknownDirective { at: 0 }),
+        (
+            b"%tokens A\n%%\ns : A ;",
+            YaccError::UnknownDirective { at: 0 },
+        ),
+        (b"%%\na : \"x\" ;", YaccError::BadItem { at: 7 }),
+        (b"%%\na : '\0' ;", YaccError::BadItem { at: 7 }),
+        (b"%%\na : ''' ;", YaccError::BadItem { at: 7 }),
+        (b"% %\n", YaccError::BadItem { at: 0 }),
+        (b"%union <x\n>", YaccError::BadItem { at: 7 }),
+        (b"%%\ns : /x", YaccError::BadItem { at: 7 }),
+        (b"; /*/ x", YaccError::Unended { at: 2 }),
+        (b" %{ '%'} ", YaccError::Unended { at: 1 }),
+        (b"%%\ns : { /* } ;", YaccError::Unended { at: 7 }),
+        (
+            b"%token NUM\n%%\ne : e '+' t | t ; t : NUM { x",
+            YaccError::Unended { at: 40 },
+        ),
+        (
+            b"%token\n%%\ns : t ; %- ",
+            YaccError::UnknownDirective { at: 18 },
+        ),
+    ];
+    for (text, want) in cases {
+        assert!(rt; text.len() <= MOST_BYTES);
+        assert_eq!(rt; counts(rt.alloc(), text).err(), Some(want), "{text:?}");
+    }
+}
+
+// A file as people write them.
+const CALCULATOR: &[u8] =
+    b"%{\n#include \"x.h\" /* 1 */\n%}\r\n%union { struct { int a; } b; char c; }\n\
+%token <b> NUM 258, NAME /* names */ ';'\n%left '+' '-' // low\n%right NEG 300\n%type <b> line term\n\
+%expect 1\n%start line\n;\n%%\nextra : NAME\nline // all\n : term { $$ = $1; /* } */ } term '\\n'\n | error ';'\n | %empty\n ;\n\
+term : '-' term %prec NEG { c = '}'; }\n | NUM\n%%\nint main() { return 'a; }\n";
+
+#[test]
+fn file_as_people_write_it(rt: HostRuntime) -> Result<(), Fail> {
+    assert!(rt; CALCULATOR.len() <= MOST_BYTES);
+    let file = read_yacc(rt.alloc(), CALCULATOR).ok().ok_or("accepted")?;
+    let grammar = file.grammar();
+    let term = Symbol::Nonterminal(3);
+    // NUM 1, NAME 2, '-' 3, newline 4; extra 1, line 2, term 3.
+    assert_eq!(rt;
+        (grammar.tokens(), grammar.nonterminals(), grammar.start()),
+        (4, 3, 2)
+    );
+    let [extra, line, empty, minus, number] = grammar.rules() else {
+        return Err("five rules".into());
+    };
+    assert!(rt; is_rule(extra, 1, &[Symbol::Token(2)]));
+    assert!(rt; is_rule(line, 2, &[term, term, Symbol::Token(4)]));
+    assert!(rt; is_rule(empty, 2, &[]));
+    assert!(rt; is_rule(minus, 3, &[Symbol::Token(3), term]));
+    assert!(rt; is_rule(number, 3, &[Symbol::Token(1)]));
+    assert_eq!(rt; file.token(b"NAME"), Some(2));
+    assert_eq!(rt; file.token(b"NEG"), None);
+    assert_eq!(rt; file.literal(b'\n'), Some(4));
+    assert_eq!(rt; file.literal(b';'), None);
+    Ok(())
+}
+
+#[test]
+fn spellings_of_one_byte(rt: HostRuntime) -> Result<(), Fail> {
+    let file = read_yacc(rt.alloc(), b"%%\ns : '\\n' '\\12' '\\x0a' ;")
+        .ok()
+        .ok_or("accepted")?;
+    let newline = Symbol::Token(1);
+    let [rule] = file.grammar().rules() else {
+        return Err("one rule".into());
+    };
+    assert!(rt; is_rule(rule, 1, &[newline, newline, newline]));
+    let [TokenName::Byte(10)] = file.token_names() else {
+        return Err("one token".into());
+    };
+    Ok(())
 }
 
 // The front, the piece so many times, and the end.

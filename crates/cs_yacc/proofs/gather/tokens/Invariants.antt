@@ -9,5 +9,5 @@ use Rattle.cs_yacc.proofs.gather.tokens.Given as goal
 
 abbrev pub invariant-loop-placed : goal.invariant-loop-placed
 invariant-loop-placed l =
-    let in_use = is_in_use (items_of (placed_all l.items)) in
+    let in_use = is_in_use (words_of l.used.keys) (words_of l.lefts.keys) in
     Gathers (words_of l.words.keys) (from_each (λ i _. filter in_use (word_at i)) (rest_at l.items l.placed-index)) (from_each (λ i _. filter in_use (word_at i)) (items_of (placed_all l.items)))

@@ -1,11 +1,8 @@
-use Rattle.cs_yacc.proofs.Front.{literal_is, nothing_quote_at}
+use Rattle.cs_yacc.proofs.Begin.{literal_is, no_literal}
 use Rattle.cs_yacc.proofs.item.literal_at.Goals as goal
 
-pub returns-then-not-has_at : goal.returns-then-not-has_at
-returns-then-not-has_at c = nothing_quote_at _ (λ e plain. let t = c.has_at.ensures.1 e in cc)
+pub returns-in-Some : goal.returns-in-Some
+returns-in-Some c = literal_is _ _ _ c.requires c.in-Some.ensures.literal c.in-Some.ensures.within.1
 
-pub returns-then-is_plain_byte : goal.returns-then-is_plain_byte
-returns-then-is_plain_byte c = literal_is _ (c.has_at.ensures.0 cc) cc
-
-pub returns-else-is_plain_byte : goal.returns-else-is_plain_byte
-returns-else-is_plain_byte c = nothing_quote_at _ (λ e plain. cc)
+pub returns-in-None : goal.returns-in-None
+returns-in-None c = no_literal _ c.requires c.in-None.ensures.none

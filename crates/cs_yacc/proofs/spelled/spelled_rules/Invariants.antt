@@ -1,6 +1,6 @@
 use Rattle.std.specs.Prelude.{option_map}
 use Rattle.cs_yacc.specs.Items.{items_of}
-use Rattle.cs_yacc.specs.Meaning.{rules}
+use Rattle.cs_yacc.specs.Meaning.{kept}
 use Rattle.cs_yacc.specs.Views.{placed_all}
 use Rattle.cs_yacc.specs.WordView.{word_of}
 use Rattle.cs_yacc.specs.RuleView.{spelled_rules}
@@ -9,4 +9,4 @@ use Rattle.cs_yacc.proofs.RuleLoop.{HasRules}
 use Rattle.cs_yacc.proofs.spelled.spelled_rules.Given as goal
 
 abbrev pub invariant-loop-index : goal.invariant-loop-index
-invariant-loop-index l = HasRules (spelled_rules l.rules.items) (option_map word_of l.left) (rest_at l.items l.index) (rules (items_of (placed_all l.items)))
+invariant-loop-index l = HasRules (spelled_rules l.rules.items) (option_map word_of l.left) (rest_at l.items l.index) (kept (items_of (placed_all l.items)))

@@ -1,7 +1,0 @@
-use Rattle.std.proofs.Common.{◌≡◌, drop}
-use Rattle.cs_yacc.specs.Meaning.{first_at, is_error}
-use Rattle.cs_yacc.specs.Views.{placed_all}
-use Rattle.cs_yacc.proofs.fault.first_error.Given as goal
-
-abbrev pub invariant-loop-index : goal.invariant-loop-index
-invariant-loop-index l = first_at is_error (placed_all (drop l.index l.items)) ≡ first_at is_error (placed_all l.items)
