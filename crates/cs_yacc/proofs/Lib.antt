@@ -5,6 +5,7 @@ pub mod Reading
 pub mod Known
 pub mod Stopping
 pub mod Words
+pub mod TokenTables
 pub mod Loops
 pub mod RuleLoop
 pub mod Numbers

@@ -10,3 +10,4 @@ pub mod PlaceView
 pub mod WordView
 pub mod RuleView
 pub mod Steps
+pub mod TokenNumbers

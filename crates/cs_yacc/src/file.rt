@@ -1,9 +1,10 @@
 // What a yacc file says.
 
-ghost use Rattle.std.specs.Prelude.{◌≡◌, ◌≢◌, ◌↔◌, ◌<◌, ◌-◌, ℕ, Some, IsTrue, IfSome, IfNone, slice_get};
+ghost use Rattle.std.specs.Prelude.{◌≡◌, ◌≢◌, ◌<◌, ◌-◌, ℕ, Some, IfSome, IfNone, slice_get};
 ghost use Rattle.cs_yacc.specs.File.{IsFile};
 
 use crate::name::{Name, TokenName};
+use crate::token_names::TokenNames;
 use cs_grammar::Grammar;
 use std::marker::Model;
 
@@ -12,7 +13,7 @@ use std::marker::Model;
 #[derive(Debug, Drop)]
 pub struct YaccFile {
     grammar: Grammar,
-    token_names: Vec<TokenName>,
+    token_names: TokenNames,
     nonterminal_names: Vec<Name>,
 }
 
@@ -23,13 +24,13 @@ impl Model for YaccFile {
 
     ghost view = { λ f. record {
       grammar = f.grammar;
-      token_names = f.token_names.items;
+      token_names = f.token_names;
       nonterminal_names = f.nonterminal_names.items;
     } };
 
     ghost invariant = { λ f. IsFile (record {
       grammar = f.grammar;
-      token_names = f.token_names.items;
+      token_names = f.token_names;
       nonterminal_names = f.nonterminal_names.items;
     }) };
 }
@@ -38,17 +39,17 @@ impl YaccFile {
     /// The file of these, which fit each other.
     pub(crate) fn new(
         grammar: Grammar,
-        token_names: Vec<TokenName>,
+        token_names: TokenNames,
         nonterminal_names: Vec<Name>,
     ) -> YaccFile
         requires { IsFile (record {
           grammar = grammar;
-          token_names = token_names.items;
+          token_names = token_names;
           nonterminal_names = nonterminal_names.items;
         }) }
         ensures { result ≡ record {
           grammar = grammar;
-          token_names = token_names.items;
+          token_names = token_names;
           nonterminal_names = nonterminal_names.items;
         } }
     {
@@ -72,7 +73,7 @@ impl YaccFile {
         ensures names { result.now ≡ self.now.token_names }
         ensures named { IsFile self.now }
     {
-        &self.token_names
+        self.token_names.as_slice()
     }
 
     /// The names of the nonterminals, in the order of their numbers.
@@ -88,12 +89,7 @@ impl YaccFile {
         ensures found { IfSome result (λ t. (0 < t) × (slice_get self.now.token_names (t - 1) ≡ Some (TokenName.Word name.now))) }
         ensures none { IfNone result ((k : ℕ) → slice_get self.now.token_names k ≢ Some (TokenName.Word name.now)) }
     {
-        for (index, token) in self.token_names.iter().enumerate() {
-            if is_word(token, name) {
-                return Some(index as u16 + 1);
-            }
-        }
-        None
+        self.token_names.word(name)
     }
 
     /// The token in use of the literal; `None` where no token in use has it.
@@ -101,29 +97,6 @@ impl YaccFile {
         ensures found { IfSome result (λ t. (0 < t) × (slice_get self.now.token_names (t - 1) ≡ Some (TokenName.Byte byte))) }
         ensures none { IfNone result ((k : ℕ) → slice_get self.now.token_names k ≢ Some (TokenName.Byte byte)) }
     {
-        for (index, token) in self.token_names.iter().enumerate() {
-            if is_byte(token, byte) {
-                return Some(index as u16 + 1);
-            }
-        }
-        None
-    }
-}
-
-fn is_word(token: &TokenName, name: &[u8]) -> bool
-    ensures { IsTrue result ↔ (token.now ≡ TokenName.Word name.now) }
-{
-    match token {
-        TokenName::Word(word) => word.bytes() == name,
-        TokenName::Byte(_) => false,
-    }
-}
-
-fn is_byte(token: &TokenName, byte: u8) -> bool
-    ensures { IsTrue result ↔ (token.now ≡ TokenName.Byte byte) }
-{
-    match token {
-        TokenName::Word(_) => false,
-        TokenName::Byte(own) => *own == byte,
+        self.token_names.literal(byte)
     }
 }

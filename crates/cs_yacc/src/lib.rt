@@ -22,6 +22,7 @@ mod number;
 mod read;
 mod spelled;
 mod table;
+mod token_names;
 mod word;
 
 pub use error::{YaccError, YaccLimit};

@@ -24,6 +24,7 @@ use crate::name::{Name, TokenName};
 use crate::number::{numbered_rules, start_number};
 use crate::spelled::{SpelledRule, spelled_rules};
 use crate::table::syntax_fault;
+use crate::token_names::TokenNames;
 use crate::word::Word;
 use cs_grammar::{Grammar, MOST_NONTERMINALS, MOST_RULES, MOST_SYMBOLS, MOST_TOKENS};
 use indexmap::IndexSet;
@@ -119,7 +120,7 @@ fn build(
     requires { IsFile (spec.file_with (words_of tokens.now.keys) (words_of lefts.now.keys) (placed_all (option_to_list start)) (spelled_rules spelled.now)) }
     ensures { IfOk result (λ f. f ≡ spec.file_with (words_of tokens.now.keys) (words_of lefts.now.keys) (placed_all (option_to_list start.entry)) (spelled_rules spelled.now)) }
 {
-    let token_names = token_names(alloc, tokens.as_slice())?;
+    let token_names = TokenNames::new(alloc, token_names(alloc, tokens.as_slice())?)?;
     let nonterminal_names = nonterminal_names(alloc, lefts.as_slice())?;
     let rules = numbered_rules(alloc, tokens, lefts, spelled)?;
     let start = start_number(lefts, start);

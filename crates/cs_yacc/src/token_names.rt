@@ -1,0 +1,128 @@
+// The names of the tokens, found by number and by spelling.
+
+ghost use Rattle.std.specs.Prelude.{◌≡◌, ◌≢◌, ◌<◌, ◌+◌, ◌-◌, ◌^◌, ℕ, List, Some, None, IfOk, IfSome, IfNone, OnOk, length, slice_get, if◌then◌else◌};
+ghost use Rattle.cs_yacc.specs.Meaning.{same_word};
+ghost use Rattle.cs_yacc.specs.TokenNumbers.{number_at_word, number_at_byte, FindsWords, FindsBytes};
+
+use crate::name::TokenName;
+use indexmap::IndexMap;
+use std::alloc::{AllocError, Global};
+use std::marker::Model;
+
+/// The numbers of the tokens that are words, by their bytes.
+type Words = IndexMap<Vec<u8>, u16>;
+
+/// The numbers of the tokens that are literals.
+type Literals = IndexMap<u8, u16>;
+
+/// The names of the tokens in the order of their numbers, which count from 1. The number of a name is looked up in a table.
+#[derive(Debug, Drop)]
+pub struct TokenNames {
+    names: Vec<TokenName>,
+    words: Words,
+    literals: Literals,
+}
+
+impl Model for TokenNames {
+    ghost use Rattle.std.specs.Prelude.{List, length};
+    ghost use Rattle.cs_yacc.specs.declared.name.TokenName.{TokenName};
+    ghost use Rattle.cs_yacc.specs.TokenNumbers.{FindsWords, FindsBytes};
+
+    ghost Value = { List TokenName };
+
+    ghost view = { λ t. t.names.items };
+
+    ghost invariant = { λ t. FindsWords t.words.entries (length t.names.items) t.names.items × FindsBytes t.literals.entries (length t.names.items) t.names.items };
+}
+
+impl TokenNames {
+    /// The names, with the tables of their numbers.
+    pub fn new(alloc: Global, names: Vec<TokenName>) -> Result<TokenNames, AllocError>
+        requires { length names.items < 2 ^ 16 }
+        ensures { IfOk result (λ t. t ≡ names.items) }
+    {
+        let words = words(alloc, &names)?;
+        let literals = literals(alloc, &names)?;
+        Ok(TokenNames {
+            names,
+            words,
+            literals,
+        })
+    }
+
+    /// The names in the order of their numbers.
+    pub fn as_slice(&self) -> &[TokenName]
+        ensures { result.now ≡ self.now }
+    {
+        &self.names
+    }
+
+    /// The token of the name; `None` where no token has it.
+    pub fn word(&self, name: &[u8]) -> Option<u16>
+        ensures found { IfSome result (λ t. (0 < t) × (slice_get self.now (t - 1) ≡ Some (TokenName.Word name.now))) }
+        ensures none { IfNone result ((k : ℕ) → slice_get self.now k ≢ Some (TokenName.Word name.now)) }
+    {
+        self.words.get(name).copied()
+    }
+
+    /// The token of the literal; `None` where no token has it.
+    pub fn literal(&self, byte: u8) -> Option<u16>
+        ensures found { IfSome result (λ t. (0 < t) × (slice_get self.now (t - 1) ≡ Some (TokenName.Byte byte))) }
+        ensures none { IfNone result ((k : ℕ) → slice_get self.now k ≢ Some (TokenName.Byte byte)) }
+    {
+        self.literals.get(&byte).copied()
+    }
+}
+
+/// Puts the number at the name, if it is a word.
+fn add_word(
+    alloc: Global,
+    words: &mut Words,
+    name: &TokenName,
+    number: u16,
+) -> Result<(), AllocError>
+    ensures { OnOk result ((w : List ℕ) → number_at_word words.new.entries w ≡ (if same_word (TokenName.Word w) name.now then Some number else number_at_word words.old.entries w)) }
+{
+    match name {
+        TokenName::Word(word) => {
+            words.insert(Vec::from_slice(alloc, word.bytes())?, number)?;
+            Ok(())
+        }
+        TokenName::Byte(_) => Ok(()),
+    }
+}
+
+/// Puts the number at the name, if it is a literal.
+fn add_literal(literals: &mut Literals, name: &TokenName, number: u16) -> Result<(), AllocError>
+    ensures { OnOk result ((b : ℕ) → number_at_byte literals.new.entries b ≡ (if same_word (TokenName.Byte b) name.now then Some number else number_at_byte literals.old.entries b)) }
+{
+    match name {
+        TokenName::Word(_) => Ok(()),
+        TokenName::Byte(byte) => {
+            literals.insert(*byte, number)?;
+            Ok(())
+        }
+    }
+}
+
+fn words(alloc: Global, names: &[TokenName]) -> Result<Words, AllocError>
+    requires { length names.now < 2 ^ 16 }
+    ensures { IfOk result (λ words. FindsWords words.entries (length names.now) names.now) }
+{
+    let mut words = IndexMap::new(alloc);
+    for (index, name) in names.iter().enumerate() {
+        add_word(alloc, &mut words, name, index as u16 + 1)?;
+    }
+    Ok(words)
+}
+
+fn literals(alloc: Global, names: &[TokenName]) -> Result<Literals, AllocError>
+    requires { length names.now < 2 ^ 16 }
+    ensures { IfOk result (λ literals. FindsBytes literals.entries (length names.now) names.now) }
+{
+    let mut literals = IndexMap::new(alloc);
+    for (index, name) in names.iter().enumerate() {
+        add_literal(&mut literals, name, index as u16 + 1)?;
+    }
+    Ok(literals)
+}
