@@ -1,34 +1,20 @@
 -- How many tokens, nonterminals, rules and symbols the items can give.
-use Rattle.std.proofs.Common.{◌≡◌, ℕ, suc, ◌+◌, ◌<◌, ◌≤◌, Bool, true, false, cond, List, [], ◌∷◌, ◌++◌, length, get_or, length-append, sym, ap, ◌∙◌, arith}
+use Rattle.std.proofs.Common.{◌≡◌, ℕ, suc, ◌<◌, ◌≤◌, Bool, true, false, cond, List, [], ◌∷◌, ◌++◌, length, get_or, length-append, sym, ap, ◌∙◌, arith}
 use Rattle.std.specs.Prelude.{Option, Some, None, filter, not, ◌&&◌}
 use Rattle.std.specs.List.{All}
 use Rattle.std.proofs.lemmas.List.Elements.{All-nil, All-cons, All-append, All-map, All-filter}
 use Rattle.cs_yacc.specs.declared.name.TokenName.{TokenName}
 use Rattle.cs_yacc.specs.declared.name.TokenName.TheVariants.{Word}
-use Rattle.cs_yacc.specs.Items.{Item, name, literal, colon, bar, Placed, items_of, Reached, start, marks_behind, ReadsTo, Reads}
+use Rattle.cs_yacc_items.specs.Items.{Item, name, literal, colon, bar, Placed, items_of}
 use Rattle.cs_yacc.specs.Meaning.{same_word, distinct, from_each, word_at, left_at, left_sides, nonterminals, spelled, is_in_use, tokens, body, bodies, SpelledRule, rules_of, rules_at, rules, is_kept, kept, is_idle, meant_one, opens_prec, meant_behind, meant, begins_with_colon}
 use Rattle.std.proofs.lemmas.List.{length-map, get_or-map}
-use Rattle.cs_yacc.specs.declared.item.Placed as held_item
-use Rattle.cs_yacc.specs.Views.{placed_of, placed_all}
+use Rattle.cs_yacc_items.specs.declared.item.Placed as held_item
+use Rattle.cs_yacc_items.specs.Views.{placed_of, placed_all}
 use Rattle.cs_yacc.specs.declared.word.Word as code
 use Rattle.cs_yacc.specs.declared.spelled.SpelledRule as held
 use Rattle.cs_yacc.specs.WordView.{word_of, words_of}
 use Rattle.cs_yacc.specs.RuleView.{opened, next_left, rule_of, spelled_rules}
-use Rattle.cs_yacc.proofs.Reading.{follows_within}
 use Rattle.cs_yacc.proofs.RuleLoop.{pending, rule_step}
-
--- ---- items
-
-few_to : (bytes : List ℕ) (r : Reached) (ps : List Placed) (to : Reached) → ReadsTo bytes r ps to → (r.at + length ps ≤ to.at) × (r.at ≤ length bytes → to.at ≤ length bytes)
-few_to bytes r [] to x = rw x (omega arith, λ le. le)
-few_to bytes r (p ∷ ps) to x =
-    let w = follows_within bytes r.at p x.1 x.2 in
-    let rest = few_to bytes (record { at = x.1; marks = marks_behind r.marks p.item }) ps to x.3 in
-    (omega (arith, w.0, rest.0), λ le. rest.1 w.1)
-
--- there are at most as many items as bytes
-pub few_items : (bytes : List ℕ) (ps : List Placed) → Reads bytes ps → length ps ≤ length bytes
-few_items bytes ps r = let f = few_to bytes start ps r.to r.read in omega (arith, f.0, f.1 (omega arith))
 
 -- ---- words
 

@@ -2,11 +2,12 @@
 use Rattle.std.proofs.Common.{◌≡◌, List, [], ◌∷◌, refl}
 use Rattle.std.specs.Prelude.{codes, None, Some, Ok, Err}
 use Rattle.cs_grammar.specs.declared.symbol.Symbol.TheVariants.{Token, Nonterminal}
-use Rattle.cs_yacc.specs.declared.directive.Directive.TheVariants as directives
+use Rattle.cs_yacc_items.specs.declared.directive.Directive.TheVariants as directives
 use Rattle.cs_yacc.specs.declared.name.TokenName.TheVariants.{Word, Byte}
 use Rattle.cs_yacc.specs.declared.error.YaccError.TheVariants.{SecondStart, TokenOnLeft, Undefined, StartNotNonterminal}
-use Rattle.cs_yacc.specs.Items.{mark, directive, name, literal, block, colon, semicolon, bar, Placed}
-use Rattle.cs_yacc.specs.Table.{stuck_at, declarations}
+use Rattle.cs_yacc_items.specs.Items.{mark, directive, name, literal, block, colon, semicolon, bar, Placed}
+use Rattle.cs_yacc_items.specs.Table.{declarations}
+use Rattle.cs_yacc_items.proofs.Stuck.{stuck_at}
 use Rattle.cs_yacc.specs.Meaning.{outcome}
 
 -- %token NUM %% e : e '+' t | t ; t : NUM | '(' e ')' ;

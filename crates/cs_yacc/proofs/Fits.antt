@@ -13,10 +13,10 @@ use Rattle.cs_yacc.specs.declared.name.TokenName.TheVariants.{Word, Byte}
 use Rattle.cs_yacc.specs.declared.error.YaccLimit.{YaccLimit}
 use Rattle.cs_yacc.specs.declared.error.YaccLimit.TheVariants.{Tokens, Nonterminals, Rules, RightSide}
 use Rattle.cs_yacc.specs.declared.error.YaccError.{YaccError}
-use Rattle.cs_yacc.specs.declared.directive.Directive.{Directive}
-use Rattle.cs_yacc.specs.declared.directive.Directive.TheVariants as directives
-use Rattle.cs_yacc.specs.Items.{Item, mark, prologue, directive, name, literal, number, tag, block, colon, semicolon, comma, Placed, items_of}
-use Rattle.cs_yacc.specs.Table.{Place, declarations, start, union, expect, list, tagged, entry, counted, behind_comma, rules, left, body, named, prec, closed, done, behind_directive, in_declarations, in_entry, Row, may_end, MayEnd, Leads, IsTaken}
+use Rattle.cs_yacc_items.specs.declared.directive.Directive.{Directive}
+use Rattle.cs_yacc_items.specs.declared.directive.Directive.TheVariants as directives
+use Rattle.cs_yacc_items.specs.Items.{Item, mark, prologue, directive, name, literal, number, tag, block, colon, semicolon, comma, Placed, items_of}
+use Rattle.cs_yacc_items.specs.Table.{Place, declarations, start, union, expect, list, tagged, entry, counted, behind_comma, rules, left, body, named, prec, closed, done, behind_directive, in_declarations, in_entry, Row, may_end, MayEnd, Leads, IsTaken}
 use Rattle.cs_yacc.specs.Meaning.{has_word, distinct, number_of, symbol_of, numbered, left_at, left_sides, nonterminals, tokens_of, SpelledRule, kept, above, or_else, long_right, limit_passed, bytes_of, number_or_first, start_of, start_item, is_no_left, wrong_start, file_of, is_prec, is_idle, opens_prec, meant_behind, meant, word_at, used}
 use Rattle.cs_yacc.specs.File.{IsFile}
 use Rattle.cs_yacc.proofs.Names.{IsIn, number_within, names_differ, lefts_known, rights_known}

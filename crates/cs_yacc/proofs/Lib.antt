@@ -1,15 +1,8 @@
-pub mod Gaps
-pub mod Front
-pub mod Begin
-pub mod Reading
-pub mod Known
-pub mod Stopping
 pub mod Words
 pub mod TokenTables
 pub mod Loops
 pub mod RuleLoop
 pub mod Numbers
-pub mod Stuck
 pub mod OneFile
 pub mod Counts
 pub mod Names

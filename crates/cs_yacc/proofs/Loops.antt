@@ -3,15 +3,15 @@ use Rattle.std.proofs.Common.{append_assoc, true, false, ◌≡◌, ℕ, ◌+◌
 use Rattle.std.specs.Prelude.{Option, Some, None, filter}
 use Rattle.std.proofs.lemmas.List.{at_drop_more, at_drop_all, append-nil}
 use Rattle.indexmap.specs.IndexSet.{insert_all}
-use Rattle.cs_yacc.specs.declared.item.Placed as held
-use Rattle.cs_yacc.specs.declared.item.Item.TheVariants as variants
+use Rattle.cs_yacc_items.specs.declared.item.Placed as held
+use Rattle.cs_yacc_items.specs.declared.item.Item.TheVariants as variants
 use Rattle.cs_yacc.specs.declared.spelled.SpelledRule as prods
 use Rattle.cs_yacc.specs.RuleView.{spelled_rules}
 use Rattle.cs_yacc.specs.WordView.{words_of}
 use Rattle.std.specs.List.{flat_map}
 use Rattle.std.proofs.lemmas.List.Elements.{filter-append}
-use Rattle.cs_yacc.specs.Items.{Item, Placed, items_of}
-use Rattle.cs_yacc.specs.Views.{item_of, placed_of, placed_all}
+use Rattle.cs_yacc_items.specs.Items.{Item, Placed, items_of}
+use Rattle.cs_yacc_items.specs.Views.{item_of, placed_of, placed_all}
 use Rattle.cs_yacc.specs.declared.name.TokenName.{TokenName}
 use Rattle.cs_yacc.specs.Meaning.{same_word, distinct, from_each, body, first_at, word_at, spelled, meant_one, meant_behind, opens_prec}
 use Rattle.cs_yacc.proofs.Words.{Gathers, Gathers-more, Gathers-ends}

@@ -7,7 +7,7 @@ use Rattle.std.proofs.lemmas.List.Elements.{All-nil, All-cons, All-head, All-tai
 use Rattle.std.proofs.lemmas.List.Kept.{AllPairs-cons, AllPairs-filter}
 use Rattle.cs_yacc.specs.declared.name.TokenName.{TokenName}
 use Rattle.cs_yacc.specs.declared.name.TokenName.TheVariants.{Word, Byte}
-use Rattle.cs_yacc.specs.Items.{Item, name, literal, colon, bar, Placed, items_of}
+use Rattle.cs_yacc_items.specs.Items.{Item, name, literal, colon, bar, Placed, items_of}
 use Rattle.cs_yacc.specs.Meaning.{same_word, has_word, distinct, number_of, bytes_of, left_at, left_sides, nonterminals, spelled, used, is_in_use, tokens, body, bodies, SpelledRule, rules_of, rules_at, rules, is_kept, kept, is_idle, opens_prec, meant_behind, meant, tokens_of, begins_with_colon}
 use Rattle.cs_yacc.proofs.Words.{same_is, same_self, has_distinct}
 

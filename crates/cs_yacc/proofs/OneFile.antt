@@ -1,17 +1,17 @@
 -- Accepted bytes mean one file, refused bytes are refused with one error, and nothing is both accepted and refused.
-use Rattle.std.proofs.Common.{◌≡◌, ℕ, List, [], ◌∷◌, take, drop, length, refl, sym, ap, subst, ◌∙◌, ◌⊎◌, inl, inr, arith}
+use Rattle.std.proofs.Common.{◌≡◌, ℕ, List, drop, length, refl, sym, ap, subst, ◌∙◌, ◌⊎◌, inl, inr}
 use Rattle.std.specs.Prelude.{Result, Ok, Err}
-use Rattle.cs_ctext.proofs.PartSizes.{opens-slash}
 use Rattle.cs_yacc.specs.declared.error.YaccError.{YaccError}
 use Rattle.cs_yacc.specs.declared.error.YaccError.TheVariants.{BadItem, Unended, UnknownDirective, Syntax, SecondStart, TokenOnLeft, Undefined, StartNotNonterminal, Limit, Memory}
-use Rattle.cs_yacc.specs.Items.{Placed, items_of, BeginsUnknown, BeginsNeither, IsOpen, open_comment, open_prologue, open_block}
+use Rattle.cs_yacc_items.specs.Items.{Placed, items_of, BeginsUnknown, BeginsNeither, IsOpen}
 use Rattle.cs_yacc.specs.File.{File}
-use Rattle.cs_yacc.specs.Table.{IsTaken, IsStuck}
+use Rattle.cs_yacc_items.specs.Table.{IsTaken, IsStuck}
 use Rattle.cs_yacc.specs.Meaning.{outcome}
-use Rattle.cs_yacc.specs.Reading.{Gives, IsYaccFile, Refuses, Answers, StopsThere, IsStuckThere}
-use Rattle.cs_yacc.proofs.Front.{shows_cons, shows_within, prologue_no_word}
-use Rattle.cs_yacc.proofs.Reading.{one_reading, one_stop, stopped_not_read}
-use Rattle.cs_yacc.proofs.Stuck.{one_stuck, stuck_not_taken}
+use Rattle.cs_yacc.specs.Reading.{Gives, IsYaccFile, Refuses, Answers, IsStuckThere}
+use Rattle.cs_yacc_items.proofs.Begin.{open_not_unknown}
+use Rattle.cs_yacc_items.specs.Stops.{StopsThere}
+use Rattle.cs_yacc_items.proofs.Reading.{one_reading, one_stop, stopped_not_read}
+use Rattle.cs_yacc_items.proofs.Stuck.{one_stuck, stuck_not_taken}
 
 one_given : (bytes : List ℕ) (a b : Result File YaccError) → Gives bytes a → Gives bytes b → a ≡ b
 one_given bytes a b g h = sym g.is ∙ ap outcome (one_reading bytes g.items h.items g.read h.read) ∙ h.is
@@ -48,12 +48,6 @@ way bytes (Undefined at) r = inr (inr r)
 way bytes (StartNotNonterminal at) r = inr (inr r)
 way bytes (Limit which found most) r = inr (inr r)
 way bytes Memory r = absurd r
-
-open_not_unknown : (text : List ℕ) → IsOpen text → BeginsUnknown text → ⊥
-open_not_unknown [] o u = let s = u.2.spelled.0 in omega (arith, shows_within [] (37 ∷ u.0) u.1 s, s.1)
-open_not_unknown (c ∷ text) (open_comment h) u = let f : c ≡ 37 = (shows_cons c text 37 u.0 u.1 u.2.spelled.0).0 in let g : c ≡ 47 = opens-slash c text h.0 in omega arith
-open_not_unknown (c ∷ text) (open_prologue e h) u = prologue_no_word (c ∷ text) u.0 u.1 e u.2.spelled.0 u.2.spelled.1
-open_not_unknown (c ∷ text) (open_block e h) u = let f : c ≡ 37 = (shows_cons c text 37 u.0 u.1 u.2.spelled.0).0 in let k : c ∷ take 0 text ≡ 123 ∷ [] = e in let g : c ≡ 123 = cc in omega arith
 
 same_stop : (e f : YaccError) (at : ℕ) (text : List ℕ) → StopsAs e at text → StopsAs f at text → e ≡ f
 same_stop (BadItem a) (BadItem b) at text p q = ap BadItem (p.0 ∙ sym q.0)

@@ -3,9 +3,9 @@ use Rattle.std.proofs.Common.{◌≡◌, ℕ, ◌+◌, ◌<◌, ◌≤◌, Bool,
 use Rattle.std.specs.Prelude.{Option, Some, None, filter}
 use Rattle.std.proofs.lemmas.List.{append-nil}
 use Rattle.std.proofs.lemmas.List.Elements.{filter-append}
-use Rattle.cs_yacc.specs.declared.item.Placed as held
-use Rattle.cs_yacc.specs.Items.{Item, mark, prologue, directive, unknown, name, literal, number, tag, block, colon, semicolon, bar, comma, items_of}
-use Rattle.cs_yacc.specs.Views.{item_of, placed_all}
+use Rattle.cs_yacc_items.specs.declared.item.Placed as held
+use Rattle.cs_yacc_items.specs.Items.{Item, mark, prologue, directive, unknown, name, literal, number, tag, block, colon, semicolon, bar, comma, items_of}
+use Rattle.cs_yacc_items.specs.Views.{item_of, placed_all}
 use Rattle.cs_yacc.specs.declared.name.TokenName.{TokenName}
 use Rattle.cs_yacc.specs.declared.name.TokenName.TheVariants.{Word}
 use Rattle.cs_yacc.specs.Meaning.{SpelledRule, bodies, rules_of, rules, is_kept, begins_with_colon}

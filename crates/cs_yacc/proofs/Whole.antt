@@ -2,23 +2,26 @@
 use Rattle.std.proofs.Common.{◌≡◌, ◌≤◌, ℕ, Bool, true, false, cond, List, [], ◌∷◌, length, refl, sym, ap, subst, ◌∙◌, arith}
 use Rattle.std.specs.Prelude.{Option, Some, None, Result, Ok, Err, nat_lt, option_map}
 use Rattle.cs_grammar.specs.declared.TheConstants.{MOST_TOKENS, MOST_NONTERMINALS, MOST_RULES, MOST_SYMBOLS}
-use Rattle.cs_yacc.specs.declared.item.Placed as held
+use Rattle.cs_yacc_items.specs.declared.item.Placed as held
 use Rattle.cs_yacc.specs.declared.name.TokenName.{TokenName}
 use Rattle.cs_yacc.specs.declared.error.YaccLimit.{YaccLimit}
 use Rattle.cs_yacc.specs.declared.error.YaccLimit.TheVariants.{Tokens, Nonterminals, Rules, RightSide}
 use Rattle.cs_yacc.specs.declared.error.YaccError.{YaccError}
 use Rattle.cs_yacc.specs.declared.error.YaccError.TheVariants.{BadItem, Unended, UnknownDirective, Syntax, SecondStart, TokenOnLeft, Undefined, StartNotNonterminal, Limit, Memory}
-use Rattle.cs_yacc.specs.Items.{Placed, items_of, Reads}
-use Rattle.cs_yacc.specs.Table.{declarations, IsTaken, IsStuck, stuck_at}
+use Rattle.cs_yacc_items.specs.Items.{Placed, items_of, Reads}
+use Rattle.cs_yacc_items.specs.Table.{IsTaken, IsStuck}
 use Rattle.cs_yacc.specs.File.{File, IsFile}
 use Rattle.cs_yacc.specs.Meaning.{declared_tokens, SpelledRule, kept, used, nonterminals, tokens, tokens_of, meant, start_item, wrong_start, file_with, file_of, is_start, behind_start, is_token_on_left, is_undefined, behind_mark, first_at, name_fault, above, long_right, limit_passed, or_else, unless, numbered_file, outcome}
 use Rattle.cs_yacc.specs.Reading.{IsYaccFile, Refuses, Answers}
-use Rattle.cs_yacc.specs.Steps.{IsGiven, AnswersItems}
-use Rattle.cs_yacc.specs.Views.{placed_of, placed_all}
+use Rattle.cs_yacc.specs.Steps.{IsGiven}
+use Rattle.cs_yacc.specs.Errors.{error_of}
+use Rattle.cs_yacc_items.specs.Stops.{AnswersItems}
+use Rattle.cs_yacc_items.specs.declared.error.ItemsError as item_errors
+use Rattle.cs_yacc_items.specs.declared.error.ItemsError.TheVariants as stops
+use Rattle.cs_yacc_items.specs.Views.{placed_of, placed_all}
 use Rattle.std.proofs.lemmas.List.{length-map}
 use Rattle.cs_yacc.proofs.Counts.{few_meant, few_held}
 use Rattle.cs_yacc.proofs.Fits.{file_fits}
-use Rattle.cs_yacc.proofs.Stuck.{stuck_from_some, taken_from_none}
 
 -- what is given may be answered
 is_given : (r given : Result File YaccError) → given ≡ r → IsGiven r given
@@ -157,26 +160,14 @@ answers_from bytes ps (Err (Limit which found most)) p t g = record { items = ps
 answers_from bytes ps (Err Memory) p t g = tt
 
 -- so is an error of reading the items
-pub answers_err : (bytes : List ℕ) (e : YaccError) → AnswersItems bytes (Err e) → Answers bytes (Err e)
+pub answers_err : (bytes : List ℕ) (e : item_errors.ItemsError) → AnswersItems bytes (Err e) → Answers bytes (Err (error_of e))
 unfolding Refuses
-answers_err bytes (BadItem at) h = h
-answers_err bytes (Unended at) h = h
-answers_err bytes (UnknownDirective at) h = h
-answers_err bytes (Syntax at) h = absurd h
-answers_err bytes (SecondStart at) h = absurd h
-answers_err bytes (TokenOnLeft at) h = absurd h
-answers_err bytes (Undefined at) h = absurd h
-answers_err bytes (StartNotNonterminal at) h = absurd h
-answers_err bytes (Limit which found most) h = absurd h
-answers_err bytes Memory h = tt
+answers_err bytes (stops.BadItem at) h = h
+answers_err bytes (stops.Unended at) h = h
+answers_err bytes (stops.UnknownDirective at) h = h
+answers_err bytes stops.Memory h = tt
 
 -- and an item that the table doesn't take
 pub answers_stuck : (bytes : List ℕ) (ps : List Placed) (at : ℕ) → Reads bytes ps → IsStuck (length bytes) ps at → Answers bytes (Err (Syntax at))
 unfolding Refuses
 answers_stuck bytes ps at r s = (ps, r, s)
-
-pub stuck_answers : (bytes : List ℕ) (ps qs : List Placed) (n at : ℕ) → Reads bytes ps → qs ≡ ps → n ≡ length bytes → Some at ≡ stuck_at declarations n qs → Answers bytes (Err (Syntax at))
-stuck_answers bytes ps qs n at r e f s = answers_stuck bytes ps at r (stuck_from_some (length bytes) ps at (rw (e, f) at s))
-
-pub taken_items : (bytes : List ℕ) (ps qs : List Placed) (n : ℕ) → qs ≡ ps → None ≡ stuck_at declarations n qs → IsTaken (items_of ps)
-taken_items bytes ps qs n e s = rw (← e) (taken_from_none n qs s)

@@ -1,12 +1,7 @@
-pub mod Bytes
-pub mod Directives
-pub mod Items
-pub mod Table
+pub mod Errors
 pub mod File
 pub mod Meaning
 pub mod Reading
-pub mod Views
-pub mod PlaceView
 pub mod WordView
 pub mod RuleView
 pub mod Steps

@@ -12,9 +12,9 @@ use Rattle.cs_yacc.specs.declared.error.YaccLimit.{YaccLimit}
 use Rattle.cs_yacc.specs.declared.error.YaccLimit.TheVariants.{Tokens, Nonterminals, Rules, RightSide}
 use Rattle.cs_yacc.specs.declared.error.YaccError.{YaccError}
 use Rattle.cs_yacc.specs.declared.error.YaccError.TheVariants.{SecondStart, TokenOnLeft, Undefined, StartNotNonterminal, Limit}
-use Rattle.cs_yacc.specs.declared.directive.Directive.{Directive}
-use Rattle.cs_yacc.specs.declared.directive.Directive.TheVariants as directives
-use Rattle.cs_yacc.specs.Items.{Item, mark, directive, name, literal, number, tag, block, colon, bar, comma, Placed, items_of}
+use Rattle.cs_yacc_items.specs.declared.directive.Directive.{Directive}
+use Rattle.cs_yacc_items.specs.declared.directive.Directive.TheVariants as directives
+use Rattle.cs_yacc_items.specs.Items.{Item, mark, directive, name, literal, number, tag, block, colon, bar, comma, Placed, items_of}
 use Rattle.cs_yacc.specs.File.{File}
 
 abbrev pub or_else : {A : Type 0} → Option A → Option A → Option A

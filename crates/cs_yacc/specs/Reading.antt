@@ -2,8 +2,9 @@
 use Rattle.std.specs.Prelude.{◌≡◌, ℕ, List, length, drop, Result, Ok, Err}
 use Rattle.cs_yacc.specs.declared.error.YaccError.{YaccError}
 use Rattle.cs_yacc.specs.declared.error.YaccError.TheVariants.{BadItem, Unended, UnknownDirective, Syntax, SecondStart, TokenOnLeft, Undefined, StartNotNonterminal, Limit, Memory}
-use Rattle.cs_yacc.specs.Items.{Placed, items_of, Reads, StopsAt, IsOpen, BeginsUnknown, BeginsNeither}
-use Rattle.cs_yacc.specs.Table.{IsTaken, IsStuck}
+use Rattle.cs_yacc_items.specs.Items.{Placed, items_of, Reads, IsOpen, BeginsUnknown, BeginsNeither}
+use Rattle.cs_yacc_items.specs.Stops.{StopsThere}
+use Rattle.cs_yacc_items.specs.Table.{IsTaken, IsStuck}
 use Rattle.cs_yacc.specs.Meaning.{outcome}
 use Rattle.cs_yacc.specs.File.{File}
 
@@ -17,10 +18,6 @@ pub record Gives (bytes : List ℕ) (given : Result File YaccError) : Type 0 whe
 -- The bytes are accepted, and mean this file.
 unfoldable pub IsYaccFile : List ℕ → File → Type 0
 IsYaccFile bytes file = Gives bytes (Ok file)
-
--- reading of items stops at the offset
-abbrev pub StopsThere : List ℕ → ℕ → Type 0
-StopsThere bytes at = (items : List Placed) × StopsAt bytes items at
 
 -- the bytes are read into items that the table doesn't take, for the offset
 abbrev pub IsStuckThere : List ℕ → ℕ → Type 0

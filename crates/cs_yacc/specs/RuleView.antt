@@ -3,7 +3,7 @@ use Rattle.std.specs.Prelude.{List, [], ◌∷◌, map, Option, Some, if◌then�
 use Rattle.cs_yacc.specs.declared.spelled.SpelledRule as held
 use Rattle.cs_yacc.specs.declared.name.TokenName.{TokenName}
 use Rattle.cs_yacc.specs.declared.name.TokenName.TheVariants.{Word}
-use Rattle.cs_yacc.specs.Items.{Item, name, colon, bar}
+use Rattle.cs_yacc_items.specs.Items.{Item, name, colon, bar}
 use Rattle.cs_yacc.specs.Meaning.{SpelledRule, body, begins_with_colon}
 use Rattle.cs_yacc.specs.WordView.{word_of, words_of}
 

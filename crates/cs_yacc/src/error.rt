@@ -1,5 +1,6 @@
 // Why a file is refused.
 
+use cs_yacc_items::ItemsError;
 use std::alloc::{AllocError, AllocFailed};
 use thiserror::Error;
 
@@ -87,5 +88,21 @@ impl<T: Drop> From<AllocFailed<T>> for YaccError {
 
     fn from(_: AllocFailed<T>) -> Self {
         YaccError::Memory
+    }
+}
+
+impl From<ItemsError> for YaccError {
+    ghost use Rattle.std.specs.Prelude.{◌≡◌};
+    ghost use Rattle.cs_yacc.specs.Errors.{error_of};
+
+    ghost from_gives = { λ e f. f ≡ error_of e };
+
+    fn from(error: ItemsError) -> Self {
+        match error {
+            ItemsError::BadItem { at } => YaccError::BadItem { at },
+            ItemsError::Unended { at } => YaccError::Unended { at },
+            ItemsError::UnknownDirective { at } => YaccError::UnknownDirective { at },
+            ItemsError::Memory => YaccError::Memory,
+        }
     }
 }

@@ -2,16 +2,15 @@
 
 ghost use Rattle.std.specs.Prelude.{◌≡◌, ◌≤◌, length};
 ghost use Rattle.std.specs.Option.{option_to_list};
-ghost use Rattle.cs_yacc.specs.Items.{items_of};
+ghost use Rattle.cs_yacc_items.specs.Items.{items_of};
 ghost use Rattle.cs_yacc.specs.Meaning as spec;
-ghost use Rattle.cs_yacc.specs.Views.{item_of, placed_all};
+ghost use Rattle.cs_yacc_items.specs.Views.{item_of, placed_all};
 ghost use Rattle.cs_yacc.specs.WordView.{word_of, words_of};
 
-use crate::directive::Directive;
 use crate::error::YaccError;
 use crate::gather::{behind, left_at};
-use crate::item::{Item, Placed};
 use crate::word::{Word, has, word_at};
+use cs_yacc_items::{Directive, Item, Placed};
 use indexmap::IndexSet;
 
 /// The items behind the first mark.

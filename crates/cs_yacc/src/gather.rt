@@ -3,15 +3,14 @@
 ghost use Rattle.std.specs.Prelude.{◌≡◌, ◌&&◌, not, filter, ◌+◌, ◌<◌, IfOk, OnOk, map, length, drop};
 ghost use Rattle.indexmap.specs.IndexSet.{insert_all};
 ghost use Rattle.cs_yacc.specs.RuleView.{spelled_rules};
-ghost use Rattle.cs_yacc.specs.Items.{items_of};
+ghost use Rattle.cs_yacc_items.specs.Items.{items_of};
 ghost use Rattle.cs_yacc.specs.Meaning as spec;
-ghost use Rattle.cs_yacc.specs.Views.{item_of, placed_all};
+ghost use Rattle.cs_yacc_items.specs.Views.{item_of, placed_all};
 ghost use Rattle.cs_yacc.specs.WordView.{words_of, words_in};
 
-use crate::directive::Directive;
-use crate::item::{Item, Placed};
 use crate::spelled::SpelledRule;
 use crate::word::{Word, add, add_some, has, word_at};
+use cs_yacc_items::{Directive, Item, Placed};
 use indexmap::IndexSet;
 use std::alloc::{AllocError, Global};
 

@@ -3,13 +3,7 @@
 ghost use Rattle.std.specs.Prelude.{◌≡◌, ℕ, List};
 ghost use Rattle.cs_yacc.specs.declared.error.YaccError.{YaccError};
 ghost use Rattle.cs_yacc.specs.File.{File};
-ghost use Rattle.cs_yacc.specs.Items.{Placed, Reads};
 ghost use Rattle.cs_yacc.specs.Reading.{IsYaccFile, Refuses};
-
-/// A text is read into one list of items.
-pub fn one_reading()
-    ensures { (bytes : List ℕ) (ps qs : List Placed) → Reads bytes ps → Reads bytes qs → ps ≡ qs }
-{}
 
 /// Accepted bytes mean one file.
 pub fn one_file()

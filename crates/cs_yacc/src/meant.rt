@@ -2,10 +2,9 @@
 
 ghost use Rattle.std.specs.Prelude.{◌≡◌, ◌++◌, IfOk, OnOk};
 ghost use Rattle.cs_yacc.specs.Meaning as spec;
-ghost use Rattle.cs_yacc.specs.Views.{item_of, placed_of, placed_all};
+ghost use Rattle.cs_yacc_items.specs.Views.{item_of, placed_of, placed_all};
 
-use crate::directive::Directive;
-use crate::item::{Item, Placed};
+use cs_yacc_items::{Directive, Item, Placed};
 use std::alloc::{AllocError, Global};
 
 fn is_prec(item: Item<'_>) -> bool

@@ -3,14 +3,14 @@
 ghost use Rattle.std.specs.Prelude.{◌≡◌, ◌<◌, ◌≤◌, ◌+◌, ◌^◌, IfOk, length, map};
 ghost use Rattle.cs_yacc.specs.Meaning as spec;
 ghost use Rattle.std.specs.Option.{option_to_list};
-ghost use Rattle.cs_yacc.specs.Views.{placed_all};
+ghost use Rattle.cs_yacc_items.specs.Views.{placed_all};
 ghost use Rattle.cs_yacc.specs.RuleView.{rule_of, spelled_rules};
 ghost use Rattle.cs_yacc.specs.WordView.{word_of, words_of};
 
-use crate::item::Placed;
 use crate::spelled::SpelledRule;
 use crate::word::{Word, word_at};
 use cs_grammar::{Rule, Symbol};
+use cs_yacc_items::Placed;
 use indexmap::IndexSet;
 use std::alloc::{AllocError, Global};
 

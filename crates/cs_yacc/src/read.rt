@@ -3,13 +3,13 @@
 ghost use Rattle.std.specs.Prelude.{List, ℕ, ◌≡◌, ◌<◌, ◌≤◌, ◌^◌, IfOk, IsTrue, All, length, map, ◌↔◌};
 ghost use Rattle.std.specs.Option.{option_to_list};
 ghost use Rattle.cs_yacc.specs.File.{IsFile};
-ghost use Rattle.cs_yacc.specs.Items.{items_of};
+ghost use Rattle.cs_yacc_items.specs.Items.{items_of};
 ghost use Rattle.cs_yacc.specs.Meaning as spec;
 ghost use Rattle.cs_yacc.specs.Reading.{Answers};
 ghost use Rattle.cs_yacc.specs.RuleView.{spelled_rules};
 ghost use Rattle.cs_yacc.specs.Steps.{FindsFault, IsGiven};
-ghost use Rattle.cs_yacc.specs.Table.{IsTaken};
-ghost use Rattle.cs_yacc.specs.Views.{placed_all};
+ghost use Rattle.cs_yacc_items.specs.Table.{IsTaken};
+ghost use Rattle.cs_yacc_items.specs.Views.{placed_all};
 ghost use Rattle.cs_yacc.specs.WordView.{word_of, words_of};
 
 use crate::MOST_BYTES;
@@ -17,16 +17,14 @@ use crate::error::{YaccError, YaccLimit};
 use crate::fault::{name_fault, start_item};
 use crate::file::YaccFile;
 use crate::gather::{declared, nonterminals, tokens, used};
-use crate::item::Placed;
-use crate::items::items;
 use crate::meant::meant;
 use crate::name::{Name, TokenName};
 use crate::number::{numbered_rules, start_number};
 use crate::spelled::{SpelledRule, spelled_rules};
-use crate::table::syntax_fault;
 use crate::token_names::TokenNames;
 use crate::word::Word;
 use cs_grammar::{Grammar, MOST_NONTERMINALS, MOST_RULES, MOST_SYMBOLS, MOST_TOKENS};
+use cs_yacc_items::{Placed, read_items, syntax_fault};
 use indexmap::IndexSet;
 use std::alloc::{AllocError, Global};
 
@@ -195,11 +193,11 @@ pub fn read_yacc(alloc: Global, bytes: &[u8]) -> Result<YaccFile, YaccError>
     requires { length bytes.now ≤ MOST_BYTES }
     ensures { Answers bytes.now result }
 {
-    match items(alloc, bytes) {
+    match read_items(alloc, bytes) {
         Ok(items) => match syntax_fault(&items, bytes.len()) {
             Some(at) => Err(YaccError::Syntax { at }),
             None => meaning(alloc, &items),
         },
-        Err(error) => Err(error),
+        Err(error) => Err(YaccError::from(error)),
     }
 }

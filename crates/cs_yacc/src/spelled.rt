@@ -1,15 +1,15 @@
 // The rules, as the file spells them.
 
 ghost use Rattle.std.specs.Prelude.{◌≡◌, ◌++◌, ◌∷◌, [], filter, IfOk, OnOk, MatchOption, option_map};
-ghost use Rattle.cs_yacc.specs.Items.{items_of};
+ghost use Rattle.cs_yacc_items.specs.Items.{items_of};
 ghost use Rattle.cs_yacc.specs.Meaning as spec;
-ghost use Rattle.cs_yacc.specs.Views.{item_of, placed_all};
+ghost use Rattle.cs_yacc_items.specs.Views.{item_of, placed_all};
 ghost use Rattle.cs_yacc.specs.WordView.{word_of, words_of};
 ghost use Rattle.cs_yacc.specs.RuleView.{spelled_rules, opened, next_left};
 
 use crate::gather::{begins_with_colon, behind, left_at};
-use crate::item::{Item, Placed};
 use crate::word::{Word, holds_error};
+use cs_yacc_items::{Item, Placed};
 use std::alloc::{AllocError, Global};
 
 /// A left side and one of its bodies.

@@ -68,7 +68,7 @@ fn counts(alloc: Global, text: &[u8]) -> Result<(u16, u16, usize), YaccError>
 
 #[test]
 fn texts_at_the_edges(rt: HostRuntime) {
-    let cases: [(&[u8], Result<(u16, u16, usize), YaccError>); 12] = [
+    let cases: [(&[u8], Result<(u16, u16, usize), YaccError>); 17] = [
         (b"%%\ns : t ;", Err(YaccError::Undefined { at: 7 })),
         (b"%%\ns : { x } ;", Ok((0, 1, 1))),
         (b"%%s:||;", Ok((0, 1, 3))),
@@ -84,6 +84,20 @@ fn texts_at_the_edges(rt: HostRuntime) {
         (b"%%\na : 'x' ; | 'y' ;", Ok((2, 1, 2))),
         (b"%%\ns : 'x' | error ';' ;", Ok((1, 1, 1))),
         (b"%%\ns : ; %% 'open", Ok((0, 1, 1))),
+        (b"%token A\r\n%%\r\ns : A\r\n | s A ;\r\n", Ok((1, 1, 2))),
+        (
+            b"%left <t> '+' 300, '-' 301\n%right <t> NEG 302\n%%\ns : '-' s %prec NEG | s '+' s | 'x' ;",
+            Ok((3, 1, 3)),
+        ),
+        (b"%%\ns : { a(); } 'x' { b(); } t\nt : 'y'", Ok((2, 2, 2))),
+        (
+            b"/* a */ %token // b\nA /* c */ %% /* d */ s /* e */ : /* f */ A // g\n; /* h */",
+            Ok((1, 1, 1)),
+        ),
+        (
+            b"%{ \"%}\" %}\n%%\ns : ;",
+            Err(YaccError::BadItem { at: 6 }),
+        ),
     ];
     for (text, want) in cases {
         assert!(rt; text.len() <= MOST_BYTES);
@@ -93,10 +107,9 @@ fn texts_at_the_edges(rt: HostRuntime) {
 
 #[test]
 fn refusals_by_place(rt: HostRuntime) {
-    let cases: [(&[u8], YaccError); 20] = [
+    let cases: [(&[u8], YaccError); 10] = [
         (b"", YaccError::Syntax { at: 0 }),
         (b"%%\na : 'x' ; b\n", YaccError::Syntax { at: 15 }),
-        (b"%%\n%%\n", YaccError::Syntax { at: 3 }),
         (
             b"%token A B\n%%\nA : 'x' ;",
             YaccError::TokenOnLeft { at: 14 },
@@ -111,19 +124,7 @@ fn refusals_by_place(rt: HostRuntime) {
             YaccError::StartNotNonterminal { at: 7 },
         ),
         (b"%code {x}", YaccError::UnknownDirective { at: 0 }),
-        (
-            b"%tokens A\n%%\ns : A ;",
-            YaccError::UnknownDirective { at: 0 },
-        ),
         (b"%%\na : \"x\" ;", YaccError::BadItem { at: 7 }),
-        (b"%%\na : '\0' ;", YaccError::BadItem { at: 7 }),
-        (b"%%\na : ''' ;", YaccError::BadItem { at: 7 }),
-        (b"% %\n", YaccError::BadItem { at: 0 }),
-        (b"%union <x\n>", YaccError::BadItem { at: 7 }),
-        (b"%%\ns : /x", YaccError::BadItem { at: 7 }),
-        (b"; /*/ x", YaccError::Unended { at: 2 }),
-        (b" %{ '%'} ", YaccError::Unended { at: 1 }),
-        (b"%%\ns : { /* } ;", YaccError::Unended { at: 7 }),
         (
             b"%token NUM\n%%\ne : e '+' t | t ; t : NUM { x",
             YaccError::Unended { at: 40 },
@@ -165,10 +166,6 @@ fn file_as_people_write_it(rt: HostRuntime) -> Result<(), Fail> {
     assert!(rt; is_rule(empty, 2, &[]));
     assert!(rt; is_rule(minus, 3, &[Symbol::Token(3), term]));
     assert!(rt; is_rule(number, 3, &[Symbol::Token(1)]));
-    assert_eq!(rt; file.token(b"NAME"), Some(2));
-    assert_eq!(rt; file.token(b"NEG"), None);
-    assert_eq!(rt; file.literal(b'\n'), Some(4));
-    assert_eq!(rt; file.literal(b';'), None);
     Ok(())
 }
 
@@ -185,6 +182,37 @@ fn spellings_of_one_byte(rt: HostRuntime) -> Result<(), Fail> {
     let [TokenName::Byte(10)] = file.token_names() else {
         return Err("one token".into());
     };
+    Ok(())
+}
+
+// NUM 1, ID 2, '+' 3, newline 4; UNUSED stands in no rule, '!' only in one that isn't kept.
+const LOOKED_UP: &[u8] =
+    b"%token NUM ID UNUSED '?'\n%%\ne : e '+' NUM | ID '\\n' | '\\12' | error '!' ;\n";
+
+#[test]
+fn tokens_by_name(rt: HostRuntime) -> Result<(), Fail> {
+    let file = read_yacc(rt.alloc(), LOOKED_UP).ok().ok_or("accepted")?;
+    let words: [(&[u8], Option<u16>); 8] = [
+        (b"NUM", Some(1)),
+        (b"ID", Some(2)),
+        (b"UNUSED", None),
+        (b"e", None),
+        (b"error", None),
+        (b"+", None),
+        (b"NU", None),
+        (b"", None),
+    ];
+    for (name, want) in words {
+        assert_eq!(rt; file.token(name), want, "{name:?}");
+    }
+    for (byte, want) in [
+        (b'+', Some(3)),
+        (b'\n', Some(4)),
+        (b'!', None),
+        (b'?', None),
+    ] {
+        assert_eq!(rt; file.literal(byte), want, "{byte}");
+    }
     Ok(())
 }
 

@@ -2,11 +2,11 @@
 
 ghost use Rattle.std.specs.Prelude.{◌≡◌, Bool, OnOk, OnErr, IfOk, map, length, option_copied, IsTrue};
 ghost use Rattle.cs_yacc.specs.Meaning as spec;
-ghost use Rattle.cs_yacc.specs.Views.{item_of};
+ghost use Rattle.cs_yacc_items.specs.Views.{item_of};
 ghost use Rattle.cs_yacc.specs.WordView.{word_of, words_of, words_in};
 ghost use Rattle.indexmap.specs.IndexSet.{insert_key, insert_all};
 
-use crate::item::Item;
+use cs_yacc_items::Item;
 use indexmap::IndexSet;
 use std::alloc::AllocError;
 

@@ -1,8 +1,8 @@
 use Rattle.std.proofs.Common.{refl}
 use Rattle.std.specs.Prelude.{filter}
-use Rattle.cs_yacc.specs.Items.{items_of}
+use Rattle.cs_yacc_items.specs.Items.{items_of}
 use Rattle.cs_yacc.specs.Meaning.{is_in_use, word_at}
-use Rattle.cs_yacc.specs.Views.{placed_all}
+use Rattle.cs_yacc_items.specs.Views.{placed_all}
 use Rattle.cs_yacc.specs.WordView.{words_of}
 use Rattle.cs_yacc.proofs.Loops.{gather_step, tokens_end}
 use Rattle.cs_yacc.proofs.gather.tokens.Goals as goal

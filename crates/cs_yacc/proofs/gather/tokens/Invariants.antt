@@ -1,7 +1,7 @@
 use Rattle.std.specs.Prelude.{filter}
-use Rattle.cs_yacc.specs.Items.{items_of}
+use Rattle.cs_yacc_items.specs.Items.{items_of}
 use Rattle.cs_yacc.specs.Meaning.{from_each, word_at, is_in_use}
-use Rattle.cs_yacc.specs.Views.{placed_all}
+use Rattle.cs_yacc_items.specs.Views.{placed_all}
 use Rattle.cs_yacc.specs.WordView.{words_of}
 use Rattle.cs_yacc.proofs.Words.{Gathers}
 use Rattle.cs_yacc.proofs.Loops.{rest_at}

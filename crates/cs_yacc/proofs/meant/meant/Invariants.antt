@@ -1,6 +1,6 @@
 use Rattle.std.proofs.Common.{◌≡◌, ◌++◌, drop}
 use Rattle.cs_yacc.specs.Meaning.{meant, meant_behind}
-use Rattle.cs_yacc.specs.Views.{placed_all}
+use Rattle.cs_yacc_items.specs.Views.{placed_all}
 use Rattle.cs_yacc.proofs.meant.meant.Given as goal
 
 abbrev pub invariant-loop-placed : goal.invariant-loop-placed

@@ -1,10 +1,10 @@
 use Rattle.std.proofs.Common.{◌∙◌, ap, sym, subst}
-use Rattle.cs_yacc.specs.declared.item.Placed as held
+use Rattle.cs_yacc_items.specs.declared.item.Placed as held
 use Rattle.std.specs.Prelude.{List}
-use Rattle.cs_yacc.specs.Items.{items_of}
+use Rattle.cs_yacc_items.specs.Items.{items_of}
 use Rattle.cs_yacc.specs.Meaning.{declared_tokens, nonterminals, numbered_file}
 use Rattle.cs_yacc.specs.Steps.{IsGiven}
-use Rattle.cs_yacc.specs.Views.{placed_all}
+use Rattle.cs_yacc_items.specs.Views.{placed_all}
 use Rattle.cs_yacc.proofs.Whole.{gives_fault, gives_rest}
 use Rattle.cs_yacc.proofs.read.meaning.Goals as goal
 

@@ -1,10 +1,10 @@
 use Rattle.std.proofs.Common.{◌≡◌, ◌<◌, ◌≤◌, ◌^◌, ◌∙◌, length, arith, ap, sym, refl}
 use Rattle.std.specs.List.{All}
 use Rattle.std.proofs.lemmas.List.Elements.{All-weaker}
-use Rattle.cs_yacc.specs.Items.{items_of}
+use Rattle.cs_yacc_items.specs.Items.{items_of}
 use Rattle.cs_yacc.specs.Meaning.{SpelledRule, kept, used, start_item}
 use Rattle.cs_yacc.specs.RuleView.{spelled_rules}
-use Rattle.cs_yacc.specs.Views.{placed_all}
+use Rattle.cs_yacc_items.specs.Views.{placed_all}
 use Rattle.cs_yacc.specs.WordView.{words_of}
 use Rattle.cs_yacc.proofs.Counts.{few_tokens, few_nonterminals, few_rules, few_keys, few_spelled, few_held, short_rights}
 use Rattle.cs_yacc.proofs.Whole.{few_with_meaning, tables_fit, gives_same}

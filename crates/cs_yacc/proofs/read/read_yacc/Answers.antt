@@ -1,25 +1,22 @@
-use Rattle.std.proofs.Common.{arith, ap, sym, refl, ◌∙◌}
+use Rattle.std.proofs.Common.{arith}
 use Rattle.std.proofs.lemmas.List.{length-map}
-use Rattle.cs_yacc.specs.Views.{placed_of, placed_all}
-use Rattle.cs_yacc.proofs.Counts.{few_items}
-use Rattle.cs_yacc.proofs.Whole.{answers_from, answers_err, stuck_answers, taken_items}
+use Rattle.cs_yacc_items.specs.Views.{placed_of, placed_all}
+use Rattle.cs_yacc_items.proofs.Reading.{few_items}
+use Rattle.cs_yacc.proofs.Whole.{answers_from, answers_err, answers_stuck}
 use Rattle.cs_yacc.proofs.read.read_yacc.Goals as goal
 
 pub returns-in-Some : goal.returns-in-Some
-returns-in-Some c = stuck_answers c.args.bytes.now (placed_all c.in-Ok.items.items) (placed_all c.deref.result.now) _ c.in-Some.at c.in-Ok.ensures (ap placed_all c.deref.ensures.value) refl c.in-Some.ensures
+returns-in-Some c = answers_stuck c.args.bytes.now (placed_all c.in-Ok.items.items) c.in-Some.at c.in-Ok.ensures (rw c.deref.ensures.value at c.in-Some.ensures.stuck)
 
 pub meaning-requires-clause-few : goal.meaning-requires-clause-few
 meaning-requires-clause-few c = rw c.deref-in-None.ensures.value (omega (arith, length-map c.in-Ok.items.items placed_of, few_items c.args.bytes.now (placed_all c.in-Ok.items.items) c.in-Ok.ensures, c.requires))
 
 pub meaning-requires-clause-taken : goal.meaning-requires-clause-taken
-meaning-requires-clause-taken c =
-    taken_items c.args.bytes.now (placed_all c.deref-in-None.result.now) (placed_all c.deref.result.now) _ (ap placed_all (c.deref.ensures.value ∙ sym c.deref-in-None.ensures.value)) c.in-None.ensures
+meaning-requires-clause-taken c = rw c.deref-in-None.ensures.value (rw c.deref.ensures.value at c.in-None.ensures.taken)
 
 pub returns-in-Ok : goal.returns-in-Ok
 returns-in-Ok c =
-    answers_from c.args.bytes.now (placed_all c.in-Ok.items.items) c.meaning.result c.in-Ok.ensures
-    (taken_items c.args.bytes.now (placed_all c.in-Ok.items.items) (placed_all c.deref.result.now) _ (ap placed_all c.deref.ensures.value) c.in-None.ensures)
-    (rw c.deref-in-None.ensures.value at c.meaning.ensures)
+    answers_from c.args.bytes.now (placed_all c.in-Ok.items.items) c.meaning.result c.in-Ok.ensures (rw c.deref.ensures.value at c.in-None.ensures.taken) (rw c.deref-in-None.ensures.value at c.meaning.ensures)
 
 pub returns : goal.returns
-returns c = answers_err c.args.bytes.now c.in-Err.error c.in-Err.ensures
+returns c = rw c.from.ensures (answers_err c.args.bytes.now c.in-Err.error c.in-Err.ensures)

@@ -1,7 +1,7 @@
 use Rattle.std.proofs.Common.{◌≡◌, ◌++◌}
-use Rattle.cs_yacc.specs.Items.{items_of}
+use Rattle.cs_yacc_items.specs.Items.{items_of}
 use Rattle.cs_yacc.specs.Meaning.{body}
-use Rattle.cs_yacc.specs.Views.{placed_all}
+use Rattle.cs_yacc_items.specs.Views.{placed_all}
 use Rattle.cs_yacc.specs.WordView.{words_of}
 use Rattle.cs_yacc.proofs.Loops.{rest_at}
 use Rattle.cs_yacc.proofs.spelled.body.Given as goal

@@ -1,7 +1,7 @@
 use Rattle.std.specs.Prelude.{option_map}
-use Rattle.cs_yacc.specs.Items.{items_of}
+use Rattle.cs_yacc_items.specs.Items.{items_of}
 use Rattle.cs_yacc.specs.Meaning.{kept}
-use Rattle.cs_yacc.specs.Views.{placed_all}
+use Rattle.cs_yacc_items.specs.Views.{placed_all}
 use Rattle.cs_yacc.specs.WordView.{word_of}
 use Rattle.cs_yacc.specs.RuleView.{spelled_rules}
 use Rattle.cs_yacc.proofs.Loops.{rest_at}

@@ -1,0 +1,5 @@
+use Rattle.cs_yacc_items.proofs.Begin.{number_is}
+use Rattle.cs_yacc_items.proofs.item.number_at.Goals as goal
+
+pub returns : goal.returns
+returns c = number_is _ _ c.requires c.digits_len-size.ensures

@@ -1,0 +1,20 @@
+-- What reading of items answers: the items, or where it stops and why.
+use Rattle.std.specs.Prelude.{ℕ, List, drop, Result, Ok, Err}
+use Rattle.std.specs.Global.{Vec}
+use Rattle.cs_yacc_items.specs.declared.item.Placed as held
+use Rattle.cs_yacc_items.specs.declared.error.ItemsError.{ItemsError}
+use Rattle.cs_yacc_items.specs.declared.error.ItemsError.TheVariants.{BadItem, Unended, UnknownDirective, Memory}
+use Rattle.cs_yacc_items.specs.Items.{Placed, Reads, StopsAt, IsOpen, BeginsUnknown, BeginsNeither}
+use Rattle.cs_yacc_items.specs.Views.{placed_all}
+
+-- reading of items stops at the offset
+abbrev pub StopsThere : List ℕ → ℕ → Type 0
+StopsThere bytes at = (items : List Placed) × StopsAt bytes items at
+
+-- the items of the bytes, or why reading of items stops; memory may run out
+abbrev pub AnswersItems : List ℕ → Result (Vec held.Placed) ItemsError → Type 0
+AnswersItems bytes (Ok v) = Reads bytes (placed_all v.items)
+AnswersItems bytes (Err (BadItem at)) = StopsThere bytes at × BeginsNeither (drop at bytes)
+AnswersItems bytes (Err (Unended at)) = StopsThere bytes at × IsOpen (drop at bytes)
+AnswersItems bytes (Err (UnknownDirective at)) = StopsThere bytes at × BeginsUnknown (drop at bytes)
+AnswersItems bytes (Err Memory) = Unit {0}

@@ -1,0 +1,79 @@
+// Reading a text item by item.
+
+ghost use Rattle.std.specs.Prelude.{◌≡◌, ◌≤◌, ◌<◌, ℕ, length, drop};
+ghost use Rattle.cs_yacc_items.specs.Items as spec;
+ghost use Rattle.cs_yacc_items.specs.Steps.{IsNext};
+ghost use Rattle.cs_yacc_items.specs.Stops.{AnswersItems};
+ghost use Rattle.cs_yacc_items.specs.Views.{item_of};
+
+use crate::MOST_BYTES;
+use crate::bytes::from_offset;
+use crate::error::ItemsError;
+use crate::gap::skip_gap;
+use crate::item::{Front, Item, Placed, front_of};
+use std::alloc::Global;
+
+/// What stands behind an offset.
+enum Next<'a> {
+    Item { placed: Placed<'a>, end: usize },
+    End,
+    Stop(ItemsError),
+}
+
+fn next_item(bytes: &[u8], from: usize) -> Next<'_>
+    requires within { from ≤ length bytes.now }
+    requires short { length bytes.now ≤ MOST_BYTES }
+    ensures { IsNext bytes.now from result }
+{
+    let offset = skip_gap(bytes, from);
+    if offset == bytes.len() {
+        return Next::End;
+    }
+    let at = offset as u32;
+    match front_of(from_offset(bytes, offset)) {
+        Front::Item(item, size) => Next::Item {
+            placed: Placed { at, item },
+            end: offset + size,
+        },
+        Front::Open => Next::Stop(ItemsError::Unended { at }),
+        Front::Unknown => Next::Stop(ItemsError::UnknownDirective { at }),
+        Front::Nothing => Next::Stop(ItemsError::BadItem { at }),
+    }
+}
+
+/// The count of marks behind the item, where so many stand before it.
+fn marks_behind(marks: u8, item: Item<'_>) -> u8
+    requires { marks < 2 }
+    ensures { result ≡ spec.marks_behind marks (item_of item.entry) }
+{
+    match item {
+        Item::Mark => marks + 1,
+        _ => marks,
+    }
+}
+
+/// The items of the bytes, each with the offset of its first byte, through the second mark or to the end.
+///
+/// The errors come where reading stops before: `Unended` where a comment, prologue or block begins that isn't closed,
+/// `UnknownDirective` where a directive of an unknown word begins, `BadItem` where neither does. `Memory` is want of memory.
+/// Source: POSIX yacc, the grammar file.
+pub fn read_items(alloc: Global, bytes: &[u8]) -> Result<Vec<Placed<'_>>, ItemsError>
+    requires { length bytes.now ≤ MOST_BYTES }
+    ensures { AnswersItems bytes.now result }
+{
+    let mut items = Vec::new(alloc);
+    let mut from = 0;
+    let mut marks = 0;
+    while marks < 2 {
+        match next_item(bytes, from) {
+            Next::Item { placed, end } => {
+                items.push(placed)?;
+                from = end;
+                marks = marks_behind(marks, placed.item);
+            }
+            Next::End => return Ok(items),
+            Next::Stop(error) => return Err(error),
+        }
+    }
+    Ok(items)
+}

@@ -1,0 +1,31 @@
+// Laws of reading items.
+
+ghost use Rattle.std.specs.Prelude.{◌≡◌, ℕ, List};
+ghost use Rattle.cs_yacc_items.specs.Items.{Placed, Reads, items_of};
+ghost use Rattle.cs_yacc_items.specs.Stops.{StopsThere};
+ghost use Rattle.cs_yacc_items.specs.Table.{IsTaken, IsStuck};
+
+/// A text is read into one list of items.
+pub fn one_reading()
+    ensures { (bytes : List ℕ) (ps qs : List Placed) → Reads bytes ps → Reads bytes qs → ps ≡ qs }
+{}
+
+/// Reading of a text stops at one offset.
+pub fn one_stop()
+    ensures { (bytes : List ℕ) (a b : ℕ) → StopsThere bytes a → StopsThere bytes b → a ≡ b }
+{}
+
+/// No text is both read and not read to its end.
+pub fn stopped_is_not_read()
+    ensures { (bytes : List ℕ) (at : ℕ) (ps : List Placed) → StopsThere bytes at → Reads bytes ps → ⊥ }
+{}
+
+/// The table stops at one offset.
+pub fn one_stuck()
+    ensures { (length : ℕ) (ps : List Placed) (a b : ℕ) → IsStuck length ps a → IsStuck length ps b → a ≡ b }
+{}
+
+/// The table doesn't both stop and take all items.
+pub fn stuck_is_not_taken()
+    ensures { (length : ℕ) (ps : List Placed) (at : ℕ) → IsStuck length ps at → IsTaken (items_of ps) → ⊥ }
+{}
