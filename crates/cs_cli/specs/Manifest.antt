@@ -9,9 +9,11 @@ use Rattle.cs_grammar.specs.Leftmost.{IsYield}
 use Rattle.cs_yacc.specs.declared.name.TokenName.{TokenName}
 use Rattle.cs_yacc.specs.declared.name.TokenName.TheVariants.{Word, Byte}
 use Rattle.cs_yacc.specs.File.{File}
-use Rattle.cs_cost.specs.declared.through.Through.{Through}
-use Rattle.cs_cost.specs.declared.through.Through.TheVariants.{Found, Nowhere, Large}
-use Rattle.cs_cost.specs.Verdict.{IsVerdict}
+use Rattle.cs_goals.specs.declared.goal.Goal.{Goal}
+use Rattle.cs_goals.specs.Goals.{rule_goals}
+use Rattle.cs_positive.specs.declared.verdict.Verdict.{Verdict}
+use Rattle.cs_positive.specs.declared.verdict.Verdict.TheVariants.{Feasible, Infeasible, Large}
+use Rattle.cs_positive.specs.Verdict.{IsVerdict}
 use Rattle.cs_cli.specs.Entry.{Entry}
 
 -- ---- words and lines
@@ -83,29 +85,29 @@ derive_line derivation = line (codes "  derive" ++ spaced decimal derivation)
 abbrev pub tokens_line : File → List ℕ → List ℕ
 tokens_line file tokens = line (codes "  tokens" ++ spaced (token_of file) tokens)
 
--- A goal's lines. Only where a derivation is found there are more than one.
-abbrev pub verdict_lines : File → ℕ → Through → List ℕ → List ℕ
-verdict_lines file number (Found size derivation) tokens =
+-- A goal's lines. Only where it is feasible there are more than one.
+abbrev pub verdict_lines : File → ℕ → Verdict → List ℕ → List ℕ
+verdict_lines file number (Feasible size derivation) tokens =
     line (goal_words number ++ codes " size " ++ decimal size) ++ derive_line derivation ++ tokens_line file tokens
-verdict_lines file number Nowhere tokens = line (goal_words number ++ codes " infeasible")
+verdict_lines file number Infeasible tokens = line (goal_words number ++ codes " infeasible")
 verdict_lines file number Large tokens = line (goal_words number ++ codes " large")
 
 abbrev pub entry_lines : File → ℕ → Entry → List ℕ
 entry_lines file number entry = verdict_lines file number entry.verdict entry.tokens
 
-abbrev pub is_found : Through → Bool
-is_found (Found size derivation) = true
-is_found Nowhere = false
-is_found Large = false
+abbrev pub is_feasible : Verdict → Bool
+is_feasible (Feasible size derivation) = true
+is_feasible Infeasible = false
+is_feasible Large = false
 
-abbrev pub is_nowhere : Through → Bool
-is_nowhere (Found size derivation) = false
-is_nowhere Nowhere = true
-is_nowhere Large = false
+abbrev pub is_infeasible : Verdict → Bool
+is_infeasible (Feasible size derivation) = false
+is_infeasible Infeasible = true
+is_infeasible Large = false
 
-abbrev pub is_large : Through → Bool
-is_large (Found size derivation) = false
-is_large Nowhere = false
+abbrev pub is_large : Verdict → Bool
+is_large (Feasible size derivation) = false
+is_large Infeasible = false
 is_large Large = true
 
 -- a count behind its word
@@ -116,8 +118,8 @@ count_text word count = word ++ decimal count
 abbrev pub end_line : List Entry → List ℕ
 end_line entries =
     count_text (codes "end goals ") (length entries)
-    ++ count_text (codes " feasible ") (count_by (λ e. is_found e.verdict) entries)
-    ++ count_text (codes " infeasible ") (count_by (λ e. is_nowhere e.verdict) entries)
+    ++ count_text (codes " feasible ") (count_by (λ e. is_feasible e.verdict) entries)
+    ++ count_text (codes " infeasible ") (count_by (λ e. is_infeasible e.verdict) entries)
     ++ count_text (codes " large ") (count_by (λ e. is_large e.verdict) entries)
     ++ line (codes " negatives 0")
 
@@ -127,25 +129,26 @@ rules_text file entries = head file ++ numbered (entry_lines file) entries ++ en
 -- ---- the manifest
 
 -- the tokens of a verdict's derivation; there are none where it has no derivation
-abbrev pub AreTokensOf : Syntax → Through → List ℕ → Type 0
-AreTokensOf g (Found size derivation) tokens = IsYield g derivation tokens
-AreTokensOf g Nowhere tokens = tokens ≡ []
+abbrev pub AreTokensOf : Syntax → Verdict → List ℕ → Type 0
+AreTokensOf g (Feasible size derivation) tokens = IsYield g derivation tokens
+AreTokensOf g Infeasible tokens = tokens ≡ []
 AreTokensOf g Large tokens = tokens ≡ []
 
--- the verdict of rule r over all trees, with its tokens
-pub record IsEntryOf (g : Syntax) (r : ℕ) (entry : Entry) : Type 0 where
-  pub verdict : IsVerdict g r entry.verdict
+-- the verdict of the goal over all trees, with its tokens
+pub record IsEntryOf (g : Syntax) (goal : Goal) (entry : Entry) : Type 0 where
+  pub verdict : IsVerdict g goal entry.verdict
   pub tokens : AreTokensOf g entry.verdict entry.tokens
 
--- the entries are those of rule r and of the rules behind it, in order
-abbrev pub EntriesFrom : Syntax → ℕ → List Entry → Type 0
-EntriesFrom g r [] = Unit {0}
-EntriesFrom g r (entry ∷ entries) = IsEntryOf g r entry × EntriesFrom g (r + 1) entries
+-- one entry for each of these goals, in order
+abbrev pub EntriesOf : Syntax → List Goal → List Entry → Type 0
+EntriesOf g [] [] = Unit {0}
+EntriesOf g (goal ∷ goals) (entry ∷ entries) = IsEntryOf g goal entry × EntriesOf g goals entries
+EntriesOf g [] (entry ∷ entries) = ⊥
+EntriesOf g (goal ∷ goals) [] = ⊥
 
--- one entry for each rule, in order
+-- one entry for each rule goal, in order
 pub record AreEntries (g : Syntax) (entries : List Entry) : Type 0 where
-  pub each : EntriesFrom g 1 entries
-  pub all : length entries ≡ length g.rules
+  pub each : EntriesOf g (rule_goals g) entries
 
 -- the text is the `rules` manifest of the file
 pub record IsManifest (file : File) (text : List ℕ) : Type 0 where

@@ -1,21 +1,23 @@
 // The verdicts of a grammar's rule goals.
 
-ghost use Rattle.std.specs.Prelude.{◌≡◌, ◌+◌, ◌<◌, ◌^◌, All, IfOk, length};
+ghost use Rattle.std.specs.Prelude.{◌≡◌, ◌<◌, ◌^◌, IfOk, length};
 ghost use Rattle.cs_grammar.specs.declared.symbol.Symbol.TheVariants.{Nonterminal};
-ghost use Rattle.cs_grammar.specs.Grammar.{IsNumberOf};
 ghost use Rattle.cs_grammar.specs.Leftmost.{IsYield};
 ghost use Rattle.cs_grammar.specs.Tree.{IsDerivation};
+ghost use Rattle.cs_goals.specs.Goal.{IsGoal};
+ghost use Rattle.cs_positive.specs.Verdict.{IsPair};
 ghost use Rattle.cs_cli.specs.Manifest.{AreEntries, IsEntryOf};
 
-use cs_cost::{Costs, Through};
+use cs_goals::{Criteria, Goal, Goals};
 use cs_grammar::{Derivation, ExpandError, Grammar, expand};
+use cs_positive::{Tables, Verdict, judge};
 use std::alloc::{AllocError, Global};
 use std::marker::Model;
 
 /// The verdict of a rule goal, and the tokens of its derivation, where it has one.
 #[derive(Debug, Drop)]
 pub struct Entry {
-    pub verdict: Through,
+    pub verdict: Verdict,
     pub tokens: Vec<u16>,
 }
 
@@ -27,26 +29,33 @@ impl Model for Entry {
     ghost view = { λ e. record { verdict = e.verdict; tokens = e.tokens.items } };
 }
 
-/// The entries of all rule goals, in the order of their rules.
-pub fn entries(alloc: Global, costs: &Costs) -> Result<Vec<Entry>, AllocError>
-    ensures { IfOk result (λ entries. AreEntries costs.now entries.items) }
+/// The entries of all rule goals, in the order of the goals.
+pub fn entries(alloc: Global, tables: &Tables) -> Result<Vec<Entry>, AllocError>
+    ensures { IfOk result (λ entries. AreEntries tables.now entries.items) }
 {
-    let count = costs.grammar().rules().len();
-    let mut entries = Vec::with_capacity(alloc, count)?;
-    for place in 0..count {
-        entries.push(entry_of(alloc, costs, place as u16 + 1)?)?;
+    let grammar = tables.grammar();
+    let criteria = Criteria {
+        rule: true,
+        cdrc: false,
+        pair: false,
+    };
+    let mut goals = Goals::new(grammar, criteria);
+    let mut entries = Vec::with_capacity(alloc, grammar.rules().len())?;
+    while let Some(goal) = goals.next() {
+        entries.push(entry_of(alloc, tables, &goal)?)?;
     }
     Ok(entries)
 }
 
-fn entry_of(alloc: Global, costs: &Costs, rule: u16) -> Result<Entry, AllocError>
-    requires { IsNumberOf (length costs.now.rules) rule }
-    ensures { IfOk result (IsEntryOf costs.now rule) }
+fn entry_of(alloc: Global, tables: &Tables, goal: &Goal) -> Result<Entry, AllocError>
+    requires goal { IsGoal tables.now goal.now }
+    requires no_pair { IsPair goal.now → ⊥ }
+    ensures { IfOk result (IsEntryOf tables.now goal.now) }
 {
-    let verdict = costs.through(rule)?;
+    let verdict = judge(alloc, tables, goal)?;
     let tokens = match &verdict {
-        Through::Found { derivation, .. } => tokens_of(alloc, costs.grammar(), derivation)?,
-        Through::Nowhere | Through::Large => Vec::new(alloc),
+        Verdict::Feasible { derivation, .. } => tokens_of(alloc, tables.grammar(), derivation)?,
+        Verdict::Infeasible | Verdict::Large => Vec::new(alloc),
     };
     Ok(Entry { verdict, tokens })
 }

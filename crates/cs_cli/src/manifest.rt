@@ -5,8 +5,8 @@ ghost use Rattle.cs_grammar.specs.Grammar.{IsNumberOf, IsRuleOf, IsSymbol};
 ghost use Rattle.cs_cli.specs.Manifest as spec;
 
 use crate::entry::Entry;
-use cs_cost::Through;
 use cs_grammar::{Rule, Symbol};
+use cs_positive::Verdict;
 use cs_yacc::{TokenName, YaccFile};
 use itoa::Buffer;
 use std::alloc::{AllocError, Global};
@@ -125,9 +125,9 @@ fn push_entry(
 {
     push_goal(text, number)?;
     match &entry.verdict {
-        Through::Nowhere => text.extend_from_slice(b" infeasible\n"),
-        Through::Large => text.extend_from_slice(b" large\n"),
-        Through::Found { size, derivation } => {
+        Verdict::Infeasible => text.extend_from_slice(b" infeasible\n"),
+        Verdict::Large => text.extend_from_slice(b" large\n"),
+        Verdict::Feasible { size, derivation } => {
             push_size(text, *size)?;
             push_derivation(text, derivation.rules())?;
             push_yield(text, file, &entry.tokens)
@@ -198,8 +198,8 @@ fn push_end(text: &mut Vec<u8>, entries: &[Entry]) -> Result<(), AllocError>
     ensures { OnOk result (text.new.items ≡ text.old.items ++ spec.end_line entries.now) }
 {
     push_count(text, b"end goals ", entries.len())?;
-    push_count(text, b" feasible ", found(entries))?;
-    push_count(text, b" infeasible ", nowhere(entries))?;
+    push_count(text, b" feasible ", feasible(entries))?;
+    push_count(text, b" infeasible ", infeasible(entries))?;
     push_count(text, b" large ", large(entries))?;
     text.extend_from_slice(b" negatives 0\n")?;
     Ok(())
@@ -212,21 +212,21 @@ fn push_count(text: &mut Vec<u8>, word: &[u8], count: usize) -> Result<(), Alloc
     push_number(text, count as u64)
 }
 
-fn found(entries: &[Entry]) -> usize
-    ensures { result ≡ count_by (λ entry. spec.is_found entry.verdict) entries.now }
+fn feasible(entries: &[Entry]) -> usize
+    ensures { result ≡ count_by (λ entry. spec.is_feasible entry.verdict) entries.now }
 {
     entries
         .iter()
-        .filter(|entry| matches!(entry.verdict, Through::Found { .. }))
+        .filter(|entry| matches!(entry.verdict, Verdict::Feasible { .. }))
         .count()
 }
 
-fn nowhere(entries: &[Entry]) -> usize
-    ensures { result ≡ count_by (λ entry. spec.is_nowhere entry.verdict) entries.now }
+fn infeasible(entries: &[Entry]) -> usize
+    ensures { result ≡ count_by (λ entry. spec.is_infeasible entry.verdict) entries.now }
 {
     entries
         .iter()
-        .filter(|entry| matches!(entry.verdict, Through::Nowhere))
+        .filter(|entry| matches!(entry.verdict, Verdict::Infeasible))
         .count()
 }
 
@@ -235,7 +235,7 @@ fn large(entries: &[Entry]) -> usize
 {
     entries
         .iter()
-        .filter(|entry| matches!(entry.verdict, Through::Large))
+        .filter(|entry| matches!(entry.verdict, Verdict::Large))
         .count()
 }
 

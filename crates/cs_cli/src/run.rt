@@ -13,8 +13,8 @@ use crate::entry::entries;
 use crate::manifest::rules_text;
 use crate::report::{report, status};
 use crate::words::read_words;
-use cs_cost::Costs;
 use cs_io::{Desk, DeskError, Sink, write_all};
+use cs_positive::Tables;
 use cs_yacc::{MOST_BYTES, YaccError, YaccFile, read_yacc};
 use std::alloc::{AllocError, Global};
 
@@ -53,8 +53,8 @@ fn rules<D: Desk, O: Sink>(alloc: Global, name: &str, desk: &mut D, out: &mut O)
 fn manifest(alloc: Global, file: &YaccFile) -> Result<Vec<u8>, AllocError>
     ensures { IfOk result (λ text. IsManifest file.now text.items) }
 {
-    let costs = Costs::new(alloc, file.grammar())?;
-    let entries = entries(alloc, &costs)?;
+    let tables = Tables::new(alloc, file.grammar())?;
+    let entries = entries(alloc, &tables)?;
     Ok(rules_text(alloc, file, &entries)?)
 }
 

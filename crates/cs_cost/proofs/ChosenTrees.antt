@@ -250,3 +250,21 @@ module _ (g : Syntax) where
   pub chosen_least : (x : Symbol) (t u : Tree) → IsTree g x t → IsChosen g x u → size u ≤ size t
   chosen_least x t (Leaf s) ht hu = size_above t
   chosen_least x t (Node r f) ht hu = hu.3.least t ht
+
+-- symbols with trees have chosen trees
+pub chosen_forest : (g : Syntax) (f : Forest) (xs : List Symbol) → AreTrees g xs f → (h : Forest) × AreChosen g xs h
+chosen_forest g Bare [] h = (Bare, tt)
+chosen_forest g Bare (x ∷ xs) h = absurd h
+chosen_forest g (Grown t f) [] h = absurd h
+chosen_forest g (Grown t f) (x ∷ xs) h =
+    let first = chosen_exists g x t h.0 in
+    let others = chosen_forest g f xs h.1 in
+    (Grown first.tree others.0, (first.chosen, others.1))
+
+-- chosen trees of some symbols are of least size together
+pub forest_least : (g : Syntax) (f h : Forest) (xs : List Symbol) → AreChosen g xs f → AreTrees g xs h → sizes f ≤ sizes h
+forest_least g Bare h [] cf hh = omega arith
+forest_least g Bare h (x ∷ xs) cf hh = absurd cf
+forest_least g (Grown t f) h [] cf hh = absurd cf
+forest_least g (Grown t f) Bare (x ∷ xs) cf hh = absurd hh
+forest_least g (Grown t f) (Grown u h) (x ∷ xs) cf hh = omega (arith, chosen_least g x u t hh.0 cf.0, forest_least g f h xs cf.1 hh.1)

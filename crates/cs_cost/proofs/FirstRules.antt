@@ -1,20 +1,21 @@
 -- The lowest rules of least cost.
-use Rattle.std.proofs.Common.{◌≡◌, ℕ, ◌+◌, ◌-◌, ◌<◌, ◌≤◌, ◌≢◌, ◌⊎◌, List, Some, length, get_or, refl, sym, ap, ◌∙◌, subst, ⊎_elim, inl, inr, arith, below_more}
+use Rattle.std.proofs.Common.{◌≡◌, ℕ, ◌+◌, ◌-◌, ◌<◌, ◌≤◌, ◌≢◌, ◌⊎◌, List, Option, Some, None, length, get_or, replicate, refl, sym, ap, ◌∙◌, subst, ⊎_elim, inl, inr, arith, below_more}
 use Rattle.std.specs.Prelude.{slice_get}
 use Rattle.std.proofs.Math.ListN.{set}
 use Rattle.std.proofs.lemmas.Bool.{cases_eq, cases_lt}
-use Rattle.std.proofs.lemmas.List.{length-set, get_or-set_same, get_or-set_other}
-use Rattle.std.proofs.lemmas.Option.{slice_get_within}
+use Rattle.std.proofs.lemmas.List.{length-set, get_or-set_same, get_or-set_other, length-replicate, get_or-replicate}
+use Rattle.std.proofs.lemmas.Option.{slice_get_within, slice_get-get_or, slice_get_read}
 use Rattle.cs_grammar.specs.declared.symbol.Symbol.{Symbol}
 use Rattle.cs_grammar.specs.declared.symbol.Symbol.TheVariants.{Token, Nonterminal}
 use Rattle.cs_grammar.specs.Grammar.{Production, Syntax, IsNumberOf}
-use Rattle.cs_grammar.specs.Tree.{Tree, Leaf, Node, IsTree, size}
+use Rattle.cs_grammar.specs.Tree.{Tree, Leaf, Node, IsTree, AreTrees, size, sizes}
 use Rattle.cs_cost.specs.declared.cost.Cost.{Cost}
+use Rattle.cs_cost.specs.declared.cost.Cost.TheVariants.{Least}
 use Rattle.cs_cost.specs.Least.{IsCost}
-use Rattle.cs_cost.specs.Rank.{capped, rank, cost_of, entry}
+use Rattle.cs_cost.specs.Rank.{capped, rank, cost_of, sum_from, entry}
 use Rattle.cs_cost.specs.Trees.{cost_in, node_cost, IsTreeOf, IsCostTable, IsFirstRule, AreFirstRules}
-use Rattle.cs_cost.proofs.Ranks.{rank-cost_of, IsCost-from, cost_low, cost_reached}
-use Rattle.cs_cost.proofs.TreeCosts.{IsReached, IsReached-holds, forest_at_most}
+use Rattle.cs_cost.proofs.Ranks.{rank-cost_of, IsCapped-sum_from, IsCost-from, cost_low, cost_reached}
+use Rattle.cs_cost.proofs.TreeCosts.{IsReached, IsReached-holds, forested, forest_at_most}
 use Rattle.cs_cost.proofs.Rounds.{rule_at, well_formed_at}
 
 -- no tree of a symbol is smaller than the table of a grammar says
@@ -36,6 +37,15 @@ pub symbol_cost : (limit : ℕ) (g : Syntax) (table : List Cost) → IsCostTable
 symbol_cost limit g table exact x =
     let is_reached = symbols_reached limit g table exact in
     IsCost-from limit (IsTree g x) size (cost_in limit table x) (is_reached.each x) (is_reached.reached x) (symbol_low limit g table exact x)
+
+-- and of symbols together
+pub symbols_cost : (limit : ℕ) (g : Syntax) (table : List Cost) → IsCostTable limit g table → (xs : List Symbol) → IsCost limit (AreTrees g xs) sizes (sum_from limit (cost_in limit table) (Least 0) xs)
+symbols_cost limit g table exact xs =
+    let told = cost_in limit table in
+    let is_reached = symbols_reached limit g table exact in
+    IsCost-from limit (AreTrees g xs) sizes (sum_from limit told (Least 0) xs) (IsCapped-sum_from limit told is_reached.each xs (Least 0) (omega arith))
+    (λ h. let f = forested limit g told is_reached xs (Least 0) (omega arith) h in (f.trees, f.are, omega (arith, f.cost)))
+    (λ f h. omega (arith, forest_at_most limit g told (symbol_low limit g table exact) f xs (Least 0) 0 (omega arith) h))
 
 -- no rule of the left side at an index below i costs what the table says
 pub record NoneBefore (limit : ℕ) (g : Syntax) (table : List Cost) (left i : ℕ) : Type 0 where
@@ -76,81 +86,96 @@ module _ (limit : ℕ) (g : Syntax) (table : List Cost) (exact : IsCostTable lim
       let t = cost_reached limit (IsTreeOf g left) size (entry table left) (exact.exact left) (omega (arith, small)) in
       no_tree t.0 t.1 t.2
 
--- the first rule of a nonterminal among those below index i, or 0 where there is none yet
-abbrev pub IsFirstSoFar : ℕ → Syntax → List Cost → ℕ → ℕ → ℕ → Type 0
-IsFirstSoFar limit g table i n r = ((r ≡ 0) × NoneBefore limit g table n i) ⊎ IsFirstRule limit g table n r
+-- the first rule of a nonterminal among those below index i, where there is one yet
+abbrev pub IsFirstSoFar : ℕ → Syntax → List Cost → ℕ → ℕ → Option ℕ → Type 0
+IsFirstSoFar limit g table i n o = ((o ≡ None) × NoneBefore limit g table n i) ⊎ ((r : ℕ) × (o ≡ Some r) × IsFirstRule limit g table n r)
 
-pub record FirstsSoFar (limit : ℕ) (g : Syntax) (table : List Cost) (firsts : List ℕ) (i : ℕ) : Type 0 where
+pub record FirstsSoFar (limit : ℕ) (g : Syntax) (table : List Cost) (firsts : List (Option ℕ)) (i : ℕ) : Type 0 where
   pub many : length firsts ≡ g.nonterminals
-  pub each : (n : ℕ) → IsNumberOf g.nonterminals n → IsFirstSoFar limit g table i n (get_or firsts (n - 1) 0)
+  pub each : (n : ℕ) → IsNumberOf g.nonterminals n → IsFirstSoFar limit g table i n (get_or firsts (n - 1) None)
 
-module _ (limit : ℕ) (g : Syntax) (table : List Cost) (firsts : List ℕ) (i : ℕ) (q : Production) (at : slice_get g.rules i ≡ Some q) (so_far : FirstsSoFar limit g table firsts i) where
+-- before the first rule
+pub firsts_start : (limit : ℕ) (g : Syntax) (table : List Cost) → FirstsSoFar limit g table (replicate g.nonterminals None) 0
+firsts_start limit g table = record {
+  many = length-replicate g.nonterminals None;
+  each = λ n number. inl (get_or-replicate g.nonterminals (n - 1) None None (omega (arith, number)), record { dearer = λ k o below at e. absurd (omega (arith, below)) });
+}
+
+module _ (limit : ℕ) (g : Syntax) (table : List Cost) (firsts : List (Option ℕ)) (i : ℕ) (q : Production) (at : slice_get g.rules i ≡ Some q) (so_far : FirstsSoFar limit g table firsts i) where
   -- what was known of a nonterminal stays, where this rule is none of its first
-  kept : (n r : ℕ) → (r ≡ 0 → q.left ≡ n → rank limit (entry table n) < rank limit (node_cost limit table q.right)) → IsFirstSoFar limit g table i n r → IsFirstSoFar limit g table (i + 1) n r
-  kept n r here known =
+  kept : (n : ℕ) (o : Option ℕ) → (o ≡ None → q.left ≡ n → rank limit (entry table n) < rank limit (node_cost limit table q.right)) → IsFirstSoFar limit g table i n o → IsFirstSoFar limit g table (i + 1) n o
+  kept n o here known =
       ⊎_elim (λ none. inl (none.0, none_more limit g table n i q at none.1 (here none.0))) (λ first. inr first) known
 
   -- the left side has its first rule, or this one costs more
-  pub firsts_kept : (get_or firsts (q.left - 1) 0 ≡ 0 → rank limit (entry table q.left) < rank limit (node_cost limit table q.right)) → FirstsSoFar limit g table firsts (i + 1)
+  pub firsts_kept : (get_or firsts (q.left - 1) None ≡ None → rank limit (entry table q.left) < rank limit (node_cost limit table q.right)) → FirstsSoFar limit g table firsts (i + 1)
   firsts_kept here = record {
     many = so_far.many;
     each = λ n number.
-        kept n (get_or firsts (n - 1) 0)
+        kept n (get_or firsts (n - 1) None)
         (λ zero left. subst (λ m. rank limit (entry table m) < rank limit (node_cost limit table q.right)) left
-        (here (ap (λ m. get_or firsts (m - 1) 0) left ∙ zero)))
+        (here (ap (λ m. get_or firsts (m - 1) None) left ∙ zero)))
         (so_far.each n number);
   }
 
   -- this rule is the first of its left side
-  pub firsts_more : IsNumberOf g.nonterminals q.left → get_or firsts (q.left - 1) 0 ≡ 0 → rank limit (node_cost limit table q.right) ≤ rank limit (entry table q.left) → FirstsSoFar limit g table (set firsts (q.left - 1) (i + 1)) (i + 1)
+  pub firsts_more : IsNumberOf g.nonterminals q.left → get_or firsts (q.left - 1) None ≡ None → rank limit (node_cost limit table q.right) ≤ rank limit (entry table q.left) → FirstsSoFar limit g table (set firsts (q.left - 1) (Some (i + 1))) (i + 1)
   firsts_more number unset cheap = record {
-    many = length-set firsts (q.left - 1) (i + 1) ∙ so_far.many;
+    many = length-set firsts (q.left - 1) (Some (i + 1)) ∙ so_far.many;
     each = λ n is_number. ⊎_elim (λ same. here n same) (λ other. there n is_number other) (cases_eq n q.left);
   }
     where
       none : NoneBefore limit g table q.left i
       none =
           ⊎_elim (λ known. known.1)
-          (λ first. absurd (omega (arith, unset, first.number.above_zero)))
+          (λ first. let e : None ≡ Some first.0 = sym unset ∙ first.1 in absurd cc)
           (so_far.each q.left number)
 
-      here : (n : ℕ) → n ≡ q.left → IsFirstSoFar limit g table (i + 1) n (get_or (set firsts (q.left - 1) (i + 1)) (n - 1) 0)
+      here : (n : ℕ) → n ≡ q.left → IsFirstSoFar limit g table (i + 1) n (get_or (set firsts (q.left - 1) (Some (i + 1))) (n - 1) None)
       here n same =
           let within : q.left - 1 < length firsts = omega (arith, number, so_far.many) in
-          let first : IsFirstSoFar limit g table (i + 1) q.left (i + 1) = inr (first_here limit g table q.left i q at none refl cheap) in
-          let read : i + 1 ≡ get_or (set firsts (q.left - 1) (i + 1)) (n - 1) 0 =
-          sym (ap (λ m. get_or (set firsts (q.left - 1) (i + 1)) (m - 1) 0) same ∙ get_or-set_same firsts (q.left - 1) (i + 1) 0 within) in
-          subst (λ m. IsFirstSoFar limit g table (i + 1) m (get_or (set firsts (q.left - 1) (i + 1)) (n - 1) 0)) (sym same)
+          let first : IsFirstSoFar limit g table (i + 1) q.left (Some (i + 1)) = inr (i + 1, refl, first_here limit g table q.left i q at none refl cheap) in
+          let read : Some (i + 1) ≡ get_or (set firsts (q.left - 1) (Some (i + 1))) (n - 1) None =
+          sym (ap (λ m. get_or (set firsts (q.left - 1) (Some (i + 1))) (m - 1) None) same ∙ get_or-set_same firsts (q.left - 1) (Some (i + 1)) None within) in
+          subst (λ m. IsFirstSoFar limit g table (i + 1) m (get_or (set firsts (q.left - 1) (Some (i + 1))) (n - 1) None)) (sym same)
           (subst (IsFirstSoFar limit g table (i + 1) q.left) read first)
 
-      there : (n : ℕ) → IsNumberOf g.nonterminals n → (n ≡ q.left → ⊥) → IsFirstSoFar limit g table (i + 1) n (get_or (set firsts (q.left - 1) (i + 1)) (n - 1) 0)
+      there : (n : ℕ) → IsNumberOf g.nonterminals n → (n ≡ q.left → ⊥) → IsFirstSoFar limit g table (i + 1) n (get_or (set firsts (q.left - 1) (Some (i + 1))) (n - 1) None)
       there n is_number other =
           let apart : n - 1 ≢ q.left - 1 = λ e. other (omega (arith, e, number, is_number)) in
-          subst (IsFirstSoFar limit g table (i + 1) n) (sym (get_or-set_other firsts (q.left - 1) (n - 1) (i + 1) 0 apart))
-          (kept n (get_or firsts (n - 1) 0) (λ zero left. absurd (other (sym left))) (so_far.each n is_number))
+          subst (IsFirstSoFar limit g table (i + 1) n) (sym (get_or-set_other firsts (q.left - 1) (n - 1) (Some (i + 1)) None apart))
+          (kept n (get_or firsts (n - 1) None) (λ zero left. absurd (other (sym left))) (so_far.each n is_number))
 
 -- behind the last rule
-pub firsts_all : (limit : ℕ) (g : Syntax) (table : List Cost) (firsts : List ℕ) (i : ℕ) → IsCostTable limit g table → length g.rules ≤ i → FirstsSoFar limit g table firsts i → AreFirstRules limit g table firsts
+pub firsts_all : (limit : ℕ) (g : Syntax) (table : List Cost) (firsts : List (Option ℕ)) (i : ℕ) → IsCostTable limit g table → length g.rules ≤ i → FirstsSoFar limit g table firsts i → AreFirstRules limit g table firsts
 firsts_all limit g table firsts i exact all so_far = record {
   many = so_far.many;
   each = λ n number small.
-      ⊎_elim (λ none. absurd (some_rule limit g table exact n i all none.1 small)) (λ first. first) (so_far.each n number);
+      ⊎_elim (λ none. absurd (some_rule limit g table exact n i all none.1 small))
+      (λ first. (first.0, slice_get-get_or firsts (n - 1) None (omega (arith, number, so_far.many)) ∙ ap Some first.1, first.2)) (so_far.each n number);
 }
 
 -- what the loop over the rules has found out
-module _ (limit : ℕ) (g : Syntax) (table : List Cost) (firsts : List ℕ) (i : ℕ) (q : Production) (left : ℕ) (right : List Symbol) (exact : IsCostTable limit g table) (at : slice_get g.rules i ≡ Some q) (is_left : left ≡ q.left) (is_right : right ≡ q.right) (so_far : FirstsSoFar limit g table firsts i) where
-  pub step_taken : get_or firsts (left - 1) 0 ≡ 0 → rank limit (node_cost limit table right) ≤ rank limit (entry table left) → FirstsSoFar limit g table (set firsts (left - 1) (i + 1)) (i + 1)
+module _ (limit : ℕ) (g : Syntax) (table : List Cost) (firsts : List (Option ℕ)) (i : ℕ) (q : Production) (left : ℕ) (right : List Symbol) (exact : IsCostTable limit g table) (at : slice_get g.rules i ≡ Some q) (is_left : left ≡ q.left) (is_right : right ≡ q.right) (so_far : FirstsSoFar limit g table firsts i) where
+  pub step_taken : get_or firsts (left - 1) None ≡ None → rank limit (node_cost limit table right) ≤ rank limit (entry table left) → FirstsSoFar limit g table (set firsts (left - 1) (Some (i + 1))) (i + 1)
   step_taken unset cheap =
-      subst (λ n. FirstsSoFar limit g table (set firsts (n - 1) (i + 1)) (i + 1)) (sym is_left)
-      (firsts_more limit g table firsts i q at so_far (well_formed_at g i q exact.grammar at).left (ap (λ n. get_or firsts (n - 1) 0) (sym is_left) ∙ unset)
+      subst (λ n. FirstsSoFar limit g table (set firsts (n - 1) (Some (i + 1))) (i + 1)) (sym is_left)
+      (firsts_more limit g table firsts i q at so_far (well_formed_at g i q exact.grammar at).left (ap (λ n. get_or firsts (n - 1) None) (sym is_left) ∙ unset)
       (omega (arith, cheap, ap (λ n. rank limit (entry table n)) is_left, ap (λ (l : List Symbol). rank limit (node_cost limit table l)) is_right)))
 
-  pub step_passed : ((get_or firsts (left - 1) 0 ≡ 0) × (rank limit (node_cost limit table right) ≤ rank limit (entry table left)) → ⊥) → FirstsSoFar limit g table firsts (i + 1)
+  pub step_passed : ((get_or firsts (left - 1) None ≡ None) × (rank limit (node_cost limit table right) ≤ rank limit (entry table left)) → ⊥) → FirstsSoFar limit g table firsts (i + 1)
   step_passed not_first =
       firsts_kept limit g table firsts i q at so_far (λ unset.
       ⊎_elim (λ dear. dear)
       (λ cheap. absurd (not_first (
-        ap (λ n. get_or firsts (n - 1) 0) is_left ∙ unset,
+        ap (λ n. get_or firsts (n - 1) None) is_left ∙ unset,
         omega (arith, cheap, ap (λ n. rank limit (entry table n)) is_left, ap (λ (l : List Symbol). rank limit (node_cost limit table l)) is_right),
       )))
       (cases_lt (rank limit (entry table q.left)) (rank limit (node_cost limit table q.right))))
+
+-- what the list says of a nonterminal within the limit
+pub first_is : (limit : ℕ) (g : Syntax) (table : List Cost) (firsts : List (Option ℕ)) → AreFirstRules limit g table firsts → (left : ℕ) → IsNumberOf g.nonterminals left → rank limit (entry table left) ≤ limit → (o : Option ℕ) → o ≡ get_or firsts (left - 1) o → (r : ℕ) × (o ≡ Some r) × IsFirstRule limit g table left r
+first_is limit g table firsts are left number small o read =
+    let first = are.each left number small in
+    let there = slice_get_read firsts (length firsts) (left - 1) o refl (omega (arith, number, are.many)) read in
+    (first.0, (let e = first.1 in cc), first.2)

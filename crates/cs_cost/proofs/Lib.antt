@@ -5,9 +5,3 @@ pub mod ChosenTrees
 pub mod Rounds
 pub mod FirstRules
 pub mod Written
-pub mod Steps
-pub mod EmbedRounds
-pub mod FirstSteps
-pub mod ChosenContexts
-pub mod Ways
-pub mod RuleGoals

@@ -3,7 +3,7 @@ use Rattle.std.specs.Prelude.{◌≡◌, ℕ, ◌≤◌, List, [], ◌∷◌, �
 use Rattle.cs_grammar.specs.declared.symbol.Symbol.{Symbol}
 use Rattle.cs_grammar.specs.declared.symbol.Symbol.TheVariants.{Token, Nonterminal}
 use Rattle.cs_grammar.specs.Grammar.{Production, Syntax, IsRule}
-use Rattle.cs_grammar.specs.Tree.{Tree, Leaf, Node, Forest, Bare, Grown, IsTree, size, code}
+use Rattle.cs_grammar.specs.Tree.{Tree, Leaf, Node, Forest, Bare, Grown, IsTree, size, code, codes_of}
 
 -- no tree of x has fewer than n nodes, and none of n nodes has a rule below r at its root
 pub record IsFirst (g : Syntax) (x : Symbol) (r n : ℕ) : Type 0 where
@@ -30,3 +30,9 @@ pub record AppendsChosen (g : Syntax) (x : Symbol) (old new : List ℕ) : Type 0
   pub tree : Tree
   pub chosen : IsChosen g x tree
   pub text : new ≡ old ++ code tree
+
+-- the codes of the chosen trees of these symbols come behind what stood there
+pub record AppendsAllChosen (g : Syntax) (xs : List Symbol) (old new : List ℕ) : Type 0 where
+  pub trees : Forest
+  pub chosen : AreChosen g xs trees
+  pub text : new ≡ old ++ codes_of trees

@@ -4,7 +4,4 @@ pub mod Holds
 pub mod Chosen
 pub mod Trees
 pub mod Parts
-pub mod ChosenContext
-pub mod Verdict
-pub mod Embeds
 pub mod Tables

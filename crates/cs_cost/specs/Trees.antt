@@ -1,10 +1,10 @@
 -- The table of what the least trees cost, and the rules at the roots of the chosen ones.
-use Rattle.std.specs.Prelude.{◌≡◌, ℕ, ◌-◌, ◌<◌, ◌≤◌, List, length, slice_index, All}
+use Rattle.std.specs.Prelude.{◌≡◌, ℕ, ◌-◌, ◌<◌, ◌≤◌, List, length, Option, Some, slice_get, All}
 use Rattle.cs_grammar.specs.declared.TheConstants.{LIMIT}
 use Rattle.cs_grammar.specs.declared.symbol.Symbol.{Symbol}
 use Rattle.cs_grammar.specs.declared.symbol.Symbol.TheVariants.{Token, Nonterminal}
 use Rattle.cs_grammar.specs.Grammar.{Production, Syntax, IsRule, IsNumberOf, IsGrammar}
-use Rattle.cs_grammar.specs.Tree.{Tree, Leaf, IsTree, size}
+use Rattle.cs_grammar.specs.Tree.{Tree, Leaf, Forest, IsTree, AreTrees, size, sizes}
 use Rattle.cs_cost.specs.declared.cost.Cost.{Cost}
 use Rattle.cs_cost.specs.declared.cost.Cost.TheVariants.{Least}
 use Rattle.cs_cost.specs.Least.{IsCost}
@@ -14,6 +14,10 @@ use Rattle.cs_cost.specs.Holds.{Holds}
 -- the least tree of x is within the limit
 abbrev pub HasLeast : Syntax → Symbol → Type 0
 HasLeast g x = (n : ℕ) × IsCost LIMIT (IsTree g x) size (Least n)
+
+-- some trees of these symbols are within the limit together
+abbrev pub HaveSmall : Syntax → List Symbol → Type 0
+HaveSmall g xs = (f : Forest) × AreTrees g xs f × (sizes f ≤ LIMIT)
 
 -- the kind of a nonterminal's trees
 abbrev pub IsTreeOf : Syntax → ℕ → Tree → Type 0
@@ -57,6 +61,6 @@ pub record IsFirstRule (limit : ℕ) (g : Syntax) (table : List Cost) (left r : 
   pub earlier : (q : ℕ) → (o : Production) → q < r → IsRule g q o → o.left ≡ left → rank limit (entry table left) < rank limit (node_cost limit table o.right)
 
 -- the rule at the root of the chosen tree of each nonterminal that has one within the limit
-pub record AreFirstRules (limit : ℕ) (g : Syntax) (table : List Cost) (firsts : List ℕ) : Type 0 where
+pub record AreFirstRules (limit : ℕ) (g : Syntax) (table : List Cost) (firsts : List (Option ℕ)) : Type 0 where
   pub many : length firsts ≡ g.nonterminals
-  pub each : (n : ℕ) → IsNumberOf g.nonterminals n → rank limit (entry table n) ≤ limit → IsFirstRule limit g table n (slice_index firsts (n - 1))
+  pub each : (n : ℕ) → IsNumberOf g.nonterminals n → rank limit (entry table n) ≤ limit → (r : ℕ) × (slice_get firsts (n - 1) ≡ Some (Some r)) × IsFirstRule limit g table n r

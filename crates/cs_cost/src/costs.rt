@@ -1,17 +1,14 @@
 // What the least tree of each symbol of a grammar costs.
 
-ghost use Rattle.std.specs.Prelude.{◌≡◌, IfOk, OnOk, OnErr, length};
-ghost use Rattle.cs_grammar.specs.Grammar.{IsSymbol, IsNumberOf};
-ghost use Rattle.cs_grammar.specs.Tree.{IsTree, size};
+ghost use Rattle.std.specs.Prelude.{◌≡◌, IfOk, OnOk, OnErr, All};
+ghost use Rattle.cs_grammar.specs.Grammar.{IsSymbol};
+ghost use Rattle.cs_grammar.specs.Tree.{IsTree, AreTrees, size, sizes};
 ghost use Rattle.cs_cost.specs.Least.{IsCost};
-ghost use Rattle.cs_cost.specs.Chosen.{AppendsChosen};
-ghost use Rattle.cs_cost.specs.Trees.{HasLeast};
-ghost use Rattle.cs_cost.specs.Verdict.{IsVerdict, HasThrough, IsCodeThrough};
+ghost use Rattle.cs_cost.specs.Chosen.{AppendsChosen, AppendsAllChosen};
+ghost use Rattle.cs_cost.specs.Trees.{HasLeast, HaveSmall};
 
-use crate::cost::{Cost, plus};
-use crate::embeds::{Embeds, embeds_of, way_out};
-use crate::through::Through;
-use crate::trees::{Trees, cost_in, node_cost, trees_of};
+use crate::cost::Cost;
+use crate::trees::{Trees, cost_in, sum_from, trees_of};
 use crate::writing::{Part, put_first, write};
 use cs_grammar::{Derivation, Grammar, LIMIT, Symbol};
 use std::alloc::{AllocError, Global};
@@ -21,18 +18,17 @@ use std::marker::Model;
 #[derive(Debug, Drop)]
 pub struct Costs<'g> {
     trees: Trees<'g>,
-    embeds: Embeds,
 }
 
 impl<'g> Model for Costs<'g> {
     ghost use Rattle.cs_grammar.specs.Grammar.{Syntax};
-    ghost use Rattle.cs_cost.specs.Tables.{AreTables};
+    ghost use Rattle.cs_cost.specs.Tables.{AreTrees};
 
     ghost Value = { Syntax };
 
     ghost view = { λ c. c.trees.grammar.now };
 
-    ghost invariant = { λ c. AreTables c.trees c.embeds };
+    ghost invariant = { λ c. AreTrees c.trees };
 }
 
 impl<'g> Costs<'g> {
@@ -41,8 +37,7 @@ impl<'g> Costs<'g> {
         ensures { IfOk result (λ costs. costs ≡ grammar.now) }
     {
         let trees = trees_of(alloc, grammar)?;
-        let embeds = embeds_of(alloc, grammar, &trees.table)?;
-        Ok(Costs { trees, embeds })
+        Ok(Costs { trees })
     }
 
     /// The grammar that these are the costs of.
@@ -61,6 +56,15 @@ impl<'g> Costs<'g> {
         cost_in(&self.trees.table, symbol)
     }
 
+    /// What the least trees of symbols cost together, one of each: as `cost` answers, of the sum of their sizes.
+    pub fn sum(&self, symbols: &[Symbol]) -> Cost
+        requires { All (IsSymbol self.now.tokens self.now.nonterminals) symbols.now }
+        ensures { IsCost LIMIT (AreTrees self.now symbols.now) sizes result }
+    {
+        let _rules = self.trees.grammar.rules();
+        sum_from(&self.trees.table, Cost::Least(0), symbols)
+    }
+
     /// Appends the code of the chosen tree of a symbol, whose cost is a number of nodes. After a refusal `into` is
     /// unchanged.
     pub fn least_into(&self, symbol: Symbol, into: &mut Derivation) -> Result<(), AllocError>
@@ -76,43 +80,19 @@ impl<'g> Costs<'g> {
         into.extend_from_slice(&out)
     }
 
-    /// What is told of the trees of the start symbol that use a rule, by its number: whether there are such trees, whether
-    /// one of them has at most `LIMIT` nodes, the size of a least one and the code of the chosen one.
-    pub fn through(&self, rule: u16) -> Result<Through, AllocError>
-        requires { IsNumberOf (length self.now.rules) rule }
-        ensures { IfOk result (IsVerdict self.now rule) }
-    {
-        let goal = &self.trees.grammar.rules()[rule as usize - 1];
-        let around = cost_in(&self.embeds.table, Symbol::Nonterminal(goal.left()));
-        let node = node_cost(&self.trees.table, goal.right());
-        match plus(around, node) {
-            Cost::Never => Ok(Through::Nowhere),
-            Cost::Large => Ok(Through::Large),
-            Cost::Least(size) => {
-                let derivation = self.chosen_through(rule)?;
-                Ok(Through::Found { size, derivation })
-            }
-        }
-    }
-
-    // The code of the chosen tree of the start symbol that uses a rule.
-    fn chosen_through(&self, rule: u16) -> Result<Derivation, AllocError>
-        requires rule { IsNumberOf (length self.now.rules) rule }
-        requires found { HasThrough self.now rule }
-        ensures { IfOk result (IsCodeThrough self.now rule) }
+    /// Appends the codes of the chosen trees of symbols, in their order, where some trees of them have together at most
+    /// `LIMIT` nodes. After a refusal `into` is unchanged.
+    pub fn all_into(&self, symbols: &[Symbol], into: &mut Derivation) -> Result<(), AllocError>
+        requires symbols { All (IsSymbol self.now.tokens self.now.nonterminals) symbols.now }
+        requires small { HaveSmall self.now symbols.now }
+        ensures ok { OnOk result (AppendsAllChosen self.now symbols.now into.old into.new) }
+        ensures err { OnErr result (into.new ≡ into.old) }
     {
         let alloc = *self.trees.table.allocator();
-        let goal = &self.trees.grammar.rules()[rule as usize - 1];
-        let way = way_out(alloc, self.trees.grammar, &self.embeds, goal.left())?;
         let mut pending = Vec::new(alloc);
-        put_first(&mut pending, &way.after)?;
-        put_first(&mut pending, goal.right())?;
-        pending.push(Part::Rule(rule))?;
-        pending.extend_from_slice(&way.before)?;
+        put_first(&mut pending, symbols)?;
         let mut out = Vec::new(alloc);
         write(&self.trees, &mut pending, &mut out)?;
-        let mut derivation = Derivation::new(alloc);
-        derivation.extend_from_slice(&out)?;
-        Ok(derivation)
+        into.extend_from_slice(&out)
     }
 }

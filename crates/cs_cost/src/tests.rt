@@ -4,17 +4,6 @@ use std::alloc::{AllocError, Global};
 use std::process::Abort;
 use std::test::Fail;
 
-// What `through` is to answer.
-#[derive(Clone, Copy, Debug)]
-enum Want {
-    Found(u32, &'static [u16]),
-    OfSize(u32),
-    Nowhere,
-    Large,
-}
-
-use Want::{Found, Large, Nowhere, OfSize};
-
 // A right side: a nonterminal by its number, a token by 2,000 and its number.
 fn symbols(alloc: Global, numbers: &[u16]) -> Result<Vec<Symbol>, AllocError> {
     let mut symbols = Vec::new(alloc);
@@ -36,47 +25,7 @@ fn rules(alloc: Global, lines: &[(u16, &[u16])]) -> Result<Vec<Rule>, AllocError
     Ok(rules)
 }
 
-// The answer for a rule is the wanted one.
-fn check(rt: &impl Abort, costs: &Costs, number: u16, want: Want) -> Result<(), AllocError> {
-    let count = costs.grammar().rules().len();
-    assert!(rt; 0 < number && number as usize <= count);
-    match (costs.through(number)?, want) {
-        (Through::Found { size, derivation }, Found(least, code)) => {
-            assert_eq!(rt; size, least);
-            assert_eq!(rt; derivation.rules(), code);
-        }
-        (Through::Found { size, .. }, OfSize(least)) => assert_eq!(rt; size, least),
-        (Through::Nowhere, Nowhere) => {}
-        (Through::Large, Large) => {}
-        _ => panic!(rt; "another answer at rule {number}"),
-    }
-    Ok(())
-}
-
-// The answer for each rule is the wanted one.
-fn check_all(
-    rt: &impl Abort,
-    alloc: Global,
-    start: u16,
-    lines: &[(u16, &[u16])],
-    wants: &[Want],
-) -> Result<(), AllocError> {
-    let rules = rules(alloc, lines)?;
-    assert!(rt; Grammar::fits(4, 14, start, &rules));
-    let grammar = Grammar::new(4, 14, start, rules);
-    let costs = Costs::new(alloc, &grammar)?;
-    for (place, want) in wants.iter().enumerate() {
-        assert!(rt; place < 100);
-        check(rt, &costs, place as u16 + 1, *want)?;
-    }
-    Ok(())
-}
-
 const X: u16 = 2001;
-
-const Y: u16 = 2002;
-
-const Z: u16 = 2003;
 
 // x12 : x11 x11 ;  down to  x1 : x0 x0 ;  x0 : 'x' ;  where xk is nonterminal 13 - k.
 const DOUBLING: [(u16, &[u16]); 13] = [
@@ -94,80 +43,6 @@ const DOUBLING: [(u16, &[u16]); 13] = [
     (12, &[13, 13]),
     (13, &[X]),
 ];
-
-#[test]
-fn least_trees_of_small_grammars(rt: HostRuntime) -> Result<(), Fail> {
-    let alloc = rt.alloc();
-    // a : a | 'x' ;
-    let own = [(1, [1].as_slice()), (1, &[X])];
-    check_all(&rt, alloc, 1, &own, &[Found(3, &[1, 2]), Found(2, &[2])])?;
-    // s : b a | a b ;  a : 'x' | 'y' ;  b : 'z' ;
-    let pairs = [
-        (1, [3, 2].as_slice()),
-        (1, &[2, 3]),
-        (2, &[X]),
-        (2, &[Y]),
-        (3, &[Z]),
-    ];
-    check_all(
-        &rt,
-        alloc,
-        1,
-        &pairs,
-        &[OfSize(5), OfSize(5), OfSize(5), Found(5, &[1, 5, 4])],
-    )?;
-    // s : a a ;  a : 'x' | 'y' ;
-    let twice = [(1, [2, 2].as_slice()), (2, &[X]), (2, &[Y])];
-    let wants = [
-        Found(5, &[1, 2, 2]),
-        Found(5, &[1, 2, 2]),
-        Found(5, &[1, 3, 2]),
-    ];
-    check_all(&rt, alloc, 1, &twice, &wants)?;
-    // s : ;
-    check_all(&rt, alloc, 1, &[(1, &[])], &[Found(1, &[1])])?;
-    Ok(())
-}
-
-#[test]
-fn least_trees_of_sums(rt: HostRuntime) -> Result<(), Fail> {
-    // e : e '+' t | t ;  t : NUM | '(' e ')' ;  u : u NUM ;
-    let lines = [
-        (1, [1, 2002, 2].as_slice()),
-        (1, &[2]),
-        (2, &[2001]),
-        (2, &[2003, 1, 2004]),
-        (3, &[3, 2001]),
-    ];
-    let wants = [
-        Found(7, &[1, 2, 3, 3]),
-        Found(3, &[2, 3]),
-        Found(3, &[2, 3]),
-        Found(7, &[2, 4, 2, 3]),
-        Nowhere,
-    ];
-    check_all(&rt, rt.alloc(), 1, &lines, &wants)?;
-    Ok(())
-}
-
-#[test]
-fn least_tree_above_the_limit_is_large(rt: HostRuntime) -> Result<(), Fail> {
-    let alloc = rt.alloc();
-    check_all(&rt, alloc, 1, &DOUBLING, &[Large; 13])?;
-    let mut below = [OfSize(6143); 13];
-    below[0] = Nowhere;
-    check_all(&rt, alloc, 2, &DOUBLING, &below)?;
-    // x12 : x11 x11 | 'y' ;  and the others.
-    let mut lines = [(1, [Y].as_slice()); 14];
-    let mut wants = [Large; 14];
-    wants[1] = Found(2, &[2]);
-    lines[0] = DOUBLING[0];
-    for place in 1..13 {
-        lines[place + 1] = DOUBLING[place];
-    }
-    check_all(&rt, alloc, 1, &lines, &wants)?;
-    Ok(())
-}
 
 #[test]
 fn costs_of_symbols(rt: HostRuntime) -> Result<(), Fail> {
@@ -190,6 +65,77 @@ fn costs_of_symbols(rt: HostRuntime) -> Result<(), Fail> {
     Ok(())
 }
 
+// e : e '+' t | t ;  t : NUM | '(' e ')' ;  u : u NUM ;
+const SUMS: [(u16, &[u16]); 5] = [
+    (1, &[1, 2002, 2]),
+    (1, &[2]),
+    (2, &[2001]),
+    (2, &[2003, 1, 2004]),
+    (3, &[3, 2001]),
+];
+
+#[test]
+fn costs_of_several_symbols(rt: HostRuntime) -> Result<(), Fail> {
+    let alloc = rt.alloc();
+    let rules = rules(alloc, &SUMS)?;
+    assert!(rt; Grammar::fits(4, 3, 1, &rules));
+    let grammar = Grammar::new(4, 3, 1, rules);
+    let costs = Costs::new(alloc, &grammar)?;
+    assert_eq!(rt; costs.sum(&[]), Cost::Least(0));
+    let product = [
+        Symbol::Nonterminal(1),
+        Symbol::Token(2),
+        Symbol::Nonterminal(2),
+    ];
+    assert_eq!(rt; costs.sum(&product), Cost::Least(6));
+    assert_eq!(rt;
+        costs.sum(&[Symbol::Token(4), Symbol::Nonterminal(3)]),
+        Cost::Never
+    );
+    let mut into = Derivation::new(alloc);
+    into.push(5)?;
+    if let Cost::Least(_) = costs.sum(&product) {
+        costs.all_into(&product, &mut into)?;
+    }
+    assert_eq!(rt; into.rules(), [5, 2, 3, 3].as_slice());
+    Ok(())
+}
+
+#[test]
+fn sums_above_the_limit_are_large(rt: HostRuntime) -> Result<(), Fail> {
+    let alloc = rt.alloc();
+    let rules = rules(alloc, &DOUBLING)?;
+    assert!(rt; Grammar::fits(4, 14, 2, &rules));
+    let grammar = Grammar::new(4, 14, 2, rules);
+    let costs = Costs::new(alloc, &grammar)?;
+    // x11 has 6,143 nodes, x10 half as many and less.
+    let halves = [Symbol::Nonterminal(2), Symbol::Nonterminal(3)];
+    assert_eq!(rt; costs.sum(&halves), Cost::Least(9214));
+    let twice = [Symbol::Nonterminal(2), Symbol::Nonterminal(2)];
+    assert_eq!(rt; costs.sum(&twice), Cost::Large);
+    Ok(())
+}
+
+#[test]
+fn costs_are_ordered(rt: HostRuntime) -> Result<(), Fail> {
+    assert!(rt; is_below(Cost::Least(3), Cost::Least(4)));
+    assert!(rt; is_below(Cost::Least(10_000), Cost::Large));
+    assert!(rt; is_below(Cost::Large, Cost::Never));
+    assert!(rt; !is_below(Cost::Large, Cost::Large));
+    assert_eq!(rt;
+        plus(Cost::Least(9_999), Cost::Least(1)),
+        Cost::Least(10_000)
+    );
+    assert_eq!(rt; plus(Cost::Least(9_999), Cost::Least(2)), Cost::Large);
+    assert_eq!(rt; plus(Cost::Large, Cost::Never), Cost::Never);
+    let mut table = [Cost::Never, Cost::Least(7)];
+    assert!(rt; lower(&mut table, 1, Cost::Large));
+    assert!(rt; !lower(&mut table, 2, Cost::Least(7)));
+    assert_eq!(rt; table[0], Cost::Large);
+    assert_eq!(rt; table[1], Cost::Least(7));
+    Ok(())
+}
+
 // n1 : n2 ;  down to  n1024 : 'x' ;
 #[test]
 fn chain_of_nonterminals(rt: HostRuntime) -> Result<(), Fail> {
@@ -205,14 +151,11 @@ fn chain_of_nonterminals(rt: HostRuntime) -> Result<(), Fail> {
     assert!(rt; Grammar::fits(1, 1024, 1, &rules));
     let grammar = Grammar::new(1, 1024, 1, rules);
     let costs = Costs::new(alloc, &grammar)?;
-    for number in 1..=1024 {
-        assert!(rt; number as usize <= costs.grammar().rules().len());
-        if let Through::Found { size, derivation } = costs.through(number)? {
-            assert_eq!(rt; size, 1025);
-            assert_eq!(rt; derivation.rules(), code.as_slice());
-        } else {
-            panic!(rt; "rule {number} has another answer");
-        }
+    let mut into = Derivation::new(alloc);
+    if let Cost::Least(size) = costs.cost(Symbol::Nonterminal(1)) {
+        assert_eq!(rt; size, 1025);
+        costs.least_into(Symbol::Nonterminal(1), &mut into)?;
     }
+    assert_eq!(rt; into.rules(), code.as_slice());
     Ok(())
 }

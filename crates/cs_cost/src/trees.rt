@@ -1,6 +1,6 @@
 // What the least tree of each nonterminal costs, and the rule at the root of each chosen tree.
 
-ghost use Rattle.std.specs.Prelude.{◌≡◌, ◌-◌, ◌<◌, ◌≤◌, ◌↔◌, IsTrue, IfOk, length, slice_set, slice_index, All};
+ghost use Rattle.std.specs.Prelude.{◌≡◌, ◌-◌, ◌<◌, ◌≤◌, ◌↔◌, IsTrue, IfOk, length, slice_set, slice_index_or, All};
 ghost use Rattle.std.specs.List.{sum_by};
 ghost use Rattle.std.specs.Bool.{OnTrue, OnFalse};
 ghost use Rattle.cs_grammar.specs.Grammar.{IsNumberOf, IsSymbol};
@@ -8,7 +8,7 @@ ghost use Rattle.cs_cost.specs.Rank.{rank, IsCapped, sum_from, entry};
 ghost use Rattle.cs_cost.specs.Tables.{AreTrees};
 ghost use Rattle.cs_cost.specs.Trees.{cost_in, node_cost, IsSound, IsClosed, IsCostTable, AreFirstRules};
 
-use crate::cost::{Cost, is_below, plus};
+use crate::cost::{Cost, is_below, lower, plus};
 use cs_grammar::{Grammar, LIMIT, MOST_TOKENS, Symbol};
 use std::alloc::{AllocError, Global};
 
@@ -44,23 +44,6 @@ pub(crate) fn node_cost(table: &[Cost], right: &[Symbol]) -> Cost
     ensures capped { IsCapped LIMIT result }
 {
     sum_from(table, Cost::Least(1), right)
-}
-
-// Writes a cost that is below the table's, and says whether it was.
-pub(crate) fn lower(table: &mut [Cost], number: u16, cost: Cost) -> bool
-    requires number { IsNumberOf (length table.old) number }
-    requires table { All (IsCapped LIMIT) table.old }
-    requires cost { IsCapped LIMIT cost }
-    ensures lowered { OnTrue result ((table.new ≡ slice_set table.old (number - 1) cost) × (rank LIMIT cost < rank LIMIT (entry table.old number))) }
-    ensures kept { OnFalse result ((table.new ≡ table.old) × (rank LIMIT (entry table.old number) ≤ rank LIMIT cost)) }
-{
-    let place = number as usize - 1;
-    if is_below(cost, table[place]) {
-        table[place] = cost;
-        true
-    } else {
-        false
-    }
 }
 
 // Goes once over the rules, and says whether the table has changed.
@@ -100,28 +83,32 @@ fn cost_table(alloc: Global, grammar: &Grammar) -> Result<Vec<Cost>, AllocError>
 }
 
 // Whether a rule costs no more than the table says of its left side, and no rule of the left side is known so far.
-fn is_first(table: &[Cost], firsts: &[u16], left: u16, right: &[Symbol]) -> bool
+fn is_first(table: &[Cost], firsts: &[Option<u16>], left: u16, right: &[Symbol]) -> bool
     requires table { All (IsCapped LIMIT) table.now }
     requires firsts { length firsts.now ≡ length table.now }
     requires left { IsNumberOf (length table.now) left }
     requires right { All (IsSymbol MOST_TOKENS (length table.now)) right.now }
-    ensures { IsTrue result ↔ ((slice_index firsts.now (left - 1) ≡ 0)
+    ensures { IsTrue result ↔ ((slice_index_or firsts.now (left - 1) None ≡ None)
         × (rank LIMIT (node_cost LIMIT table.now right.now) ≤ rank LIMIT (entry table.now left))) }
 {
     let place = left as usize - 1;
-    firsts[place] == 0 && !is_below(table[place], node_cost(table, right))
+    firsts[place].is_none() && !is_below(table[place], node_cost(table, right))
 }
 
 // The rule at the root of the chosen tree of each nonterminal that has one within the limit.
-fn first_rules(alloc: Global, grammar: &Grammar, table: &[Cost]) -> Result<Vec<u16>, AllocError>
+fn first_rules(
+    alloc: Global,
+    grammar: &Grammar,
+    table: &[Cost],
+) -> Result<Vec<Option<u16>>, AllocError>
     requires { IsCostTable LIMIT grammar.now table.now }
     ensures { IfOk result (λ firsts. AreFirstRules LIMIT grammar.now table.now firsts.items) }
 {
-    let mut firsts = vec![in alloc; 0u16; grammar.nonterminals() as usize]?;
+    let mut firsts = vec![in alloc; None; grammar.nonterminals() as usize]?;
     for (place, rule) in grammar.rules().iter().enumerate() {
         let left = rule.left();
         if is_first(table, &firsts, left, rule.right()) {
-            firsts[left as usize - 1] = (place + 1) as u16;
+            firsts[left as usize - 1] = Some((place + 1) as u16);
         }
     }
     Ok(firsts)
@@ -132,7 +119,7 @@ fn first_rules(alloc: Global, grammar: &Grammar, table: &[Cost]) -> Result<Vec<u
 pub(crate) struct Trees<'g> {
     pub(crate) grammar: &'g Grammar,
     pub(crate) table: Vec<Cost>,
-    pub(crate) firsts: Vec<u16>,
+    pub(crate) firsts: Vec<Option<u16>>,
 }
 
 pub(crate) fn trees_of<'g>(alloc: Global, grammar: &'g Grammar) -> Result<Trees<'g>, AllocError>

@@ -40,7 +40,9 @@ fn open_up(
     requires within { rank LIMIT (entry trees.now.table.items left) ≤ LIMIT }
     ensures { OnOk result (Opens LIMIT trees.now.grammar.now trees.now.table.items left pending.old.items pending.new.items out.old.items out.new.items) }
 {
-    let number = trees.firsts[left as usize - 1];
+    let Some(number) = trees.firsts[left as usize - 1] else {
+        unreachable!()
+    };
     out.push(number)?;
     let rule = &trees.grammar.rules()[number as usize - 1];
     put_first(pending, rule.right())

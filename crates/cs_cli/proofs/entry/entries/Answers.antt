@@ -1,16 +1,14 @@
-use Rattle.std.proofs.Common.{◌≡◌, length, ap, ◌∙◌, arith}
-use Rattle.cs_grammar.specs.Grammar.{Syntax}
-use Rattle.cs_cli.proofs.Entries.{FirstEntries-none, FirstEntries-more, FirstEntries-all}
+use Rattle.cs_cli.proofs.Entries.{FirstEntries-more, FirstEntries-all, next_goal}
 use Rattle.cs_cli.proofs.entry.entries.Goals as goal
 
-pub loop-place-init : goal.loop-place-init
-loop-place-init c = FirstEntries-none _ _ c.in_ok-entries.ensures.items
+pub entry_of-requires-clause-goal : goal.entry_of-requires-clause-goal
+entry_of-requires-clause-goal c = (next_goal _ _ _ _ _ c.in-Some.ensures.some c.loop-goal.invariant).0
 
-pub loop-place-preserved : goal.loop-place-preserved
-loop-place-preserved c = FirstEntries-more _ _ _ _ _ c.in_ok-push.ensures.items c.in_ok-entry_of.ensures c.loop-place.invariant
+pub entry_of-requires-clause-no_pair : goal.entry_of-requires-clause-no_pair
+entry_of-requires-clause-no_pair c = (next_goal _ _ _ _ _ c.in-Some.ensures.some c.loop-goal.invariant).1
+
+pub loop-goal-preserved : goal.loop-goal-preserved
+loop-goal-preserved c = FirstEntries-more _ _ _ _ _ _ _ c.in-Some.ensures.some c.in_ok-push.ensures.items c.in_ok-entry_of.ensures c.loop-goal.invariant
 
 pub returns : goal.returns
-returns c =
-    let rules : length c.rules-count.result.now ≡ length c.args.costs.now.rules = ap length c.rules-count.ensures.rules ∙ ap (λ (g : Syntax). length g.rules) c.grammar.ensures in
-    let all : c.loop-place.place ≡ length c.args.costs.now.rules = omega (arith, rules) in
-    FirstEntries-all _ _ _ all c.loop-place.invariant
+returns c = FirstEntries-all _ _ _ c.in_default.ensures.none.0 c.loop-goal.invariant

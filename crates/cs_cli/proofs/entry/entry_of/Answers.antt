@@ -7,9 +7,9 @@ use Rattle.cs_cli.proofs.entry.entry_of.Goals as goal
 
 pub tokens_of-requires-clause-small : goal.tokens_of-requires-clause-small
 tokens_of-requires-clause-small c =
-    verdict_small c.args.costs.now c.args.rule c.in_ok-verdict.verdict c.in-Found.size c.in-Found.derivation c.in-Found.is c.in_ok-verdict.ensures
+    verdict_small c.args.tables.now c.args.goal.now c.in_ok-verdict.verdict c.in-Feasible.size c.in-Feasible.derivation c.in-Feasible.is c.in_ok-verdict.ensures
 
 pub tokens_of-requires-clause-derivation : goal.tokens_of-requires-clause-derivation
 tokens_of-requires-clause-derivation c =
-    let is = verdict_derivation c.args.costs.now c.args.rule c.in_ok-verdict.verdict c.in-Found.size c.in-Found.derivation c.in-Found.is c.in_ok-verdict.ensures in
-    subst (λ (g : Syntax). IsDerivation g (Nonterminal g.start) c.in-Found.derivation) (sym c.grammar.ensures) is
+    let is = verdict_derivation c.args.tables.now c.args.goal.now c.in_ok-verdict.verdict c.in-Feasible.size c.in-Feasible.derivation c.in-Feasible.is c.in_ok-verdict.ensures in
+    subst (λ (g : Syntax). IsDerivation g (Nonterminal g.start) c.in-Feasible.derivation) (sym c.grammar.ensures) is

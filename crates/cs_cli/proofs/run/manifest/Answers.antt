@@ -4,8 +4,8 @@ use Rattle.cs_cli.proofs.run.manifest.Goals as goal
 
 pub rules_text-requires : goal.rules_text-requires
 rules_text-requires c =
-    manifest_named c.args.file.now c.in_ok-costs.costs c.in_ok-entries.entries.items c.deref.result.now c.grammar.ensures.named (c.in_ok-costs.ensures ∙ c.grammar.ensures.grammar) c.in_ok-entries.ensures c.deref.ensures.value
+    manifest_named c.args.file.now c.in_ok-tables.tables c.in_ok-entries.entries.items c.deref.result.now c.grammar.ensures.named (c.in_ok-tables.ensures ∙ c.grammar.ensures.grammar) c.in_ok-entries.ensures c.deref.ensures.value
 
 pub returns : goal.returns
 returns c =
-    manifest_is c.args.file.now c.in_ok-costs.costs c.in_ok-entries.entries.items c.deref.result.now _ (c.in_ok-costs.ensures ∙ c.grammar.ensures.grammar) c.in_ok-entries.ensures c.deref.ensures.value c.in_ok-rules_text.ensures
+    manifest_is c.args.file.now c.in_ok-tables.tables c.in_ok-entries.entries.items c.deref.result.now _ (c.in_ok-tables.ensures ∙ c.grammar.ensures.grammar) c.in_ok-entries.ensures c.deref.ensures.value c.in_ok-rules_text.ensures

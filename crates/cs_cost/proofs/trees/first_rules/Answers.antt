@@ -1,12 +1,21 @@
-use Rattle.std.proofs.Common.{◌-◌, ◌≤◌, ℕ, List, length, get_or, refl, sym, ap, ◌∙◌, subst}
+use Rattle.std.proofs.Common.{◌≡◌, ◌≤◌, ℕ, List, Option, None, length, get_or, replicate, refl, sym, ap, ◌∙◌, subst, rules}
 use Rattle.std.specs.Prelude.{slice_get}
 use Rattle.std.proofs.lemmas.Bool.{false≢true}
 use Rattle.std.proofs.lemmas.Option.{slice_get_read}
 use Rattle.cs_grammar.specs.declared.TheConstants.{LIMIT}
 use Rattle.cs_grammar.specs.Grammar.{Production}
-use Rattle.cs_cost.proofs.FirstRules.{step_taken, step_passed, firsts_all}
+use Rattle.cs_cost.proofs.FirstRules.{FirstsSoFar, firsts_start, step_taken, step_passed, firsts_all}
 use Rattle.cs_cost.proofs.trees.first_rules.Goals as goal
 use Rattle.cs_cost.proofs.trees.first_rules.Goals.{then-is_first, else-is_first}
+
+read_at : {xs ys : List (Option ℕ)} (k : ℕ) → xs ≡ ys → get_or xs k None ≡ None → get_or ys k None ≡ None
+read_at k same e = ap (λ (l : List (Option ℕ)). get_or l k None) (sym same) ∙ e
+
+pub loop-place-init : goal.loop-place-init
+loop-place-init c =
+    let items = c.in_ok-firsts.ensures.items_if_clones_equal (λ y e. search rules) in
+    let all = items ∙ ap (λ n. replicate n None) c.nonterminals.ensures in
+    subst (λ (l : List (Option ℕ)). FirstsSoFar LIMIT c.args.grammar.now c.args.table.now l 0) (sym all) (firsts_start LIMIT c.args.grammar.now _)
 
 pub loop-place-preserved : goal.loop-place-preserved
 loop-place-preserved c =
@@ -21,11 +30,11 @@ loop-place-preserved c =
           let first = c.is_first.ensures.0 w.if-is_first.true in
           rw w.firsts-is
           (step_taken LIMIT g table _ i q _ _ c.requires at c.left-left.ensures c.right.ensures c.loop-place.invariant
-          (ap (λ (l : List ℕ). get_or l (c.left-left.result - 1) 0) (sym c.deref.ensures.value) ∙ first.0) first.1)
+          (read_at _ c.deref.ensures.value first.0) first.1)
       | else-is_first w ↦
           rw w.firsts-is
           (step_passed LIMIT g table _ i q _ _ c.requires at c.left-left.ensures c.right.ensures c.loop-place.invariant
-          (λ first. false≢true (sym w.if-is_first.false ∙ c.is_first.ensures.1 (ap (λ (l : List ℕ). get_or l (c.left-left.result - 1) 0) c.deref.ensures.value ∙ first.0, first.1))))
+          (λ first. false≢true (sym w.if-is_first.false ∙ c.is_first.ensures.1 (read_at _ (sym c.deref.ensures.value) first.0, first.1))))
     ]
 
 pub returns : goal.returns

@@ -14,4 +14,4 @@ returns c =
     let inside = c.self.inside in
     let is = c.cost_in.ensures ∙ ap (λ (t : List Cost). cost_in LIMIT t x) c.deref.ensures.value in
     subst (λ (g : Syntax). IsCost LIMIT (IsTree g x) size c.cost_in.result) c.self.view_is
-    (subst (IsCost LIMIT (IsTree inside.trees.grammar.now x) size) (sym is) (symbol_cost LIMIT inside.trees.grammar.now inside.trees.table.items c.self.invariant.of_trees.costs x))
+    (subst (IsCost LIMIT (IsTree inside.trees.grammar.now x) size) (sym is) (symbol_cost LIMIT inside.trees.grammar.now inside.trees.table.items c.self.invariant.costs x))

@@ -1,0 +1,56 @@
+"""Yacc files at the limits, made here: the rows of the scripts beside this one."""
+
+import random
+
+
+def chain(count):
+    """n1 : n2 ; and so on: each nonterminal has one rule."""
+    rules = [f"n{i} : n{i + 1} ;" for i in range(1, count)]
+    return "%%\n" + "\n".join(rules) + f"\nn{count} : 'x' ;\n"
+
+
+def turned_chain(count):
+    """The chain with its last rule first, where rounds over the rules in order settle all but one late."""
+    rules = [f"n{i} : n{i + 1} | n{i + 1} 'y' ;" for i in range(1, count)]
+    return "%%\n" + f"s : n1 ;\nn{count} : 'x' ;\n" + "\n".join(rules) + "\n"
+
+
+def random_rules(nonterminals, bodies, symbols, seed):
+    """As many bodies for each nonterminal, of so many symbols at most."""
+    draw = random.Random(seed)
+    tokens = [f"t{i}" for i in range(1, 513)]
+    lines = ["%token " + " ".join(tokens), "%%"]
+    for i in range(1, nonterminals + 1):
+        following = f"n{i + 1}" if i < nonterminals else ""
+        parts = [f"t{draw.randint(1, 512)} {following}"]
+        for _ in range(bodies - 1):
+            length = draw.randint(0, symbols)
+            parts.append(" ".join(
+                f"t{draw.randint(1, 512)}" if draw.random() < 0.7 else f"n{draw.randint(1, nonterminals)}"
+                for _ in range(length)))
+        lines.append(f"n{i} : " + " | ".join(parts) + " ;")
+    return "\n".join(lines) + "\n"
+
+
+def wide(rules, symbols):
+    """Right sides of the greatest length."""
+    side = " ".join(["n"] * symbols)
+    return "%%\ns : n ;\nn : 'x' " + f"| {side} " * rules + ";\n"
+
+
+def one_mebibyte():
+    """A file of just the most bytes: comments, actions and rules."""
+    text = "%token NUM\n%%\ns : NUM ;\n"
+    piece = "a : NUM { " + "if (x) { y('}'); } /* } */ " * 8 + "} | ;\n"
+    text += piece * min(4000, (1048576 - len(text) - 4) // len(piece))
+    return text + "/*" + " " * (1048576 - len(text) - 4) + "*/"
+
+
+ROWS = [
+    ("1,048,576 bytes", one_mebibyte),
+    ("1,024 nonterminals in a chain", lambda: chain(1024)),
+    ("the same, the last one first", lambda: turned_chain(1023)),
+    ("8,192 rules of up to 12 symbols", lambda: random_rules(1024, 8, 12, 1)),
+    ("8,192 rules of up to 4 symbols", lambda: random_rules(1024, 8, 4, 2)),
+    ("4,000 rules of 128 symbols", lambda: wide(4000, 128)),
+]

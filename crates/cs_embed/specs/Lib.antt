@@ -1,0 +1,3 @@
+pub mod ChosenContext
+pub mod Around
+pub mod Embeds

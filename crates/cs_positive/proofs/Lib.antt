@@ -1,0 +1,3 @@
+pub mod RuleGoals
+pub mod ContextGoals
+pub mod Verdicts

@@ -1,0 +1,5 @@
+use Rattle.cs_positive.proofs.Verdicts.{chosen_exists_of}
+use Rattle.cs_positive.proofs.laws.chosen_tree_exists_for_goal.Goals as goal
+
+pub returns : goal.returns
+returns c = λ g goal t single h. chosen_exists_of g goal t single h
