@@ -3,9 +3,9 @@ use Rattle.std.proofs.Common.{◌≡◌, ℕ, zero, suc, ◌+◌, ◌≤◌, Boo
 use Rattle.std.specs.Prelude.{Some}
 use Rattle.std.proofs.lemmas.List.{append-nil}
 use Rattle.std.proofs.lemmas.Bool.{false≢true}
-use Rattle.cs_pattern.specs.declared.item.Repetition.{Repetition}
+use Rattle.cs_pattern_items.specs.declared.item.Repetition.{Repetition}
 use Rattle.cs_pattern.specs.declared.place.Place.{Place}
-use Rattle.cs_pattern.specs.Items.{Item, class, quoted, named, opening, closing, bar, repetition, Placed, items_of}
+use Rattle.cs_pattern_items.specs.Items.{Item, class, quoted, named, opening, closing, bar, repetition, Placed, items_of}
 use Rattle.cs_pattern.specs.Table.{place, beginning, next_place, MayEnd, ReadsTo, Reads}
 use Rattle.cs_pattern.specs.Grammar.{Tree, LastBranch, Or, LastPiece, Beside, Piece, Repeated, Atom, Bytes, Quote, Name, Group, tree_items, branch_items, piece_items, atom_items}
 

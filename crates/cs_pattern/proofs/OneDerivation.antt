@@ -1,8 +1,8 @@
 -- Items have one derivation.
 use Rattle.std.proofs.Common.{◌≡◌, List, [], ◌∷◌, ◌++◌, map, refl, sym, ap, ◌∙◌, subst, append_assoc}
 use Rattle.std.proofs.lemmas.List.{append-nil}
-use Rattle.cs_pattern.specs.declared.item.Repetition.{Repetition}
-use Rattle.cs_pattern.specs.Items.{Item, class, quoted, named, opening, closing, bar, repetition}
+use Rattle.cs_pattern_items.specs.declared.item.Repetition.{Repetition}
+use Rattle.cs_pattern_items.specs.Items.{Item, class, quoted, named, opening, closing, bar, repetition}
 use Rattle.cs_pattern.specs.Grammar.{Tree, LastBranch, Or, Branch, LastPiece, Beside, Piece, Repeated, Atom, Bytes, Quote, Name, Group, tree_items, branch_items, piece_items, atom_items}
 
 -- no repetition stands first

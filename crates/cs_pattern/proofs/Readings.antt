@@ -3,10 +3,10 @@ use Rattle.std.proofs.Common.{◌≡◌, ℕ, ◌+◌, ◌≤◌, ◌<◌, List,
 use Rattle.std.specs.Prelude.{Some}
 use Rattle.std.proofs.lemmas.List.{drop_all}
 use Rattle.cs_pattern.specs.declared.place.Place.{Place}
-use Rattle.cs_pattern.specs.declared.front.Stop.{Stop}
-use Rattle.cs_pattern.specs.declared.front.Stop.TheVariants.{Syntax}
-use Rattle.cs_pattern.specs.Items.{Item, Placed}
-use Rattle.cs_pattern.specs.Front.{Front, item, stop, front}
+use Rattle.cs_pattern_items.specs.declared.front.Stop.{Stop}
+use Rattle.cs_pattern_items.specs.declared.front.Stop.TheVariants.{Syntax}
+use Rattle.cs_pattern_items.specs.Items.{Item, Placed}
+use Rattle.cs_pattern_items.specs.Front.{Front, item, stop, front}
 use Rattle.cs_pattern.specs.Table.{next_place, beginning, MayEnd, ReadsTo, IsPlainText, Reads, StopsWith, StopsAtEnd, StopsAt}
 
 pub ReadsTo-push : (bytes : List ℕ) (at : ℕ) (p : Place) (xs : List Placed) (mid : ℕ) (q : Place) (x : Placed) (size : ℕ) (next : Place) → ReadsTo bytes at p xs mid q

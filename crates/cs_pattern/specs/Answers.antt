@@ -1,25 +1,46 @@
 -- What reading a pattern answers.
-use Rattle.std.specs.Prelude.{◌≡◌, ℕ, ◌<◌, List, Some, None}
+use Rattle.std.specs.Prelude.{◌≡◌, ℕ, ◌≤◌, List, Option, Some, None, length}
 use Rattle.cs_pattern.specs.declared.fault.PatternFault.{PatternFault}
 use Rattle.cs_pattern.specs.declared.fault.PatternFault.TheVariants as faults
 use Rattle.cs_pattern.specs.declared.fault.PatternError as errors
 use Rattle.cs_pattern.specs.declared.fault.PatternError.TheVariants as error_kinds
-use Rattle.cs_pattern.specs.Items.{Placed}
+use Rattle.cs_pattern_items.specs.Items.{Placed}
 use Rattle.cs_pattern.specs.Definitions.{Definition}
+use Rattle.cs_pattern.specs.Grammar.{Tree}
+use Rattle.cs_pattern.specs.Limits.{passed_limit}
 use Rattle.cs_pattern.specs.Names.{first_undefined}
+use Rattle.cs_pattern.specs.Pattern.{Regex, leaves}
+use Rattle.cs_pattern.specs.Substitution.{IsTreeOf, depth, pattern_of}
 use Rattle.cs_pattern.specs.Table.{Reads, IsFirstStop}
 
--- the text is read to its end, and each name that it uses is defined
-pub record IsRead (bytes : List ℕ) (ds : List Definition) : Type 0 where
-  pub items : List Placed
-  pub read : Reads bytes items
+-- the limit that a tree passes, if it passes one
+abbrev pub limit_of : Tree → Option PatternFault
+limit_of tree = passed_limit (depth tree) (leaves (pattern_of tree))
+
+-- The text is a pattern within the limits: the tree of its items, with the definitions put in, gives it.
+pub record IsPatternOf (ds : List Definition) (text : List ℕ) (pattern : Regex) : Type 0 where
+  pub tree : Tree
+  pub is_tree : IsTreeOf ds text tree
+  pub within : limit_of tree ≡ None
+  pub is : pattern ≡ pattern_of tree
+
+-- the text is read into these items, few enough, each name of which is defined
+pub record IsNamed (ds : List Definition) (text : List ℕ) (items : List Placed) : Type 0 where
+  pub read : Reads text items
   pub defined : first_undefined ds items ≡ None
+  pub few : length items ≤ 1048576
 
 -- the text is read to its end, and the first name that is not defined stands at the offset
 pub record IsUndefinedAt (bytes : List ℕ) (ds : List Definition) (at : ℕ) : Type 0 where
   pub items : List Placed
   pub read : Reads bytes items
   pub first : first_undefined ds items ≡ Some at
+
+-- the tree of the text, with the definitions put in, passes the limit
+pub record IsBeyond (bytes : List ℕ) (ds : List Definition) (fault : PatternFault) : Type 0 where
+  pub tree : Tree
+  pub is_tree : IsTreeOf ds bytes tree
+  pub passes : limit_of tree ≡ Some fault
 
 -- What each fault says of a text. No cycle is told of one.
 abbrev pub IsFault : List ℕ → List Definition → PatternFault → Type 0
@@ -30,8 +51,8 @@ IsFault bytes ds (faults.Collation at) = IsFirstStop bytes (faults.Collation at)
 IsFault bytes ds (faults.Syntax at) = IsFirstStop bytes (faults.Syntax at)
 IsFault bytes ds (faults.UndefinedName at) = IsUndefinedAt bytes ds at
 IsFault bytes ds (faults.DefinitionCycle at) = ⊥
-IsFault bytes ds (faults.TooDeep found most) = IsRead bytes ds × (most ≡ 200) × (most < found)
-IsFault bytes ds (faults.TooManyPositions most) = IsRead bytes ds × (most ≡ 8192)
+IsFault bytes ds (faults.TooDeep found most) = IsBeyond bytes ds (faults.TooDeep found most)
+IsFault bytes ds (faults.TooManyPositions most) = IsBeyond bytes ds (faults.TooManyPositions most)
 
 -- memory may run out
 abbrev pub Refuses : List ℕ → List Definition → errors.PatternError → Type 0

@@ -1,5 +1,5 @@
 -- Definitions: names with the texts for which they stand.
-use Rattle.std.specs.Prelude.{ℕ, Bool, List, Option, map, position, is_some}
+use Rattle.std.specs.Prelude.{ℕ, ◌+◌, Bool, List, Option, map, position, is_some, length, sum_by}
 use Rattle.std.specs.Str.{bytes_eq}
 use Rattle.std.specs.Global.{Vec}
 
@@ -20,3 +20,7 @@ index_of name ds = position (λ d. bytes_eq name d.name) ds
 -- a definition has the name
 abbrev pub has_name : List ℕ → List Definition → Bool
 has_name name ds = is_some (index_of name ds)
+
+-- the bytes of all names and texts together
+abbrev pub total_bytes : List Definition → ℕ
+total_bytes ds = sum_by (λ d. length d.name + length d.text) ds

@@ -1,8 +1,8 @@
 -- The grammar of patterns, over the items of a text, as derivation trees with what they spell.
 use Rattle.std.specs.Prelude.{◌≡◌, ℕ, List, [], ◌∷◌, ◌++◌, map}
-use Rattle.cs_pattern.specs.declared.item.Repetition.{Repetition}
-use Rattle.cs_pattern.specs.Items as items
-use Rattle.cs_pattern.specs.Items.{Item}
+use Rattle.cs_pattern_items.specs.declared.item.Repetition.{Repetition}
+use Rattle.cs_pattern_items.specs.Items as items
+use Rattle.cs_pattern_items.specs.Items.{Item}
 use Rattle.cs_pattern.specs.Pattern.{Regex, Class, Join, Either, Parts, Nothing, Then}
 use Rattle.cs_pattern.specs.Repeated as repeats
 

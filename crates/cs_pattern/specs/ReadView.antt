@@ -5,9 +5,9 @@ use Rattle.cs_pattern.specs.declared.reading.Next as nexts
 use Rattle.cs_pattern.specs.declared.reading.Next.TheVariants as next_kinds
 use Rattle.cs_pattern.specs.declared.fault.PatternError as errors
 use Rattle.cs_pattern.specs.declared.fault.PatternError.TheVariants as error_kinds
-use Rattle.cs_pattern.specs.Front.{item, front}
+use Rattle.cs_pattern_items.specs.Front.{item, front}
 use Rattle.cs_pattern.specs.Table.{next_place, StopsWith, IsFirstStop}
-use Rattle.cs_pattern.specs.Views.{item_of}
+use Rattle.cs_pattern_items.specs.Views.{item_of}
 
 -- what comes next in the text at the place
 abbrev pub IsNext : List ℕ → Place → nexts.Next → Type 0

@@ -1,9 +1,9 @@
 -- What a repetition makes of a pattern.
 use Rattle.std.specs.Prelude.{ℕ, zero, suc, ◌-◌, List, [], ◌∷◌, ◌++◌, replicate, map}
-use Rattle.cs_pattern.specs.declared.item.Repetition.{Repetition}
-use Rattle.cs_pattern.specs.declared.item.Repetition.TheVariants.{Optional, Exactly, AtLeast, Between}
+use Rattle.cs_pattern_items.specs.declared.item.Repetition.{Repetition}
+use Rattle.cs_pattern_items.specs.declared.item.Repetition.TheVariants.{Optional, Exactly, AtLeast, Between}
 use Rattle.cs_pattern.specs.Pattern.{Regex, Empty, Class, Join, Either, Many, parts_of}
-use Rattle.cs_pattern.specs.Members.{bytes_where}
+use Rattle.cs_pattern_items.specs.Members.{bytes_where}
 use Rattle.std.specs.Prelude.{◌==◌}
 
 -- the pattern or the empty text

@@ -1,14 +1,14 @@
 -- Which item may stand where in a pattern's text, and where reading stops.
 use Rattle.std.specs.Prelude.{◌≡◌, ℕ, zero, suc, ◌+◌, ◌<◌, ◌⊎◌, Bool, true, false, List, [], ◌∷◌, Option, Some, None, length, drop}
 use Rattle.cs_pattern.specs.declared.place.Place.{Place}
-use Rattle.cs_pattern.specs.declared.front.Stop.{Stop}
-use Rattle.cs_pattern.specs.declared.front.Stop.TheVariants.{Syntax}
+use Rattle.cs_pattern_items.specs.declared.front.Stop.{Stop}
+use Rattle.cs_pattern_items.specs.declared.front.Stop.TheVariants.{Syntax}
 use Rattle.cs_pattern.specs.declared.fault.PatternFault.{PatternFault}
 use Rattle.cs_pattern.specs.declared.fault.PatternFault.TheVariants as faults
-use Rattle.cs_pattern.specs.declared.front.Stop.TheVariants as stops
-use Rattle.cs_pattern.specs.ByteKind.{has_at}
-use Rattle.cs_pattern.specs.Items.{Item, class, quoted, named, opening, closing, bar, repetition, Placed}
-use Rattle.cs_pattern.specs.Front.{Front, item, stop, front}
+use Rattle.cs_pattern_items.specs.declared.front.Stop.TheVariants as stops
+use Rattle.cs_pattern_items.specs.ByteKind.{has_at}
+use Rattle.cs_pattern_items.specs.Items.{Item, class, quoted, named, opening, closing, bar, repetition, Placed}
+use Rattle.cs_pattern_items.specs.Front.{Front, item, stop, front}
 
 abbrev pub place : Bool → ℕ → Place
 place behind groups = record { behind_atom = behind; groups = groups }

@@ -1,13 +1,16 @@
 // Patterns, built from their operations on a stack in memory.
 
-ghost use Rattle.std.specs.Prelude.{◌≡◌, ◌++◌, ◌-◌, IfOk, OnOk, map, replicate};
-ghost use Rattle.cs_pattern.specs.Pattern.{regex, Many};
+ghost use Rattle.std.specs.Prelude.{◌≡◌, ◌++◌, ◌∷◌, [], ◌-◌, IfOk, OnOk, map, replicate};
+ghost use Rattle.cs_pattern.specs.Building.{known_at, patterns};
+ghost use Rattle.cs_pattern.specs.Evaluation.{below, last, step, top, value_of};
+ghost use Rattle.cs_pattern.specs.Grammar.{alone_or};
+ghost use Rattle.cs_pattern.specs.Operations.{op_of, ops_of};
+ghost use Rattle.cs_pattern.specs.Pattern.{regex, Empty, Join, Either, Many, parts_of};
 ghost use Rattle.cs_pattern.specs.Repeated as spec;
 
-use crate::byte_set::ByteSet;
-use crate::item::Repetition;
 use crate::pattern::Pattern;
 use crate::postfix::Op;
+use cs_pattern_items::{ByteSet, Repetition};
 use std::alloc::{AllocError, Global};
 
 /// The same pattern. It goes down as deep as a pattern within the limits is.
@@ -118,36 +121,75 @@ fn repeated(alloc: Global, inner: Pattern, repetition: Repetition) -> Result<Pat
     }
 }
 
-/// Takes the last patterns off the stack.
-fn take_last(
-    alloc: Global,
-    stack: &mut Vec<Pattern>,
-    count: usize,
-) -> Result<Vec<Pattern>, AllocError> {
-    let mut parts = Vec::new(alloc);
-    for _ in 0..count {
-        if let Some(part) = stack.pop() {
-            parts.push(part)?;
-        }
-    }
-    parts.reverse();
+/// Takes the last patterns off the stack, or all of them where there are fewer.
+fn take_last(stack: &mut Vec<Pattern>, count: usize) -> Result<Vec<Pattern>, AllocError>
+    ensures taken { IfOk result (λ v. map regex v.items ≡ last (patterns (λ _. Empty)) count (map regex stack.old.items)) }
+    ensures left { OnOk result (map regex stack.new.items ≡ below (patterns (λ _. Empty)) count (map regex stack.old.items)) }
+{
+    let from = stack.len().saturating_sub(count);
+    let parts = stack.split_off(from)?;
     Ok(parts)
 }
 
-/// The top of a stack.
-fn take_top(stack: &mut Vec<Pattern>) -> Pattern {
+/// Takes the top off a stack.
+fn take_top(stack: &mut Vec<Pattern>) -> Pattern
+    ensures taken { regex result ≡ top (patterns (λ _. Empty)) (map regex stack.old.items) }
+    ensures left { map regex stack.new.items ≡ below (patterns (λ _. Empty)) 1 (map regex stack.old.items) }
+{
     stack.pop().unwrap_or(Pattern::Empty)
 }
 
+fn push(stack: &mut Vec<Pattern>, pattern: Pattern) -> Result<(), AllocError>
+    ensures { OnOk result (map regex stack.new.items ≡ map regex stack.old.items ++ regex pattern ∷ []) }
+{
+    stack.push(pattern)?;
+    Ok(())
+}
+
+/// The parts one after another.
+fn several_joined(parts: Vec<Pattern>) -> Pattern
+    ensures { regex result ≡ Join (parts_of (map regex parts.items)) }
+{
+    Pattern::Join(parts)
+}
+
+/// One of the parts.
+fn one_of_several(parts: Vec<Pattern>) -> Pattern
+    ensures { regex result ≡ Either (parts_of (map regex parts.items)) }
+{
+    Pattern::Either(parts)
+}
+
+/// The parts one after another, or the part where it is one alone.
+fn join(mut parts: Vec<Pattern>) -> Pattern
+    ensures { regex result ≡ alone_or Join (parts_of (map regex parts.items)) }
+{
+    if parts.len() == 1 {
+        take_top(&mut parts)
+    } else {
+        several_joined(parts)
+    }
+}
+
+/// One of the parts, or the part where it is one alone.
+fn either(mut parts: Vec<Pattern>) -> Pattern
+    ensures { regex result ≡ alone_or Either (parts_of (map regex parts.items)) }
+{
+    if parts.len() == 1 {
+        take_top(&mut parts)
+    } else {
+        one_of_several(parts)
+    }
+}
+
 /// The pattern of a definition.
-fn substitute(
-    alloc: Global,
-    known: &[Option<Pattern>],
-    index: usize,
-) -> Result<Pattern, AllocError> {
+fn substitute(alloc: Global, known: &[Option<Pattern>], index: usize) -> Result<Pattern, AllocError>
+    ensures { IfOk result (λ p. regex p ≡ known_at known.now index) }
+{
     match known.get(index) {
         Some(Some(pattern)) => copy(alloc, pattern),
-        _ => Ok(Pattern::Empty),
+        Some(None) => Ok(Pattern::Empty),
+        None => Ok(Pattern::Empty),
     }
 }
 
@@ -156,22 +198,36 @@ fn apply(
     stack: &mut Vec<Pattern>,
     op: &Op,
     known: &[Option<Pattern>],
-) -> Result<(), AllocError> {
-    let made = match op {
-        Op::Class(set) => Pattern::Class(set.duplicate()),
-        Op::Quoted(bytes) => quoted(alloc, bytes)?,
-        Op::Substitute(index) => substitute(alloc, known, *index)?,
-        Op::Repeat(repetition) => repeated(alloc, take_top(stack), *repetition)?,
-        Op::Group | Op::Join(1) | Op::Either(1) => take_top(stack),
-        Op::Join(count) => Pattern::Join(take_last(alloc, stack, *count)?),
-        Op::Either(count) => Pattern::Either(take_last(alloc, stack, *count)?),
-    };
-    stack.push(made)?;
-    Ok(())
+) -> Result<(), AllocError>
+    ensures { OnOk result (map regex stack.new.items ≡ step (patterns (known_at known.now)) (map regex stack.old.items) (op_of op.now)) }
+{
+    match op {
+        Op::Class(set) => push(stack, Pattern::Class(set.duplicate())),
+        Op::Quoted(bytes) => push(stack, quoted(alloc, bytes)?),
+        Op::Substitute(index) => push(stack, substitute(alloc, known, *index)?),
+        Op::Repeat(repetition) => {
+            let inner = take_top(stack);
+            push(stack, repeated(alloc, inner, *repetition)?)
+        }
+        Op::Group => {
+            let inner = take_top(stack);
+            push(stack, inner)
+        }
+        Op::Join(count) => {
+            let parts = take_last(stack, *count)?;
+            push(stack, join(parts))
+        }
+        Op::Either(count) => {
+            let parts = take_last(stack, *count)?;
+            push(stack, either(parts))
+        }
+    }
 }
 
 /// The pattern of the operations, where the definitions have the known ones.
-pub fn build(alloc: Global, ops: &[Op], known: &[Option<Pattern>]) -> Result<Pattern, AllocError> {
+pub fn build(alloc: Global, ops: &[Op], known: &[Option<Pattern>]) -> Result<Pattern, AllocError>
+    ensures { IfOk result (λ p. regex p ≡ value_of (patterns (known_at known.now)) (ops_of ops.now)) }
+{
     let mut stack = Vec::new(alloc);
     for op in ops {
         apply(alloc, &mut stack, op, known)?;

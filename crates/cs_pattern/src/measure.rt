@@ -1,12 +1,15 @@
 // How deep a pattern is and how many leaves it has, without building it.
 
-ghost use Rattle.std.specs.Prelude.{◌≡◌};
+ghost use Rattle.std.specs.Prelude.{◌≡◌, ◌+◌, ◌*◌, ◌-◌, ◌++◌, ◌∷◌, [], IfOk, OnOk, max, slice_index_or};
+ghost use Rattle.cs_pattern.specs.Evaluation.{below, step, top, value_of};
 ghost use Rattle.cs_pattern.specs.Limits as spec;
+ghost use Rattle.cs_pattern.specs.Measures as measures;
+ghost use Rattle.cs_pattern.specs.Operations.{op_of, ops_of};
 
 use crate::fault::PatternFault;
-use crate::item::Repetition;
 use crate::postfix::Op;
 use crate::{MOST_DEPTH, MOST_LEAVES};
+use cs_pattern_items::Repetition;
 use std::alloc::{AllocError, Global};
 
 /// The depth and the number of leaves of a pattern; a number that is too large for the type stands at its end.
@@ -17,7 +20,9 @@ pub struct Measure {
 }
 
 /// One leaf.
-pub fn leaf() -> Measure {
+pub fn leaf() -> Measure
+    ensures { result ≡ measures.leaf }
+{
     Measure {
         depth: 0,
         leaves: 1,
@@ -25,7 +30,9 @@ pub fn leaf() -> Measure {
 }
 
 /// The leaves of a quoted text of so many bytes.
-fn quoted(length: usize) -> Measure {
+fn quoted(length: usize) -> Measure
+    ensures { result ≡ measures.measure 0 (max length 1) }
+{
     let leaves = u32::try_from(length).unwrap_or(u32::MAX);
     Measure {
         depth: 0,
@@ -33,7 +40,9 @@ fn quoted(length: usize) -> Measure {
     }
 }
 
-fn grouped(inner: Measure) -> Measure {
+fn grouped(inner: Measure) -> Measure
+    ensures { result ≡ measures.measure (inner.depth + 1) inner.leaves }
+{
     Measure {
         depth: inner.depth.saturating_add(1),
         leaves: inner.leaves,
@@ -41,13 +50,17 @@ fn grouped(inner: Measure) -> Measure {
 }
 
 /// How many leaves so many copies have, and so many optional ones.
-fn copies(leaves: u32, times: u32, optional: u32) -> u32 {
+fn copies(leaves: u32, times: u32, optional: u32) -> u32
+    ensures { result ≡ measures.capped (leaves * times + (leaves + 1) * optional) }
+{
     leaves
         .saturating_mul(times)
         .saturating_add(leaves.saturating_add(1).saturating_mul(optional))
 }
 
-fn repeated(inner: Measure, repetition: Repetition) -> Measure {
+fn repeated(inner: Measure, repetition: Repetition) -> Measure
+    ensures { result ≡ measures.measure (inner.depth + 1) (measures.repeated_leaves inner.leaves repetition) }
+{
     let leaves = match repetition {
         Repetition::Optional => copies(inner.leaves, 0, 1),
         Repetition::Exactly(times) => copies(inner.leaves, times, 0),
@@ -61,7 +74,9 @@ fn repeated(inner: Measure, repetition: Repetition) -> Measure {
 }
 
 /// The measure of parts that stand beside one another.
-fn together(parts: &[Measure]) -> Measure {
+fn together(parts: &[Measure]) -> Measure
+    ensures { result ≡ measures.together parts.now }
+{
     let mut all = Measure {
         depth: 0,
         leaves: 0,
@@ -75,8 +90,25 @@ fn together(parts: &[Measure]) -> Measure {
     all
 }
 
+fn push(stack: &mut Vec<Measure>, measure: Measure) -> Result<(), AllocError>
+    ensures { OnOk result (stack.new.items ≡ stack.old.items ++ measure ∷ []) }
+{
+    stack.push(measure)?;
+    Ok(())
+}
+
+/// Takes the top off the stack.
+fn take_top(stack: &mut Vec<Measure>) -> Measure
+    ensures value { result ≡ top (measures.measures []) stack.old.items }
+    ensures rest { stack.new.items ≡ below (measures.measures []) 1 stack.old.items }
+{
+    stack.pop().unwrap_or(leaf())
+}
+
 /// Puts the measure of the last parts in their place.
-fn join_last(stack: &mut Vec<Measure>, count: usize) -> Result<(), AllocError> {
+fn join_last(stack: &mut Vec<Measure>, count: usize) -> Result<(), AllocError>
+    ensures { OnOk result (stack.new.items ≡ measures.joined count stack.old.items) }
+{
     let from = stack.len().saturating_sub(count);
     let all = together(&stack[from..]);
     stack.truncate(from);
@@ -84,31 +116,46 @@ fn join_last(stack: &mut Vec<Measure>, count: usize) -> Result<(), AllocError> {
     Ok(())
 }
 
-fn apply(stack: &mut Vec<Measure>, op: &Op, known: &[Measure]) -> Result<(), AllocError> {
+/// The measure of a definition.
+fn known_at(known: &[Measure], index: usize) -> Measure
+    ensures { result ≡ slice_index_or known.now index measures.leaf }
+{
+    if index < known.len() {
+        known[index]
+    } else {
+        leaf()
+    }
+}
+
+fn apply(stack: &mut Vec<Measure>, op: &Op, known: &[Measure]) -> Result<(), AllocError>
+    ensures { OnOk result (stack.new.items ≡ step (measures.measures known.now) stack.old.items (op_of op.now)) }
+{
     match op {
-        Op::Class(_) => stack.push(leaf())?,
-        Op::Quoted(bytes) => stack.push(quoted(bytes.len()))?,
-        Op::Substitute(index) => stack.push(known.get(*index).copied().unwrap_or(leaf()))?,
+        Op::Class(_) => push(stack, leaf()),
+        Op::Quoted(bytes) => push(stack, quoted(bytes.len())),
+        Op::Substitute(index) => push(stack, known_at(known, *index)),
         Op::Repeat(repetition) => {
-            let inner = stack.pop().unwrap_or(leaf());
-            stack.push(repeated(inner, *repetition))?;
+            let inner = take_top(stack);
+            push(stack, repeated(inner, *repetition))
         }
         Op::Group => {
-            let inner = stack.pop().unwrap_or(leaf());
-            stack.push(grouped(inner))?;
+            let inner = take_top(stack);
+            push(stack, grouped(inner))
         }
-        Op::Join(count) | Op::Either(count) => join_last(stack, *count)?,
+        Op::Join(count) => join_last(stack, *count),
+        Op::Either(count) => join_last(stack, *count),
     }
-    Ok(())
 }
 
 /// The measure of a pattern, where the definitions have the known ones.
-pub fn measure_of(alloc: Global, ops: &[Op], known: &[Measure]) -> Result<Measure, AllocError> {
+pub fn measure_of(alloc: Global, ops: &[Op], known: &[Measure]) -> Result<Measure, AllocError>
+    ensures { IfOk result (λ m. m ≡ value_of (measures.measures known.now) (ops_of ops.now)) }
+{
     let mut stack = Vec::new(alloc);
     for op in ops {
         apply(&mut stack, op, known)?;
     }
-    Ok(stack.pop().unwrap_or(leaf()))
+    Ok(take_top(&mut stack))
 }
 
 /// The limit that a pattern of this measure passes, if it passes one.

@@ -1,6 +1,6 @@
 // Patterns, and what a rule does with a match.
 
-use crate::byte_set::ByteSet;
+use cs_pattern_items::ByteSet;
 
 /// A pattern over bytes (POSIX lex, regular expressions): the empty text, one byte of a set, patterns one after another, one
 /// of several patterns, or any number of texts of one pattern.

@@ -1,10 +1,10 @@
 // Which item may stand where.
 
 ghost use Rattle.std.specs.Prelude.{◌≡◌, ◌<◌, ◌≤◌, ◌+◌, ◌^◌, ◌↔◌, IsTrue, IfSome};
-ghost use Rattle.cs_pattern.specs.Views.{item_of};
+ghost use Rattle.cs_pattern_items.specs.Views.{item_of};
 ghost use Rattle.cs_pattern.specs.Table as spec;
 
-use crate::item::Item;
+use cs_pattern_items::Item;
 
 /// A place between two items: whether it is directly behind an atom's last item or a repetition, and how many more `(` than
 /// `)` stand before it.

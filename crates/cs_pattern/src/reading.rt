@@ -2,14 +2,12 @@
 
 ghost use Rattle.std.specs.Prelude.{◌≡◌, ◌<◌, ◌≤◌, ◌^◌, ℕ, List, length, IfOk, IfErr};
 ghost use Rattle.cs_pattern.specs.Table as spec;
-ghost use Rattle.cs_pattern.specs.Views.{placed_all};
+ghost use Rattle.cs_pattern_items.specs.Views.{placed_all};
 ghost use Rattle.cs_pattern.specs.ReadView.{IsNext, Refuses};
 
-use crate::byte_kind::{from_offset, has_at};
 use crate::fault::{PatternError, PatternFault};
-use crate::front::{Front, Stop, front_of};
-use crate::item::{Item, Placed};
 use crate::place::{Place, beginning, behind, may_end};
+use cs_pattern_items::{Front, Item, Placed, Stop, from_offset, front_of, has_at};
 use std::alloc::{AllocError, Global};
 
 /// What comes next in a text: an item with its size and the place behind it, or where reading stops.
@@ -46,6 +44,7 @@ fn fault(stop: Stop, at: u32) -> PatternFault
 pub fn items(alloc: Global, bytes: &[u8]) -> Result<Vec<Placed>, PatternError>
     requires { length bytes.now ≤ 1048576 }
     ensures read { IfOk result (λ v. spec.Reads bytes.now (placed_all v.items)) }
+    ensures short { IfOk result (λ v. length v.items ≤ length bytes.now) }
     ensures stops { IfErr result (Refuses bytes.now) }
 {
     if has_at(bytes, 0, b'<') {

@@ -1,3 +1,6 @@
+ghost use Rattle.std.specs.Prelude.{◌+◌, ◌≤◌, IfOk};
+ghost use Rattle.cs_pattern.specs.Definitions.{total_bytes};
+
 use super::*;
 use std::alloc::{AllocError, Global};
 use std::test::Fail;
@@ -184,10 +187,29 @@ fn texts_without_definitions(rt: HostRuntime) -> Result<(), Fail> {
     Ok(())
 }
 
+// Adds a definition, where so many bytes are free. How many are free then.
+fn add_within(
+    definitions: &mut Definitions,
+    free: usize,
+    name: &[u8],
+    text: &[u8],
+) -> Result<usize, DefinitionError>
+    requires { total_bytes definitions.old + free ≤ 1048576 }
+    ensures { IfOk result (λ left. total_bytes definitions.new + left ≤ 1048576) }
+{
+    let size = name.len() + text.len();
+    if free < size {
+        return Err(DefinitionError::Memory);
+    }
+    definitions.add(name, text)?;
+    Ok(free - size)
+}
+
 fn define(alloc: Global, texts: &[(&[u8], &[u8])]) -> Result<Definitions, DefinitionError> {
     let mut definitions = Definitions::new(alloc);
+    let mut free = MOST_BYTES;
     for (name, text) in texts {
-        definitions.add(name, text)?;
+        free = add_within(&mut definitions, free, name, text)?;
     }
     Ok(definitions)
 }
@@ -195,7 +217,7 @@ fn define(alloc: Global, texts: &[(&[u8], &[u8])]) -> Result<Definitions, Defini
 #[test]
 fn definitions_are_checked_in_order(rt: HostRuntime) -> Result<(), Fail> {
     let alloc = rt.alloc();
-    let cases: [(&[(&[u8], &[u8])], &str); 8] = [
+    let cases: [(&[(&[u8], &[u8])], &str); 10] = [
         (
             &[(b"A", b"{B}"), (b"B", b"{A}")],
             "Fault { index: 0, fault: DefinitionCycle { at: 0 } }",
@@ -221,6 +243,15 @@ fn definitions_are_checked_in_order(rt: HostRuntime) -> Result<(), Fail> {
             "Fault { index: 0, fault: TooManyPositions { most: 8192 } }",
         ),
         (
+            // C leads into the cycle of D and E, and is on none itself.
+            &[(b"C", b"{D}"), (b"D", b"a{E}"), (b"E", b"b|{D}")],
+            "Fault { index: 1, fault: DefinitionCycle { at: 1 } }",
+        ),
+        (
+            &[(b"A", b"{B}"), (b"B", b"{A}{C}")],
+            "Fault { index: 1, fault: UndefinedName { at: 3 } }",
+        ),
+        (
             &[(b"A", b"{B}"), (b"B", b"")],
             "Fault { index: 1, fault: Syntax { at: 0 } }",
         ),
@@ -241,8 +272,6 @@ fn definitions_are_checked_in_order(rt: HostRuntime) -> Result<(), Fail> {
         };
         assert_eq!(rt; found.as_str(), want);
     }
-    let mut twice = define(alloc, &[(b"A", b"a")])?;
-    assert_eq!(rt; twice.add(b"A", b"b"), Err(DefinitionError::Twice));
     Ok(())
 }
 
@@ -259,13 +288,24 @@ fn names_are_put_in_as_trees(rt: HostRuntime) -> Result<(), Fail> {
     Ok(())
 }
 
+#[test]
+fn a_name_added_twice(rt: HostRuntime) -> Result<(), Fail> {
+    let mut definitions = Definitions::new(rt.alloc());
+    let free = add_within(&mut definitions, MOST_BYTES, b"A", b"a")?;
+    let free = add_within(&mut definitions, free, b"B", b"b")?;
+    let refused = add_within(&mut definitions, free, b"A", b"b").err();
+    assert_eq!(rt; refused, Some(DefinitionError::Twice));
+    Ok(())
+}
+
 // Fourteen definitions, each of which uses the one before twice.
 fn doubled(alloc: Global) -> Result<Definitions, DefinitionError> {
     let mut definitions = Definitions::new(alloc);
-    definitions.add(b"a", b"xx")?;
+    let mut free = add_within(&mut definitions, MOST_BYTES, b"a", b"xx")?;
     for letter in b'b'..=b'n' {
         let before = letter.wrapping_sub(1);
-        definitions.add(&[letter], &[b'{', before, b'}', b'{', before, b'}'])?;
+        let text = [b'{', before, b'}', b'{', before, b'}'];
+        free = add_within(&mut definitions, free, &[letter], &text)?;
     }
     Ok(definitions)
 }

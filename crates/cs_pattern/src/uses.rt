@@ -1,13 +1,21 @@
 // Which definitions use which.
 
-ghost use Rattle.std.specs.Prelude.{◌≡◌};
+ghost use Rattle.std.specs.Prelude.{◌≡◌, ◌++◌, ◌∷◌, [], ◌<◌, ◌≤◌, ◌↔◌, IsTrue, IfOk, IfErr, OnOk, MatchOption, length};
+ghost use Rattle.std.specs.List.{filter_map, AllByRecursion};
 ghost use Rattle.cs_pattern.specs.Names as spec;
-ghost use Rattle.cs_pattern.specs.Definitions.{definitions_of};
-ghost use Rattle.cs_pattern.specs.Views.{item_of, placed_all};
+ghost use Rattle.cs_pattern.specs.Checked.{IsOrder};
+ghost use Rattle.cs_pattern.specs.Checking.{Refuses, HasNoCycle};
+ghost use Rattle.cs_pattern.specs.Definitions.{definitions_of, total_bytes};
+ghost use Rattle.cs_pattern.specs.Stages.{AreRead, AreNamed, IsUseGraph};
+ghost use Rattle.cs_pattern.specs.Uses as meaning;
+ghost use Rattle.cs_pattern_items.specs.Items.{items_of};
+ghost use Rattle.cs_pattern_items.specs.Views.{item_of, placed_of, placed_all};
 
-use crate::item::{Item, Placed};
+use crate::checking::fault_at;
+use crate::fault::{CheckError, PatternFault};
 use crate::names::{Texts, index_of};
-use crate::postfix::Op;
+use cs_graph::{leads, order};
+use cs_pattern_items::{Item, Placed};
 use std::alloc::{AllocError, Global};
 
 /// Whether the item is a name that is not defined.
@@ -32,129 +40,132 @@ pub fn first_undefined(items: &[Placed], names: &Texts) -> Option<u32>
     None
 }
 
-fn is_marked(marks: &[bool], index: usize) -> bool {
-    marks.get(index).copied().unwrap_or(false)
-}
-
-/// Whether each definition that the operations use is marked.
-fn are_marked(ops: &[Op], marks: &[bool]) -> bool {
-    for op in ops {
-        if let Op::Substitute(index) = op {
-            if !is_marked(marks, *index) {
-                return false;
-            }
-        }
-    }
-    true
-}
-
-fn mark(marks: &mut [bool], index: usize) {
-    if index < marks.len() {
-        marks[index] = true;
+/// The index of the definition that the item names.
+fn used(item: &Item, names: &Texts) -> Option<usize>
+    ensures { result ≡ meaning.used (definitions_of names.now.entries) (item_of item.now) }
+{
+    match item {
+        Item::Name(name) => index_of(names, name),
+        _ => None,
     }
 }
 
-/// Marks each definition that the operations use.
-pub fn mark_used(ops: &[Op], marks: &mut [bool]) {
-    for op in ops {
-        if let Op::Substitute(index) = op {
-            mark(marks, *index);
-        }
-    }
-}
-
-/// Puts the definition last, if it uses only definitions that stand in the order.
-fn push_ready(
-    bodies: &[Vec<Op>],
-    index: usize,
-    ready: &mut [bool],
-    order: &mut Vec<usize>,
-) -> Result<(), AllocError> {
-    if let Some(ops) = bodies.get(index) {
-        if !is_marked(ready, index) && are_marked(ops, ready) {
-            mark(ready, index);
-            order.push(index)?;
-        }
+fn push_use(uses: &mut Vec<usize>, item: &Item, names: &Texts) -> Result<(), AllocError>
+    ensures { OnOk result (uses.new.items ≡ uses.old.items ++ filter_map (meaning.used (definitions_of names.now.entries)) (item_of item.now ∷ [])) }
+{
+    if let Some(index) = used(item, names) {
+        uses.push(index)?;
     }
     Ok(())
 }
 
-/// One round over all definitions, forwards and backwards.
-fn push_round(
-    bodies: &[Vec<Op>],
-    ready: &mut [bool],
-    order: &mut Vec<usize>,
-) -> Result<(), AllocError> {
-    for index in 0..bodies.len() {
-        push_ready(bodies, index, ready, order)?;
+/// The definitions that the items use, in order and with repetitions.
+fn uses_of(alloc: Global, items: &[Placed], names: &Texts) -> Result<Vec<usize>, AllocError>
+    ensures { IfOk result (λ uses. uses.items ≡ filter_map (meaning.used (definitions_of names.now.entries)) (items_of (placed_all items.now))) }
+{
+    let mut uses = Vec::new(alloc);
+    for placed in items {
+        push_use(&mut uses, &placed.item, names)?;
     }
-    for index in (0..bodies.len()).rev() {
-        push_ready(bodies, index, ready, order)?;
-    }
-    Ok(())
+    Ok(uses)
 }
 
-/// The definitions in an order in which each stands behind those that it uses. Those from which a cycle is reached are left
-/// out.
-pub fn order(alloc: Global, bodies: &[Vec<Op>]) -> Result<Vec<usize>, AllocError> {
-    let mut ready = vec![in alloc; false; bodies.len()]?;
-    let mut order = Vec::new(alloc);
-    for _ in 0..bodies.len() {
-        let before = order.len();
-        push_round(bodies, &mut ready, &mut order)?;
-        if order.len() == before {
-            break;
-        }
+/// For each definition those that it uses.
+pub fn graph_of(
+    alloc: Global,
+    all: &[Vec<Placed>],
+    names: &Texts,
+) -> Result<Vec<Vec<usize>>, AllocError>
+    requires { AreRead (definitions_of names.now.entries) all.now }
+    ensures { IfOk result (λ graph. IsUseGraph (definitions_of names.now.entries) graph.items) }
+{
+    let mut graph = Vec::new(alloc);
+    for items in all {
+        graph.push(uses_of(alloc, items, names)?)?;
     }
-    Ok(order)
+    Ok(graph)
 }
 
-/// Adds the definitions that the operations use and that were not reached before.
-fn reach_used(ops: &[Op], seen: &mut [bool], reached: &mut Vec<usize>) -> Result<(), AllocError> {
-    for op in ops {
-        if let Op::Substitute(index) = op {
-            if *index < seen.len() && !seen[*index] {
-                reached.push(*index)?;
-                seen[*index] = true;
-            }
-        }
+/// Whether the item names the definition or one that reaches it.
+fn leads_to(
+    alloc: Global,
+    placed: &Placed,
+    names: &Texts,
+    graph: &[Vec<usize>],
+    to: usize,
+) -> Result<bool, AllocError>
+    requires graph { IsUseGraph (definitions_of names.now.entries) graph.now }
+    requires to { to < length graph.now }
+    ensures { IfOk result (λ leads. IsTrue leads ↔ meaning.LeadsTo (definitions_of names.now.entries) to (placed_of placed.now)) }
+{
+    match used(&placed.item, names) {
+        Some(next) => leads(alloc, graph, next, to),
+        None => Ok(false),
     }
-    Ok(())
 }
 
-/// Whether the one definition is the other or reaches it.
-fn leads(alloc: Global, bodies: &[Vec<Op>], from: usize, to: usize) -> Result<bool, AllocError> {
-    let mut seen = vec![in alloc; false; bodies.len()]?;
-    let mut reached = Vec::new(alloc);
-    reached.push(from)?;
-    mark(&mut seen, from);
-    for next in 0..bodies.len() {
-        if next < reached.len() {
-            let index = reached[next];
-            if let Some(ops) = bodies.get(index) {
-                reach_used(ops, &mut seen, &mut reached)?;
-            }
-        }
-    }
-    Ok(is_marked(&seen, to))
-}
-
-/// In the definition of that index, which has these items, the offset of the first name from which it is reached again.
-pub fn cycle_at(
+/// The offset of the first item from which the definition is reached.
+fn first_to(
     alloc: Global,
     items: &[Placed],
     names: &Texts,
-    bodies: &[Vec<Op>],
-    index: usize,
-) -> Result<Option<u32>, AllocError> {
+    graph: &[Vec<usize>],
+    to: usize,
+) -> Result<Option<u32>, AllocError>
+    requires graph { IsUseGraph (definitions_of names.now.entries) graph.now }
+    requires to { to < length graph.now }
+    ensures { IfOk result (λ found. MatchOption found
+        (AllByRecursion (λ p. meaning.LeadsTo (definitions_of names.now.entries) to p → ⊥) (placed_all items.now))
+        (meaning.IsFirstTo (definitions_of names.now.entries) to (placed_all items.now))) }
+{
     for placed in items {
-        if let Item::Name(name) = &placed.item {
-            if let Some(used) = index_of(names, name) {
-                if leads(alloc, bodies, used, index)? {
-                    return Ok(Some(placed.at));
-                }
-            }
+        if leads_to(alloc, placed, names, graph, to)? {
+            return Ok(Some(placed.at));
         }
     }
     Ok(None)
+}
+
+/// Refuses the lowest definition that reaches itself.
+fn check_cycles(
+    alloc: Global,
+    all: &[Vec<Placed>],
+    names: &Texts,
+    graph: &[Vec<usize>],
+) -> Result<(), CheckError>
+    requires bytes { total_bytes (definitions_of names.now.entries) ≤ 1048576 }
+    requires read { AreRead (definitions_of names.now.entries) all.now }
+    requires named { AreNamed (definitions_of names.now.entries) all.now }
+    requires graph { IsUseGraph (definitions_of names.now.entries) graph.now }
+    ensures none { OnOk result (HasNoCycle (definitions_of names.now.entries)) }
+    ensures refused { IfErr result (Refuses (definitions_of names.now.entries)) }
+{
+    for (index, items) in all.iter().enumerate() {
+        if let Some(at) = first_to(alloc, items, names, graph, index)? {
+            return Err(fault_at(index, PatternFault::DefinitionCycle { at }));
+        }
+    }
+    Ok(())
+}
+
+/// The definitions in an order in which each stands behind those that it uses.
+pub fn order_of(
+    alloc: Global,
+    all: &[Vec<Placed>],
+    names: &Texts,
+    graph: &[Vec<usize>],
+) -> Result<Vec<usize>, CheckError>
+    requires bytes { total_bytes (definitions_of names.now.entries) ≤ 1048576 }
+    requires read { AreRead (definitions_of names.now.entries) all.now }
+    requires named { AreNamed (definitions_of names.now.entries) all.now }
+    requires graph { IsUseGraph (definitions_of names.now.entries) graph.now }
+    ensures order { IfOk result (λ order. IsOrder (definitions_of names.now.entries) order.items) }
+    ensures no_cycle { OnOk result (HasNoCycle (definitions_of names.now.entries)) }
+    ensures refused { IfErr result (Refuses (definitions_of names.now.entries)) }
+{
+    if let Some(order) = order(alloc, graph)? {
+        return Ok(order);
+    }
+    check_cycles(alloc, all, names, graph)?;
+    unreachable!()
 }

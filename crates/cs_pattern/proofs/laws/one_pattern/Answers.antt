@@ -1,5 +1,5 @@
 use Rattle.std.proofs.Common.{◌∙◌, ap}
-use Rattle.cs_pattern.specs.Items.{items_of}
+use Rattle.cs_pattern_items.specs.Items.{items_of}
 use Rattle.cs_pattern.proofs.Readings.{one_reading}
 use Rattle.cs_pattern.proofs.OneDerivation.{one_derivation}
 use Rattle.cs_pattern.proofs.laws.one_pattern.Goals as goal

@@ -1,12 +1,17 @@
-use Rattle.std.proofs.Common.{◌≡◌, ◌∙◌, ap, sym, ◌++◌, ◌∷◌, [], ℕ, List, Bool, false, true, refl}
+use Rattle.std.proofs.Common.{subst, ◌+◌, length, arith, ◌≡◌, ◌∙◌, ap, sym, ◌++◌, ◌∷◌, [], ℕ, List, Bool, false, true, refl}
 use Rattle.std.specs.Prelude.{is_some, position, Result, Err, IsErrOf, IsTrue, ◌↔◌}
 use Rattle.std.specs.Str.{bytes_eq}
 use Rattle.std.proofs.lemmas.Bool.{false≢true}
 use Rattle.std.proofs.lemmas.List.{map_push}
+use Rattle.std.proofs.lemmas.List.Sums.{sum_by_push}
 use Rattle.std.proofs.lemmas.Result.{err_from_is_err_and}
+use Rattle.std.proofs.lemmas.List.Elements.{All-push}
+use Rattle.cs_pattern_items.specs.StandsFor.{AreBytes}
+use Rattle.cs_pattern.specs.Classes.{HaveByteTexts}
+use Rattle.cs_pattern.proofs.ClassBytes.{AreBytes-from_fits}
 use Rattle.cs_pattern.specs.declared.fault.DefinitionError.{DefinitionError}
 use Rattle.cs_pattern.specs.declared.fault.DefinitionError.TheVariants.{Twice, Memory}
-use Rattle.cs_pattern.specs.Definitions.{Definition, definition_of, definitions_of, has_name}
+use Rattle.cs_pattern.specs.Definitions.{Definition, definition_of, definitions_of, has_name, total_bytes}
 use Rattle.cs_pattern.proofs.Named.{insert_absent, position-map}
 use Rattle.cs_pattern.proofs.definitions.Definitions.add.Goals as goal
 
@@ -57,3 +62,16 @@ returns-in_err-insert-clause-twice c =
     let none = tested c.args.name.now _ c.args.self.now c.is_some.result false c.self.view_is (c.is_some.ensures ∙ ap is_some c.index_of.ensures) c.if-is_some.false in
     let p = err_from_is_err_and c.from_residual-in_err-insert.result c.from_residual-in_err-insert.ensures.1 in
     no_twice _ _ _ p.1 p.2 none
+
+pub invariant_of-self-2 : goal.invariant_of-self-2
+invariant_of-self-2 c =
+    let none = sym (ap is_some (position-map (λ d. bytes_eq c.args.name.now d.name) definition_of c.self.inside.texts.entries)) ∙ ap is_some (sym c.index_of.ensures) ∙ sym c.is_some.ensures ∙ c.if-is_some.false in
+    let entries =
+    ap definitions_of (c.in_ok-insert.ensures.entries ∙ insert_absent _ c.in_ok-name.name c.in_ok-text.text c.self.inside.texts.entries
+    (ap (λ (n : List ℕ). is_some (position (λ x. bytes_eq n (definition_of x).name) c.self.inside.texts.entries)) c.in_ok-name.ensures.items ∙ none))
+    ∙ map_push definition_of c.self.inside.texts.entries (c.in_ok-name.name, c.in_ok-text.text) in
+    let bytes = ap total_bytes entries ∙ sum_by_push (λ (d : Definition). length d.name + length d.text) (definitions_of c.self.inside.texts.entries) (definition_of (c.in_ok-name.name, c.in_ok-text.text)) in (
+      omega (arith, bytes, ap length c.in_ok-name.ensures.items, ap length c.in_ok-text.ensures.items, ap total_bytes c.self.view_is, c.requires),
+      subst HaveByteTexts (sym entries) (All-push (λ (d : Definition). AreBytes d.text) (definitions_of c.self.inside.texts.entries) (definition_of (c.in_ok-name.name, c.in_ok-text.text)) c.self.invariant.1
+          (subst AreBytes (sym c.in_ok-text.ensures.items) (AreBytes-from_fits c.args.text.now c.type_inv.text))),
+    )

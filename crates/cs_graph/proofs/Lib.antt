@@ -1,0 +1,7 @@
+pub mod Counting
+pub mod Reaching
+pub mod Searching
+pub mod Pushing
+pub mod Cycles
+pub mod Acyclic
+pub mod Weights

@@ -1,0 +1,5 @@
+use Rattle.cs_graph.proofs.Acyclic.{no_cycle}
+use Rattle.cs_graph.proofs.laws.ordered_without_cycle.Goals as goal
+
+pub returns : goal.returns
+returns c = no_cycle

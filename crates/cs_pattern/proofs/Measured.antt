@@ -1,0 +1,204 @@
+-- The operations of a text measure the tree with the definitions put in.
+use Rattle.std.proofs.Common.{◌≡◌, ℕ, zero, suc, ◌+◌, ◌-◌, ◌*◌, ◌^◌, List, [], ◌∷◌, ◌++◌, length, map, replicate, refl, sym, ap, ◌∙◌, subst, inl, inr, arith}
+use Rattle.std.specs.Prelude.{Some, max, sum_by, slice_get, slice_index_or}
+use Rattle.std.proofs.lemmas.Bool.{cases_lt}
+use Rattle.std.proofs.lemmas.List.Sums.{sum_by-cons}
+use Rattle.cs_pattern_items.specs.declared.item.Repetition.{Repetition}
+use Rattle.cs_pattern_items.specs.declared.item.Repetition.TheVariants.{Optional, Exactly, AtLeast, Between}
+use Rattle.cs_pattern_items.specs.Items.{Item, repetition, named, opening, closing, bar}
+use Rattle.cs_pattern.specs.declared.measure.Measure.{Measure}
+use Rattle.cs_pattern.specs.Definitions.{Definition}
+use Rattle.cs_pattern.specs.Grammar.{Tree, LastBranch, Or, Branch, LastPiece, Beside, Piece, Repeated, Atom, Bytes, Quote, Name, Group, tree_items, branch_items, piece_items, atom_items, alone_or, all_repeated, branch_parts, piece_parts, piece_regex, atom_regex}
+use Rattle.cs_pattern.specs.Measures.{capped, measure, measure_of, leaf, repeated_leaves, greatest_depth, together, measures}
+use Rattle.cs_pattern.specs.Operations.{number_of, tree_ops}
+use Rattle.cs_pattern.specs.Pattern.{Regex, Empty, Join, Either, Many, Parts, Nothing, Then, parts_of, leaves, all_leaves}
+use Rattle.cs_pattern.specs.Repeated as repeats
+use Rattle.cs_pattern.specs.Substitution.{Spells, Defines, PutIn, BranchPutIn, PiecePutIn, AtomPutIn, IsTreeOf, depth, branch_depth, piece_depth, atom_depth, pattern_of}
+use Rattle.cs_pattern.specs.Uses.{Uses}
+use Rattle.cs_pattern.specs.Values.{repeated_value, branch_values, piece_values, piece_value, atom_value}
+use Rattle.cs_pattern.specs.Evaluation.{value_of}
+use Rattle.cs_pattern.proofs.Evaluating.{evaluated}
+use Rattle.cs_pattern.proofs.Using.{uses_left, uses_right, number_is}
+
+-- ---- leaves of what is repeated
+
+leaves_append : (xs ys : List Regex) → all_leaves (parts_of (xs ++ ys)) ≡ all_leaves (parts_of xs) + all_leaves (parts_of ys)
+leaves_append [] ys = omega arith
+leaves_append (x ∷ xs) ys = omega (arith, leaves_append xs ys)
+
+leaves_replicate : (n : ℕ) (r : Regex) → all_leaves (parts_of (replicate n r)) ≡ leaves r * n
+leaves_replicate zero r = omega arith
+leaves_replicate (suc n) r = omega (arith, leaves_replicate n r)
+
+leaves_repeated : (r : Regex) (n : Repetition) → leaves (repeats.repeated r n) ≡ repeated_leaves (leaves r) n
+leaves_repeated r Optional = omega arith
+leaves_repeated r (Exactly n) = leaves_replicate n r
+leaves_repeated r (AtLeast zero) = omega arith
+leaves_repeated r (AtLeast (suc n)) = omega (arith, leaves_append (replicate (suc n) r) (Many r ∷ []), leaves_replicate (suc n) r)
+leaves_repeated r (Between n m) =
+    leaves_append (replicate n r) (replicate (m - n) (repeats.optional r))
+    ∙ ap (λ k. k + all_leaves (parts_of (replicate (m - n) (repeats.optional r)))) (leaves_replicate n r)
+    ∙ ap (λ k. leaves r * n + k) (leaves_replicate (m - n) (repeats.optional r) ∙ ap (λ k. k * (m - n)) (let e : leaves (repeats.optional r) ≡ leaves r + 1 = omega arith in e))
+
+leaves_bytes : (bytes : List ℕ) → all_leaves (parts_of (map repeats.one_byte bytes)) ≡ length bytes
+leaves_bytes [] = refl
+leaves_bytes (b ∷ bytes) = omega (arith, leaves_bytes bytes)
+
+leaves_quoted : (bytes : List ℕ) → leaves (repeats.quoted bytes) ≡ max (length bytes) 1
+leaves_quoted [] = omega arith
+leaves_quoted (b ∷ bytes) = omega (arith, leaves_bytes bytes)
+
+leaves_join : (ps : Parts) → leaves (alone_or Join ps) ≡ all_leaves ps
+leaves_join Nothing = refl
+leaves_join (Then r Nothing) = omega arith
+leaves_join (Then r (Then s ps)) = refl
+
+leaves_either : (ps : Parts) → leaves (alone_or Either ps) ≡ all_leaves ps
+leaves_either Nothing = refl
+leaves_either (Then r Nothing) = omega arith
+leaves_either (Then r (Then s ps)) = refl
+
+-- ---- capped numbers
+
+capped_line : (x a b : ℕ) → capped (capped x * a + b) ≡ capped (x * a + b)
+capped_line x zero b = omega arith
+capped_line x (suc a) b =
+    elim (cases_lt x (2 ^ 32)) [
+      | inl small ↦ let e : capped x ≡ x = omega arith in ap (λ n. capped (n * suc a + b)) e
+      | inr large ↦
+          let e : capped x ≡ 2 ^ 32 - 1 = omega arith in
+          let p : x * suc a ≡ x * a + x = omega arith in
+          let q : (2 ^ 32 - 1) * suc a ≡ (2 ^ 32 - 1) * a + (2 ^ 32 - 1) = omega arith in
+          ap (λ n. capped (n * suc a + b)) e ∙ (let f : capped ((2 ^ 32 - 1) * suc a + b) ≡ capped (x * suc a + b) = omega arith in f)
+    ]
+
+between_line : (x n k : ℕ) → x * n + (x + 1) * k ≡ x * (n + k) + k
+between_line x n k = omega arith
+
+capped_repeated : (x : ℕ) (n : Repetition) → capped (repeated_leaves (capped x) n) ≡ capped (repeated_leaves x n)
+capped_repeated x Optional = omega arith
+capped_repeated x (Exactly n) =
+    ap capped (let e : capped x * n ≡ capped x * n + 0 = omega arith in e) ∙ capped_line x n 0 ∙ ap capped (let e : x * n + 0 ≡ x * n = omega arith in e)
+capped_repeated x (AtLeast n) =
+    ap capped (let e : capped x * (n + 1) ≡ capped x * (n + 1) + 0 = omega arith in e) ∙ capped_line x (n + 1) 0 ∙ ap capped (let e : x * (n + 1) + 0 ≡ x * (n + 1) = omega arith in e)
+capped_repeated x (Between n m) =
+    ap capped (between_line (capped x) n (m - n)) ∙ capped_line x (n + (m - n)) (m - n) ∙ ap capped (sym (between_line x n (m - n)))
+
+measure_same : (d e l k : ℕ) → capped d ≡ capped e → capped l ≡ capped k → measure d l ≡ measure e k
+measure_same d e l k f g = ap (λ n. let m : Measure = record { depth = n; leaves = capped l } in m) f ∙ ap (λ n. let m : Measure = record { depth = capped e; leaves = n } in m) g
+
+grouped : (m : Measure) (d l : ℕ) → m ≡ measure d l → measure (m.depth + 1) m.leaves ≡ measure (d + 1) l
+grouped m d l e = ap (λ (n : Measure). measure (n.depth + 1) n.leaves) e ∙ measure_same (capped d + 1) (d + 1) (capped l) l (omega arith) (omega arith)
+
+-- these parts have together the depth and the leaves
+record Adds (ms : List Measure) (d l : ℕ) : Type 0 where
+  deep : greatest_depth ms ≡ capped d
+  many : capped (sum_by (λ m. m.leaves) ms) ≡ capped l
+
+together_is : (ms : List Measure) (d l : ℕ) → Adds ms d l → together ms ≡ measure d l
+together_is ms d l h =
+    ap (λ n. let m : Measure = record { depth = n; leaves = capped (sum_by (λ x. x.leaves) ms) } in m) h.deep
+    ∙ ap (λ n. let m : Measure = record { depth = capped d; leaves = n } in m) h.many
+
+adds_one : (m : Measure) (d l k : ℕ) → m ≡ measure d l → k ≡ l + 0 → Adds (m ∷ []) d k
+adds_one m d l k e f =
+    let a = ap (λ (n : Measure). n.depth) e in
+    let b = ap (λ (n : Measure). n.leaves) e in
+    record { deep = omega (arith, a); many = omega (arith, b, f) }
+
+adds_more : (m : Measure) (ms : List Measure) (d l e k : ℕ) → m ≡ measure d l → Adds ms e k → Adds (m ∷ ms) (max d e) (l + k)
+adds_more m ms d l e k is h =
+    let a = ap (λ (n : Measure). n.depth) is in
+    let b = ap (λ (n : Measure). n.leaves) is in
+    record { deep = omega (arith, a, h.deep); many = omega (arith, b, h.many, sum_by-cons (λ (x : Measure). x.leaves) m ms) }
+
+adds_leaves : (ms : List Measure) (d l k : ℕ) → l ≡ k → Adds ms d l → Adds ms d k
+adds_leaves ms d l k e h = subst (Adds ms d) e h
+
+abbrev no_names : List ℕ → Regex
+no_names name = Empty
+
+repeats_measured : (known : List Measure) (r : Regex) (d : ℕ) (m : Measure) (rs : List Repetition) → m ≡ measure d (leaves r) → repeated_value (measures known) m rs ≡ measure (d + length rs) (leaves (all_repeated r rs))
+repeats_measured known r d m [] e = e ∙ ap (λ n. measure n (leaves r)) (let f : d ≡ d + 0 = omega arith in f)
+repeats_measured known r d m (n ∷ rs) e =
+    let one : measure (m.depth + 1) (repeated_leaves m.leaves n) ≡ measure (d + 1) (leaves (repeats.repeated r n)) =
+    ap (λ (x : Measure). measure (x.depth + 1) (repeated_leaves x.leaves n)) e
+    ∙ measure_same (capped d + 1) (d + 1) (repeated_leaves (capped (leaves r)) n) (leaves (repeats.repeated r n)) (omega arith) (capped_repeated (leaves r) n ∙ ap capped (sym (leaves_repeated r n))) in
+    repeats_measured known (repeats.repeated r n) (d + 1) (measure (m.depth + 1) (repeated_leaves m.leaves n)) rs one
+    ∙ ap (λ k. measure k (leaves (all_repeated (repeats.repeated r n) rs))) (let f : (d + 1) + length rs ≡ d + suc (length rs) = omega arith in f)
+
+module _ (ds : List Definition) (known : List Measure) where
+  -- the definitions that these items use have the known measures
+  abbrev pub AreMeasured : List Item → Type 0
+  AreMeasured xs = (i : ℕ) → Uses ds xs i → (d : Definition) (tree : Tree) → slice_get ds i ≡ Some d → IsTreeOf ds d.text tree → slice_index_or known i leaf ≡ measure_of tree
+
+  left : (xs ys : List Item) → AreMeasured (xs ++ ys) → AreMeasured xs
+  left xs ys k i h = k i (uses_left ds xs ys i h)
+
+  right : (xs ys : List Item) → AreMeasured (xs ++ ys) → AreMeasured ys
+  right xs ys k i h = k i (uses_right ds xs ys i h)
+
+  name_measured : (name : List ℕ) (d : Definition) (u t : Tree) → Defines ds name d → Spells d.text t → PutIn ds u t → AreMeasured (named name ∷ [])
+      → atom_value (measures known) (number_of ds) (Name name) ≡ measure (depth u + 1) (leaves (pattern_of u))
+  name_measured name d u t def spells put k =
+      let m : slice_index_or known def.index leaf ≡ measure_of u = k def.index (inl def.found) d u def.is (record { spelled = t; is_spelled = spells; put_in = put }) in
+      grouped (slice_index_or known (number_of ds name) leaf) (depth u) (leaves (pattern_of u)) (ap (λ n. slice_index_or known n leaf) (number_is ds name d def) ∙ m)
+
+  mutual
+    branches_add : (u t : Tree) → PutIn ds u t → AreMeasured (tree_items t) → Adds (branch_values (measures known) (number_of ds) t) (depth u) (all_leaves (branch_parts no_names u))
+    branches_add (LastBranch b) t p k =
+        let e = p.1 in
+        let h = pieces_add b p.0 p.2 (subst (λ (x : Tree). AreMeasured (tree_items x)) e k) in
+        subst (λ (x : Tree). Adds (branch_values (measures known) (number_of ds) x) (branch_depth b) (all_leaves (branch_parts no_names (LastBranch b)))) (sym e)
+        (adds_one _ (branch_depth b) (all_leaves (piece_parts no_names b)) _ (together_is _ _ _ h) (ap (λ n. n + 0) (leaves_join (piece_parts no_names b))))
+    branches_add (Or b u) t p k =
+        let e = p.2 in
+        let j = subst (λ (x : Tree). AreMeasured (tree_items x)) e k in
+        let h = pieces_add b p.0 p.3 (left (branch_items p.0) (bar ∷ tree_items p.1) j) in
+        let more = branches_add u p.1 p.4 (right (bar ∷ []) (tree_items p.1) (right (branch_items p.0) (bar ∷ tree_items p.1) j)) in
+        subst (λ (x : Tree). Adds (branch_values (measures known) (number_of ds) x) (max (branch_depth b) (depth u)) (all_leaves (branch_parts no_names (Or b u)))) (sym e)
+        (adds_leaves _ _ _ _ (ap (λ n. n + all_leaves (branch_parts no_names u)) (sym (leaves_join (piece_parts no_names b))))
+        (adds_more _ _ (branch_depth b) (all_leaves (piece_parts no_names b)) (depth u) (all_leaves (branch_parts no_names u)) (together_is _ _ _ h) more))
+
+    pieces_add : (b c : Branch) → BranchPutIn ds b c → AreMeasured (branch_items c) → Adds (piece_values (measures known) (number_of ds) c) (branch_depth b) (all_leaves (piece_parts no_names b))
+    pieces_add (LastPiece q) c p k =
+        let e = p.1 in
+        let h = piece_measured q p.0 p.2 (subst (λ (x : Branch). AreMeasured (branch_items x)) e k) in
+        subst (λ (x : Branch). Adds (piece_values (measures known) (number_of ds) x) (piece_depth q) (all_leaves (piece_parts no_names (LastPiece q)))) (sym e)
+        (adds_one _ (piece_depth q) (leaves (piece_regex no_names q)) _ h refl)
+    pieces_add (Beside q b) c p k =
+        let e = p.2 in
+        let j = subst (λ (x : Branch). AreMeasured (branch_items x)) e k in
+        let h = piece_measured q p.0 p.3 (left (piece_items p.0) (branch_items p.1) j) in
+        let more = pieces_add b p.1 p.4 (right (piece_items p.0) (branch_items p.1) j) in
+        subst (λ (x : Branch). Adds (piece_values (measures known) (number_of ds) x) (max (piece_depth q) (branch_depth b)) (all_leaves (piece_parts no_names (Beside q b)))) (sym e)
+        (adds_more _ _ (piece_depth q) (leaves (piece_regex no_names q)) (branch_depth b) (all_leaves (piece_parts no_names b)) h more)
+
+    piece_measured : (q w : Piece) → PiecePutIn ds q w → AreMeasured (piece_items w) → piece_value (measures known) (number_of ds) w ≡ measure (piece_depth q) (leaves (piece_regex no_names q))
+    piece_measured (Repeated a rs) w p k =
+        let e = p.1 in
+        let j = subst (λ (x : Piece). AreMeasured (piece_items x)) e k in
+        let h = atom_measured a p.0 p.2 (left (atom_items p.0) (map repetition rs) j) in
+        ap (piece_value (measures known) (number_of ds)) e
+        ∙ repeats_measured known (atom_regex no_names a) (atom_depth a) (atom_value (measures known) (number_of ds) p.0) rs h
+
+    atom_measured : (a w : Atom) → AtomPutIn ds a w → AreMeasured (atom_items w) → atom_value (measures known) (number_of ds) w ≡ measure (atom_depth a) (leaves (atom_regex no_names a))
+    atom_measured (Bytes set) w p k = ap (atom_value (measures known) (number_of ds)) p
+    atom_measured (Quote bytes) w p k = ap (atom_value (measures known) (number_of ds)) p ∙ ap (measure 0) (sym (leaves_quoted bytes))
+    atom_measured (Name name) w p k = absurd p
+    atom_measured (Group u) w (inl p) k =
+        let e = p.1 in
+        let j = subst (λ (x : Atom). AreMeasured (atom_items x)) e k in
+        let h = branches_add u p.0 p.2 (left (tree_items p.0) (closing ∷ []) (right (opening ∷ []) (tree_items p.0 ++ closing ∷ []) j)) in
+        ap (atom_value (measures known) (number_of ds)) e
+        ∙ grouped _ (depth u) (leaves (pattern_of u)) (together_is _ _ _ h ∙ ap (measure (depth u)) (sym (leaves_either (branch_parts no_names u))))
+    atom_measured (Group u) w (inr p) k =
+        let e = p.3 in
+        let j = subst (λ (x : Atom). AreMeasured (atom_items x)) e k in
+        ap (atom_value (measures known) (number_of ds)) e ∙ name_measured p.0 p.1 u p.2 p.4 p.5 p.6 j
+
+  pub measured : (tree spelled : Tree) → PutIn ds tree spelled → AreMeasured (tree_items spelled) → value_of (measures known) (tree_ops (number_of ds) spelled) ≡ measure_of tree
+  measured tree spelled put k =
+      evaluated (measures known) (number_of ds) spelled
+      ∙ together_is _ _ _ (branches_add tree spelled put k)
+      ∙ ap (measure (depth tree)) (sym (leaves_either (branch_parts no_names tree)))

@@ -1,7 +1,0 @@
-use Rattle.std.proofs.Common.{refl}
-use Rattle.cs_pattern.specs.Members.{picked}
-use Rattle.cs_pattern.proofs.byte_set.ByteSet.new.Goals as goal
-
-pub returns : goal.returns
-unfolding picked
-returns c = refl

@@ -1,0 +1,32 @@
+use Rattle.std.proofs.Common.{◌≡◌, ℕ, List, sym, subst}
+use Rattle.std.specs.Prelude.{Some, None}
+use Rattle.cs_pattern_items.specs.Views.{placed_all}
+use Rattle.cs_pattern.specs.Answers.{IsNamed, IsPatternOf, IsFault}
+use Rattle.cs_pattern.specs.Checked.{AreChecked}
+use Rattle.cs_pattern.specs.Definitions.{Definition, definitions_of}
+use Rattle.cs_pattern.specs.Grammar.{Tree}
+use Rattle.cs_pattern.specs.Limits.{passed_limit}
+use Rattle.cs_pattern.specs.Operations.{ops_of, tree_ops, number_of}
+use Rattle.cs_pattern.specs.Pattern.{regex}
+use Rattle.cs_pattern.specs.Substitution.{PutIn, pattern_of}
+use Rattle.cs_pattern.proofs.TextTrees.{accepts, refuses}
+use Rattle.cs_pattern.proofs.read.pattern_of_items.Goals as goal
+
+pub returns-in-Some-clause-refused : goal.returns-in-Some-clause-refused
+returns-in-Some-clause-refused c =
+    let ds : List Definition = definitions_of c.definitions.inside.texts.entries in
+    let a : AreChecked ds c.definitions.inside.bodies.items c.definitions.inside.measures.items c.definitions.inside.order.items = c.definitions.invariant in
+    let over : passed_limit c.in_ok-measure.measure.depth c.in_ok-measure.measure.leaves ≡ Some c.in-Some.fault = sym c.in-Some.ensures in
+    let p = refuses ds c.definitions.inside.bodies.items c.definitions.inside.measures.items c.definitions.inside.order.items a
+    (placed_all c.args.items.now) c.in_ok-measure.measure (ops_of c.in_ok-ops.ops.items) c.in-Some.fault (rw (c.deref.ensures.value, c.deref-2.ensures.value) at c.in_ok-measure.ensures) c.in_ok-ops.ensures over in
+    subst (λ (es : List Definition). (text : List ℕ) → IsNamed es text (placed_all c.args.items.now) → IsFault text es c.in-Some.fault) c.definitions.view_is p
+
+pub returns-clause-read : goal.returns-clause-read
+returns-clause-read c =
+    let ds : List Definition = definitions_of c.definitions.inside.texts.entries in
+    let a : AreChecked ds c.definitions.inside.bodies.items c.definitions.inside.measures.items c.definitions.inside.order.items = c.definitions.invariant in
+    let within : passed_limit c.in_ok-measure.measure.depth c.in_ok-measure.measure.leaves ≡ None = sym c.in-None.ensures in
+    let built = subst (λ (es : List Definition). (tree spelled : Tree) → PutIn es tree spelled → ops_of c.in_ok-ops.ops.items ≡ tree_ops (number_of es) spelled → regex c.in_ok-pattern-in-None.pattern ≡ pattern_of tree) (sym c.definitions.view_is) (rw c.deref-in-None.ensures.value at c.in_ok-pattern-in-None.ensures) in
+    let p = accepts ds c.definitions.inside.bodies.items c.definitions.inside.measures.items c.definitions.inside.order.items a
+    (placed_all c.args.items.now) c.in_ok-measure.measure (ops_of c.in_ok-ops.ops.items) (regex c.in_ok-pattern-in-None.pattern) (rw (c.deref.ensures.value, c.deref-2.ensures.value) at c.in_ok-measure.ensures) c.in_ok-ops.ensures within built in
+    subst (λ (es : List Definition). (text : List ℕ) → IsNamed es text (placed_all c.args.items.now) → IsPatternOf es text (regex c.in_ok-pattern-in-None.pattern)) c.definitions.view_is p

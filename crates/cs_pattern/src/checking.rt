@@ -1,0 +1,121 @@
+// The stages of checking definitions: their texts, their names, their operations and their measures.
+
+ghost use Rattle.std.specs.Prelude.{◌≡◌, ◌<◌, ◌≤◌, ◌^◌, ℕ, List, None, All, IfOk, IfErr, OnOk, Some, length, slice_get};
+ghost use Rattle.cs_pattern_items.specs.Views.{placed_all};
+ghost use Rattle.cs_pattern.specs.Answers.{limit_of};
+ghost use Rattle.cs_pattern.specs.Checked.{IsOrder};
+ghost use Rattle.cs_pattern.specs.Checking.{Refuses, HasAllNames, HasNoCycle, Each};
+ghost use Rattle.cs_pattern.specs.Definitions.{Definition, definitions_of, total_bytes};
+ghost use Rattle.cs_pattern.specs.Grammar.{Tree};
+ghost use Rattle.cs_pattern.specs.Stages.{StopsAs, AreRead, AreNamed, AreOperations, IsMeasured, AreMeasures, HasTree};
+ghost use Rattle.cs_pattern.specs.Substitution.{IsTreeOf};
+ghost use Rattle.cs_pattern.specs.Table.{Reads};
+
+use crate::fault::{CheckError, PatternError, PatternFault};
+use crate::measure::{Measure, leaf, measure_of, passed_limit};
+use crate::names::Texts;
+use crate::postfix::{Op, postfix};
+use crate::reading::items;
+use crate::uses::first_undefined;
+use cs_pattern_items::Placed;
+use std::alloc::{AllocError, Global};
+
+/// The fault of the definition of that index.
+pub fn fault_at(index: usize, fault: PatternFault) -> CheckError
+    requires { index < 2 ^ 32 }
+    ensures { result ≡ CheckError.Fault index fault }
+{
+    CheckError::Fault {
+        index: index as u32,
+        fault,
+    }
+}
+
+fn read_text(alloc: Global, index: usize, text: &[u8]) -> Result<Vec<Placed>, CheckError>
+    requires text { length text.now ≤ 1048576 }
+    requires index { index < 2 ^ 32 }
+    ensures read { IfOk result (λ items. Reads text.now (placed_all items.items)) }
+    ensures short { IfOk result (λ items. length items.items ≤ length text.now) }
+    ensures stops { IfErr result (StopsAs index text.now) }
+{
+    match items(alloc, text) {
+        Ok(items) => Ok(items),
+        Err(PatternError::Fault(fault)) => Err(fault_at(index, fault)),
+        Err(PatternError::Memory) => Err(CheckError::Memory),
+    }
+}
+
+/// The items of each text.
+pub fn read_all(alloc: Global, texts: &Texts) -> Result<Vec<Vec<Placed>>, CheckError>
+    requires { total_bytes (definitions_of texts.now.entries) ≤ 1048576 }
+    ensures read { IfOk result (λ all. AreRead (definitions_of texts.now.entries) all.items) }
+    ensures refused { IfErr result (Refuses (definitions_of texts.now.entries)) }
+{
+    let mut all = Vec::new(alloc);
+    while let Some((_, text)) = texts.get_index(all.len()) {
+        all.push(read_text(alloc, all.len(), text)?)?;
+    }
+    Ok(all)
+}
+
+pub fn check_names(all: &[Vec<Placed>], texts: &Texts) -> Result<(), CheckError>
+    requires bytes { total_bytes (definitions_of texts.now.entries) ≤ 1048576 }
+    requires read { AreRead (definitions_of texts.now.entries) all.now }
+    ensures named { OnOk result (AreNamed (definitions_of texts.now.entries) all.now) }
+    ensures refused { IfErr result (Refuses (definitions_of texts.now.entries)) }
+{
+    for (index, items) in all.iter().enumerate() {
+        if let Some(at) = first_undefined(items, texts) {
+            return Err(fault_at(index, PatternFault::UndefinedName { at }));
+        }
+    }
+    Ok(())
+}
+
+/// The operations of each definition.
+pub fn operations(
+    alloc: Global,
+    all: &[Vec<Placed>],
+    texts: &Texts,
+) -> Result<Vec<Vec<Op>>, AllocError>
+    requires { AreRead (definitions_of texts.now.entries) all.now }
+    ensures { IfOk result (λ bodies. AreOperations (definitions_of texts.now.entries) bodies.items) }
+{
+    let mut bodies = Vec::new(alloc);
+    for items in all {
+        bodies.push(postfix(alloc, items, texts)?)?;
+    }
+    Ok(bodies)
+}
+
+/// The measure of each definition, by an order in which each stands behind those that it uses.
+pub fn measure_all(
+    alloc: Global,
+    bodies: &[Vec<Op>],
+    order: &[usize],
+) -> Result<Vec<Measure>, AllocError>
+    requires { All (λ index. index < length bodies.now) order.now }
+    ensures { IfOk result (λ measures. (ds : List Definition) → AreOperations ds bodies.now → IsOrder ds order.now → AreMeasures ds measures.items) }
+{
+    let mut measures = vec![in alloc; leaf(); bodies.len()]?;
+    for index in order {
+        let measure = measure_of(alloc, &bodies[*index], &measures)?;
+        measures[*index] = measure;
+    }
+    Ok(measures)
+}
+
+pub fn check_limits(measures: &[Measure]) -> Result<(), CheckError>
+    requires { length measures.now < 2 ^ 32 }
+    ensures within { OnOk result ((ds : List Definition) → AreMeasures ds measures.now → Each (HasTree ds) ds
+        → (i : ℕ) (d : Definition) (tree : Tree) → slice_get ds i ≡ Some d → IsTreeOf ds d.text tree → limit_of tree ≡ None) }
+    ensures refused { IfErr result (λ error. (ds : List Definition) → AreMeasures ds measures.now → Each (HasTree ds) ds → Each (HasAllNames ds) ds
+        → HasNoCycle ds → Refuses ds error) }
+{
+    for (index, measure) in measures.iter().enumerate() {
+        if let Some(fault) = passed_limit(*measure) {
+            return Err(fault_at(index, fault));
+        }
+    }
+    Ok(())
+}

@@ -1,0 +1,166 @@
+-- Brackets (POSIX, bracket expressions in the POSIX locale).
+use Rattle.std.specs.Prelude.{ℕ, ◌+◌, Bool, true, false, ◌==◌, nat_le, ◌&&◌, ◌||◌, not, if◌then◌else◌, List, [], ◌∷◌, Option, Some, None, codes, drop}
+use Rattle.std.specs.List.{list_any}
+use Rattle.std.specs.Str.{bytes_eq}
+use Rattle.cs_pattern_items.specs.declared.bracket.Class.{Class}
+use Rattle.cs_pattern_items.specs.declared.bracket.Class.TheVariants.{Upper, Lower, Digit, Alpha, Alnum, Xdigit, Blank, Space, Cntrl, Graph, Print, Punct}
+use Rattle.cs_pattern_items.specs.ByteKind.{has_at, is_letter, is_decimal, is_hexadecimal}
+use Rattle.cs_pattern_items.specs.Members.{bytes_where, has, is_none}
+use Rattle.cs_pattern_items.specs.Marks.{Mark, plain, escaped, class, collating, marks}
+
+unfoldable pub letter_class : List ℕ → Option Class
+letter_class name =
+    if bytes_eq name (codes "upper") then Some Upper else (if bytes_eq name (codes "lower") then Some Lower
+    else (if bytes_eq name (codes "digit") then Some Digit else (if bytes_eq name (codes "alpha") then Some Alpha
+    else (if bytes_eq name (codes "alnum") then Some Alnum else (if bytes_eq name (codes "xdigit") then Some Xdigit else None)))))
+
+unfoldable pub other_class : List ℕ → Option Class
+other_class name =
+    if bytes_eq name (codes "blank") then Some Blank else (if bytes_eq name (codes "space") then Some Space
+    else (if bytes_eq name (codes "cntrl") then Some Cntrl else (if bytes_eq name (codes "graph") then Some Graph
+    else (if bytes_eq name (codes "print") then Some Print else (if bytes_eq name (codes "punct") then Some Punct else None)))))
+
+abbrev pub or_else : Option Class → Option Class → Option Class
+or_else None o = o
+or_else (Some k) o = Some k
+
+-- the class of that name
+unfoldable pub class_of : List ℕ → Option Class
+class_of name = or_else (letter_class name) (other_class name)
+
+-- the bytes of a class
+unfoldable pub is_in_class : Class → ℕ → Bool
+is_in_class Upper b = nat_le 65 b && nat_le b 90
+is_in_class Lower b = nat_le 97 b && nat_le b 122
+is_in_class Digit b = is_decimal b
+is_in_class Alpha b = is_letter b
+is_in_class Alnum b = is_letter b || is_decimal b
+is_in_class Xdigit b = is_hexadecimal b
+is_in_class Blank b = (b == 32) || (b == 9)
+is_in_class Space b = (b == 32) || (nat_le 9 b && nat_le b 13)
+is_in_class Cntrl b = nat_le b 31 || (b == 127)
+is_in_class Graph b = nat_le 33 b && nat_le b 126
+is_in_class Print b = nat_le 32 b && nat_le b 126
+is_in_class Punct b = (nat_le 33 b && nat_le b 126) && not (is_letter b || is_decimal b)
+
+abbrev pub class_by : Option Class → ℕ → Option Bool
+class_by None b = None
+class_by (Some k) b = Some (is_in_class k b)
+
+-- the byte is in the class of that name; None where there is no such class
+abbrev pub class_test : List ℕ → ℕ → Option Bool
+class_test name = class_by (class_of name)
+
+-- a member of a bracket: one mark, or two marks with a `-` between them
+pub data Member : Type 0 where
+  one : Mark → Member
+  range : Mark → Mark → Member
+
+abbrev pub is_dash : Mark → Bool
+is_dash (plain b) = b == 45
+is_dash (escaped b) = false
+is_dash (class name) = false
+is_dash collating = false
+
+-- a range begins here: a `-` stands second, and a mark behind it
+abbrev pub begins_range : List Mark → Bool
+begins_range [] = false
+begins_range (x ∷ []) = false
+begins_range (x ∷ d ∷ []) = false
+begins_range (x ∷ d ∷ y ∷ rest) = is_dash d
+
+-- the members of these marks: a `-` between two marks makes a range of them, unless it ends or begins one before
+abbrev mutual
+  pub members : List Mark → List Member
+  members [] = []
+  members (x ∷ more) = members_at x more
+
+  pub members_at : Mark → List Mark → List Member
+  members_at x [] = one x ∷ []
+  members_at x (d ∷ more) = if is_dash d then behind_dash x d more else one x ∷ members_at d more
+
+  pub behind_dash : Mark → Mark → List Mark → List Member
+  behind_dash x d [] = one x ∷ one d ∷ []
+  behind_dash x d (y ∷ rest) = range x y ∷ members rest
+
+-- the byte for which a mark stands
+abbrev pub byte_of : Mark → Option ℕ
+byte_of (plain b) = Some b
+byte_of (escaped b) = b
+byte_of (class name) = None
+byte_of collating = None
+
+abbrev pub within : Option ℕ → Option ℕ → ℕ → Option Bool
+within (Some first) (Some last) b = if nat_le first last then Some (nat_le first b && nat_le b last) else None
+within None last b = None
+within (Some first) None b = None
+
+abbrev pub same : Option ℕ → ℕ → Option Bool
+same None b = None
+same (Some c) b = Some (b == c)
+
+-- the byte is of the member; None where the member is refused
+abbrev pub member_test : Member → ℕ → Option Bool
+member_test (one (plain c)) b = Some (b == c)
+member_test (one (escaped c)) b = same c b
+member_test (one (class name)) b = class_test name b
+member_test (one collating) b = None
+member_test (range x y) b = within (byte_of x) (byte_of y) b
+
+abbrev pub or_both : Option Bool → Option Bool → Option Bool
+or_both None q = None
+or_both (Some p) None = None
+or_both (Some p) (Some q) = Some (p || q)
+
+-- the byte is of one of the members; None where one of them is refused
+abbrev pub any_test : List Member → ℕ → Option Bool
+any_test [] b = Some false
+any_test (m ∷ ms) b = or_both (member_test m b) (any_test ms b)
+
+abbrev pub is_yes : Option Bool → Bool
+is_yes None = false
+is_yes (Some b) = b
+
+abbrev pub is_refused : Option Bool → Bool
+is_refused None = true
+is_refused (Some b) = false
+
+-- The bytes of the members. None where a member is refused, which no byte decides.
+unfoldable pub member_bytes : List Mark → Option (List ℕ)
+member_bytes ms = if is_refused (any_test (members ms) 0) then None else Some (bytes_where (λ b. is_yes (any_test (members ms) b)))
+
+abbrev pub unless_empty : List ℕ → Option (List ℕ)
+unless_empty bytes = if is_none bytes then None else Some bytes
+
+-- the bytes of the bracket, or of none but its members
+abbrev pub turned : Bool → Option (List ℕ) → Option (List ℕ)
+turned inverted None = None
+turned false (Some bytes) = unless_empty bytes
+turned true (Some bytes) = unless_empty (bytes_where (λ b. not (has bytes b)))
+
+abbrev pub is_collating : Mark → Bool
+is_collating (plain b) = false
+is_collating (escaped b) = false
+is_collating (class name) = false
+is_collating collating = true
+
+-- what a `[` begins
+pub data Bracket : Type 0 where
+  -- its bytes, and its size without the `[`
+  set : List ℕ → ℕ → Bracket
+  collation : Bracket
+  nothing : Bracket
+
+abbrev pub set_or_nothing : Option (List ℕ) → ℕ → Bracket
+set_or_nothing None size = nothing
+set_or_nothing (Some bytes) size = set bytes size
+
+-- a `[`, its marks and its `]`: a collating part is told, whatever else is wrong
+abbrev pub closed : Bool → List Mark → ℕ → Bracket
+closed inverted ms size = if list_any is_collating ms then collation else set_or_nothing (turned inverted (member_bytes ms)) size
+
+abbrev pub bracket_in : Bool → ℕ → List ℕ → Bracket
+bracket_in inverted skipped text = if has_at text (marks text).1 93 then closed inverted (marks text).0 (skipped + ((marks text).1 + 1)) else nothing
+
+unfoldable pub bracket : List ℕ → Bracket
+bracket text = if has_at text 0 94 then bracket_in true 1 (drop 1 text) else bracket_in false 0 text

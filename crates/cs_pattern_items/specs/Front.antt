@@ -1,0 +1,63 @@
+-- The item at the front of a text, by its longest spelling.
+use Rattle.std.specs.Prelude.{ℕ, ◌+◌, ◌==◌, ◌||◌, not, if◌then◌else◌, List, [], ◌∷◌, Option, Some, None}
+use Rattle.cs_pattern_items.specs.declared.item.Repetition.{Repetition}
+use Rattle.cs_pattern_items.specs.declared.item.Repetition.TheVariants.{Optional, AtLeast}
+use Rattle.cs_pattern_items.specs.declared.front.Stop.{Stop}
+use Rattle.cs_pattern_items.specs.declared.front.Stop.TheVariants.{Anchor, Trailing, Collation, Syntax}
+use Rattle.cs_pattern_items.specs.Members.{bytes_where}
+use Rattle.cs_pattern_items.specs.ByteKind.{is_plain}
+use Rattle.cs_pattern_items.specs.Character.{escape}
+use Rattle.cs_pattern_items.specs.Quoted as quotes
+use Rattle.cs_pattern_items.specs.Bracket.{Bracket, set, collation, nothing, bracket}
+use Rattle.cs_pattern_items.specs.Interval.{interval, name}
+use Rattle.cs_pattern_items.specs.Items.{Item, class, quoted, named, opening, closing, bar, repetition}
+
+-- an item and its size, or why there is none
+pub data Front : Type 0 where
+  item : Item → ℕ → Front
+  stop : Stop → Front
+
+abbrev pub one_byte : ℕ → Item
+one_byte b = class (bytes_where (λ c. c == b))
+
+-- `.`: every byte but newline
+abbrev pub any_byte : Item
+any_byte = class (bytes_where (λ c. not (c == 10)))
+
+abbrev pub escape_front : Option (Option ℕ × ℕ) → Front
+escape_front None = stop Syntax
+escape_front (Some (None, n)) = stop Syntax
+escape_front (Some (Some b, n)) = item (one_byte b) (n + 1)
+
+abbrev pub quoted_front : Option (List ℕ × ℕ) → Front
+quoted_front None = stop Syntax
+quoted_front (Some (bytes, n)) = item (quoted bytes) (n + 1)
+
+abbrev pub bracket_front : Bracket → Front
+bracket_front (set bytes n) = item (class bytes) (n + 1)
+bracket_front collation = stop Collation
+bracket_front nothing = stop Syntax
+
+abbrev pub name_front : Option (List ℕ × ℕ) → Front
+name_front None = stop Syntax
+name_front (Some (bytes, n)) = item (named bytes) (n + 1)
+
+abbrev pub brace_front : Option (Repetition × ℕ) → Option (List ℕ × ℕ) → Front
+brace_front (Some (r, n)) word = item (repetition r) (n + 1)
+brace_front None word = name_front word
+
+-- a byte that begins nothing longer
+unfoldable pub sign_front : ℕ → Front
+sign_front b =
+    if b == 46 then item any_byte 1
+    else (if b == 40 then item opening 1 else (if b == 41 then item closing 1 else (if b == 124 then item bar 1
+    else (if b == 42 then item (repetition (AtLeast 0)) 1 else (if b == 43 then item (repetition (AtLeast 1)) 1
+    else (if b == 63 then item (repetition Optional) 1 else (if (b == 94) || (b == 36) then stop Anchor
+    else (if b == 47 then stop Trailing else (if is_plain b then item (one_byte b) 1 else stop Syntax)))))))))
+
+-- what stands at the front; nothing does at the end
+unfoldable pub front : List ℕ → Front
+front [] = stop Syntax
+front (b ∷ rest) =
+    if b == 92 then escape_front (escape rest) else (if b == 34 then quoted_front (quotes.quoted rest)
+    else (if b == 91 then bracket_front (bracket rest) else (if b == 123 then brace_front (interval rest) (name rest) else sign_front b)))

@@ -1,0 +1,14 @@
+pub mod Members
+pub mod Bits
+pub mod ByteKind
+pub mod Character
+pub mod Steps
+pub mod Quoted
+pub mod Marks
+pub mod Bracket
+pub mod Inserting
+pub mod Interval
+pub mod Items
+pub mod Front
+pub mod Views
+pub mod StandsFor

@@ -1,0 +1,98 @@
+// What stands inside a bracket, one mark after another.
+
+ghost use Rattle.std.specs.Prelude.{◌≡◌, ◌<◌, ◌≤◌, ◌++◌, length, IfSome, IfOk, OnOk};
+ghost use Rattle.cs_pattern_items.specs.Marks as spec;
+ghost use Rattle.cs_pattern_items.specs.Steps.{steps};
+ghost use Rattle.cs_pattern_items.specs.Views.{sized_mark, marks_of};
+
+use crate::byte_kind::{from_offset, has_at, inner_len};
+use crate::character::escape;
+use std::alloc::{AllocError, Global};
+
+/// What stands inside a bracket.
+#[derive(Clone, Copy, Debug)]
+pub enum Mark<'a> {
+    /// A byte that stands for itself.
+    Plain(u8),
+    /// An escape; no byte where an octal number is above 255.
+    Escape(Option<u8>),
+    /// `[:name:]`
+    Class(&'a [u8]),
+    /// `[.name.]` or `[=name=]`
+    Collating,
+}
+
+/// The named part behind a `[`, and its size without that: it goes through the next `]`, which stands directly behind a
+/// second byte of its kind.
+#[tactic(auto, unfolding(crate::specs::Marks::named_part))]
+fn named_part(text: &[u8]) -> Option<(Mark<'_>, usize)>
+    ensures value { sized_mark result ≡ spec.named_part text.now }
+    ensures size { IfSome result (λ r. r.1 ≤ length text.now) }
+{
+    let [kind, rest @ ..] = text else {
+        return None;
+    };
+    let size = inner_len(rest);
+    if size == 0 || !has_at(rest, size, b']') || !has_at(rest, size - 1, *kind) {
+        return None;
+    }
+    match *kind {
+        b':' => Some((Mark::Class(&rest[..size - 1]), size + 2)),
+        b'.' | b'=' => Some((Mark::Collating, size + 2)),
+        _ => None,
+    }
+}
+
+/// The mark at the front of the text, and its size.
+#[tactic(auto, unfolding(crate::specs::Marks::mark))]
+fn mark_of(text: &[u8]) -> Option<(Mark<'_>, usize)>
+    ensures value { sized_mark result ≡ spec.mark text.now }
+    ensures size { IfSome result (λ r. (0 < r.1) × (r.1 ≤ length text.now)) }
+{
+    let [first, rest @ ..] = text else {
+        return None;
+    };
+    match *first {
+        b'\n' | b']' => None,
+        b'\\' => {
+            let (byte, size) = escape(rest)?;
+            Some((Mark::Escape(byte), size + 1))
+        }
+        b'[' => match named_part(rest) {
+            Some((part, size)) => Some((part, size + 1)),
+            None => Some((Mark::Plain(b'['), 1)),
+        },
+        other => Some((Mark::Plain(other), 1)),
+    }
+}
+
+/// Adds the marks from the front of the text on, and how many bytes they take.
+fn push_marks<'a>(marks: &mut Vec<Mark<'a>>, text: &'a [u8]) -> Result<usize, AllocError>
+    ensures list { OnOk result (marks_of marks.new.items ≡ marks_of marks.old.items ++ (steps spec.mark text.now).0) }
+    ensures size { IfOk result (λ n. n ≡ (steps spec.mark text.now).1) }
+    ensures within { IfOk result (λ n. n ≤ length text.now) }
+{
+    let mut at = 0;
+    while let Some((mark, size)) = mark_of(from_offset(text, at)) {
+        marks.push(mark)?;
+        at += size;
+    }
+    Ok(at)
+}
+
+/// The marks up to the closing `]`, and their size without it. A `]` stands for itself where it is the first.
+#[tactic(auto, unfolding(crate::specs::Marks::marks))]
+pub fn marks(alloc: Global, text: &[u8]) -> Result<(Vec<Mark<'_>>, usize), AllocError>
+    ensures value { IfOk result (λ r. (marks_of r.0.items, r.1) ≡ spec.marks text.now) }
+    ensures size { IfOk result (λ r. r.1 ≤ length text.now) }
+{
+    let mut marks = Vec::new(alloc);
+    if has_at(text, 0, b']') {
+        marks.push(Mark::Plain(b']'))?;
+        let size = push_marks(&mut marks, from_offset(text, 1))?;
+        Ok((marks, 1 + size))
+    } else {
+        let size = push_marks(&mut marks, text)?;
+        Ok((marks, size))
+    }
+}

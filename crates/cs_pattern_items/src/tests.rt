@@ -1,0 +1,100 @@
+use super::*;
+use std::alloc::{AllocError, Global};
+use std::test::Fail;
+
+// The runs of a set's members, in hexadecimal.
+fn show_set(out: &mut String, set: &ByteSet) -> Result<(), AllocError> {
+    let mut before = false;
+    for byte in 0..=255 {
+        let after = byte < 255 && set.contains(byte + 1);
+        if set.contains(byte) {
+            if !before {
+                write!(out, " {byte:02x}")?;
+            }
+            if before && !after {
+                write!(out, "-{byte:02x}")?;
+            }
+        }
+        before = set.contains(byte);
+    }
+    Ok(())
+}
+
+// What stands at the front of a text, as text.
+fn answer(alloc: Global, text: &[u8]) -> Result<String, AllocError> {
+    let (item, size) = match front_of(alloc, text)? {
+        Front::Item(item, size) => (item, size),
+        Front::Stop(stop) => return format!(in alloc; "{stop:?}"),
+    };
+    let mut out = String::new(alloc);
+    match item {
+        Item::Class(set) => show_set(&mut out, &set)?,
+        other => write!(out, " {other:?}")?,
+    }
+    write!(out, " of {size}")?;
+    Ok(out)
+}
+
+// A text and what stands at its front, separated by a tab.
+const ROWS: &str = "\
+ab\t 61 of 1\n\
+\\x414\t 41 of 4\n\
+\\08\t 00 of 2\n\
+\\400\tSyntax\n\
+.\t 00-09 0b-ff of 1\n\
+\"a\\n\"b\t Quoted([97, 10]) of 5\n\
+[]a-c]d\t 5d 61-63 of 6\n\
+[^\\0-`b-\\xff]\t 61 of 13\n\
+[b-a]\tSyntax\n\
+[[.a.]]\tCollation\n\
+{x-1}y\t Name([120, 45, 49]) of 5\n\
+{1x}\tSyntax\n\
+{002}\t Repeat(Exactly(2)) of 5\n\
+{2,}\t Repeat(AtLeast(2)) of 4\n\
+{0,1000}\t Repeat(Between(0, 1000)) of 8\n\
+{1001}\tSyntax\n\
+{0}\tSyntax\n\
+*\t Repeat(AtLeast(0)) of 1\n\
++\t Repeat(AtLeast(1)) of 1\n\
+??\t Repeat(Optional) of 1\n\
+(\t Open of 1\n\
+)\t Close of 1\n\
+||\t Bar of 1\n\
+^\tAnchor\n\
+$\tAnchor\n\
+/\tTrailing\n\
+<\t 3c of 1\n\
+\x20a\tSyntax\n\
+\tSyntax\n\
+";
+
+#[test]
+fn fronts(rt: HostRuntime) -> Result<(), Fail> {
+    let alloc = rt.alloc();
+    let mut count = 0u32;
+    for row in ROWS.lines() {
+        if let Some((text, want)) = row.split_once('\t') {
+            let found = answer(alloc, text.as_bytes())?;
+            assert_eq!(rt; found.as_str(), want, "{text}");
+            count = count.wrapping_add(1);
+        }
+    }
+    assert_eq!(rt; count, 29);
+    Ok(())
+}
+
+#[test]
+fn sets_of_bytes(rt: HostRuntime) -> Result<(), Fail> {
+    let alloc = rt.alloc();
+    let mut set = ByteSet::new();
+    assert!(rt; set.is_empty());
+    set.insert_range(b'a', b'c');
+    set.insert(0xff);
+    let mut shown = String::new(alloc);
+    show_set(&mut shown, &set.duplicate())?;
+    show_set(&mut shown, &set.complement())?;
+    assert_eq!(rt; shown.as_str(), " 61-63 ff 00-60 64-fe");
+    assert!(rt; has_at(b"ab", 1, b'b') && !has_at(b"ab", 2, b'b'));
+    assert_eq!(rt; from_offset(b"abc", 1), b"bc".as_slice());
+    Ok(())
+}
