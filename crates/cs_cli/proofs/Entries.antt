@@ -14,7 +14,6 @@ use Rattle.cs_goals.proofs.Members.{Among-right, Contains-from_Among}
 use Rattle.cs_goals.proofs.Once.{all}
 use Rattle.cs_positive.specs.declared.verdict.Verdict.{Verdict}
 use Rattle.cs_positive.specs.declared.verdict.Verdict.TheVariants.{Feasible, Infeasible, Large}
-use Rattle.cs_positive.specs.Verdict.{IsPair}
 use Rattle.cs_yacc.specs.File.{File, IsFile}
 use Rattle.cs_cli.specs.Entry.{Entry}
 use Rattle.cs_cli.specs.Manifest.{AreTokensOf, IsEntryOf, EntriesOf, AreEntries, IsManifest, IsNamedEntry, rules_text}
@@ -51,18 +50,12 @@ FirstEntries-all g left entries none so_far =
     let done : so_far.done ≡ rule_goals g = sym (append-nil so_far.done) ∙ ap (λ (gs : List Goal). so_far.done ++ gs) (sym none) ∙ sym so_far.whole ∙ rules in
     record { each = subst (λ (gs : List Goal). EntriesOf g gs entries) done so_far.each }
 
-no_pair : (goal : Goal) → IsChosen by_rules goal → IsPair goal → ⊥
-no_pair (Rule r) chosen h = h
-no_pair (Context p i q) chosen h = h
-no_pair (Pair a b) chosen h = let e : false ≡ true = chosen in cc
-
--- the next goal is one that may be judged
-pub next_goal : (g : Syntax) (left rest : List Goal) (goal : Goal) (entries : List Entry) → left ≡ goal ∷ rest → FirstEntries g left entries → IsGoal g goal × (IsPair goal → ⊥)
+-- the next goal is one of the grammar's
+pub next_goal : (g : Syntax) (left rest : List Goal) (goal : Goal) (entries : List Entry) → left ≡ goal ∷ rest → FirstEntries g left entries → IsGoal g goal
 next_goal g left rest goal entries next so_far =
     let whole : so_far.done ++ (goal ∷ rest) ≡ goals g by_rules = ap (λ (gs : List Goal). so_far.done ++ gs) (sym next) ∙ sym so_far.whole in
     let contained = Contains-from_Among goal (so_far.done ++ (goal ∷ rest)) (Among-right goal so_far.done (goal ∷ rest) (inl refl)) in
-    let is = (all g by_rules goal).0 (subst (λ (gs : List Goal). Contains gs goal) whole contained) in
-    (is.1, no_pair goal is.0)
+    ((all g by_rules goal).0 (subst (λ (gs : List Goal). Contains gs goal) whole contained)).1
 
 -- the tokens of the entries are tokens of the grammar
 module _ (g : Syntax) (well : IsGrammar g) where

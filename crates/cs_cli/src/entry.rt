@@ -5,7 +5,6 @@ ghost use Rattle.cs_grammar.specs.declared.symbol.Symbol.TheVariants.{Nontermina
 ghost use Rattle.cs_grammar.specs.Leftmost.{IsYield};
 ghost use Rattle.cs_grammar.specs.Tree.{IsDerivation};
 ghost use Rattle.cs_goals.specs.Goal.{IsGoal};
-ghost use Rattle.cs_positive.specs.Verdict.{IsPair};
 ghost use Rattle.cs_cli.specs.Manifest.{AreEntries, IsEntryOf};
 
 use cs_goals::{Criteria, Goal, Goals};
@@ -48,8 +47,7 @@ pub fn entries(alloc: Global, tables: &Tables) -> Result<Vec<Entry>, AllocError>
 }
 
 fn entry_of(alloc: Global, tables: &Tables, goal: &Goal) -> Result<Entry, AllocError>
-    requires goal { IsGoal tables.now goal.now }
-    requires no_pair { IsPair goal.now → ⊥ }
+    requires { IsGoal tables.now goal.now }
     ensures { IfOk result (IsEntryOf tables.now goal.now) }
 {
     let verdict = judge(alloc, tables, goal)?;

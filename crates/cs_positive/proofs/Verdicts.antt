@@ -4,9 +4,11 @@ use Rattle.cs_grammar.specs.Grammar.{Syntax}
 use Rattle.cs_grammar.specs.Tree.{Tree, size, code}
 use Rattle.cs_goals.specs.declared.goal.Goal.{Goal}
 use Rattle.cs_goals.specs.declared.goal.Goal.TheVariants.{Rule, Context, Pair}
+use Rattle.cs_goals.specs.Goal.{IsGoal}
+use Rattle.cs_pairs.proofs.ChosenPairs.{one_pair, pair_exists, pair_has, pair_least}
 use Rattle.cs_positive.specs.declared.verdict.Verdict.{Verdict}
 use Rattle.cs_positive.specs.declared.verdict.Verdict.TheVariants.{Feasible, Infeasible, Large}
-use Rattle.cs_positive.specs.Verdict.{IsMet, IsChosenOf, IsVerdict, IsPair}
+use Rattle.cs_positive.specs.Verdict.{IsMet, IsChosenOf, IsVerdict}
 use Rattle.cs_positive.proofs.RuleGoals.{rule_met, rule_least, one_of_rule, rule_exists}
 use Rattle.cs_positive.proofs.ContextGoals.{context_met, context_least, one_of_context, context_exists}
 
@@ -14,22 +16,22 @@ module _ (g : Syntax) where
   pub chosen_met : (goal : Goal) (u : Tree) → IsChosenOf g goal u → IsMet g goal u
   chosen_met (Rule r) u h = rule_met g r u h
   chosen_met (Context p i q) u h = context_met g p i q u h
-  chosen_met (Pair a b) u h = absurd h
+  chosen_met (Pair a b) u h = pair_has g a b u h
 
   pub chosen_least_of : (goal : Goal) (t u : Tree) → IsMet g goal t → IsChosenOf g goal u → size u ≤ size t
   chosen_least_of (Rule r) t u h k = rule_least g r t u h k
   chosen_least_of (Context p i q) t u h k = context_least g p i q t u h k
-  chosen_least_of (Pair a b) t u h k = absurd k
+  chosen_least_of (Pair a b) t u h k = pair_least g a b t u h k
 
   pub one_chosen_of : (goal : Goal) (t u : Tree) → IsChosenOf g goal t → IsChosenOf g goal u → t ≡ u
   one_chosen_of (Rule r) t u h k = one_of_rule g r t u h k
   one_chosen_of (Context p i q) t u h k = one_of_context g p i q t u h k
-  one_chosen_of (Pair a b) t u h k = absurd h
+  one_chosen_of (Pair a b) t u h k = one_pair g a b t u h k
 
-  pub chosen_exists_of : (goal : Goal) (t : Tree) → (IsPair goal → ⊥) → IsMet g goal t → (u : Tree) × IsChosenOf g goal u
-  chosen_exists_of (Rule r) t single h = rule_exists g r t h
-  chosen_exists_of (Context p i q) t single h = context_exists g p i q t h
-  chosen_exists_of (Pair a b) t single h = absurd (single tt)
+  pub chosen_exists_of : (goal : Goal) (t : Tree) → IsGoal g goal → IsMet g goal t → (u : Tree) × IsChosenOf g goal u
+  chosen_exists_of (Rule r) t is h = rule_exists g r t h
+  chosen_exists_of (Context p i q) t is h = context_exists g p i q t h
+  chosen_exists_of (Pair a b) t is h = pair_exists g a b t is.0 is.1 h
 
   pub one_verdict_of : (goal : Goal) (v w : Verdict) → IsVerdict g goal v → IsVerdict g goal w → v ≡ w
   one_verdict_of goal Infeasible Infeasible h k = refl

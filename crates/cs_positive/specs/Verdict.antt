@@ -12,6 +12,7 @@ use Rattle.cs_embed.specs.ChosenContext.{IsChosenContext}
 use Rattle.cs_goals.specs.declared.goal.Goal.{Goal}
 use Rattle.cs_goals.specs.declared.goal.Goal.TheVariants.{Rule, Context, Pair}
 use Rattle.cs_goals.specs.Meets.{Meets}
+use Rattle.cs_pairs.specs.ChosenPair.{IsChosenPair}
 use Rattle.cs_positive.specs.declared.verdict.Verdict.{Verdict}
 use Rattle.cs_positive.specs.declared.verdict.Verdict.TheVariants.{Feasible, Infeasible, Large}
 
@@ -50,11 +51,11 @@ pub record IsChosenOfContext (g : Syntax) (p i q : ℕ) (t : Tree) : Type 0 wher
   pub chosen : AreChosen g inner.right children
   pub whole : t ≡ plug (Under context p left right) (Node q children)
 
--- the chosen tree of a goal; pair goals have no verdict here, and no chosen tree
+-- the chosen tree of a goal
 abbrev pub IsChosenOf : Syntax → Goal → Tree → Type 0
 IsChosenOf g (Rule r) t = IsChosenOfRule g r t
 IsChosenOf g (Context p i q) t = IsChosenOfContext g p i q t
-IsChosenOf g (Pair a b) t = ⊥
+IsChosenOf g (Pair a b) t = IsChosenPair g a b t
 
 -- the code of the chosen tree of a goal
 abbrev pub IsCodeOf : Syntax → Goal → List ℕ → Type 0
@@ -66,9 +67,3 @@ abbrev pub IsVerdict : Syntax → Goal → Verdict → Type 0
 IsVerdict g goal Infeasible = (t : Tree) → IsMet g goal t → ⊥
 IsVerdict g goal Large = (t : Tree) × IsMet g goal t × ((u : Tree) → IsMet g goal u → LIMIT < size u)
 IsVerdict g goal (Feasible n derivation) = (n ≤ LIMIT) × IsLeast (IsMet g goal) size n × IsCodeOf g goal derivation
-
--- a goal of neighbours in a framed sentence
-abbrev pub IsPair : Goal → Type 0
-IsPair (Rule r) = ⊥
-IsPair (Context p i q) = ⊥
-IsPair (Pair a b) = Unit {0}

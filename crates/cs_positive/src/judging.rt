@@ -2,21 +2,21 @@
 
 ghost use Rattle.std.specs.Prelude.{IfOk};
 ghost use Rattle.cs_goals.specs.Goal.{IsGoal};
-ghost use Rattle.cs_positive.specs.Verdict.{IsVerdict, IsPair};
+ghost use Rattle.cs_positive.specs.Verdict.{IsVerdict};
 
 use crate::contexts::judge_context;
+use crate::pairs::judge_pair;
 use crate::rules::judge_rule;
 use crate::tables::Tables;
 use crate::verdict::Verdict;
 use cs_goals::Goal;
 use std::alloc::{AllocError, Global};
 
-/// The verdict of a rule goal or a context goal of the grammar, over all trees of the start symbol: `Infeasible` exactly
-/// where none meets the goal, `Large` exactly where one does and the least of them has more than `LIMIT` nodes, else the
-/// least size and the code of the chosen tree.
+/// The verdict of a goal of the grammar, over all trees of the start symbol: `Infeasible` exactly where none meets the goal,
+/// `Large` exactly where one does and the least of them has more than `LIMIT` nodes, else the least size and the code of the
+/// chosen tree.
 pub fn judge(alloc: Global, tables: &Tables, goal: &Goal) -> Result<Verdict, AllocError>
-    requires goal { IsGoal tables.now goal.now }
-    requires no_pair { IsPair goal.now → ⊥ }
+    requires { IsGoal tables.now goal.now }
     ensures { IfOk result (IsVerdict tables.now goal.now) }
 {
     match *goal {
@@ -26,7 +26,6 @@ pub fn judge(alloc: Global, tables: &Tables, goal: &Goal) -> Result<Verdict, All
             place,
             inner,
         } => judge_context(alloc, tables, outer, place, inner),
-        // The condition leaves out pair goals.
-        Goal::Pair { .. } => Ok(Verdict::Infeasible),
+        Goal::Pair { left, right } => judge_pair(alloc, tables, left, right),
     }
 }

@@ -4,8 +4,9 @@ ghost use Rattle.std.specs.Prelude.{◌≡◌, ◌≤◌};
 ghost use Rattle.cs_grammar.specs.Grammar.{Syntax};
 ghost use Rattle.cs_grammar.specs.Tree.{Tree, size};
 ghost use Rattle.cs_goals.specs.declared.goal.Goal.{Goal};
+ghost use Rattle.cs_goals.specs.Goal.{IsGoal};
 ghost use Rattle.cs_positive.specs.declared.verdict.Verdict.{Verdict};
-ghost use Rattle.cs_positive.specs.Verdict.{IsVerdict, IsMet, IsChosenOf, IsPair};
+ghost use Rattle.cs_positive.specs.Verdict.{IsVerdict, IsMet, IsChosenOf};
 
 /// A goal has at most one verdict.
 pub fn one_verdict()
@@ -19,7 +20,7 @@ pub fn chosen_tree_meets()
     ensures least { (g : Syntax) (goal : Goal) (t u : Tree) → IsMet g goal t → IsChosenOf g goal u → size u ≤ size t }
 {}
 
-/// A rule goal or a context goal has a chosen tree where any tree of the start symbol meets it, however large.
+/// A goal of a grammar has a chosen tree where any tree of the start symbol meets it, however large.
 pub fn chosen_tree_exists_for_goal()
-    ensures { (g : Syntax) (goal : Goal) (t : Tree) → (IsPair goal → ⊥) → IsMet g goal t → (u : Tree) × IsChosenOf g goal u }
+    ensures { (g : Syntax) (goal : Goal) (t : Tree) → IsGoal g goal → IsMet g goal t → (u : Tree) × IsChosenOf g goal u }
 {}

@@ -8,6 +8,7 @@
 mod contexts;
 mod judging;
 mod laws;
+mod pairs;
 mod rules;
 mod tables;
 mod verdict;

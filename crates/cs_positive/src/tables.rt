@@ -5,15 +5,17 @@ ghost use Rattle.std.specs.Prelude.{◌≡◌, IfOk};
 use cs_cost::Costs;
 use cs_embed::Embeds;
 use cs_grammar::Grammar;
+use cs_pairs::Pairs;
 use std::alloc::{AllocError, Global};
 use std::marker::Model;
 
-/// What the least trees and the least contexts of a grammar cost.
+/// What the least trees and the least contexts of a grammar cost, and what its pairs of neighbours do.
 #[derive(Debug, Drop)]
 pub struct Tables<'g> {
     pub(crate) grammar: &'g Grammar,
     pub(crate) costs: Costs<'g>,
     pub(crate) embeds: Embeds<'g>,
+    pub(crate) pairs: Pairs<'g>,
 }
 
 impl<'g> Model for Tables<'g> {
@@ -24,7 +26,7 @@ impl<'g> Model for Tables<'g> {
 
     ghost view = { λ t. t.grammar.now };
 
-    ghost invariant = { λ t. (t.costs ≡ t.grammar.now) × (t.embeds ≡ t.grammar.now) };
+    ghost invariant = { λ t. (t.costs ≡ t.grammar.now) × (t.embeds ≡ t.grammar.now) × (t.pairs ≡ t.grammar.now) };
 }
 
 impl<'g> Tables<'g> {
@@ -34,10 +36,12 @@ impl<'g> Tables<'g> {
     {
         let costs = Costs::new(alloc, grammar)?;
         let embeds = Embeds::new(alloc, &costs)?;
+        let pairs = Pairs::new(alloc, &costs, &embeds)?;
         Ok(Tables {
             grammar,
             costs,
             embeds,
+            pairs,
         })
     }
 
@@ -60,5 +64,12 @@ impl<'g> Tables<'g> {
         ensures { result.now ≡ self.now }
     {
         &self.embeds
+    }
+
+    /// Which marks may stand side by side, and what the least trees cost that show it.
+    pub fn pairs(&self) -> &Pairs<'g>
+        ensures { result.now ≡ self.now }
+    {
+        &self.pairs
     }
 }

@@ -1,9 +1,7 @@
-ghost use Rattle.cs_positive.specs.Verdict.{IsPair};
-
 use super::*;
 use cs_cost::Cost;
-use cs_goals::{Goal, fits_goal};
-use cs_grammar::{Grammar, Rule, Symbol};
+use cs_goals::{Criteria, Goal, Goals, fits_goal};
+use cs_grammar::{Grammar, Mark, Rule, Symbol};
 use std::alloc::{AllocError, Global};
 use std::process::Abort;
 use std::test::Fail;
@@ -35,6 +33,7 @@ fn symbols(alloc: Global, numbers: &[u16]) -> Result<Vec<Symbol>, AllocError> {
 fn grammar(
     rt: &impl Abort,
     alloc: Global,
+    tokens: u16,
     start: u16,
     lines: &[(u16, &[u16])],
 ) -> Result<Grammar, AllocError> {
@@ -42,8 +41,8 @@ fn grammar(
     for (left, right) in lines {
         rules.push(Rule::new(*left, symbols(alloc, right)?))?;
     }
-    assert!(rt; Grammar::fits(4, 14, start, &rules));
-    Ok(Grammar::new(4, 14, start, rules))
+    assert!(rt; Grammar::fits(tokens, 14, start, &rules));
+    Ok(Grammar::new(tokens, 14, start, rules))
 }
 
 // The verdict of a goal is the wanted one.
@@ -53,9 +52,7 @@ fn check(
     tables: &Tables,
     goal: Goal,
     want: Want,
-) -> Result<(), AllocError>
-    requires { IsPair goal → ⊥ }
-{
+) -> Result<(), AllocError> {
     assert!(rt; fits_goal(tables.grammar(), &goal));
     match (judge(alloc, tables, &goal)?, want) {
         (Verdict::Feasible { size, derivation }, Code(least, code)) => {
@@ -78,11 +75,53 @@ fn check_rules(
     lines: &[(u16, &[u16])],
     wants: &[Want],
 ) -> Result<(), AllocError> {
-    let grammar = grammar(rt, alloc, start, lines)?;
+    let grammar = grammar(rt, alloc, 4, start, lines)?;
     let tables = Tables::new(alloc, &grammar)?;
     for (place, want) in wants.iter().enumerate() {
         assert!(rt; place < 100);
         check(rt, alloc, &tables, Goal::Rule(place as u16 + 1), *want)?;
+    }
+    Ok(())
+}
+
+// So many pair goals are feasible and so many infeasible, and the verdicts of these pairs are the wanted ones.
+fn check_pairs(
+    rt: &impl Abort,
+    alloc: Global,
+    tokens: u16,
+    lines: &[(u16, &[u16])],
+    counts: (u16, u16),
+    wants: &[(Mark, Mark, Want)],
+) -> Result<(), AllocError> {
+    let grammar = grammar(rt, alloc, tokens, 1, lines)?;
+    let tables = Tables::new(alloc, &grammar)?;
+    let mut feasible = 0u16;
+    let mut infeasible = 0u16;
+    let mut goals = Goals::new(
+        &grammar,
+        Criteria {
+            rule: false,
+            cdrc: false,
+            pair: true,
+        },
+    );
+    for _ in 0..50 {
+        if let Some(goal) = goals.next() {
+            assert!(rt; fits_goal(&grammar, &goal));
+            match judge(alloc, &tables, &goal)? {
+                Verdict::Feasible { .. } => feasible = feasible.saturating_add(1),
+                Verdict::Infeasible => infeasible = infeasible.saturating_add(1),
+                Verdict::Large => {}
+            }
+        }
+    }
+    assert_eq!(rt; (feasible, infeasible), counts);
+    for (left, right, want) in wants {
+        let goal = Goal::Pair {
+            left: *left,
+            right: *right,
+        };
+        check(rt, alloc, &tables, goal, *want)?;
     }
     Ok(())
 }
@@ -178,7 +217,7 @@ fn goals_of_sums(rt: HostRuntime) -> Result<(), Fail> {
         Nowhere,
     ];
     check_rules(&rt, alloc, 1, &SUMS, &wants)?;
-    let grammar = grammar(&rt, alloc, 1, &SUMS)?;
+    let grammar = grammar(&rt, alloc, 4, 1, &SUMS)?;
     let tables = Tables::new(alloc, &grammar)?;
     let contexts = [
         ((1, 1, 1), Code(11, &[1, 1, 2, 3, 3, 3])),
@@ -228,5 +267,55 @@ fn chain_of_nonterminals(rt: HostRuntime) -> Result<(), Fail> {
         };
         check(&rt, alloc, &tables, goal, OfSize(1025))?;
     }
+    Ok(())
+}
+
+#[test]
+fn pair_goals(rt: HostRuntime) -> Result<(), Fail> {
+    let alloc = rt.alloc();
+    let [t1, t2, t3, t4, t5] = [1, 2, 3, 4, 5].map(Mark::Token);
+    let (begin, end) = (Mark::Begin, Mark::End);
+    check_pairs(
+        &rt,
+        alloc,
+        4,
+        &SUMS[..4],
+        (12, 13),
+        &[(t4, t4, Code(11, &[2, 4, 2, 4, 2, 3]))],
+    )?;
+    // The same with  u : u 'x' ;
+    let mut lines = SUMS;
+    lines[4] = (3, &[3, 2005]);
+    check_pairs(&rt, alloc, 5, &lines, (12, 24), &[(t5, t5, Nowhere)])?;
+    // s : a b c ;  a : 'x' ;  b : | 'y' ;  c : 'z' ;
+    let chain = [
+        (1, [2, 3, 4].as_slice()),
+        (2, &[X]),
+        (3, &[]),
+        (3, &[Y]),
+        (4, &[Z]),
+    ];
+    let wants = [
+        (t1, t2, Code(7, &[1, 2, 4, 5])),
+        (t1, t3, Code(6, &[1, 2, 3, 5])),
+    ];
+    check_pairs(&rt, alloc, 3, &chain, (5, 11), &wants)?;
+    // s : a ;  a : | 'x' ;
+    let maybe = [(1, [2].as_slice()), (2, &[]), (2, &[X])];
+    let wants = [
+        (begin, end, Code(2, &[1, 2])),
+        (begin, t1, Code(3, &[1, 3])),
+        (t1, end, Code(3, &[1, 3])),
+        (t1, t1, Nowhere),
+    ];
+    check_pairs(&rt, alloc, 1, &maybe, (3, 1), &wants)?;
+    check_pairs(
+        &rt,
+        alloc,
+        1,
+        &DOUBLING,
+        (0, 1),
+        &[(t1, t1, TooLarge), (begin, end, Nowhere)],
+    )?;
     Ok(())
 }

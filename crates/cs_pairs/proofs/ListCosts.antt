@@ -1,0 +1,182 @@
+-- What lists of trees of a kind cost: no list costs less than is said, and one costs no more.
+use Rattle.std.proofs.Common.{◌≡◌, ℕ, ◌+◌, ◌≤◌, ◌⊎◌, List, [], ◌∷◌, refl, ap, sym, subst, ⊎_elim, inl, inr, arith}
+use Rattle.std.proofs.lemmas.Bool.Decides.{nat_tests}
+use Rattle.cs_grammar.specs.declared.symbol.Symbol.{Symbol}
+use Rattle.cs_grammar.specs.declared.symbol.Symbol.TheVariants.{Token, Nonterminal}
+use Rattle.cs_grammar.specs.Grammar.{Production, Syntax, IsRule}
+use Rattle.cs_grammar.specs.Tree.{Tree, Leaf, Node, Forest, Bare, Grown, IsTree, AreTrees, size, sizes, yield, yields}
+use Rattle.cs_cost.specs.declared.cost.Cost.{Cost}
+use Rattle.cs_cost.specs.Least.{IsCost}
+use Rattle.cs_cost.specs.Rank.{capped, rank, IsCapped, plus, cost_of}
+use Rattle.cs_cost.proofs.Ranks.{rank-cost_of, IsCapped-cost_of, plus_at_most, plus_reached, IsCapped-plus, IsCost-from, cost_low, cost_reached, cost_capped}
+use Rattle.cs_pairs.specs.declared.kind.Kind.{Kind}
+use Rattle.cs_pairs.specs.declared.kind.Kind.TheVariants.{Any, Empty, Begins, Ends}
+use Rattle.cs_pairs.specs.Kinds.{IsOfKind, IsTreeOfKind, AreTreesOfKind, before, behind, IsPart, IsKind}
+use Rattle.cs_pairs.specs.ListCost.{lesser, leaf_cost, bare_cost, list_cost, node_cost}
+use Rattle.cs_pairs.proofs.Joined.{joined_cases, joined_here, joined_later}
+
+-- the parts of a kind
+pub IsKind-before : (tokens : ℕ) (k : Kind) → IsKind tokens k → IsKind tokens (before k)
+IsKind-before tokens Any h = tt
+IsKind-before tokens Empty h = tt
+IsKind-before tokens (Begins b) h = tt
+IsKind-before tokens (Ends a) h = tt
+
+pub IsKind-behind : (tokens : ℕ) (k : Kind) → IsKind tokens k → IsKind tokens (behind k)
+IsKind-behind tokens Any h = tt
+IsKind-behind tokens Empty h = tt
+IsKind-behind tokens (Begins b) h = tt
+IsKind-behind tokens (Ends a) h = tt
+
+pub IsKind-part : (tokens : ℕ) (k j : Kind) → IsPart k j → IsKind tokens k → IsKind tokens j
+IsKind-part tokens k j part h =
+    ⊎_elim
+    (λ e. subst (IsKind tokens) (sym e) h)
+    (λ other. ⊎_elim (λ e. subst (IsKind tokens) (sym e) (IsKind-before tokens k h)) (λ e. subst (IsKind tokens) (sym e) (IsKind-behind tokens k h)) other)
+    part
+
+pub IsPart-behind : (k j : Kind) → IsPart (behind k) j → IsPart k j
+IsPart-behind Any j h = h
+IsPart-behind Empty j h = h
+IsPart-behind (Begins b) j h = inr (inr (⊎_elim (λ e. e) (λ o. ⊎_elim (λ e. e) (λ e. e) o) h))
+IsPart-behind (Ends a) j h = inr (inr (⊎_elim (λ e. e) (λ o. ⊎_elim (λ e. e) (λ e. e) o) h))
+
+module _ (limit : ℕ) where
+  pub lesser_left : (a b : Cost) → rank limit (lesser limit a b) ≤ rank limit a
+  lesser_left a b = grind (arith, nat_tests)
+
+  pub lesser_right : (a b : Cost) → rank limit (lesser limit a b) ≤ rank limit b
+  lesser_right a b = grind (arith, nat_tests)
+
+  pub lesser_either : (a b : Cost) → (lesser limit a b ≡ a) ⊎ (lesser limit a b ≡ b)
+  lesser_either a b = grind (arith, nat_tests)
+
+  pub IsCapped-lesser : (a b : Cost) → IsCapped limit a → IsCapped limit b → IsCapped limit (lesser limit a b)
+  IsCapped-lesser a b ha hb = ⊎_elim (λ e. subst (IsCapped limit) (sym e) ha) (λ e. subst (IsCapped limit) (sym e) hb) (lesser_either a b)
+
+  -- leaves
+  pub leaf_low : (k : Kind) (t : ℕ) → IsOfKind k (t ∷ []) → rank limit (leaf_cost limit k t) ≤ capped limit 1
+  leaf_low Any t h = omega (arith, rank-cost_of limit 1)
+  leaf_low Empty t h = absurd cc
+  leaf_low (Begins b) t h = let e : t ≡ b = (let q = h.1 in cc) in let r = rank-cost_of limit 1 in grind (arith, nat_tests)
+  leaf_low (Ends a) t ([], e) = let e' : t ≡ a = cc in let r = rank-cost_of limit 1 in grind (arith, nat_tests)
+  leaf_low (Ends a) t (x ∷ [], e) = absurd cc
+  leaf_low (Ends a) t (x ∷ y ∷ rest, e) = absurd cc
+
+  pub leaf_reached : (g : Syntax) (k : Kind) (t : ℕ) → rank limit (leaf_cost limit k t) ≤ limit + 1 → (u : Tree) × IsTreeOfKind g k (Token t) u × (capped limit (size u) ≤ rank limit (leaf_cost limit k t))
+  leaf_reached g Any t h = (Leaf t, (refl, tt), omega (arith, rank-cost_of limit 1))
+  leaf_reached g Empty t h = absurd (omega arith)
+  leaf_reached g (Begins b) t h = (Leaf t, (refl, ([], (let e : t ≡ b = grind (arith, nat_tests) in ap (λ n. n ∷ []) e))), (let r = rank-cost_of limit 1 in grind (arith, nat_tests)))
+  leaf_reached g (Ends a) t h = (Leaf t, (refl, ([], (let e : t ≡ a = grind (arith, nat_tests) in ap (λ n. n ∷ []) e))), (let r = rank-cost_of limit 1 in grind (arith, nat_tests)))
+
+  pub IsCapped-leaf : (k : Kind) (t : ℕ) → IsCapped limit (leaf_cost limit k t)
+  IsCapped-leaf Any t = IsCapped-cost_of limit 1
+  IsCapped-leaf Empty t = tt
+  IsCapped-leaf (Begins b) t = let c = IsCapped-cost_of limit 1 in grind (arith, nat_tests)
+  IsCapped-leaf (Ends a) t = let c = IsCapped-cost_of limit 1 in grind (arith, nat_tests)
+
+  -- no tree at all
+  pub bare_low : (k : Kind) → IsOfKind k [] → rank limit (bare_cost k) ≤ 0
+  bare_low Any h = omega arith
+  bare_low Empty h = omega arith
+  bare_low (Begins b) h = let e = h.1 in absurd cc
+  bare_low (Ends a) ([], e) = absurd cc
+  bare_low (Ends a) (x ∷ rest, e) = absurd cc
+
+  pub bare_reached : (g : Syntax) (k : Kind) → rank limit (bare_cost k) ≤ limit + 1 → AreTreesOfKind g k [] Bare
+  bare_reached g Any h = (tt, tt)
+  bare_reached g Empty h = (tt, refl)
+  bare_reached g (Begins b) h = absurd (omega arith)
+  bare_reached g (Ends a) h = absurd (omega arith)
+
+  pub IsCapped-bare : (k : Kind) → IsCapped limit (bare_cost k)
+  IsCapped-bare Any = omega arith
+  IsCapped-bare Empty = omega arith
+  IsCapped-bare (Begins b) = tt
+  IsCapped-bare (Ends a) = tt
+
+  -- where no rule makes a nonterminal cost less, no tree does
+  module _ (g : Syntax) (told : Kind → Symbol → Cost) (leaf : (k : Kind) (t : ℕ) → rank limit (told k (Token t)) ≤ rank limit (leaf_cost limit k t)) (tokens : ℕ) (closed : (k : Kind) → IsKind tokens k → (r : ℕ) (p : Production) → IsRule g r p → rank limit (told k (Nonterminal p.left)) ≤ rank limit (node_cost limit told k p.right)) where
+    mutual
+      pub kind_tree_low : (t : Tree) (x : Symbol) (k : Kind) → IsKind tokens k → IsTree g x t → IsOfKind k (yield t) → rank limit (told k x) ≤ capped limit (size t)
+      kind_tree_low (Leaf t) x k fits h of = rw h (omega (arith, leaf k t, leaf_low k t of))
+      kind_tree_low (Node r f) x k fits h of =
+          let below = closed k fits r h.0 h.1 in
+          let children = kind_trees_low f h.0.right k fits h.3 of in
+          let both = plus_at_most limit (cost_of limit 1) (list_cost limit told k h.0.right) 1 (sizes f) (omega (arith, rank-cost_of limit 1)) children in
+          rw h.2 (omega (arith, below, both))
+
+      pub kind_trees_low : (f : Forest) (xs : List Symbol) (k : Kind) → IsKind tokens k → AreTrees g xs f → IsOfKind k (yields f) → rank limit (list_cost limit told k xs) ≤ capped limit (sizes f)
+      kind_trees_low Bare [] k fits h of = omega (arith, bare_low k of)
+      kind_trees_low Bare (x ∷ xs) k fits h of = absurd h
+      kind_trees_low (Grown t f) [] k fits h of = absurd h
+      kind_trees_low (Grown t f) (x ∷ xs) k fits h of =
+          let rest = list_cost limit told (behind k) xs in
+          let whole = list_cost limit told k xs in
+          let here = plus limit (told k x) rest in
+          let later = plus limit (told (before k) x) whole in
+          ⊎_elim
+          (λ w.
+          let first = kind_tree_low t x k fits h.0 w.0 in
+          let others = kind_trees_low f xs (behind k) (IsKind-behind tokens k fits) h.1 w.1 in
+          omega (arith, lesser_left here later, plus_at_most limit (told k x) rest (size t) (sizes f) first others))
+          (λ w.
+          let first = kind_tree_low t x (before k) (IsKind-before tokens k fits) h.0 w.0 in
+          let others = kind_trees_low f xs k fits h.1 w.1 in
+          omega (arith, lesser_right here later, plus_at_most limit (told (before k) x) whole (size t) (sizes f) first others))
+          (joined_cases k (yield t) (yields f) of)
+
+  -- what is told of a symbol is no size above the limit, and a tree of the kind costs no more
+  pub record IsReachedBy (g : Syntax) (told : Kind → Symbol → Cost) (k : Kind) : Type 0 where
+    pub each : (x : Symbol) → IsCapped limit (told k x)
+    pub reached : (x : Symbol) → rank limit (told k x) ≤ limit + 1 → (t : Tree) × IsTreeOfKind g k x t × (capped limit (size t) ≤ rank limit (told k x))
+
+  module _ (g : Syntax) (told : Kind → Symbol → Cost) where
+    pub IsCapped-list : (k : Kind) → ((j : Kind) → IsPart k j → IsReachedBy g told j) → (xs : List Symbol) → IsCapped limit (list_cost limit told k xs)
+    IsCapped-list k sound [] = IsCapped-bare k
+    IsCapped-list k sound (x ∷ xs) =
+        let rest = list_cost limit told (behind k) xs in
+        let whole = list_cost limit told k xs in
+        IsCapped-lesser (plus limit (told k x) rest) (plus limit (told (before k) x) whole)
+        (IsCapped-plus limit (told k x) rest ((sound k (inl refl)).each x) (IsCapped-list (behind k) (λ j u. sound j (IsPart-behind k j u)) xs))
+        (IsCapped-plus limit (told (before k) x) whole ((sound (before k) (inr (inl refl))).each x) (IsCapped-list k sound xs))
+
+    -- then trees of some symbols cost no more together
+    pub list_reached : (k : Kind) → ((j : Kind) → IsPart k j → IsReachedBy g told j) → (xs : List Symbol) → rank limit (list_cost limit told k xs) ≤ limit + 1 → (f : Forest) × AreTreesOfKind g k xs f × (capped limit (sizes f) ≤ rank limit (list_cost limit told k xs))
+    list_reached k sound [] h = (Bare, bare_reached g k h, omega arith)
+    list_reached k sound (x ∷ xs) h =
+        let sound' = λ (j : Kind) (u : IsPart (behind k) j). sound j (IsPart-behind k j u) in
+        let rest = list_cost limit told (behind k) xs in
+        let whole = list_cost limit told k xs in
+        let here = plus limit (told k x) rest in
+        let later = plus limit (told (before k) x) whole in
+        ⊎_elim
+        (λ e.
+        let first = sound k (inl refl) in
+        let parts = plus_reached limit (told k x) rest (first.each x) (IsCapped-list (behind k) sound' xs) (omega (arith, h, ap (rank limit) e)) in
+        let t = first.reached x parts.first in
+        let f = list_reached (behind k) sound' xs parts.second in
+        (Grown t.0 f.0, ((t.1.0, f.1.0), joined_here k (yield t.0) (yields f.0) t.1.1 f.1.1), omega (arith, parts.sum, t.2, f.2, ap (rank limit) e)))
+        (λ e.
+        let first = sound (before k) (inr (inl refl)) in
+        let parts = plus_reached limit (told (before k) x) whole (first.each x) (IsCapped-list k sound xs) (omega (arith, h, ap (rank limit) e)) in
+        let t = first.reached x parts.first in
+        let f = list_reached k sound xs parts.second in
+        (Grown t.0 f.0, ((t.1.0, f.1.0), joined_later k (yield t.0) (yields f.0) t.1.1 f.1.1), omega (arith, parts.sum, t.2, f.2, ap (rank limit) e)))
+        (lesser_either here later)
+
+-- the members of two kinds together cost the lesser
+module _ {A : Type 0} (limit : ℕ) (First Second Both : A → Type 0) (measure : A → ℕ) where
+  pub IsCost-either : (a b : Cost) → IsCost limit First measure a → IsCost limit Second measure b → ((x : A) → First x → Both x) → ((x : A) → Second x → Both x) → ((x : A) → Both x → First x ⊎ Second x) → IsCost limit Both measure (lesser limit a b)
+  IsCost-either a b ha hb one other split =
+      IsCost-from limit Both measure (lesser limit a b) (IsCapped-lesser limit a b (cost_capped limit First measure a ha) (cost_capped limit Second measure b hb))
+      (λ h.
+      ⊎_elim
+      (λ e. let x = cost_reached limit First measure a ha (omega (arith, h, ap (rank limit) e)) in (x.0, one x.0 x.1, omega (arith, x.2, ap (rank limit) e)))
+      (λ e. let x = cost_reached limit Second measure b hb (omega (arith, h, ap (rank limit) e)) in (x.0, other x.0 x.1, omega (arith, x.2, ap (rank limit) e)))
+      (lesser_either limit a b))
+      (λ x h.
+      ⊎_elim
+      (λ is. omega (arith, lesser_left limit a b, cost_low limit First measure a ha x is))
+      (λ is. omega (arith, lesser_right limit a b, cost_low limit Second measure b hb x is))
+      (split x h))

@@ -1,0 +1,93 @@
+-- One more symbol in a sweep.
+use Rattle.std.proofs.Common.{◌≡◌, ℕ, ◌≤◌, ◌⊎◌, List, [], ◌∷◌, ◌++◌, refl, ap, ⊎_elim, inl, inr, arith}
+use Rattle.cs_grammar.specs.declared.symbol.Symbol.{Symbol}
+use Rattle.cs_grammar.specs.Grammar.{Syntax}
+use Rattle.cs_grammar.specs.Tree.{Tree, Forest, Bare, Grown, size, sizes, yield, yields}
+use Rattle.cs_cost.specs.declared.cost.Cost.{Cost}
+use Rattle.cs_cost.specs.Least.{IsCost}
+use Rattle.cs_cost.specs.Rank.{capped, rank, plus}
+use Rattle.cs_cost.proofs.Ranks.{IsCost-from, IsCost-plus, IsCost-same, cost_low, cost_reached, cost_capped}
+use Rattle.cs_pairs.specs.declared.kind.Kind.{Kind}
+use Rattle.cs_pairs.specs.declared.kind.Kind.TheVariants.{Any, Empty, Begins, Ends}
+use Rattle.cs_pairs.specs.Kinds.{IsOfKind, IsTreeOfKind, AreTreesOfKind, before, behind}
+use Rattle.cs_pairs.specs.ListCost.{lesser, bare_cost}
+use Rattle.cs_pairs.specs.Ways.{AreHere, AreLater, joint_size}
+use Rattle.cs_pairs.proofs.Joined.{joined_cases, joined_here, joined_later}
+use Rattle.cs_pairs.proofs.ListCosts.{lesser_left, lesser_right, lesser_either, IsCapped-lesser, bare_low, bare_reached, IsCapped-bare}
+
+module _ (g : Syntax) (k : Kind) (x : Symbol) (xs : List Symbol) where
+  -- in one of the two ways
+  pub one_way : (f : Forest) → AreTreesOfKind g k (x ∷ xs) f → ((p : Tree × Forest) × AreHere g k x xs p × (joint_size p ≡ sizes f)) ⊎ ((p : Tree × Forest) × AreLater g k x xs p × (joint_size p ≡ sizes f))
+  one_way Bare h = absurd h.0
+  one_way (Grown t f) h =
+      ⊎_elim
+      (λ w. inl ((t, f), ((h.0.0, w.0), (h.0.1, w.1)), refl))
+      (λ w. inr ((t, f), ((h.0.0, w.0), (h.0.1, w.1)), refl))
+      (joined_cases k (yield t) (yields f) h.1)
+
+  pub from_here : (p : Tree × Forest) → AreHere g k x xs p → AreTreesOfKind g k (x ∷ xs) (Grown p.0 p.1)
+  from_here p h = ((h.0.0, h.1.0), joined_here k (yield p.0) (yields p.1) h.0.1 h.1.1)
+
+  pub from_later : (p : Tree × Forest) → AreLater g k x xs p → AreTreesOfKind g k (x ∷ xs) (Grown p.0 p.1)
+  from_later p h = ((h.0.0, h.1.0), joined_later k (yield p.0) (yields p.1) h.0.1 h.1.1)
+
+module _ (limit : ℕ) (g : Syntax) where
+  pub swept_none : (k : Kind) → IsCost limit (AreTreesOfKind g k []) sizes (bare_cost k)
+  swept_none k = IsCost-from limit (AreTreesOfKind g k []) sizes (bare_cost k) (IsCapped-bare limit k) (λ h. (Bare, bare_reached limit g k h, omega arith)) low
+    where
+      low : (f : Forest) → AreTreesOfKind g k [] f → rank limit (bare_cost k) ≤ capped limit (sizes f)
+      low Bare h = omega (arith, bare_low limit k h.1)
+      low (Grown t f) h = absurd h.0
+
+  module _ (k : Kind) (x : Symbol) (xs : List Symbol) where
+    -- the lesser of the two ways is the least
+    pub lesser_way : (here later : Cost) → IsCost limit (AreHere g k x xs) joint_size here → IsCost limit (AreLater g k x xs) joint_size later → IsCost limit (AreTreesOfKind g k (x ∷ xs)) sizes (lesser limit here later)
+    lesser_way here later is_here is_later =
+        IsCost-from limit (AreTreesOfKind g k (x ∷ xs)) sizes (lesser limit here later)
+        (IsCapped-lesser limit here later (cost_capped limit (AreHere g k x xs) joint_size here is_here) (cost_capped limit (AreLater g k x xs) joint_size later is_later))
+        (λ h.
+        ⊎_elim
+        (λ e.
+        let p = cost_reached limit (AreHere g k x xs) joint_size here is_here (omega (arith, h, ap (rank limit) e)) in
+        (Grown p.0.0 p.0.1, from_here g k x xs p.0 p.1, omega (arith, p.2, ap (rank limit) e)))
+        (λ e.
+        let p = cost_reached limit (AreLater g k x xs) joint_size later is_later (omega (arith, h, ap (rank limit) e)) in
+        (Grown p.0.0 p.0.1, from_later g k x xs p.0 p.1, omega (arith, p.2, ap (rank limit) e)))
+        (lesser_either limit here later))
+        (λ f h.
+        ⊎_elim
+        (λ w. omega (arith, lesser_left limit here later, cost_low limit (AreHere g k x xs) joint_size here is_here w.0 w.1, w.2))
+        (λ w. omega (arith, lesser_right limit here later, cost_low limit (AreLater g k x xs) joint_size later is_later w.0 w.1, w.2))
+        (one_way g k x xs f h))
+
+  module _ (k : Kind) (x : Symbol) (xs : List Symbol) (own rest : Cost) where
+    pub here_cost : IsCost limit (IsTreeOfKind g k x) size own → IsCost limit (AreTreesOfKind g (behind k) xs) sizes rest → IsCost limit (AreHere g k x xs) joint_size (plus limit own rest)
+    here_cost first others = IsCost-plus limit (IsTreeOfKind g k x) (AreTreesOfKind g (behind k) xs) size sizes own rest first others
+
+    pub later_cost : IsCost limit (IsTreeOfKind g (before k) x) size own → IsCost limit (AreTreesOfKind g k xs) sizes rest → IsCost limit (AreLater g k x xs) joint_size (plus limit own rest)
+    later_cost first others = IsCost-plus limit (IsTreeOfKind g (before k) x) (AreTreesOfKind g k xs) size sizes own rest first others
+
+  -- behind a tree of a kind the two ways are one
+  pub behind_cost : (k : Kind) (x : Symbol) (xs : List Symbol) (own rest : Cost) → IsCost limit (IsTreeOfKind g (behind k) x) size own → IsCost limit (AreTreesOfKind g (behind k) xs) sizes rest → IsCost limit (AreTreesOfKind g (behind k) (x ∷ xs)) sizes (plus limit own rest)
+  behind_cost k x xs own rest first others =
+      let Both = λ (p : Tree × Forest). IsTreeOfKind g (behind k) x p.0 × AreTreesOfKind g (behind k) xs p.1 in
+      let both = IsCost-plus limit (IsTreeOfKind g (behind k) x) (AreTreesOfKind g (behind k) xs) size sizes own rest first others in
+      IsCost-same limit Both (AreTreesOfKind g (behind k) (x ∷ xs)) joint_size sizes (plus limit own rest)
+      (λ p h. (Grown p.0 p.1, ((h.0.0, h.1.0), joined k (yield p.0) (yields p.1) h.0.1 h.1.1), omega arith))
+      (λ f h. apart f h) both
+    where
+      joined : (j : Kind) (u v : List ℕ) → IsOfKind (behind j) u → IsOfKind (behind j) v → IsOfKind (behind j) (u ++ v)
+      joined Any u v hu hv = tt
+      joined Empty u v hu hv = joined_here Empty u v hu hv
+      joined (Begins b) u v hu hv = tt
+      joined (Ends a) u v hu hv = joined_here Empty u v hu hv
+
+      parted : (j : Kind) (u v : List ℕ) → IsOfKind (behind j) (u ++ v) → IsOfKind (behind j) u × IsOfKind (behind j) v
+      parted Any u v h = (tt, tt)
+      parted Empty u v h = ⊎_elim (λ w. w) (λ w. w) (joined_cases Empty u v h)
+      parted (Begins b) u v h = (tt, tt)
+      parted (Ends a) u v h = ⊎_elim (λ w. w) (λ w. w) (joined_cases Empty u v h)
+
+      apart : (f : Forest) → AreTreesOfKind g (behind k) (x ∷ xs) f → (p : Tree × Forest) × (IsTreeOfKind g (behind k) x p.0 × AreTreesOfKind g (behind k) xs p.1) × (joint_size p ≤ sizes f)
+      apart Bare h = absurd h.0
+      apart (Grown t f) h = let w = parted k (yield t) (yields f) h.1 in ((t, f), ((h.0.0, w.0), (h.0.1, w.1)), omega arith)

@@ -1,0 +1,6 @@
+use Rattle.cs_grammar.specs.declared.TheConstants.{LIMIT}
+use Rattle.cs_pairs.proofs.Besides.{Places}
+use Rattle.cs_pairs.proofs.beside.beside_rule.Given as goal
+
+abbrev pub invariant-loop-place : goal.invariant-loop-place
+invariant-loop-place l = Places LIMIT l.kinds l.token l.rule l.initial.row l.row l.sweep l.place

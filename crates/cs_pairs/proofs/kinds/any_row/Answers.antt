@@ -1,0 +1,27 @@
+use Rattle.std.proofs.Common.{◌+◌, sym, ap, ◌∙◌, subst}
+use Rattle.cs_grammar.specs.declared.TheConstants.{LIMIT}
+use Rattle.cs_grammar.specs.declared.symbol.Symbol.TheVariants.{Nonterminal}
+use Rattle.cs_grammar.specs.Grammar.{Syntax, IsGrammar}
+use Rattle.cs_grammar.specs.Tree.{size}
+use Rattle.cs_pairs.specs.declared.kind.Kind.TheVariants.{Any}
+use Rattle.cs_pairs.specs.Kinds.{IsTreeOfKind}
+use Rattle.cs_pairs.specs.Filled.{IsFilled}
+use Rattle.cs_pairs.specs.Tables.{AreCosts}
+use Rattle.cs_pairs.proofs.Filling.{filled_more, filled_all}
+use Rattle.cs_pairs.proofs.KindCosts.{any_costs, of_any}
+use Rattle.cs_pairs.proofs.kinds.any_row.Goals as goal
+
+pub loop-place-preserved : goal.loop-place-preserved
+loop-place-preserved c =
+    let g = c.args.costs.now in
+    let n = c.loop-place.place in
+    subst (IsFilled LIMIT (λ m. IsTreeOfKind g Any (Nonterminal m)) size (n + 1)) (sym c.in_ok-push.ensures.items)
+    (filled_more LIMIT (λ m. IsTreeOfKind g Any (Nonterminal m)) size n _ _ c.loop-place.invariant (of_any LIMIT g (Nonterminal (n + 1)) _ c.cost.ensures))
+
+pub returns : goal.returns
+returns c =
+    let g = c.args.costs.now in
+    let grammar = subst IsGrammar c.grammar.ensures c.rules-rules.ensures.well_formed in
+    let end = c.nonterminals-place-end.ensures ∙ ap (λ (s : Syntax). s.nonterminals) c.grammar-2.ensures in
+    subst (AreCosts LIMIT g Any) (sym c.new.ensures)
+    (any_costs LIMIT g _ grammar (filled_all LIMIT (λ m. IsTreeOfKind g Any (Nonterminal m)) size _ _ _ _ c.loop-place.invariant c.loop-place-test.false end c.loop-place.auto.place-end))

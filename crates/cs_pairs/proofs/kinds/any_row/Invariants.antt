@@ -1,0 +1,10 @@
+use Rattle.cs_grammar.specs.declared.TheConstants.{LIMIT}
+use Rattle.cs_grammar.specs.declared.symbol.Symbol.TheVariants.{Nonterminal}
+use Rattle.cs_grammar.specs.Tree.{size}
+use Rattle.cs_pairs.specs.declared.kind.Kind.TheVariants.{Any}
+use Rattle.cs_pairs.specs.Kinds.{IsTreeOfKind}
+use Rattle.cs_pairs.specs.Filled.{IsFilled}
+use Rattle.cs_pairs.proofs.kinds.any_row.Given as goal
+
+abbrev pub invariant-loop-place : goal.invariant-loop-place
+invariant-loop-place l = IsFilled LIMIT (λ n. IsTreeOfKind l.costs Any (Nonterminal n)) size l.place l.row.items

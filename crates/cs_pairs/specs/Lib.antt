@@ -1,0 +1,14 @@
+pub mod Kinds
+pub mod Ways
+pub mod ListCost
+pub mod Rows
+pub mod Filled
+pub mod Tables
+pub mod Sweep
+pub mod Fronts
+pub mod Beside
+pub mod Pairs
+pub mod ChosenKind
+pub mod ChosenPair
+pub mod SeamPlace
+pub mod Parts

@@ -1,0 +1,38 @@
+-- What lists of trees of a kind cost, by what single trees cost.
+use Rattle.std.specs.Prelude.{ℕ, List, [], ◌∷◌, nat_eq, nat_le, if◌then◌else◌}
+use Rattle.cs_grammar.specs.declared.symbol.Symbol.{Symbol}
+use Rattle.cs_cost.specs.declared.cost.Cost.{Cost}
+use Rattle.cs_cost.specs.declared.cost.Cost.TheVariants.{Never, Least}
+use Rattle.cs_cost.specs.Rank.{rank, plus, cost_of}
+use Rattle.cs_pairs.specs.declared.kind.Kind.{Kind}
+use Rattle.cs_pairs.specs.declared.kind.Kind.TheVariants.{Any, Empty, Begins, Ends}
+use Rattle.cs_pairs.specs.Kinds.{before, behind}
+
+-- the first of two costs where the second is no lower
+abbrev pub lesser : ℕ → Cost → Cost → Cost
+lesser limit a b = if nat_le (rank limit a) (rank limit b) then a else b
+
+-- a leaf with token t
+abbrev pub leaf_cost : ℕ → Kind → ℕ → Cost
+leaf_cost limit Any t = cost_of limit 1
+leaf_cost limit Empty t = Never
+leaf_cost limit (Begins b) t = if nat_eq t b then cost_of limit 1 else Never
+leaf_cost limit (Ends a) t = if nat_eq t a then cost_of limit 1 else Never
+
+-- no tree at all
+abbrev pub bare_cost : Kind → Cost
+bare_cost Any = Least 0
+bare_cost Empty = Least 0
+bare_cost (Begins b) = Never
+bare_cost (Ends a) = Never
+
+-- trees of these symbols, together of the kind, where told says what a tree of a kind and a symbol costs
+abbrev pub list_cost : ℕ → (Kind → Symbol → Cost) → Kind → List Symbol → Cost
+list_cost limit told k [] = bare_cost k
+list_cost limit told k (x ∷ xs) =
+    lesser limit (plus limit (told k x) (list_cost limit told (behind k) xs))
+    (plus limit (told (before k) x) (list_cost limit told k xs))
+
+-- a node above them
+abbrev pub node_cost : ℕ → (Kind → Symbol → Cost) → Kind → List Symbol → Cost
+node_cost limit told k right = plus limit (cost_of limit 1) (list_cost limit told k right)

@@ -1,0 +1,53 @@
+-- The rows of all kinds.
+use Rattle.std.specs.Prelude.{◌≡◌, ℕ, zero, suc, List, [], length, slice_index_or}
+use Rattle.cs_grammar.specs.declared.symbol.Symbol.{Symbol}
+use Rattle.cs_grammar.specs.declared.symbol.Symbol.TheVariants.{Nonterminal}
+use Rattle.cs_grammar.specs.Grammar.{Syntax, IsNumberOf, IsGrammar}
+use Rattle.cs_grammar.specs.Tree.{size}
+use Rattle.cs_cost.specs.declared.cost.Cost.{Cost}
+use Rattle.cs_cost.specs.Least.{IsCost}
+use Rattle.cs_cost.specs.Rank.{entry}
+use Rattle.cs_pairs.specs.declared.kind.Kind.{Kind}
+use Rattle.cs_pairs.specs.declared.kind.Kind.TheVariants.{Any, Empty, Begins, Ends}
+use Rattle.cs_pairs.specs.Kinds.{IsTreeOfKind}
+use Rattle.cs_pairs.specs.Rows.{said, IsExactRow}
+
+-- the row of any trees, that of empty yields, and one for each token that a yield begins or ends with
+pub record Tables : Type 0 where
+  pub any : List Cost
+  pub empty : List Cost
+  pub begins : List (List Cost)
+  pub ends : List (List Cost)
+
+-- the row of a number from 1
+abbrev pub row_in : List (List Cost) → ℕ → List Cost
+row_in rows zero = []
+row_in rows (suc n) = slice_index_or rows n []
+
+abbrev pub row_of : Tables → Kind → List Cost
+row_of t Any = t.any
+row_of t Empty = t.empty
+row_of t (Begins b) = row_in t.begins b
+row_of t (Ends a) = row_in t.ends a
+
+-- what the tables say of a kind and a symbol
+abbrev pub tell : ℕ → Tables → Kind → Symbol → Cost
+tell limit t k x = said limit k (row_of t k) x
+
+-- rows of the first so many tokens
+pub record AreExactRows (limit : ℕ) (g : Syntax) (kind : ℕ → Kind) (any empty : List Cost) (count : ℕ) (rows : List (List Cost)) : Type 0 where
+  pub many : length rows ≡ count
+  pub each : (n : ℕ) → IsNumberOf count n → IsExactRow limit g (kind n) any empty (row_in rows n)
+
+-- the tables of a grammar
+pub record AreExactTables (limit : ℕ) (g : Syntax) (t : Tables) : Type 0 where
+  pub grammar : IsGrammar g
+  pub any_exact : IsExactRow limit g Any t.any t.empty t.any
+  pub empty_exact : IsExactRow limit g Empty t.any t.empty t.empty
+  pub begins_exact : AreExactRows limit g Begins t.any t.empty g.tokens t.begins
+  pub ends_exact : AreExactRows limit g Ends t.any t.empty g.tokens t.ends
+
+-- a row that says what the least tree of each nonterminal costs that is of the kind
+pub record AreCosts (limit : ℕ) (g : Syntax) (k : Kind) (row : List Cost) : Type 0 where
+  pub many : length row ≡ g.nonterminals
+  pub exact : (n : ℕ) → IsCost limit (IsTreeOfKind g k (Nonterminal n)) size (entry row n)

@@ -1,0 +1,88 @@
+// What contexts cost whose hole is directly followed by a token.
+
+ghost use Rattle.std.specs.Prelude.{◌≡◌, ◌≤◌, ℕ, IfOk};
+ghost use Rattle.cs_grammar.specs.Grammar.{IsSomeRule, IsNumberOf, IsSymbol};
+ghost use Rattle.cs_grammar.specs.Tree.{size};
+ghost use Rattle.cs_cost.specs.Least.{IsCost};
+ghost use Rattle.cs_cost.specs.Rank.{rank, entry};
+ghost use Rattle.cs_pairs.specs.Fronts.{AreFronts, AreRuleFronts};
+ghost use Rattle.cs_pairs.specs.Beside.{number_of, IsSoundBeside, IsBelowPlaces, IsExactBeside};
+
+use crate::kind::Kind;
+use crate::kinds::Kinds;
+use crate::row::Row;
+use crate::sweep::Sweep;
+use cs_cost::{Cost, lower, plus};
+use cs_grammar::{LIMIT, MOST_NONTERMINALS, MOST_TOKENS, Rule, Symbol};
+use std::alloc::{AllocError, Global};
+
+// The number of a symbol among all, tokens first.
+fn number_of(tokens: u16, symbol: Symbol) -> u16
+    requires tokens { tokens ≤ MOST_TOKENS }
+    requires symbol { IsSymbol MOST_TOKENS MOST_NONTERMINALS symbol }
+    ensures { result ≡ number_of tokens symbol }
+{
+    match symbol {
+        Symbol::Token(token) => token,
+        Symbol::Nonterminal(number) => tokens + number,
+    }
+}
+
+// The hole at each place of a rule, in one sweep.
+fn beside_rule(kinds: &Kinds, token: u16, rule: &Rule, fronts: &[Cost], row: &mut [Cost])
+    requires token { IsNumberOf kinds.now.tokens token }
+    requires rule { IsSomeRule kinds.now rule.now }
+    requires fronts { AreFronts LIMIT kinds.now rule.now fronts.now }
+    requires row { IsSoundBeside LIMIT kinds.now token row.old }
+    ensures sound { IsSoundBeside LIMIT kinds.now token row.new }
+    ensures falls { (m : ℕ) → rank LIMIT (entry row.new m) ≤ rank LIMIT (entry row.old m) }
+    ensures below { IsBelowPlaces LIMIT kinds.now token row.new rule.now 0 }
+{
+    let tokens = kinds.grammar().tokens();
+    let _rules = kinds.grammar().rules();
+    let right = rule.right();
+    let mut sweep = Sweep::new(Kind::Begins(token));
+    for place in (0..right.len()).rev() {
+        let symbol = right[place];
+        let cost = plus(fronts[place], sweep.whole);
+        let _lowered = lower(row, number_of(tokens, symbol), cost);
+        sweep = sweep.over(kinds, symbol);
+    }
+}
+
+// The holes of all rules.
+fn beside_rules(kinds: &Kinds, token: u16, fronts: &[Row], row: &mut [Cost])
+    requires token { IsNumberOf kinds.now.tokens token }
+    requires fronts { AreRuleFronts LIMIT kinds.now fronts.now }
+    requires row { IsSoundBeside LIMIT kinds.now token row.old }
+    ensures { IsExactBeside LIMIT kinds.now token row.new }
+{
+    for (place, rule) in kinds.grammar().rules().iter().enumerate() {
+        beside_rule(kinds, token, rule, fronts[place].costs(), row);
+    }
+}
+
+// What the least context of each symbol costs whose hole is directly followed by a token, tokens first.
+#[derive(Debug, Drop)]
+pub(crate) struct Beside {
+    pub(crate) token: u16,
+    pub(crate) costs: Vec<Cost>,
+}
+
+pub(crate) fn beside_row(
+    alloc: Global,
+    kinds: &Kinds,
+    fronts: &[Row],
+    token: u16,
+) -> Result<Beside, AllocError>
+    requires token { IsNumberOf kinds.now.tokens token }
+    requires fronts { AreRuleFronts LIMIT kinds.now fronts.now }
+    ensures { IfOk result (λ beside. (beside.token ≡ token) × IsExactBeside LIMIT kinds.now token beside.costs.items) }
+{
+    let grammar = kinds.grammar();
+    let _rules = grammar.rules();
+    let count = grammar.tokens() as usize + grammar.nonterminals() as usize;
+    let mut costs = vec![in alloc; Cost::Never; count]?;
+    beside_rules(kinds, token, fronts, &mut costs);
+    Ok(Beside { token, costs })
+}

@@ -1,0 +1,27 @@
+//! Pairs of neighbours in framed sentences: which marks may stand side by side, over all trees, and what the least tree costs
+//! that shows it.
+//!
+//! The layers above make `Pairs` of `Costs` and `Embeds`, ask them by `adjacent` whether some sentence has one mark directly
+//! followed by another, and by `cost` what the least tree with such a sentence costs. What a kind of trees and a pair are
+//! stands in `specs/`.
+#![tactic(auto)]
+
+mod beside;
+mod derive;
+mod fronts;
+mod kind;
+mod kinds;
+mod laws;
+mod meeting;
+mod pairs;
+mod row;
+mod rows;
+mod sweep;
+mod writing;
+
+pub use kind::Kind;
+pub use laws::{chosen_of_kind_exists, chosen_pair_exists, one_chosen_of_kind, one_chosen_pair};
+pub use pairs::Pairs;
+
+#[cfg(test)]
+mod tests;

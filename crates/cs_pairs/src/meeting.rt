@@ -1,0 +1,84 @@
+// Where two tokens meet in their chosen tree.
+
+ghost use Rattle.std.specs.Prelude.{◌≤◌, length};
+ghost use Rattle.cs_grammar.specs.declared.symbol.Symbol.{Symbol};
+ghost use Rattle.cs_grammar.specs.Grammar.{IsNumberOf};
+ghost use Rattle.cs_grammar.specs.Tree.{Tree};
+ghost use Rattle.cs_grammar.specs.Context.{Context};
+ghost use Rattle.cs_cost.specs.Rank.{rank, IsCapped};
+ghost use Rattle.cs_pairs.specs.Fronts.{AreFrontsOf, AreRuleFronts};
+ghost use Rattle.cs_pairs.specs.Beside.{IsSeam, seam_size};
+ghost use Rattle.cs_pairs.specs.SeamPlace.{IsFoundIn, IsMeetingAt};
+
+use crate::kind::Kind;
+use crate::kinds::Kinds;
+use crate::row::Row;
+use crate::rows::at_most;
+use crate::sweep::Sweep;
+use cs_cost::{Cost, plus};
+use cs_grammar::LIMIT;
+
+// Two tokens, one directly followed by the other.
+#[derive(Clone, Copy, Debug)]
+pub(crate) struct Neighbours {
+    pub(crate) first: u16,
+    pub(crate) second: u16,
+}
+
+// The rule of the node at which two tokens meet, and the place of its child that ends with the first.
+#[derive(Clone, Copy, Debug)]
+pub(crate) struct Meeting {
+    pub(crate) rule: u16,
+    pub(crate) place: usize,
+}
+
+// The lowest place of a rule at which the tokens meet in a tree that costs at most this.
+fn place_in(
+    kinds: &Kinds,
+    fronts: &[Cost],
+    number: u16,
+    tokens: Neighbours,
+    cost: Cost,
+) -> Option<usize>
+    requires fronts { AreFrontsOf LIMIT kinds.now number fronts.now }
+    requires number { IsNumberOf (length kinds.now.rules) number }
+    requires first { IsNumberOf kinds.now.tokens tokens.first }
+    requires second { IsNumberOf kinds.now.tokens tokens.second }
+    requires cost { IsCapped LIMIT cost }
+    requires small { rank LIMIT cost ≤ LIMIT }
+    ensures { IsFoundIn kinds.now tokens.first tokens.second number (rank LIMIT cost) 0 result }
+{
+    let right = kinds.grammar().rules()[number as usize - 1].right();
+    let mut found = None;
+    let mut sweep = Sweep::new(Kind::Begins(tokens.second));
+    for place in (0..right.len()).rev() {
+        let symbol = right[place];
+        let last = kinds.told(Kind::Ends(tokens.first), symbol);
+        let seam = plus(fronts[place], plus(last, sweep.whole));
+        if at_most(seam, cost) {
+            found = Some(place);
+        }
+        sweep = sweep.over(kinds, symbol);
+    }
+    found
+}
+
+// The lowest rule, and its lowest place, at which the tokens meet in a tree that costs at most this.
+pub(crate) fn meet(kinds: &Kinds, fronts: &[Row], tokens: Neighbours, cost: Cost) -> Meeting
+    requires fronts { AreRuleFronts LIMIT kinds.now fronts.now }
+    requires first { IsNumberOf kinds.now.tokens tokens.first }
+    requires second { IsNumberOf kinds.now.tokens tokens.second }
+    requires cost { IsCapped LIMIT cost }
+    requires small { rank LIMIT cost ≤ LIMIT }
+    requires some { (x : Symbol) × (s : Context × Tree) × IsSeam kinds.now tokens.first tokens.second x s
+        × (seam_size s ≤ rank LIMIT cost) }
+    ensures { IsMeetingAt kinds.now tokens.first tokens.second (rank LIMIT cost) result.rule result.place }
+{
+    for place in 0..kinds.grammar().rules().len() {
+        let rule = (place + 1) as u16;
+        if let Some(place) = place_in(kinds, fronts[place].costs(), rule, tokens, cost) {
+            return Meeting { rule, place };
+        }
+    }
+    unreachable!()
+}
