@@ -1,7 +1,7 @@
 #!/usr/bin/env python3
-"""Times the verdicts of all goals of a kind on grammars at the limits: bench/goals.py [rule|context ..].
+"""Times the verdicts of all goals of a kind on grammars at the limits: bench/goals.py [rule|context|pair ..].
 
-No command judges context goals yet, so a program that does is made in a copy of this repository, proved and run there. Each
+No command judges context and pair goals yet, so a program that does is made in a copy of this repository, proved and run there. Each
 row is a grammar, the milliseconds for its tables, those for the tables and the verdicts of all goals, and what these were.
 The wide grammar of the rows is left out: it has billions of context goals. Nothing here is part of the gate.
 """
@@ -128,7 +128,7 @@ def main():
             with open(os.path.join(folder, f"{number}.y"), "w") as file:
                 file.write(make())
             print(f"{number}.y: {name}")
-        for kind in sys.argv[1:] or ["rule", "context"]:
+        for kind in sys.argv[1:] or ["rule", "context", "pair"]:
             crate = make_crate(kind, os.path.join(folder, kind))
             built = subprocess.run(["rt", "run"], cwd=crate, capture_output=True, text=True)
             program = os.path.join(crate, "out", "bench_goals")
