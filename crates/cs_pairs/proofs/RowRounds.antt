@@ -1,10 +1,10 @@
 -- Rounds over the rules, for the row of one kind.
-use Rattle.std.proofs.Common.{◌≡◌, ℕ, ◌+◌, ◌-◌, ◌<◌, ◌≤◌, Bool, true, false, List, Some, length, refl, sym, ap, ◌∙◌, subst, arith, below_more, replicate}
+use Rattle.std.proofs.Common.{◌≡◌, ℕ, ◌+◌, ◌-◌, ◌<◌, ◌≤◌, Bool, true, false, List, Some, length, refl, sym, ap, ◌∙◌, subst, arith, ⊎_elim, replicate}
 use Rattle.std.specs.Prelude.{slice_get}
 use Rattle.std.specs.List.{sum_by}
 use Rattle.std.proofs.Math.ListN.{set}
+use Rattle.std.proofs.lemmas.Bool.{cases_eq}
 use Rattle.std.proofs.lemmas.List.{length-set, length-replicate}
-use Rattle.std.proofs.lemmas.Option.{slice_get_within}
 use Rattle.cs_grammar.specs.declared.symbol.Symbol.TheVariants.{Nonterminal}
 use Rattle.cs_grammar.specs.Grammar.{Production, Syntax, IsNumberOf, IsGrammar}
 use Rattle.cs_grammar.specs.Tree.{Tree, size}
@@ -27,15 +27,15 @@ blank_row limit g k = record {
   holds = Holds-replicate limit (λ n. IsTreeOfKind g k (Nonterminal n)) size g.nonterminals;
 }
 
--- where a round stands before the rule at index i: the row at its start, and now
+-- where a round stands that has seen the rules from index i on: the row at its start, and now
 pub record Rounds (limit : ℕ) (g : Syntax) (k : Kind) (any empty start own : List Cost) (changed : Bool) (i : ℕ) : Type 0 where
   pub sound : IsSoundRow limit g k own
   pub no_more : sum_by (rank limit) own ≤ sum_by (rank limit) start
   pub falls : changed ≡ true → sum_by (rank limit) own < sum_by (rank limit) start
-  pub closed : changed ≡ false → (j : ℕ) (p : Production) → j < i → slice_get g.rules j ≡ Some p → IsBelowNode limit k any empty own p
+  pub closed : changed ≡ false → (j : ℕ) (p : Production) → i ≤ j → slice_get g.rules j ≡ Some p → IsBelowNode limit k any empty own p
 
 module _ (limit : ℕ) (g : Syntax) (k : Kind) (any empty start : List Cost) (is_any : IsSoundRow limit g Any any) (is_empty : IsSoundRow limit g Empty empty) (grammar : IsGrammar g) where
-  module _ (own : List Cost) (changed : Bool) (i : ℕ) (q : Production) (left : ℕ) (c : Cost) (at : slice_get g.rules i ≡ Some q) (is_left : left ≡ q.left) (is_cost : c ≡ node_cost limit (says limit k any empty own) k q.right) (so_far : Rounds limit g k any empty start own changed i) where
+  module _ (own : List Cost) (changed : Bool) (i : ℕ) (q : Production) (left : ℕ) (c : Cost) (at : slice_get g.rules i ≡ Some q) (is_left : left ≡ q.left) (is_cost : c ≡ node_cost limit (says limit k any empty own) k q.right) (so_far : Rounds limit g k any empty start own changed (i + 1)) where
     number : IsNumberOf (length own) q.left
     number = subst (λ m. IsNumberOf m q.left) (sym so_far.sound.many) (well_formed_at g i q grammar at).left
 
@@ -46,12 +46,12 @@ module _ (limit : ℕ) (g : Syntax) (k : Kind) (any empty start : List Cost) (is
         (t.0, t.1, omega (arith, t.2, same))
 
     -- a rule that makes its left side cost less
-    pub rounds_lower : rank limit c < rank limit (entry own left) → Rounds limit g k any empty start (set own (left - 1) c) true (i + 1)
+    pub rounds_lower : rank limit c < rank limit (entry own left) → Rounds limit g k any empty start (set own (left - 1) c) true i
     rounds_lower below =
         let is_capped = subst (IsCapped limit) (sym is_cost) (node_capped limit g any empty own is_any is_empty k so_far.sound q.right) in
         let less : rank limit c < rank limit (entry own q.left) = omega (arith, below, ap (λ n. rank limit (entry own n)) is_left) in
         let fall = sum-set limit own q.left c number less in
-        subst (λ n. Rounds limit g k any empty start (set own (n - 1) c) true (i + 1)) (sym is_left) (record {
+        subst (λ n. Rounds limit g k any empty start (set own (n - 1) c) true i) (sym is_left) (record {
           sound = record {
             many = length-set own (q.left - 1) c ∙ so_far.sound.many;
             holds = Holds-set limit (λ n. IsTreeOfKind g k (Nonterminal n)) size own q.left c so_far.sound.holds number is_capped has;
@@ -62,22 +62,22 @@ module _ (limit : ℕ) (g : Syntax) (k : Kind) (any empty start : List Cost) (is
         })
 
     -- a rule that makes nothing cost less
-    pub rounds_kept : rank limit (entry own left) ≤ rank limit c → Rounds limit g k any empty start own changed (i + 1)
+    pub rounds_kept : rank limit (entry own left) ≤ rank limit c → Rounds limit g k any empty start own changed i
     rounds_kept not_below = record {
       sound = so_far.sound;
       no_more = so_far.no_more;
       falls = so_far.falls;
-      closed = λ e j p within.
-          below_more (λ n. (o : Production) → slice_get g.rules n ≡ Some o → IsBelowNode limit k any empty own o) i
-          (λ n lt o. so_far.closed e n o lt)
-          (λ o there.
-          let same : q ≡ o = cc in
+      closed = λ e j p within there.
+          ⊎_elim
+          (λ here.
+          let same : q ≡ p = (let h = ap (slice_get g.rules) here in cc) in
           subst (IsBelowNode limit k any empty own) same (omega (arith, not_below, ap (rank limit) is_cost, ap (λ n. rank limit (entry own n)) is_left)))
-          j within p;
+          (λ later. so_far.closed e j p (omega (arith, later, within)) there)
+          (cases_eq j i);
     }
 
 -- a round that changed nothing
-pub rounds_closed : (limit : ℕ) (g : Syntax) (k : Kind) (any empty start own : List Cost) (i : ℕ) → length g.rules ≤ i → Rounds limit g k any empty start own false i → IsClosedRow limit g k any empty own
-rounds_closed limit g k any empty start own i all so_far = record {
-  below = λ r p rule. so_far.closed refl (r - 1) p (omega (arith, slice_get_within g.rules (r - 1) p rule.at, all)) rule.at;
+pub rounds_closed : (limit : ℕ) (g : Syntax) (k : Kind) (any empty start own : List Cost) → Rounds limit g k any empty start own false 0 → IsClosedRow limit g k any empty own
+rounds_closed limit g k any empty start own so_far = record {
+  below = λ r p rule. so_far.closed refl (r - 1) p (omega arith) rule.at;
 }

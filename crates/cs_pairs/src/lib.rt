@@ -1,9 +1,10 @@
 //! Pairs of neighbours in framed sentences: which marks may stand side by side, over all trees, and what the least tree costs
 //! that shows it.
 //!
-//! The layers above make `Pairs` of `Costs` and `Embeds`, ask them by `adjacent` whether some sentence has one mark directly
-//! followed by another, and by `cost` what the least tree with such a sentence costs. What a kind of trees and a pair are
-//! stands in `specs/`.
+//! The layers above make `Pairs` of `Costs` and `Embeds` of one grammar, ask them by `adjacent` whether some sentence has one
+//! mark directly followed by another, by `cost` what the least tree with such a sentence costs, and get the code of the chosen
+//! one by `derive`. What a kind of trees, a pair and their chosen trees are stands in `specs/`. The laws are functions that do
+//! nothing.
 #![tactic(auto)]
 
 mod beside;

@@ -124,7 +124,8 @@ fn node_cost(kind: Kind, any: &[Cost], empty: &[Cost], own: &[Cost], right: &[Sy
     plus(Cost::Least(1), list_cost(&rows, kind, right))
 }
 
-// Goes once over the rules, and says whether the row has changed.
+// Goes once over the rules, from the last to the first since most grammars are written from the top down, and says whether the
+// row has changed.
 fn relax(grammar: &Grammar, kind: Kind, any: &[Cost], empty: &[Cost], own: &mut [Cost]) -> bool
     requires any { IsSoundRow LIMIT grammar.now Kind.Any any.now }
     requires empty { IsSoundRow LIMIT grammar.now Kind.Empty empty.now }
@@ -133,8 +134,10 @@ fn relax(grammar: &Grammar, kind: Kind, any: &[Cost], empty: &[Cost], own: &mut 
     ensures falls { OnTrue result (sum_by (rank LIMIT) own.new < sum_by (rank LIMIT) own.old) }
     ensures closed { OnFalse result (IsClosedRow LIMIT grammar.now kind any.now empty.now own.new) }
 {
+    let rules = grammar.rules();
     let mut changed = false;
-    for rule in grammar.rules() {
+    for place in (0..rules.len()).rev() {
+        let rule = &rules[place];
         let cost = node_cost(kind, any, empty, own, rule.right());
         if lower(own, rule.left(), cost) {
             changed = true;
