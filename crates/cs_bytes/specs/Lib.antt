@@ -1,0 +1,4 @@
+pub mod Names
+pub mod Classes
+pub mod Places
+pub mod Digits

@@ -1,0 +1,20 @@
+//! Bytes and text: the ground on which all readers stand.
+//!
+//! What stands at a place of a text, the longest run of a class of bytes, lines, pairs of bytes, and the value of digits.
+//! No call takes memory, and each looks at a byte once. The layers above find their constructs by these calls alone.
+//!
+//! All files of `specs/` are meaning: `Names` (the names of bytes), `Classes` (which bytes are of a class), `Places` (what
+//! stands at a place, a longest run, a line) and `Digits` (the number that digits spell).
+#![tactic(auto)]
+
+mod class;
+mod digits;
+mod laws;
+mod place;
+mod run;
+
+pub use class::ByteClass;
+pub use digits::{digit_of, number};
+pub use laws::{byte_names, one_run};
+pub use place::{begins, find_pair, from_offset, has_at, has_pair, same_bytes, to_offset};
+pub use run::{line_len, line_size, run_len};
