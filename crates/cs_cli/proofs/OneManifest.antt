@@ -1,6 +1,6 @@
 -- A file has at most one manifest.
 use Rattle.std.proofs.Common.{◌≡◌, ℕ, List, [], ◌∷◌, refl, sym, ap, ◌∙◌, subst, Ok}
-use Rattle.cs_grammar.specs.Grammar.{Syntax}
+use Rattle.cs_grammar.specs.Grammar.{PlainGrammar}
 use Rattle.cs_grammar.proofs.OneOutcome.{one_outcome}
 use Rattle.cs_goals.specs.declared.goal.Goal.{Goal}
 use Rattle.cs_goals.specs.Goals.{rule_goals}
@@ -13,7 +13,7 @@ use Rattle.cs_cli.specs.Entry.{Entry}
 use Rattle.cs_cli.specs.Manifest.{AreTokensOf, IsEntryOf, EntriesOf, IsManifest, rules_text}
 use Rattle.cs_cli.specs.Ending.{IsTextOf}
 
-module _ (g : Syntax) where
+module _ (g : PlainGrammar) where
   one_list_of_tokens : (verdict : Verdict) (a b : List ℕ) → AreTokensOf g verdict a → AreTokensOf g verdict b → a ≡ b
   one_list_of_tokens (Feasible n derivation) a b ha hb = let e = one_outcome g derivation (Ok a) (Ok b) ha hb in cc
   one_list_of_tokens Infeasible a b ha hb = ha ∙ sym hb

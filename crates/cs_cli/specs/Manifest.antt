@@ -4,7 +4,7 @@ use Rattle.std.specs.List.{flat_map, enumerate_from}
 use Rattle.std.specs.Option.{option_map_or}
 use Rattle.cs_grammar.specs.declared.symbol.Symbol.{Symbol}
 use Rattle.cs_grammar.specs.declared.symbol.Symbol.TheVariants.{Token, Nonterminal}
-use Rattle.cs_grammar.specs.Grammar.{Production, Syntax, IsNumberOf}
+use Rattle.cs_grammar.specs.Grammar.{Production, PlainGrammar, IsNumberOf}
 use Rattle.cs_grammar.specs.Leftmost.{IsYield}
 use Rattle.cs_yacc.specs.declared.name.TokenName.{TokenName}
 use Rattle.cs_yacc.specs.declared.name.TokenName.TheVariants.{Word, Byte}
@@ -129,25 +129,25 @@ rules_text file entries = head file ++ numbered (entry_lines file) entries ++ en
 -- ---- the manifest
 
 -- the tokens of a verdict's derivation; there are none where it has no derivation
-abbrev pub AreTokensOf : Syntax → Verdict → List ℕ → Type 0
+abbrev pub AreTokensOf : PlainGrammar → Verdict → List ℕ → Type 0
 AreTokensOf g (Feasible size derivation) tokens = IsYield g derivation tokens
 AreTokensOf g Infeasible tokens = tokens ≡ []
 AreTokensOf g Large tokens = tokens ≡ []
 
 -- the verdict of the goal over all trees, with its tokens
-pub record IsEntryOf (g : Syntax) (goal : Goal) (entry : Entry) : Type 0 where
+pub record IsEntryOf (g : PlainGrammar) (goal : Goal) (entry : Entry) : Type 0 where
   pub verdict : IsVerdict g goal entry.verdict
   pub tokens : AreTokensOf g entry.verdict entry.tokens
 
 -- one entry for each of these goals, in order
-abbrev pub EntriesOf : Syntax → List Goal → List Entry → Type 0
+abbrev pub EntriesOf : PlainGrammar → List Goal → List Entry → Type 0
 EntriesOf g [] [] = Unit {0}
 EntriesOf g (goal ∷ goals) (entry ∷ entries) = IsEntryOf g goal entry × EntriesOf g goals entries
 EntriesOf g [] (entry ∷ entries) = ⊥
 EntriesOf g (goal ∷ goals) [] = ⊥
 
 -- one entry for each rule goal, in order
-pub record AreEntries (g : Syntax) (entries : List Entry) : Type 0 where
+pub record AreEntries (g : PlainGrammar) (entries : List Entry) : Type 0 where
   pub each : EntriesOf g (rule_goals g) entries
 
 -- the text is the `rules` manifest of the file

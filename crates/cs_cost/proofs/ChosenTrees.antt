@@ -4,7 +4,7 @@ use Rattle.std.proofs.lemmas.Bool.{cases_eq, cases_lt}
 use Rattle.std.proofs.lemmas.Option.{slice_get_within, slice_get-get_or}
 use Rattle.cs_grammar.specs.declared.symbol.Symbol.{Symbol}
 use Rattle.cs_grammar.specs.declared.symbol.Symbol.TheVariants.{Token, Nonterminal}
-use Rattle.cs_grammar.specs.Grammar.{Production, Syntax, IsRule}
+use Rattle.cs_grammar.specs.Grammar.{Production, PlainGrammar, IsRule}
 use Rattle.cs_grammar.specs.Tree.{Tree, Leaf, Node, Forest, Bare, Grown, IsTree, AreTrees, size, sizes}
 use Rattle.cs_grammar.proofs.OneTree.{one_rule}
 use Rattle.cs_cost.specs.Chosen.{IsChosen, AreChosen}
@@ -13,7 +13,7 @@ pub size_above : (t : Tree) → 0 < size t
 size_above (Leaf t) = omega arith
 size_above (Node r f) = omega arith
 
-module _ (g : Syntax) where
+module _ (g : PlainGrammar) where
   -- a chosen tree is a tree
   mutual
     pub IsTree-chosen : (t : Tree) (x : Symbol) → IsChosen g x t → IsTree g x t
@@ -58,30 +58,30 @@ module _ (g : Syntax) where
         cc
 
 -- the chosen tree of a symbol, which is of least size
-pub record LeastTree (g : Syntax) (x : Symbol) : Type 0 where
+pub record LeastTree (g : PlainGrammar) (x : Symbol) : Type 0 where
   pub tree : Tree
   pub chosen : IsChosen g x tree
   pub least : (u : Tree) → IsTree g x u → size tree ≤ size u
 
 -- the chosen trees of some symbols, which are of least size together
-pub record LeastForest (g : Syntax) (xs : List Symbol) : Type 0 where
+pub record LeastForest (g : PlainGrammar) (xs : List Symbol) : Type 0 where
   pub trees : Forest
   pub chosen : AreChosen g xs trees
   pub least : (f : Forest) → AreTrees g xs f → sizes trees ≤ sizes f
 
 -- each tree of x has more than n nodes, or there is a chosen one
-abbrev pub Settled : Syntax → ℕ → Symbol → Type 0
+abbrev pub Settled : PlainGrammar → ℕ → Symbol → Type 0
 Settled g n x = ((t : Tree) → IsTree g x t → n < size t) ⊎ LeastTree g x
 
-abbrev pub AreSettled : Syntax → ℕ → List Symbol → Type 0
+abbrev pub AreSettled : PlainGrammar → ℕ → List Symbol → Type 0
 AreSettled g n xs = ((f : Forest) → AreTrees g xs f → n < sizes f) ⊎ LeastForest g xs
 
 -- each tree of m whose rule is at most i has more than n nodes
-abbrev pub NoNode : Syntax → ℕ → ℕ → ℕ → Type 0
+abbrev pub NoNode : PlainGrammar → ℕ → ℕ → ℕ → Type 0
 NoNode g m n i = (q : ℕ) (f : Forest) → q ≤ i → IsTree g (Nonterminal m) (Node q f) → n < size (Node q f)
 
 -- the first least one of those trees, which has at most n nodes
-pub record BestNode (g : Syntax) (m n i : ℕ) : Type 0 where
+pub record BestNode (g : PlainGrammar) (m n i : ℕ) : Type 0 where
   pub number : ℕ
   pub rule : Production
   pub is_rule : IsRule g number rule
@@ -93,7 +93,7 @@ pub record BestNode (g : Syntax) (m n i : ℕ) : Type 0 where
   pub least : (q : ℕ) (f : Forest) → q ≤ i → IsTree g (Nonterminal m) (Node q f) → 1 + sizes trees ≤ size (Node q f)
   pub lowest : (q : ℕ) (f : Forest) → q ≤ i → IsTree g (Nonterminal m) (Node q f) → size (Node q f) ≡ 1 + sizes trees → number ≤ q
 
-module _ (g : Syntax) where
+module _ (g : PlainGrammar) where
   pub forest_settled : (n : ℕ) → ((x : Symbol) → Settled g n x) → (xs : List Symbol) → AreSettled g n xs
   forest_settled n each [] = inr (record { trees = Bare; chosen = tt; least = λ f h. omega arith })
   forest_settled n each (x ∷ xs) =
@@ -252,7 +252,7 @@ module _ (g : Syntax) where
   chosen_least x t (Node r f) ht hu = hu.3.least t ht
 
 -- symbols with trees have chosen trees
-pub chosen_forest : (g : Syntax) (f : Forest) (xs : List Symbol) → AreTrees g xs f → (h : Forest) × AreChosen g xs h
+pub chosen_forest : (g : PlainGrammar) (f : Forest) (xs : List Symbol) → AreTrees g xs f → (h : Forest) × AreChosen g xs h
 chosen_forest g Bare [] h = (Bare, tt)
 chosen_forest g Bare (x ∷ xs) h = absurd h
 chosen_forest g (Grown t f) [] h = absurd h
@@ -262,7 +262,7 @@ chosen_forest g (Grown t f) (x ∷ xs) h =
     (Grown first.tree others.0, (first.chosen, others.1))
 
 -- chosen trees of some symbols are of least size together
-pub forest_least : (g : Syntax) (f h : Forest) (xs : List Symbol) → AreChosen g xs f → AreTrees g xs h → sizes f ≤ sizes h
+pub forest_least : (g : PlainGrammar) (f h : Forest) (xs : List Symbol) → AreChosen g xs f → AreTrees g xs h → sizes f ≤ sizes h
 forest_least g Bare h [] cf hh = omega arith
 forest_least g Bare h (x ∷ xs) cf hh = absurd cf
 forest_least g (Grown t f) h [] cf hh = absurd cf

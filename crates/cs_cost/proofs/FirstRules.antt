@@ -7,7 +7,7 @@ use Rattle.std.proofs.lemmas.List.{length-set, get_or-set_same, get_or-set_other
 use Rattle.std.proofs.lemmas.Option.{slice_get_within, slice_get-get_or, slice_get_read}
 use Rattle.cs_grammar.specs.declared.symbol.Symbol.{Symbol}
 use Rattle.cs_grammar.specs.declared.symbol.Symbol.TheVariants.{Token, Nonterminal}
-use Rattle.cs_grammar.specs.Grammar.{Production, Syntax, IsNumberOf}
+use Rattle.cs_grammar.specs.Grammar.{Production, PlainGrammar, IsNumberOf}
 use Rattle.cs_grammar.specs.Tree.{Tree, Leaf, Node, IsTree, AreTrees, size, sizes}
 use Rattle.cs_cost.specs.declared.cost.Cost.{Cost}
 use Rattle.cs_cost.specs.declared.cost.Cost.TheVariants.{Least}
@@ -19,13 +19,13 @@ use Rattle.cs_cost.proofs.TreeCosts.{IsReached, IsReached-holds, forested, fores
 use Rattle.cs_cost.proofs.Rounds.{rule_at, well_formed_at}
 
 -- no tree of a symbol is smaller than the table of a grammar says
-pub symbol_low : (limit : ℕ) (g : Syntax) (table : List Cost) → IsCostTable limit g table → (x : Symbol) (t : Tree) → IsTree g x t → rank limit (cost_in limit table x) ≤ capped limit (size t)
+pub symbol_low : (limit : ℕ) (g : PlainGrammar) (table : List Cost) → IsCostTable limit g table → (x : Symbol) (t : Tree) → IsTree g x t → rank limit (cost_in limit table x) ≤ capped limit (size t)
 symbol_low limit g table exact (Token s) (Leaf t) h = omega (arith, rank-cost_of limit 1)
 symbol_low limit g table exact (Token s) (Node r f) h = let e = h.2 in absurd cc
 symbol_low limit g table exact (Nonterminal n) t h = cost_low limit (IsTreeOf g n) size (entry table n) (exact.exact n) t h
 
 -- and some tree of it is as small as the table says
-pub symbols_reached : (limit : ℕ) (g : Syntax) (table : List Cost) → IsCostTable limit g table → IsReached limit g (cost_in limit table)
+pub symbols_reached : (limit : ℕ) (g : PlainGrammar) (table : List Cost) → IsCostTable limit g table → IsReached limit g (cost_in limit table)
 symbols_reached limit g table exact =
     IsReached-holds limit g table (record {
       each = exact.each;
@@ -33,13 +33,13 @@ symbols_reached limit g table exact =
     })
 
 -- so it says what the least tree of each symbol costs
-pub symbol_cost : (limit : ℕ) (g : Syntax) (table : List Cost) → IsCostTable limit g table → (x : Symbol) → IsCost limit (IsTree g x) size (cost_in limit table x)
+pub symbol_cost : (limit : ℕ) (g : PlainGrammar) (table : List Cost) → IsCostTable limit g table → (x : Symbol) → IsCost limit (IsTree g x) size (cost_in limit table x)
 symbol_cost limit g table exact x =
     let is_reached = symbols_reached limit g table exact in
     IsCost-from limit (IsTree g x) size (cost_in limit table x) (is_reached.each x) (is_reached.reached x) (symbol_low limit g table exact x)
 
 -- and of symbols together
-pub symbols_cost : (limit : ℕ) (g : Syntax) (table : List Cost) → IsCostTable limit g table → (xs : List Symbol) → IsCost limit (AreTrees g xs) sizes (sum_from limit (cost_in limit table) (Least 0) xs)
+pub symbols_cost : (limit : ℕ) (g : PlainGrammar) (table : List Cost) → IsCostTable limit g table → (xs : List Symbol) → IsCost limit (AreTrees g xs) sizes (sum_from limit (cost_in limit table) (Least 0) xs)
 symbols_cost limit g table exact xs =
     let told = cost_in limit table in
     let is_reached = symbols_reached limit g table exact in
@@ -48,10 +48,10 @@ symbols_cost limit g table exact xs =
     (λ f h. omega (arith, forest_at_most limit g told (symbol_low limit g table exact) f xs (Least 0) 0 (omega arith) h))
 
 -- no rule of the left side at an index below i costs what the table says
-pub record NoneBefore (limit : ℕ) (g : Syntax) (table : List Cost) (left i : ℕ) : Type 0 where
+pub record NoneBefore (limit : ℕ) (g : PlainGrammar) (table : List Cost) (left i : ℕ) : Type 0 where
   pub dearer : (k : ℕ) → (o : Production) → k < i → slice_get g.rules k ≡ Some o → o.left ≡ left → rank limit (entry table left) < rank limit (node_cost limit table o.right)
 
-module _ (limit : ℕ) (g : Syntax) (table : List Cost) (left i : ℕ) (q : Production) (at : slice_get g.rules i ≡ Some q) (so_far : NoneBefore limit g table left i) where
+module _ (limit : ℕ) (g : PlainGrammar) (table : List Cost) (left i : ℕ) (q : Production) (at : slice_get g.rules i ≡ Some q) (so_far : NoneBefore limit g table left i) where
   pub none_more : (q.left ≡ left → rank limit (entry table left) < rank limit (node_cost limit table q.right)) → NoneBefore limit g table left (i + 1)
   none_more here = record {
     dearer = λ k o within.
@@ -71,7 +71,7 @@ module _ (limit : ℕ) (g : Syntax) (table : List Cost) (left i : ℕ) (q : Prod
   }
 
 -- a nonterminal within the limit has a rule of its cost
-module _ (limit : ℕ) (g : Syntax) (table : List Cost) (exact : IsCostTable limit g table) (left i : ℕ) (all : length g.rules ≤ i) (so_far : NoneBefore limit g table left i) where
+module _ (limit : ℕ) (g : PlainGrammar) (table : List Cost) (exact : IsCostTable limit g table) (left i : ℕ) (all : length g.rules ≤ i) (so_far : NoneBefore limit g table left i) where
   no_tree : (t : Tree) → IsTree g (Nonterminal left) t → capped limit (size t) ≤ rank limit (entry table left) → ⊥
   no_tree (Leaf s) h small = cc
   no_tree (Node r f) h small =
@@ -87,21 +87,21 @@ module _ (limit : ℕ) (g : Syntax) (table : List Cost) (exact : IsCostTable lim
       no_tree t.0 t.1 t.2
 
 -- the first rule of a nonterminal among those below index i, where there is one yet
-abbrev pub IsFirstSoFar : ℕ → Syntax → List Cost → ℕ → ℕ → Option ℕ → Type 0
+abbrev pub IsFirstSoFar : ℕ → PlainGrammar → List Cost → ℕ → ℕ → Option ℕ → Type 0
 IsFirstSoFar limit g table i n o = ((o ≡ None) × NoneBefore limit g table n i) ⊎ ((r : ℕ) × (o ≡ Some r) × IsFirstRule limit g table n r)
 
-pub record FirstsSoFar (limit : ℕ) (g : Syntax) (table : List Cost) (firsts : List (Option ℕ)) (i : ℕ) : Type 0 where
+pub record FirstsSoFar (limit : ℕ) (g : PlainGrammar) (table : List Cost) (firsts : List (Option ℕ)) (i : ℕ) : Type 0 where
   pub many : length firsts ≡ g.nonterminals
   pub each : (n : ℕ) → IsNumberOf g.nonterminals n → IsFirstSoFar limit g table i n (get_or firsts (n - 1) None)
 
 -- before the first rule
-pub firsts_start : (limit : ℕ) (g : Syntax) (table : List Cost) → FirstsSoFar limit g table (replicate g.nonterminals None) 0
+pub firsts_start : (limit : ℕ) (g : PlainGrammar) (table : List Cost) → FirstsSoFar limit g table (replicate g.nonterminals None) 0
 firsts_start limit g table = record {
   many = length-replicate g.nonterminals None;
   each = λ n number. inl (get_or-replicate g.nonterminals (n - 1) None None (omega (arith, number)), record { dearer = λ k o below at e. absurd (omega (arith, below)) });
 }
 
-module _ (limit : ℕ) (g : Syntax) (table : List Cost) (firsts : List (Option ℕ)) (i : ℕ) (q : Production) (at : slice_get g.rules i ≡ Some q) (so_far : FirstsSoFar limit g table firsts i) where
+module _ (limit : ℕ) (g : PlainGrammar) (table : List Cost) (firsts : List (Option ℕ)) (i : ℕ) (q : Production) (at : slice_get g.rules i ≡ Some q) (so_far : FirstsSoFar limit g table firsts i) where
   -- what was known of a nonterminal stays, where this rule is none of its first
   kept : (n : ℕ) (o : Option ℕ) → (o ≡ None → q.left ≡ n → rank limit (entry table n) < rank limit (node_cost limit table q.right)) → IsFirstSoFar limit g table i n o → IsFirstSoFar limit g table (i + 1) n o
   kept n o here known =
@@ -147,7 +147,7 @@ module _ (limit : ℕ) (g : Syntax) (table : List Cost) (firsts : List (Option �
           (kept n (get_or firsts (n - 1) None) (λ zero left. absurd (other (sym left))) (so_far.each n is_number))
 
 -- behind the last rule
-pub firsts_all : (limit : ℕ) (g : Syntax) (table : List Cost) (firsts : List (Option ℕ)) (i : ℕ) → IsCostTable limit g table → length g.rules ≤ i → FirstsSoFar limit g table firsts i → AreFirstRules limit g table firsts
+pub firsts_all : (limit : ℕ) (g : PlainGrammar) (table : List Cost) (firsts : List (Option ℕ)) (i : ℕ) → IsCostTable limit g table → length g.rules ≤ i → FirstsSoFar limit g table firsts i → AreFirstRules limit g table firsts
 firsts_all limit g table firsts i exact all so_far = record {
   many = so_far.many;
   each = λ n number small.
@@ -156,7 +156,7 @@ firsts_all limit g table firsts i exact all so_far = record {
 }
 
 -- what the loop over the rules has found out
-module _ (limit : ℕ) (g : Syntax) (table : List Cost) (firsts : List (Option ℕ)) (i : ℕ) (q : Production) (left : ℕ) (right : List Symbol) (exact : IsCostTable limit g table) (at : slice_get g.rules i ≡ Some q) (is_left : left ≡ q.left) (is_right : right ≡ q.right) (so_far : FirstsSoFar limit g table firsts i) where
+module _ (limit : ℕ) (g : PlainGrammar) (table : List Cost) (firsts : List (Option ℕ)) (i : ℕ) (q : Production) (left : ℕ) (right : List Symbol) (exact : IsCostTable limit g table) (at : slice_get g.rules i ≡ Some q) (is_left : left ≡ q.left) (is_right : right ≡ q.right) (so_far : FirstsSoFar limit g table firsts i) where
   pub step_taken : get_or firsts (left - 1) None ≡ None → rank limit (node_cost limit table right) ≤ rank limit (entry table left) → FirstsSoFar limit g table (set firsts (left - 1) (Some (i + 1))) (i + 1)
   step_taken unset cheap =
       subst (λ n. FirstsSoFar limit g table (set firsts (n - 1) (Some (i + 1))) (i + 1)) (sym is_left)
@@ -174,7 +174,7 @@ module _ (limit : ℕ) (g : Syntax) (table : List Cost) (firsts : List (Option �
       (cases_lt (rank limit (entry table q.left)) (rank limit (node_cost limit table q.right))))
 
 -- what the list says of a nonterminal within the limit
-pub first_is : (limit : ℕ) (g : Syntax) (table : List Cost) (firsts : List (Option ℕ)) → AreFirstRules limit g table firsts → (left : ℕ) → IsNumberOf g.nonterminals left → rank limit (entry table left) ≤ limit → (o : Option ℕ) → o ≡ get_or firsts (left - 1) o → (r : ℕ) × (o ≡ Some r) × IsFirstRule limit g table left r
+pub first_is : (limit : ℕ) (g : PlainGrammar) (table : List Cost) (firsts : List (Option ℕ)) → AreFirstRules limit g table firsts → (left : ℕ) → IsNumberOf g.nonterminals left → rank limit (entry table left) ≤ limit → (o : Option ℕ) → o ≡ get_or firsts (left - 1) o → (r : ℕ) × (o ≡ Some r) × IsFirstRule limit g table left r
 first_is limit g table firsts are left number small o read =
     let first = are.each left number small in
     let there = slice_get_read firsts (length firsts) (left - 1) o refl (omega (arith, number, are.many)) read in

@@ -2,7 +2,7 @@
 use Rattle.std.proofs.Common.{ℕ, ◌+◌, ◌≤◌, List, [], ◌∷◌, refl, arith}
 use Rattle.cs_grammar.specs.declared.symbol.Symbol.{Symbol}
 use Rattle.cs_grammar.specs.declared.symbol.Symbol.TheVariants.{Token, Nonterminal}
-use Rattle.cs_grammar.specs.Grammar.{Production, Syntax, IsRule}
+use Rattle.cs_grammar.specs.Grammar.{Production, PlainGrammar, IsRule}
 use Rattle.cs_grammar.specs.Tree.{Tree, Leaf, Node, Forest, Bare, Grown, IsTree, AreTrees, size, sizes}
 use Rattle.cs_cost.specs.declared.cost.Cost.{Cost}
 use Rattle.cs_cost.specs.Least.{IsCost}
@@ -12,7 +12,7 @@ use Rattle.cs_cost.specs.Trees.{IsTreeOf, cost_in, IsClosed, IsSound}
 use Rattle.cs_cost.proofs.Ranks.{rank-cost_of, IsCapped-cost_of, plus_at_most, plus_reached, IsCapped-plus}
 use Rattle.cs_cost.proofs.Tables.{IsCapped-entry, exact_entry}
 
-module _ (limit : ℕ) (g : Syntax) (table : List Cost) (closed : IsClosed limit g table) where
+module _ (limit : ℕ) (g : PlainGrammar) (table : List Cost) (closed : IsClosed limit g table) where
   -- no tree of a symbol is smaller than the table says
   mutual
     pub tree_low : (t : Tree) (x : Symbol) → IsTree g x t → rank limit (cost_in limit table x) ≤ capped limit (size t)
@@ -31,18 +31,18 @@ module _ (limit : ℕ) (g : Syntax) (table : List Cost) (closed : IsClosed limit
     forest_low (Grown t f) [] sum n le h = absurd h
 
 -- what a list of symbols costs after a sum so far is reached by trees of them
-pub record Forested (limit : ℕ) (g : Syntax) (told : Symbol → Cost) (sum : Cost) (xs : List Symbol) : Type 0 where
+pub record Forested (limit : ℕ) (g : PlainGrammar) (told : Symbol → Cost) (sum : Cost) (xs : List Symbol) : Type 0 where
   pub start : rank limit sum ≤ limit + 1
   pub trees : Forest
   pub are : AreTrees g xs trees
   pub cost : capped limit (rank limit sum + sizes trees) ≤ rank limit (sum_from limit told sum xs)
 
 -- of each symbol a cost is told that some tree of it reaches
-pub record IsReached (limit : ℕ) (g : Syntax) (told : Symbol → Cost) : Type 0 where
+pub record IsReached (limit : ℕ) (g : PlainGrammar) (told : Symbol → Cost) : Type 0 where
   pub each : (x : Symbol) → IsCapped limit (told x)
   pub reached : (x : Symbol) → rank limit (told x) ≤ limit + 1 → (t : Tree) × IsTree g x t × (capped limit (size t) ≤ rank limit (told x))
 
-module _ (limit : ℕ) (g : Syntax) (told : Symbol → Cost) (is_reached : IsReached limit g told) where
+module _ (limit : ℕ) (g : PlainGrammar) (told : Symbol → Cost) (is_reached : IsReached limit g told) where
   pub forested : (xs : List Symbol) (sum : Cost) → IsCapped limit sum → rank limit (sum_from limit told sum xs) ≤ limit + 1 → Forested limit g told sum xs
   forested [] sum is_capped h = record { start = h; trees = Bare; are = tt; cost = omega arith }
   forested (x ∷ xs) sum is_capped h =
@@ -58,7 +58,7 @@ module _ (limit : ℕ) (g : Syntax) (told : Symbol → Cost) (is_reached : IsRea
       (f.trees, f.are, omega (arith, f.cost, rank-cost_of limit 1))
 
 -- where no tree of a symbol is smaller than what is told of it, no trees of symbols are smaller than their sum
-module _ (limit : ℕ) (g : Syntax) (told : Symbol → Cost) (low : (x : Symbol) (t : Tree) → IsTree g x t → rank limit (told x) ≤ capped limit (size t)) where
+module _ (limit : ℕ) (g : PlainGrammar) (told : Symbol → Cost) (low : (x : Symbol) (t : Tree) → IsTree g x t → rank limit (told x) ≤ capped limit (size t)) where
   pub forest_at_most : (f : Forest) (xs : List Symbol) (sum : Cost) (n : ℕ) → rank limit sum ≤ capped limit n → AreTrees g xs f → rank limit (sum_from limit told sum xs) ≤ capped limit (n + sizes f)
   forest_at_most Bare [] sum n le h = omega arith
   forest_at_most (Grown t f) (x ∷ xs) sum n le h =
@@ -68,7 +68,7 @@ module _ (limit : ℕ) (g : Syntax) (told : Symbol → Cost) (low : (x : Symbol)
   forest_at_most (Grown t f) [] sum n le h = absurd h
 
 -- a table that holds of nonterminals tells of each symbol what some tree reaches
-pub IsReached-holds : (limit : ℕ) (g : Syntax) (table : List Cost) → Holds limit (IsTreeOf g) size table → IsReached limit g (cost_in limit table)
+pub IsReached-holds : (limit : ℕ) (g : PlainGrammar) (table : List Cost) → Holds limit (IsTreeOf g) size table → IsReached limit g (cost_in limit table)
 IsReached-holds limit g table holds = record { each = λ x. each x; reached = λ x. reached x }
   where
     each : (x : Symbol) → IsCapped limit (cost_in limit table x)
@@ -80,6 +80,6 @@ IsReached-holds limit g table holds = record { each = λ x. each x; reached = λ
     reached (Nonterminal n) h = holds.reached n h
 
 -- the table in which no step is left
-pub exact_table : (limit : ℕ) (g : Syntax) (table : List Cost) → IsSound limit g table → IsClosed limit g table → (n : ℕ) → IsCost limit (IsTreeOf g n) size (entry table n)
+pub exact_table : (limit : ℕ) (g : PlainGrammar) (table : List Cost) → IsSound limit g table → IsClosed limit g table → (n : ℕ) → IsCost limit (IsTreeOf g n) size (entry table n)
 exact_table limit g table sound closed n =
     exact_entry limit (IsTreeOf g) size table sound.holds (record { low = λ m t h. tree_low limit g table closed t (Nonterminal m) h }) n

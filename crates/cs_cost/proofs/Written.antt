@@ -9,7 +9,7 @@ use Rattle.std.proofs.lemmas.List.Elements.{All-nil, All-cons, All-head, All-tai
 use Rattle.std.proofs.lemmas.Option.{get_or_from_slice_get}
 use Rattle.cs_grammar.specs.declared.symbol.Symbol.{Symbol}
 use Rattle.cs_grammar.specs.declared.symbol.Symbol.TheVariants.{Token, Nonterminal}
-use Rattle.cs_grammar.specs.Grammar.{Production, Syntax, IsRule, IsNumberOf, IsSymbol}
+use Rattle.cs_grammar.specs.Grammar.{Production, PlainGrammar, IsRule, IsNumberOf, IsSymbol}
 use Rattle.cs_grammar.specs.Tree.{Tree, Leaf, Node, Forest, Bare, Grown, IsTree, AreTrees, size, sizes, code, codes_of}
 use Rattle.cs_grammar.proofs.OneTree.{one_rule}
 use Rattle.cs_cost.specs.declared.cost.Cost.{Cost}
@@ -49,7 +49,7 @@ sum_by-map limit table [] = refl
 sum_by-map limit table (x ∷ xs) = omega (arith, sum_by-cons (part_work limit table) (Whole x) (map Whole xs), sum_by-map limit table xs)
 
 -- parts one after another
-pub IsText-whole : (g : Syntax) (f : Forest) (xs : List Symbol) (parts : List Part) (rest : List ℕ) → AreChosen g xs f → IsText g parts rest → IsText g (map Whole xs ++ parts) (codes_of f ++ rest)
+pub IsText-whole : (g : PlainGrammar) (f : Forest) (xs : List Symbol) (parts : List Part) (rest : List ℕ) → AreChosen g xs f → IsText g parts rest → IsText g (map Whole xs ++ parts) (codes_of f ++ rest)
 IsText-whole g Bare [] parts rest cf h = h
 IsText-whole g Bare (x ∷ xs) parts rest cf h = absurd cf
 IsText-whole g (Grown t f) [] parts rest cf h = absurd cf
@@ -57,7 +57,7 @@ IsText-whole g (Grown t f) (x ∷ xs) parts rest cf h =
     (t, codes_of f ++ rest, cf.0, IsText-whole g f xs parts rest cf.1 h, append_assoc (code t) (codes_of f) rest)
 
 -- trees within the limit together are so each
-pub forest_within : (limit : ℕ) (g : Syntax) (f : Forest) (xs : List Symbol) → AreTrees g xs f → sizes f ≤ limit → All (IsSymbol g.tokens g.nonterminals) xs → All (IsWithin limit g) (map Whole xs)
+pub forest_within : (limit : ℕ) (g : PlainGrammar) (f : Forest) (xs : List Symbol) → AreTrees g xs f → sizes f ≤ limit → All (IsSymbol g.tokens g.nonterminals) xs → All (IsWithin limit g) (map Whole xs)
 forest_within limit g Bare [] h le each = All-nil (IsWithin limit g)
 forest_within limit g Bare (x ∷ xs) h le each = absurd h
 forest_within limit g (Grown t f) [] h le each = absurd h
@@ -66,7 +66,7 @@ forest_within limit g (Grown t f) (x ∷ xs) h le each =
     (All-head (IsSymbol g.tokens g.nonterminals) x xs each, (t, h.0, omega (arith, le)))
     (forest_within limit g f xs h.1 (omega (arith, le)) (All-tail (IsSymbol g.tokens g.nonterminals) x xs each))
 
-module _ (limit : ℕ) (g : Syntax) (table : List Cost) (exact : IsCostTable limit g table) (left r : ℕ) (first : IsFirstRule limit g table left r) (small : rank limit (entry table left) ≤ limit) where
+module _ (limit : ℕ) (g : PlainGrammar) (table : List Cost) (exact : IsCostTable limit g table) (left r : ℕ) (first : IsFirstRule limit g table left r) (small : rank limit (entry table left) ≤ limit) where
   -- the rule costs what the table says
   pub node_is : rank limit (node_cost limit table first.rule.right) ≡ rank limit (entry table left)
   node_is =
@@ -105,11 +105,11 @@ module _ (limit : ℕ) (g : Syntax) (table : List Cost) (exact : IsCostTable lim
       forest_within limit g f.0 first.rule.right f.1 (omega (arith, f.2, first.cost, small)) (well_formed_at g (r - 1) first.rule exact.grammar first.number.at).right
 
 -- where a writer stands: what is pending, in its order, and what is written, of what was pending at its start
-pub record Writes (limit : ℕ) (g : Syntax) (table : List Cost) (start_parts : List Part) (start : List ℕ) (parts : List Part) (out : List ℕ) : Type 0 where
+pub record Writes (limit : ℕ) (g : PlainGrammar) (table : List Cost) (start_parts : List Part) (start : List ℕ) (parts : List Part) (out : List ℕ) : Type 0 where
   pub within : All (IsWithin limit g) parts
   pub rest : (text : List ℕ) → IsText g start_parts text → (more : List ℕ) × IsText g parts more × (out ++ more ≡ start ++ text)
 
-module _ (limit : ℕ) (g : Syntax) (table : List Cost) (start_parts : List Part) (start : List ℕ) where
+module _ (limit : ℕ) (g : PlainGrammar) (table : List Cost) (start_parts : List Part) (start : List ℕ) where
   pub writes_rule : (r : ℕ) (parts : List Part) (out : List ℕ) → Writes limit g table start_parts start (Rule r ∷ parts) out → Writes limit g table start_parts start parts (out ++ r ∷ [])
   writes_rule r parts out so_far = record {
     within = All-tail (IsWithin limit g) (Rule r) parts so_far.within;
@@ -154,7 +154,7 @@ module _ (limit : ℕ) (g : Syntax) (table : List Cost) (start_parts : List Part
 pub pending_front : (items rest : List Part) (part : Part) → items ≡ rest ++ part ∷ [] → reverse items ≡ part ∷ reverse rest
 pending_front items rest part e = ap reverse e ∙ reverse-append rest (part ∷ [])
 
-module _ (limit : ℕ) (g : Syntax) (table : List Cost) (start_parts : List Part) (start out : List ℕ) where
+module _ (limit : ℕ) (g : PlainGrammar) (table : List Cost) (start_parts : List Part) (start out : List ℕ) where
   -- the loop's steps, by what was taken from the end of what is pending
   pub loop_rule : (r : ℕ) (items rest : List Part) → items ≡ rest ++ Rule r ∷ [] → Writes limit g table start_parts start (reverse items) out → Writes limit g table start_parts start (reverse rest) (out ++ r ∷ [])
   loop_rule r items rest e so_far =
@@ -186,13 +186,13 @@ module _ (limit : ℕ) (table : List Cost) where
       ∙ sum_by-cons (part_work limit table) part (reverse rest)
 
   -- a node that is written leaves less to write
-  pub node_falls : (g : Syntax) (n : ℕ) (items rest after : List Part) (old new : List ℕ) → IsCostTable limit g table → rank limit (entry table n) ≤ limit → items ≡ rest ++ Whole (Nonterminal n) ∷ [] → Opens limit g table n rest after old new → sum_by (part_work limit table) (reverse after) < sum_by (part_work limit table) (reverse items)
+  pub node_falls : (g : PlainGrammar) (n : ℕ) (items rest after : List Part) (old new : List ℕ) → IsCostTable limit g table → rank limit (entry table n) ≤ limit → items ≡ rest ++ Whole (Nonterminal n) ∷ [] → Opens limit g table n rest after old new → sum_by (part_work limit table) (reverse after) < sum_by (part_work limit table) (reverse items)
   node_falls g n items rest after old new exact small e opens =
       let there = ap (λ (ps : List Part). sum_by (part_work limit table) ps) opens.pending
       ∙ sum_by-append (part_work limit table) (map Whole opens.first.rule.right) (reverse rest) in
       omega (arith, work_front items rest (Whole (Nonterminal n)) e, there, sum_by-map limit table opens.first.rule.right, node_sum limit g table exact n opens.number opens.first small)
 
 -- the rule that was read is the rule of that number
-pub rule_read : (g : Syntax) (r : ℕ) (p q : Production) (rules : List Production) → IsRule g r p → rules ≡ g.rules → q ≡ get_or rules (r - 1) q → q ≡ p
+pub rule_read : (g : PlainGrammar) (r : ℕ) (p q : Production) (rules : List Production) → IsRule g r p → rules ≡ g.rules → q ≡ get_or rules (r - 1) q → q ≡ p
 rule_read g r p q rules rule e read =
     read ∙ ap (λ (ps : List Production). get_or ps (r - 1) q) e ∙ get_or_from_slice_get g.rules (r - 1) p q rule.at

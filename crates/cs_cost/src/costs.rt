@@ -21,10 +21,10 @@ pub struct Costs<'g> {
 }
 
 impl<'g> Model for Costs<'g> {
-    ghost use Rattle.cs_grammar.specs.Grammar.{Syntax};
+    ghost use Rattle.cs_grammar.specs.Grammar.{PlainGrammar};
     ghost use Rattle.cs_cost.specs.Tables.{AreTrees};
 
-    ghost Value = { Syntax };
+    ghost Value = { PlainGrammar };
 
     ghost view = { λ c. c.trees.grammar.now };
 

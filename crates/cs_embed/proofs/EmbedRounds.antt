@@ -9,7 +9,7 @@ use Rattle.std.proofs.lemmas.List.Elements.{All-get_or}
 use Rattle.std.proofs.lemmas.Option.{slice_get_within, slice_get-get_or}
 use Rattle.cs_grammar.specs.declared.symbol.Symbol.{Symbol}
 use Rattle.cs_grammar.specs.declared.symbol.Symbol.TheVariants.{Nonterminal}
-use Rattle.cs_grammar.specs.Grammar.{Syntax, IsNumberOf, IsGrammar, IsSymbol}
+use Rattle.cs_grammar.specs.Grammar.{PlainGrammar, IsNumberOf, IsGrammar, IsSymbol}
 use Rattle.cs_grammar.specs.Context.{Context, Hole, Under, context_size}
 use Rattle.cs_cost.specs.declared.cost.Cost.{Cost}
 use Rattle.cs_cost.specs.declared.cost.Cost.TheVariants.{Never}
@@ -23,11 +23,11 @@ use Rattle.cs_cost.proofs.Rounds.{well_formed_at}
 use Rattle.cs_embed.proofs.Steps.{step_at}
 
 -- a step's nonterminals are the grammar's
-pub step_outer : (limit : ℕ) (g : Syntax) (s : Step) → IsGrammar g → IsStep limit g s → IsNumberOf g.nonterminals s.outer
+pub step_outer : (limit : ℕ) (g : PlainGrammar) (s : Step) → IsGrammar g → IsStep limit g s → IsNumberOf g.nonterminals s.outer
 step_outer limit g s grammar step =
     subst (λ n. IsNumberOf g.nonterminals n) (sym step.left) (well_formed_at g (s.rule - 1) step.production grammar step.number.at).left
 
-pub step_inner : (limit : ℕ) (g : Syntax) (s : Step) → IsGrammar g → IsStep limit g s → IsNumberOf g.nonterminals s.inner
+pub step_inner : (limit : ℕ) (g : PlainGrammar) (s : Step) → IsGrammar g → IsStep limit g s → IsNumberOf g.nonterminals s.inner
 step_inner limit g s grammar step =
     let each = subst (λ (xs : List Symbol). All (IsSymbol g.tokens g.nonterminals) xs) step.right (well_formed_at g (s.rule - 1) step.production grammar step.number.at).right in
     let within : length step.before < length (step.before ++ Nonterminal s.inner ∷ step.behind) = omega (arith, length-append step.before (Nonterminal s.inner ∷ step.behind)) in
@@ -37,7 +37,7 @@ step_inner limit g s grammar step =
     there [] ys = refl
     there (x ∷ xs) ys = there xs ys
 
-module _ (limit : ℕ) (g : Syntax) (embeds : List Cost) (sound : IsSoundEmbed limit g embeds) (s : Step) (step : IsStep limit g s) where
+module _ (limit : ℕ) (g : PlainGrammar) (embeds : List Cost) (sound : IsSoundEmbed limit g embeds) (s : Step) (step : IsStep limit g s) where
   pub step_capped : IsCapped limit (step_cost limit embeds s)
   step_capped =
       IsCapped-plus limit (entry embeds s.outer) s.others (IsCapped-entry limit embeds s.outer sound.holds.each)
@@ -57,7 +57,7 @@ module _ (limit : ℕ) (g : Syntax) (embeds : List Cost) (sound : IsSoundEmbed l
       )
 
 -- where no step makes a context cost less, no context is smaller than the table says
-module _ (limit : ℕ) (g : Syntax) (steps : List Step) (embeds : List Cost) (are : AreSteps limit g steps) (sound : IsSoundEmbed limit g embeds) (closed : IsClosedEmbed limit steps embeds) where
+module _ (limit : ℕ) (g : PlainGrammar) (steps : List Step) (embeds : List Cost) (are : AreSteps limit g steps) (sound : IsSoundEmbed limit g embeds) (closed : IsClosedEmbed limit steps embeds) where
   pub context_low : (c : Context) (n : ℕ) → IsContextOf g n c → rank limit (entry embeds n) ≤ capped limit (context_size c)
   context_low Hole n h =
       let same : n ≡ g.start = cc in
@@ -83,7 +83,7 @@ module _ (limit : ℕ) (g : Syntax) (steps : List Step) (embeds : List Cost) (ar
   }
 
 -- where a round stands before the step at index i: the table at its start, and now
-pub record EmbedsSoFar (limit : ℕ) (g : Syntax) (steps : List Step) (start embeds : List Cost) (changed : Bool) (i : ℕ) : Type 0 where
+pub record EmbedsSoFar (limit : ℕ) (g : PlainGrammar) (steps : List Step) (start embeds : List Cost) (changed : Bool) (i : ℕ) : Type 0 where
   pub sound : IsSoundEmbed limit g embeds
   pub no_more : sum_by (rank limit) embeds ≤ sum_by (rank limit) start
   pub falls : changed ≡ true → sum_by (rank limit) embeds < sum_by (rank limit) start
@@ -95,7 +95,7 @@ pub record IsReady (limit : ℕ) (many : ℕ) (s : Step) : Type 0 where
   pub inner : IsNumberOf many s.inner
   pub others : IsCapped limit s.others
 
-pub step_ready : (limit : ℕ) (g : Syntax) (steps : List Step) (many i : ℕ) (s : Step) → AreSteps limit g steps → many ≡ g.nonterminals → slice_get steps i ≡ Some s → IsReady limit many s
+pub step_ready : (limit : ℕ) (g : PlainGrammar) (steps : List Step) (many i : ℕ) (s : Step) → AreSteps limit g steps → many ≡ g.nonterminals → slice_get steps i ≡ Some s → IsReady limit many s
 step_ready limit g steps many i s are same at =
     let step = (are.all.each i s at).0 in
     record {
@@ -104,7 +104,7 @@ step_ready limit g steps many i s are same at =
       others = cost_capped limit (AreSiblings g step.before step.behind) siblings_size s.others step.cost;
     }
 
-module _ (limit : ℕ) (g : Syntax) (steps : List Step) (start embeds : List Cost) (changed : Bool) (i : ℕ) (s : Step) (c : Cost) (are : AreSteps limit g steps) (at : slice_get steps i ≡ Some s) (is_cost : c ≡ step_cost limit embeds s) (so_far : EmbedsSoFar limit g steps start embeds changed i) where
+module _ (limit : ℕ) (g : PlainGrammar) (steps : List Step) (start embeds : List Cost) (changed : Bool) (i : ℕ) (s : Step) (c : Cost) (are : AreSteps limit g steps) (at : slice_get steps i ≡ Some s) (is_cost : c ≡ step_cost limit embeds s) (so_far : EmbedsSoFar limit g steps start embeds changed i) where
   step : IsStep limit g s
   step = (are.all.each i s at).0
 
@@ -149,7 +149,7 @@ module _ (limit : ℕ) (g : Syntax) (steps : List Step) (start embeds : List Cos
       here = omega (arith, not_less, ap (rank limit) is_cost)
 
 -- a round that changed nothing
-pub embeds_closed : (limit : ℕ) (g : Syntax) (steps : List Step) (start embeds : List Cost) (i : ℕ) → length steps ≤ i → EmbedsSoFar limit g steps start embeds false i → IsClosedEmbed limit steps embeds
+pub embeds_closed : (limit : ℕ) (g : PlainGrammar) (steps : List Step) (start embeds : List Cost) (i : ℕ) → length steps ≤ i → EmbedsSoFar limit g steps start embeds false i → IsClosedEmbed limit steps embeds
 embeds_closed limit g steps start embeds i all so_far = record {
   below = λ k s at. so_far.closed refl k s (omega (arith, all, slice_get_within steps k s at)) at;
 }

@@ -5,7 +5,7 @@ use Rattle.std.proofs.Math.ListN.{set}
 use Rattle.std.proofs.lemmas.Bool.{cases_eq, cases_lt}
 use Rattle.std.proofs.lemmas.List.{length-set, get_or-set_same, get_or-set_other, length-replicate, get_or-replicate}
 use Rattle.std.proofs.lemmas.Option.{slice_get_within, slice_get-get_or}
-use Rattle.cs_grammar.specs.Grammar.{Syntax, IsNumberOf}
+use Rattle.cs_grammar.specs.Grammar.{PlainGrammar, IsNumberOf}
 use Rattle.cs_grammar.specs.Context.{Context, Hole, Under, context_size}
 use Rattle.cs_grammar.specs.Tree.{Forest}
 use Rattle.cs_cost.specs.declared.cost.Cost.{Cost}
@@ -23,15 +23,15 @@ use Rattle.cs_embed.proofs.EmbedRounds.{step_inner}
 pub record NoStepBefore (limit : ℕ) (steps : List Step) (embeds : List Cost) (n i : ℕ) : Type 0 where
   pub dearer : (k : ℕ) → (s : Step) → k < i → slice_get steps k ≡ Some s → s.inner ≡ n → rank limit (entry embeds n) < rank limit (step_cost limit embeds s)
 
-abbrev pub IsFirstStepSoFar : ℕ → Syntax → List Step → List Cost → ℕ → ℕ → Option Step → Type 0
+abbrev pub IsFirstStepSoFar : ℕ → PlainGrammar → List Step → List Cost → ℕ → ℕ → Option Step → Type 0
 IsFirstStepSoFar limit g steps embeds i n o =
     ((o ≡ None) × NoStepBefore limit steps embeds n i) ⊎ ((s : Step) × (o ≡ Some s) × IsFirstStep limit g embeds n s)
 
-pub record FirstStepsSoFar (limit : ℕ) (g : Syntax) (steps : List Step) (embeds : List Cost) (firsts : List (Option Step)) (i : ℕ) : Type 0 where
+pub record FirstStepsSoFar (limit : ℕ) (g : PlainGrammar) (steps : List Step) (embeds : List Cost) (firsts : List (Option Step)) (i : ℕ) : Type 0 where
   pub many : length firsts ≡ g.nonterminals
   pub each : (n : ℕ) → IsNumberOf g.nonterminals n → IsFirstStepSoFar limit g steps embeds i n (get_or firsts (n - 1) None)
 
-pub firsts_start : (limit : ℕ) (g : Syntax) (steps : List Step) (embeds : List Cost) → FirstStepsSoFar limit g steps embeds (replicate g.nonterminals None) 0
+pub firsts_start : (limit : ℕ) (g : PlainGrammar) (steps : List Step) (embeds : List Cost) → FirstStepsSoFar limit g steps embeds (replicate g.nonterminals None) 0
 firsts_start limit g steps embeds = record {
   many = length-replicate g.nonterminals None;
   each = λ n number. inl (get_or-replicate g.nonterminals (n - 1) None None (omega (arith, number)), record { dearer = λ k s below at e. absurd (omega (arith, below)) });
@@ -47,7 +47,7 @@ pub record StepOf (limit : ℕ) (steps : List Step) (embeds : List Cost) (n : �
   pub inner : step.inner ≡ n
   pub low : rank limit (step_cost limit embeds step) ≤ capped limit (context_size (Under outer r left right))
 
-pub step_of : (limit : ℕ) (g : Syntax) (steps : List Step) (embeds : List Cost) → AreSteps limit g steps → IsEmbedTable limit g embeds → (n : ℕ) (outer : Context) (r : ℕ) (left right : Forest) → IsContextOf g n (Under outer r left right) → StepOf limit steps embeds n outer r left right
+pub step_of : (limit : ℕ) (g : PlainGrammar) (steps : List Step) (embeds : List Cost) → AreSteps limit g steps → IsEmbedTable limit g embeds → (n : ℕ) (outer : Context) (r : ℕ) (left right : Forest) → IsContextOf g n (Under outer r left right) → StepOf limit steps embeds n outer r left right
 step_of limit g steps embeds are exact n outer r left right h =
     let p = h.0 in
     let last : r < length g.rules + 1 = omega (arith, slice_get_within g.rules (r - 1) p h.3.at) in
@@ -66,7 +66,7 @@ not_both r k q j a b =
     (λ here. ⊎_elim (λ higher. omega (arith, here.0, higher)) (λ same. omega (arith, here.1, same.1)) b)
     a
 
-module _ (limit : ℕ) (g : Syntax) (steps : List Step) (embeds : List Cost) (firsts : List (Option Step)) (i : ℕ) (s : Step) (are : AreSteps limit g steps) (exact : IsEmbedTable limit g embeds) (at : slice_get steps i ≡ Some s) (so_far : FirstStepsSoFar limit g steps embeds firsts i) where
+module _ (limit : ℕ) (g : PlainGrammar) (steps : List Step) (embeds : List Cost) (firsts : List (Option Step)) (i : ℕ) (s : Step) (are : AreSteps limit g steps) (exact : IsEmbedTable limit g embeds) (at : slice_get steps i ≡ Some s) (so_far : FirstStepsSoFar limit g steps embeds firsts i) where
   none_more : (n : ℕ) → (s.inner ≡ n → rank limit (entry embeds n) < rank limit (step_cost limit embeds s)) → NoStepBefore limit steps embeds n i → NoStepBefore limit steps embeds n (i + 1)
   none_more n here none = record {
     dearer = λ k t within.
@@ -139,7 +139,7 @@ module _ (limit : ℕ) (g : Syntax) (steps : List Step) (embeds : List Cost) (fi
           (kept n (get_or firsts (n - 1) None) (λ zero is. absurd (other (sym is))) (so_far.each n number))
 
 -- behind the last step
-module _ (limit : ℕ) (g : Syntax) (steps : List Step) (embeds : List Cost) (i : ℕ) (are : AreSteps limit g steps) (exact : IsEmbedTable limit g embeds) (all : length steps ≤ i) where
+module _ (limit : ℕ) (g : PlainGrammar) (steps : List Step) (embeds : List Cost) (i : ℕ) (are : AreSteps limit g steps) (exact : IsEmbedTable limit g embeds) (all : length steps ≤ i) where
   no_context : (n : ℕ) (c : Context) → n ≢ g.start → NoStepBefore limit steps embeds n i → IsContextOf g n c → capped limit (context_size c) ≤ rank limit (entry embeds n) → ⊥
   no_context n Hole other none h small = other cc
   no_context n (Under outer r left right) other none h small =

@@ -7,7 +7,7 @@ use Rattle.std.proofs.lemmas.Option.{slice_get_read, get_or_from_slice_get}
 use Rattle.std.proofs.lemmas.List.Elements.{All-nil, All-cons, All-head, All-append, All-take, All-drop}
 use Rattle.cs_grammar.specs.declared.symbol.Symbol.{Symbol}
 use Rattle.cs_grammar.specs.declared.symbol.Symbol.TheVariants.{Nonterminal}
-use Rattle.cs_grammar.specs.Grammar.{Production, Syntax, IsRule, IsNumberOf, IsSymbol, IsGrammar}
+use Rattle.cs_grammar.specs.Grammar.{Production, PlainGrammar, IsRule, IsNumberOf, IsSymbol, IsGrammar}
 use Rattle.cs_grammar.specs.Tree.{Tree, Forest, IsTree, AreTrees, sizes, code, codes_of}
 use Rattle.cs_grammar.specs.Context.{Context, Hole, Under, context_size, code_before, code_after, plug}
 use Rattle.cs_grammar.proofs.OneTree.{one_rule}
@@ -30,7 +30,7 @@ use Rattle.cs_embed.proofs.Lists.{All-left, All-right}
 use Rattle.cs_embed.proofs.Steps.{one_split}
 use Rattle.cs_embed.proofs.EmbedRounds.{step_outer}
 
-module _ (limit : ℕ) (g : Syntax) (embeds : List Cost) (exact : IsEmbedTable limit g embeds) (n : ℕ) (s : Step) (first : IsFirstStep limit g embeds n s) (small : rank limit (entry embeds n) ≤ limit) where
+module _ (limit : ℕ) (g : PlainGrammar) (embeds : List Cost) (exact : IsEmbedTable limit g embeds) (n : ℕ) (s : Step) (first : IsFirstStep limit g embeds n s) (small : rank limit (entry embeds n) ≤ limit) where
   -- the step costs what its parts cost
   pub parts_cost : rank limit (step_cost limit embeds s) ≡ rank limit (entry embeds s.outer) + rank limit s.others
   parts_cost = plus_written limit (entry embeds s.outer) s.others (omega (arith, first.cost, small))
@@ -88,7 +88,7 @@ module _ (limit : ℕ) (g : Syntax) (embeds : List Cost) (exact : IsEmbedTable l
       lowest
 
 -- a step's siblings, by their places in its rule
-module _ (limit : ℕ) (g : Syntax) (s : Step) (p : Production) (small : IsSmallStep limit g s) (rule : IsRule g s.rule p) where
+module _ (limit : ℕ) (g : PlainGrammar) (s : Step) (p : Production) (small : IsSmallStep limit g s) (rule : IsRule g s.rule p) where
   same_rule : small.step.production ≡ p
   same_rule = one_rule g s.rule s.rule small.step.production p refl small.step.number rule
 
@@ -130,13 +130,13 @@ module _ (limit : ℕ) (g : Syntax) (s : Step) (p : Production) (small : IsSmall
   behind_symbols grammar = All-drop (IsSymbol g.tokens g.nonterminals) (s.place + 1) p.right (right_symbols grammar)
 
 -- where the way out stands at a nonterminal
-pub record WayTo (limit : ℕ) (g : Syntax) (embeds : List Cost) (n at : ℕ) (steps : List Step) (after : List ℕ) : Type 0 where
+pub record WayTo (limit : ℕ) (g : PlainGrammar) (embeds : List Cost) (n at : ℕ) (steps : List Step) (after : List ℕ) : Type 0 where
   pub number : IsNumberOf g.nonterminals at
   pub small : rank limit (entry embeds at) ≤ limit
   pub steps_small : All (IsSmallStep limit g) steps
   pub so_far : (c : Context) → IsChosenContext g (Nonterminal n) c → (outer : Context) × (text : List ℕ) × IsChosenContext g (Nonterminal at) outer × IsLead g (reverse steps) text × (code_before c ≡ code_before outer ++ text) × (code_after c ≡ after ++ code_after outer)
 
-pub way_start : (limit : ℕ) (g : Syntax) (embeds : List Cost) (n : ℕ) → IsNumberOf g.nonterminals n → rank limit (entry embeds n) ≤ limit → WayTo limit g embeds n n [] []
+pub way_start : (limit : ℕ) (g : PlainGrammar) (embeds : List Cost) (n : ℕ) → IsNumberOf g.nonterminals n → rank limit (entry embeds n) ≤ limit → WayTo limit g embeds n n [] []
 way_start limit g embeds n number small = record {
   number = number;
   small = small;
@@ -144,7 +144,7 @@ way_start limit g embeds n number small = record {
   so_far = λ c h. (c, [], h, refl, sym (append-nil (code_before c)), refl);
 }
 
-module _ (limit : ℕ) (g : Syntax) (embeds : List Cost) (exact : IsEmbedTable limit g embeds) (n at : ℕ) (steps steps' : List Step) (after after' : List ℕ) (s : Step) (p : Production) (first : IsFirstStep limit g embeds at s) (rule : IsRule g s.rule p) (pushed : steps' ≡ steps ++ s ∷ []) (appended : AppendsAllChosen g (drop (s.place + 1) p.right) after after') (here : WayTo limit g embeds n at steps after) where
+module _ (limit : ℕ) (g : PlainGrammar) (embeds : List Cost) (exact : IsEmbedTable limit g embeds) (n at : ℕ) (steps steps' : List Step) (after after' : List ℕ) (s : Step) (p : Production) (first : IsFirstStep limit g embeds at s) (rule : IsRule g s.rule p) (pushed : steps' ≡ steps ++ s ∷ []) (appended : AppendsAllChosen g (drop (s.place + 1) p.right) after after') (here : WayTo limit g embeds n at steps after) where
   taken_small : IsSmallStep limit g s
   taken_small = small_step limit g embeds exact at s first here.small
 
@@ -187,7 +187,7 @@ module _ (limit : ℕ) (g : Syntax) (embeds : List Cost) (exact : IsEmbedTable l
   }
 
 -- at the start symbol the way is whole
-pub way_end : (limit : ℕ) (g : Syntax) (embeds : List Cost) (n at : ℕ) (steps : List Step) (after : List ℕ) → at ≡ g.start → WayTo limit g embeds n at steps after → IsWay limit g n steps after
+pub way_end : (limit : ℕ) (g : PlainGrammar) (embeds : List Cost) (n at : ℕ) (steps : List Step) (after : List ℕ) → at ≡ g.start → WayTo limit g embeds n at steps after → IsWay limit g n steps after
 way_end limit g embeds n at steps after same here = record {
   small = here.steps_small;
   text = λ c h. let w = here.so_far c h in end c w.0 w.1 w.2 w.3 w.4 w.5;
@@ -198,7 +198,7 @@ way_end limit g embeds n at steps after same here = record {
     end c (Under outer q left right) text h is eb ea = absurd (omega (arith, h.5.least Hole (ap Nonterminal same)))
 
 -- what the table of first steps says where the way out stands
-module _ (limit : ℕ) (g : Syntax) (embeds : List Cost) (firsts : List (Option Step)) (are : AreFirstSteps limit g embeds firsts) (at : ℕ) (number : IsNumberOf g.nonterminals at) (small : rank limit (entry embeds at) ≤ limit) where
+module _ (limit : ℕ) (g : PlainGrammar) (embeds : List Cost) (firsts : List (Option Step)) (are : AreFirstSteps limit g embeds firsts) (at : ℕ) (number : IsNumberOf g.nonterminals at) (small : rank limit (entry embeds at) ≤ limit) where
   pub first_some : (s : Step) → slice_get firsts (at - 1) ≡ Some (Some s) → (at ≢ g.start) × IsFirstStep limit g embeds at s
   first_some s read =
       let other : at ≢ g.start = λ e. (let there : slice_get firsts (at - 1) ≡ Some None = ap (λ m. slice_get firsts (m - 1)) e ∙ are.start in cc) in
@@ -216,11 +216,11 @@ module _ (limit : ℕ) (g : Syntax) (embeds : List Cost) (firsts : List (Option 
       (cases_eq at g.start)
 
 -- where the writer of the rule numbers before a hole stands: what it has written, and the steps that are left
-pub record Leads (limit : ℕ) (g : Syntax) (start_steps : List Step) (start : List ℕ) (steps : List Step) (out : List ℕ) : Type 0 where
+pub record Leads (limit : ℕ) (g : PlainGrammar) (start_steps : List Step) (start : List ℕ) (steps : List Step) (out : List ℕ) : Type 0 where
   pub small : All (IsSmallStep limit g) steps
   pub rest : (text : List ℕ) → IsLead g (reverse start_steps) text → (more : List ℕ) × IsLead g (reverse steps) more × (out ++ more ≡ start ++ text)
 
-pub leads_more : (limit : ℕ) (g : Syntax) (start_steps : List Step) (start : List ℕ) (items steps : List Step) (out out' out'' : List ℕ) (s : Step) (p : Production) → items ≡ steps ++ s ∷ [] → IsRule g s.rule p → out' ≡ out ++ s.rule ∷ [] → AppendsAllChosen g (take s.place p.right) out' out'' → Leads limit g start_steps start items out → Leads limit g start_steps start steps out''
+pub leads_more : (limit : ℕ) (g : PlainGrammar) (start_steps : List Step) (start : List ℕ) (items steps : List Step) (out out' out'' : List ℕ) (s : Step) (p : Production) → items ≡ steps ++ s ∷ [] → IsRule g s.rule p → out' ≡ out ++ s.rule ∷ [] → AppendsAllChosen g (take s.place p.right) out' out'' → Leads limit g start_steps start items out → Leads limit g start_steps start steps out''
 leads_more limit g start_steps start items steps out out' out'' s p e rule pushed appended so_far = record {
   small = All-left (IsSmallStep limit g) steps (s ∷ []) (subst (λ (l : List Step). All (IsSmallStep limit g) l) e so_far.small);
   rest = λ text is.
@@ -236,13 +236,13 @@ leads_more limit g start_steps start items steps out out' out'' s p e rule pushe
 }
 
 -- the last of the steps that are left
-pub last_small : (limit : ℕ) (g : Syntax) (items steps : List Step) (s : Step) → items ≡ steps ++ s ∷ [] → All (IsSmallStep limit g) items → IsSmallStep limit g s
+pub last_small : (limit : ℕ) (g : PlainGrammar) (items steps : List Step) (s : Step) → items ≡ steps ++ s ∷ [] → All (IsSmallStep limit g) items → IsSmallStep limit g s
 last_small limit g items steps s e each = All-head (IsSmallStep limit g) s [] (All-right (IsSmallStep limit g) steps (s ∷ []) (subst (λ (l : List Step). All (IsSmallStep limit g) l) e each))
 
 -- the rule that the code reads by a step's number
-pub rule_here : (g h : Syntax) (r : ℕ) (p q : Production) (rules : List Production) → IsRule g r p → rules ≡ h.rules → h ≡ g → q ≡ get_or rules (r - 1) q → IsRule g r q
+pub rule_here : (g h : PlainGrammar) (r : ℕ) (p q : Production) (rules : List Production) → IsRule g r p → rules ≡ h.rules → h ≡ g → q ≡ get_or rules (r - 1) q → IsRule g r q
 rule_here g h r p q rules rule e same read =
-    subst (λ (w : Production). IsRule g r w) (sym (rule_read g r p q rules rule (e ∙ ap (λ (w : Syntax). w.rules) same) read)) rule
+    subst (λ (w : Production). IsRule g r w) (sym (rule_read g r p q rules rule (e ∙ ap (λ (w : PlainGrammar). w.rules) same) read)) rule
 
 -- what the code reads of a table at a number
 pub entry_read : (table : List Cost) (n : ℕ) (c : Cost) → IsNumberOf (length table) n → c ≡ get_or table (n - 1) c → c ≡ entry table n
@@ -251,7 +251,7 @@ entry_read table n c number read =
     sym (entry-at table n number.0 ∙ get_or_from_slice_get table (n - 1) c Never at)
 
 -- the tree's code between the lists of the chosen context
-pub filled : (g : Syntax) (n : ℕ) (before after : List ℕ) (t : Tree) → IsAround g n before after → IsTree g (Nonterminal n) t → Fills g n before after t
+pub filled : (g : PlainGrammar) (n : ℕ) (before after : List ℕ) (t : Tree) → IsAround g n before after → IsTree g (Nonterminal n) t → Fills g n before after t
 filled g n before after t a h =
     let c = a.context in
     let is = IsContext-chosen g c (Nonterminal n) a.chosen in

@@ -7,7 +7,7 @@ use Rattle.std.proofs.lemmas.Bool.Decides.{nat_tests}
 use Rattle.std.proofs.lemmas.List.{drop_more, map-append, reverse-append, nil_from_length}
 use Rattle.cs_grammar.specs.declared.symbol.Symbol.{Symbol}
 use Rattle.cs_grammar.specs.declared.symbol.Symbol.TheVariants.{Token, Nonterminal}
-use Rattle.cs_grammar.specs.Grammar.{Production, Syntax, IsRule}
+use Rattle.cs_grammar.specs.Grammar.{Production, PlainGrammar, IsRule}
 use Rattle.cs_grammar.specs.Tree.{Tree, Leaf, Node, Forest, Bare, Grown, IsTree, AreTrees, code, codes_of, IsDerivation}
 use Rattle.cs_grammar.proofs.OneTree.{one_tree}
 use Rattle.cs_goals.specs.declared.goal.Goal.TheVariants.{Context}
@@ -35,7 +35,7 @@ codes_open [] = []
 codes_open (w ∷ ws) = w.rule ∷ (codes_of w.children ++ codes_open ws)
 
 -- each is a node of its rule
-abbrev pub AreOpen : Syntax → List Open → Type 0
+abbrev pub AreOpen : PlainGrammar → List Open → Type 0
 AreOpen g [] = Unit {0}
 AreOpen g (w ∷ ws) = ((p : Production) × IsRule g w.rule p × AreTrees g p.right w.children) × AreOpen g ws
 
@@ -83,7 +83,7 @@ child_is place q t f first h =
     let at : slice_get (t ∷ trees f) 0 ≡ Some (Node q h.grandchildren) = ap (λ k. slice_get (t ∷ trees f) k) (sym e) ∙ h.at in
     cc
 
-module _ (g : Syntax) where
+module _ (g : PlainGrammar) where
   flags-nodes_of : (place : ℕ) (f : Forest) (xs : List Symbol) → AreTrees g xs f → awaits place xs ≡ flags (nodes_of place f)
   flags-nodes_of place Bare [] h = refl
   flags-nodes_of place Bare (x ∷ xs) h = absurd h
@@ -167,7 +167,7 @@ module _ (p i q : ℕ) where
       later_child (Node r c) k = inr (inr k)
 
 -- Before an entry of the code: the open nodes have the rest of the code, and the tree meets the goal where they do.
-pub record Waits (g : Syntax) (rules rest : List ℕ) (pending : List Bool) (p i q : ℕ) : Type 0 where
+pub record Waits (g : PlainGrammar) (rules rest : List ℕ) (pending : List Bool) (p i q : ℕ) : Type 0 where
   pub tree : Tree
   pub is_tree : IsTree g (Nonterminal g.start) tree
   pub code : rules ≡ code tree
@@ -179,7 +179,7 @@ pub record Waits (g : Syntax) (rules rest : List ℕ) (pending : List Bool) (p i
   pub back : SomeOpen p i q nodes → UsesRuleIn p i q tree
 
 -- What an entry says: whether its node is awaited, its rule, and what comes after it.
-pub record Turn (g : Syntax) (rules : List ℕ) (at : ℕ) (pending : List Bool) (p i q : ℕ) : Type 0 where
+pub record Turn (g : PlainGrammar) (rules : List ℕ) (at : ℕ) (pending : List Bool) (p i q : ℕ) : Type 0 where
   pub awaited : Bool
   pub others : List Bool
   pub pending_is : pending ≡ awaited ∷ others
@@ -188,7 +188,7 @@ pub record Turn (g : Syntax) (rules : List ℕ) (at : ℕ) (pending : List Bool)
   pub met : awaited ≡ true → get_or rules at 0 ≡ q → IsMeeting g (Context p i q) rules
   pub next : (awaited ≡ true → get_or rules at 0 ≡ q → ⊥) → (place : ℕ) → (get_or rules at 0 ≡ p → place ≡ i) → (get_or rules at 0 ≢ p → place ≡ 0) → Waits g rules (drop (at + 1) rules) (awaits place rule.right ++ others) p i q
 
-module _ (g : Syntax) (rules : List ℕ) (p i q : ℕ) where
+module _ (g : PlainGrammar) (rules : List ℕ) (p i q : ℕ) where
   waits_from : (t : Tree) → IsTree g (Nonterminal g.start) t → rules ≡ code t → Waits g rules rules (false ∷ []) p i q
   waits_from (Leaf s) h e = absurd cc
   waits_from (Node r f) h e = record {

@@ -6,7 +6,7 @@ use Rattle.std.proofs.lemmas.Bool.{or_cases}
 use Rattle.std.proofs.lemmas.Bool.Decides.{nat_tests}
 use Rattle.cs_grammar.specs.declared.symbol.Symbol.TheVariants.{Nonterminal}
 use Rattle.cs_grammar.specs.declared.symbol.Mark.{Mark}
-use Rattle.cs_grammar.specs.Grammar.{Syntax}
+use Rattle.cs_grammar.specs.Grammar.{PlainGrammar}
 use Rattle.cs_grammar.specs.Tree.{Tree, Leaf, Node, Forest, Bare, Grown, code, codes_of, yield, IsDerivation}
 use Rattle.cs_grammar.specs.Leftmost.{IsYield}
 use Rattle.cs_grammar.specs.Sentence.{framed, IsFollowed}
@@ -68,7 +68,7 @@ module _ (r : ℕ) where
         (λ later. or_right (listed (code t)) (listed (codes_of f)) (some_listed_from f later))
         h
 
-  pub rule_met : (g : Syntax) (rules : List ℕ) (met : Bool) → IsDerivation g (Nonterminal g.start) rules → met ≡ list_any (λ y. eqb y r) rules → IsTrue met ↔ IsMeeting g (Rule r) rules
+  pub rule_met : (g : PlainGrammar) (rules : List ℕ) (met : Bool) → IsDerivation g (Nonterminal g.start) rules → met ≡ list_any (λ y. eqb y r) rules → IsTrue met ↔ IsMeeting g (Rule r) rules
   rule_met g rules met d is = (
     λ yes. record {
       tree = d.0;
@@ -79,7 +79,7 @@ module _ (r : ℕ) where
     λ m. is ∙ ap (λ (l : List ℕ). listed l) m.code ∙ listed_from m.tree m.meets,
   )
 
-pub pair_met : (g : Syntax) (rules tokens : List ℕ) (a b : Mark) (met : Bool) → IsYield g rules tokens → (IsTrue met ↔ IsFollowed a b (framed tokens)) → IsTrue met ↔ IsMeeting g (Pair a b) rules
+pub pair_met : (g : PlainGrammar) (rules tokens : List ℕ) (a b : Mark) (met : Bool) → IsYield g rules tokens → (IsTrue met ↔ IsFollowed a b (framed tokens)) → IsTrue met ↔ IsMeeting g (Pair a b) rules
 pair_met g rules tokens a b met y h = (
   λ yes. record {
     tree = y.tree;

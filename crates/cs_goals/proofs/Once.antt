@@ -8,7 +8,7 @@ use Rattle.cs_grammar.specs.declared.symbol.Symbol.{Symbol}
 use Rattle.cs_grammar.specs.declared.symbol.Symbol.TheVariants.{Token as OfToken, Nonterminal}
 use Rattle.cs_grammar.specs.declared.symbol.Mark.{Mark}
 use Rattle.cs_grammar.specs.declared.symbol.Mark.TheVariants.{Begin, Token, End}
-use Rattle.cs_grammar.specs.Grammar.{Production, Syntax, IsRule, IsNumberOf}
+use Rattle.cs_grammar.specs.Grammar.{Production, PlainGrammar, IsRule, IsNumberOf}
 use Rattle.cs_goals.specs.declared.goal.Goal.{Goal}
 use Rattle.cs_goals.specs.declared.goal.Goal.TheVariants.{Rule, Context, Pair}
 use Rattle.cs_goals.specs.declared.goal.Criteria.{Criteria}
@@ -16,7 +16,7 @@ use Rattle.cs_goals.specs.Goal.{IsOccurrence, IsLeft, IsRight, IsGoal, IsChosen}
 use Rattle.cs_goals.specs.Goals.{rule_goals, numbered_rules, rules_of, goals_at, goals_in, context_goals, token_marks, left_marks, right_marks, goals_after, pair_goals, goals}
 use Rattle.cs_goals.proofs.Members.{Among, Apart, Contains-from_Among, Among-from_Contains, AllPairs-from_Apart, Among-left, Among-right, Among-cases, Apart-append, Among-cond, Among-chosen, Apart-cond, Among-filter, Among-passes, Among-map, Among-mapped, Apart-map, Apart-map-filter, Among-flat_map, Among-joined, Apart-flat_map, Among-range, Among-in_range, Apart-range, Among-enumerate_from, Among-enumerated, Apart-numbers}
 
-module _ (g : Syntax) where
+module _ (g : PlainGrammar) where
   -- rule goals
   in_rules : (goal : Goal) → Among goal (rule_goals g) → (r : ℕ) × (goal ≡ Rule r) × ((p : Production) × IsRule g r p)
   in_rules goal h =
@@ -219,7 +219,7 @@ module _ (tokens : ℕ) where
       Among-joined (goals_after tokens) (Pair a b) a (left_marks tokens) (lefts_in a is_left)
       (Among-mapped (Pair a) b (right_marks tokens) (rights_in b is_right))
 
-module _ (g : Syntax) (c : Criteria) where
+module _ (g : PlainGrammar) (c : Criteria) where
   pub once : AllPairs (λ a b. a ≢ b) (goals g c)
   once =
       AllPairs-from_Apart (goals g c)

@@ -8,7 +8,7 @@ use Rattle.cs_grammar.specs.declared.symbol.Symbol.{Symbol}
 use Rattle.cs_grammar.specs.declared.symbol.Symbol.TheVariants.{Token as OfToken, Nonterminal}
 use Rattle.cs_grammar.specs.declared.symbol.Mark.{Mark}
 use Rattle.cs_grammar.specs.declared.symbol.Mark.TheVariants.{Begin, Token, End}
-use Rattle.cs_grammar.specs.Grammar.{Production, Syntax}
+use Rattle.cs_grammar.specs.Grammar.{Production, PlainGrammar}
 use Rattle.cs_goals.specs.declared.goal.Goal.{Goal}
 use Rattle.cs_goals.specs.declared.goal.Goal.TheVariants.{Rule, Context, Pair}
 use Rattle.cs_goals.specs.Goals.{rule_goals, numbered_rules, rules_of, goals_at, goals_in, context_goals, token_marks, left_marks, right_marks, goals_after, pair_goals}
@@ -16,10 +16,10 @@ use Rattle.cs_goals.specs.Rest.{rules_left, places_left, outers_left, contexts_l
 use Rattle.cs_goals.proofs.Numbered.{drop-enumerate_from, drop-enumerate_from_past, drop-map-range, drop-map-range_past}
 
 -- rule goals
-pub rules_left_more : (g : Syntax) (n : ℕ) → n < length g.rules → rules_left g n ≡ Rule (n + 1) ∷ rules_left g (n + 1)
+pub rules_left_more : (g : PlainGrammar) (n : ℕ) → n < length g.rules → rules_left g n ≡ Rule (n + 1) ∷ rules_left g (n + 1)
 rules_left_more g n within = drop-map-range Rule 1 (length g.rules) n (n + 1) within (omega arith)
 
-pub rules_left_past : (g : Syntax) (n : ℕ) → length g.rules ≤ n → rules_left g n ≡ []
+pub rules_left_past : (g : PlainGrammar) (n : ℕ) → length g.rules ≤ n → rules_left g n ≡ []
 rules_left_past g n past = drop-map-range_past Rule 1 (length g.rules) n past
 
 -- the rules of a left side
@@ -40,7 +40,7 @@ symbol_cases : (x : Symbol) → ((t : ℕ) × (x ≡ OfToken t)) ⊎ ((n : ℕ) 
 symbol_cases (OfToken t) = inl (t, refl)
 symbol_cases (Nonterminal n) = inr (n, refl)
 
-module _ (g : Syntax) (p : ℕ) where
+module _ (g : PlainGrammar) (p : ℕ) where
   -- the places of a rule
   pub places_left_none : (places : List (ℕ × Symbol)) → places_left g p places 0 ≡ flat_map (goals_at g p) places
   places_left_none [] = refl
@@ -78,7 +78,7 @@ module _ (g : Syntax) (p : ℕ) where
   places_left_past right i q past =
       ap (λ (l : List (ℕ × Symbol)). places_left g p l q) (drop-enumerate_from_past right 1 i past)
 
-module _ (g : Syntax) where
+module _ (g : PlainGrammar) where
   -- the context goals
   outers_left_none : (rules : List (ℕ × Production)) → outers_left g rules 0 0 ≡ flat_map (goals_in g) rules
   outers_left_none [] = refl
@@ -173,7 +173,7 @@ module _ (tokens : ℕ) where
       ∙ ap (λ (l : List Goal). Pair (left_mark a) End ∷ l) (sym (lefts_left_none (drop (a + 1) (left_marks tokens))))
 
 -- where the list of a criterion begins
-module _ (g : Syntax) (b : Bool) (n : ℕ) where
+module _ (g : PlainGrammar) (b : Bool) (n : ℕ) where
   pub rules_chosen : b ≡ true → n ≡ 0 → rules_left g n ≡ cond b (rule_goals g) []
   rules_chosen chosen begin = rw (begin, chosen) refl
 

@@ -4,7 +4,7 @@ use Rattle.std.proofs.lemmas.Bool.{cases_lt}
 use Rattle.std.proofs.lemmas.List.{drop_more, drop_all, reverse-append}
 use Rattle.cs_grammar.specs.declared.symbol.Symbol.{Symbol}
 use Rattle.cs_grammar.specs.declared.symbol.Symbol.TheVariants.{Token, Nonterminal}
-use Rattle.cs_grammar.specs.Grammar.{Production, Syntax, IsRule}
+use Rattle.cs_grammar.specs.Grammar.{Production, PlainGrammar, IsRule}
 use Rattle.cs_grammar.specs.Tree.{Tree, Leaf, Node, Forest, Bare, Grown, IsTree, AreTrees, code, codes_of, yield, yields, IsDerivation}
 use Rattle.cs_grammar.specs.Context.{join}
 use Rattle.cs_grammar.specs.Leftmost.{IsYield}
@@ -27,7 +27,7 @@ reads rules at r rest e =
     (cases_lt at (length rules))
 
 -- The open symbols have trees: the rest of the code is their codes, and the tokens so far with their yields are the yield.
-pub record Walks (g : Syntax) (rules rest : List ℕ) (pending : List Symbol) (done : List ℕ) : Type 0 where
+pub record Walks (g : PlainGrammar) (rules rest : List ℕ) (pending : List Symbol) (done : List ℕ) : Type 0 where
   pub tree : Tree
   pub is_tree : IsTree g (Nonterminal g.start) tree
   pub code : rules ≡ code tree
@@ -36,7 +36,7 @@ pub record Walks (g : Syntax) (rules rest : List ℕ) (pending : List Symbol) (d
   pub codes : rest ≡ codes_of others
   pub tokens : yield tree ≡ done ++ yields others
 
-module _ (g : Syntax) (rules : List ℕ) where
+module _ (g : PlainGrammar) (rules : List ℕ) where
   pub walks_none : IsDerivation g (Nonterminal g.start) rules → Walks g rules rules (Nonterminal g.start ∷ []) []
   walks_none d = record {
     tree = d.0;

@@ -4,13 +4,13 @@ use Rattle.std.specs.Prelude.{◌≡◌, ℕ, ◌-◌, ◌<◌, Some, IsTrue, sl
 use Rattle.cs_grammar.specs.declared.symbol.Symbol.TheVariants.{Nonterminal}
 use Rattle.cs_grammar.specs.declared.symbol.Mark.{Mark}
 use Rattle.cs_grammar.specs.declared.symbol.Mark.TheVariants.{Begin, Token, End}
-use Rattle.cs_grammar.specs.Grammar.{Production, Syntax, IsRule, IsNumberOf}
+use Rattle.cs_grammar.specs.Grammar.{Production, PlainGrammar, IsRule, IsNumberOf}
 use Rattle.cs_goals.specs.declared.goal.Goal.{Goal}
 use Rattle.cs_goals.specs.declared.goal.Goal.TheVariants.{Rule, Context, Pair}
 use Rattle.cs_goals.specs.declared.goal.Criteria.{Criteria}
 
 -- place i of rule p, counted from 1, is a nonterminal that rule q has on its left side
-pub record IsOccurrence (g : Syntax) (p i q : ℕ) : Type 0 where
+pub record IsOccurrence (g : PlainGrammar) (p i q : ℕ) : Type 0 where
   pub outer : Production
   pub inner : Production
   pub is_outer : IsRule g p outer
@@ -31,7 +31,7 @@ IsRight tokens (Token b) = IsNumberOf tokens b
 IsRight tokens End = Unit {0}
 
 -- one of the grammar's goals
-abbrev pub IsGoal : Syntax → Goal → Type 0
+abbrev pub IsGoal : PlainGrammar → Goal → Type 0
 IsGoal g (Rule r) = (p : Production) × IsRule g r p
 IsGoal g (Context p i q) = IsOccurrence g p i q
 IsGoal g (Pair a b) = IsLeft g.tokens a × IsRight g.tokens b

@@ -5,17 +5,17 @@ use Rattle.cs_grammar.specs.declared.symbol.Symbol.{Symbol}
 use Rattle.cs_grammar.specs.declared.symbol.Symbol.TheVariants.{Token as OfToken, Nonterminal}
 use Rattle.cs_grammar.specs.declared.symbol.Mark.{Mark}
 use Rattle.cs_grammar.specs.declared.symbol.Mark.TheVariants.{Begin, Token, End}
-use Rattle.cs_grammar.specs.Grammar.{Production, Syntax}
+use Rattle.cs_grammar.specs.Grammar.{Production, PlainGrammar}
 use Rattle.cs_goals.specs.declared.goal.Goal.{Goal}
 use Rattle.cs_goals.specs.declared.goal.Goal.TheVariants.{Rule, Context, Pair}
 use Rattle.cs_goals.specs.declared.goal.Criteria.{Criteria}
 
 -- the rule goals: the numbers of the rules
-abbrev pub rule_goals : Syntax → List Goal
+abbrev pub rule_goals : PlainGrammar → List Goal
 rule_goals g = map Rule (range_with_len 1 (length g.rules))
 
 -- the rules with their numbers
-abbrev pub numbered_rules : Syntax → List (ℕ × Production)
+abbrev pub numbered_rules : PlainGrammar → List (ℕ × Production)
 numbered_rules g = enumerate_from 1 g.rules
 
 -- the numbers of those that have this nonterminal on their left sides
@@ -24,16 +24,16 @@ rules_of rules n = map (λ (r : ℕ × Production). r.0) (filter (λ (r : ℕ ×
 
 -- the context goals of rule p at a place of its right side: none where a token stands there, else one for each rule of
 -- the nonterminal
-abbrev pub goals_at : Syntax → ℕ → ℕ × Symbol → List Goal
+abbrev pub goals_at : PlainGrammar → ℕ → ℕ × Symbol → List Goal
 goals_at g p (i, OfToken t) = []
 goals_at g p (i, Nonterminal n) = map (Context p i) (rules_of (numbered_rules g) n)
 
 -- the context goals of a rule at all places of its right side
-abbrev pub goals_in : Syntax → ℕ × Production → List Goal
+abbrev pub goals_in : PlainGrammar → ℕ × Production → List Goal
 goals_in g (p, rule) = flat_map (goals_at g p) (enumerate_from 1 rule.right)
 
 -- the context goals: by outer rule, place and inner rule
-abbrev pub context_goals : Syntax → List Goal
+abbrev pub context_goals : PlainGrammar → List Goal
 context_goals g = flat_map (goals_in g) (numbered_rules g)
 
 -- the tokens as marks
@@ -53,10 +53,10 @@ abbrev pub goals_after : ℕ → Mark → List Goal
 goals_after tokens a = map (Pair a) (right_marks tokens)
 
 -- the pair goals: by left mark and right mark
-abbrev pub pair_goals : Syntax → List Goal
+abbrev pub pair_goals : PlainGrammar → List Goal
 pair_goals g = flat_map (goals_after g.tokens) (left_marks g.tokens)
 
 -- the goals of the chosen criteria
-abbrev pub goals : Syntax → Criteria → List Goal
+abbrev pub goals : PlainGrammar → Criteria → List Goal
 goals g c =
     (if c.rule then rule_goals g else []) ++ (if c.cdrc then context_goals g else []) ++ (if c.pair then pair_goals g else [])

@@ -2,7 +2,7 @@
 -- rule coverage (Lämmel 2001, "Grammar Testing"), and pairs of neighbours in the framed yield.
 use Rattle.std.specs.Prelude.{◌≡◌, ℕ, ◌-◌, ◌<◌, ◌⊎◌, List, [], ◌∷◌, Some, slice_get}
 use Rattle.cs_grammar.specs.declared.symbol.Symbol.TheVariants.{Nonterminal}
-use Rattle.cs_grammar.specs.Grammar.{Syntax}
+use Rattle.cs_grammar.specs.Grammar.{PlainGrammar}
 use Rattle.cs_grammar.specs.Tree.{Tree, Leaf, Node, Forest, Bare, Grown, IsTree, code, yield}
 use Rattle.cs_grammar.specs.Sentence.{framed, IsFollowed}
 use Rattle.cs_grammar.specs.Uses.{UsesRule}
@@ -37,7 +37,7 @@ Meets (Context p i q) t = UsesRuleIn p i q t
 Meets (Pair a b) t = IsFollowed a b (framed (yield t))
 
 -- the rule numbers are the code of a tree of the start symbol that meets the goal
-pub record IsMeeting (g : Syntax) (goal : Goal) (rules : List ℕ) : Type 0 where
+pub record IsMeeting (g : PlainGrammar) (goal : Goal) (rules : List ℕ) : Type 0 where
   pub tree : Tree
   pub is_tree : IsTree g (Nonterminal g.start) tree
   pub code : rules ≡ code tree

@@ -4,29 +4,29 @@ use Rattle.std.specs.List.{flat_map, enumerate_from, range_with_len}
 use Rattle.cs_grammar.specs.declared.symbol.Symbol.{Symbol}
 use Rattle.cs_grammar.specs.declared.symbol.Symbol.TheVariants.{Token, Nonterminal}
 use Rattle.cs_grammar.specs.declared.symbol.Mark.{Mark}
-use Rattle.cs_grammar.specs.Grammar.{Production, Syntax}
+use Rattle.cs_grammar.specs.Grammar.{Production, PlainGrammar}
 use Rattle.cs_goals.specs.declared.goal.Goal.{Goal}
 use Rattle.cs_goals.specs.declared.goal.Goal.TheVariants.{Rule, Context, Pair}
 use Rattle.cs_goals.specs.Goals.{numbered_rules, rules_of, goals_at, goals_in, left_marks, right_marks, goals_after}
 
 -- the rule goals behind the first n
-abbrev pub rules_left : Syntax → ℕ → List Goal
+abbrev pub rules_left : PlainGrammar → ℕ → List Goal
 rules_left g n = drop n (map Rule (range_with_len 1 (length g.rules)))
 
 -- the context goals of rule p at these places, without those of the first q rules at the first of them
-abbrev pub places_left : Syntax → ℕ → List (ℕ × Symbol) → ℕ → List Goal
+abbrev pub places_left : PlainGrammar → ℕ → List (ℕ × Symbol) → ℕ → List Goal
 places_left g p [] q = []
 places_left g p ((i, Token t) ∷ places) q = flat_map (goals_at g p) places
 places_left g p ((i, Nonterminal n) ∷ places) q =
     map (Context p i) (rules_of (drop q (numbered_rules g)) n) ++ flat_map (goals_at g p) places
 
 -- the context goals of these rules, from place i of the first of them on, without those of the first q rules there
-abbrev pub outers_left : Syntax → List (ℕ × Production) → ℕ → ℕ → List Goal
+abbrev pub outers_left : PlainGrammar → List (ℕ × Production) → ℕ → ℕ → List Goal
 outers_left g [] i q = []
 outers_left g ((p, rule) ∷ rules) i q = places_left g p (drop i (enumerate_from 1 rule.right)) q ++ flat_map (goals_in g) rules
 
 -- the context goals behind the first p rules, the first i places and the first q rules there
-abbrev pub contexts_left : Syntax → ℕ → ℕ → ℕ → List Goal
+abbrev pub contexts_left : PlainGrammar → ℕ → ℕ → ℕ → List Goal
 contexts_left g p i q = outers_left g (drop p (numbered_rules g)) i q
 
 -- the pair goals of these left marks, without those of the first b right marks at the first of them

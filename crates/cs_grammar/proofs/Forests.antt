@@ -1,11 +1,11 @@
 -- Lists of trees, one after another.
 use Rattle.std.proofs.Common.{◌≡◌, ℕ, ◌+◌, List, [], ◌∷◌, ◌++◌, refl, sym, ap, ◌∙◌, arith, append_assoc}
 use Rattle.cs_grammar.specs.declared.symbol.Symbol.{Symbol}
-use Rattle.cs_grammar.specs.Grammar.{Syntax}
+use Rattle.cs_grammar.specs.Grammar.{PlainGrammar}
 use Rattle.cs_grammar.specs.Tree.{Forest, Bare, Grown, AreTrees, sizes, code, codes_of, yield, yields}
 use Rattle.cs_grammar.specs.Context.{join}
 
-pub AreTrees-join : (g : Syntax) (f h : Forest) (xs ys : List Symbol) → AreTrees g xs f → AreTrees g ys h → AreTrees g (xs ++ ys) (join f h)
+pub AreTrees-join : (g : PlainGrammar) (f h : Forest) (xs ys : List Symbol) → AreTrees g xs f → AreTrees g ys h → AreTrees g (xs ++ ys) (join f h)
 AreTrees-join g Bare h [] ys hf hh = hh
 AreTrees-join g Bare h (x ∷ xs) ys hf hh = absurd hf
 AreTrees-join g (Grown t f) h [] ys hf hh = absurd hf

@@ -2,13 +2,13 @@
 use Rattle.std.proofs.Common.{◌≡◌, ℕ, ◌+◌, List, [], ◌∷◌, ◌++◌, refl, sym, ap, ◌∙◌, subst, ⊎_elim, arith, append_assoc, append-nil, inl, inr}
 use Rattle.cs_grammar.specs.declared.symbol.Symbol.{Symbol}
 use Rattle.cs_grammar.specs.declared.symbol.Symbol.TheVariants.{Nonterminal}
-use Rattle.cs_grammar.specs.Grammar.{Production, Syntax, IsRule}
+use Rattle.cs_grammar.specs.Grammar.{Production, PlainGrammar, IsRule}
 use Rattle.cs_grammar.specs.Tree.{Tree, Leaf, Node, Forest, Bare, Grown, IsTree, AreTrees, size, sizes, code}
 use Rattle.cs_grammar.specs.Context.{Context, Hole, Under, IsContext, context_size, code_before, code_after, join, plug}
 use Rattle.cs_grammar.specs.Uses.{UsesRule, SomeUsesRule}
 use Rattle.cs_grammar.proofs.Forests.{AreTrees-join, sizes-join, codes_of-join}
 
-pub IsTree-plug : (g : Syntax) (c : Context) (b : Symbol) (t : Tree) → IsContext g b c → IsTree g b t → IsTree g (Nonterminal g.start) (plug c t)
+pub IsTree-plug : (g : PlainGrammar) (c : Context) (b : Symbol) (t : Tree) → IsContext g b c → IsTree g b t → IsTree g (Nonterminal g.start) (plug c t)
 IsTree-plug g Hole b t hc ht = subst (λ x. IsTree g x t) hc ht
 IsTree-plug g (Under outer r left right) b t hc ht =
     let trees = AreTrees-join g left (Grown t right) hc.1 (b ∷ hc.2) hc.5 (ht, hc.6) in
@@ -28,7 +28,7 @@ code-plug (Under outer r left right) t =
     ∙ simp append_assoc
 
 -- A tree in a context with a rule in it is a node of that rule in another context.
-pub record Found (g : Syntax) (r n : ℕ) : Type 0 where
+pub record Found (g : PlainGrammar) (r n : ℕ) : Type 0 where
   pub rule : Production
   pub children : Forest
   pub context : Context
@@ -37,7 +37,7 @@ pub record Found (g : Syntax) (r n : ℕ) : Type 0 where
   pub around : IsContext g (Nonterminal rule.left) context
   pub measure : context_size context + (1 + sizes children) ≡ n
 
-module _ (g : Syntax) (r : ℕ) where
+module _ (g : PlainGrammar) (r : ℕ) where
   mutual
     pub found : (t : Tree) (x : Symbol) (c : Context) → IsTree g x t → IsContext g x c → UsesRule r t → Found g r (context_size c + size t)
     found (Leaf s) x c ht hc h = absurd h

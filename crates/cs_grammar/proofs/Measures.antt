@@ -5,7 +5,7 @@ use Rattle.std.proofs.lemmas.List.Elements.{All-append, All-nil, All-cons, All-h
 use Rattle.std.proofs.lemmas.Option.{slice_get_within, get_or_from_slice_get}
 use Rattle.cs_grammar.specs.declared.symbol.Symbol.{Symbol}
 use Rattle.cs_grammar.specs.declared.symbol.Symbol.TheVariants.{Nonterminal}
-use Rattle.cs_grammar.specs.Grammar.{Production, Syntax, IsRule, IsNumberOf, IsSymbol, IsRuleOf, IsGrammar}
+use Rattle.cs_grammar.specs.Grammar.{Production, PlainGrammar, IsRule, IsNumberOf, IsSymbol, IsRuleOf, IsGrammar}
 use Rattle.cs_grammar.specs.Leftmost.{IsYield}
 use Rattle.cs_grammar.specs.Tree.{Tree, Leaf, Node, Forest, Bare, Grown, IsTree, AreTrees, size, sizes, code, codes_of, yield, yields}
 
@@ -24,11 +24,11 @@ pub All-at : {A : Type 0} (P : A → Type 0) (xs : List A) (k : ℕ) (x : A) →
 All-at P xs k x all at = subst P (get_or_from_slice_get xs k x x at) (all k x (slice_get_within xs k x at))
 
 -- a rule of a well-formed grammar is of its tokens and nonterminals
-pub IsRuleOf-rule : (g : Syntax) (r : ℕ) (p : Production) → IsGrammar g → IsRule g r p → IsRuleOf g.tokens g.nonterminals p
+pub IsRuleOf-rule : (g : PlainGrammar) (r : ℕ) (p : Production) → IsGrammar g → IsRule g r p → IsRuleOf g.tokens g.nonterminals p
 IsRuleOf-rule g r p well rule = All-at (IsRuleOf g.tokens g.nonterminals) g.rules (r - 1) p well.rules rule.at
 
 -- the tokens of a yield are tokens of the grammar
-module _ (g : Syntax) (well : IsGrammar g) where
+module _ (g : PlainGrammar) (well : IsGrammar g) where
   mutual
     pub IsNumberOf-yield : (t : Tree) (x : Symbol) → IsTree g x t → IsSymbol g.tokens g.nonterminals x → All (IsNumberOf g.tokens) (yield t)
     IsNumberOf-yield (Leaf s) x h within =

@@ -2,7 +2,7 @@
 use Rattle.std.specs.Prelude.{◌≡◌, ℕ, ◌+◌, List, [], ◌∷◌, ◌++◌}
 use Rattle.cs_grammar.specs.declared.symbol.Symbol.{Symbol}
 use Rattle.cs_grammar.specs.declared.symbol.Symbol.TheVariants.{Nonterminal}
-use Rattle.cs_grammar.specs.Grammar.{Production, Syntax, IsRule}
+use Rattle.cs_grammar.specs.Grammar.{Production, PlainGrammar, IsRule}
 use Rattle.cs_grammar.specs.Tree.{Tree, Node, Forest, Bare, Grown, AreTrees, sizes, codes_of}
 
 -- Read from the hole to the root: the hole alone, or the hole as a child of a node, between two lists of
@@ -12,7 +12,7 @@ pub data Context : Type 0 where
   Under : (outer : Context) → (rule : ℕ) → (left right : Forest) → Context
 
 -- a context of symbol b
-abbrev pub IsContext : Syntax → Symbol → Context → Type 0
+abbrev pub IsContext : PlainGrammar → Symbol → Context → Type 0
 IsContext g b Hole = b ≡ Nonterminal g.start
 IsContext g b (Under outer r left right) =
     (p : Production) × (xs : List Symbol) × (ys : List Symbol) × IsRule g r p × (p.right ≡ xs ++ b ∷ ys)

@@ -10,19 +10,19 @@ pub record Production : Type 0 where
   pub right : List Symbol
 
 -- a grammar: how many tokens and nonterminals it has, its start symbol and its rules
-pub record Syntax : Type 0 where
+pub record PlainGrammar : Type 0 where
   pub tokens : ℕ
   pub nonterminals : ℕ
   pub start : ℕ
   pub rules : List Production
 
 -- rule r is this one; rules are numbered from 1
-pub record IsRule (g : Syntax) (r : ℕ) (p : Production) : Type 0 where
+pub record IsRule (g : PlainGrammar) (r : ℕ) (p : Production) : Type 0 where
   pub above_zero : 0 < r
   pub at : slice_get g.rules (r - 1) ≡ Some p
 
 -- one of the grammar's rules
-abbrev pub IsSomeRule : Syntax → Production → Type 0
+abbrev pub IsSomeRule : PlainGrammar → Production → Type 0
 IsSomeRule g p = (r : ℕ) × IsRule g r p
 
 -- a number from 1 to the last
@@ -41,7 +41,7 @@ pub record IsRuleOf (tokens nonterminals : ℕ) (p : Production) : Type 0 where
   pub right : All (IsSymbol tokens nonterminals) p.right
 
 -- a grammar is well formed: it is within the limits, and each number that it names is one of its own
-pub record IsGrammar (g : Syntax) : Type 0 where
+pub record IsGrammar (g : PlainGrammar) : Type 0 where
   pub tokens : g.tokens ≤ MOST_TOKENS
   pub nonterminals : g.nonterminals ≤ MOST_NONTERMINALS
   pub few : length g.rules ≤ MOST_RULES

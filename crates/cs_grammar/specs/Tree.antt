@@ -3,7 +3,7 @@
 use Rattle.std.specs.Prelude.{◌≡◌, ℕ, ◌+◌, List, [], ◌∷◌, ◌++◌}
 use Rattle.cs_grammar.specs.declared.symbol.Symbol.{Symbol}
 use Rattle.cs_grammar.specs.declared.symbol.Symbol.TheVariants.{Token, Nonterminal}
-use Rattle.cs_grammar.specs.Grammar.{Production, Syntax, IsRule}
+use Rattle.cs_grammar.specs.Grammar.{Production, PlainGrammar, IsRule}
 
 -- a leaf with a token, or a node with a rule number and a list of trees
 mutual
@@ -19,12 +19,12 @@ mutual
 -- A leaf is a tree of its token. A node of rule r is a tree of r's left side where its children are, in
 -- order, trees of the symbols of r's right side.
 abbrev mutual
-  pub IsTree : Syntax → Symbol → Tree → Type 0
+  pub IsTree : PlainGrammar → Symbol → Tree → Type 0
   IsTree g x (Leaf t) = x ≡ Token t
   IsTree g x (Node r children) =
       (p : Production) × IsRule g r p × (x ≡ Nonterminal p.left) × AreTrees g p.right children
 
-  pub AreTrees : Syntax → List Symbol → Forest → Type 0
+  pub AreTrees : PlainGrammar → List Symbol → Forest → Type 0
   AreTrees g [] Bare = Unit {0}
   AreTrees g (x ∷ xs) (Grown t f) = IsTree g x t × AreTrees g xs f
   AreTrees g [] (Grown t f) = ⊥
@@ -61,5 +61,5 @@ abbrev mutual
   yields (Grown t f) = yield t ++ yields f
 
 -- a derivation of x: the code of a tree of x
-abbrev pub IsDerivation : Syntax → Symbol → List ℕ → Type 0
+abbrev pub IsDerivation : PlainGrammar → Symbol → List ℕ → Type 0
 IsDerivation g x rules = (t : Tree) × IsTree g x t × (rules ≡ code t)

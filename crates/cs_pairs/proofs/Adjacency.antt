@@ -3,7 +3,7 @@ use Rattle.std.proofs.Common.{◌≡◌, ℕ, ◌-◌, List, get_or, refl, sym, 
 use Rattle.cs_grammar.specs.declared.symbol.Symbol.TheVariants.{Nonterminal}
 use Rattle.cs_grammar.specs.declared.symbol.Mark.{Mark}
 use Rattle.cs_grammar.specs.declared.symbol.Mark.TheVariants.{Begin, Token, End}
-use Rattle.cs_grammar.specs.Grammar.{Syntax, IsNumberOf}
+use Rattle.cs_grammar.specs.Grammar.{PlainGrammar, IsNumberOf}
 use Rattle.cs_grammar.specs.Tree.{yield, size}
 use Rattle.cs_grammar.specs.Sentence.{framed, IsFollowed}
 use Rattle.cs_cost.specs.declared.cost.Cost.{Cost}
@@ -18,7 +18,7 @@ use Rattle.cs_pairs.proofs.RowLists.{row_read}
 use Rattle.cs_pairs.proofs.Filling.{entry_read}
 use Rattle.cs_pairs.proofs.Framed.{first_token, token_first, no_token, none_framed, last_token, token_last}
 
-module _ (limit : ℕ) (g : Syntax) where
+module _ (limit : ℕ) (g : PlainGrammar) where
   -- a pair with a mark is a kind of trees of the start symbol
   pub none_pair : (c : Cost) → IsCost limit (IsTreeOfKind g Empty (Nonterminal g.start)) size c → IsCost limit (HasPair g Begin End) size c
   none_pair c h = IsCost-same limit (IsTreeOfKind g Empty (Nonterminal g.start)) (HasPair g Begin End) size size c (λ t is. (t, (is.0, none_framed (yield t) is.1), omega arith)) (λ t is. (t, (is.0, no_token (yield t) is.1), omega arith)) h
@@ -34,9 +34,9 @@ module _ (limit : ℕ) (g : Syntax) where
   of_marks left right a b c is_left is_right h =
       subst (λ m. IsCost limit (HasPair g m right) size c) (sym is_left) (subst (λ m. IsCost limit (HasPair g a m) size c) (sym is_right) h)
 
-  pub row_held : (h : Syntax) (rows : List (List Cost)) (left right : Mark) (a b : ℕ) (held row d : List Cost) → h ≡ g → ArePairRows limit h h.tokens rows → IsLeft g.tokens left → IsRight g.tokens right → left ≡ Token a → right ≡ Token b → held ≡ row → row ≡ get_or rows (b - 1) d → ArePairs limit g b held × IsNumberOf g.tokens a
+  pub row_held : (h : PlainGrammar) (rows : List (List Cost)) (left right : Mark) (a b : ℕ) (held row d : List Cost) → h ≡ g → ArePairRows limit h h.tokens rows → IsLeft g.tokens left → IsRight g.tokens right → left ≡ Token a → right ≡ Token b → held ≡ row → row ≡ get_or rows (b - 1) d → ArePairs limit g b held × IsNumberOf g.tokens a
   row_held h rows left right a b held row d same exact is_left is_right at_left at_right is_held is_row =
-      let exact' = subst (λ (s : Syntax). ArePairRows limit s s.tokens rows) same exact in
+      let exact' = subst (λ (s : PlainGrammar). ArePairRows limit s s.tokens rows) same exact in
       let is_a = subst (IsLeft g.tokens) at_left is_left in
       let is_b = subst (IsRight g.tokens) at_right is_right in
       let there = is_held ∙ row_read rows b row d (subst (λ n. IsNumberOf n b) (sym exact'.many) is_b) is_row in

@@ -8,7 +8,7 @@ use Rattle.std.proofs.lemmas.List.{length-set, length-replicate, length-take-le,
 use Rattle.std.proofs.lemmas.Option.{slice_get_within, slice_get-get_or}
 use Rattle.cs_grammar.specs.declared.symbol.Symbol.{Symbol}
 use Rattle.cs_grammar.specs.declared.symbol.Symbol.TheVariants.{Token, Nonterminal}
-use Rattle.cs_grammar.specs.Grammar.{Production, Syntax, IsRule, IsNumberOf, IsSymbol, IsGrammar}
+use Rattle.cs_grammar.specs.Grammar.{Production, PlainGrammar, IsRule, IsNumberOf, IsSymbol, IsGrammar}
 use Rattle.cs_grammar.specs.Tree.{Forest, AreTrees, sizes, yields}
 use Rattle.cs_grammar.specs.Context.{Context, Under, IsContext, context_size}
 use Rattle.cs_cost.specs.declared.cost.Cost.{Cost}
@@ -46,7 +46,7 @@ module _ (limit : ℕ) where
   lowered_kept : (old : List Cost) (n : ℕ) (c : Cost) → rank limit (entry old n) ≤ rank limit c → IsLowered limit old old n c
   lowered_kept old n c no_less = record { falls = λ m. omega arith; here = no_less }
 
-  module _ (g : Syntax) (b : ℕ) where
+  module _ (g : PlainGrammar) (b : ℕ) where
     pub blank_beside : IsSoundBeside limit g b (replicate (g.tokens + g.nonterminals) Never)
     blank_beside = record {
       many = length-replicate (g.tokens + g.nonterminals) Never;

@@ -1,7 +1,7 @@
 -- A chosen tree of a kind is a least tree of the kind, and there is at most one.
 use Rattle.std.proofs.Common.{◌≡◌, ◌+◌, ◌≤◌, List, [], ◌∷◌, refl, sym, ap, subst, ⊎_elim, inl, arith}
 use Rattle.cs_grammar.specs.declared.symbol.Symbol.{Symbol}
-use Rattle.cs_grammar.specs.Grammar.{Production, Syntax}
+use Rattle.cs_grammar.specs.Grammar.{Production, PlainGrammar}
 use Rattle.cs_grammar.specs.Tree.{Tree, Leaf, Node, Forest, Bare, Grown, size, sizes, yield, yields}
 use Rattle.cs_grammar.proofs.OneTree.{one_rule}
 use Rattle.cs_cost.specs.Chosen.{IsChosen, AreChosen}
@@ -14,7 +14,7 @@ use Rattle.cs_pairs.specs.ChosenKind.{IsChosenOfKind, AreChosenOfKind}
 use Rattle.cs_pairs.proofs.Joined.{joined_here, joined_later}
 use Rattle.cs_pairs.proofs.Sweeping.{one_way}
 
-module _ (g : Syntax) where
+module _ (g : PlainGrammar) where
   mutual
     pub IsTree-of_kind : (t : Tree) (k : Kind) (x : Symbol) → IsChosenOfKind g k x t → IsTreeOfKind g k x t
     IsTree-of_kind (Leaf s) k x h = h

@@ -3,7 +3,7 @@ use Rattle.std.proofs.Common.{◌≡◌, ℕ, ◌≤◌, sym, subst, arith}
 use Rattle.cs_grammar.specs.declared.symbol.Symbol.TheVariants.{Nonterminal}
 use Rattle.cs_grammar.specs.declared.symbol.Mark.{Mark}
 use Rattle.cs_grammar.specs.declared.symbol.Mark.TheVariants.{Begin, Token, End}
-use Rattle.cs_grammar.specs.Grammar.{Syntax}
+use Rattle.cs_grammar.specs.Grammar.{PlainGrammar}
 use Rattle.cs_grammar.specs.Tree.{Tree, size, yield}
 use Rattle.cs_grammar.specs.Context.{Under, plug}
 use Rattle.cs_goals.specs.Goal.{IsLeft, IsRight}
@@ -16,7 +16,7 @@ use Rattle.cs_pairs.proofs.ChosenKinds.{IsTree-of_kind, of_kind_least, one_of_ki
 use Rattle.cs_pairs.proofs.KindsSettled.{of_kind_exists}
 use Rattle.cs_pairs.proofs.ChosenSeams.{seam_of, one_seam, seam_exists}
 
-module _ (g : Syntax) where
+module _ (g : PlainGrammar) where
   pub one_pair : (a b : Mark) (t u : Tree) → IsChosenPair g a b t → IsChosenPair g a b u → t ≡ u
   one_pair Begin Begin t u ht hu = absurd ht
   one_pair Begin (Token b) t u ht hu = one_of_kind g t u (Begins b) (Nonterminal g.start) ht hu

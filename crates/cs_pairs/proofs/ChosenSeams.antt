@@ -6,7 +6,7 @@ use Rattle.std.proofs.lemmas.List.{length-take-le, length-append}
 use Rattle.std.proofs.lemmas.Option.{slice_get_within, slice_get-get_or}
 use Rattle.cs_grammar.specs.declared.symbol.Symbol.{Symbol}
 use Rattle.cs_grammar.specs.declared.symbol.Symbol.TheVariants.{Token, Nonterminal}
-use Rattle.cs_grammar.specs.Grammar.{Production, Syntax, IsRule}
+use Rattle.cs_grammar.specs.Grammar.{Production, PlainGrammar, IsRule}
 use Rattle.cs_grammar.specs.Tree.{Tree, Forest, AreTrees, size}
 use Rattle.cs_grammar.specs.Context.{Context, Hole, Under, IsContext, plug}
 use Rattle.cs_grammar.proofs.OneTree.{one_rule}
@@ -26,7 +26,7 @@ use Rattle.cs_pairs.proofs.ChosenKinds.{IsTree-of_kind, AreTrees-of_kind, of_kin
 use Rattle.cs_pairs.proofs.FirstLeast.{IsSettledAt, FirstLeast, first_least}
 use Rattle.cs_pairs.proofs.KindsSettled.{settled, list_settled}
 
-module _ (g : Syntax) (a b : ℕ) where
+module _ (g : PlainGrammar) (a b : ℕ) where
   -- the seam of a chosen tree
   pub seam_of : (t : Tree) → (c : IsChosenSeam g a b t) → IsSeam g a b c.symbol (Under c.outer c.number c.left c.right, c.last)
   seam_of t c =

@@ -5,7 +5,7 @@ use Rattle.cs_grammar.specs.declared.symbol.Symbol.{Symbol}
 use Rattle.cs_grammar.specs.declared.symbol.Symbol.TheVariants.{Nonterminal}
 use Rattle.cs_grammar.specs.declared.symbol.Mark.{Mark}
 use Rattle.cs_grammar.specs.declared.symbol.Mark.TheVariants.{Begin, Token, End}
-use Rattle.cs_grammar.specs.Grammar.{Syntax}
+use Rattle.cs_grammar.specs.Grammar.{PlainGrammar}
 use Rattle.cs_grammar.specs.Tree.{Tree, size, yield}
 use Rattle.cs_grammar.specs.Context.{Context}
 use Rattle.cs_cost.specs.declared.cost.Cost.{Cost}
@@ -26,7 +26,7 @@ use Rattle.cs_pairs.proofs.ChosenSeams.{seam_exists}
 use Rattle.cs_pairs.proofs.ChosenPairs.{pair_has, pair_least}
 use Rattle.cs_pairs.proofs.Laying.{chosen_meeting}
 
-module _ (g : Syntax) where
+module _ (g : PlainGrammar) where
   -- the start symbol has a small tree of the kind
   pub first_small : (left right : Mark) (b : ℕ) → left ≡ Begin → right ≡ Token b → HasLeastPair g left right → HasSmallOfKind g (Begins b) (Nonterminal g.start)
   first_small Begin (Token c) b is_left is_right h =

@@ -6,7 +6,7 @@ use Rattle.std.proofs.lemmas.Option.{slice_get_within}
 use Rattle.cs_grammar.specs.declared.TheConstants.{MOST_TOKENS, MOST_NONTERMINALS}
 use Rattle.cs_grammar.specs.declared.symbol.Symbol.{Symbol}
 use Rattle.cs_grammar.specs.declared.symbol.Symbol.TheVariants.{Token, Nonterminal}
-use Rattle.cs_grammar.specs.Grammar.{Production, Syntax, IsRule, IsRuleOf, IsSomeRule, IsNumberOf, IsSymbol, IsGrammar}
+use Rattle.cs_grammar.specs.Grammar.{Production, PlainGrammar, IsRule, IsRuleOf, IsSomeRule, IsNumberOf, IsSymbol, IsGrammar}
 use Rattle.cs_grammar.specs.Tree.{Tree, Forest, Bare, Grown, IsTree, AreTrees, size, sizes}
 use Rattle.cs_grammar.specs.Context.{Context, context_size, join}
 use Rattle.cs_grammar.proofs.Forests.{AreTrees-join, sizes-join}
@@ -23,11 +23,11 @@ use Rattle.cs_pairs.proofs.RowLists.{row_read}
 use Rattle.cs_pairs.proofs.Filling.{filled_more, entry_next}
 
 -- some rule of a grammar is well formed
-pub some_rule : (g : Syntax) (p : Production) → IsGrammar g → IsSomeRule g p → IsRuleOf g.tokens g.nonterminals p
+pub some_rule : (g : PlainGrammar) (p : Production) → IsGrammar g → IsSomeRule g p → IsRuleOf g.tokens g.nonterminals p
 some_rule g p grammar rule = well_formed_at g (rule.0 - 1) p grammar rule.1.at
 
 -- the last of some trees apart
-pub last_apart : (g : Syntax) (xs : List Symbol) (x : Symbol) (f : Forest) → AreTrees g (xs ++ x ∷ []) f → (h : Forest) × (t : Tree) × AreTrees g xs h × IsTree g x t × (sizes h + size t ≡ sizes f)
+pub last_apart : (g : PlainGrammar) (xs : List Symbol) (x : Symbol) (f : Forest) → AreTrees g (xs ++ x ∷ []) f → (h : Forest) × (t : Tree) × AreTrees g xs h × IsTree g x t × (sizes h + size t ≡ sizes f)
 last_apart g [] x Bare is = absurd is
 last_apart g [] x (Grown t Bare) is = (Bare, t, tt, is.0, omega arith)
 last_apart g [] x (Grown t (Grown u f)) is = absurd is.1
@@ -36,7 +36,7 @@ last_apart g (y ∷ xs) x (Grown t f) is =
     let others = last_apart g xs x f is.1 in
     (Grown t others.0, others.1, (is.0, others.2), others.3, omega (arith, others.4))
 
-module _ (limit : ℕ) (g : Syntax) (left : ℕ) where
+module _ (limit : ℕ) (g : PlainGrammar) (left : ℕ) where
   pub front_first : (b : Cost) → IsCost limit (IsContextOf g left) context_size b → IsCost limit (AreFront g left []) front_size (plus limit (cost_of limit 1) b)
   front_first b h =
       IsCost-same limit (IsContextOf g left) (AreFront g left []) (λ c. 1 + context_size c) front_size (plus limit (cost_of limit 1) b)
@@ -67,21 +67,21 @@ module _ (limit : ℕ) (g : Syntax) (left : ℕ) where
       (subst (λ (l : List Symbol). IsCost limit (AreFront g left l) front_size (plus limit a c)) next (front_next (take i right) x a c front here))
 
 -- one more front
-pub fronts_more : (limit : ℕ) (g : Syntax) (p : Production) (i : ℕ) (row : List Cost) (a : Cost) → IsFilled limit (λ n. AreFront g p.left (take (n - 1) p.right)) front_size i row → IsCost limit (AreFront g p.left (take i p.right)) front_size a → IsFilled limit (λ n. AreFront g p.left (take (n - 1) p.right)) front_size (i + 1) (row ++ a ∷ [])
+pub fronts_more : (limit : ℕ) (g : PlainGrammar) (p : Production) (i : ℕ) (row : List Cost) (a : Cost) → IsFilled limit (λ n. AreFront g p.left (take (n - 1) p.right)) front_size i row → IsCost limit (AreFront g p.left (take i p.right)) front_size a → IsFilled limit (λ n. AreFront g p.left (take (n - 1) p.right)) front_size (i + 1) (row ++ a ∷ [])
 fronts_more limit g p i row a so_far here =
     let place : i ≡ i + 1 - 1 = omega arith in
     filled_more limit (λ n. AreFront g p.left (take (n - 1) p.right)) front_size i row a so_far
     (subst (λ k. IsCost limit (AreFront g p.left (take k p.right)) front_size a) place here)
 
 -- what is right of one rule and its number is right of the rule at an index
-pub fronts_at : (limit : ℕ) (g : Syntax) (i : ℕ) (q : Production) (row : List Cost) → slice_get g.rules i ≡ Some q → AreFronts limit g q row → AreFrontsOf limit g (i + 1) row
+pub fronts_at : (limit : ℕ) (g : PlainGrammar) (i : ℕ) (q : Production) (row : List Cost) → slice_get g.rules i ≡ Some q → AreFronts limit g q row → AreFrontsOf limit g (i + 1) row
 fronts_at limit g i q row at fronts = λ p rule.
     let there : slice_get g.rules i ≡ Some p = (let e : i + 1 - 1 ≡ i = omega arith in subst (λ k. slice_get g.rules k ≡ Some p) e rule.at) in
     let same : q ≡ p = cc in
     subst (λ (o : Production). AreFronts limit g o row) same fronts
 
 -- the fronts of all rules
-pub fronts_all : (limit : ℕ) (g : Syntax) (items : List Production) (rows : List (List Cost)) (i : ℕ) → items ≡ g.rules → length items ≤ i → i ≤ length items → length rows ≡ i → ((n : ℕ) → IsNumberOf i n → AreFrontsOf limit g n (row_in rows n)) → AreRuleFronts limit g rows
+pub fronts_all : (limit : ℕ) (g : PlainGrammar) (items : List Production) (rows : List (List Cost)) (i : ℕ) → items ≡ g.rules → length items ≤ i → i ≤ length items → length rows ≡ i → ((n : ℕ) → IsNumberOf i n → AreFrontsOf limit g n (row_in rows n)) → AreRuleFronts limit g rows
 fronts_all limit g items rows i same all within many each = record {
   many = (let e = ap (λ (l : List Production). length l) same in omega (arith, e, all, within, many));
   each = λ r p rule.
@@ -91,7 +91,7 @@ fronts_all limit g items rows i same all within many each = record {
 }
 
 -- the front at an index
-pub front_at : (limit : ℕ) (g : Syntax) (p : Production) (fronts : List Cost) → AreFronts limit g p fronts → (i : ℕ) → i < length p.right → (front d : Cost) → front ≡ get_or fronts i d → IsCost limit (AreFront g p.left (take i p.right)) front_size front
+pub front_at : (limit : ℕ) (g : PlainGrammar) (p : Production) (fronts : List Cost) → AreFronts limit g p fronts → (i : ℕ) → i < length p.right → (front d : Cost) → front ≡ get_or fronts i d → IsCost limit (AreFront g p.left (take i p.right)) front_size front
 front_at limit g p fronts are i within front d is_front =
     let place : i + 1 - 1 ≡ i = omega arith in
     let here = are.exact (i + 1) (omega arith, omega (arith, within)) in
@@ -100,12 +100,12 @@ front_at limit g p fronts are i within front d is_front =
     (subst (IsCost limit (AreFront g p.left (take (i + 1 - 1) p.right)) front_size) at here)
 
 -- a symbol of a grammar is one within the limits
-pub wide_symbol : (g : Syntax) (x : Symbol) → IsGrammar g → IsSymbol g.tokens g.nonterminals x → IsSymbol MOST_TOKENS MOST_NONTERMINALS x
+pub wide_symbol : (g : PlainGrammar) (x : Symbol) → IsGrammar g → IsSymbol g.tokens g.nonterminals x → IsSymbol MOST_TOKENS MOST_NONTERMINALS x
 wide_symbol g (Token t) grammar h = (h.0, omega (arith, h, grammar.tokens))
 wide_symbol g (Nonterminal n) grammar h = (h.0, omega (arith, h, grammar.nonterminals))
 
 -- the fronts of the rule at an index
-pub fronts_read : (limit : ℕ) (g : Syntax) (rows : List (List Cost)) (i : ℕ) (q : Production) (held row d : List Cost) → AreRuleFronts limit g rows → IsRule g (i + 1) q → held ≡ row → row ≡ get_or rows i d → AreFronts limit g q held
+pub fronts_read : (limit : ℕ) (g : PlainGrammar) (rows : List (List Cost)) (i : ℕ) (q : Production) (held row d : List Cost) → AreRuleFronts limit g rows → IsRule g (i + 1) q → held ≡ row → row ≡ get_or rows i d → AreFronts limit g q held
 fronts_read limit g rows i q held row d are rule is_held is_row =
     let place : i ≡ i + 1 - 1 = omega arith in
     let last = slice_get_within g.rules (i + 1 - 1) q rule.at in

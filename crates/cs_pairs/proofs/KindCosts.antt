@@ -2,7 +2,7 @@
 use Rattle.std.proofs.Common.{◌≡◌, ℕ, ◌+◌, ◌-◌, ◌≤◌, List, [], ◌∷◌, ◌++◌, get_or, refl, ap, sym, ◌∙◌, subst, ⊎_elim, inl, inr, arith}
 use Rattle.cs_grammar.specs.declared.symbol.Symbol.{Symbol}
 use Rattle.cs_grammar.specs.declared.symbol.Symbol.TheVariants.{Token, Nonterminal}
-use Rattle.cs_grammar.specs.Grammar.{Production, Syntax, IsRule, IsNumberOf, IsSymbol, IsGrammar}
+use Rattle.cs_grammar.specs.Grammar.{Production, PlainGrammar, IsRule, IsNumberOf, IsSymbol, IsGrammar}
 use Rattle.cs_grammar.specs.Tree.{Tree, Leaf, Node, IsTree, size}
 use Rattle.cs_cost.specs.declared.cost.Cost.{Cost}
 use Rattle.cs_cost.specs.Least.{IsCost}
@@ -35,7 +35,7 @@ list_same limit f h k same (x ∷ xs) =
     ∙ ap (λ c. lesser limit (plus limit (h k x) (list_cost limit h (behind k) xs)) (plus limit c (list_cost limit f k xs))) other
     ∙ ap (λ c. lesser limit (plus limit (h k x) (list_cost limit h (behind k) xs)) (plus limit (h (before k) x) c)) whole
 
-module _ (limit : ℕ) (g : Syntax) (t : Tables) (exact : AreExactTables limit g t) where
+module _ (limit : ℕ) (g : PlainGrammar) (t : Tables) (exact : AreExactTables limit g t) where
   pub exact_row : (k : Kind) → IsKind g.tokens k → IsExactRow limit g k t.any t.empty (row_of t k)
   exact_row Any fits = exact.any_exact
   exact_row Empty fits = exact.empty_exact
@@ -76,7 +76,7 @@ module _ (limit : ℕ) (g : Syntax) (t : Tables) (exact : AreExactTables limit g
   row_costs k fits = record { many = (exact_row k fits).sound.many; exact = λ n. told_exact k fits (Nonterminal n) }
 
 -- a leaf costs what is said of it
-pub leaf_exact : (limit : ℕ) (g : Syntax) (k : Kind) (s : ℕ) → IsCost limit (IsTreeOfKind g k (Token s)) size (leaf_cost limit k s)
+pub leaf_exact : (limit : ℕ) (g : PlainGrammar) (k : Kind) (s : ℕ) → IsCost limit (IsTreeOfKind g k (Token s)) size (leaf_cost limit k s)
 leaf_exact limit g k s = IsCost-from limit (IsTreeOfKind g k (Token s)) size (leaf_cost limit k s) (IsCapped-leaf limit k s) (leaf_reached limit g k s) low
   where
     low : (u : Tree) → IsTreeOfKind g k (Token s) u → rank limit (leaf_cost limit k s) ≤ capped limit (size u)
@@ -84,14 +84,14 @@ leaf_exact limit g k s = IsCost-from limit (IsTreeOfKind g k (Token s)) size (le
     low (Node r f) h = let e = h.0.2 in absurd cc
 
 -- a nonterminal with a tree is one of the grammar
-number_of_tree : (g : Syntax) (n : ℕ) (t : Tree) → IsGrammar g → IsTree g (Nonterminal n) t → IsNumberOf g.nonterminals n
+number_of_tree : (g : PlainGrammar) (n : ℕ) (t : Tree) → IsGrammar g → IsTree g (Nonterminal n) t → IsNumberOf g.nonterminals n
 number_of_tree g n (Leaf s) grammar h = absurd cc
 number_of_tree g n (Node r f) grammar h =
     let same : n ≡ h.0.left = (let e = h.2 in cc) in
     subst (IsNumberOf g.nonterminals) (sym same) (well_formed_at g (r - 1) h.0 grammar h.1.at).left
 
 -- the row of any trees, filled from what each nonterminal's least tree costs
-pub any_costs : (limit : ℕ) (g : Syntax) (row : List Cost) → IsGrammar g → IsFilled limit (λ n. IsTreeOfKind g Any (Nonterminal n)) size g.nonterminals row → AreCosts limit g Any row
+pub any_costs : (limit : ℕ) (g : PlainGrammar) (row : List Cost) → IsGrammar g → IsFilled limit (λ n. IsTreeOfKind g Any (Nonterminal n)) size g.nonterminals row → AreCosts limit g Any row
 any_costs limit g row grammar filled = record {
   many = filled.many;
   exact = λ n. exact_entry limit (λ m. IsTreeOfKind g Any (Nonterminal m)) size row (Holds-filled limit (λ m. IsTreeOfKind g Any (Nonterminal m)) size g.nonterminals row filled) (record {
@@ -100,18 +100,18 @@ any_costs limit g row grammar filled = record {
 }
 
 -- any tree is of the kind of any trees
-pub of_any : (limit : ℕ) (g : Syntax) (x : Symbol) (c : Cost) → IsCost limit (IsTree g x) size c → IsCost limit (IsTreeOfKind g Any x) size c
+pub of_any : (limit : ℕ) (g : PlainGrammar) (x : Symbol) (c : Cost) → IsCost limit (IsTree g x) size c → IsCost limit (IsTreeOfKind g Any x) size c
 of_any limit g x c h = IsCost-same limit (IsTree g x) (IsTreeOfKind g Any x) size size c (λ t is. (t, (is, tt), omega arith)) (λ t is. (t, is.0, omega arith)) h
 
 -- a row of costs is sound
-pub sound_costs : (limit : ℕ) (g : Syntax) (k : Kind) (row : List Cost) → AreCosts limit g k row → IsSoundRow limit g k row
+pub sound_costs : (limit : ℕ) (g : PlainGrammar) (k : Kind) (row : List Cost) → AreCosts limit g k row → IsSoundRow limit g k row
 sound_costs limit g k row costs = record {
   many = costs.many;
   holds = Holds-filled limit (λ n. IsTreeOfKind g k (Nonterminal n)) size g.nonterminals row (record { many = costs.many; exact = λ n h. costs.exact n });
 }
 
 -- and closed
-pub exact_costs : (limit : ℕ) (g : Syntax) (any empty : List Cost) → AreCosts limit g Any any → IsSoundRow limit g Empty empty → IsExactRow limit g Any any empty any
+pub exact_costs : (limit : ℕ) (g : PlainGrammar) (any empty : List Cost) → AreCosts limit g Any any → IsSoundRow limit g Empty empty → IsExactRow limit g Any any empty any
 exact_costs limit g any empty costs is_empty =
     let sound = sound_costs limit g Any any costs in
     record {
@@ -120,7 +120,7 @@ exact_costs limit g any empty costs is_empty =
     }
 
 -- the row of empty yields is made of no other such row
-pub exact_empty : (limit : ℕ) (g : Syntax) (any blank own : List Cost) → IsExactRow limit g Empty any blank own → IsExactRow limit g Empty any own own
+pub exact_empty : (limit : ℕ) (g : PlainGrammar) (any blank own : List Cost) → IsExactRow limit g Empty any blank own → IsExactRow limit g Empty any own own
 exact_empty limit g any blank own exact = record {
   sound = exact.sound;
   closed = record { below = λ r p rule. below r p rule };
@@ -138,33 +138,33 @@ exact_empty limit g any blank own exact = record {
         omega (arith, exact.closed.below r p rule, ap (λ c. rank limit (plus limit (cost_of limit 1) c)) is)
 
 -- in the names of the code
-module _ (limit : ℕ) (h g : Syntax) (t : Tables) (k : Kind) (same : h ≡ g) (exact : AreExactTables limit h t) (fits : IsKind g.tokens k) where
+module _ (limit : ℕ) (h g : PlainGrammar) (t : Tables) (k : Kind) (same : h ≡ g) (exact : AreExactTables limit h t) (fits : IsKind g.tokens k) where
   pub costs_held : (j : Kind) (row : List Cost) → k ≡ j → row ≡ row_of t j → AreCosts limit g k row
   costs_held j row is_k is_row =
-      let fits' = subst (λ (s : Syntax). IsKind s.tokens k) (sym same) fits in
+      let fits' = subst (λ (s : PlainGrammar). IsKind s.tokens k) (sym same) fits in
       let held : row ≡ row_of t k = is_row ∙ ap (row_of t) (sym is_k) in
-      subst (λ (s : Syntax). AreCosts limit s k row) same (subst (AreCosts limit h k) (sym held) (row_costs limit h t exact k fits'))
+      subst (λ (s : PlainGrammar). AreCosts limit s k row) same (subst (AreCosts limit h k) (sym held) (row_costs limit h t exact k fits'))
 
   pub begins_held : (b : ℕ) (row d : List Cost) → k ≡ Begins b → row ≡ get_or t.begins (b - 1) d → AreCosts limit g k row
   begins_held b row d is_k is_row =
       let number = subst (IsKind g.tokens) is_k fits in
-      let many = exact.begins_exact.many ∙ ap (λ (s : Syntax). s.tokens) same in
+      let many = exact.begins_exact.many ∙ ap (λ (s : PlainGrammar). s.tokens) same in
       costs_held (Begins b) row is_k (row_read t.begins b row d (subst (λ m. IsNumberOf m b) (sym many) number) is_row)
 
   pub ends_held : (a : ℕ) (row d : List Cost) → k ≡ Ends a → row ≡ get_or t.ends (a - 1) d → AreCosts limit g k row
   ends_held a row d is_k is_row =
       let number = subst (IsKind g.tokens) is_k fits in
-      let many = exact.ends_exact.many ∙ ap (λ (s : Syntax). s.tokens) same in
+      let many = exact.ends_exact.many ∙ ap (λ (s : PlainGrammar). s.tokens) same in
       costs_held (Ends a) row is_k (row_read t.ends a row d (subst (λ m. IsNumberOf m a) (sym many) number) is_row)
 
-pub symbol_told : (limit : ℕ) (g : Syntax) (k : Kind) (x : Symbol) (n : ℕ) (row : List Cost) (d : Cost) → x ≡ Nonterminal n → IsSymbol g.tokens g.nonterminals x → AreCosts limit g k row → IsCost limit (IsTreeOfKind g k x) size (get_or row (n - 1) d)
+pub symbol_told : (limit : ℕ) (g : PlainGrammar) (k : Kind) (x : Symbol) (n : ℕ) (row : List Cost) (d : Cost) → x ≡ Nonterminal n → IsSymbol g.tokens g.nonterminals x → AreCosts limit g k row → IsCost limit (IsTreeOfKind g k x) size (get_or row (n - 1) d)
 symbol_told limit g k x n row d is_x fits costs =
     let number = subst (IsSymbol g.tokens g.nonterminals) is_x fits in
     let at = entry_read row n d (subst (λ m. IsNumberOf m n) (sym costs.many) number) in
     subst (λ y. IsCost limit (IsTreeOfKind g k y) size (get_or row (n - 1) d)) (sym is_x) (subst (IsCost limit (IsTreeOfKind g k (Nonterminal n)) size) at (costs.exact n))
 
 -- the tables of a grammar
-pub tables_made : (limit : ℕ) (g : Syntax) (any any' blank empty own : List Cost) (begins ends : List (List Cost)) → IsGrammar g → AreCosts limit g Any any → any' ≡ any → empty ≡ own → IsExactRow limit g Empty any' blank own → AreExactRows limit g Begins any empty g.tokens begins → AreExactRows limit g Ends any empty g.tokens ends → AreExactTables limit g (record { any = any; empty = empty; begins = begins; ends = ends })
+pub tables_made : (limit : ℕ) (g : PlainGrammar) (any any' blank empty own : List Cost) (begins ends : List (List Cost)) → IsGrammar g → AreCosts limit g Any any → any' ≡ any → empty ≡ own → IsExactRow limit g Empty any' blank own → AreExactRows limit g Begins any empty g.tokens begins → AreExactRows limit g Ends any empty g.tokens ends → AreExactTables limit g (record { any = any; empty = empty; begins = begins; ends = ends })
 tables_made limit g any any' blank empty own begins ends grammar costs same_any same_empty exact begins_exact ends_exact =
     let exact' = exact_empty limit g any blank own (subst (λ row. IsExactRow limit g Empty row blank own) same_any exact) in
     let is_empty = subst (λ row. IsExactRow limit g Empty any row row) (sym same_empty) exact' in
@@ -177,7 +177,7 @@ tables_made limit g any any' blank empty own begins ends grammar costs same_any 
     }
 
 -- one more row behind the others
-pub exact_rows_more : (limit : ℕ) (g : Syntax) (kind : ℕ → Kind) (any empty : List Cost) (count : ℕ) (rows : List (List Cost)) (any' empty' own row : List Cost) → AreExactRows limit g kind any empty count rows → any' ≡ any → empty' ≡ empty → row ≡ own → IsExactRow limit g (kind (count + 1)) any' empty' own → AreExactRows limit g kind any empty (count + 1) (rows ++ row ∷ [])
+pub exact_rows_more : (limit : ℕ) (g : PlainGrammar) (kind : ℕ → Kind) (any empty : List Cost) (count : ℕ) (rows : List (List Cost)) (any' empty' own row : List Cost) → AreExactRows limit g kind any empty count rows → any' ≡ any → empty' ≡ empty → row ≡ own → IsExactRow limit g (kind (count + 1)) any' empty' own → AreExactRows limit g kind any empty (count + 1) (rows ++ row ∷ [])
 exact_rows_more limit g kind any empty count rows any' empty' own row so_far same_any same_empty same_own exact =
     let here = subst (λ r. IsExactRow limit g (kind (count + 1)) any empty r) (sym same_own)
     (subst (λ r. IsExactRow limit g (kind (count + 1)) any r own) same_empty

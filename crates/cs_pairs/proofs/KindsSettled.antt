@@ -4,7 +4,7 @@ use Rattle.std.proofs.lemmas.Bool.{cases_eq, cases_lt}
 use Rattle.std.proofs.lemmas.Option.{slice_get_within, slice_get-get_or}
 use Rattle.cs_grammar.specs.declared.symbol.Symbol.{Symbol}
 use Rattle.cs_grammar.specs.declared.symbol.Symbol.TheVariants.{Token, Nonterminal}
-use Rattle.cs_grammar.specs.Grammar.{Production, Syntax, IsRule}
+use Rattle.cs_grammar.specs.Grammar.{Production, PlainGrammar, IsRule}
 use Rattle.cs_grammar.specs.Tree.{Tree, Leaf, Node, Forest, Bare, Grown, size, sizes}
 use Rattle.cs_grammar.proofs.OneTree.{one_rule}
 use Rattle.cs_cost.proofs.ChosenTrees.{size_above}
@@ -18,13 +18,13 @@ use Rattle.cs_pairs.proofs.ChosenKinds.{AreTrees-of_kind, here_least, later_leas
 use Rattle.cs_pairs.proofs.FirstLeast.{IsSettledAt, FirstLeast, AreLarge, first_least}
 
 -- each tree of x that is of the kind has more than n nodes, or there is a chosen one
-abbrev pub Settled : Syntax → ℕ → Kind → Symbol → Type 0
+abbrev pub Settled : PlainGrammar → ℕ → Kind → Symbol → Type 0
 Settled g n k x = ((t : Tree) → IsTreeOfKind g k x t → n < size t) ⊎ ((t : Tree) × IsChosenOfKind g k x t)
 
-abbrev pub AreSettled : Syntax → ℕ → Kind → List Symbol → Type 0
+abbrev pub AreSettled : PlainGrammar → ℕ → Kind → List Symbol → Type 0
 AreSettled g n k xs = ((f : Forest) → AreTreesOfKind g k xs f → n < sizes f) ⊎ ((f : Forest) × AreChosenOfKind g k xs f)
 
-module _ (g : Syntax) (n : ℕ) (k : Kind) (x : Symbol) (xs : List Symbol) where
+module _ (g : PlainGrammar) (n : ℕ) (k : Kind) (x : Symbol) (xs : List Symbol) where
   -- lists in one of the ways are larger than n, or there is one of chosen trees, which is the least of them
   abbrev Here : Type 0
   Here = ((p : Tree × Forest) → AreHere g k x xs p → n < joint_size p) ⊎ ((p : Tree × Forest) × IsChosenOfKind g k x p.0 × AreChosenOfKind g (behind k) xs p.1)
@@ -81,7 +81,7 @@ module _ (g : Syntax) (n : ℕ) (k : Kind) (x : Symbol) (xs : List Symbol) where
   pub first_settled : Settled g n k x → Settled g n (before k) x → AreSettled g n (behind k) xs → AreSettled g n k xs → AreSettled g n k (x ∷ xs)
   first_settled own other rest whole = ways_settled (here_settled own rest) (later_settled other whole)
 
-module _ (g : Syntax) where
+module _ (g : PlainGrammar) where
   pub list_settled : (n : ℕ) → ((k : Kind) (x : Symbol) → Settled g n k x) → (k : Kind) (xs : List Symbol) → AreSettled g n k xs
   list_settled n each Any [] = inr (Bare, tt)
   list_settled n each Empty [] = inr (Bare, refl)

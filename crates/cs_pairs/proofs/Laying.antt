@@ -8,7 +8,7 @@ use Rattle.cs_grammar.specs.declared.TheConstants.{LIMIT}
 use Rattle.cs_grammar.specs.declared.symbol.Symbol.{Symbol}
 use Rattle.cs_grammar.specs.declared.symbol.Symbol.TheVariants.{Nonterminal}
 use Rattle.cs_grammar.specs.declared.symbol.Mark.TheVariants as mark
-use Rattle.cs_grammar.specs.Grammar.{Production, Syntax, IsRule}
+use Rattle.cs_grammar.specs.Grammar.{Production, PlainGrammar, IsRule}
 use Rattle.cs_grammar.specs.Tree.{Tree, Forest, Bare, Grown, size, sizes, code, codes_of}
 use Rattle.cs_grammar.specs.Context.{Context, Under, context_size, code_before, code_after}
 use Rattle.cs_grammar.proofs.OneTree.{one_rule}
@@ -32,21 +32,21 @@ use Rattle.cs_pairs.proofs.KindsSettled.{of_kind_exists}
 use Rattle.cs_pairs.proofs.ChosenSeams.{seam_of, seam_measure}
 
 -- the code of a chosen tree that is written as a list of one
-pub code_of_one : (g : Syntax) (k : Kind) (x : Symbol) (old new : List ℕ) → HasSmallOfKind g k x → old ≡ [] → AppendsOfKind g k (x ∷ []) old new → IsCodeOfKind g k x new
+pub code_of_one : (g : PlainGrammar) (k : Kind) (x : Symbol) (old new : List ℕ) → HasSmallOfKind g k x → old ≡ [] → AppendsOfKind g k (x ∷ []) old new → IsCodeOfKind g k x new
 code_of_one g k x old new small none appends =
     let t = of_kind_exists g k x small.0 small.1 in
     let same = all_of_kind g appends.trees (Grown t.0 Bare) k (x ∷ []) appends.chosen (list_of_one g t.0 k x t.1) in
     (t.0, t.1, appends.text ∙ ap (λ (l : List ℕ). l ++ codes_of appends.trees) none ∙ ap codes_of same ∙ append-nil (code t.0))
 
 -- one tree within the limit is a list within it
-pub small_one : (g : Syntax) (k : Kind) (x : Symbol) → HasSmallOfKind g k x → HaveSmallOfKind g k (x ∷ [])
+pub small_one : (g : PlainGrammar) (k : Kind) (x : Symbol) → HasSmallOfKind g k x → HaveSmallOfKind g k (x ∷ [])
 small_one g k x small =
     let t = of_kind_exists g k x small.0 small.1 in
     let list = list_of_one g t.0 k x t.1 in
     (Grown t.0 Bare, AreTrees-of_kind g (Grown t.0 Bare) k (x ∷ []) list, omega (arith, of_kind_least g k x t.0 small.0 small.1 t.1, small.2))
 
 -- a chosen tree of two tokens by the symbols of the rule at which they meet
-pub record Laid (g : Syntax) (a b r k : ℕ) (p : Production) (x : Symbol) : Type 0 where
+pub record Laid (g : PlainGrammar) (a b r k : ℕ) (p : Production) (x : Symbol) : Type 0 where
   pub tree : Tree
   pub chosen : IsChosenSeam g a b tree
   pub within : k < length p.right
@@ -62,7 +62,7 @@ pub record Laid (g : Syntax) (a b r k : ℕ) (p : Production) (x : Symbol) : Typ
   pub text : code tree ≡ code_before outer ++ (r ∷ (codes_of left ++ (code last ++ (codes_of right ++ code_after outer))))
   pub small : context_size outer + (1 + (sizes left + sizes right)) + size last ≤ LIMIT
 
-pub laid : (g : Syntax) (a b r k : ℕ) (p : Production) (d : Symbol) → IsRule g r p → (m : IsChosenMeeting g a b r k) → Laid g a b r k p (get_or p.right k d)
+pub laid : (g : PlainGrammar) (a b r k : ℕ) (p : Production) (d : Symbol) → IsRule g r p → (m : IsChosenMeeting g a b r k) → Laid g a b r k p (get_or p.right k d)
 laid g a b r k p d rule m =
     let c = m.chosen in
     let same = one_rule g c.number r c.rule p m.at_rule c.is_rule rule in
@@ -96,7 +96,7 @@ laid g a b r k p d rule m =
     text o q r f u h same = ap (λ n. code_before (Under o n f h) ++ code u ++ code_after (Under o n f h)) same ∙ simp append_assoc
 
 -- what the layers below want of the parts
-module _ (g : Syntax) (a b r k : ℕ) (p : Production) (x : Symbol) (l : Laid g a b r k p x) where
+module _ (g : PlainGrammar) (a b r k : ℕ) (p : Production) (x : Symbol) (l : Laid g a b r k p x) where
   pub laid_context : HasLeastContext g p.left
   laid_context = (
     context_size l.outer,
@@ -142,7 +142,7 @@ module _ (g : Syntax) (a b r k : ℕ) (p : Production) (x : Symbol) (l : Laid g 
           ∙ append_assoc u v (w ++ (y ++ (z ++ q)))
 
 -- the lowest rule and place at which the tokens meet are those of the chosen tree
-pub chosen_meeting : (g : Syntax) (a b n r k : ℕ) → IsMeetingAt g a b n r k → (t : Tree) → IsChosenSeam g a b t → size t ≡ n → n ≤ LIMIT → IsChosenMeeting g a b r k
+pub chosen_meeting : (g : PlainGrammar) (a b n r k : ℕ) → IsMeetingAt g a b n r k → (t : Tree) → IsChosenSeam g a b t → size t ≡ n → n ≤ LIMIT → IsChosenMeeting g a b r k
 chosen_meeting g a b n r k m t c measured small =
     let s = m.seam in
     let seam = seam_of g a b t c in
@@ -172,7 +172,7 @@ chosen_meeting g a b n r k m t c measured small =
     at_rule q same j lt = subst (λ i. (u : SeamAt g a b i j) → n < size_at g a b i j u) (sym same) (λ u. m.before j (omega arith) lt u)
 
 -- the rule that was read is that of the meeting
-pub rule_met : (g : Syntax) (a b r k : ℕ) (q : Production) (rules : List Production) → IsChosenMeeting g a b r k → rules ≡ g.rules → q ≡ get_or rules (r - 1) q → IsRule g r q
+pub rule_met : (g : PlainGrammar) (a b r k : ℕ) (q : Production) (rules : List Production) → IsChosenMeeting g a b r k → rules ≡ g.rules → q ≡ get_or rules (r - 1) q → IsRule g r q
 rule_met g a b r k q rules m same read =
     let known = subst (λ n. IsRule g n m.chosen.rule) m.at_rule m.chosen.is_rule in
     subst (IsRule g r) (sym (rule_read g r m.chosen.rule q rules known same read)) known

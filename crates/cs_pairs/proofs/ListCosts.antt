@@ -3,7 +3,7 @@ use Rattle.std.proofs.Common.{◌≡◌, ℕ, ◌+◌, ◌≤◌, ◌⊎◌, Lis
 use Rattle.std.proofs.lemmas.Bool.Decides.{nat_tests}
 use Rattle.cs_grammar.specs.declared.symbol.Symbol.{Symbol}
 use Rattle.cs_grammar.specs.declared.symbol.Symbol.TheVariants.{Token, Nonterminal}
-use Rattle.cs_grammar.specs.Grammar.{Production, Syntax, IsRule}
+use Rattle.cs_grammar.specs.Grammar.{Production, PlainGrammar, IsRule}
 use Rattle.cs_grammar.specs.Tree.{Tree, Leaf, Node, Forest, Bare, Grown, IsTree, AreTrees, size, sizes, yield, yields}
 use Rattle.cs_cost.specs.declared.cost.Cost.{Cost}
 use Rattle.cs_cost.specs.Least.{IsCost}
@@ -63,7 +63,7 @@ module _ (limit : ℕ) where
   leaf_low (Ends a) t (x ∷ [], e) = absurd cc
   leaf_low (Ends a) t (x ∷ y ∷ rest, e) = absurd cc
 
-  pub leaf_reached : (g : Syntax) (k : Kind) (t : ℕ) → rank limit (leaf_cost limit k t) ≤ limit + 1 → (u : Tree) × IsTreeOfKind g k (Token t) u × (capped limit (size u) ≤ rank limit (leaf_cost limit k t))
+  pub leaf_reached : (g : PlainGrammar) (k : Kind) (t : ℕ) → rank limit (leaf_cost limit k t) ≤ limit + 1 → (u : Tree) × IsTreeOfKind g k (Token t) u × (capped limit (size u) ≤ rank limit (leaf_cost limit k t))
   leaf_reached g Any t h = (Leaf t, (refl, tt), omega (arith, rank-cost_of limit 1))
   leaf_reached g Empty t h = absurd (omega arith)
   leaf_reached g (Begins b) t h = (Leaf t, (refl, ([], (let e : t ≡ b = grind (arith, nat_tests) in ap (λ n. n ∷ []) e))), (let r = rank-cost_of limit 1 in grind (arith, nat_tests)))
@@ -83,7 +83,7 @@ module _ (limit : ℕ) where
   bare_low (Ends a) ([], e) = absurd cc
   bare_low (Ends a) (x ∷ rest, e) = absurd cc
 
-  pub bare_reached : (g : Syntax) (k : Kind) → rank limit (bare_cost k) ≤ limit + 1 → AreTreesOfKind g k [] Bare
+  pub bare_reached : (g : PlainGrammar) (k : Kind) → rank limit (bare_cost k) ≤ limit + 1 → AreTreesOfKind g k [] Bare
   bare_reached g Any h = (tt, tt)
   bare_reached g Empty h = (tt, refl)
   bare_reached g (Begins b) h = absurd (omega arith)
@@ -96,7 +96,7 @@ module _ (limit : ℕ) where
   IsCapped-bare (Ends a) = tt
 
   -- where no rule makes a nonterminal cost less, no tree does
-  module _ (g : Syntax) (told : Kind → Symbol → Cost) (leaf : (k : Kind) (t : ℕ) → rank limit (told k (Token t)) ≤ rank limit (leaf_cost limit k t)) (tokens : ℕ) (closed : (k : Kind) → IsKind tokens k → (r : ℕ) (p : Production) → IsRule g r p → rank limit (told k (Nonterminal p.left)) ≤ rank limit (node_cost limit told k p.right)) where
+  module _ (g : PlainGrammar) (told : Kind → Symbol → Cost) (leaf : (k : Kind) (t : ℕ) → rank limit (told k (Token t)) ≤ rank limit (leaf_cost limit k t)) (tokens : ℕ) (closed : (k : Kind) → IsKind tokens k → (r : ℕ) (p : Production) → IsRule g r p → rank limit (told k (Nonterminal p.left)) ≤ rank limit (node_cost limit told k p.right)) where
     mutual
       pub kind_tree_low : (t : Tree) (x : Symbol) (k : Kind) → IsKind tokens k → IsTree g x t → IsOfKind k (yield t) → rank limit (told k x) ≤ capped limit (size t)
       kind_tree_low (Leaf t) x k fits h of = rw h (omega (arith, leaf k t, leaf_low k t of))
@@ -127,11 +127,11 @@ module _ (limit : ℕ) where
           (joined_cases k (yield t) (yields f) of)
 
   -- what is told of a symbol is no size above the limit, and a tree of the kind costs no more
-  pub record IsReachedBy (g : Syntax) (told : Kind → Symbol → Cost) (k : Kind) : Type 0 where
+  pub record IsReachedBy (g : PlainGrammar) (told : Kind → Symbol → Cost) (k : Kind) : Type 0 where
     pub each : (x : Symbol) → IsCapped limit (told k x)
     pub reached : (x : Symbol) → rank limit (told k x) ≤ limit + 1 → (t : Tree) × IsTreeOfKind g k x t × (capped limit (size t) ≤ rank limit (told k x))
 
-  module _ (g : Syntax) (told : Kind → Symbol → Cost) where
+  module _ (g : PlainGrammar) (told : Kind → Symbol → Cost) where
     pub IsCapped-list : (k : Kind) → ((j : Kind) → IsPart k j → IsReachedBy g told j) → (xs : List Symbol) → IsCapped limit (list_cost limit told k xs)
     IsCapped-list k sound [] = IsCapped-bare k
     IsCapped-list k sound (x ∷ xs) =

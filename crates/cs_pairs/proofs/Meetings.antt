@@ -5,7 +5,7 @@ use Rattle.std.proofs.lemmas.Bool.{cases_eq, cases_lt}
 use Rattle.std.proofs.lemmas.List.{length-take-le}
 use Rattle.std.proofs.lemmas.Option.{slice_get_within, slice_get-get_or}
 use Rattle.cs_grammar.specs.declared.symbol.Symbol.{Symbol}
-use Rattle.cs_grammar.specs.Grammar.{Production, Syntax, IsRule}
+use Rattle.cs_grammar.specs.Grammar.{Production, PlainGrammar, IsRule}
 use Rattle.cs_grammar.specs.Tree.{Tree, Forest, size, sizes}
 use Rattle.cs_grammar.specs.Context.{Context, Hole, Under}
 use Rattle.cs_cost.specs.declared.cost.Cost.{Cost}
@@ -23,7 +23,7 @@ use Rattle.cs_pairs.specs.SeamPlace.{SeamAt, size_at, NoSeamTo, IsFoundIn, IsMee
 use Rattle.cs_pairs.proofs.Fronting.{front_at}
 use Rattle.cs_pairs.proofs.ChosenSeams.{place_within, parts_at}
 
-module _ (g : Syntax) (a b r : ℕ) (p : Production) (rule : IsRule g r p) where
+module _ (g : PlainGrammar) (a b r : ℕ) (p : Production) (rule : IsRule g r p) where
   module _ (limit i : ℕ) (x : Symbol) (at : slice_get p.right i ≡ Some x) where
     abbrev Parts : (Context × Forest) × (Tree × Forest) → Type 0
     Parts q = AreFront g p.left (take i p.right) q.0 × (IsTreeOfKind g (Ends a) x q.1.0 × AreTreesOfKind g (Begins b) (drop (i + 1) p.right) q.1.1)
@@ -99,7 +99,7 @@ module _ (g : Syntax) (a b r : ℕ) (p : Production) (rule : IsRule g r p) where
         subst (IsCost limit (λ (s : SeamAt g a b r i). Unit {0}) (size_at g a b r i)) (sym (is_seam ∙ ap (plus limit (get_or fronts i e)) is_both))
         (place_cost limit i (get_or items i d) at (get_or fronts i e) last whole front is_last whole')
 
-module _ (g : Syntax) (a b n : ℕ) where
+module _ (g : PlainGrammar) (a b n : ℕ) where
   -- no rule has the number 0
   pub no_rule : (q j : ℕ) → q ≤ 0 → NoSeamTo g a b q n 0 j
   no_rule q j le = λ k from before s. absurd (omega (arith, le, s.is_seam.0.0.3.above_zero))

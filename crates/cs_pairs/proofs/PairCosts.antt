@@ -6,7 +6,7 @@ use Rattle.std.proofs.lemmas.Option.{slice_get_within, get_or_from_slice_get}
 use Rattle.cs_grammar.specs.declared.symbol.Symbol.{Symbol}
 use Rattle.cs_grammar.specs.declared.symbol.Symbol.TheVariants.{Token, Nonterminal}
 use Rattle.cs_grammar.specs.declared.symbol.Mark.TheVariants as mark
-use Rattle.cs_grammar.specs.Grammar.{Production, Syntax, IsRule, IsNumberOf, IsSymbol, IsGrammar}
+use Rattle.cs_grammar.specs.Grammar.{Production, PlainGrammar, IsRule, IsNumberOf, IsSymbol, IsGrammar}
 use Rattle.cs_grammar.specs.Tree.{Tree, Leaf, Node, size, yield}
 use Rattle.cs_grammar.specs.Context.{Context, Hole, Under, context_size, plug}
 use Rattle.cs_cost.specs.declared.cost.Cost.{Cost}
@@ -34,14 +34,14 @@ same_number tokens nonterminals (Nonterminal m) (Token t) hx hy e = absurd (omeg
 same_number tokens nonterminals (Nonterminal m) (Nonterminal n) hx hy e = let same : m ≡ n = omega (arith, e) in ap Nonterminal same
 
 -- a symbol of a right side is one of the grammar
-pub right_symbol : (g : Syntax) (r : ℕ) (p : Production) (xs ys : List Symbol) (x : Symbol) → IsGrammar g → IsRule g r p → p.right ≡ xs ++ x ∷ ys → IsSymbol g.tokens g.nonterminals x
+pub right_symbol : (g : PlainGrammar) (r : ℕ) (p : Production) (xs ys : List Symbol) (x : Symbol) → IsGrammar g → IsRule g r p → p.right ≡ xs ++ x ∷ ys → IsSymbol g.tokens g.nonterminals x
 right_symbol g r p xs ys x grammar rule e =
     let at = ap (λ (l : List Symbol). slice_get l (length xs)) e ∙ at_seam xs ys x in
     let within = slice_get_within p.right (length xs) x at in
     subst (IsSymbol g.tokens g.nonterminals) (get_or_from_slice_get p.right (length xs) x x at) ((well_formed_at g (r - 1) p grammar rule.at).right (length xs) x within)
 
 -- a symbol with a context beside a token is one of the grammar
-beside_symbol : (g : Syntax) (b : ℕ) (x : Symbol) (c : Context) → IsGrammar g → IsContextBeside g b x c → IsSymbol g.tokens g.nonterminals x
+beside_symbol : (g : PlainGrammar) (b : ℕ) (x : Symbol) (c : Context) → IsGrammar g → IsContextBeside g b x c → IsSymbol g.tokens g.nonterminals x
 beside_symbol g b x Hole grammar h = absurd h.1
 beside_symbol g b x (Under outer r left right) grammar h = let w = h.0 in right_symbol g r w.0 w.1 w.2 x grammar w.3 w.4
 
@@ -49,7 +49,7 @@ number_most : (tokens nonterminals : ℕ) (x : Symbol) → IsSymbol tokens nonte
 number_most tokens nonterminals (Token t) h = omega (arith, h)
 number_most tokens nonterminals (Nonterminal n) h = omega (arith, h)
 
-module _ (limit : ℕ) (g : Syntax) (b : ℕ) (row : List Cost) (exact : IsExactBeside limit g b row) where
+module _ (limit : ℕ) (g : PlainGrammar) (b : ℕ) (row : List Cost) (exact : IsExactBeside limit g b row) where
   beside_low : (m : ℕ) (c : Context) → IsNumbered g b m c → rank limit (entry row m) ≤ capped limit (context_size c)
   beside_low m Hole h = absurd h.3.1
   beside_low m (Under outer r left right) h =

@@ -7,7 +7,7 @@ use Rattle.std.proofs.lemmas.List.{at_drop_more}
 use Rattle.std.proofs.lemmas.List.Elements.{All-nil, All-cons, All-head, All-tail}
 use Rattle.cs_grammar.specs.declared.TheConstants.{LIMIT}
 use Rattle.cs_grammar.specs.declared.symbol.Symbol.{Symbol}
-use Rattle.cs_grammar.specs.Grammar.{Syntax, IsSymbol}
+use Rattle.cs_grammar.specs.Grammar.{PlainGrammar, IsSymbol}
 use Rattle.cs_grammar.specs.Tree.{Forest, Bare, Grown, sizes}
 use Rattle.cs_grammar.specs.Context.{join}
 use Rattle.cs_cost.specs.declared.cost.Cost.{Cost}
@@ -48,7 +48,7 @@ behind_twice Empty = (refl, refl)
 behind_twice (Begins b) = (refl, refl)
 behind_twice (Ends a) = (refl, refl)
 
-module _ (g : Syntax) where
+module _ (g : PlainGrammar) where
   -- trees behind one of the kind
   behind_parts : (f : Forest) (k : Kind) (place i : ℕ) (xs : List Symbol) → place < i → AreChosenOfKind g (behind k) xs f → AreChosenParts g (parts_from k place i xs) f
   behind_parts Bare k place i [] lt h = tt
@@ -118,7 +118,7 @@ module _ (g : Syntax) where
   AreChosenParts-join (Grown t f) h (p ∷ ps) qs hf hh = (hf.0, AreChosenParts-join f h ps qs hf.1 hh)
 
 -- in the names of the code
-module _ (limit : ℕ) (g : Syntax) (k j : Kind) (xs : List Symbol) (i next : ℕ) (d : Symbol) (place : ℕ) (here later : Cost) (is_next : i + 1 ≡ next) (within : i < length xs) (is_kind : j ≡ k) (is_here : IsCost limit (AreHere g j (get_or xs i d) (drop next xs)) joint_size here) (is_later : IsCost limit (AreLater g j (get_or xs i d) (drop next xs)) joint_size later) where
+module _ (limit : ℕ) (g : PlainGrammar) (k j : Kind) (xs : List Symbol) (i next : ℕ) (d : Symbol) (place : ℕ) (here later : Cost) (is_next : i + 1 ≡ next) (within : i < length xs) (is_kind : j ≡ k) (is_here : IsCost limit (AreHere g j (get_or xs i d) (drop next xs)) joint_size here) (is_later : IsCost limit (AreLater g j (get_or xs i d) (drop next xs)) joint_size later) where
   front : drop i xs ≡ get_or xs i d ∷ drop next xs
   front = sym (left_from xs i next d is_next within)
 
@@ -138,7 +138,7 @@ module _ (limit : ℕ) (g : Syntax) (k j : Kind) (xs : List Symbol) (i next : �
       (placed_later g limit k (get_or xs i d) (drop next xs) i here later is_here' is_later' place (omega (arith, above, is_next)) cheap so_far')
 
 -- no symbol is swept
-pub place_none : (g : Syntax) (k : Kind) (place i : ℕ) (ys : List Symbol) → ys ≡ [] → (f : Forest) → AreChosenOfKind g k ys f → sizes f ≤ LIMIT → AreChosenParts g (parts_from k place i ys) f
+pub place_none : (g : PlainGrammar) (k : Kind) (place i : ℕ) (ys : List Symbol) → ys ≡ [] → (f : Forest) → AreChosenOfKind g k ys f → sizes f ≤ LIMIT → AreChosenParts g (parts_from k place i ys) f
 place_none g k place i [] e Bare h small = tt
 place_none g k place i [] e (Grown t f) h small = absurd h
 place_none g k place i (y ∷ ys) e f h small = absurd cc

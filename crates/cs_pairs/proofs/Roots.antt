@@ -4,7 +4,7 @@ use Rattle.std.specs.Prelude.{slice_get}
 use Rattle.std.proofs.lemmas.Bool.{cases_lt}
 use Rattle.std.proofs.lemmas.Option.{slice_get_within}
 use Rattle.cs_grammar.specs.declared.symbol.Symbol.TheVariants.{Nonterminal}
-use Rattle.cs_grammar.specs.Grammar.{Production, Syntax}
+use Rattle.cs_grammar.specs.Grammar.{Production, PlainGrammar}
 use Rattle.cs_grammar.specs.Tree.{Tree, Leaf, Node, Forest, size}
 use Rattle.cs_cost.specs.declared.cost.Cost.{Cost}
 use Rattle.cs_cost.specs.Least.{IsCost}
@@ -19,10 +19,10 @@ use Rattle.cs_pairs.specs.Parts.{IsRootOf}
 use Rattle.cs_pairs.proofs.ChosenKinds.{IsTree-of_kind, AreTrees-of_kind}
 
 -- nodes with a rule of the left side at an index below i have more than n nodes
-pub record NoRoot (g : Syntax) (k : Kind) (left n i : ℕ) : Type 0 where
+pub record NoRoot (g : PlainGrammar) (k : Kind) (left n i : ℕ) : Type 0 where
   pub larger : (j : ℕ) → (o : Production) → j < i → slice_get g.rules j ≡ Some o → o.left ≡ left → (f : Forest) → AreTreesOfKind g k o.right f → n < node_size f
 
-module _ (limit : ℕ) (g : Syntax) (k : Kind) (left i : ℕ) (q : Production) (at : slice_get g.rules i ≡ Some q) (cost : Cost) (so_far : NoRoot g k left (rank limit cost) i) where
+module _ (limit : ℕ) (g : PlainGrammar) (k : Kind) (left i : ℕ) (q : Production) (at : slice_get g.rules i ≡ Some q) (cost : Cost) (so_far : NoRoot g k left (rank limit cost) i) where
   pub no_root_more : (q.left ≡ left → (node : Cost) × IsCost limit (AreTreesOfKind g k q.right) node_size node × (rank limit cost < rank limit node)) → NoRoot g k left (rank limit cost) (i + 1)
   no_root_more here = record {
     larger = λ j o within.
@@ -62,7 +62,7 @@ module _ (limit : ℕ) (g : Syntax) (k : Kind) (left i : ℕ) (q : Production) (
           (cases_lt r (i + 1))
 
 -- some rule is at the root of a least tree
-pub some_root : (limit : ℕ) (g : Syntax) (k : Kind) (left i : ℕ) (cost : Cost) → length g.rules ≤ i → NoRoot g k left (rank limit cost) i → IsCost limit (IsTreeOfKind g k (Nonterminal left)) size cost → rank limit cost ≤ limit → ⊥
+pub some_root : (limit : ℕ) (g : PlainGrammar) (k : Kind) (left i : ℕ) (cost : Cost) → length g.rules ≤ i → NoRoot g k left (rank limit cost) i → IsCost limit (IsTreeOfKind g k (Nonterminal left)) size cost → rank limit cost ≤ limit → ⊥
 some_root limit g k left i cost all so_far told small =
     let least = cost_least limit (IsTreeOfKind g k (Nonterminal left)) size cost told small in
     none least.0 least.1 least.2

@@ -3,7 +3,7 @@ use Rattle.std.proofs.Common.{ℕ, ◌+◌, ◌≤◌, List, refl, sym, ◌∙�
 use Rattle.std.proofs.lemmas.Bool.{cases_lt}
 use Rattle.cs_grammar.specs.declared.symbol.Symbol.{Symbol}
 use Rattle.cs_grammar.specs.declared.symbol.Symbol.TheVariants.{Token, Nonterminal}
-use Rattle.cs_grammar.specs.Grammar.{Production, Syntax, IsRule}
+use Rattle.cs_grammar.specs.Grammar.{Production, PlainGrammar, IsRule}
 use Rattle.cs_grammar.specs.Tree.{Tree, Node, size}
 use Rattle.cs_cost.specs.declared.cost.Cost.{Cost}
 use Rattle.cs_cost.specs.Rank.{capped, rank, IsCapped, cost_of, entry}
@@ -16,7 +16,7 @@ use Rattle.cs_pairs.specs.ListCost.{list_cost, node_cost}
 use Rattle.cs_pairs.specs.Rows.{row_for, said, says, IsSoundRow, IsClosedRow, AreRows}
 use Rattle.cs_pairs.proofs.ListCosts.{IsReachedBy, leaf_reached, IsCapped-leaf, IsCapped-list, list_reached}
 
-module _ (limit : ℕ) (g : Syntax) where
+module _ (limit : ℕ) (g : PlainGrammar) where
   pub said_reached : (k : Kind) (row : List Cost) → IsSoundRow limit g k row → (x : Symbol) → rank limit (said limit k row x) ≤ limit + 1 → (t : Tree) × IsTreeOfKind g k x t × (capped limit (size t) ≤ rank limit (said limit k row x))
   said_reached k row sound (Token t) h = leaf_reached limit g k t h
   said_reached k row sound (Nonterminal n) h = sound.holds.reached n h

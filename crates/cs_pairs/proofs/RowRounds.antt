@@ -6,7 +6,7 @@ use Rattle.std.proofs.Math.ListN.{set}
 use Rattle.std.proofs.lemmas.Bool.{cases_eq}
 use Rattle.std.proofs.lemmas.List.{length-set, length-replicate}
 use Rattle.cs_grammar.specs.declared.symbol.Symbol.TheVariants.{Nonterminal}
-use Rattle.cs_grammar.specs.Grammar.{Production, Syntax, IsNumberOf, IsGrammar}
+use Rattle.cs_grammar.specs.Grammar.{Production, PlainGrammar, IsNumberOf, IsGrammar}
 use Rattle.cs_grammar.specs.Tree.{Tree, size}
 use Rattle.cs_cost.specs.declared.cost.Cost.{Cost}
 use Rattle.cs_cost.specs.declared.cost.Cost.TheVariants.{Never}
@@ -21,20 +21,20 @@ use Rattle.cs_pairs.specs.Rows.{says, IsSoundRow, IsClosedRow, IsBelowNode}
 use Rattle.cs_pairs.proofs.RowCosts.{kind_node_reached, node_capped}
 
 -- at the start no nonterminal has a cost
-pub blank_row : (limit : ℕ) (g : Syntax) (k : Kind) → IsSoundRow limit g k (replicate g.nonterminals Never)
+pub blank_row : (limit : ℕ) (g : PlainGrammar) (k : Kind) → IsSoundRow limit g k (replicate g.nonterminals Never)
 blank_row limit g k = record {
   many = length-replicate g.nonterminals Never;
   holds = Holds-replicate limit (λ n. IsTreeOfKind g k (Nonterminal n)) size g.nonterminals;
 }
 
 -- where a round stands that has seen the rules from index i on: the row at its start, and now
-pub record Rounds (limit : ℕ) (g : Syntax) (k : Kind) (any empty start own : List Cost) (changed : Bool) (i : ℕ) : Type 0 where
+pub record Rounds (limit : ℕ) (g : PlainGrammar) (k : Kind) (any empty start own : List Cost) (changed : Bool) (i : ℕ) : Type 0 where
   pub sound : IsSoundRow limit g k own
   pub no_more : sum_by (rank limit) own ≤ sum_by (rank limit) start
   pub falls : changed ≡ true → sum_by (rank limit) own < sum_by (rank limit) start
   pub closed : changed ≡ false → (j : ℕ) (p : Production) → i ≤ j → slice_get g.rules j ≡ Some p → IsBelowNode limit k any empty own p
 
-module _ (limit : ℕ) (g : Syntax) (k : Kind) (any empty start : List Cost) (is_any : IsSoundRow limit g Any any) (is_empty : IsSoundRow limit g Empty empty) (grammar : IsGrammar g) where
+module _ (limit : ℕ) (g : PlainGrammar) (k : Kind) (any empty start : List Cost) (is_any : IsSoundRow limit g Any any) (is_empty : IsSoundRow limit g Empty empty) (grammar : IsGrammar g) where
   module _ (own : List Cost) (changed : Bool) (i : ℕ) (q : Production) (left : ℕ) (c : Cost) (at : slice_get g.rules i ≡ Some q) (is_left : left ≡ q.left) (is_cost : c ≡ node_cost limit (says limit k any empty own) k q.right) (so_far : Rounds limit g k any empty start own changed (i + 1)) where
     number : IsNumberOf (length own) q.left
     number = subst (λ m. IsNumberOf m q.left) (sym so_far.sound.many) (well_formed_at g i q grammar at).left
@@ -77,7 +77,7 @@ module _ (limit : ℕ) (g : Syntax) (k : Kind) (any empty start : List Cost) (is
     }
 
 -- a round that changed nothing
-pub rounds_closed : (limit : ℕ) (g : Syntax) (k : Kind) (any empty start own : List Cost) → Rounds limit g k any empty start own false 0 → IsClosedRow limit g k any empty own
+pub rounds_closed : (limit : ℕ) (g : PlainGrammar) (k : Kind) (any empty start own : List Cost) → Rounds limit g k any empty start own false 0 → IsClosedRow limit g k any empty own
 rounds_closed limit g k any empty start own so_far = record {
   below = λ r p rule. so_far.closed refl (r - 1) p (omega arith) rule.at;
 }

@@ -3,7 +3,7 @@
 use Rattle.std.proofs.Common.{◌≡◌, ℕ, ◌+◌, ◌⊎◌, List, [], ◌∷◌, ◌++◌, refl, sym, ap, ◌∙◌, subst, ⊎_elim, inl, inr, arith, append_assoc}
 use Rattle.cs_grammar.specs.declared.symbol.Symbol.{Symbol}
 use Rattle.cs_grammar.specs.declared.symbol.Symbol.TheVariants.{Nonterminal}
-use Rattle.cs_grammar.specs.Grammar.{Production, Syntax, IsRule}
+use Rattle.cs_grammar.specs.Grammar.{Production, PlainGrammar, IsRule}
 use Rattle.cs_grammar.specs.Tree.{Tree, Leaf, Node, Forest, Bare, Grown, IsTree, AreTrees, size, sizes, yield, yields}
 use Rattle.cs_grammar.specs.Context.{Context, Hole, Under, IsContext, context_size, join, plug}
 use Rattle.cs_grammar.specs.Sentence.{IsFollowed}
@@ -32,13 +32,13 @@ joined_neighbours a b (x ∷ u) v (z ∷ xs) ys e =
     (joined_neighbours a b u v xs ys others)
 
 -- a tree as a seam of n nodes
-pub record Cut (g : Syntax) (a b n : ℕ) : Type 0 where
+pub record Cut (g : PlainGrammar) (a b n : ℕ) : Type 0 where
   pub symbol : Symbol
   pub seam : Context × Tree
   pub is_seam : IsSeam g a b symbol seam
   pub measure : seam_size seam ≡ n
 
-module _ (g : Syntax) (a b : ℕ) where
+module _ (g : PlainGrammar) (a b : ℕ) where
   mutual
     cut_in : (t : Tree) (x : Symbol) (c : Context) → IsTree g x t → IsContext g x c → IsFollowed a b (yield t) → Cut g a b (context_size c + size t)
     cut_in (Leaf s) x c ht hc ([], ys, e) = absurd cc
@@ -97,7 +97,7 @@ seam_followed a b (Under outer q left right) t hc ht =
     (followed_later a b (yields left) (yield t ++ yields right) (followed_seam a b (yield t) (yields right) ht hc)))
 
 -- the tree of a seam
-module _ (g : Syntax) (a b : ℕ) (x : Symbol) (s : Context × Tree) (is : IsSeam g a b x s) where
+module _ (g : PlainGrammar) (a b : ℕ) (x : Symbol) (s : Context × Tree) (is : IsSeam g a b x s) where
   pub IsTree-seam : IsTree g (Nonterminal g.start) (plug s.0 s.1)
   IsTree-seam = IsTree-plug g s.0 x s.1 is.0.0 is.1.0
 

@@ -1,7 +1,7 @@
 -- One more symbol in a sweep.
 use Rattle.std.proofs.Common.{◌≡◌, ℕ, ◌≤◌, ◌⊎◌, List, [], ◌∷◌, ◌++◌, refl, ap, ⊎_elim, inl, inr, arith}
 use Rattle.cs_grammar.specs.declared.symbol.Symbol.{Symbol}
-use Rattle.cs_grammar.specs.Grammar.{Syntax}
+use Rattle.cs_grammar.specs.Grammar.{PlainGrammar}
 use Rattle.cs_grammar.specs.Tree.{Tree, Forest, Bare, Grown, size, sizes, yield, yields}
 use Rattle.cs_cost.specs.declared.cost.Cost.{Cost}
 use Rattle.cs_cost.specs.Least.{IsCost}
@@ -15,7 +15,7 @@ use Rattle.cs_pairs.specs.Ways.{AreHere, AreLater, joint_size}
 use Rattle.cs_pairs.proofs.Joined.{joined_cases, joined_here, joined_later}
 use Rattle.cs_pairs.proofs.ListCosts.{lesser_left, lesser_right, lesser_either, IsCapped-lesser, bare_low, bare_reached, IsCapped-bare}
 
-module _ (g : Syntax) (k : Kind) (x : Symbol) (xs : List Symbol) where
+module _ (g : PlainGrammar) (k : Kind) (x : Symbol) (xs : List Symbol) where
   -- in one of the two ways
   pub one_way : (f : Forest) → AreTreesOfKind g k (x ∷ xs) f → ((p : Tree × Forest) × AreHere g k x xs p × (joint_size p ≡ sizes f)) ⊎ ((p : Tree × Forest) × AreLater g k x xs p × (joint_size p ≡ sizes f))
   one_way Bare h = absurd h.0
@@ -31,7 +31,7 @@ module _ (g : Syntax) (k : Kind) (x : Symbol) (xs : List Symbol) where
   pub from_later : (p : Tree × Forest) → AreLater g k x xs p → AreTreesOfKind g k (x ∷ xs) (Grown p.0 p.1)
   from_later p h = ((h.0.0, h.1.0), joined_later k (yield p.0) (yields p.1) h.0.1 h.1.1)
 
-module _ (limit : ℕ) (g : Syntax) where
+module _ (limit : ℕ) (g : PlainGrammar) where
   pub swept_none : (k : Kind) → IsCost limit (AreTreesOfKind g k []) sizes (bare_cost k)
   swept_none k = IsCost-from limit (AreTreesOfKind g k []) sizes (bare_cost k) (IsCapped-bare limit k) (λ h. (Bare, bare_reached limit g k h, omega arith)) low
     where

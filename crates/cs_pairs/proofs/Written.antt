@@ -6,7 +6,7 @@ use Rattle.std.proofs.lemmas.List.Elements.{All-head, All-tail, All-append}
 use Rattle.cs_grammar.specs.declared.TheConstants.{LIMIT}
 use Rattle.cs_grammar.specs.declared.symbol.Symbol.{Symbol}
 use Rattle.cs_grammar.specs.declared.symbol.Symbol.TheVariants.{Token, Nonterminal}
-use Rattle.cs_grammar.specs.Grammar.{Production, Syntax, IsSymbol}
+use Rattle.cs_grammar.specs.Grammar.{Production, PlainGrammar, IsSymbol}
 use Rattle.cs_grammar.specs.Tree.{Tree, Leaf, Node, Forest, Bare, Grown, IsTree, size, sizes, code, codes_of}
 use Rattle.cs_grammar.specs.Context.{join}
 use Rattle.cs_grammar.proofs.OneTree.{one_rule}
@@ -23,7 +23,7 @@ use Rattle.cs_pairs.specs.Parts.{parts_from, AreChosenParts, IsPartOf, HasSmallO
 use Rattle.cs_pairs.proofs.ChosenKinds.{IsTree-of_kind, any_chosen}
 use Rattle.cs_pairs.proofs.Placing.{parts_fit, AreChosenParts-join}
 
-module _ (g : Syntax) where
+module _ (g : PlainGrammar) where
   -- a token's part is its leaf, of which nothing is written
   pub takes_leaf : (part : Part) (t : ℕ) (pending : List Part) (text : List ℕ) → part.symbol ≡ Token t → TakesOn g part pending pending text text
   takes_leaf part t pending text is = record {
@@ -120,7 +120,7 @@ module _ (g : Syntax) where
       bare (Grown t l) le = absurd (omega (arith, size_above t, le))
 
 -- a symbol with a tree within the limit has a least one within it
-pub small_least : (g : Syntax) (x : Symbol) (t : Tree) → IsTree g x t → size t ≤ LIMIT → HasLeast g x
+pub small_least : (g : PlainGrammar) (x : Symbol) (t : Tree) → IsTree g x t → size t ≤ LIMIT → HasLeast g x
 small_least g x t h small =
     let u = chosen_exists g x t h in
     (size u.tree, (omega (arith, u.least t h, small), record { reached = (u.tree, IsTree-chosen g u.tree x u.chosen, refl); least = λ v is. u.least v is }))

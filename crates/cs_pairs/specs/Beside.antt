@@ -2,7 +2,7 @@
 use Rattle.std.specs.Prelude.{◌≡◌, ℕ, ◌+◌, ◌≤◌, List, ◌∷◌, ◌++◌, length}
 use Rattle.cs_grammar.specs.declared.symbol.Symbol.{Symbol}
 use Rattle.cs_grammar.specs.declared.symbol.Symbol.TheVariants.{Token, Nonterminal}
-use Rattle.cs_grammar.specs.Grammar.{Production, Syntax, IsRule, IsSymbol}
+use Rattle.cs_grammar.specs.Grammar.{Production, PlainGrammar, IsRule, IsSymbol}
 use Rattle.cs_grammar.specs.Tree.{Tree, Forest, AreTrees, size, sizes, yields}
 use Rattle.cs_grammar.specs.Context.{Context, Hole, Under, IsContext, context_size}
 use Rattle.cs_cost.specs.declared.cost.Cost.{Cost}
@@ -17,11 +17,11 @@ IsBeside b Hole = ⊥
 IsBeside b (Under outer r left right) = IsOfKind (Begins b) (yields right)
 
 -- a context of x whose hole is directly followed by b, below the same node
-abbrev pub IsContextBeside : Syntax → ℕ → Symbol → Context → Type 0
+abbrev pub IsContextBeside : PlainGrammar → ℕ → Symbol → Context → Type 0
 IsContextBeside g b x c = IsContext g x c × IsBeside b c
 
 -- a context of x whose hole is directly followed by b, and a tree of x that ends with a
-abbrev pub IsSeam : Syntax → ℕ → ℕ → Symbol → Context × Tree → Type 0
+abbrev pub IsSeam : PlainGrammar → ℕ → ℕ → Symbol → Context × Tree → Type 0
 IsSeam g a b x s = IsContextBeside g b x s.0 × IsTreeOfKind g (Ends a) x s.1
 
 abbrev pub seam_size : Context × Tree → ℕ
@@ -33,21 +33,21 @@ number_of tokens (Token t) = t
 number_of tokens (Nonterminal n) = tokens + n
 
 -- a context beside b of the symbol with this number
-abbrev pub IsNumbered : Syntax → ℕ → ℕ → Context → Type 0
+abbrev pub IsNumbered : PlainGrammar → ℕ → ℕ → Context → Type 0
 IsNumbered g b m c =
     (x : Symbol) × (number_of g.tokens x ≡ m) × IsSymbol g.tokens g.nonterminals x × IsContextBeside g b x c
 
 -- a seam of a symbol with at most this number
-abbrev pub IsSeamTo : Syntax → ℕ → ℕ → ℕ → Context × Tree → Type 0
+abbrev pub IsSeamTo : PlainGrammar → ℕ → ℕ → ℕ → Context × Tree → Type 0
 IsSeamTo g a b m s = (x : Symbol) × (number_of g.tokens x ≤ m) × IsSeam g a b x s
 
 -- while a row of contexts beside b is made: each cost in it is one of a context
-pub record IsSoundBeside (limit : ℕ) (g : Syntax) (b : ℕ) (row : List Cost) : Type 0 where
+pub record IsSoundBeside (limit : ℕ) (g : PlainGrammar) (b : ℕ) (row : List Cost) : Type 0 where
   pub many : length row ≡ g.tokens + g.nonterminals
   pub holds : Holds limit (IsNumbered g b) context_size row
 
 -- no hole at a place of the rule, at least this one, makes a symbol cost less
-abbrev pub IsBelowPlaces : ℕ → Syntax → ℕ → List Cost → Production → ℕ → Type 0
+abbrev pub IsBelowPlaces : ℕ → PlainGrammar → ℕ → List Cost → Production → ℕ → Type 0
 IsBelowPlaces limit g b row p i =
     (xs : List Symbol) (x : Symbol) (ys : List Symbol) (outer : Context) (left right : Forest) → i ≤ length xs
     → p.right ≡ xs ++ x ∷ ys → AreTrees g xs left → AreTrees g ys right → IsContext g (Nonterminal p.left) outer
@@ -55,6 +55,6 @@ IsBelowPlaces limit g b row p i =
     → rank limit (entry row (number_of g.tokens x)) ≤ capped limit (context_size outer + (1 + (sizes left + sizes right)))
 
 -- the row says what the least context beside b of each symbol costs
-pub record IsExactBeside (limit : ℕ) (g : Syntax) (b : ℕ) (row : List Cost) : Type 0 where
+pub record IsExactBeside (limit : ℕ) (g : PlainGrammar) (b : ℕ) (row : List Cost) : Type 0 where
   pub sound : IsSoundBeside limit g b row
   pub below : (r : ℕ) (p : Production) → IsRule g r p → IsBelowPlaces limit g b row p 0

@@ -3,36 +3,36 @@
 use Rattle.std.specs.Prelude.{◌≡◌, ℕ, ◌+◌, ◌<◌, ◌≤◌, ◌⊎◌, List, [], ◌∷◌, ◌++◌}
 use Rattle.cs_grammar.specs.declared.symbol.Symbol.{Symbol}
 use Rattle.cs_grammar.specs.declared.symbol.Symbol.TheVariants.{Token, Nonterminal}
-use Rattle.cs_grammar.specs.Grammar.{Production, Syntax, IsRule}
+use Rattle.cs_grammar.specs.Grammar.{Production, PlainGrammar, IsRule}
 use Rattle.cs_grammar.specs.Tree.{Tree, Leaf, Node, Forest, Bare, Grown, size, sizes, codes_of}
 use Rattle.cs_pairs.specs.declared.kind.Kind.{Kind}
 use Rattle.cs_pairs.specs.Kinds.{IsOfKind, IsTreeOfKind, before, behind}
 use Rattle.cs_pairs.specs.Ways.{AreHere, AreLater, joint_size}
 
 -- no tree of x that is of the kind has fewer than n nodes, and none of n nodes has a rule below r at its root
-pub record IsFirstOfKind (g : Syntax) (k : Kind) (x : Symbol) (r n : ℕ) : Type 0 where
+pub record IsFirstOfKind (g : PlainGrammar) (k : Kind) (x : Symbol) (r n : ℕ) : Type 0 where
   pub least : (u : Tree) → IsTreeOfKind g k x u → n ≤ size u
   pub lowest : (q : ℕ) → (f : Forest) → IsTreeOfKind g k x (Node q f) → size (Node q f) ≡ n → r ≤ q
 
 -- lists whose first tree is of the kind itself have more than n nodes
-abbrev pub NoneHere : Syntax → Kind → Symbol → List Symbol → ℕ → Type 0
+abbrev pub NoneHere : PlainGrammar → Kind → Symbol → List Symbol → ℕ → Type 0
 NoneHere g k x xs n = (p : Tree × Forest) → AreHere g k x xs p → n < joint_size p
 
 -- lists whose others are of the kind have no fewer than n nodes
-abbrev pub NoneLess : Syntax → Kind → Symbol → List Symbol → ℕ → Type 0
+abbrev pub NoneLess : PlainGrammar → Kind → Symbol → List Symbol → ℕ → Type 0
 NoneLess g k x xs n = (p : Tree × Forest) → AreLater g k x xs p → n ≤ joint_size p
 
 -- A leaf is chosen where it is of the kind. A node is a least tree, its rule the lowest at the root of a least tree, and its
 -- children are the chosen ones of the rule's right side. In a chosen list of trees the first tree is of the kind itself where
 -- some least list has it so, and else the others are.
 abbrev mutual
-  pub IsChosenOfKind : Syntax → Kind → Symbol → Tree → Type 0
+  pub IsChosenOfKind : PlainGrammar → Kind → Symbol → Tree → Type 0
   IsChosenOfKind g k x (Leaf t) = (x ≡ Token t) × IsOfKind k (t ∷ [])
   IsChosenOfKind g k x (Node r children) =
       (p : Production) × IsRule g r p × (x ≡ Nonterminal p.left) × IsFirstOfKind g k x r (size (Node r children))
       × AreChosenOfKind g k p.right children
 
-  pub AreChosenOfKind : Syntax → Kind → List Symbol → Forest → Type 0
+  pub AreChosenOfKind : PlainGrammar → Kind → List Symbol → Forest → Type 0
   AreChosenOfKind g k [] Bare = IsOfKind k []
   AreChosenOfKind g k (x ∷ xs) (Grown t f) =
       (IsChosenOfKind g k x t × AreChosenOfKind g (behind k) xs f × NoneLess g k x xs (size t + sizes f))
@@ -41,7 +41,7 @@ abbrev mutual
   AreChosenOfKind g k (x ∷ xs) Bare = ⊥
 
 -- the codes of the chosen trees of these symbols, together of the kind, come behind what stood there
-pub record AppendsOfKind (g : Syntax) (k : Kind) (xs : List Symbol) (old new : List ℕ) : Type 0 where
+pub record AppendsOfKind (g : PlainGrammar) (k : Kind) (xs : List Symbol) (old new : List ℕ) : Type 0 where
   pub trees : Forest
   pub chosen : AreChosenOfKind g k xs trees
   pub text : new ≡ old ++ codes_of trees

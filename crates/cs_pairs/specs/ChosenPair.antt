@@ -5,7 +5,7 @@ use Rattle.cs_grammar.specs.declared.symbol.Mark.{Mark}
 use Rattle.cs_grammar.specs.declared.symbol.Mark.TheVariants.{Begin, Token, End}
 use Rattle.cs_grammar.specs.declared.symbol.Symbol.{Symbol}
 use Rattle.cs_grammar.specs.declared.symbol.Symbol.TheVariants.{Nonterminal}
-use Rattle.cs_grammar.specs.Grammar.{Production, Syntax, IsRule}
+use Rattle.cs_grammar.specs.Grammar.{Production, PlainGrammar, IsRule}
 use Rattle.cs_grammar.specs.Tree.{Tree, Forest, size, code}
 use Rattle.cs_grammar.specs.Context.{Context, Under, plug}
 use Rattle.cs_cost.specs.declared.cost.Cost.TheVariants.{Least}
@@ -20,14 +20,14 @@ use Rattle.cs_pairs.specs.Pairs.{HasPair}
 
 -- No seam of a and b has fewer than n nodes. Of those with n nodes none has a lower rule than r around its hole, or rule r and its
 -- hole at a lower place than k.
-pub record IsFirstSeam (g : Syntax) (a b r k n : ℕ) : Type 0 where
+pub record IsFirstSeam (g : PlainGrammar) (a b r k n : ℕ) : Type 0 where
   pub least : (x : Symbol) → (s : Context × Tree) → IsSeam g a b x s → n ≤ seam_size s
   pub lowest : (x : Symbol) → (outer : Context) → (q : ℕ) → (left right : Forest) → (u : Tree) → IsSeam g a b x (Under outer q left right, u) → seam_size (Under outer q left right, u) ≡ n → IsAtMost r k q (count left)
 
 -- The chosen tree of two tokens: a least one, where the rule of the node at which they meet is the lowest, and then the place of
 -- the child that ends with the first; this child is chosen to end with it, those behind it are chosen to begin with the second,
 -- those before it are chosen trees, and the node stands in the chosen context of its rule's left side.
-pub record IsChosenSeam (g : Syntax) (a b : ℕ) (t : Tree) : Type 0 where
+pub record IsChosenSeam (g : PlainGrammar) (a b : ℕ) (t : Tree) : Type 0 where
   pub number : ℕ
   pub rule : Production
   pub is_rule : IsRule g number rule
@@ -47,7 +47,7 @@ pub record IsChosenSeam (g : Syntax) (a b : ℕ) (t : Tree) : Type 0 where
   pub whole : t ≡ plug (Under outer number left right) last
 
 -- A pair with a mark has the start symbol's chosen tree of the kind: that begins with the token, ends with it, is empty.
-abbrev pub IsChosenPair : Syntax → Mark → Mark → Tree → Type 0
+abbrev pub IsChosenPair : PlainGrammar → Mark → Mark → Tree → Type 0
 IsChosenPair g Begin (Token b) t = IsChosenOfKind g (Begins b) (Nonterminal g.start) t
 IsChosenPair g Begin End t = IsChosenOfKind g Empty (Nonterminal g.start) t
 IsChosenPair g (Token a) (Token b) t = IsChosenSeam g a b t
@@ -57,19 +57,19 @@ IsChosenPair g (Token a) Begin t = ⊥
 IsChosenPair g End b t = ⊥
 
 -- the least tree with the pair is within the limit
-abbrev pub HasLeastPair : Syntax → Mark → Mark → Type 0
+abbrev pub HasLeastPair : PlainGrammar → Mark → Mark → Type 0
 HasLeastPair g a b = (n : ℕ) × IsCost LIMIT (HasPair g a b) size (Least n)
 
 -- the code of the chosen tree of the pair
-abbrev pub IsCodeOfPair : Syntax → Mark → Mark → List ℕ → Type 0
+abbrev pub IsCodeOfPair : PlainGrammar → Mark → Mark → List ℕ → Type 0
 IsCodeOfPair g a b rules = (t : Tree) × IsChosenPair g a b t × (rules ≡ code t)
 
 -- the code of the chosen tree of a kind and a symbol
-abbrev pub IsCodeOfKind : Syntax → Kind → Symbol → List ℕ → Type 0
+abbrev pub IsCodeOfKind : PlainGrammar → Kind → Symbol → List ℕ → Type 0
 IsCodeOfKind g k x rules = (t : Tree) × IsChosenOfKind g k x t × (rules ≡ code t)
 
 -- the chosen tree of two tokens is within the limit, and they meet in it at this rule and place
-pub record IsChosenMeeting (g : Syntax) (a b r k : ℕ) : Type 0 where
+pub record IsChosenMeeting (g : PlainGrammar) (a b r k : ℕ) : Type 0 where
   pub tree : Tree
   pub chosen : IsChosenSeam g a b tree
   pub at_rule : chosen.number ≡ r

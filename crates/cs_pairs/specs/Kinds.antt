@@ -2,7 +2,7 @@
 -- grammar (Aho, Lam, Sethi and Ullman 2006, "Compilers"), as kinds of trees.
 use Rattle.std.specs.Prelude.{◌≡◌, ℕ, ◌⊎◌, List, [], ◌∷◌, ◌++◌}
 use Rattle.cs_grammar.specs.declared.symbol.Symbol.{Symbol}
-use Rattle.cs_grammar.specs.Grammar.{Syntax, IsNumberOf}
+use Rattle.cs_grammar.specs.Grammar.{PlainGrammar, IsNumberOf}
 use Rattle.cs_grammar.specs.Tree.{Tree, Forest, IsTree, AreTrees, yield, yields}
 use Rattle.cs_pairs.specs.declared.kind.Kind.{Kind}
 use Rattle.cs_pairs.specs.declared.kind.Kind.TheVariants.{Any, Empty, Begins, Ends}
@@ -15,11 +15,11 @@ IsOfKind (Begins b) tokens = (rest : List ℕ) × (tokens ≡ b ∷ rest)
 IsOfKind (Ends a) tokens = (rest : List ℕ) × (tokens ≡ rest ++ a ∷ [])
 
 -- a tree of x that is of the kind
-abbrev pub IsTreeOfKind : Syntax → Kind → Symbol → Tree → Type 0
+abbrev pub IsTreeOfKind : PlainGrammar → Kind → Symbol → Tree → Type 0
 IsTreeOfKind g k x t = IsTree g x t × IsOfKind k (yield t)
 
 -- trees of these symbols that are of the kind together
-abbrev pub AreTreesOfKind : Syntax → Kind → List Symbol → Forest → Type 0
+abbrev pub AreTreesOfKind : PlainGrammar → Kind → List Symbol → Forest → Type 0
 AreTreesOfKind g k xs f = AreTrees g xs f × IsOfKind k (yields f)
 
 -- A list of trees is of a kind in one of two ways. Its first tree is of the kind, and the others together are of this one;

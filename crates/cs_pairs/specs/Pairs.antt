@@ -1,10 +1,10 @@
 -- Which marks may stand side by side: the pairs of neighbours over all framed sentences, as in Raselimo, Taljaard and Fischer 2019,
--- "Breaking Parsers: Mutation-based Generation of Programs with Guaranteed Syntax Errors".
+-- "Breaking Parsers: Mutation-based Generation of Programs with Guaranteed PlainGrammar Errors".
 use Rattle.std.specs.Prelude.{◌≡◌, ℕ, List, length}
 use Rattle.cs_grammar.specs.declared.symbol.Mark.{Mark}
 use Rattle.cs_grammar.specs.declared.symbol.Mark.TheVariants.{Token}
 use Rattle.cs_grammar.specs.declared.symbol.Symbol.TheVariants.{Nonterminal}
-use Rattle.cs_grammar.specs.Grammar.{Syntax, IsNumberOf}
+use Rattle.cs_grammar.specs.Grammar.{PlainGrammar, IsNumberOf}
 use Rattle.cs_grammar.specs.Tree.{Tree, IsTree, size}
 use Rattle.cs_grammar.specs.Sentence.{IsSentence, framed, IsFollowed}
 use Rattle.cs_cost.specs.declared.cost.Cost.{Cost}
@@ -14,18 +14,18 @@ use Rattle.cs_pairs.specs.Filled.{IsFilled}
 use Rattle.cs_pairs.specs.Tables.{row_in}
 
 -- some framed sentence has a directly followed by b
-abbrev pub IsAdjacent : Syntax → Mark → Mark → Type 0
+abbrev pub IsAdjacent : PlainGrammar → Mark → Mark → Type 0
 IsAdjacent g a b = (tokens : List ℕ) × IsSentence g tokens × IsFollowed a b (framed tokens)
 
 -- a tree of the start symbol whose framed yield has a directly followed by b
-abbrev pub HasPair : Syntax → Mark → Mark → Tree → Type 0
+abbrev pub HasPair : PlainGrammar → Mark → Mark → Tree → Type 0
 HasPair g a b t = IsTree g (Nonterminal g.start) t × Meets (Pair a b) t
 
 -- a row that says what the pairs cost whose second token is b
-abbrev pub ArePairs : ℕ → Syntax → ℕ → List Cost → Type 0
+abbrev pub ArePairs : ℕ → PlainGrammar → ℕ → List Cost → Type 0
 ArePairs limit g b row = IsFilled limit (λ a. HasPair g (Token a) (Token b)) size g.tokens row
 
 -- such rows for the first so many tokens
-pub record ArePairRows (limit : ℕ) (g : Syntax) (count : ℕ) (rows : List (List Cost)) : Type 0 where
+pub record ArePairRows (limit : ℕ) (g : PlainGrammar) (count : ℕ) (rows : List (List Cost)) : Type 0 where
   pub many : length rows ≡ count
   pub each : (b : ℕ) → IsNumberOf count b → ArePairs limit g b (row_in rows b)

@@ -3,7 +3,7 @@ use Rattle.std.specs.Prelude.{◌≡◌, ℕ, ◌+◌, ◌<◌, ◌≤◌, List,
 use Rattle.cs_grammar.specs.declared.TheConstants.{LIMIT}
 use Rattle.cs_grammar.specs.declared.symbol.Symbol.{Symbol}
 use Rattle.cs_grammar.specs.declared.symbol.Symbol.TheVariants.{Nonterminal}
-use Rattle.cs_grammar.specs.Grammar.{Production, Syntax, IsRule, IsSymbol}
+use Rattle.cs_grammar.specs.Grammar.{Production, PlainGrammar, IsRule, IsSymbol}
 use Rattle.cs_grammar.specs.Tree.{Tree, Node, Forest, Bare, Grown, size, sizes, code, codes_of}
 use Rattle.cs_pairs.specs.declared.kind.Kind.{Kind}
 use Rattle.cs_pairs.specs.declared.writing.Part.{Part}
@@ -20,26 +20,26 @@ parts_from k place i [] = []
 parts_from k place i (x ∷ xs) = record { kind = kind_at k place i; symbol = x } ∷ parts_from k place (i + 1) xs
 
 -- the trees are the chosen ones of the parts
-abbrev pub AreChosenParts : Syntax → List Part → Forest → Type 0
+abbrev pub AreChosenParts : PlainGrammar → List Part → Forest → Type 0
 AreChosenParts g [] Bare = Unit {0}
 AreChosenParts g (part ∷ parts) (Grown t f) = IsChosenOfKind g part.kind part.symbol t × AreChosenParts g parts f
 AreChosenParts g [] (Grown t f) = ⊥
 AreChosenParts g (part ∷ parts) Bare = ⊥
 
 -- a part of a grammar
-abbrev pub IsPartOf : Syntax → Part → Type 0
+abbrev pub IsPartOf : PlainGrammar → Part → Type 0
 IsPartOf g part = IsKind g.tokens part.kind × IsSymbol g.tokens g.nonterminals part.symbol
 
 -- some tree of x that is of the kind is within the limit
-abbrev pub HasSmallOfKind : Syntax → Kind → Symbol → Type 0
+abbrev pub HasSmallOfKind : PlainGrammar → Kind → Symbol → Type 0
 HasSmallOfKind g k x = (t : Tree) × IsTreeOfKind g k x t × (size t ≤ LIMIT)
 
 -- some trees of these symbols that are of the kind are within the limit together
-abbrev pub HaveSmallOfKind : Syntax → Kind → List Symbol → Type 0
+abbrev pub HaveSmallOfKind : PlainGrammar → Kind → List Symbol → Type 0
 HaveSmallOfKind g k xs = (f : Forest) × AreTreesOfKind g k xs f × (sizes f ≤ LIMIT)
 
 -- the rule at the root of the chosen tree of a kind and a nonterminal
-pub record IsRootOf (g : Syntax) (k : Kind) (left r : ℕ) : Type 0 where
+pub record IsRootOf (g : PlainGrammar) (k : Kind) (left r : ℕ) : Type 0 where
   pub rule : Production
   pub number : IsRule g r rule
   pub of_left : rule.left ≡ left
@@ -47,6 +47,6 @@ pub record IsRootOf (g : Syntax) (k : Kind) (left r : ℕ) : Type 0 where
 
 -- A part is taken on: with its chosen tree and those of the parts behind it, what is written then and what is pending then make
 -- the same code, and less is pending.
-pub record TakesOn (g : Syntax) (part : Part) (pending_old pending_new : List Part) (old new : List ℕ) : Type 0 where
+pub record TakesOn (g : PlainGrammar) (part : Part) (pending_old pending_new : List Part) (old new : List ℕ) : Type 0 where
   pub fits : All (IsPartOf g) (reverse pending_old) → All (IsPartOf g) (reverse pending_new)
   pub rest : (t : Tree) → (f : Forest) → IsChosenOfKind g part.kind part.symbol t → size t ≤ LIMIT → AreChosenParts g (reverse pending_old) f → (h : Forest) × AreChosenParts g (reverse pending_new) h × (sizes h < size t + sizes f) × (new ++ codes_of h ≡ old ++ (code t ++ codes_of f))

@@ -2,7 +2,7 @@
 use Rattle.std.specs.Prelude.{◌≡◌, ℕ, ◌≤◌, List, length, All}
 use Rattle.cs_grammar.specs.declared.symbol.Symbol.{Symbol}
 use Rattle.cs_grammar.specs.declared.symbol.Symbol.TheVariants.{Token, Nonterminal}
-use Rattle.cs_grammar.specs.Grammar.{Production, Syntax, IsRule}
+use Rattle.cs_grammar.specs.Grammar.{Production, PlainGrammar, IsRule}
 use Rattle.cs_grammar.specs.Tree.{size}
 use Rattle.cs_cost.specs.declared.cost.Cost.{Cost}
 use Rattle.cs_cost.specs.Rank.{rank, IsCapped, entry}
@@ -39,7 +39,7 @@ abbrev pub says : ℕ → Kind → (any empty own : List Cost) → Kind → Symb
 says limit made any empty own k x = said limit k (row_for made any empty own k) x
 
 -- each cost in the row is one of a tree of the kind
-pub record IsSoundRow (limit : ℕ) (g : Syntax) (k : Kind) (row : List Cost) : Type 0 where
+pub record IsSoundRow (limit : ℕ) (g : PlainGrammar) (k : Kind) (row : List Cost) : Type 0 where
   pub many : length row ≡ g.nonterminals
   pub holds : Holds limit (λ n. IsTreeOfKind g k (Nonterminal n)) size row
 
@@ -49,11 +49,11 @@ IsBelowNode limit k any empty own p =
     rank limit (entry own p.left) ≤ rank limit (node_cost limit (says limit k any empty own) k p.right)
 
 -- no rule makes a nonterminal cost less
-pub record IsClosedRow (limit : ℕ) (g : Syntax) (k : Kind) (any empty own : List Cost) : Type 0 where
+pub record IsClosedRow (limit : ℕ) (g : PlainGrammar) (k : Kind) (any empty own : List Cost) : Type 0 where
   pub below : (r : ℕ) (p : Production) → IsRule g r p → IsBelowNode limit k any empty own p
 
 -- both
-pub record IsExactRow (limit : ℕ) (g : Syntax) (k : Kind) (any empty own : List Cost) : Type 0 where
+pub record IsExactRow (limit : ℕ) (g : PlainGrammar) (k : Kind) (any empty own : List Cost) : Type 0 where
   pub sound : IsSoundRow limit g k own
   pub closed : IsClosedRow limit g k any empty own
 

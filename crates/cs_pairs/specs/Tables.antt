@@ -2,7 +2,7 @@
 use Rattle.std.specs.Prelude.{◌≡◌, ℕ, zero, suc, List, [], length, slice_index_or}
 use Rattle.cs_grammar.specs.declared.symbol.Symbol.{Symbol}
 use Rattle.cs_grammar.specs.declared.symbol.Symbol.TheVariants.{Nonterminal}
-use Rattle.cs_grammar.specs.Grammar.{Syntax, IsNumberOf, IsGrammar}
+use Rattle.cs_grammar.specs.Grammar.{PlainGrammar, IsNumberOf, IsGrammar}
 use Rattle.cs_grammar.specs.Tree.{size}
 use Rattle.cs_cost.specs.declared.cost.Cost.{Cost}
 use Rattle.cs_cost.specs.Least.{IsCost}
@@ -35,12 +35,12 @@ abbrev pub tell : ℕ → Tables → Kind → Symbol → Cost
 tell limit t k x = said limit k (row_of t k) x
 
 -- rows of the first so many tokens
-pub record AreExactRows (limit : ℕ) (g : Syntax) (kind : ℕ → Kind) (any empty : List Cost) (count : ℕ) (rows : List (List Cost)) : Type 0 where
+pub record AreExactRows (limit : ℕ) (g : PlainGrammar) (kind : ℕ → Kind) (any empty : List Cost) (count : ℕ) (rows : List (List Cost)) : Type 0 where
   pub many : length rows ≡ count
   pub each : (n : ℕ) → IsNumberOf count n → IsExactRow limit g (kind n) any empty (row_in rows n)
 
 -- the tables of a grammar
-pub record AreExactTables (limit : ℕ) (g : Syntax) (t : Tables) : Type 0 where
+pub record AreExactTables (limit : ℕ) (g : PlainGrammar) (t : Tables) : Type 0 where
   pub grammar : IsGrammar g
   pub any_exact : IsExactRow limit g Any t.any t.empty t.any
   pub empty_exact : IsExactRow limit g Empty t.any t.empty t.empty
@@ -48,6 +48,6 @@ pub record AreExactTables (limit : ℕ) (g : Syntax) (t : Tables) : Type 0 where
   pub ends_exact : AreExactRows limit g Ends t.any t.empty g.tokens t.ends
 
 -- a row that says what the least tree of each nonterminal costs that is of the kind
-pub record AreCosts (limit : ℕ) (g : Syntax) (k : Kind) (row : List Cost) : Type 0 where
+pub record AreCosts (limit : ℕ) (g : PlainGrammar) (k : Kind) (row : List Cost) : Type 0 where
   pub many : length row ≡ g.nonterminals
   pub exact : (n : ℕ) → IsCost limit (IsTreeOfKind g k (Nonterminal n)) size (entry row n)

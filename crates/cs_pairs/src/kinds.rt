@@ -28,10 +28,10 @@ pub(crate) struct Kinds<'g> {
 
 impl<'g> Model for Kinds<'g> {
     ghost use Rattle.cs_grammar.specs.declared.TheConstants.{LIMIT};
-    ghost use Rattle.cs_grammar.specs.Grammar.{Syntax};
+    ghost use Rattle.cs_grammar.specs.Grammar.{PlainGrammar};
     ghost use Rattle.cs_pairs.specs.Tables.{AreExactTables};
 
-    ghost Value = { Syntax };
+    ghost Value = { PlainGrammar };
 
     ghost view = { λ k. k.grammar.now };
 

@@ -37,11 +37,11 @@ pub struct Pairs<'g> {
 impl<'g> Model for Pairs<'g> {
     ghost use Rattle.std.specs.Prelude.{◌≡◌};
     ghost use Rattle.cs_grammar.specs.declared.TheConstants.{LIMIT};
-    ghost use Rattle.cs_grammar.specs.Grammar.{Syntax};
+    ghost use Rattle.cs_grammar.specs.Grammar.{PlainGrammar};
     ghost use Rattle.cs_pairs.specs.Fronts.{AreRuleFronts};
     ghost use Rattle.cs_pairs.specs.Pairs.{ArePairRows};
 
-    ghost Value = { Syntax };
+    ghost Value = { PlainGrammar };
 
     ghost view = { λ p. p.kinds };
 

@@ -2,7 +2,7 @@
 
 ghost use Rattle.std.specs.Prelude.{◌≡◌, [], ◌∷◌, List};
 ghost use Rattle.cs_grammar.specs.declared.symbol.Symbol.{Symbol};
-ghost use Rattle.cs_grammar.specs.Grammar.{Syntax, IsSymbol};
+ghost use Rattle.cs_grammar.specs.Grammar.{PlainGrammar, IsSymbol};
 ghost use Rattle.cs_pairs.specs.Kinds.{IsKind};
 ghost use Rattle.cs_pairs.specs.Sweep.{IsSwept, AreWays};
 
@@ -31,7 +31,7 @@ impl Sweep {
     // Before any symbol is swept.
     pub(crate) fn new(kind: Kind) -> Sweep
         ensures kind { result.kind ≡ kind }
-        ensures swept { (g : Syntax) → IsSwept LIMIT g [] result }
+        ensures swept { (g : PlainGrammar) → IsSwept LIMIT g [] result }
     {
         Sweep {
             kind,

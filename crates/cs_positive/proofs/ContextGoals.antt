@@ -6,7 +6,7 @@ use Rattle.std.proofs.lemmas.Option.{slice_get_within}
 use Rattle.cs_grammar.specs.declared.symbol.Symbol.{Symbol}
 use Rattle.cs_grammar.specs.declared.symbol.Symbol.TheVariants.{Nonterminal}
 use Rattle.cs_grammar.specs.declared.TheConstants.{LIMIT}
-use Rattle.cs_grammar.specs.Grammar.{Production, Syntax, IsRule}
+use Rattle.cs_grammar.specs.Grammar.{Production, PlainGrammar, IsRule}
 use Rattle.cs_grammar.specs.Tree.{Tree, Leaf, Node, Forest, Bare, Grown, IsTree, AreTrees, size, sizes, codes_of}
 use Rattle.cs_grammar.specs.Context.{Context as TreeContext, Hole, Under, IsContext, context_size, code_before, code_after, join, plug}
 use Rattle.cs_grammar.proofs.Forests.{AreTrees-join, sizes-join}
@@ -32,7 +32,7 @@ use Rattle.cs_positive.specs.Verdict.{IsMet, IsChosenOfContext, IsCodeOf}
 use Rattle.cs_positive.proofs.RuleGoals.{least_context}
 
 -- trees of some symbols, cut at one of them
-pub record Cut (g : Syntax) (xs : List Symbol) (k : ℕ) (t : Tree) (n : ℕ) : Type 0 where
+pub record Cut (g : PlainGrammar) (xs : List Symbol) (k : ℕ) (t : Tree) (n : ℕ) : Type 0 where
   pub before : List Symbol
   pub behind : List Symbol
   pub here : Symbol
@@ -45,7 +45,7 @@ pub record Cut (g : Syntax) (xs : List Symbol) (k : ℕ) (t : Tree) (n : ℕ) : 
   pub right_trees : AreTrees g behind right
   pub measure : n ≡ sizes left + size t + sizes right
 
-pub cut_at : (g : Syntax) (f : Forest) (xs : List Symbol) (k : ℕ) (t : Tree) → AreTrees g xs f → slice_get (trees f) k ≡ Some t → Cut g xs k t (sizes f)
+pub cut_at : (g : PlainGrammar) (f : Forest) (xs : List Symbol) (k : ℕ) (t : Tree) → AreTrees g xs f → slice_get (trees f) k ≡ Some t → Cut g xs k t (sizes f)
 cut_at g Bare xs k t h at = absurd cc
 cut_at g (Grown u f) [] k t h at = absurd h
 cut_at g (Grown u f) (x ∷ xs) zero t h at =
@@ -68,7 +68,7 @@ cut_at g (Grown u f) (x ∷ xs) (suc k) t h at =
     }
 
 -- A tree in a context, with a node of rule p in it whose child at place i is a node of rule q.
-pub record FoundIn (g : Syntax) (p i q n : ℕ) : Type 0 where
+pub record FoundIn (g : PlainGrammar) (p i q n : ℕ) : Type 0 where
   pub outer : Production
   pub inner : Production
   pub is_outer : IsRule g p outer
@@ -87,7 +87,7 @@ pub record FoundIn (g : Syntax) (p i q n : ℕ) : Type 0 where
   pub trees : AreTrees g inner.right children
   pub measure : context_size context + (1 + (sizes left + sizes right)) + (1 + sizes children) ≡ n
 
-module _ (g : Syntax) (p i q : ℕ) where
+module _ (g : PlainGrammar) (p i q : ℕ) where
   here_in : (r : ℕ) (o : Production) (f : Forest) (c : TreeContext) → IsRule g r o → AreTrees g o.right f → IsContext g (Nonterminal o.left) c → r ≡ p → IsChild i q f → FoundIn g p i q (context_size c + (1 + sizes f))
   here_in r o f c rule hf hc same child =
       let w = cut_at g f o.right (i - 1) (Node q child.grandchildren) hf child.at in
@@ -159,7 +159,7 @@ at_join Bare t right (suc k) e = absurd (omega (arith, e))
 at_join (Grown u f) t right zero e = absurd (omega (arith, e))
 at_join (Grown u f) t right (suc k) e = at_join f t right k (omega (arith, e))
 
-module _ (g : Syntax) (p i q : ℕ) where
+module _ (g : PlainGrammar) (p i q : ℕ) where
   -- the chosen tree of a context goal meets it
   pub context_met : (u : Tree) → IsChosenOfContext g p i q u → IsMet g (Context p i q) u
   context_met u h =
@@ -199,7 +199,7 @@ module _ (g : Syntax) (p i q : ℕ) where
       h.whole ∙ ap (λ c. plug (Under c p h.left h.right) (Node q h.children)) contexts ∙ ap (λ f. plug (Under k.context p f h.right) (Node q h.children)) lefts
       ∙ ap (λ f. plug (Under k.context p k.left f) (Node q h.children)) rights ∙ ap (λ f. plug (Under k.context p k.left k.right) (Node q f)) children ∙ sym k.whole
 
-module _ (limit : ℕ) (g : Syntax) (p i q : ℕ) (outer inner : Production) (is_outer : IsRule g p outer) (is_inner : IsRule g q inner) (xs ys : List Symbol) (e : outer.right ≡ xs ++ Nonterminal inner.left ∷ ys) (at : length xs + 1 ≡ i) where
+module _ (limit : ℕ) (g : PlainGrammar) (p i q : ℕ) (outer inner : Production) (is_outer : IsRule g p outer) (is_inner : IsRule g q inner) (xs ys : List Symbol) (e : outer.right ≡ xs ++ Nonterminal inner.left ∷ ys) (at : length xs + 1 ≡ i) where
   -- the parts of a tree that meets the goal: a context of the outer left side, the inner node's siblings and its children
   abbrev pub ArePlaced : (TreeContext × (Forest × Forest)) × Forest → Type 0
   ArePlaced ps = (IsContextOf g outer.left ps.0.0 × AreSiblings g xs ys ps.0.1) × AreTrees g inner.right ps.1
@@ -242,7 +242,7 @@ module _ (limit : ℕ) (g : Syntax) (p i q : ℕ) (outer inner : Production) (is
       IsCost-same limit ArePlaced (IsMet g (Context p i q)) placed_size size (plus limit (plus limit a (plus limit (cost_of limit 1) (plus limit l s))) (plus limit (cost_of limit 1) b)) placed parted all
 
 -- the inner nonterminal stands at its place of the outer rule
-pub placed_in : (g : Syntax) (p i q : ℕ) (outer inner : Production) → IsOccurrence g p i q → IsRule g p outer → IsRule g q inner → (outer.right ≡ take (i - 1) outer.right ++ Nonterminal inner.left ∷ drop i outer.right) × (length (take (i - 1) outer.right) + 1 ≡ i)
+pub placed_in : (g : PlainGrammar) (p i q : ℕ) (outer inner : Production) → IsOccurrence g p i q → IsRule g p outer → IsRule g q inner → (outer.right ≡ take (i - 1) outer.right ++ Nonterminal inner.left ∷ drop i outer.right) × (length (take (i - 1) outer.right) + 1 ≡ i)
 placed_in g p i q outer inner o is_outer is_inner =
     let outers = one_rule g p p o.outer outer refl o.is_outer is_outer in
     let inners = one_rule g q q o.inner inner refl o.is_inner is_inner in
@@ -253,7 +253,7 @@ placed_in g p i q outer inner o is_outer is_inner =
     (split_at outer.right (i - 1) (Nonterminal inner.left) at ∙ ap (λ k. take (i - 1) outer.right ++ Nonterminal inner.left ∷ drop k outer.right) next, omega (arith, short, o.above_zero))
 
 -- the parts of a tree that meets the goal, within its size
-pub record ContextParts (g : Syntax) (outer inner : Production) (xs ys : List Symbol) (n : ℕ) : Type 0 where
+pub record ContextParts (g : PlainGrammar) (outer inner : Production) (xs ys : List Symbol) (n : ℕ) : Type 0 where
   pub context : TreeContext
   pub left : Forest
   pub right : Forest
@@ -264,7 +264,7 @@ pub record ContextParts (g : Syntax) (outer inner : Production) (xs ys : List Sy
   pub trees : AreTrees g inner.right children
   pub measure : context_size context + (1 + (sizes left + sizes right)) + (1 + sizes children) ≤ n
 
-module _ (g : Syntax) (p i q : ℕ) (outer inner : Production) (is_outer : IsRule g p outer) (is_inner : IsRule g q inner) (xs ys : List Symbol) (e : outer.right ≡ xs ++ Nonterminal inner.left ∷ ys) (at : length xs + 1 ≡ i) where
+module _ (g : PlainGrammar) (p i q : ℕ) (outer inner : Production) (is_outer : IsRule g p outer) (is_inner : IsRule g q inner) (xs ys : List Symbol) (e : outer.right ≡ xs ++ Nonterminal inner.left ∷ ys) (at : length xs + 1 ≡ i) where
   context_parts : (t : Tree) → IsMet g (Context p i q) t → ContextParts g outer inner xs ys (size t)
   context_parts t h =
       let w = parted (size t) g p i q outer inner is_outer is_inner xs ys e at t h in
@@ -286,7 +286,7 @@ module _ (g : Syntax) (p i q : ℕ) (outer inner : Production) (is_outer : IsRul
         measure = omega (arith, w.measure, found.0, found.1.reached.2);
       }
 
-module _ (g : Syntax) (outer inner : Production) (xs ys : List Symbol) (parts : ContextParts g outer inner xs ys LIMIT) where
+module _ (g : PlainGrammar) (outer inner : Production) (xs ys : List Symbol) (parts : ContextParts g outer inner xs ys LIMIT) where
   pub outer_context : HasLeastContext g outer.left
   outer_context = least_context g outer.left parts.context parts.around (omega (arith, parts.measure))
 
@@ -304,7 +304,7 @@ regroup : (before l c r after : List ℕ) (p q : ℕ) → before ++ p ∷ [] ++ 
 regroup before l c r after p q = simp append_assoc
 
 -- the code that is put together of the chosen context and the chosen trees in it
-module _ (g : Syntax) (p i q : ℕ) (outer inner : Production) (is_outer : IsRule g p outer) (is_inner : IsRule g q inner) (xs ys : List Symbol) (e : outer.right ≡ xs ++ Nonterminal inner.left ∷ ys) (at : length xs + 1 ≡ i) where
+module _ (g : PlainGrammar) (p i q : ℕ) (outer inner : Production) (is_outer : IsRule g p outer) (is_inner : IsRule g q inner) (xs ys : List Symbol) (e : outer.right ≡ xs ++ Nonterminal inner.left ∷ ys) (at : length xs + 1 ≡ i) where
   pub context_code : (before after d1 d2 d3 d4 d5 d6 d7 : List ℕ) → IsAround g outer.left before after → d1 ≡ before → d2 ≡ d1 ++ p ∷ [] → AppendsAllChosen g xs d2 d3 → d4 ≡ d3 ++ q ∷ [] → AppendsAllChosen g inner.right d4 d5 → AppendsAllChosen g ys d5 d6 → d7 ≡ d6 ++ after → IsCodeOf g (Context p i q) d7
   context_code before after d1 d2 d3 d4 d5 d6 d7 a is1 is2 lefts is4 inners rights is7 =
       let c = Under a.context p lefts.trees rights.trees in
@@ -336,7 +336,7 @@ module _ (g : Syntax) (p i q : ℕ) (outer inner : Production) (is_outer : IsRul
       (plug c node, chosen, last ∙ regroup (code_before a.context) (codes_of lefts.trees) (codes_of inners.trees) (codes_of rights.trees) (code_after a.context) p q ∙ sym (code-plug c node))
 
 -- a context goal that some tree meets has a chosen tree
-pub context_exists : (g : Syntax) (p i q : ℕ) (t : Tree) → IsMet g (Context p i q) t → (u : Tree) × IsChosenOfContext g p i q u
+pub context_exists : (g : PlainGrammar) (p i q : ℕ) (t : Tree) → IsMet g (Context p i q) t → (u : Tree) × IsChosenOfContext g p i q u
 context_exists g p i q t h =
     let w = found_in_whole g p i q t h in
     let d = chosen_context_exists g w.outer.left w.context w.around in

@@ -2,7 +2,7 @@
 use Rattle.std.proofs.Common.{◌≡◌, ℕ, ◌+◌, ◌≤◌, List, [], ◌∷◌, ◌++◌, refl, sym, ap, ◌∙◌, subst, inl, arith, append_assoc}
 use Rattle.cs_grammar.specs.declared.TheConstants.{LIMIT}
 use Rattle.cs_grammar.specs.declared.symbol.Symbol.TheVariants.{Nonterminal}
-use Rattle.cs_grammar.specs.Grammar.{Production, Syntax, IsRule}
+use Rattle.cs_grammar.specs.Grammar.{Production, PlainGrammar, IsRule}
 use Rattle.cs_grammar.specs.Tree.{Tree, Node, Forest, IsTree, AreTrees, size, sizes, code, codes_of}
 use Rattle.cs_grammar.specs.Context.{Context as TreeContext, context_size, code_before, code_after, plug}
 use Rattle.cs_grammar.proofs.OneTree.{one_rule}
@@ -21,7 +21,7 @@ use Rattle.cs_embed.proofs.ChosenContexts.{chosen_context_exists, chosen_context
 use Rattle.cs_goals.specs.declared.goal.Goal.TheVariants.{Rule}
 use Rattle.cs_positive.specs.Verdict.{IsMet, IsChosenOfRule, IsCodeOf}
 
-module _ (limit : ℕ) (g : Syntax) (r : ℕ) (p : Production) (rule : IsRule g r p) where
+module _ (limit : ℕ) (g : PlainGrammar) (r : ℕ) (p : Production) (rule : IsRule g r p) where
   -- the parts of a tree that meets the goal: a context of the rule's left side and the node's children
   abbrev pub AreParts : TreeContext × Forest → Type 0
   AreParts parts = IsContextOf g p.left parts.0 × AreTrees g p.right parts.1
@@ -51,19 +51,19 @@ module _ (limit : ℕ) (g : Syntax) (r : ℕ) (p : Production) (rule : IsRule g 
       IsCost-same limit AreParts (IsMet g (Rule r)) parts_size size (plus limit a (plus limit (cost_of limit 1) b)) built cut parts
 
 -- the parts of a tree that meets the goal, within its size
-pub record RuleParts (g : Syntax) (p : Production) (n : ℕ) : Type 0 where
+pub record RuleParts (g : PlainGrammar) (p : Production) (n : ℕ) : Type 0 where
   pub context : TreeContext
   pub children : Forest
   pub around : IsContextOf g p.left context
   pub trees : AreTrees g p.right children
   pub measure : context_size context + (1 + sizes children) ≤ n
 
-pub rule_parts : (g : Syntax) (r : ℕ) (p : Production) (rule : IsRule g r p) (t : Tree) → IsMet g (Rule r) t → RuleParts g p (size t)
+pub rule_parts : (g : PlainGrammar) (r : ℕ) (p : Production) (rule : IsRule g r p) (t : Tree) → IsMet g (Rule r) t → RuleParts g p (size t)
 rule_parts g r p rule t h =
     let c = cut (size t) g r p rule t h in
     record { context = c.0.0; children = c.0.1; around = c.1.0; trees = c.1.1; measure = c.2 }
 
-module _ (g : Syntax) (r : ℕ) where
+module _ (g : PlainGrammar) (r : ℕ) where
   -- the chosen tree of a rule goal meets it
   pub rule_met : (u : Tree) → IsChosenOfRule g r u → IsMet g (Rule r) u
   rule_met u h =
@@ -90,7 +90,7 @@ module _ (g : Syntax) (r : ℕ) where
       h.whole ∙ ap (λ c. plug c (Node r h.children)) contexts ∙ ap (λ f. plug k.context (Node r f)) forests ∙ sym k.whole
 
 -- the code that is put together of the chosen context and the chosen children
-pub rule_code : (g : Syntax) (r : ℕ) (p : Production) (before after d1 d2 d3 d4 : List ℕ) → IsRule g r p → IsAround g p.left before after → d1 ≡ before → d2 ≡ d1 ++ r ∷ [] → AppendsAllChosen g p.right d2 d3 → d4 ≡ d3 ++ after → IsCodeOf g (Rule r) d4
+pub rule_code : (g : PlainGrammar) (r : ℕ) (p : Production) (before after d1 d2 d3 d4 : List ℕ) → IsRule g r p → IsAround g p.left before after → d1 ≡ before → d2 ≡ d1 ++ r ∷ [] → AppendsAllChosen g p.right d2 d3 → d4 ≡ d3 ++ after → IsCodeOf g (Rule r) d4
 rule_code g r p before after d1 d2 d3 d4 rule a is1 is2 appended is4 =
     let c = a.context in
     let node = Node r appended.trees in
@@ -101,14 +101,14 @@ rule_code g r p before after d1 d2 d3 d4 rule a is1 is2 appended is4 =
     (plug c node, record { rule = p; number = rule; context = c; children = appended.trees; around = a.chosen; chosen = appended.chosen; whole = refl }, text ∙ sym (code-plug c node))
 
 -- a nonterminal with a context within the limit has a least one
-pub least_context : (g : Syntax) (n : ℕ) (c : TreeContext) → IsContextOf g n c → context_size c ≤ LIMIT → HasLeastContext g n
+pub least_context : (g : PlainGrammar) (n : ℕ) (c : TreeContext) → IsContextOf g n c → context_size c ≤ LIMIT → HasLeastContext g n
 least_context g n c is small =
     let d = chosen_context_exists g n c is in
     let d_is = IsContext-chosen g d.context (Nonterminal n) d.chosen in
     (context_size d.context, (omega (arith, d.least c is, small), record { reached = (d.context, d_is, refl); least = d.least }))
 
 -- where the goal is met within the limit, the parts are within it
-module _ (g : Syntax) (r : ℕ) (p : Production) (rule : IsRule g r p) (n : ℕ) (found : IsCost LIMIT (IsMet g (Rule r)) size (Least n)) where
+module _ (g : PlainGrammar) (r : ℕ) (p : Production) (rule : IsRule g r p) (n : ℕ) (found : IsCost LIMIT (IsMet g (Rule r)) size (Least n)) where
   met_parts : RuleParts g p (size found.1.reached.0)
   met_parts = rule_parts g r p rule found.1.reached.0 found.1.reached.1
 
@@ -119,7 +119,7 @@ module _ (g : Syntax) (r : ℕ) (p : Production) (rule : IsRule g r p) (n : ℕ)
   has_children = (met_parts.children, met_parts.trees, omega (arith, met_parts.measure, found.0, found.1.reached.2))
 
 -- a rule goal that some tree meets has a chosen tree
-pub rule_exists : (g : Syntax) (r : ℕ) (t : Tree) → IsMet g (Rule r) t → (u : Tree) × IsChosenOfRule g r u
+pub rule_exists : (g : PlainGrammar) (r : ℕ) (t : Tree) → IsMet g (Rule r) t → (u : Tree) × IsChosenOfRule g r u
 rule_exists g r t h =
     let found = found_whole g r t h.0 h.1 in
     let d = chosen_context_exists g found.rule.left found.context found.around in

@@ -1,6 +1,6 @@
 -- A goal has one verdict, and its chosen tree is a least one that meets it.
 use Rattle.std.proofs.Common.{◌≡◌, ℕ, ◌≤◌, List, refl, sym, ap, ◌∙◌, arith}
-use Rattle.cs_grammar.specs.Grammar.{Syntax}
+use Rattle.cs_grammar.specs.Grammar.{PlainGrammar}
 use Rattle.cs_grammar.specs.Tree.{Tree, size, code}
 use Rattle.cs_goals.specs.declared.goal.Goal.{Goal}
 use Rattle.cs_goals.specs.declared.goal.Goal.TheVariants.{Rule, Context, Pair}
@@ -12,7 +12,7 @@ use Rattle.cs_positive.specs.Verdict.{IsMet, IsChosenOf, IsVerdict}
 use Rattle.cs_positive.proofs.RuleGoals.{rule_met, rule_least, one_of_rule, rule_exists}
 use Rattle.cs_positive.proofs.ContextGoals.{context_met, context_least, one_of_context, context_exists}
 
-module _ (g : Syntax) where
+module _ (g : PlainGrammar) where
   pub chosen_met : (goal : Goal) (u : Tree) → IsChosenOf g goal u → IsMet g goal u
   chosen_met (Rule r) u h = rule_met g r u h
   chosen_met (Context p i q) u h = context_met g p i q u h

@@ -20,9 +20,9 @@ pub struct Tables<'g> {
 
 impl<'g> Model for Tables<'g> {
     ghost use Rattle.std.specs.Prelude.{◌≡◌};
-    ghost use Rattle.cs_grammar.specs.Grammar.{Syntax};
+    ghost use Rattle.cs_grammar.specs.Grammar.{PlainGrammar};
 
-    ghost Value = { Syntax };
+    ghost Value = { PlainGrammar };
 
     ghost view = { λ t. t.grammar.now };
 

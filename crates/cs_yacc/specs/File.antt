@@ -1,13 +1,13 @@
 -- A yacc file as contracts see it: a grammar, and the names of its symbols.
 use Rattle.std.specs.Prelude.{◌≡◌, ◌≢◌, ℕ, List, ◌++◌, length, map}
 use Rattle.std.specs.List.{AllPairs}
-use Rattle.cs_grammar.specs.Grammar.{Syntax, IsGrammar}
+use Rattle.cs_grammar.specs.Grammar.{PlainGrammar, IsGrammar}
 use Rattle.cs_yacc.specs.declared.name.TokenName.{TokenName}
 use Rattle.cs_yacc.specs.declared.name.TokenName.TheVariants.{Word}
 
 -- Token t has the name at the place t - 1, and so has nonterminal n in its list.
 pub record File : Type 0 where
-  pub grammar : Syntax
+  pub grammar : PlainGrammar
   pub token_names : List TokenName
   pub nonterminal_names : List (List ℕ)
 

@@ -2,7 +2,7 @@ use Rattle.std.proofs.Common.{◌≡◌, ◌+◌, ◌-◌, ◌≤◌, List, leng
 use Rattle.cs_grammar.specs.declared.TheConstants.{LIMIT}
 use Rattle.cs_grammar.specs.declared.symbol.Symbol.{Symbol}
 use Rattle.cs_grammar.specs.declared.symbol.Symbol.TheVariants.{Token}
-use Rattle.cs_grammar.specs.Grammar.{Syntax, IsGrammar}
+use Rattle.cs_grammar.specs.Grammar.{PlainGrammar, IsGrammar}
 use Rattle.cs_cost.specs.declared.cost.Cost.TheVariants.{Never}
 use Rattle.cs_pairs.proofs.Filling.{IsCapped-filled}
 use Rattle.cs_pairs.proofs.Fronting.{wide_symbol}
@@ -33,7 +33,7 @@ lower-lowered-requires-clause-number c =
     let g = c.args.kinds.now in
     let grammar = subst IsGrammar c.grammar-2.ensures c.rules-rules.ensures.well_formed in
     let next : c.loop-place.place - 1 + 1 ≡ c.loop-place.place = omega (arith, c.loop-place-test.true) in
-    let tokens = c.tokens-tokens.ensures ∙ ap (λ (s : Syntax). s.tokens) c.grammar.ensures in
+    let tokens = c.tokens-tokens.ensures ∙ ap (λ (s : PlainGrammar). s.tokens) c.grammar.ensures in
     item_number LIMIT g c.args.token c.requires.rule.0 c.args.rule.now c.requires.rule.1 c.args.row.now c.args.fronts.now c.requires.fronts grammar _ c.right-right.ensures _ _ (Token 0) next (omega (arith, c.loop-place-test.true))
     _ _ c.loop-place.invariant.sound (c.number_of.ensures ∙ ap (λ n. number_of n (get_or c.right-right.result.now (c.loop-place.place - 1) (Token 0))) tokens)
 
@@ -49,6 +49,6 @@ loop-place-preserved c =
     let g = c.args.kinds.now in
     let grammar = subst IsGrammar c.grammar-2.ensures c.rules-rules.ensures.well_formed in
     let next : c.loop-place.place - 1 + 1 ≡ c.loop-place.place = omega (arith, c.loop-place-test.true) in
-    let tokens = c.tokens-tokens.ensures ∙ ap (λ (s : Syntax). s.tokens) c.grammar.ensures in
+    let tokens = c.tokens-tokens.ensures ∙ ap (λ (s : PlainGrammar). s.tokens) c.grammar.ensures in
     place_step LIMIT g c.args.token c.requires.rule.0 c.args.rule.now c.requires.rule.1 c.args.row.now c.args.fronts.now c.requires.fronts grammar _ c.right-right.ensures _ _ (Token 0) next (omega (arith, c.loop-place-test.true))
     c.loop-place.row _ c.loop-place.sweep _ c.lower-lowered.result c.plus-cost.result Never _ c.plus-cost.ensures c.loop-place.invariant (c.number_of.ensures ∙ ap (λ n. number_of n (get_or c.right-right.result.now (c.loop-place.place - 1) (Token 0))) tokens) c.lower-lowered.ensures.lowered c.lower-lowered.ensures.kept c.over-sweep.ensures.kind c.over-sweep.ensures.swept

@@ -3,7 +3,7 @@ use Rattle.std.specs.Prelude.{All}
 use Rattle.std.proofs.lemmas.List.Elements.{All-nil, All-cons, All-take, All-drop}
 use Rattle.cs_grammar.specs.declared.symbol.Symbol.{Symbol}
 use Rattle.cs_grammar.specs.declared.symbol.Symbol.TheVariants.{Token}
-use Rattle.cs_grammar.specs.Grammar.{Production, Syntax, IsGrammar, IsSymbol}
+use Rattle.cs_grammar.specs.Grammar.{Production, PlainGrammar, IsGrammar, IsSymbol}
 use Rattle.cs_cost.specs.Chosen.{AppendsAllChosen}
 use Rattle.cs_cost.specs.Trees.{HaveSmall}
 use Rattle.cs_cost.proofs.Rounds.{well_formed_at}
@@ -24,14 +24,14 @@ symbol_of c = get_or c.index-rules-at.result.right c.args.at.place (Token 0)
 
 parts : (c : After-right) → Laid c.args.kinds.now c.args.tokens.first c.args.tokens.second c.args.at.rule c.args.at.place c.index-rules-at.result (get_or c.index-rules-at.result.right c.args.at.place (Token 0))
 parts c =
-    let rules = c.rules.ensures.rules ∙ ap (λ (s : Syntax). s.rules) c.grammar.ensures in
+    let rules = c.rules.ensures.rules ∙ ap (λ (s : PlainGrammar). s.rules) c.grammar.ensures in
     laid c.args.kinds.now c.args.tokens.first c.args.tokens.second c.args.at.rule c.args.at.place c.index-rules-at.result (Token 0)
     (rule_met c.args.kinds.now c.args.tokens.first c.args.tokens.second c.args.at.rule c.args.at.place c.index-rules-at.result _ c.requires.meeting rules c.index-rules-at.is)
     c.requires.meeting
 
 symbols : (c : After-right) → All (IsSymbol c.args.kinds.now.tokens c.args.kinds.now.nonterminals) c.index-rules-at.result.right
 symbols c =
-    let rules = c.rules.ensures.rules ∙ ap (λ (s : Syntax). s.rules) c.grammar.ensures in
+    let rules = c.rules.ensures.rules ∙ ap (λ (s : PlainGrammar). s.rules) c.grammar.ensures in
     let rule = rule_met c.args.kinds.now c.args.tokens.first c.args.tokens.second c.args.at.rule c.args.at.place c.index-rules-at.result _ c.requires.meeting rules c.index-rules-at.is in
     (well_formed_at c.args.kinds.now (c.args.at.rule - 1) c.index-rules-at.result (subst IsGrammar c.grammar.ensures c.rules.ensures.well_formed) rule.at).right
 
@@ -41,12 +41,12 @@ split_at-parts-requires c = subst (λ (l : List Symbol). c.args.at.place < lengt
 pub around-requires-clause-least : goal.around-requires-clause-least
 around-requires-clause-least c =
     let least = laid_context c.args.kinds.now c.args.tokens.first c.args.tokens.second c.args.at.rule c.args.at.place c.index-rules-at.result _ (parts (goal.at.around-requires-clause-least c).After-right) in
-    subst (λ (s : Syntax). HasLeastContext s c.left.result) (sym c.requires.embeds) (subst (HasLeastContext c.args.kinds.now) (sym c.left.ensures) least)
+    subst (λ (s : PlainGrammar). HasLeastContext s c.left.result) (sym c.requires.embeds) (subst (HasLeastContext c.args.kinds.now) (sym c.left.ensures) least)
 
 pub all_into-requires-clause-symbols : goal.all_into-requires-clause-symbols
 all_into-requires-clause-symbols c =
     let is = c.split_at-parts.ensures.before ∙ ap (λ (l : List Symbol). take c.args.at.place l) c.right.ensures in
-    subst (λ (s : Syntax). All (IsSymbol s.tokens s.nonterminals) c.split_at-parts.result.before.now) (sym c.requires.costs)
+    subst (λ (s : PlainGrammar). All (IsSymbol s.tokens s.nonterminals) c.split_at-parts.result.before.now) (sym c.requires.costs)
     (subst (λ (l : List Symbol). All (IsSymbol c.args.kinds.now.tokens c.args.kinds.now.nonterminals) l) (sym is)
     (All-take (IsSymbol c.args.kinds.now.tokens c.args.kinds.now.nonterminals) c.args.at.place c.index-rules-at.result.right (symbols (goal.at.all_into-requires-clause-symbols c).After-right)))
 
@@ -54,7 +54,7 @@ pub all_into-requires-clause-small : goal.all_into-requires-clause-small
 all_into-requires-clause-small c =
     let is = c.split_at-parts.ensures.before ∙ ap (λ (l : List Symbol). take c.args.at.place l) c.right.ensures in
     let small = laid_lefts c.args.kinds.now c.args.tokens.first c.args.tokens.second c.args.at.rule c.args.at.place c.index-rules-at.result _ (parts (goal.at.all_into-requires-clause-small c).After-right) in
-    subst (λ (s : Syntax). HaveSmall s c.split_at-parts.result.before.now) (sym c.requires.costs) (subst (HaveSmall c.args.kinds.now) (sym is) small)
+    subst (λ (s : PlainGrammar). HaveSmall s c.split_at-parts.result.before.now) (sym c.requires.costs) (subst (HaveSmall c.args.kinds.now) (sym is) small)
 
 pub kind_into-requires-clause-symbols : goal.kind_into-requires-clause-symbols
 kind_into-requires-clause-symbols c =
@@ -92,9 +92,9 @@ returns c =
     let symbol = c.split_at-parts.ensures.symbol (Token 0) ∙ ap (λ (l : List Symbol). get_or l c.args.at.place (Token 0)) c.right.ensures in
     let behind = c.split_at-parts.ensures.behind ∙ ap (λ (l : List Symbol). drop (c.args.at.place + 1) l) c.right.ensures in
     let around = subst (λ n. IsAround g n c.in_ok-context.context.before.items c.in_ok-context.context.after.items) c.left.ensures
-    (subst (λ (s : Syntax). IsAround s c.left.result c.in_ok-context.context.before.items c.in_ok-context.context.after.items) c.requires.embeds c.in_ok-context.ensures.chosen) in
+    (subst (λ (s : PlainGrammar). IsAround s c.left.result c.in_ok-context.context.before.items c.in_ok-context.context.after.items) c.requires.embeds c.in_ok-context.ensures.chosen) in
     let lefts = subst (λ (l : List Symbol). AppendsAllChosen g l c.push.new.self c.all_into.new.into) before
-    (subst (λ (s : Syntax). AppendsAllChosen s c.split_at-parts.result.before.now c.push.new.self c.all_into.new.into) c.requires.costs c.in_ok-all_into.ensures.ok) in
+    (subst (λ (s : PlainGrammar). AppendsAllChosen s c.split_at-parts.result.before.now c.push.new.self c.all_into.new.into) c.requires.costs c.in_ok-all_into.ensures.ok) in
     let last = subst (λ x. AppendsOfKind g (Ends c.args.tokens.first) (x ∷ []) c.all_into.new.into c.kind_into.new.into) symbol c.in_ok-kind_into.ensures in
     let rights = subst (λ (l : List Symbol). AppendsOfKind g (Begins c.args.tokens.second) l c.kind_into.new.into c.kind_into-2.new.into) behind c.in_ok-kind_into-2.ensures in
     laid_code g c.args.tokens.first c.args.tokens.second c.args.at.rule c.args.at.place c.index-rules-at.result _ (parts (goal.at.returns c).After-right)

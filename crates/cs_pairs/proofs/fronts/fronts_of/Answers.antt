@@ -2,7 +2,7 @@ use Rattle.std.proofs.Common.{◌+◌, ◌-◌, ◌<◌, List, length, get_or, t
 use Rattle.cs_grammar.specs.declared.TheConstants.{LIMIT}
 use Rattle.cs_grammar.specs.declared.symbol.Symbol.{Symbol}
 use Rattle.cs_grammar.specs.declared.symbol.Symbol.TheVariants.{Token}
-use Rattle.cs_grammar.specs.Grammar.{Syntax, IsGrammar, IsSymbol}
+use Rattle.cs_grammar.specs.Grammar.{PlainGrammar, IsGrammar, IsSymbol}
 use Rattle.cs_grammar.specs.Context.{context_size}
 use Rattle.cs_cost.specs.Least.{IsCost}
 use Rattle.cs_embed.specs.Around.{IsContextOf}
@@ -17,7 +17,7 @@ loop-symbol-init c =
     let g = c.args.costs.now in
     let p = c.args.rule.now in
     let embed = subst (λ n. IsCost LIMIT (IsContextOf g n) context_size c.embed.result) c.left.ensures
-    (subst (λ (s : Syntax). IsCost LIMIT (IsContextOf s c.left.result) context_size c.embed.result) c.requires.embeds c.embed.ensures) in
+    (subst (λ (s : PlainGrammar). IsCost LIMIT (IsContextOf s c.left.result) context_size c.embed.result) c.requires.embeds c.embed.ensures) in
     record {
       so_far = rw c.new-fronts.ensures.items (filled_none LIMIT (λ n. AreFront g p.left (take (n - 1) p.right)) front_size);
       is_front = subst (IsCost LIMIT (AreFront g p.left (take 0 p.right)) front_size) (sym c.plus-front.ensures) (front_first LIMIT g p.left _ embed);

@@ -1,7 +1,7 @@
 use Rattle.std.proofs.Common.{◌+◌, sym, ap, ◌∙◌, subst}
 use Rattle.cs_grammar.specs.declared.TheConstants.{LIMIT}
 use Rattle.cs_grammar.specs.declared.symbol.Symbol.TheVariants.{Nonterminal}
-use Rattle.cs_grammar.specs.Grammar.{Syntax, IsGrammar}
+use Rattle.cs_grammar.specs.Grammar.{PlainGrammar, IsGrammar}
 use Rattle.cs_grammar.specs.Tree.{size}
 use Rattle.cs_pairs.specs.declared.kind.Kind.TheVariants.{Any}
 use Rattle.cs_pairs.specs.Kinds.{IsTreeOfKind}
@@ -22,6 +22,6 @@ pub returns : goal.returns
 returns c =
     let g = c.args.costs.now in
     let grammar = subst IsGrammar c.grammar.ensures c.rules-rules.ensures.well_formed in
-    let end = c.nonterminals-place-end.ensures ∙ ap (λ (s : Syntax). s.nonterminals) c.grammar-2.ensures in
+    let end = c.nonterminals-place-end.ensures ∙ ap (λ (s : PlainGrammar). s.nonterminals) c.grammar-2.ensures in
     subst (AreCosts LIMIT g Any) (sym c.new.ensures)
     (any_costs LIMIT g _ grammar (filled_all LIMIT (λ m. IsTreeOfKind g Any (Nonterminal m)) size _ _ _ _ c.loop-place.invariant c.loop-place-test.false end c.loop-place.auto.place-end))

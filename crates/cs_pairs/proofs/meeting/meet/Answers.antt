@@ -1,6 +1,6 @@
 use Rattle.std.proofs.Common.{◌≤◌, List, length, ap, subst, ◌∙◌}
 use Rattle.cs_grammar.specs.declared.TheConstants.{LIMIT}
-use Rattle.cs_grammar.specs.Grammar.{Production, Syntax}
+use Rattle.cs_grammar.specs.Grammar.{Production, PlainGrammar}
 use Rattle.cs_cost.specs.Rank.{rank}
 use Rattle.cs_pairs.specs.SeamPlace.{IsFoundIn}
 use Rattle.cs_pairs.proofs.Fronting.{fronts_read}
@@ -22,7 +22,7 @@ loop-place-preserved c =
 
 pub unreachable-requires : goal.unreachable-requires
 unreachable-requires c =
-    let same = c.rules-place-end.ensures.rules ∙ ap (λ (s : Syntax). s.rules) c.grammar.ensures in
+    let same = c.rules-place-end.ensures.rules ∙ ap (λ (s : PlainGrammar). s.rules) c.grammar.ensures in
     let s = c.requires.some in
     some_meeting c.args.kinds.now c.args.tokens.first c.args.tokens.second (rank LIMIT c.args.cost) c.loop-place.place
     (subst (λ (rules : List Production). length rules ≤ c.loop-place.place) same c.loop-place-test.false) c.loop-place.invariant s.0 s.1 s.2 s.3

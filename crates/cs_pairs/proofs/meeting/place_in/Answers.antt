@@ -3,7 +3,7 @@ use Rattle.std.proofs.lemmas.List.{at_drop_all}
 use Rattle.cs_grammar.specs.declared.TheConstants.{LIMIT}
 use Rattle.cs_grammar.specs.declared.symbol.Symbol.{Symbol}
 use Rattle.cs_grammar.specs.declared.symbol.Symbol.TheVariants.{Token}
-use Rattle.cs_grammar.specs.Grammar.{Syntax}
+use Rattle.cs_grammar.specs.Grammar.{PlainGrammar}
 use Rattle.cs_grammar.specs.Tree.{sizes}
 use Rattle.cs_cost.specs.declared.cost.Cost.TheVariants.{Never}
 use Rattle.cs_cost.specs.Least.{IsCost}
@@ -23,7 +23,7 @@ pub loop-place-init : goal.loop-place-init
 loop-place-init c =
     let g = c.args.kinds.now in
     let items = c.right-right.result.now in
-    let rule = rule_numbered g _ c.index-rules-number.result _ c.requires.number (c.rules.ensures.rules ∙ ap (λ (s : Syntax). s.rules) c.grammar.ensures) c.index-rules-number.is in
+    let rule = rule_numbered g _ c.index-rules-number.result _ c.requires.number (c.rules.ensures.rules ∙ ap (λ (s : PlainGrammar). s.rules) c.grammar.ensures) c.index-rules-number.is in
     let none = at_drop_all (λ (l : List Symbol). l) items (length items) (omega arith) in
     record {
       is_kind = c.new-sweep.ensures.kind;
@@ -34,14 +34,14 @@ loop-place-init c =
 pub bounds-fronts-place : goal.bounds-fronts-place
 bounds-fronts-place c =
     let g = c.args.kinds.now in
-    let rule = rule_numbered g _ c.index-rules-number.result _ c.requires.number (c.rules.ensures.rules ∙ ap (λ (s : Syntax). s.rules) c.grammar.ensures) c.index-rules-number.is in
+    let rule = rule_numbered g _ c.index-rules-number.result _ c.requires.number (c.rules.ensures.rules ∙ ap (λ (s : PlainGrammar). s.rules) c.grammar.ensures) c.index-rules-number.is in
     let are = c.requires.fronts c.index-rules-number.result rule in
     omega (arith, c.loop-place-test.true, are.many, ap (λ (l : List Symbol). length l) c.right-right.ensures)
 
 pub plus-seam-requires-clause-a : goal.plus-seam-requires-clause-a
 plus-seam-requires-clause-a c =
     let g = c.args.kinds.now in
-    let rule = rule_numbered g _ c.index-rules-number.result _ c.requires.number (c.rules.ensures.rules ∙ ap (λ (s : Syntax). s.rules) c.grammar.ensures) c.index-rules-number.is in
+    let rule = rule_numbered g _ c.index-rules-number.result _ c.requires.number (c.rules.ensures.rules ∙ ap (λ (s : PlainGrammar). s.rules) c.grammar.ensures) c.index-rules-number.is in
     let are = c.requires.fronts c.index-rules-number.result rule in
     IsCapped-filled LIMIT _ _ _ c.args.fronts.now are (c.loop-place.place - 1) Never (omega (arith, c.loop-place-test.true, are.many, ap (λ (l : List Symbol). length l) c.right-right.ensures))
 
@@ -51,7 +51,7 @@ loop-place-preserved c =
     let p = c.index-rules-number.result in
     let items = c.right-right.result.now in
     let so_far = c.loop-place.invariant in
-    let rule = rule_numbered g _ p _ c.requires.number (c.rules.ensures.rules ∙ ap (λ (s : Syntax). s.rules) c.grammar.ensures) c.index-rules-number.is in
+    let rule = rule_numbered g _ p _ c.requires.number (c.rules.ensures.rules ∙ ap (λ (s : PlainGrammar). s.rules) c.grammar.ensures) c.index-rules-number.is in
     let next : c.loop-place.place - 1 + 1 ≡ c.loop-place.place = omega (arith, c.loop-place-test.true) in
     let within : c.loop-place.place - 1 < length items = omega (arith, c.loop-place-test.true) in
     let whole = subst (λ (l : List Symbol). IsCost LIMIT (AreTreesOfKind g (Begins c.args.tokens.second) (drop c.loop-place.place l)) sizes c.loop-place.sweep.whole) c.right-right.ensures

@@ -2,7 +2,7 @@ use Rattle.std.proofs.Common.{List, sym, ap, subst, ◌∙◌}
 use Rattle.std.specs.Prelude.{All}
 use Rattle.std.proofs.lemmas.Result.{on_ok_weaker}
 use Rattle.cs_grammar.specs.declared.symbol.Symbol.{Symbol}
-use Rattle.cs_grammar.specs.Grammar.{Production, Syntax, IsGrammar, IsSymbol}
+use Rattle.cs_grammar.specs.Grammar.{Production, PlainGrammar, IsGrammar, IsSymbol}
 use Rattle.cs_cost.proofs.Rounds.{well_formed_at}
 use Rattle.cs_cost.proofs.Written.{rule_read}
 use Rattle.cs_pairs.proofs.Written.{takes_root}
@@ -12,7 +12,7 @@ pub returns : goal.returns
 returns c =
     let g = c.args.kinds.now in
     let root = c.root_of-number.ensures in
-    let rules = c.rules.ensures.rules ∙ ap (λ (s : Syntax). s.rules) c.grammar.ensures in
+    let rules = c.rules.ensures.rules ∙ ap (λ (s : PlainGrammar). s.rules) c.grammar.ensures in
     let same = rule_read g _ root.rule _ _ root.number rules c.index-rules-number.is in
     let right = c.right-right.ensures ∙ ap (λ (p : Production). p.right) same in
     let grammar = subst IsGrammar c.grammar.ensures c.rules.ensures.well_formed in

@@ -4,7 +4,7 @@ use Rattle.std.proofs.lemmas.Option.{slice_get_read}
 use Rattle.cs_grammar.specs.declared.TheConstants.{LIMIT}
 use Rattle.cs_grammar.specs.declared.symbol.Symbol.{Symbol}
 use Rattle.cs_grammar.specs.declared.symbol.Symbol.TheVariants.{Nonterminal}
-use Rattle.cs_grammar.specs.Grammar.{Production, Syntax}
+use Rattle.cs_grammar.specs.Grammar.{Production, PlainGrammar}
 use Rattle.cs_grammar.specs.Tree.{size}
 use Rattle.cs_cost.specs.Least.{IsCost}
 use Rattle.cs_cost.proofs.Ranks.{cost_low}
@@ -22,7 +22,7 @@ returns-then-at_most c =
     let i = c.loop-place.place in
     let q = c.rule-item.result in
     let here = slice_get_read _ _ i q refl c.loop-place-test.true c.rule-item.is in
-    let at = subst (λ (rules : List Production). slice_get rules i ≡ Some q) (c.rules-rule-items.ensures.rules ∙ ap (λ (s : Syntax). s.rules) c.grammar.ensures) here in
+    let at = subst (λ (rules : List Production). slice_get rules i ≡ Some q) (c.rules-rule-items.ensures.rules ∙ ap (λ (s : PlainGrammar). s.rules) c.grammar.ensures) here in
     let t = c.requires.small in
     let low = cost_low LIMIT (IsTreeOfKind g k (Nonterminal c.args.left)) size c.told-cost.result c.told-cost.ensures t.0 t.1 in
     let node = subst (λ (l : List Symbol). IsCost LIMIT (AreTreesOfKind g k l) node_size c.node_cost.result) c.right.ensures c.node_cost.ensures in
@@ -35,7 +35,7 @@ loop-place-preserved c =
     let i = c.loop-place.place in
     let q = c.rule-item.result in
     let here = slice_get_read _ _ i q refl c.loop-place-test.true c.rule-item.is in
-    let at = subst (λ (rules : List Production). slice_get rules i ≡ Some q) (c.rules-rule-items.ensures.rules ∙ ap (λ (s : Syntax). s.rules) c.grammar.ensures) here in
+    let at = subst (λ (rules : List Production). slice_get rules i ≡ Some q) (c.rules-rule-items.ensures.rules ∙ ap (λ (s : PlainGrammar). s.rules) c.grammar.ensures) here in
     elim c.else-left.branch [
       | else-left-via-then-left+else-at_most w ↦
           no_root_more LIMIT g k c.args.left i q at c.told-cost.result c.loop-place.invariant (λ e. (
@@ -50,7 +50,7 @@ loop-place-preserved c =
 pub unreachable-requires : goal.unreachable-requires
 unreachable-requires c =
     let g = c.args.kinds.now in
-    let same = c.rules-rule-items.ensures.rules ∙ ap (λ (s : Syntax). s.rules) c.grammar.ensures in
+    let same = c.rules-rule-items.ensures.rules ∙ ap (λ (s : PlainGrammar). s.rules) c.grammar.ensures in
     let t = c.requires.small in
     let low = cost_low LIMIT (IsTreeOfKind g c.args.kind (Nonterminal c.args.left)) size c.told-cost.result c.told-cost.ensures t.0 t.1 in
     some_root LIMIT g c.args.kind c.args.left c.loop-place.place c.told-cost.result (subst (λ (rules : List Production). length rules ≤ c.loop-place.place) same c.loop-place-test.false) c.loop-place.invariant c.told-cost.ensures (omega (arith, low, t.2))

@@ -3,7 +3,7 @@ use Rattle.std.specs.Prelude.{All}
 use Rattle.std.proofs.lemmas.List.Elements.{All-take, All-drop}
 use Rattle.cs_grammar.specs.declared.TheConstants.{LIMIT}
 use Rattle.cs_grammar.specs.declared.symbol.Symbol.{Symbol}
-use Rattle.cs_grammar.specs.Grammar.{Production, Syntax, IsRule, IsSymbol, IsGrammar}
+use Rattle.cs_grammar.specs.Grammar.{Production, PlainGrammar, IsRule, IsSymbol, IsGrammar}
 use Rattle.cs_cost.specs.Chosen.{AppendsAllChosen}
 use Rattle.cs_cost.specs.Trees.{HaveSmall}
 use Rattle.cs_cost.proofs.Rounds.{well_formed_at}
@@ -38,7 +38,7 @@ symbols : (c : After-left) (r : ℕ) (p : Production) → IsRule c.args.tables.n
 symbols c r p rule =
     let g = c.args.tables.now in
     let grammar = subst IsGrammar c.tables.view_is c.rules.ensures.well_formed in
-    subst (λ (s : Syntax). All (IsSymbol s.tokens s.nonterminals) p.right) (sym (costs_are c)) (well_formed_at g (r - 1) p grammar rule.at).right
+    subst (λ (s : PlainGrammar). All (IsSymbol s.tokens s.nonterminals) p.right) (sym (costs_are c)) (well_formed_at g (r - 1) p grammar rule.at).right
 
 behind_is : (c : After-left) → take (length c.right-right.result.now - c.args.place) (drop c.args.place c.right-right.result.now) ≡ drop c.args.place c.index-rules-outer.result.right
 behind_is c = rest_is c.right-right.result.now c.args.place ∙ ap (λ (l : List Symbol). drop c.args.place l) c.right-right.ensures
@@ -49,7 +49,7 @@ around-requires-clause-least c =
     let g = c.args.tables.now in
     let p = c.index-rules-outer.result in
     let i = c.args.place in
-    subst (λ (s : Syntax). HasLeastContext s c.left.result) (sym (c.tables.invariant.1 ∙ c.tables.view_is))
+    subst (λ (s : PlainGrammar). HasLeastContext s c.left.result) (sym (c.tables.invariant.1 ∙ c.tables.view_is))
     (subst (λ n. HasLeastContext g n) (sym c.left.ensures) (outer_context g p c.index-rules-inner.result (take (i - 1) p.right) (drop i p.right) (parts k)))
 
 pub all_into-requires-clause-symbols : goal.all_into-requires-clause-symbols
@@ -66,7 +66,7 @@ all_into-requires-clause-small c =
     let g = c.args.tables.now in
     let p = c.index-rules-outer.result in
     let i = c.args.place in
-    subst (λ (s : Syntax). HaveSmall s (take (i - 1) c.right-right.result.now)) (sym (costs_are k))
+    subst (λ (s : PlainGrammar). HaveSmall s (take (i - 1) c.right-right.result.now)) (sym (costs_are k))
     (subst (λ (l : List Symbol). HaveSmall g (take (i - 1) l)) (sym c.right-right.ensures) (small_left g p c.index-rules-inner.result (take (i - 1) p.right) (drop i p.right) (parts k)))
 
 pub all_into-requires-2-clause-symbols : goal.all_into-requires-2-clause-symbols
@@ -80,7 +80,7 @@ all_into-requires-2-clause-small c =
     let g = c.args.tables.now in
     let p = c.index-rules-outer.result in
     let i = c.args.place in
-    subst (λ (s : Syntax). HaveSmall s c.right-children.result.now) (sym (costs_are k))
+    subst (λ (s : PlainGrammar). HaveSmall s c.right-children.result.now) (sym (costs_are k))
     (subst (λ (l : List Symbol). HaveSmall g l) (sym c.right-children.ensures) (small_children g p c.index-rules-inner.result (take (i - 1) p.right) (drop i p.right) (parts k)))
 
 pub all_into-requires-3-clause-symbols : goal.all_into-requires-3-clause-symbols
@@ -98,7 +98,7 @@ all_into-requires-3-clause-small c =
     let p = c.index-rules-outer.result in
     let i = c.args.place in
     let behind = take (length c.right-right.result.now - i) (drop i c.right-right.result.now) in
-    subst (λ (s : Syntax). HaveSmall s behind) (sym (costs_are k))
+    subst (λ (s : PlainGrammar). HaveSmall s behind) (sym (costs_are k))
     (subst (λ (l : List Symbol). HaveSmall g l) (sym (behind_is k)) (small_right g p c.index-rules-inner.result (take (i - 1) p.right) (drop i p.right) (parts k)))
 
 pub returns : goal.returns
@@ -111,12 +111,12 @@ returns c =
     let at = placed_in g c.args.outer i c.args.inner p q c.requires.goal (outer_is k) (inner_is k) in
     let before = c.in_ok-context.context.before.items in
     let after = c.in_ok-context.context.after.items in
-    let around = subst (λ (s : Syntax). IsAround s p.left before after) (c.tables.invariant.1 ∙ c.tables.view_is) (subst (λ n. IsAround c.tables.inside.embeds n before after) c.left.ensures c.in_ok-context.ensures.chosen) in
-    let lefts = subst (λ (s : Syntax). AppendsAllChosen s (take (i - 1) p.right) c.push.new.self c.all_into.new.into) (costs_are k)
+    let around = subst (λ (s : PlainGrammar). IsAround s p.left before after) (c.tables.invariant.1 ∙ c.tables.view_is) (subst (λ n. IsAround c.tables.inside.embeds n before after) c.left.ensures c.in_ok-context.ensures.chosen) in
+    let lefts = subst (λ (s : PlainGrammar). AppendsAllChosen s (take (i - 1) p.right) c.push.new.self c.all_into.new.into) (costs_are k)
     (subst (λ (l : List Symbol). AppendsAllChosen c.tables.inside.costs (take (i - 1) l) c.push.new.self c.all_into.new.into) c.right-right.ensures c.in_ok-all_into.ensures.ok) in
-    let inners = subst (λ (s : Syntax). AppendsAllChosen s q.right c.push-2.new.self c.all_into-2.new.into) (costs_are k)
+    let inners = subst (λ (s : PlainGrammar). AppendsAllChosen s q.right c.push-2.new.self c.all_into-2.new.into) (costs_are k)
     (subst (λ (l : List Symbol). AppendsAllChosen c.tables.inside.costs l c.push-2.new.self c.all_into-2.new.into) c.right-children.ensures c.in_ok-all_into-2.ensures.ok) in
-    let rights = subst (λ (s : Syntax). AppendsAllChosen s (drop i p.right) c.all_into-2.new.into c.all_into-3.new.into) (costs_are k)
+    let rights = subst (λ (s : PlainGrammar). AppendsAllChosen s (drop i p.right) c.all_into-2.new.into c.all_into-3.new.into) (costs_are k)
     (subst (λ (l : List Symbol). AppendsAllChosen c.tables.inside.costs l c.all_into-2.new.into c.all_into-3.new.into) (behind_is k) c.in_ok-all_into-3.ensures.ok) in
     context_code g c.args.outer i c.args.inner p q (outer_is k) (inner_is k) (take (i - 1) p.right) (drop i p.right) at.0 at.1 before after
     c.extend_from_slice.new.self c.push.new.self c.all_into.new.into c.push-2.new.self c.all_into-2.new.into c.all_into-3.new.into c.extend_from_slice-2.new.self around

@@ -1,7 +1,7 @@
 use Rattle.std.proofs.Common.{◌≡◌, ◌-◌, List, take, drop, sym, ap, ◌∙◌, subst}
 use Rattle.cs_grammar.specs.declared.TheConstants.{LIMIT}
 use Rattle.cs_grammar.specs.declared.symbol.Symbol.{Symbol}
-use Rattle.cs_grammar.specs.Grammar.{Syntax}
+use Rattle.cs_grammar.specs.Grammar.{PlainGrammar}
 use Rattle.cs_grammar.specs.Tree.{AreTrees, size, sizes}
 use Rattle.cs_grammar.specs.Context.{context_size}
 use Rattle.cs_cost.specs.declared.cost.Cost.{Cost}
@@ -29,13 +29,13 @@ told c cost is =
     let is_outer = rule_here g _ c.args.outer c.requires.outer p _ c.requires.is_outer c.rules.ensures.rules c.tables.view_is c.index-rules-outer.is in
     let is_inner = rule_here g _ c.args.inner c.requires.inner q _ c.requires.is_inner c.rules-2.ensures.rules c.tables.view_is c.index-rules-inner.is in
     let at = placed_in g c.args.outer i c.args.inner p q c.requires is_outer is_inner in
-    let around = subst (λ (s : Syntax). IsCost LIMIT (IsContextOf s p.left) context_size c.embed.result) (c.tables.invariant.1 ∙ c.tables.view_is)
+    let around = subst (λ (s : PlainGrammar). IsCost LIMIT (IsContextOf s p.left) context_size c.embed.result) (c.tables.invariant.1 ∙ c.tables.view_is)
     (subst (λ n. IsCost LIMIT (IsContextOf c.tables.inside.embeds n) context_size c.embed.result) c.left.ensures c.embed.ensures) in
-    let lefts = subst (λ (s : Syntax). IsCost LIMIT (AreTrees s (take (i - 1) p.right)) sizes c.sum-left.result) costs_is
+    let lefts = subst (λ (s : PlainGrammar). IsCost LIMIT (AreTrees s (take (i - 1) p.right)) sizes c.sum-left.result) costs_is
     (subst (λ (l : List Symbol). IsCost LIMIT (AreTrees c.tables.inside.costs (take (i - 1) l)) sizes c.sum-left.result) c.right-right.ensures c.sum-left.ensures) in
-    let rights = subst (λ (s : Syntax). IsCost LIMIT (AreTrees s (drop i p.right)) sizes c.sum.result) costs_is
+    let rights = subst (λ (s : PlainGrammar). IsCost LIMIT (AreTrees s (drop i p.right)) sizes c.sum.result) costs_is
     (subst (λ (l : List Symbol). IsCost LIMIT (AreTrees c.tables.inside.costs l) sizes c.sum.result) (rest_is items i ∙ ap (λ (l : List Symbol). drop i l) c.right-right.ensures) c.sum.ensures) in
-    let children = subst (λ (s : Syntax). IsCost LIMIT (AreTrees s q.right) sizes c.sum-2.result) costs_is
+    let children = subst (λ (s : PlainGrammar). IsCost LIMIT (AreTrees s q.right) sizes c.sum-2.result) costs_is
     (subst (λ (l : List Symbol). IsCost LIMIT (AreTrees c.tables.inside.costs l) sizes c.sum-2.result) c.right.ensures c.sum-2.ensures) in
     let around_is = c.plus-around.ensures ∙ ap (λ (k : Cost). plus LIMIT c.embed.result k) (c.plus.ensures ∙ ap (λ (k : Cost). plus LIMIT (Least 1) k) c.plus-siblings.ensures) in
     subst (IsCost LIMIT (IsMet g (Context c.args.outer i c.args.inner)) size) (sym (is ∙ ap (λ (k : Cost). plus LIMIT k c.plus-node.result) around_is ∙ ap (λ (k : Cost). plus LIMIT (plus LIMIT c.embed.result (plus LIMIT (Least 1) (plus LIMIT c.sum-left.result c.sum.result))) k) c.plus-node.ensures))

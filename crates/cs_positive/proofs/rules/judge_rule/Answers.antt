@@ -1,7 +1,7 @@
 use Rattle.std.proofs.Common.{◌≡◌, List, sym, ap, ◌∙◌, subst}
 use Rattle.cs_grammar.specs.declared.TheConstants.{LIMIT}
 use Rattle.cs_grammar.specs.declared.symbol.Symbol.{Symbol}
-use Rattle.cs_grammar.specs.Grammar.{Syntax}
+use Rattle.cs_grammar.specs.Grammar.{PlainGrammar}
 use Rattle.cs_grammar.specs.Tree.{AreTrees, size, sizes}
 use Rattle.cs_grammar.specs.Context.{context_size}
 use Rattle.cs_cost.specs.declared.cost.Cost.{Cost}
@@ -21,10 +21,10 @@ told : (c : After-plus) (cost : Cost) → cost ≡ plus LIMIT c.embed-around.res
 told c cost is =
     let g = c.args.tables.now in
     let p = c.index-rules-number.result in
-    let rule = rule_numbered g c.args.number p _ c.requires (c.rules.ensures.rules ∙ ap (λ (s : Syntax). s.rules) c.tables.view_is) c.index-rules-number.is in
-    let around = subst (λ (s : Syntax). IsCost LIMIT (IsContextOf s p.left) context_size c.embed-around.result) (c.tables.invariant.1 ∙ c.tables.view_is)
+    let rule = rule_numbered g c.args.number p _ c.requires (c.rules.ensures.rules ∙ ap (λ (s : PlainGrammar). s.rules) c.tables.view_is) c.index-rules-number.is in
+    let around = subst (λ (s : PlainGrammar). IsCost LIMIT (IsContextOf s p.left) context_size c.embed-around.result) (c.tables.invariant.1 ∙ c.tables.view_is)
     (subst (λ n. IsCost LIMIT (IsContextOf c.tables.inside.embeds n) context_size c.embed-around.result) c.left.ensures c.embed-around.ensures) in
-    let children = subst (λ (s : Syntax). IsCost LIMIT (AreTrees s p.right) sizes c.sum.result) (c.tables.invariant.0 ∙ c.tables.view_is)
+    let children = subst (λ (s : PlainGrammar). IsCost LIMIT (AreTrees s p.right) sizes c.sum.result) (c.tables.invariant.0 ∙ c.tables.view_is)
     (subst (λ (l : List Symbol). IsCost LIMIT (AreTrees c.tables.inside.costs l) sizes c.sum.result) c.right.ensures c.sum.ensures) in
     subst (IsCost LIMIT (IsMet g (Rule c.args.number)) size) (sym (is ∙ ap (λ (k : Cost). plus LIMIT c.embed-around.result k) c.plus-node.ensures))
     (rule_cost LIMIT g c.args.number p rule c.embed-around.result c.sum.result around children)

@@ -2,7 +2,7 @@ use Rattle.std.proofs.Common.{◌++◌, List, ℕ, [], map, reverse, refl, sym, 
 use Rattle.std.specs.Prelude.{All}
 use Rattle.std.proofs.lemmas.Result.{on_ok_weaker}
 use Rattle.cs_grammar.specs.declared.TheConstants.{LIMIT}
-use Rattle.cs_grammar.specs.Grammar.{Syntax, IsSymbol}
+use Rattle.cs_grammar.specs.Grammar.{PlainGrammar, IsSymbol}
 use Rattle.cs_grammar.specs.Tree.{codes_of}
 use Rattle.cs_cost.specs.declared.writing.Part.{Part}
 use Rattle.cs_cost.specs.declared.writing.Part.TheVariants.{Whole}
@@ -17,8 +17,8 @@ pub write-requires-clause-within : goal.write-requires-clause-within
 write-requires-clause-within c =
     let xs = c.args.symbols.now in
     let g = c.self.inside.trees.grammar.now in
-    let f = subst (λ (s : Syntax). HaveSmall s xs) (sym c.self.view_is) c.requires.small in
-    let each = subst (λ (s : Syntax). All (IsSymbol s.tokens s.nonterminals) xs) (sym c.self.view_is) c.requires.symbols in
+    let f = subst (λ (s : PlainGrammar). HaveSmall s xs) (sym c.self.view_is) c.requires.small in
+    let each = subst (λ (s : PlainGrammar). All (IsSymbol s.tokens s.nonterminals) xs) (sym c.self.view_is) c.requires.symbols in
     let is = c.in_ok-put_first.ensures ∙ ap (λ (l : List Part). map Whole xs ++ reverse l) c.new-pending.ensures.items ∙ append-nil (map Whole xs) in
     subst (λ (l : List Part). All (IsWithin LIMIT g) l) (sym is) (forest_within LIMIT g f.0 xs f.1 f.2 each)
 
@@ -26,7 +26,7 @@ pub returns-clause-ok : goal.returns-clause-ok
 returns-clause-ok c =
     let xs = c.args.symbols.now in
     let g = c.self.inside.trees.grammar.now in
-    let f = subst (λ (s : Syntax). HaveSmall s xs) (sym c.self.view_is) c.requires.small in
+    let f = subst (λ (s : PlainGrammar). HaveSmall s xs) (sym c.self.view_is) c.requires.small in
     let h = chosen_forest g f.0 xs f.1 in
     let is = c.in_ok-put_first.ensures ∙ ap (λ (l : List Part). map Whole xs ++ reverse l) c.new-pending.ensures.items in
     let text : IsText g (map Whole xs ++ []) (codes_of h.0 ++ []) = IsText-whole g h.0 xs [] [] h.1 refl in
@@ -34,7 +34,7 @@ returns-clause-ok c =
     on_ok_weaker c.extend_from_slice.result
     (λ e. record {
       trees = h.0;
-      chosen = subst (λ (s : Syntax). AreChosen s xs h.0) c.self.view_is h.1;
+      chosen = subst (λ (s : PlainGrammar). AreChosen s xs h.0) c.self.view_is h.1;
       text = e ∙ ap (λ (s : List ℕ). c.args.into.now ++ s) (c.deref.ensures.value ∙ c.in_ok-write.ensures (codes_of h.0 ++ []) pending ∙ ap (λ (s : List ℕ). s ++ (codes_of h.0 ++ [])) c.new-out.ensures.items ∙ append-nil (codes_of h.0));
     })
     c.extend_from_slice.ensures.ok
