@@ -2,6 +2,7 @@
 use Rattle.std.proofs.Common.{◌≡◌, ℕ, ◌+◌, List, [], ◌∷◌, ◌++◌, refl, sym, ap, ◌∙◌, arith, append_assoc}
 use Rattle.cs_grammar.specs.declared.symbol.Symbol.{Symbol}
 use Rattle.cs_grammar.specs.Grammar.{PlainGrammar}
+use Rattle.cs_grammar.specs.Weights.{Measure}
 use Rattle.cs_grammar.specs.Tree.{Forest, Bare, Grown, AreTrees, sizes, code, codes_of, yield, yields}
 use Rattle.cs_grammar.specs.Context.{join}
 
@@ -11,9 +12,9 @@ AreTrees-join g Bare h (x ∷ xs) ys hf hh = absurd hf
 AreTrees-join g (Grown t f) h [] ys hf hh = absurd hf
 AreTrees-join g (Grown t f) h (x ∷ xs) ys hf hh = (hf.0, AreTrees-join g f h xs ys hf.1 hh)
 
-pub sizes-join : (f h : Forest) → sizes (join f h) ≡ sizes f + sizes h
-sizes-join Bare h = omega arith
-sizes-join (Grown t f) h = omega (arith, sizes-join f h)
+pub sizes-join : (w : Measure) (f h : Forest) → sizes w (join f h) ≡ sizes w f + sizes w h
+sizes-join w Bare h = omega arith
+sizes-join w (Grown t f) h = omega (arith, sizes-join w f h)
 
 pub codes_of-join : (f h : Forest) → codes_of (join f h) ≡ codes_of f ++ codes_of h
 codes_of-join Bare h = refl

@@ -1,5 +1,7 @@
--- What the code and the yield of a tree hold.
-use Rattle.std.proofs.Common.{◌≡◌, ℕ, ◌-◌, ◌≤◌, List, [], ◌∷◌, Some, length, sym, subst, arith, length-append}
+-- What the code and the yield of a tree hold, and the numbers of tokens.
+use Rattle.std.proofs.Common.{◌≡◌, ℕ, ◌-◌, ◌<◌, ◌≤◌, List, [], ◌∷◌, Some, length, sym, subst, ⊎_elim, arith, length-append}
+use Rattle.std.proofs.lemmas.Bool.{cases_lt}
+use Rattle.std.proofs.lemmas.List.{get_or_past}
 use Rattle.std.specs.Prelude.{All, slice_get}
 use Rattle.std.proofs.lemmas.List.Elements.{All-append, All-nil, All-cons, All-head, All-tail}
 use Rattle.std.proofs.lemmas.Option.{slice_get_within, get_or_from_slice_get}
@@ -7,17 +9,32 @@ use Rattle.cs_grammar.specs.declared.symbol.Symbol.{Symbol}
 use Rattle.cs_grammar.specs.declared.symbol.Symbol.TheVariants.{Nonterminal}
 use Rattle.cs_grammar.specs.Grammar.{Production, PlainGrammar, IsRule, IsNumberOf, IsSymbol, IsRuleOf, IsGrammar}
 use Rattle.cs_grammar.specs.Leftmost.{IsYield}
+use Rattle.cs_grammar.specs.Weights.{Measure, IsMeasure, number}
 use Rattle.cs_grammar.specs.Tree.{Tree, Leaf, Node, Forest, Bare, Grown, IsTree, AreTrees, size, sizes, code, codes_of, yield, yields}
 
 -- a tree has a node for each entry of its code
-mutual
-  pub length-code : (t : Tree) → length (code t) ≤ size t
-  length-code (Leaf t) = omega arith
-  length-code (Node r children) = omega (arith, length-codes_of children)
+module _ (w : Measure) where
+  mutual
+    pub length-code : (t : Tree) → length (code t) ≤ size w t
+    length-code (Leaf t) = omega arith
+    length-code (Node r children) = omega (arith, length-codes_of children)
 
-  pub length-codes_of : (f : Forest) → length (codes_of f) ≤ sizes f
-  length-codes_of Bare = omega arith
-  length-codes_of (Grown t f) = omega (arith, length-code t, length-codes_of f, length-append (code t) (codes_of f))
+    pub length-codes_of : (f : Forest) → length (codes_of f) ≤ sizes w f
+    length-codes_of Bare = omega arith
+    length-codes_of (Grown t f) = omega (arith, length-code t, length-codes_of f, length-append (code t) (codes_of f))
+
+-- no token weighs nothing
+pub number_above : (w : Measure) (t : ℕ) → IsMeasure w → 0 < number w t
+number_above w t is =
+    ⊎_elim
+    (λ within. (is.numbers (t - 1) 1 within).0)
+    (λ past. omega (arith, get_or_past w.numbers (t - 1) 1 past))
+    (cases_lt (t - 1) (length w.numbers))
+
+-- and no tree does
+pub size_above : (w : Measure) (t : Tree) → IsMeasure w → 0 < size w t
+size_above w (Leaf t) is = number_above w t is
+size_above w (Node r f) is = omega arith
 
 -- what holds of each member of a list holds of the one at a place
 pub All-at : {A : Type 0} (P : A → Type 0) (xs : List A) (k : ℕ) (x : A) → All P xs → slice_get xs k ≡ Some x → P x

@@ -3,6 +3,7 @@ use Rattle.std.specs.Prelude.{◌≡◌, ℕ, ◌+◌, List, [], ◌∷◌, ◌+
 use Rattle.cs_grammar.specs.declared.symbol.Symbol.{Symbol}
 use Rattle.cs_grammar.specs.declared.symbol.Symbol.TheVariants.{Nonterminal}
 use Rattle.cs_grammar.specs.Grammar.{Production, PlainGrammar, IsRule}
+use Rattle.cs_grammar.specs.Weights.{Measure}
 use Rattle.cs_grammar.specs.Tree.{Tree, Node, Forest, Bare, Grown, AreTrees, sizes, codes_of}
 
 -- Read from the hole to the root: the hole alone, or the hole as a child of a node, between two lists of
@@ -18,10 +19,10 @@ IsContext g b (Under outer r left right) =
     (p : Production) × (xs : List Symbol) × (ys : List Symbol) × IsRule g r p × (p.right ≡ xs ++ b ∷ ys)
     × AreTrees g xs left × AreTrees g ys right × IsContext g (Nonterminal p.left) outer
 
--- the number of nodes, leaves counted and the hole not
-abbrev pub context_size : Context → ℕ
-context_size Hole = 0
-context_size (Under outer r left right) = context_size outer + (1 + (sizes left + sizes right))
+-- the size, the hole not counted
+abbrev pub context_size : Measure → Context → ℕ
+context_size w Hole = 0
+context_size w (Under outer r left right) = context_size w outer + (1 + (sizes w left + sizes w right))
 
 -- the rule numbers in preorder, before the hole and after it
 abbrev pub code_before : Context → List ℕ

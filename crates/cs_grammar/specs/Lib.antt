@@ -1,7 +1,10 @@
 pub mod Grammar
+pub mod Weights
 pub mod Tree
 pub mod Context
 pub mod Uses
 pub mod Sentence
 pub mod Leftmost
 pub mod Fault
+pub mod Laws
+pub mod Walk

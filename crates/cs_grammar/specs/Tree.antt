@@ -4,6 +4,7 @@ use Rattle.std.specs.Prelude.{◌≡◌, ℕ, ◌+◌, List, [], ◌∷◌, ◌+
 use Rattle.cs_grammar.specs.declared.symbol.Symbol.{Symbol}
 use Rattle.cs_grammar.specs.declared.symbol.Symbol.TheVariants.{Token, Nonterminal}
 use Rattle.cs_grammar.specs.Grammar.{Production, PlainGrammar, IsRule}
+use Rattle.cs_grammar.specs.Weights.{Measure, number}
 
 -- a leaf with a token, or a node with a rule number and a list of trees
 mutual
@@ -30,15 +31,15 @@ abbrev mutual
   AreTrees g [] (Grown t f) = ⊥
   AreTrees g (x ∷ xs) Bare = ⊥
 
--- the number of nodes, leaves counted
+-- The size of a tree, which is its weight: its token's number for a leaf, and 1 plus its children's sizes for a node.
 abbrev mutual
-  pub size : Tree → ℕ
-  size (Leaf t) = 1
-  size (Node r children) = 1 + sizes children
+  pub size : Measure → Tree → ℕ
+  size w (Leaf t) = number w t
+  size w (Node r children) = 1 + sizes w children
 
-  pub sizes : Forest → ℕ
-  sizes Bare = 0
-  sizes (Grown t f) = size t + sizes f
+  pub sizes : Measure → Forest → ℕ
+  sizes w Bare = 0
+  sizes w (Grown t f) = size w t + sizes w f
 
 -- the rule numbers in preorder, which is the leftmost derivation
 abbrev mutual
@@ -63,3 +64,11 @@ abbrev mutual
 -- a derivation of x: the code of a tree of x
 abbrev pub IsDerivation : PlainGrammar → Symbol → List ℕ → Type 0
 IsDerivation g x rules = (t : Tree) × IsTree g x t × (rules ≡ code t)
+
+-- a derivation of the grammar: of its start symbol
+abbrev pub IsDerivationOf : PlainGrammar → List ℕ → Type 0
+IsDerivationOf g rules = IsDerivation g (Nonterminal g.start) rules
+
+-- no code of a tree of x goes on behind the code of this tree
+abbrev pub IsPrefixFree : PlainGrammar → Symbol → Tree → Type 0
+IsPrefixFree g x t = (u : Tree) (more : List ℕ) → IsTree g x u → code u ≡ code t ++ more → (t ≡ u) × (more ≡ [])

@@ -1,26 +1,39 @@
 //! Context-free grammars: symbols, rules, grammars within their limits, derivations and what they yield.
 //!
-//! The layers above build a `Grammar` (which is well formed from then on), read it by `rules` and the counts, write the
-//! code of a tree into a `Derivation`, and get the tokens of a derivation by `expand`. What a derivation tree, a context,
-//! a size, a code, a yield and a sentence are stands in `specs/`.
+//! The layers above build a `Grammar` (which is well formed from then on) and read it by `rules`, `rule` and the counts;
+//! write the code of a tree into a `Derivation`, and get the tokens of a derivation by `expand` or `yield_of`. Trees are
+//! measured by `Weights`. Numbers count from 1 and places from 0; `place_of` and `number_of` lead from one to the other.
+//!
+//! Of the files of `specs/`, these say what is meant: `Grammar`, `Tree`, `Weights`, `Context`, `Uses`, `Sentence`,
+//! `Leftmost`, `Fault`; `Laws` has the two halves of "exactly one". `Walk` has working words of a proof. The lemmas on trees
+//! and contexts that the layers above share stand in `proofs/`.
 #![tactic(auto)]
 
 mod derivation;
 mod expansion;
 mod grammar;
 mod laws;
+mod number;
 mod rule;
 mod symbol;
+mod walk;
+mod weights;
 
 pub use derivation::Derivation;
-pub use expansion::{ExpandError, expand};
+pub use expansion::{ExpandError, expand, yield_of};
 pub use grammar::Grammar;
 pub use laws::{one_outcome, one_tree};
+pub use number::{number_of, place_of};
 pub use rule::Rule;
 pub use symbol::{Mark, Symbol};
+pub use weights::{Weights, byte_weight};
 
-/// The most nodes that a derivation tree may have to be written out. A larger one is only known to exist.
+/// The most nodes that a derivation tree may have to be written out, where nodes are counted. A larger one is only known
+/// to exist.
 pub const LIMIT: u32 = 10_000;
+
+/// The most that the number of a token or the limit of weights may be.
+pub const MOST_WEIGHT: u32 = 1_000_000;
 
 /// The most tokens of a grammar.
 pub const MOST_TOKENS: u16 = 512;
@@ -33,6 +46,3 @@ pub const MOST_RULES: usize = 8192;
 
 /// The most symbols of a rule's right side.
 pub const MOST_SYMBOLS: usize = 128;
-
-#[cfg(test)]
-mod tests;

@@ -1,0 +1,81 @@
+// The walk over a list of rule numbers, each put in for the leftmost nonterminal.
+
+ghost use Rattle.std.specs.Prelude.{◌≡◌, ◌++◌, reverse, OnOk, IfOk, IfNone, IfSome};
+ghost use Rattle.cs_grammar.specs.Grammar.{IsRule};
+ghost use Rattle.cs_grammar.specs.Leftmost.{HasNoRuleOf, IsRuleFrom};
+ghost use Rattle.cs_grammar.specs.Walk.{IsExpansion, in_hand, IsFront};
+
+use crate::derivation::Derivation;
+use crate::grammar::Grammar;
+use crate::rule::Rule;
+use crate::symbol::Symbol;
+use std::alloc::{AllocError, Global};
+
+// What a list of rule numbers comes to. Places are counted from 0.
+#[derive(Debug, Drop)]
+pub enum Expansion {
+    Yield(Vec<u16>),
+    WrongRule(usize),
+    TooFew,
+    TooMany(usize),
+}
+
+// Moves the tokens at the front of the open symbols, which stand in reverse, behind those that are done,
+// and takes the nonterminal behind them.
+fn settle(done: &mut Vec<u16>, pending: &mut Vec<Symbol>) -> Result<Option<u16>, AllocError>
+    ensures { IfOk result (IsFront (in_hand done.old pending.old) done.new pending.new) }
+{
+    while let Some(symbol) = pending.pop() {
+        match symbol {
+            Symbol::Token(t) => done.push(t)?,
+            Symbol::Nonterminal(n) => return Ok(Some(n)),
+        }
+    }
+    Ok(None)
+}
+
+// Puts symbols in front of the open ones.
+fn open_up(alloc: Global, pending: &mut Vec<Symbol>, right: &[Symbol]) -> Result<(), AllocError>
+    ensures { OnOk result (reverse pending.new.items ≡ right.now ++ reverse pending.old.items) }
+{
+    let turned: Vec<Symbol> = right.iter().rev().copied().collect(alloc)?;
+    pending.extend_from_slice(&turned)
+}
+
+// The rule of that number, where there is one with this left side.
+fn rule_of(grammar: &Grammar, number: u16, left: u16) -> Option<&Rule>
+    ensures none { IfNone result (HasNoRuleOf grammar.now number left) }
+    ensures some { IfSome result (λ rule. IsRuleFrom grammar.now number left rule.now) }
+{
+    let rule = grammar.get_rule(number)?;
+    if rule.left() == left {
+        Some(rule)
+    } else {
+        None
+    }
+}
+
+// What the rule numbers come to.
+pub fn walk(
+    alloc: Global,
+    grammar: &Grammar,
+    derivation: &Derivation,
+) -> Result<Expansion, AllocError>
+    ensures { IfOk result (IsExpansion grammar.now derivation.now) }
+{
+    let mut done = Vec::new(alloc);
+    let mut pending = vec![in alloc; Symbol::Nonterminal(grammar.start())]?;
+    for (at, number) in derivation.rules().iter().enumerate() {
+        let Some(left) = settle(&mut done, &mut pending)? else {
+            return Ok(Expansion::TooMany(at));
+        };
+        let Some(rule) = rule_of(grammar, *number, left) else {
+            return Ok(Expansion::WrongRule(at));
+        };
+        open_up(alloc, &mut pending, rule.right())?;
+    }
+    match settle(&mut done, &mut pending)? {
+        None => Ok(Expansion::Yield(done)),
+        Some(_) => Ok(Expansion::TooFew),
+    }
+}
