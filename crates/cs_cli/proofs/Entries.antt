@@ -8,7 +8,7 @@ use Rattle.cs_grammar.proofs.Measures.{IsNumberOf-IsYield}
 use Rattle.cs_goals.specs.declared.goal.Goal.{Goal}
 use Rattle.cs_goals.specs.declared.goal.Goal.TheVariants.{Rule, Context, Pair}
 use Rattle.cs_goals.specs.declared.goal.Criteria.{Criteria}
-use Rattle.cs_goals.specs.Goal.{IsGoal, IsChosen}
+use Rattle.cs_goals.specs.Goal.{IsGoal, IsWanted}
 use Rattle.cs_goals.specs.Goals.{goals, rule_goals}
 use Rattle.cs_goals.proofs.Members.{Among-right, Contains-from_Among}
 use Rattle.cs_goals.proofs.Once.{all}

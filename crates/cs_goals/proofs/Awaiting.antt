@@ -13,7 +13,7 @@ use Rattle.cs_grammar.proofs.OneTree.{one_tree}
 use Rattle.cs_goals.specs.declared.goal.Goal.TheVariants.{Context}
 use Rattle.cs_goals.specs.Awaits.{awaits}
 use Rattle.cs_goals.specs.Meets.{trees, IsChild, UsesRuleIn, SomeUsesRuleIn, IsMeeting}
-use Rattle.cs_goals.proofs.Walks.{reads}
+use Rattle.cs_goals.proofs.Entries.{reads}
 
 -- an open node: whether it is awaited, its rule and its children
 pub record Open : Type 0 where

@@ -1,6 +1,6 @@
 pub mod Numbered
 pub mod Remaining
-pub mod Walks
+pub mod Entries
 pub mod Followed
 pub mod Awaiting
 pub mod Decided

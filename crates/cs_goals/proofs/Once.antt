@@ -12,7 +12,7 @@ use Rattle.cs_grammar.specs.Grammar.{Production, PlainGrammar, IsRule, IsNumberO
 use Rattle.cs_goals.specs.declared.goal.Goal.{Goal}
 use Rattle.cs_goals.specs.declared.goal.Goal.TheVariants.{Rule, Context, Pair}
 use Rattle.cs_goals.specs.declared.goal.Criteria.{Criteria}
-use Rattle.cs_goals.specs.Goal.{IsOccurrence, IsLeft, IsRight, IsGoal, IsChosen}
+use Rattle.cs_goals.specs.Goal.{IsOccurrence, IsLeft, IsRight, IsGoal, IsWanted}
 use Rattle.cs_goals.specs.Goals.{rule_goals, numbered_rules, rules_of, goals_at, goals_in, context_goals, token_marks, left_marks, right_marks, goals_after, pair_goals, goals}
 use Rattle.cs_goals.proofs.Members.{Among, Apart, Contains-from_Among, Among-from_Contains, AllPairs-from_Apart, Among-left, Among-right, Among-cases, Apart-append, Among-cond, Among-chosen, Apart-cond, Among-filter, Among-passes, Among-map, Among-mapped, Apart-map, Apart-map-filter, Among-flat_map, Among-joined, Apart-flat_map, Among-range, Among-in_range, Apart-range, Among-enumerate_from, Among-enumerated, Apart-numbers}
 
@@ -247,7 +247,7 @@ module _ (g : PlainGrammar) (c : Criteria) where
       different_kinds : (goal : Goal) (p i q : ℕ) (a b : Mark) → goal ≡ Context p i q → goal ≡ Pair a b → ⊥
       different_kinds goal p i q a b e f = cc
 
-  is_goal : (goal : Goal) → Among goal (goals g c) → IsChosen c goal × IsGoal g goal
+  is_goal : (goal : Goal) → Among goal (goals g c) → IsWanted c goal × IsGoal g goal
   is_goal goal h =
       ⊎_elim
       (λ early.
@@ -255,19 +255,19 @@ module _ (g : PlainGrammar) (c : Criteria) where
       (λ a.
       let chosen = Among-cond goal c.rule (rule_goals g) a in
       let r = in_rules g goal chosen.1 in
-      subst (λ k. IsChosen c k × IsGoal g k) (sym r.1) (chosen.0, r.2))
+      subst (λ k. IsWanted c k × IsGoal g k) (sym r.1) (chosen.0, r.2))
       (λ b.
       let chosen = Among-cond goal c.cdrc (context_goals g) b in
       let x = in_contexts g goal chosen.1 in
-      subst (λ k. IsChosen c k × IsGoal g k) (sym x.3) (chosen.0, x.4))
+      subst (λ k. IsWanted c k × IsGoal g k) (sym x.3) (chosen.0, x.4))
       (Among-cases goal (cond c.rule (rule_goals g) []) (cond c.cdrc (context_goals g) []) early))
       (λ later.
       let chosen = Among-cond goal c.pair (pair_goals g) later in
       let y = in_pairs g.tokens goal chosen.1 in
-      subst (λ k. IsChosen c k × IsGoal g k) (sym y.2) (chosen.0, (y.3, y.4)))
+      subst (λ k. IsWanted c k × IsGoal g k) (sym y.2) (chosen.0, (y.3, y.4)))
       (Among-cases goal (cond c.rule (rule_goals g) [] ++ cond c.cdrc (context_goals g) []) (cond c.pair (pair_goals g) []) h)
 
-  among : (goal : Goal) → IsChosen c goal → IsGoal g goal → Among goal (goals g c)
+  among : (goal : Goal) → IsWanted c goal → IsGoal g goal → Among goal (goals g c)
   among (Rule r) chosen is =
       Among-left (Rule r) (cond c.rule (rule_goals g) [] ++ cond c.cdrc (context_goals g) []) (cond c.pair (pair_goals g) [])
       (Among-left (Rule r) (cond c.rule (rule_goals g) []) (cond c.cdrc (context_goals g) [])
@@ -280,7 +280,7 @@ module _ (g : PlainGrammar) (c : Criteria) where
       Among-right (Pair a b) (cond c.rule (rule_goals g) [] ++ cond c.cdrc (context_goals g) []) (cond c.pair (pair_goals g) [])
       (Among-chosen (Pair a b) c.pair (pair_goals g) chosen (pairs_in g.tokens a b is.0 is.1))
 
-  pub all : (goal : Goal) → Contains (goals g c) goal ↔ (IsChosen c goal × IsGoal g goal)
+  pub all : (goal : Goal) → Contains (goals g c) goal ↔ (IsWanted c goal × IsGoal g goal)
   all goal = (
     λ h. is_goal goal (Among-from_Contains goal (goals g c) h),
     λ h. Contains-from_Among goal (goals g c) (among goal h.0 h.1),

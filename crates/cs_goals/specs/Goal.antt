@@ -36,8 +36,12 @@ IsGoal g (Rule r) = (p : Production) × IsRule g r p
 IsGoal g (Context p i q) = IsOccurrence g p i q
 IsGoal g (Pair a b) = IsLeft g.tokens a × IsRight g.tokens b
 
--- a goal of a chosen criterion
-abbrev pub IsChosen : Criteria → Goal → Type 0
-IsChosen c (Rule r) = IsTrue c.rule
-IsChosen c (Context p i q) = IsTrue c.cdrc
-IsChosen c (Pair a b) = IsTrue c.pair
+-- a goal of a criterion that is wanted
+abbrev pub IsWanted : Criteria → Goal → Type 0
+IsWanted c (Rule r) = IsTrue c.rule
+IsWanted c (Context p i q) = IsTrue c.cdrc
+IsWanted c (Pair a b) = IsTrue c.pair
+
+-- one of the grammar's goals, and of a criterion that is wanted
+abbrev pub IsWantedGoal : PlainGrammar → Criteria → Goal → Type 0
+IsWantedGoal g c goal = IsWanted c goal × IsGoal g goal

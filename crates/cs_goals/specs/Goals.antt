@@ -1,6 +1,6 @@
 -- The list of a grammar's goals.
-use Rattle.std.specs.Prelude.{ℕ, List, [], ◌∷◌, ◌++◌, map, length, ◌==◌, if◌then◌else◌}
-use Rattle.std.specs.List.{filter, flat_map, enumerate_from, range_with_len}
+use Rattle.std.specs.Prelude.{ℕ, List, [], ◌∷◌, ◌++◌, map, length, ◌==◌, if◌then◌else◌, ◌↔◌}
+use Rattle.std.specs.List.{Contains, filter, flat_map, enumerate_from, range_with_len}
 use Rattle.cs_grammar.specs.declared.symbol.Symbol.{Symbol}
 use Rattle.cs_grammar.specs.declared.symbol.Symbol.TheVariants.{Token as OfToken, Nonterminal}
 use Rattle.cs_grammar.specs.declared.symbol.Mark.{Mark}
@@ -60,3 +60,7 @@ pair_goals g = flat_map (goals_after g.tokens) (left_marks g.tokens)
 abbrev pub goals : PlainGrammar → Criteria → List Goal
 goals g c =
     (if c.rule then rule_goals g else []) ++ (if c.cdrc then context_goals g else []) ++ (if c.pair then pair_goals g else [])
+
+-- the list has the members of the kind, and nothing else
+abbrev pub HasExactly : {A : Type 0} → List A → (A → Type 0) → Type 0
+HasExactly {A} list IsOne = (a : A) → Contains list a ↔ IsOne a

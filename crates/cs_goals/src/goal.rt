@@ -3,8 +3,7 @@
 ghost use Rattle.std.specs.Prelude.{◌↔◌, IsTrue};
 ghost use Rattle.cs_goals.specs.Goal.{IsGoal, IsOccurrence, IsLeft, IsRight};
 
-use crate::lookup::rule_at;
-use cs_grammar::{Grammar, Mark, Symbol};
+use cs_grammar::{Grammar, Mark, Symbol, place_of};
 
 /// What a derivation tree is to show. Rules and places are counted from 1.
 #[derive(Clone, Copy, Debug, PartialEq, Eq)]
@@ -32,7 +31,7 @@ pub fn fits_goal(grammar: &Grammar, goal: &Goal) -> bool
     ensures { IsTrue result ↔ IsGoal grammar.now goal.now }
 {
     match *goal {
-        Goal::Rule(rule) => rule_at(grammar, rule).is_some(),
+        Goal::Rule(rule) => grammar.get_rule(rule).is_some(),
         Goal::Context {
             outer,
             place,
@@ -47,16 +46,16 @@ pub fn fits_goal(grammar: &Grammar, goal: &Goal) -> bool
 fn fits_context(grammar: &Grammar, outer: u16, place: u16, inner: u16) -> bool
     ensures { IsTrue result ↔ IsOccurrence grammar.now outer place inner }
 {
-    let Some(outer) = rule_at(grammar, outer) else {
+    let Some(outer) = grammar.get_rule(outer) else {
         return false;
     };
-    let Some(inner) = rule_at(grammar, inner) else {
+    let Some(inner) = grammar.get_rule(inner) else {
         return false;
     };
-    let Some(place) = (place as usize).checked_sub(1) else {
+    if place == 0 {
         return false;
-    };
-    match outer.right().get(place) {
+    }
+    match outer.right().get(place_of(place)) {
         Some(Symbol::Nonterminal(nonterminal)) => *nonterminal == inner.left(),
         _ => false,
     }

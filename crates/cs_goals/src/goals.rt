@@ -1,12 +1,12 @@
 // The goals of a grammar, one after another.
 
-ghost use Rattle.std.specs.Prelude.{◌≡◌, ◌≤◌, [], ◌∷◌, MatchOption, IfSome, IfNone};
+ghost use Rattle.std.specs.Prelude.{◌≡◌, ◌≤◌, [], ◌∷◌, IfSome, IfNone};
 ghost use Rattle.cs_goals.specs.Goals.{goals};
-ghost use Rattle.cs_goals.specs.Rest.{rules_left, contexts_left, pairs_left};
+ghost use Rattle.cs_goals.specs.Rest.{rules_left, contexts_at, pairs_at, Gives};
 
 use crate::goal::{Criteria, Goal};
 use crate::occurrence::{Occurrence, next_occurrence};
-use cs_grammar::{Grammar, Mark};
+use cs_grammar::{Grammar, Mark, number_of};
 use std::marker::Model;
 
 /// The goals that are still to be given: rule goals by number, then context goals by outer rule, place and inner rule,
@@ -16,12 +16,12 @@ pub struct Goals<'g> {
     grammar: &'g Grammar,
     rules: usize,
     contexts: Occurrence,
-    pairs: Neighbours,
+    pairs: GivenPairs,
 }
 
 // How many left marks, and how many right marks with the next of them, were given.
 #[derive(Clone, Copy, Debug)]
-struct Neighbours {
+struct GivenPairs {
     left: u16,
     right: u16,
 }
@@ -55,7 +55,7 @@ impl<'g> Goals<'g> {
                 place: 0,
                 inner: 0,
             },
-            pairs: Neighbours {
+            pairs: GivenPairs {
                 left: if criteria.pair {
                     0
                 } else {
@@ -82,9 +82,7 @@ impl<'g> Goals<'g> {
 }
 
 fn next_rule(grammar: &Grammar, given: &mut usize) -> Option<Goal>
-    ensures { MatchOption result
-        ((rules_left grammar.now given.old ≡ []) × (rules_left grammar.now given.new ≡ []))
-        (λ goal. rules_left grammar.now given.old ≡ goal ∷ rules_left grammar.now given.new) }
+    ensures { Gives (rules_left grammar.now given.old) (rules_left grammar.now given.new) result }
 {
     if *given < grammar.rules().len() {
         *given += 1;
@@ -95,11 +93,7 @@ fn next_rule(grammar: &Grammar, given: &mut usize) -> Option<Goal>
 }
 
 fn next_context(grammar: &Grammar, given: &mut Occurrence) -> Option<Goal>
-    ensures { MatchOption result
-        ((contexts_left grammar.now given.old.outer given.old.place given.old.inner ≡ [])
-        × (contexts_left grammar.now given.new.outer given.new.place given.new.inner ≡ []))
-        (λ goal. contexts_left grammar.now given.old.outer given.old.place given.old.inner
-        ≡ goal ∷ contexts_left grammar.now given.new.outer given.new.place given.new.inner) }
+    ensures { Gives (contexts_at grammar.now given.old) (contexts_at grammar.now given.new) result }
 {
     match next_occurrence(grammar, *given) {
         Some(found) => {
@@ -107,9 +101,9 @@ fn next_context(grammar: &Grammar, given: &mut Occurrence) -> Option<Goal>
             given.place = found.place;
             given.inner = found.inner + 1;
             Some(Goal::Context {
-                outer: found.outer as u16 + 1,
-                place: found.place as u16 + 1,
-                inner: found.inner as u16 + 1,
+                outer: number_of(found.outer),
+                place: number_of(found.place),
+                inner: number_of(found.inner),
             })
         }
         None => {
@@ -120,13 +114,9 @@ fn next_context(grammar: &Grammar, given: &mut Occurrence) -> Option<Goal>
     }
 }
 
-fn next_pair(grammar: &Grammar, given: &mut Neighbours) -> Option<Goal>
+fn next_pair(grammar: &Grammar, given: &mut GivenPairs) -> Option<Goal>
     requires { given.old.right ≤ grammar.now.tokens }
-    ensures goal { MatchOption result
-        ((pairs_left grammar.now.tokens given.old.left given.old.right ≡ [])
-        × (pairs_left grammar.now.tokens given.new.left given.new.right ≡ []))
-        (λ goal. pairs_left grammar.now.tokens given.old.left given.old.right
-        ≡ goal ∷ pairs_left grammar.now.tokens given.new.left given.new.right) }
+    ensures goal { Gives (pairs_at grammar.now given.old) (pairs_at grammar.now given.new) result }
     ensures right { given.new.right ≤ grammar.now.tokens }
 {
     let _well_formed = grammar.rules();

@@ -1,14 +1,14 @@
 // Which derivations meet a goal.
 
-ghost use Rattle.std.specs.Prelude.{◌≡◌, ◌↔◌, ◌++◌, IsTrue, IfOk, OnOk, reverse};
-ghost use Rattle.cs_grammar.specs.Tree.{IsDerivation};
-ghost use Rattle.cs_goals.specs.Meets.{IsMeeting};
+ghost use Rattle.std.specs.Prelude.{◌↔◌, IsTrue, IfOk, OnOk};
+ghost use Rattle.cs_grammar.specs.Stack.{AreOnTop};
+ghost use Rattle.cs_grammar.specs.Tree.{IsDerivationOf};
+ghost use Rattle.cs_goals.specs.Meets.{IsMeeting, HasChild};
 ghost use Rattle.cs_goals.specs.Awaits.{awaits};
 
 use crate::goal::Goal;
-use crate::lookup::rule_numbered;
-use crate::yields::{has_pair, yield_of};
-use cs_grammar::{Derivation, Grammar, Symbol};
+use crate::neighbours::has_pair;
+use cs_grammar::{Derivation, Grammar, Symbol, yield_of};
 use std::alloc::{AllocError, Global};
 
 /// Whether the tree of a derivation of the start symbol meets the goal. A code has one tree. The code is read once, with
@@ -19,7 +19,7 @@ pub fn meets(
     goal: &Goal,
     derivation: &Derivation,
 ) -> Result<bool, AllocError>
-    requires { IsDerivation grammar.now (Symbol.Nonterminal grammar.now.start) derivation.now }
+    requires { IsDerivationOf grammar.now derivation.now }
     ensures { IfOk result (λ met. IsTrue met ↔ IsMeeting grammar.now goal.now derivation.now) }
 {
     match *goal {
@@ -46,8 +46,8 @@ fn meets_context(
     place: u16,
     inner: u16,
 ) -> Result<bool, AllocError>
-    requires { IsDerivation grammar.now (Symbol.Nonterminal grammar.now.start) derivation.now }
-    ensures { IfOk result (λ met. IsTrue met ↔ IsMeeting grammar.now (Goal.Context outer place inner) derivation.now) }
+    requires { IsDerivationOf grammar.now derivation.now }
+    ensures { IfOk result (λ met. IsTrue met ↔ HasChild grammar.now derivation.now outer place inner) }
 {
     let mut pending = vec![in alloc; false]?;
     for number in derivation.rules() {
@@ -55,7 +55,7 @@ fn meets_context(
         if is_awaited && *number == inner {
             return Ok(true);
         }
-        let rule = rule_numbered(grammar, *number);
+        let rule = grammar.rule(*number);
         await_child(
             &mut pending,
             rule.right(),
@@ -68,7 +68,7 @@ fn meets_context(
 // Puts the nonterminals of a right side in front of the open ones, which stand in reverse; the one at the place, counted
 // from 1, is awaited.
 fn await_child(pending: &mut Vec<bool>, right: &[Symbol], place: u16) -> Result<(), AllocError>
-    ensures { OnOk result (reverse pending.new.items ≡ awaits place right.now ++ reverse pending.old.items) }
+    ensures { OnOk result (AreOnTop (awaits place right.now) pending.old.items pending.new.items) }
 {
     for at in (0..right.len()).rev() {
         if let Symbol::Nonterminal(_) = right[at] {

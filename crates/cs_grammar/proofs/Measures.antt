@@ -44,6 +44,10 @@ All-at P xs k x all at = subst P (get_or_from_slice_get xs k x x at) (all k x (s
 pub IsRuleOf-rule : (g : PlainGrammar) (r : ℕ) (p : Production) → IsGrammar g → IsRule g r p → IsRuleOf g.tokens g.nonterminals p
 IsRuleOf-rule g r p well rule = All-at (IsRuleOf g.tokens g.nonterminals) g.rules (r - 1) p well.rules rule.at
 
+-- the number of a rule is one of the numbers of the rules
+pub IsNumberOf-rule : (g : PlainGrammar) (r : ℕ) (p : Production) → IsRule g r p → IsNumberOf (length g.rules) r
+IsNumberOf-rule g r p rule = let within = slice_get_within g.rules (r - 1) p rule.at in (rule.above_zero, omega (arith, within, rule.above_zero))
+
 -- the tokens of a yield are tokens of the grammar
 module _ (g : PlainGrammar) (well : IsGrammar g) where
   mutual

@@ -7,4 +7,5 @@ pub mod Sentence
 pub mod Leftmost
 pub mod Fault
 pub mod Laws
+pub mod Stack
 pub mod Walk

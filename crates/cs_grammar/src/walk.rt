@@ -1,8 +1,8 @@
 // The walk over a list of rule numbers, each put in for the leftmost nonterminal.
 
-ghost use Rattle.std.specs.Prelude.{◌≡◌, ◌++◌, reverse, OnOk, IfOk, IfNone, IfSome};
-ghost use Rattle.cs_grammar.specs.Grammar.{IsRule};
+ghost use Rattle.std.specs.Prelude.{OnOk, IfOk, IfNone, IfSome};
 ghost use Rattle.cs_grammar.specs.Leftmost.{HasNoRuleOf, IsRuleFrom};
+ghost use Rattle.cs_grammar.specs.Stack.{AreOnTop};
 ghost use Rattle.cs_grammar.specs.Walk.{IsExpansion, in_hand, IsFront};
 
 use crate::derivation::Derivation;
@@ -36,7 +36,7 @@ fn settle(done: &mut Vec<u16>, pending: &mut Vec<Symbol>) -> Result<Option<u16>,
 
 // Puts symbols in front of the open ones.
 fn open_up(alloc: Global, pending: &mut Vec<Symbol>, right: &[Symbol]) -> Result<(), AllocError>
-    ensures { OnOk result (reverse pending.new.items ≡ right.now ++ reverse pending.old.items) }
+    ensures { OnOk result (AreOnTop right.now pending.old.items pending.new.items) }
 {
     let turned: Vec<Symbol> = right.iter().rev().copied().collect(alloc)?;
     pending.extend_from_slice(&turned)

@@ -2,6 +2,7 @@ use Rattle.std.proofs.Common.{◌≡◌, ◌+◌, ◌++◌, ◌∷◌, [], ℕ, 
 use Rattle.std.proofs.lemmas.List.{drop_all}
 use Rattle.cs_grammar.specs.declared.symbol.Symbol.{Symbol}
 use Rattle.cs_grammar.specs.Grammar.{Production}
+use Rattle.cs_grammar.proofs.Measures.{IsNumberOf-rule}
 use Rattle.cs_grammar.proofs.OneTree.{one_rule}
 use Rattle.cs_goals.specs.declared.goal.Goal.TheVariants.{Context}
 use Rattle.cs_goals.specs.Awaits.{awaits}
@@ -25,10 +26,10 @@ returns-then-number-inner c =
     let met = t.met (sym top.0 ∙ sym c.unwrap_or-is_awaited.ensures ∙ c.if-is_awaited.true) c.if-number-inner.true in
     (λ _. subst (IsMeeting g (Context c.args.outer c.args.place c.args.inner)) c.rules-number-items.ensures met, λ _. refl)
 
-pub rule_numbered-rule-requires : goal.rule_numbered-rule-requires
-rule_numbered-rule-requires c =
+pub rule-rule-requires : goal.rule-rule-requires
+rule-rule-requires c =
     let t = turn c.args.grammar.now c.rules-number-items.result.now c.args.outer c.args.place c.args.inner c.loop-number.number-index (reverse c.loop-number.pending.items) c.loop-number-test.true c.loop-number.invariant in
-    (t.rule, t.number)
+    IsNumberOf-rule c.args.grammar.now _ t.rule t.number
 
 pub loop-number-preserved : goal.loop-number-preserved
 loop-number-preserved c =
@@ -52,10 +53,10 @@ loop-number-preserved c =
       | else-number-outer w ↦ w.await_child-is
     ] in
     let after = t.next not_met place is_outer not_outer in
-    let rule = one_rule g (get_or rules at 0) (get_or rules at 0) t.rule c.rule_numbered-rule.result.now refl t.number c.rule_numbered-rule.ensures.rule in
+    let rule = one_rule g (get_or rules at 0) (get_or rules at 0) t.rule c.rule-rule.result.now refl t.number c.rule-rule.ensures.rule in
     let same : awaits place t.rule.right ++ t.others ≡ reverse c.await_child.new.pending.items =
     ap (λ (p : Production). awaits place p.right ++ t.others) rule
-    ∙ ap (λ (l : List Bool). awaits place c.rule_numbered-rule.result.now.right ++ l) (sym top.1)
+    ∙ ap (λ (l : List Bool). awaits place c.rule-rule.result.now.right ++ l) (sym top.1)
     ∙ ap (λ (xs : List Symbol). awaits place xs ++ reverse c.pop.new.self.items) (sym c.right.ensures)
     ∙ sym c.in_ok-await_child.ensures in
     subst (λ (l : List Bool). Waits g rules (drop (at + 1) rules) l c.args.outer c.args.place c.args.inner) same after

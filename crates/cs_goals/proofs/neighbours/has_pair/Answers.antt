@@ -2,8 +2,8 @@ use Rattle.std.proofs.Common.{refl}
 use Rattle.std.proofs.lemmas.List.{take_all}
 use Rattle.std.proofs.Common.{ℕ, List, subst}
 use Rattle.cs_goals.proofs.Followed.{Looked, looked_none, looked_more, found_pair, last_pair, last_of_pairs}
-use Rattle.cs_goals.proofs.yields.has_pair.Goals as goal
-use Rattle.cs_goals.proofs.yields.has_pair.Goals.{else-same_mark-via-then-same_mark+else-same_mark-2, else-same_mark-via-else-same_mark}
+use Rattle.cs_goals.proofs.neighbours.has_pair.Goals as goal
+use Rattle.cs_goals.proofs.neighbours.has_pair.Goals.{else-same_mark-via-then-same_mark+else-same_mark-2, else-same_mark-via-else-same_mark}
 
 pub loop-token-init : goal.loop-token-init
 loop-token-init c = looked_none c.args.left c.args.right

@@ -1,0 +1,6 @@
+-- A stack in memory: its top is the last element of a list.
+use Rattle.std.specs.Prelude.{◌≡◌, List, ◌++◌, reverse}
+
+-- these were put on top of what was there, the first of them on top
+abbrev pub AreOnTop : {A : Type 0} → List A → List A → List A → Type 0
+AreOnTop xs old new = reverse new ≡ xs ++ reverse old
