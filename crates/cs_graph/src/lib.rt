@@ -15,6 +15,3 @@ pub use fits::is_graph;
 pub use laws::{one_place, ordered_without_cycle};
 pub use leading::leads;
 pub use ordering::order;
-
-#[cfg(test)]
-mod tests;

@@ -7,19 +7,23 @@ use Rattle.cs_pattern_items.specs.Members.{has, bytes_where}
 use Rattle.cs_pattern_items.specs.Marks.{Mark, collating}
 use Rattle.cs_pattern_items.specs.Bracket.{one, range, members, member_test, any_test, or_both, is_yes, is_refused, begins_range, is_dash, member_bytes, turned, unless_empty}
 use Rattle.cs_pattern_items.specs.Inserting.{Inserts, AreMembers, AddsMember, RefusesMember}
-use Rattle.cs_pattern_items.proofs.Picked.{has_picked, same_picked}
+use Rattle.cs_pattern_items.proofs.Picked.{has_picked, same_picked, picked_none, picked_by_itself}
 
 -- The set has what was gathered, and with the marks from the index on it is what all marks give.
 pub record Gathers (ms : List Mark) (set : List ℕ) (index : ℕ) : Type 0 where
   pub within : index ≤ length ms
+  pub is : set ≡ bytes_where (has set)
   pub tests : (b : ℕ) → b < 256 → or_both (Some (has set b)) (any_test (members (drop index ms)) b) ≡ any_test (members ms) b
 
 none_yet : (q : Option Bool) → or_both (Some false) q ≡ q
 none_yet None = refl
 none_yet (Some v) = refl
 
+none_is : (set : List ℕ) → set ≡ [] → set ≡ bytes_where (has set)
+none_is set e = e ∙ sym (picked_none (has set) 256 (λ m lt. ap (λ s. has s m) e))
+
 pub gathers_none : (ms : List Mark) (set : List ℕ) → set ≡ [] → Gathers ms set 0
-gathers_none ms set e = record { within = omega arith; tests = λ b lt. ap (λ s. or_both (Some (has s b)) (any_test (members ms) b)) e ∙ none_yet (any_test (members ms) b) }
+gathers_none ms set e = record { within = omega arith; is = none_is set e; tests = λ b lt. ap (λ s. or_both (Some (has s b)) (any_test (members ms) b)) e ∙ none_yet (any_test (members ms) b) }
 
 regroup : (v o q : Bool) → ((v || o) || q) ≡ (o || (v || q))
 regroup true true q = refl
@@ -36,8 +40,10 @@ added (Some v) o n (Some q) r e = ap (λ w. Some (w || q)) e ∙ ap Some (regrou
 pub gathers_member : (ms : List Mark) (old new : List ℕ) (index next : ℕ) → Gathers ms old index → AddsMember ms index old new next → Gathers ms new next
 gathers_member ms old new index next g a = record {
   within = a.within;
+  is = picked_by_itself (λ b. is_yes (member_test a.member b) || has old b) 256 new (sym a.adds.1);
   tests = λ b lt.
-      added (member_test a.member b) (has old b) (has new b) (any_test (members (drop next ms)) b) (a.adds.0 b) (a.adds.1 b lt)
+      added (member_test a.member b) (has old b) (has new b) (any_test (members (drop next ms)) b) (a.adds.0 b)
+      (ap (λ s. has s b) a.adds.1 ∙ has_picked (λ x. is_yes (member_test a.member x) || has old x) 256 b lt)
       ∙ sym (ap (λ x. or_both (Some (has old b)) (any_test x b)) a.is)
       ∙ g.tests b lt;
 }
@@ -58,7 +64,7 @@ gathers_all ms set index le g =
     let each : (b : ℕ) → b < 256 → or_both (Some (has set b)) (Some false) ≡ any_test (members ms) b = λ b lt. sym (ap (λ x. or_both (Some (has set b)) (any_test (members x) b)) rest) ∙ g.tests b lt in
     record {
       accepted = (some_yes (has set 0) (any_test (members ms) 0) (each 0 (omega arith))).0;
-      each = λ b lt. (some_yes (has set b) (any_test (members ms) b) (each b lt)).1;
+      is = g.is ∙ same_picked (has set) (λ b. is_yes (any_test (members ms) b)) 256 (λ b lt. (some_yes (has set b) (any_test (members ms) b) (each b lt)).1);
     }
 
 -- ---- what stands at an index
@@ -103,17 +109,15 @@ module _ (ms : List Mark) (index : ℕ) where
 
 -- ---- the set of a bracket
 
-pub turned_no : (ms : List Mark) (set : List ℕ) → AreMembers ms set → unless_empty (bytes_where (has set)) ≡ turned false (member_bytes ms)
+pub turned_no : (ms : List Mark) (set : List ℕ) → AreMembers ms set → unless_empty set ≡ turned false (member_bytes ms)
 unfolding member_bytes
 turned_no ms set a =
-    ap unless_empty (same_picked (has set) (λ b. is_yes (any_test (members ms) b)) 256 a.each)
-    ∙ sym (ap (λ v. turned false (if v then None else Some (bytes_where (λ b. is_yes (any_test (members ms) b))))) a.accepted)
+    ap unless_empty a.is ∙ sym (ap (λ v. turned false (if v then None else Some (bytes_where (λ b. is_yes (any_test (members ms) b))))) a.accepted)
 
-pub turned_yes : (ms : List Mark) (set others : List ℕ) → AreMembers ms set → others ≡ bytes_where (λ b. not (has set b)) → unless_empty (bytes_where (has others)) ≡ turned true (member_bytes ms)
+pub turned_yes : (ms : List Mark) (set others : List ℕ) → AreMembers ms set → others ≡ bytes_where (λ b. not (has set b)) → unless_empty others ≡ turned true (member_bytes ms)
 unfolding member_bytes
 turned_yes ms set others a is =
-    ap unless_empty (same_picked (has others) (λ b. not (has (bytes_where (λ c. is_yes (any_test (members ms) c))) b)) 256 (λ b lt.
-    ap (λ s. has s b) is ∙ has_picked (λ c. not (has set c)) 256 b lt ∙ ap not (a.each b lt ∙ sym (has_picked (λ c. is_yes (any_test (members ms) c)) 256 b lt))))
+    ap unless_empty (is ∙ ap (λ s. bytes_where (λ b. not (has s b))) a.is)
     ∙ sym (ap (λ v. turned true (if v then None else Some (bytes_where (λ b. is_yes (any_test (members ms) b))))) a.accepted)
 
 -- ---- the member at an index

@@ -1,8 +1,10 @@
 -- Picked numbers, and membership.
-use Rattle.std.proofs.Common.{◌≡◌, ℕ, zero, suc, ◌+◌, ◌<◌, ◌≤◌, Bool, true, false, List, [], ◌∷◌, ◌++◌, inl, inr, refl, sym, ap, ◌∙◌, arith}
-use Rattle.std.specs.Prelude.{if◌then◌else◌, ◌==◌, ◌||◌, ◌&&◌, nat_lt, nat_le}
-use Rattle.std.proofs.lemmas.Bool.{false≢true, cases_lt, eq-eqb, eqb-true, false_from_ne_true, lt-ltb, le-ltb, lt-leb, le-leb}
-use Rattle.cs_pattern_items.specs.Members.{picked, has, is_none}
+use Rattle.std.proofs.Common.{◌≡◌, ℕ, zero, suc, ◌+◌, ◌<◌, ◌≤◌, Bool, true, false, List, [], ◌∷◌, ◌++◌, length, length-append, inl, inr, refl, sym, subst, ap, ◌∙◌, arith}
+use Rattle.std.specs.Prelude.{All, Contains, if◌then◌else◌, ◌==◌, ◌||◌, ◌&&◌, nat_lt, nat_le}
+use Rattle.std.proofs.lemmas.List.{append-nil}
+use Rattle.std.proofs.lemmas.List.Elements.{All-nil, All-cons, All-head, All-tail, All-append, All-weaker, Contains-append_right, Contains-append_cases}
+use Rattle.std.proofs.lemmas.Bool.{false≢true, cases_lt, cases_eq, eq-eqb, eqb-true, false_from_ne_true, lt-ltb, le-ltb, lt-leb, le-leb}
+use Rattle.cs_pattern_items.specs.Members.{picked, bytes_where, has, IsAscending, IsByteSet}
 
 or_assoc : (p q r : Bool) → (p || (q || r)) ≡ ((p || q) || r)
 or_assoc true q r = refl
@@ -11,6 +13,12 @@ or_assoc false q r = refl
 or_nothing : (p : Bool) → (p || false) ≡ p
 or_nothing true = refl
 or_nothing false = refl
+
+pub or_turned : (p q : Bool) → (p || q) ≡ (q || p)
+or_turned true true = refl
+or_turned true false = refl
+or_turned false true = refl
+or_turned false false = refl
 
 pub has-append : (xs ys : List ℕ) (b : ℕ) → has (xs ++ ys) b ≡ (has xs b || has ys b)
 has-append [] ys b = refl
@@ -71,17 +79,12 @@ picked_none t (suc n) h =
     let here = h n (omega arith) in
     cc
 
-has_none : (xs : List ℕ) (b : ℕ) → has xs b ≡ true → is_none xs ≡ false
-has_none [] b h = absurd (false≢true h)
-has_none (x ∷ xs) b h = refl
-
 -- a set with a member is not empty
-pub some_is_no_none : (xs : List ℕ) (b : ℕ) (v : Bool) → v ≡ has xs b → v ≡ true → false ≡ is_none xs
-some_is_no_none xs b v is h = sym (has_none xs b (sym is ∙ h))
+pub some_is_no_none : (xs : List ℕ) (b : ℕ) → has xs b ≡ true → xs ≡ [] → ⊥
+some_is_no_none xs b h e = false≢true (sym (ap (λ ys. has ys b) e) ∙ h)
 
-pub picked_is_none : (t : ℕ → Bool) (n : ℕ) (xs : List ℕ) → picked t n ≡ xs → ((m : ℕ) → m < n → has xs m ≡ false) → true ≡ is_none xs
-picked_is_none t n xs is h =
-    ap is_none (sym (picked_none t n (λ m lt. sym (has_picked t n m lt) ∙ ap (λ ys. has ys m) is ∙ h m lt)) ∙ is)
+pub picked_is_none : (t : ℕ → Bool) (n : ℕ) (xs : List ℕ) → picked t n ≡ xs → ((m : ℕ) → m < n → has xs m ≡ false) → xs ≡ []
+picked_is_none t n xs is h = sym is ∙ picked_none t n (λ m lt. sym (has_picked t n m lt) ∙ ap (λ ys. has ys m) is ∙ h m lt)
 
 -- a set that is picked is picked by its own test
 pub picked_by_itself : (t : ℕ → Bool) (n : ℕ) (xs : List ℕ) → picked t n ≡ xs → xs ≡ picked (has xs) n
@@ -146,32 +149,21 @@ below_all q old k le is =
     is ∙ same_picked (λ b. q b && nat_lt b k) q 256 (λ m lt. ap (λ v. q m && v) (lt-ltb m k (omega arith)) ∙ and_all (q m))
 
 -- the same beside the members that were there before
-pub added_none : (q o : ℕ → Bool) (b : ℕ) → o b ≡ ((q b && nat_lt b 0) || o b)
-added_none q o b = sym (ap (λ v. v || o b) (ap (λ v. q b && v) (le-ltb b 0 (omega arith)) ∙ and_nothing (q b)))
-
-pub added_in : (q o : ℕ → Bool) (k : ℕ) (old new : List ℕ) → q k ≡ true → ((b : ℕ) → b < 256 → has old b ≡ ((q b && nat_lt b k) || o b)) → new ≡ picked (λ b. (b == k) || has old b) 256
-    → (b : ℕ) → b < 256 → has new b ≡ ((q b && nat_lt b (k + 1)) || o b)
-added_in q o k old new pass is made b lt =
-    ap (λ ys. has ys b) made
-    ∙ has_picked (λ c. (c == k) || has old c) 256 b lt
-    ∙ ap (λ v. (b == k) || v) (is b lt)
-    ∙ or_assoc (b == k) (q b && nat_lt b k) (o b)
-    ∙ ap (λ v. v || o b) (step_in (b == k) (q b) (nat_lt b k) (λ e. ap q (eqb-true b k e) ∙ pass) ∙ ap (λ v. q b && v) (sym (lt_more b k)))
-
-pub added_out : (q o : ℕ → Bool) (k : ℕ) (old : List ℕ) → q k ≡ false → ((b : ℕ) → b < 256 → has old b ≡ ((q b && nat_lt b k) || o b))
-    → (b : ℕ) → b < 256 → has old b ≡ ((q b && nat_lt b (k + 1)) || o b)
-added_out q o k old no_pass is b lt =
-    is b lt ∙ ap (λ v. v || o b) (step_out (b == k) (q b) (nat_lt b k) (λ e. ap q (eqb-true b k e) ∙ no_pass) ∙ ap (λ v. q b && v) (sym (lt_more b k)))
-
-pub added_all : (q o : ℕ → Bool) (k : ℕ) (old : List ℕ) → 256 ≤ k → ((b : ℕ) → b < 256 → has old b ≡ ((q b && nat_lt b k) || o b)) → (b : ℕ) → b < 256 → has old b ≡ (q b || o b)
-added_all q o k old le is b lt = is b lt ∙ ap (λ v. v || o b) (ap (λ v. q b && v) (lt-ltb b k (omega arith)) ∙ and_all (q b))
-
-pub range_none : (first b : ℕ) (o : ℕ → Bool) → o b ≡ ((nat_le first b && nat_lt b first) || o b)
-range_none first b o =
+pub range_none : (first : ℕ) (xs : List ℕ) → xs ≡ bytes_where (has xs) → xs ≡ bytes_where (λ b. (nat_le first b && nat_lt b first) || has xs b)
+range_none first xs is =
+    is ∙ same_picked (has xs) (λ b. (nat_le first b && nat_lt b first) || has xs b) 256 (λ b lt.
     elim (cases_lt b first) [
-      | inl below ↦ let e : nat_le first b ≡ false = lt-leb first b below in sym (ap (λ v. (v && nat_lt b first) || o b) e)
-      | inr above ↦ let e : nat_lt b first ≡ false = le-ltb b first above in sym (ap (λ v. (nat_le first b && v) || o b) e ∙ ap (λ v. v || o b) (and_nothing (nat_le first b)))
-    ]
+      | inl below ↦ let e : nat_le first b ≡ false = lt-leb first b below in sym (ap (λ v. (v && nat_lt b first) || has xs b) e)
+      | inr above ↦ let e : nat_lt b first ≡ false = le-ltb b first above in sym (ap (λ v. (nat_le first b && v) || has xs b) e ∙ ap (λ v. v || has xs b) (and_nothing (nat_le first b)))
+    ])
+
+pub range_more : (first k : ℕ) (o : ℕ → Bool) (old new : List ℕ) → nat_le first k ≡ true → old ≡ bytes_where (λ b. (nat_le first b && nat_lt b k) || o b) → new ≡ bytes_where (λ b. (b == k) || has old b)
+    → new ≡ bytes_where (λ b. (nat_le first b && nat_lt b (k + 1)) || o b)
+range_more first k o old new pass is made =
+    made ∙ same_picked (λ b. (b == k) || has old b) (λ b. (nat_le first b && nat_lt b (k + 1)) || o b) 256 (λ b lt.
+    ap (λ v. (b == k) || v) (ap (λ ys. has ys b) is ∙ has_picked (λ c. (nat_le first c && nat_lt c k) || o c) 256 b lt)
+    ∙ or_assoc (b == k) (nat_le first b && nat_lt b k) (o b)
+    ∙ ap (λ v. v || o b) (step_in (b == k) (nat_le first b) (nat_lt b k) (λ e. ap (nat_le first) (eqb-true b k e) ∙ pass) ∙ ap (λ v. nat_le first b && v) (sym (lt_more b k))))
 
 lt_le : (b last : ℕ) → nat_lt b (last + 1) ≡ nat_le b last
 lt_le b last =
@@ -180,9 +172,150 @@ lt_le b last =
       | inr below ↦ let e : nat_lt b (last + 1) ≡ true = lt-ltb b (last + 1) (omega arith) in let f : nat_le b last ≡ true = le-leb b last below in e ∙ sym f
     ]
 
-pub range_all : (first last k : ℕ) (o : ℕ → Bool) (set : List ℕ) → k ≡ last + 1 → ((b : ℕ) → b < 256 → has set b ≡ ((nat_le first b && nat_lt b k) || o b)) → (b : ℕ) → b < 256 → has set b ≡ ((nat_le first b && nat_le b last) || o b)
-range_all first last k o set e h b lt = h b lt ∙ ap (λ v. (nat_le first b && v) || o b) (ap (nat_lt b) e ∙ lt_le b last)
+pub range_all : (first last k : ℕ) (o : ℕ → Bool) (set : List ℕ) → k ≡ last + 1 → set ≡ bytes_where (λ b. (nat_le first b && nat_lt b k) || o b) → set ≡ bytes_where (λ b. (nat_le first b && nat_le b last) || o b)
+range_all first last k o set e is =
+    is ∙ same_picked (λ b. (nat_le first b && nat_lt b k) || o b) (λ b. (nat_le first b && nat_le b last) || o b) 256 (λ b lt.
+    ap (λ v. (nat_le first b && v) || o b) (ap (nat_lt b) e ∙ lt_le b last))
 
 -- one byte put into the empty set
 pub only_one : (k b : ℕ) (old new : List ℕ) → old ≡ [] → new ≡ picked (λ c. (c == k) || has old c) 256 → b < 256 → has new b ≡ (b == k)
 only_one k b old new is made lt = ap (λ s. has s b) made ∙ has_picked (λ c. (c == k) || has old c) 256 b lt ∙ ap (λ s. (b == k) || has s b) is ∙ or_nothing (b == k)
+
+-- ---- sets as lists
+
+ascending-more : (xs : List ℕ) (n : ℕ) → IsAscending xs → All (λ y. y < n) xs → IsAscending (xs ++ n ∷ [])
+ascending-more [] n a h = (All-nil (λ y. n < y), tt)
+ascending-more (x ∷ xs) n a h = (
+  All-append (λ y. x < y) xs (n ∷ []) a.0 (All-cons (λ y. x < y) n [] (All-head (λ y. y < n) x xs h) (All-nil (λ y. x < y))),
+  ascending-more xs n a.1 (All-tail (λ y. y < n) x xs h),
+)
+
+below_more : (xs : List ℕ) (n : ℕ) (v : Bool) → All (λ b. b < n) xs → All (λ b. b < suc n) (xs ++ (if v then n ∷ [] else []))
+below_more xs n v h = All-append (λ b. b < suc n) xs (if v then n ∷ [] else []) (All-weaker (λ b. b < n) (λ b. b < suc n) (λ b lt. omega arith) xs h) (one v)
+  where
+    one : (w : Bool) → All (λ b. b < suc n) (if w then n ∷ [] else [])
+    one true = All-cons (λ b. b < suc n) n [] (omega arith) (All-nil (λ b. b < suc n))
+    one false = All-nil (λ b. b < suc n)
+
+pub picked_below : (t : ℕ → Bool) (n : ℕ) → All (λ b. b < n) (picked t n)
+unfolding picked
+picked_below t zero = All-nil (λ b. b < 0)
+picked_below t (suc n) = below_more (picked t n) n (t n) (picked_below t n)
+
+ascends_more : (xs : List ℕ) (n : ℕ) (v : Bool) → IsAscending xs → All (λ y. y < n) xs → IsAscending (xs ++ (if v then n ∷ [] else []))
+ascends_more xs n true a h = ascending-more xs n a h
+ascends_more xs n false a h = rw append-nil a
+
+picked_ascends : (t : ℕ → Bool) (n : ℕ) → IsAscending (picked t n)
+unfolding picked
+picked_ascends t zero = tt
+picked_ascends t (suc n) = ascends_more (picked t n) n (t n) (picked_ascends t n) (picked_below t n)
+
+-- the bytes that pass a test are a set
+pub bytes_where-set : (t : ℕ → Bool) → IsByteSet (bytes_where t)
+bytes_where-set t = record { ascends = picked_ascends t 256; bytes = picked_below t 256 }
+
+has_not : (xs : List ℕ) (b : ℕ) → All (λ y. b < y) xs → has xs b ≡ false
+has_not [] b h = refl
+has_not (x ∷ xs) b h =
+    ap (λ v. v || has xs b) (not_equal x b (λ e. let lt : b < x = All-head (λ y. b < y) x xs h in omega arith))
+    ∙ has_not xs b (All-tail (λ y. b < y) x xs h)
+
+has_first : (x : ℕ) (xs : List ℕ) → has (x ∷ xs) x ≡ true
+has_first x xs = ap (λ v. v || has xs x) (eq-eqb x x refl)
+
+has_behind : (x b : ℕ) (xs : List ℕ) → (x ≡ b → ⊥) → has (x ∷ xs) b ≡ has xs b
+has_behind x b xs ne = ap (λ v. v || has xs b) (not_equal x b ne)
+
+above : (x y : ℕ) (ys : List ℕ) → x < y → All (λ z. y < z) ys → All (λ z. x < z) (y ∷ ys)
+above x y ys lt h = All-cons (λ z. x < z) y ys lt (All-weaker (λ z. y < z) (λ z. x < z) (λ z yz. omega (arith, yz, lt)) ys h)
+
+-- ascending lists with the same members are one list
+same_ascending : (xs ys : List ℕ) → IsAscending xs → IsAscending ys → ((b : ℕ) → has xs b ≡ has ys b) → xs ≡ ys
+same_ascending [] [] a b h = refl
+same_ascending [] (y ∷ ys) a b h = absurd (false≢true (h y ∙ has_first y ys))
+same_ascending (x ∷ xs) [] a b h = absurd (false≢true (sym (h x) ∙ has_first x xs))
+same_ascending (x ∷ xs) (y ∷ ys) a b h =
+    elim (cases_lt x y) [
+      | inl lt ↦ absurd (false≢true (sym (has_not (y ∷ ys) x (above x y ys lt b.0)) ∙ sym (h x) ∙ has_first x xs))
+      | inr ge ↦
+          elim (cases_lt y x) [
+            | inl lt ↦ absurd (false≢true (sym (has_not (x ∷ xs) y (above y x xs lt a.0)) ∙ h y ∙ has_first y ys))
+            | inr le ↦
+                let e : x ≡ y = omega arith in
+                let tails : (c : ℕ) → has xs c ≡ has ys c = λ c.
+                elim (cases_eq x c) [
+                  | inl same ↦ has_not xs c (subst (λ z. All (λ w. z < w) xs) same a.0) ∙ sym (has_not ys c (subst (λ z. All (λ w. z < w) ys) (sym e ∙ same) b.0))
+                  | inr ne ↦ sym (has_behind x c xs ne) ∙ h c ∙ has_behind y c ys (λ f. ne (e ∙ f))
+                ]
+                in
+                let same : xs ≡ ys = same_ascending xs ys a.1 b.1 tails in
+                cc
+          ]
+    ]
+
+has_no_more : (xs : List ℕ) (b : ℕ) → All (λ y. y < 256) xs → 256 ≤ b → has xs b ≡ false
+has_no_more [] b h le = refl
+has_no_more (x ∷ xs) b h le =
+    ap (λ v. v || has xs b) (not_equal x b (λ e. let lt : x < 256 = All-head (λ y. y < 256) x xs h in omega arith))
+    ∙ has_no_more xs b (All-tail (λ y. y < 256) x xs h) le
+
+-- two sets with the same members are one
+pub same_set : (xs ys : List ℕ) → IsByteSet xs → IsByteSet ys → ((b : ℕ) → b < 256 → has xs b ≡ has ys b) → xs ≡ ys
+same_set xs ys p q h =
+    same_ascending xs ys p.ascends q.ascends (λ b.
+    elim (cases_lt b 256) [ inl lt ↦ h b lt | inr le ↦ has_no_more xs b p.bytes le ∙ sym (has_no_more ys b q.bytes le) ])
+
+-- a set is its members
+pub set_of_members : (xs : List ℕ) → IsByteSet xs → xs ≡ bytes_where (has xs)
+set_of_members xs p = same_set xs (bytes_where (has xs)) p (bytes_where-set (has xs)) (λ b lt. sym (has_picked (has xs) 256 b lt))
+
+-- ---- one word: to have a byte is to contain it
+
+pub has-contains : (xs : List ℕ) (b : ℕ) → has xs b ≡ true → Contains xs b
+has-contains [] b h = absurd (false≢true h)
+has-contains (x ∷ xs) b h =
+    elim (cases_eq x b) [
+      | inl e ↦ (0, omega arith, e)
+      | inr ne ↦ Contains-append_right (x ∷ []) xs b (has-contains xs b (sym (has_behind x b xs ne) ∙ h))
+    ]
+
+contained_alone : (x b : ℕ) → Contains (x ∷ []) b → x ≡ b
+contained_alone x b (zero, lt, e) = e
+contained_alone x b (suc k, lt, e) = absurd (omega (arith, lt))
+
+pub contains-has : (xs : List ℕ) (b : ℕ) → Contains xs b → has xs b ≡ true
+contains-has [] b i = absurd (omega (arith, i.1))
+contains-has (x ∷ xs) b i =
+    elim (cases_eq x b) [
+      | inl e ↦ ap (λ v. v || has xs b) (eq-eqb x b e)
+      | inr ne ↦
+          has_behind x b xs ne
+          ∙ (elim (Contains-append_cases (x ∷ []) xs b i) [ inl here ↦ absurd (ne (contained_alone x b here)) | inr there ↦ contains-has xs b there ])
+    ]
+
+length-more : (xs : List ℕ) (n : ℕ) (v : Bool) → length (xs ++ (if v then n ∷ [] else [])) ≡ length xs + (if v then 1 else 0)
+length-more xs n true = length-append xs (n ∷ [])
+length-more xs n false = length-append xs []
+
+at_most_one : (v : Bool) → (if v then 1 else 0) ≤ 1
+at_most_one true = omega arith
+at_most_one false = omega arith
+
+pub length-picked : (t : ℕ → Bool) (n : ℕ) → length (picked t n) ≤ n
+unfolding picked
+length-picked t zero = omega arith
+length-picked t (suc n) = let h = length-picked t n in let k = at_most_one (t n) in let l = length-more (picked t n) n (t n) in omega arith
+
+length-next : (t : ℕ → Bool) (n : ℕ) → length (picked t (suc n)) ≡ length (picked t n) + (if t n then 1 else 0)
+unfolding picked
+length-next t n = length-more (picked t n) n (t n)
+
+pub length-picked_in : (t : ℕ → Bool) (n : ℕ) → t n ≡ true → length (picked t (n + 1)) ≡ length (picked t n) + 1
+length-picked_in t n e = let f : n + 1 ≡ suc n = omega arith in ap (λ k. length (picked t k)) f ∙ length-next t n ∙ ap (λ v. length (picked t n) + (if v then 1 else 0)) e
+
+pub length-picked_out : (t : ℕ → Bool) (n : ℕ) → t n ≡ false → length (picked t (n + 1)) ≡ length (picked t n)
+length-picked_out t n e =
+    let f : n + 1 ≡ suc n = omega arith in
+    let g : length (picked t n) + 0 ≡ length (picked t n) = omega arith in
+    ap (λ k. length (picked t k)) f ∙ length-next t n ∙ ap (λ v. length (picked t n) + (if v then 1 else 0)) e ∙ g

@@ -1,13 +1,13 @@
 -- The item at the front of a text of bytes stands for bytes.
-use Rattle.std.proofs.Common.{◌≡◌, ℕ, zero, suc, ◌+◌, ◌<◌, ◌≤◌, Bool, true, false, List, [], ◌∷◌, length, take, drop, min, refl, sym, subst, arith}
-use Rattle.std.specs.Prelude.{All, Option, Some, None, if◌then◌else◌, ◌==◌, ◌||◌, not, nat_le}
+use Rattle.std.proofs.Common.{◌≡◌, ℕ, zero, suc, ◌+◌, ◌<◌, ◌≤◌, Bool, true, false, List, [], ◌∷◌, length, take, drop, min, refl, subst, ◌∙◌, arith}
+use Rattle.std.specs.Prelude.{Option, Some, None, if◌then◌else◌, ◌==◌, ◌||◌, not, nat_le}
 use Rattle.std.specs.List.{list_any, prefix_len}
 use Rattle.std.proofs.lemmas.Bool.{eq-eqb, leb-true}
-use Rattle.std.proofs.lemmas.List.Elements.{All-nil, All-cons, All-head, All-tail, All-append, All-weaker, All-drop}
+use Rattle.std.proofs.lemmas.List.Elements.{All-nil, All-cons, All-head, All-tail, All-drop}
 use Rattle.cs_pattern_items.specs.declared.item.Repetition.{Repetition}
 use Rattle.cs_pattern_items.specs.declared.item.Repetition.TheVariants.{Optional, AtLeast}
 use Rattle.cs_pattern_items.specs.declared.front.Stop.TheVariants.{Anchor, Trailing, Syntax}
-use Rattle.cs_pattern_items.specs.Members.{picked, bytes_where, has, is_none}
+use Rattle.cs_pattern_items.specs.Members.{picked, bytes_where, has}
 use Rattle.cs_pattern_items.specs.ByteKind.{is_octal, is_hexadecimal, is_plain, has_at}
 use Rattle.cs_pattern_items.specs.Character.{number, byte_of, letter, octal, hexadecimal, escape}
 use Rattle.cs_pattern_items.specs.Steps.{and_more, up_to, steps}
@@ -19,7 +19,7 @@ use Rattle.cs_pattern_items.specs.Interval.{interval, name}
 use Rattle.cs_pattern_items.specs.Items.{Item, opening, closing, bar, repetition}
 use Rattle.cs_pattern_items.specs.Front.{Front, item, stop, one_byte, any_byte, escape_front, quoted_front, bracket_front, brace_front, sign_front, front}
 use Rattle.cs_pattern_items.specs.StandsFor.{AreBytes, HasByte, StandsForBytes}
-use Rattle.cs_pattern_items.proofs.Picked.{has_picked, some_is_no_none}
+use Rattle.cs_pattern_items.proofs.Picked.{has_picked, some_is_no_none, picked_below}
 
 either_way : {A : Type 0} (P : A → Type 0) (v : Bool) (x y : A) → P x → P y → P (if v then x else y)
 either_way P true x y p q = p
@@ -27,24 +27,16 @@ either_way P false x y p q = q
 
 -- ---- sets
 
-some_byte : (xs : List ℕ) → AreBytes xs → is_none xs ≡ false → HasByte xs
-some_byte [] h e = absurd (cc e)
+some_byte : (xs : List ℕ) → AreBytes xs → (xs ≡ [] → ⊥) → HasByte xs
+some_byte [] h e = absurd (e refl)
 some_byte (x ∷ xs) h e = (x, All-head (λ b. b < 256) x xs h, (0, omega arith, refl))
-
-picked_below : (t : ℕ → Bool) (n : ℕ) → All (λ b. b < n) (picked t n)
-unfolding picked
-picked_below t zero = All-nil (λ b. b < 0)
-picked_below t (suc n) =
-    All-append (λ b. b < suc n) (picked t n) (if t n then n ∷ [] else [])
-    (All-weaker (λ b. b < n) (λ b. b < suc n) (λ b lt. omega arith) (picked t n) (picked_below t n))
-    (either_way (All (λ b. b < suc n)) (t n) (n ∷ []) [] (All-cons (λ b. b < suc n) n [] (omega arith) (All-nil (λ b. b < suc n))) (All-nil (λ b. b < suc n)))
 
 pub bytes_where-bytes : (t : ℕ → Bool) → AreBytes (bytes_where t)
 bytes_where-bytes t = picked_below t 256
 
 -- a set has a byte where one passes its test
 pub bytes_where-has_byte : (t : ℕ → Bool) (b : ℕ) → b < 256 → t b ≡ true → HasByte (bytes_where t)
-bytes_where-has_byte t b lt e = some_byte (picked t 256) (picked_below t 256) (sym (some_is_no_none (picked t 256) b (t b) (sym (has_picked t 256 b lt)) e))
+bytes_where-has_byte t b lt e = some_byte (picked t 256) (picked_below t 256) (some_is_no_none (picked t 256) b (has_picked t 256 b lt ∙ e))
 
 pub one_byte-has_byte : (b : ℕ) → b < 256 → HasByte (bytes_where (λ c. c == b))
 one_byte-has_byte b lt = bytes_where-has_byte (λ c. c == b) b lt (eq-eqb b b refl)
@@ -162,11 +154,8 @@ member_bytes_are ms =
     (bytes_where-bytes (λ b. is_yes (any_test (members ms) b)))
 
 unless_empty_has : (xs : List ℕ) → AreBytes xs → HasByteIfAny (unless_empty xs)
-unless_empty_has xs h = by_test (is_none xs) refl
-  where
-    by_test : (v : Bool) → is_none xs ≡ v → HasByteIfAny (if v then None else Some xs)
-    by_test true e = tt
-    by_test false e = some_byte xs h e
+unless_empty_has [] h = tt
+unless_empty_has (x ∷ xs) h = some_byte (x ∷ xs) h (λ e. absurd (cc e))
 
 turned_has : (inverted : Bool) (o : Option (List ℕ)) → AreBytesIfAny o → HasByteIfAny (turned inverted o)
 turned_has inverted None h = tt

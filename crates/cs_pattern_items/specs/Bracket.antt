@@ -5,7 +5,7 @@ use Rattle.std.specs.Str.{bytes_eq}
 use Rattle.cs_pattern_items.specs.declared.bracket.Class.{Class}
 use Rattle.cs_pattern_items.specs.declared.bracket.Class.TheVariants.{Upper, Lower, Digit, Alpha, Alnum, Xdigit, Blank, Space, Cntrl, Graph, Print, Punct}
 use Rattle.cs_pattern_items.specs.ByteKind.{has_at, is_letter, is_decimal, is_hexadecimal}
-use Rattle.cs_pattern_items.specs.Members.{bytes_where, has, is_none}
+use Rattle.cs_pattern_items.specs.Members.{bytes_where, has}
 use Rattle.cs_pattern_items.specs.Marks.{Mark, plain, escaped, class, collating, marks}
 
 unfoldable pub letter_class : List ℕ → Option Class
@@ -130,7 +130,8 @@ unfoldable pub member_bytes : List Mark → Option (List ℕ)
 member_bytes ms = if is_refused (any_test (members ms) 0) then None else Some (bytes_where (λ b. is_yes (any_test (members ms) b)))
 
 abbrev pub unless_empty : List ℕ → Option (List ℕ)
-unless_empty bytes = if is_none bytes then None else Some bytes
+unless_empty [] = None
+unless_empty (b ∷ bytes) = Some (b ∷ bytes)
 
 -- the bytes of the bracket, or of none but its members
 abbrev pub turned : Bool → Option (List ℕ) → Option (List ℕ)

@@ -1,18 +1,18 @@
 -- What adding to a set does.
 use Rattle.std.specs.Prelude.{◌≡◌, ℕ, ◌<◌, ◌≤◌, Bool, true, false, ◌||◌, List, ◌∷◌, length, drop, Option, None}
-use Rattle.cs_pattern_items.specs.Members.{has}
+use Rattle.cs_pattern_items.specs.Members.{has, bytes_where}
 use Rattle.cs_pattern_items.specs.Bracket.{Member, is_yes, is_refused, any_test, members, member_test}
 use Rattle.cs_pattern_items.specs.Marks.{Mark}
 
 -- Where the test refuses no byte, those that pass it are added; else it refuses each.
 abbrev pub Inserts : List ℕ → List ℕ → (ℕ → Option Bool) → Bool → Type 0
-Inserts old new test true = ((b : ℕ) → is_refused (test b) ≡ false) × ((b : ℕ) → b < 256 → has new b ≡ (is_yes (test b) || has old b))
+Inserts old new test true = ((b : ℕ) → is_refused (test b) ≡ false) × (new ≡ bytes_where (λ b. is_yes (test b) || has old b))
 Inserts old new test false = (b : ℕ) → test b ≡ None
 
 -- the set has the bytes of the members, of which none is refused
 pub record AreMembers (ms : List Mark) (set : List ℕ) : Type 0 where
   pub accepted : is_refused (any_test (members ms) 0) ≡ false
-  pub each : (b : ℕ) → b < 256 → has set b ≡ is_yes (any_test (members ms) b)
+  pub is : set ≡ bytes_where (λ b. is_yes (any_test (members ms) b))
 
 -- the member that begins at the index ends before the next one, and its bytes are added
 pub record AddsMember (ms : List Mark) (index : ℕ) (old new : List ℕ) (next : ℕ) : Type 0 where

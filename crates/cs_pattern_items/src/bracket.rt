@@ -120,16 +120,18 @@ fn is_in_class(class: Class, byte: u8) -> bool
     }
 }
 
-/// Adds the bytes of the class.
-fn insert_class(set: &mut ByteSet, class: Class)
-    ensures { (b : ℕ) → b < 256 → has set.new b ≡ (spec.is_in_class class b || has set.old b) }
+/// The bytes of the class.
+fn class_bytes(class: Class) -> ByteSet
+    ensures { result ≡ bytes_where (spec.is_in_class class) }
 {
+    let mut set = ByteSet::new();
     for index in 0..256u16 {
         let byte = index as u8;
         if is_in_class(class, byte) {
             set.insert(byte);
         }
     }
+    set
 }
 
 /// The byte for which a mark stands, if it stands for one.
@@ -160,7 +162,7 @@ fn insert_named(set: &mut ByteSet, name: &[u8]) -> bool
 {
     match class_of(name) {
         Some(class) => {
-            insert_class(set, class);
+            *set = set.union(&class_bytes(class));
             true
         }
         None => false,
@@ -230,7 +232,7 @@ fn insert_member(set: &mut ByteSet, marks: &[Mark<'_>], index: usize) -> Option<
 }
 
 fn unless_empty(set: ByteSet) -> Option<ByteSet>
-    ensures { result ≡ spec.unless_empty (bytes_where (has set)) }
+    ensures { result ≡ spec.unless_empty set }
 {
     if set.is_empty() { None } else { Some(set) }
 }

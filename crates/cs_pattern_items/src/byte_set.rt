@@ -1,11 +1,11 @@
 // Sets of bytes.
 
-ghost use Rattle.std.specs.Prelude.{◌≡◌, ◌<◌, ◌≤◌, ℕ, ◌==◌, ◌||◌, ◌&&◌, nat_le, not, []};
-ghost use Rattle.cs_pattern_items.specs.Members.{has, bytes_where, is_none};
+ghost use Rattle.std.specs.Prelude.{◌≡◌, ◌↔◌, ◌≤◌, IsTrue, ◌==◌, ◌||◌, ◌&&◌, nat_le, not, [], length};
+ghost use Rattle.cs_pattern_items.specs.Members.{has, bytes_where, IsByteSet};
 
 use std::marker::Model;
 
-/// A set of bytes, which contracts see as the ascending list of its members.
+/// A set of bytes, which contracts see as the one list of its members, ascending.
 #[derive(Debug, Drop)]
 pub struct ByteSet {
     words: [u64; 4],
@@ -14,10 +14,13 @@ pub struct ByteSet {
 impl Model for ByteSet {
     ghost use Rattle.std.specs.Prelude.{ℕ, List};
     ghost use Rattle.cs_pattern_items.specs.Bits.{bytes_of};
+    ghost use Rattle.cs_pattern_items.specs.Members.{IsByteSet};
 
     ghost Value = { List ℕ };
 
     ghost view = { λ s. bytes_of s.words };
+
+    ghost invariant = { λ s. IsByteSet (bytes_of s.words) };
 }
 
 impl ByteSet {
@@ -46,10 +49,22 @@ impl ByteSet {
     /// Makes each byte from the first through the last a member.
     pub fn insert_range(&mut self, first: u8, last: u8)
         requires { first ≤ last }
-        ensures { (b : ℕ) → b < 256 → has self.new b ≡ ((nat_le first b && nat_le b last) || has self.old b) }
+        ensures { self.new ≡ bytes_where (λ b. (nat_le first b && nat_le b last) || has self.old b) }
     {
+        let _words = &self.words;
         for index in first as u16..last as u16 + 1 {
             self.insert(index as u8);
+        }
+    }
+
+    /// The members of either set.
+    pub fn union(&self, other: &ByteSet) -> ByteSet
+        ensures { result ≡ bytes_where (λ b. has self.now b || has other.now b) }
+    {
+        let [a, b, c, d] = self.words;
+        let [e, f, g, h] = other.words;
+        ByteSet {
+            words: [a | e, b | f, c | g, d | h],
         }
     }
 
@@ -67,15 +82,28 @@ impl ByteSet {
         others
     }
 
+    /// How many members the set has.
+    pub fn len(&self) -> usize
+        ensures count { result ≡ length self.now }
+        ensures set { IsByteSet self.now }
+    {
+        let mut count = 0;
+        let _words = &self.words;
+        for index in 0..256u16 {
+            if self.contains(index as u8) {
+                count += 1;
+            }
+        }
+        count
+    }
+
     /// Whether there is no member.
     pub fn is_empty(&self) -> bool
-        ensures empty { result ≡ is_none self.now }
-        ensures members { self.now ≡ bytes_where (has self.now) }
+        ensures { IsTrue result ↔ (self.now ≡ []) }
     {
         let _words = &self.words;
         for index in 0..256u16 {
-            let byte = index as u8;
-            if self.contains(byte) {
+            if self.contains(index as u8) {
                 return false;
             }
         }

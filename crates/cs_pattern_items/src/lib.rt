@@ -13,6 +13,7 @@ mod character;
 mod front;
 mod interval;
 mod item;
+mod laws;
 mod mark;
 mod quoted;
 
@@ -20,9 +21,7 @@ pub use byte_kind::{from_offset, has_at};
 pub use byte_set::ByteSet;
 pub use front::{Front, Stop, front_of};
 pub use item::{Item, Placed, Repetition};
+pub use laws::{has_is_contains, one_set};
 
 /// The greatest number in an interval.
 pub const MOST_REPEATS: u32 = 1000;
-
-#[cfg(test)]
-mod tests;

@@ -1,4 +1,6 @@
-use super::*;
+// Orders of graphs, and which node leads to which.
+
+use cs_graph::{is_graph, leads, order};
 use std::alloc::{AllocError, Global};
 use std::test::Fail;
 

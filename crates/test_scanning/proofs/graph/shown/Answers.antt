@@ -1,4 +1,4 @@
-use Rattle.cs_graph.proofs.tests.shown.Goals as goal
+use Rattle.test_scanning.proofs.graph.shown.Goals as goal
 
 pub order-requires : goal.order-requires
 order-requires c = c.is_graph.ensures.0 c.if-not-is_graph.false

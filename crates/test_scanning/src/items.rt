@@ -1,4 +1,6 @@
-use super::*;
+// The items of patterns, and sets of bytes.
+
+use cs_pattern_items::{ByteSet, Front, Item, from_offset, front_of, has_at};
 use std::alloc::{AllocError, Global};
 use std::test::Fail;
 
@@ -35,7 +37,8 @@ fn answer(alloc: Global, text: &[u8]) -> Result<String, AllocError> {
     Ok(out)
 }
 
-// A text and what stands at its front, separated by a tab.
+// A text and what stands at its front, separated by a tab: worked by hand from the grammar of patterns and the escapes of POSIX
+// lex, with the bytes of ASCII.
 const ROWS: &str = "\
 ab\t 61 of 1\n\
 \\x414\t 41 of 4\n\
@@ -83,6 +86,7 @@ fn fronts(rt: HostRuntime) -> Result<(), Fail> {
     Ok(())
 }
 
+// Worked by hand: the letters a to c and the byte 255, what is left of 256 bytes, and both with the byte 0 beside them.
 #[test]
 fn sets_of_bytes(rt: HostRuntime) -> Result<(), Fail> {
     let alloc = rt.alloc();
@@ -90,10 +94,14 @@ fn sets_of_bytes(rt: HostRuntime) -> Result<(), Fail> {
     assert!(rt; set.is_empty());
     set.insert_range(b'a', b'c');
     set.insert(0xff);
+    let mut zero = ByteSet::new();
+    zero.insert(0);
     let mut shown = String::new(alloc);
     show_set(&mut shown, &set.duplicate())?;
     show_set(&mut shown, &set.complement())?;
-    assert_eq!(rt; shown.as_str(), " 61-63 ff 00-60 64-fe");
+    show_set(&mut shown, &set.union(&zero))?;
+    assert_eq!(rt; shown.as_str(), " 61-63 ff 00-60 64-fe 00 61-63 ff");
+    assert_eq!(rt; set.len(), 4);
     assert!(rt; has_at(b"ab", 1, b'b') && !has_at(b"ab", 2, b'b'));
     assert_eq!(rt; from_offset(b"abc", 1), b"bc".as_slice());
     Ok(())

@@ -1,0 +1,7 @@
+//! Tests of the crates that scan, by their public calls alone.
+#![tactic(auto)]
+
+#[cfg(test)]
+mod graph;
+#[cfg(test)]
+mod items;
