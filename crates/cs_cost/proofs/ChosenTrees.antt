@@ -5,22 +5,19 @@ use Rattle.std.proofs.lemmas.Option.{slice_get_within, slice_get-get_or}
 use Rattle.cs_grammar.specs.declared.symbol.Symbol.{Symbol}
 use Rattle.cs_grammar.specs.declared.symbol.Symbol.TheVariants.{Token, Nonterminal}
 use Rattle.cs_grammar.specs.Grammar.{Production, PlainGrammar, IsRule}
+use Rattle.cs_grammar.specs.Weights.{Measure}
 use Rattle.cs_grammar.specs.Tree.{Tree, Leaf, Node, Forest, Bare, Grown, IsTree, AreTrees, size, sizes}
 use Rattle.cs_grammar.proofs.OneTree.{one_rule}
 use Rattle.cs_cost.specs.Chosen.{IsChosen, AreChosen}
 
-pub size_above : (t : Tree) → 0 < size t
-size_above (Leaf t) = omega arith
-size_above (Node r f) = omega arith
-
-module _ (g : PlainGrammar) where
+module _ (w : Measure) (g : PlainGrammar) where
   -- a chosen tree is a tree
   mutual
-    pub IsTree-chosen : (t : Tree) (x : Symbol) → IsChosen g x t → IsTree g x t
+    pub IsTree-chosen : (t : Tree) (x : Symbol) → IsChosen w g x t → IsTree g x t
     IsTree-chosen (Leaf s) x h = h
     IsTree-chosen (Node r f) x h = (h.0, h.1, h.2, AreTrees-chosen f h.0.right h.4)
 
-    pub AreTrees-chosen : (f : Forest) (xs : List Symbol) → AreChosen g xs f → AreTrees g xs f
+    pub AreTrees-chosen : (f : Forest) (xs : List Symbol) → AreChosen w g xs f → AreTrees g xs f
     AreTrees-chosen Bare [] h = tt
     AreTrees-chosen Bare (x ∷ xs) h = absurd h
     AreTrees-chosen (Grown t f) [] h = absurd h
@@ -28,7 +25,7 @@ module _ (g : PlainGrammar) where
 
   -- a symbol has one chosen tree
   mutual
-    pub one_chosen : (t u : Tree) (x : Symbol) → IsChosen g x t → IsChosen g x u → t ≡ u
+    pub one_chosen : (t u : Tree) (x : Symbol) → IsChosen w g x t → IsChosen w g x u → t ≡ u
     one_chosen (Leaf s) (Leaf s') x ht hu = let same : s ≡ s' = cc in ap Leaf same
     one_chosen (Leaf s) (Node q h) x ht hu = let e = hu.2 in absurd cc
     one_chosen (Node r f) (Leaf s) x ht hu = let e = ht.2 in absurd cc
@@ -41,11 +38,11 @@ module _ (g : PlainGrammar) where
         let higher = hu.3.lowest r f t_is (omega (arith, below, above)) in
         let rule : r ≡ q = omega (arith, lower, higher) in
         let same = one_rule g r q ht.0 hu.0 rule ht.1 hu.1 in
-        let there = subst (λ (p : Production). AreChosen g p.right h) (sym same) hu.4 in
+        let there = subst (λ (p : Production). AreChosen w g p.right h) (sym same) hu.4 in
         let trees = all_chosen f h ht.0.right ht.4 there in
         cc
 
-    pub all_chosen : (f h : Forest) (xs : List Symbol) → AreChosen g xs f → AreChosen g xs h → f ≡ h
+    pub all_chosen : (f h : Forest) (xs : List Symbol) → AreChosen w g xs f → AreChosen w g xs h → f ≡ h
     all_chosen Bare Bare xs cf ch = refl
     all_chosen Bare (Grown u h) [] cf ch = absurd ch
     all_chosen Bare (Grown u h) (x ∷ xs) cf ch = absurd cf
@@ -58,43 +55,43 @@ module _ (g : PlainGrammar) where
         cc
 
 -- the chosen tree of a symbol, which is of least size
-pub record LeastTree (g : PlainGrammar) (x : Symbol) : Type 0 where
+pub record LeastTree (w : Measure) (g : PlainGrammar) (x : Symbol) : Type 0 where
   pub tree : Tree
-  pub chosen : IsChosen g x tree
-  pub least : (u : Tree) → IsTree g x u → size tree ≤ size u
+  pub chosen : IsChosen w g x tree
+  pub least : (u : Tree) → IsTree g x u → size w tree ≤ size w u
 
 -- the chosen trees of some symbols, which are of least size together
-pub record LeastForest (g : PlainGrammar) (xs : List Symbol) : Type 0 where
+pub record LeastForest (w : Measure) (g : PlainGrammar) (xs : List Symbol) : Type 0 where
   pub trees : Forest
-  pub chosen : AreChosen g xs trees
-  pub least : (f : Forest) → AreTrees g xs f → sizes trees ≤ sizes f
+  pub chosen : AreChosen w g xs trees
+  pub least : (f : Forest) → AreTrees g xs f → sizes w trees ≤ sizes w f
 
 -- each tree of x has more than n nodes, or there is a chosen one
-abbrev pub Settled : PlainGrammar → ℕ → Symbol → Type 0
-Settled g n x = ((t : Tree) → IsTree g x t → n < size t) ⊎ LeastTree g x
+abbrev pub Settled : Measure → PlainGrammar → ℕ → Symbol → Type 0
+Settled w g n x = ((t : Tree) → IsTree g x t → n < size w t) ⊎ LeastTree w g x
 
-abbrev pub AreSettled : PlainGrammar → ℕ → List Symbol → Type 0
-AreSettled g n xs = ((f : Forest) → AreTrees g xs f → n < sizes f) ⊎ LeastForest g xs
+abbrev pub AreSettled : Measure → PlainGrammar → ℕ → List Symbol → Type 0
+AreSettled w g n xs = ((f : Forest) → AreTrees g xs f → n < sizes w f) ⊎ LeastForest w g xs
 
 -- each tree of m whose rule is at most i has more than n nodes
-abbrev pub NoNode : PlainGrammar → ℕ → ℕ → ℕ → Type 0
-NoNode g m n i = (q : ℕ) (f : Forest) → q ≤ i → IsTree g (Nonterminal m) (Node q f) → n < size (Node q f)
+abbrev pub NoNode : Measure → PlainGrammar → ℕ → ℕ → ℕ → Type 0
+NoNode w g m n i = (q : ℕ) (f : Forest) → q ≤ i → IsTree g (Nonterminal m) (Node q f) → n < size w (Node q f)
 
 -- the first least one of those trees, which has at most n nodes
-pub record BestNode (g : PlainGrammar) (m n i : ℕ) : Type 0 where
+pub record BestNode (w : Measure) (g : PlainGrammar) (m n i : ℕ) : Type 0 where
   pub number : ℕ
   pub rule : Production
   pub is_rule : IsRule g number rule
   pub of_left : rule.left ≡ m
   pub trees : Forest
-  pub chosen : AreChosen g rule.right trees
+  pub chosen : AreChosen w g rule.right trees
   pub within : number ≤ i
-  pub small : 1 + sizes trees ≤ n
-  pub least : (q : ℕ) (f : Forest) → q ≤ i → IsTree g (Nonterminal m) (Node q f) → 1 + sizes trees ≤ size (Node q f)
-  pub lowest : (q : ℕ) (f : Forest) → q ≤ i → IsTree g (Nonterminal m) (Node q f) → size (Node q f) ≡ 1 + sizes trees → number ≤ q
+  pub small : 1 + sizes w trees ≤ n
+  pub least : (q : ℕ) (f : Forest) → q ≤ i → IsTree g (Nonterminal m) (Node q f) → 1 + sizes w trees ≤ size w (Node q f)
+  pub lowest : (q : ℕ) (f : Forest) → q ≤ i → IsTree g (Nonterminal m) (Node q f) → size w (Node q f) ≡ 1 + sizes w trees → number ≤ q
 
-module _ (g : PlainGrammar) where
-  pub forest_settled : (n : ℕ) → ((x : Symbol) → Settled g n x) → (xs : List Symbol) → AreSettled g n xs
+module _ (w : Measure) (g : PlainGrammar) where
+  pub forest_settled : (n : ℕ) → ((x : Symbol) → Settled w g n x) → (xs : List Symbol) → AreSettled w g n xs
   forest_settled n each [] = inr (record { trees = Bare; chosen = tt; least = λ f h. omega arith })
   forest_settled n each (x ∷ xs) =
       ⊎_elim
@@ -105,15 +102,15 @@ module _ (g : PlainGrammar) where
       (forest_settled n each xs))
       (each x)
     where
-      no_first : (f : Forest) → AreTrees g (x ∷ xs) f → ((t : Tree) → IsTree g x t → n < size t) → n < sizes f
+      no_first : (f : Forest) → AreTrees g (x ∷ xs) f → ((t : Tree) → IsTree g x t → n < size w t) → n < sizes w f
       no_first Bare h none = absurd h
       no_first (Grown t f) h none = omega (arith, none t h.0)
 
-      no_others : (f : Forest) → AreTrees g (x ∷ xs) f → ((f : Forest) → AreTrees g xs f → n < sizes f) → n < sizes f
+      no_others : (f : Forest) → AreTrees g (x ∷ xs) f → ((f : Forest) → AreTrees g xs f → n < sizes w f) → n < sizes w f
       no_others Bare h none = absurd h
       no_others (Grown t f) h none = omega (arith, none f h.1)
 
-      both : (f : Forest) → AreTrees g (x ∷ xs) f → (t : LeastTree g x) → (ts : LeastForest g xs) → size t.tree + sizes ts.trees ≤ sizes f
+      both : (f : Forest) → AreTrees g (x ∷ xs) f → (t : LeastTree w g x) → (ts : LeastForest w g xs) → size w t.tree + sizes w ts.trees ≤ sizes w f
       both Bare h t ts = absurd h
       both (Grown u f) h t ts = omega (arith, t.least u h.0, ts.least f h.1)
 
@@ -129,7 +126,7 @@ module _ (g : PlainGrammar) where
         (cases_lt q (suc i))
 
     -- the rule has no tree of m of at most n nodes
-    pub node_skipped : (p.left ≡ m → (f : Forest) → AreTrees g p.right f → n < 1 + sizes f) → NoNode g m n i ⊎ BestNode g m n i → NoNode g m n (suc i) ⊎ BestNode g m n (suc i)
+    pub node_skipped : (p.left ≡ m → (f : Forest) → AreTrees g p.right f → n < 1 + sizes w f) → NoNode w g m n i ⊎ BestNode w g m n i → NoNode w g m n (suc i) ⊎ BestNode w g m n (suc i)
     node_skipped none so_far =
         ⊎_elim
         (λ before. inl (λ q f le h. ⊎_elim (λ lower. before q f lower h) (λ here. none here.1 f here.2) (node_cases q f le h)))
@@ -148,8 +145,8 @@ module _ (g : PlainGrammar) where
         so_far
 
     -- the rule has a least tree of m of at most n nodes
-    module _ (left : p.left ≡ m) (ts : LeastForest g p.right) (small : 1 + sizes ts.trees ≤ n) where
-      node_taken : ((q : ℕ) (f : Forest) → q ≤ i → IsTree g (Nonterminal m) (Node q f) → 1 + sizes ts.trees < size (Node q f)) → BestNode g m n (suc i)
+    module _ (left : p.left ≡ m) (ts : LeastForest w g p.right) (small : 1 + sizes w ts.trees ≤ n) where
+      node_taken : ((q : ℕ) (f : Forest) → q ≤ i → IsTree g (Nonterminal m) (Node q f) → 1 + sizes w ts.trees < size w (Node q f)) → BestNode w g m n (suc i)
       node_taken dearer = record {
         number = suc i;
         rule = p;
@@ -163,7 +160,7 @@ module _ (g : PlainGrammar) where
         lowest = λ q f le h e. ⊎_elim (λ lower. absurd (omega (arith, dearer q f lower h, e))) (λ here. omega (arith, here.0)) (node_cases q f le h);
       }
 
-      node_kept : (best : BestNode g m n i) → 1 + sizes best.trees ≤ 1 + sizes ts.trees → BestNode g m n (suc i)
+      node_kept : (best : BestNode w g m n i) → 1 + sizes w best.trees ≤ 1 + sizes w ts.trees → BestNode w g m n (suc i)
       node_kept best cheaper = record {
         number = best.number;
         rule = best.rule;
@@ -177,17 +174,17 @@ module _ (g : PlainGrammar) where
         lowest = λ q f le h e. ⊎_elim (λ lower. best.lowest q f lower h e) (λ here. omega (arith, here.0, best.within)) (node_cases q f le h);
       }
 
-      pub node_found : NoNode g m n i ⊎ BestNode g m n i → BestNode g m n (suc i)
+      pub node_found : NoNode w g m n i ⊎ BestNode w g m n i → BestNode w g m n (suc i)
       node_found so_far =
           ⊎_elim
           (λ none. node_taken (λ q f le h. omega (arith, none q f le h, small)))
           (λ best. ⊎_elim
           (λ less. node_taken (λ q f le h. omega (arith, best.least q f le h, less)))
           (λ not_less. node_kept best not_less)
-          (cases_lt (1 + sizes ts.trees) (1 + sizes best.trees)))
+          (cases_lt (1 + sizes w ts.trees) (1 + sizes w best.trees)))
           so_far
 
-  nodes_settled : (n m : ℕ) → ((x : Symbol) → Settled g n x) → (i : ℕ) → i ≤ length g.rules → NoNode g m (suc n) i ⊎ BestNode g m (suc n) i
+  nodes_settled : (n m : ℕ) → ((x : Symbol) → Settled w g n x) → (i : ℕ) → i ≤ length g.rules → NoNode w g m (suc n) i ⊎ BestNode w g m (suc n) i
   nodes_settled n m each zero le = inl (λ q f below h. absurd (omega (arith, below, h.1.above_zero)))
   nodes_settled n m each (suc i) le =
       let so_far = nodes_settled n m each i (omega (arith, le)) in
@@ -197,7 +194,7 @@ module _ (g : PlainGrammar) where
       (λ ts. ⊎_elim
       (λ large. node_skipped m (suc n) i p rule (λ e f h. omega (arith, large, ts.least f h)) so_far)
       (λ small. inr (node_found m (suc n) i p rule left ts (omega (arith, small)) so_far))
-      (cases_lt n (sizes ts.trees)))
+      (cases_lt n (sizes w ts.trees)))
       (forest_settled n each p.right))
       (λ other. node_skipped m (suc n) i p rule (λ e. absurd (other e)) so_far)
       (cases_eq p.left m)
@@ -211,25 +208,34 @@ module _ (g : PlainGrammar) where
         at = (let e : suc i - 1 ≡ i = omega arith in rw e (slice_get-get_or g.rules i (record { left = 0; right = [] }) (omega (arith, le))));
       }
 
+  -- all trees of a token are of one size
+  leaf_least : (t : ℕ) (u : Tree) → IsTree g (Token t) u → size w (Leaf t) ≤ size w u
+  leaf_least t (Leaf s) h = let same : t ≡ s = cc in omega (arith, ap (λ k. size w (Leaf k)) same)
+  leaf_least t (Node q f) h = let e = h.2 in absurd cc
+
   -- which of the two it is, is known
-  pub settled : (n : ℕ) (x : Symbol) → Settled g n x
-  settled zero x = inl (λ t h. size_above t)
-  settled (suc n) (Token t) = inr (record { tree = Leaf t; chosen = refl; least = λ u h. size_above u })
+  pub settled : (n : ℕ) (x : Symbol) → Settled w g n x
+  settled n (Token t) = inr (record { tree = Leaf t; chosen = refl; least = λ u h. leaf_least t u h })
+  settled zero (Nonterminal m) = inl (λ t h. nothing t h)
+    where
+      nothing : (t : Tree) → IsTree g (Nonterminal m) t → zero < size w t
+      nothing (Leaf s) h = absurd cc
+      nothing (Node q f) h = omega arith
   settled (suc n) (Nonterminal m) =
       ⊎_elim (λ none. inl (λ t h. larger none t h)) (λ best. inr (found best)) (nodes_settled n m (settled n) (length g.rules) (omega arith))
     where
       of_rules : (q : ℕ) (f : Forest) → IsTree g (Nonterminal m) (Node q f) → q ≤ length g.rules
       of_rules q f h = omega (arith, slice_get_within g.rules (q - 1) h.0 h.1.at)
 
-      larger : NoNode g m (suc n) (length g.rules) → (t : Tree) → IsTree g (Nonterminal m) t → suc n < size t
+      larger : NoNode w g m (suc n) (length g.rules) → (t : Tree) → IsTree g (Nonterminal m) t → suc n < size w t
       larger none (Leaf s) h = absurd cc
       larger none (Node q f) h = none q f (of_rules q f h) h
 
-      least : (best : BestNode g m (suc n) (length g.rules)) → (t : Tree) → IsTree g (Nonterminal m) t → 1 + sizes best.trees ≤ size t
+      least : (best : BestNode w g m (suc n) (length g.rules)) → (t : Tree) → IsTree g (Nonterminal m) t → 1 + sizes w best.trees ≤ size w t
       least best (Leaf s) h = absurd cc
       least best (Node q f) h = best.least q f (of_rules q f h) h
 
-      found : BestNode g m (suc n) (length g.rules) → LeastTree g (Nonterminal m)
+      found : BestNode w g m (suc n) (length g.rules) → LeastTree w g (Nonterminal m)
       found best = record {
         tree = Node best.number best.trees;
         chosen = (
@@ -243,28 +249,28 @@ module _ (g : PlainGrammar) where
       }
 
   -- a symbol with a tree has a chosen tree, of least size
-  pub chosen_exists : (x : Symbol) (t : Tree) → IsTree g x t → LeastTree g x
-  chosen_exists x t h = ⊎_elim (λ none. absurd (omega (arith, none t h))) (λ least. least) (settled (size t) x)
+  pub chosen_exists : (x : Symbol) (t : Tree) → IsTree g x t → LeastTree w g x
+  chosen_exists x t h = ⊎_elim (λ none. absurd (omega (arith, none t h))) (λ least. least) (settled (size w t) x)
 
   -- a chosen tree is of least size
-  pub chosen_least : (x : Symbol) (t u : Tree) → IsTree g x t → IsChosen g x u → size u ≤ size t
-  chosen_least x t (Leaf s) ht hu = size_above t
+  pub chosen_least : (x : Symbol) (t u : Tree) → IsTree g x t → IsChosen w g x u → size w u ≤ size w t
+  chosen_least x t (Leaf s) ht hu = leaf_least s t (subst (λ y. IsTree g y t) hu ht)
   chosen_least x t (Node r f) ht hu = hu.3.least t ht
 
 -- symbols with trees have chosen trees
-pub chosen_forest : (g : PlainGrammar) (f : Forest) (xs : List Symbol) → AreTrees g xs f → (h : Forest) × AreChosen g xs h
-chosen_forest g Bare [] h = (Bare, tt)
-chosen_forest g Bare (x ∷ xs) h = absurd h
-chosen_forest g (Grown t f) [] h = absurd h
-chosen_forest g (Grown t f) (x ∷ xs) h =
-    let first = chosen_exists g x t h.0 in
-    let others = chosen_forest g f xs h.1 in
+pub chosen_forest : (w : Measure) (g : PlainGrammar) (f : Forest) (xs : List Symbol) → AreTrees g xs f → (h : Forest) × AreChosen w g xs h
+chosen_forest w g Bare [] h = (Bare, tt)
+chosen_forest w g Bare (x ∷ xs) h = absurd h
+chosen_forest w g (Grown t f) [] h = absurd h
+chosen_forest w g (Grown t f) (x ∷ xs) h =
+    let first = chosen_exists w g x t h.0 in
+    let others = chosen_forest w g f xs h.1 in
     (Grown first.tree others.0, (first.chosen, others.1))
 
 -- chosen trees of some symbols are of least size together
-pub forest_least : (g : PlainGrammar) (f h : Forest) (xs : List Symbol) → AreChosen g xs f → AreTrees g xs h → sizes f ≤ sizes h
-forest_least g Bare h [] cf hh = omega arith
-forest_least g Bare h (x ∷ xs) cf hh = absurd cf
-forest_least g (Grown t f) h [] cf hh = absurd cf
-forest_least g (Grown t f) Bare (x ∷ xs) cf hh = absurd hh
-forest_least g (Grown t f) (Grown u h) (x ∷ xs) cf hh = omega (arith, chosen_least g x u t hh.0 cf.0, forest_least g f h xs cf.1 hh.1)
+pub forest_least : (w : Measure) (g : PlainGrammar) (f h : Forest) (xs : List Symbol) → AreChosen w g xs f → AreTrees g xs h → sizes w f ≤ sizes w h
+forest_least w g Bare h [] cf hh = omega arith
+forest_least w g Bare h (x ∷ xs) cf hh = absurd cf
+forest_least w g (Grown t f) h [] cf hh = absurd cf
+forest_least w g (Grown t f) Bare (x ∷ xs) cf hh = absurd hh
+forest_least w g (Grown t f) (Grown u h) (x ∷ xs) cf hh = omega (arith, chosen_least w g x u t hh.0 cf.0, forest_least w g f h xs cf.1 hh.1)

@@ -1,28 +1,47 @@
--- Parts of a code that is still to be written: rule numbers, and symbols whose chosen trees follow.
-use Rattle.std.specs.Prelude.{◌≡◌, ℕ, ◌≤◌, List, [], ◌∷◌, ◌++◌, map, reverse}
+-- Words of the proof of writing: codes of chosen trees that are still to be written.
+use Rattle.std.specs.Prelude.{◌≡◌, ℕ, ◌≤◌, List, [], ◌∷◌, ◌++◌, reverse, All}
+use Rattle.std.specs.Global.{Vec}
+use Rattle.cs_grammar.specs.declared.symbol.Symbol.{Symbol}
 use Rattle.cs_grammar.specs.Grammar.{PlainGrammar, IsSymbol}
+use Rattle.cs_grammar.specs.Weights.{Measure}
+use Rattle.cs_grammar.specs.Stack.{AreOnTop}
 use Rattle.cs_grammar.specs.Tree.{Tree, IsTree, size, code}
 use Rattle.cs_cost.specs.declared.cost.Cost.{Cost}
-use Rattle.cs_cost.specs.declared.writing.Part.{Part}
-use Rattle.cs_cost.specs.declared.writing.Part.TheVariants.{Rule, Whole}
+use Rattle.cs_cost.specs.declared.trees.Trees.{Trees}
+use Rattle.cs_cost.specs.Rank.{rank, entry}
 use Rattle.cs_cost.specs.Trees.{IsFirstRule}
 use Rattle.cs_cost.specs.Chosen.{IsChosen}
 
--- the parts make this list of rule numbers
-abbrev pub IsText : PlainGrammar → List Part → List ℕ → Type 0
-IsText g [] text = text ≡ []
-IsText g (Rule r ∷ parts) text = (rest : List ℕ) × IsText g parts rest × (text ≡ r ∷ rest)
-IsText g (Whole x ∷ parts) text =
-    (t : Tree) × (rest : List ℕ) × IsChosen g x t × IsText g parts rest × (text ≡ code t ++ rest)
+-- the codes of the chosen trees of these symbols make this list of rule numbers
+abbrev pub IsText : Measure → PlainGrammar → List Symbol → List ℕ → Type 0
+IsText w g [] text = text ≡ []
+IsText w g (x ∷ xs) text =
+    (t : Tree) × (rest : List ℕ) × IsChosen w g x t × IsText w g xs rest × (text ≡ code t ++ rest)
 
--- a part whose chosen tree is within the limit
-abbrev pub IsWithin : ℕ → PlainGrammar → Part → Type 0
-IsWithin limit g (Rule r) = Unit {0}
-IsWithin limit g (Whole x) = IsSymbol g.tokens g.nonterminals x × ((t : Tree) × IsTree g x t × (size t ≤ limit))
+-- some tree of the symbol is within the limit
+abbrev pub IsWithin : Measure → PlainGrammar → Symbol → Type 0
+IsWithin w g x = IsSymbol g.tokens g.nonterminals x × ((t : Tree) × IsTree g x t × (size w t ≤ w.limit))
 
--- the first rule of a nonterminal is written, and its right side is pending; what is pending stands in reverse
-pub record Opens (limit : ℕ) (g : PlainGrammar) (table : List Cost) (left : ℕ) (pending_old pending_new : List Part) (old new : List ℕ) : Type 0 where
+-- the table's cost of a nonterminal is within the limit
+abbrev pub IsSmallIn : Trees → ℕ → Type 0
+IsSmallIn trees left = rank trees.weights.now.limit (entry trees.table.items left) ≤ trees.weights.now.limit
+
+-- the pending symbols have trees within the limit
+abbrev pub AreSmallIn : Trees → Vec Symbol → Type 0
+AreSmallIn trees pending = All (IsWithin trees.weights.now trees.grammar.now) (reverse pending.items)
+
+-- the first rule of a nonterminal is written, and its right side is pending
+pub record Opens (w : Measure) (g : PlainGrammar) (table : List Cost) (left : ℕ) (pending_old pending_new : List Symbol) (old new : List ℕ) : Type 0 where
   pub number : ℕ
-  pub first : IsFirstRule limit g table left number
-  pub pending : reverse pending_new ≡ map Whole first.rule.right ++ reverse pending_old
+  pub first : IsFirstRule w g table left number
+  pub pending : AreOnTop first.rule.right pending_old pending_new
   pub text : new ≡ old ++ number ∷ []
+
+abbrev pub OpensIn : Trees → ℕ → Vec Symbol → Vec Symbol → Vec ℕ → Vec ℕ → Type 0
+OpensIn trees left pending_old pending_new old new =
+    Opens trees.weights.now trees.grammar.now trees.table.items left pending_old.items pending_new.items old.items new.items
+
+-- the codes of the chosen trees of the pending symbols come behind what stood there
+abbrev pub WritesTexts : Trees → Vec Symbol → Vec ℕ → Vec ℕ → Type 0
+WritesTexts trees pending old new =
+    (text : List ℕ) → IsText trees.weights.now trees.grammar.now (reverse pending.items) text → new.items ≡ old.items ++ text

@@ -1,13 +1,13 @@
 // What the least thing of a kind costs, and sums of such costs.
 
-ghost use Rattle.std.specs.Prelude.{◌≡◌, ◌<◌, ◌↔◌, IsTrue, ◌-◌, ◌≤◌, length, slice_set, All};
+ghost use Rattle.std.specs.Prelude.{◌≡◌, ◌-◌, ◌≤◌, length, slice_set};
 ghost use Rattle.std.specs.Bool.{OnTrue, OnFalse};
 ghost use Rattle.cs_grammar.specs.Grammar.{IsNumberOf};
-ghost use Rattle.cs_cost.specs.Rank.{rank, IsCapped, plus, entry};
+ghost use Rattle.cs_cost.specs.Rank.{rank, IsCapped, cost_of, plus, TellsLower, TellsLowered};
 
-use cs_grammar::LIMIT;
+use cs_grammar::place_of;
 
-/// What the least of a kind of trees costs: there is none, or each has more than `LIMIT` nodes, or the least has this many.
+/// What the least of a kind of trees costs: there is none, or each is larger than the limit, or the least has this size.
 #[derive(Clone, Copy, Debug, PartialEq, Eq)]
 pub enum Cost {
     Never,
@@ -15,30 +15,34 @@ pub enum Cost {
     Least(u32),
 }
 
-/// The cost of two parts together: `Never` where one has none, `Large` where the sum is above `LIMIT`.
-pub fn plus(a: Cost, b: Cost) -> Cost
-    requires a { IsCapped LIMIT a }
-    requires b { IsCapped LIMIT b }
-    ensures { result ≡ plus LIMIT a b }
+/// The cost of one thing of a size: `Large` above the limit.
+pub fn cost_of(size: u32, limit: u32) -> Cost
+    ensures { result ≡ cost_of limit size }
+{
+    if size <= limit {
+        Cost::Least(size)
+    } else {
+        Cost::Large
+    }
+}
+
+/// The cost of two parts together: `Never` where one has none, `Large` where the sum is above the limit.
+pub fn plus(a: Cost, b: Cost, limit: u32) -> Cost
+    requires limit { limit ≤ 1000000 }
+    requires a { IsCapped limit a }
+    requires b { IsCapped limit b }
+    ensures { result ≡ plus limit a b }
 {
     match (a, b) {
-        (Cost::Least(m), Cost::Least(n)) => {
-            if m + n <= LIMIT {
-                Cost::Least(m + n)
-            } else {
-                Cost::Large
-            }
-        }
+        (Cost::Least(m), Cost::Least(n)) => cost_of(m + n, limit),
         (Cost::Never, _) | (_, Cost::Never) => Cost::Never,
         _ => Cost::Large,
     }
 }
 
-/// Whether a cost is lower: sizes come first, then `Large`, then `Never`.
+/// Whether a cost is lower, under whichever limit: sizes come first, then `Large`, then `Never`.
 pub fn is_below(a: Cost, b: Cost) -> bool
-    requires a { IsCapped LIMIT a }
-    requires b { IsCapped LIMIT b }
-    ensures { IsTrue result ↔ (rank LIMIT a < rank LIMIT b) }
+    ensures { TellsLower result a b }
 {
     match (a, b) {
         (Cost::Least(m), Cost::Least(n)) => m < n,
@@ -51,16 +55,27 @@ pub fn is_below(a: Cost, b: Cost) -> bool
 /// Writes a number's cost where it is below the table's, and says whether it was. The numbers of a table begin with 1.
 pub fn lower(table: &mut [Cost], number: u16, cost: Cost) -> bool
     requires number { IsNumberOf (length table.old) number }
-    requires table { All (IsCapped LIMIT) table.old }
-    requires cost { IsCapped LIMIT cost }
-    ensures lowered { OnTrue result ((table.new ≡ slice_set table.old (number - 1) cost) × (rank LIMIT cost < rank LIMIT (entry table.old number))) }
-    ensures kept { OnFalse result ((table.new ≡ table.old) × (rank LIMIT (entry table.old number) ≤ rank LIMIT cost)) }
+    ensures lowered { OnTrue result (table.new ≡ slice_set table.old (number - 1) cost) }
+    ensures kept { OnFalse result (table.new ≡ table.old) }
+    ensures lower { TellsLowered result table.old number cost }
 {
-    let place = number as usize - 1;
+    let place = place_of(number);
     if is_below(cost, table[place]) {
         table[place] = cost;
         true
     } else {
         false
+    }
+}
+
+/// The cost as a number: a size within the limit, then 1 more than the limit for `Large`, and 2 more for `Never`.
+pub(crate) fn rank(cost: Cost, limit: u32) -> u32
+    requires { limit ≤ 1000000 }
+    ensures { result ≡ rank limit cost }
+{
+    match cost {
+        Cost::Least(size) => size,
+        Cost::Large => limit + 1,
+        Cost::Never => limit + 2,
     }
 }

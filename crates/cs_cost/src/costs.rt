@@ -1,96 +1,113 @@
 // What the least tree of each symbol of a grammar costs.
 
-ghost use Rattle.std.specs.Prelude.{◌≡◌, IfOk, OnOk, OnErr, All};
-ghost use Rattle.cs_grammar.specs.Grammar.{IsSymbol};
-ghost use Rattle.cs_grammar.specs.Tree.{IsTree, AreTrees, size, sizes};
-ghost use Rattle.cs_cost.specs.Least.{IsCost};
-ghost use Rattle.cs_cost.specs.Chosen.{AppendsChosen, AppendsAllChosen};
-ghost use Rattle.cs_cost.specs.Trees.{HasLeast, HaveSmall};
+ghost use Rattle.std.specs.Prelude.{◌≡◌, IfOk, OnOk, OnErr, All, length};
+ghost use Rattle.cs_grammar.specs.Grammar.{IsSymbolOf};
+ghost use Rattle.cs_grammar.specs.Weights.{Weighs, weighed};
+ghost use Rattle.cs_cost.specs.Chosen.{WritesChosen, WritesAllChosen};
+ghost use Rattle.cs_cost.specs.Trees.{IsTreeCost, AreTreesCost, HasLeast, HaveSmall};
 
 use crate::cost::Cost;
-use crate::trees::{Trees, cost_in, sum_from, trees_of};
-use crate::writing::{Part, put_first, write};
-use cs_grammar::{Derivation, Grammar, LIMIT, Symbol};
+use crate::sums::{cost_in, sum_from};
+use crate::trees::{Trees, trees_of};
+use crate::writing::write;
+use cs_grammar::{Derivation, Grammar, Symbol, Weights, put_on_top};
 use std::alloc::{AllocError, Global};
 use std::marker::Model;
 
-/// What the least tree of each symbol of a grammar costs, and which tree is chosen.
+/// What the least tree of each symbol of a grammar costs by some weights, and which tree is chosen.
 #[derive(Debug, Drop)]
 pub struct Costs<'g> {
     trees: Trees<'g>,
 }
 
 impl<'g> Model for Costs<'g> {
-    ghost use Rattle.cs_grammar.specs.Grammar.{PlainGrammar};
-    ghost use Rattle.cs_cost.specs.Tables.{AreTrees};
+    ghost use Rattle.cs_grammar.specs.Weights.{Weighed, weighed};
+    ghost use Rattle.cs_cost.specs.Tables.{HasTables};
 
-    ghost Value = { PlainGrammar };
+    ghost Value = { Weighed };
 
-    ghost view = { λ c. c.trees.grammar.now };
+    ghost view = { λ c. weighed c.trees.grammar.now c.trees.weights.now };
 
-    ghost invariant = { λ c. AreTrees c.trees };
+    ghost invariant = { λ c. HasTables c.trees };
 }
 
 impl<'g> Costs<'g> {
-    /// The costs of a grammar's symbols.
-    pub fn new(alloc: Global, grammar: &'g Grammar) -> Result<Costs<'g>, AllocError>
-        ensures { IfOk result (λ costs. costs ≡ grammar.now) }
+    /// The costs of a grammar's symbols by weights that have a number for each token.
+    pub fn new(
+        alloc: Global,
+        grammar: &'g Grammar,
+        weights: &'g Weights,
+    ) -> Result<Costs<'g>, AllocError>
+        requires { length weights.now.numbers ≡ grammar.now.tokens }
+        ensures { IfOk result (λ costs. costs ≡ weighed grammar.now weights.now) }
     {
-        let trees = trees_of(alloc, grammar)?;
+        let trees = trees_of(alloc, grammar, weights)?;
         Ok(Costs { trees })
     }
 
     /// The grammar that these are the costs of.
     pub fn grammar(&self) -> &'g Grammar
-        ensures { result.now ≡ self.now }
+        ensures { result.now ≡ self.now.grammar }
     {
         self.trees.grammar
     }
 
-    /// What the least tree of a symbol costs: `Never` where it has none, `Large` where each of its trees has more than
-    /// `LIMIT` nodes, else the least number of nodes, leaves counted. A token's tree is a leaf, of one node.
-    pub fn cost(&self, symbol: Symbol) -> Cost
-        requires { IsSymbol self.now.tokens self.now.nonterminals symbol }
-        ensures { IsCost LIMIT (IsTree self.now symbol) size result }
+    /// The weights that these are the costs by.
+    pub fn weights(&self) -> &'g Weights
+        ensures weights { result.now ≡ self.now.weights }
+        ensures weighs { Weighs self.now.weights self.now.grammar }
     {
-        cost_in(&self.trees.table, symbol)
+        self.trees.weights
+    }
+
+    /// What the least tree of a symbol costs: `Never` where it has none, `Large` where each of its trees is larger than the
+    /// limit, else the least size. A token's tree is a leaf, whose size is the token's number.
+    pub fn cost(&self, symbol: Symbol) -> Cost
+        requires { IsSymbolOf self.now.grammar symbol }
+        ensures { IsTreeCost self.now symbol result }
+    {
+        cost_in(self.trees.weights, &self.trees.table, symbol)
     }
 
     /// What the least trees of symbols cost together, one of each: as `cost` answers, of the sum of their sizes.
     pub fn sum(&self, symbols: &[Symbol]) -> Cost
-        requires { All (IsSymbol self.now.tokens self.now.nonterminals) symbols.now }
-        ensures { IsCost LIMIT (AreTrees self.now symbols.now) sizes result }
+        requires { All (IsSymbolOf self.now.grammar) symbols.now }
+        ensures { AreTreesCost self.now symbols.now result }
     {
         let _rules = self.trees.grammar.rules();
-        sum_from(&self.trees.table, Cost::Least(0), symbols)
+        sum_from(
+            self.trees.weights,
+            &self.trees.table,
+            Cost::Least(0),
+            symbols,
+        )
     }
 
-    /// Appends the code of the chosen tree of a symbol, whose cost is a number of nodes. After a refusal `into` is
-    /// unchanged.
+    /// Appends the code of the chosen tree of a symbol, whose cost is a size. After a refusal `into` is unchanged.
     pub fn least_into(&self, symbol: Symbol, into: &mut Derivation) -> Result<(), AllocError>
-        requires symbol { IsSymbol self.now.tokens self.now.nonterminals symbol }
-        requires least { HasLeast self.now symbol }
-        ensures ok { OnOk result (AppendsChosen self.now symbol into.old into.new) }
+        requires symbol { IsSymbolOf self.now.grammar symbol }
+        requires least { HasLeast self.now.weights self.now.grammar symbol }
+        ensures ok { OnOk result (WritesChosen self.now symbol into.old into.new) }
         ensures err { OnErr result (into.new ≡ into.old) }
     {
         let alloc = *self.trees.table.allocator();
-        let mut pending = vec![in alloc; Part::Whole(symbol)]?;
+        let mut pending = vec![in alloc; symbol]?;
         let mut out = Vec::new(alloc);
         write(&self.trees, &mut pending, &mut out)?;
         into.extend_from_slice(&out)
     }
 
-    /// Appends the codes of the chosen trees of symbols, in their order, where some trees of them have together at most
-    /// `LIMIT` nodes. After a refusal `into` is unchanged.
+    /// Appends the codes of the chosen trees of symbols, in their order, where some trees of them are together within the
+    /// limit. After a refusal `into` is unchanged.
     pub fn all_into(&self, symbols: &[Symbol], into: &mut Derivation) -> Result<(), AllocError>
-        requires symbols { All (IsSymbol self.now.tokens self.now.nonterminals) symbols.now }
-        requires small { HaveSmall self.now symbols.now }
-        ensures ok { OnOk result (AppendsAllChosen self.now symbols.now into.old into.new) }
+        requires symbols { All (IsSymbolOf self.now.grammar) symbols.now }
+        requires small { HaveSmall self.now.weights self.now.grammar symbols.now }
+        ensures ok { OnOk result (WritesAllChosen self.now symbols.now into.old into.new) }
         ensures err { OnErr result (into.new ≡ into.old) }
     {
         let alloc = *self.trees.table.allocator();
         let mut pending = Vec::new(alloc);
-        put_first(&mut pending, symbols)?;
+        put_on_top(&mut pending, symbols)?;
         let mut out = Vec::new(alloc);
         write(&self.trees, &mut pending, &mut out)?;
         into.extend_from_slice(&out)

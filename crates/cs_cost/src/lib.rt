@@ -1,20 +1,23 @@
-//! Least trees: what the least tree of each symbol of a grammar costs, and which tree is chosen.
+//! Least trees: what the least tree of each symbol of a grammar costs by some weights, and which tree is chosen.
 //!
-//! The layers above make `Costs` of a `Grammar`, ask it by `cost` what the least tree of a symbol costs and by `sum` what
-//! those of some symbols cost together, and write the codes of chosen trees by `least_into` and `all_into`. They make
-//! tables of costs of their own with `plus`, `is_below` and `lower`. A cost, a table of costs of any kind and a chosen tree
-//! are defined in `specs/`; the lemmas about such tables stand in `proofs/`. The laws are functions that do nothing.
+//! The layers above make `Costs` of a `Grammar` and `Weights`, ask it by `cost` what the least tree of a symbol costs and by
+//! `sum` what those of some symbols cost together, and write the codes of chosen trees by `least_into` and `all_into`. They
+//! reckon with costs by `cost_of`, `plus` and `is_below`. The laws are functions that do nothing.
+//!
+//! Of the files of `specs/`, these say what is meant: `Least` (least sizes, and what a cost tells), `Chosen`, and of `Trees`
+//! the kinds of trees. `Rank` and `Holds` have costs as numbers, which the layers above use too; the rest of `Trees`,
+//! `Tables`, `Users`, `Worklist`, `Searching` and `Parts` have working words of proofs.
 #![tactic(auto)]
 
 mod cost;
 mod costs;
 mod laws;
+mod sums;
 mod trees;
+mod users;
+mod worklist;
 mod writing;
 
-pub use cost::{Cost, is_below, lower, plus};
+pub use cost::{Cost, cost_of, is_below, lower, plus};
 pub use costs::Costs;
 pub use laws::{chosen_tree_exists, one_chosen_tree};
-
-#[cfg(test)]
-mod tests;

@@ -30,6 +30,9 @@ pub record Weighed : Type 0 where
   pub grammar : PlainGrammar
   pub weights : Measure
 
+abbrev pub weighed : PlainGrammar → Measure → Weighed
+weighed g w = record { grammar = g; weights = w }
+
 -- a well-formed grammar, and weights that have a number for each of its tokens
 pub record Weighs (w : Measure) (g : PlainGrammar) : Type 0 where
   pub grammar : IsGrammar g

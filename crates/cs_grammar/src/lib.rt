@@ -16,6 +16,7 @@ mod grammar;
 mod laws;
 mod number;
 mod rule;
+mod stack;
 mod symbol;
 mod walk;
 mod weights;
@@ -26,6 +27,7 @@ pub use grammar::Grammar;
 pub use laws::{one_outcome, one_tree};
 pub use number::{number_of, place_of};
 pub use rule::Rule;
+pub use stack::put_on_top;
 pub use symbol::{Mark, Symbol};
 pub use weights::{Weights, byte_weight};
 

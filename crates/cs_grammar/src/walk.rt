@@ -1,13 +1,13 @@
 // The walk over a list of rule numbers, each put in for the leftmost nonterminal.
 
-ghost use Rattle.std.specs.Prelude.{OnOk, IfOk, IfNone, IfSome};
+ghost use Rattle.std.specs.Prelude.{IfOk, IfNone, IfSome};
 ghost use Rattle.cs_grammar.specs.Leftmost.{HasNoRuleOf, IsRuleFrom};
-ghost use Rattle.cs_grammar.specs.Stack.{AreOnTop};
 ghost use Rattle.cs_grammar.specs.Walk.{IsExpansion, in_hand, IsFront};
 
 use crate::derivation::Derivation;
 use crate::grammar::Grammar;
 use crate::rule::Rule;
+use crate::stack::put_on_top;
 use crate::symbol::Symbol;
 use std::alloc::{AllocError, Global};
 
@@ -32,14 +32,6 @@ fn settle(done: &mut Vec<u16>, pending: &mut Vec<Symbol>) -> Result<Option<u16>,
         }
     }
     Ok(None)
-}
-
-// Puts symbols in front of the open ones.
-fn open_up(alloc: Global, pending: &mut Vec<Symbol>, right: &[Symbol]) -> Result<(), AllocError>
-    ensures { OnOk result (AreOnTop right.now pending.old.items pending.new.items) }
-{
-    let turned: Vec<Symbol> = right.iter().rev().copied().collect(alloc)?;
-    pending.extend_from_slice(&turned)
 }
 
 // The rule of that number, where there is one with this left side.
@@ -72,7 +64,7 @@ pub fn walk(
         let Some(rule) = rule_of(grammar, *number, left) else {
             return Ok(Expansion::WrongRule(at));
         };
-        open_up(alloc, &mut pending, rule.right())?;
+        put_on_top(&mut pending, rule.right())?;
     }
     match settle(&mut done, &mut pending)? {
         None => Ok(Expansion::Yield(done)),

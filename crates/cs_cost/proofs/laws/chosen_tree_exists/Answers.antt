@@ -2,10 +2,10 @@ use Rattle.cs_cost.proofs.ChosenTrees.{chosen_exists, IsTree-chosen, chosen_leas
 use Rattle.cs_cost.proofs.laws.chosen_tree_exists.Goals as goal
 
 pub returns-clause-exists : goal.returns-clause-exists
-returns-clause-exists c = λ g x t h. let u = chosen_exists g x t h in (u.tree, u.chosen)
-
-pub returns-clause-is_tree : goal.returns-clause-is_tree
-returns-clause-is_tree c = λ g x u h. IsTree-chosen g u x h
+returns-clause-exists c w g x some = let u = chosen_exists w g x some.0 some.1 in (u.tree, u.chosen)
 
 pub returns-clause-least : goal.returns-clause-least
-returns-clause-least c = λ g x t u ht hu. chosen_least g x t u ht hu
+returns-clause-least c w g x u chosen = record {
+  is_tree = IsTree-chosen w g u x chosen;
+  least = λ t is_tree. chosen_least w g x t u is_tree chosen;
+}

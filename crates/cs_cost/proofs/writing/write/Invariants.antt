@@ -1,11 +1,10 @@
 use Rattle.std.proofs.Common.{reverse}
 use Rattle.std.specs.List.{sum_by}
-use Rattle.cs_grammar.specs.declared.TheConstants.{LIMIT}
 use Rattle.cs_cost.proofs.Written.{part_work, Writes}
 use Rattle.cs_cost.proofs.writing.write.Given as goal
 
-abbrev pub invariant-loop-part : goal.invariant-loop-part
-invariant-loop-part l = Writes LIMIT l.trees.grammar.now l.trees.table.items (reverse l.initial.pending.items) l.initial.out.items (reverse l.pending.items) l.out.items
+abbrev pub invariant-loop-symbol : goal.invariant-loop-symbol
+invariant-loop-symbol l = Writes l.trees.weights.now l.trees.grammar.now l.trees.table.items (reverse l.initial.pending.items) l.initial.out.items (reverse l.pending.items) l.out.items
 
-abbrev pub decreases-loop-part : goal.decreases-loop-part
-decreases-loop-part l = sum_by (part_work LIMIT l.trees.table.items) (reverse l.pending.items)
+abbrev pub decreases-loop-symbol : goal.decreases-loop-symbol
+decreases-loop-symbol l = sum_by (part_work l.trees.weights.now l.trees.table.items) (reverse l.pending.items)

@@ -18,7 +18,7 @@ loop-at-preserved c =
     let rule = c.in-Some-rule_of.ensures.some in
     step_at c.args.grammar.now _ _ c.rules-number-items.ensures c.loop-at.at _ c.loop-at.invariant _ _ _ _ _ c.loop-at-test.true
     (front_some _ c.settle.new.done c.settle.new.pending _ _ c.in-Some.is c.in_ok-left.ensures) rule.0 rule.1
-    (c.in_ok-open_up.ensures ∙ ap (λ (xs : List Symbol). xs ++ reverse c.settle.new.pending.items) c.right.ensures)
+    (c.in_ok-put_on_top.ensures ∙ ap (λ (xs : List Symbol). xs ++ reverse c.settle.new.pending.items) c.right.ensures)
 
 pub returns-in-None : goal.returns-in-None
 returns-in-None c =

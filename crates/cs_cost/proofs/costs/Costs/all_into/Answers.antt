@@ -1,11 +1,10 @@
-use Rattle.std.proofs.Common.{◌++◌, List, ℕ, [], map, reverse, refl, sym, ap, ◌∙◌, subst, append-nil}
+use Rattle.std.proofs.Common.{◌++◌, List, ℕ, [], reverse, refl, sym, ap, ◌∙◌, subst, append-nil}
 use Rattle.std.specs.Prelude.{All}
 use Rattle.std.proofs.lemmas.Result.{on_ok_weaker}
-use Rattle.cs_grammar.specs.declared.TheConstants.{LIMIT}
-use Rattle.cs_grammar.specs.Grammar.{PlainGrammar, IsSymbol}
+use Rattle.cs_grammar.specs.Grammar.{IsSymbol}
+use Rattle.cs_grammar.specs.Weights.{Weighed}
 use Rattle.cs_grammar.specs.Tree.{codes_of}
-use Rattle.cs_cost.specs.declared.writing.Part.{Part}
-use Rattle.cs_cost.specs.declared.writing.Part.TheVariants.{Whole}
+use Rattle.cs_grammar.specs.declared.symbol.Symbol.{Symbol}
 use Rattle.cs_cost.specs.Chosen.{AreChosen}
 use Rattle.cs_cost.specs.Trees.{HaveSmall}
 use Rattle.cs_cost.specs.Parts.{IsText, IsWithin}
@@ -13,28 +12,30 @@ use Rattle.cs_cost.proofs.ChosenTrees.{chosen_forest}
 use Rattle.cs_cost.proofs.Written.{IsText-whole, forest_within}
 use Rattle.cs_cost.proofs.costs.Costs.all_into.Goals as goal
 
-pub write-requires-clause-within : goal.write-requires-clause-within
-write-requires-clause-within c =
+pub write-requires-clause-small : goal.write-requires-clause-small
+write-requires-clause-small c =
     let xs = c.args.symbols.now in
+    let w = c.self.inside.trees.weights.now in
     let g = c.self.inside.trees.grammar.now in
-    let f = subst (λ (s : PlainGrammar). HaveSmall s xs) (sym c.self.view_is) c.requires.small in
-    let each = subst (λ (s : PlainGrammar). All (IsSymbol s.tokens s.nonterminals) xs) (sym c.self.view_is) c.requires.symbols in
-    let is = c.in_ok-put_first.ensures ∙ ap (λ (l : List Part). map Whole xs ++ reverse l) c.new-pending.ensures.items ∙ append-nil (map Whole xs) in
-    subst (λ (l : List Part). All (IsWithin LIMIT g) l) (sym is) (forest_within LIMIT g f.0 xs f.1 f.2 each)
+    let f = subst (λ (v : Weighed). HaveSmall v.weights v.grammar xs) (sym c.self.view_is) c.requires.small in
+    let each = subst (λ (v : Weighed). All (IsSymbol v.grammar.tokens v.grammar.nonterminals) xs) (sym c.self.view_is) c.requires.symbols in
+    let is = c.in_ok-put_on_top.ensures ∙ ap (λ (l : List Symbol). xs ++ reverse l) c.new-pending.ensures.items ∙ append-nil xs in
+    subst (λ (l : List Symbol). All (IsWithin w g) l) (sym is) (forest_within w g f.0 xs f.1 f.2 each)
 
 pub returns-clause-ok : goal.returns-clause-ok
 returns-clause-ok c =
     let xs = c.args.symbols.now in
+    let w = c.self.inside.trees.weights.now in
     let g = c.self.inside.trees.grammar.now in
-    let f = subst (λ (s : PlainGrammar). HaveSmall s xs) (sym c.self.view_is) c.requires.small in
-    let h = chosen_forest g f.0 xs f.1 in
-    let is = c.in_ok-put_first.ensures ∙ ap (λ (l : List Part). map Whole xs ++ reverse l) c.new-pending.ensures.items in
-    let text : IsText g (map Whole xs ++ []) (codes_of h.0 ++ []) = IsText-whole g h.0 xs [] [] h.1 refl in
-    let pending = subst (λ (l : List Part). IsText g l (codes_of h.0 ++ [])) (sym is) text in
+    let f = subst (λ (v : Weighed). HaveSmall v.weights v.grammar xs) (sym c.self.view_is) c.requires.small in
+    let h = chosen_forest w g f.0 xs f.1 in
+    let is = c.in_ok-put_on_top.ensures ∙ ap (λ (l : List Symbol). xs ++ reverse l) c.new-pending.ensures.items in
+    let text : IsText w g (xs ++ []) (codes_of h.0 ++ []) = IsText-whole w g h.0 xs [] [] h.1 refl in
+    let pending = subst (λ (l : List Symbol). IsText w g l (codes_of h.0 ++ [])) (sym is) text in
     on_ok_weaker c.extend_from_slice.result
     (λ e. record {
       trees = h.0;
-      chosen = subst (λ (s : PlainGrammar). AreChosen s xs h.0) c.self.view_is h.1;
+      chosen = subst (λ (v : Weighed). AreChosen v.weights v.grammar xs h.0) c.self.view_is h.1;
       text = e ∙ ap (λ (s : List ℕ). c.args.into.now ++ s) (c.deref.ensures.value ∙ c.in_ok-write.ensures (codes_of h.0 ++ []) pending ∙ ap (λ (s : List ℕ). s ++ (codes_of h.0 ++ [])) c.new-out.ensures.items ∙ append-nil (codes_of h.0));
     })
     c.extend_from_slice.ensures.ok

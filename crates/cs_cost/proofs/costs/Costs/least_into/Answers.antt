@@ -1,8 +1,8 @@
 use Rattle.std.proofs.Common.{◌++◌, List, ℕ, [], reverse, refl, sym, ap, ◌∙◌, subst, append-nil}
 use Rattle.std.proofs.lemmas.Result.{on_ok_weaker}
-use Rattle.cs_grammar.specs.Grammar.{PlainGrammar}
+use Rattle.cs_grammar.specs.Weights.{Weighed}
 use Rattle.cs_grammar.specs.Tree.{code}
-use Rattle.cs_cost.specs.declared.writing.Part.{Part}
+use Rattle.cs_grammar.specs.declared.symbol.Symbol.{Symbol}
 use Rattle.cs_cost.specs.Chosen.{IsChosen}
 use Rattle.cs_cost.specs.Trees.{HasLeast}
 use Rattle.cs_cost.specs.Parts.{IsText}
@@ -12,15 +12,16 @@ use Rattle.cs_cost.proofs.costs.Costs.least_into.Goals as goal
 pub returns-clause-ok : goal.returns-clause-ok
 returns-clause-ok c =
     let x = c.args.symbol in
+    let w = c.self.inside.trees.weights.now in
     let g = c.self.inside.trees.grammar.now in
-    let least = (subst (λ (g : PlainGrammar). HasLeast g x) (sym c.self.view_is) c.requires.least).1.1.reached in
-    let t = chosen_exists g x least.0 least.1 in
-    let is : IsText g (reverse c.in_ok-pending.pending.items) (code t.tree) =
-    subst (λ (ps : List Part). IsText g (reverse ps) (code t.tree)) (sym c.in_ok-pending.ensures.items) (t.tree, [], t.chosen, refl, sym (append-nil (code t.tree))) in
+    let least = (subst (λ (v : Weighed). HasLeast v.weights v.grammar x) (sym c.self.view_is) c.requires.least).1.1.reached in
+    let t = chosen_exists w g x least.0 least.1 in
+    let is : IsText w g (reverse c.in_ok-pending.pending.items) (code t.tree) =
+    subst (λ (ps : List Symbol). IsText w g (reverse ps) (code t.tree)) (sym c.in_ok-pending.ensures.items) (t.tree, [], t.chosen, refl, sym (append-nil (code t.tree))) in
     on_ok_weaker c.extend_from_slice.result
     (λ e. record {
       tree = t.tree;
-      chosen = subst (λ (g : PlainGrammar). IsChosen g x t.tree) c.self.view_is t.chosen;
+      chosen = subst (λ (v : Weighed). IsChosen v.weights v.grammar x t.tree) c.self.view_is t.chosen;
       text = e ∙ ap (λ (s : List ℕ). c.args.into.now ++ s) (c.deref.ensures.value ∙ c.in_ok-write.ensures (code t.tree) is ∙ ap (λ (s : List ℕ). s ++ code t.tree) c.new-out.ensures.items);
     })
     c.extend_from_slice.ensures.ok
