@@ -1,69 +1,99 @@
 // What the least context of each nonterminal costs, and the first step of the chosen one.
 
-ghost use Rattle.std.specs.Prelude.{◌≡◌, ◌-◌, ◌<◌, ◌≤◌, IfOk, ◌↔◌, IsTrue, length, slice_index_or, All};
-ghost use Rattle.std.specs.List.{sum_by};
-ghost use Rattle.std.specs.Bool.{OnTrue, OnFalse};
+ghost use Rattle.std.specs.Prelude.{◌≡◌, ◌-◌, ◌≤◌, IfOk, ◌↔◌, IsTrue, MatchOption, length, map, slice_index_or, All};
 ghost use Rattle.cs_grammar.specs.Grammar.{IsNumberOf};
 ghost use Rattle.cs_cost.specs.Rank.{rank, IsCapped, entry};
-ghost use Rattle.cs_embed.specs.Embeds.{AreSteps, step_cost, IsSoundEmbed, IsClosedEmbed, IsEmbedTable, AreFirstSteps};
+ghost use Rattle.cs_embed.specs.Embeds.{AreSteps, step_cost, IsEmbedTable, AreFirstSteps};
+ghost use Rattle.cs_embed.specs.Links.{IsLink, AreLinks, told_cost};
 
 use crate::step::{Step, Steps, step_cost};
-use cs_cost::{Cost, is_below, lower};
-use cs_grammar::LIMIT;
+use cs_cost::{Cost, is_below};
+use cs_grammar::Weights;
+use cs_ways::{Reach, Source, least_ways};
 use std::alloc::{AllocError, Global};
 
-// Goes once over the steps, and says whether the table has changed.
-fn embed_round(steps: &Steps, embeds: &mut [Cost]) -> bool
-    requires steps { AreSteps LIMIT steps.now.grammar.now steps.now.list.items }
-    requires embeds { IsSoundEmbed LIMIT steps.now.grammar.now embeds.old }
-    ensures sound { IsSoundEmbed LIMIT steps.now.grammar.now embeds.new }
-    ensures falls { OnTrue result (sum_by (rank LIMIT) embeds.new < sum_by (rank LIMIT) embeds.old) }
-    ensures closed { OnFalse result (IsClosedEmbed LIMIT steps.now.list.items embeds.new) }
+// A step outwards as a step inwards between nonterminals, if there are trees beside the hole.
+fn link_of(step: Step, weights: &Weights) -> Option<cs_ways::Step>
+    requires { IsCapped weights.now.limit step.others }
+    ensures { MatchOption result (step.others ≡ Cost.Never) (IsLink weights.now.limit step) }
 {
-    let mut changed = false;
+    match step.others {
+        Cost::Never => None,
+        Cost::Large => Some(cs_ways::Step {
+            from: step.outer,
+            to: step.inner,
+            cost: weights.limit() + 1,
+        }),
+        Cost::Least(size) => Some(cs_ways::Step {
+            from: step.outer,
+            to: step.inner,
+            cost: size,
+        }),
+    }
+}
+
+fn links_of(alloc: Global, steps: &Steps) -> Result<Vec<cs_ways::Step>, AllocError>
+    requires { AreSteps steps.now.weights.now steps.now.grammar.now steps.now.list.items }
+    ensures { IfOk result (λ links. AreLinks steps.now.weights.now.limit steps.now.list.items links.items) }
+{
+    let mut links = Vec::new(alloc);
     for step in &steps.list {
-        let cost = step_cost(embeds, *step);
-        if lower(embeds, step.inner, cost) {
-            changed = true;
+        if let Some(link) = link_of(*step, steps.weights) {
+            links.push(link)?;
         }
     }
-    changed
+    Ok(links)
 }
 
-// The table in which no step makes a context cost less.
-fn embedded(alloc: Global, steps: &Steps) -> Result<Vec<Cost>, AllocError>
-    requires { AreSteps LIMIT steps.now.grammar.now steps.now.list.items }
-    ensures sound { IfOk result (λ embeds. IsSoundEmbed LIMIT steps.now.grammar.now embeds.items) }
-    ensures closed { IfOk result (λ embeds. IsClosedEmbed LIMIT steps.now.list.items embeds.items) }
+fn cost_of(reach: Reach) -> Cost
+    ensures { result ≡ told_cost reach }
+{
+    match reach {
+        Reach::Never => Cost::Never,
+        Reach::Large => Cost::Large,
+        Reach::Least { cost, .. } => Cost::Least(cost),
+    }
+}
+
+fn costs_of(alloc: Global, table: &[Reach]) -> Result<Vec<Cost>, AllocError>
+    ensures { IfOk result (λ costs. costs.items ≡ map told_cost table.now) }
+{
+    let mut costs = Vec::new(alloc);
+    for reach in table {
+        costs.push(cost_of(*reach))?;
+    }
+    Ok(costs)
+}
+
+// What the least context of each nonterminal costs: a context is a way from the start symbol.
+pub(crate) fn embed_table(alloc: Global, steps: &Steps) -> Result<Vec<Cost>, AllocError>
+    requires { AreSteps steps.now.weights.now steps.now.grammar.now steps.now.list.items }
+    ensures { IfOk result (λ embeds. IsEmbedTable steps.now.weights.now steps.now.grammar.now embeds.items) }
 {
     let grammar = steps.grammar;
-    let mut embeds = vec![in alloc; Cost::Never; grammar.nonterminals() as usize]?;
-    embeds[grammar.start() as usize - 1] = Cost::Least(0);
-    while embed_round(steps, &mut embeds) {}
-    Ok(embeds)
-}
-
-// What the least context of each nonterminal costs.
-pub(crate) fn embed_table(alloc: Global, steps: &Steps) -> Result<Vec<Cost>, AllocError>
-    requires { AreSteps LIMIT steps.now.grammar.now steps.now.list.items }
-    ensures { IfOk result (λ embeds. IsEmbedTable LIMIT steps.now.grammar.now embeds.items) }
-{
-    let table = embedded(alloc, steps)?;
-    Ok(table)
+    let links = links_of(alloc, steps)?;
+    let net = cs_ways::Steps::new(alloc, grammar.nonterminals(), links)?;
+    let source = Source {
+        node: grammar.start(),
+        cost: 0,
+    };
+    let table = least_ways(alloc, &net, &[source], steps.weights.limit())?;
+    let costs = costs_of(alloc, &table)?;
+    Ok(costs)
 }
 
 // Whether a step costs no more than the table says of its inner nonterminal, and none of the nonterminal is known so far.
-fn is_first(embeds: &[Cost], firsts: &[Option<Step>], step: Step) -> bool
+fn is_first(embeds: &[Cost], firsts: &[Option<Step>], step: Step, weights: &Weights) -> bool
     requires outer { IsNumberOf (length embeds.now) step.outer }
     requires inner { IsNumberOf (length embeds.now) step.inner }
-    requires others { IsCapped LIMIT step.others }
-    requires embeds { All (IsCapped LIMIT) embeds.now }
+    requires others { IsCapped weights.now.limit step.others }
+    requires embeds { All (IsCapped weights.now.limit) embeds.now }
     requires firsts { length firsts.now ≡ length embeds.now }
     ensures { IsTrue result ↔ ((slice_index_or firsts.now (step.inner - 1) None ≡ None)
-        × (rank LIMIT (step_cost LIMIT embeds.now step) ≤ rank LIMIT (entry embeds.now step.inner))) }
+        × (rank weights.now.limit (step_cost weights.now.limit embeds.now step) ≤ rank weights.now.limit (entry embeds.now step.inner))) }
 {
     let place = step.inner as usize - 1;
-    firsts[place].is_none() && !is_below(embeds[place], step_cost(embeds, step))
+    firsts[place].is_none() && !is_below(embeds[place], step_cost(embeds, step, weights))
 }
 
 // The first of each nonterminal's steps that cost no more than the table says of it.
@@ -72,13 +102,13 @@ pub(crate) fn first_steps(
     steps: &Steps,
     embeds: &[Cost],
 ) -> Result<Vec<Option<Step>>, AllocError>
-    requires steps { AreSteps LIMIT steps.now.grammar.now steps.now.list.items }
-    requires embeds { IsEmbedTable LIMIT steps.now.grammar.now embeds.now }
-    ensures { IfOk result (λ firsts. AreFirstSteps LIMIT steps.now.grammar.now embeds.now firsts.items) }
+    requires steps { AreSteps steps.now.weights.now steps.now.grammar.now steps.now.list.items }
+    requires embeds { IsEmbedTable steps.now.weights.now steps.now.grammar.now embeds.now }
+    ensures { IfOk result (λ firsts. AreFirstSteps steps.now.weights.now steps.now.grammar.now embeds.now firsts.items) }
 {
     let mut firsts = vec![in alloc; None; embeds.len()]?;
     for step in &steps.list {
-        if is_first(embeds, &firsts, *step) {
+        if is_first(embeds, &firsts, *step, steps.weights) {
             firsts[step.inner as usize - 1] = Some(*step);
         }
     }
