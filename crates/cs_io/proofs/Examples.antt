@@ -1,16 +1,16 @@
 -- The definitions at values that show their edges.
 use Rattle.std.proofs.Common.{◌≡◌, ◌-◌, [], ◌∷◌, None, Some, true, false, codes, refl}
-use Rattle.cs_io.specs.Desk.{file_of}
+use Rattle.cs_io.specs.Desk.{file_named}
 use Rattle.cs_io.specs.Failing.{fails_at}
 use Rattle.cs_io.specs.Faults.{greatest, next_count}
 use Rattle.cs_io.specs.MemorySink.{sure_room}
 
 -- of two files of one name the first counts
-first_of_a_name : file_of ((codes "a", codes "one") ∷ (codes "a", codes "two") ∷ []) (codes "a") ≡ Some (codes "one")
+first_of_a_name : file_named ((codes "a", codes "one") ∷ (codes "a", codes "two") ∷ []) (codes "a") ≡ Some (codes "one")
 first_of_a_name = refl
 
-no_file_of_that_name : file_of ((codes "a", codes "one") ∷ []) (codes "b") ≡ None
-no_file_of_that_name = refl
+no_file_named_that_name : file_named ((codes "a", codes "one") ∷ []) (codes "b") ≡ None
+no_file_named_that_name = refl
 
 -- a count rises, and stands still at the greatest u64
 count_rises : next_count (greatest - 1) ≡ greatest

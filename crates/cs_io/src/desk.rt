@@ -1,5 +1,5 @@
-ghost use Rattle.std.specs.Prelude.{◌≡◌, ◌≤◌, Bool, IfOk, IfSome, IsErrOf, IsTrue, List, Option, Some, ℕ, option_map, take};
-ghost use Rattle.cs_io.specs.Desk.{file_of, IsMissing};
+ghost use Rattle.std.specs.Prelude.{◌≡◌, ◌≤◌, Bool, IfOk, IsErrOf, IsTrue, Option, ℕ};
+ghost use Rattle.cs_io.specs.Desk.{Files, IsBeginning, IsMissing};
 ghost use Rattle.cs_io.specs.Faults.{Rose};
 
 use std::alloc::Global;
@@ -26,7 +26,7 @@ pub enum DeskError {
 pub trait Desk {
     /// The name and the bytes of each file, or `None` for a desk that doesn't tell them. Of the
     /// files of one name the first counts.
-    ghost files: { Self → Option (List (List ℕ × List ℕ)) };
+    ghost files: { Self → Option Files };
 
     /// How many calls have failed. The count never falls, and at the greatest u64 it stands still.
     ghost faults: { Self → ℕ };
@@ -38,20 +38,17 @@ pub trait Desk {
     ///
     /// Want of memory, `DeskError::Memory`, may come in place of any answer.
     fn read(&mut self, alloc: Global, name: &str, most: usize) -> Result<Vec<u8>, DeskError>
-        ensures bytes { IfSome (files self.old) (λ told. IfOk result (λ bytes.
-            option_map (λ whole. take most whole) (file_of told name.now) ≡ Some bytes.items)) }
+        ensures bytes { IfOk result (λ read.
+            IsBeginning (files self.old) name.now most read.items) }
         ensures missing { IsErrOf result DeskError.Missing → IsMissing (files self.old) name.now }
 
-        // Which answers are faults.
-        ensures failed_is_a_fault { IsErrOf result DeskError.Failed
+        // Which answers are faults: `Failed` alone.
+        ensures fault { IsErrOf result DeskError.Failed
             → Rose (faults self.old) (faults self.new) }
-        ensures missing_is_no_fault { IsErrOf result DeskError.Missing
-            → faults self.new ≡ faults self.old }
-        ensures memory_is_no_fault { IsErrOf result DeskError.Memory
+        ensures no_fault { ¬ IsErrOf result DeskError.Failed
             → faults self.new ≡ faults self.old }
         ensures faults_never_fall { faults self.old ≤ faults self.new }
-        ensures no_fault_where_steady { IsTrue (steady self.old)
-            → faults self.new ≡ faults self.old }
+        ensures steady { IsTrue (steady self.old) → faults self.new ≡ faults self.old }
 
         // What stays.
         ensures same_files { files self.new ≡ files self.old }

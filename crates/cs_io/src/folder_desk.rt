@@ -56,9 +56,9 @@ impl<'r, R: Files> Desk for FolderDesk<'r, R> {
     ghost steady = { λ _. false };
 
     fn read(&mut self, alloc: Global, name: &str, most: usize) -> Result<Vec<u8>, DeskError>
-        ensures never_missing { ¬ (IsErrOf result DeskError.Missing) }
+        ensures never_missing { ¬ IsErrOf result DeskError.Missing }
         ensures fault { IsErrOf result DeskError.Failed → self.new ≡ next_count self.old }
-        ensures no_fault { ¬ (IsErrOf result DeskError.Failed) → self.new ≡ self.old }
+        ensures no_fault { ¬ IsErrOf result DeskError.Failed → self.new ≡ self.old }
         ensures faults_never_fall { self.old ≤ self.new }
     {
         match read_file(self.rt, alloc, name, most) {

@@ -11,6 +11,9 @@
 //!
 //! [`FolderDesk`] and [`StreamSink`] are the real outside, for `main`. [`MemoryDesk`] and
 //! [`MemorySink`] say exactly which of their calls fail, for tests.
+//!
+//! All files of `specs/` are meaning: `Desk`, `Sink` and `Faults` of the traits, the others of the
+//! implementations of their names.
 #![tactic(auto)]
 
 mod desk;
@@ -27,6 +30,3 @@ pub use memory_desk::MemoryDesk;
 pub use memory_sink::MemorySink;
 pub use sink::{Sink, SinkError, write_all};
 pub use stream_sink::StreamSink;
-
-#[cfg(test)]
-mod tests;

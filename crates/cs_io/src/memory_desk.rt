@@ -1,7 +1,7 @@
-ghost use Rattle.std.specs.Prelude.{◌≡◌, ◌≤◌, ◌↔◌, ◌⊎◌, IfOk, IsErrOf, IsFalse, IsNone, IsOk, IsSome, IsTrue, None, Some, length, nat_eq, option_map, take};
-ghost use Rattle.cs_io.specs.Desk.{file_of};
+ghost use Rattle.std.specs.Prelude.{◌≡◌, ◌≤◌, ◌↔◌, ◌⊎◌, IfOk, IsErrOf, IsOk, IsTrue, None, Some, length, nat_eq, option_map};
+ghost use Rattle.cs_io.specs.Desk.{IsBeginning, file_named};
 ghost use Rattle.cs_io.specs.Faults.{next_count};
-ghost use Rattle.cs_io.specs.MemoryDesk.{fails_next, stored};
+ghost use Rattle.cs_io.specs.MemoryDesk.{Finds, Lacks, fails_next, new_desk, stored};
 
 use crate::failing::is_failing;
 use crate::{Desk, DeskError};
@@ -36,17 +36,8 @@ impl MemoryDesk {
     /// A desk with these files, names and bytes. Of the files of one name the first counts.
     ///
     /// `failing` has the numbers, from 0, of the calls of `read` that are to fail.
-    pub fn new(
-        _alloc: Global,
-        files: Vec<(String, Vec<u8>)>,
-        failing: Vec<u32>,
-    ) -> Result<MemoryDesk, AllocError>
-        ensures { IfOk result (λ desk. desk ≡ record {
-          files = stored files.items;
-          failing = failing.items;
-          calls = 0;
-          faults = 0;
-        }) }
+    pub fn new(files: Vec<(String, Vec<u8>)>, failing: Vec<u32>) -> Result<MemoryDesk, AllocError>
+        ensures { IfOk result (λ desk. desk ≡ new_desk (stored files.items) failing.items) }
     {
         Ok(MemoryDesk {
             files,
@@ -59,7 +50,7 @@ impl MemoryDesk {
 
 // The bytes of the first file of that name.
 fn find<'f>(files: &'f [(String, Vec<u8>)], name: &str) -> Option<&'f [u8]>
-    ensures { option_map (λ bytes. bytes.now) result ≡ file_of (stored files.now) name.now }
+    ensures { option_map (λ bytes. bytes.now) result ≡ file_named (stored files.now) name.now }
 {
     for file in files {
         if file.0.as_str() == name {
@@ -78,21 +69,19 @@ impl Desk for MemoryDesk {
 
     /// As every desk. Want of memory may come only where the bytes of a file are to be answered.
     fn read(&mut self, alloc: Global, name: &str, most: usize) -> Result<Vec<u8>, DeskError>
-        ensures bytes { IfOk result (λ bytes.
-            option_map (λ whole. take most whole) (file_of self.old.files name.now)
-            ≡ Some bytes.items) }
+        ensures bytes { IfOk result (λ read.
+            IsBeginning (Some self.old.files) name.now most read.items) }
 
         // Each answer comes exactly where it is due, but for want of memory.
         ensures failed { IsErrOf result DeskError.Failed ↔ IsTrue (fails_next self.old) }
-        ensures missing { IsErrOf result DeskError.Missing
-            ↔ (IsFalse (fails_next self.old) × IsNone (file_of self.old.files name.now)) }
+        ensures missing { IsErrOf result DeskError.Missing ↔ Lacks self.old name.now }
         ensures ok_or_memory { (IsOk result ⊎ IsErrOf result DeskError.Memory)
-            ↔ (IsFalse (fails_next self.old) × IsSome (file_of self.old.files name.now)) }
+            ↔ Finds self.old name.now }
 
         // The counts.
         ensures fault { IsErrOf result DeskError.Failed
             → self.new.faults ≡ next_count self.old.faults }
-        ensures no_fault { ¬ (IsErrOf result DeskError.Failed)
+        ensures no_fault { ¬ IsErrOf result DeskError.Failed
             → self.new.faults ≡ self.old.faults }
         ensures faults_never_fall { self.old.faults ≤ self.new.faults }
         ensures calls { self.new.calls ≡ next_count self.old.calls }

@@ -1,6 +1,6 @@
-ghost use Rattle.std.specs.Prelude.{◌≡◌, ◌+◌, ◌<◌, ◌≤◌, ◌++◌, ◌↔◌, ◌⊎◌, IfOk, IsErr, IsOk, IsTrue, OnErr, OnOk, [], Some, length, min, take};
+ghost use Rattle.std.specs.Prelude.{◌≡◌, ◌+◌, ◌<◌, ◌≤◌, ◌++◌, ◌↔◌, ◌⊎◌, IfOk, IsErr, IsOk, IsTrue, OnErr, OnOk, Some, length, take};
 ghost use Rattle.cs_io.specs.Faults.{next_count};
-ghost use Rattle.cs_io.specs.MemorySink.{fails_next, free_capacity, sure_room};
+ghost use Rattle.cs_io.specs.MemorySink.{fails_next, free_capacity, new_sink, sure_room, taken_size};
 
 use crate::failing::is_failing;
 use crate::{Sink, SinkError};
@@ -55,14 +55,7 @@ impl MemorySink {
         failing: Vec<u32>,
     ) -> Result<MemorySink, AllocError>
         requires { 0 < step }
-        ensures { IfOk result (λ sink. sink ≡ record {
-          written = [];
-          capacity = capacity;
-          step = step;
-          failing = failing.items;
-          calls = 0;
-          faults = 0;
-        }) }
+        ensures { IfOk result (λ sink. sink ≡ new_sink capacity step failing.items) }
     {
         let bytes = Vec::with_capacity(alloc, capacity)?;
         Ok(MemorySink {
@@ -107,8 +100,7 @@ impl Sink for MemorySink {
         // Which calls fail, and how much the others take.
         ensures failed { IsErr result
             ↔ (IsTrue (fails_next self.old) ⊎ (free_capacity self.old ≡ 0)) }
-        ensures count { IfOk result (λ count.
-            count ≡ min (min (length piece.now) self.old.step) (free_capacity self.old)) }
+        ensures count { IfOk result (λ count. count ≡ taken_size self.old (length piece.now)) }
 
         // The counts.
         ensures fault { OnErr result (self.new.faults ≡ next_count self.old.faults) }

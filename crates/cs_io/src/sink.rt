@@ -1,7 +1,7 @@
-ghost use Rattle.std.specs.Prelude.{◌≡◌, ◌+◌, ◌<◌, ◌≤◌, IfOk, IsOk, OnErr, OnOk, List, Option, ℕ, length, take};
+ghost use Rattle.std.specs.Prelude.{◌≡◌, ◌+◌, ◌<◌, ◌≤◌, IfOk, IsOk, OnErr, OnOk, List, Option, ℕ, length};
 ghost use Rattle.std.specs.Io.KnownBytes.{append_known};
 ghost use Rattle.cs_io.specs.Faults.{Rose};
-ghost use Rattle.cs_io.specs.Sink.{GrewByPrefix};
+ghost use Rattle.cs_io.specs.Sink.{GrewByFirst, GrewByPrefix};
 
 use thiserror::Error;
 
@@ -36,17 +36,16 @@ pub trait Sink {
         // What is taken.
         ensures at_least_one { IfOk result (λ count. 0 < count) }
         ensures within_piece { IfOk result (λ count. count ≤ length piece.now) }
-        ensures ok { IfOk result (λ count.
-            written self.new ≡ append_known (written self.old) (take count piece.now)) }
+        ensures ok { IfOk result (GrewByFirst (written self.old) (written self.new) piece.now) }
         ensures err { OnErr result (written self.new ≡ written self.old) }
 
         // The faults.
-        ensures failed_is_a_fault { OnErr result (Rose (faults self.old) (faults self.new)) }
+        ensures fault { OnErr result (Rose (faults self.old) (faults self.new)) }
         ensures faults_never_fall { faults self.old ≤ faults self.new }
 
         // What room is for.
         ensures ok_with_room { 0 < room self.old → IsOk result }
-        ensures no_fault_with_room { 0 < room self.old → faults self.new ≡ faults self.old }
+        ensures no_fault { 0 < room self.old → faults self.new ≡ faults self.old }
         ensures room_left { IfOk result (λ count. room self.old ≤ room self.new + count) };
 }
 
@@ -60,15 +59,14 @@ pub fn write_all<S: Sink>(sink: &mut S, piece: &[u8]) -> Result<(), SinkError>
     ensures err { OnErr result (GrewByPrefix (S.written sink.old) (S.written sink.new) piece.now) }
 
     // The faults.
-    ensures failed_is_a_fault { OnErr result (Rose (S.faults sink.old) (S.faults sink.new)) }
+    ensures fault { OnErr result (Rose (S.faults sink.old) (S.faults sink.new)) }
     ensures faults_never_fall { S.faults sink.old ≤ S.faults sink.new }
 
     // A sink with room for the piece takes it.
     ensures ok_with_room { length piece.now ≤ S.room sink.old → IsOk result }
-    ensures no_fault_with_room { length piece.now ≤ S.room sink.old
+    ensures no_fault { length piece.now ≤ S.room sink.old
         → S.faults sink.new ≡ S.faults sink.old }
-    ensures room_left { length piece.now ≤ S.room sink.old
-        → S.room sink.old ≤ S.room sink.new + length piece.now }
+    ensures room_left { OnOk result (S.room sink.old ≤ S.room sink.new + length piece.now) }
 {
     let mut at = 0usize;
     while at < piece.len() {

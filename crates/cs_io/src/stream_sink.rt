@@ -1,5 +1,4 @@
 ghost use Rattle.std.specs.Prelude.{◌≡◌, ◌<◌, ◌≤◌, IfOk, None, OnErr, OnOk, length, take};
-ghost use Rattle.std.specs.Io.KnownBytes.{Appends, Keeps};
 ghost use Rattle.cs_io.specs.Faults.{next_count};
 
 use crate::{Sink, SinkError};
@@ -28,7 +27,7 @@ impl<W: Write> StreamSink<W> {
 }
 
 impl<W: Write> Sink for StreamSink<W> {
-    ghost use Rattle.cs_io.specs.StreamSink.{stream_faults, stream_writer};
+    ghost use Rattle.cs_io.specs.StreamSink.{WriterAppends, WriterKeeps, stream_faults};
 
     ghost written = { λ _. None };
 
@@ -43,10 +42,8 @@ impl<W: Write> Sink for StreamSink<W> {
 
         // What the writer holds, where it is known.
         ensures ok { IfOk result (λ count.
-            Appends (W.contents (stream_writer self.old)) (W.contents (stream_writer self.new))
-            (take count piece.now)) }
-        ensures err { OnErr result
-            (Keeps (W.contents (stream_writer self.old)) (W.contents (stream_writer self.new))) }
+            WriterAppends W.contents self.old self.new (take count piece.now)) }
+        ensures err { OnErr result (WriterKeeps W.contents self.old self.new) }
 
         ensures fault { OnErr result
             (stream_faults self.new ≡ next_count (stream_faults self.old)) }

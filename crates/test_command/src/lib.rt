@@ -1,0 +1,5 @@
+//! Tests of the outside and of the command, by their public calls alone. Nothing stands on this crate.
+#![tactic(auto)]
+
+#[cfg(test)]
+mod outside;

@@ -1,0 +1,28 @@
+#!/usr/bin/env python3
+"""Counts the clauses of the crates that are wider than 100 columns with their line breaks taken out, and names them."""
+import pathlib
+import re
+import sys
+
+TOP = pathlib.Path(__file__).resolve().parent.parent if len(sys.argv) < 2 else pathlib.Path(sys.argv[1])
+MOST = 100
+
+
+def clauses(text):
+    for start in re.finditer(r"^[ \t]*(?:requires|ensures)\*?\b[^{\n]*\{", text, re.M):
+        depth, at = 1, start.end()
+        while depth and at < len(text):
+            depth += {"{": 1, "}": -1}.get(text[at], 0)
+            at += 1
+        yield text.count("\n", 0, start.start()) + 1, " ".join(text[start.start() : at].split())
+
+
+wide = [
+    (path.relative_to(TOP), line, clause)
+    for path in sorted((TOP / "crates").glob("*/src/**/*.rt"))
+    for line, clause in clauses(path.read_text())
+    if len(clause) > MOST
+]
+for path, line, clause in wide:
+    print(f"{path}:{line}: {len(clause)} columns: {clause}")
+print(f"{len(wide)} clauses above {MOST} columns")
