@@ -1,18 +1,12 @@
-//! The program `conform`: `run` does what the words ask for, over a desk of files, an output and an error output; `main`
-//! gives it the current folder and the standard streams. It stands on all other layers, and nothing stands on it.
+//! The program `conform`: it gives `run` the words of the command line, the current folder and the standard streams, and ends
+//! with its status. Nothing stands on it.
 #![tactic(auto)]
 
-mod ending;
-mod entry;
-mod laws;
-mod manifest;
-mod report;
-mod run;
-#[cfg(test)]
-mod tests;
-mod words;
+ghost use Rattle.std.specs.Prelude.{◌≡◌, drop};
+ghost use Rattle.std.specs.declared.io.ErrorKind.TheVariants.{OutOfMemory};
 
 use cs_io::{FolderDesk, StreamSink};
+use cs_run::run;
 use std::process::ExitCode;
 use std::rt::Env;
 use std::{env, io};
@@ -29,17 +23,36 @@ fn main(rt: HostRuntime) -> ExitCode {
             let mut desk = FolderDesk::new(&rt);
             let mut out = StreamSink::new(rt.stdout());
             let mut err = StreamSink::new(rt.stderr());
-            run::run(alloc, &words, &mut desk, &mut out, &mut err)
+            run(alloc, &words, &mut desk, &mut out, &mut err)
         }
-        Err(error) if error.kind() == io::ErrorKind::OutOfMemory => NO_MEMORY,
-        Err(_) => NO_WORDS,
+        Err(error) => status_without_words(error.kind()),
     };
     ExitCode::from(status)
 }
 
 // The program's arguments without its own name.
 fn arguments(rt: &(impl Env + AllocGlobal)) -> io::Result<Vec<String>> {
-    let mut words = env::args(rt)?;
-    let _ = words.next();
-    Ok(words.collect(rt.alloc())?)
+    let words = env::args(rt)?.collect(rt.alloc())?;
+    Ok(without_first(words))
+}
+
+fn without_first(words: Vec<String>) -> Vec<String>
+    ensures { result.items ≡ drop 1 words.items }
+{
+    let mut words = words;
+    if !words.is_empty() {
+        let _ = words.remove(0);
+    }
+    words
+}
+
+fn status_without_words(kind: io::ErrorKind) -> u8
+    ensures memory { kind ≡ OutOfMemory → result ≡ 5 }
+    ensures other { ¬ (kind ≡ OutOfMemory) → result ≡ 7 }
+{
+    if kind == io::ErrorKind::OutOfMemory {
+        NO_MEMORY
+    } else {
+        NO_WORDS
+    }
 }

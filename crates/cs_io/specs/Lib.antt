@@ -5,3 +5,4 @@ pub mod MemoryDesk
 pub mod MemorySink
 pub mod Sink
 pub mod StreamSink
+pub mod Uses

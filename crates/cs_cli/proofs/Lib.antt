@@ -1,6 +1,0 @@
-pub mod Lines
-pub mod Verdicts
-pub mod Entries
-pub mod Files
-pub mod Endings
-pub mod OneManifest

@@ -1,4 +1,0 @@
-pub mod Entry
-pub mod Manifest
-pub mod Words
-pub mod Ending

@@ -1,0 +1,204 @@
+use cs_io::{MemoryDesk, MemorySink};
+use cs_run::run;
+use std::alloc::{AllocError, Global};
+use std::test::Fail;
+
+const SUMS: &[u8] = b"%token NUM\n%%\ne : e '+' t | t ;\nt : NUM | '(' e ')' ;\n";
+
+const SUMS_RULES: &[u8] = b"conform 1 rules
+token 1 NUM
+token 2 '+'
+token 3 '('
+token 4 ')'
+rule 1 e : e '+' t
+rule 2 e : t
+rule 3 t : NUM
+rule 4 t : '(' e ')'
+goal 1 rule 1 size 7
+  derive 1 2 3 3
+  tokens NUM '+' NUM
+goal 2 rule 2 size 3
+  derive 2 3
+  tokens NUM
+goal 3 rule 3 size 3
+  derive 2 3
+  tokens NUM
+goal 4 rule 4 size 7
+  derive 2 4 2 3
+  tokens '(' NUM ')'
+end goals 4 feasible 4 infeasible 0 large 0 negatives 0
+";
+
+// A fresh desk with the file `g1.y`.
+fn desk(alloc: Global, file: &[u8], failing: &[u32]) -> Result<MemoryDesk, AllocError> {
+    let mut files = Vec::new(alloc);
+    files.push((String::from_str(alloc, "g1.y")?, file.to_vec(alloc)?))?;
+    MemoryDesk::new(files, failing.to_vec(alloc)?)
+}
+
+fn words(alloc: Global, texts: &[&str]) -> Result<Vec<String>, AllocError> {
+    let mut words = Vec::new(alloc);
+    for text in texts {
+        words.push(String::from_str(alloc, text)?)?;
+    }
+    Ok(words)
+}
+
+#[test]
+fn rules_of_files(rt: HostRuntime) -> Result<(), Fail> {
+    let alloc = rt.alloc();
+    let words = words(alloc, &["rules", "g1.y"])?;
+    let rows: [(&[u8], u8, &[u8], &[u8]); 8] = [
+        (SUMS, 0, SUMS_RULES, b""),
+        (
+            b"%%\na : a | 'x' ;\n",
+            0,
+            b"conform 1 rules\ntoken 1 'x'\nrule 1 a : a\nrule 2 a : 'x'\ngoal 1 rule 1 size 3\n  derive 1 2\n  tokens 'x'\ngoal 2 rule 2 size 2\n  derive 2\n  tokens 'x'\nend goals 2 feasible 2 infeasible 0 large 0 negatives 0\n",
+            b"",
+        ),
+        (
+            b"%%\ns : | t 'x' ;\nt : t 'y' ;\nu : 'z' ;\n",
+            0,
+            b"conform 1 rules\ntoken 1 'x'\ntoken 2 'y'\ntoken 3 'z'\nrule 1 s :\nrule 2 s : t 'x'\nrule 3 t : t 'y'\nrule 4 u : 'z'\ngoal 1 rule 1 size 1\n  derive 1\n  tokens\ngoal 2 rule 2 infeasible\ngoal 3 rule 3 infeasible\ngoal 4 rule 4 infeasible\nend goals 4 feasible 1 infeasible 3 large 0 negatives 0\n",
+            b"",
+        ),
+        (b"", 1, b"", b"conform: yacc: Syntax at 0\n"),
+        (b"%%\ns : t ;", 1, b"", b"conform: yacc: Undefined at 7\n"),
+        (
+            b"%%\ns : { x } ;",
+            0,
+            b"conform 1 rules\nrule 1 s :\ngoal 1 rule 1 size 1\n  derive 1\n  tokens\nend goals 1 feasible 1 infeasible 0 large 0 negatives 0\n",
+            b"",
+        ),
+        (b"\0\xff%%", 1, b"", b"conform: yacc: BadItem at 0\n"),
+        (
+            b"%token NUM\n%%\ne : e '+' t | t ; t : NUM { x",
+            1,
+            b"",
+            b"conform: yacc: Unended at 40\n",
+        ),
+    ];
+    for (file, status, written, said) in rows {
+        let mut desk = desk(alloc, file, &[])?;
+        let mut out = MemorySink::new(alloc, 4096, 7, Vec::new(alloc))?;
+        let mut err = MemorySink::new(alloc, 99, 99, Vec::new(alloc))?;
+        assert_eq!(rt; run(alloc, &words, &mut desk, &mut out, &mut err), status);
+        assert_eq!(rt; out.written(), written);
+        assert_eq!(rt; err.written(), said);
+    }
+    Ok(())
+}
+
+#[test]
+fn bad_words_and_missing_files(rt: HostRuntime) -> Result<(), Fail> {
+    let alloc = rt.alloc();
+    let rows: [(&[&str], u8, &[u8]); 8] = [
+        (&[], 2, b"conform: usage: word 0\n"),
+        (&["suite", "g1.y", "l1.l"], 2, b"conform: usage: word 0\n"),
+        (&["rules"], 2, b"conform: usage: word 1\n"),
+        (&["rules", ""], 2, b"conform: usage: word 1\n"),
+        (&["rules", "-g"], 2, b"conform: usage: word 1\n"),
+        (&["rules", "g1.y", "g1.y"], 2, b"conform: usage: word 2\n"),
+        (&["--help"], 2, b"conform: usage: word 0\n"),
+        (&["rules", "g2.y"], 3, b"conform: read fault: yacc\n"),
+    ];
+    for (texts, status, said) in rows {
+        let words = words(alloc, texts)?;
+        let mut desk = desk(alloc, SUMS, &[])?;
+        let mut out = MemorySink::new(alloc, 4096, 7, Vec::new(alloc))?;
+        let mut err = MemorySink::new(alloc, 99, 99, Vec::new(alloc))?;
+        assert_eq!(rt; run(alloc, &words, &mut desk, &mut out, &mut err), status);
+        assert_eq!(rt; out.written(), b"".as_slice());
+        assert_eq!(rt; err.written(), said);
+    }
+    Ok(())
+}
+
+#[test]
+fn the_read_fails_and_the_line_is_cut(rt: HostRuntime) -> Result<(), Fail> {
+    let alloc = rt.alloc();
+    let words = words(alloc, &["rules", "g1.y"])?;
+    let mut desk = desk(alloc, SUMS, &[0])?;
+    let mut out = MemorySink::new(alloc, 4096, 7, Vec::new(alloc))?;
+    let mut err = MemorySink::new(alloc, 7, 4, Vec::new(alloc))?;
+    assert_eq!(rt; run(alloc, &words, &mut desk, &mut out, &mut err), 3);
+    assert_eq!(rt; out.written(), b"".as_slice());
+    assert_eq!(rt; err.written(), b"conform".as_slice());
+    Ok(())
+}
+
+#[test]
+fn the_output_is_full_at_each_byte(rt: HostRuntime) -> Result<(), Fail> {
+    let alloc = rt.alloc();
+    let words = words(alloc, &["rules", "g1.y"])?;
+    for capacity in 0..SUMS_RULES.len() {
+        let mut desk = desk(alloc, SUMS, &[])?;
+        let mut out = MemorySink::new(alloc, capacity, 3, Vec::new(alloc))?;
+        let mut err = MemorySink::new(alloc, 99, 99, Vec::new(alloc))?;
+        assert_eq!(rt; run(alloc, &words, &mut desk, &mut out, &mut err), 4);
+        assert_eq!(rt; out.written(), &SUMS_RULES[..capacity]);
+        assert_eq!(rt; err.written(), b"conform: write fault\n".as_slice());
+    }
+    Ok(())
+}
+
+#[test]
+fn a_write_fails_in_mid_stream(rt: HostRuntime) -> Result<(), Fail> {
+    let alloc = rt.alloc();
+    let words = words(alloc, &["rules", "g1.y"])?;
+    let mut desk = desk(alloc, SUMS, &[])?;
+    let mut out = MemorySink::new(alloc, 4096, 5, [2].to_vec(alloc)?)?;
+    let mut err = MemorySink::new(alloc, 99, 99, Vec::new(alloc))?;
+    assert_eq!(rt; run(alloc, &words, &mut desk, &mut out, &mut err), 4);
+    assert_eq!(rt; out.written(), b"conform 1 ".as_slice());
+    Ok(())
+}
+
+#[test]
+fn files_about_the_most_bytes(rt: HostRuntime) -> Result<(), Fail> {
+    let alloc = rt.alloc();
+    let words = words(alloc, &["rules", "g1.y"])?;
+    let rows: [(usize, &[u8]); 2] = [
+        (1_048_576, b"conform: yacc: Syntax at 1048576\n"),
+        (1_048_577, b"conform: yacc: Length above 1048576\n"),
+    ];
+    for (length, said) in rows {
+        let file = vec![in alloc; b' '; length]?;
+        let mut desk = desk(alloc, &file, &[])?;
+        let mut out = MemorySink::new(alloc, 9, 9, Vec::new(alloc))?;
+        let mut err = MemorySink::new(alloc, 99, 99, Vec::new(alloc))?;
+        assert_eq!(rt; run(alloc, &words, &mut desk, &mut out, &mut err), 1);
+        assert_eq!(rt; out.written(), b"".as_slice());
+        assert_eq!(rt; err.written(), said);
+    }
+    Ok(())
+}
+
+// `x12 : x11 x11 ;` and so on down to `x0 : 'x' ;`: the least tree has 12,287 nodes.
+fn doubling(alloc: Global) -> Result<String, AllocError> {
+    let mut file = String::from_str(alloc, "%%\n")?;
+    for level in 0..12u32 {
+        let left = 12 - level;
+        let right = 11 - level;
+        write!(file, "x{left} : x{right} x{right} ;\n")?;
+    }
+    file.push_str("x0 : 'x' ;\n")?;
+    Ok(file)
+}
+
+#[test]
+fn least_trees_above_the_limit_are_large(rt: HostRuntime) -> Result<(), Fail> {
+    let alloc = rt.alloc();
+    let words = words(alloc, &["rules", "g1.y"])?;
+    let file = doubling(alloc)?;
+    let mut desk = desk(alloc, file.as_bytes(), &[])?;
+    let mut out = MemorySink::new(alloc, 4096, 99, Vec::new(alloc))?;
+    let mut err = MemorySink::new(alloc, 99, 99, Vec::new(alloc))?;
+    assert_eq!(rt; run(alloc, &words, &mut desk, &mut out, &mut err), 0);
+    assert!(rt;
+        out.written().ends_with(
+            b"goal 13 rule 13 large\nend goals 13 feasible 0 infeasible 0 large 13 negatives 0\n"
+        )
+    );
+    Ok(())
+}
