@@ -4,7 +4,7 @@ use Rattle.std.specs.Prelude.{slice_get}
 use Rattle.std.proofs.lemmas.Bool.{false≢true, eqb-true}
 use Rattle.std.proofs.lemmas.List.{length-drop, drop-drop, drop_more}
 use Rattle.std.proofs.lemmas.Bool.Decides.{nat_tests}
-use Rattle.cs_bytes.specs.Places.{begins_with, begins_with_two, BeginsWith}
+use Rattle.cs_bytes.specs.Places.{begins_with, begins_with_two, has_at, BeginsWith}
 
 pub false-eqb : (a b : ℕ) → a ≢ b → eqb a b ≡ false
 false-eqb a b ne = grind (arith, nat_tests)
@@ -64,3 +64,14 @@ get_or-got (y ∷ xs) (suc i) x e = get_or-got xs i x e
 
 pub front_got : (xs : List ℕ) (i x : ℕ) → slice_get xs i ≡ Some x → drop i xs ≡ x ∷ drop (i + 1) xs
 front_got xs i x e = drop_more xs i 0 (got_within xs i x e) ∙ ap (λ y. y ∷ drop (i + 1) xs) (get_or-got xs i x e)
+
+pub has_at-got : (xs : List ℕ) (i x : ℕ) → slice_get xs i ≡ Some x → has_at xs i x ≡ true
+has_at-got [] i x e = absurd cc
+has_at-got (y ∷ xs) zero x e = let is : y ≡ x = cc in eq-eqb y x is
+has_at-got (y ∷ xs) (suc i) x e = has_at-got xs i x e
+
+pub front_has : (xs : List ℕ) (i x : ℕ) → has_at xs i x ≡ true → drop i xs ≡ x ∷ drop (i + 1) xs
+front_has [] zero x e = absurd (false≢true e)
+front_has [] (suc i) x e = absurd (false≢true e)
+front_has (y ∷ xs) zero x e = ap (λ z. z ∷ xs) (eqb-true y x e)
+front_has (y ∷ xs) (suc i) x e = let next : suc i + 1 ≡ suc (i + 1) = omega arith in rw next (front_has xs i x e)

@@ -2,11 +2,11 @@
 use Rattle.std.proofs.Common.{◌≡◌, ◌≢◌, ℕ, zero, suc, ◌+◌, ◌-◌, ◌<◌, ◌≤◌, true, false, List, [], ◌∷◌, length, get_or, take, drop, Some, None, refl, sym, ap, subst, ◌∙◌, ◌⊎◌, inl, inr, arith, eq-eqb}
 use Rattle.std.proofs.lemmas.Bool.{false≢true}
 use Rattle.std.proofs.lemmas.List.{drop-drop, drop_more, drop_all, length-drop}
-use Rattle.cs_ctext.specs.Bytes.{is_brace}
+use Rattle.cs_ctext.specs.Marks.{is_brace}
 use Rattle.cs_ctext.specs.Blocks.{IsPart, comment, quoted, other, IsBlockRest, closing, part, nested, IsBlock}
 use Rattle.cs_ctext.specs.Quotes.{IsQuoted}
 use Rattle.cs_ctext.specs.Scans.{part_size}
-use Rattle.cs_ctext.proofs.Fronts.{false-eqb}
+use Rattle.cs_bytes.proofs.Fronts.{false-eqb}
 use Rattle.cs_ctext.proofs.PartSizes.{part_size-part, IsPart-from_size, part-not_special}
 
 -- what the rest of a block is, by what stands in front

@@ -1,7 +1,8 @@
 pub mod Ahead
-pub mod Digits
+pub mod FewDigits
 pub mod Fronts
 pub mod CommentSizes
+pub mod OpenMarks
 pub mod QuotedSizes
 pub mod PartSizes
 pub mod BlockSteps

@@ -6,9 +6,12 @@ use Rattle.std.proofs.lemmas.Bool.{false≢true, eqb-true}
 use Rattle.std.proofs.lemmas.Bool.Decides.{nat_tests}
 use Rattle.std.proofs.lemmas.List.{length-take-le, take_at, drop_at}
 use Rattle.std.proofs.lemmas.List.Sums.{prefix_len-le-length}
-use Rattle.cs_ctext.specs.Literals.{is_octal_digit, is_hexadecimal_digit, number_of, escaped_byte, IsCharacter, plain, named, octal, hexadecimal, IsLiteral}
-use Rattle.cs_ctext.specs.Scans.{begins_with, digits_of, behind, single, escape_of, character_of}
-use Rattle.cs_ctext.proofs.Fronts.{false-eqb, and_true, front_got}
+use Rattle.cs_bytes.specs.Classes.{is_octal_digit, is_hexadecimal_digit}
+use Rattle.cs_bytes.specs.Digits.{number_of}
+use Rattle.cs_ctext.specs.Literals.{escaped_byte, IsCharacter, plain, named, octal, hexadecimal, IsLiteral}
+use Rattle.cs_bytes.specs.Places.{begins_with}
+use Rattle.cs_ctext.specs.Scans.{digits_of, behind, single, escape_of, character_of}
+use Rattle.cs_bytes.proofs.Fronts.{false-eqb, and_true, front_got}
 
 -- ---- pairs
 

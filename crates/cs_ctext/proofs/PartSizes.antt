@@ -1,10 +1,10 @@
 -- The size that is found is that of the part in front.
-use Rattle.std.proofs.Common.{◌≡◌, ℕ, Bool, true, false, cond, eqb, ◌||◌, List, [], ◌∷◌, Option, Some, None, unwrap_or, refl, sym, ◌∙◌, inl, inr}
+use Rattle.std.proofs.Common.{◌≡◌, ℕ, ◌<◌, length, arith, Bool, true, false, cond, eqb, ◌||◌, List, [], ◌∷◌, Option, Some, None, unwrap_or, refl, sym, ◌∙◌, inl, inr}
 use Rattle.std.proofs.lemmas.Bool.{false≢true, eqb-true}
-use Rattle.cs_ctext.specs.Bytes.{is_quote}
+use Rattle.cs_ctext.specs.Marks.{is_quote}
 use Rattle.cs_ctext.specs.Comments.{IsComment, OpensComment, IsOpenComment}
 use Rattle.cs_ctext.specs.Quotes.{IsQuoted}
-use Rattle.cs_ctext.specs.Blocks.{IsPart, comment, quoted, other}
+use Rattle.cs_ctext.specs.Blocks.{IsPart, comment, quoted, other, BeginsPart}
 use Rattle.cs_ctext.specs.Scans.{opens_comment, comment_size, quoted_size, part_size}
 use Rattle.cs_ctext.proofs.Fronts.{OpensComment-from_test, test_from_OpensComment}
 use Rattle.cs_ctext.proofs.CommentSizes.{comment_size-comment, IsComment-from_size, no_comment_from_size}
@@ -53,6 +53,10 @@ IsPart-from_size special b text n plain e = by_test (opens_comment (b ∷ text))
     by_test : (t : Bool) → opens_comment (b ∷ text) ≡ t → cond t (comment_size (b ∷ text)) (Some (unwrap_or (quoted_size (b ∷ text)) 1)) ≡ Some n → IsPart special (b ∷ text) n
     by_test true p e = comment (IsComment-from_size (b ∷ text) n e)
     by_test false p e = by_found (quoted_size (b ∷ text)) refl (λ h. false≢true (sym p ∙ test_from_OpensComment (b ∷ text) h)) e
+
+pub BeginsPart-from_size : (text : List ℕ) (n : ℕ) → 0 < length text → part_size text ≡ Some n → BeginsPart text n
+BeginsPart-from_size [] n some e = absurd (omega arith)
+BeginsPart-from_size (b ∷ text) n some e = λ special plain. IsPart-from_size special b text n plain e
 
 pub IsOpenComment-from_size : (text : List ℕ) → part_size text ≡ None → IsOpenComment text
 IsOpenComment-from_size text e = by_test (opens_comment text) refl e

@@ -2,10 +2,11 @@
 use Rattle.std.proofs.Common.{◌≡◌, ◌≢◌, ℕ, suc, Bool, true, false, cond, eqb, List, [], ◌∷◌, Some, None, option_map, refl, sym, ap, ◌∙◌, arith, IsTrue, eq-eqb}
 use Rattle.std.proofs.lemmas.Bool.{false≢true, eqb-true}
 use Rattle.std.proofs.lemmas.Bool.Decides.{nat_tests}
-use Rattle.cs_ctext.specs.Bytes.{is_quote}
+use Rattle.cs_ctext.specs.Marks.{is_quote}
 use Rattle.cs_ctext.specs.Quotes.{IsQuotedRest, closing, plain, escaped, IsQuoted}
 use Rattle.cs_ctext.specs.Scans.{quoted_rest, quoted_size}
-use Rattle.cs_ctext.proofs.Fronts.{some_from_map, false-eqb}
+use Rattle.cs_bytes.proofs.Fronts.{false-eqb}
+use Rattle.cs_ctext.proofs.Fronts.{some_from_map}
 
 pub quoted_rest-rest : (mark : ℕ) → mark ≢ 92 → {text : List ℕ} {n : ℕ} → IsQuotedRest mark text n → quoted_rest mark false text ≡ Some n
 quoted_rest-rest mark ne closing = rw (eq-eqb mark mark refl) refl

@@ -1,16 +1,19 @@
 -- The words that are found are the text's.
 use Rattle.std.proofs.Common.{◌≡◌, ℕ, zero, suc, ◌+◌, ◌-◌, ◌<◌, ◌≤◌, Bool, true, false, cond, ◌||◌, List, [], ◌∷◌, ◌++◌, length, get_or, drop, Option, Some, None, unwrap_or, refl, sym, ap, subst, ◌∙◌, inl, inr, arith}
+use Rattle.std.specs.Prelude.{IsTrue}
 use Rattle.std.specs.List.{prefix_len}
 use Rattle.std.proofs.lemmas.Bool.{false≢true}
 use Rattle.std.proofs.lemmas.Bool.Decides.{nat_tests}
 use Rattle.std.proofs.lemmas.List.{drop_more, drop_all, drop-drop}
-use Rattle.cs_ctext.specs.Bytes.{is_digit, is_word_byte, begins_word}
+use Rattle.cs_bytes.specs.Classes.{is_digit, is_word_byte, begins_word}
 use Rattle.cs_ctext.specs.Comments.{IsOpenComment}
 use Rattle.cs_ctext.specs.Quotes.{IsQuoted}
 use Rattle.cs_ctext.specs.Blocks.{IsPart, comment, quoted, other}
-use Rattle.cs_ctext.specs.Words.{First, IsRun, word_at, HasWords, nothing, word, number, part, open_comment}
+use Rattle.cs_bytes.specs.Places.{front, IsRun}
+use Rattle.cs_ctext.specs.Words.{word_at, HasWords, nothing, word, number, part, open_comment}
 use Rattle.cs_ctext.specs.Scans.{part_size, piece_size, word_here, words_behind, words_of}
-use Rattle.cs_ctext.specs.declared.run.Word.{Word}
+use Rattle.cs_ctext.specs.declared.word_iter.Word.{Word}
+use Rattle.cs_bytes.proofs.Runs.{IsRun-prefix_len, run_is}
 use Rattle.cs_ctext.proofs.PartSizes.{part_size-part, IsPart-from_size, IsOpenComment-from_size, part_size-open, part-not_special, opens-slash}
 
 -- ---- one step
@@ -86,20 +89,22 @@ word_stands at b size e = ap (λ t. cond t (word_at at size ∷ []) []) e
 
 -- ---- the words of a text are those that are found
 
-word_more : (at n : ℕ) (text : List ℕ) (words : List Word) → First begins_word text → IsRun text n → words ≡ words_of (at + n) (drop n text) → word_at at n ∷ words ≡ words_of at text
-word_more at n [] words first run rest = absurd first
+word_more : (at n : ℕ) (text : List ℕ) (words : List Word) → IsTrue (front begins_word text) → IsRun is_word_byte text n → words ≡ words_of (at + n) (drop n text) → word_at at n ∷ words ≡ words_of at text
+word_more at n [] words first run rest = absurd (false≢true first)
 word_more at n (b ∷ text) words first run rest =
     let byte = word_byte_from_begin b first in
-    let size : piece_size (b ∷ text) ≡ n = run_piece b text byte ∙ sym run in
-    let some : 0 < n = omega (arith, run_some b text byte) in
+    let long = run_is is_word_byte (b ∷ text) n run in
+    let size : piece_size (b ∷ text) ≡ n = run_piece b text byte ∙ sym long in
+    let some : 0 < n = omega (arith, long, run_some b text byte) in
     ap (λ ws. word_at at n ∷ ws) rest ∙ sym (words_of-more at b text n size some ∙ ap (λ ws. ws ++ words_of (at + n) (drop n (b ∷ text))) (word_stands at b n first))
 
-number_more : (at n : ℕ) (text : List ℕ) (words : List Word) → First is_digit text → IsRun text n → words ≡ words_of (at + n) (drop n text) → words ≡ words_of at text
-number_more at n [] words first run rest = absurd first
+number_more : (at n : ℕ) (text : List ℕ) (words : List Word) → IsTrue (front is_digit text) → IsRun is_word_byte text n → words ≡ words_of (at + n) (drop n text) → words ≡ words_of at text
+number_more at n [] words first run rest = absurd (false≢true first)
 number_more at n (b ∷ text) words first run rest =
     let byte = word_byte_from_digit b first in
-    let size : piece_size (b ∷ text) ≡ n = run_piece b text byte ∙ sym run in
-    let some : 0 < n = omega (arith, run_some b text byte) in
+    let long = run_is is_word_byte (b ∷ text) n run in
+    let size : piece_size (b ∷ text) ≡ n = run_piece b text byte ∙ sym long in
+    let some : 0 < n = omega (arith, long, run_some b text byte) in
     rest ∙ sym (words_of-more at b text n size some ∙ ap (λ ws. ws ++ words_of (at + n) (drop n (b ∷ text))) (nothing_here at b n (digit_begins_none b first)))
 
 part_more : (at n : ℕ) (text : List ℕ) (words : List Word) → IsPart is_word_byte text n → words ≡ words_of (at + n) (drop n text) → words ≡ words_of at text
@@ -131,9 +136,12 @@ words_of-words (open_comment {at = at} {text = text} h) = open_more at text h
 step : (at b size : ℕ) (text : List ℕ) (words : List Word) → piece_size (b ∷ text) ≡ size → HasWords (at + size) (drop size (b ∷ text)) words → HasWords at (b ∷ text) (word_here at b size ++ words)
 step at b size text words e rest = by_byte (is_word_byte b) refl
   where
+    run_of : size ≡ prefix_len is_word_byte (b ∷ text) → IsRun is_word_byte (b ∷ text) size
+    run_of run = subst (λ n. IsRun is_word_byte (b ∷ text) n) (sym run) (IsRun-prefix_len is_word_byte (b ∷ text))
+
     by_begin : (t : Bool) → begins_word b ≡ t → is_word_byte b ≡ true → size ≡ prefix_len is_word_byte (b ∷ text) → HasWords at (b ∷ text) (cond t (word_at at size ∷ []) [] ++ words)
-    by_begin true p byte run = word p run rest
-    by_begin false p byte run = let digit : is_digit b ≡ true = sym (ap (λ t. t || is_digit b) p) ∙ byte in number digit run rest
+    by_begin true p byte run = word p (run_of run) rest
+    by_begin false p byte run = let digit : is_digit b ≡ true = sym (ap (λ t. t || is_digit b) p) ∙ byte in number digit (run_of run) rest
 
     by_part : (found : Option ℕ) → part_size (b ∷ text) ≡ found → is_word_byte b ≡ false → HasWords at (b ∷ text) words
     by_part None p byte =

@@ -1,33 +1,29 @@
--- The sizes of constructs and the words of a text as they are found, byte by byte.
+-- Working words of the proofs: the sizes of constructs and the words of a text as they are found, byte by byte.
 -- What they mean is in the other files; the proofs show that both agree.
 use Rattle.std.specs.Prelude.{ℕ, zero, suc, ◌+◌, ◌-◌, Bool, false, ◌==◌, ◌&&◌, ◌||◌, not, if◌then◌else◌, List, [], ◌∷◌, ◌++◌, length, take, drop, min, Option, Some, None, option_map, unwrap_or}
-use Rattle.std.specs.List.{position_or_len, prefix_len}
-use Rattle.cs_ctext.specs.Bytes.{is_quote, is_word_byte, begins_word}
-use Rattle.cs_ctext.specs.Literals.{is_octal_digit, is_hexadecimal_digit, number_of, escaped_byte}
+use Rattle.std.specs.List.{prefix_len}
+use Rattle.cs_bytes.specs.Names.{newline, quote, star, slash, backslash, letter_x}
+use Rattle.cs_bytes.specs.Classes.{is_octal_digit, is_hexadecimal_digit, is_word_byte, begins_word}
+use Rattle.cs_bytes.specs.Places.{begins_with_two, line_len}
+use Rattle.cs_bytes.specs.Digits.{number_of}
+use Rattle.cs_ctext.specs.Marks.{is_quote}
+use Rattle.cs_ctext.specs.Literals.{escaped_byte}
 use Rattle.cs_ctext.specs.Words.{word_at}
-use Rattle.cs_ctext.specs.declared.run.Word.{Word}
-
--- the text begins with the byte
-abbrev pub begins_with : ℕ → List ℕ → Bool
-begins_with b [] = false
-begins_with b (c ∷ text) = c == b
-
-abbrev pub begins_with_two : ℕ → ℕ → List ℕ → Bool
-begins_with_two a b text = begins_with a text && begins_with b (drop 1 text)
+use Rattle.cs_ctext.specs.declared.word_iter.Word.{Word}
 
 abbrev pub opens_comment : List ℕ → Bool
-opens_comment text = begins_with_two 47 42 text || begins_with_two 47 47 text
+opens_comment text = begins_with_two slash star text || begins_with_two slash slash text
 
 -- through the first `*/`
 abbrev pub closing_size : List ℕ → Option ℕ
 closing_size [] = None
-closing_size (b ∷ text) = if begins_with_two 42 47 (b ∷ text) then Some 2 else option_map suc (closing_size text)
+closing_size (b ∷ text) = if begins_with_two star slash (b ∷ text) then Some 2 else option_map suc (closing_size text)
 
 -- of the comment in front, where one is opened and closed
 abbrev pub comment_size : List ℕ → Option ℕ
 comment_size text =
-    if begins_with_two 47 47 text then Some (position_or_len (λ b. b == 10) (drop 2 text) + 2)
-    else if begins_with_two 47 42 text then option_map (λ n. n + 2) (closing_size (drop 2 text))
+    if begins_with_two slash slash text then Some (line_len (drop 2 text) + 2)
+    else if begins_with_two slash star text then option_map (λ n. n + 2) (closing_size (drop 2 text))
     else None
 
 -- through the closing mark; whether the byte before was a backslash that takes the first one along
@@ -35,8 +31,8 @@ abbrev pub quoted_rest : ℕ → Bool → List ℕ → Option ℕ
 quoted_rest mark is_taken [] = None
 quoted_rest mark is_taken (b ∷ text) =
     if not is_taken && (b == mark) then Some 1
-    else if not is_taken && (b == 10) then None
-    else option_map suc (quoted_rest mark (not is_taken && (b == 92)) text)
+    else if not is_taken && (b == newline) then None
+    else option_map suc (quoted_rest mark (not is_taken && (b == backslash)) text)
 
 -- of the closed quoted construct in front, where there is one
 abbrev pub quoted_size : List ℕ → Option ℕ
@@ -85,7 +81,7 @@ single found = option_map (λ v. (v, 1)) found
 abbrev pub escape_of : List ℕ → Option (ℕ × ℕ)
 escape_of [] = None
 escape_of (b ∷ text) =
-    if b == 120 then behind 1 (digits_of is_hexadecimal_digit 16 2 text)
+    if b == letter_x then behind 1 (digits_of is_hexadecimal_digit 16 2 text)
     else if is_octal_digit b then digits_of is_octal_digit 8 3 (b ∷ text)
     else single (escaped_byte b)
 
@@ -93,6 +89,6 @@ escape_of (b ∷ text) =
 abbrev pub character_of : List ℕ → Option (ℕ × ℕ)
 character_of [] = None
 character_of (b ∷ text) =
-    if (b == 39) || (b == 10) then None
-    else if b == 92 then behind 1 (escape_of text)
+    if (b == quote) || (b == newline) then None
+    else if b == backslash then behind 1 (escape_of text)
     else Some (b, 1)

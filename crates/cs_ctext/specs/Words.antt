@@ -1,19 +1,10 @@
--- The C words of a text.
-use Rattle.std.specs.Prelude.{◌≡◌, ℕ, ◌+◌, Bool, List, [], ◌∷◌, drop, IsTrue}
-use Rattle.std.specs.List.{prefix_len}
-use Rattle.cs_ctext.specs.Bytes.{is_digit, is_word_byte, begins_word}
+-- The C words of a text (ISO C, identifiers and preprocessing numbers).
+use Rattle.std.specs.Prelude.{ℕ, ◌+◌, List, [], ◌∷◌, drop, IsTrue}
+use Rattle.cs_bytes.specs.Classes.{is_digit, is_word_byte, begins_word}
+use Rattle.cs_bytes.specs.Places.{front, IsRun}
 use Rattle.cs_ctext.specs.Comments.{IsOpenComment}
 use Rattle.cs_ctext.specs.Blocks.{IsPart}
-use Rattle.cs_ctext.specs.declared.run.Word.{Word}
-
--- the first byte of the text passes
-abbrev pub First : (ℕ → Bool) → List ℕ → Type 0
-First p [] = ⊥
-First p (b ∷ text) = IsTrue (p b)
-
--- the longest run of letters, digits and `_` in front of the text has this size
-abbrev pub IsRun : List ℕ → ℕ → Type 0
-IsRun text n = n ≡ prefix_len is_word_byte text
+use Rattle.cs_ctext.specs.declared.word_iter.Word.{Word}
 
 abbrev pub word_at : ℕ → ℕ → Word
 word_at at n = record { from = at; to = at + n }
@@ -22,7 +13,7 @@ word_at at n = record { from = at; to = at + n }
 -- A run that begins with a digit is no word. A comment that is open takes the rest of the text.
 pub data HasWords : ℕ → List ℕ → List Word → Type 0 where
   nothing : {at : ℕ} → HasWords at [] []
-  word : {at n : ℕ} {text : List ℕ} {words : List Word} → First begins_word text → IsRun text n → HasWords (at + n) (drop n text) words → HasWords at text (word_at at n ∷ words)
-  number : {at n : ℕ} {text : List ℕ} {words : List Word} → First is_digit text → IsRun text n → HasWords (at + n) (drop n text) words → HasWords at text words
+  word : {at n : ℕ} {text : List ℕ} {words : List Word} → IsTrue (front begins_word text) → IsRun is_word_byte text n → HasWords (at + n) (drop n text) words → HasWords at text (word_at at n ∷ words)
+  number : {at n : ℕ} {text : List ℕ} {words : List Word} → IsTrue (front is_digit text) → IsRun is_word_byte text n → HasWords (at + n) (drop n text) words → HasWords at text words
   part : {at n : ℕ} {text : List ℕ} {words : List Word} → IsPart is_word_byte text n → HasWords (at + n) (drop n text) words → HasWords at text words
   open_comment : {at : ℕ} {text : List ℕ} → IsOpenComment text → HasWords at text []

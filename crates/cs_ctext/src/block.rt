@@ -1,12 +1,10 @@
-//! Blocks, and the parts that stand in them.
+//! Blocks.
 
-ghost use Rattle.std.specs.Prelude.{◌≡◌, ℕ, ◌-◌, ◌<◌, ◌≤◌, length, drop, slice_get, IfSome, IfNone};
+ghost use Rattle.std.specs.Prelude.{◌≡◌, ℕ, ◌-◌, ◌<◌, ◌≤◌, Some, length, drop, slice_get, IfSome, IfNone};
+ghost use Rattle.cs_bytes.specs.Names.{opening_brace};
 ghost use Rattle.cs_ctext.specs.Blocks.{IsBlock};
-ghost use Rattle.cs_ctext.specs.Scans as scans;
 
-use crate::bytes::from_offset;
-use crate::comment::{comment_size, opens};
-use crate::quoted::quoted_size;
+use crate::c_text::CText;
 
 /// Skips the block that begins at `at`, and answers the offset behind the matching `}`.
 ///
@@ -14,39 +12,41 @@ use crate::quoted::quoted_size;
 /// line is a plain byte, and so is a `/` that opens no comment. `None` comes exactly where no `}` matches, or a comment
 /// inside is left open.
 pub fn skip_block(bytes: &[u8], at: usize) -> Option<usize>
-    requires { slice_get bytes.now at ≡ Some 123 }
+    requires { slice_get bytes.now at ≡ Some opening_brace }
     ensures closed { IfSome result (λ end. IsBlock (drop at bytes.now) (end - at)) }
     ensures within { IfSome result (λ end. (at < end) × (end ≤ length bytes.now)) }
     ensures unclosed { IfNone result ((size : ℕ) → ¬ IsBlock (drop at bytes.now) size) }
 {
-    let mut depth: usize = 1;
-    let mut from = at + 1;
-    while from < bytes.len() {
-        match bytes[from] {
-            b'{' => {
-                depth += 1;
-                from += 1;
-            }
-            b'}' if depth == 1 => return Some(from + 1),
-            b'}' => {
-                depth -= 1;
-                from += 1;
-            }
-            _ => from += part_size(from_offset(bytes, from))?,
-        }
-    }
-    None
+    let mut text = CText::new(bytes);
+    text.skip_block(at)
 }
 
-/// The size of the comment, closed quoted construct or other byte in front of the text; `None` where an open comment
-/// stands there.
-pub fn part_size(text: &[u8]) -> Option<usize>
-    requires { 0 < length text.now }
-    ensures size { result ≡ scans.part_size text.now }
-    ensures within { IfSome result (λ size. (0 < size) × (size ≤ length text.now)) }
-{
-    if opens(text, 0) {
-        return comment_size(text);
+impl CText<'_> {
+    /// Skips the block that begins at `at`, as the function of this name does.
+    pub fn skip_block(&mut self, at: usize) -> Option<usize>
+        requires { slice_get self.old at ≡ Some opening_brace }
+        ensures closed { IfSome result (λ end. IsBlock (drop at self.old) (end - at)) }
+        ensures within { IfSome result (λ end. (at < end) × (end ≤ length self.old)) }
+        ensures unclosed { IfNone result ((size : ℕ) → ¬ IsBlock (drop at self.old) size) }
+        ensures text { self.new ≡ self.old }
+    {
+        let bytes = self.bytes();
+        let mut depth: usize = 1;
+        let mut from = at + 1;
+        while from < bytes.len() {
+            match bytes[from] {
+                b'{' => {
+                    depth += 1;
+                    from += 1;
+                }
+                b'}' if depth == 1 => return Some(from + 1),
+                b'}' => {
+                    depth -= 1;
+                    from += 1;
+                }
+                _ => from += self.part_size(from)?,
+            }
+        }
+        None
     }
-    Some(quoted_size(text).unwrap_or(1))
 }

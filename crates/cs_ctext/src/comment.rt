@@ -1,11 +1,10 @@
 //! Comments.
 
-ghost use Rattle.std.specs.Prelude.{◌≡◌, ℕ, ◌-◌, ◌<◌, ◌≤◌, ◌==◌, ◌↔◌, length, drop, IsTrue, IfSome, IfNone};
-ghost use Rattle.std.specs.List.{position_or_len};
+ghost use Rattle.std.specs.Prelude.{◌≡◌, ℕ, ◌-◌, ◌<◌, ◌≤◌, ◌↔◌, length, drop, IsTrue, IfSome, IfNone};
 ghost use Rattle.cs_ctext.specs.Comments.{IsComment, OpensComment};
 ghost use Rattle.cs_ctext.specs.Scans as scans;
 
-use crate::bytes::{from_offset, has_pair};
+use cs_bytes::{find_pair, from_offset, has_pair, line_len};
 
 /// Skips the comment that begins at `at`, and answers the offset behind it.
 ///
@@ -44,30 +43,8 @@ pub fn comment_size(text: &[u8]) -> Option<usize>
 {
     let inside = from_offset(text, 2);
     if has_pair(text, 0, b'/', b'/') {
-        return Some(line_size(inside) + 2);
+        return Some(line_len(inside) + 2);
     }
-    let size = closing_size(inside)?;
-    Some(size + 2)
-}
-
-/// The size of what stands before the next newline, or of the whole text.
-fn line_size(text: &[u8]) -> usize
-    ensures size { result ≡ position_or_len (λ b. b == 10) text.now }
-    ensures within { result ≤ length text.now }
-{
-    text.iter().take_while(|byte| **byte != b'\n').count()
-}
-
-/// The size through the first `*/`.
-#[tactic(auto, using(crate::proofs::Fronts::pair_within))]
-fn closing_size(text: &[u8]) -> Option<usize>
-    ensures size { result ≡ scans.closing_size text.now }
-    ensures within { IfSome result (λ size. size ≤ length text.now) }
-{
-    for index in 0..text.len() {
-        if has_pair(text, index, b'*', b'/') {
-            return Some(index + 2);
-        }
-    }
-    None
+    let size = find_pair(inside, b'*', b'/')?;
+    Some(size + 4)
 }

@@ -1,33 +1,39 @@
 //! The C words of a part of the bytes.
 
-ghost use Rattle.std.specs.Prelude.{◌≡◌, ◌<◌, ◌≤◌, ◌↔◌, [], ◌++◌, length, drop, take, IsNone};
+ghost use Rattle.std.specs.Prelude.{◌≡◌, ◌+◌, ◌<◌, ◌≤◌, ◌↔◌, [], ◌++◌, length, drop, take, IsNone};
 ghost use Rattle.std.specs.Option.{option_to_list};
 ghost use Rattle.cs_ctext.specs.Words.{HasWords};
 ghost use Rattle.cs_ctext.specs.Scans as scans;
 
-use crate::block::part_size;
-use crate::bytes::{begins_word, from_offset, is_word_byte};
-use crate::run::{Word, run_size};
+use crate::c_text::CText;
+use cs_bytes::{ByteClass, from_offset, run_len, to_offset};
 use std::marker::Model;
+
+/// Where a C word stands: the bytes `from..to`.
+#[derive(Clone, Copy, Debug, PartialEq, Eq)]
+pub struct Word {
+    pub from: usize,
+    pub to: usize,
+}
 
 /// The words of a part that are still to be given, in order.
 #[derive(Debug, Drop)]
 pub struct WordIter<'a> {
     /// the bytes up to the part's end
-    text: &'a [u8],
+    text: CText<'a>,
     at: usize,
 }
 
 impl<'a> Model for WordIter<'a> {
     ghost use Rattle.std.specs.Prelude.{◌≤◌, List, drop, length};
-    ghost use Rattle.cs_ctext.specs.declared.run.Word.{Word};
+    ghost use Rattle.cs_ctext.specs.declared.word_iter.Word.{Word};
     ghost use Rattle.cs_ctext.specs.Scans.{words_of};
 
     ghost Value = { List Word };
 
-    ghost view = { λ w. words_of w.at (drop w.at w.text.now) };
+    ghost view = { λ w. words_of w.at (drop w.at w.text) };
 
-    ghost invariant = { λ w. w.at ≤ length w.text.now };
+    ghost invariant = { λ w. w.at ≤ length w.text };
 }
 
 /// The C words of the bytes `from..to` outside comments and closed quoted constructs, in order, each once.
@@ -41,7 +47,7 @@ pub fn words(bytes: &[u8], from: usize, to: usize) -> WordIter<'_>
     ensures { HasWords from (drop from (take to bytes.now)) result }
 {
     WordIter {
-        text: &bytes[..to],
+        text: CText::new(to_offset(bytes, to)),
         at: from,
     }
 }
@@ -52,30 +58,28 @@ impl WordIter<'_> {
         ensures given { self.old ≡ option_to_list result ++ self.new }
         ensures finished { IsNone result ↔ (self.old ≡ []) }
     {
-        while self.at < self.text.len() {
-            let at = self.at;
-            let byte = self.text[at];
-            self.at += piece_size(from_offset(self.text, at));
-            if begins_word(byte) {
-                return Some(Word {
-                    from: at,
-                    to: self.at,
-                });
+        let bytes = self.text.bytes();
+        while self.at < bytes.len() {
+            let from = self.at;
+            self.at += piece_size(&mut self.text, from);
+            if ByteClass::WordStart.has(bytes[from]) {
+                return Some(Word { from, to: self.at });
             }
         }
         None
     }
 }
 
-/// The size of the run or part in front of the text. An open comment takes the rest.
-fn piece_size(text: &[u8]) -> usize
-    requires { 0 < length text.now }
-    ensures size { result ≡ scans.piece_size text.now }
-    ensures beyond { 0 < result }
-    ensures within { result ≤ length text.now }
+/// The size of the run or part at `at`. An open comment takes the rest.
+fn piece_size(text: &mut CText<'_>, at: usize) -> usize
+    requires { at < length text.old }
+    ensures size { result ≡ scans.piece_size (drop at text.old) }
+    ensures within { (0 < result) × (at + result ≤ length text.old) }
+    ensures text { text.new ≡ text.old }
 {
-    if is_word_byte(text[0]) {
-        return run_size(text);
+    let bytes = text.bytes();
+    if ByteClass::Word.has(bytes[at]) {
+        return run_len(from_offset(bytes, at), ByteClass::Word);
     }
-    part_size(text).unwrap_or(text.len())
+    text.part_size(at).unwrap_or(bytes.len() - at)
 }

@@ -4,8 +4,9 @@ use Rattle.cs_ctext.proofs.word_iter.WordIter.next.Given as goal
 
 abbrev pub invariant-loop-self : goal.invariant-loop-self
 invariant-loop-self l =
-    (l.self-inside.at ≤ length l.self-inside.text.now)
-    × (words_of l.initial.self-inside.at (drop l.initial.self-inside.at l.initial.self-inside.text.now) ≡ words_of l.self-inside.at (drop l.self-inside.at l.self-inside.text.now))
+    (l.self-inside.at ≤ length l.bytes)
+    × (words_of l.initial.self-inside.at (drop l.initial.self-inside.at l.bytes) ≡ words_of l.self-inside.at (drop l.self-inside.at l.bytes))
+    × (l.self-inside.text ≡ l.bytes)
 
 abbrev pub decreases-loop-self : goal.decreases-loop-self
-decreases-loop-self l = length l.self-inside.text.now - l.self-inside.at
+decreases-loop-self l = length l.bytes - l.self-inside.at

@@ -1,5 +1,0 @@
-use Rattle.cs_ctext.proofs.LiteralValues.{same_literal}
-use Rattle.cs_ctext.proofs.law.one_literal.Goals as goal
-
-pub returns : goal.returns
-returns c = same_literal
