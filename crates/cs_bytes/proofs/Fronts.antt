@@ -75,3 +75,9 @@ front_has [] zero x e = absurd (false≢true e)
 front_has [] (suc i) x e = absurd (false≢true e)
 front_has (y ∷ xs) zero x e = ap (λ z. z ∷ xs) (eqb-true y x e)
 front_has (y ∷ xs) (suc i) x e = let next : suc i + 1 ≡ suc (i + 1) = omega arith in rw next (front_has xs i x e)
+
+pub got_at : (xs : List ℕ) (i x : ℕ) → has_at xs i x ≡ true → slice_get xs i ≡ Some x
+got_at [] zero x e = absurd (false≢true e)
+got_at [] (suc i) x e = absurd (false≢true e)
+got_at (y ∷ xs) zero x e = ap Some (eqb-true y x e)
+got_at (y ∷ xs) (suc i) x e = got_at xs i x e

@@ -53,6 +53,9 @@ slash = 47
 abbrev pub colon_sign : ℕ
 colon_sign = 58
 
+abbrev pub semicolon_sign : ℕ
+semicolon_sign = 59
+
 abbrev pub less_sign : ℕ
 less_sign = 60
 

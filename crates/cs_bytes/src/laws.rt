@@ -7,7 +7,7 @@ ghost use Rattle.cs_bytes.specs.Places.{IsRun};
 
 /// A text has one longest run of bytes that pass, and `prefix_len` is its size.
 pub fn one_run()
-    ensures { (passes : ℕ → Bool) (text : List ℕ) (n : ℕ) → IsRun passes text n ↔ (n ≡ prefix_len passes text) }
+    ensures { (p : ℕ → Bool) (text : List ℕ) (n : ℕ) → IsRun p text n ↔ (n ≡ prefix_len p text) }
 {}
 
 /// The names are those of the ASCII codes.
@@ -21,6 +21,7 @@ pub fn byte_names()
     ensures stops { codes ",.:" ≡ names.comma_sign ∷ names.full_stop ∷ names.colon_sign ∷ [] }
     ensures lines { codes "-_|" ≡ names.dash ∷ names.underscore ∷ names.vertical_bar ∷ [] }
     ensures signs { codes "<=>" ≡ names.less_sign ∷ names.equals_sign ∷ names.greater_sign ∷ [] }
-    ensures marks { codes "?^+$" ≡ names.question_mark ∷ names.caret ∷ names.plus_sign ∷ names.dollar ∷ [] }
+    ensures marks { codes "?^+" ≡ names.question_mark ∷ names.caret ∷ names.plus_sign ∷ [] }
     ensures letters { codes " x" ≡ names.space ∷ names.letter_x ∷ [] }
+    ensures others { codes "$;" ≡ names.dollar ∷ names.semicolon_sign ∷ [] }
 {}

@@ -16,7 +16,7 @@ use Rattle.cs_yacc.specs.declared.error.YaccError.{YaccError}
 use Rattle.cs_yacc_items.specs.declared.directive.Directive.{Directive}
 use Rattle.cs_yacc_items.specs.declared.directive.Directive.TheVariants as directives
 use Rattle.cs_yacc_items.specs.Items.{Item, mark, prologue, directive, name, literal, number, tag, block, colon, semicolon, comma, Placed, items_of}
-use Rattle.cs_yacc_items.specs.Table.{Place, declarations, start, union, expect, list, tagged, entry, counted, behind_comma, rules, left, body, named, prec, closed, done, behind_directive, in_declarations, in_entry, Row, may_end, MayEnd, Leads, IsTaken}
+use Rattle.cs_yacc_items.specs.Table.{Place, declarations, start, union, expect, list, tagged, entry, counted, behind_comma, rules, left, body, named, prec, closed, done, behind_directive, in_declarations, in_entry, Row, may_end, MayEnd, TakesTo, IsTaken}
 use Rattle.cs_yacc.specs.Meaning.{has_word, distinct, number_of, symbol_of, numbered, left_at, left_sides, nonterminals, tokens_of, SpelledRule, kept, above, or_else, long_right, limit_passed, bytes_of, number_or_first, start_of, start_item, is_no_left, wrong_start, file_of, is_prec, is_idle, opens_prec, meant_behind, meant, word_at, used}
 use Rattle.cs_yacc.specs.File.{IsFile}
 use Rattle.cs_yacc.proofs.Names.{IsIn, number_within, names_differ, lefts_known, rights_known}
@@ -127,7 +127,7 @@ row_rules : (i : Item) (next : Place) → Row rules i next → next ≡ left
 row_rules (name n) next row = cc
 row_rules i next row = absurd cc
 
-has_left : (p : Place) (ps : List Placed) (ending : Place) → IsEarly p → Leads p (items_of ps) ending → MayEnd ending → 0 < length (left_sides (items_of (meant_behind false ps)))
+has_left : (p : Place) (ps : List Placed) (ending : Place) → IsEarly p → TakesTo p (items_of ps) ending → MayEnd ending → 0 < length (left_sides (items_of (meant_behind false ps)))
 has_left p [] ending h l m = absurd (early_ends p h (subst MayEnd (sym l) m))
 has_left p (q ∷ ps) ending h l m =
     elim (early_next p q.item l.0 h l.1) [
@@ -135,7 +135,7 @@ has_left p (q ∷ ps) ending h l m =
       | inr f ↦ meant_left (not false && not (is_idle q.item)) q (meant_behind (opens_prec false q.item) ps) (subst (λ (b : Bool). 0 < length (left_sides (items_of (meant_behind b ps)))) (sym f.1) (has_left l.0 ps ending f.0 l.2 m))
     ]
   where
-    at_rules : (q : Placed) (ps : List Placed) (next : Place) → Row rules q.item next → Leads next (items_of ps) ending → 0 < length (left_sides (items_of (meant_behind false (q ∷ ps))))
+    at_rules : (q : Placed) (ps : List Placed) (next : Place) → Row rules q.item next → TakesTo next (items_of ps) ending → 0 < length (left_sides (items_of (meant_behind false (q ∷ ps))))
     at_rules q [] next row k = let e : next ≡ left = row_rules q.item next row in let f : may_end left ≡ true = subst MayEnd (sym k ∙ e) m in absurd (false≢true f)
     at_rules q (r ∷ ps) next row k = let e : next ≡ left = row_rules q.item next row in name_colon q r ps q.item r.item next k.0 refl refl row (subst (λ (x : Place). Row x r.item k.0) e k.1)
 

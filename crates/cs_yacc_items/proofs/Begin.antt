@@ -1,6 +1,6 @@
 -- What the code finds at the front of a text.
-use Rattle.std.proofs.Common.{◌≡◌, ◌≢◌, ℕ, zero, suc, ◌+◌, ◌-◌, ◌≤◌, ◌<◌, true, false, List, [], ◌∷◌, length, get_or, take, drop, Some, None, refl, sym, ap, subst, ◌∙◌, one-add, add-one, arith}
-use Rattle.std.specs.Prelude.{IsTrue, codes, slice_get, IsSomeAnd}
+use Rattle.std.proofs.Common.{◌≡◌, ◌≢◌, ℕ, zero, suc, ◌+◌, ◌-◌, ◌≤◌, ◌<◌, Bool, true, false, ◌||◌, List, [], ◌∷◌, length, get_or, take, drop, Some, None, refl, sym, ap, subst, ◌∙◌, one-add, add-one, arith}
+use Rattle.std.specs.Prelude.{IsTrue, ◌==◌, codes, slice_get}
 use Rattle.std.specs.List.{AllByRecursion, prefix_len, position_or_len}
 use Rattle.std.proofs.lemmas.Bool.{false≢true, eqb-true, eq-eqb}
 use Rattle.std.proofs.lemmas.Bool.Decides.{nat_tests}
@@ -9,19 +9,20 @@ use Rattle.std.proofs.lemmas.List.Sums.{prefix_len-le-length}
 use Rattle.cs_ctext.specs.Comments.{IsComment, OpensComment}
 use Rattle.cs_ctext.specs.Blocks.{IsBlock}
 use Rattle.cs_ctext.specs.Literals.{IsLiteral}
-use Rattle.cs_ctext.specs.Scans.{begins_with, begins_with_two}
-use Rattle.cs_ctext.proofs.Fronts.{Begins-from_test, test_from_Begins, pair_within}
+use Rattle.cs_bytes.specs.Places.{front, begins_with, IsFirstPair, HasNoPair}
+use Rattle.cs_bytes.proofs.Fronts.{pair_within}
 use Rattle.cs_ctext.proofs.BlockSteps.{same_block}
 use Rattle.cs_ctext.proofs.LiteralValues.{same_literal}
 use Rattle.cs_ctext.proofs.PartSizes.{opens-slash}
 use Rattle.cs_yacc_items.specs.declared.directive.Directive.{Directive}
-use Rattle.cs_yacc_items.specs.Bytes.{begins_name, is_name_byte, is_word_byte, is_digit, ends_tag}
+use Rattle.cs_bytes.specs.Classes.{is_digit, begins_word}
+use Rattle.cs_yacc_items.specs.Bytes.{begins_name, is_name_byte, is_directive_byte, ends_tag}
 use Rattle.cs_yacc_items.specs.Directives.{directive_of}
-use Rattle.cs_yacc_items.specs.Items.{Item, mark, prologue, directive, unknown, name, literal, number, tag, block, colon, semicolon, bar, comma, Shows, IsName, IsWord, IsNumber, IsPrologue, IsTag, Spells, Begins, BeginsNothing, BeginsNeither, BeginsUnknown, IsOpen, open_comment, open_prologue, open_block}
+use Rattle.cs_yacc_items.specs.Items.{Item, mark, prologue, directive, unknown, name, literal, number, tag, block, colon, semicolon, bar, comma, Shows, IsName, IsDirectiveWord, IsNumber, IsPrologue, IsTag, Spells, BeginsItem, BeginsNoItem, BeginsNeither, BeginsUnknown, IsOpen, open_comment, open_prologue, open_block}
 use Rattle.cs_yacc_items.proofs.Front.{run_passes, shows_within, shows_cons, shows_run, class, class_is, byte_class, mark_no_word, prologue_no_word, mark_no_prologue, same_prologue, same_tag, nothing_unknown}
 
 -- an item that no other one is longer than
-sole : (text : List ℕ) (i : Item) (n : ℕ) → n ≤ length text → Spells text n i → ((j : Item) (m : ℕ) → m ≤ length text → Spells text m j → m ≤ n) → Begins text i n
+sole : (text : List ℕ) (i : Item) (n : ℕ) → n ≤ length text → Spells text n i → ((j : Item) (m : ℕ) → m ≤ length text → Spells text m j → m ≤ n) → BeginsItem text i n
 sole text i n le h longest = record { within = le; spelled = h; longest = longest }
 
 -- ---- signs
@@ -42,19 +43,19 @@ bar_size : (text : List ℕ) (i : Item) (m : ℕ) → Spells text m i → class 
 bar_size text bar m h e = omega (arith, h.1)
 bar_size text i m h e = absurd (omega arith)
 
-pub begins_comma : (text : List ℕ) → 0 < length text → get_or text 0 0 ≡ 44 → Begins text comma 1
+pub begins_comma : (text : List ℕ) → 0 < length text → get_or text 0 0 ≡ 44 → BeginsItem text comma 1
 begins_comma [] lt e = absurd (omega arith)
 begins_comma (c ∷ text) lt e = rw e (sole (44 ∷ text) comma 1 (omega arith) (refl, refl) (λ j m le h. comma_size (44 ∷ text) j m h (class_is 44 text m j h)))
 
-pub begins_colon : (text : List ℕ) → 0 < length text → get_or text 0 0 ≡ 58 → Begins text colon 1
+pub begins_colon : (text : List ℕ) → 0 < length text → get_or text 0 0 ≡ 58 → BeginsItem text colon 1
 begins_colon [] lt e = absurd (omega arith)
 begins_colon (c ∷ text) lt e = rw e (sole (58 ∷ text) colon 1 (omega arith) (refl, refl) (λ j m le h. colon_size (58 ∷ text) j m h (class_is 58 text m j h)))
 
-pub begins_semicolon : (text : List ℕ) → 0 < length text → get_or text 0 0 ≡ 59 → Begins text semicolon 1
+pub begins_semicolon : (text : List ℕ) → 0 < length text → get_or text 0 0 ≡ 59 → BeginsItem text semicolon 1
 begins_semicolon [] lt e = absurd (omega arith)
 begins_semicolon (c ∷ text) lt e = rw e (sole (59 ∷ text) semicolon 1 (omega arith) (refl, refl) (λ j m le h. semicolon_size (59 ∷ text) j m h (class_is 59 text m j h)))
 
-pub begins_bar : (text : List ℕ) → 0 < length text → get_or text 0 0 ≡ 124 → Begins text bar 1
+pub begins_bar : (text : List ℕ) → 0 < length text → get_or text 0 0 ≡ 124 → BeginsItem text bar 1
 begins_bar [] lt e = absurd (omega arith)
 begins_bar (c ∷ text) lt e = rw e (sole (124 ∷ text) bar 1 (omega arith) (refl, refl) (λ j m le h. bar_size (124 ∷ text) j m h (class_is 124 text m j h)))
 
@@ -64,7 +65,7 @@ begins_bar (c ∷ text) lt e = rw e (sole (124 ∷ text) bar 1 (omega arith) (re
 abbrev AreNone : ℕ → List ℕ → Type 0
 AreNone k text = (i : Item) (n : ℕ) → class i ≡ k → n ≤ length text → Spells text n i → ⊥
 
-none_begins : (c : ℕ) (text : List ℕ) → AreNone (byte_class c) (c ∷ text) → BeginsNothing (c ∷ text)
+none_begins : (c : ℕ) (text : List ℕ) → AreNone (byte_class c) (c ∷ text) → BeginsNoItem (c ∷ text)
 none_begins c text none i n known b = none i n (class_is c text n i b.spelled) b.within b.spelled
 
 -- a text that begins with another byte opens nothing
@@ -88,7 +89,7 @@ number_front c text [] n h i = absurd i
 number_front c text (d ∷ w) n h i = let e : c ≡ d = (shows_cons c text d w n h).0 in rw e i.0
 
 pub nothing_at : (text : List ℕ) (c : ℕ) → 0 < length text → get_or text 0 0 ≡ c → c ≢ 37 → c ≢ 39 → c ≢ 60 → c ≢ 123 → c ≢ 47 → c ≢ 58 → c ≢ 59 → c ≢ 124 → c ≢ 44 → begins_name c ≡ false → is_digit c ≡ false
-    → BeginsNothing text × BeginsNeither text
+    → BeginsNoItem text × BeginsNeither text
 nothing_at [] c lt e p q r s t u v w x y z = absurd (omega arith)
 nothing_at (d ∷ text) c lt e p q r s t u v w x y z = let same : d ≡ c = e in rw same (λ i n known b. none i n b.spelled (class_is c text n i b.spelled ∙ rw (y, z) refl), neither c text t p s)
   where
@@ -109,9 +110,20 @@ nothing_at (d ∷ text) c lt e p q r s t u v w x y z = let same : d ≡ c = e in
 
 -- ---- names and numbers
 
+or_right : (t u : Bool) → u ≡ true → (t || u) ≡ true
+or_right true u e = refl
+or_right false u e = e
+
+name_byte : (c : ℕ) → begins_name c ≡ true → is_name_byte c ≡ true
+name_byte c e = by_word (begins_word c) (c == 46) e
+  where
+    by_word : (t u : Bool) → (t || u) ≡ true → ((t || is_digit c) || u) ≡ true
+    by_word true u e = refl
+    by_word false u e = or_right (is_digit c) u e
+
 name_all : (w : List ℕ) → IsName w → AllByRecursion (λ c. IsTrue (is_name_byte c)) w
 name_all [] h = absurd h
-name_all (c ∷ w) h = (rw h.0 refl, h.1)
+name_all (c ∷ w) h = (name_byte c h.0, h.1)
 
 number_all : (w : List ℕ) → IsNumber w → AllByRecursion (λ c. IsTrue (is_digit c)) w
 number_all [] h = absurd h
@@ -130,13 +142,13 @@ shows_front text n le = (refl, sym (length-take-le n text le))
 
 -- the longest run of a text whose first byte passes
 name_run : (c : ℕ) (text : List ℕ) → begins_name c ≡ true → IsName (take (prefix_len is_name_byte (c ∷ text)) (c ∷ text))
-name_run c text first = let byte : is_name_byte c ≡ true = rw first refl in rw (byte, one-add) (first, run_passes is_name_byte text)
+name_run c text first = let byte : is_name_byte c ≡ true = name_byte c first in rw (byte, one-add) (first, run_passes is_name_byte text)
 
 number_run : (c : ℕ) (text : List ℕ) → is_digit c ≡ true → IsNumber (take (prefix_len is_digit (c ∷ text)) (c ∷ text))
 number_run c text first = rw (first, one-add) (first, run_passes is_digit text)
 
-pub name_is : (text : List ℕ) (n : ℕ) → IsSomeAnd (slice_get text 0) (λ c. IsTrue (begins_name c)) → n ≡ prefix_len is_name_byte text → Begins text (name (take n text)) n
-name_is [] n h e = absurd h
+pub name_is : (text : List ℕ) (n : ℕ) → front begins_name text ≡ true → n ≡ prefix_len is_name_byte text → BeginsItem text (name (take n text)) n
+name_is [] n h e = absurd (false≢true h)
 name_is (c ∷ text) n h e =
     let f : begins_name c ≡ true = h in
     let le : n ≤ length (c ∷ text) = omega (arith, e, prefix_len-le-length is_name_byte (c ∷ text)) in
@@ -147,8 +159,8 @@ name_is (c ∷ text) n h e =
 digit_no_name : (c : ℕ) → is_digit c ≡ true → begins_name c ≡ false
 digit_no_name c h = grind (arith, nat_tests)
 
-pub number_is : (text : List ℕ) (n : ℕ) → IsSomeAnd (slice_get text 0) (λ c. IsTrue (is_digit c)) → n ≡ prefix_len is_digit text → Begins text number n
-number_is [] n h e = absurd h
+pub number_is : (text : List ℕ) (n : ℕ) → front is_digit text ≡ true → n ≡ prefix_len is_digit text → BeginsItem text number n
+number_is [] n h e = absurd (false≢true h)
 number_is (c ∷ text) n h e =
     let f : is_digit c ≡ true = h in
     let g : begins_name c ≡ false = digit_no_name c f in
@@ -167,7 +179,7 @@ literal_none : (text : List ℕ) → ((b n : ℕ) → ¬ IsLiteral text b n) →
 literal_none text none (literal c) m h e = none c m h
 literal_none text none i m h e = absurd (omega arith)
 
-pub literal_is : (text : List ℕ) (b n : ℕ) → slice_get text 0 ≡ Some 39 → IsLiteral text b (n - 0) → n ≤ length text → Begins text (literal b) n
+pub literal_is : (text : List ℕ) (b n : ℕ) → slice_get text 0 ≡ Some 39 → IsLiteral text b (n - 0) → n ≤ length text → BeginsItem text (literal b) n
 literal_is [] b n e is le = absurd cc
 literal_is (c ∷ text) b n e is le =
     let f : c ≡ 39 = cc in
@@ -175,7 +187,7 @@ literal_is (c ∷ text) b n e is le =
     let here : IsLiteral (c ∷ text) b n = rw same at is in
     sole (c ∷ text) (literal b) n le here (λ j m lt h. literal_size (c ∷ text) b n here j m h (class_is c text m j h ∙ rw f refl))
 
-pub no_literal : (text : List ℕ) → slice_get text 0 ≡ Some 39 → ((b n : ℕ) → ¬ IsLiteral text b n) → BeginsNothing text × BeginsNeither text
+pub no_literal : (text : List ℕ) → slice_get text 0 ≡ Some 39 → ((b n : ℕ) → ¬ IsLiteral text b n) → BeginsNoItem text × BeginsNeither text
 no_literal [] e none = absurd cc
 no_literal (c ∷ text) e none =
     let f : c ≡ 39 = cc in
@@ -202,7 +214,7 @@ not_front [] k b e f = absurd cc
 not_front (c ∷ text) zero b e f = let g : c ≡ b = cc in false≢true (sym e ∙ eq-eqb c b g)
 not_front (c ∷ text) (suc k) b e f = not_front text k b e f
 
-pub tag_is : (text inside : List ℕ) (k : ℕ) → slice_get text 0 ≡ Some 60 → inside ≡ drop 1 text → k ≡ position_or_len ends_tag inside → begins_with 62 (drop k inside) ≡ true → Begins text tag (k + 2)
+pub tag_is : (text inside : List ℕ) (k : ℕ) → slice_get text 0 ≡ Some 60 → inside ≡ drop 1 text → k ≡ position_or_len ends_tag inside → begins_with 62 (drop k inside) ≡ true → BeginsItem text tag (k + 2)
 tag_is [] inside k e i s g = absurd cc
 tag_is (c ∷ text) inside k e i s g =
     let f : c ≡ 60 = cc in
@@ -212,7 +224,7 @@ tag_is (c ∷ text) inside k e i s g =
     let here : IsTag (c ∷ text) (k + 2) = (f, subst (λ (x : ℕ). slice_get text x ≡ Some 62) size got.0, ap (λ (x : ℕ). x + 2) size) in
     sole (c ∷ text) tag (k + 2) (omega (arith, got.1)) here (λ j m lt h. tag_size (c ∷ text) (k + 2) here j m h (class_is c text m j h ∙ rw f refl))
 
-pub no_tag : (text inside : List ℕ) (k : ℕ) → slice_get text 0 ≡ Some 60 → inside ≡ drop 1 text → k ≡ position_or_len ends_tag inside → begins_with 62 (drop k inside) ≡ false → BeginsNothing text × BeginsNeither text
+pub no_tag : (text inside : List ℕ) (k : ℕ) → slice_get text 0 ≡ Some 60 → inside ≡ drop 1 text → k ≡ position_or_len ends_tag inside → begins_with 62 (drop k inside) ≡ false → BeginsNoItem text × BeginsNeither text
 no_tag [] inside k e i s g = absurd cc
 no_tag (c ∷ text) inside k e i s g =
     let f : c ≡ 60 = cc in
@@ -232,18 +244,24 @@ block_none : (text : List ℕ) → ((n : ℕ) → ¬ IsBlock text n) → (i : It
 block_none text none block m h e = none m h
 block_none text none i m h e = absurd (omega arith)
 
-pub block_is : (text : List ℕ) (n : ℕ) → slice_get text 0 ≡ Some 123 → IsBlock text (n - 0) → n ≤ length text → Begins text block n
-block_is [] n e is le = absurd cc
-block_is (c ∷ text) n e is le =
-    let f : c ≡ 123 = cc in
-    let same : n - 0 ≡ n = omega arith in
-    let here : IsBlock (c ∷ text) n = rw same at is in
-    sole (c ∷ text) block n le here (λ j m lt h. block_size (c ∷ text) n here j m h (class_is c text m j h ∙ rw f refl))
+pub no_brace : (text : List ℕ) → begins_with 123 text ≡ false → get_or text 0 0 ≡ 123 → ⊥
+no_brace [] e f = omega arith
+no_brace (c ∷ text) e f = false≢true (sym e ∙ eq-eqb c 123 f)
 
-pub block_open : (text : List ℕ) → slice_get text 0 ≡ Some 123 → ((n : ℕ) → ¬ IsBlock text n) → BeginsNothing text × IsOpen text
-block_open [] e none = absurd cc
+pub brace_front : (text : List ℕ) → begins_with 123 text ≡ true → slice_get text 0 ≡ Some 123
+brace_front [] e = absurd (false≢true e)
+brace_front (c ∷ text) e = ap Some (eqb-true c 123 e)
+
+pub block_is : (text : List ℕ) (n : ℕ) → begins_with 123 text ≡ true → IsBlock text n → n ≤ length text → BeginsItem text block n
+block_is [] n e is le = absurd (false≢true e)
+block_is (c ∷ text) n e is le =
+    let f : c ≡ 123 = eqb-true c 123 e in
+    sole (c ∷ text) block n le is (λ j m lt h. block_size (c ∷ text) n is j m h (class_is c text m j h ∙ rw f refl))
+
+pub block_open : (text : List ℕ) → begins_with 123 text ≡ true → ((n : ℕ) → ¬ IsBlock text n) → BeginsNoItem text × IsOpen text
+block_open [] e none = absurd (false≢true e)
 block_open (c ∷ text) e none =
-    let f : c ≡ 123 = cc in
+    let f : c ≡ 123 = eqb-true c 123 e in
     (λ i n known b. block_none (c ∷ text) none i n b.spelled (class_is c text n i b.spelled ∙ rw f refl), open_block (rw f refl) none)
 
 -- ---- comments
@@ -252,7 +270,7 @@ slash_none : (text : List ℕ) (i : Item) → class i ≡ 47 → ⊥
 slash_none text mark e = omega arith
 slash_none text i e = omega arith
 
-pub slash_open : (text : List ℕ) → slice_get text 0 ≡ Some 47 → ((n : ℕ) → ¬ IsComment text n) → OpensComment text → BeginsNothing text × IsOpen text
+pub slash_open : (text : List ℕ) → slice_get text 0 ≡ Some 47 → ((n : ℕ) → ¬ IsComment text n) → OpensComment text → BeginsNoItem text × IsOpen text
 slash_open [] e none is = absurd cc
 slash_open (c ∷ text) e none is =
     let f : c ≡ 47 = cc in
@@ -263,7 +281,7 @@ slash_neither c text f none (open_comment h) = none h.0
 slash_neither c text f none (open_prologue e h) = let g : c ∷ take 1 text ≡ 37 ∷ 123 ∷ [] = e in let k : c ≡ 37 = cc in omega arith
 slash_neither c text f none (open_block e h) = let g : c ∷ take 0 text ≡ 123 ∷ [] = e in let k : c ≡ 123 = cc in omega arith
 
-pub slash_nothing : (text : List ℕ) → slice_get text 0 ≡ Some 47 → ¬ OpensComment text → BeginsNothing text × BeginsNeither text
+pub slash_nothing : (text : List ℕ) → slice_get text 0 ≡ Some 47 → ¬ OpensComment text → BeginsNoItem text × BeginsNeither text
 slash_nothing [] e none = absurd cc
 slash_nothing (c ∷ text) e none =
     let f : c ≡ 47 = cc in
@@ -296,7 +314,7 @@ mark_size text s (directive d) m h e = absurd (mark_no_word text h.0 2 m s h.1 h
 mark_size text s (unknown w) m h e = absurd (mark_no_word text w 2 m s h.0 h.1)
 mark_size text s i m h e = absurd (omega arith)
 
-pub mark_is : (text : List ℕ) → slice_get text 0 ≡ Some 37 → begins_with 37 (drop 1 text) ≡ true → Begins text mark 2
+pub mark_is : (text : List ℕ) → slice_get text 0 ≡ Some 37 → begins_with 37 (drop 1 text) ≡ true → BeginsItem text mark 2
 mark_is text e b =
     let s = mark_shown text e b in
     sole text mark 2 (shows_within text (codes "%%") 2 s) s (λ j m le h. mark_size text s j m h (percent_of text j m e h).1)
@@ -315,22 +333,15 @@ prologue_none text o none (directive d) m h e = prologue_no_word text h.0 m o h.
 prologue_none text o none (unknown w) m h e = prologue_no_word text w m o h.0 h.1
 prologue_none text o none i m h e = absurd (omega arith)
 
-pub prologue_is : (text behind : List ℕ) (i : ℕ) → slice_get text 0 ≡ Some 37 → begins_with 123 (drop 1 text) ≡ true → behind ≡ drop 2 text → begins_with_two 37 125 (drop i behind) ≡ true
-    → ((k : ℕ) → k < i → begins_with_two 37 125 (drop k behind) ≡ false) → Begins text prologue (i + 4)
-prologue_is text behind i e b is found first =
-    let here : IsPrologue text (i + 4) = record {
-      inside = i;
-      opened = opened_is text e b;
-      closed = Begins-from_test 37 125 (drop i (drop 2 text)) (ap (λ (x : List ℕ). begins_with_two 37 125 (drop i x)) (sym is) ∙ found);
-      first = λ k lt h. false≢true (sym (first k lt) ∙ ap (λ (x : List ℕ). begins_with_two 37 125 (drop k x)) is ∙ test_from_Begins 37 125 (drop k (drop 2 text)) h);
-      ends = refl;
-    } in
-    sole text prologue (i + 4) (omega (arith, pair_within 37 125 behind i found, ap length is, length-drop 2 text)) here (λ j m le h. prologue_size text (i + 4) here j m h (percent_of text j m e h).1)
+pub prologue_is : (text behind : List ℕ) (i : ℕ) → slice_get text 0 ≡ Some 37 → begins_with 123 (drop 1 text) ≡ true → behind ≡ drop 2 text → IsFirstPair 37 125 behind i → BeginsItem text prologue (i + 4)
+prologue_is text behind i e b is found =
+    let here : IsPrologue text (i + 4) = record { inside = i; opened = opened_is text e b; closed = subst (λ t. IsFirstPair 37 125 t i) is found; ends = refl } in
+    sole text prologue (i + 4) (omega (arith, pair_within 37 125 behind i found.here, ap length is, length-drop 2 text)) here (λ j m le h. prologue_size text (i + 4) here j m h (percent_of text j m e h).1)
 
-pub prologue_open : (text behind : List ℕ) → slice_get text 0 ≡ Some 37 → begins_with 123 (drop 1 text) ≡ true → behind ≡ drop 2 text → ((k : ℕ) → begins_with_two 37 125 (drop k behind) ≡ false) → BeginsNothing text × IsOpen text
+pub prologue_open : (text behind : List ℕ) → slice_get text 0 ≡ Some 37 → begins_with 123 (drop 1 text) ≡ true → behind ≡ drop 2 text → HasNoPair 37 125 behind → BeginsNoItem text × IsOpen text
 prologue_open text behind e b is none =
     let o = opened_is text e b in
-    let no : (n : ℕ) → ¬ IsPrologue text n = λ n p. false≢true (sym (none p.inside) ∙ ap (λ (x : List ℕ). begins_with_two 37 125 (drop p.inside x)) is ∙ test_from_Begins 37 125 (drop p.inside (drop 2 text)) p.closed) in
+    let no : (n : ℕ) → ¬ IsPrologue text n = λ n p. false≢true (sym (subst (HasNoPair 37 125) is none p.inside) ∙ p.closed.here) in
     (λ i n known q. prologue_none text o no i n q.spelled (percent_of text i n e q.spelled).1, open_prologue o no)
 
 shows_begins : (text : List ℕ) (d : ℕ) (w : List ℕ) (n : ℕ) → Shows text (d ∷ w) n → begins_with d text ≡ true
@@ -344,49 +355,49 @@ prologue_begins : (c : ℕ) (rest : List ℕ) → take 2 (c ∷ rest) ≡ codes 
 prologue_begins c [] e = let f : c ∷ [] ≡ 37 ∷ 123 ∷ [] = e in absurd cc
 prologue_begins c (d ∷ rest) e = let f : c ∷ d ∷ [] ≡ 37 ∷ 123 ∷ [] = e in let g : d ≡ 123 = cc in eq-eqb d 123 g
 
-word_all : (w : List ℕ) → IsWord w → AllByRecursion (λ c. IsTrue (is_word_byte c)) w
+word_all : (w : List ℕ) → IsDirectiveWord w → AllByRecursion (λ c. IsTrue (is_directive_byte c)) w
 word_all [] h = absurd h
 word_all (c ∷ w) h = h
 
-word_some : (w : List ℕ) → IsWord w → 0 < length w
+word_some : (w : List ℕ) → IsDirectiveWord w → 0 < length w
 word_some [] h = absurd h
 word_some (c ∷ w) h = omega arith
 
-word_fits : (c : ℕ) (rest word : List ℕ) (m : ℕ) → Shows (c ∷ rest) (37 ∷ word) m → IsWord word → (0 < prefix_len is_word_byte rest) × (m ≤ suc (prefix_len is_word_byte rest))
+word_fits : (c : ℕ) (rest word : List ℕ) (m : ℕ) → Shows (c ∷ rest) (37 ∷ word) m → IsDirectiveWord word → (0 < prefix_len is_directive_byte rest) × (m ≤ suc (prefix_len is_directive_byte rest))
 word_fits c rest word m h w =
     let s = shows_cons c rest 37 word m h in
-    let run = shows_run is_word_byte rest word s.1 s.2 (word_all word w) in
+    let run = shows_run is_directive_byte rest word s.1 s.2 (word_all word w) in
     (omega (arith, run, s.2.1, word_some word w), omega (arith, run, s.3))
 
 module _ (c : ℕ) (rest : List ℕ) (no_mark : begins_with 37 rest ≡ false) (no_prologue : begins_with 123 rest ≡ false) where
-  word_only : (i : Item) (m : ℕ) → Spells (c ∷ rest) m i → class i ≡ 37 → (0 < prefix_len is_word_byte rest) × (m ≤ suc (prefix_len is_word_byte rest))
+  word_only : (i : Item) (m : ℕ) → Spells (c ∷ rest) m i → class i ≡ 37 → (0 < prefix_len is_directive_byte rest) × (m ≤ suc (prefix_len is_directive_byte rest))
   word_only mark m h e = let s = shows_cons c rest 37 (37 ∷ []) m h in absurd (false≢true (sym no_mark ∙ shows_begins rest 37 [] s.1 s.2))
   word_only prologue m h e = absurd (false≢true (sym no_prologue ∙ prologue_begins c rest h.opened))
   word_only (directive d) m h e = word_fits c rest h.0 m h.1 h.2
   word_only (unknown w) m h e = word_fits c rest w m h.0 h.1
   word_only i m h e = absurd (omega arith)
 
-  word_shown : c ≡ 37 → Shows (c ∷ rest) (37 ∷ take (prefix_len is_word_byte rest) rest) (suc (prefix_len is_word_byte rest))
-  word_shown f = (rw f refl, omega (arith, length-take-le (prefix_len is_word_byte rest) rest (prefix_len-le-length is_word_byte rest)))
+  word_shown : c ≡ 37 → Shows (c ∷ rest) (37 ∷ take (prefix_len is_directive_byte rest) rest) (suc (prefix_len is_directive_byte rest))
+  word_shown f = (rw f refl, omega (arith, length-take-le (prefix_len is_directive_byte rest) rest (prefix_len-le-length is_directive_byte rest)))
 
-  word_is : 0 < prefix_len is_word_byte rest → IsWord (take (prefix_len is_word_byte rest) rest)
-  word_is lt = from_all (take (prefix_len is_word_byte rest) rest) (omega (arith, length-take-le (prefix_len is_word_byte rest) rest (prefix_len-le-length is_word_byte rest))) (run_passes is_word_byte rest)
+  word_is : 0 < prefix_len is_directive_byte rest → IsDirectiveWord (take (prefix_len is_directive_byte rest) rest)
+  word_is lt = from_all (take (prefix_len is_directive_byte rest) rest) (omega (arith, length-take-le (prefix_len is_directive_byte rest) rest (prefix_len-le-length is_directive_byte rest))) (run_passes is_directive_byte rest)
     where
-      from_all : (w : List ℕ) → 0 < length w → AllByRecursion (λ c. IsTrue (is_word_byte c)) w → IsWord w
+      from_all : (w : List ℕ) → 0 < length w → AllByRecursion (λ c. IsTrue (is_directive_byte c)) w → IsDirectiveWord w
       from_all [] lt h = absurd (omega arith)
       from_all (d ∷ w) lt h = h
 
-  word_within : suc (prefix_len is_word_byte rest) ≤ length (c ∷ rest)
-  word_within = omega (arith, prefix_len-le-length is_word_byte rest)
+  word_within : suc (prefix_len is_directive_byte rest) ≤ length (c ∷ rest)
+  word_within = omega (arith, prefix_len-le-length is_directive_byte rest)
 
-  directive_here : (d : Directive) → c ≡ 37 → 0 < prefix_len is_word_byte rest → directive_of (take (prefix_len is_word_byte rest) rest) ≡ Some d → Begins (c ∷ rest) (directive d) (suc (prefix_len is_word_byte rest))
+  directive_here : (d : Directive) → c ≡ 37 → 0 < prefix_len is_directive_byte rest → directive_of (take (prefix_len is_directive_byte rest) rest) ≡ Some d → BeginsItem (c ∷ rest) (directive d) (suc (prefix_len is_directive_byte rest))
   directive_here d f lt e =
-      sole (c ∷ rest) (directive d) (suc (prefix_len is_word_byte rest)) word_within (take (prefix_len is_word_byte rest) rest, word_shown f, word_is lt, e)
+      sole (c ∷ rest) (directive d) (suc (prefix_len is_directive_byte rest)) word_within (take (prefix_len is_directive_byte rest) rest, word_shown f, word_is lt, e)
       (λ j m le h. (word_only j m h (class_is c rest m j h ∙ rw f refl)).1)
 
-  unknown_here : c ≡ 37 → 0 < prefix_len is_word_byte rest → directive_of (take (prefix_len is_word_byte rest) rest) ≡ None → Begins (c ∷ rest) (unknown (take (prefix_len is_word_byte rest) rest)) (suc (prefix_len is_word_byte rest))
+  unknown_here : c ≡ 37 → 0 < prefix_len is_directive_byte rest → directive_of (take (prefix_len is_directive_byte rest) rest) ≡ None → BeginsItem (c ∷ rest) (unknown (take (prefix_len is_directive_byte rest) rest)) (suc (prefix_len is_directive_byte rest))
   unknown_here f lt e =
-      sole (c ∷ rest) (unknown (take (prefix_len is_word_byte rest) rest)) (suc (prefix_len is_word_byte rest)) word_within (word_shown f, word_is lt, e)
+      sole (c ∷ rest) (unknown (take (prefix_len is_directive_byte rest) rest)) (suc (prefix_len is_directive_byte rest)) word_within (word_shown f, word_is lt, e)
       (λ j m le h. (word_only j m h (class_is c rest m j h ∙ rw f refl)).1)
 
   not_open_here : c ≡ 37 → ¬ IsOpen (c ∷ rest)
@@ -394,45 +405,45 @@ module _ (c : ℕ) (rest : List ℕ) (no_mark : begins_with 37 rest ≡ false) (
   not_open_here f (open_prologue e h) = false≢true (sym no_prologue ∙ prologue_begins c rest e)
   not_open_here f (open_block e h) = let g : c ∷ take 0 rest ≡ 123 ∷ [] = e in let k : c ≡ 123 = cc in omega arith
 
-  nothing_here : c ≡ 37 → prefix_len is_word_byte rest ≡ 0 → BeginsNothing (c ∷ rest) × BeginsNeither (c ∷ rest)
+  nothing_here : c ≡ 37 → prefix_len is_directive_byte rest ≡ 0 → BeginsNoItem (c ∷ rest) × BeginsNeither (c ∷ rest)
   nothing_here f no_word =
       (λ i n known b. omega (arith, (word_only i n b.spelled (class_is c rest n i b.spelled ∙ rw f refl)).0), (not_open_here f, λ u. omega (arith, (word_fits c rest u.0 u.1 u.2.spelled.0 u.2.spelled.1).0)))
 
-module _ (text behind : List ℕ) (n : ℕ) (e : slice_get text 0 ≡ Some 37) (is : behind ≡ drop 1 text) (no_mark : begins_with 37 (drop 1 text) ≡ false) (no_prologue : begins_with 123 (drop 1 text) ≡ false) (size : n ≡ prefix_len is_word_byte behind) where
-  pub directive_is : (d : Directive) → (n ≡ 0 → ⊥) → Some d ≡ directive_of (take n behind) → Begins text (directive d) (n + 1)
+module _ (text behind : List ℕ) (n : ℕ) (e : slice_get text 0 ≡ Some 37) (is : behind ≡ drop 1 text) (no_mark : begins_with 37 (drop 1 text) ≡ false) (no_prologue : begins_with 123 (drop 1 text) ≡ false) (size : n ≡ prefix_len is_directive_byte behind) where
+  pub directive_is : (d : Directive) → (n ≡ 0 → ⊥) → Some d ≡ directive_of (take n behind) → BeginsItem text (directive d) (n + 1)
   directive_is d some found = by_text text e is no_mark no_prologue
     where
-      by_text : (t : List ℕ) → slice_get t 0 ≡ Some 37 → behind ≡ drop 1 t → begins_with 37 (drop 1 t) ≡ false → begins_with 123 (drop 1 t) ≡ false → Begins t (directive d) (n + 1)
+      by_text : (t : List ℕ) → slice_get t 0 ≡ Some 37 → behind ≡ drop 1 t → begins_with 37 (drop 1 t) ≡ false → begins_with 123 (drop 1 t) ≡ false → BeginsItem t (directive d) (n + 1)
       by_text [] e is a b = absurd cc
       by_text (c ∷ rest) e is a b =
           let f : c ≡ 37 = cc in
           let g : behind ≡ rest = is in
-          let k : n ≡ prefix_len is_word_byte rest = size ∙ ap (prefix_len is_word_byte) g in
-          let w : directive_of (take (prefix_len is_word_byte rest) rest) ≡ Some d = rw (← k, ← g) (sym found) in
+          let k : n ≡ prefix_len is_directive_byte rest = size ∙ ap (prefix_len is_directive_byte) g in
+          let w : directive_of (take (prefix_len is_directive_byte rest) rest) ≡ Some d = rw (← k, ← g) (sym found) in
           rw (add-one, k) (directive_here c rest a b d f (omega arith) w)
 
-  pub unknown_is : (n ≡ 0 → ⊥) → None ≡ directive_of (take n behind) → BeginsNothing text × BeginsUnknown text
+  pub unknown_is : (n ≡ 0 → ⊥) → None ≡ directive_of (take n behind) → BeginsNoItem text × BeginsUnknown text
   unknown_is some found = by_text text e is no_mark no_prologue
     where
-      by_text : (t : List ℕ) → slice_get t 0 ≡ Some 37 → behind ≡ drop 1 t → begins_with 37 (drop 1 t) ≡ false → begins_with 123 (drop 1 t) ≡ false → BeginsNothing t × BeginsUnknown t
+      by_text : (t : List ℕ) → slice_get t 0 ≡ Some 37 → behind ≡ drop 1 t → begins_with 37 (drop 1 t) ≡ false → begins_with 123 (drop 1 t) ≡ false → BeginsNoItem t × BeginsUnknown t
       by_text [] e is a b = absurd cc
       by_text (c ∷ rest) e is a b =
           let f : c ≡ 37 = cc in
           let g : behind ≡ rest = is in
-          let k : n ≡ prefix_len is_word_byte rest = size ∙ ap (prefix_len is_word_byte) g in
-          let w : directive_of (take (prefix_len is_word_byte rest) rest) ≡ None = rw (← k, ← g) (sym found) in
+          let k : n ≡ prefix_len is_directive_byte rest = size ∙ ap (prefix_len is_directive_byte) g in
+          let w : directive_of (take (prefix_len is_directive_byte rest) rest) ≡ None = rw (← k, ← g) (sym found) in
           let u = unknown_here c rest a b f (omega arith) w in
-          (nothing_unknown (c ∷ rest) _ _ u, (take (prefix_len is_word_byte rest) rest, suc (prefix_len is_word_byte rest), u))
+          (nothing_unknown (c ∷ rest) _ _ u, (take (prefix_len is_directive_byte rest) rest, suc (prefix_len is_directive_byte rest), u))
 
-  pub no_directive : n ≡ 0 → BeginsNothing text × BeginsNeither text
+  pub no_directive : n ≡ 0 → BeginsNoItem text × BeginsNeither text
   no_directive none = by_text text e is no_mark no_prologue
     where
-      by_text : (t : List ℕ) → slice_get t 0 ≡ Some 37 → behind ≡ drop 1 t → begins_with 37 (drop 1 t) ≡ false → begins_with 123 (drop 1 t) ≡ false → BeginsNothing t × BeginsNeither t
+      by_text : (t : List ℕ) → slice_get t 0 ≡ Some 37 → behind ≡ drop 1 t → begins_with 37 (drop 1 t) ≡ false → begins_with 123 (drop 1 t) ≡ false → BeginsNoItem t × BeginsNeither t
       by_text [] e is a b = absurd cc
       by_text (c ∷ rest) e is a b =
           let f : c ≡ 37 = cc in
           let g : behind ≡ rest = is in
-          let k : n ≡ prefix_len is_word_byte rest = size ∙ ap (prefix_len is_word_byte) g in
+          let k : n ≡ prefix_len is_directive_byte rest = size ∙ ap (prefix_len is_directive_byte) g in
           nothing_here c rest a b f (sym k ∙ none)
 
 -- what isn't closed is no directive

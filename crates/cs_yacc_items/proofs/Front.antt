@@ -5,9 +5,10 @@ use Rattle.std.specs.List.{AllByRecursion, prefix_len}
 use Rattle.std.proofs.lemmas.Bool.{false≢true, cases_lt}
 use Rattle.std.proofs.lemmas.Bool.Decides.{nat_tests}
 use Rattle.cs_ctext.proofs.LiteralValues.{same_literal}
-use Rattle.cs_yacc_items.specs.Bytes.{begins_name, is_word_byte, is_digit}
+use Rattle.cs_bytes.specs.Classes.{is_digit}
+use Rattle.cs_yacc_items.specs.Bytes.{begins_name, is_directive_byte}
 use Rattle.cs_yacc_items.specs.Directives.{directive_of}
-use Rattle.cs_yacc_items.specs.Items.{Item, mark, prologue, directive, unknown, name, literal, number, tag, block, colon, semicolon, bar, comma, Shows, IsWord, IsNumber, IsPrologue, IsTag, Spells, Begins, BeginsNothing, IsKnown}
+use Rattle.cs_yacc_items.specs.Items.{Item, mark, prologue, directive, unknown, name, literal, number, tag, block, colon, semicolon, bar, comma, Shows, IsDirectiveWord, IsNumber, IsPrologue, IsTag, Spells, BeginsItem, BeginsNoItem, IsKnown}
 
 -- ---- runs of bytes
 
@@ -115,24 +116,24 @@ class_is c text n comma h = class_first c 44 44 ((shows_cons c text 44 [] n h).0
 
 -- ---- the second byte behind `%`
 
-word_second : (c d : ℕ) (rest word : List ℕ) (n : ℕ) → Shows (c ∷ d ∷ rest) (37 ∷ word) n → IsWord word → is_word_byte d ≡ true
+word_second : (c d : ℕ) (rest word : List ℕ) (n : ℕ) → Shows (c ∷ d ∷ rest) (37 ∷ word) n → IsDirectiveWord word → is_directive_byte d ≡ true
 word_second c d rest [] n h w = absurd w
 word_second c d rest (x ∷ word) n h w =
     let a = shows_cons c (d ∷ rest) 37 (x ∷ word) n h in
     let b = shows_cons d rest x word a.1 a.2 in
     rw b.0 w.0
 
-word_short : (c : ℕ) (word : List ℕ) (n : ℕ) → Shows (c ∷ []) (37 ∷ word) n → IsWord word → ⊥
+word_short : (c : ℕ) (word : List ℕ) (n : ℕ) → Shows (c ∷ []) (37 ∷ word) n → IsDirectiveWord word → ⊥
 word_short c [] n h w = w
 word_short c (x ∷ word) n h w = let a = shows_cons c [] 37 (x ∷ word) n h in shows_nothing x word a.1 a.2
 
-no_word_37 : is_word_byte 37 ≡ true → ⊥
+no_word_37 : is_directive_byte 37 ≡ true → ⊥
 no_word_37 e = false≢true e
 
-no_word_123 : is_word_byte 123 ≡ true → ⊥
+no_word_123 : is_directive_byte 123 ≡ true → ⊥
 no_word_123 e = false≢true e
 
-pub mark_no_word : (text word : List ℕ) (m n : ℕ) → Shows text (codes "%%") m → Shows text (37 ∷ word) n → IsWord word → ⊥
+pub mark_no_word : (text word : List ℕ) (m n : ℕ) → Shows text (codes "%%") m → Shows text (37 ∷ word) n → IsDirectiveWord word → ⊥
 mark_no_word [] word m n h g w = shows_nothing 37 (37 ∷ []) m h
 mark_no_word (c ∷ []) word m n h g w = word_short c word n g w
 mark_no_word (c ∷ d ∷ rest) word m n h g w =
@@ -140,7 +141,7 @@ mark_no_word (c ∷ d ∷ rest) word m n h g w =
     let b = shows_cons d rest 37 [] a.1 a.2 in
     no_word_37 (rw b.0 at (word_second c d rest word n g w))
 
-pub prologue_no_word : (text word : List ℕ) (n : ℕ) → take 2 text ≡ codes "%{" → Shows text (37 ∷ word) n → IsWord word → ⊥
+pub prologue_no_word : (text word : List ℕ) (n : ℕ) → take 2 text ≡ codes "%{" → Shows text (37 ∷ word) n → IsDirectiveWord word → ⊥
 prologue_no_word [] word n e g w = cc
 prologue_no_word (c ∷ []) word n e g w = word_short c word n g w
 prologue_no_word (c ∷ d ∷ rest) word n e g w =
@@ -154,9 +155,9 @@ mark_no_prologue text n h e = let f : n ≡ 2 = h.1 in let g : take 2 text ≡ c
 pub same_prologue : (text : List ℕ) (m n : ℕ) → IsPrologue text m → IsPrologue text n → m ≡ n
 same_prologue text m n p q =
     elim (cases_lt p.inside q.inside) [
-      | inl lt ↦ absurd (q.first p.inside lt p.closed)
+      | inl lt ↦ absurd (false≢true (sym (q.closed.none_before p.inside lt) ∙ p.closed.here))
       | inr ge ↦ elim (cases_lt q.inside p.inside) [
-        | inl lt ↦ absurd (p.first q.inside lt q.closed)
+        | inl lt ↦ absurd (false≢true (sym (p.closed.none_before q.inside lt) ∙ q.closed.here))
         | inr le ↦ omega (arith, p.ends, q.ends)
       ]
     ]
@@ -202,13 +203,13 @@ same_item (c ∷ text) n i j p q = pick i j p q (class_is c text n i p ∙ sym (
     pick comma comma p q e = refl
     pick i j p q e = absurd (omega arith)
 
-pub same_size : (text : List ℕ) (i j : Item) (m n : ℕ) → Begins text i m → Begins text j n → (m ≡ n) × (i ≡ j)
+pub same_size : (text : List ℕ) (i j : Item) (m n : ℕ) → BeginsItem text i m → BeginsItem text j n → (m ≡ n) × (i ≡ j)
 same_size text i j m n a b =
     let e : m ≡ n = omega (arith, a.longest j n b.within b.spelled, b.longest i m a.within a.spelled) in
     (e, same_item text m i j a.spelled (rw e b.spelled))
 
 -- a directive of an unknown word is nothing that reading takes
-pub nothing_unknown : (text : List ℕ) (w : List ℕ) (n : ℕ) → Begins text (unknown w) n → BeginsNothing text
+pub nothing_unknown : (text : List ℕ) (w : List ℕ) (n : ℕ) → BeginsItem text (unknown w) n → BeginsNoItem text
 nothing_unknown text w n u item size known b = not_known item known (same_size text (unknown w) item n size u b).1
   where
     not_known : (i : Item) → IsKnown i → unknown w ≡ i → ⊥

@@ -7,7 +7,8 @@ use Rattle.cs_ctext.specs.Comments.{IsComment}
 use Rattle.cs_ctext.specs.Scans.{comment_size}
 use Rattle.cs_ctext.proofs.CommentSizes.{comment_size-comment}
 use Rattle.cs_ctext.proofs.PartSizes.{opens-comment, opens-slash}
-use Rattle.cs_yacc_items.specs.Bytes.{is_blank, begins_blank}
+use Rattle.cs_bytes.specs.Classes.{is_white_space}
+use Rattle.cs_bytes.specs.Places.{front}
 use Rattle.cs_yacc_items.specs.Items.{IsGap, nothing, blank, comment}
 
 -- no gap stands in front
@@ -29,8 +30,8 @@ same_comment text c d p q =
     let f : comment_size text ≡ Some d = comment_size-comment text d q in
     cc
 
-pub comment_not_blank : (b : ℕ) (text : List ℕ) (c : ℕ) → IsComment (b ∷ text) c → is_blank b ≡ true → ⊥
-comment_not_blank b text c is e = let f : b ≡ 47 = opens-slash b text (opens-comment (b ∷ text) c is) in let g : is_blank 47 ≡ true = rw f at e in false≢true g
+pub comment_not_blank : (b : ℕ) (text : List ℕ) (c : ℕ) → IsComment (b ∷ text) c → is_white_space b ≡ true → ⊥
+comment_not_blank b text c is e = let f : b ≡ 47 = opens-slash b text (opens-comment (b ∷ text) c is) in let g : is_white_space 47 ≡ true = rw f at e in false≢true g
 
 none_left : (text : List ℕ) (n : ℕ) → NoGap text → IsGap text n → 0 ≡ n
 none_left text zero p g = refl
@@ -54,18 +55,18 @@ same_gap {text = text} (comment {c = c} {n = i} {m = n} is g e) (comment {c = d}
 
 -- ---- one step
 
-blank_front : (text : List ℕ) → begins_blank text ≡ true → IsGap text 1
+blank_front : (text : List ℕ) → front is_white_space text ≡ true → IsGap text 1
 blank_front [] e = absurd (false≢true e)
 blank_front (b ∷ text) e = blank e nothing
 
-some_front : (text : List ℕ) → begins_blank text ≡ true → 0 < length text
+some_front : (text : List ℕ) → front is_white_space text ≡ true → 0 < length text
 some_front [] e = absurd (false≢true e)
 some_front (b ∷ text) e = omega arith
 
-pub blank_gap : (bytes : List ℕ) (at : ℕ) → begins_blank (drop at bytes) ≡ true → IsGap (drop at bytes) ((at + 1) - at)
+pub blank_gap : (bytes : List ℕ) (at : ℕ) → front is_white_space (drop at bytes) ≡ true → IsGap (drop at bytes) ((at + 1) - at)
 blank_gap bytes at e = let one : (at + 1) - at ≡ 1 = omega arith in rw one (blank_front (drop at bytes) e)
 
-pub blank_within : (bytes : List ℕ) (at : ℕ) → begins_blank (drop at bytes) ≡ true → at + 1 ≤ length bytes
+pub blank_within : (bytes : List ℕ) (at : ℕ) → front is_white_space (drop at bytes) ≡ true → at + 1 ≤ length bytes
 blank_within bytes at e = omega (arith, some_front (drop at bytes) e, length-drop at bytes)
 
 pub comment_gap : (text : List ℕ) (at : ℕ) (found : Option ℕ) → IfSome found (λ end. IsComment text (end - at)) → IfSome found (λ end. IsGap text (end - at))
@@ -73,11 +74,11 @@ comment_gap text at None h = h
 comment_gap text at (Some end) h = comment h nothing (omega arith)
 
 -- where neither a blank nor a closed comment stands, no gap does
-pub no_gap : (text : List ℕ) → begins_blank text ≡ false → ((c : ℕ) → IsComment text c → ⊥) → (n : ℕ) → IsGap text (suc n) → ⊥
+pub no_gap : (text : List ℕ) → front is_white_space text ≡ false → ((c : ℕ) → IsComment text c → ⊥) → (n : ℕ) → IsGap text (suc n) → ⊥
 no_gap text no_blank no_comment n (blank {b = b} e g) = false≢true (sym no_blank ∙ e)
 no_gap text no_blank no_comment n (comment {c = c} is g e) = no_comment c is
 
-pub no_gap_open : (text : List ℕ) (found : Option ℕ) → begins_blank text ≡ false → IfNone found ((c : ℕ) → ¬ IsComment text c) → IfNone found ((n : ℕ) → ¬ IsGap text (suc n))
+pub no_gap_open : (text : List ℕ) (found : Option ℕ) → front is_white_space text ≡ false → IfNone found ((c : ℕ) → ¬ IsComment text c) → IfNone found ((n : ℕ) → ¬ IsGap text (suc n))
 no_gap_open text None no_blank h = no_gap text no_blank h
 no_gap_open text (Some end) no_blank h = tt
 

@@ -4,17 +4,18 @@ use Rattle.std.proofs.lemmas.Bool.Decides.{nat_tests}
 use Rattle.std.proofs.lemmas.List.{length-drop, drop-drop, drop_all}
 use Rattle.cs_ctext.specs.Comments.{IsComment, OpensComment}
 use Rattle.cs_ctext.proofs.PartSizes.{opens-comment, opens-slash}
-use Rattle.cs_yacc_items.specs.Bytes.{is_blank, begins_name, is_digit}
-use Rattle.cs_yacc_items.specs.Items.{Item, mark, prologue, directive, unknown, name, literal, number, tag, block, colon, semicolon, bar, comma, IsNumber, Spells, Begins, BeginsNothing, IsGap, blank, comment, IsKnown, Placed, Follows, Reached, start, marks_behind, ReadsTo, Ends, at_mark, at_end, Reads, Stops, StopsAt}
+use Rattle.cs_bytes.specs.Classes.{is_white_space, is_digit}
+use Rattle.cs_yacc_items.specs.Bytes.{begins_name}
+use Rattle.cs_yacc_items.specs.Items.{Item, mark, prologue, directive, unknown, name, literal, number, tag, block, colon, semicolon, bar, comma, IsNumber, Spells, BeginsItem, BeginsNoItem, IsGap, blank, comment, IsKnown, Placed, Follows, Reached, start, marks_behind, ReadsTo, ReadingEnds, at_mark, at_end, Reads, Stops, StopsAt}
 use Rattle.cs_yacc_items.proofs.Gaps.{NoGap, same_gap}
 use Rattle.cs_yacc_items.proofs.Front.{spells_nothing, class, byte_class, class_is, same_size}
 
 -- ---- an item is no gap
 
-blank_class : (c : ℕ) → is_blank c ≡ true → byte_class c ≡ c
+blank_class : (c : ℕ) → is_white_space c ≡ true → byte_class c ≡ c
 blank_class c h = let f : begins_name c ≡ false = grind (arith, nat_tests) in let g : is_digit c ≡ false = grind (arith, nat_tests) in rw (f, g) refl
 
-blank_small : (c : ℕ) → is_blank c ≡ true → (2 ≤ c) × (c ≤ 32)
+blank_small : (c : ℕ) → is_white_space c ≡ true → (2 ≤ c) × (c ≤ 32)
 blank_small c h = (grind (arith, nat_tests), grind (arith, nat_tests))
 
 class_big : (i : Item) (c : ℕ) → class i ≡ c → 2 ≤ c → c ≤ 32 → ⊥
@@ -36,7 +37,7 @@ class_slash : (i : Item) → class i ≡ 47 → ⊥
 class_slash mark e = omega arith
 class_slash i e = omega arith
 
-item_no_blank : (c : ℕ) (text : List ℕ) (n : ℕ) (i : Item) → Spells (c ∷ text) n i → is_blank c ≡ true → ⊥
+item_no_blank : (c : ℕ) (text : List ℕ) (n : ℕ) (i : Item) → Spells (c ∷ text) n i → is_white_space c ≡ true → ⊥
 item_no_blank c text n i h e =
     let b = blank_small c e in
     class_big i c (class_is c text n i h ∙ blank_class c e) b.0 b.1
@@ -110,7 +111,7 @@ module _ (bytes : List ℕ) (from : ℕ) where
   follows_same p q to u f g =
       let size : f.gap.0 ≡ g.gap.0 = gap_at f.gap.0 g.gap.0 f.gap.1 g.gap.1 (ends_gap p to f) (ends_gap q u g) in
       let at : p.at ≡ q.at = omega (arith, f.gap.2, g.gap.2) in
-      let b : Begins (drop p.at bytes) q.item g.item.0 = subst (λ (k : ℕ). Begins (drop k bytes) q.item g.item.0) (sym at) g.item.1 in
+      let b : BeginsItem (drop p.at bytes) q.item g.item.0 = subst (λ (k : ℕ). BeginsItem (drop k bytes) q.item g.item.0) (sym at) g.item.1 in
       let s = same_size (drop p.at bytes) p.item q.item f.item.0 g.item.0 f.item.1 b in
       (placed_same p q at s.1, omega (arith, s.0, f.item.2, g.item.2))
 
@@ -134,7 +135,7 @@ module _ (bytes : List ℕ) (from : ℕ) where
   follows_not_stops p to at f s =
       let size : f.gap.0 ≡ s.gap.0 = gap_at f.gap.0 s.gap.0 f.gap.1 s.gap.1 (ends_gap p to f) (stop_ends at s) in
       let same : p.at ≡ at = omega (arith, f.gap.2, s.gap.2) in
-      s.no_item p.item f.item.0 f.known (subst (λ (k : ℕ). Begins (drop k bytes) p.item f.item.0) same f.item.1)
+      s.no_item p.item f.item.0 f.known (subst (λ (k : ℕ). BeginsItem (drop k bytes) p.item f.item.0) same f.item.1)
 
   stops_same : (a b : ℕ) → Stops bytes from a → Stops bytes from b → a ≡ b
   stops_same a b s t = omega (arith, s.gap.2, t.gap.2, gap_at s.gap.0 t.gap.0 s.gap.1 t.gap.1 (stop_ends a s) (stop_ends b t))
@@ -150,14 +151,14 @@ module _ (bytes : List ℕ) (from : ℕ) where
 abbrev Halts : List ℕ → Reached → Type 0
 Halts bytes r = (p : Placed) (to : ℕ) → r.marks < 2 → Follows bytes r.at p to → ⊥
 
-ends_halts : (bytes : List ℕ) (r : Reached) → Ends bytes r → Halts bytes r
+ends_halts : (bytes : List ℕ) (r : Reached) → ReadingEnds bytes r → Halts bytes r
 ends_halts bytes r (at_mark e) p to lt f = omega arith
 ends_halts bytes r (at_end l le g) p to lt f = follows_not_end bytes r.at p to le f g
 
 stops_halts : (bytes : List ℕ) (r : Reached) (at : ℕ) → Stops bytes r.at at → Halts bytes r
 stops_halts bytes r at s p to lt f = follows_not_stops bytes r.at p to at f s
 
-ends_not_stops : (bytes : List ℕ) (r : Reached) (at : ℕ) → r.marks < 2 → Ends bytes r → Stops bytes r.at at → ⊥
+ends_not_stops : (bytes : List ℕ) (r : Reached) (at : ℕ) → r.marks < 2 → ReadingEnds bytes r → Stops bytes r.at at → ⊥
 ends_not_stops bytes r at lt (at_mark e) s = omega arith
 ends_not_stops bytes r at lt (at_end l le g) s = stops_not_end bytes r.at at le s g
 
@@ -188,7 +189,7 @@ one_stop bytes ps qs a b r s =
 pub stopped_not_read : (bytes : List ℕ) (ps qs : List Placed) (at : ℕ) → StopsAt bytes ps at → Reads bytes qs → ⊥
 stopped_not_read bytes ps qs at s r =
     let same = (same_walk bytes start ps qs s.from r.to s.read r.read (stops_halts bytes s.from at s.stops) (ends_halts bytes r.to r.ends)).1 in
-    ends_not_stops bytes s.from at s.more (subst (Ends bytes) (sym same) r.ends) s.stops
+    ends_not_stops bytes s.from at s.more (subst (ReadingEnds bytes) (sym same) r.ends) s.stops
 
 -- ---- reading on
 
@@ -218,7 +219,7 @@ HasRead-more bytes items all from marks p to now h lt f e g =
       read = ReadsTo-push bytes start items (record { at = from; marks = marks }) p to h.read lt f;
     })
 
-pub read_to_end : (bytes : List ℕ) (items : List Placed) (r : Reached) → HasRead bytes items r → Ends bytes r → Reads bytes items
+pub read_to_end : (bytes : List ℕ) (items : List Placed) (r : Reached) → HasRead bytes items r → ReadingEnds bytes r → Reads bytes items
 read_to_end bytes items r h e = record { to = r; read = h.read; ends = e }
 
 pub read_to_mark : (bytes : List ℕ) (items : List Placed) (from marks : ℕ) → HasRead bytes items (record { at = from; marks = marks }) → 2 ≤ marks → Reads bytes items
@@ -230,14 +231,14 @@ read_to_stop bytes items r at h lt s = record { from = r; read = h.read; more = 
 -- ---- the next item, as the code finds it
 
 module _ (bytes : List ℕ) (from at : ℕ) (gap : IsGap (drop from bytes) (at - from)) (after : from ≤ at) (ends : NoGap (drop at bytes)) where
-  pub end_is : at ≡ length bytes → (marks : ℕ) → marks < 2 → Ends bytes (record { at = from; marks = marks })
+  pub end_is : at ≡ length bytes → (marks : ℕ) → marks < 2 → ReadingEnds bytes (record { at = from; marks = marks })
   end_is e marks lt = at_end lt (omega arith) (rw e at gap)
 
-  pub follows_is : (text : List ℕ) (i : Item) (n : ℕ) → text ≡ drop at bytes → Begins text i n → IsKnown i → Follows bytes from (record { at = at; item = i }) (at + n)
-  follows_is text i n e b k = record { gap = (at - from, gap, omega arith); item = (n, subst (λ (t : List ℕ). Begins t i n) e b, refl); known = k }
+  pub follows_is : (text : List ℕ) (i : Item) (n : ℕ) → text ≡ drop at bytes → BeginsItem text i n → IsKnown i → Follows bytes from (record { at = at; item = i }) (at + n)
+  follows_is text i n e b k = record { gap = (at - from, gap, omega arith); item = (n, subst (λ (t : List ℕ). BeginsItem t i n) e b, refl); known = k }
 
-  pub stops_is : (text : List ℕ) → at < length bytes → text ≡ drop at bytes → BeginsNothing text → Stops bytes from at
-  stops_is text lt e none = record { gap = (at - from, gap, omega arith); left = lt; no_gap = ends; no_item = subst BeginsNothing e none }
+  pub stops_is : (text : List ℕ) → at < length bytes → text ≡ drop at bytes → BeginsNoItem text → Stops bytes from at
+  stops_is text lt e none = record { gap = (at - from, gap, omega arith); left = lt; no_gap = ends; no_item = subst BeginsNoItem e none }
 
 -- ---- how many items
 few_to : (bytes : List ℕ) (r : Reached) (ps : List Placed) (to : Reached) → ReadsTo bytes r ps to → (r.at + length ps ≤ to.at) × (r.at ≤ length bytes → to.at ≤ length bytes)

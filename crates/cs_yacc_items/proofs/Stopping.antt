@@ -4,7 +4,7 @@ use Rattle.std.specs.Prelude.{Err}
 use Rattle.cs_yacc_items.specs.declared.error.ItemsError.{ItemsError}
 use Rattle.cs_yacc_items.specs.declared.error.ItemsError.TheVariants.{BadItem, Unended, UnknownDirective, Memory}
 use Rattle.cs_yacc_items.specs.Items.{Placed}
-use Rattle.cs_yacc_items.specs.Steps.{StopsWith}
+use Rattle.cs_yacc_items.specs.Finds.{StopsWith}
 use Rattle.cs_yacc_items.specs.Stops.{AnswersItems}
 use Rattle.cs_yacc_items.proofs.Reading.{HasRead, read_to_stop}
 

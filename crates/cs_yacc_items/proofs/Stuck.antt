@@ -6,7 +6,7 @@ use Rattle.std.proofs.lemmas.List.{at_drop_more, at_drop_all}
 use Rattle.cs_yacc_items.specs.declared.item.Placed as held
 use Rattle.cs_yacc_items.specs.Views.{item_of, placed_of, placed_all}
 use Rattle.cs_yacc_items.specs.Items.{Placed, items_of}
-use Rattle.cs_yacc_items.specs.Table.{Place, declarations, next_place, Row, may_end, MayEnd, Leads, IsTaken, StuckFrom, at_item, at_end, IsStuck}
+use Rattle.cs_yacc_items.specs.Table.{Place, declarations, next_place, Row, may_end, MayEnd, TakesTo, IsTaken, StuckFrom, at_item, at_end, IsStuck}
 
 -- ---- the offset, found item by item
 
@@ -36,16 +36,16 @@ some_at place len (p ∷ ps) at e = by_next (λ next f. some_at next len ps at f
     by_next rest None m f = at_item [] p ps place refl refl (λ next row. let g : None ≡ Some next = sym m ∙ row in absurd cc) (cc)
     by_next rest (Some next) m f = stuck_more place next len p ps at m (rest next f)
 
-none_at : (place : Place) (len : ℕ) (ps : List Placed) → stuck_at place len ps ≡ None → (ending : Place) × Leads place (items_of ps) ending × MayEnd ending
+none_at : (place : Place) (len : ℕ) (ps : List Placed) → stuck_at place len ps ≡ None → (ending : Place) × TakesTo place (items_of ps) ending × MayEnd ending
 none_at place len [] e = by_end (may_end place) refl e
   where
-    by_end : (b : Bool) → may_end place ≡ b → cond b None (Some len) ≡ None → (ending : Place) × Leads place [] ending × MayEnd ending
+    by_end : (b : Bool) → may_end place ≡ b → cond b None (Some len) ≡ None → (ending : Place) × TakesTo place [] ending × MayEnd ending
     by_end true m f = (place, refl, m)
     by_end false m f = absurd cc
 none_at place len (p ∷ ps) e = by_next (λ next f. none_at next len ps f) (next_place place p.item) refl e
   where
-    by_next : ((next : Place) → stuck_at next len ps ≡ None → (ending : Place) × Leads next (items_of ps) ending × MayEnd ending) → (o : Option Place) → next_place place p.item ≡ o → stuck_behind o p.at len (λ next. stuck_at next len ps) ≡ None
-        → (ending : Place) × Leads place (items_of (p ∷ ps)) ending × MayEnd ending
+    by_next : ((next : Place) → stuck_at next len ps ≡ None → (ending : Place) × TakesTo next (items_of ps) ending × MayEnd ending) → (o : Option Place) → next_place place p.item ≡ o → stuck_behind o p.at len (λ next. stuck_at next len ps) ≡ None
+        → (ending : Place) × TakesTo place (items_of (p ∷ ps)) ending × MayEnd ending
     by_next rest None m f = absurd cc
     by_next rest (Some next) m f = let r = rest next f in (r.0, (next, m, r.1), r.2)
 
@@ -56,7 +56,7 @@ pub taken_from_none : (len : ℕ) (ps : List Placed) → None ≡ stuck_at decla
 taken_from_none len ps e = none_at declarations len ps (sym e)
 
 -- and back
-item_stuck : (place : Place) (len : ℕ) (front : List Placed) (p : Placed) (behind : List Placed) (ending : Place) → Leads place (items_of front) ending → ((next : Place) → ¬ Row ending p.item next) → stuck_at place len (front ++ p ∷ behind) ≡ Some p.at
+item_stuck : (place : Place) (len : ℕ) (front : List Placed) (p : Placed) (behind : List Placed) (ending : Place) → TakesTo place (items_of front) ending → ((next : Place) → ¬ Row ending p.item next) → stuck_at place len (front ++ p ∷ behind) ≡ Some p.at
 item_stuck place len [] p behind ending l none = by_next (next_place place p.item) refl
   where
     by_next : (o : Option Place) → next_place place p.item ≡ o → stuck_behind o p.at len (λ next. stuck_at next len behind) ≡ Some p.at
@@ -64,7 +64,7 @@ item_stuck place len [] p behind ending l none = by_next (next_place place p.ite
     by_next (Some next) m = absurd (none next (subst (λ (x : Place). Row x p.item next) l m))
 item_stuck place len (q ∷ front) p behind ending l none = rw (l.1) (item_stuck l.0 len front p behind ending l.2 none)
 
-end_stuck : (place : Place) (len : ℕ) (ps : List Placed) (ending : Place) → Leads place (items_of ps) ending → ¬ MayEnd ending → stuck_at place len ps ≡ Some len
+end_stuck : (place : Place) (len : ℕ) (ps : List Placed) (ending : Place) → TakesTo place (items_of ps) ending → ¬ MayEnd ending → stuck_at place len ps ≡ Some len
 end_stuck place len [] ending l none = by_end (may_end place) refl
   where
     by_end : (b : Bool) → may_end place ≡ b → cond b None (Some len) ≡ Some len
@@ -72,7 +72,7 @@ end_stuck place len [] ending l none = by_end (may_end place) refl
     by_end false m = refl
 end_stuck place len (p ∷ ps) ending l none = rw (l.1) (end_stuck l.0 len ps ending l.2 none)
 
-taken_none : (place : Place) (len : ℕ) (ps : List Placed) (ending : Place) → Leads place (items_of ps) ending → MayEnd ending → stuck_at place len ps ≡ None
+taken_none : (place : Place) (len : ℕ) (ps : List Placed) (ending : Place) → TakesTo place (items_of ps) ending → MayEnd ending → stuck_at place len ps ≡ None
 taken_none place len [] ending l m = let e : may_end place ≡ true = subst MayEnd (sym l) m in rw e refl
 taken_none place len (p ∷ ps) ending l m = rw (l.1) (taken_none l.0 len ps ending l.2 m)
 

@@ -5,4 +5,5 @@ pub mod Table
 pub mod Views
 pub mod PlaceView
 pub mod Stops
-pub mod Steps
+pub mod Limits
+pub mod Finds

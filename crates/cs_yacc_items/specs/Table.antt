@@ -102,20 +102,20 @@ abbrev pub MayEnd : Place → Type 0
 MayEnd place = may_end place ≡ true
 
 -- From the place the items lead to the last place: there are places on the way, and each step is a row of the table.
-abbrev pub Leads : Place → List Item → Place → Type 0
-Leads place [] last = place ≡ last
-Leads place (item ∷ items) last = (next : Place) × Row place item next × Leads next items last
+abbrev pub TakesTo : Place → List Item → Place → Type 0
+TakesTo place [] last = place ≡ last
+TakesTo place (item ∷ items) last = (next : Place) × Row place item next × TakesTo next items last
 
 -- a file of these items is taken
 abbrev pub IsTaken : List Item → Type 0
-IsTaken items = (last : Place) × Leads declarations items last × MayEnd last
+IsTaken items = (last : Place) × TakesTo declarations items last × MayEnd last
 
 -- From the place, the table takes the items before the offset and not the item at the offset; or it takes all items to a
 -- place where the file may not end, and the offset is the file's length.
 pub data StuckFrom (place : Place) (length : ℕ) (ps : List Placed) (at : ℕ) : Type 0 where
-  at_item : (front : List Placed) (p : Placed) (behind : List Placed) (last : Place) → ps ≡ front ++ p ∷ behind → Leads place (items_of front) last → ((next : Place) → ¬ Row last p.item next) → at ≡ p.at
+  at_item : (front : List Placed) (p : Placed) (behind : List Placed) (last : Place) → ps ≡ front ++ p ∷ behind → TakesTo place (items_of front) last → ((next : Place) → ¬ Row last p.item next) → at ≡ p.at
       → StuckFrom place length ps at
-  at_end : (last : Place) → Leads place (items_of ps) last → ¬ MayEnd last → at ≡ length → StuckFrom place length ps at
+  at_end : (last : Place) → TakesTo place (items_of ps) last → ¬ MayEnd last → at ≡ length → StuckFrom place length ps at
 
 -- a file of these items and this length is refused there
 abbrev pub IsStuck : ℕ → List Placed → ℕ → Type 0

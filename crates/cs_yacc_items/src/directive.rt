@@ -1,8 +1,9 @@
 // The directives of a yacc file.
 
 ghost use Rattle.std.specs.Prelude.{◌≡◌};
-ghost use Rattle.std.specs.Str.{bytes_eq};
 ghost use Rattle.cs_yacc_items.specs.Directives as spec;
+
+use cs_bytes::same_bytes;
 
 /// A directive, by its word.
 #[derive(Clone, Copy, Debug, PartialEq, Eq)]
@@ -20,37 +21,31 @@ pub enum Directive {
     Empty,
 }
 
-fn is_same(word: &[u8], other: &[u8]) -> bool
-    ensures { result ≡ bytes_eq word.now other.now }
-{
-    word == other
-}
-
 /// The directive of the word, where one has it.
 pub fn directive_of(word: &[u8]) -> Option<Directive>
     ensures { result ≡ spec.directive_of word.now }
 {
-    if is_same(word, b"token") {
+    if same_bytes(word, b"token") {
         Some(Directive::Token)
-    } else if is_same(word, b"left") {
+    } else if same_bytes(word, b"left") {
         Some(Directive::Left)
-    } else if is_same(word, b"right") {
+    } else if same_bytes(word, b"right") {
         Some(Directive::Right)
-    } else if is_same(word, b"nonassoc") {
+    } else if same_bytes(word, b"nonassoc") {
         Some(Directive::Nonassoc)
-    } else if is_same(word, b"precedence") {
+    } else if same_bytes(word, b"precedence") {
         Some(Directive::Precedence)
-    } else if is_same(word, b"type") {
+    } else if same_bytes(word, b"type") {
         Some(Directive::TypeOf)
-    } else if is_same(word, b"start") {
+    } else if same_bytes(word, b"start") {
         Some(Directive::Start)
-    } else if is_same(word, b"union") {
+    } else if same_bytes(word, b"union") {
         Some(Directive::Union)
-    } else if is_same(word, b"expect") {
+    } else if same_bytes(word, b"expect") {
         Some(Directive::Expect)
-    } else if is_same(word, b"prec") {
+    } else if same_bytes(word, b"prec") {
         Some(Directive::Prec)
-    } else if is_same(word, b"empty") {
+    } else if same_bytes(word, b"empty") {
         Some(Directive::Empty)
     } else {
         None

@@ -1,30 +1,20 @@
 // What stands between items: blanks and comments.
 
 ghost use Rattle.std.specs.Prelude.{◌≡◌, ℕ, suc, ◌-◌, ◌<◌, ◌≤◌, length, drop, IfSome, IfNone};
-ghost use Rattle.cs_yacc_items.specs.Bytes as kinds;
 ghost use Rattle.cs_yacc_items.specs.Items.{IsGap};
 
-use crate::bytes::is_blank;
+use cs_bytes::{ByteClass, begins, from_offset};
 use cs_ctext::{opens_comment, skip_comment};
-
-/// Whether a blank stands at the offset.
-fn blank_at(bytes: &[u8], at: usize) -> bool
-    ensures { result ≡ kinds.begins_blank (drop at bytes.now) }
-{
-    match bytes.get(at).copied() {
-        Some(byte) => is_blank(byte),
-        None => false,
-    }
-}
 
 /// The offset behind the blank or closed comment that stands at the offset.
 #[tactic(auto, using(crate::proofs::Gaps::blank_within))]
 fn gap_step(bytes: &[u8], at: usize) -> Option<usize>
+    requires { at ≤ length bytes.now }
     ensures gap { IfSome result (λ end. IsGap (drop at bytes.now) (end - at)) }
     ensures within { IfSome result (λ end. (at < end) × (end ≤ length bytes.now)) }
     ensures none { IfNone result ((n : ℕ) → ¬ IsGap (drop at bytes.now) (suc n)) }
 {
-    if blank_at(bytes, at) {
+    if begins(from_offset(bytes, at), ByteClass::WhiteSpace) {
         return Some(at + 1);
     }
     if opens_comment(bytes, at) {

@@ -1,18 +1,17 @@
 // The items of a yacc file.
 
-ghost use Rattle.std.specs.Prelude.{◌≡◌, ◌<◌, ℕ, suc, true, false, length, drop, IfSome, IfNone, IsTrue, IsSomeAnd, slice_get, Some};
-ghost use Rattle.std.specs.List.{prefix_len, position_or_len};
-ghost use Rattle.cs_ctext.specs.Comments.{IsComment, OpensComment};
-ghost use Rattle.cs_ctext.specs.Scans as scans;
+ghost use Rattle.std.specs.Prelude.{◌≡◌, ◌<◌, ℕ, suc, false, length, drop, IsTrue, slice_get, Some};
+ghost use Rattle.cs_bytes.specs.Names.{percent, quote, less_sign, slash, opening_brace};
+ghost use Rattle.cs_bytes.specs.Classes.{is_digit};
+ghost use Rattle.cs_bytes.specs.Places.{front, begins_with, has_at};
+ghost use Rattle.cs_ctext.specs.Comments.{IsComment};
 ghost use Rattle.cs_yacc_items.specs.Bytes as kinds;
 ghost use Rattle.cs_yacc_items.specs.Items as spec;
-ghost use Rattle.cs_yacc_items.specs.Steps.{FindsFront};
+ghost use Rattle.cs_yacc_items.specs.Finds.{FindsFront};
 
-use crate::bytes::{
-    begins_name, ends_tag, from_offset, has_at, has_pair, is_digit, is_name_byte, is_word_byte,
-};
 use crate::directive::{Directive, directive_of};
-use cs_ctext::{opens_comment, read_literal, skip_block};
+use cs_bytes::{ByteClass, find_pair, from_offset, has_at, run_len};
+use cs_ctext::{CText, opens_comment, read_literal};
 
 /// A piece of a yacc file.
 #[derive(Clone, Copy, Debug)]
@@ -50,64 +49,25 @@ pub enum Front<'a> {
     Nothing,
 }
 
-fn name_len(text: &[u8]) -> usize
-    ensures { result ≡ prefix_len kinds.is_name_byte text.now }
-{
-    text.iter().take_while(|b| is_name_byte(**b)).count()
-}
-
-fn word_len(text: &[u8]) -> usize
-    ensures { result ≡ prefix_len kinds.is_word_byte text.now }
-{
-    text.iter().take_while(|b| is_word_byte(**b)).count()
-}
-
-fn digits_len(text: &[u8]) -> usize
-    ensures { result ≡ prefix_len kinds.is_digit text.now }
-{
-    text.iter().take_while(|b| is_digit(**b)).count()
-}
-
-/// The offset of the first `>` or newline, or the length.
-fn tag_len(text: &[u8]) -> usize
-    ensures { result ≡ position_or_len kinds.ends_tag text.now }
-{
-    text.iter().take_while(|b| !ends_tag(**b)).count()
-}
-
-/// The offset of the first `%}`.
-fn closing_at(text: &[u8]) -> Option<usize>
-    ensures found { IfSome result (λ i. scans.begins_with_two 37 125 (drop i text.now) ≡ true) }
-    ensures first { IfSome result (λ i. (k : ℕ) → k < i → scans.begins_with_two 37 125 (drop k text.now) ≡ false) }
-    ensures none { IfNone result ((k : ℕ) → scans.begins_with_two 37 125 (drop k text.now) ≡ false) }
-{
-    for index in 0..text.len() {
-        if has_pair(text, index, b'%', b'}') {
-            return Some(index);
-        }
-    }
-    None
-}
-
 fn prologue_at(text: &[u8]) -> Front<'_>
-    requires percent { slice_get text.now 0 ≡ Some 37 }
-    requires brace { scans.begins_with 123 (drop 1 text.now) ≡ true }
+    requires percent { slice_get text.now 0 ≡ Some percent }
+    requires brace { IsTrue (has_at text.now 1 opening_brace) }
     ensures { FindsFront text.now result }
 {
-    match closing_at(from_offset(text, 2)) {
+    match find_pair(from_offset(text, 2), b'%', b'}') {
         Some(inside) => Front::Item(Item::Prologue, inside + 4),
         None => Front::Open,
     }
 }
 
 fn directive_at(text: &[u8]) -> Front<'_>
-    requires percent { slice_get text.now 0 ≡ Some 37 }
-    requires no_mark { scans.begins_with 37 (drop 1 text.now) ≡ false }
-    requires no_prologue { scans.begins_with 123 (drop 1 text.now) ≡ false }
+    requires percent { slice_get text.now 0 ≡ Some percent }
+    requires no_mark { has_at text.now 1 percent ≡ false }
+    requires no_prologue { has_at text.now 1 opening_brace ≡ false }
     ensures { FindsFront text.now result }
 {
     let behind = from_offset(text, 1);
-    let size = word_len(behind);
+    let size = run_len(behind, ByteClass::WordOr(b'-'));
     if size == 0 {
         return Front::Nothing;
     }
@@ -119,7 +79,7 @@ fn directive_at(text: &[u8]) -> Front<'_>
 
 /// What a `%` in front of the text begins.
 fn percent_at(text: &[u8]) -> Front<'_>
-    requires { slice_get text.now 0 ≡ Some 37 }
+    requires { slice_get text.now 0 ≡ Some percent }
     ensures { FindsFront text.now result }
 {
     if has_at(text, 1, b'%') {
@@ -133,7 +93,7 @@ fn percent_at(text: &[u8]) -> Front<'_>
 
 /// What a quote in front of the text begins.
 fn literal_at(text: &[u8]) -> Front<'_>
-    requires { slice_get text.now 0 ≡ Some 39 }
+    requires { slice_get text.now 0 ≡ Some quote }
     ensures { FindsFront text.now result }
 {
     match read_literal(text, 0) {
@@ -144,11 +104,11 @@ fn literal_at(text: &[u8]) -> Front<'_>
 
 /// What a `<` in front of the text begins.
 fn tag_at(text: &[u8]) -> Front<'_>
-    requires { slice_get text.now 0 ≡ Some 60 }
+    requires { slice_get text.now 0 ≡ Some less_sign }
     ensures { FindsFront text.now result }
 {
     let inside = from_offset(text, 1);
-    let size = tag_len(inside);
+    let size = run_len(inside, ByteClass::Neither(b'>', b'\n'));
     if has_at(inside, size, b'>') {
         Front::Item(Item::Tag, size + 2)
     } else {
@@ -156,36 +116,25 @@ fn tag_at(text: &[u8]) -> Front<'_>
     }
 }
 
-/// What a `{` in front of the text begins.
-fn block_at(text: &[u8]) -> Front<'_>
-    requires { slice_get text.now 0 ≡ Some 123 }
-    ensures { FindsFront text.now result }
-{
-    match skip_block(text, 0) {
-        Some(size) => Front::Item(Item::Block, size),
-        None => Front::Open,
-    }
-}
-
 fn name_at(text: &[u8]) -> Front<'_>
-    requires { IsSomeAnd (slice_get text.now 0) (λ c. IsTrue (kinds.begins_name c)) }
+    requires { IsTrue (front kinds.begins_name text.now) }
     ensures { FindsFront text.now result }
 {
-    let size = name_len(text);
+    let size = run_len(text, ByteClass::WordOr(b'.'));
     Front::Item(Item::Name(&text[..size]), size)
 }
 
 fn number_at(text: &[u8]) -> Front<'_>
-    requires { IsSomeAnd (slice_get text.now 0) (λ c. IsTrue (kinds.is_digit c)) }
+    requires { IsTrue (front is_digit text.now) }
     ensures { FindsFront text.now result }
 {
-    let size = digits_len(text);
+    let size = run_len(text, ByteClass::Digit);
     Front::Item(Item::Number, size)
 }
 
 /// What a `/` in front of the text begins, where no closed comment stands there.
 fn slash_at(text: &[u8]) -> Front<'_>
-    requires slash { slice_get text.now 0 ≡ Some 47 }
+    requires slash { slice_get text.now 0 ≡ Some slash }
     requires no_comment { (n : ℕ) → ¬ IsComment text.now n }
     ensures { FindsFront text.now result }
 {
@@ -196,24 +145,47 @@ fn slash_at(text: &[u8]) -> Front<'_>
     }
 }
 
-/// What stands at the front of the text, where neither a blank nor a closed comment stands there.
-pub fn front_of(text: &[u8]) -> Front<'_>
+/// What other than a block stands at the front of the text, where neither white space nor a closed comment stands there.
+fn front_of(text: &[u8]) -> Front<'_>
     requires some { 0 < length text.now }
     requires no_gap { (n : ℕ) → ¬ spec.IsGap text.now (suc n) }
+    requires no_block { begins_with opening_brace text.now ≡ false }
     ensures { FindsFront text.now result }
 {
     match text[0] {
         b'%' => percent_at(text),
         b'\'' => literal_at(text),
         b'<' => tag_at(text),
-        b'{' => block_at(text),
         b'/' => slash_at(text),
         b':' => Front::Item(Item::Colon, 1),
         b';' => Front::Item(Item::Semicolon, 1),
         b'|' => Front::Item(Item::Bar, 1),
         b',' => Front::Item(Item::Comma, 1),
         b if begins_name(b) => name_at(text),
-        b if is_digit(b) => number_at(text),
+        b if ByteClass::Digit.has(b) => number_at(text),
         _ => Front::Nothing,
+    }
+}
+
+fn begins_name(byte: u8) -> bool
+    ensures { result ≡ kinds.begins_name byte }
+{
+    ByteClass::WordStart.has(byte) || byte == b'.'
+}
+
+/// What stands at the offset, where neither white space nor a closed comment stands there.
+pub fn front_at<'a>(text: &mut CText<'a>, at: usize) -> Front<'a>
+    requires some { at < length text.old }
+    requires no_gap { (n : ℕ) → ¬ spec.IsGap (drop at text.old) (suc n) }
+    ensures front { FindsFront (drop at text.old) result }
+    ensures text { text.new ≡ text.old }
+{
+    let bytes = text.bytes();
+    if !has_at(bytes, at, b'{') {
+        return front_of(from_offset(bytes, at));
+    }
+    match text.skip_block(at) {
+        Some(end) => Front::Item(Item::Block, end - at),
+        None => Front::Open,
     }
 }

@@ -1,16 +1,16 @@
 // Reading a text item by item.
 
-ghost use Rattle.std.specs.Prelude.{◌≡◌, ◌≤◌, ◌<◌, ℕ, length, drop};
+ghost use Rattle.std.specs.Prelude.{◌≡◌, ◌≤◌, ◌<◌, length};
 ghost use Rattle.cs_yacc_items.specs.Items as spec;
-ghost use Rattle.cs_yacc_items.specs.Steps.{IsNext};
+ghost use Rattle.cs_yacc_items.specs.Limits.{most_bytes};
+ghost use Rattle.cs_yacc_items.specs.Finds.{IsNext};
 ghost use Rattle.cs_yacc_items.specs.Stops.{AnswersItems};
 ghost use Rattle.cs_yacc_items.specs.Views.{item_of};
 
-use crate::MOST_BYTES;
-use crate::bytes::from_offset;
 use crate::error::ItemsError;
 use crate::gap::skip_gap;
-use crate::item::{Front, Item, Placed, front_of};
+use crate::item::{Front, Item, Placed, front_at};
+use cs_ctext::CText;
 use std::alloc::Global;
 
 /// What stands behind an offset.
@@ -20,17 +20,19 @@ enum Next<'a> {
     Stop(ItemsError),
 }
 
-fn next_item(bytes: &[u8], from: usize) -> Next<'_>
-    requires within { from ≤ length bytes.now }
-    requires short { length bytes.now ≤ MOST_BYTES }
-    ensures { IsNext bytes.now from result }
+fn next_item<'a>(text: &mut CText<'a>, from: usize) -> Next<'a>
+    requires within { from ≤ length text.old }
+    requires short { length text.old ≤ most_bytes }
+    ensures next { IsNext text.old from result }
+    ensures text { text.new ≡ text.old }
 {
+    let bytes = text.bytes();
     let offset = skip_gap(bytes, from);
     if offset == bytes.len() {
         return Next::End;
     }
     let at = offset as u32;
-    match front_of(from_offset(bytes, offset)) {
+    match front_at(text, offset) {
         Front::Item(item, size) => Next::Item {
             placed: Placed { at, item },
             end: offset + size,
@@ -58,14 +60,15 @@ fn marks_behind(marks: u8, item: Item<'_>) -> u8
 /// `UnknownDirective` where a directive of an unknown word begins, `BadItem` where neither does. `Memory` is want of memory.
 /// Source: POSIX yacc, the grammar file.
 pub fn read_items(alloc: Global, bytes: &[u8]) -> Result<Vec<Placed<'_>>, ItemsError>
-    requires { length bytes.now ≤ MOST_BYTES }
+    requires { length bytes.now ≤ most_bytes }
     ensures { AnswersItems bytes.now result }
 {
+    let mut text = CText::new(bytes);
     let mut items = Vec::new(alloc);
     let mut from = 0;
     let mut marks = 0;
     while marks < 2 {
-        match next_item(bytes, from) {
+        match next_item(&mut text, from) {
             Next::Item { placed, end } => {
                 items.push(placed)?;
                 from = end;

@@ -2,8 +2,11 @@
 
 ghost use Rattle.std.specs.Prelude.{◌≡◌, ℕ, List};
 ghost use Rattle.cs_yacc_items.specs.Items.{Placed, Reads, items_of};
+ghost use Rattle.cs_yacc_items.specs.Limits.{most_bytes};
 ghost use Rattle.cs_yacc_items.specs.Stops.{StopsThere};
 ghost use Rattle.cs_yacc_items.specs.Table.{IsTaken, IsStuck};
+
+use crate::MOST_BYTES;
 
 /// A text is read into one list of items.
 pub fn one_reading()
@@ -22,10 +25,15 @@ pub fn stopped_is_not_read()
 
 /// The table stops at one offset.
 pub fn one_stuck()
-    ensures { (length : ℕ) (ps : List Placed) (a b : ℕ) → IsStuck length ps a → IsStuck length ps b → a ≡ b }
+    ensures { (n : ℕ) (ps : List Placed) (a b : ℕ) → IsStuck n ps a → IsStuck n ps b → a ≡ b }
 {}
 
 /// The table doesn't both stop and take all items.
 pub fn stuck_is_not_taken()
-    ensures { (length : ℕ) (ps : List Placed) (at : ℕ) → IsStuck length ps at → IsTaken (items_of ps) → ⊥ }
+    ensures { (n : ℕ) (ps : List Placed) (at : ℕ) → IsStuck n ps at → IsTaken (items_of ps) → ⊥ }
+{}
+
+/// The constant is the definition's.
+pub fn byte_limit()
+    ensures { MOST_BYTES ≡ most_bytes }
 {}

@@ -2,11 +2,13 @@
 //! may come where.
 //!
 //! The layer above calls `read_items` and then `syntax_fault`, and goes on with the items, each with the offset of its first
-//! byte. Which bytes are read into which items stands in `specs/Items`, where reading stops and why in `specs/Stops`, which
-//! items are taken in `specs/Table`, and what the code's items are in `specs/Views`. No item has a meaning yet.
+//! byte. No item has a meaning yet.
+//!
+//! Meaning, in `specs/`: `Bytes`, `Directives` and `Items` (which bytes are read into which items), `Stops` (where reading
+//! stops, and why), `Table` (which items are taken), `Limits`, and `Views` and `PlaceView` (what the code's items and places
+//! are). `Finds` are working words of the proofs.
 #![tactic(auto)]
 
-mod bytes;
 mod directive;
 mod error;
 mod gap;
@@ -19,11 +21,10 @@ pub use directive::Directive;
 pub use error::ItemsError;
 pub use item::{Item, Placed};
 pub use items::read_items;
-pub use laws::{one_reading, one_stop, one_stuck, stopped_is_not_read, stuck_is_not_taken};
+pub use laws::{
+    byte_limit, one_reading, one_stop, one_stuck, stopped_is_not_read, stuck_is_not_taken,
+};
 pub use table::syntax_fault;
 
 /// The most bytes of a yacc file.
 pub const MOST_BYTES: usize = 1_048_576;
-
-#[cfg(test)]
-mod tests;

@@ -2,4 +2,4 @@ use Rattle.cs_yacc_items.proofs.Begin.{number_is}
 use Rattle.cs_yacc_items.proofs.item.number_at.Goals as goal
 
 pub returns : goal.returns
-returns c = number_is _ _ c.requires c.digits_len-size.ensures
+returns c = number_is _ _ c.requires c.run_len-size.ensures.len

@@ -1,10 +1,11 @@
-use Rattle.std.proofs.Common.{length, ◌-◌}
+use Rattle.std.proofs.Common.{◌≡◌, length, ◌-◌}
 use Rattle.cs_yacc_items.specs.Views.{placed_all}
 use Rattle.cs_yacc_items.proofs.Reading.{HasRead}
 use Rattle.cs_yacc_items.proofs.items.read_items.Given as goal
 
 abbrev pub invariant-loop-marks : goal.invariant-loop-marks
-invariant-loop-marks l = HasRead l.bytes (placed_all l.items.items) (record { at = l.from; marks = l.marks })
+invariant-loop-marks l =
+    (l.text ≡ l.bytes) × HasRead l.bytes (placed_all l.items.items) (record { at = l.from; marks = l.marks })
 
 abbrev pub decreases-loop-marks : goal.decreases-loop-marks
 decreases-loop-marks l = length l.bytes - l.from
