@@ -1,6 +1,8 @@
 //! Texts and the ends of their constructs, worked out by hand.
 
-use cs_ctext::{Word, opens_comment, read_literal, skip_block, skip_comment, skip_quoted, words};
+use cs_ctext::{
+    CText, Word, opens_comment, read_literal, skip_block, skip_comment, skip_quoted, words,
+};
 use std::alloc::{AllocError, Global};
 use std::test::Fail;
 
@@ -155,4 +157,28 @@ fn literals(rt: HostRuntime) {
         assert!(rt; bytes.len() > 0 && bytes[0] == b'\'');
         assert_eq!(rt; read_literal(bytes, 0), read, "{text}");
     }
+}
+
+/// How far the part at the front of so many `\'` goes: none of these marks is closed.
+fn escaped_marks(alloc: Global, count: usize) -> Result<usize, AllocError> {
+    let mut bytes = Vec::new(alloc);
+    for _ in 0..count {
+        bytes.push(b'\\')?;
+        bytes.push(b'\'')?;
+    }
+    let mut text = CText::new(&bytes);
+    let mut at = 0;
+    while at < text.bytes().len() {
+        match text.skip_part(at) {
+            Some(end) => at = end,
+            None => return Ok(0),
+        }
+    }
+    Ok(at)
+}
+
+#[test]
+fn a_line_of_escaped_marks(rt: HostRuntime) -> Result<(), Fail> {
+    assert_eq!(rt; escaped_marks(rt.alloc(), 1 << 19)?, 1 << 20);
+    Ok(())
 }

@@ -2,4 +2,8 @@
 #![tactic(auto)]
 
 #[cfg(test)]
+mod bytes;
+#[cfg(test)]
 mod c_text;
+#[cfg(test)]
+mod yacc_items;

@@ -1,12 +1,15 @@
-ghost use Rattle.std.specs.Prelude.{◌≤◌, ◌^◌, ◌<◌, length};
+//! Files and their items, worked by hand from the grammar file of POSIX yacc.
 
-use super::*;
+ghost use Rattle.std.specs.Prelude.{◌≤◌, length};
+ghost use Rattle.cs_yacc_items.specs.Limits.{most_bytes};
+
+use cs_yacc_items::{Item, ItemsError, MOST_BYTES, read_items, syntax_fault};
 use std::alloc::Global;
 use std::test::Fail;
 
 // The offset where the table stops, if it does.
 fn fault(alloc: Global, text: &[u8]) -> Result<Option<u32>, ItemsError>
-    requires { length text.now ≤ MOST_BYTES }
+    requires { length text.now ≤ most_bytes }
 {
     let items = read_items(alloc, text)?;
     Ok(syntax_fault(&items, text.len()))

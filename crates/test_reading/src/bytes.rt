@@ -1,0 +1,43 @@
+//! Texts and what stands in them, worked by hand from the classes of the POSIX locale.
+
+use cs_bytes::*;
+
+#[test]
+fn longest_runs(rt: HostRuntime) {
+    let rows: [(&str, ByteClass, usize); 12] = [
+        ("azAZ09", ByteClass::Letter, 4),
+        ("0789a", ByteClass::Digit, 4),
+        ("0789a", ByteClass::OctalDigit, 2),
+        ("09afAFgG", ByteClass::HexadecimalDigit, 6),
+        ("\n\n\r", ByteClass::Newline, 2),
+        (" \t\r\n", ByteClass::Blank, 3),
+        (" \t\r\n\x0b", ByteClass::Space, 4),
+        ("\t\n\x0b\x0c\r \x0e", ByteClass::WhiteSpace, 6),
+        ("_a1", ByteClass::WordStart, 2),
+        ("_a1-", ByteClass::Word, 3),
+        ("_a1-.", ByteClass::WordOr(b'-'), 4),
+        ("ab]\n", ByteClass::Neither(b']', b'\n'), 2),
+    ];
+    for (text, class, len) in rows {
+        assert_eq!(rt; run_len(text.as_bytes(), class), len, "{text:?}");
+        assert_eq!(rt; begins(text.as_bytes(), class), len > 0, "{text:?}");
+    }
+}
+
+#[test]
+fn lines_and_pairs(rt: HostRuntime) {
+    assert_eq!(rt; (line_len(b"ab\nc"), line_size(b"ab\nc")), (2, 3));
+    assert_eq!(rt; (line_len(b"ab"), line_size(b"ab")), (2, 2));
+    assert_eq!(rt; find_pair(b"/**/", b'*', b'/'), Some(2));
+    assert_eq!(rt; find_pair(b"*", b'*', b'/'), None);
+    assert!(rt; has_at(b"ab", 1, b'b') && !has_at(b"ab", 2, b'b'));
+    assert!(rt; has_pair(b"xab", 1, b'a', b'b') && !same_bytes(b"ab", b"ba"));
+}
+
+#[test]
+fn numbers_of_digits(rt: HostRuntime) {
+    assert_eq!(rt; number(8, b"377"), 255);
+    assert_eq!(rt; number(16, b"fF"), 255);
+    assert_eq!(rt; number(10, b"4294967295"), u32::MAX);
+    assert_eq!(rt; number(10, b"99999999999"), u32::MAX);
+}
