@@ -5,4 +5,7 @@ pub mod Walking
 pub mod Moving
 pub mod Membership
 pub mod Intervals
+pub mod Spelled
+pub mod Braces
+pub mod Fronts
 pub mod StandingFor

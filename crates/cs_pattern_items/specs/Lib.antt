@@ -9,6 +9,7 @@ pub mod Bracket
 pub mod Inserting
 pub mod Interval
 pub mod Items
+pub mod Spelling
 pub mod Front
 pub mod Views
 pub mod StandsFor

@@ -13,6 +13,7 @@ use Rattle.cs_pattern_items.specs.Items.{Item, class, quoted, named, opening, cl
 use Rattle.cs_pattern_items.specs.Marks as marks
 use Rattle.cs_pattern_items.specs.Bracket as brackets
 use Rattle.cs_pattern_items.specs.Front as fronts
+use Rattle.cs_pattern_items.specs.Spelling.{Spells, IsStoppedBy}
 
 abbrev pub item_of : code.Item → Item
 item_of (items.Class set) = class set
@@ -61,3 +62,8 @@ FrontWithin most (front_kinds.Stop s) = Unit {0}
 abbrev pub front_of : code_fronts.Front → fronts.Front
 front_of (front_kinds.Item i n) = fronts.item (item_of i) n
 front_of (front_kinds.Stop s) = fronts.stop s
+
+-- the text spells the item in front, or it is stopped by this
+abbrev pub IsFront : List ℕ → code_fronts.Front → Type 0
+IsFront text (front_kinds.Item i n) = Spells text n (item_of i)
+IsFront text (front_kinds.Stop s) = IsStoppedBy text s

@@ -7,7 +7,7 @@ ghost use Rattle.cs_pattern_items.specs.Quoted as quotes;
 ghost use Rattle.cs_pattern_items.specs.Bracket as brackets;
 ghost use Rattle.cs_pattern_items.specs.Interval as intervals;
 ghost use Rattle.cs_pattern_items.specs.Members.{bytes_where};
-ghost use Rattle.cs_pattern_items.specs.Views.{item_of, FrontWithin, front_of as seen};
+ghost use Rattle.cs_pattern_items.specs.Views.{item_of, IsFront, FrontWithin, front_of as seen};
 
 use crate::bracket::{Bracket, read_bracket};
 use crate::byte_kind::is_plain;
@@ -121,9 +121,8 @@ fn sign_front(byte: u8) -> Front
     }
 }
 
-/// What stands at the front of the text; at its end no item does.
 #[tactic(auto, unfolding(crate::specs::Front::front))]
-pub fn front_of(alloc: Global, text: &[u8]) -> Result<Front, AllocError>
+fn read_front(alloc: Global, text: &[u8]) -> Result<Front, AllocError>
     ensures value { IfOk result (λ f. seen f ≡ spec.front text.now) }
     ensures size { IfOk result (FrontWithin (length text.now)) }
 {
@@ -137,4 +136,14 @@ pub fn front_of(alloc: Global, text: &[u8]) -> Result<Front, AllocError>
         b'{' => brace_front(alloc, rest),
         other => Ok(sign_front(other)),
     }
+}
+
+/// The item that the text spells in front, and its size in bytes, or why it spells none; at its end it spells none (POSIX
+/// lex, "Regular expressions in lex").
+pub fn front_of(alloc: Global, text: &[u8]) -> Result<Front, AllocError>
+    ensures spelled { IfOk result (IsFront text.now) }
+    ensures size { IfOk result (FrontWithin (length text.now)) }
+    ensures value { IfOk result (λ f. seen f ≡ spec.front text.now) }
+{
+    read_front(alloc, text)
 }
