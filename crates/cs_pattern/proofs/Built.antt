@@ -3,17 +3,19 @@ use Rattle.std.proofs.Common.{◌≡◌, ℕ, List, [], ◌∷◌, ◌++◌, map
 use Rattle.std.specs.Prelude.{Some, slice_get}
 use Rattle.cs_pattern_items.specs.declared.item.Repetition.{Repetition}
 use Rattle.cs_pattern_items.specs.Items.{Item, repetition, named, opening, closing, bar}
-use Rattle.cs_pattern.specs.Building.{patterns}
-use Rattle.cs_pattern.specs.Definitions.{Definition}
-use Rattle.cs_pattern.specs.Evaluation.{value_of}
-use Rattle.cs_pattern.specs.Grammar.{Tree, LastBranch, Or, Branch, LastPiece, Beside, Piece, Repeated, Atom, Bytes, Quote, Name, Group, tree_items, branch_items, piece_items, atom_items, alone_or, all_repeated, branch_parts, piece_parts, piece_regex, atom_regex}
-use Rattle.cs_pattern.specs.Operations.{number_of, tree_ops}
-use Rattle.cs_pattern.specs.Pattern.{Regex, Empty, Join, Either, Parts, Nothing, Then, parts_of}
-use Rattle.cs_pattern.specs.Repeated as repeats
-use Rattle.cs_pattern.specs.Substitution.{Spells, Defines, PutIn, BranchPutIn, PiecePutIn, AtomPutIn, IsTreeOf, pattern_of}
+use Rattle.cs_pattern_postfix.specs.Building.{patterns}
+use Rattle.cs_pattern_postfix.specs.Definitions.{Definition}
+use Rattle.cs_pattern_postfix.specs.Evaluation.{value_of}
+use Rattle.cs_pattern_postfix.specs.Grammar.{Tree, LastBranch, Or, Branch, LastPiece, Beside, Piece, Repeated, Atom, Bytes, Quote, Name, Group, tree_items, branch_items, piece_items, atom_items, all_repeated, branch_parts, piece_parts, piece_regex, atom_regex}
+use Rattle.cs_pattern_tree.specs.Pattern.{alone_or}
+use Rattle.cs_pattern_postfix.specs.Operations.{number_of, tree_ops}
+use Rattle.cs_pattern_tree.specs.Pattern.{Regex, Empty, Join, Either, Parts, Nothing, Then, parts_of}
+use Rattle.cs_pattern_tree.specs.Repeated as repeats
+use Rattle.cs_pattern.specs.Substitution.{Spells, Defines, PutIn, BranchPutIn, PiecePutIn, AtomPutIn, IsTreeOf}
+use Rattle.cs_pattern_postfix.specs.Depth.{pattern_of}
 use Rattle.cs_pattern.specs.Uses.{Uses}
-use Rattle.cs_pattern.specs.Values.{repeated_value, branch_values, piece_values, piece_value, atom_value}
-use Rattle.cs_pattern.proofs.Evaluating.{evaluated}
+use Rattle.cs_pattern_postfix.specs.Values.{repeated_value, branch_values, piece_values, piece_value, atom_value}
+use Rattle.cs_pattern_postfix.proofs.Evaluating.{evaluated}
 use Rattle.cs_pattern.proofs.Using.{uses_left, uses_right, number_is}
 
 abbrev no_names : List ℕ → Regex
@@ -28,17 +30,17 @@ module _ (ds : List Definition) (known : ℕ → Regex) where
   abbrev pub AreBuilt : List Item → Type 0
   AreBuilt xs = (i : ℕ) → Uses ds xs i → (d : Definition) (tree : Tree) → slice_get ds i ≡ Some d → IsTreeOf ds d.text tree → known i ≡ pattern_of tree
 
-  left : (xs ys : List Item) → AreBuilt (xs ++ ys) → AreBuilt xs
+  pub left : (xs ys : List Item) → AreBuilt (xs ++ ys) → AreBuilt xs
   left xs ys k i h = k i (uses_left ds xs ys i h)
 
-  right : (xs ys : List Item) → AreBuilt (xs ++ ys) → AreBuilt ys
+  pub right : (xs ys : List Item) → AreBuilt (xs ++ ys) → AreBuilt ys
   right xs ys k i h = k i (uses_right ds xs ys i h)
 
-  name_built : (name : List ℕ) (d : Definition) (u t : Tree) → Defines ds name d → Spells d.text t → PutIn ds u t → AreBuilt (named name ∷ []) → known (number_of ds name) ≡ pattern_of u
+  pub name_built : (name : List ℕ) (d : Definition) (u t : Tree) → Defines ds name d → Spells d.text t → PutIn ds u t → AreBuilt (named name ∷ []) → known (number_of ds name) ≡ pattern_of u
   name_built name d u t def spells put k = ap known (number_is ds name d def) ∙ k def.index (inl def.found) d u def.is (record { spelled = t; is_spelled = spells; put_in = put })
 
   mutual
-    branches_built : (u t : Tree) → PutIn ds u t → AreBuilt (tree_items t) → parts_of (branch_values (patterns known) (number_of ds) t) ≡ branch_parts no_names u
+    pub branches_built : (u t : Tree) → PutIn ds u t → AreBuilt (tree_items t) → parts_of (branch_values (patterns known) (number_of ds) t) ≡ branch_parts no_names u
     branches_built (LastBranch b) t p k =
         let e = p.1 in
         let h = pieces_built b p.0 p.2 (subst (λ (x : Tree). AreBuilt (tree_items x)) e k) in
@@ -53,7 +55,7 @@ module _ (ds : List Definition) (known : ℕ → Regex) where
         ∙ ap (λ (ps : Parts). Then (alone_or Join ps) (parts_of (branch_values (patterns known) (number_of ds) p.1))) h
         ∙ ap (Then (alone_or Join (piece_parts no_names b))) more
 
-    pieces_built : (b c : Branch) → BranchPutIn ds b c → AreBuilt (branch_items c) → parts_of (piece_values (patterns known) (number_of ds) c) ≡ piece_parts no_names b
+    pub pieces_built : (b c : Branch) → BranchPutIn ds b c → AreBuilt (branch_items c) → parts_of (piece_values (patterns known) (number_of ds) c) ≡ piece_parts no_names b
     pieces_built (LastPiece q) c p k =
         let e = p.1 in
         let h = piece_built q p.0 p.2 (subst (λ (x : Branch). AreBuilt (branch_items x)) e k) in
@@ -68,7 +70,7 @@ module _ (ds : List Definition) (known : ℕ → Regex) where
         ∙ ap (λ (r : Regex). Then r (parts_of (piece_values (patterns known) (number_of ds) p.1))) h
         ∙ ap (Then (piece_regex no_names q)) more
 
-    piece_built : (q w : Piece) → PiecePutIn ds q w → AreBuilt (piece_items w) → piece_value (patterns known) (number_of ds) w ≡ piece_regex no_names q
+    pub piece_built : (q w : Piece) → PiecePutIn ds q w → AreBuilt (piece_items w) → piece_value (patterns known) (number_of ds) w ≡ piece_regex no_names q
     piece_built (Repeated a rs) w p k =
         let e = p.1 in
         let j = subst (λ (x : Piece). AreBuilt (piece_items x)) e k in
@@ -77,7 +79,7 @@ module _ (ds : List Definition) (known : ℕ → Regex) where
         ∙ repeats_built known (atom_value (patterns known) (number_of ds) p.0) rs
         ∙ ap (λ (r : Regex). all_repeated r rs) h
 
-    atom_built : (a w : Atom) → AtomPutIn ds a w → AreBuilt (atom_items w) → atom_value (patterns known) (number_of ds) w ≡ atom_regex no_names a
+    pub atom_built : (a w : Atom) → AtomPutIn ds a w → AreBuilt (atom_items w) → atom_value (patterns known) (number_of ds) w ≡ atom_regex no_names a
     atom_built (Bytes set) w p k = ap (atom_value (patterns known) (number_of ds)) p
     atom_built (Quote bytes) w p k = ap (atom_value (patterns known) (number_of ds)) p
     atom_built (Name name) w p k = absurd p

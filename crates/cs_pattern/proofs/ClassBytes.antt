@@ -8,11 +8,13 @@ use Rattle.cs_pattern_items.specs.Items.{Item, repetition, bar, closing, Placed,
 use Rattle.cs_pattern_items.specs.StandsFor.{AreBytes, StandsForBytes}
 use Rattle.cs_pattern_items.proofs.StandingFor.{one_byte-has_byte, front-stands_for_bytes}
 use Rattle.cs_pattern.specs.declared.place.Place.{Place}
-use Rattle.cs_pattern.specs.Classes.{HasNoEmptyClass, HaveNoEmptyClass, HaveByteTexts}
-use Rattle.cs_pattern.specs.Definitions.{Definition}
-use Rattle.cs_pattern.specs.Grammar.{Tree, LastBranch, Or, Branch, LastPiece, Beside, Piece, Repeated, Atom, Bytes, Quote, Name, Group, tree_items, branch_items, piece_items, atom_items, alone_or, all_repeated, branch_parts, piece_parts, piece_regex, atom_regex}
-use Rattle.cs_pattern.specs.Pattern.{Regex, Empty, Join, Either, Many, Parts, Nothing, Then, parts_of}
-use Rattle.cs_pattern.specs.Repeated as repeats
+use Rattle.cs_pattern.specs.Classes.{HaveByteTexts}
+use Rattle.cs_pattern_tree.specs.Scannable.{HasNoEmptyClass, HaveNoEmptyClass}
+use Rattle.cs_pattern_postfix.specs.Definitions.{Definition}
+use Rattle.cs_pattern_postfix.specs.Grammar.{Tree, LastBranch, Or, Branch, LastPiece, Beside, Piece, Repeated, Atom, Bytes, Quote, Name, Group, tree_items, branch_items, piece_items, atom_items, all_repeated, branch_parts, piece_parts, piece_regex, atom_regex}
+use Rattle.cs_pattern_tree.specs.Pattern.{alone_or}
+use Rattle.cs_pattern_tree.specs.Pattern.{Regex, Empty, Join, Either, Many, Parts, Nothing, Then, parts_of}
+use Rattle.cs_pattern_tree.specs.Repeated as repeats
 use Rattle.cs_pattern.specs.Substitution.{Spells, PutIn, BranchPutIn, PiecePutIn, AtomPutIn}
 use Rattle.cs_pattern.specs.Table.{ReadsTo}
 use Rattle.cs_pattern.specs.Answers.{IsPatternOf}

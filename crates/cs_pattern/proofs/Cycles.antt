@@ -2,8 +2,8 @@
 use Rattle.std.proofs.Common.{◌≡◌, ℕ, ◌+◌, ◌<◌, ◌≤◌, List, [], ◌∷◌, map, sym, ap, ◌∙◌, subst, inl, inr, arith}
 use Rattle.std.specs.Prelude.{Some, slice_get}
 use Rattle.cs_pattern_items.specs.Items.{Item, named, closing, bar, repetition, items_of}
-use Rattle.cs_pattern.specs.Definitions.{Definition}
-use Rattle.cs_pattern.specs.Grammar.{Tree, LastBranch, Or, Branch, LastPiece, Beside, Piece, Repeated, Atom, Bytes, Quote, Name, Group, tree_items, branch_items, piece_items, atom_items}
+use Rattle.cs_pattern_postfix.specs.Definitions.{Definition}
+use Rattle.cs_pattern_postfix.specs.Grammar.{Tree, LastBranch, Or, Branch, LastPiece, Beside, Piece, Repeated, Atom, Bytes, Quote, Name, Group, tree_items, branch_items, piece_items, atom_items}
 use Rattle.cs_pattern.specs.Substitution.{Spells, Defines, PutIn, BranchPutIn, PiecePutIn, AtomPutIn, IsTreeOf}
 use Rattle.cs_pattern.specs.Table.{Reads}
 use Rattle.cs_pattern.specs.Uses.{Uses, UsesDefinition, Reaches, directly, through}

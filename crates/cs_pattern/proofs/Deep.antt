@@ -3,9 +3,10 @@ use Rattle.std.proofs.Common.{◌≡◌, ℕ, ◌+◌, ◌≤◌, List, [], ◌�
 use Rattle.std.specs.Prelude.{Some, max, slice_get}
 use Rattle.std.proofs.lemmas.List.{length-map}
 use Rattle.cs_pattern_items.specs.Items.{Item, repetition, opening, closing, bar}
-use Rattle.cs_pattern.specs.Definitions.{Definition}
-use Rattle.cs_pattern.specs.Grammar.{Tree, LastBranch, Or, Branch, LastPiece, Beside, Piece, Repeated, Atom, Bytes, Quote, Name, Group, tree_items, branch_items, piece_items, atom_items}
-use Rattle.cs_pattern.specs.Substitution.{PutIn, BranchPutIn, PiecePutIn, AtomPutIn, IsTreeOf, depth, branch_depth, piece_depth, atom_depth}
+use Rattle.cs_pattern_postfix.specs.Definitions.{Definition}
+use Rattle.cs_pattern_postfix.specs.Grammar.{Tree, LastBranch, Or, Branch, LastPiece, Beside, Piece, Repeated, Atom, Bytes, Quote, Name, Group, tree_items, branch_items, piece_items, atom_items}
+use Rattle.cs_pattern.specs.Substitution.{PutIn, BranchPutIn, PiecePutIn, AtomPutIn, IsTreeOf}
+use Rattle.cs_pattern_postfix.specs.Depth.{depth, branch_depth, piece_depth, atom_depth}
 use Rattle.cs_pattern.specs.Uses.{Uses}
 use Rattle.cs_pattern.proofs.Using.{uses_left, uses_right}
 

@@ -7,7 +7,7 @@ use Rattle.cs_pattern_items.specs.declared.item.Repetition.{Repetition}
 use Rattle.cs_pattern.specs.declared.place.Place.{Place}
 use Rattle.cs_pattern_items.specs.Items.{Item, class, quoted, named, opening, closing, bar, repetition, Placed, items_of}
 use Rattle.cs_pattern.specs.Table.{place, beginning, next_place, MayEnd, ReadsTo, Reads}
-use Rattle.cs_pattern.specs.Grammar.{Tree, LastBranch, Or, LastPiece, Beside, Piece, Repeated, Atom, Bytes, Quote, Name, Group, tree_items, branch_items, piece_items, atom_items}
+use Rattle.cs_pattern_postfix.specs.Grammar.{Tree, LastBranch, Or, LastPiece, Beside, Piece, Repeated, Atom, Bytes, Quote, Name, Group, tree_items, branch_items, piece_items, atom_items}
 
 -- from the place these items lead to the end
 abbrev Leads : Bool → ℕ → List Item → Type 0

@@ -6,17 +6,20 @@ use Rattle.std.specs.List.{position_or_len}
 use Rattle.std.proofs.lemmas.Bool.{cases_eq, cases_lt, le-ltb, lt-ltb}
 use Rattle.std.proofs.lemmas.List.{take_all}
 use Rattle.std.proofs.lemmas.List.Elements.{Contains-append_right}
-use Rattle.cs_pattern.specs.declared.pattern.Pattern.{Pattern}
-use Rattle.cs_pattern.specs.declared.postfix.Op as code
-use Rattle.cs_pattern.specs.Building.{known_at, patterns}
-use Rattle.cs_pattern.specs.Definitions.{Definition}
-use Rattle.cs_pattern.specs.Evaluation.{value_of}
-use Rattle.cs_pattern.specs.Grammar.{Tree}
+use Rattle.cs_pattern_tree.specs.declared.pattern.Pattern.{Pattern}
+use Rattle.cs_pattern_postfix.specs.declared.operations.Op as code
+use Rattle.cs_pattern_postfix.specs.Building.{known_at, patterns, StayShallow}
+use Rattle.cs_pattern_postfix.specs.Definitions.{Definition}
+use Rattle.cs_pattern_postfix.specs.Evaluation.{value_of}
+use Rattle.cs_pattern_postfix.specs.Grammar.{Tree, tree_items}
 use Rattle.cs_pattern.specs.Needed.{Substitutes, IsMarked, IsClosed, AreKnown, AreOf, ops_at, ops_or_none}
-use Rattle.cs_pattern.specs.Operations.{Op, tree_ops, number_of}
-use Rattle.cs_pattern.specs.Substitution.{Spells, IsTreeOf, pattern_of}
+use Rattle.cs_pattern_postfix.specs.Operations.{Op, tree_ops, number_of}
+use Rattle.cs_pattern.specs.Substitution.{Spells, IsTreeOf}
+use Rattle.cs_pattern_postfix.specs.Depth.{pattern_of}
 use Rattle.cs_pattern.specs.Uses.{Uses}
-use Rattle.cs_pattern.proofs.Built.{built}
+use Rattle.cs_pattern.proofs.Built.{AreBuilt, built}
+use Rattle.cs_pattern.proofs.Limited.{limit_depth}
+use Rattle.cs_pattern.proofs.Shallow.{tree_stays}
 use Rattle.cs_pattern.proofs.Marking.{IsBehind, is_within, split_at, in_more}
 use Rattle.cs_pattern.proofs.PuttingIn.{one_spelled}
 use Rattle.cs_pattern.proofs.Using.{tree_puts, tree_uses}
@@ -72,6 +75,30 @@ abbrev pub AreKnownTo : List Definition → List ℕ → List Bool → List (Opt
 AreKnownTo ds order marks known end =
     (i : ℕ) (d : Definition) (tree : Tree) → Contains (take end order) i → IsMarked marks i → slice_get ds i ≡ Some d → IsTreeOf ds d.text tree → known_at known i ≡ pattern_of tree
 
+-- what a needed definition uses is known, where it stands next
+built_next : (ds : List Definition) (bodies : List (Vec code.Op)) (order : List ℕ) (marks : List Bool) (known : List (Option Pattern)) (k : ℕ) (d : Definition) (tree : Tree) (is : IsTreeOf ds d.text tree)
+    → AreOf ds bodies order → IsClosed bodies marks → length marks ≡ length bodies → k < length order → slice_get ds (get_or order k 0) ≡ Some d → IsMarked marks (get_or order k 0)
+    → AreKnownTo ds order marks known k → AreBuilt ds (known_at known) (tree_items is.spelled)
+built_next ds bodies order marks known k d tree is a closed few lt here mark so_far j u f other there that =
+    let ops = ops_is ds bodies order a (get_or order k 0) d is.spelled here is.is_spelled in
+    let s : Substitutes (ops_at bodies (get_or order k 0)) j = subst (λ (o : List Op). Substitutes o j) (sym ops) (tree_puts ds is.spelled j u) in
+    let inside = get_within ds j f there in
+    let below : j < length bodies = (let n = a.1.body_count in omega arith) in
+    so_far j f other ((is_behind ds bodies order a).behind (take k order) (drop (suc k) order) (get_or order k 0) j (split_at order k lt) s below)
+    (closed (get_or order k 0) j mark s (omega arith)) there that
+
+-- so its pattern is made of shallow ones
+pub shallow_next : (ds : List Definition) (bodies : List (Vec code.Op)) (order : List ℕ) (marks : List Bool) (known : List (Option Pattern)) (k : ℕ)
+    → AreOf ds bodies order → IsClosed bodies marks → length marks ≡ length bodies → k < length order → IsMarked marks (get_or order k 0)
+    → AreKnownTo ds order marks known k → StayShallow known (ops_at bodies (get_or order k 0))
+shallow_next ds bodies order marks known k a closed few lt mark so_far =
+    let within = a.1.in_order.within (get_or order k 0) (subst (λ (xs : List ℕ). Contains xs (get_or order k 0)) (sym (split_at order k lt)) (in_middle (take k order) (drop (suc k) order) (get_or order k 0))) in
+    let d = has_at ds (get_or order k 0) within in
+    let h = (a.1.each (get_or order k 0) d.0 d.1).is in
+    let is : IsTreeOf ds d.0.text h.tree = record { spelled = h.spelled; is_spelled = h.is_spelled; put_in = h.put_in } in
+    subst (StayShallow known) (sym (ops_is ds bodies order a (get_or order k 0) d.0 h.spelled d.1 h.is_spelled))
+    (tree_stays ds (known_at known) h.tree h.spelled h.put_in (built_next ds bodies order marks known k d.0 h.tree is a closed few lt d.1 mark so_far) (limit_depth h.tree h.within))
+
 pub known_step : (ds : List Definition) (bodies : List (Vec code.Op)) (order : List ℕ) (marks : List Bool) (old new : List (Option Pattern)) (k : ℕ)
     → AreOf ds bodies order → IsClosed bodies marks → length marks ≡ length bodies → length old ≡ length bodies → k < length order
     → (get_or order k 0 < length old → get_or order k 0 < length bodies → IsMarked marks (get_or order k 0) → known_at new (get_or order k 0) ≡ value_of (patterns (known_at old)) (ops_at bodies (get_or order k 0)))
@@ -87,12 +114,7 @@ known_step ds bodies order marks old new k a closed few same lt this others know
           ap (known_at new) e
           ∙ this (let n = a.1.body_count in omega arith) (let n = a.1.body_count in omega arith) mark
           ∙ ap (value_of (patterns (known_at old))) ops
-          ∙ built ds (known_at old) tree is.spelled is.put_in (λ j u f other there that.
-          let s : Substitutes (ops_at bodies (get_or order k 0)) j = subst (λ (o : List Op). Substitutes o j) (sym ops) (tree_puts ds is.spelled j u) in
-          let inside = get_within ds j f there in
-          let below : j < length bodies = (let n = a.1.body_count in omega arith) in
-          known j f other ((is_behind ds bodies order a).behind (take k order) (drop (suc k) order) (get_or order k 0) j (split_at order k lt) s below)
-          (closed (get_or order k 0) j mark s (omega arith)) there that)
+          ∙ built ds (known_at old) tree is.spelled is.put_in (built_next ds bodies order marks old k d tree is a closed few lt here mark known)
       | inr ne ↦ others i ne ∙ elim (in_more order k i lt c) [
         | inl b ↦ known i d tree b m at is
         | inr e ↦ absurd (ne e)

@@ -1,15 +1,11 @@
 pub mod Readings
-pub mod Named
 pub mod OneDerivation
 pub mod HasDerivation
-pub mod Postfixed
-pub mod Evaluating
 pub mod PuttingIn
-pub mod Measuring
 pub mod Using
 pub mod Measured
 pub mod Built
-pub mod Stacks
+pub mod Shallow
 pub mod Deep
 pub mod Limited
 pub mod Marking
@@ -24,3 +20,4 @@ pub mod Listing
 pub mod Verdicts
 pub mod OneRefusal
 pub mod ClassBytes
+pub mod Within

@@ -1,9 +1,14 @@
 -- A measure tells which limit is passed.
-use Rattle.std.proofs.Common.{◌≡◌, ℕ, ◌<◌, ◌^◌, true, false, refl, arith, inl, inr}
-use Rattle.std.specs.Prelude.{nat_lt}
+use Rattle.std.proofs.Common.{◌≡◌, ℕ, ◌<◌, ◌≤◌, ◌^◌, true, false, refl, ap, ◌∙◌, arith, inl, inr}
+use Rattle.std.specs.Prelude.{nat_lt, if◌then◌else◌, Some, None}
 use Rattle.std.proofs.lemmas.Bool.{cases_lt, lt-ltb, le-ltb}
+use Rattle.cs_pattern_tree.specs.Pattern.{leaves}
+use Rattle.cs_pattern_postfix.specs.Depth.{depth, pattern_of}
+use Rattle.cs_pattern_postfix.specs.Grammar.{Tree}
+use Rattle.cs_pattern.specs.declared.fault.PatternFault.TheVariants.{TooDeep, TooManyPositions}
+use Rattle.cs_pattern.specs.Answers.{limit_of}
 use Rattle.cs_pattern.specs.Limits.{passed_limit}
-use Rattle.cs_pattern.specs.Measures.{capped}
+use Rattle.cs_pattern_postfix.specs.Measures.{capped}
 
 pub capped_limit : (depth leaves : ℕ) → depth < 2 ^ 32 → passed_limit (capped depth) (capped leaves) ≡ passed_limit depth leaves
 capped_limit depth leaves lt =
@@ -17,4 +22,26 @@ capped_limit depth leaves lt =
           let a : nat_lt 8192 (capped leaves) ≡ false = le-ltb 8192 (capped leaves) (omega arith) in
           let b : nat_lt 8192 leaves ≡ false = le-ltb 8192 leaves less in
           rw (e, a, b) refl
+    ]
+
+-- a tree that passes no limit is not deep, and has few leaves
+pub limit_depth : (tree : Tree) → limit_of tree ≡ None → depth tree ≤ 200
+limit_depth tree e =
+    elim (cases_lt 200 (depth tree)) [
+      | inl above ↦
+          let f : limit_of tree ≡ Some (TooDeep (depth tree) 200) = ap (λ b. if b then Some (TooDeep (depth tree) 200) else (if nat_lt 8192 (leaves (pattern_of tree)) then Some (TooManyPositions 8192) else None)) (lt-ltb 200 (depth tree) above) in
+          absurd (cc (e, f))
+      | inr within ↦ within
+    ]
+
+pub limit_leaves : (tree : Tree) → limit_of tree ≡ None → leaves (pattern_of tree) ≤ 8192
+limit_leaves tree e =
+    let shallow = limit_depth tree e in
+    elim (cases_lt 8192 (leaves (pattern_of tree))) [
+      | inl above ↦
+          let f : limit_of tree ≡ (if nat_lt 8192 (leaves (pattern_of tree)) then Some (TooManyPositions 8192) else None) =
+          ap (λ b. if b then Some (TooDeep (depth tree) 200) else (if nat_lt 8192 (leaves (pattern_of tree)) then Some (TooManyPositions 8192) else None)) (le-ltb 200 (depth tree) shallow) in
+          let g = f ∙ ap (λ b. if b then Some (TooManyPositions 8192) else None) (lt-ltb 8192 (leaves (pattern_of tree)) above) in
+          absurd (cc (e, g))
+      | inr within ↦ within
     ]

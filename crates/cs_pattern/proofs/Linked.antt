@@ -16,7 +16,7 @@ use Rattle.cs_pattern_items.specs.Items.{Item, class, quoted, named, opening, cl
 use Rattle.cs_pattern_items.specs.Views.{placed_all}
 use Rattle.cs_pattern.specs.Checked.{IsOrder}
 use Rattle.cs_pattern.specs.Checking.{HasNoCycle}
-use Rattle.cs_pattern.specs.Definitions.{Definition}
+use Rattle.cs_pattern_postfix.specs.Definitions.{Definition}
 use Rattle.cs_pattern.specs.Stages.{AreRead, IsUseGraph}
 use Rattle.cs_pattern.specs.Table.{Reads}
 use Rattle.cs_pattern.specs.Uses.{used, Uses, UsesDefinition, Reaches, directly, through, LeadsTo}

@@ -10,7 +10,7 @@ use Rattle.cs_graph.proofs.Pushing.{below_next}
 use Rattle.cs_pattern_items.specs.declared.item.Placed as held
 use Rattle.cs_pattern_items.specs.Items.{Placed, items_of}
 use Rattle.cs_pattern_items.specs.Views.{item_of, placed_of, placed_all}
-use Rattle.cs_pattern.specs.Definitions.{Definition}
+use Rattle.cs_pattern_postfix.specs.Definitions.{Definition}
 use Rattle.cs_pattern.specs.Uses.{used, LeadsTo, IsFirstTo}
 use Rattle.cs_pattern.proofs.Linked.{HasUses, all_push}
 use Rattle.cs_pattern.proofs.Staged.{get_still, get_last}

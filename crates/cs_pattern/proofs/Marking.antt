@@ -1,14 +1,14 @@
 -- Marks, and what operations mark.
-use Rattle.std.proofs.Common.{◌≡◌, ◌⊎◌, ℕ, zero, suc, ◌+◌, ◌<◌, ◌≤◌, Bool, true, false, List, [], ◌∷◌, ◌++◌, length, take, drop, set, get_or, refl, sym, ap, ◌∙◌, subst, inl, inr, arith, length-set}
+use Rattle.std.proofs.Common.{◌≡◌, ◌⊎◌, ℕ, zero, suc, ◌+◌, ◌<◌, ◌≤◌, Bool, true, false, List, [], ◌∷◌, ◌++◌, length, take, drop, replicate, set, get_or, refl, sym, ap, ◌∙◌, subst, inl, inr, arith, length-set}
 use Rattle.std.specs.Prelude.{Contains, if◌then◌else◌}
 use Rattle.std.proofs.lemmas.Bool.{false≢true, cases_eq, cases_lt}
 use Rattle.std.proofs.lemmas.List.{get_or-set_same, get_or-set_other, get_or_past, take_more, map_push, take_all, take-append-drop}
 use Rattle.std.proofs.lemmas.List.Elements.{Contains-append_cases}
 use Rattle.std.proofs.Math.Seq.{drop-cons}
 use Rattle.std.specs.Global.{Vec}
-use Rattle.cs_pattern.specs.declared.postfix.Op as code
-use Rattle.cs_pattern.specs.Needed.{Substitutes, mark_op, mark_ops, is_marked, IsMarked, ops_at, mark_behind, IsClosed}
-use Rattle.cs_pattern.specs.Operations.{Op, op_of, ops_of, class, quoted, substitute, repeat, group, join, either}
+use Rattle.cs_pattern_postfix.specs.declared.operations.Op as code
+use Rattle.cs_pattern.specs.Needed.{Substitutes, mark_op, mark_ops, is_marked, IsMarked, ops_at, mark_behind, IsClosed, Needs, directly, behind, AreNeeded, AreClosed}
+use Rattle.cs_pattern_postfix.specs.Operations.{Op, op_of, ops_of, class, quoted, substitute, repeat, group, join, either}
 
 -- ---- marks
 
@@ -139,15 +139,20 @@ pub record IsMarkedFrom (ops : List Op) (bodies : List (Vec code.Op)) (order : L
   pub count : length marks ≡ length bodies
   pub used : (i : ℕ) → Substitutes ops i → i < length bodies → IsMarked marks i
   pub before : IsBehind bodies order → Before bodies order marks end
+  pub only : (i : ℕ) → IsMarked marks i → Needs bodies ops i
 
 done_grows : (bodies : List (Vec code.Op)) (ops : List Op) (marks : List Bool) (i : ℕ) → IsDone bodies marks i → IsDone bodies (mark_ops marks ops) i
 done_grows bodies ops marks i d j h lt = ops_grow ops marks j (d j h (omega (arith, ops_length ops marks)))
 
-pub from_start : (ops : List Op) (bodies : List (Vec code.Op)) (order : List ℕ) (marks : List Bool) → length marks ≡ length bodies → IsMarkedFrom ops bodies order (mark_ops marks ops) (length order)
-from_start ops bodies order marks e = record {
+pub from_start : (ops : List Op) (bodies : List (Vec code.Op)) (order : List ℕ) (marks : List Bool) → length marks ≡ length bodies → ((i : ℕ) → IsMarked marks i → ⊥) → IsMarkedFrom ops bodies order (mark_ops marks ops) (length order)
+from_start ops bodies order marks e none = record {
   count = ops_length ops marks ∙ e;
   used = λ i h lt. ops_used ops marks i h (omega arith);
   before = λ b i m. inl (subst (λ (xs : List ℕ). Contains xs i) (sym (take_all (length order) order (omega arith))) (b.all i (let lt = is_within (mark_ops marks ops) i m in omega (arith, ops_length ops marks))));
+  only = λ i m. elim (ops_only ops marks i m) [
+    | inl k ↦ absurd (none i k)
+    | inr s ↦ directly i s (let lt = is_within (mark_ops marks ops) i m in omega (arith, ops_length ops marks))
+  ];
 }
 
 marks_more : (ops : List Op) (bodies : List (Vec code.Op)) (order : List ℕ) (marks : List Bool) (end : ℕ) → end < length order → IsMarked marks (get_or order end 0)
@@ -156,6 +161,11 @@ marks_more ops bodies order marks end lt m h = record {
   count = ops_length (ops_at bodies (get_or order end 0)) marks ∙ h.count;
   used = λ i s below. ops_grow (ops_at bodies (get_or order end 0)) marks i (h.used i s below);
   before = λ b i n. by_cases b i n (ops_only (ops_at bodies (get_or order end 0)) marks i n);
+  only = λ i n. elim (ops_only (ops_at bodies (get_or order end 0)) marks i n) [
+    | inl k ↦ h.only i k
+    | inr s ↦ behind (get_or order end 0) i (h.only (get_or order end 0) m) s
+        (let below = is_within (mark_ops marks (ops_at bodies (get_or order end 0))) i n in omega (arith, ops_length (ops_at bodies (get_or order end 0)) marks, h.count))
+  ];
 }
   where
     old : IsBehind bodies order → (i : ℕ) → IsMarked marks i → Contains (take end order) i ⊎ IsDone bodies (mark_ops marks (ops_at bodies (get_or order end 0))) i
@@ -186,6 +196,7 @@ marks_same ops bodies order marks end lt unmarked h = record {
     ]
     | inr d ↦ inr d
   ];
+  only = h.only;
 }
 
 pub marks_step : (ops : List Op) (bodies : List (Vec code.Op)) (order : List ℕ) (marks next : List Bool) (end : ℕ) → end < length order → next ≡ mark_behind bodies (get_or order end 0) marks
@@ -202,3 +213,21 @@ closed_at_end ops bodies order marks b h i j m s lt =
       | inl c ↦ absurd (omega (arith, c.1))
       | inr d ↦ d j s lt
     ]
+
+-- where there are no marks
+pub none_marked : (n i : ℕ) → IsMarked (replicate n false) i → ⊥
+none_marked zero i m = absurd (false≢true m)
+none_marked (suc n) zero m = absurd (false≢true m)
+none_marked (suc n) (suc i) m = none_marked n i m
+
+-- at the end just the needed definitions are marked
+pub needed_at_end : (ops : List Op) (bodies : List (Vec code.Op)) (order : List ℕ) (marks : List Bool) → IsBehind bodies order → IsMarkedFrom ops bodies order marks 0 → AreNeeded bodies ops marks
+needed_at_end ops bodies order marks b h = record { count = h.count; marked = marked; only = h.only }
+  where
+    marked : (i : ℕ) → Needs bodies ops i → IsMarked marks i
+    marked i (directly j s lt) = h.used j s lt
+    marked i (behind j k n s lt) = closed_at_end ops bodies order marks b h j k (marked j n) s (let e = h.count in omega arith)
+
+-- what needed definitions use is needed
+pub needed_closed : (ops : List Op) (bodies : List (Vec code.Op)) (marks : List Bool) → AreNeeded bodies ops marks → AreClosed bodies marks
+needed_closed ops bodies marks h = record { count = h.count; closed = λ i j m s lt. h.marked j (behind i j (h.only i m) s (let e = h.count in omega arith)) }

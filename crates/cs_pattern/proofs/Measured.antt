@@ -6,18 +6,20 @@ use Rattle.std.proofs.lemmas.List.Sums.{sum_by-cons}
 use Rattle.cs_pattern_items.specs.declared.item.Repetition.{Repetition}
 use Rattle.cs_pattern_items.specs.declared.item.Repetition.TheVariants.{Optional, Exactly, AtLeast, Between}
 use Rattle.cs_pattern_items.specs.Items.{Item, repetition, named, opening, closing, bar}
-use Rattle.cs_pattern.specs.declared.measure.Measure.{Measure}
-use Rattle.cs_pattern.specs.Definitions.{Definition}
-use Rattle.cs_pattern.specs.Grammar.{Tree, LastBranch, Or, Branch, LastPiece, Beside, Piece, Repeated, Atom, Bytes, Quote, Name, Group, tree_items, branch_items, piece_items, atom_items, alone_or, all_repeated, branch_parts, piece_parts, piece_regex, atom_regex}
-use Rattle.cs_pattern.specs.Measures.{capped, measure, measure_of, leaf, repeated_leaves, greatest_depth, together, measures}
-use Rattle.cs_pattern.specs.Operations.{number_of, tree_ops}
-use Rattle.cs_pattern.specs.Pattern.{Regex, Empty, Join, Either, Many, Parts, Nothing, Then, parts_of, leaves, all_leaves}
-use Rattle.cs_pattern.specs.Repeated as repeats
-use Rattle.cs_pattern.specs.Substitution.{Spells, Defines, PutIn, BranchPutIn, PiecePutIn, AtomPutIn, IsTreeOf, depth, branch_depth, piece_depth, atom_depth, pattern_of}
+use Rattle.cs_pattern_postfix.specs.declared.measure.Measure.{Measure}
+use Rattle.cs_pattern_postfix.specs.Definitions.{Definition}
+use Rattle.cs_pattern_postfix.specs.Grammar.{Tree, LastBranch, Or, Branch, LastPiece, Beside, Piece, Repeated, Atom, Bytes, Quote, Name, Group, tree_items, branch_items, piece_items, atom_items, all_repeated, branch_parts, piece_parts, piece_regex, atom_regex}
+use Rattle.cs_pattern_tree.specs.Pattern.{alone_or}
+use Rattle.cs_pattern_postfix.specs.Measures.{capped, measure, measure_of, leaf, repeated_leaves, greatest_depth, together, measures}
+use Rattle.cs_pattern_postfix.specs.Operations.{number_of, tree_ops}
+use Rattle.cs_pattern_tree.specs.Pattern.{Regex, Empty, Join, Either, Many, Parts, Nothing, Then, parts_of, leaves, all_leaves}
+use Rattle.cs_pattern_tree.specs.Repeated as repeats
+use Rattle.cs_pattern.specs.Substitution.{Spells, Defines, PutIn, BranchPutIn, PiecePutIn, AtomPutIn, IsTreeOf}
+use Rattle.cs_pattern_postfix.specs.Depth.{depth, branch_depth, piece_depth, atom_depth, pattern_of}
 use Rattle.cs_pattern.specs.Uses.{Uses}
-use Rattle.cs_pattern.specs.Values.{repeated_value, branch_values, piece_values, piece_value, atom_value}
-use Rattle.cs_pattern.specs.Evaluation.{value_of}
-use Rattle.cs_pattern.proofs.Evaluating.{evaluated}
+use Rattle.cs_pattern_postfix.specs.Values.{repeated_value, branch_values, piece_values, piece_value, atom_value}
+use Rattle.cs_pattern_postfix.specs.Evaluation.{value_of}
+use Rattle.cs_pattern_postfix.proofs.Evaluating.{evaluated}
 use Rattle.cs_pattern.proofs.Using.{uses_left, uses_right, number_is}
 
 -- ---- leaves of what is repeated

@@ -8,11 +8,12 @@ use Rattle.cs_pattern_items.specs.Items.{Item, closing, bar, repetition, Placed,
 use Rattle.cs_pattern.specs.declared.fault.PatternFault.{PatternFault}
 use Rattle.cs_pattern.specs.declared.fault.PatternFault.TheVariants as faults
 use Rattle.cs_pattern.specs.Answers.{limit_of, IsPatternOf, IsUndefinedAt, IsBeyond, IsFault}
-use Rattle.cs_pattern.specs.Definitions.{Definition}
-use Rattle.cs_pattern.specs.Grammar.{Tree, LastBranch, Or, Branch, LastPiece, Beside, Piece, Repeated, Atom, Bytes, Quote, Name, Group, tree_items, branch_items, piece_items, atom_items}
+use Rattle.cs_pattern_postfix.specs.Definitions.{Definition}
+use Rattle.cs_pattern_postfix.specs.Grammar.{Tree, LastBranch, Or, Branch, LastPiece, Beside, Piece, Repeated, Atom, Bytes, Quote, Name, Group, tree_items, branch_items, piece_items, atom_items}
 use Rattle.cs_pattern.specs.Names.{is_undefined, first_undefined}
-use Rattle.cs_pattern.specs.Pattern.{Regex}
-use Rattle.cs_pattern.specs.Substitution.{PutIn, BranchPutIn, PiecePutIn, AtomPutIn, IsTreeOf, pattern_of}
+use Rattle.cs_pattern_tree.specs.Pattern.{Regex}
+use Rattle.cs_pattern.specs.Substitution.{PutIn, BranchPutIn, PiecePutIn, AtomPutIn, IsTreeOf}
+use Rattle.cs_pattern_postfix.specs.Depth.{pattern_of}
 use Rattle.cs_pattern.specs.Table.{Reads, fault_of, IsFirstStop}
 use Rattle.cs_pattern.proofs.PuttingIn.{one_tree_of}
 use Rattle.cs_pattern.proofs.Readings.{one_reading, one_stop, no_stop}

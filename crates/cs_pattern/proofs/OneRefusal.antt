@@ -8,7 +8,7 @@ use Rattle.cs_pattern.specs.declared.fault.PatternFault.{PatternFault}
 use Rattle.cs_pattern.specs.declared.fault.PatternFault.TheVariants.{UndefinedName, DefinitionCycle}
 use Rattle.cs_pattern.specs.Answers.{limit_of, IsBeyond}
 use Rattle.cs_pattern.specs.Checking.{IsReadable, HasAllNames, IsAccepted, AreAccepted, IsStopped, IsUndefined, IsCyclic, IsTooLarge, IsRefused, stopped, undefined, cyclic, too_large}
-use Rattle.cs_pattern.specs.Definitions.{Definition}
+use Rattle.cs_pattern_postfix.specs.Definitions.{Definition}
 use Rattle.cs_pattern.specs.Names.{first_undefined}
 use Rattle.cs_pattern.specs.Table.{Reads, IsFirstStop}
 use Rattle.cs_pattern.specs.Uses.{used, Uses, UsesDefinition, Reaches, directly, through, LeadsTo, IsFirstTo}

@@ -2,8 +2,8 @@
 use Rattle.std.proofs.Common.{◌≡◌, ℕ, List, [], ◌∷◌, ◌++◌, map, refl, sym, ap, ◌∙◌, subst, inl, inr}
 use Rattle.std.specs.Prelude.{Some, slice_get}
 use Rattle.cs_pattern_items.specs.Items.{Item, class, quoted, named, opening, closing, bar, repetition, items_of}
-use Rattle.cs_pattern.specs.Definitions.{Definition, index_of}
-use Rattle.cs_pattern.specs.Grammar.{Tree, LastBranch, Or, Branch, LastPiece, Beside, Piece, Repeated, Atom, Bytes, Quote, Name, Group, tree_items, branch_items, piece_items, atom_items}
+use Rattle.cs_pattern_postfix.specs.Definitions.{Definition, index_of}
+use Rattle.cs_pattern_postfix.specs.Grammar.{Tree, LastBranch, Or, Branch, LastPiece, Beside, Piece, Repeated, Atom, Bytes, Quote, Name, Group, tree_items, branch_items, piece_items, atom_items}
 use Rattle.cs_pattern.specs.Substitution.{Spells, Defines, PutIn, BranchPutIn, PiecePutIn, AtomPutIn, IsTreeOf}
 use Rattle.cs_pattern.proofs.Readings.{one_reading}
 use Rattle.cs_pattern.proofs.OneDerivation.{one_derivation}

@@ -21,21 +21,22 @@ use Rattle.cs_pattern.specs.declared.fault.CheckError as errors
 use Rattle.cs_pattern.specs.declared.fault.CheckError.TheVariants as error_kinds
 use Rattle.cs_pattern.specs.declared.fault.PatternFault.{PatternFault}
 use Rattle.cs_pattern.specs.declared.fault.PatternFault.TheVariants.{UndefinedName, DefinitionCycle}
-use Rattle.cs_pattern.specs.declared.measure.Measure.{Measure}
-use Rattle.cs_pattern.specs.declared.postfix.Op as code
+use Rattle.cs_pattern_postfix.specs.declared.measure.Measure.{Measure}
+use Rattle.cs_pattern_postfix.specs.declared.operations.Op as code
 use Rattle.cs_pattern.specs.Checked.{IsOrder}
 use Rattle.cs_pattern.specs.Answers.{limit_of}
-use Rattle.cs_pattern.specs.Checking.{IsReadable, HasAllNames, IsAccepted, Each, EachBefore, HasNoCycle, IsRefused, Refuses, stopped, undefined, cyclic, too_large}
-use Rattle.cs_pattern.specs.Definitions.{Definition, definition_of, definitions_of, total_bytes}
-use Rattle.cs_pattern.specs.Evaluation.{value_of}
-use Rattle.cs_pattern.specs.Grammar.{Tree, IsDerivation, tree_items}
+use Rattle.cs_pattern.specs.Checking.{IsReadable, HasAllNames, IsAccepted, Each, EachBefore, HasNoCycle, IsRefused, RefusesDefinitions, stopped, undefined, cyclic, too_large}
+use Rattle.cs_pattern_postfix.specs.Definitions.{Definition, definition_of, definitions_of, total_bytes}
+use Rattle.cs_pattern_postfix.specs.Evaluation.{value_of}
+use Rattle.cs_pattern_postfix.specs.Grammar.{Tree, IsDerivation, tree_items}
 use Rattle.cs_pattern.specs.Limits.{passed_limit}
-use Rattle.cs_pattern.specs.Measures.{measure_of, leaf, measures}
+use Rattle.cs_pattern_postfix.specs.Measures.{measure_of, leaf, measures}
 use Rattle.cs_pattern.specs.Names.{first_undefined}
-use Rattle.cs_pattern.specs.Operations.{ops_of, tree_ops, number_of}
-use Rattle.cs_pattern.specs.Pattern.{leaves}
+use Rattle.cs_pattern_postfix.specs.Operations.{ops_of, tree_ops, number_of}
+use Rattle.cs_pattern_tree.specs.Pattern.{leaves}
 use Rattle.cs_pattern.specs.Stages.{StopsAs, HasItems, AreRead, AreNamed, HasOperations, AreOperations, IsMeasured, AreMeasures, HasTree}
-use Rattle.cs_pattern.specs.Substitution.{IsTreeOf, depth, pattern_of}
+use Rattle.cs_pattern.specs.Substitution.{IsTreeOf}
+use Rattle.cs_pattern_postfix.specs.Depth.{depth, pattern_of}
 use Rattle.cs_pattern.specs.Table.{Reads, IsFirstStop}
 use Rattle.cs_pattern.specs.Uses.{Uses, LeadsTo, Reaches, IsFirstTo}
 use Rattle.cs_pattern.proofs.HasDerivation.{has_derivation}
@@ -248,7 +249,7 @@ all_measured ds known bodies order k count operations o le each = record {
 -- ---- texts that stop
 
 pub stops_refuse : (ds : List Definition) (all : List (Vec held.Placed)) (index : ℕ) (d : Definition) (error : errors.CheckError) → slice_get ds index ≡ Some d → StopsAs index d.text error
-    → ((i : ℕ) (e : Definition) → i < index → slice_get ds i ≡ Some e → HasItems all i e.text) → Refuses ds error
+    → ((i : ℕ) (e : Definition) → i < index → slice_get ds i ≡ Some e → HasItems all i e.text) → RefusesDefinitions ds error
 stops_refuse ds all index d (error_kinds.Fault at fault) is stops before = subst (λ n. IsRefused ds n fault) (sym stops.0) (stopped_at ds all index d fault is stops.1 before)
 stops_refuse ds all index d error_kinds.Memory is stops before = tt
 

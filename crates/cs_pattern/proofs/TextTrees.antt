@@ -1,35 +1,37 @@
 -- What a text is, where its names are defined and definitions are checked.
-use Rattle.std.proofs.Common.{◌≡◌, ℕ, zero, suc, ◌<◌, ◌≤◌, ◌^◌, Bool, true, false, List, [], ◌∷◌, length, refl, sym, ap, ◌∙◌, subst, inl, inr, arith}
+use Rattle.std.proofs.Common.{◌≡◌, ℕ, zero, suc, ◌<◌, ◌≤◌, ◌^◌, Bool, true, false, List, [], ◌∷◌, length, refl, sym, ap, ◌∙◌, subst, arith}
 use Rattle.std.specs.Prelude.{Option, Some, None, is_some, not, nat_lt, slice_get, slice_index_or, if◌then◌else◌}
 use Rattle.std.specs.Global.{Vec}
 use Rattle.std.specs.Str.{bytes_eq}
-use Rattle.std.proofs.lemmas.Bool.{cases_lt, lt-ltb}
 use Rattle.std.proofs.lemmas.List.{length-map}
 use Rattle.cs_pattern_items.specs.Items.{Item, class, quoted, named, opening, closing, bar, repetition, Placed, items_of}
 use Rattle.cs_pattern.specs.declared.fault.PatternFault.{PatternFault}
 use Rattle.cs_pattern.specs.declared.fault.PatternFault.TheVariants.{TooDeep, TooManyPositions}
-use Rattle.cs_pattern.specs.declared.pattern.Pattern.{Pattern}
-use Rattle.cs_pattern.specs.declared.measure.Measure.{Measure}
-use Rattle.cs_pattern.specs.declared.postfix.Op as code
+use Rattle.cs_pattern_tree.specs.declared.pattern.Pattern.{Pattern}
+use Rattle.cs_pattern_postfix.specs.declared.measure.Measure.{Measure}
+use Rattle.cs_pattern_postfix.specs.declared.operations.Op as code
 use Rattle.cs_pattern.specs.Answers.{limit_of, IsNamed, IsPatternOf, IsBeyond, IsFault}
-use Rattle.cs_pattern.specs.Building.{known_at, patterns}
+use Rattle.cs_pattern_postfix.specs.Building.{known_at, patterns, StayShallow}
 use Rattle.cs_pattern.specs.Checked.{AreChecked}
-use Rattle.cs_pattern.specs.Definitions.{Definition, index_of, has_name}
-use Rattle.cs_pattern.specs.Evaluation.{value_of}
-use Rattle.cs_pattern.specs.Grammar.{Tree, tree_items}
+use Rattle.cs_pattern_postfix.specs.Definitions.{Definition, index_of, has_name}
+use Rattle.cs_pattern_postfix.specs.Evaluation.{value_of}
+use Rattle.cs_pattern_postfix.specs.Grammar.{Tree, tree_items}
 use Rattle.cs_pattern.specs.Limits.{passed_limit}
-use Rattle.cs_pattern.specs.Measures.{measures, measure_of, leaf}
+use Rattle.cs_pattern_postfix.specs.Measures.{measures, measure_of, leaf}
 use Rattle.cs_pattern.specs.Names.{is_undefined, first_undefined}
-use Rattle.cs_pattern.specs.Needed.{Substitutes, IsMarked, AreKnown}
-use Rattle.cs_pattern.specs.Operations.{Op, number_of, tree_ops}
-use Rattle.cs_pattern.specs.Pattern.{Regex, leaves}
-use Rattle.cs_pattern.specs.Substitution.{PutIn, IsTreeOf, depth, pattern_of}
+use Rattle.cs_pattern.specs.Needed.{Substitutes, AreKnown, AreNeeded, directly}
+use Rattle.cs_pattern.specs.ReadView.{IsWithinDepth}
+use Rattle.cs_pattern_postfix.specs.Operations.{Op, ops_of, number_of, tree_ops}
+use Rattle.cs_pattern_tree.specs.Pattern.{Regex, leaves}
+use Rattle.cs_pattern.specs.Substitution.{PutIn, IsTreeOf}
+use Rattle.cs_pattern_postfix.specs.Depth.{depth, pattern_of}
 use Rattle.cs_pattern.specs.Table.{Reads}
-use Rattle.cs_pattern.proofs.Built.{built}
+use Rattle.cs_pattern.proofs.Built.{AreBuilt, built}
+use Rattle.cs_pattern.proofs.Shallow.{tree_stays}
 use Rattle.cs_pattern.proofs.Deep.{text_deep}
 use Rattle.cs_pattern.proofs.HasDerivation.{has_derivation}
 use Rattle.cs_pattern.proofs.Knowing.{get_within, has_at, position_within}
-use Rattle.cs_pattern.proofs.Limited.{capped_limit}
+use Rattle.cs_pattern.proofs.Limited.{capped_limit, limit_depth}
 use Rattle.cs_pattern.proofs.Measured.{measured}
 use Rattle.cs_pattern.proofs.PuttingIn.{one_tree_of, HasTree, HaveTrees, put_tree}
 use Rattle.cs_pattern.proofs.Using.{tree_puts}
@@ -38,15 +40,6 @@ pub got : {A : Type 0} (xs : List A) (i : ℕ) (x d : A) → slice_get xs i ≡ 
 got [] i x d e = absurd cc
 got (y ∷ xs) zero x d e = cc
 got (y ∷ xs) (suc i) x d e = got xs i x d e
-
-within_depth : (tree : Tree) → limit_of tree ≡ None → depth tree ≤ 200
-within_depth tree e =
-    elim (cases_lt 200 (depth tree)) [
-      | inl above ↦
-          let f : limit_of tree ≡ Some (TooDeep (depth tree) 200) = ap (λ b. if b then Some (TooDeep (depth tree) 200) else (if nat_lt 8192 (leaves (pattern_of tree)) then Some (TooManyPositions 8192) else None)) (lt-ltb 200 (depth tree) above) in
-          absurd (cc (e, f))
-      | inr within ↦ within
-    ]
 
 beyond_is_fault : (text : List ℕ) (ds : List Definition) (d l : ℕ) (f : PatternFault) → passed_limit d l ≡ Some f → IsBeyond text ds f → IsFault text ds f
 beyond_is_fault text ds d l f e h = by_tests (nat_lt 200 d) (nat_lt 8192 l) e
@@ -103,7 +96,7 @@ module _ (ds : List Definition) (bodies : List (Vec code.Op)) (measured_as : Lis
   has_read text items r e few =
       let d = has_derivation text items r in
       let p = put_tree ds d.0 (subst (HaveTrees ds) d.1 (have_trees items e)) in
-      let long = text_deep ds 200 p.0 d.0 (items_of items) p.1 d.1 (λ i u x t at is. within_depth t (checked_tree i x t at is).1) in
+      let long = text_deep ds 200 p.0 d.0 (items_of items) p.1 d.1 (λ i u x t at is. limit_depth t (checked_tree i x t at is).1) in
       record {
         tree = p.0;
         is_tree = record { spelled = d.0; is_spelled = record { items = items; read = r; derived = d.1 }; put_in = p.1 };
@@ -124,18 +117,37 @@ module _ (ds : List Definition) (bodies : List (Vec code.Op)) (measured_as : Lis
       let over = sym (limit_is text items h m ops e g) ∙ passes in
       beyond_is_fault text ds (depth h.tree) (leaves (pattern_of h.tree)) f over (record { tree = h.tree; is_tree = h.is_tree; passes = over })
 
+  -- the patterns of what the operations use are known
+  use_built : (ops : List Op) (marks : List Bool) (known : List (Option Pattern)) → AreNeeded bodies ops marks → AreKnown ds marks known → (spelled : Tree) → ops ≡ tree_ops (number_of ds) spelled
+      → AreBuilt ds (known_at known) (tree_items spelled)
+  use_built ops marks known needed k spelled g i u d other at t =
+      k i d other (needed.marked i (directly i (subst (λ (o : List Op). Substitutes o i) (sym g) (tree_puts ds spelled i u)) (let n = a.body_count in omega (arith, get_within ds i d at)))) at t
+
   -- with the definitions put in, a tree has the pattern that its operations build
-  pub put_in_is : (ops : List Op) (r : Regex) (marks : List Bool) (known : List (Option Pattern)) → r ≡ value_of (patterns (known_at known)) ops → ((i : ℕ) → Substitutes ops i → i < length bodies → IsMarked marks i) → AreKnown ds marks known
+  pub put_in_is : (ops : List Op) (r : Regex) (marks : List Bool) (known : List (Option Pattern)) → r ≡ value_of (patterns (known_at known)) ops → AreNeeded bodies ops marks → AreKnown ds marks known
       → (tree spelled : Tree) → PutIn ds tree spelled → ops ≡ tree_ops (number_of ds) spelled → r ≡ pattern_of tree
-  put_in_is ops r marks known is used k tree spelled put g =
-      is ∙ ap (value_of (patterns (known_at known))) g ∙ built ds (known_at known) tree spelled put (λ i u d other at t.
-      k i d other (used i (subst (λ (o : List Op). Substitutes o i) (sym g) (tree_puts ds spelled i u)) (let n = a.body_count in omega (arith, get_within ds i d at))) at t)
+  put_in_is ops r marks known is needed k tree spelled put g =
+      is ∙ ap (value_of (patterns (known_at known))) g ∙ built ds (known_at known) tree spelled put (use_built ops marks known needed k spelled g)
+
+  -- and on the way to it no pattern is deep
+  pub put_in_stays : (ops : List code.Op) (marks : List Bool) (known : List (Option Pattern)) → IsWithinDepth ds ops → AreNeeded bodies (ops_of ops) marks → AreKnown ds marks known → StayShallow known (ops_of ops)
+  put_in_stays ops marks known w needed k =
+      subst (StayShallow known) (sym w.are) (tree_stays ds (known_at known) w.tree w.spelled w.put_in (use_built (ops_of ops) marks known needed k w.spelled w.are) w.shallow)
 
   -- a text within the limits has a pattern
   pub accepted : (text : List ℕ) (items : List Placed) (h : HasRead text items) (m : Measure) (ops : List Op) (r : Regex) → m ≡ value_of (measures measured_as) ops → ops ≡ tree_ops (number_of ds) h.is_tree.spelled
       → passed_limit m.depth m.leaves ≡ None → r ≡ pattern_of h.tree → IsPatternOf ds text r
   accepted text items h m ops r e g within is =
       record { tree = h.tree; is_tree = h.is_tree; within = sym (limit_is text items h m ops e g) ∙ within; is = is }
+
+  -- the tree of a text within the limits is not deep
+  pub is_within : (items : List Placed) (m : Measure) (ops : List code.Op) → m ≡ value_of (measures measured_as) (ops_of ops) → ((t : Tree) → items_of items ≡ tree_items t → ops_of ops ≡ tree_ops (number_of ds) t)
+      → passed_limit m.depth m.leaves ≡ None → (text : List ℕ) → IsNamed ds text items → IsWithinDepth ds ops
+  is_within items m ops e g within text n =
+      let h = has_read text items n.read n.defined n.few in
+      let are = g h.is_tree.spelled h.items_is in
+      let limit = sym (limit_is text items h m (ops_of ops) e are) ∙ within in
+      record { tree = h.tree; spelled = h.is_tree.spelled; put_in = h.is_tree.put_in; are = are; shallow = limit_depth h.tree limit }
 
   pub refuses : (items : List Placed) (m : Measure) (ops : List Op) (f : PatternFault) → m ≡ value_of (measures measured_as) ops → ((t : Tree) → items_of items ≡ tree_items t → ops ≡ tree_ops (number_of ds) t)
       → passed_limit m.depth m.leaves ≡ Some f → (text : List ℕ) → IsNamed ds text items → IsFault text ds f

@@ -14,11 +14,12 @@ use Rattle.cs_pattern_items.specs.Items.{Item, class, quoted, named, opening, cl
 use Rattle.cs_pattern_items.specs.Views.{placed_all, placed_of}
 use Rattle.cs_pattern.specs.Checked.{IsOrder}
 use Rattle.cs_pattern.specs.Checking.{HasAllNames, Each}
-use Rattle.cs_pattern.specs.Definitions.{Definition, index_of, has_name, total_bytes}
-use Rattle.cs_pattern.specs.Grammar.{Tree}
+use Rattle.cs_pattern_postfix.specs.Definitions.{Definition, index_of, has_name, total_bytes}
+use Rattle.cs_pattern_postfix.specs.Grammar.{Tree}
 use Rattle.cs_pattern.specs.Names.{is_undefined, first_undefined}
 use Rattle.cs_pattern.specs.Stages.{AreRead, HasTree}
-use Rattle.cs_pattern.specs.Substitution.{IsTreeOf, depth}
+use Rattle.cs_pattern.specs.Substitution.{IsTreeOf}
+use Rattle.cs_pattern_postfix.specs.Depth.{depth}
 use Rattle.cs_pattern.specs.Uses.{Uses}
 use Rattle.cs_pattern.proofs.Deep.{text_deep}
 use Rattle.cs_pattern.proofs.HasDerivation.{has_derivation}

@@ -3,10 +3,10 @@ use Rattle.std.proofs.Common.{◌≡◌, ◌⊎◌, ℕ, ◌<◌, List, [], ◌�
 use Rattle.std.specs.Prelude.{Option, Some, None, unwrap_or}
 use Rattle.cs_pattern_items.specs.declared.item.Repetition.{Repetition}
 use Rattle.cs_pattern_items.specs.Items.{Item, closing, bar, repetition}
-use Rattle.cs_pattern.specs.Definitions.{Definition, index_of}
-use Rattle.cs_pattern.specs.Grammar.{Tree, LastBranch, Or, Branch, LastPiece, Beside, Piece, Repeated, Atom, Bytes, Quote, Name, Group, tree_items, branch_items, piece_items, atom_items}
+use Rattle.cs_pattern_postfix.specs.Definitions.{Definition, index_of}
+use Rattle.cs_pattern_postfix.specs.Grammar.{Tree, LastBranch, Or, Branch, LastPiece, Beside, Piece, Repeated, Atom, Bytes, Quote, Name, Group, tree_items, branch_items, piece_items, atom_items}
 use Rattle.cs_pattern.specs.Needed.{Substitutes}
-use Rattle.cs_pattern.specs.Operations.{Op, substitute, repeat, group, join, either, number_of, branch_count, piece_count, tree_ops, branches_ops, pieces_ops, piece_ops, atom_ops}
+use Rattle.cs_pattern_postfix.specs.Operations.{Op, substitute, repeat, group, join, either, number_of, branch_count, piece_count, tree_ops, branches_ops, pieces_ops, piece_ops, atom_ops}
 use Rattle.cs_pattern.specs.Substitution.{Defines}
 use Rattle.cs_pattern.specs.Uses.{Uses}
 

@@ -3,15 +3,15 @@ use Rattle.std.proofs.Common.{◌≡◌, ℕ, List, get_or, refl, subst, arith}
 use Rattle.std.specs.Prelude.{Some, None, slice_get}
 use Rattle.std.specs.Global.{Vec}
 use Rattle.std.proofs.lemmas.Option.{slice_get-get_or, slice_get_within}
-use Rattle.cs_pattern.specs.declared.measure.Measure.{Measure}
-use Rattle.cs_pattern.specs.declared.postfix.Op as code
+use Rattle.cs_pattern_postfix.specs.declared.measure.Measure.{Measure}
+use Rattle.cs_pattern_postfix.specs.declared.operations.Op as code
 use Rattle.cs_pattern.specs.Answers.{limit_of}
 use Rattle.cs_pattern.specs.Checked.{HasBody, IsOrder, AreChecked}
 use Rattle.cs_pattern.specs.Checking.{Each, AreAccepted}
 use Rattle.cs_pattern.specs.Classes.{HaveByteTexts}
-use Rattle.cs_pattern.specs.Definitions.{Definition}
-use Rattle.cs_pattern.specs.Grammar.{Tree}
-use Rattle.cs_pattern.specs.Measures.{leaf}
+use Rattle.cs_pattern_postfix.specs.Definitions.{Definition}
+use Rattle.cs_pattern_postfix.specs.Grammar.{Tree}
+use Rattle.cs_pattern_postfix.specs.Measures.{leaf}
 use Rattle.cs_pattern.specs.Stages.{AreOperations, AreMeasures, HasTree}
 use Rattle.cs_pattern.specs.Substitution.{IsTreeOf, PutIn}
 use Rattle.cs_pattern.proofs.PuttingIn.{one_spelled}

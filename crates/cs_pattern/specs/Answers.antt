@@ -5,12 +5,13 @@ use Rattle.cs_pattern.specs.declared.fault.PatternFault.TheVariants as faults
 use Rattle.cs_pattern.specs.declared.fault.PatternError as errors
 use Rattle.cs_pattern.specs.declared.fault.PatternError.TheVariants as error_kinds
 use Rattle.cs_pattern_items.specs.Items.{Placed}
-use Rattle.cs_pattern.specs.Definitions.{Definition}
-use Rattle.cs_pattern.specs.Grammar.{Tree}
+use Rattle.cs_pattern_postfix.specs.Definitions.{Definition}
+use Rattle.cs_pattern_postfix.specs.Grammar.{Tree}
 use Rattle.cs_pattern.specs.Limits.{passed_limit}
 use Rattle.cs_pattern.specs.Names.{first_undefined}
-use Rattle.cs_pattern.specs.Pattern.{Regex, leaves}
-use Rattle.cs_pattern.specs.Substitution.{IsTreeOf, depth, pattern_of}
+use Rattle.cs_pattern_tree.specs.Pattern.{Regex, leaves}
+use Rattle.cs_pattern.specs.Substitution.{IsTreeOf}
+use Rattle.cs_pattern_postfix.specs.Depth.{depth, pattern_of}
 use Rattle.cs_pattern.specs.Table.{Reads, IsFirstStop}
 
 -- the limit that a tree passes, if it passes one
@@ -55,6 +56,6 @@ IsFault bytes ds (faults.TooDeep found most) = IsBeyond bytes ds (faults.TooDeep
 IsFault bytes ds (faults.TooManyPositions most) = IsBeyond bytes ds (faults.TooManyPositions most)
 
 -- memory may run out
-abbrev pub Refuses : List ℕ → List Definition → errors.PatternError → Type 0
-Refuses bytes ds (error_kinds.Fault fault) = IsFault bytes ds fault
-Refuses bytes ds error_kinds.Memory = Unit {0}
+abbrev pub RefusesText : List ℕ → List Definition → errors.PatternError → Type 0
+RefusesText bytes ds (error_kinds.Fault fault) = IsFault bytes ds fault
+RefusesText bytes ds error_kinds.Memory = Unit {0}

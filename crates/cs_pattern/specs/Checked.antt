@@ -1,14 +1,14 @@
 -- What checked definitions hold.
 use Rattle.std.specs.Prelude.{◌≡◌, ℕ, ◌<◌, List, ◌∷◌, ◌++◌, Some, None, Contains, length, slice_get}
 use Rattle.std.specs.Global.{Vec}
-use Rattle.cs_pattern.specs.declared.measure.Measure.{Measure}
-use Rattle.cs_pattern.specs.declared.postfix.Op as code
+use Rattle.cs_pattern_postfix.specs.declared.measure.Measure.{Measure}
+use Rattle.cs_pattern_postfix.specs.declared.operations.Op as code
 use Rattle.cs_pattern.specs.Answers.{limit_of}
 use Rattle.cs_pattern.specs.Classes.{HaveByteTexts}
-use Rattle.cs_pattern.specs.Definitions.{Definition}
-use Rattle.cs_pattern.specs.Grammar.{Tree}
-use Rattle.cs_pattern.specs.Operations.{ops_of, tree_ops, number_of}
-use Rattle.cs_pattern.specs.Measures.{measure_of}
+use Rattle.cs_pattern_postfix.specs.Definitions.{Definition}
+use Rattle.cs_pattern_postfix.specs.Grammar.{Tree}
+use Rattle.cs_pattern_postfix.specs.Operations.{ops_of, tree_ops, number_of}
+use Rattle.cs_pattern_postfix.specs.Measures.{measure_of}
 use Rattle.cs_pattern.specs.Substitution.{Spells, PutIn}
 use Rattle.cs_pattern.specs.Uses.{UsesDefinition}
 

@@ -5,10 +5,10 @@ use Rattle.cs_pattern.specs.declared.fault.PatternFault.TheVariants.{UndefinedNa
 use Rattle.cs_pattern.specs.declared.fault.CheckError as errors
 use Rattle.cs_pattern.specs.declared.fault.CheckError.TheVariants as error_kinds
 use Rattle.cs_pattern.specs.Answers.{IsBeyond, IsPatternOf}
-use Rattle.cs_pattern.specs.Definitions.{Definition}
+use Rattle.cs_pattern_postfix.specs.Definitions.{Definition}
 use Rattle.cs_pattern_items.specs.Items.{Placed}
 use Rattle.cs_pattern.specs.Names.{first_undefined}
-use Rattle.cs_pattern.specs.Pattern.{Regex}
+use Rattle.cs_pattern_tree.specs.Pattern.{Regex}
 use Rattle.cs_pattern.specs.Table.{Reads, IsFirstStop}
 use Rattle.cs_pattern.specs.Uses.{Reaches, IsFirstTo}
 
@@ -86,6 +86,6 @@ pub data IsRefused (ds : List Definition) (index : ℕ) (fault : PatternFault) :
   too_large : IsTooLarge ds index fault → IsRefused ds index fault
 
 -- memory may run out
-abbrev pub Refuses : List Definition → errors.CheckError → Type 0
-Refuses ds (error_kinds.Fault index fault) = IsRefused ds index fault
-Refuses ds error_kinds.Memory = Unit {0}
+abbrev pub RefusesDefinitions : List Definition → errors.CheckError → Type 0
+RefusesDefinitions ds (error_kinds.Fault index fault) = IsRefused ds index fault
+RefusesDefinitions ds error_kinds.Memory = Unit {0}

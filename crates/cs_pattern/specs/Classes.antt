@@ -1,21 +1,7 @@
--- Patterns without empty classes.
+-- Definitions whose texts are bytes.
 use Rattle.std.specs.Prelude.{List, All}
-use Rattle.cs_pattern_items.specs.StandsFor.{AreBytes, HasByte}
-use Rattle.cs_pattern.specs.Definitions.{Definition}
-use Rattle.cs_pattern.specs.Pattern.{Regex, Empty, Class, Join, Either, Many, Parts, Nothing, Then}
-
--- each class of the pattern has a byte
-abbrev mutual
-  pub HasNoEmptyClass : Regex → Type 0
-  HasNoEmptyClass Empty = Unit {0}
-  HasNoEmptyClass (Class set) = HasByte set
-  HasNoEmptyClass (Join parts) = HaveNoEmptyClass parts
-  HasNoEmptyClass (Either parts) = HaveNoEmptyClass parts
-  HasNoEmptyClass (Many part) = HasNoEmptyClass part
-
-  pub HaveNoEmptyClass : Parts → Type 0
-  HaveNoEmptyClass Nothing = Unit {0}
-  HaveNoEmptyClass (Then r rs) = HasNoEmptyClass r × HaveNoEmptyClass rs
+use Rattle.cs_pattern_items.specs.StandsFor.{AreBytes}
+use Rattle.cs_pattern_postfix.specs.Definitions.{Definition}
 
 -- the text of each definition is bytes
 abbrev pub HaveByteTexts : List Definition → Type 0

@@ -1,7 +1,7 @@
 -- Which names of a text are defined.
 use Rattle.std.specs.Prelude.{ℕ, Bool, false, not, if◌then◌else◌, List, [], ◌∷◌, Option, Some, None}
 use Rattle.cs_pattern_items.specs.Items.{Item, class, quoted, named, opening, closing, bar, repetition, Placed}
-use Rattle.cs_pattern.specs.Definitions.{Definition, has_name}
+use Rattle.cs_pattern_postfix.specs.Definitions.{Definition, has_name}
 
 -- a name that has no definition
 abbrev pub is_undefined : List Definition → Item → Bool

@@ -7,7 +7,16 @@ use Rattle.cs_pattern.specs.declared.fault.PatternError as errors
 use Rattle.cs_pattern.specs.declared.fault.PatternError.TheVariants as error_kinds
 use Rattle.cs_pattern_items.specs.Front.{item, front}
 use Rattle.cs_pattern.specs.Table.{next_place, StopsWith, IsFirstStop}
-use Rattle.cs_pattern_items.specs.Views.{item_of}
+use Rattle.cs_pattern_items.specs.Views.{item_of, placed_all}
+use Rattle.cs_pattern_items.specs.declared.item.Placed as held
+use Rattle.cs_pattern_tree.specs.Pattern.{Regex}
+use Rattle.cs_pattern_postfix.specs.declared.operations.Op as code
+use Rattle.cs_pattern_postfix.specs.Definitions.{Definition}
+use Rattle.cs_pattern_postfix.specs.Depth.{depth, pattern_of}
+use Rattle.cs_pattern_postfix.specs.Grammar.{Tree}
+use Rattle.cs_pattern_postfix.specs.Operations.{ops_of, tree_ops, number_of}
+use Rattle.cs_pattern.specs.Answers.{IsNamed, IsPatternOf, RefusesText}
+use Rattle.cs_pattern.specs.Substitution.{PutIn}
 
 -- what comes next in the text at the place
 abbrev pub IsNext : List ℕ → Place → nexts.Next → Type 0
@@ -15,6 +24,30 @@ IsNext text p (next_kinds.Item i size next) = (front text ≡ item (item_of i) s
 IsNext text p (next_kinds.Stop why) = StopsWith p (front text) why
 
 -- the text stops with that fault; memory may run out
-abbrev pub Refuses : List ℕ → errors.PatternError → Type 0
-Refuses bytes (error_kinds.Fault fault) = IsFirstStop bytes fault
-Refuses bytes error_kinds.Memory = Unit {0}
+abbrev pub StopsReading : List ℕ → errors.PatternError → Type 0
+StopsReading bytes (error_kinds.Fault fault) = IsFirstStop bytes fault
+StopsReading bytes error_kinds.Memory = Unit {0}
+
+-- some text is read into these items, each name of which is defined
+abbrev pub AreNamedOfSome : List Definition → List held.Placed → Type 0
+AreNamedOfSome ds items = (text : List ℕ) × IsNamed ds text (placed_all items)
+
+-- whatever text the items are of, this is its pattern, or why it has none
+abbrev pub GivePattern : List Definition → List held.Placed → Regex → Type 0
+GivePattern ds items pattern = (text : List ℕ) → IsNamed ds text (placed_all items) → IsPatternOf ds text pattern
+
+abbrev pub GiveRefusal : List Definition → List held.Placed → errors.PatternError → Type 0
+GiveRefusal ds items error = (text : List ℕ) → IsNamed ds text (placed_all items) → RefusesText text ds error
+
+-- the operations are those of a tree, which is at most 200 deep with the definitions put in
+pub record IsWithinDepth (ds : List Definition) (ops : List code.Op) : Type 0 where
+  pub tree : Tree
+  pub spelled : Tree
+  pub put_in : PutIn ds tree spelled
+  pub are : ops_of ops ≡ tree_ops (number_of ds) spelled
+  pub shallow : depth tree ≤ 200
+
+-- the pattern of the tree that has these operations, with the definitions put in
+abbrev pub IsPutIn : List Definition → List code.Op → Regex → Type 0
+IsPutIn ds ops pattern =
+    (tree spelled : Tree) → PutIn ds tree spelled → ops_of ops ≡ tree_ops (number_of ds) spelled → pattern ≡ pattern_of tree

@@ -6,14 +6,15 @@ use Rattle.cs_pattern_items.specs.declared.item.Placed as held
 use Rattle.cs_pattern_items.specs.Views.{placed_all}
 use Rattle.cs_pattern.specs.declared.fault.CheckError as errors
 use Rattle.cs_pattern.specs.declared.fault.CheckError.TheVariants as error_kinds
-use Rattle.cs_pattern.specs.declared.measure.Measure.{Measure}
-use Rattle.cs_pattern.specs.declared.postfix.Op as code
-use Rattle.cs_pattern.specs.Definitions.{Definition}
-use Rattle.cs_pattern.specs.Grammar.{Tree}
-use Rattle.cs_pattern.specs.Measures.{measure_of, leaf}
+use Rattle.cs_pattern_postfix.specs.declared.measure.Measure.{Measure}
+use Rattle.cs_pattern_postfix.specs.declared.operations.Op as code
+use Rattle.cs_pattern_postfix.specs.Definitions.{Definition}
+use Rattle.cs_pattern_postfix.specs.Grammar.{Tree}
+use Rattle.cs_pattern_postfix.specs.Measures.{measure_of, leaf}
 use Rattle.cs_pattern.specs.Names.{first_undefined}
-use Rattle.cs_pattern.specs.Operations.{ops_of, tree_ops, number_of}
-use Rattle.cs_pattern.specs.Substitution.{Spells, IsTreeOf, depth}
+use Rattle.cs_pattern_postfix.specs.Operations.{ops_of, tree_ops, number_of}
+use Rattle.cs_pattern.specs.Substitution.{Spells, IsTreeOf}
+use Rattle.cs_pattern_postfix.specs.Depth.{depth}
 use Rattle.cs_pattern.specs.Table.{Reads, IsFirstStop}
 use Rattle.cs_pattern.specs.Uses.{UsesDefinition}
 

@@ -1,11 +1,10 @@
 -- What a text stands for when definitions are put in for its names (POSIX.1-2017, lex, "Definitions in lex": `{name}` is
 -- replaced by the substitute of its definition, as if in parentheses).
-use Rattle.std.specs.Prelude.{◌≡◌, ◌⊎◌, ℕ, ◌+◌, max, List, Some, length, slice_get}
+use Rattle.std.specs.Prelude.{◌≡◌, ◌⊎◌, ℕ, List, Some, slice_get}
 use Rattle.cs_pattern_items.specs.Items.{Placed, items_of}
 use Rattle.cs_pattern.specs.Table.{Reads}
-use Rattle.cs_pattern.specs.Pattern.{Regex, Empty}
-use Rattle.cs_pattern.specs.Definitions.{Definition, index_of}
-use Rattle.cs_pattern.specs.Grammar.{Tree, LastBranch, Or, Branch, LastPiece, Beside, Piece, Repeated, Atom, Bytes, Quote, Name, Group, IsDerivation, tree_regex}
+use Rattle.cs_pattern_postfix.specs.Definitions.{Definition, index_of}
+use Rattle.cs_pattern_postfix.specs.Grammar.{Tree, LastBranch, Or, Branch, LastPiece, Beside, Piece, Repeated, Atom, Bytes, Quote, Name, Group, IsDerivation}
 
 -- the text is read to its end, and its items have this derivation
 pub record Spells (text : List ℕ) (tree : Tree) : Type 0 where
@@ -48,26 +47,3 @@ pub record IsTreeOf (ds : List Definition) (text : List ℕ) (tree : Tree) : Typ
   pub spelled : Tree
   pub is_spelled : Spells text spelled
   pub put_in : PutIn ds tree spelled
-
--- how many groups and repetitions stand around the atom of a tree that has the most
-abbrev mutual
-  pub depth : Tree → ℕ
-  depth (LastBranch b) = branch_depth b
-  depth (Or b t) = max (branch_depth b) (depth t)
-
-  pub branch_depth : Branch → ℕ
-  branch_depth (LastPiece p) = piece_depth p
-  branch_depth (Beside p b) = max (piece_depth p) (branch_depth b)
-
-  pub piece_depth : Piece → ℕ
-  piece_depth (Repeated a rs) = atom_depth a + length rs
-
-  pub atom_depth : Atom → ℕ
-  atom_depth (Bytes set) = 0
-  atom_depth (Quote bytes) = 0
-  atom_depth (Name name) = 0
-  atom_depth (Group t) = depth t + 1
-
--- the pattern of a tree in which no names are left
-abbrev pub pattern_of : Tree → Regex
-pattern_of = tree_regex (λ name. Empty)

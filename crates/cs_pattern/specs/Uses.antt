@@ -3,7 +3,7 @@ use Rattle.std.specs.Prelude.{◌≡◌, ◌⊎◌, ℕ, List, [], ◌∷◌, �
 use Rattle.std.specs.List.{AllByRecursion}
 use Rattle.cs_pattern_items.specs.Items.{Item, class, quoted, named, opening, closing, bar, repetition, Placed, items_of}
 use Rattle.cs_pattern.specs.Table.{Reads}
-use Rattle.cs_pattern.specs.Definitions.{Definition, index_of}
+use Rattle.cs_pattern_postfix.specs.Definitions.{Definition, index_of}
 
 -- the index of the definition that an item names
 abbrev pub used : List Definition → Item → Option ℕ

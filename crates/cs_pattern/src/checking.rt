@@ -4,20 +4,19 @@ ghost use Rattle.std.specs.Prelude.{◌≡◌, ◌<◌, ◌≤◌, ◌^◌, ℕ,
 ghost use Rattle.cs_pattern_items.specs.Views.{placed_all};
 ghost use Rattle.cs_pattern.specs.Answers.{limit_of};
 ghost use Rattle.cs_pattern.specs.Checked.{IsOrder};
-ghost use Rattle.cs_pattern.specs.Checking.{Refuses, HasAllNames, HasNoCycle, Each};
-ghost use Rattle.cs_pattern.specs.Definitions.{Definition, definitions_of, total_bytes};
-ghost use Rattle.cs_pattern.specs.Grammar.{Tree};
+ghost use Rattle.cs_pattern.specs.Checking.{RefusesDefinitions, HasAllNames, HasNoCycle, Each};
+ghost use Rattle.cs_pattern_postfix.specs.Definitions.{Definition, definitions_of, total_bytes};
+ghost use Rattle.cs_pattern_postfix.specs.Grammar.{Tree};
 ghost use Rattle.cs_pattern.specs.Stages.{StopsAs, AreRead, AreNamed, AreOperations, IsMeasured, AreMeasures, HasTree};
 ghost use Rattle.cs_pattern.specs.Substitution.{IsTreeOf};
 ghost use Rattle.cs_pattern.specs.Table.{Reads};
 
 use crate::fault::{CheckError, PatternError, PatternFault};
-use crate::measure::{Measure, leaf, measure_of, passed_limit};
-use crate::names::Texts;
-use crate::postfix::{Op, postfix};
+use crate::limits::passed_limit;
 use crate::reading::items;
 use crate::uses::first_undefined;
 use cs_pattern_items::Placed;
+use cs_pattern_postfix::{Measure, Op, Texts, leaf, measure_of, postfix};
 use std::alloc::{AllocError, Global};
 
 /// The fault of the definition of that index.
@@ -49,7 +48,7 @@ fn read_text(alloc: Global, index: usize, text: &[u8]) -> Result<Vec<Placed>, Ch
 pub fn read_all(alloc: Global, texts: &Texts) -> Result<Vec<Vec<Placed>>, CheckError>
     requires { total_bytes (definitions_of texts.now.entries) ≤ 1048576 }
     ensures read { IfOk result (λ all. AreRead (definitions_of texts.now.entries) all.items) }
-    ensures refused { IfErr result (Refuses (definitions_of texts.now.entries)) }
+    ensures refused { IfErr result (RefusesDefinitions (definitions_of texts.now.entries)) }
 {
     let mut all = Vec::new(alloc);
     while let Some((_, text)) = texts.get_index(all.len()) {
@@ -62,7 +61,7 @@ pub fn check_names(all: &[Vec<Placed>], texts: &Texts) -> Result<(), CheckError>
     requires bytes { total_bytes (definitions_of texts.now.entries) ≤ 1048576 }
     requires read { AreRead (definitions_of texts.now.entries) all.now }
     ensures named { OnOk result (AreNamed (definitions_of texts.now.entries) all.now) }
-    ensures refused { IfErr result (Refuses (definitions_of texts.now.entries)) }
+    ensures refused { IfErr result (RefusesDefinitions (definitions_of texts.now.entries)) }
 {
     for (index, items) in all.iter().enumerate() {
         if let Some(at) = first_undefined(items, texts) {
@@ -110,7 +109,7 @@ pub fn check_limits(measures: &[Measure]) -> Result<(), CheckError>
     ensures within { OnOk result ((ds : List Definition) → AreMeasures ds measures.now → Each (HasTree ds) ds
         → (i : ℕ) (d : Definition) (tree : Tree) → slice_get ds i ≡ Some d → IsTreeOf ds d.text tree → limit_of tree ≡ None) }
     ensures refused { IfErr result (λ error. (ds : List Definition) → AreMeasures ds measures.now → Each (HasTree ds) ds → Each (HasAllNames ds) ds
-        → HasNoCycle ds → Refuses ds error) }
+        → HasNoCycle ds → RefusesDefinitions ds error) }
 {
     for (index, measure) in measures.iter().enumerate() {
         if let Some(fault) = passed_limit(*measure) {

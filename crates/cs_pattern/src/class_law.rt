@@ -3,9 +3,10 @@
 ghost use Rattle.std.specs.Prelude.{ℕ, List};
 ghost use Rattle.cs_pattern_items.specs.StandsFor.{AreBytes};
 ghost use Rattle.cs_pattern.specs.Answers.{IsPatternOf};
-ghost use Rattle.cs_pattern.specs.Classes.{HasNoEmptyClass, HaveByteTexts};
-ghost use Rattle.cs_pattern.specs.Definitions.{Definition};
-ghost use Rattle.cs_pattern.specs.Pattern.{Regex};
+ghost use Rattle.cs_pattern.specs.Classes.{HaveByteTexts};
+ghost use Rattle.cs_pattern_tree.specs.Scannable.{HasNoEmptyClass};
+ghost use Rattle.cs_pattern_postfix.specs.Definitions.{Definition};
+ghost use Rattle.cs_pattern_tree.specs.Pattern.{Regex};
 
 /// No class of a text's pattern is empty, where the text and the texts of the definitions are bytes.
 pub fn no_empty_class()

@@ -1,15 +1,13 @@
 // The definitions of a file.
 
 ghost use Rattle.std.specs.Prelude.{◌≡◌, ◌≤◌, ◌+◌, ◌++◌, ◌∷◌, [], IfOk, IfErr, OnOk, OnErr, ◌↔◌, IsErrOf, IsTrue, length};
-ghost use Rattle.cs_pattern.specs.Checking.{AreAccepted, Refuses};
-ghost use Rattle.cs_pattern.specs.Definitions.{has_name, total_bytes};
+ghost use Rattle.cs_pattern.specs.Checking.{AreAccepted, RefusesDefinitions};
+ghost use Rattle.cs_pattern_postfix.specs.Definitions.{has_name, total_bytes};
 
 use crate::checking::{check_limits, check_names, measure_all, operations, read_all};
 use crate::fault::{CheckError, DefinitionError};
-use crate::measure::Measure;
-use crate::names::{Texts, index_of};
-use crate::postfix::Op;
 use crate::uses::{graph_of, order_of};
+use cs_pattern_postfix::{Measure, Op, Texts, index_of};
 use indexmap::IndexMap;
 use std::alloc::Global;
 use std::marker::Model;
@@ -33,7 +31,7 @@ pub struct Checked {
 impl Model for Checked {
     ghost use Rattle.std.specs.Prelude.{List};
     ghost use Rattle.cs_pattern.specs.Checked.{AreChecked};
-    ghost use Rattle.cs_pattern.specs.Definitions.{Definition, definitions_of};
+    ghost use Rattle.cs_pattern_postfix.specs.Definitions.{Definition, definitions_of};
 
     ghost Value = { List Definition };
 
@@ -45,7 +43,7 @@ impl Model for Checked {
 impl Model for Definitions {
     ghost use Rattle.std.specs.Prelude.{List, ◌≤◌};
     ghost use Rattle.cs_pattern.specs.Classes.{HaveByteTexts};
-    ghost use Rattle.cs_pattern.specs.Definitions.{Definition, definitions_of, total_bytes};
+    ghost use Rattle.cs_pattern_postfix.specs.Definitions.{Definition, definitions_of, total_bytes};
 
     ghost Value = { List Definition };
 
@@ -87,7 +85,7 @@ impl Definitions {
     pub fn check(self) -> Result<Checked, CheckError>
         ensures same { IfOk result (λ checked. checked ≡ self) }
         ensures accepted { OnOk result (AreAccepted self) }
-        ensures refused { IfErr result (Refuses self) }
+        ensures refused { IfErr result (RefusesDefinitions self) }
     {
         let Definitions { alloc, texts } = self;
         let items = read_all(alloc, &texts)?;

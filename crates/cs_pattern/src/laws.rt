@@ -6,12 +6,12 @@ ghost use Rattle.cs_pattern_items.specs.Items.{Placed, items_of};
 ghost use Rattle.cs_pattern.specs.declared.fault.PatternFault.{PatternFault};
 ghost use Rattle.cs_pattern.specs.Answers.{IsPatternOf, IsFault};
 ghost use Rattle.cs_pattern.specs.Checking.{AreAccepted, IsRefused};
-ghost use Rattle.cs_pattern.specs.Definitions.{Definition};
-ghost use Rattle.cs_pattern.specs.Pattern.{Regex};
+ghost use Rattle.cs_pattern_postfix.specs.Definitions.{Definition};
+ghost use Rattle.cs_pattern_tree.specs.Pattern.{Regex};
 ghost use Rattle.cs_pattern.specs.Substitution.{IsTreeOf};
 ghost use Rattle.cs_pattern.specs.Uses.{Reaches};
 ghost use Rattle.cs_pattern.specs.Table.{Reads, StopsAt};
-ghost use Rattle.cs_pattern.specs.Grammar.{Tree, IsDerivation};
+ghost use Rattle.cs_pattern_postfix.specs.Grammar.{Tree, IsDerivation};
 
 /// A text is read into one list of items, or reading stops at one place for one reason, and not both.
 pub fn one_reading()

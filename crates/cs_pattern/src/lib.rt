@@ -1,35 +1,35 @@
-//! Patterns of a lex file: patterns as trees, the definitions of a file, and the exact reading of a pattern's text, over the
-//! items that `cs_pattern_items` finds in it.
+//! Patterns of a lex file: the definitions of a file, and the exact reading of a pattern's text, over the items that
+//! `cs_pattern_items` finds in it, the patterns of `cs_pattern_tree` and the operations of `cs_pattern_postfix`.
 //!
 //! The layers above add the definitions of a file to a `Definitions`, `check` them once, and read each rule's pattern by
-//! `read_pattern`. A `Pattern` is a tree over sets of bytes; what it matches stands in `specs/`, and so do the items of a
-//! text, the grammar over them and what each fault means.
+//! `read_pattern`. Of each pattern an automaton can be made (`IsScannable`).
+//!
+//! Meaning: `specs/Table.antt` (which item may stand where, and where reading stops), `specs/Substitution.antt` (definitions put
+//! in for names), `specs/Names.antt`, `specs/Uses.antt` (which definitions use which), `specs/Limits.antt`, `specs/Answers.antt`
+//! (what reading a pattern answers), `specs/Checking.antt` (what checking definitions answers), `specs/Classes.antt`. Working
+//! words of proofs: `specs/ReadView.antt`, `specs/Checked.antt`, `specs/Stages.antt`, `specs/Needed.antt`.
 #![tactic(auto)]
 
-mod build;
 mod checking;
 mod class_law;
 mod definitions;
 mod fault;
 mod laws;
-mod measure;
-mod names;
+mod limits;
 mod needed;
-mod pattern;
 mod place;
-mod postfix;
 mod read;
 mod reading;
 mod uses;
 
 pub use class_law::no_empty_class;
-pub use cs_pattern_items::{ByteSet, MOST_REPEATS};
+pub use cs_pattern_items::MOST_REPEATS;
+pub use cs_pattern_tree::{ByteSet, Kind, Pattern};
 pub use definitions::{Checked, Definitions};
 pub use fault::{CheckError, DefinitionError, PatternError, PatternFault};
 pub use laws::{
     has_derivation, no_tree_in_a_cycle, one_answer, one_pattern, one_reading, one_refusal,
 };
-pub use pattern::{Kind, Pattern};
 pub use read::read_pattern;
 
 /// The most bytes of a pattern's text, and of the names and texts of all definitions together.

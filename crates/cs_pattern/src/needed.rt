@@ -1,17 +1,14 @@
 // The patterns of the definitions that a text needs.
 
-ghost use Rattle.std.specs.Prelude.{◌≡◌, ◌≢◌, ◌<◌, ℕ, List, true, false, IfOk, OnOk, length, slice_index_or, slice_set};
-ghost use Rattle.cs_pattern.specs.Building.{known_at, patterns};
-ghost use Rattle.cs_pattern.specs.Definitions.{Definition};
-ghost use Rattle.cs_pattern.specs.Evaluation.{value_of};
+ghost use Rattle.std.specs.Prelude.{◌≡◌, ◌≢◌, ◌<◌, ℕ, true, IfOk, OnOk, length, slice_set};
+ghost use Rattle.cs_pattern_postfix.specs.Building.{StayShallow, known_at};
+ghost use Rattle.cs_pattern_postfix.specs.Operations.{op_of, ops_of};
+ghost use Rattle.cs_pattern_tree.specs.Pattern.{regex};
 ghost use Rattle.cs_pattern.specs.Needed as spec;
-ghost use Rattle.cs_pattern.specs.Needed.{AreKnown, AreOf, IsClosed, IsMarked, Substitutes};
-ghost use Rattle.cs_pattern.specs.Operations.{op_of, ops_of};
-ghost use Rattle.cs_pattern.specs.Pattern.{regex};
+ghost use Rattle.cs_pattern.specs.Needed.{AreClosed, AreNeeded, AreOfSome, IsMarked, KnowMarked, Learns};
 
-use crate::build::build;
-use crate::pattern::Pattern;
-use crate::postfix::Op;
+use cs_pattern_postfix::{Op, build};
+use cs_pattern_tree::Pattern;
 use std::alloc::{AllocError, Global};
 
 fn is_marked(marks: &[bool], index: usize) -> bool
@@ -56,16 +53,15 @@ fn mark_behind(bodies: &[Vec<Op>], index: usize, marks: &mut Vec<bool>)
     }
 }
 
-/// Which definitions the operations need, those that stand behind others included.
+/// Which definitions the operations need, those that stand behind others included, and no others.
 pub fn needed(
     alloc: Global,
     ops: &[Op],
     bodies: &[Vec<Op>],
     order: &[usize],
 ) -> Result<Vec<bool>, AllocError>
-    ensures count { IfOk result (λ v. length v.items ≡ length bodies.now) }
-    ensures used { IfOk result (λ v. (i : ℕ) → Substitutes (ops_of ops.now) i → i < length bodies.now → IsMarked v.items i) }
-    ensures closed { IfOk result (λ v. (ds : List Definition) → AreOf ds bodies.now order.now → IsClosed bodies.now v.items) }
+    requires { AreOfSome bodies.now order.now }
+    ensures { IfOk result (λ marks. AreNeeded bodies.now (ops_of ops.now) marks.items) }
 {
     let mut marks = vec![in alloc; false; bodies.len()]?;
     mark_used(ops, &mut marks);
@@ -104,10 +100,8 @@ fn know(
     index: usize,
     known: &mut Vec<Option<Pattern>>,
 ) -> Result<(), AllocError>
-    ensures count { OnOk result (length known.new.items ≡ length known.old.items) }
-    ensures this { OnOk result (index < length known.old.items → index < length bodies.now → IsMarked needed.now index
-        → known_at known.new.items index ≡ value_of (patterns (known_at known.old.items)) (spec.ops_at bodies.now index)) }
-    ensures others { OnOk result ((i : ℕ) → i ≢ index → known_at known.new.items i ≡ known_at known.old.items i) }
+    requires { IsMarked needed.now index → StayShallow known.old.items (spec.ops_at bodies.now index) }
+    ensures { OnOk result (Learns bodies.now needed.now index known.old.items known.new.items) }
 {
     if !is_marked(needed, index) {
         return Ok(());
@@ -127,8 +121,9 @@ pub fn known(
     bodies: &[Vec<Op>],
     order: &[usize],
 ) -> Result<Vec<Option<Pattern>>, AllocError>
-    ensures { IfOk result (λ v. (ds : List Definition) → AreOf ds bodies.now order.now → length needed.now ≡ length bodies.now
-        → IsClosed bodies.now needed.now → AreKnown ds needed.now v.items) }
+    requires of { AreOfSome bodies.now order.now }
+    requires closed { AreClosed bodies.now needed.now }
+    ensures { IfOk result (λ known. KnowMarked bodies.now order.now needed.now known.items) }
 {
     let mut known = no_patterns(alloc, bodies.len())?;
     for index in order {

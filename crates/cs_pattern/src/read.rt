@@ -1,30 +1,26 @@
 // Reading a pattern.
 
-ghost use Rattle.std.specs.Prelude.{◌≡◌, ◌≤◌, ℕ, List, length, IfOk, IfErr};
-ghost use Rattle.cs_pattern_items.specs.Views.{placed_all};
-ghost use Rattle.cs_pattern.specs.Answers.{IsNamed, IsPatternOf, Refuses};
-ghost use Rattle.cs_pattern.specs.Classes.{HasNoEmptyClass};
-ghost use Rattle.cs_pattern.specs.Grammar.{Tree};
-ghost use Rattle.cs_pattern.specs.Operations.{ops_of, tree_ops, number_of};
-ghost use Rattle.cs_pattern.specs.Pattern.{regex};
-ghost use Rattle.cs_pattern.specs.Substitution.{PutIn, pattern_of};
+ghost use Rattle.std.specs.Prelude.{◌≤◌, length, IfOk, IfErr};
+ghost use Rattle.cs_pattern_tree.specs.Pattern.{regex, leaves};
+ghost use Rattle.cs_pattern_tree.specs.Scannable.{IsScannable};
+ghost use Rattle.cs_pattern.specs.Answers.{IsPatternOf, RefusesText};
+ghost use Rattle.cs_pattern.specs.ReadView.{AreNamedOfSome, GivePattern, GiveRefusal, IsPutIn, IsWithinDepth};
 
-use crate::build::build;
 use crate::definitions::Checked;
 use crate::fault::{PatternError, PatternFault};
-use crate::measure::{measure_of, passed_limit};
+use crate::limits::passed_limit;
 use crate::needed::{known, needed};
-use crate::pattern::Pattern;
-use crate::postfix::{Op, postfix};
 use crate::reading::items;
 use crate::uses::first_undefined;
 use cs_pattern_items::Placed;
+use cs_pattern_postfix::{Op, build, measure_of, postfix};
+use cs_pattern_tree::Pattern;
 use std::alloc::{AllocError, Global};
 
 /// The pattern of the operations, with the definitions put in.
 fn put_in(alloc: Global, ops: &[Op], definitions: &Checked) -> Result<Pattern, AllocError>
-    ensures { IfOk result (λ pattern. (tree spelled : Tree) → PutIn definitions.now tree spelled
-        → ops_of ops.now ≡ tree_ops (number_of definitions.now) spelled → regex pattern ≡ pattern_of tree) }
+    requires { IsWithinDepth definitions.now ops.now }
+    ensures { IfOk result (λ pattern. IsPutIn definitions.now ops.now (regex pattern)) }
 {
     let needed = needed(alloc, ops, &definitions.bodies, &definitions.order)?;
     let known = known(alloc, &needed, &definitions.bodies, &definitions.order)?;
@@ -38,10 +34,9 @@ fn pattern_of_items(
     items: &[Placed],
     definitions: &Checked,
 ) -> Result<Pattern, PatternError>
-    ensures read { IfOk result (λ pattern. (text : List ℕ) → IsNamed definitions.now text (placed_all items.now)
-        → IsPatternOf definitions.now text (regex pattern)) }
-    ensures refused { IfErr result (λ error. (text : List ℕ) → IsNamed definitions.now text (placed_all items.now)
-        → Refuses text definitions.now error) }
+    requires { AreNamedOfSome definitions.now items.now }
+    ensures read { IfOk result (λ pattern. GivePattern definitions.now items.now (regex pattern)) }
+    ensures refused { IfErr result (GiveRefusal definitions.now items.now) }
 {
     let ops = postfix(alloc, items, &definitions.texts)?;
     let measure = measure_of(alloc, &ops, &definitions.measures)?;
@@ -54,8 +49,8 @@ fn pattern_of_items(
     }
 }
 
-/// The pattern of a text, with the definitions put in for their names. No class of it is empty. A fault says why the text has
-/// none.
+/// The pattern of a text, with the definitions put in for their names. An automaton can be made of it, and it has at most 8,192
+/// leaves. A fault says why the text has none.
 pub fn read_pattern(
     alloc: Global,
     bytes: &[u8],
@@ -63,8 +58,9 @@ pub fn read_pattern(
 ) -> Result<Pattern, PatternError>
     requires { length bytes.now ≤ 1048576 }
     ensures read { IfOk result (λ pattern. IsPatternOf definitions.now bytes.now (regex pattern)) }
-    ensures classes { IfOk result (λ pattern. HasNoEmptyClass (regex pattern)) }
-    ensures refused { IfErr result (Refuses bytes.now definitions.now) }
+    ensures scannable { IfOk result (λ pattern. IsScannable (regex pattern)) }
+    ensures leaves { IfOk result (λ pattern. leaves (regex pattern) ≤ 8192) }
+    ensures refused { IfErr result (RefusesText bytes.now definitions.now) }
 {
     let items = items(alloc, bytes)?;
     match first_undefined(&items, &definitions.texts) {

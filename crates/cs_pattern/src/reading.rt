@@ -3,7 +3,7 @@
 ghost use Rattle.std.specs.Prelude.{◌≡◌, ◌<◌, ◌≤◌, ◌^◌, ℕ, List, length, IfOk, IfErr};
 ghost use Rattle.cs_pattern.specs.Table as spec;
 ghost use Rattle.cs_pattern_items.specs.Views.{placed_all};
-ghost use Rattle.cs_pattern.specs.ReadView.{IsNext, Refuses};
+ghost use Rattle.cs_pattern.specs.ReadView.{IsNext, StopsReading};
 
 use crate::fault::{PatternError, PatternFault};
 use crate::place::{Place, beginning, behind, may_end};
@@ -45,7 +45,7 @@ pub fn items(alloc: Global, bytes: &[u8]) -> Result<Vec<Placed>, PatternError>
     requires { length bytes.now ≤ 1048576 }
     ensures read { IfOk result (λ v. spec.Reads bytes.now (placed_all v.items)) }
     ensures short { IfOk result (λ v. length v.items ≤ length bytes.now) }
-    ensures stops { IfErr result (Refuses bytes.now) }
+    ensures stops { IfErr result (StopsReading bytes.now) }
 {
     if has_at(bytes, 0, b'<') {
         return Err(PatternError::Fault(PatternFault::Condition { at: 0 }));

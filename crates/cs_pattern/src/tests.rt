@@ -1,5 +1,5 @@
 ghost use Rattle.std.specs.Prelude.{◌+◌, ◌≤◌, IfOk};
-ghost use Rattle.cs_pattern.specs.Definitions.{total_bytes};
+ghost use Rattle.cs_pattern_postfix.specs.Definitions.{total_bytes};
 
 use super::*;
 use std::alloc::{AllocError, Global};

@@ -4,8 +4,8 @@ ghost use Rattle.std.specs.Prelude.{◌≡◌, ◌++◌, ◌∷◌, [], ◌<◌,
 ghost use Rattle.std.specs.List.{filter_map, AllByRecursion};
 ghost use Rattle.cs_pattern.specs.Names as spec;
 ghost use Rattle.cs_pattern.specs.Checked.{IsOrder};
-ghost use Rattle.cs_pattern.specs.Checking.{Refuses, HasNoCycle};
-ghost use Rattle.cs_pattern.specs.Definitions.{definitions_of, total_bytes};
+ghost use Rattle.cs_pattern.specs.Checking.{RefusesDefinitions, HasNoCycle};
+ghost use Rattle.cs_pattern_postfix.specs.Definitions.{definitions_of, total_bytes};
 ghost use Rattle.cs_pattern.specs.Stages.{AreRead, AreNamed, IsUseGraph};
 ghost use Rattle.cs_pattern.specs.Uses as meaning;
 ghost use Rattle.cs_pattern_items.specs.Items.{items_of};
@@ -13,9 +13,9 @@ ghost use Rattle.cs_pattern_items.specs.Views.{item_of, placed_of, placed_all};
 
 use crate::checking::fault_at;
 use crate::fault::{CheckError, PatternFault};
-use crate::names::{Texts, index_of};
 use cs_graph::{leads, order};
 use cs_pattern_items::{Item, Placed};
+use cs_pattern_postfix::{Texts, index_of};
 use std::alloc::{AllocError, Global};
 
 /// Whether the item is a name that is not defined.
@@ -126,7 +126,7 @@ fn first_to(
     Ok(None)
 }
 
-/// Refuses the lowest definition that reaches itself.
+/// RefusesDefinitions the lowest definition that reaches itself.
 fn check_cycles(
     alloc: Global,
     all: &[Vec<Placed>],
@@ -138,7 +138,7 @@ fn check_cycles(
     requires named { AreNamed (definitions_of names.now.entries) all.now }
     requires graph { IsUseGraph (definitions_of names.now.entries) graph.now }
     ensures none { OnOk result (HasNoCycle (definitions_of names.now.entries)) }
-    ensures refused { IfErr result (Refuses (definitions_of names.now.entries)) }
+    ensures refused { IfErr result (RefusesDefinitions (definitions_of names.now.entries)) }
 {
     for (index, items) in all.iter().enumerate() {
         if let Some(at) = first_to(alloc, items, names, graph, index)? {
@@ -161,7 +161,7 @@ pub fn order_of(
     requires graph { IsUseGraph (definitions_of names.now.entries) graph.now }
     ensures order { IfOk result (λ order. IsOrder (definitions_of names.now.entries) order.items) }
     ensures no_cycle { OnOk result (HasNoCycle (definitions_of names.now.entries)) }
-    ensures refused { IfErr result (Refuses (definitions_of names.now.entries)) }
+    ensures refused { IfErr result (RefusesDefinitions (definitions_of names.now.entries)) }
 {
     if let Some(order) = order(alloc, graph)? {
         return Ok(order);

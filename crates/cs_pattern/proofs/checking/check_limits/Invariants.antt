@@ -2,8 +2,8 @@ use Rattle.std.proofs.Common.{◌≡◌, ◌<◌, ℕ, List}
 use Rattle.std.specs.Prelude.{Some, None, slice_get}
 use Rattle.cs_pattern.specs.Answers.{limit_of}
 use Rattle.cs_pattern.specs.Checking.{Each}
-use Rattle.cs_pattern.specs.Definitions.{Definition}
-use Rattle.cs_pattern.specs.Grammar.{Tree}
+use Rattle.cs_pattern_postfix.specs.Definitions.{Definition}
+use Rattle.cs_pattern_postfix.specs.Grammar.{Tree}
 use Rattle.cs_pattern.specs.Stages.{AreMeasures, HasTree}
 use Rattle.cs_pattern.specs.Substitution.{IsTreeOf}
 use Rattle.cs_pattern.proofs.checking.check_limits.Given as goal

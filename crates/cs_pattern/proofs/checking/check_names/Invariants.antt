@@ -3,7 +3,7 @@ use Rattle.std.specs.Prelude.{Some, None, slice_get}
 use Rattle.std.specs.Global.{Vec}
 use Rattle.cs_pattern_items.specs.declared.item.Placed as held
 use Rattle.cs_pattern_items.specs.Views.{placed_all}
-use Rattle.cs_pattern.specs.Definitions.{definitions_of}
+use Rattle.cs_pattern_postfix.specs.Definitions.{definitions_of}
 use Rattle.cs_pattern.specs.Names.{first_undefined}
 use Rattle.cs_pattern.proofs.checking.check_names.Given as goal
 

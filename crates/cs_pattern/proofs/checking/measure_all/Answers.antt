@@ -2,11 +2,11 @@ use Rattle.std.proofs.Common.{◌≡◌, ◌<◌, ◌∙◌, List, length, get_o
 use Rattle.std.specs.Prelude.{Some, Contains, slice_get}
 use Rattle.std.proofs.Math.ListN.{length-set}
 use Rattle.std.proofs.lemmas.Option.{slice_get_read}
-use Rattle.cs_pattern.specs.declared.measure.Measure.{Measure}
-use Rattle.cs_pattern.specs.declared.postfix.Op as code
-use Rattle.cs_pattern.specs.Evaluation.{value_of}
-use Rattle.cs_pattern.specs.Measures.{measures}
-use Rattle.cs_pattern.specs.Operations.{ops_of}
+use Rattle.cs_pattern_postfix.specs.declared.measure.Measure.{Measure}
+use Rattle.cs_pattern_postfix.specs.declared.operations.Op as code
+use Rattle.cs_pattern_postfix.specs.Evaluation.{value_of}
+use Rattle.cs_pattern_postfix.specs.Measures.{measures}
+use Rattle.cs_pattern_postfix.specs.Operations.{ops_of}
 use Rattle.cs_pattern.proofs.Staged.{measured_one, measured_set, split_index, taken_cases, all_measured}
 use Rattle.cs_pattern.proofs.checking.measure_all.Goals as goal
 

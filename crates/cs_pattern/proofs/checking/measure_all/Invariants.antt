@@ -1,7 +1,7 @@
 use Rattle.std.proofs.Common.{◌≡◌, ℕ, List, length, take}
 use Rattle.std.specs.Prelude.{Contains}
 use Rattle.cs_pattern.specs.Checked.{IsOrder}
-use Rattle.cs_pattern.specs.Definitions.{Definition}
+use Rattle.cs_pattern_postfix.specs.Definitions.{Definition}
 use Rattle.cs_pattern.specs.Stages.{AreOperations, IsMeasured}
 use Rattle.cs_pattern.proofs.checking.measure_all.Given as goal
 

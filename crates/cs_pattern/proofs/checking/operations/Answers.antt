@@ -5,8 +5,8 @@ use Rattle.cs_graph.proofs.Pushing.{below_next}
 use Rattle.cs_pattern_items.specs.declared.item.Placed as held
 use Rattle.cs_pattern_items.specs.Items.{items_of}
 use Rattle.cs_pattern_items.specs.Views.{placed_all}
-use Rattle.cs_pattern.specs.Definitions.{definitions_of}
-use Rattle.cs_pattern.specs.Grammar.{IsDerivation}
+use Rattle.cs_pattern_postfix.specs.Definitions.{definitions_of}
+use Rattle.cs_pattern_postfix.specs.Grammar.{IsDerivation}
 use Rattle.cs_pattern.proofs.Staged.{operations_push, operations_new}
 use Rattle.cs_pattern.proofs.checking.operations.Goals as goal
 

@@ -4,7 +4,7 @@ use Rattle.std.proofs.lemmas.List.{length-map}
 use Rattle.std.proofs.lemmas.Option.{slice_get_cases, slice_get_within}
 use Rattle.std.proofs.lemmas.Result.{err_from_is_err_and}
 use Rattle.cs_pattern_items.specs.Views.{placed_all}
-use Rattle.cs_pattern.specs.Definitions.{definition_of, definitions_of}
+use Rattle.cs_pattern_postfix.specs.Definitions.{definition_of, definitions_of}
 use Rattle.cs_pattern.specs.Stages.{StopsAs}
 use Rattle.cs_pattern.specs.Table.{Reads}
 use Rattle.cs_pattern.proofs.Staged.{entry_definition, text_bytes, few_read, more_items, stops_refuse}

@@ -1,6 +1,6 @@
 use Rattle.std.proofs.Common.{◌≡◌, ◌<◌, ◌≤◌, ◌-◌, ℕ, length}
 use Rattle.std.specs.Prelude.{Some, slice_get}
-use Rattle.cs_pattern.specs.Definitions.{Definition, definitions_of}
+use Rattle.cs_pattern_postfix.specs.Definitions.{Definition, definitions_of}
 use Rattle.cs_pattern.specs.Stages.{HasItems}
 use Rattle.cs_pattern.proofs.checking.read_all.Given as goal
 

@@ -1,6 +1,6 @@
 use Rattle.std.proofs.Common.{◌≡◌, take}
 use Rattle.cs_pattern.specs.Needed.{mark_ops}
-use Rattle.cs_pattern.specs.Operations.{ops_of}
+use Rattle.cs_pattern_postfix.specs.Operations.{ops_of}
 use Rattle.cs_pattern.proofs.needed.mark_used.Given as goal
 
 abbrev pub invariant-loop-op : goal.invariant-loop-op

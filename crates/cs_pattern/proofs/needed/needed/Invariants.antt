@@ -1,5 +1,5 @@
 use Rattle.std.proofs.Common.{◌≤◌, length}
-use Rattle.cs_pattern.specs.Operations.{ops_of}
+use Rattle.cs_pattern_postfix.specs.Operations.{ops_of}
 use Rattle.cs_pattern.proofs.Marking.{IsMarkedFrom}
 use Rattle.cs_pattern.proofs.needed.needed.Given as goal
 

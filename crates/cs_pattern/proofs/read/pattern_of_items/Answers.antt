@@ -3,14 +3,28 @@ use Rattle.std.specs.Prelude.{Some, None}
 use Rattle.cs_pattern_items.specs.Views.{placed_all}
 use Rattle.cs_pattern.specs.Answers.{IsNamed, IsPatternOf, IsFault}
 use Rattle.cs_pattern.specs.Checked.{AreChecked}
-use Rattle.cs_pattern.specs.Definitions.{Definition, definitions_of}
-use Rattle.cs_pattern.specs.Grammar.{Tree}
+use Rattle.cs_pattern.specs.ReadView.{AreNamedOfSome, IsWithinDepth}
+use Rattle.cs_pattern_postfix.specs.Definitions.{Definition, definitions_of}
+use Rattle.cs_pattern_postfix.specs.Grammar.{Tree}
 use Rattle.cs_pattern.specs.Limits.{passed_limit}
-use Rattle.cs_pattern.specs.Operations.{ops_of, tree_ops, number_of}
-use Rattle.cs_pattern.specs.Pattern.{regex}
-use Rattle.cs_pattern.specs.Substitution.{PutIn, pattern_of}
-use Rattle.cs_pattern.proofs.TextTrees.{accepts, refuses}
+use Rattle.cs_pattern_postfix.specs.Operations.{ops_of, tree_ops, number_of}
+use Rattle.cs_pattern_tree.specs.Pattern.{regex}
+use Rattle.cs_pattern.specs.Substitution.{PutIn}
+use Rattle.cs_pattern_postfix.specs.Depth.{pattern_of}
+use Rattle.cs_pattern.proofs.TextTrees.{accepts, refuses, is_within}
 use Rattle.cs_pattern.proofs.read.pattern_of_items.Goals as goal
+
+pub put_in-requires : goal.put_in-requires
+put_in-requires c =
+    let ds : List Definition = definitions_of c.definitions.inside.texts.entries in
+    let a : AreChecked ds c.definitions.inside.bodies.items c.definitions.inside.measures.items c.definitions.inside.order.items = c.definitions.invariant in
+    let within : passed_limit c.in_ok-measure.measure.depth c.in_ok-measure.measure.leaves ≡ None = sym c.in-None.ensures in
+    let named : AreNamedOfSome ds c.args.items.now = subst (λ (es : List Definition). AreNamedOfSome es c.args.items.now) (sym c.definitions.view_is) c.requires in
+    let p : IsWithinDepth ds c.in_ok-ops.ops.items =
+    is_within ds c.definitions.inside.bodies.items c.definitions.inside.measures.items c.definitions.inside.order.items a
+    (placed_all c.args.items.now) c.in_ok-measure.measure c.in_ok-ops.ops.items (rw (c.deref.ensures.value, c.deref-2.ensures.value) at c.in_ok-measure.ensures) c.in_ok-ops.ensures within named.0 named.1 in
+    let whole : IsWithinDepth c.args.definitions.now c.in_ok-ops.ops.items = subst (λ (es : List Definition). IsWithinDepth es c.in_ok-ops.ops.items) c.definitions.view_is p in
+    rw c.deref-in-None.ensures.value whole
 
 pub returns-in-Some-clause-refused : goal.returns-in-Some-clause-refused
 returns-in-Some-clause-refused c =

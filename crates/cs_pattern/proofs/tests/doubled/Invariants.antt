@@ -1,5 +1,5 @@
 use Rattle.std.proofs.Common.{◌+◌, ◌≤◌}
-use Rattle.cs_pattern.specs.Definitions.{total_bytes}
+use Rattle.cs_pattern_postfix.specs.Definitions.{total_bytes}
 use Rattle.cs_pattern.proofs.tests.doubled.Given as goal
 
 abbrev pub invariant-loop-letter : goal.invariant-loop-letter

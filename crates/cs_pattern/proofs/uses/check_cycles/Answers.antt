@@ -5,7 +5,7 @@ use Rattle.std.proofs.lemmas.Option.{slice_get_read, slice_get_within}
 use Rattle.cs_graph.proofs.Pushing.{below_next}
 use Rattle.cs_pattern_items.specs.declared.item.Placed as held
 use Rattle.cs_pattern_items.specs.Views.{placed_all}
-use Rattle.cs_pattern.specs.Definitions.{definitions_of}
+use Rattle.cs_pattern_postfix.specs.Definitions.{definitions_of}
 use Rattle.cs_pattern.specs.Uses.{LeadsTo, Reaches, IsFirstTo}
 use Rattle.cs_pattern.proofs.Linked.{reaches_first}
 use Rattle.cs_pattern.proofs.Staged.{few, cyclic_at, not_cyclic}

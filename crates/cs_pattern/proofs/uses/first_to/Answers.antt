@@ -1,5 +1,5 @@
 use Rattle.std.proofs.Common.{arith}
-use Rattle.cs_pattern.specs.Definitions.{definitions_of}
+use Rattle.cs_pattern_postfix.specs.Definitions.{definitions_of}
 use Rattle.cs_pattern.proofs.Listing.{first_there}
 use Rattle.cs_pattern.proofs.uses.first_to.Goals as goal
 

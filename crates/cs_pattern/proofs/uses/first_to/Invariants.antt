@@ -1,7 +1,7 @@
 use Rattle.std.proofs.Common.{take}
 use Rattle.std.specs.List.{AllByRecursion}
 use Rattle.cs_pattern_items.specs.Views.{placed_all}
-use Rattle.cs_pattern.specs.Definitions.{definitions_of}
+use Rattle.cs_pattern_postfix.specs.Definitions.{definitions_of}
 use Rattle.cs_pattern.specs.Uses.{LeadsTo}
 use Rattle.cs_pattern.proofs.uses.first_to.Given as goal
 

@@ -1,5 +1,5 @@
 use Rattle.std.proofs.Common.{◌≡◌, drop}
-use Rattle.cs_pattern.specs.Definitions.{definitions_of}
+use Rattle.cs_pattern_postfix.specs.Definitions.{definitions_of}
 use Rattle.cs_pattern.specs.Names.{first_undefined}
 use Rattle.cs_pattern_items.specs.Views.{placed_all}
 use Rattle.cs_pattern.proofs.uses.first_undefined.Given as goal

@@ -2,7 +2,7 @@ use Rattle.std.proofs.Common.{◌≡◌, ◌<◌, ℕ, length}
 use Rattle.std.specs.Prelude.{Some, slice_get}
 use Rattle.std.specs.Global.{Vec}
 use Rattle.cs_pattern_items.specs.declared.item.Placed as held
-use Rattle.cs_pattern.specs.Definitions.{definitions_of}
+use Rattle.cs_pattern_postfix.specs.Definitions.{definitions_of}
 use Rattle.cs_pattern.proofs.Linked.{HasUses}
 use Rattle.cs_pattern.proofs.uses.graph_of.Given as goal
 

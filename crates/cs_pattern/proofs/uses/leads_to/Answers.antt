@@ -3,7 +3,7 @@ use Rattle.std.specs.Prelude.{Some, IsTrue, ◌↔◌}
 use Rattle.std.proofs.lemmas.Result.{IfOk-weaker}
 use Rattle.cs_graph.specs.Graph.{Leads}
 use Rattle.cs_pattern_items.specs.Views.{item_of, placed_of}
-use Rattle.cs_pattern.specs.Definitions.{definitions_of}
+use Rattle.cs_pattern_postfix.specs.Definitions.{definitions_of}
 use Rattle.cs_pattern.specs.Uses.{used, LeadsTo, Reaches}
 use Rattle.cs_pattern.proofs.Linked.{is_graph, leads_reaches, reaches_leads}
 use Rattle.cs_pattern.proofs.uses.leads_to.Goals as goal

@@ -1,4 +1,4 @@
-use Rattle.cs_pattern.specs.Definitions.{definitions_of}
+use Rattle.cs_pattern_postfix.specs.Definitions.{definitions_of}
 use Rattle.cs_pattern.proofs.Linked.{is_graph, order_of_uses, no_cycle_of_uses, cycle_of_uses}
 use Rattle.cs_pattern.proofs.uses.order_of.Goals as goal
 

@@ -1,5 +1,5 @@
 use Rattle.std.proofs.Common.{arith}
-use Rattle.cs_pattern.specs.Definitions.{definitions_of}
+use Rattle.cs_pattern_postfix.specs.Definitions.{definitions_of}
 use Rattle.cs_pattern.proofs.Listing.{more_uses}
 use Rattle.cs_pattern.proofs.uses.uses_of.Goals as goal
 

@@ -11,8 +11,8 @@ use Rattle.cs_pattern.specs.Classes.{HaveByteTexts}
 use Rattle.cs_pattern.proofs.ClassBytes.{AreBytes-from_fits}
 use Rattle.cs_pattern.specs.declared.fault.DefinitionError.{DefinitionError}
 use Rattle.cs_pattern.specs.declared.fault.DefinitionError.TheVariants.{Twice, Memory}
-use Rattle.cs_pattern.specs.Definitions.{Definition, definition_of, definitions_of, has_name, total_bytes}
-use Rattle.cs_pattern.proofs.Named.{insert_absent, position-map}
+use Rattle.cs_pattern_postfix.specs.Definitions.{Definition, definition_of, definitions_of, has_name, total_bytes}
+use Rattle.cs_pattern_postfix.proofs.Named.{insert_absent, position-map}
 use Rattle.cs_pattern.proofs.definitions.Definitions.add.Goals as goal
 
 same_end : (a b : List Definition) (n m t u : List ℕ) → a ≡ b → n ≡ m → t ≡ u → a ++ record { name = n; text = t } ∷ [] ≡ b ++ record { name = m; text = u } ∷ []

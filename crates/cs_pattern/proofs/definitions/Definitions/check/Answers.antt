@@ -2,8 +2,8 @@ use Rattle.std.proofs.Common.{◌<◌, ℕ, List, length, get_or, sym, ap, subst
 use Rattle.std.proofs.lemmas.List.Elements.{Contains-get_or}
 use Rattle.std.proofs.lemmas.Result.{err_from_is_err_and}
 use Rattle.cs_pattern.specs.Checked.{IsOrder}
-use Rattle.cs_pattern.specs.Checking.{Each, HasAllNames, HasNoCycle, AreAccepted, Refuses}
-use Rattle.cs_pattern.specs.Definitions.{Definition, definitions_of}
+use Rattle.cs_pattern.specs.Checking.{Each, HasAllNames, HasNoCycle, AreAccepted, RefusesDefinitions}
+use Rattle.cs_pattern_postfix.specs.Definitions.{Definition, definitions_of}
 use Rattle.cs_pattern.specs.Stages.{AreRead, AreOperations, AreMeasures, HasTree}
 use Rattle.cs_pattern.proofs.Staged.{few, have_names}
 use Rattle.cs_pattern.proofs.Trees.{all_trees}
@@ -43,8 +43,8 @@ returns-in_err-check_limits-clause-refused c =
     let ms : AreMeasures ds c.in_ok-measures.measures.items = c.in_ok-measures.ensures ds (subst (AreOperations ds) (sym c.deref-6.ensures.value) operations) (subst (IsOrder ds) (sym c.deref-7.ensures.value) order) in
     let trees : Each (HasTree ds) ds = all_trees ds c.in_ok-items.items.items read names c.in_ok-order.order.items order c.self.invariant.0 in
     let p = err_from_is_err_and c.from_residual-in_err-check_limits.result c.from_residual-in_err-check_limits.ensures.1 in
-    let refused : Refuses ds c.in_err-check_limits.field-0.0 = c.in_err-check_limits.ensures.refused ds (subst (AreMeasures ds) (sym c.deref-8.ensures.value) ms) trees names no_cycle in
-    let whole : Refuses c.args.self c.in_err-check_limits.field-0.0 = subst (λ (es : List Definition). Refuses es c.in_err-check_limits.field-0.0) c.self.view_is refused in
+    let refused : RefusesDefinitions ds c.in_err-check_limits.field-0.0 = c.in_err-check_limits.ensures.refused ds (subst (AreMeasures ds) (sym c.deref-8.ensures.value) ms) trees names no_cycle in
+    let whole : RefusesDefinitions c.args.self c.in_err-check_limits.field-0.0 = subst (λ (es : List Definition). RefusesDefinitions es c.in_err-check_limits.field-0.0) c.self.view_is refused in
     rw (p.1, p.2) whole
 
 pub invariant_of-result : goal.invariant_of-result

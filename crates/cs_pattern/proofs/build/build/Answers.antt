@@ -1,8 +1,0 @@
-use Rattle.std.proofs.Common.{[]}
-use Rattle.cs_pattern.specs.Building.{known_at, patterns}
-use Rattle.cs_pattern.proofs.Evaluating.{run_more}
-use Rattle.cs_pattern.proofs.build.build.Goals as goal
-
-pub loop-op-preserved : goal.loop-op-preserved
-loop-op-preserved c =
-    run_more (patterns (known_at c.args.known.now)) [] _ _ c.args.ops.now c.loop-op.op-index c.op-item.result c.loop-op-test.true c.op-item.is c.loop-op.invariant c.in_ok-apply.ensures

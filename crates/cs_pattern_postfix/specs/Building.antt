@@ -1,0 +1,48 @@
+-- The patterns that operations build.
+use Rattle.std.specs.Prelude.{ℕ, ◌≤◌, List, [], Option, Some, None, slice_index_or}
+use Rattle.cs_pattern_tree.specs.declared.pattern.Pattern.{Pattern}
+use Rattle.cs_pattern_postfix.specs.declared.operations.Op as code
+use Rattle.cs_pattern_postfix.specs.Evaluation.{Algebra, Keeps, step, value_of}
+use Rattle.cs_pattern_postfix.specs.Operations.{Op, op_of, ops_of}
+use Rattle.cs_pattern_tree.specs.Pattern.{alone_or}
+use Rattle.cs_pattern_tree.specs.Pattern.{Regex, Empty, Class, Join, Either, parts_of, nesting, regex, regexes}
+use Rattle.cs_pattern_tree.specs.Repeated as repeats
+
+-- the known pattern of a definition
+abbrev pub known_or_empty : Option Pattern → Regex
+known_or_empty None = Empty
+known_or_empty (Some p) = regex p
+
+abbrev pub known_at : List (Option Pattern) → ℕ → Regex
+known_at known index = known_or_empty (slice_index_or known index None)
+
+-- where definitions have the known patterns
+abbrev pub patterns : (ℕ → Regex) → Algebra Regex
+patterns known = record {
+  nothing = Empty;
+  class = Class;
+  quoted = repeats.quoted;
+  substitute = known;
+  repeat = λ r p. repeats.repeated p r;
+  group = λ p. p;
+  join = λ ps. alone_or Join (parts_of ps);
+  either = λ ps. alone_or Either (parts_of ps);
+}
+
+-- where they don't matter
+abbrev pub no_patterns : Algebra Regex
+no_patterns = patterns (λ index. Empty)
+
+-- at most 1,000 joins, eithers and manies stand around any part
+abbrev pub IsShallow : Regex → Type 0
+IsShallow r = nesting r ≤ 1000
+
+abbrev pub next_stack : List (Option Pattern) → List Pattern → code.Op → List Regex
+next_stack known stack op = step (patterns (known_at known)) (regexes stack) (op_of op)
+
+abbrev pub pattern_built : List (Option Pattern) → List code.Op → Regex
+pattern_built known ops = value_of (patterns (known_at known)) (ops_of ops)
+
+-- on the way to the pattern of the operations no pattern is deeper than that
+abbrev pub StayShallow : List (Option Pattern) → List Op → Type 0
+StayShallow known ops = Keeps (patterns (known_at known)) IsShallow [] ops

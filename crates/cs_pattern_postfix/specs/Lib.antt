@@ -1,0 +1,9 @@
+pub mod Definitions
+pub mod Grammar
+pub mod Depth
+pub mod Operations
+pub mod Postfix
+pub mod Evaluation
+pub mod Values
+pub mod Measures
+pub mod Building

@@ -1,0 +1,88 @@
+-- How the operations of a text's items are made.
+use Rattle.std.specs.Prelude.{◌≡◌, ℕ, ◌+◌, ◌-◌, ◌^◌, min, List, [], ◌∷◌, ◌++◌, length, take, slice_index_or}
+use Rattle.cs_pattern_postfix.specs.declared.operations.Level.{Level}
+use Rattle.cs_pattern_postfix.specs.declared.operations.Reader as code
+use Rattle.cs_pattern_items.specs.Items as items
+use Rattle.cs_pattern_items.specs.declared.item.Item as item_code
+use Rattle.cs_pattern_items.specs.declared.item.Placed as placed_code
+use Rattle.cs_pattern_items.specs.declared.item.Repetition.{Repetition}
+use Rattle.cs_pattern_items.specs.Views.{item_of, placed_all}
+use Rattle.cs_pattern_items.specs.Items.{Item, items_of}
+use Rattle.std.specs.Global.{Vec}
+use Rattle.cs_pattern_postfix.specs.declared.operations.Op as op_code
+use Rattle.cs_pattern_postfix.specs.Definitions.{definitions_of}
+use Rattle.cs_pattern_postfix.specs.Grammar.{Tree, IsDerivation}
+use Rattle.cs_pattern_postfix.specs.Operations.{Op, ops_of, number_of, tree_ops, class, quoted, substitute, repeat, group, join, either}
+
+-- the operations so far, the open groups from the outermost on, and the group that is read
+pub record State : Type 0 where
+  pub ops : List Op
+  pub outer : List Level
+  pub level : Level
+
+abbrev pub state_of : code.Reader → State
+state_of r = record { ops = ops_of r.ops.items; outer = r.outer.items; level = r.level }
+
+abbrev pub capped : ℕ → ℕ
+capped n = min n (2 ^ 64 - 1)
+
+abbrev pub new_level : Level
+new_level = record { branches = 0; pieces = 0 }
+
+abbrev pub with_piece : Level → Level
+with_piece l = record { branches = l.branches; pieces = capped (l.pieces + 1) }
+
+abbrev pub with_branch : Level → Level
+with_branch l = record { branches = capped (l.branches + 1); pieces = 0 }
+
+-- the operations that end the branch and the pattern of a group
+abbrev pub ended : Level → List Op
+ended l = join l.pieces ∷ either (with_branch l).branches ∷ []
+
+abbrev pub with_atom : State → List Op → State
+with_atom s ops = record { ops = s.ops ++ ops; outer = s.outer; level = with_piece s.level }
+
+abbrev pub with_name : State → ℕ → State
+with_name s index = with_atom s (substitute index ∷ group ∷ [])
+
+abbrev pub with_repetition : State → Repetition → State
+with_repetition s r = record { ops = s.ops ++ repeat r ∷ []; outer = s.outer; level = s.level }
+
+abbrev pub barred : State → State
+barred s = record { ops = s.ops ++ join s.level.pieces ∷ []; outer = s.outer; level = with_branch s.level }
+
+abbrev pub opened : State → State
+opened s = record { ops = s.ops; outer = s.outer ++ s.level ∷ []; level = new_level }
+
+abbrev pub closed : State → State
+closed s = record {
+  ops = (s.ops ++ ended s.level) ++ group ∷ [];
+  outer = take (length s.outer - 1) s.outer;
+  level = with_piece (slice_index_or s.outer (length s.outer - 1) new_level);
+}
+
+module _ (number : List ℕ → ℕ) where
+  abbrev pub step : State → Item → State
+  step s (items.class set) = with_atom s (class set ∷ [])
+  step s (items.quoted bytes) = with_atom s (quoted bytes ∷ [])
+  step s (items.named name) = with_name s (number name)
+  step s items.opening = opened s
+  step s items.closing = closed s
+  step s items.bar = barred s
+  step s (items.repetition r) = with_repetition s r
+
+  abbrev pub steps : State → List Item → State
+  steps s [] = s
+  steps s (i ∷ rest) = steps (step s i) rest
+
+-- the number of a name among the entries
+abbrev pub entry_number : List (Vec ℕ × Vec ℕ) → List ℕ → ℕ
+entry_number entries = number_of (definitions_of entries)
+
+abbrev pub step_with : List (Vec ℕ × Vec ℕ) → State → item_code.Item → State
+step_with entries s i = step (entry_number entries) s (item_of i)
+
+-- the operations of the tree that derives the items
+abbrev pub AreOperationsOf : List (Vec ℕ × Vec ℕ) → List placed_code.Placed → List op_code.Op → Type 0
+AreOperationsOf entries items ops =
+    (tree : Tree) → IsDerivation (items_of (placed_all items)) tree → ops_of ops ≡ tree_ops (entry_number entries) tree

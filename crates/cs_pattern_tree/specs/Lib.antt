@@ -1,0 +1,4 @@
+pub mod Pattern
+pub mod Repeated
+pub mod Counting
+pub mod Scannable

@@ -1,0 +1,27 @@
+//! Patterns as trees over sets of bytes (POSIX.1-2017, lex, "Regular expressions in lex"): what each matches, what a repetition
+//! makes of one, how many leaves it has and how deep it is.
+//!
+//! The layers above build a `Pattern` by its variants and state what they do by `regex`, its value, and by `Matches`. They may
+//! copy a pattern and count its leaves; both go down as deep as the pattern is, and ask for one that is not deeper than 1,000.
+//! An automaton is made of patterns that are `AreScannable`. The laws say what `Matches` means of repetitions and of joins and
+//! eithers of one part, and which lists a pattern matches.
+//!
+//! Meaning: `specs/Pattern.antt` (values, `Matches`, leaves, nesting), `specs/Repeated.antt` (what a repetition makes),
+//! `specs/Counting.antt` (so many parts, one after another), `specs/Scannable.antt`. No file holds working words.
+#![tactic(auto)]
+
+mod copying;
+mod counting;
+mod kind;
+mod laws;
+mod pattern;
+
+pub use copying::copy;
+pub use counting::leaf_count;
+pub use cs_pattern_items::{ByteSet, Repetition};
+pub use kind::Kind;
+pub use laws::{
+    alone, between_counts, bytes_alone, exact_counts, least_counts, non_empty_parts,
+    optional_counts, some_text,
+};
+pub use pattern::Pattern;
