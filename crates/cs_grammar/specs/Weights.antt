@@ -16,6 +16,10 @@ pub record IsMeasure (w : Measure) : Type 0 where
   pub numbers : All (IsNumberOf 1000000) w.numbers
   pub limit : IsNumberOf 1000000 w.limit
 
+-- a size, with all sizes above the limit taken as one
+abbrev pub capped : ℕ → ℕ → ℕ
+capped limit n = min n (limit + 1)
+
 -- nodes are counted: each of so many tokens has the number 1
 abbrev pub nodes : ℕ → Measure
 nodes tokens = record { numbers = replicate tokens 1; limit = 10000 }

@@ -2,8 +2,11 @@
 //! reaches the node.
 //!
 //! The layer above makes `Steps` once, and then asks for `least_ways` from any list of sources, under any limit. A way is a
-//! source and a chain of steps; what a way is, what it costs and which are least stands in `specs/Ways.antt`. By
-//! `first_steps` it learns the first of the steps by which a least way reaches each node.
+//! source and a chain of steps; of the least ways to a node the one whose source stands first in the list is taken, so a
+//! source carries a choice along. By `first_steps` the layer above learns the first of the steps by which a least way
+//! reaches each node.
+//!
+//! `specs/Ways` says what is meant. The other files of `specs/` have working words of proofs.
 #![tactic(auto)]
 
 mod candidate;

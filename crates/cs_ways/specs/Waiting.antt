@@ -1,0 +1,30 @@
+-- What the steps of the search do with what waits.
+use Rattle.std.specs.Prelude.{ℕ, List, length}
+use Rattle.std.specs.BinaryHeap.{heap_items}
+use Rattle.cs_ways.specs.declared.step.Step.{Step}
+use Rattle.cs_ways.specs.declared.step.Source.{Source}
+use Rattle.cs_ways.specs.declared.candidate.Candidate.{Candidate}
+use Rattle.cs_ways.specs.declared.reach.Reach.{Reach}
+use Rattle.cs_ways.specs.declared.search.Waiting.{Waiting}
+use Rattle.cs_ways.specs.Ways.{Net}
+use Rattle.cs_ways.specs.Candidates.{IsBeginning, IsAfter}
+use Rattle.cs_ways.specs.Search.{IsOffered, AreOffered, IsSettling}
+
+-- what was found is pushed where it comes before what is known
+abbrev pub Offers : Candidate → Waiting → Waiting → Type 0
+Offers found old new = IsOffered found old.known.items (heap_items old.heap) new.known.items (heap_items new.heap)
+
+-- the beginnings at these sources are
+abbrev pub OffersSources : ℕ → List Source → Waiting → Waiting → Type 0
+OffersSources limit sources old new =
+    AreOffered limit (IsBeginning limit sources) (length sources) old.known.items (heap_items old.heap) new.known.items (heap_items new.heap)
+
+-- what goes on by these steps is
+abbrev pub OffersSteps : ℕ → Candidate → List Step → Waiting → Waiting → Type 0
+OffersSteps limit found steps old new =
+    AreOffered limit (IsAfter limit found steps) (length steps) old.known.items (heap_items old.heap) new.known.items (heap_items new.heap)
+
+-- the node of what was found is settled
+abbrev pub Settles : ℕ → Net → Candidate → List Reach → Waiting → List Reach → Waiting → Type 0
+Settles limit net found table old table_then new =
+    IsSettling limit net found table old.known.items (heap_items old.heap) table_then new.known.items (heap_items new.heap)
