@@ -6,6 +6,7 @@ use Rattle.cs_grammar.specs.declared.symbol.Symbol.TheVariants.{Nonterminal}
 use Rattle.cs_grammar.specs.declared.symbol.Mark.{Mark}
 use Rattle.cs_grammar.specs.declared.symbol.Mark.TheVariants.{Begin, Token, End}
 use Rattle.cs_grammar.specs.Grammar.{PlainGrammar}
+use Rattle.cs_grammar.specs.Weights.{Measure}
 use Rattle.cs_grammar.specs.Tree.{Tree, size, yield}
 use Rattle.cs_grammar.specs.Context.{Context}
 use Rattle.cs_cost.specs.declared.cost.Cost.{Cost}
@@ -26,9 +27,9 @@ use Rattle.cs_pairs.proofs.ChosenSeams.{seam_exists}
 use Rattle.cs_pairs.proofs.ChosenPairs.{pair_has, pair_least}
 use Rattle.cs_pairs.proofs.Laying.{chosen_meeting}
 
-module _ (g : PlainGrammar) where
+module _ (w : Measure) (g : PlainGrammar) where
   -- the start symbol has a small tree of the kind
-  pub first_small : (left right : Mark) (b : ℕ) → left ≡ Begin → right ≡ Token b → HasLeastPair g left right → HasSmallOfKind g (Begins b) (Nonterminal g.start)
+  pub first_small : (left right : Mark) (b : ℕ) → left ≡ Begin → right ≡ Token b → HasLeastPair w g left right → HasSmallOfKind w g (Begins b) (Nonterminal g.start)
   first_small Begin (Token c) b is_left is_right h =
       let same : c ≡ b = cc in
       let t = h.1.1.reached in
@@ -38,7 +39,7 @@ module _ (g : PlainGrammar) where
   first_small (Token a) right b is_left is_right h = absurd cc
   first_small End right b is_left is_right h = absurd cc
 
-  pub last_small : (left right : Mark) (a : ℕ) → left ≡ Token a → right ≡ End → HasLeastPair g left right → HasSmallOfKind g (Ends a) (Nonterminal g.start)
+  pub last_small : (left right : Mark) (a : ℕ) → left ≡ Token a → right ≡ End → HasLeastPair w g left right → HasSmallOfKind w g (Ends a) (Nonterminal g.start)
   last_small (Token c) End a is_left is_right h =
       let same : c ≡ a = cc in
       let t = h.1.1.reached in
@@ -48,7 +49,7 @@ module _ (g : PlainGrammar) where
   last_small Begin right a is_left is_right h = absurd cc
   last_small End right a is_left is_right h = absurd cc
 
-  pub none_small : (left right : Mark) → left ≡ Begin → right ≡ End → HasLeastPair g left right → HasSmallOfKind g Empty (Nonterminal g.start)
+  pub none_small : (left right : Mark) → left ≡ Begin → right ≡ End → HasLeastPair w g left right → HasSmallOfKind w g Empty (Nonterminal g.start)
   none_small Begin End is_left is_right h =
       let t = h.1.1.reached in
       (t.0, (t.1.0, no_token (yield t.0) t.1.1), omega (arith, t.2, h.1.0))
@@ -58,37 +59,37 @@ module _ (g : PlainGrammar) where
   none_small End right is_left is_right h = absurd cc
 
   -- in the names of the code
-  pub code_at : (left right a b : Mark) (rules : _) → left ≡ a → right ≡ b → IsCodeOfPair g a b rules → IsCodeOfPair g left right rules
+  pub code_at : (left right a b : Mark) (rules : _) → left ≡ a → right ≡ b → IsCodeOfPair w g a b rules → IsCodeOfPair w g left right rules
   code_at left right a b rules is_left is_right h =
-      subst (λ m. IsCodeOfPair g m right rules) (sym is_left) (subst (λ m. IsCodeOfPair g a m rules) (sym is_right) h)
+      subst (λ m. IsCodeOfPair w g m right rules) (sym is_left) (subst (λ m. IsCodeOfPair w g a m rules) (sym is_right) h)
 
-  pub least_at : (left right a b : Mark) → left ≡ a → right ≡ b → HasLeastPair g left right → HasLeastPair g a b
+  pub least_at : (left right a b : Mark) → left ≡ a → right ≡ b → HasLeastPair w g left right → HasLeastPair w g a b
   least_at left right a b is_left is_right h =
-      subst (λ m. HasLeastPair g a m) is_right (subst (λ m. HasLeastPair g m right) is_left h)
+      subst (λ m. HasLeastPair w g a m) is_right (subst (λ m. HasLeastPair w g m right) is_left h)
 
-  module _ (a b : ℕ) (cost : Cost) (is_cost : IsCost LIMIT (HasPair g (Token a) (Token b)) size cost) (least : HasLeastPair g (Token a) (Token b)) where
+  module _ (a b : ℕ) (cost : Cost) (is_cost : IsCost w.limit (HasPair g (Token a) (Token b)) (size w) cost) (least : HasLeastPair w g (Token a) (Token b)) where
     same_cost : cost ≡ Least least.0
-    same_cost = one_cost LIMIT (HasPair g (Token a) (Token b)) size cost (Least least.0) is_cost least.1
+    same_cost = one_cost w.limit (HasPair g (Token a) (Token b)) (size w) cost (Least least.0) is_cost least.1
 
-    pub tokens_capped : IsCapped LIMIT cost
-    tokens_capped = cost_capped LIMIT (HasPair g (Token a) (Token b)) size cost is_cost
+    pub tokens_capped : IsCapped w.limit cost
+    tokens_capped = cost_capped w.limit (HasPair g (Token a) (Token b)) (size w) cost is_cost
 
-    pub tokens_small : rank LIMIT cost ≤ LIMIT
-    tokens_small = omega (arith, ap (rank LIMIT) same_cost, least.1.0)
+    pub tokens_small : rank w.limit cost ≤ w.limit
+    tokens_small = omega (arith, ap (rank w.limit) same_cost, least.1.0)
 
     -- the least tree as a seam
-    pub tokens_seam : (x : Symbol) × (s : Context × Tree) × IsSeam g a b x s × (seam_size s ≤ rank LIMIT cost)
+    pub tokens_seam : (x : Symbol) × (s : Context × Tree) × IsSeam g a b x s × (seam_size w s ≤ rank w.limit cost)
     tokens_seam =
         let t = least.1.1.reached in
-        let parts = cut g a b t.0 t.1.0 (tokens_in a b (yield t.0) t.1.1) in
-        (parts.symbol, parts.seam, parts.is_seam, omega (arith, parts.measure, t.2, ap (rank LIMIT) same_cost))
+        let parts = cut w g a b t.0 t.1.0 (tokens_in a b (yield t.0) t.1.1) in
+        (parts.symbol, parts.seam, parts.is_seam, omega (arith, parts.measure, t.2, ap (rank w.limit) same_cost))
 
-    pub tokens_meeting : (r k : ℕ) → IsMeetingAt g a b (rank LIMIT cost) r k → IsChosenMeeting g a b r k
+    pub tokens_meeting : (r k : ℕ) → IsMeetingAt w g a b (rank w.limit cost) r k → IsChosenMeeting w g a b r k
     tokens_meeting r k m =
         let s = tokens_seam in
-        let t = seam_exists g a b s.0 s.1 s.2 in
+        let t = seam_exists w g a b s.0 s.1 s.2 in
         let u = least.1.1.reached in
-        let below = pair_least g (Token a) (Token b) u.0 t.0 u.1 t.1 in
-        let above = least.1.1.least t.0 (pair_has g (Token a) (Token b) t.0 t.1) in
-        let measured : size t.0 ≡ rank LIMIT cost = omega (arith, below, above, u.2, ap (rank LIMIT) same_cost) in
-        chosen_meeting g a b (rank LIMIT cost) r k m t.0 t.1 measured tokens_small
+        let below = pair_least w g (Token a) (Token b) u.0 t.0 u.1 t.1 in
+        let above = least.1.1.least t.0 (pair_has w g (Token a) (Token b) t.0 t.1) in
+        let measured : size w t.0 ≡ rank w.limit cost = omega (arith, below, above, u.2, ap (rank w.limit) same_cost) in
+        chosen_meeting w g a b (rank w.limit cost) r k m t.0 t.1 measured tokens_small

@@ -7,6 +7,7 @@ use Rattle.cs_grammar.specs.declared.TheConstants.{MOST_TOKENS, MOST_NONTERMINAL
 use Rattle.cs_grammar.specs.declared.symbol.Symbol.{Symbol}
 use Rattle.cs_grammar.specs.declared.symbol.Symbol.TheVariants.{Token, Nonterminal}
 use Rattle.cs_grammar.specs.Grammar.{Production, PlainGrammar, IsRule, IsRuleOf, IsSomeRule, IsNumberOf, IsSymbol, IsGrammar}
+use Rattle.cs_grammar.specs.Weights.{Measure}
 use Rattle.cs_grammar.specs.Tree.{Tree, Forest, Bare, Grown, IsTree, AreTrees, size, sizes}
 use Rattle.cs_grammar.specs.Context.{Context, context_size, join}
 use Rattle.cs_grammar.proofs.Forests.{AreTrees-join, sizes-join}
@@ -14,7 +15,7 @@ use Rattle.cs_cost.specs.declared.cost.Cost.{Cost}
 use Rattle.cs_cost.specs.Least.{IsCost}
 use Rattle.cs_cost.specs.Rank.{cost_of, plus, entry}
 use Rattle.cs_cost.proofs.Ranks.{IsCost-plus, IsCost-more, IsCost-same}
-use Rattle.cs_cost.proofs.Rounds.{well_formed_at}
+use Rattle.cs_cost.proofs.Rules.{well_formed_at}
 use Rattle.cs_embed.specs.Around.{IsContextOf}
 use Rattle.cs_pairs.specs.Filled.{IsFilled}
 use Rattle.cs_pairs.specs.Fronts.{AreFront, front_size, AreFronts, AreFrontsOf, AreRuleFronts}
@@ -23,66 +24,66 @@ use Rattle.cs_pairs.proofs.RowLists.{row_read}
 use Rattle.cs_pairs.proofs.Filling.{filled_more, entry_next}
 
 -- some rule of a grammar is well formed
-pub some_rule : (g : PlainGrammar) (p : Production) → IsGrammar g → IsSomeRule g p → IsRuleOf g.tokens g.nonterminals p
-some_rule g p grammar rule = well_formed_at g (rule.0 - 1) p grammar rule.1.at
+pub some_rule : (w : Measure) (g : PlainGrammar) (p : Production) → IsGrammar g → IsSomeRule g p → IsRuleOf g.tokens g.nonterminals p
+some_rule w g p grammar rule = well_formed_at g (rule.0 - 1) p grammar rule.1.at
 
 -- the last of some trees apart
-pub last_apart : (g : PlainGrammar) (xs : List Symbol) (x : Symbol) (f : Forest) → AreTrees g (xs ++ x ∷ []) f → (h : Forest) × (t : Tree) × AreTrees g xs h × IsTree g x t × (sizes h + size t ≡ sizes f)
-last_apart g [] x Bare is = absurd is
-last_apart g [] x (Grown t Bare) is = (Bare, t, tt, is.0, omega arith)
-last_apart g [] x (Grown t (Grown u f)) is = absurd is.1
-last_apart g (y ∷ xs) x Bare is = absurd is
-last_apart g (y ∷ xs) x (Grown t f) is =
-    let others = last_apart g xs x f is.1 in
+pub last_apart : (w : Measure) (g : PlainGrammar) (xs : List Symbol) (x : Symbol) (f : Forest) → AreTrees g (xs ++ x ∷ []) f → (h : Forest) × (t : Tree) × AreTrees g xs h × IsTree g x t × (sizes w h + size w t ≡ sizes w f)
+last_apart w g [] x Bare is = absurd is
+last_apart w g [] x (Grown t Bare) is = (Bare, t, tt, is.0, omega arith)
+last_apart w g [] x (Grown t (Grown u f)) is = absurd is.1
+last_apart w g (y ∷ xs) x Bare is = absurd is
+last_apart w g (y ∷ xs) x (Grown t f) is =
+    let others = last_apart w g xs x f is.1 in
     (Grown t others.0, others.1, (is.0, others.2), others.3, omega (arith, others.4))
 
-module _ (limit : ℕ) (g : PlainGrammar) (left : ℕ) where
-  pub front_first : (b : Cost) → IsCost limit (IsContextOf g left) context_size b → IsCost limit (AreFront g left []) front_size (plus limit (cost_of limit 1) b)
+module _ (w : Measure) (g : PlainGrammar) (left : ℕ) where
+  pub front_first : (b : Cost) → IsCost w.limit (IsContextOf g left) (context_size w) b → IsCost w.limit (AreFront g left []) (front_size w) (plus w.limit (cost_of w.limit 1) b)
   front_first b h =
-      IsCost-same limit (IsContextOf g left) (AreFront g left []) (λ c. 1 + context_size c) front_size (plus limit (cost_of limit 1) b)
+      IsCost-same w.limit (IsContextOf g left) (AreFront g left []) (λ c. 1 + context_size w c) (front_size w) (plus w.limit (cost_of w.limit 1) b)
       (λ c is. ((c, Bare), (is, tt), omega arith))
       (λ p is. (p.0, is.0, omega arith))
-      (IsCost-more limit (IsContextOf g left) context_size b h)
+      (IsCost-more w.limit (IsContextOf g left) (context_size w) b h)
 
-  pub front_next : (xs : List Symbol) (x : Symbol) (a c : Cost) → IsCost limit (AreFront g left xs) front_size a → IsCost limit (IsTree g x) size c → IsCost limit (AreFront g left (xs ++ x ∷ [])) front_size (plus limit a c)
+  pub front_next : (xs : List Symbol) (x : Symbol) (a c : Cost) → IsCost w.limit (AreFront g left xs) (front_size w) a → IsCost w.limit (IsTree g x) (size w) c → IsCost w.limit (AreFront g left (xs ++ x ∷ [])) (front_size w) (plus w.limit a c)
   front_next xs x a c front here =
       let Both = λ (p : (Context × Forest) × Tree). AreFront g left xs p.0 × IsTree g x p.1 in
-      let both_size = λ (p : (Context × Forest) × Tree). front_size p.0 + size p.1 in
-      IsCost-same limit Both (AreFront g left (xs ++ x ∷ [])) both_size front_size (plus limit a c)
+      let both_size = λ (p : (Context × Forest) × Tree). front_size w p.0 + size w p.1 in
+      IsCost-same w.limit Both (AreFront g left (xs ++ x ∷ [])) both_size (front_size w) (plus w.limit a c)
       (λ p is. (
         (p.0.0, join p.0.1 (Grown p.1 Bare)),
         (is.0.0, AreTrees-join g p.0.1 (Grown p.1 Bare) xs (x ∷ []) is.0.1 (is.1, tt)),
-        omega (arith, sizes-join p.0.1 (Grown p.1 Bare)),
+        omega (arith, sizes-join w p.0.1 (Grown p.1 Bare)),
       ))
-      (λ p is. let w = last_apart g xs x p.1 is.1 in (((p.0, w.0), w.1), ((is.0, w.2), w.3), omega (arith, w.4)))
-      (IsCost-plus limit (AreFront g left xs) (IsTree g x) front_size size a c front here)
+      (λ p is. let v = last_apart w g xs x p.1 is.1 in (((p.0, v.0), v.1), ((is.0, v.2), v.3), omega (arith, v.4)))
+      (IsCost-plus w.limit (AreFront g left xs) (IsTree g x) (front_size w) (size w) a c front here)
 
   -- in the names of the code
-  pub front_taken : (right items : List Symbol) (i : ℕ) (x d : Symbol) (a c sum : Cost) → items ≡ right → i < length items → x ≡ get_or items i d → IsCost limit (AreFront g left (take i right)) front_size a → IsCost limit (IsTree g x) size c → sum ≡ plus limit a c → IsCost limit (AreFront g left (take (i + 1) right)) front_size sum
+  pub front_taken : (right items : List Symbol) (i : ℕ) (x d : Symbol) (a c sum : Cost) → items ≡ right → i < length items → x ≡ get_or items i d → IsCost w.limit (AreFront g left (take i right)) (front_size w) a → IsCost w.limit (IsTree g x) (size w) c → sum ≡ plus w.limit a c → IsCost w.limit (AreFront g left (take (i + 1) right)) (front_size w) sum
   front_taken right items i x d a c sum same within is_x front here is_sum =
       let within' : i < length right = subst (λ (l : List Symbol). i < length l) same within in
       let at : x ≡ get_or right i d = is_x ∙ ap (λ (l : List Symbol). get_or l i d) same in
       let next : take i right ++ x ∷ [] ≡ take (i + 1) right = ap (λ y. take i right ++ y ∷ []) at ∙ sym (take_at_read right i d within').1 in
-      subst (IsCost limit (AreFront g left (take (i + 1) right)) front_size) (sym is_sum)
-      (subst (λ (l : List Symbol). IsCost limit (AreFront g left l) front_size (plus limit a c)) next (front_next (take i right) x a c front here))
+      subst (IsCost w.limit (AreFront g left (take (i + 1) right)) (front_size w)) (sym is_sum)
+      (subst (λ (l : List Symbol). IsCost w.limit (AreFront g left l) (front_size w) (plus w.limit a c)) next (front_next (take i right) x a c front here))
 
 -- one more front
-pub fronts_more : (limit : ℕ) (g : PlainGrammar) (p : Production) (i : ℕ) (row : List Cost) (a : Cost) → IsFilled limit (λ n. AreFront g p.left (take (n - 1) p.right)) front_size i row → IsCost limit (AreFront g p.left (take i p.right)) front_size a → IsFilled limit (λ n. AreFront g p.left (take (n - 1) p.right)) front_size (i + 1) (row ++ a ∷ [])
-fronts_more limit g p i row a so_far here =
+pub fronts_more : (w : Measure) (g : PlainGrammar) (p : Production) (i : ℕ) (row : List Cost) (a : Cost) → IsFilled w.limit (λ n. AreFront g p.left (take (n - 1) p.right)) (front_size w) i row → IsCost w.limit (AreFront g p.left (take i p.right)) (front_size w) a → IsFilled w.limit (λ n. AreFront g p.left (take (n - 1) p.right)) (front_size w) (i + 1) (row ++ a ∷ [])
+fronts_more w g p i row a so_far here =
     let place : i ≡ i + 1 - 1 = omega arith in
-    filled_more limit (λ n. AreFront g p.left (take (n - 1) p.right)) front_size i row a so_far
-    (subst (λ k. IsCost limit (AreFront g p.left (take k p.right)) front_size a) place here)
+    filled_more w.limit (λ n. AreFront g p.left (take (n - 1) p.right)) (front_size w) i row a so_far
+    (subst (λ k. IsCost w.limit (AreFront g p.left (take k p.right)) (front_size w) a) place here)
 
 -- what is right of one rule and its number is right of the rule at an index
-pub fronts_at : (limit : ℕ) (g : PlainGrammar) (i : ℕ) (q : Production) (row : List Cost) → slice_get g.rules i ≡ Some q → AreFronts limit g q row → AreFrontsOf limit g (i + 1) row
-fronts_at limit g i q row at fronts = λ p rule.
+pub fronts_at : (w : Measure) (g : PlainGrammar) (i : ℕ) (q : Production) (row : List Cost) → slice_get g.rules i ≡ Some q → AreFronts w g q row → AreFrontsOf w g (i + 1) row
+fronts_at w g i q row at fronts = λ p rule.
     let there : slice_get g.rules i ≡ Some p = (let e : i + 1 - 1 ≡ i = omega arith in subst (λ k. slice_get g.rules k ≡ Some p) e rule.at) in
     let same : q ≡ p = cc in
-    subst (λ (o : Production). AreFronts limit g o row) same fronts
+    subst (λ (o : Production). AreFronts w g o row) same fronts
 
 -- the fronts of all rules
-pub fronts_all : (limit : ℕ) (g : PlainGrammar) (items : List Production) (rows : List (List Cost)) (i : ℕ) → items ≡ g.rules → length items ≤ i → i ≤ length items → length rows ≡ i → ((n : ℕ) → IsNumberOf i n → AreFrontsOf limit g n (row_in rows n)) → AreRuleFronts limit g rows
-fronts_all limit g items rows i same all within many each = record {
+pub fronts_all : (w : Measure) (g : PlainGrammar) (items : List Production) (rows : List (List Cost)) (i : ℕ) → items ≡ g.rules → length items ≤ i → i ≤ length items → length rows ≡ i → ((n : ℕ) → IsNumberOf i n → AreFrontsOf w g n (row_in rows n)) → AreRuleFronts w g rows
+fronts_all w g items rows i same all within many each = record {
   many = (let e = ap (λ (l : List Production). length l) same in omega (arith, e, all, within, many));
   each = λ r p rule.
       let e = ap (λ (l : List Production). length l) same in
@@ -91,24 +92,24 @@ fronts_all limit g items rows i same all within many each = record {
 }
 
 -- the front at an index
-pub front_at : (limit : ℕ) (g : PlainGrammar) (p : Production) (fronts : List Cost) → AreFronts limit g p fronts → (i : ℕ) → i < length p.right → (front d : Cost) → front ≡ get_or fronts i d → IsCost limit (AreFront g p.left (take i p.right)) front_size front
-front_at limit g p fronts are i within front d is_front =
+pub front_at : (w : Measure) (g : PlainGrammar) (p : Production) (fronts : List Cost) → AreFronts w g p fronts → (i : ℕ) → i < length p.right → (front d : Cost) → front ≡ get_or fronts i d → IsCost w.limit (AreFront g p.left (take i p.right)) (front_size w) front
+front_at w g p fronts are i within front d is_front =
     let place : i + 1 - 1 ≡ i = omega arith in
     let here = are.exact (i + 1) (omega arith, omega (arith, within)) in
     let at : entry fronts (i + 1) ≡ front = entry_next fronts i d (omega (arith, within, are.many)) ∙ sym is_front in
-    subst (λ k. IsCost limit (AreFront g p.left (take k p.right)) front_size front) place
-    (subst (IsCost limit (AreFront g p.left (take (i + 1 - 1) p.right)) front_size) at here)
+    subst (λ k. IsCost w.limit (AreFront g p.left (take k p.right)) (front_size w) front) place
+    (subst (IsCost w.limit (AreFront g p.left (take (i + 1 - 1) p.right)) (front_size w)) at here)
 
 -- a symbol of a grammar is one within the limits
-pub wide_symbol : (g : PlainGrammar) (x : Symbol) → IsGrammar g → IsSymbol g.tokens g.nonterminals x → IsSymbol MOST_TOKENS MOST_NONTERMINALS x
-wide_symbol g (Token t) grammar h = (h.0, omega (arith, h, grammar.tokens))
-wide_symbol g (Nonterminal n) grammar h = (h.0, omega (arith, h, grammar.nonterminals))
+pub wide_symbol : (w : Measure) (g : PlainGrammar) (x : Symbol) → IsGrammar g → IsSymbol g.tokens g.nonterminals x → IsSymbol MOST_TOKENS MOST_NONTERMINALS x
+wide_symbol w g (Token t) grammar h = (h.0, omega (arith, h, grammar.tokens))
+wide_symbol w g (Nonterminal n) grammar h = (h.0, omega (arith, h, grammar.nonterminals))
 
 -- the fronts of the rule at an index
-pub fronts_read : (limit : ℕ) (g : PlainGrammar) (rows : List (List Cost)) (i : ℕ) (q : Production) (held row d : List Cost) → AreRuleFronts limit g rows → IsRule g (i + 1) q → held ≡ row → row ≡ get_or rows i d → AreFronts limit g q held
-fronts_read limit g rows i q held row d are rule is_held is_row =
+pub fronts_read : (w : Measure) (g : PlainGrammar) (rows : List (List Cost)) (i : ℕ) (q : Production) (held row d : List Cost) → AreRuleFronts w g rows → IsRule g (i + 1) q → held ≡ row → row ≡ get_or rows i d → AreFronts w g q held
+fronts_read w g rows i q held row d are rule is_held is_row =
     let place : i ≡ i + 1 - 1 = omega arith in
     let last = slice_get_within g.rules (i + 1 - 1) q rule.at in
     let number : IsNumberOf (length rows) (i + 1) = (omega arith, omega (arith, last, are.many)) in
     let there = row_read rows (i + 1) row d number (is_row ∙ ap (λ k. get_or rows k d) place) in
-    subst (AreFronts limit g q) (sym (is_held ∙ there)) (are.each (i + 1) q rule)
+    subst (AreFronts w g q) (sym (is_held ∙ there)) (are.each (i + 1) q rule)

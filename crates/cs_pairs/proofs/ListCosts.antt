@@ -4,6 +4,7 @@ use Rattle.std.proofs.lemmas.Bool.Decides.{nat_tests}
 use Rattle.cs_grammar.specs.declared.symbol.Symbol.{Symbol}
 use Rattle.cs_grammar.specs.declared.symbol.Symbol.TheVariants.{Token, Nonterminal}
 use Rattle.cs_grammar.specs.Grammar.{Production, PlainGrammar, IsRule}
+use Rattle.cs_grammar.specs.Weights.{Measure, number}
 use Rattle.cs_grammar.specs.Tree.{Tree, Leaf, Node, Forest, Bare, Grown, IsTree, AreTrees, size, sizes, yield, yields}
 use Rattle.cs_cost.specs.declared.cost.Cost.{Cost}
 use Rattle.cs_cost.specs.Least.{IsCost}
@@ -41,142 +42,142 @@ IsPart-behind Empty j h = h
 IsPart-behind (Begins b) j h = inr (inr (⊎_elim (λ e. e) (λ o. ⊎_elim (λ e. e) (λ e. e) o) h))
 IsPart-behind (Ends a) j h = inr (inr (⊎_elim (λ e. e) (λ o. ⊎_elim (λ e. e) (λ e. e) o) h))
 
-module _ (limit : ℕ) where
-  pub lesser_left : (a b : Cost) → rank limit (lesser limit a b) ≤ rank limit a
+module _ (w : Measure) where
+  pub lesser_left : (a b : Cost) → rank w.limit (lesser w.limit a b) ≤ rank w.limit a
   lesser_left a b = grind (arith, nat_tests)
 
-  pub lesser_right : (a b : Cost) → rank limit (lesser limit a b) ≤ rank limit b
+  pub lesser_right : (a b : Cost) → rank w.limit (lesser w.limit a b) ≤ rank w.limit b
   lesser_right a b = grind (arith, nat_tests)
 
-  pub lesser_either : (a b : Cost) → (lesser limit a b ≡ a) ⊎ (lesser limit a b ≡ b)
+  pub lesser_either : (a b : Cost) → (lesser w.limit a b ≡ a) ⊎ (lesser w.limit a b ≡ b)
   lesser_either a b = grind (arith, nat_tests)
 
-  pub IsCapped-lesser : (a b : Cost) → IsCapped limit a → IsCapped limit b → IsCapped limit (lesser limit a b)
-  IsCapped-lesser a b ha hb = ⊎_elim (λ e. subst (IsCapped limit) (sym e) ha) (λ e. subst (IsCapped limit) (sym e) hb) (lesser_either a b)
+  pub IsCapped-lesser : (a b : Cost) → IsCapped w.limit a → IsCapped w.limit b → IsCapped w.limit (lesser w.limit a b)
+  IsCapped-lesser a b ha hb = ⊎_elim (λ e. subst (IsCapped w.limit) (sym e) ha) (λ e. subst (IsCapped w.limit) (sym e) hb) (lesser_either a b)
 
   -- leaves
-  pub leaf_low : (k : Kind) (t : ℕ) → IsOfKind k (t ∷ []) → rank limit (leaf_cost limit k t) ≤ capped limit 1
-  leaf_low Any t h = omega (arith, rank-cost_of limit 1)
+  pub leaf_low : (k : Kind) (t : ℕ) → IsOfKind k (t ∷ []) → rank w.limit (leaf_cost w k t) ≤ capped w.limit (number w t)
+  leaf_low Any t h = omega (arith, rank-cost_of w.limit (number w t))
   leaf_low Empty t h = absurd cc
-  leaf_low (Begins b) t h = let e : t ≡ b = (let q = h.1 in cc) in let r = rank-cost_of limit 1 in grind (arith, nat_tests)
-  leaf_low (Ends a) t ([], e) = let e' : t ≡ a = cc in let r = rank-cost_of limit 1 in grind (arith, nat_tests)
+  leaf_low (Begins b) t h = let e : t ≡ b = (let q = h.1 in cc) in let r = rank-cost_of w.limit (number w t) in grind (arith, nat_tests)
+  leaf_low (Ends a) t ([], e) = let e' : t ≡ a = cc in let r = rank-cost_of w.limit (number w t) in grind (arith, nat_tests)
   leaf_low (Ends a) t (x ∷ [], e) = absurd cc
   leaf_low (Ends a) t (x ∷ y ∷ rest, e) = absurd cc
 
-  pub leaf_reached : (g : PlainGrammar) (k : Kind) (t : ℕ) → rank limit (leaf_cost limit k t) ≤ limit + 1 → (u : Tree) × IsTreeOfKind g k (Token t) u × (capped limit (size u) ≤ rank limit (leaf_cost limit k t))
-  leaf_reached g Any t h = (Leaf t, (refl, tt), omega (arith, rank-cost_of limit 1))
+  pub leaf_reached : (g : PlainGrammar) (k : Kind) (t : ℕ) → rank w.limit (leaf_cost w k t) ≤ w.limit + 1 → (u : Tree) × IsTreeOfKind g k (Token t) u × (capped w.limit (size w u) ≤ rank w.limit (leaf_cost w k t))
+  leaf_reached g Any t h = (Leaf t, (refl, tt), omega (arith, rank-cost_of w.limit (number w t)))
   leaf_reached g Empty t h = absurd (omega arith)
-  leaf_reached g (Begins b) t h = (Leaf t, (refl, ([], (let e : t ≡ b = grind (arith, nat_tests) in ap (λ n. n ∷ []) e))), (let r = rank-cost_of limit 1 in grind (arith, nat_tests)))
-  leaf_reached g (Ends a) t h = (Leaf t, (refl, ([], (let e : t ≡ a = grind (arith, nat_tests) in ap (λ n. n ∷ []) e))), (let r = rank-cost_of limit 1 in grind (arith, nat_tests)))
+  leaf_reached g (Begins b) t h = (Leaf t, (refl, ([], (let e : t ≡ b = grind (arith, nat_tests) in ap (λ n. n ∷ []) e))), (let r = rank-cost_of w.limit (number w t) in grind (arith, nat_tests)))
+  leaf_reached g (Ends a) t h = (Leaf t, (refl, ([], (let e : t ≡ a = grind (arith, nat_tests) in ap (λ n. n ∷ []) e))), (let r = rank-cost_of w.limit (number w t) in grind (arith, nat_tests)))
 
-  pub IsCapped-leaf : (k : Kind) (t : ℕ) → IsCapped limit (leaf_cost limit k t)
-  IsCapped-leaf Any t = IsCapped-cost_of limit 1
+  pub IsCapped-leaf : (k : Kind) (t : ℕ) → IsCapped w.limit (leaf_cost w k t)
+  IsCapped-leaf Any t = IsCapped-cost_of w.limit (number w t)
   IsCapped-leaf Empty t = tt
-  IsCapped-leaf (Begins b) t = let c = IsCapped-cost_of limit 1 in grind (arith, nat_tests)
-  IsCapped-leaf (Ends a) t = let c = IsCapped-cost_of limit 1 in grind (arith, nat_tests)
+  IsCapped-leaf (Begins b) t = let c = IsCapped-cost_of w.limit (number w t) in grind (arith, nat_tests)
+  IsCapped-leaf (Ends a) t = let c = IsCapped-cost_of w.limit (number w t) in grind (arith, nat_tests)
 
   -- no tree at all
-  pub bare_low : (k : Kind) → IsOfKind k [] → rank limit (bare_cost k) ≤ 0
+  pub bare_low : (k : Kind) → IsOfKind k [] → rank w.limit (bare_cost k) ≤ 0
   bare_low Any h = omega arith
   bare_low Empty h = omega arith
   bare_low (Begins b) h = let e = h.1 in absurd cc
   bare_low (Ends a) ([], e) = absurd cc
   bare_low (Ends a) (x ∷ rest, e) = absurd cc
 
-  pub bare_reached : (g : PlainGrammar) (k : Kind) → rank limit (bare_cost k) ≤ limit + 1 → AreTreesOfKind g k [] Bare
+  pub bare_reached : (g : PlainGrammar) (k : Kind) → rank w.limit (bare_cost k) ≤ w.limit + 1 → AreTreesOfKind g k [] Bare
   bare_reached g Any h = (tt, tt)
   bare_reached g Empty h = (tt, refl)
   bare_reached g (Begins b) h = absurd (omega arith)
   bare_reached g (Ends a) h = absurd (omega arith)
 
-  pub IsCapped-bare : (k : Kind) → IsCapped limit (bare_cost k)
+  pub IsCapped-bare : (k : Kind) → IsCapped w.limit (bare_cost k)
   IsCapped-bare Any = omega arith
   IsCapped-bare Empty = omega arith
   IsCapped-bare (Begins b) = tt
   IsCapped-bare (Ends a) = tt
 
   -- where no rule makes a nonterminal cost less, no tree does
-  module _ (g : PlainGrammar) (told : Kind → Symbol → Cost) (leaf : (k : Kind) (t : ℕ) → rank limit (told k (Token t)) ≤ rank limit (leaf_cost limit k t)) (tokens : ℕ) (closed : (k : Kind) → IsKind tokens k → (r : ℕ) (p : Production) → IsRule g r p → rank limit (told k (Nonterminal p.left)) ≤ rank limit (node_cost limit told k p.right)) where
+  module _ (g : PlainGrammar) (told : Kind → Symbol → Cost) (leaf : (k : Kind) (t : ℕ) → rank w.limit (told k (Token t)) ≤ rank w.limit (leaf_cost w k t)) (tokens : ℕ) (closed : (k : Kind) → IsKind tokens k → (r : ℕ) (p : Production) → IsRule g r p → rank w.limit (told k (Nonterminal p.left)) ≤ rank w.limit (node_cost w.limit told k p.right)) where
     mutual
-      pub kind_tree_low : (t : Tree) (x : Symbol) (k : Kind) → IsKind tokens k → IsTree g x t → IsOfKind k (yield t) → rank limit (told k x) ≤ capped limit (size t)
+      pub kind_tree_low : (t : Tree) (x : Symbol) (k : Kind) → IsKind tokens k → IsTree g x t → IsOfKind k (yield t) → rank w.limit (told k x) ≤ capped w.limit (size w t)
       kind_tree_low (Leaf t) x k fits h of = rw h (omega (arith, leaf k t, leaf_low k t of))
       kind_tree_low (Node r f) x k fits h of =
           let below = closed k fits r h.0 h.1 in
           let children = kind_trees_low f h.0.right k fits h.3 of in
-          let both = plus_at_most limit (cost_of limit 1) (list_cost limit told k h.0.right) 1 (sizes f) (omega (arith, rank-cost_of limit 1)) children in
+          let both = plus_at_most w.limit (cost_of w.limit 1) (list_cost w.limit told k h.0.right) 1 (sizes w f) (omega (arith, rank-cost_of w.limit 1)) children in
           rw h.2 (omega (arith, below, both))
 
-      pub kind_trees_low : (f : Forest) (xs : List Symbol) (k : Kind) → IsKind tokens k → AreTrees g xs f → IsOfKind k (yields f) → rank limit (list_cost limit told k xs) ≤ capped limit (sizes f)
+      pub kind_trees_low : (f : Forest) (xs : List Symbol) (k : Kind) → IsKind tokens k → AreTrees g xs f → IsOfKind k (yields f) → rank w.limit (list_cost w.limit told k xs) ≤ capped w.limit (sizes w f)
       kind_trees_low Bare [] k fits h of = omega (arith, bare_low k of)
       kind_trees_low Bare (x ∷ xs) k fits h of = absurd h
       kind_trees_low (Grown t f) [] k fits h of = absurd h
       kind_trees_low (Grown t f) (x ∷ xs) k fits h of =
-          let rest = list_cost limit told (behind k) xs in
-          let whole = list_cost limit told k xs in
-          let here = plus limit (told k x) rest in
-          let later = plus limit (told (before k) x) whole in
+          let rest = list_cost w.limit told (behind k) xs in
+          let whole = list_cost w.limit told k xs in
+          let here = plus w.limit (told k x) rest in
+          let later = plus w.limit (told (before k) x) whole in
           ⊎_elim
-          (λ w.
-          let first = kind_tree_low t x k fits h.0 w.0 in
-          let others = kind_trees_low f xs (behind k) (IsKind-behind tokens k fits) h.1 w.1 in
-          omega (arith, lesser_left here later, plus_at_most limit (told k x) rest (size t) (sizes f) first others))
-          (λ w.
-          let first = kind_tree_low t x (before k) (IsKind-before tokens k fits) h.0 w.0 in
-          let others = kind_trees_low f xs k fits h.1 w.1 in
-          omega (arith, lesser_right here later, plus_at_most limit (told (before k) x) whole (size t) (sizes f) first others))
+          (λ v.
+          let first = kind_tree_low t x k fits h.0 v.0 in
+          let others = kind_trees_low f xs (behind k) (IsKind-behind tokens k fits) h.1 v.1 in
+          omega (arith, lesser_left here later, plus_at_most w.limit (told k x) rest (size w t) (sizes w f) first others))
+          (λ v.
+          let first = kind_tree_low t x (before k) (IsKind-before tokens k fits) h.0 v.0 in
+          let others = kind_trees_low f xs k fits h.1 v.1 in
+          omega (arith, lesser_right here later, plus_at_most w.limit (told (before k) x) whole (size w t) (sizes w f) first others))
           (joined_cases k (yield t) (yields f) of)
 
   -- what is told of a symbol is no size above the limit, and a tree of the kind costs no more
   pub record IsReachedBy (g : PlainGrammar) (told : Kind → Symbol → Cost) (k : Kind) : Type 0 where
-    pub each : (x : Symbol) → IsCapped limit (told k x)
-    pub reached : (x : Symbol) → rank limit (told k x) ≤ limit + 1 → (t : Tree) × IsTreeOfKind g k x t × (capped limit (size t) ≤ rank limit (told k x))
+    pub each : (x : Symbol) → IsCapped w.limit (told k x)
+    pub reached : (x : Symbol) → rank w.limit (told k x) ≤ w.limit + 1 → (t : Tree) × IsTreeOfKind g k x t × (capped w.limit (size w t) ≤ rank w.limit (told k x))
 
   module _ (g : PlainGrammar) (told : Kind → Symbol → Cost) where
-    pub IsCapped-list : (k : Kind) → ((j : Kind) → IsPart k j → IsReachedBy g told j) → (xs : List Symbol) → IsCapped limit (list_cost limit told k xs)
+    pub IsCapped-list : (k : Kind) → ((j : Kind) → IsPart k j → IsReachedBy g told j) → (xs : List Symbol) → IsCapped w.limit (list_cost w.limit told k xs)
     IsCapped-list k sound [] = IsCapped-bare k
     IsCapped-list k sound (x ∷ xs) =
-        let rest = list_cost limit told (behind k) xs in
-        let whole = list_cost limit told k xs in
-        IsCapped-lesser (plus limit (told k x) rest) (plus limit (told (before k) x) whole)
-        (IsCapped-plus limit (told k x) rest ((sound k (inl refl)).each x) (IsCapped-list (behind k) (λ j u. sound j (IsPart-behind k j u)) xs))
-        (IsCapped-plus limit (told (before k) x) whole ((sound (before k) (inr (inl refl))).each x) (IsCapped-list k sound xs))
+        let rest = list_cost w.limit told (behind k) xs in
+        let whole = list_cost w.limit told k xs in
+        IsCapped-lesser (plus w.limit (told k x) rest) (plus w.limit (told (before k) x) whole)
+        (IsCapped-plus w.limit (told k x) rest ((sound k (inl refl)).each x) (IsCapped-list (behind k) (λ j u. sound j (IsPart-behind k j u)) xs))
+        (IsCapped-plus w.limit (told (before k) x) whole ((sound (before k) (inr (inl refl))).each x) (IsCapped-list k sound xs))
 
     -- then trees of some symbols cost no more together
-    pub list_reached : (k : Kind) → ((j : Kind) → IsPart k j → IsReachedBy g told j) → (xs : List Symbol) → rank limit (list_cost limit told k xs) ≤ limit + 1 → (f : Forest) × AreTreesOfKind g k xs f × (capped limit (sizes f) ≤ rank limit (list_cost limit told k xs))
+    pub list_reached : (k : Kind) → ((j : Kind) → IsPart k j → IsReachedBy g told j) → (xs : List Symbol) → rank w.limit (list_cost w.limit told k xs) ≤ w.limit + 1 → (f : Forest) × AreTreesOfKind g k xs f × (capped w.limit (sizes w f) ≤ rank w.limit (list_cost w.limit told k xs))
     list_reached k sound [] h = (Bare, bare_reached g k h, omega arith)
     list_reached k sound (x ∷ xs) h =
         let sound' = λ (j : Kind) (u : IsPart (behind k) j). sound j (IsPart-behind k j u) in
-        let rest = list_cost limit told (behind k) xs in
-        let whole = list_cost limit told k xs in
-        let here = plus limit (told k x) rest in
-        let later = plus limit (told (before k) x) whole in
+        let rest = list_cost w.limit told (behind k) xs in
+        let whole = list_cost w.limit told k xs in
+        let here = plus w.limit (told k x) rest in
+        let later = plus w.limit (told (before k) x) whole in
         ⊎_elim
         (λ e.
         let first = sound k (inl refl) in
-        let parts = plus_reached limit (told k x) rest (first.each x) (IsCapped-list (behind k) sound' xs) (omega (arith, h, ap (rank limit) e)) in
+        let parts = plus_reached w.limit (told k x) rest (first.each x) (IsCapped-list (behind k) sound' xs) (omega (arith, h, ap (rank w.limit) e)) in
         let t = first.reached x parts.first in
         let f = list_reached (behind k) sound' xs parts.second in
-        (Grown t.0 f.0, ((t.1.0, f.1.0), joined_here k (yield t.0) (yields f.0) t.1.1 f.1.1), omega (arith, parts.sum, t.2, f.2, ap (rank limit) e)))
+        (Grown t.0 f.0, ((t.1.0, f.1.0), joined_here k (yield t.0) (yields f.0) t.1.1 f.1.1), omega (arith, parts.sum, t.2, f.2, ap (rank w.limit) e)))
         (λ e.
         let first = sound (before k) (inr (inl refl)) in
-        let parts = plus_reached limit (told (before k) x) whole (first.each x) (IsCapped-list k sound xs) (omega (arith, h, ap (rank limit) e)) in
+        let parts = plus_reached w.limit (told (before k) x) whole (first.each x) (IsCapped-list k sound xs) (omega (arith, h, ap (rank w.limit) e)) in
         let t = first.reached x parts.first in
         let f = list_reached k sound xs parts.second in
-        (Grown t.0 f.0, ((t.1.0, f.1.0), joined_later k (yield t.0) (yields f.0) t.1.1 f.1.1), omega (arith, parts.sum, t.2, f.2, ap (rank limit) e)))
+        (Grown t.0 f.0, ((t.1.0, f.1.0), joined_later k (yield t.0) (yields f.0) t.1.1 f.1.1), omega (arith, parts.sum, t.2, f.2, ap (rank w.limit) e)))
         (lesser_either here later)
 
 -- the members of two kinds together cost the lesser
-module _ {A : Type 0} (limit : ℕ) (First Second Both : A → Type 0) (measure : A → ℕ) where
-  pub IsCost-either : (a b : Cost) → IsCost limit First measure a → IsCost limit Second measure b → ((x : A) → First x → Both x) → ((x : A) → Second x → Both x) → ((x : A) → Both x → First x ⊎ Second x) → IsCost limit Both measure (lesser limit a b)
+module _ {A : Type 0} (w : Measure) (First Second Both : A → Type 0) (measure : A → ℕ) where
+  pub IsCost-either : (a b : Cost) → IsCost w.limit First measure a → IsCost w.limit Second measure b → ((x : A) → First x → Both x) → ((x : A) → Second x → Both x) → ((x : A) → Both x → First x ⊎ Second x) → IsCost w.limit Both measure (lesser w.limit a b)
   IsCost-either a b ha hb one other split =
-      IsCost-from limit Both measure (lesser limit a b) (IsCapped-lesser limit a b (cost_capped limit First measure a ha) (cost_capped limit Second measure b hb))
+      IsCost-from w.limit Both measure (lesser w.limit a b) (IsCapped-lesser w a b (cost_capped w.limit First measure a ha) (cost_capped w.limit Second measure b hb))
       (λ h.
       ⊎_elim
-      (λ e. let x = cost_reached limit First measure a ha (omega (arith, h, ap (rank limit) e)) in (x.0, one x.0 x.1, omega (arith, x.2, ap (rank limit) e)))
-      (λ e. let x = cost_reached limit Second measure b hb (omega (arith, h, ap (rank limit) e)) in (x.0, other x.0 x.1, omega (arith, x.2, ap (rank limit) e)))
-      (lesser_either limit a b))
+      (λ e. let x = cost_reached w.limit First measure a ha (omega (arith, h, ap (rank w.limit) e)) in (x.0, one x.0 x.1, omega (arith, x.2, ap (rank w.limit) e)))
+      (λ e. let x = cost_reached w.limit Second measure b hb (omega (arith, h, ap (rank w.limit) e)) in (x.0, other x.0 x.1, omega (arith, x.2, ap (rank w.limit) e)))
+      (lesser_either w a b))
       (λ x h.
       ⊎_elim
-      (λ is. omega (arith, lesser_left limit a b, cost_low limit First measure a ha x is))
-      (λ is. omega (arith, lesser_right limit a b, cost_low limit Second measure b hb x is))
+      (λ is. omega (arith, lesser_left w a b, cost_low w.limit First measure a ha x is))
+      (λ is. omega (arith, lesser_right w a b, cost_low w.limit Second measure b hb x is))
       (split x h))

@@ -8,6 +8,7 @@ use Rattle.std.proofs.lemmas.List.Elements.{All-nil, All-cons, All-head, All-tai
 use Rattle.cs_grammar.specs.declared.TheConstants.{LIMIT}
 use Rattle.cs_grammar.specs.declared.symbol.Symbol.{Symbol}
 use Rattle.cs_grammar.specs.Grammar.{PlainGrammar, IsSymbol}
+use Rattle.cs_grammar.specs.Weights.{Measure}
 use Rattle.cs_grammar.specs.Tree.{Forest, Bare, Grown, sizes}
 use Rattle.cs_grammar.specs.Context.{join}
 use Rattle.cs_cost.specs.declared.cost.Cost.{Cost}
@@ -48,50 +49,50 @@ behind_twice Empty = (refl, refl)
 behind_twice (Begins b) = (refl, refl)
 behind_twice (Ends a) = (refl, refl)
 
-module _ (g : PlainGrammar) where
+module _ (w : Measure) (g : PlainGrammar) where
   -- trees behind one of the kind
-  behind_parts : (f : Forest) (k : Kind) (place i : ℕ) (xs : List Symbol) → place < i → AreChosenOfKind g (behind k) xs f → AreChosenParts g (parts_from k place i xs) f
+  behind_parts : (f : Forest) (k : Kind) (place i : ℕ) (xs : List Symbol) → place < i → AreChosenOfKind w g (behind k) xs f → AreChosenParts w g (parts_from k place i xs) f
   behind_parts Bare k place i [] lt h = tt
   behind_parts Bare k place i (x ∷ xs) lt h = absurd h
   behind_parts (Grown t f) k place i [] lt h = absurd h
   behind_parts (Grown t f) k place i (x ∷ xs) lt h =
       let at = at_behind k place i lt in
       ⊎_elim
-      (λ w. (
-        subst (λ j. IsChosenOfKind g j x t) (sym at) w.0,
-        behind_parts f k place (i + 1) xs (omega (arith, lt)) (subst (λ j. AreChosenOfKind g j xs f) (behind_twice k).1 w.1),
+      (λ v. (
+        subst (λ j. IsChosenOfKind w g j x t) (sym at) v.0,
+        behind_parts f k place (i + 1) xs (omega (arith, lt)) (subst (λ j. AreChosenOfKind w g j xs f) (behind_twice k).1 v.1),
       ))
-      (λ w. (
-        subst (λ j. IsChosenOfKind g j x t) (sym at) (subst (λ j. IsChosenOfKind g j x t) (behind_twice k).0 w.0),
-        behind_parts f k place (i + 1) xs (omega (arith, lt)) w.1,
+      (λ v. (
+        subst (λ j. IsChosenOfKind w g j x t) (sym at) (subst (λ j. IsChosenOfKind w g j x t) (behind_twice k).0 v.0),
+        behind_parts f k place (i + 1) xs (omega (arith, lt)) v.1,
       ))
       h
 
-  module _ (limit : ℕ) (k : Kind) (x : Symbol) (ys : List Symbol) (i : ℕ) (here later : Cost) (is_here : IsCost limit (AreHere g k x ys) joint_size here) (is_later : IsCost limit (AreLater g k x ys) joint_size later) where
+  module _ (k : Kind) (x : Symbol) (ys : List Symbol) (i : ℕ) (here later : Cost) (is_here : IsCost w.limit (AreHere g k x ys) (joint_size w) here) (is_later : IsCost w.limit (AreLater g k x ys) (joint_size w) later) where
     -- the first tree of the chosen ones is of the kind itself where that costs no more
-    pub placed_here : rank limit here ≤ rank limit later → (f : Forest) → AreChosenOfKind g k (x ∷ ys) f → sizes f ≤ limit → AreChosenParts g (parts_from k i i (x ∷ ys)) f
+    pub placed_here : rank w.limit here ≤ rank w.limit later → (f : Forest) → AreChosenOfKind w g k (x ∷ ys) f → sizes w f ≤ w.limit → AreChosenParts w g (parts_from k i i (x ∷ ys)) f
     placed_here cheap Bare h small = absurd h
     placed_here cheap (Grown t f) h small =
         ⊎_elim
-        (λ w. (subst (λ j. IsChosenOfKind g j x t) (sym (at_own k i)) w.0, behind_parts f k i (i + 1) ys (omega arith) w.1))
-        (λ w.
-        let there : AreLater g k x ys (t, f) = (IsTree-of_kind g t (before k) x w.0, AreTrees-of_kind g f k ys w.1) in
-        let low = cost_low limit (AreLater g k x ys) joint_size later is_later (t, f) there in
-        let p = cost_least limit (AreHere g k x ys) joint_size here is_here (omega (arith, cheap, low, small)) in
-        absurd (omega (arith, w.2 p.0 p.1, p.2, cheap, low, small)))
+        (λ v. (subst (λ j. IsChosenOfKind w g j x t) (sym (at_own k i)) v.0, behind_parts f k i (i + 1) ys (omega arith) v.1))
+        (λ v.
+        let there : AreLater g k x ys (t, f) = (IsTree-of_kind w g t (before k) x v.0, AreTrees-of_kind w g f k ys v.1) in
+        let low = cost_low w.limit (AreLater g k x ys) (joint_size w) later is_later (t, f) there in
+        let p = cost_least w.limit (AreHere g k x ys) (joint_size w) here is_here (omega (arith, cheap, low, small)) in
+        absurd (omega (arith, v.2 p.0 p.1, p.2, cheap, low, small)))
         h
 
     -- and else the others are
-    pub placed_later : (place : ℕ) → i < place → rank limit later < rank limit here → ((f : Forest) → AreChosenOfKind g k ys f → sizes f ≤ limit → AreChosenParts g (parts_from k place (i + 1) ys) f) → (f : Forest) → AreChosenOfKind g k (x ∷ ys) f → sizes f ≤ limit → AreChosenParts g (parts_from k place i (x ∷ ys)) f
+    pub placed_later : (place : ℕ) → i < place → rank w.limit later < rank w.limit here → ((f : Forest) → AreChosenOfKind w g k ys f → sizes w f ≤ w.limit → AreChosenParts w g (parts_from k place (i + 1) ys) f) → (f : Forest) → AreChosenOfKind w g k (x ∷ ys) f → sizes w f ≤ w.limit → AreChosenParts w g (parts_from k place i (x ∷ ys)) f
     placed_later place lt cheap so_far Bare h small = absurd h
     placed_later place lt cheap so_far (Grown t f) h small =
         ⊎_elim
-        (λ w.
-        let there : AreHere g k x ys (t, f) = (IsTree-of_kind g t k x w.0, AreTrees-of_kind g f (behind k) ys w.1) in
-        let low = cost_low limit (AreHere g k x ys) joint_size here is_here (t, f) there in
-        let p = cost_least limit (AreLater g k x ys) joint_size later is_later (omega (arith, cheap, low, small)) in
-        absurd (omega (arith, w.2 p.0 p.1, p.2, cheap, low, small)))
-        (λ w. (subst (λ j. IsChosenOfKind g j x t) (sym (at_before k place i lt)) w.0, so_far f w.1 (omega (arith, small))))
+        (λ v.
+        let there : AreHere g k x ys (t, f) = (IsTree-of_kind w g t k x v.0, AreTrees-of_kind w g f (behind k) ys v.1) in
+        let low = cost_low w.limit (AreHere g k x ys) (joint_size w) here is_here (t, f) there in
+        let p = cost_least w.limit (AreLater g k x ys) (joint_size w) later is_later (omega (arith, cheap, low, small)) in
+        absurd (omega (arith, v.2 p.0 p.1, p.2, cheap, low, small)))
+        (λ v. (subst (λ j. IsChosenOfKind w g j x t) (sym (at_before k place i lt)) v.0, so_far f v.1 (omega (arith, small))))
         h
 
   -- the parts are of the grammar
@@ -111,34 +112,34 @@ module _ (g : PlainGrammar) where
           cases false false = IsKind-behind g.tokens k fits
 
   -- parts one after another
-  pub AreChosenParts-join : (f h : Forest) (ps qs : List Part) → AreChosenParts g ps f → AreChosenParts g qs h → AreChosenParts g (ps ++ qs) (join f h)
+  pub AreChosenParts-join : (f h : Forest) (ps qs : List Part) → AreChosenParts w g ps f → AreChosenParts w g qs h → AreChosenParts w g (ps ++ qs) (join f h)
   AreChosenParts-join Bare h [] qs hf hh = hh
   AreChosenParts-join Bare h (p ∷ ps) qs hf hh = absurd hf
   AreChosenParts-join (Grown t f) h [] qs hf hh = absurd hf
   AreChosenParts-join (Grown t f) h (p ∷ ps) qs hf hh = (hf.0, AreChosenParts-join f h ps qs hf.1 hh)
 
 -- in the names of the code
-module _ (limit : ℕ) (g : PlainGrammar) (k j : Kind) (xs : List Symbol) (i next : ℕ) (d : Symbol) (place : ℕ) (here later : Cost) (is_next : i + 1 ≡ next) (within : i < length xs) (is_kind : j ≡ k) (is_here : IsCost limit (AreHere g j (get_or xs i d) (drop next xs)) joint_size here) (is_later : IsCost limit (AreLater g j (get_or xs i d) (drop next xs)) joint_size later) where
+module _ (w : Measure) (g : PlainGrammar) (k j : Kind) (xs : List Symbol) (i next : ℕ) (d : Symbol) (place : ℕ) (here later : Cost) (is_next : i + 1 ≡ next) (within : i < length xs) (is_kind : j ≡ k) (is_here : IsCost w.limit (AreHere g j (get_or xs i d) (drop next xs)) (joint_size w) here) (is_later : IsCost w.limit (AreLater g j (get_or xs i d) (drop next xs)) (joint_size w) later) where
   front : drop i xs ≡ get_or xs i d ∷ drop next xs
   front = sym (left_from xs i next d is_next within)
 
-  pub place_taken : rank limit here ≤ rank limit later → (f : Forest) → AreChosenOfKind g k (drop i xs) f → sizes f ≤ limit → AreChosenParts g (parts_from k i i (drop i xs)) f
+  pub place_taken : rank w.limit here ≤ rank w.limit later → (f : Forest) → AreChosenOfKind w g k (drop i xs) f → sizes w f ≤ w.limit → AreChosenParts w g (parts_from k i i (drop i xs)) f
   place_taken cheap =
-      let is_here' = subst (λ m. IsCost limit (AreHere g m (get_or xs i d) (drop next xs)) joint_size here) is_kind is_here in
-      let is_later' = subst (λ m. IsCost limit (AreLater g m (get_or xs i d) (drop next xs)) joint_size later) is_kind is_later in
-      subst (λ (l : List Symbol). (f : Forest) → AreChosenOfKind g k l f → sizes f ≤ limit → AreChosenParts g (parts_from k i i l) f) (sym front)
-      (placed_here g limit k (get_or xs i d) (drop next xs) i here later is_here' is_later' cheap)
+      let is_here' = subst (λ m. IsCost w.limit (AreHere g m (get_or xs i d) (drop next xs)) (joint_size w) here) is_kind is_here in
+      let is_later' = subst (λ m. IsCost w.limit (AreLater g m (get_or xs i d) (drop next xs)) (joint_size w) later) is_kind is_later in
+      subst (λ (l : List Symbol). (f : Forest) → AreChosenOfKind w g k l f → sizes w f ≤ w.limit → AreChosenParts w g (parts_from k i i l) f) (sym front)
+      (placed_here w g k (get_or xs i d) (drop next xs) i here later is_here' is_later' cheap)
 
-  pub place_passed : next ≤ place → rank limit later < rank limit here → ((f : Forest) → AreChosenOfKind g k (drop next xs) f → sizes f ≤ limit → AreChosenParts g (parts_from k place next (drop next xs)) f) → (f : Forest) → AreChosenOfKind g k (drop i xs) f → sizes f ≤ limit → AreChosenParts g (parts_from k place i (drop i xs)) f
+  pub place_passed : next ≤ place → rank w.limit later < rank w.limit here → ((f : Forest) → AreChosenOfKind w g k (drop next xs) f → sizes w f ≤ w.limit → AreChosenParts w g (parts_from k place next (drop next xs)) f) → (f : Forest) → AreChosenOfKind w g k (drop i xs) f → sizes w f ≤ w.limit → AreChosenParts w g (parts_from k place i (drop i xs)) f
   place_passed above cheap so_far =
-      let is_here' = subst (λ m. IsCost limit (AreHere g m (get_or xs i d) (drop next xs)) joint_size here) is_kind is_here in
-      let is_later' = subst (λ m. IsCost limit (AreLater g m (get_or xs i d) (drop next xs)) joint_size later) is_kind is_later in
-      let so_far' = subst (λ n. (f : Forest) → AreChosenOfKind g k (drop next xs) f → sizes f ≤ limit → AreChosenParts g (parts_from k place n (drop next xs)) f) (sym is_next) so_far in
-      subst (λ (l : List Symbol). (f : Forest) → AreChosenOfKind g k l f → sizes f ≤ limit → AreChosenParts g (parts_from k place i l) f) (sym front)
-      (placed_later g limit k (get_or xs i d) (drop next xs) i here later is_here' is_later' place (omega (arith, above, is_next)) cheap so_far')
+      let is_here' = subst (λ m. IsCost w.limit (AreHere g m (get_or xs i d) (drop next xs)) (joint_size w) here) is_kind is_here in
+      let is_later' = subst (λ m. IsCost w.limit (AreLater g m (get_or xs i d) (drop next xs)) (joint_size w) later) is_kind is_later in
+      let so_far' = subst (λ n. (f : Forest) → AreChosenOfKind w g k (drop next xs) f → sizes w f ≤ w.limit → AreChosenParts w g (parts_from k place n (drop next xs)) f) (sym is_next) so_far in
+      subst (λ (l : List Symbol). (f : Forest) → AreChosenOfKind w g k l f → sizes w f ≤ w.limit → AreChosenParts w g (parts_from k place i l) f) (sym front)
+      (placed_later w g k (get_or xs i d) (drop next xs) i here later is_here' is_later' place (omega (arith, above, is_next)) cheap so_far')
 
 -- no symbol is swept
-pub place_none : (g : PlainGrammar) (k : Kind) (place i : ℕ) (ys : List Symbol) → ys ≡ [] → (f : Forest) → AreChosenOfKind g k ys f → sizes f ≤ LIMIT → AreChosenParts g (parts_from k place i ys) f
-place_none g k place i [] e Bare h small = tt
-place_none g k place i [] e (Grown t f) h small = absurd h
-place_none g k place i (y ∷ ys) e f h small = absurd cc
+pub place_none : (w : Measure) (g : PlainGrammar) (k : Kind) (place i : ℕ) (ys : List Symbol) → ys ≡ [] → (f : Forest) → AreChosenOfKind w g k ys f → sizes w f ≤ w.limit → AreChosenParts w g (parts_from k place i ys) f
+place_none w g k place i [] e Bare h small = tt
+place_none w g k place i [] e (Grown t f) h small = absurd h
+place_none w g k place i (y ∷ ys) e f h small = absurd cc

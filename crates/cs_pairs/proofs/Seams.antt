@@ -4,6 +4,7 @@ use Rattle.std.proofs.Common.{◌≡◌, ℕ, ◌+◌, ◌⊎◌, List, [], ◌�
 use Rattle.cs_grammar.specs.declared.symbol.Symbol.{Symbol}
 use Rattle.cs_grammar.specs.declared.symbol.Symbol.TheVariants.{Nonterminal}
 use Rattle.cs_grammar.specs.Grammar.{Production, PlainGrammar, IsRule}
+use Rattle.cs_grammar.specs.Weights.{Measure}
 use Rattle.cs_grammar.specs.Tree.{Tree, Leaf, Node, Forest, Bare, Grown, IsTree, AreTrees, size, sizes, yield, yields}
 use Rattle.cs_grammar.specs.Context.{Context, Hole, Under, IsContext, context_size, join, plug}
 use Rattle.cs_grammar.specs.Sentence.{IsFollowed}
@@ -32,44 +33,44 @@ joined_neighbours a b (x ∷ u) v (z ∷ xs) ys e =
     (joined_neighbours a b u v xs ys others)
 
 -- a tree as a seam of n nodes
-pub record Cut (g : PlainGrammar) (a b n : ℕ) : Type 0 where
+pub record Cut (w : Measure) (g : PlainGrammar) (a b n : ℕ) : Type 0 where
   pub symbol : Symbol
   pub seam : Context × Tree
   pub is_seam : IsSeam g a b symbol seam
-  pub measure : seam_size seam ≡ n
+  pub measure : seam_size w seam ≡ n
 
-module _ (g : PlainGrammar) (a b : ℕ) where
+module _ (w : Measure) (g : PlainGrammar) (a b : ℕ) where
   mutual
-    cut_in : (t : Tree) (x : Symbol) (c : Context) → IsTree g x t → IsContext g x c → IsFollowed a b (yield t) → Cut g a b (context_size c + size t)
+    cut_in : (t : Tree) (x : Symbol) (c : Context) → IsTree g x t → IsContext g x c → IsFollowed a b (yield t) → Cut w g a b (context_size w c + size w t)
     cut_in (Leaf s) x c ht hc ([], ys, e) = absurd cc
     cut_in (Leaf s) x c ht hc (y ∷ [], ys, e) = absurd cc
     cut_in (Leaf s) x c ht hc (y ∷ z ∷ xs, ys, e) = absurd cc
     cut_in (Node q f) x c ht hc h =
         let around = subst (λ y. IsContext g y c) ht.2 hc in
-        let same : context_size c + (1 + (sizes Bare + sizes f)) ≡ context_size c + (1 + sizes f) = omega arith in
-        subst (Cut g a b) same (cut_among f ht.0.right c q ht.0 [] Bare ht.1 refl tt ht.3 around h)
+        let same : context_size w c + (1 + (sizes w Bare + sizes w f)) ≡ context_size w c + (1 + sizes w f) = omega arith in
+        subst (Cut w g a b) same (cut_among f ht.0.right c q ht.0 [] Bare ht.1 refl tt ht.3 around h)
 
-    cut_among : (f : Forest) (ys : List Symbol) (c : Context) (q : ℕ) (p : Production) (xs : List Symbol) (left : Forest) → IsRule g q p → p.right ≡ xs ++ ys → AreTrees g xs left → AreTrees g ys f → IsContext g (Nonterminal p.left) c → IsFollowed a b (yields f) → Cut g a b (context_size c + (1 + (sizes left + sizes f)))
+    cut_among : (f : Forest) (ys : List Symbol) (c : Context) (q : ℕ) (p : Production) (xs : List Symbol) (left : Forest) → IsRule g q p → p.right ≡ xs ++ ys → AreTrees g xs left → AreTrees g ys f → IsContext g (Nonterminal p.left) c → IsFollowed a b (yields f) → Cut w g a b (context_size w c + (1 + (sizes w left + sizes w f)))
     cut_among Bare ys c q p xs left rule e hl hf hc ([], rest, e') = absurd cc
     cut_among Bare ys c q p xs left rule e hl hf hc (y ∷ before, rest, e') = absurd cc
     cut_among (Grown t f) [] c q p xs left rule e hl hf hc h = absurd hf
     cut_among (Grown t f) (y ∷ ys) c q p xs left rule e hl hf hc h =
         let at : IsContext g y (Under c q left f) = (p, xs, ys, rule, e, hl, hf.1, hc) in
-        let same : context_size (Under c q left f) + size t ≡ context_size c + (1 + (sizes left + sizes (Grown t f))) = omega arith in
+        let same : context_size w (Under c q left f) + size w t ≡ context_size w c + (1 + (sizes w left + sizes w (Grown t f))) = omega arith in
         ⊎_elim
-        (λ inside. subst (Cut g a b) same (cut_in t y (Under c q left f) hf.0 at inside))
+        (λ inside. subst (Cut w g a b) same (cut_in t y (Under c q left f) hf.0 at inside))
         (λ not_inside. ⊎_elim
         (λ seam. record { symbol = y; seam = (Under c q left f, t); is_seam = ((at, seam.1), (hf.0, seam.0)); measure = same })
         (λ later.
         let before = join left (Grown t Bare) in
         let are = AreTrees-join g left (Grown t Bare) xs (y ∷ []) hl (hf.0, tt) in
-        let same' : context_size c + (1 + (sizes before + sizes f)) ≡ context_size c + (1 + (sizes left + sizes (Grown t f))) = omega (arith, sizes-join left (Grown t Bare)) in
-        subst (Cut g a b) same' (cut_among f ys c q p (xs ++ y ∷ []) before rule (e ∙ sym (append_assoc xs (y ∷ []) ys)) are hf.1 hc later))
+        let same' : context_size w c + (1 + (sizes w before + sizes w f)) ≡ context_size w c + (1 + (sizes w left + sizes w (Grown t f))) = omega (arith, sizes-join w left (Grown t Bare)) in
+        subst (Cut w g a b) same' (cut_among f ys c q p (xs ++ y ∷ []) before rule (e ∙ sym (append_assoc xs (y ∷ []) ys)) are hf.1 hc later))
         not_inside)
         (joined_neighbours a b (yield t) (yields f) h.0 h.1 h.2)
 
-  pub cut : (t : Tree) → IsTree g (Nonterminal g.start) t → IsFollowed a b (yield t) → Cut g a b (size t)
-  cut t ht h = let same : 0 + size t ≡ size t = omega arith in subst (Cut g a b) same (cut_in t (Nonterminal g.start) Hole ht refl h)
+  pub cut : (t : Tree) → IsTree g (Nonterminal g.start) t → IsFollowed a b (yield t) → Cut w g a b (size w t)
+  cut t ht h = let same : 0 + size w t ≡ size w t = omega arith in subst (Cut w g a b) same (cut_in t (Nonterminal g.start) Hole ht refl h)
 
 -- and back
 followed_later : (a b : ℕ) (u v : List ℕ) → IsFollowed a b v → IsFollowed a b (u ++ v)
@@ -97,12 +98,12 @@ seam_followed a b (Under outer q left right) t hc ht =
     (followed_later a b (yields left) (yield t ++ yields right) (followed_seam a b (yield t) (yields right) ht hc)))
 
 -- the tree of a seam
-module _ (g : PlainGrammar) (a b : ℕ) (x : Symbol) (s : Context × Tree) (is : IsSeam g a b x s) where
+module _ (w : Measure) (g : PlainGrammar) (a b : ℕ) (x : Symbol) (s : Context × Tree) (is : IsSeam g a b x s) where
   pub IsTree-seam : IsTree g (Nonterminal g.start) (plug s.0 s.1)
   IsTree-seam = IsTree-plug g s.0 x s.1 is.0.0 is.1.0
 
   pub followed_in_seam : IsFollowed a b (yield (plug s.0 s.1))
   followed_in_seam = seam_followed a b s.0 s.1 is.0.1 is.1.1
 
-  pub size-seam : size (plug s.0 s.1) ≡ seam_size s
-  size-seam = size-plug s.0 s.1
+  pub size-seam : size w (plug s.0 s.1) ≡ seam_size w s
+  size-seam = size-plug w s.0 s.1

@@ -3,6 +3,7 @@ use Rattle.std.specs.Prelude.{◌≡◌, ℕ, ◌+◌, ◌≤◌, List, ◌∷�
 use Rattle.cs_grammar.specs.declared.symbol.Symbol.{Symbol}
 use Rattle.cs_grammar.specs.declared.symbol.Symbol.TheVariants.{Token, Nonterminal}
 use Rattle.cs_grammar.specs.Grammar.{Production, PlainGrammar, IsRule, IsSymbol}
+use Rattle.cs_grammar.specs.Weights.{Measure}
 use Rattle.cs_grammar.specs.Tree.{Tree, Forest, AreTrees, size, sizes, yields}
 use Rattle.cs_grammar.specs.Context.{Context, Hole, Under, IsContext, context_size}
 use Rattle.cs_cost.specs.declared.cost.Cost.{Cost}
@@ -24,8 +25,8 @@ IsContextBeside g b x c = IsContext g x c × IsBeside b c
 abbrev pub IsSeam : PlainGrammar → ℕ → ℕ → Symbol → Context × Tree → Type 0
 IsSeam g a b x s = IsContextBeside g b x s.0 × IsTreeOfKind g (Ends a) x s.1
 
-abbrev pub seam_size : Context × Tree → ℕ
-seam_size s = context_size s.0 + size s.1
+abbrev pub seam_size : Measure → Context × Tree → ℕ
+seam_size w s = context_size w s.0 + size w s.1
 
 -- symbols numbered in one: the tokens, then the nonterminals
 abbrev pub number_of : ℕ → Symbol → ℕ
@@ -42,19 +43,19 @@ abbrev pub IsSeamTo : PlainGrammar → ℕ → ℕ → ℕ → Context × Tree �
 IsSeamTo g a b m s = (x : Symbol) × (number_of g.tokens x ≤ m) × IsSeam g a b x s
 
 -- while a row of contexts beside b is made: each cost in it is one of a context
-pub record IsSoundBeside (limit : ℕ) (g : PlainGrammar) (b : ℕ) (row : List Cost) : Type 0 where
+pub record IsSoundBeside (w : Measure) (g : PlainGrammar) (b : ℕ) (row : List Cost) : Type 0 where
   pub many : length row ≡ g.tokens + g.nonterminals
-  pub holds : Holds limit (IsNumbered g b) context_size row
+  pub holds : Holds w.limit (IsNumbered g b) (context_size w) row
 
 -- no hole at a place of the rule, at least this one, makes a symbol cost less
-abbrev pub IsBelowPlaces : ℕ → PlainGrammar → ℕ → List Cost → Production → ℕ → Type 0
-IsBelowPlaces limit g b row p i =
+abbrev pub IsBelowPlaces : Measure → PlainGrammar → ℕ → List Cost → Production → ℕ → Type 0
+IsBelowPlaces w g b row p i =
     (xs : List Symbol) (x : Symbol) (ys : List Symbol) (outer : Context) (left right : Forest) → i ≤ length xs
     → p.right ≡ xs ++ x ∷ ys → AreTrees g xs left → AreTrees g ys right → IsContext g (Nonterminal p.left) outer
     → IsOfKind (Begins b) (yields right)
-    → rank limit (entry row (number_of g.tokens x)) ≤ capped limit (context_size outer + (1 + (sizes left + sizes right)))
+    → rank w.limit (entry row (number_of g.tokens x)) ≤ capped w.limit (context_size w outer + (1 + (sizes w left + sizes w right)))
 
 -- the row says what the least context beside b of each symbol costs
-pub record IsExactBeside (limit : ℕ) (g : PlainGrammar) (b : ℕ) (row : List Cost) : Type 0 where
-  pub sound : IsSoundBeside limit g b row
-  pub below : (r : ℕ) (p : Production) → IsRule g r p → IsBelowPlaces limit g b row p 0
+pub record IsExactBeside (w : Measure) (g : PlainGrammar) (b : ℕ) (row : List Cost) : Type 0 where
+  pub sound : IsSoundBeside w g b row
+  pub below : (r : ℕ) (p : Production) → IsRule g r p → IsBelowPlaces w g b row p 0

@@ -3,6 +3,7 @@ use Rattle.std.specs.Prelude.{◌≡◌, ℕ, ◌+◌, ◌-◌, List, length, ta
 use Rattle.cs_grammar.specs.declared.symbol.Symbol.{Symbol}
 use Rattle.cs_grammar.specs.declared.symbol.Symbol.TheVariants.{Nonterminal}
 use Rattle.cs_grammar.specs.Grammar.{Production, PlainGrammar, IsRule}
+use Rattle.cs_grammar.specs.Weights.{Measure}
 use Rattle.cs_grammar.specs.Tree.{Forest, AreTrees, sizes}
 use Rattle.cs_grammar.specs.Context.{Context, IsContext, context_size}
 use Rattle.cs_cost.specs.declared.cost.Cost.{Cost}
@@ -14,18 +15,18 @@ abbrev pub AreFront : PlainGrammar → ℕ → List Symbol → Context × Forest
 AreFront g left xs p = IsContext g (Nonterminal left) p.0 × AreTrees g xs p.1
 
 -- the rule's node is counted with them
-abbrev pub front_size : Context × Forest → ℕ
-front_size p = 1 + (context_size p.0 + sizes p.1)
+abbrev pub front_size : Measure → Context × Forest → ℕ
+front_size w p = 1 + (context_size w p.0 + sizes w p.1)
 
 -- what stands before each place of the rule costs; the first place has number 1
-abbrev pub AreFronts : ℕ → PlainGrammar → Production → List Cost → Type 0
-AreFronts limit g p row = IsFilled limit (λ n. AreFront g p.left (take (n - 1) p.right)) front_size (length p.right) row
+abbrev pub AreFronts : Measure → PlainGrammar → Production → List Cost → Type 0
+AreFronts w g p row = IsFilled w.limit (λ n. AreFront g p.left (take (n - 1) p.right)) (front_size w) (length p.right) row
 
 -- such a row for the rule of this number
-abbrev pub AreFrontsOf : ℕ → PlainGrammar → ℕ → List Cost → Type 0
-AreFrontsOf limit g r row = (p : Production) → IsRule g r p → AreFronts limit g p row
+abbrev pub AreFrontsOf : Measure → PlainGrammar → ℕ → List Cost → Type 0
+AreFrontsOf w g r row = (p : Production) → IsRule g r p → AreFronts w g p row
 
 -- such a row for each rule
-pub record AreRuleFronts (limit : ℕ) (g : PlainGrammar) (rows : List (List Cost)) : Type 0 where
+pub record AreRuleFronts (w : Measure) (g : PlainGrammar) (rows : List (List Cost)) : Type 0 where
   pub many : length rows ≡ length g.rules
-  pub each : (r : ℕ) (p : Production) → IsRule g r p → AreFronts limit g p (row_in rows r)
+  pub each : (r : ℕ) (p : Production) → IsRule g r p → AreFronts w g p (row_in rows r)

@@ -2,6 +2,7 @@ pub mod Kinds
 pub mod Ways
 pub mod ListCost
 pub mod Rows
+pub mod RowsOf
 pub mod Filled
 pub mod Tables
 pub mod Sweep

@@ -1,6 +1,7 @@
 -- What lists of trees of a kind cost, by what single trees cost.
 use Rattle.std.specs.Prelude.{ℕ, List, [], ◌∷◌, nat_eq, nat_le, if◌then◌else◌}
 use Rattle.cs_grammar.specs.declared.symbol.Symbol.{Symbol}
+use Rattle.cs_grammar.specs.Weights.{Measure, number}
 use Rattle.cs_cost.specs.declared.cost.Cost.{Cost}
 use Rattle.cs_cost.specs.declared.cost.Cost.TheVariants.{Never, Least}
 use Rattle.cs_cost.specs.Rank.{rank, plus, cost_of}
@@ -13,11 +14,11 @@ abbrev pub lesser : ℕ → Cost → Cost → Cost
 lesser limit a b = if nat_le (rank limit a) (rank limit b) then a else b
 
 -- a leaf with token t
-abbrev pub leaf_cost : ℕ → Kind → ℕ → Cost
-leaf_cost limit Any t = cost_of limit 1
-leaf_cost limit Empty t = Never
-leaf_cost limit (Begins b) t = if nat_eq t b then cost_of limit 1 else Never
-leaf_cost limit (Ends a) t = if nat_eq t a then cost_of limit 1 else Never
+abbrev pub leaf_cost : Measure → Kind → ℕ → Cost
+leaf_cost w Any t = cost_of w.limit (number w t)
+leaf_cost w Empty t = Never
+leaf_cost w (Begins b) t = if nat_eq t b then cost_of w.limit (number w t) else Never
+leaf_cost w (Ends a) t = if nat_eq t a then cost_of w.limit (number w t) else Never
 
 -- no tree at all
 abbrev pub bare_cost : Kind → Cost

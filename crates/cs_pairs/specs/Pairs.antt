@@ -5,6 +5,7 @@ use Rattle.cs_grammar.specs.declared.symbol.Mark.{Mark}
 use Rattle.cs_grammar.specs.declared.symbol.Mark.TheVariants.{Token}
 use Rattle.cs_grammar.specs.declared.symbol.Symbol.TheVariants.{Nonterminal}
 use Rattle.cs_grammar.specs.Grammar.{PlainGrammar, IsNumberOf}
+use Rattle.cs_grammar.specs.Weights.{Measure}
 use Rattle.cs_grammar.specs.Tree.{Tree, IsTree, size}
 use Rattle.cs_grammar.specs.Sentence.{IsSentence, framed, IsFollowed}
 use Rattle.cs_cost.specs.declared.cost.Cost.{Cost}
@@ -22,10 +23,10 @@ abbrev pub HasPair : PlainGrammar → Mark → Mark → Tree → Type 0
 HasPair g a b t = IsTree g (Nonterminal g.start) t × Meets (Pair a b) t
 
 -- a row that says what the pairs cost whose second token is b
-abbrev pub ArePairs : ℕ → PlainGrammar → ℕ → List Cost → Type 0
-ArePairs limit g b row = IsFilled limit (λ a. HasPair g (Token a) (Token b)) size g.tokens row
+abbrev pub ArePairs : Measure → PlainGrammar → ℕ → List Cost → Type 0
+ArePairs w g b row = IsFilled w.limit (λ a. HasPair g (Token a) (Token b)) (size w) g.tokens row
 
 -- such rows for the first so many tokens
-pub record ArePairRows (limit : ℕ) (g : PlainGrammar) (count : ℕ) (rows : List (List Cost)) : Type 0 where
+pub record ArePairRows (w : Measure) (g : PlainGrammar) (count : ℕ) (rows : List (List Cost)) : Type 0 where
   pub many : length rows ≡ count
-  pub each : (b : ℕ) → IsNumberOf count b → ArePairs limit g b (row_in rows b)
+  pub each : (b : ℕ) → IsNumberOf count b → ArePairs w g b (row_in rows b)

@@ -3,6 +3,7 @@ use Rattle.std.specs.Prelude.{◌≡◌, ℕ, ◌≤◌, List, length, All}
 use Rattle.cs_grammar.specs.declared.symbol.Symbol.{Symbol}
 use Rattle.cs_grammar.specs.declared.symbol.Symbol.TheVariants.{Token, Nonterminal}
 use Rattle.cs_grammar.specs.Grammar.{Production, PlainGrammar, IsRule}
+use Rattle.cs_grammar.specs.Weights.{Measure}
 use Rattle.cs_grammar.specs.Tree.{size}
 use Rattle.cs_cost.specs.declared.cost.Cost.{Cost}
 use Rattle.cs_cost.specs.Rank.{rank, IsCapped, entry}
@@ -30,37 +31,37 @@ row_for (Ends a) any empty own (Begins c) = own
 row_for (Ends a) any empty own (Ends c) = own
 
 -- what a row of a kind says of a symbol
-abbrev pub said : ℕ → Kind → List Cost → Symbol → Cost
-said limit k row (Token t) = leaf_cost limit k t
-said limit k row (Nonterminal n) = entry row n
+abbrev pub said : Measure → Kind → List Cost → Symbol → Cost
+said w k row (Token t) = leaf_cost w k t
+said w k row (Nonterminal n) = entry row n
 
 -- what the three rows say of a kind and a symbol
-abbrev pub says : ℕ → Kind → (any empty own : List Cost) → Kind → Symbol → Cost
-says limit made any empty own k x = said limit k (row_for made any empty own k) x
+abbrev pub says : Measure → Kind → (any empty own : List Cost) → Kind → Symbol → Cost
+says w made any empty own k x = said w k (row_for made any empty own k) x
 
 -- each cost in the row is one of a tree of the kind
-pub record IsSoundRow (limit : ℕ) (g : PlainGrammar) (k : Kind) (row : List Cost) : Type 0 where
+pub record IsSoundRow (w : Measure) (g : PlainGrammar) (k : Kind) (row : List Cost) : Type 0 where
   pub many : length row ≡ g.nonterminals
-  pub holds : Holds limit (λ n. IsTreeOfKind g k (Nonterminal n)) size row
+  pub holds : Holds w.limit (λ n. IsTreeOfKind g k (Nonterminal n)) (size w) row
 
 -- the rule makes its left side cost no less
-abbrev pub IsBelowNode : ℕ → Kind → (any empty own : List Cost) → Production → Type 0
-IsBelowNode limit k any empty own p =
-    rank limit (entry own p.left) ≤ rank limit (node_cost limit (says limit k any empty own) k p.right)
+abbrev pub IsBelowNode : Measure → Kind → (any empty own : List Cost) → Production → Type 0
+IsBelowNode w k any empty own p =
+    rank w.limit (entry own p.left) ≤ rank w.limit (node_cost w.limit (says w k any empty own) k p.right)
 
 -- no rule makes a nonterminal cost less
-pub record IsClosedRow (limit : ℕ) (g : PlainGrammar) (k : Kind) (any empty own : List Cost) : Type 0 where
-  pub below : (r : ℕ) (p : Production) → IsRule g r p → IsBelowNode limit k any empty own p
+pub record IsClosedRow (w : Measure) (g : PlainGrammar) (k : Kind) (any empty own : List Cost) : Type 0 where
+  pub below : (r : ℕ) (p : Production) → IsRule g r p → IsBelowNode w k any empty own p
 
 -- both
-pub record IsExactRow (limit : ℕ) (g : PlainGrammar) (k : Kind) (any empty own : List Cost) : Type 0 where
-  pub sound : IsSoundRow limit g k own
-  pub closed : IsClosedRow limit g k any empty own
+pub record IsExactRow (w : Measure) (g : PlainGrammar) (k : Kind) (any empty own : List Cost) : Type 0 where
+  pub sound : IsSoundRow w g k own
+  pub closed : IsClosedRow w g k any empty own
 
 -- three rows of one length, in which no size above the limit is written out
-pub record AreRows (limit : ℕ) (any empty own : List Cost) : Type 0 where
-  pub any_capped : All (IsCapped limit) any
-  pub empty_capped : All (IsCapped limit) empty
-  pub own_capped : All (IsCapped limit) own
+pub record AreRows (w : Measure) (any empty own : List Cost) : Type 0 where
+  pub any_capped : All (IsCapped w.limit) any
+  pub empty_capped : All (IsCapped w.limit) empty
+  pub own_capped : All (IsCapped w.limit) own
   pub like_any : length any ≡ length own
   pub like_empty : length empty ≡ length own

@@ -2,6 +2,7 @@
 use Rattle.std.specs.Prelude.{◌≡◌, ℕ, ◌<◌, ◌≤◌, Option, Some, None}
 use Rattle.cs_grammar.specs.declared.symbol.Symbol.{Symbol}
 use Rattle.cs_grammar.specs.Grammar.{PlainGrammar}
+use Rattle.cs_grammar.specs.Weights.{Measure}
 use Rattle.cs_grammar.specs.Tree.{Tree, Forest}
 use Rattle.cs_grammar.specs.Context.{Context, Under}
 use Rattle.cs_embed.specs.ChosenContext.{count}
@@ -17,21 +18,21 @@ pub record SeamAt (g : PlainGrammar) (a b r i : ℕ) : Type 0 where
   pub is_seam : IsSeam g a b symbol (Under outer r left right, last)
   pub placed : count left ≡ i
 
-abbrev pub size_at : (g : PlainGrammar) (a b r i : ℕ) → SeamAt g a b r i → ℕ
-size_at g a b r i s = seam_size (Under s.outer r s.left s.right, s.last)
+abbrev pub size_at : (w : Measure) (g : PlainGrammar) (a b r i : ℕ) → SeamAt g a b r i → ℕ
+size_at w g a b r i s = seam_size w (Under s.outer r s.left s.right, s.last)
 
 -- each seam at the places of the rule from i up to j has more than n nodes
-abbrev pub NoSeamTo : PlainGrammar → ℕ → ℕ → ℕ → ℕ → ℕ → ℕ → Type 0
-NoSeamTo g a b r n i j = (k : ℕ) → i ≤ k → k < j → (s : SeamAt g a b r k) → n < size_at g a b r k s
+abbrev pub NoSeamTo : Measure → PlainGrammar → ℕ → ℕ → ℕ → ℕ → ℕ → ℕ → Type 0
+NoSeamTo w g a b r n i j = (k : ℕ) → i ≤ k → k < j → (s : SeamAt g a b r k) → n < size_at w g a b r k s
 
 -- of the places of the rule from i on this is the lowest with a seam of at most n nodes, or there is none
-abbrev pub IsFoundIn : PlainGrammar → ℕ → ℕ → ℕ → ℕ → ℕ → Option ℕ → Type 0
-IsFoundIn g a b r n i None = (j : ℕ) → NoSeamTo g a b r n i j
-IsFoundIn g a b r n i (Some k) = NoSeamTo g a b r n i k × ((s : SeamAt g a b r k) × (size_at g a b r k s ≤ n))
+abbrev pub IsFoundIn : Measure → PlainGrammar → ℕ → ℕ → ℕ → ℕ → ℕ → Option ℕ → Type 0
+IsFoundIn w g a b r n i None = (j : ℕ) → NoSeamTo w g a b r n i j
+IsFoundIn w g a b r n i (Some k) = NoSeamTo w g a b r n i k × ((s : SeamAt g a b r k) × (size_at w g a b r k s ≤ n))
 
 -- rule r and its place k are the lowest with a seam of at most n nodes
-pub record IsMeetingAt (g : PlainGrammar) (a b n r k : ℕ) : Type 0 where
+pub record IsMeetingAt (w : Measure) (g : PlainGrammar) (a b n r k : ℕ) : Type 0 where
   pub seam : SeamAt g a b r k
-  pub small : size_at g a b r k seam ≤ n
-  pub earlier : (q j : ℕ) → q < r → NoSeamTo g a b q n 0 j
-  pub before : NoSeamTo g a b r n 0 k
+  pub small : size_at w g a b r k seam ≤ n
+  pub earlier : (q j : ℕ) → q < r → NoSeamTo w g a b q n 0 j
+  pub before : NoSeamTo w g a b r n 0 k

@@ -2,7 +2,8 @@
 use Rattle.std.specs.Prelude.{◌≡◌, ℕ, zero, suc, List, [], length, slice_index_or}
 use Rattle.cs_grammar.specs.declared.symbol.Symbol.{Symbol}
 use Rattle.cs_grammar.specs.declared.symbol.Symbol.TheVariants.{Nonterminal}
-use Rattle.cs_grammar.specs.Grammar.{PlainGrammar, IsNumberOf, IsGrammar}
+use Rattle.cs_grammar.specs.Grammar.{PlainGrammar, IsNumberOf}
+use Rattle.cs_grammar.specs.Weights.{Measure, Weighs}
 use Rattle.cs_grammar.specs.Tree.{size}
 use Rattle.cs_cost.specs.declared.cost.Cost.{Cost}
 use Rattle.cs_cost.specs.Least.{IsCost}
@@ -31,23 +32,23 @@ row_of t (Begins b) = row_in t.begins b
 row_of t (Ends a) = row_in t.ends a
 
 -- what the tables say of a kind and a symbol
-abbrev pub tell : ℕ → Tables → Kind → Symbol → Cost
-tell limit t k x = said limit k (row_of t k) x
+abbrev pub tell : Measure → Tables → Kind → Symbol → Cost
+tell w t k x = said w k (row_of t k) x
 
 -- rows of the first so many tokens
-pub record AreExactRows (limit : ℕ) (g : PlainGrammar) (kind : ℕ → Kind) (any empty : List Cost) (count : ℕ) (rows : List (List Cost)) : Type 0 where
+pub record AreExactRows (w : Measure) (g : PlainGrammar) (kind : ℕ → Kind) (any empty : List Cost) (count : ℕ) (rows : List (List Cost)) : Type 0 where
   pub many : length rows ≡ count
-  pub each : (n : ℕ) → IsNumberOf count n → IsExactRow limit g (kind n) any empty (row_in rows n)
+  pub each : (n : ℕ) → IsNumberOf count n → IsExactRow w g (kind n) any empty (row_in rows n)
 
 -- the tables of a grammar
-pub record AreExactTables (limit : ℕ) (g : PlainGrammar) (t : Tables) : Type 0 where
-  pub grammar : IsGrammar g
-  pub any_exact : IsExactRow limit g Any t.any t.empty t.any
-  pub empty_exact : IsExactRow limit g Empty t.any t.empty t.empty
-  pub begins_exact : AreExactRows limit g Begins t.any t.empty g.tokens t.begins
-  pub ends_exact : AreExactRows limit g Ends t.any t.empty g.tokens t.ends
+pub record AreExactTables (w : Measure) (g : PlainGrammar) (t : Tables) : Type 0 where
+  pub weighs : Weighs w g
+  pub any_exact : IsExactRow w g Any t.any t.empty t.any
+  pub empty_exact : IsExactRow w g Empty t.any t.empty t.empty
+  pub begins_exact : AreExactRows w g Begins t.any t.empty g.tokens t.begins
+  pub ends_exact : AreExactRows w g Ends t.any t.empty g.tokens t.ends
 
 -- a row that says what the least tree of each nonterminal costs that is of the kind
-pub record AreCosts (limit : ℕ) (g : PlainGrammar) (k : Kind) (row : List Cost) : Type 0 where
+pub record AreCosts (w : Measure) (g : PlainGrammar) (k : Kind) (row : List Cost) : Type 0 where
   pub many : length row ≡ g.nonterminals
-  pub exact : (n : ℕ) → IsCost limit (IsTreeOfKind g k (Nonterminal n)) size (entry row n)
+  pub exact : (n : ℕ) → IsCost w.limit (IsTreeOfKind g k (Nonterminal n)) (size w) (entry row n)

@@ -2,6 +2,7 @@
 use Rattle.std.specs.Prelude.{ℕ, ◌+◌, List}
 use Rattle.cs_grammar.specs.declared.symbol.Symbol.{Symbol}
 use Rattle.cs_grammar.specs.Grammar.{PlainGrammar}
+use Rattle.cs_grammar.specs.Weights.{Measure}
 use Rattle.cs_grammar.specs.Tree.{Tree, Forest, size, sizes}
 use Rattle.cs_pairs.specs.declared.kind.Kind.{Kind}
 use Rattle.cs_pairs.specs.Kinds.{IsTreeOfKind, AreTreesOfKind, before, behind}
@@ -14,5 +15,5 @@ AreHere g k x xs p = IsTreeOfKind g k x p.0 × AreTreesOfKind g (behind k) xs p.
 abbrev pub AreLater : PlainGrammar → Kind → Symbol → List Symbol → Tree × Forest → Type 0
 AreLater g k x xs p = IsTreeOfKind g (before k) x p.0 × AreTreesOfKind g k xs p.1
 
-abbrev pub joint_size : Tree × Forest → ℕ
-joint_size p = size p.0 + sizes p.1
+abbrev pub joint_size : Measure → Tree × Forest → ℕ
+joint_size w p = size w p.0 + sizes w p.1

@@ -12,8 +12,8 @@ use crate::kind::Kind;
 use crate::kinds::Kinds;
 use crate::row::Row;
 use crate::sweep::Sweep;
-use cs_cost::{Cost, lower, plus};
-use cs_grammar::{LIMIT, MOST_NONTERMINALS, MOST_TOKENS, Rule, Symbol};
+use cs_cost::Cost;
+use cs_grammar::{MOST_NONTERMINALS, MOST_TOKENS, Rule, Symbol};
 use std::alloc::{AllocError, Global};
 
 // The number of a symbol among all, tokens first.
@@ -30,13 +30,13 @@ fn number_of(tokens: u16, symbol: Symbol) -> u16
 
 // The hole at each place of a rule, in one sweep.
 fn beside_rule(kinds: &Kinds, token: u16, rule: &Rule, fronts: &[Cost], row: &mut [Cost])
-    requires token { IsNumberOf kinds.now.tokens token }
-    requires rule { IsSomeRule kinds.now rule.now }
-    requires fronts { AreFronts LIMIT kinds.now rule.now fronts.now }
-    requires row { IsSoundBeside LIMIT kinds.now token row.old }
-    ensures sound { IsSoundBeside LIMIT kinds.now token row.new }
-    ensures falls { (m : ℕ) → rank LIMIT (entry row.new m) ≤ rank LIMIT (entry row.old m) }
-    ensures below { IsBelowPlaces LIMIT kinds.now token row.new rule.now 0 }
+    requires token { IsNumberOf kinds.now.grammar.tokens token }
+    requires rule { IsSomeRule kinds.now.grammar rule.now }
+    requires fronts { AreFronts kinds.now.weights kinds.now.grammar rule.now fronts.now }
+    requires row { IsSoundBeside kinds.now.weights kinds.now.grammar token row.old }
+    ensures sound { IsSoundBeside kinds.now.weights kinds.now.grammar token row.new }
+    ensures falls { (m : ℕ) → rank kinds.now.weights.limit (entry row.new m) ≤ rank kinds.now.weights.limit (entry row.old m) }
+    ensures below { IsBelowPlaces kinds.now.weights kinds.now.grammar token row.new rule.now 0 }
 {
     let tokens = kinds.grammar().tokens();
     let _rules = kinds.grammar().rules();
@@ -44,18 +44,18 @@ fn beside_rule(kinds: &Kinds, token: u16, rule: &Rule, fronts: &[Cost], row: &mu
     let mut sweep = Sweep::new(Kind::Begins(token));
     for place in (0..right.len()).rev() {
         let symbol = right[place];
-        let cost = plus(fronts[place], sweep.whole);
-        let _lowered = lower(row, number_of(tokens, symbol), cost);
+        let cost = kinds.plus(fronts[place], sweep.whole);
+        let _lowered = kinds.lower(row, number_of(tokens, symbol), cost);
         sweep = sweep.over(kinds, symbol);
     }
 }
 
 // The holes of all rules.
 fn beside_rules(kinds: &Kinds, token: u16, fronts: &[Row], row: &mut [Cost])
-    requires token { IsNumberOf kinds.now.tokens token }
-    requires fronts { AreRuleFronts LIMIT kinds.now fronts.now }
-    requires row { IsSoundBeside LIMIT kinds.now token row.old }
-    ensures { IsExactBeside LIMIT kinds.now token row.new }
+    requires token { IsNumberOf kinds.now.grammar.tokens token }
+    requires fronts { AreRuleFronts kinds.now.weights kinds.now.grammar fronts.now }
+    requires row { IsSoundBeside kinds.now.weights kinds.now.grammar token row.old }
+    ensures { IsExactBeside kinds.now.weights kinds.now.grammar token row.new }
 {
     for (place, rule) in kinds.grammar().rules().iter().enumerate() {
         beside_rule(kinds, token, rule, fronts[place].costs(), row);
@@ -75,9 +75,9 @@ pub(crate) fn beside_row(
     fronts: &[Row],
     token: u16,
 ) -> Result<Beside, AllocError>
-    requires token { IsNumberOf kinds.now.tokens token }
-    requires fronts { AreRuleFronts LIMIT kinds.now fronts.now }
-    ensures { IfOk result (λ beside. (beside.token ≡ token) × IsExactBeside LIMIT kinds.now token beside.costs.items) }
+    requires token { IsNumberOf kinds.now.grammar.tokens token }
+    requires fronts { AreRuleFronts kinds.now.weights kinds.now.grammar fronts.now }
+    ensures { IfOk result (λ beside. (beside.token ≡ token) × IsExactBeside kinds.now.weights kinds.now.grammar token beside.costs.items) }
 {
     let grammar = kinds.grammar();
     let _rules = grammar.rules();

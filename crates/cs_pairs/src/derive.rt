@@ -3,7 +3,7 @@
 ghost use Rattle.std.specs.Prelude.{◌≡◌, ◌<◌, ◌+◌, IfOk, length, take, drop, slice_index_or};
 ghost use Rattle.cs_grammar.specs.declared.symbol.Symbol.{Symbol};
 ghost use Rattle.cs_grammar.specs.declared.symbol.Mark.{Mark};
-ghost use Rattle.cs_grammar.specs.Grammar.{IsNumberOf, IsSymbol};
+ghost use Rattle.cs_grammar.specs.Grammar.{IsNumberOf, IsSymbolOf};
 ghost use Rattle.cs_pairs.specs.Kinds.{IsKind};
 ghost use Rattle.cs_pairs.specs.ChosenPair.{IsCodeOfKind, IsCodeOfPair, IsChosenMeeting};
 ghost use Rattle.cs_pairs.specs.Parts.{HasSmallOfKind};
@@ -26,10 +26,10 @@ pub(crate) fn kind_code(
     symbol: Symbol,
 ) -> Result<Derivation, AllocError>
     requires costs { costs.now ≡ kinds.now }
-    requires kind { IsKind kinds.now.tokens kind }
-    requires symbol { IsSymbol kinds.now.tokens kinds.now.nonterminals symbol }
-    requires small { HasSmallOfKind kinds.now kind symbol }
-    ensures { IfOk result (IsCodeOfKind kinds.now kind symbol) }
+    requires kind { IsKind kinds.now.grammar.tokens kind }
+    requires symbol { IsSymbolOf kinds.now.grammar symbol }
+    requires small { HasSmallOfKind kinds.now.weights kinds.now.grammar kind symbol }
+    ensures { IfOk result (IsCodeOfKind kinds.now.weights kinds.now.grammar kind symbol) }
 {
     let mut derivation = Derivation::new(alloc);
     kind_into(alloc, kinds, costs, kind, &[symbol], &mut derivation)?;
@@ -68,10 +68,10 @@ pub(crate) fn seam_code<'g>(
 ) -> Result<Derivation, AllocError>
     requires costs { costs.now ≡ kinds.now }
     requires embeds { embeds.now ≡ kinds.now }
-    requires first { IsNumberOf kinds.now.tokens tokens.first }
-    requires second { IsNumberOf kinds.now.tokens tokens.second }
-    requires meeting { IsChosenMeeting kinds.now tokens.first tokens.second at.rule at.place }
-    ensures { IfOk result (IsCodeOfPair kinds.now (Mark.Token tokens.first) (Mark.Token tokens.second)) }
+    requires first { IsNumberOf kinds.now.grammar.tokens tokens.first }
+    requires second { IsNumberOf kinds.now.grammar.tokens tokens.second }
+    requires meeting { IsChosenMeeting kinds.now.weights kinds.now.grammar tokens.first tokens.second at.rule at.place }
+    ensures { IfOk result (IsCodeOfPair kinds.now.weights kinds.now.grammar (Mark.Token tokens.first) (Mark.Token tokens.second)) }
 {
     let rule = &kinds.grammar().rules()[at.rule as usize - 1];
     let parts = split_at(rule.right(), at.place);

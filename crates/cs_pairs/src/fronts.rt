@@ -2,27 +2,44 @@
 
 ghost use Rattle.std.specs.Prelude.{◌≡◌, IfOk};
 ghost use Rattle.cs_grammar.specs.Grammar.{IsSomeRule};
+ghost use Rattle.cs_cost.specs.Rank.{IsCapped, cost_of, plus};
 ghost use Rattle.cs_pairs.specs.Fronts.{AreFronts, AreRuleFronts};
 
 use crate::row::Row;
-use cs_cost::{Cost, Costs, plus};
+use cs_cost::{Cost, Costs, cost_of, plus};
 use cs_embed::Embeds;
-use cs_grammar::{LIMIT, Rule};
+use cs_grammar::Rule;
 use std::alloc::{AllocError, Global};
+
+// Costs together, by the limit of the weights.
+fn joint_cost(costs: &Costs, a: Cost, b: Cost) -> Cost
+    requires a { IsCapped costs.now.weights.limit a }
+    requires b { IsCapped costs.now.weights.limit b }
+    ensures { result ≡ plus costs.now.weights.limit a b }
+{
+    plus(a, b, costs.weights().limit())
+}
+
+// What a node alone costs.
+fn node_cost(costs: &Costs) -> Cost
+    ensures { result ≡ cost_of costs.now.weights.limit 1 }
+{
+    cost_of(1, costs.weights().limit())
+}
 
 // What stands before each place of a rule's right side costs: a context of the left side, the node, and trees of the symbols
 // before the place.
 fn fronts_of(alloc: Global, costs: &Costs, embeds: &Embeds, rule: &Rule) -> Result<Row, AllocError>
     requires embeds { embeds.now ≡ costs.now }
-    requires rule { IsSomeRule costs.now rule.now }
-    ensures { IfOk result (λ fronts. AreFronts LIMIT costs.now rule.now fronts) }
+    requires rule { IsSomeRule costs.now.grammar rule.now }
+    ensures { IfOk result (λ fronts. AreFronts costs.now.weights costs.now.grammar rule.now fronts) }
 {
     let _rules = costs.grammar().rules();
     let mut fronts = Vec::new(alloc);
-    let mut front = plus(Cost::Least(1), embeds.embed(rule.left()));
+    let mut front = joint_cost(costs, node_cost(costs), embeds.embed(rule.left()));
     for symbol in rule.right() {
         fronts.push(front)?;
-        front = plus(front, costs.cost(*symbol));
+        front = joint_cost(costs, front, costs.cost(*symbol));
     }
     Ok(Row::new(fronts))
 }
@@ -34,7 +51,7 @@ pub(crate) fn rule_fronts(
     embeds: &Embeds,
 ) -> Result<Vec<Row>, AllocError>
     requires { embeds.now ≡ costs.now }
-    ensures { IfOk result (λ fronts. AreRuleFronts LIMIT costs.now fronts.items) }
+    ensures { IfOk result (λ fronts. AreRuleFronts costs.now.weights costs.now.grammar fronts.items) }
 {
     let mut fronts = Vec::new(alloc);
     for rule in costs.grammar().rules() {

@@ -1,18 +1,22 @@
 // What the least trees of each kind and symbol cost.
 
-ghost use Rattle.std.specs.Prelude.{◌≡◌, IfOk};
-ghost use Rattle.cs_grammar.specs.Grammar.{IsSymbol};
+ghost use Rattle.std.specs.Prelude.{◌≡◌, ◌-◌, ◌<◌, ◌≤◌, ◌↔◌, IsTrue, IfOk, length, slice_set, All};
+ghost use Rattle.std.specs.Bool.{OnTrue, OnFalse};
+ghost use Rattle.cs_grammar.specs.Grammar.{IsNumberOf, IsSymbolOf};
+ghost use Rattle.cs_grammar.specs.Weights.{Weighs, weighed};
 ghost use Rattle.cs_grammar.specs.Tree.{size};
 ghost use Rattle.cs_cost.specs.Least.{IsCost};
+ghost use Rattle.cs_cost.specs.Rank.{rank, IsCapped, cost_of, plus, entry};
+ghost use Rattle.cs_pairs.specs.ListCost.{lesser};
 ghost use Rattle.cs_pairs.specs.Kinds.{IsTreeOfKind, IsKind};
 ghost use Rattle.cs_pairs.specs.Rows.{IsSoundRow};
 ghost use Rattle.cs_pairs.specs.Tables.{AreCosts, AreExactRows};
 
 use crate::kind::Kind;
 use crate::row::Row;
-use crate::rows::{leaf_cost, made_row};
-use cs_cost::{Cost, Costs};
-use cs_grammar::{Grammar, LIMIT, Symbol};
+use crate::rows::{at_most, leaf_cost, lesser, made_row, put_lower};
+use cs_cost::{Cost, Costs, cost_of, plus};
+use cs_grammar::{Grammar, Symbol, Weights};
 use std::alloc::{AllocError, Global};
 use std::marker::Model;
 
@@ -20,6 +24,7 @@ use std::marker::Model;
 #[derive(Debug, Drop)]
 pub(crate) struct Kinds<'g> {
     grammar: &'g Grammar,
+    weights: &'g Weights,
     any: Row,
     empty: Row,
     begins: Vec<Row>,
@@ -27,15 +32,14 @@ pub(crate) struct Kinds<'g> {
 }
 
 impl<'g> Model for Kinds<'g> {
-    ghost use Rattle.cs_grammar.specs.declared.TheConstants.{LIMIT};
-    ghost use Rattle.cs_grammar.specs.Grammar.{PlainGrammar};
+    ghost use Rattle.cs_grammar.specs.Weights.{Weighed};
     ghost use Rattle.cs_pairs.specs.Tables.{AreExactTables};
 
-    ghost Value = { PlainGrammar };
+    ghost Value = { Weighed };
 
-    ghost view = { λ k. k.grammar.now };
+    ghost view = { λ k. record { grammar = k.grammar.now; weights = k.weights.now } };
 
-    ghost invariant = { λ k. AreExactTables LIMIT k.grammar.now (record {
+    ghost invariant = { λ k. AreExactTables k.weights.now k.grammar.now (record {
       any = k.any;
       empty = k.empty;
       begins = k.begins.items;
@@ -47,44 +51,88 @@ impl<'g> Kinds<'g> {
     pub(crate) fn new(alloc: Global, costs: &Costs<'g>) -> Result<Kinds<'g>, AllocError>
         ensures { IfOk result (λ kinds. kinds ≡ costs.now) }
     {
-        let grammar = costs.grammar();
-        let _rules = grammar.rules();
-        let blank = vec![in alloc; Cost::Never; grammar.nonterminals() as usize]?;
         let any = any_row(alloc, costs)?;
-        let empty = Row::new(made_row(alloc, grammar, Kind::Empty, any.costs(), &blank)?);
-        let begins = begin_rows(alloc, grammar, &any, &empty)?;
-        let ends = end_rows(alloc, grammar, &any, &empty)?;
-        Ok(Kinds {
-            grammar,
-            any,
-            empty,
-            begins,
-            ends,
-        })
+        kinds_of(alloc, costs.grammar(), costs.weights(), any)
     }
 
     pub(crate) fn grammar(&self) -> &'g Grammar
-        ensures { result.now ≡ self.now }
+        ensures { result.now ≡ self.now.grammar }
     {
         self.grammar
     }
 
+    // The lower of two costs, the first where they are as low.
+    pub(crate) fn lesser(&self, a: Cost, b: Cost) -> Cost
+        requires a { IsCapped self.now.weights.limit a }
+        requires b { IsCapped self.now.weights.limit b }
+        ensures cost { result ≡ lesser self.now.weights.limit a b }
+        ensures capped { IsCapped self.now.weights.limit result }
+    {
+        lesser(self.weights, a, b)
+    }
+
+    // Writes a number's cost where it is below the table's, and says whether it was.
+    pub(crate) fn lower(&self, table: &mut [Cost], number: u16, cost: Cost) -> bool
+        requires number { IsNumberOf (length table.old) number }
+        requires table { All (IsCapped self.now.weights.limit) table.old }
+        requires cost { IsCapped self.now.weights.limit cost }
+        ensures lowered { OnTrue result ((table.new ≡ slice_set table.old (number - 1) cost)
+            × (rank self.now.weights.limit cost < rank self.now.weights.limit (entry table.old number))) }
+        ensures kept { OnFalse result ((table.new ≡ table.old)
+            × (rank self.now.weights.limit (entry table.old number) ≤ rank self.now.weights.limit cost)) }
+    {
+        put_lower(self.weights, table, number, cost)
+    }
+
+    // Whether a cost is no higher than another.
+    pub(crate) fn at_most(&self, a: Cost, b: Cost) -> bool
+        requires a { IsCapped self.now.weights.limit a }
+        requires b { IsCapped self.now.weights.limit b }
+        ensures { IsTrue result ↔ (rank self.now.weights.limit a ≤ rank self.now.weights.limit b) }
+    {
+        at_most(self.weights, a, b)
+    }
+
+    // Costs together, by the limit of the weights.
+    pub(crate) fn plus(&self, a: Cost, b: Cost) -> Cost
+        requires a { IsCapped self.now.weights.limit a }
+        requires b { IsCapped self.now.weights.limit b }
+        ensures { result ≡ plus self.now.weights.limit a b }
+    {
+        plus(a, b, self.weights.limit())
+    }
+
+    // What a node alone costs.
+    pub(crate) fn one(&self) -> Cost
+        ensures { result ≡ cost_of self.now.weights.limit 1 }
+    {
+        cost_of(1, self.weights.limit())
+    }
+
+    // Above this size no tree is written out.
+    pub(crate) fn limit(&self) -> u32
+        ensures limit { result ≡ self.now.weights.limit }
+        ensures weighs { Weighs self.now.weights self.now.grammar }
+    {
+        self.weights.limit()
+    }
+
     // What the least tree of a kind and a symbol costs.
     pub(crate) fn told(&self, kind: Kind, symbol: Symbol) -> Cost
-        requires kind { IsKind self.now.tokens kind }
-        requires symbol { IsSymbol self.now.tokens self.now.nonterminals symbol }
-        ensures { IsCost LIMIT (IsTreeOfKind self.now kind symbol) size result }
+        requires kind { IsKind self.now.grammar.tokens kind }
+        requires symbol { IsSymbolOf self.now.grammar symbol }
+        ensures { IsCost self.now.weights.limit (IsTreeOfKind self.now.grammar kind symbol) (size self.now.weights) result }
     {
         match symbol {
-            Symbol::Token(token) => leaf_cost(kind, token),
+            Symbol::Token(token) => leaf_cost(self.weights, kind, token),
             Symbol::Nonterminal(number) => self.row(kind)[number as usize - 1],
         }
     }
 
     // The row of a kind.
     fn row(&self, kind: Kind) -> &[Cost]
-        requires { IsKind self.now.tokens kind }
-        ensures { AreCosts LIMIT self.now kind result.now }
+        requires { IsKind self.now.grammar.tokens kind }
+        ensures { AreCosts self.now.weights self.now.grammar kind result.now }
     {
         match kind {
             Kind::Any => self.any.costs(),
@@ -95,9 +143,34 @@ impl<'g> Kinds<'g> {
     }
 }
 
+// The rows of all kinds, from that of any trees.
+fn kinds_of<'g>(
+    alloc: Global,
+    grammar: &'g Grammar,
+    weights: &'g Weights,
+    any: Row,
+) -> Result<Kinds<'g>, AllocError>
+    requires weighs { Weighs weights.now grammar.now }
+    requires any { AreCosts weights.now grammar.now Kind.Any any }
+    ensures { IfOk result (λ kinds. kinds ≡ weighed grammar.now weights.now) }
+{
+    let blank = vec![in alloc; Cost::Never; grammar.nonterminals() as usize]?;
+    let empty = Row::new(made_row(alloc, grammar, weights, Kind::Empty, any.costs(), &blank)?);
+    let begins = begin_rows(alloc, grammar, weights, &any, &empty)?;
+    let ends = end_rows(alloc, grammar, weights, &any, &empty)?;
+    Ok(Kinds {
+        grammar,
+        weights,
+        any,
+        empty,
+        begins,
+        ends,
+    })
+}
+
 // What any trees cost, as `Costs` says.
 fn any_row(alloc: Global, costs: &Costs) -> Result<Row, AllocError>
-    ensures { IfOk result (λ row. AreCosts LIMIT costs.now Kind.Any row) }
+    ensures { IfOk result (λ row. AreCosts costs.now.weights costs.now.grammar Kind.Any row) }
 {
     let mut row = Vec::new(alloc);
     let _rules = costs.grammar().rules();
@@ -111,18 +184,21 @@ fn any_row(alloc: Global, costs: &Costs) -> Result<Row, AllocError>
 fn begin_rows(
     alloc: Global,
     grammar: &Grammar,
+    weights: &Weights,
     any: &Row,
     empty: &Row,
 ) -> Result<Vec<Row>, AllocError>
-    requires any { IsSoundRow LIMIT grammar.now Kind.Any any.now }
-    requires empty { IsSoundRow LIMIT grammar.now Kind.Empty empty.now }
-    ensures { IfOk result (λ rows. AreExactRows LIMIT grammar.now Kind.Begins any.now empty.now grammar.now.tokens rows.items) }
+    requires weights { Weighs weights.now grammar.now }
+    requires any { IsSoundRow weights.now grammar.now Kind.Any any.now }
+    requires empty { IsSoundRow weights.now grammar.now Kind.Empty empty.now }
+    ensures { IfOk result (λ rows. AreExactRows weights.now grammar.now Kind.Begins any.now empty.now grammar.now.tokens rows.items) }
 {
     let mut rows = Vec::new(alloc);
     for place in 0..grammar.tokens() {
         let row = made_row(
             alloc,
             grammar,
+            weights,
             Kind::Begins(place + 1),
             any.costs(),
             empty.costs(),
@@ -136,18 +212,21 @@ fn begin_rows(
 fn end_rows(
     alloc: Global,
     grammar: &Grammar,
+    weights: &Weights,
     any: &Row,
     empty: &Row,
 ) -> Result<Vec<Row>, AllocError>
-    requires any { IsSoundRow LIMIT grammar.now Kind.Any any.now }
-    requires empty { IsSoundRow LIMIT grammar.now Kind.Empty empty.now }
-    ensures { IfOk result (λ rows. AreExactRows LIMIT grammar.now Kind.Ends any.now empty.now grammar.now.tokens rows.items) }
+    requires weights { Weighs weights.now grammar.now }
+    requires any { IsSoundRow weights.now grammar.now Kind.Any any.now }
+    requires empty { IsSoundRow weights.now grammar.now Kind.Empty empty.now }
+    ensures { IfOk result (λ rows. AreExactRows weights.now grammar.now Kind.Ends any.now empty.now grammar.now.tokens rows.items) }
 {
     let mut rows = Vec::new(alloc);
     for place in 0..grammar.tokens() {
         let row = made_row(
             alloc,
             grammar,
+            weights,
             Kind::Ends(place + 1),
             any.costs(),
             empty.costs(),

@@ -23,6 +23,3 @@ mod writing;
 pub use kind::Kind;
 pub use laws::{chosen_of_kind_exists, chosen_pair_exists, one_chosen_of_kind, one_chosen_pair};
 pub use pairs::Pairs;
-
-#[cfg(test)]
-mod tests;

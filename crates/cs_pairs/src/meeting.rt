@@ -13,10 +13,8 @@ ghost use Rattle.cs_pairs.specs.SeamPlace.{IsFoundIn, IsMeetingAt};
 use crate::kind::Kind;
 use crate::kinds::Kinds;
 use crate::row::Row;
-use crate::rows::at_most;
 use crate::sweep::Sweep;
-use cs_cost::{Cost, plus};
-use cs_grammar::LIMIT;
+use cs_cost::Cost;
 
 // Two tokens, one directly followed by the other.
 #[derive(Clone, Copy, Debug)]
@@ -40,13 +38,13 @@ fn place_in(
     tokens: Neighbours,
     cost: Cost,
 ) -> Option<usize>
-    requires fronts { AreFrontsOf LIMIT kinds.now number fronts.now }
-    requires number { IsNumberOf (length kinds.now.rules) number }
-    requires first { IsNumberOf kinds.now.tokens tokens.first }
-    requires second { IsNumberOf kinds.now.tokens tokens.second }
-    requires cost { IsCapped LIMIT cost }
-    requires small { rank LIMIT cost ≤ LIMIT }
-    ensures { IsFoundIn kinds.now tokens.first tokens.second number (rank LIMIT cost) 0 result }
+    requires fronts { AreFrontsOf kinds.now.weights kinds.now.grammar number fronts.now }
+    requires number { IsNumberOf (length kinds.now.grammar.rules) number }
+    requires first { IsNumberOf kinds.now.grammar.tokens tokens.first }
+    requires second { IsNumberOf kinds.now.grammar.tokens tokens.second }
+    requires cost { IsCapped kinds.now.weights.limit cost }
+    requires small { rank kinds.now.weights.limit cost ≤ kinds.now.weights.limit }
+    ensures { IsFoundIn kinds.now.weights kinds.now.grammar tokens.first tokens.second number (rank kinds.now.weights.limit cost) 0 result }
 {
     let right = kinds.grammar().rules()[number as usize - 1].right();
     let mut found = None;
@@ -54,8 +52,8 @@ fn place_in(
     for place in (0..right.len()).rev() {
         let symbol = right[place];
         let last = kinds.told(Kind::Ends(tokens.first), symbol);
-        let seam = plus(fronts[place], plus(last, sweep.whole));
-        if at_most(seam, cost) {
+        let seam = kinds.plus(fronts[place], kinds.plus(last, sweep.whole));
+        if kinds.at_most(seam, cost) {
             found = Some(place);
         }
         sweep = sweep.over(kinds, symbol);
@@ -65,14 +63,14 @@ fn place_in(
 
 // The lowest rule, and its lowest place, at which the tokens meet in a tree that costs at most this.
 pub(crate) fn meet(kinds: &Kinds, fronts: &[Row], tokens: Neighbours, cost: Cost) -> Meeting
-    requires fronts { AreRuleFronts LIMIT kinds.now fronts.now }
-    requires first { IsNumberOf kinds.now.tokens tokens.first }
-    requires second { IsNumberOf kinds.now.tokens tokens.second }
-    requires cost { IsCapped LIMIT cost }
-    requires small { rank LIMIT cost ≤ LIMIT }
-    requires some { (x : Symbol) × (s : Context × Tree) × IsSeam kinds.now tokens.first tokens.second x s
-        × (seam_size s ≤ rank LIMIT cost) }
-    ensures { IsMeetingAt kinds.now tokens.first tokens.second (rank LIMIT cost) result.rule result.place }
+    requires fronts { AreRuleFronts kinds.now.weights kinds.now.grammar fronts.now }
+    requires first { IsNumberOf kinds.now.grammar.tokens tokens.first }
+    requires second { IsNumberOf kinds.now.grammar.tokens tokens.second }
+    requires cost { IsCapped kinds.now.weights.limit cost }
+    requires small { rank kinds.now.weights.limit cost ≤ kinds.now.weights.limit }
+    requires some { (x : Symbol) × (s : Context × Tree) × IsSeam kinds.now.grammar tokens.first tokens.second x s
+        × (seam_size kinds.now.weights s ≤ rank kinds.now.weights.limit cost) }
+    ensures { IsMeetingAt kinds.now.weights kinds.now.grammar tokens.first tokens.second (rank kinds.now.weights.limit cost) result.rule result.place }
 {
     for place in 0..kinds.grammar().rules().len() {
         let rule = (place + 1) as u16;

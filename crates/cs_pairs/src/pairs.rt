@@ -19,10 +19,9 @@ use crate::kind::Kind;
 use crate::kinds::Kinds;
 use crate::meeting::{Neighbours, meet};
 use crate::row::Row;
-use crate::rows::lesser;
-use cs_cost::{Cost, Costs, plus};
+use cs_cost::{Cost, Costs};
 use cs_embed::Embeds;
-use cs_grammar::{Derivation, Grammar, LIMIT, Mark, Symbol};
+use cs_grammar::{Derivation, Grammar, Mark, Symbol, Weights};
 use std::alloc::{AllocError, Global};
 use std::marker::Model;
 
@@ -36,16 +35,16 @@ pub struct Pairs<'g> {
 
 impl<'g> Model for Pairs<'g> {
     ghost use Rattle.std.specs.Prelude.{◌≡◌};
-    ghost use Rattle.cs_grammar.specs.declared.TheConstants.{LIMIT};
-    ghost use Rattle.cs_grammar.specs.Grammar.{PlainGrammar};
+    ghost use Rattle.cs_grammar.specs.Weights.{Weighed};
     ghost use Rattle.cs_pairs.specs.Fronts.{AreRuleFronts};
     ghost use Rattle.cs_pairs.specs.Pairs.{ArePairRows};
 
-    ghost Value = { PlainGrammar };
+    ghost Value = { Weighed };
 
     ghost view = { λ p. p.kinds };
 
-    ghost invariant = { λ p. AreRuleFronts LIMIT p.kinds p.fronts.items × ArePairRows LIMIT p.kinds p.kinds.tokens p.pairs.items };
+    ghost invariant = { λ p. AreRuleFronts p.kinds.weights p.kinds.grammar p.fronts.items
+        × ArePairRows p.kinds.weights p.kinds.grammar p.kinds.grammar.tokens p.pairs.items };
 }
 
 impl<'g> Pairs<'g> {
@@ -70,7 +69,7 @@ impl<'g> Pairs<'g> {
 
     /// The grammar that these are the pairs of.
     pub fn grammar(&self) -> &'g Grammar
-        ensures { result.now ≡ self.now }
+        ensures { result.now ≡ self.now.grammar }
     {
         self.kinds.grammar()
     }
@@ -78,20 +77,20 @@ impl<'g> Pairs<'g> {
     /// Whether some framed sentence has one mark directly followed by the other, whatever the size of its trees. The left one
     /// is the begin mark or a token of the grammar, the right one a token of the grammar or the end mark.
     pub fn adjacent(&self, left: Mark, right: Mark) -> bool
-        requires left { IsLeft self.now.tokens left }
-        requires right { IsRight self.now.tokens right }
-        ensures { IsTrue result ↔ IsAdjacent self.now left right }
+        requires left { IsLeft self.now.grammar.tokens left }
+        requires right { IsRight self.now.grammar.tokens right }
+        ensures { IsTrue result ↔ IsAdjacent self.now.grammar left right }
     {
         !matches!(self.cost(left, right), Cost::Never)
     }
 
     /// What the least tree of the start symbol costs whose framed yield has one mark directly followed by the other: `Never`
-    /// where there is none, `Large` where each has more than `LIMIT` nodes, else the least number of nodes, leaves counted.
+    /// where there is none, `Large` where each is larger than the limit, else the least size.
     /// The marks are as at `adjacent`.
     pub fn cost(&self, left: Mark, right: Mark) -> Cost
-        requires left { IsLeft self.now.tokens left }
-        requires right { IsRight self.now.tokens right }
-        ensures { IsCost LIMIT (HasPair self.now left right) size result }
+        requires left { IsLeft self.now.grammar.tokens left }
+        requires right { IsRight self.now.grammar.tokens right }
+        ensures { IsCost self.now.weights.limit (HasPair self.now.grammar left right) (size self.now.weights) result }
     {
         match (left, right) {
             (Mark::Begin, Mark::Token(second)) => self.whole_cost(Kind::Begins(second)),
@@ -104,7 +103,7 @@ impl<'g> Pairs<'g> {
         }
     }
 
-    /// The code of the chosen tree of a pair whose `cost` is a number of nodes; the marks are as at `adjacent`. Of the least
+    /// The code of the chosen tree of a pair whose `cost` is a size; the marks are as at `adjacent`. Of the least
     /// trees that have it the chosen one of two tokens is that in which they meet under the lowest rule, and then the first of
     /// them ends a child at the lowest place, and then the second begins one; what stands between is empty, all parts are
     /// chosen ones, and the node stands in the chosen context of its rule's left side. Of a pair with a mark it is the start
@@ -119,10 +118,10 @@ impl<'g> Pairs<'g> {
     ) -> Result<Derivation, AllocError>
         requires costs { costs.now ≡ self.now }
         requires embeds { embeds.now ≡ self.now }
-        requires left { IsLeft self.now.tokens left }
-        requires right { IsRight self.now.tokens right }
-        requires least { HasLeastPair self.now left right }
-        ensures { IfOk result (IsCodeOfPair self.now left right) }
+        requires left { IsLeft self.now.grammar.tokens left }
+        requires right { IsRight self.now.grammar.tokens right }
+        requires least { HasLeastPair self.now.weights self.now.grammar left right }
+        ensures { IfOk result (IsCodeOfPair self.now.weights self.now.grammar left right) }
     {
         match (left, right) {
             (Mark::Begin, Mark::Token(second)) => self.derive_whole(
@@ -147,9 +146,9 @@ impl<'g> Pairs<'g> {
         kind: Kind,
     ) -> Result<Derivation, AllocError>
         requires costs { costs.now ≡ self.now }
-        requires kind { IsKind self.now.tokens kind }
-        requires small { HasSmallOfKind self.now kind (Symbol.Nonterminal self.now.start) }
-        ensures { IfOk result (IsCodeOfKind self.now kind (Symbol.Nonterminal self.now.start)) }
+        requires kind { IsKind self.now.grammar.tokens kind }
+        requires small { HasSmallOfKind self.now.weights self.now.grammar kind (Symbol.Nonterminal self.now.grammar.start) }
+        ensures { IfOk result (IsCodeOfKind self.now.weights self.now.grammar kind (Symbol.Nonterminal self.now.grammar.start)) }
     {
         let grammar = self.kinds.grammar();
         let _rules = grammar.rules();
@@ -167,10 +166,10 @@ impl<'g> Pairs<'g> {
     ) -> Result<Derivation, AllocError>
         requires costs { costs.now ≡ self.now }
         requires embeds { embeds.now ≡ self.now }
-        requires first { IsNumberOf self.now.tokens tokens.first }
-        requires second { IsNumberOf self.now.tokens tokens.second }
-        requires least { HasLeastPair self.now (Mark.Token tokens.first) (Mark.Token tokens.second) }
-        ensures { IfOk result (IsCodeOfPair self.now (Mark.Token tokens.first) (Mark.Token tokens.second)) }
+        requires first { IsNumberOf self.now.grammar.tokens tokens.first }
+        requires second { IsNumberOf self.now.grammar.tokens tokens.second }
+        requires least { HasLeastPair self.now.weights self.now.grammar (Mark.Token tokens.first) (Mark.Token tokens.second) }
+        ensures { IfOk result (IsCodeOfPair self.now.weights self.now.grammar (Mark.Token tokens.first) (Mark.Token tokens.second)) }
     {
         let cost = self.cost(Mark::Token(tokens.first), Mark::Token(tokens.second));
         let at = meet(&self.kinds, &self.fronts, tokens, cost);
@@ -179,8 +178,8 @@ impl<'g> Pairs<'g> {
 
     // What the least tree of the start symbol costs that is of a kind.
     fn whole_cost(&self, kind: Kind) -> Cost
-        requires { IsKind self.now.tokens kind }
-        ensures { IsCost LIMIT (IsTreeOfKind self.now kind (Symbol.Nonterminal self.now.start)) size result }
+        requires { IsKind self.now.grammar.tokens kind }
+        ensures { IsCost self.now.weights.limit (IsTreeOfKind self.now.grammar kind (Symbol.Nonterminal self.now.grammar.start)) (size self.now.weights) result }
     {
         let grammar = self.kinds.grammar();
         let _rules = grammar.rules();
@@ -191,27 +190,30 @@ impl<'g> Pairs<'g> {
 // What a pair of tokens costs: the least over all symbols of a tree that ends with the first, in a context whose hole is
 // directly followed by the second.
 fn pair_cost(kinds: &Kinds, first: u16, beside: &Beside) -> Cost
-    requires first { IsNumberOf kinds.now.tokens first }
-    requires beside { IsExactBeside LIMIT kinds.now beside.now.token beside.now.costs.items }
-    ensures { IsCost LIMIT (HasPair kinds.now (Mark.Token first) (Mark.Token beside.now.token)) size result }
+    requires first { IsNumberOf kinds.now.grammar.tokens first }
+    requires beside { IsExactBeside kinds.now.weights kinds.now.grammar beside.now.token beside.now.costs.items }
+    ensures { IsCost kinds.now.weights.limit (HasPair kinds.now.grammar (Mark.Token first) (Mark.Token beside.now.token)) (size kinds.now.weights) result }
 {
     let grammar = kinds.grammar();
     let _rules = grammar.rules();
     let tokens = grammar.tokens() as usize;
     let leaf = kinds.told(Kind::Ends(first), Symbol::Token(first));
-    let mut best = plus(leaf, beside.costs[first as usize - 1]);
+    let mut best = kinds.plus(leaf, beside.costs[first as usize - 1]);
     for place in 0..grammar.nonterminals() {
         let tree = kinds.told(Kind::Ends(first), Symbol::Nonterminal(place + 1));
-        best = lesser(best, plus(tree, beside.costs[tokens + place as usize]));
+        best = kinds.lesser(
+            best,
+            kinds.plus(tree, beside.costs[tokens + place as usize]),
+        );
     }
     best
 }
 
 // What the pairs cost whose second token is this one.
 fn pair_row(alloc: Global, kinds: &Kinds, fronts: &[Row], second: u16) -> Result<Row, AllocError>
-    requires fronts { AreRuleFronts LIMIT kinds.now fronts.now }
-    requires second { IsNumberOf kinds.now.tokens second }
-    ensures { IfOk result (λ row. ArePairs LIMIT kinds.now second row) }
+    requires fronts { AreRuleFronts kinds.now.weights kinds.now.grammar fronts.now }
+    requires second { IsNumberOf kinds.now.grammar.tokens second }
+    ensures { IfOk result (λ row. ArePairs kinds.now.weights kinds.now.grammar second row) }
 {
     let beside = beside_row(alloc, kinds, fronts, second)?;
     let mut costs = Vec::new(alloc);
@@ -223,8 +225,8 @@ fn pair_row(alloc: Global, kinds: &Kinds, fronts: &[Row], second: u16) -> Result
 
 // The rows of all tokens.
 fn pair_rows(alloc: Global, kinds: &Kinds, fronts: &[Row]) -> Result<Vec<Row>, AllocError>
-    requires { AreRuleFronts LIMIT kinds.now fronts.now }
-    ensures { IfOk result (λ rows. ArePairRows LIMIT kinds.now kinds.now.tokens rows.items) }
+    requires { AreRuleFronts kinds.now.weights kinds.now.grammar fronts.now }
+    ensures { IfOk result (λ rows. ArePairRows kinds.now.weights kinds.now.grammar kinds.now.grammar.tokens rows.items) }
 {
     let mut rows = Vec::new(alloc);
     for place in 0..kinds.grammar().tokens() {

@@ -1,7 +1,8 @@
 // The codes of chosen trees of kinds, written from left to right.
 
 ghost use Rattle.std.specs.Prelude.{◌≡◌, ◌≤◌, ◌++◌, reverse, OnOk, All};
-ghost use Rattle.cs_grammar.specs.Grammar.{IsSymbol, IsNumberOf};
+ghost use Rattle.cs_grammar.specs.Grammar.{IsSymbolOf, IsNumberOf};
+ghost use Rattle.cs_grammar.specs.Weights.{IsMeasure};
 ghost use Rattle.cs_grammar.specs.Tree.{Forest, sizes, codes_of};
 ghost use Rattle.cs_cost.specs.Least.{IsCost};
 ghost use Rattle.cs_pairs.specs.Kinds.{AreTreesOfKind, IsKind};
@@ -11,10 +12,9 @@ ghost use Rattle.cs_pairs.specs.Parts.{kind_at, parts_from, AreChosenParts, IsPa
 
 use crate::kind::Kind;
 use crate::kinds::Kinds;
-use crate::rows::at_most;
 use crate::sweep::Sweep;
-use cs_cost::{Cost, Costs, plus};
-use cs_grammar::{Derivation, LIMIT, Symbol};
+use cs_cost::{Cost, Costs};
+use cs_grammar::{Derivation, Symbol};
 use std::alloc::{AllocError, Global};
 
 // What is still to be written: the code of the chosen tree of a kind and a symbol.
@@ -57,16 +57,16 @@ fn put_first(
 
 // Where the tree of the kind itself stands in the chosen trees of symbols; behind all where there is none.
 fn place_of(kinds: &Kinds, kind: Kind, symbols: &[Symbol]) -> usize
-    requires kind { IsKind kinds.now.tokens kind }
-    requires symbols { All (IsSymbol kinds.now.tokens kinds.now.nonterminals) symbols.now }
-    ensures { (f : Forest) → AreChosenOfKind kinds.now kind symbols.now f → sizes f ≤ LIMIT
-        → AreChosenParts kinds.now (parts_from kind result 0 symbols.now) f }
+    requires kind { IsKind kinds.now.grammar.tokens kind }
+    requires symbols { All (IsSymbolOf kinds.now.grammar) symbols.now }
+    ensures { (f : Forest) → AreChosenOfKind kinds.now.weights kinds.now.grammar kind symbols.now f → sizes kinds.now.weights f ≤ kinds.now.weights.limit
+        → AreChosenParts kinds.now.weights kinds.now.grammar (parts_from kind result 0 symbols.now) f }
 {
     let mut place = symbols.len();
     let mut sweep = Sweep::new(kind);
     for index in (0..symbols.len()).rev() {
         let ways = sweep.ways(kinds, symbols[index]);
-        if at_most(ways.here, ways.later) {
+        if kinds.at_most(ways.here, ways.later) {
             place = index;
         }
         sweep = sweep.over(kinds, symbols[index]);
@@ -76,27 +76,27 @@ fn place_of(kinds: &Kinds, kind: Kind, symbols: &[Symbol]) -> usize
 
 // What a node costs above trees of these symbols that are of a kind together.
 fn node_cost(kinds: &Kinds, kind: Kind, symbols: &[Symbol]) -> Cost
-    requires kind { IsKind kinds.now.tokens kind }
-    requires symbols { All (IsSymbol kinds.now.tokens kinds.now.nonterminals) symbols.now }
-    ensures { IsCost LIMIT (AreTreesOfKind kinds.now kind symbols.now) node_size result }
+    requires kind { IsKind kinds.now.grammar.tokens kind }
+    requires symbols { All (IsSymbolOf kinds.now.grammar) symbols.now }
+    ensures { IsCost kinds.now.weights.limit (AreTreesOfKind kinds.now.grammar kind symbols.now) (node_size kinds.now.weights) result }
 {
     let mut sweep = Sweep::new(kind);
     for index in (0..symbols.len()).rev() {
         sweep = sweep.over(kinds, symbols[index]);
     }
-    plus(Cost::Least(1), sweep.whole)
+    kinds.plus(kinds.one(), sweep.whole)
 }
 
 // The rule at the root of the chosen tree of a kind and a nonterminal.
 fn root_of(kinds: &Kinds, kind: Kind, left: u16) -> u16
-    requires kind { IsKind kinds.now.tokens kind }
-    requires left { IsNumberOf kinds.now.nonterminals left }
-    requires small { HasSmallOfKind kinds.now kind (Symbol.Nonterminal left) }
-    ensures { IsRootOf kinds.now kind left result }
+    requires kind { IsKind kinds.now.grammar.tokens kind }
+    requires left { IsNumberOf kinds.now.grammar.nonterminals left }
+    requires small { HasSmallOfKind kinds.now.weights kinds.now.grammar kind (Symbol.Nonterminal left) }
+    ensures { IsRootOf kinds.now.weights kinds.now.grammar kind left result }
 {
     let cost = kinds.told(kind, Symbol::Nonterminal(left));
     for (place, rule) in kinds.grammar().rules().iter().enumerate() {
-        if rule.left() == left && at_most(node_cost(kinds, kind, rule.right()), cost) {
+        if rule.left() == left && kinds.at_most(node_cost(kinds, kind, rule.right()), cost) {
             return (place + 1) as u16;
         }
     }
@@ -111,10 +111,10 @@ fn open_up(
     pending: &mut Vec<Part>,
     into: &mut Derivation,
 ) -> Result<(), AllocError>
-    requires kind { IsKind kinds.now.tokens kind }
-    requires left { IsNumberOf kinds.now.nonterminals left }
-    requires small { HasSmallOfKind kinds.now kind (Symbol.Nonterminal left) }
-    ensures { OnOk result (TakesOn kinds.now (record { kind = kind; symbol = Symbol.Nonterminal left }) pending.old.items pending.new.items into.old into.new) }
+    requires kind { IsKind kinds.now.grammar.tokens kind }
+    requires left { IsNumberOf kinds.now.grammar.nonterminals left }
+    requires small { HasSmallOfKind kinds.now.weights kinds.now.grammar kind (Symbol.Nonterminal left) }
+    ensures { OnOk result (TakesOn kinds.now.weights kinds.now.grammar (record { kind = kind; symbol = Symbol.Nonterminal left }) pending.old.items pending.new.items into.old into.new) }
 {
     let number = root_of(kinds, kind, left);
     into.push(number)?;
@@ -131,9 +131,10 @@ fn take_on(
     into: &mut Derivation,
 ) -> Result<(), AllocError>
     requires costs { costs.now ≡ kinds.now }
-    requires part { IsPartOf kinds.now part }
-    requires small { HasSmallOfKind kinds.now part.kind part.symbol }
-    ensures { OnOk result (TakesOn kinds.now part pending.old.items pending.new.items into.old into.new) }
+    requires measure { IsMeasure kinds.now.weights }
+    requires part { IsPartOf kinds.now.grammar part }
+    requires small { HasSmallOfKind kinds.now.weights kinds.now.grammar part.kind part.symbol }
+    ensures { OnOk result (TakesOn kinds.now.weights kinds.now.grammar part pending.old.items pending.new.items into.old into.new) }
 {
     match part.symbol {
         Symbol::Token(_) => Ok(()),
@@ -144,7 +145,7 @@ fn take_on(
     }
 }
 
-// Writes what is pending, which stands in reverse. Each step writes a node or more, and there are at most `LIMIT`.
+// Writes what is pending, which stands in reverse. Each step writes a node or more, and they are within the limit.
 fn write(
     kinds: &Kinds,
     costs: &Costs,
@@ -152,12 +153,13 @@ fn write(
     into: &mut Derivation,
 ) -> Result<(), AllocError>
     requires costs { costs.now ≡ kinds.now }
-    requires parts { All (IsPartOf kinds.now) (reverse pending.old.items) }
-    requires small { (f : Forest) × AreChosenParts kinds.now (reverse pending.old.items) f × (sizes f ≤ LIMIT) }
-    ensures { OnOk result ((f : Forest) → AreChosenParts kinds.now (reverse pending.old.items) f → sizes f ≤ LIMIT
+    requires parts { All (IsPartOf kinds.now.grammar) (reverse pending.old.items) }
+    requires small { (f : Forest) × AreChosenParts kinds.now.weights kinds.now.grammar (reverse pending.old.items) f × (sizes kinds.now.weights f ≤ kinds.now.weights.limit) }
+    ensures { OnOk result ((f : Forest) → AreChosenParts kinds.now.weights kinds.now.grammar (reverse pending.old.items) f → sizes kinds.now.weights f ≤ kinds.now.weights.limit
         → into.new ≡ into.old ++ codes_of f) }
 {
-    for _ in 0..LIMIT {
+    let limit = kinds.limit();
+    for _ in 0..limit {
         let Some(part) = pending.pop() else {
             return Ok(());
         };
@@ -176,10 +178,10 @@ pub(crate) fn kind_into(
     into: &mut Derivation,
 ) -> Result<(), AllocError>
     requires costs { costs.now ≡ kinds.now }
-    requires kind { IsKind kinds.now.tokens kind }
-    requires symbols { All (IsSymbol kinds.now.tokens kinds.now.nonterminals) symbols.now }
-    requires small { HaveSmallOfKind kinds.now kind symbols.now }
-    ensures { OnOk result (AppendsOfKind kinds.now kind symbols.now into.old into.new) }
+    requires kind { IsKind kinds.now.grammar.tokens kind }
+    requires symbols { All (IsSymbolOf kinds.now.grammar) symbols.now }
+    requires small { HaveSmallOfKind kinds.now.weights kinds.now.grammar kind symbols.now }
+    ensures { OnOk result (AppendsOfKind kinds.now.weights kinds.now.grammar kind symbols.now into.old into.new) }
 {
     let mut pending = Vec::new(alloc);
     put_first(&mut pending, kind, place_of(kinds, kind, symbols), symbols)?;

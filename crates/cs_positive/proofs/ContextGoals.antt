@@ -5,8 +5,8 @@ use Rattle.std.proofs.lemmas.List.{length-take-le}
 use Rattle.std.proofs.lemmas.Option.{slice_get_within}
 use Rattle.cs_grammar.specs.declared.symbol.Symbol.{Symbol}
 use Rattle.cs_grammar.specs.declared.symbol.Symbol.TheVariants.{Nonterminal}
-use Rattle.cs_grammar.specs.declared.TheConstants.{LIMIT}
 use Rattle.cs_grammar.specs.Grammar.{Production, PlainGrammar, IsRule}
+use Rattle.cs_grammar.specs.Weights.{Measure}
 use Rattle.cs_grammar.specs.Tree.{Tree, Leaf, Node, Forest, Bare, Grown, IsTree, AreTrees, size, sizes, codes_of}
 use Rattle.cs_grammar.specs.Context.{Context as TreeContext, Hole, Under, IsContext, context_size, code_before, code_after, join, plug}
 use Rattle.cs_grammar.proofs.Forests.{AreTrees-join, sizes-join}
@@ -32,7 +32,7 @@ use Rattle.cs_positive.specs.Verdict.{IsMet, IsChosenOfContext, IsCodeOf}
 use Rattle.cs_positive.proofs.RuleGoals.{least_context}
 
 -- trees of some symbols, cut at one of them
-pub record Cut (g : PlainGrammar) (xs : List Symbol) (k : ℕ) (t : Tree) (n : ℕ) : Type 0 where
+pub record Cut (w : Measure) (g : PlainGrammar) (xs : List Symbol) (k : ℕ) (t : Tree) (n : ℕ) : Type 0 where
   pub before : List Symbol
   pub behind : List Symbol
   pub here : Symbol
@@ -43,16 +43,16 @@ pub record Cut (g : PlainGrammar) (xs : List Symbol) (k : ℕ) (t : Tree) (n : �
   pub left_trees : AreTrees g before left
   pub is_tree : IsTree g here t
   pub right_trees : AreTrees g behind right
-  pub measure : n ≡ sizes left + size t + sizes right
+  pub measure : n ≡ sizes w left + size w t + sizes w right
 
-pub cut_at : (g : PlainGrammar) (f : Forest) (xs : List Symbol) (k : ℕ) (t : Tree) → AreTrees g xs f → slice_get (trees f) k ≡ Some t → Cut g xs k t (sizes f)
-cut_at g Bare xs k t h at = absurd cc
-cut_at g (Grown u f) [] k t h at = absurd h
-cut_at g (Grown u f) (x ∷ xs) zero t h at =
+pub cut_at : (w : Measure) (g : PlainGrammar) (f : Forest) (xs : List Symbol) (k : ℕ) (t : Tree) → AreTrees g xs f → slice_get (trees f) k ≡ Some t → Cut w g xs k t (sizes w f)
+cut_at w g Bare xs k t h at = absurd cc
+cut_at w g (Grown u f) [] k t h at = absurd h
+cut_at w g (Grown u f) (x ∷ xs) zero t h at =
     let same : u ≡ t = cc in
-    record { before = []; behind = xs; here = x; left = Bare; right = f; symbols = refl; at = refl; left_trees = tt; is_tree = subst (IsTree g x) same h.0; right_trees = h.1; measure = omega (arith, ap size same) }
-cut_at g (Grown u f) (x ∷ xs) (suc k) t h at =
-    let rest = cut_at g f xs k t h.1 at in
+    record { before = []; behind = xs; here = x; left = Bare; right = f; symbols = refl; at = refl; left_trees = tt; is_tree = subst (IsTree g x) same h.0; right_trees = h.1; measure = omega (arith, ap (size w) same) }
+cut_at w g (Grown u f) (x ∷ xs) (suc k) t h at =
+    let rest = cut_at w g f xs k t h.1 at in
     record {
       before = x ∷ rest.before;
       behind = rest.behind;
@@ -68,7 +68,7 @@ cut_at g (Grown u f) (x ∷ xs) (suc k) t h at =
     }
 
 -- A tree in a context, with a node of rule p in it whose child at place i is a node of rule q.
-pub record FoundIn (g : PlainGrammar) (p i q n : ℕ) : Type 0 where
+pub record FoundIn (w : Measure) (g : PlainGrammar) (p i q n : ℕ) : Type 0 where
   pub outer : Production
   pub inner : Production
   pub is_outer : IsRule g p outer
@@ -85,64 +85,64 @@ pub record FoundIn (g : PlainGrammar) (p i q n : ℕ) : Type 0 where
   pub left_trees : AreTrees g before left
   pub right_trees : AreTrees g behind right
   pub trees : AreTrees g inner.right children
-  pub measure : context_size context + (1 + (sizes left + sizes right)) + (1 + sizes children) ≡ n
+  pub measure : context_size w context + (1 + (sizes w left + sizes w right)) + (1 + sizes w children) ≡ n
 
-module _ (g : PlainGrammar) (p i q : ℕ) where
-  here_in : (r : ℕ) (o : Production) (f : Forest) (c : TreeContext) → IsRule g r o → AreTrees g o.right f → IsContext g (Nonterminal o.left) c → r ≡ p → IsChild i q f → FoundIn g p i q (context_size c + (1 + sizes f))
+module _ (w : Measure) (g : PlainGrammar) (p i q : ℕ) where
+  here_in : (r : ℕ) (o : Production) (f : Forest) (c : TreeContext) → IsRule g r o → AreTrees g o.right f → IsContext g (Nonterminal o.left) c → r ≡ p → IsChild i q f → FoundIn w g p i q (context_size w c + (1 + sizes w f))
   here_in r o f c rule hf hc same child =
-      let w = cut_at g f o.right (i - 1) (Node q child.grandchildren) hf child.at in
-      let is = w.is_tree in
+      let v = cut_at w g f o.right (i - 1) (Node q child.grandchildren) hf child.at in
+      let is = v.is_tree in
       record {
         outer = o;
         inner = is.0;
         is_outer = subst (λ n. IsRule g n o) same rule;
         is_inner = is.1;
-        before = w.before;
-        behind = w.behind;
-        right_side = w.symbols ∙ ap (λ (b : Symbol). w.before ++ b ∷ w.behind) is.2;
-        place = omega (arith, w.at, child.above_zero);
+        before = v.before;
+        behind = v.behind;
+        right_side = v.symbols ∙ ap (λ (b : Symbol). v.before ++ b ∷ v.behind) is.2;
+        place = omega (arith, v.at, child.above_zero);
         context = c;
-        left = w.left;
-        right = w.right;
+        left = v.left;
+        right = v.right;
         children = child.grandchildren;
         around = hc;
-        left_trees = w.left_trees;
-        right_trees = w.right_trees;
+        left_trees = v.left_trees;
+        right_trees = v.right_trees;
         trees = is.3;
-        measure = omega (arith, w.measure);
+        measure = omega (arith, v.measure);
       }
 
   mutual
-    found_in : (t : Tree) (x : Symbol) (c : TreeContext) → IsTree g x t → IsContext g x c → UsesRuleIn p i q t → FoundIn g p i q (context_size c + size t)
+    found_in : (t : Tree) (x : Symbol) (c : TreeContext) → IsTree g x t → IsContext g x c → UsesRuleIn p i q t → FoundIn w g p i q (context_size w c + size w t)
     found_in (Leaf s) x c ht hc h = absurd h
     found_in (Node r f) x c ht hc h =
         let around = subst (λ y. IsContext g y c) ht.2 hc in
         ⊎_elim
         (λ child. here_in r ht.0 f c ht.1 ht.3 around child.0 child.1)
         (λ inside.
-        let same : context_size c + (1 + (sizes Bare + sizes f)) ≡ context_size c + (1 + sizes f) = omega arith in
-        subst (FoundIn g p i q) same (found_in_among f ht.0.right c r ht.0 [] Bare ht.1 refl tt ht.3 around inside))
+        let same : context_size w c + (1 + (sizes w Bare + sizes w f)) ≡ context_size w c + (1 + sizes w f) = omega arith in
+        subst (FoundIn w g p i q) same (found_in_among f ht.0.right c r ht.0 [] Bare ht.1 refl tt ht.3 around inside))
         h
 
-    found_in_among : (f : Forest) (ys : List Symbol) (c : TreeContext) (r : ℕ) (o : Production) (xs : List Symbol) (left : Forest) → IsRule g r o → o.right ≡ xs ++ ys → AreTrees g xs left → AreTrees g ys f → IsContext g (Nonterminal o.left) c → SomeUsesRuleIn p i q f → FoundIn g p i q (context_size c + (1 + (sizes left + sizes f)))
+    found_in_among : (f : Forest) (ys : List Symbol) (c : TreeContext) (r : ℕ) (o : Production) (xs : List Symbol) (left : Forest) → IsRule g r o → o.right ≡ xs ++ ys → AreTrees g xs left → AreTrees g ys f → IsContext g (Nonterminal o.left) c → SomeUsesRuleIn p i q f → FoundIn w g p i q (context_size w c + (1 + (sizes w left + sizes w f)))
     found_in_among Bare ys c r o xs left rule e hl hf hc h = absurd h
     found_in_among (Grown t f) [] c r o xs left rule e hl hf hc h = absurd hf
     found_in_among (Grown t f) (y ∷ ys) c r o xs left rule e hl hf hc h =
         ⊎_elim
         (λ here.
-        let same : context_size (Under c r left f) + size t ≡ context_size c + (1 + (sizes left + sizes (Grown t f))) = omega arith in
-        subst (FoundIn g p i q) same (found_in t y (Under c r left f) hf.0 (o, xs, ys, rule, e, hl, hf.1, hc) here))
+        let same : context_size w (Under c r left f) + size w t ≡ context_size w c + (1 + (sizes w left + sizes w (Grown t f))) = omega arith in
+        subst (FoundIn w g p i q) same (found_in t y (Under c r left f) hf.0 (o, xs, ys, rule, e, hl, hf.1, hc) here))
         (λ later.
         let before = join left (Grown t Bare) in
         let are = AreTrees-join g left (Grown t Bare) xs (y ∷ []) hl (hf.0, tt) in
-        let same : context_size c + (1 + (sizes before + sizes f)) ≡ context_size c + (1 + (sizes left + sizes (Grown t f))) = omega (arith, sizes-join left (Grown t Bare)) in
-        subst (FoundIn g p i q) same (found_in_among f ys c r o (xs ++ y ∷ []) before rule (e ∙ sym (append_assoc xs (y ∷ []) ys)) are hf.1 hc later))
+        let same : context_size w c + (1 + (sizes w before + sizes w f)) ≡ context_size w c + (1 + (sizes w left + sizes w (Grown t f))) = omega (arith, sizes-join w left (Grown t Bare)) in
+        subst (FoundIn w g p i q) same (found_in_among f ys c r o (xs ++ y ∷ []) before rule (e ∙ sym (append_assoc xs (y ∷ []) ys)) are hf.1 hc later))
         h
 
-  pub found_in_whole : (t : Tree) → IsMet g (Context p i q) t → FoundIn g p i q (size t)
+  pub found_in_whole : (t : Tree) → IsMet g (Context p i q) t → FoundIn w g p i q (size w t)
   found_in_whole t h =
-      let same : 0 + size t ≡ size t = omega arith in
-      subst (FoundIn g p i q) same (found_in t (Nonterminal g.start) Hole h.0 refl h.1)
+      let same : 0 + size w t ≡ size w t = omega arith in
+      subst (FoundIn w g p i q) same (found_in t (Nonterminal g.start) Hole h.0 refl h.1)
 
   -- and the other way round
   SomeUsesRuleIn-join : (f : Forest) (t : Tree) (right : Forest) → UsesRuleIn p i q t → SomeUsesRuleIn p i q (join f (Grown t right))
@@ -159,55 +159,55 @@ at_join Bare t right (suc k) e = absurd (omega (arith, e))
 at_join (Grown u f) t right zero e = absurd (omega (arith, e))
 at_join (Grown u f) t right (suc k) e = at_join f t right k (omega (arith, e))
 
-module _ (g : PlainGrammar) (p i q : ℕ) where
+module _ (w : Measure) (g : PlainGrammar) (p i q : ℕ) where
   -- the chosen tree of a context goal meets it
-  pub context_met : (u : Tree) → IsChosenOfContext g p i q u → IsMet g (Context p i q) u
+  pub context_met : (u : Tree) → IsChosenOfContext w g p i q u → IsMet g (Context p i q) u
   context_met u h =
       let c = Under h.context p h.left h.right in
       let node = Node q h.children in
-      let lefts = AreTrees-chosen g h.left h.before h.left_chosen in
-      let around : IsContext g (Nonterminal h.inner.left) c = (h.outer, h.before, h.behind, h.is_outer, h.right_side, lefts, AreTrees-chosen g h.right h.behind h.right_chosen, IsContext-chosen g h.context (Nonterminal h.outer.left) h.around) in
-      let tree = IsTree-plug g c (Nonterminal h.inner.left) node around (h.inner, h.is_inner, refl, AreTrees-chosen g h.children h.inner.right h.chosen) in
+      let lefts = AreTrees-chosen w g h.left h.before h.left_chosen in
+      let around : IsContext g (Nonterminal h.inner.left) c = (h.outer, h.before, h.behind, h.is_outer, h.right_side, lefts, AreTrees-chosen w g h.right h.behind h.right_chosen, IsContext-chosen w g h.context (Nonterminal h.outer.left) h.around) in
+      let tree = IsTree-plug g c (Nonterminal h.inner.left) node around (h.inner, h.is_inner, refl, AreTrees-chosen w g h.children h.inner.right h.chosen) in
       let place : count h.left ≡ i - 1 = omega (arith, count_is g h.left h.before lefts, h.place) in
       let child : IsChild i q (join h.left (Grown node h.right)) = record { grandchildren = h.children; above_zero = omega (arith, h.place); at = at_join h.left node h.right (i - 1) place } in
-      let uses = UsesRuleIn-plug g p i q h.context (Node p (join h.left (Grown node h.right))) (inl (refl, child)) in
+      let uses = UsesRuleIn-plug w g p i q h.context (Node p (join h.left (Grown node h.right))) (inl (refl, child)) in
       subst (IsMet g (Context p i q)) (sym h.whole) (tree, uses)
 
   -- is of least size
-  pub context_least : (t u : Tree) → IsMet g (Context p i q) t → IsChosenOfContext g p i q u → size u ≤ size t
+  pub context_least : (t u : Tree) → IsMet g (Context p i q) t → IsChosenOfContext w g p i q u → size w u ≤ size w t
   context_least t u h k =
-      let w = found_in_whole g p i q t h in
-      let outer = one_rule g p p w.outer k.outer refl w.is_outer k.is_outer in
-      let inner = one_rule g q q w.inner k.inner refl w.is_inner k.is_inner in
-      let split = one_split w.before k.before (Nonterminal w.inner.left) (Nonterminal k.inner.left) w.behind k.behind (sym w.right_side ∙ ap (λ (o : Production). o.right) outer ∙ k.right_side) (omega (arith, w.place, k.place)) in
-      let around = chosen_context_least g (Nonterminal k.outer.left) w.context k.context (subst (λ (o : Production). IsContext g (Nonterminal o.left) w.context) outer w.around) k.around in
-      let lefts = forest_least g k.left w.left k.before k.left_chosen (subst (λ (l : List Symbol). AreTrees g l w.left) split.before w.left_trees) in
-      let rights = forest_least g k.right w.right k.behind k.right_chosen (subst (λ (l : List Symbol). AreTrees g l w.right) split.behind w.right_trees) in
-      let children = forest_least g k.children w.children k.inner.right k.chosen (subst (λ (o : Production). AreTrees g o.right w.children) inner w.trees) in
-      omega (arith, w.measure, around, lefts, rights, children, ap size k.whole, size-plug (Under k.context p k.left k.right) (Node q k.children))
+      let v = found_in_whole w g p i q t h in
+      let outer = one_rule g p p v.outer k.outer refl v.is_outer k.is_outer in
+      let inner = one_rule g q q v.inner k.inner refl v.is_inner k.is_inner in
+      let split = one_split v.before k.before (Nonterminal v.inner.left) (Nonterminal k.inner.left) v.behind k.behind (sym v.right_side ∙ ap (λ (o : Production). o.right) outer ∙ k.right_side) (omega (arith, v.place, k.place)) in
+      let around = chosen_context_least w g (Nonterminal k.outer.left) v.context k.context (subst (λ (o : Production). IsContext g (Nonterminal o.left) v.context) outer v.around) k.around in
+      let lefts = forest_least w g k.left v.left k.before k.left_chosen (subst (λ (l : List Symbol). AreTrees g l v.left) split.before v.left_trees) in
+      let rights = forest_least w g k.right v.right k.behind k.right_chosen (subst (λ (l : List Symbol). AreTrees g l v.right) split.behind v.right_trees) in
+      let children = forest_least w g k.children v.children k.inner.right k.chosen (subst (λ (o : Production). AreTrees g o.right v.children) inner v.trees) in
+      omega (arith, v.measure, around, lefts, rights, children, ap (size w) k.whole, size-plug w (Under k.context p k.left k.right) (Node q k.children))
 
   -- and is the only one
-  pub one_of_context : (t u : Tree) → IsChosenOfContext g p i q t → IsChosenOfContext g p i q u → t ≡ u
+  pub one_of_context : (t u : Tree) → IsChosenOfContext w g p i q t → IsChosenOfContext w g p i q u → t ≡ u
   one_of_context t u h k =
       let outer = one_rule g p p h.outer k.outer refl h.is_outer k.is_outer in
       let inner = one_rule g q q h.inner k.inner refl h.is_inner k.is_inner in
       let split = one_split h.before k.before (Nonterminal h.inner.left) (Nonterminal k.inner.left) h.behind k.behind (sym h.right_side ∙ ap (λ (o : Production). o.right) outer ∙ k.right_side) (omega (arith, h.place, k.place)) in
-      let contexts = one_chosen_context g h.context k.context (Nonterminal h.outer.left) h.around (subst (λ (o : Production). IsChosenContext g (Nonterminal o.left) k.context) (sym outer) k.around) in
-      let lefts = all_chosen g h.left k.left h.before h.left_chosen (subst (λ (l : List Symbol). AreChosen g l k.left) (sym split.before) k.left_chosen) in
-      let rights = all_chosen g h.right k.right h.behind h.right_chosen (subst (λ (l : List Symbol). AreChosen g l k.right) (sym split.behind) k.right_chosen) in
-      let children = all_chosen g h.children k.children h.inner.right h.chosen (subst (λ (o : Production). AreChosen g o.right k.children) (sym inner) k.chosen) in
+      let contexts = one_chosen_context w g h.context k.context (Nonterminal h.outer.left) h.around (subst (λ (o : Production). IsChosenContext w g (Nonterminal o.left) k.context) (sym outer) k.around) in
+      let lefts = all_chosen w g h.left k.left h.before h.left_chosen (subst (λ (l : List Symbol). AreChosen w g l k.left) (sym split.before) k.left_chosen) in
+      let rights = all_chosen w g h.right k.right h.behind h.right_chosen (subst (λ (l : List Symbol). AreChosen w g l k.right) (sym split.behind) k.right_chosen) in
+      let children = all_chosen w g h.children k.children h.inner.right h.chosen (subst (λ (o : Production). AreChosen w g o.right k.children) (sym inner) k.chosen) in
       h.whole ∙ ap (λ c. plug (Under c p h.left h.right) (Node q h.children)) contexts ∙ ap (λ f. plug (Under k.context p f h.right) (Node q h.children)) lefts
       ∙ ap (λ f. plug (Under k.context p k.left f) (Node q h.children)) rights ∙ ap (λ f. plug (Under k.context p k.left k.right) (Node q f)) children ∙ sym k.whole
 
-module _ (limit : ℕ) (g : PlainGrammar) (p i q : ℕ) (outer inner : Production) (is_outer : IsRule g p outer) (is_inner : IsRule g q inner) (xs ys : List Symbol) (e : outer.right ≡ xs ++ Nonterminal inner.left ∷ ys) (at : length xs + 1 ≡ i) where
+module _ (w : Measure) (g : PlainGrammar) (p i q : ℕ) (outer inner : Production) (is_outer : IsRule g p outer) (is_inner : IsRule g q inner) (xs ys : List Symbol) (e : outer.right ≡ xs ++ Nonterminal inner.left ∷ ys) (at : length xs + 1 ≡ i) where
   -- the parts of a tree that meets the goal: a context of the outer left side, the inner node's siblings and its children
   abbrev pub ArePlaced : (TreeContext × (Forest × Forest)) × Forest → Type 0
   ArePlaced ps = (IsContextOf g outer.left ps.0.0 × AreSiblings g xs ys ps.0.1) × AreTrees g inner.right ps.1
 
   abbrev pub placed_size : (TreeContext × (Forest × Forest)) × Forest → ℕ
-  placed_size ps = context_size ps.0.0 + siblings_size ps.0.1 + (1 + sizes ps.1)
+  placed_size ps = context_size w ps.0.0 + siblings_size w ps.0.1 + (1 + sizes w ps.1)
 
-  placed : (ps : (TreeContext × (Forest × Forest)) × Forest) → ArePlaced ps → (t : Tree) × IsMet g (Context p i q) t × (size t ≤ placed_size ps)
+  placed : (ps : (TreeContext × (Forest × Forest)) × Forest) → ArePlaced ps → (t : Tree) × IsMet g (Context p i q) t × (size w t ≤ placed_size ps)
   placed ps h =
       let left = ps.0.1.0 in
       let right = ps.0.1.1 in
@@ -217,43 +217,43 @@ module _ (limit : ℕ) (g : PlainGrammar) (p i q : ℕ) (outer inner : Productio
       let tree = IsTree-plug g c (Nonterminal inner.left) node around (inner, is_inner, refl, h.1) in
       let place : count left ≡ i - 1 = omega (arith, count_is g left xs h.0.1.0, at) in
       let child : IsChild i q (join left (Grown node right)) = record { grandchildren = ps.1; above_zero = omega (arith, at); at = at_join left node right (i - 1) place } in
-      let uses = UsesRuleIn-plug g p i q ps.0.0 (Node p (join left (Grown node right))) (inl (refl, child)) in
-      (plug c node, (tree, uses), omega (arith, size-plug c node))
+      let uses = UsesRuleIn-plug w g p i q ps.0.0 (Node p (join left (Grown node right))) (inl (refl, child)) in
+      (plug c node, (tree, uses), omega (arith, size-plug w c node))
 
-  pub parted : (t : Tree) → IsMet g (Context p i q) t → (ps : (TreeContext × (Forest × Forest)) × Forest) × ArePlaced ps × (placed_size ps ≤ size t)
+  pub parted : (t : Tree) → IsMet g (Context p i q) t → (ps : (TreeContext × (Forest × Forest)) × Forest) × ArePlaced ps × (placed_size ps ≤ size w t)
   parted t h =
-      let w = found_in_whole g p i q t h in
-      let outers = one_rule g p p w.outer outer refl w.is_outer is_outer in
-      let inners = one_rule g q q w.inner inner refl w.is_inner is_inner in
-      let split = one_split w.before xs (Nonterminal w.inner.left) (Nonterminal inner.left) w.behind ys (sym w.right_side ∙ ap (λ (o : Production). o.right) outers ∙ e) (omega (arith, w.place, at)) in
-      let around = subst (λ (o : Production). IsContext g (Nonterminal o.left) w.context) outers w.around in
-      let lefts = subst (λ (l : List Symbol). AreTrees g l w.left) split.before w.left_trees in
-      let rights = subst (λ (l : List Symbol). AreTrees g l w.right) split.behind w.right_trees in
-      let children = subst (λ (o : Production). AreTrees g o.right w.children) inners w.trees in
-      (((w.context, (w.left, w.right)), w.children), ((around, (lefts, rights)), children), omega (arith, w.measure))
+      let v = found_in_whole w g p i q t h in
+      let outers = one_rule g p p v.outer outer refl v.is_outer is_outer in
+      let inners = one_rule g q q v.inner inner refl v.is_inner is_inner in
+      let split = one_split v.before xs (Nonterminal v.inner.left) (Nonterminal inner.left) v.behind ys (sym v.right_side ∙ ap (λ (o : Production). o.right) outers ∙ e) (omega (arith, v.place, at)) in
+      let around = subst (λ (o : Production). IsContext g (Nonterminal o.left) v.context) outers v.around in
+      let lefts = subst (λ (l : List Symbol). AreTrees g l v.left) split.before v.left_trees in
+      let rights = subst (λ (l : List Symbol). AreTrees g l v.right) split.behind v.right_trees in
+      let children = subst (λ (o : Production). AreTrees g o.right v.children) inners v.trees in
+      (((v.context, (v.left, v.right)), v.children), ((around, (lefts, rights)), children), omega (arith, v.measure))
 
   -- a least tree that meets the goal is of least parts
-  pub context_cost : (a l s b : Cost) → IsCost limit (IsContextOf g outer.left) context_size a → IsCost limit (AreTrees g xs) sizes l → IsCost limit (AreTrees g ys) sizes s → IsCost limit (AreTrees g inner.right) sizes b → IsCost limit (IsMet g (Context p i q)) size (plus limit (plus limit a (plus limit (cost_of limit 1) (plus limit l s))) (plus limit (cost_of limit 1) b))
+  pub context_cost : (a l s b : Cost) → IsCost w.limit (IsContextOf g outer.left) (context_size w) a → IsCost w.limit (AreTrees g xs) (sizes w) l → IsCost w.limit (AreTrees g ys) (sizes w) s → IsCost w.limit (AreTrees g inner.right) (sizes w) b → IsCost w.limit (IsMet g (Context p i q)) (size w) (plus w.limit (plus w.limit a (plus w.limit (cost_of w.limit 1) (plus w.limit l s))) (plus w.limit (cost_of w.limit 1) b))
   context_cost a l s b around lefts rights children =
-      let siblings = siblings_cost limit g xs ys l s lefts rights in
-      let node = IsCost-more limit (AreTrees g inner.right) sizes b children in
-      let first = IsCost-plus limit (IsContextOf g outer.left) (AreSiblings g xs ys) context_size siblings_size a (plus limit (cost_of limit 1) (plus limit l s)) around siblings in
-      let all = IsCost-plus limit (λ (u : TreeContext × (Forest × Forest)). IsContextOf g outer.left u.0 × AreSiblings g xs ys u.1) (AreTrees g inner.right) (λ (u : TreeContext × (Forest × Forest)). context_size u.0 + siblings_size u.1) (λ f. 1 + sizes f) (plus limit a (plus limit (cost_of limit 1) (plus limit l s))) (plus limit (cost_of limit 1) b) first node in
-      IsCost-same limit ArePlaced (IsMet g (Context p i q)) placed_size size (plus limit (plus limit a (plus limit (cost_of limit 1) (plus limit l s))) (plus limit (cost_of limit 1) b)) placed parted all
+      let siblings = siblings_cost w g xs ys l s lefts rights in
+      let node = IsCost-more w.limit (AreTrees g inner.right) (sizes w) b children in
+      let first = IsCost-plus w.limit (IsContextOf g outer.left) (AreSiblings g xs ys) (context_size w) (siblings_size w) a (plus w.limit (cost_of w.limit 1) (plus w.limit l s)) around siblings in
+      let all = IsCost-plus w.limit (λ (u : TreeContext × (Forest × Forest)). IsContextOf g outer.left u.0 × AreSiblings g xs ys u.1) (AreTrees g inner.right) (λ (u : TreeContext × (Forest × Forest)). context_size w u.0 + siblings_size w u.1) (λ f. 1 + sizes w f) (plus w.limit a (plus w.limit (cost_of w.limit 1) (plus w.limit l s))) (plus w.limit (cost_of w.limit 1) b) first node in
+      IsCost-same w.limit ArePlaced (IsMet g (Context p i q)) placed_size (size w) (plus w.limit (plus w.limit a (plus w.limit (cost_of w.limit 1) (plus w.limit l s))) (plus w.limit (cost_of w.limit 1) b)) placed parted all
 
 -- the inner nonterminal stands at its place of the outer rule
-pub placed_in : (g : PlainGrammar) (p i q : ℕ) (outer inner : Production) → IsOccurrence g p i q → IsRule g p outer → IsRule g q inner → (outer.right ≡ take (i - 1) outer.right ++ Nonterminal inner.left ∷ drop i outer.right) × (length (take (i - 1) outer.right) + 1 ≡ i)
-placed_in g p i q outer inner o is_outer is_inner =
+pub placed_in : (w : Measure) (g : PlainGrammar) (p i q : ℕ) (outer inner : Production) → IsOccurrence g p i q → IsRule g p outer → IsRule g q inner → (outer.right ≡ take (i - 1) outer.right ++ Nonterminal inner.left ∷ drop i outer.right) × (length (take (i - 1) outer.right) + 1 ≡ i)
+placed_in w g p i q outer inner o is_outer is_inner =
     let outers = one_rule g p p o.outer outer refl o.is_outer is_outer in
     let inners = one_rule g q q o.inner inner refl o.is_inner is_inner in
     let at : slice_get outer.right (i - 1) ≡ Some (Nonterminal inner.left) =
-    ap (λ (w : Production). slice_get w.right (i - 1)) (sym outers) ∙ o.at ∙ ap (λ (w : Production). Some (Nonterminal w.left)) inners in
+    ap (λ (v : Production). slice_get v.right (i - 1)) (sym outers) ∙ o.at ∙ ap (λ (v : Production). Some (Nonterminal v.left)) inners in
     let next : i - 1 + 1 ≡ i = omega (arith, o.above_zero) in
     let short : length (take (i - 1) outer.right) ≡ i - 1 = length-take-le (i - 1) outer.right (omega (arith, slice_get_within outer.right (i - 1) (Nonterminal inner.left) at)) in
     (split_at outer.right (i - 1) (Nonterminal inner.left) at ∙ ap (λ k. take (i - 1) outer.right ++ Nonterminal inner.left ∷ drop k outer.right) next, omega (arith, short, o.above_zero))
 
 -- the parts of a tree that meets the goal, within its size
-pub record ContextParts (g : PlainGrammar) (outer inner : Production) (xs ys : List Symbol) (n : ℕ) : Type 0 where
+pub record ContextParts (w : Measure) (g : PlainGrammar) (outer inner : Production) (xs ys : List Symbol) (n : ℕ) : Type 0 where
   pub context : TreeContext
   pub left : Forest
   pub right : Forest
@@ -262,41 +262,41 @@ pub record ContextParts (g : PlainGrammar) (outer inner : Production) (xs ys : L
   pub left_trees : AreTrees g xs left
   pub right_trees : AreTrees g ys right
   pub trees : AreTrees g inner.right children
-  pub measure : context_size context + (1 + (sizes left + sizes right)) + (1 + sizes children) ≤ n
+  pub measure : context_size w context + (1 + (sizes w left + sizes w right)) + (1 + sizes w children) ≤ n
 
-module _ (g : PlainGrammar) (p i q : ℕ) (outer inner : Production) (is_outer : IsRule g p outer) (is_inner : IsRule g q inner) (xs ys : List Symbol) (e : outer.right ≡ xs ++ Nonterminal inner.left ∷ ys) (at : length xs + 1 ≡ i) where
-  context_parts : (t : Tree) → IsMet g (Context p i q) t → ContextParts g outer inner xs ys (size t)
+module _ (w : Measure) (g : PlainGrammar) (p i q : ℕ) (outer inner : Production) (is_outer : IsRule g p outer) (is_inner : IsRule g q inner) (xs ys : List Symbol) (e : outer.right ≡ xs ++ Nonterminal inner.left ∷ ys) (at : length xs + 1 ≡ i) where
+  context_parts : (t : Tree) → IsMet g (Context p i q) t → ContextParts w g outer inner xs ys (size w t)
   context_parts t h =
-      let w = parted (size t) g p i q outer inner is_outer is_inner xs ys e at t h in
-      record { context = w.0.0.0; left = w.0.0.1.0; right = w.0.0.1.1; children = w.0.1; around = w.1.0.0; left_trees = w.1.0.1.0; right_trees = w.1.0.1.1; trees = w.1.1; measure = w.2 }
+      let v = parted w g p i q outer inner is_outer is_inner xs ys e at t h in
+      record { context = v.0.0.0; left = v.0.0.1.0; right = v.0.0.1.1; children = v.0.1; around = v.1.0.0; left_trees = v.1.0.1.0; right_trees = v.1.0.1.1; trees = v.1.1; measure = v.2 }
 
   -- where the goal is met within the limit, the parts are within it
-  pub small_parts : (n : ℕ) → IsCost LIMIT (IsMet g (Context p i q)) size (Least n) → ContextParts g outer inner xs ys LIMIT
+  pub small_parts : (n : ℕ) → IsCost w.limit (IsMet g (Context p i q)) (size w) (Least n) → ContextParts w g outer inner xs ys w.limit
   small_parts n found =
-      let w = context_parts found.1.reached.0 found.1.reached.1 in
+      let v = context_parts found.1.reached.0 found.1.reached.1 in
       record {
-        context = w.context;
-        left = w.left;
-        right = w.right;
-        children = w.children;
-        around = w.around;
-        left_trees = w.left_trees;
-        right_trees = w.right_trees;
-        trees = w.trees;
-        measure = omega (arith, w.measure, found.0, found.1.reached.2);
+        context = v.context;
+        left = v.left;
+        right = v.right;
+        children = v.children;
+        around = v.around;
+        left_trees = v.left_trees;
+        right_trees = v.right_trees;
+        trees = v.trees;
+        measure = omega (arith, v.measure, found.0, found.1.reached.2);
       }
 
-module _ (g : PlainGrammar) (outer inner : Production) (xs ys : List Symbol) (parts : ContextParts g outer inner xs ys LIMIT) where
-  pub outer_context : HasLeastContext g outer.left
-  outer_context = least_context g outer.left parts.context parts.around (omega (arith, parts.measure))
+module _ (w : Measure) (g : PlainGrammar) (outer inner : Production) (xs ys : List Symbol) (parts : ContextParts w g outer inner xs ys w.limit) where
+  pub outer_context : HasLeastContext w g outer.left
+  outer_context = least_context w g outer.left parts.context parts.around (omega (arith, parts.measure))
 
-  pub small_left : HaveSmall g xs
+  pub small_left : HaveSmall w g xs
   small_left = (parts.left, parts.left_trees, omega (arith, parts.measure))
 
-  pub small_right : HaveSmall g ys
+  pub small_right : HaveSmall w g ys
   small_right = (parts.right, parts.right_trees, omega (arith, parts.measure))
 
-  pub small_children : HaveSmall g inner.right
+  pub small_children : HaveSmall w g inner.right
   small_children = (parts.children, parts.trees, omega (arith, parts.measure))
 
 -- the code with the hole's siblings, the inner node and its children in their order
@@ -304,8 +304,8 @@ regroup : (before l c r after : List ℕ) (p q : ℕ) → before ++ p ∷ [] ++ 
 regroup before l c r after p q = simp append_assoc
 
 -- the code that is put together of the chosen context and the chosen trees in it
-module _ (g : PlainGrammar) (p i q : ℕ) (outer inner : Production) (is_outer : IsRule g p outer) (is_inner : IsRule g q inner) (xs ys : List Symbol) (e : outer.right ≡ xs ++ Nonterminal inner.left ∷ ys) (at : length xs + 1 ≡ i) where
-  pub context_code : (before after d1 d2 d3 d4 d5 d6 d7 : List ℕ) → IsAround g outer.left before after → d1 ≡ before → d2 ≡ d1 ++ p ∷ [] → AppendsAllChosen g xs d2 d3 → d4 ≡ d3 ++ q ∷ [] → AppendsAllChosen g inner.right d4 d5 → AppendsAllChosen g ys d5 d6 → d7 ≡ d6 ++ after → IsCodeOf g (Context p i q) d7
+module _ (w : Measure) (g : PlainGrammar) (p i q : ℕ) (outer inner : Production) (is_outer : IsRule g p outer) (is_inner : IsRule g q inner) (xs ys : List Symbol) (e : outer.right ≡ xs ++ Nonterminal inner.left ∷ ys) (at : length xs + 1 ≡ i) where
+  pub context_code : (before after d1 d2 d3 d4 d5 d6 d7 : List ℕ) → IsAround w g outer.left before after → d1 ≡ before → d2 ≡ d1 ++ p ∷ [] → AppendsAllChosen w g xs d2 d3 → d4 ≡ d3 ++ q ∷ [] → AppendsAllChosen w g inner.right d4 d5 → AppendsAllChosen w g ys d5 d6 → d7 ≡ d6 ++ after → IsCodeOf w g (Context p i q) d7
   context_code before after d1 d2 d3 d4 d5 d6 d7 a is1 is2 lefts is4 inners rights is7 =
       let c = Under a.context p lefts.trees rights.trees in
       let node = Node q inners.trees in
@@ -314,7 +314,7 @@ module _ (g : PlainGrammar) (p i q : ℕ) (outer inner : Production) (is_outer :
       let third : d5 ≡ code_before a.context ++ p ∷ [] ++ codes_of lefts.trees ++ q ∷ [] ++ codes_of inners.trees = inners.text ∙ ap (λ (l : List ℕ). l ++ codes_of inners.trees) second in
       let fourth : d6 ≡ code_before a.context ++ p ∷ [] ++ codes_of lefts.trees ++ q ∷ [] ++ codes_of inners.trees ++ codes_of rights.trees = rights.text ∙ ap (λ (l : List ℕ). l ++ codes_of rights.trees) third in
       let last : d7 ≡ code_before a.context ++ p ∷ [] ++ codes_of lefts.trees ++ q ∷ [] ++ codes_of inners.trees ++ codes_of rights.trees ++ code_after a.context = is7 ∙ ap (λ (l : List ℕ). l ++ after) fourth ∙ ap (λ (l : List ℕ). code_before a.context ++ p ∷ [] ++ codes_of lefts.trees ++ q ∷ [] ++ codes_of inners.trees ++ codes_of rights.trees ++ l) a.behind_hole in
-      let chosen : IsChosenOfContext g p i q (plug c node) = record {
+      let chosen : IsChosenOfContext w g p i q (plug c node) = record {
         outer = outer;
         inner = inner;
         is_outer = is_outer;
@@ -336,23 +336,23 @@ module _ (g : PlainGrammar) (p i q : ℕ) (outer inner : Production) (is_outer :
       (plug c node, chosen, last ∙ regroup (code_before a.context) (codes_of lefts.trees) (codes_of inners.trees) (codes_of rights.trees) (code_after a.context) p q ∙ sym (code-plug c node))
 
 -- a context goal that some tree meets has a chosen tree
-pub context_exists : (g : PlainGrammar) (p i q : ℕ) (t : Tree) → IsMet g (Context p i q) t → (u : Tree) × IsChosenOfContext g p i q u
-context_exists g p i q t h =
-    let w = found_in_whole g p i q t h in
-    let d = chosen_context_exists g w.outer.left w.context w.around in
-    let lefts = chosen_forest g w.left w.before w.left_trees in
-    let rights = chosen_forest g w.right w.behind w.right_trees in
-    let children = chosen_forest g w.children w.inner.right w.trees in
+pub context_exists : (w : Measure) (g : PlainGrammar) (p i q : ℕ) (t : Tree) → IsMet g (Context p i q) t → (u : Tree) × IsChosenOfContext w g p i q u
+context_exists w g p i q t h =
+    let v = found_in_whole w g p i q t h in
+    let d = chosen_context_exists w g v.outer.left v.context v.around in
+    let lefts = chosen_forest w g v.left v.before v.left_trees in
+    let rights = chosen_forest w g v.right v.behind v.right_trees in
+    let children = chosen_forest w g v.children v.inner.right v.trees in
     let u = plug (Under d.context p lefts.0 rights.0) (Node q children.0) in
-    let chosen : IsChosenOfContext g p i q u = record {
-      outer = w.outer;
-      inner = w.inner;
-      is_outer = w.is_outer;
-      is_inner = w.is_inner;
-      before = w.before;
-      behind = w.behind;
-      right_side = w.right_side;
-      place = w.place;
+    let chosen : IsChosenOfContext w g p i q u = record {
+      outer = v.outer;
+      inner = v.inner;
+      is_outer = v.is_outer;
+      is_inner = v.is_inner;
+      before = v.before;
+      behind = v.behind;
+      right_side = v.right_side;
+      place = v.place;
       context = d.context;
       left = lefts.0;
       right = rights.0;

@@ -1,31 +1,51 @@
 // The verdict of a goal.
 
-ghost use Rattle.std.specs.Prelude.{IfOk};
+ghost use Rattle.std.specs.Prelude.{◌≡◌, IfOk};
 ghost use Rattle.cs_goals.specs.Goal.{IsGoal};
-ghost use Rattle.cs_positive.specs.Verdict.{IsVerdict};
+ghost use Rattle.cs_positive.specs.Verdict.{IsVerdict, IsTreeGoal};
 
 use crate::contexts::judge_context;
 use crate::pairs::judge_pair;
 use crate::rules::judge_rule;
 use crate::tables::Tables;
 use crate::verdict::Verdict;
+use cs_cost::Costs;
+use cs_embed::Embeds;
 use cs_goals::Goal;
 use std::alloc::{AllocError, Global};
 
 /// The verdict of a goal of the grammar, over all trees of the start symbol: `Infeasible` exactly where none meets the goal,
-/// `Large` exactly where one does and the least of them has more than `LIMIT` nodes, else the least size and the code of the
+/// `Large` exactly where one does and the least of them is larger than the limit, else the least size and the code of the
 /// chosen tree.
 pub fn judge(alloc: Global, tables: &Tables, goal: &Goal) -> Result<Verdict, AllocError>
-    requires { IsGoal tables.now goal.now }
-    ensures { IfOk result (IsVerdict tables.now goal.now) }
+    requires { IsGoal tables.now.grammar goal.now }
+    ensures { IfOk result (IsVerdict tables.now.weights tables.now.grammar goal.now) }
 {
     match *goal {
-        Goal::Rule(rule) => judge_rule(alloc, tables, rule),
+        Goal::Pair { left, right } => judge_pair(alloc, tables, left, right),
+        _ => judge_tree_goal(alloc, &tables.costs, &tables.embeds, goal),
+    }
+}
+
+/// The verdict of a rule goal or a context goal, as `judge` gives it, without the tables of pairs.
+pub fn judge_tree_goal(
+    alloc: Global,
+    costs: &Costs,
+    embeds: &Embeds,
+    goal: &Goal,
+) -> Result<Verdict, AllocError>
+    requires embeds { embeds.now ≡ costs.now }
+    requires goal { IsGoal costs.now.grammar goal.now }
+    requires kind { IsTreeGoal goal.now }
+    ensures { IfOk result (IsVerdict costs.now.weights costs.now.grammar goal.now) }
+{
+    match *goal {
+        Goal::Rule(rule) => judge_rule(alloc, costs, embeds, rule),
         Goal::Context {
             outer,
             place,
             inner,
-        } => judge_context(alloc, tables, outer, place, inner),
-        Goal::Pair { left, right } => judge_pair(alloc, tables, left, right),
+        } => judge_context(alloc, costs, embeds, outer, place, inner),
+        Goal::Pair { .. } => unreachable!(),
     }
 }

@@ -17,9 +17,10 @@ pub(crate) fn judge_pair(
     left: Mark,
     right: Mark,
 ) -> Result<Verdict, AllocError>
-    requires left { IsLeft tables.now.tokens left }
-    requires right { IsRight tables.now.tokens right }
-    ensures { IfOk result (IsVerdict tables.now (Goal.Pair left right)) }
+    requires left { IsLeft tables.now.grammar.tokens left }
+    requires right { IsRight tables.now.grammar.tokens right }
+    ensures { IfOk result
+        (IsVerdict tables.now.weights tables.now.grammar (Goal.Pair left right)) }
 {
     match tables.pairs.cost(left, right) {
         Cost::Never => Ok(Verdict::Infeasible),

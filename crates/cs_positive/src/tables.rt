@@ -1,18 +1,17 @@
 // The tables that verdicts come from.
 
-ghost use Rattle.std.specs.Prelude.{◌≡◌, IfOk};
+ghost use Rattle.std.specs.Prelude.{◌≡◌, IfOk, length};
 
 use cs_cost::Costs;
 use cs_embed::Embeds;
-use cs_grammar::Grammar;
+use cs_grammar::{Grammar, Weights};
 use cs_pairs::Pairs;
 use std::alloc::{AllocError, Global};
 use std::marker::Model;
 
-/// What the least trees and the least contexts of a grammar cost, and what its pairs of neighbours do.
+/// What the least trees and the least contexts of a grammar cost by some weights, and what its pairs of neighbours do.
 #[derive(Debug, Drop)]
 pub struct Tables<'g> {
-    pub(crate) grammar: &'g Grammar,
     pub(crate) costs: Costs<'g>,
     pub(crate) embeds: Embeds<'g>,
     pub(crate) pairs: Pairs<'g>,
@@ -20,25 +19,30 @@ pub struct Tables<'g> {
 
 impl<'g> Model for Tables<'g> {
     ghost use Rattle.std.specs.Prelude.{◌≡◌};
-    ghost use Rattle.cs_grammar.specs.Grammar.{PlainGrammar};
+    ghost use Rattle.cs_grammar.specs.Weights.{Weighed};
 
-    ghost Value = { PlainGrammar };
+    ghost Value = { Weighed };
 
-    ghost view = { λ t. t.grammar.now };
+    ghost view = { λ t. t.costs };
 
-    ghost invariant = { λ t. (t.costs ≡ t.grammar.now) × (t.embeds ≡ t.grammar.now) × (t.pairs ≡ t.grammar.now) };
+    ghost invariant = { λ t. (t.embeds ≡ t.costs) × (t.pairs ≡ t.costs) };
 }
 
 impl<'g> Tables<'g> {
-    /// The tables of a grammar.
-    pub fn new(alloc: Global, grammar: &'g Grammar) -> Result<Tables<'g>, AllocError>
-        ensures { IfOk result (λ tables. tables ≡ grammar.now) }
+    /// The tables of a grammar by weights that have a number for each token.
+    pub fn new(
+        alloc: Global,
+        grammar: &'g Grammar,
+        weights: &'g Weights,
+    ) -> Result<Tables<'g>, AllocError>
+        requires { length weights.now.numbers ≡ grammar.now.tokens }
+        ensures { IfOk result (λ tables.
+            tables ≡ record { grammar = grammar.now; weights = weights.now }) }
     {
-        let costs = Costs::new(alloc, grammar)?;
+        let costs = Costs::new(alloc, grammar, weights)?;
         let embeds = Embeds::new(alloc, &costs)?;
         let pairs = Pairs::new(alloc, &costs, &embeds)?;
         Ok(Tables {
-            grammar,
             costs,
             embeds,
             pairs,
@@ -47,9 +51,16 @@ impl<'g> Tables<'g> {
 
     /// The grammar that these are the tables of.
     pub fn grammar(&self) -> &'g Grammar
-        ensures { result.now ≡ self.now }
+        ensures { result.now ≡ self.now.grammar }
     {
-        self.grammar
+        self.costs.grammar()
+    }
+
+    /// The weights that sizes are measured by.
+    pub fn weights(&self) -> &'g Weights
+        ensures { result.now ≡ self.now.weights }
+    {
+        self.costs.weights()
     }
 
     /// What the least trees of its symbols cost, and which trees are chosen.

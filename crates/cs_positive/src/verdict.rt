@@ -5,10 +5,10 @@ use cs_grammar::Derivation;
 /// What is told of the trees of the start symbol that meet a goal.
 #[derive(Debug, Drop)]
 pub enum Verdict {
-    /// The least such tree has `size` nodes, leaves counted, and `derivation` is the code of the chosen one.
+    /// The least such tree has this size, and `derivation` is the code of the chosen one.
     Feasible { size: u32, derivation: Derivation },
     /// There is no such tree.
     Infeasible,
-    /// There is such a tree, and each has more than `LIMIT` nodes.
+    /// There is such a tree, and each is larger than the limit.
     Large,
 }

@@ -1,5 +1,4 @@
 use Rattle.std.proofs.Common.{◌-◌, take}
-use Rattle.cs_grammar.specs.declared.TheConstants.{LIMIT}
 use Rattle.cs_cost.specs.Least.{IsCost}
 use Rattle.cs_pairs.specs.Filled.{IsFilled}
 use Rattle.cs_pairs.specs.Fronts.{AreFront, front_size}
@@ -7,6 +6,6 @@ use Rattle.cs_pairs.proofs.fronts.fronts_of.Given as goal
 
 abbrev pub invariant-loop-symbol : goal.invariant-loop-symbol
 invariant-loop-symbol l = record {
-  so_far : IsFilled LIMIT (λ n. AreFront l.costs l.rule.left (take (n - 1) l.rule.right)) front_size l.symbol-index l.fronts.items;
-  is_front : IsCost LIMIT (AreFront l.costs l.rule.left (take l.symbol-index l.rule.right)) front_size l.front;
+  so_far : IsFilled l.costs.weights.limit (λ n. AreFront l.costs.grammar l.rule.left (take (n - 1) l.rule.right)) (front_size l.costs.weights) l.symbol-index l.fronts.items;
+  is_front : IsCost l.costs.weights.limit (AreFront l.costs.grammar l.rule.left (take l.symbol-index l.rule.right)) (front_size l.costs.weights) l.front;
 }

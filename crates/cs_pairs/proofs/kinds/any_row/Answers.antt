@@ -1,5 +1,4 @@
 use Rattle.std.proofs.Common.{◌+◌, sym, ap, ◌∙◌, subst}
-use Rattle.cs_grammar.specs.declared.TheConstants.{LIMIT}
 use Rattle.cs_grammar.specs.declared.symbol.Symbol.TheVariants.{Nonterminal}
 use Rattle.cs_grammar.specs.Grammar.{PlainGrammar, IsGrammar}
 use Rattle.cs_grammar.specs.Tree.{size}
@@ -13,15 +12,15 @@ use Rattle.cs_pairs.proofs.kinds.any_row.Goals as goal
 
 pub loop-place-preserved : goal.loop-place-preserved
 loop-place-preserved c =
-    let g = c.args.costs.now in
+    let g = c.args.costs.now.grammar in
     let n = c.loop-place.place in
-    subst (IsFilled LIMIT (λ m. IsTreeOfKind g Any (Nonterminal m)) size (n + 1)) (sym c.in_ok-push.ensures.items)
-    (filled_more LIMIT (λ m. IsTreeOfKind g Any (Nonterminal m)) size n _ _ c.loop-place.invariant (of_any LIMIT g (Nonterminal (n + 1)) _ c.cost.ensures))
+    subst (IsFilled c.args.costs.now.weights.limit (λ m. IsTreeOfKind g Any (Nonterminal m)) (size c.args.costs.now.weights) (n + 1)) (sym c.in_ok-push.ensures.items)
+    (filled_more c.args.costs.now.weights.limit (λ m. IsTreeOfKind g Any (Nonterminal m)) (size c.args.costs.now.weights) n _ _ c.loop-place.invariant (of_any c.args.costs.now.weights g (Nonterminal (n + 1)) _ c.cost.ensures))
 
 pub returns : goal.returns
 returns c =
-    let g = c.args.costs.now in
+    let g = c.args.costs.now.grammar in
     let grammar = subst IsGrammar c.grammar.ensures c.rules-rules.ensures.well_formed in
     let end = c.nonterminals-place-end.ensures ∙ ap (λ (s : PlainGrammar). s.nonterminals) c.grammar-2.ensures in
-    subst (AreCosts LIMIT g Any) (sym c.new.ensures)
-    (any_costs LIMIT g _ grammar (filled_all LIMIT (λ m. IsTreeOfKind g Any (Nonterminal m)) size _ _ _ _ c.loop-place.invariant c.loop-place-test.false end c.loop-place.auto.place-end))
+    subst (AreCosts c.args.costs.now.weights g Any) (sym c.new.ensures)
+    (any_costs c.args.costs.now.weights g _ grammar (filled_all c.args.costs.now.weights.limit (λ m. IsTreeOfKind g Any (Nonterminal m)) (size c.args.costs.now.weights) _ _ _ _ c.loop-place.invariant c.loop-place-test.false end c.loop-place.auto.place-end))

@@ -1,5 +1,4 @@
 use Rattle.std.proofs.Common.{◌+◌, sym, subst}
-use Rattle.cs_grammar.specs.declared.TheConstants.{LIMIT}
 use Rattle.cs_pairs.specs.declared.kind.Kind.TheVariants.{Begins}
 use Rattle.cs_pairs.specs.Tables.{AreExactRows}
 use Rattle.cs_pairs.proofs.KindCosts.{exact_rows_more}
@@ -11,5 +10,5 @@ loop-place-preserved c =
     let any = c.args.any.now in
     let empty = c.args.empty.now in
     let n = c.loop-place.place in
-    subst (AreExactRows LIMIT g Begins any empty (n + 1)) (sym c.in_ok-push.ensures.items)
-    (exact_rows_more LIMIT g Begins any empty n _ _ _ _ _ c.loop-place.invariant c.costs.ensures c.costs-in-loop-place.ensures c.new.ensures c.in_ok-row.ensures)
+    subst (AreExactRows c.args.weights.now g Begins any empty (n + 1)) (sym c.in_ok-push.ensures.items)
+    (exact_rows_more c.args.weights.now g Begins any empty n _ _ _ _ _ c.loop-place.invariant c.costs.ensures c.costs-in-loop-place.ensures c.new.ensures c.in_ok-row.ensures)

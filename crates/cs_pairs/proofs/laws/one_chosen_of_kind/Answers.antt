@@ -2,7 +2,7 @@ use Rattle.cs_pairs.proofs.ChosenKinds.{one_of_kind, any_chosen, chosen_any}
 use Rattle.cs_pairs.proofs.laws.one_chosen_of_kind.Goals as goal
 
 pub returns-clause-one : goal.returns-clause-one
-returns-clause-one c = λ g k x t u ht hu. one_of_kind g t u k x ht hu
+returns-clause-one c = λ w g k x t u ht hu. one_of_kind w g t u k x ht hu
 
 pub returns-clause-any : goal.returns-clause-any
-returns-clause-any c = λ g x t. (any_chosen g t x, chosen_any g t x)
+returns-clause-any c = λ w g x t. (any_chosen w g t x, chosen_any w g t x)

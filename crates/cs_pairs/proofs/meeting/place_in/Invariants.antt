@@ -1,5 +1,4 @@
 use Rattle.std.proofs.Common.{◌≡◌, drop}
-use Rattle.cs_grammar.specs.declared.TheConstants.{LIMIT}
 use Rattle.cs_cost.specs.Rank.{rank}
 use Rattle.cs_pairs.specs.declared.kind.Kind.TheVariants.{Begins}
 use Rattle.cs_pairs.specs.Sweep.{IsSwept}
@@ -10,6 +9,6 @@ use Rattle.cs_pairs.proofs.meeting.place_in.Given as goal
 abbrev pub invariant-loop-place : goal.invariant-loop-place
 invariant-loop-place l = record {
   is_kind : l.sweep.kind ≡ Begins l.tokens.second;
-  swept : IsSwept LIMIT l.kinds (drop l.place l.right) l.sweep;
-  found : IsFoundIn l.kinds l.tokens.first l.tokens.second l.fn.number (rank LIMIT l.cost) l.place l.found;
+  swept : IsSwept l.kinds.weights l.kinds.grammar (drop l.place l.right) l.sweep;
+  found : IsFoundIn l.kinds.weights l.kinds.grammar l.tokens.first l.tokens.second l.fn.number (rank l.kinds.weights.limit l.cost) l.place l.found;
 }

@@ -1,5 +1,4 @@
 use Rattle.std.proofs.Common.{sym, ap, ◌∙◌, subst, replicate}
-use Rattle.cs_grammar.specs.declared.TheConstants.{LIMIT}
 use Rattle.cs_cost.specs.declared.cost.Cost.TheVariants.{Never}
 use Rattle.cs_pairs.specs.Rows.{IsSoundRow}
 use Rattle.cs_pairs.proofs.RowRounds.{blank_row}
@@ -9,4 +8,4 @@ pub loop-kind-init : goal.loop-kind-init
 loop-kind-init c =
     let items = c.in_ok-own.ensures.items_if_clones_equal (λ y e. e) in
     let all = items ∙ ap (λ n. replicate n Never) c.nonterminals.ensures in
-    subst (IsSoundRow LIMIT c.args.grammar.now c.args.kind) (sym all) (blank_row LIMIT c.args.grammar.now c.args.kind)
+    subst (IsSoundRow c.args.weights.now c.args.grammar.now c.args.kind) (sym all) (blank_row c.args.weights.now c.args.grammar.now c.args.kind)

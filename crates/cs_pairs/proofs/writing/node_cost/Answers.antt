@@ -1,6 +1,5 @@
 use Rattle.std.proofs.Common.{◌≡◌, ◌+◌, ◌-◌, ◌<◌, List, length, sym, subst, ◌∙◌, arith}
 use Rattle.std.proofs.lemmas.List.{at_drop_all}
-use Rattle.cs_grammar.specs.declared.TheConstants.{LIMIT}
 use Rattle.cs_grammar.specs.declared.symbol.Symbol.{Symbol}
 use Rattle.cs_grammar.specs.declared.symbol.Symbol.TheVariants.{Token}
 use Rattle.cs_pairs.specs.Sweep.{IsSwept}
@@ -13,7 +12,7 @@ loop-index-init c =
     let none = at_drop_all (λ (l : List Symbol). l) xs (length xs) (omega arith) in
     record {
       is_kind = c.new-sweep.ensures.kind;
-      swept = subst (λ (l : List Symbol). IsSwept LIMIT c.args.kinds.now l c.new-sweep.result) (sym none) (c.new-sweep.ensures.swept c.args.kinds.now);
+      swept = subst (λ (l : List Symbol). IsSwept c.args.kinds.now.weights c.args.kinds.now.grammar l c.new-sweep.result) (sym none) (c.new-sweep.ensures.swept c.args.kinds.now.weights c.args.kinds.now.grammar);
     }
 
 pub loop-index-preserved : goal.loop-index-preserved
@@ -23,5 +22,5 @@ loop-index-preserved c =
     let within : c.loop-index.index - 1 < length xs = omega (arith, c.loop-index-test.true) in
     record {
       is_kind = c.over-sweep.ensures.kind ∙ c.loop-index.invariant.is_kind;
-      swept = subst (λ (l : List Symbol). IsSwept LIMIT c.args.kinds.now l c.over-sweep.result) (left_from xs _ _ (Token 0) next within) (c.over-sweep.ensures.swept _ c.loop-index.invariant.swept);
+      swept = subst (λ (l : List Symbol). IsSwept c.args.kinds.now.weights c.args.kinds.now.grammar l c.over-sweep.result) (left_from xs _ _ (Token 0) next within) (c.over-sweep.ensures.swept _ c.loop-index.invariant.swept);
     }

@@ -1,6 +1,5 @@
 use Rattle.std.proofs.Common.{◌≡◌, ◌+◌, ◌-◌, ◌<◌, List, length, sym, subst, ◌∙◌, arith}
 use Rattle.std.proofs.lemmas.List.{at_drop_all}
-use Rattle.cs_grammar.specs.declared.TheConstants.{LIMIT}
 use Rattle.cs_grammar.specs.declared.symbol.Symbol.{Symbol}
 use Rattle.cs_grammar.specs.declared.symbol.Symbol.TheVariants.{Token}
 use Rattle.cs_cost.proofs.Ranks.{cost_capped}
@@ -16,19 +15,19 @@ loop-index-init c =
     record {
       is_kind = c.new-sweep.ensures.kind;
       within = omega arith;
-      swept = subst (λ (l : List Symbol). IsSwept LIMIT c.args.kinds.now l c.new-sweep.result) (sym none) (c.new-sweep.ensures.swept c.args.kinds.now);
-      placed = place_none c.args.kinds.now c.args.kind (length xs) (length xs) _ none;
+      swept = subst (λ (l : List Symbol). IsSwept c.args.kinds.now.weights c.args.kinds.now.grammar l c.new-sweep.result) (sym none) (c.new-sweep.ensures.swept c.args.kinds.now.weights c.args.kinds.now.grammar);
+      placed = place_none c.args.kinds.now.weights c.args.kinds.now.grammar c.args.kind (length xs) (length xs) _ none;
     }
 
 pub at_most-requires-clause-a : goal.at_most-requires-clause-a
-at_most-requires-clause-a c = cost_capped LIMIT _ _ _ (c.ways-ways.ensures _ c.loop-index.invariant.swept).is_here
+at_most-requires-clause-a c = cost_capped c.args.kinds.now.weights.limit _ _ _ (c.ways-ways.ensures _ c.loop-index.invariant.swept).is_here
 
 pub at_most-requires-clause-b : goal.at_most-requires-clause-b
-at_most-requires-clause-b c = cost_capped LIMIT _ _ _ (c.ways-ways.ensures _ c.loop-index.invariant.swept).is_later
+at_most-requires-clause-b c = cost_capped c.args.kinds.now.weights.limit _ _ _ (c.ways-ways.ensures _ c.loop-index.invariant.swept).is_later
 
 pub loop-index-preserved : goal.loop-index-preserved
 loop-index-preserved c =
-    let g = c.args.kinds.now in
+    let g = c.args.kinds.now.grammar in
     let k = c.args.kind in
     let xs = c.args.symbols.now in
     let so_far = c.loop-index.invariant in
@@ -36,20 +35,20 @@ loop-index-preserved c =
     let within : c.loop-index.index - 1 < length xs = omega (arith, c.loop-index-test.true) in
     let ways = c.ways-ways.ensures _ so_far.swept in
     let is_kind = c.over-sweep.ensures.kind ∙ so_far.is_kind in
-    let swept = subst (λ (l : List Symbol). IsSwept LIMIT g l c.over-sweep.result) (left_from xs _ _ (Token 0) next within) (c.over-sweep.ensures.swept _ so_far.swept) in
+    let swept = subst (λ (l : List Symbol). IsSwept c.args.kinds.now.weights g l c.over-sweep.result) (left_from xs _ _ (Token 0) next within) (c.over-sweep.ensures.swept _ so_far.swept) in
     elim c.if-at_most.branch [
       | then-at_most w ↦
           rw w.place-is (record {
             is_kind = is_kind;
             within = omega arith;
             swept = swept;
-            placed = place_taken LIMIT g k _ xs _ _ (Token 0) 0 _ _ next within so_far.is_kind ways.is_here ways.is_later (c.at_most.ensures.0 w.if-at_most.true);
+            placed = place_taken c.args.kinds.now.weights g k _ xs _ _ (Token 0) 0 _ _ next within so_far.is_kind ways.is_here ways.is_later (c.at_most.ensures.0 w.if-at_most.true);
           })
       | else-at_most w ↦
           rw w.place-is (record {
             is_kind = is_kind;
             within = omega (arith, so_far.within);
             swept = swept;
-            placed = place_passed LIMIT g k _ xs _ _ (Token 0) _ _ _ next within so_far.is_kind ways.is_here ways.is_later so_far.within (not_at_most _ _ _ w.if-at_most.false c.at_most.ensures) so_far.placed;
+            placed = place_passed c.args.kinds.now.weights g k _ xs _ _ (Token 0) _ _ _ next within so_far.is_kind ways.is_here ways.is_later so_far.within (not_at_most _ _ _ w.if-at_most.false c.at_most.ensures) so_far.placed;
           })
     ]

@@ -1,5 +1,4 @@
 use Rattle.std.proofs.Common.{◌≡◌, ◌≤◌, drop}
-use Rattle.cs_grammar.specs.declared.TheConstants.{LIMIT}
 use Rattle.cs_grammar.specs.Tree.{Forest, sizes}
 use Rattle.cs_pairs.specs.ChosenKind.{AreChosenOfKind}
 use Rattle.cs_pairs.specs.Sweep.{IsSwept}
@@ -11,6 +10,6 @@ abbrev pub invariant-loop-index : goal.invariant-loop-index
 invariant-loop-index l = record {
   is_kind : l.sweep.kind ≡ l.fn.kind;
   within : l.index ≤ l.place;
-  swept : IsSwept LIMIT l.kinds (drop l.index l.symbols) l.sweep;
-  placed : (f : Forest) → AreChosenOfKind l.kinds l.fn.kind (drop l.index l.symbols) f → sizes f ≤ LIMIT → AreChosenParts l.kinds (parts_from l.fn.kind l.place l.index (drop l.index l.symbols)) f;
+  swept : IsSwept l.kinds.weights l.kinds.grammar (drop l.index l.symbols) l.sweep;
+  placed : (f : Forest) → AreChosenOfKind l.kinds.weights l.kinds.grammar l.fn.kind (drop l.index l.symbols) f → sizes l.kinds.weights f ≤ l.kinds.weights.limit → AreChosenParts l.kinds.weights l.kinds.grammar (parts_from l.fn.kind l.place l.index (drop l.index l.symbols)) f;
 }

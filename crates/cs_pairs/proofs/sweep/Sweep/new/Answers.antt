@@ -1,12 +1,11 @@
 use Rattle.std.proofs.Common.{ap, ◌∙◌}
-use Rattle.cs_grammar.specs.declared.TheConstants.{LIMIT}
 use Rattle.cs_pairs.specs.Kinds.{behind}
 use Rattle.cs_pairs.specs.ListCost.{bare_cost}
 use Rattle.cs_pairs.proofs.Sweeping.{swept_none}
 use Rattle.cs_pairs.proofs.sweep.Sweep.new.Goals as goal
 
 pub returns-clause-swept : goal.returns-clause-swept
-returns-clause-swept c = λ g. record {
-  is_whole = rw c.bare_cost.ensures.cost (swept_none LIMIT g c.args.kind);
-  is_rest = (let same = c.bare_cost-2.ensures.cost ∙ ap bare_cost c.behind.ensures in rw same (swept_none LIMIT g (behind c.args.kind)));
+returns-clause-swept c = λ w g. record {
+  is_whole = rw c.bare_cost.ensures (swept_none w g c.args.kind);
+  is_rest = (let same = c.bare_cost-2.ensures ∙ ap bare_cost c.behind.ensures in rw same (swept_none w g (behind c.args.kind)));
 }

@@ -1,5 +1,4 @@
 use Rattle.std.proofs.Common.{◌∷◌, sym, subst}
-use Rattle.cs_grammar.specs.declared.TheConstants.{LIMIT}
 use Rattle.cs_grammar.specs.Tree.{size, sizes}
 use Rattle.cs_cost.specs.Least.{IsCost}
 use Rattle.cs_cost.proofs.Ranks.{cost_capped}
@@ -11,20 +10,20 @@ use Rattle.cs_pairs.proofs.sweep.Sweep.over.Goals as goal
 
 pub lesser-requires-clause-a : goal.lesser-requires-clause-a
 lesser-requires-clause-a c =
-    cost_capped LIMIT (AreHere c.args.kinds.now c.args.self.kind c.args.symbol c.requires.swept.0) joint_size _ (c.ways-ways.ensures c.requires.swept.0 c.requires.swept.1).is_here
+    cost_capped c.args.kinds.now.weights.limit (AreHere c.args.kinds.now.grammar c.args.self.kind c.args.symbol c.requires.swept.0) (joint_size c.args.kinds.now.weights) _ (c.ways-ways.ensures c.requires.swept.0 c.requires.swept.1).is_here
 
 pub lesser-requires-clause-b : goal.lesser-requires-clause-b
 lesser-requires-clause-b c =
-    cost_capped LIMIT (AreLater c.args.kinds.now c.args.self.kind c.args.symbol c.requires.swept.0) joint_size _ (c.ways-ways.ensures c.requires.swept.0 c.requires.swept.1).is_later
+    cost_capped c.args.kinds.now.weights.limit (AreLater c.args.kinds.now.grammar c.args.self.kind c.args.symbol c.requires.swept.0) (joint_size c.args.kinds.now.weights) _ (c.ways-ways.ensures c.requires.swept.0 c.requires.swept.1).is_later
 
 pub returns-clause-swept : goal.returns-clause-swept
 returns-clause-swept c = λ xs swept.
-    let g = c.args.kinds.now in
+    let g = c.args.kinds.now.grammar in
     let k = c.args.self.kind in
     let x = c.args.symbol in
     let ways = c.ways-ways.ensures xs swept in
-    let other = subst (λ (j : Kind). IsCost LIMIT (IsTreeOfKind g j x) size c.told.result) c.behind.ensures c.told.ensures in
+    let other = subst (λ (j : Kind). IsCost c.args.kinds.now.weights.limit (IsTreeOfKind g j x) (size c.args.kinds.now.weights) c.told.result) c.behind.ensures c.told.ensures in
     record {
-      is_whole = subst (IsCost LIMIT (AreTreesOfKind g k (x ∷ xs)) sizes) (sym c.lesser.ensures.cost) (lesser_way LIMIT g k x xs _ _ ways.is_here ways.is_later);
-      is_rest = subst (IsCost LIMIT (AreTreesOfKind g (behind k) (x ∷ xs)) sizes) (sym c.plus.ensures) (behind_cost LIMIT g k x xs _ _ other swept.is_rest);
+      is_whole = subst (IsCost c.args.kinds.now.weights.limit (AreTreesOfKind g k (x ∷ xs)) (sizes c.args.kinds.now.weights)) (sym c.lesser.ensures.cost) (lesser_way c.args.kinds.now.weights g k x xs _ _ ways.is_here ways.is_later);
+      is_rest = subst (IsCost c.args.kinds.now.weights.limit (AreTreesOfKind g (behind k) (x ∷ xs)) (sizes c.args.kinds.now.weights)) (sym c.plus.ensures) (behind_cost c.args.kinds.now.weights g k x xs _ _ other swept.is_rest);
     }

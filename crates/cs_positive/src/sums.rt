@@ -1,0 +1,26 @@
+// Costs together, by the limit of the weights.
+
+ghost use Rattle.std.specs.Prelude.{◌≡◌};
+ghost use Rattle.cs_cost.specs.Rank.{IsCapped, cost_of, plus};
+
+use cs_cost::{Cost, Costs, cost_of, plus};
+
+// Two parts.
+pub(crate) fn joint_cost(costs: &Costs, a: Cost, b: Cost) -> Cost
+    requires a { IsCapped costs.now.weights.limit a }
+    requires b { IsCapped costs.now.weights.limit b }
+    ensures cost { result ≡ plus costs.now.weights.limit a b }
+    ensures capped { IsCapped costs.now.weights.limit result }
+{
+    plus(a, b, costs.weights().limit())
+}
+
+// A node above its children.
+pub(crate) fn node_cost(costs: &Costs, children: Cost) -> Cost
+    requires { IsCapped costs.now.weights.limit children }
+    ensures cost { result ≡ plus costs.now.weights.limit (cost_of costs.now.weights.limit 1) children }
+    ensures capped { IsCapped costs.now.weights.limit result }
+{
+    let limit = costs.weights().limit();
+    plus(cost_of(1, limit), children, limit)
+}
