@@ -24,7 +24,6 @@ use Rattle.cs_embed.specs.Embeds.{AreSiblings, siblings_size, IsEarlier, step_co
 use Rattle.cs_cost.proofs.Ranks.{plus_written, cost_low, cost_least}
 use Rattle.cs_cost.proofs.Rules.{well_formed_at}
 use Rattle.cs_cost.proofs.ChosenTrees.{AreTrees-chosen, all_chosen}
-use Rattle.cs_cost.proofs.Written.{rule_read}
 use Rattle.cs_cost.proofs.Tables.{entry-at}
 use Rattle.cs_embed.proofs.ChosenContexts.{count_is, IsContext-chosen, chosen_context_least}
 use Rattle.cs_embed.proofs.Lists.{All-left, All-right}
@@ -239,11 +238,6 @@ leads_more w g start_steps start items steps out out' out'' s p e rule pushed ap
 -- the last of the steps that are left
 pub last_small : (w : Measure) (g : PlainGrammar) (items steps : List Step) (s : Step) → items ≡ steps ++ s ∷ [] → All (IsSmallStep w g) items → IsSmallStep w g s
 last_small w g items steps s e each = All-head (IsSmallStep w g) s [] (All-right (IsSmallStep w g) steps (s ∷ []) (subst (λ (l : List Step). All (IsSmallStep w g) l) e each))
-
--- the rule that the code reads by a step's number
-pub rule_here : (g h : PlainGrammar) (r : ℕ) (p q : Production) (rules : List Production) → IsRule g r p → rules ≡ h.rules → h ≡ g → q ≡ get_or rules (r - 1) q → IsRule g r q
-rule_here g h r p q rules rule e same read =
-    subst (λ (v : Production). IsRule g r v) (sym (rule_read g r p q rules rule (e ∙ ap (λ (v : PlainGrammar). v.rules) same) read)) rule
 
 -- what the code reads of a table at a number
 pub entry_read : (table : List Cost) (n : ℕ) (c : Cost) → IsNumberOf (length table) n → c ≡ get_or table (n - 1) c → c ≡ entry table n

@@ -1,9 +1,9 @@
 -- The table of what the least contexts cost, and the first steps outwards of the chosen ones.
-use Rattle.std.specs.Prelude.{◌≡◌, ◌≢◌, ℕ, ◌+◌, ◌-◌, ◌<◌, ◌≤◌, ◌⊎◌, List, [], ◌∷◌, ◌++◌, Option, Some, None, length, reverse, take, slice_get, All}
+use Rattle.std.specs.Prelude.{◌≡◌, ◌≢◌, ℕ, ◌+◌, ◌-◌, ◌<◌, ◌≤◌, ◌⊎◌, List, [], ◌∷◌, ◌++◌, Option, Some, None, length, reverse, take, slice_get, slice_index_or, All}
 use Rattle.cs_grammar.specs.declared.symbol.Symbol.{Symbol}
 use Rattle.cs_grammar.specs.declared.symbol.Symbol.TheVariants.{Nonterminal}
 use Rattle.cs_grammar.specs.Grammar.{Production, PlainGrammar, IsRule, IsNumberOf, IsGrammar}
-use Rattle.cs_grammar.specs.Weights.{Measure}
+use Rattle.cs_grammar.specs.Weights.{Measure, Weighed}
 use Rattle.cs_grammar.specs.Tree.{Forest, AreTrees, sizes, codes_of}
 use Rattle.cs_grammar.specs.Context.{Context, Under, context_size, code_before, code_after}
 use Rattle.cs_cost.specs.declared.cost.Cost.{Cost}
@@ -20,6 +20,10 @@ AreSiblings g xs ys fs = AreTrees g xs fs.0 × AreTrees g ys fs.1
 
 abbrev pub siblings_size : Measure → Forest × Forest → ℕ
 siblings_size w fs = 1 + (sizes w fs.0 + sizes w fs.1)
+
+-- what the least siblings between these symbols cost
+abbrev pub IsSiblingsCost : Weighed → List Symbol → List Symbol → Cost → Type 0
+IsSiblingsCost v xs ys cost = IsCost v.weights.limit (AreSiblings v.grammar xs ys) (siblings_size v.weights) cost
 
 -- a step is at a place of a rule where its inner nonterminal stands, and tells what the siblings there cost
 pub record IsStep (w : Measure) (g : PlainGrammar) (s : Step) : Type 0 where
@@ -64,6 +68,11 @@ pub record IsFirstStep (w : Measure) (g : PlainGrammar) (embeds : List Cost) (n 
   pub inner : s.inner ≡ n
   pub cost : rank w.limit (step_cost w.limit embeds s) ≤ rank w.limit (entry embeds n)
   pub earlier : (outer : Context) → (q : ℕ) → (left right : Forest) → IsContextOf g n (Under outer q left right) → IsEarlier q (count left) s.rule s.place → rank w.limit (entry embeds n) < capped w.limit (context_size w (Under outer q left right))
+
+-- the step costs no more than the table says of its inner nonterminal, of which no step is known so far
+pub record IsFirstSoFar (w : Measure) (embeds : List Cost) (firsts : List (Option Step)) (s : Step) : Type 0 where
+  pub unknown : slice_index_or firsts (s.inner - 1) None ≡ None
+  pub cost : rank w.limit (step_cost w.limit embeds s) ≤ rank w.limit (entry embeds s.inner)
 
 -- the first step of each nonterminal that has a context within the limit; the start symbol has none
 pub record AreFirstSteps (w : Measure) (g : PlainGrammar) (embeds : List Cost) (firsts : List (Option Step)) : Type 0 where

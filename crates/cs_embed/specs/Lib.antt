@@ -2,4 +2,4 @@ pub mod ChosenContext
 pub mod Around
 pub mod Embeds
 pub mod Links
-pub mod StepsOf
+pub mod Kept

@@ -1,21 +1,23 @@
 // What the least context of each nonterminal costs, and the first step of the chosen one.
 
-ghost use Rattle.std.specs.Prelude.{◌≡◌, ◌-◌, ◌≤◌, IfOk, ◌↔◌, IsTrue, MatchOption, length, map, slice_index_or, All};
+ghost use Rattle.std.specs.Prelude.{◌≡◌, ◌↔◌, IfOk, IfNone, IfSome, IsTrue, length, map, All};
 ghost use Rattle.cs_grammar.specs.Grammar.{IsNumberOf};
-ghost use Rattle.cs_cost.specs.Rank.{rank, IsCapped, entry};
-ghost use Rattle.cs_embed.specs.Embeds.{AreSteps, step_cost, IsEmbedTable, AreFirstSteps};
-ghost use Rattle.cs_embed.specs.Links.{IsLink, AreLinks, told_cost};
+ghost use Rattle.cs_cost.specs.Rank.{IsCapped};
+ghost use Rattle.cs_embed.specs.Embeds.{IsFirstSoFar};
+ghost use Rattle.cs_embed.specs.Links.{IsLink, told_cost};
+ghost use Rattle.cs_embed.specs.Kept.{AreAllSteps, AreLinksOf, IsTableOf, AreFirstStepsOf};
 
 use crate::step::{Step, Steps, step_cost};
 use cs_cost::{Cost, is_below};
-use cs_grammar::Weights;
+use cs_grammar::{Weights, place_of};
 use cs_ways::{Reach, Source, least_ways};
 use std::alloc::{AllocError, Global};
 
 // A step outwards as a step inwards between nonterminals, if there are trees beside the hole.
 fn link_of(step: Step, weights: &Weights) -> Option<cs_ways::Step>
     requires { IsCapped weights.now.limit step.others }
-    ensures { MatchOption result (step.others ≡ Cost.Never) (IsLink weights.now.limit step) }
+    ensures none { IfNone result (step.others ≡ Cost.Never) }
+    ensures some { IfSome result (IsLink weights.now.limit step) }
 {
     match step.others {
         Cost::Never => None,
@@ -33,8 +35,8 @@ fn link_of(step: Step, weights: &Weights) -> Option<cs_ways::Step>
 }
 
 fn links_of(alloc: Global, steps: &Steps) -> Result<Vec<cs_ways::Step>, AllocError>
-    requires { AreSteps steps.now.weights.now steps.now.grammar.now steps.now.list.items }
-    ensures { IfOk result (λ links. AreLinks steps.now.weights.now.limit steps.now.list.items links.items) }
+    requires { AreAllSteps steps.now }
+    ensures { IfOk result (AreLinksOf steps.now) }
 {
     let mut links = Vec::new(alloc);
     for step in &steps.list {
@@ -67,8 +69,8 @@ fn costs_of(alloc: Global, table: &[Reach]) -> Result<Vec<Cost>, AllocError>
 
 // What the least context of each nonterminal costs: a context is a way from the start symbol.
 pub(crate) fn embed_table(alloc: Global, steps: &Steps) -> Result<Vec<Cost>, AllocError>
-    requires { AreSteps steps.now.weights.now steps.now.grammar.now steps.now.list.items }
-    ensures { IfOk result (λ embeds. IsEmbedTable steps.now.weights.now steps.now.grammar.now embeds.items) }
+    requires { AreAllSteps steps.now }
+    ensures { IfOk result (λ embeds. IsTableOf steps.now embeds.items) }
 {
     let grammar = steps.grammar;
     let links = links_of(alloc, steps)?;
@@ -89,10 +91,9 @@ fn is_first(embeds: &[Cost], firsts: &[Option<Step>], step: Step, weights: &Weig
     requires others { IsCapped weights.now.limit step.others }
     requires embeds { All (IsCapped weights.now.limit) embeds.now }
     requires firsts { length firsts.now ≡ length embeds.now }
-    ensures { IsTrue result ↔ ((slice_index_or firsts.now (step.inner - 1) None ≡ None)
-        × (rank weights.now.limit (step_cost weights.now.limit embeds.now step) ≤ rank weights.now.limit (entry embeds.now step.inner))) }
+    ensures { IsTrue result ↔ IsFirstSoFar weights.now embeds.now firsts.now step }
 {
-    let place = step.inner as usize - 1;
+    let place = place_of(step.inner);
     firsts[place].is_none() && !is_below(embeds[place], step_cost(embeds, step, weights))
 }
 
@@ -102,14 +103,14 @@ pub(crate) fn first_steps(
     steps: &Steps,
     embeds: &[Cost],
 ) -> Result<Vec<Option<Step>>, AllocError>
-    requires steps { AreSteps steps.now.weights.now steps.now.grammar.now steps.now.list.items }
-    requires embeds { IsEmbedTable steps.now.weights.now steps.now.grammar.now embeds.now }
-    ensures { IfOk result (λ firsts. AreFirstSteps steps.now.weights.now steps.now.grammar.now embeds.now firsts.items) }
+    requires steps { AreAllSteps steps.now }
+    requires embeds { IsTableOf steps.now embeds.now }
+    ensures { IfOk result (AreFirstStepsOf steps.now embeds.now) }
 {
     let mut firsts = vec![in alloc; None; embeds.len()]?;
     for step in &steps.list {
         if is_first(embeds, &firsts, *step, steps.weights) {
-            firsts[step.inner as usize - 1] = Some(*step);
+            firsts[place_of(step.inner)] = Some(*step);
         }
     }
     Ok(firsts)

@@ -48,6 +48,14 @@ IsRuleOf-rule g r p well rule = All-at (IsRuleOf g.tokens g.nonterminals) g.rule
 pub IsNumberOf-rule : (g : PlainGrammar) (r : ℕ) (p : Production) → IsRule g r p → IsNumberOf (length g.rules) r
 IsNumberOf-rule g r p rule = let within = slice_get_within g.rules (r - 1) p rule.at in (rule.above_zero, omega (arith, within, rule.above_zero))
 
+-- a rule that was read of the same grammar is a rule of it
+pub rule_here : (g h : PlainGrammar) (r : ℕ) (p : Production) → h ≡ g → IsRule h r p → IsRule g r p
+rule_here g h r p same rule = subst (λ (k : PlainGrammar). IsRule k r p) same rule
+
+-- and its number is one that may be read there
+pub rule_number : (g h : PlainGrammar) (r : ℕ) (p : Production) → h ≡ g → IsRule g r p → IsNumberOf (length h.rules) r
+rule_number g h r p same rule = subst (λ (k : PlainGrammar). IsNumberOf (length k.rules) r) (sym same) (IsNumberOf-rule g r p rule)
+
 -- the tokens of a yield are tokens of the grammar
 module _ (g : PlainGrammar) (well : IsGrammar g) where
   mutual

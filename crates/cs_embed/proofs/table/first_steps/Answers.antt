@@ -21,8 +21,8 @@ is_first-requires c =
     let ready = step_ready c.args.steps.now.weights.now _ _ _ _ _ c.requires.steps c.requires.embeds.many at in
     record { outer = ready.outer; inner = ready.inner; others = ready.others; embeds = c.requires.embeds.each; firsts = ap length c.deref.ensures.value ∙ c.loop-step.invariant.many ∙ sym c.requires.embeds.many }
 
-pub overflow_sub-step : goal.overflow_sub-step
-overflow_sub-step c =
+pub place_of-requires : goal.place_of-requires
+place_of-requires c =
     let at = step_read _ _ _ no_step c.deref-step-items.ensures.value c.loop-step-test.true in
     (step_ready c.args.steps.now.weights.now _ _ _ _ _ c.requires.steps c.requires.embeds.many at).inner.0
 
@@ -38,12 +38,12 @@ loop-step-preserved c =
     elim c.if-is_first.branch [
       | then-is_first w ↦
           let first = c.is_first.ensures.0 w.if-is_first.true in
-          rw w.firsts-is
-          (firsts_more c.args.steps.now.weights.now _ _ _ _ _ _ c.requires.steps c.requires.embeds at c.loop-step.invariant (read_at _ c.deref.ensures.value first.0) first.1)
+          rw (w.firsts-is, w.place_of.ensures)
+          (firsts_more c.args.steps.now.weights.now _ _ _ _ _ _ c.requires.steps c.requires.embeds at c.loop-step.invariant (read_at _ c.deref.ensures.value first.unknown) first.cost)
       | else-is_first w ↦
           rw w.firsts-is
           (firsts_kept c.args.steps.now.weights.now _ _ _ _ _ _ c.requires.steps c.requires.embeds at c.loop-step.invariant
-          (λ first. false≢true (sym w.if-is_first.false ∙ c.is_first.ensures.1 (read_at _ (sym c.deref.ensures.value) first.0, first.1))))
+          (λ first. false≢true (sym w.if-is_first.false ∙ c.is_first.ensures.1 (record { unknown = read_at _ (sym c.deref.ensures.value) first.0; cost = first.1 }))))
     ]
 
 pub returns : goal.returns

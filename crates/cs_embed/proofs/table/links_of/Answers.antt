@@ -15,8 +15,8 @@ loop-step-preserved c =
     elim c.match-link_of.branch [
       | in-Some+in_ok-push w ↦
           rw (w.links-is, w.in_ok-push.ensures.items)
-          (links_more c.args.steps.now.weights.now c.args.steps.now.list.items c.loop-step.step-index c.loop-step.links.items _ at c.loop-step.invariant w.in-Some.link w.in-Some.ensures)
+          (links_more c.args.steps.now.weights.now c.args.steps.now.list.items c.loop-step.step-index c.loop-step.links.items _ at c.loop-step.invariant w.in-Some.link w.in-Some.ensures.some)
       | in_default w ↦
           rw w.links-is
-          (links_skip c.args.steps.now.weights.now c.args.steps.now.list.items c.loop-step.step-index c.loop-step.links.items _ at c.loop-step.invariant w.in_default.ensures)
+          (links_skip c.args.steps.now.weights.now c.args.steps.now.list.items c.loop-step.step-index c.loop-step.links.items _ at c.loop-step.invariant w.in_default.ensures.none)
     ]
