@@ -1,8 +1,8 @@
 -- What stands between braces is what is read there: intervals and names.
-use Rattle.std.proofs.Common.{◌≡◌, ◌≢◌, ℕ, zero, suc, ◌+◌, ◌≤◌, ◌<◌, Bool, true, false, List, [], ◌∷◌, ◌++◌, length, length-append, append_assoc, one-add, take, drop, refl, sym, ap, ◌∙◌, arith, inl, inr, subst, ◌⊎◌}
+use Rattle.std.proofs.Common.{◌≡◌, ◌≢◌, ℕ, zero, suc, ◌+◌, ◌≤◌, Bool, true, false, List, [], ◌∷◌, ◌++◌, length, length-append, append_assoc, one-add, take, drop, refl, sym, ap, ◌∙◌, arith, inl, inr, subst, ◌⊎◌}
 use Rattle.std.specs.Prelude.{Option, Some, None, ◌==◌, ◌&&◌, ◌||◌, nat_le, if◌then◌else◌, slice_get}
 use Rattle.std.specs.List.{prefix_len, list_all}
-use Rattle.std.proofs.lemmas.Bool.{false≢true, eq-eqb, eqb-true, le-leb, leb-true}
+use Rattle.std.proofs.lemmas.Bool.{eq-eqb, eqb-true, le-leb, leb-true}
 use Rattle.std.proofs.lemmas.List.{drop-drop, take_at, length-take}
 use Rattle.std.proofs.lemmas.List.Sums.{prefix_len-le-length}
 use Rattle.cs_bytes.proofs.Fronts.{front_got, and_true}
@@ -15,15 +15,15 @@ use Rattle.cs_pattern_items.specs.Interval.{exactly, at_least, between, sized, d
 use Rattle.cs_pattern_items.specs.Spelling.{IsNumber, IsInterval, IsName}
 use Rattle.cs_pattern_items.proofs.Picked.{not_equal}
 use Rattle.cs_pattern_items.proofs.Moving.{chosen}
-use Rattle.cs_pattern_items.proofs.Spelled.{unsome, no_some, true_or_false, differ, got_at, at_got}
+use Rattle.cs_pattern_items.proofs.Spelled.{unsome, no_some, true_or_false, differ, got_at}
 
 -- ---- a byte behind a list
 
-at_end : (xs : List ℕ) (c : ℕ) (rest : List ℕ) → slice_get (xs ++ c ∷ rest) (length xs) ≡ Some c
+pub at_end : (xs : List ℕ) (c : ℕ) (rest : List ℕ) → slice_get (xs ++ c ∷ rest) (length xs) ≡ Some c
 at_end [] c rest = refl
 at_end (x ∷ xs) c rest = at_end xs c rest
 
-has_at_end : (xs : List ℕ) (b c : ℕ) (rest : List ℕ) → has_at (xs ++ c ∷ rest) (length xs) b ≡ (c == b)
+pub has_at_end : (xs : List ℕ) (b c : ℕ) (rest : List ℕ) → has_at (xs ++ c ∷ rest) (length xs) b ≡ (c == b)
 has_at_end xs b c rest = ap (is_byte b) (at_end xs c rest)
 
 drop_end : (xs rest : List ℕ) → drop (length xs) (xs ++ rest) ≡ rest
@@ -33,7 +33,7 @@ drop_end (x ∷ xs) rest = drop_end xs rest
 drop_behind : (xs : List ℕ) (c : ℕ) (rest : List ℕ) → drop (length xs + 1) (xs ++ c ∷ rest) ≡ rest
 drop_behind xs c rest = sym (drop-drop 1 (length xs) (xs ++ c ∷ rest)) ∙ ap (drop 1) (drop_end xs (c ∷ rest))
 
-run_then : (p : ℕ → Bool) (xs : List ℕ) (c : ℕ) (rest : List ℕ) → list_all p xs ≡ true → p c ≡ false → prefix_len p (xs ++ c ∷ rest) ≡ length xs
+pub run_then : (p : ℕ → Bool) (xs : List ℕ) (c : ℕ) (rest : List ℕ) → list_all p xs ≡ true → p c ≡ false → prefix_len p (xs ++ c ∷ rest) ≡ length xs
 run_then p xs c rest all stop = run-stops p xs c rest all stop
 
 -- ---- the interval by the size of its digits
@@ -174,7 +174,7 @@ sized_some (Some s) m n r e =
     (ap (λ (p : Repetition × ℕ). Some p.0) f, sym (ap (λ (p : Repetition × ℕ). p.1) f))
 
 -- a text with a byte behind a run of digits
-split_run : (p : ℕ → Bool) (text : List ℕ) (b : ℕ) → has_at text (prefix_len p text) b ≡ true → text ≡ take (prefix_len p text) text ++ b ∷ drop (prefix_len p text + 1) text
+pub split_run : (p : ℕ → Bool) (text : List ℕ) (b : ℕ) → has_at text (prefix_len p text) b ≡ true → text ≡ take (prefix_len p text) text ++ b ∷ drop (prefix_len p text + 1) text
 split_run p text b e =
     sym (take_drop text (prefix_len p text)) ∙ ap (λ (xs : List ℕ). take (prefix_len p text) text ++ xs) (front_got text (prefix_len p text) b (got_at b (slice_get text (prefix_len p text)) e))
   where
@@ -183,7 +183,7 @@ split_run p text b e =
     take_drop [] (suc k) = refl
     take_drop (x ∷ xs) (suc k) = ap (λ (ys : List ℕ). x ∷ ys) (take_drop xs k)
 
-length_run : (p : ℕ → Bool) (text : List ℕ) → length (take (prefix_len p text) text) ≡ prefix_len p text
+pub length_run : (p : ℕ → Bool) (text : List ℕ) → length (take (prefix_len p text) text) ≡ prefix_len p text
 length_run p text = let le = prefix_len-le-length p text in omega (arith, length-take (prefix_len p text) text)
 
 number_run : (text : List ℕ) → digits text ≢ 0 → IsNumber (take (digits text) text)
@@ -203,15 +203,24 @@ sound_open n text r m e =
                 inl (
                   drop 1 text,
                   front_got text 0 125 (got_at 125 (slice_get text 0) (ap (λ k. has_at text k 125) (sym z) ∙ there)),
-                  small.0, small.1, got.1,
+                  small.0,
+                  small.1,
+                  got.1,
                 )
             | inr some ↦
                 let ne = differ (digits text) 0 some in
                 let got = sized_some (between n (number 10 (take (digits text) text))) (digits text + 1) m r (sym (open_long n text (digits text) refl there ne) ∙ e) in
                 let small = between_some n (number 10 (take (digits text) text)) r got.0 in
                 inr (
-                  take (digits text) text, drop (digits text + 1) text, split_run is_decimal text 125 there,
-                  number_run text ne, small.0, small.1, small.2, small.3, got.1 ∙ ap (λ k. k + 1) (sym (length_run is_decimal text)),
+                  take (digits text) text,
+                  drop (digits text + 1) text,
+                  split_run is_decimal text 125 there,
+                  number_run text ne,
+                  small.0,
+                  small.1,
+                  small.2,
+                  small.3,
+                  got.1 ∙ ap (λ k. k + 1) (sym (length_run is_decimal text)),
                 )
           ]
       | inr missing ↦ absurd (no_some (r, m) (sym (open_none n text (digits text) refl missing) ∙ e))

@@ -1,6 +1,7 @@
 -- What front_of tells of the front of a text is what the text spells there.
-use Rattle.std.proofs.Common.{◌≡◌, ◌≢◌, ℕ, ◌+◌, ◌≤◌, ◌<◌, Bool, true, false, List, [], ◌∷◌, ◌++◌, length, length-append, append_assoc, drop, refl, sym, ap, ◌∙◌, arith, inl, inr, subst, ◌⊎◌}
-use Rattle.std.specs.Prelude.{Option, Some, None, Result, Ok, Err, IfOk, ◌==◌, ◌||◌, if◌then◌else◌, slice_get, codes}
+use Rattle.std.proofs.Common.{◌≡◌, ℕ, ◌+◌, Bool, true, false, List, [], ◌∷◌, ◌++◌, length, length-append, append_assoc, drop, refl, sym, ap, ◌∙◌, arith, inl, inr, subst, ◌⊎◌}
+use Rattle.std.specs.Prelude.{Option, Some, None, Result, Ok, Err, IfOk, ◌==◌, ◌||◌, if◌then◌else◌}
+use Rattle.std.specs.List.{list_any}
 use Rattle.std.proofs.lemmas.Bool.{false≢true, eqb-true}
 use Rattle.cs_bytes.proofs.Fronts.{front_got}
 use Rattle.cs_pattern_items.specs.declared.item.Repetition.{Repetition}
@@ -10,16 +11,22 @@ use Rattle.cs_pattern_items.specs.declared.front.Stop.TheVariants.{Anchor, Trail
 use Rattle.cs_pattern_items.specs.ByteKind.{is_plain}
 use Rattle.cs_pattern_items.specs.Character.{escape}
 use Rattle.cs_pattern_items.specs.Quoted as quotes
-use Rattle.cs_pattern_items.specs.Bracket.{Bracket, set, collation, nothing, bracket}
+use Rattle.cs_pattern_items.specs.Marks.{Mark}
+use Rattle.cs_pattern_items.specs.Bracket.{Bracket, set, collation, nothing, set_or_nothing, closed, bracket, is_collating, turned, member_bytes, members, Member}
+use Rattle.cs_pattern_items.specs.Brackets.{IsBracket, BeginsCollation}
 use Rattle.cs_pattern_items.specs.Interval.{interval, name}
 use Rattle.cs_pattern_items.specs.Items.{Item, class, quoted, named, opening, closing, bar, repetition}
-use Rattle.cs_pattern_items.specs.Spelling.{Shows, Spells, SpellsClass, SpellsRepetition, IsQuoted, IsInterval, IsName, braced, BeginsWith, BeginsCollation, BeginsNothing, IsStoppedBy}
+use Rattle.cs_pattern_items.specs.Parts.{Shows, BeginsWith}
+use Rattle.cs_pattern_items.specs.Spelling.{Spells, SpellsClass, SpellsRepetition, IsQuoted, braced, BeginsNothing, IsStoppedBy}
 use Rattle.cs_pattern_items.specs.Front.{Front, item, stop, one_byte, any_byte, escape_front, quoted_front, bracket_front, name_front, brace_front, sign_front, front}
 use Rattle.cs_pattern_items.specs.declared.front.Front as code_fronts
 use Rattle.cs_pattern_items.specs.declared.front.Front.TheVariants as front_kinds
 use Rattle.cs_pattern_items.specs.Views.{item_of, front_of, IsFront}
 use Rattle.cs_pattern_items.proofs.Picked.{not_equal}
-use Rattle.cs_pattern_items.proofs.Spelled.{no_some, or_false, differ, complete_escape, sound_escape, complete_quoted, sound_quoted}
+use Rattle.cs_pattern_items.proofs.Moving.{chosen}
+use Rattle.cs_pattern_items.proofs.Spelled.{complete_escape, sound_escape, complete_quoted, sound_quoted}
+use Rattle.cs_pattern_items.proofs.Bracketed.{complete_closed, find_closed}
+use Rattle.cs_pattern_items.proofs.Grouped.{MakesSet, complete_members, sound_members, sound_set, complete_set, sound_collating, complete_collating, allowed_collates_not}
 use Rattle.cs_pattern_items.proofs.Braces.{complete_interval, sound_interval, complete_name, sound_name, name_no_interval}
 
 -- ---- what is spelled is found
@@ -104,12 +111,25 @@ braced_text text bytes n s = s.is ∙ ap (λ (xs : List ℕ). 123 ∷ xs) (appen
 braced_size : (text bytes : List ℕ) (n : ℕ) → Shows text (braced bytes) n → length bytes + 1 + 1 ≡ n
 braced_size text bytes n s = omega (arith, s.size, length-append bytes (125 ∷ []))
 
+closed_by : (inverted : Bool) (marks : List Mark) (size : ℕ) (v : Bool) → list_any is_collating marks ≡ v → closed inverted marks size ≡ (if v then collation else set_or_nothing (turned inverted (member_bytes marks)) size)
+closed_by inverted marks size v e = ap (λ w. if w then collation else set_or_nothing (turned inverted (member_bytes marks)) size) e
+
+complete_bracket : (text : List ℕ) (n : ℕ) (s : List ℕ) → IsBracket text n s → front text ≡ item (class s) n
+complete_bracket text n s b =
+    let c = complete_closed text n b.inverted b.marks b.closed in
+    let same : members b.marks ≡ b.members = complete_members b.marks b.members b.grouped in
+    let makes : MakesSet b.inverted b.members s = record { allowed = b.allowed; is_set = b.is_set; each = b.each; some = b.some } in
+    let made : turned b.inverted (member_bytes b.marks) ≡ Some s = complete_set b.inverted b.marks s (subst (λ (ms : List Member). MakesSet b.inverted ms s) (sym same) makes) in
+    ap front c.is ∙ front_bracket c.rest ∙ ap bracket_front c.read
+    ∙ ap bracket_front (closed_by b.inverted b.marks c.size false (allowed_collates_not b.marks b.members b.grouped b.allowed) ∙ ap (λ o. set_or_nothing o c.size) made)
+    ∙ ap (item (class s)) (sym c.sized)
+
 complete_class : (text : List ℕ) (n : ℕ) (s : List ℕ) → SpellsClass text n s → front text ≡ item (class s) n
 complete_class text n _ (SpellsClass.byte b e h) = shown text b n (one_byte b) (λ rest. front_plain b rest e) h
 complete_class text n _ (SpellsClass.escape rest m b is e size) =
     ap front is ∙ front_escape rest ∙ ap escape_front (complete_escape rest m (Some b) e) ∙ ap (item (one_byte b)) (sym size)
 complete_class text n _ (SpellsClass.full_stop h) = shown text 46 n any_byte front_full_stop h
-complete_class text n _ (SpellsClass.bracket rest m s is e size) = ap front is ∙ front_bracket rest ∙ ap bracket_front e ∙ ap (item (class s)) (sym size)
+complete_class text n _ (SpellsClass.bracket s b) = complete_bracket text n s b
 
 complete_repetition : (text : List ℕ) (n : ℕ) (r : Repetition) → SpellsRepetition text n r → front text ≡ item (repetition r) n
 complete_repetition text n _ (SpellsRepetition.star h) = shown text 42 n (repetition (AtLeast 0)) front_star h
@@ -191,9 +211,71 @@ quoted_is rest (Some (bytes, n)) e =
     let size : h.0 + 2 ≡ n + 1 = omega (arith, h.3) in
     subst (λ k. IsQuoted (34 ∷ rest) k bytes) size (IsQuoted.closed rest h.0 bytes h.1 h.2)
 
+set_is : (o : Option (List ℕ)) (size n : ℕ) (bytes : List ℕ) → set_or_nothing o size ≡ set bytes n → (o ≡ Some bytes) × (n ≡ size)
+set_is None size n bytes e = absurd (apart e)
+  where
+    apart : nothing ≡ set bytes n → ⊥
+    apart f = absurd cc
+set_is (Some xs) size n bytes e = (ap Some (bytes_same e), size_same e)
+  where
+    bytes_same : set xs size ≡ set bytes n → xs ≡ bytes
+    bytes_same f = cc
+
+    size_same : set xs size ≡ set bytes n → n ≡ size
+    size_same f = cc
+
+no_collation_set : (o : Option (List ℕ)) (size : ℕ) → set_or_nothing o size ≡ collation → ⊥
+no_collation_set None size e = absurd cc
+no_collation_set (Some xs) size e = absurd cc
+
+no_set_collation : (bytes : List ℕ) (n : ℕ) → collation ≡ set bytes n → ⊥
+no_set_collation bytes n e = absurd cc
+
+no_set_nothing : (bytes : List ℕ) (n : ℕ) → nothing ≡ set bytes n → ⊥
+no_set_nothing bytes n e = absurd cc
+
+no_collation_nothing : nothing ≡ collation → ⊥
+no_collation_nothing e = absurd cc
+
+sound_bracket : (rest bytes : List ℕ) (n : ℕ) → bracket rest ≡ set bytes n → IsBracket (91 ∷ rest) (n + 1) bytes
+sound_bracket rest bytes n e =
+    elim (find_closed rest) [
+      | inl none ↦ absurd (no_set_nothing bytes n (sym none ∙ e))
+      | inr f ↦
+          elim (chosen (list_any is_collating f.marks) _ _ _ (sym f.read ∙ e)) [
+            | inl collating ↦ absurd (no_set_collation bytes n collating.1)
+            | inr made ↦
+                let s = set_is (turned f.inverted (member_bytes f.marks)) f.size n bytes made.1 in
+                let m = sound_set f.inverted f.marks bytes s.0 in
+                subst (λ k. IsBracket (91 ∷ rest) (k + 1) bytes) (sym s.1)
+                (record {
+                  inverted = f.inverted;
+                  marks = f.marks;
+                  members = members f.marks;
+                  closed = f.closes;
+                  grouped = sound_members f.marks;
+                  allowed = m.allowed;
+                  is_set = m.is_set;
+                  each = m.each;
+                  some = m.some;
+                })
+          ]
+    ]
+
+sound_collation : (rest : List ℕ) → bracket rest ≡ collation → BeginsCollation (91 ∷ rest)
+sound_collation rest e =
+    elim (find_closed rest) [
+      | inl none ↦ absurd (no_collation_nothing (sym none ∙ e))
+      | inr f ↦
+          elim (chosen (list_any is_collating f.marks) _ _ _ (sym f.read ∙ e)) [
+            | inl there ↦ record { size = f.size + 1; inverted = f.inverted; marks = f.marks; closed = f.closes; has = sound_collating f.marks there.0 }
+            | inr made ↦ absurd (no_collation_set (turned f.inverted (member_bytes f.marks)) f.size made.1)
+          ]
+    ]
+
 bracket_is : (rest : List ℕ) (o : Bracket) → bracket rest ≡ o → FrontIs (91 ∷ rest) (bracket_front o)
-bracket_is rest (set bytes n) e = SpellsClass.bracket rest n bytes refl e refl
-bracket_is rest collation e = BeginsCollation.collation rest e
+bracket_is rest (set bytes n) e = SpellsClass.bracket bytes (sound_bracket rest bytes n e)
+bracket_is rest collation e = sound_collation rest e
 bracket_is rest nothing e = tt
 
 shows_braced : (text bytes rest : List ℕ) (n : ℕ) → text ≡ bytes ++ 125 ∷ rest → n ≡ length bytes + 1 → Shows (123 ∷ text) (braced bytes) (n + 1)
@@ -247,7 +329,9 @@ begun : (text : List ℕ) (b : ℕ) (s : Stop) → ((rest : List ℕ) → front 
 begun text b s h e = ap front (front_got text 0 b e) ∙ h (drop 1 text)
 
 collation_front : (text : List ℕ) → BeginsCollation text → front text ≡ stop Collation
-collation_front _ (BeginsCollation.collation text e) = front_bracket text ∙ ap bracket_front e
+collation_front text b =
+    let c = complete_closed text b.size b.inverted b.marks b.closed in
+    ap front c.is ∙ front_bracket c.rest ∙ ap bracket_front (c.read ∙ closed_by b.inverted b.marks c.size true (complete_collating b.marks b.has))
 
 nothing_front : (text : List ℕ) → BeginsNothing text → (f : Front) → front text ≡ f → FrontIs text f → f ≡ stop Syntax
 nothing_front text h (item i n) e p = absurd (h.no_item n i p)
@@ -279,8 +363,10 @@ sound_stop text Syntax e = record {
   where
     apart_anchor : Anchor ≡ Syntax → ⊥
     apart_anchor f = absurd cc
+
     apart_trailing : Trailing ≡ Syntax → ⊥
     apart_trailing f = absurd cc
+
     apart_collation : Collation ≡ Syntax → ⊥
     apart_collation f = absurd cc
 

@@ -7,5 +7,7 @@ pub mod Membership
 pub mod Intervals
 pub mod Spelled
 pub mod Braces
+pub mod Bracketed
+pub mod Grouped
 pub mod Fronts
 pub mod StandingFor

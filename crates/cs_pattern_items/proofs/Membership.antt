@@ -69,7 +69,7 @@ gathers_all ms set index le g =
 
 -- ---- what stands at an index
 
-one_first : (x : Mark) (more : List Mark) → begins_range (x ∷ more) ≡ false → members (x ∷ more) ≡ one x ∷ members more
+pub one_first : (x : Mark) (more : List Mark) → begins_range (x ∷ more) ≡ false → members (x ∷ more) ≡ one x ∷ members more
 one_first x [] e = refl
 one_first x (d ∷ []) e = by_dash (is_dash d)
   where

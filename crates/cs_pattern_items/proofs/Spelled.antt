@@ -1,15 +1,14 @@
 -- What is read at the front of a text is what the text spells: escapes, quoted texts, intervals and names.
-use Rattle.std.proofs.Common.{◌≡◌, ◌≢◌, ℕ, zero, suc, ◌+◌, ◌≤◌, ◌<◌, Bool, true, false, cond, List, [], ◌∷◌, ◌++◌, length, take, drop, min, refl, sym, ap, ◌∙◌, arith, inl, inr, ◌⊎◌, subst}
-use Rattle.std.specs.Prelude.{Option, Some, None, ◌==◌, ◌||◌, ◌&&◌, not, slice_get}
-use Rattle.std.specs.List.{prefix_len, list_all}
+use Rattle.std.proofs.Common.{◌≡◌, ◌≢◌, ℕ, zero, suc, ◌+◌, ◌<◌, Bool, true, false, cond, List, [], ◌∷◌, length, take, drop, min, refl, sym, ap, ◌∙◌, arith, inl, inr, ◌⊎◌, subst}
+use Rattle.std.specs.Prelude.{Option, Some, None, ◌==◌, ◌||◌, slice_get}
+use Rattle.std.specs.List.{prefix_len}
 use Rattle.std.proofs.lemmas.Bool.{false≢true, eqb-true, eq-eqb}
 use Rattle.std.proofs.lemmas.List.{drop-drop}
-use Rattle.std.proofs.lemmas.List.Sums.{prefix_len-le-length}
 use Rattle.cs_bytes.proofs.Fronts.{front_got}
-use Rattle.cs_pattern_items.specs.ByteKind.{is_octal, is_hexadecimal, is_decimal, is_inner, has_at, is_byte}
+use Rattle.cs_pattern_items.specs.ByteKind.{is_octal, is_hexadecimal, has_at, is_byte}
 use Rattle.cs_pattern_items.specs.Character.{octal, hexadecimal, escape, letter, byte_of, number}
-use Rattle.cs_pattern_items.specs.Spelling.{Escapes, StandsFor, InTurn}
-use Rattle.cs_pattern_items.specs.Spelling as spelling
+use Rattle.cs_pattern_items.specs.Parts.{Escapes, InTurn}
+use Rattle.cs_pattern_items.specs.Spelling.{StandsFor}
 use Rattle.cs_pattern_items.specs.Steps.{and_more, up_to, steps}
 use Rattle.cs_pattern_items.specs.Quoted as quotes
 use Rattle.cs_pattern_items.proofs.Picked.{not_equal}
@@ -244,8 +243,7 @@ unfolding quotes.quoted
 sound_quoted text n bytes e =
     elim (chosen (has_at text (steps quotes.quoted_byte text).1 34) _ _ _ e) [
       | inl there ↦
-          let f : ((steps quotes.quoted_byte text).0, (steps quotes.quoted_byte text).1 + 1) ≡ (bytes, n) = unsome ((steps quotes.quoted_byte text).0, (steps quotes.quoted_byte text).1 + 1) (bytes, n) there.1 in
-          (
+          let f : ((steps quotes.quoted_byte text).0, (steps quotes.quoted_byte text).1 + 1) ≡ (bytes, n) = unsome ((steps quotes.quoted_byte text).0, (steps quotes.quoted_byte text).1 + 1) (bytes, n) there.1 in (
             (steps quotes.quoted_byte text).1,
             subst (InTurn StandsFor text (steps quotes.quoted_byte text).1) (ap (λ (r : List ℕ × ℕ). r.0) f) (steps_in_turn quotes.quoted_byte StandsFor quoted_moves complete_byte sound_byte text),
             got_at 34 (slice_get text (steps quotes.quoted_byte text).1) there.0,

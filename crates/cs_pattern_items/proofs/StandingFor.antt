@@ -19,6 +19,8 @@ use Rattle.cs_pattern_items.specs.Interval.{interval, name}
 use Rattle.cs_pattern_items.specs.Items.{Item, opening, closing, bar, repetition}
 use Rattle.cs_pattern_items.specs.Front.{Front, item, stop, one_byte, any_byte, escape_front, quoted_front, bracket_front, brace_front, sign_front, front}
 use Rattle.cs_pattern_items.specs.StandsFor.{AreBytes, HasByte, StandsForBytes}
+use Rattle.cs_pattern_items.specs.Spelling.{Spells}
+use Rattle.cs_pattern_items.proofs.Fronts.{complete}
 use Rattle.cs_pattern_items.proofs.Picked.{has_picked, some_is_no_none, picked_below}
 
 either_way : {A : Type 0} (P : A → Type 0) (v : Bool) (x y : A) → P x → P y → P (if v then x else y)
@@ -215,3 +217,7 @@ front_stands (b ∷ rest) h =
 -- what stands at the front of bytes stands for bytes
 pub front-stands_for_bytes : (text : List ℕ) (i : Item) (n : ℕ) → AreBytes text → front text ≡ item i n → StandsForBytes i
 front-stands_for_bytes text i n h e = subst StandsWell e (front_stands text h)
+
+-- what a text of bytes spells in front stands for bytes
+pub spelled-stands_for_bytes : (text : List ℕ) (i : Item) (n : ℕ) → AreBytes text → Spells text n i → StandsForBytes i
+spelled-stands_for_bytes text i n h s = front-stands_for_bytes text i n h (complete text n i s)

@@ -46,6 +46,10 @@ abbrev pub brace_front : Option (Repetition × ℕ) → Option (List ℕ × ℕ)
 brace_front (Some (r, n)) word = item (repetition r) (n + 1)
 brace_front None word = name_front word
 
+-- what stands behind a `{`
+abbrev pub brace : List ℕ → Front
+brace rest = brace_front (interval rest) (name rest)
+
 -- a byte that begins nothing longer
 unfoldable pub sign_front : ℕ → Front
 sign_front b =

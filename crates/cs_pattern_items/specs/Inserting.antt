@@ -1,7 +1,7 @@
 -- What adding to a set does.
-use Rattle.std.specs.Prelude.{◌≡◌, ℕ, ◌<◌, ◌≤◌, Bool, true, false, ◌||◌, List, ◌∷◌, length, drop, Option, None}
+use Rattle.std.specs.Prelude.{◌≡◌, ℕ, ◌<◌, ◌≤◌, Bool, true, false, ◌||◌, List, ◌∷◌, length, drop, Option, None, MatchOption}
 use Rattle.cs_pattern_items.specs.Members.{has, bytes_where}
-use Rattle.cs_pattern_items.specs.Bracket.{Member, is_yes, is_refused, any_test, members, member_test}
+use Rattle.cs_pattern_items.specs.Bracket.{Member, is_yes, is_refused, any_test, members, member_test, range, member_bytes}
 use Rattle.cs_pattern_items.specs.Marks.{Mark}
 
 -- Where the test refuses no byte, those that pass it are added; else it refuses each.
@@ -28,3 +28,15 @@ pub record RefusesMember (ms : List Mark) (index : ℕ) : Type 0 where
   pub more : List Member
   pub is : members (drop index ms) ≡ member ∷ more
   pub refused : (b : ℕ) → member_test member b ≡ None
+
+-- the bytes from the one mark through the other are added, or are no range
+abbrev pub InsertsRange : List ℕ → List ℕ → Mark → Mark → Bool → Type 0
+InsertsRange old new x y taken = Inserts old new (member_test (range x y)) taken
+
+-- the member at the index is added, and ends before the answer, or it is refused
+abbrev pub AddsOrRefuses : List Mark → ℕ → List ℕ → List ℕ → Option ℕ → Type 0
+AddsOrRefuses ms index old new answer = MatchOption answer (RefusesMember ms index) (AddsMember ms index old new)
+
+-- the set of the members, or none where one is refused
+abbrev pub IsSetOrNone : List Mark → Option (List ℕ) → Type 0
+IsSetOrNone ms answer = MatchOption answer (member_bytes ms ≡ None) (AreMembers ms)

@@ -1,5 +1,5 @@
 -- Intervals and names between braces (POSIX lex, regular expressions).
-use Rattle.std.specs.Prelude.{ℕ, ◌+◌, ◌==◌, nat_le, ◌&&◌, if◌then◌else◌, List, [], ◌∷◌, Option, Some, None, take, drop}
+use Rattle.std.specs.Prelude.{ℕ, ◌+◌, ◌==◌, nat_le, ◌&&◌, if◌then◌else◌, List, [], ◌∷◌, Option, Some, None, IfSome, ◌≤◌, take, drop}
 use Rattle.std.specs.List.{prefix_len}
 use Rattle.cs_pattern_items.specs.declared.item.Repetition.{Repetition}
 use Rattle.cs_pattern_items.specs.declared.item.Repetition.TheVariants.{Exactly, AtLeast, Between}
@@ -47,3 +47,7 @@ name [] = None
 name (b ∷ rest) =
     if begins_name b && has_at (b ∷ rest) (prefix_len is_name_byte (b ∷ rest)) 125
     then Some (take (prefix_len is_name_byte (b ∷ rest)) (b ∷ rest), prefix_len is_name_byte (b ∷ rest) + 1) else None
+
+-- what was found ends within so many bytes, with those before it
+abbrev pub EndsWithin : ℕ → ℕ → Option (Repetition × ℕ) → Type 0
+EndsWithin before most found = IfSome found (λ r. before + r.1 ≤ most)

@@ -9,6 +9,8 @@ pub mod Bracket
 pub mod Inserting
 pub mod Interval
 pub mod Items
+pub mod Parts
+pub mod Brackets
 pub mod Spelling
 pub mod Front
 pub mod Views

@@ -1,34 +1,18 @@
--- What a text spells in front: the items of patterns (POSIX lex, "Regular expressions in lex" and "Escape sequences in lex").
-use Rattle.std.specs.Prelude.{◌≡◌, ◌≢◌, ◌⊎◌, ℕ, ◌+◌, ◌<◌, ◌≤◌, ◌==◌, min, not, Bool, true, false, List, [], ◌∷◌, ◌++◌, length, take, drop, Option, Some, slice_get, IsTrue, codes}
-use Rattle.std.specs.List.{prefix_len, list_all}
-use Rattle.cs_bytes.specs.Names.{newline, double_quote, backslash, letter_x, opening_brace, closing_brace, comma_sign, caret, dollar, slash}
-use Rattle.cs_bytes.specs.Classes.{is_digit, is_octal_digit, is_hexadecimal_digit}
+-- What a text spells in front: the items of patterns (POSIX lex, "Regular expressions in lex").
+use Rattle.std.specs.Prelude.{◌≡◌, ◌≢◌, ◌⊎◌, ℕ, ◌+◌, ◌<◌, ◌≤◌, ◌==◌, not, true, List, [], ◌∷◌, ◌++◌, length, Some, slice_get, codes}
+use Rattle.std.specs.List.{list_all}
+use Rattle.cs_bytes.specs.Names.{newline, double_quote, backslash, opening_brace, closing_brace, comma_sign, caret, dollar, slash}
+use Rattle.cs_bytes.specs.Classes.{is_digit}
 use Rattle.cs_bytes.specs.Digits.{number_of}
 use Rattle.cs_pattern_items.specs.declared.item.Repetition.{Repetition}
 use Rattle.cs_pattern_items.specs.declared.item.Repetition.TheVariants.{Optional, Exactly, AtLeast, Between}
 use Rattle.cs_pattern_items.specs.declared.front.Stop.{Stop}
 use Rattle.cs_pattern_items.specs.declared.front.Stop.TheVariants.{Anchor, Trailing, Collation, Syntax}
 use Rattle.cs_pattern_items.specs.ByteKind.{is_plain, begins_name, is_name_byte}
-use Rattle.cs_pattern_items.specs.Character.{byte_of, letter}
 use Rattle.cs_pattern_items.specs.Members.{bytes_where}
-use Rattle.cs_pattern_items.specs.Bracket as brackets
+use Rattle.cs_pattern_items.specs.Parts.{Shows, Escapes, InTurn, BeginsWith}
+use Rattle.cs_pattern_items.specs.Brackets.{IsBracket, BeginsCollation}
 use Rattle.cs_pattern_items.specs.Items.{Item, class, quoted, named, opening, closing, bar, repetition}
-
--- the text begins with these n bytes
-pub record Shows (text bytes : List ℕ) (n : ℕ) : Type 0 where
-  pub rest : List ℕ
-  pub is : text ≡ bytes ++ rest
-  pub size : n ≡ length bytes
-
--- ---- escapes
-
--- Behind a backslash the first n bytes are an escape, and it stands for the byte, if there is one: the longest run of up to
--- three octal digits, whose number may be above 255; `x` and the longest run of up to two hexadecimal digits; another byte
--- but newline, and `x` too where no such digit stands behind it.
-pub data Escapes : List ℕ → ℕ → Option ℕ → Type 0 where
-  octal_digits : (text : List ℕ) (n : ℕ) (byte : Option ℕ) → n ≡ min (prefix_len is_octal_digit text) 3 → 0 < n → byte ≡ byte_of (number_of 8 (take n text)) → Escapes text n byte
-  hexadecimal_digits : (text : List ℕ) (n : ℕ) (byte : Option ℕ) → n ≡ min (prefix_len is_hexadecimal_digit text) 2 → 0 < n → byte ≡ byte_of (number_of 16 (take n text)) → Escapes (letter_x ∷ text) (n + 1) byte
-  itself_or_control : (b : ℕ) (text : List ℕ) (byte : Option ℕ) → is_octal_digit b ≡ false → b ≢ newline → (b ≡ letter_x → prefix_len is_hexadecimal_digit text ≡ 0) → byte ≡ Some (letter b) → Escapes (b ∷ text) 1 byte
 
 -- ---- quoted texts
 
@@ -36,11 +20,6 @@ pub data Escapes : List ℕ → ℕ → Option ℕ → Type 0 where
 pub data StandsFor : List ℕ → ℕ → ℕ → Type 0 where
   itself : (b : ℕ) (text : List ℕ) → b ≢ newline → b ≢ double_quote → b ≢ backslash → StandsFor (b ∷ text) 1 b
   escaped : (text : List ℕ) (n b : ℕ) → Escapes text n (Some b) → StandsFor (backslash ∷ text) (n + 1) b
-
--- the first bytes of the text are parts, one behind the other
-pub data InTurn {A : Type 0} (Part : List ℕ → ℕ → A → Type 0) : List ℕ → ℕ → List A → Type 0 where
-  none : (text : List ℕ) → InTurn Part text 0 []
-  more : (text : List ℕ) (n m : ℕ) (x : A) (xs : List A) → Part text n x → InTurn Part (drop n text) m xs → InTurn Part text (n + m) (x ∷ xs)
 
 -- a double quote, what stands for these bytes, and a double quote
 pub data IsQuoted : List ℕ → ℕ → List ℕ → Type 0 where
@@ -80,7 +59,7 @@ pub data SpellsClass (text : List ℕ) (n : ℕ) : List ℕ → Type 0 where
   byte : (b : ℕ) → is_plain b ≡ true → Shows text (b ∷ []) n → SpellsClass text n (one_byte b)
   escape : (rest : List ℕ) (m b : ℕ) → text ≡ backslash ∷ rest → Escapes rest m (Some b) → n ≡ m + 1 → SpellsClass text n (one_byte b)
   full_stop : Shows text (codes ".") n → SpellsClass text n all_but_newline
-  bracket : (rest : List ℕ) (m : ℕ) (set : List ℕ) → text ≡ codes "[" ++ rest → brackets.bracket rest ≡ brackets.set set m → n ≡ m + 1 → SpellsClass text n set
+  bracket : (set : List ℕ) → IsBracket text n set → SpellsClass text n set
 
 -- the first n bytes of the text spell the repetition
 pub data SpellsRepetition (text : List ℕ) (n : ℕ) : Repetition → Type 0 where
@@ -100,13 +79,6 @@ Spells text n bar = Shows text (codes "|") n
 Spells text n (repetition r) = SpellsRepetition text n r
 
 -- ---- where there is no item
-
-abbrev pub BeginsWith : List ℕ → ℕ → Type 0
-BeginsWith text b = slice_get text 0 ≡ Some b
-
--- the text begins with a closed bracket that has a collating part
-pub data BeginsCollation : List ℕ → Type 0 where
-  collation : (text : List ℕ) → brackets.bracket text ≡ brackets.collation → BeginsCollation (codes "[" ++ text)
 
 -- the text spells no item in front, and begins with nothing that has a fault of its own
 pub record BeginsNothing (text : List ℕ) : Type 0 where

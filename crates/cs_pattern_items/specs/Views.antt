@@ -1,5 +1,5 @@
 -- What the code's values are.
-use Rattle.std.specs.Prelude.{ℕ, ◌<◌, ◌≤◌, List, map, Option, option_map}
+use Rattle.std.specs.Prelude.{◌≡◌, ℕ, ◌<◌, ◌≤◌, ◌++◌, List, map, Option, option_map}
 use Rattle.cs_pattern_items.specs.declared.item.Item as code
 use Rattle.cs_pattern_items.specs.declared.item.Item.TheVariants as items
 use Rattle.cs_pattern_items.specs.declared.item.Placed as held
@@ -11,6 +11,7 @@ use Rattle.cs_pattern_items.specs.declared.front.Front as code_fronts
 use Rattle.cs_pattern_items.specs.declared.front.Front.TheVariants as front_kinds
 use Rattle.cs_pattern_items.specs.Items.{Item, class, quoted, named, opening, closing, bar, repetition, Placed}
 use Rattle.cs_pattern_items.specs.Marks as marks
+use Rattle.cs_pattern_items.specs.Steps.{steps}
 use Rattle.cs_pattern_items.specs.Bracket as brackets
 use Rattle.cs_pattern_items.specs.Front as fronts
 use Rattle.cs_pattern_items.specs.Spelling.{Spells, IsStoppedBy}
@@ -38,6 +39,10 @@ mark_of mark_kinds.Collating = marks.collating
 
 abbrev pub marks_of : List code_marks.Mark → List marks.Mark
 marks_of = map mark_of
+
+-- the marks from the front of the text on are added
+abbrev pub AddsMarks : List ℕ → List code_marks.Mark → List code_marks.Mark → Type 0
+AddsMarks text old new = marks_of new ≡ marks_of old ++ (steps marks.mark text).0
 
 -- a mark and its size
 abbrev pub sized_mark : Option (code_marks.Mark × ℕ) → Option (marks.Mark × ℕ)

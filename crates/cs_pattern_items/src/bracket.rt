@@ -4,7 +4,7 @@ ghost use Rattle.std.specs.Prelude.{◌≡◌, ◌==◌, ◌||◌, ◌&&◌, ◌
 ghost use Rattle.std.specs.List.{list_any};
 ghost use Rattle.cs_pattern_items.specs.Members.{has, bytes_where};
 ghost use Rattle.cs_pattern_items.specs.Bracket as spec;
-ghost use Rattle.cs_pattern_items.specs.Inserting.{Inserts, AreMembers, AddsMember, RefusesMember};
+ghost use Rattle.cs_pattern_items.specs.Inserting.{Inserts, InsertsRange, AddsOrRefuses, IsSetOrNone};
 ghost use Rattle.cs_pattern_items.specs.Views.{mark_of, marks_of, bracket_of, IsWithin};
 
 use crate::byte_kind::{from_offset, has_at, is_hexadecimal};
@@ -183,7 +183,7 @@ fn insert_mark(set: &mut ByteSet, mark: Mark<'_>) -> bool
 
 /// Adds the bytes from the one mark through the other. Whether they are a range.
 fn insert_range(set: &mut ByteSet, first: Mark<'_>, last: Mark<'_>) -> bool
-    ensures { Inserts set.old set.new (spec.member_test (spec.range (mark_of first.entry) (mark_of last.entry))) result }
+    ensures { InsertsRange set.old set.new (mark_of first.entry) (mark_of last.entry) result }
 {
     match (byte_of(first), byte_of(last)) {
         (Some(first), Some(last)) if first <= last => {
@@ -216,7 +216,7 @@ fn begins_range(marks: &[Mark<'_>], index: usize) -> bool
 /// Adds the bytes of the member that begins at the index. Where it ends, or `None` where it is refused.
 fn insert_member(set: &mut ByteSet, marks: &[Mark<'_>], index: usize) -> Option<usize>
     requires { index < length marks.now }
-    ensures { MatchOption result (RefusesMember (marks_of marks.now) index) (AddsMember (marks_of marks.now) index set.old set.new) }
+    ensures { AddsOrRefuses (marks_of marks.now) index set.old set.new result }
 {
     if begins_range(marks, index) {
         if insert_range(set, marks[index], marks[index + 2]) {
@@ -239,7 +239,7 @@ fn unless_empty(set: ByteSet) -> Option<ByteSet>
 
 /// The bytes of the marks. `None` where some marks are no member.
 fn members(marks: &[Mark<'_>]) -> Option<ByteSet>
-    ensures { MatchOption result (spec.member_bytes (marks_of marks.now) ≡ None) (AreMembers (marks_of marks.now)) }
+    ensures { IsSetOrNone (marks_of marks.now) result }
 {
     let mut set = ByteSet::new();
     let mut index = 0;

@@ -5,7 +5,6 @@ ghost use Rattle.cs_pattern_items.specs.Front as spec;
 ghost use Rattle.cs_pattern_items.specs.Character as characters;
 ghost use Rattle.cs_pattern_items.specs.Quoted as quotes;
 ghost use Rattle.cs_pattern_items.specs.Bracket as brackets;
-ghost use Rattle.cs_pattern_items.specs.Interval as intervals;
 ghost use Rattle.cs_pattern_items.specs.Members.{bytes_where};
 ghost use Rattle.cs_pattern_items.specs.Views.{item_of, IsFront, FrontWithin, front_of as seen};
 
@@ -82,7 +81,7 @@ fn bracket_front(alloc: Global, rest: &[u8]) -> Result<Front, AllocError>
 }
 
 fn brace_front(alloc: Global, rest: &[u8]) -> Result<Front, AllocError>
-    ensures value { IfOk result (λ f. seen f ≡ spec.brace_front (intervals.interval rest.now) (intervals.name rest.now)) }
+    ensures value { IfOk result (λ f. seen f ≡ spec.brace rest.now) }
     ensures size { IfOk result (FrontWithin (length rest.now + 1)) }
 {
     if let Some((repetition, size)) = interval(rest) {

@@ -54,7 +54,7 @@ fn sized(repetition: Option<Repetition>, size: usize) -> Option<(Repetition, usi
 fn longer(before: usize, found: Option<(Repetition, usize)>) -> Option<(Repetition, usize)>
     requires { IfSome found (λ r. before + r.1 < 2 ^ 64) }
     ensures value { result ≡ spec.longer before found }
-    ensures size { (most : ℕ) → IfSome found (λ r. before + r.1 ≤ most) → IfSome result (λ r. r.1 ≤ most) }
+    ensures size { (most : ℕ) → spec.EndsWithin before most found → IfSome result (λ r. r.1 ≤ most) }
 {
     match found {
         Some((repetition, size)) => Some((repetition, before + size)),

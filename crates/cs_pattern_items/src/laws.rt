@@ -18,7 +18,8 @@ pub fn one_set()
 
 /// A text spells at most one item in front, of one size.
 pub fn one_item()
-    ensures { (text : List ℕ) (n m : ℕ) (i j : Item) → Spells text n i → Spells text m j → (n ≡ m) × (i ≡ j) }
+    ensures item { (text : List ℕ) (n m : ℕ) (i j : Item) → Spells text n i → Spells text m j → i ≡ j }
+    ensures size { (text : List ℕ) (n m : ℕ) (i j : Item) → Spells text n i → Spells text m j → n ≡ m }
 {}
 
 /// Where a text spells no item in front, there is one cause.

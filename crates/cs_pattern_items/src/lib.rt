@@ -1,9 +1,13 @@
-//! The lexical layer of patterns: which item stands at the front of a pattern's text, by its longest spelling (POSIX lex,
-//! "Regular expressions in lex").
+//! The lexical layer of patterns: which item a pattern's text spells in front (POSIX lex, "Regular expressions in lex").
 //!
-//! The layer above asks `front_of` for the item at the front of what is left of a text and its size, or why there is none, and
+//! The layer above asks `front_of` for the item in front of what is left of a text and its size, or why there is none, and
 //! decides itself which item may stand where. It may use `ByteSet` for the bytes that an item matches, and `has_at` and
 //! `from_offset` to walk over a text. What an item means is no part of this layer.
+//!
+//! Meaning, in `specs/`: `Members` (sets of bytes), `ByteKind` (kinds of bytes), `Parts` (escapes), `Brackets`, `Spelling` (what
+//! a text spells, and why it spells nothing), `Items`, `StandsFor`; of `Character` the table `letter`, of `Marks` the data
+//! `Mark`, of `Bracket` the data `Member` and the tables `class_of` and `is_in_class`. `Views` says which value of the code is
+//! which of theirs. All else there are working words of proofs: they follow the code step by step.
 #![tactic(auto)]
 
 mod bracket;

@@ -3,7 +3,7 @@
 ghost use Rattle.std.specs.Prelude.{◌≡◌, ◌<◌, ◌≤◌, ◌++◌, length, IfSome, IfOk, OnOk};
 ghost use Rattle.cs_pattern_items.specs.Marks as spec;
 ghost use Rattle.cs_pattern_items.specs.Steps.{steps};
-ghost use Rattle.cs_pattern_items.specs.Views.{sized_mark, marks_of};
+ghost use Rattle.cs_pattern_items.specs.Views.{sized_mark, marks_of, AddsMarks};
 
 use crate::byte_kind::{from_offset, has_at, inner_len};
 use crate::character::escape;
@@ -68,7 +68,7 @@ fn mark_of(text: &[u8]) -> Option<(Mark<'_>, usize)>
 
 /// Adds the marks from the front of the text on, and how many bytes they take.
 fn push_marks<'a>(marks: &mut Vec<Mark<'a>>, text: &'a [u8]) -> Result<usize, AllocError>
-    ensures list { OnOk result (marks_of marks.new.items ≡ marks_of marks.old.items ++ (steps spec.mark text.now).0) }
+    ensures list { OnOk result (AddsMarks text.now marks.old.items marks.new.items) }
     ensures size { IfOk result (λ n. n ≡ (steps spec.mark text.now).1) }
     ensures within { IfOk result (λ n. n ≤ length text.now) }
 {
