@@ -2,6 +2,8 @@
 #![tactic(auto)]
 
 #[cfg(test)]
+mod fan;
+#[cfg(test)]
 mod outside;
 #[cfg(test)]
 mod rules;

@@ -1,0 +1,173 @@
+// Workers: the answers are those of doubling by hand; that workers work at once is seen at gates
+// that wait for each other, each at most so many turns.
+
+use cs_fan::{Counter, Gate, OpenGate, Work, fan};
+use std::alloc::{AllocError, Global};
+use std::sync::atomic::{AtomicBool, AtomicU64, Ordering};
+use std::test::Fail;
+
+// Most turns for which a worker waits at a gate.
+const MOST_TURNS: u32 = 100_000_000;
+
+struct Doubling;
+
+impl Work<u32, u32> for Doubling {
+    ghost use Rattle.std.specs.Prelude.{◌≡◌, ◌+◌, ◌<◌};
+
+    ghost takes = { λ _ x. x < 1000 };
+
+    ghost answers = { λ _ x y. y ≡ x + x };
+
+    fn one(&self, _alloc: Global, item: &u32) -> Result<u32, AllocError> {
+        Ok(*item + *item)
+    }
+}
+
+// A flag for each of two items.
+#[derive(Drop)]
+struct TwoFlags {
+    first: AtomicBool,
+    second: AtomicBool,
+    first_saw: AtomicBool,
+    second_saw: AtomicBool,
+}
+
+// Raises a flag and waits for the other.
+fn meet(mine: &AtomicBool, other: &AtomicBool, saw: &AtomicBool) {
+    mine.store(true, Ordering::SeqCst);
+    for _ in 0..MOST_TURNS {
+        if other.load(Ordering::SeqCst) {
+            saw.store(true, Ordering::SeqCst);
+            return;
+        }
+    }
+}
+
+impl Gate for TwoFlags {
+    fn enter(&self, index: u32) {
+        if index == 0 {
+            meet(&self.first, &self.second, &self.first_saw);
+        } else {
+            meet(&self.second, &self.first, &self.second_saw);
+        }
+    }
+}
+
+// One of eight items waits for the seven others.
+#[derive(Drop)]
+struct Last {
+    index: u32,
+    entered: AtomicU64,
+    saw: AtomicBool,
+}
+
+impl Gate for Last {
+    fn enter(&self, index: u32) {
+        if index != self.index {
+            self.entered.fetch_add(1, Ordering::SeqCst);
+            return;
+        }
+        for _ in 0..MOST_TURNS {
+            if self.entered.load(Ordering::SeqCst) == 7 {
+                self.saw.store(true, Ordering::SeqCst);
+                return;
+            }
+        }
+    }
+}
+
+#[test]
+fn answers_stand_in_order_for_each_number_of_workers(rt: HostRuntime) -> Result<(), Fail> {
+    let items = [7, 1, 9, 4, 4, 0, 300, 12, 5];
+    for workers in 1..6 {
+        let (counter, mut seat) = Counter::new(rt.alloc(), 9, workers)?;
+        let answers = fan(
+            &rt,
+            rt.alloc(),
+            &items,
+            &Doubling,
+            &OpenGate,
+            &counter,
+            &mut seat,
+        )?;
+        assert!(rt; answers.as_slice() == [14, 2, 18, 8, 8, 0, 600, 24, 10].as_slice());
+    }
+    Ok(())
+}
+
+#[test]
+fn no_items_have_no_answers(rt: HostRuntime) -> Result<(), Fail> {
+    let (counter, mut seat) = Counter::new(rt.alloc(), 0, 3)?;
+    let answers = fan(
+        &rt,
+        rt.alloc(),
+        &[],
+        &Doubling,
+        &OpenGate,
+        &counter,
+        &mut seat,
+    )?;
+    assert!(rt; answers.is_empty());
+    Ok(())
+}
+
+// The two workers' draws and ends were written out by hand.
+#[test]
+fn seats_are_split_drawn_from_and_joined(rt: HostRuntime) -> Result<(), Fail> {
+    let (counter, mut mine) = Counter::new(rt.alloc(), 2, 2)?;
+    let mut theirs = counter.split(&mut mine)?;
+    let first = counter.draw(&mut theirs);
+    assert_eq!(rt; first, Some(0));
+    let second = counter.draw(&mut mine);
+    assert_eq!(rt; second, Some(1));
+    counter.join(&mut mine, theirs);
+    Ok(())
+}
+
+#[test]
+fn two_items_meet(rt: HostRuntime) -> Result<(), Fail> {
+    let gate = TwoFlags {
+        first: AtomicBool::new(false),
+        second: AtomicBool::new(false),
+        first_saw: AtomicBool::new(false),
+        second_saw: AtomicBool::new(false),
+    };
+    let (counter, mut seat) = Counter::new(rt.alloc(), 2, 2)?;
+    let answers = fan(
+        &rt,
+        rt.alloc(),
+        &[3, 4],
+        &Doubling,
+        &gate,
+        &counter,
+        &mut seat,
+    )?;
+    assert!(rt; answers.as_slice() == [6, 8].as_slice());
+    assert!(rt; gate.first_saw.load(Ordering::SeqCst) && gate.second_saw.load(Ordering::SeqCst));
+    Ok(())
+}
+
+// Where the list is divided beforehand, one of the eight waits for an item behind it.
+#[test]
+fn one_item_waits_for_seven(rt: HostRuntime) -> Result<(), Fail> {
+    for index in 0..8 {
+        let gate = Last {
+            index,
+            entered: AtomicU64::new(0),
+            saw: AtomicBool::new(false),
+        };
+        let (counter, mut seat) = Counter::new(rt.alloc(), 8, 2)?;
+        let answers = fan(
+            &rt,
+            rt.alloc(),
+            &[1, 2, 3, 4, 5, 6, 7, 8],
+            &Doubling,
+            &gate,
+            &counter,
+            &mut seat,
+        )?;
+        assert!(rt; answers.as_slice() == [2, 4, 6, 8, 10, 12, 14, 16].as_slice());
+        assert!(rt; gate.saw.load(Ordering::SeqCst));
+    }
+    Ok(())
+}
