@@ -11,7 +11,7 @@ use Rattle.cs_pattern_tree.specs.Pattern.{alone_or}
 use Rattle.cs_pattern_postfix.specs.Operations.{number_of, tree_ops}
 use Rattle.cs_pattern_tree.specs.Pattern.{Regex, Empty, Join, Either, Parts, Nothing, Then, parts_of}
 use Rattle.cs_pattern_tree.specs.Repeated as repeats
-use Rattle.cs_pattern.specs.Substitution.{Spells, Defines, PutIn, BranchPutIn, PiecePutIn, AtomPutIn, IsTreeOf}
+use Rattle.cs_pattern.specs.Substitution.{SpellsTree, Defines, PutIn, BranchPutIn, PiecePutIn, AtomPutIn, IsTreeOf}
 use Rattle.cs_pattern_postfix.specs.Depth.{pattern_of}
 use Rattle.cs_pattern.specs.Uses.{Uses}
 use Rattle.cs_pattern_postfix.specs.Values.{repeated_value, branch_values, piece_values, piece_value, atom_value}
@@ -36,7 +36,7 @@ module _ (ds : List Definition) (known : ℕ → Regex) where
   pub right : (xs ys : List Item) → AreBuilt (xs ++ ys) → AreBuilt ys
   right xs ys k i h = k i (uses_right ds xs ys i h)
 
-  pub name_built : (name : List ℕ) (d : Definition) (u t : Tree) → Defines ds name d → Spells d.text t → PutIn ds u t → AreBuilt (named name ∷ []) → known (number_of ds name) ≡ pattern_of u
+  pub name_built : (name : List ℕ) (d : Definition) (u t : Tree) → Defines ds name d → SpellsTree d.text t → PutIn ds u t → AreBuilt (named name ∷ []) → known (number_of ds name) ≡ pattern_of u
   name_built name d u t def spells put k = ap known (number_is ds name d def) ∙ k def.index (inl def.found) d u def.is (record { spelled = t; is_spelled = spells; put_in = put })
 
   mutual

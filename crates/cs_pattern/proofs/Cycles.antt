@@ -4,7 +4,7 @@ use Rattle.std.specs.Prelude.{Some, slice_get}
 use Rattle.cs_pattern_items.specs.Items.{Item, named, closing, bar, repetition, items_of}
 use Rattle.cs_pattern_postfix.specs.Definitions.{Definition}
 use Rattle.cs_pattern_postfix.specs.Grammar.{Tree, LastBranch, Or, Branch, LastPiece, Beside, Piece, Repeated, Atom, Bytes, Quote, Name, Group, tree_items, branch_items, piece_items, atom_items}
-use Rattle.cs_pattern.specs.Substitution.{Spells, Defines, PutIn, BranchPutIn, PiecePutIn, AtomPutIn, IsTreeOf}
+use Rattle.cs_pattern.specs.Substitution.{SpellsTree, Defines, PutIn, BranchPutIn, PiecePutIn, AtomPutIn, IsTreeOf}
 use Rattle.cs_pattern.specs.Table.{Reads}
 use Rattle.cs_pattern.specs.Uses.{Uses, UsesDefinition, Reaches, directly, through}
 use Rattle.cs_pattern.proofs.PuttingIn.{one_tree_of}
@@ -44,7 +44,7 @@ some_same : {A : Type 0} (x y : A) → Some x ≡ Some y → x ≡ y
 some_same x y e = cc
 
 module _ (ds : List Definition) where
-  name_smaller : (name : List ℕ) (d : Definition) (u t : Tree) (i : ℕ) → Defines ds name d → Spells d.text t → PutIn ds u t → Uses ds (named name ∷ []) i → Smaller ds i (tree_size u + 1)
+  name_smaller : (name : List ℕ) (d : Definition) (u t : Tree) (i : ℕ) → Defines ds name d → SpellsTree d.text t → PutIn ds u t → Uses ds (named name ∷ []) i → Smaller ds i (tree_size u + 1)
   name_smaller name d u t i def s p (inl e) =
       let same : def.index ≡ i = some_same def.index i (sym def.found ∙ e) in
       record { definition = d; is = subst (λ n. slice_get ds n ≡ Some d) same def.is; tree = u; is_tree = record { spelled = t; is_spelled = s; put_in = p }; less = omega arith }

@@ -14,7 +14,7 @@ use Rattle.cs_pattern_postfix.specs.Evaluation.{value_of}
 use Rattle.cs_pattern_postfix.specs.Grammar.{Tree, tree_items}
 use Rattle.cs_pattern.specs.Needed.{Substitutes, IsMarked, IsClosed, AreKnown, AreOf, ops_at, ops_or_none}
 use Rattle.cs_pattern_postfix.specs.Operations.{Op, tree_ops, number_of}
-use Rattle.cs_pattern.specs.Substitution.{Spells, IsTreeOf}
+use Rattle.cs_pattern.specs.Substitution.{SpellsTree, IsTreeOf}
 use Rattle.cs_pattern_postfix.specs.Depth.{pattern_of}
 use Rattle.cs_pattern.specs.Uses.{Uses}
 use Rattle.cs_pattern.proofs.Built.{AreBuilt, built}
@@ -50,7 +50,7 @@ pub in_middle : (before after : List ℕ) (i : ℕ) → Contains (before ++ i �
 in_middle before after i = Contains-append_right before (i ∷ after) i (0, omega arith, refl)
 
 -- the operations of a checked definition
-pub ops_is : (ds : List Definition) (bodies : List (Vec code.Op)) (order : List ℕ) (a : AreOf ds bodies order) (i : ℕ) (d : Definition) (t : Tree) → slice_get ds i ≡ Some d → Spells d.text t → ops_at bodies i ≡ tree_ops (number_of ds) t
+pub ops_is : (ds : List Definition) (bodies : List (Vec code.Op)) (order : List ℕ) (a : AreOf ds bodies order) (i : ℕ) (d : Definition) (t : Tree) → slice_get ds i ≡ Some d → SpellsTree d.text t → ops_at bodies i ≡ tree_ops (number_of ds) t
 ops_is ds bodies order a i d t at s =
     let h = a.1.each i d at in
     ap ops_or_none h.ops_at

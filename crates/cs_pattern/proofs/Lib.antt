@@ -1,4 +1,5 @@
 pub mod Readings
+pub mod Pairs
 pub mod OneDerivation
 pub mod HasDerivation
 pub mod PuttingIn
@@ -11,6 +12,8 @@ pub mod Limited
 pub mod Marking
 pub mod Knowing
 pub mod TextTrees
+pub mod Sizes
+pub mod Existing
 pub mod OneAnswer
 pub mod Cycles
 pub mod Linked

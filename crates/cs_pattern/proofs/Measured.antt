@@ -14,7 +14,7 @@ use Rattle.cs_pattern_postfix.specs.Measures.{capped, measure, measure_of, leaf,
 use Rattle.cs_pattern_postfix.specs.Operations.{number_of, tree_ops}
 use Rattle.cs_pattern_tree.specs.Pattern.{Regex, Empty, Join, Either, Many, Parts, Nothing, Then, parts_of, leaves, all_leaves}
 use Rattle.cs_pattern_tree.specs.Repeated as repeats
-use Rattle.cs_pattern.specs.Substitution.{Spells, Defines, PutIn, BranchPutIn, PiecePutIn, AtomPutIn, IsTreeOf}
+use Rattle.cs_pattern.specs.Substitution.{SpellsTree, Defines, PutIn, BranchPutIn, PiecePutIn, AtomPutIn, IsTreeOf}
 use Rattle.cs_pattern_postfix.specs.Depth.{depth, branch_depth, piece_depth, atom_depth, pattern_of}
 use Rattle.cs_pattern.specs.Uses.{Uses}
 use Rattle.cs_pattern_postfix.specs.Values.{repeated_value, branch_values, piece_values, piece_value, atom_value}
@@ -140,7 +140,7 @@ module _ (ds : List Definition) (known : List Measure) where
   right : (xs ys : List Item) → AreMeasured (xs ++ ys) → AreMeasured ys
   right xs ys k i h = k i (uses_right ds xs ys i h)
 
-  name_measured : (name : List ℕ) (d : Definition) (u t : Tree) → Defines ds name d → Spells d.text t → PutIn ds u t → AreMeasured (named name ∷ [])
+  name_measured : (name : List ℕ) (d : Definition) (u t : Tree) → Defines ds name d → SpellsTree d.text t → PutIn ds u t → AreMeasured (named name ∷ [])
       → atom_value (measures known) (number_of ds) (Name name) ≡ measure (depth u + 1) (leaves (pattern_of u))
   name_measured name d u t def spells put k =
       let m : slice_index_or known def.index leaf ≡ measure_of u = k def.index (inl def.found) d u def.is (record { spelled = t; is_spelled = spells; put_in = put }) in

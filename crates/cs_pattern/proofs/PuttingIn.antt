@@ -4,13 +4,13 @@ use Rattle.std.specs.Prelude.{Some, slice_get}
 use Rattle.cs_pattern_items.specs.Items.{Item, class, quoted, named, opening, closing, bar, repetition, items_of}
 use Rattle.cs_pattern_postfix.specs.Definitions.{Definition, index_of}
 use Rattle.cs_pattern_postfix.specs.Grammar.{Tree, LastBranch, Or, Branch, LastPiece, Beside, Piece, Repeated, Atom, Bytes, Quote, Name, Group, tree_items, branch_items, piece_items, atom_items}
-use Rattle.cs_pattern.specs.Substitution.{Spells, Defines, PutIn, BranchPutIn, PiecePutIn, AtomPutIn, IsTreeOf}
+use Rattle.cs_pattern.specs.Substitution.{SpellsTree, Defines, PutIn, BranchPutIn, PiecePutIn, AtomPutIn, IsTreeOf}
 use Rattle.cs_pattern.proofs.Readings.{one_reading}
 use Rattle.cs_pattern.proofs.OneDerivation.{one_derivation}
 
-pub one_spelled : (x y : List ℕ) (t u : Tree) → x ≡ y → Spells x t → Spells y u → t ≡ u
+pub one_spelled : (x y : List ℕ) (t u : Tree) → x ≡ y → SpellsTree x t → SpellsTree y u → t ≡ u
 one_spelled x y t u e s r =
-    let f = subst (λ (z : List ℕ). Spells z t) e s in
+    let f = subst (λ (z : List ℕ). SpellsTree z t) e s in
     one_derivation (items_of f.items) t u f.derived (ap items_of (one_reading y f.items r.items f.read r.read) ∙ r.derived)
 
 pub one_definition : (ds : List Definition) (n m : List ℕ) (d e : Definition) → n ≡ m → Defines ds n d → Defines ds m e → d ≡ e

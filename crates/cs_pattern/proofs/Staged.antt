@@ -12,8 +12,6 @@ use Rattle.std.proofs.lemmas.Option.{slice_get_within, get_or_from_slice_get, sl
 use Rattle.cs_graph.proofs.Pushing.{below_next}
 use Rattle.cs_graph.proofs.Reaching.{contained_alone}
 use Rattle.cs_pattern_items.specs.declared.item.Placed as held
-use Rattle.cs_pattern_items.specs.Front.{front, item, stop}
-use Rattle.cs_pattern_items.specs.declared.front.Stop.TheVariants.{Syntax}
 use Rattle.cs_pattern.specs.declared.place.Place.{Place}
 use Rattle.cs_pattern_items.specs.Items.{Item, Placed, items_of}
 use Rattle.cs_pattern_items.specs.Views.{placed_all}
@@ -44,6 +42,7 @@ use Rattle.cs_pattern.proofs.Limited.{capped_limit}
 use Rattle.cs_pattern.proofs.Linked.{definition_at, not_reached}
 use Rattle.cs_pattern.proofs.Measured.{AreMeasured, measured}
 use Rattle.cs_pattern.proofs.PuttingIn.{one_tree_of, one_spelled}
+use Rattle.cs_pattern.proofs.Readings.{none_at_end}
 
 -- ---- lists
 
@@ -60,15 +59,11 @@ get_last (x ∷ xs) y (suc i) e = get_last xs y i (omega arith)
 
 -- ---- texts
 
-no_front : (i : Item) (n : ℕ) → front [] ≡ item i n → ⊥
-unfolding front
-no_front i n e = let f : stop Syntax ≡ item i n = e in cc
-
 -- a text that is read to its end has a byte
 pub not_empty : (text : List ℕ) (items : List Placed) → Reads text items → 0 < length text
 not_empty (b ∷ text) items r = omega arith
 not_empty [] [] r = absurd (false≢true (ap (λ (p : Place). p.behind_atom) (r.read.1 ∙ r.ends)))
-not_empty [] (x ∷ xs) r = absurd (no_front x.item r.read.0 r.read.3)
+not_empty [] (x ∷ xs) r = absurd (none_at_end [] 0 r.read.0 x.item (omega arith) r.read.3)
 
 -- so many texts that are read have so many bytes
 pub count_bytes : (ds : List Definition) (n : ℕ) → n ≤ length ds → ((i : ℕ) (d : Definition) → i < n → slice_get ds i ≡ Some d → 0 < length d.text) → n ≤ total_bytes ds

@@ -41,7 +41,7 @@ got [] i x d e = absurd cc
 got (y ∷ xs) zero x d e = cc
 got (y ∷ xs) (suc i) x d e = got xs i x d e
 
-beyond_is_fault : (text : List ℕ) (ds : List Definition) (d l : ℕ) (f : PatternFault) → passed_limit d l ≡ Some f → IsBeyond text ds f → IsFault text ds f
+pub beyond_is_fault : (text : List ℕ) (ds : List Definition) (d l : ℕ) (f : PatternFault) → passed_limit d l ≡ Some f → IsBeyond text ds f → IsFault text ds f
 beyond_is_fault text ds d l f e h = by_tests (nat_lt 200 d) (nat_lt 8192 l) e
   where
     by_tests : (b c : Bool) → (if b then Some (TooDeep d 200) else (if c then Some (TooManyPositions 8192) else None)) ≡ Some f → IsFault text ds f

@@ -39,7 +39,7 @@ module _ (ds : List Definition) where
     pub is_tree : IsTreeOf ds text tree
     pub deep : depth tree ≤ most
 
-  abbrev AllTrees : ℕ → (ℕ → Type 0) → Type 0
+  abbrev pub AllTrees : ℕ → (ℕ → Type 0) → Type 0
   AllTrees most Among = (i : ℕ) (d : Definition) → Among i → slice_get ds i ≡ Some d → TreeWithin most d.text
 
   name_has_tree : (most : ℕ) (name : List ℕ) → has_name name ds ≡ true → AllTrees most (Uses ds (named name ∷ [])) → putting.HasTree ds name
@@ -62,7 +62,7 @@ module _ (ds : List Definition) where
   ]
 
   -- where each name is defined and each definition that is used has a tree, the names have trees
-  have_trees : (most : ℕ) (ps : List Placed) → first_undefined ds ps ≡ None → AllTrees most (Uses ds (items_of ps)) → HaveTrees ds (items_of ps)
+  pub have_trees : (most : ℕ) (ps : List Placed) → first_undefined ds ps ≡ None → AllTrees most (Uses ds (items_of ps)) → HaveTrees ds (items_of ps)
   have_trees most [] e trees = tt
   have_trees most (p ∷ ps) e trees = have_first most p.at p.item ps e trees (λ f. have_trees most ps f (λ i d u is. trees i d (inr u) is))
 

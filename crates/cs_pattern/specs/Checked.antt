@@ -9,13 +9,13 @@ use Rattle.cs_pattern_postfix.specs.Definitions.{Definition}
 use Rattle.cs_pattern_postfix.specs.Grammar.{Tree}
 use Rattle.cs_pattern_postfix.specs.Operations.{ops_of, tree_ops, number_of}
 use Rattle.cs_pattern_postfix.specs.Measures.{measure_of}
-use Rattle.cs_pattern.specs.Substitution.{Spells, PutIn}
+use Rattle.cs_pattern.specs.Substitution.{SpellsTree, PutIn}
 use Rattle.cs_pattern.specs.Uses.{UsesDefinition}
 
 -- these are the operations of the definition, and its depth and leaves
 pub record IsBody (ds : List Definition) (d : Definition) (ops : Vec code.Op) (measure : Measure) : Type 0 where
   pub spelled : Tree
-  pub is_spelled : Spells d.text spelled
+  pub is_spelled : SpellsTree d.text spelled
   pub operations : ops_of ops.items ≡ tree_ops (number_of ds) spelled
   pub tree : Tree
   pub put_in : PutIn ds tree spelled

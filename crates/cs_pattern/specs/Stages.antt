@@ -13,10 +13,13 @@ use Rattle.cs_pattern_postfix.specs.Grammar.{Tree}
 use Rattle.cs_pattern_postfix.specs.Measures.{measure_of, leaf}
 use Rattle.cs_pattern.specs.Names.{first_undefined}
 use Rattle.cs_pattern_postfix.specs.Operations.{ops_of, tree_ops, number_of}
-use Rattle.cs_pattern.specs.Substitution.{Spells, IsTreeOf}
+use Rattle.cs_pattern.specs.Substitution.{SpellsTree, IsTreeOf}
 use Rattle.cs_pattern_postfix.specs.Depth.{depth}
 use Rattle.cs_pattern.specs.Table.{Reads, IsFirstStop}
 use Rattle.cs_pattern.specs.Uses.{UsesDefinition}
+use Rattle.cs_pattern.specs.Answers.{limit_of}
+use Rattle.cs_pattern.specs.Checked.{IsOrder}
+use Rattle.cs_pattern.specs.Checking.{Each, HasAllNames, HasNoCycle, RefusesDefinitions}
 
 -- the text of the definition of that index stops with the fault; memory may run out
 abbrev pub StopsAs : ℕ → List ℕ → errors.CheckError → Type 0
@@ -50,7 +53,7 @@ pub record HasOperations (ds : List Definition) (bodies : List (Vec code.Op)) (i
   pub ops : Vec code.Op
   pub there : slice_get bodies index ≡ Some ops
   pub tree : Tree
-  pub spelled : Spells text tree
+  pub spelled : SpellsTree text tree
   pub are : ops_of ops.items ≡ tree_ops (number_of ds) tree
 
 -- the operations of each text
@@ -72,3 +75,20 @@ pub record HasTree (ds : List Definition) (text : List ℕ) : Type 0 where
   pub tree : Tree
   pub is_tree : IsTreeOf ds text tree
   pub shallow : depth tree < 2 ^ 32
+
+-- each definition is within the limits
+abbrev pub HoldLimits : List Definition → Type 0
+HoldLimits ds = (i : ℕ) (d : Definition) (tree : Tree) → slice_get ds i ≡ Some d → IsTreeOf ds d.text tree → limit_of tree ≡ None
+
+-- whatever definitions these are: the measures of their operations, made in this order
+abbrev pub AreMeasuresOf : List (Vec code.Op) → List ℕ → List Measure → Type 0
+AreMeasuresOf bodies order known = (ds : List Definition) → AreOperations ds bodies → IsOrder ds order → AreMeasures ds known
+
+-- those whose measures these are hold the limits
+abbrev pub TellLimits : List Measure → Type 0
+TellLimits known = (ds : List Definition) → AreMeasures ds known → Each (HasTree ds) ds → HoldLimits ds
+
+-- or are refused for one of them
+abbrev pub TellRefusal : List Measure → errors.CheckError → Type 0
+TellRefusal known error =
+    (ds : List Definition) → AreMeasures ds known → Each (HasTree ds) ds → Each (HasAllNames ds) ds → HasNoCycle ds → RefusesDefinitions ds error

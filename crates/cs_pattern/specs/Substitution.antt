@@ -7,7 +7,7 @@ use Rattle.cs_pattern_postfix.specs.Definitions.{Definition, index_of}
 use Rattle.cs_pattern_postfix.specs.Grammar.{Tree, LastBranch, Or, Branch, LastPiece, Beside, Piece, Repeated, Atom, Bytes, Quote, Name, Group, IsDerivation}
 
 -- the text is read to its end, and its items have this derivation
-pub record Spells (text : List ℕ) (tree : Tree) : Type 0 where
+pub record SpellsTree (text : List ℕ) (tree : Tree) : Type 0 where
   pub items : List Placed
   pub read : Reads text items
   pub derived : IsDerivation (items_of items) tree
@@ -40,10 +40,10 @@ module _ (ds : List Definition) where
     AtomPutIn (Name name) whole = ⊥
     AtomPutIn (Group t) whole =
         ((u : Tree) × (whole ≡ Group u) × PutIn t u)
-        ⊎ ((name : List ℕ) × (d : Definition) × (u : Tree) × (whole ≡ Name name) × Defines ds name d × Spells d.text u × PutIn t u)
+        ⊎ ((name : List ℕ) × (d : Definition) × (u : Tree) × (whole ≡ Name name) × Defines ds name d × SpellsTree d.text u × PutIn t u)
 
 -- the tree of a text with the definitions put in
 pub record IsTreeOf (ds : List Definition) (text : List ℕ) (tree : Tree) : Type 0 where
   pub spelled : Tree
-  pub is_spelled : Spells text spelled
+  pub is_spelled : SpellsTree text spelled
   pub put_in : PutIn ds tree spelled

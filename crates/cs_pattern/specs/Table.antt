@@ -8,7 +8,7 @@ use Rattle.cs_pattern.specs.declared.fault.PatternFault.TheVariants as faults
 use Rattle.cs_pattern_items.specs.declared.front.Stop.TheVariants as stops
 use Rattle.cs_pattern_items.specs.ByteKind.{has_at}
 use Rattle.cs_pattern_items.specs.Items.{Item, class, quoted, named, opening, closing, bar, repetition, Placed}
-use Rattle.cs_pattern_items.specs.Front.{Front, item, stop, front}
+use Rattle.cs_pattern_items.specs.Spelling.{Spells, IsStoppedBy}
 
 abbrev pub place : Bool → ℕ → Place
 place behind groups = record { behind_atom = behind; groups = groups }
@@ -40,11 +40,11 @@ next_place p (repetition r) = if_behind p.behind_atom p
 abbrev pub MayEnd : Place → Type 0
 MayEnd p = p ≡ place true 0
 
--- From one offset and place to another these items stand, each by its longest spelling and where it may stand.
+-- From one offset and place to another these items stand, each where it may stand.
 abbrev pub ReadsTo : List ℕ → ℕ → Place → List Placed → ℕ → Place → Type 0
 ReadsTo bytes at p [] to last = (at ≡ to) × (p ≡ last)
 ReadsTo bytes at p (x ∷ xs) to last =
-    (size : ℕ) × (next : Place) × (x.at ≡ at) × (front (drop at bytes) ≡ item x.item size) × (next_place p x.item ≡ Some next) × ReadsTo bytes (at + size) next xs to last
+    (size : ℕ) × (next : Place) × (x.at ≡ at) × Spells (drop at bytes) size x.item × (next_place p x.item ≡ Some next) × ReadsTo bytes (at + size) next xs to last
 
 -- the first byte is no `<`, with which a start condition would begin
 abbrev pub IsPlainText : List ℕ → Type 0
@@ -57,10 +57,13 @@ pub record Reads (bytes : List ℕ) (items : List Placed) : Type 0 where
   pub read : ReadsTo bytes 0 beginning items (length bytes) last
   pub ends : MayEnd last
 
--- At a place reading doesn't go on with what stands at the front of the text: no item does, or one that may not stand there.
-abbrev pub StopsWith : Place → Front → Stop → Type 0
-StopsWith p (stop s) why = why ≡ s
-StopsWith p (item i size) why = (next_place p i ≡ None) × (why ≡ Syntax)
+-- the text spells an item in front that may not stand at the place
+abbrev pub SpellsMisplaced : Place → List ℕ → Type 0
+SpellsMisplaced p text = (i : Item) × (size : ℕ) × Spells text size i × (next_place p i ≡ None)
+
+-- At a place reading doesn't go on with the text: it spells no item in front, or one that may not stand there.
+abbrev pub StopsWith : Place → List ℕ → Stop → Type 0
+StopsWith p text why = IsStoppedBy text why ⊎ (SpellsMisplaced p text × (why ≡ Syntax))
 
 -- at the end of the text
 abbrev pub StopsAtEnd : Place → Stop → Type 0
@@ -72,7 +75,7 @@ pub record StopsAt (bytes : List ℕ) (at : ℕ) (why : Stop) : Type 0 where
   pub items : List Placed
   pub last : Place
   pub read : ReadsTo bytes 0 beginning items at last
-  pub stops : ((at < length bytes) × StopsWith last (front (drop at bytes)) why) ⊎ ((at ≡ length bytes) × StopsAtEnd last why)
+  pub stops : ((at < length bytes) × StopsWith last (drop at bytes) why) ⊎ ((at ≡ length bytes) × StopsAtEnd last why)
 
 -- the fault of a stop
 abbrev pub fault_of : Stop → ℕ → PatternFault

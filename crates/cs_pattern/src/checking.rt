@@ -1,14 +1,10 @@
 // The stages of checking definitions: their texts, their names, their operations and their measures.
 
-ghost use Rattle.std.specs.Prelude.{◌≡◌, ◌<◌, ◌≤◌, ◌^◌, ℕ, List, None, All, IfOk, IfErr, OnOk, Some, length, slice_get};
+ghost use Rattle.std.specs.Prelude.{◌≡◌, ◌<◌, ◌≤◌, ◌^◌, All, IfOk, IfErr, OnOk, length};
 ghost use Rattle.cs_pattern_items.specs.Views.{placed_all};
-ghost use Rattle.cs_pattern.specs.Answers.{limit_of};
-ghost use Rattle.cs_pattern.specs.Checked.{IsOrder};
-ghost use Rattle.cs_pattern.specs.Checking.{RefusesDefinitions, HasAllNames, HasNoCycle, Each};
-ghost use Rattle.cs_pattern_postfix.specs.Definitions.{Definition, definitions_of, total_bytes};
-ghost use Rattle.cs_pattern_postfix.specs.Grammar.{Tree};
-ghost use Rattle.cs_pattern.specs.Stages.{StopsAs, AreRead, AreNamed, AreOperations, IsMeasured, AreMeasures, HasTree};
-ghost use Rattle.cs_pattern.specs.Substitution.{IsTreeOf};
+ghost use Rattle.cs_pattern_postfix.specs.Definitions.{definitions_of, total_bytes};
+ghost use Rattle.cs_pattern.specs.Checking.{RefusesDefinitions};
+ghost use Rattle.cs_pattern.specs.Stages.{StopsAs, AreRead, AreNamed, AreOperations, AreMeasuresOf, TellLimits, TellRefusal};
 ghost use Rattle.cs_pattern.specs.Table.{Reads};
 
 use crate::fault::{CheckError, PatternError, PatternFault};
@@ -94,7 +90,7 @@ pub fn measure_all(
     order: &[usize],
 ) -> Result<Vec<Measure>, AllocError>
     requires { All (λ index. index < length bodies.now) order.now }
-    ensures { IfOk result (λ measures. (ds : List Definition) → AreOperations ds bodies.now → IsOrder ds order.now → AreMeasures ds measures.items) }
+    ensures { IfOk result (λ measures. AreMeasuresOf bodies.now order.now measures.items) }
 {
     let mut measures = vec![in alloc; leaf(); bodies.len()]?;
     for index in order {
@@ -106,10 +102,8 @@ pub fn measure_all(
 
 pub fn check_limits(measures: &[Measure]) -> Result<(), CheckError>
     requires { length measures.now < 2 ^ 32 }
-    ensures within { OnOk result ((ds : List Definition) → AreMeasures ds measures.now → Each (HasTree ds) ds
-        → (i : ℕ) (d : Definition) (tree : Tree) → slice_get ds i ≡ Some d → IsTreeOf ds d.text tree → limit_of tree ≡ None) }
-    ensures refused { IfErr result (λ error. (ds : List Definition) → AreMeasures ds measures.now → Each (HasTree ds) ds → Each (HasAllNames ds) ds
-        → HasNoCycle ds → RefusesDefinitions ds error) }
+    ensures within { OnOk result (TellLimits measures.now) }
+    ensures refused { IfErr result (TellRefusal measures.now) }
 {
     for (index, measure) in measures.iter().enumerate() {
         if let Some(fault) = passed_limit(*measure) {

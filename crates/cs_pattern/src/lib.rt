@@ -6,12 +6,12 @@
 //!
 //! Meaning: `specs/Table.antt` (which item may stand where, and where reading stops), `specs/Substitution.antt` (definitions put
 //! in for names), `specs/Names.antt`, `specs/Uses.antt` (which definitions use which), `specs/Limits.antt`, `specs/Answers.antt`
-//! (what reading a pattern answers), `specs/Checking.antt` (what checking definitions answers), `specs/Classes.antt`. Working
+//! (what reading a pattern answers), `specs/Checking.antt` (what checking definitions answers), `specs/Classes.antt`,
+//! `specs/Laws.antt`. Working
 //! words of proofs: `specs/ReadView.antt`, `specs/Checked.antt`, `specs/Stages.antt`, `specs/Needed.antt`.
 #![tactic(auto)]
 
 mod checking;
-mod class_law;
 mod definitions;
 mod fault;
 mod laws;
@@ -22,13 +22,13 @@ mod read;
 mod reading;
 mod uses;
 
-pub use class_law::no_empty_class;
 pub use cs_pattern_items::MOST_REPEATS;
 pub use cs_pattern_tree::{ByteSet, Kind, Pattern};
 pub use definitions::{Checked, Definitions};
 pub use fault::{CheckError, DefinitionError, PatternError, PatternFault};
 pub use laws::{
-    has_derivation, no_tree_in_a_cycle, one_answer, one_pattern, one_reading, one_refusal,
+    has_answer, has_derivation, no_tree_in_a_cycle, one_answer, one_pattern, one_reading,
+    one_refusal, reads_or_stops, scannable_pattern,
 };
 pub use read::read_pattern;
 
@@ -40,6 +40,3 @@ pub const MOST_DEPTH: u32 = 200;
 
 /// The most leaves of a pattern after substitution.
 pub const MOST_LEAVES: u32 = 8192;
-
-#[cfg(test)]
-mod tests;

@@ -2,7 +2,7 @@
 
 ghost use Rattle.std.specs.Prelude.{◌≤◌, length, IfOk, IfErr};
 ghost use Rattle.cs_pattern_tree.specs.Pattern.{regex, leaves};
-ghost use Rattle.cs_pattern_tree.specs.Scannable.{IsScannable};
+ghost use Rattle.cs_pattern_tree.specs.Scannable.{IsScannable, MatchesBytesAlone, MatchesSomeText};
 ghost use Rattle.cs_pattern.specs.Answers.{IsPatternOf, RefusesText};
 ghost use Rattle.cs_pattern.specs.ReadView.{AreNamedOfSome, GivePattern, GiveRefusal, IsPutIn, IsWithinDepth};
 
@@ -59,6 +59,8 @@ pub fn read_pattern(
     requires { length bytes.now ≤ 1048576 }
     ensures read { IfOk result (λ pattern. IsPatternOf definitions.now bytes.now (regex pattern)) }
     ensures scannable { IfOk result (λ pattern. IsScannable (regex pattern)) }
+    ensures bytes { IfOk result (λ pattern. MatchesBytesAlone (regex pattern)) }
+    ensures matches { IfOk result (λ pattern. MatchesSomeText (regex pattern)) }
     ensures leaves { IfOk result (λ pattern. leaves (regex pattern) ≤ 8192) }
     ensures refused { IfErr result (RefusesText bytes.now definitions.now) }
 {

@@ -8,6 +8,7 @@ ghost use Rattle.cs_pattern.specs.Checking.{RefusesDefinitions, HasNoCycle};
 ghost use Rattle.cs_pattern_postfix.specs.Definitions.{definitions_of, total_bytes};
 ghost use Rattle.cs_pattern.specs.Stages.{AreRead, AreNamed, IsUseGraph};
 ghost use Rattle.cs_pattern.specs.Uses as meaning;
+ghost use Rattle.cs_pattern.specs.UseView.{IsFirstBack, LeadsBack, all_uses, with_use};
 ghost use Rattle.cs_pattern_items.specs.Items.{items_of};
 ghost use Rattle.cs_pattern_items.specs.Views.{item_of, placed_of, placed_all};
 
@@ -51,7 +52,7 @@ fn used(item: &Item, names: &Texts) -> Option<usize>
 }
 
 fn push_use(uses: &mut Vec<usize>, item: &Item, names: &Texts) -> Result<(), AllocError>
-    ensures { OnOk result (uses.new.items ≡ uses.old.items ++ filter_map (meaning.used (definitions_of names.now.entries)) (item_of item.now ∷ [])) }
+    ensures { OnOk result (uses.new.items ≡ with_use names.now.entries uses.old.items item.now) }
 {
     if let Some(index) = used(item, names) {
         uses.push(index)?;
@@ -61,7 +62,7 @@ fn push_use(uses: &mut Vec<usize>, item: &Item, names: &Texts) -> Result<(), All
 
 /// The definitions that the items use, in order and with repetitions.
 fn uses_of(alloc: Global, items: &[Placed], names: &Texts) -> Result<Vec<usize>, AllocError>
-    ensures { IfOk result (λ uses. uses.items ≡ filter_map (meaning.used (definitions_of names.now.entries)) (items_of (placed_all items.now))) }
+    ensures { IfOk result (λ uses. uses.items ≡ all_uses names.now.entries items.now) }
 {
     let mut uses = Vec::new(alloc);
     for placed in items {
@@ -96,7 +97,7 @@ fn leads_to(
 ) -> Result<bool, AllocError>
     requires graph { IsUseGraph (definitions_of names.now.entries) graph.now }
     requires to { to < length graph.now }
-    ensures { IfOk result (λ leads. IsTrue leads ↔ meaning.LeadsTo (definitions_of names.now.entries) to (placed_of placed.now)) }
+    ensures { IfOk result (λ leads. IsTrue leads ↔ LeadsBack names.now.entries to placed.now) }
 {
     match used(&placed.item, names) {
         Some(next) => leads(alloc, graph, next, to),
@@ -114,9 +115,7 @@ fn first_to(
 ) -> Result<Option<u32>, AllocError>
     requires graph { IsUseGraph (definitions_of names.now.entries) graph.now }
     requires to { to < length graph.now }
-    ensures { IfOk result (λ found. MatchOption found
-        (AllByRecursion (λ p. meaning.LeadsTo (definitions_of names.now.entries) to p → ⊥) (placed_all items.now))
-        (meaning.IsFirstTo (definitions_of names.now.entries) to (placed_all items.now))) }
+    ensures { IfOk result (IsFirstBack names.now.entries to items.now) }
 {
     for placed in items {
         if leads_to(alloc, placed, names, graph, to)? {

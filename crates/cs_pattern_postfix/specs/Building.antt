@@ -1,8 +1,8 @@
 -- The patterns that operations build.
-use Rattle.std.specs.Prelude.{ℕ, ◌≤◌, List, [], Option, Some, None, slice_index_or}
+use Rattle.std.specs.Prelude.{ℕ, ◌≤◌, List, ◌++◌, [], Option, Some, None, slice_index_or}
 use Rattle.cs_pattern_tree.specs.declared.pattern.Pattern.{Pattern}
 use Rattle.cs_pattern_postfix.specs.declared.operations.Op as code
-use Rattle.cs_pattern_postfix.specs.Evaluation.{Algebra, Keeps, step, value_of}
+use Rattle.cs_pattern_postfix.specs.Evaluation.{Algebra, Keeps, below, last, step, value_of}
 use Rattle.cs_pattern_postfix.specs.Operations.{Op, op_of, ops_of}
 use Rattle.cs_pattern_tree.specs.Pattern.{alone_or}
 use Rattle.cs_pattern_tree.specs.Pattern.{Regex, Empty, Class, Join, Either, parts_of, nesting, regex, regexes}
@@ -32,6 +32,15 @@ patterns known = record {
 -- where they don't matter
 abbrev pub no_patterns : Algebra Regex
 no_patterns = patterns (λ index. Empty)
+
+abbrev pub last_of : ℕ → List Pattern → List Regex
+last_of count stack = last no_patterns count (regexes stack)
+
+abbrev pub below_last : ℕ → List Pattern → List Regex
+below_last count stack = below no_patterns count (regexes stack)
+
+abbrev pub with_optionals : List Pattern → ℕ → Pattern → List Regex
+with_optionals parts times inner = regexes parts ++ repeats.optionals times (regex inner)
 
 -- at most 1,000 joins, eithers and manies stand around any part
 abbrev pub IsShallow : Regex → Type 0

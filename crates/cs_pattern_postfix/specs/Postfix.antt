@@ -79,8 +79,8 @@ module _ (number : List ℕ → ℕ) where
 abbrev pub entry_number : List (Vec ℕ × Vec ℕ) → List ℕ → ℕ
 entry_number entries = number_of (definitions_of entries)
 
-abbrev pub step_with : List (Vec ℕ × Vec ℕ) → State → item_code.Item → State
-step_with entries s i = step (entry_number entries) s (item_of i)
+abbrev pub next_state : List (Vec ℕ × Vec ℕ) → code.Reader → item_code.Item → State
+next_state entries reader i = step (entry_number entries) (state_of reader) (item_of i)
 
 -- the operations of the tree that derives the items
 abbrev pub AreOperationsOf : List (Vec ℕ × Vec ℕ) → List placed_code.Placed → List op_code.Op → Type 0

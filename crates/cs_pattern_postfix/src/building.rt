@@ -1,8 +1,8 @@
 // Patterns, built from their operations on a stack in memory.
 
 ghost use Rattle.std.specs.Prelude.{◌≡◌, ◌≤◌, ◌++◌, ◌∷◌, [], All, IfOk, OnOk, replicate};
-ghost use Rattle.cs_pattern_postfix.specs.Building.{IsShallow, StayShallow, known_at, next_stack, no_patterns, pattern_built};
-ghost use Rattle.cs_pattern_postfix.specs.Evaluation.{below, last, top};
+ghost use Rattle.cs_pattern_postfix.specs.Building.{IsShallow, StayShallow, below_last, known_at, last_of, next_stack, no_patterns, pattern_built, with_optionals};
+ghost use Rattle.cs_pattern_postfix.specs.Evaluation.{top};
 ghost use Rattle.cs_pattern_postfix.specs.Operations.{ops_of};
 ghost use Rattle.cs_pattern_tree.specs.Pattern.{regex, regexes, Join, Either, Many, parts_of, alone_or, nesting};
 ghost use Rattle.cs_pattern_tree.specs.Repeated as spec;
@@ -68,7 +68,7 @@ fn push_optional(
     times: u32,
 ) -> Result<(), AllocError>
     requires nested { nesting (regex inner.now) ≤ 1000 }
-    ensures { OnOk result (regexes parts.new.items ≡ regexes parts.old.items ++ spec.optionals times (regex inner.now)) }
+    ensures { OnOk result (regexes parts.new.items ≡ with_optionals parts.old.items times inner.now) }
 {
     for _i in 0..times {
         parts.push(optional(alloc, copy(alloc, inner)?)?)?;
@@ -99,8 +99,8 @@ fn repeated(alloc: Global, inner: Pattern, repetition: Repetition) -> Result<Pat
 
 /// Takes the last patterns off the stack, or all of them where there are fewer.
 fn take_last(stack: &mut Vec<Pattern>, count: usize) -> Result<Vec<Pattern>, AllocError>
-    ensures taken { IfOk result (λ v. regexes v.items ≡ last no_patterns count (regexes stack.old.items)) }
-    ensures left { OnOk result (regexes stack.new.items ≡ below no_patterns count (regexes stack.old.items)) }
+    ensures taken { IfOk result (λ v. regexes v.items ≡ last_of count stack.old.items) }
+    ensures left { OnOk result (regexes stack.new.items ≡ below_last count stack.old.items) }
 {
     let from = stack.len().saturating_sub(count);
     let parts = stack.split_off(from)?;
@@ -110,7 +110,7 @@ fn take_last(stack: &mut Vec<Pattern>, count: usize) -> Result<Vec<Pattern>, All
 /// Takes the top off a stack.
 fn take_top(stack: &mut Vec<Pattern>) -> Pattern
     ensures taken { regex result ≡ top no_patterns (regexes stack.old.items) }
-    ensures left { regexes stack.new.items ≡ below no_patterns 1 (regexes stack.old.items) }
+    ensures left { regexes stack.new.items ≡ below_last 1 stack.old.items }
 {
     stack.pop().unwrap_or(Pattern::Empty)
 }

@@ -125,7 +125,7 @@ impl Reader {
     }
 
     fn take(&mut self, alloc: Global, item: &Item, names: &Texts) -> Result<(), AllocError>
-        ensures { OnOk result (state_of self.new ≡ spec.step_with names.now.entries (state_of self.old) item.now) }
+        ensures { OnOk result (state_of self.new ≡ spec.next_state names.now.entries self.old item.now) }
     {
         match item {
             Item::Class(set) => self.atom(Op::Class(set.duplicate())),

@@ -1,11 +1,11 @@
 -- What repetitions, joins and eithers match.
 use Rattle.std.proofs.Common.{◌≡◌, ℕ, zero, suc, ◌+◌, ◌-◌, ◌≤◌, ◌<◌, List, [], ◌∷◌, ◌++◌, replicate, refl, sym, ap, ◌∙◌, subst, inl, inr, arith, append_assoc, append-nil}
 use Rattle.std.proofs.lemmas.List.Elements.{All-append, All-nil, All-cons, All-contains}
-use Rattle.cs_pattern_items.specs.StandsFor.{AreBytes}
+use Rattle.cs_pattern_items.specs.StandsFor.{AreBytes, HasByte}
 use Rattle.cs_pattern_tree.specs.Pattern.{Regex, Empty, Class, Join, Either, Many, Parts, Nothing, Then, parts_of, alone_or, Repeats, no_more, one_more, Matches, MatchInOrder, SomeMatches}
 use Rattle.cs_pattern_tree.specs.Counting.{Times, SomeTimes, HasBytes, IsBetween}
 use Rattle.cs_pattern_tree.specs.Repeated.{optional, at_least}
-use Rattle.cs_pattern_tree.specs.Scannable.{HasNoEmptyClass, HaveNoEmptyClass, HasNoEmptyEither, HaveNoEmptyEither, HasByteClasses, HaveByteClasses, HasPart}
+use Rattle.cs_pattern_tree.specs.Scannable.{EachClassOf, HasNoEmptyClass, HasNoEmptyEither, HaveNoEmptyEither, HasByteClasses, HasPart}
 
 -- ---- a many
 
@@ -171,14 +171,14 @@ mutual
   matches_some (Either parts) c e = one_matches parts c e.0 e.1
   matches_some (Many part) c e = ([], All-nil (λ b. b < 256), no_more)
 
-  match_some : (rs : Parts) → HaveNoEmptyClass rs → HaveNoEmptyEither rs → (word : List ℕ) × AreBytes word × MatchInOrder rs word
+  match_some : (rs : Parts) → EachClassOf HasByte rs → HaveNoEmptyEither rs → (word : List ℕ) × AreBytes word × MatchInOrder rs word
   match_some Nothing c e = ([], All-nil (λ b. b < 256), refl)
   match_some (Then r rs) c e =
       let h = matches_some r c.0 e.0 in
       let more = match_some rs c.1 e.1 in
       (h.0 ++ more.0, All-append (λ b. b < 256) h.0 more.0 h.1 more.1, (h.0, more.0, refl, h.2, more.2))
 
-  one_matches : (rs : Parts) → HaveNoEmptyClass rs → HasPart rs → HaveNoEmptyEither rs → (word : List ℕ) × AreBytes word × SomeMatches rs word
+  one_matches : (rs : Parts) → EachClassOf HasByte rs → HasPart rs → HaveNoEmptyEither rs → (word : List ℕ) × AreBytes word × SomeMatches rs word
   one_matches Nothing c has e = absurd has
   one_matches (Then r rs) c has e = let h = matches_some r c.0 e.0 in (h.0, h.1, inl h.2)
 
@@ -196,11 +196,11 @@ mutual
   bytes_matched (Either parts) h word m = bytes_of_one parts h word m
   bytes_matched (Many part) h word m = repeats_bytes (Matches part) word (bytes_matched part h) m
 
-  bytes_in_order : (rs : Parts) → HaveByteClasses rs → (word : List ℕ) → MatchInOrder rs word → AreBytes word
+  bytes_in_order : (rs : Parts) → EachClassOf AreBytes rs → (word : List ℕ) → MatchInOrder rs word → AreBytes word
   bytes_in_order Nothing h word m = subst AreBytes (sym m) (All-nil (λ b. b < 256))
   bytes_in_order (Then r rs) h word m = subst AreBytes (sym m.2) (All-append (λ b. b < 256) m.0 m.1 (bytes_matched r h.0 m.0 m.3) (bytes_in_order rs h.1 m.1 m.4))
 
-  bytes_of_one : (rs : Parts) → HaveByteClasses rs → (word : List ℕ) → SomeMatches rs word → AreBytes word
+  bytes_of_one : (rs : Parts) → EachClassOf AreBytes rs → (word : List ℕ) → SomeMatches rs word → AreBytes word
   bytes_of_one Nothing h word m = absurd m
   bytes_of_one (Then r rs) h word (inl m) = bytes_matched r h.0 word m
   bytes_of_one (Then r rs) h word (inr m) = bytes_of_one rs h.1 word m

@@ -1,5 +1,6 @@
 -- Lists that fall into so many parts, one after another.
 use Rattle.std.specs.Prelude.{◌≡◌, ◌↔◌, ℕ, zero, suc, ◌≤◌, List, [], ◌++◌}
+use Rattle.cs_pattern_tree.specs.Pattern.{Regex, Matches}
 
 -- the list falls into this number of parts that are each P
 abbrev pub Times : (List ℕ → Type 0) → ℕ → List ℕ → Type 0
@@ -20,3 +21,7 @@ IsBetween least most n = (least ≤ n) × (n ≤ most)
 -- the same lists are P and Q
 abbrev pub AreSame : (List ℕ → Type 0) → (List ℕ → Type 0) → Type 0
 AreSame P Q = (word : List ℕ) → P word ↔ Q word
+
+-- the whole matches what falls into parts that the part matches, where their number is one of these
+abbrev pub IsRepeated : Regex → (ℕ → Type 0) → Regex → Type 0
+IsRepeated whole Count part = AreSame (Matches whole) (SomeTimes Count (Matches part))

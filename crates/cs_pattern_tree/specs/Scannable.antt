@@ -1,20 +1,28 @@
 -- Patterns of which an automaton can be made.
-use Rattle.std.specs.Prelude.{◌≤◌, List, All, length, sum_by}
+use Rattle.std.specs.Prelude.{ℕ, ◌≤◌, List, All, length, sum_by}
 use Rattle.cs_pattern_items.specs.StandsFor.{AreBytes, HasByte}
-use Rattle.cs_pattern_tree.specs.Pattern.{Regex, Empty, Class, Join, Either, Many, Parts, Nothing, Then, leaves, nesting}
+use Rattle.cs_pattern_tree.specs.Pattern.{Regex, Empty, Class, Join, Either, Many, Parts, Nothing, Then, Matches, leaves, nesting}
 
--- each class of the pattern has a byte
+-- the set of each class of the pattern is P
 abbrev mutual
-  pub HasNoEmptyClass : Regex → Type 0
-  HasNoEmptyClass Empty = Unit {0}
-  HasNoEmptyClass (Class set) = HasByte set
-  HasNoEmptyClass (Join parts) = HaveNoEmptyClass parts
-  HasNoEmptyClass (Either parts) = HaveNoEmptyClass parts
-  HasNoEmptyClass (Many part) = HasNoEmptyClass part
+  pub EachClass : (List ℕ → Type 0) → Regex → Type 0
+  EachClass P Empty = Unit {0}
+  EachClass P (Class set) = P set
+  EachClass P (Join parts) = EachClassOf P parts
+  EachClass P (Either parts) = EachClassOf P parts
+  EachClass P (Many part) = EachClass P part
 
-  pub HaveNoEmptyClass : Parts → Type 0
-  HaveNoEmptyClass Nothing = Unit {0}
-  HaveNoEmptyClass (Then r rs) = HasNoEmptyClass r × HaveNoEmptyClass rs
+  pub EachClassOf : (List ℕ → Type 0) → Parts → Type 0
+  EachClassOf P Nothing = Unit {0}
+  EachClassOf P (Then r rs) = EachClass P r × EachClassOf P rs
+
+-- each class has a byte
+abbrev pub HasNoEmptyClass : Regex → Type 0
+HasNoEmptyClass = EachClass HasByte
+
+-- each class has bytes alone
+abbrev pub HasByteClasses : Regex → Type 0
+HasByteClasses = EachClass AreBytes
 
 abbrev pub HasPart : Parts → Type 0
 HasPart Nothing = ⊥
@@ -33,18 +41,13 @@ abbrev mutual
   HaveNoEmptyEither Nothing = Unit {0}
   HaveNoEmptyEither (Then r rs) = HasNoEmptyEither r × HaveNoEmptyEither rs
 
--- each class has bytes alone
-abbrev mutual
-  pub HasByteClasses : Regex → Type 0
-  HasByteClasses Empty = Unit {0}
-  HasByteClasses (Class set) = AreBytes set
-  HasByteClasses (Join parts) = HaveByteClasses parts
-  HasByteClasses (Either parts) = HaveByteClasses parts
-  HasByteClasses (Many part) = HasByteClasses part
+-- the pattern matches some list of bytes
+abbrev pub MatchesSomeText : Regex → Type 0
+MatchesSomeText r = (word : List ℕ) × AreBytes word × Matches r word
 
-  pub HaveByteClasses : Parts → Type 0
-  HaveByteClasses Nothing = Unit {0}
-  HaveByteClasses (Then r rs) = HasByteClasses r × HaveByteClasses rs
+-- the pattern matches lists of bytes alone
+abbrev pub MatchesBytesAlone : Regex → Type 0
+MatchesBytesAlone r = (word : List ℕ) → Matches r word → AreBytes word
 
 -- What an automaton asks of each pattern: no class and no either is empty, and at most 1,000 joins, eithers and manies stand
 -- around any part.

@@ -1,12 +1,11 @@
 // Laws of matching.
 
-ghost use Rattle.std.specs.Prelude.{◌≤◌, ℕ, List};
-ghost use Rattle.cs_pattern_items.specs.StandsFor.{AreBytes};
+ghost use Rattle.std.specs.Prelude.{◌≤◌, ℕ};
 ghost use Rattle.cs_pattern_items.specs.declared.item.Repetition.TheVariants.{Optional, Exactly, AtLeast, Between};
-ghost use Rattle.cs_pattern_tree.specs.Counting.{AreSame, HasBytes, IsBetween, SomeTimes, Times};
+ghost use Rattle.cs_pattern_tree.specs.Counting.{AreSame, HasBytes, IsBetween, IsRepeated, Times};
 ghost use Rattle.cs_pattern_tree.specs.Pattern.{Regex, Join, Either, Many, Parts, Matches, Repeats, alone_or};
 ghost use Rattle.cs_pattern_tree.specs.Repeated.{repeated};
-ghost use Rattle.cs_pattern_tree.specs.Scannable.{HasByteClasses, HasNoEmptyClass, HasNoEmptyEither};
+ghost use Rattle.cs_pattern_tree.specs.Scannable.{HasByteClasses, HasNoEmptyClass, HasNoEmptyEither, MatchesBytesAlone, MatchesSomeText};
 
 /// A many matches a list that falls into any number of parts, each of which has a byte.
 pub fn non_empty_parts()
@@ -21,7 +20,7 @@ pub fn alone()
 
 /// `r?` matches what is at most one list that r matches.
 pub fn optional_counts()
-    ensures { (r : Regex) → AreSame (Matches (repeated r Optional)) (SomeTimes (IsBetween 0 1) (Matches r)) }
+    ensures { (r : Regex) → IsRepeated (repeated r Optional) (IsBetween 0 1) r }
 {}
 
 /// `r{n}` matches what is n lists that r matches, one after another.
@@ -31,21 +30,20 @@ pub fn exact_counts()
 
 /// `r{n,}` matches what is n or more lists that r matches, one after another.
 pub fn least_counts()
-    ensures { (r : Regex) (n : ℕ) → AreSame (Matches (repeated r (AtLeast n))) (SomeTimes (λ k. n ≤ k) (Matches r)) }
+    ensures { (r : Regex) (n : ℕ) → IsRepeated (repeated r (AtLeast n)) (λ k. n ≤ k) r }
 {}
 
 /// `r{n,m}` matches what is n to m lists that r matches, one after another.
 pub fn between_counts()
-    ensures { (r : Regex) (n m : ℕ) → n ≤ m
-        → AreSame (Matches (repeated r (Between n m))) (SomeTimes (IsBetween n m) (Matches r)) }
+    ensures { (r : Regex) (n m : ℕ) → n ≤ m → IsRepeated (repeated r (Between n m)) (IsBetween n m) r }
 {}
 
 /// A pattern without empty classes and eithers matches some list of bytes.
 pub fn some_text()
-    ensures { (r : Regex) → HasNoEmptyClass r → HasNoEmptyEither r → (word : List ℕ) × AreBytes word × Matches r word }
+    ensures { (r : Regex) → HasNoEmptyClass r → HasNoEmptyEither r → MatchesSomeText r }
 {}
 
 /// A pattern whose classes have bytes alone matches lists of bytes alone.
 pub fn bytes_alone()
-    ensures { (r : Regex) (word : List ℕ) → HasByteClasses r → Matches r word → AreBytes word }
+    ensures { (r : Regex) → HasByteClasses r → MatchesBytesAlone r }
 {}

@@ -5,3 +5,5 @@
 mod graph;
 #[cfg(test)]
 mod items;
+#[cfg(test)]
+mod patterns;

@@ -5,4 +5,4 @@ use Rattle.cs_pattern.proofs.OneDerivation.{one_derivation}
 use Rattle.cs_pattern.proofs.laws.one_pattern.Goals as goal
 
 pub returns : goal.returns
-returns c = λ bytes xs ys t u r s d e. one_derivation (items_of xs) t u d (ap items_of (one_reading bytes xs ys r s) ∙ e)
+returns c = λ bytes t u s r. one_derivation (items_of s.items) t u s.derived (ap items_of (one_reading bytes s.items r.items s.read r.read) ∙ r.derived)

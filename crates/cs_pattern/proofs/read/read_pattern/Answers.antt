@@ -6,9 +6,10 @@ use Rattle.cs_pattern_items.specs.Views.{placed_of, placed_all}
 use Rattle.cs_pattern_tree.specs.declared.pattern.Pattern.{Pattern}
 use Rattle.cs_pattern.specs.Answers.{IsNamed}
 use Rattle.cs_pattern.specs.Classes.{HaveByteTexts}
-use Rattle.cs_pattern_tree.specs.Scannable.{IsScannable}
+use Rattle.cs_pattern_tree.specs.Scannable.{IsScannable, MatchesBytesAlone, MatchesSomeText}
 use Rattle.cs_pattern_tree.specs.Pattern.{regex, leaves}
-use Rattle.cs_pattern.proofs.ClassBytes.{AreBytes-from_fits}
+use Rattle.cs_pattern.proofs.ClassBytes.{AreBytes-from_fits, byte_classes_alone}
+use Rattle.cs_pattern_tree.proofs.Matching.{bytes_matched, matches_some}
 use Rattle.cs_pattern.proofs.Within.{scannable, few_leaves}
 use Rattle.cs_pattern.proofs.read.read_pattern.Goals as goal
 
@@ -41,3 +42,19 @@ returns-clause-leaves c =
     } in
     IfOk-weaker c.pattern_of_items.result _ (λ (p : Pattern). leaves (regex p) ≤ 8192)
     (λ p is. few_leaves c.args.definitions.now c.args.bytes.now (regex p) (is c.args.bytes.now named)) c.pattern_of_items.ensures.read
+
+pub returns-clause-matches : goal.returns-clause-matches
+returns-clause-matches c =
+    IfOk-weaker c.pattern_of_items.result _ (λ (p : Pattern). MatchesSomeText (regex p))
+    (λ p is. matches_some (regex p) is.classes is.eithers) (returns-clause-scannable c)
+
+pub returns-clause-bytes : goal.returns-clause-bytes
+returns-clause-bytes c =
+    let texts = subst HaveByteTexts c.definitions.view_is c.definitions.invariant.texts in
+    let named : IsNamed c.args.definitions.now c.args.bytes.now (placed_all c.deref-in-None.result.now) = record {
+      read = search rules;
+      defined = search rules;
+      few = omega (arith, length-map c.deref-in-None.result.now placed_of, c.in_ok-items.ensures.short, ap (length {A = Placed}) c.deref-in-None.ensures.value);
+    } in
+    IfOk-weaker c.pattern_of_items.result _ (λ (p : Pattern). MatchesBytesAlone (regex p))
+    (λ p is. bytes_matched (regex p) (byte_classes_alone c.args.definitions.now c.args.bytes.now (regex p) (AreBytes-from_fits c.args.bytes.now c.type_inv.bytes) texts (is c.args.bytes.now named))) c.pattern_of_items.ensures.read

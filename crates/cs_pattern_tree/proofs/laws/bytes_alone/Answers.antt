@@ -2,4 +2,4 @@ use Rattle.cs_pattern_tree.proofs.Matching.{bytes_matched}
 use Rattle.cs_pattern_tree.proofs.laws.bytes_alone.Goals as goal
 
 pub returns : goal.returns
-returns c = λ r word h m. bytes_matched r h word m
+returns c = bytes_matched

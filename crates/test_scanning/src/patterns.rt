@@ -1,7 +1,12 @@
+// Patterns as people write them, with and without definitions.
+
 ghost use Rattle.std.specs.Prelude.{◌+◌, ◌≤◌, IfOk};
 ghost use Rattle.cs_pattern_postfix.specs.Definitions.{total_bytes};
 
-use super::*;
+use cs_pattern::{
+    ByteSet, CheckError, Checked, DefinitionError, Definitions, MOST_BYTES, Pattern, PatternError,
+    PatternFault, read_pattern,
+};
 use std::alloc::{AllocError, Global};
 use std::test::Fail;
 

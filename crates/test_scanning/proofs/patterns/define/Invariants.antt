@@ -1,6 +1,6 @@
 use Rattle.std.proofs.Common.{◌+◌, ◌≤◌}
 use Rattle.cs_pattern_postfix.specs.Definitions.{total_bytes}
-use Rattle.cs_pattern.proofs.tests.define.Given as goal
+use Rattle.test_scanning.proofs.patterns.define.Given as goal
 
 abbrev pub invariant-loop-name : goal.invariant-loop-name
 invariant-loop-name l = total_bytes l.definitions + l.free ≤ 1048576
