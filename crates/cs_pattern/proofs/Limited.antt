@@ -8,18 +8,18 @@ use Rattle.cs_pattern_postfix.specs.Grammar.{Tree}
 use Rattle.cs_pattern.specs.declared.fault.PatternFault.TheVariants.{TooDeep, TooManyPositions}
 use Rattle.cs_pattern.specs.Answers.{limit_of}
 use Rattle.cs_pattern.specs.Limits.{passed_limit}
-use Rattle.cs_pattern_postfix.specs.Measures.{capped}
+use Rattle.cs_pattern_postfix.specs.Measures.{in_32_bits}
 
-pub capped_limit : (depth leaves : ℕ) → depth < 2 ^ 32 → passed_limit (capped depth) (capped leaves) ≡ passed_limit depth leaves
+pub capped_limit : (depth leaves : ℕ) → depth < 2 ^ 32 → passed_limit (in_32_bits depth) (in_32_bits leaves) ≡ passed_limit depth leaves
 capped_limit depth leaves lt =
-    let e : capped depth ≡ depth = omega arith in
+    let e : in_32_bits depth ≡ depth = omega arith in
     elim (cases_lt 8192 leaves) [
       | inl more ↦
-          let a : nat_lt 8192 (capped leaves) ≡ true = lt-ltb 8192 (capped leaves) (omega arith) in
+          let a : nat_lt 8192 (in_32_bits leaves) ≡ true = lt-ltb 8192 (in_32_bits leaves) (omega arith) in
           let b : nat_lt 8192 leaves ≡ true = lt-ltb 8192 leaves more in
           rw (e, a, b) refl
       | inr less ↦
-          let a : nat_lt 8192 (capped leaves) ≡ false = le-ltb 8192 (capped leaves) (omega arith) in
+          let a : nat_lt 8192 (in_32_bits leaves) ≡ false = le-ltb 8192 (in_32_bits leaves) (omega arith) in
           let b : nat_lt 8192 leaves ≡ false = le-ltb 8192 leaves less in
           rw (e, a, b) refl
     ]

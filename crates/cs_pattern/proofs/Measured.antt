@@ -10,7 +10,7 @@ use Rattle.cs_pattern_postfix.specs.declared.measure.Measure.{Measure}
 use Rattle.cs_pattern_postfix.specs.Definitions.{Definition}
 use Rattle.cs_pattern_postfix.specs.Grammar.{Tree, LastBranch, Or, Branch, LastPiece, Beside, Piece, Repeated, Atom, Bytes, Quote, Name, Group, tree_items, branch_items, piece_items, atom_items, all_repeated, branch_parts, piece_parts, piece_regex, atom_regex}
 use Rattle.cs_pattern_tree.specs.Pattern.{alone_or}
-use Rattle.cs_pattern_postfix.specs.Measures.{capped, measure, measure_of, leaf, repeated_leaves, greatest_depth, together, measures}
+use Rattle.cs_pattern_postfix.specs.Measures.{in_32_bits, measure, measure_of, leaf, repeated_leaves, greatest_depth, together, measures}
 use Rattle.cs_pattern_postfix.specs.Operations.{number_of, tree_ops}
 use Rattle.cs_pattern_tree.specs.Pattern.{Regex, Empty, Join, Either, Many, Parts, Nothing, Then, parts_of, leaves, all_leaves}
 use Rattle.cs_pattern_tree.specs.Repeated as repeats
@@ -60,47 +60,47 @@ leaves_either Nothing = refl
 leaves_either (Then r Nothing) = omega arith
 leaves_either (Then r (Then s ps)) = refl
 
--- ---- capped numbers
+-- ---- in_32_bits numbers
 
-capped_line : (x a b : ℕ) → capped (capped x * a + b) ≡ capped (x * a + b)
+capped_line : (x a b : ℕ) → in_32_bits (in_32_bits x * a + b) ≡ in_32_bits (x * a + b)
 capped_line x zero b = omega arith
 capped_line x (suc a) b =
     elim (cases_lt x (2 ^ 32)) [
-      | inl small ↦ let e : capped x ≡ x = omega arith in ap (λ n. capped (n * suc a + b)) e
+      | inl small ↦ let e : in_32_bits x ≡ x = omega arith in ap (λ n. in_32_bits (n * suc a + b)) e
       | inr large ↦
-          let e : capped x ≡ 2 ^ 32 - 1 = omega arith in
+          let e : in_32_bits x ≡ 2 ^ 32 - 1 = omega arith in
           let p : x * suc a ≡ x * a + x = omega arith in
           let q : (2 ^ 32 - 1) * suc a ≡ (2 ^ 32 - 1) * a + (2 ^ 32 - 1) = omega arith in
-          ap (λ n. capped (n * suc a + b)) e ∙ (let f : capped ((2 ^ 32 - 1) * suc a + b) ≡ capped (x * suc a + b) = omega arith in f)
+          ap (λ n. in_32_bits (n * suc a + b)) e ∙ (let f : in_32_bits ((2 ^ 32 - 1) * suc a + b) ≡ in_32_bits (x * suc a + b) = omega arith in f)
     ]
 
 between_line : (x n k : ℕ) → x * n + (x + 1) * k ≡ x * (n + k) + k
 between_line x n k = omega arith
 
-capped_repeated : (x : ℕ) (n : Repetition) → capped (repeated_leaves (capped x) n) ≡ capped (repeated_leaves x n)
+capped_repeated : (x : ℕ) (n : Repetition) → in_32_bits (repeated_leaves (in_32_bits x) n) ≡ in_32_bits (repeated_leaves x n)
 capped_repeated x Optional = omega arith
 capped_repeated x (Exactly n) =
-    ap capped (let e : capped x * n ≡ capped x * n + 0 = omega arith in e) ∙ capped_line x n 0 ∙ ap capped (let e : x * n + 0 ≡ x * n = omega arith in e)
+    ap in_32_bits (let e : in_32_bits x * n ≡ in_32_bits x * n + 0 = omega arith in e) ∙ capped_line x n 0 ∙ ap in_32_bits (let e : x * n + 0 ≡ x * n = omega arith in e)
 capped_repeated x (AtLeast n) =
-    ap capped (let e : capped x * (n + 1) ≡ capped x * (n + 1) + 0 = omega arith in e) ∙ capped_line x (n + 1) 0 ∙ ap capped (let e : x * (n + 1) + 0 ≡ x * (n + 1) = omega arith in e)
+    ap in_32_bits (let e : in_32_bits x * (n + 1) ≡ in_32_bits x * (n + 1) + 0 = omega arith in e) ∙ capped_line x (n + 1) 0 ∙ ap in_32_bits (let e : x * (n + 1) + 0 ≡ x * (n + 1) = omega arith in e)
 capped_repeated x (Between n m) =
-    ap capped (between_line (capped x) n (m - n)) ∙ capped_line x (n + (m - n)) (m - n) ∙ ap capped (sym (between_line x n (m - n)))
+    ap in_32_bits (between_line (in_32_bits x) n (m - n)) ∙ capped_line x (n + (m - n)) (m - n) ∙ ap in_32_bits (sym (between_line x n (m - n)))
 
-measure_same : (d e l k : ℕ) → capped d ≡ capped e → capped l ≡ capped k → measure d l ≡ measure e k
-measure_same d e l k f g = ap (λ n. let m : Measure = record { depth = n; leaves = capped l } in m) f ∙ ap (λ n. let m : Measure = record { depth = capped e; leaves = n } in m) g
+measure_same : (d e l k : ℕ) → in_32_bits d ≡ in_32_bits e → in_32_bits l ≡ in_32_bits k → measure d l ≡ measure e k
+measure_same d e l k f g = ap (λ n. let m : Measure = record { depth = n; leaves = in_32_bits l } in m) f ∙ ap (λ n. let m : Measure = record { depth = in_32_bits e; leaves = n } in m) g
 
 grouped : (m : Measure) (d l : ℕ) → m ≡ measure d l → measure (m.depth + 1) m.leaves ≡ measure (d + 1) l
-grouped m d l e = ap (λ (n : Measure). measure (n.depth + 1) n.leaves) e ∙ measure_same (capped d + 1) (d + 1) (capped l) l (omega arith) (omega arith)
+grouped m d l e = ap (λ (n : Measure). measure (n.depth + 1) n.leaves) e ∙ measure_same (in_32_bits d + 1) (d + 1) (in_32_bits l) l (omega arith) (omega arith)
 
 -- these parts have together the depth and the leaves
 record Adds (ms : List Measure) (d l : ℕ) : Type 0 where
-  deep : greatest_depth ms ≡ capped d
-  many : capped (sum_by (λ m. m.leaves) ms) ≡ capped l
+  deep : greatest_depth ms ≡ in_32_bits d
+  many : in_32_bits (sum_by (λ m. m.leaves) ms) ≡ in_32_bits l
 
 together_is : (ms : List Measure) (d l : ℕ) → Adds ms d l → together ms ≡ measure d l
 together_is ms d l h =
-    ap (λ n. let m : Measure = record { depth = n; leaves = capped (sum_by (λ x. x.leaves) ms) } in m) h.deep
-    ∙ ap (λ n. let m : Measure = record { depth = capped d; leaves = n } in m) h.many
+    ap (λ n. let m : Measure = record { depth = n; leaves = in_32_bits (sum_by (λ x. x.leaves) ms) } in m) h.deep
+    ∙ ap (λ n. let m : Measure = record { depth = in_32_bits d; leaves = n } in m) h.many
 
 adds_one : (m : Measure) (d l k : ℕ) → m ≡ measure d l → k ≡ l + 0 → Adds (m ∷ []) d k
 adds_one m d l k e f =
@@ -125,7 +125,7 @@ repeats_measured known r d m [] e = e ∙ ap (λ n. measure n (leaves r)) (let f
 repeats_measured known r d m (n ∷ rs) e =
     let one : measure (m.depth + 1) (repeated_leaves m.leaves n) ≡ measure (d + 1) (leaves (repeats.repeated r n)) =
     ap (λ (x : Measure). measure (x.depth + 1) (repeated_leaves x.leaves n)) e
-    ∙ measure_same (capped d + 1) (d + 1) (repeated_leaves (capped (leaves r)) n) (leaves (repeats.repeated r n)) (omega arith) (capped_repeated (leaves r) n ∙ ap capped (sym (leaves_repeated r n))) in
+    ∙ measure_same (in_32_bits d + 1) (d + 1) (repeated_leaves (in_32_bits (leaves r)) n) (leaves (repeats.repeated r n)) (omega arith) (capped_repeated (leaves r) n ∙ ap in_32_bits (sym (leaves_repeated r n))) in
     repeats_measured known (repeats.repeated r n) (d + 1) (measure (m.depth + 1) (repeated_leaves m.leaves n)) rs one
     ∙ ap (λ k. measure k (leaves (all_repeated (repeats.repeated r n) rs))) (let f : (d + 1) + length rs ≡ d + suc (length rs) = omega arith in f)
 

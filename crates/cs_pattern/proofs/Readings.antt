@@ -59,10 +59,10 @@ placed_same x y e f = ap (λ (n : ℕ). record { at = n; item = x.item }) e ∙ 
 -- two readings from one place to a place where both stop are one
 module _ (bytes : List ℕ) where
   -- nothing that may stand there stands at the offset
-  abbrev Ends : ℕ → Place → Type 0
-  Ends at p = (i : Item) (n : ℕ) (next : Place) → Spells (drop at bytes) n i → next_place p i ≡ Some next → ⊥
+  abbrev NoneGoesOn : ℕ → Place → Type 0
+  NoneGoesOn at p = (i : Item) (n : ℕ) (next : Place) → Spells (drop at bytes) n i → next_place p i ≡ Some next → ⊥
 
-  one_read : (at bt : ℕ) (p q : Place) (xs ys : List Placed) (to un : ℕ) (last other : Place) → at ≡ bt → p ≡ q → ReadsTo bytes at p xs to last → ReadsTo bytes bt q ys un other → Ends to last → Ends un other → (xs ≡ ys) × (to ≡ un) × (last ≡ other)
+  one_read : (at bt : ℕ) (p q : Place) (xs ys : List Placed) (to un : ℕ) (last other : Place) → at ≡ bt → p ≡ q → ReadsTo bytes at p xs to last → ReadsTo bytes bt q ys un other → NoneGoesOn to last → NoneGoesOn un other → (xs ≡ ys) × (to ≡ un) × (last ≡ other)
   one_read at bt p q [] [] to un last other e f r s v w = (refl, sym r.0 ∙ e ∙ s.0, sym r.1 ∙ f ∙ s.1)
   one_read at bt p q [] (y ∷ ys) to un last other e f r s v w =
       absurd (v y.item s.0 s.1 (subst (λ n. Spells (drop n bytes) s.0 y.item) (sym e ∙ r.0) s.3) (ap (λ k. next_place k y.item) (sym r.1 ∙ f) ∙ s.4))
@@ -80,7 +80,7 @@ module _ (bytes : List ℕ) where
 pub none_at_end : (bytes : List ℕ) (at n : ℕ) (i : Item) → length bytes ≤ at → Spells (drop at bytes) n i → ⊥
 none_at_end bytes at n i le s = let size = item_size (drop at bytes) n i s in omega (arith, size.0, size.1, length-drop at bytes)
 
-pub ends_read : (bytes : List ℕ) (items : List Placed) (r : Reads bytes items) → Ends bytes (length bytes) r.last
+pub ends_read : (bytes : List ℕ) (items : List Placed) (r : Reads bytes items) → NoneGoesOn bytes (length bytes) r.last
 ends_read bytes items r i n next e row = none_at_end bytes (length bytes) n i (omega arith) e
 
 -- the item that the text spells may not stand there
@@ -90,7 +90,7 @@ no_row text p n i next m e row =
     let f : None ≡ Some next = sym m.3 ∙ ap (next_place p) same.1 ∙ row in
     absurd cc
 
-stop_ends : (bytes : List ℕ) (at : ℕ) (last : Place) (why : Stop) → ((at < length bytes) × StopsWith last (drop at bytes) why) ⊎ ((at ≡ length bytes) × StopsAtEnd last why) → Ends bytes at last
+stop_ends : (bytes : List ℕ) (at : ℕ) (last : Place) (why : Stop) → ((at < length bytes) × StopsWith last (drop at bytes) why) ⊎ ((at ≡ length bytes) × StopsAtEnd last why) → NoneGoesOn bytes at last
 stop_ends bytes at last why (inl s) i n next e row =
     elim (s.1) [
       | inl stop ↦ stopped_no_item (drop at bytes) why n i stop e

@@ -11,6 +11,9 @@ use Rattle.cs_pattern.specs.Classes.{HaveByteTexts}
 use Rattle.cs_pattern.proofs.ClassBytes.{no_empty_class}
 use Rattle.cs_pattern.proofs.Limited.{limit_depth, limit_leaves}
 
+pub few_nested : (ds : List Definition) (text : List ℕ) (pattern : Regex) → IsPatternOf ds text pattern → nesting pattern ≤ 403
+few_nested ds text pattern h = let n = ap nesting h.is in let d = limit_depth h.tree h.within in omega (arith, n, d, tree_nested h.tree)
+
 pub scannable : (ds : List Definition) (text : List ℕ) (pattern : Regex) → AreBytes text → HaveByteTexts ds → IsPatternOf ds text pattern → IsScannable pattern
 scannable ds text pattern bytes texts h =
     let n = ap nesting h.is in

@@ -30,6 +30,7 @@ pub use laws::{
     has_answer, has_derivation, no_tree_in_a_cycle, one_answer, one_pattern, one_reading,
     one_refusal, reads_or_stops, scannable_pattern,
 };
+pub use limits::may_have_bytes;
 pub use read::read_pattern;
 
 /// The most bytes of a pattern's text, and of the names and texts of all definitions together.

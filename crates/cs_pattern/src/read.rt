@@ -1,7 +1,7 @@
 // Reading a pattern.
 
 ghost use Rattle.std.specs.Prelude.{◌≤◌, length, IfOk, IfErr};
-ghost use Rattle.cs_pattern_tree.specs.Pattern.{regex, leaves};
+ghost use Rattle.cs_pattern_tree.specs.Pattern.{regex, leaves, nesting};
 ghost use Rattle.cs_pattern_tree.specs.Scannable.{IsScannable, MatchesBytesAlone, MatchesSomeText};
 ghost use Rattle.cs_pattern.specs.Answers.{IsPatternOf, RefusesText};
 ghost use Rattle.cs_pattern.specs.ReadView.{AreNamedOfSome, GivePattern, GiveRefusal, IsPutIn, IsWithinDepth};
@@ -49,8 +49,9 @@ fn pattern_of_items(
     }
 }
 
-/// The pattern of a text, with the definitions put in for their names. An automaton can be made of it, and it has at most 8,192
-/// leaves. A fault says why the text has none.
+/// The pattern of a text, with the definitions put in for their names. An automaton can be made of it: no class or either is
+/// empty, at most 403 joins, eithers and manies stand around any part (two for each of 200 groups and repetitions, and three),
+/// and it has at most 8,192 leaves. A fault says why the text has none.
 pub fn read_pattern(
     alloc: Global,
     bytes: &[u8],
@@ -61,6 +62,7 @@ pub fn read_pattern(
     ensures scannable { IfOk result (λ pattern. IsScannable (regex pattern)) }
     ensures bytes { IfOk result (λ pattern. MatchesBytesAlone (regex pattern)) }
     ensures matches { IfOk result (λ pattern. MatchesSomeText (regex pattern)) }
+    ensures nested { IfOk result (λ pattern. nesting (regex pattern) ≤ 403) }
     ensures leaves { IfOk result (λ pattern. leaves (regex pattern) ≤ 8192) }
     ensures refused { IfErr result (RefusesText bytes.now definitions.now) }
 {

@@ -125,7 +125,7 @@ fn first_to(
     Ok(None)
 }
 
-/// RefusesDefinitions the lowest definition that reaches itself.
+/// Refuses the lowest definition that reaches itself.
 fn check_cycles(
     alloc: Global,
     all: &[Vec<Placed>],

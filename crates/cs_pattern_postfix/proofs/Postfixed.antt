@@ -11,7 +11,7 @@ use Rattle.cs_pattern_items.specs.declared.item.Placed as held
 use Rattle.cs_pattern_items.specs.Views.{item_of, placed_of, placed_all}
 use Rattle.cs_pattern_postfix.specs.Grammar.{Tree, LastBranch, Or, Branch, LastPiece, Beside, Piece, Repeated, Atom, Bytes, Quote, Name, Group, tree_items, branch_items, piece_items, atom_items}
 use Rattle.cs_pattern_postfix.specs.Operations.{Op, class, quoted, substitute, repeat, group, join, either, branch_count, piece_count, tree_ops, branches_ops, pieces_ops, piece_ops, atom_ops}
-use Rattle.cs_pattern_postfix.specs.Postfix.{State, capped, new_level, with_piece, ended, with_repetition, barred, closed, step, steps}
+use Rattle.cs_pattern_postfix.specs.Postfix.{State, in_64_bits, new_level, with_piece, ended, with_repetition, barred, closed, step, steps}
 
 abbrev level : ℕ → ℕ → Level
 level b p = record { branches = b; pieces = p }
@@ -23,8 +23,8 @@ state ops outer b p = record { ops = ops; outer = outer; level = level b p }
 abbrev most : ℕ
 most = 18446744073709551615
 
-capped_is : (n : ℕ) → n ≤ most → capped n ≡ n
-capped_is n le = omega arith
+in_64_bits_is : (n : ℕ) → n ≤ most → in_64_bits n ≡ n
+in_64_bits_is n le = omega arith
 
 pub steps-append : (number : List ℕ → ℕ) (s : State) (xs ys : List Item) → steps number s (xs ++ ys) ≡ steps number (steps number s xs) ys
 steps-append number s [] ys = refl
@@ -74,13 +74,13 @@ module _ (number : List ℕ → ℕ) where
       ∙ ap (λ n. record { ops = (ops ++ (branches_ops number t ++ either n ∷ [])) ++ group ∷ []; outer = outer; level = with_piece (level b p) }) (let n : 0 + branch_count t ≡ branch_count t = omega arith in n)
       ∙ ap (λ (o : List Op). record { ops = o; outer = outer; level = with_piece (level b p) }) (append_assoc ops (branches_ops number t ++ either (branch_count t) ∷ []) (group ∷ []))
       ∙ ap (λ (o : List Op). record { ops = ops ++ o; outer = outer; level = with_piece (level b p) }) (append_assoc (branches_ops number t) (either (branch_count t) ∷ []) (group ∷ []))
-      ∙ ap (λ n. state (ops ++ (branches_ops number t ++ either (branch_count t) ∷ group ∷ [])) outer b n) (capped_is (p + 1) le)
+      ∙ ap (λ n. state (ops ++ (branches_ops number t ++ either (branch_count t) ∷ group ∷ [])) outer b n) (in_64_bits_is (p + 1) le)
 
   mutual
     tree_steps : (t : Tree) (ops : List Op) (outer : List Level) (b : ℕ) → b + length (tree_items t) ≤ most → IsEnded number ops outer b t (steps number (state ops outer b 0) (tree_items t))
     tree_steps (LastBranch x) ops outer b le =
         let e = branch_steps x ops outer b 0 (omega arith) in
-        let c : capped (b + 1) ≡ b + 1 = capped_is (b + 1) (omega (arith, branch_length x)) in
+        let c : in_64_bits (b + 1) ≡ b + 1 = in_64_bits_is (b + 1) (omega (arith, branch_length x)) in
         subst (IsEnded number ops outer b (LastBranch x)) (sym e) (record {
           outer_is = refl;
           ops_is =
@@ -92,12 +92,12 @@ module _ (number : List ℕ → ℕ) where
     tree_steps (Or x t) ops outer b le =
         let long : length (tree_items (Or x t)) ≡ length (branch_items x) + suc (length (tree_items t)) = length-append (branch_items x) (items.bar ∷ tree_items t) in
         let e = branch_steps x ops outer b 0 (omega arith) in
-        let c : capped (b + 1) ≡ b + 1 = capped_is (b + 1) (omega arith) in
+        let c : in_64_bits (b + 1) ≡ b + 1 = in_64_bits_is (b + 1) (omega arith) in
         let z : 0 + piece_count x ≡ piece_count x = omega arith in
         let done : steps number (state ops outer b 0) (branch_items x ++ items.bar ∷ tree_items t) ≡ steps number (state ((ops ++ pieces_ops number x) ++ join (piece_count x) ∷ []) outer (b + 1) 0) (tree_items t) =
         steps-append number (state ops outer b 0) (branch_items x) (items.bar ∷ tree_items t)
         ∙ ap (λ (s : State). steps number (barred s) (tree_items t)) e
-        ∙ ap (λ n. steps number (state ((ops ++ pieces_ops number x) ++ join n ∷ []) outer (capped (b + 1)) 0) (tree_items t)) z
+        ∙ ap (λ n. steps number (state ((ops ++ pieces_ops number x) ++ join n ∷ []) outer (in_64_bits (b + 1)) 0) (tree_items t)) z
         ∙ ap (λ n. steps number (state ((ops ++ pieces_ops number x) ++ join (piece_count x) ∷ []) outer n 0) (tree_items t)) c in
         let more = tree_steps t ((ops ++ pieces_ops number x) ++ join (piece_count x) ∷ []) outer (b + 1) (omega arith) in
         subst (IsEnded number ops outer b (Or x t)) (sym done) (record {
@@ -130,9 +130,9 @@ module _ (number : List ℕ → ℕ) where
         ∙ ap (λ (o : List Op). state o outer b (p + 1)) (append_assoc ops (atom_ops number a) (map repeat rs))
 
     atom_steps : (a : Atom) (ops : List Op) (outer : List Level) (b p : ℕ) → p + length (atom_items a) ≤ most → steps number (state ops outer b p) (atom_items a) ≡ state (ops ++ atom_ops number a) outer b (p + 1)
-    atom_steps (Bytes set) ops outer b p le = ap (λ n. state (ops ++ class set ∷ []) outer b n) (capped_is (p + 1) (omega arith))
-    atom_steps (Quote bytes) ops outer b p le = ap (λ n. state (ops ++ quoted bytes ∷ []) outer b n) (capped_is (p + 1) (omega arith))
-    atom_steps (Name name) ops outer b p le = ap (λ n. state (ops ++ substitute (number name) ∷ group ∷ []) outer b n) (capped_is (p + 1) (omega arith))
+    atom_steps (Bytes set) ops outer b p le = ap (λ n. state (ops ++ class set ∷ []) outer b n) (in_64_bits_is (p + 1) (omega arith))
+    atom_steps (Quote bytes) ops outer b p le = ap (λ n. state (ops ++ quoted bytes ∷ []) outer b n) (in_64_bits_is (p + 1) (omega arith))
+    atom_steps (Name name) ops outer b p le = ap (λ n. state (ops ++ substitute (number name) ∷ group ∷ []) outer b n) (in_64_bits_is (p + 1) (omega arith))
     atom_steps (Group t) ops outer b p le =
         let long = length-append (tree_items t) (items.closing ∷ []) in
         let inner = tree_steps t ops (outer ++ level b p ∷ []) 0 (omega arith) in

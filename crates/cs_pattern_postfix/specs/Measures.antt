@@ -10,11 +10,11 @@ use Rattle.cs_pattern_postfix.specs.Grammar.{Tree}
 use Rattle.cs_pattern_tree.specs.Pattern.{leaves}
 use Rattle.cs_pattern_postfix.specs.Depth.{depth, pattern_of}
 
-abbrev pub capped : ℕ → ℕ
-capped n = min n (2 ^ 32 - 1)
+abbrev pub in_32_bits : ℕ → ℕ
+in_32_bits n = min n (2 ^ 32 - 1)
 
 abbrev pub measure : ℕ → ℕ → Measure
-measure d l = record { depth = capped d; leaves = capped l }
+measure d l = record { depth = in_32_bits d; leaves = in_32_bits l }
 
 -- the measure of a tree in which no names are left
 abbrev pub measure_of : Tree → Measure
@@ -38,7 +38,7 @@ greatest_depth [] = 0
 greatest_depth (m ∷ ms) = max m.depth (greatest_depth ms)
 
 abbrev pub together : List Measure → Measure
-together ms = record { depth = greatest_depth ms; leaves = capped (sum_by (λ m. m.leaves) ms) }
+together ms = record { depth = greatest_depth ms; leaves = in_32_bits (sum_by (λ m. m.leaves) ms) }
 
 -- where definitions have the known measures
 abbrev pub measures : List Measure → Algebra Measure

@@ -23,17 +23,17 @@ pub record State : Type 0 where
 abbrev pub state_of : code.Reader → State
 state_of r = record { ops = ops_of r.ops.items; outer = r.outer.items; level = r.level }
 
-abbrev pub capped : ℕ → ℕ
-capped n = min n (2 ^ 64 - 1)
+abbrev pub in_64_bits : ℕ → ℕ
+in_64_bits n = min n (2 ^ 64 - 1)
 
 abbrev pub new_level : Level
 new_level = record { branches = 0; pieces = 0 }
 
 abbrev pub with_piece : Level → Level
-with_piece l = record { branches = l.branches; pieces = capped (l.pieces + 1) }
+with_piece l = record { branches = l.branches; pieces = in_64_bits (l.pieces + 1) }
 
 abbrev pub with_branch : Level → Level
-with_branch l = record { branches = capped (l.branches + 1); pieces = 0 }
+with_branch l = record { branches = in_64_bits (l.branches + 1); pieces = 0 }
 
 -- the operations that end the branch and the pattern of a group
 abbrev pub ended : Level → List Op

@@ -48,7 +48,7 @@ fn grouped(inner: Measure) -> Measure
 
 /// How many leaves so many copies have, and so many optional ones.
 fn copies(leaves: u32, times: u32, optional: u32) -> u32
-    ensures { result ≡ measures.capped (leaves * times + (leaves + 1) * optional) }
+    ensures { result ≡ measures.in_32_bits (leaves * times + (leaves + 1) * optional) }
 {
     leaves
         .saturating_mul(times)

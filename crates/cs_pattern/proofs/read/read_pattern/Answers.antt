@@ -7,10 +7,10 @@ use Rattle.cs_pattern_tree.specs.declared.pattern.Pattern.{Pattern}
 use Rattle.cs_pattern.specs.Answers.{IsNamed}
 use Rattle.cs_pattern.specs.Classes.{HaveByteTexts}
 use Rattle.cs_pattern_tree.specs.Scannable.{IsScannable, MatchesBytesAlone, MatchesSomeText}
-use Rattle.cs_pattern_tree.specs.Pattern.{regex, leaves}
+use Rattle.cs_pattern_tree.specs.Pattern.{regex, leaves, nesting}
 use Rattle.cs_pattern.proofs.ClassBytes.{AreBytes-from_fits, byte_classes_alone}
 use Rattle.cs_pattern_tree.proofs.Matching.{bytes_matched, matches_some}
-use Rattle.cs_pattern.proofs.Within.{scannable, few_leaves}
+use Rattle.cs_pattern.proofs.Within.{scannable, few_leaves, few_nested}
 use Rattle.cs_pattern.proofs.read.read_pattern.Goals as goal
 
 pub pattern_of_items-requires : goal.pattern_of_items-requires
@@ -58,3 +58,13 @@ returns-clause-bytes c =
     } in
     IfOk-weaker c.pattern_of_items.result _ (λ (p : Pattern). MatchesBytesAlone (regex p))
     (λ p is. bytes_matched (regex p) (byte_classes_alone c.args.definitions.now c.args.bytes.now (regex p) (AreBytes-from_fits c.args.bytes.now c.type_inv.bytes) texts (is c.args.bytes.now named))) c.pattern_of_items.ensures.read
+
+pub returns-clause-nested : goal.returns-clause-nested
+returns-clause-nested c =
+    let named : IsNamed c.args.definitions.now c.args.bytes.now (placed_all c.deref-in-None.result.now) = record {
+      read = search rules;
+      defined = search rules;
+      few = omega (arith, length-map c.deref-in-None.result.now placed_of, c.in_ok-items.ensures.short, ap (length {A = Placed}) c.deref-in-None.ensures.value);
+    } in
+    IfOk-weaker c.pattern_of_items.result _ (λ (p : Pattern). nesting (regex p) ≤ 403)
+    (λ p is. few_nested c.args.definitions.now c.args.bytes.now (regex p) (is c.args.bytes.now named)) c.pattern_of_items.ensures.read
