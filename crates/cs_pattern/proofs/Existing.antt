@@ -1,6 +1,6 @@
 -- A text is read to its end or stops, and has a pattern or a fault.
-use Rattle.std.proofs.Common.{◌≡◌, ◌⊎◌, ℕ, zero, suc, ◌+◌, ◌≤◌, ◌<◌, Bool, true, false, List, [], ◌∷◌, ◌++◌, length, drop, refl, sym, ap, ◌∙◌, subst, inl, inr, arith, length-drop}
-use Rattle.std.specs.Prelude.{Option, Some, None, slice_get}
+use Rattle.std.proofs.Common.{◌≡◌, ◌⊎◌, ℕ, zero, suc, ◌+◌, ◌≤◌, ◌<◌, Bool, true, false, List, [], ◌∷◌, ◌++◌, length, drop, refl, sym, ap, subst, inl, inr, arith, length-drop}
+use Rattle.std.specs.Prelude.{Option, Some, None}
 use Rattle.std.proofs.lemmas.Bool.{cases_lt, false≢true}
 use Rattle.cs_pattern.specs.declared.place.Place.{Place}
 use Rattle.cs_pattern.specs.declared.fault.PatternFault.{PatternFault}
@@ -9,7 +9,7 @@ use Rattle.cs_pattern_items.specs.declared.front.Stop.{Stop}
 use Rattle.cs_pattern_items.specs.declared.front.Stop.TheVariants as stops
 use Rattle.cs_pattern_items.specs.ByteKind.{has_at}
 use Rattle.cs_pattern_items.specs.Spelling.{Spells}
-use Rattle.cs_pattern_items.specs.Items.{Item, class, quoted, named, opening, closing, bar, repetition, Placed, items_of}
+use Rattle.cs_pattern_items.specs.Items.{Item, class, quoted, named, opening, closing, bar, repetition, Placed}
 use Rattle.cs_pattern_items.proofs.Fronts.{spelled_or_stopped}
 use Rattle.cs_pattern_postfix.specs.Definitions.{Definition}
 use Rattle.cs_pattern_postfix.specs.Depth.{depth, pattern_of}
@@ -19,7 +19,7 @@ use Rattle.cs_pattern.specs.Answers.{limit_of, IsPatternOf, IsFault}
 use Rattle.cs_pattern.specs.Checking.{AreAccepted}
 use Rattle.cs_pattern.specs.Names.{first_undefined}
 use Rattle.cs_pattern.specs.Substitution.{IsTreeOf}
-use Rattle.cs_pattern.specs.Table.{place, beginning, next_place, closed, if_behind, Reads, StopsAt, StopsWith, IsFirstStop, IsPlainText, MayEnd, fault_of}
+use Rattle.cs_pattern.specs.Table.{place, beginning, next_place, closed, if_behind, Reads, StopsAt, IsFirstStop, IsPlainText, MayEnd, fault_of}
 use Rattle.cs_pattern.proofs.HasDerivation.{has_derivation}
 use Rattle.cs_pattern.proofs.Limited.{limit_depth}
 use Rattle.cs_pattern.proofs.PuttingIn.{HaveTrees, put_tree}

@@ -1,15 +1,14 @@
 -- An item that a text spells in front has a byte, and is no longer than the text.
-use Rattle.std.proofs.Common.{◌≡◌, ℕ, zero, suc, ◌+◌, ◌≤◌, ◌<◌, List, [], ◌∷◌, ◌++◌, length, ap, arith, length-append}
-use Rattle.std.specs.Prelude.{Option, Some, slice_get, codes}
+use Rattle.std.proofs.Common.{ℕ, ◌≤◌, ◌<◌, List, [], ◌∷◌, length, ap, arith, length-append}
+use Rattle.std.specs.Prelude.{Option, Some, codes}
 use Rattle.std.proofs.lemmas.List.Sums.{prefix_len-le-length}
 use Rattle.std.proofs.lemmas.Option.{slice_get_within}
 use Rattle.cs_bytes.specs.Classes.{is_octal_digit, is_hexadecimal_digit}
-use Rattle.cs_bytes.specs.Names.{backslash, double_quote, closing_bracket}
+use Rattle.cs_bytes.specs.Names.{double_quote, closing_bracket}
 use Rattle.cs_pattern_items.specs.declared.item.Repetition.{Repetition}
-use Rattle.cs_pattern_items.specs.Brackets.{IsBracket, IsClosed, upright, inverted}
+use Rattle.cs_pattern_items.specs.Brackets.{IsClosed, upright, inverted}
 use Rattle.cs_pattern_items.specs.Items.{Item, class, quoted, named, opening, closing, bar, repetition}
 use Rattle.cs_pattern_items.specs.Marks.{Mark}
-use Rattle.cs_pattern_items.specs.Parts as parts
 use Rattle.cs_pattern_items.specs.Parts.{Shows, Escapes, octal_digits, hexadecimal_digits, itself_or_control}
 use Rattle.cs_pattern_items.specs.Spelling as spelling
 use Rattle.cs_pattern_items.specs.Spelling.{Spells, SpellsClass, SpellsRepetition, IsQuoted, braced}

@@ -1,5 +1,5 @@
 -- What the code finds of uses.
-use Rattle.std.specs.Prelude.{◌≡◌, ℕ, List, [], ◌∷◌, ◌++◌, Option, MatchOption}
+use Rattle.std.specs.Prelude.{ℕ, List, [], ◌∷◌, ◌++◌, Option, MatchOption}
 use Rattle.std.specs.List.{filter_map, AllByRecursion}
 use Rattle.std.specs.Global.{Vec}
 use Rattle.cs_pattern_items.specs.declared.item.Item as item_code

@@ -1,6 +1,6 @@
 // The items of a text, up to the first place where reading stops.
 
-ghost use Rattle.std.specs.Prelude.{◌≡◌, ◌<◌, ◌≤◌, ◌^◌, ℕ, List, length, IfOk, IfErr};
+ghost use Rattle.std.specs.Prelude.{◌≡◌, ◌<◌, ◌≤◌, ◌^◌, length, IfOk, IfErr};
 ghost use Rattle.cs_pattern.specs.Table as spec;
 ghost use Rattle.cs_pattern_items.specs.Views.{placed_all};
 ghost use Rattle.cs_pattern.specs.ReadView.{IsNext, StopsReading};

@@ -1,7 +1,6 @@
 // Which definitions use which.
 
-ghost use Rattle.std.specs.Prelude.{◌≡◌, ◌++◌, ◌∷◌, [], ◌<◌, ◌≤◌, ◌↔◌, IsTrue, IfOk, IfErr, OnOk, MatchOption, length};
-ghost use Rattle.std.specs.List.{filter_map, AllByRecursion};
+ghost use Rattle.std.specs.Prelude.{◌≡◌, ◌<◌, ◌≤◌, ◌↔◌, IsTrue, IfOk, IfErr, OnOk, length};
 ghost use Rattle.cs_pattern.specs.Names as spec;
 ghost use Rattle.cs_pattern.specs.Checked.{IsOrder};
 ghost use Rattle.cs_pattern.specs.Checking.{RefusesDefinitions, HasNoCycle};
@@ -9,8 +8,7 @@ ghost use Rattle.cs_pattern_postfix.specs.Definitions.{definitions_of, total_byt
 ghost use Rattle.cs_pattern.specs.Stages.{AreRead, AreNamed, IsUseGraph};
 ghost use Rattle.cs_pattern.specs.Uses as meaning;
 ghost use Rattle.cs_pattern.specs.UseView.{IsFirstBack, LeadsBack, all_uses, with_use};
-ghost use Rattle.cs_pattern_items.specs.Items.{items_of};
-ghost use Rattle.cs_pattern_items.specs.Views.{item_of, placed_of, placed_all};
+ghost use Rattle.cs_pattern_items.specs.Views.{item_of, placed_all};
 
 use crate::checking::fault_at;
 use crate::fault::{CheckError, PatternFault};

@@ -1,9 +1,8 @@
 // How deep a pattern is and how many leaves it has, without building it.
 
 ghost use Rattle.std.specs.Prelude.{◌≡◌, ◌+◌, ◌*◌, ◌-◌, ◌++◌, ◌∷◌, [], IfOk, OnOk, max, slice_index_or};
-ghost use Rattle.cs_pattern_postfix.specs.Evaluation.{below, step, top, value_of};
+ghost use Rattle.cs_pattern_postfix.specs.Evaluation.{below, top};
 ghost use Rattle.cs_pattern_postfix.specs.Measures as measures;
-ghost use Rattle.cs_pattern_postfix.specs.Operations.{op_of, ops_of};
 
 use crate::operations::Op;
 use cs_pattern_items::Repetition;

@@ -1,6 +1,6 @@
 // The names of definitions.
 
-ghost use Rattle.std.specs.Prelude.{◌≡◌, ◌<◌, IfSome, length};
+ghost use Rattle.std.specs.Prelude.{◌≡◌, ◌<◌};
 ghost use Rattle.cs_pattern_postfix.specs.Definitions as spec;
 
 use indexmap::IndexMap;

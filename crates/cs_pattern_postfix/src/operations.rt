@@ -1,14 +1,11 @@
 // A pattern's items as operations, each behind what it works on.
 
-ghost use Rattle.std.specs.Prelude.{◌≡◌, ◌+◌, ◌^◌, ◌-◌, ◌++◌, ◌∷◌, [], IfOk, OnOk};
+ghost use Rattle.std.specs.Prelude.{◌≡◌, ◌+◌, ◌-◌, ◌++◌, ◌∷◌, [], IfOk, OnOk};
 ghost use Rattle.cs_pattern_postfix.specs.Definitions.{definitions_of};
-ghost use Rattle.cs_pattern_postfix.specs.Grammar.{Tree, IsDerivation};
-ghost use Rattle.cs_pattern_items.specs.Items.{items_of};
 ghost use Rattle.cs_pattern_postfix.specs.Operations as operations;
-ghost use Rattle.cs_pattern_postfix.specs.Operations.{op_of, ops_of, tree_ops, number_of};
+ghost use Rattle.cs_pattern_postfix.specs.Operations.{op_of, ops_of, number_of};
 ghost use Rattle.cs_pattern_postfix.specs.Postfix as spec;
 ghost use Rattle.cs_pattern_postfix.specs.Postfix.{state_of};
-ghost use Rattle.cs_pattern_items.specs.Views.{item_of, placed_all};
 
 use crate::names::{Texts, index_of};
 use cs_pattern_items::{ByteSet, Item, Placed, Repetition};
