@@ -1,0 +1,36 @@
+-- The entry of the state and the byte's column.
+use Rattle.std.proofs.Common.{◌≡◌, ◌∙◌, ℕ, ◌<◌, List, sym, ap, subst, arith, length}
+use Rattle.std.specs.Prelude.{IfSome}
+use Rattle.std.proofs.lemmas.List.{length-map, get_or_read}
+use Rattle.cs_automaton.specs.Automata.{members, step_at}
+use Rattle.cs_automaton.specs.Machine.{Machine, StateOf, IsNextState}
+use Rattle.cs_automaton.specs.Sets.{lists}
+use Rattle.cs_automaton.specs.States.{option_lists, step_in}
+use Rattle.cs_automaton.proofs.Answering.{answer, answer_within}
+use Rattle.cs_automaton.proofs.automaton.Automaton.step.Goals as goal
+
+pub returns-clause-next : goal.returns-clause-next
+returns-clause-next c =
+    let inside = c.self.inside in
+    let ws = lists inside.sets.keys in
+    let R : Machine → Type 0 = λ m. c.args.state < length m.sets in
+    let within : c.args.state < length ws = omega (arith, subst R (sym c.self.view_is) c.requires, length-map ws members) in
+    let column = get_or_read inside.column_of.items c.args.byte c.index.result.now (omega (arith, c.ranges.byte.fits, c.self.invariant.columns)) c.index.ensures 0 in
+    let is : c.step_in.result ≡ step_at (option_lists inside.steps.items) inside.column_of.items c.args.state c.args.byte =
+    c.step_in.ensures ∙ ap (λ t. step_in (option_lists t) c.args.state c.index.result.now) c.deref.ensures.value ∙ ap (λ n. step_in (option_lists inside.steps.items) c.args.state n) column
+    in
+    let S : Machine → Type 0 = λ m. (x : List ℕ) → StateOf m c.args.state x → IsNextState m x c.args.byte c.step_in.result in
+    subst S c.self.view_is (answer inside.patterns.now ws (option_lists inside.steps.items) inside.column_of.items inside.first_rules.items c.self.invariant c.args.state c.args.byte c.step_in.result within (omega (arith, c.ranges.byte.fits)) is)
+
+pub returns-clause-within : goal.returns-clause-within
+returns-clause-within c =
+    let inside = c.self.inside in
+    let ws = lists inside.sets.keys in
+    let R : Machine → Type 0 = λ m. c.args.state < length m.sets in
+    let within : c.args.state < length ws = omega (arith, subst R (sym c.self.view_is) c.requires, length-map ws members) in
+    let column = get_or_read inside.column_of.items c.args.byte c.index.result.now (omega (arith, c.ranges.byte.fits, c.self.invariant.columns)) c.index.ensures 0 in
+    let is : c.step_in.result ≡ step_at (option_lists inside.steps.items) inside.column_of.items c.args.state c.args.byte =
+    c.step_in.ensures ∙ ap (λ t. step_in (option_lists t) c.args.state c.index.result.now) c.deref.ensures.value ∙ ap (λ n. step_in (option_lists inside.steps.items) c.args.state n) column
+    in
+    let S : Machine → Type 0 = λ m. IfSome c.step_in.result (λ to. to < length m.sets) in
+    subst S c.self.view_is (answer_within inside.patterns.now ws (option_lists inside.steps.items) inside.column_of.items inside.first_rules.items c.self.invariant c.args.state c.args.byte c.step_in.result within (omega (arith, c.ranges.byte.fits)) is)

@@ -1,0 +1,17 @@
+pub mod Re
+pub mod Linear
+pub mod Meaning
+pub mod Places
+pub mod Reached
+pub mod Rules
+pub mod Exits
+pub mod Flat
+pub mod Walks
+pub mod Bits
+pub mod Programs
+pub mod Runs
+pub mod Sets
+pub mod States
+pub mod Counted
+pub mod Machine
+pub mod Automata

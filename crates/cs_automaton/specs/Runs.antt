@@ -1,0 +1,33 @@
+-- The walks of the code.
+use Rattle.std.specs.Prelude.{◌≡◌, ℕ, true, false, Bool, List, []}
+use Rattle.cs_pattern_tree.specs.Pattern.{Regex}
+use Rattle.cs_automaton.specs.declared.running.Backward.{Backward}
+use Rattle.cs_automaton.specs.declared.running.Forward.{Forward}
+use Rattle.cs_automaton.specs.declared.program.Rule.{Rule}
+use Rattle.cs_automaton.specs.Bits.{bit, Puts}
+use Rattle.cs_automaton.specs.Exits.{exit, nexts}
+use Rattle.cs_automaton.specs.Meaning.{re}
+use Rattle.cs_automaton.specs.Places.{numbered}
+use Rattle.cs_automaton.specs.Programs.{IsRule}
+use Rattle.cs_automaton.specs.Walks.{Going, Backing, back_all}
+
+abbrev pub backward_of : Backward → Backing
+backward_of w = record { ahead = w.ahead; ends = w.ends; frames = w.frames.items; finals = w.finals.items }
+
+abbrev pub forward_of : Forward → Going
+forward_of w = record { live = w.live; frames = w.frames.items; finals = w.finals.items }
+
+abbrev pub start_back : Backing
+start_back = record { ahead = true; ends = false; frames = []; finals = [] }
+
+-- the ends of the manies, where it is the rule of a pattern
+abbrev pub FindsEnds : Rule → List ℕ → List Bool → Type 0
+FindsEnds rule set ends = (from : ℕ) (r : Regex) → IsRule rule from r → ends ≡ (back_all (bit set) rule.ops.items start_back).finals
+
+-- The rule, entered or not, was walked over a set: whether a word may end at one of its places, and what may come next.
+pub record IsWalked (rule : Rule) (entered : Bool) (set old new : List ℕ) (ends : Bool) : Type 0 where
+  pub ends_there : (number from : ℕ) (r : Regex) → IsRule rule from r → ends ≡ exit (bit set) (numbered number from (re r)) entered
+  pub puts : (number from : ℕ) (r : Regex) → IsRule rule from r → Puts old new (nexts (bit set) (numbered number from (re r)) entered)
+
+abbrev pub start_on : Bool → List Bool → Going
+start_on entered finals = record { live = entered; frames = []; finals = finals }

@@ -1,0 +1,179 @@
+// The states and the steps between them.
+
+ghost use Rattle.std.specs.Prelude.{◌≡◌, ℕ, ◌+◌, ◌*◌, ◌<◌, ◌≤◌, [], ◌∷◌, IfOk, Err, length, List, slice_get, Some};
+ghost use Rattle.cs_automaton.specs.Counted.{IsAbove};
+ghost use Rattle.cs_automaton.specs.Meaning.{all_classes};
+ghost use Rattle.cs_automaton.specs.Places.{InSet, all_letters};
+ghost use Rattle.cs_automaton.specs.Programs.{IsProgram, rules_of};
+ghost use Rattle.cs_automaton.specs.Sets.{lists};
+ghost use Rattle.cs_automaton.specs.States.{AddsStep, AddsSteps, AreColumns, AreFirstRules, AreFull, IsAfter, IsBuilt, option_lists};
+ghost use Rattle.cs_automaton.specs.States as spec;
+
+use crate::bits::{common, is_empty};
+use crate::error::{AutomatonError, MOST_SETS, State};
+use crate::program::Program;
+use crate::running::walk;
+use crate::sets::add;
+use indexmap::IndexSet;
+use std::alloc::{AllocError, Global};
+
+/// The sets of all states, the steps of each by column, and the first rule of each.
+#[derive(Drop)]
+pub struct States {
+    pub sets: IndexSet<Vec<u64>>,
+    pub steps: Vec<Vec<Option<State>>>,
+    pub first_rules: Vec<Option<u16>>,
+}
+
+/// What may come behind a set, and the first rule that ends there.
+#[derive(Drop)]
+struct Behind {
+    next: Vec<u64>,
+    first_rule: Option<u16>,
+}
+
+/// The first rule so far, or the rule at the index where it ends.
+fn earlier(first_rule: Option<u16>, ends: bool, index: usize) -> Option<u16>
+    requires { index < 2048 }
+    ensures { result ≡ spec.earlier first_rule ends index }
+{
+    match first_rule {
+        Some(rule) => Some(rule),
+        None => if ends { Some(index as u16 + 1) } else { None },
+    }
+}
+
+/// Puts what may come behind the set, and finds the first rule that ends there.
+fn walk_all(
+    alloc: Global,
+    program: &Program<'_>,
+    entered: bool,
+    set: &[u64],
+    next: &mut [u64],
+) -> Result<Option<u16>, AllocError>
+    requires program { IsProgram program.now }
+    requires few { length program.now.rules.items ≤ 2048 }
+    ensures { IfOk result (λ rule. spec.IsWalkedAll (rules_of program.now) entered set.now next.old next.new rule) }
+{
+    let mut first_rule = None;
+    for i in 0..program.rules.len() {
+        let ends = walk(alloc, &program.rules[i], entered, set, next)?;
+        first_rule = earlier(first_rule, ends, i);
+    }
+    Ok(first_rule)
+}
+
+/// What may come behind the set, entered or not, and the first rule that ends there.
+fn follow(
+    alloc: Global,
+    program: &Program<'_>,
+    entered: bool,
+    set: &[u64],
+) -> Result<Behind, AllocError>
+    requires program { IsProgram program.now }
+    requires few { length program.now.rules.items ≤ 2048 }
+    ensures { IfOk result (λ b. IsAfter (rules_of program.now) entered set.now b.next.items b.first_rule) }
+{
+    let mut next = vec![in alloc; 0u64; set.len()]?;
+    let first_rule = walk_all(alloc, program, entered, set, &mut next)?;
+    Ok(Behind { next, first_rule })
+}
+
+/// The state behind any byte of the row, which is added where it is new.
+fn step(
+    alloc: Global,
+    next: &[u64],
+    row: &[u64],
+    sets: &mut IndexSet<Vec<u64>>,
+) -> Result<Option<State>, AllocError>
+    requires long { length next.now ≡ length row.now }
+    requires few { length sets.old.keys < 65000 }
+    ensures step { IfOk result (λ to. AddsStep (lists sets.old.keys) (lists sets.new.keys) next.now row.now to) }
+    ensures few { IfOk result (λ _. length sets.new.keys ≤ length sets.old.keys + 1) }
+{
+    let set = common(alloc, next, row)?;
+    if is_empty(&set) {
+        return Ok(None);
+    }
+    let state = add(sets, set)?;
+    Ok(Some(state as State))
+}
+
+/// The steps of a state, one for each row.
+fn steps_of(
+    alloc: Global,
+    next: &[u64],
+    rows: &[Vec<u64>],
+    sets: &mut IndexSet<Vec<u64>>,
+) -> Result<Vec<Option<State>>, AllocError>
+    requires long { (k : ℕ) (row : List ℕ) → slice_get (lists rows.now) k ≡ Some row → length row ≡ length next.now }
+    requires rows { length rows.now ≤ 256 }
+    requires few { length sets.old.keys ≤ 16385 }
+    ensures steps { IfOk result (λ v. AddsSteps (lists sets.old.keys) (lists sets.new.keys) next.now (lists rows.now) v.items) }
+    ensures all { IfOk result (λ v. length v.items ≡ length rows.now) }
+    ensures few { IfOk result (λ _. length sets.new.keys ≤ length sets.old.keys + 256) }
+{
+    let mut steps = Vec::with_capacity(alloc, rows.len())?;
+    for column in 0..rows.len() {
+        let to = step(alloc, next, &rows[column], sets)?;
+        steps.push(to)?;
+    }
+    Ok(steps)
+}
+
+/// The start alone.
+fn start_sets(alloc: Global, width: usize) -> Result<IndexSet<Vec<u64>>, AllocError>
+    ensures start { IfOk result (λ sets. spec.IsStart width (lists sets.keys)) }
+    ensures one { IfOk result (λ sets. length sets.keys ≤ 1) }
+{
+    let mut sets = IndexSet::new(alloc);
+    let start = vec![in alloc; 0u64; width]?;
+    add(&mut sets, start)?;
+    Ok(sets)
+}
+
+/// The set of a state.
+fn set_at(sets: &IndexSet<Vec<u64>>, state: usize) -> &[u64]
+    requires { state < length sets.now.keys }
+    ensures { slice_get (lists sets.now.keys) state ≡ Some result.now }
+{
+    &sets.as_slice()[state]
+}
+
+/// All states and their steps, or more states than the limit.
+pub fn make_states(
+    alloc: Global,
+    program: &Program<'_>,
+    rows: &[Vec<u64>],
+    width: usize,
+) -> Result<States, AutomatonError>
+    requires program { IsProgram program.now }
+    requires few { length program.now.rules.items ≤ 2048 }
+    requires full { AreFull (rules_of program.now) }
+    requires wide { all_letters (rules_of program.now) ≤ 64 * width }
+    requires rows { length rows.now ≤ 256 }
+    requires columns { spec.AreRowsOf (rules_of program.now) width (lists rows.now) }
+    ensures built { IfOk result (λ s. IsBuilt (rules_of program.now) (lists rows.now) width 16384 (lists s.sets.keys) (option_lists s.steps.items)) }
+    ensures rules { IfOk result (λ s. AreFirstRules (rules_of program.now) (lists s.sets.keys) s.first_rules.items) }
+    ensures each { IfOk result (λ s. length s.first_rules.items ≡ length s.sets.keys) }
+    ensures too_many { (most : ℕ) → result ≡ Err (spec.too_many most) → (most ≡ 16384) × IsAbove (InSet (rules_of program.now)) 16384 }
+{
+    let mut sets = start_sets(alloc, width)?;
+    let mut steps = Vec::new(alloc);
+    let mut first_rules = Vec::new(alloc);
+    'states: while steps.len() < sets.len() {
+        if sets.len() > MOST_SETS as usize + 1 {
+            return Err(AutomatonError::TooManyStates { most: MOST_SETS });
+        }
+        let state = steps.len();
+        let Behind { next, first_rule } = follow(alloc, program, state == 0, set_at(&sets, state))?;
+        let row = steps_of(alloc, &next, rows, &mut sets)?;
+        steps.push(row)?;
+        first_rules.push(first_rule)?;
+    }
+    Ok(States {
+        sets,
+        steps,
+        first_rules,
+    })
+}
