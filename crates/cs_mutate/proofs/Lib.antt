@@ -1,0 +1,5 @@
+pub mod Steps
+pub mod Fitting
+pub mod Patches
+pub mod Distinct
+pub mod Mutants

@@ -1,0 +1,4 @@
+pub mod Edit
+pub mod Edits
+pub mod Rest
+pub mod Mutant

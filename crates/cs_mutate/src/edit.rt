@@ -1,0 +1,78 @@
+// Edits of a list of tokens, and their results.
+
+ghost use Rattle.std.specs.Prelude.{◌≡◌, ◌↔◌, ◌+◌, ◌≤◌, ◌++◌, IsTrue, IfOk, length, take, drop};
+ghost use Rattle.cs_mutate.specs.Edit.{IsPlaced, Fits, patched, edited};
+
+use std::alloc::{AllocError, Global};
+
+/// A change of a list of tokens at a place, counted from 0.
+#[derive(Clone, Copy, Debug, PartialEq, Eq)]
+pub enum Edit {
+    /// The token at the place goes.
+    Delete(u32),
+    /// A token comes in front of the place, which may be the end.
+    Insert(u32, u16),
+    /// A token comes in place of the one there.
+    Replace(u32, u16),
+    /// The token there and the next change places.
+    Swap(u32),
+}
+
+/// The operators of which edits are wanted.
+#[derive(Clone, Copy, Debug, PartialEq, Eq)]
+pub struct Operators {
+    /// Whether a token may go.
+    pub delete: bool,
+    /// Whether a token may come in.
+    pub insert: bool,
+    /// Whether a token may come in place of another.
+    pub replace: bool,
+    /// Whether two neighbours may change places.
+    pub swap: bool,
+}
+
+/// Whether an edit's place is one of a list of that length, and its token one of so many.
+pub fn edit_fits(length: u32, tokens: u16, edit: &Edit) -> bool
+    ensures { IsTrue result ↔ Fits length tokens edit.now }
+{
+    match *edit {
+        Edit::Delete(place) => place < length,
+        Edit::Insert(place, token) => place <= length && 0 < token && token <= tokens,
+        Edit::Replace(place, token) => place < length && 0 < token && token <= tokens,
+        Edit::Swap(place) => place < length.saturating_sub(1),
+    }
+}
+
+/// The edited list. The edit's place is one of the list's; want of memory alone is an error.
+pub fn apply(alloc: Global, base: &[u16], edit: &Edit) -> Result<Vec<u16>, AllocError>
+    requires { IsPlaced (length base.now) edit.now }
+    ensures { IfOk result (λ list. list.items ≡ edited base.now edit.now) }
+{
+    match *edit {
+        Edit::Delete(place) => patch(alloc, base, place as usize, &[], 1),
+        Edit::Insert(place, token) => patch(alloc, base, place as usize, &[token], 0),
+        Edit::Replace(place, token) => patch(alloc, base, place as usize, &[token], 1),
+        Edit::Swap(place) => {
+            let at = place as usize;
+            patch(alloc, base, at, &[base[at + 1], base[at]], 2)
+        }
+    }
+}
+
+// The list with other tokens in place of so many from a place on.
+fn patch(
+    alloc: Global,
+    base: &[u16],
+    place: usize,
+    put: &[u16],
+    gone: usize,
+) -> Result<Vec<u16>, AllocError>
+    requires { place + gone ≤ length base.now }
+    ensures { IfOk result (λ list. list.items ≡ patched base.now place put.now gone) }
+{
+    let mut list = Vec::new(alloc);
+    list.extend_from_slice(&base[..place])?;
+    list.extend_from_slice(put)?;
+    list.extend_from_slice(&base[place + gone..])?;
+    Ok(list)
+}
