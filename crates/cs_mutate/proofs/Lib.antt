@@ -3,3 +3,7 @@ pub mod Fitting
 pub mod Patches
 pub mod Distinct
 pub mod Mutants
+pub mod Marks
+pub mod Seams
+pub mod Searching
+pub mod Listed

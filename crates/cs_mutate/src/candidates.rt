@@ -30,6 +30,15 @@ impl Places {
         Places { place: 0, places }
     }
 
+    pub fn copied(&self) -> Places
+        ensures { result ≡ self.now }
+    {
+        Places {
+            place: self.place,
+            places: self.places,
+        }
+    }
+
     pub fn next(&mut self) -> Option<u32>
         ensures some { IfSome result (λ place. self.old ≡ place ∷ self.new) }
         ensures none { IfNone result ((self.old ≡ []) × (self.new ≡ [])) }
@@ -73,6 +82,17 @@ impl Cells {
             token: 0,
             places,
             tokens,
+        }
+    }
+
+    pub fn copied(&self) -> Cells
+        ensures { result ≡ self.now }
+    {
+        Cells {
+            place: self.place,
+            token: self.token,
+            places: self.places,
+            tokens: self.tokens,
         }
     }
 
@@ -131,6 +151,17 @@ impl Candidates {
             } else {
                 0
             }),
+        }
+    }
+
+    pub fn copied(&self) -> Candidates
+        ensures { result ≡ self.now }
+    {
+        Candidates {
+            deletions: self.deletions.copied(),
+            insertions: self.insertions.copied(),
+            replacements: self.replacements.copied(),
+            swaps: self.swaps.copied(),
         }
     }
 

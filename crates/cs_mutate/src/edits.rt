@@ -43,6 +43,16 @@ impl<'b> Edits<'b> {
         }
     }
 
+    // The same edits, which may be taken away without taking these away.
+    pub(crate) fn copied(&self) -> Edits<'b>
+        ensures { result ≡ self.now }
+    {
+        Edits {
+            base: self.base,
+            candidates: self.candidates.copied(),
+        }
+    }
+
     /// Takes the first edit away. None where there is none, and then there is none from then on.
     pub fn next(&mut self) -> Option<Edit>
         ensures some { IfSome result (λ edit. self.old ≡ edit ∷ self.new) }

@@ -1,8 +1,13 @@
-// The law of the list of edits.
+// The laws of the lists of edits and negatives.
 
 ghost use Rattle.std.specs.Prelude.{ℕ, List};
+ghost use Rattle.cs_grammar.specs.Grammar.{PlainGrammar};
+ghost use Rattle.cs_grammar.specs.Laws.{AtMostOne};
+ghost use Rattle.cs_mutate.specs.declared.edit.Edit.{Edit};
 ghost use Rattle.cs_mutate.specs.declared.edit.Operators.{Operators};
+ghost use Rattle.cs_mutate.specs.declared.negative.Negative.{Negative};
 ghost use Rattle.cs_mutate.specs.Mutant.{HasDifferentResults, HasEachMutant, HasEachEdit};
+ghost use Rattle.cs_mutate.specs.Negatives.{AreNegatives, ComesFirst, HasNone, HasEachNegative, IsOutside};
 
 /// The results of a list's edits all differ, and they are the lists other than itself that come from
 /// it by a chosen operator: by the deletion of one token, the insertion of one, the replacement of
@@ -12,4 +17,16 @@ pub fn each_mutant_once()
     ensures once { (tokens : ℕ) (w : List ℕ) (c : Operators) → HasDifferentResults tokens w c }
     ensures all { (tokens : ℕ) (w : List ℕ) (c : Operators) → HasEachMutant tokens w c }
     ensures edits { (tokens : ℕ) (w : List ℕ) (c : Operators) → HasEachEdit tokens w c }
+{}
+
+/// What a search for negatives gives, one after another, is the one list of the negatives of its
+/// edits: the negative that it gives stands in front of those of the edits that are left, and where
+/// each edit that is left is harmless there is none. The list has the negative of each edit that has
+/// one, and nothing else. No negative's list is a sentence.
+pub fn one_list_of_negatives()
+    ensures next { (g : PlainGrammar) (w : List ℕ) → ComesFirst g w }
+    ensures none { (g : PlainGrammar) (w : List ℕ) (es : List Edit) → HasNone g w es }
+    ensures one { (g : PlainGrammar) (w : List ℕ) (es : List Edit) → AtMostOne (AreNegatives g w es) }
+    ensures all { (g : PlainGrammar) (w : List ℕ) (es : List Edit) → HasEachNegative g w es }
+    ensures outside { (g : PlainGrammar) (w : List ℕ) (n : Negative) → IsOutside g w n }
 {}

@@ -1,18 +1,27 @@
-//! Edits of lists of tokens: the token mutations of a sentence.
+//! Edits of lists of tokens: token mutations, and those of them that certainly lead out of a
+//! language.
 //!
 //! The layers above get the edits of a list one after another from [`Edits`], test one by
-//! [`edit_fits`] and make the edited list by [`apply`].
+//! [`edit_fits`], make the edited list by [`apply`], and ask [`poison`] for the first pair of a
+//! framed list that stands side by side in no sentence. [`Negatives`] gives the edits whose results
+//! have such a pair, one after another.
 //!
 //! Of the files of `specs/`, these say what is meant: `Edit` (what an edit makes of a list), `Edits`
-//! (the list of a list's edits), `Mutant` (which lists come from a list by a mutation). `Rest` has
-//! working words of proofs: what is left of the list. The law is a function that does nothing.
+//! (the list of a list's edits), `Mutant` (which lists come from a list by a mutation), `Poison`
+//! (poisoned pairs), `Negatives` (the edits that give one). `Rest` has working words of proofs: what
+//! is left of the list of edits. The laws are functions that do nothing.
 #![tactic(auto)]
 
 mod candidates;
 mod edit;
 mod edits;
 mod laws;
+mod negative;
+mod poisoning;
+mod touched;
 
 pub use edit::{Edit, Operators, apply, edit_fits};
 pub use edits::Edits;
-pub use laws::each_mutant_once;
+pub use laws::{each_mutant_once, one_list_of_negatives};
+pub use negative::{Negative, Negatives};
+pub use poisoning::poison;
