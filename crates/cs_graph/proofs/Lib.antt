@@ -2,6 +2,6 @@ pub mod Counting
 pub mod Reaching
 pub mod Searching
 pub mod Pushing
-pub mod Cycles
 pub mod Acyclic
 pub mod Weights
+pub mod Walking

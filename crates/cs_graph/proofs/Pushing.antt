@@ -1,17 +1,17 @@
 -- Nodes put behind an order.
-use Rattle.std.proofs.Common.{◌≡◌, ◌⊎◌, ℕ, ◌+◌, ◌<◌, ◌≤◌, Bool, true, false, List, [], ◌∷◌, ◌++◌, length, get_or, refl, sym, ap, ◌∙◌, subst, arith, inl, inr, length-append}
+use Rattle.std.proofs.Common.{◌≡◌, ◌⊎◌, ℕ, ◌+◌, ◌<◌, Bool, true, false, List, [], ◌∷◌, ◌++◌, length, get_or, refl, sym, ap, ◌∙◌, subst, arith, inl, inr, length-append}
 use Rattle.std.specs.Prelude.{Contains}
 use Rattle.std.specs.Global.{Vec}
 use Rattle.std.proofs.Math.ListN.{set, length-set}
 use Rattle.std.proofs.lemmas.Bool.{cases_eq}
 use Rattle.std.proofs.lemmas.List.Elements.{Contains-append_left, Contains-append_cases, Contains-push}
-use Rattle.cs_graph.specs.Graph.{Edge, IsOrdered, IsOrder}
+use Rattle.cs_graph.specs.Graph.{Edge, IsOrdered}
 use Rattle.cs_graph.specs.Marks.{IsMarked, unmarked}
-use Rattle.cs_graph.specs.Order.{IsPartial, IsSettled, IsTried}
-use Rattle.cs_graph.proofs.Counting.{unmarked-set, all_marked, marked_there, marked_still, marked_before, unmarked_not}
+use Rattle.cs_graph.specs.Order.{IsPartial}
+use Rattle.cs_graph.proofs.Counting.{unmarked-set, marked_there, marked_still, marked_before, unmarked_not}
 use Rattle.cs_graph.proofs.Reaching.{contained_alone, contains_none}
 
-not_nil : (xs ys : List ℕ) (y : ℕ) → [] ≡ xs ++ y ∷ ys → ⊥
+pub not_nil : (xs ys : List ℕ) (y : ℕ) → [] ≡ xs ++ y ∷ ys → ⊥
 not_nil xs ys y e = let f : 0 ≡ length (xs ++ y ∷ ys) = ap length e in absurd (omega (arith, length-append xs (y ∷ ys)))
 
 -- an element of a list with one more behind it: the last one, or one of the list
@@ -76,32 +76,3 @@ module _ (graph : List (Vec ℕ)) where
         ];
         count = omega (arith, p.count, unmarked-set ready node there e, length-append order (node ∷ []));
       }
-
-  -- nothing is pushed
-  pub tried_in_vain : (Tried : ℕ → Type 0) (ready : List Bool) (order : List ℕ) → IsPartial graph ready order → ((i : ℕ) → Tried i → IsSettled graph ready i) → IsTried graph Tried ready order ready order
-  tried_in_vain Tried ready order p settled = record { partial = p; grows = omega arith; same = λ e. refl; settled = λ e i t. settled i t }
-
-  pub tried_settled : (ready : List Bool) (order : List ℕ) (node : ℕ) → IsPartial graph ready order → IsSettled graph ready node → IsTried graph (λ i. i ≡ node) ready order ready order
-  tried_settled ready order node p s = tried_in_vain (λ i. i ≡ node) ready order p (λ i e. subst (IsSettled graph ready) (sym e) s)
-
-  pub tried_pushed : (ready : List Bool) (order : List ℕ) (node : ℕ) → IsPartial graph (set ready node true) (order ++ node ∷ []) → IsTried graph (λ i. i ≡ node) ready order (set ready node true) (order ++ node ∷ [])
-  tried_pushed ready order node p =
-      let longer = length-append order (node ∷ []) in
-      record { partial = p; grows = omega (arith, longer); same = λ e. absurd (omega (arith, longer, e)); settled = λ e i t. absurd (omega (arith, longer, e)) }
-
-  pub tried_both : (P Q R : ℕ → Type 0) (r : List Bool) (o : List ℕ) (r1 : List Bool) (o1 : List ℕ) (r2 : List Bool) (o2 : List ℕ) → ((i : ℕ) → R i → P i ⊎ Q i) → IsTried graph P r o r1 o1 → IsTried graph Q r1 o1 r2 o2 → IsTried graph R r o r2 o2
-  tried_both P Q R r o r1 o1 r2 o2 either a b =
-      let up = a.grows in
-      let up_more = b.grows in
-      record {
-        partial = b.partial;
-        grows = omega arith;
-        same = λ e. let f : length o2 ≡ length o1 = omega arith in let g : length o1 ≡ length o = omega arith in b.same f ∙ a.same g;
-        settled = λ e i t.
-            let f : length o2 ≡ length o1 = omega arith in
-            let g : length o1 ≡ length o = omega arith in
-            elim (either i t) [ inl p ↦ subst (λ (m : List Bool). IsSettled graph m i) (sym (b.same f)) (a.settled g i p) | inr q ↦ b.settled f i q ];
-      }
-
-  pub full_order : (ready : List Bool) (order : List ℕ) → IsPartial graph ready order → length graph ≤ length order → IsOrder graph order
-  full_order ready order p le = record { all = λ i lt. p.listed i (all_marked ready i (omega (arith, p.count)) (omega (arith, p.size))); ordered = p.ordered }

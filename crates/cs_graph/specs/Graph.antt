@@ -1,5 +1,5 @@
 -- Directed graphs: for each node, from 0, the nodes to which it has an edge.
-use Rattle.std.specs.Prelude.{◌≡◌, ◌⊎◌, ℕ, ◌<◌, List, ◌∷◌, ◌++◌, Some, Contains, length, slice_get}
+use Rattle.std.specs.Prelude.{◌≡◌, ◌⊎◌, ℕ, ◌<◌, List, ◌∷◌, ◌++◌, Option, Some, MatchOption, Contains, length, slice_get, slice_index, sum, sum_by, ◌≤◌}
 use Rattle.std.specs.Global.{Vec}
 
 pub record Edge (graph : List (Vec ℕ)) (from to : ℕ) : Type 0 where
@@ -34,3 +34,11 @@ pub record IsOrdered (graph : List (Vec ℕ)) (order : List ℕ) : Type 0 where
 pub record IsOrder (graph : List (Vec ℕ)) (order : List ℕ) : Type 0 where
   pub all : (node : ℕ) → node < length graph → Contains order node
   pub ordered : IsOrdered graph order
+
+-- an order, or none where a node reaches itself
+abbrev pub IsOrderOrCycle : List (Vec ℕ) → Option (Vec ℕ) → Type 0
+IsOrderOrCycle graph found = MatchOption found (HasCycle graph) (λ order. IsOrder graph order.items)
+
+-- the nodes of an order weigh together at most what all nodes weigh, whatever the weights: no node is counted twice
+abbrev pub IsWeighedOnce : List (Vec ℕ) → List ℕ → Type 0
+IsWeighedOnce graph order = (weights : List ℕ) → length weights ≡ length graph → sum_by (λ node. slice_index weights node) order ≤ sum weights

@@ -2,3 +2,4 @@ pub mod Graph
 pub mod Marks
 pub mod Search
 pub mod Order
+pub mod Walk

@@ -1,5 +1,5 @@
 -- The search for the nodes to which a node leads: marks of those that were seen, and those whose successors are pending.
-use Rattle.std.specs.Prelude.{◌≡◌, ◌⊎◌, ℕ, ◌+◌, ◌<◌, Bool, List, Contains, length}
+use Rattle.std.specs.Prelude.{◌≡◌, ◌⊎◌, ℕ, ◌+◌, ◌<◌, Bool, List, [], ◌∷◌, Contains, length}
 use Rattle.std.specs.Global.{Vec}
 use Rattle.cs_graph.specs.Graph.{Edge, Leads}
 use Rattle.cs_graph.specs.Marks.{IsMarked, unmarked}
@@ -21,3 +21,6 @@ pub record IsSearch (graph : List (Vec ℕ)) (from : ℕ) (seen : List Bool) (pe
   pub sound : (node : ℕ) → IsMarked seen node → Leads graph from node
   pub within : (node : ℕ) → Contains pending node → (node < length graph) × IsMarked seen node
   pub closed : (node to : ℕ) → IsMarked seen node → Edge graph node to → IsMarked seen to ⊎ Contains pending node
+
+abbrev pub IsReached : ℕ → List Bool → List ℕ → List Bool → List ℕ → Type 0
+IsReached node seen pending seen_then pending_then = AreReached (node ∷ []) seen pending seen_then pending_then

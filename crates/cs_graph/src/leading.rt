@@ -1,9 +1,9 @@
 // Which nodes a node leads to.
 
-ghost use Rattle.std.specs.Prelude.{◌≡◌, ◌<◌, ◌↔◌, ℕ, [], ◌∷◌, IsTrue, All, IfOk, OnOk, length};
+ghost use Rattle.std.specs.Prelude.{◌≡◌, ◌<◌, ◌↔◌, ℕ, IsTrue, All, IfOk, OnOk, length};
 ghost use Rattle.cs_graph.specs.Graph.{IsGraph, Leads};
 ghost use Rattle.cs_graph.specs.Marks.{IsMarked};
-ghost use Rattle.cs_graph.specs.Search.{AreReached};
+ghost use Rattle.cs_graph.specs.Search.{AreReached, IsReached};
 
 use crate::marks::no_marks;
 use std::alloc::{AllocError, Global};
@@ -11,7 +11,7 @@ use std::alloc::{AllocError, Global};
 /// Marks a node and puts it on the stack, if it isn't marked.
 fn reach(node: usize, seen: &mut [bool], pending: &mut Vec<usize>) -> Result<(), AllocError>
     requires { node < length seen.old }
-    ensures { OnOk result (AreReached (node ∷ []) seen.old pending.old.items seen.new pending.new.items) }
+    ensures { OnOk result (IsReached node seen.old pending.old.items seen.new pending.new.items) }
 {
     if !seen[node] {
         seen[node] = true;
@@ -51,7 +51,7 @@ fn search(
     Ok(())
 }
 
-/// Whether the one node is the other or reaches it.
+/// Whether the one node is the other or a path goes from it to the other. It takes time linear in the nodes and edges.
 pub fn leads(
     alloc: Global,
     graph: &[Vec<usize>],

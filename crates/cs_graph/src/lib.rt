@@ -1,8 +1,9 @@
 //! Directed graphs: an order of the nodes in which each stands behind its successors, and whether one node leads to another.
 //!
 //! The layer above hands a graph in as a list: for each node, from 0, the nodes to which it has an edge. By `order` it gets an
-//! order in which it can work over the nodes, or learns that some node reaches itself; by `leads` it finds such a node. What a
-//! path and an order are stands in `specs/`.
+//! order in which it can work over the nodes, or learns that some node reaches itself; by `leads` it finds such a node.
+//!
+//! Meaning, in `specs/`: `Graph` (edges, paths, orders). `Marks`, `Search`, `Order` and `Walk` are working words of proofs.
 #![tactic(auto)]
 
 mod fits;

@@ -1,7 +1,7 @@
 // Marks of nodes.
 
-ghost use Rattle.std.specs.Prelude.{◌≡◌, ◌<◌, ◌↔◌, ℕ, IsTrue, false, All, Contains, IfOk, length, replicate, slice_index_or};
-ghost use Rattle.cs_graph.specs.Marks.{IsMarked, unmarked};
+ghost use Rattle.std.specs.Prelude.{◌≡◌, ℕ, false, IfOk, length, slice_index_or};
+ghost use Rattle.cs_graph.specs.Marks.{unmarked};
 
 use std::alloc::{AllocError, Global};
 
@@ -12,18 +12,4 @@ pub fn no_marks(alloc: Global, count: usize) -> Result<Vec<bool>, AllocError>
     ensures unmarked { IfOk result (λ marks. unmarked marks.items ≡ count) }
 {
     vec![in alloc; false; count]
-}
-
-/// Whether all the nodes are marked.
-pub fn are_marked(nodes: &[usize], marks: &[bool]) -> bool
-    requires { All (λ node. node < length marks.now) nodes.now }
-    ensures all { IsTrue result → (node : ℕ) → Contains nodes.now node → IsMarked marks.now node }
-    ensures some { result ≡ false → (node : ℕ) × Contains nodes.now node × (slice_index_or marks.now node false ≡ false) }
-{
-    for node in nodes {
-        if !marks[*node] {
-            return false;
-        }
-    }
-    true
 }

@@ -1,82 +1,114 @@
-// An order of the nodes in which each stands behind its successors.
+// An order of the nodes in which each stands behind its successors, by a walk that goes on from each node to its successors
+// first.
 
-ghost use Rattle.std.specs.Prelude.{◌≡◌, ◌<◌, ℕ, [], IsTrue, false, IfOk, OnOk, MatchOption, length};
-ghost use Rattle.cs_graph.specs.Graph.{IsGraph, HasCycle, IsOrder};
-ghost use Rattle.cs_graph.specs.Order.{IsPartial, IsTried};
+ghost use Rattle.std.specs.Prelude.{◌≡◌, ◌<◌, ◌≤◌, ℕ, [], IsTrue, false, IfOk, OnOk, MatchOption, length};
+ghost use Rattle.cs_graph.specs.Graph.{IsGraph, HasCycle, IsOrder, IsOrderOrCycle};
+ghost use Rattle.cs_graph.specs.Marks.{IsMarked};
+ghost use Rattle.cs_graph.specs.Walk.{IsWalkOf, IsWalkWith, IsStep, IsEnd};
 
-use crate::marks::{are_marked, no_marks};
+use crate::marks::no_marks;
 use std::alloc::{AllocError, Global};
 
-/// Puts the node last, if it is not in the order and all its successors are.
-fn push_ready(
-    graph: &[Vec<usize>],
+/// A node on the path, of whose successors the first so many are left to be looked at.
+#[derive(Clone, Copy, Debug)]
+struct Open {
     node: usize,
-    ready: &mut [bool],
-    order: &mut Vec<usize>,
-) -> Result<(), AllocError>
-    requires graph { IsGraph graph.now }
-    requires node { node < length graph.now }
-    requires partial { IsPartial graph.now ready.old order.old.items }
-    ensures { OnOk result (IsTried graph.now (λ tried. tried ≡ node) ready.old order.old.items ready.new order.new.items) }
-{
-    if ready[node] {
-        return Ok(());
-    }
-    if are_marked(&graph[node], ready) {
-        ready[node] = true;
-        order.push(node)?;
-    }
-    Ok(())
+    left: usize,
 }
 
-/// Tries each node, forwards and backwards at once.
-fn push_round(
-    graph: &[Vec<usize>],
-    ready: &mut [bool],
-    order: &mut Vec<usize>,
-) -> Result<(), AllocError>
-    requires graph { IsGraph graph.now }
-    requires partial { IsPartial graph.now ready.old order.old.items }
-    ensures { OnOk result (IsTried graph.now (λ tried. tried < length graph.now) ready.old order.old.items ready.new order.new.items) }
-{
-    for node in 0..graph.len() {
-        push_ready(graph, node, ready, order)?;
-        push_ready(graph, graph.len() - 1 - node, ready, order)?;
-    }
-    Ok(())
+/// The nodes that are in the order and those that were seen, the path, each of whose nodes waits for the next one, and the order.
+#[derive(Drop)]
+struct Walk {
+    ready: Vec<bool>,
+    seen: Vec<bool>,
+    path: Vec<Open>,
+    order: Vec<usize>,
 }
 
-/// Puts nodes last as long as some are ready. Whether all are in the order then.
-fn push_all(
-    graph: &[Vec<usize>],
-    ready: &mut [bool],
-    order: &mut Vec<usize>,
-) -> Result<bool, AllocError>
+/// Goes on from the last node of the path, which was taken off it, to a successor, or puts it into the order. Whether it could:
+/// a successor on the path reaches itself.
+fn step(graph: &[Vec<usize>], walk: &mut Walk, last: Open) -> Result<bool, AllocError>
     requires graph { IsGraph graph.now }
-    requires partial { IsPartial graph.now ready.old order.old.items }
-    ensures all { IfOk result (λ all. IsTrue all → IsOrder graph.now order.new.items) }
-    ensures cycle { IfOk result (λ all. all ≡ false → HasCycle graph.now) }
+    requires walk { IsWalkWith graph.now walk.old last }
+    ensures step { IfOk result (λ on. IsTrue on → IsStep graph.now walk.old last walk.new) }
+    ensures cycle { IfOk result (λ on. on ≡ false → HasCycle graph.now) }
 {
-    while order.len() < graph.len() {
-        let before = order.len();
-        push_round(graph, ready, order)?;
-        if order.len() == before {
+    let Open { node, left } = last;
+    if left == 0 {
+        if !walk.ready[node] {
+            walk.ready[node] = true;
+            walk.order.push(node)?;
+        }
+        return Ok(true);
+    }
+    let to = graph[node][left - 1];
+    if walk.ready[to] {
+        let left = left - 1;
+        walk.path.push(Open { node, left })?;
+        return Ok(true);
+    }
+    if walk.seen[to] {
+        return Ok(false);
+    }
+    let left = graph[to].len();
+    walk.seen[to] = true;
+    walk.path.push(last)?;
+    walk.path.push(Open { node: to, left })?;
+    Ok(true)
+}
+
+/// Goes on until nothing is on the path. Whether it could.
+fn finish(graph: &[Vec<usize>], walk: &mut Walk) -> Result<bool, AllocError>
+    requires graph { IsGraph graph.now }
+    requires walk { IsWalkOf graph.now walk.old }
+    ensures end { IfOk result (λ on. IsTrue on → IsEnd graph.now walk.old walk.new) }
+    ensures cycle { IfOk result (λ on. on ≡ false → HasCycle graph.now) }
+{
+    while let Some(last) = walk.path.pop() {
+        if !step(graph, walk, last)? {
             return Ok(false);
         }
     }
     Ok(true)
 }
 
-/// The nodes in an order in which each stands behind its successors. There is none exactly where some node reaches itself.
+/// Walks on from the node, if it was not seen. Whether it could.
+fn visit(graph: &[Vec<usize>], walk: &mut Walk, node: usize) -> Result<bool, AllocError>
+    requires graph { IsGraph graph.now }
+    requires node { node < length graph.now }
+    requires walk { IsWalkOf graph.now walk.old }
+    requires none { walk.old.path.items ≡ [] }
+    ensures end { IfOk result (λ on. IsTrue on → IsEnd graph.now walk.old walk.new) }
+    ensures seen { IfOk result (λ on. IsTrue on → IsMarked walk.new.seen.items node) }
+    ensures cycle { IfOk result (λ on. on ≡ false → HasCycle graph.now) }
+{
+    if walk.seen[node] {
+        return Ok(true);
+    }
+    walk.seen[node] = true;
+    let left = graph[node].len();
+    walk.path.push(Open { node, left })?;
+    finish(graph, walk)
+}
+
+/// The nodes in an order in which each stands behind its successors. There is none exactly where some node reaches itself. It
+/// takes time linear in the nodes and edges.
 pub fn order(alloc: Global, graph: &[Vec<usize>]) -> Result<Option<Vec<usize>>, AllocError>
     requires { IsGraph graph.now }
-    ensures { IfOk result (λ found. MatchOption found (HasCycle graph.now) (λ order. IsOrder graph.now order.items)) }
+    ensures { IfOk result (IsOrderOrCycle graph.now) }
 {
-    let mut ready = no_marks(alloc, graph.len())?;
-    let mut order = Vec::new(alloc);
-    if push_all(graph, &mut ready, &mut order)? {
-        Ok(Some(order))
-    } else {
-        Ok(None)
+    let ready = no_marks(alloc, graph.len())?;
+    let seen = no_marks(alloc, graph.len())?;
+    let mut walk = Walk {
+        ready,
+        seen,
+        path: Vec::new(alloc),
+        order: Vec::new(alloc),
+    };
+    for node in 0..graph.len() {
+        if !visit(graph, &mut walk, node)? {
+            return Ok(None);
+        }
     }
+    Ok(Some(walk.order))
 }
