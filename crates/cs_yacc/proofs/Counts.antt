@@ -1,19 +1,19 @@
 -- How many tokens, nonterminals, rules and symbols the items can give.
 use Rattle.std.proofs.Common.{◌≡◌, ℕ, suc, ◌<◌, ◌≤◌, Bool, true, false, cond, List, [], ◌∷◌, ◌++◌, length, get_or, length-append, sym, ap, ◌∙◌, arith}
-use Rattle.std.specs.Prelude.{Option, Some, None, filter, not, ◌&&◌}
+use Rattle.std.specs.Prelude.{Option, Some, None, filter, not}
 use Rattle.std.specs.List.{All}
 use Rattle.std.proofs.lemmas.List.Elements.{All-nil, All-cons, All-append, All-map, All-filter}
 use Rattle.cs_yacc.specs.declared.name.TokenName.{TokenName}
 use Rattle.cs_yacc.specs.declared.name.TokenName.TheVariants.{Word}
 use Rattle.cs_yacc_items.specs.Items.{Item, name, literal, colon, bar, Placed, items_of}
-use Rattle.cs_yacc.specs.Meaning.{same_word, distinct, from_each, word_at, left_at, left_sides, nonterminals, spelled, is_in_use, tokens, body, bodies, SpelledRule, rules_of, rules_at, rules, is_kept, kept, is_idle, meant_one, opens_prec, meant_behind, meant, begins_with_colon}
+use Rattle.cs_yacc.specs.Meaning.{same_spelling, distinct, from_each, spelling_at, left_at, left_sides, nonterminals, spelled, is_in_use, tokens, body, bodies, SpelledRule, rules_of, rules_at, rules, is_kept, kept, only_if, has_meaning, with_meaning_behind, with_meaning, begins_with_colon}
 use Rattle.std.proofs.lemmas.List.{length-map, get_or-map}
 use Rattle.cs_yacc_items.specs.declared.item.Placed as held_item
 use Rattle.cs_yacc_items.specs.Views.{placed_of, placed_all}
-use Rattle.cs_yacc.specs.declared.word.Word as code
+use Rattle.cs_yacc.specs.declared.spelling.Spelling as code
 use Rattle.cs_yacc.specs.declared.spelled.SpelledRule as held
-use Rattle.cs_yacc.specs.WordView.{word_of, words_of}
-use Rattle.cs_yacc.specs.RuleView.{opened, next_left, rule_of, spelled_rules}
+use Rattle.cs_yacc.specs.SpellingView.{spelling_of, spellings_of}
+use Rattle.cs_yacc.specs.RuleView.{opened, next_left, rule_of, rules_in}
 use Rattle.cs_yacc.proofs.RuleLoop.{pending, rule_step}
 
 -- ---- words
@@ -28,7 +28,7 @@ filter_few p (x ∷ xs) = filter_few_step (p x) x (filter p xs) (length xs) (fil
 
 distinct_few : (ws : List TokenName) → length (distinct ws) ≤ length ws
 distinct_few [] = omega arith
-distinct_few (w ∷ ws) = omega (arith, distinct_few ws, filter_few (λ v. not (same_word w v)) (distinct ws))
+distinct_few (w ∷ ws) = omega (arith, distinct_few ws, filter_few (λ v. not (same_spelling w v)) (distinct ws))
 
 from_each_few : {A : Type 0} (f : Item → List Item → List A) → ((i : Item) (r : List Item) → length (f i r) ≤ 1) → (items : List Item) → length (from_each f items) ≤ length items
 from_each_few f one [] = omega arith
@@ -42,7 +42,7 @@ one_left (name n) r = by_colon (begins_with_colon r)
     by_colon false = omega arith
 one_left i r = omega arith
 
-one_word : (i : Item) (r : List Item) → length (word_at i) ≤ 1
+one_word : (i : Item) (r : List Item) → length (spelling_at i) ≤ 1
 one_word (name n) r = omega arith
 one_word i r = omega arith
 
@@ -51,7 +51,7 @@ few_nonterminals items = omega (arith, distinct_few (left_sides items), from_eac
 
 pub few_tokens : (used lefts : List TokenName) (items : List Item) → length (tokens used lefts items) ≤ length items
 few_tokens used lefts items =
-    omega (arith, distinct_few (filter (is_in_use used lefts) (spelled items)), filter_few (is_in_use used lefts) (spelled items), from_each_few (λ i _. word_at i) one_word items)
+    omega (arith, distinct_few (filter (is_in_use used lefts) (spelled items)), filter_few (is_in_use used lefts) (spelled items), from_each_few (λ i _. spelling_at i) one_word items)
 
 -- ---- rules
 
@@ -73,35 +73,33 @@ pub few_rules : (items : List Item) → length (kept items) ≤ length items
 few_rules items = omega (arith, few_pending None items, filter_few is_kept (rules items))
 
 -- the items with a meaning are no more than all
-one_meant : (b : Bool) (p : Placed) → length (meant_one b p) ≤ 1
-one_meant b p = by_test (not b && not (is_idle p.item))
-  where
-    by_test : (t : Bool) → length (cond t (p ∷ []) []) ≤ 1
-    by_test true = omega arith
-    by_test false = omega arith
+one_with_meaning : (b : Bool) (p : Placed) → length (only_if b p) ≤ 1
+one_with_meaning true p = omega arith
+one_with_meaning false p = omega arith
 
-few_behind : (b : Bool) (ps : List Placed) → length (meant_behind b ps) ≤ length ps
-few_behind b [] = omega arith
-few_behind b (p ∷ ps) = omega (arith, one_meant b p, few_behind (opens_prec b p.item) ps, length-append (meant_one b p) (meant_behind (opens_prec b p.item) ps))
+few_behind : (before : Option Item) (ps : List Placed) → length (with_meaning_behind before ps) ≤ length ps
+few_behind before [] = omega arith
+few_behind before (p ∷ ps) =
+    omega (arith, one_with_meaning (has_meaning before p.item) p, few_behind (Some p.item) ps, length-append (only_if (has_meaning before p.item) p) (with_meaning_behind (Some p.item) ps))
 
-pub few_meant : (ps : List Placed) → length (meant ps) ≤ length ps
-few_meant ps = few_behind false ps
+pub few_with_meaning_of : (ps : List Placed) → length (with_meaning ps) ≤ length ps
+few_with_meaning_of ps = few_behind None ps
 
 -- the code's words are as many as the words that they are
-pub few_keys : (keys : List code.Word) (ws : List TokenName) (n : ℕ) → words_of keys ≡ ws → length ws ≤ n → length keys ≤ n
-few_keys keys ws n e le = omega (arith, ap length e, length-map keys word_of)
+pub few_keys : (keys : List code.Spelling) (ws : List TokenName) (n : ℕ) → spellings_of keys ≡ ws → length ws ≤ n → length keys ≤ n
+few_keys keys ws n e le = omega (arith, ap length e, length-map keys spelling_of)
 
-pub few_spelled : (held_rules : List held.SpelledRule) (rs : List SpelledRule) (n : ℕ) → spelled_rules held_rules ≡ rs → length rs ≤ n → length held_rules ≤ n
+pub few_spelled : (held_rules : List held.SpelledRule) (rs : List SpelledRule) (n : ℕ) → rules_in held_rules ≡ rs → length rs ≤ n → length held_rules ≤ n
 few_spelled held_rules rs n e le = omega (arith, ap length e, length-map held_rules rule_of)
 
 -- a right side of a list of rules in which each is short
 pub right_within : (held_rules : List held.SpelledRule) (k : ℕ) (r : held.SpelledRule) (n : ℕ) → r ≡ get_or held_rules k r → k < length held_rules
-    → All (λ (s : SpelledRule). length s.right < n) (spelled_rules held_rules) → length r.right.items < n
+    → All (λ (s : SpelledRule). length s.right < n) (rules_in held_rules) → length r.right.items < n
 right_within held_rules k r n is lt all =
-    let at : get_or (spelled_rules held_rules) k (rule_of r) ≡ rule_of r = get_or-map rule_of held_rules k r (rule_of r) lt ∙ ap rule_of (sym is) in
-    let short : length (get_or (spelled_rules held_rules) k (rule_of r)).right < n = all k (rule_of r) (omega (arith, length-map held_rules rule_of)) in
-    let size : length (words_of r.right.items) < n = rw at at short in
-    omega (arith, size, length-map r.right.items word_of)
+    let at : get_or (rules_in held_rules) k (rule_of r) ≡ rule_of r = get_or-map rule_of held_rules k r (rule_of r) lt ∙ ap rule_of (sym is) in
+    let short : length (get_or (rules_in held_rules) k (rule_of r)).right < n = all k (rule_of r) (omega (arith, length-map held_rules rule_of)) in
+    let size : length (spellings_of r.right.items) < n = rw at at short in
+    omega (arith, size, length-map r.right.items spelling_of)
 
 -- ---- right sides
 

@@ -1,11 +1,10 @@
 -- What a file within the limits gives is well formed.
 use Rattle.std.proofs.Common.{◌≡◌, ◌≢◌, ℕ, ◌<◌, ◌≤◌, Bool, true, false, cond, List, [], ◌∷◌, ◌++◌, length, length-append, refl, sym, subst, ◌∙◌, arith, ◌⊎◌, inl, inr}
-use Rattle.std.specs.Prelude.{Option, Some, None, nat_lt, not, ◌&&◌}
+use Rattle.std.specs.Prelude.{Option, Some, None, nat_lt}
 use Rattle.std.specs.List.{All}
 use Rattle.std.proofs.lemmas.List.{length-map}
 use Rattle.std.proofs.lemmas.Bool.{false≢true, lt-ltb}
 use Rattle.std.proofs.lemmas.List.Elements.{All-nil, All-cons, All-map, All-weaker}
-use Rattle.cs_grammar.specs.declared.TheConstants.{MOST_TOKENS, MOST_NONTERMINALS, MOST_RULES, MOST_SYMBOLS}
 use Rattle.cs_grammar.specs.declared.symbol.Symbol.TheVariants.{Token, Nonterminal}
 use Rattle.cs_grammar.specs.Grammar.{IsSymbol, IsRuleOf}
 use Rattle.cs_yacc.specs.declared.name.TokenName.{TokenName}
@@ -17,7 +16,7 @@ use Rattle.cs_yacc_items.specs.declared.directive.Directive.{Directive}
 use Rattle.cs_yacc_items.specs.declared.directive.Directive.TheVariants as directives
 use Rattle.cs_yacc_items.specs.Items.{Item, mark, prologue, directive, name, literal, number, tag, block, colon, semicolon, comma, Placed, items_of}
 use Rattle.cs_yacc_items.specs.Table.{Place, declarations, start, union, expect, list, tagged, entry, counted, behind_comma, rules, left, body, named, prec, closed, done, behind_directive, in_declarations, in_entry, Row, may_end, MayEnd, TakesTo, IsTaken}
-use Rattle.cs_yacc.specs.Meaning.{has_word, distinct, number_of, symbol_of, numbered, left_at, left_sides, nonterminals, tokens_of, SpelledRule, kept, above, or_else, long_right, limit_passed, bytes_of, number_or_first, start_of, start_item, is_no_left, wrong_start, file_of, is_prec, is_idle, opens_prec, meant_behind, meant, word_at, used}
+use Rattle.cs_yacc.specs.Meaning.{has_spelling, distinct, number_in, symbol_of, production_of, left_at, left_sides, nonterminals, tokens_of, SpelledRule, kept, above, or_else, long_right, limit_passed, bytes_of, number_or_first, start_of, start_item, is_no_left, wrong_start, is_prec, is_prec_before, has_meaning, with_meaning_behind, with_meaning, spelling_at, used, Parts, parts_of, file_with}
 use Rattle.cs_yacc.specs.File.{IsFile}
 use Rattle.cs_yacc.proofs.Names.{IsIn, number_within, names_differ, lefts_known, rights_known}
 
@@ -38,11 +37,11 @@ second_none : {A : Type 0} (o p : Option A) → or_else o p ≡ None → p ≡ N
 second_none None p e = e
 second_none (Some x) p e = absurd cc
 
-short : (rs : List SpelledRule) → long_right rs ≡ None → All (λ (r : SpelledRule). length r.right ≤ MOST_SYMBOLS) rs
-short [] e = All-nil (λ (r : SpelledRule). length r.right ≤ MOST_SYMBOLS)
+short : (rs : List SpelledRule) → long_right rs ≡ None → All (λ (r : SpelledRule). length r.right ≤ 128) rs
+short [] e = All-nil (λ (r : SpelledRule). length r.right ≤ 128)
 short (r ∷ rs) e =
-    let here = above RightSide (length r.right) MOST_SYMBOLS in
-    All-cons (λ (r : SpelledRule). length r.right ≤ MOST_SYMBOLS) r rs (not_above RightSide (length r.right) MOST_SYMBOLS (first_none here (long_right rs) e)) (short rs (second_none here (long_right rs) e))
+    let here = above RightSide (length r.right) 128 in
+    All-cons (λ (r : SpelledRule). length r.right ≤ 128) r rs (not_above RightSide (length r.right) 128 (first_none here (long_right rs) e)) (short rs (second_none here (long_right rs) e))
 
 -- ---- a left side
 
@@ -113,51 +112,51 @@ lefts_more : (i : Item) (items : List Item) → 0 < length (left_sides items) �
 lefts_more i items h = omega (arith, h, length-append (left_at i items) (left_sides items))
 
 -- an item that stands before, with or without a meaning
-meant_left : (b : Bool) (p : Placed) (rest : List Placed) → 0 < length (left_sides (items_of rest)) → 0 < length (left_sides (items_of (cond b (p ∷ []) [] ++ rest)))
-meant_left true p rest h = lefts_more p.item (items_of rest) h
-meant_left false p rest h = h
+left_kept : (b : Bool) (p : Placed) (rest : List Placed) → 0 < length (left_sides (items_of rest)) → 0 < length (left_sides (items_of (cond b (p ∷ []) [] ++ rest)))
+left_kept true p rest h = lefts_more p.item (items_of rest) h
+left_kept false p rest h = h
 
 -- a name and a colon are a left side
-name_colon : (p q : Placed) (ps : List Placed) (i j : Item) (next after : Place) → p.item ≡ i → q.item ≡ j → Row rules i next → Row left j after → 0 < length (left_sides (items_of (meant_behind false (p ∷ q ∷ ps))))
-name_colon p q ps (name n) colon next after e f r s = rw (e, f) (omega arith)
-name_colon p q ps (name n) j next after e f r s = absurd cc
-name_colon p q ps i j next after e f r s = absurd cc
+name_colon : (before : Option Item) (p q : Placed) (ps : List Placed) (i j : Item) (next after : Place) → is_prec_before before ≡ false → p.item ≡ i → q.item ≡ j → Row rules i next → Row left j after → 0 < length (left_sides (items_of (with_meaning_behind before (p ∷ q ∷ ps))))
+name_colon before p q ps (name n) colon next after b e f r s = rw (e, f, b) (omega arith)
+name_colon before p q ps (name n) j next after b e f r s = absurd cc
+name_colon before p q ps i j next after b e f r s = absurd cc
 
 row_rules : (i : Item) (next : Place) → Row rules i next → next ≡ left
 row_rules (name n) next row = cc
 row_rules i next row = absurd cc
 
-has_left : (p : Place) (ps : List Placed) (ending : Place) → IsEarly p → TakesTo p (items_of ps) ending → MayEnd ending → 0 < length (left_sides (items_of (meant_behind false ps)))
-has_left p [] ending h l m = absurd (early_ends p h (subst MayEnd (sym l) m))
-has_left p (q ∷ ps) ending h l m =
+has_left : (before : Option Item) → is_prec_before before ≡ false → (p : Place) (ps : List Placed) (ending : Place) → IsEarly p → TakesTo p (items_of ps) ending → MayEnd ending → 0 < length (left_sides (items_of (with_meaning_behind before ps)))
+has_left before b p [] ending h l m = absurd (early_ends p h (subst MayEnd (sym l) m))
+has_left before b p (q ∷ ps) ending h l m =
     elim (early_next p q.item l.0 h l.1) [
       | inl e ↦ at_rules q ps (l.0) (subst (λ (x : Place). Row x q.item l.0) e l.1) l.2
-      | inr f ↦ meant_left (not false && not (is_idle q.item)) q (meant_behind (opens_prec false q.item) ps) (subst (λ (b : Bool). 0 < length (left_sides (items_of (meant_behind b ps)))) (sym f.1) (has_left l.0 ps ending f.0 l.2 m))
+      | inr f ↦ left_kept (has_meaning before q.item) q (with_meaning_behind (Some q.item) ps) (has_left (Some q.item) f.1 l.0 ps ending f.0 l.2 m)
     ]
   where
-    at_rules : (q : Placed) (ps : List Placed) (next : Place) → Row rules q.item next → TakesTo next (items_of ps) ending → 0 < length (left_sides (items_of (meant_behind false (q ∷ ps))))
+    at_rules : (q : Placed) (ps : List Placed) (next : Place) → Row rules q.item next → TakesTo next (items_of ps) ending → 0 < length (left_sides (items_of (with_meaning_behind before (q ∷ ps))))
     at_rules q [] next row k = let e : next ≡ left = row_rules q.item next row in let f : may_end left ≡ true = subst MayEnd (sym k ∙ e) m in absurd (false≢true f)
-    at_rules q (r ∷ ps) next row k = let e : next ≡ left = row_rules q.item next row in name_colon q r ps q.item r.item next k.0 refl refl row (subst (λ (x : Place). Row x r.item k.0) e k.1)
+    at_rules q (r ∷ ps) next row k = let e : next ≡ left = row_rules q.item next row in name_colon before q r ps q.item r.item next k.0 b refl refl row (subst (λ (x : Place). Row x r.item k.0) e k.1)
 
 distinct_some : (ws : List TokenName) → 0 < length ws → 0 < length (distinct ws)
 distinct_some [] h = h
 distinct_some (w ∷ ws) h = omega arith
 
 -- a file that is taken has a nonterminal
-some_nonterminal : (all : List Placed) → IsTaken (items_of all) → 1 ≤ length (nonterminals (items_of (meant all)))
-some_nonterminal all t = omega (arith, distinct_some (left_sides (items_of (meant all))) (has_left declarations all t.0 tt t.1 t.2))
+some_nonterminal : (all : List Placed) → IsTaken (items_of all) → 1 ≤ length (nonterminals (items_of (with_meaning all)))
+some_nonterminal all t = omega (arith, distinct_some (left_sides (items_of (with_meaning all))) (has_left None refl declarations all t.0 tt t.1 t.2))
 
 -- ---- the start symbol
 
-start_one : (lefts : List TokenName) (at : ℕ) (i : Item) → cond (is_no_left lefts i) (Some at) None ≡ None → 1 ≤ length lefts → (1 ≤ number_or_first lefts (word_at i)) × (number_or_first lefts (word_at i) ≤ length lefts)
-start_one lefts at (name n) h le = by_test (has_word lefts (Word n)) refl
+start_one : (lefts : List TokenName) (at : ℕ) (i : Item) → cond (is_no_left lefts i) (Some at) None ≡ None → 1 ≤ length lefts → (1 ≤ number_or_first lefts (spelling_at i)) × (number_or_first lefts (spelling_at i) ≤ length lefts)
+start_one lefts at (name n) h le = by_test (has_spelling lefts (Word n)) refl
   where
-    by_test : (b : Bool) → has_word lefts (Word n) ≡ b → (1 ≤ number_of lefts (Word n)) × (number_of lefts (Word n) ≤ length lefts)
+    by_test : (b : Bool) → has_spelling lefts (Word n) ≡ b → (1 ≤ number_in lefts (Word n)) × (number_in lefts (Word n) ≤ length lefts)
     by_test true e = (omega arith, number_within lefts (Word n) e)
     by_test false e = let g : cond (is_no_left lefts (name n)) (Some at) None ≡ Some at = rw e refl in let k : None ≡ Some at = sym h ∙ g in absurd cc
-start_one lefts at (literal c) h le = by_test (has_word lefts (Byte c)) refl
+start_one lefts at (literal c) h le = by_test (has_spelling lefts (Byte c)) refl
   where
-    by_test : (b : Bool) → has_word lefts (Byte c) ≡ b → (1 ≤ number_of lefts (Byte c)) × (number_of lefts (Byte c) ≤ length lefts)
+    by_test : (b : Bool) → has_spelling lefts (Byte c) ≡ b → (1 ≤ number_in lefts (Byte c)) × (number_in lefts (Byte c) ≤ length lefts)
     by_test true e = (omega arith, number_within lefts (Byte c) e)
     by_test false e = let g : cond (is_no_left lefts (literal c)) (Some at) None ≡ Some at = rw e refl in let k : None ≡ Some at = sym h ∙ g in absurd cc
 start_one lefts at i h le = (omega arith, le)
@@ -170,57 +169,66 @@ start_fits lefts (p ∷ ps) h le = start_one lefts p.at p.item h le
 
 module _ (all : List Placed) where
   abbrev items : List Item
-  items = items_of (meant all)
+  items = items_of (with_meaning all)
 
   abbrev tokens : List TokenName
-  tokens = tokens_of all (meant all)
+  tokens = tokens_of all (with_meaning all)
 
-  symbol_fits : (w : TokenName) → (has_word (nonterminals items) w ≡ false → IsIn tokens w)
+  symbol_fits : (w : TokenName) → (has_spelling (nonterminals items) w ≡ false → IsIn tokens w)
       → IsSymbol (length tokens) (length (nonterminals items)) (symbol_of tokens (nonterminals items) w)
-  symbol_fits w known = by_test (has_word (nonterminals items) w) refl
+  symbol_fits w known = by_test (has_spelling (nonterminals items) w) refl
     where
-      by_test : (b : Bool) → has_word (nonterminals items) w ≡ b
-          → IsSymbol (length tokens) (length (nonterminals items)) (cond b (Nonterminal (number_of (nonterminals items) w)) (Token (number_of tokens w)))
+      by_test : (b : Bool) → has_spelling (nonterminals items) w ≡ b
+          → IsSymbol (length tokens) (length (nonterminals items)) (cond b (Nonterminal (number_in (nonterminals items) w)) (Token (number_in tokens w)))
       by_test true e = (omega arith, number_within (nonterminals items) w e)
       by_test false e = (omega arith, number_within tokens w (known e))
 
-  rule_fits : (r : SpelledRule) → IsIn (nonterminals items) r.left → All (λ w. has_word (nonterminals items) w ≡ false → IsIn tokens w) r.right → length r.right ≤ MOST_SYMBOLS
-      → IsRuleOf (length tokens) (length (nonterminals items)) (numbered tokens (nonterminals items) r)
+  rule_fits : (r : SpelledRule) → IsIn (nonterminals items) r.left → All (λ w. has_spelling (nonterminals items) w ≡ false → IsIn tokens w) r.right → length r.right ≤ 128
+      → IsRuleOf (length tokens) (length (nonterminals items)) (production_of tokens (nonterminals items) r)
   rule_fits r is_left known few = record {
     left = (omega arith, number_within (nonterminals items) r.left is_left);
     short = omega (arith, length-map r.right (symbol_of tokens (nonterminals items)));
     right =
         All-map (IsSymbol (length tokens) (length (nonterminals items))) (symbol_of tokens (nonterminals items)) r.right
-        (All-weaker (λ w. has_word (nonterminals items) w ≡ false → IsIn tokens w) (λ w. IsSymbol (length tokens) (length (nonterminals items)) (symbol_of tokens (nonterminals items) w)) symbol_fits r.right known);
+        (All-weaker (λ w. has_spelling (nonterminals items) w ≡ false → IsIn tokens w) (λ w. IsSymbol (length tokens) (length (nonterminals items)) (symbol_of tokens (nonterminals items) w)) symbol_fits r.right known);
   }
 
   abbrev behind_nonterminals : Option YaccError
-  behind_nonterminals = or_else (above Rules (length (kept items)) MOST_RULES) (long_right (kept items))
+  behind_nonterminals = or_else (above Rules (length (kept items)) 8192) (long_right (kept items))
 
   abbrev behind_tokens : Option YaccError
-  behind_tokens = or_else (above Nonterminals (length (nonterminals items)) MOST_NONTERMINALS) behind_nonterminals
+  behind_tokens = or_else (above Nonterminals (length (nonterminals items)) 1024) behind_nonterminals
 
   -- what a file means that is taken and within the limits is well formed
-  pub file_fits : IsTaken (items_of all) → wrong_start (nonterminals items) (start_item all) ≡ None → limit_passed tokens (nonterminals items) (kept items) ≡ None → IsFile (file_of all (meant all))
+  pub file_fits : IsTaken (items_of all) → wrong_start (nonterminals items) (start_item all) ≡ None → limit_passed (parts_of all (with_meaning all)) ≡ None → IsFile (file_with (parts_of all (with_meaning all)))
   file_fits taken started none =
-      let tokens_fit = not_above Tokens (length tokens) MOST_TOKENS (first_none (above Tokens (length tokens) MOST_TOKENS) behind_tokens none) in
-      let none_2 : behind_tokens ≡ None = second_none (above Tokens (length tokens) MOST_TOKENS) behind_tokens none in
-      let nonterminals_fit = not_above Nonterminals (length (nonterminals items)) MOST_NONTERMINALS (first_none (above Nonterminals (length (nonterminals items)) MOST_NONTERMINALS) behind_nonterminals none_2) in
-      let none_3 : behind_nonterminals ≡ None = second_none (above Nonterminals (length (nonterminals items)) MOST_NONTERMINALS) behind_nonterminals none_2 in
-      let rules_fit = not_above Rules (length (kept items)) MOST_RULES (first_none (above Rules (length (kept items)) MOST_RULES) (long_right (kept items)) none_3) in
-      let none_4 : long_right (kept items) ≡ None = second_none (above Rules (length (kept items)) MOST_RULES) (long_right (kept items)) none_3 in
+      let tokens_fit = not_above Tokens (length tokens) 512 (first_none (above Tokens (length tokens) 512) behind_tokens none) in
+      let none_2 : behind_tokens ≡ None = second_none (above Tokens (length tokens) 512) behind_tokens none in
+      let nonterminals_fit = not_above Nonterminals (length (nonterminals items)) 1024 (first_none (above Nonterminals (length (nonterminals items)) 1024) behind_nonterminals none_2) in
+      let none_3 : behind_nonterminals ≡ None = second_none (above Nonterminals (length (nonterminals items)) 1024) behind_nonterminals none_2 in
+      let rules_fit = not_above Rules (length (kept items)) 8192 (first_none (above Rules (length (kept items)) 8192) (long_right (kept items)) none_3) in
+      let none_4 : long_right (kept items) ≡ None = second_none (above Rules (length (kept items)) 8192) (long_right (kept items)) none_3 in
       let shorts = short (kept items) none_4 in
-      let fit : All (λ (r : SpelledRule). IsRuleOf (length tokens) (length (nonterminals items)) (numbered tokens (nonterminals items) r)) (kept items) =
+      let fit : All (λ (r : SpelledRule). IsRuleOf (length tokens) (length (nonterminals items)) (production_of tokens (nonterminals items) r)) (kept items) =
       λ k d lt. rule_fits _ (lefts_known items k d lt) (rights_known all k d lt) (shorts k d lt) in
       record {
         grammar = record {
           tokens = tokens_fit;
           nonterminals = nonterminals_fit;
-          few = omega (arith, rules_fit, length-map (kept items) (numbered tokens (nonterminals items)));
+          few = omega (arith, rules_fit, length-map (kept items) (production_of tokens (nonterminals items)));
           start = start_fits (nonterminals items) (start_item all) started (some_nonterminal all taken);
-          rules = All-map (IsRuleOf (length tokens) (length (nonterminals items))) (numbered tokens (nonterminals items)) (kept items) fit;
+          rules = All-map (IsRuleOf (length tokens) (length (nonterminals items))) (production_of tokens (nonterminals items)) (kept items) fit;
         };
         tokens = refl;
         nonterminals = length-map (nonterminals items) bytes_of;
         differ = names_differ (used (kept items)) (items_of all) items;
       }
+
+-- parts within the limits have few tokens and nonterminals
+pub few_symbols : (p : Parts) → limit_passed p ≡ None → (length p.tokens ≤ 512) × (length p.nonterminals ≤ 1024)
+few_symbols p none =
+    let rules_or_right = or_else (above Rules (length p.rules) 8192) (long_right p.rules) in
+    let rest = or_else (above Nonterminals (length p.nonterminals) 1024) rules_or_right in (
+      not_above Tokens (length p.tokens) 512 (first_none (above Tokens (length p.tokens) 512) rest none),
+      not_above Nonterminals (length p.nonterminals) 1024 (first_none (above Nonterminals (length p.nonterminals) 1024) rules_or_right (second_none (above Tokens (length p.tokens) 512) rest none)),
+    )

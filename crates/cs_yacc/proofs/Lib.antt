@@ -1,4 +1,4 @@
-pub mod Words
+pub mod Gathering
 pub mod TokenTables
 pub mod Loops
 pub mod RuleLoop

@@ -1,20 +1,20 @@
 -- Loops over the items, from the front.
 use Rattle.std.proofs.Common.{append_assoc, true, false, ◌≡◌, ℕ, ◌+◌, ◌<◌, ◌≤◌, Bool, List, [], ◌∷◌, ◌++◌, length, drop, get_or, refl, sym, ap, subst, ◌∙◌}
 use Rattle.std.specs.Prelude.{Option, Some, None, filter}
-use Rattle.std.proofs.lemmas.List.{at_drop_more, at_drop_all, append-nil}
+use Rattle.std.proofs.lemmas.List.{at_drop_more, at_drop_all, append-nil, map-append}
 use Rattle.indexmap.specs.IndexSet.{insert_all}
 use Rattle.cs_yacc_items.specs.declared.item.Placed as held
 use Rattle.cs_yacc_items.specs.declared.item.Item.TheVariants as variants
 use Rattle.cs_yacc.specs.declared.spelled.SpelledRule as prods
-use Rattle.cs_yacc.specs.RuleView.{spelled_rules}
-use Rattle.cs_yacc.specs.WordView.{words_of}
+use Rattle.cs_yacc.specs.RuleView.{rules_in}
+use Rattle.cs_yacc.specs.SpellingView.{spellings_of}
 use Rattle.std.specs.List.{flat_map}
 use Rattle.std.proofs.lemmas.List.Elements.{filter-append}
 use Rattle.cs_yacc_items.specs.Items.{Item, Placed, items_of}
 use Rattle.cs_yacc_items.specs.Views.{item_of, placed_of, placed_all}
 use Rattle.cs_yacc.specs.declared.name.TokenName.{TokenName}
-use Rattle.cs_yacc.specs.Meaning.{same_word, distinct, from_each, body, first_at, word_at, spelled, meant_one, meant_behind, opens_prec}
-use Rattle.cs_yacc.proofs.Words.{Gathers, Gathers-more, Gathers-ends}
+use Rattle.cs_yacc.specs.Meaning.{same_spelling, distinct, from_each, body, first_at, spelling_at, spelled, only_if, has_meaning, with_meaning_behind}
+use Rattle.cs_yacc.proofs.Gathering.{Gathers, Gathers-more, Gathers-ends}
 
 -- what is left from an index on
 abbrev pub rest_at : List held.Placed → ℕ → List Item
@@ -28,7 +28,7 @@ rest_all items k le = at_drop_all (λ xs. items_of (placed_all xs)) items k le
 
 module _ (f : Item → List Item → List TokenName) (items : List held.Placed) where
   pub gather_step : (k : ℕ) (p : held.Placed) (old new ws all : List TokenName) (after : List held.Placed) → Gathers old (from_each f (rest_at items k)) all → k < length items
-      → after ≡ drop (k + 1) items → ws ≡ f (item_of (get_or items k p).item) (items_of (placed_all after)) → new ≡ insert_all same_word old ws → Gathers new (from_each f (rest_at items (k + 1))) all
+      → after ≡ drop (k + 1) items → ws ≡ f (item_of (get_or items k p).item) (items_of (placed_all after)) → new ≡ insert_all same_spelling old ws → Gathers new (from_each f (rest_at items (k + 1))) all
   gather_step k p old new ws all after g lt e is made =
       let step : from_each f (rest_at items k) ≡ f (item_of (get_or items k p).item) (rest_at items (k + 1)) ++ from_each f (rest_at items (k + 1)) = ap (from_each f) (rest_more items k p lt) in
       let given : ws ≡ f (item_of (get_or items k p).item) (rest_at items (k + 1)) = is ∙ ap (λ (x : List held.Placed). f (item_of (get_or items k p).item) (items_of (placed_all x))) e in
@@ -92,30 +92,39 @@ module _ (t : Item → List Item → Bool) (items : List held.Placed) (total : O
 
 -- ---- tokens
 
-filter-from_each : (p : TokenName → Bool) (items : List Item) → from_each (λ i _. filter p (word_at i)) items ≡ filter p (spelled items)
+filter-from_each : (p : TokenName → Bool) (items : List Item) → from_each (λ i _. filter p (spelling_at i)) items ≡ filter p (spelled items)
 filter-from_each p [] = refl
-filter-from_each p (i ∷ items) = rw (filter-from_each p items) (sym (filter-append p (word_at i) (spelled items)))
+filter-from_each p (i ∷ items) = rw (filter-from_each p items) (sym (filter-append p (spelling_at i) (spelled items)))
 
-pub tokens_end : (p : TokenName → Bool) (all : List Item) (items : List held.Placed) (k : ℕ) (table : List TokenName) → Gathers table (from_each (λ i _. filter p (word_at i)) (rest_at items k)) (from_each (λ i _. filter p (word_at i)) all)
+pub tokens_end : (p : TokenName → Bool) (all : List Item) (items : List held.Placed) (k : ℕ) (table : List TokenName) → Gathers table (from_each (λ i _. filter p (spelling_at i)) (rest_at items k)) (from_each (λ i _. filter p (spelling_at i)) all)
     → length items ≤ k → table ≡ distinct (filter p (spelled all))
-tokens_end p all items k table g le = gather_ends (λ i _. filter p (word_at i)) items k table _ g le ∙ ap distinct (filter-from_each p all)
+tokens_end p all items k table g le = gather_ends (λ i _. filter p (spelling_at i)) items k table _ g le ∙ ap distinct (filter-from_each p all)
 
 -- ---- words of the rules
 
-pub used_more : (rules : List prods.SpelledRule) (k : ℕ) (p : prods.SpelledRule) (old new right : List TokenName) (all : List TokenName) → Gathers old (flat_map (λ r. r.right) (spelled_rules (drop k rules))) all → k < length rules
-    → right ≡ words_of (get_or rules k p).right.items → new ≡ insert_all same_word old right → Gathers new (flat_map (λ r. r.right) (spelled_rules (drop (k + 1) rules))) all
+pub used_more : (rules : List prods.SpelledRule) (k : ℕ) (p : prods.SpelledRule) (old new right : List TokenName) (all : List TokenName) → Gathers old (flat_map (λ r. r.right) (rules_in (drop k rules))) all → k < length rules
+    → right ≡ spellings_of (get_or rules k p).right.items → new ≡ insert_all same_spelling old right → Gathers new (flat_map (λ r. r.right) (rules_in (drop (k + 1) rules))) all
 used_more rules k p old new right all g lt is made =
-    let step = at_drop_more (λ xs. flat_map (λ r. r.right) (spelled_rules xs)) rules k p lt in
-    rw made (Gathers-more old _ (flat_map (λ r. r.right) (spelled_rules (drop (k + 1) rules))) all right g (rw is step))
+    let step = at_drop_more (λ xs. flat_map (λ r. r.right) (rules_in xs)) rules k p lt in
+    rw made (Gathers-more old _ (flat_map (λ r. r.right) (rules_in (drop (k + 1) rules))) all right g (rw is step))
 
 -- ---- items with a meaning
 
-pub meant_more : (items : List held.Placed) (total : List Placed) (k : ℕ) (old new : List Placed) (b next : Bool) → old ++ meant_behind b (placed_all (drop k items)) ≡ total → k < length items
-    → new ≡ old ++ meant_one b (placed_of (get_or items k no_item)) → next ≡ opens_prec b (item_of (get_or items k no_item).item) → new ++ meant_behind next (placed_all (drop (k + 1) items)) ≡ total
-meant_more items total k old new b next so_far lt made is =
-    let step = at_drop_more (λ xs. meant_behind b (placed_all xs)) items k no_item lt in
-    rw (made, is) (append_assoc old (meant_one b (placed_of (get_or items k no_item))) (meant_behind (opens_prec b (item_of (get_or items k no_item).item)) (placed_all (drop (k + 1) items)))
-    ∙ ap (λ (x : List Placed). old ++ x) (sym step) ∙ so_far)
+placed_only_if : (b : Bool) (p : held.Placed) → placed_all (only_if b p) ≡ only_if b (placed_of p)
+placed_only_if true p = refl
+placed_only_if false p = refl
 
-pub meant_ends : (items : List held.Placed) (total : List Placed) (k : ℕ) (old : List Placed) (b : Bool) → old ++ meant_behind b (placed_all (drop k items)) ≡ total → length items ≤ k → old ≡ total
-meant_ends items total k old b so_far le = sym (append-nil old) ∙ ap (λ (x : List Placed). old ++ x) (sym (at_drop_all (λ xs. meant_behind b (placed_all xs)) items k le)) ∙ so_far
+pub with_meaning_more : (items : List held.Placed) (total : List Placed) (k : ℕ) (old new : List held.Placed) (before : Option Item) (b : Bool) → placed_all old ++ with_meaning_behind before (placed_all (drop k items)) ≡ total → k < length items
+    → b ≡ has_meaning before (item_of (get_or items k no_item).item) → new ≡ old ++ only_if b (get_or items k no_item)
+    → placed_all new ++ with_meaning_behind (Some (item_of (get_or items k no_item).item)) (placed_all (drop (k + 1) items)) ≡ total
+with_meaning_more items total k old new before b so_far lt is made =
+    let step = at_drop_more (λ xs. with_meaning_behind before (placed_all xs)) items k no_item lt in
+    let rest : List Placed = with_meaning_behind (Some (item_of (get_or items k no_item).item)) (placed_all (drop (k + 1) items)) in
+    let here : placed_all new ≡ placed_all old ++ only_if (has_meaning before (item_of (get_or items k no_item).item)) (placed_of (get_or items k no_item)) = ap placed_all made ∙ (map-append placed_of old (only_if b (get_or items k no_item)) ∙ ap (λ (x : List Placed). placed_all old ++ x) (placed_only_if b (get_or items k no_item) ∙ ap (λ t. only_if t (placed_of (get_or items k no_item))) is)) in
+    ap (λ (x : List Placed). x ++ rest) here
+    ∙ (append_assoc (placed_all old) (only_if (has_meaning before (item_of (get_or items k no_item).item)) (placed_of (get_or items k no_item))) rest
+    ∙ (ap (λ (x : List Placed). placed_all old ++ x) (sym step) ∙ so_far))
+
+pub with_meaning_ends : (items : List held.Placed) (total : List Placed) (k : ℕ) (old : List Placed) (before : Option Item) → old ++ with_meaning_behind before (placed_all (drop k items)) ≡ total → length items ≤ k → old ≡ total
+with_meaning_ends items total k old before so_far le =
+    sym (append-nil old) ∙ ap (λ (x : List Placed). old ++ x) (sym (at_drop_all (λ xs. with_meaning_behind before (placed_all xs)) items k le)) ∙ so_far

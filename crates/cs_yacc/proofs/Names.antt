@@ -1,5 +1,5 @@
 -- The names of a file: each word of a rule has a number, and all names differ.
-use Rattle.std.proofs.Common.{◌≡◌, ◌≢◌, suc, ◌≤◌, Bool, true, false, cond, List, [], ◌∷◌, ◌++◌, map, length, refl, sym, ap, ◌∙◌, arith, one-add}
+use Rattle.std.proofs.Common.{◌≡◌, ◌≢◌, suc, ◌≤◌, Bool, true, false, cond, List, [], ◌∷◌, ◌++◌, map, length, refl, sym, ap, ◌∙◌, arith, one-add, Option, Some, None}
 use Rattle.std.specs.Prelude.{filter, not, ◌&&◌}
 use Rattle.std.specs.List.{All, AllPairs, flat_map}
 use Rattle.std.proofs.lemmas.Bool.{false≢true}
@@ -8,40 +8,40 @@ use Rattle.std.proofs.lemmas.List.Kept.{AllPairs-cons, AllPairs-filter}
 use Rattle.cs_yacc.specs.declared.name.TokenName.{TokenName}
 use Rattle.cs_yacc.specs.declared.name.TokenName.TheVariants.{Word, Byte}
 use Rattle.cs_yacc_items.specs.Items.{Item, name, literal, colon, bar, Placed, items_of}
-use Rattle.cs_yacc.specs.Meaning.{same_word, has_word, distinct, number_of, bytes_of, left_at, left_sides, nonterminals, spelled, used, is_in_use, tokens, body, bodies, SpelledRule, rules_of, rules_at, rules, is_kept, kept, is_idle, opens_prec, meant_behind, meant, tokens_of, begins_with_colon}
-use Rattle.cs_yacc.proofs.Words.{same_is, same_self, has_distinct}
+use Rattle.cs_yacc.specs.Meaning.{same_spelling, has_spelling, distinct, number_in, bytes_of, left_at, left_sides, nonterminals, spelled, used, is_in_use, tokens, body, bodies, SpelledRule, rules_of, rules_at, rules, is_kept, kept, has_meaning, with_meaning_behind, with_meaning, tokens_of, begins_with_colon}
+use Rattle.cs_yacc.proofs.Gathering.{same_is, same_self, has_distinct}
 
 -- ---- words in a list
 
 abbrev pub IsIn : List TokenName → TokenName → Type 0
-IsIn ws w = has_word ws w ≡ true
+IsIn ws w = has_spelling ws w ≡ true
 
-in_more_step : (b : Bool) (v w : TokenName) (ws : List TokenName) → same_word w v ≡ b → IsIn ws w → IsIn (v ∷ ws) w
+in_more_step : (b : Bool) (v w : TokenName) (ws : List TokenName) → same_spelling w v ≡ b → IsIn ws w → IsIn (v ∷ ws) w
 in_more_step true v w ws e h = rw e refl
 in_more_step false v w ws e h = rw e h
 
 in_more : (v w : TokenName) (ws : List TokenName) → IsIn ws w → IsIn (v ∷ ws) w
-in_more v w ws h = in_more_step (same_word w v) v w ws refl h
+in_more v w ws h = in_more_step (same_spelling w v) v w ws refl h
 
 -- a list has its words
 has_self : (ws : List TokenName) → All (IsIn ws) ws
 has_self [] = All-nil (IsIn [])
 has_self (w ∷ ws) = All-cons (IsIn (w ∷ ws)) w ws (rw (same_self w) refl) (All-weaker (IsIn ws) (IsIn (w ∷ ws)) (λ v h. in_more w v ws h) ws (has_self ws))
 
-number_step : (b : Bool) (w v : TokenName) (ws : List TokenName) → same_word w v ≡ b → IsIn (v ∷ ws) w → (IsIn ws w → number_of ws w ≤ length ws) → number_of (v ∷ ws) w ≤ suc (length ws)
+number_step : (b : Bool) (w v : TokenName) (ws : List TokenName) → same_spelling w v ≡ b → IsIn (v ∷ ws) w → (IsIn ws w → number_in ws w ≤ length ws) → number_in (v ∷ ws) w ≤ suc (length ws)
 number_step true w v ws e h rest = rw e (omega arith)
 number_step false w v ws e h rest = let tail : IsIn ws w = rw e at h in rw (e, one-add) (omega (arith, rest tail))
 
 -- a word of a list has a number among them
-pub number_within : (ws : List TokenName) (w : TokenName) → IsIn ws w → number_of ws w ≤ length ws
+pub number_within : (ws : List TokenName) (w : TokenName) → IsIn ws w → number_in ws w ≤ length ws
 number_within [] w h = absurd (false≢true h)
-number_within (v ∷ ws) w h = number_step (same_word w v) w v ws refl h (number_within ws w)
+number_within (v ∷ ws) w h = number_step (same_spelling w v) w v ws refl h (number_within ws w)
 
 -- a word that passes a test is among those that pass
 filter_step : (p : TokenName → Bool) (v w : TokenName) (ws : List TokenName) (b : Bool) → p v ≡ b → p w ≡ true → IsIn (v ∷ ws) w → (IsIn ws w → IsIn (filter p ws) w) → IsIn (cond b (v ∷ filter p ws) (filter p ws)) w
-filter_step p v w ws b e passes h rest = by_same (same_word w v) refl b e
+filter_step p v w ws b e passes h rest = by_same (same_spelling w v) refl b e
   where
-    by_same : (s : Bool) → same_word w v ≡ s → (b : Bool) → p v ≡ b → IsIn (cond b (v ∷ filter p ws) (filter p ws)) w
+    by_same : (s : Bool) → same_spelling w v ≡ s → (b : Bool) → p v ≡ b → IsIn (cond b (v ∷ filter p ws) (filter p ws)) w
     by_same true f true e = rw f refl
     by_same true f false e = let g : w ≡ v = same_is w v f in absurd (false≢true (sym e ∙ ap p (sym g) ∙ passes))
     by_same false f true e = let tail : IsIn ws w = rw f at h in rw f (rest tail)
@@ -56,18 +56,18 @@ in_filter p w (v ∷ ws) passes h = filter_step p v w ws (p v) refl passes h (in
 abbrev Differ : TokenName → TokenName → Type 0
 Differ a b = a ≢ b
 
-not_filtered : (w : TokenName) (ws : List TokenName) → All (Differ w) (filter (λ v. not (same_word w v)) ws)
+not_filtered : (w : TokenName) (ws : List TokenName) → All (Differ w) (filter (λ v. not (same_spelling w v)) ws)
 not_filtered w [] = All-nil (Differ w)
-not_filtered w (v ∷ ws) = step (same_word w v) refl (not_filtered w ws)
+not_filtered w (v ∷ ws) = step (same_spelling w v) refl (not_filtered w ws)
   where
-    step : (b : Bool) → same_word w v ≡ b → All (Differ w) (filter (λ v. not (same_word w v)) ws) → All (Differ w) (cond (not b) (v ∷ filter (λ v. not (same_word w v)) ws) (filter (λ v. not (same_word w v)) ws))
+    step : (b : Bool) → same_spelling w v ≡ b → All (Differ w) (filter (λ v. not (same_spelling w v)) ws) → All (Differ w) (cond (not b) (v ∷ filter (λ v. not (same_spelling w v)) ws) (filter (λ v. not (same_spelling w v)) ws))
     step true e h = h
-    step false e h = All-cons (Differ w) v (filter (λ v. not (same_word w v)) ws) (λ f. false≢true (sym e ∙ rw f (same_self v))) h
+    step false e h = All-cons (Differ w) v (filter (λ v. not (same_spelling w v)) ws) (λ f. false≢true (sym e ∙ rw f (same_self v))) h
 
 distinct_differ : (ws : List TokenName) → AllPairs Differ (distinct ws)
 distinct_differ [] = λ i j d lt within. absurd (omega arith)
 distinct_differ (w ∷ ws) =
-    AllPairs-cons Differ w (filter (λ v. not (same_word w v)) (distinct ws)) (not_filtered w (distinct ws)) (AllPairs-filter Differ (λ v. not (same_word w v)) (distinct ws) (distinct_differ ws))
+    AllPairs-cons Differ w (filter (λ v. not (same_spelling w v)) (distinct ws)) (not_filtered w (distinct ws)) (AllPairs-filter Differ (λ v. not (same_spelling w v)) (distinct ws) (distinct_differ ws))
 
 pairs_tail : (w : TokenName) (ws : List TokenName) → AllPairs Differ (w ∷ ws) → AllPairs Differ ws
 pairs_tail w ws h = λ i j d lt within. h (suc i) (suc j) d (omega arith) (omega arith)
@@ -85,7 +85,7 @@ differ_append (v ∷ vs) ws a b apart =
 All-distinct : (P : TokenName → Type 0) (ws : List TokenName) → All P ws → All P (distinct ws)
 All-distinct P [] h = h
 All-distinct P (w ∷ ws) h =
-    All-cons P w (filter (λ v. not (same_word w v)) (distinct ws)) (All-head P w ws h) (All-filter (λ v. not (same_word w v)) P (distinct ws) (All-distinct P ws (All-tail P w ws h)))
+    All-cons P w (filter (λ v. not (same_spelling w v)) (distinct ws)) (All-head P w ws h) (All-filter (λ v. not (same_spelling w v)) P (distinct ws) (All-distinct P ws (All-tail P w ws h)))
 
 passes_all : (p : TokenName → Bool) (ws : List TokenName) → All (λ w. p w ≡ true) (filter p ws)
 passes_all p [] = All-nil (λ w. p w ≡ true)
@@ -132,8 +132,8 @@ names_differ used all items =
     let ts = filter (is_in_use used ns) (spelled all) in
     let named : map Word (map bytes_of ns) ≡ ns = words_back ns (All-distinct IsNamed (left_sides items) (lefts_named items)) in
     let apart : (w : TokenName) → is_in_use used ns w ≡ true → All (Differ w) ns = λ w in_use.
-    let none : has_word ns w ≡ false = not-back (has_word ns w) (and-right (has_word used w) (not (has_word ns w)) in_use) in
-    All-weaker (IsIn ns) (Differ w) (λ v there same. false≢true (sym none ∙ ap (has_word ns) same ∙ there)) ns (has_self ns) in
+    let none : has_spelling ns w ≡ false = not-back (has_spelling ns w) (and-right (has_spelling used w) (not (has_spelling ns w)) in_use) in
+    All-weaker (IsIn ns) (Differ w) (λ v there same. false≢true (sym none ∙ ap (has_spelling ns) same ∙ there)) ns (has_self ns) in
     let every : All (λ w. All (Differ w) ns) (distinct ts) =
     All-weaker (λ w. is_in_use used ns w ≡ true) (λ w. All (Differ w) ns) apart (distinct ts) (All-distinct (λ w. is_in_use used ns w ≡ true) ts (passes_all (is_in_use used ns) (spelled all))) in
     rw named (differ_append (distinct ts) ns (distinct_differ ts) (distinct_differ (left_sides items)) every)
@@ -214,12 +214,12 @@ module _ (P : TokenName → Type 0) where
       back (w ∷ ws) g = back ws (All-tail P w (ws ++ flat_map (λ (r : SpelledRule). r.right) rs) g)
 
   -- the items with a meaning spell what all items spell
-  meant_spelled : (b : Bool) (ps : List Placed) → All P (spelled (items_of ps)) → All P (spelled (items_of (meant_behind b ps)))
-  meant_spelled b [] h = All-nil P
-  meant_spelled b (p ∷ ps) h = by_test (not b && not (is_idle p.item)) (meant_spelled (opens_prec b p.item) ps (spelled_tail p.item (items_of ps) h))
+  with_meaning_spelled : (before : Option Item) (ps : List Placed) → All P (spelled (items_of ps)) → All P (spelled (items_of (with_meaning_behind before ps)))
+  with_meaning_spelled before [] h = All-nil P
+  with_meaning_spelled before (p ∷ ps) h = by_test (has_meaning before p.item) (with_meaning_spelled (Some p.item) ps (spelled_tail p.item (items_of ps) h))
     where
       rest : List Placed
-      rest = meant_behind (opens_prec b p.item) ps
+      rest = with_meaning_behind (Some p.item) ps
 
       by_test : (t : Bool) → All P (spelled (items_of rest)) → All P (spelled (items_of (cond t (p ∷ []) [] ++ rest)))
       by_test true g = both p.item h g
@@ -237,18 +237,18 @@ lefts_known items =
     (lefts_of (IsIn (nonterminals items)) items (All-weaker (IsIn (left_sides items)) (IsIn (nonterminals items)) (λ w h. has_distinct (left_sides items) w ∙ h) (left_sides items) (has_self (left_sides items))))
 
 -- a word of a kept rule that is no nonterminal is a token
-pub rights_known : (all : List Placed) → All (λ (r : SpelledRule). All (λ w. has_word (nonterminals (items_of (meant all))) w ≡ false → IsIn (tokens_of all (meant all)) w) r.right) (kept (items_of (meant all)))
+pub rights_known : (all : List Placed) → All (λ (r : SpelledRule). All (λ w. has_spelling (nonterminals (items_of (with_meaning all))) w ≡ false → IsIn (tokens_of all (with_meaning all)) w) r.right) (kept (items_of (with_meaning all)))
 rights_known all =
-    let items = items_of (meant all) in
+    let items = items_of (with_meaning all) in
     let there = spelled (items_of all) in
-    let in_text = All-filter is_kept (λ (r : SpelledRule). All (IsIn there) r.right) (rules items) (rights_spelled (IsIn there) items (meant_spelled (IsIn there) false all (has_self there))) in
+    let in_text = All-filter is_kept (λ (r : SpelledRule). All (IsIn there) r.right) (rules items) (rights_spelled (IsIn there) items (with_meaning_spelled (IsIn there) None all (has_self there))) in
     let words = flat_map (λ (r : SpelledRule). r.right) (kept items) in
     let in_rules = rights_of (IsIn words) (kept items) (has_self words) in
     λ k d lt j e le. λ none. known _ (in_text k d lt j e le) (in_rules k d lt j e le) none
   where
-    known : (w : TokenName) → IsIn (spelled (items_of all)) w → IsIn (flat_map (λ (r : SpelledRule). r.right) (kept (items_of (meant all)))) w → has_word (nonterminals (items_of (meant all))) w ≡ false → IsIn (tokens_of all (meant all)) w
+    known : (w : TokenName) → IsIn (spelled (items_of all)) w → IsIn (flat_map (λ (r : SpelledRule). r.right) (kept (items_of (with_meaning all)))) w → has_spelling (nonterminals (items_of (with_meaning all))) w ≡ false → IsIn (tokens_of all (with_meaning all)) w
     known w there in_rule none =
-        let items = items_of (meant all) in
-        let is_used : has_word (used (kept items)) w ≡ true = has_distinct (flat_map (λ (r : SpelledRule). r.right) (kept items)) w ∙ in_rule in
+        let items = items_of (with_meaning all) in
+        let is_used : has_spelling (used (kept items)) w ≡ true = has_distinct (flat_map (λ (r : SpelledRule). r.right) (kept items)) w ∙ in_rule in
         let in_use : is_in_use (used (kept items)) (nonterminals items) w ≡ true = rw (is_used, none) refl in
         has_distinct (filter (is_in_use (used (kept items)) (nonterminals items)) (spelled (items_of all))) w ∙ in_filter (is_in_use (used (kept items)) (nonterminals items)) w (spelled (items_of all)) in_use there

@@ -9,9 +9,9 @@ use Rattle.std.specs.Str.{bytes_eq}
 use Rattle.std.proofs.lemmas.Slice.Eq.{bytes_eq-Decides}
 use Rattle.indexmap.specs.IndexMap.{insert_entry}
 use Rattle.cs_yacc.specs.declared.name.TokenName.{TokenName}
-use Rattle.cs_yacc.specs.Meaning.{same_word}
+use Rattle.cs_yacc.specs.Meaning.{same_spelling}
 use Rattle.cs_yacc.specs.TokenNumbers.{number_at_word, number_at_byte, Finds}
-use Rattle.cs_yacc.proofs.Words.{same_is, same_self}
+use Rattle.cs_yacc.proofs.Gathering.{same_is, same_self}
 
 -- ---- a look-up after a key is put in
 
@@ -57,34 +57,34 @@ module _ {A : Type 0} (spelled : A → TokenName) (names : List TokenName) where
   pub finds_none : (found : A → Option ℕ) → ((a : A) → found a ≡ None) → Finds spelled found 0 names
   finds_none found empty = record { number = λ a t e. absurd (let f : found a ≡ None = empty a in cc); none = λ a e k lt. absurd (omega arith) }
 
-  module _ (old new : A → Option ℕ) (k : ℕ) (name : TokenName) (at : slice_get names k ≡ Some name) (put : (a : A) → new a ≡ cond (same_word (spelled a) name) (Some (k + 1)) (old a)) (before : Finds spelled old k names) where
-    number_step : (a : A) (t : ℕ) (b : Bool) → same_word (spelled a) name ≡ b → cond b (Some (k + 1)) (old a) ≡ Some t → (0 < t) × (slice_get names (t - 1) ≡ Some (spelled a))
+  module _ (old new : A → Option ℕ) (k : ℕ) (name : TokenName) (at : slice_get names k ≡ Some name) (put : (a : A) → new a ≡ cond (same_spelling (spelled a) name) (Some (k + 1)) (old a)) (before : Finds spelled old k names) where
+    number_step : (a : A) (t : ℕ) (b : Bool) → same_spelling (spelled a) name ≡ b → cond b (Some (k + 1)) (old a) ≡ Some t → (0 < t) × (slice_get names (t - 1) ≡ Some (spelled a))
     number_step a t true same e =
         let is : k + 1 ≡ t = cc in
         let place : t - 1 ≡ k = omega arith in
         (omega arith, rw (place, at) (ap Some (sym (same_is (spelled a) name same))))
     number_step a t false same e = before.number a t e
 
-    none_here : (a : A) → same_word (spelled a) name ≡ false → slice_get names k ≢ Some (spelled a)
+    none_here : (a : A) → same_spelling (spelled a) name ≡ false → slice_get names k ≢ Some (spelled a)
     none_here a differs e =
         let is : name ≡ spelled a = cc in
-        let self : same_word (spelled a) name ≡ true = rw is (same_self (spelled a)) in
+        let self : same_spelling (spelled a) name ≡ true = rw is (same_self (spelled a)) in
         false≢true (sym differs ∙ self)
 
-    none_at : (a : A) (j : ℕ) → same_word (spelled a) name ≡ false → old a ≡ None → j < k + 1 → slice_get names j ≢ Some (spelled a)
+    none_at : (a : A) (j : ℕ) → same_spelling (spelled a) name ≡ false → old a ≡ None → j < k + 1 → slice_get names j ≢ Some (spelled a)
     none_at a j differs e lt = elim (cases_lt j k) [
       | inl below ↦ before.none a e j below
       | inr above ↦ let is : j ≡ k = omega arith in rw is (none_here a differs)
     ]
 
-    none_step : (a : A) (j : ℕ) (b : Bool) → same_word (spelled a) name ≡ b → cond b (Some (k + 1)) (old a) ≡ None → j < k + 1 → slice_get names j ≢ Some (spelled a)
+    none_step : (a : A) (j : ℕ) (b : Bool) → same_spelling (spelled a) name ≡ b → cond b (Some (k + 1)) (old a) ≡ None → j < k + 1 → slice_get names j ≢ Some (spelled a)
     none_step a j true same e lt = absurd (let f : Some (k + 1) ≡ None = e in cc)
     none_step a j false same e lt = none_at a j same e lt
 
     pub finds_more : Finds spelled new (k + 1) names
     finds_more = record {
-      number = λ a t e. number_step a t (same_word (spelled a) name) refl (sym (put a) ∙ e);
-      none = λ a e j lt. none_step a j (same_word (spelled a) name) refl (sym (put a) ∙ e) lt;
+      number = λ a t e. number_step a t (same_spelling (spelled a) name) refl (sym (put a) ∙ e);
+      none = λ a e j lt. none_step a j (same_spelling (spelled a) name) refl (sym (put a) ∙ e) lt;
     }
 
 -- ---- what is found in a table of all names

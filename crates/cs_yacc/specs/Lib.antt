@@ -2,7 +2,9 @@ pub mod Errors
 pub mod File
 pub mod Meaning
 pub mod Reading
-pub mod WordView
+pub mod SpellingView
 pub mod RuleView
-pub mod Steps
+pub mod Finding
+pub mod PartsView
+pub mod AcceptedView
 pub mod TokenNumbers

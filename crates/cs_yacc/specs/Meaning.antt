@@ -1,8 +1,8 @@
--- What the items of a yacc file mean (POSIX yacc, the grammar file).
+-- What the items of a yacc file mean (POSIX yacc, the grammar file). It speaks of items that the table takes: of others it
+-- says nothing that counts.
 use Rattle.std.specs.Prelude.{ℕ, suc, Bool, true, false, ◌==◌, ◌&&◌, not, if◌then◌else◌, List, [], ◌∷◌, ◌++◌, length, map, take, filter, Option, Some, None, option_map, Result, Ok, Err, nat_lt, codes}
 use Rattle.std.specs.List.{list_any, position_or_len, flat_map}
 use Rattle.std.specs.Str.{bytes_eq}
-use Rattle.cs_grammar.specs.declared.TheConstants.{MOST_TOKENS, MOST_NONTERMINALS, MOST_RULES, MOST_SYMBOLS}
 use Rattle.cs_grammar.specs.declared.symbol.Symbol.{Symbol}
 use Rattle.cs_grammar.specs.declared.symbol.Symbol.TheVariants.{Token, Nonterminal}
 use Rattle.cs_grammar.specs.Grammar.{Production}
@@ -26,35 +26,35 @@ abbrev pub unless : {A E : Type 0} → Option E → Result A E → Result A E
 unless None r = r
 unless (Some e) r = Err e
 
--- ---- words: a name, or a byte between quotes. Two spellings of one byte are one word.
+-- ---- spellings: a name, or a byte between quotes. Two literals of one byte are one spelling.
 
-abbrev pub same_word : TokenName → TokenName → Bool
-same_word (Word m) (Word n) = bytes_eq m n
-same_word (Byte a) (Byte b) = a == b
-same_word v w = false
+abbrev pub same_spelling : TokenName → TokenName → Bool
+same_spelling (Word m) (Word n) = bytes_eq m n
+same_spelling (Byte a) (Byte b) = a == b
+same_spelling v w = false
 
-abbrev pub has_word : List TokenName → TokenName → Bool
-has_word words w = list_any (same_word w) words
+abbrev pub has_spelling : List TokenName → TokenName → Bool
+has_spelling words w = list_any (same_spelling w) words
 
--- each word once, in the order of their first places
+-- each spelling once, in the order of their first places
 abbrev pub distinct : List TokenName → List TokenName
 distinct [] = []
-distinct (w ∷ ws) = w ∷ filter (λ v. not (same_word w v)) (distinct ws)
+distinct (w ∷ ws) = w ∷ filter (λ v. not (same_spelling w v)) (distinct ws)
 
--- the number of a word in a list, from 1
-abbrev pub number_of : List TokenName → TokenName → ℕ
-number_of words w = suc (position_or_len (same_word w) words)
+-- the number of a spelling in a list, from 1
+abbrev pub number_in : List TokenName → TokenName → ℕ
+number_in words w = suc (position_or_len (same_spelling w) words)
 
--- the bytes that a word consists of, without quotes
+-- the bytes that a spelling consists of, without quotes
 abbrev pub bytes_of : TokenName → List ℕ
 bytes_of (Word n) = n
 bytes_of (Byte b) = b ∷ []
 
--- the word that an item spells, if it does
-abbrev pub word_at : Item → List TokenName
-word_at (name n) = Word n ∷ []
-word_at (literal b) = Byte b ∷ []
-word_at i = []
+-- the spelling of an item that has one
+abbrev pub spelling_at : Item → List TokenName
+spelling_at (name n) = Word n ∷ []
+spelling_at (literal b) = Byte b ∷ []
+spelling_at i = []
 
 -- ---- items, each seen with the items behind it
 
@@ -81,14 +81,14 @@ abbrev pub behind_mark : List Placed → List Placed
 behind_mark [] = []
 behind_mark (p ∷ ps) = if is_mark p.item then ps else behind_mark ps
 
-abbrev pub is_start : Item → List Item → Bool
-is_start (directive directives.Start) items = true
-is_start i items = false
+abbrev pub is_start : Item → Bool
+is_start (directive directives.Start) = true
+is_start i = false
 
 -- the items behind the first `%start`
 abbrev pub behind_start : List Placed → List Placed
 behind_start [] = []
-behind_start (p ∷ ps) = if is_start p.item (items_of ps) then ps else behind_start ps
+behind_start (p ∷ ps) = if is_start p.item then ps else behind_start ps
 
 -- the item behind the first `%start`, which names the start symbol
 abbrev pub start_item : List Placed → List Placed
@@ -110,21 +110,25 @@ is_idle number = true
 is_idle comma = true
 is_idle i = false
 
--- the item, unless it has no meaning; the flag says whether `%prec` stands directly before, and then it has none
-abbrev pub meant_one : Bool → Placed → List Placed
-meant_one behind_prec p = if not behind_prec && not (is_idle p.item) then p ∷ [] else []
+-- whether this item, if any, is `%prec`
+abbrev pub is_prec_before : Option Item → Bool
+is_prec_before None = false
+is_prec_before (Some i) = is_prec i
 
--- whether the next item is the symbol of this `%prec`
-abbrev pub opens_prec : Bool → Item → Bool
-opens_prec behind_prec i = not behind_prec && is_prec i
+-- an item has a meaning unless it is idle or `%prec` stands directly before it
+abbrev pub has_meaning : Option Item → Item → Bool
+has_meaning before i = not (is_prec_before before) && not (is_idle i)
 
--- the items with a meaning
-abbrev pub meant_behind : Bool → List Placed → List Placed
-meant_behind behind_prec [] = []
-meant_behind behind_prec (p ∷ ps) = meant_one behind_prec p ++ meant_behind (opens_prec behind_prec p.item) ps
+abbrev pub only_if : {A : Type 0} → Bool → A → List A
+only_if b x = if b then x ∷ [] else []
 
-abbrev pub meant : List Placed → List Placed
-meant ps = meant_behind false ps
+-- the items with a meaning, where this one, if any, stands directly before the first
+abbrev pub with_meaning_behind : Option Item → List Placed → List Placed
+with_meaning_behind before [] = []
+with_meaning_behind before (p ∷ ps) = only_if (has_meaning before p.item) p ++ with_meaning_behind (Some p.item) ps
+
+abbrev pub with_meaning : List Placed → List Placed
+with_meaning ps = with_meaning_behind None ps
 
 -- ---- declarations
 
@@ -143,7 +147,7 @@ declares directives.Nonassoc = true
 declares directives.Precedence = true
 declares d = false
 
--- a list word declares the names of its list
+-- the directive of a list declares the names of its list
 abbrev pub declared_at : Item → List Item → List TokenName
 declared_at (directive d) items = if declares d then listed items else []
 declared_at i items = []
@@ -152,12 +156,12 @@ abbrev pub declared : List Item → List TokenName
 declared = from_each declared_at
 
 -- the name `error`, which is always declared
-abbrev pub error_word : TokenName
-error_word = Word (codes "error")
+abbrev pub error_spelling : TokenName
+error_spelling = Word (codes "error")
 
 -- the declared tokens, each once
 abbrev pub declared_tokens : List Item → List TokenName
-declared_tokens items = distinct (error_word ∷ declared items)
+declared_tokens items = distinct (error_spelling ∷ declared items)
 
 -- ---- rules
 
@@ -169,7 +173,7 @@ left_at i items = []
 abbrev pub left_sides : List Item → List TokenName
 left_sides = from_each left_at
 
--- The words of the body that begins here: it goes to the next bar, semicolon, left side or mark.
+-- The spellings of the body that begins here: it goes to the next bar, semicolon, left side or mark.
 abbrev pub body : List Item → List TokenName
 body (name n ∷ items) = if begins_with_colon items then [] else Word n ∷ body items
 body (literal b ∷ items) = Byte b ∷ body items
@@ -183,7 +187,7 @@ bodies (bar ∷ items) = body items ∷ bodies items
 bodies (name n ∷ items) = if begins_with_colon items then [] else bodies items
 bodies (i ∷ items) = bodies items
 
--- a rule as the file spells it: its left side and the words of its body
+-- a rule as the file spells it: its left side and the spellings of its body
 pub record SpelledRule : Type 0 where
   pub left : TokenName
   pub right : List TokenName
@@ -202,7 +206,7 @@ rules = from_each rules_at
 
 -- a rule is kept unless its body holds `error`
 abbrev pub is_kept : SpelledRule → Bool
-is_kept r = not (has_word r.right error_word)
+is_kept r = not (has_spelling r.right error_spelling)
 
 abbrev pub kept : List Item → List SpelledRule
 kept items = filter is_kept (rules items)
@@ -213,81 +217,119 @@ kept items = filter is_kept (rules items)
 abbrev pub nonterminals : List Item → List TokenName
 nonterminals items = distinct (left_sides items)
 
--- the words of the rules' right sides, each once
+-- the spellings of the rules' right sides, each once
 abbrev pub used : List SpelledRule → List TokenName
 used rules = distinct (flat_map (λ r. r.right) rules)
 
 -- a token in use stands in a rule, and is no left side
 abbrev pub is_in_use : List TokenName → List TokenName → TokenName → Bool
-is_in_use used lefts w = has_word used w && not (has_word lefts w)
+is_in_use used lefts w = has_spelling used w && not (has_spelling lefts w)
 
 abbrev pub spelled : List Item → List TokenName
-spelled = from_each (λ i items. word_at i)
+spelled = from_each (λ i items. spelling_at i)
+
+-- the token in use that an item spells, if it does
+abbrev pub token_at : List TokenName → List TokenName → Item → List TokenName
+token_at used lefts i = filter (is_in_use used lefts) (spelling_at i)
 
 -- the tokens in use, in the order of the first items that spell them
 abbrev pub tokens : List TokenName → List TokenName → List Item → List TokenName
 tokens used lefts items = distinct (filter (is_in_use used lefts) (spelled items))
 
--- the symbol that a word stands for, where these are the tokens and the nonterminals
+-- the symbol that a spelling stands for, where these are the tokens and the nonterminals
 abbrev pub symbol_of : List TokenName → List TokenName → TokenName → Symbol
-symbol_of tokens nonterminals w = if has_word nonterminals w then Nonterminal (number_of nonterminals w) else Token (number_of tokens w)
+symbol_of tokens nonterminals w = if has_spelling nonterminals w then Nonterminal (number_in nonterminals w) else Token (number_in tokens w)
 
-abbrev pub numbered : List TokenName → List TokenName → SpelledRule → Production
-numbered tokens nonterminals r = record { left = number_of nonterminals r.left; right = map (symbol_of tokens nonterminals) r.right }
+abbrev pub production_of : List TokenName → List TokenName → SpelledRule → Production
+production_of tokens nonterminals r = record { left = number_in nonterminals r.left; right = map (symbol_of tokens nonterminals) r.right }
 
--- the number of the first word, or 1
+-- the number of the first spelling, or 1
 abbrev pub number_or_first : List TokenName → List TokenName → ℕ
 number_or_first lefts [] = 1
-number_or_first lefts (w ∷ ws) = number_of lefts w
+number_or_first lefts (w ∷ ws) = number_in lefts w
 
 -- the start symbol: what the item behind `%start` names, or the first left side
 abbrev pub start_of : List TokenName → List Placed → ℕ
 start_of lefts [] = 1
-start_of lefts (p ∷ ps) = number_or_first lefts (word_at p.item)
+start_of lefts (p ∷ ps) = number_or_first lefts (spelling_at p.item)
 
--- the file of these tokens, nonterminals and rules, with the item that names the start symbol
-abbrev pub file_with : List TokenName → List TokenName → List Placed → List SpelledRule → File
-file_with tokens nonterminals start rules = record {
-  grammar = record { tokens = length tokens; nonterminals = length nonterminals; start = start_of nonterminals start; rules = map (numbered tokens nonterminals) rules };
-  token_names = tokens;
-  nonterminal_names = map bytes_of nonterminals;
-}
+-- what the items give before its symbols are numbered: the tokens in use, the nonterminals, the item that names the start
+-- symbol, if one does, and the kept rules
+pub record Parts : Type 0 where
+  pub tokens : List TokenName
+  pub nonterminals : List TokenName
+  pub start : List Placed
+  pub rules : List SpelledRule
 
 -- the tokens of all items, where these have a meaning
 abbrev pub tokens_of : List Placed → List Placed → List TokenName
 tokens_of all items = tokens (used (kept (items_of items))) (nonterminals (items_of items)) (items_of all)
 
--- what all items mean, where these have a meaning
-abbrev pub file_of : List Placed → List Placed → File
-file_of all items = file_with (tokens_of all items) (nonterminals (items_of items)) (start_item all) (kept (items_of items))
+-- the parts of all items, where these have a meaning
+abbrev pub parts_of : List Placed → List Placed → Parts
+parts_of all items = record {
+  tokens = tokens_of all items;
+  nonterminals = nonterminals (items_of items);
+  start = start_item all;
+  rules = kept (items_of items);
+}
+
+-- the symbol that a spelling stands for
+abbrev pub symbol_in : Parts → TokenName → Symbol
+symbol_in p w = symbol_of p.tokens p.nonterminals w
+
+abbrev pub symbols_in : Parts → List TokenName → List Symbol
+symbols_in p right = map (symbol_in p) right
+
+abbrev pub start_in : Parts → ℕ
+start_in p = start_of p.nonterminals p.start
+
+abbrev pub productions : Parts → List Production
+productions p = map (production_of p.tokens p.nonterminals) p.rules
+
+-- the file that the parts make
+abbrev pub file_with : Parts → File
+file_with p = record {
+  grammar = record { tokens = length p.tokens; nonterminals = length p.nonterminals; start = start_of p.nonterminals p.start; rules = productions p };
+  token_names = p.tokens;
+  nonterminal_names = map bytes_of p.nonterminals;
+}
 
 -- ---- refusals
 
 -- a left side that is a declared token
 abbrev pub is_token_on_left : List TokenName → Item → List Item → Bool
-is_token_on_left declared i items = list_any (has_word declared) (left_at i items)
+is_token_on_left declared i items = list_any (has_spelling declared) (left_at i items)
 
 -- a name that is neither declared nor a left side
-abbrev pub is_undefined : List TokenName → List TokenName → Item → List Item → Bool
-is_undefined declared lefts (name n) items = not (has_word declared (Word n)) && not (has_word lefts (Word n))
-is_undefined declared lefts i items = false
+abbrev pub is_undefined : List TokenName → List TokenName → Item → Bool
+is_undefined declared lefts (name n) = not (has_spelling declared (Word n)) && not (has_spelling lefts (Word n))
+is_undefined declared lefts i = false
 
 -- an item that names no left side
 abbrev pub is_no_left : List TokenName → Item → Bool
-is_no_left lefts i = not (list_any (has_word lefts) (word_at i))
+is_no_left lefts i = not (list_any (has_spelling lefts) (spelling_at i))
 
 -- the offset of the item that names the start symbol, where it names no left side
 abbrev pub wrong_start : List TokenName → List Placed → Option ℕ
 wrong_start lefts [] = None
 wrong_start lefts (p ∷ ps) = if is_no_left lefts p.item then Some p.at else None
 
+-- the offset of the first `%start`
+abbrev pub first_start : List Placed → Option ℕ
+first_start ps = first_at (λ i _. is_start i) ps
+
+-- the offset of the first name that is neither declared nor a left side
+abbrev pub first_undefined : List TokenName → List TokenName → List Placed → Option ℕ
+first_undefined declared lefts ps = first_at (λ i _. is_undefined declared lefts i) ps
+
 -- The first fault of names: a second `%start`; a left side that is a declared token; a name of a body that is neither a
 -- token nor a left side; a start symbol that is no left side.
 abbrev pub name_fault : List Placed → List Placed → List TokenName → List TokenName → Option YaccError
 name_fault all items declared lefts =
-    or_else (option_map SecondStart (first_at is_start (behind_start all)))
+    or_else (option_map SecondStart (first_start (behind_start all)))
     (or_else (option_map TokenOnLeft (first_at (is_token_on_left declared) items))
-    (or_else (option_map Undefined (first_at (is_undefined declared lefts) (behind_mark items)))
+    (or_else (option_map Undefined (first_undefined declared lefts (behind_mark items)))
     (option_map StartNotNonterminal (wrong_start lefts (start_item all)))))
 
 abbrev pub above : YaccLimit → ℕ → ℕ → Option YaccError
@@ -296,24 +338,25 @@ above which found most = if nat_lt most found then Some (Limit which found most)
 -- the first right side that is too long
 abbrev pub long_right : List SpelledRule → Option YaccError
 long_right [] = None
-long_right (r ∷ rs) = or_else (above RightSide (length r.right) MOST_SYMBOLS) (long_right rs)
+long_right (r ∷ rs) = or_else (above RightSide (length r.right) 128) (long_right rs)
 
 -- the first limit that is passed
-abbrev pub limit_passed : List TokenName → List TokenName → List SpelledRule → Option YaccError
-limit_passed tokens nonterminals rules =
-    or_else (above Tokens (length tokens) MOST_TOKENS)
-    (or_else (above Nonterminals (length nonterminals) MOST_NONTERMINALS)
-    (or_else (above Rules (length rules) MOST_RULES)
-    (long_right rules)))
+abbrev pub limit_passed : Parts → Option YaccError
+limit_passed p =
+    or_else (above Tokens (length p.tokens) 512)
+    (or_else (above Nonterminals (length p.nonterminals) 1024)
+    (or_else (above Rules (length p.rules) 8192)
+    (long_right p.rules)))
 
--- what all items give where no name is at fault and these have a meaning
-abbrev pub numbered_file : List Placed → List Placed → Result File YaccError
-numbered_file all items = unless (limit_passed (tokens_of all items) (nonterminals (items_of items)) (kept (items_of items))) (Ok (file_of all items))
+-- the file that the parts make, or the first limit that they pass
+abbrev pub file_or_limit : Parts → Result File YaccError
+file_or_limit p = unless (limit_passed p) (Ok (file_with p))
 
 -- what all items give, where these have a meaning
 abbrev pub outcome_with : List Placed → List Placed → Result File YaccError
-outcome_with all items = unless (name_fault all items (declared_tokens (items_of items)) (nonterminals (items_of items))) (numbered_file all items)
+outcome_with all items =
+    unless (name_fault all items (declared_tokens (items_of items)) (nonterminals (items_of items))) (file_or_limit (parts_of all items))
 
 -- what the items of a file give: what they mean, or the first fault
 abbrev pub outcome : List Placed → Result File YaccError
-outcome ps = outcome_with ps (meant ps)
+outcome ps = outcome_with ps (with_meaning ps)

@@ -41,3 +41,11 @@ abbrev pub Answers : List ℕ → Result File YaccError → Type 0
 Answers bytes (Ok file) = IsYaccFile bytes file
 Answers bytes (Err Memory) = Unit {0}
 Answers bytes (Err error) = Refuses error bytes
+
+-- the bytes are accepted
+abbrev pub IsAccepted : List ℕ → Type 0
+IsAccepted bytes = (file : File) × IsYaccFile bytes file
+
+-- the bytes are refused
+abbrev pub IsRefused : List ℕ → Type 0
+IsRefused bytes = (error : YaccError) × Refuses error bytes

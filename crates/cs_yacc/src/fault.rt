@@ -2,16 +2,14 @@
 
 ghost use Rattle.std.specs.Prelude.{◌≡◌, ◌≤◌, length};
 ghost use Rattle.std.specs.Option.{option_to_list};
-ghost use Rattle.cs_yacc_items.specs.Items.{items_of};
 ghost use Rattle.cs_yacc.specs.Meaning as spec;
 ghost use Rattle.cs_yacc_items.specs.Views.{item_of, placed_all};
-ghost use Rattle.cs_yacc.specs.WordView.{word_of, words_of};
+ghost use Rattle.cs_yacc.specs.SpellingView.{items_in};
 
 use crate::error::YaccError;
 use crate::gather::{behind, left_at};
-use crate::word::{Word, has, word_at};
+use crate::spelling::{Spelling, Spellings, spelling_at};
 use cs_yacc_items::{Directive, Item, Placed};
-use indexmap::IndexSet;
 
 /// The items behind the first mark.
 pub fn behind_mark<'i, 'a>(items: &'i [Placed<'a>]) -> &'i [Placed<'a>]
@@ -25,8 +23,8 @@ pub fn behind_mark<'i, 'a>(items: &'i [Placed<'a>]) -> &'i [Placed<'a>]
     &items[items.len()..]
 }
 
-fn is_start(item: Item<'_>, _behind: &[Placed<'_>]) -> bool
-    ensures { result ≡ spec.is_start (item_of item.entry) (items_of (placed_all _behind.now)) }
+fn is_start(item: Item<'_>) -> bool
+    ensures { result ≡ spec.is_start (item_of item.entry) }
 {
     matches!(item, Item::Directive(Directive::Start))
 }
@@ -36,9 +34,8 @@ fn behind_start<'i, 'a>(items: &'i [Placed<'a>]) -> &'i [Placed<'a>]
     ensures { placed_all result.now ≡ spec.behind_start (placed_all items.now) }
 {
     for (index, placed) in items.iter().enumerate() {
-        let after = behind(items, index);
-        if is_start(placed.item, after) {
-            return after;
+        if is_start(placed.item) {
+            return behind(items, index);
         }
     }
     &items[items.len()..]
@@ -56,28 +53,28 @@ pub fn start_item<'a>(items: &[Placed<'a>]) -> Option<Placed<'a>>
 
 /// The offset of the first `%start`.
 fn first_start(items: &[Placed<'_>]) -> Option<u32>
-    ensures { result ≡ spec.first_at spec.is_start (placed_all items.now) }
+    ensures { result ≡ spec.first_start (placed_all items.now) }
 {
-    for (index, placed) in items.iter().enumerate() {
-        if is_start(placed.item, behind(items, index)) {
+    for placed in items {
+        if is_start(placed.item) {
             return Some(placed.at);
         }
     }
     None
 }
 
-fn is_token_on_left(declared: &IndexSet<Word<'_>>, item: Item<'_>, behind: &[Placed<'_>]) -> bool
-    ensures { result ≡ spec.is_token_on_left (words_of declared.now.keys) (item_of item.entry) (items_of (placed_all behind.now)) }
+fn is_token_on_left(declared: &Spellings<'_>, item: Item<'_>, behind: &[Placed<'_>]) -> bool
+    ensures { result ≡ spec.is_token_on_left declared.now (item_of item.entry) (items_in behind.now) }
 {
     match left_at(item, behind) {
-        Some(word) => has(declared, word),
+        Some(spelling) => declared.has(spelling),
         None => false,
     }
 }
 
 /// The offset of the first left side that is declared.
-fn first_token_on_left(items: &[Placed<'_>], declared: &IndexSet<Word<'_>>) -> Option<u32>
-    ensures { result ≡ spec.first_at (spec.is_token_on_left (words_of declared.now.keys)) (placed_all items.now) }
+fn first_token_on_left(items: &[Placed<'_>], declared: &Spellings<'_>) -> Option<u32>
+    ensures { result ≡ spec.first_at (spec.is_token_on_left declared.now) (placed_all items.now) }
 {
     for (index, placed) in items.iter().enumerate() {
         if is_token_on_left(declared, placed.item, behind(items, index)) {
@@ -87,16 +84,12 @@ fn first_token_on_left(items: &[Placed<'_>], declared: &IndexSet<Word<'_>>) -> O
     None
 }
 
-fn is_undefined(
-    declared: &IndexSet<Word<'_>>,
-    lefts: &IndexSet<Word<'_>>,
-    item: Item<'_>,
-    _behind: &[Placed<'_>],
-) -> bool
-    ensures { result ≡ spec.is_undefined (words_of declared.now.keys) (words_of lefts.now.keys) (item_of item.entry) (items_of (placed_all _behind.now)) }
+fn is_undefined(declared: &Spellings<'_>, lefts: &Spellings<'_>, item: Item<'_>) -> bool
+    ensures { result ≡ spec.is_undefined declared.now lefts.now (item_of item.entry) }
 {
     match item {
-        Item::Name(name) => !has(declared, Word::Named(name)) && !has(lefts, Word::Named(name)),
+        Item::Name(name) => !declared.has(Spelling::Named(name))
+            && !lefts.has(Spelling::Named(name)),
         _ => false,
     }
 }
@@ -104,31 +97,31 @@ fn is_undefined(
 /// The offset of the first name that is neither declared nor a left side.
 fn first_undefined(
     items: &[Placed<'_>],
-    declared: &IndexSet<Word<'_>>,
-    lefts: &IndexSet<Word<'_>>,
+    declared: &Spellings<'_>,
+    lefts: &Spellings<'_>,
 ) -> Option<u32>
-    ensures { result ≡ spec.first_at (spec.is_undefined (words_of declared.now.keys) (words_of lefts.now.keys)) (placed_all items.now) }
+    ensures { result ≡ spec.first_undefined declared.now lefts.now (placed_all items.now) }
 {
-    for (index, placed) in items.iter().enumerate() {
-        if is_undefined(declared, lefts, placed.item, behind(items, index)) {
+    for placed in items {
+        if is_undefined(declared, lefts, placed.item) {
             return Some(placed.at);
         }
     }
     None
 }
 
-fn is_no_left(lefts: &IndexSet<Word<'_>>, item: Item<'_>) -> bool
-    ensures { result ≡ spec.is_no_left (words_of lefts.now.keys) (item_of item.entry) }
+fn is_no_left(lefts: &Spellings<'_>, item: Item<'_>) -> bool
+    ensures { result ≡ spec.is_no_left lefts.now (item_of item.entry) }
 {
-    match word_at(item) {
-        Some(word) => !has(lefts, word),
+    match spelling_at(item) {
+        Some(spelling) => !lefts.has(spelling),
         None => true,
     }
 }
 
 /// The offset of the name behind `%start`, where it is no left side.
-fn wrong_start(items: &[Placed<'_>], lefts: &IndexSet<Word<'_>>) -> Option<u32>
-    ensures { result ≡ spec.wrong_start (words_of lefts.now.keys) (spec.start_item (placed_all items.now)) }
+fn wrong_start(items: &[Placed<'_>], lefts: &Spellings<'_>) -> Option<u32>
+    ensures { result ≡ spec.wrong_start lefts.now (spec.start_item (placed_all items.now)) }
 {
     match start_item(items) {
         Some(placed) if is_no_left(lefts, placed.item) => Some(placed.at),
@@ -140,18 +133,18 @@ fn wrong_start(items: &[Placed<'_>], lefts: &IndexSet<Word<'_>>) -> Option<u32>
 pub fn name_fault(
     all: &[Placed<'_>],
     items: &[Placed<'_>],
-    declared: &IndexSet<Word<'_>>,
-    lefts: &IndexSet<Word<'_>>,
+    known: &Spellings<'_>,
+    lefts: &Spellings<'_>,
 ) -> Option<YaccError>
-    ensures { result ≡ spec.name_fault (placed_all all.now) (placed_all items.now) (words_of declared.now.keys) (words_of lefts.now.keys) }
+    ensures { result ≡ spec.name_fault (placed_all all.now) (placed_all items.now) known.now lefts.now }
 {
     if let Some(at) = first_start(behind_start(all)) {
         return Some(YaccError::SecondStart { at });
     }
-    if let Some(at) = first_token_on_left(items, declared) {
+    if let Some(at) = first_token_on_left(items, known) {
         return Some(YaccError::TokenOnLeft { at });
     }
-    if let Some(at) = first_undefined(behind_mark(items), declared, lefts) {
+    if let Some(at) = first_undefined(behind_mark(items), known, lefts) {
         return Some(YaccError::Undefined { at });
     }
     match wrong_start(all, lefts) {

@@ -1,7 +1,7 @@
 // What a yacc file says.
 
-ghost use Rattle.std.specs.Prelude.{◌≡◌, ◌≢◌, ◌<◌, ◌-◌, ℕ, Some, IfSome, IfNone, slice_get};
-ghost use Rattle.cs_yacc.specs.File.{IsFile};
+ghost use Rattle.std.specs.Prelude.{◌≡◌, IfSome, IfNone};
+ghost use Rattle.cs_yacc.specs.File.{IsFile, file_from, IsNamed, NoneNamed};
 
 use crate::name::{Name, TokenName};
 use crate::token_names::TokenNames;
@@ -18,21 +18,13 @@ pub struct YaccFile {
 }
 
 impl Model for YaccFile {
-    ghost use Rattle.cs_yacc.specs.File.{File, IsFile};
+    ghost use Rattle.cs_yacc.specs.File.{File, IsFile, file_from};
 
     ghost Value = { File };
 
-    ghost view = { λ f. record {
-      grammar = f.grammar;
-      token_names = f.token_names;
-      nonterminal_names = f.nonterminal_names.items;
-    } };
+    ghost view = { λ f. file_from f.grammar f.token_names f.nonterminal_names.items };
 
-    ghost invariant = { λ f. IsFile (record {
-      grammar = f.grammar;
-      token_names = f.token_names;
-      nonterminal_names = f.nonterminal_names.items;
-    }) };
+    ghost invariant = { λ f. IsFile (file_from f.grammar f.token_names f.nonterminal_names.items) };
 }
 
 impl YaccFile {
@@ -42,16 +34,8 @@ impl YaccFile {
         token_names: TokenNames,
         nonterminal_names: Vec<Name>,
     ) -> YaccFile
-        requires { IsFile (record {
-          grammar = grammar;
-          token_names = token_names;
-          nonterminal_names = nonterminal_names.items;
-        }) }
-        ensures { result ≡ record {
-          grammar = grammar;
-          token_names = token_names;
-          nonterminal_names = nonterminal_names.items;
-        } }
+        requires { IsFile (file_from grammar token_names nonterminal_names.items) }
+        ensures { result ≡ file_from grammar token_names nonterminal_names.items }
     {
         YaccFile {
             grammar,
@@ -86,16 +70,16 @@ impl YaccFile {
 
     /// The token in use of the name; `None` where no token in use has it.
     pub fn token(&self, name: &[u8]) -> Option<u16>
-        ensures found { IfSome result (λ t. (0 < t) × (slice_get self.now.token_names (t - 1) ≡ Some (TokenName.Word name.now))) }
-        ensures none { IfNone result ((k : ℕ) → slice_get self.now.token_names k ≢ Some (TokenName.Word name.now)) }
+        ensures found { IfSome result (λ t. IsNamed self.now.token_names t (TokenName.Word name.now)) }
+        ensures none { IfNone result (NoneNamed self.now.token_names (TokenName.Word name.now)) }
     {
         self.token_names.word(name)
     }
 
     /// The token in use of the literal; `None` where no token in use has it.
     pub fn literal(&self, byte: u8) -> Option<u16>
-        ensures found { IfSome result (λ t. (0 < t) × (slice_get self.now.token_names (t - 1) ≡ Some (TokenName.Byte byte))) }
-        ensures none { IfNone result ((k : ℕ) → slice_get self.now.token_names k ≢ Some (TokenName.Byte byte)) }
+        ensures found { IfSome result (λ t. IsNamed self.now.token_names t (TokenName.Byte byte)) }
+        ensures none { IfNone result (NoneNamed self.now.token_names (TokenName.Byte byte)) }
     {
         self.token_names.literal(byte)
     }

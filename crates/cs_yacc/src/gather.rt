@@ -1,17 +1,15 @@
-// Words that the items hold, gathered into tables.
+// Spellings that the items hold, gathered into tables.
 
-ghost use Rattle.std.specs.Prelude.{◌≡◌, ◌&&◌, not, filter, ◌+◌, ◌<◌, IfOk, OnOk, map, length, drop};
-ghost use Rattle.indexmap.specs.IndexSet.{insert_all};
-ghost use Rattle.cs_yacc.specs.RuleView.{spelled_rules};
-ghost use Rattle.cs_yacc_items.specs.Items.{items_of};
+ghost use Rattle.std.specs.Prelude.{◌≡◌, ◌+◌, ◌<◌, IfOk, OnOk, length, drop};
+ghost use Rattle.cs_yacc_items.specs.Views.{item_of};
 ghost use Rattle.cs_yacc.specs.Meaning as spec;
-ghost use Rattle.cs_yacc_items.specs.Views.{item_of, placed_all};
-ghost use Rattle.cs_yacc.specs.WordView.{words_of, words_in};
+ghost use Rattle.cs_yacc.specs.Meaning.{listed, declared_at};
+ghost use Rattle.cs_yacc.specs.RuleView.{rules_in};
+ghost use Rattle.cs_yacc.specs.SpellingView.{spellings_of, spellings_in, items_in, and_all};
 
 use crate::spelled::SpelledRule;
-use crate::word::{Word, add, add_some, has, word_at};
+use crate::spelling::{Spelling, Spellings, spelling_at};
 use cs_yacc_items::{Directive, Item, Placed};
-use indexmap::IndexSet;
 use std::alloc::{AllocError, Global};
 
 /// The items behind the index.
@@ -24,7 +22,7 @@ pub fn behind<'i, 'a>(items: &'i [Placed<'a>], index: usize) -> &'i [Placed<'a>]
 
 /// Whether a colon stands first.
 pub fn begins_with_colon(items: &[Placed<'_>]) -> bool
-    ensures { result ≡ spec.begins_with_colon (items_of (placed_all items.now)) }
+    ensures { result ≡ spec.begins_with_colon (items_in items.now) }
 {
     match items.split_first() {
         Some((first, _)) => matches!(first.item, Item::Colon),
@@ -32,35 +30,32 @@ pub fn begins_with_colon(items: &[Placed<'_>]) -> bool
     }
 }
 
-pub fn left_at<'a>(item: Item<'a>, behind: &[Placed<'a>]) -> Option<Word<'a>>
-    ensures { words_in result ≡ spec.left_at (item_of item.entry) (items_of (placed_all behind.now)) }
+pub fn left_at<'a>(item: Item<'a>, behind: &[Placed<'a>]) -> Option<Spelling<'a>>
+    ensures { spellings_in result ≡ spec.left_at (item_of item.entry) (items_in behind.now) }
 {
     match item {
-        Item::Name(name) if begins_with_colon(behind) => Some(Word::Named(name)),
+        Item::Name(name) if begins_with_colon(behind) => Some(Spelling::Named(name)),
         _ => None,
     }
 }
 
 /// The left sides, each once.
-pub fn nonterminals<'a>(
-    alloc: Global,
-    items: &[Placed<'a>],
-) -> Result<IndexSet<Word<'a>>, AllocError>
-    ensures { IfOk result (λ s. words_of s.keys ≡ spec.nonterminals (items_of (placed_all items.now))) }
+pub fn nonterminals<'a>(alloc: Global, items: &[Placed<'a>]) -> Result<Spellings<'a>, AllocError>
+    ensures { IfOk result (λ s. s ≡ spec.nonterminals (items_in items.now)) }
 {
-    let mut words = IndexSet::new(alloc);
+    let mut spellings = Spellings::new(alloc);
     for (index, placed) in items.iter().enumerate() {
-        add_some(&mut words, left_at(placed.item, behind(items, index)))?;
+        spellings.add_some(left_at(placed.item, behind(items, index)))?;
     }
-    Ok(words)
+    Ok(spellings)
 }
 
-fn add_listed<'a>(words: &mut IndexSet<Word<'a>>, items: &[Placed<'a>]) -> Result<(), AllocError>
-    ensures { OnOk result (words_of words.new.keys ≡ insert_all spec.same_word (words_of words.old.keys) (spec.listed (items_of (placed_all items.now)))) }
+fn add_listed<'a>(spellings: &mut Spellings<'a>, items: &[Placed<'a>]) -> Result<(), AllocError>
+    ensures { OnOk result (spellings.new ≡ and_all spellings.old (spec.listed (items_in items.now))) }
 {
     for placed in items {
         match placed.item {
-            Item::Name(name) => add(words, Word::Named(name))?,
+            Item::Name(name) => spellings.add(Spelling::Named(name))?,
             Item::Literal(_) => {}
             _ => return Ok(()),
         }
@@ -68,67 +63,63 @@ fn add_listed<'a>(words: &mut IndexSet<Word<'a>>, items: &[Placed<'a>]) -> Resul
     Ok(())
 }
 
-fn add_declared<'a>(
-    words: &mut IndexSet<Word<'a>>,
-    item: Item<'a>,
-    behind: &[Placed<'a>],
-) -> Result<(), AllocError>
-    ensures { OnOk result (words_of words.new.keys ≡ insert_all spec.same_word (words_of words.old.keys) (spec.declared_at (item_of item.entry) (items_of (placed_all behind.now)))) }
+/// The list of names that the item declares, with what stands behind it; nothing where it declares none.
+fn declared_list<'i, 'a>(by: Item<'a>, rest: &'i [Placed<'a>]) -> &'i [Placed<'a>]
+    ensures { listed (items_in result.now) ≡ declared_at (item_of by.entry) (items_in rest.now) }
 {
-    match item {
+    match by {
         Item::Directive(
             Directive::Token
             | Directive::Left
             | Directive::Right
             | Directive::Nonassoc
             | Directive::Precedence,
-        ) => add_listed(words, behind),
-        _ => Ok(()),
+        ) => rest,
+        _ => &rest[rest.len()..],
     }
 }
 
 /// The declared tokens and `error`, each once.
-pub fn declared<'a>(alloc: Global, items: &[Placed<'a>]) -> Result<IndexSet<Word<'a>>, AllocError>
-    ensures { IfOk result (λ s. words_of s.keys ≡ spec.declared_tokens (items_of (placed_all items.now))) }
+pub fn declared<'a>(alloc: Global, items: &[Placed<'a>]) -> Result<Spellings<'a>, AllocError>
+    ensures { IfOk result (λ s. s ≡ spec.declared_tokens (items_in items.now)) }
 {
-    let mut words = IndexSet::new(alloc);
-    add(&mut words, Word::Named(b"error"))?;
+    let mut spellings = Spellings::new(alloc);
+    spellings.add(Spelling::Named(b"error"))?;
     for (index, placed) in items.iter().enumerate() {
-        add_declared(&mut words, placed.item, behind(items, index))?;
+        add_listed(
+            &mut spellings,
+            declared_list(placed.item, behind(items, index)),
+        )?;
     }
-    Ok(words)
+    Ok(spellings)
 }
 
-fn add_all<'a>(words: &mut IndexSet<Word<'a>>, right: &[Word<'a>]) -> Result<(), AllocError>
-    ensures { OnOk result (words_of words.new.keys ≡ insert_all spec.same_word (words_of words.old.keys) (words_of right.now)) }
+fn add_all<'a>(spellings: &mut Spellings<'a>, right: &[Spelling<'a>]) -> Result<(), AllocError>
+    ensures { OnOk result (spellings.new ≡ and_all spellings.old (spellings_of right.now)) }
 {
-    for word in right {
-        add(words, *word)?;
+    for spelling in right {
+        spellings.add(*spelling)?;
     }
     Ok(())
 }
 
-/// The words of the rules' right sides, each once.
-pub fn used<'a>(alloc: Global, rules: &[SpelledRule<'a>]) -> Result<IndexSet<Word<'a>>, AllocError>
-    ensures { IfOk result (λ s. words_of s.keys ≡ spec.used (spelled_rules rules.now)) }
+/// The spellings of the rules' right sides, each once.
+pub fn used<'a>(alloc: Global, rules: &[SpelledRule<'a>]) -> Result<Spellings<'a>, AllocError>
+    ensures { IfOk result (λ s. s ≡ spec.used (rules_in rules.now)) }
 {
-    let mut words = IndexSet::new(alloc);
+    let mut spellings = Spellings::new(alloc);
     for rule in rules {
-        add_all(&mut words, &rule.right)?;
+        add_all(&mut spellings, &rule.right)?;
     }
-    Ok(words)
+    Ok(spellings)
 }
 
-fn token_at<'a>(
-    item: Item<'a>,
-    used: &IndexSet<Word<'a>>,
-    lefts: &IndexSet<Word<'a>>,
-) -> Option<Word<'a>>
-    ensures { words_in result ≡ filter (spec.is_in_use (words_of used.now.keys) (words_of lefts.now.keys)) (spec.word_at (item_of item.entry)) }
+fn token_at<'a>(item: Item<'a>, used: &Spellings<'a>, lefts: &Spellings<'a>) -> Option<Spelling<'a>>
+    ensures { spellings_in result ≡ spec.token_at used.now lefts.now (item_of item.entry) }
 {
-    let word = word_at(item)?;
-    if has(used, word) && !has(lefts, word) {
-        Some(word)
+    let spelling = spelling_at(item)?;
+    if used.has(spelling) && !lefts.has(spelling) {
+        Some(spelling)
     } else {
         None
     }
@@ -138,14 +129,14 @@ fn token_at<'a>(
 pub fn tokens<'a>(
     alloc: Global,
     items: &[Placed<'a>],
-    used: &IndexSet<Word<'a>>,
-    lefts: &IndexSet<Word<'a>>,
-) -> Result<IndexSet<Word<'a>>, AllocError>
-    ensures { IfOk result (λ s. words_of s.keys ≡ spec.tokens (words_of used.now.keys) (words_of lefts.now.keys) (items_of (placed_all items.now))) }
+    used: &Spellings<'a>,
+    lefts: &Spellings<'a>,
+) -> Result<Spellings<'a>, AllocError>
+    ensures { IfOk result (λ s. s ≡ spec.tokens used.now lefts.now (items_in items.now)) }
 {
-    let mut words = IndexSet::new(alloc);
+    let mut spellings = Spellings::new(alloc);
     for placed in items {
-        add_some(&mut words, token_at(placed.item, used, lefts))?;
+        spellings.add_some(token_at(placed.item, used, lefts))?;
     }
-    Ok(words)
+    Ok(spellings)
 }

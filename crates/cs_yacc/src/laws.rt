@@ -1,9 +1,12 @@
 // Laws of reading.
 
-ghost use Rattle.std.specs.Prelude.{◌≡◌, ℕ, List};
+ghost use Rattle.std.specs.Prelude.{◌≡◌, ◌≤◌, ◌⊎◌, ℕ, List, length};
 ghost use Rattle.cs_yacc.specs.declared.error.YaccError.{YaccError};
+ghost use Rattle.cs_yacc_items.specs.Limits.{most_bytes};
 ghost use Rattle.cs_yacc.specs.File.{File};
-ghost use Rattle.cs_yacc.specs.Reading.{IsYaccFile, Refuses};
+ghost use Rattle.cs_yacc.specs.Reading.{IsYaccFile, Refuses, IsAccepted, IsRefused};
+
+use cs_yacc_items::read_or_stopped;
 
 /// Accepted bytes mean one file.
 pub fn one_file()
@@ -19,3 +22,11 @@ pub fn one_refusal()
 pub fn refused_is_not_accepted()
     ensures { (bytes : List ℕ) (f : File) (e : YaccError) → Refuses e bytes → IsYaccFile bytes f → ⊥ }
 {}
+
+/// Bytes are accepted or refused.
+pub fn accepted_or_refused(bytes: &[u8])
+    requires { length bytes.now ≤ most_bytes }
+    ensures { IsAccepted bytes.now ⊎ IsRefused bytes.now }
+{
+    read_or_stopped(bytes);
+}

@@ -1,33 +1,36 @@
 //! Yacc files, read exactly: the grammar of a file, and the names of its tokens and nonterminals.
 //!
 //! The layers above call `read_yacc` and go on with the `YaccFile`: its grammar is well formed, each of its numbers has a
-//! name, and all names differ. Which bytes are accepted, what file they mean and why others are refused stands in
-//! `specs/Reading`, over `specs/Meaning` and over the items and the table of `cs_yacc_items`; the laws say that a text has
-//! one reading and that no text is both accepted and refused.
+//! name, and all names differ.
+//!
+//! Meaning, in `specs/`: `Reading` (which bytes are accepted, what file they mean, and why others are refused) over
+//! `Meaning` (what the items mean), `File` and the definitions of `cs_yacc_items`; the laws say that bytes are accepted or
+//! refused, mean one file or have one error, and not both. `Errors`, `SpellingView`, `RuleView` and `PartsView` say what the
+//! code's values are; `Finding` and `TokenNumbers` are working words of the proofs.
 #![tactic(auto)]
 
+mod accepted;
 mod error;
 mod fault;
 mod file;
 mod gather;
 mod laws;
-mod meant;
+mod limit;
+mod meaning;
 mod name;
 mod number;
+mod parts;
 mod read;
 mod spelled;
+mod spelling;
 mod token_names;
-mod word;
 
 pub use cs_yacc_items::one_reading;
 pub use error::{YaccError, YaccLimit};
 pub use file::YaccFile;
-pub use laws::{one_file, one_refusal, refused_is_not_accepted};
+pub use laws::{accepted_or_refused, one_file, one_refusal, refused_is_not_accepted};
 pub use name::{Name, TokenName};
 pub use read::read_yacc;
 
 /// The most bytes of a yacc file.
 pub const MOST_BYTES: usize = cs_yacc_items::MOST_BYTES;
-
-#[cfg(test)]
-mod tests;

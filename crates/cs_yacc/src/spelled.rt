@@ -1,60 +1,58 @@
 // The rules, as the file spells them.
 
-ghost use Rattle.std.specs.Prelude.{◌≡◌, ◌++◌, ◌∷◌, [], filter, IfOk, OnOk, MatchOption, option_map};
-ghost use Rattle.cs_yacc_items.specs.Items.{items_of};
+ghost use Rattle.std.specs.Prelude.{◌≡◌, IfOk, OnOk};
 ghost use Rattle.cs_yacc.specs.Meaning as spec;
-ghost use Rattle.cs_yacc_items.specs.Views.{item_of, placed_all};
-ghost use Rattle.cs_yacc.specs.WordView.{word_of, words_of};
-ghost use Rattle.cs_yacc.specs.RuleView.{spelled_rules, opened, next_left};
+ghost use Rattle.cs_yacc_items.specs.Views.{item_of};
+ghost use Rattle.cs_yacc.specs.SpellingView.{spellings_of, items_in, left_of};
+ghost use Rattle.cs_yacc.specs.RuleView.{rules_in, next_left, GoesOn, AddsRule};
 
 use crate::gather::{begins_with_colon, behind, left_at};
-use crate::word::{Word, holds_error};
+use crate::spelling::{Spelling, holds_error};
 use cs_yacc_items::{Item, Placed};
 use std::alloc::{AllocError, Global};
 
 /// A left side and one of its bodies.
 #[derive(Debug, Drop)]
 pub struct SpelledRule<'a> {
-    pub left: Word<'a>,
-    pub right: Vec<Word<'a>>,
+    pub left: Spelling<'a>,
+    pub right: Vec<Spelling<'a>>,
 }
 
-/// The word that the item adds to its body; `None` where the body ends before the item.
-fn word_at<'a>(item: Item<'a>, behind: &[Placed<'a>]) -> Option<Word<'a>>
-    ensures { MatchOption result (spec.body (item_of item.entry ∷ items_of (placed_all behind.now)) ≡ [])
-        (λ w. spec.body (item_of item.entry ∷ items_of (placed_all behind.now)) ≡ word_of w ∷ spec.body (items_of (placed_all behind.now))) }
+/// The spelling that the item adds to its body; `None` where the body ends before the item.
+fn spelling_next<'a>(item: Item<'a>, behind: &[Placed<'a>]) -> Option<Spelling<'a>>
+    ensures { GoesOn result (item_of item.entry) (items_in behind.now) }
 {
     match item {
-        Item::Name(name) if !begins_with_colon(behind) => Some(Word::Named(name)),
-        Item::Literal(byte) => Some(Word::Quoted(byte)),
+        Item::Name(name) if !begins_with_colon(behind) => Some(Spelling::Named(name)),
+        Item::Literal(byte) => Some(Spelling::Quoted(byte)),
         _ => None,
     }
 }
 
-/// The words of the body that begins here.
-fn body<'a>(alloc: Global, items: &[Placed<'a>]) -> Result<Vec<Word<'a>>, AllocError>
-    ensures { IfOk result (λ v. words_of v.items ≡ spec.body (items_of (placed_all items.now))) }
+/// The spellings of the body that begins here.
+fn body<'a>(alloc: Global, items: &[Placed<'a>]) -> Result<Vec<Spelling<'a>>, AllocError>
+    ensures { IfOk result (λ v. spellings_of v.items ≡ spec.body (items_in items.now)) }
 {
-    let mut words = Vec::new(alloc);
+    let mut spellings = Vec::new(alloc);
     for (index, placed) in items.iter().enumerate() {
-        match word_at(placed.item, behind(items, index)) {
-            Some(word) => words.push(word)?,
-            None => return Ok(words),
+        match spelling_next(placed.item, behind(items, index)) {
+            Some(spelling) => spellings.push(spelling)?,
+            None => return Ok(spellings),
         }
     }
-    Ok(words)
+    Ok(spellings)
 }
 
 /// The left side of the bodies behind the item.
 fn left_behind<'a>(
-    left: Option<Word<'a>>,
+    left: Option<Spelling<'a>>,
     item: Item<'a>,
-    behind: &[Placed<'a>],
-) -> Option<Word<'a>>
-    ensures { option_map word_of result ≡ next_left (option_map word_of left.entry) (item_of item.entry) (items_of (placed_all behind.now)) }
+    rest: &[Placed<'a>],
+) -> Option<Spelling<'a>>
+    ensures { left_of result ≡ next_left (left_of left.entry) (item_of item.entry) (items_in rest.now) }
 {
-    match left_at(item, behind) {
-        Some(word) => Some(word),
+    match left_at(item, rest) {
+        Some(spelling) => Some(spelling),
         None => left,
     }
 }
@@ -63,11 +61,11 @@ fn left_behind<'a>(
 fn push_rule<'a>(
     alloc: Global,
     rules: &mut Vec<SpelledRule<'a>>,
-    left: Option<Word<'a>>,
+    left: Option<Spelling<'a>>,
     item: Item<'a>,
     behind: &[Placed<'a>],
 ) -> Result<(), AllocError>
-    ensures { OnOk result (spelled_rules rules.new.items ≡ spelled_rules rules.old.items ++ filter spec.is_kept (opened (option_map word_of left.entry) (item_of item.entry) (items_of (placed_all behind.now)))) }
+    ensures { OnOk result (AddsRule rules.old.items rules.new.items left.entry item.entry behind.now) }
 {
     match (left, item) {
         (Some(left), Item::Colon | Item::Bar) => {
@@ -82,11 +80,11 @@ fn push_rule<'a>(
 }
 
 /// The rules without those whose body holds `error`, in the file's order.
-pub fn spelled_rules<'a>(
+pub fn kept_rules<'a>(
     alloc: Global,
     items: &[Placed<'a>],
 ) -> Result<Vec<SpelledRule<'a>>, AllocError>
-    ensures { IfOk result (λ v. spelled_rules v.items ≡ spec.kept (items_of (placed_all items.now))) }
+    ensures { IfOk result (λ v. rules_in v.items ≡ spec.kept (items_in items.now)) }
 {
     let mut rules = Vec::new(alloc);
     let mut left = None;

@@ -1,10 +1,11 @@
 // The names of the tokens, found by number and by spelling.
 
-ghost use Rattle.std.specs.Prelude.{◌≡◌, ◌≢◌, ◌<◌, ◌+◌, ◌-◌, ◌^◌, ℕ, List, Some, None, IfOk, IfSome, IfNone, OnOk, length, slice_get, if◌then◌else◌};
-ghost use Rattle.cs_yacc.specs.Meaning.{same_word};
-ghost use Rattle.cs_yacc.specs.TokenNumbers.{number_at_word, number_at_byte, FindsWords, FindsBytes};
+ghost use Rattle.std.specs.Prelude.{◌≡◌, ◌<◌, ◌^◌, IfOk, IfSome, IfNone, OnOk, length};
+ghost use Rattle.cs_yacc.specs.File.{IsNamed, NoneNamed};
+ghost use Rattle.cs_yacc.specs.TokenNumbers.{FindsWords, FindsBytes, PutsWord, PutsByte};
 
 use crate::name::TokenName;
+use cs_grammar::number_of;
 use indexmap::IndexMap;
 use std::alloc::{AllocError, Global};
 use std::marker::Model;
@@ -59,16 +60,16 @@ impl TokenNames {
 
     /// The token of the name; `None` where no token has it.
     pub fn word(&self, name: &[u8]) -> Option<u16>
-        ensures found { IfSome result (λ t. (0 < t) × (slice_get self.now (t - 1) ≡ Some (TokenName.Word name.now))) }
-        ensures none { IfNone result ((k : ℕ) → slice_get self.now k ≢ Some (TokenName.Word name.now)) }
+        ensures found { IfSome result (λ t. IsNamed self.now t (TokenName.Word name.now)) }
+        ensures none { IfNone result (NoneNamed self.now (TokenName.Word name.now)) }
     {
         self.words.get(name).copied()
     }
 
     /// The token of the literal; `None` where no token has it.
     pub fn literal(&self, byte: u8) -> Option<u16>
-        ensures found { IfSome result (λ t. (0 < t) × (slice_get self.now (t - 1) ≡ Some (TokenName.Byte byte))) }
-        ensures none { IfNone result ((k : ℕ) → slice_get self.now k ≢ Some (TokenName.Byte byte)) }
+        ensures found { IfSome result (λ t. IsNamed self.now t (TokenName.Byte byte)) }
+        ensures none { IfNone result (NoneNamed self.now (TokenName.Byte byte)) }
     {
         self.literals.get(&byte).copied()
     }
@@ -81,7 +82,7 @@ fn add_word(
     name: &TokenName,
     number: u16,
 ) -> Result<(), AllocError>
-    ensures { OnOk result ((w : List ℕ) → number_at_word words.new.entries w ≡ (if same_word (TokenName.Word w) name.now then Some number else number_at_word words.old.entries w)) }
+    ensures { OnOk result (PutsWord words.new.entries words.old.entries name.now number) }
 {
     match name {
         TokenName::Word(word) => {
@@ -94,7 +95,7 @@ fn add_word(
 
 /// Puts the number at the name, if it is a literal.
 fn add_literal(literals: &mut Literals, name: &TokenName, number: u16) -> Result<(), AllocError>
-    ensures { OnOk result ((b : ℕ) → number_at_byte literals.new.entries b ≡ (if same_word (TokenName.Byte b) name.now then Some number else number_at_byte literals.old.entries b)) }
+    ensures { OnOk result (PutsByte literals.new.entries literals.old.entries name.now number) }
 {
     match name {
         TokenName::Word(_) => Ok(()),
@@ -111,7 +112,7 @@ fn words(alloc: Global, names: &[TokenName]) -> Result<Words, AllocError>
 {
     let mut words = IndexMap::new(alloc);
     for (index, name) in names.iter().enumerate() {
-        add_word(alloc, &mut words, name, index as u16 + 1)?;
+        add_word(alloc, &mut words, name, number_of(index))?;
     }
     Ok(words)
 }
@@ -122,7 +123,7 @@ fn literals(alloc: Global, names: &[TokenName]) -> Result<Literals, AllocError>
 {
     let mut literals = IndexMap::new(alloc);
     for (index, name) in names.iter().enumerate() {
-        add_literal(&mut literals, name, index as u16 + 1)?;
+        add_literal(&mut literals, name, number_of(index))?;
     }
     Ok(literals)
 }

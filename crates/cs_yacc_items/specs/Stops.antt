@@ -11,10 +11,23 @@ use Rattle.cs_yacc_items.specs.Views.{placed_all}
 abbrev pub StopsThere : List ℕ → ℕ → Type 0
 StopsThere bytes at = (items : List Placed) × StopsAt bytes items at
 
+-- Reading of items stops with this error. Want of memory stops nothing.
+abbrev pub StopsFor : List ℕ → ItemsError → Type 0
+StopsFor bytes (BadItem at) = StopsThere bytes at × BeginsNeither (drop at bytes)
+StopsFor bytes (Unended at) = StopsThere bytes at × IsOpen (drop at bytes)
+StopsFor bytes (UnknownDirective at) = StopsThere bytes at × BeginsUnknown (drop at bytes)
+StopsFor bytes Memory = ⊥
+
 -- the items of the bytes, or why reading of items stops; memory may run out
 abbrev pub AnswersItems : List ℕ → Result (Vec held.Placed) ItemsError → Type 0
 AnswersItems bytes (Ok v) = Reads bytes (placed_all v.items)
-AnswersItems bytes (Err (BadItem at)) = StopsThere bytes at × BeginsNeither (drop at bytes)
-AnswersItems bytes (Err (Unended at)) = StopsThere bytes at × IsOpen (drop at bytes)
-AnswersItems bytes (Err (UnknownDirective at)) = StopsThere bytes at × BeginsUnknown (drop at bytes)
 AnswersItems bytes (Err Memory) = Unit {0}
+AnswersItems bytes (Err error) = StopsFor bytes error
+
+-- the bytes are read into items
+abbrev pub IsRead : List ℕ → Type 0
+IsRead bytes = (items : List Placed) × Reads bytes items
+
+-- reading of items stops
+abbrev pub IsStopped : List ℕ → Type 0
+IsStopped bytes = (error : ItemsError) × StopsFor bytes error

@@ -1,10 +1,10 @@
 // Reading a text item by item.
 
-ghost use Rattle.std.specs.Prelude.{◌≡◌, ◌≤◌, ◌<◌, length};
+ghost use Rattle.std.specs.Prelude.{◌≡◌, ◌≤◌, ◌<◌, ◌⊎◌, length};
 ghost use Rattle.cs_yacc_items.specs.Items as spec;
 ghost use Rattle.cs_yacc_items.specs.Limits.{most_bytes};
 ghost use Rattle.cs_yacc_items.specs.Finds.{IsNext};
-ghost use Rattle.cs_yacc_items.specs.Stops.{AnswersItems};
+ghost use Rattle.cs_yacc_items.specs.Stops.{AnswersItems, IsRead, IsStopped};
 ghost use Rattle.cs_yacc_items.specs.Views.{item_of};
 
 use crate::error::ItemsError;
@@ -79,4 +79,24 @@ pub fn read_items(alloc: Global, bytes: &[u8]) -> Result<Vec<Placed<'_>>, ItemsE
         }
     }
     Ok(items)
+}
+
+/// Bytes are read into items, or reading stops: a law, which takes no memory.
+pub fn read_or_stopped(bytes: &[u8])
+    requires { length bytes.now ≤ most_bytes }
+    ensures { IsRead bytes.now ⊎ IsStopped bytes.now }
+{
+    let mut text = CText::new(bytes);
+    let mut from = 0;
+    let mut marks = 0;
+    while marks < 2 {
+        match next_item(&mut text, from) {
+            Next::Item { placed, end } => {
+                from = end;
+                marks = marks_behind(marks, placed.item);
+            }
+            Next::End => return,
+            Next::Stop(_) => return,
+        }
+    }
 }

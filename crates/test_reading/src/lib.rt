@@ -6,4 +6,8 @@ mod bytes;
 #[cfg(test)]
 mod c_text;
 #[cfg(test)]
+mod hostile;
+#[cfg(test)]
+mod yacc;
+#[cfg(test)]
 mod yacc_items;

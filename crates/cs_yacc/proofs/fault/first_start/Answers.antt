@@ -1,12 +1,12 @@
 use Rattle.cs_yacc.specs.Meaning.{is_start}
-use Rattle.cs_yacc.proofs.Loops.{passes_not, passes, first_none}
+use Rattle.cs_yacc.proofs.Loops.{first_more, first_found, first_none, no_item}
 use Rattle.cs_yacc.proofs.fault.first_start.Goals as goal
 
-pub loop-index-preserved : goal.loop-index-preserved
-loop-index-preserved c = passes_not is_start c.args.items.now _ c.loop-index.index _ _ c.loop-index.invariant c.loop-index-test.true c.behind.ensures c.is_start.ensures c.if-is_start.false
+pub loop-placed-preserved : goal.loop-placed-preserved
+loop-placed-preserved c = first_more (λ i _. is_start i) c.args.items.now _ c.loop-placed.placed-index no_item _ c.loop-placed.invariant c.loop-placed-test.true c.is_start.ensures c.if-is_start.false
 
 pub returns-then-is_start : goal.returns-then-is_start
-returns-then-is_start c = passes is_start c.args.items.now _ c.loop-index.index _ _ c.loop-index.invariant c.loop-index-test.true c.behind.ensures c.is_start.ensures c.if-is_start.true
+returns-then-is_start c = first_found (λ i _. is_start i) c.args.items.now _ c.loop-placed.placed-index no_item _ c.loop-placed.invariant c.loop-placed-test.true c.is_start.ensures c.if-is_start.true
 
 pub returns : goal.returns
-returns c = first_none is_start c.args.items.now _ c.loop-index.index c.loop-index.invariant c.loop-index-test.false
+returns c = first_none (λ i _. is_start i) c.args.items.now _ c.loop-placed.placed-index c.loop-placed.invariant c.loop-placed-test.false

@@ -1,0 +1,12 @@
+use Rattle.std.specs.Prelude.{option_map}
+use Rattle.cs_yacc_items.specs.Items.{items_of}
+use Rattle.cs_yacc.specs.Meaning.{kept}
+use Rattle.cs_yacc_items.specs.Views.{placed_all}
+use Rattle.cs_yacc.specs.SpellingView.{spelling_of}
+use Rattle.cs_yacc.specs.RuleView.{rules_in}
+use Rattle.cs_yacc.proofs.Loops.{rest_at}
+use Rattle.cs_yacc.proofs.RuleLoop.{HasRules}
+use Rattle.cs_yacc.proofs.spelled.kept_rules.Given as goal
+
+abbrev pub invariant-loop-index : goal.invariant-loop-index
+invariant-loop-index l = HasRules (rules_in l.rules.items) (option_map spelling_of l.left) (rest_at l.items l.index) (kept (items_of (placed_all l.items)))

@@ -1,0 +1,13 @@
+// Parts within the limits.
+
+ghost use Rattle.std.specs.Prelude.{◌≤◌, length};
+
+use crate::parts::Parts;
+
+/// Parts with at most 512 tokens and 1,024 nonterminals, so that each has a number.
+#[derive(Drop)]
+pub struct Accepted<'p, 'a> {
+    pub parts: &'p Parts<'a>,
+    ghost few_tokens: { length parts.now.tokens ≤ 512 },
+    ghost few_lefts: { length parts.now.lefts ≤ 1024 },
+}

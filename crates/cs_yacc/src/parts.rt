@@ -1,0 +1,22 @@
+// What the items of a file give before its symbols are numbered.
+
+ghost use Rattle.std.specs.Prelude.{◌^◌, ◌<◌, length};
+ghost use Rattle.std.specs.List.{All};
+ghost use Rattle.cs_yacc.specs.RuleView.{rules_in};
+
+use crate::spelled::SpelledRule;
+use crate::spelling::Spellings;
+use cs_yacc_items::Placed;
+
+/// The tokens in use, the left sides, the item that names the start symbol, if one does, and the rules.
+#[derive(Drop)]
+pub struct Parts<'a> {
+    pub tokens: Spellings<'a>,
+    pub lefts: Spellings<'a>,
+    pub start: Option<Placed<'a>>,
+    pub rules: Vec<SpelledRule<'a>>,
+    ghost few_tokens: { length tokens < 2 ^ 32 },
+    ghost few_lefts: { length lefts < 2 ^ 32 },
+    ghost few_rules: { length rules.items < 2 ^ 32 },
+    ghost short: { All (λ r. length r.right < 2 ^ 32) (rules_in rules.items) },
+}

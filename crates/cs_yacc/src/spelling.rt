@@ -1,0 +1,116 @@
+// Spellings of symbols, and lists in which each stands once.
+
+ghost use Rattle.std.specs.Prelude.{◌≡◌, ◌+◌, ◌^◌, ◌<◌, [], OnOk, length};
+ghost use Rattle.cs_yacc.specs.Meaning as spec;
+ghost use Rattle.cs_yacc_items.specs.Views.{item_of};
+ghost use Rattle.cs_yacc.specs.SpellingView.{spelling_of, spellings_of, spellings_in, and_one, and_all};
+
+use cs_grammar::number_of;
+use cs_yacc_items::Item;
+use indexmap::IndexSet;
+use std::alloc::{AllocError, Global};
+use std::marker::Model;
+
+/// A name or a byte between quotes, in the bytes of the file.
+#[derive(Clone, Copy, Debug, PartialEq, Eq, Hash)]
+pub enum Spelling<'a> {
+    Named(&'a [u8]),
+    Quoted(u8),
+}
+
+/// The spelling of the item, if it has one.
+pub fn spelling_at(item: Item<'_>) -> Option<Spelling<'_>>
+    ensures { spellings_in result ≡ spec.spelling_at (item_of item.entry) }
+{
+    match item {
+        Item::Name(name) => Some(Spelling::Named(name)),
+        Item::Literal(byte) => Some(Spelling::Quoted(byte)),
+        _ => None,
+    }
+}
+
+/// Whether the spellings hold the name `error`.
+pub fn holds_error(spellings: &[Spelling<'_>]) -> bool
+    ensures { result ≡ spec.has_spelling (spellings_of spellings.now) spec.error_spelling }
+{
+    for spelling in spellings {
+        if *spelling == Spelling::Named(b"error") {
+            return true;
+        }
+    }
+    false
+}
+
+/// Spellings, each once, in the order in which they came. Contracts see them as a list of names.
+#[derive(Debug, Drop)]
+pub struct Spellings<'a> {
+    set: IndexSet<Spelling<'a>>,
+}
+
+impl<'a> Model for Spellings<'a> {
+    ghost use Rattle.std.specs.Prelude.{List};
+    ghost use Rattle.cs_yacc.specs.declared.name.TokenName.{TokenName};
+
+    ghost Value = { List TokenName };
+
+    ghost use Rattle.cs_yacc.specs.SpellingView.{spellings_of};
+
+    ghost view = { λ s. spellings_of s.set.keys };
+}
+
+impl<'a> Spellings<'a> {
+    /// No spellings.
+    pub fn new(alloc: Global) -> Self
+        ensures { result ≡ [] }
+    {
+        Spellings {
+            set: IndexSet::new(alloc),
+        }
+    }
+
+    /// Puts the spelling last, if it is missing.
+    pub fn add(&mut self, spelling: Spelling<'a>) -> Result<(), AllocError>
+        ensures { OnOk result (self.new ≡ and_one self.old (spelling_of spelling.entry)) }
+    {
+        self.set.insert(spelling)?;
+        Ok(())
+    }
+
+    /// Puts the spelling last, if there is one and it is missing.
+    pub fn add_some(&mut self, spelling: Option<Spelling<'a>>) -> Result<(), AllocError>
+        ensures { OnOk result (self.new ≡ and_all self.old (spellings_in spelling.entry)) }
+    {
+        match spelling {
+            Some(spelling) => self.add(spelling),
+            None => Ok(()),
+        }
+    }
+
+    pub fn has(&self, spelling: Spelling<'_>) -> bool
+        ensures { result ≡ spec.has_spelling self.now (spelling_of spelling.entry) }
+    {
+        self.set.contains(&spelling)
+    }
+
+    /// The number of the spelling, from 1; one above all where it is none of them.
+    pub fn number(&self, spelling: Spelling<'_>) -> u16
+        requires { length self.now + 1 < 2 ^ 16 }
+        ensures { result ≡ spec.number_in self.now (spelling_of spelling.entry) }
+    {
+        let place = self.set.get_index_of(&spelling);
+        number_of(place.unwrap_or(self.set.len()))
+    }
+
+    pub fn len(&self) -> usize
+        ensures { result ≡ length self.now }
+    {
+        self.set.len()
+    }
+
+    /// The spellings in their order.
+    pub fn as_slice(&self) -> &[Spelling<'a>]
+        ensures { spellings_of result.now ≡ self.now }
+    {
+        self.set.as_slice()
+    }
+}

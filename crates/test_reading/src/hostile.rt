@@ -1,0 +1,54 @@
+//! Texts of a mebibyte that are made to be slow: each is read in time linear in its size.
+//!
+//! What they give is worked by hand: where the first fault stands, or that there is none.
+
+use cs_yacc::{MOST_BYTES, YaccError, read_yacc};
+use std::alloc::{AllocError, Global};
+use std::test::Fail;
+
+/// The front, and then the piece as often as it fits into the most bytes.
+fn repeated(alloc: Global, front: &str, piece: &str) -> Result<String, AllocError> {
+    let mut text = String::from_str(alloc, front)?;
+    for _ in 0..MOST_BYTES {
+        if text.len() + piece.len() > MOST_BYTES {
+            return Ok(text);
+        }
+        text.push_str(piece)?;
+    }
+    Ok(text)
+}
+
+#[test]
+fn hostile_texts(rt: HostRuntime) -> Result<(), Fail> {
+    let rows = [
+        ("%% s : {", "\\'", YaccError::Unended { at: 7 }),
+        ("%% s : {", "\\\"\\'", YaccError::Unended { at: 7 }),
+        ("%% s : ", "{", YaccError::Unended { at: 7 }),
+        ("%% s : ", "/*", YaccError::Unended { at: 7 }),
+        ("%{", "%", YaccError::Unended { at: 0 }),
+        ("%% s", "\ns", YaccError::Syntax { at: 5 }),
+        ("%% s : ", "<", YaccError::BadItem { at: 7 }),
+        ("%% s : '", "\\", YaccError::BadItem { at: 7 }),
+    ];
+    for (front, piece, want) in rows {
+        let text = repeated(rt.alloc(), front, piece)?;
+        assert!(rt; text.len() <= MOST_BYTES);
+        assert_eq!(rt;
+            read_yacc(rt.alloc(), text.as_bytes()).err(),
+            Some(want),
+            "{front}{piece}"
+        );
+    }
+    Ok(())
+}
+
+#[test]
+fn blocks_of_one_line(rt: HostRuntime) -> Result<(), Fail> {
+    let text = repeated(rt.alloc(), "%% s : ", "{\\'}")?;
+    assert!(rt; text.len() <= MOST_BYTES);
+    let file = read_yacc(rt.alloc(), text.as_bytes())
+        .ok()
+        .ok_or("accepted")?;
+    assert_eq!(rt; file.grammar().rules().len(), 1);
+    Ok(())
+}

@@ -1,0 +1,290 @@
+//! Files and what they mean, worked by hand from the grammar file of POSIX yacc.
+
+ghost use Rattle.std.specs.Prelude.{◌≤◌, length};
+ghost use Rattle.cs_yacc_items.specs.Limits.{most_bytes};
+
+use cs_grammar::{Rule, Symbol};
+use cs_yacc::{MOST_BYTES, TokenName, YaccError, YaccLimit, read_yacc};
+use std::alloc::{AllocError, Global};
+use std::test::Fail;
+
+// e : e '+' t | t ;  t : NUM | '(' e ')' ;  with NUM 1, '+' 2, '(' 3, ')' 4, e 1, t 2.
+const SUMS: &[u8] = b"%token NUM\n%%\ne : e '+' t | t ;\nt : NUM | '(' e ')' ;\n";
+
+fn is_rule(rule: &Rule, left: u16, right: &[Symbol]) -> bool {
+    rule.left() == left && rule.right() == right
+}
+
+#[test]
+fn grammar_of_sums(rt: HostRuntime) -> Result<(), Fail> {
+    let file = read_yacc(rt.alloc(), SUMS).ok().ok_or("plain")?;
+    let grammar = file.grammar();
+    let e = Symbol::Nonterminal(1);
+    let t = Symbol::Nonterminal(2);
+    assert_eq!(rt;
+        (grammar.tokens(), grammar.nonterminals(), grammar.start()),
+        (4, 2, 1)
+    );
+    let [first, second, third, fourth] = grammar.rules() else {
+        return Err("four rules".into());
+    };
+    assert!(rt; is_rule(first, 1, &[e, Symbol::Token(2), t]));
+    assert!(rt; is_rule(second, 1, &[t]));
+    assert!(rt; is_rule(third, 2, &[Symbol::Token(1)]));
+    assert!(rt; is_rule(fourth, 2, &[Symbol::Token(3), e, Symbol::Token(4)]));
+    Ok(())
+}
+
+#[test]
+fn names_of_sums(rt: HostRuntime) -> Result<(), Fail> {
+    let file = read_yacc(rt.alloc(), SUMS).ok().ok_or("plain")?;
+    let [
+        TokenName::Word(number),
+        TokenName::Byte(b'+'),
+        TokenName::Byte(b'('),
+        TokenName::Byte(b')'),
+    ] = file.token_names()
+    else {
+        return Err("four tokens".into());
+    };
+    assert_eq!(rt; number.bytes(), b"NUM".as_slice());
+    let [e, t] = file.nonterminal_names() else {
+        return Err("two nonterminals".into());
+    };
+    assert_eq!(rt; e.bytes(), b"e".as_slice());
+    assert_eq!(rt; t.bytes(), b"t".as_slice());
+    Ok(())
+}
+
+// How many tokens, nonterminals and rules the text has.
+fn counts(alloc: Global, text: &[u8]) -> Result<(u16, u16, usize), YaccError>
+    requires { length text.now ≤ most_bytes }
+{
+    let file = read_yacc(alloc, text)?;
+    let grammar = file.grammar();
+    Ok((
+        grammar.tokens(),
+        grammar.nonterminals(),
+        grammar.rules().len(),
+    ))
+}
+
+#[test]
+fn texts_at_the_edges(rt: HostRuntime) {
+    let cases: [(&[u8], Result<(u16, u16, usize), YaccError>); 17] = [
+        (b"%%\ns : t ;", Err(YaccError::Undefined { at: 7 })),
+        (b"%%\ns : { x } ;", Ok((0, 1, 1))),
+        (b"%%s:||;", Ok((0, 1, 3))),
+        (b"%%\ns : ' ' '\x7F' ;", Ok((2, 1, 1))),
+        (b"%token A A\n%token A\n%%\ns : A ;", Ok((1, 1, 1))),
+        (
+            b"%token A\n%%\ns : a A b ;",
+            Err(YaccError::Undefined { at: 16 }),
+        ),
+        (b"%%\ns : error ;", Ok((0, 1, 0))),
+        (b"%%\ns : 'a'", Ok((1, 1, 1))),
+        (b"%%\na : b b : 'x'", Ok((1, 2, 2))),
+        (b"%%\na : 'x' ; | 'y' ;", Ok((2, 1, 2))),
+        (b"%%\ns : 'x' | error ';' ;", Ok((1, 1, 1))),
+        (b"%%\ns : ; %% 'open", Ok((0, 1, 1))),
+        (b"%token A\r\n%%\r\ns : A\r\n | s A ;\r\n", Ok((1, 1, 2))),
+        (
+            b"%left <t> '+' 300, '-' 301\n%right <t> NEG 302\n%%\ns : '-' s %prec NEG | s '+' s | 'x' ;",
+            Ok((3, 1, 3)),
+        ),
+        (b"%%\ns : { a(); } 'x' { b(); } t\nt : 'y'", Ok((2, 2, 2))),
+        (
+            b"/* a */ %token // b\nA /* c */ %% /* d */ s /* e */ : /* f */ A // g\n; /* h */",
+            Ok((1, 1, 1)),
+        ),
+        (
+            b"%{ \"%}\" %}\n%%\ns : ;",
+            Err(YaccError::BadItem { at: 6 }),
+        ),
+    ];
+    for (text, want) in cases {
+        assert!(rt; text.len() <= MOST_BYTES);
+        assert_eq!(rt; counts(rt.alloc(), text), want, "{text:?}");
+    }
+}
+
+#[test]
+fn refusals_by_place(rt: HostRuntime) {
+    let cases: [(&[u8], YaccError); 10] = [
+        (b"", YaccError::Syntax { at: 0 }),
+        (b"%%\na : 'x' ; b\n", YaccError::Syntax { at: 15 }),
+        (
+            b"%token A B\n%%\nA : 'x' ;",
+            YaccError::TokenOnLeft { at: 14 },
+        ),
+        (b"%%\nerror : 'x' ;", YaccError::TokenOnLeft { at: 3 }),
+        (
+            b"%start s\n%start t\n%%\ns : ;",
+            YaccError::SecondStart { at: 9 },
+        ),
+        (
+            b"%start t\n%%\ns : 'x' ;",
+            YaccError::StartNotNonterminal { at: 7 },
+        ),
+        (b"%code {x}", YaccError::UnknownDirective { at: 0 }),
+        (b"%%\na : \"x\" ;", YaccError::BadItem { at: 7 }),
+        (
+            b"%token NUM\n%%\ne : e '+' t | t ; t : NUM { x",
+            YaccError::Unended { at: 40 },
+        ),
+        (
+            b"%token\n%%\ns : t ; %- ",
+            YaccError::UnknownDirective { at: 18 },
+        ),
+    ];
+    for (text, want) in cases {
+        assert!(rt; text.len() <= MOST_BYTES);
+        assert_eq!(rt; counts(rt.alloc(), text).err(), Some(want), "{text:?}");
+    }
+}
+
+// A file as people write them.
+const CALCULATOR: &[u8] =
+    b"%{\n#include \"x.h\" /* 1 */\n%}\r\n%union { struct { int a; } b; char c; }\n\
+%token <b> NUM 258, NAME /* names */ ';'\n%left '+' '-' // low\n%right NEG 300\n%type <b> line term\n\
+%expect 1\n%start line\n;\n%%\nextra : NAME\nline // all\n : term { $$ = $1; /* } */ } term '\\n'\n | error ';'\n | %empty\n ;\n\
+term : '-' term %prec NEG { c = '}'; }\n | NUM\n%%\nint main() { return 'a; }\n";
+
+#[test]
+fn file_as_people_write_it(rt: HostRuntime) -> Result<(), Fail> {
+    assert!(rt; CALCULATOR.len() <= MOST_BYTES);
+    let file = read_yacc(rt.alloc(), CALCULATOR).ok().ok_or("accepted")?;
+    let grammar = file.grammar();
+    let term = Symbol::Nonterminal(3);
+    // NUM 1, NAME 2, '-' 3, newline 4; extra 1, line 2, term 3.
+    assert_eq!(rt;
+        (grammar.tokens(), grammar.nonterminals(), grammar.start()),
+        (4, 3, 2)
+    );
+    let [extra, line, empty, minus, number] = grammar.rules() else {
+        return Err("five rules".into());
+    };
+    assert!(rt; is_rule(extra, 1, &[Symbol::Token(2)]));
+    assert!(rt; is_rule(line, 2, &[term, term, Symbol::Token(4)]));
+    assert!(rt; is_rule(empty, 2, &[]));
+    assert!(rt; is_rule(minus, 3, &[Symbol::Token(3), term]));
+    assert!(rt; is_rule(number, 3, &[Symbol::Token(1)]));
+    Ok(())
+}
+
+#[test]
+fn spellings_of_one_byte(rt: HostRuntime) -> Result<(), Fail> {
+    let file = read_yacc(rt.alloc(), b"%%\ns : '\\n' '\\12' '\\x0a' ;")
+        .ok()
+        .ok_or("accepted")?;
+    let newline = Symbol::Token(1);
+    let [rule] = file.grammar().rules() else {
+        return Err("one rule".into());
+    };
+    assert!(rt; is_rule(rule, 1, &[newline, newline, newline]));
+    let [TokenName::Byte(10)] = file.token_names() else {
+        return Err("one token".into());
+    };
+    Ok(())
+}
+
+// NUM 1, ID 2, '+' 3, newline 4; UNUSED stands in no rule, '!' only in one that isn't kept.
+const LOOKED_UP: &[u8] =
+    b"%token NUM ID UNUSED '?'\n%%\ne : e '+' NUM | ID '\\n' | '\\12' | error '!' ;\n";
+
+#[test]
+fn tokens_by_name(rt: HostRuntime) -> Result<(), Fail> {
+    let file = read_yacc(rt.alloc(), LOOKED_UP).ok().ok_or("accepted")?;
+    let words: [(&[u8], Option<u16>); 8] = [
+        (b"NUM", Some(1)),
+        (b"ID", Some(2)),
+        (b"UNUSED", None),
+        (b"e", None),
+        (b"error", None),
+        (b"+", None),
+        (b"NU", None),
+        (b"", None),
+    ];
+    for (name, want) in words {
+        assert_eq!(rt; file.token(name), want, "{name:?}");
+    }
+    for (byte, want) in [
+        (b'+', Some(3)),
+        (b'\n', Some(4)),
+        (b'!', None),
+        (b'?', None),
+    ] {
+        assert_eq!(rt; file.literal(byte), want, "{byte}");
+    }
+    Ok(())
+}
+
+// The front, the piece so many times, and the end.
+fn repeated(
+    alloc: Global,
+    front: &str,
+    piece: &str,
+    times: u16,
+    end: &str,
+) -> Result<String, AllocError> {
+    let mut text = String::from_str(alloc, front)?;
+    for _ in 0..times {
+        text.push_str(piece)?;
+    }
+    text.push_str(end)?;
+    Ok(text)
+}
+
+// The front, the piece with each number below the count, and the end.
+fn counted(
+    alloc: Global,
+    front: &str,
+    piece: &str,
+    count: u16,
+    end: &str,
+) -> Result<String, AllocError> {
+    let mut text = String::from_str(alloc, front)?;
+    for number in 0..count {
+        text.push_str(format!(in alloc; "{piece}{number}")?.as_str())?;
+    }
+    text.push_str(end)?;
+    Ok(text)
+}
+
+// A text with so many of these and one more.
+fn text_with(alloc: Global, which: YaccLimit, count: u16) -> Result<String, AllocError> {
+    match which {
+        YaccLimit::Tokens => {
+            let mut text = counted(alloc, "%token T", " T", count, " %% s : T")?;
+            text.push_str(counted(alloc, "", " | T", count, " ;")?.as_str())?;
+            Ok(text)
+        }
+        YaccLimit::Nonterminals => counted(alloc, "%% s", " : ; n", count, " : ;"),
+        YaccLimit::Rules => repeated(alloc, "%% s :", " |", count, " ;"),
+        YaccLimit::RightSide => repeated(alloc, "%% s : 'x'", " 'x'", count, " ;"),
+    }
+}
+
+#[test]
+fn limits(rt: HostRuntime) -> Result<(), Fail> {
+    let cases: [(YaccLimit, u16); 4] = [
+        (YaccLimit::Tokens, 512),
+        (YaccLimit::Nonterminals, 1024),
+        (YaccLimit::Rules, 8192),
+        (YaccLimit::RightSide, 128),
+    ];
+    for (which, most) in cases {
+        let fits = text_with(rt.alloc(), which, most - 1)?;
+        let above = text_with(rt.alloc(), which, most)?;
+        assert!(rt; fits.len() <= MOST_BYTES && above.len() <= MOST_BYTES);
+        let most = u32::from(most);
+        let want = YaccError::Limit {
+            which,
+            found: most + 1,
+            most,
+        };
+        assert!(rt; counts(rt.alloc(), fits.as_bytes()).is_ok(), "{which:?}");
+        assert_eq!(rt; counts(rt.alloc(), above.as_bytes()).err(), Some(want));
+    }
+    Ok(())
+}
