@@ -1,0 +1,13 @@
+//! Tests of the layers of trees by their public calls alone: grammars, goals, least trees, least ways, least contexts.
+#![tactic(auto)]
+
+#[cfg(test)]
+mod contexts;
+#[cfg(test)]
+mod costs;
+#[cfg(test)]
+mod derivations;
+#[cfg(test)]
+mod goals;
+#[cfg(test)]
+mod ways;
