@@ -12,8 +12,8 @@ abbrev pub stream_faults : {W : Type 0} → StreamSink W → ℕ
 stream_faults sink = sink.faults
 
 -- where it is known what the writer holds, this grew by the bytes
-abbrev pub WriterAppends : {W : Type 0} → (W → Option (List ℕ)) → StreamSink W → StreamSink W → List ℕ → Type 0
-WriterAppends contents old new bytes = Appends (contents (stream_writer old)) (contents (stream_writer new)) bytes
+abbrev pub WriterGrew : {W : Type 0} → (W → Option (List ℕ)) → StreamSink W → StreamSink W → List ℕ → Type 0
+WriterGrew contents old new bytes = Appends (contents (stream_writer old)) (contents (stream_writer new)) bytes
 
 -- where it is known what the writer holds, this stayed
 abbrev pub WriterKeeps : {W : Type 0} → (W → Option (List ℕ)) → StreamSink W → StreamSink W → Type 0

@@ -27,7 +27,7 @@ impl<W: Write> StreamSink<W> {
 }
 
 impl<W: Write> Sink for StreamSink<W> {
-    ghost use Rattle.cs_io.specs.StreamSink.{WriterAppends, WriterKeeps, stream_faults};
+    ghost use Rattle.cs_io.specs.StreamSink.{WriterGrew, WriterKeeps, stream_faults};
 
     ghost written = { λ _. None };
 
@@ -42,7 +42,7 @@ impl<W: Write> Sink for StreamSink<W> {
 
         // What the writer holds, where it is known.
         ensures ok { IfOk result (λ count.
-            WriterAppends W.contents self.old self.new (take count piece.now)) }
+            WriterGrew W.contents self.old self.new (take count piece.now)) }
         ensures err { OnErr result (WriterKeeps W.contents self.old self.new) }
 
         ensures fault { OnErr result

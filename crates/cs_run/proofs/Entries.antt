@@ -3,7 +3,8 @@ use Rattle.std.proofs.Common.{◌≡◌, ℕ, true, false, List, [], ◌∷◌, 
 use Rattle.std.specs.Prelude.{All}
 use Rattle.std.specs.List.{Contains}
 use Rattle.std.proofs.lemmas.List.Elements.{All-nil, All-cons}
-use Rattle.cs_grammar.specs.Grammar.{PlainGrammar, IsNumberOf, IsGrammar}
+use Rattle.cs_grammar.specs.Grammar.{IsNumberOf, IsGrammar}
+use Rattle.cs_grammar.specs.Weights.{Measure, Weighed, weighed}
 use Rattle.cs_grammar.proofs.Measures.{IsNumberOf-IsYield}
 use Rattle.cs_goals.specs.declared.goal.Goal.{Goal}
 use Rattle.cs_goals.specs.declared.goal.Goal.TheVariants.{Rule, Context, Pair}
@@ -12,6 +13,7 @@ use Rattle.cs_goals.specs.Goal.{IsGoal, IsWanted}
 use Rattle.cs_goals.specs.Goals.{goals, rule_goals}
 use Rattle.cs_goals.proofs.Members.{Among-right, Contains-from_Among}
 use Rattle.cs_goals.proofs.Once.{all}
+use Rattle.cs_positive.specs.Verdict.{IsTreeGoal}
 use Rattle.cs_positive.specs.declared.verdict.Verdict.{Verdict}
 use Rattle.cs_positive.specs.declared.verdict.Verdict.TheVariants.{Feasible, Infeasible, Large}
 use Rattle.cs_yacc.specs.File.{File, IsFile}
@@ -23,65 +25,72 @@ abbrev pub by_rules : Criteria
 by_rules = record { rule = true; cdrc = false; pair = false }
 
 -- the entries of the first goals, where these are left
-pub record FirstEntries (g : PlainGrammar) (left : List Goal) (entries : List Entry) : Type 0 where
+pub record FirstEntries (of : Weighed) (left : List Goal) (entries : List Entry) : Type 0 where
   pub done : List Goal
-  pub each : EntriesOf g done entries
-  pub whole : goals g by_rules ≡ done ++ left
+  pub each : EntriesOf of done entries
+  pub whole : goals of.grammar by_rules ≡ done ++ left
 
-pub FirstEntries-none : (g : PlainGrammar) (left : List Goal) (entries : List Entry) → left ≡ goals g by_rules → entries ≡ [] → FirstEntries g left entries
-FirstEntries-none g left entries all none = record { done = []; each = subst (EntriesOf g []) (sym none) tt; whole = sym all }
+pub FirstEntries-none : (of : Weighed) (left : List Goal) (entries : List Entry) → left ≡ goals of.grammar by_rules → entries ≡ [] → FirstEntries of left entries
+FirstEntries-none of left entries all none = record { done = []; each = subst (EntriesOf of []) (sym none) tt; whole = sym all }
 
-EntriesOf-push : (g : PlainGrammar) (goals : List Goal) (entries : List Entry) (goal : Goal) (entry : Entry) → EntriesOf g goals entries → IsEntryOf g goal entry → EntriesOf g (goals ++ goal ∷ []) (entries ++ entry ∷ [])
-EntriesOf-push g [] [] goal entry each last = (last, tt)
-EntriesOf-push g (first ∷ goals) (e ∷ entries) goal entry each last = (each.0, EntriesOf-push g goals entries goal entry each.1 last)
-EntriesOf-push g [] (e ∷ entries) goal entry each last = absurd each
-EntriesOf-push g (first ∷ goals) [] goal entry each last = absurd each
+EntriesOf-push : (of : Weighed) (goals : List Goal) (entries : List Entry) (goal : Goal) (entry : Entry) → EntriesOf of goals entries → IsEntryOf of goal entry → EntriesOf of (goals ++ goal ∷ []) (entries ++ entry ∷ [])
+EntriesOf-push of [] [] goal entry each last = (last, tt)
+EntriesOf-push of (first ∷ goals) (e ∷ entries) goal entry each last = (each.0, EntriesOf-push of goals entries goal entry each.1 last)
+EntriesOf-push of [] (e ∷ entries) goal entry each last = absurd each
+EntriesOf-push of (first ∷ goals) [] goal entry each last = absurd each
 
-pub FirstEntries-more : (g : PlainGrammar) (left rest : List Goal) (goal : Goal) (old new : List Entry) (entry : Entry) → left ≡ goal ∷ rest → new ≡ old ++ entry ∷ [] → IsEntryOf g goal entry → FirstEntries g left old → FirstEntries g rest new
-FirstEntries-more g left rest goal old new entry next e last so_far = record {
+pub FirstEntries-more : (of : Weighed) (left rest : List Goal) (goal : Goal) (old new : List Entry) (entry : Entry) → left ≡ goal ∷ rest → new ≡ old ++ entry ∷ [] → IsEntryOf of goal entry → FirstEntries of left old → FirstEntries of rest new
+FirstEntries-more of left rest goal old new entry next e last so_far = record {
   done = so_far.done ++ goal ∷ [];
-  each = subst (EntriesOf g (so_far.done ++ goal ∷ [])) (sym e) (EntriesOf-push g so_far.done old goal entry so_far.each last);
+  each = subst (EntriesOf of (so_far.done ++ goal ∷ [])) (sym e) (EntriesOf-push of so_far.done old goal entry so_far.each last);
   whole = so_far.whole ∙ ap (λ (gs : List Goal). so_far.done ++ gs) next ∙ sym (append_assoc so_far.done (goal ∷ []) rest);
 }
 
-pub FirstEntries-all : (g : PlainGrammar) (left : List Goal) (entries : List Entry) → left ≡ [] → FirstEntries g left entries → AreEntries g entries
-FirstEntries-all g left entries none so_far =
+pub FirstEntries-all : (of : Weighed) (left : List Goal) (entries : List Entry) → left ≡ [] → FirstEntries of left entries → AreEntries of entries
+FirstEntries-all of left entries none so_far =
+    let g = of.grammar in
     let rules : goals g by_rules ≡ rule_goals g = append-nil (rule_goals g ++ []) ∙ append-nil (rule_goals g) in
     let done : so_far.done ≡ rule_goals g = sym (append-nil so_far.done) ∙ ap (λ (gs : List Goal). so_far.done ++ gs) (sym none) ∙ sym so_far.whole ∙ rules in
-    record { each = subst (λ (gs : List Goal). EntriesOf g gs entries) done so_far.each }
+    record { each = subst (λ (gs : List Goal). EntriesOf of gs entries) done so_far.each }
 
--- the next goal is one of the grammar's
-pub next_goal : (g : PlainGrammar) (left rest : List Goal) (goal : Goal) (entries : List Entry) → left ≡ goal ∷ rest → FirstEntries g left entries → IsGoal g goal
-next_goal g left rest goal entries next so_far =
+wanted_tree : (goal : Goal) → IsWanted by_rules goal → IsTreeGoal goal
+wanted_tree (Rule r) wanted = tt
+wanted_tree (Context p i q) wanted = tt
+wanted_tree (Pair a b) wanted = absurd cc
+
+-- the next goal is one of the grammar's, and speaks of nodes
+pub next_goal : (of : Weighed) (left rest : List Goal) (goal : Goal) (entries : List Entry) → left ≡ goal ∷ rest → FirstEntries of left entries → IsGoal of.grammar goal × IsTreeGoal goal
+next_goal of left rest goal entries next so_far =
+    let g = of.grammar in
     let whole : so_far.done ++ (goal ∷ rest) ≡ goals g by_rules = ap (λ (gs : List Goal). so_far.done ++ gs) (sym next) ∙ sym so_far.whole in
     let contained = Contains-from_Among goal (so_far.done ++ (goal ∷ rest)) (Among-right goal so_far.done (goal ∷ rest) (inl refl)) in
-    ((all g by_rules goal).0 (subst (λ (gs : List Goal). Contains gs goal) whole contained)).1
+    let is = (all g by_rules goal).0 (subst (λ (gs : List Goal). Contains gs goal) whole contained) in (is.1, wanted_tree goal is.0)
 
 -- the tokens of the entries are tokens of the grammar
-module _ (g : PlainGrammar) (well : IsGrammar g) where
-  named_tokens : (verdict : Verdict) (tokens : List ℕ) → AreTokensOf g verdict tokens → All (IsNumberOf g.tokens) tokens
-  named_tokens (Feasible size derivation) tokens h = IsNumberOf-IsYield g well derivation tokens h
-  named_tokens Infeasible tokens h = subst (All (IsNumberOf g.tokens)) (sym h) (All-nil (IsNumberOf g.tokens))
-  named_tokens Large tokens h = subst (All (IsNumberOf g.tokens)) (sym h) (All-nil (IsNumberOf g.tokens))
+module _ (of : Weighed) (well : IsGrammar of.grammar) where
+  named_tokens : (verdict : Verdict) (tokens : List ℕ) → AreTokensOf of.grammar verdict tokens → All (IsNumberOf of.grammar.tokens) tokens
+  named_tokens (Feasible size derivation) tokens h = IsNumberOf-IsYield of.grammar well derivation tokens h
+  named_tokens Infeasible tokens h = subst (All (IsNumberOf of.grammar.tokens)) (sym h) (All-nil (IsNumberOf of.grammar.tokens))
+  named_tokens Large tokens h = subst (All (IsNumberOf of.grammar.tokens)) (sym h) (All-nil (IsNumberOf of.grammar.tokens))
 
-  named_from : (goals : List Goal) (entries : List Entry) → EntriesOf g goals entries → All (λ (entry : Entry). All (IsNumberOf g.tokens) entry.tokens) entries
-  named_from goals [] each = All-nil (λ (entry : Entry). All (IsNumberOf g.tokens) entry.tokens)
+  named_from : (goals : List Goal) (entries : List Entry) → EntriesOf of goals entries → All (λ (entry : Entry). All (IsNumberOf of.grammar.tokens) entry.tokens) entries
+  named_from goals [] each = All-nil (λ (entry : Entry). All (IsNumberOf of.grammar.tokens) entry.tokens)
   named_from [] (entry ∷ entries) each = absurd each
   named_from (goal ∷ goals) (entry ∷ entries) each =
-      All-cons (λ (e : Entry). All (IsNumberOf g.tokens) e.tokens) entry entries (named_tokens entry.verdict entry.tokens each.0.tokens) (named_from goals entries each.1)
+      All-cons (λ (e : Entry). All (IsNumberOf of.grammar.tokens) e.tokens) entry entries (named_tokens entry.verdict entry.tokens each.0.tokens) (named_from goals entries each.1)
 
-  pub named_entries : (count : ℕ) → count ≡ g.tokens → (entries : List Entry) → AreEntries g entries → All (λ (entry : Entry). All (IsNumberOf count) entry.tokens) entries
+  pub named_entries : (count : ℕ) → count ≡ of.grammar.tokens → (entries : List Entry) → AreEntries of entries → All (λ (entry : Entry). All (IsNumberOf count) entry.tokens) entries
   named_entries count e entries are =
-      subst (λ (n : ℕ). All (λ (entry : Entry). All (IsNumberOf n) entry.tokens) entries) (sym e) (named_from (rule_goals g) entries are.each)
+      subst (λ (n : ℕ). All (λ (entry : Entry). All (IsNumberOf n) entry.tokens) entries) (sym e) (named_from (rule_goals of.grammar) entries are.each)
 
 -- what `run` has of the entries of a file's grammar
-pub manifest_named : (file : File) (g : PlainGrammar) (entries es : List Entry) → IsFile file → g ≡ file.grammar → AreEntries g entries → es ≡ entries → All (IsNamedEntry file) es
-manifest_named file g entries es is e are same =
-    let are' : AreEntries file.grammar entries = subst (λ h. AreEntries h entries) e are in
-    subst (All (IsNamedEntry file)) (sym same) (named_entries file.grammar is.grammar (length file.token_names) is.tokens entries are')
+pub manifest_named : (w : Measure) (file : File) (of : Weighed) (entries es : List Entry) → IsFile file → of ≡ weighed file.grammar w → AreEntries of entries → es ≡ entries → All (IsNamedEntry file) es
+manifest_named w file of entries es is e are same =
+    let are' : AreEntries (weighed file.grammar w) entries = subst (λ h. AreEntries h entries) e are in
+    subst (All (IsNamedEntry file)) (sym same) (named_entries (weighed file.grammar w) is.grammar (length file.token_names) is.tokens entries are')
 
-pub manifest_is : (file : File) (g : PlainGrammar) (entries es : List Entry) (text : List ℕ) → g ≡ file.grammar → AreEntries g entries → es ≡ entries → text ≡ rules_text file es → IsManifest file text
-manifest_is file g entries es text e are same lines = record {
+pub manifest_is : (w : Measure) (file : File) (of : Weighed) (entries es : List Entry) (text : List ℕ) → of ≡ weighed file.grammar w → AreEntries of entries → es ≡ entries → text ≡ rules_text file es → IsManifest w file text
+manifest_is w file of entries es text e are same lines = record {
   entries = entries;
   verdicts = subst (λ h. AreEntries h entries) e are;
   lines = lines ∙ ap (rules_text file) same;

@@ -6,8 +6,7 @@ use Rattle.cs_io.specs.Desk.{Files, IsBeginning, file_named}
 use Rattle.cs_yacc.specs.declared.TheConstants.{MOST_BYTES}
 use Rattle.cs_yacc.specs.File.{File}
 use Rattle.cs_yacc.specs.Reading.{IsYaccFile}
-use Rattle.cs_run.specs.Files.{FileIs, IsTextOf, IsAskedText}
-use Rattle.cs_run.specs.Manifest.{IsManifest}
+use Rattle.cs_run.specs.Files.{FileIs, IsAskedText, IsFileText, IsTextOf}
 
 -- a read that gave fewer bytes than it might gave the whole file
 pub short_read : (P : List ℕ → Type 0) (files : Option Files) (name bytes : List ℕ) (most : ℕ) → IsBeginning files name (most + 1) bytes → length bytes ≤ most → P bytes → FileIs files name P
@@ -33,7 +32,7 @@ long_read (Some files) name bytes most read long = at_file (file_named files nam
         grind (arith, common_steps, ap length cut)
 
 -- the text of a file that was read whole
-pub text_read : (files : Option Files) (name bytes text : List ℕ) (file : File) → IsBeginning files name (MOST_BYTES + 1) bytes → length bytes ≤ MOST_BYTES → IsYaccFile bytes file → IsManifest file text → IsAskedText (Ok name) files text
+pub text_read : (files : Option Files) (name bytes text : List ℕ) (file : File) → IsBeginning files name (MOST_BYTES + 1) bytes → length bytes ≤ MOST_BYTES → IsYaccFile bytes file → IsFileText file text → IsAskedText (Ok name) files text
 unfolding IsTextOf
 text_read files name bytes text file read short means is =
     short_read (λ whole. (length whole ≤ MOST_BYTES) × IsTextOf whole text) files name bytes MOST_BYTES read short (short, (file, means, is))

@@ -5,3 +5,4 @@ pub mod Files
 pub mod Endings
 pub mod OneManifest
 pub mod Promises
+pub mod SomeManifest

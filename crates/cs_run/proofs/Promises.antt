@@ -60,23 +60,16 @@ apart : (bytes : List ℕ) → IsAccepted bytes → IsRefused bytes → ⊥
 apart bytes accepted (inl long) = omega (arith, accepted.0, long)
 apart bytes accepted (inr refused) = refused_is_no_file refused.1.0 bytes accepted.1.0 refused.1.1 accepted.1.1
 
-known_apart : (asked : Result (List ℕ) ℕ) (files : Option Files) → IsKnownFile asked files IsAccepted → IsOkAnd asked (λ name. FileIs files name IsRefused) → ⊥
-known_apart (Ok name) None known refused = known
-known_apart (Ok name) (Some files) known refused = at_file (file_named files name) known refused
+-- a known file of the one kind is none of the other
+known_apart : (P Q : List ℕ → Type 0) (asked : Result (List ℕ) ℕ) (files : Option Files) → ((bytes : List ℕ) → P bytes → Q bytes → ⊥)
+    → IsKnownFile asked files P → IsOkAnd asked (λ name. FileIs files name Q) → ⊥
+known_apart P Q (Ok name) None differ known other = known
+known_apart P Q (Ok name) (Some files) differ known other = at_file (file_named files name) known other
   where
-    at_file : (found : Option (List ℕ)) → IsSomeAnd found IsAccepted → IsSomeAnd found IsRefused → ⊥
-    at_file (Some bytes) accepted refused = apart bytes accepted refused
-    at_file None accepted refused = accepted
-known_apart (Err at) files known refused = known
-
-known_refused_apart : (asked : Result (List ℕ) ℕ) (files : Option Files) → IsKnownFile asked files IsRefused → IsOkAnd asked (λ name. FileIs files name IsAccepted) → ⊥
-known_refused_apart (Ok name) None known accepted = known
-known_refused_apart (Ok name) (Some files) known accepted = at_file (file_named files name) known accepted
-  where
-    at_file : (found : Option (List ℕ)) → IsSomeAnd found IsRefused → IsSomeAnd found IsAccepted → ⊥
-    at_file (Some bytes) refused accepted = apart bytes accepted refused
-    at_file None refused accepted = refused
-known_refused_apart (Err at) files known accepted = known
+    at_file : (found : Option (List ℕ)) → IsSomeAnd found P → IsSomeAnd found Q → ⊥
+    at_file (Some bytes) has is = differ bytes has is
+    at_file None has is = has
+known_apart P Q (Err at) files differ known other = known
 
 -- a known file isn't missing, and its words are good
 known_is_there : (P : List ℕ → Type 0) (asked : Result (List ℕ) ℕ) (files : Option Files) → IsKnownFile asked files P → IsOkAnd asked (λ name. IsMissing files name) → ⊥
@@ -138,7 +131,7 @@ module _ (words : List (List ℕ)) (desk : DeskUse) (out err : SinkUse) where
     write_fault_of_accepted = λ is. absurd (omega (arith, is));
     unused = λ is. absurd (omega (arith, is.0, is.1));
     bad_words_end_so = λ bad. absurd (good_text (asked words) _ ends.1 bad);
-    refused_ends_so = λ known fine. absurd (known_refused_apart (asked words) desk.files known (accepted_of_text (asked words) desk.files ends.0 ends.1));
+    refused_ends_so = λ known fine. absurd (known_apart IsRefused IsAccepted (asked words) desk.files (λ bytes refused accepted. apart bytes accepted refused) known (accepted_of_text (asked words) desk.files ends.0 ends.1));
     complete = λ known fine good. inl refl;
     silent = λ is. refl;
   }
@@ -152,7 +145,7 @@ module _ (words : List (List ℕ)) (desk : DeskUse) (out err : SinkUse) where
     unused = λ is. ends.1;
     bad_words_end_so = λ bad. absurd (good_text (asked words) _ ends.0 bad);
     refused_ends_so = λ known fine. inl refl;
-    complete = λ known fine good. absurd (known_apart (asked words) desk.files known (refused_of (asked words) desk.files (λ bytes. 1048576 < length bytes) (λ bytes long. inl long) ends.0));
+    complete = λ known fine good. absurd (known_apart IsAccepted IsRefused (asked words) desk.files apart known (refused_of (asked words) desk.files (λ bytes. 1048576 < length bytes) (λ bytes long. inl long) ends.0));
     silent = λ is. absurd (omega (arith, is));
   }
   rest (Refused error) ends = record {
@@ -165,7 +158,7 @@ module _ (words : List (List ℕ)) (desk : DeskUse) (out err : SinkUse) where
     unused = λ is. ends.1;
     bad_words_end_so = λ bad. absurd (good_text (asked words) _ ends.0 bad);
     refused_ends_so = λ known fine. inl refl;
-    complete = λ known fine good. absurd (known_apart (asked words) desk.files known (refused_of (asked words) desk.files (λ bytes. IsShort bytes × Refuses error bytes) (λ bytes has. inr (has.0, (error, has.1))) ends.0));
+    complete = λ known fine good. absurd (known_apart IsAccepted IsRefused (asked words) desk.files apart known (refused_of (asked words) desk.files (λ bytes. IsShort bytes × Refuses error bytes) (λ bytes has. inr (has.0, (error, has.1))) ends.0));
     silent = λ is. absurd (omega (arith, is));
   }
   rest (BadWord at) ends = record {
@@ -203,7 +196,7 @@ module _ (words : List (List ℕ)) (desk : DeskUse) (out err : SinkUse) where
     write_fault_of_accepted = λ is. accepted_of_text (asked words) desk.files ends.0.0 ends.0.1;
     unused = λ is. absurd (omega (arith, is.0, is.1));
     bad_words_end_so = λ bad. absurd (good_text (asked words) _ ends.0.1 bad);
-    refused_ends_so = λ known fine. absurd (known_refused_apart (asked words) desk.files known (accepted_of_text (asked words) desk.files ends.0.0 ends.0.1));
+    refused_ends_so = λ known fine. absurd (known_apart IsRefused IsAccepted (asked words) desk.files (λ bytes refused accepted. apart bytes accepted refused) known (accepted_of_text (asked words) desk.files ends.0.0 ends.0.1));
     complete = λ known fine good. absurd (good ends.1);
     silent = λ is. absurd (omega (arith, is));
   }
@@ -240,13 +233,16 @@ module _ (words : List (List ℕ)) (desk : DeskUse) (out err : SinkUse) where
       within NoFile = omega arith
       within NotWritten = omega arith
       within NoMemory = omega arith
+
       failed_status : (e : Ending) → (e ≡ NoFile) ⊎ (e ≡ NoMemory) → (status_of e ≡ 3) ⊎ (status_of e ≡ 5)
       failed_status e (inl same) = inl (ap status_of same)
       failed_status e (inr same) = inr (ap status_of same)
+
       reported_failed : (e r : Ending) → (e ≡ NoFile) ⊎ (e ≡ NoMemory) → (r ≡ e) ⊎ (r ≡ NoMemory) → (r ≡ NoFile) ⊎ (r ≡ NoMemory)
       reported_failed e r (inl file) (inl same) = inl (same ∙ file)
       reported_failed e r (inr none) (inl same) = inr (same ∙ none)
       reported_failed e r failed (inr none) = inr none
+
       kept : (ending reported : Ending) → Performs ending (asked words) desk out → (reported ≡ ending) ⊎ (reported ≡ NoMemory)
           → Says (line_of reported) err → Ends reported (asked words) desk out → KeepsPromises words desk out err (status_of reported)
       kept ending reported performs is said ends =

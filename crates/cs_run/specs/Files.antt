@@ -1,6 +1,7 @@
 -- Which files are accepted and refused, and which text is asked for. Where the desk tells no files, any file counts.
 use Rattle.std.specs.Prelude.{◌≡◌, ◌<◌, ◌≤◌, ◌⊎◌, ℕ, length, List, Option, None, Some, Result, IsOkAnd, IsSomeAnd}
 use Rattle.cs_io.specs.Desk.{Files, file_named}
+use Rattle.cs_grammar.specs.Weights.{nodes}
 use Rattle.cs_yacc.specs.declared.error.YaccError.{YaccError}
 use Rattle.cs_yacc.specs.File.{File}
 use Rattle.cs_yacc.specs.Reading.{IsYaccFile, Refuses}
@@ -27,9 +28,13 @@ IsAccepted bytes = IsShort bytes × ((file : File) × IsYaccFile bytes file)
 abbrev pub IsRefused : List ℕ → Type 0
 IsRefused bytes = (1048576 < length bytes) ⊎ (IsShort bytes × ((error : YaccError) × Refuses error bytes))
 
+-- the text is the manifest of the file, where the nodes of trees are counted
+abbrev pub IsFileText : File → List ℕ → Type 0
+IsFileText file text = IsManifest (nodes file.grammar.tokens) file text
+
 -- the text is the manifest of the yacc file that the bytes mean
 unfoldable pub IsTextOf : List ℕ → List ℕ → Type 0
-IsTextOf bytes text = (file : File) × IsYaccFile bytes file × IsManifest file text
+IsTextOf bytes text = (file : File) × IsYaccFile bytes file × IsFileText file text
 
 -- the text is the manifest of the file that the words ask for
 abbrev pub IsAskedText : Result (List ℕ) ℕ → Option Files → List ℕ → Type 0

@@ -7,6 +7,7 @@ use Rattle.cs_grammar.specs.declared.symbol.Symbol.{Symbol}
 use Rattle.cs_grammar.specs.declared.symbol.Symbol.TheVariants.{Token, Nonterminal}
 use Rattle.cs_grammar.specs.Grammar.{Production, PlainGrammar, IsNumberOf, IsRuleOf, IsSymbol}
 use Rattle.cs_grammar.specs.Leftmost.{IsYield}
+use Rattle.cs_grammar.specs.Weights.{Measure, Weighed, weighed}
 use Rattle.cs_yacc.specs.declared.name.TokenName.{TokenName}
 use Rattle.cs_yacc.specs.declared.name.TokenName.TheVariants.{Word, Byte}
 use Rattle.cs_yacc.specs.File.{File}
@@ -70,14 +71,25 @@ symbol_text file (Nonterminal n) = nonterminal_of file n
 abbrev pub token_line : ℕ → TokenName → List ℕ
 token_line number name = line (codes "token " ++ decimal number ++ 32 ∷ token_text name)
 
+-- the names of symbols, each behind a space
+abbrev pub symbol_words : File → List Symbol → List ℕ
+symbol_words file symbols = spaced (symbol_text file) symbols
+
+-- the names of tokens, each behind a space
+abbrev pub token_words : File → List ℕ → List ℕ
+token_words file tokens = spaced (token_of file) tokens
+
 -- `rule N LEFT :` and the names of the right side
 abbrev pub rule_line : File → ℕ → Production → List ℕ
 rule_line file number rule =
-    line (codes "rule " ++ decimal number ++ 32 ∷ nonterminal_of file rule.left ++ codes " :" ++ spaced (symbol_text file) rule.right)
+    line (codes "rule " ++ decimal number ++ 32 ∷ nonterminal_of file rule.left ++ codes " :" ++ symbol_words file rule.right)
+
+abbrev pub rule_lines : File → List Production → List ℕ
+rule_lines file rules = numbered (rule_line file) rules
 
 -- the form's line, the tokens and the rules
 abbrev pub head : File → List ℕ
-head file = line (codes "conform 1 rules") ++ numbered token_line file.token_names ++ numbered (rule_line file) file.grammar.rules
+head file = line (codes "conform 1 rules") ++ numbered token_line file.token_names ++ rule_lines file file.grammar.rules
 
 -- `goal N rule R`; goal N is of rule N
 abbrev pub goal_words : ℕ → List ℕ
@@ -88,7 +100,7 @@ abbrev pub derive_line : List ℕ → List ℕ
 derive_line derivation = line (codes "  derive" ++ spaced decimal derivation)
 
 abbrev pub tokens_line : File → List ℕ → List ℕ
-tokens_line file tokens = line (codes "  tokens" ++ spaced (token_of file) tokens)
+tokens_line file tokens = line (codes "  tokens" ++ token_words file tokens)
 
 -- A goal's lines. Only where it is feasible there are more than one.
 abbrev pub verdict_lines : File → ℕ → Verdict → List ℕ → List ℕ
@@ -99,6 +111,9 @@ verdict_lines file number Large tokens = line (goal_words number ++ codes " larg
 
 abbrev pub entry_lines : File → ℕ → Entry → List ℕ
 entry_lines file number entry = verdict_lines file number entry.verdict entry.tokens
+
+abbrev pub all_entry_lines : File → List Entry → List ℕ
+all_entry_lines file entries = numbered (entry_lines file) entries
 
 abbrev pub is_feasible : Verdict → Bool
 is_feasible (Feasible size derivation) = true
@@ -129,7 +144,7 @@ end_line entries =
     ++ line (codes " negatives 0")
 
 abbrev pub rules_text : File → List Entry → List ℕ
-rules_text file entries = head file ++ numbered (entry_lines file) entries ++ end_line entries
+rules_text file entries = head file ++ all_entry_lines file entries ++ end_line entries
 
 -- ---- the manifest
 
@@ -140,25 +155,25 @@ AreTokensOf g Infeasible tokens = tokens ≡ []
 AreTokensOf g Large tokens = tokens ≡ []
 
 -- the verdict of the goal over all trees, with its tokens
-pub record IsEntryOf (g : PlainGrammar) (goal : Goal) (entry : Entry) : Type 0 where
-  pub verdict : IsVerdict g goal entry.verdict
-  pub tokens : AreTokensOf g entry.verdict entry.tokens
+pub record IsEntryOf (of : Weighed) (goal : Goal) (entry : Entry) : Type 0 where
+  pub verdict : IsVerdict of.weights of.grammar goal entry.verdict
+  pub tokens : AreTokensOf of.grammar entry.verdict entry.tokens
 
 -- one entry for each of these goals, in order
-abbrev pub EntriesOf : PlainGrammar → List Goal → List Entry → Type 0
-EntriesOf g [] [] = Unit {0}
-EntriesOf g (goal ∷ goals) (entry ∷ entries) = IsEntryOf g goal entry × EntriesOf g goals entries
-EntriesOf g [] (entry ∷ entries) = ⊥
-EntriesOf g (goal ∷ goals) [] = ⊥
+abbrev pub EntriesOf : Weighed → List Goal → List Entry → Type 0
+EntriesOf of [] [] = Unit {0}
+EntriesOf of (goal ∷ goals) (entry ∷ entries) = IsEntryOf of goal entry × EntriesOf of goals entries
+EntriesOf of [] (entry ∷ entries) = ⊥
+EntriesOf of (goal ∷ goals) [] = ⊥
 
 -- one entry for each rule goal, in order
-pub record AreEntries (g : PlainGrammar) (entries : List Entry) : Type 0 where
-  pub each : EntriesOf g (rule_goals g) entries
+pub record AreEntries (of : Weighed) (entries : List Entry) : Type 0 where
+  pub each : EntriesOf of (rule_goals of.grammar) entries
 
--- the text is the `rules` manifest of the file
-pub record IsManifest (file : File) (text : List ℕ) : Type 0 where
+-- the text is the `rules` manifest of the file, where trees are measured by these weights
+pub record IsManifest (w : Measure) (file : File) (text : List ℕ) : Type 0 where
   pub entries : List Entry
-  pub verdicts : AreEntries file.grammar entries
+  pub verdicts : AreEntries (weighed file.grammar w) entries
   pub lines : text ≡ rules_text file entries
 
 -- the numbers of an entry's tokens have names
@@ -172,6 +187,6 @@ IsNamedSymbol file symbol = IsSymbol (length file.token_names) (length file.nont
 abbrev pub IsNamedRule : File → Production → Type 0
 IsNamedRule file rule = IsRuleOf (length file.token_names) (length file.nonterminal_names) rule
 
--- no two texts are so
-abbrev pub IsOneAtMost : (List ℕ → Type 0) → Type 0
-IsOneAtMost P = (text other : List ℕ) → P text → P other → text ≡ other
+-- It isn't so that no value is of the kind.
+abbrev pub IsNotWithout : {A : Type 0} → (A → Type 0) → Type 0
+IsNotWithout {A} IsOne = ((a : A) → IsOne a → ⊥) → ⊥

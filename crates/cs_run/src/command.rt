@@ -2,7 +2,7 @@ ghost use Rattle.std.specs.Prelude.{◌≡◌, IfOk, IsErr, Ok};
 ghost use Rattle.cs_io.specs.Uses.{desk_use, sink_use};
 ghost use Rattle.cs_run.specs.Ending.{Performs};
 ghost use Rattle.cs_run.specs.Headline.{KeepsPromises};
-ghost use Rattle.cs_run.specs.Manifest.{IsManifest};
+ghost use Rattle.cs_run.specs.Files.{IsFileText};
 ghost use Rattle.cs_run.specs.Words.{asked, texts};
 
 use crate::ending::Ending;
@@ -10,8 +10,10 @@ use crate::entry::entries;
 use crate::manifest::rules_text;
 use crate::report::{report, status};
 use crate::words::read_words;
+use cs_cost::Costs;
+use cs_embed::Embeds;
+use cs_grammar::Weights;
 use cs_io::{Desk, DeskError, Sink, write_all};
-use cs_positive::Tables;
 use cs_yacc::{MOST_BYTES, YaccError, YaccFile, read_yacc};
 use std::alloc::{AllocError, Global};
 
@@ -46,10 +48,13 @@ fn rules<D: Desk, O: Sink>(alloc: Global, name: &str, desk: &mut D, out: &mut O)
 
 // The manifest of a file.
 fn manifest(alloc: Global, file: &YaccFile) -> Result<Vec<u8>, AllocError>
-    ensures { IfOk result (λ text. IsManifest file.now text.items) }
+    ensures { IfOk result (λ text. IsFileText file.now text.items) }
 {
-    let tables = Tables::new(alloc, file.grammar())?;
-    let entries = entries(alloc, &tables)?;
+    let grammar = file.grammar();
+    let weights = Weights::nodes(alloc, grammar.tokens())?;
+    let costs = Costs::new(alloc, grammar, &weights)?;
+    let embeds = Embeds::new(alloc, &costs)?;
+    let entries = entries(alloc, &costs, &embeds)?;
     Ok(rules_text(alloc, file, &entries)?)
 }
 

@@ -1,15 +1,15 @@
 // The verdicts of a grammar's rule goals.
 
-ghost use Rattle.std.specs.Prelude.{◌≡◌, ◌<◌, ◌^◌, IfOk, length};
-ghost use Rattle.cs_grammar.specs.declared.symbol.Symbol.TheVariants.{Nonterminal};
-ghost use Rattle.cs_grammar.specs.Leftmost.{IsYield};
-ghost use Rattle.cs_grammar.specs.Tree.{IsDerivation};
+ghost use Rattle.std.specs.Prelude.{◌≡◌, IfOk};
 ghost use Rattle.cs_goals.specs.Goal.{IsGoal};
+ghost use Rattle.cs_positive.specs.Verdict.{IsTreeGoal};
 ghost use Rattle.cs_run.specs.Manifest.{AreEntries, IsEntryOf};
 
+use cs_cost::Costs;
+use cs_embed::Embeds;
 use cs_goals::{Criteria, Goal, Goals};
-use cs_grammar::{Derivation, ExpandError, Grammar, expand};
-use cs_positive::{Tables, Verdict, judge};
+use cs_grammar::yield_of;
+use cs_positive::{Verdict, judge_tree_goal};
 use std::alloc::{AllocError, Global};
 use std::marker::Model;
 
@@ -29,10 +29,11 @@ impl Model for Entry {
 }
 
 /// The entries of all rule goals, in the order of the goals.
-pub fn entries(alloc: Global, tables: &Tables) -> Result<Vec<Entry>, AllocError>
-    ensures { IfOk result (λ entries. AreEntries tables.now entries.items) }
+pub fn entries(alloc: Global, costs: &Costs, embeds: &Embeds) -> Result<Vec<Entry>, AllocError>
+    requires { embeds.now ≡ costs.now }
+    ensures { IfOk result (λ entries. AreEntries costs.now entries.items) }
 {
-    let grammar = tables.grammar();
+    let grammar = costs.grammar();
     let criteria = Criteria {
         rule: true,
         cdrc: false,
@@ -41,36 +42,21 @@ pub fn entries(alloc: Global, tables: &Tables) -> Result<Vec<Entry>, AllocError>
     let mut goals = Goals::new(grammar, criteria);
     let mut entries = Vec::with_capacity(alloc, grammar.rules().len())?;
     while let Some(goal) = goals.next() {
-        entries.push(entry_of(alloc, tables, &goal)?)?;
+        entries.push(entry_of(alloc, costs, embeds, &goal)?)?;
     }
     Ok(entries)
 }
 
-fn entry_of(alloc: Global, tables: &Tables, goal: &Goal) -> Result<Entry, AllocError>
-    requires { IsGoal tables.now goal.now }
-    ensures { IfOk result (IsEntryOf tables.now goal.now) }
+fn entry_of(alloc: Global, costs: &Costs, embeds: &Embeds, goal: &Goal) -> Result<Entry, AllocError>
+    requires embeds { embeds.now ≡ costs.now }
+    requires goal { IsGoal costs.now.grammar goal.now }
+    requires kind { IsTreeGoal goal.now }
+    ensures { IfOk result (IsEntryOf costs.now goal.now) }
 {
-    let verdict = judge(alloc, tables, goal)?;
+    let verdict = judge_tree_goal(alloc, costs, embeds, goal)?;
     let tokens = match &verdict {
-        Verdict::Feasible { derivation, .. } => tokens_of(alloc, tables.grammar(), derivation)?,
+        Verdict::Feasible { derivation, .. } => yield_of(alloc, costs.grammar(), derivation)?,
         Verdict::Infeasible | Verdict::Large => Vec::new(alloc),
     };
     Ok(Entry { verdict, tokens })
-}
-
-// The tokens of a derivation, which is refused for want of memory alone.
-fn tokens_of(
-    alloc: Global,
-    grammar: &Grammar,
-    derivation: &Derivation,
-) -> Result<Vec<u16>, AllocError>
-    requires small { length derivation.now < 2 ^ 32 }
-    requires derivation { IsDerivation grammar.now (Nonterminal grammar.now.start) derivation.now }
-    ensures { IfOk result (λ tokens. IsYield grammar.now derivation.now tokens.items) }
-{
-    match expand(alloc, grammar, derivation) {
-        Ok(tokens) => Ok(tokens),
-        Err(ExpandError::Memory) => Err(AllocError),
-        Err(_) => unreachable!(),
-    }
 }

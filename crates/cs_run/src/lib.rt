@@ -14,4 +14,4 @@ mod report;
 mod words;
 
 pub use command::run;
-pub use laws::one_manifest;
+pub use laws::{one_manifest, some_manifest};

@@ -56,7 +56,7 @@ fn push_token_line(text: &mut Vec<u8>, number: u64, name: &TokenName) -> Result<
 
 fn push_rules(text: &mut Vec<u8>, file: &YaccFile, rules: &[Rule]) -> Result<(), AllocError>
     requires { All (spec.IsNamedRule file.now) rules.now }
-    ensures { OnOk result (spec.Grew text.old text.new (spec.numbered (spec.rule_line file.now) rules.now)) }
+    ensures { OnOk result (spec.Grew text.old text.new (spec.rule_lines file.now rules.now)) }
 {
     for (place, rule) in rules.iter().enumerate() {
         push_rule_line(text, file, place as u64 + 1, rule)?;
@@ -85,7 +85,7 @@ fn push_rule_line(
 
 fn push_symbols(text: &mut Vec<u8>, file: &YaccFile, symbols: &[Symbol]) -> Result<(), AllocError>
     requires { All (spec.IsNamedSymbol file.now) symbols.now }
-    ensures { OnOk result (spec.Grew text.old text.new (spec.spaced (spec.symbol_text file.now) symbols.now)) }
+    ensures { OnOk result (spec.Grew text.old text.new (spec.symbol_words file.now symbols.now)) }
 {
     for symbol in symbols {
         text.push(b' ')?;
@@ -106,7 +106,7 @@ fn push_symbol(text: &mut Vec<u8>, file: &YaccFile, symbol: Symbol) -> Result<()
 
 fn push_entries(text: &mut Vec<u8>, file: &YaccFile, entries: &[Entry]) -> Result<(), AllocError>
     requires { All (spec.IsNamedEntry file.now) entries.now }
-    ensures { OnOk result (spec.Grew text.old text.new (spec.numbered (spec.entry_lines file.now) entries.now)) }
+    ensures { OnOk result (spec.Grew text.old text.new (spec.all_entry_lines file.now entries.now)) }
 {
     for (place, entry) in entries.iter().enumerate() {
         push_entry(text, file, place as u64 + 1, entry)?;
@@ -185,7 +185,7 @@ fn push_numbers(text: &mut Vec<u8>, numbers: &[u16]) -> Result<(), AllocError>
 
 fn push_names(text: &mut Vec<u8>, file: &YaccFile, tokens: &[u16]) -> Result<(), AllocError>
     requires { All (IsNumberOf (length file.now.token_names)) tokens.now }
-    ensures { OnOk result (spec.Grew text.old text.new (spec.spaced (spec.token_of file.now) tokens.now)) }
+    ensures { OnOk result (spec.Grew text.old text.new (spec.token_words file.now tokens.now)) }
 {
     for token in tokens {
         text.push(b' ')?;

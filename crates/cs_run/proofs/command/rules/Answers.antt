@@ -1,7 +1,7 @@
 use Rattle.std.proofs.Common.{◌≤◌, length, arith, refl, rules}
 use Rattle.cs_yacc.specs.declared.TheConstants.{MOST_BYTES}
 use Rattle.cs_yacc.specs.Reading.{IsYaccFile, Refuses}
-use Rattle.cs_run.specs.Manifest.{IsManifest}
+use Rattle.cs_run.specs.Files.{IsFileText}
 use Rattle.cs_run.proofs.Files.{short_read, long_read, text_read}
 use Rattle.cs_run.proofs.Promises.{refused_has_line, value_is_no_error}
 use Rattle.cs_run.proofs.command.rules.Goals as goal
@@ -32,7 +32,7 @@ returns-in-Err-read_yacc g c =
 pub returns-in-Ok-write_all : goal.returns-in-Ok-write_all
 returns-in-Ok-write_all g c =
     let means : IsYaccFile c.in-Ok.bytes.items c.in-Ok-read_yacc.file = search rules in
-    let is : IsManifest c.in-Ok-read_yacc.file c.in-Ok-manifest.text.items = search rules in
+    let is : IsFileText c.in-Ok-read_yacc.file c.in-Ok-manifest.text.items = search rules in
     let asked = text_read (g.D.Desk.files c.args.desk.now) c.args.name.now c.in-Ok.bytes.items c.in-Ok-manifest.text.items c.in-Ok-read_yacc.file c.in-Ok.ensures.bytes (omega arith) means is in record {
       ends = (c.in-Ok-manifest.text.items, asked, search rules);
       line = tt;
@@ -44,7 +44,7 @@ returns-in-Ok-write_all g c =
 pub returns : goal.returns
 returns g c =
     let means : IsYaccFile c.in-Ok.bytes.items c.in-Ok-read_yacc.file = search rules in
-    let is : IsManifest c.in-Ok-read_yacc.file c.in-Ok-manifest.text.items = search rules in
+    let is : IsFileText c.in-Ok-read_yacc.file c.in-Ok-manifest.text.items = search rules in
     let asked = text_read (g.D.Desk.files c.args.desk.now) c.args.name.now c.in-Ok.bytes.items c.in-Ok-manifest.text.items c.in-Ok-read_yacc.file c.in-Ok.ensures.bytes (omega arith) means is in record {
       ends = ((c.in-Ok-manifest.text.items, asked, search rules), search rules);
       line = tt;
