@@ -1,52 +1,34 @@
 #!/usr/bin/env python3
-"""Times the verdicts of all goals of a kind on grammars at the limits: bench/goals.py [rule|context|pair ..].
+"""Times the verdicts of all goals on grammars at the limits: bench/goals.py.
 
-No command judges context and pair goals yet, so a program that does is made in a copy of this repository, proved and run there. Each
-row is a grammar, the milliseconds for its tables, those for the tables and the verdicts of all goals, and what these were.
-The wide grammar of the rows is left out: it has billions of context goals. Nothing here is part of the gate.
+Each row is a grammar: the milliseconds for all its tables, and those for the tables and the verdicts of all context goals, or
+of all pair goals, with their derivations, beside their bounds; then the same for four sizes, which shows how time grows. It
+ends with status 1 where a bound is passed. No command judges these goals yet, so a program that does is made in a copy of
+this repository, proved and run there. The wide grammar is left out: it has billions of context goals. Nothing here is part of
+the gate.
 """
 
 import os
-import resource
-import shutil
 import subprocess
-import sys
 import tempfile
 
-from grammars import ROWS
+from grammars import ROWS, random_rules
+from measure import TOP, Bounds, build
 
-TOP = os.path.dirname(os.path.dirname(os.path.abspath(__file__)))
+LIBRARIES = "cs_positive cs_goals cs_yacc cs_io cs_grammar"
 
 MAIN = """\
 //! Judges the goals of a kind of the grammar in each file, and counts their verdicts.
 #![tactic(auto)]
 
 use cs_goals::{Criteria, Goal, Goals, fits_goal};
-use cs_io::{Desk, DeskError, FolderDesk};
+use cs_grammar::Weights;
+use cs_io::{Desk, FolderDesk};
 use cs_positive::{Tables, Verdict, judge};
 use cs_yacc::{MOST_BYTES, YaccFile, read_yacc};
 use std::alloc::Global;
-use std::io;
 use std::time::Instant;
-
-#[derive(Clone, Copy, Debug)]
-struct Counts {
-    feasible: u64,
-    infeasible: u64,
-    large: u64,
-}
-
-impl Counts {
-    fn with(self, verdict: &Verdict) -> Counts {
-        let mut counts = self;
-        match verdict {
-            Verdict::Feasible { .. } => counts.feasible = counts.feasible.saturating_add(1),
-            Verdict::Infeasible => counts.infeasible = counts.infeasible.saturating_add(1),
-            Verdict::Large => counts.large = counts.large.saturating_add(1),
-        }
-        counts
-    }
-}
+use std::{env, io};
 
 fn verdict(alloc: Global, tables: &Tables, goal: &Goal) -> Option<Verdict> {
     if fits_goal(tables.grammar(), goal) {
@@ -56,19 +38,18 @@ fn verdict(alloc: Global, tables: &Tables, goal: &Goal) -> Option<Verdict> {
     }
 }
 
-fn judged(alloc: Global, tables: &Tables) -> Counts {
-    let criteria = Criteria { rule: @RULE@, cdrc: @CONTEXT@, pair: @PAIR@ };
+fn feasible(alloc: Global, tables: &Tables, criteria: Criteria) -> u64 {
     let mut goals = Goals::new(tables.grammar(), criteria);
-    let mut counts = Counts { feasible: 0, infeasible: 0, large: 0 };
+    let mut count = 0u64;
     for _ in 0..u64::MAX {
         let Some(goal) = goals.next() else {
             break;
         };
-        if let Some(verdict) = verdict(alloc, tables, &goal) {
-            counts = counts.with(&verdict);
+        if let Some(Verdict::Feasible { .. }) = verdict(alloc, tables, &goal) {
+            count = count.saturating_add(1);
         }
     }
-    counts
+    count
 }
 
 fn named_file(alloc: Global, desk: &mut impl Desk, name: &str) -> Option<YaccFile> {
@@ -86,57 +67,69 @@ fn read_file(alloc: Global, bytes: &[u8]) -> Option<YaccFile> {
     }
 }
 
+fn timed(rt: &HostRuntime, name: &str, file: &YaccFile) -> io::Result<()> {
+    let alloc = rt.alloc();
+    let begin = Instant::now(rt)?;
+    if let Ok(weights) = Weights::nodes(alloc, file.grammar().tokens()) {
+        if let Ok(tables) = Tables::new(alloc, file.grammar(), &weights) {
+            let made = begin.elapsed(rt)?.as_micros();
+            let contexts = feasible(alloc, &tables, Criteria { rule: false, cdrc: true, pair: false });
+            let judged = begin.elapsed(rt)?.as_micros();
+            let pairs = feasible(alloc, &tables, Criteria { rule: false, cdrc: false, pair: true });
+            let all = begin.elapsed(rt)?.as_micros();
+            println!(rt; "{name} {made} {judged} {all} {contexts} {pairs}")?;
+        }
+    }
+    Ok(())
+}
+
 fn main(rt: HostRuntime) -> io::Result<()> {
     let alloc = rt.alloc();
     let mut desk = FolderDesk::new(&rt);
-    for name in ["0.y", "1.y", "2.y", "3.y", "4.y"] {
-        if let Some(file) = named_file(alloc, &mut desk, name) {
-            let begin = Instant::now(&rt)?;
-            if let Ok(tables) = Tables::new(alloc, file.grammar()) {
-                let made = begin.elapsed(&rt)?.as_millis();
-                let Counts { feasible, infeasible, large } = judged(alloc, &tables);
-                let all = begin.elapsed(&rt)?.as_millis();
-                println!(rt; "{name} tables {made} ms, with all verdicts {all} ms: feasible {feasible} infeasible {infeasible} large {large}")?;
-            }
+    let words: Vec<String> = env::args(&rt)?.collect(alloc)?;
+    for name in words.iter() {
+        if let Some(file) = named_file(alloc, &mut desk, name.as_str()) {
+            timed(&rt, name.as_str(), &file)?;
         }
     }
     Ok(())
 }
 """
 
+# the milliseconds that the tables and all pair goals with them may take
+BOUNDS = {"8,192 rules of up to 12 symbols": (800, 2000)}
+MEGABYTES = 40
 
-def make_crate(kind, copy):
-    """The program in a copy of the repository; answers the crate's folder."""
-    shutil.copytree(TOP, copy, ignore=shutil.ignore_patterns("out", ".git"))
-    subprocess.run(["rt", "new", "crates/bench_goals", "start_io"], cwd=copy, check=True, stdout=subprocess.DEVNULL)
-    crate = os.path.join(copy, "crates", "bench_goals")
-    for name in os.listdir(os.path.join(crate, "src")):
-        os.remove(os.path.join(crate, "src", name))
-    text = MAIN
-    for name in ("rule", "context", "pair"):
-        text = text.replace(f"@{name.upper()}@", "true" if name == kind else "false")
-    with open(os.path.join(crate, "src", "main.rt"), "w") as file:
+
+def measured(path, folder, text):
+    """Milliseconds for the tables, for contexts and for pairs, how many are feasible, and the greatest memory in MB."""
+    with open(os.path.join(folder, "g.y"), "w") as file:
         file.write(text)
-    with open(os.path.join(copy, "crates.txt"), "a") as file:
-        file.write("bench_goals: cs_positive cs_goals cs_yacc cs_io cs_grammar\n")
-    return crate
+    with open(os.path.join(folder, "told"), "w") as out:
+        child = subprocess.Popen([path, "g.y"], cwd=folder, stdout=out)
+        _, _, used = os.wait4(child.pid, 0)
+        child.returncode = 0
+    with open(os.path.join(folder, "told")) as file:
+        _, made, judged, all_judged, contexts, pairs = file.read().split()
+    made, judged, all_judged = int(made) / 1000, int(judged) / 1000, int(all_judged) / 1000
+    return made, judged - made, all_judged - judged, int(contexts), int(pairs), used.ru_maxrss / 1024
 
 
 def main():
+    bounds = Bounds()
     with tempfile.TemporaryDirectory() as folder:
-        for number, (name, make) in enumerate(ROWS[:5]):
-            with open(os.path.join(folder, f"{number}.y"), "w") as file:
-                file.write(make())
-            print(f"{number}.y: {name}")
-        for kind in sys.argv[1:] or ["rule", "context", "pair"]:
-            crate = make_crate(kind, os.path.join(folder, kind))
-            built = subprocess.run(["rt", "run"], cwd=crate, capture_output=True, text=True)
-            program = os.path.join(crate, "out", "bench_goals")
-            if not os.path.exists(program):
-                sys.exit(built.stdout + built.stderr)
-            done = subprocess.run([program], cwd=folder, capture_output=True, text=True)
-            used = resource.getrusage(resource.RUSAGE_CHILDREN).ru_maxrss // 1024
-            print(f"{kind} goals, builds and all at most {used} MB\n{done.stdout}{done.stderr}", flush=True)
+        path = build(folder, TOP, MAIN, LIBRARIES)
+        for name, make in ROWS[1:5]:
+            made, context, pair, contexts, pairs, used = measured(path, folder, make())
+            tables_most, pairs_most = BOUNDS.get(name, (1000, 3000))
+            print(f"{name}: {contexts} context goals and {pairs} pair goals are feasible; contexts {context:.1f} ms")
+            bounds.row("  tables", made, tables_most, "ms")
+            bounds.row("  tables and pairs", made + pair, pairs_most, "ms")
+            bounds.row("  memory", used, MEGABYTES, "MB")
+        for nonterminals in (128, 256, 512, 1024):
+            made, _, pair, _, pairs, _ = measured(path, folder, random_rules(nonterminals, 8, 12, 1))
+            print(f"{nonterminals * 8} rules of up to 12 symbols: tables {made:.1f} ms, {pairs} feasible pairs {pair:.1f} ms")
+    bounds.end()
 
 
 main()

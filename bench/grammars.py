@@ -9,6 +9,12 @@ def chain(count):
     return "%%\n" + "\n".join(rules) + f"\nn{count} : 'x' ;\n"
 
 
+def chain_in_the_opposite_order(count):
+    """The chain with its rules from the last to the first; the start symbol is named."""
+    rules = [f"n{i} : n{i + 1} ;" for i in range(count - 1, 0, -1)]
+    return f"%start n1\n%%\nn{count} : 'x' ;\n" + "\n".join(rules) + "\n"
+
+
 def turned_chain(count):
     """The chain with its last rule first, where rounds over the rules in order settle all but one late."""
     rules = [f"n{i} : n{i + 1} | n{i + 1} 'y' ;" for i in range(1, count)]

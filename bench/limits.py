@@ -1,40 +1,38 @@
 #!/usr/bin/env python3
 """Times `conform rules` on grammars at the limits: bench/limits.py [PROGRAM].
 
-Each row is a yacc file that is made here, the seconds of one run, the greatest memory of the run in MB, and the bytes
-that it wrote. Nothing here is part of the gate.
+Each row is a yacc file that is made here, and the processor seconds and the greatest memory of one run beside their bounds.
+It ends with status 1 where one is passed. Nothing here is part of the gate.
 """
 
-import os
-import resource
-import subprocess
-import sys
-import tempfile
-import time
+from grammars import ROWS, chain, chain_in_the_opposite_order
+from measure import Bounds, Run, program
 
-from grammars import ROWS
+SECONDS = {
+    "1,048,576 bytes": 0.1,
+    "1,024 nonterminals in a chain": 0.1,
+    "the same, the last one first": 0.1,
+    "8,192 rules of up to 12 symbols": 0.03,
+    "8,192 rules of up to 4 symbols": 0.03,
+    "4,000 rules of 128 symbols": 0.4,
+}
+MEGABYTES = 40
 
-TOP = os.path.dirname(os.path.dirname(os.path.abspath(__file__)))
 
-
-def run(program, text):
-    with tempfile.TemporaryDirectory() as folder:
-        with open(os.path.join(folder, "g.y"), "w") as file:
-            file.write(text)
-        begin = time.monotonic()
-        child = subprocess.Popen([program, "rules", "g.y"], cwd=folder, stdout=subprocess.PIPE, stderr=subprocess.PIPE)
-        out, err = child.communicate()
-        seconds = time.monotonic() - begin
-    used = resource.getrusage(resource.RUSAGE_CHILDREN).ru_maxrss / 1024
-    return child.returncode, seconds, used, len(out), err.decode().strip()
+def least_of(path, text, times=5):
+    return min((Run(path, text) for _ in range(times)), key=lambda run: run.seconds)
 
 
 def main():
-    program = os.path.abspath(sys.argv[1]) if len(sys.argv) > 1 else os.path.join(TOP, "crates/cs_cli/out/cs_cli")
+    path, bounds = program(), Bounds()
     for name, make in ROWS:
-        text = make()
-        status, seconds, used, written, said = run(program, text)
-        print(f"{name}: {len(text)} bytes, status {status}, {seconds:.2f} s, at most {used:.0f} MB, {written} bytes out {said}")
+        run = least_of(path, make())
+        print(f"{name}: status {run.status}, {run.written} bytes out {run.said}")
+        bounds.row("  time", run.seconds, SECONDS[name], "s")
+        bounds.row("  memory", run.megabytes, MEGABYTES, "MB")
+    forward, backward = least_of(path, chain(1024), 20), least_of(path, chain_in_the_opposite_order(1024), 20)
+    bounds.row("a chain of 1,024 with its rules in the opposite order", backward.seconds / max(forward.seconds, 0.001), 1.2, "times")
+    bounds.end()
 
 
 main()

@@ -33,14 +33,89 @@ goal 2 rule 2 size 2
   tokens 'x'
 end goals 2 feasible 2 infeasible 0 large 0 negatives 0
 """
+SUM = b"""conform 1 rules
+token 1 NUM
+token 2 '+'
+rule 1 s : s '+' NUM
+rule 2 s : NUM
+goal 1 rule 1 size 5
+  derive 1 2
+  tokens NUM '+' NUM
+goal 2 rule 2 size 2
+  derive 2
+  tokens NUM
+end goals 2 feasible 2 infeasible 0 large 0 negatives 0
+"""
+CALCULATOR = b"""conform 1 rules
+token 1 NUMBER
+token 2 PRINT
+token 3 LET
+token 4 NAME
+token 5 '+'
+token 6 '-'
+token 7 '*'
+token 8 '/'
+token 9 ';'
+token 10 '='
+token 11 '('
+token 12 ')'
+rule 1 program :
+rule 2 program : program statement ';'
+rule 3 statement : PRINT expression
+rule 4 statement : LET NAME '=' expression
+rule 5 expression : expression '+' expression
+rule 6 expression : expression '-' expression
+rule 7 expression : expression '*' expression
+rule 8 expression : expression '/' expression
+rule 9 expression : '-' expression
+rule 10 expression : '(' expression ')'
+rule 11 expression : NUMBER
+goal 1 rule 1 size 1
+  derive 1
+  tokens
+goal 2 rule 2 size 7
+  derive 2 1 3 11
+  tokens PRINT NUMBER ';'
+goal 3 rule 3 size 7
+  derive 2 1 3 11
+  tokens PRINT NUMBER ';'
+goal 4 rule 4 size 9
+  derive 2 1 4 11
+  tokens LET NAME '=' NUMBER ';'
+goal 5 rule 5 size 11
+  derive 2 1 3 5 11 11
+  tokens PRINT NUMBER '+' NUMBER ';'
+goal 6 rule 6 size 11
+  derive 2 1 3 6 11 11
+  tokens PRINT NUMBER '-' NUMBER ';'
+goal 7 rule 7 size 11
+  derive 2 1 3 7 11 11
+  tokens PRINT NUMBER '*' NUMBER ';'
+goal 8 rule 8 size 11
+  derive 2 1 3 8 11 11
+  tokens PRINT NUMBER '/' NUMBER ';'
+goal 9 rule 9 size 9
+  derive 2 1 3 9 11
+  tokens PRINT '-' NUMBER ';'
+goal 10 rule 10 size 10
+  derive 2 1 3 10 11
+  tokens PRINT '(' NUMBER ')' ';'
+goal 11 rule 11 size 7
+  derive 2 1 3 11
+  tokens PRINT NUMBER ';'
+end goals 11 feasible 11 infeasible 0 large 0 negatives 0
+"""
 with open(os.path.join(TOP, "crates", "cs_cli", "stdout"), "rb") as stored:
     SUMS = stored.read()
+EXAMPLES = os.path.join(TOP, "examples")
 
 # words, status, output, error output
 ROWS = [
     (["rules", "g1.y"], 0, SUMS, b""),
     (["rules", "./g1.y"], 0, SUMS, b""),
     (["rules", "choice.y"], 0, CHOICE, b""),
+    (["rules", os.path.join(EXAMPLES, "sum.y")], 0, SUM, b""),
+    (["rules", os.path.join(EXAMPLES, "calculator.y")], 0, CALCULATOR, b""),
     (["rules", "empty.y"], 1, b"", b"conform: yacc: Syntax at 0\n"),
     (["rules", "open.y"], 1, b"", b"conform: yacc: Unended at 40\n"),
     (["rules", "long.y"], 1, b"", b"conform: yacc: Length above 1048576\n"),
