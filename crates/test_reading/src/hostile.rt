@@ -24,7 +24,7 @@ fn hostile_texts(rt: HostRuntime) -> Result<(), Fail> {
         ("%% s : {", "\\'", YaccError::Unended { at: 7 }),
         ("%% s : {", "\\\"\\'", YaccError::Unended { at: 7 }),
         ("%% s : ", "{", YaccError::Unended { at: 7 }),
-        ("%% s : ", "/*", YaccError::Unended { at: 7 }),
+        ("%% s : /*", "*", YaccError::Unended { at: 7 }),
         ("%{", "%", YaccError::Unended { at: 0 }),
         ("%% s", "\ns", YaccError::Syntax { at: 5 }),
         ("%% s : ", "<", YaccError::BadItem { at: 7 }),
