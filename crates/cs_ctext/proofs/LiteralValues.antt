@@ -1,5 +1,5 @@
 -- The byte and the size that are found are the literal's.
-use Rattle.std.proofs.Common.{◌≡◌, ◌≢◌, ℕ, zero, suc, ◌+◌, ◌-◌, ◌<◌, ◌≤◌, Bool, true, false, cond, eqb, ◌&&◌, ◌||◌, List, [], ◌∷◌, ◌++◌, length, get_or, take, drop, min, Option, Some, None, refl, sym, ap, subst, ◌∙◌, ◌⊎◌, inl, inr, arith, eq-eqb, one-add, add-one, take-append-drop}
+use Rattle.std.proofs.Common.{◌≡◌, ◌≢◌, ℕ, suc, ◌+◌, ◌-◌, ◌<◌, ◌≤◌, Bool, true, false, cond, eqb, ◌||◌, List, [], ◌∷◌, ◌++◌, length, get_or, take, drop, min, Option, Some, None, refl, sym, ap, subst, ◌∙◌, ◌⊎◌, inl, inr, arith, eq-eqb, add-one, take-append-drop}
 use Rattle.std.specs.Prelude.{slice_get}
 use Rattle.std.specs.List.{prefix_len, list_all}
 use Rattle.std.proofs.lemmas.Bool.{false≢true, eqb-true}
@@ -8,6 +8,7 @@ use Rattle.std.proofs.lemmas.List.{length-take-le, take_at, drop_at}
 use Rattle.std.proofs.lemmas.List.Sums.{prefix_len-le-length}
 use Rattle.cs_bytes.specs.Classes.{is_octal_digit, is_hexadecimal_digit}
 use Rattle.cs_bytes.specs.Digits.{number_of}
+use Rattle.cs_bytes.proofs.Runs.{run-stops, run-passes}
 use Rattle.cs_ctext.specs.Literals.{escaped_byte, IsCharacter, plain, named, octal, hexadecimal, IsLiteral}
 use Rattle.cs_bytes.specs.Places.{begins_with}
 use Rattle.cs_ctext.specs.Scans.{digits_of, behind, single, escape_of, character_of}
@@ -29,22 +30,6 @@ second_same : (a b c d : ℕ) → pair a b ≡ pair c d → b ≡ d
 second_same a b c d e = ap (λ p. p.1) (same_pair (a, b) (c, d) e)
 
 -- ---- digits
-
-run-stops : (p : ℕ → Bool) (digits : List ℕ) (c : ℕ) (rest : List ℕ) → list_all p digits ≡ true → p c ≡ false → prefix_len p (digits ++ c ∷ rest) ≡ length digits
-run-stops p [] c rest all stop = rw stop refl
-run-stops p (d ∷ digits) c rest all stop =
-    let both = and_true (p d) (list_all p digits) all in
-    rw (both.0, run-stops p digits c rest both.1 stop) (one-add (length digits))
-
-pass_step : (p : ℕ → Bool) (b n : ℕ) (text : List ℕ) (t : Bool) → p b ≡ t → suc n ≤ cond t (1 + prefix_len p text) 0
-    → (n ≤ prefix_len p text → list_all p (take n text) ≡ true) → (p b && list_all p (take n text)) ≡ true
-pass_step p b n text true e le rest = rw e (rest (omega arith))
-pass_step p b n text false e le rest = absurd (omega arith)
-
-run-passes : (p : ℕ → Bool) (n : ℕ) (text : List ℕ) → n ≤ prefix_len p text → list_all p (take n text) ≡ true
-run-passes p zero text le = refl
-run-passes p (suc n) [] le = refl
-run-passes p (suc n) (b ∷ text) le = pass_step p b n text (p b) refl le (run-passes p n text)
 
 digits_of-read : (p : ℕ → Bool) (base most : ℕ) (digits : List ℕ) (c : ℕ) (rest : List ℕ) → list_all p digits ≡ true → p c ≡ false → 1 ≤ length digits → length digits ≤ most
     → digits_of p base most (digits ++ c ∷ rest) ≡ Some (number_of base digits, length digits)
