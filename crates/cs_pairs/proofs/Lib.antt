@@ -1,8 +1,5 @@
 pub mod Joined
 pub mod ListCosts
-pub mod ListSteps
-pub mod RowCosts
-pub mod RowRounds
 pub mod RowLists
 pub mod Filling
 pub mod KindCosts
@@ -24,3 +21,8 @@ pub mod Written
 pub mod Meetings
 pub mod Laying
 pub mod Derived
+pub mod Numbers
+pub mod Rimming
+pub mod Reaching
+pub mod RimLists
+pub mod Baring

@@ -13,7 +13,7 @@ use Rattle.cs_cost.proofs.Ranks.{rank-cost_of, IsCapped-cost_of, plus_at_most, p
 use Rattle.cs_pairs.specs.declared.kind.Kind.{Kind}
 use Rattle.cs_pairs.specs.declared.kind.Kind.TheVariants.{Any, Empty, Begins, Ends}
 use Rattle.cs_pairs.specs.Kinds.{IsOfKind, IsTreeOfKind, AreTreesOfKind, before, behind, IsPart, IsKind}
-use Rattle.cs_pairs.specs.ListCost.{lesser, leaf_cost, bare_cost, list_cost, node_cost}
+use Rattle.cs_pairs.specs.ListCost.{lesser, leaf_cost, bare_cost}
 use Rattle.cs_pairs.proofs.Joined.{joined_cases, joined_here, joined_later}
 
 -- the parts of a kind
@@ -35,12 +35,6 @@ IsKind-part tokens k j part h =
     (λ e. subst (IsKind tokens) (sym e) h)
     (λ other. ⊎_elim (λ e. subst (IsKind tokens) (sym e) (IsKind-before tokens k h)) (λ e. subst (IsKind tokens) (sym e) (IsKind-behind tokens k h)) other)
     part
-
-pub IsPart-behind : (k j : Kind) → IsPart (behind k) j → IsPart k j
-IsPart-behind Any j h = h
-IsPart-behind Empty j h = h
-IsPart-behind (Begins b) j h = inr (inr (⊎_elim (λ e. e) (λ o. ⊎_elim (λ e. e) (λ e. e) o) h))
-IsPart-behind (Ends a) j h = inr (inr (⊎_elim (λ e. e) (λ o. ⊎_elim (λ e. e) (λ e. e) o) h))
 
 module _ (w : Measure) where
   pub lesser_left : (a b : Cost) → rank w.limit (lesser w.limit a b) ≤ rank w.limit a
@@ -95,76 +89,6 @@ module _ (w : Measure) where
   IsCapped-bare Empty = omega arith
   IsCapped-bare (Begins b) = tt
   IsCapped-bare (Ends a) = tt
-
-  -- where no rule makes a nonterminal cost less, no tree does
-  module _ (g : PlainGrammar) (told : Kind → Symbol → Cost) (leaf : (k : Kind) (t : ℕ) → rank w.limit (told k (Token t)) ≤ rank w.limit (leaf_cost w k t)) (tokens : ℕ) (closed : (k : Kind) → IsKind tokens k → (r : ℕ) (p : Production) → IsRule g r p → rank w.limit (told k (Nonterminal p.left)) ≤ rank w.limit (node_cost w.limit told k p.right)) where
-    mutual
-      pub kind_tree_low : (t : Tree) (x : Symbol) (k : Kind) → IsKind tokens k → IsTree g x t → IsOfKind k (yield t) → rank w.limit (told k x) ≤ capped w.limit (size w t)
-      kind_tree_low (Leaf t) x k fits h of = rw h (omega (arith, leaf k t, leaf_low k t of))
-      kind_tree_low (Node r f) x k fits h of =
-          let below = closed k fits r h.0 h.1 in
-          let children = kind_trees_low f h.0.right k fits h.3 of in
-          let both = plus_at_most w.limit (cost_of w.limit 1) (list_cost w.limit told k h.0.right) 1 (sizes w f) (omega (arith, rank-cost_of w.limit 1)) children in
-          rw h.2 (omega (arith, below, both))
-
-      pub kind_trees_low : (f : Forest) (xs : List Symbol) (k : Kind) → IsKind tokens k → AreTrees g xs f → IsOfKind k (yields f) → rank w.limit (list_cost w.limit told k xs) ≤ capped w.limit (sizes w f)
-      kind_trees_low Bare [] k fits h of = omega (arith, bare_low k of)
-      kind_trees_low Bare (x ∷ xs) k fits h of = absurd h
-      kind_trees_low (Grown t f) [] k fits h of = absurd h
-      kind_trees_low (Grown t f) (x ∷ xs) k fits h of =
-          let rest = list_cost w.limit told (behind k) xs in
-          let whole = list_cost w.limit told k xs in
-          let here = plus w.limit (told k x) rest in
-          let later = plus w.limit (told (before k) x) whole in
-          ⊎_elim
-          (λ v.
-          let first = kind_tree_low t x k fits h.0 v.0 in
-          let others = kind_trees_low f xs (behind k) (IsKind-behind tokens k fits) h.1 v.1 in
-          omega (arith, lesser_left here later, plus_at_most w.limit (told k x) rest (size w t) (sizes w f) first others))
-          (λ v.
-          let first = kind_tree_low t x (before k) (IsKind-before tokens k fits) h.0 v.0 in
-          let others = kind_trees_low f xs k fits h.1 v.1 in
-          omega (arith, lesser_right here later, plus_at_most w.limit (told (before k) x) whole (size w t) (sizes w f) first others))
-          (joined_cases k (yield t) (yields f) of)
-
-  -- what is told of a symbol is no size above the limit, and a tree of the kind costs no more
-  pub record IsReachedBy (g : PlainGrammar) (told : Kind → Symbol → Cost) (k : Kind) : Type 0 where
-    pub each : (x : Symbol) → IsCapped w.limit (told k x)
-    pub reached : (x : Symbol) → rank w.limit (told k x) ≤ w.limit + 1 → (t : Tree) × IsTreeOfKind g k x t × (capped w.limit (size w t) ≤ rank w.limit (told k x))
-
-  module _ (g : PlainGrammar) (told : Kind → Symbol → Cost) where
-    pub IsCapped-list : (k : Kind) → ((j : Kind) → IsPart k j → IsReachedBy g told j) → (xs : List Symbol) → IsCapped w.limit (list_cost w.limit told k xs)
-    IsCapped-list k sound [] = IsCapped-bare k
-    IsCapped-list k sound (x ∷ xs) =
-        let rest = list_cost w.limit told (behind k) xs in
-        let whole = list_cost w.limit told k xs in
-        IsCapped-lesser (plus w.limit (told k x) rest) (plus w.limit (told (before k) x) whole)
-        (IsCapped-plus w.limit (told k x) rest ((sound k (inl refl)).each x) (IsCapped-list (behind k) (λ j u. sound j (IsPart-behind k j u)) xs))
-        (IsCapped-plus w.limit (told (before k) x) whole ((sound (before k) (inr (inl refl))).each x) (IsCapped-list k sound xs))
-
-    -- then trees of some symbols cost no more together
-    pub list_reached : (k : Kind) → ((j : Kind) → IsPart k j → IsReachedBy g told j) → (xs : List Symbol) → rank w.limit (list_cost w.limit told k xs) ≤ w.limit + 1 → (f : Forest) × AreTreesOfKind g k xs f × (capped w.limit (sizes w f) ≤ rank w.limit (list_cost w.limit told k xs))
-    list_reached k sound [] h = (Bare, bare_reached g k h, omega arith)
-    list_reached k sound (x ∷ xs) h =
-        let sound' = λ (j : Kind) (u : IsPart (behind k) j). sound j (IsPart-behind k j u) in
-        let rest = list_cost w.limit told (behind k) xs in
-        let whole = list_cost w.limit told k xs in
-        let here = plus w.limit (told k x) rest in
-        let later = plus w.limit (told (before k) x) whole in
-        ⊎_elim
-        (λ e.
-        let first = sound k (inl refl) in
-        let parts = plus_reached w.limit (told k x) rest (first.each x) (IsCapped-list (behind k) sound' xs) (omega (arith, h, ap (rank w.limit) e)) in
-        let t = first.reached x parts.first in
-        let f = list_reached (behind k) sound' xs parts.second in
-        (Grown t.0 f.0, ((t.1.0, f.1.0), joined_here k (yield t.0) (yields f.0) t.1.1 f.1.1), omega (arith, parts.sum, t.2, f.2, ap (rank w.limit) e)))
-        (λ e.
-        let first = sound (before k) (inr (inl refl)) in
-        let parts = plus_reached w.limit (told (before k) x) whole (first.each x) (IsCapped-list k sound xs) (omega (arith, h, ap (rank w.limit) e)) in
-        let t = first.reached x parts.first in
-        let f = list_reached k sound xs parts.second in
-        (Grown t.0 f.0, ((t.1.0, f.1.0), joined_later k (yield t.0) (yields f.0) t.1.1 f.1.1), omega (arith, parts.sum, t.2, f.2, ap (rank w.limit) e)))
-        (lesser_either here later)
 
 -- the members of two kinds together cost the lesser
 module _ {A : Type 0} (w : Measure) (First Second Both : A → Type 0) (measure : A → ℕ) where

@@ -1,10 +1,15 @@
 pub mod Kinds
+pub mod KindCost
+pub mod Sides
+pub mod Bare
+pub mod Rims
+pub mod RimsOf
+pub mod Nets
 pub mod Ways
 pub mod ListCost
-pub mod Rows
-pub mod RowsOf
 pub mod Filled
 pub mod Tables
+pub mod RowsOf
 pub mod Sweep
 pub mod Fronts
 pub mod Beside

@@ -1,13 +1,11 @@
 -- What lists of trees of a kind cost, by what single trees cost.
-use Rattle.std.specs.Prelude.{ℕ, List, [], ◌∷◌, nat_eq, nat_le, if◌then◌else◌}
-use Rattle.cs_grammar.specs.declared.symbol.Symbol.{Symbol}
+use Rattle.std.specs.Prelude.{ℕ, nat_eq, nat_le, if◌then◌else◌}
 use Rattle.cs_grammar.specs.Weights.{Measure, number}
 use Rattle.cs_cost.specs.declared.cost.Cost.{Cost}
 use Rattle.cs_cost.specs.declared.cost.Cost.TheVariants.{Never, Least}
-use Rattle.cs_cost.specs.Rank.{rank, plus, cost_of}
+use Rattle.cs_cost.specs.Rank.{rank, cost_of}
 use Rattle.cs_pairs.specs.declared.kind.Kind.{Kind}
 use Rattle.cs_pairs.specs.declared.kind.Kind.TheVariants.{Any, Empty, Begins, Ends}
-use Rattle.cs_pairs.specs.Kinds.{before, behind}
 
 -- the first of two costs where the second is no lower
 abbrev pub lesser : ℕ → Cost → Cost → Cost
@@ -26,14 +24,3 @@ bare_cost Any = Least 0
 bare_cost Empty = Least 0
 bare_cost (Begins b) = Never
 bare_cost (Ends a) = Never
-
--- trees of these symbols, together of the kind, where told says what a tree of a kind and a symbol costs
-abbrev pub list_cost : ℕ → (Kind → Symbol → Cost) → Kind → List Symbol → Cost
-list_cost limit told k [] = bare_cost k
-list_cost limit told k (x ∷ xs) =
-    lesser limit (plus limit (told k x) (list_cost limit told (behind k) xs))
-    (plus limit (told (before k) x) (list_cost limit told k xs))
-
--- a node above them
-abbrev pub node_cost : ℕ → (Kind → Symbol → Cost) → Kind → List Symbol → Cost
-node_cost limit told k right = plus limit (cost_of limit 1) (list_cost limit told k right)

@@ -1,12 +1,11 @@
--- What the rows in the code say.
-use Rattle.cs_grammar.specs.declared.symbol.Symbol.{Symbol}
-use Rattle.cs_cost.specs.declared.cost.Cost.{Cost}
-use Rattle.cs_pairs.specs.declared.kind.Kind.{Kind}
-use Rattle.cs_pairs.specs.declared.rows.Rows.{Rows}
-use Rattle.cs_pairs.specs.Rows.{says, AreRows}
+-- The rows of all kinds, as the code has them.
+use Rattle.cs_grammar.specs.Grammar.{PlainGrammar}
+use Rattle.cs_grammar.specs.Weights.{Measure}
+use Rattle.cs_pairs.specs.declared.kinds.Rows.{Rows}
+use Rattle.cs_pairs.specs.Tables.{Tables, AreKindTables}
 
-abbrev pub says_of : Rows → Kind → Symbol → Cost
-says_of rows k x = says rows.weights.now rows.made rows.any.now rows.empty.now rows.own.now k x
+abbrev pub tables_of : Rows → Tables
+tables_of rows = record { any = rows.any; empty = rows.empty; begins = rows.begins.items; ends = rows.ends.items }
 
-abbrev pub AreRowsOf : Rows → Type 0
-AreRowsOf rows = AreRows rows.weights.now rows.any.now rows.empty.now rows.own.now
+abbrev pub AreTablesOf : Measure → PlainGrammar → Rows → Type 0
+AreTablesOf w g rows = AreKindTables w g (tables_of rows)

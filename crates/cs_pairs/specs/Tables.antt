@@ -1,6 +1,5 @@
 -- The rows of all kinds.
 use Rattle.std.specs.Prelude.{◌≡◌, ℕ, zero, suc, List, [], length, slice_index_or}
-use Rattle.cs_grammar.specs.declared.symbol.Symbol.{Symbol}
 use Rattle.cs_grammar.specs.declared.symbol.Symbol.TheVariants.{Nonterminal}
 use Rattle.cs_grammar.specs.Grammar.{PlainGrammar, IsNumberOf}
 use Rattle.cs_grammar.specs.Weights.{Measure, Weighs}
@@ -10,8 +9,9 @@ use Rattle.cs_cost.specs.Least.{IsCost}
 use Rattle.cs_cost.specs.Rank.{entry}
 use Rattle.cs_pairs.specs.declared.kind.Kind.{Kind}
 use Rattle.cs_pairs.specs.declared.kind.Kind.TheVariants.{Any, Empty, Begins, Ends}
+use Rattle.cs_pairs.specs.declared.side.Side.TheVariants.{First, Last}
 use Rattle.cs_pairs.specs.Kinds.{IsTreeOfKind}
-use Rattle.cs_pairs.specs.Rows.{said, IsExactRow}
+use Rattle.cs_pairs.specs.Sides.{kind_on}
 
 -- the row of any trees, that of empty yields, and one for each token that a yield begins or ends with
 pub record Tables : Type 0 where
@@ -31,24 +31,20 @@ row_of t Empty = t.empty
 row_of t (Begins b) = row_in t.begins b
 row_of t (Ends a) = row_in t.ends a
 
--- what the tables say of a kind and a symbol
-abbrev pub tell : Measure → Tables → Kind → Symbol → Cost
-tell w t k x = said w k (row_of t k) x
-
--- rows of the first so many tokens
-pub record AreExactRows (w : Measure) (g : PlainGrammar) (kind : ℕ → Kind) (any empty : List Cost) (count : ℕ) (rows : List (List Cost)) : Type 0 where
-  pub many : length rows ≡ count
-  pub each : (n : ℕ) → IsNumberOf count n → IsExactRow w g (kind n) any empty (row_in rows n)
-
--- the tables of a grammar
-pub record AreExactTables (w : Measure) (g : PlainGrammar) (t : Tables) : Type 0 where
-  pub weighs : Weighs w g
-  pub any_exact : IsExactRow w g Any t.any t.empty t.any
-  pub empty_exact : IsExactRow w g Empty t.any t.empty t.empty
-  pub begins_exact : AreExactRows w g Begins t.any t.empty g.tokens t.begins
-  pub ends_exact : AreExactRows w g Ends t.any t.empty g.tokens t.ends
-
 -- a row that says what the least tree of each nonterminal costs that is of the kind
 pub record AreCosts (w : Measure) (g : PlainGrammar) (k : Kind) (row : List Cost) : Type 0 where
   pub many : length row ≡ g.nonterminals
   pub exact : (n : ℕ) → IsCost w.limit (IsTreeOfKind g k (Nonterminal n)) (size w) (entry row n)
+
+-- such rows for the first so many tokens
+pub record AreCostRows (w : Measure) (g : PlainGrammar) (kind : ℕ → Kind) (count : ℕ) (rows : List (List Cost)) : Type 0 where
+  pub many : length rows ≡ count
+  pub each : (n : ℕ) → IsNumberOf count n → AreCosts w g (kind n) (row_in rows n)
+
+-- the tables of a grammar
+pub record AreKindTables (w : Measure) (g : PlainGrammar) (t : Tables) : Type 0 where
+  pub weighs : Weighs w g
+  pub any_costs : AreCosts w g Any t.any
+  pub empty_costs : AreCosts w g Empty t.empty
+  pub begins_costs : AreCostRows w g (kind_on First) g.tokens t.begins
+  pub ends_costs : AreCostRows w g (kind_on Last) g.tokens t.ends

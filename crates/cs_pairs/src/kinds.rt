@@ -9,12 +9,16 @@ ghost use Rattle.cs_cost.specs.Least.{IsCost};
 ghost use Rattle.cs_cost.specs.Rank.{rank, IsCapped, cost_of, plus, entry};
 ghost use Rattle.cs_pairs.specs.ListCost.{lesser};
 ghost use Rattle.cs_pairs.specs.Kinds.{IsTreeOfKind, IsKind};
-ghost use Rattle.cs_pairs.specs.Rows.{IsSoundRow};
-ghost use Rattle.cs_pairs.specs.Tables.{AreCosts, AreExactRows};
+ghost use Rattle.cs_pairs.specs.RowsOf.{AreTablesOf};
+ghost use Rattle.cs_pairs.specs.Tables.{AreCosts};
 
+use crate::empties::empty_row;
 use crate::kind::Kind;
 use crate::row::Row;
-use crate::rows::{at_most, leaf_cost, lesser, made_row, put_lower};
+use crate::nets::{net_of, token_rows};
+use crate::rims::Bases;
+use crate::rows::{at_most, leaf_cost, lesser, put_lower};
+use crate::side::Side;
 use cs_cost::{Cost, Costs, cost_of, plus};
 use cs_grammar::{Grammar, Symbol, Weights};
 use std::alloc::{AllocError, Global};
@@ -25,6 +29,12 @@ use std::marker::Model;
 pub(crate) struct Kinds<'g> {
     grammar: &'g Grammar,
     weights: &'g Weights,
+    rows: Rows,
+}
+
+// What they cost of any trees, of those of empty yield, and of those that begin or end with each token.
+#[derive(Debug, Drop)]
+struct Rows {
     any: Row,
     empty: Row,
     begins: Vec<Row>,
@@ -33,18 +43,13 @@ pub(crate) struct Kinds<'g> {
 
 impl<'g> Model for Kinds<'g> {
     ghost use Rattle.cs_grammar.specs.Weights.{Weighed};
-    ghost use Rattle.cs_pairs.specs.Tables.{AreExactTables};
+    ghost use Rattle.cs_pairs.specs.RowsOf.{AreTablesOf};
 
     ghost Value = { Weighed };
 
     ghost view = { λ k. record { grammar = k.grammar.now; weights = k.weights.now } };
 
-    ghost invariant = { λ k. AreExactTables k.weights.now k.grammar.now (record {
-      any = k.any;
-      empty = k.empty;
-      begins = k.begins.items;
-      ends = k.ends.items;
-    }) };
+    ghost invariant = { λ k. AreTablesOf k.weights.now k.grammar.now k.rows };
 }
 
 impl<'g> Kinds<'g> {
@@ -52,7 +57,20 @@ impl<'g> Kinds<'g> {
         ensures { IfOk result (λ kinds. kinds ≡ costs.now) }
     {
         let any = any_row(alloc, costs)?;
-        kinds_of(alloc, costs.grammar(), costs.weights(), any)
+        let empty = empty_row(alloc, costs)?;
+        let bases = Bases {
+            costs,
+            empty: empty.costs(),
+        };
+        let begins = token_rows(alloc, costs, &net_of(alloc, &bases, Side::First)?)?;
+        let ends = token_rows(alloc, costs, &net_of(alloc, &bases, Side::Last)?)?;
+        let rows = Rows {
+            any,
+            empty,
+            begins,
+            ends,
+        };
+        Ok(kinds_of(costs.grammar(), costs.weights(), rows))
     }
 
     pub(crate) fn grammar(&self) -> &'g Grammar
@@ -135,41 +153,27 @@ impl<'g> Kinds<'g> {
         ensures { AreCosts self.now.weights self.now.grammar kind result.now }
     {
         match kind {
-            Kind::Any => self.any.costs(),
-            Kind::Empty => self.empty.costs(),
-            Kind::Begins(token) => self.begins[token as usize - 1].costs(),
-            Kind::Ends(token) => self.ends[token as usize - 1].costs(),
+            Kind::Any => self.rows.any.costs(),
+            Kind::Empty => self.rows.empty.costs(),
+            Kind::Begins(token) => self.rows.begins[token as usize - 1].costs(),
+            Kind::Ends(token) => self.rows.ends[token as usize - 1].costs(),
         }
     }
 }
 
-// The rows of all kinds, from that of any trees.
-fn kinds_of<'g>(
-    alloc: Global,
-    grammar: &'g Grammar,
-    weights: &'g Weights,
-    any: Row,
-) -> Result<Kinds<'g>, AllocError>
-    requires weighs { Weighs weights.now grammar.now }
-    requires any { AreCosts weights.now grammar.now Kind.Any any }
-    ensures { IfOk result (λ kinds. kinds ≡ weighed grammar.now weights.now) }
+fn kinds_of<'g>(grammar: &'g Grammar, weights: &'g Weights, rows: Rows) -> Kinds<'g>
+    requires { AreTablesOf weights.now grammar.now rows }
+    ensures { result ≡ weighed grammar.now weights.now }
 {
-    let blank = vec![in alloc; Cost::Never; grammar.nonterminals() as usize]?;
-    let empty = Row::new(made_row(alloc, grammar, weights, Kind::Empty, any.costs(), &blank)?);
-    let begins = begin_rows(alloc, grammar, weights, &any, &empty)?;
-    let ends = end_rows(alloc, grammar, weights, &any, &empty)?;
-    Ok(Kinds {
+    Kinds {
         grammar,
         weights,
-        any,
-        empty,
-        begins,
-        ends,
-    })
+        rows,
+    }
 }
 
 // What any trees cost, as `Costs` says.
-fn any_row(alloc: Global, costs: &Costs) -> Result<Row, AllocError>
+pub(crate) fn any_row(alloc: Global, costs: &Costs) -> Result<Row, AllocError>
     ensures { IfOk result (λ row. AreCosts costs.now.weights costs.now.grammar Kind.Any row) }
 {
     let mut row = Vec::new(alloc);
@@ -178,60 +182,4 @@ fn any_row(alloc: Global, costs: &Costs) -> Result<Row, AllocError>
         row.push(costs.cost(Symbol::Nonterminal(place + 1)))?;
     }
     Ok(Row::new(row))
-}
-
-// A row for each token that a yield may begin with.
-fn begin_rows(
-    alloc: Global,
-    grammar: &Grammar,
-    weights: &Weights,
-    any: &Row,
-    empty: &Row,
-) -> Result<Vec<Row>, AllocError>
-    requires weights { Weighs weights.now grammar.now }
-    requires any { IsSoundRow weights.now grammar.now Kind.Any any.now }
-    requires empty { IsSoundRow weights.now grammar.now Kind.Empty empty.now }
-    ensures { IfOk result (λ rows. AreExactRows weights.now grammar.now Kind.Begins any.now empty.now grammar.now.tokens rows.items) }
-{
-    let mut rows = Vec::new(alloc);
-    for place in 0..grammar.tokens() {
-        let row = made_row(
-            alloc,
-            grammar,
-            weights,
-            Kind::Begins(place + 1),
-            any.costs(),
-            empty.costs(),
-        )?;
-        rows.push(Row::new(row))?;
-    }
-    Ok(rows)
-}
-
-// A row for each token that a yield may end with.
-fn end_rows(
-    alloc: Global,
-    grammar: &Grammar,
-    weights: &Weights,
-    any: &Row,
-    empty: &Row,
-) -> Result<Vec<Row>, AllocError>
-    requires weights { Weighs weights.now grammar.now }
-    requires any { IsSoundRow weights.now grammar.now Kind.Any any.now }
-    requires empty { IsSoundRow weights.now grammar.now Kind.Empty empty.now }
-    ensures { IfOk result (λ rows. AreExactRows weights.now grammar.now Kind.Ends any.now empty.now grammar.now.tokens rows.items) }
-{
-    let mut rows = Vec::new(alloc);
-    for place in 0..grammar.tokens() {
-        let row = made_row(
-            alloc,
-            grammar,
-            weights,
-            Kind::Ends(place + 1),
-            any.costs(),
-            empty.costs(),
-        )?;
-        rows.push(Row::new(row))?;
-    }
-    Ok(rows)
 }

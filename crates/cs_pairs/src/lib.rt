@@ -9,14 +9,18 @@
 
 mod beside;
 mod derive;
+mod empties;
 mod fronts;
 mod kind;
 mod kinds;
 mod laws;
 mod meeting;
+mod nets;
 mod pairs;
+mod rims;
 mod row;
 mod rows;
+mod side;
 mod sweep;
 mod writing;
 

@@ -7,7 +7,7 @@ use Rattle.cs_pairs.specs.Kinds.{IsTreeOfKind}
 use Rattle.cs_pairs.specs.Filled.{IsFilled}
 use Rattle.cs_pairs.specs.Tables.{AreCosts}
 use Rattle.cs_pairs.proofs.Filling.{filled_more, filled_all}
-use Rattle.cs_pairs.proofs.KindCosts.{any_costs, of_any}
+use Rattle.cs_pairs.proofs.KindCosts.{costs_filled, of_any}
 use Rattle.cs_pairs.proofs.kinds.any_row.Goals as goal
 
 pub loop-place-preserved : goal.loop-place-preserved
@@ -23,4 +23,4 @@ returns c =
     let grammar = subst IsGrammar c.grammar.ensures c.rules-rules.ensures.well_formed in
     let end = c.nonterminals-place-end.ensures ∙ ap (λ (s : PlainGrammar). s.nonterminals) c.grammar-2.ensures in
     subst (AreCosts c.args.costs.now.weights g Any) (sym c.new.ensures)
-    (any_costs c.args.costs.now.weights g _ grammar (filled_all c.args.costs.now.weights.limit (λ m. IsTreeOfKind g Any (Nonterminal m)) (size c.args.costs.now.weights) _ _ _ _ c.loop-place.invariant c.loop-place-test.false end c.loop-place.auto.place-end))
+    (costs_filled c.args.costs.now.weights g Any _ grammar (filled_all c.args.costs.now.weights.limit (λ m. IsTreeOfKind g Any (Nonterminal m)) (size c.args.costs.now.weights) _ _ _ _ c.loop-place.invariant c.loop-place-test.false end c.loop-place.auto.place-end))

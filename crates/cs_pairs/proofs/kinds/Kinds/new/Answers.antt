@@ -1,16 +1,30 @@
-use Rattle.std.proofs.Common.{sym, subst}
+use Rattle.std.proofs.Common.{sym, ap, subst, ◌∙◌}
 use Rattle.cs_grammar.specs.Grammar.{PlainGrammar}
-use Rattle.cs_grammar.specs.Weights.{Measure, Weighs}
-use Rattle.cs_pairs.specs.declared.kind.Kind.TheVariants.{Any}
+use Rattle.cs_grammar.specs.Weights.{Measure}
+use Rattle.cs_pairs.specs.declared.kind.Kind.TheVariants.{Empty}
+use Rattle.cs_pairs.specs.declared.kinds.Rows.{Rows}
+use Rattle.cs_pairs.specs.declared.side.Side.{Side}
+use Rattle.cs_pairs.specs.declared.side.Side.TheVariants.{First, Last}
+use Rattle.cs_pairs.specs.Nets.{AreRowsOn}
+use Rattle.cs_pairs.specs.RowsOf.{AreTablesOf}
 use Rattle.cs_pairs.specs.Tables.{AreCosts}
 use Rattle.cs_pairs.proofs.kinds.Kinds.new.Goals as goal
 
-pub kinds_of-requires-clause-weighs : goal.kinds_of-requires-clause-weighs
-kinds_of-requires-clause-weighs c =
-    subst (λ (m : Measure). Weighs m c.grammar.result.now) (sym c.weights.ensures.weights)
-    (subst (λ (s : PlainGrammar). Weighs c.args.costs.now.weights s) (sym c.grammar.ensures) c.weights.ensures.weighs)
+pub net_of-requires : goal.net_of-requires
+net_of-requires c = subst (AreCosts c.args.costs.now.weights c.args.costs.now.grammar Empty) (sym c.costs.ensures) c.in_ok-empty.ensures
 
-pub kinds_of-requires-clause-any : goal.kinds_of-requires-clause-any
-kinds_of-requires-clause-any c =
-    subst (λ (m : Measure). AreCosts m c.grammar.result.now Any c.in_ok-any.any) (sym c.weights.ensures.weights)
-    (subst (λ (s : PlainGrammar). AreCosts c.args.costs.now.weights s Any c.in_ok-any.any) (sym c.grammar.ensures) c.in_ok-any.ensures)
+pub net_of-requires-2 : goal.net_of-requires-2
+net_of-requires-2 c = subst (AreCosts c.args.costs.now.weights c.args.costs.now.grammar Empty) (sym c.costs.ensures) c.in_ok-empty.ensures
+
+pub kinds_of-requires : goal.kinds_of-requires
+kinds_of-requires c =
+    let rows : Rows = record { any = c.in_ok-any.any; empty = c.in_ok-empty.empty; begins = c.in_ok-begins.begins; ends = c.in_ok-ends.ends } in
+    let v = c.args.costs.now in
+    let at : AreTablesOf v.weights v.grammar rows = record {
+      weighs = c.weights.ensures.weighs;
+      any_costs = c.in_ok-any.ensures;
+      empty_costs = c.in_ok-empty.ensures;
+      begins_costs = subst (λ (s : Side). AreRowsOn v s c.in_ok-begins.begins.items) c.in_ok-net_of.ensures.0 c.in_ok-begins.ensures;
+      ends_costs = subst (λ (s : Side). AreRowsOn v s c.in_ok-ends.ends.items) c.in_ok-net_of-2.ensures.0 c.in_ok-ends.ensures;
+    } in
+    subst (λ (m : Measure). AreTablesOf m c.grammar.result.now rows) (sym c.weights.ensures.weights) (subst (λ (s : PlainGrammar). AreTablesOf v.weights s rows) (sym c.grammar.ensures) at)
