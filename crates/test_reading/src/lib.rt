@@ -8,6 +8,10 @@ mod c_text;
 #[cfg(test)]
 mod hostile;
 #[cfg(test)]
+mod lex_kinds;
+#[cfg(test)]
+mod lex_layout;
+#[cfg(test)]
 mod yacc;
 #[cfg(test)]
 mod yacc_items;

@@ -1,0 +1,9 @@
+pub mod GapEnds
+pub mod SignRuns
+pub mod NamesBehind
+pub mod ReturnsFound
+pub mod MarksFound
+pub mod BarsFound
+pub mod WordsFound
+pub mod KindsFound
+pub mod OneKind

@@ -1,0 +1,14 @@
+pub mod Walks
+pub mod Units
+pub mod NextEnds
+pub mod Pieces
+pub mod NameTables
+pub mod Tails
+pub mod OpenRules
+pub mod Extents
+pub mod NewNames
+pub mod Lying
+pub mod Reading
+pub mod KindsOfLines
+pub mod Uniqueness
+pub mod SettledTexts

@@ -1,0 +1,18 @@
+-- A text has at most one layout, or stops in at most one way, and not both. In a layout no name is defined again.
+use Rattle.std.specs.Prelude.{◌≡◌, ℕ, List}
+use Rattle.cs_lex_layout.specs.declared.parts.Definition.{Definition}
+use Rattle.cs_lex_layout.specs.declared.parts.Rule.{Rule}
+use Rattle.cs_lex_layout.specs.declared.error.LayoutError.{LayoutError}
+use Rattle.cs_lex_layout.specs.Layout.{HasLayout, HaveNewNames, StopsWith}
+
+abbrev pub HasOneLayout : List ℕ → Type 0
+HasOneLayout bytes = (ds es : List Definition) (rs qs : List Rule) → HasLayout bytes ds rs → HasLayout bytes es qs → (ds ≡ es) × (rs ≡ qs)
+
+abbrev pub StopsInOneWay : List ℕ → Type 0
+StopsInOneWay bytes = (e f : LayoutError) → StopsWith bytes e → StopsWith bytes f → e ≡ f
+
+abbrev pub HasNoLayoutWhereItStops : List ℕ → Type 0
+HasNoLayoutWhereItStops bytes = (e : LayoutError) (ds : List Definition) (rs : List Rule) → StopsWith bytes e → HasLayout bytes ds rs → ⊥
+
+abbrev pub DefinesNoNameAgain : List ℕ → Type 0
+DefinesNoNameAgain bytes = (ds : List Definition) (rs : List Rule) → HasLayout bytes ds rs → HaveNewNames bytes ds

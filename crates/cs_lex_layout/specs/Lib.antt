@@ -1,0 +1,14 @@
+pub mod Steps
+pub mod Bytes
+pub mod Patterns
+pub mod Runs
+pub mod Lines
+pub mod Forms
+pub mod Layout
+pub mod Names
+pub mod Found
+pub mod Answers
+pub mod Lies
+pub mod Laws
+pub mod Places
+pub mod Settled

@@ -1,0 +1,154 @@
+// Brackets of patterns.
+
+ghost use Rattle.std.specs.Prelude.{◌≡◌, ◌≤◌, ◌<◌, ◌+◌, ℕ, length, drop, IfSome, IfNone, IsTrue};
+ghost use Rattle.std.specs.List.{position_or_len};
+ghost use Rattle.cs_bytes.specs.Places.{begins_with};
+ghost use Rattle.cs_lex_layout.specs.Found as found;
+ghost use Rattle.cs_lex_layout.specs.Patterns as spec;
+ghost use Rattle.cs_lex_layout.specs.Steps.{Walk, Spans, HasSize};
+
+use crate::unit::is_escape;
+use cs_bytes::{from_offset, has_at};
+
+fn is_bracket_byte(byte: u8) -> bool
+    ensures { result ≡ spec.is_bracket_byte byte }
+{
+    !matches!(byte, b']' | b'\\' | b'\n')
+}
+
+fn is_part_mark(byte: u8) -> bool
+    ensures { result ≡ spec.is_part_mark byte }
+{
+    byte == b':' || byte == b'.' || byte == b'='
+}
+
+fn ends_part(byte: u8) -> bool
+    ensures { result ≡ spec.ends_part byte }
+{
+    byte == b']' || byte == b'\n'
+}
+
+/// How many bytes stand in front of the next `]` or newline.
+fn part_len(inside: &[u8]) -> usize
+    ensures size { result ≡ position_or_len spec.ends_part inside.now }
+    ensures within { result ≤ length inside.now }
+{
+    inside.iter().take_while(|byte| !ends_part(**byte)).count()
+}
+
+/// Whether `[` and the mark of a named part begin the text.
+fn opens_part(text: &[u8]) -> bool
+    ensures { result ≡ spec.opens_part text.now }
+{
+    match text {
+        [b'[', mark, ..] => is_part_mark(*mark),
+        _ => false,
+    }
+}
+
+/// Whether the mark stands again behind so many bytes of the named part in front, and `]` behind it.
+fn closes_part(text: &[u8], len: usize) -> bool
+    requires { len + 2 ≤ length text.now }
+    ensures { result ≡ spec.closes_part len text.now }
+{
+    has_at(text, len + 2, b']') && len > 0 && text[len + 1] == text[1]
+}
+
+/// The size of the named part in front, or 0, where so many bytes stand behind its mark before the next `]` or newline.
+#[tactic(auto, using(crate::proofs::NextEnds::part_within))]
+fn named_size(text: &[u8], len: usize) -> usize
+    requires { len ≡ spec.part_len text.now }
+    ensures size { result ≡ spec.named_size text.now }
+    ensures within { result ≤ length text.now }
+{
+    if opens_part(text) && closes_part(text, len) {
+        len + 3
+    } else {
+        0
+    }
+}
+
+/// The size of the escape, named part or byte in front, or 0, where so many bytes stand behind a named part's mark before the
+/// next `]` or newline.
+fn member_size(text: &[u8], len: usize) -> usize
+    requires { len ≡ spec.part_len text.now }
+    ensures size { result ≡ spec.member_size text.now }
+    ensures within { result ≤ length text.now }
+{
+    if is_escape(text) {
+        return 2;
+    }
+    let named = named_size(text, len);
+    if named > 0 {
+        return named;
+    }
+    match text {
+        [byte, ..] if is_bracket_byte(*byte) => 1,
+        _ => 0,
+    }
+}
+
+/// The offset of the first `]` or newline at or behind the offset, where the known one is the first behind an earlier offset:
+/// so it is looked for once.
+fn next_end(text: &[u8], from: usize, known: usize) -> usize
+    requires { found.IsEnd text.now from known }
+    ensures { result ≡ found.end_from text.now from }
+{
+    if from <= known {
+        known
+    } else {
+        from + part_len(from_offset(text, from.min(text.len())))
+    }
+}
+
+/// How many bytes the members in front take.
+fn members_len(text: &[u8]) -> usize
+    ensures units { Walk (Spans (HasSize spec.member_size) text.now) 0 result }
+    ensures ends { spec.member_size (drop result text.now) ≡ 0 }
+    ensures within { result ≤ length text.now }
+{
+    let mut at = 0;
+    let mut end = next_end(text, 2, part_len(text));
+    let mut size = member_size(text, end - 2);
+    while size > 0 {
+        at += size;
+        end = next_end(text, at + 2, end);
+        size = member_size(from_offset(text, at), end - (at + 2));
+    }
+    at
+}
+
+/// 1 where the byte stands at the index, else 0.
+fn one_if_at(text: &[u8], index: usize, byte: u8) -> usize
+    ensures one { result ≡ spec.one_if (begins_with byte (drop index text.now)) }
+    ensures within { index ≤ length text.now → index + result ≤ length text.now }
+{
+    if has_at(text, index, byte) { 1 } else { 0 }
+}
+
+/// The size of the `[` with a `^` and a `]` that directly follow it.
+fn opening_size(text: &[u8]) -> usize
+    requires { IsTrue (begins_with 91 text.now) }
+    ensures size { result ≡ spec.opening_size text.now }
+    ensures within { result ≤ length text.now }
+{
+    let turned = 1 + one_if_at(text, 1, b'^');
+    turned + one_if_at(text, turned, b']')
+}
+
+/// The size of the bracket in front, where it is closed on its line.
+pub fn bracket_size(text: &[u8]) -> Option<usize>
+    requires { IsTrue (begins_with 91 text.now) }
+    ensures closed { IfSome result (λ size. spec.IsBracket text.now size) }
+    ensures within { IfSome result (λ size. (0 < size) × (size ≤ length text.now)) }
+    ensures unclosed { IfNone result ((size : ℕ) → ¬ spec.IsBracket text.now size) }
+{
+    let opening = opening_size(text);
+    let rest = from_offset(text, opening);
+    let inside = members_len(rest);
+    if has_at(rest, inside, b']') {
+        Some(opening + inside + 1)
+    } else {
+        None
+    }
+}

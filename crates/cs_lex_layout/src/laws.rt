@@ -1,0 +1,31 @@
+// Laws of layouts.
+
+ghost use Rattle.std.specs.Prelude.{◌≡◌, ℕ, List};
+ghost use Rattle.cs_lex_layout.specs.Laws as spec;
+
+use crate::MOST_BYTES;
+
+/// A text has one layout.
+pub fn one_layout()
+    ensures { (bytes : List ℕ) → spec.HasOneLayout bytes }
+{}
+
+/// Layout of a text stops at one offset, for one reason.
+pub fn one_stop()
+    ensures { (bytes : List ℕ) → spec.StopsInOneWay bytes }
+{}
+
+/// No text both has a layout and stops.
+pub fn stopped_has_no_layout()
+    ensures { (bytes : List ℕ) → spec.HasNoLayoutWhereItStops bytes }
+{}
+
+/// In a layout no name is defined again.
+pub fn new_names()
+    ensures { (bytes : List ℕ) → spec.DefinesNoNameAgain bytes }
+{}
+
+/// The limit of the definitions is the code's.
+pub fn limits()
+    ensures { MOST_BYTES ≡ 1048576 }
+{}

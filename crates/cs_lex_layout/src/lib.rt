@@ -1,0 +1,32 @@
+//! The layout of a lex file: its bytes are cut into sections, lines, definitions and rules.
+//!
+//! The layer above calls `read_layout` and goes on with the parts: the name and the substitute of each definition, and the
+//! pattern and the action of each rule. Patterns and actions have no meaning yet.
+//!
+//! Meaning, in `specs/`: `Bytes` and `Steps` (words of the others), `Lines` (what a line is, by what it begins with),
+//! `Patterns`, `Runs` and `Forms` (how far each goes), `Layout` (which bytes have which layout, and where it stops), `Lies`
+//! (where the parts lie), `Answers` and `Laws`. `Names`, `Found`, `Places` and `Settled` are working words of the proofs.
+#![tactic(auto)]
+
+mod bracket;
+mod error;
+mod forms;
+mod laws;
+mod layout;
+mod line;
+mod names;
+mod parts;
+mod pattern;
+mod quoted;
+mod run;
+mod settled;
+mod unit;
+
+pub use error::LayoutError;
+pub use laws::{limits, new_names, one_layout, one_stop, stopped_has_no_layout};
+pub use layout::{Layout, read_layout};
+pub use parts::{Definition, Part, Rule};
+pub use settled::layout_or_stop;
+
+/// The most bytes of a lex file.
+pub const MOST_BYTES: usize = 1_048_576;

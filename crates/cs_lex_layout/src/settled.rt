@@ -1,0 +1,52 @@
+// That each text has a layout or stops.
+
+ghost use Rattle.std.specs.Prelude.{◌≤◌, length, IfSome, IfNone};
+ghost use Rattle.cs_lex_layout.specs.Settled as spec;
+
+use crate::layout::{DefinitionsLine, RulesLine, definitions_line, rules_line};
+
+/// The offset behind the definitions section, where it ends; a name that is defined twice may be passed.
+fn definitions_end(bytes: &[u8]) -> Option<usize>
+    requires { length bytes.now ≤ 1048576 }
+    ensures end { IfSome result (λ from. spec.EndsOrStops bytes.now from) }
+    ensures within { IfSome result (λ from. from ≤ length bytes.now) }
+    ensures stop { IfNone result (spec.Stops bytes.now) }
+{
+    let mut at = 0;
+    while at < bytes.len() {
+        match definitions_line(bytes, at) {
+            Ok(DefinitionsLine::End(to)) => return Some(to),
+            Ok(DefinitionsLine::Passed(to)) => at = to,
+            Ok(DefinitionsLine::Definition(_, to)) => at = to,
+            Err(_) => return None,
+        }
+    }
+    None
+}
+
+/// Walks over the rules section that begins at the offset.
+fn walk_rules(bytes: &[u8], from: usize)
+    requires within { from ≤ length bytes.now }
+    requires short { length bytes.now ≤ 1048576 }
+    ensures { spec.RulesEndOrStop bytes.now from }
+{
+    let mut at = from;
+    while at < bytes.len() {
+        match rules_line(bytes, at) {
+            Ok(RulesLine::End) => return,
+            Ok(RulesLine::Passed(to)) => at = to,
+            Ok(RulesLine::Rule(_, to)) => at = to,
+            Err(_) => return,
+        }
+    }
+}
+
+/// A text has a layout, or layout of it stops. The walk takes no memory and answers nothing: it is there for the law.
+pub fn layout_or_stop(bytes: &[u8])
+    requires { length bytes.now ≤ 1048576 }
+    ensures { spec.IsSettled bytes.now }
+{
+    if let Some(from) = definitions_end(bytes) {
+        walk_rules(bytes, from);
+    }
+}
