@@ -8,6 +8,8 @@ mod c_text;
 #[cfg(test)]
 mod hostile;
 #[cfg(test)]
+mod lex;
+#[cfg(test)]
 mod lex_kinds;
 #[cfg(test)]
 mod lex_layout;

@@ -1,0 +1,134 @@
+#!/usr/bin/env python3
+"""Times the reading of lex files of 1 MiB: bench/lex.py.
+
+No command reads a lex file yet, so a program that does is made in a copy of this repository, proved and run there. Each row is a
+file, the milliseconds that `read_lex` takes, its bound, and how it answers. Ends with status 1 where a bound is passed. Nothing
+here is part of the gate.
+"""
+
+import os
+import random
+import shutil
+import subprocess
+import sys
+import tempfile
+
+TOP = os.path.dirname(os.path.dirname(os.path.abspath(__file__)))
+MOST_BYTES = 1_048_576
+BOUND = 1000
+
+MAIN = """\
+//! Reads lex files beside a yacc file, and tells how long each takes.
+#![tactic(auto)]
+
+use cs_io::{Desk, FolderDesk};
+use cs_lex::{MOST_BYTES, read_lex};
+use cs_yacc::{YaccFile, read_yacc};
+use std::alloc::Global;
+use std::io;
+use std::time::Instant;
+
+fn yacc(alloc: Global) -> Option<YaccFile> {
+    let text = b"%token NUM\\n%%\\ns : NUM ;\\n";
+    if text.len() > MOST_BYTES {
+        return None;
+    }
+    read_yacc(alloc, text).ok()
+}
+
+/// Whether the bytes are accepted.
+fn reads(alloc: Global, bytes: &[u8], yacc: &YaccFile) -> bool {
+    bytes.len() <= MOST_BYTES && read_lex(alloc, bytes, yacc).is_ok()
+}
+
+fn main(rt: HostRuntime) -> io::Result<()> {
+    let alloc = rt.alloc();
+    let mut desk = FolderDesk::new(&rt);
+    for name in [@NAMES@] {
+        if let (Some(yacc), Ok(bytes)) = (yacc(alloc), desk.read(alloc, name, MOST_BYTES)) {
+            let begin = Instant::now(&rt)?;
+            let accepted = reads(alloc, &bytes, &yacc);
+            let took = begin.elapsed(&rt)?.as_millis();
+            println!(rt; "{name} {took} {accepted}")?;
+        }
+    }
+    Ok(())
+}
+"""
+
+
+def filled(head, line, tail):
+    """The line as often as fits between the two."""
+    return head + line * ((MOST_BYTES - len(head) - len(tail)) // len(line)) + tail
+
+
+def names_in_a_row(order):
+    """60,000 definitions, each naming the next."""
+    count = 60_000
+    lines = [f"D{i:05} {{D{i + 1:05}}}" for i in range(count - 1)] + [f"D{count - 1:05} a"]
+    return "\n".join(order(lines)) + "\n%%\na ;\n"
+
+
+def shuffled(lines):
+    random.Random(1).shuffle(lines)
+    return lines
+
+
+ROWS = {
+    "rules as people write them": "D [0-9]\n%%\n"
+    + "".join(f'"word{i}" {{ count(); /* {"x" * 440} */ return(NUM); }}\n' for i in range(2000)),
+    "300,000 open brackets": "%%\n" + "(" * 300_000 + "a" + ")" * 300_000 + " ;\n",
+    "definitions that name the next": names_in_a_row(lambda lines: lines),
+    "the same turned round": names_in_a_row(lambda lines: lines[::-1]),
+    "the same shuffled": names_in_a_row(shuffled),
+    "2,048 bars": "%%\n" + "a |\n" * 2047 + "a return NUM;\n",
+    "a million bytes of comment": filled("%%\na ; /*", "x", "*/\n"),
+    "quote marks that aren't closed": filled("%%\na ", "\\'", "\n"),
+    "named parts that aren't closed": filled("%%\n[", "[:", "\n"),
+    "open braces": filled("%%\na ", "{", "\n"),
+    "loose lines with quote marks": filled("%%\na ;\n", " '\"\n", ""),
+    "returns with brackets": filled("%%\na return", "(", "\n"),
+    "blocks": filled("%%\na ;\n", "%{\n%}\n", ""),
+    "words of options": filled("%option", " warn", "\n%%\na ;\n"),
+}
+
+
+def make_crate(copy, names):
+    """The program in a copy of the repository; answers the crate's folder."""
+    shutil.copytree(TOP, copy, ignore=shutil.ignore_patterns("out", ".git"))
+    subprocess.run(["rt", "new", "crates/bench_lex", "start_io"], cwd=copy, check=True, stdout=subprocess.DEVNULL)
+    crate = os.path.join(copy, "crates", "bench_lex")
+    for name in os.listdir(os.path.join(crate, "src")):
+        os.remove(os.path.join(crate, "src", name))
+    with open(os.path.join(crate, "src", "main.rt"), "w") as file:
+        file.write(MAIN.replace("@NAMES@", ", ".join(f'"{name}"' for name in names)))
+    with open(os.path.join(copy, "crates.txt"), "a") as file:
+        file.write("bench_lex: cs_lex cs_yacc cs_io\n")
+    return crate
+
+
+def main():
+    passed = False
+    with tempfile.TemporaryDirectory() as folder:
+        names = {f"{number}.l": title for number, title in enumerate(ROWS)}
+        for name, title in names.items():
+            with open(os.path.join(folder, name), "w") as file:
+                file.write(ROWS[title])
+        crate = make_crate(os.path.join(folder, "copy"), names)
+        built = subprocess.run(["rt", "run"], cwd=crate, capture_output=True, text=True)
+        program = os.path.join(crate, "out", "bench_lex")
+        if not os.path.exists(program):
+            sys.exit(built.stdout + built.stderr)
+        done = subprocess.run([program], cwd=folder, capture_output=True, text=True)
+        for line in done.stdout.splitlines():
+            name, took, accepted = line.split()
+            size = os.path.getsize(os.path.join(folder, name))
+            answer = "accepted" if accepted == "true" else "refused"
+            print(f"{names[name]} ({size} bytes): {took} ms, bound {BOUND} ms, {answer}")
+            passed = passed or int(took) > BOUND
+        if done.returncode or len(done.stdout.splitlines()) != len(names):
+            sys.exit(done.stdout + done.stderr + "the program didn't read all files")
+    sys.exit(1 if passed else 0)
+
+
+main()

@@ -1,0 +1,14 @@
+use Rattle.std.proofs.Common.{◌≡◌, ◌≤◌, ◌<◌, length, drop, List, ◌∷◌}
+use Rattle.std.specs.Prelude.{reverse}
+use Rattle.cs_lex.specs.Kinds.{HaveKinds}
+use Rattle.cs_lex.proofs.KindsFound.{KindsFrom}
+use Rattle.cs_lex.proofs.kinds.rule_kinds.Given as goal
+
+abbrev pub invariant-loop-at : goal.invariant-loop-at
+invariant-loop-at l = record {
+  kinds : KindsFrom l.yacc l.bytes l.rules l.at l.next l.kinds.items;
+  within : l.at ≤ length l.rules;
+}
+
+abbrev pub decreases-loop-at : goal.decreases-loop-at
+decreases-loop-at l = l.at

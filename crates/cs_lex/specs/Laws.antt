@@ -1,0 +1,15 @@
+-- Bytes mean at most one file, or are refused with at most one error, and not both.
+use Rattle.std.specs.Prelude.{◌≡◌, ℕ, List}
+use Rattle.cs_yacc.specs.File as tokens
+use Rattle.cs_lex.specs.declared.error.LexError.{LexError}
+use Rattle.cs_lex.specs.File.{File}
+use Rattle.cs_lex.specs.Reading.{IsLexFile, Refuses}
+
+abbrev pub MeanOneFile : List ℕ → tokens.File → Type 0
+MeanOneFile bytes yacc = (f g : File) → tokens.IsFile yacc → IsLexFile bytes yacc f → IsLexFile bytes yacc g → f ≡ g
+
+abbrev pub AreRefusedOnce : List ℕ → Type 0
+AreRefusedOnce bytes = (e f : LexError) → Refuses bytes e → Refuses bytes f → e ≡ f
+
+abbrev pub AreNotAcceptedWhereRefused : List ℕ → tokens.File → Type 0
+AreNotAcceptedWhereRefused bytes yacc = (f : File) (e : LexError) → Refuses bytes e → IsLexFile bytes yacc f → ⊥

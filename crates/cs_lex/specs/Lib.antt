@@ -1,0 +1,9 @@
+pub mod Errors
+pub mod RegexCode
+pub mod File
+pub mod Tokens
+pub mod Kinds
+pub mod Patterns
+pub mod Reading
+pub mod Laws
+pub mod Found
