@@ -1,7 +1,7 @@
 -- The definitions of a file, as the code hands them on.
-use Rattle.std.proofs.Common.{◌≡◌, ℕ, zero, suc, ◌+◌, ◌-◌, ◌<◌, ◌≤◌, Bool, true, false, ◌||◌, List, [], ◌∷◌, ◌++◌, length, take, drop, get_or, Some, None, Option, map, slice_get, IsTrue, refl, sym, ap, subst, ◌∙◌, arith}
-use Rattle.std.specs.Prelude.{sum_by, position, is_some, nat_lt}
-use Rattle.std.specs.List.{list_any, position_or_len}
+use Rattle.std.proofs.Common.{◌≡◌, ℕ, suc, ◌+◌, ◌-◌, ◌<◌, ◌≤◌, Bool, true, false, ◌||◌, List, [], ◌∷◌, ◌++◌, length, take, drop, get_or, Some, slice_get, IsTrue, refl, sym, ap, subst, ◌∙◌, arith}
+use Rattle.std.specs.Prelude.{sum_by, nat_lt}
+use Rattle.std.specs.List.{position_or_len}
 use Rattle.std.specs.Str.{bytes_eq}
 use Rattle.std.proofs.lemmas.Bool.{false≢true}
 use Rattle.std.proofs.lemmas.Bool.Decides.{nat_tests}
@@ -25,8 +25,14 @@ part_few bytes p = omega (arith, length-drop p.from (take p.to bytes), length-ta
 spelled_few : (bytes : List ℕ) (ds : List Definition) → definitions.total_bytes (all_spelled bytes ds) ≤ sum_by bytes_in ds
 spelled_few bytes [] = omega arith
 spelled_few bytes (d ∷ ds) =
-    omega (arith, part_few bytes d.name, part_few bytes d.substitute, spelled_few bytes ds,
-      sum_by-append bytes_in (d ∷ []) ds, sum_by-append (λ (e : definitions.Definition). length e.name + length e.text) (spelled bytes d ∷ []) (all_spelled bytes ds))
+    omega (
+      arith,
+      part_few bytes d.name,
+      part_few bytes d.substitute,
+      spelled_few bytes ds,
+      sum_by-append bytes_in (d ∷ []) ds,
+      sum_by-append (λ (e : definitions.Definition). length e.name + length e.text) (spelled bytes d ∷ []) (all_spelled bytes ds),
+    )
 
 -- the definition stands between those before it and those behind it
 stands_there : (ds : List Definition) (i : ℕ) (d : Definition) → i < length ds → d ≡ get_or ds i d → ds ≡ take i ds ++ d ∷ drop (suc i) ds
@@ -90,9 +96,12 @@ index_within bytes all ds index f e h = omega (arith, refused_within ds index f 
 
 pub refused_there : (bytes : List ℕ) (all : List Definition) (ds : List definitions.Definition) (index : ℕ) (f : PatternFault) (d : Definition) → ds ≡ all_spelled bytes all → IsRefused ds index f
     → (e : Definition) × IsFaultyDefinition bytes all e f × ((get_or all index d).substitute.from ≡ e.substitute.from)
-refused_there bytes all ds index f d e h =
-    (get_or all index d, record {
-      index = index;
-      stands = slice_get-get_or all index d (index_within bytes all ds index f e h);
-      refused = subst (λ (xs : List definitions.Definition). IsRefused xs index f) e h;
-    }, refl)
+refused_there bytes all ds index f d e h = (
+  get_or all index d,
+  record {
+    index = index;
+    stands = slice_get-get_or all index d (index_within bytes all ds index f e h);
+    refused = subst (λ (xs : List definitions.Definition). IsRefused xs index f) e h;
+  },
+  refl,
+)

@@ -9,10 +9,10 @@ use Rattle.cs_lex.proofs.LastRules.{last_same}
 use Rattle.cs_pattern_tree.specs.declared.kind.Kind.{Kind}
 use Rattle.cs_yacc.specs.declared.name.TokenName.{TokenName}
 use Rattle.cs_yacc.specs.File as tokens
-use Rattle.cs_lex_kinds.specs.Kinds.{ActionKind, bar, skip, word, literal, own_byte, foreign, IsKind}
+use Rattle.cs_lex_kinds.specs.Kinds.{IsKind}
 use Rattle.cs_lex_layout.specs.declared.parts.Rule.{Rule}
 use Rattle.cs_lex.specs.Found.{GivesNamed, GivesOver}
-use Rattle.cs_lex.specs.Kinds.{action_of, IsBarRule, Gives, HasKind, HaveKinds}
+use Rattle.cs_lex.specs.Kinds.{action_of, IsBarRule, HaveKinds}
 use Rattle.cs_lex.specs.Tokens.{GivesName, in_use, not_in_use}
 
 pub given_name : (file : tokens.File) (name : TokenName) (token : Option ℕ) (kind : Kind) → IfSome token (λ t. (0 < t) × (slice_get file.token_names (t - 1) ≡ Some name))

@@ -1,11 +1,11 @@
 -- The rules, before their patterns are read.
-use Rattle.std.proofs.Common.{◌≡◌, ℕ, false, eqb, ◌+◌, ◌-◌, ◌<◌, ◌≤◌, List, [], ◌∷◌, ◌++◌, length, take, get_or, refl, sym, ap, subst, ◌∙◌, arith}
+use Rattle.std.proofs.Common.{◌≡◌, ℕ, false, eqb, ◌+◌, ◌-◌, ◌<◌, List, [], ◌∷◌, ◌++◌, length, take, get_or, sym, ap, subst, ◌∙◌, arith}
 use Rattle.std.proofs.lemmas.Bool.{false≢true}
 use Rattle.std.proofs.lemmas.List.{take_more, take_all}
 use Rattle.cs_lex_layout.specs.declared.parts.Rule.{Rule}
 use Rattle.cs_lex_kinds.specs.Kinds.{ActionKind, bar, IsKind}
 use Rattle.cs_lex_kinds.proofs.OneKind.{one_kind}
-use Rattle.cs_lex.specs.Kinds.{action_of, IsBarRule}
+use Rattle.cs_lex.specs.Kinds.{IsBarRule}
 use Rattle.cs_lex.specs.Reading.{IsLast, EndsWithKind}
 
 -- a list ends with one element

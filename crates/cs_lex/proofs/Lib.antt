@@ -3,7 +3,6 @@ pub mod TokensNamed
 pub mod OneMeaning
 pub mod OneFile
 pub mod OneRefusal
-
 pub mod KindsFound
 pub mod PatternsFound
 pub mod DefinitionsFound

@@ -1,5 +1,5 @@
 -- Accepted bytes mean one file.
-use Rattle.std.proofs.Common.{◌≡◌, ℕ, List, refl, sym, ap, subst, ◌∙◌}
+use Rattle.std.proofs.Common.{◌≡◌, ℕ, List, sym, ap, subst, ◌∙◌}
 use Rattle.cs_pattern_tree.specs.declared.kind.Kind.{Kind}
 use Rattle.cs_pattern_tree.specs.Pattern.{Regex}
 use Rattle.cs_yacc.specs.File as tokens
@@ -25,7 +25,7 @@ one_file bytes yacc f g is_file x y =
     let rs : x.rules ≡ y.rules = same.1 in
     let ds : x.definitions ≡ y.definitions = same.0 in
     let there : HavePatterns (all_spelled bytes x.definitions) bytes x.rules g.patterns =
-        subst (λ (es : List Definition). HavePatterns (all_spelled bytes es) bytes x.rules g.patterns) (sym ds) (subst (λ (qs : List Rule). HavePatterns (all_spelled bytes y.definitions) bytes qs g.patterns) (sym rs) y.patterns) in
+    subst (λ (es : List Definition). HavePatterns (all_spelled bytes es) bytes x.rules g.patterns) (sym ds) (subst (λ (qs : List Rule). HavePatterns (all_spelled bytes y.definitions) bytes qs g.patterns) (sym rs) y.patterns) in
     let p : f.patterns ≡ g.patterns = one_list_of_patterns (all_spelled bytes x.definitions) bytes x.rules f.patterns g.patterns x.patterns there in
     let k : f.kinds ≡ g.kinds = one_list_of_kinds yacc is_file bytes x.rules f.kinds g.kinds x.kinds (subst (λ (qs : List Rule). HaveKinds yacc bytes qs g.kinds) (sym rs) y.kinds) in
     let l : f.literals ≡ g.literals = one_list_of_literals yacc is_file f.literals g.literals x.literals y.literals in

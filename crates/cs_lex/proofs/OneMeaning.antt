@@ -1,13 +1,12 @@
 -- Rules have one list of patterns, and one list of kinds.
-use Rattle.std.proofs.Common.{◌≡◌, ℕ, List, [], ◌∷◌, refl, sym, ap, subst, ◌∙◌}
+use Rattle.std.proofs.Common.{◌≡◌, ℕ, List, [], ◌∷◌, sym, subst, ◌∙◌}
 use Rattle.cs_pattern_tree.specs.declared.kind.Kind.{Kind}
-use Rattle.cs_pattern.specs.Answers.{IsPatternOf}
 use Rattle.cs_pattern_postfix.specs.Definitions as definitions
 use Rattle.cs_pattern_tree.specs.Pattern.{Regex}
 use Rattle.cs_pattern.proofs.OneAnswer.{one_pattern_of}
 use Rattle.cs_yacc.specs.File as tokens
 use Rattle.cs_yacc.specs.declared.name.TokenName.TheVariants.{Word, Byte}
-use Rattle.cs_lex_kinds.specs.Kinds.{ActionKind, bar, skip, word, literal, own_byte, foreign, IsKind}
+use Rattle.cs_lex_kinds.specs.Kinds.{ActionKind, bar, skip, word, literal, own_byte, foreign}
 use Rattle.cs_lex_kinds.proofs.OneKind.{one_kind}
 use Rattle.cs_lex_layout.specs.declared.parts.Rule.{Rule}
 use Rattle.cs_lex.specs.Kinds.{action_of, Gives, HasKind, HaveKinds}

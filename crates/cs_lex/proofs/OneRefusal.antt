@@ -2,7 +2,7 @@
 use Rattle.std.proofs.Common.{◌≡◌, ℕ, ◌<◌, ◌≤◌, List, [], ◌∷◌, ◌++◌, Some, length, slice_get, refl, sym, ap, subst, ◌∙◌, ◌⊎◌, inl, inr, arith}
 use Rattle.cs_pattern.specs.declared.fault.PatternFault.{PatternFault}
 use Rattle.cs_pattern.specs.Answers.{IsPatternOf, IsFault}
-use Rattle.cs_pattern.specs.Checking.{AreAccepted, IsRefused}
+use Rattle.cs_pattern.specs.Checking.{AreAccepted}
 use Rattle.cs_pattern_postfix.specs.Definitions as definitions
 use Rattle.cs_pattern_tree.specs.Pattern.{Regex}
 use Rattle.cs_pattern.proofs.OneAnswer.{one_fault, no_fault}
@@ -19,7 +19,7 @@ use Rattle.std.proofs.lemmas.Option.{same_Some}
 use Rattle.cs_lex.specs.Kinds.{IsBarRule}
 use Rattle.cs_lex.specs.Laws.{AreRefusedOnce, AreNotAcceptedWhereRefused}
 use Rattle.cs_lex.specs.Patterns.{all_spelled, pattern_of, HavePatterns, positions}
-use Rattle.cs_lex.specs.Reading.{IsLast, EndsWithKind, AreRules, IsLexFile, IsFirstFaulty, IsFaultyDefinition, IsFaulty, no_rules, dangling_bar, many_rules, definition, rule, many_positions, Refuses, stops, faulty}
+use Rattle.cs_lex.specs.Reading.{IsLast, EndsWithKind, AreRules, IsFirstFaulty, IsFaultyDefinition, IsFaulty, no_rules, dangling_bar, many_rules, definition, rule, many_positions, stops, faulty}
 use Rattle.cs_lex.proofs.LastRules.{last_same, no_last, none_ends, bar_ends}
 use Rattle.cs_lex.proofs.OneMeaning.{one_list_of_patterns}
 

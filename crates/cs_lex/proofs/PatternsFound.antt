@@ -1,7 +1,6 @@
 -- The patterns of rules, as the code finds them.
-use Rattle.std.proofs.Common.{◌≡◌, ℕ, suc, ◌+◌, ◌*◌, ◌<◌, ◌≤◌, List, [], ◌∷◌, ◌++◌, length, take, drop, get_or, map, refl, sym, ap, subst, ◌∙◌, arith, length-append}
-use Rattle.std.specs.Prelude.{All, sum_by}
-use Rattle.std.proofs.lemmas.List.{take_more, take-append-drop, map_push, length-take}
+use Rattle.std.proofs.Common.{◌≡◌, ℕ, suc, ◌+◌, ◌<◌, ◌≤◌, List, [], ◌∷◌, ◌++◌, length, take, drop, get_or, refl, sym, ap, subst, ◌∙◌, arith, length-append}
+use Rattle.std.proofs.lemmas.List.{take_more, take-append-drop, map_push}
 use Rattle.std.proofs.lemmas.List.Elements.{All-push}
 use Rattle.std.proofs.lemmas.List.Sums.{sum_by-append}
 use Rattle.std.proofs.Math.Seq.{drop-cons}
@@ -14,7 +13,7 @@ use Rattle.cs_lex.specs.declared.error.LexError.{LexError}
 use Rattle.cs_lex.specs.declared.error.LexError.TheVariants.{Unended, Layout, UnknownDirective, UnknownOption, StartCondition, NoRules, DanglingBar, Limit, Memory}
 use Rattle.cs_lex.specs.declared.error.LexError.TheVariants as errors
 use Rattle.cs_lex.specs.Found.{IsRulePattern, HaveFound, RefusesRule, RefusesSome}
-use Rattle.cs_lex.specs.Patterns.{pattern_of, HavePatterns, positions}
+use Rattle.cs_lex.specs.Patterns.{pattern_of, HavePatterns}
 use Rattle.cs_pattern_tree.specs.Scannable.{IsScannable}
 
 module _ (ds : List definitions.Definition) (bytes : List ℕ) where

@@ -1,20 +1,19 @@
 -- Tokens by their names.
-use Rattle.std.proofs.Common.{◌≡◌, ◌≢◌, ℕ, zero, suc, ◌+◌, ◌-◌, ◌<◌, ◌≤◌, List, [], ◌∷◌, ◌++◌, length, get_or, Some, None, map, slice_get, refl, sym, ap, subst, ◌∙◌, ◌⊎◌, inl, inr, arith, length-append}
-use Rattle.std.specs.Prelude.{All, slice_index}
-use Rattle.std.specs.List.{AllPairs}
+use Rattle.std.proofs.Common.{◌≡◌, ℕ, ◌-◌, ◌<◌, ◌≤◌, List, [], ◌∷◌, length, get_or, map, sym, ap, subst, ◌∙◌, ◌⊎◌, inl, inr, arith, length-append}
+use Rattle.std.specs.Prelude.{All}
 use Rattle.std.proofs.lemmas.Bool.{cases_lt}
 use Rattle.std.proofs.lemmas.List.{get_or_append_left, same_lists, get_or_default}
 use Rattle.std.proofs.lemmas.List.Elements.{All-cons, All-from_get_or}
-use Rattle.std.proofs.lemmas.Option.{slice_get_within, get_or_from_slice_get, slice_get-get_or}
+use Rattle.std.proofs.lemmas.Option.{slice_get_within, get_or_from_slice_get}
 use Rattle.cs_pattern_tree.specs.declared.kind.Kind.{Kind}
-use Rattle.cs_pattern_tree.specs.declared.kind.Kind.TheVariants.{Token, OwnByte, Skip, Foreign}
+use Rattle.cs_pattern_tree.specs.declared.kind.Kind.TheVariants.{Token}
 use Rattle.cs_yacc.specs.declared.name.TokenName.{TokenName}
 use Rattle.cs_yacc.specs.declared.name.TokenName.TheVariants.{Word, Byte}
 use Rattle.cs_yacc.specs.File as tokens
 use Rattle.cs_lex_kinds.specs.Kinds.{ActionKind, bar, skip, word, literal, own_byte, foreign}
 use Rattle.cs_lex_layout.specs.declared.parts.Rule.{Rule}
 use Rattle.cs_lex.specs.File.{File, NamesTokenOf, HasTokensOf}
-use Rattle.cs_lex.specs.Kinds.{Gives, HasKind, HaveKinds}
+use Rattle.cs_lex.specs.Kinds.{Gives, HaveKinds}
 use Rattle.cs_lex.specs.Tokens.{IsTokenOf, IsNotInUse, GivesName, in_use, not_in_use, IsEntry, AreLiterals}
 use Rattle.cs_lex.specs.Tokens as spec
 

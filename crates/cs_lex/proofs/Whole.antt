@@ -1,6 +1,6 @@
 -- The whole of reading.
-use Rattle.std.proofs.Common.{◌≡◌, ℕ, suc, ◌+◌, ◌<◌, ◌≤◌, List, [], ◌∷◌, length, refl, sym, ap, subst, ◌∙◌, arith}
-use Rattle.std.specs.Prelude.{All, sum_by}
+use Rattle.std.proofs.Common.{◌≡◌, ℕ, suc, ◌≤◌, List, [], ◌∷◌, length, refl, sym, ap, subst, ◌∙◌, arith}
+use Rattle.std.specs.Prelude.{All}
 use Rattle.cs_pattern_tree.specs.declared.kind.Kind.{Kind}
 use Rattle.cs_pattern.specs.Checking.{AreAccepted}
 use Rattle.cs_pattern_postfix.specs.Definitions as definitions
@@ -19,7 +19,7 @@ use Rattle.cs_lex.specs.declared.error.LexLimit.TheVariants.{Positions}
 use Rattle.cs_lex.specs.declared.patterns.Collected as code
 use Rattle.cs_lex.specs.Errors.{error_of}
 use Rattle.cs_lex.specs.File.{File, IsFile, HasTokensOf}
-use Rattle.cs_lex.specs.Found.{RulesRefused, RefusesSubstitute, RefusesSome, RefusesPositions, HaveFound, HasCollected}
+use Rattle.cs_lex.specs.Found.{RulesRefused, RefusesSubstitute, RefusesSome, RefusesPositions, HasCollected}
 use Rattle.cs_lex.specs.Kinds.{HaveKinds}
 use Rattle.cs_lex.specs.Patterns.{all_spelled, HavePatterns, positions}
 use Rattle.cs_lex.specs.Reading.{AreRules, IsLexFile, definition, rule, many_positions, Refuses, stops, faulty, RefusesOrMemory}

@@ -1,5 +1,5 @@
 -- What the steps of reading answer.
-use Rattle.std.specs.Prelude.{◌≡◌, ℕ, ◌*◌, ◌<◌, ◌≤◌, Option, Some, None, List, [], ◌∷◌, ◌++◌, All, map, sum_by, length, take, drop}
+use Rattle.std.specs.Prelude.{◌≡◌, ℕ, ◌*◌, ◌<◌, ◌≤◌, Option, Some, None, List, [], ◌∷◌, ◌++◌, All, length}
 use Rattle.cs_pattern_tree.specs.declared.pattern.Pattern.{Pattern}
 use Rattle.cs_pattern_tree.specs.declared.kind.Kind.{Kind}
 use Rattle.cs_pattern.specs.Answers.{IsPatternOf, IsFault}
@@ -17,8 +17,8 @@ use Rattle.cs_lex.specs.declared.error.LexError.TheVariants as errors
 use Rattle.cs_lex.specs.declared.patterns.Collected as code
 use Rattle.cs_pattern_tree.specs.declared.kind.Kind.TheVariants.{Token, Foreign}
 use Rattle.cs_lex.specs.Kinds.{action_of, Gives}
-use Rattle.cs_lex.specs.Patterns.{all_spelled, pattern_of, HavePatterns, positions}
-use Rattle.cs_lex.specs.Reading.{AreRules, IsFaulty, IsFaultyDefinition, IsFirstFaulty}
+use Rattle.cs_lex.specs.Patterns.{pattern_of, HavePatterns, positions}
+use Rattle.cs_lex.specs.Reading.{IsFaulty, IsFaultyDefinition, IsFirstFaulty}
 use Rattle.cs_pattern_tree.specs.Scannable.{IsScannable}
 
 -- the rules are refused, whatever the definitions are

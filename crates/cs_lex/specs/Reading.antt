@@ -1,5 +1,5 @@
 -- Which bytes are accepted as a lex file beside a yacc file, what file they mean, and why bytes are refused (POSIX lex).
-use Rattle.std.specs.Prelude.{◌≡◌, ℕ, ◌<◌, ◌≤◌, List, [], ◌∷◌, ◌++◌, Some, length, slice_get, Result, Ok, Err}
+use Rattle.std.specs.Prelude.{◌≡◌, ℕ, ◌<◌, ◌≤◌, List, [], ◌∷◌, ◌++◌, Some, length, slice_get}
 use Rattle.cs_pattern.specs.declared.fault.PatternFault.{PatternFault}
 use Rattle.cs_pattern.specs.Answers.{IsFault}
 use Rattle.cs_pattern.specs.Checking.{AreAccepted, IsRefused}

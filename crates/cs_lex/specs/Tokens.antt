@@ -1,5 +1,5 @@
 -- The tokens in use of a yacc file, by their names.
-use Rattle.std.specs.Prelude.{◌≡◌, ◌≢◌, ℕ, ◌-◌, ◌<◌, ◌⊎◌, List, Some, slice_get, slice_index, length}
+use Rattle.std.specs.Prelude.{◌≡◌, ◌≢◌, ℕ, ◌-◌, ◌<◌, List, Some, slice_get, slice_index, length}
 use Rattle.cs_pattern_tree.specs.declared.kind.Kind.{Kind}
 use Rattle.cs_pattern_tree.specs.declared.kind.Kind.TheVariants.{Token, Foreign}
 use Rattle.cs_yacc.specs.declared.name.TokenName.{TokenName}

@@ -14,11 +14,7 @@ use cs_pattern::{CheckError, Checked, DefinitionError, Definitions};
 use std::alloc::{AllocError, Global};
 
 /// The definitions with their names and texts.
-fn spelled(
-    alloc: Global,
-    bytes: &[u8],
-    all: &[Definition],
-) -> Result<Definitions, AllocError>
+fn spelled(alloc: Global, bytes: &[u8], all: &[Definition]) -> Result<Definitions, AllocError>
     requires lie { DefinitionsLie (length bytes.now) (length bytes.now) all.now }
     requires short { length bytes.now ≤ 1048576 }
     requires new { layout.HaveNewNames bytes.now all.now }

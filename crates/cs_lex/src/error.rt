@@ -19,25 +19,37 @@ pub enum LexLimit {
 pub enum LexError {
     /// The block, comment or action's brace that begins at `at` isn't closed.
     #[error("open at {at}")]
-    Unended { at: u32 },
+    Unended {
+        at: u32,
+    },
     /// The line at `at` has no form of the definitions section, or defines a name again; or the file ends there, before `%%`.
     #[error("no form at {at}")]
-    Layout { at: u32 },
+    Layout {
+        at: u32,
+    },
     /// The `%` line at `at` has a word that isn't known.
     #[error("unknown directive at {at}")]
-    UnknownDirective { at: u32 },
+    UnknownDirective {
+        at: u32,
+    },
     /// The word of `%option` at `at` isn't known.
     #[error("unknown option at {at}")]
-    UnknownOption { at: u32 },
+    UnknownOption {
+        at: u32,
+    },
     /// The `%` line at `at` declares start conditions.
     #[error("start condition at {at}")]
-    StartCondition { at: u32 },
+    StartCondition {
+        at: u32,
+    },
     /// The rules section has no rule.
     #[error("no rules")]
     NoRules,
     /// The last rule, whose line begins at `at`, has the action `|`.
     #[error("no rule behind `|` at {at}")]
-    DanglingBar { at: u32 },
+    DanglingBar {
+        at: u32,
+    },
     /// So many are above the most.
     #[error("{found} are above {most}")]
     Limit {
@@ -47,7 +59,10 @@ pub enum LexError {
     },
     /// The pattern or substitute that begins at `at` is refused.
     #[error("pattern at {at}: {fault}")]
-    Pattern { at: u32, fault: PatternFault },
+    Pattern {
+        at: u32,
+        fault: PatternFault,
+    },
     #[error("out of memory")]
     Memory,
 }

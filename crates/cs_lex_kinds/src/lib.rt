@@ -15,5 +15,5 @@ mod returns;
 mod sign;
 mod words;
 
-pub use laws::one_kind;
 pub use kind::{ActionKind, action_kind};
+pub use laws::one_kind;

@@ -7,11 +7,13 @@ use Rattle.cs_lex_layout.specs.Runs.{IsOpenRun}
 
 pub open_rule : (text behind rest : List ℕ) (pattern_to k n : ℕ) → IsPattern text pattern_to → behind ≡ drop pattern_to text → k ≡ blanks behind → rest ≡ drop (pattern_to + k) text → IsOpenRun true rest n → n < length rest
     → IsOpenRule text (pattern_to + k + n) × (pattern_to + k + n < length text)
-open_rule text behind rest pattern_to k n pattern e blank f stays few =
-    (record {
-      pattern_to = pattern_to;
-      from = pattern_to + k;
-      pattern = pattern;
-      blank = ap (λ (i : ℕ). pattern_to + i) (blank ∙ ap blanks e);
-      stays = (n, subst (λ (t : List ℕ). IsOpenRun true t n) f stays, refl);
-    }, omega (arith, few, ap length f, length-drop (pattern_to + k) text))
+open_rule text behind rest pattern_to k n pattern e blank f stays few = (
+  record {
+    pattern_to = pattern_to;
+    from = pattern_to + k;
+    pattern = pattern;
+    blank = ap (λ (i : ℕ). pattern_to + i) (blank ∙ ap blanks e);
+    stays = (n, subst (λ (t : List ℕ). IsOpenRun true t n) f stays, refl);
+  },
+  omega (arith, few, ap length f, length-drop (pattern_to + k) text),
+)

@@ -10,9 +10,7 @@ ghost use Rattle.cs_lex_layout.specs.Steps.{Walk, Spans, HasSize};
 use crate::line::is_option;
 use crate::pattern::pattern_size;
 use crate::run::{Run, run_of};
-use cs_bytes::{
-    ByteClass, from_offset, has_at, has_pair, line_len, line_size, run_len, to_offset,
-};
+use cs_bytes::{ByteClass, from_offset, has_at, has_pair, line_len, line_size, run_len, to_offset};
 use cs_ctext::{opens_comment, skip_comment};
 
 /// Whether a newline stands at the index, and `%}` behind it.

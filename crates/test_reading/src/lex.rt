@@ -66,7 +66,14 @@ fn bars_take_the_kind_of_the_next_rule(rt: HostRuntime) -> Result<(), Fail> {
     let yacc = sums(alloc).ok_or("yacc")?;
     let text: &[u8] = b"%%\na |\nb | /* c */\nc return NUM;\nd |\n int x;\ne ;\nf\tECHO;\n";
     let found = kinds(alloc, text, &yacc)?;
-    let want = [Kind::Token(1), Kind::Token(1), Kind::Token(1), Kind::Skip, Kind::Skip, Kind::Skip];
+    let want = [
+        Kind::Token(1),
+        Kind::Token(1),
+        Kind::Token(1),
+        Kind::Skip,
+        Kind::Skip,
+        Kind::Skip,
+    ];
     assert_eq!(rt; found.as_slice(), &want[..]);
     Ok(())
 }
@@ -84,8 +91,14 @@ fn files_as_people_write_them(rt: HostRuntime) -> Result<(), Fail> {
             b"D [0-9]\r\n%%\r\n{D} return NUM;\r\n[+]\treturn '+' ;\r\n",
             &[Kind::Token(1), Kind::Token(2)],
         ),
-        (b"%%\n\"a b\" return '(';\n\\ ;\nx", &[Kind::Token(3), Kind::Skip, Kind::Skip]),
-        (b"%%\n%{\n  int x;\n%}\n[a b]x /* c\n d */ return NUM; // {\n", &[Kind::Token(1)]),
+        (
+            b"%%\n\"a b\" return '(';\n\\ ;\nx",
+            &[Kind::Token(3), Kind::Skip, Kind::Skip],
+        ),
+        (
+            b"%%\n%{\n  int x;\n%}\n[a b]x /* c\n d */ return NUM; // {\n",
+            &[Kind::Token(1)],
+        ),
     ];
     for (text, want) in rows {
         let found = kinds(alloc, text, &yacc)?;
@@ -105,8 +118,14 @@ fn why_files_are_refused(rt: HostRuntime) -> Result<(), Fail> {
         (b"%%\na |\n", LexError::DanglingBar { at: 3 }),
         (b"%%\na ;\nb |\n", LexError::DanglingBar { at: 7 }),
         (b"%s X\n%%\n", LexError::StartCondition { at: 0 }),
-        (b"%option case-insensitive\n", LexError::UnknownOption { at: 8 }),
-        (b"%%\nab/cd return NUM;\n", pattern(3, PatternFault::Trailing { at: 2 })),
+        (
+            b"%option case-insensitive\n",
+            LexError::UnknownOption { at: 8 },
+        ),
+        (
+            b"%%\nab/cd return NUM;\n",
+            pattern(3, PatternFault::Trailing { at: 2 }),
+        ),
         (b"%{ x\n", LexError::Unended { at: 0 }),
         (b"%%\na { /* x\n", LexError::Unended { at: 5 }),
         (b"%foo\n", LexError::UnknownDirective { at: 0 }),
@@ -114,20 +133,45 @@ fn why_files_are_refused(rt: HostRuntime) -> Result<(), Fail> {
         (b"D a\nD b\n%%\na ;\n", LexError::Layout { at: 4 }),
         (b"D a\n", LexError::Layout { at: 4 }),
         (b"D\n%%\na ;\n", LexError::Layout { at: 0 }),
-        (b"D [b-a]\n%%\n^a ;\n", pattern(2, PatternFault::Syntax { at: 0 })),
-        (b"A {B}\nB {A}\n%%\na ;\n", pattern(2, PatternFault::DefinitionCycle { at: 0 })),
-        (b"A <a\n%%\n^ ;\n", pattern(2, PatternFault::Condition { at: 0 })),
-        (b"%%\na ;\n^b ;\n<X>c ;\n", pattern(7, PatternFault::Anchor { at: 0 })),
-        (b"%%\na {x}\n{D} ;\n", pattern(9, PatternFault::UndefinedName { at: 0 })),
-        (b"%%\n[[.a.]] ;\n", pattern(3, PatternFault::Collation { at: 0 })),
+        (
+            b"D [b-a]\n%%\n^a ;\n",
+            pattern(2, PatternFault::Syntax { at: 0 }),
+        ),
+        (
+            b"A {B}\nB {A}\n%%\na ;\n",
+            pattern(2, PatternFault::DefinitionCycle { at: 0 }),
+        ),
+        (
+            b"A <a\n%%\n^ ;\n",
+            pattern(2, PatternFault::Condition { at: 0 }),
+        ),
+        (
+            b"%%\na ;\n^b ;\n<X>c ;\n",
+            pattern(7, PatternFault::Anchor { at: 0 }),
+        ),
+        (
+            b"%%\na {x}\n{D} ;\n",
+            pattern(9, PatternFault::UndefinedName { at: 0 }),
+        ),
+        (
+            b"%%\n[[.a.]] ;\n",
+            pattern(3, PatternFault::Collation { at: 0 }),
+        ),
         (b"%%\n^a |\n", LexError::DanglingBar { at: 3 }),
         (b"D [b-a]\n%%\n", LexError::NoRules),
-        (b"A {B}\n%%\n[a b ;\n", pattern(2, PatternFault::UndefinedName { at: 0 })),
+        (
+            b"A {B}\n%%\n[a b ;\n",
+            pattern(2, PatternFault::UndefinedName { at: 0 }),
+        ),
         (b"%%\n\"a b ;\n", pattern(3, PatternFault::Syntax { at: 0 })),
         (b"%%\na{0} ;\n", pattern(3, PatternFault::Syntax { at: 1 })),
         (
             b"%%\na{1000}{8} ;\na{1000}{8} ;\na{1000}{8} ;\n",
-            LexError::Limit { which: LexLimit::Positions, found: 24_000, most: 16_384 },
+            LexError::Limit {
+                which: LexLimit::Positions,
+                found: 24_000,
+                most: 16_384,
+            },
         ),
     ];
     for (text, want) in rows {
@@ -176,7 +220,10 @@ fn open_brackets_in_numbers(rt: HostRuntime) -> Result<(), Fail> {
         found: 300_000,
         most: 200,
     };
-    assert_eq!(rt; kinds(alloc, &text, &yacc).err(), Some(LexError::Pattern { at: 3, fault }));
+    assert_eq!(rt;
+        kinds(alloc, &text, &yacc).err(),
+        Some(LexError::Pattern { at: 3, fault })
+    );
     Ok(())
 }
 
@@ -184,9 +231,13 @@ fn open_brackets_in_numbers(rt: HostRuntime) -> Result<(), Fail> {
 fn doubled_definitions(rt: HostRuntime) -> Result<(), Fail> {
     let alloc = rt.alloc();
     let yacc = sums(alloc).ok_or("yacc")?;
-    let text: &[u8] = b"D0 aa\nD1 {D0}{D0}\nD2 {D1}{D1}\nD3 {D2}{D2}\nD4 {D3}{D3}\nD5 {D4}{D4}\nD6 {D5}{D5}\nD7 {D6}{D6}\nD8 {D7}{D7}\nD9 {D8}{D8}\nD10 {D9}{D9}\nD11 {D10}{D10}\nD12 {D11}{D11}\nD13 {D12}{D12}\n%%\na ;\n";
+    let text: &[u8] =
+        b"D0 aa\nD1 {D0}{D0}\nD2 {D1}{D1}\nD3 {D2}{D2}\nD4 {D3}{D3}\nD5 {D4}{D4}\nD6 {D5}{D5}\nD7 {D6}{D6}\nD8 {D7}{D7}\nD9 {D8}{D8}\nD10 {D9}{D9}\nD11 {D10}{D10}\nD12 {D11}{D11}\nD13 {D12}{D12}\n%%\na ;\n";
     let fault = PatternFault::TooManyPositions { most: 8192 };
-    assert_eq!(rt; kinds(alloc, text, &yacc).err(), Some(LexError::Pattern { at: 161, fault }));
+    assert_eq!(rt;
+        kinds(alloc, text, &yacc).err(),
+        Some(LexError::Pattern { at: 161, fault })
+    );
     Ok(())
 }
 

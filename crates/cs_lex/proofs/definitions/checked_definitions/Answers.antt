@@ -1,4 +1,4 @@
-use Rattle.cs_lex.proofs.DefinitionsFound.{index_within, refused_there}
+use Rattle.cs_lex.proofs.DefinitionsFound.{refused_there}
 use Rattle.cs_lex.proofs.definitions.checked_definitions.Goals as goal
 
 pub returns-in-Err-Fault-clause-refused : goal.returns-in-Err-Fault-clause-refused

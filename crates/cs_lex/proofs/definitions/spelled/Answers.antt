@@ -1,7 +1,7 @@
-use Rattle.std.proofs.Common.{get_or, ap, Err, ◌∙◌}
+use Rattle.std.proofs.Common.{get_or, ap, Err}
 use Rattle.std.proofs.lemmas.List.{get_or_default}
 use Rattle.cs_lex_layout.specs.declared.parts.Definition.{Definition}
-use Rattle.cs_lex.proofs.DefinitionsFound.{room_left, not_twice, spelled_more}
+use Rattle.cs_lex.proofs.DefinitionsFound.{room_left, not_twice}
 use Rattle.cs_lex.proofs.definitions.spelled.Goals as goal
 
 zero_definition : Definition

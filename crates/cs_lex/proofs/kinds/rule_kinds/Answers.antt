@@ -15,7 +15,7 @@ loop-at-preserved c =
     let lt : at < length c.args.rules.now = omega (arith, c.loop-at.invariant.within) in
     let r : Rule = get_or c.args.rules.now at zero_rule in
     let there : KindsFrom c.args.yacc.now c.args.bytes.now c.args.rules.now (at + 1) c.loop-at.next c.loop-at.kinds.items =
-        subst (λ (k : ℕ). KindsFrom c.args.yacc.now c.args.bytes.now c.args.rules.now k c.loop-at.next c.loop-at.kinds.items) e c.loop-at.invariant.kinds in
+    subst (λ (k : ℕ). KindsFrom c.args.yacc.now c.args.bytes.now c.args.rules.now k c.loop-at.next c.loop-at.kinds.items) e c.loop-at.invariant.kinds in
     record {
       kinds = kinds_more c.args.yacc.now c.args.bytes.now c.args.rules.now at r c.loop-at.next c.rule_kind-next.result c.loop-at.kinds.items c.push.new.self.items c.requires.ends lt (get_or_default c.args.rules.now at zero_rule r lt) there c.rule_kind-next.ensures
           c.in_ok-push.ensures.items;

@@ -1,6 +1,4 @@
-use Rattle.std.proofs.Common.{◌≡◌, ◌≤◌, ◌<◌, length, drop, List, ◌∷◌}
-use Rattle.std.specs.Prelude.{reverse}
-use Rattle.cs_lex.specs.Kinds.{HaveKinds}
+use Rattle.std.proofs.Common.{◌≤◌, length}
 use Rattle.cs_lex.proofs.KindsFound.{KindsFrom}
 use Rattle.cs_lex.proofs.kinds.rule_kinds.Given as goal
 

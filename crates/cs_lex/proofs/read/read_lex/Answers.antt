@@ -1,5 +1,5 @@
 use Rattle.std.proofs.lemmas.Result.{err_from_is_err_and}
-use Rattle.std.proofs.Common.{refl, ap, sym, ◌∙◌, length}
+use Rattle.std.proofs.Common.{ap, length}
 use Rattle.cs_lex_layout.proofs.NewNames.{new_names}
 use Rattle.cs_lex.specs.File.{File, HasTokensOf}
 use Rattle.cs_pattern_tree.specs.Pattern.{regexes}
@@ -49,14 +49,14 @@ pub returns-clause-read : goal.returns-clause-read
 returns-clause-read c =
     let file : File = record { patterns = regexes c.in_ok-patterns.patterns.items; kinds = c.in_ok-kinds.kinds.items; literals = c.in_ok-literals.literals.items } in
     let h : IsLexFile c.args.bytes.now c.args.yacc.now file = whole_file c.args.bytes.now c.in_ok-layout.layout.definitions.items c.in_ok-layout.layout.rules.items c.in_ok-layout.ensures.answers (rw c.deref.ensures.value at c.in_ok-check_rules.ensures.ok) c.in_ok-definitions.definitions
-        (rw c.deref-2.ensures.value at c.in_ok-definitions.ensures.checked) (rw c.deref-2.ensures.value at c.in_ok-definitions.ensures.accepted) c.in_ok-collected.collected (rw c.deref-3.ensures.value at c.in_ok-collected.ensures.found)
-        c.args.yacc.now file c.in_ok-patterns.ensures.within.0 (ap regexes c.in_ok-patterns.ensures.within.1) (rw c.deref-4.ensures.value at c.in_ok-kinds.ensures) c.in_ok-literals.ensures in
+    (rw c.deref-2.ensures.value at c.in_ok-definitions.ensures.checked) (rw c.deref-2.ensures.value at c.in_ok-definitions.ensures.accepted) c.in_ok-collected.collected (rw c.deref-3.ensures.value at c.in_ok-collected.ensures.found)
+    c.args.yacc.now file c.in_ok-patterns.ensures.within.0 (ap regexes c.in_ok-patterns.ensures.within.1) (rw c.deref-4.ensures.value at c.in_ok-kinds.ensures) c.in_ok-literals.ensures in
     rw c.new.ensures h
 
 pub returns-clause-tokens : goal.returns-clause-tokens
 returns-clause-tokens c =
     let file : File = record { patterns = regexes c.in_ok-patterns.patterns.items; kinds = c.in_ok-kinds.kinds.items; literals = c.in_ok-literals.literals.items } in
     let h : HasTokensOf (length c.args.yacc.now.token_names) file = whole_tokens c.args.bytes.now c.in_ok-layout.layout.definitions.items c.in_ok-layout.layout.rules.items c.in_ok-layout.ensures.answers (rw c.deref.ensures.value at c.in_ok-check_rules.ensures.ok) c.in_ok-definitions.definitions
-        (rw c.deref-2.ensures.value at c.in_ok-definitions.ensures.checked) (rw c.deref-2.ensures.value at c.in_ok-definitions.ensures.accepted) c.in_ok-collected.collected (rw c.deref-3.ensures.value at c.in_ok-collected.ensures.found)
-        c.args.yacc.now file c.in_ok-patterns.ensures.within.0 (ap regexes c.in_ok-patterns.ensures.within.1) (rw c.deref-4.ensures.value at c.in_ok-kinds.ensures) c.in_ok-literals.ensures in
+    (rw c.deref-2.ensures.value at c.in_ok-definitions.ensures.checked) (rw c.deref-2.ensures.value at c.in_ok-definitions.ensures.accepted) c.in_ok-collected.collected (rw c.deref-3.ensures.value at c.in_ok-collected.ensures.found)
+    c.args.yacc.now file c.in_ok-patterns.ensures.within.0 (ap regexes c.in_ok-patterns.ensures.within.1) (rw c.deref-4.ensures.value at c.in_ok-kinds.ensures) c.in_ok-literals.ensures in
     rw c.new.ensures h
