@@ -107,11 +107,14 @@ fn files_as_people_write_them(rt: HostRuntime) -> Result<(), Fail> {
     Ok(())
 }
 
+fn pattern(at: u32, fault: PatternFault) -> LexError {
+    LexError::Pattern { at, fault }
+}
+
 #[test]
 fn why_files_are_refused(rt: HostRuntime) -> Result<(), Fail> {
     let alloc = rt.alloc();
     let yacc = sums(alloc).ok_or("yacc")?;
-    let pattern = |at, fault| LexError::Pattern { at, fault };
     let rows: [(&[u8], LexError); 26] = [
         (b"", LexError::Layout { at: 0 }),
         (b"%%\n", LexError::NoRules),
