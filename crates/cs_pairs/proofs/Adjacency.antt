@@ -12,7 +12,7 @@ use Rattle.cs_cost.specs.declared.cost.Cost.TheVariants.{Never, Large, Least}
 use Rattle.cs_cost.specs.Least.{IsCost}
 use Rattle.cs_cost.proofs.Ranks.{IsCost-same}
 use Rattle.cs_goals.specs.Goal.{IsLeft, IsRight}
-use Rattle.cs_pairs.specs.declared.kind.Kind.TheVariants.{Empty, Begins, Ends}
+use Rattle.cs_pairs.specs.declared.kind.TreeKind.TheVariants.{Empty, Begins, Ends}
 use Rattle.cs_pairs.specs.Kinds.{IsTreeOfKind}
 use Rattle.cs_pairs.specs.Pairs.{IsAdjacent, HasPair, ArePairs, ArePairRows}
 use Rattle.cs_pairs.proofs.RowLists.{row_read}

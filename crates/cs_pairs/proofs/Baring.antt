@@ -11,8 +11,8 @@ use Rattle.cs_cost.specs.declared.cost.Cost.{Cost}
 use Rattle.cs_cost.specs.Least.{IsCost}
 use Rattle.cs_cost.specs.Rank.{entry}
 use Rattle.cs_cost.proofs.Ranks.{IsCost-same}
-use Rattle.cs_pairs.specs.declared.kind.Kind.{Kind}
-use Rattle.cs_pairs.specs.declared.kind.Kind.TheVariants.{Any, Empty}
+use Rattle.cs_pairs.specs.declared.kind.TreeKind.{TreeKind}
+use Rattle.cs_pairs.specs.declared.kind.TreeKind.TheVariants.{Any, Empty}
 use Rattle.cs_pairs.specs.Kinds.{IsTreeOfKind, AreTreesOfKind}
 use Rattle.cs_pairs.specs.Bare.{has_token, bare_right, bare_rule, bare_grammar}
 use Rattle.cs_pairs.specs.Tables.{AreCosts}
@@ -45,7 +45,7 @@ module _ (w : Measure) (g : PlainGrammar) where
   no_token Bare [] h e = refl
   no_token Bare (x ∷ xs) h e = absurd h
   no_token (Grown t f) [] h e = absurd h
-  no_token (Grown t f) (x ∷ xs) h e = 
+  no_token (Grown t f) (x ∷ xs) h e =
       let both = parts (yield t) (yields f) e in
       first t f x xs h both.0 (no_token f xs h.1 both.1)
     where

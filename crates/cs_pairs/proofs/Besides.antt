@@ -20,7 +20,7 @@ use Rattle.cs_cost.proofs.Ranks.{IsCost-plus, cost_low, cost_reached, cost_cappe
 use Rattle.cs_cost.proofs.Rules.{well_formed_at}
 use Rattle.cs_cost.proofs.Tables.{entry-set_same, entry-set_other, Holds-set, Holds-replicate}
 use Rattle.cs_embed.proofs.Steps.{at_seam, split_at, one_split}
-use Rattle.cs_pairs.specs.declared.kind.Kind.TheVariants.{Begins}
+use Rattle.cs_pairs.specs.declared.kind.TreeKind.TheVariants.{Begins}
 use Rattle.cs_pairs.specs.declared.sweep.Sweep.{Sweep}
 use Rattle.cs_pairs.specs.Kinds.{IsOfKind, AreTreesOfKind}
 use Rattle.cs_pairs.specs.Sweep.{IsSwept}

@@ -8,8 +8,8 @@ use Rattle.cs_grammar.specs.Tree.{IsTree, Tree, Leaf, Node, Forest, Bare, Grown,
 use Rattle.cs_grammar.proofs.OneTree.{one_rule}
 use Rattle.cs_cost.specs.Chosen.{IsChosen, AreChosen}
 use Rattle.cs_cost.proofs.ChosenTrees.{forest_least}
-use Rattle.cs_pairs.specs.declared.kind.Kind.{Kind}
-use Rattle.cs_pairs.specs.declared.kind.Kind.TheVariants.{Any, Empty, Begins, Ends}
+use Rattle.cs_pairs.specs.declared.kind.TreeKind.{TreeKind}
+use Rattle.cs_pairs.specs.declared.kind.TreeKind.TheVariants.{Any, Empty, Begins, Ends}
 use Rattle.cs_pairs.specs.Kinds.{IsOfKind, IsTreeOfKind, AreTreesOfKind, before, behind}
 use Rattle.cs_pairs.specs.Ways.{AreHere, AreLater, joint_size}
 use Rattle.cs_pairs.specs.ChosenKind.{IsChosenOfKind, AreChosenOfKind}
@@ -18,11 +18,11 @@ use Rattle.cs_pairs.proofs.Sweeping.{one_way}
 
 module _ (w : Measure) (g : PlainGrammar) where
   mutual
-    pub IsTree-of_kind : (t : Tree) (k : Kind) (x : Symbol) → IsChosenOfKind w g k x t → IsTreeOfKind g k x t
+    pub IsTree-of_kind : (t : Tree) (k : TreeKind) (x : Symbol) → IsChosenOfKind w g k x t → IsTreeOfKind g k x t
     IsTree-of_kind (Leaf s) k x h = h
     IsTree-of_kind (Node r f) k x h = let o = AreTrees-of_kind f k h.0.right h.4 in ((h.0, h.1, h.2, o.0), o.1)
 
-    pub AreTrees-of_kind : (f : Forest) (k : Kind) (xs : List Symbol) → AreChosenOfKind w g k xs f → AreTreesOfKind g k xs f
+    pub AreTrees-of_kind : (f : Forest) (k : TreeKind) (xs : List Symbol) → AreChosenOfKind w g k xs f → AreTreesOfKind g k xs f
     AreTrees-of_kind Bare k [] h = (tt, h)
     AreTrees-of_kind Bare k (x ∷ xs) h = absurd h
     AreTrees-of_kind (Grown t f) k [] h = absurd h
@@ -43,17 +43,17 @@ module _ (w : Measure) (g : PlainGrammar) where
   leaf_least s (Node q f) h = let e = h.2 in absurd cc
 
   -- it is of least size
-  pub of_kind_least : (k : Kind) (x : Symbol) (t u : Tree) → IsTreeOfKind g k x u → IsChosenOfKind w g k x t → size w t ≤ size w u
+  pub of_kind_least : (k : TreeKind) (x : Symbol) (t u : Tree) → IsTreeOfKind g k x u → IsChosenOfKind w g k x t → size w t ≤ size w u
   of_kind_least k x (Leaf s) u hu ht = leaf_least s u (subst (λ y. IsTree g y u) ht.0 hu.0)
   of_kind_least k x (Node r f) u hu ht = ht.3.least u hu
 
-  pub here_least : (k : Kind) (x : Symbol) (xs : List Symbol) (t : Tree) (f : Forest) → IsChosenOfKind w g k x t → ((h : Forest) → AreTreesOfKind g (behind k) xs h → sizes w f ≤ sizes w h) → (p : Tree × Forest) → AreHere g k x xs p → size w t + sizes w f ≤ joint_size w p
+  pub here_least : (k : TreeKind) (x : Symbol) (xs : List Symbol) (t : Tree) (f : Forest) → IsChosenOfKind w g k x t → ((h : Forest) → AreTreesOfKind g (behind k) xs h → sizes w f ≤ sizes w h) → (p : Tree × Forest) → AreHere g k x xs p → size w t + sizes w f ≤ joint_size w p
   here_least k x xs t f ht least p h = omega (arith, of_kind_least k x t p.0 h.0 ht, least p.1 h.1)
 
-  pub later_least : (k : Kind) (x : Symbol) (xs : List Symbol) (t : Tree) (f : Forest) → IsChosenOfKind w g (before k) x t → ((h : Forest) → AreTreesOfKind g k xs h → sizes w f ≤ sizes w h) → (p : Tree × Forest) → AreLater g k x xs p → size w t + sizes w f ≤ joint_size w p
+  pub later_least : (k : TreeKind) (x : Symbol) (xs : List Symbol) (t : Tree) (f : Forest) → IsChosenOfKind w g (before k) x t → ((h : Forest) → AreTreesOfKind g k xs h → sizes w f ≤ sizes w h) → (p : Tree × Forest) → AreLater g k x xs p → size w t + sizes w f ≤ joint_size w p
   later_least k x xs t f ht least p h = omega (arith, of_kind_least (before k) x t p.0 h.0 ht, least p.1 h.1)
 
-  pub list_least : (f h : Forest) (k : Kind) (xs : List Symbol) → AreTreesOfKind g k xs h → AreChosenOfKind w g k xs f → sizes w f ≤ sizes w h
+  pub list_least : (f h : Forest) (k : TreeKind) (xs : List Symbol) → AreTreesOfKind g k xs h → AreChosenOfKind w g k xs f → sizes w f ≤ sizes w h
   list_least Bare h k [] hh hf = omega arith
   list_least Bare h k (x ∷ xs) hh hf = absurd hf
   list_least (Grown t f) h k [] hh hf = absurd hf
@@ -71,7 +71,7 @@ module _ (w : Measure) (g : PlainGrammar) where
 
   -- a kind and a symbol have one chosen tree
   mutual
-    pub one_of_kind : (t u : Tree) (k : Kind) (x : Symbol) → IsChosenOfKind w g k x t → IsChosenOfKind w g k x u → t ≡ u
+    pub one_of_kind : (t u : Tree) (k : TreeKind) (x : Symbol) → IsChosenOfKind w g k x t → IsChosenOfKind w g k x u → t ≡ u
     one_of_kind (Leaf s) (Leaf s') k x ht hu = let same : s ≡ s' = (let d = ht.0 in let e = hu.0 in cc) in ap Leaf same
     one_of_kind (Leaf s) (Node q h) k x ht hu = let d = ht.0 in let e = hu.2 in absurd cc
     one_of_kind (Node r f) (Leaf s) k x ht hu = let d = ht.2 in let e = hu.0 in absurd cc
@@ -88,7 +88,7 @@ module _ (w : Measure) (g : PlainGrammar) where
         let children = all_of_kind f h k ht.0.right ht.4 there in
         cc
 
-    pub all_of_kind : (f h : Forest) (k : Kind) (xs : List Symbol) → AreChosenOfKind w g k xs f → AreChosenOfKind w g k xs h → f ≡ h
+    pub all_of_kind : (f h : Forest) (k : TreeKind) (xs : List Symbol) → AreChosenOfKind w g k xs f → AreChosenOfKind w g k xs h → f ≡ h
     all_of_kind Bare Bare k xs cf ch = refl
     all_of_kind Bare (Grown u h) k [] cf ch = absurd ch
     all_of_kind Bare (Grown u h) k (x ∷ xs) cf ch = absurd cf
@@ -159,16 +159,16 @@ module _ (w : Measure) (g : PlainGrammar) where
         inl (chosen_any t x h.0, all_chosen_any f xs h.1, λ p is. forest_least w g (Grown t f) (Grown p.0 p.1) (x ∷ xs) h (is.0.0, is.1.0))
 
   -- a chosen tree is a chosen list of one
-  pub list_of_one : (t : Tree) (k : Kind) (x : Symbol) → IsChosenOfKind w g k x t → AreChosenOfKind w g k (x ∷ []) (Grown t Bare)
+  pub list_of_one : (t : Tree) (k : TreeKind) (x : Symbol) → IsChosenOfKind w g k x t → AreChosenOfKind w g k (x ∷ []) (Grown t Bare)
   list_of_one t k x h = inl (h, nothing_behind k, λ p is. least p is)
     where
-      nothing_behind : (j : Kind) → IsOfKind (behind j) []
+      nothing_behind : (j : TreeKind) → IsOfKind (behind j) []
       nothing_behind Any = tt
       nothing_behind Empty = refl
       nothing_behind (Begins b) = tt
       nothing_behind (Ends a) = refl
 
-      same : (j : Kind) → IsOfKind j [] → before j ≡ j
+      same : (j : TreeKind) → IsOfKind j [] → before j ≡ j
       same Any h = refl
       same Empty h = refl
       same (Begins b) h = let e = h.1 in absurd cc

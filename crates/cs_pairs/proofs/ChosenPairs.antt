@@ -8,7 +8,7 @@ use Rattle.cs_grammar.specs.Weights.{Measure}
 use Rattle.cs_grammar.specs.Tree.{Tree, size, yield}
 use Rattle.cs_grammar.specs.Context.{Under, plug}
 use Rattle.cs_goals.specs.Goal.{IsLeft, IsRight}
-use Rattle.cs_pairs.specs.declared.kind.Kind.TheVariants.{Empty, Begins, Ends}
+use Rattle.cs_pairs.specs.declared.kind.TreeKind.TheVariants.{Empty, Begins, Ends}
 use Rattle.cs_pairs.specs.Pairs.{HasPair}
 use Rattle.cs_pairs.specs.ChosenPair.{IsChosenSeam, IsChosenPair}
 use Rattle.cs_pairs.proofs.Framed.{first_token, token_first, no_token, none_framed, last_token, token_last, tokens_in, tokens_framed}

@@ -17,7 +17,7 @@ use Rattle.cs_cost.proofs.ChosenTrees.{LeastForest, AreTrees-chosen, all_chosen,
 use Rattle.cs_embed.specs.ChosenContext.{count, IsAtMost, IsChosenContext}
 use Rattle.cs_embed.proofs.ChosenContexts.{count_is, IsContext-chosen, one_chosen_context, LeastContext, context_settled}
 use Rattle.cs_embed.proofs.Steps.{split_at, one_split}
-use Rattle.cs_pairs.specs.declared.kind.Kind.TheVariants.{Begins, Ends}
+use Rattle.cs_pairs.specs.declared.kind.TreeKind.TheVariants.{Begins, Ends}
 use Rattle.cs_pairs.specs.Kinds.{IsTreeOfKind, AreTreesOfKind}
 use Rattle.cs_pairs.specs.Beside.{IsSeam, seam_size}
 use Rattle.cs_pairs.specs.SeamPlace.{SeamAt, size_at}

@@ -14,7 +14,7 @@ use Rattle.cs_cost.specs.declared.cost.Cost.TheVariants.{Least}
 use Rattle.cs_cost.specs.Least.{IsCost}
 use Rattle.cs_cost.specs.Rank.{rank, IsCapped}
 use Rattle.cs_cost.proofs.Ranks.{one_cost, cost_capped}
-use Rattle.cs_pairs.specs.declared.kind.Kind.TheVariants.{Empty, Begins, Ends}
+use Rattle.cs_pairs.specs.declared.kind.TreeKind.TheVariants.{Empty, Begins, Ends}
 use Rattle.cs_pairs.specs.Kinds.{IsOfKind}
 use Rattle.cs_pairs.specs.Beside.{IsSeam, seam_size}
 use Rattle.cs_pairs.specs.Pairs.{HasPair}

@@ -1,7 +1,7 @@
 -- How a kind falls on the two parts of a joined list of tokens.
 use Rattle.std.proofs.Common.{◌≡◌, ℕ, ◌⊎◌, List, [], ◌∷◌, ◌++◌, refl, sym, ap, ◌∙◌, inl, inr, ⊎_elim, append_assoc, append-nil}
-use Rattle.cs_pairs.specs.declared.kind.Kind.{Kind}
-use Rattle.cs_pairs.specs.declared.kind.Kind.TheVariants.{Any, Empty, Begins, Ends}
+use Rattle.cs_pairs.specs.declared.kind.TreeKind.{TreeKind}
+use Rattle.cs_pairs.specs.declared.kind.TreeKind.TheVariants.{Any, Empty, Begins, Ends}
 use Rattle.cs_pairs.specs.Kinds.{IsOfKind, before, behind}
 
 -- lists whose join is empty are empty
@@ -42,27 +42,27 @@ last_part u (y ∷ v) rest a e =
     inr (end.0, end.2 ∙ ap (λ n. end.0 ++ n ∷ []) same.1)
 
 -- the two ways in which a join is of a kind
-pub joined_cases : (k : Kind) (u v : List ℕ) → IsOfKind k (u ++ v) → (IsOfKind k u × IsOfKind (behind k) v) ⊎ (IsOfKind (before k) u × IsOfKind k v)
+pub joined_cases : (k : TreeKind) (u v : List ℕ) → IsOfKind k (u ++ v) → (IsOfKind k u × IsOfKind (behind k) v) ⊎ (IsOfKind (before k) u × IsOfKind k v)
 joined_cases Any u v h = inl (tt, tt)
 joined_cases Empty u v h = inl (empty_parts u v h)
 joined_cases (Begins b) u v h = ⊎_elim (λ here. inl (here, tt)) (λ later. inr (later.0, (h.0, later.1))) (first_part u v h.0 b h.1)
 joined_cases (Ends a) u v h = ⊎_elim (λ here. inl ((h.0, here.1), here.0)) (λ later. inr (tt, later)) (last_part u v h.0 a h.1)
 
 -- and each makes it so
-pub joined_here : (k : Kind) (u v : List ℕ) → IsOfKind k u → IsOfKind (behind k) v → IsOfKind k (u ++ v)
+pub joined_here : (k : TreeKind) (u v : List ℕ) → IsOfKind k u → IsOfKind (behind k) v → IsOfKind k (u ++ v)
 joined_here Any u v hu hv = tt
 joined_here Empty u v hu hv = ap (λ (l : List ℕ). l ++ v) hu ∙ hv
 joined_here (Begins b) u v hu hv = (hu.0 ++ v, ap (λ (l : List ℕ). l ++ v) hu.1)
 joined_here (Ends a) u v hu hv = (hu.0, ap (λ (l : List ℕ). u ++ l) hv ∙ append-nil u ∙ hu.1)
 
-pub joined_later : (k : Kind) (u v : List ℕ) → IsOfKind (before k) u → IsOfKind k v → IsOfKind k (u ++ v)
+pub joined_later : (k : TreeKind) (u v : List ℕ) → IsOfKind (before k) u → IsOfKind k v → IsOfKind k (u ++ v)
 joined_later Any u v hu hv = tt
 joined_later Empty u v hu hv = ap (λ (l : List ℕ). l ++ v) hu ∙ hv
 joined_later (Begins b) u v hu hv = (hv.0, ap (λ (l : List ℕ). l ++ v) hu ∙ hv.1)
 joined_later (Ends a) u v hu hv = (u ++ hv.0, ap (λ (l : List ℕ). u ++ l) hv.1 ∙ sym (append_assoc u hv.0 (a ∷ [])))
 
 -- no token at all is of the kinds that name none
-pub bare_of_kind : (k : Kind) → IsOfKind k [] → (k ≡ Any) ⊎ (k ≡ Empty)
+pub bare_of_kind : (k : TreeKind) → IsOfKind k [] → (k ≡ Any) ⊎ (k ≡ Empty)
 bare_of_kind Any h = inl refl
 bare_of_kind Empty h = inr refl
 bare_of_kind (Begins b) h = let e = h.1 in absurd cc

@@ -11,8 +11,8 @@ use Rattle.cs_cost.specs.Rank.{capped, rank, plus, cost_of, entry}
 use Rattle.cs_cost.proofs.Ranks.{IsCost-from, IsCost-same, cost_low}
 use Rattle.cs_cost.proofs.Tables.{exact_entry}
 use Rattle.cs_cost.proofs.Rules.{well_formed_at}
-use Rattle.cs_pairs.specs.declared.kind.Kind.{Kind}
-use Rattle.cs_pairs.specs.declared.kind.Kind.TheVariants.{Any, Empty, Begins, Ends}
+use Rattle.cs_pairs.specs.declared.kind.TreeKind.{TreeKind}
+use Rattle.cs_pairs.specs.declared.kind.TreeKind.TheVariants.{Any, Empty, Begins, Ends}
 use Rattle.cs_pairs.specs.Kinds.{IsOfKind, IsTreeOfKind, AreTreesOfKind, IsKind}
 use Rattle.cs_pairs.specs.ListCost.{leaf_cost}
 use Rattle.cs_pairs.specs.Filled.{IsFilled}
@@ -23,14 +23,14 @@ use Rattle.cs_pairs.proofs.Filling.{entry_read, Holds-filled}
 
 module _ (w : Measure) (g : PlainGrammar) (t : Tables) (exact : AreKindTables w g t) where
   -- each row says what the least trees of its kind cost
-  pub row_costs : (k : Kind) → IsKind g.tokens k → AreCosts w g k (row_of t k)
+  pub row_costs : (k : TreeKind) → IsKind g.tokens k → AreCosts w g k (row_of t k)
   row_costs Any fits = exact.any_costs
   row_costs Empty fits = exact.empty_costs
   row_costs (Begins b) fits = exact.begins_costs.each b fits
   row_costs (Ends a) fits = exact.ends_costs.each a fits
 
 -- a leaf costs what is said of it
-pub leaf_exact : (w : Measure) (g : PlainGrammar) (k : Kind) (s : ℕ) → IsCost w.limit (IsTreeOfKind g k (Token s)) (size w) (leaf_cost w k s)
+pub leaf_exact : (w : Measure) (g : PlainGrammar) (k : TreeKind) (s : ℕ) → IsCost w.limit (IsTreeOfKind g k (Token s)) (size w) (leaf_cost w k s)
 leaf_exact w g k s = IsCost-from w.limit (IsTreeOfKind g k (Token s)) (size w) (leaf_cost w k s) (IsCapped-leaf w k s) (leaf_reached w g k s) low
   where
     low : (u : Tree) → IsTreeOfKind g k (Token s) u → rank w.limit (leaf_cost w k s) ≤ capped w.limit (size w u)
@@ -45,7 +45,7 @@ number_of_tree w g n (Node r f) grammar h =
     subst (IsNumberOf g.nonterminals) (sym same) (well_formed_at g (r - 1) h.0 grammar h.1.at).left
 
 -- the row of a kind, filled from what each nonterminal's least tree costs
-pub costs_filled : (w : Measure) (g : PlainGrammar) (k : Kind) (row : List Cost) → IsGrammar g → IsFilled w.limit (λ n. IsTreeOfKind g k (Nonterminal n)) (size w) g.nonterminals row → AreCosts w g k row
+pub costs_filled : (w : Measure) (g : PlainGrammar) (k : TreeKind) (row : List Cost) → IsGrammar g → IsFilled w.limit (λ n. IsTreeOfKind g k (Nonterminal n)) (size w) g.nonterminals row → AreCosts w g k row
 costs_filled w g k row grammar filled = record {
   many = filled.many;
   exact = λ n. exact_entry w.limit (λ m. IsTreeOfKind g k (Nonterminal m)) (size w) row (Holds-filled w.limit (λ m. IsTreeOfKind g k (Nonterminal m)) (size w) g.nonterminals row filled) (record {
@@ -61,8 +61,8 @@ pub all_of_any : (w : Measure) (g : PlainGrammar) (xs : List Symbol) (c : Cost) 
 all_of_any w g xs c h = IsCost-same w.limit (AreTrees g xs) (AreTreesOfKind g Any xs) (sizes w) (sizes w) c (λ f is. (f, (is, tt), omega arith)) (λ f is. (f, is.0, omega arith)) h
 
 -- in the names of the code
-module _ (v u : Weighed) (t : Tables) (k : Kind) (same : v ≡ u) (exact : AreKindTables v.weights v.grammar t) (fits : IsKind u.grammar.tokens k) where
-  pub costs_held : (j : Kind) (row : List Cost) → k ≡ j → row ≡ row_of t j → AreCosts u.weights u.grammar k row
+module _ (v u : Weighed) (t : Tables) (k : TreeKind) (same : v ≡ u) (exact : AreKindTables v.weights v.grammar t) (fits : IsKind u.grammar.tokens k) where
+  pub costs_held : (j : TreeKind) (row : List Cost) → k ≡ j → row ≡ row_of t j → AreCosts u.weights u.grammar k row
   costs_held j row is_k is_row =
       let fits' = subst (λ (s : Weighed). IsKind s.grammar.tokens k) (sym same) fits in
       let held : row ≡ row_of t k = is_row ∙ ap (row_of t) (sym is_k) in
@@ -80,14 +80,14 @@ module _ (v u : Weighed) (t : Tables) (k : Kind) (same : v ≡ u) (exact : AreKi
       let many = exact.ends_costs.many ∙ ap (λ (s : Weighed). s.grammar.tokens) same in
       costs_held (Ends a) row is_k (row_read t.ends a row d (subst (λ m. IsNumberOf m a) (sym many) number) is_row)
 
-pub symbol_told : (w : Measure) (g : PlainGrammar) (k : Kind) (x : Symbol) (n : ℕ) (row : List Cost) (d : Cost) → x ≡ Nonterminal n → IsSymbol g.tokens g.nonterminals x → AreCosts w g k row → IsCost w.limit (IsTreeOfKind g k x) (size w) (get_or row (n - 1) d)
+pub symbol_told : (w : Measure) (g : PlainGrammar) (k : TreeKind) (x : Symbol) (n : ℕ) (row : List Cost) (d : Cost) → x ≡ Nonterminal n → IsSymbol g.tokens g.nonterminals x → AreCosts w g k row → IsCost w.limit (IsTreeOfKind g k x) (size w) (get_or row (n - 1) d)
 symbol_told w g k x n row d is_x fits costs =
     let number = subst (IsSymbol g.tokens g.nonterminals) is_x fits in
     let at = entry_read row n d (subst (λ m. IsNumberOf m n) (sym costs.many) number) in
     subst (λ y. IsCost w.limit (IsTreeOfKind g k y) (size w) (get_or row (n - 1) d)) (sym is_x) (subst (IsCost w.limit (IsTreeOfKind g k (Nonterminal n)) (size w)) at (costs.exact n))
 
 -- one more row behind the others
-pub cost_rows_more : (w : Measure) (g : PlainGrammar) (kind : ℕ → Kind) (count : ℕ) (rows : List (List Cost)) (row : List Cost) → AreCostRows w g kind count rows → AreCosts w g (kind (count + 1)) row → AreCostRows w g kind (count + 1) (rows ++ row ∷ [])
+pub cost_rows_more : (w : Measure) (g : PlainGrammar) (kind : ℕ → TreeKind) (count : ℕ) (rows : List (List Cost)) (row : List Cost) → AreCostRows w g kind count rows → AreCosts w g (kind (count + 1)) row → AreCostRows w g kind (count + 1) (rows ++ row ∷ [])
 cost_rows_more w g kind count rows row so_far here =
     let IsRight = λ (n : ℕ) (r : List Cost). AreCosts w g (kind n) r in
     record { many = length_more IsRight count rows row so_far.many; each = rows_more IsRight count rows row so_far.many so_far.each here }

@@ -8,8 +8,8 @@ use Rattle.cs_grammar.specs.Grammar.{Production, PlainGrammar, IsRule}
 use Rattle.cs_grammar.specs.Weights.{Measure}
 use Rattle.cs_grammar.specs.Tree.{IsTree, Tree, Leaf, Node, Forest, Bare, Grown, size, sizes}
 use Rattle.cs_grammar.proofs.OneTree.{one_rule}
-use Rattle.cs_pairs.specs.declared.kind.Kind.{Kind}
-use Rattle.cs_pairs.specs.declared.kind.Kind.TheVariants.{Any, Empty, Begins, Ends}
+use Rattle.cs_pairs.specs.declared.kind.TreeKind.{TreeKind}
+use Rattle.cs_pairs.specs.declared.kind.TreeKind.TheVariants.{Any, Empty, Begins, Ends}
 use Rattle.cs_pairs.specs.Kinds.{IsTreeOfKind, AreTreesOfKind, before, behind}
 use Rattle.cs_pairs.specs.Ways.{AreHere, AreLater, joint_size}
 use Rattle.cs_pairs.specs.ChosenKind.{IsChosenOfKind, AreChosenOfKind}
@@ -18,13 +18,13 @@ use Rattle.cs_pairs.proofs.ChosenKinds.{AreTrees-of_kind, here_least, later_leas
 use Rattle.cs_pairs.proofs.FirstLeast.{IsSettledAt, FirstLeast, AreLarge, first_least}
 
 -- each tree of x that is of the kind has more than n nodes, or there is a chosen one
-abbrev pub Settled : Measure → PlainGrammar → ℕ → Kind → Symbol → Type 0
+abbrev pub Settled : Measure → PlainGrammar → ℕ → TreeKind → Symbol → Type 0
 Settled w g n k x = ((t : Tree) → IsTreeOfKind g k x t → n < size w t) ⊎ ((t : Tree) × IsChosenOfKind w g k x t)
 
-abbrev pub AreSettled : Measure → PlainGrammar → ℕ → Kind → List Symbol → Type 0
+abbrev pub AreSettled : Measure → PlainGrammar → ℕ → TreeKind → List Symbol → Type 0
 AreSettled w g n k xs = ((f : Forest) → AreTreesOfKind g k xs f → n < sizes w f) ⊎ ((f : Forest) × AreChosenOfKind w g k xs f)
 
-module _ (w : Measure) (g : PlainGrammar) (n : ℕ) (k : Kind) (x : Symbol) (xs : List Symbol) where
+module _ (w : Measure) (g : PlainGrammar) (n : ℕ) (k : TreeKind) (x : Symbol) (xs : List Symbol) where
   -- lists in one of the ways are larger than n, or there is one of chosen trees, which is the least of them
   abbrev Here : Type 0
   Here = ((p : Tree × Forest) → AreHere g k x xs p → n < joint_size w p) ⊎ ((p : Tree × Forest) × IsChosenOfKind w g k x p.0 × AreChosenOfKind w g (behind k) xs p.1)
@@ -82,7 +82,7 @@ module _ (w : Measure) (g : PlainGrammar) (n : ℕ) (k : Kind) (x : Symbol) (xs 
   first_settled own other rest whole = ways_settled (here_settled own rest) (later_settled other whole)
 
 module _ (w : Measure) (g : PlainGrammar) where
-  pub list_settled : (n : ℕ) → ((k : Kind) (x : Symbol) → Settled w g n k x) → (k : Kind) (xs : List Symbol) → AreSettled w g n k xs
+  pub list_settled : (n : ℕ) → ((k : TreeKind) (x : Symbol) → Settled w g n k x) → (k : TreeKind) (xs : List Symbol) → AreSettled w g n k xs
   list_settled n each Any [] = inr (Bare, tt)
   list_settled n each Empty [] = inr (Bare, refl)
   list_settled n each (Begins b) [] = inl (λ f h. none f h)
@@ -99,7 +99,7 @@ module _ (w : Measure) (g : PlainGrammar) where
   list_settled n each k (x ∷ xs) =
       first_settled w g n k x xs (each k x) (each (before k) x) (list_settled n each (behind k) xs) (list_settled n each k xs)
 
-  module _ (n m : ℕ) (k : Kind) (each : (j : Kind) (x : Symbol) → Settled w g n j x) where
+  module _ (n m : ℕ) (k : TreeKind) (each : (j : TreeKind) (x : Symbol) → Settled w g n j x) where
     -- nodes of m whose rule is the one at an index
     pub record NodeAt (i : ℕ) : Type 0 where
       pub rule : Production
@@ -181,7 +181,7 @@ module _ (w : Measure) (g : PlainGrammar) where
         least best (Node q f) h = let way = node_at q f h in omega (arith, best.least way.0 way.1 way.3.0, way.3.1)
 
   -- a leaf is of a kind, or no tree of its token is
-  leaf_settled : (n : ℕ) (k : Kind) (t : ℕ) → Settled w g n k (Token t)
+  leaf_settled : (n : ℕ) (k : TreeKind) (t : ℕ) → Settled w g n k (Token t)
   leaf_settled n Any t = inr (Leaf t, (refl, tt))
   leaf_settled n Empty t = inl (λ u h. none u h)
     where
@@ -210,7 +210,7 @@ module _ (w : Measure) (g : PlainGrammar) where
       none other (Node r f) h = let e = h.0.2 in absurd cc
 
   -- which of the two it is, is known
-  pub settled : (n : ℕ) (k : Kind) (x : Symbol) → Settled w g n k x
+  pub settled : (n : ℕ) (k : TreeKind) (x : Symbol) → Settled w g n k x
   settled n k (Token t) = leaf_settled n k t
   settled zero k (Nonterminal m) = inl (λ t h. node_above t h.0)
     where
@@ -219,8 +219,8 @@ module _ (w : Measure) (g : PlainGrammar) where
       node_above (Node q f) is = omega arith
   settled (suc n) k (Nonterminal m) = nonterminal_settled n m k (settled n)
 
-  pub of_kind_exists : (k : Kind) (x : Symbol) (t : Tree) → IsTreeOfKind g k x t → (u : Tree) × IsChosenOfKind w g k x u
+  pub of_kind_exists : (k : TreeKind) (x : Symbol) (t : Tree) → IsTreeOfKind g k x t → (u : Tree) × IsChosenOfKind w g k x u
   of_kind_exists k x t h = ⊎_elim (λ none. absurd (omega (arith, none t h))) (λ u. u) (settled (size w t) k x)
 
-  pub list_exists : (k : Kind) (xs : List Symbol) (f : Forest) → AreTreesOfKind g k xs f → (h : Forest) × AreChosenOfKind w g k xs h
+  pub list_exists : (k : TreeKind) (xs : List Symbol) (f : Forest) → AreTreesOfKind g k xs f → (h : Forest) × AreChosenOfKind w g k xs h
   list_exists k xs f h = ⊎_elim (λ none. absurd (omega (arith, none f h))) (λ l. l) (list_settled (sizes w f) (settled (sizes w f)) k xs)

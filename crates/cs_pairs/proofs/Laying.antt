@@ -22,8 +22,8 @@ use Rattle.cs_embed.specs.Around.{HasLeastContext, IsAround}
 use Rattle.cs_embed.specs.ChosenContext.{count, IsChosenContext}
 use Rattle.cs_embed.proofs.ChosenContexts.{count_is, IsContext-chosen, chosen_context_least, one_chosen_context}
 use Rattle.cs_embed.proofs.Steps.{at_seam, split_at, one_split}
-use Rattle.cs_pairs.specs.declared.kind.Kind.{Kind}
-use Rattle.cs_pairs.specs.declared.kind.Kind.TheVariants.{Begins, Ends}
+use Rattle.cs_pairs.specs.declared.kind.TreeKind.{TreeKind}
+use Rattle.cs_pairs.specs.declared.kind.TreeKind.TheVariants.{Begins, Ends}
 use Rattle.cs_pairs.specs.Parts.{HaveSmallOfKind, HasSmallOfKind}
 use Rattle.cs_pairs.specs.ChosenKind.{IsChosenOfKind, AreChosenOfKind, AppendsOfKind}
 use Rattle.cs_pairs.specs.SeamPlace.{SeamAt, size_at, IsMeetingAt}
@@ -33,14 +33,14 @@ use Rattle.cs_pairs.proofs.KindsSettled.{of_kind_exists}
 use Rattle.cs_pairs.proofs.ChosenSeams.{seam_of, seam_measure}
 
 -- the code of a chosen tree that is written as a list of one
-pub code_of_one : (w : Measure) (g : PlainGrammar) (k : Kind) (x : Symbol) (old new : List ℕ) → HasSmallOfKind w g k x → old ≡ [] → AppendsOfKind w g k (x ∷ []) old new → IsCodeOfKind w g k x new
+pub code_of_one : (w : Measure) (g : PlainGrammar) (k : TreeKind) (x : Symbol) (old new : List ℕ) → HasSmallOfKind w g k x → old ≡ [] → AppendsOfKind w g k (x ∷ []) old new → IsCodeOfKind w g k x new
 code_of_one w g k x old new small none appends =
     let t = of_kind_exists w g k x small.0 small.1 in
     let same = all_of_kind w g appends.trees (Grown t.0 Bare) k (x ∷ []) appends.chosen (list_of_one w g t.0 k x t.1) in
     (t.0, t.1, appends.text ∙ ap (λ (l : List ℕ). l ++ codes_of appends.trees) none ∙ ap codes_of same ∙ append-nil (code t.0))
 
 -- one tree within the limit is a list within it
-pub small_one : (w : Measure) (g : PlainGrammar) (k : Kind) (x : Symbol) → HasSmallOfKind w g k x → HaveSmallOfKind w g k (x ∷ [])
+pub small_one : (w : Measure) (g : PlainGrammar) (k : TreeKind) (x : Symbol) → HasSmallOfKind w g k x → HaveSmallOfKind w g k (x ∷ [])
 small_one w g k x small =
     let t = of_kind_exists w g k x small.0 small.1 in
     let list = list_of_one w g t.0 k x t.1 in

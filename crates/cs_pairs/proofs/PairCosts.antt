@@ -17,7 +17,7 @@ use Rattle.cs_cost.proofs.Ranks.{IsCost-plus, IsCost-same}
 use Rattle.cs_cost.proofs.Rules.{well_formed_at}
 use Rattle.cs_cost.proofs.Tables.{exact_entry}
 use Rattle.cs_embed.proofs.Steps.{at_seam}
-use Rattle.cs_pairs.specs.declared.kind.Kind.TheVariants.{Ends}
+use Rattle.cs_pairs.specs.declared.kind.TreeKind.TheVariants.{Ends}
 use Rattle.cs_pairs.specs.Kinds.{IsTreeOfKind}
 use Rattle.cs_pairs.specs.ListCost.{lesser}
 use Rattle.cs_pairs.specs.Beside.{IsContextBeside, IsSeam, seam_size, number_of, IsNumbered, IsSeamTo, IsExactBeside}

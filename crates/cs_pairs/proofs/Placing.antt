@@ -15,8 +15,8 @@ use Rattle.cs_cost.specs.declared.cost.Cost.{Cost}
 use Rattle.cs_cost.specs.Least.{IsCost}
 use Rattle.cs_cost.specs.Rank.{rank}
 use Rattle.cs_cost.proofs.Ranks.{cost_low, cost_least}
-use Rattle.cs_pairs.specs.declared.kind.Kind.{Kind}
-use Rattle.cs_pairs.specs.declared.kind.Kind.TheVariants.{Any, Empty, Begins, Ends}
+use Rattle.cs_pairs.specs.declared.kind.TreeKind.{TreeKind}
+use Rattle.cs_pairs.specs.declared.kind.TreeKind.TheVariants.{Any, Empty, Begins, Ends}
 use Rattle.cs_pairs.specs.declared.writing.Part.{Part}
 use Rattle.cs_pairs.specs.Kinds.{before, behind, IsKind}
 use Rattle.cs_pairs.specs.Ways.{AreHere, AreLater, joint_size}
@@ -25,13 +25,13 @@ use Rattle.cs_pairs.specs.Parts.{kind_at, parts_from, AreChosenParts, IsPartOf}
 use Rattle.cs_pairs.proofs.ListCosts.{IsKind-before, IsKind-behind}
 use Rattle.cs_pairs.proofs.ChosenKinds.{IsTree-of_kind, AreTrees-of_kind}
 
-at_before : (k : Kind) (place i : ℕ) → i < place → kind_at k place i ≡ before k
+at_before : (k : TreeKind) (place i : ℕ) → i < place → kind_at k place i ≡ before k
 at_before k place i h = grind (arith, nat_tests)
 
-at_own : (k : Kind) (i : ℕ) → kind_at k i i ≡ k
+at_own : (k : TreeKind) (i : ℕ) → kind_at k i i ≡ k
 at_own k i = grind (arith, nat_tests)
 
-at_behind : (k : Kind) (place i : ℕ) → place < i → kind_at k place i ≡ behind k
+at_behind : (k : TreeKind) (place i : ℕ) → place < i → kind_at k place i ≡ behind k
 at_behind k place i h = grind (arith, nat_tests)
 
 -- what the answer says where it is no
@@ -43,7 +43,7 @@ not_at_most false m n is_no h = ⊎_elim (λ less. less) (λ no_less. let yes = 
 pub left_from : (xs : List Symbol) (i next : ℕ) (d : Symbol) → i + 1 ≡ next → i < length xs → get_or xs i d ∷ drop next xs ≡ drop i xs
 left_from xs i next d is_next within = sym (at_drop_more (λ (l : List Symbol). l) xs i d within ∙ ap (λ n. get_or xs i d ∷ drop n xs) is_next)
 
-behind_twice : (k : Kind) → (before (behind k) ≡ behind k) × (behind (behind k) ≡ behind k)
+behind_twice : (k : TreeKind) → (before (behind k) ≡ behind k) × (behind (behind k) ≡ behind k)
 behind_twice Any = (refl, refl)
 behind_twice Empty = (refl, refl)
 behind_twice (Begins b) = (refl, refl)
@@ -51,7 +51,7 @@ behind_twice (Ends a) = (refl, refl)
 
 module _ (w : Measure) (g : PlainGrammar) where
   -- trees behind one of the kind
-  behind_parts : (f : Forest) (k : Kind) (place i : ℕ) (xs : List Symbol) → place < i → AreChosenOfKind w g (behind k) xs f → AreChosenParts w g (parts_from k place i xs) f
+  behind_parts : (f : Forest) (k : TreeKind) (place i : ℕ) (xs : List Symbol) → place < i → AreChosenOfKind w g (behind k) xs f → AreChosenParts w g (parts_from k place i xs) f
   behind_parts Bare k place i [] lt h = tt
   behind_parts Bare k place i (x ∷ xs) lt h = absurd h
   behind_parts (Grown t f) k place i [] lt h = absurd h
@@ -68,7 +68,7 @@ module _ (w : Measure) (g : PlainGrammar) where
       ))
       h
 
-  module _ (k : Kind) (x : Symbol) (ys : List Symbol) (i : ℕ) (here later : Cost) (is_here : IsCost w.limit (AreHere g k x ys) (joint_size w) here) (is_later : IsCost w.limit (AreLater g k x ys) (joint_size w) later) where
+  module _ (k : TreeKind) (x : Symbol) (ys : List Symbol) (i : ℕ) (here later : Cost) (is_here : IsCost w.limit (AreHere g k x ys) (joint_size w) here) (is_later : IsCost w.limit (AreLater g k x ys) (joint_size w) later) where
     -- the first tree of the chosen ones is of the kind itself where that costs no more
     pub placed_here : rank w.limit here ≤ rank w.limit later → (f : Forest) → AreChosenOfKind w g k (x ∷ ys) f → sizes w f ≤ w.limit → AreChosenParts w g (parts_from k i i (x ∷ ys)) f
     placed_here cheap Bare h small = absurd h
@@ -96,7 +96,7 @@ module _ (w : Measure) (g : PlainGrammar) where
         h
 
   -- the parts are of the grammar
-  pub parts_fit : (k : Kind) (place i : ℕ) (xs : List Symbol) → IsKind g.tokens k → All (IsSymbol g.tokens g.nonterminals) xs → All (IsPartOf g) (parts_from k place i xs)
+  pub parts_fit : (k : TreeKind) (place i : ℕ) (xs : List Symbol) → IsKind g.tokens k → All (IsSymbol g.tokens g.nonterminals) xs → All (IsPartOf g) (parts_from k place i xs)
   parts_fit k place i [] fits each = All-nil (IsPartOf g)
   parts_fit k place i (x ∷ xs) fits each =
       All-cons (IsPartOf g) (record { kind = kind_at k place i; symbol = x }) (parts_from k place (i + 1) xs)
@@ -119,7 +119,7 @@ module _ (w : Measure) (g : PlainGrammar) where
   AreChosenParts-join (Grown t f) h (p ∷ ps) qs hf hh = (hf.0, AreChosenParts-join f h ps qs hf.1 hh)
 
 -- in the names of the code
-module _ (w : Measure) (g : PlainGrammar) (k j : Kind) (xs : List Symbol) (i next : ℕ) (d : Symbol) (place : ℕ) (here later : Cost) (is_next : i + 1 ≡ next) (within : i < length xs) (is_kind : j ≡ k) (is_here : IsCost w.limit (AreHere g j (get_or xs i d) (drop next xs)) (joint_size w) here) (is_later : IsCost w.limit (AreLater g j (get_or xs i d) (drop next xs)) (joint_size w) later) where
+module _ (w : Measure) (g : PlainGrammar) (k j : TreeKind) (xs : List Symbol) (i next : ℕ) (d : Symbol) (place : ℕ) (here later : Cost) (is_next : i + 1 ≡ next) (within : i < length xs) (is_kind : j ≡ k) (is_here : IsCost w.limit (AreHere g j (get_or xs i d) (drop next xs)) (joint_size w) here) (is_later : IsCost w.limit (AreLater g j (get_or xs i d) (drop next xs)) (joint_size w) later) where
   front : drop i xs ≡ get_or xs i d ∷ drop next xs
   front = sym (left_from xs i next d is_next within)
 
@@ -139,7 +139,7 @@ module _ (w : Measure) (g : PlainGrammar) (k j : Kind) (xs : List Symbol) (i nex
       (placed_later w g k (get_or xs i d) (drop next xs) i here later is_here' is_later' place (omega (arith, above, is_next)) cheap so_far')
 
 -- no symbol is swept
-pub place_none : (w : Measure) (g : PlainGrammar) (k : Kind) (place i : ℕ) (ys : List Symbol) → ys ≡ [] → (f : Forest) → AreChosenOfKind w g k ys f → sizes w f ≤ w.limit → AreChosenParts w g (parts_from k place i ys) f
+pub place_none : (w : Measure) (g : PlainGrammar) (k : TreeKind) (place i : ℕ) (ys : List Symbol) → ys ≡ [] → (f : Forest) → AreChosenOfKind w g k ys f → sizes w f ≤ w.limit → AreChosenParts w g (parts_from k place i ys) f
 place_none w g k place i [] e Bare h small = tt
 place_none w g k place i [] e (Grown t f) h small = absurd h
 place_none w g k place i (y ∷ ys) e f h small = absurd cc

@@ -19,7 +19,7 @@ use Rattle.cs_embed.specs.Embeds.{siblings_size, IsEarlier}
 use Rattle.cs_embed.proofs.Steps.{one_split, split_at, get_cases, get_new, get_kept}
 use Rattle.cs_ways.specs.declared.step.Step.{Step}
 use Rattle.cs_ways.specs.Ways.{IsNode}
-use Rattle.cs_pairs.specs.declared.kind.Kind.TheVariants.{Any}
+use Rattle.cs_pairs.specs.declared.kind.TreeKind.TheVariants.{Any}
 use Rattle.cs_pairs.specs.declared.side.Side.{Side}
 use Rattle.cs_pairs.specs.declared.rims.Place.{Place}
 use Rattle.cs_pairs.specs.Kinds.{AreTreesOfKind}
@@ -101,8 +101,7 @@ module _ (w : Measure) (g : PlainGrammar) (side : Side) where
           (λ old'. absurd (omega (arith, slice_get_within steps i t old', new.0, so_far.many)))
           (λ new'.
           let same_a = new.1 in
-          let same_s = new'.1 in
-          (
+          let same_s = new'.1 in (
             subst (λ z. IsRim w g side z t) same_a (subst (IsRim w g side a) same_s rim),
             inr (sym (ap (λ (z : Place). z.rule) same_a) ∙ is_rule, omega (arith, ap (λ (z : Place). z.place) same_a, is_place)),
           ))

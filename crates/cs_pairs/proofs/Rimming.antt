@@ -17,7 +17,7 @@ use Rattle.cs_embed.proofs.Steps.{one_split}
 use Rattle.cs_ways.specs.declared.step.Step.{Step}
 use Rattle.cs_ways.specs.declared.step.Source.{Source}
 use Rattle.cs_ways.specs.Ways.{Net, Way, Begin, On, IsWay, way_cost}
-use Rattle.cs_pairs.specs.declared.kind.Kind.TheVariants.{Empty, Begins, Ends}
+use Rattle.cs_pairs.specs.declared.kind.TreeKind.TheVariants.{Empty, Begins, Ends}
 use Rattle.cs_pairs.specs.declared.side.Side.{Side}
 use Rattle.cs_pairs.specs.declared.side.Side.TheVariants.{First, Last}
 use Rattle.cs_pairs.specs.declared.rims.Place.{Place}

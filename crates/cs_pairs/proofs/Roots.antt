@@ -12,7 +12,7 @@ use Rattle.cs_cost.specs.Least.{IsCost}
 use Rattle.cs_cost.specs.Rank.{rank}
 use Rattle.cs_cost.proofs.Ranks.{cost_low, cost_least}
 use Rattle.cs_cost.proofs.Rules.{rule_at}
-use Rattle.cs_pairs.specs.declared.kind.Kind.{Kind}
+use Rattle.cs_pairs.specs.declared.kind.TreeKind.{TreeKind}
 use Rattle.cs_pairs.specs.Kinds.{IsTreeOfKind, AreTreesOfKind}
 use Rattle.cs_pairs.specs.ChosenKind.{IsChosenOfKind}
 use Rattle.cs_pairs.specs.Sweep.{node_size}
@@ -20,10 +20,10 @@ use Rattle.cs_pairs.specs.Parts.{IsRootOf}
 use Rattle.cs_pairs.proofs.ChosenKinds.{IsTree-of_kind, AreTrees-of_kind}
 
 -- nodes with a rule of the left side at an index below i have more than n nodes
-pub record NoRoot (w : Measure) (g : PlainGrammar) (k : Kind) (left n i : ℕ) : Type 0 where
+pub record NoRoot (w : Measure) (g : PlainGrammar) (k : TreeKind) (left n i : ℕ) : Type 0 where
   pub larger : (j : ℕ) → (o : Production) → j < i → slice_get g.rules j ≡ Some o → o.left ≡ left → (f : Forest) → AreTreesOfKind g k o.right f → n < node_size w f
 
-module _ (w : Measure) (g : PlainGrammar) (k : Kind) (left i : ℕ) (q : Production) (at : slice_get g.rules i ≡ Some q) (cost : Cost) (so_far : NoRoot w g k left (rank w.limit cost) i) where
+module _ (w : Measure) (g : PlainGrammar) (k : TreeKind) (left i : ℕ) (q : Production) (at : slice_get g.rules i ≡ Some q) (cost : Cost) (so_far : NoRoot w g k left (rank w.limit cost) i) where
   pub no_root_more : (q.left ≡ left → (node : Cost) × IsCost w.limit (AreTreesOfKind g k q.right) (node_size w) node × (rank w.limit cost < rank w.limit node)) → NoRoot w g k left (rank w.limit cost) (i + 1)
   no_root_more here = record {
     larger = λ j o within.
@@ -63,7 +63,7 @@ module _ (w : Measure) (g : PlainGrammar) (k : Kind) (left i : ℕ) (q : Product
           (cases_lt r (i + 1))
 
 -- some rule is at the root of a least tree
-pub some_root : (w : Measure) (g : PlainGrammar) (k : Kind) (left i : ℕ) (cost : Cost) → length g.rules ≤ i → NoRoot w g k left (rank w.limit cost) i → IsCost w.limit (IsTreeOfKind g k (Nonterminal left)) (size w) cost → rank w.limit cost ≤ w.limit → ⊥
+pub some_root : (w : Measure) (g : PlainGrammar) (k : TreeKind) (left i : ℕ) (cost : Cost) → length g.rules ≤ i → NoRoot w g k left (rank w.limit cost) i → IsCost w.limit (IsTreeOfKind g k (Nonterminal left)) (size w) cost → rank w.limit cost ≤ w.limit → ⊥
 some_root w g k left i cost all so_far told small =
     let least = cost_least w.limit (IsTreeOfKind g k (Nonterminal left)) (size w) cost told small in
     none least.0 least.1 least.2

@@ -8,15 +8,15 @@ use Rattle.cs_cost.specs.declared.cost.Cost.{Cost}
 use Rattle.cs_cost.specs.Least.{IsCost}
 use Rattle.cs_cost.specs.Rank.{capped, rank, plus}
 use Rattle.cs_cost.proofs.Ranks.{IsCost-from, IsCost-plus, IsCost-same, cost_low, cost_reached, cost_capped}
-use Rattle.cs_pairs.specs.declared.kind.Kind.{Kind}
-use Rattle.cs_pairs.specs.declared.kind.Kind.TheVariants.{Any, Empty, Begins, Ends}
+use Rattle.cs_pairs.specs.declared.kind.TreeKind.{TreeKind}
+use Rattle.cs_pairs.specs.declared.kind.TreeKind.TheVariants.{Any, Empty, Begins, Ends}
 use Rattle.cs_pairs.specs.Kinds.{IsOfKind, IsTreeOfKind, AreTreesOfKind, before, behind}
 use Rattle.cs_pairs.specs.ListCost.{lesser, bare_cost}
 use Rattle.cs_pairs.specs.Ways.{AreHere, AreLater, joint_size}
 use Rattle.cs_pairs.proofs.Joined.{joined_cases, joined_here, joined_later}
 use Rattle.cs_pairs.proofs.ListCosts.{lesser_left, lesser_right, lesser_either, IsCapped-lesser, bare_low, bare_reached, IsCapped-bare}
 
-module _ (w : Measure) (g : PlainGrammar) (k : Kind) (x : Symbol) (xs : List Symbol) where
+module _ (w : Measure) (g : PlainGrammar) (k : TreeKind) (x : Symbol) (xs : List Symbol) where
   -- in one of the two ways
   pub one_way : (f : Forest) → AreTreesOfKind g k (x ∷ xs) f → ((p : Tree × Forest) × AreHere g k x xs p × (joint_size w p ≡ sizes w f)) ⊎ ((p : Tree × Forest) × AreLater g k x xs p × (joint_size w p ≡ sizes w f))
   one_way Bare h = absurd h.0
@@ -33,14 +33,14 @@ module _ (w : Measure) (g : PlainGrammar) (k : Kind) (x : Symbol) (xs : List Sym
   from_later p h = ((h.0.0, h.1.0), joined_later k (yield p.0) (yields p.1) h.0.1 h.1.1)
 
 module _ (w : Measure) (g : PlainGrammar) where
-  pub swept_none : (k : Kind) → IsCost w.limit (AreTreesOfKind g k []) (sizes w) (bare_cost k)
+  pub swept_none : (k : TreeKind) → IsCost w.limit (AreTreesOfKind g k []) (sizes w) (bare_cost k)
   swept_none k = IsCost-from w.limit (AreTreesOfKind g k []) (sizes w) (bare_cost k) (IsCapped-bare w k) (λ h. (Bare, bare_reached w g k h, omega arith)) low
     where
       low : (f : Forest) → AreTreesOfKind g k [] f → rank w.limit (bare_cost k) ≤ capped w.limit (sizes w f)
       low Bare h = omega (arith, bare_low w k h.1)
       low (Grown t f) h = absurd h.0
 
-  module _ (k : Kind) (x : Symbol) (xs : List Symbol) where
+  module _ (k : TreeKind) (x : Symbol) (xs : List Symbol) where
     -- the lesser of the two ways is the least
     pub lesser_way : (here later : Cost) → IsCost w.limit (AreHere g k x xs) (joint_size w) here → IsCost w.limit (AreLater g k x xs) (joint_size w) later → IsCost w.limit (AreTreesOfKind g k (x ∷ xs)) (sizes w) (lesser w.limit here later)
     lesser_way here later is_here is_later =
@@ -61,7 +61,7 @@ module _ (w : Measure) (g : PlainGrammar) where
         (λ o. omega (arith, lesser_right w here later, cost_low w.limit (AreLater g k x xs) (joint_size w) later is_later o.0 o.1, o.2))
         (one_way w g k x xs f h))
 
-  module _ (k : Kind) (x : Symbol) (xs : List Symbol) (own rest : Cost) where
+  module _ (k : TreeKind) (x : Symbol) (xs : List Symbol) (own rest : Cost) where
     pub here_cost : IsCost w.limit (IsTreeOfKind g k x) (size w) own → IsCost w.limit (AreTreesOfKind g (behind k) xs) (sizes w) rest → IsCost w.limit (AreHere g k x xs) (joint_size w) (plus w.limit own rest)
     here_cost first others = IsCost-plus w.limit (IsTreeOfKind g k x) (AreTreesOfKind g (behind k) xs) (size w) (sizes w) own rest first others
 
@@ -69,7 +69,7 @@ module _ (w : Measure) (g : PlainGrammar) where
     later_cost first others = IsCost-plus w.limit (IsTreeOfKind g (before k) x) (AreTreesOfKind g k xs) (size w) (sizes w) own rest first others
 
   -- behind a tree of a kind the two ways are one
-  pub behind_cost : (k : Kind) (x : Symbol) (xs : List Symbol) (own rest : Cost) → IsCost w.limit (IsTreeOfKind g (behind k) x) (size w) own → IsCost w.limit (AreTreesOfKind g (behind k) xs) (sizes w) rest → IsCost w.limit (AreTreesOfKind g (behind k) (x ∷ xs)) (sizes w) (plus w.limit own rest)
+  pub behind_cost : (k : TreeKind) (x : Symbol) (xs : List Symbol) (own rest : Cost) → IsCost w.limit (IsTreeOfKind g (behind k) x) (size w) own → IsCost w.limit (AreTreesOfKind g (behind k) xs) (sizes w) rest → IsCost w.limit (AreTreesOfKind g (behind k) (x ∷ xs)) (sizes w) (plus w.limit own rest)
   behind_cost k x xs own rest first others =
       let Both = λ (p : Tree × Forest). IsTreeOfKind g (behind k) x p.0 × AreTreesOfKind g (behind k) xs p.1 in
       let both = IsCost-plus w.limit (IsTreeOfKind g (behind k) x) (AreTreesOfKind g (behind k) xs) (size w) (sizes w) own rest first others in
@@ -77,13 +77,13 @@ module _ (w : Measure) (g : PlainGrammar) where
       (λ p h. (Grown p.0 p.1, ((h.0.0, h.1.0), joined k (yield p.0) (yields p.1) h.0.1 h.1.1), omega arith))
       (λ f h. apart f h) both
     where
-      joined : (j : Kind) (u v : List ℕ) → IsOfKind (behind j) u → IsOfKind (behind j) v → IsOfKind (behind j) (u ++ v)
+      joined : (j : TreeKind) (u v : List ℕ) → IsOfKind (behind j) u → IsOfKind (behind j) v → IsOfKind (behind j) (u ++ v)
       joined Any u v hu hv = tt
       joined Empty u v hu hv = joined_here Empty u v hu hv
       joined (Begins b) u v hu hv = tt
       joined (Ends a) u v hu hv = joined_here Empty u v hu hv
 
-      parted : (j : Kind) (u v : List ℕ) → IsOfKind (behind j) (u ++ v) → IsOfKind (behind j) u × IsOfKind (behind j) v
+      parted : (j : TreeKind) (u v : List ℕ) → IsOfKind (behind j) (u ++ v) → IsOfKind (behind j) u × IsOfKind (behind j) v
       parted Any u v h = (tt, tt)
       parted Empty u v h = ⊎_elim (λ o. o) (λ o. o) (joined_cases Empty u v h)
       parted (Begins b) u v h = (tt, tt)

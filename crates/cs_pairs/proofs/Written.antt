@@ -16,8 +16,8 @@ use Rattle.cs_grammar.proofs.Forests.{sizes-join, codes_of-join}
 use Rattle.cs_cost.specs.Chosen.{AppendsChosen}
 use Rattle.cs_cost.specs.Trees.{HasLeast}
 use Rattle.cs_cost.proofs.ChosenTrees.{IsTree-chosen, one_chosen, chosen_exists}
-use Rattle.cs_pairs.specs.declared.kind.Kind.{Kind}
-use Rattle.cs_pairs.specs.declared.kind.Kind.TheVariants.{Any}
+use Rattle.cs_pairs.specs.declared.kind.TreeKind.{TreeKind}
+use Rattle.cs_pairs.specs.declared.kind.TreeKind.TheVariants.{Any}
 use Rattle.cs_pairs.specs.declared.writing.Part.{Part}
 use Rattle.cs_pairs.specs.Kinds.{IsKind}
 use Rattle.cs_pairs.specs.ChosenKind.{IsChosenOfKind, AreChosenOfKind}
@@ -49,7 +49,7 @@ module _ (w : Measure) (g : PlainGrammar) where
   }
 
   -- of another part the rule at the root is written
-  module _ (k : Kind) (left r place : ℕ) (right : List Symbol) (root : IsRootOf w g k left r) (is_right : right ≡ root.rule.right) (placed : (f : Forest) → AreChosenOfKind w g k right f → sizes w f ≤ w.limit → AreChosenParts w g (parts_from k place 0 right) f) where
+  module _ (k : TreeKind) (left r place : ℕ) (right : List Symbol) (root : IsRootOf w g k left r) (is_right : right ≡ root.rule.right) (placed : (f : Forest) → AreChosenOfKind w g k right f → sizes w f ≤ w.limit → AreChosenParts w g (parts_from k place 0 right) f) where
     pub takes_root : (old_pending new_pending : List Part) (old new : List ℕ) → IsKind g.tokens k → All (IsSymbol g.tokens g.nonterminals) right → new ≡ old ++ r ∷ [] → reverse new_pending ≡ parts_from k place 0 right ++ reverse old_pending → TakesOn w g (record { kind = k; symbol = Nonterminal left }) old_pending new_pending old new
     takes_root old_pending new_pending old new fits each text pending = record {
       fits = λ h. subst (All (IsPartOf g)) (sym pending) (All-append (IsPartOf g) (parts_from k place 0 right) (reverse old_pending) (parts_fit w g k place 0 right fits each) h);

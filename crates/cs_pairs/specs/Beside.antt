@@ -9,7 +9,7 @@ use Rattle.cs_grammar.specs.Context.{Context, Hole, Under, IsContext, context_si
 use Rattle.cs_cost.specs.declared.cost.Cost.{Cost}
 use Rattle.cs_cost.specs.Rank.{capped, rank, entry}
 use Rattle.cs_cost.specs.Holds.{Holds}
-use Rattle.cs_pairs.specs.declared.kind.Kind.TheVariants.{Begins, Ends}
+use Rattle.cs_pairs.specs.declared.kind.TreeKind.TheVariants.{Begins, Ends}
 use Rattle.cs_pairs.specs.Kinds.{IsOfKind, IsTreeOfKind}
 
 -- what the trees behind the hole yield, below the same node, begins with b

@@ -13,8 +13,8 @@ use Rattle.cs_cost.specs.declared.cost.Cost.TheVariants.{Least}
 use Rattle.cs_cost.specs.Least.{IsCost}
 use Rattle.cs_cost.specs.Chosen.{AreChosen}
 use Rattle.cs_embed.specs.ChosenContext.{count, IsAtMost, IsChosenContext}
-use Rattle.cs_pairs.specs.declared.kind.Kind.{Kind}
-use Rattle.cs_pairs.specs.declared.kind.Kind.TheVariants.{Empty, Begins, Ends}
+use Rattle.cs_pairs.specs.declared.kind.TreeKind.{TreeKind}
+use Rattle.cs_pairs.specs.declared.kind.TreeKind.TheVariants.{Empty, Begins, Ends}
 use Rattle.cs_pairs.specs.ChosenKind.{IsChosenOfKind, AreChosenOfKind}
 use Rattle.cs_pairs.specs.Beside.{IsSeam, seam_size}
 use Rattle.cs_pairs.specs.Pairs.{HasPair}
@@ -66,7 +66,7 @@ abbrev pub IsCodeOfPair : Measure → PlainGrammar → Mark → Mark → List �
 IsCodeOfPair w g a b rules = (t : Tree) × IsChosenPair w g a b t × (rules ≡ code t)
 
 -- the code of the chosen tree of a kind and a symbol
-abbrev pub IsCodeOfKind : Measure → PlainGrammar → Kind → Symbol → List ℕ → Type 0
+abbrev pub IsCodeOfKind : Measure → PlainGrammar → TreeKind → Symbol → List ℕ → Type 0
 IsCodeOfKind w g k x rules = (t : Tree) × IsChosenOfKind w g k x t × (rules ≡ code t)
 
 -- the chosen tree of two tokens is within the limit, and they meet in it at this rule and place

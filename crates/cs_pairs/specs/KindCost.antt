@@ -6,17 +6,17 @@ use Rattle.cs_grammar.specs.Weights.{Weighed}
 use Rattle.cs_grammar.specs.Tree.{size, sizes}
 use Rattle.cs_cost.specs.declared.cost.Cost.{Cost}
 use Rattle.cs_cost.specs.Least.{IsCost}
-use Rattle.cs_pairs.specs.declared.kind.Kind.{Kind}
+use Rattle.cs_pairs.specs.declared.kind.TreeKind.{TreeKind}
 use Rattle.cs_pairs.specs.Kinds.{IsTreeOfKind, AreTreesOfKind}
 
 -- a tree of x that is of the kind
-abbrev pub IsKindCost : Weighed → Kind → Symbol → Cost → Type 0
+abbrev pub IsKindCost : Weighed → TreeKind → Symbol → Cost → Type 0
 IsKindCost v k x cost = IsCost v.weights.limit (IsTreeOfKind v.grammar k x) (size v.weights) cost
 
 -- trees of these symbols that are of the kind together
-abbrev pub AreKindCost : Weighed → Kind → List Symbol → Cost → Type 0
+abbrev pub AreKindCost : Weighed → TreeKind → List Symbol → Cost → Type 0
 AreKindCost v k xs cost = IsCost v.weights.limit (AreTreesOfKind v.grammar k xs) (sizes v.weights) cost
 
 -- a tree of the start symbol that is of the kind
-abbrev pub IsWholeCost : Weighed → Kind → Cost → Type 0
+abbrev pub IsWholeCost : Weighed → TreeKind → Cost → Type 0
 IsWholeCost v k cost = IsKindCost v k (Nonterminal v.grammar.start) cost

@@ -18,3 +18,5 @@ pub mod ChosenKind
 pub mod ChosenPair
 pub mod SeamPlace
 pub mod Parts
+pub mod Clauses
+pub mod Laws

@@ -6,17 +6,17 @@ use Rattle.cs_grammar.specs.declared.symbol.Symbol.TheVariants.{Nonterminal}
 use Rattle.cs_grammar.specs.Grammar.{Production, PlainGrammar, IsRule, IsSymbol}
 use Rattle.cs_grammar.specs.Weights.{Measure}
 use Rattle.cs_grammar.specs.Tree.{Tree, Node, Forest, Bare, Grown, size, sizes, code, codes_of}
-use Rattle.cs_pairs.specs.declared.kind.Kind.{Kind}
+use Rattle.cs_pairs.specs.declared.kind.TreeKind.{TreeKind}
 use Rattle.cs_pairs.specs.declared.writing.Part.{Part}
 use Rattle.cs_pairs.specs.Kinds.{IsTreeOfKind, AreTreesOfKind, before, behind, IsKind}
 use Rattle.cs_pairs.specs.ChosenKind.{IsChosenOfKind}
 
 -- the kind of the tree at an index of a list that is of kind k, where the tree at a place is of the kind itself
-abbrev pub kind_at : Kind → ℕ → ℕ → Kind
+abbrev pub kind_at : TreeKind → ℕ → ℕ → TreeKind
 kind_at k place i = if nat_lt i place then before k else (if nat_eq i place then k else behind k)
 
 -- the parts of such a list, where the first has this index
-abbrev pub parts_from : Kind → ℕ → ℕ → List Symbol → List Part
+abbrev pub parts_from : TreeKind → ℕ → ℕ → List Symbol → List Part
 parts_from k place i [] = []
 parts_from k place i (x ∷ xs) = record { kind = kind_at k place i; symbol = x } ∷ parts_from k place (i + 1) xs
 
@@ -32,15 +32,15 @@ abbrev pub IsPartOf : PlainGrammar → Part → Type 0
 IsPartOf g part = IsKind g.tokens part.kind × IsSymbol g.tokens g.nonterminals part.symbol
 
 -- some tree of x that is of the kind is within the limit
-abbrev pub HasSmallOfKind : Measure → PlainGrammar → Kind → Symbol → Type 0
+abbrev pub HasSmallOfKind : Measure → PlainGrammar → TreeKind → Symbol → Type 0
 HasSmallOfKind w g k x = (t : Tree) × IsTreeOfKind g k x t × (size w t ≤ w.limit)
 
 -- some trees of these symbols that are of the kind are within the limit together
-abbrev pub HaveSmallOfKind : Measure → PlainGrammar → Kind → List Symbol → Type 0
+abbrev pub HaveSmallOfKind : Measure → PlainGrammar → TreeKind → List Symbol → Type 0
 HaveSmallOfKind w g k xs = (f : Forest) × AreTreesOfKind g k xs f × (sizes w f ≤ w.limit)
 
 -- the rule at the root of the chosen tree of a kind and a nonterminal
-pub record IsRootOf (w : Measure) (g : PlainGrammar) (k : Kind) (left r : ℕ) : Type 0 where
+pub record IsRootOf (w : Measure) (g : PlainGrammar) (k : TreeKind) (left r : ℕ) : Type 0 where
   pub rule : Production
   pub number : IsRule g r rule
   pub of_left : rule.left ≡ left

@@ -5,7 +5,7 @@ use Rattle.cs_grammar.specs.Weights.{Weighed}
 use Rattle.cs_cost.specs.declared.cost.Cost.{Cost}
 use Rattle.cs_cost.specs.declared.cost.Cost.TheVariants.{Never}
 use Rattle.cs_cost.specs.Rank.{rank}
-use Rattle.cs_pairs.specs.declared.kind.Kind.TheVariants.{Empty}
+use Rattle.cs_pairs.specs.declared.kind.TreeKind.TheVariants.{Empty}
 use Rattle.cs_pairs.specs.declared.side.Side.{Side}
 use Rattle.cs_pairs.specs.declared.rims.Bases.{Bases}
 use Rattle.cs_pairs.specs.declared.rims.Rims.{Rims}

@@ -5,14 +5,14 @@ use Rattle.cs_grammar.specs.Grammar.{PlainGrammar}
 use Rattle.cs_grammar.specs.Weights.{Measure}
 use Rattle.cs_grammar.specs.Tree.{Forest, sizes}
 use Rattle.cs_cost.specs.Least.{IsCost}
-use Rattle.cs_pairs.specs.declared.kind.Kind.{Kind}
+use Rattle.cs_pairs.specs.declared.kind.TreeKind.{TreeKind}
 use Rattle.cs_pairs.specs.declared.sweep.Sweep.{Sweep}
 use Rattle.cs_pairs.specs.declared.sweep.Ways.{Ways}
 use Rattle.cs_pairs.specs.Kinds.{AreTreesOfKind, behind}
 use Rattle.cs_pairs.specs.Ways.{AreHere, AreLater, joint_size}
 
 -- what the least lists cost in each of the two ways
-pub record AreWays (w : Measure) (g : PlainGrammar) (k : Kind) (x : Symbol) (xs : List Symbol) (ways : Ways) : Type 0 where
+pub record AreWays (w : Measure) (g : PlainGrammar) (k : TreeKind) (x : Symbol) (xs : List Symbol) (ways : Ways) : Type 0 where
   pub is_here : IsCost w.limit (AreHere g k x xs) (joint_size w) ways.here
   pub is_later : IsCost w.limit (AreLater g k x xs) (joint_size w) ways.later
 

@@ -7,8 +7,8 @@ use Rattle.cs_grammar.specs.Tree.{size}
 use Rattle.cs_cost.specs.declared.cost.Cost.{Cost}
 use Rattle.cs_cost.specs.Least.{IsCost}
 use Rattle.cs_cost.specs.Rank.{entry}
-use Rattle.cs_pairs.specs.declared.kind.Kind.{Kind}
-use Rattle.cs_pairs.specs.declared.kind.Kind.TheVariants.{Any, Empty, Begins, Ends}
+use Rattle.cs_pairs.specs.declared.kind.TreeKind.{TreeKind}
+use Rattle.cs_pairs.specs.declared.kind.TreeKind.TheVariants.{Any, Empty, Begins, Ends}
 use Rattle.cs_pairs.specs.declared.side.Side.TheVariants.{First, Last}
 use Rattle.cs_pairs.specs.Kinds.{IsTreeOfKind}
 use Rattle.cs_pairs.specs.Sides.{kind_on}
@@ -25,19 +25,19 @@ abbrev pub row_in : List (List Cost) → ℕ → List Cost
 row_in rows zero = []
 row_in rows (suc n) = slice_index_or rows n []
 
-abbrev pub row_of : Tables → Kind → List Cost
+abbrev pub row_of : Tables → TreeKind → List Cost
 row_of t Any = t.any
 row_of t Empty = t.empty
 row_of t (Begins b) = row_in t.begins b
 row_of t (Ends a) = row_in t.ends a
 
 -- a row that says what the least tree of each nonterminal costs that is of the kind
-pub record AreCosts (w : Measure) (g : PlainGrammar) (k : Kind) (row : List Cost) : Type 0 where
+pub record AreCosts (w : Measure) (g : PlainGrammar) (k : TreeKind) (row : List Cost) : Type 0 where
   pub many : length row ≡ g.nonterminals
   pub exact : (n : ℕ) → IsCost w.limit (IsTreeOfKind g k (Nonterminal n)) (size w) (entry row n)
 
 -- such rows for the first so many tokens
-pub record AreCostRows (w : Measure) (g : PlainGrammar) (kind : ℕ → Kind) (count : ℕ) (rows : List (List Cost)) : Type 0 where
+pub record AreCostRows (w : Measure) (g : PlainGrammar) (kind : ℕ → TreeKind) (count : ℕ) (rows : List (List Cost)) : Type 0 where
   pub many : length rows ≡ count
   pub each : (n : ℕ) → IsNumberOf count n → AreCosts w g (kind n) (row_in rows n)
 

@@ -1,14 +1,12 @@
 // What contexts cost whose hole is directly followed by a token.
 
-ghost use Rattle.std.specs.Prelude.{◌≡◌, ◌≤◌, ℕ, IfOk};
+ghost use Rattle.std.specs.Prelude.{◌≡◌, ◌≤◌, IfOk};
 ghost use Rattle.cs_grammar.specs.Grammar.{IsSomeRule, IsNumberOf, IsSymbol};
-ghost use Rattle.cs_grammar.specs.Tree.{size};
-ghost use Rattle.cs_cost.specs.Least.{IsCost};
-ghost use Rattle.cs_cost.specs.Rank.{rank, entry};
 ghost use Rattle.cs_pairs.specs.Fronts.{AreFronts, AreRuleFronts};
 ghost use Rattle.cs_pairs.specs.Beside.{number_of, IsSoundBeside, IsBelowPlaces, IsExactBeside};
+ghost use Rattle.cs_pairs.specs.Clauses.{Falls, IsBesideIn};
 
-use crate::kind::Kind;
+use crate::kind::TreeKind;
 use crate::kinds::Kinds;
 use crate::row::Row;
 use crate::sweep::Sweep;
@@ -35,13 +33,13 @@ fn beside_rule(kinds: &Kinds, token: u16, rule: &Rule, fronts: &[Cost], row: &mu
     requires fronts { AreFronts kinds.now.weights kinds.now.grammar rule.now fronts.now }
     requires row { IsSoundBeside kinds.now.weights kinds.now.grammar token row.old }
     ensures sound { IsSoundBeside kinds.now.weights kinds.now.grammar token row.new }
-    ensures falls { (m : ℕ) → rank kinds.now.weights.limit (entry row.new m) ≤ rank kinds.now.weights.limit (entry row.old m) }
+    ensures falls { Falls kinds.now row.old row.new }
     ensures below { IsBelowPlaces kinds.now.weights kinds.now.grammar token row.new rule.now 0 }
 {
     let tokens = kinds.grammar().tokens();
     let _rules = kinds.grammar().rules();
     let right = rule.right();
-    let mut sweep = Sweep::new(Kind::Begins(token));
+    let mut sweep = Sweep::new(TreeKind::Begins(token));
     for place in (0..right.len()).rev() {
         let symbol = right[place];
         let cost = kinds.plus(fronts[place], sweep.whole);
@@ -77,7 +75,7 @@ pub(crate) fn beside_row(
 ) -> Result<Beside, AllocError>
     requires token { IsNumberOf kinds.now.grammar.tokens token }
     requires fronts { AreRuleFronts kinds.now.weights kinds.now.grammar fronts.now }
-    ensures { IfOk result (λ beside. (beside.token ≡ token) × IsExactBeside kinds.now.weights kinds.now.grammar token beside.costs.items) }
+    ensures { IfOk result (λ beside. (beside.token ≡ token) × IsBesideIn kinds.now beside) }
 {
     let grammar = kinds.grammar();
     let _rules = grammar.rules();

@@ -2,15 +2,15 @@
 
 ghost use Rattle.std.specs.Prelude.{◌≡◌, ◌<◌, ◌+◌, IfOk, length, take, drop, slice_index_or};
 ghost use Rattle.cs_grammar.specs.declared.symbol.Symbol.{Symbol};
-ghost use Rattle.cs_grammar.specs.declared.symbol.Mark.{Mark};
 ghost use Rattle.cs_grammar.specs.Grammar.{IsNumberOf, IsSymbolOf};
 ghost use Rattle.cs_pairs.specs.Kinds.{IsKind};
-ghost use Rattle.cs_pairs.specs.ChosenPair.{IsCodeOfKind, IsCodeOfPair, IsChosenMeeting};
+ghost use Rattle.cs_pairs.specs.ChosenPair.{IsCodeOfKind};
 ghost use Rattle.cs_pairs.specs.Parts.{HasSmallOfKind};
+ghost use Rattle.cs_pairs.specs.Clauses.{IsMeetingOf, IsCodeOfTokens};
 
-use crate::kind::Kind;
+use crate::kind::TreeKind;
 use crate::kinds::Kinds;
-use crate::meeting::{Meeting, Neighbours};
+use crate::meeting::{Meeting, TokenPair};
 use crate::writing::kind_into;
 use cs_cost::Costs;
 use cs_embed::Embeds;
@@ -22,7 +22,7 @@ pub(crate) fn kind_code(
     alloc: Global,
     kinds: &Kinds,
     costs: &Costs,
-    kind: Kind,
+    kind: TreeKind,
     symbol: Symbol,
 ) -> Result<Derivation, AllocError>
     requires costs { costs.now ≡ kinds.now }
@@ -63,15 +63,15 @@ pub(crate) fn seam_code<'g>(
     kinds: &Kinds<'g>,
     costs: &Costs<'g>,
     embeds: &Embeds<'g>,
-    tokens: Neighbours,
+    tokens: TokenPair,
     at: Meeting,
 ) -> Result<Derivation, AllocError>
     requires costs { costs.now ≡ kinds.now }
     requires embeds { embeds.now ≡ kinds.now }
     requires first { IsNumberOf kinds.now.grammar.tokens tokens.first }
     requires second { IsNumberOf kinds.now.grammar.tokens tokens.second }
-    requires meeting { IsChosenMeeting kinds.now.weights kinds.now.grammar tokens.first tokens.second at.rule at.place }
-    ensures { IfOk result (IsCodeOfPair kinds.now.weights kinds.now.grammar (Mark.Token tokens.first) (Mark.Token tokens.second)) }
+    requires meeting { IsMeetingOf kinds.now tokens at }
+    ensures { IfOk result (IsCodeOfTokens kinds.now tokens) }
 {
     let rule = &kinds.grammar().rules()[at.rule as usize - 1];
     let parts = split_at(rule.right(), at.place);
@@ -85,7 +85,7 @@ pub(crate) fn seam_code<'g>(
         alloc,
         kinds,
         costs,
-        Kind::Ends(tokens.first),
+        TreeKind::Ends(tokens.first),
         &last,
         &mut derivation,
     )?;
@@ -93,7 +93,7 @@ pub(crate) fn seam_code<'g>(
         alloc,
         kinds,
         costs,
-        Kind::Begins(tokens.second),
+        TreeKind::Begins(tokens.second),
         parts.behind,
         &mut derivation,
     )?;

@@ -4,7 +4,7 @@ ghost use Rattle.std.specs.Prelude.{◌≡◌, IfOk, map};
 ghost use Rattle.cs_pairs.specs.Bare.{has_token, bare_rule};
 ghost use Rattle.cs_pairs.specs.Tables.{AreCosts};
 
-use crate::kind::Kind;
+use crate::kind::TreeKind;
 use crate::kinds::any_row;
 use crate::row::Row;
 use cs_cost::Costs;
@@ -45,13 +45,18 @@ fn bare_rules(alloc: Global, grammar: &Grammar) -> Result<Vec<Rule>, AllocError>
 
 // What the least tree of each nonterminal costs whose yield is empty: that of any tree in the grammar of empty yields.
 pub(crate) fn empty_row(alloc: Global, costs: &Costs) -> Result<Row, AllocError>
-    ensures { IfOk result (AreCosts costs.now.weights costs.now.grammar Kind.Empty) }
+    ensures { IfOk result (AreCosts costs.now.weights costs.now.grammar TreeKind.Empty) }
 {
     let grammar = costs.grammar();
     let weights = costs.weights();
     let _rules = grammar.rules();
     let rules = bare_rules(alloc, grammar)?;
-    let bare = Grammar::new(grammar.tokens(), grammar.nonterminals(), grammar.start(), rules);
+    let bare = Grammar::new(
+        grammar.tokens(),
+        grammar.nonterminals(),
+        grammar.start(),
+        rules,
+    );
     let bare_costs = Costs::new(alloc, &bare, weights)?;
     any_row(alloc, &bare_costs)
 }

@@ -1,22 +1,23 @@
 // What the least trees of each kind and symbol cost.
 
-ghost use Rattle.std.specs.Prelude.{◌≡◌, ◌-◌, ◌<◌, ◌≤◌, ◌↔◌, IsTrue, IfOk, length, slice_set, All};
+ghost use Rattle.std.specs.Prelude.{◌≡◌, ◌-◌, ◌<◌, ◌≤◌, ◌↔◌, IsTrue, IfOk, length, All};
 ghost use Rattle.std.specs.Bool.{OnTrue, OnFalse};
 ghost use Rattle.cs_grammar.specs.Grammar.{IsNumberOf, IsSymbolOf};
 ghost use Rattle.cs_grammar.specs.Weights.{Weighs, weighed};
 ghost use Rattle.cs_grammar.specs.Tree.{size};
-ghost use Rattle.cs_cost.specs.Least.{IsCost};
-ghost use Rattle.cs_cost.specs.Rank.{rank, IsCapped, cost_of, plus, entry};
+ghost use Rattle.cs_cost.specs.Rank.{rank, IsCapped, cost_of, plus};
 ghost use Rattle.cs_pairs.specs.ListCost.{lesser};
-ghost use Rattle.cs_pairs.specs.Kinds.{IsTreeOfKind, IsKind};
+ghost use Rattle.cs_pairs.specs.Kinds.{IsKind};
 ghost use Rattle.cs_pairs.specs.RowsOf.{AreTablesOf};
 ghost use Rattle.cs_pairs.specs.Tables.{AreCosts};
+ghost use Rattle.cs_pairs.specs.KindCost.{IsKindCost};
+ghost use Rattle.cs_pairs.specs.Clauses.{IsLowered, IsUnlowered};
 
 use crate::empties::empty_row;
-use crate::kind::Kind;
-use crate::row::Row;
+use crate::kind::TreeKind;
 use crate::nets::{net_of, token_rows};
 use crate::rims::Bases;
+use crate::row::Row;
 use crate::rows::{at_most, leaf_cost, lesser, put_lower};
 use crate::side::Side;
 use cs_cost::{Cost, Costs, cost_of, plus};
@@ -94,10 +95,8 @@ impl<'g> Kinds<'g> {
         requires number { IsNumberOf (length table.old) number }
         requires table { All (IsCapped self.now.weights.limit) table.old }
         requires cost { IsCapped self.now.weights.limit cost }
-        ensures lowered { OnTrue result ((table.new ≡ slice_set table.old (number - 1) cost)
-            × (rank self.now.weights.limit cost < rank self.now.weights.limit (entry table.old number))) }
-        ensures kept { OnFalse result ((table.new ≡ table.old)
-            × (rank self.now.weights.limit (entry table.old number) ≤ rank self.now.weights.limit cost)) }
+        ensures lowered { OnTrue result (IsLowered self.now.weights.limit number cost table.old table.new) }
+        ensures kept { OnFalse result (IsUnlowered self.now.weights.limit number cost table.old table.new) }
     {
         put_lower(self.weights, table, number, cost)
     }
@@ -136,10 +135,10 @@ impl<'g> Kinds<'g> {
     }
 
     // What the least tree of a kind and a symbol costs.
-    pub(crate) fn told(&self, kind: Kind, symbol: Symbol) -> Cost
+    pub(crate) fn told(&self, kind: TreeKind, symbol: Symbol) -> Cost
         requires kind { IsKind self.now.grammar.tokens kind }
         requires symbol { IsSymbolOf self.now.grammar symbol }
-        ensures { IsCost self.now.weights.limit (IsTreeOfKind self.now.grammar kind symbol) (size self.now.weights) result }
+        ensures { IsKindCost self.now kind symbol result }
     {
         match symbol {
             Symbol::Token(token) => leaf_cost(self.weights, kind, token),
@@ -148,15 +147,15 @@ impl<'g> Kinds<'g> {
     }
 
     // The row of a kind.
-    fn row(&self, kind: Kind) -> &[Cost]
+    fn row(&self, kind: TreeKind) -> &[Cost]
         requires { IsKind self.now.grammar.tokens kind }
         ensures { AreCosts self.now.weights self.now.grammar kind result.now }
     {
         match kind {
-            Kind::Any => self.rows.any.costs(),
-            Kind::Empty => self.rows.empty.costs(),
-            Kind::Begins(token) => self.rows.begins[token as usize - 1].costs(),
-            Kind::Ends(token) => self.rows.ends[token as usize - 1].costs(),
+            TreeKind::Any => self.rows.any.costs(),
+            TreeKind::Empty => self.rows.empty.costs(),
+            TreeKind::Begins(token) => self.rows.begins[token as usize - 1].costs(),
+            TreeKind::Ends(token) => self.rows.ends[token as usize - 1].costs(),
         }
     }
 }
@@ -174,7 +173,7 @@ fn kinds_of<'g>(grammar: &'g Grammar, weights: &'g Weights, rows: Rows) -> Kinds
 
 // What any trees cost, as `Costs` says.
 pub(crate) fn any_row(alloc: Global, costs: &Costs) -> Result<Row, AllocError>
-    ensures { IfOk result (λ row. AreCosts costs.now.weights costs.now.grammar Kind.Any row) }
+    ensures { IfOk result (λ row. AreCosts costs.now.weights costs.now.grammar TreeKind.Any row) }
 {
     let mut row = Vec::new(alloc);
     let _rules = costs.grammar().rules();

@@ -1,16 +1,12 @@
 // Where two tokens meet in their chosen tree.
 
 ghost use Rattle.std.specs.Prelude.{◌≤◌, length};
-ghost use Rattle.cs_grammar.specs.declared.symbol.Symbol.{Symbol};
 ghost use Rattle.cs_grammar.specs.Grammar.{IsNumberOf};
-ghost use Rattle.cs_grammar.specs.Tree.{Tree};
-ghost use Rattle.cs_grammar.specs.Context.{Context};
 ghost use Rattle.cs_cost.specs.Rank.{rank, IsCapped};
 ghost use Rattle.cs_pairs.specs.Fronts.{AreFrontsOf, AreRuleFronts};
-ghost use Rattle.cs_pairs.specs.Beside.{IsSeam, seam_size};
-ghost use Rattle.cs_pairs.specs.SeamPlace.{IsFoundIn, IsMeetingAt};
+ghost use Rattle.cs_pairs.specs.Clauses.{IsFoundWithin, HasSeamWithin, IsMeetingWithin};
 
-use crate::kind::Kind;
+use crate::kind::TreeKind;
 use crate::kinds::Kinds;
 use crate::row::Row;
 use crate::sweep::Sweep;
@@ -18,7 +14,7 @@ use cs_cost::Cost;
 
 // Two tokens, one directly followed by the other.
 #[derive(Clone, Copy, Debug)]
-pub(crate) struct Neighbours {
+pub(crate) struct TokenPair {
     pub(crate) first: u16,
     pub(crate) second: u16,
 }
@@ -35,7 +31,7 @@ fn place_in(
     kinds: &Kinds,
     fronts: &[Cost],
     number: u16,
-    tokens: Neighbours,
+    tokens: TokenPair,
     cost: Cost,
 ) -> Option<usize>
     requires fronts { AreFrontsOf kinds.now.weights kinds.now.grammar number fronts.now }
@@ -44,14 +40,14 @@ fn place_in(
     requires second { IsNumberOf kinds.now.grammar.tokens tokens.second }
     requires cost { IsCapped kinds.now.weights.limit cost }
     requires small { rank kinds.now.weights.limit cost ≤ kinds.now.weights.limit }
-    ensures { IsFoundIn kinds.now.weights kinds.now.grammar tokens.first tokens.second number (rank kinds.now.weights.limit cost) 0 result }
+    ensures { IsFoundWithin kinds.now tokens number cost result }
 {
     let right = kinds.grammar().rules()[number as usize - 1].right();
     let mut found = None;
-    let mut sweep = Sweep::new(Kind::Begins(tokens.second));
+    let mut sweep = Sweep::new(TreeKind::Begins(tokens.second));
     for place in (0..right.len()).rev() {
         let symbol = right[place];
-        let last = kinds.told(Kind::Ends(tokens.first), symbol);
+        let last = kinds.told(TreeKind::Ends(tokens.first), symbol);
         let seam = kinds.plus(fronts[place], kinds.plus(last, sweep.whole));
         if kinds.at_most(seam, cost) {
             found = Some(place);
@@ -62,15 +58,14 @@ fn place_in(
 }
 
 // The lowest rule, and its lowest place, at which the tokens meet in a tree that costs at most this.
-pub(crate) fn meet(kinds: &Kinds, fronts: &[Row], tokens: Neighbours, cost: Cost) -> Meeting
+pub(crate) fn meet(kinds: &Kinds, fronts: &[Row], tokens: TokenPair, cost: Cost) -> Meeting
     requires fronts { AreRuleFronts kinds.now.weights kinds.now.grammar fronts.now }
     requires first { IsNumberOf kinds.now.grammar.tokens tokens.first }
     requires second { IsNumberOf kinds.now.grammar.tokens tokens.second }
     requires cost { IsCapped kinds.now.weights.limit cost }
     requires small { rank kinds.now.weights.limit cost ≤ kinds.now.weights.limit }
-    requires some { (x : Symbol) × (s : Context × Tree) × IsSeam kinds.now.grammar tokens.first tokens.second x s
-        × (seam_size kinds.now.weights s ≤ rank kinds.now.weights.limit cost) }
-    ensures { IsMeetingAt kinds.now.weights kinds.now.grammar tokens.first tokens.second (rank kinds.now.weights.limit cost) result.rule result.place }
+    requires some { HasSeamWithin kinds.now tokens cost }
+    ensures { IsMeetingWithin kinds.now tokens cost result }
 {
     for place in 0..kinds.grammar().rules().len() {
         let rule = (place + 1) as u16;

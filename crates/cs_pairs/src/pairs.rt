@@ -3,21 +3,20 @@
 ghost use Rattle.std.specs.Prelude.{◌≡◌, ◌↔◌, IsTrue, IfOk};
 ghost use Rattle.cs_grammar.specs.Grammar.{IsNumberOf};
 ghost use Rattle.cs_grammar.specs.Tree.{size};
-ghost use Rattle.cs_cost.specs.Least.{IsCost};
 ghost use Rattle.cs_goals.specs.Goal.{IsLeft, IsRight};
-ghost use Rattle.cs_pairs.specs.Kinds.{IsTreeOfKind, IsKind};
+ghost use Rattle.cs_pairs.specs.Kinds.{IsKind};
 ghost use Rattle.cs_pairs.specs.Fronts.{AreRuleFronts};
-ghost use Rattle.cs_pairs.specs.Beside.{IsExactBeside};
-ghost use Rattle.cs_pairs.specs.Parts.{HasSmallOfKind};
-ghost use Rattle.cs_pairs.specs.ChosenPair.{HasLeastPair, IsCodeOfKind, IsCodeOfPair};
-ghost use Rattle.cs_pairs.specs.Pairs.{IsAdjacent, HasPair, ArePairs, ArePairRows};
+ghost use Rattle.cs_pairs.specs.ChosenPair.{HasLeastPair, IsCodeOfPair};
+ghost use Rattle.cs_pairs.specs.Pairs.{IsAdjacent, ArePairs, ArePairRows};
+ghost use Rattle.cs_pairs.specs.KindCost.{IsWholeCost};
+ghost use Rattle.cs_pairs.specs.Clauses.{IsPairCost, ArePairRowsIn, IsBesideIn, HasLeastOf, IsCodeOfTokens, HasSmallWhole, IsCodeOfWhole};
 
 use crate::beside::{Beside, beside_row};
 use crate::derive::{kind_code, seam_code};
 use crate::fronts::rule_fronts;
-use crate::kind::Kind;
+use crate::kind::TreeKind;
 use crate::kinds::Kinds;
-use crate::meeting::{Neighbours, meet};
+use crate::meeting::{TokenPair, meet};
 use crate::row::Row;
 use cs_cost::{Cost, Costs};
 use cs_embed::Embeds;
@@ -90,15 +89,15 @@ impl<'g> Pairs<'g> {
     pub fn cost(&self, left: Mark, right: Mark) -> Cost
         requires left { IsLeft self.now.grammar.tokens left }
         requires right { IsRight self.now.grammar.tokens right }
-        ensures { IsCost self.now.weights.limit (HasPair self.now.grammar left right) (size self.now.weights) result }
+        ensures { IsPairCost self.now left right result }
     {
         match (left, right) {
-            (Mark::Begin, Mark::Token(second)) => self.whole_cost(Kind::Begins(second)),
+            (Mark::Begin, Mark::Token(second)) => self.whole_cost(TreeKind::Begins(second)),
             (Mark::Token(first), Mark::Token(second)) => {
                 self.pairs[second as usize - 1].costs()[first as usize - 1]
             }
-            (Mark::Token(first), Mark::End) => self.whole_cost(Kind::Ends(first)),
-            (Mark::Begin, Mark::End) => self.whole_cost(Kind::Empty),
+            (Mark::Token(first), Mark::End) => self.whole_cost(TreeKind::Ends(first)),
+            (Mark::Begin, Mark::End) => self.whole_cost(TreeKind::Empty),
             _ => unreachable!(),
         }
     }
@@ -127,13 +126,17 @@ impl<'g> Pairs<'g> {
             (Mark::Begin, Mark::Token(second)) => self.derive_whole(
                 alloc,
                 costs,
-                Kind::Begins(second),
+                TreeKind::Begins(second),
             ),
             (Mark::Token(first), Mark::Token(second)) => {
-                self.derive_tokens(alloc, costs, embeds, Neighbours { first, second })
+                self.derive_tokens(alloc, costs, embeds, TokenPair { first, second })
             }
-            (Mark::Token(first), Mark::End) => self.derive_whole(alloc, costs, Kind::Ends(first)),
-            (Mark::Begin, Mark::End) => self.derive_whole(alloc, costs, Kind::Empty),
+            (Mark::Token(first), Mark::End) => self.derive_whole(
+                alloc,
+                costs,
+                TreeKind::Ends(first),
+            ),
+            (Mark::Begin, Mark::End) => self.derive_whole(alloc, costs, TreeKind::Empty),
             _ => unreachable!(),
         }
     }
@@ -143,12 +146,12 @@ impl<'g> Pairs<'g> {
         &self,
         alloc: Global,
         costs: &Costs,
-        kind: Kind,
+        kind: TreeKind,
     ) -> Result<Derivation, AllocError>
         requires costs { costs.now ≡ self.now }
         requires kind { IsKind self.now.grammar.tokens kind }
-        requires small { HasSmallOfKind self.now.weights self.now.grammar kind (Symbol.Nonterminal self.now.grammar.start) }
-        ensures { IfOk result (IsCodeOfKind self.now.weights self.now.grammar kind (Symbol.Nonterminal self.now.grammar.start)) }
+        requires small { HasSmallWhole self.now kind }
+        ensures { IfOk result (IsCodeOfWhole self.now kind) }
     {
         let grammar = self.kinds.grammar();
         let _rules = grammar.rules();
@@ -162,14 +165,14 @@ impl<'g> Pairs<'g> {
         alloc: Global,
         costs: &Costs<'g>,
         embeds: &Embeds<'g>,
-        tokens: Neighbours,
+        tokens: TokenPair,
     ) -> Result<Derivation, AllocError>
         requires costs { costs.now ≡ self.now }
         requires embeds { embeds.now ≡ self.now }
         requires first { IsNumberOf self.now.grammar.tokens tokens.first }
         requires second { IsNumberOf self.now.grammar.tokens tokens.second }
-        requires least { HasLeastPair self.now.weights self.now.grammar (Mark.Token tokens.first) (Mark.Token tokens.second) }
-        ensures { IfOk result (IsCodeOfPair self.now.weights self.now.grammar (Mark.Token tokens.first) (Mark.Token tokens.second)) }
+        requires least { HasLeastOf self.now tokens }
+        ensures { IfOk result (IsCodeOfTokens self.now tokens) }
     {
         let cost = self.cost(Mark::Token(tokens.first), Mark::Token(tokens.second));
         let at = meet(&self.kinds, &self.fronts, tokens, cost);
@@ -177,9 +180,9 @@ impl<'g> Pairs<'g> {
     }
 
     // What the least tree of the start symbol costs that is of a kind.
-    fn whole_cost(&self, kind: Kind) -> Cost
+    fn whole_cost(&self, kind: TreeKind) -> Cost
         requires { IsKind self.now.grammar.tokens kind }
-        ensures { IsCost self.now.weights.limit (IsTreeOfKind self.now.grammar kind (Symbol.Nonterminal self.now.grammar.start)) (size self.now.weights) result }
+        ensures { IsWholeCost self.now kind result }
     {
         let grammar = self.kinds.grammar();
         let _rules = grammar.rules();
@@ -191,16 +194,16 @@ impl<'g> Pairs<'g> {
 // directly followed by the second.
 fn pair_cost(kinds: &Kinds, first: u16, beside: &Beside) -> Cost
     requires first { IsNumberOf kinds.now.grammar.tokens first }
-    requires beside { IsExactBeside kinds.now.weights kinds.now.grammar beside.now.token beside.now.costs.items }
-    ensures { IsCost kinds.now.weights.limit (HasPair kinds.now.grammar (Mark.Token first) (Mark.Token beside.now.token)) (size kinds.now.weights) result }
+    requires beside { IsBesideIn kinds.now beside.now }
+    ensures { IsPairCost kinds.now (Mark.Token first) (Mark.Token beside.now.token) result }
 {
     let grammar = kinds.grammar();
     let _rules = grammar.rules();
     let tokens = grammar.tokens() as usize;
-    let leaf = kinds.told(Kind::Ends(first), Symbol::Token(first));
+    let leaf = kinds.told(TreeKind::Ends(first), Symbol::Token(first));
     let mut best = kinds.plus(leaf, beside.costs[first as usize - 1]);
     for place in 0..grammar.nonterminals() {
-        let tree = kinds.told(Kind::Ends(first), Symbol::Nonterminal(place + 1));
+        let tree = kinds.told(TreeKind::Ends(first), Symbol::Nonterminal(place + 1));
         best = kinds.lesser(
             best,
             kinds.plus(tree, beside.costs[tokens + place as usize]),
@@ -226,7 +229,7 @@ fn pair_row(alloc: Global, kinds: &Kinds, fronts: &[Row], second: u16) -> Result
 // The rows of all tokens.
 fn pair_rows(alloc: Global, kinds: &Kinds, fronts: &[Row]) -> Result<Vec<Row>, AllocError>
     requires { AreRuleFronts kinds.now.weights kinds.now.grammar fronts.now }
-    ensures { IfOk result (λ rows. ArePairRows kinds.now.weights kinds.now.grammar kinds.now.grammar.tokens rows.items) }
+    ensures { IfOk result (λ rows. ArePairRowsIn kinds.now rows.items) }
 {
     let mut rows = Vec::new(alloc);
     for place in 0..kinds.grammar().tokens() {

@@ -8,7 +8,7 @@ ghost use Rattle.cs_pairs.specs.Sides.{before_on, behind_on};
 ghost use Rattle.cs_pairs.specs.KindCost.{IsKindCost, AreKindCost};
 ghost use Rattle.cs_pairs.specs.RimsOf.{AreBases, IsBesideCostOf, IsStepCost, AreRimsUpTo, AreRimsOf};
 
-use crate::kind::Kind;
+use crate::kind::TreeKind;
 use crate::side::Side;
 use cs_cost::{Cost, Costs, cost_of, plus};
 use cs_grammar::{Symbol, number_of, place_of};
@@ -57,7 +57,7 @@ pub(crate) fn one_node(costs: &Costs) -> Cost
 fn empty_cost(bases: &Bases, symbol: Symbol) -> Cost
     requires bases { AreBases bases.now }
     requires symbol { IsSymbolOf bases.now.costs.now.grammar symbol }
-    ensures { IsKindCost bases.now.costs.now Kind.Empty symbol result }
+    ensures { IsKindCost bases.now.costs.now TreeKind.Empty symbol result }
 {
     match symbol {
         Symbol::Token(_) => Cost::Never,
@@ -69,7 +69,7 @@ fn empty_cost(bases: &Bases, symbol: Symbol) -> Cost
 pub(crate) fn empty_sum(bases: &Bases, symbols: &[Symbol]) -> Cost
     requires bases { AreBases bases.now }
     requires symbols { All (IsSymbolOf bases.now.costs.now.grammar) symbols.now }
-    ensures cost { AreKindCost bases.now.costs.now Kind.Empty symbols.now result }
+    ensures cost { AreKindCost bases.now.costs.now TreeKind.Empty symbols.now result }
     ensures capped { IsCapped bases.now.costs.now.weights.limit result }
 {
     let mut sum = Cost::Least(0);
@@ -82,7 +82,7 @@ pub(crate) fn empty_sum(bases: &Bases, symbols: &[Symbol]) -> Cost
 // What trees of these symbols cost.
 pub(crate) fn any_sum(bases: &Bases, symbols: &[Symbol]) -> Cost
     requires { All (IsSymbolOf bases.now.costs.now.grammar) symbols.now }
-    ensures cost { AreKindCost bases.now.costs.now Kind.Any symbols.now result }
+    ensures cost { AreKindCost bases.now.costs.now TreeKind.Any symbols.now result }
     ensures capped { IsCapped bases.now.costs.now.weights.limit result }
 {
     bases.costs.sum(symbols)
@@ -122,7 +122,11 @@ fn beside_cost(bases: &Bases, side: Side, before: &[Symbol], behind: &[Symbol]) 
 {
     let first = before_cost(bases, side, before);
     let last = behind_cost(bases, side, behind);
-    joint_cost(bases.costs, one_node(bases.costs), joint_cost(bases.costs, first, last))
+    joint_cost(
+        bases.costs,
+        one_node(bases.costs),
+        joint_cost(bases.costs, first, last),
+    )
 }
 
 // A cost as that of a step, if there is one.

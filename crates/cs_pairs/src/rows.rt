@@ -1,12 +1,13 @@
 // The order of costs, and what leaves and no trees at all cost.
 
-ghost use Rattle.std.specs.Prelude.{◌≡◌, ◌-◌, slice_set, ◌<◌, ◌≤◌, ◌↔◌, IsTrue, length, All};
+ghost use Rattle.std.specs.Prelude.{◌≡◌, ◌-◌, ◌<◌, ◌≤◌, ◌↔◌, IsTrue, length, All};
 ghost use Rattle.std.specs.Bool.{OnTrue, OnFalse};
 ghost use Rattle.cs_grammar.specs.Grammar.{IsNumberOf};
-ghost use Rattle.cs_cost.specs.Rank.{rank, IsCapped, entry};
+ghost use Rattle.cs_cost.specs.Rank.{rank, IsCapped};
 ghost use Rattle.cs_pairs.specs.ListCost.{lesser, leaf_cost, bare_cost};
+ghost use Rattle.cs_pairs.specs.Clauses.{IsLowered, IsUnlowered};
 
-use crate::kind::Kind;
+use crate::kind::TreeKind;
 use cs_cost::{Cost, cost_of, is_below};
 use cs_grammar::Weights;
 
@@ -24,10 +25,8 @@ pub(crate) fn put_lower(weights: &Weights, table: &mut [Cost], number: u16, cost
     requires number { IsNumberOf (length table.old) number }
     requires table { All (IsCapped weights.now.limit) table.old }
     requires cost { IsCapped weights.now.limit cost }
-    ensures lowered { OnTrue result ((table.new ≡ slice_set table.old (number - 1) cost)
-        × (rank weights.now.limit cost < rank weights.now.limit (entry table.old number))) }
-    ensures kept { OnFalse result ((table.new ≡ table.old)
-        × (rank weights.now.limit (entry table.old number) ≤ rank weights.now.limit cost)) }
+    ensures lowered { OnTrue result (IsLowered weights.now.limit number cost table.old table.new) }
+    ensures kept { OnFalse result (IsUnlowered weights.now.limit number cost table.old table.new) }
 {
     let place = number as usize - 1;
     if is_lower(weights, cost, table[place]) {
@@ -58,24 +57,26 @@ pub(crate) fn at_most(_weights: &Weights, a: Cost, b: Cost) -> bool
 }
 
 // What no tree at all costs.
-pub(crate) fn bare_cost(kind: Kind) -> Cost
+pub(crate) fn bare_cost(kind: TreeKind) -> Cost
     ensures { result ≡ bare_cost kind }
 {
     match kind {
-        Kind::Any | Kind::Empty => Cost::Least(0),
-        Kind::Begins(_) | Kind::Ends(_) => Cost::Never,
+        TreeKind::Any | TreeKind::Empty => Cost::Least(0),
+        TreeKind::Begins(_) | TreeKind::Ends(_) => Cost::Never,
     }
 }
 
-pub(crate) fn leaf_cost(weights: &Weights, kind: Kind, token: u16) -> Cost
+pub(crate) fn leaf_cost(weights: &Weights, kind: TreeKind, token: u16) -> Cost
     requires { IsNumberOf (length weights.now.numbers) token }
     ensures cost { result ≡ leaf_cost weights.now kind token }
     ensures capped { IsCapped weights.now.limit result }
 {
     let leaf = cost_of(weights.number(token), weights.limit());
     match kind {
-        Kind::Any => leaf,
-        Kind::Empty => Cost::Never,
-        Kind::Begins(only) | Kind::Ends(only) => { if token == only { leaf } else { Cost::Never } }
+        TreeKind::Any => leaf,
+        TreeKind::Empty => Cost::Never,
+        TreeKind::Begins(only) | TreeKind::Ends(only) => {
+            if token == only { leaf } else { Cost::Never }
+        }
     }
 }

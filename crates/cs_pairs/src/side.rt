@@ -3,7 +3,7 @@
 ghost use Rattle.std.specs.Prelude.{◌≡◌};
 ghost use Rattle.cs_pairs.specs.Sides.{kind_on};
 
-use crate::kind::Kind;
+use crate::kind::TreeKind;
 
 // The side on which a token stands: it is the first of the yield, or the last.
 #[derive(Clone, Copy, Debug, PartialEq, Eq)]
@@ -14,12 +14,12 @@ pub(crate) enum Side {
 
 impl Side {
     // Trees whose yield has this token at the side.
-    pub(crate) fn kind(self, token: u16) -> Kind
+    pub(crate) fn kind(self, token: u16) -> TreeKind
         ensures { result ≡ kind_on self token }
     {
         match self {
-            Side::First => Kind::Begins(token),
-            Side::Last => Kind::Ends(token),
+            Side::First => TreeKind::Begins(token),
+            Side::Last => TreeKind::Ends(token),
         }
     }
 }

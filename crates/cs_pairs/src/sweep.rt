@@ -1,13 +1,14 @@
 // A sweep over a right side, from its last symbol to its first.
 
-ghost use Rattle.std.specs.Prelude.{◌≡◌, [], ◌∷◌, List};
+ghost use Rattle.std.specs.Prelude.{◌≡◌, [], List};
 ghost use Rattle.cs_grammar.specs.declared.symbol.Symbol.{Symbol};
 ghost use Rattle.cs_grammar.specs.Grammar.{PlainGrammar, IsSymbolOf};
 ghost use Rattle.cs_grammar.specs.Weights.{Measure};
 ghost use Rattle.cs_pairs.specs.Kinds.{IsKind};
-ghost use Rattle.cs_pairs.specs.Sweep.{IsSwept, AreWays};
+ghost use Rattle.cs_pairs.specs.Sweep.{IsSwept};
+ghost use Rattle.cs_pairs.specs.Clauses.{AreWaysOver, IsSweptOver};
 
-use crate::kind::Kind;
+use crate::kind::TreeKind;
 use crate::kinds::Kinds;
 use crate::rows::bare_cost;
 use cs_cost::Cost;
@@ -16,7 +17,7 @@ use cs_grammar::Symbol;
 // What trees of the swept symbols cost: those that are of a kind together, and those behind a tree of the kind.
 #[derive(Clone, Copy, Debug)]
 pub(crate) struct Sweep {
-    pub(crate) kind: Kind,
+    pub(crate) kind: TreeKind,
     pub(crate) whole: Cost,
     pub(crate) rest: Cost,
 }
@@ -30,7 +31,7 @@ pub(crate) struct Ways {
 
 impl Sweep {
     // Before any symbol is swept.
-    pub(crate) fn new(kind: Kind) -> Sweep
+    pub(crate) fn new(kind: TreeKind) -> Sweep
         ensures kind { result.kind ≡ kind }
         ensures swept { (w : Measure) (g : PlainGrammar) → IsSwept w g [] result }
     {
@@ -46,7 +47,7 @@ impl Sweep {
         requires kind { IsKind kinds.now.grammar.tokens self.now.kind }
         requires symbol { IsSymbolOf kinds.now.grammar symbol }
         requires swept { (xs : List Symbol) × IsSwept kinds.now.weights kinds.now.grammar xs self.now }
-        ensures { (xs : List Symbol) → IsSwept kinds.now.weights kinds.now.grammar xs self.now → AreWays kinds.now.weights kinds.now.grammar self.now.kind symbol xs result }
+        ensures { AreWaysOver kinds.now self.now symbol result }
     {
         let here = kinds.plus(kinds.told(self.kind, symbol), self.rest);
         let later = kinds.plus(kinds.told(self.kind.before(), symbol), self.whole);
@@ -59,7 +60,7 @@ impl Sweep {
         requires symbol { IsSymbolOf kinds.now.grammar symbol }
         requires swept { (xs : List Symbol) × IsSwept kinds.now.weights kinds.now.grammar xs self }
         ensures kind { result.kind ≡ self.kind }
-        ensures swept { (xs : List Symbol) → IsSwept kinds.now.weights kinds.now.grammar xs self → IsSwept kinds.now.weights kinds.now.grammar (symbol ∷ xs) result }
+        ensures swept { IsSweptOver kinds.now self symbol result }
     {
         let ways = self.ways(kinds, symbol);
         Sweep {

@@ -1,16 +1,13 @@
 // The codes of chosen trees of kinds, written from left to right.
 
-ghost use Rattle.std.specs.Prelude.{◌≡◌, ◌≤◌, ◌++◌, reverse, OnOk, All};
+ghost use Rattle.std.specs.Prelude.{◌≡◌, reverse, OnOk, All};
 ghost use Rattle.cs_grammar.specs.Grammar.{IsSymbolOf, IsNumberOf};
 ghost use Rattle.cs_grammar.specs.Weights.{IsMeasure};
-ghost use Rattle.cs_grammar.specs.Tree.{Forest, sizes, codes_of};
-ghost use Rattle.cs_cost.specs.Least.{IsCost};
-ghost use Rattle.cs_pairs.specs.Kinds.{AreTreesOfKind, IsKind};
-ghost use Rattle.cs_pairs.specs.ChosenKind.{AreChosenOfKind, AppendsOfKind};
-ghost use Rattle.cs_pairs.specs.Sweep.{node_size};
-ghost use Rattle.cs_pairs.specs.Parts.{kind_at, parts_from, AreChosenParts, IsPartOf, HasSmallOfKind, HaveSmallOfKind, IsRootOf, TakesOn};
+ghost use Rattle.cs_pairs.specs.Kinds.{IsKind};
+ghost use Rattle.cs_pairs.specs.Parts.{kind_at, IsPartOf, HasSmallOfKind, HaveSmallOfKind, IsRootOf};
+ghost use Rattle.cs_pairs.specs.Clauses.{ArePutFirst, IsPlaceIn, IsNodeCost, OpensUp, TakesOnIn, HaveSmallParts, Writes, AppendsIn};
 
-use crate::kind::Kind;
+use crate::kind::TreeKind;
 use crate::kinds::Kinds;
 use crate::sweep::Sweep;
 use cs_cost::{Cost, Costs};
@@ -20,12 +17,12 @@ use std::alloc::{AllocError, Global};
 // What is still to be written: the code of the chosen tree of a kind and a symbol.
 #[derive(Clone, Copy, Debug)]
 pub(crate) struct Part {
-    kind: Kind,
+    kind: TreeKind,
     symbol: Symbol,
 }
 
 // The kind of the tree at an index of a list that is of a kind, where the tree at `place` is of the kind itself.
-fn kind_at(kind: Kind, place: usize, index: usize) -> Kind
+fn kind_at(kind: TreeKind, place: usize, index: usize) -> TreeKind
     ensures { result ≡ kind_at kind place index }
 {
     if index < place {
@@ -40,11 +37,11 @@ fn kind_at(kind: Kind, place: usize, index: usize) -> Kind
 // Puts the parts of a list of trees in front of what is pending, which stands in reverse.
 fn put_first(
     pending: &mut Vec<Part>,
-    kind: Kind,
+    kind: TreeKind,
     place: usize,
     symbols: &[Symbol],
 ) -> Result<(), AllocError>
-    ensures { OnOk result (reverse pending.new.items ≡ parts_from kind place 0 symbols.now ++ reverse pending.old.items) }
+    ensures { OnOk result (ArePutFirst kind place symbols.now pending.old pending.new) }
 {
     for index in (0..symbols.len()).rev() {
         pending.push(Part {
@@ -56,11 +53,10 @@ fn put_first(
 }
 
 // Where the tree of the kind itself stands in the chosen trees of symbols; behind all where there is none.
-fn place_of(kinds: &Kinds, kind: Kind, symbols: &[Symbol]) -> usize
+fn place_of(kinds: &Kinds, kind: TreeKind, symbols: &[Symbol]) -> usize
     requires kind { IsKind kinds.now.grammar.tokens kind }
     requires symbols { All (IsSymbolOf kinds.now.grammar) symbols.now }
-    ensures { (f : Forest) → AreChosenOfKind kinds.now.weights kinds.now.grammar kind symbols.now f → sizes kinds.now.weights f ≤ kinds.now.weights.limit
-        → AreChosenParts kinds.now.weights kinds.now.grammar (parts_from kind result 0 symbols.now) f }
+    ensures { IsPlaceIn kinds.now kind symbols.now result }
 {
     let mut place = symbols.len();
     let mut sweep = Sweep::new(kind);
@@ -75,10 +71,10 @@ fn place_of(kinds: &Kinds, kind: Kind, symbols: &[Symbol]) -> usize
 }
 
 // What a node costs above trees of these symbols that are of a kind together.
-fn node_cost(kinds: &Kinds, kind: Kind, symbols: &[Symbol]) -> Cost
+fn node_cost(kinds: &Kinds, kind: TreeKind, symbols: &[Symbol]) -> Cost
     requires kind { IsKind kinds.now.grammar.tokens kind }
     requires symbols { All (IsSymbolOf kinds.now.grammar) symbols.now }
-    ensures { IsCost kinds.now.weights.limit (AreTreesOfKind kinds.now.grammar kind symbols.now) (node_size kinds.now.weights) result }
+    ensures { IsNodeCost kinds.now kind symbols.now result }
 {
     let mut sweep = Sweep::new(kind);
     for index in (0..symbols.len()).rev() {
@@ -88,7 +84,7 @@ fn node_cost(kinds: &Kinds, kind: Kind, symbols: &[Symbol]) -> Cost
 }
 
 // The rule at the root of the chosen tree of a kind and a nonterminal.
-fn root_of(kinds: &Kinds, kind: Kind, left: u16) -> u16
+fn root_of(kinds: &Kinds, kind: TreeKind, left: u16) -> u16
     requires kind { IsKind kinds.now.grammar.tokens kind }
     requires left { IsNumberOf kinds.now.grammar.nonterminals left }
     requires small { HasSmallOfKind kinds.now.weights kinds.now.grammar kind (Symbol.Nonterminal left) }
@@ -106,7 +102,7 @@ fn root_of(kinds: &Kinds, kind: Kind, left: u16) -> u16
 // Writes the rule at the root, and puts its children in front of what is pending.
 fn open_up(
     kinds: &Kinds,
-    kind: Kind,
+    kind: TreeKind,
     left: u16,
     pending: &mut Vec<Part>,
     into: &mut Derivation,
@@ -114,7 +110,7 @@ fn open_up(
     requires kind { IsKind kinds.now.grammar.tokens kind }
     requires left { IsNumberOf kinds.now.grammar.nonterminals left }
     requires small { HasSmallOfKind kinds.now.weights kinds.now.grammar kind (Symbol.Nonterminal left) }
-    ensures { OnOk result (TakesOn kinds.now.weights kinds.now.grammar (record { kind = kind; symbol = Symbol.Nonterminal left }) pending.old.items pending.new.items into.old into.new) }
+    ensures { OnOk result (OpensUp kinds.now kind left pending.old pending.new into.old into.new) }
 {
     let number = root_of(kinds, kind, left);
     into.push(number)?;
@@ -134,12 +130,12 @@ fn take_on(
     requires measure { IsMeasure kinds.now.weights }
     requires part { IsPartOf kinds.now.grammar part }
     requires small { HasSmallOfKind kinds.now.weights kinds.now.grammar part.kind part.symbol }
-    ensures { OnOk result (TakesOn kinds.now.weights kinds.now.grammar part pending.old.items pending.new.items into.old into.new) }
+    ensures { OnOk result (TakesOnIn kinds.now part pending.old pending.new into.old into.new) }
 {
     match part.symbol {
         Symbol::Token(_) => Ok(()),
         Symbol::Nonterminal(left) => match part.kind {
-            Kind::Any => costs.least_into(part.symbol, into),
+            TreeKind::Any => costs.least_into(part.symbol, into),
             _ => open_up(kinds, part.kind, left, pending, into),
         },
     }
@@ -154,9 +150,8 @@ fn write(
 ) -> Result<(), AllocError>
     requires costs { costs.now ≡ kinds.now }
     requires parts { All (IsPartOf kinds.now.grammar) (reverse pending.old.items) }
-    requires small { (f : Forest) × AreChosenParts kinds.now.weights kinds.now.grammar (reverse pending.old.items) f × (sizes kinds.now.weights f ≤ kinds.now.weights.limit) }
-    ensures { OnOk result ((f : Forest) → AreChosenParts kinds.now.weights kinds.now.grammar (reverse pending.old.items) f → sizes kinds.now.weights f ≤ kinds.now.weights.limit
-        → into.new ≡ into.old ++ codes_of f) }
+    requires small { HaveSmallParts kinds.now pending.old }
+    ensures { OnOk result (Writes kinds.now pending.old into.old into.new) }
 {
     let limit = kinds.limit();
     for _ in 0..limit {
@@ -173,7 +168,7 @@ pub(crate) fn kind_into(
     alloc: Global,
     kinds: &Kinds,
     costs: &Costs,
-    kind: Kind,
+    kind: TreeKind,
     symbols: &[Symbol],
     into: &mut Derivation,
 ) -> Result<(), AllocError>
@@ -181,7 +176,7 @@ pub(crate) fn kind_into(
     requires kind { IsKind kinds.now.grammar.tokens kind }
     requires symbols { All (IsSymbolOf kinds.now.grammar) symbols.now }
     requires small { HaveSmallOfKind kinds.now.weights kinds.now.grammar kind symbols.now }
-    ensures { OnOk result (AppendsOfKind kinds.now.weights kinds.now.grammar kind symbols.now into.old into.new) }
+    ensures { OnOk result (AppendsIn kinds.now kind symbols.now into.old into.new) }
 {
     let mut pending = Vec::new(alloc);
     put_first(&mut pending, kind, place_of(kinds, kind, symbols), symbols)?;

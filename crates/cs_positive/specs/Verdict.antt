@@ -3,7 +3,8 @@ use Rattle.std.specs.Prelude.{◌≡◌, ℕ, ◌+◌, ◌<◌, ◌≤◌, List,
 use Rattle.cs_grammar.specs.declared.symbol.Symbol.{Symbol}
 use Rattle.cs_grammar.specs.declared.symbol.Symbol.TheVariants.{Nonterminal}
 use Rattle.cs_grammar.specs.Grammar.{Production, PlainGrammar, IsRule}
-use Rattle.cs_grammar.specs.Weights.{Measure}
+use Rattle.cs_grammar.specs.Laws.{AtLeastOne}
+use Rattle.cs_grammar.specs.Weights.{Measure, Weighed}
 use Rattle.cs_grammar.specs.Tree.{Tree, Node, Forest, IsTree, size, code}
 use Rattle.cs_grammar.specs.Context.{Context as TreeContext, Under, plug}
 use Rattle.cs_cost.specs.declared.cost.Cost.TheVariants.{Least}
@@ -78,3 +79,34 @@ abbrev pub IsVerdict : Measure → PlainGrammar → Goal → Verdict → Type 0
 IsVerdict w g goal Infeasible = (t : Tree) → IsMet g goal t → ⊥
 IsVerdict w g goal Large = (t : Tree) × IsMet g goal t × ((u : Tree) → IsMet g goal u → w.limit < size w u)
 IsVerdict w g goal (Feasible n derivation) = (n ≤ w.limit) × IsLeast (IsMet g goal) (size w) n × IsCodeOf w g goal derivation
+
+-- the verdict of a goal of a grammar by its weights
+abbrev pub IsVerdictIn : Weighed → Goal → Verdict → Type 0
+IsVerdictIn v goal verdict = IsVerdict v.weights v.grammar goal verdict
+
+-- the code of the chosen tree of a goal
+abbrev pub IsCodeIn : Weighed → Goal → List ℕ → Type 0
+IsCodeIn v goal derivation = IsCodeOf v.weights v.grammar goal derivation
+
+-- the least tree that meets the goal is within the limit
+abbrev pub HasLeastIn : Weighed → Goal → Type 0
+HasLeastIn v goal = HasLeastMet v.weights v.grammar goal
+
+-- the chosen tree of a goal
+abbrev pub IsChosenIn : Weighed → Goal → Tree → Type 0
+IsChosenIn v goal t = IsChosenOf v.weights v.grammar goal t
+
+-- a tree that meets the goal, and none that does is smaller
+pub record IsLeastMet (v : Weighed) (goal : Goal) (u : Tree) : Type 0 where
+  pub is_met : IsMet v.grammar goal u
+  pub least : (t : Tree) → IsMet v.grammar goal t → size v.weights u ≤ size v.weights t
+
+abbrev pub ChosenIsLeast : Weighed → Goal → Type 0
+ChosenIsLeast v goal = (u : Tree) → IsChosenIn v goal u → IsLeastMet v goal u
+
+-- some tree meets the goal, and some is chosen
+abbrev pub HasTree : Weighed → Goal → Type 0
+HasTree v goal = AtLeastOne (IsMet v.grammar goal)
+
+abbrev pub HasChosen : Weighed → Goal → Type 0
+HasChosen v goal = AtLeastOne (IsChosenIn v goal)

@@ -2,7 +2,7 @@
 
 ghost use Rattle.std.specs.Prelude.{◌≡◌, IfOk};
 ghost use Rattle.cs_goals.specs.Goal.{IsOccurrence};
-ghost use Rattle.cs_positive.specs.Verdict.{IsVerdict, HasLeastMet, IsCodeOf};
+ghost use Rattle.cs_positive.specs.Verdict.{IsVerdictIn, HasLeastIn, IsCodeIn};
 
 use crate::sums::{joint_cost, node_cost};
 use crate::verdict::Verdict;
@@ -22,8 +22,7 @@ pub(crate) fn judge_context(
 ) -> Result<Verdict, AllocError>
     requires embeds { embeds.now ≡ costs.now }
     requires goal { IsOccurrence costs.now.grammar outer place inner }
-    ensures { IfOk result
-        (IsVerdict costs.now.weights costs.now.grammar (Goal.Context outer place inner)) }
+    ensures { IfOk result (IsVerdictIn costs.now (Goal.Context outer place inner)) }
 {
     let outer_rule = costs.grammar().rule(outer);
     let inner_rule = costs.grammar().rule(inner);
@@ -54,9 +53,8 @@ fn derive_context(
 ) -> Result<Derivation, AllocError>
     requires embeds { embeds.now ≡ costs.now }
     requires goal { IsOccurrence costs.now.grammar outer place inner }
-    requires feasible { HasLeastMet costs.now.weights costs.now.grammar (Goal.Context outer place inner) }
-    ensures { IfOk result
-        (IsCodeOf costs.now.weights costs.now.grammar (Goal.Context outer place inner)) }
+    requires feasible { HasLeastIn costs.now (Goal.Context outer place inner) }
+    ensures { IfOk result (IsCodeIn costs.now (Goal.Context outer place inner)) }
 {
     let outer_rule = costs.grammar().rule(outer);
     let inner_rule = costs.grammar().rule(inner);

@@ -2,7 +2,7 @@
 
 ghost use Rattle.std.specs.Prelude.{◌≡◌, IfOk};
 ghost use Rattle.cs_goals.specs.Goal.{IsGoal};
-ghost use Rattle.cs_positive.specs.Verdict.{IsVerdict, IsTreeGoal};
+ghost use Rattle.cs_positive.specs.Verdict.{IsVerdictIn, IsTreeGoal};
 
 use crate::contexts::judge_context;
 use crate::pairs::judge_pair;
@@ -19,7 +19,7 @@ use std::alloc::{AllocError, Global};
 /// chosen tree.
 pub fn judge(alloc: Global, tables: &Tables, goal: &Goal) -> Result<Verdict, AllocError>
     requires { IsGoal tables.now.grammar goal.now }
-    ensures { IfOk result (IsVerdict tables.now.weights tables.now.grammar goal.now) }
+    ensures { IfOk result (IsVerdictIn tables.now goal.now) }
 {
     match *goal {
         Goal::Pair { left, right } => judge_pair(alloc, tables, left, right),
@@ -37,7 +37,7 @@ pub fn judge_tree_goal(
     requires embeds { embeds.now ≡ costs.now }
     requires goal { IsGoal costs.now.grammar goal.now }
     requires kind { IsTreeGoal goal.now }
-    ensures { IfOk result (IsVerdict costs.now.weights costs.now.grammar goal.now) }
+    ensures { IfOk result (IsVerdictIn costs.now goal.now) }
 {
     match *goal {
         Goal::Rule(rule) => judge_rule(alloc, costs, embeds, rule),

@@ -2,7 +2,7 @@
 
 ghost use Rattle.std.specs.Prelude.{IfOk};
 ghost use Rattle.cs_goals.specs.Goal.{IsLeft, IsRight};
-ghost use Rattle.cs_positive.specs.Verdict.{IsVerdict};
+ghost use Rattle.cs_positive.specs.Verdict.{IsVerdictIn};
 
 use crate::tables::Tables;
 use crate::verdict::Verdict;
@@ -19,8 +19,7 @@ pub(crate) fn judge_pair(
 ) -> Result<Verdict, AllocError>
     requires left { IsLeft tables.now.grammar.tokens left }
     requires right { IsRight tables.now.grammar.tokens right }
-    ensures { IfOk result
-        (IsVerdict tables.now.weights tables.now.grammar (Goal.Pair left right)) }
+    ensures { IfOk result (IsVerdictIn tables.now (Goal.Pair left right)) }
 {
     match tables.pairs.cost(left, right) {
         Cost::Never => Ok(Verdict::Infeasible),

@@ -2,7 +2,7 @@
 
 ghost use Rattle.std.specs.Prelude.{◌≡◌, IfOk, length};
 ghost use Rattle.cs_grammar.specs.Grammar.{IsNumberOf};
-ghost use Rattle.cs_positive.specs.Verdict.{IsVerdict, HasLeastMet, IsCodeOf};
+ghost use Rattle.cs_positive.specs.Verdict.{IsVerdictIn, HasLeastIn, IsCodeIn};
 
 use crate::sums::{joint_cost, node_cost};
 use crate::verdict::Verdict;
@@ -20,8 +20,7 @@ pub(crate) fn judge_rule(
 ) -> Result<Verdict, AllocError>
     requires embeds { embeds.now ≡ costs.now }
     requires number { IsNumberOf (length costs.now.grammar.rules) number }
-    ensures { IfOk result
-        (IsVerdict costs.now.weights costs.now.grammar (Goal.Rule number)) }
+    ensures { IfOk result (IsVerdictIn costs.now (Goal.Rule number)) }
 {
     let rule = costs.grammar().rule(number);
     let around = embeds.embed(rule.left());
@@ -45,9 +44,8 @@ fn derive_rule(
 ) -> Result<Derivation, AllocError>
     requires embeds { embeds.now ≡ costs.now }
     requires number { IsNumberOf (length costs.now.grammar.rules) number }
-    requires feasible { HasLeastMet costs.now.weights costs.now.grammar (Goal.Rule number) }
-    ensures { IfOk result
-        (IsCodeOf costs.now.weights costs.now.grammar (Goal.Rule number)) }
+    requires feasible { HasLeastIn costs.now (Goal.Rule number) }
+    ensures { IfOk result (IsCodeIn costs.now (Goal.Rule number)) }
 {
     let rule = costs.grammar().rule(number);
     let context = embeds.around(costs, rule.left())?;

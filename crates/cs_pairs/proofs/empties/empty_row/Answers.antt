@@ -3,7 +3,7 @@ use Rattle.std.proofs.lemmas.Result.{IfOk-weaker}
 use Rattle.cs_grammar.specs.Grammar.{Production, PlainGrammar, IsGrammar, grammar_of}
 use Rattle.cs_grammar.specs.Weights.{Weighed, Measure, weighed}
 use Rattle.cs_cost.specs.declared.cost.Cost.{Cost}
-use Rattle.cs_pairs.specs.declared.kind.Kind.TheVariants.{Any, Empty}
+use Rattle.cs_pairs.specs.declared.kind.TreeKind.TheVariants.{Any, Empty}
 use Rattle.cs_pairs.specs.Bare.{bare_rule, bare_grammar}
 use Rattle.cs_pairs.specs.Tables.{AreCosts}
 use Rattle.cs_pairs.proofs.Baring.{bare_costs, bare_fits}

@@ -2,7 +2,7 @@ use Rattle.std.proofs.Common.{◌+◌, sym, ap, ◌∙◌, subst}
 use Rattle.cs_grammar.specs.declared.symbol.Symbol.TheVariants.{Nonterminal}
 use Rattle.cs_grammar.specs.Grammar.{PlainGrammar, IsGrammar}
 use Rattle.cs_grammar.specs.Tree.{size}
-use Rattle.cs_pairs.specs.declared.kind.Kind.TheVariants.{Any}
+use Rattle.cs_pairs.specs.declared.kind.TreeKind.TheVariants.{Any}
 use Rattle.cs_pairs.specs.Kinds.{IsTreeOfKind}
 use Rattle.cs_pairs.specs.Filled.{IsFilled}
 use Rattle.cs_pairs.specs.Tables.{AreCosts}

@@ -1,6 +1,6 @@
 use Rattle.cs_grammar.specs.declared.symbol.Symbol.TheVariants.{Nonterminal}
 use Rattle.cs_grammar.specs.Tree.{size}
-use Rattle.cs_pairs.specs.declared.kind.Kind.TheVariants.{Any}
+use Rattle.cs_pairs.specs.declared.kind.TreeKind.TheVariants.{Any}
 use Rattle.cs_pairs.specs.Kinds.{IsTreeOfKind}
 use Rattle.cs_pairs.specs.Filled.{IsFilled}
 use Rattle.cs_pairs.proofs.kinds.any_row.Given as goal

@@ -3,10 +3,7 @@ use Rattle.cs_pairs.proofs.KindsSettled.{of_kind_exists}
 use Rattle.cs_pairs.proofs.laws.chosen_of_kind_exists.Goals as goal
 
 pub returns-clause-exists : goal.returns-clause-exists
-returns-clause-exists c = λ w g k x t h. of_kind_exists w g k x t h
-
-pub returns-clause-is_tree : goal.returns-clause-is_tree
-returns-clause-is_tree c = λ w g k x u h. IsTree-of_kind w g u k x h
+returns-clause-exists c = λ v k x has. of_kind_exists v.weights v.grammar k x has.0 has.1
 
 pub returns-clause-least : goal.returns-clause-least
-returns-clause-least c = λ w g k x t u ht hu. of_kind_least w g k x u t ht hu
+returns-clause-least c = λ v k x u h. record { is_tree = IsTree-of_kind v.weights v.grammar u k x h; least = λ t is. of_kind_least v.weights v.grammar k x u t is h }

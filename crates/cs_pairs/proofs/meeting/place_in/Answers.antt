@@ -8,7 +8,7 @@ use Rattle.cs_cost.specs.declared.cost.Cost.TheVariants.{Never}
 use Rattle.cs_cost.specs.Least.{IsCost}
 use Rattle.cs_cost.specs.Rank.{rank}
 use Rattle.cs_embed.proofs.Steps.{rule_numbered}
-use Rattle.cs_pairs.specs.declared.kind.Kind.TheVariants.{Begins}
+use Rattle.cs_pairs.specs.declared.kind.TreeKind.TheVariants.{Begins}
 use Rattle.cs_pairs.specs.Kinds.{AreTreesOfKind}
 use Rattle.cs_pairs.specs.Sweep.{IsSwept}
 use Rattle.cs_pairs.specs.SeamPlace.{IsFoundIn}

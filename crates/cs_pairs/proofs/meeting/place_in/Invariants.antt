@@ -1,6 +1,6 @@
 use Rattle.std.proofs.Common.{◌≡◌, drop}
 use Rattle.cs_cost.specs.Rank.{rank}
-use Rattle.cs_pairs.specs.declared.kind.Kind.TheVariants.{Begins}
+use Rattle.cs_pairs.specs.declared.kind.TreeKind.TheVariants.{Begins}
 use Rattle.cs_pairs.specs.Sweep.{IsSwept}
 use Rattle.cs_pairs.specs.SeamPlace.{IsFoundIn}
 use Rattle.cs_pairs.proofs.meeting.place_in.Given as goal

@@ -2,7 +2,7 @@ use Rattle.std.proofs.Common.{◌-◌, get_or, sym, ap, subst}
 use Rattle.cs_grammar.specs.declared.symbol.Symbol.{Symbol}
 use Rattle.cs_cost.specs.declared.cost.Cost.{Cost}
 use Rattle.cs_cost.specs.declared.cost.Cost.TheVariants.{Never}
-use Rattle.cs_pairs.specs.declared.kind.Kind.TheVariants.{Empty}
+use Rattle.cs_pairs.specs.declared.kind.TreeKind.TheVariants.{Empty}
 use Rattle.cs_pairs.specs.KindCost.{IsKindCost}
 use Rattle.cs_pairs.proofs.KindCosts.{leaf_exact, symbol_told}
 use Rattle.cs_pairs.proofs.rims.empty_cost.Goals as goal

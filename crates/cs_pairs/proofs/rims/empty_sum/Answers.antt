@@ -4,7 +4,7 @@ use Rattle.cs_grammar.specs.declared.symbol.Symbol.{Symbol}
 use Rattle.cs_grammar.specs.declared.symbol.Symbol.TheVariants.{Token}
 use Rattle.cs_cost.specs.declared.cost.Cost.{Cost}
 use Rattle.cs_cost.specs.declared.cost.Cost.TheVariants.{Least}
-use Rattle.cs_pairs.specs.declared.kind.Kind.TheVariants.{Empty, Ends}
+use Rattle.cs_pairs.specs.declared.kind.TreeKind.TheVariants.{Empty, Ends}
 use Rattle.cs_pairs.specs.KindCost.{AreKindCost}
 use Rattle.cs_pairs.proofs.Placing.{left_from}
 use Rattle.cs_pairs.proofs.Sweeping.{swept_none, behind_cost}

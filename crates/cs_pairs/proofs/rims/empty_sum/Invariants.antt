@@ -1,6 +1,6 @@
 use Rattle.std.proofs.Common.{drop}
 use Rattle.cs_cost.specs.Rank.{IsCapped}
-use Rattle.cs_pairs.specs.declared.kind.Kind.TheVariants.{Empty}
+use Rattle.cs_pairs.specs.declared.kind.TreeKind.TheVariants.{Empty}
 use Rattle.cs_pairs.specs.KindCost.{AreKindCost}
 use Rattle.cs_pairs.proofs.rims.empty_sum.Given as goal
 

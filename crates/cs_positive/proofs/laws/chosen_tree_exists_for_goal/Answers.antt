@@ -2,4 +2,4 @@ use Rattle.cs_positive.proofs.Verdicts.{chosen_exists_of}
 use Rattle.cs_positive.proofs.laws.chosen_tree_exists_for_goal.Goals as goal
 
 pub returns : goal.returns
-returns c = λ w g goal t is h. chosen_exists_of w g goal t is h
+returns c = λ v goal is has. chosen_exists_of v.weights v.grammar goal has.0 is has.1

@@ -2,10 +2,7 @@ use Rattle.cs_positive.proofs.Verdicts.{chosen_met, chosen_least_of, one_chosen_
 use Rattle.cs_positive.proofs.laws.chosen_tree_meets.Goals as goal
 
 pub returns-clause-one : goal.returns-clause-one
-returns-clause-one c = λ w g goal t u h k. one_chosen_of w g goal t u h k
-
-pub returns-clause-is_met : goal.returns-clause-is_met
-returns-clause-is_met c = λ w g goal u h. chosen_met w g goal u h
+returns-clause-one c = λ v goal t u h k. one_chosen_of v.weights v.grammar goal t u h k
 
 pub returns-clause-least : goal.returns-clause-least
-returns-clause-least c = λ w g goal t u h k. chosen_least_of w g goal t u h k
+returns-clause-least c = λ v goal u h. record { is_met = chosen_met v.weights v.grammar goal u h; least = λ t is. chosen_least_of v.weights v.grammar goal t u is h }

@@ -1,7 +1,7 @@
 use Rattle.std.proofs.Common.{sym, ap, subst, ◌∙◌}
 use Rattle.cs_grammar.specs.Grammar.{PlainGrammar}
 use Rattle.cs_grammar.specs.Weights.{Measure}
-use Rattle.cs_pairs.specs.declared.kind.Kind.TheVariants.{Empty}
+use Rattle.cs_pairs.specs.declared.kind.TreeKind.TheVariants.{Empty}
 use Rattle.cs_pairs.specs.declared.kinds.Rows.{Rows}
 use Rattle.cs_pairs.specs.declared.side.Side.{Side}
 use Rattle.cs_pairs.specs.declared.side.Side.TheVariants.{First, Last}

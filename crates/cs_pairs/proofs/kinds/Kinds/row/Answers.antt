@@ -1,5 +1,5 @@
 use Rattle.std.proofs.Common.{◌∙◌}
-use Rattle.cs_pairs.specs.declared.kind.Kind.TheVariants.{Any, Empty}
+use Rattle.cs_pairs.specs.declared.kind.TreeKind.TheVariants.{Any, Empty}
 use Rattle.cs_pairs.proofs.KindCosts.{costs_held, begins_held, ends_held}
 use Rattle.cs_pairs.proofs.kinds.Kinds.row.Goals as goal
 

@@ -2,7 +2,7 @@ use Rattle.std.proofs.Common.{◌∷◌, sym, subst}
 use Rattle.cs_grammar.specs.Tree.{size, sizes}
 use Rattle.cs_cost.specs.Least.{IsCost}
 use Rattle.cs_cost.proofs.Ranks.{cost_capped}
-use Rattle.cs_pairs.specs.declared.kind.Kind.{Kind}
+use Rattle.cs_pairs.specs.declared.kind.TreeKind.{TreeKind}
 use Rattle.cs_pairs.specs.Kinds.{IsTreeOfKind, AreTreesOfKind, behind}
 use Rattle.cs_pairs.specs.Ways.{AreHere, AreLater, joint_size}
 use Rattle.cs_pairs.proofs.Sweeping.{lesser_way, behind_cost}
@@ -22,7 +22,7 @@ returns-clause-swept c = λ xs swept.
     let k = c.args.self.kind in
     let x = c.args.symbol in
     let ways = c.ways-ways.ensures xs swept in
-    let other = subst (λ (j : Kind). IsCost c.args.kinds.now.weights.limit (IsTreeOfKind g j x) (size c.args.kinds.now.weights) c.told.result) c.behind.ensures c.told.ensures in
+    let other = subst (λ (j : TreeKind). IsCost c.args.kinds.now.weights.limit (IsTreeOfKind g j x) (size c.args.kinds.now.weights) c.told.result) c.behind.ensures c.told.ensures in
     record {
       is_whole = subst (IsCost c.args.kinds.now.weights.limit (AreTreesOfKind g k (x ∷ xs)) (sizes c.args.kinds.now.weights)) (sym c.lesser.ensures.cost) (lesser_way c.args.kinds.now.weights g k x xs _ _ ways.is_here ways.is_later);
       is_rest = subst (IsCost c.args.kinds.now.weights.limit (AreTreesOfKind g (behind k) (x ∷ xs)) (sizes c.args.kinds.now.weights)) (sym c.plus.ensures) (behind_cost c.args.kinds.now.weights g k x xs _ _ other swept.is_rest);
