@@ -1,4 +1,5 @@
-//! Tests of the layers of trees by their public calls alone: grammars, goals, least trees, least ways, least contexts.
+//! Tests of the layers of trees by their public calls alone: grammars, goals, least trees, least ways, least contexts,
+//! and the edits of sentences.
 #![tactic(auto)]
 
 #[cfg(test)]
@@ -9,5 +10,7 @@ mod costs;
 mod derivations;
 #[cfg(test)]
 mod goals;
+#[cfg(test)]
+mod mutate;
 #[cfg(test)]
 mod ways;
