@@ -6,13 +6,10 @@ use cs_yacc::{MOST_BYTES, YaccError, read_yacc};
 use std::alloc::{AllocError, Global};
 use std::test::Fail;
 
-/// The front, and then the piece as often as it fits into the most bytes.
-fn repeated(alloc: Global, front: &str, piece: &str) -> Result<String, AllocError> {
+/// The front, and then the piece so many times.
+fn repeated(alloc: Global, front: &str, piece: &str, times: u32) -> Result<String, AllocError> {
     let mut text = String::from_str(alloc, front)?;
-    for _ in 0..MOST_BYTES {
-        if text.len() + piece.len() > MOST_BYTES {
-            return Ok(text);
-        }
+    for _ in 0..times {
         text.push_str(piece)?;
     }
     Ok(text)
@@ -21,17 +18,17 @@ fn repeated(alloc: Global, front: &str, piece: &str) -> Result<String, AllocErro
 #[test]
 fn hostile_texts(rt: HostRuntime) -> Result<(), Fail> {
     let rows = [
-        ("%% s : {", "\\'", YaccError::Unended { at: 7 }),
-        ("%% s : {", "\\\"\\'", YaccError::Unended { at: 7 }),
-        ("%% s : ", "{", YaccError::Unended { at: 7 }),
-        ("%% s : /*", "*", YaccError::Unended { at: 7 }),
-        ("%{", "%", YaccError::Unended { at: 0 }),
-        ("%% s", "\ns", YaccError::Syntax { at: 5 }),
-        ("%% s : ", "<", YaccError::BadItem { at: 7 }),
-        ("%% s : '", "\\", YaccError::BadItem { at: 7 }),
+        ("%% s : {", "\\'", 524_000, YaccError::Unended { at: 7 }),
+        ("%% s : {", "\\\"\\'", 262_000, YaccError::Unended { at: 7 }),
+        ("%% s : ", "{", 1_048_000, YaccError::Unended { at: 7 }),
+        ("%% s : /*", "*", 1_048_000, YaccError::Unended { at: 7 }),
+        ("%{", "%", 1_048_000, YaccError::Unended { at: 0 }),
+        ("%% s", "\ns", 524_000, YaccError::Syntax { at: 5 }),
+        ("%% s : ", "<", 1_048_000, YaccError::BadItem { at: 7 }),
+        ("%% s : '", "\\", 1_048_000, YaccError::BadItem { at: 7 }),
     ];
-    for (front, piece, want) in rows {
-        let text = repeated(rt.alloc(), front, piece)?;
+    for (front, piece, times, want) in rows {
+        let text = repeated(rt.alloc(), front, piece, times)?;
         assert!(rt; text.len() <= MOST_BYTES);
         assert_eq!(rt;
             read_yacc(rt.alloc(), text.as_bytes()).err(),
@@ -44,7 +41,7 @@ fn hostile_texts(rt: HostRuntime) -> Result<(), Fail> {
 
 #[test]
 fn blocks_of_one_line(rt: HostRuntime) -> Result<(), Fail> {
-    let text = repeated(rt.alloc(), "%% s : ", "{\\'}")?;
+    let text = repeated(rt.alloc(), "%% s : ", "{\\'}", 262_000)?;
     assert!(rt; text.len() <= MOST_BYTES);
     let file = read_yacc(rt.alloc(), text.as_bytes())
         .ok()
