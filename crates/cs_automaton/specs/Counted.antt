@@ -1,5 +1,7 @@
 -- How many different sets there are, over all texts of bytes.
 use Rattle.std.specs.Prelude.{◌≡◌, ◌≢◌, ℕ, ◌<◌, List, [], All, slice_get, Some, length}
+use Rattle.cs_automaton.specs.Re.{Re}
+use Rattle.cs_automaton.specs.Places.{InSet}
 
 module _ (In : List ℕ → ℕ → Type 0) where
   -- two texts have the same numbers
@@ -12,3 +14,7 @@ module _ (In : List ℕ → ℕ → Type 0) where
     pub many : n < length texts
     pub each : (k : ℕ) (x : List ℕ) → slice_get texts k ≡ Some x → (x ≢ []) × All (λ b. b < 256) x × ((p : ℕ) × In x p)
     pub differ : (j k : ℕ) (x y : List ℕ) → slice_get texts j ≡ Some x → slice_get texts k ≡ Some y → HaveOneSet x y → j ≡ k
+
+-- so many sets are the most that there may be, which is 16,384, and there are more
+abbrev pub TooMany : List (Re (List ℕ)) → ℕ → Type 0
+TooMany rs most = (most ≡ 16384) × IsAbove (InSet rs) 16384

@@ -12,6 +12,7 @@ pub mod Programs
 pub mod Runs
 pub mod Sets
 pub mod States
+pub mod Built
 pub mod Counted
 pub mod Machine
 pub mod Automata

@@ -1,6 +1,7 @@
 -- Patterns over letters of any type, of a pattern over bytes.
 use Rattle.std.specs.Prelude.{ℕ, List, [], ◌∷◌, ◌++◌, Contains, map}
-use Rattle.cs_pattern_tree.specs.Pattern.{Regex, Empty, Class, Join, Either, Many, Parts, Nothing, Then}
+use Rattle.cs_pattern_tree.specs.declared.pattern.Pattern.{Pattern}
+use Rattle.cs_pattern_tree.specs.Pattern.{Regex, regex, Empty, Class, Join, Either, Many, Parts, Nothing, Then}
 use Rattle.cs_automaton.specs.Re.{Re, empty, letter, nothing, cat, alt, many}
 
 -- the pattern with two parts at each join and each either
@@ -22,6 +23,10 @@ abbrev mutual
 
 abbrev pub res : List Regex → List (Re (List ℕ))
 res = map re
+
+-- the same of the patterns of the code
+abbrev pub res_of : List Pattern → List (Re (List ℕ))
+res_of patterns = res (map regex patterns)
 
 -- the class has the byte
 abbrev pub Has : List ℕ → ℕ → Type 0

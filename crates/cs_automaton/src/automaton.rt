@@ -3,10 +3,11 @@
 ghost use Rattle.std.specs.Prelude.{◌≡◌, ℕ, ◌+◌, ◌<◌, ◌≤◌, List, [], length, map, IfOk, IfSome, Err};
 ghost use Rattle.cs_pattern_tree.specs.Pattern.{regex};
 ghost use Rattle.cs_pattern_tree.specs.Scannable.{AreScannable};
-ghost use Rattle.cs_automaton.specs.Counted.{IsAbove};
+ghost use Rattle.cs_automaton.specs.Counted.{IsAbove, TooMany};
 ghost use Rattle.cs_automaton.specs.Machine.{StateOf, IsNextState, IsFirstRule, patterns_of};
-ghost use Rattle.cs_automaton.specs.Meaning.{res};
+ghost use Rattle.cs_automaton.specs.Meaning.{res_of};
 ghost use Rattle.cs_automaton.specs.Places.{InSet};
+ghost use Rattle.cs_automaton.specs.States.{too_many};
 ghost use Rattle.cs_automaton.specs.States as spec;
 
 use crate::columns::{Columns, make_columns};
@@ -53,8 +54,8 @@ impl<'p> Automaton<'p> {
     pub fn new(alloc: Global, patterns: &'p [Pattern]) -> Result<Automaton<'p>, AutomatonError>
         requires scannable { AreScannable (map regex patterns.now) }
         ensures patterns { IfOk result (λ a. a.patterns ≡ patterns.now) }
-        ensures few { IfOk result (λ _. IsAbove (InSet (res (map regex patterns.now))) 16384 → ⊥) }
-        ensures too_many { (most : ℕ) → result ≡ Err (spec.too_many most) → (most ≡ 16384) × IsAbove (InSet (res (map regex patterns.now))) 16384 }
+        ensures few { IfOk result (λ _. IsAbove (InSet (res_of patterns.now)) 16384 → ⊥) }
+        ensures too_many { (most : ℕ) → result ≡ Err (too_many most) → TooMany (res_of patterns.now) most }
     {
         let program = make_program(alloc, patterns)?;
         let width = program.classes.len() / 64 + 1;

@@ -2,9 +2,9 @@
 
 ghost use Rattle.std.specs.Prelude.{◌≡◌, ℕ, ◌*◌, ◌<◌, ◌≤◌, IfOk, length};
 ghost use Rattle.cs_automaton.specs.Bits.{Puts};
+ghost use Rattle.cs_automaton.specs.Built.{AreColumnsOf};
 ghost use Rattle.cs_automaton.specs.Programs.{values};
-ghost use Rattle.cs_automaton.specs.Sets.{lists};
-ghost use Rattle.cs_automaton.specs.States.{IsRow, AreColumns, with_byte, has_at};
+ghost use Rattle.cs_automaton.specs.States.{IsRow, with_byte, has_at};
 
 use crate::bits::put;
 use crate::sets::add;
@@ -61,7 +61,7 @@ pub fn make_columns(
     width: usize,
 ) -> Result<Columns, AllocError>
     requires { length classes.now ≤ 64 * width }
-    ensures { IfOk result (λ c. AreColumns (values classes.now) (lists c.rows.keys) c.column_of.items width) }
+    ensures { IfOk result (λ c. AreColumnsOf (values classes.now) width c) }
 {
     let mut rows = IndexSet::new(alloc);
     let mut column_of = Vec::new(alloc);

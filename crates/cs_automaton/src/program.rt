@@ -1,12 +1,11 @@
 // The steps of each pattern, and the classes of all.
 
 ghost use Rattle.std.specs.Prelude.{◌≡◌, ◌↔◌, ℕ, ◌+◌, ◌≤◌, ◌++◌, ◌∷◌, [], IfOk, map, length};
-ghost use Rattle.cs_pattern_tree.specs.Pattern.{regex, parts_of};
-ghost use Rattle.cs_automaton.specs.Flat.{flat, flat_join, flat_either, has_loop};
-ghost use Rattle.cs_automaton.specs.Meaning.{re, res, cat_of, alt_of, all_classes};
-ghost use Rattle.cs_automaton.specs.Meaning as spec;
-ghost use Rattle.cs_automaton.specs.Places.{letters, all_letters};
-ghost use Rattle.cs_automaton.specs.Programs.{values, ops_of_place, IsRule, AreRules};
+ghost use Rattle.cs_pattern_tree.specs.Pattern.{regex};
+ghost use Rattle.cs_automaton.specs.Flat.{has_loop};
+ghost use Rattle.cs_automaton.specs.Meaning.{res_of, all_classes};
+ghost use Rattle.cs_automaton.specs.Places.{all_letters};
+ghost use Rattle.cs_automaton.specs.Programs.{AddsClasses, AreRules, GrowsBy, IsRule, alt_classes, alt_letters, alt_ops, cat_classes, cat_letters, cat_ops, classes_of, letters_of, ops_of, place_behind, values};
 
 use crate::op::Op;
 use cs_pattern_tree::{ByteSet, Pattern};
@@ -27,9 +26,9 @@ fn push_class<'p>(
     classes: &mut Vec<&'p ByteSet>,
 ) -> Result<(), AllocError>
     requires { length classes.old.items + 1 ≤ 16384 }
-    ensures ops { IfOk result (λ _. ops.new.items ≡ ops.old.items ++ ops_of_place (length classes.old.items) ∷ []) }
-    ensures classes { IfOk result (λ _. values classes.new.items ≡ values classes.old.items ++ class.now ∷ []) }
-    ensures count { IfOk result (λ _. length classes.new.items ≡ length classes.old.items + 1) }
+    ensures ops { IfOk result (λ _. ops.new.items ≡ ops.old.items ++ place_behind classes.old ∷ []) }
+    ensures classes { IfOk result (λ _. AddsClasses classes.old classes.new (class.now ∷ [])) }
+    ensures count { IfOk result (λ _. GrowsBy classes.old classes.new 1) }
 {
     ops.push(Op::Place(classes.len() as u16))?;
     classes.push(class)?;
@@ -49,10 +48,10 @@ fn push_ops<'p>(
     ops: &mut Vec<Op>,
     classes: &mut Vec<&'p ByteSet>,
 ) -> Result<(), AllocError>
-    requires { length classes.old.items + letters (re (regex pattern.now)) ≤ 16384 }
-    ensures ops { IfOk result (λ _. ops.new.items ≡ ops.old.items ++ flat (length classes.old.items) (regex pattern.now)) }
-    ensures classes { IfOk result (λ _. values classes.new.items ≡ values classes.old.items ++ spec.classes (re (regex pattern.now))) }
-    ensures count { IfOk result (λ _. length classes.new.items ≡ length classes.old.items + letters (re (regex pattern.now))) }
+    requires { length classes.old.items + letters_of pattern.now ≤ 16384 }
+    ensures ops { IfOk result (λ _. ops.new.items ≡ ops.old.items ++ ops_of classes.old pattern.now) }
+    ensures classes { IfOk result (λ _. AddsClasses classes.old classes.new (classes_of pattern.now)) }
+    ensures count { IfOk result (λ _. GrowsBy classes.old classes.new (letters_of pattern.now)) }
 {
     match pattern {
         Pattern::Empty => Ok(()),
@@ -76,10 +75,10 @@ fn push_join<'p>(
     ops: &mut Vec<Op>,
     classes: &mut Vec<&'p ByteSet>,
 ) -> Result<(), AllocError>
-    requires { length classes.old.items + letters (cat_of (parts_of (map regex parts.now))) ≤ 16384 }
-    ensures ops { IfOk result (λ _. ops.new.items ≡ ops.old.items ++ flat_join (length classes.old.items) (parts_of (map regex parts.now))) }
-    ensures classes { IfOk result (λ _. values classes.new.items ≡ values classes.old.items ++ spec.classes (cat_of (parts_of (map regex parts.now)))) }
-    ensures count { IfOk result (λ _. length classes.new.items ≡ length classes.old.items + letters (cat_of (parts_of (map regex parts.now)))) }
+    requires { length classes.old.items + cat_letters parts.now ≤ 16384 }
+    ensures ops { IfOk result (λ _. ops.new.items ≡ ops.old.items ++ cat_ops classes.old parts.now) }
+    ensures classes { IfOk result (λ _. AddsClasses classes.old classes.new (cat_classes parts.now)) }
+    ensures count { IfOk result (λ _. GrowsBy classes.old classes.new (cat_letters parts.now)) }
 {
     for i in 0..parts.len() {
         push_ops(&parts[i], ops, classes)?;
@@ -93,10 +92,10 @@ fn push_either<'p>(
     ops: &mut Vec<Op>,
     classes: &mut Vec<&'p ByteSet>,
 ) -> Result<(), AllocError>
-    requires { length classes.old.items + letters (alt_of (parts_of (map regex parts.now))) ≤ 16384 }
-    ensures ops { IfOk result (λ _. ops.new.items ≡ ops.old.items ++ flat_either (length classes.old.items) (parts_of (map regex parts.now))) }
-    ensures classes { IfOk result (λ _. values classes.new.items ≡ values classes.old.items ++ spec.classes (alt_of (parts_of (map regex parts.now)))) }
-    ensures count { IfOk result (λ _. length classes.new.items ≡ length classes.old.items + letters (alt_of (parts_of (map regex parts.now)))) }
+    requires { length classes.old.items + alt_letters parts.now ≤ 16384 }
+    ensures ops { IfOk result (λ _. ops.new.items ≡ ops.old.items ++ alt_ops classes.old parts.now) }
+    ensures classes { IfOk result (λ _. AddsClasses classes.old classes.new (alt_classes parts.now)) }
+    ensures count { IfOk result (λ _. GrowsBy classes.old classes.new (alt_letters parts.now)) }
 {
     for i in 0..parts.len() {
         push_ops(&parts[i], ops, classes)?;
@@ -122,10 +121,10 @@ fn rule_of<'p>(
     pattern: &'p Pattern,
     classes: &mut Vec<&'p ByteSet>,
 ) -> Result<Rule, AllocError>
-    requires { length classes.old.items + letters (re (regex pattern.now)) ≤ 16384 }
+    requires { length classes.old.items + letters_of pattern.now ≤ 16384 }
     ensures rule { IfOk result (λ rule. IsRule rule (length classes.old.items) (regex pattern.now)) }
-    ensures classes { IfOk result (λ _. values classes.new.items ≡ values classes.old.items ++ spec.classes (re (regex pattern.now))) }
-    ensures count { IfOk result (λ _. length classes.new.items ≡ length classes.old.items + letters (re (regex pattern.now))) }
+    ensures classes { IfOk result (λ _. AddsClasses classes.old classes.new (classes_of pattern.now)) }
+    ensures count { IfOk result (λ _. GrowsBy classes.old classes.new (letters_of pattern.now)) }
 {
     let from = classes.len();
     let mut ops = Vec::new(alloc);
@@ -149,10 +148,10 @@ pub struct Program<'p> {
 
 /// The program of the patterns.
 pub fn make_program<'p>(alloc: Global, patterns: &'p [Pattern]) -> Result<Program<'p>, AllocError>
-    requires { all_letters (res (map regex patterns.now)) ≤ 16384 }
+    requires { all_letters (res_of patterns.now) ≤ 16384 }
     ensures patterns { IfOk result (λ p. p.patterns.now ≡ patterns.now) }
     ensures rules { IfOk result (λ p. AreRules p.rules.items 0 (map regex patterns.now)) }
-    ensures classes { IfOk result (λ p. values p.classes.items ≡ all_classes (res (map regex patterns.now))) }
+    ensures classes { IfOk result (λ p. values p.classes.items ≡ all_classes (res_of patterns.now)) }
 {
     let mut rules = Vec::new(alloc);
     let mut classes = Vec::new(alloc);

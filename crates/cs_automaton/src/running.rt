@@ -2,7 +2,7 @@
 
 ghost use Rattle.std.specs.Prelude.{◌≡◌, ◌≢◌, ◌⊎◌, ℕ, ◌+◌, ◌<◌, ◌≤◌, false, true, ◌++◌, ◌∷◌, [], OnOk, IfOk, length};
 ghost use Rattle.cs_automaton.specs.Bits.{bit, Puts};
-ghost use Rattle.cs_automaton.specs.Runs.{backward_of, forward_of, start_back, start_on, FindsEnds, IsWalked};
+ghost use Rattle.cs_automaton.specs.Runs.{backward_of, ends_in, forward_of, live_on, put_on, FindsEnds, IsWalked};
 ghost use Rattle.cs_automaton.specs.Walks as spec;
 
 use crate::bits::{has, put};
@@ -100,7 +100,7 @@ fn back(walk: &mut Backward, op: Op, set: &[u64]) -> Result<(), AllocError>
 
 /// For each many, from the last to the first, whether its part may end at a place of the set.
 fn finals(alloc: Global, rule: &Rule, set: &[u64]) -> Result<Vec<bool>, AllocError>
-    ensures { IfOk result (λ v. v.items ≡ (spec.back_all (bit set.now) rule.now.ops.items start_back).finals) }
+    ensures { IfOk result (λ v. v.items ≡ ends_in rule.now set.now) }
 {
     let mut walk = Backward {
         ahead: true,
@@ -172,8 +172,8 @@ fn walk_on(
     set: &[u64],
     next: &mut [u64],
 ) -> Result<bool, AllocError>
-    ensures ends { IfOk result (λ ends. ends ≡ (spec.go_all (bit set.now) ops.now (start_on entered finals.items)).live) }
-    ensures next { OnOk result (Puts next.old next.new (spec.put_all (bit set.now) ops.now (start_on entered finals.items))) }
+    ensures ends { IfOk result (λ ends. ends ≡ live_on set.now ops.now entered finals.items) }
+    ensures next { OnOk result (Puts next.old next.new (put_on set.now ops.now entered finals.items)) }
 {
     let mut walk = Forward {
         live: entered,

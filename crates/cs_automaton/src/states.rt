@@ -1,12 +1,12 @@
 // The states and the steps between them.
 
-ghost use Rattle.std.specs.Prelude.{◌≡◌, ℕ, ◌+◌, ◌*◌, ◌<◌, ◌≤◌, [], ◌∷◌, IfOk, Err, length, List, slice_get, Some};
-ghost use Rattle.cs_automaton.specs.Counted.{IsAbove};
-ghost use Rattle.cs_automaton.specs.Meaning.{all_classes};
-ghost use Rattle.cs_automaton.specs.Places.{InSet, all_letters};
+ghost use Rattle.std.specs.Prelude.{◌≡◌, ℕ, ◌+◌, ◌*◌, ◌<◌, ◌≤◌, IfOk, Err, length, slice_get, Some};
+ghost use Rattle.cs_automaton.specs.Built.{AddsStep, AddsSteps, AreLong, AreStates, HaveFirstRules, IsBehind, WalksAll};
+ghost use Rattle.cs_automaton.specs.Counted.{TooMany};
+ghost use Rattle.cs_automaton.specs.Places.{all_letters};
 ghost use Rattle.cs_automaton.specs.Programs.{IsProgram, rules_of};
 ghost use Rattle.cs_automaton.specs.Sets.{lists};
-ghost use Rattle.cs_automaton.specs.States.{AddsStep, AddsSteps, AreColumns, AreFirstRules, AreFull, IsAfter, IsBuilt, option_lists};
+ghost use Rattle.cs_automaton.specs.States.{AreFull, too_many};
 ghost use Rattle.cs_automaton.specs.States as spec;
 
 use crate::bits::{common, is_empty};
@@ -53,7 +53,7 @@ fn walk_all(
 ) -> Result<Option<u16>, AllocError>
     requires program { IsProgram program.now }
     requires few { length program.now.rules.items ≤ 2048 }
-    ensures { IfOk result (λ rule. spec.IsWalkedAll (rules_of program.now) entered set.now next.old next.new rule) }
+    ensures { IfOk result (λ rule. WalksAll program.now entered set.now next.old next.new rule) }
 {
     let mut first_rule = None;
     for i in 0..program.rules.len() {
@@ -72,7 +72,7 @@ fn follow(
 ) -> Result<Behind, AllocError>
     requires program { IsProgram program.now }
     requires few { length program.now.rules.items ≤ 2048 }
-    ensures { IfOk result (λ b. IsAfter (rules_of program.now) entered set.now b.next.items b.first_rule) }
+    ensures { IfOk result (λ b. IsBehind program.now entered set.now b) }
 {
     let mut next = vec![in alloc; 0u64; set.len()]?;
     let first_rule = walk_all(alloc, program, entered, set, &mut next)?;
@@ -88,7 +88,7 @@ fn step(
 ) -> Result<Option<State>, AllocError>
     requires long { length next.now ≡ length row.now }
     requires few { length sets.old.keys < 65000 }
-    ensures step { IfOk result (λ to. AddsStep (lists sets.old.keys) (lists sets.new.keys) next.now row.now to) }
+    ensures step { IfOk result (λ to. AddsStep sets.old.keys sets.new.keys next.now row.now to) }
     ensures few { IfOk result (λ _. length sets.new.keys ≤ length sets.old.keys + 1) }
 {
     let set = common(alloc, next, row)?;
@@ -106,10 +106,10 @@ fn steps_of(
     rows: &[Vec<u64>],
     sets: &mut IndexSet<Vec<u64>>,
 ) -> Result<Vec<Option<State>>, AllocError>
-    requires long { (k : ℕ) (row : List ℕ) → slice_get (lists rows.now) k ≡ Some row → length row ≡ length next.now }
+    requires long { AreLong (length next.now) (lists rows.now) }
     requires rows { length rows.now ≤ 256 }
     requires few { length sets.old.keys ≤ 16385 }
-    ensures steps { IfOk result (λ v. AddsSteps (lists sets.old.keys) (lists sets.new.keys) next.now (lists rows.now) v.items) }
+    ensures steps { IfOk result (λ v. AddsSteps sets.old.keys sets.new.keys next.now rows.now v.items) }
     ensures all { IfOk result (λ v. length v.items ≡ length rows.now) }
     ensures few { IfOk result (λ _. length sets.new.keys ≤ length sets.old.keys + 256) }
 {
@@ -153,10 +153,10 @@ pub fn make_states(
     requires wide { all_letters (rules_of program.now) ≤ 64 * width }
     requires rows { length rows.now ≤ 256 }
     requires columns { spec.AreRowsOf (rules_of program.now) width (lists rows.now) }
-    ensures built { IfOk result (λ s. IsBuilt (rules_of program.now) (lists rows.now) width 16384 (lists s.sets.keys) (option_lists s.steps.items)) }
-    ensures rules { IfOk result (λ s. AreFirstRules (rules_of program.now) (lists s.sets.keys) s.first_rules.items) }
+    ensures built { IfOk result (λ s. AreStates program.now rows.now width s) }
+    ensures rules { IfOk result (λ s. HaveFirstRules program.now s) }
     ensures each { IfOk result (λ s. length s.first_rules.items ≡ length s.sets.keys) }
-    ensures too_many { (most : ℕ) → result ≡ Err (spec.too_many most) → (most ≡ 16384) × IsAbove (InSet (rules_of program.now)) 16384 }
+    ensures too_many { (most : ℕ) → result ≡ Err (too_many most) → TooMany (rules_of program.now) most }
 {
     let mut sets = start_sets(alloc, width)?;
     let mut steps = Vec::new(alloc);
