@@ -1,0 +1,126 @@
+-- Where all names are defined and no definition reaches itself, each definition has a tree.
+use Rattle.std.proofs.Common.{◌≡◌, ◌⊎◌, ℕ, zero, suc, ◌<◌, ◌≤◌, true, List, [], ◌∷◌, length, refl, sym, ◌∙◌, subst, inl, inr, arith}
+use Rattle.std.specs.Prelude.{Option, Some, None, slice_get, is_some, if◌then◌else◌}
+use Rattle.std.proofs.lemmas.Bool.{false≢true, cases_Bool, cases_lt}
+use Rattle.cs_pattern_items.specs.Items.{Item, class, quoted, named, opening, closing, bar, repetition, Placed, items_of}
+use Rattle.cs_pattern.specs.Checking.{HasAllNames, HasNoCycle, Each}
+use Rattle.cs_pattern.specs.Names.{is_undefined, first_undefined}
+use Rattle.cs_pattern.specs.Substitution.{IsTreeOf}
+use Rattle.cs_pattern.specs.Table.{Reads}
+use Rattle.cs_pattern.specs.Uses.{Uses, UsesDefinition, Reaches, directly, through}
+use Rattle.cs_pattern_postfix.specs.Definitions.{Definition, index_of, has_name}
+use Rattle.cs_pattern_postfix.specs.Grammar.{Tree}
+use Rattle.cs_pattern.proofs.HasDerivation.{has_derivation}
+use Rattle.cs_pattern.proofs.Linked.{uses_within, definition_at}
+use Rattle.cs_pattern.proofs.PuttingIn as putting
+use Rattle.cs_pattern.proofs.PuttingIn.{HaveTrees, put_tree}
+
+-- ---- lists of indexes
+
+abbrev Among : List ℕ → ℕ → Type 0
+Among [] j = ⊥
+Among (x ∷ xs) j = (x ≡ j) ⊎ Among xs j
+
+-- the list without one of its members
+record Without (xs : List ℕ) (k : ℕ) : Type 0 where
+  rest : List ℕ
+  shorter : length rest < length xs
+  others : (j : ℕ) → Among xs j → (k ≡ j → ⊥) → Among rest j
+
+without_first : (x k : ℕ) (xs : List ℕ) → x ≡ k → Without (x ∷ xs) k
+without_first x k xs e = record { rest = xs; shorter = omega arith; others = other }
+  where
+    other : (j : ℕ) → Among (x ∷ xs) j → (k ≡ j → ⊥) → Among xs j
+    other j (inl f) differs = absurd (differs (sym e ∙ f))
+    other j (inr h) differs = h
+
+without_later : (x k : ℕ) (xs : List ℕ) → Without xs k → Without (x ∷ xs) k
+without_later x k xs w = record { rest = x ∷ w.rest; shorter = (let s = w.shorter in omega arith); others = other }
+  where
+    other : (j : ℕ) → Among (x ∷ xs) j → (k ≡ j → ⊥) → Among (x ∷ w.rest) j
+    other j (inl f) differs = inl f
+    other j (inr g) differs = inr (w.others j g differs)
+
+without : (xs : List ℕ) (k : ℕ) → Among xs k → Without xs k
+without [] k h = absurd h
+without (x ∷ xs) k (inl e) = without_first x k xs e
+without (x ∷ xs) k (inr h) = without_later x k xs (without xs k h)
+
+abbrev below : ℕ → List ℕ
+below zero = []
+below (suc n) = n ∷ below n
+
+among_below : (n j : ℕ) → j < n → Among (below n) j
+among_below zero j lt = absurd (omega arith)
+among_below (suc n) j lt = elim (cases_lt j n) [ inl less ↦ inr (among_below n j less) | inr ge ↦ inl (omega arith) ]
+
+none_left : (xs : List ℕ) (j : ℕ) → length xs ≤ 0 → Among xs j → ⊥
+none_left [] j le h = h
+none_left (x ∷ xs) j le h = absurd (omega arith)
+
+-- ---- trees
+
+found : (o : Option ℕ) → is_some o ≡ true → (j : ℕ) × (o ≡ Some j)
+found None e = absurd (false≢true e)
+found (Some j) e = (j, refl)
+
+module _ (ds : List Definition) where
+  abbrev pub HasSomeTree : List ℕ → Type 0
+  HasSomeTree text = (tree : Tree) × IsTreeOf ds text tree
+
+  abbrev UsedHaveTrees : List Item → Type 0
+  UsedHaveTrees xs = (j : ℕ) (d : Definition) → Uses ds xs j → slice_get ds j ≡ Some d → HasSomeTree d.text
+
+  name_tree : (name : List ℕ) → has_name name ds ≡ true → UsedHaveTrees (named name ∷ []) → putting.HasTree ds name
+  name_tree name e trees =
+      let f = found (index_of name ds) e in
+      let d = definition_at ds f.0 (uses_within ds (named name ∷ []) f.0 (inl f.1)) in
+      let t = trees f.0 d.0 (inl f.1) d.1 in
+      record { definition = d.0; defines = record { index = f.0; found = f.1; is = d.1 }; tree = t.0; is_tree = t.1 }
+
+  first_tree : (at : ℕ) (x : Item) (ps : List Placed) → (if is_undefined ds x then Some at else first_undefined ds ps) ≡ None → UsedHaveTrees (x ∷ items_of ps) → (first_undefined ds ps ≡ None → HaveTrees ds (items_of ps)) → HaveTrees ds (x ∷ items_of ps)
+  first_tree at (class s) ps e trees rest = rest e
+  first_tree at (quoted s) ps e trees rest = rest e
+  first_tree at opening ps e trees rest = rest e
+  first_tree at closing ps e trees rest = rest e
+  first_tree at bar ps e trees rest = rest e
+  first_tree at (repetition r) ps e trees rest = rest e
+  first_tree at (named name) ps e trees rest = elim (cases_Bool (has_name name ds)) [
+    | inl has ↦ (name_tree name has (λ j d u is. trees j d (elim u [ inl f ↦ inl f | inr none ↦ absurd none ]) is), rest (rw has at e))
+    | inr hasnt ↦ let f : Some at ≡ None = rw hasnt at e in absurd cc
+  ]
+
+  name_trees : (ps : List Placed) → first_undefined ds ps ≡ None → UsedHaveTrees (items_of ps) → HaveTrees ds (items_of ps)
+  name_trees [] e trees = tt
+  name_trees (p ∷ ps) e trees = first_tree p.at p.item ps e trees (λ f. name_trees ps f (λ j d u is. trees j d (inr u) is))
+
+  text_tree : (text : List ℕ) (items : List Placed) → Reads text items → first_undefined ds items ≡ None → UsedHaveTrees (items_of items) → HasSomeTree text
+  text_tree text items read defined trees =
+      let derived = has_derivation text items read in
+      let put = put_tree ds derived.0 (subst (HaveTrees ds) derived.1 (name_trees items defined trees)) in
+      (put.0, record { spelled = derived.0; is_spelled = record { items = items; read = read; derived = derived.1 }; put_in = put.1 })
+
+  reached_within : (i j : ℕ) → Reaches ds i j → j < length ds
+  reached_within _ _ (directly i j u) = uses_within ds (items_of u.items) j u.uses
+  reached_within _ _ (through i k j u r) = reached_within k j r
+
+  module _ (names : Each (HasAllNames ds) ds) (no_cycle : HasNoCycle ds) where
+    link : (i j : ℕ) (d : Definition) (is : slice_get ds i ≡ Some d) → Uses ds (items_of (names i d is).0) j → UsesDefinition ds i j
+    link i j d is u = let n = names i d is in record { definition = d; is = is; items = n.0; read = n.1; uses = u }
+
+    -- what the definition reaches is among those that are left, and so is what each that it uses reaches, without that one
+    tree_over : (most : ℕ) (left : List ℕ) → length left ≤ most → (i : ℕ) (d : Definition) → slice_get ds i ≡ Some d → ((j : ℕ) → Reaches ds i j → Among left j) → HasSomeTree d.text
+    tree_over zero left le i d is all =
+        let n = names i d is in
+        text_tree d.text n.0 n.1 n.2 (λ j e u there. absurd (none_left left j le (all j (directly i j (link i j d is u)))))
+    tree_over (suc most) left le i d is all =
+        let n = names i d is in
+        text_tree d.text n.0 n.1 n.2 (λ j e u there.
+        let one = link i j d is u in
+        let w = without left j (all j (directly i j one)) in
+        let s = w.shorter in
+        tree_over most w.rest (omega (arith, s, le)) j e there
+        (λ k r. w.others k (all k (through i j k one r)) (λ same. no_cycle j (subst (Reaches ds j) (sym same) r))))
+
+    pub each_has_tree : (i : ℕ) (d : Definition) → slice_get ds i ≡ Some d → HasSomeTree d.text
+    each_has_tree i d is = tree_over (length (below (length ds))) (below (length ds)) (omega arith) i d is (λ j r. among_below (length ds) j (reached_within i j r))
