@@ -1,5 +1,5 @@
-//! Tests of the layers of trees by their public calls alone: grammars, goals, least trees, least ways, least contexts, pairs,
-//! verdicts, and the edits of sentences.
+//! Tests of the layers of trees by their public calls alone: grammars, goals, least trees, least ways, least contexts,
+//! and the edits of sentences.
 #![tactic(auto)]
 
 #[cfg(test)]
@@ -12,9 +12,5 @@ mod derivations;
 mod goals;
 #[cfg(test)]
 mod mutate;
-#[cfg(test)]
-mod pairs;
-#[cfg(test)]
-mod positive;
 #[cfg(test)]
 mod ways;

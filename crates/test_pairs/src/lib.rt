@@ -1,0 +1,7 @@
+//! Tests of neighbours and verdicts by their public calls alone. Nothing stands on this crate.
+#![tactic(auto)]
+
+#[cfg(test)]
+mod pairs;
+#[cfg(test)]
+mod positive;
