@@ -1,2 +1,4 @@
 mod Matching
 mod OneMatch
+mod SomeScan
+mod Together

@@ -1,2 +1,4 @@
 pub mod Scan
+pub mod Compared
 pub mod Best
+pub mod Going

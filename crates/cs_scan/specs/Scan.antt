@@ -63,6 +63,10 @@ pub data Runs (s : Scanning) : List ℕ → List ℕ → Bool → Type 0 where
 abbrev pub AreOneScan : Scanning → List ℕ → Type 0
 AreOneScan s text = (given other : List ℕ) (whole covers : Bool) → Runs s text given whole → Runs s text other covers → (given ≡ other) × (whole ≡ covers)
 
+-- the text has a scan: that it has none cannot be
+abbrev pub HasScan : Scanning → List ℕ → Type 0
+HasScan s text = ((given : List ℕ) (whole : Bool) → Runs s text given whole → ⊥) → ⊥
+
 -- the text scans to the tokens: matches cover it, one behind the other, and give them
 abbrev pub Scans : Scanning → List ℕ → List ℕ → Type 0
 Scans s text tokens = Runs s text tokens true

@@ -7,7 +7,7 @@ ghost use Rattle.cs_scan.specs.Scan.{IsLongest};
 use cs_automaton::Automaton;
 
 /// The longest match of at least one byte at the front of the text: its rule and its size.
-fn longest_front(automaton: &Automaton<'_>, text: &[u8]) -> Option<(u16, usize)>
+pub(crate) fn longest_front(automaton: &Automaton<'_>, text: &[u8]) -> Option<(u16, usize)>
     ensures { IsLongest (patterns_of automaton.now) text.now result }
 {
     let mut state = automaton.start();

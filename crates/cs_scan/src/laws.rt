@@ -2,7 +2,9 @@
 
 ghost use Rattle.std.specs.Prelude.{◌≡◌, ℕ, List};
 ghost use Rattle.cs_pattern_tree.specs.Pattern.{Regex};
-ghost use Rattle.cs_scan.specs.Scan.{AreOneMatch, AreOneScan, Scanning};
+ghost use Rattle.cs_scan.specs.Scan.{AreOneMatch, AreOneScan, HasScan, Scanning};
+
+use crate::scanner::Scanner;
 
 /// A text has at most one match at its front.
 pub fn one_match()
@@ -13,3 +15,16 @@ pub fn one_match()
 pub fn one_scan()
     ensures { (s : Scanning) (text : List ℕ) → AreOneScan s text }
 {}
+
+/// A text has a scan: that it has none leads to a contradiction.
+pub fn some_scan()
+    ensures { (s : Scanning) (text : List ℕ) → HasScan s text }
+{}
+
+/// Takes what threads may share.
+fn take_shared<T: Sync>(_value: &T) {}
+
+/// Threads may share a scanner, and so its automaton.
+pub fn shared_scanner(scanner: &Scanner<'_>) {
+    take_shared(scanner);
+}

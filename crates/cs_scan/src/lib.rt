@@ -1,12 +1,19 @@
-//! The longest match at a place of a text, and the first rule that has it (POSIX.1-2017, lex).
+//! The longest match at a place of a text, the first rule that has it, and whether a text scans to a list of tokens
+//! (POSIX.1-2017, lex).
 //!
-//! The layers above go over a text by `longest`, which takes no memory.
+//! The layers above go over a text by `longest`, and compare a text with a list of tokens by a `Scanner` and `agrees`. Neither
+//! takes memory, and threads may share a scanner.
 //!
-//! Meaning: `specs/Scan.antt` (a match, and the scan of a text over matches). Working words of proofs: `specs/Best.antt`.
+//! Meaning: `specs/Scan.antt` (a match, the scan of a text over matches, what two lists have in common), `specs/Compared.antt`
+//! (what a scanner scans by, what a comparison answers). Working words of proofs: `specs/Best.antt`, `specs/Going.antt`.
 #![tactic(auto)]
 
+mod comparing;
 mod front;
 mod laws;
+mod scanner;
 
+pub use comparing::{Agreement, agrees};
 pub use front::longest;
-pub use laws::{one_match, one_scan};
+pub use laws::{one_match, one_scan, shared_scanner, some_scan};
+pub use scanner::Scanner;

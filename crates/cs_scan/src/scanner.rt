@@ -1,0 +1,12 @@
+// What a scanner is made of.
+
+use cs_automaton::Automaton;
+use cs_pattern_tree::Kind;
+
+/// An automaton, the kind of each of its rules, and for each byte the token of its literal, or 0 where it has none.
+#[derive(Clone, Copy)]
+pub struct Scanner<'a> {
+    pub automaton: &'a Automaton<'a>,
+    pub kinds: &'a [Kind],
+    pub literals: &'a [u16],
+}
