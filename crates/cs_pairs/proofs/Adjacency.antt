@@ -12,11 +12,11 @@ use Rattle.cs_cost.specs.declared.cost.Cost.TheVariants.{Never, Large, Least}
 use Rattle.cs_cost.specs.Least.{IsCost}
 use Rattle.cs_cost.proofs.Ranks.{IsCost-same}
 use Rattle.cs_goals.specs.Goal.{IsLeft, IsRight}
-use Rattle.cs_pairs.specs.declared.kind.TreeKind.TheVariants.{Empty, Begins, Ends}
-use Rattle.cs_pairs.specs.Kinds.{IsTreeOfKind}
+use Rattle.cs_kinds.specs.declared.kind.TreeKind.TheVariants.{Empty, Begins, Ends}
+use Rattle.cs_kinds.specs.Kinds.{IsTreeOfKind}
+use Rattle.cs_kinds.proofs.RowLists.{row_read}
+use Rattle.cs_kinds.proofs.Filling.{entry_read}
 use Rattle.cs_pairs.specs.Pairs.{IsAdjacent, HasPair, ArePairs, ArePairRows}
-use Rattle.cs_pairs.proofs.RowLists.{row_read}
-use Rattle.cs_pairs.proofs.Filling.{entry_read}
 use Rattle.cs_pairs.proofs.Framed.{first_token, token_first, no_token, none_framed, last_token, token_last}
 
 module _ (w : Measure) (g : PlainGrammar) where

@@ -20,12 +20,13 @@ use Rattle.cs_cost.proofs.Ranks.{IsCost-plus, cost_low, cost_reached, cost_cappe
 use Rattle.cs_cost.proofs.Rules.{well_formed_at}
 use Rattle.cs_cost.proofs.Tables.{entry-set_same, entry-set_other, Holds-set, Holds-replicate}
 use Rattle.cs_embed.proofs.Steps.{at_seam, split_at, one_split}
-use Rattle.cs_pairs.specs.declared.kind.TreeKind.TheVariants.{Begins}
-use Rattle.cs_pairs.specs.declared.sweep.Sweep.{Sweep}
-use Rattle.cs_pairs.specs.Kinds.{IsOfKind, AreTreesOfKind}
-use Rattle.cs_pairs.specs.Sweep.{IsSwept}
+use Rattle.cs_kinds.specs.declared.kind.TreeKind.TheVariants.{Begins}
+use Rattle.cs_kinds.specs.declared.sweep.Sweep.{Sweep}
+use Rattle.cs_kinds.specs.Kinds.{IsOfKind, AreTreesOfKind}
+use Rattle.cs_kinds.specs.Sweep.{IsSwept}
+use Rattle.cs_kinds.specs.Numbers.{number_of}
 use Rattle.cs_pairs.specs.Fronts.{AreFront, front_size, AreFronts}
-use Rattle.cs_pairs.specs.Beside.{number_of, IsNumbered, IsSoundBeside, IsBelowPlaces, IsExactBeside}
+use Rattle.cs_pairs.specs.Beside.{IsNumbered, IsSoundBeside, IsBelowPlaces, IsExactBeside}
 use Rattle.cs_pairs.proofs.Fronting.{front_at}
 
 -- a row after a cost was put to it: nothing costs more, and the number no more than the cost

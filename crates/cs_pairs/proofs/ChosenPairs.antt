@@ -8,13 +8,13 @@ use Rattle.cs_grammar.specs.Weights.{Measure}
 use Rattle.cs_grammar.specs.Tree.{Tree, size, yield}
 use Rattle.cs_grammar.specs.Context.{Under, plug}
 use Rattle.cs_goals.specs.Goal.{IsLeft, IsRight}
-use Rattle.cs_pairs.specs.declared.kind.TreeKind.TheVariants.{Empty, Begins, Ends}
+use Rattle.cs_kinds.specs.declared.kind.TreeKind.TheVariants.{Empty, Begins, Ends}
+use Rattle.cs_kinds.proofs.ChosenKinds.{IsTree-of_kind, of_kind_least, one_of_kind}
+use Rattle.cs_kinds.proofs.KindsSettled.{of_kind_exists}
 use Rattle.cs_pairs.specs.Pairs.{HasPair}
 use Rattle.cs_pairs.specs.ChosenPair.{IsChosenSeam, IsChosenPair}
 use Rattle.cs_pairs.proofs.Framed.{first_token, token_first, no_token, none_framed, last_token, token_last, tokens_in, tokens_framed}
 use Rattle.cs_pairs.proofs.Seams.{cut, IsTree-seam, followed_in_seam}
-use Rattle.cs_pairs.proofs.ChosenKinds.{IsTree-of_kind, of_kind_least, one_of_kind}
-use Rattle.cs_pairs.proofs.KindsSettled.{of_kind_exists}
 use Rattle.cs_pairs.proofs.ChosenSeams.{seam_of, one_seam, seam_exists}
 
 module _ (w : Measure) (g : PlainGrammar) where

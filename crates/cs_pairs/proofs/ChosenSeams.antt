@@ -17,15 +17,15 @@ use Rattle.cs_cost.proofs.ChosenTrees.{LeastForest, AreTrees-chosen, all_chosen,
 use Rattle.cs_embed.specs.ChosenContext.{count, IsAtMost, IsChosenContext}
 use Rattle.cs_embed.proofs.ChosenContexts.{count_is, IsContext-chosen, one_chosen_context, LeastContext, context_settled}
 use Rattle.cs_embed.proofs.Steps.{split_at, one_split}
-use Rattle.cs_pairs.specs.declared.kind.TreeKind.TheVariants.{Begins, Ends}
-use Rattle.cs_pairs.specs.Kinds.{IsTreeOfKind, AreTreesOfKind}
+use Rattle.cs_kinds.specs.declared.kind.TreeKind.TheVariants.{Begins, Ends}
+use Rattle.cs_kinds.specs.Kinds.{IsTreeOfKind, AreTreesOfKind}
+use Rattle.cs_kinds.specs.ChosenKind.{IsChosenOfKind, AreChosenOfKind}
+use Rattle.cs_kinds.proofs.ChosenKinds.{IsTree-of_kind, AreTrees-of_kind, of_kind_least, list_least, one_of_kind, all_of_kind}
+use Rattle.cs_kinds.proofs.FirstLeast.{IsSettledAt, FirstLeast, first_least}
+use Rattle.cs_kinds.proofs.KindsSettled.{settled, list_settled}
 use Rattle.cs_pairs.specs.Beside.{IsSeam, seam_size}
 use Rattle.cs_pairs.specs.SeamPlace.{SeamAt, size_at}
-use Rattle.cs_pairs.specs.ChosenKind.{IsChosenOfKind, AreChosenOfKind}
 use Rattle.cs_pairs.specs.ChosenPair.{IsChosenSeam}
-use Rattle.cs_pairs.proofs.ChosenKinds.{IsTree-of_kind, AreTrees-of_kind, of_kind_least, list_least, one_of_kind, all_of_kind}
-use Rattle.cs_pairs.proofs.FirstLeast.{IsSettledAt, FirstLeast, first_least}
-use Rattle.cs_pairs.proofs.KindsSettled.{settled, list_settled}
 
 module _ (w : Measure) (g : PlainGrammar) (a b : ℕ) where
   -- the seam of a chosen tree

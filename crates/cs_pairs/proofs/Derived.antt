@@ -14,11 +14,11 @@ use Rattle.cs_cost.specs.declared.cost.Cost.TheVariants.{Least}
 use Rattle.cs_cost.specs.Least.{IsCost}
 use Rattle.cs_cost.specs.Rank.{rank, IsCapped}
 use Rattle.cs_cost.proofs.Ranks.{one_cost, cost_capped}
-use Rattle.cs_pairs.specs.declared.kind.TreeKind.TheVariants.{Empty, Begins, Ends}
-use Rattle.cs_pairs.specs.Kinds.{IsOfKind}
+use Rattle.cs_kinds.specs.declared.kind.TreeKind.TheVariants.{Empty, Begins, Ends}
+use Rattle.cs_kinds.specs.Kinds.{IsOfKind}
+use Rattle.cs_kinds.specs.Parts.{HasSmallOfKind}
 use Rattle.cs_pairs.specs.Beside.{IsSeam, seam_size}
 use Rattle.cs_pairs.specs.Pairs.{HasPair}
-use Rattle.cs_pairs.specs.Parts.{HasSmallOfKind}
 use Rattle.cs_pairs.specs.SeamPlace.{IsMeetingAt}
 use Rattle.cs_pairs.specs.ChosenPair.{IsCodeOfPair, HasLeastPair, IsChosenMeeting}
 use Rattle.cs_pairs.proofs.Framed.{first_token, no_token, last_token, tokens_in}

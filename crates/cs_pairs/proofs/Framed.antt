@@ -3,8 +3,8 @@ use Rattle.std.proofs.Common.{◌≡◌, ℕ, List, [], ◌∷◌, ◌++◌, map
 use Rattle.cs_grammar.specs.declared.symbol.Mark.{Mark}
 use Rattle.cs_grammar.specs.declared.symbol.Mark.TheVariants.{Begin, Token, End}
 use Rattle.cs_grammar.specs.Sentence.{framed, IsFollowed}
-use Rattle.cs_pairs.specs.declared.kind.TreeKind.TheVariants.{Begins, Ends}
-use Rattle.cs_pairs.specs.Kinds.{IsOfKind}
+use Rattle.cs_kinds.specs.declared.kind.TreeKind.TheVariants.{Begins, Ends}
+use Rattle.cs_kinds.specs.Kinds.{IsOfKind}
 
 -- the tokens and the end mark
 abbrev ended : List ℕ → List Mark

@@ -17,11 +17,11 @@ use Rattle.cs_cost.specs.Rank.{cost_of, plus, entry}
 use Rattle.cs_cost.proofs.Ranks.{IsCost-plus, IsCost-more, IsCost-same}
 use Rattle.cs_cost.proofs.Rules.{well_formed_at}
 use Rattle.cs_embed.specs.Around.{IsContextOf}
-use Rattle.cs_pairs.specs.Filled.{IsFilled}
+use Rattle.cs_kinds.specs.Filled.{IsFilled}
+use Rattle.cs_kinds.specs.Tables.{row_in}
+use Rattle.cs_kinds.proofs.RowLists.{row_read}
+use Rattle.cs_kinds.proofs.Filling.{filled_more, entry_next}
 use Rattle.cs_pairs.specs.Fronts.{AreFront, front_size, AreFronts, AreFrontsOf, AreRuleFronts}
-use Rattle.cs_pairs.specs.Tables.{row_in}
-use Rattle.cs_pairs.proofs.RowLists.{row_read}
-use Rattle.cs_pairs.proofs.Filling.{filled_more, entry_next}
 
 -- some rule of a grammar is well formed
 pub some_rule : (w : Measure) (g : PlainGrammar) (p : Production) → IsGrammar g → IsSomeRule g p → IsRuleOf g.tokens g.nonterminals p

@@ -22,14 +22,14 @@ use Rattle.cs_embed.specs.Around.{HasLeastContext, IsAround}
 use Rattle.cs_embed.specs.ChosenContext.{count, IsChosenContext}
 use Rattle.cs_embed.proofs.ChosenContexts.{count_is, IsContext-chosen, chosen_context_least, one_chosen_context}
 use Rattle.cs_embed.proofs.Steps.{at_seam, split_at, one_split}
-use Rattle.cs_pairs.specs.declared.kind.TreeKind.{TreeKind}
-use Rattle.cs_pairs.specs.declared.kind.TreeKind.TheVariants.{Begins, Ends}
-use Rattle.cs_pairs.specs.Parts.{HaveSmallOfKind, HasSmallOfKind}
-use Rattle.cs_pairs.specs.ChosenKind.{IsChosenOfKind, AreChosenOfKind, AppendsOfKind}
+use Rattle.cs_kinds.specs.declared.kind.TreeKind.{TreeKind}
+use Rattle.cs_kinds.specs.declared.kind.TreeKind.TheVariants.{Begins, Ends}
+use Rattle.cs_kinds.specs.Parts.{HaveSmallOfKind, HasSmallOfKind}
+use Rattle.cs_kinds.specs.ChosenKind.{IsChosenOfKind, AreChosenOfKind, AppendsOfKind}
+use Rattle.cs_kinds.proofs.ChosenKinds.{AreTrees-of_kind, IsTree-of_kind, of_kind_least, all_of_kind, list_of_one}
+use Rattle.cs_kinds.proofs.KindsSettled.{of_kind_exists}
 use Rattle.cs_pairs.specs.SeamPlace.{SeamAt, size_at, IsMeetingAt}
 use Rattle.cs_pairs.specs.ChosenPair.{IsChosenSeam, IsChosenMeeting, IsCodeOfKind, IsCodeOfPair}
-use Rattle.cs_pairs.proofs.ChosenKinds.{AreTrees-of_kind, IsTree-of_kind, of_kind_least, all_of_kind, list_of_one}
-use Rattle.cs_pairs.proofs.KindsSettled.{of_kind_exists}
 use Rattle.cs_pairs.proofs.ChosenSeams.{seam_of, seam_measure}
 
 -- the code of a chosen tree that is written as a list of one

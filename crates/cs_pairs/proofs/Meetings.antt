@@ -16,8 +16,8 @@ use Rattle.cs_cost.proofs.Ranks.{IsCost-plus, IsCost-same, cost_low, cost_least}
 use Rattle.cs_embed.specs.ChosenContext.{count}
 use Rattle.cs_embed.proofs.ChosenContexts.{count_is}
 use Rattle.cs_embed.proofs.Steps.{split_at}
-use Rattle.cs_pairs.specs.declared.kind.TreeKind.TheVariants.{Begins, Ends}
-use Rattle.cs_pairs.specs.Kinds.{IsTreeOfKind, AreTreesOfKind}
+use Rattle.cs_kinds.specs.declared.kind.TreeKind.TheVariants.{Begins, Ends}
+use Rattle.cs_kinds.specs.Kinds.{IsTreeOfKind, AreTreesOfKind}
 use Rattle.cs_pairs.specs.Fronts.{AreFront, front_size, AreFrontsOf}
 use Rattle.cs_pairs.specs.Beside.{IsSeam, seam_size}
 use Rattle.cs_pairs.specs.SeamPlace.{SeamAt, size_at, NoSeamTo, IsFoundIn, IsMeetingAt}

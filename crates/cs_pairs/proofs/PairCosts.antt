@@ -17,13 +17,14 @@ use Rattle.cs_cost.proofs.Ranks.{IsCost-plus, IsCost-same}
 use Rattle.cs_cost.proofs.Rules.{well_formed_at}
 use Rattle.cs_cost.proofs.Tables.{exact_entry}
 use Rattle.cs_embed.proofs.Steps.{at_seam}
-use Rattle.cs_pairs.specs.declared.kind.TreeKind.TheVariants.{Ends}
-use Rattle.cs_pairs.specs.Kinds.{IsTreeOfKind}
-use Rattle.cs_pairs.specs.ListCost.{lesser}
-use Rattle.cs_pairs.specs.Beside.{IsContextBeside, IsSeam, seam_size, number_of, IsNumbered, IsSeamTo, IsExactBeside}
+use Rattle.cs_kinds.specs.declared.kind.TreeKind.TheVariants.{Ends}
+use Rattle.cs_kinds.specs.Kinds.{IsTreeOfKind}
+use Rattle.cs_kinds.specs.ListCost.{lesser}
+use Rattle.cs_kinds.specs.Numbers.{number_of}
+use Rattle.cs_kinds.proofs.ListCosts.{IsCost-either}
+use Rattle.cs_kinds.proofs.Filling.{entry_read}
+use Rattle.cs_pairs.specs.Beside.{IsContextBeside, IsSeam, seam_size, IsNumbered, IsSeamTo, IsExactBeside}
 use Rattle.cs_pairs.specs.Pairs.{HasPair}
-use Rattle.cs_pairs.proofs.ListCosts.{IsCost-either}
-use Rattle.cs_pairs.proofs.Filling.{entry_read}
 use Rattle.cs_pairs.proofs.Framed.{tokens_in, tokens_framed}
 use Rattle.cs_pairs.proofs.Seams.{cut, IsTree-seam, followed_in_seam, size-seam}
 

@@ -10,8 +10,8 @@ use Rattle.cs_grammar.specs.Context.{Context, Hole, Under, IsContext, context_si
 use Rattle.cs_grammar.specs.Sentence.{IsFollowed}
 use Rattle.cs_grammar.proofs.Forests.{AreTrees-join, sizes-join, yields-join}
 use Rattle.cs_grammar.proofs.Holes.{IsTree-plug, size-plug}
-use Rattle.cs_pairs.specs.declared.kind.TreeKind.TheVariants.{Begins, Ends}
-use Rattle.cs_pairs.specs.Kinds.{IsOfKind}
+use Rattle.cs_kinds.specs.declared.kind.TreeKind.TheVariants.{Begins, Ends}
+use Rattle.cs_kinds.specs.Kinds.{IsOfKind}
 use Rattle.cs_pairs.specs.Beside.{IsBeside, IsSeam, seam_size}
 
 -- two neighbours in a joined list are both in its first part, both in its second, or at the seam

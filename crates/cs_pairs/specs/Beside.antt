@@ -1,7 +1,7 @@
 -- Contexts whose hole is directly followed by a token, and seams: a tree that ends with a token, in such a context.
 use Rattle.std.specs.Prelude.{◌≡◌, ℕ, ◌+◌, ◌≤◌, List, ◌∷◌, ◌++◌, length}
 use Rattle.cs_grammar.specs.declared.symbol.Symbol.{Symbol}
-use Rattle.cs_grammar.specs.declared.symbol.Symbol.TheVariants.{Token, Nonterminal}
+use Rattle.cs_grammar.specs.declared.symbol.Symbol.TheVariants.{Nonterminal}
 use Rattle.cs_grammar.specs.Grammar.{Production, PlainGrammar, IsRule, IsSymbol}
 use Rattle.cs_grammar.specs.Weights.{Measure}
 use Rattle.cs_grammar.specs.Tree.{Tree, Forest, AreTrees, size, sizes, yields}
@@ -9,8 +9,9 @@ use Rattle.cs_grammar.specs.Context.{Context, Hole, Under, IsContext, context_si
 use Rattle.cs_cost.specs.declared.cost.Cost.{Cost}
 use Rattle.cs_cost.specs.Rank.{capped, rank, entry}
 use Rattle.cs_cost.specs.Holds.{Holds}
-use Rattle.cs_pairs.specs.declared.kind.TreeKind.TheVariants.{Begins, Ends}
-use Rattle.cs_pairs.specs.Kinds.{IsOfKind, IsTreeOfKind}
+use Rattle.cs_kinds.specs.declared.kind.TreeKind.TheVariants.{Begins, Ends}
+use Rattle.cs_kinds.specs.Kinds.{IsOfKind, IsTreeOfKind}
+use Rattle.cs_kinds.specs.Numbers.{number_of}
 
 -- what the trees behind the hole yield, below the same node, begins with b
 abbrev pub IsBeside : ℕ → Context → Type 0
@@ -27,11 +28,6 @@ IsSeam g a b x s = IsContextBeside g b x s.0 × IsTreeOfKind g (Ends a) x s.1
 
 abbrev pub seam_size : Measure → Context × Tree → ℕ
 seam_size w s = context_size w s.0 + size w s.1
-
--- symbols numbered in one: the tokens, then the nonterminals
-abbrev pub number_of : ℕ → Symbol → ℕ
-number_of tokens (Token t) = t
-number_of tokens (Nonterminal n) = tokens + n
 
 -- a context beside b of the symbol with this number
 abbrev pub IsNumbered : PlainGrammar → ℕ → ℕ → Context → Type 0

@@ -13,9 +13,9 @@ use Rattle.cs_cost.specs.declared.cost.Cost.TheVariants.{Least}
 use Rattle.cs_cost.specs.Least.{IsCost}
 use Rattle.cs_cost.specs.Chosen.{AreChosen}
 use Rattle.cs_embed.specs.ChosenContext.{count, IsAtMost, IsChosenContext}
-use Rattle.cs_pairs.specs.declared.kind.TreeKind.{TreeKind}
-use Rattle.cs_pairs.specs.declared.kind.TreeKind.TheVariants.{Empty, Begins, Ends}
-use Rattle.cs_pairs.specs.ChosenKind.{IsChosenOfKind, AreChosenOfKind}
+use Rattle.cs_kinds.specs.declared.kind.TreeKind.{TreeKind}
+use Rattle.cs_kinds.specs.declared.kind.TreeKind.TheVariants.{Empty, Begins, Ends}
+use Rattle.cs_kinds.specs.ChosenKind.{IsChosenOfKind, AreChosenOfKind}
 use Rattle.cs_pairs.specs.Beside.{IsSeam, seam_size}
 use Rattle.cs_pairs.specs.Pairs.{HasPair}
 

@@ -7,8 +7,8 @@ use Rattle.cs_grammar.specs.Weights.{Measure}
 use Rattle.cs_grammar.specs.Tree.{Forest, AreTrees, sizes}
 use Rattle.cs_grammar.specs.Context.{Context, IsContext, context_size}
 use Rattle.cs_cost.specs.declared.cost.Cost.{Cost}
-use Rattle.cs_pairs.specs.Filled.{IsFilled}
-use Rattle.cs_pairs.specs.Tables.{row_in}
+use Rattle.cs_kinds.specs.Filled.{IsFilled}
+use Rattle.cs_kinds.specs.Tables.{row_in}
 
 -- a context of a rule's left side, and trees of the symbols before a place of its right side
 abbrev pub AreFront : PlainGrammar → ℕ → List Symbol → Context × Forest → Type 0

@@ -11,8 +11,8 @@ use Rattle.cs_grammar.specs.Sentence.{IsSentence, framed, IsFollowed}
 use Rattle.cs_cost.specs.declared.cost.Cost.{Cost}
 use Rattle.cs_goals.specs.declared.goal.Goal.TheVariants.{Pair}
 use Rattle.cs_goals.specs.Meets.{Meets}
-use Rattle.cs_pairs.specs.Filled.{IsFilled}
-use Rattle.cs_pairs.specs.Tables.{row_in}
+use Rattle.cs_kinds.specs.Filled.{IsFilled}
+use Rattle.cs_kinds.specs.Tables.{row_in}
 
 -- some framed sentence has a directly followed by b
 abbrev pub IsAdjacent : PlainGrammar → Mark → Mark → Type 0

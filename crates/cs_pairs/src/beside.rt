@@ -2,16 +2,14 @@
 
 ghost use Rattle.std.specs.Prelude.{◌≡◌, ◌≤◌, IfOk};
 ghost use Rattle.cs_grammar.specs.Grammar.{IsSomeRule, IsNumberOf, IsSymbol};
+ghost use Rattle.cs_kinds.specs.Numbers.{number_of};
 ghost use Rattle.cs_pairs.specs.Fronts.{AreFronts, AreRuleFronts};
-ghost use Rattle.cs_pairs.specs.Beside.{number_of, IsSoundBeside, IsBelowPlaces, IsExactBeside};
+ghost use Rattle.cs_pairs.specs.Beside.{IsSoundBeside, IsBelowPlaces, IsExactBeside};
 ghost use Rattle.cs_pairs.specs.Clauses.{Falls, IsBesideIn};
 
-use crate::kind::TreeKind;
-use crate::kinds::Kinds;
-use crate::row::Row;
-use crate::sweep::Sweep;
 use cs_cost::Cost;
 use cs_grammar::{MOST_NONTERMINALS, MOST_TOKENS, Rule, Symbol};
+use cs_kinds::{Kinds, Row, Sweep, TreeKind};
 use std::alloc::{AllocError, Global};
 
 // The number of a symbol among all, tokens first.

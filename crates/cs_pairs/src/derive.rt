@@ -3,18 +3,16 @@
 ghost use Rattle.std.specs.Prelude.{◌≡◌, ◌<◌, ◌+◌, IfOk, length, take, drop, slice_index_or};
 ghost use Rattle.cs_grammar.specs.declared.symbol.Symbol.{Symbol};
 ghost use Rattle.cs_grammar.specs.Grammar.{IsNumberOf, IsSymbolOf};
-ghost use Rattle.cs_pairs.specs.Kinds.{IsKind};
+ghost use Rattle.cs_kinds.specs.Kinds.{IsKind};
+ghost use Rattle.cs_kinds.specs.Parts.{HasSmallOfKind};
 ghost use Rattle.cs_pairs.specs.ChosenPair.{IsCodeOfKind};
-ghost use Rattle.cs_pairs.specs.Parts.{HasSmallOfKind};
 ghost use Rattle.cs_pairs.specs.Clauses.{IsMeetingOf, IsCodeOfTokens};
 
-use crate::kind::TreeKind;
-use crate::kinds::Kinds;
 use crate::meeting::{Meeting, TokenPair};
-use crate::writing::kind_into;
 use cs_cost::Costs;
 use cs_embed::Embeds;
 use cs_grammar::{Derivation, Symbol};
+use cs_kinds::{Kinds, TreeKind, kind_into};
 use std::alloc::{AllocError, Global};
 
 // The code of the chosen tree of a kind and a symbol.

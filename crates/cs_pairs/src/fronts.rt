@@ -5,10 +5,10 @@ ghost use Rattle.cs_grammar.specs.Grammar.{IsSomeRule};
 ghost use Rattle.cs_cost.specs.Rank.{IsCapped, cost_of, plus};
 ghost use Rattle.cs_pairs.specs.Fronts.{AreFronts, AreRuleFronts};
 
-use crate::row::Row;
 use cs_cost::{Cost, Costs, cost_of, plus};
 use cs_embed::Embeds;
 use cs_grammar::Rule;
+use cs_kinds::Row;
 use std::alloc::{AllocError, Global};
 
 // Costs together, by the limit of the weights.

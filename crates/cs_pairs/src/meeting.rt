@@ -6,11 +6,8 @@ ghost use Rattle.cs_cost.specs.Rank.{rank, IsCapped};
 ghost use Rattle.cs_pairs.specs.Fronts.{AreFrontsOf, AreRuleFronts};
 ghost use Rattle.cs_pairs.specs.Clauses.{IsFoundWithin, HasSeamWithin, IsMeetingWithin};
 
-use crate::kind::TreeKind;
-use crate::kinds::Kinds;
-use crate::row::Row;
-use crate::sweep::Sweep;
 use cs_cost::Cost;
+use cs_kinds::{Kinds, Row, Sweep, TreeKind};
 
 // Two tokens, one directly followed by the other.
 #[derive(Clone, Copy, Debug)]

@@ -4,23 +4,20 @@ ghost use Rattle.std.specs.Prelude.{◌≡◌, ◌↔◌, IsTrue, IfOk};
 ghost use Rattle.cs_grammar.specs.Grammar.{IsNumberOf};
 ghost use Rattle.cs_grammar.specs.Tree.{size};
 ghost use Rattle.cs_goals.specs.Goal.{IsLeft, IsRight};
-ghost use Rattle.cs_pairs.specs.Kinds.{IsKind};
+ghost use Rattle.cs_kinds.specs.Kinds.{IsKind};
 ghost use Rattle.cs_pairs.specs.Fronts.{AreRuleFronts};
 ghost use Rattle.cs_pairs.specs.ChosenPair.{HasLeastPair, IsCodeOfPair};
 ghost use Rattle.cs_pairs.specs.Pairs.{IsAdjacent, ArePairs, ArePairRows};
-ghost use Rattle.cs_pairs.specs.KindCost.{IsWholeCost};
-ghost use Rattle.cs_pairs.specs.Clauses.{IsPairCost, ArePairRowsIn, IsBesideIn, HasLeastOf, IsCodeOfTokens, HasSmallWhole, IsCodeOfWhole};
+ghost use Rattle.cs_pairs.specs.Clauses.{IsPairCost, ArePairRowsIn, IsBesideIn, HasLeastOf, IsCodeOfTokens, HasSmallWhole, IsCodeOfWhole, IsWholeCost};
 
 use crate::beside::{Beside, beside_row};
 use crate::derive::{kind_code, seam_code};
 use crate::fronts::rule_fronts;
-use crate::kind::TreeKind;
-use crate::kinds::Kinds;
 use crate::meeting::{TokenPair, meet};
-use crate::row::Row;
 use cs_cost::{Cost, Costs};
 use cs_embed::Embeds;
 use cs_grammar::{Derivation, Grammar, Mark, Symbol, Weights};
+use cs_kinds::{Kinds, Row, TreeKind};
 use std::alloc::{AllocError, Global};
 use std::marker::Model;
 

@@ -3,10 +3,10 @@ use Rattle.cs_grammar.specs.declared.symbol.Symbol.{Symbol}
 use Rattle.cs_grammar.specs.declared.symbol.Symbol.TheVariants.{Token}
 use Rattle.cs_grammar.specs.Grammar.{PlainGrammar, IsGrammar}
 use Rattle.cs_cost.specs.declared.cost.Cost.TheVariants.{Never}
-use Rattle.cs_pairs.proofs.Filling.{IsCapped-filled}
+use Rattle.cs_kinds.proofs.Filling.{IsCapped-filled}
+use Rattle.cs_kinds.specs.Numbers.{number_of}
 use Rattle.cs_pairs.proofs.Fronting.{wide_symbol}
 use Rattle.cs_pairs.proofs.Besides.{places_none, item_symbol, item_number, place_step}
-use Rattle.cs_pairs.specs.Beside.{number_of}
 use Rattle.cs_pairs.proofs.beside.beside_rule.Goals as goal
 
 pub loop-place-init : goal.loop-place-init

@@ -9,9 +9,9 @@ use Rattle.cs_cost.specs.Chosen.{AppendsAllChosen}
 use Rattle.cs_cost.specs.Trees.{HaveSmall}
 use Rattle.cs_cost.proofs.Rules.{well_formed_at}
 use Rattle.cs_embed.specs.Around.{HasLeastContext, IsAround}
-use Rattle.cs_pairs.specs.declared.kind.TreeKind.TheVariants.{Begins, Ends}
-use Rattle.cs_pairs.specs.ChosenKind.{AppendsOfKind}
-use Rattle.cs_pairs.specs.Parts.{HaveSmallOfKind}
+use Rattle.cs_kinds.specs.declared.kind.TreeKind.TheVariants.{Begins, Ends}
+use Rattle.cs_kinds.specs.ChosenKind.{AppendsOfKind}
+use Rattle.cs_kinds.specs.Parts.{HaveSmallOfKind}
 use Rattle.cs_pairs.proofs.Laying.{Laid, laid, laid_context, laid_lefts, laid_last, laid_rights, laid_code, rule_met}
 use Rattle.cs_pairs.proofs.derive.seam_code.Goals as goal
 use Rattle.cs_pairs.proofs.derive.seam_code.Goals.{After-right}

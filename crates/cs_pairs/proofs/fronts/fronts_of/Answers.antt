@@ -8,9 +8,9 @@ use Rattle.cs_cost.specs.declared.cost.Cost.{Cost}
 use Rattle.cs_cost.specs.Least.{IsCost}
 use Rattle.cs_cost.specs.Rank.{plus}
 use Rattle.cs_embed.specs.Around.{IsContextOf}
-use Rattle.cs_pairs.specs.Filled.{IsFilled}
+use Rattle.cs_kinds.specs.Filled.{IsFilled}
+use Rattle.cs_kinds.proofs.Filling.{filled_none}
 use Rattle.cs_pairs.specs.Fronts.{AreFront, front_size}
-use Rattle.cs_pairs.proofs.Filling.{filled_none}
 use Rattle.cs_pairs.proofs.Fronting.{some_rule, front_first, front_taken, fronts_more}
 use Rattle.cs_pairs.proofs.fronts.fronts_of.Goals as goal
 

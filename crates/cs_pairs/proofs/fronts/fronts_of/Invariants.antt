@@ -1,6 +1,6 @@
 use Rattle.std.proofs.Common.{◌-◌, take}
 use Rattle.cs_cost.specs.Least.{IsCost}
-use Rattle.cs_pairs.specs.Filled.{IsFilled}
+use Rattle.cs_kinds.specs.Filled.{IsFilled}
 use Rattle.cs_pairs.specs.Fronts.{AreFront, front_size}
 use Rattle.cs_pairs.proofs.fronts.fronts_of.Given as goal
 

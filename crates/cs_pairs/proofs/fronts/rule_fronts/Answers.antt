@@ -3,9 +3,9 @@ use Rattle.std.specs.Prelude.{slice_get}
 use Rattle.std.proofs.lemmas.Option.{slice_get_read}
 use Rattle.cs_grammar.specs.Grammar.{Production, PlainGrammar}
 use Rattle.cs_cost.proofs.Rules.{rule_at}
+use Rattle.cs_kinds.proofs.RowLists.{rows_more, length_more}
 use Rattle.cs_pairs.proofs.Fronting.{fronts_at, fronts_all}
 use Rattle.cs_pairs.specs.Fronts.{AreFrontsOf}
-use Rattle.cs_pairs.proofs.RowLists.{rows_more, length_more}
 use Rattle.cs_pairs.proofs.fronts.rule_fronts.Goals as goal
 
 pub fronts_of-requires-clause-rule : goal.fronts_of-requires-clause-rule

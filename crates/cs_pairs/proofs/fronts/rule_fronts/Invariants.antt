@@ -1,6 +1,6 @@
 use Rattle.std.proofs.Common.{◌≡◌, ℕ, length}
 use Rattle.cs_grammar.specs.Grammar.{IsNumberOf}
-use Rattle.cs_pairs.specs.Tables.{row_in}
+use Rattle.cs_kinds.specs.Tables.{row_in}
 use Rattle.cs_pairs.specs.Fronts.{AreFrontsOf}
 use Rattle.cs_pairs.proofs.fronts.rule_fronts.Given as goal
 

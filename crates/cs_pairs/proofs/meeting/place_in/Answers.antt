@@ -8,12 +8,12 @@ use Rattle.cs_cost.specs.declared.cost.Cost.TheVariants.{Never}
 use Rattle.cs_cost.specs.Least.{IsCost}
 use Rattle.cs_cost.specs.Rank.{rank}
 use Rattle.cs_embed.proofs.Steps.{rule_numbered}
-use Rattle.cs_pairs.specs.declared.kind.TreeKind.TheVariants.{Begins}
-use Rattle.cs_pairs.specs.Kinds.{AreTreesOfKind}
-use Rattle.cs_pairs.specs.Sweep.{IsSwept}
+use Rattle.cs_kinds.specs.declared.kind.TreeKind.TheVariants.{Begins}
+use Rattle.cs_kinds.specs.Kinds.{AreTreesOfKind}
+use Rattle.cs_kinds.specs.Sweep.{IsSwept}
+use Rattle.cs_kinds.proofs.Filling.{IsCapped-filled}
+use Rattle.cs_kinds.proofs.Placing.{left_from, not_at_most}
 use Rattle.cs_pairs.specs.SeamPlace.{IsFoundIn}
-use Rattle.cs_pairs.proofs.Filling.{IsCapped-filled}
-use Rattle.cs_pairs.proofs.Placing.{left_from, not_at_most}
 use Rattle.cs_pairs.proofs.Meetings.{found_none, found_here, found_later, item_cost}
 use Rattle.cs_pairs.proofs.meeting.place_in.Goals as goal
 use Rattle.cs_pairs.proofs.meeting.place_in.Goals.{then-at_most, else-at_most}

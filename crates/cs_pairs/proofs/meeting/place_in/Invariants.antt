@@ -1,7 +1,7 @@
 use Rattle.std.proofs.Common.{◌≡◌, drop}
 use Rattle.cs_cost.specs.Rank.{rank}
-use Rattle.cs_pairs.specs.declared.kind.TreeKind.TheVariants.{Begins}
-use Rattle.cs_pairs.specs.Sweep.{IsSwept}
+use Rattle.cs_kinds.specs.declared.kind.TreeKind.TheVariants.{Begins}
+use Rattle.cs_kinds.specs.Sweep.{IsSwept}
 use Rattle.cs_pairs.specs.SeamPlace.{IsFoundIn}
 use Rattle.cs_pairs.proofs.meeting.place_in.Given as goal
 

@@ -2,9 +2,9 @@ use Rattle.std.proofs.Common.{◌+◌, sym, subst}
 use Rattle.cs_grammar.specs.declared.symbol.Mark.TheVariants.{Token}
 use Rattle.cs_grammar.specs.Tree.{size}
 use Rattle.cs_cost.specs.Least.{IsCost}
-use Rattle.cs_pairs.specs.Filled.{IsFilled}
+use Rattle.cs_kinds.specs.Filled.{IsFilled}
+use Rattle.cs_kinds.proofs.Filling.{filled_more}
 use Rattle.cs_pairs.specs.Pairs.{HasPair}
-use Rattle.cs_pairs.proofs.Filling.{filled_more}
 use Rattle.cs_pairs.proofs.pairs.pair_row.Goals as goal
 
 pub loop-place-preserved : goal.loop-place-preserved

@@ -1,6 +1,6 @@
 use Rattle.cs_grammar.specs.declared.symbol.Mark.TheVariants.{Token}
 use Rattle.cs_grammar.specs.Tree.{size}
-use Rattle.cs_pairs.specs.Filled.{IsFilled}
+use Rattle.cs_kinds.specs.Filled.{IsFilled}
 use Rattle.cs_pairs.specs.Pairs.{HasPair}
 use Rattle.cs_pairs.proofs.pairs.pair_row.Given as goal
 

@@ -1,5 +1,5 @@
+use Rattle.cs_kinds.proofs.RowLists.{rows_more, length_more}
 use Rattle.cs_pairs.specs.Pairs.{ArePairs}
-use Rattle.cs_pairs.proofs.RowLists.{rows_more, length_more}
 use Rattle.cs_pairs.proofs.pairs.pair_rows.Goals as goal
 
 pub loop-place-preserved : goal.loop-place-preserved

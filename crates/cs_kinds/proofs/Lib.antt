@@ -1,0 +1,17 @@
+pub mod Joined
+pub mod ListCosts
+pub mod RowLists
+pub mod Filling
+pub mod KindCosts
+pub mod Sweeping
+pub mod ChosenKinds
+pub mod FirstLeast
+pub mod KindsSettled
+pub mod Placing
+pub mod Roots
+pub mod Written
+pub mod Numbers
+pub mod Rimming
+pub mod Reaching
+pub mod RimLists
+pub mod Baring

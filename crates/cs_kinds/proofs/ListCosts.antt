@@ -1,0 +1,107 @@
+-- What lists of trees of a kind cost: no list costs less than is said, and one costs no more.
+use Rattle.std.proofs.Common.{◌≡◌, ℕ, ◌+◌, ◌≤◌, ◌⊎◌, List, [], ◌∷◌, refl, ap, sym, subst, ⊎_elim, inl, inr, arith}
+use Rattle.std.proofs.lemmas.Bool.Decides.{nat_tests}
+use Rattle.cs_grammar.specs.declared.symbol.Symbol.{Symbol}
+use Rattle.cs_grammar.specs.declared.symbol.Symbol.TheVariants.{Token, Nonterminal}
+use Rattle.cs_grammar.specs.Grammar.{Production, PlainGrammar, IsRule}
+use Rattle.cs_grammar.specs.Weights.{Measure, number}
+use Rattle.cs_grammar.specs.Tree.{Tree, Leaf, Node, Forest, Bare, Grown, IsTree, AreTrees, size, sizes, yield, yields}
+use Rattle.cs_cost.specs.declared.cost.Cost.{Cost}
+use Rattle.cs_cost.specs.Least.{IsCost}
+use Rattle.cs_cost.specs.Rank.{capped, rank, IsCapped, plus, cost_of}
+use Rattle.cs_cost.proofs.Ranks.{rank-cost_of, IsCapped-cost_of, plus_at_most, plus_reached, IsCapped-plus, IsCost-from, cost_low, cost_reached, cost_capped}
+use Rattle.cs_kinds.specs.declared.kind.TreeKind.{TreeKind}
+use Rattle.cs_kinds.specs.declared.kind.TreeKind.TheVariants.{Any, Empty, Begins, Ends}
+use Rattle.cs_kinds.specs.Kinds.{IsOfKind, IsTreeOfKind, AreTreesOfKind, before, behind, IsPart, IsKind}
+use Rattle.cs_kinds.specs.ListCost.{lesser, leaf_cost, bare_cost}
+use Rattle.cs_kinds.proofs.Joined.{joined_cases, joined_here, joined_later}
+
+-- the parts of a kind
+pub IsKind-before : (tokens : ℕ) (k : TreeKind) → IsKind tokens k → IsKind tokens (before k)
+IsKind-before tokens Any h = tt
+IsKind-before tokens Empty h = tt
+IsKind-before tokens (Begins b) h = tt
+IsKind-before tokens (Ends a) h = tt
+
+pub IsKind-behind : (tokens : ℕ) (k : TreeKind) → IsKind tokens k → IsKind tokens (behind k)
+IsKind-behind tokens Any h = tt
+IsKind-behind tokens Empty h = tt
+IsKind-behind tokens (Begins b) h = tt
+IsKind-behind tokens (Ends a) h = tt
+
+pub IsKind-part : (tokens : ℕ) (k j : TreeKind) → IsPart k j → IsKind tokens k → IsKind tokens j
+IsKind-part tokens k j part h =
+    ⊎_elim
+    (λ e. subst (IsKind tokens) (sym e) h)
+    (λ other. ⊎_elim (λ e. subst (IsKind tokens) (sym e) (IsKind-before tokens k h)) (λ e. subst (IsKind tokens) (sym e) (IsKind-behind tokens k h)) other)
+    part
+
+module _ (w : Measure) where
+  pub lesser_left : (a b : Cost) → rank w.limit (lesser w.limit a b) ≤ rank w.limit a
+  lesser_left a b = grind (arith, nat_tests)
+
+  pub lesser_right : (a b : Cost) → rank w.limit (lesser w.limit a b) ≤ rank w.limit b
+  lesser_right a b = grind (arith, nat_tests)
+
+  pub lesser_either : (a b : Cost) → (lesser w.limit a b ≡ a) ⊎ (lesser w.limit a b ≡ b)
+  lesser_either a b = grind (arith, nat_tests)
+
+  pub IsCapped-lesser : (a b : Cost) → IsCapped w.limit a → IsCapped w.limit b → IsCapped w.limit (lesser w.limit a b)
+  IsCapped-lesser a b ha hb = ⊎_elim (λ e. subst (IsCapped w.limit) (sym e) ha) (λ e. subst (IsCapped w.limit) (sym e) hb) (lesser_either a b)
+
+  -- leaves
+  pub leaf_low : (k : TreeKind) (t : ℕ) → IsOfKind k (t ∷ []) → rank w.limit (leaf_cost w k t) ≤ capped w.limit (number w t)
+  leaf_low Any t h = omega (arith, rank-cost_of w.limit (number w t))
+  leaf_low Empty t h = absurd cc
+  leaf_low (Begins b) t h = let e : t ≡ b = (let q = h.1 in cc) in let r = rank-cost_of w.limit (number w t) in grind (arith, nat_tests)
+  leaf_low (Ends a) t ([], e) = let e' : t ≡ a = cc in let r = rank-cost_of w.limit (number w t) in grind (arith, nat_tests)
+  leaf_low (Ends a) t (x ∷ [], e) = absurd cc
+  leaf_low (Ends a) t (x ∷ y ∷ rest, e) = absurd cc
+
+  pub leaf_reached : (g : PlainGrammar) (k : TreeKind) (t : ℕ) → rank w.limit (leaf_cost w k t) ≤ w.limit + 1 → (u : Tree) × IsTreeOfKind g k (Token t) u × (capped w.limit (size w u) ≤ rank w.limit (leaf_cost w k t))
+  leaf_reached g Any t h = (Leaf t, (refl, tt), omega (arith, rank-cost_of w.limit (number w t)))
+  leaf_reached g Empty t h = absurd (omega arith)
+  leaf_reached g (Begins b) t h = (Leaf t, (refl, ([], (let e : t ≡ b = grind (arith, nat_tests) in ap (λ n. n ∷ []) e))), (let r = rank-cost_of w.limit (number w t) in grind (arith, nat_tests)))
+  leaf_reached g (Ends a) t h = (Leaf t, (refl, ([], (let e : t ≡ a = grind (arith, nat_tests) in ap (λ n. n ∷ []) e))), (let r = rank-cost_of w.limit (number w t) in grind (arith, nat_tests)))
+
+  pub IsCapped-leaf : (k : TreeKind) (t : ℕ) → IsCapped w.limit (leaf_cost w k t)
+  IsCapped-leaf Any t = IsCapped-cost_of w.limit (number w t)
+  IsCapped-leaf Empty t = tt
+  IsCapped-leaf (Begins b) t = let c = IsCapped-cost_of w.limit (number w t) in grind (arith, nat_tests)
+  IsCapped-leaf (Ends a) t = let c = IsCapped-cost_of w.limit (number w t) in grind (arith, nat_tests)
+
+  -- no tree at all
+  pub bare_low : (k : TreeKind) → IsOfKind k [] → rank w.limit (bare_cost k) ≤ 0
+  bare_low Any h = omega arith
+  bare_low Empty h = omega arith
+  bare_low (Begins b) h = let e = h.1 in absurd cc
+  bare_low (Ends a) ([], e) = absurd cc
+  bare_low (Ends a) (x ∷ rest, e) = absurd cc
+
+  pub bare_reached : (g : PlainGrammar) (k : TreeKind) → rank w.limit (bare_cost k) ≤ w.limit + 1 → AreTreesOfKind g k [] Bare
+  bare_reached g Any h = (tt, tt)
+  bare_reached g Empty h = (tt, refl)
+  bare_reached g (Begins b) h = absurd (omega arith)
+  bare_reached g (Ends a) h = absurd (omega arith)
+
+  pub IsCapped-bare : (k : TreeKind) → IsCapped w.limit (bare_cost k)
+  IsCapped-bare Any = omega arith
+  IsCapped-bare Empty = omega arith
+  IsCapped-bare (Begins b) = tt
+  IsCapped-bare (Ends a) = tt
+
+-- the members of two kinds together cost the lesser
+module _ {A : Type 0} (w : Measure) (First Second Both : A → Type 0) (measure : A → ℕ) where
+  pub IsCost-either : (a b : Cost) → IsCost w.limit First measure a → IsCost w.limit Second measure b → ((x : A) → First x → Both x) → ((x : A) → Second x → Both x) → ((x : A) → Both x → First x ⊎ Second x) → IsCost w.limit Both measure (lesser w.limit a b)
+  IsCost-either a b ha hb one other split =
+      IsCost-from w.limit Both measure (lesser w.limit a b) (IsCapped-lesser w a b (cost_capped w.limit First measure a ha) (cost_capped w.limit Second measure b hb))
+      (λ h.
+      ⊎_elim
+      (λ e. let x = cost_reached w.limit First measure a ha (omega (arith, h, ap (rank w.limit) e)) in (x.0, one x.0 x.1, omega (arith, x.2, ap (rank w.limit) e)))
+      (λ e. let x = cost_reached w.limit Second measure b hb (omega (arith, h, ap (rank w.limit) e)) in (x.0, other x.0 x.1, omega (arith, x.2, ap (rank w.limit) e)))
+      (lesser_either w a b))
+      (λ x h.
+      ⊎_elim
+      (λ is. omega (arith, lesser_left w a b, cost_low w.limit First measure a ha x is))
+      (λ is. omega (arith, lesser_right w a b, cost_low w.limit Second measure b hb x is))
+      (split x h))

@@ -1,0 +1,67 @@
+-- What the least ways of rims cost, the least trees cost.
+use Rattle.std.proofs.Common.{◌≡◌, ℕ, suc, ◌+◌, ◌<◌, ◌≤◌, List, [], ◌∷◌, length, get_or, refl, sym, ap, ◌∙◌, subst, arith}
+use Rattle.std.proofs.lemmas.List.{get_or_default}
+use Rattle.cs_grammar.specs.declared.symbol.Symbol.{Symbol}
+use Rattle.cs_grammar.specs.declared.symbol.Symbol.TheVariants.{Nonterminal}
+use Rattle.cs_grammar.specs.Grammar.{PlainGrammar, IsNumberOf, IsSymbolOf, IsGrammar}
+use Rattle.cs_grammar.specs.Weights.{Measure, number}
+use Rattle.cs_grammar.specs.Tree.{Tree, size}
+use Rattle.cs_cost.specs.declared.cost.Cost.{Cost}
+use Rattle.cs_cost.specs.Least.{IsCost}
+use Rattle.cs_cost.specs.Rank.{capped, rank, IsCapped}
+use Rattle.cs_cost.proofs.Ranks.{IsCost-from}
+use Rattle.cs_embed.specs.Links.{told_cost}
+use Rattle.cs_ways.specs.declared.step.Source.{Source}
+use Rattle.cs_ways.specs.declared.reach.Reach.{Reach}
+use Rattle.cs_ways.specs.declared.reach.Reach.TheVariants.{Never, Large, Least}
+use Rattle.cs_ways.specs.Ways.{Net, Way, IsWay, way_cost, IsReach, reach_at, AreLeastWays}
+use Rattle.cs_kinds.specs.declared.side.Side.{Side}
+use Rattle.cs_kinds.specs.declared.rims.Place.{Place}
+use Rattle.cs_kinds.specs.Kinds.{IsTreeOfKind}
+use Rattle.cs_kinds.specs.Numbers.{number_of}
+use Rattle.cs_kinds.specs.Sides.{kind_on}
+use Rattle.cs_kinds.specs.Rims.{AreRims}
+use Rattle.cs_kinds.proofs.Rimming.{way_of_tree, tree_of_way}
+
+-- what is told of a node holds of the ways to it
+module _ (limit : ℕ) (net : Net) (sources : List Source) (n : ℕ) where
+  pub told_capped : (r : Reach) → IsReach limit net sources n r → IsCapped limit (told_cost r)
+  told_capped Never is = tt
+  told_capped Large is = tt
+  told_capped (Least c o) is = is.0
+
+  pub told_reached : (r : Reach) → IsReach limit net sources n r → rank limit (told_cost r) ≤ limit + 1 → (v : Way) × IsWay net sources n v × (capped limit (way_cost v) ≤ rank limit (told_cost r))
+  told_reached Never is low = absurd (omega (arith, low))
+  told_reached Large is low = (is.0, is.1, omega arith)
+  told_reached (Least c o) is low = (is.1.way, is.1.is_way, omega (arith, is.1.costs))
+
+  pub told_low : (r : Reach) → IsReach limit net sources n r → (v : Way) → IsWay net sources n v → rank limit (told_cost r) ≤ capped limit (way_cost v)
+  told_low Never is v h = absurd (is v h)
+  told_low Large is v h = omega (arith, is.2 v h)
+  told_low (Least c o) is v h = omega (arith, is.0, is.1.least v h)
+
+pub reach_exact : (w : Measure) (g : PlainGrammar) (side : Side) (grammar : IsGrammar g) (net : Net) (places : List Place) (rims : AreRims w g side places net.steps) (t : ℕ) (source : Source) (begins : source.node ≡ t) (leaf : source.cost ≡ number w t) (fits : IsNumberOf g.tokens t) (x : Symbol) → IsSymbolOf g x → (r : Reach) → IsReach w.limit net (source ∷ []) (number_of g.tokens x) r → IsCost w.limit (IsTreeOfKind g (kind_on side t) x) (size w) (told_cost r)
+reach_exact w g side grammar net places rims t source begins leaf fits x xf r is =
+    let n = number_of g.tokens x in
+    IsCost-from w.limit (IsTreeOfKind g (kind_on side t) x) (size w) (told_cost r) (told_capped w.limit net (source ∷ []) n r is)
+    (λ low.
+    let v = told_reached w.limit net (source ∷ []) n r is low in
+    let u = tree_of_way w g side grammar net places rims t source begins leaf fits v.0 n v.1 x xf refl in
+    (u.tree, u.is_tree, omega (arith, v.2, u.cost)))
+    (λ u h.
+    let v = way_of_tree w g side grammar net places rims t source begins leaf fits u x h.0 h.1 in
+    omega (arith, told_low w.limit net (source ∷ []) n r is v.way v.is_way, v.cost))
+
+-- what a table says of a node, as the code reads it
+pub reach_read : (table : List Reach) (m i : ℕ) (d : Reach) → m ≡ i + 1 → i < length table → reach_at table m ≡ get_or table i d
+reach_read table m i d e within =
+    let next : m ≡ suc i = omega (arith, e) in
+    subst (λ k. reach_at table k ≡ get_or table i d) (sym next) (get_or_default table i Never d within)
+
+-- the entry of a nonterminal in a table of least ways from a token
+pub row_entry : (w : Measure) (g : PlainGrammar) (side : Side) (grammar : IsGrammar g) (net : Net) (places : List Place) (rims : AreRims w g side places net.steps) (t : ℕ) (fits : IsNumberOf g.tokens t) (source : Source) → source.node ≡ t → source.cost ≡ number w t → net.nodes ≡ g.tokens + g.nonterminals → (table : List Reach) → AreLeastWays w.limit net (source ∷ []) table → (n i : ℕ) (d : Reach) → n < g.nonterminals → i ≡ g.tokens + n → IsCost w.limit (IsTreeOfKind g (kind_on side t) (Nonterminal (n + 1))) (size w) (told_cost (get_or table i d))
+row_entry w g side grammar net places rims t fits source begins leaf nodes table least n i d within is_i =
+    let m = g.tokens + (n + 1) in
+    let at = reach_read table m i d (omega (arith, is_i)) (omega (arith, is_i, within, nodes, least.many)) in
+    reach_exact w g side grammar net places rims t source begins leaf fits (Nonterminal (n + 1)) (omega arith, omega (arith, within)) (get_or table i d)
+    (subst (λ r. IsReach w.limit net (source ∷ []) m r) at (least.exact m))

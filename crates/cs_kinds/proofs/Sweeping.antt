@@ -1,0 +1,94 @@
+-- One more symbol in a sweep.
+use Rattle.std.proofs.Common.{◌≡◌, ℕ, ◌≤◌, ◌⊎◌, List, [], ◌∷◌, ◌++◌, refl, ap, ⊎_elim, inl, inr, arith}
+use Rattle.cs_grammar.specs.declared.symbol.Symbol.{Symbol}
+use Rattle.cs_grammar.specs.Grammar.{PlainGrammar}
+use Rattle.cs_grammar.specs.Weights.{Measure}
+use Rattle.cs_grammar.specs.Tree.{Tree, Forest, Bare, Grown, size, sizes, yield, yields}
+use Rattle.cs_cost.specs.declared.cost.Cost.{Cost}
+use Rattle.cs_cost.specs.Least.{IsCost}
+use Rattle.cs_cost.specs.Rank.{capped, rank, plus}
+use Rattle.cs_cost.proofs.Ranks.{IsCost-from, IsCost-plus, IsCost-same, cost_low, cost_reached, cost_capped}
+use Rattle.cs_kinds.specs.declared.kind.TreeKind.{TreeKind}
+use Rattle.cs_kinds.specs.declared.kind.TreeKind.TheVariants.{Any, Empty, Begins, Ends}
+use Rattle.cs_kinds.specs.Kinds.{IsOfKind, IsTreeOfKind, AreTreesOfKind, before, behind}
+use Rattle.cs_kinds.specs.ListCost.{lesser, bare_cost}
+use Rattle.cs_kinds.specs.Ways.{AreHere, AreLater, joint_size}
+use Rattle.cs_kinds.proofs.Joined.{joined_cases, joined_here, joined_later}
+use Rattle.cs_kinds.proofs.ListCosts.{lesser_left, lesser_right, lesser_either, IsCapped-lesser, bare_low, bare_reached, IsCapped-bare}
+
+module _ (w : Measure) (g : PlainGrammar) (k : TreeKind) (x : Symbol) (xs : List Symbol) where
+  -- in one of the two ways
+  pub one_way : (f : Forest) → AreTreesOfKind g k (x ∷ xs) f → ((p : Tree × Forest) × AreHere g k x xs p × (joint_size w p ≡ sizes w f)) ⊎ ((p : Tree × Forest) × AreLater g k x xs p × (joint_size w p ≡ sizes w f))
+  one_way Bare h = absurd h.0
+  one_way (Grown t f) h =
+      ⊎_elim
+      (λ o. inl ((t, f), ((h.0.0, o.0), (h.0.1, o.1)), refl))
+      (λ o. inr ((t, f), ((h.0.0, o.0), (h.0.1, o.1)), refl))
+      (joined_cases k (yield t) (yields f) h.1)
+
+  pub from_here : (p : Tree × Forest) → AreHere g k x xs p → AreTreesOfKind g k (x ∷ xs) (Grown p.0 p.1)
+  from_here p h = ((h.0.0, h.1.0), joined_here k (yield p.0) (yields p.1) h.0.1 h.1.1)
+
+  pub from_later : (p : Tree × Forest) → AreLater g k x xs p → AreTreesOfKind g k (x ∷ xs) (Grown p.0 p.1)
+  from_later p h = ((h.0.0, h.1.0), joined_later k (yield p.0) (yields p.1) h.0.1 h.1.1)
+
+module _ (w : Measure) (g : PlainGrammar) where
+  pub swept_none : (k : TreeKind) → IsCost w.limit (AreTreesOfKind g k []) (sizes w) (bare_cost k)
+  swept_none k = IsCost-from w.limit (AreTreesOfKind g k []) (sizes w) (bare_cost k) (IsCapped-bare w k) (λ h. (Bare, bare_reached w g k h, omega arith)) low
+    where
+      low : (f : Forest) → AreTreesOfKind g k [] f → rank w.limit (bare_cost k) ≤ capped w.limit (sizes w f)
+      low Bare h = omega (arith, bare_low w k h.1)
+      low (Grown t f) h = absurd h.0
+
+  module _ (k : TreeKind) (x : Symbol) (xs : List Symbol) where
+    -- the lesser of the two ways is the least
+    pub lesser_way : (here later : Cost) → IsCost w.limit (AreHere g k x xs) (joint_size w) here → IsCost w.limit (AreLater g k x xs) (joint_size w) later → IsCost w.limit (AreTreesOfKind g k (x ∷ xs)) (sizes w) (lesser w.limit here later)
+    lesser_way here later is_here is_later =
+        IsCost-from w.limit (AreTreesOfKind g k (x ∷ xs)) (sizes w) (lesser w.limit here later)
+        (IsCapped-lesser w here later (cost_capped w.limit (AreHere g k x xs) (joint_size w) here is_here) (cost_capped w.limit (AreLater g k x xs) (joint_size w) later is_later))
+        (λ h.
+        ⊎_elim
+        (λ e.
+        let p = cost_reached w.limit (AreHere g k x xs) (joint_size w) here is_here (omega (arith, h, ap (rank w.limit) e)) in
+        (Grown p.0.0 p.0.1, from_here w g k x xs p.0 p.1, omega (arith, p.2, ap (rank w.limit) e)))
+        (λ e.
+        let p = cost_reached w.limit (AreLater g k x xs) (joint_size w) later is_later (omega (arith, h, ap (rank w.limit) e)) in
+        (Grown p.0.0 p.0.1, from_later w g k x xs p.0 p.1, omega (arith, p.2, ap (rank w.limit) e)))
+        (lesser_either w here later))
+        (λ f h.
+        ⊎_elim
+        (λ o. omega (arith, lesser_left w here later, cost_low w.limit (AreHere g k x xs) (joint_size w) here is_here o.0 o.1, o.2))
+        (λ o. omega (arith, lesser_right w here later, cost_low w.limit (AreLater g k x xs) (joint_size w) later is_later o.0 o.1, o.2))
+        (one_way w g k x xs f h))
+
+  module _ (k : TreeKind) (x : Symbol) (xs : List Symbol) (own rest : Cost) where
+    pub here_cost : IsCost w.limit (IsTreeOfKind g k x) (size w) own → IsCost w.limit (AreTreesOfKind g (behind k) xs) (sizes w) rest → IsCost w.limit (AreHere g k x xs) (joint_size w) (plus w.limit own rest)
+    here_cost first others = IsCost-plus w.limit (IsTreeOfKind g k x) (AreTreesOfKind g (behind k) xs) (size w) (sizes w) own rest first others
+
+    pub later_cost : IsCost w.limit (IsTreeOfKind g (before k) x) (size w) own → IsCost w.limit (AreTreesOfKind g k xs) (sizes w) rest → IsCost w.limit (AreLater g k x xs) (joint_size w) (plus w.limit own rest)
+    later_cost first others = IsCost-plus w.limit (IsTreeOfKind g (before k) x) (AreTreesOfKind g k xs) (size w) (sizes w) own rest first others
+
+  -- behind a tree of a kind the two ways are one
+  pub behind_cost : (k : TreeKind) (x : Symbol) (xs : List Symbol) (own rest : Cost) → IsCost w.limit (IsTreeOfKind g (behind k) x) (size w) own → IsCost w.limit (AreTreesOfKind g (behind k) xs) (sizes w) rest → IsCost w.limit (AreTreesOfKind g (behind k) (x ∷ xs)) (sizes w) (plus w.limit own rest)
+  behind_cost k x xs own rest first others =
+      let Both = λ (p : Tree × Forest). IsTreeOfKind g (behind k) x p.0 × AreTreesOfKind g (behind k) xs p.1 in
+      let both = IsCost-plus w.limit (IsTreeOfKind g (behind k) x) (AreTreesOfKind g (behind k) xs) (size w) (sizes w) own rest first others in
+      IsCost-same w.limit Both (AreTreesOfKind g (behind k) (x ∷ xs)) (joint_size w) (sizes w) (plus w.limit own rest)
+      (λ p h. (Grown p.0 p.1, ((h.0.0, h.1.0), joined k (yield p.0) (yields p.1) h.0.1 h.1.1), omega arith))
+      (λ f h. apart f h) both
+    where
+      joined : (j : TreeKind) (u v : List ℕ) → IsOfKind (behind j) u → IsOfKind (behind j) v → IsOfKind (behind j) (u ++ v)
+      joined Any u v hu hv = tt
+      joined Empty u v hu hv = joined_here Empty u v hu hv
+      joined (Begins b) u v hu hv = tt
+      joined (Ends a) u v hu hv = joined_here Empty u v hu hv
+
+      parted : (j : TreeKind) (u v : List ℕ) → IsOfKind (behind j) (u ++ v) → IsOfKind (behind j) u × IsOfKind (behind j) v
+      parted Any u v h = (tt, tt)
+      parted Empty u v h = ⊎_elim (λ o. o) (λ o. o) (joined_cases Empty u v h)
+      parted (Begins b) u v h = (tt, tt)
+      parted (Ends a) u v h = ⊎_elim (λ o. o) (λ o. o) (joined_cases Empty u v h)
+
+      apart : (f : Forest) → AreTreesOfKind g (behind k) (x ∷ xs) f → (p : Tree × Forest) × (IsTreeOfKind g (behind k) x p.0 × AreTreesOfKind g (behind k) xs p.1) × (joint_size w p ≤ sizes w f)
+      apart Bare h = absurd h.0
+      apart (Grown t f) h = let o = parted k (yield t) (yields f) h.1 in ((t, f), ((h.0.0, o.0), (h.0.1, o.1)), omega arith)

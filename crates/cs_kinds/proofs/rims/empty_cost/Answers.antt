@@ -1,0 +1,19 @@
+use Rattle.std.proofs.Common.{◌-◌, get_or, sym, ap, subst}
+use Rattle.cs_grammar.specs.declared.symbol.Symbol.{Symbol}
+use Rattle.cs_cost.specs.declared.cost.Cost.{Cost}
+use Rattle.cs_cost.specs.declared.cost.Cost.TheVariants.{Never}
+use Rattle.cs_kinds.specs.declared.kind.TreeKind.TheVariants.{Empty}
+use Rattle.cs_kinds.specs.KindCost.{IsKindCost}
+use Rattle.cs_kinds.proofs.KindCosts.{leaf_exact, symbol_told}
+use Rattle.cs_kinds.proofs.rims.empty_cost.Goals as goal
+
+pub returns-in-Token : goal.returns-in-Token
+returns-in-Token c =
+    let v = c.args.bases.now.costs.now in
+    subst (λ (x : Symbol). IsKindCost v Empty x Never) (sym c.in-Token.is) (leaf_exact v.weights v.grammar Empty c.in-Token.field-0)
+
+pub returns-in-Nonterminal : goal.returns-in-Nonterminal
+returns-in-Nonterminal c =
+    let v = c.args.bases.now.costs.now in
+    let at = symbol_told v.weights v.grammar Empty c.args.symbol c.in-Nonterminal.number c.args.bases.now.empty.now _ c.in-Nonterminal.is c.requires.symbol c.requires.bases in
+    subst (λ (i : _). IsKindCost v Empty c.args.symbol (get_or c.args.bases.now.empty.now i _)) (sym c.place_of.ensures) at

@@ -1,0 +1,70 @@
+use Rattle.std.proofs.Common.{◌≡◌, ◌+◌, ◌≤◌, List, Some, length, get_or, refl, sym, ap, ◌∙◌, subst, arith}
+use Rattle.std.specs.Prelude.{All}
+use Rattle.std.proofs.lemmas.List.Elements.{All-get_or}
+use Rattle.std.proofs.lemmas.Option.{slice_get-get_or}
+use Rattle.cs_grammar.specs.declared.symbol.Symbol.{Symbol}
+use Rattle.cs_grammar.specs.declared.symbol.Symbol.TheVariants.{Token}
+use Rattle.cs_grammar.specs.Grammar.{PlainGrammar, IsRule, IsSymbolOf}
+use Rattle.cs_embed.proofs.Lists.{rest_is}
+use Rattle.cs_kinds.specs.declared.rims.Rims.{Rims}
+use Rattle.cs_kinds.specs.Numbers.{number_of}
+use Rattle.cs_kinds.specs.Rims.{AreRimsTo}
+use Rattle.cs_kinds.specs.RimsOf.{IsStepCost}
+use Rattle.cs_kinds.proofs.Numbers.{wide}
+use Rattle.cs_kinds.proofs.RimLists.{rims_passed, rims_made, rims_next}
+use Rattle.cs_kinds.proofs.rims.push_rims.Goals as goal
+use Rattle.cs_kinds.proofs.rims.push_rims.Goals.{in-Some+in_ok-push+in_ok-push-2, in_default}
+
+pub symbol_number-to-requires-clause-tokens : goal.symbol_number-to-requires-clause-tokens
+symbol_number-to-requires-clause-tokens c = omega (arith, c.tokens.ensures, c.rules-rules.ensures.well_formed.tokens)
+
+pub symbol_number-to-requires-clause-symbol : goal.symbol_number-to-requires-clause-symbol
+symbol_number-to-requires-clause-symbol c =
+    let left = c.rule-rule.ensures.fits.left in
+    (omega (arith, c.left.ensures, left), omega (arith, c.left.ensures, left, c.rules-rules.ensures.well_formed.nonterminals))
+
+pub symbol_number-from-requires-clause-tokens : goal.symbol_number-from-requires-clause-tokens
+symbol_number-from-requires-clause-tokens c = omega (arith, c.tokens-in-Some.ensures, c.rules-rules.ensures.well_formed.tokens)
+
+pub symbol_number-from-requires-clause-symbol : goal.symbol_number-from-requires-clause-symbol
+symbol_number-from-requires-clause-symbol c =
+    let g = c.grammar-grammar.result.now in
+    let items = c.right-right.result.now in
+    let each = subst (λ (l : List Symbol). All (IsSymbolOf g) l) (sym c.right-right.ensures) c.rule-rule.ensures.fits.right in
+    wide g _ c.rules-rules.ensures.well_formed (All-get_or (IsSymbolOf g) items c.loop-place.place (Token 0) c.loop-place-test.true each)
+
+pub loop-place-preserved : goal.loop-place-preserved
+loop-place-preserved c =
+    let v = c.args.bases.now.costs.now in
+    let g = v.grammar in
+    let q = c.args.number in
+    let j = c.loop-place.place in
+    let p = c.rule-rule.result.now in
+    let items = c.right-right.result.now in
+    let x = get_or items j (Token 0) in
+    let rule = subst (λ (m : PlainGrammar). IsRule m q p) c.grammar-grammar.ensures c.rule-rule.ensures.rule in
+    let here = slice_get-get_or items j (Token 0) c.loop-place-test.true in
+    let others = c.beside_cost-others.result in
+    let tokens = c.tokens.ensures ∙ ap (λ (m : PlainGrammar). m.tokens) c.grammar-grammar.ensures in
+    elim c.match-step_cost.branch [
+      | in-Some+in_ok-push+in_ok-push-2 b ↦
+          let tokens' = b.tokens-in-Some.ensures ∙ ap (λ (m : PlainGrammar). m.tokens) c.grammar-grammar.ensures in
+          subst (λ (r : Rims). AreRimsTo v.weights g c.args.side q (j + 1) r.places.items r.steps.items) (sym b.rims-is)
+          (rims_made v.weights g c.args.side q j p rule items c.right-right.ensures x here _ (rest_is items (j + 1)) others c.beside_cost-others.ensures.cost _ _ c.loop-place.invariant
+          _ _ _ _ b.in_ok-push.ensures.items b.in_ok-push-2.ensures.items refl refl
+          (b.symbol_number-from.ensures ∙ ap (λ n. number_of n x) tokens')
+          (c.symbol_number-to.ensures ∙ ap (λ n. n + c.left.result) tokens ∙ ap (λ n. g.tokens + n) c.left.ensures)
+          (subst (IsStepCost v.weights.limit others) b.in-Some.is c.step_cost.ensures))
+      | in_default b ↦
+          subst (λ (r : Rims). AreRimsTo v.weights g c.args.side q (j + 1) r.places.items r.steps.items) (sym b.rims-is)
+          (rims_passed v.weights g c.args.side q j p rule items c.right-right.ensures x here _ (rest_is items (j + 1)) others c.beside_cost-others.ensures.cost _ _ c.loop-place.invariant
+          (subst (IsStepCost v.weights.limit others) b.in_default.is c.step_cost.ensures))
+    ]
+
+pub returns : goal.returns
+returns c =
+    let v = c.args.bases.now.costs.now in
+    let p = c.rule-rule.result.now in
+    let rule = subst (λ (m : PlainGrammar). IsRule m c.args.number p) c.grammar-grammar.ensures c.rule-rule.ensures.rule in
+    let all = subst (λ (s : List Symbol). length s ≤ c.loop-place.place) c.right-right.ensures c.loop-place-test.false in
+    rims_next v.weights v.grammar c.args.side _ _ p _ _ rule all c.loop-place.invariant

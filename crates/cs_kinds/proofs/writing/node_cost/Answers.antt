@@ -1,0 +1,26 @@
+use Rattle.std.proofs.Common.{◌≡◌, ◌+◌, ◌-◌, ◌<◌, List, length, sym, subst, ◌∙◌, arith}
+use Rattle.std.proofs.lemmas.List.{at_drop_all}
+use Rattle.cs_grammar.specs.declared.symbol.Symbol.{Symbol}
+use Rattle.cs_grammar.specs.declared.symbol.Symbol.TheVariants.{Token}
+use Rattle.cs_kinds.specs.Sweep.{IsSwept}
+use Rattle.cs_kinds.proofs.Placing.{left_from}
+use Rattle.cs_kinds.proofs.writing.node_cost.Goals as goal
+
+pub loop-index-init : goal.loop-index-init
+loop-index-init c =
+    let xs = c.args.symbols.now in
+    let none = at_drop_all (λ (l : List Symbol). l) xs (length xs) (omega arith) in
+    record {
+      is_kind = c.new-sweep.ensures.kind;
+      swept = subst (λ (l : List Symbol). IsSwept c.args.kinds.now.weights c.args.kinds.now.grammar l c.new-sweep.result) (sym none) (c.new-sweep.ensures.swept c.args.kinds.now.weights c.args.kinds.now.grammar);
+    }
+
+pub loop-index-preserved : goal.loop-index-preserved
+loop-index-preserved c =
+    let xs = c.args.symbols.now in
+    let next : c.loop-index.index - 1 + 1 ≡ c.loop-index.index = omega (arith, c.loop-index-test.true) in
+    let within : c.loop-index.index - 1 < length xs = omega (arith, c.loop-index-test.true) in
+    record {
+      is_kind = c.over-sweep.ensures.kind ∙ c.loop-index.invariant.is_kind;
+      swept = subst (λ (l : List Symbol). IsSwept c.args.kinds.now.weights c.args.kinds.now.grammar l c.over-sweep.result) (left_from xs _ _ (Token 0) next within) (c.over-sweep.ensures.swept _ c.loop-index.invariant.swept);
+    }

@@ -1,0 +1,11 @@
+-- The rows of all kinds, as the code has them.
+use Rattle.cs_grammar.specs.Grammar.{PlainGrammar}
+use Rattle.cs_grammar.specs.Weights.{Measure}
+use Rattle.cs_kinds.specs.declared.kinds.Rows.{Rows}
+use Rattle.cs_kinds.specs.Tables.{Tables, AreKindTables}
+
+abbrev pub tables_of : Rows → Tables
+tables_of rows = record { any = rows.any; empty = rows.empty; begins = rows.begins.items; ends = rows.ends.items }
+
+abbrev pub AreTablesOf : Measure → PlainGrammar → Rows → Type 0
+AreTablesOf w g rows = AreKindTables w g (tables_of rows)

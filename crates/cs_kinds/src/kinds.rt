@@ -1,0 +1,187 @@
+// What the least trees of each kind and symbol cost.
+
+ghost use Rattle.std.specs.Prelude.{◌≡◌, ◌-◌, ◌<◌, ◌≤◌, ◌↔◌, IsTrue, IfOk, length, All};
+ghost use Rattle.std.specs.Bool.{OnTrue, OnFalse};
+ghost use Rattle.cs_grammar.specs.Grammar.{IsNumberOf, IsSymbolOf};
+ghost use Rattle.cs_grammar.specs.Weights.{Weighs, weighed};
+ghost use Rattle.cs_grammar.specs.Tree.{size};
+ghost use Rattle.cs_cost.specs.Rank.{rank, IsCapped, cost_of, plus};
+ghost use Rattle.cs_kinds.specs.ListCost.{lesser};
+ghost use Rattle.cs_kinds.specs.Kinds.{IsKind};
+ghost use Rattle.cs_kinds.specs.RowsOf.{AreTablesOf};
+ghost use Rattle.cs_kinds.specs.Tables.{AreCosts};
+ghost use Rattle.cs_kinds.specs.KindCost.{IsKindCost};
+ghost use Rattle.cs_kinds.specs.Clauses.{IsLowered, IsUnlowered};
+
+use crate::empties::empty_row;
+use crate::kind::TreeKind;
+use crate::nets::{net_of, token_rows};
+use crate::rims::Bases;
+use crate::row::Row;
+use crate::rows::{at_most, leaf_cost, lesser, put_lower};
+use crate::side::Side;
+use cs_cost::{Cost, Costs, cost_of, plus};
+use cs_grammar::{Grammar, Symbol, Weights};
+use std::alloc::{AllocError, Global};
+use std::marker::Model;
+
+/// What the least trees of each kind and symbol of a grammar cost, by some weights.
+#[derive(Debug, Drop)]
+pub struct Kinds<'g> {
+    grammar: &'g Grammar,
+    weights: &'g Weights,
+    rows: Rows,
+}
+
+// What they cost of any trees, of those of empty yield, and of those that begin or end with each token.
+#[derive(Debug, Drop)]
+struct Rows {
+    any: Row,
+    empty: Row,
+    begins: Vec<Row>,
+    ends: Vec<Row>,
+}
+
+impl<'g> Model for Kinds<'g> {
+    ghost use Rattle.cs_grammar.specs.Weights.{Weighed};
+    ghost use Rattle.cs_kinds.specs.RowsOf.{AreTablesOf};
+
+    ghost Value = { Weighed };
+
+    ghost view = { λ k. record { grammar = k.grammar.now; weights = k.weights.now } };
+
+    ghost invariant = { λ k. AreTablesOf k.weights.now k.grammar.now k.rows };
+}
+
+impl<'g> Kinds<'g> {
+    /// The kinds of trees of a grammar, whose trees cost this.
+    pub fn new(alloc: Global, costs: &Costs<'g>) -> Result<Kinds<'g>, AllocError>
+        ensures { IfOk result (λ kinds. kinds ≡ costs.now) }
+    {
+        let any = any_row(alloc, costs)?;
+        let empty = empty_row(alloc, costs)?;
+        let bases = Bases {
+            costs,
+            empty: empty.costs(),
+        };
+        let begins = token_rows(alloc, costs, &net_of(alloc, &bases, Side::First)?)?;
+        let ends = token_rows(alloc, costs, &net_of(alloc, &bases, Side::Last)?)?;
+        let rows = Rows {
+            any,
+            empty,
+            begins,
+            ends,
+        };
+        Ok(kinds_of(costs.grammar(), costs.weights(), rows))
+    }
+
+    /// The grammar that these are the kinds of trees of.
+    pub fn grammar(&self) -> &'g Grammar
+        ensures { result.now ≡ self.now.grammar }
+    {
+        self.grammar
+    }
+
+    /// The lower of two costs, the first where they are as low. Both are capped by the limit of the weights.
+    pub fn lesser(&self, a: Cost, b: Cost) -> Cost
+        requires a { IsCapped self.now.weights.limit a }
+        requires b { IsCapped self.now.weights.limit b }
+        ensures cost { result ≡ lesser self.now.weights.limit a b }
+        ensures capped { IsCapped self.now.weights.limit result }
+    {
+        lesser(self.weights, a, b)
+    }
+
+    /// Writes a number's cost where it is below the table's, and says whether it was. Numbers count from 1.
+    pub fn lower(&self, table: &mut [Cost], number: u16, cost: Cost) -> bool
+        requires number { IsNumberOf (length table.old) number }
+        requires table { All (IsCapped self.now.weights.limit) table.old }
+        requires cost { IsCapped self.now.weights.limit cost }
+        ensures lowered { OnTrue result (IsLowered self.now.weights.limit number cost table.old table.new) }
+        ensures kept { OnFalse result (IsUnlowered self.now.weights.limit number cost table.old table.new) }
+    {
+        put_lower(self.weights, table, number, cost)
+    }
+
+    /// Whether a cost is no higher than another.
+    pub fn at_most(&self, a: Cost, b: Cost) -> bool
+        requires a { IsCapped self.now.weights.limit a }
+        requires b { IsCapped self.now.weights.limit b }
+        ensures { IsTrue result ↔ (rank self.now.weights.limit a ≤ rank self.now.weights.limit b) }
+    {
+        at_most(self.weights, a, b)
+    }
+
+    /// Costs together: `Large` where they are above the limit of the weights.
+    pub fn plus(&self, a: Cost, b: Cost) -> Cost
+        requires a { IsCapped self.now.weights.limit a }
+        requires b { IsCapped self.now.weights.limit b }
+        ensures { result ≡ plus self.now.weights.limit a b }
+    {
+        plus(a, b, self.weights.limit())
+    }
+
+    // What a node alone costs.
+    pub(crate) fn one(&self) -> Cost
+        ensures { result ≡ cost_of self.now.weights.limit 1 }
+    {
+        cost_of(1, self.weights.limit())
+    }
+
+    // Above this size no tree is written out.
+    pub(crate) fn limit(&self) -> u32
+        ensures limit { result ≡ self.now.weights.limit }
+        ensures weighs { Weighs self.now.weights self.now.grammar }
+    {
+        self.weights.limit()
+    }
+
+    /// What the least tree of a kind and a symbol costs: `Never` where there is none, `Large` where each is larger than the
+    /// limit of the weights, else the least size. The kind and the symbol are of the grammar.
+    pub fn told(&self, kind: TreeKind, symbol: Symbol) -> Cost
+        requires kind { IsKind self.now.grammar.tokens kind }
+        requires symbol { IsSymbolOf self.now.grammar symbol }
+        ensures { IsKindCost self.now kind symbol result }
+    {
+        match symbol {
+            Symbol::Token(token) => leaf_cost(self.weights, kind, token),
+            Symbol::Nonterminal(number) => self.row(kind)[number as usize - 1],
+        }
+    }
+
+    // The row of a kind.
+    fn row(&self, kind: TreeKind) -> &[Cost]
+        requires { IsKind self.now.grammar.tokens kind }
+        ensures { AreCosts self.now.weights self.now.grammar kind result.now }
+    {
+        match kind {
+            TreeKind::Any => self.rows.any.costs(),
+            TreeKind::Empty => self.rows.empty.costs(),
+            TreeKind::Begins(token) => self.rows.begins[token as usize - 1].costs(),
+            TreeKind::Ends(token) => self.rows.ends[token as usize - 1].costs(),
+        }
+    }
+}
+
+fn kinds_of<'g>(grammar: &'g Grammar, weights: &'g Weights, rows: Rows) -> Kinds<'g>
+    requires { AreTablesOf weights.now grammar.now rows }
+    ensures { result ≡ weighed grammar.now weights.now }
+{
+    Kinds {
+        grammar,
+        weights,
+        rows,
+    }
+}
+
+// What any trees cost, as `Costs` says.
+pub(crate) fn any_row(alloc: Global, costs: &Costs) -> Result<Row, AllocError>
+    ensures { IfOk result (λ row. AreCosts costs.now.weights costs.now.grammar TreeKind.Any row) }
+{
+    let mut row = Vec::new(alloc);
+    let _rules = costs.grammar().rules();
+    for place in 0..costs.grammar().nonterminals() {
+        row.push(costs.cost(Symbol::Nonterminal(place + 1)))?;
+    }
+    Ok(Row::new(row))
+}

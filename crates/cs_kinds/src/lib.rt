@@ -1,0 +1,29 @@
+//! Kinds of trees by what they yield: what the least tree of a kind and a symbol costs, and which one is chosen.
+//!
+//! A kind is any tree, one of empty yield, one that begins with a token, one that ends with it. The layers above make `Kinds` of
+//! the `Costs` of a grammar, ask them by `told` what the least tree of a kind and a symbol costs, get by `Sweep` what trees of
+//! the symbols of a right side cost that are of a kind together, and the codes of the chosen ones by `kind_into`. `Row` is a
+//! list of costs by number. The laws are functions that do nothing.
+//!
+//! Of the files in `specs/` these say what is meant: `Kinds`, `KindCost`, `ChosenKind` and `Laws`. The others are words of the
+//! parts: what their rows, rims, sweeps and pending parts hold.
+#![tactic(auto)]
+
+mod empties;
+mod kind;
+mod kinds;
+mod laws;
+mod nets;
+mod rims;
+mod row;
+mod rows;
+mod side;
+mod sweep;
+mod writing;
+
+pub use kind::TreeKind;
+pub use kinds::Kinds;
+pub use laws::{chosen_of_kind_exists, one_chosen_of_kind};
+pub use row::Row;
+pub use sweep::Sweep;
+pub use writing::kind_into;

@@ -1,0 +1,84 @@
+// The rows of the trees that have a token at a side of their yield, by the least ways of their rims.
+
+ghost use Rattle.std.specs.Prelude.{◌≡◌, IfOk};
+ghost use Rattle.cs_grammar.specs.Grammar.{IsNumberOf};
+ghost use Rattle.cs_embed.specs.Links.{told_cost};
+ghost use Rattle.cs_kinds.specs.Sides.{kind_on};
+ghost use Rattle.cs_kinds.specs.Tables.{AreCosts};
+ghost use Rattle.cs_kinds.specs.RimsOf.{AreBases};
+ghost use Rattle.cs_kinds.specs.Nets.{IsNetOf, AreRowsOn};
+
+use crate::rims::{Bases, Place, all_rims};
+use crate::row::Row;
+use crate::side::Side;
+use cs_cost::{Cost, Costs};
+use cs_ways::{Reach, Source, Steps, least_ways};
+use std::alloc::{AllocError, Global};
+
+// The steps of one side between all symbols, and where each leads.
+#[derive(Debug, Drop)]
+pub(crate) struct Net {
+    pub(crate) side: Side,
+    pub(crate) places: Vec<Place>,
+    pub(crate) steps: Steps,
+}
+
+pub(crate) fn net_of(alloc: Global, bases: &Bases, side: Side) -> Result<Net, AllocError>
+    requires { AreBases bases.now }
+    ensures { IfOk result (λ net. (net.side ≡ side) × IsNetOf bases.now.costs.now net) }
+{
+    let grammar = bases.costs.grammar();
+    let _rules = grammar.rules();
+    let rims = all_rims(alloc, bases, side)?;
+    let steps = Steps::new(alloc, grammar.tokens() + grammar.nonterminals(), rims.steps)?;
+    Ok(Net {
+        side,
+        places: rims.places,
+        steps,
+    })
+}
+
+// What is told of a node, as a cost.
+pub(crate) fn reach_cost(reach: Reach) -> Cost
+    ensures { result ≡ told_cost reach }
+{
+    match reach {
+        Reach::Never => Cost::Never,
+        Reach::Large => Cost::Large,
+        Reach::Least { cost, .. } => Cost::Least(cost),
+    }
+}
+
+// What the least trees of each nonterminal cost that have this token at the side.
+fn token_row(alloc: Global, costs: &Costs, net: &Net, token: u16) -> Result<Row, AllocError>
+    requires net { IsNetOf costs.now net.now }
+    requires token { IsNumberOf costs.now.grammar.tokens token }
+    ensures { IfOk result (AreCosts costs.now.weights costs.now.grammar (kind_on net.now.side token)) }
+{
+    let weights = costs.weights();
+    let _list = net.steps.list();
+    let _rules = costs.grammar().rules();
+    let source = Source {
+        node: token,
+        cost: weights.number(token),
+    };
+    let table = least_ways(alloc, &net.steps, &[source], weights.limit())?;
+    let tokens = costs.grammar().tokens() as usize;
+    let mut row = Vec::new(alloc);
+    for place in 0..costs.grammar().nonterminals() {
+        row.push(reach_cost(table[tokens + place as usize]))?;
+    }
+    Ok(Row::new(row))
+}
+
+// The rows of all tokens.
+pub(crate) fn token_rows(alloc: Global, costs: &Costs, net: &Net) -> Result<Vec<Row>, AllocError>
+    requires { IsNetOf costs.now net.now }
+    ensures { IfOk result (λ rows. AreRowsOn costs.now net.now.side rows.items) }
+{
+    let mut rows = Vec::new(alloc);
+    for place in 0..costs.grammar().tokens() {
+        rows.push(token_row(alloc, costs, net, place + 1)?)?;
+    }
+    Ok(rows)
+}

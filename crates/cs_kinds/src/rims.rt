@@ -1,0 +1,195 @@
+// The steps of rims: from a child that has a token at a side of its yield to its node.
+
+ghost use Rattle.std.specs.Prelude.{◌≡◌, ◌+◌, ◌≤◌, IfOk, OnOk, length, All};
+ghost use Rattle.cs_grammar.specs.Grammar.{IsNumberOf, IsSymbol, IsSymbolOf};
+ghost use Rattle.cs_cost.specs.Rank.{IsCapped, cost_of, plus};
+ghost use Rattle.cs_kinds.specs.Numbers.{number_of};
+ghost use Rattle.cs_kinds.specs.Sides.{before_on, behind_on};
+ghost use Rattle.cs_kinds.specs.KindCost.{IsKindCost, AreKindCost};
+ghost use Rattle.cs_kinds.specs.RimsOf.{AreBases, IsBesideCostOf, IsStepCost, AreRimsUpTo, AreRimsOf};
+
+use crate::kind::TreeKind;
+use crate::side::Side;
+use cs_cost::{Cost, Costs, cost_of, plus};
+use cs_grammar::{Symbol, number_of, place_of};
+use cs_ways::Step;
+use std::alloc::{AllocError, Global};
+
+// Where a symbol stands: at this place of a rule's right side.
+#[derive(Clone, Copy, Debug)]
+pub(crate) struct Place {
+    pub(crate) rule: u16,
+    pub(crate) place: u16,
+}
+
+// What any trees cost, and what those of empty yield do.
+#[derive(Clone, Copy, Debug)]
+pub(crate) struct Bases<'a, 'g> {
+    pub(crate) costs: &'a Costs<'g>,
+    pub(crate) empty: &'a [Cost],
+}
+
+// The steps of one side, and the place at which each leads. Symbols are numbered in one, tokens first.
+#[derive(Debug, Drop)]
+pub(crate) struct Rims {
+    pub(crate) places: Vec<Place>,
+    pub(crate) steps: Vec<Step>,
+}
+
+// Costs together, by the limit of the weights.
+pub(crate) fn joint_cost(costs: &Costs, a: Cost, b: Cost) -> Cost
+    requires a { IsCapped costs.now.weights.limit a }
+    requires b { IsCapped costs.now.weights.limit b }
+    ensures cost { result ≡ plus costs.now.weights.limit a b }
+    ensures capped { IsCapped costs.now.weights.limit result }
+{
+    plus(a, b, costs.weights().limit())
+}
+
+// What a node alone costs.
+pub(crate) fn one_node(costs: &Costs) -> Cost
+    ensures cost { result ≡ cost_of costs.now.weights.limit 1 }
+    ensures capped { IsCapped costs.now.weights.limit result }
+{
+    cost_of(1, costs.weights().limit())
+}
+
+fn empty_cost(bases: &Bases, symbol: Symbol) -> Cost
+    requires bases { AreBases bases.now }
+    requires symbol { IsSymbolOf bases.now.costs.now.grammar symbol }
+    ensures { IsKindCost bases.now.costs.now TreeKind.Empty symbol result }
+{
+    match symbol {
+        Symbol::Token(_) => Cost::Never,
+        Symbol::Nonterminal(number) => bases.empty[place_of(number)],
+    }
+}
+
+// What trees of these symbols cost whose yields are empty.
+pub(crate) fn empty_sum(bases: &Bases, symbols: &[Symbol]) -> Cost
+    requires bases { AreBases bases.now }
+    requires symbols { All (IsSymbolOf bases.now.costs.now.grammar) symbols.now }
+    ensures cost { AreKindCost bases.now.costs.now TreeKind.Empty symbols.now result }
+    ensures capped { IsCapped bases.now.costs.now.weights.limit result }
+{
+    let mut sum = Cost::Least(0);
+    for place in (0..symbols.len()).rev() {
+        sum = joint_cost(bases.costs, empty_cost(bases, symbols[place]), sum);
+    }
+    sum
+}
+
+// What trees of these symbols cost.
+pub(crate) fn any_sum(bases: &Bases, symbols: &[Symbol]) -> Cost
+    requires { All (IsSymbolOf bases.now.costs.now.grammar) symbols.now }
+    ensures cost { AreKindCost bases.now.costs.now TreeKind.Any symbols.now result }
+    ensures capped { IsCapped bases.now.costs.now.weights.limit result }
+{
+    bases.costs.sum(symbols)
+}
+
+fn before_cost(bases: &Bases, side: Side, symbols: &[Symbol]) -> Cost
+    requires bases { AreBases bases.now }
+    requires symbols { All (IsSymbolOf bases.now.costs.now.grammar) symbols.now }
+    ensures cost { AreKindCost bases.now.costs.now (before_on side) symbols.now result }
+    ensures capped { IsCapped bases.now.costs.now.weights.limit result }
+{
+    match side {
+        Side::First => empty_sum(bases, symbols),
+        Side::Last => any_sum(bases, symbols),
+    }
+}
+
+fn behind_cost(bases: &Bases, side: Side, symbols: &[Symbol]) -> Cost
+    requires bases { AreBases bases.now }
+    requires symbols { All (IsSymbolOf bases.now.costs.now.grammar) symbols.now }
+    ensures cost { AreKindCost bases.now.costs.now (behind_on side) symbols.now result }
+    ensures capped { IsCapped bases.now.costs.now.weights.limit result }
+{
+    match side {
+        Side::First => any_sum(bases, symbols),
+        Side::Last => empty_sum(bases, symbols),
+    }
+}
+
+// What a node costs with the trees beside a child that has a token at the side itself.
+fn beside_cost(bases: &Bases, side: Side, before: &[Symbol], behind: &[Symbol]) -> Cost
+    requires bases { AreBases bases.now }
+    requires before { All (IsSymbolOf bases.now.costs.now.grammar) before.now }
+    requires behind { All (IsSymbolOf bases.now.costs.now.grammar) behind.now }
+    ensures cost { IsBesideCostOf bases.now.costs.now side before.now behind.now result }
+    ensures capped { IsCapped bases.now.costs.now.weights.limit result }
+{
+    let first = before_cost(bases, side, before);
+    let last = behind_cost(bases, side, behind);
+    joint_cost(
+        bases.costs,
+        one_node(bases.costs),
+        joint_cost(bases.costs, first, last),
+    )
+}
+
+// A cost as that of a step, if there is one.
+pub(crate) fn step_cost(costs: &Costs, cost: Cost) -> Option<u32>
+    requires { IsCapped costs.now.weights.limit cost }
+    ensures { IsStepCost costs.now.weights.limit cost result }
+{
+    match cost {
+        Cost::Never => None,
+        Cost::Large => Some(costs.weights().limit() + 1),
+        Cost::Least(size) => Some(size),
+    }
+}
+
+// The number of a symbol among all, tokens first.
+pub(crate) fn symbol_number(tokens: u16, symbol: Symbol) -> u16
+    requires tokens { tokens ≤ 512 }
+    requires symbol { IsSymbol 512 1024 symbol }
+    ensures { result ≡ number_of tokens symbol }
+{
+    match symbol {
+        Symbol::Token(token) => token,
+        Symbol::Nonterminal(number) => tokens + number,
+    }
+}
+
+// Appends the steps of a rule, in the order of their places.
+fn push_rims(bases: &Bases, side: Side, number: u16, rims: &mut Rims) -> Result<(), AllocError>
+    requires bases { AreBases bases.now }
+    requires number { IsNumberOf (length bases.now.costs.now.grammar.rules) number }
+    requires rims { AreRimsUpTo bases.now.costs.now side number rims.old }
+    ensures { OnOk result (AreRimsUpTo bases.now.costs.now side (number + 1) rims.new) }
+{
+    let grammar = bases.costs.grammar();
+    let _rules = grammar.rules();
+    let rule = grammar.rule(number);
+    let right = rule.right();
+    let to = symbol_number(grammar.tokens(), Symbol::Nonterminal(rule.left()));
+    for (place, symbol) in right.iter().enumerate() {
+        let others = beside_cost(bases, side, &right[..place], &right[place + 1..]);
+        if let Some(cost) = step_cost(bases.costs, others) {
+            let from = symbol_number(grammar.tokens(), *symbol);
+            rims.places.push(Place {
+                rule: number,
+                place: place as u16,
+            })?;
+            rims.steps.push(Step { from, to, cost })?;
+        }
+    }
+    Ok(())
+}
+
+// The steps of a side, in the order of their rules and places.
+pub(crate) fn all_rims(alloc: Global, bases: &Bases, side: Side) -> Result<Rims, AllocError>
+    requires { AreBases bases.now }
+    ensures { IfOk result (AreRimsOf bases.now.costs.now side) }
+{
+    let mut rims = Rims {
+        places: Vec::new(alloc),
+        steps: Vec::new(alloc),
+    };
+    for place in 0..bases.costs.grammar().rules().len() {
+        push_rims(bases, side, number_of(place), &mut rims)?;
+    }
+    Ok(rims)
+}

@@ -1,0 +1,73 @@
+// A sweep over a right side, from its last symbol to its first.
+
+ghost use Rattle.std.specs.Prelude.{◌≡◌, [], List};
+ghost use Rattle.cs_grammar.specs.declared.symbol.Symbol.{Symbol};
+ghost use Rattle.cs_grammar.specs.Grammar.{PlainGrammar, IsSymbolOf};
+ghost use Rattle.cs_grammar.specs.Weights.{Measure};
+ghost use Rattle.cs_kinds.specs.Kinds.{IsKind};
+ghost use Rattle.cs_kinds.specs.Sweep.{IsSwept};
+ghost use Rattle.cs_kinds.specs.Clauses.{AreWaysOver, IsSweptOver};
+
+use crate::kind::TreeKind;
+use crate::kinds::Kinds;
+use crate::rows::bare_cost;
+use cs_cost::Cost;
+use cs_grammar::Symbol;
+
+/// What trees of the swept symbols cost: the `whole` is that of the least ones that are of the kind together, the `rest` that of
+/// the least ones behind a tree of the kind. Symbols are swept from the last of a right side to its first.
+#[derive(Clone, Copy, Debug)]
+pub struct Sweep {
+    pub kind: TreeKind,
+    pub whole: Cost,
+    pub rest: Cost,
+}
+
+// What lists of trees cost whose first tree is of a kind itself, and whose others are of the kind.
+#[derive(Clone, Copy, Debug)]
+pub(crate) struct Ways {
+    pub(crate) here: Cost,
+    pub(crate) later: Cost,
+}
+
+impl Sweep {
+    /// Before any symbol is swept.
+    pub fn new(kind: TreeKind) -> Sweep
+        ensures kind { result.kind ≡ kind }
+        ensures swept { (w : Measure) (g : PlainGrammar) → IsSwept w g [] result }
+    {
+        Sweep {
+            kind,
+            whole: bare_cost(kind),
+            rest: bare_cost(kind.behind()),
+        }
+    }
+
+    // The two ways with one more symbol in front.
+    pub(crate) fn ways(&self, kinds: &Kinds, symbol: Symbol) -> Ways
+        requires kind { IsKind kinds.now.grammar.tokens self.now.kind }
+        requires symbol { IsSymbolOf kinds.now.grammar symbol }
+        requires swept { (xs : List Symbol) × IsSwept kinds.now.weights kinds.now.grammar xs self.now }
+        ensures { AreWaysOver kinds.now self.now symbol result }
+    {
+        let here = kinds.plus(kinds.told(self.kind, symbol), self.rest);
+        let later = kinds.plus(kinds.told(self.kind.before(), symbol), self.whole);
+        Ways { here, later }
+    }
+
+    /// One symbol more in front of those that are swept.
+    pub fn over(self, kinds: &Kinds, symbol: Symbol) -> Sweep
+        requires kind { IsKind kinds.now.grammar.tokens self.kind }
+        requires symbol { IsSymbolOf kinds.now.grammar symbol }
+        requires swept { (xs : List Symbol) × IsSwept kinds.now.weights kinds.now.grammar xs self }
+        ensures kind { result.kind ≡ self.kind }
+        ensures swept { IsSweptOver kinds.now self symbol result }
+    {
+        let ways = self.ways(kinds, symbol);
+        Sweep {
+            kind: self.kind,
+            whole: kinds.lesser(ways.here, ways.later),
+            rest: kinds.plus(kinds.told(self.kind.behind(), symbol), self.rest),
+        }
+    }
+}

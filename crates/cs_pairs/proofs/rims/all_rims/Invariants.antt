@@ -1,6 +1,0 @@
-use Rattle.std.proofs.Common.{◌+◌}
-use Rattle.cs_pairs.specs.RimsOf.{AreRimsUpTo}
-use Rattle.cs_pairs.proofs.rims.all_rims.Given as goal
-
-abbrev pub invariant-loop-place : goal.invariant-loop-place
-invariant-loop-place l = AreRimsUpTo l.bases.costs.now l.side (l.place + 1) l.rims

@@ -1,5 +1,0 @@
-use Rattle.cs_pairs.specs.Rims.{AreRimsTo}
-use Rattle.cs_pairs.proofs.rims.push_rims.Given as goal
-
-abbrev pub invariant-loop-place : goal.invariant-loop-place
-invariant-loop-place l = AreRimsTo l.bases.costs.now.weights l.bases.costs.now.grammar l.side l.number l.place l.rims.places.items l.rims.steps.items
