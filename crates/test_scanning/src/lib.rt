@@ -2,8 +2,14 @@
 #![tactic(auto)]
 
 #[cfg(test)]
+mod automaton;
+#[cfg(test)]
 mod graph;
 #[cfg(test)]
 mod items;
 #[cfg(test)]
 mod patterns;
+#[cfg(test)]
+mod rules;
+#[cfg(test)]
+mod scan;

@@ -1,0 +1,68 @@
+// The states of automata, and how many sets of positions there may be.
+
+use crate::rules::rule;
+use cs_automaton::{Automaton, AutomatonError};
+use cs_pattern::PatternError;
+use std::alloc::Global;
+use std::test::Fail;
+
+// The first rule after the text, or 0 where no rule matches it; None where none matches a text that begins with it.
+fn rule_after(automaton: &Automaton<'_>, text: &[u8]) -> Option<u16> {
+    let mut state = automaton.start();
+    for i in 0..text.len() {
+        state = automaton.step(state, text[i])?;
+    }
+    Some(automaton.first_rule(state).unwrap_or(0))
+}
+
+// Worked by hand: `(ab)+` matches ab, abab and so on, and `a` the one letter.
+#[test]
+fn rules_after_texts(rt: HostRuntime) -> Result<(), Fail> {
+    let alloc = rt.alloc();
+    let rules = [rule(alloc, "(ab)+")?, rule(alloc, "a")?];
+    let automaton = Automaton::new(alloc, &rules)?;
+    let cases = [
+        ("", Some(0)),
+        ("a", Some(2)),
+        ("ab", Some(1)),
+        ("aba", Some(0)),
+        ("abab", Some(1)),
+        ("b", None),
+        ("aa", None),
+        ("abb", None),
+    ];
+    for (text, want) in cases {
+        assert_eq!(rt; rule_after(&automaton, text.as_bytes()), want, "{text}");
+    }
+    Ok(())
+}
+
+// What making the automaton of one rule answers, with the first rule at the start.
+fn made(alloc: Global, text: &str) -> Result<Result<Option<u16>, AutomatonError>, PatternError> {
+    let rules = [rule(alloc, text)?];
+    match Automaton::new(alloc, &rules) {
+        Ok(automaton) => Ok(Ok(automaton.first_rule(automaton.start()))),
+        Err(error) => Ok(Err(error)),
+    }
+}
+
+// Worked by hand: which of the last n + 1 letters are an a is what `(a|b)*a(a|b){n}` has to know, so it has 2 to the power of
+// n + 1 sets.
+#[test]
+fn rules_at_the_start(rt: HostRuntime) -> Result<(), Fail> {
+    let alloc = rt.alloc();
+    let too_many = Err(AutomatonError::TooManyStates { most: 16_384 });
+    let cases = [
+        ("a", Ok(None)),
+        ("a*", Ok(Some(1))),
+        ("\"\"", Ok(Some(1))),
+        ("(a|b)*a(a|b){13}", Ok(None)),
+        ("(a|b)*a(a|b){14}", too_many),
+    ];
+    for (text, want) in cases {
+        let found = format!(in alloc; "{:?}", made(alloc, text)?)?;
+        let want = format!(in alloc; "{want:?}")?;
+        assert_eq!(rt; found.as_str(), want.as_str(), "{text}");
+    }
+    Ok(())
+}
