@@ -6,7 +6,7 @@ use Rattle.cs_pattern_items.specs.declared.front.Stop.TheVariants.{Syntax}
 use Rattle.cs_pattern.specs.declared.fault.PatternFault.{PatternFault}
 use Rattle.cs_pattern.specs.declared.fault.PatternFault.TheVariants as faults
 use Rattle.cs_pattern_items.specs.declared.front.Stop.TheVariants as stops
-use Rattle.cs_pattern_items.specs.ByteKind.{has_at}
+use Rattle.cs_bytes.specs.Places.{has_at}
 use Rattle.cs_pattern_items.specs.Items.{Item, class, quoted, named, opening, closing, bar, repetition, Placed}
 use Rattle.cs_pattern_items.specs.Spelling.{Spells, IsStoppedBy}
 

@@ -7,7 +7,8 @@ ghost use Rattle.cs_pattern.specs.ReadView.{IsNext, StopsReading};
 
 use crate::fault::{PatternError, PatternFault};
 use crate::place::{Place, beginning, behind, may_end};
-use cs_pattern_items::{Front, Item, Placed, Stop, from_offset, front_of, has_at};
+use cs_bytes::{from_offset, has_at};
+use cs_pattern_items::{Front, Item, Placed, Stop, front_of};
 use std::alloc::{AllocError, Global};
 
 /// What comes next in a text: an item with its size and the place behind it, or where reading stops.

@@ -9,13 +9,16 @@ use Rattle.cs_bytes.proofs.Fronts.{front_got, and_true}
 use Rattle.cs_bytes.proofs.Runs.{run-stops, run-passes}
 use Rattle.cs_pattern_items.specs.declared.item.Repetition.{Repetition}
 use Rattle.cs_pattern_items.specs.declared.item.Repetition.TheVariants.{Exactly, AtLeast, Between}
-use Rattle.cs_pattern_items.specs.ByteKind.{is_decimal, is_letter, begins_name, is_name_byte, has_at, is_byte}
-use Rattle.cs_pattern_items.specs.Character.{number}
+use Rattle.cs_bytes.specs.Classes.{is_digit, is_letter, begins_word}
+use Rattle.cs_bytes.specs.Places.{has_at}
+use Rattle.cs_pattern_items.specs.ByteKind.{is_name_byte}
+use Rattle.cs_bytes.specs.Digits.{number_of}
 use Rattle.cs_pattern_items.specs.Interval.{exactly, at_least, between, sized, digits, open_interval, longer, interval, name}
 use Rattle.cs_pattern_items.specs.Spelling.{IsNumber, IsInterval, IsName}
 use Rattle.cs_pattern_items.proofs.Picked.{not_equal}
 use Rattle.cs_pattern_items.proofs.Moving.{chosen}
-use Rattle.cs_pattern_items.proofs.Spelled.{unsome, no_some, true_or_false, differ, got_at}
+use Rattle.cs_pattern_items.proofs.Spelled.{unsome, no_some, true_or_false, differ}
+use Rattle.cs_bytes.proofs.Fronts.{got_at}
 
 -- ---- a byte behind a list
 
@@ -24,7 +27,8 @@ at_end [] c rest = refl
 at_end (x ∷ xs) c rest = at_end xs c rest
 
 pub has_at_end : (xs : List ℕ) (b c : ℕ) (rest : List ℕ) → has_at (xs ++ c ∷ rest) (length xs) b ≡ (c == b)
-has_at_end xs b c rest = ap (is_byte b) (at_end xs c rest)
+has_at_end [] b c rest = refl
+has_at_end (x ∷ xs) b c rest = has_at_end xs b c rest
 
 drop_end : (xs rest : List ℕ) → drop (length xs) (xs ++ rest) ≡ rest
 drop_end [] rest = refl
@@ -45,17 +49,17 @@ module _ (text : List ℕ) (size : ℕ) (is : size ≡ digits text) (some : size
   closing : (b : ℕ) (v : Bool) → has_at text size b ≡ v → has_at text (digits text) b ≡ v
   closing b v e = ap (λ k. has_at text k b) (sym is) ∙ e
 
-  pub interval_alone : has_at text size 125 ≡ true → interval text ≡ sized (exactly (number 10 (take size text))) (size + 1)
+  pub interval_alone : has_at text size 125 ≡ true → interval text ≡ sized (exactly (number_of 10 (take size text))) (size + 1)
   unfolding interval
-  interval_alone e = let h = no_zero in let f = closing 125 true e in rw (h, f) (ap (λ k. sized (exactly (number 10 (take k text))) (k + 1)) (sym is))
+  interval_alone e = let h = no_zero in let f = closing 125 true e in rw (h, f) (ap (λ k. sized (exactly (number_of 10 (take k text))) (k + 1)) (sym is))
 
-  pub interval_comma : has_at text size 125 ≡ false → has_at text size 44 ≡ true → interval text ≡ longer (size + 1) (open_interval (number 10 (take size text)) (drop (size + 1) text))
+  pub interval_comma : has_at text size 125 ≡ false → has_at text size 44 ≡ true → interval text ≡ longer (size + 1) (open_interval (number_of 10 (take size text)) (drop (size + 1) text))
   unfolding interval
   interval_comma e c =
       let h = no_zero in
       let f = closing 125 false e in
       let g = closing 44 true c in
-      rw (h, f, g) (ap (λ k. longer (k + 1) (open_interval (number 10 (take k text)) (drop (k + 1) text))) (sym is))
+      rw (h, f, g) (ap (λ k. longer (k + 1) (open_interval (number_of 10 (take k text)) (drop (k + 1) text))) (sym is))
 
   pub interval_other : has_at text size 125 ≡ false → has_at text size 44 ≡ false → interval text ≡ None
   unfolding interval
@@ -75,12 +79,12 @@ module _ (n : ℕ) (text : List ℕ) (size : ℕ) (is : size ≡ digits text) wh
       let k : digits text + 1 ≡ 1 = omega (arith, g) in
       rw (f, h, k) refl
 
-  open_long : has_at text size 125 ≡ true → size ≢ 0 → open_interval n text ≡ sized (between n (number 10 (take size text))) (size + 1)
+  open_long : has_at text size 125 ≡ true → size ≢ 0 → open_interval n text ≡ sized (between n (number_of 10 (take size text))) (size + 1)
   unfolding open_interval
   open_long e ne =
       let f : has_at text (digits text) 125 ≡ true = ap (λ k. has_at text k 125) (sym is) ∙ e in
       let h : (digits text == 0) ≡ false = not_equal (digits text) 0 (λ z. ne (is ∙ z)) in
-      rw (f, h) (ap (λ k. sized (between n (number 10 (take k text))) (k + 1)) (sym is))
+      rw (f, h) (ap (λ k. sized (between n (number_of 10 (take k text))) (k + 1)) (sym is))
 
   open_none : has_at text size 125 ≡ false → open_interval n text ≡ None
   unfolding open_interval
@@ -123,7 +127,7 @@ between_some n m r e =
 
 -- ---- what is an interval is read
 
-no_digit_brace : is_decimal 125 ≡ false
+no_digit_brace : is_digit 125 ≡ false
 no_digit_brace = refl
 
 long : (xs : List ℕ) → IsNumber xs → length xs ≢ 0
@@ -132,30 +136,30 @@ long xs p z = omega (arith, p.0, z)
 pub complete_interval : (bytes rest : List ℕ) (r : Repetition) → IsInterval bytes r → interval (bytes ++ 125 ∷ rest) ≡ Some (r, length bytes + 1)
 complete_interval _ rest _ (IsInterval.exactly ds p lo hi) =
     let text : List ℕ = ds ++ 125 ∷ rest in
-    interval_alone (ds ++ 125 ∷ rest) (length ds) (sym (run_then is_decimal ds 125 rest p.1 refl)) (long ds p) (has_at_end ds 125 125 rest)
-    ∙ ap (λ (xs : List ℕ). sized (exactly (number 10 xs)) (length ds + 1)) (take_at ds (125 ∷ rest) (length ds) refl)
-    ∙ ap (λ o. sized o (length ds + 1)) (exactly_is (number 10 ds) lo hi)
+    interval_alone (ds ++ 125 ∷ rest) (length ds) (sym (run_then is_digit ds 125 rest p.1 refl)) (long ds p) (has_at_end ds 125 125 rest)
+    ∙ ap (λ (xs : List ℕ). sized (exactly (number_of 10 xs)) (length ds + 1)) (take_at ds (125 ∷ rest) (length ds) refl)
+    ∙ ap (λ o. sized o (length ds + 1)) (exactly_is (number_of 10 ds) lo hi)
 complete_interval _ rest _ (IsInterval.at_least ds p hi) =
     let is : (ds ++ 44 ∷ []) ++ 125 ∷ rest ≡ ds ++ 44 ∷ (125 ∷ rest) = append_assoc ds (44 ∷ []) (125 ∷ rest) in
     let size : length ds + 1 + 1 ≡ length (ds ++ 44 ∷ []) + 1 = omega (arith, length-append ds (44 ∷ [])) in
     ap interval is
-    ∙ interval_comma (ds ++ 44 ∷ (125 ∷ rest)) (length ds) (sym (run_then is_decimal ds 44 (125 ∷ rest) p.1 refl)) (long ds p) (has_at_end ds 125 44 (125 ∷ rest)) (has_at_end ds 44 44 (125 ∷ rest))
-    ∙ ap (λ (xs : List ℕ). longer (length ds + 1) (open_interval (number 10 xs) (drop (length ds + 1) (ds ++ 44 ∷ (125 ∷ rest))))) (take_at ds (44 ∷ (125 ∷ rest)) (length ds) refl)
-    ∙ ap (λ (xs : List ℕ). longer (length ds + 1) (open_interval (number 10 ds) xs)) (drop_behind ds 44 (125 ∷ rest))
-    ∙ ap (longer (length ds + 1)) (open_short (number 10 ds) (125 ∷ rest) 0 refl refl refl ∙ ap (λ o. sized o 1) (at_least_is (number 10 ds) hi))
-    ∙ ap (λ k. Some (AtLeast (number 10 ds), k)) size
+    ∙ interval_comma (ds ++ 44 ∷ (125 ∷ rest)) (length ds) (sym (run_then is_digit ds 44 (125 ∷ rest) p.1 refl)) (long ds p) (has_at_end ds 125 44 (125 ∷ rest)) (has_at_end ds 44 44 (125 ∷ rest))
+    ∙ ap (λ (xs : List ℕ). longer (length ds + 1) (open_interval (number_of 10 xs) (drop (length ds + 1) (ds ++ 44 ∷ (125 ∷ rest))))) (take_at ds (44 ∷ (125 ∷ rest)) (length ds) refl)
+    ∙ ap (λ (xs : List ℕ). longer (length ds + 1) (open_interval (number_of 10 ds) xs)) (drop_behind ds 44 (125 ∷ rest))
+    ∙ ap (longer (length ds + 1)) (open_short (number_of 10 ds) (125 ∷ rest) 0 refl refl refl ∙ ap (λ o. sized o 1) (at_least_is (number_of 10 ds) hi))
+    ∙ ap (λ k. Some (AtLeast (number_of 10 ds), k)) size
 complete_interval _ rest _ (IsInterval.between ds es p q le lo hi) =
     let is : (ds ++ 44 ∷ es) ++ 125 ∷ rest ≡ ds ++ 44 ∷ (es ++ 125 ∷ rest) = append_assoc ds (44 ∷ es) (125 ∷ rest) in
     let size : length ds + 1 + (length es + 1) ≡ length (ds ++ 44 ∷ es) + 1 = omega (arith, length-append ds (44 ∷ es)) in
     ap interval is
-    ∙ interval_comma (ds ++ 44 ∷ (es ++ 125 ∷ rest)) (length ds) (sym (run_then is_decimal ds 44 (es ++ 125 ∷ rest) p.1 refl)) (long ds p) (has_at_end ds 125 44 (es ++ 125 ∷ rest)) (has_at_end ds 44 44 (es ++ 125 ∷ rest))
-    ∙ ap (λ (xs : List ℕ). longer (length ds + 1) (open_interval (number 10 xs) (drop (length ds + 1) (ds ++ 44 ∷ (es ++ 125 ∷ rest))))) (take_at ds (44 ∷ (es ++ 125 ∷ rest)) (length ds) refl)
-    ∙ ap (λ (xs : List ℕ). longer (length ds + 1) (open_interval (number 10 ds) xs)) (drop_behind ds 44 (es ++ 125 ∷ rest))
+    ∙ interval_comma (ds ++ 44 ∷ (es ++ 125 ∷ rest)) (length ds) (sym (run_then is_digit ds 44 (es ++ 125 ∷ rest) p.1 refl)) (long ds p) (has_at_end ds 125 44 (es ++ 125 ∷ rest)) (has_at_end ds 44 44 (es ++ 125 ∷ rest))
+    ∙ ap (λ (xs : List ℕ). longer (length ds + 1) (open_interval (number_of 10 xs) (drop (length ds + 1) (ds ++ 44 ∷ (es ++ 125 ∷ rest))))) (take_at ds (44 ∷ (es ++ 125 ∷ rest)) (length ds) refl)
+    ∙ ap (λ (xs : List ℕ). longer (length ds + 1) (open_interval (number_of 10 ds) xs)) (drop_behind ds 44 (es ++ 125 ∷ rest))
     ∙ ap (longer (length ds + 1))
-    (open_long (number 10 ds) (es ++ 125 ∷ rest) (length es) (sym (run_then is_decimal es 125 rest q.1 refl)) (has_at_end es 125 125 rest) (long es q)
-    ∙ ap (λ (xs : List ℕ). sized (between (number 10 ds) (number 10 xs)) (length es + 1)) (take_at es (125 ∷ rest) (length es) refl)
-    ∙ ap (λ o. sized o (length es + 1)) (between_is (number 10 ds) (number 10 es) le lo hi))
-    ∙ ap (λ k. Some (Between (number 10 ds) (number 10 es), k)) size
+    (open_long (number_of 10 ds) (es ++ 125 ∷ rest) (length es) (sym (run_then is_digit es 125 rest q.1 refl)) (has_at_end es 125 125 rest) (long es q)
+    ∙ ap (λ (xs : List ℕ). sized (between (number_of 10 ds) (number_of 10 xs)) (length es + 1)) (take_at es (125 ∷ rest) (length es) refl)
+    ∙ ap (λ o. sized o (length es + 1)) (between_is (number_of 10 ds) (number_of 10 es) le lo hi))
+    ∙ ap (λ k. Some (Between (number_of 10 ds) (number_of 10 es), k)) size
 
 -- ---- what is read is an interval
 
@@ -176,7 +180,7 @@ sized_some (Some s) m n r e =
 -- a text with a byte behind a run of digits
 pub split_run : (p : ℕ → Bool) (text : List ℕ) (b : ℕ) → has_at text (prefix_len p text) b ≡ true → text ≡ take (prefix_len p text) text ++ b ∷ drop (prefix_len p text + 1) text
 split_run p text b e =
-    sym (take_drop text (prefix_len p text)) ∙ ap (λ (xs : List ℕ). take (prefix_len p text) text ++ xs) (front_got text (prefix_len p text) b (got_at b (slice_get text (prefix_len p text)) e))
+    sym (take_drop text (prefix_len p text)) ∙ ap (λ (xs : List ℕ). take (prefix_len p text) text ++ xs) (front_got text (prefix_len p text) b (got_at text (prefix_len p text) b e))
   where
     take_drop : (xs : List ℕ) (k : ℕ) → take k xs ++ drop k xs ≡ xs
     take_drop xs zero = refl
@@ -187,11 +191,11 @@ pub length_run : (p : ℕ → Bool) (text : List ℕ) → length (take (prefix_l
 length_run p text = let le = prefix_len-le-length p text in omega (arith, length-take (prefix_len p text) text)
 
 number_run : (text : List ℕ) → digits text ≢ 0 → IsNumber (take (digits text) text)
-number_run text ne = (omega (arith, length_run is_decimal text, ne), run-passes is_decimal (digits text) text (omega arith))
+number_run text ne = (omega (arith, length_run is_digit text, ne), run-passes is_digit (digits text) text (omega arith))
 
 sound_open : (n : ℕ) (text : List ℕ) (r : Repetition) (m : ℕ) → open_interval n text ≡ Some (r, m)
     → ((rest : List ℕ) × (text ≡ 125 ∷ rest) × (n ≤ 1000) × (AtLeast n ≡ r) × (m ≡ 1))
-    ⊎ ((es : List ℕ) × (rest : List ℕ) × (text ≡ es ++ 125 ∷ rest) × IsNumber es × (n ≤ number 10 es) × (1 ≤ number 10 es) × (number 10 es ≤ 1000) × (Between n (number 10 es) ≡ r) × (m ≡ length es + 1))
+    ⊎ ((es : List ℕ) × (rest : List ℕ) × (text ≡ es ++ 125 ∷ rest) × IsNumber es × (n ≤ number_of 10 es) × (1 ≤ number_of 10 es) × (number_of 10 es ≤ 1000) × (Between n (number_of 10 es) ≡ r) × (m ≡ length es + 1))
 sound_open n text r m e =
     elim (true_or_false (has_at text (digits text) 125)) [
       | inl there ↦
@@ -202,25 +206,25 @@ sound_open n text r m e =
                 let small = at_least_some n r got.0 in
                 inl (
                   drop 1 text,
-                  front_got text 0 125 (got_at 125 (slice_get text 0) (ap (λ k. has_at text k 125) (sym z) ∙ there)),
+                  front_got text 0 125 (got_at text 0 125 (ap (λ k. has_at text k 125) (sym z) ∙ there)),
                   small.0,
                   small.1,
                   got.1,
                 )
             | inr some ↦
                 let ne = differ (digits text) 0 some in
-                let got = sized_some (between n (number 10 (take (digits text) text))) (digits text + 1) m r (sym (open_long n text (digits text) refl there ne) ∙ e) in
-                let small = between_some n (number 10 (take (digits text) text)) r got.0 in
+                let got = sized_some (between n (number_of 10 (take (digits text) text))) (digits text + 1) m r (sym (open_long n text (digits text) refl there ne) ∙ e) in
+                let small = between_some n (number_of 10 (take (digits text) text)) r got.0 in
                 inr (
                   take (digits text) text,
                   drop (digits text + 1) text,
-                  split_run is_decimal text 125 there,
+                  split_run is_digit text 125 there,
                   number_run text ne,
                   small.0,
                   small.1,
                   small.2,
                   small.3,
-                  got.1 ∙ ap (λ k. k + 1) (sym (length_run is_decimal text)),
+                  got.1 ∙ ap (λ k. k + 1) (sym (length_run is_digit text)),
                 )
           ]
       | inr missing ↦ absurd (no_some (r, m) (sym (open_none n text (digits text) refl missing) ∙ e))
@@ -232,14 +236,14 @@ longer_some k (Some (s, m)) r n e =
     let f : (s, k + m) ≡ (r, n) = unsome (s, k + m) (r, n) e in
     (m, ap (λ (p : Repetition × ℕ). Some (p.0, m)) f, sym (ap (λ (p : Repetition × ℕ). p.1) f))
 
-sound_comma : (text : List ℕ) (r : Repetition) (n : ℕ) → digits text ≢ 0 → has_at text (digits text) 44 ≡ true → longer (digits text + 1) (open_interval (number 10 (take (digits text) text)) (drop (digits text + 1) text)) ≡ Some (r, n) → ReadsInterval text r n
+sound_comma : (text : List ℕ) (r : Repetition) (n : ℕ) → digits text ≢ 0 → has_at text (digits text) 44 ≡ true → longer (digits text + 1) (open_interval (number_of 10 (take (digits text) text)) (drop (digits text + 1) text)) ≡ Some (r, n) → ReadsInterval text r n
 sound_comma text r n ne comma e =
     let ds : List ℕ = take (digits text) text in
     let more : List ℕ = drop (digits text + 1) text in
-    let found = longer_some (digits text + 1) (open_interval (number 10 (take (digits text) text)) (drop (digits text + 1) text)) r n e in
-    let len = length_run is_decimal text in
-    let is = split_run is_decimal text 44 comma in
-    elim (sound_open (number 10 (take (digits text) text)) (drop (digits text + 1) text) r found.0 found.1) [
+    let found = longer_some (digits text + 1) (open_interval (number_of 10 (take (digits text) text)) (drop (digits text + 1) text)) r n e in
+    let len = length_run is_digit text in
+    let is = split_run is_digit text 44 comma in
+    elim (sound_open (number_of 10 (take (digits text) text)) (drop (digits text + 1) text) r found.0 found.1) [
       | inl short ↦
           record {
             bytes = take (digits text) text ++ 44 ∷ [];
@@ -266,14 +270,14 @@ sound_interval text r n e =
           let ne = differ (digits text) 0 some in
           elim (true_or_false (has_at text (digits text) 125)) [
             | inl there ↦
-                let got = sized_some (exactly (number 10 (take (digits text) text))) (digits text + 1) n r (sym (interval_alone text (digits text) refl ne there) ∙ e) in
-                let small = exactly_some (number 10 (take (digits text) text)) r got.0 in
+                let got = sized_some (exactly (number_of 10 (take (digits text) text))) (digits text + 1) n r (sym (interval_alone text (digits text) refl ne there) ∙ e) in
+                let small = exactly_some (number_of 10 (take (digits text) text)) r got.0 in
                 record {
                   bytes = take (digits text) text;
                   rest = drop (digits text + 1) text;
-                  is = split_run is_decimal text 125 there;
+                  is = split_run is_digit text 125 there;
                   interval = subst (IsInterval (take (digits text) text)) small.2 (IsInterval.exactly (take (digits text) text) (number_run text ne) small.0 small.1);
-                  size = got.1 ∙ ap (λ k. k + 1) (sym (length_run is_decimal text));
+                  size = got.1 ∙ ap (λ k. k + 1) (sym (length_run is_digit text));
                 }
             | inr missing ↦
                 elim (true_or_false (has_at text (digits text) 44)) [
@@ -285,12 +289,12 @@ sound_interval text r n e =
 
 -- ---- names
 
-named_byte : (b : ℕ) → begins_name b ≡ true → is_name_byte b ≡ true
+named_byte : (b : ℕ) → begins_word b ≡ true → is_name_byte b ≡ true
 named_byte b e = rw e refl
 
-name_run : (b : ℕ) (rest : List ℕ) → begins_name b ≡ true → has_at (b ∷ rest) (prefix_len is_name_byte (b ∷ rest)) 125 ≡ true → name (b ∷ rest) ≡ Some (take (prefix_len is_name_byte (b ∷ rest)) (b ∷ rest), prefix_len is_name_byte (b ∷ rest) + 1)
+name_run : (b : ℕ) (rest : List ℕ) → begins_word b ≡ true → has_at (b ∷ rest) (prefix_len is_name_byte (b ∷ rest)) 125 ≡ true → name (b ∷ rest) ≡ Some (take (prefix_len is_name_byte (b ∷ rest)) (b ∷ rest), prefix_len is_name_byte (b ∷ rest) + 1)
 unfolding name
-name_run b rest e f = ap (λ v. if v then Some (take (prefix_len is_name_byte (b ∷ rest)) (b ∷ rest), prefix_len is_name_byte (b ∷ rest) + 1) else None) (both (begins_name b) (has_at (b ∷ rest) (prefix_len is_name_byte (b ∷ rest)) 125) e f)
+name_run b rest e f = ap (λ v. if v then Some (take (prefix_len is_name_byte (b ∷ rest)) (b ∷ rest), prefix_len is_name_byte (b ∷ rest) + 1) else None) (both (begins_word b) (has_at (b ∷ rest) (prefix_len is_name_byte (b ∷ rest)) 125) e f)
   where
     both : (p q : Bool) → p ≡ true → q ≡ true → (p && q) ≡ true
     both p q x y = rw (x, y) refl
@@ -318,11 +322,11 @@ name_none = refl
 run_next : (p : ℕ → Bool) (b : ℕ) (rest : List ℕ) → p b ≡ true → prefix_len p (b ∷ rest) ≡ suc (prefix_len p rest)
 run_next p b rest e = rw e (one-add (prefix_len p rest))
 
-is_name_run : (b : ℕ) (rest : List ℕ) → begins_name b ≡ true → IsName (take (prefix_len is_name_byte (b ∷ rest)) (b ∷ rest))
+is_name_run : (b : ℕ) (rest : List ℕ) → begins_word b ≡ true → IsName (take (prefix_len is_name_byte (b ∷ rest)) (b ∷ rest))
 is_name_run b rest e =
     subst (λ k. IsName (take k (b ∷ rest))) (sym (run_next is_name_byte b rest (named_byte b e))) (e, run-passes is_name_byte (prefix_len is_name_byte rest) rest (omega arith))
 
-sound_name_at : (b : ℕ) (rest bytes : List ℕ) (n : ℕ) → begins_name b ≡ true → has_at (b ∷ rest) (prefix_len is_name_byte (b ∷ rest)) 125 ≡ true
+sound_name_at : (b : ℕ) (rest bytes : List ℕ) (n : ℕ) → begins_word b ≡ true → has_at (b ∷ rest) (prefix_len is_name_byte (b ∷ rest)) 125 ≡ true
     → take (prefix_len is_name_byte (b ∷ rest)) (b ∷ rest) ≡ bytes → prefix_len is_name_byte (b ∷ rest) + 1 ≡ n → ReadsName (b ∷ rest) bytes n
 sound_name_at b rest bytes n e f same size =
     subst (λ xs. ReadsName (b ∷ rest) xs n) same
@@ -333,16 +337,16 @@ sound_name_at b rest bytes n e f same size =
       size = sym size ∙ ap (λ k. k + 1) (sym (length_run is_name_byte (b ∷ rest)));
     })
 
-name_by : (b : ℕ) (rest : List ℕ) → name (b ∷ rest) ≡ (if begins_name b && has_at (b ∷ rest) (prefix_len is_name_byte (b ∷ rest)) 125 then Some (take (prefix_len is_name_byte (b ∷ rest)) (b ∷ rest), prefix_len is_name_byte (b ∷ rest) + 1) else None)
+name_by : (b : ℕ) (rest : List ℕ) → name (b ∷ rest) ≡ (if begins_word b && has_at (b ∷ rest) (prefix_len is_name_byte (b ∷ rest)) 125 then Some (take (prefix_len is_name_byte (b ∷ rest)) (b ∷ rest), prefix_len is_name_byte (b ∷ rest) + 1) else None)
 unfolding name
 name_by b rest = refl
 
 pub sound_name : (text bytes : List ℕ) (n : ℕ) → name text ≡ Some (bytes, n) → ReadsName text bytes n
 sound_name [] bytes n e = absurd (no_some (bytes, n) (sym name_none ∙ e))
 sound_name (b ∷ rest) bytes n e =
-    elim (chosen (begins_name b && has_at (b ∷ rest) (prefix_len is_name_byte (b ∷ rest)) 125) _ _ _ (sym (name_by b rest) ∙ e)) [
+    elim (chosen (begins_word b && has_at (b ∷ rest) (prefix_len is_name_byte (b ∷ rest)) 125) _ _ _ (sym (name_by b rest) ∙ e)) [
       | inl there ↦
-          let both = and_true (begins_name b) (has_at (b ∷ rest) (prefix_len is_name_byte (b ∷ rest)) 125) there.0 in
+          let both = and_true (begins_word b) (has_at (b ∷ rest) (prefix_len is_name_byte (b ∷ rest)) 125) there.0 in
           let same = unsome (take (prefix_len is_name_byte (b ∷ rest)) (b ∷ rest), prefix_len is_name_byte (b ∷ rest) + 1) (bytes, n) there.1 in
           sound_name_at b rest bytes n both.0 both.1 (ap (λ (r : List ℕ × ℕ). r.0) same) (ap (λ (r : List ℕ × ℕ). r.1) same)
       | inr missing ↦ absurd (no_some (bytes, n) missing.1)
@@ -353,10 +357,10 @@ or_cases : (p q : Bool) → (p || q) ≡ true → (p ≡ true) ⊎ (q ≡ true)
 or_cases true q e = inl refl
 or_cases false q e = inr e
 
-no_digit : (b : ℕ) → begins_name b ≡ true → is_decimal b ≡ false
-no_digit b e = by_test (is_decimal b) refl
+no_digit : (b : ℕ) → begins_word b ≡ true → is_digit b ≡ false
+no_digit b e = by_test (is_digit b) refl
   where
-    by_test : (v : Bool) → is_decimal b ≡ v → v ≡ false
+    by_test : (v : Bool) → is_digit b ≡ v → v ≡ false
     by_test false d = refl
     by_test true d =
         let range = and_true (nat_le 48 b) (nat_le b 57) d in

@@ -7,7 +7,8 @@ use Rattle.std.proofs.lemmas.List.{take_at, length-take}
 use Rattle.std.proofs.lemmas.List.Sums.{prefix_len-le-length}
 use Rattle.cs_bytes.proofs.Fronts.{front_got, and_true}
 use Rattle.cs_bytes.proofs.Runs.{run-passes}
-use Rattle.cs_pattern_items.specs.ByteKind.{is_inner, has_at}
+use Rattle.cs_bytes.specs.Places.{has_at}
+use Rattle.cs_pattern_items.specs.ByteKind.{is_inner}
 use Rattle.cs_pattern_items.specs.Character.{escape}
 use Rattle.cs_pattern_items.specs.Steps.{steps}
 use Rattle.cs_pattern_items.specs.Marks.{Mark, plain, escaped, class, collating, part_of, named_part, or_itself, escape_mark, mark, marks}
@@ -16,8 +17,9 @@ use Rattle.cs_pattern_items.specs.Brackets.{part, IsPart, IsMark, AreMarks, IsCl
 use Rattle.cs_pattern_items.specs.Bracket.{nothing, closed, bracket_in, bracket}
 use Rattle.cs_pattern_items.proofs.Picked.{not_equal}
 use Rattle.cs_pattern_items.proofs.Moving.{chosen, mark_moves}
-use Rattle.cs_pattern_items.proofs.Spelled.{unsome, no_some, true_or_false, differ, or_false, got_at, at_got, complete_escape, sound_escape, steps_in_turn, in_turn_steps}
+use Rattle.cs_pattern_items.proofs.Spelled.{unsome, no_some, true_or_false, differ, or_false, complete_escape, sound_escape, steps_in_turn, in_turn_steps}
 use Rattle.cs_pattern_items.proofs.Braces.{has_at_end, run_then, split_run}
+use Rattle.cs_bytes.proofs.Fronts.{got_at, has_at-got}
 
 -- ---- named parts
 
@@ -126,7 +128,7 @@ sound_part (kind ∷ rest) m k e =
           let some : 0 < prefix_len is_inner rest = ltb-true 0 (prefix_len is_inner rest) first.0 in
           let s : ℕ = prefix_len is_inner rest in
           let next : prefix_len is_inner rest - 1 + 1 ≡ prefix_len is_inner rest = omega arith in
-          let name_kind : take (prefix_len is_inner rest) rest ≡ take (prefix_len is_inner rest - 1) rest ++ kind ∷ [] = ap (λ j. take j rest) (sym next) ∙ take_next rest (prefix_len is_inner rest - 1) kind (got_at kind (slice_get rest (prefix_len is_inner rest - 1)) both.1) in
+          let name_kind : take (prefix_len is_inner rest) rest ≡ take (prefix_len is_inner rest - 1) rest ++ kind ∷ [] = ap (λ j. take j rest) (sym next) ∙ take_next rest (prefix_len is_inner rest - 1) kind (got_at rest (prefix_len is_inner rest - 1) kind both.1) in
           let whole : rest ≡ (take (prefix_len is_inner rest - 1) rest ++ kind ∷ 93 ∷ []) ++ drop (prefix_len is_inner rest + 1) rest =
           split_run is_inner rest 93 first.1 ∙ ap (λ (xs : List ℕ). xs ++ 93 ∷ drop (prefix_len is_inner rest + 1) rest) name_kind
           ∙ append_assoc (take (prefix_len is_inner rest - 1) rest) (kind ∷ []) (93 ∷ drop (prefix_len is_inner rest + 1) rest)
@@ -253,11 +255,11 @@ no_begin : (text : List ℕ) (b : ℕ) → (BeginsWith text b → ⊥) → has_a
 no_begin text b never = by_test (has_at text 0 b) refl
   where
     by_test : (v : Bool) → has_at text 0 b ≡ v → v ≡ false
-    by_test true e = absurd (never (got_at b (slice_get text 0) e))
+    by_test true e = absurd (never (got_at text 0 b e))
     by_test false e = refl
 
 no_begins : (text : List ℕ) (b : ℕ) → has_at text 0 b ≡ false → BeginsWith text b → ⊥
-no_begins text b e h = false≢true (sym e ∙ at_got b (slice_get text 0) h)
+no_begins text b e h = false≢true (sym e ∙ has_at-got text 0 b h)
 
 complete_marks : (text : List ℕ) (n : ℕ) (ms : List Mark) → AreMarks text n ms → slice_get text n ≡ Some 93 → marks text ≡ (ms, n)
 complete_marks _ _ _ (AreMarks.closing_first text n ms t) e =
@@ -288,7 +290,7 @@ sound_marks text = by_first text (has_at text 0 93) refl
 
 bracket_in_is : (inverted : Bool) (skipped : ℕ) (text : List ℕ) (n : ℕ) (ms : List Mark) → marks text ≡ (ms, n) → slice_get text n ≡ Some 93 → bracket_in inverted skipped text ≡ closed inverted ms (skipped + (n + 1))
 bracket_in_is inverted skipped text n ms e f =
-    let there : has_at text n 93 ≡ true = at_got 93 (slice_get text n) f in
+    let there : has_at text n 93 ≡ true = has_at-got text n 93 f in
     ap (λ (r : List Mark × ℕ). if has_at text r.1 93 then closed inverted r.0 (skipped + (r.1 + 1)) else nothing) e
     ∙ ap (λ v. if v then closed inverted ms (skipped + (n + 1)) else nothing) there
 
@@ -348,7 +350,7 @@ find_closed rest = by_caret rest (has_at rest 0 94) refl
         subst (λ c. (bracket (c ∷ xs) ≡ nothing) ⊎ FindsClosed (c ∷ xs)) (sym same)
         (elim (true_or_false (has_at xs (marks xs).1 93)) [
           | inl there ↦
-              let f = got_at 93 (slice_get xs (marks xs).1) there in
+              let f = got_at xs (marks xs).1 93 there in
               let size : (marks xs).1 + 3 ≡ 1 + ((marks xs).1 + 1) + 1 = omega arith in
               inr (record {
                 inverted = true;
@@ -362,7 +364,7 @@ find_closed rest = by_caret rest (has_at rest 0 94) refl
     by_caret xs false e =
         elim (true_or_false (has_at xs (marks xs).1 93)) [
           | inl there ↦
-              let f = got_at 93 (slice_get xs (marks xs).1) there in
+              let f = got_at xs (marks xs).1 93 there in
               let size : (marks xs).1 + 2 ≡ 0 + ((marks xs).1 + 1) + 1 = omega arith in
               inr (record {
                 inverted = false;

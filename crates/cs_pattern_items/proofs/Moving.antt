@@ -1,14 +1,18 @@
 -- Each escape, character and mark takes a byte or more.
-use Rattle.std.proofs.Common.{◌≡◌, ℕ, zero, suc, ◌+◌, ◌≤◌, ◌<◌, Bool, true, false, cond, List, [], ◌∷◌, length, take, min, refl, sym, ap, arith, inl, inr, ◌⊎◌}
+use Rattle.std.proofs.Common.{◌≡◌, ℕ, suc, ◌+◌, ◌≤◌, ◌<◌, Bool, true, false, cond, List, [], ◌∷◌, length, take, min, refl, sym, ap, arith, inl, inr, ◌⊎◌}
 use Rattle.std.specs.Prelude.{Option, Some, None, ◌==◌, ◌||◌, ◌&&◌, nat_lt, IsTrue, IsSomeAnd, slice_get, ◌-◌}
 use Rattle.std.specs.List.{prefix_len}
 use Rattle.std.proofs.lemmas.List.Sums.{prefix_len-le-length}
-use Rattle.cs_pattern_items.specs.ByteKind.{is_octal, is_hexadecimal, is_inner, has_at}
-use Rattle.cs_pattern_items.specs.Character.{octal, hexadecimal, escape, letter, byte_of, number}
+use Rattle.cs_bytes.specs.Classes.{is_octal_digit, is_hexadecimal_digit}
+use Rattle.cs_bytes.specs.Places.{has_at}
+use Rattle.cs_pattern_items.specs.ByteKind.{is_inner}
+use Rattle.cs_pattern_items.specs.Character.{octal, hexadecimal, escape, letter, byte_of}
+use Rattle.cs_bytes.specs.Digits.{number_of}
 use Rattle.cs_pattern_items.specs.Quoted as quotes
 use Rattle.cs_pattern_items.specs.Marks.{Mark, plain, mark, named_part, part_of, or_itself, escape_mark}
 use Rattle.cs_pattern_items.specs.Marks as marked
 use Rattle.cs_pattern_items.proofs.Walking.{Moves}
+use Rattle.cs_bytes.proofs.Fronts.{got_within, got_at}
 
 pub chosen : {A : Type 0} (b : Bool) (x y z : A) → cond b x y ≡ z → ((b ≡ true) × (x ≡ z)) ⊎ ((b ≡ false) × (y ≡ z))
 chosen true x y z e = inl (refl, e)
@@ -18,18 +22,18 @@ pub run_some : (p : ℕ → Bool) (text : List ℕ) → IsSomeAnd (slice_get tex
 run_some p [] h = absurd h
 run_some p (b ∷ text) h = rw h (omega arith)
 
-octal_moves : (text : List ℕ) → IsSomeAnd (slice_get text 0) (λ b. IsTrue (is_octal b)) → (0 < (octal text).1) × ((octal text).1 ≤ length text)
+octal_moves : (text : List ℕ) → IsSomeAnd (slice_get text 0) (λ b. IsTrue (is_octal_digit b)) → (0 < (octal text).1) × ((octal text).1 ≤ length text)
 unfolding octal
-octal_moves text h = let some = run_some is_octal text h in let le = prefix_len-le-length is_octal text in (omega arith, omega arith)
+octal_moves text h = let some = run_some is_octal_digit text h in let le = prefix_len-le-length is_octal_digit text in (omega arith, omega arith)
 
 hexadecimal_within : (text : List ℕ) → (hexadecimal text).1 ≤ length text
 unfolding hexadecimal
-hexadecimal_within text = by_test (min (prefix_len is_hexadecimal text) 2 == 0)
+hexadecimal_within text = by_test (min (prefix_len is_hexadecimal_digit text) 2 == 0)
   where
-    le : prefix_len is_hexadecimal text ≤ length text
-    le = prefix_len-le-length is_hexadecimal text
+    le : prefix_len is_hexadecimal_digit text ≤ length text
+    le = prefix_len-le-length is_hexadecimal_digit text
 
-    by_test : (v : Bool) → (cond {A = Option ℕ × ℕ} v (Some 120, 0) (byte_of (number 16 (take (min (prefix_len is_hexadecimal text) 2) text)), min (prefix_len is_hexadecimal text) 2)).1 ≤ length text
+    by_test : (v : Bool) → (cond {A = Option ℕ × ℕ} v (Some 120, 0) (byte_of (number_of 16 (take (min (prefix_len is_hexadecimal_digit text) 2) text)), min (prefix_len is_hexadecimal_digit text) 2)).1 ≤ length text
     by_test true = omega arith
     by_test false = omega (arith, le)
 
@@ -40,7 +44,7 @@ escape_moves (b ∷ rest) o n e =
     elim (chosen (b == 10) _ _ _ e) [
       | inl h ↦ let x = h.1 in absurd cc
       | inr h ↦
-          elim (chosen (is_octal b) _ _ _ h.1) [
+          elim (chosen (is_octal_digit b) _ _ _ h.1) [
             | inl g ↦
                 let x : Some (octal (b ∷ rest)) ≡ Some (o, n) = g.1 in
                 let y : octal (b ∷ rest) ≡ (o, n) = cc in
@@ -116,9 +120,7 @@ and_true true q e = (refl, e)
 and_true false q e = absurd cc
 
 pub has_within : (text : List ℕ) (i b : ℕ) → has_at text i b ≡ true → i < length text
-has_within [] i b e = absurd cc
-has_within (c ∷ text) zero b e = omega arith
-has_within (c ∷ text) (suc i) b e = omega (arith, has_within text i b e)
+has_within text i b e = got_within text i b (got_at text i b e)
 
 named_within : (text : List ℕ) (x : Mark) (n : ℕ) → named_part text ≡ Some (x, n) → n ≤ length text
 unfolding named_part

@@ -5,8 +5,10 @@ use Rattle.std.specs.List.{prefix_len}
 use Rattle.std.proofs.lemmas.Bool.{false≢true, eqb-true, eq-eqb}
 use Rattle.std.proofs.lemmas.List.{drop-drop}
 use Rattle.cs_bytes.proofs.Fronts.{front_got}
-use Rattle.cs_pattern_items.specs.ByteKind.{is_octal, is_hexadecimal, has_at, is_byte}
-use Rattle.cs_pattern_items.specs.Character.{octal, hexadecimal, escape, letter, byte_of, number}
+use Rattle.cs_bytes.specs.Classes.{is_octal_digit, is_hexadecimal_digit}
+use Rattle.cs_bytes.specs.Places.{has_at}
+use Rattle.cs_pattern_items.specs.Character.{octal, hexadecimal, escape, letter, byte_of}
+use Rattle.cs_bytes.specs.Digits.{number_of}
 use Rattle.cs_pattern_items.specs.Parts.{Escapes, InTurn}
 use Rattle.cs_pattern_items.specs.Spelling.{StandsFor}
 use Rattle.cs_pattern_items.specs.Steps.{and_more, up_to, steps}
@@ -14,51 +16,52 @@ use Rattle.cs_pattern_items.specs.Quoted as quotes
 use Rattle.cs_pattern_items.proofs.Picked.{not_equal}
 use Rattle.cs_pattern_items.proofs.Moving.{chosen, run_some, quoted_moves}
 use Rattle.cs_pattern_items.proofs.Walking.{Moves, steps_none, steps_more}
+use Rattle.cs_bytes.proofs.Fronts.{got_at, has_at-got}
 
 -- ---- escapes
 
-octal_no_newline : (b : ℕ) → is_octal b ≡ true → (b == 10) ≡ false
-octal_no_newline b e = not_equal b 10 (λ is. false≢true (sym (ap is_octal is) ∙ e))
+octal_no_newline : (b : ℕ) → is_octal_digit b ≡ true → (b == 10) ≡ false
+octal_no_newline b e = not_equal b 10 (λ is. false≢true (sym (ap is_octal_digit is) ∙ e))
 
-pub escape_octal : (b : ℕ) (rest : List ℕ) → is_octal b ≡ true → escape (b ∷ rest) ≡ Some (octal (b ∷ rest))
+pub escape_octal : (b : ℕ) (rest : List ℕ) → is_octal_digit b ≡ true → escape (b ∷ rest) ≡ Some (octal (b ∷ rest))
 unfolding escape
 escape_octal b rest e = let f = octal_no_newline b e in rw (f, e) refl
 
-octal_is : (text : List ℕ) (n : ℕ) (o : Option ℕ) → n ≡ min (prefix_len is_octal text) 3 → o ≡ byte_of (number 8 (take n text)) → octal text ≡ (o, n)
+octal_is : (text : List ℕ) (n : ℕ) (o : Option ℕ) → n ≡ min (prefix_len is_octal_digit text) 3 → o ≡ byte_of (number_of 8 (take n text)) → octal text ≡ (o, n)
 unfolding octal
-octal_is text n o is e = ap (λ k. (byte_of (number 8 (take k text)), k)) (sym is) ∙ ap (λ v. (v, n)) (sym e)
+octal_is text n o is e = ap (λ k. (byte_of (number_of 8 (take k text)), k)) (sym is) ∙ ap (λ v. (v, n)) (sym e)
 
-octal_first : (b : ℕ) (rest : List ℕ) (t : Bool) → is_octal b ≡ t → 0 < min (cond t (1 + prefix_len is_octal rest) 0) 3 → is_octal b ≡ true
+octal_first : (b : ℕ) (rest : List ℕ) (t : Bool) → is_octal_digit b ≡ t → 0 < min (cond t (1 + prefix_len is_octal_digit rest) 0) 3 → is_octal_digit b ≡ true
 octal_first b rest true e lt = e
 octal_first b rest false e lt = absurd (omega arith)
 
-complete_octal : (text : List ℕ) (n : ℕ) (o : Option ℕ) → n ≡ min (prefix_len is_octal text) 3 → 0 < n → o ≡ byte_of (number 8 (take n text)) → escape text ≡ Some (o, n)
+complete_octal : (text : List ℕ) (n : ℕ) (o : Option ℕ) → n ≡ min (prefix_len is_octal_digit text) 3 → 0 < n → o ≡ byte_of (number_of 8 (take n text)) → escape text ≡ Some (o, n)
 complete_octal [] n o is lt e = absurd (omega (arith, is, lt))
 complete_octal (b ∷ rest) n o is lt e =
-    let some : 0 < min (prefix_len is_octal (b ∷ rest)) 3 = omega (arith, is, lt) in
-    escape_octal b rest (octal_first b rest (is_octal b) refl some) ∙ ap Some (octal_is (b ∷ rest) n o is e)
+    let some : 0 < min (prefix_len is_octal_digit (b ∷ rest)) 3 = omega (arith, is, lt) in
+    escape_octal b rest (octal_first b rest (is_octal_digit b) refl some) ∙ ap Some (octal_is (b ∷ rest) n o is e)
 
 pub escape_x : (rest : List ℕ) → escape (120 ∷ rest) ≡ Some ((hexadecimal rest).0, (hexadecimal rest).1 + 1)
 unfolding escape
 escape_x rest = refl
 
-hexadecimal_some : (text : List ℕ) (n : ℕ) (o : Option ℕ) → n ≡ min (prefix_len is_hexadecimal text) 2 → 0 < n → o ≡ byte_of (number 16 (take n text)) → hexadecimal text ≡ (o, n)
+hexadecimal_some : (text : List ℕ) (n : ℕ) (o : Option ℕ) → n ≡ min (prefix_len is_hexadecimal_digit text) 2 → 0 < n → o ≡ byte_of (number_of 16 (take n text)) → hexadecimal text ≡ (o, n)
 unfolding hexadecimal
 hexadecimal_some text n o is lt e =
-    let f : (min (prefix_len is_hexadecimal text) 2 == 0) ≡ false = not_equal (min (prefix_len is_hexadecimal text) 2) 0 (λ z. omega (arith, is, lt, z)) in
-    rw f (ap (λ k. (byte_of (number 16 (take k text)), k)) (sym is) ∙ ap (λ v. (v, n)) (sym e))
+    let f : (min (prefix_len is_hexadecimal_digit text) 2 == 0) ≡ false = not_equal (min (prefix_len is_hexadecimal_digit text) 2) 0 (λ z. omega (arith, is, lt, z)) in
+    rw f (ap (λ k. (byte_of (number_of 16 (take k text)), k)) (sym is) ∙ ap (λ v. (v, n)) (sym e))
 
-hexadecimal_none : (text : List ℕ) → prefix_len is_hexadecimal text ≡ 0 → hexadecimal text ≡ (Some 120, 0)
+hexadecimal_none : (text : List ℕ) → prefix_len is_hexadecimal_digit text ≡ 0 → hexadecimal text ≡ (Some 120, 0)
 unfolding hexadecimal
 hexadecimal_none text z =
-    let f : (min (prefix_len is_hexadecimal text) 2 == 0) ≡ true = eq-eqb (min (prefix_len is_hexadecimal text) 2) 0 (omega (arith, z)) in
+    let f : (min (prefix_len is_hexadecimal_digit text) 2 == 0) ≡ true = eq-eqb (min (prefix_len is_hexadecimal_digit text) 2) 0 (omega (arith, z)) in
     rw f refl
 
-pub escape_letter : (b : ℕ) (rest : List ℕ) → (b == 10) ≡ false → is_octal b ≡ false → (b == 120) ≡ false → escape (b ∷ rest) ≡ Some (Some (letter b), 1)
+pub escape_letter : (b : ℕ) (rest : List ℕ) → (b == 10) ≡ false → is_octal_digit b ≡ false → (b == 120) ≡ false → escape (b ∷ rest) ≡ Some (Some (letter b), 1)
 unfolding escape
 escape_letter b rest e f g = rw (e, f, g) refl
 
-complete_letter : (b : ℕ) (rest : List ℕ) (o : Option ℕ) → is_octal b ≡ false → b ≢ 10 → (b ≡ 120 → prefix_len is_hexadecimal rest ≡ 0) → o ≡ Some (letter b) → (v : Bool) → (b == 120) ≡ v → escape (b ∷ rest) ≡ Some (o, 1)
+complete_letter : (b : ℕ) (rest : List ℕ) (o : Option ℕ) → is_octal_digit b ≡ false → b ≢ 10 → (b ≡ 120 → prefix_len is_hexadecimal_digit rest ≡ 0) → o ≡ Some (letter b) → (v : Bool) → (b == 120) ≡ v → escape (b ∷ rest) ≡ Some (o, 1)
 complete_letter b rest o e ne x is true h =
     let same : b ≡ 120 = eqb-true b 120 h in
     ap (λ c. escape (c ∷ rest)) same ∙ escape_x rest ∙ ap (λ (r : Option ℕ × ℕ). Some (r.0, r.1 + 1)) (hexadecimal_none rest (x same)) ∙ ap (λ v. Some (v, 1)) (sym (is ∙ ap (λ c. Some (letter c)) same))
@@ -82,33 +85,33 @@ true_or_false false = inr refl
 pub differ : (a b : ℕ) → (a == b) ≡ false → a ≢ b
 differ a b e is = false≢true (sym e ∙ eq-eqb a b is)
 
-octal_size : (text : List ℕ) → (octal text).1 ≡ min (prefix_len is_octal text) 3
+octal_size : (text : List ℕ) → (octal text).1 ≡ min (prefix_len is_octal_digit text) 3
 unfolding octal
 octal_size text = refl
 
-octal_byte : (text : List ℕ) → (octal text).0 ≡ byte_of (number 8 (take (min (prefix_len is_octal text) 3) text))
+octal_byte : (text : List ℕ) → (octal text).0 ≡ byte_of (number_of 8 (take (min (prefix_len is_octal_digit text) 3) text))
 unfolding octal
 octal_byte text = refl
 
-sound_octal : (b : ℕ) (rest : List ℕ) (n : ℕ) (o : Option ℕ) → is_octal b ≡ true → octal (b ∷ rest) ≡ (o, n) → Escapes (b ∷ rest) n o
+sound_octal : (b : ℕ) (rest : List ℕ) (n : ℕ) (o : Option ℕ) → is_octal_digit b ≡ true → octal (b ∷ rest) ≡ (o, n) → Escapes (b ∷ rest) n o
 sound_octal b rest n o e is =
-    let size : n ≡ min (prefix_len is_octal (b ∷ rest)) 3 = ap (λ (r : Option ℕ × ℕ). r.1) (sym is) ∙ octal_size (b ∷ rest) in
-    let some : 0 < prefix_len is_octal (b ∷ rest) = run_some is_octal (b ∷ rest) e in
-    Escapes.octal_digits (b ∷ rest) n o size (omega (arith, size, some)) (ap (λ (r : Option ℕ × ℕ). r.0) (sym is) ∙ octal_byte (b ∷ rest) ∙ ap (λ k. byte_of (number 8 (take k (b ∷ rest)))) (sym size))
+    let size : n ≡ min (prefix_len is_octal_digit (b ∷ rest)) 3 = ap (λ (r : Option ℕ × ℕ). r.1) (sym is) ∙ octal_size (b ∷ rest) in
+    let some : 0 < prefix_len is_octal_digit (b ∷ rest) = run_some is_octal_digit (b ∷ rest) e in
+    Escapes.octal_digits (b ∷ rest) n o size (omega (arith, size, some)) (ap (λ (r : Option ℕ × ℕ). r.0) (sym is) ∙ octal_byte (b ∷ rest) ∙ ap (λ k. byte_of (number_of 8 (take k (b ∷ rest)))) (sym size))
 
-sound_x : (rest : List ℕ) (n : ℕ) (o : Option ℕ) → (hexadecimal rest).0 ≡ o → (hexadecimal rest).1 + 1 ≡ n → (v : Bool) → (min (prefix_len is_hexadecimal rest) 2 == 0) ≡ v → Escapes (120 ∷ rest) n o
+sound_x : (rest : List ℕ) (n : ℕ) (o : Option ℕ) → (hexadecimal rest).0 ≡ o → (hexadecimal rest).1 + 1 ≡ n → (v : Bool) → (min (prefix_len is_hexadecimal_digit rest) 2 == 0) ≡ v → Escapes (120 ∷ rest) n o
 sound_x rest n o e f true z =
-    let none : prefix_len is_hexadecimal rest ≡ 0 = omega (arith, eqb-true (min (prefix_len is_hexadecimal rest) 2) 0 z) in
+    let none : prefix_len is_hexadecimal_digit rest ≡ 0 = omega (arith, eqb-true (min (prefix_len is_hexadecimal_digit rest) 2) 0 z) in
     let h : hexadecimal rest ≡ (Some 120, 0) = hexadecimal_none rest none in
     let size : 1 ≡ n = ap (λ (r : Option ℕ × ℕ). r.1 + 1) (sym h) ∙ f in
     subst (λ k. Escapes (120 ∷ rest) k o) size (Escapes.itself_or_control 120 rest o refl (differ 120 10 refl) (λ _. none) (sym e ∙ ap (λ (r : Option ℕ × ℕ). r.0) h))
 sound_x rest n o e f false z =
-    let m : ℕ = min (prefix_len is_hexadecimal rest) 2 in
-    let some : 0 < min (prefix_len is_hexadecimal rest) 2 = omega (arith, differ (min (prefix_len is_hexadecimal rest) 2) 0 z) in
-    let h = hexadecimal_some rest (min (prefix_len is_hexadecimal rest) 2) (byte_of (number 16 (take (min (prefix_len is_hexadecimal rest) 2) rest))) refl some refl in
-    let size : min (prefix_len is_hexadecimal rest) 2 + 1 ≡ n = ap (λ (r : Option ℕ × ℕ). r.1 + 1) (sym h) ∙ f in
+    let m : ℕ = min (prefix_len is_hexadecimal_digit rest) 2 in
+    let some : 0 < min (prefix_len is_hexadecimal_digit rest) 2 = omega (arith, differ (min (prefix_len is_hexadecimal_digit rest) 2) 0 z) in
+    let h = hexadecimal_some rest (min (prefix_len is_hexadecimal_digit rest) 2) (byte_of (number_of 16 (take (min (prefix_len is_hexadecimal_digit rest) 2) rest))) refl some refl in
+    let size : min (prefix_len is_hexadecimal_digit rest) 2 + 1 ≡ n = ap (λ (r : Option ℕ × ℕ). r.1 + 1) (sym h) ∙ f in
     subst (λ k. Escapes (120 ∷ rest) k o) size
-    (Escapes.hexadecimal_digits rest (min (prefix_len is_hexadecimal rest) 2) o refl some (sym e ∙ ap (λ (r : Option ℕ × ℕ). r.0) h))
+    (Escapes.hexadecimal_digits rest (min (prefix_len is_hexadecimal_digit rest) 2) o refl some (sym e ∙ ap (λ (r : Option ℕ × ℕ). r.0) h))
 
 escape_newline : (rest : List ℕ) → escape (10 ∷ rest) ≡ None
 unfolding escape
@@ -124,7 +127,7 @@ sound_escape (b ∷ rest) n o e =
     elim (true_or_false (b == 10)) [
       | inl newline ↦ absurd (no_some (o, n) (sym (escape_newline rest) ∙ ap (λ c. escape (c ∷ rest)) (sym (eqb-true b 10 newline)) ∙ e))
       | inr other ↦
-          elim (true_or_false (is_octal b)) [
+          elim (true_or_false (is_octal_digit b)) [
             | inl digit ↦ sound_octal b rest n o digit (unsome (octal (b ∷ rest)) (o, n) (sym (escape_octal b rest digit) ∙ e))
             | inr no_digit ↦
                 elim (true_or_false (b == 120)) [
@@ -132,7 +135,7 @@ sound_escape (b ∷ rest) n o e =
                       let same : b ≡ 120 = eqb-true b 120 x in
                       let f : ((hexadecimal rest).0, (hexadecimal rest).1 + 1) ≡ (o, n) = unsome ((hexadecimal rest).0, (hexadecimal rest).1 + 1) (o, n) (sym (escape_x rest) ∙ ap (λ c. escape (c ∷ rest)) (sym same) ∙ e) in
                       subst (λ c. Escapes (c ∷ rest) n o) (sym same)
-                      (sound_x rest n o (ap (λ (r : Option ℕ × ℕ). r.0) f) (ap (λ (r : Option ℕ × ℕ). r.1) f) (min (prefix_len is_hexadecimal rest) 2 == 0) refl)
+                      (sound_x rest n o (ap (λ (r : Option ℕ × ℕ). r.0) f) (ap (λ (r : Option ℕ × ℕ). r.1) f) (min (prefix_len is_hexadecimal_digit rest) 2 == 0) refl)
                   | inr no_x ↦
                       let f : (Some (letter b), 1) ≡ (o, n) = unsome (Some (letter b), 1) (o, n) (sym (escape_letter b rest other no_digit no_x) ∙ e) in
                       subst (λ k. Escapes (b ∷ rest) k o) (ap (λ (r : Option ℕ × ℕ). r.1) f)
@@ -220,13 +223,6 @@ sound_byte (c ∷ rest) n b e =
           ]
     ]
 
-pub got_at : (b : ℕ) (o : Option ℕ) → is_byte b o ≡ true → o ≡ Some b
-got_at b None e = absurd (false≢true e)
-got_at b (Some c) e = ap Some (eqb-true c b e)
-
-pub at_got : (b : ℕ) (o : Option ℕ) → o ≡ Some b → is_byte b o ≡ true
-at_got b o e = ap (is_byte b) e ∙ eq-eqb b b refl
-
 quoted_at_quote : (rest : List ℕ) → quotes.quoted_byte (34 ∷ rest) ≡ None
 unfolding quotes.quoted_byte
 quoted_at_quote rest = refl
@@ -235,7 +231,7 @@ pub complete_quoted : (text : List ℕ) (n : ℕ) (bytes : List ℕ) → InTurn 
 unfolding quotes.quoted
 complete_quoted text n bytes parts e =
     let all : steps quotes.quoted_byte text ≡ (bytes, n) = in_turn_steps quotes.quoted_byte StandsFor quoted_moves complete_byte sound_byte text n bytes parts (ap quotes.quoted_byte (front_got text n 34 e) ∙ quoted_at_quote (drop (n + 1) text)) in
-    let at : has_at text n 34 ≡ true = at_got 34 (slice_get text n) e in
+    let at : has_at text n 34 ≡ true = has_at-got text n 34 e in
     rw all (rw at refl)
 
 pub sound_quoted : (text : List ℕ) (n : ℕ) (bytes : List ℕ) → quotes.quoted text ≡ Some (bytes, n) → (m : ℕ) × InTurn StandsFor text m bytes × (slice_get text m ≡ Some 34) × (n ≡ m + 1)
@@ -246,7 +242,7 @@ sound_quoted text n bytes e =
           let f : ((steps quotes.quoted_byte text).0, (steps quotes.quoted_byte text).1 + 1) ≡ (bytes, n) = unsome ((steps quotes.quoted_byte text).0, (steps quotes.quoted_byte text).1 + 1) (bytes, n) there.1 in (
             (steps quotes.quoted_byte text).1,
             subst (InTurn StandsFor text (steps quotes.quoted_byte text).1) (ap (λ (r : List ℕ × ℕ). r.0) f) (steps_in_turn quotes.quoted_byte StandsFor quoted_moves complete_byte sound_byte text),
-            got_at 34 (slice_get text (steps quotes.quoted_byte text).1) there.0,
+            got_at text (steps quotes.quoted_byte text).1 34 there.0,
             sym (ap (λ (r : List ℕ × ℕ). r.1) f),
           )
       | inr missing ↦ absurd (no_some (bytes, n) missing.1)

@@ -8,8 +8,11 @@ use Rattle.cs_pattern_items.specs.declared.item.Repetition.{Repetition}
 use Rattle.cs_pattern_items.specs.declared.item.Repetition.TheVariants.{Optional, AtLeast}
 use Rattle.cs_pattern_items.specs.declared.front.Stop.TheVariants.{Anchor, Trailing, Syntax}
 use Rattle.cs_pattern_items.specs.Members.{picked, bytes_where, has}
-use Rattle.cs_pattern_items.specs.ByteKind.{is_octal, is_hexadecimal, is_plain, has_at}
-use Rattle.cs_pattern_items.specs.Character.{number, byte_of, letter, octal, hexadecimal, escape}
+use Rattle.cs_bytes.specs.Classes.{is_octal_digit, is_hexadecimal_digit}
+use Rattle.cs_bytes.specs.Places.{has_at}
+use Rattle.cs_pattern_items.specs.ByteKind.{is_plain}
+use Rattle.cs_pattern_items.specs.Character.{byte_of, letter, octal, hexadecimal, escape}
+use Rattle.cs_bytes.specs.Digits.{number_of}
 use Rattle.cs_pattern_items.specs.Steps.{and_more, up_to, steps}
 use Rattle.cs_pattern_items.specs.Quoted.{escaped, quoted_byte}
 use Rattle.cs_pattern_items.specs.Quoted as quotes
@@ -68,15 +71,15 @@ number_byte n = by_test (nat_le n 255) refl
 
 octal_byte : (text : List ℕ) → IsByteIfAny (octal text).0
 unfolding octal
-octal_byte text = number_byte (number 8 (take (min (prefix_len is_octal text) 3) text))
+octal_byte text = number_byte (number_of 8 (take (min (prefix_len is_octal_digit text) 3) text))
 
 hexadecimal_byte : (text : List ℕ) → IsByteIfAny (hexadecimal text).0
 unfolding hexadecimal
 hexadecimal_byte text =
-    either_way (λ (p : Option ℕ × ℕ). IsByteIfAny p.0) (min (prefix_len is_hexadecimal text) 2 == 0) (Some 120, 0)
-    (byte_of (number 16 (take (min (prefix_len is_hexadecimal text) 2) text)), min (prefix_len is_hexadecimal text) 2)
+    either_way (λ (p : Option ℕ × ℕ). IsByteIfAny p.0) (min (prefix_len is_hexadecimal_digit text) 2 == 0) (Some 120, 0)
+    (byte_of (number_of 16 (take (min (prefix_len is_hexadecimal_digit text) 2) text)), min (prefix_len is_hexadecimal_digit text) 2)
     (omega arith)
-    (number_byte (number 16 (take (min (prefix_len is_hexadecimal text) 2) text)))
+    (number_byte (number_of 16 (take (min (prefix_len is_hexadecimal_digit text) 2) text)))
 
 letter_byte : (b : ℕ) → b < 256 → letter b < 256
 letter_byte b lt =
@@ -92,7 +95,7 @@ unfolding escape
 escape_byte [] h = tt
 escape_byte (b ∷ rest) h =
     either_way EscapesByte (b == 10) None _ tt
-    (either_way EscapesByte (is_octal b) (Some (octal (b ∷ rest))) _ (octal_byte (b ∷ rest))
+    (either_way EscapesByte (is_octal_digit b) (Some (octal (b ∷ rest))) _ (octal_byte (b ∷ rest))
     (either_way EscapesByte (b == 120) (Some ((hexadecimal rest).0, (hexadecimal rest).1 + 1)) (Some (Some (letter b), 1)) (hexadecimal_byte rest)
     (letter_byte b (All-head (λ c. c < 256) b rest h))))
 

@@ -4,7 +4,8 @@ use Rattle.std.specs.List.{list_any}
 use Rattle.std.specs.Str.{bytes_eq}
 use Rattle.cs_pattern_items.specs.declared.bracket.Class.{Class}
 use Rattle.cs_pattern_items.specs.declared.bracket.Class.TheVariants.{Upper, Lower, Digit, Alpha, Alnum, Xdigit, Blank, Space, Cntrl, Graph, Print, Punct}
-use Rattle.cs_pattern_items.specs.ByteKind.{has_at, is_letter, is_decimal, is_hexadecimal}
+use Rattle.cs_bytes.specs.Classes.{is_letter, is_digit, is_hexadecimal_digit}
+use Rattle.cs_bytes.specs.Places.{has_at}
 use Rattle.cs_pattern_items.specs.Members.{bytes_where, has}
 use Rattle.cs_pattern_items.specs.Marks.{Mark, plain, escaped, class, collating, marks}
 
@@ -32,16 +33,16 @@ class_of name = or_else (letter_class name) (other_class name)
 unfoldable pub is_in_class : Class → ℕ → Bool
 is_in_class Upper b = nat_le 65 b && nat_le b 90
 is_in_class Lower b = nat_le 97 b && nat_le b 122
-is_in_class Digit b = is_decimal b
+is_in_class Digit b = is_digit b
 is_in_class Alpha b = is_letter b
-is_in_class Alnum b = is_letter b || is_decimal b
-is_in_class Xdigit b = is_hexadecimal b
+is_in_class Alnum b = is_letter b || is_digit b
+is_in_class Xdigit b = is_hexadecimal_digit b
 is_in_class Blank b = (b == 32) || (b == 9)
 is_in_class Space b = (b == 32) || (nat_le 9 b && nat_le b 13)
 is_in_class Cntrl b = nat_le b 31 || (b == 127)
 is_in_class Graph b = nat_le 33 b && nat_le b 126
 is_in_class Print b = nat_le 32 b && nat_le b 126
-is_in_class Punct b = (nat_le 33 b && nat_le b 126) && not (is_letter b || is_decimal b)
+is_in_class Punct b = (nat_le 33 b && nat_le b 126) && not (is_letter b || is_digit b)
 
 abbrev pub class_by : Option Class → ℕ → Option Bool
 class_by None b = None

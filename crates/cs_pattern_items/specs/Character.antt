@@ -1,15 +1,8 @@
 -- Escapes (POSIX lex, escape sequences).
-use Rattle.std.specs.Prelude.{ℕ, ◌+◌, ◌-◌, ◌*◌, min, fold, take, ◌==◌, nat_le, ◌&&◌, if◌then◌else◌, List, [], ◌∷◌, Option, Some, None}
+use Rattle.std.specs.Prelude.{ℕ, ◌+◌, min, take, ◌==◌, nat_le, if◌then◌else◌, List, [], ◌∷◌, Option, Some, None}
 use Rattle.std.specs.List.{prefix_len}
-use Rattle.cs_pattern_items.specs.ByteKind.{is_decimal, is_octal, is_hexadecimal}
-
--- the value of a digit in a base up to 16
-abbrev pub digit : ℕ → ℕ
-digit b = if is_decimal b then b - 48 else (if nat_le 65 b && nat_le b 70 then b - 65 + 10 else (if nat_le 97 b && nat_le b 102 then b - 97 + 10 else 0))
-
--- the number that digits spell
-abbrev pub number : ℕ → List ℕ → ℕ
-number base digits = fold (λ n b. n * base + digit b) 0 digits
+use Rattle.cs_bytes.specs.Classes.{is_octal_digit, is_hexadecimal_digit}
+use Rattle.cs_bytes.specs.Digits.{number_of}
 
 -- the byte of a number, where it is one
 abbrev pub byte_of : ℕ → Option ℕ
@@ -23,17 +16,17 @@ letter b =
 
 -- the longest run of up to three octal digits: its byte, which is missing above 255, and its size
 unfoldable pub octal : List ℕ → Option ℕ × ℕ
-octal text = (byte_of (number 8 (take (min (prefix_len is_octal text) 3) text)), min (prefix_len is_octal text) 3)
+octal text = (byte_of (number_of 8 (take (min (prefix_len is_octal_digit text) 3) text)), min (prefix_len is_octal_digit text) 3)
 
 -- one or two hexadecimal digits behind `x`, which stands for itself where there is none
 unfoldable pub hexadecimal : List ℕ → Option ℕ × ℕ
 hexadecimal text =
-    if min (prefix_len is_hexadecimal text) 2 == 0 then (Some 120, 0)
-    else (byte_of (number 16 (take (min (prefix_len is_hexadecimal text) 2) text)), min (prefix_len is_hexadecimal text) 2)
+    if min (prefix_len is_hexadecimal_digit text) 2 == 0 then (Some 120, 0)
+    else (byte_of (number_of 16 (take (min (prefix_len is_hexadecimal_digit text) 2) text)), min (prefix_len is_hexadecimal_digit text) 2)
 
 -- The escape behind a backslash: its byte, if it has one, and its size. There is none where nothing or a newline follows.
 unfoldable pub escape : List ℕ → Option (Option ℕ × ℕ)
 escape [] = None
 escape (b ∷ rest) =
-    if b == 10 then None else (if is_octal b then Some (octal (b ∷ rest))
+    if b == 10 then None else (if is_octal_digit b then Some (octal (b ∷ rest))
     else (if b == 120 then Some ((hexadecimal rest).0, (hexadecimal rest).1 + 1) else Some (Some (letter b), 1)))

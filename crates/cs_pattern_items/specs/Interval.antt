@@ -3,8 +3,10 @@ use Rattle.std.specs.Prelude.{ℕ, ◌+◌, ◌==◌, nat_le, ◌&&◌, if◌the
 use Rattle.std.specs.List.{prefix_len}
 use Rattle.cs_pattern_items.specs.declared.item.Repetition.{Repetition}
 use Rattle.cs_pattern_items.specs.declared.item.Repetition.TheVariants.{Exactly, AtLeast, Between}
-use Rattle.cs_pattern_items.specs.ByteKind.{has_at, is_decimal, begins_name, is_name_byte}
-use Rattle.cs_pattern_items.specs.Character.{number}
+use Rattle.cs_bytes.specs.Classes.{is_digit, begins_word}
+use Rattle.cs_bytes.specs.Places.{has_at}
+use Rattle.cs_pattern_items.specs.ByteKind.{is_name_byte}
+use Rattle.cs_bytes.specs.Digits.{number_of}
 
 -- the numbers of an interval are at most 1,000, the first is at most the second, and the last is at least 1, but for `{0,}`
 abbrev pub exactly : ℕ → Option Repetition
@@ -22,13 +24,13 @@ sized (Some r) n = Some (r, n)
 
 -- the digits at the front of a text
 abbrev pub digits : List ℕ → ℕ
-digits text = prefix_len is_decimal text
+digits text = prefix_len is_digit text
 
 -- what stands behind the comma
 unfoldable pub open_interval : ℕ → List ℕ → Option (Repetition × ℕ)
 open_interval n text =
     if has_at text (digits text) 125
-    then sized (if digits text == 0 then at_least n else between n (number 10 (take (digits text) text))) (digits text + 1) else None
+    then sized (if digits text == 0 then at_least n else between n (number_of 10 (take (digits text) text))) (digits text + 1) else None
 
 abbrev pub longer : ℕ → Option (Repetition × ℕ) → Option (Repetition × ℕ)
 longer n None = None
@@ -38,14 +40,14 @@ longer n (Some (r, m)) = Some (r, n + m)
 unfoldable pub interval : List ℕ → Option (Repetition × ℕ)
 interval text =
     if digits text == 0 then None
-    else (if has_at text (digits text) 125 then sized (exactly (number 10 (take (digits text) text))) (digits text + 1)
-    else (if has_at text (digits text) 44 then longer (digits text + 1) (open_interval (number 10 (take (digits text) text)) (drop (digits text + 1) text)) else None))
+    else (if has_at text (digits text) 125 then sized (exactly (number_of 10 (take (digits text) text))) (digits text + 1)
+    else (if has_at text (digits text) 44 then longer (digits text + 1) (open_interval (number_of 10 (take (digits text) text)) (drop (digits text + 1) text)) else None))
 
 -- the name behind a `{`, and its size with the `}`
 unfoldable pub name : List ℕ → Option (List ℕ × ℕ)
 name [] = None
 name (b ∷ rest) =
-    if begins_name b && has_at (b ∷ rest) (prefix_len is_name_byte (b ∷ rest)) 125
+    if begins_word b && has_at (b ∷ rest) (prefix_len is_name_byte (b ∷ rest)) 125
     then Some (take (prefix_len is_name_byte (b ∷ rest)) (b ∷ rest), prefix_len is_name_byte (b ∷ rest) + 1) else None
 
 -- what was found ends within so many bytes, with those before it

@@ -1,6 +1,6 @@
 -- Quoted texts (POSIX lex, regular expressions).
 use Rattle.std.specs.Prelude.{ℕ, ◌+◌, ◌==◌, ◌||◌, if◌then◌else◌, List, [], ◌∷◌, Option, Some, None}
-use Rattle.cs_pattern_items.specs.ByteKind.{has_at}
+use Rattle.cs_bytes.specs.Places.{has_at}
 use Rattle.cs_pattern_items.specs.Character.{escape}
 use Rattle.cs_pattern_items.specs.Steps.{steps}
 

@@ -8,7 +8,8 @@ use Rattle.cs_pattern_items.specs.declared.item.Repetition.{Repetition}
 use Rattle.cs_pattern_items.specs.declared.item.Repetition.TheVariants.{Optional, Exactly, AtLeast, Between}
 use Rattle.cs_pattern_items.specs.declared.front.Stop.{Stop}
 use Rattle.cs_pattern_items.specs.declared.front.Stop.TheVariants.{Anchor, Trailing, Collation, Syntax}
-use Rattle.cs_pattern_items.specs.ByteKind.{is_plain, begins_name, is_name_byte}
+use Rattle.cs_bytes.specs.Classes.{begins_word}
+use Rattle.cs_pattern_items.specs.ByteKind.{is_plain, is_name_byte}
 use Rattle.cs_pattern_items.specs.Members.{bytes_where}
 use Rattle.cs_pattern_items.specs.Parts.{Shows, Escapes, InTurn, BeginsWith}
 use Rattle.cs_pattern_items.specs.Brackets.{IsBracket, BeginsCollation}
@@ -44,7 +45,7 @@ pub data IsInterval : List ℕ → Repetition → Type 0 where
 
 abbrev pub IsName : List ℕ → Type 0
 IsName [] = ⊥
-IsName (b ∷ rest) = (begins_name b ≡ true) × (list_all is_name_byte rest ≡ true)
+IsName (b ∷ rest) = (begins_word b ≡ true) × (list_all is_name_byte rest ≡ true)
 
 -- ---- items
 

@@ -7,9 +7,9 @@ ghost use Rattle.cs_pattern_items.specs.Bracket as spec;
 ghost use Rattle.cs_pattern_items.specs.Inserting.{Inserts, InsertsRange, AddsOrRefuses, IsSetOrNone};
 ghost use Rattle.cs_pattern_items.specs.Views.{mark_of, marks_of, bracket_of, IsWithin};
 
-use crate::byte_kind::{from_offset, has_at, is_hexadecimal};
 use crate::byte_set::ByteSet;
 use crate::mark::{Mark, marks};
+use cs_bytes::{from_offset, has_at};
 use std::alloc::{AllocError, Global};
 
 /// What a `[` begins.
@@ -110,7 +110,7 @@ fn is_in_class(class: Class, byte: u8) -> bool
         Class::Digit => byte.is_ascii_digit(),
         Class::Alpha => byte.is_ascii_alphabetic(),
         Class::Alnum => byte.is_ascii_alphanumeric(),
-        Class::Xdigit => is_hexadecimal(byte),
+        Class::Xdigit => byte.is_ascii_hexdigit(),
         Class::Blank => matches!(byte, b' ' | b'\t'),
         Class::Space => matches!(byte, b' ' | 9..=13),
         Class::Cntrl => matches!(byte, 0..=31 | 127),

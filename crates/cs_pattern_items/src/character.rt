@@ -1,34 +1,10 @@
 // Escapes, and the characters of quoted texts and brackets (POSIX lex, escape sequences).
 
 ghost use Rattle.std.specs.Prelude.{◌≡◌, ◌≤◌, ◌<◌, min, length, slice_get, IfSome, IsSomeAnd, IsTrue};
-ghost use Rattle.cs_pattern_items.specs.ByteKind as kinds;
+ghost use Rattle.cs_bytes.specs.Classes.{is_octal_digit};
 ghost use Rattle.cs_pattern_items.specs.Character as spec;
 
-use crate::byte_kind::{hexadecimal_len, octal_len};
-
-/// The value of a digit in a base up to 16.
-fn digit(byte: u8) -> u32
-    ensures { result ≡ spec.digit byte }
-{
-    match byte {
-        b'0'..=b'9' => (byte - b'0') as u32,
-        b'A'..=b'F' => (byte - b'A') as u32 + 10,
-        b'a'..=b'f' => (byte - b'a') as u32 + 10,
-        _ => 0,
-    }
-}
-
-/// The number that the digits spell, or the greatest `u32` where it is larger.
-pub fn number(base: u32, digits: &[u8]) -> u32
-    requires { 1 ≤ base }
-    ensures { result ≡ min (spec.number base digits.now) 4294967295 }
-{
-    let mut value: u32 = 0;
-    for byte in digits {
-        value = value.saturating_mul(base).saturating_add(digit(*byte));
-    }
-    value
-}
+use cs_bytes::{ByteClass, number, run_len};
 
 /// The byte of a number, where it is one.
 fn to_byte(number: u32) -> Option<u8>
@@ -56,12 +32,12 @@ fn letter(byte: u8) -> u8
 /// Up to three octal digits. There is no byte where the number is above 255.
 #[tactic(auto, unfolding(crate::specs::Character::octal))]
 fn octal(text: &[u8]) -> (Option<u8>, usize)
-    requires { IsSomeAnd (slice_get text.now 0) (λ b. IsTrue (kinds.is_octal b)) }
+    requires { IsSomeAnd (slice_get text.now 0) (λ b. IsTrue (is_octal_digit b)) }
     ensures value { result ≡ spec.octal text.now }
     ensures some { 0 < result.1 }
     ensures within { result.1 ≤ length text.now }
 {
-    let size = octal_len(text).min(3);
+    let size = run_len(text, ByteClass::OctalDigit).min(3);
     (to_byte(number(8, &text[..size])), size)
 }
 
@@ -71,7 +47,7 @@ fn hexadecimal(rest: &[u8]) -> (Option<u8>, usize)
     ensures value { result ≡ spec.hexadecimal rest.now }
     ensures within { result.1 ≤ length rest.now }
 {
-    let size = hexadecimal_len(rest).min(2);
+    let size = run_len(rest, ByteClass::HexadecimalDigit).min(2);
     if size == 0 {
         (Some(b'x'), 0)
     } else {

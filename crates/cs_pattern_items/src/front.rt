@@ -1,6 +1,7 @@
 // The item at the front of a text.
 
 ghost use Rattle.std.specs.Prelude.{◌≡◌, ◌+◌, length, IfOk};
+ghost use Rattle.cs_pattern_items.specs.ByteKind.{is_plain};
 ghost use Rattle.cs_pattern_items.specs.Front as spec;
 ghost use Rattle.cs_pattern_items.specs.Character as characters;
 ghost use Rattle.cs_pattern_items.specs.Quoted as quotes;
@@ -9,7 +10,6 @@ ghost use Rattle.cs_pattern_items.specs.Members.{bytes_where};
 ghost use Rattle.cs_pattern_items.specs.Views.{item_of, IsFront, FrontWithin, front_of as seen};
 
 use crate::bracket::{Bracket, read_bracket};
-use crate::byte_kind::is_plain;
 use crate::byte_set::ByteSet;
 use crate::character::escape;
 use crate::interval::{interval, name};
@@ -30,6 +30,32 @@ pub enum Stop {
 pub enum Front {
     Item(Item, usize),
     Stop(Stop),
+}
+
+/// Whether the byte stands for itself outside quotes and brackets, wherever it stands.
+fn is_plain(byte: u8) -> bool
+    ensures { result ≡ is_plain byte }
+{
+    !matches!(
+        byte,
+        b' ' | b'\t'
+            | b'\r'
+            | b'\n'
+            | b'"'
+            | b'\\'
+            | b'.'
+            | b'['
+            | b'('
+            | b')'
+            | b'|'
+            | b'*'
+            | b'+'
+            | b'?'
+            | b'{'
+            | b'^'
+            | b'$'
+            | b'/'
+    )
 }
 
 fn one_byte(byte: u8) -> Item

@@ -4,9 +4,8 @@ ghost use Rattle.std.specs.Prelude.{◌≡◌, ◌≤◌, ◌<◌, ◌+◌, ◌^
 ghost use Rattle.cs_pattern_items.specs.Interval as spec;
 
 use crate::MOST_REPEATS;
-use crate::byte_kind::{begins_name, decimal_len, from_offset, has_at, name_len};
-use crate::character::number;
 use crate::item::Repetition;
+use cs_bytes::{ByteClass, begins, from_offset, has_at, number, run_len};
 
 /// The interval of these two numbers, where it is one.
 fn between(least: u32, most: u32) -> Option<Repetition>
@@ -67,7 +66,7 @@ fn open_interval(least: u32, text: &[u8]) -> Option<(Repetition, usize)>
     ensures value { (n : ℕ) → least ≡ min n 4294967295 → result ≡ spec.open_interval n text.now }
     ensures size { IfSome result (λ r. r.1 ≤ length text.now) }
 {
-    let size = decimal_len(text);
+    let size = run_len(text, ByteClass::Digit);
     if !has_at(text, size, b'}') {
         return None;
     }
@@ -82,7 +81,7 @@ pub fn interval(text: &[u8]) -> Option<(Repetition, usize)>
     ensures value { result ≡ spec.interval text.now }
     ensures size { IfSome result (λ r. r.1 ≤ length text.now) }
 {
-    let size = decimal_len(text);
+    let size = run_len(text, ByteClass::Digit);
     if size == 0 {
         return None;
     }
@@ -103,11 +102,8 @@ pub fn name(text: &[u8]) -> Option<(&[u8], usize)>
     ensures value { option_map (λ p. (p.0.now, p.1)) result ≡ spec.name text.now }
     ensures size { IfSome result (λ r. r.1 ≤ length text.now) }
 {
-    let [first, ..] = text else {
-        return None;
-    };
-    let size = name_len(text);
-    if begins_name(*first) && has_at(text, size, b'}') {
+    let size = run_len(text, ByteClass::WordOr(b'-'));
+    if begins(text, ByteClass::WordStart) && has_at(text, size, b'}') {
         Some((&text[..size], size + 1))
     } else {
         None

@@ -1,8 +1,8 @@
 //! The lexical layer of patterns: which item a pattern's text spells in front (POSIX lex, "Regular expressions in lex").
 //!
 //! The layer above asks `front_of` for the item in front of what is left of a text and its size, or why there is none, and
-//! decides itself which item may stand where. It may use `ByteSet` for the bytes that an item matches, and `has_at` and
-//! `from_offset` to walk over a text. What an item means is no part of this layer.
+//! decides itself which item may stand where. It may use `ByteSet` for the bytes that an item matches. What an item means is no
+//! part of this layer.
 //!
 //! Meaning, in `specs/`: `Members` (sets of bytes), `ByteKind` (kinds of bytes), `Parts` (escapes), `Brackets`, `Spelling` (what
 //! a text spells, and why it spells nothing), `Items`, `StandsFor`; of `Character` the table `letter`, of `Marks` the data
@@ -11,7 +11,6 @@
 #![tactic(auto)]
 
 mod bracket;
-mod byte_kind;
 mod byte_set;
 mod character;
 mod front;
@@ -21,7 +20,6 @@ mod laws;
 mod mark;
 mod quoted;
 
-pub use byte_kind::{from_offset, has_at};
 pub use byte_set::ByteSet;
 pub use front::{Front, Stop, front_of};
 pub use item::{Item, Placed, Repetition};

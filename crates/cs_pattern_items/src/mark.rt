@@ -1,12 +1,14 @@
 // What stands inside a bracket, one mark after another.
 
-ghost use Rattle.std.specs.Prelude.{◌≡◌, ◌<◌, ◌≤◌, ◌++◌, length, IfSome, IfOk, OnOk};
+ghost use Rattle.std.specs.Prelude.{◌≡◌, ◌<◌, ◌≤◌, ◌+◌, length, drop, IfSome, IfOk, OnOk};
+ghost use Rattle.std.specs.List.{prefix_len};
+ghost use Rattle.cs_pattern_items.specs.ByteKind.{is_inner};
 ghost use Rattle.cs_pattern_items.specs.Marks as spec;
 ghost use Rattle.cs_pattern_items.specs.Steps.{steps};
 ghost use Rattle.cs_pattern_items.specs.Views.{sized_mark, marks_of, AddsMarks};
 
-use crate::byte_kind::{from_offset, has_at, inner_len};
 use crate::character::escape;
+use cs_bytes::{ByteClass, from_offset, has_at, run_len};
 use std::alloc::{AllocError, Global};
 
 /// What stands inside a bracket.
@@ -23,16 +25,16 @@ pub enum Mark<'a> {
 }
 
 /// The named part behind a `[`, and its size without that: it goes through the next `]`, which stands directly behind a
-/// second byte of its kind.
+/// second byte of its kind. So many bytes stand behind its kind before the next `]` or newline.
 #[tactic(auto, unfolding(crate::specs::Marks::named_part))]
-fn named_part(text: &[u8]) -> Option<(Mark<'_>, usize)>
+fn named_part(text: &[u8], size: usize) -> Option<(Mark<'_>, usize)>
+    requires { size ≡ prefix_len is_inner (drop 1 text.now) }
     ensures value { sized_mark result ≡ spec.named_part text.now }
     ensures size { IfSome result (λ r. r.1 ≤ length text.now) }
 {
     let [kind, rest @ ..] = text else {
         return None;
     };
-    let size = inner_len(rest);
     if size == 0 || !has_at(rest, size, b']') || !has_at(rest, size - 1, *kind) {
         return None;
     }
@@ -43,9 +45,10 @@ fn named_part(text: &[u8]) -> Option<(Mark<'_>, usize)>
     }
 }
 
-/// The mark at the front of the text, and its size.
+/// The mark at the front of the text, and its size. So many bytes stand behind the first two before the next `]` or newline.
 #[tactic(auto, unfolding(crate::specs::Marks::mark))]
-fn mark_of(text: &[u8]) -> Option<(Mark<'_>, usize)>
+fn mark_of(text: &[u8], inner: usize) -> Option<(Mark<'_>, usize)>
+    requires { inner ≡ prefix_len is_inner (drop 2 text.now) }
     ensures value { sized_mark result ≡ spec.mark text.now }
     ensures size { IfSome result (λ r. (0 < r.1) × (r.1 ≤ length text.now)) }
 {
@@ -58,12 +61,45 @@ fn mark_of(text: &[u8]) -> Option<(Mark<'_>, usize)>
             let (byte, size) = escape(rest)?;
             Some((Mark::Escape(byte), size + 1))
         }
-        b'[' => match named_part(rest) {
+        b'[' => match named_part(rest, inner) {
             Some((part, size)) => Some((part, size + 1)),
             None => Some((Mark::Plain(b'['), 1)),
         },
         other => Some((Mark::Plain(other), 1)),
     }
+}
+
+/// How many bytes stand before the first `]` or newline.
+fn inner_len(text: &[u8]) -> usize
+    ensures len { result ≡ prefix_len is_inner text.now }
+    ensures within { result ≤ length text.now }
+{
+    run_len(text, ByteClass::Neither(b']', b'\n'))
+}
+
+/// The offset of the first `]` or newline at or behind the offset, or the text's length, where the known one is the first
+/// behind an earlier offset: so each byte is looked at once.
+fn next_end(text: &[u8], from: usize, known: usize) -> usize
+    requires { spec.IsEnd text.now from known }
+    ensures { result ≡ spec.end_from text.now from }
+{
+    if from <= known {
+        known
+    } else {
+        from + inner_len(from_offset(text, from.min(text.len())))
+    }
+}
+
+/// The mark at the offset, and its size. The end of what may stand in a named part moves on with the offset.
+fn mark_at<'a>(text: &'a [u8], at: usize, end: &mut usize) -> Option<(Mark<'a>, usize)>
+    requires within { at ≤ length text.now }
+    requires end { spec.IsEnd text.now (at + 2) end.old }
+    ensures value { sized_mark result ≡ spec.mark (drop at text.now) }
+    ensures size { IfSome result (λ r. (0 < r.1) × (at + r.1 ≤ length text.now)) }
+    ensures end { end.new ≡ spec.end_from text.now (at + 2) }
+{
+    *end = next_end(text, at + 2, *end);
+    mark_of(from_offset(text, at), *end - (at + 2))
 }
 
 /// Adds the marks from the front of the text on, and how many bytes they take.
@@ -73,7 +109,8 @@ fn push_marks<'a>(marks: &mut Vec<Mark<'a>>, text: &'a [u8]) -> Result<usize, Al
     ensures within { IfOk result (λ n. n ≤ length text.now) }
 {
     let mut at = 0;
-    while let Some((mark, size)) = mark_of(from_offset(text, at)) {
+    let mut end = inner_len(text);
+    while let Some((mark, size)) = mark_at(text, at, &mut end) {
         marks.push(mark)?;
         at += size;
     }

@@ -3,8 +3,8 @@
 ghost use Rattle.std.specs.Prelude.{◌≡◌, ◌<◌, ◌≤◌, length, IfSome, IfOk, option_map};
 ghost use Rattle.cs_pattern_items.specs.Quoted as spec;
 
-use crate::byte_kind::{from_offset, has_at};
 use crate::character::escape;
+use cs_bytes::{from_offset, has_at};
 use std::alloc::{AllocError, Global};
 
 /// The byte at the front of a quoted text, and its size.

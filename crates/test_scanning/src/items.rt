@@ -1,6 +1,6 @@
 // The items of patterns, and sets of bytes.
 
-use cs_pattern_items::{ByteSet, Front, Item, from_offset, front_of, has_at};
+use cs_pattern_items::{ByteSet, Front, Item, front_of};
 use std::alloc::{AllocError, Global};
 use std::test::Fail;
 
@@ -102,7 +102,5 @@ fn sets_of_bytes(rt: HostRuntime) -> Result<(), Fail> {
     show_set(&mut shown, &set.union(&zero))?;
     assert_eq!(rt; shown.as_str(), " 61-63 ff 00-60 64-fe 00 61-63 ff");
     assert_eq!(rt; set.len(), 4);
-    assert!(rt; has_at(b"ab", 1, b'b') && !has_at(b"ab", 2, b'b'));
-    assert_eq!(rt; from_offset(b"abc", 1), b"bc".as_slice());
     Ok(())
 }

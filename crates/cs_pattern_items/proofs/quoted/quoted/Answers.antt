@@ -1,6 +1,6 @@
 use Rattle.std.proofs.Common.{◌≡◌, ◌+◌, ◌∙◌, ap, sym, arith, List, ℕ}
 use Rattle.std.specs.Prelude.{Some, None, if◌then◌else◌}
-use Rattle.cs_pattern_items.specs.ByteKind.{has_at}
+use Rattle.cs_bytes.specs.Places.{has_at}
 use Rattle.cs_pattern_items.specs.Quoted.{quoted, quoted_byte}
 use Rattle.cs_pattern_items.specs.Steps.{steps}
 use Rattle.cs_pattern_items.proofs.Walking.{walks_more, walks_all}
