@@ -17,6 +17,7 @@ mod op;
 mod program;
 mod running;
 mod sets;
+mod sharing;
 mod states;
 
 pub use automaton::Automaton;

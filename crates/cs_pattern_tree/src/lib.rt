@@ -15,6 +15,7 @@ mod counting;
 mod kind;
 mod laws;
 mod pattern;
+mod sharing;
 
 pub use copying::copy;
 pub use counting::leaf_count;

@@ -1,0 +1,13 @@
+// What threads may share.
+
+use crate::kind::Kind;
+use crate::pattern::Pattern;
+
+/// Takes what threads may share.
+fn take_shared<T: Sync>(_value: &T) {}
+
+/// Threads may share kinds and patterns.
+fn may_be_shared(kind: &Kind, pattern: &Pattern) {
+    take_shared(kind);
+    take_shared(pattern);
+}
