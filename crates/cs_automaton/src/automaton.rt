@@ -94,6 +94,13 @@ impl Automaton<'_> {
         0
     }
 
+    /// How many states there are, the start among them. States are the numbers below.
+    pub fn state_count(&self) -> usize
+        ensures { result ≡ length self.now.sets }
+    {
+        self.sets.len()
+    }
+
     /// Where the byte leads from the state.
     pub fn step(&self, state: State, byte: u8) -> Option<State>
         requires { state < length self.now.sets }
