@@ -3,9 +3,9 @@
 use Rattle.std.proofs.Common.{◌≡◌, ℕ, ◌+◌, ◌-◌, ◌≤◌, min, ap, sym, ◌∙◌, length, length-drop, List, [], ◌++◌, Option, None, Some, refl, take, drop, arith}
 use Rattle.std.specs.Io.KnownBytes.{append_known}
 use Rattle.std.proofs.lemmas.Grind.{common_steps}
-use Rattle.std.proofs.Math.Seq.{take-add, take-append-add}
+use Rattle.std.proofs.Math.Seq.{take-add, take-append-add, take-length, take-take}
 use Rattle.std.proofs.lemmas.List.{take_min, take-append-le}
-use Rattle.cs_io.specs.Sink.{GrewByPrefix}
+use Rattle.cs_io.specs.Sink.{GrewByPrefix, known_length}
 
 -- no text
 pub known_none : (known : Option (List ℕ)) → append_known known [] ≡ known
@@ -46,6 +46,28 @@ known_part old new first second part = record {
     shorter count =
         let within : min count (length first) ≤ length first = omega arith in
         sym (take_min count first) ∙ sym (take-append-le (min count (length first)) first second within)
+
+-- What a sink over a lent one got is a prefix of a text: then what the lent one got is a prefix too, where it took no byte
+-- back.
+pub lent_prefix : (old new : Option (List ℕ)) (waiting text : List ℕ) → GrewByPrefix old (append_known new waiting) text → known_length old ≤ known_length new → GrewByPrefix old new text
+lent_prefix None None waiting text part longer = record { count = 0; grew = refl }
+lent_prefix None (Some b) waiting text part longer = absurd (let e = part.grew in cc)
+lent_prefix (Some a) None waiting text part longer = absurd (let e = part.grew in cc)
+lent_prefix (Some a) (Some b) waiting text part longer = record { count = length b - length a; grew = ap Some whole }
+  where
+    same : b ++ waiting ≡ a ++ take part.count text
+    same = let e = part.grew in cc
+
+    within : length b - length a ≤ part.count
+    within = grind (arith, common_steps, ap length same)
+
+    whole : b ≡ a ++ take (length b - length a) text
+    whole =
+        let front : take (length b) (b ++ waiting) ≡ b = take-append-le (length b) b waiting (omega arith) ∙ take-length b in
+        let split : length b ≡ length a + (length b - length a) = omega (arith, longer) in
+        sym front ∙ ap (take (length b)) same ∙ ap (λ (n : ℕ). take n (a ++ take part.count text)) split
+        ∙ take-append-add a (take part.count text) (length b - length a)
+        ∙ ap (λ (t : List ℕ). a ++ t) (take-take (length b - length a) part.count text within)
 
 -- for a function that writes pieces, one after another
 pub ruleset known_pieces = (known_twice, known_then_part, known_part)

@@ -1,3 +1,4 @@
+pub mod BufferedSink
 pub mod Desk
 pub mod Failing
 pub mod Faults

@@ -9,24 +9,34 @@
 //!   rose;
 //! - a desk that is steady counts no fault, and a sink with room for the piece takes it.
 //!
+//! [`BufferedSink`] gathers small pieces in front of a lent sink. It is a sink whose bytes are those
+//! of the lent one with what waits behind them: after [`BufferedSink::flush`] nothing waits, and
+//! after a failure the lent sink has the first bytes of what was written. That no call changes which
+//! sink was lent, nor takes bytes back from it, is what the meanings `lent` and `passed` of a sink
+//! say.
+//!
 //! [`FolderDesk`] and [`StreamSink`] are the real outside, for `main`. [`MemoryDesk`] and
-//! [`MemorySink`] say exactly which of their calls fail, for tests.
+//! [`MemorySink`] say exactly which of their calls fail, for tests. [`NullSink`] keeps nothing.
 //!
 //! All files of `specs/` are meaning: `Desk`, `Sink` and `Faults` of the traits, the others of the
 //! implementations of their names.
 #![tactic(auto)]
 
+mod buffered_sink;
 mod desk;
 mod failing;
 mod folder_desk;
 mod memory_desk;
 mod memory_sink;
+mod null_sink;
 mod sink;
 mod stream_sink;
 
+pub use buffered_sink::BufferedSink;
 pub use desk::{Desk, DeskError};
 pub use folder_desk::FolderDesk;
 pub use memory_desk::MemoryDesk;
 pub use memory_sink::MemorySink;
+pub use null_sink::NullSink;
 pub use sink::{Sink, SinkError, write_all};
 pub use stream_sink::StreamSink;

@@ -1,4 +1,5 @@
-ghost use Rattle.std.specs.Prelude.{◌≡◌, ◌+◌, ◌<◌, ◌≤◌, IfOk, IsOk, OnErr, OnOk, List, Option, ℕ, length};
+ghost use Rattle.std.specs.Prelude.{◌≡◌, ◌+◌, ◌<◌, ◌≤◌, IfOk, IsOk, OnErr, OnOk, List, None, Option, ℕ, length};
+ghost use Rattle.std.specs.Borrow.{GName};
 ghost use Rattle.std.specs.Io.KnownBytes.{append_known};
 ghost use Rattle.cs_io.specs.Faults.{Rose};
 ghost use Rattle.cs_io.specs.Sink.{GrewByFirst, GrewByPrefix};
@@ -27,6 +28,12 @@ pub trait Sink {
     /// How many more bytes it is sure to take: while this is at least 1, no write fails.
     ghost room: { Self → ℕ };
 
+    /// The reference to the sink that it writes to, for a sink over a lent one. No call changes it.
+    ghost lent: { Self → Option GName } = { λ _. None };
+
+    /// How many bytes it is known to have passed on to the lent sink.
+    ghost passed: { Self → ℕ } = { λ _. 0 };
+
     /// Takes the first bytes of the piece, at least one, and answers how many. It takes no memory.
     ///
     /// The piece isn't empty. After `SinkError::Failed` the sink has taken nothing of it.
@@ -46,7 +53,11 @@ pub trait Sink {
         // What room is for.
         ensures ok_with_room { 0 < room self.old → IsOk result }
         ensures no_fault { 0 < room self.old → faults self.new ≡ faults self.old }
-        ensures room_left { IfOk result (λ count. room self.old ≤ room self.new + count) };
+        ensures room_left { IfOk result (λ count. room self.old ≤ room self.new + count) }
+
+        // The lent sink.
+        ensures same_lent { lent self.new ≡ lent self.old }
+        ensures passed_never_falls { passed self.old ≤ passed self.new };
 }
 
 /// Writes the whole piece, which may be empty, in as many calls as the sink wants. It takes no
@@ -67,6 +78,10 @@ pub fn write_all<S: Sink>(sink: &mut S, piece: &[u8]) -> Result<(), SinkError>
     ensures no_fault { length piece.now ≤ S.room sink.old
         → S.faults sink.new ≡ S.faults sink.old }
     ensures room_left { OnOk result (S.room sink.old ≤ S.room sink.new + length piece.now) }
+
+    // The lent sink.
+    ensures same_lent { S.lent sink.new ≡ S.lent sink.old }
+    ensures passed_never_falls { S.passed sink.old ≤ S.passed sink.new }
 {
     let mut at = 0usize;
     while at < piece.len() {

@@ -1,7 +1,8 @@
 // Desks and sinks: what is expected was worked by hand from what the calls promise.
 
 use cs_io::{
-    Desk, DeskError, FolderDesk, MemoryDesk, MemorySink, Sink, SinkError, StreamSink, write_all,
+    BufferedSink, Desk, DeskError, FolderDesk, MemoryDesk, MemorySink, NullSink, Sink, SinkError,
+    StreamSink, write_all,
 };
 use std::fs;
 use std::test::Fail;
@@ -96,5 +97,50 @@ fn a_stream_is_written(rt: HostRuntime) -> Result<(), Fail> {
     let mut slice = StreamSink::new(short.as_mut_slice());
     assert_eq!(rt; slice.write(b"abc"), Ok(2));
     assert_eq!(rt; slice.write(b"c"), Err(SinkError::Failed));
+    Ok(())
+}
+
+#[test]
+fn a_buffered_sink_passes_on_large_pieces(rt: HostRuntime) -> Result<(), Fail> {
+    let alloc = rt.alloc();
+    let mut lent = MemorySink::new(alloc, 20, 20, Vec::new(alloc))?;
+    let mut buffer = Vec::with_capacity(alloc, 4)?;
+    let mut sink = BufferedSink::new(&mut lent, &mut buffer);
+    for piece in [
+        b"ab".as_slice(),
+        b"cd".as_slice(),
+        b"e".as_slice(),
+        b"fghijk".as_slice(),
+        b"l".as_slice(),
+    ] {
+        assert_eq!(rt; write_all(&mut sink, piece), Ok(()));
+    }
+    assert_eq!(rt; lent.written(), b"abcdefghijk".as_slice());
+    let mut sink = BufferedSink::new(&mut lent, &mut buffer);
+    assert_eq!(rt; write_all(&mut sink, b"m"), Ok(()));
+    assert_eq!(rt; sink.flush(), Ok(()));
+    assert_eq!(rt; lent.written(), b"abcdefghijkm".as_slice());
+    Ok(())
+}
+
+#[test]
+fn a_buffered_sink_keeps_what_a_failed_flush_left(rt: HostRuntime) -> Result<(), Fail> {
+    let alloc = rt.alloc();
+    let mut lent = MemorySink::new(alloc, 20, 1, [2].to_vec(alloc)?)?;
+    let mut buffer = Vec::with_capacity(alloc, 4)?;
+    let mut sink = BufferedSink::new(&mut lent, &mut buffer);
+    assert_eq!(rt; write_all(&mut sink, b"abcd"), Ok(()));
+    assert_eq!(rt; write_all(&mut sink, b"ef"), Err(SinkError::Failed));
+    assert_eq!(rt; write_all(&mut sink, b"gh"), Ok(()));
+    assert_eq!(rt; sink.flush(), Ok(()));
+    assert_eq!(rt; lent.written(), b"abcdgh".as_slice());
+    Ok(())
+}
+
+#[test]
+fn a_null_sink_takes_each_piece_whole(rt: HostRuntime) -> Result<(), Fail> {
+    let mut sink = NullSink::new();
+    assert_eq!(rt; sink.write(b"abc"), Ok(3));
+    assert_eq!(rt; write_all(&mut sink, b""), Ok(()));
     Ok(())
 }
