@@ -7,9 +7,9 @@ use Rattle.cs_grammar.specs.Weights.{Measure}
 use Rattle.cs_grammar.specs.Stack.{AreOnTop}
 use Rattle.cs_grammar.specs.Tree.{Tree, IsTree, size, code}
 use Rattle.cs_cost.specs.declared.cost.Cost.{Cost}
-use Rattle.cs_cost.specs.declared.trees.Trees.{Trees}
 use Rattle.cs_cost.specs.Rank.{rank, entry}
 use Rattle.cs_cost.specs.Trees.{IsFirstRule}
+use Rattle.cs_cost.specs.Tables.{Kept}
 use Rattle.cs_cost.specs.Chosen.{IsChosen}
 
 -- the codes of the chosen trees of these symbols make this list of rule numbers
@@ -23,12 +23,12 @@ abbrev pub IsWithin : Measure → PlainGrammar → Symbol → Type 0
 IsWithin w g x = IsSymbol g.tokens g.nonterminals x × ((t : Tree) × IsTree g x t × (size w t ≤ w.limit))
 
 -- the table's cost of a nonterminal is within the limit
-abbrev pub IsSmallIn : Trees → ℕ → Type 0
-IsSmallIn trees left = rank trees.weights.now.limit (entry trees.table.items left) ≤ trees.weights.now.limit
+abbrev pub IsSmallIn : Kept → ℕ → Type 0
+IsSmallIn kept left = rank kept.weights.limit (entry kept.table left) ≤ kept.weights.limit
 
 -- the pending symbols have trees within the limit
-abbrev pub AreSmallIn : Trees → Vec Symbol → Type 0
-AreSmallIn trees pending = All (IsWithin trees.weights.now trees.grammar.now) (reverse pending.items)
+abbrev pub AreSmallIn : Kept → Vec Symbol → Type 0
+AreSmallIn kept pending = All (IsWithin kept.weights kept.grammar) (reverse pending.items)
 
 -- the first rule of a nonterminal is written, and its right side is pending
 pub record Opens (w : Measure) (g : PlainGrammar) (table : List Cost) (left : ℕ) (pending_old pending_new : List Symbol) (old new : List ℕ) : Type 0 where
@@ -37,11 +37,11 @@ pub record Opens (w : Measure) (g : PlainGrammar) (table : List Cost) (left : �
   pub pending : AreOnTop first.rule.right pending_old pending_new
   pub text : new ≡ old ++ number ∷ []
 
-abbrev pub OpensIn : Trees → ℕ → Vec Symbol → Vec Symbol → Vec ℕ → Vec ℕ → Type 0
-OpensIn trees left pending_old pending_new old new =
-    Opens trees.weights.now trees.grammar.now trees.table.items left pending_old.items pending_new.items old.items new.items
+abbrev pub OpensIn : Kept → ℕ → Vec Symbol → Vec Symbol → Vec ℕ → Vec ℕ → Type 0
+OpensIn kept left pending_old pending_new old new =
+    Opens kept.weights kept.grammar kept.table left pending_old.items pending_new.items old.items new.items
 
 -- the codes of the chosen trees of the pending symbols come behind what stood there
-abbrev pub WritesTexts : Trees → Vec Symbol → Vec ℕ → Vec ℕ → Type 0
-WritesTexts trees pending old new =
-    (text : List ℕ) → IsText trees.weights.now trees.grammar.now (reverse pending.items) text → new.items ≡ old.items ++ text
+abbrev pub WritesTexts : Kept → Vec Symbol → Vec ℕ → Vec ℕ → Type 0
+WritesTexts kept pending old new =
+    (text : List ℕ) → IsText kept.weights kept.grammar (reverse pending.items) text → new.items ≡ old.items ++ text

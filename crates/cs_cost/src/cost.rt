@@ -1,11 +1,7 @@
 // What the least thing of a kind costs, and sums of such costs.
 
-ghost use Rattle.std.specs.Prelude.{◌≡◌, ◌-◌, ◌≤◌, length, slice_set};
-ghost use Rattle.std.specs.Bool.{OnTrue, OnFalse};
-ghost use Rattle.cs_grammar.specs.Grammar.{IsNumberOf};
-ghost use Rattle.cs_cost.specs.Rank.{rank, IsCapped, cost_of, plus, TellsLower, TellsLowered};
-
-use cs_grammar::place_of;
+ghost use Rattle.std.specs.Prelude.{◌≡◌, ◌≤◌};
+ghost use Rattle.cs_cost.specs.Rank.{rank, IsCapped, cost_of, plus, TellsLower};
 
 /// What the least of a kind of trees costs: there is none, or each is larger than the limit, or the least has this size.
 #[derive(Clone, Copy, Debug, PartialEq, Eq)]
@@ -49,22 +45,6 @@ pub fn is_below(a: Cost, b: Cost) -> bool
         (Cost::Least(_), _) => true,
         (Cost::Large, Cost::Never) => true,
         _ => false,
-    }
-}
-
-/// Writes a number's cost where it is below the table's, and says whether it was. The numbers of a table begin with 1.
-pub fn lower(table: &mut [Cost], number: u16, cost: Cost) -> bool
-    requires number { IsNumberOf (length table.old) number }
-    ensures lowered { OnTrue result (table.new ≡ slice_set table.old (number - 1) cost) }
-    ensures kept { OnFalse result (table.new ≡ table.old) }
-    ensures lower { TellsLowered result table.old number cost }
-{
-    let place = place_of(number);
-    if is_below(cost, table[place]) {
-        table[place] = cost;
-        true
-    } else {
-        false
     }
 }
 

@@ -22,13 +22,10 @@ pub struct Costs<'g> {
 
 impl<'g> Model for Costs<'g> {
     ghost use Rattle.cs_grammar.specs.Weights.{Weighed, weighed};
-    ghost use Rattle.cs_cost.specs.Tables.{HasTables};
 
     ghost Value = { Weighed };
 
-    ghost view = { λ c. weighed c.trees.grammar.now c.trees.weights.now };
-
-    ghost invariant = { λ c. HasTables c.trees };
+    ghost view = { λ c. weighed c.trees.grammar c.trees.weights };
 }
 
 impl<'g> Costs<'g> {
@@ -66,7 +63,8 @@ impl<'g> Costs<'g> {
         requires { IsSymbolOf self.now.grammar symbol }
         ensures { IsTreeCost self.now symbol result }
     {
-        cost_in(self.trees.weights, &self.trees.table, symbol)
+        let trees = &self.trees;
+        cost_in(trees.weights, &trees.table, symbol)
     }
 
     /// What the least trees of symbols cost together, one of each: as `cost` answers, of the sum of their sizes.
@@ -74,13 +72,9 @@ impl<'g> Costs<'g> {
         requires { All (IsSymbolOf self.now.grammar) symbols.now }
         ensures { AreTreesCost self.now symbols.now result }
     {
-        let _rules = self.trees.grammar.rules();
-        sum_from(
-            self.trees.weights,
-            &self.trees.table,
-            Cost::Least(0),
-            symbols,
-        )
+        let trees = &self.trees;
+        let _rules = trees.grammar.rules();
+        sum_from(trees.weights, &trees.table, Cost::Least(0), symbols)
     }
 
     /// Appends the code of the chosen tree of a symbol, whose cost is a size. After a refusal `into` is unchanged.

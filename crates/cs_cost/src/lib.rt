@@ -18,6 +18,6 @@ mod users;
 mod worklist;
 mod writing;
 
-pub use cost::{Cost, cost_of, is_below, lower, plus};
+pub use cost::{Cost, cost_of, is_below, plus};
 pub use costs::Costs;
 pub use laws::{chosen_tree_exists, one_chosen_tree};

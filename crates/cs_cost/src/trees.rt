@@ -3,7 +3,6 @@
 ghost use Rattle.std.specs.Prelude.{◌≡◌, ◌↔◌, IsTrue, IfOk, length, All};
 ghost use Rattle.cs_grammar.specs.Grammar.{IsNumberOf, IsSymbol};
 ghost use Rattle.cs_cost.specs.Rank.{IsCapped};
-ghost use Rattle.cs_cost.specs.Tables.{HasTables};
 ghost use Rattle.cs_cost.specs.Trees.{IsCostTable, IsFirstSoFar, AreFirstRules};
 
 use crate::cost::{Cost, is_below};
@@ -11,6 +10,7 @@ use crate::sums::node_cost;
 use crate::worklist::settled;
 use cs_grammar::{Grammar, Symbol, Weights, number_of, place_of};
 use std::alloc::{AllocError, Global};
+use std::marker::Model;
 
 // What the least tree of each nonterminal costs.
 fn cost_table(alloc: Global, grammar: &Grammar, weights: &Weights) -> Result<Vec<Cost>, AllocError>
@@ -70,15 +70,24 @@ pub(crate) struct Trees<'g> {
     pub(crate) firsts: Vec<Option<u16>>,
 }
 
+impl<'g> Model for Trees<'g> {
+    ghost use Rattle.cs_cost.specs.Tables.{Kept, kept_of, HasTables};
+
+    ghost Value = { Kept };
+
+    ghost view = { λ t. kept_of t.grammar.now t.weights.now t.table.items t.firsts.items };
+
+    ghost invariant = { λ t. HasTables (kept_of t.grammar.now t.weights.now t.table.items t.firsts.items) };
+}
+
 pub(crate) fn trees_of<'g>(
     alloc: Global,
     grammar: &'g Grammar,
     weights: &'g Weights,
 ) -> Result<Trees<'g>, AllocError>
     requires { length weights.now.numbers ≡ grammar.now.tokens }
-    ensures grammar { IfOk result (λ trees. trees.grammar.now ≡ grammar.now) }
-    ensures weights { IfOk result (λ trees. trees.weights.now ≡ weights.now) }
-    ensures tables { IfOk result HasTables }
+    ensures grammar { IfOk result (λ trees. trees.grammar ≡ grammar.now) }
+    ensures weights { IfOk result (λ trees. trees.weights ≡ weights.now) }
 {
     let table = cost_table(alloc, grammar, weights)?;
     let firsts = first_rules(alloc, grammar, weights, &table)?;

@@ -2,7 +2,6 @@
 
 ghost use Rattle.std.specs.Prelude.{OnOk};
 ghost use Rattle.cs_grammar.specs.Grammar.{IsNumberOf};
-ghost use Rattle.cs_cost.specs.Tables.{HasTables};
 ghost use Rattle.cs_cost.specs.Parts.{IsSmallIn, AreSmallIn, OpensIn, WritesTexts};
 
 use crate::trees::Trees;
@@ -16,8 +15,7 @@ fn open_up(
     pending: &mut Vec<Symbol>,
     out: &mut Vec<u16>,
 ) -> Result<(), AllocError>
-    requires trees { HasTables trees.now }
-    requires left { IsNumberOf trees.now.grammar.now.nonterminals left }
+    requires left { IsNumberOf trees.now.grammar.nonterminals left }
     requires small { IsSmallIn trees.now left }
     ensures { OnOk result (OpensIn trees.now left pending.old pending.new out.old out.new) }
 {
@@ -34,10 +32,10 @@ pub(crate) fn write(
     pending: &mut Vec<Symbol>,
     out: &mut Vec<u16>,
 ) -> Result<(), AllocError>
-    requires trees { HasTables trees.now }
     requires small { AreSmallIn trees.now pending.old }
     ensures { OnOk result (WritesTexts trees.now pending.old out.old out.new) }
 {
+    let _table = &trees.table;
     while let Some(symbol) = pending.pop() {
         if let Symbol::Nonterminal(left) = symbol {
             open_up(trees, left, pending, out)?;

@@ -1,26 +1,37 @@
-use Rattle.std.proofs.Common.{◌≡◌, ◌++◌, List, reverse, ap, ◌∙◌, subst, refl}
+use Rattle.std.proofs.Common.{◌≡◌, ◌++◌, ℕ, List, Option, get_or, reverse, sym, ap, ◌∙◌, subst, refl}
 use Rattle.std.proofs.lemmas.Result.{on_ok_weaker}
 use Rattle.cs_grammar.specs.declared.symbol.Symbol.{Symbol}
-use Rattle.cs_grammar.specs.Grammar.{Production}
+use Rattle.cs_grammar.specs.Grammar.{Production, IsRule}
 use Rattle.cs_grammar.proofs.OneTree.{one_rule}
 use Rattle.cs_grammar.proofs.Measures.{IsNumberOf-rule}
 use Rattle.cs_cost.specs.Trees.{IsFirstRule}
+use Rattle.cs_cost.specs.Tables.{Kept, HasTables}
 use Rattle.cs_cost.proofs.FirstRules.{first_is}
 use Rattle.cs_cost.proofs.writing.open_up.Goals as goal
 
+-- what is read of the fields is read of the value
+read : (kept same : Kept) (n : ℕ) (o : Option ℕ) → kept ≡ same → o ≡ get_or kept.firsts n o → o ≡ get_or same.firsts n o
+read kept same n o e h = h ∙ ap (λ (k : Kept). get_or k.firsts n o) e
+
 pub rule-requires : goal.rule-requires
 rule-requires c =
-    let known = first_is c.args.trees.now.weights.now _ _ _ c.requires.trees.first_rules _ c.requires.left c.requires.small _ (rw c.place_of.ensures at c.index.ensures) in
+    let kept = c.args.trees.now in
+    let tables = subst HasTables c.trees.view_is c.trees.invariant in
+    let known = first_is kept.weights _ _ _ tables.first_rules _ c.requires.left c.requires.small _ (read _ kept _ _ c.trees.view_is (rw c.place_of.ensures at c.index.ensures)) in
     let here : known.0 ≡ c.in-Some.number = (let e = known.1 in let f = c.in-Some.is in cc) in
-    let first = subst (IsFirstRule c.args.trees.now.weights.now _ _ c.args.left) here known.2 in
-    IsNumberOf-rule _ _ _ first.number
+    let first = subst (IsFirstRule kept.weights _ _ c.args.left) here known.2 in
+    let rule = subst (λ (k : Kept). IsRule k.grammar c.in-Some.number first.rule) (sym c.trees.view_is) first.number in
+    IsNumberOf-rule _ _ _ rule
 
 pub returns : goal.returns
 returns c =
-    let known = first_is c.args.trees.now.weights.now _ _ _ c.requires.trees.first_rules _ c.requires.left c.requires.small _ (rw c.place_of.ensures at c.index.ensures) in
+    let kept = c.args.trees.now in
+    let tables = subst HasTables c.trees.view_is c.trees.invariant in
+    let known = first_is kept.weights _ _ _ tables.first_rules _ c.requires.left c.requires.small _ (read _ kept _ _ c.trees.view_is (rw c.place_of.ensures at c.index.ensures)) in
     let here : known.0 ≡ c.in-Some.number = (let e = known.1 in let f = c.in-Some.is in cc) in
-    let first = subst (IsFirstRule c.args.trees.now.weights.now _ _ c.args.left) here known.2 in
-    let same = one_rule c.args.trees.now.grammar.now _ _ _ _ refl c.rule.ensures.rule first.number in
+    let first = subst (IsFirstRule kept.weights _ _ c.args.left) here known.2 in
+    let rule = subst (λ (k : Kept). IsRule k.grammar c.in-Some.number c.rule.result.now) c.trees.view_is c.rule.ensures.rule in
+    let same = one_rule kept.grammar _ _ _ _ refl rule first.number in
     let right = c.right.ensures ∙ ap (λ (p : Production). p.right) same in
     on_ok_weaker c.put_on_top.result
     (λ e. record {

@@ -4,7 +4,7 @@ use Rattle.cs_cost.proofs.Written.{part_work, Writes}
 use Rattle.cs_cost.proofs.writing.write.Given as goal
 
 abbrev pub invariant-loop-symbol : goal.invariant-loop-symbol
-invariant-loop-symbol l = Writes l.trees.weights.now l.trees.grammar.now l.trees.table.items (reverse l.initial.pending.items) l.initial.out.items (reverse l.pending.items) l.out.items
+invariant-loop-symbol l = Writes l.trees.weights l.trees.grammar l.trees.table (reverse l.initial.pending.items) l.initial.out.items (reverse l.pending.items) l.out.items
 
 abbrev pub decreases-loop-symbol : goal.decreases-loop-symbol
-decreases-loop-symbol l = sum_by (part_work l.trees.weights.now l.trees.table.items) (reverse l.pending.items)
+decreases-loop-symbol l = sum_by (part_work l.trees.weights l.trees.table) (reverse l.pending.items)

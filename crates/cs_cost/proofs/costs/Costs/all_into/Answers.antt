@@ -12,21 +12,21 @@ use Rattle.cs_cost.proofs.ChosenTrees.{chosen_forest}
 use Rattle.cs_cost.proofs.Written.{IsText-whole, forest_within}
 use Rattle.cs_cost.proofs.costs.Costs.all_into.Goals as goal
 
-pub write-requires-clause-small : goal.write-requires-clause-small
-write-requires-clause-small c =
+pub write-requires : goal.write-requires
+write-requires c =
     let xs = c.args.symbols.now in
-    let w = c.self.inside.trees.weights.now in
-    let g = c.self.inside.trees.grammar.now in
+    let w = c.self.inside.trees.weights in
+    let g = c.self.inside.trees.grammar in
     let f = subst (λ (v : Weighed). HaveSmall v.weights v.grammar xs) (sym c.self.view_is) c.requires.small in
     let each = subst (λ (v : Weighed). All (IsSymbol v.grammar.tokens v.grammar.nonterminals) xs) (sym c.self.view_is) c.requires.symbols in
     let is = c.in_ok-put_on_top.ensures ∙ ap (λ (l : List Symbol). xs ++ reverse l) c.new-pending.ensures.items ∙ append-nil xs in
-    subst (λ (l : List Symbol). All (IsWithin w g) l) (sym is) (forest_within w g f.0 xs f.1 f.2 each)
+    record { small = subst (λ (l : List Symbol). All (IsWithin w g) l) (sym is) (forest_within w g f.0 xs f.1 f.2 each) }
 
 pub returns-clause-ok : goal.returns-clause-ok
 returns-clause-ok c =
     let xs = c.args.symbols.now in
-    let w = c.self.inside.trees.weights.now in
-    let g = c.self.inside.trees.grammar.now in
+    let w = c.self.inside.trees.weights in
+    let g = c.self.inside.trees.grammar in
     let f = subst (λ (v : Weighed). HaveSmall v.weights v.grammar xs) (sym c.self.view_is) c.requires.small in
     let h = chosen_forest w g f.0 xs f.1 in
     let is = c.in_ok-put_on_top.ensures ∙ ap (λ (l : List Symbol). xs ++ reverse l) c.new-pending.ensures.items in

@@ -12,8 +12,8 @@ use Rattle.cs_cost.proofs.costs.Costs.least_into.Goals as goal
 pub returns-clause-ok : goal.returns-clause-ok
 returns-clause-ok c =
     let x = c.args.symbol in
-    let w = c.self.inside.trees.weights.now in
-    let g = c.self.inside.trees.grammar.now in
+    let w = c.self.inside.trees.weights in
+    let g = c.self.inside.trees.grammar in
     let least = (subst (λ (v : Weighed). HasLeast v.weights v.grammar x) (sym c.self.view_is) c.requires.least).1.1.reached in
     let t = chosen_exists w g x least.0 least.1 in
     let is : IsText w g (reverse c.in_ok-pending.pending.items) (code t.tree) =
