@@ -131,6 +131,7 @@ tables_of qs rows column_of width sets steps first_rules full columns built rule
     record {
       full = full;
       width = width;
+      few = built.few;
       states = built.states;
       columns = columns.many;
       rows = built.all;

@@ -1,5 +1,5 @@
 -- What holds of an automaton's tables.
-use Rattle.std.specs.Prelude.{◌≡◌, ℕ, zero, suc, ◌*◌, ◌<◌, Bool, if◌then◌else◌, List, ◌∷◌, ◌++◌, Option, None, [], length, slice_get, Some, slice_index, slice_index_or}
+use Rattle.std.specs.Prelude.{◌≡◌, ℕ, zero, suc, ◌*◌, ◌<◌, ◌≤◌, ◌+◌, Bool, if◌then◌else◌, List, ◌∷◌, ◌++◌, Option, None, [], length, slice_get, Some, slice_index, slice_index_or}
 use Rattle.cs_automaton.specs.Bits.{bit}
 use Rattle.cs_automaton.specs.Re.{Re}
 use Rattle.cs_automaton.specs.States.{AreFull, HasStates, IsStep, AreFirstRules}
@@ -21,6 +21,7 @@ pub record AreTables (rs : List (Re (List ℕ))) (sets : List (List ℕ)) (steps
   pub full : AreFull rs
   pub width : ℕ
   pub states : HasStates rs width sets
+  pub few : length sets ≤ 16384 + 1
   pub columns : length column_of ≡ 256
   pub rows : length steps ≡ length sets
   pub columns_within : (k byte : ℕ) (row : List (Option ℕ)) → slice_get steps k ≡ Some row → byte < 256 → slice_index column_of byte < length row

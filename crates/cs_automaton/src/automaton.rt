@@ -94,9 +94,10 @@ impl Automaton<'_> {
         0
     }
 
-    /// How many states there are, the start among them. States are the numbers below.
+    /// How many states there are, the start among them. The states are the numbers below.
     pub fn state_count(&self) -> usize
-        ensures { result ≡ length self.now.sets }
+        ensures count { result ≡ length self.now.sets }
+        ensures few { result ≤ 16384 + 1 }
     {
         self.sets.len()
     }
