@@ -7,6 +7,7 @@ mod Rules
 mod Exits
 mod Walks
 mod BitLemmas
+mod Laying
 mod Programming
 mod Walking
 mod Adding

@@ -9,6 +9,7 @@ pub mod Flat
 pub mod Walks
 pub mod Bits
 pub mod Programs
+pub mod Pieces
 pub mod Runs
 pub mod Sets
 pub mod States

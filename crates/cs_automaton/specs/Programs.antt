@@ -2,15 +2,15 @@
 use Rattle.std.specs.Prelude.{◌≡◌, ℕ, ◌+◌, List, [], ◌∷◌, ◌++◌, map, length}
 use Rattle.std.proofs.Common.{Bor, Vec, Global}
 use Rattle.cs_pattern_tree.specs.declared.pattern.Pattern.{Pattern}
-use Rattle.cs_pattern_tree.specs.Pattern.{Regex, regex, parts_of}
+use Rattle.cs_pattern_tree.specs.Pattern.{Regex, regex}
 use Rattle.cs_automaton.specs.declared.op.Op.{Op}
 use Rattle.cs_automaton.specs.declared.op.Op.TheVariants as ops
 use Rattle.cs_automaton.specs.declared.program.Rule.{Rule}
 use Rattle.cs_automaton.specs.declared.program.Program.{Program}
 use Rattle.cs_automaton.specs.Re.{Re}
-use Rattle.cs_automaton.specs.Meaning.{re, res, cat_of, alt_of, classes}
+use Rattle.cs_automaton.specs.Meaning.{re, res, classes}
 use Rattle.cs_automaton.specs.Places.{letters}
-use Rattle.cs_automaton.specs.Flat.{flat, flat_join, flat_either, has_loop}
+use Rattle.cs_automaton.specs.Flat.{flat, has_loop}
 
 -- what references point to
 abbrev pub values : List (Bor (List ℕ)) → List (List ℕ)
@@ -38,28 +38,6 @@ classes_of pattern = classes (re (regex pattern))
 
 abbrev pub letters_of : Pattern → ℕ
 letters_of pattern = letters (re (regex pattern))
-
--- ---- the same of the parts of a join
-
-abbrev pub cat_ops : Vec (Bor (List ℕ)) Global → List Pattern → List Op
-cat_ops before parts = flat_join (length before.items) (parts_of (map regex parts))
-
-abbrev pub cat_classes : List Pattern → List (List ℕ)
-cat_classes parts = classes (cat_of (parts_of (map regex parts)))
-
-abbrev pub cat_letters : List Pattern → ℕ
-cat_letters parts = letters (cat_of (parts_of (map regex parts)))
-
--- ---- the same of the parts of an either, of which the first step is before them
-
-abbrev pub alt_ops : Vec (Bor (List ℕ)) Global → List Pattern → List Op
-alt_ops before parts = flat_either (length before.items) (parts_of (map regex parts))
-
-abbrev pub alt_classes : List Pattern → List (List ℕ)
-alt_classes parts = classes (alt_of (parts_of (map regex parts)))
-
-abbrev pub alt_letters : List Pattern → ℕ
-alt_letters parts = letters (alt_of (parts_of (map regex parts)))
 
 -- ---- rules
 

@@ -13,6 +13,7 @@ mod automaton;
 mod bits;
 mod columns;
 mod error;
+mod flat;
 mod op;
 mod program;
 mod running;
