@@ -1,0 +1,442 @@
+#!/usr/bin/env python3
+"""Runs what stands beside the program, tools/from_bison and tools/explain and the script conform: tools_runs.py [PROGRAM].
+
+It prints the rows that fail, and ends with status 1 where one did. Where the program isn't built, a made-up one stands in
+for it, which says what the row has as its line; where bison isn't there, its reports aren't compared. A text's place is
+where its mark « stands, which is taken out. The expected texts were worked by hand from docs/FORMATS.md.
+"""
+
+import os
+import pty
+import re
+import shutil
+import subprocess
+import sys
+import tempfile
+
+sys.dont_write_bytecode = True
+TOP = os.path.dirname(os.path.dirname(os.path.abspath(__file__)))
+TOOLS = os.path.join(TOP, "tools")
+PROGRAM = os.path.abspath(sys.argv[1]) if len(sys.argv) > 1 else os.path.join(TOP, "crates", "cs_cli", "out", "cs_cli")
+sys.path.insert(0, TOOLS)
+
+import plain
+from refusals import SENTENCES
+
+MADE_UP = """#!/bin/sh
+printf '%s' "$WROTE"
+printf '%s' "$SAID" >&2
+exit "$STATUS"
+"""
+MARK = "«".encode()
+
+# Bison's text, and the plain one.
+PLAIN = [
+    ("%token A \"a\"\n%%\ns : \"a\"s | ;\n", "%token A    \n%%\ns : A  s | ;\n"),
+    ('%token ADD "+" SUB "-"\n%%\ns:"+""-"    \'x\' ;', "%token ADD     SUB    \n%%\ns:ADD SUB   'x' ;"),
+    (
+        "%define a.b-c {x}\n%code /* kept */ {\n\t{}\n}\n%%\ns[x]: 'a'[y] ;",
+        "                 \n      /* kept */  \n\t  \n \n%%\ns   : 'a'    ;",
+    ),
+    ("%%\ns : '\\x0041' '\\u0042' ;", "%%\ns : '\\x41'   '\\x42'   ;"),
+    ("%%\ns : 'a' { <% } } ;", "%%\ns : 'a'          ;"),
+    ("%%\ns : 'a' { // } \\\n } \n } ;", "%%\ns : 'a'         \n   \n   ;"),
+    ("%token <a->b> A <c> B\n%%\ns : A ;", "%token        A     B\n%%\ns : A ;"),
+    ("%{ \"%}\" %}\n%%\ns : YYerror | ;", "          \n%%\ns : error   | ;"),
+    ("%precedence \"low\"\n%token A\n%%\ns : A %prec \"low\" ;", "                 \n%token A\n%%\ns : A             ;"),
+    ("%token A\n%%\ns : A ; %token A; %start s; | A ;\n", "%token A\n%%\ns : A ;                     | A ;\n"),
+    ("%union u {int x;}\n%union v { <% } }\n%%\ns : ;", "%union   {int x;}\n                 \n%%\ns : ;"),
+    ("%token A\n%%\n#line 7 \"x.y\"\ns, : A, <t>{ }[u] ;\n", "%token A\n%%\n             \ns  : A     { }    ;\n"),
+]
+
+# Texts that are plain already.
+SAME = [
+    "%{ it's %}\n%{ /* %}\n%%\ns : 'a' { // \\\n } | 'b' ;\n",
+    "%token <t> A 258, B , %left '+' 4 /* x */\n%type<u> a\n%union { } %start a %expect 3 ; %{ ' %}\n"
+    "%%\na : A { it's }\n%prec B b : ; | ';' ;\n%%\n%%{",
+    "%%\ns:{'\"'}'\\x2b''+'%empty|s\n",
+    "%precedence 'x'\r\n%nonassoc A\t%right B\r\n%%\r\ns : '\\\\' '\\'' '\\101' // end\r\n",
+]
+
+# Bison's text with the place that is refused, and how the message begins.
+NOT_PLAIN = [
+    ("%start a «b\n%%\na : ; b : ;", "there are several start symbols"),
+    ("%start a\n%start «b\n%%\na : ; b : ;", "there are several start symbols"),
+    ("%%\na : «\"+\" ;", "no token has this string: write %token NAME \"+\""),
+    ("%%\na : «%? { x } 'b' ;", "a semantic predicate"),
+    ("%token «A-B\n%%\na : A-B ;", "names have no `-`"),
+    ("«%tokn A\n%%\na : A ;", "%tokn is no directive that is known: write %token"),
+    ("%%\na : «%token-x ;", "%token-x is no directive that is known"),
+    ("%%\na : «'ab' ;", "a literal stands for one byte"),
+    ("%%\na : «'' ;", "a literal stands for one byte"),
+    ("%%\na : «'\\0' ;", "a literal stands for one byte"),
+    ("%%\na : «'é' ;", "a literal stands for one byte"),
+    ("%%\na : «'b", "this literal isn't closed"),
+    ("%token A «\"b\n%%\na : A ;", "this string isn't closed"),
+    ("%%\na : A ; %token «A ;", "this token is declared among the rules"),
+    ("%%\na : b ; b : ; «%start b;", "the start symbol is told among the rules"),
+    ("%%\na : ; %type <t> a «", "a declaration among the rules ends with `;`"),
+    ("%%\na : «{ /* } ;", "this brace is never closed"),
+    ("«%{ '}'\n%%\na : ;", "this prologue is never closed"),
+    ("%token «<t A\n", "this tag is never closed"),
+    ("%%\na : b«[1] ;", "a name in brackets"),
+    ("%%\na : «/* b", "this comment is never closed"),
+    ("%%\na : «= ;", "no grammar file has this here"),
+    ("%%\na : «@ ;", "nothing of a grammar file begins so"),
+    ("%code «%%\na : ;", "a block in braces is missing behind %code"),
+    ("%require «3\n%%\na : ;", "a string is missing behind %require"),
+    ("%token A«", "the file ends without %%"),
+    ("%%\na : «YYEOF ;", "this token is Bison's own"),
+    ("%token A \"x\" B «\"x\"\n%%\na : A ;", "this string stands for two tokens"),
+    ("%union «%%\na : ;", "a block in braces is missing behind %union"),
+    ("%%\na : 'b' %prec «; ", "a token is missing behind %prec"),
+    ("%%\na : 'b' %expect «;", "a number is missing behind %expect"),
+    ("«%prec A\n%%\na : ;", "%prec has no place here"),
+]
+
+# The token of each string of tests/grammars, beside what differs in Bison's report.
+STRINGS = {
+    "desk.y": {
+        '"number"': "NUMBER", '"name"': "NAME", '"+"': "PLUS", '"-"': "MINUS", '"*"': "TIMES", '"/"': "OVER",
+        '"("': "LEFT_BRACKET", '")"': "RIGHT_BRACKET", '":="': "ASSIGN", '"**"': "POWER",
+    },
+    "scenes.y": {
+        '"list of points"': "POINTS", '"word"': "WORD", '"text"': "TEXT", '"count"': "COUNT", '"of"': "OF",
+        '"end"': "END", '"scene"': "SCENE", '"repeat"': "REPEAT", '"->"': "ARROW", "'\\''": "'\\x27'",
+    },
+    "either.y": {},
+}
+
+# A yacc file with its place, the refusal, and how the hint beside it begins.
+PLACES = [
+    ("%token NUMBER\n%%\ne : e «nmuber | NUMBER ;\n", "Undefined", "the nearest name is NUMBER"),
+    ("%%\nline : 'x' ;\nb : «lien ;\n", "Undefined", "the nearest name is line"),
+    ("%%\ns : «PLUS ;\n", "Undefined", "a token is declared by %token PLUS"),
+    ("%%\n\ts : 'a' «{ if (x) {\n y; }", "Unended", "a block goes through"),
+    ("%%\ns : 'a' «{ if (x) { y;\n", "Unended", "the last brace that stays open begins at line 2, column 18"),
+    ("%%\ns : 'a' «{ /* } ;", "Unended", "the last comment that stays open begins at line 2, column 11"),
+    ("«/* %%\ns : ;", "Unended", "a comment goes through"),
+    ("«%{ %%\ns : ;", "Unended", "a prologue goes through"),
+    ("%%\ns «'a' ;\n", "Syntax", "a `:` is missing behind s at line 2, column 1"),
+    ("%%\ns : 'a' ;\nb «c ;\n", "Syntax", "a `:` is missing behind b at line 3, column 1"),
+    ("%token A\n\ns «: A ;\n", "Syntax", "a line with %% seems to be missing before s at line 3, column 1"),
+    ("%start s\n«s : 'a' ;\n", "Syntax", "a line with %% seems to be missing before s at line 2, column 1"),
+    ("«", "Syntax", "the file is empty"),
+    ("%token A\n«", "Syntax", "the file ends without %%"),
+    ("%%\ns«", "Syntax", "the file ends behind s"),
+    ("%%\ns : ; «'a' ;", "Syntax", "behind `;` comes the next left side: take the `;` at line 2"),
+    ("%%\ns : 'a' «: 'b' ;", "Syntax", "a left side is one name"),
+    ("%%\ns : «%token A ;", "Syntax", "this directive stands before the first %%"),
+    ("%union «value { }\n%%\ns : ;", "Syntax", "a union with a name: this is GNU Bison's"),
+    ("%token <a> A «<b> B\n%%\ns : A ;", "Syntax", "a second tag in a list: this is GNU Bison's"),
+    ("%%\ns : «<t>{ } ;", "Syntax", "a tag before an action: this is GNU Bison's"),
+    ("%token «%left A\n%%\ns : A ;", "Syntax", "behind the directive comes a token"),
+    ("%%\ns : «\"{\" ;", "BadItem", "a string for a token: this is GNU Bison's"),
+    ("%%\ns : t«[u] ; t : ;", "BadItem", "a name in brackets: this is GNU Bison's"),
+    ("%%\ns : t«-u ;", "BadItem", "names have no `-`"),
+    ("%%\ns : «'ab' ;", "BadItem", "a literal holds one byte or escape: give a longer"),
+    ("%%\ns : «'\\0' ;", "BadItem", "the byte 0 is no literal"),
+    ("%%\ns : t «* ; t : ;", "BadItem", "yacc has no repetitions and groups"),
+    ("%%\ns : «%? { } ;", "BadItem", "a semantic predicate"),
+    ("«%\ns : ;", "BadItem", "a directive is % and a word"),
+    ("%%\ns : /* é */ «é ;", "BadItem", "names and literals hold ASCII alone"),
+    ("«%define x\n%%\ns : ;", "UnknownDirective", "this is GNU Bison's, and tools/from_bison g.y > plain.y"),
+    ("«%tokens A\n%%\ns : ;", "UnknownDirective", "%token may be meant"),
+    ("%start s\n«%start t\n%%\ns : ;", "SecondStart", "the first stands at line 1, column 1"),
+    ("%token A\n%left s\n%%\n«s : ;", "TokenOnLeft", "it is declared at line 2, column 7"),
+    ("%start «sum\n%%\nsums : ;", "StartNotNonterminal", "the nearest left side is sums"),
+]
+FILES = {
+    "wide.y": "%token A\n%%\nt : | error\n | " + "A " * 129 + ";\n",
+    "many.y": "%token A\n%%\n" + "".join(f"n{number} : A ;\n" for number in range(1025)),
+    "long.y": " " * 1048577,
+}
+BAD_NAME = b"\xff".decode(errors="surrogateescape")
+USAGE = "usage: conform rules YACC"
+
+# Words, the program's line, its status, and parts of what is said beside it, in order.
+OTHERS = [
+    (["rules", "wide.y"], "yacc: Limit RightSide 129 of 128", 1, ["wide.y:4:2: A rule has", " ^", "of t and has 129"]),
+    (["rules", "many.y"], "yacc: Limit Nonterminals 1025 of 1024", 1, ["many.y: The grammar", "1,025, and at most 1,024"]),
+    (["rules", "long.y"], "yacc: Length above 1048576", 1, ["long.y: The yacc file is too long", "it has 1,048,577 bytes"]),
+    (["rules", "no.y"], "read fault: yacc", 3, ["no.y: The yacc file can't be read", "no file has this name"]),
+    (["rules", "."], "read fault: yacc", 3, [".: The yacc file can't be read", "this is a folder"]),
+    ([], "usage: word 0", 2, ["there are no words", USAGE]),
+    (["--help"], "usage: word 0", 2, ["This word may not", "conform --help\n          ^^^^^^", USAGE]),
+    (["rules"], "usage: word 1", 2, ["a word is missing behind these", USAGE]),
+    (["rules", "a", "bc"], "usage: word 2", 2, ["  conform rules a bc\n                  ^^\n", USAGE]),
+    (["rules", BAD_NAME], None, 7, ["write the file's name in UTF-8"]),
+]
+# Lines that no command writes today, or that no file brings about: those on the lex file, and want of memory and room.
+MADE_UP_LINES = [
+    ("lex: Pattern at 4: Anchor at 1", 1, ["l.l:2:3: The anchors", "a ^b x\n  ^\n"]),
+    ("lex: Pattern at 4: TooDeep 201 of 200", 1, ["l.l:2:2: Too many groups"]),
+    ("lex: Pattern at 4: TooManyPositions above 8192", 1, ["l.l:2:2: The pattern is too large"]),
+    ("lex: Unended at 3", 1, ["l.l:2:1: What begins here"]),
+    ("lex: NoRules", 1, ["l.l: The rules section is empty"]),
+    ("lex: Limit Rules 2049 of 2048", 1, ["l.l: The lex file has too many rules", "2,049, and at most 2,048"]),
+    ("lex: States above 16384", 1, ["l.l: The patterns together need"]),
+    ("lex: Length above 1048576", 1, ["l.l: The lex file is too long"]),
+    ("read fault: lex", 3, ["l.l: The lex file can't be read"]),
+    ("write fault", 4, ["The output can't be written"]),
+    ("out of memory", 5, ["The system gave no more memory"]),
+]
+# Each line of the error output, without numbers: that docs/FORMATS.md has them is looked at below.
+PATTERNS = "Anchor Trailing Condition Collation Syntax UndefinedName DefinitionCycle TooDeep TooManyPositions".split()
+LEX = "Unended Layout UnknownDirective UnknownOption StartCondition NoRules DanglingBar".split()
+ERROR_RULES = "%%\ns : 'a' | error | 'b' error 'c' ;\n"
+END = "end goals 1 feasible 1 infeasible 0 large 0 negatives 0\n"
+
+
+def call(command, folder, **environment):
+    done = subprocess.run(command, cwd=folder, capture_output=True, env={**os.environ, **environment}, timeout=60)
+    return done.returncode, done.stdout, done.stderr
+
+
+def written(folder, name, text):
+    path = os.path.join(folder, name)
+    with open(path, "wb") as file:
+        file.write(text if isinstance(text, bytes) else text.encode())
+    return path
+
+
+def marked(text):
+    """The text without its mark, and the mark's offset and its line and column from 1."""
+    raw = text.encode()
+    at = raw.index(MARK)
+    before = raw[:at].decode()
+    return raw.replace(MARK, b"", 1), at, (before.count("\n") + 1, len(before) - (before.rfind("\n") + 1) + 1)
+
+
+def from_bison(folder, name):
+    return call([sys.executable, os.path.join(TOOLS, "from_bison"), name], folder)
+
+
+def plain_rows(folder):
+    for text, wanted in PLAIN + [(text, text) for text in SAME]:
+        written(folder, "g.y", text)
+        found = from_bison(folder, "g.y")
+        if found != (0, wanted.encode(), b""):
+            yield f"{text!r}: {found!r}, not {wanted!r}"
+
+
+def not_plain_rows(folder):
+    for text, wanted in NOT_PLAIN:
+        raw, _, (line, column) = marked(text)
+        written(folder, "g.y", raw)
+        status, out, said = from_bison(folder, "g.y")
+        if (status, out) != (1, b"") or not said.decode().startswith(f"from_bison: g.y:{line}:{column}: {wanted}"):
+            yield f"{text!r}: status {status}, {said.decode()!r}, not {line}:{column}: {wanted!r}"
+
+
+def calls(folder):
+    rows = (["missing.y"], 3), ([], 2), (["a", "b"], 2)
+    for words, wanted in rows:
+        status, out, said = call([sys.executable, os.path.join(TOOLS, "from_bison"), *words], folder)
+        if (status, out) != (wanted, b"") or not said.startswith(b"from_bison: "):
+            yield f"from_bison {words}: status {status}, {said!r}"
+
+
+SYMBOL = re.compile(r"""'(?:\\.|[^'])+'|"(?:\\.|[^"])*"|\S+""")
+
+
+def reported(folder, path):
+    """The rules of Bison's report, without those that it adds and those with `error`."""
+    report = os.path.join(folder, "report")
+    subprocess.run(["bison", "-Wnone", "--report=all", f"--report-file={report}", "-o", "g.c", path], cwd=folder, check=True)
+    with open(report) as file:
+        part = file.read().split("Grammar\n", 1)[1].split("Terminals,", 1)[0]
+    left, strings = None, STRINGS[os.path.basename(path)]
+    for name, right in re.findall(r"^ *\d+ (?:(\S+):| +\|)(.*)$", part, re.M):
+        left = name or left
+        symbols = (symbol for symbol in SYMBOL.findall(right) if not re.fullmatch(r"\$?@\d+|ε|%empty", symbol))
+        names = [strings.get(symbol, symbol) for symbol in symbols]
+        if not re.match(r"\$?@\d|\$accept", left) and "error" not in names:
+            yield left, names
+
+
+def name_of(item):
+    if item.kind == "name":
+        return item.text.decode()
+    value = plain.literal_value(item.text)
+    return f"'{chr(value)}'" if 0x21 <= value <= 0x7E and value not in b"'\\" else f"'\\x{value:02x}'"
+
+
+def read(text):
+    """The rules of a plain text, as the module that tools/explain has for it reads them."""
+    kept = (rule for rule in plain.rules(plain.read_items(text)[0]) if not rule.has_error)
+    return [(rule.left.text.decode(), [name_of(item) for item in rule.body]) for rule in kept]
+
+
+def numbered(folder, text):
+    """The rules that the program numbers."""
+    written(folder, "plain.y", text)
+    _, out, _ = call([PROGRAM, "rules", "plain.y"], folder)
+    return [(left, right.split()) for left, right in re.findall(r"^rule \d+ (\S+) :(.*)$", out.decode(), re.M)]
+
+
+def no_shorter(before, after):
+    return len(before) == len(after) and all(old <= new for old, new in zip(before, after))
+
+
+def reports(folder):
+    for name in STRINGS:
+        path = os.path.join(TOP, "tests", "grammars", name)
+        status, text, said = from_bison(folder, path)
+        with open(path, "rb") as file:
+            lines = [len(line) for line in file.read().split(b"\n")]
+        if status or not no_shorter(lines, [len(line) for line in text.split(b"\n")]):
+            yield f"{name}: status {status}, {said!r}, or a line is shorter or missing"
+        found = list(reported(folder, path)) if shutil.which("bison") else read(text)
+        for source, rules in ("tools/plain.py", read(text)), ("the program", numbered(folder, text) if BUILT else found):
+            if rules != found:
+                yield f"{name}: {source} has {rules}, and bison {found}"
+
+
+def explained(folder, words, line, status, out=""):
+    """What tools/explain writes: the program where it is built and writes such lines, else one that says this line."""
+    is_made_up = not BUILT or any(line == made_up for made_up, *_ in MADE_UP_LINES)
+    program = os.path.join(folder, "program") if is_made_up else PROGRAM
+    said = f"conform: {line}\n" if line else ""
+    found, _, told = call(
+        [sys.executable, os.path.join(TOOLS, "explain"), program, *words], folder, SAID=said, STATUS=str(status), WROTE=out
+    )
+    told = told.decode(errors="surrogateescape")
+    if found != status or not told.startswith(said):
+        return f"{words} {line}: status {found}, {told!r}", ""
+    return None, told[len(said) :]
+
+
+def in_order(parts, text):
+    at = 0
+    for part in parts:
+        at = text.find(part, at)
+        if at < 0:
+            return False
+        at += len(part)
+    return True
+
+
+def places(folder):
+    for text, name, hint in PLACES:
+        raw, at, (line, column) = marked(text)
+        written(folder, "g.y", raw)
+        fault, told = explained(folder, ["rules", "g.y"], f"yacc: {name} at {at}", 1)
+        yield from [fault] if fault else []
+        shown = raw[at - column + 1 :] if raw.isascii() else b""
+        sentence = SENTENCES[f"yacc: {name}"]
+        wanted = [f"g.y:{line}:{column}: {sentence}\n", shown.decode().split("\n")[0], "^\n", f"  {hint}"]
+        if not fault and not in_order(wanted, told):
+            yield f"{text!r}: {told!r}, not {wanted}"
+        early = plain.fault(raw) if name in ("BadItem", "Unended", "UnknownDirective", "Syntax") else None
+        if early not in (None, (name, at)):
+            yield f"{text!r}: tools/plain.py has {early}"
+
+
+def others(folder):
+    for name, text in FILES.items():
+        written(folder, name, text)
+    for words, line, status, wanted in OTHERS:
+        fault, told = explained(folder, words, line, status)
+        if fault or not in_order(wanted, told):
+            yield fault or f"{words}: {told!r}, not {wanted}"
+    written(folder, "l.l", "%%\na ^b x\n")
+    for line, status, wanted in MADE_UP_LINES:
+        fault, told = explained(folder, ["suite", "g.y", "l.l"], line, status)
+        if fault or not in_order(wanted, told):
+            yield fault or f"{line}: {told!r}, not {wanted}"
+
+
+def good_runs(folder):
+    written(folder, "g.y", ERROR_RULES)
+    fault, told = explained(folder, ["rules", "g.y"], None, 0, END)
+    if fault or told != "g.y: 2 rules left out for `error`; of 1 goal 0 infeasible and 0 large\n":
+        yield fault or f"a good run: {told!r}"
+
+
+def lines_of_formats():
+    """The error lines that docs/FORMATS.md names, without numbers."""
+    with open(os.path.join(TOP, "docs", "FORMATS.md")) as file:
+        text = file.read()
+    part = text.split("## Statuses and lines", 1)[1].split("## C text", 1)[0]
+    yield from re.findall(r"`conform: ((?:yacc: Length|read fault: yacc|usage|write fault|out of memory))", part)
+    for name in re.findall(r"NAME is (.*?) \|", part)[0].replace(" or ", ", ").split(", "):
+        yield f"yacc: {name}"
+    for name in re.findall(r"WHICH is one of (.*?) \|", part)[0].split(", "):
+        yield f"yacc: Limit {name}"
+    lex = text.split("## The lex file", 1)[1].split("## Patterns", 1)[0]
+    for name in re.findall(r"^\d+\. `(\w+)(?: at N)?`", lex, re.M):
+        yield from [f"lex: {name}"] if name not in ("Pattern", "Limit") else []
+
+
+def sentences(_):
+    wanted = {*lines_of_formats(), *(f"lex: Pattern {name}" for name in PATTERNS), *(f"lex: {name}" for name in LEX)}
+    wanted |= {"lex: Length", "lex: States", "lex: Limit Rules", "lex: Limit Positions", "read fault: lex"}
+    if wanted != SENTENCES.keys():
+        yield f"lines without a sentence: {wanted - SENTENCES.keys()}; sentences without a line: {SENTENCES.keys() - wanted}"
+
+
+def on_terminal(command, folder, environment):
+    """What a command writes on a terminal that is its error output."""
+    ours, theirs = pty.openpty()
+    child = subprocess.Popen(command, cwd=folder, stdout=subprocess.DEVNULL, stderr=theirs, env=environment)
+    child.wait(timeout=60)
+    os.close(theirs)
+    told = os.read(ours, 65536)
+    os.close(ours)
+    return child.returncode, told.replace(b"\r\n", b"\n")
+
+
+def copied(folder):
+    """The script in a tree of its own, with the made-up program built of its sources."""
+    top = os.path.join(folder, "top")
+    out = os.path.join(top, "crates", "cs_cli", "out")
+    os.makedirs(out)
+    shutil.copy(os.path.join(TOP, "conform"), top)
+    shutil.copytree(TOOLS, os.path.join(top, "tools"))
+    written(top, "crates.txt", "")
+    shutil.copy(os.path.join(folder, "program"), os.path.join(out, "cs_cli"))
+    written(out, "conform.built", os.path.join(top, "crates.txt") + "\n")
+    return os.path.join(top, "conform")
+
+
+def without_python(folder):
+    """A folder with the commands that the script calls, and no python3."""
+    commands = os.path.join(folder, "commands")
+    os.makedirs(commands)
+    for name in ("bash", "sh", "dirname", "readlink", "find", "sort", "cat"):
+        os.symlink(shutil.which(name), os.path.join(commands, name))
+    return commands
+
+
+def scripts(folder):
+    script, line = copied(folder), b"conform: usage: word 0\n"
+    told = {"SAID": line.decode(), "STATUS": "2", "WROTE": "out"}
+    no_python = {**told, "PATH": without_python(folder)}
+    rows = ([], told, line), (["--explain"], told, b"by itself\n"), (["--explain"], no_python, line)
+    for words, environment, ends in rows:
+        found = call([script, *words], folder, **environment)
+        if found[:2] != (2, b"out") or not (found[2].startswith(line) and found[2].endswith(ends)):
+            yield f"conform {words}: {found}"
+    for environment, ends in ((told, b"by itself\n"), (no_python, line)):
+        status, said = on_terminal([script, "--help"], folder, {**os.environ, **environment})
+        if status != 2 or not (said.startswith(line) and said.endswith(ends)):
+            yield f"conform on a terminal: {status}, {said}"
+
+
+def main():
+    failed = []
+    for rows in (plain_rows, not_plain_rows, calls, reports, places, others, good_runs, sentences, scripts):
+        with tempfile.TemporaryDirectory() as folder:
+            os.chmod(written(folder, "program", MADE_UP), 0o755)
+            failed += rows(folder)
+    if not BUILT:
+        print("tools_runs: the program isn't built: a made-up one stood in for it", file=sys.stderr)
+    if not shutil.which("bison"):
+        print("tools_runs: bison isn't there: its reports weren't compared", file=sys.stderr)
+    print("\n".join(failed), file=sys.stderr, end="\n" if failed else "")
+    sys.exit(1 if failed else 0)
+
+
+BUILT = os.path.exists(PROGRAM)
+main()
