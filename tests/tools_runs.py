@@ -151,6 +151,7 @@ FILES = {
     "many.y": "%token A\n%%\n" + "".join(f"n{number} : A ;\n" for number in range(1025)),
     "long.y": " " * 1048577,
 }
+LONG = "%token A\n%%\ns : " + "A " * 120 + "«\x1b[1m " + "A " * 120 + ";\n"
 BAD_NAME = b"\xff".decode(errors="surrogateescape")
 USAGE = "usage: conform rules YACC"
 
@@ -333,6 +334,16 @@ def places(folder):
             yield f"{text!r}: tools/plain.py has {early}"
 
 
+def long_lines(folder):
+    """A long line is shown in part, without what a terminal would take as a command."""
+    raw, at, _ = marked(LONG)
+    written(folder, "g.y", raw)
+    fault, told = explained(folder, ["rules", "g.y"], f"yacc: BadItem at {at}", 1)
+    shown, mark = told.split("\n")[1:3] if not fault else ("", "")
+    if fault or shown[:3] + shown[-3:] != "......" or shown[len(mark) - 1 :][:4] != "?[1m":
+        yield fault or f"a long line: {told!r}"
+
+
 def others(folder):
     for name, text in FILES.items():
         written(folder, name, text)
@@ -426,7 +437,7 @@ def scripts(folder):
 
 def main():
     failed = []
-    for rows in (plain_rows, not_plain_rows, calls, reports, places, others, good_runs, sentences, scripts):
+    for rows in (plain_rows, not_plain_rows, calls, reports, places, long_lines, others, good_runs, sentences, scripts):
         with tempfile.TemporaryDirectory() as folder:
             os.chmod(written(folder, "program", MADE_UP), 0o755)
             failed += rows(folder)

@@ -36,7 +36,9 @@ class Code:
         return comment.end() if comment else None
 
     def quoted_end(self, at, mark):
-        quoted = self.QUOTED[mark].match(self.text, at) if at >= self.open_until[mark] else None
+        if at < self.open_until[mark]:
+            return None
+        quoted = self.QUOTED[mark].match(self.text, at)
         if quoted:
             return quoted.end()
         line_end = self.text.find(b"\n", at)
