@@ -84,6 +84,7 @@ BAD_ITEMS = (
     (rb"'[^'\n]*'", "a literal holds one byte or escape: give a longer token a name"),
     (rb"'", "a literal is closed on its line"),
     (rb"\[", "a name in brackets: " + CONVERT),
+    (rb"->", "a left side is followed by `:` alone"),
     (rb"-", "names have no `-`: write `_` for it everywhere"),
     (rb"#line", "a line for the C compiler: " + CONVERT),
     (rb"%\?", "a semantic predicate, which may change what is a sentence: take it out"),
@@ -121,12 +122,14 @@ def no_mark(text, items, count, place_in_table):
 
 
 def in_rules(text, stuck, place_in_table, before):
-    if stuck.kind == "tag":
+    if stuck.kind == "tag" and place_in_table in ("body", "named"):
         return "a tag before an action: " + CONVERT
     if stuck.kind == "directive" and stuck.word not in ("%prec", "%empty"):
         return "this directive stands before the first %%"
-    if stuck.word == ":" and place_in_table == "body":
-        return "a left side is one name, and a literal can't be one"
+    if stuck.word == ":" and before.word in (":", "literal"):
+        return "a left side is one name and one `:`, and a literal can't be one"
+    if stuck.word == ":":
+        return "the left side, a name, is missing directly before this `:`"
     if stuck.kind == "literal" and place_in_table == "closed":
         return f"behind `;` comes the next left side: take the `;` at {where(text, before.at)} out where the rule goes on"
     return None
