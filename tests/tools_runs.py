@@ -258,7 +258,7 @@ def has_bison():
 def reported(folder, path):
     """The rules of Bison's report, without those that it adds and those with `error`."""
     report = os.path.join(folder, "report")
-    subprocess.run(["bison", "-Wnone", "--report=all", f"--report-file={report}", "-o", "g.c", path], cwd=folder, check=True)
+    subprocess.run(["bison", "-Wnone", "--report=state", f"--report-file={report}", "-o", "g.c", path], cwd=folder, check=True)
     with open(report) as file:
         part = file.read().split("Grammar\n", 1)[1].split("Terminals,", 1)[0]
     left, strings = None, STRINGS[os.path.basename(path)]
