@@ -168,9 +168,10 @@ OTHERS = [
     (["rules", "long.y"], "yacc: Length above 1048576", 1, ["long.y: The yacc file is too long", "it has 1,048,577 bytes"]),
     (["rules", "no.y"], "read fault: yacc", 3, ["no.y: The yacc file can't be read", "no file has this name"]),
     (["rules", "."], "read fault: yacc", 3, [".: The yacc file can't be read", "this is a folder"]),
-    ([], "usage: word 0", 2, ["there are no words", USAGE]),
-    (["--help"], "usage: word 0", 2, ["This word may not", "conform --help\n          ^^^^^^", USAGE]),
-    (["rules"], "usage: word 1", 2, ["a word is missing behind these", USAGE]),
+    ([], "usage: word 0", 2, [USAGE]),
+    (["--help"], "usage: word 0", 2, [USAGE]),
+    (["rule", "g.y"], "usage: word 0", 2, ["This word may not", "  conform rule g.y\n          ^^^^    \n", USAGE]),
+    (["rules"], "usage: word 1", 2, ["A word is missing behind rules.\n", USAGE]),
     (["rules", "a", "bc"], "usage: word 2", 2, ["  conform rules a bc\n                  ^^\n", USAGE]),
     (["rules", BAD_NAME], None, 7, ["write the file's name in UTF-8"]),
 ]
