@@ -7,3 +7,5 @@ mod fan;
 mod outside;
 #[cfg(test)]
 mod rules;
+#[cfg(test)]
+mod words;

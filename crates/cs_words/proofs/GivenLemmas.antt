@@ -1,0 +1,210 @@
+-- What the options so far say.
+use Rattle.std.proofs.Common.{◌≡◌, ◌≢◌, ℕ, zero, suc, ◌+◌, ◌==◌, Bool, true, false, ◌||◌, ◌&&◌, length, count_by, List, [], ◌∷◌, ◌++◌, Option, None, Some, refl, sym, ap, ◌∙◌, subst, ⊎_elim, inl, inr, arith}
+use Rattle.std.specs.Prelude.{IsSome, codes}
+use Rattle.std.specs.List.{Contains}
+use Rattle.std.proofs.lemmas.List.Splits.{length-slice_split}
+use Rattle.std.proofs.lemmas.List.Elements.{Contains-append_left, Contains-append_right, Contains-append_cases}
+use Rattle.cs_words.specs.declared.given.Given.{Given}
+use Rattle.cs_words.specs.declared.options.Options.{Options}
+use Rattle.cs_words.specs.declared.setting.Setting.{Setting}
+use Rattle.cs_words.specs.declared.setting.Setting.TheVariants.{Cover, Mutate, Bases, Separate}
+use Rattle.cs_words.specs.Options.{AreOptions, Give, HasMarked, IsMarked, IsNewOption, IsOption, LacksMark, mark_of}
+use Rattle.cs_words.specs.Choices.{Chooses, IsCriteria, IsOperators, has_operator, no_operators, parts}
+use Rattle.cs_words.specs.Values.{IsBases, IsSeparator}
+use Rattle.cs_goals.specs.declared.goal.Criteria.{Criteria}
+use Rattle.cs_mutate.specs.declared.edit.Operators.{Operators}
+use Rattle.cs_words.specs.Steps.{AreDefaulted, HasKind, IsNothing, Sets}
+
+-- the words so far say this
+pub record AreGiven (words : List (List ℕ)) (given : Given) : Type 0 where
+  pub criteria : Give (codes "--criteria=") Cover words given.criteria
+  pub operators : Give (codes "--mutate=") Mutate words given.operators
+  pub bases : Give (codes "--bases=") Bases words given.bases
+  pub separator : Give (codes "--separator=") Separate words given.separator
+
+-- no word has two marks
+differ : (a b : ℕ) (xs ys word : List ℕ) → word ≡ 45 ∷ 45 ∷ a ∷ xs → word ≡ 45 ∷ 45 ∷ b ∷ ys → a ≢ b → ⊥
+differ a b xs ys word one other apart =
+    let same : 45 ∷ 45 ∷ a ∷ xs ≡ 45 ∷ 45 ∷ b ∷ ys = sym one ∙ other in
+    let letters : a ≡ b = cc in apart letters
+
+pub marked : (word : List ℕ) (setting : Setting) → IsOption word setting → IsMarked (mark_of setting) word
+marked word setting is = (is.value, is.spelled)
+
+pub same_mark : (word : List ℕ) (s t : Setting) → IsMarked (mark_of s) word → IsMarked (mark_of t) word → mark_of s ≡ mark_of t
+same_mark word (Cover x) (Cover y) one other = refl
+same_mark word (Cover x) (Mutate y) one other = absurd (differ 99 109 _ _ word one.1 other.1 (λ e. omega (arith, e)))
+same_mark word (Cover x) (Bases y) one other = absurd (differ 99 98 _ _ word one.1 other.1 (λ e. omega (arith, e)))
+same_mark word (Cover x) (Separate y) one other = absurd (differ 99 115 _ _ word one.1 other.1 (λ e. omega (arith, e)))
+same_mark word (Mutate x) (Cover y) one other = absurd (differ 109 99 _ _ word one.1 other.1 (λ e. omega (arith, e)))
+same_mark word (Mutate x) (Mutate y) one other = refl
+same_mark word (Mutate x) (Bases y) one other = absurd (differ 109 98 _ _ word one.1 other.1 (λ e. omega (arith, e)))
+same_mark word (Mutate x) (Separate y) one other = absurd (differ 109 115 _ _ word one.1 other.1 (λ e. omega (arith, e)))
+same_mark word (Bases x) (Cover y) one other = absurd (differ 98 99 _ _ word one.1 other.1 (λ e. omega (arith, e)))
+same_mark word (Bases x) (Mutate y) one other = absurd (differ 98 109 _ _ word one.1 other.1 (λ e. omega (arith, e)))
+same_mark word (Bases x) (Bases y) one other = refl
+same_mark word (Bases x) (Separate y) one other = absurd (differ 98 115 _ _ word one.1 other.1 (λ e. omega (arith, e)))
+same_mark word (Separate x) (Cover y) one other = absurd (differ 115 99 _ _ word one.1 other.1 (λ e. omega (arith, e)))
+same_mark word (Separate x) (Mutate y) one other = absurd (differ 115 109 _ _ word one.1 other.1 (λ e. omega (arith, e)))
+same_mark word (Separate x) (Bases y) one other = absurd (differ 115 98 _ _ word one.1 other.1 (λ e. omega (arith, e)))
+same_mark word (Separate x) (Separate y) one other = refl
+
+nothing : (mark : List ℕ) → LacksMark mark []
+nothing mark word there is = omega (arith, there.1)
+
+pub given_none : (given : Given) → IsNothing given → AreGiven [] given
+given_none given is = subst (λ g. AreGiven [] g) (sym is) (record {
+  criteria = nothing (codes "--criteria=");
+  operators = nothing (codes "--mutate=");
+  bases = nothing (codes "--bases=");
+  separator = nothing (codes "--separator=");
+})
+
+-- ---- one more option
+
+module _ {A : Type 0} (mark : List ℕ) (of : A → Setting) (words : List (List ℕ)) (word : List ℕ) where
+  -- an option of another kind changes nothing of this
+  kept : (field : Option A) → Give mark of words field → (IsMarked mark word → ⊥) → Give mark of (words ++ word ∷ []) field
+  kept None lacks other = λ w there is. ⊎_elim (λ before. lacks w before is) (λ last. other (subst (λ v. IsMarked mark v) (only w last) is)) (Contains-append_cases words (word ∷ []) w there)
+    where
+      only : (w : List ℕ) → Contains (word ∷ []) w → w ≡ word
+      only w (zero, within, same) = sym same
+      only w (suc k, within, same) = absurd (omega (arith, within))
+  kept (Some value) (w, there, is) other = (w, Contains-append_left words (word ∷ []) w there, is)
+
+  said : (value : A) → IsOption word (of value) → Give mark of (words ++ word ∷ []) (Some value)
+  said value is = (word, Contains-append_right words (word ∷ []) word (0, omega arith, refl), is)
+
+module _ (words : List (List ℕ)) (word : List ℕ) (given more : Given) (are : AreGiven words given) where
+  pub given_more : (setting : Setting) → Sets given setting more → IsOption word setting → AreGiven (words ++ word ∷ []) more
+  given_more (Cover x) sets is = subst (λ g. AreGiven (words ++ word ∷ []) g) (sym sets.1) (record {
+    criteria = said (codes "--criteria=") Cover words word x is;
+    operators = kept (codes "--mutate=") Mutate words word given.operators are.operators (λ m. differ 99 109 _ _ word is.spelled m.1 (λ e. omega (arith, e)));
+    bases = kept (codes "--bases=") Bases words word given.bases are.bases (λ m. differ 99 98 _ _ word is.spelled m.1 (λ e. omega (arith, e)));
+    separator = kept (codes "--separator=") Separate words word given.separator are.separator (λ m. differ 99 115 _ _ word is.spelled m.1 (λ e. omega (arith, e)));
+  })
+  given_more (Mutate x) sets is = subst (λ g. AreGiven (words ++ word ∷ []) g) (sym sets.1) (record {
+    criteria = kept (codes "--criteria=") Cover words word given.criteria are.criteria (λ m. differ 109 99 _ _ word is.spelled m.1 (λ e. omega (arith, e)));
+    operators = said (codes "--mutate=") Mutate words word x is;
+    bases = kept (codes "--bases=") Bases words word given.bases are.bases (λ m. differ 109 98 _ _ word is.spelled m.1 (λ e. omega (arith, e)));
+    separator = kept (codes "--separator=") Separate words word given.separator are.separator (λ m. differ 109 115 _ _ word is.spelled m.1 (λ e. omega (arith, e)));
+  })
+  given_more (Bases x) sets is = subst (λ g. AreGiven (words ++ word ∷ []) g) (sym sets.1) (record {
+    criteria = kept (codes "--criteria=") Cover words word given.criteria are.criteria (λ m. differ 98 99 _ _ word is.spelled m.1 (λ e. omega (arith, e)));
+    operators = kept (codes "--mutate=") Mutate words word given.operators are.operators (λ m. differ 98 109 _ _ word is.spelled m.1 (λ e. omega (arith, e)));
+    bases = said (codes "--bases=") Bases words word x is;
+    separator = kept (codes "--separator=") Separate words word given.separator are.separator (λ m. differ 98 115 _ _ word is.spelled m.1 (λ e. omega (arith, e)));
+  })
+  given_more (Separate x) sets is = subst (λ g. AreGiven (words ++ word ∷ []) g) (sym sets.1) (record {
+    criteria = kept (codes "--criteria=") Cover words word given.criteria are.criteria (λ m. differ 115 99 _ _ word is.spelled m.1 (λ e. omega (arith, e)));
+    operators = kept (codes "--mutate=") Mutate words word given.operators are.operators (λ m. differ 115 109 _ _ word is.spelled m.1 (λ e. omega (arith, e)));
+    bases = kept (codes "--bases=") Bases words word given.bases are.bases (λ m. differ 115 98 _ _ word is.spelled m.1 (λ e. omega (arith, e)));
+    separator = said (codes "--separator=") Separate words word x is;
+  })
+
+  -- what is set is new
+  pub lacks : (setting : Setting) → Sets given setting more → LacksMark (mark_of setting) words
+  lacks (Cover x) sets = subst (λ field. Give (codes "--criteria=") Cover words field) sets.0 are.criteria
+  lacks (Mutate x) sets = subst (λ field. Give (codes "--mutate=") Mutate words field) sets.0 are.operators
+  lacks (Bases x) sets = subst (λ field. Give (codes "--bases=") Bases words field) sets.0 are.bases
+  lacks (Separate x) sets = subst (λ field. Give (codes "--separator=") Separate words field) sets.0 are.separator
+
+-- where a field is there, some word has its mark
+pub some_marked : {A : Type 0} (mark : List ℕ) (of : A → Setting) (words : List (List ℕ)) (field : Option A) → ((value : A) → mark_of (of value) ≡ mark) → Give mark of words field → IsSome field → HasMarked mark words
+some_marked mark of words None same give some = absurd (cc)
+some_marked mark of words (Some value) same (w, there, is) some = (w, there, (is.value, is.spelled ∙ ap (λ m. m ++ is.value) (same value)))
+
+module _ (words : List (List ℕ)) (given : Given) (are : AreGiven words given) where
+  kind_marked : (setting : Setting) → HasKind given setting → HasMarked (mark_of setting) words
+  kind_marked (Cover x) has = some_marked (codes "--criteria=") Cover words given.criteria (λ v. refl) are.criteria has
+  kind_marked (Mutate x) has = some_marked (codes "--mutate=") Mutate words given.operators (λ v. refl) are.operators has
+  kind_marked (Bases x) has = some_marked (codes "--bases=") Bases words given.bases (λ v. refl) are.bases has
+  kind_marked (Separate x) has = some_marked (codes "--separator=") Separate words given.separator (λ v. refl) are.separator has
+
+  -- an option of a kind that is there isn't new
+  pub twice : (word : List ℕ) (setting : Setting) → HasKind given setting → IsOption word setting → IsNewOption words word → ⊥
+  twice word setting has is new =
+      let there = kind_marked setting has in
+      let same = same_mark word setting new.setting (marked word setting is) (marked word new.setting new.is) in
+      new.is_new there.0 there.1 (subst (λ m. IsMarked m there.0) same there.2)
+
+  pub options_are : (options : Options) → AreDefaulted given options → AreOptions words options
+  options_are options are_defaulted = record {
+    criteria = (given.criteria, are.criteria, are_defaulted.criteria);
+    operators = (given.operators, are.operators, are_defaulted.operators);
+    bases = (given.bases, are.bases, are_defaulted.bases);
+    separator = (given.separator, are.separator, are_defaulted.separator);
+  }
+
+-- ---- words that are no options
+
+and_false : (b : Bool) → (b && false) ≡ false
+and_false true = refl
+and_false false = refl
+
+no_choice : (b c d e : Bool) → ((b && false) || (c && false) || (d && false) || (e && false)) ≡ true → ⊥
+no_choice b c d e h =
+    let w = and_false b in
+    let x = and_false c in
+    let y = and_false d in
+    let z = and_false e in cc
+
+-- the value that chooses no operators is `none`
+unnamed : (value : List ℕ) (operators : Operators) → IsOperators value operators → operators ≡ no_operators → value ≡ codes "none"
+unnamed value operators (inl named) is = named.0
+unnamed value operators (inr chooses) is = absurd (at_first (parts value) (length-slice_split (λ b. b == 44) value) (subst (λ o. Chooses (has_operator o) (parts value)) is chooses))
+  where
+    at_first : (names : List (List ℕ)) → length names ≡ count_by (λ b. b == 44) value + 1 → Chooses (has_operator no_operators) names → ⊥
+    at_first [] some all = omega (arith, some)
+    at_first (name ∷ names) some all = no_choice _ _ _ _ ((all.each name).1 (0, omega arith, refl))
+
+-- and `none` chooses none
+none_named : (operators : Operators) → IsOperators (codes "none") operators → operators ≡ no_operators
+none_named operators (inl named) = named.1
+none_named operators (inr chooses) =
+    let yes : has_operator operators (codes "none") ≡ true = (chooses.each (codes "none")).1 (0, omega arith, refl) in absurd (cc)
+
+behind_mark : (mark v w : List ℕ) → mark ++ v ≡ mark ++ w → v ≡ w
+behind_mark [] v w same = same
+behind_mark (b ∷ mark) v w same = behind_mark mark v w (cc)
+
+module _ (word value : List ℕ) where
+  pub not_criteria : word ≡ codes "--criteria=" ++ value → ((x : Criteria) → IsCriteria value x → ⊥) → (setting : Setting) → IsOption word setting → ⊥
+  not_criteria is none (Cover x) option = none x (subst (λ v. IsCriteria v x) (behind_mark (codes "--criteria=") _ _ (sym option.spelled ∙ is)) option.gives)
+  not_criteria is none (Mutate x) option = differ 99 109 _ _ word is option.spelled (λ e. omega (arith, e))
+  not_criteria is none (Bases x) option = differ 99 98 _ _ word is option.spelled (λ e. omega (arith, e))
+  not_criteria is none (Separate x) option = differ 99 115 _ _ word is option.spelled (λ e. omega (arith, e))
+
+  pub not_operators : word ≡ codes "--mutate=" ++ value → ((x : Operators) → IsOperators value x → ⊥) → (setting : Setting) → IsOption word setting → ⊥
+  not_operators is none (Cover x) option = differ 109 99 _ _ word is option.spelled (λ e. omega (arith, e))
+  not_operators is none (Mutate x) option = none x (subst (λ v. IsOperators v x) (behind_mark (codes "--mutate=") _ _ (sym option.spelled ∙ is)) option.gives)
+  not_operators is none (Bases x) option = differ 109 98 _ _ word is option.spelled (λ e. omega (arith, e))
+  not_operators is none (Separate x) option = differ 109 115 _ _ word is option.spelled (λ e. omega (arith, e))
+
+  pub not_bases : word ≡ codes "--bases=" ++ value → ((x : ℕ) → IsBases value x → ⊥) → (setting : Setting) → IsOption word setting → ⊥
+  not_bases is none (Cover x) option = differ 98 99 _ _ word is option.spelled (λ e. omega (arith, e))
+  not_bases is none (Mutate x) option = differ 98 109 _ _ word is option.spelled (λ e. omega (arith, e))
+  not_bases is none (Bases x) option = none x (subst (λ v. IsBases v x) (behind_mark (codes "--bases=") _ _ (sym option.spelled ∙ is)) option.gives)
+  not_bases is none (Separate x) option = differ 98 115 _ _ word is option.spelled (λ e. omega (arith, e))
+
+  pub not_separator : word ≡ codes "--separator=" ++ value → ((x : List ℕ) → IsSeparator value x → ⊥) → (setting : Setting) → IsOption word setting → ⊥
+  not_separator is none (Cover x) option = differ 115 99 _ _ word is option.spelled (λ e. omega (arith, e))
+  not_separator is none (Mutate x) option = differ 115 109 _ _ word is option.spelled (λ e. omega (arith, e))
+  not_separator is none (Bases x) option = differ 115 98 _ _ word is option.spelled (λ e. omega (arith, e))
+  not_separator is none (Separate x) option = none x (subst (λ v. IsSeparator v x) (behind_mark (codes "--separator=") _ _ (sym option.spelled ∙ is)) option.gives)
+
+  -- operators that aren't offered
+  pub not_offered : (operators : Operators) → word ≡ codes "--mutate=" ++ value → IsOperators value operators → (operators ≡ no_operators → ⊥) → (setting : Setting) → IsOption word setting → ⊥
+  not_offered operators is names some (Cover x) option = differ 109 99 _ _ word is option.spelled (λ e. omega (arith, e))
+  not_offered operators is names some (Mutate x) option =
+      let same : option.value ≡ value = behind_mark (codes "--mutate=") _ _ (sym option.spelled ∙ is) in
+      let none : value ≡ codes "none" = sym same ∙ unnamed option.value x option.gives option.offered in
+      some (none_named operators (subst (λ v. IsOperators v operators) none names))
+  not_offered operators is names some (Bases x) option = differ 109 98 _ _ word is option.spelled (λ e. omega (arith, e))
+  not_offered operators is names some (Separate x) option = differ 109 115 _ _ word is option.spelled (λ e. omega (arith, e))
+
+pub no_mark : (word : List ℕ) → (IsMarked (codes "--criteria=") word → ⊥) → (IsMarked (codes "--mutate=") word → ⊥) → (IsMarked (codes "--bases=") word → ⊥) → (IsMarked (codes "--separator=") word → ⊥) → (setting : Setting) → IsOption word setting → ⊥
+no_mark word c m b s (Cover x) option = c (marked word (Cover x) option)
+no_mark word c m b s (Mutate x) option = m (marked word (Mutate x) option)
+no_mark word c m b s (Bases x) option = b (marked word (Bases x) option)
+no_mark word c m b s (Separate x) option = s (marked word (Separate x) option)

@@ -1,0 +1,5 @@
+pub mod Names
+pub mod Spellings
+pub mod GivenLemmas
+pub mod Standing
+pub mod OneBad

@@ -1,0 +1,43 @@
+-- The values of the options that choose: names between commas, in any order, each at most once.
+use Rattle.std.specs.Prelude.{◌≡◌, ◌≢◌, ◌⊎◌, ◌↔◌, ℕ, Bool, false, ◌==◌, ◌&&◌, ◌||◌, List, IsTrue, AllPairs, Contains, bytes_eq, codes}
+use Rattle.std.specs.List.{slice_split}
+use Rattle.cs_goals.specs.declared.goal.Criteria.{Criteria}
+use Rattle.cs_mutate.specs.declared.edit.Operators.{Operators}
+use Rattle.cs_bytes.specs.Names.{comma_sign}
+
+-- the parts of a value between its commas
+abbrev pub parts : List ℕ → List (List ℕ)
+parts value = slice_split (λ b. b == comma_sign) value
+
+-- The list has the names that are chosen, each once, and no other.
+pub record Chooses (chosen : List ℕ → Bool) (names : List (List ℕ)) : Type 0 where
+  pub each : (name : List ℕ) → IsTrue (chosen name) ↔ Contains names name
+  pub once : AllPairs (λ a b. a ≢ b) names
+
+-- whether the name is that of a criterion that is chosen
+abbrev pub has_criterion : Criteria → List ℕ → Bool
+has_criterion c name =
+    (bytes_eq name (codes "rule") && c.rule)
+    || (bytes_eq name (codes "cdrc") && c.cdrc)
+    || (bytes_eq name (codes "pair") && c.pair)
+
+-- whether the name is that of an operator that is chosen
+abbrev pub has_operator : Operators → List ℕ → Bool
+has_operator o name =
+    (bytes_eq name (codes "delete") && o.delete)
+    || (bytes_eq name (codes "insert") && o.insert)
+    || (bytes_eq name (codes "replace") && o.replace)
+    || (bytes_eq name (codes "swap") && o.swap)
+
+-- no operator is chosen: nothing is mutated
+abbrev pub no_operators : Operators
+no_operators = record { delete = false; insert = false; replace = false; swap = false }
+
+-- the value names the criteria
+abbrev pub IsCriteria : List ℕ → Criteria → Type 0
+IsCriteria value criteria = Chooses (has_criterion criteria) (parts value)
+
+-- the value names the operators, or is `none`
+abbrev pub IsOperators : List ℕ → Operators → Type 0
+IsOperators value operators =
+    ((value ≡ codes "none") × (operators ≡ no_operators)) ⊎ Chooses (has_operator operators) (parts value)

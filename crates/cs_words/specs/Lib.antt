@@ -1,0 +1,6 @@
+pub mod Choices
+pub mod Values
+pub mod Options
+pub mod Words
+pub mod Commands
+pub mod Steps

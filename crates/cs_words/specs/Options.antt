@@ -1,0 +1,77 @@
+-- The options of `suite`: a mark and a value, in any order, each at most once.
+use Rattle.std.specs.Prelude.{◌≡◌, ℕ, Option, None, Some, List, [], ◌∷◌, ◌++◌, true, Contains, codes, unwrap_or}
+use Rattle.cs_words.specs.declared.setting.Setting.{Setting}
+use Rattle.cs_words.specs.declared.setting.Setting.TheVariants.{Cover, Mutate, Bases, Separate}
+use Rattle.cs_words.specs.declared.options.Options.{Options}
+use Rattle.cs_words.specs.Choices.{IsCriteria, IsOperators, no_operators}
+use Rattle.cs_words.specs.Values.{IsBases, IsSeparator}
+
+-- ---- one option
+
+-- what stands in front of the value, for each kind of setting
+abbrev pub mark_of : Setting → List ℕ
+mark_of (Cover criteria) = codes "--criteria="
+mark_of (Mutate operators) = codes "--mutate="
+mark_of (Bases number) = codes "--bases="
+mark_of (Separate separator) = codes "--separator="
+
+-- the value gives the setting
+abbrev pub IsValueOf : Setting → List ℕ → Type 0
+IsValueOf (Cover criteria) value = IsCriteria value criteria
+IsValueOf (Mutate operators) value = IsOperators value operators
+IsValueOf (Bases number) value = IsBases value number
+IsValueOf (Separate separator) value = IsSeparator value separator
+
+-- Until negatives come, nothing is mutated: `none` is the one value. Then this goes.
+abbrev pub IsOffered : Setting → Type 0
+IsOffered (Cover criteria) = Unit {0}
+IsOffered (Mutate operators) = operators ≡ no_operators
+IsOffered (Bases number) = Unit {0}
+IsOffered (Separate separator) = Unit {0}
+
+-- the word is an option with this setting
+pub record IsOption (word : List ℕ) (setting : Setting) : Type 0 where
+  pub value : List ℕ
+  pub spelled : word ≡ mark_of setting ++ value
+  pub gives : IsValueOf setting value
+  pub offered : IsOffered setting
+
+-- ---- several
+
+-- the word begins with the mark
+abbrev pub IsMarked : List ℕ → List ℕ → Type 0
+IsMarked mark word = (value : List ℕ) × (word ≡ mark ++ value)
+
+-- some word begins with the mark
+abbrev pub HasMarked : List ℕ → List (List ℕ) → Type 0
+HasMarked mark words = (word : List ℕ) × Contains words word × IsMarked mark word
+
+-- no word begins with the mark
+abbrev pub LacksMark : List ℕ → List (List ℕ) → Type 0
+LacksMark mark words = (word : List ℕ) → Contains words word → ¬ IsMarked mark word
+
+-- The word is an option that none of the words before it gives.
+pub record IsNewOption (before : List (List ℕ)) (word : List ℕ) : Type 0 where
+  pub setting : Setting
+  pub is : IsOption word setting
+  pub is_new : LacksMark (mark_of setting) before
+
+-- what the words say of a kind of setting: Some where one of them is such an option, None where none has its mark
+abbrev pub Give : {A : Type 0} → List ℕ → (A → Setting) → List (List ℕ) → Option A → Type 0
+Give mark setting words None = LacksMark mark words
+Give mark setting words (Some value) = (word : List ℕ) × Contains words word × IsOption word (setting value)
+
+-- the value that the words give, or the default where they give none
+abbrev pub GiveOr : {A : Type 0} → A → List ℕ → (A → Setting) → List (List ℕ) → A → Type 0
+GiveOr {A} default mark setting words value =
+    (given : Option A) × Give mark setting words given × (value ≡ unwrap_or given default)
+
+-- Words stand for these options; those that they don't give have their defaults: all criteria, all operators, 16 bases
+-- and one space.
+pub record AreOptions (words : List (List ℕ)) (options : Options) : Type 0 where
+  pub criteria : GiveOr (record { rule = true; cdrc = true; pair = true }) (codes "--criteria=") Cover words options.criteria
+  pub operators :
+      GiveOr (record { delete = true; insert = true; replace = true; swap = true }) (codes "--mutate=") Mutate words
+      options.operators
+  pub bases : GiveOr 16 (codes "--bases=") Bases words options.bases
+  pub separator : GiveOr (32 ∷ []) (codes "--separator=") Separate words options.separator

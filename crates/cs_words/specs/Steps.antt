@@ -1,0 +1,78 @@
+-- Working words of the proofs: what is read step by step.
+use Rattle.std.specs.Prelude.{◌≡◌, ◌⊎◌, ◌||◌, ℕ, Bool, true, false, List, [], ◌∷◌, ◌++◌, None, Some, IsSome, bytes_eq, codes, length, unwrap_or}
+use Rattle.cs_words.specs.declared.options.Options.{Options}
+use Rattle.cs_words.specs.declared.given.Given.{Given}
+use Rattle.cs_words.specs.declared.setting.Setting.{Setting}
+use Rattle.cs_words.specs.declared.setting.Setting.TheVariants.{Cover, Mutate, Bases, Separate}
+use Rattle.cs_words.specs.Options.{IsNewOption, LacksMark}
+use Rattle.cs_words.specs.Values.{SpellsByte}
+use Rattle.cs_words.specs.Words.{is_name}
+
+-- ---- lists of names
+
+-- one more name is chosen, which wasn't
+pub record Adds (chosen : List ℕ → Bool) (name : List ℕ) (more : List ℕ → Bool) : Type 0 where
+  pub was : chosen name ≡ false
+  pub now : (other : List ℕ) → more other ≡ (chosen other || bytes_eq other name)
+
+-- the name is chosen, or no choice has it
+abbrev pub CannotAdd : {A : Type 0} → (A → List ℕ → Bool) → A → List ℕ → Type 0
+CannotAdd {A} chosen choice name = (chosen choice name ≡ true) ⊎ ((other : A) → chosen other name ≡ false)
+
+-- ---- options
+
+-- something of the setting's kind is said
+abbrev pub HasKind : Given → Setting → Type 0
+HasKind given (Cover criteria) = IsSome given.criteria
+HasKind given (Mutate operators) = IsSome given.operators
+HasKind given (Bases bases) = IsSome given.bases
+HasKind given (Separate separator) = IsSome given.separator
+
+-- the setting is new, and said now
+abbrev pub Sets : Given → Setting → Given → Type 0
+Sets old (Cover criteria) new = (old.criteria ≡ None) × (new ≡ record old { criteria = Some criteria })
+Sets old (Mutate operators) new = (old.operators ≡ None) × (new ≡ record old { operators = Some operators })
+Sets old (Bases bases) new = (old.bases ≡ None) × (new ≡ record old { bases = Some bases })
+Sets old (Separate separator) new = (old.separator ≡ None) × (new ≡ record old { separator = Some separator })
+
+abbrev pub IsNothing : Given → Type 0
+IsNothing given = given ≡ record { criteria = None; operators = None; bases = None; separator = None }
+
+-- the options are what is said, and defaults for the rest
+pub record AreDefaulted (given : Given) (options : Options) : Type 0 where
+  pub criteria : options.criteria ≡ unwrap_or given.criteria (record { rule = true; cdrc = true; pair = true })
+  pub operators : options.operators ≡ unwrap_or given.operators (record { delete = true; insert = true; replace = true; swap = true })
+  pub bases : options.bases ≡ unwrap_or given.bases 16
+  pub separator : options.separator ≡ unwrap_or given.separator (32 ∷ [])
+
+-- ---- options that stand behind the names of `suite`
+
+-- each of the words is an option that none of those before it gives
+abbrev pub AreNew : List (List ℕ) → List (List ℕ) → Type 0
+AreNew before [] = Unit {0}
+AreNew before (word ∷ words) = IsNewOption before word × AreNew (before ++ word ∷ []) words
+
+-- what stands behind these options can't go on so
+abbrev pub Stops : List (List ℕ) → List (List ℕ) → Type 0
+Stops before [] = LacksMark (codes "--mutate=") before
+Stops before (word ∷ after) = IsNewOption before word → ⊥
+
+-- the options before the place are new, and what is behind them can't go on so
+pub record StopsAt (words : List (List ℕ)) (at : ℕ) : Type 0 where
+  pub before : List (List ℕ)
+  pub after : List (List ℕ)
+  pub split : words ≡ before ++ after
+  pub place : length before ≡ at
+  pub stand : AreNew [] before
+  pub stops : Stops before after
+
+-- no name stands in front
+abbrev pub LacksName : List (List ℕ) → Type 0
+LacksName [] = Unit {0}
+LacksName (word ∷ words) = is_name word ≡ false
+
+-- ---- separators
+
+-- no byte is spelled in front
+abbrev pub LacksSpelling : List ℕ → Type 0
+LacksSpelling text = (spelling rest : List ℕ) (byte : ℕ) → text ≡ spelling ++ rest → SpellsByte spelling byte → ⊥

@@ -1,0 +1,39 @@
+-- The values of the other options: the number of bases, and the separator.
+use Rattle.std.specs.Prelude.{◌≡◌, ◌≢◌, ◌⊎◌, ◌+◌, ◌*◌, ◌≤◌, ℕ, List, [], ◌∷◌, ◌++◌, length, IsTrue}
+use Rattle.std.specs.List.{list_all}
+use Rattle.cs_bytes.specs.Classes.{is_digit, is_hexadecimal_digit}
+use Rattle.cs_bytes.specs.Digits.{digit_of, number_of}
+use Rattle.cs_bytes.specs.Names.{backslash, letter_x}
+
+-- one to four decimal digits
+abbrev pub IsShortNumber : List ℕ → Type 0
+IsShortNumber value = (1 ≤ length value) × (length value ≤ 4) × IsTrue (list_all is_digit value)
+
+-- one to four decimal digits that spell a number of at most 1,000
+pub record IsBases (value : List ℕ) (bases : ℕ) : Type 0 where
+  pub digits : IsShortNumber value
+  pub number : bases ≡ number_of 10 value
+  pub most : bases ≤ 1000
+
+-- `\x` and two hexadecimal digits of the byte
+pub record IsEscape (spelling : List ℕ) (value : ℕ) : Type 0 where
+  pub high : ℕ
+  pub low : ℕ
+  pub text : spelling ≡ backslash ∷ letter_x ∷ high ∷ low ∷ []
+  pub is_high : IsTrue (is_hexadecimal_digit high)
+  pub is_low : IsTrue (is_hexadecimal_digit low)
+  pub byte : value ≡ digit_of high * 16 + digit_of low
+
+-- the byte itself, but for a backslash; or an escape
+abbrev pub SpellsByte : List ℕ → ℕ → Type 0
+SpellsByte text byte = ((text ≡ byte ∷ []) × (byte ≢ backslash)) ⊎ IsEscape text byte
+
+-- the value is the spellings of the bytes, one behind the other
+abbrev pub Spells : List ℕ → List ℕ → Type 0
+Spells value [] = value ≡ []
+Spells value (byte ∷ bytes) =
+    (text : List ℕ) × (rest : List ℕ) × (value ≡ text ++ rest) × SpellsByte text byte × Spells rest bytes
+
+-- spelled bytes, at most 64
+abbrev pub IsSeparator : List ℕ → List ℕ → Type 0
+IsSeparator value bytes = Spells value bytes × (length bytes ≤ 64)

@@ -1,0 +1,68 @@
+// What the options so far say.
+
+ghost use Rattle.std.specs.Prelude.{◌≡◌};
+ghost use Rattle.std.specs.Bool.{OnTrue, OnFalse};
+ghost use Rattle.cs_words.specs.Steps.{AreDefaulted, HasKind, IsNothing, Sets};
+
+use crate::options::Options;
+use crate::separator::Separator;
+use crate::setting::Setting;
+use cs_goals::Criteria;
+use cs_mutate::Operators;
+
+/// What the options so far say.
+#[derive(Drop)]
+pub struct Given {
+    pub criteria: Option<Criteria>,
+    pub operators: Option<Operators>,
+    pub bases: Option<u16>,
+    pub separator: Option<Separator>,
+}
+
+impl Given {
+    /// Nothing is said.
+    pub fn new() -> Given
+        ensures { IsNothing result }
+    {
+        Given {
+            criteria: None,
+            operators: None,
+            bases: None,
+            separator: None,
+        }
+    }
+
+    /// Takes a setting, or gives false where one of its kind was there.
+    pub fn set(&mut self, setting: Setting) -> bool
+        ensures set { OnTrue result (Sets self.old setting self.new) }
+        ensures twice { OnFalse result (HasKind self.old setting) }
+    {
+        match setting {
+            Setting::Cover(criteria) => self.criteria.replace(criteria).is_none(),
+            Setting::Mutate(operators) => self.operators.replace(operators).is_none(),
+            Setting::Bases(bases) => self.bases.replace(bases).is_none(),
+            Setting::Separate(separator) => self.separator.replace(separator).is_none(),
+        }
+    }
+
+    /// The options, with defaults for what isn't said.
+    pub fn options(self) -> Options
+        ensures { AreDefaulted self result }
+    {
+        Options {
+            criteria: self.criteria.unwrap_or(Criteria {
+                rule: true,
+                cdrc: true,
+                pair: true,
+            }),
+            operators: self.operators.unwrap_or(Operators {
+                delete: true,
+                insert: true,
+                replace: true,
+                swap: true,
+            }),
+            bases: self.bases.unwrap_or(16),
+            separator: self.separator.unwrap_or(Separator::space()),
+        }
+    }
+}

@@ -1,0 +1,61 @@
+// One option of `suite`: a mark and a value.
+
+ghost use Rattle.std.specs.Prelude.{◌≡◌, ◌++◌, IfNone, IfSome, List, ℕ};
+ghost use Rattle.cs_words.specs.Options.{IsOption, IsMarked};
+ghost use Rattle.cs_words.specs.Choices.{no_operators};
+ghost use Rattle.cs_words.specs.declared.setting.Setting.{Setting};
+
+use crate::choices::{read_criteria, read_operators};
+use crate::separator::Separator;
+use crate::values::{read_bases, read_separator};
+use cs_goals::Criteria;
+use cs_mutate::Operators;
+
+/// What an option sets.
+#[derive(Drop)]
+pub enum Setting {
+    /// The criteria of goals.
+    Cover(Criteria),
+    /// The operators of edits.
+    Mutate(Operators),
+    /// The greatest number of bases.
+    Bases(u16),
+    /// What stands between lexemes.
+    Separate(Separator),
+}
+
+/// The setting of an option.
+pub fn read_option(word: &str) -> Option<Setting>
+    ensures some { IfSome result (IsOption word.now) }
+    ensures none { IfNone result ((setting : Setting) → IsOption word.now setting → ⊥) }
+{
+    if let Some(value) = behind(word, "--criteria=") {
+        return Some(Setting::Cover(read_criteria(value)?));
+    }
+    if let Some(value) = behind(word, "--mutate=") {
+        return Some(Setting::Mutate(offered(read_operators(value)?)?));
+    }
+    if let Some(value) = behind(word, "--bases=") {
+        return Some(Setting::Bases(read_bases(value.as_bytes())?));
+    }
+    let value = behind(word, "--separator=")?;
+    Some(Setting::Separate(read_separator(value.as_bytes())?))
+}
+
+// Until negatives come, no operators alone.
+fn offered(operators: Operators) -> Option<Operators>
+    ensures some { IfSome result (λ same. same ≡ operators) }
+    ensures offered { IfSome result (λ same. same ≡ no_operators) }
+    ensures none { IfNone result (operators ≡ no_operators → ⊥) }
+{
+    let is_none = !(operators.delete || operators.insert || operators.replace || operators.swap);
+    is_none.then_some(operators)
+}
+
+// What stands behind the mark.
+fn behind<'w>(word: &'w str, mark: &str) -> Option<&'w str>
+    ensures some { IfSome result (λ value. word.now ≡ mark.now ++ value.now) }
+    ensures none { IfNone result (IsMarked mark.now word.now → ⊥) }
+{
+    word.strip_prefix(mark)
+}

@@ -1,0 +1,186 @@
+// Words of the command line. What is expected was worked by hand from the grammar of words that docs/FORMATS.md gives:
+// which word may stand behind which, and the values of each option.
+
+use cs_words::{BadWord, Command, read_words};
+use std::alloc::{AllocError, Global};
+use std::test::Fail;
+
+fn words(alloc: Global, texts: &[&str]) -> Result<Vec<String>, AllocError> {
+    let mut words = Vec::new(alloc);
+    for text in texts {
+        words.push(String::from_str(alloc, text)?)?;
+    }
+    Ok(words)
+}
+
+// The place of the first bad word.
+fn bad_word(alloc: Global, texts: &[&str]) -> Result<Option<usize>, AllocError> {
+    let words = words(alloc, texts)?;
+    match read_words(&words) {
+        Ok(_) => Ok(None),
+        Err(BadWord { at }) => Ok(Some(at)),
+    }
+}
+
+// The place of the first bad word behind `suite y l --mutate=none`.
+fn bad_option(alloc: Global, texts: &[&str]) -> Result<Option<usize>, AllocError> {
+    let mut all = words(alloc, &["suite", "y", "l", "--mutate=none"])?;
+    for text in texts {
+        all.push(String::from_str(alloc, text)?)?;
+    }
+    match read_words(&all) {
+        Ok(_) => Ok(None),
+        Err(BadWord { at }) => Ok(Some(at)),
+    }
+}
+
+#[test]
+fn commands_and_names(rt: HostRuntime) -> Result<(), Fail> {
+    let alloc = rt.alloc();
+    let rows: [(&[&str], Option<usize>); 23] = [
+        (&[], Some(0)),
+        (&[""], Some(0)),
+        (&["--help"], Some(0)),
+        (&["--version"], Some(0)),
+        (&["Rules", "y"], Some(0)),
+        (&["rules"], Some(1)),
+        (&["rules", ""], Some(1)),
+        (&["rules", "-y"], Some(1)),
+        (&["rules", "y"], None),
+        (&["rules", "y", "z"], Some(2)),
+        (&["rules", "y", "--criteria=rule"], Some(2)),
+        (&["rules", "y", ""], Some(2)),
+        (&["suite"], Some(1)),
+        (&["suite", "", "l"], Some(1)),
+        (&["suite", "y"], Some(2)),
+        (&["suite", "y", "-", "--mutate=none"], Some(2)),
+        (&["suite", "y", "--mutate=none", "l"], Some(2)),
+        (&["suite", "--mutate=none", "y", "l"], Some(1)),
+        (&["suite", "y", "l", "x", "--mutate=none"], Some(3)),
+        (&["suite", "y", "l", "--mutate=none"], None),
+        (&["suite", "y", "y", "--mutate=none"], None),
+        (&["suite", "y", "l"], Some(3)),
+        (&["suite", "y", "l", "--bases=3"], Some(4)),
+    ];
+    for (texts, want) in rows {
+        let got = bad_word(alloc, texts)?;
+        assert_eq!(rt; got, want);
+    }
+    Ok(())
+}
+
+#[test]
+fn options_and_their_values(rt: HostRuntime) -> Result<(), Fail> {
+    let alloc = rt.alloc();
+    let rows: [(&[&str], Option<usize>); 44] = [
+        (&["--criteria"], Some(4)),
+        (&["--criteria="], Some(4)),
+        (&["--criteria=rule,"], Some(4)),
+        (&["--criteria=,rule"], Some(4)),
+        (&["--criteria=rule,rule"], Some(4)),
+        (&["--criteria=rule,cdrc,pair,rule"], Some(4)),
+        (&["--criteria=rules"], Some(4)),
+        (&["--criteria=Rule"], Some(4)),
+        (&["--criteria=none"], Some(4)),
+        (&["--criteria=rule cdrc"], Some(4)),
+        (&["--criteria=pair"], None),
+        (&["--criteria=pair,rule,cdrc"], None),
+        (&["--criteria=rule", "--criteria=rule"], Some(5)),
+        (&["--mutate=none"], Some(4)),
+        (&["--mutate="], Some(4)),
+        (&["--mutate=delete"], Some(4)),
+        (&["--bases="], Some(4)),
+        (&["--bases=0"], None),
+        (&["--bases=0016"], None),
+        (&["--bases=00016"], Some(4)),
+        (&["--bases=1000"], None),
+        (&["--bases=1001"], Some(4)),
+        (&["--bases=9999"], Some(4)),
+        (&["--bases=+1"], Some(4)),
+        (&["--bases=-1"], Some(4)),
+        (&["--bases= 1"], Some(4)),
+        (&["--bases=1x"], Some(4)),
+        (&["--bases=3", "--bases=3"], Some(5)),
+        (&["--bases=3", "--separator=", "--bases=4"], Some(6)),
+        (&["--separator"], Some(4)),
+        (&["--separator="], None),
+        (&["--separator=\\"], Some(4)),
+        (&["--separator=\\n"], Some(4)),
+        (&["--separator=\\X20"], Some(4)),
+        (&["--separator=\\x2"], Some(4)),
+        (&["--separator=\\x2g"], Some(4)),
+        (&["--separator=a\\x0aB\\xfF"], None),
+        (&["--separator=\\x5c\\x"], Some(4)),
+        (
+            &["--separator=0123456789012345678901234567890123456789012345678901234567890123"],
+            None,
+        ),
+        (
+            &["--separator=01234567890123456789012345678901234567890123456789012345678901234"],
+            Some(4),
+        ),
+        (
+            &[
+                "--separator=01234567890123456789012345678901234567890123456789012345678901\\x41\\x42",
+            ],
+            None,
+        ),
+        (
+            &[
+                "--separator=012345678901234567890123456789012345678901234567890123456789012\\x41\\x42",
+            ],
+            Some(4),
+        ),
+        (&["--weigh=bytes"], Some(4)),
+        (&["--separator=a", "--criteria=rule", "--bases=1"], None),
+    ];
+    for (texts, want) in rows {
+        let got = bad_option(alloc, texts)?;
+        assert_eq!(rt; got, want);
+    }
+    Ok(())
+}
+
+#[test]
+fn names_and_defaults(rt: HostRuntime) -> Result<(), Fail> {
+    let alloc = rt.alloc();
+    let words = words(alloc, &["suite", "g.y", "g.l", "--mutate=none"])?;
+    match read_words(&words) {
+        Ok(Command::Suite { yacc, lex, options }) => {
+            assert!(rt; yacc == "g.y" && lex == "g.l");
+            assert!(rt; options.criteria.rule && options.criteria.cdrc && options.criteria.pair);
+            assert_eq!(rt; options.bases, 16);
+            assert!(rt; options.separator.bytes() == b" ".as_slice());
+        }
+        _ => assert!(rt; false),
+    }
+    Ok(())
+}
+
+#[test]
+fn settings(rt: HostRuntime) -> Result<(), Fail> {
+    let alloc = rt.alloc();
+    let words = words(
+        alloc,
+        &[
+            "suite",
+            "g.y",
+            "g.y",
+            "--separator=\\x41b\\x0a",
+            "--bases=0007",
+            "--mutate=none",
+            "--criteria=pair,rule",
+        ],
+    )?;
+    match read_words(&words) {
+        Ok(Command::Suite { options, .. }) => {
+            assert!(rt; options.criteria.rule && !options.criteria.cdrc && options.criteria.pair);
+            assert!(rt; !options.operators.delete && !options.operators.insert);
+            assert!(rt; !options.operators.replace && !options.operators.swap);
+            assert_eq!(rt; options.bases, 7);
+            assert!(rt; options.separator.bytes() == b"Ab\n".as_slice());
+        }
+        _ => assert!(rt; false),
+    }
+    Ok(())
+}
