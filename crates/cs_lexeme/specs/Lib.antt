@@ -1,0 +1,4 @@
+pub mod Rank
+pub mod Order
+pub mod Lexeme
+pub mod Texts

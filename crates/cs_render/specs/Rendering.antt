@@ -1,0 +1,46 @@
+-- The rendering of a list of tokens: the text that the rule makes of it where that text scans back, else why it has none.
+use Rattle.std.specs.Prelude.{◌≡◌, ℕ, List, ◌++◌, ◌∷◌, All, Option, Some, None}
+use Rattle.std.specs.List.{AllZip}
+use Rattle.cs_scan.specs.Scan.{Scanning, Scans}
+use Rattle.cs_scan.specs.Compared.{IsInCommon}
+use Rattle.cs_lexeme.specs.Lexeme.{lexeme_in}
+use Rattle.cs_render.specs.declared.rendered.Rendered.{Rendered}
+use Rattle.cs_render.specs.declared.rendered.Rendered.TheVariants as answers
+use Rattle.cs_render.specs.Joined.{joined}
+
+-- the value of an answer: a text, the token without a lexeme, or how many tokens the scan has in common with the list
+pub data Rendering : Type 0 where
+  Text : List ℕ → Rendering
+  NoLexeme : ℕ → Rendering
+  Differs : ℕ → Rendering
+
+-- reads the value off the answer
+abbrev pub rendering : Rendered → Rendering
+rendering (answers.Text text) = Text text.items
+rendering (answers.NoLexeme token) = NoLexeme token
+rendering (answers.Differs after) = Differs after
+
+-- the token has a lexeme in the list
+abbrev pub HasLexeme : List (Option (List ℕ)) → ℕ → Type 0
+HasLexeme lexemes token = (text : List ℕ) × (lexeme_in lexemes token ≡ Some text)
+
+-- the token is the first of the list that has no lexeme
+pub record IsFirstWithout (lexemes : List (Option (List ℕ))) (tokens : List ℕ) (token : ℕ) : Type 0 where
+  pub front : List ℕ
+  pub behind : List ℕ
+  pub list : tokens ≡ front ++ token ∷ behind
+  pub front_has : All (HasLexeme lexemes) front
+  pub none : lexeme_in lexemes token ≡ None
+
+-- the rule's text of the tokens: the lexeme of each, one after another, with the separator between them
+pub record IsRuleText (lexemes : List (Option (List ℕ))) (separator tokens text : List ℕ) : Type 0 where
+  pub texts : List (List ℕ)
+  pub each : AllZip (λ token lexeme. lexeme_in lexemes token ≡ Some lexeme) tokens texts
+  pub is : text ≡ joined separator texts
+
+-- The rule's text where it scans to the tokens. Where it doesn't, how many tokens its scan and the list have in common at
+-- their fronts. Where a token has no lexeme, the first such token.
+abbrev pub IsRendered : Scanning → List (Option (List ℕ)) → List ℕ → List ℕ → Rendering → Type 0
+IsRendered s lexemes separator tokens (Text text) = IsRuleText lexemes separator tokens text × Scans s text tokens
+IsRendered s lexemes separator tokens (NoLexeme token) = IsFirstWithout lexemes tokens token
+IsRendered s lexemes separator tokens (Differs after) = (text : List ℕ) × IsRuleText lexemes separator tokens text × (Scans s text tokens → ⊥) × IsInCommon s text tokens after
