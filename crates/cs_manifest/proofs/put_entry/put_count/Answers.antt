@@ -1,0 +1,5 @@
+use Rattle.cs_manifest.proofs.Pieces.{then}
+use Rattle.cs_manifest.proofs.put_entry.put_count.Goals as goal
+
+pub returns : goal.returns
+returns g c = then c.put.ensures c.put_number.ensures

@@ -1,0 +1,54 @@
+-- The counts of a manifest.
+use Rattle.std.specs.Prelude.{ℕ, ◌+◌, List, length, Bool, if◌then◌else◌}
+use Rattle.cs_io.specs.Faults.{next_count}
+use Rattle.cs_positive.specs.declared.verdict.Verdict.{Verdict}
+use Rattle.cs_yacc.specs.File.{File}
+use Rattle.cs_manifest.specs.declared.counts.Counts.{Counts}
+use Rattle.cs_manifest.specs.declared.entry.Entry.{Entry}
+use Rattle.cs_manifest.specs.declared.entry.Entry.TheVariants.{Goal, Base, Negative}
+use Rattle.cs_manifest.specs.Entry.{lines_of}
+use Rattle.cs_manifest.specs.Lines.{end_words, is_feasible, is_infeasible, is_large}
+use Rattle.cs_manifest.specs.Putting.{shown}
+
+-- no entries, and so many bytes
+abbrev pub first_counts : ℕ → Counts
+first_counts bytes = record { goals = 0; feasible = 0; infeasible = 0; large = 0; negatives = 0; bytes = bytes }
+
+-- behind the head
+abbrev pub counts_of_head : List ℕ → Counts
+counts_of_head head = first_counts (shown (length head))
+
+-- one more where that is so
+abbrev pub next_if : Bool → ℕ → ℕ
+next_if so count = if so then next_count count else count
+
+-- the end line of these counts
+abbrev pub end_of : Counts → List ℕ
+end_of counts = end_words counts.goals counts.feasible counts.infeasible counts.large counts.negatives
+
+-- with the bytes of more lines
+abbrev pub with_lines : Counts → List ℕ → Counts
+with_lines counts lines = record counts { bytes = shown (counts.bytes + length lines) }
+
+-- with one more goal of this verdict, its lines not yet
+abbrev pub with_verdict : Counts → Verdict → Counts
+with_verdict counts verdict = record counts {
+  goals = next_count counts.goals;
+  feasible = next_if (is_feasible verdict) counts.feasible;
+  infeasible = next_if (is_infeasible verdict) counts.infeasible;
+  large = next_if (is_large verdict) counts.large;
+}
+
+-- with one more entry, its lines not yet
+abbrev pub with_entry : Counts → Entry → Counts
+with_entry counts (Goal number goal verdict tokens rendered) = with_verdict counts verdict.now
+with_entry counts (Base number goal) = counts
+with_entry counts (Negative number base edit left right at tokens rendered) = record counts { negatives = next_count counts.negatives }
+
+-- behind one more entry
+abbrev pub behind_entry : File → Counts → Entry → Counts
+behind_entry file counts entry = with_lines (with_entry counts entry) (lines_of file entry)
+
+-- behind the end
+abbrev pub behind_end : Counts → Counts
+behind_end counts = with_lines counts (end_of counts)

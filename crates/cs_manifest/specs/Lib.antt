@@ -1,0 +1,9 @@
+pub mod Words
+pub mod Names
+pub mod Lines
+pub mod Head
+pub mod Entry
+pub mod Counts
+pub mod Progress
+pub mod Sinks
+pub mod Putting

@@ -1,0 +1,45 @@
+-- Words, lines and escapes of a manifest.
+use Rattle.std.specs.Prelude.{ℕ, ◌+◌, ◌/◌, ◌%◌, ◌==◌, nat_le, ◌&&◌, not, if◌then◌else◌, Bool, List, [], ◌∷◌, ◌++◌}
+use Rattle.std.specs.List.{flat_map, enumerate_from}
+
+-- each line ends with a newline
+abbrev pub line : List ℕ → List ℕ
+line words = words ++ 10 ∷ []
+
+-- the text of each member, in order, each behind a space
+abbrev pub spaced : {A : Type 0} → (A → List ℕ) → List A → List ℕ
+spaced f xs = flat_map (λ x. 32 ∷ f x) xs
+
+-- the lines of each member, seen with its number from 1, in order
+abbrev pub numbered : {A : Type 0} → (ℕ → A → List ℕ) → List A → List ℕ
+numbered f xs = flat_map (λ p. f p.0 p.1) (enumerate_from 1 xs)
+
+-- `0` to `9` and `a` to `f`
+abbrev pub hexadecimal_digit : ℕ → ℕ
+hexadecimal_digit n = if nat_le n 9 then 48 + n else 87 + n
+
+-- `\x` and two digits
+abbrev pub escaped : ℕ → List ℕ
+escaped b = 92 ∷ 120 ∷ hexadecimal_digit (b / 16) ∷ hexadecimal_digit (b % 16) ∷ []
+
+-- between single quotes `!` to `~` stand for themselves, but for the single quote and the backslash
+abbrev pub is_plain_literal : ℕ → Bool
+is_plain_literal b = nat_le 33 b && nat_le b 126 && not (b == 39) && not (b == 92)
+
+-- between double quotes space to `~` stand for themselves, but for the double quote and the backslash
+abbrev pub is_plain_text : ℕ → Bool
+is_plain_text b = nat_le 32 b && nat_le b 126 && not (b == 34) && not (b == 92)
+
+abbrev pub literal_byte : ℕ → List ℕ
+literal_byte b = if is_plain_literal b then b ∷ [] else escaped b
+
+abbrev pub text_byte : ℕ → List ℕ
+text_byte b = if is_plain_text b then b ∷ [] else escaped b
+
+-- a byte between single quotes
+abbrev pub literal : ℕ → List ℕ
+literal b = 39 ∷ literal_byte b ++ 39 ∷ []
+
+-- a text between double quotes
+abbrev pub quoted : List ℕ → List ℕ
+quoted text = 34 ∷ flat_map text_byte text ++ 34 ∷ []

@@ -1,0 +1,24 @@
+//! The manifest: what stands in it, and its lines, written to a sink as they are made.
+//!
+//! The layers above begin a [`Manifest`] with a [`Head`], give it one [`Entry`] after another and finish it. Ok means that the
+//! sink took exactly the lines of that call, and a failure that it took a prefix of them; no call takes memory. A manifest is
+//! seen as its head and the counts of what was written so far.
+//!
+//! Meaning, from the top down: `specs/Progress` (what contracts see of a manifest), `Counts`, `Head` and `Entry` (which lines
+//! stand for what), `Lines` (the lines of the format, in their order), `Names` (the names of symbols, and which numbers have
+//! one), `Words` (words, lines and escapes). Working words of proofs: `Putting`.
+#![tactic(auto)]
+
+mod counts;
+mod entry;
+mod head;
+mod manifest;
+mod names;
+mod output;
+mod put_entry;
+mod put_head;
+
+pub use counts::Counts;
+pub use entry::Entry;
+pub use head::Head;
+pub use manifest::Manifest;

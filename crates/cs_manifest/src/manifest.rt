@@ -1,0 +1,194 @@
+// The manifest, written part by part.
+
+ghost use Rattle.std.specs.Prelude.{◌≡◌, ◌≤◌, IfOk, IsOk, OnErr, OnOk};
+ghost use Rattle.cs_io.specs.Faults.{Rose};
+ghost use Rattle.cs_manifest.specs.Counts as spec;
+ghost use Rattle.cs_manifest.specs.Counts.{behind_end, end_of, with_entry as counted, with_verdict};
+ghost use Rattle.cs_manifest.specs.Entry.{IsNamedEntry};
+ghost use Rattle.cs_manifest.specs.Head.{IsNamedHead, head_of};
+ghost use Rattle.cs_manifest.specs.Progress.{begun, behind, lines_in};
+ghost use Rattle.cs_manifest.specs.Sinks.{HasRoom, IsCalm, LeavesRoom, Took, TookPart};
+
+use crate::output::Output;
+use crate::put_entry::{put_end, put_entry};
+use crate::put_head::put_head;
+use crate::{Counts, Entry, Head};
+use cs_io::{Sink, SinkError};
+use cs_positive::Verdict;
+use std::marker::Model;
+
+/// A manifest whose lines go to a sink as they are made: the head, then the entries one by one, then the end.
+///
+/// It is seen as its head and the counts of what was written so far. After `SinkError::Failed` the sink has a prefix of the
+/// lines of that call, and the manifest is as before. No call takes memory.
+#[derive(Drop)]
+pub struct Manifest<'a> {
+    head: Head<'a>,
+    counts: Counts,
+}
+
+impl<'a> Model for Manifest<'a> {
+    ghost use Rattle.cs_manifest.specs.Progress.{Progress};
+
+    ghost Value = { Progress };
+
+    ghost use Rattle.cs_manifest.specs.Head.{file_of, lexemes_of};
+
+    ghost view = { λ m. record { file = file_of m.head; lexemes = lexemes_of m.head; counts = m.counts } };
+}
+
+impl<'a> Manifest<'a> {
+    /// Writes the head. Lexemes are of as many tokens as the file has.
+    pub fn begin<S: Sink>(sink: &mut S, head: &Head<'a>) -> Result<Manifest<'a>, SinkError>
+        requires { IsNamedHead head.now }
+        ensures value { IfOk result (λ manifest. manifest ≡ begun head.now) }
+
+        // What the sink got.
+        ensures ok { OnOk result (Took S.written sink.old sink.new (head_of head.now)) }
+        ensures err { OnErr result (TookPart S.written sink.old sink.new (head_of head.now)) }
+
+        // The faults.
+        ensures fault { OnErr result (Rose (S.faults sink.old) (S.faults sink.new)) }
+        ensures faults_never_fall { S.faults sink.old ≤ S.faults sink.new }
+
+        // A sink with room for the lines takes them.
+        ensures ok_with_room { HasRoom S.room sink.old (head_of head.now) → IsOk result }
+        ensures no_fault { IsCalm S.room S.faults sink.old sink.new (head_of head.now) }
+        ensures room { OnOk result (LeavesRoom S.room sink.old sink.new (head_of head.now)) }
+
+        // The lent sink.
+        ensures same_lent { S.lent sink.new ≡ S.lent sink.old }
+        ensures passed_never_falls { S.passed sink.old ≤ S.passed sink.new }
+    {
+        let mut output = Output::new(sink, 0);
+        put_head(&mut output, head);
+        if output.failed {
+            return Err(SinkError::Failed);
+        }
+        Ok(Manifest {
+            head: *head,
+            counts: first_counts(output.bytes),
+        })
+    }
+
+    /// Writes an entry. Its numbers of tokens are of the head's file.
+    pub fn entry<S: Sink>(&mut self, sink: &mut S, entry: &Entry<'_>) -> Result<(), SinkError>
+        requires { IsNamedEntry self.old.file entry.now }
+        ensures value { OnOk result (self.new ≡ behind self.old entry.now) }
+        ensures unchanged { OnErr result (self.new ≡ self.old) }
+
+        // What the sink got.
+        ensures ok { OnOk result (Took S.written sink.old sink.new (lines_in self.old entry.now)) }
+        ensures err { OnErr result (TookPart S.written sink.old sink.new (lines_in self.old entry.now)) }
+
+        // The faults.
+        ensures fault { OnErr result (Rose (S.faults sink.old) (S.faults sink.new)) }
+        ensures faults_never_fall { S.faults sink.old ≤ S.faults sink.new }
+
+        // A sink with room for the lines takes them.
+        ensures ok_with_room { HasRoom S.room sink.old (lines_in self.old entry.now) → IsOk result }
+        ensures no_fault { IsCalm S.room S.faults sink.old sink.new (lines_in self.old entry.now) }
+        ensures room { OnOk result (LeavesRoom S.room sink.old sink.new (lines_in self.old entry.now)) }
+
+        // The lent sink.
+        ensures same_lent { S.lent sink.new ≡ S.lent sink.old }
+        ensures passed_never_falls { S.passed sink.old ≤ S.passed sink.new }
+    {
+        let mut output = Output::new(sink, self.counts.bytes);
+        put_entry(&mut output, self.head.yacc, entry);
+        if output.failed {
+            return Err(SinkError::Failed);
+        }
+        self.counts = with_entry(self.counts, output.bytes, entry);
+        Ok(())
+    }
+
+    /// Writes the end, with the counts of the entries, and answers these and the length of all lines.
+    pub fn finish<S: Sink>(self, sink: &mut S) -> Result<Counts, SinkError>
+        ensures counts { IfOk result (λ counts. counts ≡ behind_end self.entry.counts) }
+
+        // What the sink got.
+        ensures ok { OnOk result (Took S.written sink.old sink.new (end_of self.entry.counts)) }
+        ensures err { OnErr result (TookPart S.written sink.old sink.new (end_of self.entry.counts)) }
+
+        // The faults.
+        ensures fault { OnErr result (Rose (S.faults sink.old) (S.faults sink.new)) }
+        ensures faults_never_fall { S.faults sink.old ≤ S.faults sink.new }
+
+        // A sink with room for the lines takes them.
+        ensures ok_with_room { HasRoom S.room sink.old (end_of self.entry.counts) → IsOk result }
+        ensures no_fault { IsCalm S.room S.faults sink.old sink.new (end_of self.entry.counts) }
+        ensures room { OnOk result (LeavesRoom S.room sink.old sink.new (end_of self.entry.counts)) }
+
+        // The lent sink.
+        ensures same_lent { S.lent sink.new ≡ S.lent sink.old }
+        ensures passed_never_falls { S.passed sink.old ≤ S.passed sink.new }
+    {
+        let mut output = Output::new(sink, self.counts.bytes);
+        put_end(&mut output, &self.counts);
+        if output.failed {
+            return Err(SinkError::Failed);
+        }
+        Ok(with_bytes(self.counts, output.bytes))
+    }
+}
+
+// No entries, and so many bytes.
+fn first_counts(bytes: u128) -> Counts
+    ensures { result ≡ spec.first_counts bytes }
+{
+    Counts {
+        goals: 0,
+        feasible: 0,
+        infeasible: 0,
+        large: 0,
+        negatives: 0,
+        bytes,
+    }
+}
+
+// So many bytes.
+fn with_bytes(counts: Counts, bytes: u128) -> Counts
+    ensures { result ≡ record counts { bytes = bytes } }
+{
+    Counts { bytes, ..counts }
+}
+
+// One more entry, and so many bytes.
+fn with_entry(counts: Counts, bytes: u128, entry: &Entry<'_>) -> Counts
+    ensures { result ≡ counted (record counts { bytes = bytes }) entry.now }
+{
+    match entry {
+        Entry::Goal { verdict, .. } => with_goal(with_bytes(counts, bytes), verdict),
+        Entry::Base { .. } => with_bytes(counts, bytes),
+        Entry::Negative { .. } => Counts {
+            negatives: counts.negatives.saturating_add(1),
+            bytes,
+            ..counts
+        },
+    }
+}
+
+// One more goal.
+fn with_goal(counts: Counts, verdict: &Verdict) -> Counts
+    ensures { result ≡ with_verdict counts verdict.now }
+{
+    let goals = counts.goals.saturating_add(1);
+    match verdict {
+        Verdict::Feasible { .. } => Counts {
+            goals,
+            feasible: counts.feasible.saturating_add(1),
+            ..counts
+        },
+        Verdict::Infeasible => Counts {
+            goals,
+            infeasible: counts.infeasible.saturating_add(1),
+            ..counts
+        },
+        Verdict::Large => Counts {
+            goals,
+            large: counts.large.saturating_add(1),
+            ..counts
+        },
+    }
+}

@@ -1,0 +1,110 @@
+// The names of symbols and marks, and bytes between quotes.
+
+ghost use Rattle.std.specs.Prelude.{◌≡◌, ◌<◌, length};
+ghost use Rattle.std.specs.List.{flat_map};
+ghost use Rattle.cs_grammar.specs.Grammar.{IsNumberOf};
+ghost use Rattle.cs_manifest.specs.Names as names;
+ghost use Rattle.cs_manifest.specs.Putting.{Puts};
+ghost use Rattle.cs_manifest.specs.Words as words;
+
+use crate::output::Output;
+use cs_grammar::{Mark, Symbol};
+use cs_io::Sink;
+use cs_yacc::{TokenName, YaccFile};
+
+pub fn put_token<S: Sink>(output: &mut Output<'_, S>, file: &YaccFile, token: u16)
+    requires { names.IsNamedToken file.now token }
+    ensures { Puts S.Sink (names.token_of file.now token) output.old output.new }
+{
+    put_token_name(output, &file.token_names()[token as usize - 1]);
+}
+
+pub fn put_nonterminal<S: Sink>(output: &mut Output<'_, S>, file: &YaccFile, nonterminal: u16)
+    requires { IsNumberOf (length file.now.nonterminal_names) nonterminal }
+    ensures { Puts S.Sink (names.nonterminal_of file.now nonterminal) output.old output.new }
+{
+    output.put(file.nonterminal_names()[nonterminal as usize - 1].bytes());
+}
+
+pub fn put_symbol<S: Sink>(output: &mut Output<'_, S>, file: &YaccFile, symbol: Symbol)
+    requires { names.IsNamedSymbol file.now symbol }
+    ensures { Puts S.Sink (names.symbol_text file.now symbol) output.old output.new }
+{
+    match symbol {
+        Symbol::Token(token) => put_token(output, file, token),
+        Symbol::Nonterminal(nonterminal) => put_nonterminal(output, file, nonterminal),
+    }
+}
+
+pub fn put_mark<S: Sink>(output: &mut Output<'_, S>, file: &YaccFile, mark: Mark)
+    requires { names.IsNamedMark file.now mark }
+    ensures { Puts S.Sink (names.mark_text file.now mark) output.old output.new }
+{
+    match mark {
+        Mark::Begin => output.put(b"<begin>"),
+        Mark::Token(token) => put_token(output, file, token),
+        Mark::End => output.put(b"<end>"),
+    }
+}
+
+pub fn put_token_name<S: Sink>(output: &mut Output<'_, S>, name: &TokenName)
+    ensures { Puts S.Sink (names.token_text name.now) output.old output.new }
+{
+    match name {
+        TokenName::Word(name) => output.put(name.bytes()),
+        TokenName::Byte(byte) => put_literal(output, *byte),
+    }
+}
+
+// A byte between single quotes.
+fn put_literal<S: Sink>(output: &mut Output<'_, S>, byte: u8)
+    ensures { Puts S.Sink (words.literal byte) output.old output.new }
+{
+    if (b'!'..=b'~').contains(&byte) && byte != b'\'' && byte != b'\\' {
+        output.put(&[b'\'', byte, b'\'']);
+        return;
+    }
+    let high = hexadecimal_digit(byte / 16);
+    let low = hexadecimal_digit(byte % 16);
+    output.put(&[b'\'', b'\\', b'x', high, low, b'\'']);
+}
+
+/// A text between double quotes.
+pub fn put_quoted<S: Sink>(output: &mut Output<'_, S>, text: &[u8])
+    ensures { Puts S.Sink (words.quoted text.now) output.old output.new }
+{
+    output.put(b"\"");
+    put_text_bytes(output, text);
+    output.put(b"\"");
+}
+
+fn put_text_bytes<S: Sink>(output: &mut Output<'_, S>, text: &[u8])
+    ensures { Puts S.Sink (flat_map words.text_byte text.now) output.old output.new }
+{
+    for byte in text {
+        put_text_byte(output, *byte);
+    }
+}
+
+fn put_text_byte<S: Sink>(output: &mut Output<'_, S>, byte: u8)
+    ensures { Puts S.Sink (words.text_byte byte) output.old output.new }
+{
+    if (b' '..=b'~').contains(&byte) && byte != b'"' && byte != b'\\' {
+        output.put(&[byte]);
+        return;
+    }
+    let high = hexadecimal_digit(byte / 16);
+    let low = hexadecimal_digit(byte % 16);
+    output.put(&[b'\\', b'x', high, low]);
+}
+
+fn hexadecimal_digit(value: u8) -> u8
+    requires { value < 16 }
+    ensures { result ≡ words.hexadecimal_digit value }
+{
+    if value <= 9 {
+        b'0' + value
+    } else {
+        b'a' + (value - 10)
+    }
+}

@@ -1,0 +1,278 @@
+// The lines of goals, of bases and negatives, and the end.
+
+ghost use Rattle.std.specs.Prelude.{◌≡◌, decimal};
+ghost use Rattle.cs_manifest.specs.Entry.{IsNamedEntry, lines_of, rendering_of};
+ghost use Rattle.cs_manifest.specs.Counts.{end_of};
+ghost use Rattle.cs_manifest.specs.Lines as lines;
+ghost use Rattle.cs_manifest.specs.Lines.{text_lines};
+ghost use Rattle.cs_manifest.specs.Names as names;
+ghost use Rattle.cs_manifest.specs.Putting.{Puts};
+ghost use Rattle.cs_manifest.specs.Words as words;
+ghost use Rattle.cs_render.specs.Rendering.{rendering};
+
+use crate::names::{put_mark, put_quoted, put_token};
+use crate::output::Output;
+use crate::{Counts, Entry};
+use cs_goals::Goal;
+use cs_grammar::Mark;
+use cs_io::Sink;
+use cs_mutate::Edit;
+use cs_positive::Verdict;
+use cs_render::Rendered;
+use cs_yacc::YaccFile;
+
+/// The lines of an entry.
+pub fn put_entry<S: Sink>(output: &mut Output<'_, S>, file: &YaccFile, entry: &Entry<'_>)
+    requires { IsNamedEntry file.now entry.now }
+    ensures { Puts S.Sink (lines_of file.now entry.now) output.old output.new }
+{
+    match *entry {
+        Entry::Goal {
+            number,
+            goal,
+            verdict,
+            tokens,
+            rendered,
+        } => {
+            put_goal_words(output, file, number, goal);
+            put_verdict(output, file, verdict, tokens);
+            put_text_lines(output, file, rendered);
+        }
+        Entry::Base { number, goal } => put_base(output, number, goal),
+        Entry::Negative {
+            number,
+            base,
+            edit,
+            left,
+            right,
+            at,
+            tokens,
+            rendered,
+        } => {
+            put_negative_words(output, number, base);
+            put_fault(output, file, edit, left, right, at);
+            put_yield(output, file, tokens);
+            put_rendered(output, file, rendered);
+        }
+    }
+}
+
+// `goal N GOAL`
+fn put_goal_words<S: Sink>(output: &mut Output<'_, S>, file: &YaccFile, number: u64, goal: &Goal)
+    requires { names.IsNamedGoal file.now goal.now }
+    ensures { Puts S.Sink (lines.goal_words file.now number goal.now) output.old output.new }
+{
+    output.put(b"goal ");
+    output.put_number(number);
+    output.put(b" ");
+    put_goal(output, file, goal);
+}
+
+fn put_goal<S: Sink>(output: &mut Output<'_, S>, file: &YaccFile, goal: &Goal)
+    requires { names.IsNamedGoal file.now goal.now }
+    ensures { Puts S.Sink (lines.goal_text file.now goal.now) output.old output.new }
+{
+    match *goal {
+        Goal::Rule(rule) => put_count(output, b"rule ", rule as u64),
+        Goal::Context {
+            outer,
+            place,
+            inner,
+        } => {
+            put_count(output, b"context ", outer as u64);
+            put_count(output, b" ", place as u64);
+            put_count(output, b" ", inner as u64);
+        }
+        Goal::Pair { left, right } => put_pair(output, file, left, right),
+    }
+}
+
+// A number behind a word.
+fn put_count<S: Sink>(output: &mut Output<'_, S>, word: &[u8], count: u64)
+    ensures { Puts S.Sink (lines.numbered_word word.now count) output.old output.new }
+{
+    output.put(word);
+    output.put_number(count);
+}
+
+fn put_pair<S: Sink>(output: &mut Output<'_, S>, file: &YaccFile, left: Mark, right: Mark)
+    requires left { names.IsNamedMark file.now left }
+    requires right { names.IsNamedMark file.now right }
+    ensures { Puts S.Sink (lines.pair_words file.now left right) output.old output.new }
+{
+    output.put(b"pair ");
+    put_mark(output, file, left);
+    output.put(b" ");
+    put_mark(output, file, right);
+}
+
+fn put_verdict<S: Sink>(
+    output: &mut Output<'_, S>,
+    file: &YaccFile,
+    verdict: &Verdict,
+    tokens: &[u16],
+)
+    requires { names.AreNamedTokens file.now tokens.now }
+    ensures { Puts S.Sink (lines.verdict_lines file.now verdict.now tokens.now) output.old output.new }
+{
+    match verdict {
+        Verdict::Infeasible => output.put(b" infeasible\n"),
+        Verdict::Large => output.put(b" large\n"),
+        Verdict::Feasible { size, derivation } => {
+            put_size(output, *size);
+            put_derivation(output, derivation.rules());
+            put_yield(output, file, tokens);
+        }
+    }
+}
+
+fn put_text_lines<S: Sink>(output: &mut Output<'_, S>, file: &YaccFile, rendered: Option<&Rendered>)
+    requires { names.AreNamedRenderings file.now (rendering_of rendered) }
+    ensures { Puts S.Sink (text_lines file.now (rendering_of rendered.entry)) output.old output.new }
+{
+    match rendered {
+        None => {}
+        Some(rendered) => put_rendered(output, file, rendered),
+    }
+}
+
+fn put_size<S: Sink>(output: &mut Output<'_, S>, size: u32)
+    ensures { Puts S.Sink (lines.size_words size) output.old output.new }
+{
+    output.put(b" size ");
+    output.put_number(size as u64);
+    output.put(b"\n");
+}
+
+fn put_derivation<S: Sink>(output: &mut Output<'_, S>, rules: &[u16])
+    ensures { Puts S.Sink (lines.derive_line rules.now) output.old output.new }
+{
+    output.put(b"  derive");
+    put_numbers(output, rules);
+    output.put(b"\n");
+}
+
+fn put_numbers<S: Sink>(output: &mut Output<'_, S>, numbers: &[u16])
+    ensures { Puts S.Sink (words.spaced decimal numbers.now) output.old output.new }
+{
+    for number in numbers {
+        output.put(b" ");
+        output.put_number(*number as u64);
+    }
+}
+
+// The line of the tokens.
+fn put_yield<S: Sink>(output: &mut Output<'_, S>, file: &YaccFile, tokens: &[u16])
+    requires { names.AreNamedTokens file.now tokens.now }
+    ensures { Puts S.Sink (lines.tokens_line file.now tokens.now) output.old output.new }
+{
+    output.put(b"  tokens");
+    put_names(output, file, tokens);
+    output.put(b"\n");
+}
+
+fn put_names<S: Sink>(output: &mut Output<'_, S>, file: &YaccFile, tokens: &[u16])
+    requires { names.AreNamedTokens file.now tokens.now }
+    ensures { Puts S.Sink (lines.token_words file.now tokens.now) output.old output.new }
+{
+    for token in tokens {
+        output.put(b" ");
+        put_token(output, file, *token);
+    }
+}
+
+// The text line.
+fn put_rendered<S: Sink>(output: &mut Output<'_, S>, file: &YaccFile, rendered: &Rendered)
+    requires { names.IsNamedRendering file.now (rendering rendered.now) }
+    ensures { Puts S.Sink (lines.text_line file.now (rendering rendered.now)) output.old output.new }
+{
+    put_text(output, file, rendered);
+    output.put(b"\n");
+}
+
+fn put_text<S: Sink>(output: &mut Output<'_, S>, file: &YaccFile, rendered: &Rendered)
+    requires { names.IsNamedRendering file.now (rendering rendered.now) }
+    ensures { Puts S.Sink (lines.text_words file.now (rendering rendered.now)) output.old output.new }
+{
+    match rendered {
+        Rendered::Text(text) => {
+            output.put(b"  text ");
+            put_quoted(output, text.as_slice());
+        }
+        Rendered::NoLexeme(token) => {
+            output.put(b"  no text lexeme ");
+            put_token(output, file, *token);
+        }
+        Rendered::Differs { after } => put_count(output, b"  no text scan ", *after as u64),
+    }
+}
+
+fn put_base<S: Sink>(output: &mut Output<'_, S>, number: u32, goal: u64)
+    ensures { Puts S.Sink (lines.base_line number goal) output.old output.new }
+{
+    put_count(output, b"base ", number as u64);
+    put_count(output, b" goal ", goal);
+    output.put(b"\n");
+}
+
+// `negative N base B`
+fn put_negative_words<S: Sink>(output: &mut Output<'_, S>, number: u64, base: u32)
+    ensures { Puts S.Sink (lines.negative_words number base) output.old output.new }
+{
+    put_count(output, b"negative ", number);
+    put_count(output, b" base ", base as u64);
+}
+
+// ` EDIT pair A B at K`
+fn put_fault<S: Sink>(
+    output: &mut Output<'_, S>,
+    file: &YaccFile,
+    edit: Edit,
+    left: Mark,
+    right: Mark,
+    at: u32,
+)
+    requires edit { names.IsNamedEdit file.now edit }
+    requires left { names.IsNamedMark file.now left }
+    requires right { names.IsNamedMark file.now right }
+    ensures { Puts S.Sink (lines.fault_line file.now edit left right at) output.old output.new }
+{
+    output.put(b" ");
+    put_edit(output, file, edit);
+    output.put(b" ");
+    put_pair(output, file, left, right);
+    put_count(output, b" at ", at as u64);
+    output.put(b"\n");
+}
+
+fn put_edit<S: Sink>(output: &mut Output<'_, S>, file: &YaccFile, edit: Edit)
+    requires { names.IsNamedEdit file.now edit }
+    ensures { Puts S.Sink (lines.edit_text file.now edit) output.old output.new }
+{
+    match edit {
+        Edit::Delete(place) => put_count(output, b"delete ", place as u64),
+        Edit::Insert(place, token) => {
+            put_count(output, b"insert ", place as u64);
+            output.put(b" ");
+            put_token(output, file, token);
+        }
+        Edit::Replace(place, token) => {
+            put_count(output, b"replace ", place as u64);
+            output.put(b" ");
+            put_token(output, file, token);
+        }
+        Edit::Swap(place) => put_count(output, b"swap ", place as u64),
+    }
+}
+
+/// The end line.
+pub fn put_end<S: Sink>(output: &mut Output<'_, S>, counts: &Counts)
+    ensures { Puts S.Sink (end_of counts.now) output.old output.new }
+{
+    put_count(output, b"end goals ", counts.goals);
+    put_count(output, b" feasible ", counts.feasible);
+    put_count(output, b" infeasible ", counts.infeasible);
+    put_count(output, b" large ", counts.large);
+    put_count(output, b" negatives ", counts.negatives);
+    output.put(b"\n");
+}

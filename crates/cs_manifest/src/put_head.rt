@@ -1,0 +1,131 @@
+// The head: the form's line, the tokens, the rules and the lexemes.
+
+ghost use Rattle.std.specs.Prelude.{◌≡◌, ◌<◌, ◌≤◌, All, Option, length};
+ghost use Rattle.cs_lexeme.specs.Lexeme.{lexeme_in};
+ghost use Rattle.cs_manifest.specs.Head.{IsNamedHead, head_of};
+ghost use Rattle.cs_manifest.specs.Lines as lines;
+ghost use Rattle.cs_manifest.specs.Names as names;
+ghost use Rattle.cs_manifest.specs.Putting.{Puts};
+ghost use Rattle.cs_manifest.specs.Words as words;
+
+use crate::Head;
+use crate::names::{put_nonterminal, put_quoted, put_symbol, put_token_name};
+use crate::output::Output;
+use cs_grammar::{Rule, Symbol};
+use cs_io::Sink;
+use cs_lexeme::Lexemes;
+use cs_yacc::{TokenName, YaccFile};
+
+/// The lines of the head.
+pub fn put_head<S: Sink>(output: &mut Output<'_, S>, head: &Head<'_>)
+    requires { IsNamedHead head.now }
+    ensures { Puts S.Sink (head_of head.now) output.old output.new }
+{
+    match head.lexemes {
+        None => {
+            output.put(b"conform 1 rules\n");
+            put_file(output, head.yacc);
+        }
+        Some(lexemes) => {
+            output.put(b"conform 1 suite\n");
+            put_file(output, head.yacc);
+            put_lexemes(output, head.yacc.token_names(), lexemes);
+        }
+    }
+}
+
+// The lines of the tokens and of the rules.
+fn put_file<S: Sink>(output: &mut Output<'_, S>, file: &YaccFile)
+    ensures { Puts S.Sink (lines.file_lines file.now) output.old output.new }
+{
+    put_tokens(output, file.token_names());
+    put_rules(output, file, file.grammar().rules());
+}
+
+fn put_tokens<S: Sink>(output: &mut Output<'_, S>, names: &[TokenName])
+    ensures { Puts S.Sink (words.numbered lines.token_line names.now) output.old output.new }
+{
+    for (place, name) in names.iter().enumerate() {
+        put_token_line(output, place as u64 + 1, name);
+    }
+}
+
+fn put_token_line<S: Sink>(output: &mut Output<'_, S>, number: u64, name: &TokenName)
+    ensures { Puts S.Sink (lines.token_line number name.now) output.old output.new }
+{
+    output.put(b"token ");
+    output.put_number(number);
+    output.put(b" ");
+    put_token_name(output, name);
+    output.put(b"\n");
+}
+
+fn put_rules<S: Sink>(output: &mut Output<'_, S>, file: &YaccFile, rules: &[Rule])
+    requires { All (names.IsNamedRule file.now) rules.now }
+    ensures { Puts S.Sink (words.numbered (lines.rule_line file.now) rules.now) output.old output.new }
+{
+    for (place, rule) in rules.iter().enumerate() {
+        put_rule_line(output, file, place as u64 + 1, rule);
+    }
+}
+
+fn put_rule_line<S: Sink>(output: &mut Output<'_, S>, file: &YaccFile, number: u64, rule: &Rule)
+    requires { names.IsNamedRule file.now rule.now }
+    ensures { Puts S.Sink (lines.rule_line file.now number rule.now) output.old output.new }
+{
+    output.put(b"rule ");
+    output.put_number(number);
+    output.put(b" ");
+    put_nonterminal(output, file, rule.left());
+    output.put(b" :");
+    put_symbols(output, file, rule.right());
+    output.put(b"\n");
+}
+
+fn put_symbols<S: Sink>(output: &mut Output<'_, S>, file: &YaccFile, symbols: &[Symbol])
+    requires { All (names.IsNamedSymbol file.now) symbols.now }
+    ensures { Puts S.Sink (lines.symbol_words file.now symbols.now) output.old output.new }
+{
+    for symbol in symbols {
+        output.put(b" ");
+        put_symbol(output, file, *symbol);
+    }
+}
+
+fn put_lexemes<S: Sink>(output: &mut Output<'_, S>, names: &[TokenName], lexemes: &Lexemes)
+    requires all { length names.now ≤ length lexemes.now }
+    requires few { length names.now < 65536 }
+    ensures { Puts S.Sink (lines.lexeme_lines lexemes.now names.now) output.old output.new }
+{
+    for (place, name) in names.iter().enumerate() {
+        put_lexeme_line(output, lexemes, place as u16 + 1, name);
+    }
+}
+
+fn put_lexeme_line<S: Sink>(
+    output: &mut Output<'_, S>,
+    lexemes: &Lexemes,
+    token: u16,
+    name: &TokenName,
+)
+    requires from_1 { 0 < token }
+    requires within { token ≤ length lexemes.now }
+    ensures { Puts S.Sink (lines.lexeme_line lexemes.now token name.now) output.old output.new }
+{
+    output.put(b"lexeme ");
+    put_token_name(output, name);
+    output.put(b" ");
+    put_lexeme(output, lexemes, token);
+    output.put(b"\n");
+}
+
+fn put_lexeme<S: Sink>(output: &mut Output<'_, S>, lexemes: &Lexemes, token: u16)
+    requires from_1 { 0 < token }
+    requires within { token ≤ length lexemes.now }
+    ensures { Puts S.Sink (lines.lexeme_text (lexeme_in lexemes.now token)) output.old output.new }
+{
+    match lexemes.get(token) {
+        None => output.put(b"none"),
+        Some(text) => put_quoted(output, text),
+    }
+}
