@@ -1,5 +1,5 @@
 -- What a clause reads of an entry.
-use Rattle.std.specs.Prelude.{ℕ, List, Option, option_map}
+use Rattle.std.specs.Prelude.{ℕ, List, Option, Some, option_map}
 use Rattle.std.specs.Borrow.{Bor}
 use Rattle.cs_render.specs.declared.rendered.Rendered.{Rendered}
 use Rattle.cs_render.specs.Rendering.{Rendering, rendering}
@@ -19,7 +19,7 @@ lines_of file (Goal number goal verdict tokens rendered) =
     goal_lines file number goal.now verdict.now tokens.now (rendering_of rendered)
 lines_of file (Base number goal) = base_line number goal
 lines_of file (Negative number base edit left right at tokens rendered) =
-    negative_lines file number base edit left right at tokens.now (rendering rendered.now)
+    negative_lines file number base edit left right at tokens.now (Some (rendering rendered.now))
 
 -- the numbers of its tokens are of the file
 abbrev pub IsNamedEntry : File → Entry → Type 0

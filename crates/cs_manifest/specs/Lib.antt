@@ -5,5 +5,6 @@ pub mod Head
 pub mod Entry
 pub mod Counts
 pub mod Progress
+pub mod Manifest
 pub mod Sinks
 pub mod Putting

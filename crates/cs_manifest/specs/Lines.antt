@@ -133,9 +133,9 @@ fault_line file edit left right at =
     line (32 ∷ edit_text file edit ++ 32 ∷ pair_words file left right ++ numbered_word (codes " at ") at)
 
 -- these, and the edited list with what came of its rendering
-abbrev pub negative_lines : File → ℕ → ℕ → Edit → Mark → Mark → ℕ → List ℕ → Rendering → List ℕ
+abbrev pub negative_lines : File → ℕ → ℕ → Edit → Mark → Mark → ℕ → List ℕ → Option Rendering → List ℕ
 negative_lines file number base edit left right at tokens rendered =
-    negative_words number base ++ fault_line file edit left right at ++ tokens_line file tokens ++ text_line file rendered
+    negative_words number base ++ fault_line file edit left right at ++ tokens_line file tokens ++ text_lines file rendered
 
 -- ---- the end
 

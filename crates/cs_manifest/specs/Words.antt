@@ -10,9 +10,13 @@ line words = words ++ 10 ∷ []
 abbrev pub spaced : {A : Type 0} → (A → List ℕ) → List A → List ℕ
 spaced f xs = flat_map (λ x. 32 ∷ f x) xs
 
--- the lines of each member, seen with its number from 1, in order
+-- the lines of each member, seen with its number from n on, in order
+abbrev pub numbered_from : {A : Type 0} → ℕ → (ℕ → A → List ℕ) → List A → List ℕ
+numbered_from n f xs = flat_map (λ p. f p.0 p.1) (enumerate_from n xs)
+
+-- with its number from 1 on
 abbrev pub numbered : {A : Type 0} → (ℕ → A → List ℕ) → List A → List ℕ
-numbered f xs = flat_map (λ p. f p.0 p.1) (enumerate_from 1 xs)
+numbered f xs = numbered_from 1 f xs
 
 -- `0` to `9` and `a` to `f`
 abbrev pub hexadecimal_digit : ℕ → ℕ

@@ -1,0 +1,207 @@
+-- The manifest of a yacc file: which goals with which verdicts, tokens and texts, which bases and negatives, and the text of all
+-- that (rule coverage by Purdom 1972, context-dependent rule coverage by Lämmel 2001, pairs, and token mutations by Raselimo,
+-- Taljaard and Fischer 2019).
+use Rattle.std.specs.Prelude.{◌≡◌, ℕ, ◌+◌, List, [], ◌∷◌, ◌++◌, length, map, take, not, bytes_eq, count_by, sum_by, true, false, Option, None, Some, IsSomeAnd}
+use Rattle.std.specs.List.{AllZip, filter, enumerate_from}
+use Rattle.cs_grammar.specs.Grammar.{PlainGrammar}
+use Rattle.cs_grammar.specs.Leftmost.{IsYield}
+use Rattle.cs_grammar.specs.Laws.{AtMostOne}
+use Rattle.cs_grammar.specs.Weights.{Measure, Weighed, weighed}
+use Rattle.cs_yacc.specs.File.{File}
+use Rattle.cs_goals.specs.declared.goal.Criteria.{Criteria}
+use Rattle.cs_goals.specs.declared.goal.Goal.{Goal}
+use Rattle.cs_goals.specs.Goals.{goals}
+use Rattle.cs_positive.specs.declared.verdict.Verdict.{Verdict}
+use Rattle.cs_positive.specs.declared.verdict.Verdict.TheVariants.{Feasible, Infeasible, Large}
+use Rattle.cs_positive.specs.Verdict.{IsVerdict}
+use Rattle.cs_scan.specs.Scan.{Scanning}
+use Rattle.cs_lexeme.specs.Lexeme.{AreLexemes}
+use Rattle.cs_render.specs.Rendering.{Rendering, IsRendered}
+use Rattle.cs_mutate.specs.declared.edit.Operators.{Operators}
+use Rattle.cs_mutate.specs.declared.negative.Negative.{Negative}
+use Rattle.cs_mutate.specs.Edit.{edited}
+use Rattle.cs_mutate.specs.Edits.{edits}
+use Rattle.cs_mutate.specs.Negatives.{AreNegatives}
+use Rattle.cs_manifest.specs.Lines.{head_lines, goal_lines, base_line, negative_lines, end_words, is_feasible, is_infeasible, is_large}
+use Rattle.cs_manifest.specs.Words.{numbered, numbered_from}
+
+-- ---- what is chosen
+
+-- what texts are made by: a scanner's patterns, kinds and literals, and what stands between two lexemes
+pub record Texts : Type 0 where
+  pub scanning : Scanning
+  pub separator : List ℕ
+
+-- The criteria, the texts (the form of `rules` has none), the operators, and how many bases there are at most.
+pub record Choice : Type 0 where
+  pub criteria : Criteria
+  pub texts : Option Texts
+  pub operators : Operators
+  pub most : ℕ
+
+-- the form of `rules`: the rule goals alone
+abbrev pub rules_form : Choice
+rules_form = record {
+  criteria = record { rule = true; cdrc = false; pair = false };
+  texts = None;
+  operators = record { delete = false; insert = false; replace = false; swap = false };
+  most = 0;
+}
+
+-- ---- lexemes and texts
+
+-- the lexemes of the tokens
+abbrev pub AreLexemesBy : Option Texts → ℕ → Option (List (Option (List ℕ))) → Type 0
+AreLexemesBy None tokens lexemes = lexemes ≡ None
+AreLexemesBy (Some texts) tokens lexemes = IsSomeAnd lexemes (AreLexemes texts.scanning tokens)
+
+-- what comes of rendering these tokens
+abbrev pub IsRenderedBy : Option Texts → Option (List (Option (List ℕ))) → List ℕ → Option Rendering → Type 0
+IsRenderedBy (Some texts) (Some lexemes) tokens rendered =
+    IsSomeAnd rendered (IsRendered texts.scanning lexemes texts.separator tokens)
+IsRenderedBy (Some texts) None tokens rendered = rendered ≡ None
+IsRenderedBy None lexemes tokens rendered = rendered ≡ None
+
+-- ---- goals
+
+-- a goal, its verdict, the tokens of its derivation, and what came of their rendering
+pub record GoalEntry : Type 0 where
+  pub goal : Goal
+  pub verdict : Verdict
+  pub tokens : List ℕ
+  pub rendered : Option Rendering
+
+-- the tokens of a verdict's derivation; there are none where it has no derivation
+abbrev pub AreTokensOf : PlainGrammar → Verdict → List ℕ → Type 0
+AreTokensOf g (Feasible size derivation) tokens = IsYield g derivation tokens
+AreTokensOf g Infeasible tokens = tokens ≡ []
+AreTokensOf g Large tokens = tokens ≡ []
+
+-- only a feasible goal's tokens are rendered
+abbrev pub IsTextOf : Option Texts → Option (List (Option (List ℕ))) → Verdict → List ℕ → Option Rendering → Type 0
+IsTextOf texts lexemes (Feasible size derivation) tokens rendered = IsRenderedBy texts lexemes tokens rendered
+IsTextOf texts lexemes Infeasible tokens rendered = rendered ≡ None
+IsTextOf texts lexemes Large tokens rendered = rendered ≡ None
+
+-- the verdict of the goal over all trees, with its tokens and their text
+pub record IsEntryOf (of : Weighed) (texts : Option Texts) (lexemes : Option (List (Option (List ℕ)))) (goal : Goal) (entry : GoalEntry) : Type 0 where
+  pub is_of : entry.goal ≡ goal
+  pub verdict : IsVerdict of.weights of.grammar goal entry.verdict
+  pub tokens : AreTokensOf of.grammar entry.verdict entry.tokens
+  pub text : IsTextOf texts lexemes entry.verdict entry.tokens entry.rendered
+
+-- one entry for each of these goals, in order
+abbrev pub EntriesOf : Weighed → Option Texts → Option (List (Option (List ℕ))) → List Goal → List GoalEntry → Type 0
+EntriesOf of texts lexemes goals entries = AllZip (IsEntryOf of texts lexemes) goals entries
+
+-- ---- bases
+
+-- the numbers of the feasible goals, each with the tokens of its derivation
+abbrev pub yields : List GoalEntry → List (ℕ × List ℕ)
+yields entries = map (λ e. (e.0, e.1.tokens)) (filter (λ e. is_feasible e.1.verdict) (enumerate_from 1 entries))
+
+-- of those with the same tokens the first alone
+abbrev pub distinct : List (ℕ × List ℕ) → List (ℕ × List ℕ)
+distinct [] = []
+distinct (first ∷ rest) = first ∷ filter (λ y. not (bytes_eq y.1 first.1)) (distinct rest)
+
+-- the first of these, as many as are wanted
+abbrev pub bases : ℕ → List GoalEntry → List (ℕ × List ℕ)
+bases most entries = take most (distinct (yields entries))
+
+-- ---- negatives
+
+-- an edit of a base, the first pair of the edited list that no sentence has, and what came of rendering that list
+pub record NegativeEntry : Type 0 where
+  pub negative : Negative
+  pub rendered : Option Rendering
+
+-- a base, the number of its first goal, and its negatives
+pub record BaseEntry : Type 0 where
+  pub goal : ℕ
+  pub tokens : List ℕ
+  pub negatives : List NegativeEntry
+
+-- the entry of a negative of a base: its edited list was rendered
+pub record IsNegativeOf (texts : Option Texts) (lexemes : Option (List (Option (List ℕ)))) (base : List ℕ) (negative : Negative) (entry : NegativeEntry) : Type 0 where
+  pub is_of : entry.negative ≡ negative
+  pub text : IsRenderedBy texts lexemes (edited base negative.edit) entry.rendered
+
+-- one entry for each of the negatives of a base by these operators, in order
+pub record AreNegativesOf (g : PlainGrammar) (choice : Choice) (lexemes : Option (List (Option (List ℕ)))) (base : List ℕ) (entries : List NegativeEntry) : Type 0 where
+  pub negatives : List Negative
+  pub all : AreNegatives g base (edits g.tokens base choice.operators) negatives
+  pub each : AllZip (IsNegativeOf choice.texts lexemes base) negatives entries
+
+-- the entry of a base
+pub record IsBaseOf (g : PlainGrammar) (choice : Choice) (lexemes : Option (List (Option (List ℕ)))) (base : ℕ × List ℕ) (entry : BaseEntry) : Type 0 where
+  pub goal : entry.goal ≡ base.0
+  pub tokens : entry.tokens ≡ base.1
+  pub negatives : AreNegativesOf g choice lexemes base.1 entry.negatives
+
+-- one entry for each of these bases, in order
+abbrev pub BasesOf : PlainGrammar → Choice → Option (List (Option (List ℕ))) → List (ℕ × List ℕ) → List BaseEntry → Type 0
+BasesOf g choice lexemes bases entries = AllZip (IsBaseOf g choice lexemes) bases entries
+
+-- ---- the text
+
+-- the lines of a goal, by its number
+abbrev pub goal_entry_lines : File → ℕ → GoalEntry → List ℕ
+goal_entry_lines file number entry = goal_lines file number entry.goal entry.verdict entry.tokens entry.rendered
+
+-- the lines of a negative of a base, by its number
+abbrev pub negative_entry_lines : File → ℕ → List ℕ → ℕ → NegativeEntry → List ℕ
+negative_entry_lines file base tokens number entry =
+    negative_lines file number base entry.negative.edit entry.negative.left entry.negative.right entry.negative.at
+    (edited tokens entry.negative.edit) entry.rendered
+
+-- the lines of bases, where so many negatives and bases stand before them; negatives are numbered through all bases
+abbrev pub base_entry_lines : File → ℕ → ℕ → List BaseEntry → List ℕ
+base_entry_lines file negatives number [] = []
+base_entry_lines file negatives number (base ∷ rest) =
+    base_line (number + 1) base.goal
+    ++ numbered_from (negatives + 1) (negative_entry_lines file (number + 1) base.tokens) base.negatives
+    ++ base_entry_lines file (negatives + length base.negatives) (number + 1) rest
+
+-- the end, with how many goals there are, how many of each verdict, and how many negatives
+abbrev pub end_line : List GoalEntry → List BaseEntry → List ℕ
+end_line entries bases =
+    end_words (length entries) (count_by (λ e. is_feasible e.verdict) entries) (count_by (λ e. is_infeasible e.verdict) entries)
+    (count_by (λ e. is_large e.verdict) entries) (sum_by (λ b. length b.negatives) bases)
+
+abbrev pub manifest_text : File → Option (List (Option (List ℕ))) → List GoalEntry → List BaseEntry → List ℕ
+manifest_text file lexemes entries bases =
+    head_lines file lexemes ++ numbered (goal_entry_lines file) entries ++ base_entry_lines file 0 0 bases ++ end_line entries bases
+
+-- ---- the manifest
+
+-- the text is the manifest of the file by the choice, where trees are measured by these weights
+pub record IsManifest (w : Measure) (choice : Choice) (file : File) (text : List ℕ) : Type 0 where
+  pub lexemes : Option (List (Option (List ℕ)))
+  pub entries : List GoalEntry
+  pub mutants : List BaseEntry
+  pub are_lexemes : AreLexemesBy choice.texts file.grammar.tokens lexemes
+  pub verdicts : EntriesOf (weighed file.grammar w) choice.texts lexemes (goals file.grammar choice.criteria) entries
+  pub negatives : BasesOf file.grammar choice lexemes (bases choice.most entries) mutants
+  pub lines : text ≡ manifest_text file lexemes entries mutants
+
+-- It isn't so that no value is of the kind.
+abbrev pub IsNotWithout : {A : Type 0} → (A → Type 0) → Type 0
+IsNotWithout {A} IsOne = ((a : A) → IsOne a → ⊥) → ⊥
+
+-- the lexemes and the renderings of tokens are one at most
+pub record HasOneText (texts : Option Texts) : Type 0 where
+  pub lexemes : (tokens : ℕ) → AtMostOne (AreLexemesBy texts tokens)
+  pub rendered : (lexemes : Option (List (Option (List ℕ)))) (tokens : List ℕ) → AtMostOne (IsRenderedBy texts lexemes tokens)
+
+-- and not none
+pub record HasSomeText (texts : Option Texts) : Type 0 where
+  pub lexemes : (tokens : ℕ) → IsNotWithout (AreLexemesBy texts tokens)
+  pub rendered : (lexemes : Option (List (Option (List ℕ)))) (tokens : List ℕ) → IsNotWithout (IsRenderedBy texts lexemes tokens)
+
+-- a file has at most one manifest by a choice, and not none
+abbrev pub IsOneBy : Measure → Choice → File → Type 0
+IsOneBy w choice file = HasOneText choice.texts → AtMostOne (IsManifest w choice file)
+
+abbrev pub IsSomeBy : Measure → Choice → File → Type 0
+IsSomeBy w choice file = HasSomeText choice.texts → IsNotWithout (IsManifest w choice file)
