@@ -1,50 +1,69 @@
 -- What is kept of a grammar's contexts, and what is written by it.
-use Rattle.std.specs.Prelude.{◌≡◌, ℕ, ◌≤◌, List, ◌++◌, Option, reverse}
+use Rattle.std.specs.Prelude.{◌≡◌, ℕ, ◌+◌, ◌≤◌, List, ◌++◌, Option, length, reverse, drop, slice_index_or, All}
 use Rattle.std.specs.Global.{Vec}
-use Rattle.cs_grammar.specs.Weights.{Weighed}
-use Rattle.cs_cost.specs.Rank.{rank, entry}
-use Rattle.cs_embed.specs.declared.step.Step.{Step}
-use Rattle.cs_embed.specs.declared.step.Steps.{Steps}
-use Rattle.cs_embed.specs.declared.embeds.Tables.{Tables}
-use Rattle.cs_embed.specs.declared.embeds.Way.{Way}
-use Rattle.cs_embed.specs.Embeds.{AreSteps, AreStepsTo, IsEmbedTable, AreFirstSteps, AreEmbeds, IsWay, IsLead}
-use Rattle.cs_embed.specs.Links.{AreLinks}
+use Rattle.cs_grammar.specs.declared.symbol.Symbol.{Symbol}
+use Rattle.cs_grammar.specs.declared.symbol.Symbol.TheVariants.{Nonterminal}
+use Rattle.cs_grammar.specs.Grammar.{PlainGrammar, IsGrammar}
+use Rattle.cs_grammar.specs.Weights.{Measure, Weighed}
+use Rattle.cs_grammar.specs.Context.{Context, code_before, code_after}
 use Rattle.cs_cost.specs.declared.cost.Cost.{Cost}
-use Rattle.cs_ways.specs.declared.step.Step as inwards
+use Rattle.cs_cost.specs.declared.cost.Cost.TheVariants.{Never}
+use Rattle.cs_cost.specs.Rank.{rank}
+use Rattle.cs_cost.specs.Trees.{AreTreesCost}
+use Rattle.cs_embed.specs.declared.inwards.Place.{Place}
+use Rattle.cs_embed.specs.declared.inwards.Inwards.{Inwards}
+use Rattle.cs_embed.specs.declared.table.Tables.{Tables}
+use Rattle.cs_embed.specs.declared.embeds.Outward.{Outward}
+use Rattle.cs_embed.specs.ChosenContext.{IsChosenContext}
+use Rattle.cs_embed.specs.Embeds.{IsLead}
+use Rattle.cs_embed.specs.Ways.{IsInward, AreInwardsTo, AreInwards, start_of, told_at}
+use Rattle.cs_ways.specs.declared.step.Step.{Step}
+use Rattle.cs_ways.specs.declared.reach.Reach.{Reach}
+use Rattle.cs_ways.specs.Ways.{net_of, AreLeastWays, AreFirstSteps}
 
--- the steps outwards of a grammar, by some weights
-abbrev pub AreStepsOf : Weighed → Steps → Type 0
-AreStepsOf v steps = (steps.grammar.now ≡ v.grammar) × (steps.weights.now ≡ v.weights) × AreSteps v.weights v.grammar steps.list.items
+-- what the least trees of the symbols from each place on cost together
+pub record AreRestCosts (v : Weighed) (xs : List Symbol) (rest : List Cost) : Type 0 where
+  pub many : length rest ≡ length xs + 1
+  pub each : (k : ℕ) → k ≤ length xs → AreTreesCost v (drop k xs) (slice_index_or rest k Never)
 
-abbrev pub AreStepsBefore : Weighed → ℕ → Vec Step → Type 0
-AreStepsBefore v rule steps = AreStepsTo v.weights v.grammar rule 0 steps.items
+-- the steps of the rules before a number, and of all
+abbrev pub AreInwardsBefore : Weighed → ℕ → Inwards → Type 0
+AreInwardsBefore v rule inwards = AreInwardsTo v.weights v.grammar rule 0 inwards.places.items inwards.steps.items
 
--- the tables of its contexts
+abbrev pub AreInwardsOf : Weighed → Inwards → Type 0
+AreInwardsOf v inwards = AreInwards v.weights v.grammar inwards.places.items inwards.steps.items
+
+-- what is kept of a grammar's contexts: the places of its steps, the least ways over the steps, and by which step each of them
+-- ends first
+pub record AreEmbeds (w : Measure) (g : PlainGrammar) (places : List Place) (table : List Reach) (firsts : List (Option ℕ)) : Type 0 where
+  pub grammar : IsGrammar g
+  pub steps : List Step
+  pub inwards : AreInwards w g places steps
+  pub least : AreLeastWays w.limit (net_of g.nonterminals steps) (start_of g) table
+  pub first_steps : AreFirstSteps (net_of g.nonterminals steps) (start_of g) table firsts
+
 abbrev pub AreTablesOf : Weighed → Tables → Type 0
-AreTablesOf v tables = AreEmbeds v.weights v.grammar tables.costs.items tables.firsts.items
+AreTablesOf v tables = AreEmbeds v.weights v.grammar tables.places.items tables.reaches.items tables.firsts.items
 
 -- the least context of the nonterminal is within the limit
 abbrev pub IsSmallIn : Weighed → Tables → ℕ → Type 0
-IsSmallIn v tables n = rank v.weights.limit (entry tables.costs.items n) ≤ v.weights.limit
+IsSmallIn v tables n = rank v.weights.limit (told_at tables.reaches.items n) ≤ v.weights.limit
 
--- the way out from a nonterminal
-abbrev pub IsWayFrom : Weighed → ℕ → Way → Type 0
-IsWayFrom v n way = IsWay v.weights v.grammar n way.steps.items way.after
+-- a place whose siblings are within the limit
+pub record IsSmallPlace (w : Measure) (g : PlainGrammar) (a : Place) : Type 0 where
+  pub step : Step
+  pub inward : IsInward w g a step
+  pub small : step.cost ≤ w.limit
+
+-- the places of the holes in the chosen context of a nonterminal from the innermost outwards, and the rule numbers behind the
+-- innermost
+pub record IsOutward (w : Measure) (g : PlainGrammar) (n : ℕ) (places : List Place) (after : List ℕ) : Type 0 where
+  pub small : All (IsSmallPlace w g) places
+  pub text : (c : Context) → IsChosenContext w g (Nonterminal n) c → IsLead w g (reverse places) (code_before c) × (code_after c ≡ after)
+
+abbrev pub LeadsOut : Weighed → ℕ → Outward → Type 0
+LeadsOut v n outward = IsOutward v.weights v.grammar n outward.places.items outward.after
 
 -- the rule numbers before a hole come behind what stood there
-abbrev pub WritesLead : Weighed → Vec Step → List ℕ → List ℕ → Type 0
-WritesLead v steps old new = (text : List ℕ) → IsLead v.weights v.grammar (reverse steps.items) text → new ≡ old ++ text
-
--- these are all steps of their grammar, by their weights
-abbrev pub AreAllSteps : Steps → Type 0
-AreAllSteps steps = AreSteps steps.weights.now steps.grammar.now steps.list.items
-
--- the links of the steps, the table of their contexts' costs, and the first steps by it
-abbrev pub AreLinksOf : Steps → Vec inwards.Step → Type 0
-AreLinksOf steps links = AreLinks steps.weights.now.limit steps.list.items links.items
-
-abbrev pub IsTableOf : Steps → List Cost → Type 0
-IsTableOf steps embeds = IsEmbedTable steps.weights.now steps.grammar.now embeds
-
-abbrev pub AreFirstStepsOf : Steps → List Cost → Vec (Option Step) → Type 0
-AreFirstStepsOf steps embeds firsts = AreFirstSteps steps.weights.now steps.grammar.now embeds firsts.items
+abbrev pub WritesLead : Weighed → Vec Place → List ℕ → List ℕ → Type 0
+WritesLead v places old new = (text : List ℕ) → IsLead v.weights v.grammar (reverse places.items) text → new ≡ old ++ text

@@ -1,5 +1,5 @@
 pub mod ChosenContext
 pub mod Around
 pub mod Embeds
-pub mod Links
+pub mod Ways
 pub mod Kept

@@ -10,7 +10,7 @@ use Rattle.cs_cost.specs.declared.cost.Cost.{Cost}
 use Rattle.cs_cost.specs.Least.{IsCost}
 use Rattle.cs_cost.specs.Rank.{capped, rank, IsCapped}
 use Rattle.cs_cost.proofs.Ranks.{IsCost-from}
-use Rattle.cs_embed.specs.Links.{told_cost}
+use Rattle.cs_embed.specs.Ways.{told_cost}
 use Rattle.cs_ways.specs.declared.step.Source.{Source}
 use Rattle.cs_ways.specs.declared.reach.Reach.{Reach}
 use Rattle.cs_ways.specs.declared.reach.Reach.TheVariants.{Never, Large, Least}

@@ -2,7 +2,7 @@
 
 ghost use Rattle.std.specs.Prelude.{◌≡◌, IfOk};
 ghost use Rattle.cs_grammar.specs.Grammar.{IsNumberOf};
-ghost use Rattle.cs_embed.specs.Links.{told_cost};
+ghost use Rattle.cs_embed.specs.Ways.{told_cost};
 ghost use Rattle.cs_kinds.specs.Sides.{kind_on};
 ghost use Rattle.cs_kinds.specs.Tables.{AreCosts};
 ghost use Rattle.cs_kinds.specs.RimsOf.{AreBases};

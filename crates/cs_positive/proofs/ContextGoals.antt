@@ -24,7 +24,7 @@ use Rattle.cs_embed.specs.Around.{IsContextOf, HasLeastContext, IsAround}
 use Rattle.cs_embed.specs.ChosenContext.{count, IsChosenContext}
 use Rattle.cs_embed.specs.Embeds.{AreSiblings, siblings_size}
 use Rattle.cs_embed.proofs.ChosenContexts.{count_is, chosen_context_exists, chosen_context_least, one_chosen_context, IsContext-chosen}
-use Rattle.cs_embed.proofs.Steps.{one_split, split_at, siblings_cost}
+use Rattle.cs_embed.proofs.Steps.{one_split, split_at, siblings_exact}
 use Rattle.cs_goals.specs.declared.goal.Goal.TheVariants.{Context}
 use Rattle.cs_goals.specs.Goal.{IsOccurrence}
 use Rattle.cs_goals.specs.Meets.{trees, IsChild, UsesRuleIn, SomeUsesRuleIn}
@@ -235,7 +235,7 @@ module _ (w : Measure) (g : PlainGrammar) (p i q : ℕ) (outer inner : Productio
   -- a least tree that meets the goal is of least parts
   pub context_cost : (a l s b : Cost) → IsCost w.limit (IsContextOf g outer.left) (context_size w) a → IsCost w.limit (AreTrees g xs) (sizes w) l → IsCost w.limit (AreTrees g ys) (sizes w) s → IsCost w.limit (AreTrees g inner.right) (sizes w) b → IsCost w.limit (IsMet g (Context p i q)) (size w) (plus w.limit (plus w.limit a (plus w.limit (cost_of w.limit 1) (plus w.limit l s))) (plus w.limit (cost_of w.limit 1) b))
   context_cost a l s b around lefts rights children =
-      let siblings = siblings_cost w g xs ys l s lefts rights in
+      let siblings = siblings_exact w g xs ys l s lefts rights in
       let node = IsCost-more w.limit (AreTrees g inner.right) (sizes w) b children in
       let first = IsCost-plus w.limit (IsContextOf g outer.left) (AreSiblings g xs ys) (context_size w) (siblings_size w) a (plus w.limit (cost_of w.limit 1) (plus w.limit l s)) around siblings in
       let all = IsCost-plus w.limit (λ (u : TreeContext × (Forest × Forest)). IsContextOf g outer.left u.0 × AreSiblings g xs ys u.1) (AreTrees g inner.right) (λ (u : TreeContext × (Forest × Forest)). context_size w u.0 + siblings_size w u.1) (λ f. 1 + sizes w f) (plus w.limit a (plus w.limit (cost_of w.limit 1) (plus w.limit l s))) (plus w.limit (cost_of w.limit 1) b) first node in

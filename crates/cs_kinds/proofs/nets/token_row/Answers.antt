@@ -5,7 +5,7 @@ use Rattle.cs_grammar.specs.Weights.{Measure, number}
 use Rattle.cs_grammar.specs.Tree.{size}
 use Rattle.cs_cost.specs.declared.cost.Cost.{Cost}
 use Rattle.cs_cost.specs.Least.{IsCost}
-use Rattle.cs_embed.specs.Links.{told_cost}
+use Rattle.cs_embed.specs.Ways.{told_cost}
 use Rattle.cs_ways.specs.declared.step.Source.{Source}
 use Rattle.cs_ways.specs.Ways.{AreLeastWays}
 use Rattle.cs_kinds.specs.Filled.{IsFilled}

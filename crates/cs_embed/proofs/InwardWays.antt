@@ -1,0 +1,140 @@
+-- Contexts are ways from the start symbol: what the least ways cost the least contexts cost.
+use Rattle.std.proofs.Common.{◌≡◌, ℕ, zero, suc, ◌+◌, ◌-◌, ◌<◌, ◌≤◌, List, Some, length, get_or, refl, sym, ap, ◌∙◌, subst, inl, arith}
+use Rattle.std.specs.Prelude.{slice_get, Contains}
+use Rattle.std.proofs.lemmas.Option.{slice_get_within, slice_get-get_or}
+use Rattle.cs_grammar.specs.declared.symbol.Symbol.TheVariants.{Nonterminal}
+use Rattle.cs_grammar.specs.Grammar.{PlainGrammar, IsGrammar}
+use Rattle.cs_grammar.specs.Weights.{Measure}
+use Rattle.cs_grammar.specs.Tree.{Forest}
+use Rattle.cs_grammar.specs.Context.{Context, Hole, Under, context_size}
+use Rattle.cs_cost.specs.Least.{IsCost}
+use Rattle.cs_cost.specs.Rank.{capped, rank, IsCapped}
+use Rattle.cs_cost.proofs.Ranks.{IsCost-from, cost_low, cost_reached}
+use Rattle.cs_embed.specs.declared.inwards.Place.{Place}
+use Rattle.cs_embed.specs.ChosenContext.{count}
+use Rattle.cs_embed.specs.Around.{IsContextOf}
+use Rattle.cs_embed.specs.Embeds.{AreSiblings, siblings_size}
+use Rattle.cs_embed.specs.Ways.{IsInward, AreInwards, start_of, told_cost, told_at}
+use Rattle.cs_embed.proofs.Steps.{inward_at}
+use Rattle.cs_embed.proofs.StepEnds.{inward_from, inward_to}
+use Rattle.cs_embed.proofs.ChosenContexts.{count_is}
+use Rattle.cs_ways.specs.declared.step.Step.{Step}
+use Rattle.cs_ways.specs.declared.step.Source.{Source}
+use Rattle.cs_ways.specs.declared.reach.Reach.{Reach}
+use Rattle.cs_ways.specs.declared.reach.Reach.TheVariants.{Never, Large, Least}
+use Rattle.cs_ways.proofs.FirstTight.{contains_at, get_contained}
+use Rattle.cs_ways.specs.Ways.{Net, net_of, IsNet, Way, Begin, On, IsWay, way_cost, IsReach, reach_at, AreLeastWays}
+
+-- what is told of a node holds of the ways to it
+module _ (limit : ℕ) (net : Net) (sources : List Source) (n : ℕ) where
+  pub told_capped : (r : Reach) → IsReach limit net sources n r → IsCapped limit (told_cost r)
+  told_capped Never is = tt
+  told_capped Large is = tt
+  told_capped (Least c o) is = is.0
+
+  pub told_reached : (r : Reach) → IsReach limit net sources n r → rank limit (told_cost r) ≤ limit + 1 → (v : Way) × IsWay net sources n v × (capped limit (way_cost v) ≤ rank limit (told_cost r))
+  told_reached Never is low = absurd (omega (arith, low))
+  told_reached Large is low = (is.0, is.1, omega arith)
+  told_reached (Least c o) is low = (is.1.way, is.1.is_way, omega (arith, is.1.costs))
+
+  pub told_low : (r : Reach) → IsReach limit net sources n r → (v : Way) → IsWay net sources n v → rank limit (told_cost r) ≤ capped limit (way_cost v)
+  told_low Never is v h = absurd (is v h)
+  told_low Large is v h = omega (arith, is.2 v h)
+  told_low (Least c o) is v h = omega (arith, is.0, is.1.least v h)
+
+-- the step by which a context goes on inwards, where its node stands in outer
+pub record IsTaken (w : Measure) (g : PlainGrammar) (places : List Place) (steps : List Step) (n : ℕ) (outer : Context) (r : ℕ) (left right : Forest) : Type 0 where
+  pub index : ℕ
+  pub place : Place
+  pub step : Step
+  pub at_place : slice_get places index ≡ Some place
+  pub at_step : slice_get steps index ≡ Some step
+  pub rule : place.rule ≡ r
+  pub counted : place.place ≡ count left
+  pub to : step.to ≡ n
+  pub around : IsContextOf g step.from outer
+  pub low : step.cost ≤ capped w.limit (siblings_size w (left, right))
+
+pub taken : (w : Measure) (g : PlainGrammar) (places : List Place) (steps : List Step) → AreInwards w g places steps → (n : ℕ) (outer : Context) (r : ℕ) (left right : Forest) → IsContextOf g n (Under outer r left right) → IsTaken w g places steps n outer r left right
+taken w g places steps are n outer r left right h =
+    let p = h.0 in
+    let last : r < length g.rules + 1 = omega (arith, slice_get_within g.rules (r - 1) p h.3.at) in
+    let v = are.every r p h.1 n h.2 (left, right) h.3 h.4 (inl last) (h.5, h.6) in
+    let at = inward_at w g v.1 v.2 r p h.1 n h.2 (are.each v.0 v.1 v.2 v.3 v.4).0 h.3 h.4 v.5 v.6 in
+    let others = cost_low w.limit (AreSiblings g h.1 h.2) (siblings_size w) at.others at.is_others (left, right) (h.5, h.6) in
+    record {
+      index = v.0;
+      place = v.1;
+      step = v.2;
+      at_place = v.3;
+      at_step = v.4;
+      rule = v.5;
+      counted = v.6 ∙ sym (count_is g left h.1 h.5);
+      to = at.to;
+      around = subst (λ m. IsContextOf g m outer) (sym at.from) h.7;
+      low = omega (arith, others, at.cost);
+    }
+
+module _ (w : Measure) (g : PlainGrammar) (grammar : IsGrammar g) (places : List Place) (steps : List Step) (are : AreInwards w g places steps) where
+  abbrev net : Net
+  net = net_of g.nonterminals steps
+
+  -- the steps lead between nonterminals of the grammar
+  pub inwards_net : IsNet (net_of g.nonterminals steps)
+  inwards_net = λ k d within.
+      let none : Place = record { rule = 0; place = 0 } in
+      let a = get_or places k none in
+      let s = get_or steps k d in
+      let is = (are.each k a s (slice_get-get_or places k none (omega (arith, within, are.many))) (slice_get-get_or steps k d within)).0 in
+      (inward_from w g a s grammar is, inward_to w g a s grammar is)
+
+  -- for each context there is a way that costs no more, and where the context has a node it ends by the step to its hole
+  pub context_way : (c : Context) (n : ℕ) → IsContextOf g n c → (v : Way) × IsWay net (start_of g) n v × (capped w.limit (way_cost v) ≤ capped w.limit (context_size w c))
+  context_way Hole n h =
+      let same : g.start ≡ n = cc in
+      (Begin 0 (record { node = g.start; cost = 0 }), (refl, same), omega arith)
+  context_way (Under outer r left right) n h =
+      let t = taken w g places steps are n outer r left right h in
+      let before = context_way outer t.step.from t.around in (
+        On before.0 t.step,
+        (contains_at steps t.index t.step t.at_step, t.to, before.1),
+        omega (arith, before.2, t.low),
+      )
+
+  one_source : (i : ℕ) (s : Source) → slice_get (start_of g) i ≡ Some s → record { node = g.start; cost = 0 } ≡ s
+  one_source zero s e = cc
+  one_source (suc i) s e = absurd cc
+
+  -- the step of a way stands at a place
+  inward_of : (s : Step) → Contains steps s → (a : Place) × IsInward w g a s
+  inward_of s has =
+      let none : Place = record { rule = 0; place = 0 } in
+      let at = get_contained steps s has in
+      let a = get_or places has.0 none in
+      (a, (are.each has.0 a s (slice_get-get_or places has.0 none (omega (arith, slice_get_within steps has.0 s at, are.many))) at).0)
+
+  -- for each way there is a context that is no larger
+  pub way_context : (v : Way) (n : ℕ) → IsWay net (start_of g) n v → (c : Context) × IsContextOf g n c × (capped w.limit (context_size w c) ≤ capped w.limit (way_cost v))
+  way_context (Begin i s) n is =
+      let same : n ≡ g.start = sym (ap (λ (t : Source). t.node) (one_source i s is.0) ∙ is.1) in
+      (Hole, ap Nonterminal same, omega arith)
+  way_context (On v s) n is =
+      let at = inward_of s is.0 in
+      let inward = at.1 in
+      let fs = cost_reached w.limit (AreSiblings g inward.before inward.behind) (siblings_size w) inward.others inward.is_others inward.low in
+      let outer = way_context v s.from is.2 in
+      let around = subst (λ m. IsContextOf g m outer.0) inward.from outer.1 in (
+        Under outer.0 at.0.rule fs.0.0 fs.0.1,
+        subst (λ m. IsContextOf g m (Under outer.0 at.0.rule fs.0.0 fs.0.1)) is.1
+            (inward.production, inward.before, inward.behind, inward.number, inward.right, fs.1.0, fs.1.1, around),
+        omega (arith, outer.2, fs.2, inward.cost),
+      )
+
+  -- what is told of a nonterminal is what its least context costs
+  pub told_exact : (table : List Reach) → AreLeastWays w.limit net (start_of g) table → (n : ℕ) → IsCost w.limit (IsContextOf g n) (context_size w) (told_at table n)
+  told_exact table least n =
+      let r = reach_at table n in
+      let is = least.exact n in
+      IsCost-from w.limit (IsContextOf g n) (context_size w) (told_cost r) (told_capped w.limit net (start_of g) n r is)
+      (λ low. let v = told_reached w.limit net (start_of g) n r is low in let c = way_context v.0 n v.1 in (c.0, c.1, omega (arith, v.2, c.2)))
+      (λ c h. let v = context_way c n h in omega (arith, told_low w.limit net (start_of g) n r is v.0 v.1, v.2))

@@ -1,0 +1,33 @@
+use Rattle.std.proofs.Common.{◌+◌, ◌-◌, List, length, get_or, drop, sym, ap, ◌∙◌, subst, arith, rules}
+use Rattle.std.proofs.Math.ListN.{set}
+use Rattle.std.proofs.lemmas.List.{length-set, length-replicate}
+use Rattle.cs_cost.specs.declared.cost.Cost.{Cost}
+use Rattle.cs_cost.specs.declared.cost.Cost.TheVariants.{Never, Least}
+use Rattle.cs_cost.specs.Trees.{AreTreesCost}
+use Rattle.cs_grammar.specs.declared.symbol.Symbol.TheVariants.{Token}
+use Rattle.cs_embed.proofs.Rests.{rest_none, rest_more}
+use Rattle.cs_embed.proofs.inwards.rest_costs.Goals as goal
+
+pub loop-place-init : goal.loop-place-init
+loop-place-init c =
+    let xs = c.args.symbols.now in
+    let items = c.in_ok-rest.ensures.items_if_clones_equal (λ y e. search rules) in
+    record {
+      many = ap (λ (l : List Cost). length l) items ∙ length-replicate (length xs + 1) (Least 0);
+      each = λ k above below. subst (λ (l : List Cost). AreTreesCost c.args.costs.now (drop k xs) (get_or l k Never)) (sym items) (rest_none c.args.costs.now xs k above below);
+    }
+
+pub loop-place-preserved : goal.loop-place-preserved
+loop-place-preserved c =
+    let v = c.args.costs.now in
+    let xs = c.args.symbols.now in
+    let rest = c.loop-place.rest.items in
+    let j = c.loop-place.place - 1 in
+    let above_zero = c.loop-place-test.true in
+    let sum = c.joint_cost.ensures.cost in
+    record {
+      many = length-set rest j c.joint_cost.result ∙ c.loop-place.invariant.many;
+      each = λ k above below.
+          subst (λ (x : Cost). AreTreesCost v (drop k xs) (get_or (set rest j x) k Never)) (sym sum)
+          (rest_more v xs rest j (Token 0) c.cost.result c.index.result.now (omega (arith, above_zero)) c.loop-place.invariant.many c.cost.ensures c.index.ensures (λ m low high. c.loop-place.invariant.each m (omega (arith, low)) high) k above below);
+    }
