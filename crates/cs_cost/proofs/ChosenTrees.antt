@@ -1,7 +1,7 @@
 -- A symbol with a tree has a chosen tree, and only one.
-use Rattle.std.proofs.Common.{◌≡◌, ℕ, zero, suc, ◌+◌, ◌-◌, ◌<◌, ◌≤◌, ◌⊎◌, List, [], ◌∷◌, length, get_or, refl, sym, ap, subst, ⊎_elim, inl, inr, arith}
+use Rattle.std.proofs.Common.{◌≡◌, ℕ, zero, suc, ◌+◌, ◌-◌, ◌<◌, ◌≤◌, ◌⊎◌, List, [], ◌∷◌, length, refl, sym, ap, subst, ⊎_elim, inl, inr, arith}
 use Rattle.std.proofs.lemmas.Bool.{cases_eq, cases_lt}
-use Rattle.std.proofs.lemmas.Option.{slice_get_within, slice_get-get_or}
+use Rattle.std.proofs.lemmas.Option.{slice_get_within}
 use Rattle.cs_grammar.specs.declared.symbol.Symbol.{Symbol}
 use Rattle.cs_grammar.specs.declared.symbol.Symbol.TheVariants.{Token, Nonterminal}
 use Rattle.cs_grammar.specs.Grammar.{Production, PlainGrammar, IsRule}
@@ -9,6 +9,7 @@ use Rattle.cs_grammar.specs.Weights.{Measure}
 use Rattle.cs_grammar.specs.Tree.{Tree, Leaf, Node, Forest, Bare, Grown, IsTree, AreTrees, size, sizes}
 use Rattle.cs_grammar.proofs.OneTree.{one_rule}
 use Rattle.cs_cost.specs.Chosen.{IsChosen, AreChosen}
+use Rattle.cs_cost.proofs.Rules.{some_rule}
 
 module _ (w : Measure) (g : PlainGrammar) where
   -- a chosen tree is a tree
@@ -125,23 +126,27 @@ module _ (w : Measure) (g : PlainGrammar) where
         inr (same, (let e = h.2 in let left : h.0.left ≡ p.left = ap (λ (o : Production). o.left) is in cc), subst (λ (o : Production). AreTrees g o.right f) is h.3))
         (cases_lt q (suc i))
 
+    -- the best so far stays the best where no node of this rule is smaller
+    best_kept : (best : BestNode w g m n i) → (p.left ≡ m → (f : Forest) → AreTrees g p.right f → sizes w best.trees ≤ sizes w f) → BestNode w g m n (suc i)
+    best_kept best cheaper = record {
+      number = best.number;
+      rule = best.rule;
+      is_rule = best.is_rule;
+      of_left = best.of_left;
+      trees = best.trees;
+      chosen = best.chosen;
+      within = omega (arith, best.within);
+      small = best.small;
+      least = λ q f le h. ⊎_elim (λ lower. best.least q f lower h) (λ here. omega (arith, cheaper here.1 f here.2)) (node_cases q f le h);
+      lowest = λ q f le h e. ⊎_elim (λ lower. best.lowest q f lower h e) (λ here. omega (arith, here.0, best.within)) (node_cases q f le h);
+    }
+
     -- the rule has no tree of m of at most n nodes
     pub node_skipped : (p.left ≡ m → (f : Forest) → AreTrees g p.right f → n < 1 + sizes w f) → NoNode w g m n i ⊎ BestNode w g m n i → NoNode w g m n (suc i) ⊎ BestNode w g m n (suc i)
     node_skipped none so_far =
         ⊎_elim
         (λ before. inl (λ q f le h. ⊎_elim (λ lower. before q f lower h) (λ here. none here.1 f here.2) (node_cases q f le h)))
-        (λ best. inr (record {
-          number = best.number;
-          rule = best.rule;
-          is_rule = best.is_rule;
-          of_left = best.of_left;
-          trees = best.trees;
-          chosen = best.chosen;
-          within = omega (arith, best.within);
-          small = best.small;
-          least = λ q f le h. ⊎_elim (λ lower. best.least q f lower h) (λ here. omega (arith, none here.1 f here.2, best.small)) (node_cases q f le h);
-          lowest = λ q f le h e. ⊎_elim (λ lower. best.lowest q f lower h e) (λ here. omega (arith, here.0, best.within)) (node_cases q f le h);
-        }))
+        (λ best. inr (best_kept best (λ left f h. omega (arith, none left f h, best.small))))
         so_far
 
     -- the rule has a least tree of m of at most n nodes
@@ -161,18 +166,7 @@ module _ (w : Measure) (g : PlainGrammar) where
       }
 
       node_kept : (best : BestNode w g m n i) → 1 + sizes w best.trees ≤ 1 + sizes w ts.trees → BestNode w g m n (suc i)
-      node_kept best cheaper = record {
-        number = best.number;
-        rule = best.rule;
-        is_rule = best.is_rule;
-        of_left = best.of_left;
-        trees = best.trees;
-        chosen = best.chosen;
-        within = omega (arith, best.within);
-        small = best.small;
-        least = λ q f le h. ⊎_elim (λ lower. best.least q f lower h) (λ here. omega (arith, ts.least f here.2, cheaper)) (node_cases q f le h);
-        lowest = λ q f le h e. ⊎_elim (λ lower. best.lowest q f lower h e) (λ here. omega (arith, here.0, best.within)) (node_cases q f le h);
-      }
+      node_kept best cheaper = best_kept best (λ same f h. omega (arith, ts.least f h, cheaper))
 
       pub node_found : NoNode w g m n i ⊎ BestNode w g m n i → BestNode w g m n (suc i)
       node_found so_far =
@@ -199,14 +193,14 @@ module _ (w : Measure) (g : PlainGrammar) where
       (λ other. node_skipped m (suc n) i p rule (λ e. absurd (other e)) so_far)
       (cases_eq p.left m)
     where
+      there : (p : Production) × IsRule g (suc i) p
+      there = some_rule g i (omega (arith, le))
+
       p : Production
-      p = get_or g.rules i (record { left = 0; right = [] })
+      p = there.0
 
       rule : IsRule g (suc i) p
-      rule = record {
-        above_zero = omega arith;
-        at = (let e : suc i - 1 ≡ i = omega arith in rw e (slice_get-get_or g.rules i (record { left = 0; right = [] }) (omega (arith, le))));
-      }
+      rule = there.1
 
   -- all trees of a token are of one size
   leaf_least : (t : ℕ) (u : Tree) → IsTree g (Token t) u → size w (Leaf t) ≤ size w u
