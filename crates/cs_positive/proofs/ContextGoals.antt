@@ -28,7 +28,7 @@ use Rattle.cs_embed.proofs.Steps.{one_split, split_at, siblings_exact}
 use Rattle.cs_goals.specs.declared.goal.Goal.TheVariants.{Context}
 use Rattle.cs_goals.specs.Goal.{IsOccurrence}
 use Rattle.cs_goals.specs.Meets.{trees, IsChild, UsesRuleIn, SomeUsesRuleIn}
-use Rattle.cs_positive.specs.Verdict.{IsMet, IsChosenOfContext, IsCodeOf}
+use Rattle.cs_positive.specs.Verdict.{IsMet, ContextGoalParts, IsChosenOfContext, IsCodeOf}
 use Rattle.cs_positive.proofs.RuleGoals.{least_context}
 
 -- trees of some symbols, cut at one of them
@@ -67,25 +67,10 @@ cut_at w g (Grown u f) (x ∷ xs) (suc k) t h at =
       measure = omega (arith, rest.measure);
     }
 
--- A tree in a context, with a node of rule p in it whose child at place i is a node of rule q.
+-- a tree of so many nodes that meets the goal, by its parts
 pub record FoundIn (w : Measure) (g : PlainGrammar) (p i q n : ℕ) : Type 0 where
-  pub outer : Production
-  pub inner : Production
-  pub is_outer : IsRule g p outer
-  pub is_inner : IsRule g q inner
-  pub before : List Symbol
-  pub behind : List Symbol
-  pub right_side : outer.right ≡ before ++ Nonterminal inner.left ∷ behind
-  pub place : length before + 1 ≡ i
-  pub context : TreeContext
-  pub left : Forest
-  pub right : Forest
-  pub children : Forest
-  pub around : IsContext g (Nonterminal outer.left) context
-  pub left_trees : AreTrees g before left
-  pub right_trees : AreTrees g behind right
-  pub trees : AreTrees g inner.right children
-  pub measure : context_size w context + (1 + (sizes w left + sizes w right)) + (1 + sizes w children) ≡ n
+  pub parts : ContextGoalParts g p i q (IsContext g) (AreTrees g)
+  pub measure : context_size w parts.context + (1 + (sizes w parts.left + sizes w parts.right)) + (1 + sizes w parts.children) ≡ n
 
 module _ (w : Measure) (g : PlainGrammar) (p i q : ℕ) where
   here_in : (r : ℕ) (o : Production) (f : Forest) (c : TreeContext) → IsRule g r o → AreTrees g o.right f → IsContext g (Nonterminal o.left) c → r ≡ p → IsChild i q f → FoundIn w g p i q (context_size w c + (1 + sizes w f))
@@ -93,22 +78,24 @@ module _ (w : Measure) (g : PlainGrammar) (p i q : ℕ) where
       let v = cut_at w g f o.right (i - 1) (Node q child.grandchildren) hf child.at in
       let is = v.is_tree in
       record {
-        outer = o;
-        inner = is.0;
-        is_outer = subst (λ n. IsRule g n o) same rule;
-        is_inner = is.1;
-        before = v.before;
-        behind = v.behind;
-        right_side = v.symbols ∙ ap (λ (b : Symbol). v.before ++ b ∷ v.behind) is.2;
-        place = omega (arith, v.at, child.above_zero);
-        context = c;
-        left = v.left;
-        right = v.right;
-        children = child.grandchildren;
-        around = hc;
-        left_trees = v.left_trees;
-        right_trees = v.right_trees;
-        trees = is.3;
+        parts = record {
+          outer = o;
+          inner = is.0;
+          is_outer = subst (λ n. IsRule g n o) same rule;
+          is_inner = is.1;
+          before = v.before;
+          behind = v.behind;
+          right_side = v.symbols ∙ ap (λ (b : Symbol). v.before ++ b ∷ v.behind) is.2;
+          place = omega (arith, v.at, child.above_zero);
+          context = c;
+          left = v.left;
+          right = v.right;
+          children = child.grandchildren;
+          around = hc;
+          left_are = v.left_trees;
+          right_are = v.right_trees;
+          children_are = is.3;
+        };
         measure = omega (arith, v.measure);
       }
 
@@ -163,41 +150,41 @@ module _ (w : Measure) (g : PlainGrammar) (p i q : ℕ) where
   -- the chosen tree of a context goal meets it
   pub context_met : (u : Tree) → IsChosenOfContext w g p i q u → IsMet g (Context p i q) u
   context_met u h =
-      let c = Under h.context p h.left h.right in
-      let node = Node q h.children in
-      let lefts = AreTrees-chosen w g h.left h.before h.left_chosen in
-      let around : IsContext g (Nonterminal h.inner.left) c = (h.outer, h.before, h.behind, h.is_outer, h.right_side, lefts, AreTrees-chosen w g h.right h.behind h.right_chosen, IsContext-chosen w g h.context (Nonterminal h.outer.left) h.around) in
-      let tree = IsTree-plug g c (Nonterminal h.inner.left) node around (h.inner, h.is_inner, refl, AreTrees-chosen w g h.children h.inner.right h.chosen) in
-      let place : count h.left ≡ i - 1 = omega (arith, count_is g h.left h.before lefts, h.place) in
-      let child : IsChild i q (join h.left (Grown node h.right)) = record { grandchildren = h.children; above_zero = omega (arith, h.place); at = at_join h.left node h.right (i - 1) place } in
-      let uses = UsesRuleIn-plug w g p i q h.context (Node p (join h.left (Grown node h.right))) (inl (refl, child)) in
+      let c = Under h.parts.context p h.parts.left h.parts.right in
+      let node = Node q h.parts.children in
+      let lefts = AreTrees-chosen w g h.parts.left h.parts.before h.parts.left_are in
+      let around : IsContext g (Nonterminal h.parts.inner.left) c = (h.parts.outer, h.parts.before, h.parts.behind, h.parts.is_outer, h.parts.right_side, lefts, AreTrees-chosen w g h.parts.right h.parts.behind h.parts.right_are, IsContext-chosen w g h.parts.context (Nonterminal h.parts.outer.left) h.parts.around) in
+      let tree = IsTree-plug g c (Nonterminal h.parts.inner.left) node around (h.parts.inner, h.parts.is_inner, refl, AreTrees-chosen w g h.parts.children h.parts.inner.right h.parts.children_are) in
+      let place : count h.parts.left ≡ i - 1 = omega (arith, count_is g h.parts.left h.parts.before lefts, h.parts.place) in
+      let child : IsChild i q (join h.parts.left (Grown node h.parts.right)) = record { grandchildren = h.parts.children; above_zero = omega (arith, h.parts.place); at = at_join h.parts.left node h.parts.right (i - 1) place } in
+      let uses = UsesRuleIn-plug w g p i q h.parts.context (Node p (join h.parts.left (Grown node h.parts.right))) (inl (refl, child)) in
       subst (IsMet g (Context p i q)) (sym h.whole) (tree, uses)
 
   -- is of least size
   pub context_least : (t u : Tree) → IsMet g (Context p i q) t → IsChosenOfContext w g p i q u → size w u ≤ size w t
   context_least t u h k =
       let v = found_in_whole w g p i q t h in
-      let outer = one_rule g p p v.outer k.outer refl v.is_outer k.is_outer in
-      let inner = one_rule g q q v.inner k.inner refl v.is_inner k.is_inner in
-      let split = one_split v.before k.before (Nonterminal v.inner.left) (Nonterminal k.inner.left) v.behind k.behind (sym v.right_side ∙ ap (λ (o : Production). o.right) outer ∙ k.right_side) (omega (arith, v.place, k.place)) in
-      let around = chosen_context_least w g (Nonterminal k.outer.left) v.context k.context (subst (λ (o : Production). IsContext g (Nonterminal o.left) v.context) outer v.around) k.around in
-      let lefts = forest_least w g k.left v.left k.before k.left_chosen (subst (λ (l : List Symbol). AreTrees g l v.left) split.before v.left_trees) in
-      let rights = forest_least w g k.right v.right k.behind k.right_chosen (subst (λ (l : List Symbol). AreTrees g l v.right) split.behind v.right_trees) in
-      let children = forest_least w g k.children v.children k.inner.right k.chosen (subst (λ (o : Production). AreTrees g o.right v.children) inner v.trees) in
-      omega (arith, v.measure, around, lefts, rights, children, ap (size w) k.whole, size-plug w (Under k.context p k.left k.right) (Node q k.children))
+      let outer = one_rule g p p v.parts.outer k.parts.outer refl v.parts.is_outer k.parts.is_outer in
+      let inner = one_rule g q q v.parts.inner k.parts.inner refl v.parts.is_inner k.parts.is_inner in
+      let split = one_split v.parts.before k.parts.before (Nonterminal v.parts.inner.left) (Nonterminal k.parts.inner.left) v.parts.behind k.parts.behind (sym v.parts.right_side ∙ ap (λ (o : Production). o.right) outer ∙ k.parts.right_side) (omega (arith, v.parts.place, k.parts.place)) in
+      let around = chosen_context_least w g (Nonterminal k.parts.outer.left) v.parts.context k.parts.context (subst (λ (o : Production). IsContext g (Nonterminal o.left) v.parts.context) outer v.parts.around) k.parts.around in
+      let lefts = forest_least w g k.parts.left v.parts.left k.parts.before k.parts.left_are (subst (λ (l : List Symbol). AreTrees g l v.parts.left) split.before v.parts.left_are) in
+      let rights = forest_least w g k.parts.right v.parts.right k.parts.behind k.parts.right_are (subst (λ (l : List Symbol). AreTrees g l v.parts.right) split.behind v.parts.right_are) in
+      let children = forest_least w g k.parts.children v.parts.children k.parts.inner.right k.parts.children_are (subst (λ (o : Production). AreTrees g o.right v.parts.children) inner v.parts.children_are) in
+      omega (arith, v.measure, around, lefts, rights, children, ap (size w) k.whole, size-plug w (Under k.parts.context p k.parts.left k.parts.right) (Node q k.parts.children))
 
   -- and is the only one
   pub one_of_context : (t u : Tree) → IsChosenOfContext w g p i q t → IsChosenOfContext w g p i q u → t ≡ u
   one_of_context t u h k =
-      let outer = one_rule g p p h.outer k.outer refl h.is_outer k.is_outer in
-      let inner = one_rule g q q h.inner k.inner refl h.is_inner k.is_inner in
-      let split = one_split h.before k.before (Nonterminal h.inner.left) (Nonterminal k.inner.left) h.behind k.behind (sym h.right_side ∙ ap (λ (o : Production). o.right) outer ∙ k.right_side) (omega (arith, h.place, k.place)) in
-      let contexts = one_chosen_context w g h.context k.context (Nonterminal h.outer.left) h.around (subst (λ (o : Production). IsChosenContext w g (Nonterminal o.left) k.context) (sym outer) k.around) in
-      let lefts = all_chosen w g h.left k.left h.before h.left_chosen (subst (λ (l : List Symbol). AreChosen w g l k.left) (sym split.before) k.left_chosen) in
-      let rights = all_chosen w g h.right k.right h.behind h.right_chosen (subst (λ (l : List Symbol). AreChosen w g l k.right) (sym split.behind) k.right_chosen) in
-      let children = all_chosen w g h.children k.children h.inner.right h.chosen (subst (λ (o : Production). AreChosen w g o.right k.children) (sym inner) k.chosen) in
-      h.whole ∙ ap (λ c. plug (Under c p h.left h.right) (Node q h.children)) contexts ∙ ap (λ f. plug (Under k.context p f h.right) (Node q h.children)) lefts
-      ∙ ap (λ f. plug (Under k.context p k.left f) (Node q h.children)) rights ∙ ap (λ f. plug (Under k.context p k.left k.right) (Node q f)) children ∙ sym k.whole
+      let outer = one_rule g p p h.parts.outer k.parts.outer refl h.parts.is_outer k.parts.is_outer in
+      let inner = one_rule g q q h.parts.inner k.parts.inner refl h.parts.is_inner k.parts.is_inner in
+      let split = one_split h.parts.before k.parts.before (Nonterminal h.parts.inner.left) (Nonterminal k.parts.inner.left) h.parts.behind k.parts.behind (sym h.parts.right_side ∙ ap (λ (o : Production). o.right) outer ∙ k.parts.right_side) (omega (arith, h.parts.place, k.parts.place)) in
+      let contexts = one_chosen_context w g h.parts.context k.parts.context (Nonterminal h.parts.outer.left) h.parts.around (subst (λ (o : Production). IsChosenContext w g (Nonterminal o.left) k.parts.context) (sym outer) k.parts.around) in
+      let lefts = all_chosen w g h.parts.left k.parts.left h.parts.before h.parts.left_are (subst (λ (l : List Symbol). AreChosen w g l k.parts.left) (sym split.before) k.parts.left_are) in
+      let rights = all_chosen w g h.parts.right k.parts.right h.parts.behind h.parts.right_are (subst (λ (l : List Symbol). AreChosen w g l k.parts.right) (sym split.behind) k.parts.right_are) in
+      let children = all_chosen w g h.parts.children k.parts.children h.parts.inner.right h.parts.children_are (subst (λ (o : Production). AreChosen w g o.right k.parts.children) (sym inner) k.parts.children_are) in
+      h.whole ∙ ap (λ c. plug (Under c p h.parts.left h.parts.right) (Node q h.parts.children)) contexts ∙ ap (λ f. plug (Under k.parts.context p f h.parts.right) (Node q h.parts.children)) lefts
+      ∙ ap (λ f. plug (Under k.parts.context p k.parts.left f) (Node q h.parts.children)) rights ∙ ap (λ f. plug (Under k.parts.context p k.parts.left k.parts.right) (Node q f)) children ∙ sym k.whole
 
 module _ (w : Measure) (g : PlainGrammar) (p i q : ℕ) (outer inner : Production) (is_outer : IsRule g p outer) (is_inner : IsRule g q inner) (xs ys : List Symbol) (e : outer.right ≡ xs ++ Nonterminal inner.left ∷ ys) (at : length xs + 1 ≡ i) where
   -- the parts of a tree that meets the goal: a context of the outer left side, the inner node's siblings and its children
@@ -223,14 +210,14 @@ module _ (w : Measure) (g : PlainGrammar) (p i q : ℕ) (outer inner : Productio
   pub parted : (t : Tree) → IsMet g (Context p i q) t → (ps : (TreeContext × (Forest × Forest)) × Forest) × ArePlaced ps × (placed_size ps ≤ size w t)
   parted t h =
       let v = found_in_whole w g p i q t h in
-      let outers = one_rule g p p v.outer outer refl v.is_outer is_outer in
-      let inners = one_rule g q q v.inner inner refl v.is_inner is_inner in
-      let split = one_split v.before xs (Nonterminal v.inner.left) (Nonterminal inner.left) v.behind ys (sym v.right_side ∙ ap (λ (o : Production). o.right) outers ∙ e) (omega (arith, v.place, at)) in
-      let around = subst (λ (o : Production). IsContext g (Nonterminal o.left) v.context) outers v.around in
-      let lefts = subst (λ (l : List Symbol). AreTrees g l v.left) split.before v.left_trees in
-      let rights = subst (λ (l : List Symbol). AreTrees g l v.right) split.behind v.right_trees in
-      let children = subst (λ (o : Production). AreTrees g o.right v.children) inners v.trees in
-      (((v.context, (v.left, v.right)), v.children), ((around, (lefts, rights)), children), omega (arith, v.measure))
+      let outers = one_rule g p p v.parts.outer outer refl v.parts.is_outer is_outer in
+      let inners = one_rule g q q v.parts.inner inner refl v.parts.is_inner is_inner in
+      let split = one_split v.parts.before xs (Nonterminal v.parts.inner.left) (Nonterminal inner.left) v.parts.behind ys (sym v.parts.right_side ∙ ap (λ (o : Production). o.right) outers ∙ e) (omega (arith, v.parts.place, at)) in
+      let around = subst (λ (o : Production). IsContext g (Nonterminal o.left) v.parts.context) outers v.parts.around in
+      let lefts = subst (λ (l : List Symbol). AreTrees g l v.parts.left) split.before v.parts.left_are in
+      let rights = subst (λ (l : List Symbol). AreTrees g l v.parts.right) split.behind v.parts.right_are in
+      let children = subst (λ (o : Production). AreTrees g o.right v.parts.children) inners v.parts.children_are in
+      (((v.parts.context, (v.parts.left, v.parts.right)), v.parts.children), ((around, (lefts, rights)), children), omega (arith, v.measure))
 
   -- a least tree that meets the goal is of least parts
   pub context_cost : (a l s b : Cost) → IsCost w.limit (IsContextOf g outer.left) (context_size w) a → IsCost w.limit (AreTrees g xs) (sizes w) l → IsCost w.limit (AreTrees g ys) (sizes w) s → IsCost w.limit (AreTrees g inner.right) (sizes w) b → IsCost w.limit (IsMet g (Context p i q)) (size w) (plus w.limit (plus w.limit a (plus w.limit (cost_of w.limit 1) (plus w.limit l s))) (plus w.limit (cost_of w.limit 1) b))
@@ -303,6 +290,10 @@ module _ (w : Measure) (g : PlainGrammar) (outer inner : Production) (xs ys : Li
 regroup : (before l c r after : List ℕ) (p q : ℕ) → before ++ p ∷ [] ++ l ++ q ∷ [] ++ c ++ r ++ after ≡ before ++ p ∷ l ++ q ∷ c ++ (r ++ after)
 regroup before l c r after p q = simp append_assoc
 
+-- the chosen tree that is put together of chosen parts
+pub chosen_whole : (w : Measure) (g : PlainGrammar) (p i q : ℕ) → (parts : ContextGoalParts g p i q (IsChosenContext w g) (AreChosen w g)) → IsChosenOfContext w g p i q (plug (Under parts.context p parts.left parts.right) (Node q parts.children))
+chosen_whole w g p i q parts = record { parts = parts; whole = refl }
+
 -- the code that is put together of the chosen context and the chosen trees in it
 module _ (w : Measure) (g : PlainGrammar) (p i q : ℕ) (outer inner : Production) (is_outer : IsRule g p outer) (is_inner : IsRule g q inner) (xs ys : List Symbol) (e : outer.right ≡ xs ++ Nonterminal inner.left ∷ ys) (at : length xs + 1 ≡ i) where
   pub context_code : (before after d1 d2 d3 d4 d5 d6 d7 : List ℕ) → IsAround w g outer.left before after → d1 ≡ before → d2 ≡ d1 ++ p ∷ [] → AppendsAllChosen w g xs d2 d3 → d4 ≡ d3 ++ q ∷ [] → AppendsAllChosen w g inner.right d4 d5 → AppendsAllChosen w g ys d5 d6 → d7 ≡ d6 ++ after → IsCodeOf w g (Context p i q) d7
@@ -314,7 +305,7 @@ module _ (w : Measure) (g : PlainGrammar) (p i q : ℕ) (outer inner : Productio
       let third : d5 ≡ code_before a.context ++ p ∷ [] ++ codes_of lefts.trees ++ q ∷ [] ++ codes_of inners.trees = inners.text ∙ ap (λ (l : List ℕ). l ++ codes_of inners.trees) second in
       let fourth : d6 ≡ code_before a.context ++ p ∷ [] ++ codes_of lefts.trees ++ q ∷ [] ++ codes_of inners.trees ++ codes_of rights.trees = rights.text ∙ ap (λ (l : List ℕ). l ++ codes_of rights.trees) third in
       let last : d7 ≡ code_before a.context ++ p ∷ [] ++ codes_of lefts.trees ++ q ∷ [] ++ codes_of inners.trees ++ codes_of rights.trees ++ code_after a.context = is7 ∙ ap (λ (l : List ℕ). l ++ after) fourth ∙ ap (λ (l : List ℕ). code_before a.context ++ p ∷ [] ++ codes_of lefts.trees ++ q ∷ [] ++ codes_of inners.trees ++ codes_of rights.trees ++ l) a.behind_hole in
-      let chosen : IsChosenOfContext w g p i q (plug c node) = record {
+      let chosen : IsChosenOfContext w g p i q (plug c node) = chosen_whole w g p i q (record {
         outer = outer;
         inner = inner;
         is_outer = is_outer;
@@ -328,39 +319,37 @@ module _ (w : Measure) (g : PlainGrammar) (p i q : ℕ) (outer inner : Productio
         right = rights.trees;
         children = inners.trees;
         around = a.chosen;
-        left_chosen = lefts.chosen;
-        right_chosen = rights.chosen;
-        chosen = inners.chosen;
-        whole = refl;
-      } in
+        left_are = lefts.chosen;
+        right_are = rights.chosen;
+        children_are = inners.chosen;
+      }) in
       (plug c node, chosen, last ∙ regroup (code_before a.context) (codes_of lefts.trees) (codes_of inners.trees) (codes_of rights.trees) (code_after a.context) p q ∙ sym (code-plug c node))
 
 -- a context goal that some tree meets has a chosen tree
 pub context_exists : (w : Measure) (g : PlainGrammar) (p i q : ℕ) (t : Tree) → IsMet g (Context p i q) t → (u : Tree) × IsChosenOfContext w g p i q u
 context_exists w g p i q t h =
-    let v = found_in_whole w g p i q t h in
+    let v = (found_in_whole w g p i q t h).parts in
     let d = chosen_context_exists w g v.outer.left v.context v.around in
-    let lefts = chosen_forest w g v.left v.before v.left_trees in
-    let rights = chosen_forest w g v.right v.behind v.right_trees in
-    let children = chosen_forest w g v.children v.inner.right v.trees in
-    let u = plug (Under d.context p lefts.0 rights.0) (Node q children.0) in
-    let chosen : IsChosenOfContext w g p i q u = record {
-      outer = v.outer;
-      inner = v.inner;
-      is_outer = v.is_outer;
-      is_inner = v.is_inner;
-      before = v.before;
-      behind = v.behind;
-      right_side = v.right_side;
-      place = v.place;
-      context = d.context;
-      left = lefts.0;
-      right = rights.0;
-      children = children.0;
-      around = d.chosen;
-      left_chosen = lefts.1;
-      right_chosen = rights.1;
-      chosen = children.1;
-      whole = refl;
-    } in
-    (u, chosen)
+    let lefts = chosen_forest w g v.left v.before v.left_are in
+    let rights = chosen_forest w g v.right v.behind v.right_are in
+    let children = chosen_forest w g v.children v.inner.right v.children_are in (
+      plug (Under d.context p lefts.0 rights.0) (Node q children.0),
+      chosen_whole w g p i q (record {
+        outer = v.outer;
+        inner = v.inner;
+        is_outer = v.is_outer;
+        is_inner = v.is_inner;
+        before = v.before;
+        behind = v.behind;
+        right_side = v.right_side;
+        place = v.place;
+        context = d.context;
+        left = lefts.0;
+        right = rights.0;
+        children = children.0;
+        around = d.chosen;
+        left_are = lefts.1;
+        right_are = rights.1;
+        children_are = children.1;
+      }),
+    )

@@ -32,9 +32,10 @@ pub record IsChosenOfRule (w : Measure) (g : PlainGrammar) (r : ℕ) (t : Tree) 
   pub chosen : AreChosen w g rule.right children
   pub whole : t ≡ plug context (Node r children)
 
--- the chosen tree of a context goal: the chosen context of rule p's left side around a node of rule p whose child at place i,
--- counted from 1, is a node of rule q with chosen children; the other children are chosen
-pub record IsChosenOfContext (w : Measure) (g : PlainGrammar) (p i q : ℕ) (t : Tree) : Type 0 where
+-- The parts of a tree that meets a context goal: a context of rule p's left side, and in it a node of rule p whose child at place
+-- i, counted from 1, is a node of rule q. IsAround says which context may be around it, and AreKind which trees may be among the
+-- node's other children and the inner node's children.
+pub record ContextGoalParts (g : PlainGrammar) (p i q : ℕ) (IsAround : Symbol → TreeContext → Type 0) (AreKind : List Symbol → Forest → Type 0) : Type 0 where
   pub outer : Production
   pub inner : Production
   pub is_outer : IsRule g p outer
@@ -47,11 +48,15 @@ pub record IsChosenOfContext (w : Measure) (g : PlainGrammar) (p i q : ℕ) (t :
   pub left : Forest
   pub right : Forest
   pub children : Forest
-  pub around : IsChosenContext w g (Nonterminal outer.left) context
-  pub left_chosen : AreChosen w g before left
-  pub right_chosen : AreChosen w g behind right
-  pub chosen : AreChosen w g inner.right children
-  pub whole : t ≡ plug (Under context p left right) (Node q children)
+  pub around : IsAround (Nonterminal outer.left) context
+  pub left_are : AreKind before left
+  pub right_are : AreKind behind right
+  pub children_are : AreKind inner.right children
+
+-- the chosen tree of a context goal: the chosen context around, and all the others chosen trees
+pub record IsChosenOfContext (w : Measure) (g : PlainGrammar) (p i q : ℕ) (t : Tree) : Type 0 where
+  pub parts : ContextGoalParts g p i q (IsChosenContext w g) (AreChosen w g)
+  pub whole : t ≡ plug (Under parts.context p parts.left parts.right) (Node q parts.children)
 
 -- the chosen tree of a goal
 abbrev pub IsChosenOf : Measure → PlainGrammar → Goal → Tree → Type 0

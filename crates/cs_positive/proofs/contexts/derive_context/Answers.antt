@@ -2,7 +2,7 @@ use Rattle.std.proofs.Common.{◌≡◌, ℕ, ◌-◌, List, ◌++◌, length, t
 use Rattle.std.specs.Prelude.{All}
 use Rattle.std.proofs.lemmas.List.Elements.{All-take, All-drop}
 use Rattle.cs_grammar.specs.declared.symbol.Symbol.{Symbol}
-use Rattle.cs_grammar.specs.Grammar.{Production, PlainGrammar, IsRule, IsSymbolOf}
+use Rattle.cs_grammar.specs.Grammar.{PlainGrammar, IsRule, IsSymbolOf}
 use Rattle.cs_grammar.specs.Weights.{Weighed}
 use Rattle.cs_cost.specs.Chosen.{AppendsAllChosen}
 use Rattle.cs_cost.specs.Trees.{HaveSmall}
