@@ -24,13 +24,13 @@ const BEGIN: Mark = Mark::Begin;
 
 const END: Mark = Mark::End;
 
-const T1: Mark = Mark::Token(1);
+const FIRST: Mark = Mark::Token(1);
 
-const T2: Mark = Mark::Token(2);
+const SECOND: Mark = Mark::Token(2);
 
-const T3: Mark = Mark::Token(3);
+const THIRD: Mark = Mark::Token(3);
 
-const T4: Mark = Mark::Token(4);
+const FOURTH: Mark = Mark::Token(4);
 
 // What is told of each pair is what is wanted, where nodes are counted.
 fn check(
@@ -92,11 +92,11 @@ fn pairs_of_sums(rt: HostRuntime) -> Result<(), Fail> {
         (3, &[u, x]),
     ];
     let wants = [
-        (T4, T4, Code(11, &[2, 4, 2, 4, 2, 3])),
-        (T2, T3, Code(11, &[1, 2, 3, 4, 2, 3])),
-        (BEGIN, T3, Code(7, &[2, 4, 2, 3])),
-        (T4, END, Code(7, &[2, 4, 2, 3])),
-        (T1, T1, Nowhere),
+        (FOURTH, FOURTH, Code(11, &[2, 4, 2, 4, 2, 3])),
+        (SECOND, THIRD, Code(11, &[1, 2, 3, 4, 2, 3])),
+        (BEGIN, THIRD, Code(7, &[2, 4, 2, 3])),
+        (FOURTH, END, Code(7, &[2, 4, 2, 3])),
+        (FIRST, FIRST, Nowhere),
         (BEGIN, END, Nowhere),
         (Mark::Token(5), Mark::Token(5), Nowhere),
     ];
@@ -113,23 +113,23 @@ fn pairs_over_empty_trees(rt: HostRuntime) -> Result<(), Fail> {
     // s : a b c ;  a : 'x' ;  b : | 'y' ;  c : 'z' ;
     let chain: &[(u16, &[Symbol])] = &[(1, &[a, b, c]), (2, &[x]), (3, &[]), (3, &[y]), (4, &[z])];
     let wants = [
-        (T1, T2, Code(7, &[1, 2, 4, 5])),
-        (T1, T3, Code(6, &[1, 2, 3, 5])),
-        (T3, T1, Nowhere),
+        (FIRST, SECOND, Code(7, &[1, 2, 4, 5])),
+        (FIRST, THIRD, Code(6, &[1, 2, 3, 5])),
+        (THIRD, FIRST, Nowhere),
     ];
     check(&rt, alloc, 3, chain, &wants)?;
     // s : a ;  a : | 'x' ;
     let maybe: &[(u16, &[Symbol])] = &[(1, &[a]), (2, &[]), (2, &[x])];
     let wants = [
         (BEGIN, END, Code(2, &[1, 2])),
-        (BEGIN, T1, Code(3, &[1, 3])),
-        (T1, END, Code(3, &[1, 3])),
-        (T1, T1, Nowhere),
+        (BEGIN, FIRST, Code(3, &[1, 3])),
+        (FIRST, END, Code(3, &[1, 3])),
+        (FIRST, FIRST, Nowhere),
     ];
     check(&rt, alloc, 1, maybe, &wants)?;
     // s : a 'x' ;  a : b ;  b : a | ;
     let cycle: &[(u16, &[Symbol])] = &[(1, &[a, x]), (2, &[b]), (3, &[a]), (3, &[])];
-    check(&rt, alloc, 1, cycle, &[(BEGIN, T1, Code(4, &[1, 2, 4]))])?;
+    check(&rt, alloc, 1, cycle, &[(BEGIN, FIRST, Code(4, &[1, 2, 4]))])?;
     // s : 'x' | a u ;  a : 'y' ;  u : u ;
     let dead: &[(u16, &[Symbol])] = &[(1, &[x]), (1, &[a, b]), (2, &[y]), (3, &[b])];
     check(
@@ -137,7 +137,7 @@ fn pairs_over_empty_trees(rt: HostRuntime) -> Result<(), Fail> {
         alloc,
         2,
         dead,
-        &[(BEGIN, T2, Nowhere), (T2, END, Nowhere)],
+        &[(BEGIN, SECOND, Nowhere), (SECOND, END, Nowhere)],
     )?;
     Ok(())
 }
@@ -150,16 +150,16 @@ fn ties_of_pairs(rt: HostRuntime) -> Result<(), Fail> {
     let [x, y] = [1, 2].map(Token);
     // s : a a 'y' ;  a : 'x' | ;
     let first: &[(u16, &[Symbol])] = &[(1, &[a, a, y]), (2, &[x]), (2, &[])];
-    check(&rt, alloc, 2, first, &[(T1, T2, Code(5, &[1, 2, 3]))])?;
+    check(&rt, alloc, 2, first, &[(FIRST, SECOND, Code(5, &[1, 2, 3]))])?;
     // s : a a ;  a : | 'x' ;
     let begins: &[(u16, &[Symbol])] = &[(1, &[a, a]), (2, &[]), (2, &[x])];
-    check(&rt, alloc, 1, begins, &[(BEGIN, T1, Code(4, &[1, 3, 2]))])?;
+    check(&rt, alloc, 1, begins, &[(BEGIN, FIRST, Code(4, &[1, 3, 2]))])?;
     // s : q 'y' | p 'y' ;  p : 'x' ;  q : 'x' ;  where p is 2.
     let meeting: &[(u16, &[Symbol])] = &[(1, &[b, y]), (1, &[a, y]), (2, &[x]), (3, &[x])];
-    check(&rt, alloc, 2, meeting, &[(T1, T2, Code(4, &[1, 4]))])?;
+    check(&rt, alloc, 2, meeting, &[(FIRST, SECOND, Code(4, &[1, 4]))])?;
     // s : a a a ;  a : 'x' | 'y' ;
     let left: &[(u16, &[Symbol])] = &[(1, &[a, a, a]), (2, &[x]), (2, &[y])];
-    check(&rt, alloc, 2, left, &[(T2, T2, Code(7, &[1, 3, 3, 2]))])?;
+    check(&rt, alloc, 2, left, &[(SECOND, SECOND, Code(7, &[1, 3, 3, 2]))])?;
     // s : a b c ;  a : 'x' ;  b : | 'y' ;  c : | 'y' ;
     let right: &[(u16, &[Symbol])] = &[
         (1, &[a, b, c]),
@@ -169,10 +169,10 @@ fn ties_of_pairs(rt: HostRuntime) -> Result<(), Fail> {
         (4, &[]),
         (4, &[y]),
     ];
-    check(&rt, alloc, 2, right, &[(T1, T2, Code(6, &[1, 2, 4, 5]))])?;
+    check(&rt, alloc, 2, right, &[(FIRST, SECOND, Code(6, &[1, 2, 4, 5]))])?;
     // s : b | a ;  a : 'x' 'x' ;  b : 'x' 'x' ;  where a is 2.
     let rule: &[(u16, &[Symbol])] = &[(1, &[b]), (1, &[a]), (2, &[x, x]), (3, &[x, x])];
-    let wants = [(T1, T1, Code(4, &[2, 3])), (BEGIN, T1, Code(4, &[1, 4]))];
+    let wants = [(FIRST, FIRST, Code(4, &[2, 3])), (BEGIN, FIRST, Code(4, &[1, 4]))];
     check(&rt, alloc, 1, rule, &wants)?;
     Ok(())
 }
@@ -198,7 +198,7 @@ fn pairs_above_the_limit(rt: HostRuntime) -> Result<(), Fail> {
         (12, &[x[11], x[11]]),
         (13, &[leaf]),
     ];
-    let wants = [(T1, T1, TooLarge), (T1, T2, Nowhere), (BEGIN, T1, TooLarge)];
+    let wants = [(FIRST, FIRST, TooLarge), (FIRST, SECOND, Nowhere), (BEGIN, FIRST, TooLarge)];
     check(&rt, rt.alloc(), 2, doubling, &wants)?;
     Ok(())
 }

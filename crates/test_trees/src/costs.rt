@@ -42,37 +42,37 @@ fn check(
 
 type Lines<const N: usize> = [(u16, &'static [Symbol]); N];
 
-const N1: Symbol = Symbol::Nonterminal(1);
+const START: Symbol = Symbol::Nonterminal(1);
 
-const N2: Symbol = Symbol::Nonterminal(2);
+const INNER: Symbol = Symbol::Nonterminal(2);
 
-const N3: Symbol = Symbol::Nonterminal(3);
+const OTHER: Symbol = Symbol::Nonterminal(3);
 
-const T1: Symbol = Symbol::Token(1);
+const FIRST: Symbol = Symbol::Token(1);
 
-const T2: Symbol = Symbol::Token(2);
+const SECOND: Symbol = Symbol::Token(2);
 
-const T3: Symbol = Symbol::Token(3);
+const THIRD: Symbol = Symbol::Token(3);
 
-const T4: Symbol = Symbol::Token(4);
+const FOURTH: Symbol = Symbol::Token(4);
 
 // s : b | A ;  b : 'x' ;  with A 1 and 'x' 2.
-const EVEN: Lines<3> = [(1, &[N2]), (1, &[T1]), (2, &[T2])];
+const EVEN: Lines<3> = [(1, &[INNER]), (1, &[FIRST]), (2, &[SECOND])];
 
 // s : A | b ;  b : 'x' ;
-const EXCHANGED: Lines<3> = [(1, &[T1]), (1, &[N2]), (2, &[T2])];
+const EXCHANGED: Lines<3> = [(1, &[FIRST]), (1, &[INNER]), (2, &[SECOND])];
 
 // s : a t ;  a : LONG | 'x' 'y' ;  t : 'z' ;
-const TEXTS: Lines<4> = [(1, &[N2, N3]), (2, &[T1]), (2, &[T2, T3]), (3, &[T4])];
+const TEXTS: Lines<4> = [(1, &[INNER, OTHER]), (2, &[FIRST]), (2, &[SECOND, THIRD]), (3, &[FOURTH])];
 
 // s : a a | 'x' 'x' ;  a : LONG ;
-const LARGE: Lines<3> = [(1, &[N2, N2]), (1, &[T2, T2]), (2, &[T1])];
+const LARGE: Lines<3> = [(1, &[INNER, INNER]), (1, &[SECOND, SECOND]), (2, &[FIRST])];
 
 // s : A ;
-const ONE: Lines<1> = [(1, &[T1])];
+const ONE: Lines<1> = [(1, &[FIRST])];
 
 // s : s ;
-const NONE: Lines<1> = [(1, &[N1])];
+const NONE: Lines<1> = [(1, &[START])];
 
 // Sizes reckoned by hand: a leaf is its token's number, a node 1 and its children; of equals the lowest rule is taken.
 #[test]
