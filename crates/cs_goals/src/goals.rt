@@ -66,6 +66,18 @@ impl<'g> Goals<'g> {
         }
     }
 
+    /// The same goals, which may be taken away without taking these away.
+    pub fn copied(&self) -> Goals<'g>
+        ensures { result ≡ self.now }
+    {
+        Goals {
+            grammar: self.grammar,
+            rules: self.rules,
+            contexts: self.contexts,
+            pairs: self.pairs,
+        }
+    }
+
     /// Takes the first goal away. None where there is none, and then there is none from then on.
     pub fn next(&mut self) -> Option<Goal>
         ensures some { IfSome result (λ goal. self.old ≡ goal ∷ self.new) }

@@ -1,3 +1,4 @@
 pub mod RuleGoals
 pub mod ContextGoals
 pub mod Verdicts
+pub mod Judged

@@ -1,9 +1,11 @@
-// Laws of verdicts.
+// Laws of verdicts and of lists of them.
 
+ghost use Rattle.std.specs.Prelude.{List};
 ghost use Rattle.cs_grammar.specs.Laws.{AtMostOne};
 ghost use Rattle.cs_grammar.specs.Weights.{Weighed};
 ghost use Rattle.cs_goals.specs.declared.goal.Goal.{Goal};
 ghost use Rattle.cs_goals.specs.Goal.{IsGoal};
+ghost use Rattle.cs_positive.specs.Positives.{ToJudge, ArePositives, ComesFirst};
 ghost use Rattle.cs_positive.specs.Verdict.{IsVerdictIn, IsChosenIn, ChosenIsLeast, HasTree, HasChosen};
 
 /// A goal has at most one verdict.
@@ -21,4 +23,11 @@ pub fn chosen_tree_meets()
 pub fn chosen_tree_exists_for_goal()
     ensures { (v : Weighed) (goal : Goal) → IsGoal v.grammar goal → HasTree v goal
         → HasChosen v goal }
+{}
+
+/// What is given next stands in front of the positives of the goals that are left, and goals have at most one list of
+/// positives.
+pub fn one_list_of_positives()
+    ensures next { (old : ToJudge) → ComesFirst old }
+    ensures one { (v : Weighed) (left : List Goal) → AtMostOne (ArePositives v left) }
 {}

@@ -2,20 +2,27 @@
 //!
 //! The layers above make the `Tables` of a grammar and its weights, and get the verdict of a goal by `judge`: `Infeasible`,
 //! `Large`, or the least size and the chosen derivation. `judge_tree_goal` gives the verdicts of rule and context goals from
-//! `Costs` and `Embeds` alone. What a verdict and the chosen tree of a goal are stands in `specs/Verdict.antt`; there are no
-//! other definitions. The laws are functions that do nothing.
+//! `Costs` and `Embeds` alone. `Positives` gives the goals of the chosen criteria with their verdicts, one at a time. The laws
+//! are functions that do nothing.
+//!
+//! Both files of `specs/` say what is meant: `Verdict` (a verdict, and the chosen tree of a goal) and `Positives` (the goals
+//! with their verdicts, in order).
 #![tactic(auto)]
 
 mod contexts;
 mod judging;
 mod laws;
 mod pairs;
+mod positive;
 mod rules;
 mod sums;
 mod tables;
 mod verdict;
 
 pub use judging::{judge, judge_tree_goal};
-pub use laws::{chosen_tree_exists_for_goal, chosen_tree_meets, one_verdict};
+pub use laws::{
+    chosen_tree_exists_for_goal, chosen_tree_meets, one_list_of_positives, one_verdict,
+};
+pub use positive::{Positive, Positives};
 pub use tables::Tables;
 pub use verdict::Verdict;

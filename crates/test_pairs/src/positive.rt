@@ -1,9 +1,9 @@
 use cs_cost::Costs;
 use cs_embed::Embeds;
-use cs_goals::{Goal, fits_goal};
+use cs_goals::{Criteria, Goal, fits_goal};
 use cs_grammar::Symbol::{Nonterminal, Token};
 use cs_grammar::{Grammar, Mark, Rule, Symbol, Weights};
-use cs_positive::{Tables, Verdict, judge, judge_tree_goal};
+use cs_positive::{Positives, Tables, Verdict, judge, judge_tree_goal};
 use cs_samples::{rules, sums};
 use std::alloc::{AllocError, Global};
 use std::process::Abort;
@@ -179,5 +179,44 @@ fn pair_goals_of_sums(rt: HostRuntime) -> Result<(), Fail> {
         }
     }
     assert_eq!(rt; feasible, 12);
+    Ok(())
+}
+
+// The goals of the sums by kind: 4 rules, 8 rules in context and 25 pairs, of which all, all and 12 are feasible, as the
+// tests above have them; and none when all were given.
+#[test]
+fn positives_of_sums(rt: HostRuntime) -> Result<(), Fail> {
+    let alloc = rt.alloc();
+    let rules = sums(alloc)?;
+    assert!(rt; Grammar::fits(4, 2, 1, &rules));
+    let grammar = Grammar::new(4, 2, 1, rules);
+    let weights = Weights::nodes(alloc, 4)?;
+    let tables = Tables::new(alloc, &grammar, &weights)?;
+    let criteria = Criteria {
+        rule: true,
+        cdrc: true,
+        pair: true,
+    };
+    let mut positives = Positives::new(&tables, criteria);
+    let mut given = [0u16; 3];
+    let mut feasible = [0u16; 3];
+    for _ in 0..37 {
+        let Some(positive) = positives.next(alloc)? else {
+            panic!(rt; "too few");
+        };
+        let kind = match positive.goal {
+            Goal::Rule(_) => 0,
+            Goal::Context { .. } => 1,
+            Goal::Pair { .. } => 2,
+        };
+        given[kind] = given[kind].saturating_add(1);
+        if let Verdict::Feasible { .. } = positive.verdict {
+            feasible[kind] = feasible[kind].saturating_add(1);
+        }
+    }
+    assert_eq!(rt; given, [4, 8, 25]);
+    assert_eq!(rt; feasible, [4, 8, 12]);
+    assert!(rt; positives.next(alloc)?.is_none());
+    assert!(rt; positives.next(alloc)?.is_none());
     Ok(())
 }
