@@ -1,9 +1,10 @@
 #!/usr/bin/env python3
 """Times automata at the limits, and the scan of a text: bench/scanning.py.
 
-Each row is a list of patterns: the seconds for their automaton, and the greatest memory while it is made, beside their bounds;
-then the seconds for the scan of a text of 1 MiB. It ends with status 1 where a bound is passed. No command makes automata yet,
-so a program that does is made in a copy of this repository, proved and run there. Nothing here is part of the gate.
+Each row is two patterns: the processor seconds for their automaton, and the greatest memory while it is made, beside their
+bounds; then the processor seconds for the scan of a text of 1 MiB. It ends with status 1 where a bound is passed. No command
+makes automata yet, so a program that does is made in a copy of this repository, proved and run there. Nothing here is part of
+the gate.
 """
 
 import os
@@ -15,19 +16,18 @@ from measure import TOP, Bounds, build
 LIBRARIES = "cs_scan cs_automaton cs_pattern cs_pattern_tree cs_io"
 
 MAIN = """\
-//! Makes the automaton of the two patterns in its arguments, and scans the file that is named behind them.
+//! Reads the two patterns in its arguments, makes their automaton, and scans the files that are named behind.
 #![tactic(auto)]
 
-ghost use Rattle.std.specs.Prelude.{◌≤◌, IfOk};
+ghost use Rattle.std.specs.Prelude.{◌≤◌, IfOk, map};
 ghost use Rattle.cs_pattern_tree.specs.Pattern.{leaves, regex};
-ghost use Rattle.cs_pattern_tree.specs.Scannable.{IsScannable};
+ghost use Rattle.cs_pattern_tree.specs.Scannable.{AreScannable, IsScannable};
 
 use cs_automaton::Automaton;
 use cs_io::{Desk, FolderDesk};
 use cs_pattern::{Definitions, MOST_BYTES, Pattern, PatternError, read_pattern};
 use cs_scan::longest;
 use std::alloc::Global;
-use std::time::Instant;
 use std::{env, io};
 
 fn rule(alloc: Global, text: &str) -> Result<Pattern, PatternError>
@@ -61,30 +61,37 @@ fn matches(automaton: &Automaton<'_>, text: &[u8]) -> u64 {
     count
 }
 
-fn timed(rt: &HostRuntime, first: &str, second: &str, text: &[u8]) -> io::Result<()> {
+/// Makes the automaton of the rules, and scans the files that are named behind the third word.
+fn run(rt: &HostRuntime, rules: &[Pattern; 2], words: &[String]) -> io::Result<()>
+    requires { AreScannable (map regex rules.now) }
+{
     let alloc = rt.alloc();
-    let (Ok(one), Ok(two)) = (rule(alloc, first), rule(alloc, second)) else {
+    let mut desk = FolderDesk::new(rt);
+    let Ok(automaton) = Automaton::new(alloc, rules) else {
         return Ok(());
     };
-    let rules = [one, two];
-    let begin = Instant::now(rt)?;
-    if let Ok(automaton) = Automaton::new(alloc, &rules) {
-        let made = begin.elapsed(rt)?.as_micros();
-        let count = matches(&automaton, text);
-        let all = begin.elapsed(rt)?.as_micros();
-        println!(rt; "{made} {all} {count}")?;
+    println!(rt; "made")?;
+    for i in 4..words.len() {
+        if let Ok(text) = desk.read(alloc, words[i].as_str(), MOST_BYTES) {
+            let count = matches(&automaton, &text);
+            println!(rt; "{count}")?;
+        }
     }
     Ok(())
 }
 
 fn main(rt: HostRuntime) -> io::Result<()> {
     let alloc = rt.alloc();
-    let mut desk = FolderDesk::new(&rt);
     let words: Vec<String> = env::args(&rt)?.collect(alloc)?;
-    if words.len() == 3 {
-        if let Ok(text) = desk.read(alloc, words[2].as_str(), MOST_BYTES) {
-            timed(&rt, words[0].as_str(), words[1].as_str(), &text)?;
-        }
+    if words.len() < 3 {
+        return Ok(());
+    }
+    let (Ok(one), Ok(two)) = (rule(alloc, words[1].as_str()), rule(alloc, words[2].as_str())) else {
+        return Ok(());
+    };
+    println!(&rt; "read")?;
+    if words.len() > 3 {
+        run(&rt, &[one, two], &words)?;
     }
     Ok(())
 }
@@ -93,6 +100,9 @@ fn main(rt: HostRuntime) -> io::Result<()> {
 MEGABYTES = 100
 TEXT_BYTES = 1 << 20
 SCAN_SECONDS = 0.02
+# the least of so many runs counts, and a run scans the text so often
+RUNS = 3
+SCANS = 10
 
 # two patterns, the most seconds for their automaton, and what the text that is scanned repeats; the two patterns of the first
 # row are one, so each set of the one is a set of the other too, and there are 16,384
@@ -104,20 +114,32 @@ ROWS = [
 ]
 
 
-def measured(path, folder, first, second, text):
-    """Seconds for the automaton and for the scan of the text, how many matches it has, and the greatest memory in MB."""
-    with open(os.path.join(folder, "text"), "wb") as file:
-        file.write(text)
+def ran(path, folder, words):
+    """What the program writes on these words, its processor seconds and its greatest memory in MB."""
     with open(os.path.join(folder, "told"), "w") as out:
-        child = subprocess.Popen([path, first, second, "text"], cwd=folder, stdout=out)
+        child = subprocess.Popen([path, *words], cwd=folder, stdout=out)
         _, _, used = os.wait4(child.pid, 0)
         child.returncode = 0
     with open(os.path.join(folder, "told")) as file:
-        words = file.read().split()
-    if len(words) != 3:
+        return file.read().split(), used.ru_utime + used.ru_stime, used.ru_maxrss / 1024
+
+
+def least(path, folder, words):
+    """The same, with the least seconds of some runs."""
+    runs = [ran(path, folder, words) for _ in range(RUNS)]
+    return runs[0][0], min(seconds for _, seconds, _ in runs), runs[0][2]
+
+
+def measured(path, folder, first, second, text):
+    """Seconds for the automaton and for one scan of the text, how many matches it has, and the greatest memory in MB."""
+    with open(os.path.join(folder, "text"), "wb") as file:
+        file.write(text)
+    _, read, _ = least(path, folder, [first, second])
+    told, made, used = least(path, folder, [first, second, "make"])
+    if told != ["read", "made"]:
         raise SystemExit(f"no automaton of {first} and {second}")
-    made, both, matches = int(words[0]) / 1e6, int(words[1]) / 1e6, int(words[2])
-    return made, both - made, matches, used.ru_maxrss / 1024
+    told, scanned, _ = least(path, folder, [first, second, "make"] + ["text"] * SCANS)
+    return max(made - read, 0), (scanned - made) / SCANS, told[2], used
 
 
 def main():
