@@ -1,0 +1,9 @@
+mod Ranking
+mod Lists
+mod Numbers
+mod Differing
+mod Stepping
+mod Meeting
+mod Reaching
+mod Winning
+mod LawProofs

@@ -2,3 +2,10 @@ pub mod Rank
 pub mod Order
 pub mod Lexeme
 pub mod Texts
+pub mod Bytes
+pub mod Steps
+pub mod Number
+pub mod Table
+pub mod Visits
+pub mod Kinds
+pub mod Laws

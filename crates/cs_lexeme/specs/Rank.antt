@@ -6,7 +6,7 @@ abbrev pub is_from : ℕ → ℕ → ℕ → Bool
 is_from first last byte = nat_le first byte && nat_le byte last
 
 -- The class of a byte: `a` to `z`, `0` to `9`, `A` to `Z`, the other visible bytes, space, newline, tab, and all others.
-unfoldable pub class_of : ℕ → ℕ
+abbrev pub class_of : ℕ → ℕ
 class_of byte =
     if is_from 97 122 byte then 0 else
     if is_from 48 57 byte then 1 else

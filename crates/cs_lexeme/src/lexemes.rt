@@ -1,8 +1,21 @@
 // The lexemes of tokens.
 
-ghost use Rattle.std.specs.Prelude.{◌≡◌, ◌<◌, ◌≤◌, length, option_map};
-ghost use Rattle.cs_lexeme.specs.Lexeme.{lexeme_in};
+ghost use Rattle.std.specs.Prelude.{◌≡◌, ◌+◌, ◌-◌, ◌<◌, ◌≤◌, ◌↔◌, ℕ, List, [], ◌∷◌, IfNone, IfOk, IfSome, IsTrue, None, Some, length, option_map, slice_set};
+ghost use Rattle.cs_automaton.specs.Machine.{StateOf};
+ghost use Rattle.cs_scan.specs.Compared.{HasKinds, HasLiterals, scanning};
+ghost use Rattle.cs_lexeme.specs.Kinds.{AreAllFound, AreEmpty, AreLeast, AreNamed, IsFirstPlace, IsFound, IsKindOf, IsLeast, IsOpen, IsOwn, IsReached, KeepsLeast, KeepsText, NamesNoOpen, first_visit, own_byte, token_kind};
+ghost use Rattle.cs_lexeme.specs.Lexeme.{AreLexemes, lexeme_in};
+ghost use Rattle.cs_lexeme.specs.Table.{IsTable};
+ghost use Rattle.cs_lexeme.specs.Texts.{text_of, texts_of};
+ghost use Rattle.cs_lexeme.specs.Visits.{AreVisits};
 
+use crate::order::is_before;
+use crate::search::{Origin, Visit, meet_all, text_at};
+use crate::steps::{StepTable, with_steps};
+use cs_automaton::State;
+use cs_pattern_tree::Kind;
+use cs_scan::Scanner;
+use std::alloc::{AllocError, Global};
 use std::marker::Model;
 
 /// The lexeme of each token, if it has one.
@@ -20,7 +33,222 @@ impl Model for Lexemes {
     ghost view = { λ l. texts_of l.texts.items };
 }
 
+/// The kind of the first rule that matches the texts of the state.
+fn kind_at(scanner: &Scanner<'_>, state: State) -> Option<Kind>
+    requires kinds { HasKinds scanner.now }
+    requires state { state < length scanner.now.automaton.now.sets }
+    requires reached { IsReached scanner.now.automaton.now state }
+    ensures { (x : List ℕ) → StateOf scanner.now.automaton.now state x → IsKindOf (scanning scanner.now) x result }
+{
+    let rule = scanner.automaton.first_rule(state)?;
+    Some(scanner.kinds[rule as usize - 1])
+}
+
+/// The token that the kind names, if it is one of those asked for and has no text yet.
+fn open_token(texts: &[Option<Vec<u8>>], kind: Option<Kind>) -> Option<u16>
+    ensures some { IfSome result (λ token. (kind ≡ Some (token_kind token)) × IsOpen (texts_of texts.now) token) }
+    ensures none { IfNone result (NamesNoOpen (texts_of texts.now) kind) }
+{
+    let Some(Kind::Token(token)) = kind else {
+        return None;
+    };
+    if token > 0 && token as usize <= texts.len() && texts[token as usize - 1].is_none() {
+        return Some(token);
+    }
+    None
+}
+
+/// Whether the kind gives its own byte.
+fn is_own(kind: Option<Kind>) -> bool
+    ensures { IsTrue result ↔ (kind ≡ Some own_byte) }
+{
+    match kind {
+        Some(Kind::OwnByte) => true,
+        _ => false,
+    }
+}
+
+/// The start alone, met by the empty text.
+fn start_visit(alloc: Global, start: State) -> Result<Vec<Visit>, AllocError>
+    ensures { IfOk result (λ visits. visits.items ≡ first_visit start ∷ []) }
+{
+    let mut visits = Vec::new(alloc);
+    visits.push(Visit {
+        state: start,
+        origin: None,
+    })?;
+    Ok(visits)
+}
+
+/// No text for each of the tokens.
+fn no_texts(alloc: Global, tokens: u16) -> Result<Vec<Option<Vec<u8>>>, AllocError>
+    ensures { IfOk result (λ texts. AreEmpty tokens (texts_of texts.items)) }
+{
+    let mut texts = Vec::new(alloc);
+    for _ in 0..tokens {
+        texts.push(None)?;
+    }
+    Ok(texts)
+}
+
+/// Puts the text of a token.
+fn put_text(texts: &mut Vec<Option<Vec<u8>>>, token: u16, text: Vec<u8>)
+    requires some { 0 < token }
+    requires within { token ≤ length (texts_of texts.old.items) }
+    ensures { texts_of texts.new.items ≡ slice_set (texts_of texts.old.items) (token - 1) (Some text.items) }
+{
+    texts[token as usize - 1] = Some(text);
+}
+
+/// Puts the text of each open token that the kind of a place names.
+fn put_named(
+    alloc: Global,
+    table: &StepTable<'_>,
+    visits: &[Visit],
+    texts: &mut Vec<Option<Vec<u8>>>,
+) -> Result<(), AllocError>
+    requires kinds { HasKinds table.now.scanner }
+    requires visits { AreVisits table.now.scanner.automaton.now visits.now }
+    requires some { 0 < length visits.now }
+    requires texts { AreEmpty (length (texts_of texts.old.items)) (texts_of texts.old.items) }
+    ensures { IfOk result (λ _. AreAllFound table.now.scanner visits.now (length visits.now) (texts_of texts.old.items) (texts_of texts.new.items)) }
+{
+    for place in 1..visits.len() {
+        let kind = kind_at(&table.scanner, visits[place].state);
+        if let Some(token) = open_token(texts, kind) {
+            let text = text_at(alloc, visits, place)?;
+            put_text(texts, token, text);
+        }
+    }
+    Ok(())
+}
+
+/// The least text of each token that a rule names as its kind.
+fn find_named(
+    alloc: Global,
+    table: &StepTable<'_>,
+    tokens: u16,
+) -> Result<Vec<Option<Vec<u8>>>, AllocError>
+    requires kinds { HasKinds table.now.scanner }
+    requires table { IsTable table.now }
+    ensures named { IfOk result (λ texts. AreNamed (scanning table.now.scanner) (texts_of texts.items)) }
+    ensures all { IfOk result (λ texts. length (texts_of texts.items) ≡ tokens) }
+{
+    let mut visits = start_visit(alloc, table.scanner.automaton.start())?;
+    meet_all(alloc, table, &mut visits, 0)?;
+    let mut texts = no_texts(alloc, tokens)?;
+    put_named(alloc, table, &visits, &mut texts)?;
+    Ok(texts)
+}
+
+/// The first place behind the start whose texts give their own byte.
+fn first_own(table: &StepTable<'_>, visits: &[Visit]) -> Option<usize>
+    requires kinds { HasKinds table.now.scanner }
+    requires visits { AreVisits table.now.scanner.automaton.now visits.now }
+    ensures { IsFirstPlace (scanning table.now.scanner) table.now.scanner.automaton.now visits.now (length visits.now) own_byte result }
+{
+    for place in 1..visits.len() {
+        if is_own(kind_at(&table.scanner, visits[place].state)) {
+            return Some(place);
+        }
+    }
+    None
+}
+
+/// The text of the first place behind the start whose texts give their own byte.
+fn first_text(
+    alloc: Global,
+    table: &StepTable<'_>,
+    visits: &[Visit],
+) -> Result<Option<Vec<u8>>, AllocError>
+    requires kinds { HasKinds table.now.scanner }
+    requires visits { AreVisits table.now.scanner.automaton.now visits.now }
+    ensures { IfOk result (λ text. IsFound (scanning table.now.scanner) table.now.scanner.automaton.now visits.now (length visits.now) own_byte (text_of text)) }
+{
+    match first_own(table, visits) {
+        Some(place) => Ok(Some(text_at(alloc, visits, place)?)),
+        None => Ok(None),
+    }
+}
+
+/// The least text that begins with the byte and gives its own byte's token.
+fn find_own(alloc: Global, table: &StepTable<'_>, byte: u8) -> Result<Option<Vec<u8>>, AllocError>
+    requires kinds { HasKinds table.now.scanner }
+    requires table { IsTable table.now }
+    ensures { IfOk result (λ text. IsLeast (IsOwn (scanning table.now.scanner) byte) (text_of text)) }
+{
+    let start = table.scanner.automaton.start();
+    let Some(to) = table.scanner.automaton.step(start, byte) else {
+        return Ok(None);
+    };
+    let mut visits = start_visit(alloc, start)?;
+    let origin = Some(Origin { place: 0, byte });
+    visits.push(Visit { state: to, origin })?;
+    meet_all(alloc, table, &mut visits, 1)?;
+    first_text(alloc, table, &visits)
+}
+
+/// Keeps the lesser text.
+fn keep_least(kept: &mut Option<Vec<u8>>, text: Vec<u8>)
+    ensures { KeepsLeast (text_of kept.old) text.items (text_of kept.new) }
+{
+    let lesser = match kept {
+        Some(known) => is_before(&text, known),
+        None => true,
+    };
+    if lesser {
+        *kept = Some(text);
+    }
+}
+
+/// Keeps the lesser text of a token.
+fn keep_text(texts: &mut Vec<Option<Vec<u8>>>, token: u16, text: Vec<u8>)
+    requires some { 0 < token }
+    requires within { token ≤ length (texts_of texts.old.items) }
+    ensures { KeepsText (texts_of texts.old.items) token text.items (texts_of texts.new.items) }
+{
+    keep_least(&mut texts[token as usize - 1], text);
+}
+
+/// Puts the least text that gives the byte's token as its own byte, where it is the lesser one.
+fn put_own(
+    alloc: Global,
+    table: &StepTable<'_>,
+    byte: u8,
+    texts: &mut Vec<Option<Vec<u8>>>,
+) -> Result<(), AllocError>
+    requires kinds { HasKinds table.now.scanner }
+    requires literals { HasLiterals table.now.scanner }
+    requires table { IsTable table.now }
+    requires least { AreLeast (scanning table.now.scanner) byte (texts_of texts.old.items) }
+    ensures least { IfOk result (λ _. AreLeast (scanning table.now.scanner) (byte + 1) (texts_of texts.new.items)) }
+    ensures all { IfOk result (λ _. length (texts_of texts.new.items) ≡ length (texts_of texts.old.items)) }
+{
+    let token = table.scanner.literals[byte as usize];
+    if token == 0 || token as usize > texts.len() {
+        return Ok(());
+    }
+    if let Some(text) = find_own(alloc, table, byte)? {
+        keep_text(texts, token, text);
+    }
+    Ok(())
+}
+
 impl Lexemes {
+    /// The lexemes of the tokens from 1 to so many.
+    pub fn new(alloc: Global, scanner: &Scanner<'_>, tokens: u16) -> Result<Lexemes, AllocError>
+        requires kinds { HasKinds scanner.now }
+        requires literals { HasLiterals scanner.now }
+        ensures { IfOk result (λ lexemes. AreLexemes (scanning scanner.now) tokens lexemes) }
+    {
+        let table = with_steps(alloc, scanner)?;
+        let mut texts = find_named(alloc, &table, tokens)?;
+        for byte in 0..256u16 {
+            put_own(alloc, &table, byte as u8, &mut texts)?;
+        }
+        Ok(Lexemes { texts })
+    }
+
     /// The lexeme of the token, which counts from 1. It takes no memory.
     pub fn get(&self, token: u16) -> Option<&[u8]>
         requires from_1 { 0 < token }

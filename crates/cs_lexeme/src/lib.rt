@@ -1,12 +1,21 @@
 //! The least text that a scanner takes for each token.
 //!
 //! The layers above make `Lexemes` of a scanner and ask it for the text of a token. It is seen as the list of its texts, one a
-//! token, and a token without a lexeme has none.
+//! token, and a token without a lexeme has none. The laws say that the order of texts is total, and that a token has at most one
+//! lexeme, and one where some text scans to it in one match.
 //!
 //! Meaning: `specs/Rank.antt` (the ranks of bytes), `specs/Order.antt` (the order of lexemes), `specs/Lexeme.antt` (the lexeme
-//! of a token, over all texts). Working words of proofs: `specs/Texts.antt`.
+//! of a token, over all texts), `specs/Laws.antt`. All else are working words of proofs: `Texts` (what is seen of lexemes),
+//! `Number` (the order by numbers), `Bytes`, `Steps` and `Table` (bytes and steps by rank), `Visits` (states that were met),
+//! `Kinds` (which texts give a token).
 #![tactic(auto)]
 
+mod laws;
 mod lexemes;
+mod order;
+mod rank;
+mod search;
+mod steps;
 
+pub use laws::{one_lexeme, some_lexeme, total_order};
 pub use lexemes::Lexemes;

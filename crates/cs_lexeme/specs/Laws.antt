@@ -1,0 +1,18 @@
+-- What the laws of lexemes say.
+use Rattle.std.specs.Prelude.{◌≡◌, ◌⊎◌, ℕ, List}
+use Rattle.cs_pattern_items.specs.StandsFor.{AreBytes}
+use Rattle.cs_scan.specs.Scan.{Scanning}
+use Rattle.cs_lexeme.specs.Order.{IsAtMost, IsBefore}
+use Rattle.cs_lexeme.specs.Lexeme.{IsLexeme, IsOneMatch}
+
+-- one of two texts of bytes is at most the other or comes behind it, and not both
+abbrev pub IsOrdered : List ℕ → List ℕ → Type 0
+IsOrdered x y = AreBytes x → AreBytes y → (IsAtMost x y ⊎ IsBefore y x) × (IsAtMost x y → IsBefore y x → ⊥)
+
+-- any two lexemes of a token are one
+abbrev pub AreOneLexeme : Scanning → ℕ → List ℕ → List ℕ → Type 0
+AreOneLexeme s token x y = IsLexeme s token x → IsLexeme s token y → x ≡ y
+
+-- where some text gives the token in one match, that no text is its lexeme cannot be
+abbrev pub HasLexemeIfAny : Scanning → ℕ → List ℕ → Type 0
+HasLexemeIfAny s token x = AreBytes x → IsOneMatch s token x → ((lexeme : List ℕ) → IsLexeme s token lexeme → ⊥) → ⊥
