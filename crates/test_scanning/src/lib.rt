@@ -8,6 +8,8 @@ mod graph;
 #[cfg(test)]
 mod items;
 #[cfg(test)]
+mod lexed;
+#[cfg(test)]
 mod patterns;
 #[cfg(test)]
 mod rules;
