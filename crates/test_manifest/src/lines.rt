@@ -1,0 +1,161 @@
+// The lines of a manifest: what is expected was written by hand from the page on formats.
+
+use cs_goals::Goal;
+use cs_grammar::{Derivation, Mark};
+use cs_io::{MemorySink, NullSink, Sink, SinkError};
+use cs_manifest::{Counts, Entry, Head, Manifest};
+use cs_mutate::Edit;
+use cs_positive::Verdict;
+use cs_render::Rendered;
+use cs_yacc::{YaccFile, read_yacc};
+use std::test::Fail;
+
+const FILE: &[u8] = b"%token A\n%%\ns : A '\\'' | ;\n";
+
+const LINES: &[u8] = b"conform 1 rules
+token 1 A
+token 2 '\\x27'
+rule 1 s : A '\\x27'
+rule 2 s :
+goal 1 rule 1 large
+goal 2 context 1 2 3 infeasible
+goal 3 pair <begin> <end> size 1
+  derive 2
+  tokens
+  text \"\"
+base 1 goal 3
+negative 1 base 1 delete 0 pair <begin> <end> at 0
+  tokens
+  text \" a\\x22\\x5c\\x00~\\x7f'\"
+negative 2 base 1 swap 7 pair <begin> <end> at 3
+  tokens
+  no text scan 4294967295
+end goals 3 feasible 1 infeasible 1 large 1 negatives 2
+";
+
+// What the entries tell.
+#[derive(Drop)]
+struct Told {
+    feasible: Verdict,
+    empty: Rendered,
+    text: Rendered,
+}
+
+fn write_lines<S: Sink>(sink: &mut S, file: &YaccFile, told: &Told) -> Result<Counts, SinkError> {
+    let head = Head {
+        yacc: file,
+        lexemes: None,
+    };
+    let mut manifest = Manifest::begin(sink, &head)?;
+    write_goals(&mut manifest, sink, told)?;
+    write_mutants(&mut manifest, sink, told)?;
+    manifest.finish(sink)
+}
+
+fn write_goals<S: Sink>(
+    manifest: &mut Manifest<'_>,
+    sink: &mut S,
+    told: &Told,
+) -> Result<(), SinkError> {
+    let rule = Entry::Goal {
+        number: 1,
+        goal: &Goal::Rule(1),
+        verdict: &Verdict::Large,
+        tokens: &[],
+        rendered: None,
+    };
+    manifest.entry(sink, &rule)?;
+    let context = Entry::Goal {
+        number: 2,
+        goal: &Goal::Context {
+            outer: 1,
+            place: 2,
+            inner: 3,
+        },
+        verdict: &Verdict::Infeasible,
+        tokens: &[],
+        rendered: None,
+    };
+    manifest.entry(sink, &context)?;
+    let pair = Entry::Goal {
+        number: 3,
+        goal: &Goal::Pair {
+            left: Mark::Begin,
+            right: Mark::End,
+        },
+        verdict: &told.feasible,
+        tokens: &[],
+        rendered: Some(&told.empty),
+    };
+    manifest.entry(sink, &pair)
+}
+
+fn write_mutants<S: Sink>(
+    manifest: &mut Manifest<'_>,
+    sink: &mut S,
+    told: &Told,
+) -> Result<(), SinkError> {
+    manifest.entry(sink, &Entry::Base { number: 1, goal: 3 })?;
+    let first = Entry::Negative {
+        number: 1,
+        base: 1,
+        edit: Edit::Delete(0),
+        left: Mark::Begin,
+        right: Mark::End,
+        at: 0,
+        tokens: &[],
+        rendered: &told.text,
+    };
+    manifest.entry(sink, &first)?;
+    let second = Entry::Negative {
+        number: 2,
+        base: 1,
+        edit: Edit::Swap(7),
+        left: Mark::Begin,
+        right: Mark::End,
+        at: 3,
+        tokens: &[],
+        rendered: &Rendered::Differs { after: u32::MAX },
+    };
+    manifest.entry(sink, &second)
+}
+
+fn worked_values(alloc: std::alloc::Global) -> Result<Told, std::alloc::AllocError> {
+    let mut derivation = Derivation::new(alloc);
+    derivation.push(2)?;
+    Ok(Told {
+        feasible: Verdict::Feasible {
+            size: 1,
+            derivation,
+        },
+        empty: Rendered::Text(Vec::new(alloc)),
+        text: Rendered::Text(b" a\"\\\x00~\x7f'".to_vec(alloc)?),
+    })
+}
+
+#[test]
+fn lines_stand_as_the_format_says(rt: HostRuntime) -> Result<(), Fail> {
+    let alloc = rt.alloc();
+    let file = read_yacc(alloc, FILE)?;
+    let told = worked_values(alloc)?;
+    let mut sink = MemorySink::new(alloc, LINES.len(), 7, Vec::new(alloc))?;
+    let counts = write_lines(&mut sink, &file, &told)?;
+    assert_eq!(rt; sink.written(), LINES);
+    assert_eq!(rt; counts.bytes, LINES.len() as u128);
+    assert_eq!(rt; write_lines(&mut NullSink::new(), &file, &told)?, counts);
+    Ok(())
+}
+
+#[test]
+fn the_output_is_full_at_each_byte(rt: HostRuntime) -> Result<(), Fail> {
+    let alloc = rt.alloc();
+    let file = read_yacc(alloc, FILE)?;
+    let told = worked_values(alloc)?;
+    for capacity in 0..LINES.len() {
+        let mut sink = MemorySink::new(alloc, capacity, 3, Vec::new(alloc))?;
+        let answer = write_lines(&mut sink, &file, &told);
+        assert_eq!(rt; answer, Err(SinkError::Failed));
+        assert_eq!(rt; sink.written(), &LINES[..capacity]);
+    }
+    Ok(())
+}
