@@ -1,2 +1,3 @@
 pub mod Rendering
 pub mod Joined
+pub mod Parts

@@ -1,5 +1,5 @@
 -- The rendering of a list of tokens: the text that the rule makes of it where that text scans back, else why it has none.
-use Rattle.std.specs.Prelude.{◌≡◌, ℕ, List, ◌++◌, ◌∷◌, All, Option, Some, None}
+use Rattle.std.specs.Prelude.{◌≡◌, ℕ, ◌<◌, ◌≤◌, length, List, ◌++◌, ◌∷◌, All, Option, Some, None}
 use Rattle.std.specs.List.{AllZip}
 use Rattle.cs_scan.specs.Scan.{Scanning, Scans}
 use Rattle.cs_scan.specs.Compared.{IsInCommon}
@@ -19,6 +19,10 @@ abbrev pub rendering : Rendered → Rendering
 rendering (answers.Text text) = Text text.items
 rendering (answers.NoLexeme token) = NoLexeme token
 rendering (answers.Differs after) = Differs after
+
+-- each token is one of those that have an entry in the list
+abbrev pub AreTokens : List (Option (List ℕ)) → List ℕ → Type 0
+AreTokens lexemes tokens = All (λ token. (0 < token) × (token ≤ length lexemes)) tokens
 
 -- the token has a lexeme in the list
 abbrev pub HasLexeme : List (Option (List ℕ)) → ℕ → Type 0
