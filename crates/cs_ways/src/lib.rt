@@ -4,9 +4,9 @@
 //! The layer above makes `Steps` once, and then asks for `least_ways` from any list of sources, under any limit. A way is a
 //! source and a chain of steps; of the least ways to a node the one whose source stands first in the list is taken, so a
 //! source carries a choice along. By `first_steps` the layer above learns the first of the steps by which a least way
-//! reaches each node.
+//! reaches each node. `turned` gives the steps in the other direction.
 //!
-//! `specs/Ways` says what is meant. The other files of `specs/` have working words of proofs.
+//! `specs/Ways` and `specs/Turned` say what is meant. The other files of `specs/` have working words of proofs.
 #![tactic(auto)]
 
 mod candidate;
@@ -20,4 +20,4 @@ pub use firsts::first_steps;
 pub use reach::Reach;
 pub use search::least_ways;
 pub use step::{Source, Step};
-pub use steps::Steps;
+pub use steps::{Steps, turned};
