@@ -1,5 +1,5 @@
 -- Trees of empty yield are trees of the grammar of empty yields, and the least trees of that grammar are of empty yield.
-use Rattle.std.proofs.Common.{◌≡◌, ℕ, zero, suc, ◌+◌, ◌-◌, ◌<◌, ◌≤◌, Bool, true, false, cond, List, [], ◌∷◌, ◌++◌, Some, None, length, map, get_or, refl, sym, ap, ◌∙◌, subst, ⊎_elim, inl, inr, ◌⊎◌, arith}
+use Rattle.std.proofs.Common.{◌≡◌, ℕ, zero, suc, ◌-◌, ◌≤◌, Bool, true, false, cond, List, [], ◌∷◌, ◌++◌, Some, length, map, refl, sym, ap, ◌∙◌, subst, ⊎_elim, inl, inr, ◌⊎◌, arith}
 use Rattle.std.specs.Prelude.{slice_get, All}
 use Rattle.std.proofs.lemmas.List.Elements.{All-nil, All-cons, All-head, All-tail}
 use Rattle.cs_grammar.specs.declared.symbol.Symbol.{Symbol}
@@ -11,7 +11,6 @@ use Rattle.cs_cost.specs.declared.cost.Cost.{Cost}
 use Rattle.cs_cost.specs.Least.{IsCost}
 use Rattle.cs_cost.specs.Rank.{entry}
 use Rattle.cs_cost.proofs.Ranks.{IsCost-same}
-use Rattle.cs_kinds.specs.declared.kind.TreeKind.{TreeKind}
 use Rattle.cs_kinds.specs.declared.kind.TreeKind.TheVariants.{Any, Empty}
 use Rattle.cs_kinds.specs.Kinds.{IsTreeOfKind, AreTreesOfKind}
 use Rattle.cs_kinds.specs.Bare.{has_token, bare_right, bare_rule, bare_grammar}

@@ -1,13 +1,13 @@
 -- What the rows of all kinds say is what the least trees cost.
-use Rattle.std.proofs.Common.{◌≡◌, ℕ, ◌+◌, ◌-◌, ◌≤◌, List, [], ◌∷◌, ◌++◌, get_or, refl, ap, sym, ◌∙◌, subst, ⊎_elim, inl, inr, arith}
+use Rattle.std.proofs.Common.{◌≡◌, ℕ, ◌+◌, ◌-◌, ◌≤◌, List, [], ◌∷◌, ◌++◌, get_or, ap, sym, ◌∙◌, subst, arith}
 use Rattle.cs_grammar.specs.declared.symbol.Symbol.{Symbol}
 use Rattle.cs_grammar.specs.declared.symbol.Symbol.TheVariants.{Token, Nonterminal}
-use Rattle.cs_grammar.specs.Grammar.{Production, PlainGrammar, IsRule, IsNumberOf, IsSymbol, IsGrammar}
+use Rattle.cs_grammar.specs.Grammar.{PlainGrammar, IsNumberOf, IsSymbol, IsGrammar}
 use Rattle.cs_grammar.specs.Weights.{Measure, Weighed}
 use Rattle.cs_grammar.specs.Tree.{Tree, Leaf, Node, IsTree, AreTrees, size, sizes}
 use Rattle.cs_cost.specs.declared.cost.Cost.{Cost}
 use Rattle.cs_cost.specs.Least.{IsCost}
-use Rattle.cs_cost.specs.Rank.{capped, rank, plus, cost_of, entry}
+use Rattle.cs_cost.specs.Rank.{capped, rank, entry}
 use Rattle.cs_cost.proofs.Ranks.{IsCost-from, IsCost-same, cost_low}
 use Rattle.cs_cost.proofs.Tables.{exact_entry}
 use Rattle.cs_cost.proofs.Rules.{well_formed_at}

@@ -15,3 +15,5 @@ pub mod Rimming
 pub mod Reaching
 pub mod RimLists
 pub mod Baring
+pub mod LeftLists
+pub mod Ending

@@ -1,20 +1,18 @@
 -- What lists of trees of a kind cost: no list costs less than is said, and one costs no more.
-use Rattle.std.proofs.Common.{◌≡◌, ℕ, ◌+◌, ◌≤◌, ◌⊎◌, List, [], ◌∷◌, refl, ap, sym, subst, ⊎_elim, inl, inr, arith}
+use Rattle.std.proofs.Common.{◌≡◌, ℕ, ◌+◌, ◌≤◌, ◌⊎◌, [], ◌∷◌, refl, ap, sym, subst, ⊎_elim, arith}
 use Rattle.std.proofs.lemmas.Bool.Decides.{nat_tests}
-use Rattle.cs_grammar.specs.declared.symbol.Symbol.{Symbol}
-use Rattle.cs_grammar.specs.declared.symbol.Symbol.TheVariants.{Token, Nonterminal}
-use Rattle.cs_grammar.specs.Grammar.{Production, PlainGrammar, IsRule}
+use Rattle.cs_grammar.specs.declared.symbol.Symbol.TheVariants.{Token}
+use Rattle.cs_grammar.specs.Grammar.{PlainGrammar}
 use Rattle.cs_grammar.specs.Weights.{Measure, number}
-use Rattle.cs_grammar.specs.Tree.{Tree, Leaf, Node, Forest, Bare, Grown, IsTree, AreTrees, size, sizes, yield, yields}
+use Rattle.cs_grammar.specs.Tree.{Tree, Leaf, Bare, size}
 use Rattle.cs_cost.specs.declared.cost.Cost.{Cost}
 use Rattle.cs_cost.specs.Least.{IsCost}
-use Rattle.cs_cost.specs.Rank.{capped, rank, IsCapped, plus, cost_of}
-use Rattle.cs_cost.proofs.Ranks.{rank-cost_of, IsCapped-cost_of, plus_at_most, plus_reached, IsCapped-plus, IsCost-from, cost_low, cost_reached, cost_capped}
+use Rattle.cs_cost.specs.Rank.{capped, rank, IsCapped}
+use Rattle.cs_cost.proofs.Ranks.{rank-cost_of, IsCapped-cost_of, IsCost-from, cost_low, cost_reached, cost_capped}
 use Rattle.cs_kinds.specs.declared.kind.TreeKind.{TreeKind}
 use Rattle.cs_kinds.specs.declared.kind.TreeKind.TheVariants.{Any, Empty, Begins, Ends}
 use Rattle.cs_kinds.specs.Kinds.{IsOfKind, IsTreeOfKind, AreTreesOfKind, before, behind, IsPart, IsKind}
 use Rattle.cs_kinds.specs.ListCost.{lesser, leaf_cost, bare_cost}
-use Rattle.cs_kinds.proofs.Joined.{joined_cases, joined_here, joined_later}
 
 -- the parts of a kind
 pub IsKind-before : (tokens : ℕ) (k : TreeKind) → IsKind tokens k → IsKind tokens (before k)

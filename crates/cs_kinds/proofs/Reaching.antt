@@ -1,12 +1,11 @@
 -- What the least ways of rims cost, the least trees cost.
-use Rattle.std.proofs.Common.{◌≡◌, ℕ, suc, ◌+◌, ◌<◌, ◌≤◌, List, [], ◌∷◌, length, get_or, refl, sym, ap, ◌∙◌, subst, arith}
+use Rattle.std.proofs.Common.{◌≡◌, ℕ, suc, ◌+◌, ◌<◌, ◌≤◌, List, [], ◌∷◌, length, get_or, refl, sym, subst, arith}
 use Rattle.std.proofs.lemmas.List.{get_or_default}
 use Rattle.cs_grammar.specs.declared.symbol.Symbol.{Symbol}
 use Rattle.cs_grammar.specs.declared.symbol.Symbol.TheVariants.{Nonterminal}
 use Rattle.cs_grammar.specs.Grammar.{PlainGrammar, IsNumberOf, IsSymbolOf, IsGrammar}
 use Rattle.cs_grammar.specs.Weights.{Measure, number}
-use Rattle.cs_grammar.specs.Tree.{Tree, size}
-use Rattle.cs_cost.specs.declared.cost.Cost.{Cost}
+use Rattle.cs_grammar.specs.Tree.{size}
 use Rattle.cs_cost.specs.Least.{IsCost}
 use Rattle.cs_cost.specs.Rank.{capped, rank, IsCapped}
 use Rattle.cs_cost.proofs.Ranks.{IsCost-from}

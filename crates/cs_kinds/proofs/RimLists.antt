@@ -1,5 +1,5 @@
 -- The lists of rims, one step and one rule after another, and what stands beside a symbol.
-use Rattle.std.proofs.Common.{◌≡◌, ℕ, zero, suc, ◌+◌, ◌-◌, ◌<◌, ◌≤◌, ◌⊎◌, List, [], ◌∷◌, ◌++◌, Some, length, get_or, take, drop, refl, sym, ap, ◌∙◌, subst, ⊎_elim, inl, inr, arith}
+use Rattle.std.proofs.Common.{◌≡◌, ℕ, zero, suc, ◌+◌, ◌<◌, ◌≤◌, ◌⊎◌, List, [], ◌∷◌, ◌++◌, Some, length, get_or, take, drop, sym, ap, ◌∙◌, subst, ⊎_elim, inl, inr, arith}
 use Rattle.std.specs.Prelude.{slice_get, All}
 use Rattle.std.proofs.lemmas.Bool.{cases_lt}
 use Rattle.std.proofs.lemmas.List.{length-append, length-take-le}
@@ -8,18 +8,17 @@ use Rattle.cs_grammar.specs.declared.symbol.Symbol.{Symbol}
 use Rattle.cs_grammar.specs.declared.symbol.Symbol.TheVariants.{Token, Nonterminal}
 use Rattle.cs_grammar.specs.Grammar.{Production, PlainGrammar, IsRule, IsSymbolOf, IsGrammar}
 use Rattle.cs_grammar.specs.Weights.{Measure}
-use Rattle.cs_grammar.specs.Tree.{Forest, AreTrees, sizes}
+use Rattle.cs_grammar.specs.Tree.{Forest, sizes}
 use Rattle.cs_grammar.proofs.OneTree.{one_rule}
 use Rattle.cs_cost.specs.declared.cost.Cost.{Cost}
 use Rattle.cs_cost.specs.declared.cost.Cost.TheVariants.{Never}
 use Rattle.cs_cost.specs.Least.{IsCost}
-use Rattle.cs_cost.specs.Rank.{rank, cost_of, plus}
+use Rattle.cs_cost.specs.Rank.{cost_of, plus}
 use Rattle.cs_cost.proofs.Ranks.{IsCost-plus, IsCost-same, IsCost-more}
 use Rattle.cs_embed.specs.Embeds.{siblings_size, IsEarlier}
 use Rattle.cs_embed.proofs.Steps.{one_split, split_at, get_cases, get_new, get_kept}
 use Rattle.cs_ways.specs.declared.step.Step.{Step}
 use Rattle.cs_ways.specs.Ways.{IsNode}
-use Rattle.cs_kinds.specs.declared.kind.TreeKind.TheVariants.{Any}
 use Rattle.cs_kinds.specs.declared.side.Side.{Side}
 use Rattle.cs_kinds.specs.declared.rims.Place.{Place}
 use Rattle.cs_kinds.specs.Kinds.{AreTreesOfKind}

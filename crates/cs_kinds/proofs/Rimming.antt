@@ -1,5 +1,5 @@
 -- A tree with a token at a side of its yield, and the way of its rim: from the token's leaf to the root.
-use Rattle.std.proofs.Common.{◌≡◌, ℕ, zero, suc, ◌+◌, ◌-◌, ◌<◌, ◌≤◌, List, [], ◌∷◌, ◌++◌, ◌⊎◌, Some, length, get_or, refl, sym, ap, ◌∙◌, subst, ⊎_elim, inl, inr, arith, append_assoc, append-nil}
+use Rattle.std.proofs.Common.{◌≡◌, ℕ, zero, suc, ◌+◌, ◌-◌, ◌<◌, ◌≤◌, List, [], ◌∷◌, ◌++◌, ◌⊎◌, Some, length, get_or, refl, sym, ap, ◌∙◌, subst, ⊎_elim, inl, arith, append_assoc, append-nil}
 use Rattle.std.specs.Prelude.{slice_get, Contains}
 use Rattle.std.proofs.lemmas.Option.{slice_get_within, slice_get_read, slice_get-get_or, get_or_from_slice_get}
 use Rattle.cs_grammar.specs.declared.symbol.Symbol.{Symbol}
@@ -10,7 +10,7 @@ use Rattle.cs_grammar.specs.Tree.{Tree, Leaf, Node, Forest, Bare, Grown, IsTree,
 use Rattle.cs_grammar.specs.Context.{join}
 use Rattle.cs_grammar.proofs.OneTree.{one_rule}
 use Rattle.cs_grammar.proofs.Forests.{AreTrees-join, sizes-join, yields-join}
-use Rattle.cs_cost.specs.Rank.{capped, rank}
+use Rattle.cs_cost.specs.Rank.{capped}
 use Rattle.cs_cost.proofs.Ranks.{cost_low, cost_reached}
 use Rattle.cs_embed.specs.Embeds.{siblings_size}
 use Rattle.cs_embed.proofs.Steps.{one_split}

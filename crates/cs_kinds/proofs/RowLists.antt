@@ -6,12 +6,12 @@ use Rattle.cs_grammar.specs.Grammar.{IsNumberOf}
 use Rattle.cs_cost.specs.declared.cost.Cost.{Cost}
 use Rattle.cs_kinds.specs.Tables.{row_in}
 
-get_before : {A : Type 0} (rows : List A) (row : A) (i : ℕ) (d : A) → i < length rows → get_or (rows ++ row ∷ []) i d ≡ get_or rows i d
+pub get_before : {A : Type 0} (rows : List A) (row : A) (i : ℕ) (d : A) → i < length rows → get_or (rows ++ row ∷ []) i d ≡ get_or rows i d
 get_before [] row i d h = absurd (omega arith)
 get_before (r ∷ rows) row zero d h = refl
 get_before (r ∷ rows) row (suc i) d h = get_before rows row i d (omega arith)
 
-get_last : {A : Type 0} (rows : List A) (row d : A) → get_or (rows ++ row ∷ []) (length rows) d ≡ row
+pub get_last : {A : Type 0} (rows : List A) (row d : A) → get_or (rows ++ row ∷ []) (length rows) d ≡ row
 get_last [] row d = refl
 get_last (r ∷ rows) row d = get_last rows row d
 

@@ -1,5 +1,5 @@
 -- What the contracts of parts say, of a grammar and its weights. They are the other modules' facts, with what the parts hold.
-use Rattle.std.specs.Prelude.{◌≡◌, ℕ, ◌-◌, ◌<◌, ◌≤◌, List, ◌∷◌, ◌++◌, slice_set, reverse}
+use Rattle.std.specs.Prelude.{◌≡◌, ℕ, ◌≤◌, List, ◌∷◌, ◌++◌, reverse}
 use Rattle.std.specs.Global.{Vec}
 use Rattle.cs_grammar.specs.declared.symbol.Symbol.{Symbol}
 use Rattle.cs_grammar.specs.declared.symbol.Symbol.TheVariants.{Nonterminal}
@@ -7,7 +7,6 @@ use Rattle.cs_grammar.specs.Weights.{Weighed}
 use Rattle.cs_grammar.specs.Tree.{Forest, sizes, codes_of}
 use Rattle.cs_cost.specs.declared.cost.Cost.{Cost}
 use Rattle.cs_cost.specs.Least.{IsCost}
-use Rattle.cs_cost.specs.Rank.{rank, entry}
 use Rattle.cs_kinds.specs.declared.kind.TreeKind.{TreeKind}
 use Rattle.cs_kinds.specs.declared.sweep.Sweep.{Sweep}
 use Rattle.cs_kinds.specs.declared.sweep.Ways.{Ways}
@@ -16,13 +15,6 @@ use Rattle.cs_kinds.specs.Kinds.{AreTreesOfKind}
 use Rattle.cs_kinds.specs.Sweep.{IsSwept, AreWays, node_size}
 use Rattle.cs_kinds.specs.ChosenKind.{AreChosenOfKind, AppendsOfKind}
 use Rattle.cs_kinds.specs.Parts.{parts_from, AreChosenParts, TakesOn}
-
--- a cost lower than the table's is written at its number, and any other leaves the table as it was
-abbrev pub IsLowered : ℕ → ℕ → Cost → List Cost → List Cost → Type 0
-IsLowered limit n cost old new = (new ≡ slice_set old (n - 1) cost) × (rank limit cost < rank limit (entry old n))
-
-abbrev pub IsUnlowered : ℕ → ℕ → Cost → List Cost → List Cost → Type 0
-IsUnlowered limit n cost old new = (new ≡ old) × (rank limit (entry old n) ≤ rank limit cost)
 
 -- the sweep of any symbols goes on by this one
 abbrev pub AreWaysOver : Weighed → Sweep → Symbol → Ways → Type 0

@@ -11,6 +11,7 @@ pub mod ListCost
 pub mod Filled
 pub mod Tables
 pub mod RowsOf
+pub mod Lefts
 pub mod Sweep
 pub mod ChosenKind
 pub mod Parts

@@ -1,9 +1,13 @@
 -- The steps of one side as a net of ways, and the rows that come from it.
-use Rattle.std.specs.Prelude.{◌≡◌, ℕ, ◌+◌, List}
+use Rattle.std.specs.Prelude.{◌≡◌, ◌+◌, List}
 use Rattle.cs_grammar.specs.Weights.{Weighed}
 use Rattle.cs_cost.specs.declared.cost.Cost.{Cost}
+use Rattle.cs_ways.specs.Ways as ways
+use Rattle.cs_ways.specs.Turned.{turned}
 use Rattle.cs_kinds.specs.declared.nets.Net.{Net}
+use Rattle.cs_kinds.specs.declared.rims.Place.{Place}
 use Rattle.cs_kinds.specs.declared.side.Side.{Side}
+use Rattle.cs_kinds.specs.declared.side.Side.TheVariants.{Last}
 use Rattle.cs_kinds.specs.Sides.{kind_on}
 use Rattle.cs_kinds.specs.Rims.{AreRims}
 use Rattle.cs_kinds.specs.Tables.{AreCostRows}
@@ -16,3 +20,11 @@ pub record IsNetOf (v : Weighed) (net : Net) : Type 0 where
 -- a row for each token that may stand at the side
 abbrev pub AreRowsOn : Weighed → Side → List (List Cost) → Type 0
 AreRowsOn v side rows = AreCostRows v.weights v.grammar (kind_on side) v.grammar.tokens rows
+
+-- the steps to the last token of a yield, turned round: from the nodes inwards
+pub record AreStepsToEnds (v : Weighed) (inwards : ways.Net) : Type 0 where
+  pub places : List Place
+  pub ends : ways.Net
+  pub nodes : ends.nodes ≡ v.grammar.tokens + v.grammar.nonterminals
+  pub rims : AreRims v.weights v.grammar Last places ends.steps
+  pub is_turned : inwards ≡ turned ends

@@ -1,6 +1,5 @@
 -- Parts of a code that is still to be written: kinds and symbols whose chosen trees follow.
 use Rattle.std.specs.Prelude.{◌≡◌, ℕ, ◌+◌, ◌<◌, ◌≤◌, List, [], ◌∷◌, ◌++◌, reverse, All, nat_lt, nat_eq, if◌then◌else◌}
-use Rattle.cs_grammar.specs.declared.TheConstants.{LIMIT}
 use Rattle.cs_grammar.specs.declared.symbol.Symbol.{Symbol}
 use Rattle.cs_grammar.specs.declared.symbol.Symbol.TheVariants.{Nonterminal}
 use Rattle.cs_grammar.specs.Grammar.{Production, PlainGrammar, IsRule, IsSymbol}

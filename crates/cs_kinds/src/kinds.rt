@@ -1,7 +1,6 @@
 // What the least trees of each kind and symbol cost.
 
-ghost use Rattle.std.specs.Prelude.{◌≡◌, ◌-◌, ◌<◌, ◌≤◌, ◌↔◌, IsTrue, IfOk, length, All};
-ghost use Rattle.std.specs.Bool.{OnTrue, OnFalse};
+ghost use Rattle.std.specs.Prelude.{◌≡◌, ◌≤◌, ◌↔◌, IsTrue, IfOk};
 ghost use Rattle.cs_grammar.specs.Grammar.{IsNumberOf, IsSymbolOf};
 ghost use Rattle.cs_grammar.specs.Weights.{Weighs, weighed};
 ghost use Rattle.cs_grammar.specs.Tree.{size};
@@ -11,26 +10,30 @@ ghost use Rattle.cs_kinds.specs.Kinds.{IsKind};
 ghost use Rattle.cs_kinds.specs.RowsOf.{AreTablesOf};
 ghost use Rattle.cs_kinds.specs.Tables.{AreCosts};
 ghost use Rattle.cs_kinds.specs.KindCost.{IsKindCost};
-ghost use Rattle.cs_kinds.specs.Clauses.{IsLowered, IsUnlowered};
+ghost use Rattle.cs_kinds.specs.Lefts.{AreLefts, AreRulesWith};
+ghost use Rattle.cs_kinds.specs.Nets.{AreStepsToEnds};
 
 use crate::empties::empty_row;
 use crate::kind::TreeKind;
+use crate::lefts::lefts_of;
 use crate::nets::{net_of, token_rows};
 use crate::rims::Bases;
 use crate::row::Row;
-use crate::rows::{at_most, leaf_cost, lesser, put_lower};
+use crate::rows::{at_most, leaf_cost, lesser};
 use crate::side::Side;
 use cs_cost::{Cost, Costs, cost_of, plus};
-use cs_grammar::{Grammar, Symbol, Weights};
+use cs_grammar::{Grammar, Symbol, Weights, place_of};
+use cs_ways::{Steps, turned};
 use std::alloc::{AllocError, Global};
 use std::marker::Model;
 
-/// What the least trees of each kind and symbol of a grammar cost, by some weights.
+/// What the least trees of each kind and symbol of a grammar cost, by some weights, and the rules of each nonterminal.
 #[derive(Debug, Drop)]
 pub struct Kinds<'g> {
     grammar: &'g Grammar,
     weights: &'g Weights,
     rows: Rows,
+    lefts: Vec<Vec<u16>>,
 }
 
 // What they cost of any trees, of those of empty yield, and of those that begin or end with each token.
@@ -45,12 +48,13 @@ struct Rows {
 impl<'g> Model for Kinds<'g> {
     ghost use Rattle.cs_grammar.specs.Weights.{Weighed};
     ghost use Rattle.cs_kinds.specs.RowsOf.{AreTablesOf};
+    ghost use Rattle.cs_kinds.specs.Lefts.{AreLefts};
 
     ghost Value = { Weighed };
 
     ghost view = { λ k. record { grammar = k.grammar.now; weights = k.weights.now } };
 
-    ghost invariant = { λ k. AreTablesOf k.weights.now k.grammar.now k.rows };
+    ghost invariant = { λ k. AreTablesOf k.weights.now k.grammar.now k.rows × AreLefts k.grammar.now k.lefts.items };
 }
 
 impl<'g> Kinds<'g> {
@@ -72,7 +76,9 @@ impl<'g> Kinds<'g> {
             begins,
             ends,
         };
-        Ok(kinds_of(costs.grammar(), costs.weights(), rows))
+        let grammar = costs.grammar();
+        let lefts = lefts_of(alloc, grammar)?;
+        Ok(kinds_of(grammar, costs.weights(), rows, lefts))
     }
 
     /// The grammar that these are the kinds of trees of.
@@ -82,8 +88,8 @@ impl<'g> Kinds<'g> {
         self.grammar
     }
 
-    /// The lower of two costs, the first where they are as low. Both are capped by the limit of the weights.
-    pub fn lesser(&self, a: Cost, b: Cost) -> Cost
+    // The lower of two costs, the first where they are as low. Both are capped by the limit of the weights.
+    pub(crate) fn lesser(&self, a: Cost, b: Cost) -> Cost
         requires a { IsCapped self.now.weights.limit a }
         requires b { IsCapped self.now.weights.limit b }
         ensures cost { result ≡ lesser self.now.weights.limit a b }
@@ -92,19 +98,8 @@ impl<'g> Kinds<'g> {
         lesser(self.weights, a, b)
     }
 
-    /// Writes a number's cost where it is below the table's, and says whether it was. Numbers count from 1.
-    pub fn lower(&self, table: &mut [Cost], number: u16, cost: Cost) -> bool
-        requires number { IsNumberOf (length table.old) number }
-        requires table { All (IsCapped self.now.weights.limit) table.old }
-        requires cost { IsCapped self.now.weights.limit cost }
-        ensures lowered { OnTrue result (IsLowered self.now.weights.limit number cost table.old table.new) }
-        ensures kept { OnFalse result (IsUnlowered self.now.weights.limit number cost table.old table.new) }
-    {
-        put_lower(self.weights, table, number, cost)
-    }
-
-    /// Whether a cost is no higher than another.
-    pub fn at_most(&self, a: Cost, b: Cost) -> bool
+    // Whether a cost is no higher than another.
+    pub(crate) fn at_most(&self, a: Cost, b: Cost) -> bool
         requires a { IsCapped self.now.weights.limit a }
         requires b { IsCapped self.now.weights.limit b }
         ensures { IsTrue result ↔ (rank self.now.weights.limit a ≤ rank self.now.weights.limit b) }
@@ -119,6 +114,37 @@ impl<'g> Kinds<'g> {
         ensures { result ≡ plus self.now.weights.limit a b }
     {
         plus(a, b, self.weights.limit())
+    }
+
+    // The numbers of the rules of a nonterminal, in ascending order.
+    pub(crate) fn rules_with(&self, left: u16) -> &[u16]
+        requires { IsNumberOf self.now.grammar.nonterminals left }
+        ensures { AreRulesWith self.now.grammar left result.now }
+    {
+        &self.lefts[place_of(left)]
+    }
+
+    /// The weights by which trees are measured here.
+    pub fn weights(&self) -> &'g Weights
+        ensures weights { result.now ≡ self.now.weights }
+        ensures weighs { Weighs self.now.weights self.now.grammar }
+    {
+        self.weights
+    }
+
+    /// The steps inwards from each node of a tree that ends with a token to its child that does so too, between all symbols of
+    /// the grammar: a step leads from a rule's left side to a symbol of its right side behind which all can be empty, and costs
+    /// the node and the least trees beside the child.
+    pub fn steps_to_ends(&self, alloc: Global, costs: &Costs) -> Result<Steps, AllocError>
+        requires { costs.now ≡ self.now }
+        ensures { IfOk result (AreStepsToEnds self.now) }
+    {
+        let bases = Bases {
+            costs,
+            empty: self.row(TreeKind::Empty),
+        };
+        let net = net_of(alloc, &bases, Side::Last)?;
+        turned(alloc, &net.steps)
     }
 
     // What a node alone costs.
@@ -163,14 +189,21 @@ impl<'g> Kinds<'g> {
     }
 }
 
-fn kinds_of<'g>(grammar: &'g Grammar, weights: &'g Weights, rows: Rows) -> Kinds<'g>
-    requires { AreTablesOf weights.now grammar.now rows }
+fn kinds_of<'g>(
+    grammar: &'g Grammar,
+    weights: &'g Weights,
+    rows: Rows,
+    lefts: Vec<Vec<u16>>,
+) -> Kinds<'g>
+    requires rows { AreTablesOf weights.now grammar.now rows }
+    requires lefts { AreLefts grammar.now lefts.items }
     ensures { result ≡ weighed grammar.now weights.now }
 {
     Kinds {
         grammar,
         weights,
         rows,
+        lefts,
     }
 }
 

@@ -38,8 +38,8 @@ pub(crate) fn net_of(alloc: Global, bases: &Bases, side: Side) -> Result<Net, Al
     })
 }
 
-// What is told of a node, as a cost.
-pub(crate) fn reach_cost(reach: Reach) -> Cost
+/// What is told of a node, as a cost.
+pub fn reach_cost(reach: Reach) -> Cost
     ensures { result ≡ told_cost reach }
 {
     match reach {

@@ -11,7 +11,7 @@ ghost use Rattle.cs_kinds.specs.RimsOf.{AreBases, IsBesideCostOf, IsStepCost, Ar
 use crate::kind::TreeKind;
 use crate::side::Side;
 use cs_cost::{Cost, Costs, cost_of, plus};
-use cs_grammar::{Symbol, number_of, place_of};
+use cs_grammar::{Symbol, Weights, number_of, place_of};
 use cs_ways::Step;
 use std::alloc::{AllocError, Global};
 
@@ -36,8 +36,8 @@ pub(crate) struct Rims {
     pub(crate) steps: Vec<Step>,
 }
 
-// Costs together, by the limit of the weights.
-pub(crate) fn joint_cost(costs: &Costs, a: Cost, b: Cost) -> Cost
+/// Costs together, by the limit of the weights.
+pub fn joint_cost(costs: &Costs, a: Cost, b: Cost) -> Cost
     requires a { IsCapped costs.now.weights.limit a }
     requires b { IsCapped costs.now.weights.limit b }
     ensures cost { result ≡ plus costs.now.weights.limit a b }
@@ -46,8 +46,8 @@ pub(crate) fn joint_cost(costs: &Costs, a: Cost, b: Cost) -> Cost
     plus(a, b, costs.weights().limit())
 }
 
-// What a node alone costs.
-pub(crate) fn one_node(costs: &Costs) -> Cost
+/// What a node alone costs.
+pub fn one_node(costs: &Costs) -> Cost
     ensures cost { result ≡ cost_of costs.now.weights.limit 1 }
     ensures capped { IsCapped costs.now.weights.limit result }
 {
@@ -129,20 +129,20 @@ fn beside_cost(bases: &Bases, side: Side, before: &[Symbol], behind: &[Symbol]) 
     )
 }
 
-// A cost as that of a step, if there is one.
-pub(crate) fn step_cost(costs: &Costs, cost: Cost) -> Option<u32>
-    requires { IsCapped costs.now.weights.limit cost }
-    ensures { IsStepCost costs.now.weights.limit cost result }
+/// A cost as that of a step or a source of ways, if there is one: one more than the limit of the weights for `Large`.
+pub fn step_cost(weights: &Weights, cost: Cost) -> Option<u32>
+    requires { IsCapped weights.now.limit cost }
+    ensures { IsStepCost weights.now.limit cost result }
 {
     match cost {
         Cost::Never => None,
-        Cost::Large => Some(costs.weights().limit() + 1),
+        Cost::Large => Some(weights.limit() + 1),
         Cost::Least(size) => Some(size),
     }
 }
 
-// The number of a symbol among all, tokens first.
-pub(crate) fn symbol_number(tokens: u16, symbol: Symbol) -> u16
+/// The number of a symbol among all, tokens first.
+pub fn symbol_number(tokens: u16, symbol: Symbol) -> u16
     requires tokens { tokens ≤ 512 }
     requires symbol { IsSymbol 512 1024 symbol }
     ensures { result ≡ number_of tokens symbol }
@@ -167,7 +167,7 @@ fn push_rims(bases: &Bases, side: Side, number: u16, rims: &mut Rims) -> Result<
     let to = symbol_number(grammar.tokens(), Symbol::Nonterminal(rule.left()));
     for (place, symbol) in right.iter().enumerate() {
         let others = beside_cost(bases, side, &right[..place], &right[place + 1..]);
-        if let Some(cost) = step_cost(bases.costs, others) {
+        if let Some(cost) = step_cost(bases.costs.weights(), others) {
             let from = symbol_number(grammar.tokens(), *symbol);
             rims.places.push(Place {
                 rule: number,

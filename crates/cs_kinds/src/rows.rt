@@ -1,11 +1,9 @@
 // The order of costs, and what leaves and no trees at all cost.
 
-ghost use Rattle.std.specs.Prelude.{◌≡◌, ◌-◌, ◌<◌, ◌≤◌, ◌↔◌, IsTrue, length, All};
-ghost use Rattle.std.specs.Bool.{OnTrue, OnFalse};
+ghost use Rattle.std.specs.Prelude.{◌≡◌, ◌<◌, ◌≤◌, ◌↔◌, IsTrue, length};
 ghost use Rattle.cs_grammar.specs.Grammar.{IsNumberOf};
 ghost use Rattle.cs_cost.specs.Rank.{rank, IsCapped};
 ghost use Rattle.cs_kinds.specs.ListCost.{lesser, leaf_cost, bare_cost};
-ghost use Rattle.cs_kinds.specs.Clauses.{IsLowered, IsUnlowered};
 
 use crate::kind::TreeKind;
 use cs_cost::{Cost, cost_of, is_below};
@@ -18,23 +16,6 @@ fn is_lower(_weights: &Weights, a: Cost, b: Cost) -> bool
     ensures { IsTrue result ↔ (rank _weights.now.limit a < rank _weights.now.limit b) }
 {
     is_below(a, b)
-}
-
-// Writes a number's cost where it is below the table's, and says whether it was.
-pub(crate) fn put_lower(weights: &Weights, table: &mut [Cost], number: u16, cost: Cost) -> bool
-    requires number { IsNumberOf (length table.old) number }
-    requires table { All (IsCapped weights.now.limit) table.old }
-    requires cost { IsCapped weights.now.limit cost }
-    ensures lowered { OnTrue result (IsLowered weights.now.limit number cost table.old table.new) }
-    ensures kept { OnFalse result (IsUnlowered weights.now.limit number cost table.old table.new) }
-{
-    let place = number as usize - 1;
-    if is_lower(weights, cost, table[place]) {
-        table[place] = cost;
-        true
-    } else {
-        false
-    }
 }
 
 // The lower of two costs, the first where they are as low.

@@ -91,9 +91,10 @@ fn root_of(kinds: &Kinds, kind: TreeKind, left: u16) -> u16
     ensures { IsRootOf kinds.now.weights kinds.now.grammar kind left result }
 {
     let cost = kinds.told(kind, Symbol::Nonterminal(left));
-    for (place, rule) in kinds.grammar().rules().iter().enumerate() {
-        if rule.left() == left && kinds.at_most(node_cost(kinds, kind, rule.right()), cost) {
-            return (place + 1) as u16;
+    for number in kinds.rules_with(left) {
+        let rule = kinds.grammar().rule(*number);
+        if kinds.at_most(node_cost(kinds, kind, rule.right()), cost) {
+            return *number;
         }
     }
     unreachable!()

@@ -1,4 +1,4 @@
-use Rattle.std.proofs.Common.{◌≡◌, ℕ, List, map, refl, sym, ap, ◌∙◌, subst}
+use Rattle.std.proofs.Common.{◌≡◌, ℕ, List, map, sym, ap, ◌∙◌, subst}
 use Rattle.std.proofs.lemmas.Result.{IfOk-weaker}
 use Rattle.cs_grammar.specs.Grammar.{Production, PlainGrammar, IsGrammar, grammar_of}
 use Rattle.cs_grammar.specs.Weights.{Weighed, Measure, weighed}

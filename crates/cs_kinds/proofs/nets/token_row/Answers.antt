@@ -1,9 +1,8 @@
-use Rattle.std.proofs.Common.{◌≡◌, ℕ, ◌+◌, ◌<◌, [], ◌∷◌, refl, sym, ap, ◌∙◌, subst, arith}
+use Rattle.std.proofs.Common.{◌≡◌, ◌+◌, ◌<◌, [], ◌∷◌, refl, sym, ap, ◌∙◌, subst, arith}
 use Rattle.cs_grammar.specs.declared.symbol.Symbol.TheVariants.{Nonterminal}
 use Rattle.cs_grammar.specs.Grammar.{PlainGrammar, IsGrammar}
 use Rattle.cs_grammar.specs.Weights.{Measure, number}
 use Rattle.cs_grammar.specs.Tree.{size}
-use Rattle.cs_cost.specs.declared.cost.Cost.{Cost}
 use Rattle.cs_cost.specs.Least.{IsCost}
 use Rattle.cs_embed.specs.Ways.{told_cost}
 use Rattle.cs_ways.specs.declared.step.Source.{Source}

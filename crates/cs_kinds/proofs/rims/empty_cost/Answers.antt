@@ -1,6 +1,5 @@
-use Rattle.std.proofs.Common.{◌-◌, get_or, sym, ap, subst}
+use Rattle.std.proofs.Common.{get_or, sym, subst}
 use Rattle.cs_grammar.specs.declared.symbol.Symbol.{Symbol}
-use Rattle.cs_cost.specs.declared.cost.Cost.{Cost}
 use Rattle.cs_cost.specs.declared.cost.Cost.TheVariants.{Never}
 use Rattle.cs_kinds.specs.declared.kind.TreeKind.TheVariants.{Empty}
 use Rattle.cs_kinds.specs.KindCost.{IsKindCost}

@@ -1,10 +1,11 @@
-use Rattle.std.proofs.Common.{◌≡◌, ◌+◌, ◌≤◌, List, Some, length, get_or, refl, sym, ap, ◌∙◌, subst, arith}
+use Rattle.std.proofs.Common.{◌+◌, ◌≤◌, List, length, get_or, refl, sym, ap, ◌∙◌, subst, arith}
 use Rattle.std.specs.Prelude.{All}
 use Rattle.std.proofs.lemmas.List.Elements.{All-get_or}
 use Rattle.std.proofs.lemmas.Option.{slice_get-get_or}
 use Rattle.cs_grammar.specs.declared.symbol.Symbol.{Symbol}
 use Rattle.cs_grammar.specs.declared.symbol.Symbol.TheVariants.{Token}
 use Rattle.cs_grammar.specs.Grammar.{PlainGrammar, IsRule, IsSymbolOf}
+use Rattle.cs_grammar.specs.Weights.{Measure}
 use Rattle.cs_embed.proofs.Lists.{rest_is}
 use Rattle.cs_kinds.specs.declared.rims.Rims.{Rims}
 use Rattle.cs_kinds.specs.Numbers.{number_of}
@@ -46,6 +47,7 @@ loop-place-preserved c =
     let here = slice_get-get_or items j (Token 0) c.loop-place-test.true in
     let others = c.beside_cost-others.result in
     let tokens = c.tokens.ensures ∙ ap (λ (m : PlainGrammar). m.tokens) c.grammar-grammar.ensures in
+    let step = subst (λ (m : Measure). IsStepCost m.limit others c.step_cost.result) c.weights.ensures.weights c.step_cost.ensures in
     elim c.match-step_cost.branch [
       | in-Some+in_ok-push+in_ok-push-2 b ↦
           let tokens' = b.tokens-in-Some.ensures ∙ ap (λ (m : PlainGrammar). m.tokens) c.grammar-grammar.ensures in
@@ -54,11 +56,11 @@ loop-place-preserved c =
           _ _ _ _ b.in_ok-push.ensures.items b.in_ok-push-2.ensures.items refl refl
           (b.symbol_number-from.ensures ∙ ap (λ n. number_of n x) tokens')
           (c.symbol_number-to.ensures ∙ ap (λ n. n + c.left.result) tokens ∙ ap (λ n. g.tokens + n) c.left.ensures)
-          (subst (IsStepCost v.weights.limit others) b.in-Some.is c.step_cost.ensures))
+          (subst (IsStepCost v.weights.limit others) b.in-Some.is step))
       | in_default b ↦
           subst (λ (r : Rims). AreRimsTo v.weights g c.args.side q (j + 1) r.places.items r.steps.items) (sym b.rims-is)
           (rims_passed v.weights g c.args.side q j p rule items c.right-right.ensures x here _ (rest_is items (j + 1)) others c.beside_cost-others.ensures.cost _ _ c.loop-place.invariant
-          (subst (IsStepCost v.weights.limit others) b.in_default.is c.step_cost.ensures))
+          (subst (IsStepCost v.weights.limit others) b.in_default.is step))
     ]
 
 pub returns : goal.returns

@@ -1,6 +1,5 @@
 use Rattle.std.proofs.Common.{sym, subst}
 use Rattle.std.proofs.lemmas.Result.{on_ok_weaker}
-use Rattle.cs_grammar.specs.Grammar.{PlainGrammar}
 use Rattle.cs_grammar.specs.Weights.{Weighed}
 use Rattle.cs_cost.specs.Chosen.{AppendsChosen}
 use Rattle.cs_cost.specs.Trees.{HasLeast}

@@ -1,10 +1,9 @@
-use Rattle.std.proofs.Common.{sym, ap, subst, ◌∙◌}
+use Rattle.std.proofs.Common.{sym, subst}
 use Rattle.cs_grammar.specs.Grammar.{PlainGrammar}
 use Rattle.cs_grammar.specs.Weights.{Measure}
 use Rattle.cs_kinds.specs.declared.kind.TreeKind.TheVariants.{Empty}
 use Rattle.cs_kinds.specs.declared.kinds.Rows.{Rows}
 use Rattle.cs_kinds.specs.declared.side.Side.{Side}
-use Rattle.cs_kinds.specs.declared.side.Side.TheVariants.{First, Last}
 use Rattle.cs_kinds.specs.Nets.{AreRowsOn}
 use Rattle.cs_kinds.specs.RowsOf.{AreTablesOf}
 use Rattle.cs_kinds.specs.Tables.{AreCosts}
@@ -16,8 +15,8 @@ net_of-requires c = subst (AreCosts c.args.costs.now.weights c.args.costs.now.gr
 pub net_of-requires-2 : goal.net_of-requires-2
 net_of-requires-2 c = subst (AreCosts c.args.costs.now.weights c.args.costs.now.grammar Empty) (sym c.costs.ensures) c.in_ok-empty.ensures
 
-pub kinds_of-requires : goal.kinds_of-requires
-kinds_of-requires c =
+pub kinds_of-requires-clause-rows : goal.kinds_of-requires-clause-rows
+kinds_of-requires-clause-rows c =
     let rows : Rows = record { any = c.in_ok-any.any; empty = c.in_ok-empty.empty; begins = c.in_ok-begins.begins; ends = c.in_ok-ends.ends } in
     let v = c.args.costs.now in
     let at : AreTablesOf v.weights v.grammar rows = record {
@@ -27,4 +26,4 @@ kinds_of-requires c =
       begins_costs = subst (λ (s : Side). AreRowsOn v s c.in_ok-begins.begins.items) c.in_ok-net_of.ensures.0 c.in_ok-begins.ensures;
       ends_costs = subst (λ (s : Side). AreRowsOn v s c.in_ok-ends.ends.items) c.in_ok-net_of-2.ensures.0 c.in_ok-ends.ensures;
     } in
-    subst (λ (m : Measure). AreTablesOf m c.grammar.result.now rows) (sym c.weights.ensures.weights) (subst (λ (s : PlainGrammar). AreTablesOf v.weights s rows) (sym c.grammar.ensures) at)
+    subst (λ (m : Measure). AreTablesOf m c.grammar-grammar.result.now rows) (sym c.weights.ensures.weights) (subst (λ (s : PlainGrammar). AreTablesOf v.weights s rows) (sym c.grammar-grammar.ensures) at)
