@@ -1,6 +1,5 @@
 -- The code of the chosen tree of a pair.
 use Rattle.std.proofs.Common.{◌≡◌, ℕ, ◌≤◌, sym, ap, subst, arith}
-use Rattle.cs_grammar.specs.declared.TheConstants.{LIMIT}
 use Rattle.cs_grammar.specs.declared.symbol.Symbol.{Symbol}
 use Rattle.cs_grammar.specs.declared.symbol.Symbol.TheVariants.{Nonterminal}
 use Rattle.cs_grammar.specs.declared.symbol.Mark.{Mark}
@@ -12,8 +11,8 @@ use Rattle.cs_grammar.specs.Context.{Context}
 use Rattle.cs_cost.specs.declared.cost.Cost.{Cost}
 use Rattle.cs_cost.specs.declared.cost.Cost.TheVariants.{Least}
 use Rattle.cs_cost.specs.Least.{IsCost}
-use Rattle.cs_cost.specs.Rank.{rank, IsCapped}
-use Rattle.cs_cost.proofs.Ranks.{one_cost, cost_capped}
+use Rattle.cs_cost.specs.Rank.{rank}
+use Rattle.cs_cost.proofs.Ranks.{one_cost}
 use Rattle.cs_kinds.specs.declared.kind.TreeKind.TheVariants.{Empty, Begins, Ends}
 use Rattle.cs_kinds.specs.Kinds.{IsOfKind}
 use Rattle.cs_kinds.specs.Parts.{HasSmallOfKind}
@@ -70,9 +69,6 @@ module _ (w : Measure) (g : PlainGrammar) where
   module _ (a b : ℕ) (cost : Cost) (is_cost : IsCost w.limit (HasPair g (Token a) (Token b)) (size w) cost) (least : HasLeastPair w g (Token a) (Token b)) where
     same_cost : cost ≡ Least least.0
     same_cost = one_cost w.limit (HasPair g (Token a) (Token b)) (size w) cost (Least least.0) is_cost least.1
-
-    pub tokens_capped : IsCapped w.limit cost
-    tokens_capped = cost_capped w.limit (HasPair g (Token a) (Token b)) (size w) cost is_cost
 
     pub tokens_small : rank w.limit cost ≤ w.limit
     tokens_small = omega (arith, ap (rank w.limit) same_cost, least.1.0)

@@ -3,10 +3,8 @@ use Rattle.std.proofs.Common.{◌≡◌, ℕ, ◌+◌, ◌-◌, ◌<◌, ◌≤�
 use Rattle.std.specs.Prelude.{slice_get}
 use Rattle.std.proofs.lemmas.Grind.{take_at_read}
 use Rattle.std.proofs.lemmas.Option.{slice_get_within}
-use Rattle.cs_grammar.specs.declared.TheConstants.{MOST_TOKENS, MOST_NONTERMINALS}
 use Rattle.cs_grammar.specs.declared.symbol.Symbol.{Symbol}
-use Rattle.cs_grammar.specs.declared.symbol.Symbol.TheVariants.{Token, Nonterminal}
-use Rattle.cs_grammar.specs.Grammar.{Production, PlainGrammar, IsRule, IsRuleOf, IsSomeRule, IsNumberOf, IsSymbol, IsGrammar}
+use Rattle.cs_grammar.specs.Grammar.{Production, PlainGrammar, IsRuleOf, IsSomeRule, IsNumberOf, IsGrammar}
 use Rattle.cs_grammar.specs.Weights.{Measure}
 use Rattle.cs_grammar.specs.Tree.{Tree, Forest, Bare, Grown, IsTree, AreTrees, size, sizes}
 use Rattle.cs_grammar.specs.Context.{Context, context_size, join}
@@ -100,16 +98,8 @@ front_at w g p fronts are i within front d is_front =
     subst (λ k. IsCost w.limit (AreFront g p.left (take k p.right)) (front_size w) front) place
     (subst (IsCost w.limit (AreFront g p.left (take (i + 1 - 1) p.right)) (front_size w)) at here)
 
--- a symbol of a grammar is one within the limits
-pub wide_symbol : (w : Measure) (g : PlainGrammar) (x : Symbol) → IsGrammar g → IsSymbol g.tokens g.nonterminals x → IsSymbol MOST_TOKENS MOST_NONTERMINALS x
-wide_symbol w g (Token t) grammar h = (h.0, omega (arith, h, grammar.tokens))
-wide_symbol w g (Nonterminal n) grammar h = (h.0, omega (arith, h, grammar.nonterminals))
-
--- the fronts of the rule at an index
-pub fronts_read : (w : Measure) (g : PlainGrammar) (rows : List (List Cost)) (i : ℕ) (q : Production) (held row d : List Cost) → AreRuleFronts w g rows → IsRule g (i + 1) q → held ≡ row → row ≡ get_or rows i d → AreFronts w g q held
-fronts_read w g rows i q held row d are rule is_held is_row =
-    let place : i ≡ i + 1 - 1 = omega arith in
-    let last = slice_get_within g.rules (i + 1 - 1) q rule.at in
-    let number : IsNumberOf (length rows) (i + 1) = (omega arith, omega (arith, last, are.many)) in
-    let there = row_read rows (i + 1) row d number (is_row ∙ ap (λ k. get_or rows k d) place) in
-    subst (AreFronts w g q) (sym (is_held ∙ there)) (are.each (i + 1) q rule)
+-- those of the rule of a number
+pub fronts_row : (w : Measure) (g : PlainGrammar) (rows : List (List Cost)) (r : ℕ) (held row d : List Cost) → AreRuleFronts w g rows → IsNumberOf (length rows) r → held ≡ row → row ≡ get_or rows (r - 1) d → AreFrontsOf w g r held
+fronts_row w g rows r held row d are number is_held is_row = λ p rule.
+    let there = row_read rows r row d number is_row in
+    subst (AreFronts w g p) (sym (is_held ∙ there)) (are.each r p rule)

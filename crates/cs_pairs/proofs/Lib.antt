@@ -1,11 +1,11 @@
 pub mod Fronting
-pub mod Besides
 pub mod Framed
 pub mod Seams
-pub mod PairCosts
 pub mod Adjacency
 pub mod ChosenSeams
 pub mod ChosenPairs
-pub mod Meetings
+pub mod SourceLists
+pub mod Inwards
+pub mod FollowLists
 pub mod Laying
 pub mod Derived

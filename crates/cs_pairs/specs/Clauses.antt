@@ -1,50 +1,23 @@
 -- What the contracts of parts say, of a grammar and its weights. They are the other modules' facts, with what the parts hold.
-use Rattle.std.specs.Prelude.{ℕ, ◌≤◌, List, Option}
-use Rattle.cs_grammar.specs.declared.symbol.Symbol.{Symbol}
+use Rattle.std.specs.Prelude.{ℕ, List}
 use Rattle.cs_grammar.specs.declared.symbol.Symbol.TheVariants.{Nonterminal}
 use Rattle.cs_grammar.specs.declared.symbol.Mark.{Mark}
 use Rattle.cs_grammar.specs.declared.symbol.Mark.TheVariants.{Token}
 use Rattle.cs_grammar.specs.Weights.{Weighed}
-use Rattle.cs_grammar.specs.Tree.{Tree, size}
-use Rattle.cs_grammar.specs.Context.{Context}
+use Rattle.cs_grammar.specs.Tree.{size}
 use Rattle.cs_cost.specs.declared.cost.Cost.{Cost}
 use Rattle.cs_cost.specs.Least.{IsCost}
-use Rattle.cs_cost.specs.Rank.{rank, entry}
 use Rattle.cs_kinds.specs.declared.kind.TreeKind.{TreeKind}
 use Rattle.cs_kinds.specs.Parts.{HasSmallOfKind}
 use Rattle.cs_kinds.specs.KindCost.{IsKindCost}
-use Rattle.cs_pairs.specs.declared.beside.Beside.{Beside}
 use Rattle.cs_pairs.specs.declared.meeting.TokenPair.{TokenPair}
 use Rattle.cs_pairs.specs.declared.meeting.Meeting.{Meeting}
-use Rattle.cs_pairs.specs.Beside.{IsSeam, seam_size, IsExactBeside}
-use Rattle.cs_pairs.specs.Pairs.{HasPair, ArePairRows}
+use Rattle.cs_pairs.specs.Pairs.{HasPair}
 use Rattle.cs_pairs.specs.ChosenPair.{HasLeastPair, IsChosenMeeting, IsCodeOfKind, IsCodeOfPair}
-use Rattle.cs_pairs.specs.SeamPlace.{IsFoundIn, IsMeetingAt}
 
--- no entry of a table has risen
-abbrev pub Falls : Weighed → List Cost → List Cost → Type 0
-Falls v old new = (m : ℕ) → rank v.weights.limit (entry new m) ≤ rank v.weights.limit (entry old m)
-
--- what stands beside a token
-abbrev pub IsBesideIn : Weighed → Beside → Type 0
-IsBesideIn v b = IsExactBeside v.weights v.grammar b.token b.costs.items
-
--- what the least tree with a pair costs, and such rows of all tokens
+-- what the least tree with a pair costs
 abbrev pub IsPairCost : Weighed → Mark → Mark → Cost → Type 0
 IsPairCost v a b cost = IsCost v.weights.limit (HasPair v.grammar a b) (size v.weights) cost
-
-abbrev pub ArePairRowsIn : Weighed → List (List Cost) → Type 0
-ArePairRowsIn v rows = ArePairRows v.weights v.grammar v.grammar.tokens rows
-
--- where two tokens meet within a cost
-abbrev pub IsFoundWithin : Weighed → TokenPair → ℕ → Cost → Option ℕ → Type 0
-IsFoundWithin v t r cost found = IsFoundIn v.weights v.grammar t.first t.second r (rank v.weights.limit cost) 0 found
-
-abbrev pub HasSeamWithin : Weighed → TokenPair → Cost → Type 0
-HasSeamWithin v t cost = (x : Symbol) × (s : Context × Tree) × IsSeam v.grammar t.first t.second x s × (seam_size v.weights s ≤ rank v.weights.limit cost)
-
-abbrev pub IsMeetingWithin : Weighed → TokenPair → Cost → Meeting → Type 0
-IsMeetingWithin v t cost at = IsMeetingAt v.weights v.grammar t.first t.second (rank v.weights.limit cost) at.rule at.place
 
 -- two tokens in their chosen tree: where they meet, that it is within the limit, and its code
 abbrev pub IsMeetingOf : Weighed → TokenPair → Meeting → Type 0

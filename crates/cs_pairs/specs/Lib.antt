@@ -3,5 +3,7 @@ pub mod Beside
 pub mod Pairs
 pub mod ChosenPair
 pub mod SeamPlace
+pub mod Sources
+pub mod Meetings
 pub mod Clauses
 pub mod Laws

@@ -1,5 +1,5 @@
 -- Where two tokens meet: a rule of the node above both, and the place of its child that ends with the first.
-use Rattle.std.specs.Prelude.{◌≡◌, ℕ, ◌<◌, ◌≤◌, Option, Some, None}
+use Rattle.std.specs.Prelude.{◌≡◌, ℕ, ◌<◌, ◌≤◌}
 use Rattle.cs_grammar.specs.declared.symbol.Symbol.{Symbol}
 use Rattle.cs_grammar.specs.Grammar.{PlainGrammar}
 use Rattle.cs_grammar.specs.Weights.{Measure}
@@ -24,11 +24,6 @@ size_at w g a b r i s = seam_size w (Under s.outer r s.left s.right, s.last)
 -- each seam at the places of the rule from i up to j has more than n nodes
 abbrev pub NoSeamTo : Measure → PlainGrammar → ℕ → ℕ → ℕ → ℕ → ℕ → ℕ → Type 0
 NoSeamTo w g a b r n i j = (k : ℕ) → i ≤ k → k < j → (s : SeamAt g a b r k) → n < size_at w g a b r k s
-
--- of the places of the rule from i on this is the lowest with a seam of at most n nodes, or there is none
-abbrev pub IsFoundIn : Measure → PlainGrammar → ℕ → ℕ → ℕ → ℕ → ℕ → Option ℕ → Type 0
-IsFoundIn w g a b r n i None = (j : ℕ) → NoSeamTo w g a b r n i j
-IsFoundIn w g a b r n i (Some k) = NoSeamTo w g a b r n i k × ((s : SeamAt g a b r k) × (size_at w g a b r k s ≤ n))
 
 -- rule r and its place k are the lowest with a seam of at most n nodes
 pub record IsMeetingAt (w : Measure) (g : PlainGrammar) (a b n r k : ℕ) : Type 0 where

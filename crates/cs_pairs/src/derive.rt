@@ -72,7 +72,7 @@ pub(crate) fn seam_code<'g>(
     ensures { IfOk result (IsCodeOfTokens kinds.now tokens) }
 {
     let rule = &kinds.grammar().rules()[at.rule as usize - 1];
-    let parts = split_at(rule.right(), at.place);
+    let parts = split_at(rule.right(), at.place as usize);
     let context = embeds.around(costs, rule.left())?;
     let mut derivation = Derivation::new(alloc);
     derivation.extend_from_slice(&context.before)?;

@@ -2,30 +2,13 @@
 
 ghost use Rattle.std.specs.Prelude.{◌≡◌, IfOk};
 ghost use Rattle.cs_grammar.specs.Grammar.{IsSomeRule};
-ghost use Rattle.cs_cost.specs.Rank.{IsCapped, cost_of, plus};
 ghost use Rattle.cs_pairs.specs.Fronts.{AreFronts, AreRuleFronts};
 
-use cs_cost::{Cost, Costs, cost_of, plus};
+use cs_cost::Costs;
 use cs_embed::Embeds;
 use cs_grammar::Rule;
-use cs_kinds::Row;
+use cs_kinds::{Row, joint_cost, one_node};
 use std::alloc::{AllocError, Global};
-
-// Costs together, by the limit of the weights.
-fn joint_cost(costs: &Costs, a: Cost, b: Cost) -> Cost
-    requires a { IsCapped costs.now.weights.limit a }
-    requires b { IsCapped costs.now.weights.limit b }
-    ensures { result ≡ plus costs.now.weights.limit a b }
-{
-    plus(a, b, costs.weights().limit())
-}
-
-// What a node alone costs.
-fn node_cost(costs: &Costs) -> Cost
-    ensures { result ≡ cost_of costs.now.weights.limit 1 }
-{
-    cost_of(1, costs.weights().limit())
-}
 
 // What stands before each place of a rule's right side costs: a context of the left side, the node, and trees of the symbols
 // before the place.
@@ -36,7 +19,7 @@ fn fronts_of(alloc: Global, costs: &Costs, embeds: &Embeds, rule: &Rule) -> Resu
 {
     let _rules = costs.grammar().rules();
     let mut fronts = Vec::new(alloc);
-    let mut front = joint_cost(costs, node_cost(costs), embeds.embed(rule.left()));
+    let mut front = joint_cost(costs, one_node(costs), embeds.embed(rule.left()));
     for symbol in rule.right() {
         fronts.push(front)?;
         front = joint_cost(costs, front, costs.cost(*symbol));

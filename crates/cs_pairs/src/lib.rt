@@ -6,15 +6,16 @@
 //! code of the chosen one by `derive`. The laws are functions that do nothing.
 //!
 //! Of the files in `specs/` these say what is meant: `Beside` (seams), `Pairs`, `ChosenPair` and `Laws`; kinds of trees are the
-//! layer's below. The others are words of the parts: what their rows, places and steps hold.
+//! layer's below. The others are words of the parts: what their sources and rows hold.
 #![tactic(auto)]
 
-mod beside;
 mod derive;
+mod follows;
 mod fronts;
 mod laws;
 mod meeting;
 mod pairs;
+mod sources;
 
 pub use laws::{chosen_pair_exists, one_chosen_pair};
 pub use pairs::Pairs;

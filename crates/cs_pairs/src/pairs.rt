@@ -5,19 +5,18 @@ ghost use Rattle.cs_grammar.specs.Grammar.{IsNumberOf};
 ghost use Rattle.cs_grammar.specs.Tree.{size};
 ghost use Rattle.cs_goals.specs.Goal.{IsLeft, IsRight};
 ghost use Rattle.cs_kinds.specs.Kinds.{IsKind};
-ghost use Rattle.cs_pairs.specs.Fronts.{AreRuleFronts};
 ghost use Rattle.cs_pairs.specs.ChosenPair.{HasLeastPair, IsCodeOfPair};
-ghost use Rattle.cs_pairs.specs.Pairs.{IsAdjacent, ArePairs, ArePairRows};
-ghost use Rattle.cs_pairs.specs.Clauses.{IsPairCost, ArePairRowsIn, IsBesideIn, HasLeastOf, IsCodeOfTokens, HasSmallWhole, IsCodeOfWhole, IsWholeCost};
+ghost use Rattle.cs_pairs.specs.Pairs.{IsAdjacent};
+ghost use Rattle.cs_pairs.specs.Clauses.{IsPairCost, HasLeastOf, IsCodeOfTokens, HasSmallWhole, IsCodeOfWhole, IsWholeCost};
 
-use crate::beside::{Beside, beside_row};
 use crate::derive::{kind_code, seam_code};
+use crate::follows::{FollowRows, follow_rows};
 use crate::fronts::rule_fronts;
-use crate::meeting::{TokenPair, meet};
+use crate::meeting::TokenPair;
 use cs_cost::{Cost, Costs};
 use cs_embed::Embeds;
-use cs_grammar::{Derivation, Grammar, Mark, Symbol, Weights};
-use cs_kinds::{Kinds, Row, TreeKind};
+use cs_grammar::{Derivation, Grammar, Mark, Symbol, place_of};
+use cs_kinds::{Kinds, TreeKind};
 use std::alloc::{AllocError, Global};
 use std::marker::Model;
 
@@ -25,22 +24,18 @@ use std::marker::Model;
 #[derive(Debug, Drop)]
 pub struct Pairs<'g> {
     kinds: Kinds<'g>,
-    fronts: Vec<Row>,
-    pairs: Vec<Row>,
+    rows: FollowRows,
 }
 
 impl<'g> Model for Pairs<'g> {
-    ghost use Rattle.std.specs.Prelude.{◌≡◌};
     ghost use Rattle.cs_grammar.specs.Weights.{Weighed};
-    ghost use Rattle.cs_pairs.specs.Fronts.{AreRuleFronts};
-    ghost use Rattle.cs_pairs.specs.Pairs.{ArePairRows};
+    ghost use Rattle.cs_pairs.specs.Meetings.{AreFollowRows};
 
     ghost Value = { Weighed };
 
     ghost view = { λ p. p.kinds };
 
-    ghost invariant = { λ p. AreRuleFronts p.kinds.weights p.kinds.grammar p.fronts.items
-        × ArePairRows p.kinds.weights p.kinds.grammar p.kinds.grammar.tokens p.pairs.items };
+    ghost invariant = { λ p. AreFollowRows p.kinds p.rows };
 }
 
 impl<'g> Pairs<'g> {
@@ -55,12 +50,9 @@ impl<'g> Pairs<'g> {
     {
         let kinds = Kinds::new(alloc, costs)?;
         let fronts = rule_fronts(alloc, costs, embeds)?;
-        let pairs = pair_rows(alloc, &kinds, &fronts)?;
-        Ok(Pairs {
-            kinds,
-            fronts,
-            pairs,
-        })
+        let steps = kinds.steps_to_ends(alloc, costs)?;
+        let rows = follow_rows(alloc, &kinds, &steps, &fronts)?;
+        Ok(Pairs { kinds, rows })
     }
 
     /// The grammar that these are the pairs of.
@@ -91,7 +83,7 @@ impl<'g> Pairs<'g> {
         match (left, right) {
             (Mark::Begin, Mark::Token(second)) => self.whole_cost(TreeKind::Begins(second)),
             (Mark::Token(first), Mark::Token(second)) => {
-                self.pairs[second as usize - 1].costs()[first as usize - 1]
+                self.rows.costs[second as usize - 1].costs()[first as usize - 1]
             }
             (Mark::Token(first), Mark::End) => self.whole_cost(TreeKind::Ends(first)),
             (Mark::Begin, Mark::End) => self.whole_cost(TreeKind::Empty),
@@ -171,8 +163,10 @@ impl<'g> Pairs<'g> {
         requires least { HasLeastOf self.now tokens }
         ensures { IfOk result (IsCodeOfTokens self.now tokens) }
     {
-        let cost = self.cost(Mark::Token(tokens.first), Mark::Token(tokens.second));
-        let at = meet(&self.kinds, &self.fronts, tokens, cost);
+        let meetings = self.rows.meetings[place_of(tokens.second)].places();
+        let Some(at) = meetings[place_of(tokens.first)] else {
+            unreachable!()
+        };
         seam_code(alloc, &self.kinds, costs, embeds, tokens, at)
     }
 
@@ -185,52 +179,4 @@ impl<'g> Pairs<'g> {
         let _rules = grammar.rules();
         self.kinds.told(kind, Symbol::Nonterminal(grammar.start()))
     }
-}
-
-// What a pair of tokens costs: the least over all symbols of a tree that ends with the first, in a context whose hole is
-// directly followed by the second.
-fn pair_cost(kinds: &Kinds, first: u16, beside: &Beside) -> Cost
-    requires first { IsNumberOf kinds.now.grammar.tokens first }
-    requires beside { IsBesideIn kinds.now beside.now }
-    ensures { IsPairCost kinds.now (Mark.Token first) (Mark.Token beside.now.token) result }
-{
-    let grammar = kinds.grammar();
-    let _rules = grammar.rules();
-    let tokens = grammar.tokens() as usize;
-    let leaf = kinds.told(TreeKind::Ends(first), Symbol::Token(first));
-    let mut best = kinds.plus(leaf, beside.costs[first as usize - 1]);
-    for place in 0..grammar.nonterminals() {
-        let tree = kinds.told(TreeKind::Ends(first), Symbol::Nonterminal(place + 1));
-        best = kinds.lesser(
-            best,
-            kinds.plus(tree, beside.costs[tokens + place as usize]),
-        );
-    }
-    best
-}
-
-// What the pairs cost whose second token is this one.
-fn pair_row(alloc: Global, kinds: &Kinds, fronts: &[Row], second: u16) -> Result<Row, AllocError>
-    requires fronts { AreRuleFronts kinds.now.weights kinds.now.grammar fronts.now }
-    requires second { IsNumberOf kinds.now.grammar.tokens second }
-    ensures { IfOk result (λ row. ArePairs kinds.now.weights kinds.now.grammar second row) }
-{
-    let beside = beside_row(alloc, kinds, fronts, second)?;
-    let mut costs = Vec::new(alloc);
-    for place in 0..kinds.grammar().tokens() {
-        costs.push(pair_cost(kinds, place + 1, &beside))?;
-    }
-    Ok(Row::new(costs))
-}
-
-// The rows of all tokens.
-fn pair_rows(alloc: Global, kinds: &Kinds, fronts: &[Row]) -> Result<Vec<Row>, AllocError>
-    requires { AreRuleFronts kinds.now.weights kinds.now.grammar fronts.now }
-    ensures { IfOk result (λ rows. ArePairRowsIn kinds.now rows.items) }
-{
-    let mut rows = Vec::new(alloc);
-    for place in 0..kinds.grammar().tokens() {
-        rows.push(pair_row(alloc, kinds, fronts, place + 1)?)?;
-    }
-    Ok(rows)
 }

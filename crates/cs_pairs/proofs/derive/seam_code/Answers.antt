@@ -37,7 +37,7 @@ symbols c =
     (well_formed_at c.args.kinds.now.grammar (c.args.at.rule - 1) c.index-rules-at.result (subst IsGrammar c.grammar.ensures c.rules.ensures.well_formed) rule.at).right
 
 pub split_at-parts-requires : goal.split_at-parts-requires
-split_at-parts-requires c = subst (λ (l : List Symbol). c.args.at.place < length l) (sym c.right.ensures) (parts c).within
+split_at-parts-requires c = subst (λ (l : List Symbol). c.args.at.place < length l) (sym c.right.ensures) (parts (goal.at.split_at-parts-requires c).After-right).within
 
 pub around-requires-clause-least : goal.around-requires-clause-least
 around-requires-clause-least c =

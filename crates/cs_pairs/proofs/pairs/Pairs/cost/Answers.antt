@@ -6,13 +6,13 @@ use Rattle.cs_pairs.proofs.pairs.Pairs.cost.Goals as goal
 
 pub bounds-costs-first : goal.bounds-costs-first
 bounds-costs-first c =
-    let row = row_held c.args.self.now.weights c.args.self.now.grammar _ c.self.inside.pairs.items _ _ c.in-Token-Token.first c.in-Token-Token.second c.costs.result.now _ _ c.self.view_is c.self.invariant.1 c.requires.left c.requires.right c.in-Token-Token.is-0 c.in-Token-Token.is-1 c.costs.ensures c.index.ensures in
+    let row = row_held c.args.self.now.weights c.args.self.now.grammar _ c.self.inside.rows.costs.items _ _ c.in-Token-Token.first c.in-Token-Token.second c.costs.result.now _ _ c.self.view_is c.self.invariant.0 c.requires.left c.requires.right c.in-Token-Token.is-0 c.in-Token-Token.is-1 c.costs.ensures c.index.ensures in
     omega (arith, row.0.many, row.1)
 
 pub returns-in-Token-Token : goal.returns-in-Token-Token
 returns-in-Token-Token c =
     of_tokens c.args.self.now.weights c.args.self.now.grammar _ _ c.in-Token-Token.first c.in-Token-Token.second c.costs.result.now Never c.in-Token-Token.is-0 c.in-Token-Token.is-1
-    (row_held c.args.self.now.weights c.args.self.now.grammar _ c.self.inside.pairs.items _ _ c.in-Token-Token.first c.in-Token-Token.second c.costs.result.now _ _ c.self.view_is c.self.invariant.1 c.requires.left c.requires.right c.in-Token-Token.is-0 c.in-Token-Token.is-1 c.costs.ensures c.index.ensures)
+    (row_held c.args.self.now.weights c.args.self.now.grammar _ c.self.inside.rows.costs.items _ _ c.in-Token-Token.first c.in-Token-Token.second c.costs.result.now _ _ c.self.view_is c.self.invariant.0 c.requires.left c.requires.right c.in-Token-Token.is-0 c.in-Token-Token.is-1 c.costs.ensures c.index.ensures)
 
 pub returns-in-Begin-Token : goal.returns-in-Begin-Token
 returns-in-Begin-Token c =
