@@ -150,16 +150,34 @@ fn ties_of_pairs(rt: HostRuntime) -> Result<(), Fail> {
     let [x, y] = [1, 2].map(Token);
     // s : a a 'y' ;  a : 'x' | ;
     let first: &[(u16, &[Symbol])] = &[(1, &[a, a, y]), (2, &[x]), (2, &[])];
-    check(&rt, alloc, 2, first, &[(FIRST, SECOND, Code(5, &[1, 2, 3]))])?;
+    check(
+        &rt,
+        alloc,
+        2,
+        first,
+        &[(FIRST, SECOND, Code(5, &[1, 2, 3]))],
+    )?;
     // s : a a ;  a : | 'x' ;
     let begins: &[(u16, &[Symbol])] = &[(1, &[a, a]), (2, &[]), (2, &[x])];
-    check(&rt, alloc, 1, begins, &[(BEGIN, FIRST, Code(4, &[1, 3, 2]))])?;
+    check(
+        &rt,
+        alloc,
+        1,
+        begins,
+        &[(BEGIN, FIRST, Code(4, &[1, 3, 2]))],
+    )?;
     // s : q 'y' | p 'y' ;  p : 'x' ;  q : 'x' ;  where p is 2.
     let meeting: &[(u16, &[Symbol])] = &[(1, &[b, y]), (1, &[a, y]), (2, &[x]), (3, &[x])];
     check(&rt, alloc, 2, meeting, &[(FIRST, SECOND, Code(4, &[1, 4]))])?;
     // s : a a a ;  a : 'x' | 'y' ;
     let left: &[(u16, &[Symbol])] = &[(1, &[a, a, a]), (2, &[x]), (2, &[y])];
-    check(&rt, alloc, 2, left, &[(SECOND, SECOND, Code(7, &[1, 3, 3, 2]))])?;
+    check(
+        &rt,
+        alloc,
+        2,
+        left,
+        &[(SECOND, SECOND, Code(7, &[1, 3, 3, 2]))],
+    )?;
     // s : a b c ;  a : 'x' ;  b : | 'y' ;  c : | 'y' ;
     let right: &[(u16, &[Symbol])] = &[
         (1, &[a, b, c]),
@@ -169,10 +187,19 @@ fn ties_of_pairs(rt: HostRuntime) -> Result<(), Fail> {
         (4, &[]),
         (4, &[y]),
     ];
-    check(&rt, alloc, 2, right, &[(FIRST, SECOND, Code(6, &[1, 2, 4, 5]))])?;
+    check(
+        &rt,
+        alloc,
+        2,
+        right,
+        &[(FIRST, SECOND, Code(6, &[1, 2, 4, 5]))],
+    )?;
     // s : b | a ;  a : 'x' 'x' ;  b : 'x' 'x' ;  where a is 2.
     let rule: &[(u16, &[Symbol])] = &[(1, &[b]), (1, &[a]), (2, &[x, x]), (3, &[x, x])];
-    let wants = [(FIRST, FIRST, Code(4, &[2, 3])), (BEGIN, FIRST, Code(4, &[1, 4]))];
+    let wants = [
+        (FIRST, FIRST, Code(4, &[2, 3])),
+        (BEGIN, FIRST, Code(4, &[1, 4])),
+    ];
     check(&rt, alloc, 1, rule, &wants)?;
     Ok(())
 }
@@ -198,7 +225,11 @@ fn pairs_above_the_limit(rt: HostRuntime) -> Result<(), Fail> {
         (12, &[x[11], x[11]]),
         (13, &[leaf]),
     ];
-    let wants = [(FIRST, FIRST, TooLarge), (FIRST, SECOND, Nowhere), (BEGIN, FIRST, TooLarge)];
+    let wants = [
+        (FIRST, FIRST, TooLarge),
+        (FIRST, SECOND, Nowhere),
+        (BEGIN, FIRST, TooLarge),
+    ];
     check(&rt, rt.alloc(), 2, doubling, &wants)?;
     Ok(())
 }

@@ -63,7 +63,12 @@ const EVEN: Lines<3> = [(1, &[INNER]), (1, &[FIRST]), (2, &[SECOND])];
 const EXCHANGED: Lines<3> = [(1, &[FIRST]), (1, &[INNER]), (2, &[SECOND])];
 
 // s : a t ;  a : LONG | 'x' 'y' ;  t : 'z' ;
-const TEXTS: Lines<4> = [(1, &[INNER, OTHER]), (2, &[FIRST]), (2, &[SECOND, THIRD]), (3, &[FOURTH])];
+const TEXTS: Lines<4> = [
+    (1, &[INNER, OTHER]),
+    (2, &[FIRST]),
+    (2, &[SECOND, THIRD]),
+    (3, &[FOURTH]),
+];
 
 // s : a a | 'x' 'x' ;  a : LONG ;
 const LARGE: Lines<3> = [(1, &[INNER, INNER]), (1, &[SECOND, SECOND]), (2, &[FIRST])];
