@@ -8,6 +8,7 @@ use cs_mutate::Edit;
 use cs_positive::Verdict;
 use cs_render::Rendered;
 use cs_yacc::{YaccFile, read_yacc};
+use std::alloc::{AllocError, Global};
 use std::test::Fail;
 
 const FILE: &[u8] = b"%token A\n%%\ns : A '\\'' | ;\n";
@@ -33,30 +34,33 @@ negative 2 base 1 swap 7 pair <begin> <end> at 3
 end goals 3 feasible 1 infeasible 1 large 1 negatives 2
 ";
 
-// What the entries tell.
-#[derive(Drop)]
-struct Told {
-    feasible: Verdict,
-    empty: Rendered,
-    text: Rendered,
-}
+// The text of the first negative.
+const TEXT: &[u8] = b" a\"\\\x00~\x7f'";
 
-fn write_lines<S: Sink>(sink: &mut S, file: &YaccFile, told: &Told) -> Result<Counts, SinkError> {
+fn write_lines<S: Sink>(
+    sink: &mut S,
+    file: &YaccFile,
+    verdict: &Verdict,
+    empty: Vec<u8>,
+    text: Vec<u8>,
+) -> Result<Counts, SinkError> {
     let head = Head {
         yacc: file,
         lexemes: None,
     };
     let mut manifest = Manifest::begin(sink, &head)?;
-    write_goals(&mut manifest, sink, told)?;
-    write_mutants(&mut manifest, sink, told)?;
+    write_goals(&mut manifest, sink, verdict, empty)?;
+    write_mutants(&mut manifest, sink, text)?;
     manifest.finish(sink)
 }
 
 fn write_goals<S: Sink>(
     manifest: &mut Manifest<'_>,
     sink: &mut S,
-    told: &Told,
+    verdict: &Verdict,
+    empty: Vec<u8>,
 ) -> Result<(), SinkError> {
+    let rendered = Rendered::Text(empty);
     let rule = Entry::Goal {
         number: 1,
         goal: &Goal::Rule(1),
@@ -83,9 +87,9 @@ fn write_goals<S: Sink>(
             left: Mark::Begin,
             right: Mark::End,
         },
-        verdict: &told.feasible,
+        verdict,
         tokens: &[],
-        rendered: Some(&told.empty),
+        rendered: Some(&rendered),
     };
     manifest.entry(sink, &pair)
 }
@@ -93,8 +97,9 @@ fn write_goals<S: Sink>(
 fn write_mutants<S: Sink>(
     manifest: &mut Manifest<'_>,
     sink: &mut S,
-    told: &Told,
+    text: Vec<u8>,
 ) -> Result<(), SinkError> {
+    let rendered = Rendered::Text(text);
     manifest.entry(sink, &Entry::Base { number: 1, goal: 3 })?;
     let first = Entry::Negative {
         number: 1,
@@ -104,7 +109,7 @@ fn write_mutants<S: Sink>(
         right: Mark::End,
         at: 0,
         tokens: &[],
-        rendered: &told.text,
+        rendered: &rendered,
     };
     manifest.entry(sink, &first)?;
     let second = Entry::Negative {
@@ -120,16 +125,12 @@ fn write_mutants<S: Sink>(
     manifest.entry(sink, &second)
 }
 
-fn worked_values(alloc: std::alloc::Global) -> Result<Told, std::alloc::AllocError> {
+fn feasible(alloc: Global) -> Result<Verdict, AllocError> {
     let mut derivation = Derivation::new(alloc);
     derivation.push(2)?;
-    Ok(Told {
-        feasible: Verdict::Feasible {
-            size: 1,
-            derivation,
-        },
-        empty: Rendered::Text(Vec::new(alloc)),
-        text: Rendered::Text(b" a\"\\\x00~\x7f'".to_vec(alloc)?),
+    Ok(Verdict::Feasible {
+        size: 1,
+        derivation,
     })
 }
 
@@ -137,12 +138,16 @@ fn worked_values(alloc: std::alloc::Global) -> Result<Told, std::alloc::AllocErr
 fn lines_stand_as_the_format_says(rt: HostRuntime) -> Result<(), Fail> {
     let alloc = rt.alloc();
     let file = read_yacc(alloc, FILE)?;
-    let told = worked_values(alloc)?;
+    let verdict = feasible(alloc)?;
     let mut sink = MemorySink::new(alloc, LINES.len(), 7, Vec::new(alloc))?;
-    let counts = write_lines(&mut sink, &file, &told)?;
+    let text = TEXT.to_vec(alloc)?;
+    let counts = write_lines(&mut sink, &file, &verdict, Vec::new(alloc), text)?;
     assert_eq!(rt; sink.written(), LINES);
     assert_eq!(rt; counts.bytes, LINES.len() as u128);
-    assert_eq!(rt; write_lines(&mut NullSink::new(), &file, &told)?, counts);
+    let text = TEXT.to_vec(alloc)?;
+    let mut sink = NullSink::new();
+    let same = write_lines(&mut sink, &file, &verdict, Vec::new(alloc), text)?;
+    assert_eq!(rt; same, counts);
     Ok(())
 }
 
@@ -150,10 +155,11 @@ fn lines_stand_as_the_format_says(rt: HostRuntime) -> Result<(), Fail> {
 fn the_output_is_full_at_each_byte(rt: HostRuntime) -> Result<(), Fail> {
     let alloc = rt.alloc();
     let file = read_yacc(alloc, FILE)?;
-    let told = worked_values(alloc)?;
+    let verdict = feasible(alloc)?;
     for capacity in 0..LINES.len() {
         let mut sink = MemorySink::new(alloc, capacity, 3, Vec::new(alloc))?;
-        let answer = write_lines(&mut sink, &file, &told);
+        let text = TEXT.to_vec(alloc)?;
+        let answer = write_lines(&mut sink, &file, &verdict, Vec::new(alloc), text);
         assert_eq!(rt; answer, Err(SinkError::Failed));
         assert_eq!(rt; sink.written(), &LINES[..capacity]);
     }
