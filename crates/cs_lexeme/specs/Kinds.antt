@@ -1,5 +1,6 @@
 -- Which texts give a token, by the kinds of the rules that win them.
 use Rattle.std.specs.Prelude.{◌≡◌, ◌≢◌, ◌⊎◌, ℕ, ◌-◌, ◌<◌, ◌≤◌, List, [], ◌∷◌, Option, Some, None, length, slice_get, slice_set}
+use Rattle.std.proofs.Common.{Vec, Global}
 use Rattle.cs_pattern_items.specs.StandsFor.{AreBytes}
 use Rattle.cs_pattern_tree.specs.declared.kind.Kind.{Kind}
 use Rattle.cs_pattern_tree.specs.declared.kind.Kind.TheVariants.{Token, OwnByte}
@@ -8,9 +9,11 @@ use Rattle.cs_scan.specs.declared.scanner.Scanner.{Scanner}
 use Rattle.cs_scan.specs.Compared.{scanning}
 use Rattle.cs_scan.specs.Scan.{Scanning, literal_token}
 use Rattle.cs_lexeme.specs.declared.search.Visit.{Visit}
+use Rattle.cs_lexeme.specs.declared.steps.StepTable.{StepTable}
 use Rattle.cs_lexeme.specs.Visits.{Spells}
 use Rattle.cs_lexeme.specs.Order.{IsAtMost, IsBefore}
 use Rattle.cs_lexeme.specs.Lexeme.{lexeme_in}
+use Rattle.cs_lexeme.specs.Texts.{texts_of}
 
 -- some text leads to the state
 abbrev pub IsReached : Machine → ℕ → Type 0
@@ -138,3 +141,35 @@ KeepsText old token text new = (kept : Option (List ℕ)) × KeepsLeast (lexeme_
 pub record AreMidOwn (s : Scanning) (below tokens : ℕ) (texts : List (Option (List ℕ))) : Type 0 where
   pub least : AreLeast s below texts
   pub all : length texts ≡ tokens
+
+-- the kind of the lowest rule that matches the texts of the state, or that none does
+abbrev pub IsKindAt : Scanner → ℕ → Option Kind → Type 0
+IsKindAt scanner state kind = (x : List ℕ) → StateOf scanner.automaton.now state x → IsKindOf (scanning scanner) x kind
+
+-- the kind names the token, which is open
+abbrev pub NamesOpen : List (Option (List ℕ)) → Option Kind → ℕ → Type 0
+NamesOpen texts kind token = (kind ≡ Some (token_kind token)) × IsOpen texts token
+
+-- the token's text is put, and the others stay
+abbrev pub PutsText : List (Option (List ℕ)) → ℕ → List ℕ → List (Option (List ℕ)) → Type 0
+PutsText old token text new = new ≡ slice_set old (token - 1) (Some text)
+
+-- of all places, the first one behind the start whose texts give their own byte
+abbrev pub IsFirstOwn : Scanner → List Visit → Option ℕ → Type 0
+IsFirstOwn scanner visits place = IsFirstPlace (scanning scanner) scanner.automaton.now visits (length visits) own_byte place
+
+-- its text
+abbrev pub IsFirstOwnText : Scanner → List Visit → Option (List ℕ) → Type 0
+IsFirstOwnText scanner visits text = IsFound (scanning scanner) scanner.automaton.now visits (length visits) own_byte text
+
+-- what is seen of the texts that all places name
+abbrev pub PutsNamed : StepTable → List Visit → List (Option (Vec ℕ Global)) → List (Option (Vec ℕ Global)) → Type 0
+PutsNamed table visits old new = AreAllFound table.scanner visits (length visits) (texts_of old) (texts_of new)
+
+-- what is seen of the texts of tokens so far
+abbrev pub AreLeastTexts : Scanner → ℕ → List (Option (Vec ℕ Global)) → Type 0
+AreLeastTexts scanner below texts = AreLeast (scanning scanner) below (texts_of texts)
+
+-- as many are seen as before
+abbrev pub KeepsCount : List (Option (Vec ℕ Global)) → List (Option (Vec ℕ Global)) → Type 0
+KeepsCount old new = length (texts_of new) ≡ length (texts_of old)

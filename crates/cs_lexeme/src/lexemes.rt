@@ -1,9 +1,8 @@
 // The lexemes of tokens.
 
-ghost use Rattle.std.specs.Prelude.{◌≡◌, ◌+◌, ◌-◌, ◌<◌, ◌≤◌, ◌↔◌, ℕ, List, [], ◌∷◌, IfNone, IfOk, IfSome, IsTrue, None, Some, length, option_map, slice_set};
-ghost use Rattle.cs_automaton.specs.Machine.{StateOf};
+ghost use Rattle.std.specs.Prelude.{◌≡◌, ◌+◌, ◌<◌, ◌≤◌, ◌↔◌, [], ◌∷◌, IfNone, IfOk, IfSome, IsTrue, Some, length, option_map};
 ghost use Rattle.cs_scan.specs.Compared.{HasKinds, HasLiterals, scanning};
-ghost use Rattle.cs_lexeme.specs.Kinds.{AreAllFound, AreEmpty, AreLeast, AreNamed, IsFirstPlace, IsFound, IsKindOf, IsLeast, IsOpen, IsOwn, IsReached, KeepsLeast, KeepsText, NamesNoOpen, first_visit, own_byte, token_kind};
+ghost use Rattle.cs_lexeme.specs.Kinds.{AreEmpty, AreLeastTexts, AreNamed, IsFirstOwn, IsFirstOwnText, IsKindAt, IsLeast, IsOwn, IsReached, KeepsCount, KeepsLeast, KeepsText, NamesNoOpen, NamesOpen, PutsNamed, PutsText, first_visit, own_byte};
 ghost use Rattle.cs_lexeme.specs.Lexeme.{AreLexemes, lexeme_in};
 ghost use Rattle.cs_lexeme.specs.Table.{IsTable};
 ghost use Rattle.cs_lexeme.specs.Texts.{text_of, texts_of};
@@ -38,7 +37,7 @@ fn kind_at(scanner: &Scanner<'_>, state: State) -> Option<Kind>
     requires kinds { HasKinds scanner.now }
     requires state { state < length scanner.now.automaton.now.sets }
     requires reached { IsReached scanner.now.automaton.now state }
-    ensures { (x : List ℕ) → StateOf scanner.now.automaton.now state x → IsKindOf (scanning scanner.now) x result }
+    ensures { IsKindAt scanner.now state result }
 {
     let rule = scanner.automaton.first_rule(state)?;
     Some(scanner.kinds[rule as usize - 1])
@@ -46,7 +45,7 @@ fn kind_at(scanner: &Scanner<'_>, state: State) -> Option<Kind>
 
 /// The token that the kind names, if it is one of those asked for and has no text yet.
 fn open_token(texts: &[Option<Vec<u8>>], kind: Option<Kind>) -> Option<u16>
-    ensures some { IfSome result (λ token. (kind ≡ Some (token_kind token)) × IsOpen (texts_of texts.now) token) }
+    ensures some { IfSome result (NamesOpen (texts_of texts.now) kind) }
     ensures none { IfNone result (NamesNoOpen (texts_of texts.now) kind) }
 {
     let Some(Kind::Token(token)) = kind else {
@@ -95,7 +94,7 @@ fn no_texts(alloc: Global, tokens: u16) -> Result<Vec<Option<Vec<u8>>>, AllocErr
 fn put_text(texts: &mut Vec<Option<Vec<u8>>>, token: u16, text: Vec<u8>)
     requires some { 0 < token }
     requires within { token ≤ length (texts_of texts.old.items) }
-    ensures { texts_of texts.new.items ≡ slice_set (texts_of texts.old.items) (token - 1) (Some text.items) }
+    ensures { PutsText (texts_of texts.old.items) token text.items (texts_of texts.new.items) }
 {
     texts[token as usize - 1] = Some(text);
 }
@@ -111,7 +110,7 @@ fn put_named(
     requires visits { AreVisits table.now.scanner.automaton.now visits.now }
     requires some { 0 < length visits.now }
     requires texts { AreEmpty (length (texts_of texts.old.items)) (texts_of texts.old.items) }
-    ensures { IfOk result (λ _. AreAllFound table.now.scanner visits.now (length visits.now) (texts_of texts.old.items) (texts_of texts.new.items)) }
+    ensures { IfOk result (λ _. PutsNamed table.now visits.now texts.old.items texts.new.items) }
 {
     for place in 1..visits.len() {
         let kind = kind_at(&table.scanner, visits[place].state);
@@ -131,7 +130,7 @@ fn find_named(
 ) -> Result<Vec<Option<Vec<u8>>>, AllocError>
     requires kinds { HasKinds table.now.scanner }
     requires table { IsTable table.now }
-    ensures named { IfOk result (λ texts. AreNamed (scanning table.now.scanner) (texts_of texts.items)) }
+    ensures named { IfOk result (λ list. AreNamed (scanning table.now.scanner) (texts_of list.items)) }
     ensures all { IfOk result (λ texts. length (texts_of texts.items) ≡ tokens) }
 {
     let mut visits = start_visit(alloc, table.scanner.automaton.start())?;
@@ -145,7 +144,7 @@ fn find_named(
 fn first_own(table: &StepTable<'_>, visits: &[Visit]) -> Option<usize>
     requires kinds { HasKinds table.now.scanner }
     requires visits { AreVisits table.now.scanner.automaton.now visits.now }
-    ensures { IsFirstPlace (scanning table.now.scanner) table.now.scanner.automaton.now visits.now (length visits.now) own_byte result }
+    ensures { IsFirstOwn table.now.scanner visits.now result }
 {
     for place in 1..visits.len() {
         if is_own(kind_at(&table.scanner, visits[place].state)) {
@@ -163,7 +162,7 @@ fn first_text(
 ) -> Result<Option<Vec<u8>>, AllocError>
     requires kinds { HasKinds table.now.scanner }
     requires visits { AreVisits table.now.scanner.automaton.now visits.now }
-    ensures { IfOk result (λ text. IsFound (scanning table.now.scanner) table.now.scanner.automaton.now visits.now (length visits.now) own_byte (text_of text)) }
+    ensures { IfOk result (λ text. IsFirstOwnText table.now.scanner visits.now (text_of text)) }
 {
     match first_own(table, visits) {
         Some(place) => Ok(Some(text_at(alloc, visits, place)?)),
@@ -220,9 +219,9 @@ fn put_own(
     requires kinds { HasKinds table.now.scanner }
     requires literals { HasLiterals table.now.scanner }
     requires table { IsTable table.now }
-    requires least { AreLeast (scanning table.now.scanner) byte (texts_of texts.old.items) }
-    ensures least { IfOk result (λ _. AreLeast (scanning table.now.scanner) (byte + 1) (texts_of texts.new.items)) }
-    ensures all { IfOk result (λ _. length (texts_of texts.new.items) ≡ length (texts_of texts.old.items)) }
+    requires least { AreLeastTexts table.now.scanner byte texts.old.items }
+    ensures least { IfOk result (λ _. AreLeastTexts table.now.scanner (byte + 1) texts.new.items) }
+    ensures all { IfOk result (λ _. KeepsCount texts.old.items texts.new.items) }
 {
     let token = table.scanner.literals[byte as usize];
     if token == 0 || token as usize > texts.len() {

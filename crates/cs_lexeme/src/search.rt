@@ -1,8 +1,8 @@
 // The states that texts lead to, each met by its least text.
 
 ghost use Rattle.std.specs.Prelude.{◌≡◌, ◌+◌, ◌*◌, ◌<◌, ◌≤◌, IfOk, Some, length, slice_get};
-ghost use Rattle.cs_lexeme.specs.Table.{IsTable, table_rows};
-ghost use Rattle.cs_lexeme.specs.Visits.{AreAllMet, AreEarlier, AreLight, AreMarked, AreMet, AreVisits, AreWithin, Extends, IsClosed, Spells};
+ghost use Rattle.cs_lexeme.specs.Table.{IsTable, MeetsAll, table_rows};
+ghost use Rattle.cs_lexeme.specs.Visits.{AreEarlier, AreLight, AreMarked, AreMet, AreVisits, AreWithin, Extends, IsClosed, Spells};
 
 use crate::steps::{Step, StepTable};
 use cs_automaton::State;
@@ -82,7 +82,7 @@ pub fn meet_all(
     requires from { from ≤ length visits.old.items }
     requires visits { AreVisits table.now.scanner.automaton.now visits.old.items }
     requires light { AreLight (4096 * from) visits.old.items }
-    ensures { IfOk result (λ _. AreAllMet table.now.scanner.automaton.now (table_rows table.now) from visits.old.items visits.new.items) }
+    ensures { IfOk result (λ _. MeetsAll table.now from visits.old.items visits.new.items) }
 {
     let mut met = marks(alloc, table.rows.len(), visits)?;
     let mut place = from;

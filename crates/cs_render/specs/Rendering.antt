@@ -2,7 +2,8 @@
 use Rattle.std.specs.Prelude.{◌≡◌, ℕ, ◌<◌, ◌≤◌, length, List, ◌++◌, ◌∷◌, All, Option, Some, None}
 use Rattle.std.specs.List.{AllZip}
 use Rattle.cs_scan.specs.Scan.{Scanning, Scans}
-use Rattle.cs_scan.specs.Compared.{IsInCommon}
+use Rattle.cs_scan.specs.declared.scanner.Scanner.{Scanner}
+use Rattle.cs_scan.specs.Compared.{IsInCommon, scanning}
 use Rattle.cs_lexeme.specs.Lexeme.{lexeme_in}
 use Rattle.cs_render.specs.declared.rendered.Rendered.{Rendered}
 use Rattle.cs_render.specs.declared.rendered.Rendered.TheVariants as answers
@@ -48,3 +49,7 @@ abbrev pub IsRendered : Scanning → List (Option (List ℕ)) → List ℕ → L
 IsRendered s lexemes separator tokens (Text text) = IsRuleText lexemes separator tokens text × Scans s text tokens
 IsRendered s lexemes separator tokens (NoLexeme token) = IsFirstWithout lexemes tokens token
 IsRendered s lexemes separator tokens (Differs after) = (text : List ℕ) × IsRuleText lexemes separator tokens text × (Scans s text tokens → ⊥) × IsInCommon s text tokens after
+
+-- the value of the answer is the rendering of the tokens
+abbrev pub Renders : Scanner → List (Option (List ℕ)) → List ℕ → List ℕ → Rendered → Type 0
+Renders scanner lexemes separator tokens answer = IsRendered (scanning scanner) lexemes separator tokens (rendering answer)

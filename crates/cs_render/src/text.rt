@@ -1,8 +1,8 @@
 // The text of a list of tokens.
 
 ghost use Rattle.std.specs.Prelude.{◌≡◌, ◌<◌, ◌≤◌, All, IfNone, IfOk, IfSome, length};
-ghost use Rattle.cs_scan.specs.Compared.{HasKinds, HasLiterals, scanning};
-ghost use Rattle.cs_render.specs.Rendering.{AreTokens, HasLexeme, IsFirstWithout, IsRendered, IsRuleText, rendering};
+ghost use Rattle.cs_scan.specs.Compared.{HasKinds, HasLiterals};
+ghost use Rattle.cs_render.specs.Rendering.{AreTokens, HasLexeme, IsFirstWithout, IsRuleText, Renders};
 ghost use Rattle.cs_render.specs.Parts.{PutsLexeme};
 
 use crate::rendered::Rendered;
@@ -73,7 +73,7 @@ pub fn render(
     requires literals { HasLiterals scanner.now }
     requires tokens { AreTokens lexemes.now tokens.now }
     requires few { length tokens.now ≤ 1000001 }
-    ensures { IfOk result (λ r. IsRendered (scanning scanner.now) lexemes.now separator.now tokens.now (rendering r)) }
+    ensures { IfOk result (Renders scanner.now lexemes.now separator.now tokens.now) }
 {
     if let Some(token) = first_without(lexemes, tokens) {
         return Ok(Rendered::NoLexeme(token));
