@@ -15,6 +15,7 @@ mod lexemes;
 mod order;
 mod rank;
 mod search;
+mod sharing;
 mod steps;
 
 pub use laws::{one_lexeme, some_lexeme, total_order};
