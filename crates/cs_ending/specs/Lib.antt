@@ -1,0 +1,4 @@
+pub mod Requests
+pub mod Files
+pub mod Ending
+pub mod Headline

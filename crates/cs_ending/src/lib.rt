@@ -1,0 +1,14 @@
+//! How a run ends: by which cause, with which status and which line; and what follows from that for whoever ran it.
+//!
+//! The layer above does what the words ask for, comes to an [`Ending`] whose cause it knows, and gives it to [`finish`], which
+//! says it on the error output and answers the status. What a run promises then is one page, `specs/Headline`.
+//!
+//! Meaning, from the top down: `specs/Headline` (the promises), `Ending` (causes, statuses, lines), `Files` (which files are
+//! accepted and refused, which text is asked for), `Requests` (what words ask for).
+#![tactic(auto)]
+
+mod ending;
+mod report;
+
+pub use ending::Ending;
+pub use report::finish;

@@ -1,0 +1,4 @@
+pub mod Files
+pub mod Refusal
+pub mod Lines
+pub mod Read

@@ -1,0 +1,18 @@
+//! The files that a command names: both are read before either is judged, and the first cause that applies is told.
+//!
+//! The layer above asks for a yacc file alone by `read_grammar`, or for a yacc file and a lex file by `read_pair`; it gets what
+//! they mean, or why not. `line` says a refusal in words.
+//!
+//! Meaning: `specs/Refusal` (why files are refused, and in which order), `Files` (what it is that a desk has a file or none),
+//! `Lines` (the line of a refusal).
+#![tactic(auto)]
+
+mod judging;
+mod lines;
+mod reading;
+mod refusal;
+
+pub use judging::Pair;
+pub use lines::line;
+pub use reading::{read_grammar, read_pair};
+pub use refusal::{Refusal, Role, Stop};

@@ -1,0 +1,33 @@
+// Why files aren't given.
+
+use cs_lex::LexError;
+use cs_yacc::YaccError;
+
+/// What a file is to a command.
+#[derive(Clone, Copy, Debug, PartialEq, Eq)]
+pub enum Role {
+    Yacc,
+    Lex,
+}
+
+/// Why files are refused, the first cause that applies.
+#[derive(Clone, Copy, Debug, PartialEq, Eq)]
+pub enum Refusal {
+    /// A file has more bytes than are read.
+    TooLong(Role),
+    /// The yacc file is none.
+    OfYacc(YaccError),
+    /// The lex file is none.
+    OfLex(LexError),
+    /// The automaton of the lex file has too many states.
+    States,
+}
+
+/// Why files aren't given.
+#[derive(Clone, Copy, Debug, PartialEq, Eq)]
+pub enum Stop {
+    /// The file can't be read.
+    NoFile(Role),
+    Refused(Refusal),
+    Memory,
+}

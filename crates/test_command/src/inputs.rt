@@ -1,0 +1,102 @@
+// The files of a command. What is expected was worked by hand from the order of the causes and from the lines that
+// docs/FORMATS.md gives.
+
+use cs_input::{Refusal, Role, Stop, line, read_pair};
+use cs_io::MemoryDesk;
+use std::alloc::{AllocError, Global};
+use std::test::Fail;
+
+const SUMS: &[u8] = b"%token NUM\n%%\ne : e '+' t | t ;\nt : NUM | '(' e ')' ;\n";
+
+const SCANNER: &[u8] = b"%%\n[0-9]+ return NUM;\n[-+*/()] return yytext[0];\n[ \\t\\n]+ ;\n";
+
+// What is said of a yacc file `y` and a lex file `l`, each where there is one.
+fn said(alloc: Global, yacc: Option<&[u8]>, lex: Option<&[u8]>) -> Result<String, AllocError> {
+    let mut files = Vec::new(alloc);
+    if let Some(bytes) = yacc {
+        files.push((String::from_str(alloc, "y")?, bytes.to_vec(alloc)?))?;
+    }
+    if let Some(bytes) = lex {
+        files.push((String::from_str(alloc, "l")?, bytes.to_vec(alloc)?))?;
+    }
+    let mut desk = MemoryDesk::new(files, Vec::new(alloc))?;
+    match read_pair(alloc, "y", "l", &mut desk) {
+        Ok(_) => String::from_str(alloc, "read"),
+        Err(Stop::NoFile(Role::Yacc)) => String::from_str(alloc, "no yacc file"),
+        Err(Stop::NoFile(Role::Lex)) => String::from_str(alloc, "no lex file"),
+        Err(Stop::Refused(refusal)) => line(alloc, refusal),
+        Err(Stop::Memory) => String::from_str(alloc, "no memory"),
+    }
+}
+
+#[test]
+fn causes_in_their_order(rt: HostRuntime) -> Result<(), Fail> {
+    let alloc = rt.alloc();
+    let long = vec![in alloc; b'x'; 1_048_577]?;
+    let rows: [(Option<&[u8]>, Option<&[u8]>, &str); 9] = [
+        (Some(SUMS), Some(SCANNER), "read"),
+        (None, Some(SCANNER), "no yacc file"),
+        (Some(b""), None, "no lex file"),
+        (
+            Some(&long),
+            Some(&long),
+            "conform: yacc: Length above 1048576\n",
+        ),
+        (
+            Some(&long),
+            Some(b""),
+            "conform: yacc: Length above 1048576\n",
+        ),
+        (
+            Some(b""),
+            Some(&long),
+            "conform: lex: Length above 1048576\n",
+        ),
+        (Some(b""), Some(b""), "conform: yacc: Syntax at 0\n"),
+        (Some(SUMS), Some(b""), "conform: lex: Layout at 0\n"),
+        (Some(SUMS), Some(b"%%\n"), "conform: lex: NoRules\n"),
+    ];
+    for (yacc, lex, want) in rows {
+        let got = said(alloc, yacc, lex)?;
+        assert!(rt; got.as_str() == want);
+    }
+    Ok(())
+}
+
+#[test]
+fn lines_on_lex_files(rt: HostRuntime) -> Result<(), Fail> {
+    let alloc = rt.alloc();
+    let rows: [(&[u8], &str); 9] = [
+        (b"%%\na return NUM; /*\n", "conform: lex: Unended at 17\n"),
+        (b"%q\n%%\na ;\n", "conform: lex: UnknownDirective at 0\n"),
+        (
+            b"%option yywrap\n%%\na ;\n",
+            "conform: lex: UnknownOption at 8\n",
+        ),
+        (b"%s A\n%%\na ;\n", "conform: lex: StartCondition at 0\n"),
+        (b"%%\na |\n", "conform: lex: DanglingBar at 3\n"),
+        (
+            b"%%\nab/cd return NUM;\n",
+            "conform: lex: Pattern at 3: Trailing at 2\n",
+        ),
+        (
+            b"%%\n{A} ;\n",
+            "conform: lex: Pattern at 3: UndefinedName at 0\n",
+        ),
+        (
+            b"A {B}\nB {A}\n%%\na ;\n",
+            "conform: lex: Pattern at 2: DefinitionCycle at 0\n",
+        ),
+        (
+            b"%%\n((a{1000}){1000}) ;\n",
+            "conform: lex: Pattern at 3: TooManyPositions above 8192\n",
+        ),
+    ];
+    for (lex, want) in rows {
+        let got = said(alloc, Some(SUMS), Some(lex))?;
+        assert!(rt; got.as_str() == want);
+    }
+    let states = line(alloc, Refusal::States)?;
+    assert!(rt; states.as_str() == "conform: lex: States above 16384\n");
+    Ok(())
+}
