@@ -15,7 +15,7 @@ use Rattle.cs_positive.specs.declared.verdict.Verdict.TheVariants.{Feasible, Inf
 use Rattle.cs_positive.proofs.Verdicts.{one_verdict_of}
 use Rattle.cs_render.specs.Rendering.{Rendering}
 use Rattle.cs_yacc.specs.File.{File}
-use Rattle.cs_manifest.specs.Manifest.{AreLexemesBy, AreNegativesOf, AreTokensOf, BaseEntry, Choice, GoalEntry, IsBaseOf, IsEntryOf, IsManifest, IsNegativeOf, IsRenderedBy, IsTextOf, NegativeEntry, bases, manifest_text, rules_form}
+use Rattle.cs_manifest.specs.Manifest.{AreLexemesBy, AreNegativesOf, AreTokensOf, BaseEntry, Choice, GoalEntry, IsBaseOf, IsEntryOf, IsManifest, IsNegativeOf, IsRenderedBy, IsTextOf, NegativeEntry, bases, most_bases, manifest_text, rules_form}
 
 -- where each member has one partner at most, so has a list
 pub one_zip : {A B : Type 0} {R : A → B → Type 0} → ((x : A) (a b : B) → R x a → R x b → a ≡ b) → (xs : List A) (ys zs : List B) → AllZip R xs ys → AllZip R xs zs → ys ≡ zs
@@ -82,9 +82,9 @@ module _ (w : Measure) (choice : Choice) (file : File)
       let lexemes : a.lexemes ≡ b.lexemes = one_lexemes a.lexemes b.lexemes a.are_lexemes b.are_lexemes in
       let verdicts = subst (λ (l : Option (List (Option (List ℕ)))). AllZip (IsEntryOf of choice.texts l) (goals file.grammar choice.criteria) b.entries) (sym lexemes) b.verdicts in
       let entries : a.entries ≡ b.entries = one_zip (one_entry choice one_rendering a.lexemes of) (goals file.grammar choice.criteria) a.entries b.entries a.verdicts verdicts in
-      let moved = subst (λ (l : Option (List (Option (List ℕ)))). AllZip (IsBaseOf file.grammar choice l) (bases choice.most b.entries) b.mutants) (sym lexemes) b.negatives in
-      let negatives = subst (λ (es : List GoalEntry). AllZip (IsBaseOf file.grammar choice a.lexemes) (bases choice.most es) b.mutants) (sym entries) moved in
-      let mutants : a.mutants ≡ b.mutants = one_zip (one_base choice one_rendering a.lexemes file.grammar) (bases choice.most a.entries) a.mutants b.mutants a.negatives negatives in
+      let moved = subst (λ (l : Option (List (Option (List ℕ)))). AllZip (IsBaseOf file.grammar choice l) (bases (most_bases choice) b.entries) b.mutants) (sym lexemes) b.negatives in
+      let negatives = subst (λ (es : List GoalEntry). AllZip (IsBaseOf file.grammar choice a.lexemes) (bases (most_bases choice) es) b.mutants) (sym entries) moved in
+      let mutants : a.mutants ≡ b.mutants = one_zip (one_base choice one_rendering a.lexemes file.grammar) (bases (most_bases choice) a.entries) a.mutants b.mutants a.negatives negatives in
       a.lines ∙ ap (λ (l : Option (List (Option (List ℕ)))). manifest_text file l a.entries a.mutants) lexemes
       ∙ ap (λ (es : List GoalEntry). manifest_text file b.lexemes es a.mutants) entries
       ∙ ap (λ (bs : List BaseEntry). manifest_text file b.lexemes b.entries bs) mutants ∙ sym b.lines

@@ -1,7 +1,7 @@
 -- The manifest of a yacc file: which goals with which verdicts, tokens and texts, which bases and negatives, and the text of all
 -- that (rule coverage by Purdom 1972, context-dependent rule coverage by Lämmel 2001, pairs, and token mutations by Raselimo,
 -- Taljaard and Fischer 2019).
-use Rattle.std.specs.Prelude.{◌≡◌, ℕ, ◌+◌, List, [], ◌∷◌, ◌++◌, length, map, take, not, bytes_eq, count_by, sum_by, true, false, Option, None, Some, IsSomeAnd}
+use Rattle.std.specs.Prelude.{◌≡◌, ℕ, ◌+◌, ◌||◌, Bool, if◌then◌else◌, List, [], ◌∷◌, ◌++◌, length, map, take, not, bytes_eq, count_by, sum_by, true, false, Option, None, Some, IsSomeAnd}
 use Rattle.std.specs.List.{AllZip, filter, enumerate_from}
 use Rattle.cs_grammar.specs.Grammar.{PlainGrammar}
 use Rattle.cs_grammar.specs.Leftmost.{IsYield}
@@ -105,6 +105,14 @@ abbrev pub distinct : List (ℕ × List ℕ) → List (ℕ × List ℕ)
 distinct [] = []
 distinct (first ∷ rest) = first ∷ filter (λ y. not (bytes_eq y.1 first.1)) (distinct rest)
 
+-- some operator is chosen
+abbrev pub has_operator : Operators → Bool
+has_operator o = o.delete || o.insert || o.replace || o.swap
+
+-- how many bases there are at most: where nothing is mutated, none
+abbrev pub most_bases : Choice → ℕ
+most_bases choice = if has_operator choice.operators then choice.most else 0
+
 -- the first of these, as many as are wanted
 abbrev pub bases : ℕ → List GoalEntry → List (ℕ × List ℕ)
 bases most entries = take most (distinct (yields entries))
@@ -182,7 +190,7 @@ pub record IsManifest (w : Measure) (choice : Choice) (file : File) (text : List
   pub mutants : List BaseEntry
   pub are_lexemes : AreLexemesBy choice.texts file.grammar.tokens lexemes
   pub verdicts : EntriesOf (weighed file.grammar w) choice.texts lexemes (goals file.grammar choice.criteria) entries
-  pub negatives : BasesOf file.grammar choice lexemes (bases choice.most entries) mutants
+  pub negatives : BasesOf file.grammar choice lexemes (bases (most_bases choice) entries) mutants
   pub lines : text ≡ manifest_text file lexemes entries mutants
 
 -- It isn't so that no value is of the kind.
