@@ -1,1 +1,3 @@
 mod Pieces
+pub mod OneRendering
+pub mod SomeRendering

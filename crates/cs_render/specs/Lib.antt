@@ -1,3 +1,4 @@
 pub mod Rendering
 pub mod Joined
 pub mod Parts
+pub mod Laws

@@ -1,14 +1,17 @@
 //! The text of a list of tokens, where the lexemes, joined by a separator, scan back to the tokens.
 //!
-//! The layers above render a list of tokens by `render` and write what came of it. What an answer says is its `rendering`.
+//! The layers above render a list of tokens by `render` and write what came of it. What an answer says is its `rendering`. The
+//! laws say that a list of tokens has exactly one.
 //!
-//! Meaning: `specs/Rendering.antt` (values of answers, and which one a list of tokens has), `specs/Joined.antt`. Working words
-//! of proofs: `specs/Parts.antt`.
+//! Meaning: `specs/Rendering.antt` (values of answers, and which one a list of tokens has), `specs/Joined.antt`,
+//! `specs/Laws.antt`. Working words of proofs: `specs/Parts.antt`.
 #![tactic(auto)]
 
+mod laws;
 mod rendered;
 mod sharing;
 mod text;
 
+pub use laws::{one_rendering, some_rendering};
 pub use rendered::Rendered;
 pub use text::render;
