@@ -1,14 +1,13 @@
 // The lines of a manifest: what is expected was written by hand from the page on formats.
 
 use cs_goals::Goal;
-use cs_grammar::{Derivation, Mark};
+use cs_grammar::Mark;
 use cs_io::{MemorySink, NullSink, Sink, SinkError};
 use cs_manifest::{Counts, Entry, Head, Manifest};
 use cs_mutate::Edit;
 use cs_positive::Verdict;
 use cs_render::Rendered;
 use cs_yacc::{YaccFile, read_yacc};
-use std::alloc::{AllocError, Global};
 use std::test::Fail;
 
 const FILE: &[u8] = b"%token A\n%%\ns : A '\\'' | ;\n";
@@ -20,10 +19,7 @@ rule 1 s : A '\\x27'
 rule 2 s :
 goal 1 rule 1 large
 goal 2 context 1 2 3 infeasible
-goal 3 pair <begin> <end> size 1
-  derive 2
-  tokens
-  text \"\"
+goal 3 pair <begin> <end> infeasible
 base 1 goal 3
 negative 1 base 1 delete 0 pair <begin> <end> at 0
   tokens
@@ -31,36 +27,24 @@ negative 1 base 1 delete 0 pair <begin> <end> at 0
 negative 2 base 1 swap 7 pair <begin> <end> at 3
   tokens
   no text scan 4294967295
-end goals 3 feasible 1 infeasible 1 large 1 negatives 2
+end goals 3 feasible 0 infeasible 2 large 1 negatives 2
 ";
 
 // The text of the first negative.
 const TEXT: &[u8] = b" a\"\\\x00~\x7f'";
 
-fn write_lines<S: Sink>(
-    sink: &mut S,
-    file: &YaccFile,
-    verdict: &Verdict,
-    empty: Vec<u8>,
-    text: Vec<u8>,
-) -> Result<Counts, SinkError> {
+fn write_lines<S: Sink>(sink: &mut S, file: &YaccFile, text: Vec<u8>) -> Result<Counts, SinkError> {
     let head = Head {
         yacc: file,
         lexemes: None,
     };
     let mut manifest = Manifest::begin(sink, &head)?;
-    write_goals(&mut manifest, sink, verdict, empty)?;
+    write_goals(&mut manifest, sink)?;
     write_mutants(&mut manifest, sink, text)?;
     manifest.finish(sink)
 }
 
-fn write_goals<S: Sink>(
-    manifest: &mut Manifest<'_>,
-    sink: &mut S,
-    verdict: &Verdict,
-    empty: Vec<u8>,
-) -> Result<(), SinkError> {
-    let rendered = Rendered::Text(empty);
+fn write_goals<S: Sink>(manifest: &mut Manifest<'_>, sink: &mut S) -> Result<(), SinkError> {
     let rule = Entry::Goal {
         number: 1,
         goal: &Goal::Rule(1),
@@ -87,9 +71,9 @@ fn write_goals<S: Sink>(
             left: Mark::Begin,
             right: Mark::End,
         },
-        verdict,
+        verdict: &Verdict::Infeasible,
         tokens: &[],
-        rendered: Some(&rendered),
+        rendered: None,
     };
     manifest.entry(sink, &pair)
 }
@@ -125,28 +109,16 @@ fn write_mutants<S: Sink>(
     manifest.entry(sink, &second)
 }
 
-fn feasible(alloc: Global) -> Result<Verdict, AllocError> {
-    let mut derivation = Derivation::new(alloc);
-    derivation.push(2)?;
-    Ok(Verdict::Feasible {
-        size: 1,
-        derivation,
-    })
-}
-
 #[test]
 fn lines_stand_as_the_format_says(rt: HostRuntime) -> Result<(), Fail> {
     let alloc = rt.alloc();
     let file = read_yacc(alloc, FILE)?;
-    let verdict = feasible(alloc)?;
     let mut sink = MemorySink::new(alloc, LINES.len(), 7, Vec::new(alloc))?;
-    let text = TEXT.to_vec(alloc)?;
-    let counts = write_lines(&mut sink, &file, &verdict, Vec::new(alloc), text)?;
+    let counts = write_lines(&mut sink, &file, TEXT.to_vec(alloc)?)?;
     assert_eq!(rt; sink.written(), LINES);
     assert_eq!(rt; counts.bytes, LINES.len() as u128);
-    let text = TEXT.to_vec(alloc)?;
     let mut sink = NullSink::new();
-    let same = write_lines(&mut sink, &file, &verdict, Vec::new(alloc), text)?;
+    let same = write_lines(&mut sink, &file, TEXT.to_vec(alloc)?)?;
     assert_eq!(rt; same, counts);
     Ok(())
 }
@@ -155,11 +127,9 @@ fn lines_stand_as_the_format_says(rt: HostRuntime) -> Result<(), Fail> {
 fn the_output_is_full_at_each_byte(rt: HostRuntime) -> Result<(), Fail> {
     let alloc = rt.alloc();
     let file = read_yacc(alloc, FILE)?;
-    let verdict = feasible(alloc)?;
     for capacity in 0..LINES.len() {
         let mut sink = MemorySink::new(alloc, capacity, 3, Vec::new(alloc))?;
-        let text = TEXT.to_vec(alloc)?;
-        let answer = write_lines(&mut sink, &file, &verdict, Vec::new(alloc), text);
+        let answer = write_lines(&mut sink, &file, TEXT.to_vec(alloc)?);
         assert_eq!(rt; answer, Err(SinkError::Failed));
         assert_eq!(rt; sink.written(), &LINES[..capacity]);
     }
