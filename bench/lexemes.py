@@ -1,0 +1,234 @@
+#!/usr/bin/env python3
+"""Times the lexemes of all tokens at the limits: bench/lexemes.py.
+
+Each row is a yacc file and a lex file whose automaton has 16,384 states, for 512 tokens: the processor seconds for all their
+lexemes, without the automaton, and the greatest memory while they are made, beside their bounds. It ends with status 1 where a
+bound is passed. No command makes lexemes yet, so a program that does is made in a copy of this repository, proved and run
+there; where the first word names that program, as an earlier run built it, that one is timed. Nothing here is part of the gate.
+"""
+
+import os
+import subprocess
+import sys
+import tempfile
+
+from measure import TOP, Bounds, build
+
+LIBRARIES = "cs_lexeme cs_scan cs_automaton cs_lex cs_yacc cs_io cs_grammar cs_pattern_tree"
+
+MAIN = """\
+//! Makes the automaton of the yacc file and the lex file that its first two arguments name, and as often as there are words
+//! behind them the lexemes of all tokens.
+#![tactic(auto)]
+
+ghost use Rattle.std.specs.Prelude.{◌≡◌, length};
+ghost use Rattle.cs_scan.specs.Compared.{HasKinds, HasLiterals};
+
+use cs_automaton::Automaton;
+use cs_io::{Desk, FolderDesk};
+use cs_lex::{LexFile, read_lex};
+use cs_lexeme::Lexemes;
+use cs_scan::Scanner;
+use cs_yacc::{MOST_BYTES, YaccFile, read_yacc};
+use std::alloc::Global;
+use std::{env, io};
+
+fn yacc_file(alloc: Global, bytes: &[u8]) -> Option<YaccFile> {
+    if bytes.len() <= MOST_BYTES {
+        read_yacc(alloc, bytes).ok()
+    } else {
+        None
+    }
+}
+
+fn lex_file(alloc: Global, bytes: &[u8], yacc: &YaccFile) -> Option<LexFile> {
+    if bytes.len() <= MOST_BYTES {
+        read_lex(alloc, bytes, yacc).ok()
+    } else {
+        None
+    }
+}
+
+/// The bytes of all lexemes, and how many tokens have one.
+fn sums(lexemes: &Lexemes, tokens: u16) -> (u64, u64)
+    requires { length lexemes.now ≡ tokens }
+{
+    let mut bytes = 0u64;
+    let mut count = 0u64;
+    for i in 0..tokens {
+        if let Some(lexeme) = lexemes.get(i + 1) {
+            bytes = bytes.saturating_add(lexeme.len() as u64);
+            count = count.saturating_add(1);
+        }
+    }
+    (bytes, count)
+}
+
+/// Makes the lexemes so many times, and says what is summed of them.
+fn make(rt: &HostRuntime, scanner: &Scanner<'_>, tokens: u16, times: usize) -> io::Result<()>
+    requires kinds { HasKinds scanner.now }
+    requires literals { HasLiterals scanner.now }
+{
+    let alloc = rt.alloc();
+    for _ in 0..times {
+        let lexemes = Lexemes::new(alloc, scanner, tokens)?;
+        let (bytes, count) = sums(&lexemes, tokens);
+        println!(rt; "{count} {bytes}")?;
+    }
+    Ok(())
+}
+
+/// Makes the automaton, and the lexemes so many times.
+fn run(rt: &HostRuntime, yacc: &YaccFile, lex: &LexFile, times: usize) -> io::Result<()> {
+    let alloc = rt.alloc();
+    let Ok(automaton) = Automaton::new(alloc, lex.patterns()) else {
+        return Ok(());
+    };
+    let tokens = yacc.grammar().tokens();
+    let states = automaton.state_count();
+    println!(rt; "{tokens} {states}")?;
+    let scanner = Scanner {
+        automaton: &automaton,
+        kinds: lex.kinds(),
+        literals: lex.literals(),
+    };
+    make(rt, &scanner, tokens, times)
+}
+
+fn main(rt: HostRuntime) -> io::Result<()> {
+    let alloc = rt.alloc();
+    let mut desk = FolderDesk::new(&rt);
+    let words: Vec<String> = env::args(&rt)?.collect(alloc)?;
+    if words.len() < 3 {
+        return Ok(());
+    }
+    let Ok(bytes) = desk.read(alloc, words[1].as_str(), MOST_BYTES) else {
+        return Ok(());
+    };
+    let Ok(more) = desk.read(alloc, words[2].as_str(), MOST_BYTES) else {
+        return Ok(());
+    };
+    let Some(yacc) = yacc_file(alloc, &bytes) else {
+        return Ok(());
+    };
+    let Some(lex) = lex_file(alloc, &more, &yacc) else {
+        return Ok(());
+    };
+    run(&rt, &yacc, &lex, words.len() - 3)
+}
+"""
+
+TOKENS = 512
+# the start stands beside the sets
+STATES = 16384 + 1
+OWN = 200
+MEGABYTES = 100
+# the least of so many runs counts
+RUNS = 3
+
+
+def by_rank():
+    """The bytes in the order of lexemes, without 0, which is no literal."""
+    first = b"abcdefghijklmnopqrstuvwxyz0123456789ABCDEFGHIJKLMNOPQRSTUVWXYZ"
+    marks = bytes(byte for byte in range(0x21, 0x7F) if byte not in first)
+    front = first + marks + b" \n\t"
+    return front + bytes(byte for byte in range(1, 256) if byte not in front)
+
+
+def yacc_file(literals):
+    """A grammar of 512 tokens: these bytes, and as many names as it takes."""
+    names = [f"T{number}" for number in range(1, TOKENS - len(literals) + 1)]
+    bodies = [f"'\\{byte:03o}'" for byte in literals] + names
+    return "%token " + " ".join(names) + "\n%%\ns : " + "\n  | ".join(bodies) + "\n  ;\n"
+
+
+def lex_file(rules):
+    return "%%\n" + "".join(f"{pattern} return {value};\n" for pattern, value in rules)
+
+
+def one_rule():
+    """One token has a lexeme, of fourteen letters."""
+    return yacc_file(b""), lex_file([("(a|b)*a(a|b){13}", "T1")]), 1, 14
+
+
+def all_rules():
+    """Each of the 512 tokens has its own last nine letters, behind an a and any four."""
+    rules = []
+    for number in range(TOKENS):
+        letters = "".join("ab"[number >> place & 1] for place in range(9))
+        rules.append((f"(a|b)*a(a|b){{4}}{letters}", f"T{number + 1}"))
+    return yacc_file(b""), lex_file(rules), TOKENS, TOKENS * 14
+
+
+def own_bytes(first, second):
+    """Own bytes alone. Each is in one of two sets, which stand for the letters a and b, and leads to all states."""
+    x, y = ("[" + "".join(f"\\{byte:03o}" for byte in part) + "]" for part in (first, second))
+    rules = [(f"({x}|{y})*{x}({x}|{y}){{13}}", "yytext[0]")]
+    return yacc_file(first + second), lex_file(rules), OWN, len(first) * 14 + len(second) * 15
+
+
+def halves():
+    own = by_rank()[:OWN]
+    return own_bytes(own[: OWN // 2], own[OWN // 2 :])
+
+
+def in_turn():
+    own = by_rank()[:OWN]
+    return own_bytes(own[::2], own[1::2])
+
+
+# how often a run makes the lexemes (the automaton of 512 rules takes seconds), and the most seconds for one time; in the last row no two bytes that follow each other by rank lead to one state, so that each
+# state has 200 steps
+ROWS = [
+    ("one rule", one_rule, 100, 0.1),
+    ("512 rules", all_rules, 1000, 0.1),
+    ("200 own bytes, two sets one behind the other", halves, 10, 1),
+    ("200 own bytes, of two sets in turn", in_turn, 2, 1),
+]
+
+
+def ran(path, folder, times):
+    """What the program writes, its processor seconds and its greatest memory in MB."""
+    with open(os.path.join(folder, "told"), "w") as out:
+        child = subprocess.Popen([path, "g.y", "g.l", *["make"] * times], cwd=folder, stdout=out)
+        _, _, used = os.wait4(child.pid, 0)
+        child.returncode = 0
+    with open(os.path.join(folder, "told")) as file:
+        return file.read().splitlines(), used.ru_utime + used.ru_stime, used.ru_maxrss / 1024
+
+
+def least(path, folder, times):
+    """The same, with the least seconds of some runs."""
+    runs = [ran(path, folder, times) for _ in range(RUNS)]
+    return runs[0][0], min(seconds for _, seconds, _ in runs), runs[0][2]
+
+
+def measured(path, folder, row, times):
+    """Seconds for all lexemes, made so many times in one run, and the greatest memory in MB without them and with them."""
+    yacc, lex, lexemes, size = row
+    for name, text in (("g.y", yacc), ("g.l", lex)):
+        with open(os.path.join(folder, name), "w") as file:
+            file.write(text)
+    _, without, used = least(path, folder, 0)
+    told, made, used_made = least(path, folder, times)
+    if told != [f"{TOKENS} {STATES}"] + [f"{lexemes} {size}"] * times:
+        raise SystemExit(f"{told[:2]} in place of {TOKENS} tokens, {STATES} states, {lexemes} lexemes of {size} bytes")
+    if made <= without:
+        raise SystemExit(f"no figure: {without:.3g} s without the lexemes and {made:.3g} s with them, {times} times")
+    return (made - without) / times, used, used_made
+
+
+def main():
+    bounds = Bounds()
+    with tempfile.TemporaryDirectory() as folder:
+        path = os.path.abspath(sys.argv[1]) if len(sys.argv) > 1 else build(folder, TOP, MAIN, LIBRARIES)
+        for name, make, times, most in ROWS:
+            seconds, used, used_made = measured(path, folder, make(), times)
+            print(f"{name}: {used:.3g} MB without the lexemes")
+            bounds.row("  lexemes", seconds, most, "s")
+            bounds.row("  memory", used_made, MEGABYTES, "MB")
+    print(f"load average {os.getloadavg()[0]:.3g}")
+    bounds.end()
+
+
+main()
