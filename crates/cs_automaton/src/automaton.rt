@@ -44,9 +44,13 @@ impl<'p> Model for Automaton<'p> {
 
     ghost coded = { Prim.hlevel (codes, pattern.the_row.coded) };
 
-    ghost view = { λ a. record { patterns = a.patterns.now; sets = map members (lists a.sets.keys) } };
+    ghost view = { λ a. record {
+      patterns = a.patterns.now;
+      sets = map members (lists a.sets.keys);
+    } };
 
-    ghost invariant = { λ a. AreTables (res (map regex a.patterns.now)) (lists a.sets.keys) (option_lists a.steps.items) a.column_of.items a.first_rules.items };
+    ghost invariant = { λ a. AreTables (res (map regex a.patterns.now)) (lists a.sets.keys)
+        (option_lists a.steps.items) a.column_of.items a.first_rules.items };
 }
 
 impl<'p> Automaton<'p> {
@@ -55,7 +59,8 @@ impl<'p> Automaton<'p> {
         requires scannable { AreScannable (map regex patterns.now) }
         ensures patterns { IfOk result (λ a. a.patterns ≡ patterns.now) }
         ensures few { IfOk result (λ _. IsAbove (InSet (res_of patterns.now)) 16384 → ⊥) }
-        ensures too_many { (most : ℕ) → result ≡ Err (too_many most) → TooMany (res_of patterns.now) most }
+        ensures too_many { (most : ℕ)
+            → result ≡ Err (too_many most) → TooMany (res_of patterns.now) most }
     {
         let program = make_program(alloc, patterns)?;
         let width = program.classes.len() / 64 + 1;
@@ -105,7 +110,8 @@ impl Automaton<'_> {
     /// Where the byte leads from the state.
     pub fn step(&self, state: State, byte: u8) -> Option<State>
         requires { state < length self.now.sets }
-        ensures next { (x : List ℕ) → StateOf self.now state x → IsNextState self.now x byte result }
+        ensures next { (x : List ℕ)
+            → StateOf self.now state x → IsNextState self.now x byte result }
         ensures within { IfSome result (λ to. to < length self.now.sets) }
     {
         step_in(&self.steps, state as usize, self.column_of[byte as usize])
@@ -114,7 +120,8 @@ impl Automaton<'_> {
     /// The lowest rule that matches what was read.
     pub fn first_rule(&self, state: State) -> Option<u16>
         requires { state < length self.now.sets }
-        ensures { (x : List ℕ) → StateOf self.now state x → IsFirstRule (patterns_of self.now) x result }
+        ensures { (x : List ℕ)
+            → StateOf self.now state x → IsFirstRule (patterns_of self.now) x result }
     {
         self.first_rules[state as usize]
     }

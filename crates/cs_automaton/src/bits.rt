@@ -31,7 +31,8 @@ pub fn common(alloc: Global, left: &[u64], right: &[u64]) -> Result<Vec<u64>, Al
     requires { length left.now ≡ length right.now }
     ensures long { IfOk result (λ v. length v.items ≡ length left.now) }
     ensures words { IfOk result (λ v. (k : ℕ) → slice_index v.items k < 2 ^ 64) }
-    ensures bits { IfOk result (λ v. (m : ℕ) → bit v.items m ≡ (bit left.now m && bit right.now m)) }
+    ensures bits { IfOk result (λ v.
+        (m : ℕ) → bit v.items m ≡ (bit left.now m && bit right.now m)) }
 {
     let mut words = Vec::with_capacity(alloc, left.len())?;
     for k in 0..left.len() {
@@ -43,7 +44,8 @@ pub fn common(alloc: Global, left: &[u64], right: &[u64]) -> Result<Vec<u64>, Al
 /// Whether no number is in the set.
 pub fn is_empty(words: &[u64]) -> bool
     ensures empty { result ≡ true → (m : ℕ) → bit words.now m ≡ false }
-    ensures other { result ≡ false → (m : ℕ) × (m < 64 * length words.now) × (bit words.now m ≡ true) }
+    ensures other { result ≡ false
+        → (m : ℕ) × (m < 64 * length words.now) × (bit words.now m ≡ true) }
 {
     for k in 0..words.len() {
         if words[k] != 0 {

@@ -28,7 +28,8 @@ fn push_class<'p>(
     classes: &mut Vec<&'p ByteSet>,
 ) -> Result<(), AllocError>
     requires { length classes.old.items + 1 ≤ 16384 }
-    ensures ops { IfOk result (λ _. ops.new.items ≡ ops.old.items ++ place_behind classes.old ∷ []) }
+    ensures ops { IfOk result (λ _.
+        ops.new.items ≡ ops.old.items ++ place_behind classes.old ∷ []) }
     ensures classes { IfOk result (λ _. AddsClasses classes.old classes.new (class.now ∷ [])) }
     ensures count { IfOk result (λ _. GrowsBy classes.old classes.new 1) }
 {
@@ -100,7 +101,8 @@ fn take_on<'p>(
     classes: &mut Vec<&'p ByteSet>,
 ) -> Result<(), AllocError>
     requires { length classes.old.items + piece_letters (piece_of piece) ≤ 16384 }
-    ensures { OnOk result (TakesOn (piece_of piece.entry) left.old left.new ops.old ops.new classes.old classes.new) }
+    ensures { OnOk result
+        (TakesOn (piece_of piece.entry) left.old left.new ops.old ops.new classes.old classes.new) }
 {
     match piece {
         Piece::Step(op) => push_op(op, ops),
@@ -134,8 +136,10 @@ pub fn push_ops<'p>(
     classes: &mut Vec<&'p ByteSet>,
 ) -> Result<(), AllocError>
     requires { length classes.old.items + letters_of pattern.now ≤ 16384 }
-    ensures ops { IfOk result (λ _. ops.new.items ≡ ops.old.items ++ ops_of classes.old pattern.now) }
-    ensures classes { IfOk result (λ _. AddsClasses classes.old classes.new (classes_of pattern.now)) }
+    ensures ops { IfOk result (λ _.
+        ops.new.items ≡ ops.old.items ++ ops_of classes.old pattern.now) }
+    ensures classes { IfOk result (λ _.
+        AddsClasses classes.old classes.new (classes_of pattern.now)) }
     ensures count { IfOk result (λ _. GrowsBy classes.old classes.new (letters_of pattern.now)) }
 {
     let mut left = Vec::new(alloc);

@@ -39,8 +39,10 @@ fn rule_of<'p>(
     classes: &mut Vec<&'p ByteSet>,
 ) -> Result<Rule, AllocError>
     requires { length classes.old.items + letters_of pattern.now ≤ 16384 }
-    ensures rule { IfOk result (λ rule. IsRule rule (length classes.old.items) (regex pattern.now)) }
-    ensures classes { IfOk result (λ _. AddsClasses classes.old classes.new (classes_of pattern.now)) }
+    ensures rule { IfOk result (λ rule.
+        IsRule rule (length classes.old.items) (regex pattern.now)) }
+    ensures classes { IfOk result (λ _.
+        AddsClasses classes.old classes.new (classes_of pattern.now)) }
     ensures count { IfOk result (λ _. GrowsBy classes.old classes.new (letters_of pattern.now)) }
 {
     let from = classes.len();
@@ -68,7 +70,8 @@ pub fn make_program<'p>(alloc: Global, patterns: &'p [Pattern]) -> Result<Progra
     requires { all_letters (res_of patterns.now) ≤ 16384 }
     ensures patterns { IfOk result (λ p. p.patterns.now ≡ patterns.now) }
     ensures rules { IfOk result (λ p. AreRules p.rules.items 0 (map regex patterns.now)) }
-    ensures classes { IfOk result (λ p. values p.classes.items ≡ all_classes (res_of patterns.now)) }
+    ensures classes { IfOk result (λ p.
+        values p.classes.items ≡ all_classes (res_of patterns.now)) }
 {
     let mut rules = Vec::new(alloc);
     let mut classes = Vec::new(alloc);

@@ -47,7 +47,8 @@ fn pop_final(finals: &mut Vec<bool>) -> bool
 }
 
 fn push(frames: &mut Vec<Frame>, entered: bool, left: bool) -> Result<(), AllocError>
-    ensures { OnOk result (frames.new.items ≡ frames.old.items ++ spec.frame entered left ∷ []) }
+    ensures { OnOk result
+        (frames.new.items ≡ frames.old.items ++ spec.frame entered left ∷ []) }
 {
     frames.push(Frame { entered, left })?;
     Ok(())
@@ -62,7 +63,8 @@ fn push_final(finals: &mut Vec<bool>, ends: bool) -> Result<(), AllocError>
 
 /// One step to the front.
 fn back(walk: &mut Backward, op: Op, set: &[u64]) -> Result<(), AllocError>
-    ensures { OnOk result (backward_of walk.new ≡ spec.back (bit set.now) op (backward_of walk.old)) }
+    ensures { OnOk result
+        (backward_of walk.new ≡ spec.back (bit set.now) op (backward_of walk.old)) }
 {
     match op {
         Op::Place(n) => {
@@ -118,7 +120,8 @@ fn finals(alloc: Global, rule: &Rule, set: &[u64]) -> Result<Vec<bool>, AllocErr
 
 /// One step to the end.
 fn go(walk: &mut Forward, op: Op, set: &[u64], next: &mut [u64]) -> Result<(), AllocError>
-    ensures state { OnOk result (forward_of walk.new ≡ spec.go (bit set.now) op (forward_of walk.old)) }
+    ensures state { OnOk result
+        (forward_of walk.new ≡ spec.go (bit set.now) op (forward_of walk.old)) }
     ensures next { OnOk result (Puts next.old next.new (spec.put (bit set.now) op walk.old.live)) }
 {
     match op {
@@ -153,7 +156,8 @@ fn go(walk: &mut Forward, op: Op, set: &[u64], next: &mut [u64]) -> Result<(), A
 
 /// Whether no class of the rule is in the set.
 fn is_idle(rule: &Rule, set: &[u64]) -> bool
-    ensures { result ≡ true → (n : ℕ) → rule.now.from ≤ n → n < rule.now.to → bit set.now n ≡ false }
+    ensures { result ≡ true → (n : ℕ) → rule.now.from ≤ n → n < rule.now.to
+        → bit set.now n ≡ false }
 {
     for n in rule.from..rule.to {
         if has(set, n) {
@@ -173,7 +177,8 @@ fn walk_on(
     next: &mut [u64],
 ) -> Result<bool, AllocError>
     ensures ends { IfOk result (λ ends. ends ≡ live_on set.now ops.now entered finals.items) }
-    ensures next { OnOk result (Puts next.old next.new (put_on set.now ops.now entered finals.items)) }
+    ensures next { OnOk result
+        (Puts next.old next.new (put_on set.now ops.now entered finals.items)) }
 {
     let mut walk = Forward {
         live: entered,

@@ -109,7 +109,8 @@ fn steps_of(
     requires long { AreLong (length next.now) (lists rows.now) }
     requires rows { length rows.now ≤ 256 }
     requires few { length sets.old.keys ≤ 16385 }
-    ensures steps { IfOk result (λ v. AddsSteps sets.old.keys sets.new.keys next.now rows.now v.items) }
+    ensures steps { IfOk result (λ v.
+        AddsSteps sets.old.keys sets.new.keys next.now rows.now v.items) }
     ensures all { IfOk result (λ v. length v.items ≡ length rows.now) }
     ensures few { IfOk result (λ _. length sets.new.keys ≤ length sets.old.keys + 256) }
 {
@@ -156,7 +157,8 @@ pub fn make_states(
     ensures built { IfOk result (λ s. AreStates program.now rows.now width s) }
     ensures rules { IfOk result (λ s. HaveFirstRules program.now s) }
     ensures each { IfOk result (λ s. length s.first_rules.items ≡ length s.sets.keys) }
-    ensures too_many { (most : ℕ) → result ≡ Err (too_many most) → TooMany (rules_of program.now) most }
+    ensures too_many { (most : ℕ)
+        → result ≡ Err (too_many most) → TooMany (rules_of program.now) most }
 {
     let mut sets = start_sets(alloc, width)?;
     let mut steps = Vec::new(alloc);

@@ -40,7 +40,8 @@ impl<'a> Model for CText<'a> {
 
     ghost view = { λ c. c.bytes.now };
 
-    ghost invariant = { λ c. NoneCloses quote c.bytes.now c.single.from c.single.to × NoneCloses double_quote c.bytes.now c.double.from c.double.to };
+    ghost invariant = { λ c. NoneCloses quote c.bytes.now c.single.from c.single.to
+        × NoneCloses double_quote c.bytes.now c.double.from c.double.to };
 }
 
 impl<'a> CText<'a> {

@@ -25,10 +25,12 @@ pub fn one_block()
 
 /// A literal has one byte and one end.
 pub fn one_literal()
-    ensures { (t : List ℕ) (a b m n : ℕ) → IsLiteral t a m → IsLiteral t b n → (a ≡ b) × (m ≡ n) }
+    ensures { (t : List ℕ) (a b m n : ℕ)
+        → IsLiteral t a m → IsLiteral t b n → (a ≡ b) × (m ≡ n) }
 {}
 
 /// A text has one list of words.
 pub fn one_list_of_words()
-    ensures { (at : ℕ) (t : List ℕ) (v w : List Word) → HasWords at t v → HasWords at t w → v ≡ w }
+    ensures { (at : ℕ) (t : List ℕ) (v w : List Word)
+        → HasWords at t v → HasWords at t w → v ≡ w }
 {}

@@ -15,9 +15,11 @@ use cs_bytes::{ByteClass, from_offset, has_at, number, run_len};
 /// comes exactly where no literal begins at `at`; none spells 0 or a value above 255.
 pub fn read_literal(bytes: &[u8], at: usize) -> Option<(u8, usize)>
     requires { slice_get bytes.now at ≡ Some quote }
-    ensures literal { IfSome result (λ read. spec.IsLiteral (drop at bytes.now) read.0 (read.1 - at)) }
+    ensures literal { IfSome result (λ read.
+        spec.IsLiteral (drop at bytes.now) read.0 (read.1 - at)) }
     ensures within { IfSome result (λ read. (at < read.1) × (read.1 ≤ length bytes.now)) }
-    ensures none { IfNone result ((byte size : ℕ) → ¬ spec.IsLiteral (drop at bytes.now) byte size) }
+    ensures none { IfNone result
+        ((byte size : ℕ) → ¬ spec.IsLiteral (drop at bytes.now) byte size) }
 {
     let text = from_offset(bytes, at + 1);
     let (value, size) = character(text)?;

@@ -57,7 +57,8 @@ impl Counter {
         requires few { workers ≤ 64 }
         ensures items { IfOk result (λ r. r.0.items ≡ items) }
         ensures workers { IfOk result (λ r. r.0.workers ≡ workers) }
-        ensures seat { IfOk result (λ r. IsOf r.0 r.1 × IsFresh r.1 × (r.1.workers ≡ workers)) }
+        ensures seat { IfOk result (λ r.
+            IsOf r.0 r.1 × IsFresh r.1 × (r.1.workers ≡ workers)) }
     {
         let (table, place) = Table::of_words(alloc, &[0], &(items, workers))?;
         let counter = Counter {
@@ -99,7 +100,8 @@ impl Counter {
         ensures of { IsOf self.now seat.new }
         ensures workers { seat.new.workers ≡ seat.old.workers }
         ensures below { IfSome result (λ number. number < self.now.items) }
-        ensures drawn { IfSome result (λ number. seat.new.drawn ≡ seat.old.drawn ++ number ∷ []) }
+        ensures drawn { IfSome result (λ number.
+            seat.new.drawn ≡ seat.old.drawn ++ number ∷ []) }
         ensures before_end { IfSome result (λ _. seat.new.saw_end ≡ false) }
         ensures none_drawn { IfNone result (seat.new.drawn ≡ seat.old.drawn) }
         ensures end { IfNone result (HasSeenEnd seat.new) }

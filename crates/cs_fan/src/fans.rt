@@ -47,7 +47,8 @@ fn share<R: Threads, T: Sync, U: Send + Drop, W: Work<T, U> + Sync, G: Gate + Sy
     seat: &mut Seat,
     workers: u16,
 ) -> Result<Vec<(u32, U)>, AllocError>
-    requires ready { IsReady (W.takes all.now.work.now) all.now.items.now all.now.counter.now seat.old }
+    requires ready { IsReady (W.takes all.now.work.now)
+        all.now.items.now all.now.counter.now seat.old }
     requires workers { seat.old.workers ≡ workers }
     ensures of { IsOf all.now.counter.now seat.new }
     ensures workers { IfOk result (λ _. seat.new.workers ≡ seat.old.workers) }
@@ -61,17 +62,21 @@ fn share<R: Threads, T: Sync, U: Send + Drop, W: Work<T, U> + Sync, G: Gate + Sy
     let (theirs, mine) = join_mut(
         rt,
         &mut ||
-            requires { IsReady (W.takes all.now.work.now) all.now.items.now all.now.counter.now other }
+            requires { IsReady (W.takes all.now.work.now)
+                all.now.items.now all.now.counter.now other }
             ensures of { IsOf all.entry.now.counter.now other.exit }
             ensures workers { other.exit.workers ≡ other.entry.workers }
-            ensures ok { Works (W.answers all.entry.now.work.now) all.entry.now.items.now other.exit result }
+            ensures ok { Works (W.answers all.entry.now.work.now)
+                all.entry.now.items.now other.exit result }
         { work_off(alloc, all, &mut other) },
         &mut ||
-            requires ready { IsReady (W.takes all.now.work.now) all.now.items.now all.now.counter.now seat.now }
+            requires ready { IsReady (W.takes all.now.work.now)
+                all.now.items.now all.now.counter.now seat.now }
             requires workers { seat.now.workers + 1 ≡ workers }
             ensures of { IsOf all.entry.now.counter.now seat.exit.now }
             ensures workers { IfOk result (λ _. seat.exit.now.workers ≡ seat.entry.now.workers) }
-            ensures ok { Works (W.answers all.entry.now.work.now) all.entry.now.items.now seat.exit.now result }
+            ensures ok { Works (W.answers all.entry.now.work.now)
+                all.entry.now.items.now seat.exit.now result }
         { share(rt, alloc, all, seat, workers - 1) },
     );
     all.counter.join(seat, other);
@@ -116,7 +121,8 @@ pub fn fan<R: Threads + Sync, T: Sync, U: Send + Drop, W: Work<T, U> + Sync, G: 
     requires workers { seat.old.workers ≡ counter.now.workers }
     requires takes { All (W.takes work.now) items.now }
     ensures of { IsOf counter.now seat.new }
-    ensures answers { IfOk result (λ answers. AllZip (W.answers work.now) items.now answers.items) }
+    ensures answers { IfOk result (λ answers.
+        AllZip (W.answers work.now) items.now answers.items) }
     ensures workers { IfOk result (λ _. seat.new.workers ≡ counter.now.workers) }
     ensures end { IfOk result (λ _. HasSeenEnd seat.new) }
     ensures drawn { IfOk result (λ _. IsEachOnceBelow (length items.now) seat.new.drawn) }

@@ -6,10 +6,12 @@ ghost use Rattle.cs_graph.specs.Graph.{HasCycle, IsOrder, IsOrdered, IsWeighedOn
 
 /// Where there is an order no node reaches itself.
 pub fn ordered_without_cycle()
-    ensures { (graph : List (Vec ℕ)) (order : List ℕ) → IsOrder graph order → HasCycle graph → ⊥ }
+    ensures { (graph : List (Vec ℕ)) (order : List ℕ)
+        → IsOrder graph order → HasCycle graph → ⊥ }
 {}
 
 /// The nodes of an order weigh together at most what all nodes weigh.
 pub fn one_place()
-    ensures { (graph : List (Vec ℕ)) (order : List ℕ) → IsOrdered graph order → IsWeighedOnce graph order }
+    ensures { (graph : List (Vec ℕ)) (order : List ℕ)
+        → IsOrdered graph order → IsWeighedOnce graph order }
 {}

@@ -22,7 +22,8 @@ fn reach(node: usize, seen: &mut [bool], pending: &mut Vec<usize>) -> Result<(),
 
 fn reach_all(nodes: &[usize], seen: &mut [bool], pending: &mut Vec<usize>) -> Result<(), AllocError>
     requires { All (λ node. node < length seen.old) nodes.now }
-    ensures { OnOk result (AreReached nodes.now seen.old pending.old.items seen.new pending.new.items) }
+    ensures { OnOk result
+        (AreReached nodes.now seen.old pending.old.items seen.new pending.new.items) }
 {
     for node in nodes {
         reach(*node, seen, pending)?;

@@ -8,7 +8,8 @@ use std::alloc::{AllocError, Global};
 /// No marks of so many nodes.
 pub fn no_marks(alloc: Global, count: usize) -> Result<Vec<bool>, AllocError>
     ensures size { IfOk result (λ marks. length marks.items ≡ count) }
-    ensures none { IfOk result (λ marks. (node : ℕ) → slice_index_or marks.items node false ≡ false) }
+    ensures none { IfOk result (λ marks.
+        (node : ℕ) → slice_index_or marks.items node false ≡ false) }
     ensures unmarked { IfOk result (λ marks. unmarked marks.items ≡ count) }
 {
     vec![in alloc; false; count]

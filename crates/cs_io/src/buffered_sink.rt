@@ -35,13 +35,17 @@ impl<'s, 'w, S: Sink> BufferedSink<'s, 'w, S> {
     pub fn flush(&mut self) -> Result<(), SinkError>
         ensures lent { lent_name self.new ≡ lent_name self.old }
         ensures waiting { OnOk result (waiting_bytes self.new ≡ []) }
-        ensures written { buffered_written S.written self.new ≡ buffered_written S.written self.old }
+        ensures written { buffered_written S.written self.new
+            ≡ buffered_written S.written self.old }
         ensures passed { lent_taken S.written self.old ≤ lent_taken S.written self.new }
         ensures fault { OnErr result (LentRose S.faults self.old self.new) }
-        ensures faults_never_fall { lent_faults S.faults self.old ≤ lent_faults S.faults self.new }
+        ensures faults_never_fall { lent_faults S.faults self.old
+            ≤ lent_faults S.faults self.new }
         ensures ok_with_room { HasRoomForWaiting S.room self.old → IsOk result }
-        ensures no_fault { HasRoomForWaiting S.room self.old → LentMetNone S.faults self.old self.new }
-        ensures room_left { OnOk result (buffered_room S.room self.old ≤ S.room (lent_sink self.new)) }
+        ensures no_fault { HasRoomForWaiting S.room self.old
+            → LentMetNone S.faults self.old self.new }
+        ensures room_left { OnOk result
+            (buffered_room S.room self.old ≤ S.room (lent_sink self.new)) }
     {
         let (count, result) = pass_on(&mut *self.sink, self.waiting.as_slice());
         remove_front(&mut *self.waiting, count);
@@ -50,7 +54,8 @@ impl<'s, 'w, S: Sink> BufferedSink<'s, 'w, S> {
 
     // Lets a piece wait, for which there is room.
     fn keep(&mut self, piece: &[u8]) -> usize
-        requires { vec_len self.old.waiting.now + length piece.now ≤ vec_capacity self.old.waiting.now }
+        requires { vec_len self.old.waiting.now + length piece.now
+            ≤ vec_capacity self.old.waiting.now }
         ensures count { result ≡ length piece.now }
         ensures lent { lent_name self.new ≡ lent_name self.old }
         ensures sink { lent_sink self.new ≡ lent_sink self.old }
@@ -95,7 +100,8 @@ fn pass_on<S: Sink>(sink: &mut S, bytes: &[u8]) -> (usize, Result<(), SinkError>
     ensures fault { OnErr result.1 (Rose (S.faults sink.old) (S.faults sink.new)) }
     ensures faults_never_fall { S.faults sink.old ≤ S.faults sink.new }
     ensures ok_with_room { length bytes.now ≤ S.room sink.old → IsOk result.1 }
-    ensures no_fault { length bytes.now ≤ S.room sink.old → S.faults sink.new ≡ S.faults sink.old }
+    ensures no_fault { length bytes.now ≤ S.room sink.old
+        → S.faults sink.new ≡ S.faults sink.old }
     ensures room_left { S.room sink.old ≤ S.room sink.new + result.0 }
 {
     let mut count = 0usize;

@@ -95,7 +95,8 @@ impl Sink for MemorySink {
         ensures err { OnErr result (self.new.written ≡ self.old.written) }
         ensures faults_never_fall { self.old.faults ≤ self.new.faults }
         ensures ok_with_room { 0 < sure_room self.old → IsOk result }
-        ensures room_left { IfOk result (λ count. sure_room self.old ≤ sure_room self.new + count) }
+        ensures room_left { IfOk result (λ count.
+            sure_room self.old ≤ sure_room self.new + count) }
 
         // Which calls fail, and how much the others take.
         ensures failed { IsErr result

@@ -74,7 +74,8 @@ pub fn operations(
     texts: &Texts,
 ) -> Result<Vec<Vec<Op>>, AllocError>
     requires { AreRead (definitions_of texts.now.entries) all.now }
-    ensures { IfOk result (λ bodies. AreOperations (definitions_of texts.now.entries) bodies.items) }
+    ensures { IfOk result (λ bodies.
+        AreOperations (definitions_of texts.now.entries) bodies.items) }
 {
     let mut bodies = Vec::new(alloc);
     for items in all {

@@ -37,7 +37,8 @@ impl Model for Checked {
 
     ghost view = { λ d. definitions_of d.texts.entries };
 
-    ghost invariant = { λ d. AreChecked (definitions_of d.texts.entries) d.bodies.items d.measures.items d.order.items };
+    ghost invariant = { λ d. AreChecked (definitions_of d.texts.entries)
+        d.bodies.items d.measures.items d.order.items };
 }
 
 impl Model for Definitions {
@@ -49,7 +50,8 @@ impl Model for Definitions {
 
     ghost view = { λ d. definitions_of d.texts.entries };
 
-    ghost invariant = { λ d. (total_bytes (definitions_of d.texts.entries) ≤ 1048576) × HaveByteTexts (definitions_of d.texts.entries) };
+    ghost invariant = { λ d. (total_bytes (definitions_of d.texts.entries) ≤ 1048576)
+        × HaveByteTexts (definitions_of d.texts.entries) };
 }
 
 impl Definitions {
@@ -67,8 +69,10 @@ impl Definitions {
     /// definitions are as before.
     pub fn add(&mut self, name: &[u8], text: &[u8]) -> Result<(), DefinitionError>
         requires { total_bytes self.old + length name.now + length text.now ≤ 1048576 }
-        ensures ok { OnOk result (self.new ≡ self.old ++ record { name = name.now; text = text.now } ∷ []) }
-        ensures twice { IsErrOf result DefinitionError.Twice ↔ IsTrue (has_name name.now self.old) }
+        ensures ok { OnOk result
+            (self.new ≡ self.old ++ record { name = name.now; text = text.now } ∷ []) }
+        ensures twice { IsErrOf result DefinitionError.Twice
+            ↔ IsTrue (has_name name.now self.old) }
         ensures err { OnErr result (self.new ≡ self.old) }
     {
         if index_of(&self.texts, name).is_some() {

@@ -30,7 +30,8 @@ pub fn has_derivation()
 /// With definitions put in for its names a text has at most one tree, and at most one pattern or one fault.
 pub fn one_answer()
     ensures tree { (ds : List Definition) (text : List ℕ) → HasAtMostOne (IsTreeOf ds text) }
-    ensures pattern { (ds : List Definition) (text : List ℕ) → HasAtMostOne (IsPatternOf ds text) }
+    ensures pattern { (ds : List Definition) (text : List ℕ)
+        → HasAtMostOne (IsPatternOf ds text) }
     ensures fault { (ds : List Definition) (text : List ℕ) → HasAtMostOne (IsFault text ds) }
     ensures either { (ds : List Definition) (text : List ℕ) → HasNotBoth ds text }
 {}
@@ -42,7 +43,8 @@ pub fn reads_or_stops()
 
 /// Where all definitions are accepted, each text has a pattern or a fault.
 pub fn has_answer()
-    ensures { (ds : List Definition) (text : List ℕ) → AreAccepted ds → HasPatternOrFault ds text }
+    ensures { (ds : List Definition) (text : List ℕ)
+        → AreAccepted ds → HasPatternOrFault ds text }
 {}
 
 /// A definition that reaches itself has no tree with definitions put in, and so no text that uses it has one.
@@ -58,5 +60,6 @@ pub fn one_refusal()
 
 /// An automaton can be made of the pattern of a text, where the text and the texts of the definitions are bytes.
 pub fn scannable_pattern()
-    ensures { (ds : List Definition) (text : List ℕ) → HaveBytes ds text → IsScannableText ds text }
+    ensures { (ds : List Definition) (text : List ℕ)
+        → HaveBytes ds text → IsScannableText ds text }
 {}

@@ -100,7 +100,8 @@ fn know(
     index: usize,
     known: &mut Vec<Option<Pattern>>,
 ) -> Result<(), AllocError>
-    requires { IsMarked needed.now index → StayShallow known.old.items (spec.ops_at bodies.now index) }
+    requires { IsMarked needed.now index
+        → StayShallow known.old.items (spec.ops_at bodies.now index) }
     ensures { OnOk result (Learns bodies.now needed.now index known.old.items known.new.items) }
 {
     if !is_marked(needed, index) {

@@ -29,7 +29,8 @@ fn is_undefined(item: &Item, names: &Texts) -> bool
 
 /// The offset of the first name that is not defined.
 pub fn first_undefined(items: &[Placed], names: &Texts) -> Option<u32>
-    ensures { result ≡ spec.first_undefined (definitions_of names.now.entries) (placed_all items.now) }
+    ensures { result
+        ≡ spec.first_undefined (definitions_of names.now.entries) (placed_all items.now) }
 {
     for placed in items {
         if is_undefined(&placed.item, names) {

@@ -49,7 +49,8 @@ impl ByteSet {
     /// Makes each byte from the first through the last a member.
     pub fn insert_range(&mut self, first: u8, last: u8)
         requires { first ≤ last }
-        ensures { self.new ≡ bytes_where (λ b. (nat_le first b && nat_le b last) || has self.old b) }
+        ensures { self.new
+            ≡ bytes_where (λ b. (nat_le first b && nat_le b last) || has self.old b) }
     {
         let _words = &self.words;
         for index in first as u16..last as u16 + 1 {

@@ -53,7 +53,8 @@ fn sized(repetition: Option<Repetition>, size: usize) -> Option<(Repetition, usi
 fn longer(before: usize, found: Option<(Repetition, usize)>) -> Option<(Repetition, usize)>
     requires { IfSome found (λ r. before + r.1 < 2 ^ 64) }
     ensures value { result ≡ spec.longer before found }
-    ensures size { (most : ℕ) → spec.EndsWithin before most found → IfSome result (λ r. r.1 ≤ most) }
+    ensures size { (most : ℕ)
+        → spec.EndsWithin before most found → IfSome result (λ r. r.1 ≤ most) }
 {
     match found {
         Some((repetition, size)) => Some((repetition, before + size)),
@@ -63,7 +64,8 @@ fn longer(before: usize, found: Option<(Repetition, usize)>) -> Option<(Repetiti
 
 /// The interval of a least number, and what stands behind its comma.
 fn open_interval(least: u32, text: &[u8]) -> Option<(Repetition, usize)>
-    ensures value { (n : ℕ) → least ≡ min n 4294967295 → result ≡ spec.open_interval n text.now }
+    ensures value { (n : ℕ)
+        → least ≡ min n 4294967295 → result ≡ spec.open_interval n text.now }
     ensures size { IfSome result (λ r. r.1 ≤ length text.now) }
 {
     let size = run_len(text, ByteClass::Digit);

@@ -18,16 +18,20 @@ pub fn one_set()
 
 /// A text spells at most one item in front, of one size.
 pub fn one_item()
-    ensures item { (text : List ℕ) (n m : ℕ) (i j : Item) → Spells text n i → Spells text m j → i ≡ j }
-    ensures size { (text : List ℕ) (n m : ℕ) (i j : Item) → Spells text n i → Spells text m j → n ≡ m }
+    ensures item { (text : List ℕ) (n m : ℕ) (i j : Item)
+        → Spells text n i → Spells text m j → i ≡ j }
+    ensures size { (text : List ℕ) (n m : ℕ) (i j : Item)
+        → Spells text n i → Spells text m j → n ≡ m }
 {}
 
 /// Where a text spells no item in front, there is one cause.
 pub fn one_stop()
-    ensures { (text : List ℕ) (s t : Stop) → IsStoppedBy text s → IsStoppedBy text t → s ≡ t }
+    ensures { (text : List ℕ) (s t : Stop)
+        → IsStoppedBy text s → IsStoppedBy text t → s ≡ t }
 {}
 
 /// A text that spells an item in front is not stopped.
 pub fn stopped_spells_nothing()
-    ensures { (text : List ℕ) (s : Stop) (n : ℕ) (i : Item) → IsStoppedBy text s → Spells text n i → ⊥ }
+    ensures { (text : List ℕ) (s : Stop) (n : ℕ) (i : Item)
+        → IsStoppedBy text s → Spells text n i → ⊥ }
 {}

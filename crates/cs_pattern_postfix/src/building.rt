@@ -68,7 +68,8 @@ fn push_optional(
     times: u32,
 ) -> Result<(), AllocError>
     requires nested { nesting (regex inner.now) ≤ 1000 }
-    ensures { OnOk result (regexes parts.new.items ≡ with_optionals parts.old.items times inner.now) }
+    ensures { OnOk result
+        (regexes parts.new.items ≡ with_optionals parts.old.items times inner.now) }
 {
     for _i in 0..times {
         parts.push(optional(alloc, copy(alloc, inner)?)?)?;
@@ -116,7 +117,8 @@ fn take_top(stack: &mut Vec<Pattern>) -> Pattern
 }
 
 fn push(stack: &mut Vec<Pattern>, pattern: Pattern) -> Result<(), AllocError>
-    ensures { OnOk result (regexes stack.new.items ≡ regexes stack.old.items ++ regex pattern ∷ []) }
+    ensures { OnOk result
+        (regexes stack.new.items ≡ regexes stack.old.items ++ regex pattern ∷ []) }
 {
     stack.push(pattern)?;
     Ok(())
@@ -178,7 +180,8 @@ fn apply(
 ) -> Result<(), AllocError>
     requires before { All IsShallow (regexes stack.old.items) }
     requires after { All IsShallow (next_stack known.now stack.old.items op.now) }
-    ensures { OnOk result (regexes stack.new.items ≡ next_stack known.now stack.old.items op.now) }
+    ensures { OnOk result
+        (regexes stack.new.items ≡ next_stack known.now stack.old.items op.now) }
 {
     match op {
         Op::Class(set) => push(stack, Pattern::Class(set.duplicate())),

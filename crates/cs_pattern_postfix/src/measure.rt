@@ -124,7 +124,8 @@ fn known_at(known: &[Measure], index: usize) -> Measure
 }
 
 fn apply(stack: &mut Vec<Measure>, op: &Op, known: &[Measure]) -> Result<(), AllocError>
-    ensures { OnOk result (stack.new.items ≡ measures.next_stack known.now stack.old.items op.now) }
+    ensures { OnOk result
+        (stack.new.items ≡ measures.next_stack known.now stack.old.items op.now) }
 {
     match op {
         Op::Class(_) => push(stack, leaf()),

@@ -73,7 +73,8 @@ struct Reader {
 
 impl Reader {
     fn repeat(&mut self, repetition: Repetition) -> Result<(), AllocError>
-        ensures { OnOk result (state_of self.new ≡ spec.with_repetition (state_of self.old) repetition) }
+        ensures { OnOk result
+            (state_of self.new ≡ spec.with_repetition (state_of self.old) repetition) }
     {
         self.ops.push(Op::Repeat(repetition))?;
         Ok(())
@@ -105,7 +106,8 @@ impl Reader {
     }
 
     fn atom(&mut self, op: Op) -> Result<(), AllocError>
-        ensures { OnOk result (state_of self.new ≡ spec.with_atom (state_of self.old) (op_of op ∷ [])) }
+        ensures { OnOk result
+            (state_of self.new ≡ spec.with_atom (state_of self.old) (op_of op ∷ [])) }
     {
         self.ops.push(op)?;
         self.level = self.level.with_piece();
@@ -122,7 +124,8 @@ impl Reader {
     }
 
     fn take(&mut self, alloc: Global, item: &Item, names: &Texts) -> Result<(), AllocError>
-        ensures { OnOk result (state_of self.new ≡ spec.next_state names.now.entries self.old item.now) }
+        ensures { OnOk result
+            (state_of self.new ≡ spec.next_state names.now.entries self.old item.now) }
     {
         match item {
             Item::Class(set) => self.atom(Op::Class(set.duplicate())),

@@ -25,7 +25,8 @@ pub fn optional_counts()
 
 /// `r{n}` matches what is n lists that r matches, one after another.
 pub fn exact_counts()
-    ensures { (r : Regex) (n : ℕ) → AreSame (Matches (repeated r (Exactly n))) (Times (Matches r) n) }
+    ensures { (r : Regex) (n : ℕ)
+        → AreSame (Matches (repeated r (Exactly n))) (Times (Matches r) n) }
 {}
 
 /// `r{n,}` matches what is n or more lists that r matches, one after another.
@@ -35,7 +36,8 @@ pub fn least_counts()
 
 /// `r{n,m}` matches what is n to m lists that r matches, one after another.
 pub fn between_counts()
-    ensures { (r : Regex) (n m : ℕ) → n ≤ m → IsRepeated (repeated r (Between n m)) (IsBetween n m) r }
+    ensures { (r : Regex) (n m : ℕ)
+        → n ≤ m → IsRepeated (repeated r (Between n m)) (IsBetween n m) r }
 {}
 
 /// A pattern without empty classes and eithers matches some list of bytes.

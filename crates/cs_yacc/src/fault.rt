@@ -64,7 +64,8 @@ fn first_start(items: &[Placed<'_>]) -> Option<u32>
 }
 
 fn is_token_on_left(declared: &Spellings<'_>, item: Item<'_>, behind: &[Placed<'_>]) -> bool
-    ensures { result ≡ spec.is_token_on_left declared.now (item_of item.entry) (items_in behind.now) }
+    ensures { result
+        ≡ spec.is_token_on_left declared.now (item_of item.entry) (items_in behind.now) }
 {
     match left_at(item, behind) {
         Some(spelling) => declared.has(spelling),
@@ -136,7 +137,8 @@ pub fn name_fault(
     known: &Spellings<'_>,
     lefts: &Spellings<'_>,
 ) -> Option<YaccError>
-    ensures { result ≡ spec.name_fault (placed_all all.now) (placed_all items.now) known.now lefts.now }
+    ensures { result
+        ≡ spec.name_fault (placed_all all.now) (placed_all items.now) known.now lefts.now }
 {
     if let Some(at) = first_start(behind_start(all)) {
         return Some(YaccError::SecondStart { at });

@@ -70,7 +70,8 @@ impl YaccFile {
 
     /// The token in use of the name; `None` where no token in use has it.
     pub fn token(&self, name: &[u8]) -> Option<u16>
-        ensures found { IfSome result (λ t. IsNamed self.now.token_names t (TokenName.Word name.now)) }
+        ensures found { IfSome result (λ t.
+            IsNamed self.now.token_names t (TokenName.Word name.now)) }
         ensures none { IfNone result (NoneNamed self.now.token_names (TokenName.Word name.now)) }
     {
         self.token_names.word(name)

@@ -51,7 +51,8 @@ pub fn nonterminals<'a>(alloc: Global, items: &[Placed<'a>]) -> Result<Spellings
 }
 
 fn add_listed<'a>(spellings: &mut Spellings<'a>, items: &[Placed<'a>]) -> Result<(), AllocError>
-    ensures { OnOk result (spellings.new ≡ and_all spellings.old (spec.listed (items_in items.now))) }
+    ensures { OnOk result
+        (spellings.new ≡ and_all spellings.old (spec.listed (items_in items.now))) }
 {
     for placed in items {
         match placed.item {

@@ -10,17 +10,20 @@ use cs_yacc_items::read_or_stopped;
 
 /// Accepted bytes mean one file.
 pub fn one_file()
-    ensures { (bytes : List ℕ) (f g : File) → IsYaccFile bytes f → IsYaccFile bytes g → f ≡ g }
+    ensures { (bytes : List ℕ) (f g : File)
+        → IsYaccFile bytes f → IsYaccFile bytes g → f ≡ g }
 {}
 
 /// Refused bytes are refused with one error.
 pub fn one_refusal()
-    ensures { (bytes : List ℕ) (e f : YaccError) → Refuses e bytes → Refuses f bytes → e ≡ f }
+    ensures { (bytes : List ℕ) (e f : YaccError)
+        → Refuses e bytes → Refuses f bytes → e ≡ f }
 {}
 
 /// No bytes are both accepted and refused.
 pub fn refused_is_not_accepted()
-    ensures { (bytes : List ℕ) (f : File) (e : YaccError) → Refuses e bytes → IsYaccFile bytes f → ⊥ }
+    ensures { (bytes : List ℕ) (f : File) (e : YaccError)
+        → Refuses e bytes → IsYaccFile bytes f → ⊥ }
 {}
 
 /// Bytes are accepted or refused.

@@ -42,7 +42,8 @@ fn push_if<'a>(
     kept: &mut Vec<Placed<'a>>,
     placed: Placed<'a>,
 ) -> Result<(), AllocError>
-    ensures { OnOk result (kept.new.items ≡ kept.old.items ++ spec.only_if has_meaning placed.entry) }
+    ensures { OnOk result
+        (kept.new.items ≡ kept.old.items ++ spec.only_if has_meaning placed.entry) }
 {
     if has_meaning {
         kept.push(placed)?;

@@ -40,7 +40,8 @@ fn symbols(
     file: &Accepted<'_, '_>,
     right: &[Spelling<'_>],
 ) -> Result<Vec<Symbol>, AllocError>
-    ensures { IfOk result (λ v. v.items ≡ symbols_in (parts_at file.now) (spellings_of right.now)) }
+    ensures { IfOk result (λ v.
+        v.items ≡ symbols_in (parts_at file.now) (spellings_of right.now)) }
 {
     let mut symbols = Vec::new(alloc);
     for spelling in right {

@@ -88,7 +88,8 @@ fn build(alloc: Global, file: &Accepted<'_, '_>) -> Result<YaccFile, AllocError>
 
 /// The file that the parts make, or the first limit that they pass.
 fn file_or_limit(alloc: Global, parts: &Parts<'_>) -> Result<YaccFile, YaccError>
-    requires { limit_passed (parts_in parts.now) ≡ None → IsFile (spec.file_with (parts_in parts.now)) }
+    requires { limit_passed (parts_in parts.now) ≡ None
+        → IsFile (spec.file_with (parts_in parts.now)) }
     ensures { IsGiven result (spec.file_or_limit (parts_in parts.now)) }
 {
     match check_limits(parts) {

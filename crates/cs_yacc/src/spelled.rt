@@ -49,7 +49,8 @@ fn left_behind<'a>(
     item: Item<'a>,
     rest: &[Placed<'a>],
 ) -> Option<Spelling<'a>>
-    ensures { left_of result ≡ next_left (left_of left.entry) (item_of item.entry) (items_in rest.now) }
+    ensures { left_of result
+        ≡ next_left (left_of left.entry) (item_of item.entry) (items_in rest.now) }
 {
     match left_at(item, rest) {
         Some(spelling) => Some(spelling),
@@ -65,7 +66,8 @@ fn push_rule<'a>(
     item: Item<'a>,
     behind: &[Placed<'a>],
 ) -> Result<(), AllocError>
-    ensures { OnOk result (AddsRule rules.old.items rules.new.items left.entry item.entry behind.now) }
+    ensures { OnOk result
+        (AddsRule rules.old.items rules.new.items left.entry item.entry behind.now) }
 {
     match (left, item) {
         (Some(left), Item::Colon | Item::Bar) => {

@@ -33,7 +33,8 @@ impl Model for TokenNames {
 
     ghost view = { λ t. t.names.items };
 
-    ghost invariant = { λ t. FindsWords t.words.entries (length t.names.items) t.names.items × FindsBytes t.literals.entries (length t.names.items) t.names.items };
+    ghost invariant = { λ t. FindsWords t.words.entries (length t.names.items) t.names.items
+        × FindsBytes t.literals.entries (length t.names.items) t.names.items };
 }
 
 impl TokenNames {

@@ -10,27 +10,32 @@ use crate::MOST_BYTES;
 
 /// A text is read into one list of items.
 pub fn one_reading()
-    ensures { (bytes : List ℕ) (ps qs : List Placed) → Reads bytes ps → Reads bytes qs → ps ≡ qs }
+    ensures { (bytes : List ℕ) (ps qs : List Placed)
+        → Reads bytes ps → Reads bytes qs → ps ≡ qs }
 {}
 
 /// Reading of a text stops at one offset.
 pub fn one_stop()
-    ensures { (bytes : List ℕ) (a b : ℕ) → StopsThere bytes a → StopsThere bytes b → a ≡ b }
+    ensures { (bytes : List ℕ) (a b : ℕ)
+        → StopsThere bytes a → StopsThere bytes b → a ≡ b }
 {}
 
 /// No text is both read and not read to its end.
 pub fn stopped_is_not_read()
-    ensures { (bytes : List ℕ) (at : ℕ) (ps : List Placed) → StopsThere bytes at → Reads bytes ps → ⊥ }
+    ensures { (bytes : List ℕ) (at : ℕ) (ps : List Placed)
+        → StopsThere bytes at → Reads bytes ps → ⊥ }
 {}
 
 /// The table stops at one offset.
 pub fn one_stuck()
-    ensures { (n : ℕ) (ps : List Placed) (a b : ℕ) → IsStuck n ps a → IsStuck n ps b → a ≡ b }
+    ensures { (n : ℕ) (ps : List Placed) (a b : ℕ)
+        → IsStuck n ps a → IsStuck n ps b → a ≡ b }
 {}
 
 /// The table doesn't both stop and take all items.
 pub fn stuck_is_not_taken()
-    ensures { (n : ℕ) (ps : List Placed) (at : ℕ) → IsStuck n ps at → IsTaken (items_of ps) → ⊥ }
+    ensures { (n : ℕ) (ps : List Placed) (at : ℕ)
+        → IsStuck n ps at → IsTaken (items_of ps) → ⊥ }
 {}
 
 /// The constant is the definition's.
