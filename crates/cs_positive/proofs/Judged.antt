@@ -1,22 +1,36 @@
 -- The list of a grammar's positives.
-use Rattle.std.proofs.Common.{◌≡◌, List, [], ◌∷◌, get_or, refl, sym, ap, ◌∙◌, subst}
+use Rattle.std.proofs.Common.{◌≡◌, List, [], ◌∷◌, get_or, false, refl, sym, ap, ◌∙◌, subst}
+use Rattle.std.proofs.lemmas.Bool.{true≢false}
 use Rattle.std.proofs.lemmas.List.Elements.{Contains-get_or, All-head, All-tail}
+use Rattle.cs_goals.specs.declared.goal.Goal.TheVariants.{Rule, Context, Pair}
+use Rattle.std.specs.Prelude.{All}
 use Rattle.cs_grammar.specs.Grammar.{PlainGrammar}
 use Rattle.cs_grammar.specs.Weights.{Weighed}
 use Rattle.cs_goals.specs.declared.goal.Goal.{Goal}
 use Rattle.cs_goals.specs.declared.goal.Criteria.{Criteria}
-use Rattle.cs_goals.specs.Goal.{IsGoal}
+use Rattle.cs_goals.specs.Goal.{IsGoal, IsWanted}
 use Rattle.cs_goals.specs.Goals.{goals}
 use Rattle.cs_goals.proofs.Once.{all}
 use Rattle.cs_positive.specs.declared.positive.Positive.{Positive}
 use Rattle.cs_positive.specs.declared.verdict.Verdict.{Verdict}
-use Rattle.cs_positive.specs.Verdict.{IsVerdictIn}
+use Rattle.cs_positive.specs.Verdict.{IsTreeGoal, IsVerdictIn}
 use Rattle.cs_positive.specs.Positives.{AreOfGrammar, ArePositives}
 use Rattle.cs_positive.proofs.Verdicts.{one_verdict_of}
 
 -- the goals of the chosen criteria are the grammar's
 pub of_grammar : (g : PlainGrammar) (c : Criteria) → AreOfGrammar g (goals g c)
 of_grammar g c = λ k d within. let goal = get_or (goals g c) k d in ((all g c goal).0 (Contains-get_or (goals g c) k d within)).1
+
+-- where pair goals aren't chosen, none of them is one
+tree_of_wanted : (c : Criteria) (goal : Goal) → c.pair ≡ false → IsWanted c goal → IsTreeGoal goal
+tree_of_wanted c (Rule r) none h = tt
+tree_of_wanted c (Context p i q) none h = tt
+tree_of_wanted c (Pair a b) none h = absurd (true≢false (sym h ∙ none))
+
+pub tree_goals : (g : PlainGrammar) (c : Criteria) → c.pair ≡ false → All IsTreeGoal (goals g c)
+tree_goals g c none = λ k d within.
+    let goal = get_or (goals g c) k d in
+    tree_of_wanted c goal none ((all g c goal).0 (Contains-get_or (goals g c) k d within)).0
 
 -- the first of the grammar's goals is one of them, and those behind it are
 pub first_goal : (g : PlainGrammar) (left : List Goal) (goal : Goal) (rest : List Goal) → left ≡ goal ∷ rest → AreOfGrammar g left → IsGoal g goal × AreOfGrammar g rest

@@ -1,2 +1,3 @@
 pub mod Verdict
+pub mod Judges
 pub mod Positives

@@ -1,5 +1,5 @@
 -- The goals of a grammar with their verdicts, in order.
-use Rattle.std.specs.Prelude.{◌≡◌, List, [], ◌∷◌, Option, MatchOption, All}
+use Rattle.std.specs.Prelude.{◌≡◌, List, [], ◌∷◌, Option, IfSome, MatchOption, All}
 use Rattle.cs_grammar.specs.Grammar.{PlainGrammar}
 use Rattle.cs_grammar.specs.Weights.{Weighed}
 use Rattle.cs_goals.specs.declared.goal.Goal.{Goal}
@@ -30,6 +30,10 @@ pub record IsNext (old : ToJudge) (p : Positive) (new : ToJudge) : Type 0 where
 -- what is given next: the first goal with its verdict, or none where no goal is left
 abbrev pub GivesNext : ToJudge → Option Positive → ToJudge → Type 0
 GivesNext old found new = MatchOption found ((old.goals ≡ []) × (new.goals ≡ [])) (λ p. IsNext old p new)
+
+-- what is given is one of the grammar's goals
+abbrev pub GivesGoalOf : PlainGrammar → Option Positive → Type 0
+GivesGoalOf g found = IfSome found (λ p. IsGoal g p.goal)
 
 -- the positives of goals: each goal with its verdict, in order
 abbrev pub ArePositives : Weighed → List Goal → List Positive → Type 0

@@ -5,11 +5,12 @@
 //! `Costs` and `Embeds` alone. `Positives` gives the goals of the chosen criteria with their verdicts, one at a time. The laws
 //! are functions that do nothing.
 //!
-//! Both files of `specs/` say what is meant: `Verdict` (a verdict, and the chosen tree of a goal) and `Positives` (the goals
-//! with their verdicts, in order).
+//! Of the files of `specs/`, these say what is meant: `Verdict` (a verdict, and the chosen tree of a goal) and `Positives` (the
+//! goals with their verdicts, in order). `Judges` has working words of proofs.
 #![tactic(auto)]
 
 mod contexts;
+mod judges;
 mod judging;
 mod laws;
 mod pairs;

@@ -1,11 +1,13 @@
 // The goals of a grammar with their verdicts, one after another.
 
-ghost use Rattle.std.specs.Prelude.{◌≡◌, IfOk, OnErr};
-ghost use Rattle.cs_positive.specs.Positives.{positives_of, GivesNext};
+ghost use Rattle.std.specs.Prelude.{◌≡◌, false, IfOk, OnErr};
+ghost use Rattle.cs_positive.specs.Positives.{positives_of, GivesGoalOf, GivesNext};
 
-use crate::judging::judge;
+use crate::judges::Judge;
 use crate::tables::Tables;
 use crate::verdict::Verdict;
+use cs_cost::Costs;
+use cs_embed::Embeds;
 use cs_goals::{Criteria, Goal, Goals};
 use std::alloc::{AllocError, Global};
 use std::marker::Model;
@@ -20,18 +22,22 @@ pub struct Positive {
 /// The goals whose verdicts are still to be given, by the tables of a grammar.
 #[derive(Debug, Drop)]
 pub struct Positives<'t> {
-    tables: &'t Tables<'t>,
+    judge: Judge<'t>,
     goals: Goals<'t>,
 }
 
 impl<'t> Model for Positives<'t> {
+    ghost use Rattle.std.specs.Prelude.{All};
+    ghost use Rattle.cs_positive.specs.Judges.{judged_by, CanJudge, IsJudge};
     ghost use Rattle.cs_positive.specs.Positives.{ToJudge, AreOfGrammar};
 
     ghost Value = { ToJudge };
 
-    ghost view = { λ p. record { tables = p.tables.now; goals = p.goals } };
+    ghost view = { λ p. record { tables = judged_by p.judge; goals = p.goals } };
 
-    ghost invariant = { λ p. AreOfGrammar p.tables.now.grammar p.goals };
+    ghost invariant = { λ p. IsJudge p.judge
+        × AreOfGrammar (judged_by p.judge).grammar p.goals
+        × All (CanJudge p.judge) p.goals };
 }
 
 impl<'t> Positives<'t> {
@@ -40,8 +46,24 @@ impl<'t> Positives<'t> {
         ensures { result ≡ positives_of tables.now criteria }
     {
         Positives {
-            tables,
+            judge: Judge::Tables(tables),
             goals: Goals::new(tables.grammar(), criteria),
+        }
+    }
+
+    /// The same without the tables of pairs, where no pair goals are chosen.
+    pub fn of_trees(
+        costs: &'t Costs<'t>,
+        embeds: &'t Embeds<'t>,
+        criteria: Criteria,
+    ) -> Positives<'t>
+        requires embeds { embeds.now ≡ costs.now }
+        requires criteria { criteria.pair ≡ false }
+        ensures { result ≡ positives_of costs.now criteria }
+    {
+        Positives {
+            judge: Judge::Trees { costs, embeds },
+            goals: Goals::new(costs.grammar(), criteria),
         }
     }
 
@@ -49,6 +71,7 @@ impl<'t> Positives<'t> {
     /// on. After a refusal, which is want of memory, the same goal comes next.
     pub fn next(&mut self, alloc: Global) -> Result<Option<Positive>, AllocError>
         ensures found { IfOk result (λ found. GivesNext self.old found self.new) }
+        ensures goal { IfOk result (GivesGoalOf self.old.tables.grammar) }
         ensures tables { self.new.tables ≡ self.old.tables }
         ensures refused { OnErr result (self.new.goals ≡ self.old.goals) }
     {
@@ -56,7 +79,7 @@ impl<'t> Positives<'t> {
         let Some(goal) = goals.next() else {
             return Ok(None);
         };
-        let verdict = judge(alloc, self.tables, &goal)?;
+        let verdict = self.judge.verdict(alloc, &goal)?;
         self.goals = goals;
         Ok(Some(Positive { goal, verdict }))
     }

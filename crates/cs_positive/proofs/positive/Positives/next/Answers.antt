@@ -1,7 +1,16 @@
-use Rattle.std.proofs.Common.{sym, ◌∙◌}
+use Rattle.std.proofs.Common.{List, sym, ◌∙◌, subst}
+use Rattle.std.specs.Prelude.{All}
+use Rattle.std.proofs.lemmas.List.Elements.{All-tail}
+use Rattle.cs_goals.specs.declared.goal.Goal.{Goal}
 use Rattle.cs_positive.proofs.Judged.{first_goal}
+use Rattle.cs_positive.specs.Judges.{judged_by, CanJudge}
 use Rattle.cs_positive.proofs.positive.Positives.next.Goals as goal
 
 pub invariant_of-self : goal.invariant_of-self
 invariant_of-self c =
-    (first_goal c.self.inside.tables.now.grammar _ c.in-Some.goal c.next.new.self (sym c.copied-goals.ensures ∙ c.in-Some.ensures.some) c.self.invariant).1
+    let judge = c.self.inside.judge in
+    let split = sym c.copied-goals.ensures ∙ c.in-Some.ensures.some in (
+      c.self.invariant.0,
+      (first_goal (judged_by judge).grammar _ c.in-Some.goal c.next.new.self split c.self.invariant.1).1,
+      All-tail (CanJudge judge) c.in-Some.goal c.next.new.self (subst (λ (l : List Goal). All (CanJudge judge) l) split c.self.invariant.2),
+    )
