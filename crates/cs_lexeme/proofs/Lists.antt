@@ -1,5 +1,6 @@
--- Lists along which a number ascends.
-use Rattle.std.proofs.Common.{◌≡◌, ℕ, zero, suc, ◌<◌, ◌⊎◌, arith, List, [], ◌∷◌, ◌++◌, length, Some, sym, ap, subst, inl, inr, refl, ⊎_elim}
+-- Lists along which a number ascends, and elements of lists.
+use Rattle.std.proofs.Common.{◌≡◌, ℕ, zero, suc, ◌<◌, ◌⊎◌, arith, List, [], ◌∷◌, ◌++◌, length, Some, sym, ap, subst, inl, inr, refl, ⊎_elim, append-nil, take, drop}
+use Rattle.std.proofs.lemmas.List.{take_all, drop_all}
 use Rattle.std.proofs.lemmas.Option.{get_or_from_slice_get, slice_get_within}
 use Rattle.std.specs.Prelude.{All, slice_get}
 use Rattle.cs_lexeme.specs.Bytes.{Rises}
@@ -44,3 +45,10 @@ module _ {A : Type 0} where
       (λ (same : (i ≡ length xs) × (x ≡ y)). absurd (omega (arith, new.0, same.0)))
       (at_pushed xs y x i at))
       (at_pushed xs y z j other)
+
+  -- what was written through a borrowed slice of as many
+  pub written : (items new : List A) (count : ℕ) → length items ≡ count → length new ≡ count → take count (new ++ drop (length new) items) ≡ new
+  written items new count all same =
+      let e : drop (length new) items ≡ [] = drop_all (length new) items (omega arith) in
+      let P : List A → Type 0 = λ t. take count (new ++ t) ≡ new in
+      subst P (sym e) (let Q : List A → Type 0 = λ t. take count t ≡ new in subst Q (sym (append-nil new)) (take_all count new (omega arith)))

@@ -1,9 +1,9 @@
 -- States met one after another.
-use Rattle.std.proofs.Common.{◌≡◌, ℕ, suc, ◌+◌, ◌*◌, ◌<◌, ◌≤◌, arith, Bool, true, false, List, [], ◌∷◌, ◌++◌, length, sym, ◌∙◌, ap, subst, refl, ⊎_elim, Option, Some, None, map, eqb, length-append, reverse, append_assoc, append-nil, take, drop}
+use Rattle.std.proofs.Common.{◌≡◌, ℕ, suc, ◌+◌, ◌*◌, ◌<◌, ◌≤◌, arith, Bool, true, false, List, [], ◌∷◌, ◌++◌, length, sym, ◌∙◌, ap, subst, refl, ⊎_elim, Option, Some, None, map, eqb, length-append, reverse, append_assoc, append-nil}
 use Rattle.std.specs.Prelude.{slice_get, slice_index_or, slice_set}
 use Rattle.std.specs.List.{IsDistinct, list_any, AllByRecursion}
 use Rattle.std.proofs.lemmas.Bool.{cases_lt, cases_eq, false≢true, or_cases, eqb-true, ne_eqb}
-use Rattle.std.proofs.lemmas.List.{length-map, length-set, get_or-set_same, get_or-set_other, reverse-append, take_all, drop_all}
+use Rattle.std.proofs.lemmas.List.{length-map, length-set, get_or-set_same, get_or-set_other, reverse-append}
 use Rattle.std.proofs.lemmas.Map.Steps.{length-le_from_distinct_below}
 use Rattle.std.proofs.lemmas.Option.{slice_get_within}
 use Rattle.cs_automaton.specs.Machine.{Machine}
@@ -239,10 +239,3 @@ text_next visits place at bytes v o here is less mid = record {
 
 pub text_done : (visits : List Visit) (place at : ℕ) (bytes : List ℕ) (v : Visit) → slice_get visits at ≡ Some v → v.origin ≡ None → IsMidText visits place at bytes → Spells visits place (reverse bytes)
 text_done visits place at bytes v here is mid = mid.spells [] (Spells.begins at v [] here is refl)
-
--- what was written through a borrowed slice of as many
-pub written : (items new : List Bool) (count : ℕ) → length items ≡ count → length new ≡ count → take count (new ++ drop (length new) items) ≡ new
-written items new count all same =
-    let e : drop (length new) items ≡ [] = drop_all (length new) items (omega arith) in
-    let P : List Bool → Type 0 = λ t. take count (new ++ t) ≡ new in
-    subst P (sym e) (let Q : List Bool → Type 0 = λ t. take count t ≡ new in subst Q (sym (append-nil new)) (take_all count new (omega arith)))

@@ -1,13 +1,14 @@
 -- Rows of steps, byte by byte.
 use Rattle.std.proofs.Common.{◌≡◌, ℕ, ◌+◌, ◌<◌, ◌≤◌, arith, List, [], ◌∷◌, ◌++◌, length, sym, ◌∙◌, ap, subst, inl, inr, refl, ⊎_elim, Some, None, length-append}
-use Rattle.std.specs.Prelude.{slice_get}
-use Rattle.std.proofs.lemmas.Option.{slice_get-get_or}
+use Rattle.std.specs.Prelude.{slice_get, slice_index_or, slice_set}
 use Rattle.std.proofs.lemmas.Bool.{cases_lt}
+use Rattle.std.proofs.lemmas.List.{length-set, get_or-set_same, get_or-set_other}
+use Rattle.std.proofs.lemmas.Option.{slice_get-get_or}
 use Rattle.cs_automaton.specs.Machine.{Machine}
 use Rattle.cs_lexeme.specs.declared.steps.Step.{Step}
 use Rattle.cs_lexeme.specs.Rank.{rank}
 use Rattle.cs_lexeme.specs.Bytes.{AreByRank}
-use Rattle.cs_lexeme.specs.Steps.{Goes, IsStep, HasStep, IsCovered, IsRow, IsRowUpTo, EndsAt, PutsStep, step_rank, AreFirstRows, AreRowsUpTo}
+use Rattle.cs_lexeme.specs.Steps.{Goes, IsStep, HasStep, IsCovered, IsRow, IsRowUpTo, LeadsTo, PutsStep, AreNoted, step_rank, AreFirstRows, AreRowsUpTo}
 use Rattle.cs_lexeme.proofs.Lists.{at_pushed, still_at, at_end, rises_pushed}
 use Rattle.cs_lexeme.proofs.Ranking.{rank_within}
 
@@ -73,11 +74,10 @@ pub row_put : (m : Machine) (state : ℕ) (bytes : List ℕ) (place b to : ℕ) 
 row_put m state bytes place b to row new by_rank here fits within goes puts r =
     let step : Step = record { byte = b; to = to } in
     ⊎_elim
-    (λ (same : EndsAt row to × (new ≡ row)).
-    let last = same.0 in
-    let at : slice_get row (length last.0) ≡ Some last.1 = subst (λ (t : List Step). slice_get t (length last.0) ≡ Some last.1) (sym last.2) (at_end last.0 last.1) in
-    let low = lower_rank m state bytes place b row by_rank here r (length last.0) last.1 at in
-    let has : HasStep row b to = record { place = length last.0; step = last.1; at = at; leads = last.3; low = omega (arith, low) } in
+    (λ (same : LeadsTo row to × (new ≡ row)).
+    let it = same.0 in
+    let low = lower_rank m state bytes place b row by_rank here r it.0 it.1 it.2 in
+    let has : HasStep row b to = record { place = it.0; step = it.1; at = it.2; leads = it.3; low = omega (arith, low) } in
     let P : List Step → Type 0 = λ t. IsRowUpTo m state bytes (place + 1) t in
     subst P (sym same.1) (one_more m state bytes place b row here r (inr (to, goes, has))))
     (λ (more : new ≡ row ++ step ∷ []).
@@ -112,4 +112,21 @@ pub next_row : (m : Machine) (state : ℕ) (rows : List (List Step)) (row : List
 next_row m state rows row r new = record {
   all = omega (arith, length-append rows (row ∷ []), r.all);
   each = let P : ℕ → Type 0 = λ k. IsRow m k row in row_more m rows row r.each (subst P (sym r.all) new);
+}
+
+-- ---- the noted places
+
+pub noted_none : (count : ℕ) (places : List ℕ) → length places ≡ count → AreNoted count [] places
+noted_none count places all = record { all = all; told = λ place step at. absurd (cc) }
+
+-- a step to a new state is put, and its place noted
+pub noted_pushed : (count : ℕ) (row : List Step) (places : List ℕ) (step : Step) → step.to < count → (LeadsTo row step.to → ⊥) → AreNoted count row places → AreNoted count (row ++ step ∷ []) (slice_set places step.to (length row))
+noted_pushed count row places step within new noted = record {
+  all = length-set places step.to (length row) ∙ noted.all;
+  told = λ place other at. ⊎_elim
+      (λ (old : slice_get row place ≡ Some other). get_or-set_other places step.to other.to (length row) 0 (λ same. new (place, other, old, same)) ∙ noted.told place other old)
+      (λ (last : (place ≡ length row) × (other ≡ step)).
+      let P : Step → Type 0 = λ t. slice_index_or (slice_set places step.to (length row)) t.to 0 ≡ place in
+      subst P (sym last.1) (get_or-set_same places step.to (length row) 0 (omega (arith, within, noted.all)) ∙ sym last.0))
+      (at_pushed row step other place at);
 }

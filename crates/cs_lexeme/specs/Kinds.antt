@@ -170,6 +170,14 @@ PutsNamed table visits old new = AreAllFound table.scanner visits (length visits
 abbrev pub AreLeastTexts : Scanner → ℕ → List (Option (Vec ℕ Global)) → Type 0
 AreLeastTexts scanner below texts = AreLeast (scanning scanner) below (texts_of texts)
 
+-- what is seen of the least texts of tokens that rules name
+abbrev pub AreNamedTexts : Scanner → List (Option (Vec ℕ Global)) → Type 0
+AreNamedTexts scanner texts = AreNamed (scanning scanner) (texts_of texts)
+
+-- the least text that begins with the byte and gives its own byte
+abbrev pub IsLeastOwn : Scanner → ℕ → Option (List ℕ) → Type 0
+IsLeastOwn scanner byte text = IsLeast (IsOwn (scanning scanner) byte) text
+
 -- as many are seen as before
 abbrev pub KeepsCount : List (Option (Vec ℕ Global)) → List (Option (Vec ℕ Global)) → Type 0
 KeepsCount old new = length (texts_of new) ≡ length (texts_of old)

@@ -1,5 +1,5 @@
 -- The steps of an automaton by the ranks of their bytes.
-use Rattle.std.specs.Prelude.{◌≡◌, ◌⊎◌, ℕ, ◌<◌, ◌≤◌, List, [], ◌∷◌, ◌++◌, Option, Some, None, length, slice_get, map}
+use Rattle.std.specs.Prelude.{◌≡◌, ◌⊎◌, ℕ, ◌<◌, ◌≤◌, List, [], ◌∷◌, ◌++◌, Option, Some, None, length, slice_get, slice_index_or, map}
 use Rattle.std.proofs.Common.{Vec, Global}
 use Rattle.cs_automaton.specs.Machine.{Machine, StateOf, IsNextState}
 use Rattle.cs_lexeme.specs.declared.steps.Step.{Step}
@@ -37,13 +37,18 @@ pub record IsRow (m : Machine) (state : ℕ) (row : List Step) : Type 0 where
   pub rises : Rises step_rank row
   pub covered : (byte : ℕ) → byte < 256 → IsCovered m state row byte
 
--- the last step leads to the state
-abbrev pub EndsAt : List Step → ℕ → Type 0
-EndsAt row to = (front : List Step) × (step : Step) × (row ≡ front ++ step ∷ []) × (step.to ≡ to)
+-- a step of the row leads to the state
+abbrev pub LeadsTo : List Step → ℕ → Type 0
+LeadsTo row to = (place : ℕ) × (step : Step) × (slice_get row place ≡ Some step) × (step.to ≡ to)
 
--- the step was put behind the others, unless the last one leads there
+-- the step was put behind the others, unless one of them leads there
 abbrev pub PutsStep : List Step → Step → List Step → Type 0
-PutsStep old step new = (EndsAt old step.to × (new ≡ old)) ⊎ (new ≡ old ++ step ∷ [])
+PutsStep old step new = (LeadsTo old step.to × (new ≡ old)) ⊎ (new ≡ old ++ step ∷ [])
+
+-- for the state that a step leads to stands the place of the step
+pub record AreNoted (count : ℕ) (row : List Step) (places : List ℕ) : Type 0 where
+  pub all : length places ≡ count
+  pub told : (place : ℕ) (step : Step) → slice_get row place ≡ Some step → slice_index_or places step.to 0 ≡ place
 
 -- the row so far: its steps come from the bytes in front of the place, and each of them is covered
 pub record IsRowUpTo (m : Machine) (state : ℕ) (bytes : List ℕ) (place : ℕ) (row : List Step) : Type 0 where
@@ -51,6 +56,11 @@ pub record IsRowUpTo (m : Machine) (state : ℕ) (bytes : List ℕ) (place : ℕ
   pub rises : Rises step_rank row
   pub from : (i : ℕ) (step : Step) → slice_get row i ≡ Some step → (j : ℕ) × (j < place) × (slice_get bytes j ≡ Some step.byte)
   pub covered : (j byte : ℕ) → j < place → slice_get bytes j ≡ Some byte → IsCovered m state row byte
+
+-- the same, with the places noted
+pub record IsMidRowOf (m : Machine) (state : ℕ) (bytes : List ℕ) (place : ℕ) (row : List Step) (places : List ℕ) : Type 0 where
+  pub is_row : IsRowUpTo m state bytes place row
+  pub noted : AreNoted (length m.sets) row places
 
 -- rows for the first states
 abbrev pub AreFirstRows : Machine → List (List Step) → Type 0
@@ -60,6 +70,11 @@ AreFirstRows m rows = (state : ℕ) (row : List Step) → slice_get rows state �
 pub record AreRowsUpTo (m : Machine) (count : ℕ) (rows : List (List Step)) : Type 0 where
   pub all : length rows ≡ count
   pub each : AreFirstRows m rows
+
+-- the same, with places for all states
+pub record AreMidRows (m : Machine) (count : ℕ) (rows : List (List Step)) (places : List ℕ) : Type 0 where
+  pub are_rows : AreRowsUpTo m count rows
+  pub all : length places ≡ length m.sets
 
 -- a row for each state
 pub record AreRows (m : Machine) (rows : List (List Step)) : Type 0 where

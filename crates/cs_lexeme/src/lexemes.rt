@@ -2,7 +2,7 @@
 
 ghost use Rattle.std.specs.Prelude.{◌≡◌, ◌+◌, ◌<◌, ◌≤◌, ◌↔◌, [], ◌∷◌, IfNone, IfOk, IfSome, IsTrue, Some, length, option_map};
 ghost use Rattle.cs_scan.specs.Compared.{HasKinds, HasLiterals, scanning};
-ghost use Rattle.cs_lexeme.specs.Kinds.{AreEmpty, AreLeastTexts, AreNamed, IsFirstOwn, IsFirstOwnText, IsKindAt, IsLeast, IsOwn, IsReached, KeepsCount, KeepsLeast, KeepsText, NamesNoOpen, NamesOpen, PutsNamed, PutsText, first_visit, own_byte};
+ghost use Rattle.cs_lexeme.specs.Kinds.{AreEmpty, AreLeastTexts, AreNamedTexts, IsFirstOwn, IsFirstOwnText, IsKindAt, IsLeastOwn, IsReached, KeepsCount, KeepsLeast, KeepsText, NamesNoOpen, NamesOpen, PutsNamed, PutsText, first_visit, own_byte};
 ghost use Rattle.cs_lexeme.specs.Lexeme.{AreLexemes, lexeme_in};
 ghost use Rattle.cs_lexeme.specs.Table.{IsTable};
 ghost use Rattle.cs_lexeme.specs.Texts.{text_of, texts_of};
@@ -130,7 +130,7 @@ fn find_named(
 ) -> Result<Vec<Option<Vec<u8>>>, AllocError>
     requires kinds { HasKinds table.now.scanner }
     requires table { IsTable table.now }
-    ensures named { IfOk result (λ list. AreNamed (scanning table.now.scanner) (texts_of list.items)) }
+    ensures named { IfOk result (λ list. AreNamedTexts table.now.scanner list.items) }
     ensures all { IfOk result (λ texts. length (texts_of texts.items) ≡ tokens) }
 {
     let mut visits = start_visit(alloc, table.scanner.automaton.start())?;
@@ -174,7 +174,7 @@ fn first_text(
 fn find_own(alloc: Global, table: &StepTable<'_>, byte: u8) -> Result<Option<Vec<u8>>, AllocError>
     requires kinds { HasKinds table.now.scanner }
     requires table { IsTable table.now }
-    ensures { IfOk result (λ text. IsLeast (IsOwn (scanning table.now.scanner) byte) (text_of text)) }
+    ensures { IfOk result (λ text. IsLeastOwn table.now.scanner byte (text_of text)) }
 {
     let start = table.scanner.automaton.start();
     let Some(to) = table.scanner.automaton.step(start, byte) else {

@@ -1,8 +1,8 @@
 // The states that texts lead to, each met by its least text.
 
 ghost use Rattle.std.specs.Prelude.{◌≡◌, ◌+◌, ◌*◌, ◌<◌, ◌≤◌, IfOk, Some, length, slice_get};
-ghost use Rattle.cs_lexeme.specs.Table.{IsTable, MeetsAll, table_rows};
-ghost use Rattle.cs_lexeme.specs.Visits.{AreEarlier, AreLight, AreMarked, AreMet, AreVisits, AreWithin, Extends, IsClosed, Spells};
+ghost use Rattle.cs_lexeme.specs.Table.{AreMetIn, IsTable, MeetsAll, table_rows};
+ghost use Rattle.cs_lexeme.specs.Visits.{AreEarlier, AreLight, AreMarked, AreVisits, AreWithin, Extends, IsClosed, Spells};
 
 use crate::steps::{Step, StepTable};
 use cs_automaton::State;
@@ -52,9 +52,9 @@ fn meet_behind(
 ) -> Result<(), AllocError>
     requires table { IsTable table.now }
     requires place { place < length visits.old.items }
-    requires met { AreMet table.now.scanner.automaton.now visits.old.items met.old }
+    requires met { AreMetIn table.now visits.old.items met.old }
     requires light { AreLight (4096 * place) visits.old.items }
-    ensures met { IfOk result (λ _. AreMet table.now.scanner.automaton.now visits.new.items met.new) }
+    ensures met { IfOk result (λ _. AreMetIn table.now visits.new.items met.new) }
     ensures light { IfOk result (λ _. AreLight (4096 * (place + 1)) visits.new.items) }
     ensures extends { IfOk result (λ _. Extends place visits.old.items visits.new.items) }
     ensures closed { IfOk result (λ _. IsClosed (table_rows table.now) visits.new.items place) }

@@ -3,7 +3,7 @@
 ghost use Rattle.std.specs.Prelude.{◌≡◌, ◌<◌, ◌↔◌, IsTrue, IfOk, length};
 ghost use Rattle.cs_lexeme.specs.Bytes.{AreByRank};
 ghost use Rattle.cs_lexeme.specs.Table.{IsTable};
-ghost use Rattle.cs_lexeme.specs.Steps.{AreRows, EndsAt, IsRow, PutsStep, rows_of};
+ghost use Rattle.cs_lexeme.specs.Steps.{AreNoted, AreRows, IsRow, LeadsTo, PutsStep, rows_of};
 
 use crate::rank::bytes_by_rank;
 use cs_automaton::{Automaton, State};
@@ -17,40 +17,51 @@ pub struct Step {
     pub to: State,
 }
 
-/// Whether the last step of the row leads to the state.
-fn ends_at(row: &[Step], to: State) -> bool
-    ensures { IsTrue result ↔ EndsAt row.now to }
+/// Whether a step of the row leads to the state, by the places that are noted of such steps.
+fn leads_to(row: &[Step], places: &[usize], to: State) -> bool
+    requires within { to < length places.now }
+    requires noted { AreNoted (length places.now) row.now places.now }
+    ensures { IsTrue result ↔ LeadsTo row.now to }
 {
-    !row.is_empty() && row[row.len() - 1].to == to
+    let place = places[to as usize];
+    place < row.len() && row[place].to == to
 }
 
-/// Puts the step behind those of the row, unless the last one leads to the same state.
-fn put_step(row: &mut Vec<Step>, step: Step) -> Result<(), AllocError>
-    ensures { IfOk result (λ _. PutsStep row.old.items step row.new.items) }
+/// Puts the step behind those of the row and notes its place, unless one of them leads to the same state.
+fn put_step(row: &mut Vec<Step>, places: &mut [usize], step: Step) -> Result<(), AllocError>
+    requires within { step.to < length places.old }
+    requires noted { AreNoted (length places.old) row.old.items places.old }
+    ensures puts { IfOk result (λ _. PutsStep row.old.items step row.new.items) }
+    ensures noted { IfOk result (λ _. AreNoted (length places.old) row.new.items places.new) }
 {
-    if ends_at(row, step.to) {
+    if leads_to(row, places, step.to) {
         return Ok(());
     }
+    places[step.to as usize] = row.len();
     row.push(step)?;
     Ok(())
 }
 
-/// The steps of the state by rank. Of bytes that follow each other by rank and lead to one state, the first alone has a step.
+/// The steps of the state by rank. Of bytes that lead to one state, the first by rank alone has a step. The places tell where in
+/// the row the step to a state stands, and may tell anything at first.
 fn row_of(
     alloc: Global,
     automaton: &Automaton<'_>,
     bytes: &[u8],
+    places: &mut [usize],
     state: State,
 ) -> Result<Vec<Step>, AllocError>
     requires state { state < length automaton.now.sets }
     requires bytes { AreByRank 2048 bytes.now }
-    ensures { IfOk result (λ row. IsRow automaton.now state row.items) }
+    requires places { length places.old ≡ length automaton.now.sets }
+    ensures row { IfOk result (λ row. IsRow automaton.now state row.items) }
+    ensures places { IfOk result (λ _. length places.new ≡ length automaton.now.sets) }
 {
     let mut row = Vec::new(alloc);
     for i in 0..bytes.len() {
         let byte = bytes[i];
         if let Some(to) = automaton.step(state, byte) {
-            put_step(&mut row, Step { byte, to })?;
+            put_step(&mut row, places, Step { byte, to })?;
         }
     }
     Ok(row)
@@ -61,9 +72,10 @@ fn all_steps(alloc: Global, automaton: &Automaton<'_>) -> Result<Vec<Vec<Step>>,
     ensures { IfOk result (λ rows. AreRows automaton.now (rows_of rows.items)) }
 {
     let bytes = bytes_by_rank(alloc)?;
+    let mut places = vec![in alloc; 0; automaton.state_count()]?;
     let mut rows = Vec::new(alloc);
     for state in 0..automaton.state_count() {
-        let row = row_of(alloc, automaton, &bytes, state as State)?;
+        let row = row_of(alloc, automaton, &bytes, &mut places, state as State)?;
         rows.push(row)?;
     }
     Ok(rows)

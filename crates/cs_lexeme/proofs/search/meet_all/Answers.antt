@@ -1,6 +1,7 @@
 use Rattle.std.proofs.Common.{arith, ◌≡◌, sym, length}
 use Rattle.cs_lexeme.specs.Table.{table_rows}
-use Rattle.cs_lexeme.proofs.Meeting.{few_visits, search_next, written}
+use Rattle.cs_lexeme.proofs.Lists.{written}
+use Rattle.cs_lexeme.proofs.Meeting.{few_visits, search_next}
 use Rattle.cs_lexeme.proofs.search.meet_all.Goals as goal
 
 pub places-smaller : goal.places-smaller
