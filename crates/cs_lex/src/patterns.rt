@@ -68,7 +68,7 @@ pub fn collect_patterns(
     let mut leaves = 0;
     for rule in rules {
         let pattern = rule_pattern(alloc, bytes, *rule, definitions)?;
-        leaves += leaf_count(&pattern);
+        leaves += leaf_count(alloc, &pattern)?;
         keep(&mut patterns, pattern, leaves)?;
     }
     Ok(Collected { patterns, leaves })

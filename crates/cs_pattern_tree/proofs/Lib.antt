@@ -1,3 +1,3 @@
+pub mod Listing
 pub mod Matching
-pub mod Nesting
 pub mod Unfolding

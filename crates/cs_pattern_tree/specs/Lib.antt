@@ -1,4 +1,5 @@
 pub mod Pattern
 pub mod Repeated
 pub mod Counting
+pub mod Nodes
 pub mod Scannable

@@ -1,34 +1,72 @@
 // A pattern, copied.
 
-ghost use Rattle.std.specs.Prelude.{◌≡◌, ◌≤◌, IfOk, map};
-ghost use Rattle.cs_pattern_tree.specs.Pattern.{nesting, part_nesting, parts_of, regex};
+ghost use Rattle.std.specs.Prelude.{◌≡◌, ◌≤◌, ◌++◌, ◌∷◌, [], IfOk, OnOk, map};
+ghost use Rattle.cs_pattern_tree.specs.Nodes.{below, last, top, with_node};
+ghost use Rattle.cs_pattern_tree.specs.Pattern.{nesting, regex};
 
+use crate::nodes::list_nodes;
 use crate::pattern::Pattern;
 use std::alloc::{AllocError, Global};
 
-/// The same pattern.
-#[cycle(copy)]
-pub fn copy(alloc: Global, pattern: &Pattern) -> Result<Pattern, AllocError>
-    requires nested { nesting (regex pattern.now) ≤ 1000 }
-    ensures same { IfOk result (λ copied. regex copied ≡ regex pattern.now) }
+/// Takes the last patterns off the stack, or all of them where there are fewer.
+fn take_last(stack: &mut Vec<Pattern>, count: usize) -> Result<Vec<Pattern>, AllocError>
+    ensures taken { IfOk result (λ v. map regex v.items ≡ last count (map regex stack.old.items)) }
+    ensures left { OnOk result
+        (map regex stack.new.items ≡ below count (map regex stack.old.items)) }
 {
-    match pattern {
-        Pattern::Empty => Ok(Pattern::Empty),
-        Pattern::Class(set) => Ok(Pattern::Class(set.duplicate())),
-        Pattern::Join(parts) => Ok(Pattern::Join(copy_all(alloc, parts)?)),
-        Pattern::Either(parts) => Ok(Pattern::Either(copy_all(alloc, parts)?)),
-        Pattern::Many(part) => Ok(Pattern::Many(Box::new(alloc, copy(alloc, part)?)?)),
+    let from = stack.len().saturating_sub(count);
+    let parts = stack.split_off(from)?;
+    Ok(parts)
+}
+
+/// Takes the top off the stack.
+fn take_top(stack: &mut Vec<Pattern>) -> Pattern
+    ensures taken { regex result ≡ top (map regex stack.old.items) }
+    ensures left { map regex stack.new.items ≡ below 1 (map regex stack.old.items) }
+{
+    stack.pop().unwrap_or(Pattern::Empty)
+}
+
+fn push(stack: &mut Vec<Pattern>, pattern: Pattern) -> Result<(), AllocError>
+    ensures { OnOk result
+        (map regex stack.new.items ≡ map regex stack.old.items ++ regex pattern ∷ []) }
+{
+    stack.push(pattern)?;
+    Ok(())
+}
+
+/// Makes the node again, of the parts that are on top of the stack, and puts it in their place.
+fn copy_node(alloc: Global, node: &Pattern, stack: &mut Vec<Pattern>) -> Result<(), AllocError>
+    ensures { OnOk result
+        (map regex stack.new.items ≡ with_node (map regex stack.old.items) (regex node.now)) }
+{
+    match node {
+        Pattern::Empty => push(stack, Pattern::Empty),
+        Pattern::Class(set) => push(stack, Pattern::Class(set.duplicate())),
+        Pattern::Join(parts) => {
+            let copies = take_last(stack, parts.len())?;
+            push(stack, Pattern::Join(copies))
+        }
+        Pattern::Either(parts) => {
+            let copies = take_last(stack, parts.len())?;
+            push(stack, Pattern::Either(copies))
+        }
+        Pattern::Many(_) => {
+            let part = Box::new(alloc, take_top(stack))?;
+            push(stack, Pattern::Many(part))
+        }
     }
 }
 
-#[cycle(copy)]
-fn copy_all(alloc: Global, parts: &[Pattern]) -> Result<Vec<Pattern>, AllocError>
-    requires nested { part_nesting (parts_of (map regex parts.now)) ≤ 1000 }
-    ensures same { IfOk result (λ copies. map regex copies.items ≡ map regex parts.now) }
+/// The same pattern.
+pub fn copy(alloc: Global, pattern: &Pattern) -> Result<Pattern, AllocError>
+    requires { nesting (regex pattern.now) ≤ 1000 }
+    ensures { IfOk result (λ copied. regex copied ≡ regex pattern.now) }
 {
-    let mut copies = Vec::new(alloc);
-    for i in 0..parts.len() {
-        copies.push(copy(alloc, &parts[i])?)?;
+    let mut nodes = list_nodes(alloc, pattern)?;
+    let mut stack = Vec::new(alloc);
+    while let Some(node) = nodes.pop() {
+        copy_node(alloc, node, &mut stack)?;
     }
-    Ok(copies)
+    Ok(take_top(&mut stack))
 }

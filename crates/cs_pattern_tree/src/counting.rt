@@ -1,35 +1,33 @@
 // The leaves of a pattern, counted.
 
-ghost use Rattle.std.specs.Prelude.{◌≡◌, ◌<◌, ◌≤◌, ◌^◌, map};
-ghost use Rattle.cs_pattern_tree.specs.Pattern.{all_leaves, leaves, nesting, part_nesting, parts_of, regex};
+ghost use Rattle.std.specs.Prelude.{◌≡◌, ◌<◌, ◌^◌, IfOk};
+ghost use Rattle.cs_pattern_tree.specs.Nodes.{own_leaves};
+ghost use Rattle.cs_pattern_tree.specs.Pattern.{leaves, regex};
 
+use crate::nodes::list_nodes;
 use crate::pattern::Pattern;
+use std::alloc::{AllocError, Global};
 
-/// How many leaves the pattern has: classes and empty patterns.
-#[cycle(count)]
-pub fn leaf_count(pattern: &Pattern) -> u32
-    requires nested { nesting (regex pattern.now) ≤ 1000 }
-    requires few { leaves (regex pattern.now) < 2 ^ 32 }
-    ensures { result ≡ leaves (regex pattern.now) }
+fn own_leaves(node: &Pattern) -> u32
+    ensures { result ≡ own_leaves (regex node.now) }
 {
-    match pattern {
+    match node {
         Pattern::Empty => 1,
         Pattern::Class(_) => 1,
-        Pattern::Join(parts) => count_all(parts),
-        Pattern::Either(parts) => count_all(parts),
-        Pattern::Many(part) => leaf_count(part),
+        Pattern::Join(_) => 0,
+        Pattern::Either(_) => 0,
+        Pattern::Many(_) => 0,
     }
 }
 
-#[cycle(count)]
-fn count_all(parts: &[Pattern]) -> u32
-    requires nested { part_nesting (parts_of (map regex parts.now)) ≤ 1000 }
-    requires few { all_leaves (parts_of (map regex parts.now)) < 2 ^ 32 }
-    ensures { result ≡ all_leaves (parts_of (map regex parts.now)) }
+/// How many leaves the pattern has: classes and empty patterns.
+pub fn leaf_count(alloc: Global, pattern: &Pattern) -> Result<u32, AllocError>
+    requires { leaves (regex pattern.now) < 2 ^ 32 }
+    ensures { IfOk result (λ count. count ≡ leaves (regex pattern.now)) }
 {
     let mut count = 0;
-    for i in 0..parts.len() {
-        count += leaf_count(&parts[i]);
+    for node in &list_nodes(alloc, pattern)? {
+        count += own_leaves(node);
     }
-    count
+    Ok(count)
 }

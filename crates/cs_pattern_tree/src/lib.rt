@@ -2,18 +2,20 @@
 //! makes of one, how many leaves it has and how deep it is.
 //!
 //! The layers above build a `Pattern` by its variants and state what they do by `regex`, its value, and by `Matches`. They may
-//! copy a pattern and count its leaves; both go down as deep as the pattern is, and ask for one that is not deeper than 1,000.
+//! count the leaves of a pattern and copy it, both on a stack in memory. A copy is asked for only of a pattern that is not
+//! deeper than 1,000: to let a pattern go takes as many calls within one another as it is deep.
 //! An automaton is made of patterns that are `AreScannable`. The laws say what `Matches` means of repetitions and of joins and
 //! eithers of one part, and which lists a pattern matches.
 //!
 //! Meaning: `specs/Pattern.antt` (values, `Matches`, leaves, nesting), `specs/Repeated.antt` (what a repetition makes),
-//! `specs/Counting.antt` (so many parts, one after another), `specs/Scannable.antt`. No file holds working words.
+//! `specs/Counting.antt` (so many parts, one after another), `specs/Scannable.antt`. Working words of proofs: `specs/Nodes.antt`.
 #![tactic(auto)]
 
 mod copying;
 mod counting;
 mod kind;
 mod laws;
+mod nodes;
 mod pattern;
 mod sharing;
 

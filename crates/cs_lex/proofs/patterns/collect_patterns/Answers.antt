@@ -20,5 +20,5 @@ pub loop-rule-preserved : goal.loop-rule-preserved
 unfolding zero_rule
 loop-rule-preserved c =
     let r : Rule = get_or c.args.rules.now c.loop-rule.rule-index zero_rule in
-    found_more c.args.definitions.now c.args.bytes.now c.args.rules.now c.loop-rule.rule-index r c.in_ok-pattern.pattern c.loop-rule.patterns.items c.keep.new.patterns.items c.loop-rule.leaves c.leaf_count-leaves.result c.loop-rule.invariant
-    c.loop-rule-test.true (get_or_default c.args.rules.now c.loop-rule.rule-index zero_rule r c.loop-rule-test.true) c.in_ok-pattern.ensures.read c.leaf_count-leaves.ensures c.in_ok-keep.ensures
+    found_more c.args.definitions.now c.args.bytes.now c.args.rules.now c.loop-rule.rule-index r c.in_ok-pattern.pattern c.loop-rule.patterns.items c.keep.new.patterns.items c.loop-rule.leaves c.in_ok-leaves.field-0 c.loop-rule.invariant
+    c.loop-rule-test.true (get_or_default c.args.rules.now c.loop-rule.rule-index zero_rule r c.loop-rule-test.true) c.in_ok-pattern.ensures.read c.in_ok-leaves.ensures c.in_ok-keep.ensures
