@@ -1,0 +1,4 @@
+pub mod Zips
+pub mod Making
+pub mod Gathering
+pub mod Joining

@@ -1,0 +1,4 @@
+pub mod Plans
+pub mod Waiting
+pub mod Made
+pub mod Batches

@@ -1,0 +1,63 @@
+-- What is made of a goal. Working words of proofs.
+use Rattle.std.specs.Prelude.{◌≡◌, ℕ, List, [], ◌∷◌, Option, None, Some, option_map}
+use Rattle.std.specs.Global.{Global, Vec}
+use Rattle.std.specs.Vec.Iter.{into_iter_items}
+use Rattle.std.specs.declared.vec.IntoIter.{IntoIter}
+use Rattle.cs_manifest.specs.Manifest.{GoalEntry}
+use Rattle.cs_manifest.specs.Names.{AreNamedRenderings, AreNamedTokens, IsNamedGoal}
+use Rattle.cs_positive.specs.declared.positive.Positive.{Positive}
+use Rattle.cs_positive.specs.declared.verdict.Verdict.{Verdict}
+use Rattle.cs_positive.specs.declared.verdict.Verdict.TheVariants.{Feasible, Infeasible, Large}
+use Rattle.cs_render.specs.declared.rendered.Rendered.{Rendered}
+use Rattle.cs_render.specs.Rendering.{rendering}
+use Rattle.cs_yacc.specs.File.{File}
+
+-- the numbers of its tokens have names
+pub record IsNamedGoalEntry (file : File) (entry : GoalEntry) : Type 0 where
+  pub goal : IsNamedGoal file entry.goal
+  pub tokens : AreNamedTokens file entry.tokens
+  pub text : AreNamedRenderings file entry.rendered
+
+-- the first item is taken, where there is one
+abbrev pub TakesFirst : {X : Type 0} → List X → Option X → List X → Type 0
+TakesFirst old None new = (old ≡ []) × (new ≡ [])
+TakesFirst old (Some first) new = old ≡ first ∷ new
+
+-- a feasible goal has a list
+abbrev pub HasListIn : Verdict → List (Vec ℕ) → Type 0
+HasListIn (Feasible size derivation) lists = (first : Vec ℕ) × (rest : List (Vec ℕ)) × (lists ≡ first ∷ rest)
+HasListIn Infeasible lists = Unit {0}
+HasListIn Large lists = Unit {0}
+
+-- the entry of a goal with this list and what came of it
+abbrev pub entry_with : Positive → List ℕ → Option Rendered → GoalEntry
+entry_with p tokens rendered = record {
+  goal = p.goal;
+  verdict = p.verdict;
+  tokens = tokens;
+  rendered = option_map rendering rendered;
+}
+
+-- the first list and what came first
+pub record TakesBoth (p : Positive) (lists : List (Vec ℕ)) (rendered : List Rendered) (entry : GoalEntry) (lists_left : List (Vec ℕ)) (rendered_left : List Rendered) : Type 0 where
+  pub list : Vec ℕ
+  pub answer : Option Rendered
+  pub first : lists ≡ list ∷ lists_left
+  pub taken : TakesFirst rendered answer rendered_left
+  pub made : entry ≡ entry_with p list.items answer
+
+-- no list
+pub record TakesNone (p : Positive) (lists : List (Vec ℕ)) (rendered : List Rendered) (entry : GoalEntry) (lists_left : List (Vec ℕ)) (rendered_left : List Rendered) : Type 0 where
+  pub same_lists : lists_left ≡ lists
+  pub same_rendered : rendered_left ≡ rendered
+  pub made : entry ≡ entry_with p [] None
+
+-- a feasible goal takes the first list and what came of it, another goal takes none
+abbrev pub Joins : Verdict → Positive → List (Vec ℕ) → List Rendered → GoalEntry → List (Vec ℕ) → List Rendered → Type 0
+Joins (Feasible size derivation) p lists rendered entry lists_left rendered_left = TakesBoth p lists rendered entry lists_left rendered_left
+Joins Infeasible p lists rendered entry lists_left rendered_left = TakesNone p lists rendered entry lists_left rendered_left
+Joins Large p lists rendered entry lists_left rendered_left = TakesNone p lists rendered entry lists_left rendered_left
+
+abbrev pub IsJoined : Positive → IntoIter (Vec ℕ) Global → IntoIter Rendered Global → GoalEntry → IntoIter (Vec ℕ) Global → IntoIter Rendered Global → Type 0
+IsJoined p lists rendered entry lists_left rendered_left =
+    Joins p.verdict p (into_iter_items lists) (into_iter_items rendered) entry (into_iter_items lists_left) (into_iter_items rendered_left)

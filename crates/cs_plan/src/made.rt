@@ -1,0 +1,92 @@
+// The entries of goals.
+
+ghost use Rattle.std.specs.Prelude.{◌≡◌};
+ghost use Rattle.std.specs.Vec.Iter.{into_iter_items};
+ghost use Rattle.cs_manifest.specs.declared.counts.Counts.{Counts};
+ghost use Rattle.cs_yacc.specs.File.{File};
+ghost use Rattle.cs_manifest.specs.Counts.{with_entry, with_verdict};
+ghost use Rattle.cs_manifest.specs.Entry.{IsNamedEntry, lines_of};
+ghost use Rattle.cs_manifest.specs.Manifest.{goal_entry_lines};
+ghost use Rattle.cs_plan.specs.Made.{HasListIn, IsJoined, IsNamedGoalEntry, TakesFirst};
+
+use cs_goals::Goal;
+use cs_manifest::Entry;
+use cs_positive::{Positive, Verdict};
+use cs_render::Rendered;
+use std::alloc::Global;
+use std::marker::Model;
+use std::vec::IntoIter;
+
+/// A goal with its verdict, the tokens of its derivation, where it has one, and what came of their rendering.
+#[derive(Drop)]
+pub struct Made {
+    goal: Goal,
+    verdict: Verdict,
+    tokens: Vec<u16>,
+    rendered: Option<Rendered>,
+}
+
+impl Model for Made {
+    ghost use Rattle.std.specs.Prelude.{option_map};
+    ghost use Rattle.cs_manifest.specs.Manifest.{GoalEntry};
+    ghost use Rattle.cs_render.specs.Rendering.{rendering};
+
+    ghost Value = { GoalEntry };
+
+    ghost view = { λ m. record {
+      goal = m.goal;
+      verdict = m.verdict;
+      tokens = m.tokens.items;
+      rendered = option_map rendering m.rendered;
+    } };
+}
+
+impl Made {
+    /// Its entry in a manifest, with its number from 1.
+    pub fn entry(&self, number: u64) -> Entry<'_>
+        ensures lines { (file : File) → lines_of file result ≡ goal_entry_lines file number self.now }
+        ensures counts { (counts : Counts) → with_entry counts result ≡ with_verdict counts self.now.verdict }
+        ensures named { (file : File) → IsNamedGoalEntry file self.now → IsNamedEntry file result }
+    {
+        Entry::Goal {
+            number,
+            goal: &self.goal,
+            verdict: &self.verdict,
+            tokens: &self.tokens,
+            rendered: self.rendered.as_ref(),
+        }
+    }
+}
+
+/// A goal with the first of the lists and the first of what came of them, where it is feasible.
+pub fn join(
+    alloc: Global,
+    positive: Positive,
+    lists: &mut IntoIter<Vec<u16>, Global>,
+    rendered: &mut IntoIter<Rendered, Global>,
+) -> Made
+    requires { HasListIn positive.verdict (into_iter_items lists.old) }
+    ensures { IsJoined positive lists.old rendered.old result lists.new rendered.new }
+{
+    let Positive { goal, verdict } = positive;
+    match verdict {
+        Verdict::Feasible { size, derivation } => Made {
+            goal,
+            verdict: Verdict::Feasible { size, derivation },
+            tokens: take_first(lists).unwrap(),
+            rendered: take_first(rendered),
+        },
+        verdict => Made {
+            goal,
+            verdict,
+            tokens: Vec::new(alloc),
+            rendered: None,
+        },
+    }
+}
+
+fn take_first<T>(left: &mut IntoIter<T, Global>) -> Option<T>
+    ensures { TakesFirst (into_iter_items left.old) result (into_iter_items left.new) }
+{
+    left.next()
+}
