@@ -99,6 +99,9 @@ impl<'g> Costs<'g> {
         ensures ok { OnOk result (WritesAllChosen self.now symbols.now into.old into.new) }
         ensures err { OnErr result (into.new ≡ into.old) }
     {
+        if symbols.is_empty() {
+            return Ok(());
+        }
         let alloc = *self.trees.table.allocator();
         let mut pending = Vec::new(alloc);
         put_on_top(&mut pending, symbols)?;

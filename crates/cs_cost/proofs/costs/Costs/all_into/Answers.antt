@@ -1,9 +1,11 @@
-use Rattle.std.proofs.Common.{◌++◌, List, ℕ, [], reverse, refl, sym, ap, ◌∙◌, subst, append-nil}
+use Rattle.std.proofs.Common.{◌≡◌, ◌++◌, length, List, ℕ, [], reverse, refl, sym, ap, ◌∙◌, subst, append-nil}
 use Rattle.std.specs.Prelude.{All}
+use Rattle.std.proofs.lemmas.Bool.{eqb-true}
+use Rattle.std.proofs.lemmas.List.{nil_from_length}
 use Rattle.std.proofs.lemmas.Result.{on_ok_weaker}
 use Rattle.cs_grammar.specs.Grammar.{IsSymbol}
 use Rattle.cs_grammar.specs.Weights.{Weighed}
-use Rattle.cs_grammar.specs.Tree.{codes_of}
+use Rattle.cs_grammar.specs.Tree.{Bare, codes_of}
 use Rattle.cs_grammar.specs.declared.symbol.Symbol.{Symbol}
 use Rattle.cs_cost.specs.Chosen.{AreChosen}
 use Rattle.cs_cost.specs.Trees.{HaveSmall}
@@ -11,6 +13,15 @@ use Rattle.cs_cost.specs.Parts.{IsText, IsWithin}
 use Rattle.cs_cost.proofs.ChosenTrees.{chosen_forest}
 use Rattle.cs_cost.proofs.Written.{IsText-whole, forest_within}
 use Rattle.cs_cost.proofs.costs.Costs.all_into.Goals as goal
+
+pub returns-then-is_empty-clause-ok : goal.returns-then-is_empty-clause-ok
+returns-then-is_empty-clause-ok c =
+    let none : c.args.symbols.now ≡ [] = nil_from_length c.args.symbols.now (eqb-true (length c.args.symbols.now) 0 (sym c.is_empty.ensures ∙ c.if-is_empty.true)) in
+    record {
+      trees = Bare;
+      chosen = subst (λ (xs : List Symbol). AreChosen c.args.self.now.weights c.args.self.now.grammar xs Bare) (sym none) search;
+      text = sym (append-nil c.args.into.now);
+    }
 
 pub write-requires : goal.write-requires
 write-requires c =
