@@ -164,6 +164,7 @@ impl<'g> Kinds<'g> {
 
     /// What the least tree of a kind and a symbol costs: `Never` where there is none, `Large` where each is larger than the
     /// limit of the weights, else the least size. The kind and the symbol are of the grammar.
+    #[inline(always)]
     pub fn told(&self, kind: TreeKind, symbol: Symbol) -> Cost
         requires kind { IsKind self.now.grammar.tokens kind }
         requires symbol { IsSymbolOf self.now.grammar symbol }
@@ -176,6 +177,7 @@ impl<'g> Kinds<'g> {
     }
 
     // The row of a kind.
+    #[inline(always)]
     fn row(&self, kind: TreeKind) -> &[Cost]
         requires { IsKind self.now.grammar.tokens kind }
         ensures { AreCosts self.now.weights self.now.grammar kind result.now }

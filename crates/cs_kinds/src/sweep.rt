@@ -32,6 +32,7 @@ pub(crate) struct Ways {
 
 impl Sweep {
     /// Before any symbol is swept.
+    #[inline(always)]
     pub fn new(kind: TreeKind) -> Sweep
         ensures kind { result.kind ≡ kind }
         ensures swept { (w : Measure) (g : PlainGrammar) → IsSwept w g [] result }
@@ -44,6 +45,7 @@ impl Sweep {
     }
 
     // The two ways with one more symbol in front.
+    #[inline(always)]
     pub(crate) fn ways(&self, kinds: &Kinds, symbol: Symbol) -> Ways
         requires kind { IsKind kinds.now.grammar.tokens self.now.kind }
         requires symbol { IsSymbolOf kinds.now.grammar symbol }
@@ -56,6 +58,7 @@ impl Sweep {
     }
 
     /// One symbol more in front of those that are swept.
+    #[inline(always)]
     pub fn over(self, kinds: &Kinds, symbol: Symbol) -> Sweep
         requires kind { IsKind kinds.now.grammar.tokens self.kind }
         requires symbol { IsSymbolOf kinds.now.grammar symbol }
