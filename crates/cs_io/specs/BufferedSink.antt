@@ -1,5 +1,5 @@
 -- What a clause reads of a sink over a lent sink.
-use Rattle.std.specs.Prelude.{◌≡◌, ℕ, List, Option, ◌-◌, ◌≤◌, length}
+use Rattle.std.specs.Prelude.{◌≡◌, ℕ, List, Option, ◌+◌, ◌-◌, ◌≤◌, length, min, vec_capacity}
 use Rattle.std.specs.Borrow.{GName}
 use Rattle.std.specs.Io.KnownBytes.{append_known}
 use Rattle.cs_io.specs.Faults.{Rose}
@@ -22,9 +22,13 @@ waiting_bytes buffered = buffered.waiting.now.items
 abbrev pub buffered_written : {S : Type 0} → (S → Option (List ℕ)) → BufferedSink S → Option (List ℕ)
 buffered_written written buffered = append_known (written (lent_sink buffered)) (waiting_bytes buffered)
 
--- the lent sink's room, without what waits for it
+-- the byte that may wait though the lent sink has no room for it, where anything can wait
+abbrev pub spare : {S : Type 0} → BufferedSink S → ℕ
+spare buffered = min 1 (vec_capacity buffered.waiting.now)
+
+-- the lent sink's room and the spare byte, without what waits
 abbrev pub buffered_room : {S : Type 0} → (S → ℕ) → BufferedSink S → ℕ
-buffered_room room buffered = room (lent_sink buffered) - length (waiting_bytes buffered)
+buffered_room room buffered = room (lent_sink buffered) + spare buffered - length (waiting_bytes buffered)
 
 -- the lent sink's faults
 abbrev pub lent_faults : {S : Type 0} → (S → ℕ) → BufferedSink S → ℕ

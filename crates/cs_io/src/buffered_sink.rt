@@ -13,7 +13,7 @@ pub struct BufferedSink<'s, 'w, S: Sink> {
 }
 
 impl<'s, 'w, S: Sink> BufferedSink<'s, 'w, S> {
-    ghost use Rattle.cs_io.specs.BufferedSink.{HasRoomForWaiting, LentMetNone, LentRose, buffered_room, buffered_written, lent_faults, lent_name, lent_sink, lent_taken, waiting_bytes};
+    ghost use Rattle.cs_io.specs.BufferedSink.{HasRoomForWaiting, LentMetNone, LentRose, buffered_room, buffered_written, lent_faults, lent_name, lent_sink, lent_taken, spare, waiting_bytes};
 
     /// A sink over this one, for which nothing waits. Small pieces are gathered in the buffer, up to its capacity. It takes
     /// no memory.
@@ -21,6 +21,8 @@ impl<'s, 'w, S: Sink> BufferedSink<'s, 'w, S> {
         ensures lent { lent_name result ≡ sink.entry.ghost_name }
         ensures sink { lent_sink result ≡ sink.old }
         ensures waiting { waiting_bytes result ≡ [] }
+        ensures room { 0 < vec_capacity buffer.old
+            → buffered_room S.room result ≡ S.room sink.old + 1 }
     {
         buffer.clear();
         BufferedSink {
@@ -45,7 +47,7 @@ impl<'s, 'w, S: Sink> BufferedSink<'s, 'w, S> {
         ensures no_fault { HasRoomForWaiting S.room self.old
             → LentMetNone S.faults self.old self.new }
         ensures room_left { OnOk result
-            (buffered_room S.room self.old ≤ S.room (lent_sink self.new)) }
+            (buffered_room S.room self.old ≤ buffered_room S.room self.new) }
     {
         let (count, result) = pass_on(&mut *self.sink, self.waiting.as_slice());
         remove_front(&mut *self.waiting, count);
@@ -60,6 +62,7 @@ impl<'s, 'w, S: Sink> BufferedSink<'s, 'w, S> {
         ensures lent { lent_name self.new ≡ lent_name self.old }
         ensures sink { lent_sink self.new ≡ lent_sink self.old }
         ensures waiting { waiting_bytes self.new ≡ waiting_bytes self.old ++ piece.now }
+        ensures room { spare self.old ≤ spare self.new }
     {
         self.waiting.extend_from_slice(piece).unwrap();
         piece.len()
@@ -84,10 +87,11 @@ impl<'s, 'w, S: Sink> Sink for BufferedSink<'s, 'w, S> {
             return Ok(self.keep(piece));
         }
         self.flush()?;
-        if piece.len() < self.waiting.capacity() {
-            return Ok(self.keep(piece));
+        let capacity = self.waiting.capacity();
+        if capacity == 0 {
+            return self.sink.write(piece);
         }
-        self.sink.write(piece)
+        Ok(self.keep(&piece[..piece.len().min(capacity)]))
     }
 }
 
