@@ -1,0 +1,9 @@
+pub mod Few
+pub mod Ones
+pub mod Stops
+pub mod Counted
+pub mod Batch
+pub mod SoFar
+pub mod Texts
+pub mod Out
+pub mod Choices

@@ -1,0 +1,68 @@
+use Rattle.std.proofs.Common.{◌+◌, List, ℕ, length, inl, inr, subst, sym, ap, ◌∙◌, arith}
+use Rattle.std.proofs.lemmas.Bool.{cases_lt}
+use Rattle.std.proofs.lemmas.Result.{err_from_is_err_and}
+use Rattle.cs_manifest.specs.Entry.{lines_of}
+use Rattle.cs_manifest.specs.Counts.{with_lines, with_verdict}
+use Rattle.cs_manifest.specs.Progress.{Progress}
+use Rattle.cs_manifest.specs.Sinks.{IsCutShort, IsWritten}
+use Rattle.cs_manifest.specs.declared.counts.Counts.{Counts}
+use Rattle.cs_plan.specs.Made.{IsNamedGoalEntry}
+use Rattle.cs_yacc.specs.File.{File}
+use Rattle.cs_writing.proofs.Batch.{at_place, counted_more, cut_within, lines_are, written_more}
+use Rattle.cs_writing.proofs.writing.write_batch.Goals as goal
+
+pub entry-requires-in-loop-made : goal.entry-requires-in-loop-made
+entry-requires-in-loop-made g c =
+    let file = c.loop-made.invariant.file in
+    let named = at_place (IsNamedGoalEntry c.args.manifest.now.file) c.args.batch.now c.loop-made.made-index c.made-item.result c.loop-made-test.true c.made-item.is c.requires.named in
+    c.entry.ensures.named c.loop-made.manifest.file (subst (λ (f : File). IsNamedGoalEntry f c.made-item.result) (sym file) named)
+
+pub returns-in_err-entry-clause-stopped : goal.returns-in_err-entry-clause-stopped
+returns-in_err-entry-clause-stopped g c =
+    let e = c.in_err-entry.ensures in
+    let file = c.args.manifest.now.file in
+    let first = c.args.number.now + 1 in
+    let i = c.loop-made.made-index in
+    let lines = lines_of c.loop-made.manifest.file c.entry.result in
+    let is = lines_are file c.loop-made.manifest.file first i (c.loop-made.number + 1) c.made-item.result lines c.loop-made.invariant.file
+    (omega (arith, c.loop-made.invariant.number)) (c.entry.ensures.lines c.loop-made.manifest.file) in
+    let cut : IsCutShort g.S.Sink lines c.loop-made.sink c.entry-in-loop-made.new.sink = record {
+      written = e.err;
+      fault = e.fault;
+      faults = e.faults_never_fall;
+      room = elim (cases_lt (g.S.Sink.room c.loop-made.sink) (length lines)) [ inl less ↦ less | inr fits ↦ absurd (let no = e.ok_with_room fits in cc) ];
+      lent = e.same_lent;
+      passed = e.passed_never_falls;
+    } in
+    let whole = cut_within file first c.args.batch.now i c.made-item.result c.loop-made-test.true c.made-item.is c.args.sink.now c.loop-made.sink c.entry-in-loop-made.new.sink
+    c.loop-made.invariant.written (subst (λ (l : List ℕ). IsCutShort g.S.Sink l c.loop-made.sink c.entry-in-loop-made.new.sink) is cut) in
+    let p = err_from_is_err_and c.from_residual.result c.from_residual.ensures.1 in
+    rw p.1 whole
+
+pub loop-made-preserved : goal.loop-made-preserved
+loop-made-preserved g c =
+    let e = c.in_ok-entry.ensures in
+    let file = c.args.manifest.now.file in
+    let first = c.args.number.now + 1 in
+    let i = c.loop-made.made-index in
+    let counts = c.loop-made.manifest.counts in
+    let lines = lines_of c.loop-made.manifest.file c.entry.result in
+    let is = lines_are file c.loop-made.manifest.file first i (c.loop-made.number + 1) c.made-item.result lines c.loop-made.invariant.file
+    (omega (arith, c.loop-made.invariant.number)) (c.entry.ensures.lines c.loop-made.manifest.file) in
+    let written : IsWritten g.S.Sink lines c.loop-made.sink c.entry-in-loop-made.new.sink = record {
+      written = e.ok;
+      faults = e.faults_never_fall;
+      no_fault = e.no_fault;
+      room = e.room;
+      lent = e.same_lent;
+      passed = e.passed_never_falls;
+    } in
+    record {
+      file = ap (λ (p : Progress). p.file) e.value ∙ c.loop-made.invariant.file;
+      number = omega (arith, c.loop-made.invariant.number);
+      counted = ap (λ (p : Progress). p.counts) e.value ∙ ap (λ (k : Counts). with_lines k lines) (c.entry.ensures.counts counts)
+          ∙ ap (λ (l : List ℕ). with_lines (with_verdict counts c.made-item.result.verdict) l) is
+          ∙ counted_more file first c.args.batch.now i c.made-item.result c.loop-made-test.true c.made-item.is c.args.manifest.now.counts counts c.loop-made.invariant.counted;
+      written = written_more file first c.args.batch.now i c.made-item.result c.loop-made-test.true c.made-item.is c.args.sink.now c.loop-made.sink c.entry-in-loop-made.new.sink
+          c.loop-made.invariant.written (subst (λ (l : List ℕ). IsWritten g.S.Sink l c.loop-made.sink c.entry-in-loop-made.new.sink) is written);
+    }

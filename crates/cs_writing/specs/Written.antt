@@ -1,0 +1,62 @@
+-- What was written of a manifest. Working words of proofs.
+use Rattle.std.specs.Prelude.{◌≡◌, ◌≤◌, ℕ, ◌+◌, List, [], ◌∷◌}
+use Rattle.cs_grammar.specs.Weights.{Weighed}
+use Rattle.cs_goals.specs.Goals.{goals}
+use Rattle.cs_io.specs.Faults.{Rose}
+use Rattle.cs_io.specs.declared.sink.Sink as Sink
+use Rattle.cs_manifest.specs.declared.counts.Counts.{Counts}
+use Rattle.cs_manifest.specs.Counts.{with_lines, with_verdict}
+use Rattle.cs_manifest.specs.Manifest.{EntriesOf, GoalEntry, goal_entry_lines}
+use Rattle.cs_manifest.specs.Sinks.{IsCalm, IsWritten, TookPart}
+use Rattle.cs_manifest.specs.Words.{numbered_from}
+use Rattle.cs_yacc.specs.File.{File}
+use Rattle.cs_plan.specs.declared.plan.Plan.{Plan}
+use Rattle.cs_plan.specs.Plans.{lexemes_in, texts_in}
+use Rattle.cs_writing.specs.declared.halt.Halt.{Halt}
+use Rattle.cs_writing.specs.declared.halt.Halt.TheVariants.{Failed}
+
+-- the entries of all goals of a plan
+abbrev pub AreEntriesIn : Plan → Weighed → List GoalEntry → Type 0
+AreEntriesIn plan of entries = EntriesOf of (texts_in plan) (lexemes_in plan) (goals of.grammar plan.criteria) entries
+
+-- the lines of entries, of which the first has this number
+abbrev pub lines_from : File → ℕ → List GoalEntry → List ℕ
+lines_from file number entries = numbered_from number (goal_entry_lines file) entries
+
+-- the counts behind entries, of which the first has this number
+abbrev pub counts_behind : File → ℕ → List GoalEntry → Counts → Counts
+counts_behind file number [] counts = counts
+counts_behind file number (entry ∷ rest) counts =
+    counts_behind file (number + 1) rest (with_lines (with_verdict counts entry.verdict) (goal_entry_lines file number entry))
+
+module _ {S : Type 0} (g : Sink.Ghosts S) where
+  -- The writing of these lines stopped so: a prefix was written.
+  pub record IsStopped (lines : List ℕ) (old new : S) (halt : Halt) : Type 0 where
+    pub written : TookPart g.written old new lines
+    pub failed : halt ≡ Failed → Rose (g.faults old) (g.faults new)
+    pub faults : g.faults old ≤ g.faults new
+    pub no_fault : IsCalm g.room g.faults old new lines
+    pub lent : g.lent new ≡ g.lent old
+    pub passed : g.passed old ≤ g.passed new
+
+  -- the lines of all entries were written, and counted
+  pub record HasEntries (plan : Plan) (of : Weighed) (old new : S) (before after : Counts) : Type 0 where
+    pub entries : List GoalEntry
+    pub all : AreEntriesIn plan of entries
+    pub counted : after ≡ counts_behind plan.yacc.now 1 entries before
+    pub written : IsWritten g (lines_from plan.yacc.now 1 entries) old new
+
+  -- whichever the entries are, the writing of their lines stopped so
+  abbrev pub HasSomeEntries : Plan → Weighed → S → S → Halt → Type 0
+  HasSomeEntries plan of old new halt =
+      (entries : List GoalEntry) → AreEntriesIn plan of entries → IsStopped (lines_from plan.yacc.now 1 entries) old new halt
+
+  -- such a text was written
+  pub record HasText (Is : List ℕ → Type 0) (old new : S) : Type 0 where
+    pub text : List ℕ
+    pub is : Is text
+    pub written : IsWritten g text old new
+
+  -- whichever the text is, its writing stopped so
+  abbrev pub HasSomeText : (List ℕ → Type 0) → S → S → Halt → Type 0
+  HasSomeText Is old new halt = (text : List ℕ) → Is text → IsStopped text old new halt

@@ -1,0 +1,133 @@
+// The manifest of a plan, entry by entry.
+
+ghost use Rattle.std.specs.Prelude.{◌≡◌, ◌+◌, ◌≤◌, All, IfErr, IfOk, OnErr, OnOk, length};
+ghost use Rattle.cs_goals.specs.Goals.{goals};
+ghost use Rattle.cs_io.specs.Faults.{Rose, greatest};
+ghost use Rattle.cs_manifest.specs.Sinks.{IsCutShort, IsWritten};
+ghost use Rattle.cs_writing.specs.declared.halt.Halt.TheVariants.{Failed};
+ghost use Rattle.cs_plan.specs.Plans.{IsOfPlan, IsPlan, IsPlanned};
+ghost use Rattle.cs_plan.specs.Made.{IsNamedGoalEntry};
+ghost use Rattle.cs_writing.specs.Writing.{CountsOfAll, GrewByOne, GrewByPart, HasRoomForAll, Stopped};
+ghost use Rattle.cs_writing.specs.Written.{HasEntries, HasSomeEntries, HasSomeText, HasText, counts_behind, lines_from};
+
+use crate::halt::Halt;
+use crate::laws::one_text;
+use cs_fan::Gate;
+use cs_io::{BufferedSink, Sink, SinkError};
+use cs_manifest::{Counts, Manifest};
+use cs_plan::{Made, Plan, next_entries};
+use cs_positive::Positives;
+use std::alloc::Global;
+use std::thread::Threads;
+
+// So many bytes go to the output in one piece.
+const PIECE: usize = 65_536;
+
+/// Writes the manifest of a plan to the output, each batch of entries as it is made, and answers the
+/// counts of its end line and the length of all lines. The positives are those of all goals of the
+/// plan.
+pub fn write_out<R: Threads + Sync, O: Sink, G: Gate + Sync>(
+    rt: &R,
+    alloc: Global,
+    plan: &Plan<'_>,
+    positives: Positives<'_>,
+    out: &mut O,
+    gate: &G,
+) -> Result<Counts, Halt>
+    requires plan { IsPlan plan.now }
+    requires grammar { IsOfPlan plan.now positives }
+    requires all { positives.goals ≡ goals positives.tables.grammar plan.now.criteria }
+    ensures ok { OnOk result (GrewByOne (IsPlanned positives.entry.tables.weights plan.now)
+        (O.written out.old) (O.written out.new)) }
+    ensures counts { IfOk result (CountsOfAll (IsPlanned positives.entry.tables.weights plan.now)) }
+    ensures part { OnErr result (GrewByPart (IsPlanned positives.entry.tables.weights plan.now)
+        (O.written out.old) (O.written out.new)) }
+    ensures failed { Stopped Failed result → Rose (O.faults out.old) (O.faults out.new) }
+    ensures room { HasRoomForAll (IsPlanned positives.entry.tables.weights plan.now)
+        (O.room out.old) → O.faults out.new ≡ O.faults out.old }
+{
+    one_text();
+    let mut buffer = Vec::with_capacity(alloc, PIECE)?;
+    let mut sink = BufferedSink::new(out, &mut buffer);
+    let counts = write_manifest(rt, alloc, plan, positives, &mut sink, gate)?;
+    sink.flush()?;
+    Ok(counts)
+}
+
+fn write_manifest<R: Threads + Sync, S: Sink, G: Gate + Sync>(
+    rt: &R,
+    alloc: Global,
+    plan: &Plan<'_>,
+    mut positives: Positives<'_>,
+    sink: &mut S,
+    gate: &G,
+) -> Result<Counts, Halt>
+    requires plan { IsPlan plan.now }
+    requires grammar { IsOfPlan plan.now positives }
+    requires all { positives.goals ≡ goals positives.tables.grammar plan.now.criteria }
+    ensures ok { OnOk result
+        (HasText S.Sink (IsPlanned positives.entry.tables.weights plan.now) sink.old sink.new) }
+    ensures counts { IfOk result (CountsOfAll (IsPlanned positives.entry.tables.weights plan.now)) }
+    ensures stopped { IfErr result
+        (HasSomeText S.Sink (IsPlanned positives.entry.tables.weights plan.now) sink.old sink.new) }
+{
+    one_text();
+    let mut manifest = Manifest::begin(sink, &plan.head())?;
+    write_entries(rt, alloc, plan, &mut positives, &mut manifest, sink, gate)?;
+    Ok(manifest.finish(sink)?)
+}
+
+// Writes the entries of all goals, numbered from 1.
+fn write_entries<R: Threads + Sync, S: Sink, G: Gate + Sync>(
+    rt: &R,
+    alloc: Global,
+    plan: &Plan<'_>,
+    positives: &mut Positives<'_>,
+    manifest: &mut Manifest<'_>,
+    sink: &mut S,
+    gate: &G,
+) -> Result<(), Halt>
+    requires plan { IsPlan plan.now }
+    requires grammar { IsOfPlan plan.now positives.old }
+    requires all { positives.old.goals ≡ goals positives.old.tables.grammar plan.now.criteria }
+    requires file { manifest.old.file ≡ plan.now.yacc.now }
+    ensures ok { OnOk result (HasEntries S.Sink plan.now positives.old.tables
+        sink.old sink.new manifest.old.counts manifest.new.counts) }
+    ensures stopped { IfErr result
+        (HasSomeEntries S.Sink plan.now positives.old.tables sink.old sink.new) }
+{
+    one_text();
+    let mut number = 0u64;
+    'batches: loop {
+        let batch = next_entries(rt, alloc, plan, positives, gate)?;
+        if batch.is_empty() {
+            return Ok(());
+        }
+        write_batch(manifest, sink, &mut number, &batch)?;
+    }
+}
+
+// Writes these entries. `number` is the number of the last entry, before and then.
+fn write_batch<S: Sink>(
+    manifest: &mut Manifest<'_>,
+    sink: &mut S,
+    number: &mut u64,
+    batch: &[Made],
+) -> Result<(), SinkError>
+    requires named { All (IsNamedGoalEntry manifest.old.file) batch.now }
+    requires few { number.old + length batch.now ≤ greatest }
+    ensures file { manifest.new.file ≡ manifest.old.file }
+    ensures number { OnOk result (number.new ≡ number.old + length batch.now) }
+    ensures counted { OnOk result (manifest.new.counts
+        ≡ counts_behind manifest.old.file (number.old + 1) batch.now manifest.old.counts) }
+    ensures ok { OnOk result (IsWritten S.Sink
+        (lines_from manifest.old.file (number.old + 1) batch.now) sink.old sink.new) }
+    ensures stopped { OnErr result (IsCutShort S.Sink
+        (lines_from manifest.old.file (number.old + 1) batch.now) sink.old sink.new) }
+{
+    for made in batch {
+        *number += 1;
+        manifest.entry(sink, &made.entry(*number))?;
+    }
+    Ok(())
+}
