@@ -18,6 +18,7 @@ use Rattle.cs_positive.specs.Positives.{ToJudge}
 use Rattle.cs_positive.specs.Verdict.{IsVerdictIn}
 use Rattle.cs_render.specs.declared.rendered.Rendered.{Rendered}
 use Rattle.cs_render.specs.Rendering.{rendering}
+use Rattle.cs_plan.specs.declared.waiting.Waiting.{Waiting}
 use Rattle.cs_render_work.specs.declared.work.RenderWork.{RenderWork}
 use Rattle.cs_render_work.specs.Renders.{IsRenderedBy, TakesTokens}
 
@@ -56,6 +57,9 @@ pub record AreGathered (old : ToJudge) (positives : List Positive) (lists : List
   pub split : old.goals ≡ goals_of positives ++ new.goals
   pub judged : All (IsJudged old.tables) positives
   pub are_lists : AreListsOf old.tables.grammar positives lists
+
+abbrev pub Gathers : ToJudge → Waiting → ToJudge → Type 0
+Gathers old waiting new = AreGathered old waiting.goals.items waiting.lists.items new
 
 -- where lists are rendered, these can be
 abbrev pub TakesLists : Option (Bor RenderWork) → List (Vec ℕ) → Type 0

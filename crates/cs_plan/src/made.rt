@@ -45,7 +45,7 @@ impl Made {
     /// Its entry in a manifest, with its number from 1.
     pub fn entry(&self, number: u64) -> Entry<'_>
         ensures lines { (file : File) → lines_of file result ≡ goal_entry_lines file number self.now }
-        ensures counts { (counts : Counts) → with_entry counts result ≡ with_verdict counts self.now.verdict }
+        ensures counts { (c : Counts) → with_entry c result ≡ with_verdict c self.now.verdict }
         ensures named { (file : File) → IsNamedGoalEntry file self.now → IsNamedEntry file result }
     {
         Entry::Goal {

@@ -1,7 +1,7 @@
 // Goals that wait for the texts of their tokens.
 
 ghost use Rattle.std.specs.Prelude.{◌≡◌, ◌≤◌, [], length, IfOk, OnOk};
-ghost use Rattle.cs_plan.specs.Waiting.{AddsList, AreGathered, HasDerivation};
+ghost use Rattle.cs_plan.specs.Waiting.{AddsList, Gathers, HasDerivation};
 
 use cs_grammar::{Grammar, yield_of};
 use cs_positive::{Positive, Positives, Verdict};
@@ -24,7 +24,7 @@ pub fn gather(
     positives: &mut Positives<'_>,
 ) -> Result<Waiting, AllocError>
     requires { positives.old.tables.grammar ≡ grammar.now }
-    ensures gathered { IfOk result (λ w. AreGathered positives.old w.goals.items w.lists.items positives.new) }
+    ensures gathered { IfOk result (λ w. Gathers positives.old w positives.new) }
     ensures some { IfOk result (λ w. w.goals.items ≡ [] → positives.old.goals ≡ []) }
     ensures few { IfOk result (λ w. length w.lists.items ≤ 1024) }
     ensures tables { positives.new.tables ≡ positives.old.tables }
