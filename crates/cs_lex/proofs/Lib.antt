@@ -7,8 +7,6 @@ pub mod KindsFound
 pub mod PatternsFound
 pub mod DefinitionsFound
 pub mod Whole
-pub mod Doubts
-pub mod DefinitionTrees
-pub mod DefinitionsSettled
 pub mod KindsSettled
+pub mod KindWalks
 pub mod AcceptedOrRefused

@@ -1,8 +1,5 @@
--- Bytes mean at most one file, or are refused with at most one error, and neither both nor none of these.
-use Rattle.std.specs.Prelude.{◌≡◌, ℕ, List}
-use Rattle.cs_pattern.specs.declared.fault.PatternFault.{PatternFault}
-use Rattle.cs_pattern.specs.Checking.{AreAccepted, IsRefused}
-use Rattle.cs_pattern_postfix.specs.Definitions as definitions
+-- Bytes mean one file or are refused with one error, and not both.
+use Rattle.std.specs.Prelude.{◌≡◌, ◌⊎◌, ℕ, List}
 use Rattle.cs_yacc.specs.File as tokens
 use Rattle.cs_lex.specs.declared.error.LexError.{LexError}
 use Rattle.cs_lex.specs.File.{File}
@@ -17,10 +14,6 @@ AreRefusedOnce bytes = (e f : LexError) → Refuses bytes e → Refuses bytes f 
 abbrev pub AreNotAcceptedWhereRefused : List ℕ → tokens.File → Type 0
 AreNotAcceptedWhereRefused bytes yacc = (f : File) (e : LexError) → Refuses bytes e → IsLexFile bytes yacc f → ⊥
 
--- It isn't so that definitions are neither accepted nor refused.
-abbrev pub AreNotWithoutVerdict : List definitions.Definition → Type 0
-AreNotWithoutVerdict ds = (AreAccepted ds → ⊥) → ((index : ℕ) (fault : PatternFault) → IsRefused ds index fault → ⊥) → ⊥
-
--- It isn't so that bytes mean no file beside the yacc file and are refused with no error.
-abbrev pub AreNotWithoutAnswer : List ℕ → tokens.File → Type 0
-AreNotWithoutAnswer bytes yacc = ((f : File) → IsLexFile bytes yacc f → ⊥) → ((e : LexError) → Refuses bytes e → ⊥) → ⊥
+-- The bytes mean a file beside the yacc file, or are refused with an error.
+abbrev pub IsAcceptedOrRefused : List ℕ → tokens.File → Type 0
+IsAcceptedOrRefused bytes yacc = ((f : File) × IsLexFile bytes yacc f) ⊎ ((e : LexError) × Refuses bytes e)

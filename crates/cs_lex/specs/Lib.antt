@@ -6,4 +6,5 @@ pub mod Kinds
 pub mod Patterns
 pub mod Reading
 pub mod Laws
+pub mod Settled
 pub mod Found

@@ -1,12 +1,12 @@
 // Laws of reading.
 
 ghost use Rattle.std.specs.Prelude.{◌≡◌, ◌≤◌, ℕ, List, length};
-ghost use Rattle.cs_pattern_postfix.specs.Definitions.{Definition};
 ghost use Rattle.cs_yacc.specs.File.{File};
 ghost use Rattle.cs_lex.specs.Laws as spec;
 
+use crate::settled::walk_kinds;
 use crate::{MOST_BYTES, MOST_POSITIONS, MOST_RULES};
-use cs_lex_layout::layout_or_stop;
+use cs_lex_layout::definitions_end;
 
 /// Accepted bytes mean one file.
 pub fn one_file()
@@ -23,18 +23,14 @@ pub fn refused_is_not_accepted()
     ensures { (bytes : List ℕ) (yacc : File) → spec.AreNotAcceptedWhereRefused bytes yacc }
 {}
 
-/// Definitions aren't neither accepted nor refused.
-pub fn definitions_accepted_or_refused()
-    ensures { (ds : List Definition) → spec.AreNotWithoutVerdict ds }
-{}
-
-/// Bytes aren't neither accepted beside a yacc file nor refused. That layout ends or stops is found by a walk without memory; to
-/// decide the rest would take memory, so the law denies that there is no answer.
+/// Bytes are accepted beside a yacc file, or refused. Which of the two is decided by walks over the bytes without memory.
 pub fn accepted_or_refused(bytes: &[u8])
     requires { length bytes.now ≤ 1048576 }
-    ensures { (yacc : File) → spec.AreNotWithoutAnswer bytes.now yacc }
+    ensures { (yacc : File) → spec.IsAcceptedOrRefused bytes.now yacc }
 {
-    layout_or_stop(bytes);
+    if let Some(from) = definitions_end(bytes) {
+        walk_kinds(bytes, from);
+    }
 }
 
 /// The limits of the definitions are the code's.

@@ -24,9 +24,9 @@ mod unit;
 
 pub use error::LayoutError;
 pub use laws::{limits, new_names, one_layout, one_stop, stopped_has_no_layout};
-pub use layout::{Layout, read_layout};
+pub use layout::{Layout, RulesLine, read_layout, rules_line};
 pub use parts::{Definition, Part, Rule};
-pub use settled::layout_or_stop;
+pub use settled::{definitions_end, layout_or_stop};
 
 /// The most bytes of a lex file.
 pub const MOST_BYTES: usize = 1_048_576;

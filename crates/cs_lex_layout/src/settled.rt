@@ -6,7 +6,7 @@ ghost use Rattle.cs_lex_layout.specs.Settled as spec;
 use crate::layout::{DefinitionsLine, RulesLine, definitions_line, rules_line};
 
 /// The offset behind the definitions section, where it ends; a name that is defined twice may be passed.
-fn definitions_end(bytes: &[u8]) -> Option<usize>
+pub fn definitions_end(bytes: &[u8]) -> Option<usize>
     requires { length bytes.now ≤ 1048576 }
     ensures end { IfSome result (λ from. spec.EndsOrStops bytes.now from) }
     ensures within { IfSome result (λ from. from ≤ length bytes.now) }

@@ -24,3 +24,7 @@ pub mod Verdicts
 pub mod OneRefusal
 pub mod ClassBytes
 pub mod Within
+pub mod Indexes
+pub mod Deciding
+pub mod DefinitionTrees
+pub mod DefinitionsSettled

@@ -9,7 +9,7 @@ use Rattle.cs_pattern_postfix.specs.Definitions.{Definition}
 use Rattle.cs_pattern_postfix.specs.Grammar.{Tree, IsDerivation}
 use Rattle.cs_pattern.specs.declared.fault.PatternFault.{PatternFault}
 use Rattle.cs_pattern.specs.Answers.{IsPatternOf, IsFault}
-use Rattle.cs_pattern.specs.Checking.{IsRefused}
+use Rattle.cs_pattern.specs.Checking.{AreAccepted, IsRefused}
 use Rattle.cs_pattern.specs.Classes.{HaveByteTexts}
 use Rattle.cs_pattern.specs.Substitution.{IsTreeOf}
 use Rattle.cs_pattern.specs.Table.{Reads, StopsAt, IsFirstStop}
@@ -31,6 +31,10 @@ IsStop bytes stop = StopsAt bytes stop.0 stop.1
 -- the definition of the index is refused with the fault
 abbrev pub IsRefusal : List Definition → ℕ × PatternFault → Type 0
 IsRefusal ds refusal = IsRefused ds refusal.0 refusal.1
+
+-- the definitions are accepted, or refused at some index with some fault
+abbrev pub HaveVerdict : List Definition → Type 0
+HaveVerdict ds = AreAccepted ds ⊎ HasOne (IsRefusal ds)
 
 -- no text has a pattern and a fault
 abbrev pub HasNotBoth : List Definition → List ℕ → Type 0

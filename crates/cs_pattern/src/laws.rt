@@ -5,7 +5,7 @@ ghost use Rattle.cs_pattern_items.specs.Items.{Placed};
 ghost use Rattle.cs_pattern_postfix.specs.Definitions.{Definition};
 ghost use Rattle.cs_pattern.specs.Answers.{IsPatternOf, IsFault};
 ghost use Rattle.cs_pattern.specs.Checking.{AreAccepted};
-ghost use Rattle.cs_pattern.specs.Laws.{HaveBytes, Exclude, HasAtMostOne, HasDerivation, HasNoTree, HasNotBoth, HasOne, HasPatternOrFault, IsScannableText, IsReadOrStops, IsRefusal, IsStop};
+ghost use Rattle.cs_pattern.specs.Laws.{HaveBytes, HaveVerdict, Exclude, HasAtMostOne, HasDerivation, HasNoTree, HasNotBoth, HasOne, HasPatternOrFault, IsScannableText, IsReadOrStops, IsRefusal, IsStop};
 ghost use Rattle.cs_pattern.specs.Substitution.{IsTreeOf, SpellsTree};
 ghost use Rattle.cs_pattern.specs.Table.{Reads};
 ghost use Rattle.cs_pattern.specs.Uses.{Reaches};
@@ -56,6 +56,11 @@ pub fn no_tree_in_a_cycle()
 pub fn one_refusal()
     ensures refusal { (ds : List Definition) → HasAtMostOne (IsRefusal ds) }
     ensures either { (ds : List Definition) → AreAccepted ds → HasOne (IsRefusal ds) → ⊥ }
+{}
+
+/// Definitions are accepted or refused.
+pub fn definitions_accepted_or_refused()
+    ensures { (ds : List Definition) → HaveVerdict ds }
 {}
 
 /// An automaton can be made of the pattern of a text, where the text and the texts of the definitions are bytes.

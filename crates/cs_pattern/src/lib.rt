@@ -27,8 +27,8 @@ pub use cs_pattern_tree::{ByteSet, Kind, Pattern};
 pub use definitions::{Checked, Definitions};
 pub use fault::{CheckError, DefinitionError, PatternError, PatternFault};
 pub use laws::{
-    has_answer, has_derivation, no_tree_in_a_cycle, one_answer, one_pattern, one_reading,
-    one_refusal, reads_or_stops, scannable_pattern,
+    definitions_accepted_or_refused, has_answer, has_derivation, no_tree_in_a_cycle, one_answer,
+    one_pattern, one_reading, one_refusal, reads_or_stops, scannable_pattern,
 };
 pub use limits::may_have_bytes;
 pub use read::read_pattern;

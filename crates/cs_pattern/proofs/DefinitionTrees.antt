@@ -1,7 +1,7 @@
 -- Where all names are defined and no definition reaches itself, each definition has a tree.
-use Rattle.std.proofs.Common.{◌≡◌, ◌⊎◌, ℕ, zero, suc, ◌<◌, ◌≤◌, true, List, [], ◌∷◌, length, refl, sym, ◌∙◌, subst, inl, inr, arith}
+use Rattle.std.proofs.Common.{◌≡◌, ℕ, zero, suc, ◌<◌, ◌≤◌, true, List, [], ◌∷◌, length, refl, sym, subst, inl, inr, arith}
 use Rattle.std.specs.Prelude.{Option, Some, None, slice_get, is_some, if◌then◌else◌}
-use Rattle.std.proofs.lemmas.Bool.{false≢true, cases_Bool, cases_lt}
+use Rattle.std.proofs.lemmas.Bool.{false≢true, cases_Bool}
 use Rattle.cs_pattern_items.specs.Items.{Item, class, quoted, named, opening, closing, bar, repetition, Placed, items_of}
 use Rattle.cs_pattern.specs.Checking.{HasAllNames, HasNoCycle, Each}
 use Rattle.cs_pattern.specs.Names.{is_undefined, first_undefined}
@@ -11,54 +11,10 @@ use Rattle.cs_pattern.specs.Uses.{Uses, UsesDefinition, Reaches, directly, throu
 use Rattle.cs_pattern_postfix.specs.Definitions.{Definition, index_of, has_name}
 use Rattle.cs_pattern_postfix.specs.Grammar.{Tree}
 use Rattle.cs_pattern.proofs.HasDerivation.{has_derivation}
+use Rattle.cs_pattern.proofs.Indexes.{Among, without, below, among_below, none_left}
 use Rattle.cs_pattern.proofs.Linked.{uses_within, definition_at}
 use Rattle.cs_pattern.proofs.PuttingIn as putting
 use Rattle.cs_pattern.proofs.PuttingIn.{HaveTrees, put_tree}
-
--- ---- lists of indexes
-
-abbrev Among : List ℕ → ℕ → Type 0
-Among [] j = ⊥
-Among (x ∷ xs) j = (x ≡ j) ⊎ Among xs j
-
--- the list without one of its members
-record Without (xs : List ℕ) (k : ℕ) : Type 0 where
-  rest : List ℕ
-  shorter : length rest < length xs
-  others : (j : ℕ) → Among xs j → (k ≡ j → ⊥) → Among rest j
-
-without_first : (x k : ℕ) (xs : List ℕ) → x ≡ k → Without (x ∷ xs) k
-without_first x k xs e = record { rest = xs; shorter = omega arith; others = other }
-  where
-    other : (j : ℕ) → Among (x ∷ xs) j → (k ≡ j → ⊥) → Among xs j
-    other j (inl f) differs = absurd (differs (sym e ∙ f))
-    other j (inr h) differs = h
-
-without_later : (x k : ℕ) (xs : List ℕ) → Without xs k → Without (x ∷ xs) k
-without_later x k xs w = record { rest = x ∷ w.rest; shorter = (let s = w.shorter in omega arith); others = other }
-  where
-    other : (j : ℕ) → Among (x ∷ xs) j → (k ≡ j → ⊥) → Among (x ∷ w.rest) j
-    other j (inl f) differs = inl f
-    other j (inr g) differs = inr (w.others j g differs)
-
-without : (xs : List ℕ) (k : ℕ) → Among xs k → Without xs k
-without [] k h = absurd h
-without (x ∷ xs) k (inl e) = without_first x k xs e
-without (x ∷ xs) k (inr h) = without_later x k xs (without xs k h)
-
-abbrev below : ℕ → List ℕ
-below zero = []
-below (suc n) = n ∷ below n
-
-among_below : (n j : ℕ) → j < n → Among (below n) j
-among_below zero j lt = absurd (omega arith)
-among_below (suc n) j lt = elim (cases_lt j n) [ inl less ↦ inr (among_below n j less) | inr ge ↦ inl (omega arith) ]
-
-none_left : (xs : List ℕ) (j : ℕ) → length xs ≤ 0 → Among xs j → ⊥
-none_left [] j le h = h
-none_left (x ∷ xs) j le h = absurd (omega arith)
-
--- ---- trees
 
 found : (o : Option ℕ) → is_some o ≡ true → (j : ℕ) × (o ≡ Some j)
 found None e = absurd (false≢true e)

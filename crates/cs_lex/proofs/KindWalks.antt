@@ -1,0 +1,40 @@
+-- A walk over the rules section, by which each action has a kind.
+use Rattle.std.proofs.Common.{◌≡◌, ℕ, ◌-◌, ◌<◌, ◌≤◌, List, [], ◌∷◌, ◌++◌, length, drop, refl, inl, inr}
+use Rattle.std.specs.List.{AllByRecursion}
+use Rattle.cs_lex_layout.specs.declared.line.LineKind.TheVariants as kinds
+use Rattle.cs_lex_layout.specs.declared.parts.Rule.{Rule}
+use Rattle.cs_lex_layout.specs.declared.error.LayoutError.{LayoutError}
+use Rattle.cs_lex_layout.specs.Steps.{Walk, here}
+use Rattle.cs_lex_layout.specs.Lines.{rules_kind}
+use Rattle.cs_lex_layout.specs.Layout.{HasRuleAt, IsPassedRule, RulesLine, no_rules, RulesFault}
+use Rattle.cs_lex_layout.proofs.Reading.{rule_passed, rule_more, has_rules, has_rules_at_end}
+use Rattle.cs_pattern.proofs.Linked.{all_push}
+use Rattle.cs_lex.specs.Settled.{HasActionKind, KindsEndOrStop}
+
+-- lines of the rules section lead to the offset, and their actions have kinds
+pub record WalkedKinds (bytes : List ℕ) (from at : ℕ) : Type 0 where
+  pub rules : List Rule
+  pub lines : Walk (RulesLine bytes) (no_rules from) (record { at = at; rules = rules })
+  pub kinds : AllByRecursion (HasActionKind bytes) rules
+
+pub kinds_start : (bytes : List ℕ) (from : ℕ) → WalkedKinds bytes from from
+kinds_start bytes from = record { rules = []; lines = here; kinds = tt }
+
+pub kinds_on : (bytes : List ℕ) (from at to : ℕ) → WalkedKinds bytes from at → at < to → IsPassedRule (drop at bytes) (to - at) → WalkedKinds bytes from to
+kinds_on bytes from at to h lt p = record { rules = h.rules; lines = rule_passed bytes from at h.rules h.lines to lt p; kinds = h.kinds }
+
+pub kinds_rule : (bytes : List ℕ) (from at to : ℕ) (r : Rule) → WalkedKinds bytes from at → HasRuleAt bytes at r to → HasActionKind bytes r → WalkedKinds bytes from to
+kinds_rule bytes from at to r h is kind = record {
+  rules = h.rules ++ r ∷ [];
+  lines = rule_more bytes from at h.rules h.lines r to (h.rules ++ r ∷ []) is refl;
+  kinds = all_push (HasActionKind bytes) h.rules r h.kinds kind;
+}
+
+pub kinds_end : (bytes : List ℕ) (from at : ℕ) → WalkedKinds bytes from at → rules_kind (drop at bytes) ≡ kinds.SectionEnd → KindsEndOrStop bytes from
+kinds_end bytes from at h k = inl (h.rules, has_rules bytes from at h.rules h.lines k, h.kinds)
+
+pub kinds_out : (bytes : List ℕ) (from at : ℕ) → WalkedKinds bytes from at → length bytes ≤ at → KindsEndOrStop bytes from
+kinds_out bytes from at h le = inl (h.rules, has_rules_at_end bytes from at h.rules h.lines le, h.kinds)
+
+pub kinds_fault : (bytes : List ℕ) (from at : ℕ) (error : LayoutError) → WalkedKinds bytes from at → RulesFault bytes at error → KindsEndOrStop bytes from
+kinds_fault bytes from at error h f = inr (error, (record { at = at; rules = h.rules }, h.lines, f))

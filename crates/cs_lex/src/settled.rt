@@ -1,0 +1,29 @@
+// That the rules section ends or stops, and its actions have kinds.
+
+ghost use Rattle.std.specs.Prelude.{◌≤◌, length};
+ghost use Rattle.cs_lex.specs.Settled.{KindsEndOrStop};
+
+use crate::rules::bytes_of;
+use cs_lex_kinds::action_kind;
+use cs_lex_layout::{RulesLine, rules_line};
+
+/// Walks over the rules section that begins at the offset, and over the action of each rule. It takes no memory and answers
+/// nothing: it is there for the law.
+pub fn walk_kinds(bytes: &[u8], from: usize)
+    requires within { from ≤ length bytes.now }
+    requires short { length bytes.now ≤ 1048576 }
+    ensures { KindsEndOrStop bytes.now from }
+{
+    let mut at = from;
+    while at < bytes.len() {
+        match rules_line(bytes, at) {
+            Ok(RulesLine::End) => return,
+            Ok(RulesLine::Passed(to)) => at = to,
+            Ok(RulesLine::Rule(rule, to)) => {
+                action_kind(bytes_of(bytes, rule.action));
+                at = to;
+            }
+            Err(_) => return,
+        }
+    }
+}
