@@ -7,8 +7,8 @@ use indexmap::IndexMap;
 use std::alloc::{AllocError, Global};
 use std::marker::Model;
 
-/// Lists of tokens, at most so many and each once, in the order in which they came, each with the number of the first goal that
-/// has these tokens.
+/// Lists of tokens, at most so many and each once, in the order in which they came, each with the
+/// number of the goal that it came with.
 #[derive(Drop)]
 pub struct Bases {
     alloc: Global,
@@ -39,11 +39,12 @@ impl Bases {
         }
     }
 
-    /// Offers the tokens of a goal. They are taken where no base has them and there is room, and then they stand last; else, and
-    /// after a refusal, which is want of memory, the bases are as before.
+    /// Offers the tokens of a goal. They are taken where no base has them and there is room, and then
+    /// they stand last; else, and after a refusal, which is want of memory, the bases are as before.
     pub fn offer(&mut self, goal: u64, tokens: &[u16]) -> Result<bool, AllocError>
         ensures taken { IfOk result (λ taken. IsTrue taken ↔ IsFree self.old tokens.now) }
-        ensures bases { IfOk result (λ taken. self.new ≡ (if taken then with_base self.old goal tokens.now else self.old)) }
+        ensures bases { IfOk result (λ taken.
+            self.new ≡ (if taken then with_base self.old goal tokens.now else self.old)) }
         ensures refused { OnErr result (self.new ≡ self.old) }
     {
         if self.goals.len() >= self.most as usize || self.goals.contains_key(tokens) {

@@ -1,0 +1,3 @@
+pub mod Mutants
+pub mod Batches
+pub mod Gathering
