@@ -1,7 +1,8 @@
 // The manifest of a plan, entry by entry.
 
-ghost use Rattle.std.specs.Prelude.{◌≡◌, ◌+◌, ◌≤◌, All, IfErr, IfOk, OnErr, OnOk, length};
+ghost use Rattle.std.specs.Prelude.{◌≡◌, ◌+◌, ◌≤◌, [], All, IfErr, IfOk, OnErr, OnOk, length};
 ghost use Rattle.cs_goals.specs.Goals.{goals};
+ghost use Rattle.cs_io.specs.BufferedSink.{buffered_room, lent_name, lent_sink, waiting_bytes};
 ghost use Rattle.cs_io.specs.Faults.{Rose, greatest};
 ghost use Rattle.cs_manifest.specs.Sinks.{IsCutShort, IsWritten};
 ghost use Rattle.cs_writing.specs.declared.halt.Halt.TheVariants.{Failed};
@@ -23,9 +24,9 @@ use std::thread::Threads;
 // So many bytes go to the output in one piece.
 const PIECE: usize = 65_536;
 
-/// Writes the manifest of a plan to the output, each batch of entries as it is made, and answers the
-/// counts of its end line and the length of all lines. The positives are those of all goals of the
-/// plan.
+/// Writes the manifest of a plan to the output, each batch of entries as it is made, and answers
+/// the counts of its end line and the length of all lines. The positives are those of all goals of
+/// the plan.
 pub fn write_out<R: Threads + Sync, O: Sink, G: Gate + Sync>(
     rt: &R,
     alloc: Global,
@@ -46,10 +47,39 @@ pub fn write_out<R: Threads + Sync, O: Sink, G: Gate + Sync>(
     ensures room { HasRoomForAll (IsPlanned positives.entry.tables.weights plan.now)
         (O.room out.old) → O.faults out.new ≡ O.faults out.old }
 {
-    one_text();
     let mut buffer = Vec::with_capacity(alloc, PIECE)?;
     let mut sink = BufferedSink::new(out, &mut buffer);
-    let counts = write_manifest(rt, alloc, plan, positives, &mut sink, gate)?;
+    write_through(rt, alloc, plan, positives, &mut sink, gate)
+}
+
+// Writes the manifest, and then what waits.
+fn write_through<R: Threads + Sync, O: Sink, G: Gate + Sync>(
+    rt: &R,
+    alloc: Global,
+    plan: &Plan<'_>,
+    positives: Positives<'_>,
+    sink: &mut BufferedSink<'_, '_, O>,
+    gate: &G,
+) -> Result<Counts, Halt>
+    requires plan { IsPlan plan.now }
+    requires grammar { IsOfPlan plan.now positives }
+    requires all { positives.goals ≡ goals positives.tables.grammar plan.now.criteria }
+    requires waiting { waiting_bytes sink.old ≡ [] }
+    requires spare { buffered_room O.room sink.old ≡ O.room (lent_sink sink.old) + 1 }
+    ensures lent { lent_name sink.new ≡ lent_name sink.old }
+    ensures ok { OnOk result (GrewByOne (IsPlanned positives.entry.tables.weights plan.now)
+        (O.written (lent_sink sink.old)) (O.written (lent_sink sink.new))) }
+    ensures counts { IfOk result (CountsOfAll (IsPlanned positives.entry.tables.weights plan.now)) }
+    ensures part { OnErr result (GrewByPart (IsPlanned positives.entry.tables.weights plan.now)
+        (O.written (lent_sink sink.old)) (O.written (lent_sink sink.new))) }
+    ensures failed { Stopped Failed result
+        → Rose (O.faults (lent_sink sink.old)) (O.faults (lent_sink sink.new)) }
+    ensures room { HasRoomForAll (IsPlanned positives.entry.tables.weights plan.now)
+        (O.room (lent_sink sink.old))
+        → O.faults (lent_sink sink.new) ≡ O.faults (lent_sink sink.old) }
+{
+    one_text();
+    let counts = write_manifest(rt, alloc, plan, positives, sink, gate)?;
     sink.flush()?;
     Ok(counts)
 }
@@ -68,6 +98,7 @@ fn write_manifest<R: Threads + Sync, S: Sink, G: Gate + Sync>(
     ensures ok { OnOk result
         (HasText S.Sink (IsPlanned positives.entry.tables.weights plan.now) sink.old sink.new) }
     ensures counts { IfOk result (CountsOfAll (IsPlanned positives.entry.tables.weights plan.now)) }
+    ensures lent { S.lent sink.new ≡ S.lent sink.old }
     ensures stopped { IfErr result
         (HasSomeText S.Sink (IsPlanned positives.entry.tables.weights plan.now) sink.old sink.new) }
 {
@@ -93,6 +124,7 @@ fn write_entries<R: Threads + Sync, S: Sink, G: Gate + Sync>(
     requires file { manifest.old.file ≡ plan.now.yacc.now }
     ensures ok { OnOk result (HasEntries S.Sink plan.now positives.old.tables
         sink.old sink.new manifest.old.counts manifest.new.counts) }
+    ensures lent { S.lent sink.new ≡ S.lent sink.old }
     ensures stopped { IfErr result
         (HasSomeEntries S.Sink plan.now positives.old.tables sink.old sink.new) }
 {
