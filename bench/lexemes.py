@@ -3,7 +3,7 @@
 
 Each row is a yacc file and a lex file whose automaton has 16,384 states, for 512 tokens: the processor seconds for all their
 lexemes, without the automaton, and the greatest memory while they are made, beside their bounds. It ends with status 1 where a
-bound is passed. No command makes lexemes yet, so a program that does is made in a copy of this repository, proved and run
+bound is passed. No command makes lexemes alone, so a program that does is made in a copy of this repository, proved and run
 there; where the first word names that program, as an earlier run built it, that one is timed. Nothing here is part of the gate.
 """
 
@@ -177,8 +177,8 @@ def in_turn():
     return own_bytes(own[::2], own[1::2])
 
 
-# how often a run makes the lexemes (the automaton of 512 rules takes seconds), and the most seconds for one time; in the last row no two bytes that follow each other by rank lead to one state, so that each
-# state has 200 steps
+# how often a run makes the lexemes (the automaton of 512 rules takes seconds), and the most seconds for one time; in the last
+# row no two bytes that follow each other by rank lead to one state
 ROWS = [
     ("one rule", one_rule, 100, 0.1),
     ("512 rules", all_rules, 1000, 0.1),

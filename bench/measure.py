@@ -51,8 +51,8 @@ class Bounds:
         sys.exit(1 if self.passed else 0)
 
 
-def build(folder, top, text, libraries):
-    """The program of this text, proved and built in a copy of the repository at `top`; its path."""
+def build(folder, top, text, libraries, proofs=None):
+    """The program of this text, with these files of proofs, proved and built in a copy of the repository at `top`; its path."""
     copy = os.path.join(folder, "copy")
     shutil.copytree(top, copy, ignore=shutil.ignore_patterns("out", ".git"))
     subprocess.run(["rt", "new", "crates/bench_goals", "start_io"], cwd=copy, check=True, stdout=subprocess.DEVNULL)
@@ -61,6 +61,10 @@ def build(folder, top, text, libraries):
         os.remove(os.path.join(crate, "src", name))
     with open(os.path.join(crate, "src", "main.rt"), "w") as file:
         file.write(text)
+    for name, proof in (proofs or {}).items():
+        os.makedirs(os.path.dirname(os.path.join(crate, name)), exist_ok=True)
+        with open(os.path.join(crate, name), "w") as file:
+            file.write(proof)
     with open(os.path.join(copy, "crates.txt"), "a") as file:
         file.write(f"bench_goals: {libraries}\n")
     built = subprocess.run(["rt", "run"], cwd=crate, capture_output=True, text=True)
