@@ -4,7 +4,7 @@ use cs_lex_kinds::{ActionKind, action_kind};
 
 #[test]
 fn kinds_of_actions(rt: HostRuntime) {
-    let cases: [(&[u8], ActionKind<'_>); 42] = [
+    let cases: [(&[u8], ActionKind<'_>); 43] = [
         (b"{ n++; return(NUM); }", ActionKind::Word(b"NUM")),
         (b"return '+';", ActionKind::Literal(b'+')),
         (b"return yytext[0];", ActionKind::OwnByte),
@@ -39,6 +39,7 @@ fn kinds_of_actions(rt: HostRuntime) {
         (b"\"/*@skip*/\" return A;", ActionKind::Word(b"A")),
         (b"/* @skip*/ return A;", ActionKind::Word(b"A")),
         (b"/*@token  a.b*/", ActionKind::Word(b"a.b")),
+        (b"/*@token\r\tA*/ return B;", ActionKind::Word(b"A")),
         (b"/*@tokenA*/ return B;", ActionKind::Word(b"B")),
         (b"/*@token A */ return B;", ActionKind::Word(b"B")),
         (b"/*@token '*'*/", ActionKind::Literal(b'*')),

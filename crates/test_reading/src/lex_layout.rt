@@ -73,7 +73,7 @@ fn shown(alloc: Global, text: &[u8]) -> Result<Vec<u8>, LayoutError>
 
 #[test]
 fn parts_of_files(rt: HostRuntime) -> Result<(), Fail> {
-    let cases: [(&[u8], &[u8]); 22] = [
+    let cases: [(&[u8], &[u8]); 24] = [
         (b"%%\n", b"%"),
         (b"%%", b"%"),
         (b"%% x y\na\tb c ", b"%a~b c ~"),
@@ -117,6 +117,8 @@ fn parts_of_files(rt: HostRuntime) -> Result<(), Fail> {
         ),
         (b"%%\r\na\r\nb \r c\r\n", b"%a~~b~c\r~"),
         (b"%%\na\x0cb c\n", b"%a\x0cb~c~"),
+        (b"%%\na\x0bb c\n", b"%a\x0bb~c~"),
+        (b"%%\n[a\\\nb c\n", b"%[a\\~~b~c~"),
         (b"%%\n%x a\n%", b"%%x~a~%~~"),
         (b"A {B}\nB x\n%%\n", b"A~{B}~B~x~%"),
         (b" 'a /* \n */ x'\n \"/*\" \n%%\n", b"%"),
@@ -131,7 +133,7 @@ fn parts_of_files(rt: HostRuntime) -> Result<(), Fail> {
 
 #[test]
 fn where_layout_stops(rt: HostRuntime) {
-    let cases: [(&[u8], LayoutError); 41] = [
+    let cases: [(&[u8], LayoutError); 42] = [
         (b"A x/* c */\n%%\n", LayoutError::Layout { at: 0 }),
         (b"", LayoutError::Layout { at: 0 }),
         (b"%s X\n%%\n", LayoutError::StartCondition { at: 0 }),
@@ -176,6 +178,7 @@ fn where_layout_stops(rt: HostRuntime) {
         (b"%%\n x /* a\n", LayoutError::Unended { at: 6 }),
         (b"%%\na { { } \n", LayoutError::Unended { at: 5 }),
         (b"%%\na { /* } \n", LayoutError::Unended { at: 5 }),
+        (b"%%\na { { /* } } \n", LayoutError::Unended { at: 5 }),
         (b"%%\na x /* } \n", LayoutError::Unended { at: 7 }),
         (b"%%\na {} {\n'}' // }\n", LayoutError::Unended { at: 8 }),
         (b"%option", LayoutError::Layout { at: 7 }),

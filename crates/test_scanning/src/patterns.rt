@@ -343,5 +343,12 @@ fn the_depth_is_told(rt: HostRuntime) -> Result<(), Fail> {
         let want = format!(in alloc; "TooDeep {{ found: {groups}, most: 200 }}")?;
         assert_eq!(rt; found.as_str(), want.as_str());
     }
+    let mut body = Vec::new(alloc);
+    push_all(&mut body, b'(', 200)?;
+    body.push(b'a')?;
+    push_all(&mut body, b')', 200)?;
+    let named = define(alloc, &[(b"A", &body)])?.check()?;
+    let found = answer(alloc, b"{A}", &named)?;
+    assert_eq!(rt; found.as_str(), "TooDeep { found: 201, most: 200 }");
     Ok(())
 }
