@@ -1,0 +1,3 @@
+pub mod Choices
+pub mod Halts
+pub mod Parts

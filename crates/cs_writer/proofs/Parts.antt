@@ -1,0 +1,27 @@
+-- What an output grew by, for texts of one kind and of another.
+use Rattle.std.proofs.Common.{ℕ, List, Option, Result, Ok, Err, OnErr, OnOk, sym}
+use Rattle.cs_io.proofs.Known.{known_none}
+use Rattle.cs_writing.specs.Writing.{GrewByOne, GrewByPart, HasRoomForAll}
+
+-- nothing is a part of each text
+pub no_part : (Is : List ℕ → Type 0) (known : Option (List ℕ)) → GrewByPart Is known known
+no_part Is known = λ text is. record { count = 0; grew = sym (known_none known) }
+
+-- what holds holds on an error
+pub on_err : {A E : Type 0} (P : Type 0) (result : Result A E) → P → OnErr result P
+on_err P (Ok value) holds = tt
+on_err P (Err error) holds = holds
+
+pub on_ok : {A E : Type 0} (P : Type 0) (result : Result A E) → P → OnOk result P
+on_ok P (Ok value) holds = holds
+on_ok P (Err error) holds = tt
+
+module _ (P Q : List ℕ → Type 0) (to : (text : List ℕ) → P text → Q text) where
+  pub grew_by : (old new : Option (List ℕ)) → GrewByOne P old new → GrewByOne Q old new
+  grew_by old new grew = (grew.0, to grew.0 grew.1, grew.2)
+
+  pub grew_part : (old new : Option (List ℕ)) → GrewByPart Q old new → GrewByPart P old new
+  grew_part old new grew = λ text is. grew text (to text is)
+
+  pub has_room : (room : ℕ) → HasRoomForAll Q room → HasRoomForAll P room
+  has_room room fits = λ text is. fits text (to text is)

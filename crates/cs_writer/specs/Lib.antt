@@ -1,0 +1,2 @@
+pub mod Suite
+pub mod Refusals

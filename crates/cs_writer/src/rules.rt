@@ -1,0 +1,79 @@
+// The writer of `rules`.
+
+ghost use Rattle.std.specs.Prelude.{◌≡◌, OnErr, OnOk};
+ghost use Rattle.cs_ending.specs.Files.{IsTextBy};
+ghost use Rattle.cs_grammar.specs.Weights.{nodes};
+ghost use Rattle.cs_io.specs.Faults.{Rose};
+ghost use Rattle.cs_manifest.specs.Manifest.{rules_form};
+ghost use Rattle.cs_writing.specs.declared.halt.Halt.TheVariants.{Failed};
+ghost use Rattle.cs_writing.specs.Writing.{GrewByOne, GrewByPart, HasRoomForAll, Stopped};
+
+use cs_cost::Costs;
+use cs_embed::Embeds;
+use cs_fan::Gate;
+use cs_goals::Criteria;
+use cs_grammar::Weights;
+use cs_io::Sink;
+use cs_plan::Plan;
+use cs_positive::Positives;
+use cs_writing::{Halt, write_out};
+use cs_yacc::YaccFile;
+use std::alloc::Global;
+use std::thread::Threads;
+
+// The form of `rules` has the rule goals alone.
+const RULE_GOALS: Criteria = Criteria {
+    rule: true,
+    cdrc: false,
+    pair: false,
+};
+
+/// Writes the manifest of a yacc file in the form of `rules`: its rule goals, without texts.
+pub fn write_rules<R: Threads + Sync, O: Sink, G: Gate + Sync>(
+    rt: &R,
+    alloc: Global,
+    file: &YaccFile,
+    out: &mut O,
+    gate: &G,
+) -> Result<(), Halt>
+    ensures ok { OnOk result
+        (GrewByOne (IsTextBy rules_form file.now) (O.written out.old) (O.written out.new)) }
+    ensures part { OnErr result
+        (GrewByPart (IsTextBy rules_form file.now) (O.written out.old) (O.written out.new)) }
+    ensures failed { Stopped Failed result → Rose (O.faults out.old) (O.faults out.new) }
+    ensures room { HasRoomForAll (IsTextBy rules_form file.now) (O.room out.old)
+        → O.faults out.new ≡ O.faults out.old }
+{
+    let weights = Weights::nodes(alloc, file.grammar().tokens())?;
+    write_rule_goals(rt, alloc, file, &weights, out, gate)
+}
+
+// The same by weights that count nodes.
+fn write_rule_goals<'f, R: Threads + Sync, O: Sink, G: Gate + Sync>(
+    rt: &R,
+    alloc: Global,
+    file: &'f YaccFile,
+    weights: &'f Weights,
+    out: &mut O,
+    gate: &G,
+) -> Result<(), Halt>
+    requires { weights.now ≡ nodes file.now.grammar.tokens }
+    ensures ok { OnOk result
+        (GrewByOne (IsTextBy rules_form file.now) (O.written out.old) (O.written out.new)) }
+    ensures part { OnErr result
+        (GrewByPart (IsTextBy rules_form file.now) (O.written out.old) (O.written out.new)) }
+    ensures failed { Stopped Failed result → Rose (O.faults out.old) (O.faults out.new) }
+    ensures room { HasRoomForAll (IsTextBy rules_form file.now) (O.room out.old)
+        → O.faults out.new ≡ O.faults out.old }
+{
+    let costs = Costs::new(alloc, file.grammar(), weights)?;
+    let embeds = Embeds::new(alloc, &costs)?;
+    let plan = Plan {
+        yacc: file,
+        criteria: RULE_GOALS,
+        texts: None,
+    };
+    let positives = Positives::of_trees(&costs, &embeds, RULE_GOALS);
+    write_out(rt, alloc, &plan, positives, out, gate)?;
+    Ok(())
+}

@@ -1,0 +1,124 @@
+// The writer of `suite`.
+
+ghost use Rattle.std.specs.Prelude.{◌≡◌, ◌⊎◌, OnErr, OnOk, Some, false};
+ghost use Rattle.cs_ending.specs.Files.{IsTextBy};
+ghost use Rattle.cs_grammar.specs.Weights.{nodes};
+ghost use Rattle.cs_input.specs.Refusal.{HasManyStates};
+ghost use Rattle.cs_io.specs.Faults.{Rose};
+ghost use Rattle.cs_manifest.specs.Manifest.{has_operator};
+ghost use Rattle.cs_plan.specs.Plans.{CanRender};
+ghost use Rattle.cs_writer.specs.declared.halt.SuiteHalt.TheVariants.{Failed, Memory, States};
+ghost use Rattle.cs_writer.specs.Refusals.{Stopped};
+ghost use Rattle.cs_writer.specs.Suite.{IsSuite, choice_with};
+ghost use Rattle.cs_writing.specs.declared.halt.Halt.TheVariants as halt;
+ghost use Rattle.cs_yacc.specs.File.{IsFile};
+ghost use Rattle.cs_writing.specs.Writing as writing;
+ghost use Rattle.cs_writing.specs.Writing.{GrewByOne, GrewByPart, HasRoomForAll};
+
+use crate::halt::SuiteHalt;
+use cs_automaton::Automaton;
+use cs_fan::Gate;
+use cs_goals::Criteria;
+use cs_grammar::Weights;
+use cs_input::Pair;
+use cs_io::Sink;
+use cs_lexeme::Lexemes;
+use cs_plan::Plan;
+use cs_positive::{Positives, Tables};
+use cs_render_work::RenderWork;
+use cs_scan::Scanner;
+use cs_words::Options;
+use cs_writing::{Halt, write_out};
+use cs_yacc::YaccFile;
+use std::alloc::Global;
+use std::thread::Threads;
+
+/// Writes the manifest of a yacc file and a lex file by what the options choose. Their operators are none yet.
+pub fn write_suite<R: Threads + Sync, O: Sink, G: Gate + Sync>(
+    rt: &R,
+    alloc: Global,
+    pair: Pair,
+    options: Options,
+    out: &mut O,
+    gate: &G,
+) -> Result<(), SuiteHalt>
+    requires { has_operator options.operators ≡ false }
+    ensures ok { OnOk result
+        (GrewByOne (IsSuite pair options) (O.written out.old) (O.written out.new)) }
+    ensures part { OnErr result
+        (GrewByPart (IsSuite pair options) (O.written out.old) (O.written out.new)) }
+    ensures failed { Stopped Failed result → Rose (O.faults out.old) (O.faults out.new) }
+
+    // Too many states.
+    ensures states { Stopped States result → HasManyStates pair.lex }
+    ensures unused { Stopped States result → out.new ≡ out.old }
+    ensures few { OnOk result (¬ HasManyStates pair.lex) }
+    ensures few_on_failed { Stopped Failed result → ¬ HasManyStates pair.lex }
+    ensures few_on_memory { Stopped Memory result
+        → (out.new ≡ out.old) ⊎ ¬ HasManyStates pair.lex }
+    ensures named { IsFile pair.yacc }
+
+    ensures room { HasRoomForAll (IsSuite pair options) (O.room out.old)
+        → O.faults out.new ≡ O.faults out.old }
+{
+    let Pair { yacc, lex } = pair;
+    let automaton = Automaton::new(alloc, lex.patterns())?;
+    let scanner = Scanner {
+        automaton: &automaton,
+        kinds: lex.kinds(),
+        literals: lex.literals(),
+    };
+    let tokens = yacc.grammar().tokens();
+    let lexemes = Lexemes::new(alloc, &scanner, tokens)?;
+    let work = RenderWork {
+        scanner: &scanner,
+        lexemes: &lexemes,
+        separator: options.separator.bytes(),
+    };
+    let weights = Weights::nodes(alloc, tokens)?;
+    write_goals(
+        rt,
+        alloc,
+        &yacc,
+        &weights,
+        options.criteria,
+        &work,
+        out,
+        gate,
+    )?;
+    Ok(())
+}
+
+// Writes the manifest of a yacc file by these criteria, by weights that count nodes.
+fn write_goals<'f, R: Threads + Sync, O: Sink, G: Gate + Sync>(
+    rt: &R,
+    alloc: Global,
+    file: &'f YaccFile,
+    weights: &'f Weights,
+    criteria: Criteria,
+    work: &'f RenderWork<'f>,
+    out: &mut O,
+    gate: &G,
+) -> Result<(), Halt>
+    requires weights { weights.now ≡ nodes file.now.grammar.tokens }
+    requires work { CanRender file.now (Some work) }
+    ensures ok { OnOk result
+        (GrewByOne (IsTextBy (choice_with criteria work.now) file.now)
+        (O.written out.old) (O.written out.new)) }
+    ensures part { OnErr result
+        (GrewByPart (IsTextBy (choice_with criteria work.now) file.now)
+        (O.written out.old) (O.written out.new)) }
+    ensures failed { writing.Stopped halt.Failed result → Rose (O.faults out.old) (O.faults out.new) }
+    ensures room { HasRoomForAll (IsTextBy (choice_with criteria work.now) file.now) (O.room out.old)
+        → O.faults out.new ≡ O.faults out.old }
+{
+    let tables = Tables::new(alloc, file.grammar(), weights)?;
+    let plan = Plan {
+        yacc: file,
+        criteria,
+        texts: Some(work),
+    };
+    let positives = Positives::new(&tables, criteria);
+    write_out(rt, alloc, &plan, positives, out, gate)?;
+    Ok(())
+}
