@@ -92,7 +92,7 @@ module _ (file : File) (is : IsFile file) (of : Weighed) (same : of.grammar ≡ 
     kinds = can.0;
     literals = can.1;
     tokens_of = subst (λ (n : ℕ). All (IsNumberOf n) list.items) (is.tokens ∙ sym can.2.all) (named_tokens file is of.grammar p.verdict list.items same is_list);
-    few = few_of of.weights measure of.grammar p.goal p.verdict list.items judged.1 is_list;
+    few = omega (arith, few_of of.weights measure of.grammar p.goal p.verdict list.items judged.1 is_list);
   }
 
   pub takes_lists : (texts : Option (Bor RenderWork)) → CanRender file texts → (positives : List Positive) (lists : List (Vec ℕ)) → All (IsJudged of) positives → AreListsOf of.grammar positives lists → TakesLists texts lists

@@ -45,7 +45,7 @@ module _ (w : Measure) (is : IsMeasure w) where
     length-yields (Grown t f) = omega (arith, length-yield t, length-yields f, length-append (yield t) (yields f))
 
   -- so a verdict's tokens are few
-  pub few_tokens : (g : PlainGrammar) (goal : Goal) (n : ℕ) (derivation tokens : List ℕ) → IsVerdict w g goal (Feasible n derivation) → IsYield g derivation tokens → length tokens ≤ 1000001
+  pub few_tokens : (g : PlainGrammar) (goal : Goal) (n : ℕ) (derivation tokens : List ℕ) → IsVerdict w g goal (Feasible n derivation) → IsYield g derivation tokens → length tokens ≤ 1000000
   few_tokens g goal n derivation tokens h y =
       let chosen = h.2.0 in
       let least = h.1 in
@@ -119,7 +119,7 @@ named_entry file is of same texts lexemes goal entry of_grammar h =
     }
 
 -- the tokens of a verdict are few
-pub few_of : (w : Measure) → IsMeasure w → (g : PlainGrammar) (goal : Goal) (verdict : Verdict) (tokens : List ℕ) → IsVerdict w g goal verdict → AreTokensOf g verdict tokens → length tokens ≤ 1000001
+pub few_of : (w : Measure) → IsMeasure w → (g : PlainGrammar) (goal : Goal) (verdict : Verdict) (tokens : List ℕ) → IsVerdict w g goal verdict → AreTokensOf g verdict tokens → length tokens ≤ 1000000
 few_of w is g goal (Feasible n derivation) tokens h y = few_tokens w is g goal n derivation tokens h y
 few_of w is g goal Infeasible tokens h y = let none : length tokens ≡ 0 = ap length y in omega (arith, none)
 few_of w is g goal Large tokens h y = let none : length tokens ≡ 0 = ap length y in omega (arith, none)

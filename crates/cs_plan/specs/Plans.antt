@@ -1,14 +1,18 @@
 -- What a plan chooses, and which text is its manifest.
-use Rattle.std.specs.Prelude.{◌≡◌, ℕ, List, Option, None, Some, option_map, false}
+use Rattle.std.specs.Prelude.{◌≡◌, ℕ, List, Option, None, Some, IfSome, IsSome, option_map, false}
 use Rattle.std.specs.Borrow.{Bor}
+use Rattle.std.specs.Option.{option_map_or}
+use Rattle.cs_grammar.specs.Grammar.{PlainGrammar}
 use Rattle.cs_grammar.specs.Weights.{IsMeasure, Measure, Weighed}
 use Rattle.cs_goals.specs.declared.goal.Goal.{Goal}
 use Rattle.cs_lexeme.specs.Lexeme.{AreLexemes}
 use Rattle.cs_manifest.specs.Manifest.{Choice, GoalEntry, IsEntryOf, IsManifest, Texts}
+use Rattle.cs_mutate.specs.declared.edit.Operators.{Operators}
 use Rattle.cs_positive.specs.Positives.{ToJudge}
 use Rattle.cs_render_work.specs.declared.work.RenderWork.{RenderWork}
 use Rattle.cs_scan.specs.Compared.{HasKinds, HasLiterals, scanning}
 use Rattle.cs_yacc.specs.File.{File, IsFile}
+use Rattle.cs_plan.specs.declared.plan.Mutation.{Mutation}
 use Rattle.cs_plan.specs.declared.plan.Plan.{Plan}
 
 -- what texts are made by
@@ -28,23 +32,33 @@ CanRender file (Some work) =
     HasKinds work.now.scanner.now × HasLiterals work.now.scanner.now
     × AreLexemes (scanning work.now.scanner.now) file.grammar.tokens work.now.lexemes.now
 
--- the lexemes are those of the file's tokens
+-- mutants are made by the pairs of the grammar
+abbrev pub HasPairsOf : PlainGrammar → Option Mutation → Type 0
+HasPairsOf g mutation = IfSome mutation (λ m. m.pairs.now.grammar ≡ g)
+
+-- the lexemes are those of the file's tokens, and so are the pairs; what is mutated is rendered
 pub record IsPlan (plan : Plan) : Type 0 where
   pub file : IsFile plan.yacc.now
   pub texts : CanRender plan.yacc.now plan.texts
+  pub pairs : HasPairsOf plan.yacc.now.grammar plan.mutation
+  pub rendered : IsSome plan.mutation → IsSome plan.texts
 
 -- goals of the plan's grammar are judged
 pub record IsOfPlan (plan : Plan) (left : ToJudge) : Type 0 where
   pub grammar : left.tables.grammar ≡ plan.yacc.now.grammar
   pub weights : IsMeasure left.tables.weights
 
--- what the plan chooses: no operator
+-- none of the operators
+abbrev pub no_operator : Operators
+no_operator = record { delete = false; insert = false; replace = false; swap = false }
+
+-- what the plan chooses; where nothing is mutated, no operator and no bases
 abbrev pub choice_in : Plan → Choice
 choice_in plan = record {
   criteria = plan.criteria;
   texts = texts_in plan;
-  operators = record { delete = false; insert = false; replace = false; swap = false };
-  most = 0;
+  operators = option_map_or (λ m. m.operators) plan.mutation no_operator;
+  most = option_map_or (λ m. m.most) plan.mutation 0;
 }
 
 -- the text is the plan's manifest, where trees are measured by these weights

@@ -1,11 +1,12 @@
 // The entries of goals.
 
-ghost use Rattle.std.specs.Prelude.{◌≡◌};
+ghost use Rattle.std.specs.Prelude.{◌≡◌, IfNone, IfSome, false, true};
 ghost use Rattle.std.specs.Vec.Iter.{into_iter_items};
 ghost use Rattle.cs_manifest.specs.declared.counts.Counts.{Counts};
 ghost use Rattle.cs_yacc.specs.File.{File};
 ghost use Rattle.cs_manifest.specs.Counts.{with_entry, with_verdict};
 ghost use Rattle.cs_manifest.specs.Entry.{IsNamedEntry, lines_of};
+ghost use Rattle.cs_manifest.specs.Lines.{is_feasible};
 ghost use Rattle.cs_manifest.specs.Manifest.{goal_entry_lines};
 ghost use Rattle.cs_plan.specs.Made.{HasListIn, IsJoined, IsNamedGoalEntry, TakesFirst};
 
@@ -54,6 +55,18 @@ impl Made {
             verdict: &self.verdict,
             tokens: &self.tokens,
             rendered: self.rendered.as_ref(),
+        }
+    }
+
+    /// The tokens of the goal's derivation. None where it isn't feasible.
+    pub fn sentence(&self) -> Option<&[u16]>
+        ensures feasible { IfSome result (λ _. is_feasible self.now.verdict ≡ true) }
+        ensures tokens { IfSome result (λ tokens. tokens.now ≡ self.now.tokens) }
+        ensures none { IfNone result (is_feasible self.now.verdict ≡ false) }
+    {
+        match &self.verdict {
+            Verdict::Feasible { .. } => Some(&self.tokens),
+            Verdict::Infeasible | Verdict::Large => None,
         }
     }
 }

@@ -2,20 +2,32 @@
 
 ghost use Rattle.std.specs.Prelude.{◌≡◌};
 ghost use Rattle.cs_manifest.specs.Head.{file_of, lexemes_of};
-ghost use Rattle.cs_plan.specs.Plans.{lexemes_in};
+ghost use Rattle.cs_manifest.specs.Manifest.{has_operator as is_some_chosen, most_bases};
+ghost use Rattle.cs_plan.specs.Plans.{choice_in, lexemes_in};
 
 use cs_goals::Criteria;
 use cs_manifest::Head;
+use cs_mutate::Operators;
+use cs_pairs::Pairs;
 use cs_render_work::RenderWork;
 use cs_yacc::YaccFile;
 
-/// A yacc file, the criteria that goals are taken by, and what token lists are rendered with. In the form of `rules` nothing is
-/// rendered.
+/// What mutants are made by: the pairs of the grammar, the operators, and how many bases there are at most.
+#[derive(Clone, Copy)]
+pub struct Mutation<'a> {
+    pub pairs: &'a Pairs<'a>,
+    pub operators: Operators,
+    pub most: u32,
+}
+
+/// A yacc file, the criteria that goals are taken by, what token lists are rendered with, and what mutants are made by. In the
+/// form of `rules` nothing is rendered, and nothing is mutated.
 #[derive(Clone, Copy)]
 pub struct Plan<'a> {
     pub yacc: &'a YaccFile,
     pub criteria: Criteria,
     pub texts: Option<&'a RenderWork<'a>>,
+    pub mutation: Option<Mutation<'a>>,
 }
 
 impl<'a> Plan<'a> {
@@ -32,4 +44,21 @@ impl<'a> Plan<'a> {
             },
         }
     }
+
+    /// How many bases there are at most. Where no operator is chosen there are none.
+    pub fn most_bases(&self) -> u32
+        ensures { result ≡ most_bases (choice_in self.now) }
+    {
+        match &self.mutation {
+            Some(mutation) if has_operator(mutation.operators) => mutation.most,
+            _ => 0,
+        }
+    }
+}
+
+// Whether some operator is chosen.
+fn has_operator(operators: Operators) -> bool
+    ensures { result ≡ is_some_chosen operators }
+{
+    operators.delete || operators.insert || operators.replace || operators.swap
 }
