@@ -4,9 +4,9 @@ use Rattle.std.specs.Prelude.{count_by, if◌then◌else◌}
 use Rattle.std.proofs.lemmas.List.Sums.{sum_by-cons}
 use Rattle.cs_io.specs.Faults.{greatest, next_count}
 use Rattle.cs_manifest.specs.declared.counts.Counts.{Counts}
-use Rattle.cs_manifest.specs.Counts.{end_of, first_counts, next_if, with_lines, with_verdict}
+use Rattle.cs_manifest.specs.Counts.{first_counts, next_if, with_lines, with_verdict}
 use Rattle.cs_manifest.specs.Lines.{end_words, is_feasible, is_infeasible, is_large}
-use Rattle.cs_manifest.specs.Manifest.{GoalEntry, end_line, goal_entry_lines}
+use Rattle.cs_manifest.specs.Manifest.{GoalEntry, goal_entry_lines}
 use Rattle.cs_manifest.specs.Putting.{shown}
 use Rattle.cs_yacc.specs.File.{File}
 use Rattle.cs_writing.specs.Written.{counts_behind, lines_from}
@@ -29,7 +29,7 @@ module _ (file : File) where
       let one : next_count counts.goals ≡ counts.goals + 1 = omega (arith, few) in
       goals_behind (n + 1) es (next n counts e) (omega (arith, few, one)) ∙ omega (arith, one)
 
-  negatives_behind : (n : ℕ) (es : List GoalEntry) (counts : Counts) → (counts_behind file n es counts).negatives ≡ counts.negatives
+  pub negatives_behind : (n : ℕ) (es : List GoalEntry) (counts : Counts) → (counts_behind file n es counts).negatives ≡ counts.negatives
   negatives_behind n [] counts = refl
   negatives_behind n (e ∷ es) counts = negatives_behind (n + 1) es (next n counts e)
 
@@ -69,9 +69,12 @@ module _ (file : File) where
       shown_twice : (k : ℕ) → shown k ≡ shown (shown k)
       shown_twice k = omega arith
 
-  -- the counts behind all entries make the end line
-  pub counted_end : (entries : List GoalEntry) (bytes : ℕ) → length entries ≤ 10000000000 → end_of (counts_behind file 1 entries (first_counts bytes)) ≡ end_line entries []
-  counted_end entries bytes few =
+  -- the counts behind all entries, and behind so many negatives, make the end line
+  pub counted_end : (entries : List GoalEntry) (bytes many : ℕ) → length entries ≤ 10000000000 → (counts : Counts) → counts ≡ counts_behind file 1 entries (first_counts bytes)
+      → end_words counts.goals counts.feasible counts.infeasible counts.large (counts.negatives + many)
+      ≡ end_words (length entries) (count_by (λ e. is_feasible e.verdict) entries) (count_by (λ e. is_infeasible e.verdict) entries)
+      (count_by (λ e. is_large e.verdict) entries) many
+  counted_end entries bytes many few after is =
       let none = first_counts bytes in
       let counts = counts_behind file 1 entries none in
       let fits : 0 + length entries ≤ greatest = omega (arith, few) in
@@ -82,8 +85,10 @@ module _ (file : File) where
       let feasible : counts.feasible ≡ some = field_behind (λ (c : Counts). c.feasible) (λ (e : GoalEntry). is_feasible e.verdict) (λ n c e. refl) 1 entries none fits ∙ omega arith in
       let infeasible : counts.infeasible ≡ others = field_behind (λ (c : Counts). c.infeasible) (λ (e : GoalEntry). is_infeasible e.verdict) (λ n c e. refl) 1 entries none fits ∙ omega arith in
       let large : counts.large ≡ last = field_behind (λ (c : Counts). c.large) (λ (e : GoalEntry). is_large e.verdict) (λ n c e. refl) 1 entries none fits ∙ omega arith in
-      ap (λ (n : ℕ). end_words n counts.feasible counts.infeasible counts.large counts.negatives) goals
-      ∙ ap (λ (n : ℕ). end_words (length entries) n counts.infeasible counts.large counts.negatives) feasible
-      ∙ ap (λ (n : ℕ). end_words (length entries) some n counts.large counts.negatives) infeasible
-      ∙ ap (λ (n : ℕ). end_words (length entries) some others n counts.negatives) large
-      ∙ ap (λ (n : ℕ). end_words (length entries) some others last n) (negatives_behind 1 entries none)
+      let negatives : counts.negatives + many ≡ many = ap (λ (n : ℕ). n + many) (negatives_behind 1 entries none) ∙ omega arith in
+      ap (λ (c : Counts). end_words c.goals c.feasible c.infeasible c.large (c.negatives + many)) is
+      ∙ ap (λ (n : ℕ). end_words n counts.feasible counts.infeasible counts.large (counts.negatives + many)) goals
+      ∙ ap (λ (n : ℕ). end_words (length entries) n counts.infeasible counts.large (counts.negatives + many)) feasible
+      ∙ ap (λ (n : ℕ). end_words (length entries) some n counts.large (counts.negatives + many)) infeasible
+      ∙ ap (λ (n : ℕ). end_words (length entries) some others n (counts.negatives + many)) large
+      ∙ ap (λ (n : ℕ). end_words (length entries) some others last n) negatives

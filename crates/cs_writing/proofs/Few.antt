@@ -21,11 +21,11 @@ short_8192 f each [] = omega arith
 short_8192 f each (x ∷ xs) = omega (arith, length-append (f x) (flat_map f xs), each x, short_8192 f each xs)
 
 -- and of at most 513
-short_513 : {A B : Type 0} (f : A → List B) → ((x : A) → length (f x) ≤ 513) → (xs : List A) → length (flat_map f xs) ≤ 513 * length xs
+pub short_513 : {A B : Type 0} (f : A → List B) → ((x : A) → length (f x) ≤ 513) → (xs : List A) → length (flat_map f xs) ≤ 513 * length xs
 short_513 f each [] = omega arith
 short_513 f each (x ∷ xs) = omega (arith, length-append (f x) (flat_map f xs), each x, short_513 f each xs)
 
-few_chosen : {A : Type 0} (b : Bool) (xs : List A) → length (if b then xs else []) ≤ length xs
+pub few_chosen : {A : Type 0} (b : Bool) (xs : List A) → length (if b then xs else []) ≤ length xs
 few_chosen true xs = omega arith
 few_chosen false xs = omega arith
 

@@ -1,9 +1,14 @@
 pub mod Few
 pub mod Ones
-pub mod Stops
 pub mod Counted
-pub mod Batch
+pub mod Stops
+pub mod Kept
 pub mod SoFar
 pub mod Texts
+pub mod Batch
 pub mod Out
-pub mod Choices
+pub mod Tallies
+pub mod Edits
+pub mod Negatives
+pub mod Mutated
+pub mod Searches

@@ -1,5 +1,5 @@
 -- The texts of a plan are one, so are its entries, and their lines begin with the lines of the first ones.
-use Rattle.std.proofs.Common.{◌≡◌, ℕ, suc, ◌+◌, ◌-◌, ◌<◌, List, [], ◌∷◌, ◌++◌, length, refl, sym, ap, ◌∙◌, subst, Option, None, Some, arith, append_assoc}
+use Rattle.std.proofs.Common.{◌≡◌, ℕ, suc, ◌+◌, ◌-◌, ◌<◌, List, [], ◌∷◌, ◌++◌, length, map, refl, sym, ap, ◌∙◌, subst, Option, None, Some, arith, append_assoc}
 use Rattle.std.specs.Prelude.{slice_index_or}
 use Rattle.std.specs.List.{AllZip}
 use Rattle.cs_lexeme.specs.Lexeme.{AreLexemes, IsLexemeOf, lexeme_in}
@@ -81,11 +81,23 @@ module _ {A B : Type 0} (R : A → B → Type 0) where
   zip_both (x ∷ xs) more [] others first second = absurd first
   zip_both (x ∷ xs) more (y ∷ ys) others first second = (first.0, zip_both xs more ys others first.1 second)
 
+  -- partners of two lists, taken apart
+  pub zip_split : (xs rest : List A) (zs : List B) → AllZip R (xs ++ rest) zs → (a : List B) × (b : List B) × (zs ≡ a ++ b) × AllZip R xs a × AllZip R rest b
+  zip_split [] rest zs each = ([], zs, refl, tt, each)
+  zip_split (x ∷ xs) rest [] each = absurd each
+  zip_split (x ∷ xs) rest (z ∷ zs) each =
+      let s = zip_split xs rest zs each.1 in
+      (z ∷ s.0, s.1, ap (λ (l : List B). z ∷ l) s.2, (each.0, s.3), s.4)
+
   pub zip_length : (xs : List A) (ys : List B) → AllZip R xs ys → length ys ≡ length xs
   zip_length [] [] each = refl
   zip_length [] (y ∷ ys) each = absurd each
   zip_length (x ∷ xs) [] each = absurd each
   zip_length (x ∷ xs) (y ∷ ys) each = omega (arith, zip_length xs ys each.1)
+
+pub nothing_in : {A : Type 0} (xs : List A) → length xs ≡ 0 → xs ≡ []
+nothing_in [] empty = refl
+nothing_in (x ∷ xs) empty = absurd (omega (arith, empty))
 
 -- lines of two lists, one after the other
 pub numbered_both : {A : Type 0} (f : ℕ → A → List ℕ) (n : ℕ) (xs ys : List A) → numbered_from n f (xs ++ ys) ≡ numbered_from n f xs ++ numbered_from (n + length xs) f ys
@@ -94,3 +106,8 @@ numbered_both {A} f n (x ∷ xs) ys =
     let e : n + 1 + length xs ≡ n + length (x ∷ xs) = omega arith in
     ap (λ (l : List ℕ). f n x ++ l) (numbered_both f (n + 1) xs ys ∙ ap (λ (k : ℕ). numbered_from (n + 1) f xs ++ numbered_from k f ys) e)
     ∙ sym (append_assoc (f n x) (numbered_from (n + 1) f xs) (numbered_from (n + length (x ∷ xs)) f ys))
+
+-- lines of what is made of each
+pub numbered_map : {A B : Type 0} (f : ℕ → B → List ℕ) (h : A → B) (n : ℕ) (xs : List A) → numbered_from n (λ k x. f k (h x)) xs ≡ numbered_from n f (map h xs)
+numbered_map f h n [] = refl
+numbered_map f h n (x ∷ xs) = ap (λ (l : List ℕ). f n (h x) ++ l) (numbered_map f h (n + 1) xs)

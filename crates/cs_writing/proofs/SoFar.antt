@@ -1,13 +1,14 @@
 -- The entries of the first goals, written batch by batch.
 use Rattle.std.proofs.Common.{◌≡◌, ℕ, ◌+◌, ◌<◌, ◌≤◌, List, [], ◌++◌, length, length-append, refl, sym, ap, ◌∙◌, subst, arith, append_assoc, append-nil}
 use Rattle.std.specs.List.{AllZip}
+use Rattle.cs_bases.specs.Bases.{PlainBases, bases_of}
 use Rattle.cs_io.specs.declared.sink.Sink as Sink
 use Rattle.cs_grammar.specs.Grammar.{IsGrammar}
 use Rattle.cs_grammar.specs.Weights.{Weighed}
 use Rattle.cs_goals.specs.declared.goal.Goal.{Goal}
 use Rattle.cs_goals.specs.Goals.{goals}
 use Rattle.cs_manifest.specs.declared.counts.Counts.{Counts}
-use Rattle.cs_manifest.specs.Manifest.{GoalEntry, HasOneText, goal_entry_lines}
+use Rattle.cs_manifest.specs.Manifest.{GoalEntry, HasOneText, goal_entry_lines, most_bases}
 use Rattle.cs_manifest.specs.Sinks.{IsCutShort, IsWritten}
 use Rattle.cs_manifest.proofs.OneManifest.{one_entry, one_zip}
 use Rattle.cs_manifest.proofs.Written.{written_none, written_then, written_cut, cut_longer}
@@ -17,9 +18,11 @@ use Rattle.cs_plan.specs.declared.plan.Plan.{Plan}
 use Rattle.cs_plan.specs.Batches.{AreNext}
 use Rattle.cs_plan.specs.Plans.{IsEntryIn, choice_in, lexemes_in, texts_in}
 use Rattle.cs_writing.specs.declared.halt.Halt.TheVariants.{Failed, Memory}
+use Rattle.cs_writing.specs.Mutants.{Keeps}
 use Rattle.cs_writing.specs.Written.{AreEntriesIn, HasEntries, HasSomeEntries, IsStopped, counts_behind, lines_from}
 use Rattle.cs_writing.proofs.Counted.{counts_both}
 use Rattle.cs_writing.proofs.Few.{few_goals}
+use Rattle.cs_writing.proofs.Kept.{kept_more}
 use Rattle.cs_writing.proofs.Ones.{numbered_both, zip_both, zip_front, zip_length}
 use Rattle.cs_writing.proofs.Stops.{stopped_by_memory, stopped_by_cut}
 
@@ -86,35 +89,39 @@ fewer_left plan old new made next some =
 -- ---- what was written
 
 module _ {S : Type 0} (g : Sink.Ghosts S) (plan : Plan) (of : Weighed) where
-  -- The lines of the first entries were written, so many, and counted.
-  pub record SoFar (left : List Goal) (number : ℕ) (before after : Counts) (old now : S) : Type 0 where
+  -- The lines of the first entries were written, so many, and counted, and these are their bases.
+  pub record SoFar (left : List Goal) (number : ℕ) (kept : PlainBases) (before after : Counts) (old now : S) : Type 0 where
     pub entries : List GoalEntry
     pub first : FirstEntries plan of left entries
     pub many : length entries ≡ number
     pub counted : after ≡ counts_behind plan.yacc.now 1 entries before
     pub written : IsWritten g (lines_from plan.yacc.now 1 entries) old now
+    pub kept_are : kept ≡ bases_of (most_bases (choice_in plan)) entries
 
 module _ {S : Type 0} {g : Sink.Ghosts S} (plan : Plan) (of : Weighed) (one : HasOneText (texts_in plan)) where
-  pub so_far_none : (left : List Goal) (counts : Counts) (s : S) → left ≡ goals of.grammar plan.criteria → SoFar g plan of left 0 counts counts s s
-  so_far_none left counts s all = record {
+  pub so_far_none : (left : List Goal) (kept : PlainBases) (counts : Counts) (s : S) → left ≡ goals of.grammar plan.criteria → kept ≡ bases_of (most_bases (choice_in plan)) []
+      → SoFar g plan of left 0 kept counts counts s s
+  so_far_none left kept counts s all none = record {
     entries = [];
     first = record { done = []; each = tt; whole = sym all };
     many = refl;
     counted = refl;
     written = written_none s;
+    kept_are = none;
   }
 
   -- behind a batch
-  pub so_far_more : (left new : ToJudge) (made : List GoalEntry) (number : ℕ) (before counts after : Counts) (old mid now : S) → left.tables ≡ of → AreNext plan left made new
-      → SoFar g plan of left.goals number before counts old mid → IsWritten g (lines_from plan.yacc.now (number + 1) made) mid now
-      → after ≡ counts_behind plan.yacc.now (number + 1) made counts → SoFar g plan of new.goals (number + length made) before after old now
-  so_far_more left new made number before counts after old mid now tables next so_far lines counted = record {
+  pub so_far_more : (left new : ToJudge) (made : List GoalEntry) (number : ℕ) (kept more : PlainBases) (before counts after : Counts) (old mid now : S) → left.tables ≡ of → AreNext plan left made new
+      → SoFar g plan of left.goals number kept before counts old mid → IsWritten g (lines_from plan.yacc.now (number + 1) made) mid now
+      → after ≡ counts_behind plan.yacc.now (number + 1) made counts → Keeps number made kept more → SoFar g plan of new.goals (number + length made) more before after old now
+  so_far_more left new made number kept more before counts after old mid now tables next so_far lines counted keeps = record {
     entries = so_far.entries ++ made;
     first = first_more plan of one left new so_far.entries made tables next so_far.first;
     many = omega (arith, so_far.many, length-append so_far.entries made);
     counted = counted ∙ ap (λ (k : ℕ). counts_behind file k made counts) e ∙ ap (λ (c : Counts). counts_behind file (1 + length so_far.entries) made c) so_far.counted
         ∙ sym (counts_both file 1 so_far.entries made before);
     written = subst (λ (l : List ℕ). IsWritten g l old now) (lines_more plan of one so_far.entries made number so_far.many) (written_then so_far.written lines);
+    kept_are = kept_more (most_bases (choice_in plan)) number so_far.entries made kept more so_far.many so_far.kept_are keeps;
   }
     where
       file : File
@@ -124,30 +131,32 @@ module _ {S : Type 0} {g : Sink.Ghosts S} (plan : Plan) (of : Weighed) (one : Ha
       e = omega (arith, so_far.many)
 
   -- nothing came
-  pub so_far_all : (left new : ToJudge) (number : ℕ) (before after : Counts) (old now : S) → AreNext plan left [] new → SoFar g plan of left.goals number before after old now → HasEntries g plan of old now before after
-  so_far_all left new number before after old now next so_far = record {
+  pub so_far_all : (left new : ToJudge) (number : ℕ) (kept : PlainBases) (before after : Counts) (old now : S) → AreNext plan left [] new → SoFar g plan of left.goals number kept before after old now
+      → HasEntries g plan of old now before after kept
+  so_far_all left new number kept before after old now next so_far = record {
     entries = so_far.entries;
     all = first_all plan of one left.goals so_far.entries (next.some refl) so_far.first;
     counted = so_far.counted;
     written = so_far.written;
+    kept_are = so_far.kept_are;
   }
 
   -- so that numbers don't end
-  pub so_far_few : (left new : ToJudge) (made : List GoalEntry) (number : ℕ) (before after : Counts) (old now : S) → left.tables ≡ of → IsGrammar of.grammar → AreNext plan left made new
-      → SoFar g plan of left.goals number before after old now → number + length made ≤ 10000000000
-  so_far_few left new made number before after old now tables is next so_far =
+  pub so_far_few : (left new : ToJudge) (made : List GoalEntry) (number : ℕ) (kept : PlainBases) (before after : Counts) (old now : S) → left.tables ≡ of → IsGrammar of.grammar → AreNext plan left made new
+      → SoFar g plan of left.goals number kept before after old now → number + length made ≤ 10000000000
+  so_far_few left new made number kept before after old now tables is next so_far =
       omega (arith, first_few plan of one new.goals (so_far.entries ++ made) is (first_more plan of one left new so_far.entries made tables next so_far.first), so_far.many, length-append so_far.entries made)
 
   -- memory ran out behind the first entries
-  pub memory_behind : (left : List Goal) (number : ℕ) (before after : Counts) (old now : S) → SoFar g plan of left number before after old now → HasSomeEntries g plan of old now Memory
-  memory_behind left number before after old now so_far others are =
+  pub memory_behind : (left : List Goal) (number : ℕ) (kept : PlainBases) (before after : Counts) (old now : S) → SoFar g plan of left number kept before after old now → HasSomeEntries g plan of old now Memory
+  memory_behind left number kept before after old now so_far others are =
       let found = lines_front plan of one left so_far.entries others so_far.first are in
       subst (λ (l : List ℕ). IsStopped g l old now Memory) (sym found.1) (stopped_by_memory so_far.written found.0)
 
   -- a write failed within the next batch
-  pub failed_within : (left new : ToJudge) (made : List GoalEntry) (number : ℕ) (before counts : Counts) (old mid now : S) → left.tables ≡ of → AreNext plan left made new
-      → SoFar g plan of left.goals number before counts old mid → IsCutShort g (lines_from plan.yacc.now (number + 1) made) mid now → HasSomeEntries g plan of old now Failed
-  failed_within left new made number before counts old mid now tables next so_far cut others are =
+  pub failed_within : (left new : ToJudge) (made : List GoalEntry) (number : ℕ) (kept : PlainBases) (before counts : Counts) (old mid now : S) → left.tables ≡ of → AreNext plan left made new
+      → SoFar g plan of left.goals number kept before counts old mid → IsCutShort g (lines_from plan.yacc.now (number + 1) made) mid now → HasSomeEntries g plan of old now Failed
+  failed_within left new made number kept before counts old mid now tables next so_far cut others are =
       let first = first_more plan of one left new so_far.entries made tables next so_far.first in
       let found = lines_front plan of one new.goals (so_far.entries ++ made) others first are in
       let lines = subst (λ (l : List ℕ). IsCutShort g l old now) (lines_more plan of one so_far.entries made number so_far.many) (written_cut so_far.written cut) in

@@ -1,17 +1,18 @@
 -- What was written of a manifest. Working words of proofs.
 use Rattle.std.specs.Prelude.{◌≡◌, ◌≤◌, ℕ, ◌+◌, List, [], ◌∷◌}
+use Rattle.cs_bases.specs.Bases.{PlainBases, bases_of}
 use Rattle.cs_grammar.specs.Weights.{Weighed}
 use Rattle.cs_goals.specs.Goals.{goals}
 use Rattle.cs_io.specs.Faults.{Rose}
 use Rattle.cs_io.specs.declared.sink.Sink as Sink
 use Rattle.cs_manifest.specs.declared.counts.Counts.{Counts}
 use Rattle.cs_manifest.specs.Counts.{with_lines, with_verdict}
-use Rattle.cs_manifest.specs.Manifest.{EntriesOf, GoalEntry, goal_entry_lines}
+use Rattle.cs_manifest.specs.Manifest.{EntriesOf, GoalEntry, goal_entry_lines, most_bases}
 use Rattle.cs_manifest.specs.Sinks.{IsCalm, IsWritten, TookPart}
 use Rattle.cs_manifest.specs.Words.{numbered_from}
 use Rattle.cs_yacc.specs.File.{File}
 use Rattle.cs_plan.specs.declared.plan.Plan.{Plan}
-use Rattle.cs_plan.specs.Plans.{lexemes_in, texts_in}
+use Rattle.cs_plan.specs.Plans.{choice_in, lexemes_in, texts_in}
 use Rattle.cs_writing.specs.declared.halt.Halt.{Halt}
 use Rattle.cs_writing.specs.declared.halt.Halt.TheVariants.{Failed}
 
@@ -39,12 +40,13 @@ module _ {S : Type 0} (g : Sink.Ghosts S) where
     pub lent : g.lent new ≡ g.lent old
     pub passed : g.passed old ≤ g.passed new
 
-  -- the lines of all entries were written, and counted
-  pub record HasEntries (plan : Plan) (of : Weighed) (old new : S) (before after : Counts) : Type 0 where
+  -- the lines of all entries were written, and counted, and these are their bases
+  pub record HasEntries (plan : Plan) (of : Weighed) (old new : S) (before after : Counts) (kept : PlainBases) : Type 0 where
     pub entries : List GoalEntry
     pub all : AreEntriesIn plan of entries
     pub counted : after ≡ counts_behind plan.yacc.now 1 entries before
     pub written : IsWritten g (lines_from plan.yacc.now 1 entries) old new
+    pub kept_are : kept ≡ bases_of (most_bases (choice_in plan)) entries
 
   -- whichever the entries are, the writing of their lines stopped so
   abbrev pub HasSomeEntries : Plan → Weighed → S → S → Halt → Type 0

@@ -1,14 +1,17 @@
 //! The manifest of a plan, written to an output as its entries are made.
 //!
 //! The layer above makes a plan and the positives of its goals, and gives both to [`write_out`]. Ok
-//! means that the output took the whole manifest; a [`Halt`] that it took a prefix of it. No operator
-//! is chosen yet, so there are no bases.
+//! means that the output took the whole manifest; a [`Halt`] that it took a prefix of it. The entries
+//! of goals come first, and their bases are kept; then each base with its negatives.
 //!
-//! Meaning: `specs/Writing` (what a writer does to its output). Working words of proofs: `Written`.
+//! Meaning: `specs/Writing` (what a writer does to its output). Working words of proofs: `Written`
+//! (entries of goals), `Mutants` (bases and negatives).
 #![tactic(auto)]
 
+mod bases;
 mod halt;
 mod laws;
+mod mutants;
 mod writing;
 
 pub use halt::Halt;

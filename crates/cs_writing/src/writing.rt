@@ -11,8 +11,11 @@ ghost use Rattle.cs_plan.specs.Made.{IsNamedGoalEntry};
 ghost use Rattle.cs_writing.specs.Writing.{CountsOfAll, GrewByOne, GrewByPart, HasRoomForAll, Stopped};
 ghost use Rattle.cs_writing.specs.Written.{HasEntries, HasSomeEntries, HasSomeText, HasText, counts_behind, lines_from};
 
+use crate::bases::keep_bases;
 use crate::halt::Halt;
 use crate::laws::one_text;
+use crate::mutants::write_bases;
+use cs_bases::Bases;
 use cs_fan::Gate;
 use cs_io::{BufferedSink, Sink, SinkError};
 use cs_manifest::{Counts, Manifest};
@@ -104,11 +107,12 @@ fn write_manifest<R: Threads + Sync, S: Sink, G: Gate + Sync>(
 {
     one_text();
     let mut manifest = Manifest::begin(sink, &plan.head())?;
-    write_entries(rt, alloc, plan, &mut positives, &mut manifest, sink, gate)?;
+    let bases = write_entries(rt, alloc, plan, &mut positives, &mut manifest, sink, gate)?;
+    write_bases(rt, alloc, plan, &bases, &mut manifest, sink, gate)?;
     Ok(manifest.finish(sink)?)
 }
 
-// Writes the entries of all goals, numbered from 1.
+// Writes the entries of all goals, numbered from 1, and answers their bases.
 fn write_entries<R: Threads + Sync, S: Sink, G: Gate + Sync>(
     rt: &R,
     alloc: Global,
@@ -117,24 +121,27 @@ fn write_entries<R: Threads + Sync, S: Sink, G: Gate + Sync>(
     manifest: &mut Manifest<'_>,
     sink: &mut S,
     gate: &G,
-) -> Result<(), Halt>
+) -> Result<Bases, Halt>
     requires plan { IsPlan plan.now }
     requires grammar { IsOfPlan plan.now positives.old }
     requires all { positives.old.goals ≡ goals positives.old.tables.grammar plan.now.criteria }
     requires file { manifest.old.file ≡ plan.now.yacc.now }
-    ensures ok { OnOk result (HasEntries S.Sink plan.now positives.old.tables
+    ensures file { OnOk result (manifest.new.file ≡ plan.now.yacc.now) }
+    ensures ok { IfOk result (HasEntries S.Sink plan.now positives.old.tables
         sink.old sink.new manifest.old.counts manifest.new.counts) }
     ensures lent { S.lent sink.new ≡ S.lent sink.old }
     ensures stopped { IfErr result
         (HasSomeEntries S.Sink plan.now positives.old.tables sink.old sink.new) }
 {
     one_text();
+    let mut bases = Bases::new(alloc, plan.most_bases());
     let mut number = 0u64;
     'batches: loop {
         let batch = next_entries(rt, alloc, plan, positives, gate)?;
         if batch.is_empty() {
-            return Ok(());
+            return Ok(bases);
         }
+        keep_bases(&mut bases, number, &batch)?;
         write_batch(manifest, sink, &mut number, &batch)?;
     }
 }

@@ -3,6 +3,7 @@ use Rattle.std.proofs.lemmas.Bool.{cases_lt}
 use Rattle.std.proofs.lemmas.Result.{err_from_is_err_and}
 use Rattle.cs_manifest.specs.Entry.{lines_of}
 use Rattle.cs_manifest.specs.Counts.{with_lines, with_verdict}
+use Rattle.cs_manifest.specs.Manifest.{goal_entry_lines}
 use Rattle.cs_manifest.specs.Progress.{Progress}
 use Rattle.cs_manifest.specs.Sinks.{IsCutShort, IsWritten}
 use Rattle.cs_manifest.specs.declared.counts.Counts.{Counts}
@@ -24,7 +25,7 @@ returns-in_err-entry-clause-stopped g c =
     let first = c.args.number.now + 1 in
     let i = c.loop-made.made-index in
     let lines = lines_of c.loop-made.manifest.file c.entry.result in
-    let is = lines_are file c.loop-made.manifest.file first i (c.loop-made.number + 1) c.made-item.result lines c.loop-made.invariant.file
+    let is = lines_are goal_entry_lines file c.loop-made.manifest.file first i (c.loop-made.number + 1) c.made-item.result lines c.loop-made.invariant.file
     (omega (arith, c.loop-made.invariant.number)) (c.entry.ensures.lines c.loop-made.manifest.file) in
     let cut : IsCutShort g.S.Sink lines c.loop-made.sink c.entry-in-loop-made.new.sink = record {
       written = e.err;
@@ -34,7 +35,7 @@ returns-in_err-entry-clause-stopped g c =
       lent = e.same_lent;
       passed = e.passed_never_falls;
     } in
-    let whole = cut_within file first c.args.batch.now i c.made-item.result c.loop-made-test.true c.made-item.is c.args.sink.now c.loop-made.sink c.entry-in-loop-made.new.sink
+    let whole = cut_within (goal_entry_lines file) first c.args.batch.now i c.made-item.result c.loop-made-test.true c.made-item.is c.args.sink.now c.loop-made.sink c.entry-in-loop-made.new.sink
     c.loop-made.invariant.written (subst (λ (l : List ℕ). IsCutShort g.S.Sink l c.loop-made.sink c.entry-in-loop-made.new.sink) is cut) in
     let p = err_from_is_err_and c.from_residual.result c.from_residual.ensures.1 in
     rw p.1 whole
@@ -47,7 +48,7 @@ loop-made-preserved g c =
     let i = c.loop-made.made-index in
     let counts = c.loop-made.manifest.counts in
     let lines = lines_of c.loop-made.manifest.file c.entry.result in
-    let is = lines_are file c.loop-made.manifest.file first i (c.loop-made.number + 1) c.made-item.result lines c.loop-made.invariant.file
+    let is = lines_are goal_entry_lines file c.loop-made.manifest.file first i (c.loop-made.number + 1) c.made-item.result lines c.loop-made.invariant.file
     (omega (arith, c.loop-made.invariant.number)) (c.entry.ensures.lines c.loop-made.manifest.file) in
     let written : IsWritten g.S.Sink lines c.loop-made.sink c.entry-in-loop-made.new.sink = record {
       written = e.ok;
@@ -63,6 +64,6 @@ loop-made-preserved g c =
       counted = ap (λ (p : Progress). p.counts) e.value ∙ ap (λ (k : Counts). with_lines k lines) (c.entry.ensures.counts counts)
           ∙ ap (λ (l : List ℕ). with_lines (with_verdict counts c.made-item.result.verdict) l) is
           ∙ counted_more file first c.args.batch.now i c.made-item.result c.loop-made-test.true c.made-item.is c.args.manifest.now.counts counts c.loop-made.invariant.counted;
-      written = written_more file first c.args.batch.now i c.made-item.result c.loop-made-test.true c.made-item.is c.args.sink.now c.loop-made.sink c.entry-in-loop-made.new.sink
+      written = written_more (goal_entry_lines file) first c.args.batch.now i c.made-item.result c.loop-made-test.true c.made-item.is c.args.sink.now c.loop-made.sink c.entry-in-loop-made.new.sink
           c.loop-made.invariant.written (subst (λ (l : List ℕ). IsWritten g.S.Sink l c.loop-made.sink c.entry-in-loop-made.new.sink) is written);
     }

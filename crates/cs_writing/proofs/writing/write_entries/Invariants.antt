@@ -6,7 +6,7 @@ abbrev pub invariant-batches : goal.invariant-batches
 invariant-batches g l = record {
   tables : l.positives.tables ≡ l.fn.positives.tables;
   file : l.manifest.file ≡ l.plan.yacc.now;
-  so_far : SoFar g.S.Sink l.plan l.fn.positives.tables l.positives.goals l.number l.fn.manifest.counts l.manifest.counts l.fn.sink l.sink;
+  so_far : SoFar g.S.Sink l.plan l.fn.positives.tables l.positives.goals l.number l.bases l.fn.manifest.counts l.manifest.counts l.fn.sink l.sink;
 }
 
 abbrev pub decreases-batches : goal.decreases-batches

@@ -1,0 +1,36 @@
+// The bases of the entries of goals.
+
+ghost use Rattle.std.specs.Prelude.{◌+◌, ◌≤◌, [], ◌∷◌, OnOk, length};
+ghost use Rattle.cs_io.specs.Faults.{greatest};
+ghost use Rattle.cs_writing.specs.Mutants.{Keeps};
+
+use cs_bases::Bases;
+use cs_plan::Made;
+use std::alloc::AllocError;
+
+/// Keeps what are bases of these entries. `number` is that of the last entry before them.
+pub fn keep_bases(bases: &mut Bases, number: u64, batch: &[Made]) -> Result<(), AllocError>
+    requires { number + length batch.now ≤ greatest }
+    ensures { OnOk result (Keeps number batch.now bases.old bases.new) }
+{
+    let mut before = number;
+    for made in batch {
+        keep_base(bases, before, made)?;
+        before += 1;
+    }
+    Ok(())
+}
+
+// Keeps the tokens of an entry behind so many, where they are a base.
+fn keep_base(bases: &mut Bases, before: u64, made: &Made) -> Result<(), AllocError>
+    requires { before + 1 ≤ greatest }
+    ensures { OnOk result (Keeps before (made.now ∷ []) bases.old bases.new) }
+{
+    match made.sentence() {
+        None => Ok(()),
+        Some(tokens) => {
+            bases.offer(before + 1, tokens)?;
+            Ok(())
+        }
+    }
+}

@@ -1,0 +1,156 @@
+// The bases and their negatives, line by line.
+
+ghost use Rattle.std.specs.Prelude.{◌≡◌, ◌+◌, ◌≤◌, All, IfErr, IfOk, OnErr, OnOk, length};
+ghost use Rattle.cs_grammar.specs.Grammar.{IsNumberOf};
+ghost use Rattle.cs_io.specs.Faults.{greatest};
+ghost use Rattle.cs_manifest.specs.Manifest.{most_bases};
+ghost use Rattle.cs_manifest.specs.Sinks.{IsCutShort, IsWritten};
+ghost use Rattle.cs_mutants.specs.Batches.{CanRender};
+ghost use Rattle.cs_mutants.specs.Mutants.{IsEditOf, IsNamedMutant};
+ghost use Rattle.cs_plan.specs.Plans.{IsPlan, choice_in};
+ghost use Rattle.cs_writing.specs.Mutants.{HasBases, HasNegatives, HasSomeBases, HasSomeNegatives};
+ghost use Rattle.cs_writing.specs.Mutants.{IsCounted, IsEditable, mutants_from};
+
+use crate::halt::Halt;
+use crate::laws::one_text;
+use cs_bases::Bases;
+use cs_fan::Gate;
+use cs_io::{Sink, SinkError};
+use cs_manifest::{Entry, Manifest};
+use cs_mutants::{MadeNegative, next_negatives};
+use cs_mutate::Negatives;
+use cs_plan::Plan;
+use cs_render_work::RenderWork;
+use std::alloc::Global;
+use std::thread::Threads;
+
+// A base with its number.
+#[derive(Clone, Copy)]
+pub struct Base<'a> {
+    pub number: u32,
+    pub tokens: &'a [u16],
+}
+
+/// Writes the bases, numbered from 1, and behind each its negatives, numbered from 1 through all
+/// bases. Where nothing is mutated there are no bases.
+pub fn write_bases<R: Threads + Sync, S: Sink, G: Gate + Sync>(
+    rt: &R,
+    alloc: Global,
+    plan: &Plan<'_>,
+    bases: &Bases,
+    manifest: &mut Manifest<'_>,
+    sink: &mut S,
+    gate: &G,
+) -> Result<(), Halt>
+    requires plan { IsPlan plan.now }
+    requires bases { All (IsEditable plan.now.yacc.now.grammar.tokens) bases.now.list }
+    requires few { length bases.now.list ≤ most_bases (choice_in plan.now) }
+    requires file { manifest.old.file ≡ plan.now.yacc.now }
+    requires fresh { manifest.old.counts.negatives ≡ 0 }
+    ensures lent { S.lent sink.new ≡ S.lent sink.old }
+    ensures ok { OnOk result (HasBases S.Sink plan.now bases.now.list
+        sink.old sink.new manifest.old.counts manifest.new.counts) }
+    ensures stopped { IfErr result
+        (HasSomeBases S.Sink plan.now bases.now.list sink.old sink.new) }
+{
+    one_text();
+    let Some(mutation) = plan.mutation else {
+        return Ok(());
+    };
+    let work = plan.texts.unwrap();
+    let mut number = 0u64;
+    for index in 0..bases.len() {
+        let (goal, tokens) = bases.get(index);
+        let base = Base {
+            number: index + 1,
+            tokens,
+        };
+        let line = Entry::Base {
+            number: base.number,
+            goal,
+        };
+        manifest.entry(sink, &line)?;
+        let negatives = Negatives::new(alloc, mutation.pairs, tokens, mutation.operators);
+        write_negatives(
+            rt,
+            alloc,
+            work,
+            negatives,
+            &base,
+            &mut number,
+            manifest,
+            sink,
+            gate,
+        )?;
+    }
+    Ok(())
+}
+
+// Writes the negatives that a search gives of a base. `number` is the number of the last negative,
+// before and then.
+fn write_negatives<R: Threads + Sync, S: Sink, G: Gate + Sync>(
+    rt: &R,
+    alloc: Global,
+    work: &RenderWork<'_>,
+    mut negatives: Negatives<'_>,
+    base: &Base<'_>,
+    number: &mut u64,
+    manifest: &mut Manifest<'_>,
+    sink: &mut S,
+    gate: &G,
+) -> Result<(), Halt>
+    requires work { CanRender work.now negatives.grammar.tokens }
+    requires base { negatives.base ≡ base.now.tokens.now }
+    requires short { length base.now.tokens.now ≤ 1000000 }
+    requires tokens { All (IsNumberOf negatives.grammar.tokens) base.now.tokens.now }
+    requires names { length manifest.old.file.token_names ≡ negatives.grammar.tokens }
+    requires number { number.old ≡ manifest.old.counts.negatives }
+    requires few { number.old + length negatives.edits ≤ greatest }
+    ensures file { manifest.new.file ≡ manifest.old.file }
+    ensures lent { S.lent sink.new ≡ S.lent sink.old }
+    ensures number { OnOk result (number.new ≡ manifest.new.counts.negatives) }
+    ensures ok { OnOk result (HasNegatives S.Sink manifest.old.file base.now.number work.now
+        negatives.entry sink.old sink.new manifest.old.counts manifest.new.counts) }
+    ensures stopped { IfErr result (HasSomeNegatives S.Sink manifest.old.file base.now.number work.now
+        negatives.entry manifest.old.counts.negatives sink.old sink.new) }
+{
+    one_text();
+    'batches: loop {
+        let batch = next_negatives(rt, alloc, work, base.tokens, &mut negatives, gate)?;
+        if batch.is_empty() {
+            return Ok(());
+        }
+        write_mutants(manifest, sink, number, base, &batch)?;
+    }
+}
+
+// Writes these negatives of a base. `number` is the number of the last negative, before and then.
+fn write_mutants<S: Sink>(
+    manifest: &mut Manifest<'_>,
+    sink: &mut S,
+    number: &mut u64,
+    base: &Base<'_>,
+    batch: &[MadeNegative],
+) -> Result<(), SinkError>
+    requires named { All (IsNamedMutant manifest.old.file) batch.now }
+    requires edits { All (IsEditOf base.now.tokens.now) batch.now }
+    requires number { number.old ≡ manifest.old.counts.negatives }
+    requires few { number.old + length batch.now ≤ greatest }
+    ensures file { manifest.new.file ≡ manifest.old.file }
+    ensures number { OnOk result (number.new ≡ manifest.new.counts.negatives) }
+    ensures counted { OnOk result (IsCounted (length batch.now)
+        (mutants_from manifest.old.file base.now.number base.now.tokens.now number.old batch.now)
+        manifest.old.counts manifest.new.counts) }
+    ensures ok { OnOk result (IsWritten S.Sink
+        (mutants_from manifest.old.file base.now.number base.now.tokens.now number.old batch.now)
+        sink.old sink.new) }
+    ensures stopped { OnErr result (IsCutShort S.Sink
+        (mutants_from manifest.old.file base.now.number base.now.tokens.now number.old batch.now)
+        sink.old sink.new) }
+{
+    for made in batch {
+        *number += 1;
+        manifest.entry(sink, &made.entry(*number, base.number))?;
+    }
+    Ok(())
+}
