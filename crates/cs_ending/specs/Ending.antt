@@ -1,5 +1,5 @@
 -- How a run ends: its cause, and what the output holds then; the status and the line on the error output.
-use Rattle.std.specs.Prelude.{◌≡◌, ◌⊎◌, ℕ, List, [], ◌++◌, Result, Err, IsOkAnd, IsTrue, codes, decimal}
+use Rattle.std.specs.Prelude.{◌≡◌, ◌⊎◌, ℕ, List, [], ◌++◌, Result, Err, IsOkAnd, IsSome, IsTrue, codes, decimal}
 use Rattle.std.specs.Io.KnownBytes.{append_known}
 use Rattle.cs_io.specs.Sink.{GrewByPrefix}
 use Rattle.cs_io.specs.Uses.{DeskUse, SinkUse, HasFailed, IsUnused}
@@ -18,10 +18,10 @@ abbrev pub WroteText : Result Request ℕ → DeskUse → SinkUse → Type 0
 WroteText asked desk out =
     (text : List ℕ) × IsAskedText asked desk.files text × (out.written.after ≡ append_known out.written.before text)
 
--- whatever text is asked for, the output grew by a prefix of it
+-- where the desk tells its files: whatever text is asked for, the output grew by a prefix of it
 abbrev pub WrotePart : Result Request ℕ → DeskUse → SinkUse → Type 0
 WrotePart asked desk out =
-    (text : List ℕ) → IsAskedText asked desk.files text → GrewByPrefix out.written.before out.written.after text
+    IsSome desk.files → (text : List ℕ) → IsAskedText asked desk.files text → GrewByPrefix out.written.before out.written.after text
 
 -- the same, of files that are accepted
 abbrev pub WrotePartOfAccepted : Result Request ℕ → DeskUse → SinkUse → Type 0

@@ -1,8 +1,2 @@
-pub mod Lines
-pub mod Verdicts
-pub mod Entries
-pub mod Files
-pub mod Endings
-pub mod OneManifest
-pub mod Promises
-pub mod SomeManifest
+mod Asked
+mod Performing

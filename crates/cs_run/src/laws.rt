@@ -1,20 +1,18 @@
-// Laws of manifests: each accepted file has exactly one.
+// The law of manifests: by each choice accepted files have one.
 
-ghost use Rattle.std.specs.Prelude.{ℕ, List};
 ghost use Rattle.cs_grammar.specs.Laws.{AtMostOne};
 ghost use Rattle.cs_grammar.specs.Weights.{Measure};
+ghost use Rattle.cs_manifest.specs.Manifest.{Choice, IsManifest};
 ghost use Rattle.cs_yacc.specs.File.{File};
-ghost use Rattle.cs_run.specs.Files.{IsAccepted, IsTextOf};
-ghost use Rattle.cs_run.specs.Manifest.{IsManifest, IsNotWithout};
 
-/// A file has at most one manifest, so where `run` speaks of some text, it is the only one.
-pub fn one_manifest()
-    ensures of_file { (w : Measure) (file : File) → AtMostOne (IsManifest w file) }
-    ensures of_bytes { (bytes : List ℕ) → AtMostOne (IsTextOf bytes) }
-{}
+use cs_manifest::one_manifest;
+use cs_writing::one_text;
 
-/// No accepted file is without a manifest, so what `run` says of each text that is one isn't said of nothing.
-pub fn some_manifest()
-    ensures of_file { (w : Measure) (file : File) → IsNotWithout (IsManifest w file) }
-    ensures of_bytes { (bytes : List ℕ) → IsAccepted bytes → IsNotWithout (IsTextOf bytes) }
-{}
+/// By each choice a file has at most one manifest: so where `run` speaks of a text, it is the only one.
+pub fn one_manifest_by_choice()
+    ensures { (w : Measure) (choice : Choice) (file : File)
+        → AtMostOne (IsManifest w choice file) }
+{
+    one_text();
+    one_manifest();
+}

@@ -1,0 +1,153 @@
+-- How a run ends that writes what was asked for, from what its calls did.
+use Rattle.std.proofs.Common.{◌≡◌, ◌⊎◌, ℕ, ◌≤◌, List, length, Bool, IsTrue, Option, Result, Ok, Err, refl, sym, ap, subst, inl, inr}
+use Rattle.std.specs.Io.KnownBytes.{append_known}
+use Rattle.cs_io.specs.Desk.{Files}
+use Rattle.cs_io.specs.Sink.{GrewByPrefix}
+use Rattle.cs_io.specs.Uses.{DeskUse, SinkUse, HasFailed, IsUnused}
+use Rattle.cs_input.specs.declared.judging.Pair.{Pair}
+use Rattle.cs_input.specs.declared.refusal.Refusal.{Refusal}
+use Rattle.cs_input.specs.declared.refusal.Refusal.TheVariants.{States}
+use Rattle.cs_input.specs.declared.refusal.Role.{Role}
+use Rattle.cs_input.specs.declared.refusal.Stop.{Stop}
+use Rattle.cs_input.specs.declared.refusal.Stop.TheVariants as stop
+use Rattle.cs_input.specs.Files.{FileIs, FilesAre, IsGrammarOf, IsNoFile, IsPairOf}
+use Rattle.cs_input.specs.Refusal.{HasManyStates, StopsGrammar, StopsPair}
+use Rattle.cs_manifest.specs.Manifest.{rules_form}
+use Rattle.cs_yacc.specs.File.{File, IsFile}
+use Rattle.cs_lex.specs.File as lex
+use Rattle.cs_words.specs.declared.options.Options.{Options}
+use Rattle.cs_ending.specs.declared.ending.Ending.{Ending}
+use Rattle.cs_ending.specs.declared.ending.Ending.TheVariants.{Written, Refused, NoFile, NotWritten, NoMemory}
+use Rattle.cs_ending.specs.Ending.{Ends, Performs, WrotePart}
+use Rattle.cs_ending.specs.Files.{HasRoomFor, IsAcceptedPair, IsAskedText, IsRulesText, IsSuiteText, IsTextBy, choice_of}
+use Rattle.cs_ending.specs.Requests.{Request, ForRules, ForSuite}
+use Rattle.cs_ending.proofs.Apart.{file_more, files_more}
+use Rattle.cs_writing.specs.Writing.{GrewByOne, GrewByPart, HasRoomForAll}
+use Rattle.cs_run.specs.Words.{ending_of}
+use Rattle.cs_run.proofs.Asked.{rules_texts, suite_texts}
+
+-- a read of the desk failed
+abbrev Changed : DeskUse → Type 0
+Changed desk = ¬ (desk.faults.after ≡ desk.faults.before)
+
+abbrev IsSteady : DeskUse → Type 0
+IsSteady desk = IsTrue desk.steady → desk.faults.after ≡ desk.faults.before
+
+-- where an answer was given, no read failed
+no_failure : (A : Type 0) (value : A) (desk : DeskUse) → (Changed desk → IsNoFile {A = A} (Ok value)) → (ending : Ending) → Changed desk → (role : Role) × (ending ≡ NoFile role)
+no_failure A value desk calm ending changed = absurd (let is = (calm changed).1 in cc)
+
+-- where none was given since a read failed, the run ends so
+failure : (A : Type 0) (why : Stop) (desk : DeskUse) → (Changed desk → IsNoFile {A = A} (Err why)) → Changed desk → (role : Role) × (ending_of why ≡ NoFile role)
+failure A why desk failed changed =
+    let found = failed changed in
+    let is : Err why ≡ Err (stop.NoFile found.0) = found.1 in
+    let same : why ≡ stop.NoFile found.0 = cc in
+    (found.0, ap ending_of same)
+
+-- ---- files that aren't given
+
+rules_ends : (why : Stop) (name : List ℕ) (desk : DeskUse) (out : SinkUse) → StopsGrammar desk.files name desk.faults why → IsUnused out → Ends (ending_of why) (Ok (ForRules name)) desk out
+rules_ends (stop.NoFile role) name desk out stops unused = (stops, unused)
+rules_ends (stop.Refused refusal) name desk out stops unused = (stops, unused)
+rules_ends stop.Memory name desk out stops unused = inl unused
+
+pub rules_stopped : (A : Type 0) (ending : Ending) (why : Stop) (name : List ℕ) (desk : DeskUse) (out : SinkUse) → ending ≡ ending_of why → StopsGrammar desk.files name desk.faults why → (Changed desk → IsNoFile {A = A} (Err why)) → IsSteady desk → IsUnused out → out.faults.after ≡ out.faults.before → Performs ending (Ok (ForRules name)) desk out
+rules_stopped A ending why name desk out same stops failed steady unused calm =
+    subst (λ (e : Ending). Performs e (Ok (ForRules name)) desk out) (sym same)
+    (record { ends = rules_ends why name desk out stops unused; failed = failure A why desk failed; steady = steady; room = λ fits. calm })
+
+suite_ends : (why : Stop) (name other : List ℕ) (options : Options) (desk : DeskUse) (out : SinkUse) → StopsPair desk.files name other desk.faults why → IsUnused out → Ends (ending_of why) (Ok (ForSuite name other options)) desk out
+suite_ends (stop.NoFile role) name other options desk out stops unused = (stops, unused)
+suite_ends (stop.Refused refusal) name other options desk out stops unused = (stops, unused)
+suite_ends stop.Memory name other options desk out stops unused = inl unused
+
+pub suite_stopped : (A : Type 0) (ending : Ending) (why : Stop) (name other : List ℕ) (options : Options) (desk : DeskUse) (out : SinkUse) → ending ≡ ending_of why → StopsPair desk.files name other desk.faults why → (Changed desk → IsNoFile {A = A} (Err why)) → IsSteady desk → IsUnused out → out.faults.after ≡ out.faults.before → Performs ending (Ok (ForSuite name other options)) desk out
+suite_stopped A ending why name other options desk out same stops failed steady unused calm =
+    subst (λ (e : Ending). Performs e (Ok (ForSuite name other options)) desk out) (sym same)
+    (record { ends = suite_ends why name other options desk out stops unused; failed = failure A why desk failed; steady = steady; room = λ fits. calm })
+
+-- ---- files that are given
+
+module _ (A : Type 0) (value : A) (file : File) (name : List ℕ) (desk : DeskUse) (out : SinkUse) (read : FileIs desk.files name (IsGrammarOf file))
+    (calm : Changed desk → IsNoFile {A = A} (Ok value)) (steady : IsSteady desk)
+    (room : HasRoomForAll (IsTextBy rules_form file) out.room → out.faults.after ≡ out.faults.before) where
+  asked_rules : (text : List ℕ) → IsTextBy rules_form file text → IsAskedText (Ok (ForRules name)) desk.files text
+  unfolding IsRulesText
+  asked_rules text is = file_more desk.files name read (λ bytes of. (file, of, is))
+
+  rules_part : GrewByPart (IsTextBy rules_form file) out.written.before out.written.after → WrotePart (Ok (ForRules name)) desk out
+  rules_part part some text asked = part text (rules_texts desk.files name file read some text asked)
+
+  rules_room : HasRoomFor out.room (Ok (ForRules name)) desk.files → out.faults.after ≡ out.faults.before
+  rules_room fits = room (λ text is. fits text (asked_rules text is))
+
+  rules_ended : (ending : Ending) → Ends ending (Ok (ForRules name)) desk out → Performs ending (Ok (ForRules name)) desk out
+  rules_ended ending ends = record { ends = ends; failed = no_failure A value desk calm ending; steady = steady; room = rules_room }
+
+  pub rules_written : GrewByOne (IsTextBy rules_form file) out.written.before out.written.after → Performs Written (Ok (ForRules name)) desk out
+  rules_written grew = rules_ended Written (grew.0, asked_rules grew.0 grew.1, grew.2)
+
+  pub rules_failed : GrewByPart (IsTextBy rules_form file) out.written.before out.written.after → HasFailed out.faults → Performs NotWritten (Ok (ForRules name)) desk out
+  rules_failed part rose = rules_ended NotWritten ((file_more desk.files name read (λ bytes of. (file, of)), rules_part part), rose)
+
+  pub rules_memory : GrewByPart (IsTextBy rules_form file) out.written.before out.written.after → Performs NoMemory (Ok (ForRules name)) desk out
+  rules_memory part = rules_ended NoMemory (inr (file_more desk.files name read (λ bytes of. (file, of)), rules_part part))
+
+module _ (A : Type 0) (value : A) (pair : Pair) (name other : List ℕ) (options : Options) (desk : DeskUse) (out : SinkUse)
+    (read : FilesAre desk.files name other (IsPairOf pair.yacc pair.lex))
+    (calm : Changed desk → IsNoFile {A = A} (Ok value)) (steady : IsSteady desk) where
+  few_accepted : (¬ HasManyStates pair.lex) → FilesAre desk.files name other IsAcceptedPair
+  few_accepted few = files_more desk.files name other read (λ bytes more of. (pair.yacc, pair.lex, of, few))
+
+  asked_suite : (¬ HasManyStates pair.lex) → (text : List ℕ) → IsTextBy (choice_of pair.lex options) pair.yacc text
+      → IsAskedText (Ok (ForSuite name other options)) desk.files text
+  unfolding IsSuiteText
+  asked_suite few text is = files_more desk.files name other read (λ bytes more of. (pair.yacc, pair.lex, of, few, is))
+
+  suite_ended : (ending : Ending) → Ends ending (Ok (ForSuite name other options)) desk out
+      → (HasRoomFor out.room (Ok (ForSuite name other options)) desk.files → out.faults.after ≡ out.faults.before)
+      → Performs ending (Ok (ForSuite name other options)) desk out
+  suite_ended ending ends room = record { ends = ends; failed = no_failure A value desk calm ending; steady = steady; room = room }
+
+  pub suite_states : HasManyStates pair.lex → IsFile pair.yacc → IsUnused out → out.faults.after ≡ out.faults.before
+      → Performs (Refused States) (Ok (ForSuite name other options)) desk out
+  suite_states many named unused same =
+      suite_ended (Refused States)
+      (files_more desk.files name other read (λ bytes more of. (pair.yacc, pair.lex, of, named, many)), unused) (λ fits. same)
+
+  pub suite_no_memory : IsUnused out → out.faults.after ≡ out.faults.before
+      → Performs NoMemory (Ok (ForSuite name other options)) desk out
+  suite_no_memory unused same = suite_ended NoMemory (inl unused) (λ fits. same)
+
+  module _ (fits : IsFile pair.yacc) (few : ¬ HasManyStates pair.lex)
+      (room : HasRoomForAll (IsTextBy (choice_of pair.lex options) pair.yacc) out.room → out.faults.after ≡ out.faults.before) where
+    suite_part : GrewByPart (IsTextBy (choice_of pair.lex options) pair.yacc) out.written.before out.written.after → WrotePart (Ok (ForSuite name other options)) desk out
+    suite_part part some text asked = part text (suite_texts desk.files name other options pair.yacc pair.lex fits read some text asked)
+
+    suite_room : HasRoomFor out.room (Ok (ForSuite name other options)) desk.files → out.faults.after ≡ out.faults.before
+    suite_room holds = room (λ text is. holds text (asked_suite few text is))
+
+    pub suite_written : GrewByOne (IsTextBy (choice_of pair.lex options) pair.yacc) out.written.before out.written.after
+        → Performs Written (Ok (ForSuite name other options)) desk out
+    suite_written grew = suite_ended Written (grew.0, asked_suite few grew.0 grew.1, grew.2) suite_room
+
+    pub suite_failed : GrewByPart (IsTextBy (choice_of pair.lex options) pair.yacc) out.written.before out.written.after → HasFailed out.faults
+        → Performs NotWritten (Ok (ForSuite name other options)) desk out
+    suite_failed part rose = suite_ended NotWritten ((few_accepted few, suite_part part), rose) suite_room
+
+    pub suite_memory : GrewByPart (IsTextBy (choice_of pair.lex options) pair.yacc) out.written.before out.written.after
+        → Performs NoMemory (Ok (ForSuite name other options)) desk out
+    suite_memory part = suite_ended NoMemory (inr (few_accepted few, suite_part part)) suite_room
+
+  -- memory ran out before anything was written, or behind a part of it
+  pub suite_out_of_memory : IsFile pair.yacc → (HasRoomForAll (IsTextBy (choice_of pair.lex options) pair.yacc) out.room → out.faults.after ≡ out.faults.before)
+      → GrewByPart (IsTextBy (choice_of pair.lex options) pair.yacc) out.written.before out.written.after
+      → (IsUnused out × (out.faults.after ≡ out.faults.before)) ⊎ (¬ HasManyStates pair.lex) → Performs NoMemory (Ok (ForSuite name other options)) desk out
+  suite_out_of_memory named room part (inl same) = suite_no_memory same.0 same.1
+  suite_out_of_memory named room part (inr few) = suite_memory named few room part
+
+-- what is equal before and after a call is so by each meaning of a sink
+pub unused_or : {S : Type 0} {A : Type 0} (written : S → Option (List ℕ)) (faults : S → ℕ) (old new : S) → (new ≡ old) ⊎ A → ((written new ≡ written old) × (faults new ≡ faults old)) ⊎ A
+unused_or written faults old new (inl same) = inl (ap written same, ap faults same)
+unused_or written faults old new (inr other) = inr other
