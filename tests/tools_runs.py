@@ -159,7 +159,7 @@ FILES = {
 }
 LONG = "%token A\n%%\ns : " + "A " * 120 + "«\x1b[1m " + "A " * 120 + ";\n"
 BAD_NAME = b"\xff".decode(errors="surrogateescape")
-USAGE = "usage: conform rules YACC"
+USAGE = "usage: conform suite YACC LEX"
 
 # Words, the program's line, its status, and parts of what is said beside it, in order.
 OTHERS = [

@@ -20,6 +20,10 @@ FILES = {
     "empty.y": b"",
     "open.y": b"%token NUM\n%%\ne : e '+' t | t ; t : NUM { x",
     "long.y": b" " * 1048577,
+    "g1.l": b"%%\n[0-9]+ return NUM;\n[-+*/()] return yytext[0];\n[ \\t\\n]+ ;\n",
+    "trailing.l": b"%%\nab/cd return NUM;\n",
+    "states.y": b"%token NUM\n%%\ns : NUM ;\n",
+    "states.l": b"%%\n(a|b)*a(a|b){14} return NUM;\n",
 }
 CHOICE = b"""conform 1 rules
 token 1 'x'
@@ -107,7 +111,40 @@ end goals 11 feasible 11 infeasible 0 large 0 negatives 0
 """
 with open(os.path.join(TOP, "crates", "cs_cli", "stdout"), "rb") as stored:
     SUMS = stored.read()
+SUITE = b"""conform 1 suite
+token 1 NUM
+token 2 '+'
+token 3 '('
+token 4 ')'
+rule 1 e : e '+' t
+rule 2 e : t
+rule 3 t : NUM
+rule 4 t : '(' e ')'
+lexeme NUM "0"
+lexeme '+' "+"
+lexeme '(' "("
+lexeme ')' ")"
+goal 1 rule 1 size 7
+  derive 1 2 3 3
+  tokens NUM '+' NUM
+  text "0 + 0"
+goal 2 rule 2 size 3
+  derive 2 3
+  tokens NUM
+  text "0"
+goal 3 rule 3 size 3
+  derive 2 3
+  tokens NUM
+  text "0"
+goal 4 rule 4 size 7
+  derive 2 4 2 3
+  tokens '(' NUM ')'
+  text "( 0 )"
+end goals 4 feasible 4 infeasible 0 large 0 negatives 0
+"""
 EXAMPLES = os.path.join(TOP, "examples")
+G1 = [os.path.join(EXAMPLES, "g1.y"), os.path.join(EXAMPLES, "l1.l")]
+C_EXPRESSIONS = [os.path.join(EXAMPLES, "cexpr.y"), os.path.join(EXAMPLES, "cexpr.l")]
 
 # words, status, output, error output
 ROWS = [
@@ -127,6 +164,15 @@ ROWS = [
     (["rules", "missing.y"], 3, b"", b"conform: read fault: yacc\n"),
     (["rules", "."], 3, b"", b"conform: read fault: yacc\n"),
     ([b"rules", b"\xff"], 7, b"", b""),
+    (["suite", *G1, "--mutate=none", "--criteria=rule"], 0, SUITE, b""),
+    (["suite", "g1.y", "g1.l", "--criteria=rule", "--mutate=none"], 0, SUITE, b""),
+    (["suite", "g1.y", "trailing.l", "--mutate=none"], 1, b"", b"conform: lex: Pattern at 3: Trailing at 2\n"),
+    (["suite", "states.y", "states.l", "--mutate=none"], 1, b"", b"conform: lex: States above 16384\n"),
+    (["suite", "empty.y", "long.y", "--mutate=none"], 1, b"", b"conform: lex: Length above 1048576\n"),
+    (["suite", "empty.y", "missing.l", "--mutate=none"], 3, b"", b"conform: read fault: lex\n"),
+    (["suite", "g1.y", "g1.l"], 2, b"", b"conform: usage: word 3\n"),
+    (["suite", "g1.y", "g1.l", "--mutate=swap"], 2, b"", b"conform: usage: word 3\n"),
+    (["suite", "g1.y", "g1.l", "--bases=1", "--bases=1"], 2, b"", b"conform: usage: word 4\n"),
 ]
 
 
@@ -145,9 +191,27 @@ def failures(folder):
         status, _, said = run(["rules", "g1.y"], folder, stdout=full, stderr=subprocess.PIPE)
         if (status, said) != (4, b"conform: write fault\n"):
             yield f"a full output: status {status}, {said!r}"
+        suite = ["suite", *C_EXPRESSIONS, "--mutate=none"]
+        status, _, said = run(suite, folder, stdout=full, stderr=subprocess.PIPE)
+        if (status, said) != (4, b"conform: write fault\n"):
+            yield f"a suite into a full output: status {status}, {said!r}"
+        reader, writer = os.pipe()
+        os.close(reader)
+        status, _, said = run(suite, folder, stdout=writer, stderr=subprocess.PIPE)
+        os.close(writer)
+        if (status, said) != (4, b"conform: write fault\n"):
+            yield f"a suite into a closed pipe: status {status}, {said!r}"
         status, written, _ = run(["rules", "empty.y"], folder, stdout=subprocess.PIPE, stderr=full)
         if (status, written) != (1, b""):
             yield f"a full error output: status {status}, {written!r}"
+    status, written, _ = run(["suite", *C_EXPRESSIONS, "--mutate=none"], folder, **pipes)
+    goals = [line for line in written.split(b"\n") if line.startswith(b"goal ")]
+    texts = [line for line in written.split(b"\n") if line.startswith(b"  text ")]
+    feasible = [line for line in goals if b" size " in line]
+    if (status, len(goals), len(texts)) != (0, 2776, len(feasible)) or feasible[:375] != goals[:375]:
+        yield f"C expressions: status {status}, {len(goals)} goals, {len(feasible)} feasible, {len(texts)} texts"
+    if b'\ngoal 1 rule 1 size 18\n  derive 72 59 57 55 53 51 49 47 44 39 36 33 29 27 15 5 1\n' not in written:
+        yield "C expressions: the first goal"
 
 
 def main():

@@ -1,8 +1,11 @@
 """One sentence for each line that the program writes on its error output: what is meant, and what to do."""
 
-USAGE = """usage: conform rules YACC
-  writes the rule goals of a yacc file, each with a least derivation and the tokens that it yields;
-  YACC is the name of a file, not empty and not beginning with `-` (./-x.y will do for -x.y)
+USAGE = """usage: conform suite YACC LEX --mutate=none [--criteria=LIST] [--bases=NUMBER] [--separator=BYTES]
+  writes the goals of a yacc file, each with a least derivation, the tokens that it yields and, by the lex file, a text;
+  LIST is of rule, cdrc and pair, with commas between them; negatives aren't written yet, so --mutate=none has to be there
+       conform rules YACC
+  writes the rule goals of a yacc file alone, without texts;
+  YACC and LEX are names of files, not empty and not beginning with `-` (./-x.y will do for -x.y)
   ./conform --explain WORDS says where a refusal is and what to do; on a terminal it does so by itself
 """
 

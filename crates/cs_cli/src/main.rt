@@ -1,10 +1,11 @@
-//! The program `conform`: it gives `run` the words of the command line, the current folder and the standard streams, and ends
-//! with its status. Nothing stands on it.
+//! The program `conform`: it gives `run` the words of the command line, the current folder, the standard streams and threads,
+//! and ends with its status. Nothing stands on it.
 #![tactic(auto)]
 
 ghost use Rattle.std.specs.Prelude.{◌≡◌, drop};
 ghost use Rattle.std.specs.declared.io.ErrorKind.TheVariants.{OutOfMemory};
 
+use cs_fan::OpenGate;
 use cs_io::{FolderDesk, StreamSink};
 use cs_run::run;
 use std::process::ExitCode;
@@ -23,7 +24,7 @@ fn main(rt: HostRuntime) -> ExitCode {
             let mut desk = FolderDesk::new(&rt);
             let mut out = StreamSink::new(rt.stdout());
             let mut err = StreamSink::new(rt.stderr());
-            run(alloc, &words, &mut desk, &mut out, &mut err)
+            run(&rt, alloc, &words, &mut desk, &mut out, &mut err, &OpenGate)
         }
         Err(error) => status_without_words(error.kind()),
     };

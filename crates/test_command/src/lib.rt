@@ -10,4 +10,6 @@ mod outside;
 #[cfg(test)]
 mod rules;
 #[cfg(test)]
+mod suite;
+#[cfg(test)]
 mod words;

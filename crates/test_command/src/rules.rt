@@ -1,3 +1,4 @@
+use cs_fan::OpenGate;
 use cs_io::{MemoryDesk, MemorySink};
 use cs_run::run;
 use std::alloc::{AllocError, Global};
@@ -82,7 +83,10 @@ fn rules_of_files(rt: HostRuntime) -> Result<(), Fail> {
         let mut desk = desk(alloc, file, &[])?;
         let mut out = MemorySink::new(alloc, 4096, 7, Vec::new(alloc))?;
         let mut err = MemorySink::new(alloc, 99, 99, Vec::new(alloc))?;
-        assert_eq!(rt; run(alloc, &words, &mut desk, &mut out, &mut err), status);
+        assert_eq!(rt;
+            run(&rt, alloc, &words, &mut desk, &mut out, &mut err, &OpenGate),
+            status
+        );
         assert_eq!(rt; out.written(), written);
         assert_eq!(rt; err.written(), said);
     }
@@ -94,7 +98,7 @@ fn bad_words_and_missing_files(rt: HostRuntime) -> Result<(), Fail> {
     let alloc = rt.alloc();
     let rows: [(&[&str], u8, &[u8]); 8] = [
         (&[], 2, b"conform: usage: word 0\n"),
-        (&["suite", "g1.y", "l1.l"], 2, b"conform: usage: word 0\n"),
+        (&["suite", "g1.y", "l1.l"], 2, b"conform: usage: word 3\n"),
         (&["rules"], 2, b"conform: usage: word 1\n"),
         (&["rules", ""], 2, b"conform: usage: word 1\n"),
         (&["rules", "-g"], 2, b"conform: usage: word 1\n"),
@@ -107,7 +111,10 @@ fn bad_words_and_missing_files(rt: HostRuntime) -> Result<(), Fail> {
         let mut desk = desk(alloc, SUMS, &[])?;
         let mut out = MemorySink::new(alloc, 4096, 7, Vec::new(alloc))?;
         let mut err = MemorySink::new(alloc, 99, 99, Vec::new(alloc))?;
-        assert_eq!(rt; run(alloc, &words, &mut desk, &mut out, &mut err), status);
+        assert_eq!(rt;
+            run(&rt, alloc, &words, &mut desk, &mut out, &mut err, &OpenGate),
+            status
+        );
         assert_eq!(rt; out.written(), b"".as_slice());
         assert_eq!(rt; err.written(), said);
     }
@@ -121,7 +128,10 @@ fn the_read_fails_and_the_line_is_cut(rt: HostRuntime) -> Result<(), Fail> {
     let mut desk = desk(alloc, SUMS, &[0])?;
     let mut out = MemorySink::new(alloc, 4096, 7, Vec::new(alloc))?;
     let mut err = MemorySink::new(alloc, 7, 4, Vec::new(alloc))?;
-    assert_eq!(rt; run(alloc, &words, &mut desk, &mut out, &mut err), 3);
+    assert_eq!(rt;
+        run(&rt, alloc, &words, &mut desk, &mut out, &mut err, &OpenGate),
+        3
+    );
     assert_eq!(rt; out.written(), b"".as_slice());
     assert_eq!(rt; err.written(), b"conform".as_slice());
     Ok(())
@@ -135,7 +145,10 @@ fn the_output_is_full_at_each_byte(rt: HostRuntime) -> Result<(), Fail> {
         let mut desk = desk(alloc, SUMS, &[])?;
         let mut out = MemorySink::new(alloc, capacity, 3, Vec::new(alloc))?;
         let mut err = MemorySink::new(alloc, 99, 99, Vec::new(alloc))?;
-        assert_eq!(rt; run(alloc, &words, &mut desk, &mut out, &mut err), 4);
+        assert_eq!(rt;
+            run(&rt, alloc, &words, &mut desk, &mut out, &mut err, &OpenGate),
+            4
+        );
         assert_eq!(rt; out.written(), &SUMS_RULES[..capacity]);
         assert_eq!(rt; err.written(), b"conform: write fault\n".as_slice());
     }
@@ -149,7 +162,10 @@ fn a_write_fails_in_mid_stream(rt: HostRuntime) -> Result<(), Fail> {
     let mut desk = desk(alloc, SUMS, &[])?;
     let mut out = MemorySink::new(alloc, 4096, 5, [2].to_vec(alloc)?)?;
     let mut err = MemorySink::new(alloc, 99, 99, Vec::new(alloc))?;
-    assert_eq!(rt; run(alloc, &words, &mut desk, &mut out, &mut err), 4);
+    assert_eq!(rt;
+        run(&rt, alloc, &words, &mut desk, &mut out, &mut err, &OpenGate),
+        4
+    );
     assert_eq!(rt; out.written(), b"conform 1 ".as_slice());
     Ok(())
 }
@@ -167,7 +183,10 @@ fn files_about_the_most_bytes(rt: HostRuntime) -> Result<(), Fail> {
         let mut desk = desk(alloc, &file, &[])?;
         let mut out = MemorySink::new(alloc, 9, 9, Vec::new(alloc))?;
         let mut err = MemorySink::new(alloc, 99, 99, Vec::new(alloc))?;
-        assert_eq!(rt; run(alloc, &words, &mut desk, &mut out, &mut err), 1);
+        assert_eq!(rt;
+            run(&rt, alloc, &words, &mut desk, &mut out, &mut err, &OpenGate),
+            1
+        );
         assert_eq!(rt; out.written(), b"".as_slice());
         assert_eq!(rt; err.written(), said);
     }
@@ -194,7 +213,10 @@ fn least_trees_above_the_limit_are_large(rt: HostRuntime) -> Result<(), Fail> {
     let mut desk = desk(alloc, file.as_bytes(), &[])?;
     let mut out = MemorySink::new(alloc, 4096, 99, Vec::new(alloc))?;
     let mut err = MemorySink::new(alloc, 99, 99, Vec::new(alloc))?;
-    assert_eq!(rt; run(alloc, &words, &mut desk, &mut out, &mut err), 0);
+    assert_eq!(rt;
+        run(&rt, alloc, &words, &mut desk, &mut out, &mut err, &OpenGate),
+        0
+    );
     assert!(rt;
         out.written().ends_with(
             b"goal 13 rule 13 large\nend goals 13 feasible 0 infeasible 0 large 13 negatives 0\n"

@@ -1,0 +1,359 @@
+// Whole suites, by `run`: what is expected was worked by hand from the definitions, as docs/FORMATS.md lays them out.
+
+use cs_fan::{Gate, OpenGate};
+use cs_io::{MemoryDesk, MemorySink};
+use cs_run::run;
+use std::alloc::{AllocError, Global};
+use std::sync::atomic::{AtomicBool, Ordering};
+use std::test::Fail;
+
+const SUMS: &[u8] = b"%token NUM\n%%\ne : e '+' t | t ;\nt : NUM | '(' e ')' ;\n";
+
+const SCANNER: &[u8] = b"%%\n[0-9]+ return NUM;\n[-+*/()] return yytext[0];\n[ \\t\\n]+ ;\n";
+
+const CHOICE: &[u8] = b"%%\na : a | 'x' ;\n";
+
+const LETTER: &[u8] = b"%%\nx return 'x';\n";
+
+const NUMBER: &[u8] = b"%token NUM\n%%\ns : NUM ;\n";
+
+// The suite of `CHOICE` and `LETTER` by rules alone.
+const CHOICE_RULES: &[u8] = b"conform 1 suite
+token 1 'x'
+rule 1 a : a
+rule 2 a : 'x'
+lexeme 'x' \"x\"
+goal 1 rule 1 size 3
+  derive 1 2
+  tokens 'x'
+  text \"x\"
+goal 2 rule 2 size 2
+  derive 2
+  tokens 'x'
+  text \"x\"
+end goals 2 feasible 2 infeasible 0 large 0 negatives 0
+";
+
+// A fresh desk with the files `y` and `l`, each where there is one.
+fn desk(
+    alloc: Global,
+    yacc: Option<&[u8]>,
+    lex: Option<&[u8]>,
+    failing: &[u32],
+) -> Result<MemoryDesk, AllocError> {
+    let mut files = Vec::new(alloc);
+    if let Some(bytes) = yacc {
+        files.push((String::from_str(alloc, "y")?, bytes.to_vec(alloc)?))?;
+    }
+    if let Some(bytes) = lex {
+        files.push((String::from_str(alloc, "l")?, bytes.to_vec(alloc)?))?;
+    }
+    MemoryDesk::new(files, failing.to_vec(alloc)?)
+}
+
+// The words `suite y l --mutate=none` and these.
+fn words(alloc: Global, options: &[&str]) -> Result<Vec<String>, AllocError> {
+    let mut words = Vec::new(alloc);
+    for text in ["suite", "y", "l", "--mutate=none"] {
+        words.push(String::from_str(alloc, text)?)?;
+    }
+    for text in options {
+        words.push(String::from_str(alloc, text)?)?;
+    }
+    Ok(words)
+}
+
+fn has(text: &[u8], part: &[u8]) -> bool {
+    text.windows(part.len()).any(|window| window == part)
+}
+
+#[test]
+fn suites_of_files(rt: HostRuntime) -> Result<(), Fail> {
+    let alloc = rt.alloc();
+    let unused: &[u8] = b"%token NUM\n%%\ne : e '+' t | t ;\nt : NUM | '(' e ')' ;\nu : u 'x' ;\n";
+    let keywords: &[u8] = b"%token IF ID\n%%\ns : IF | ID ;\n";
+    // A yacc file, a lex file, an option, a part of the output, and its end.
+    let rows: [(&[u8], &[u8], &str, &[u8], &[u8]); 10] = [
+        (
+            SUMS,
+            SCANNER,
+            "--criteria=cdrc",
+            b"goal 1 context 1 1 1 size 11\n  derive 1 1 2 3 3 3\n",
+            b"end goals 8 feasible 8 infeasible 0 large 0 negatives 0\n",
+        ),
+        (
+            SUMS,
+            SCANNER,
+            "--criteria=pair",
+            b"goal 24 pair ')' ')' size 11\n  derive 2 4 2 4 2 3\n  tokens '(' '(' NUM ')' ')'\n  text \"( ( 0 ) )\"\n",
+            b"end goals 25 feasible 12 infeasible 13 large 0 negatives 0\n",
+        ),
+        (
+            SUMS,
+            SCANNER,
+            "--criteria=rule",
+            b"goal 1 rule 1 size 7\n  derive 1 2 3 3\n  tokens NUM '+' NUM\n  text \"0 + 0\"\n",
+            b"end goals 4 feasible 4 infeasible 0 large 0 negatives 0\n",
+        ),
+        (
+            SUMS,
+            SCANNER,
+            "--separator=",
+            b"tokens NUM '+' NUM\n  text \"0+0\"\n",
+            b"end goals 37 feasible 24 infeasible 13 large 0 negatives 0\n",
+        ),
+        (
+            unused,
+            SCANNER,
+            "--bases=0",
+            b"lexeme 'x' none\n",
+            b"end goals 50 feasible 24 infeasible 26 large 0 negatives 0\n",
+        ),
+        (
+            b"%%\ns : s 'x' ;\n",
+            LETTER,
+            "--bases=3",
+            b"goal 1 rule 1 infeasible\n",
+            b"end goals 6 feasible 0 infeasible 6 large 0 negatives 0\n",
+        ),
+        (
+            keywords,
+            b"%%\n[a-z]+ return ID;\nif return IF;\n",
+            "--criteria=rule",
+            b"lexeme IF none\nlexeme ID \"a\"\ngoal 1 rule 1 size 2\n  derive 1\n  tokens IF\n  no text lexeme IF\n",
+            b"end goals 2 feasible 2 infeasible 0 large 0 negatives 0\n",
+        ),
+        (
+            keywords,
+            b"%%\nif return IF;\n[a-z]+ return ID;\n",
+            "--criteria=rule",
+            b"lexeme IF \"if\"\nlexeme ID \"a\"\n",
+            b"end goals 2 feasible 2 infeasible 0 large 0 negatives 0\n",
+        ),
+        (
+            NUMBER,
+            b"%%\n(a|b)*a(a|b){13} return NUM;\n",
+            "--criteria=rule",
+            b"lexeme NUM \"aaaaaaaaaaaaaa\"\n",
+            b"end goals 1 feasible 1 infeasible 0 large 0 negatives 0\n",
+        ),
+        (
+            CHOICE,
+            LETTER,
+            "--criteria=rule",
+            CHOICE_RULES,
+            CHOICE_RULES,
+        ),
+    ];
+    for (yacc, lex, option, part, end) in rows {
+        let words = words(alloc, &[option])?;
+        let mut desk = desk(alloc, Some(yacc), Some(lex), &[])?;
+        let mut out = MemorySink::new(alloc, 100_000, 100_000, Vec::new(alloc))?;
+        let mut err = MemorySink::new(alloc, 99, 99, Vec::new(alloc))?;
+        assert_eq!(rt;
+            run(&rt, alloc, &words, &mut desk, &mut out, &mut err, &OpenGate),
+            0
+        );
+        assert!(rt; out.written().starts_with(b"conform 1 suite\n"));
+        assert!(rt; has(out.written(), part));
+        assert!(rt; out.written().ends_with(end));
+        assert_eq!(rt; err.written(), b"".as_slice());
+    }
+    Ok(())
+}
+
+#[test]
+fn other_endings_in_their_order(rt: HostRuntime) -> Result<(), Fail> {
+    let alloc = rt.alloc();
+    let long = vec![in alloc; b' '; 1_048_577]?;
+    // A yacc file, a lex file, an option, the status, and the line on the error output.
+    let rows: [(Option<&[u8]>, Option<&[u8]>, &str, u8, &[u8]); 10] = [
+        (
+            Some(b""),
+            Some(&long),
+            "--bases=1",
+            1,
+            b"conform: lex: Length above 1048576\n",
+        ),
+        (
+            Some(&long),
+            Some(b""),
+            "--bases=1",
+            1,
+            b"conform: yacc: Length above 1048576\n",
+        ),
+        (
+            Some(b""),
+            None,
+            "--bases=1",
+            3,
+            b"conform: read fault: lex\n",
+        ),
+        (
+            None,
+            Some(b""),
+            "--bases=1",
+            3,
+            b"conform: read fault: yacc\n",
+        ),
+        (
+            Some(b""),
+            Some(b""),
+            "--bases=1",
+            1,
+            b"conform: yacc: Syntax at 0\n",
+        ),
+        (
+            Some(SUMS),
+            Some(b"%%\nab/cd return NUM;\n"),
+            "--bases=1",
+            1,
+            b"conform: lex: Pattern at 3: Trailing at 2\n",
+        ),
+        (
+            Some(NUMBER),
+            Some(b"%%\n(a|b)*a(a|b){14} return NUM;\n"),
+            "--bases=1",
+            1,
+            b"conform: lex: States above 16384\n",
+        ),
+        (None, None, "--bases=1001", 2, b"conform: usage: word 4\n"),
+        (None, None, "--mutate=none", 2, b"conform: usage: word 4\n"),
+        (
+            None,
+            None,
+            "--criteria=rule,rule",
+            2,
+            b"conform: usage: word 4\n",
+        ),
+    ];
+    for (yacc, lex, option, status, said) in rows {
+        let words = words(alloc, &[option])?;
+        let mut desk = desk(alloc, yacc, lex, &[])?;
+        let mut out = MemorySink::new(alloc, 9, 9, Vec::new(alloc))?;
+        let mut err = MemorySink::new(alloc, 99, 99, Vec::new(alloc))?;
+        assert_eq!(rt;
+            run(&rt, alloc, &words, &mut desk, &mut out, &mut err, &OpenGate),
+            status
+        );
+        assert_eq!(rt; out.written(), b"".as_slice());
+        assert_eq!(rt; err.written(), said);
+    }
+    Ok(())
+}
+
+#[test]
+fn criteria_in_another_order_give_the_same(rt: HostRuntime) -> Result<(), Fail> {
+    let alloc = rt.alloc();
+    let mut outs = Vec::new(alloc);
+    for option in [
+        "--criteria=rule,cdrc,pair",
+        "--criteria=pair,rule,cdrc",
+        "--criteria=cdrc,pair,rule",
+    ] {
+        let words = words(alloc, &[option])?;
+        let mut desk = desk(alloc, Some(SUMS), Some(SCANNER), &[])?;
+        let mut out = MemorySink::new(alloc, 100_000, 7, Vec::new(alloc))?;
+        let mut err = MemorySink::new(alloc, 99, 99, Vec::new(alloc))?;
+        assert_eq!(rt;
+            run(&rt, alloc, &words, &mut desk, &mut out, &mut err, &OpenGate),
+            0
+        );
+        outs.push(out)?;
+    }
+    assert_eq!(rt; outs[1].written(), outs[0].written());
+    assert_eq!(rt; outs[2].written(), outs[0].written());
+    Ok(())
+}
+
+#[test]
+fn the_outside_fails_at_each_call(rt: HostRuntime) -> Result<(), Fail> {
+    let alloc = rt.alloc();
+    let words = words(alloc, &["--criteria=rule"])?;
+    // A call of the desk or of the output that fails, the output's room, the status, and how much is written.
+    for at in 0..CHOICE_RULES.len() {
+        let rows: [(&[u32], usize); 2] = [(&[at as u32], CHOICE_RULES.len()), (&[], at)];
+        for (failing, room) in rows {
+            let mut desk = desk(alloc, Some(CHOICE), Some(LETTER), &[])?;
+            let mut out = MemorySink::new(alloc, room, 1, failing.to_vec(alloc)?)?;
+            let mut err = MemorySink::new(alloc, 99, 99, Vec::new(alloc))?;
+            assert_eq!(rt;
+                run(&rt, alloc, &words, &mut desk, &mut out, &mut err, &OpenGate),
+                4
+            );
+            assert_eq!(rt; out.written(), &CHOICE_RULES[..at]);
+            assert_eq!(rt; err.written(), b"conform: write fault\n".as_slice());
+        }
+    }
+    for (call, said) in [
+        (0, b"conform: read fault: yacc\n".as_slice()),
+        (1, b"conform: read fault: lex\n".as_slice()),
+    ] {
+        let mut desk = desk(alloc, Some(CHOICE), Some(LETTER), &[call])?;
+        let mut out = MemorySink::new(alloc, 9, 9, Vec::new(alloc))?;
+        let mut err = MemorySink::new(alloc, 99, 99, Vec::new(alloc))?;
+        assert_eq!(rt;
+            run(&rt, alloc, &words, &mut desk, &mut out, &mut err, &OpenGate),
+            3
+        );
+        assert_eq!(rt; out.written(), b"".as_slice());
+        assert_eq!(rt; err.written(), said);
+    }
+    Ok(())
+}
+
+// Most turns for which a worker waits at a gate.
+const MOST_TURNS: u32 = 100_000_000;
+
+// A flag for each of two items.
+#[derive(Drop)]
+struct TwoFlags {
+    first: AtomicBool,
+    second: AtomicBool,
+    first_saw: AtomicBool,
+    second_saw: AtomicBool,
+}
+
+// Raises a flag and waits for the other.
+fn meet(mine: &AtomicBool, other: &AtomicBool, saw: &AtomicBool) {
+    mine.store(true, Ordering::SeqCst);
+    for _ in 0..MOST_TURNS {
+        if other.load(Ordering::SeqCst) {
+            saw.store(true, Ordering::SeqCst);
+            return;
+        }
+    }
+}
+
+impl Gate for TwoFlags {
+    fn enter(&self, index: u32) {
+        if index == 0 {
+            meet(&self.first, &self.second, &self.first_saw);
+        } else {
+            meet(&self.second, &self.first, &self.second_saw);
+        }
+    }
+}
+
+// The two goals are one batch, and two workers are at work on them at once.
+#[test]
+fn two_goals_meet(rt: HostRuntime) -> Result<(), Fail> {
+    let alloc = rt.alloc();
+    let gate = TwoFlags {
+        first: AtomicBool::new(false),
+        second: AtomicBool::new(false),
+        first_saw: AtomicBool::new(false),
+        second_saw: AtomicBool::new(false),
+    };
+    let words = words(alloc, &["--criteria=rule"])?;
+    let mut desk = desk(alloc, Some(CHOICE), Some(LETTER), &[])?;
+    let mut out = MemorySink::new(alloc, 1_000, 1_000, Vec::new(alloc))?;
+    let mut err = MemorySink::new(alloc, 99, 99, Vec::new(alloc))?;
+    assert_eq!(rt;
+        run(&rt, alloc, &words, &mut desk, &mut out, &mut err, &gate),
+        0
+    );
+    assert_eq!(rt; out.written(), CHOICE_RULES);
+    assert!(rt; gate.first_saw.load(Ordering::SeqCst) && gate.second_saw.load(Ordering::SeqCst));
+    Ok(())
+}
