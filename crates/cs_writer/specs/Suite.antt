@@ -1,7 +1,6 @@
 -- The manifest that `suite` writes.
-use Rattle.std.specs.Prelude.{ℕ, List, Some, false}
+use Rattle.std.specs.Prelude.{ℕ, List, Some}
 use Rattle.cs_ending.specs.Files.{IsTextBy, choice_of}
-use Rattle.cs_goals.specs.declared.goal.Criteria.{Criteria}
 use Rattle.cs_input.specs.declared.judging.Pair.{Pair}
 use Rattle.cs_manifest.specs.Manifest.{Choice}
 use Rattle.cs_plan.specs.Plans.{texts_of}
@@ -12,11 +11,11 @@ use Rattle.cs_words.specs.declared.options.Options.{Options}
 abbrev pub IsSuite : Pair → Options → List ℕ → Type 0
 IsSuite pair options text = IsTextBy (choice_of pair.lex options) pair.yacc text
 
--- these criteria, with texts and without an operator
-abbrev pub choice_with : Criteria → RenderWork → Choice
-choice_with criteria work = record {
-  criteria = criteria;
+-- what the options choose, with these texts
+abbrev pub choice_with : Options → RenderWork → Choice
+choice_with options work = record {
+  criteria = options.criteria;
   texts = Some (texts_of work);
-  operators = record { delete = false; insert = false; replace = false; swap = false };
-  most = 0;
+  operators = options.operators;
+  most = options.bases;
 }

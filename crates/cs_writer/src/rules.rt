@@ -72,6 +72,7 @@ fn write_rule_goals<'f, R: Threads + Sync, O: Sink, G: Gate + Sync>(
         yacc: file,
         criteria: RULE_GOALS,
         texts: None,
+        mutation: None,
     };
     let positives = Positives::of_trees(&costs, &embeds, RULE_GOALS);
     write_out(rt, alloc, &plan, positives, out, gate)?;

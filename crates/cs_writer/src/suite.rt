@@ -1,11 +1,10 @@
 // The writer of `suite`.
 
-ghost use Rattle.std.specs.Prelude.{◌≡◌, ◌⊎◌, OnErr, OnOk, Some, false};
+ghost use Rattle.std.specs.Prelude.{◌≡◌, ◌⊎◌, OnErr, OnOk, Some};
 ghost use Rattle.cs_ending.specs.Files.{IsTextBy};
 ghost use Rattle.cs_grammar.specs.Weights.{nodes};
 ghost use Rattle.cs_input.specs.Refusal.{HasManyStates};
 ghost use Rattle.cs_io.specs.Faults.{Rose};
-ghost use Rattle.cs_manifest.specs.Manifest.{has_operator};
 ghost use Rattle.cs_plan.specs.Plans.{CanRender};
 ghost use Rattle.cs_writer.specs.declared.halt.SuiteHalt.TheVariants.{Failed, Memory, States};
 ghost use Rattle.cs_writer.specs.Refusals.{Stopped};
@@ -18,12 +17,11 @@ ghost use Rattle.cs_writing.specs.Writing.{GrewByOne, GrewByPart, HasRoomForAll}
 use crate::halt::SuiteHalt;
 use cs_automaton::Automaton;
 use cs_fan::Gate;
-use cs_goals::Criteria;
 use cs_grammar::Weights;
 use cs_input::Pair;
 use cs_io::Sink;
 use cs_lexeme::Lexemes;
-use cs_plan::Plan;
+use cs_plan::{Mutation, Plan};
 use cs_positive::{Positives, Tables};
 use cs_render_work::RenderWork;
 use cs_scan::Scanner;
@@ -33,7 +31,7 @@ use cs_yacc::YaccFile;
 use std::alloc::Global;
 use std::thread::Threads;
 
-/// Writes the manifest of a yacc file and a lex file by what the options choose. Their operators are none yet.
+/// Writes the manifest of a yacc file and a lex file by what the options choose.
 pub fn write_suite<R: Threads + Sync, O: Sink, G: Gate + Sync>(
     rt: &R,
     alloc: Global,
@@ -42,7 +40,6 @@ pub fn write_suite<R: Threads + Sync, O: Sink, G: Gate + Sync>(
     out: &mut O,
     gate: &G,
 ) -> Result<(), SuiteHalt>
-    requires { has_operator options.operators ≡ false }
     ensures ok { OnOk result
         (GrewByOne (IsSuite pair options) (O.written out.old) (O.written out.new)) }
     ensures part { OnErr result
@@ -76,26 +73,17 @@ pub fn write_suite<R: Threads + Sync, O: Sink, G: Gate + Sync>(
         separator: options.separator.bytes(),
     };
     let weights = Weights::nodes(alloc, tokens)?;
-    write_goals(
-        rt,
-        alloc,
-        &yacc,
-        &weights,
-        options.criteria,
-        &work,
-        out,
-        gate,
-    )?;
+    write_goals(rt, alloc, &yacc, &weights, &options, &work, out, gate)?;
     Ok(())
 }
 
-// Writes the manifest of a yacc file by these criteria, by weights that count nodes.
+// Writes the manifest of a yacc file by these options, by weights that count nodes.
 fn write_goals<'f, R: Threads + Sync, O: Sink, G: Gate + Sync>(
     rt: &R,
     alloc: Global,
     file: &'f YaccFile,
     weights: &'f Weights,
-    criteria: Criteria,
+    options: &Options,
     work: &'f RenderWork<'f>,
     out: &mut O,
     gate: &G,
@@ -103,22 +91,27 @@ fn write_goals<'f, R: Threads + Sync, O: Sink, G: Gate + Sync>(
     requires weights { weights.now ≡ nodes file.now.grammar.tokens }
     requires work { CanRender file.now (Some work) }
     ensures ok { OnOk result
-        (GrewByOne (IsTextBy (choice_with criteria work.now) file.now)
+        (GrewByOne (IsTextBy (choice_with options.now work.now) file.now)
         (O.written out.old) (O.written out.new)) }
     ensures part { OnErr result
-        (GrewByPart (IsTextBy (choice_with criteria work.now) file.now)
+        (GrewByPart (IsTextBy (choice_with options.now work.now) file.now)
         (O.written out.old) (O.written out.new)) }
     ensures failed { writing.Stopped halt.Failed result → Rose (O.faults out.old) (O.faults out.new) }
-    ensures room { HasRoomForAll (IsTextBy (choice_with criteria work.now) file.now) (O.room out.old)
+    ensures room { HasRoomForAll (IsTextBy (choice_with options.now work.now) file.now) (O.room out.old)
         → O.faults out.new ≡ O.faults out.old }
 {
     let tables = Tables::new(alloc, file.grammar(), weights)?;
     let plan = Plan {
         yacc: file,
-        criteria,
+        criteria: options.criteria,
         texts: Some(work),
+        mutation: Some(Mutation {
+            pairs: tables.pairs(),
+            operators: options.operators,
+            most: options.bases as u32,
+        }),
     };
-    let positives = Positives::new(&tables, criteria);
+    let positives = Positives::new(&tables, options.criteria);
     write_out(rt, alloc, &plan, positives, out, gate)?;
     Ok(())
 }

@@ -15,5 +15,5 @@ returns-in_err-write_out-clause-part g c =
     on_err _ _
     (subst
     (λ (w : Measure).
-    GrewByPart (IsManifest w (choice_with c.args.criteria c.args.work.now) c.args.file.now) (g.O.Sink.written c.args.out.now)
+    GrewByPart (IsManifest w (choice_with c.args.options.now c.args.work.now) c.args.file.now) (g.O.Sink.written c.args.out.now)
     (g.O.Sink.written c.write_out.new.out)) same c.in_err-write_out.ensures.part)

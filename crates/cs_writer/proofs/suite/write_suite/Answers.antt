@@ -30,7 +30,7 @@ returns-in_err-write_goals-clause-part g c =
     let patterns = ap regexes c.in_ok-automaton.ensures.patterns ∙ c.patterns.ensures.patterns in
     on_err _ _
     (grew_part _ _
-    (of_suite c.args.pair.yacc c.args.pair.lex c.args.options c.requires _ _ _ _ patterns c.kinds.ensures.kinds c.literals.ensures.literals
+    (of_suite c.args.pair.yacc c.args.pair.lex c.args.options _ _ _ _ patterns c.kinds.ensures.kinds c.literals.ensures.literals
     c.bytes.ensures.bytes w) _ _ c.in_err-write_goals.ensures.part)
 
 pub returns-in_err-write_goals-clause-failed : goal.returns-in_err-write_goals-clause-failed
@@ -51,7 +51,7 @@ returns-in_err-write_goals-clause-room g c = λ fits.
     let patterns = ap regexes c.in_ok-automaton.ensures.patterns ∙ c.patterns.ensures.patterns in
     c.write_goals.ensures.room
     (has_room _ _
-    (suite_of c.args.pair.yacc c.args.pair.lex c.args.options c.requires _ _ _ _ patterns c.kinds.ensures.kinds c.literals.ensures.literals
+    (suite_of c.args.pair.yacc c.args.pair.lex c.args.options _ _ _ _ patterns c.kinds.ensures.kinds c.literals.ensures.literals
     c.bytes.ensures.bytes w) _ fits)
 
 pub returns-clause-ok : goal.returns-clause-ok
@@ -59,7 +59,7 @@ returns-clause-ok g c =
     let w = nodes c.args.pair.yacc.grammar.tokens in
     let patterns = ap regexes c.in_ok-automaton.ensures.patterns ∙ c.patterns.ensures.patterns in
     grew_by _ _
-    (suite_of c.args.pair.yacc c.args.pair.lex c.args.options c.requires _ _ _ _ patterns c.kinds.ensures.kinds c.literals.ensures.literals
+    (suite_of c.args.pair.yacc c.args.pair.lex c.args.options _ _ _ _ patterns c.kinds.ensures.kinds c.literals.ensures.literals
     c.bytes.ensures.bytes w) _ _ c.in_ok-write_goals.ensures.ok
 
 pub returns-clause-room : goal.returns-clause-room
@@ -68,5 +68,5 @@ returns-clause-room g c = λ fits.
     let patterns = ap regexes c.in_ok-automaton.ensures.patterns ∙ c.patterns.ensures.patterns in
     c.write_goals.ensures.room
     (has_room _ _
-    (suite_of c.args.pair.yacc c.args.pair.lex c.args.options c.requires _ _ _ _ patterns c.kinds.ensures.kinds c.literals.ensures.literals
+    (suite_of c.args.pair.yacc c.args.pair.lex c.args.options _ _ _ _ patterns c.kinds.ensures.kinds c.literals.ensures.literals
     c.bytes.ensures.bytes w) _ fits)
