@@ -1,15 +1,14 @@
 -- What the options so far say.
-use Rattle.std.proofs.Common.{◌≡◌, ◌≢◌, ℕ, zero, suc, ◌+◌, ◌==◌, Bool, true, false, ◌||◌, ◌&&◌, length, count_by, List, [], ◌∷◌, ◌++◌, Option, None, Some, refl, sym, ap, ◌∙◌, subst, ⊎_elim, inl, inr, arith}
+use Rattle.std.proofs.Common.{◌≡◌, ◌≢◌, ℕ, zero, suc, List, [], ◌∷◌, ◌++◌, Option, None, Some, refl, sym, ap, ◌∙◌, subst, ⊎_elim, arith}
 use Rattle.std.specs.Prelude.{IsSome, codes}
 use Rattle.std.specs.List.{Contains}
-use Rattle.std.proofs.lemmas.List.Splits.{length-slice_split}
 use Rattle.std.proofs.lemmas.List.Elements.{Contains-append_left, Contains-append_right, Contains-append_cases}
 use Rattle.cs_words.specs.declared.given.Given.{Given}
 use Rattle.cs_words.specs.declared.options.Options.{Options}
 use Rattle.cs_words.specs.declared.setting.Setting.{Setting}
 use Rattle.cs_words.specs.declared.setting.Setting.TheVariants.{Cover, Mutate, Bases, Separate}
 use Rattle.cs_words.specs.Options.{AreOptions, Give, HasMarked, IsMarked, IsNewOption, IsOption, LacksMark, mark_of}
-use Rattle.cs_words.specs.Choices.{Chooses, IsCriteria, IsOperators, has_operator, no_operators, parts}
+use Rattle.cs_words.specs.Choices.{IsCriteria, IsOperators}
 use Rattle.cs_words.specs.Values.{IsBases, IsSeparator}
 use Rattle.cs_goals.specs.declared.goal.Criteria.{Criteria}
 use Rattle.cs_mutate.specs.declared.edit.Operators.{Operators}
@@ -138,32 +137,6 @@ module _ (words : List (List ℕ)) (given : Given) (are : AreGiven words given) 
 
 -- ---- words that are no options
 
-and_false : (b : Bool) → (b && false) ≡ false
-and_false true = refl
-and_false false = refl
-
-no_choice : (b c d e : Bool) → ((b && false) || (c && false) || (d && false) || (e && false)) ≡ true → ⊥
-no_choice b c d e h =
-    let w = and_false b in
-    let x = and_false c in
-    let y = and_false d in
-    let z = and_false e in cc
-
--- the value that chooses no operators is `none`
-unnamed : (value : List ℕ) (operators : Operators) → IsOperators value operators → operators ≡ no_operators → value ≡ codes "none"
-unnamed value operators (inl named) is = named.0
-unnamed value operators (inr chooses) is = absurd (at_first (parts value) (length-slice_split (λ b. b == 44) value) (subst (λ o. Chooses (has_operator o) (parts value)) is chooses))
-  where
-    at_first : (names : List (List ℕ)) → length names ≡ count_by (λ b. b == 44) value + 1 → Chooses (has_operator no_operators) names → ⊥
-    at_first [] some all = omega (arith, some)
-    at_first (name ∷ names) some all = no_choice _ _ _ _ ((all.each name).1 (0, omega arith, refl))
-
--- and `none` chooses none
-none_named : (operators : Operators) → IsOperators (codes "none") operators → operators ≡ no_operators
-none_named operators (inl named) = named.1
-none_named operators (inr chooses) =
-    let yes : has_operator operators (codes "none") ≡ true = (chooses.each (codes "none")).1 (0, omega arith, refl) in absurd (cc)
-
 behind_mark : (mark v w : List ℕ) → mark ++ v ≡ mark ++ w → v ≡ w
 behind_mark [] v w same = same
 behind_mark (b ∷ mark) v w same = behind_mark mark v w (cc)
@@ -192,16 +165,6 @@ module _ (word value : List ℕ) where
   not_separator is none (Mutate x) option = differ 115 109 _ _ word is option.spelled (λ e. omega (arith, e))
   not_separator is none (Bases x) option = differ 115 98 _ _ word is option.spelled (λ e. omega (arith, e))
   not_separator is none (Separate x) option = none x (subst (λ v. IsSeparator v x) (behind_mark (codes "--separator=") _ _ (sym option.spelled ∙ is)) option.gives)
-
-  -- operators that aren't offered
-  pub not_offered : (operators : Operators) → word ≡ codes "--mutate=" ++ value → IsOperators value operators → (operators ≡ no_operators → ⊥) → (setting : Setting) → IsOption word setting → ⊥
-  not_offered operators is names some (Cover x) option = differ 109 99 _ _ word is option.spelled (λ e. omega (arith, e))
-  not_offered operators is names some (Mutate x) option =
-      let same : option.value ≡ value = behind_mark (codes "--mutate=") _ _ (sym option.spelled ∙ is) in
-      let none : value ≡ codes "none" = sym same ∙ unnamed option.value x option.gives option.offered in
-      some (none_named operators (subst (λ v. IsOperators v operators) none names))
-  not_offered operators is names some (Bases x) option = differ 109 98 _ _ word is option.spelled (λ e. omega (arith, e))
-  not_offered operators is names some (Separate x) option = differ 109 115 _ _ word is option.spelled (λ e. omega (arith, e))
 
 pub no_mark : (word : List ℕ) → (IsMarked (codes "--criteria=") word → ⊥) → (IsMarked (codes "--mutate=") word → ⊥) → (IsMarked (codes "--bases=") word → ⊥) → (IsMarked (codes "--separator=") word → ⊥) → (setting : Setting) → IsOption word setting → ⊥
 no_mark word c m b s (Cover x) option = c (marked word (Cover x) option)

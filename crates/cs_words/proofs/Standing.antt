@@ -6,7 +6,7 @@ use Rattle.std.specs.Prelude.{bytes_eq, take}
 use Rattle.std.proofs.Common.{add-one}
 use Rattle.std.proofs.lemmas.List.{length-take-le, take_rest}
 use Rattle.std.proofs.lemmas.Slice.Eq.{bytes_eq-Decides}
-use Rattle.cs_words.specs.Options.{HasMarked, IsNewOption}
+use Rattle.cs_words.specs.Options.{IsNewOption}
 use Rattle.cs_words.specs.Steps.{AreNew, LacksName, Stops, StopsAt}
 use Rattle.cs_words.specs.Words.{CannotGoOn, IsAccepted, IsFirstBad, StandBehind, is_name, texts}
 
@@ -33,7 +33,7 @@ rules_not_suite same = letters 114 115 _ _ same (λ e. omega (arith, e))
 pub rules_accepted : (words : List (List ℕ)) (yacc : List ℕ) (rest : List (List ℕ)) → words ≡ yacc ∷ rest → IsTrue (is_name yacc) → rest ≡ [] → IsAccepted (codes "rules" ∷ words)
 rules_accepted words yacc rest split is none = subst (λ ws. IsAccepted (codes "rules" ∷ ws)) (sym (split ∙ ap (λ r. yacc ∷ r) none)) (record {
   stand = (inl refl, (is, tt));
-  complete = (omega arith, λ suite. absurd (rules_not_suite suite));
+  complete = omega arith;
 })
 
 pub rules_no_name : (words : List (List ℕ)) → LacksName words → IsFirstBad (codes "rules" ∷ words) 1
@@ -47,7 +47,7 @@ rules_no_name words none = record {
 }
   where
     bad : (words : List (List ℕ)) → LacksName words → CannotGoOn (codes "rules" ∷ []) words
-    bad [] none = λ complete. omega (arith, complete.0)
+    bad [] none = λ complete. omega (arith, complete)
     bad (word ∷ words) none = λ may. (let is : is_name word ≡ true = may in cc)
 
 pub rules_more : (words : List (List ℕ)) (yacc : List ℕ) (rest : List (List ℕ)) → words ≡ yacc ∷ rest → IsTrue (is_name yacc) → 0 < length rest → IsFirstBad (codes "rules" ∷ words) 2
@@ -77,7 +77,7 @@ suite_no_name words none = record {
 }
   where
     bad : (words : List (List ℕ)) → LacksName words → CannotGoOn (codes "suite" ∷ []) words
-    bad [] none = λ complete. omega (arith, complete.0)
+    bad [] none = λ complete. omega (arith, complete)
     bad (word ∷ words) none = λ may. (let is : is_name word ≡ true = may in cc)
 
 module _ (words : List (List ℕ)) (yacc : List ℕ) (rest : List (List ℕ)) (split : words ≡ yacc ∷ rest) (is : IsTrue (is_name yacc)) where
@@ -92,7 +92,7 @@ module _ (words : List (List ℕ)) (yacc : List ℕ) (rest : List (List ℕ)) (s
   })
     where
       bad : (rest : List (List ℕ)) → LacksName rest → CannotGoOn (codes "suite" ∷ yacc ∷ []) rest
-      bad [] none = λ complete. omega (arith, complete.0)
+      bad [] none = λ complete. omega (arith, complete)
       bad (word ∷ rest) none = λ may. (let is : is_name word ≡ true = may in cc)
 
   module _ (lex : List ℕ) (options : List (List ℕ)) (split_rest : rest ≡ lex ∷ options) (is_lex : IsTrue (is_name lex)) where
@@ -102,10 +102,10 @@ module _ (words : List (List ℕ)) (yacc : List ℕ) (rest : List (List ℕ)) (s
     names_stand : (before : List (List ℕ)) → AreNew [] before → StandBehind [] (codes "suite" ∷ yacc ∷ lex ∷ before)
     names_stand before stand = (inr refl, (is, (is_lex, behind_names yacc lex [] before stand)))
 
-    pub suite_accepted : AreNew [] options → HasMarked (codes "--mutate=") options → IsAccepted (codes "suite" ∷ words)
-    suite_accepted stand needed = subst (λ ws. IsAccepted (codes "suite" ∷ ws)) (sym whole) (record {
+    pub suite_accepted : AreNew [] options → IsAccepted (codes "suite" ∷ words)
+    suite_accepted stand = subst (λ ws. IsAccepted (codes "suite" ∷ ws)) (sym whole) (record {
       stand = names_stand options stand;
-      complete = (omega arith, λ suite. needed);
+      complete = omega arith;
     })
 
     pub option_bad : (at : ℕ) → StopsAt options at → IsFirstBad (codes "suite" ∷ words) (3 + at)
@@ -119,7 +119,7 @@ module _ (words : List (List ℕ)) (yacc : List ℕ) (rest : List (List ℕ)) (s
     })
       where
         goes_on : (before after : List (List ℕ)) → Stops before after → CannotGoOn (codes "suite" ∷ yacc ∷ lex ∷ before) after
-        goes_on before [] none = λ complete. (let has = complete.1 refl in none has.0 has.1 has.2)
+        goes_on before [] none = absurd none
         goes_on before (word ∷ after) none = λ may. none may.1
 
 -- ---- all words

@@ -3,7 +3,7 @@ use Rattle.std.specs.Prelude.{◌≡◌, ℕ, Option, None, Some, List, [], ◌�
 use Rattle.cs_words.specs.declared.setting.Setting.{Setting}
 use Rattle.cs_words.specs.declared.setting.Setting.TheVariants.{Cover, Mutate, Bases, Separate}
 use Rattle.cs_words.specs.declared.options.Options.{Options}
-use Rattle.cs_words.specs.Choices.{IsCriteria, IsOperators, no_operators}
+use Rattle.cs_words.specs.Choices.{IsCriteria, IsOperators}
 use Rattle.cs_words.specs.Values.{IsBases, IsSeparator}
 
 -- ---- one option
@@ -22,19 +22,11 @@ IsValueOf (Mutate operators) value = IsOperators value operators
 IsValueOf (Bases number) value = IsBases value number
 IsValueOf (Separate separator) value = IsSeparator value separator
 
--- Until negatives come, nothing is mutated: `none` is the one value. Then this goes.
-abbrev pub IsOffered : Setting → Type 0
-IsOffered (Cover criteria) = Unit {0}
-IsOffered (Mutate operators) = operators ≡ no_operators
-IsOffered (Bases number) = Unit {0}
-IsOffered (Separate separator) = Unit {0}
-
 -- the word is an option with this setting
 pub record IsOption (word : List ℕ) (setting : Setting) : Type 0 where
   pub value : List ℕ
   pub spelled : word ≡ mark_of setting ++ value
   pub gives : IsValueOf setting value
-  pub offered : IsOffered setting
 
 -- ---- several
 

@@ -1,10 +1,10 @@
 -- Working words of the proofs: what is read step by step.
-use Rattle.std.specs.Prelude.{◌≡◌, ◌⊎◌, ◌||◌, ℕ, Bool, true, false, List, [], ◌∷◌, ◌++◌, None, Some, IsSome, bytes_eq, codes, length, unwrap_or}
+use Rattle.std.specs.Prelude.{◌≡◌, ◌⊎◌, ◌||◌, ℕ, Bool, true, false, List, [], ◌∷◌, ◌++◌, None, Some, IsSome, bytes_eq, length, unwrap_or}
 use Rattle.cs_words.specs.declared.options.Options.{Options}
 use Rattle.cs_words.specs.declared.given.Given.{Given}
 use Rattle.cs_words.specs.declared.setting.Setting.{Setting}
 use Rattle.cs_words.specs.declared.setting.Setting.TheVariants.{Cover, Mutate, Bases, Separate}
-use Rattle.cs_words.specs.Options.{IsNewOption, LacksMark}
+use Rattle.cs_words.specs.Options.{IsNewOption}
 use Rattle.cs_words.specs.Values.{SpellsByte}
 use Rattle.cs_words.specs.Words.{is_name}
 
@@ -52,9 +52,9 @@ abbrev pub AreNew : List (List ℕ) → List (List ℕ) → Type 0
 AreNew before [] = Unit {0}
 AreNew before (word ∷ words) = IsNewOption before word × AreNew (before ++ word ∷ []) words
 
--- what stands behind these options can't go on so
+-- What stands behind these options can't go on so. Where nothing does, it can.
 abbrev pub Stops : List (List ℕ) → List (List ℕ) → Type 0
-Stops before [] = LacksMark (codes "--mutate=") before
+Stops before [] = ⊥
 Stops before (word ∷ after) = IsNewOption before word → ⊥
 
 -- the options before the place are new, and what is behind them can't go on so

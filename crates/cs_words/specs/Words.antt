@@ -1,7 +1,7 @@
 -- The grammar of words: which word may stand behind which.
-use Rattle.std.specs.Prelude.{◌≡◌, ◌⊎◌, ◌≤◌, ◌==◌, ℕ, zero, suc, Bool, false, not, List, [], ◌∷◌, ◌++◌, String, IsTrue, bytes_eq, codes, if◌then◌else◌, drop, length, map, string_bytes}
+use Rattle.std.specs.Prelude.{◌≡◌, ◌⊎◌, ◌≤◌, ◌==◌, ℕ, zero, suc, Bool, false, not, List, [], ◌∷◌, ◌++◌, String, IsTrue, bytes_eq, codes, if◌then◌else◌, length, map, string_bytes}
 use Rattle.std.specs.declared.alloc.Global.{Global}
-use Rattle.cs_words.specs.Options.{IsNewOption, HasMarked}
+use Rattle.cs_words.specs.Options.{IsNewOption}
 
 -- the words as bytes
 abbrev pub texts : List (String Global) → List (List ℕ)
@@ -43,14 +43,10 @@ abbrev pub StandBehind : List (List ℕ) → List (List ℕ) → Type 0
 StandBehind before [] = Unit {0}
 StandBehind before (word ∷ words) = MayStand before word × StandBehind (before ++ word ∷ []) words
 
--- Until negatives come, `suite` needs the option `--mutate=`. Then this goes.
-abbrev pub HasNeeded : List ℕ → List (List ℕ) → Type 0
-HasNeeded command words = (command ≡ codes "suite") → HasMarked (codes "--mutate=") (drop 2 words)
-
--- no word is missing
+-- no name is missing
 abbrev pub IsComplete : List (List ℕ) → Type 0
 IsComplete [] = ⊥
-IsComplete (command ∷ words) = (name_count command ≤ length words) × HasNeeded command words
+IsComplete (command ∷ words) = name_count command ≤ length words
 
 -- Each word may stand where it stands, and none is missing.
 pub record IsAccepted (words : List (List ℕ)) : Type 0 where

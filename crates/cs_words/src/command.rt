@@ -3,7 +3,7 @@
 ghost use Rattle.std.specs.Prelude.{◌≡◌, [], ◌∷◌, IfErr, IfNone, IfOk, IfSome, IsTrue, codes};
 ghost use Rattle.cs_words.specs.Words.{IsAccepted, IsFirstBad, is_name, texts};
 ghost use Rattle.cs_words.specs.Commands.{Ask};
-ghost use Rattle.cs_words.specs.Options.{AreOptions, HasMarked};
+ghost use Rattle.cs_words.specs.Options.{AreOptions};
 ghost use Rattle.cs_words.specs.Steps.{AreNew, LacksName, StopsAt};
 
 use crate::given::Given;
@@ -83,7 +83,6 @@ fn read_suite(names: &[String]) -> Result<Command<'_>, BadWord>
 // The options, or the place of the first that can't stand where it stands.
 fn read_options(words: &[String]) -> Result<Options, usize>
     ensures stand { IfOk result (λ _. AreNew [] (texts words.now)) }
-    ensures needed { IfOk result (λ _. HasMarked (codes "--mutate=") (texts words.now)) }
     ensures options { IfOk result (AreOptions (texts words.now)) }
     ensures stops { IfErr result (StopsAt (texts words.now)) }
 {
@@ -95,10 +94,6 @@ fn read_options(words: &[String]) -> Result<Options, usize>
         if !given.set(setting) {
             return Err(place);
         }
-    }
-    // Until negatives come, `--mutate=` has to be there.
-    if given.operators.is_none() {
-        return Err(words.len());
     }
     Ok(given.options())
 }

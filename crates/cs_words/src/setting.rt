@@ -2,7 +2,6 @@
 
 ghost use Rattle.std.specs.Prelude.{◌≡◌, ◌++◌, IfNone, IfSome, List, ℕ};
 ghost use Rattle.cs_words.specs.Options.{IsOption, IsMarked};
-ghost use Rattle.cs_words.specs.Choices.{no_operators};
 ghost use Rattle.cs_words.specs.declared.setting.Setting.{Setting};
 
 use crate::choices::{read_criteria, read_operators};
@@ -33,23 +32,13 @@ pub fn read_option(word: &str) -> Option<Setting>
         return Some(Setting::Cover(read_criteria(value)?));
     }
     if let Some(value) = behind(word, "--mutate=") {
-        return Some(Setting::Mutate(offered(read_operators(value)?)?));
+        return Some(Setting::Mutate(read_operators(value)?));
     }
     if let Some(value) = behind(word, "--bases=") {
         return Some(Setting::Bases(read_bases(value.as_bytes())?));
     }
     let value = behind(word, "--separator=")?;
     Some(Setting::Separate(read_separator(value.as_bytes())?))
-}
-
-// Until negatives come, no operators alone.
-fn offered(operators: Operators) -> Option<Operators>
-    ensures some { IfSome result (λ same. same ≡ operators) }
-    ensures offered { IfSome result (λ same. same ≡ no_operators) }
-    ensures none { IfNone result (operators ≡ no_operators → ⊥) }
-{
-    let is_none = !(operators.delete || operators.insert || operators.replace || operators.swap);
-    is_none.then_some(operators)
 }
 
 // What stands behind the mark.

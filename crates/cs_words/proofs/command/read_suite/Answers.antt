@@ -11,7 +11,7 @@ returns-in_default-read_name-clause-bad c =
 
 pub returns-in-Ok-clause-accepted : goal.returns-in-Ok-clause-accepted
 returns-in-Ok-clause-accepted c =
-    suite_accepted (texts c.args.names.now) c.in-Some.yacc.now (texts c.in-Some.rest.now) c.in-Some.ensures.some c.in-Some.ensures.name c.in-Some-read_name.lex.now (texts c.in-Some-read_name.words.now) c.in-Some-read_name.ensures.some c.in-Some-read_name.ensures.name c.in-Ok.ensures.stand c.in-Ok.ensures.needed
+    suite_accepted (texts c.args.names.now) c.in-Some.yacc.now (texts c.in-Some.rest.now) c.in-Some.ensures.some c.in-Some.ensures.name c.in-Some-read_name.lex.now (texts c.in-Some-read_name.words.now) c.in-Some-read_name.ensures.some c.in-Some-read_name.ensures.name c.in-Ok.ensures.stand
 
 pub returns-in-Err-clause-bad : goal.returns-in-Err-clause-bad
 returns-in-Err-clause-bad c =

@@ -1,7 +1,7 @@
 use Rattle.cs_words.specs.declared.setting.Setting.{Setting}
 use Rattle.cs_words.specs.Options.{IsOption}
 use Rattle.cs_words.proofs.Names.{none_where}
-use Rattle.cs_words.proofs.GivenLemmas.{no_mark, not_criteria, not_offered, not_operators}
+use Rattle.cs_words.proofs.GivenLemmas.{no_mark, not_criteria, not_operators}
 use Rattle.cs_words.proofs.setting.read_option.Goals as goal
 
 pub returns-in_err-read_criteria-clause-none : goal.returns-in_err-read_criteria-clause-none
@@ -12,12 +12,6 @@ returns-in_err-read_criteria-clause-none c =
 pub returns-in_err-read_operators-clause-none : goal.returns-in_err-read_operators-clause-none
 returns-in_err-read_operators-clause-none c =
     let none : (setting : Setting) → IsOption c.args.word.now setting → ⊥ = not_operators c.args.word.now c.in-Some-behind.value.now c.in-Some-behind.ensures.some c.in_err-read_operators.ensures.none in
-    none_where _ none
-
-pub returns-in_err-offered-clause-none : goal.returns-in_err-offered-clause-none
-returns-in_err-offered-clause-none c =
-    let none : (setting : Setting) → IsOption c.args.word.now setting → ⊥ =
-    not_offered c.args.word.now c.in-Some-behind.value.now c.in_ok-read_operators.field-0 c.in-Some-behind.ensures.some c.in_ok-read_operators.ensures.some c.in_err-offered.ensures.none in
     none_where _ none
 
 pub returns-in_err-value-clause-none : goal.returns-in_err-value-clause-none
