@@ -35,9 +35,9 @@ unfolding IsSuiteText
 suite_texts None name other options file scanner fits read some text asked = absurd cc
 suite_texts (Some files) name other options file scanner fits read some text asked =
     found_with (file_named files name) read asked (λ bytes both again.
-      found_with (file_named files other) both again (λ more p t.
-        let one = yacc_files.one_file bytes file t.0 p.2 t.2.2 in
-        let beside : IsLexFile more file t.1 = subst (λ (f : yacc.File). IsLexFile more f t.1) (sym one) t.2.3 in
-        let same : scanner ≡ t.1 = lex_files.one_file more file scanner t.1 fits p.3 beside in
-        let moved = subst (λ (s : lex.File). IsTextBy (choice_of s options) t.0 text) (sym same) t.4 in
-        subst (λ (f : yacc.File). IsTextBy (choice_of scanner options) f text) (sym one) moved))
+    found_with (file_named files other) both again (λ more p t.
+    let one = yacc_files.one_file bytes file t.0 p.2 t.2.2 in
+    let beside : IsLexFile more file t.1 = subst (λ (f : yacc.File). IsLexFile more f t.1) (sym one) t.2.3 in
+    let same : scanner ≡ t.1 = lex_files.one_file more file scanner t.1 fits p.3 beside in
+    let moved = subst (λ (s : lex.File). IsTextBy (choice_of s options) t.0 text) (sym same) t.4 in
+    subst (λ (f : yacc.File). IsTextBy (choice_of scanner options) f text) (sym one) moved))
