@@ -21,6 +21,8 @@ FILES = {
     "open.y": b"%token NUM\n%%\ne : e '+' t | t ; t : NUM { x",
     "long.y": b" " * 1048577,
     "g1.l": b"%%\n[0-9]+ return NUM;\n[-+*/()] return yytext[0];\n[ \\t\\n]+ ;\n",
+    "one.y": b"%%\ns : 'x' ;\n",
+    "one.l": b"%%\nx return 'x';\n[ ]+ ;\n",
     "trailing.l": b"%%\nab/cd return NUM;\n",
     "states.y": b"%token NUM\n%%\ns : NUM ;\n",
     "states.l": b"%%\n(a|b)*a(a|b){14} return NUM;\n",
@@ -142,6 +144,33 @@ goal 4 rule 4 size 7
   text "( 0 )"
 end goals 4 feasible 4 infeasible 0 large 0 negatives 0
 """
+ONE = b"""conform 1 suite
+token 1 'x'
+rule 1 s : 'x'
+lexeme 'x' "x"
+goal 1 rule 1 size 2
+  derive 1
+  tokens 'x'
+  text "x"
+goal 2 pair <begin> 'x' size 2
+  derive 1
+  tokens 'x'
+  text "x"
+goal 3 pair <begin> <end> infeasible
+goal 4 pair 'x' 'x' infeasible
+goal 5 pair 'x' <end> size 2
+  derive 1
+  tokens 'x'
+  text "x"
+base 1 goal 1
+negative 1 base 1 delete 0 pair <begin> <end> at 0
+  tokens
+  text ""
+negative 2 base 1 insert 0 'x' pair 'x' 'x' at 1
+  tokens 'x' 'x'
+  text "x x"
+end goals 5 feasible 3 infeasible 2 large 0 negatives 2
+"""
 EXAMPLES = os.path.join(TOP, "examples")
 G1 = [os.path.join(EXAMPLES, "g1.y"), os.path.join(EXAMPLES, "l1.l")]
 C_EXPRESSIONS = [os.path.join(EXAMPLES, "cexpr.y"), os.path.join(EXAMPLES, "cexpr.l")]
@@ -170,8 +199,8 @@ ROWS = [
     (["suite", "states.y", "states.l", "--mutate=none"], 1, b"", b"conform: lex: States above 16384\n"),
     (["suite", "empty.y", "long.y", "--mutate=none"], 1, b"", b"conform: lex: Length above 1048576\n"),
     (["suite", "empty.y", "missing.l", "--mutate=none"], 3, b"", b"conform: read fault: lex\n"),
-    (["suite", "g1.y", "g1.l"], 2, b"", b"conform: usage: word 3\n"),
-    (["suite", "g1.y", "g1.l", "--mutate=swap"], 2, b"", b"conform: usage: word 3\n"),
+    (["suite", "one.y", "one.l"], 0, ONE, b""),
+    (["suite", "g1.y", "g1.l", "--mutate=all"], 2, b"", b"conform: usage: word 3\n"),
     (["suite", "g1.y", "g1.l", "--bases=1", "--bases=1"], 2, b"", b"conform: usage: word 4\n"),
 ]
 

@@ -1,8 +1,9 @@
 """One sentence for each line that the program writes on its error output: what is meant, and what to do."""
 
-USAGE = """usage: conform suite YACC LEX --mutate=none [--criteria=LIST] [--bases=NUMBER] [--separator=BYTES]
-  writes the goals of a yacc file, each with a least derivation, the tokens that it yields and, by the lex file, a text;
-  LIST is of rule, cdrc and pair, with commas between them; negatives aren't written yet, so --mutate=none has to be there
+USAGE = """usage: conform suite YACC LEX [--criteria=LIST] [--mutate=LIST] [--bases=NUMBER] [--separator=BYTES]
+  writes the goals of a yacc file, each with a least derivation, the tokens that it yields and, by the lex file, a text,
+  and mutants that are no sentences; --criteria= takes rule, cdrc and pair, --mutate= takes delete, insert, replace and swap,
+  or none, with commas between them
        conform rules YACC
   writes the rule goals of a yacc file alone, without texts;
   YACC and LEX are names of files, not empty and not beginning with `-` (./-x.y will do for -x.y)

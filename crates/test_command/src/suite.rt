@@ -17,6 +17,35 @@ const LETTER: &[u8] = b"%%\nx return 'x';\n";
 
 const NUMBER: &[u8] = b"%token NUM\n%%\ns : NUM ;\n";
 
+// The suite of one word of one letter, whole.
+const LETTER_SUITE: &[u8] = b"conform 1 suite
+token 1 'x'
+rule 1 s : 'x'
+lexeme 'x' \"x\"
+goal 1 rule 1 size 2
+  derive 1
+  tokens 'x'
+  text \"x\"
+goal 2 pair <begin> 'x' size 2
+  derive 1
+  tokens 'x'
+  text \"x\"
+goal 3 pair <begin> <end> infeasible
+goal 4 pair 'x' 'x' infeasible
+goal 5 pair 'x' <end> size 2
+  derive 1
+  tokens 'x'
+  text \"x\"
+base 1 goal 1
+negative 1 base 1 delete 0 pair <begin> <end> at 0
+  tokens
+  text \"\"
+negative 2 base 1 insert 0 'x' pair 'x' 'x' at 1
+  tokens 'x' 'x'
+  text \"x x\"
+end goals 5 feasible 3 infeasible 2 large 0 negatives 2
+";
+
 // The suite of `CHOICE` and `LETTER` by rules alone.
 const CHOICE_RULES: &[u8] = b"conform 1 suite
 token 1 'x'
@@ -51,16 +80,21 @@ fn desk(
     MemoryDesk::new(files, failing.to_vec(alloc)?)
 }
 
-// The words `suite y l --mutate=none` and these.
-fn words(alloc: Global, options: &[&str]) -> Result<Vec<String>, AllocError> {
+// The words `suite y l` and these.
+fn suite_words(alloc: Global, options: &[&str]) -> Result<Vec<String>, AllocError> {
     let mut words = Vec::new(alloc);
-    for text in ["suite", "y", "l", "--mutate=none"] {
+    for text in ["suite", "y", "l"] {
         words.push(String::from_str(alloc, text)?)?;
     }
     for text in options {
         words.push(String::from_str(alloc, text)?)?;
     }
     Ok(words)
+}
+
+// The words `suite y l --mutate=none` and an option.
+fn words(alloc: Global, option: &str) -> Result<Vec<String>, AllocError> {
+    suite_words(alloc, &["--mutate=none", option])
 }
 
 fn has(text: &[u8], part: &[u8]) -> bool {
@@ -146,7 +180,7 @@ fn suites_of_files(rt: HostRuntime) -> Result<(), Fail> {
         ),
     ];
     for (yacc, lex, option, part, end) in rows {
-        let words = words(alloc, &[option])?;
+        let words = words(alloc, option)?;
         let mut desk = desk(alloc, Some(yacc), Some(lex), &[])?;
         let mut out = MemorySink::new(alloc, 100_000, 100_000, Vec::new(alloc))?;
         let mut err = MemorySink::new(alloc, 99, 99, Vec::new(alloc))?;
@@ -158,6 +192,90 @@ fn suites_of_files(rt: HostRuntime) -> Result<(), Fail> {
         assert!(rt; has(out.written(), part));
         assert!(rt; out.written().ends_with(end));
         assert_eq!(rt; err.written(), b"".as_slice());
+    }
+    Ok(())
+}
+
+#[test]
+fn mutants_of_bases(rt: HostRuntime) -> Result<(), Fail> {
+    let alloc = rt.alloc();
+    let one: &[u8] = b"%%\ns : 'x' ;\n";
+    let blanks: &[u8] = b"%%\nx return 'x';\n[ ]+ ;\n";
+    let second: &[u8] =
+        b"base 2 goal 2\nnegative 24 base 2 delete 0 pair <begin> <end> at 0\n  tokens\n  text \"\"
+negative 25 base 2 insert 0 NUM pair NUM NUM at 1\n  tokens NUM NUM\n  text \"0 0\"\n";
+    // A yacc file, a lex file, options, a part of the output, and its end.
+    let rows: [(&[u8], &[u8], &[&str], &[u8], &[u8]); 9] = [
+        (one, blanks, &[], LETTER_SUITE, LETTER_SUITE),
+        (
+            one,
+            blanks,
+            &["--mutate=insert,delete"],
+            LETTER_SUITE,
+            LETTER_SUITE,
+        ),
+        (
+            one,
+            blanks,
+            &["--mutate=swap,replace"],
+            b"base 1 goal 1\n",
+            b"end goals 5 feasible 3 infeasible 2 large 0 negatives 0\n",
+        ),
+        (
+            SUMS,
+            SCANNER,
+            &["--criteria=rule", "--bases=2"],
+            second,
+            b"end goals 4 feasible 4 infeasible 0 large 0 negatives 32\n",
+        ),
+        (
+            SUMS,
+            SCANNER,
+            &["--criteria=rule", "--bases=0"],
+            b"goal 4 rule 4",
+            b"  text \"( 0 )\"\nend goals 4 feasible 4 infeasible 0 large 0 negatives 0\n",
+        ),
+        (
+            b"%%\ns : 'x' 'x' ;\n",
+            b"%%\n[xyz] return yytext[0];\n",
+            &["--criteria=rule"],
+            b"base 1 goal 1\n",
+            b"end goals 1 feasible 1 infeasible 0 large 0 negatives 0\n",
+        ),
+        (
+            b"%%\ns : s 'x' ;\n",
+            LETTER,
+            &[],
+            b"goal 6 pair 'x' <end> infeasible\n",
+            b"infeasible\nend goals 6 feasible 0 infeasible 6 large 0 negatives 0\n",
+        ),
+        (
+            b"%%\ns : ;\nt : 'x' ;\n",
+            blanks,
+            &["--criteria=rule"],
+            b"base 1 goal 1\nnegative 1 base 1 insert 0 'x' pair <begin> 'x' at 0\n  tokens 'x'\n  text \"x\"\n",
+            b"end goals 2 feasible 1 infeasible 1 large 0 negatives 1\n",
+        ),
+        (
+            b"%%\ns : 'x' 'x' 'y' ;\n",
+            b"%%\n[xy] return yytext[0];\n[ ]+ ;\n",
+            &["--criteria=rule", "--mutate=delete,swap"],
+            b"base 1 goal 1\nnegative 1 base 1 delete 2 pair 'x' <end> at 2\n  tokens 'x' 'x'\n  text \"x x\"
+negative 2 base 1 swap 1 pair 'y' 'x' at 2\n  tokens 'x' 'y' 'x'\n  text \"x y x\"\n",
+            b"end goals 1 feasible 1 infeasible 0 large 0 negatives 2\n",
+        ),
+    ];
+    for (yacc, lex, options, part, end) in rows {
+        let words = suite_words(alloc, options)?;
+        let mut desk = desk(alloc, Some(yacc), Some(lex), &[])?;
+        let mut out = MemorySink::new(alloc, 100_000, 100_000, Vec::new(alloc))?;
+        let mut err = MemorySink::new(alloc, 99, 99, Vec::new(alloc))?;
+        assert_eq!(rt;
+            run(&rt, alloc, &words, &mut desk, &mut out, &mut err, &OpenGate),
+            0
+        );
+        assert!(rt; has(out.written(), part));
+        assert!(rt; out.written().ends_with(end));
     }
     Ok(())
 }
@@ -228,7 +346,7 @@ fn other_endings_in_their_order(rt: HostRuntime) -> Result<(), Fail> {
         ),
     ];
     for (yacc, lex, option, status, said) in rows {
-        let words = words(alloc, &[option])?;
+        let words = words(alloc, option)?;
         let mut desk = desk(alloc, yacc, lex, &[])?;
         let mut out = MemorySink::new(alloc, 9, 9, Vec::new(alloc))?;
         let mut err = MemorySink::new(alloc, 99, 99, Vec::new(alloc))?;
@@ -251,7 +369,7 @@ fn criteria_in_another_order_give_the_same(rt: HostRuntime) -> Result<(), Fail> 
         "--criteria=pair,rule,cdrc",
         "--criteria=cdrc,pair,rule",
     ] {
-        let words = words(alloc, &[option])?;
+        let words = words(alloc, option)?;
         let mut desk = desk(alloc, Some(SUMS), Some(SCANNER), &[])?;
         let mut out = MemorySink::new(alloc, 100_000, 7, Vec::new(alloc))?;
         let mut err = MemorySink::new(alloc, 99, 99, Vec::new(alloc))?;
@@ -269,7 +387,7 @@ fn criteria_in_another_order_give_the_same(rt: HostRuntime) -> Result<(), Fail> 
 #[test]
 fn the_outside_fails_at_each_call(rt: HostRuntime) -> Result<(), Fail> {
     let alloc = rt.alloc();
-    let words = words(alloc, &["--criteria=rule"])?;
+    let words = words(alloc, "--criteria=rule")?;
     // A call of the desk or of the output that fails, the output's room, the status, and how much is written.
     for at in 0..CHOICE_RULES.len() {
         let rows: [(&[u32], usize); 2] = [(&[at as u32], CHOICE_RULES.len()), (&[], at)];
@@ -345,7 +463,7 @@ fn two_goals_meet(rt: HostRuntime) -> Result<(), Fail> {
         first_saw: AtomicBool::new(false),
         second_saw: AtomicBool::new(false),
     };
-    let words = words(alloc, &["--criteria=rule"])?;
+    let words = words(alloc, "--criteria=rule")?;
     let mut desk = desk(alloc, Some(CHOICE), Some(LETTER), &[])?;
     let mut out = MemorySink::new(alloc, 1_000, 1_000, Vec::new(alloc))?;
     let mut err = MemorySink::new(alloc, 99, 99, Vec::new(alloc))?;

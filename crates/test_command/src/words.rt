@@ -37,7 +37,7 @@ fn bad_option(alloc: Global, texts: &[&str]) -> Result<Option<usize>, AllocError
 #[test]
 fn commands_and_names(rt: HostRuntime) -> Result<(), Fail> {
     let alloc = rt.alloc();
-    let rows: [(&[&str], Option<usize>); 23] = [
+    let rows: [(&[&str], Option<usize>); 27] = [
         (&[], Some(0)),
         (&[""], Some(0)),
         (&["--help"], Some(0)),
@@ -59,8 +59,12 @@ fn commands_and_names(rt: HostRuntime) -> Result<(), Fail> {
         (&["suite", "y", "l", "x", "--mutate=none"], Some(3)),
         (&["suite", "y", "l", "--mutate=none"], None),
         (&["suite", "y", "y", "--mutate=none"], None),
-        (&["suite", "y", "l"], Some(3)),
-        (&["suite", "y", "l", "--bases=3"], Some(4)),
+        (&["suite", "y", "l"], None),
+        (&["suite", "y", "l", "--bases=3"], None),
+        (&["suite", "y", "l", "--mutate=swap,delete"], None),
+        (&["suite", "y", "l", "--mutate=swap,swap"], Some(3)),
+        (&["suite", "y", "l", "--mutate=none,swap"], Some(3)),
+        (&["suite", "y", "l", "--mutate=all"], Some(3)),
     ];
     for (texts, want) in rows {
         let got = bad_word(alloc, texts)?;
@@ -144,10 +148,12 @@ fn options_and_their_values(rt: HostRuntime) -> Result<(), Fail> {
 #[test]
 fn names_and_defaults(rt: HostRuntime) -> Result<(), Fail> {
     let alloc = rt.alloc();
-    let words = words(alloc, &["suite", "g.y", "g.l", "--mutate=none"])?;
+    let words = words(alloc, &["suite", "g.y", "g.l"])?;
     match read_words(&words) {
         Ok(Command::Suite { yacc, lex, options }) => {
             assert!(rt; yacc == "g.y" && lex == "g.l");
+            assert!(rt; options.operators.delete && options.operators.insert);
+            assert!(rt; options.operators.replace && options.operators.swap);
             assert!(rt; options.criteria.rule && options.criteria.cdrc && options.criteria.pair);
             assert_eq!(rt; options.bases, 16);
             assert!(rt; options.separator.bytes() == b" ".as_slice());
