@@ -98,7 +98,7 @@ fn bad_words_and_missing_files(rt: HostRuntime) -> Result<(), Fail> {
     let alloc = rt.alloc();
     let rows: [(&[&str], u8, &[u8]); 8] = [
         (&[], 2, b"conform: usage: word 0\n"),
-        (&["suite", "g1.y", "l1.l"], 2, b"conform: usage: word 3\n"),
+        (&["suite", "g1.y", "l1.l"], 3, b"conform: read fault: lex\n"),
         (&["rules"], 2, b"conform: usage: word 1\n"),
         (&["rules", ""], 2, b"conform: usage: word 1\n"),
         (&["rules", "-g"], 2, b"conform: usage: word 1\n"),
