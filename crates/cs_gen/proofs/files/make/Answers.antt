@@ -1,0 +1,13 @@
+use Rattle.std.proofs.Common.{◌≤◌, ℕ, List, length, sym, subst}
+use Rattle.cs_yacc.specs.Reading.{IsAccepted}
+use Rattle.cs_gen.proofs.Accepted.{yacc_accepted, yacc_short, lex_short}
+use Rattle.cs_gen.proofs.files.make.Goals as goal
+
+pub returns-clause-short_yacc : goal.returns-clause-short_yacc
+returns-clause-short_yacc c = subst (λ (t : List ℕ). length t ≤ 1048576) (sym c.in_ok-yacc.ensures) (yacc_short c.args.seed)
+
+pub returns-clause-short_lex : goal.returns-clause-short_lex
+returns-clause-short_lex c = subst (λ (t : List ℕ). length t ≤ 1048576) (sym c.in_ok-lex.ensures) lex_short
+
+pub returns-clause-yacc_accepted : goal.returns-clause-yacc_accepted
+returns-clause-yacc_accepted c = subst IsAccepted (sym c.in_ok-yacc.ensures) (yacc_accepted c.args.seed)
