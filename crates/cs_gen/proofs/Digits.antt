@@ -1,5 +1,5 @@
 -- The digits of numbers, and the numbers from 1 on.
-use Rattle.std.proofs.Common.{◌≡◌, ℕ, zero, suc, ◌+◌, ◌<◌, ◌≤◌, ◌%◌, ◌^◌, Bool, true, false, ◌&&◌, List, [], ◌∷◌, ◌++◌, length, refl, arith}
+use Rattle.std.proofs.Common.{◌≡◌, ℕ, zero, suc, ◌+◌, ◌<◌, ◌≤◌, ◌%◌, ◌^◌, Bool, true, false, ◌&&◌, List, [], ◌∷◌, ◌++◌, length, refl, sym, ◌∙◌, eqb, eq-eqb, Some, arith}
 use Rattle.std.specs.Prelude.{decimal}
 use Rattle.std.specs.List.{AllByRecursion, list_all}
 use Rattle.std.proofs.lemmas.Bool.{false≢true}
@@ -30,3 +30,14 @@ short_decimal n most a b = length-decimal-le 2 n (omega arith) (omega arith) (om
 pub numbers_below : (n most : ℕ) → n ≤ most → AllByRecursion (λ number. number ≤ most) (up_to n)
 numbers_below zero most le = tt
 numbers_below (suc n) most le = all_push (λ number. number ≤ most) (up_to n) (suc n) (numbers_below n most (omega arith)) le
+
+-- ---- numbers that differ
+
+pub apart : (a b : ℕ) → eqb a b ≡ false → a ≡ b → ⊥
+apart a b differs e = false≢true (sym differs ∙ eq-eqb a b e)
+
+pub heads_apart : (a b : ℕ) (xs ys : List ℕ) → eqb a b ≡ false → a ∷ xs ≡ b ∷ ys → ⊥
+heads_apart a b xs ys differs e = let f : a ≡ b = cc in apart a b differs f
+
+pub some_apart : (a b : ℕ) → eqb a b ≡ false → Some a ≡ Some b → ⊥
+some_apart a b differs e = let f : a ≡ b = cc in apart a b differs f

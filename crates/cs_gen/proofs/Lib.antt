@@ -6,3 +6,9 @@ pub mod Laid
 pub mod Taken
 pub mod Meant
 pub mod Accepted
+pub mod RuleLines
+pub mod TokenActions
+pub mod TokenPatterns
+pub mod LexAccepted
+pub mod FewSets
+pub mod Beside

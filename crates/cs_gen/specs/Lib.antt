@@ -1,3 +1,4 @@
 pub mod Draws
 pub mod Rules
 pub mod Texts
+pub mod Boundary

@@ -3,6 +3,7 @@
 ghost use Rattle.std.specs.Prelude.{◌≡◌, ◌≤◌, IfOk, length};
 ghost use Rattle.cs_yacc.specs.Reading.{IsAccepted};
 ghost use Rattle.cs_yacc_items.specs.Limits.{most_bytes};
+ghost use Rattle.cs_gen.specs.Boundary.{IsAcceptedBesideAll, HasFewSets};
 ghost use Rattle.cs_gen.specs.Texts as texts;
 
 use crate::lex::lex_text;
@@ -24,6 +25,8 @@ pub fn make(alloc: Global, seed: u64) -> Result<Generated, AllocError>
     ensures short_yacc { IfOk result (λ files. length files.yacc.items ≤ most_bytes) }
     ensures short_lex { IfOk result (λ files. length files.lex.items ≤ most_bytes) }
     ensures yacc_accepted { IfOk result (λ files. IsAccepted files.yacc.items) }
+    ensures lex_accepted { IfOk result (λ files. IsAcceptedBesideAll files.lex.items) }
+    ensures few_sets { IfOk result (λ files. HasFewSets files.lex.items) }
 {
     let yacc = yacc_text(alloc, seed)?;
     let lex = lex_text(alloc)?;
