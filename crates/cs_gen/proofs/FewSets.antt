@@ -1,14 +1,14 @@
 -- The patterns of the generated lex file have few sets of positions: that of a text is told by a small number.
-use Rattle.std.proofs.Common.{◌≡◌, ◌≢◌, ℕ, zero, suc, ◌+◌, ◌-◌, ◌*◌, ◌<◌, ◌≤◌, Bool, true, false, cond, eqb, List, [], ◌∷◌, ◌++◌, length, map, take, refl, sym, ap, subst, ◌∙◌, inl, inr, arith, append-nil, Some, length-take-le}
-use Rattle.std.specs.Prelude.{Contains, All, slice_get, decimal, nat_lt}
+use Rattle.std.proofs.Common.{◌≡◌, ℕ, zero, suc, ◌+◌, ◌-◌, ◌*◌, ◌<◌, ◌≤◌, Bool, true, false, cond, eqb, List, [], ◌∷◌, ◌++◌, length, map, take, refl, sym, ap, subst, ◌∙◌, inl, inr, arith, append-nil, Some}
+use Rattle.std.specs.Prelude.{Contains, slice_get, decimal}
 use Rattle.std.specs.List.{AllByRecursion, IsDistinct, list_all, list_any}
 use Rattle.std.proofs.lemmas.Bool.{false≢true, cases_lt, or_cases, eqb-true, ne_eqb}
 use Rattle.std.proofs.lemmas.Bool.Decides.{nat_tests}
 use Rattle.std.proofs.lemmas.List.{length-map}
 use Rattle.std.proofs.lemmas.Map.Steps.{length-le_from_distinct_below}
-use Rattle.cs_bytes.specs.Classes.{is_digit, is_word_byte}
+use Rattle.cs_bytes.specs.Classes.{is_digit}
 use Rattle.cs_bytes.proofs.Fronts.{and_true}
-use Rattle.cs_pattern_items.specs.Members.{has, picked}
+use Rattle.cs_pattern_items.specs.Members.{picked}
 use Rattle.cs_pattern_items.specs.Spelling.{one_byte}
 use Rattle.cs_pattern_items.proofs.Picked.{has_picked, has_picked_above, contains-has, has-contains}
 use Rattle.cs_pattern_postfix.specs.Grammar.{piece_parts}

@@ -1,16 +1,15 @@
 -- The generated lex file is accepted beside any yacc file.
-use Rattle.std.proofs.Common.{◌≡◌, ◌≢◌, ℕ, zero, suc, ◌+◌, ◌-◌, ◌<◌, ◌≤◌, ◌^◌, ◌*◌, ◌⊎◌, Bool, true, false, List, [], ◌∷◌, ◌++◌, length, map, get_or, drop, take, refl, sym, ap, subst, ◌∙◌, inl, inr, eqb, arith, append_assoc, length-append, Some, None}
+use Rattle.std.proofs.Common.{◌≡◌, ◌≢◌, ℕ, zero, suc, ◌+◌, ◌-◌, ◌<◌, ◌≤◌, ◌*◌, ◌⊎◌, Bool, true, false, List, [], ◌∷◌, ◌++◌, length, get_or, refl, sym, ap, subst, ◌∙◌, inl, inr, eqb, arith, append_assoc, length-append, Some}
 use Rattle.std.specs.Prelude.{codes, decimal, slice_get, slice_index}
-use Rattle.std.specs.List.{AllByRecursion, flat_map, list_all, prefix_len}
+use Rattle.std.specs.List.{AllByRecursion, flat_map, list_all}
 use Rattle.std.proofs.lemmas.Bool.{false≢true, cases_lt}
 use Rattle.std.proofs.lemmas.Bool.Decides.{nat_tests}
 use Rattle.std.proofs.lemmas.List.Sums.{sum_by-cons}
-use Rattle.std.proofs.lemmas.List.{map_push, append-nil, drop_at, get_or-append_right}
-use Rattle.cs_bytes.specs.Classes.{is_word_byte, is_space, is_newline, is_blank}
+use Rattle.std.proofs.lemmas.List.{get_or-append_right}
+use Rattle.cs_bytes.specs.Classes.{is_word_byte, is_space, is_newline}
 use Rattle.cs_bytes.specs.Places.{front_or_end}
 use Rattle.cs_bytes.proofs.Fronts.{and_true}
 use Rattle.cs_lex_layout.specs.Runs.{IsPiece}
-use Rattle.std.specs.Prelude.{◌%◌}
 use Rattle.cs_pattern_tree.specs.declared.kind.Kind.{Kind}
 use Rattle.cs_pattern_tree.specs.declared.kind.Kind.TheVariants.{Token, Foreign, Skip}
 use Rattle.cs_pattern_tree.specs.Pattern.{Regex, leaves}
@@ -23,23 +22,21 @@ use Rattle.cs_yacc.specs.Meaning.{same_spelling}
 use Rattle.cs_yacc.specs.File as tokens
 use Rattle.cs_yacc.proofs.Gathering.{same_is, same_self}
 use Rattle.cs_lex_layout.specs.declared.parts.Rule.{Rule}
-use Rattle.cs_lex_layout.specs.declared.line.LineKind.TheVariants as line_kinds
 use Rattle.cs_lex_layout.specs.declared.unit.UnitKind.TheVariants.{Plain}
-use Rattle.cs_lex_layout.specs.Steps.{Walk, here, step, Spans, Covers, HasSize}
-use Rattle.cs_lex_layout.specs.Patterns.{unit_kind, UnitOf, IsUnit, IsPattern, IsBracket, member_size}
-use Rattle.cs_lex_layout.specs.Layout.{HasDefinitions, HasRules, HasLayout}
-use Rattle.cs_lex_kinds.specs.Kinds.{ActionKind, skip, word, bar, IsKind}
+use Rattle.cs_lex_layout.specs.Steps.{here, step}
+use Rattle.cs_lex_layout.specs.Patterns.{unit_kind, UnitOf, IsUnit, IsBracket}
+use Rattle.cs_lex_layout.specs.Layout.{HasDefinitions, HasRules}
+use Rattle.cs_lex_kinds.specs.Kinds.{skip, word, bar, IsKind}
 use Rattle.cs_lex.specs.File.{File}
-use Rattle.cs_lex.specs.Kinds.{action_of, Gives, HasKind, HaveKinds}
-use Rattle.cs_lex.specs.Patterns as rule_patterns
+use Rattle.cs_lex.specs.Kinds.{action_of, HasKind, HaveKinds}
 use Rattle.cs_lex.specs.Patterns.{HavePatterns, positions}
-use Rattle.cs_lex.specs.Reading.{IsLast, AreRules, IsLexFile}
+use Rattle.cs_lex.specs.Reading.{IsLast, IsLexFile}
 use Rattle.cs_lex.specs.Tokens.{IsTokenOf, IsNotInUse, GivesName, in_use, not_in_use, IsEntry, AreLiterals}
 use Rattle.cs_lex.specs.Tokens as entries
 use Rattle.cs_gen.specs.declared.symbol.Symbol.TheVariants as symbols
 use Rattle.cs_gen.specs.Texts.{up_to, name, token_rule, lex_text}
 use Rattle.cs_gen.proofs.Digits.{decimal_passes, short_decimal, numbers_below}
-use Rattle.cs_gen.proofs.RuleLines.{RuleText, lines_of, IsLine, HaveTexts, walk_bytes, covers_bytes, rules_from}
+use Rattle.cs_gen.proofs.RuleLines.{RuleText, lines_of, IsLine, HaveTexts, covers_bytes, rules_from}
 use Rattle.cs_gen.proofs.TokenActions.{is_action_byte, action_piece, semicolon_skips, semicolon_is_no_bar, action, action_bytes, action_kind}
 use Rattle.cs_gen.proofs.TokenPatterns.{tree_of, bytes_leaves, bytes_pattern, spacing_text, spacing_tree, spacing_pattern}
 

@@ -1,7 +1,6 @@
 -- Lines of rules of a lex file, one behind the other: the layout that a text of them has.
-use Rattle.std.proofs.Common.{◌≡◌, ℕ, zero, suc, ◌+◌, ◌<◌, ◌≤◌, Bool, true, false, List, [], ◌∷◌, ◌++◌, length, take, drop, refl, sym, ap, subst, ◌∙◌, append_assoc, zero-add, arith}
+use Rattle.std.proofs.Common.{◌≡◌, ℕ, zero, suc, ◌+◌, Bool, true, List, [], ◌∷◌, ◌++◌, length, take, drop, refl, sym, ap, subst, ◌∙◌, append_assoc, arith}
 use Rattle.std.specs.List.{AllByRecursion, list_all}
-use Rattle.std.proofs.lemmas.Bool.{false≢true}
 use Rattle.std.proofs.lemmas.List.{drop-drop, drop_at, take_at}
 use Rattle.cs_bytes.specs.Places.{line_size}
 use Rattle.cs_bytes.proofs.Fronts.{and_true}
@@ -12,7 +11,7 @@ use Rattle.cs_lex_layout.specs.Lines.{rules_kind}
 use Rattle.cs_lex_layout.specs.Patterns.{IsPattern}
 use Rattle.cs_lex_layout.specs.Runs.{IsRun}
 use Rattle.cs_lex_layout.specs.Forms.{blanks, IsRule}
-use Rattle.cs_lex_layout.specs.Layout.{bytes_of, rule_at, RulesPlace, HasRuleAt, RulesLine, rule}
+use Rattle.cs_lex_layout.specs.Layout.{rule_at, HasRuleAt, RulesLine, rule}
 use Rattle.cs_lex.specs.Kinds.{action_of}
 use Rattle.cs_lex.specs.Patterns.{pattern_of}
 

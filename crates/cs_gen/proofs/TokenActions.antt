@@ -1,36 +1,35 @@
 -- The kinds of the actions of a generated lex file.
-use Rattle.std.proofs.Common.{◌≡◌, ◌≢◌, ℕ, zero, suc, ◌+◌, ◌-◌, ◌<◌, ◌≤◌, Bool, true, false, ◌||◌, List, [], ◌∷◌, ◌++◌, length, take, drop, refl, sym, ap, subst, ◌∙◌, inl, inr, arith, length-append}
+use Rattle.std.proofs.Common.{◌≡◌, ◌≢◌, ℕ, suc, ◌+◌, Bool, true, false, ◌||◌, List, [], ◌∷◌, ◌++◌, length, take, drop, refl, sym, ap, subst, ◌∙◌, inl, arith, length-append}
 use Rattle.std.specs.Prelude.{codes, ◌==◌}
-use Rattle.std.specs.List.{list_all, prefix_len}
+use Rattle.std.specs.List.{list_all}
 use Rattle.std.proofs.lemmas.Bool.{false≢true}
 use Rattle.std.proofs.lemmas.Bool.Decides.{nat_tests}
 use Rattle.std.proofs.lemmas.List.{append-nil, drop_at, take_at, drop_all}
-use Rattle.cs_bytes.specs.Classes.{is_word_byte, begins_word, is_space, is_blank, is_newline}
-use Rattle.cs_bytes.specs.Places.{front, front_or_end, begins_with, IsRun}
+use Rattle.cs_bytes.specs.Classes.{is_word_byte, is_space, is_blank}
+use Rattle.cs_bytes.specs.Places.{front, IsRun}
 use Rattle.cs_bytes.proofs.Fronts.{and_true}
 use Rattle.cs_bytes.proofs.Runs.{run-stops}
 use Rattle.cs_ctext.specs.declared.word_iter.Word.{Word}
-use Rattle.cs_ctext.specs.Comments.{OpensComment, IsComment}
+use Rattle.cs_ctext.specs.Comments.{OpensComment}
 use Rattle.cs_ctext.specs.Quotes.{IsQuoted}
 use Rattle.cs_ctext.specs.Marks.{is_quote}
-use Rattle.cs_ctext.specs.Blocks as blocks
 use Rattle.cs_ctext.specs.Blocks.{IsPart, other}
 use Rattle.cs_ctext.specs.Words.{word_at, HasWords}
 use Rattle.cs_ctext.specs.Words as text_words
 use Rattle.cs_ctext.proofs.PartSizes.{opens-comment, opens-slash}
-use Rattle.cs_lex_layout.specs.Steps.{Walk, here, step, Spans, Covers}
+use Rattle.cs_lex_layout.specs.Steps.{here, step}
 use Rattle.cs_lex_layout.specs.Runs as runs
 use Rattle.cs_lex_layout.specs.Runs.{ends_part, IsPiece}
-use Rattle.cs_lex_kinds.specs.Gaps.{IsSpacing, byte, IsGap, IsSign, AreSigns}
+use Rattle.cs_lex_kinds.specs.Gaps.{byte, IsGap, IsSign}
 use Rattle.cs_lex_kinds.specs.Returns.{Named, IsNamed, spelled, Returns}
 use Rattle.cs_lex_kinds.specs.Returns as named
-use Rattle.cs_lex_kinds.specs.Marks.{Mark, BeginsMark, IsUnmarked, HasNoMark}
-use Rattle.cs_lex_kinds.specs.Kinds.{ActionKind, skip, word, bar, IsBar, text_of, has_foreign, returns_of, IsKindByWords, no_return, one_return, IsKind, by_words}
+use Rattle.cs_lex_kinds.specs.Marks.{IsUnmarked, HasNoMark}
+use Rattle.cs_lex_kinds.specs.Kinds.{skip, word, bar, IsBar, text_of, has_foreign, returns_of, IsKindByWords, no_return, one_return, IsKind, by_words}
 use Rattle.cs_lex_kinds.proofs.BarsFound.{no_bar_sign}
 use Rattle.cs_lex_kinds.proofs.GapEnds.{no_sign, no_spacing_at}
 use Rattle.cs_lex_kinds.proofs.OneKind.{one_kind}
 use Rattle.cs_gen.proofs.Digits.{heads_apart}
-use Rattle.cs_gen.proofs.RuleLines.{walk_bytes, covers_bytes, part_is}
+use Rattle.cs_gen.proofs.RuleLines.{walk_bytes, part_is}
 
 -- ---- plain bytes of actions
 

@@ -1,8 +1,8 @@
 -- The patterns of a generated lex file: bytes that stand for themselves, and the bracket of a space and a newline.
-use Rattle.std.proofs.Common.{◌≡◌, ◌≢◌, ◌↔◌, ℕ, zero, suc, ◌+◌, ◌<◌, ◌≤◌, Bool, true, false, ◌||◌, List, [], ◌∷◌, ◌++◌, length, map, drop, max, refl, sym, ap, subst, ◌∙◌, inl, inr, arith, Some, None}
-use Rattle.std.specs.Prelude.{codes, nat_lt, ◌==◌, slice_get}
-use Rattle.std.specs.List.{AllByRecursion, list_all}
-use Rattle.std.proofs.lemmas.Bool.{false≢true, eqb-true, eq-eqb}
+use Rattle.std.proofs.Common.{◌≡◌, ◌≢◌, ◌↔◌, ℕ, suc, ◌+◌, ◌<◌, ◌≤◌, Bool, true, false, ◌||◌, List, [], ◌∷◌, length, drop, refl, sym, ap, subst, ◌∙◌, inl, inr, arith, Some, None}
+use Rattle.std.specs.Prelude.{codes, nat_lt, ◌==◌}
+use Rattle.std.specs.List.{list_all}
+use Rattle.std.proofs.lemmas.Bool.{false≢true, eqb-true}
 use Rattle.std.proofs.lemmas.Bool.Decides.{nat_tests}
 use Rattle.std.proofs.lemmas.List.{drop-drop}
 use Rattle.cs_bytes.proofs.Fronts.{and_true, false-eqb}
@@ -11,21 +11,20 @@ use Rattle.cs_pattern_items.specs.ByteKind.{is_plain}
 use Rattle.cs_pattern_items.specs.Items as items
 use Rattle.cs_pattern_items.specs.Items.{Placed, items_of}
 use Rattle.cs_pattern_items.specs.Marks.{Mark, plain, escaped}
-use Rattle.cs_pattern_items.specs.Members.{has, picked, bytes_where, IsByteSet}
+use Rattle.cs_pattern_items.specs.Members.{has, bytes_where}
 use Rattle.cs_pattern_items.specs.Bracket.{Member, one}
 use Rattle.cs_pattern_items.specs.Parts.{Shows, Escapes, itself_or_control, InTurn}
 use Rattle.cs_pattern_items.specs.Parts as parts
-use Rattle.cs_pattern_items.specs.Brackets.{IsPart, of_class, of_symbol, of_equivalence, IsMark, itself, escape, AreMarks, others, IsClosed, upright, AreMembers, none, single, IsOf, IsBracket}
+use Rattle.cs_pattern_items.specs.Brackets.{IsPart, of_class, of_symbol, of_equivalence, IsMark, itself, escape, others, IsClosed, upright, AreMembers, none, single, IsOf, IsBracket}
 use Rattle.cs_pattern_items.specs.Spelling.{one_byte, Spells, byte, bracket, plus_sign}
 use Rattle.cs_pattern_items.proofs.Picked.{has_picked, bytes_where-set}
-use Rattle.cs_pattern_postfix.specs.Grammar.{Tree, LastBranch, Branch, LastPiece, Beside, Piece, Repeated, Bytes, tree_items, branch_items, IsDerivation, piece_parts}
+use Rattle.cs_pattern_postfix.specs.Grammar.{Tree, LastBranch, Branch, LastPiece, Beside, Piece, Repeated, Bytes, branch_items, piece_parts}
 use Rattle.cs_pattern_postfix.specs.Depth.{depth, branch_depth, pattern_of}
-use Rattle.cs_pattern_tree.specs.Pattern.{Regex, Empty, Class, Join, Parts, Nothing, Then, alone_or, leaves, all_leaves}
-use Rattle.cs_pattern.specs.declared.place.Place.{Place}
-use Rattle.cs_pattern.specs.Table.{place, beginning, ReadsTo, Reads}
-use Rattle.cs_pattern.specs.Substitution.{PutIn, BranchPutIn, IsTreeOf, SpellsTree}
+use Rattle.cs_pattern_tree.specs.Pattern.{Empty, Join, Parts, Nothing, Then, alone_or, leaves, all_leaves}
+use Rattle.cs_pattern.specs.Table.{place, ReadsTo, Reads}
+use Rattle.cs_pattern.specs.Substitution.{BranchPutIn}
 use Rattle.cs_pattern.specs.Limits.{passed_limit}
-use Rattle.cs_pattern.specs.Answers.{limit_of, IsPatternOf}
+use Rattle.cs_pattern.specs.Answers.{IsPatternOf}
 use Rattle.cs_gen.proofs.Digits.{some_apart}
 
 -- ---- bytes that stand for themselves
