@@ -38,6 +38,13 @@ def random_rules(nonterminals, bodies, symbols, seed):
     return "\n".join(lines) + "\n"
 
 
+def one_sentence():
+    """Rules at the limits, of which the start symbol reaches one."""
+    tokens = " ".join(f"t{i}" for i in range(1, 513))
+    rules = [f"n{i} : " + " | ".join(f"t{(i + k) % 512 + 1} n{(i * 8 + k) % 1023 + 1}" for k in range(8)) + " ;" for i in range(1, 1023)]
+    return f"%token {tokens}\n%%\ns : t1 ;\n" + "\n".join(rules) + "\nn1023 : t1 ;\n"
+
+
 def wide(rules, symbols):
     """Right sides of the greatest length."""
     side = " ".join(["n"] * symbols)

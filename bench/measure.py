@@ -21,11 +21,15 @@ class Run:
     """One run of `rules` on a text: its status, processor seconds, greatest memory in MB, and bytes written."""
 
     def __init__(self, path, text):
+        self.measure([path, "rules", "g.y"], {"g.y": text})
+
+    def measure(self, words, files):
         with tempfile.TemporaryDirectory() as folder:
-            with open(os.path.join(folder, "g.y"), "wb") as file:
-                file.write(text if isinstance(text, bytes) else text.encode())
+            for name, text in files.items():
+                with open(os.path.join(folder, name), "wb") as file:
+                    file.write(text if isinstance(text, bytes) else text.encode())
             with open(os.path.join(folder, "out"), "wb") as out, open(os.path.join(folder, "err"), "wb") as err:
-                child = subprocess.Popen([path, "rules", "g.y"], cwd=folder, stdout=out, stderr=err)
+                child = subprocess.Popen(words, cwd=folder, stdout=out, stderr=err)
                 _, status, used = os.wait4(child.pid, 0)
                 child.returncode = self.status = os.waitstatus_to_exitcode(status)
             self.seconds = used.ru_utime + used.ru_stime
@@ -33,6 +37,13 @@ class Run:
             self.written = os.path.getsize(os.path.join(folder, "out"))
             with open(os.path.join(folder, "err"), "rb") as file:
                 self.said = file.read().decode().strip()
+
+
+class SuiteRun(Run):
+    """One run of `suite` on a yacc file and a lex file, with these options."""
+
+    def __init__(self, path, grammar, lex, options):
+        self.measure([path, "suite", "g.y", "g.l", *options], {"g.y": grammar, "g.l": lex})
 
 
 class Bounds:
