@@ -1,6 +1,7 @@
 // The lengths and the first lines come from a reckoning of the generator in Python.
 
 use cs_gen::make;
+use cs_lex::read_lex;
 use cs_yacc::read_yacc;
 use std::test::Fail;
 
@@ -18,7 +19,10 @@ fn generated_files(rt: HostRuntime) -> Result<(), Fail> {
         assert_eq!(rt; files.lex.len(), 378);
         let rules = files.yacc.as_slice().get(97..).ok_or("short")?;
         assert!(rt; rules.starts_with(line.as_bytes()), "{seed}");
-        assert!(rt; read_yacc(rt.alloc(), &files.yacc).is_ok());
+        match read_yacc(rt.alloc(), &files.yacc) {
+            Ok(yacc) => assert!(rt; read_lex(rt.alloc(), &files.lex, &yacc).is_ok()),
+            Err(_) => assert!(rt; false),
+        }
     }
     Ok(())
 }

@@ -1,5 +1,7 @@
-//! Tests of the lines of manifests, by public calls alone. Nothing stands on this crate.
+//! Tests of the lines and the bases of manifests, by public calls alone. Nothing stands on this crate.
 #![tactic(auto)]
 
+#[cfg(test)]
+mod bases;
 #[cfg(test)]
 mod lines;
