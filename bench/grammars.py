@@ -45,6 +45,13 @@ def one_sentence():
     return f"%token {tokens}\n%%\ns : t1 ;\n" + "\n".join(rules) + "\nn1023 : t1 ;\n"
 
 
+def many_sentences(tokens, sentences):
+    """So many sentences of four tokens each, no two alike, each with a rule of its own."""
+    names = " ".join(f"t{i}" for i in range(1, tokens + 1))
+    bodies = [" ".join(f"t{(i * (k + 1) + k * 7 + i // tokens) % tokens + 1}" for k in range(4)) for i in range(sentences)]
+    return f"%token {names}\n%%\ns : " + " | ".join(bodies) + " ;\n"
+
+
 def wide(rules, symbols):
     """Right sides of the greatest length."""
     side = " ".join(["n"] * symbols)

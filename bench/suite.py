@@ -1,21 +1,22 @@
 #!/usr/bin/env python3
-"""Times `conform suite` without mutation: bench/suite.py [PROGRAM].
+"""Times `conform suite`: bench/suite.py [PROGRAM].
 
 Each row is a pair of files, and the processor seconds and the greatest memory of one run beside their bounds. It ends with status
 1 where one is passed. Nothing here is part of the gate.
 """
 
 import os
+import resource
+import subprocess
+import tempfile
 
-from grammars import one_sentence, random_rules
+from grammars import many_sentences, one_sentence, random_rules
 from measure import TOP, Bounds, SuiteRun, program
 
-TOKENS = 512
 
-
-def scanner():
-    """A lex file in which each token of the grammars at the limits is its own name."""
-    return "%%\n" + "".join(f"t{i} return t{i};\n" for i in range(1, TOKENS + 1)) + "[ ]+ ;\n"
+def scanner(tokens=512):
+    """A lex file in which each token of the grammars made here is its own name."""
+    return "%%\n" + "".join(f"t{i} return t{i};\n" for i in range(1, tokens + 1)) + "[ ]+ ;\n"
 
 
 def example(name):
@@ -25,17 +26,40 @@ def example(name):
 
 # The files, the words, how many runs, the most seconds and the most memory.
 ROWS = [
-    ("the C expressions", lambda: (example("cexpr.y"), example("cexpr.l")), [], 5, 0.02, None),
-    ("all pairs of 8,192 rules", lambda: (random_rules(1024, 8, 12, 1), scanner()), ["--criteria=pair"], 2, 3, 60),
-    ("8,192 rules and one sentence, all criteria", lambda: (one_sentence(), scanner()), [], 2, None, 60),
+    ("the C expressions without mutants", lambda: (example("cexpr.y"), example("cexpr.l")), ["--mutate=none"], 5, 0.02, None),
+    ("the C expressions", lambda: (example("cexpr.y"), example("cexpr.l")), [], 5, 0.05, None),
+    ("all pairs of 8,192 rules", lambda: (random_rules(1024, 8, 12, 1), scanner()), ["--mutate=none", "--criteria=pair"], 2, 3, 60),
+    ("8,192 rules and one sentence, all criteria", lambda: (one_sentence(), scanner()), ["--mutate=none"], 2, None, 60),
 ]
+
+
+def copying(size):
+    """The processor seconds that copying a file of so many bytes takes."""
+    with tempfile.TemporaryDirectory() as folder:
+        source = os.path.join(folder, "source")
+        with open(source, "wb") as file:
+            for _ in range(size // 1_000_000 + 1):
+                file.write(b"negative 1 base 1 insert 0 t1\n" * 33_334)
+        before = resource.getrusage(resource.RUSAGE_CHILDREN)
+        subprocess.run(["cp", source, os.path.join(folder, "copy")], check=True)
+        after = resource.getrusage(resource.RUSAGE_CHILDREN)
+    return after.ru_utime + after.ru_stime - before.ru_utime - before.ru_stime
+
+
+def many_bases(path, bounds):
+    """Negatives of 1,000 bases over 150 tokens, beside copying the output."""
+    run = SuiteRun(path, many_sentences(150, 1000), scanner(150), ["--criteria=rule", "--bases=1000"])
+    copied = copying(run.written)
+    print(f"1,000 bases over 150 tokens: status {run.status}, {run.written} bytes out {run.said}; {run.megabytes:.3g} MB")
+    bounds.row("  time, against copying the output", run.seconds / max(copied, 0.001), 3, "times")
 
 
 def main():
     path, bounds = program(), Bounds()
+    many_bases(path, bounds)
     for name, make, words, times, seconds, megabytes in ROWS:
         grammar, lex = make()
-        run = min((SuiteRun(path, grammar, lex, ["--mutate=none", *words]) for _ in range(times)), key=lambda run: run.seconds)
+        run = min((SuiteRun(path, grammar, lex, words) for _ in range(times)), key=lambda run: run.seconds)
         print(f"{name}: status {run.status}, {run.written} bytes out {run.said}")
         for kind, figure, most, unit in (("time", run.seconds, seconds, "s"), ("memory", run.megabytes, megabytes, "MB")):
             if most is None:
