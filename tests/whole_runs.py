@@ -111,8 +111,29 @@ goal 11 rule 11 size 7
   tokens PRINT NUMBER ';'
 end goals 11 feasible 11 infeasible 0 large 0 negatives 0
 """
-with open(os.path.join(TOP, "crates", "cs_cli", "stdout"), "rb") as stored:
-    SUMS = stored.read()
+SUMS = b"""conform 1 rules
+token 1 NUM
+token 2 '+'
+token 3 '('
+token 4 ')'
+rule 1 e : e '+' t
+rule 2 e : t
+rule 3 t : NUM
+rule 4 t : '(' e ')'
+goal 1 rule 1 size 7
+  derive 1 2 3 3
+  tokens NUM '+' NUM
+goal 2 rule 2 size 3
+  derive 2 3
+  tokens NUM
+goal 3 rule 3 size 3
+  derive 2 3
+  tokens NUM
+goal 4 rule 4 size 7
+  derive 2 4 2 3
+  tokens '(' NUM ')'
+end goals 4 feasible 4 infeasible 0 large 0 negatives 0
+"""
 SUITE = b"""conform 1 suite
 token 1 NUM
 token 2 '+'
