@@ -1,8 +1,8 @@
 #!/usr/bin/env python3
 """Fails one allocation of `conform` after another: bench/memory.py [PROGRAM].
 
-A preloaded library, which is built here by cc, lets the Nth allocation fail, for each N from 1 until a run makes fewer. Each run has
-to end with status 5 and a prefix of the whole output, or with 0 and the whole output. It prints how many numbers were tried, and
+A preloaded library, which is built here by cc, lets the Nth allocation fail, for each N up to the number that a whole run makes. Each
+run has to end with status 5 and a prefix of the whole output, or with 0 and the whole output. It prints how many numbers were tried, and
 ends with status 1 where a run did otherwise. Nothing here is part of the gate.
 """
 
@@ -17,17 +17,23 @@ SHIM = r"""
 #define _GNU_SOURCE
 #include <dlfcn.h>
 #include <errno.h>
+#include <fcntl.h>
 #include <stddef.h>
 #include <stdlib.h>
+#include <sys/mman.h>
 
-static long number, count;
+static long number, here, *count = &here;
 
+/* The count stands in a file of eight bytes, since the program may end without a word. */
 __attribute__((constructor)) static void begin(void) {
-    const char *word = getenv("FAILING");
+    const char *word = getenv("FAILING"), *path = getenv("COUNT");
     number = word ? atol(word) : 0;
+    int file = path ? open(path, O_RDWR) : -1;
+    void *mapped = file < 0 ? MAP_FAILED : mmap(NULL, sizeof(long), PROT_READ | PROT_WRITE, MAP_SHARED, file, 0);
+    if (mapped != MAP_FAILED) count = mapped;
 }
 
-static int fails(void) { return number && __atomic_add_fetch(&count, 1, __ATOMIC_SEQ_CST) == number; }
+static int fails(void) { return __atomic_add_fetch(count, 1, __ATOMIC_SEQ_CST) == number; }
 
 void *malloc(size_t size) {
     static void *(*real)(size_t);
@@ -71,18 +77,27 @@ COMMANDS = [
 ]
 
 
-def tried(path, library, words):
-    """How many numbers were tried, and what went otherwise."""
-    whole = subprocess.run([path, *words], capture_output=True).stdout
-    wrong = []
-    for number in range(1, 1_000_000):
-        environment = {**os.environ, "LD_PRELOAD": library, "FAILING": str(number)}
-        done = subprocess.run([path, *words], capture_output=True, env=environment)
-        if (done.returncode, done.stdout) == (0, whole):
-            return number, wrong
-        if done.returncode != 5 or not whole.startswith(done.stdout):
+def run(path, library, words, number, counter):
+    """A run whose allocation of this number fails: what it came to, and how many it made."""
+    with open(counter, "wb") as file:
+        file.write(bytes(8))
+    environment = {**os.environ, "LD_PRELOAD": library, "FAILING": str(number), "COUNT": counter}
+    done = subprocess.run([path, *words], capture_output=True, env=environment)
+    with open(counter, "rb") as file:
+        return done, int.from_bytes(file.read(), sys.byteorder)
+
+
+def tried(path, library, words, counter):
+    """How many numbers were tried, how many of the runs ended for want of memory, and what went otherwise."""
+    first, count = run(path, library, words, 0, counter)
+    whole, wrong, wanting = first.stdout, [], 0
+    for number in range(1, count + 1):
+        done, _ = run(path, library, words, number, counter)
+        wanting += done.returncode == 5
+        good = done.stdout == whole if done.returncode == 0 else done.returncode == 5 and whole.startswith(done.stdout)
+        if not good:
             wrong.append(f"number {number}: status {done.returncode}, {len(done.stdout)} bytes, {done.stderr!r}")
-    return number, wrong
+    return count, wanting, wrong
 
 
 def main():
@@ -93,9 +108,9 @@ def main():
             file.write(SHIM)
         subprocess.run(["cc", "-O1", "-shared", "-fPIC", "-o", library, source, "-ldl"], check=True)
         for words in COMMANDS:
-            number, wrong = tried(path, library, words)
+            number, wanting, wrong = tried(path, library, words, os.path.join(folder, "count"))
             names = " ".join(os.path.basename(word) for word in words)
-            print(f"{names}: {number} numbers tried, {len(wrong)} wrong", *wrong[:10], sep="\n  ", flush=True)
+            print(f"{names}: {number} numbers tried, {wanting} ended for want of memory, {len(wrong)} wrong", *wrong[:10], sep="\n  ", flush=True)
             failed |= bool(wrong)
     sys.exit(1 if failed else 0)
 
