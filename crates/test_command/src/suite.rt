@@ -6,6 +6,7 @@ use cs_run::run;
 use std::alloc::{AllocError, Global};
 use std::sync::atomic::{AtomicBool, Ordering};
 use std::test::Fail;
+use std::thread::Threads;
 
 const SUMS: &[u8] = b"%token NUM\n%%\ne : e '+' t | t ;\nt : NUM | '(' e ')' ;\n";
 
@@ -16,6 +17,30 @@ const CHOICE: &[u8] = b"%%\na : a | 'x' ;\n";
 const LETTER: &[u8] = b"%%\nx return 'x';\n";
 
 const NUMBER: &[u8] = b"%token NUM\n%%\ns : NUM ;\n";
+
+const ONE: &[u8] = b"%%\ns : 'x' ;\n";
+
+const BLANKS: &[u8] = b"%%\nx return 'x';\n[ ]+ ;\n";
+
+// The second base of sums, and its first negatives.
+const SECOND_BASE: &[u8] = b"base 2 goal 2
+negative 24 base 2 delete 0 pair <begin> <end> at 0
+  tokens
+  text \"\"
+negative 25 base 2 insert 0 NUM pair NUM NUM at 1
+  tokens NUM NUM
+  text \"0 0\"
+";
+
+// All mutants of two letters and a third, by deleting and exchanging.
+const SMALL_MUTANTS: &[u8] = b"base 1 goal 1
+negative 1 base 1 delete 2 pair 'x' <end> at 2
+  tokens 'x' 'x'
+  text \"x x\"
+negative 2 base 1 swap 1 pair 'y' 'x' at 2
+  tokens 'x' 'y' 'x'
+  text \"x y x\"
+";
 
 // The suite of one word of one letter, whole.
 const LETTER_SUITE: &[u8] = b"conform 1 suite
@@ -80,25 +105,29 @@ fn desk(
     MemoryDesk::new(files, failing.to_vec(alloc)?)
 }
 
-// The words `suite y l` and these.
-fn suite_words(alloc: Global, options: &[&str]) -> Result<Vec<String>, AllocError> {
+// The words `suite y l` and these, but for empty ones.
+fn suite_words(alloc: Global, first: &str, second: &str) -> Result<Vec<String>, AllocError> {
     let mut words = Vec::new(alloc);
-    for text in ["suite", "y", "l"] {
-        words.push(String::from_str(alloc, text)?)?;
-    }
-    for text in options {
-        words.push(String::from_str(alloc, text)?)?;
+    for text in ["suite", "y", "l", first, second] {
+        if !text.is_empty() {
+            words.push(String::from_str(alloc, text)?)?;
+        }
     }
     Ok(words)
 }
 
 // The words `suite y l --mutate=none` and an option.
 fn words(alloc: Global, option: &str) -> Result<Vec<String>, AllocError> {
-    suite_words(alloc, &["--mutate=none", option])
+    suite_words(alloc, "--mutate=none", option)
 }
 
 fn has(text: &[u8], part: &[u8]) -> bool {
-    text.windows(part.len()).any(|window| window == part)
+    for at in 0..text.len() {
+        if text[at..].starts_with(part) {
+            return true;
+        }
+    }
+    false
 }
 
 #[test]
@@ -199,74 +228,76 @@ fn suites_of_files(rt: HostRuntime) -> Result<(), Fail> {
 #[test]
 fn mutants_of_bases(rt: HostRuntime) -> Result<(), Fail> {
     let alloc = rt.alloc();
-    let one: &[u8] = b"%%\ns : 'x' ;\n";
-    let blanks: &[u8] = b"%%\nx return 'x';\n[ ]+ ;\n";
-    let second: &[u8] =
-        b"base 2 goal 2\nnegative 24 base 2 delete 0 pair <begin> <end> at 0\n  tokens\n  text \"\"
-negative 25 base 2 insert 0 NUM pair NUM NUM at 1\n  tokens NUM NUM\n  text \"0 0\"\n";
-    // A yacc file, a lex file, options, a part of the output, and its end.
-    let rows: [(&[u8], &[u8], &[&str], &[u8], &[u8]); 9] = [
-        (one, blanks, &[], LETTER_SUITE, LETTER_SUITE),
+    // A yacc file, a lex file, two options, a part of the output, and its end.
+    let rows: [(&[u8], &[u8], &str, &str, &[u8], &[u8]); 9] = [
+        (ONE, BLANKS, "", "", LETTER_SUITE, LETTER_SUITE),
         (
-            one,
-            blanks,
-            &["--mutate=insert,delete"],
+            ONE,
+            BLANKS,
+            "--mutate=insert,delete",
+            "",
             LETTER_SUITE,
             LETTER_SUITE,
         ),
         (
-            one,
-            blanks,
-            &["--mutate=swap,replace"],
+            ONE,
+            BLANKS,
+            "--mutate=swap,replace",
+            "",
             b"base 1 goal 1\n",
             b"end goals 5 feasible 3 infeasible 2 large 0 negatives 0\n",
         ),
         (
             SUMS,
             SCANNER,
-            &["--criteria=rule", "--bases=2"],
-            second,
+            "--criteria=rule",
+            "--bases=2",
+            SECOND_BASE,
             b"end goals 4 feasible 4 infeasible 0 large 0 negatives 32\n",
         ),
         (
             SUMS,
             SCANNER,
-            &["--criteria=rule", "--bases=0"],
+            "--criteria=rule",
+            "--bases=0",
             b"goal 4 rule 4",
             b"  text \"( 0 )\"\nend goals 4 feasible 4 infeasible 0 large 0 negatives 0\n",
         ),
         (
             b"%%\ns : 'x' 'x' ;\n",
             b"%%\n[xyz] return yytext[0];\n",
-            &["--criteria=rule"],
+            "--criteria=rule",
+            "",
             b"base 1 goal 1\n",
             b"end goals 1 feasible 1 infeasible 0 large 0 negatives 0\n",
         ),
         (
             b"%%\ns : s 'x' ;\n",
             LETTER,
-            &[],
+            "",
+            "",
             b"goal 6 pair 'x' <end> infeasible\n",
             b"infeasible\nend goals 6 feasible 0 infeasible 6 large 0 negatives 0\n",
         ),
         (
             b"%%\ns : ;\nt : 'x' ;\n",
-            blanks,
-            &["--criteria=rule"],
+            BLANKS,
+            "--criteria=rule",
+            "",
             b"base 1 goal 1\nnegative 1 base 1 insert 0 'x' pair <begin> 'x' at 0\n  tokens 'x'\n  text \"x\"\n",
             b"end goals 2 feasible 1 infeasible 1 large 0 negatives 1\n",
         ),
         (
             b"%%\ns : 'x' 'x' 'y' ;\n",
             b"%%\n[xy] return yytext[0];\n[ ]+ ;\n",
-            &["--criteria=rule", "--mutate=delete,swap"],
-            b"base 1 goal 1\nnegative 1 base 1 delete 2 pair 'x' <end> at 2\n  tokens 'x' 'x'\n  text \"x x\"
-negative 2 base 1 swap 1 pair 'y' 'x' at 2\n  tokens 'x' 'y' 'x'\n  text \"x y x\"\n",
+            "--criteria=rule",
+            "--mutate=delete,swap",
+            SMALL_MUTANTS,
             b"end goals 1 feasible 1 infeasible 0 large 0 negatives 2\n",
         ),
     ];
-    for (yacc, lex, options, part, end) in rows {
-        let words = suite_words(alloc, options)?;
+    for (yacc, lex, first, second, part, end) in rows {
+        let words = suite_words(alloc, first, second)?;
         let mut desk = desk(alloc, Some(yacc), Some(lex), &[])?;
         let mut out = MemorySink::new(alloc, 100_000, 100_000, Vec::new(alloc))?;
         let mut err = MemorySink::new(alloc, 99, 99, Vec::new(alloc))?;
@@ -360,27 +391,29 @@ fn other_endings_in_their_order(rt: HostRuntime) -> Result<(), Fail> {
     Ok(())
 }
 
+// The suite of sums by an option, and the status of its run.
+fn suite_of_sums<R: Threads + Sync>(
+    rt: &R,
+    alloc: Global,
+    option: &str,
+) -> Result<(u8, MemorySink), AllocError> {
+    let words = words(alloc, option)?;
+    let mut desk = desk(alloc, Some(SUMS), Some(SCANNER), &[])?;
+    let mut out = MemorySink::new(alloc, 100_000, 7, Vec::new(alloc))?;
+    let mut err = MemorySink::new(alloc, 99, 99, Vec::new(alloc))?;
+    let status = run(rt, alloc, &words, &mut desk, &mut out, &mut err, &OpenGate);
+    Ok((status, out))
+}
+
 #[test]
 fn criteria_in_another_order_give_the_same(rt: HostRuntime) -> Result<(), Fail> {
     let alloc = rt.alloc();
-    let mut outs = Vec::new(alloc);
-    for option in [
-        "--criteria=rule,cdrc,pair",
-        "--criteria=pair,rule,cdrc",
-        "--criteria=cdrc,pair,rule",
-    ] {
-        let words = words(alloc, option)?;
-        let mut desk = desk(alloc, Some(SUMS), Some(SCANNER), &[])?;
-        let mut out = MemorySink::new(alloc, 100_000, 7, Vec::new(alloc))?;
-        let mut err = MemorySink::new(alloc, 99, 99, Vec::new(alloc))?;
-        assert_eq!(rt;
-            run(&rt, alloc, &words, &mut desk, &mut out, &mut err, &OpenGate),
-            0
-        );
-        outs.push(out)?;
-    }
-    assert_eq!(rt; outs[1].written(), outs[0].written());
-    assert_eq!(rt; outs[2].written(), outs[0].written());
+    let (first, one) = suite_of_sums(&rt, alloc, "--criteria=rule,cdrc,pair")?;
+    let (second, other) = suite_of_sums(&rt, alloc, "--criteria=pair,rule,cdrc")?;
+    let (third, last) = suite_of_sums(&rt, alloc, "--criteria=cdrc,pair,rule")?;
+    assert!(rt; first == 0 && second == 0 && third == 0);
+    assert_eq!(rt; other.written(), one.written());
+    assert_eq!(rt; last.written(), one.written());
     Ok(())
 }
 
