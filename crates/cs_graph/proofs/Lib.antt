@@ -5,3 +5,6 @@ pub mod Pushing
 pub mod Acyclic
 pub mod Weights
 pub mod Walking
+pub mod Gets
+pub mod Grouping
+pub mod Closing

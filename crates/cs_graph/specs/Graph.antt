@@ -1,5 +1,5 @@
 -- Directed graphs: for each node, from 0, the nodes to which it has an edge.
-use Rattle.std.specs.Prelude.{◌≡◌, ◌⊎◌, ℕ, ◌<◌, List, ◌∷◌, ◌++◌, Option, Some, MatchOption, Contains, length, slice_get, slice_index, sum, sum_by, ◌≤◌}
+use Rattle.std.specs.Prelude.{◌≡◌, ◌⊎◌, ◌↔◌, ℕ, ◌<◌, List, ◌∷◌, ◌++◌, Option, Some, MatchOption, Contains, length, slice_get, slice_index, sum, sum_by, ◌≤◌}
 use Rattle.std.specs.Global.{Vec}
 
 pub record Edge (graph : List (Vec ℕ)) (from to : ℕ) : Type 0 where
@@ -42,3 +42,8 @@ IsOrderOrCycle graph found = MatchOption found (HasCycle graph) (λ order. IsOrd
 -- the nodes of an order weigh together at most what all nodes weigh, whatever the weights: no node is counted twice
 abbrev pub IsWeighedOnce : List (Vec ℕ) → List ℕ → Type 0
 IsWeighedOnce graph order = (weights : List ℕ) → length weights ≡ length graph → sum_by (λ node. slice_index weights node) order ≤ sum weights
+
+-- Each node has a number, two nodes the same one exactly where each leads to the other: the strongly connected components.
+pub record AreComponents (graph : List (Vec ℕ)) (components : List ℕ) : Type 0 where
+  pub size : length components ≡ length graph
+  pub same : (one other : ℕ) → one < length graph → other < length graph → (slice_index components one ≡ slice_index components other) ↔ (Leads graph one other × Leads graph other one)

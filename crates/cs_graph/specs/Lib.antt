@@ -3,3 +3,4 @@ pub mod Marks
 pub mod Search
 pub mod Order
 pub mod Walk
+pub mod Groups

@@ -6,12 +6,14 @@
 //! Meaning, in `specs/`: `Graph` (edges, paths, orders). `Marks`, `Search`, `Order` and `Walk` are working words of proofs.
 #![tactic(auto)]
 
+mod component;
 mod fits;
 mod laws;
 mod leading;
 mod marks;
 mod ordering;
 
+pub use component::components;
 pub use fits::is_graph;
 pub use laws::{one_place, ordered_without_cycle};
 pub use leading::leads;
