@@ -5,7 +5,7 @@ use Rattle.std.specs.Global.{Vec}
 use Rattle.std.proofs.lemmas.List.Elements.{Contains-append_left}
 use Rattle.std.proofs.lemmas.Option.{slice_get_within}
 use Rattle.cs_graph.specs.Graph.{Path, edge, longer, IsOrdered, IsOrder}
-use Rattle.cs_graph.proofs.Reaching.{contains_none}
+use Rattle.cs_graph.proofs.Single.{contains_none}
 
 -- what a list contains stands somewhere in it
 pub split_at : (xs : List ℕ) (x : ℕ) → Contains xs x → (before : List ℕ) × (after : List ℕ) × (xs ≡ before ++ x ∷ after)

@@ -1,5 +1,5 @@
 -- The last group is closed, and what holds when all are.
-use Rattle.std.proofs.Common.{◌≡◌, ◌⊎◌, ◌↔◌, ℕ, ◌+◌, ◌<◌, ◌≤◌, List, [], ◌∷◌, ◌++◌, length, take, drop, map, get_or, refl, sym, ap, ◌∙◌, subst, arith, inl, inr, length-append}
+use Rattle.std.proofs.Common.{◌≡◌, ◌⊎◌, ℕ, ◌<◌, ◌≤◌, List, [], ◌∷◌, ◌++◌, length, take, drop, map, get_or, refl, sym, ap, ◌∙◌, subst, arith, inl, inr, length-append}
 use Rattle.std.specs.Prelude.{Some, Contains, slice_get}
 use Rattle.std.specs.Global.{Vec}
 use Rattle.std.proofs.Math.ListN.{set, length-set}
@@ -11,9 +11,9 @@ use Rattle.cs_graph.specs.declared.component.State.{State}
 use Rattle.cs_graph.specs.declared.component.State.TheVariants.{New, Open, Closed}
 use Rattle.cs_graph.specs.declared.component.Group.{Group}
 use Rattle.cs_graph.specs.declared.component.Search.{Search}
-use Rattle.cs_graph.specs.Graph.{Edge, Path, edge, longer, Leads, AreComponents}
-use Rattle.cs_graph.specs.Groups.{number, IsNew, IsAbove, IsRising, IsFound, is_closed, is_behind, is_pending, AreClosed, IsSearch, AreNumbered, IsSearchWith, IsClosed, IsStep}
-use Rattle.cs_graph.proofs.Reaching.{contained_alone, contains_none, contains_itself}
+use Rattle.cs_graph.specs.Graph.{Path, edge, longer, Leads, AreComponents}
+use Rattle.cs_graph.specs.Groups.{number, IsNew, IsFound, is_closed, is_behind, is_pending, IsSearch, AreNumbered, IsSearchWith, IsClosed, IsStep}
+use Rattle.cs_graph.proofs.Single.{contained_alone, contains_none}
 use Rattle.cs_graph.proofs.Gets.{get_taken, get_take, get_dropped, get_drop, get_set, get_before, get_still}
 use Rattle.cs_graph.proofs.Grouping.{at_most_last, rising_front, same_search, unopened-fewer}
 
@@ -241,8 +241,7 @@ module _ (graph : List (Vec ℕ)) where
           let c = closed_at x lt in
           let d = closed_at y within in
           let at_x = number_at x c.0 c.1 in
-          let at_y = number_at y d.0 d.1 in
-          (
+          let at_y = number_at y d.0 d.1 in (
             λ e. let f : c.0 ≡ d.0 = cc in let there = subst (λ m. slice_get states x ≡ Some (Closed m)) f c.1 in (s.done.joined x y d.0 there d.1, s.done.joined y x d.0 d.1 there),
             λ both. let le = low x y c.0 d.0 both.0 c.1 d.1 in let ge = low y x d.0 c.0 both.1 d.1 c.1 in omega (arith, at_x, at_y),
           );

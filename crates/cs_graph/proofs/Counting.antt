@@ -1,8 +1,7 @@
 -- Marks, set and counted.
-use Rattle.std.proofs.Common.{◌≡◌, ◌⊎◌, ℕ, zero, suc, ◌+◌, ◌<◌, Bool, true, false, List, [], ◌∷◌, ◌++◌, take, drop, length, replicate, get_or, refl, sym, ap, ◌∙◌, arith, inl, inr}
+use Rattle.std.proofs.Common.{◌≡◌, ◌⊎◌, ℕ, zero, suc, ◌+◌, ◌<◌, Bool, true, false, List, [], ◌∷◌, length, replicate, get_or, refl, sym, ap, ◌∙◌, arith, inl, inr}
 use Rattle.std.proofs.Math.ListN.{set}
 use Rattle.std.proofs.lemmas.Bool.{false≢true}
-use Rattle.std.proofs.lemmas.List.{take_at}
 use Rattle.cs_graph.specs.Marks.{IsMarked, unmarked}
 
 pub true_or_false : (b : Bool) → (b ≡ true) ⊎ (b ≡ false)
@@ -19,22 +18,6 @@ unmarked-set (true ∷ marks) zero lt e = absurd (false≢true (sym e))
 unmarked-set (false ∷ marks) zero lt e = refl
 unmarked-set (true ∷ marks) (suc i) lt e = unmarked-set marks i (omega arith) e
 unmarked-set (false ∷ marks) (suc i) lt e = omega (arith, unmarked-set marks i (omega arith) e)
-
-pub some_unmarked : (marks : List Bool) → 0 < unmarked marks → (i : ℕ) × (i < length marks) × (get_or marks i false ≡ false)
-some_unmarked [] lt = absurd (omega arith)
-some_unmarked (false ∷ marks) lt = (0, omega arith, refl)
-some_unmarked (true ∷ marks) lt = let h = some_unmarked marks lt in let le = h.1 in (suc h.0, omega arith, h.2)
-
-pub all_marked : (marks : List Bool) (i : ℕ) → unmarked marks ≡ 0 → i < length marks → IsMarked marks i
-all_marked [] i e lt = absurd (omega arith)
-all_marked (false ∷ marks) i e lt = absurd (omega arith)
-all_marked (true ∷ marks) zero e lt = refl
-all_marked (true ∷ marks) (suc i) e lt = all_marked marks i e (omega arith)
-
-pub marked_within : (marks : List Bool) (i : ℕ) → IsMarked marks i → i < length marks
-marked_within [] i e = absurd (false≢true e)
-marked_within (b ∷ marks) zero e = omega arith
-marked_within (b ∷ marks) (suc i) e = omega (arith, marked_within marks i e)
 
 pub marked_there : (marks : List Bool) (i : ℕ) → i < length marks → IsMarked (set marks i true) i
 marked_there [] i lt = absurd (omega arith)
@@ -58,14 +41,7 @@ marked_before (b ∷ marks) (suc i) (suc j) e = elim (marked_before marks i j e)
 pub unmarked_not : (marks : List Bool) (i : ℕ) → get_or marks i false ≡ false → IsMarked marks i → ⊥
 unmarked_not marks i e m = false≢true (sym e ∙ m)
 
--- marks that were written through a slice of them all
-pub written_back : (xs ys : List Bool) (n : ℕ) → length xs ≡ n → take n (xs ++ drop (length xs) ys) ≡ xs
-written_back xs ys n e = take_at xs (drop (length xs) ys) n e
-
 pub none_marked : (n i : ℕ) → IsMarked (replicate n false) i → ⊥
 none_marked zero i e = false≢true e
 none_marked (suc n) zero e = false≢true e
 none_marked (suc n) (suc i) e = none_marked n i e
-
-pub none_of : (marks : List Bool) → ((i : ℕ) → get_or marks i false ≡ false) → (i : ℕ) → IsMarked marks i → ⊥
-none_of marks none i m = unmarked_not marks i (none i) m

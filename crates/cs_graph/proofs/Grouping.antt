@@ -1,5 +1,5 @@
 -- The search for strongly connected components.
-use Rattle.std.proofs.Common.{◌≡◌, ◌⊎◌, ◌↔◌, ℕ, zero, suc, ◌+◌, ◌<◌, ◌≤◌, List, [], ◌∷◌, ◌++◌, length, take, drop, map, get_or, refl, sym, ap, ◌∙◌, subst, arith, inl, inr, length-append, replicate}
+use Rattle.std.proofs.Common.{◌≡◌, ◌⊎◌, ℕ, zero, suc, ◌+◌, ◌<◌, ◌≤◌, List, [], ◌∷◌, ◌++◌, length, get_or, refl, sym, ap, ◌∙◌, subst, arith, inl, inr, length-append, replicate}
 use Rattle.std.specs.Prelude.{Some, Contains, slice_get}
 use Rattle.std.specs.Global.{Vec}
 use Rattle.std.proofs.Math.ListN.{set, length-set, get_or-append}
@@ -11,11 +11,10 @@ use Rattle.std.proofs.lemmas.Option.{slice_get_within, slice_get-get_or}
 use Rattle.cs_graph.specs.declared.component.State.{State}
 use Rattle.cs_graph.specs.declared.component.State.TheVariants.{New, Open, Closed}
 use Rattle.cs_graph.specs.declared.component.Group.{Group}
-use Rattle.cs_graph.specs.Graph.{Edge, Path, edge, longer, Leads, AreComponents}
-use Rattle.cs_graph.specs.Groups.{number, IsNew, IsAbove, Precedes, IsRising, IsFound, is_closed, is_behind, is_pending, HasSource, AreClosed, IsSearchBut, IsSearch, AllLead, IsJoined, AreNumbered, unopened}
-use Rattle.cs_graph.proofs.Reaching.{contains_none}
-use Rattle.cs_graph.proofs.Searching.{edge_to}
-use Rattle.cs_graph.proofs.Gets.{get_left, get_pushed, get_contains, get_cases, get_push_cases, get_right, get_taken, get_take, get_dropped, get_drop, get_set, get_before, get_still, get_replicated}
+use Rattle.cs_graph.specs.Graph.{Edge, edge, Leads}
+use Rattle.cs_graph.specs.Groups.{IsNew, Precedes, IsRising, IsFound, is_closed, is_behind, is_pending, HasSource, IsSearchBut, IsSearch, AllLead, IsJoined, unopened}
+use Rattle.cs_graph.proofs.Edges.{edge_to, leads_append}
+use Rattle.cs_graph.proofs.Gets.{get_left, get_pushed, get_contains, get_cases, get_push_cases, get_right, get_set, get_before, get_still, get_replicated}
 
 -- ---- groups one behind the other
 
@@ -107,15 +106,6 @@ unopened-fewer (Closed q ∷ old) (Open p ∷ new) (v ∷ graph) size seen = uno
 unopened-fewer (Closed q ∷ old) (Closed n ∷ new) (v ∷ graph) size seen = unopened-fewer old new graph (omega arith) (λ i. seen (suc i))
 
 module _ (graph : List (Vec ℕ)) where
-  pub path_append : (from node to : ℕ) → Path graph from node → Path graph node to → Path graph from to
-  path_append from node to (edge a b e) q = longer a b to e q
-  path_append from node to (longer a next b e p) q = longer a next to e (path_append next b to p q)
-
-  pub leads_append : (from node to : ℕ) → Leads graph from node → Leads graph node to → Leads graph from to
-  leads_append from node to (inl same) q = subst (λ n. Leads graph n to) (sym same) q
-  leads_append from node to (inr p) (inl same) = inr (subst (Path graph from) same p)
-  leads_append from node to (inr p) (inr q) = inr (path_append from node to p q)
-
   -- the same search, of lists that are equal
   pub same_search : (states : List State) (stack stack_then pending pending_then : List ℕ) (gs gs_then closed closed_then : List Group) → stack_then ≡ stack → pending_then ≡ pending → gs_then ≡ gs → closed_then ≡ closed
       → IsSearch graph states stack pending gs closed → IsSearch graph states stack_then pending_then gs_then closed_then
@@ -186,7 +176,7 @@ module _ (graph : List (Vec ℕ)) where
 
     -- all nodes on the stack lead to it
     pub all_lead : AllLead graph stack to
-    all_lead = λ p x e. leads_append x taken_from.node to (s.leads p taken_from.place x taken_from.node e taken_from.is (λ g h le. taken_from.placed_in g h (low g h))) (inr (edge taken_from.node to taken_from.step))
+    all_lead = λ p x e. leads_append graph x taken_from.node to (s.leads p taken_from.place x taken_from.node e taken_from.is (λ g h le. taken_from.placed_in g h (low g h))) (inr (edge taken_from.node to taken_from.step))
 
   -- ---- a pending node is closed, or on the stack
 
@@ -220,7 +210,7 @@ module _ (graph : List (Vec ℕ)) where
         placed = s.placed;
         opened = s.opened;
         leads = λ p q x y h i above. elim (cases_lt place p) [
-          | inl lt ↦ leads_append x to y (all p x h) (s.leads place q to y there i (λ g has le. above g (j.kept g has le) (omega arith)))
+          | inl lt ↦ leads_append graph x to y (all p x h) (s.leads place q to y there i (λ g has le. above g (j.kept g has le) (omega arith)))
           | inr low ↦ s.leads p q x y h i (λ g has le. above g (j.kept g has (omega arith)) le)
         ];
         source = λ k n h. let r = s.source k n h in record {

@@ -1,6 +1,6 @@
 pub mod Counting
-pub mod Reaching
-pub mod Searching
+pub mod Single
+pub mod Edges
 pub mod Pushing
 pub mod Acyclic
 pub mod Weights

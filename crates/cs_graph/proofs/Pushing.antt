@@ -9,7 +9,7 @@ use Rattle.cs_graph.specs.Graph.{Edge, IsOrdered}
 use Rattle.cs_graph.specs.Marks.{IsMarked, unmarked}
 use Rattle.cs_graph.specs.Order.{IsPartial}
 use Rattle.cs_graph.proofs.Counting.{unmarked-set, marked_there, marked_still, marked_before, unmarked_not}
-use Rattle.cs_graph.proofs.Reaching.{contained_alone, contains_none}
+use Rattle.cs_graph.proofs.Single.{contained_alone, contains_none}
 
 pub not_nil : (xs ys : List ℕ) (y : ℕ) → [] ≡ xs ++ y ∷ ys → ⊥
 not_nil xs ys y e = let f : 0 ≡ length (xs ++ y ∷ ys) = ap length e in absurd (omega (arith, length-append xs (y ∷ ys)))

@@ -13,8 +13,8 @@ use Rattle.cs_graph.specs.Graph.{Edge, Path, edge, IsOrder, HasCycle}
 use Rattle.cs_graph.specs.Marks.{IsMarked}
 use Rattle.cs_graph.specs.Walk.{nodes, IsTrail, IsLookedAt, IsWalk, unopened, work}
 use Rattle.cs_graph.proofs.Counting.{marked_there, marked_still, marked_before, unmarked_not}
-use Rattle.cs_graph.proofs.Reaching.{contained_alone, contains_none}
-use Rattle.cs_graph.proofs.Searching.{path_then_edge, edge_to}
+use Rattle.cs_graph.proofs.Single.{contained_alone, contains_none}
+use Rattle.cs_graph.proofs.Edges.{path_then_edge, edge_to}
 use Rattle.cs_graph.proofs.Pushing.{split_last, not_nil, partial_push}
 
 -- ---- lists

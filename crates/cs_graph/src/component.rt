@@ -99,7 +99,11 @@ fn close(search: &mut Search, last: Group) -> Result<(), AllocError>
     requires nodes { All (λ node. node < length search.old.states.items) search.old.stack.items }
     ensures { OnOk result (IsClosed search.old last search.new) }
 {
-    number_all(&mut search.states, &search.stack[last.first..], search.closed.len());
+    number_all(
+        &mut search.states,
+        &search.stack[last.first..],
+        search.closed.len(),
+    );
     search.stack.truncate(last.first);
     search.closed.push(last)?;
     Ok(())

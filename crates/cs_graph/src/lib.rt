@@ -1,20 +1,19 @@
-//! Directed graphs: an order of the nodes in which each stands behind its successors, and whether one node leads to another.
+//! Directed graphs: an order of the nodes in which each stands behind its successors, and the strongly connected components.
 //!
 //! The layer above hands a graph in as a list: for each node, from 0, the nodes to which it has an edge. By `order` it gets an
-//! order in which it can work over the nodes, or learns that some node reaches itself; by `leads` it finds such a node.
+//! order in which it can work over the nodes, or learns that some node reaches itself; by `components` it finds out which do.
 //!
-//! Meaning, in `specs/`: `Graph` (edges, paths, orders). `Marks`, `Search`, `Order` and `Walk` are working words of proofs.
+//! Meaning, in `specs/`: `Graph` (edges, paths, orders, components). `Marks`, `Order`, `Walk` and `Groups` are working words of
+//! proofs.
 #![tactic(auto)]
 
 mod component;
 mod fits;
 mod laws;
-mod leading;
 mod marks;
 mod ordering;
 
 pub use component::components;
 pub use fits::is_graph;
 pub use laws::{one_place, ordered_without_cycle};
-pub use leading::leads;
 pub use ordering::order;

@@ -9,7 +9,7 @@ use Rattle.std.proofs.lemmas.List.Quantifiers.{position-Some}
 use Rattle.std.proofs.lemmas.Option.{slice_get-get_or, slice_get_within}
 use Rattle.cs_graph.specs.Graph.{Edge, IsGraph, Path, edge, longer, Leads, HasCycle}
 use Rattle.cs_graph.specs.Graph as graphs
-use Rattle.cs_graph.proofs.Reaching.{contained_alone, contains_none}
+use Rattle.cs_graph.proofs.Single.{contained_alone, contains_none}
 use Rattle.cs_graph.proofs.Acyclic.{no_cycle}
 use Rattle.cs_pattern_items.specs.declared.item.Placed as held
 use Rattle.cs_pattern_items.specs.Items.{Item, class, quoted, named, opening, closing, bar, repetition, Placed, items_of}
@@ -17,7 +17,7 @@ use Rattle.cs_pattern_items.specs.Views.{placed_all}
 use Rattle.cs_pattern.specs.Checked.{IsOrder}
 use Rattle.cs_pattern.specs.Checking.{HasNoCycle}
 use Rattle.cs_pattern_postfix.specs.Definitions.{Definition}
-use Rattle.cs_pattern.specs.Stages.{AreRead, IsUseGraph}
+use Rattle.cs_pattern.specs.Stages.{AreComponents, AreRead, IsUseGraph, Meets}
 use Rattle.cs_pattern.specs.Table.{Reads}
 use Rattle.cs_pattern.specs.Uses.{used, Uses, UsesDefinition, Reaches, directly, through, LeadsTo}
 use Rattle.cs_pattern.proofs.Readings.{one_reading}
@@ -120,13 +120,25 @@ module _ (ds : List Definition) (graph : List (Vec ℕ)) (g : IsUseGraph ds grap
   reaches_path from to (directly a b u) = edge a b (g.all a b u)
   reaches_path from to (through a next b u r) = longer a next b (g.all a next u) (reaches_path next b r)
 
-  pub leads_reaches : (from to : ℕ) → Leads graph from to → (from ≡ to) ⊎ Reaches ds from to
+  pub leads_reaches : (from to : ℕ) → Leads graph from to → Meets ds from to
   leads_reaches from to (inl e) = inl e
   leads_reaches from to (inr p) = inr (path_reaches from to p)
 
-  pub reaches_leads : (from to : ℕ) → (from ≡ to) ⊎ Reaches ds from to → Leads graph from to
+  pub reaches_leads : (from to : ℕ) → Meets ds from to → Leads graph from to
   reaches_leads from to (inl e) = inl e
   reaches_leads from to (inr r) = inr (reaches_path from to r)
+
+  -- the components of the graph are those of the definitions
+  pub components_of_uses : (components : List ℕ) → graphs.AreComponents graph components → AreComponents ds components
+  components_of_uses components a = record {
+    count = a.size ∙ g.count;
+    same = λ i j lt within.
+        let size = g.count in
+        let s = a.same i j (omega arith) (omega arith) in (
+          λ e. let both = s.0 e in (leads_reaches i j both.0, leads_reaches j i both.1),
+          λ both. s.1 (reaches_leads i j both.0, reaches_leads j i both.1),
+        );
+  }
 
   pub order_of_uses : (order : List ℕ) → graphs.IsOrder graph order → IsOrder ds order
   order_of_uses order o = record {

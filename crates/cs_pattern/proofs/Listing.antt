@@ -1,5 +1,5 @@
 -- The loops over items: what they have found so far, and one item more.
-use Rattle.std.proofs.Common.{◌≡◌, ℕ, suc, ◌+◌, ◌<◌, List, [], ◌∷◌, ◌++◌, length, get_or, take, drop, refl, sym, ap, ◌∙◌, subst, inl, inr, arith}
+use Rattle.std.proofs.Common.{◌≡◌, ℕ, zero, suc, ◌+◌, ◌<◌, List, [], ◌∷◌, ◌++◌, length, get_or, take, drop, refl, sym, ap, ◌∙◌, subst, inl, inr, arith}
 use Rattle.std.specs.Prelude.{Some, slice_get}
 use Rattle.std.specs.List.{filter_map, AllByRecursion}
 use Rattle.std.specs.Global.{Vec}
@@ -11,7 +11,7 @@ use Rattle.cs_pattern_items.specs.declared.item.Placed as held
 use Rattle.cs_pattern_items.specs.Items.{Placed, items_of}
 use Rattle.cs_pattern_items.specs.Views.{item_of, placed_of, placed_all}
 use Rattle.cs_pattern_postfix.specs.Definitions.{Definition}
-use Rattle.cs_pattern.specs.Uses.{used, LeadsTo, IsFirstTo}
+use Rattle.cs_pattern.specs.Uses.{used, Uses, LeadsTo, IsFirstTo}
 use Rattle.cs_pattern.proofs.Linked.{HasUses, all_push}
 use Rattle.cs_pattern.proofs.Staged.{get_still, get_last}
 
@@ -34,6 +34,12 @@ more_uses ds items k p us more lt is e f =
 pub more_without : (P : Placed → Type 0) (items : List held.Placed) (k : ℕ) (p : held.Placed) → k < length items → p ≡ get_or items k p
     → AllByRecursion P (placed_all (take k items)) → P (placed_of p) → AllByRecursion P (placed_all (take (k + 1) items))
 more_without P items k p lt is h q = subst (AllByRecursion P) (sym (one_more_placed items k p lt is)) (all_push P (placed_all (take k items)) (placed_of p) h q)
+
+-- what an item names, the items use
+pub item_used : (ds : List Definition) (next : ℕ) (items : List held.Placed) (k : ℕ) (p : held.Placed) → k < length items → p ≡ get_or items k p → used ds (placed_of p).item ≡ Some next → Uses ds (items_of (placed_all items)) next
+item_used ds next [] k p lt is e = absurd (omega arith)
+item_used ds next (q ∷ items) zero p lt is e = inl (subst (λ (x : held.Placed). used ds (placed_of x).item ≡ Some next) is e)
+item_used ds next (q ∷ items) (suc k) p lt is e = inr (item_used ds next items k p (omega arith) is e)
 
 pub first_there : (ds : List Definition) (to : ℕ) (items : List held.Placed) (k : ℕ) (p : held.Placed) → k < length items → p ≡ get_or items k p
     → LeadsTo ds to (placed_of p) → AllByRecursion (λ q. LeadsTo ds to q → ⊥) (placed_all (take k items)) → IsFirstTo ds to (placed_all items) p.at

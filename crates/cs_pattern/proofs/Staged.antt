@@ -10,7 +10,7 @@ use Rattle.std.proofs.lemmas.List.Elements.{Contains-append_cases}
 use Rattle.std.proofs.lemmas.List.Sums.{sum_by-cons, get_or-le-sum_by}
 use Rattle.std.proofs.lemmas.Option.{slice_get_within, get_or_from_slice_get, slice_get-map}
 use Rattle.cs_graph.proofs.Pushing.{below_next}
-use Rattle.cs_graph.proofs.Reaching.{contained_alone}
+use Rattle.cs_graph.proofs.Single.{contained_alone}
 use Rattle.cs_pattern_items.specs.declared.item.Placed as held
 use Rattle.cs_pattern.specs.declared.place.Place.{Place}
 use Rattle.cs_pattern_items.specs.Items.{Item, Placed, items_of}
@@ -32,7 +32,7 @@ use Rattle.cs_pattern_postfix.specs.Measures.{measure_of, leaf, measures}
 use Rattle.cs_pattern.specs.Names.{first_undefined}
 use Rattle.cs_pattern_postfix.specs.Operations.{ops_of, tree_ops, number_of}
 use Rattle.cs_pattern_tree.specs.Pattern.{leaves}
-use Rattle.cs_pattern.specs.Stages.{StopsAs, HasItems, AreRead, AreNamed, HasOperations, AreOperations, IsMeasured, AreMeasures, HasTree}
+use Rattle.cs_pattern.specs.Stages.{StopsAs, HasItems, AreRead, AreNamed, AreItemsOf, HasOperations, AreOperations, IsMeasured, AreMeasures, HasTree}
 use Rattle.cs_pattern.specs.Substitution.{IsTreeOf}
 use Rattle.cs_pattern_postfix.specs.Depth.{depth, pattern_of}
 use Rattle.cs_pattern.specs.Table.{Reads, IsFirstStop}
@@ -113,6 +113,9 @@ module _ (ds : List Definition) (all : List (Vec held.Placed)) (read : AreRead d
       let h = read.each i d.0 d.1 in
       let same : h.items ≡ items = cc (is, h.there) in
       (d.0, d.1, subst (λ (v : Vec held.Placed). Reads d.0.text (placed_all v.items)) same h.read)
+
+  pub uses_of_items : (i : ℕ) (items : Vec held.Placed) → slice_get all i ≡ Some items → AreItemsOf ds i (placed_all items.items)
+  uses_of_items i items is next u = let d = definition_of_items i items is in record { definition = d.0; is = d.1; items = placed_all items.items; read = d.2; uses = u }
 
   pub names_before : (end : ℕ) → ((i : ℕ) (items : Vec held.Placed) → i < end → slice_get all i ≡ Some items → first_undefined ds (placed_all items.items) ≡ None) → EachBefore end (HasAllNames ds) ds
   names_before end named i d lt is = let h = read.each i d is in (placed_all h.items.items, h.read, named i h.items lt h.there)

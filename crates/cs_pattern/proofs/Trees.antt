@@ -7,7 +7,7 @@ use Rattle.std.proofs.lemmas.List.Elements.{Contains-append_cases}
 use Rattle.std.proofs.lemmas.List.Sums.{sum_by-cons, sum_by_push}
 use Rattle.std.proofs.lemmas.Option.{slice_get-map, get_or_from_slice_get, slice_get_within}
 use Rattle.std.specs.Global.{Vec}
-use Rattle.cs_graph.proofs.Reaching.{contained_alone, contains_none}
+use Rattle.cs_graph.proofs.Single.{contained_alone, contains_none}
 use Rattle.cs_graph.proofs.Weights.{weighed_once}
 use Rattle.cs_pattern_items.specs.declared.item.Placed as held
 use Rattle.cs_pattern_items.specs.Items.{Item, class, quoted, named, opening, closing, bar, repetition, Placed, items_of}

@@ -1,8 +1,9 @@
 -- What the stages of checking definitions hold.
-use Rattle.std.specs.Prelude.{◌≡◌, ℕ, ◌<◌, ◌≤◌, ◌^◌, List, Some, None, length, slice_get, slice_index_or}
+use Rattle.std.specs.Prelude.{◌≡◌, ◌⊎◌, ◌↔◌, ℕ, ◌<◌, ◌≤◌, ◌^◌, List, Some, None, length, slice_get, slice_index, slice_index_or}
 use Rattle.std.specs.Global.{Vec}
 use Rattle.cs_graph.specs.Graph.{Edge}
 use Rattle.cs_pattern_items.specs.declared.item.Placed as held
+use Rattle.cs_pattern_items.specs.Items.{Placed, items_of}
 use Rattle.cs_pattern_items.specs.Views.{placed_all}
 use Rattle.cs_pattern.specs.declared.fault.CheckError as errors
 use Rattle.cs_pattern.specs.declared.fault.CheckError.TheVariants as error_kinds
@@ -16,7 +17,7 @@ use Rattle.cs_pattern_postfix.specs.Operations.{ops_of, tree_ops, number_of}
 use Rattle.cs_pattern.specs.Substitution.{SpellsTree, IsTreeOf}
 use Rattle.cs_pattern_postfix.specs.Depth.{depth}
 use Rattle.cs_pattern.specs.Table.{Reads, IsFirstStop}
-use Rattle.cs_pattern.specs.Uses.{UsesDefinition}
+use Rattle.cs_pattern.specs.Uses.{used, Uses, UsesDefinition, Reaches}
 use Rattle.cs_pattern.specs.Answers.{limit_of}
 use Rattle.cs_pattern.specs.Checked.{IsOrder}
 use Rattle.cs_pattern.specs.Checking.{Each, HasAllNames, HasNoCycle, RefusesDefinitions}
@@ -47,6 +48,23 @@ pub record IsUseGraph (ds : List Definition) (graph : List (Vec ℕ)) : Type 0 w
   pub count : length graph ≡ length ds
   pub used : (from to : ℕ) → Edge graph from to → UsesDefinition ds from to
   pub all : (from to : ℕ) → UsesDefinition ds from to → Edge graph from to
+
+-- the one definition is the other, or reaches it
+abbrev pub Meets : List Definition → ℕ → ℕ → Type 0
+Meets ds from to = (from ≡ to) ⊎ Reaches ds from to
+
+-- Each definition has a number, two the same one exactly where each meets the other.
+pub record AreComponents (ds : List Definition) (components : List ℕ) : Type 0 where
+  pub count : length components ≡ length ds
+  pub same : (one other : ℕ) → one < length ds → other < length ds → (slice_index components one ≡ slice_index components other) ↔ (Meets ds one other × Meets ds other one)
+
+-- the definition uses what the item names
+abbrev pub IsItemOf : List Definition → ℕ → Placed → Type 0
+IsItemOf ds index p = (next : ℕ) → used ds p.item ≡ Some next → UsesDefinition ds index next
+
+-- the definition uses what the items name
+abbrev pub AreItemsOf : List Definition → ℕ → List Placed → Type 0
+AreItemsOf ds index items = (next : ℕ) → Uses ds (items_of items) next → UsesDefinition ds index next
 
 -- the operations of the text stand at the index
 pub record HasOperations (ds : List Definition) (bodies : List (Vec code.Op)) (index : ℕ) (text : List ℕ) : Type 0 where

@@ -5,14 +5,14 @@ ghost use Rattle.cs_pattern.specs.Names as spec;
 ghost use Rattle.cs_pattern.specs.Checked.{IsOrder};
 ghost use Rattle.cs_pattern.specs.Checking.{RefusesDefinitions, HasNoCycle};
 ghost use Rattle.cs_pattern_postfix.specs.Definitions.{definitions_of, total_bytes};
-ghost use Rattle.cs_pattern.specs.Stages.{AreRead, AreNamed, IsUseGraph};
+ghost use Rattle.cs_pattern.specs.Stages.{AreComponents, AreItemsOf, AreNamed, AreRead, IsItemOf, IsUseGraph};
 ghost use Rattle.cs_pattern.specs.Uses as meaning;
 ghost use Rattle.cs_pattern.specs.UseView.{IsFirstBack, LeadsBack, all_uses, with_use};
-ghost use Rattle.cs_pattern_items.specs.Views.{item_of, placed_all};
+ghost use Rattle.cs_pattern_items.specs.Views.{item_of, placed_all, placed_of};
 
 use crate::checking::fault_at;
 use crate::fault::{CheckError, PatternFault};
-use cs_graph::{leads, order};
+use cs_graph::{components, order};
 use cs_pattern_items::{Item, Placed};
 use cs_pattern_postfix::{Texts, index_of};
 use std::alloc::{AllocError, Global};
@@ -86,42 +86,32 @@ pub fn graph_of(
     Ok(graph)
 }
 
-/// Whether the item names the definition or one that reaches it.
-fn leads_to(
-    alloc: Global,
-    placed: &Placed,
-    names: &Texts,
-    graph: &[Vec<usize>],
-    to: usize,
-) -> Result<bool, AllocError>
-    requires graph { IsUseGraph (definitions_of names.now.entries) graph.now }
-    requires to { to < length graph.now }
-    ensures { IfOk result (λ leads. IsTrue leads ↔ LeadsBack names.now.entries to placed.now) }
+/// Whether the definition's item names the definition or one that reaches it.
+fn leads_to(placed: &Placed, names: &Texts, components: &[usize], to: usize) -> bool
+    requires numbers { AreComponents (definitions_of names.now.entries) components.now }
+    requires to { to < length components.now }
+    requires item { IsItemOf (definitions_of names.now.entries) to (placed_of placed.now) }
+    ensures { IsTrue result ↔ LeadsBack names.now.entries to placed.now }
 {
     match used(&placed.item, names) {
-        Some(next) => leads(alloc, graph, next, to),
-        None => Ok(false),
+        Some(next) => components[next] == components[to],
+        None => false,
     }
 }
 
-/// The offset of the first item from which the definition is reached.
-fn first_to(
-    alloc: Global,
-    items: &[Placed],
-    names: &Texts,
-    graph: &[Vec<usize>],
-    to: usize,
-) -> Result<Option<u32>, AllocError>
-    requires graph { IsUseGraph (definitions_of names.now.entries) graph.now }
-    requires to { to < length graph.now }
-    ensures { IfOk result (IsFirstBack names.now.entries to items.now) }
+/// The offset of the first of the definition's items from which it is reached.
+fn first_to(items: &[Placed], names: &Texts, components: &[usize], to: usize) -> Option<u32>
+    requires numbers { AreComponents (definitions_of names.now.entries) components.now }
+    requires to { to < length components.now }
+    requires items { AreItemsOf (definitions_of names.now.entries) to (placed_all items.now) }
+    ensures { IsFirstBack names.now.entries to items.now result }
 {
     for placed in items {
-        if leads_to(alloc, placed, names, graph, to)? {
-            return Ok(Some(placed.at));
+        if leads_to(placed, names, components, to) {
+            return Some(placed.at);
         }
     }
-    Ok(None)
+    None
 }
 
 /// Refuses the lowest definition that reaches itself.
@@ -138,8 +128,9 @@ fn check_cycles(
     ensures none { OnOk result (HasNoCycle (definitions_of names.now.entries)) }
     ensures refused { IfErr result (RefusesDefinitions (definitions_of names.now.entries)) }
 {
+    let components = components(alloc, graph)?;
     for (index, items) in all.iter().enumerate() {
-        if let Some(at) = first_to(alloc, items, names, graph, index)? {
+        if let Some(at) = first_to(items, names, &components, index) {
             return Err(fault_at(index, PatternFault::DefinitionCycle { at }));
         }
     }

@@ -1,4 +1,4 @@
-use Rattle.std.proofs.Common.{◌≡◌, ◌++◌, ◌∷◌, [], List, sym, subst, arith}
+use Rattle.std.proofs.Common.{List, sym, subst}
 use Rattle.cs_graph.specs.declared.component.Group.{Group}
 use Rattle.cs_graph.specs.Groups.{IsJoined}
 use Rattle.cs_graph.proofs.Grouping.{joined_here, still_kept, still_from, still_rises, still_fewer}

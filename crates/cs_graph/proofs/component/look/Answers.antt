@@ -1,8 +1,7 @@
-use Rattle.std.proofs.Common.{◌≡◌, ◌<◌, ◌∙◌, List, refl, ap, arith, length}
+use Rattle.std.proofs.Common.{◌≡◌, ◌<◌, ◌∙◌, refl, ap, arith, length}
 use Rattle.std.specs.Prelude.{Some, slice_get}
 use Rattle.std.proofs.lemmas.Option.{slice_get_read}
 use Rattle.std.proofs.lemmas.Result.{on_ok_weaker}
-use Rattle.cs_graph.specs.declared.component.Group.{Group}
 use Rattle.cs_graph.specs.declared.component.State.TheVariants.{Open, Closed}
 use Rattle.cs_graph.proofs.Grouping.{joins, passes}
 use Rattle.cs_graph.proofs.component.look.Goals as goal

@@ -4,7 +4,7 @@ use Rattle.std.proofs.lemmas.Bool.{false≢true}
 use Rattle.std.proofs.lemmas.Option.{slice_get_read, slice_get_within}
 use Rattle.std.proofs.lemmas.List.Elements.{All-contains}
 use Rattle.cs_graph.specs.Graph.{Edge}
-use Rattle.cs_graph.proofs.Searching.{successors_within, edge_to}
+use Rattle.cs_graph.proofs.Edges.{successors_within, edge_to}
 use Rattle.cs_graph.proofs.Pushing.{below_next}
 use Rattle.cs_graph.proofs.fits.is_graph.Goals as goal
 
