@@ -1,6 +1,6 @@
-// Orders of graphs, and which node leads to which.
+// Orders and components of graphs.
 
-use cs_graph::{is_graph, leads, order};
+use cs_graph::{components, is_graph, order};
 use std::alloc::{AllocError, Global};
 use std::test::Fail;
 
@@ -51,32 +51,48 @@ fn nodes_in_order(rt: HostRuntime) -> Result<(), Fail> {
     Ok(())
 }
 
-// Whether the one node leads to the other; of no graph none does.
-fn leads_in(
-    alloc: Global,
-    graph: &[Vec<usize>],
-    from: usize,
-    to: usize,
-) -> Result<bool, AllocError> {
-    if !is_graph(graph) || from >= graph.len() || to >= graph.len() {
-        return Ok(false);
+// For each node the first one of its component, or that there is no graph.
+fn first_nodes(alloc: Global, graph: &[Vec<usize>]) -> Result<String, AllocError> {
+    if !is_graph(graph) {
+        return format!(in alloc; "no graph");
     }
-    leads(alloc, graph, from, to)
+    let numbers = components(alloc, graph)?;
+    let mut firsts = Vec::new(alloc);
+    for number in &numbers {
+        firsts.push(numbers.iter().position(|other| *other == *number))?;
+    }
+    let mut text = String::new(alloc);
+    for first in firsts.iter().flatten() {
+        write!(text, "{first} ")?;
+    }
+    Ok(text)
 }
 
 #[test]
-fn nodes_to_which_a_node_leads(rt: HostRuntime) -> Result<(), Fail> {
+fn nodes_that_lead_to_one_another(rt: HostRuntime) -> Result<(), Fail> {
     let alloc = rt.alloc();
-    let graph = graph_of(alloc, "1 23 1 4 -")?;
     let cases = [
-        (0, 4, true),
-        (0, 0, true),
-        (1, 0, false),
-        (2, 2, true),
-        (4, 3, false),
+        ("-", "0 "),
+        ("0", "0 "),
+        ("1 0", "0 0 "),
+        ("1 2 -", "0 1 2 "),
+        ("12 3 3 -", "0 1 2 3 "),
+        ("1 - 10", "0 1 2 "),
+        // The last edge goes back over two nodes.
+        ("1 2 3 1", "0 1 1 1 "),
+        // Two cycles share node 0.
+        ("12 0 0", "0 0 0 "),
+        // Node 3 is between the cycles of 1 and 2 and of 4 and 5, node 0 in front of them, and node 6 behind them.
+        ("1 2 13 4 5 46 -", "0 1 1 3 4 4 6 "),
+        // The same, with edges over the node between.
+        ("14 2 413 4 5 64 -", "0 1 1 3 4 4 6 "),
+        ("1", "no graph"),
     ];
-    for (from, to, want) in cases {
-        assert_eq!(rt; leads_in(alloc, &graph, from, to)?, want, "{from} {to}");
+    for (text, want) in cases {
+        let graph = graph_of(alloc, text)?;
+        let found = first_nodes(alloc, &graph)?;
+        assert_eq!(rt; found.as_str(), want, "{text}");
     }
+    assert_eq!(rt; components(alloc, &[])?.len(), 0);
     Ok(())
 }

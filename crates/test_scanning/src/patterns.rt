@@ -222,7 +222,7 @@ fn define(alloc: Global, texts: &[(&[u8], &[u8])]) -> Result<Definitions, Defini
 #[test]
 fn definitions_are_checked_in_order(rt: HostRuntime) -> Result<(), Fail> {
     let alloc = rt.alloc();
-    let cases: [(&[(&[u8], &[u8])], &str); 10] = [
+    let cases: [(&[(&[u8], &[u8])], &str); 12] = [
         (
             &[(b"A", b"{B}"), (b"B", b"{A}")],
             "Fault { index: 0, fault: DefinitionCycle { at: 0 } }",
@@ -251,6 +251,15 @@ fn definitions_are_checked_in_order(rt: HostRuntime) -> Result<(), Fail> {
             // C leads into the cycle of D and E, and is on none itself.
             &[(b"C", b"{D}"), (b"D", b"a{E}"), (b"E", b"b|{D}")],
             "Fault { index: 1, fault: DefinitionCycle { at: 1 } }",
+        ),
+        (
+            // M is between the cycle of Q and R and that of P, and on none itself.
+            &[(b"M", b"a{P}"), (b"P", b"{P}"), (b"Q", b"{R}"), (b"R", b"{Q}{M}")],
+            "Fault { index: 1, fault: DefinitionCycle { at: 0 } }",
+        ),
+        (
+            &[(b"A", b"b{B}{A}"), (b"B", b"c")],
+            "Fault { index: 0, fault: DefinitionCycle { at: 4 } }",
         ),
         (
             &[(b"A", b"{B}"), (b"B", b"{A}{C}")],
