@@ -9,6 +9,7 @@ here is part of the gate.
 import os
 import random
 import shutil
+import string
 import subprocess
 import sys
 import tempfile
@@ -16,6 +17,7 @@ import tempfile
 TOP = os.path.dirname(os.path.dirname(os.path.abspath(__file__)))
 MOST_BYTES = 1_048_576
 BOUND = 1000
+LETTERS = string.ascii_letters + string.digits
 
 MAIN = """\
 //! Reads lex files beside a yacc file, and tells how long each takes.
@@ -69,6 +71,40 @@ def names_in_a_row(order):
     return "\n".join(order(lines)) + "\n%%\na ;\n"
 
 
+def name(number):
+    """A name of three letters and digits for each number below 190,000."""
+    first, rest = divmod(number, 62 * 62)
+    return LETTERS[first] + LETTERS[rest // 62] + LETTERS[rest % 62]
+
+
+def great_cycle():
+    """100,000 definitions, each naming the next, and the last the first."""
+    count = 100_000
+    lines = [f"{name(i)} {{{name((i + 1) % count)}}}" for i in range(count)]
+    return "\n".join(lines) + "\n%%\na ;\n"
+
+
+def cycles_and_ways():
+    """100,000 definitions, each naming the next; each 1,000th names the one before it too. Those on no cycle stand first."""
+    count = 100_000
+    ways, cycles = [], []
+    for i in range(count):
+        then = f"{{{name(i + 1)}}}" if i + 1 < count else "a"
+        if i % 1000 == 999:
+            cycles.append(f"{name(i)} {then}{{{name(i - 1)}}}")
+        else:
+            (cycles if i % 1000 == 998 else ways).append(f"{name(i)} {then}")
+    return "\n".join(ways + cycles) + "\n%%\na ;\n"
+
+
+def names_before_itself():
+    """A definition that names another 90,000 times before itself, and 55,000 definitions behind it in a row."""
+    count = 55_000
+    head = f"{name(0)} " + f"{{{name(1)}}}" * 90_000 + f"{{{name(0)}}}"
+    lines = [f"{name(i)} {{{name(i + 1)}}}" for i in range(1, count)] + [f"{name(count)} a"]
+    return "\n".join([head] + lines) + "\n%%\na ;\n"
+
+
 def shuffled(lines):
     random.Random(1).shuffle(lines)
     return lines
@@ -81,6 +117,9 @@ ROWS = {
     "definitions that name the next": names_in_a_row(lambda lines: lines),
     "the same turned round": names_in_a_row(lambda lines: lines[::-1]),
     "the same shuffled": names_in_a_row(shuffled),
+    "one great cycle of definitions": great_cycle(),
+    "small cycles with long ways between them": cycles_and_ways(),
+    "a definition that names itself last": names_before_itself(),
     "2,048 bars": "%%\n" + "a |\n" * 2047 + "a return NUM;\n",
     "a million bytes of comment": filled("%%\na ; /*", "x", "*/\n"),
     "quote marks that aren't closed": filled("%%\na ", "\\'", "\n"),
