@@ -1,9 +1,9 @@
 -- What the laws of lexemes say.
-use Rattle.std.specs.Prelude.{◌≡◌, ◌⊎◌, ℕ, List}
+use Rattle.std.specs.Prelude.{◌≡◌, ◌⊎◌, ℕ, List, Option}
 use Rattle.cs_pattern_items.specs.StandsFor.{AreBytes}
 use Rattle.cs_scan.specs.Scan.{Scanning}
 use Rattle.cs_lexeme.specs.Order.{IsAtMost, IsBefore}
-use Rattle.cs_lexeme.specs.Lexeme.{IsLexeme, IsOneMatch}
+use Rattle.cs_lexeme.specs.Lexeme.{AreLexemes, IsLexeme, IsOneMatch}
 
 -- one of two texts of bytes is at most the other or comes behind it, and not both
 abbrev pub IsOrdered : List ℕ → List ℕ → Type 0
@@ -16,3 +16,11 @@ AreOneLexeme s token x y = IsLexeme s token x → IsLexeme s token y → x ≡ y
 -- where some text gives the token in one match, that no text is its lexeme cannot be
 abbrev pub HasLexemeIfAny : Scanning → ℕ → List ℕ → Type 0
 HasLexemeIfAny s token x = AreBytes x → IsOneMatch s token x → ((lexeme : List ℕ) → IsLexeme s token lexeme → ⊥) → ⊥
+
+-- any two lists of the tokens' lexemes are one
+abbrev pub AreOneList : Scanning → ℕ → List (Option (List ℕ)) → List (Option (List ℕ)) → Type 0
+AreOneList s tokens x y = AreLexemes s tokens x → AreLexemes s tokens y → x ≡ y
+
+-- that no list has the tokens' lexemes cannot be
+abbrev pub HaveSomeList : Scanning → ℕ → Type 0
+HaveSomeList s tokens = ((lexemes : List (Option (List ℕ))) → AreLexemes s tokens lexemes → ⊥) → ⊥

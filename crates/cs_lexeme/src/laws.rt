@@ -1,8 +1,8 @@
-// Laws of the order of lexemes, and of lexemes.
+// Laws of the order of lexemes, of lexemes, and of their lists.
 
-ghost use Rattle.std.specs.Prelude.{ℕ, List};
+ghost use Rattle.std.specs.Prelude.{ℕ, List, Option};
 ghost use Rattle.cs_scan.specs.Scan.{Scanning};
-ghost use Rattle.cs_lexeme.specs.Laws.{AreOneLexeme, HasLexemeIfAny, IsOrdered};
+ghost use Rattle.cs_lexeme.specs.Laws.{AreOneLexeme, AreOneList, HasLexemeIfAny, HaveSomeList, IsOrdered};
 
 /// Of two texts of bytes the one is at most the other, or comes behind it, and not both.
 pub fn total_order()
@@ -18,4 +18,14 @@ pub fn one_lexeme()
 /// none where no text does is part of what a lexeme is.
 pub fn some_lexeme()
     ensures { (s : Scanning) (token : ℕ) (text : List ℕ) → HasLexemeIfAny s token text }
+{}
+
+/// Tokens have at most one list of lexemes.
+pub fn one_list_of_lexemes()
+    ensures { (s : Scanning) (tokens : ℕ) (x y : List (Option (List ℕ))) → AreOneList s tokens x y }
+{}
+
+/// Tokens have a list of lexemes, each its lexeme or that it has none: that they have no such list leads to a contradiction.
+pub fn some_list_of_lexemes()
+    ensures { (s : Scanning) (tokens : ℕ) → HaveSomeList s tokens }
 {}

@@ -1,8 +1,8 @@
 //! The least text that a scanner takes for each token.
 //!
 //! The layers above make `Lexemes` of a scanner and ask it for the text of a token. It is seen as the list of its texts, one a
-//! token, and a token without a lexeme has none. The laws say that the order of texts is total, and that a token has at most one
-//! lexeme, and one where some text scans to it in one match.
+//! token, and a token without a lexeme has none. The laws say that the order of texts is total, that a token has at most one
+//! lexeme, and one where some text scans to it in one match, and that tokens have at most one list of lexemes, and not none.
 //!
 //! Meaning: `specs/Rank.antt` (the ranks of bytes), `specs/Order.antt` (the order of lexemes), `specs/Lexeme.antt` (the lexeme
 //! of a token, over all texts), `specs/Laws.antt`. All else are working words of proofs: `Texts` (what is seen of lexemes),
@@ -18,5 +18,5 @@ mod search;
 mod sharing;
 mod steps;
 
-pub use laws::{one_lexeme, some_lexeme, total_order};
+pub use laws::{one_lexeme, one_list_of_lexemes, some_lexeme, some_list_of_lexemes, total_order};
 pub use lexemes::Lexemes;
