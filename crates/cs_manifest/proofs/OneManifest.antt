@@ -15,7 +15,7 @@ use Rattle.cs_positive.specs.declared.verdict.Verdict.TheVariants.{Feasible, Inf
 use Rattle.cs_positive.proofs.Verdicts.{one_verdict_of}
 use Rattle.cs_render.specs.Rendering.{Rendering}
 use Rattle.cs_yacc.specs.File.{File}
-use Rattle.cs_manifest.specs.Manifest.{AreLexemesBy, AreNegativesOf, AreTokensOf, BaseEntry, Choice, GoalEntry, IsBaseOf, IsEntryOf, IsManifest, IsNegativeOf, IsRenderedBy, IsTextOf, NegativeEntry, bases, most_bases, manifest_text, rules_form}
+use Rattle.cs_manifest.specs.Manifest.{AreNegativesOf, AreTokensOf, BaseEntry, Choice, GoalEntry, HasOneText, IsBaseOf, IsEntryOf, IsManifest, IsNegativeOf, IsTextOf, NegativeEntry, bases, most_bases, manifest_text}
 
 -- where each member has one partner at most, so has a list
 pub one_zip : {A B : Type 0} {R : A → B → Type 0} → ((x : A) (a b : B) → R x a → R x b → a ≡ b) → (xs : List A) (ys zs : List B) → AllZip R xs ys → AllZip R xs zs → ys ≡ zs
@@ -27,9 +27,7 @@ one_zip one (x ∷ xs) (y ∷ ys) [] p q = absurd q
 one_zip {A} {B} one (x ∷ xs) (y ∷ ys) (z ∷ zs) p q =
     ap (λ (b : B). b ∷ ys) (one x y z p.0 q.0) ∙ ap (λ (bs : List B). z ∷ bs) (one_zip one xs ys zs p.1 q.1)
 
-module _ (choice : Choice)
-    (one_rendering : (lexemes : Option (List (Option (List ℕ)))) (tokens : List ℕ) (a b : Option Rendering) → IsRenderedBy choice.texts lexemes tokens a → IsRenderedBy choice.texts lexemes tokens b → a ≡ b)
-    (lexemes : Option (List (Option (List ℕ)))) where
+module _ (choice : Choice) (one : HasOneText choice.texts) (lexemes : Option (List (Option (List ℕ)))) where
   module _ (of : Weighed) where
     one_list_of_tokens : (verdict : Verdict) (a b : List ℕ) → AreTokensOf of.grammar verdict a → AreTokensOf of.grammar verdict b → a ≡ b
     one_list_of_tokens (Feasible n derivation) a b ha hb = let e = one_outcome of.grammar derivation (Ok a) (Ok b) ha hb in cc
@@ -37,7 +35,7 @@ module _ (choice : Choice)
     one_list_of_tokens Large a b ha hb = ha ∙ sym hb
 
     one_text : (verdict : Verdict) (tokens : List ℕ) (a b : Option Rendering) → IsTextOf choice.texts lexemes verdict tokens a → IsTextOf choice.texts lexemes verdict tokens b → a ≡ b
-    one_text (Feasible n derivation) tokens a b ha hb = one_rendering lexemes tokens a b ha hb
+    one_text (Feasible n derivation) tokens a b ha hb = one.rendered lexemes tokens a b ha hb
     one_text Infeasible tokens a b ha hb = ha ∙ sym hb
     one_text Large tokens a b ha hb = ha ∙ sym hb
 
@@ -58,7 +56,7 @@ module _ (choice : Choice)
   module _ (g : PlainGrammar) where
     one_negative : (base : List ℕ) (negative : Negative) (a b : NegativeEntry) → IsNegativeOf choice.texts lexemes base negative a → IsNegativeOf choice.texts lexemes base negative b → a ≡ b
     one_negative base negative a b ha hb =
-        let rendered = one_rendering lexemes (edited base negative.edit) a.rendered b.rendered ha.text hb.text in
+        let rendered = one.rendered lexemes (edited base negative.edit) a.rendered b.rendered ha.text hb.text in
         ap (λ (n : Negative). record { negative = n; rendered = a.rendered }) (ha.is_of ∙ sym hb.is_of)
         ∙ ap (λ (r : Option Rendering). record { negative = b.negative; rendered = r }) rendered
 
@@ -73,22 +71,16 @@ module _ (choice : Choice)
         ∙ ap (λ (ts : List ℕ). record { goal = b.goal; tokens = ts; negatives = a.negatives }) (ha.tokens ∙ sym hb.tokens)
         ∙ ap (λ (ns : List NegativeEntry). record { goal = b.goal; tokens = b.tokens; negatives = ns }) (one_list_of_negatives base.1 a.negatives b.negatives ha.negatives hb.negatives)
 
-module _ (w : Measure) (choice : Choice) (file : File)
-    (one_rendering : (lexemes : Option (List (Option (List ℕ)))) (tokens : List ℕ) (a b : Option Rendering) → IsRenderedBy choice.texts lexemes tokens a → IsRenderedBy choice.texts lexemes tokens b → a ≡ b)
-    (one_lexemes : (a b : Option (List (Option (List ℕ)))) → AreLexemesBy choice.texts file.grammar.tokens a → AreLexemesBy choice.texts file.grammar.tokens b → a ≡ b) where
+module _ (w : Measure) (choice : Choice) (file : File) (one : HasOneText choice.texts) where
   pub one_manifest_by : (text other : List ℕ) → IsManifest w choice file text → IsManifest w choice file other → text ≡ other
   one_manifest_by text other a b =
       let of = weighed file.grammar w in
-      let lexemes : a.lexemes ≡ b.lexemes = one_lexemes a.lexemes b.lexemes a.are_lexemes b.are_lexemes in
+      let lexemes : a.lexemes ≡ b.lexemes = one.lexemes file.grammar.tokens a.lexemes b.lexemes a.are_lexemes b.are_lexemes in
       let verdicts = subst (λ (l : Option (List (Option (List ℕ)))). AllZip (IsEntryOf of choice.texts l) (goals file.grammar choice.criteria) b.entries) (sym lexemes) b.verdicts in
-      let entries : a.entries ≡ b.entries = one_zip (one_entry choice one_rendering a.lexemes of) (goals file.grammar choice.criteria) a.entries b.entries a.verdicts verdicts in
+      let entries : a.entries ≡ b.entries = one_zip (one_entry choice one a.lexemes of) (goals file.grammar choice.criteria) a.entries b.entries a.verdicts verdicts in
       let moved = subst (λ (l : Option (List (Option (List ℕ)))). AllZip (IsBaseOf file.grammar choice l) (bases (most_bases choice) b.entries) b.mutants) (sym lexemes) b.negatives in
       let negatives = subst (λ (es : List GoalEntry). AllZip (IsBaseOf file.grammar choice a.lexemes) (bases (most_bases choice) es) b.mutants) (sym entries) moved in
-      let mutants : a.mutants ≡ b.mutants = one_zip (one_base choice one_rendering a.lexemes file.grammar) (bases (most_bases choice) a.entries) a.mutants b.mutants a.negatives negatives in
+      let mutants : a.mutants ≡ b.mutants = one_zip (one_base choice one a.lexemes file.grammar) (bases (most_bases choice) a.entries) a.mutants b.mutants a.negatives negatives in
       a.lines ∙ ap (λ (l : Option (List (Option (List ℕ)))). manifest_text file l a.entries a.mutants) lexemes
       ∙ ap (λ (es : List GoalEntry). manifest_text file b.lexemes es a.mutants) entries
       ∙ ap (λ (bs : List BaseEntry). manifest_text file b.lexemes b.entries bs) mutants ∙ sym b.lines
-
--- the form of `rules` has neither lexemes nor texts
-pub one_rules_manifest : (w : Measure) (file : File) (text other : List ℕ) → IsManifest w rules_form file text → IsManifest w rules_form file other → text ≡ other
-one_rules_manifest w file = one_manifest_by w rules_form file (λ lexemes tokens a b ha hb. ha ∙ sym hb) (λ a b ha hb. ha ∙ sym hb)

@@ -28,7 +28,7 @@ use Rattle.cs_positive.specs.declared.verdict.Verdict.TheVariants.{Feasible, Inf
 use Rattle.cs_positive.specs.Verdict.{IsVerdict, IsChosenOf, IsMet}
 use Rattle.cs_positive.proofs.Verdicts.{chosen_exists_of, chosen_least_of, chosen_met}
 use Rattle.cs_yacc.specs.File.{File}
-use Rattle.cs_manifest.specs.Manifest.{AreLexemesBy, Choice, IsBaseOf, IsEntryOf, IsManifest, IsNegativeOf, IsNotWithout, IsRenderedBy, Texts, bases, most_bases, manifest_text, rules_form}
+use Rattle.cs_manifest.specs.Manifest.{AreLexemesBy, Choice, IsBaseOf, IsEntryOf, IsManifest, IsNegativeOf, IsNotWithout, IsRenderedBy, Texts, bases, most_bases, manifest_text}
 
 -- where no member is without a partner, no list is without one
 pub some_zip : {A B : Type 0} {R : A → B → Type 0} (xs : List A) → ((x : A) → Among x xs → IsNotWithout (R x)) → IsNotWithout (AllZip R xs)
@@ -168,7 +168,3 @@ module _ (w : Measure) (choice : Choice) (file : File)
       (λ entries each. some_bases file.grammar choice lexemes (some_rendering lexemes) (bases (most_bases choice) entries)
       (λ mutants of. none (manifest_text file lexemes entries mutants)
       (record { lexemes = lexemes; entries = entries; mutants = mutants; are_lexemes = are; verdicts = each; negatives = of; lines = refl }))))
-
--- the form of `rules` has neither lexemes nor texts
-pub some_rules_manifest : (w : Measure) (file : File) → IsNotWithout (IsManifest w rules_form file)
-some_rules_manifest w file = some_manifest_by w rules_form file (λ lexemes tokens none. none None refl) (λ none. none None refl)

@@ -201,15 +201,3 @@ IsNotWithout {A} IsOne = ((a : A) → IsOne a → ⊥) → ⊥
 pub record HasOneText (texts : Option Texts) : Type 0 where
   pub lexemes : (tokens : ℕ) → AtMostOne (AreLexemesBy texts tokens)
   pub rendered : (lexemes : Option (List (Option (List ℕ)))) (tokens : List ℕ) → AtMostOne (IsRenderedBy texts lexemes tokens)
-
--- and not none
-pub record HasSomeText (texts : Option Texts) : Type 0 where
-  pub lexemes : (tokens : ℕ) → IsNotWithout (AreLexemesBy texts tokens)
-  pub rendered : (lexemes : Option (List (Option (List ℕ)))) (tokens : List ℕ) → IsNotWithout (IsRenderedBy texts lexemes tokens)
-
--- a file has at most one manifest by a choice, and not none
-abbrev pub IsOneBy : Measure → Choice → File → Type 0
-IsOneBy w choice file = HasOneText choice.texts → AtMostOne (IsManifest w choice file)
-
-abbrev pub IsSomeBy : Measure → Choice → File → Type 0
-IsSomeBy w choice file = HasSomeText choice.texts → IsNotWithout (IsManifest w choice file)

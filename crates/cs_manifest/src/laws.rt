@@ -1,20 +1,33 @@
 // Laws of manifests: a file has exactly one by each choice.
 
+ghost use Rattle.std.specs.Prelude.{Option};
 ghost use Rattle.cs_grammar.specs.Laws.{AtMostOne};
 ghost use Rattle.cs_grammar.specs.Weights.{Measure};
 ghost use Rattle.cs_yacc.specs.File.{File};
-ghost use Rattle.cs_manifest.specs.Manifest.{Choice, IsManifest, IsNotWithout, IsOneBy, IsSomeBy, rules_form};
+ghost use Rattle.cs_manifest.specs.Manifest.{Choice, HasOneText, IsManifest, IsNotWithout, Texts};
 
-/// A file has at most one manifest by a choice, where its tokens have at most one list of lexemes and one rendering; in the
-/// form of `rules`, which has neither, always.
+use cs_lexeme::{one_list_of_lexemes, some_list_of_lexemes};
+use cs_render::{one_rendering, some_rendering};
+
+/// By any texts tokens have at most one list of lexemes and one rendering.
+pub fn one_text()
+    ensures { (texts : Option Texts) → HasOneText texts }
+{
+    one_list_of_lexemes();
+    one_rendering();
+}
+
+/// A file has at most one manifest by a choice.
 pub fn one_manifest()
-    ensures by_choice { (w : Measure) (choice : Choice) (file : File) → IsOneBy w choice file }
-    ensures of_rules { (w : Measure) (file : File) → AtMostOne (IsManifest w rules_form file) }
-{}
+    ensures { (w : Measure) (choice : Choice) (file : File) → AtMostOne (IsManifest w choice file) }
+{
+    one_text();
+}
 
-/// No file is without a manifest by a choice, where its tokens aren't without lexemes and renderings; in the form of `rules`
-/// always.
+/// No file is without a manifest by a choice.
 pub fn some_manifest()
-    ensures by_choice { (w : Measure) (choice : Choice) (file : File) → IsSomeBy w choice file }
-    ensures of_rules { (w : Measure) (file : File) → IsNotWithout (IsManifest w rules_form file) }
-{}
+    ensures { (w : Measure) (choice : Choice) (file : File) → IsNotWithout (IsManifest w choice file) }
+{
+    some_list_of_lexemes();
+    some_rendering();
+}

@@ -4,9 +4,10 @@
 //! sink took exactly the lines of that call, and a failure that it took a prefix of them; no call takes memory. A manifest is
 //! seen as its head and the counts of what was written so far.
 //!
-//! Meaning, from the top down: `specs/Manifest` (the manifest of a file by a choice), `Progress` (what contracts see of a manifest), `Counts`, `Head` and `Entry` (which lines
-//! stand for what), `Lines` (the lines of the format, in their order), `Names` (the names of symbols, and which numbers have
-//! one), `Words` (words, lines and escapes), `Sinks` (what a call did to a sink). Working words of proofs: `Putting`.
+//! Meaning, from the top down: `specs/Manifest` (the manifest of a file by a choice), `Progress` (what contracts see of a
+//! manifest), `Counts`, `Head` and `Entry` (which lines stand for what), `Lines` (the lines of the format, in their order),
+//! `Names` (the names of symbols, and which numbers have one), `Words` (words, lines and escapes), `Sinks` (what a call did to a
+//! sink). Working words of proofs: `Putting`.
 #![tactic(auto)]
 
 mod counts;
@@ -22,5 +23,5 @@ mod put_head;
 pub use counts::Counts;
 pub use entry::Entry;
 pub use head::Head;
-pub use laws::{one_manifest, some_manifest};
+pub use laws::{one_manifest, one_text, some_manifest};
 pub use manifest::Manifest;

@@ -96,7 +96,7 @@ module _ (plan : Plan) where
     pub bases_next : (mutants others : List BaseEntry) → length mutants ≡ i → AllZip Of (take i list) mutants → AllZip Of list others → HasNext base i mutants others
     bases_next mutants others many first all =
         let parts = zip_split Of (take i list) (base ∷ drop (i + 1) list) others (subst (λ (l : List (ℕ × List ℕ)). AllZip Of l others) split all) in
-        let same : parts.0 ≡ mutants = one_zip (one_base (choice_in plan) one.rendered (lexemes_in plan) file.grammar) (take i list) parts.0 mutants parts.3 first in
+        let same : parts.0 ≡ mutants = one_zip (one_base (choice_in plan) one (lexemes_in plan) file.grammar) (take i list) parts.0 mutants parts.3 first in
         let next = has_first base (drop (i + 1) list) parts.1 parts.4 in
         record {
           negatives = next.next.negatives;

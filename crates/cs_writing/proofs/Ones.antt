@@ -1,67 +1,7 @@
--- The texts of a plan are one, so are its entries, and their lines begin with the lines of the first ones.
-use Rattle.std.proofs.Common.{◌≡◌, ℕ, suc, ◌+◌, ◌-◌, ◌<◌, List, [], ◌∷◌, ◌++◌, length, map, refl, sym, ap, ◌∙◌, subst, Option, None, Some, arith, append_assoc}
-use Rattle.std.specs.Prelude.{slice_index_or}
+-- The entries of a plan are one, and their lines begin with the lines of the first ones.
+use Rattle.std.proofs.Common.{◌≡◌, ℕ, ◌+◌, List, [], ◌∷◌, ◌++◌, length, map, refl, sym, ap, ◌∙◌, arith, append_assoc}
 use Rattle.std.specs.List.{AllZip}
-use Rattle.cs_lexeme.specs.Lexeme.{AreLexemes, IsLexemeOf, lexeme_in}
-use Rattle.cs_lexeme.specs.Laws.{AreOneLexeme}
-use Rattle.cs_manifest.specs.Manifest.{AreLexemesBy, HasOneText, IsNotWithout, IsRenderedBy, Texts}
 use Rattle.cs_manifest.specs.Words.{numbered_from}
-use Rattle.cs_render.specs.Rendering.{Rendering}
-use Rattle.cs_render.specs.Laws.{HasOneRendering, HasSomeRendering}
-use Rattle.cs_scan.specs.Scan.{Scanning}
-
--- ---- one text
-
--- lists whose entries are the same at each place are the same
-same_by_place : (xs ys : List (Option (List ℕ))) → length xs ≡ length ys → ((i : ℕ) → i < length xs → slice_index_or xs i None ≡ slice_index_or ys i None) → xs ≡ ys
-same_by_place [] [] same each = refl
-same_by_place [] (y ∷ ys) same each = absurd (omega (arith, same))
-same_by_place (x ∷ xs) [] same each = absurd (omega (arith, same))
-same_by_place (x ∷ xs) (y ∷ ys) same each =
-    let first : x ≡ y = each 0 (omega arith) in
-    let others = same_by_place xs ys (omega (arith, same)) (λ i within. each (suc i) (omega (arith, within))) in
-    ap (λ (l : List (Option (List ℕ))). x ∷ l) others ∙ ap (λ (e : Option (List ℕ)). e ∷ ys) first
-
-module _ (one_lexeme : (s : Scanning) (token : ℕ) (x y : List ℕ) → AreOneLexeme s token x y)
-    (one_rendering : (s : Scanning) (tokens : List ℕ) → HasOneRendering s tokens) where
-  one_rendering_by : (texts : Option Texts) (lexemes : Option (List (Option (List ℕ)))) (tokens : List ℕ) (a b : Option Rendering) → IsRenderedBy texts lexemes tokens a → IsRenderedBy texts lexemes tokens b → a ≡ b
-  one_rendering_by None lexemes tokens a b ha hb = ha ∙ sym hb
-  one_rendering_by (Some texts) None tokens a b ha hb = ha ∙ sym hb
-  one_rendering_by (Some texts) (Some lexemes) tokens None b ha hb = absurd ha
-  one_rendering_by (Some texts) (Some lexemes) tokens (Some a) None ha hb = absurd hb
-  one_rendering_by (Some texts) (Some lexemes) tokens (Some a) (Some b) ha hb =
-      ap Some (one_rendering texts.scanning tokens lexemes texts.separator a b ha hb)
-
-  one_lexeme_of : (s : Scanning) (token : ℕ) (a b : Option (List ℕ)) → IsLexemeOf s token a → IsLexemeOf s token b → a ≡ b
-  one_lexeme_of s token None None ha hb = refl
-  one_lexeme_of s token None (Some y) ha hb = absurd (ha y hb.bytes hb.gives)
-  one_lexeme_of s token (Some x) None ha hb = absurd (hb x ha.bytes ha.gives)
-  one_lexeme_of s token (Some x) (Some y) ha hb = ap Some (one_lexeme s token x y ha hb)
-
-  one_list_of_lexemes : (s : Scanning) (tokens : ℕ) (xs ys : List (Option (List ℕ))) → AreLexemes s tokens xs → AreLexemes s tokens ys → xs ≡ ys
-  one_list_of_lexemes s tokens xs ys hx hy =
-      same_by_place xs ys (hx.all ∙ sym hy.all)
-      (λ i within.
-      let at : i + 1 - 1 ≡ i = omega arith in
-      let in_x = hx.each (i + 1) (omega arith) (omega (arith, within, hx.all)) in
-      let in_y = hy.each (i + 1) (omega arith) (omega (arith, within, hx.all)) in
-      subst (λ (k : ℕ). slice_index_or xs k None ≡ slice_index_or ys k None) at (one_lexeme_of s (i + 1) (lexeme_in xs (i + 1)) (lexeme_in ys (i + 1)) in_x in_y))
-
-  one_lexemes_by : (texts : Option Texts) (tokens : ℕ) (a b : Option (List (Option (List ℕ)))) → AreLexemesBy texts tokens a → AreLexemesBy texts tokens b → a ≡ b
-  one_lexemes_by None tokens a b ha hb = ha ∙ sym hb
-  one_lexemes_by (Some texts) tokens None b ha hb = absurd ha
-  one_lexemes_by (Some texts) tokens (Some a) None ha hb = absurd hb
-  one_lexemes_by (Some texts) tokens (Some a) (Some b) ha hb = ap Some (one_list_of_lexemes texts.scanning tokens a b ha hb)
-
-  pub text_is_one : (texts : Option Texts) → HasOneText texts
-  text_is_one texts = record { lexemes = one_lexemes_by texts; rendered = one_rendering_by texts }
-
-pub rendering_is_some : ((s : Scanning) (tokens : List ℕ) → HasSomeRendering s tokens) → (texts : Option Texts) (lexemes : Option (List (Option (List ℕ)))) (tokens : List ℕ) → IsNotWithout (IsRenderedBy texts lexemes tokens)
-rendering_is_some some None lexemes tokens none = none None refl
-rendering_is_some some (Some texts) None tokens none = none None refl
-rendering_is_some some (Some texts) (Some lexemes) tokens none = some texts.scanning tokens lexemes texts.separator (λ (r : Rendering) is. none (Some r) is)
-
--- ---- first ones
 
 -- where each member has one partner at most, the partners of a longer list begin with those of its front
 pub zip_front : {A B : Type 0} {R : A → B → Type 0} → ((x : A) (a b : B) → R x a → R x b → a ≡ b) → (xs rest : List A) (ys zs : List B) → AllZip R xs ys → AllZip R (xs ++ rest) zs → (more : List B) × (zs ≡ ys ++ more)

@@ -34,7 +34,7 @@ pub record FirstEntries (plan : Plan) (of : Weighed) (left : List Goal) (entries
 
 module _ (plan : Plan) (of : Weighed) (one : HasOneText (texts_in plan)) where
   one_in : (goal : Goal) (a b : GoalEntry) → IsEntryIn plan of goal a → IsEntryIn plan of goal b → a ≡ b
-  one_in = one_entry (choice_in plan) one.rendered (lexemes_in plan) of
+  one_in = one_entry (choice_in plan) one (lexemes_in plan) of
 
   -- the entries of all goals are one list
   pub one_list : (a b : List GoalEntry) → AreEntriesIn plan of a → AreEntriesIn plan of b → a ≡ b

@@ -12,11 +12,10 @@ use Rattle.cs_manifest.specs.Counts.{behind_end, counts_of_head, end_of}
 use Rattle.cs_manifest.specs.declared.head.Head.{Head}
 use Rattle.cs_manifest.specs.Head.{file_of, head_of, lexemes_of}
 use Rattle.cs_manifest.specs.Lines.{head_lines}
-use Rattle.cs_manifest.specs.Manifest.{AreLexemesBy, BaseEntry, BasesOf, EntriesOf, GoalEntry, HasOneText, IsNotWithout, IsRenderedBy, base_entry_lines, bases, end_line, manifest_text, most_bases}
+use Rattle.cs_manifest.specs.Manifest.{AreLexemesBy, BaseEntry, BasesOf, EntriesOf, GoalEntry, HasOneText, base_entry_lines, bases, end_line, manifest_text, most_bases}
 use Rattle.cs_manifest.specs.Putting.{shown}
 use Rattle.cs_manifest.specs.Sinks.{IsCutShort, IsWritten}
 use Rattle.cs_manifest.proofs.OneManifest.{one_manifest_by}
-use Rattle.cs_manifest.proofs.SomeManifest.{some_manifest_by}
 use Rattle.cs_manifest.proofs.Written.{written_then, written_cut, cut_longer}
 use Rattle.cs_render_work.specs.declared.work.RenderWork.{RenderWork}
 use Rattle.cs_yacc.specs.File.{File}
@@ -103,15 +102,6 @@ module _ (plan : Plan) (of : Weighed) (one : HasOneText (texts_in plan)) (is : I
         whole = a.lines ∙ ap (λ (l : Option (List (Option (List ℕ)))). manifest_text file l a.entries a.mutants) lexemes;
       }
 
-  -- a plan has one manifest
-  pub one_planned : (text other : List ℕ) → IsPlanned of.weights plan text → IsPlanned of.weights plan other → text ≡ other
-  one_planned = one_manifest_by of.weights (choice_in plan) file one.rendered (one.lexemes file.grammar.tokens)
-
-  -- no plan is without a manifest
-  pub some_planned : ((lexemes : Option (List (Option (List ℕ)))) (tokens : List ℕ) → IsNotWithout (IsRenderedBy (texts_in plan) lexemes tokens)) → IsNotWithout (IsPlanned of.weights plan)
-  some_planned some =
-      some_manifest_by of.weights (choice_in plan) file some (λ none. none (lexemes_in plan) lexemes_are)
-
   -- the bases that were kept are those of the entries
   module _ {S : Type 0} {g : Sink.Ghosts S} (before mid after : Counts) (begun inner new : S) (kept : PlainBases) (fresh : before ≡ counts_of_head head)
       (lines : HasEntries g plan of begun inner before mid kept) (mutants : HasBases g plan kept.list inner new mid after) where
@@ -128,7 +118,7 @@ module _ (plan : Plan) (of : Weighed) (one : HasOneText (texts_in plan)) (is : I
     all_of = subst (λ (l : List (ℕ × List ℕ)). AreOf l mutants.mutants) kept_list mutants.all
 
     text_is : (text : List ℕ) → IsPlanned of.weights plan text → text ≡ text_of entries mutants.mutants
-    text_is text is_text = one_planned text (text_of entries mutants.mutants) is_text (planned entries mutants.mutants lines.all all_of)
+    text_is text is_text = one_manifest_by of.weights (choice_in plan) file one text (text_of entries mutants.mutants) is_text (planned entries mutants.mutants lines.all all_of)
 
     -- the end of the counts
     end_is : end_of after ≡ end_line entries mutants.mutants

@@ -10,10 +10,8 @@
 
 mod bases;
 mod halt;
-mod laws;
 mod mutants;
 mod writing;
 
 pub use halt::Halt;
-pub use laws::one_text;
 pub use writing::write_out;

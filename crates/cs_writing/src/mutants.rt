@@ -12,11 +12,10 @@ ghost use Rattle.cs_writing.specs.Mutants.{HasBases, HasNegatives, HasSomeBases,
 ghost use Rattle.cs_writing.specs.Mutants.{IsCounted, IsEditable, mutants_from};
 
 use crate::halt::Halt;
-use crate::laws::one_text;
 use cs_bases::Bases;
 use cs_fan::Gate;
 use cs_io::{Sink, SinkError};
-use cs_manifest::{Entry, Manifest};
+use cs_manifest::{Entry, Manifest, one_text};
 use cs_mutants::{MadeNegative, next_negatives};
 use cs_mutate::Negatives;
 use cs_plan::Plan;

@@ -13,12 +13,11 @@ ghost use Rattle.cs_writing.specs.Written.{HasEntries, HasSomeEntries, HasSomeTe
 
 use crate::bases::keep_bases;
 use crate::halt::Halt;
-use crate::laws::one_text;
 use crate::mutants::write_bases;
 use cs_bases::Bases;
 use cs_fan::Gate;
 use cs_io::{BufferedSink, Sink, SinkError};
-use cs_manifest::{Counts, Manifest};
+use cs_manifest::{Counts, Manifest, one_manifest, one_text, some_manifest};
 use cs_plan::{Made, Plan, next_entries};
 use cs_positive::Positives;
 use std::alloc::Global;
@@ -81,7 +80,8 @@ fn write_through<R: Threads + Sync, O: Sink, G: Gate + Sync>(
         (O.room (lent_sink sink.old))
         → O.faults (lent_sink sink.new) ≡ O.faults (lent_sink sink.old) }
 {
-    one_text();
+    one_manifest();
+    some_manifest();
     let counts = write_manifest(rt, alloc, plan, positives, sink, gate)?;
     sink.flush()?;
     Ok(counts)

@@ -40,7 +40,7 @@ returns-in_err-entry-clause-stopped g c =
       lent = e.same_lent;
       passed = e.passed_never_falls;
     } in
-    let stopped = base_cut plan (c.one_text.ensures.one (texts_in plan)) list i base (slice_get_within list i base c.get-goal.ensures) (sym (get_or_from_slice_get list i base base c.get-goal.ensures))
+    let stopped = base_cut plan (c.one_text.ensures (texts_in plan)) list i base (slice_get_within list i base c.get-goal.ensures) (sym (get_or_from_slice_get list i base base c.get-goal.ensures))
     c.args.sink.now c.loop-index.sink c.args.manifest.now.counts c.loop-index.manifest.counts c.loop-index.invariant.so_far c.entry.new.sink cut in
     rw (p.1, p.2) stopped
 
@@ -106,7 +106,7 @@ returns-in_err-write_negatives-clause-stopped g c =
     let lines_is = λ (entries : List NegativeEntry). negatives_at c.entry.new.self.file plan.yacc.now (i + 1) sought.base base.1 c.entry.new.self.counts.negatives (negatives_in so_far.mutants) entries
     file_is tokens_is many in
     let halt = c.in_err-write_negatives.field-0.0 in
-    let stopped = base_stops plan (c.one_text.ensures.one (texts_in plan)) list i base within is c.args.sink.now c.loop-index.sink c.args.manifest.now.counts c.loop-index.manifest.counts so_far c.entry.new.sink c.write_negatives.new.sink halt first
+    let stopped = base_stops plan (c.one_text.ensures (texts_in plan)) list i base within is c.args.sink.now c.loop-index.sink c.args.manifest.now.counts c.loop-index.manifest.counts so_far c.entry.new.sink c.write_negatives.new.sink halt first
     (λ entries of. subst (λ (l : List ℕ). IsStopped g.S.Sink l c.entry.new.sink c.write_negatives.new.sink halt) (lines_is entries)
     (c.in_err-write_negatives.ensures.stopped entries (to_made plan c.requires.plan c.in-Some.mutation c.unwrap-work.result c.in-Some.is c.unwrap-work.ensures base sought c.new-negatives.ensures entries of))) in
     rw (p.1, p.2) stopped
@@ -144,7 +144,7 @@ loop-index-preserved g c =
     record {
       file = more.file ∙ ap (λ (q : Progress). q.file) e.value ∙ c.loop-index.invariant.file;
       number = more.number;
-      so_far = bases_more plan (c.one_text.ensures.one (texts_in plan)) list i base within is c.args.sink.now c.loop-index.sink c.args.manifest.now.counts c.loop-index.manifest.counts so_far c.entry.new.sink c.write_negatives.new.sink
+      so_far = bases_more plan (c.one_text.ensures (texts_in plan)) list i base within is c.args.sink.now c.loop-index.sink c.args.manifest.now.counts c.loop-index.manifest.counts so_far c.entry.new.sink c.write_negatives.new.sink
           c.entry.new.self.counts c.write_negatives.new.manifest.counts has.entries first counted
           (from_made plan c.requires.plan c.in-Some.mutation c.unwrap-work.result c.in-Some.is c.unwrap-work.ensures base sought c.new-negatives.ensures has.entries has.all)
           (subst (λ (l : List ℕ). IsWritten g.S.Sink l c.entry.new.sink c.write_negatives.new.sink) (lines_is has.entries) has.written)

@@ -14,21 +14,21 @@ batches-init g c = record {
   base = refl;
   file = refl;
   number = c.requires.number;
-  so_far = negatives_none c.args.manifest.now.file c.args.base.now.number c.args.work.now c.args.negatives (c.one_text.ensures.one (Some (texts_of c.args.work.now)))
+  so_far = negatives_none c.args.manifest.now.file c.args.base.now.number c.args.work.now c.args.negatives (c.one_text.ensures (Some (texts_of c.args.work.now)))
       c.args.manifest.now.counts c.args.sink.now;
 }
 
 pub returns-in_err-batch-clause-stopped : goal.returns-in_err-batch-clause-stopped
 returns-in_err-batch-clause-stopped g c =
     let p = err_from_is_err_and c.from_residual.result c.from_residual.ensures.1 in
-    let stopped = negatives_memory c.args.manifest.now.file c.args.base.now.number c.args.work.now c.args.negatives (c.one_text.ensures.one (Some (texts_of c.args.work.now)))
+    let stopped = negatives_memory c.args.manifest.now.file c.args.base.now.number c.args.work.now c.args.negatives (c.one_text.ensures (Some (texts_of c.args.work.now)))
     c.batches.negatives.edits c.args.sink.now c.batches.sink c.args.manifest.now.counts c.batches.manifest.counts c.batches.invariant.so_far in
     rw (p.1, p.2) stopped
 
 pub returns-then-is_empty-clause-ok : goal.returns-then-is_empty-clause-ok
 returns-then-is_empty-clause-ok g c =
     let none : length c.in_ok-batch.batch.items ≡ 0 = (let e = c.is_empty.ensures in let t = c.if-is_empty.true in let o = c.in_ok-batch.batch.ok in grind arith) in
-    negatives_all c.args.manifest.now.file c.args.base.now.number c.args.work.now c.args.negatives (c.one_text.ensures.one (Some (texts_of c.args.work.now)))
+    negatives_all c.args.manifest.now.file c.args.base.now.number c.args.work.now c.args.negatives (c.one_text.ensures (Some (texts_of c.args.work.now)))
     c.batches.negatives c.next_negatives.new.negatives c.in_ok-batch.batch.items c.args.sink.now c.batches.sink c.batches.sink c.args.manifest.now.counts c.batches.manifest.counts
     c.batches.invariant.grammar c.batches.invariant.base c.in_ok-batch.ensures.entries c.batches.invariant.so_far none
 
@@ -40,7 +40,7 @@ write_mutants-requires-clause-edits g c =
 
 pub write_mutants-requires-clause-few : goal.write_mutants-requires-clause-few
 write_mutants-requires-clause-few g c =
-    let few = negatives_few c.args.manifest.now.file c.args.base.now.number c.args.work.now c.args.negatives (c.one_text.ensures.one (Some (texts_of c.args.work.now)))
+    let few = negatives_few c.args.manifest.now.file c.args.base.now.number c.args.work.now c.args.negatives (c.one_text.ensures (Some (texts_of c.args.work.now)))
     c.batches.negatives c.next_negatives.new.negatives c.in_ok-batch.batch.items c.args.sink.now c.batches.sink c.batches.sink c.args.manifest.now.counts c.batches.manifest.counts
     c.batches.invariant.grammar c.batches.invariant.base c.in_ok-batch.ensures.entries c.batches.invariant.so_far (omega (arith, c.requires.few, c.requires.number)) in
     omega (arith, few, c.batches.invariant.number, ap (λ (ms : List Mutant). length ms) c.deref.ensures.value)
@@ -54,7 +54,7 @@ returns-in_err-write_mutants-clause-stopped g c =
     ∙ ap (λ (n : ℕ). lines c.args.manifest.now.file c.args.negatives.base n c.deref.result.now) c.batches.invariant.number
     ∙ ap (λ (ms : List Mutant). lines c.args.manifest.now.file c.args.negatives.base c.batches.manifest.counts.negatives ms) c.deref.ensures.value in
     let cut = subst (λ (l : List ℕ). IsCutShort g.S.Sink l c.batches.sink c.write_mutants.new.sink) is c.in_err-write_mutants.ensures.stopped in
-    let stopped = negatives_cut c.args.manifest.now.file c.args.base.now.number c.args.work.now c.args.negatives (c.one_text.ensures.one (Some (texts_of c.args.work.now)))
+    let stopped = negatives_cut c.args.manifest.now.file c.args.base.now.number c.args.work.now c.args.negatives (c.one_text.ensures (Some (texts_of c.args.work.now)))
     c.batches.negatives c.next_negatives.new.negatives c.in_ok-batch.batch.items c.args.sink.now c.batches.sink c.write_mutants.new.sink c.args.manifest.now.counts c.batches.manifest.counts
     c.batches.invariant.grammar c.batches.invariant.base c.in_ok-batch.ensures.entries c.batches.invariant.so_far cut in
     rw (p.1, p.2) stopped
@@ -77,7 +77,7 @@ batches-preserved g c =
       base = c.in_ok-batch.ensures.base ∙ c.batches.invariant.base;
       file = e.file ∙ c.batches.invariant.file;
       number = e.number;
-      so_far = negatives_more c.args.manifest.now.file c.args.base.now.number c.args.work.now c.args.negatives (c.one_text.ensures.one (Some (texts_of c.args.work.now)))
+      so_far = negatives_more c.args.manifest.now.file c.args.base.now.number c.args.work.now c.args.negatives (c.one_text.ensures (Some (texts_of c.args.work.now)))
           c.batches.negatives c.next_negatives.new.negatives made c.args.sink.now c.batches.sink c.write_mutants.new.sink c.args.manifest.now.counts c.batches.manifest.counts
           c.batches.invariant.grammar c.batches.invariant.base c.in_ok-batch.ensures.entries c.batches.invariant.so_far c.write_mutants.new.manifest.counts written counted;
     }

@@ -20,7 +20,7 @@ batches-init g c =
     record {
       tables = refl;
       file = c.requires.file;
-      so_far = so_far_none plan c.args.positives.now.tables (c.one_text.ensures.one (texts_in plan)) c.args.positives.now.goals c.new-bases.result c.args.manifest.now.counts c.args.sink.now
+      so_far = so_far_none plan c.args.positives.now.tables (c.one_text.ensures (texts_in plan)) c.args.positives.now.goals c.new-bases.result c.args.manifest.now.counts c.args.sink.now
           c.requires.all (none_kept (most_bases (choice_in plan)) c.new-bases.result (c.new-bases.ensures ∙ ap no_bases c.most_bases.ensures));
     }
 
@@ -34,20 +34,20 @@ returns-then-is_empty-clause-ok g c =
     let plan = c.args.plan.now in
     let empty : length c.in_ok-batch.batch.items ≡ 0 = (let e = c.is_empty.ensures in let t = c.if-is_empty.true in let o = c.in_ok-batch.batch.ok in grind arith) in
     let next = subst (λ (es : List GoalEntry). AreNext plan c.batches.positives es c.next_entries.new.positives) (nothing_in c.in_ok-batch.batch.items empty) c.in_ok-batch.ensures.entries in
-    so_far_all plan c.args.positives.now.tables (c.one_text.ensures.one (texts_in plan)) c.batches.positives c.next_entries.new.positives c.batches.number c.batches.bases
+    so_far_all plan c.args.positives.now.tables (c.one_text.ensures (texts_in plan)) c.batches.positives c.next_entries.new.positives c.batches.number c.batches.bases
     c.args.manifest.now.counts c.batches.manifest.counts c.args.sink.now c.batches.sink next c.batches.invariant.so_far
 
 pub returns-in_err-batch-clause-stopped : goal.returns-in_err-batch-clause-stopped
 returns-in_err-batch-clause-stopped g c =
     let p = err_from_is_err_and c.from_residual.result c.from_residual.ensures.1 in
-    let one = c.one_text.ensures.one (texts_in c.args.plan.now) in
+    let one = c.one_text.ensures (texts_in c.args.plan.now) in
     let stopped = memory_behind c.args.plan.now c.args.positives.now.tables one c.batches.positives.goals c.batches.number c.batches.bases c.args.manifest.now.counts c.batches.manifest.counts
     c.args.sink.now c.batches.sink c.batches.invariant.so_far in
     rw (p.1, p.2) stopped
 
 pub keep_bases-requires : goal.keep_bases-requires
 keep_bases-requires g c =
-    let one = c.one_text.ensures.one (texts_in c.args.plan.now) in
+    let one = c.one_text.ensures (texts_in c.args.plan.now) in
     let grammar = subst (λ (h : PlainGrammar). IsGrammar h) (sym c.requires.grammar.grammar) c.requires.plan.file.grammar in
     let few = so_far_few c.args.plan.now c.args.positives.now.tables one c.batches.positives c.next_entries.new.positives c.in_ok-batch.batch.items c.batches.number c.batches.bases
     c.args.manifest.now.counts c.batches.manifest.counts c.args.sink.now c.batches.sink c.batches.invariant.tables grammar c.in_ok-batch.ensures.entries c.batches.invariant.so_far in
@@ -56,14 +56,14 @@ keep_bases-requires g c =
 pub returns-in_err-keep_bases-clause-stopped : goal.returns-in_err-keep_bases-clause-stopped
 returns-in_err-keep_bases-clause-stopped g c =
     let p = err_from_is_err_and c.from_residual-in_err-keep_bases.result c.from_residual-in_err-keep_bases.ensures.1 in
-    let one = c.one_text.ensures.one (texts_in c.args.plan.now) in
+    let one = c.one_text.ensures (texts_in c.args.plan.now) in
     let stopped = memory_behind c.args.plan.now c.args.positives.now.tables one c.batches.positives.goals c.batches.number c.batches.bases c.args.manifest.now.counts c.batches.manifest.counts
     c.args.sink.now c.batches.sink c.batches.invariant.so_far in
     rw (p.1, p.2) stopped
 
 pub write_batch-requires-clause-few : goal.write_batch-requires-clause-few
 write_batch-requires-clause-few g c =
-    let one = c.one_text.ensures.one (texts_in c.args.plan.now) in
+    let one = c.one_text.ensures (texts_in c.args.plan.now) in
     let grammar = subst (λ (h : PlainGrammar). IsGrammar h) (sym c.requires.grammar.grammar) c.requires.plan.file.grammar in
     let few = so_far_few c.args.plan.now c.args.positives.now.tables one c.batches.positives c.next_entries.new.positives c.in_ok-batch.batch.items c.batches.number c.batches.bases
     c.args.manifest.now.counts c.batches.manifest.counts c.args.sink.now c.batches.sink c.batches.invariant.tables grammar c.in_ok-batch.ensures.entries c.batches.invariant.so_far in
@@ -72,7 +72,7 @@ write_batch-requires-clause-few g c =
 pub returns-in_err-write_batch-clause-stopped : goal.returns-in_err-write_batch-clause-stopped
 returns-in_err-write_batch-clause-stopped g c =
     let p = err_from_is_err_and c.from_residual-in_err-write_batch.result c.from_residual-in_err-write_batch.ensures.1 in
-    let one = c.one_text.ensures.one (texts_in c.args.plan.now) in
+    let one = c.one_text.ensures (texts_in c.args.plan.now) in
     let made = c.in_ok-batch.batch.items in
     let at_file = subst (λ (f : File). IsCutShort g.S.Sink (lines_from f (c.batches.number + 1) c.deref-in-batches.result.now) c.batches.sink c.write_batch.new.sink) c.batches.invariant.file
     c.in_err-write_batch.ensures.stopped in
@@ -84,7 +84,7 @@ returns-in_err-write_batch-clause-stopped g c =
 pub batches-preserved : goal.batches-preserved
 batches-preserved g c =
     let e = c.in_ok-write_batch.ensures in
-    let one = c.one_text.ensures.one (texts_in c.args.plan.now) in
+    let one = c.one_text.ensures (texts_in c.args.plan.now) in
     let made = c.in_ok-batch.batch.items in
     let plan = c.args.plan.now in
     let at_file = subst (λ (f : File). IsWritten g.S.Sink (lines_from f (c.batches.number + 1) c.deref-in-batches.result.now) c.batches.sink c.write_batch.new.sink) c.batches.invariant.file e.ok in
