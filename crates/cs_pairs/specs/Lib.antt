@@ -1,6 +1,7 @@
 pub mod Fronts
 pub mod Beside
 pub mod Pairs
+pub mod Closed
 pub mod ChosenPair
 pub mod SeamPlace
 pub mod Sources

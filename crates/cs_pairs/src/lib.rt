@@ -3,10 +3,11 @@
 //!
 //! The layers above make `Pairs` of `Costs` and `Embeds` of one grammar and equal weights, ask them by `adjacent` whether some
 //! sentence has one mark directly followed by another, by `cost` what the least tree with such a sentence costs, and get the
-//! code of the chosen one by `derive`. The laws are functions that do nothing.
+//! code of the chosen one by `derive`. Whether a nonterminal yields nothing, and which tokens its yields begin and end with,
+//! they ask by `empty`, `first` and `last`. The laws are functions that do nothing.
 //!
-//! Of the files in `specs/` these say what is meant: `Beside` (seams), `Pairs`, `ChosenPair` and `Laws`; kinds of trees are the
-//! layer's below. The others are words of the parts: what their sources and rows hold.
+//! Of the files in `specs/` these say what is meant: `Beside` (seams), `Pairs`, `Closed` (what nonterminals yield), `ChosenPair`
+//! and `Laws`; kinds of trees are the layer's below. The others are words of the parts: what their sources and rows hold.
 #![tactic(auto)]
 
 mod derive;

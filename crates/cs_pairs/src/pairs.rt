@@ -5,7 +5,9 @@ ghost use Rattle.cs_grammar.specs.Grammar.{IsNumberOf};
 ghost use Rattle.cs_grammar.specs.Tree.{size};
 ghost use Rattle.cs_goals.specs.Goal.{IsLeft, IsRight};
 ghost use Rattle.cs_kinds.specs.Kinds.{IsKind};
+ghost use Rattle.cs_kinds.specs.Laws.{HasTreeIn};
 ghost use Rattle.cs_pairs.specs.ChosenPair.{HasLeastPair, IsCodeOfPair};
+ghost use Rattle.cs_pairs.specs.Closed.{YieldsNothing, IsFirstOf, IsLastOf};
 ghost use Rattle.cs_pairs.specs.Pairs.{IsAdjacent};
 ghost use Rattle.cs_pairs.specs.Clauses.{IsPairCost, HasLeastOf, IsCodeOfTokens, HasSmallWhole, IsCodeOfWhole, IsWholeCost};
 
@@ -128,6 +130,42 @@ impl<'g> Pairs<'g> {
             (Mark::Begin, Mark::End) => self.derive_whole(alloc, costs, TreeKind::Empty),
             _ => unreachable!(),
         }
+    }
+
+    /// Whether some tree of a nonterminal of the grammar has an empty yield, whatever its size.
+    pub fn empty(&self, nonterminal: u16) -> bool
+        requires { IsNumberOf self.now.grammar.nonterminals nonterminal }
+        ensures { IsTrue result ↔ YieldsNothing self.now.grammar nonterminal }
+    {
+        self.has_tree(TreeKind::Empty, nonterminal)
+    }
+
+    /// Whether the yield of some tree of a nonterminal begins with a token, whatever the tree's size. Both are of the grammar.
+    pub fn first(&self, nonterminal: u16, token: u16) -> bool
+        requires nonterminal { IsNumberOf self.now.grammar.nonterminals nonterminal }
+        requires token { IsNumberOf self.now.grammar.tokens token }
+        ensures { IsTrue result ↔ IsFirstOf self.now.grammar nonterminal token }
+    {
+        self.has_tree(TreeKind::Begins(token), nonterminal)
+    }
+
+    /// Whether the yield of some tree of a nonterminal ends with a token, whatever the tree's size. Both are of the grammar.
+    pub fn last(&self, nonterminal: u16, token: u16) -> bool
+        requires nonterminal { IsNumberOf self.now.grammar.nonterminals nonterminal }
+        requires token { IsNumberOf self.now.grammar.tokens token }
+        ensures { IsTrue result ↔ IsLastOf self.now.grammar nonterminal token }
+    {
+        self.has_tree(TreeKind::Ends(token), nonterminal)
+    }
+
+    // Whether a nonterminal has a tree that is of a kind.
+    fn has_tree(&self, kind: TreeKind, nonterminal: u16) -> bool
+        requires kind { IsKind self.now.grammar.tokens kind }
+        requires nonterminal { IsNumberOf self.now.grammar.nonterminals nonterminal }
+        ensures { IsTrue result ↔ HasTreeIn self.now kind (Symbol.Nonterminal nonterminal) }
+    {
+        let symbol = Symbol::Nonterminal(nonterminal);
+        !matches!(self.kinds.told(kind, symbol), Cost::Never)
     }
 
     // The code of the chosen tree of the start symbol that is of a kind.
