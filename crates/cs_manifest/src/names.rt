@@ -1,7 +1,7 @@
 // The names of symbols and marks, and bytes between quotes.
 
-ghost use Rattle.std.specs.Prelude.{◌≡◌, ◌<◌, length};
-ghost use Rattle.std.specs.List.{flat_map};
+ghost use Rattle.std.specs.Prelude.{◌≡◌, ◌<◌, ◌≤◌, length, take};
+ghost use Rattle.std.specs.List.{flat_map, prefix_len};
 ghost use Rattle.cs_grammar.specs.Grammar.{IsNumberOf};
 ghost use Rattle.cs_manifest.specs.Names as names;
 ghost use Rattle.cs_manifest.specs.Putting.{Puts};
@@ -81,15 +81,45 @@ pub fn put_quoted<S: Sink>(output: &mut Output<'_, S>, text: &[u8])
 fn put_text_bytes<S: Sink>(output: &mut Output<'_, S>, text: &[u8])
     ensures { Puts S.Sink (flat_map words.text_byte text.now) output.old output.new }
 {
-    for byte in text {
-        put_text_byte(output, *byte);
+    let mut at = 0usize;
+    while at < text.len() {
+        at += put_some(output, &text[at..]);
     }
+}
+
+// Puts the plain bytes in front, or the first byte where it isn't plain, and answers how many bytes of the text these are.
+fn put_some<S: Sink>(output: &mut Output<'_, S>, text: &[u8]) -> usize
+    requires { 0 < length text.now }
+    ensures some { 0 < result }
+    ensures within { result ≤ length text.now }
+    ensures put { Puts S.Sink (flat_map words.text_byte (take result text.now)) output.old output.new }
+{
+    let plain = plain_len(text);
+    if plain > 0 {
+        output.put(&text[..plain]);
+        return plain;
+    }
+    put_text_byte(output, text[0]);
+    1
+}
+
+// How many bytes in front stand for themselves.
+fn plain_len(text: &[u8]) -> usize
+    ensures { result ≡ prefix_len words.is_plain_text text.now }
+{
+    text.iter().take_while(|byte| is_plain_text(**byte)).count()
+}
+
+fn is_plain_text(byte: u8) -> bool
+    ensures { result ≡ words.is_plain_text byte }
+{
+    (b' '..=b'~').contains(&byte) && byte != b'"' && byte != b'\\'
 }
 
 fn put_text_byte<S: Sink>(output: &mut Output<'_, S>, byte: u8)
     ensures { Puts S.Sink (words.text_byte byte) output.old output.new }
 {
-    if (b' '..=b'~').contains(&byte) && byte != b'"' && byte != b'\\' {
+    if is_plain_text(byte) {
         output.put(&[byte]);
         return;
     }

@@ -1,6 +1,13 @@
-use Rattle.cs_manifest.specs.Words.{text_byte}
-use Rattle.cs_manifest.proofs.Pieces.{bytes_more}
+use Rattle.std.proofs.Common.{◌≡◌, ◌-◌, arith, drop, length, take}
+use Rattle.std.proofs.lemmas.List.{length-drop, take_all}
+use Rattle.cs_manifest.proofs.Runs.{more_bytes}
 use Rattle.cs_manifest.proofs.names.put_text_bytes.Goals as goal
 
-pub loop-byte-preserved : goal.loop-byte-preserved
-loop-byte-preserved g c = bytes_more text_byte c.args.text.now c.loop-byte.byte-index _ c.loop-byte-test.true c.loop-byte.invariant c.put_text_byte.ensures
+pub loop-at-preserved : goal.loop-at-preserved
+loop-at-preserved g c =
+    let text = c.args.text.now in
+    let at = c.loop-at.at in
+    let rest : take (length text - at) (drop at text) ≡ drop at text = take_all (length text - at) (drop at text) (omega (arith, length-drop at text)) in (
+      omega (arith, c.loop-at-test.true, rw rest at c.put_some-at.ensures.within, length-drop at text),
+      more_bytes text at c.put_some-at.result c.loop-at.invariant.1 (rw rest at c.put_some-at.ensures.put),
+    )
