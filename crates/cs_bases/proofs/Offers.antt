@@ -12,7 +12,7 @@ use Rattle.std.proofs.lemmas.List.Folds.{Any-from_list_any, list_any-from_Any}
 use Rattle.std.proofs.lemmas.Slice.Eq.{bytes_eq-Decides}
 use Rattle.cs_manifest.specs.Lines.{is_feasible}
 use Rattle.cs_manifest.specs.Manifest.{GoalEntry, distinct, yields}
-use Rattle.cs_bases.specs.Bases.{PlainBases, IsFree, with_base, bases_of, TakesFree, PassesOthers, base_in, bases_in}
+use Rattle.cs_bases.specs.Bases.{PlainBases, IsFree, IsTaken, offered, with_base, bases_of, base_in, bases_in}
 use Rattle.cs_bases.proofs.Distinct.{has, distinct-push, enumerate_from-push}
 
 -- ---- the test of tokens, and what it says
@@ -106,12 +106,12 @@ module _ (most : ℕ) (entries : List GoalEntry) (entry : GoalEntry) where
   of_yields : (list more : List (ℕ × List ℕ)) → yields (entries ++ entry ∷ []) ≡ list → take most (distinct list) ≡ more → bases_of most (entries ++ entry ∷ []) ≡ record { most = most; list = more }
   of_yields list more e f = ap (λ (l : List (ℕ × List ℕ)). record { most = most; list = l }) (ap (λ (l : List (ℕ × List ℕ)). take most (distinct l)) e ∙ f)
 
-  pub takes_free : TakesFree most entries entry
+  pub takes_free : IsTaken most entries entry → bases_of most (entries ++ entry ∷ []) ≡ with_base (bases_of most entries) (length entries + 1) entry.tokens
   takes_free h =
       of_yields (yields entries ++ behind ∷ []) (take most (distinct (yields entries)) ++ behind ∷ []) (yields-push entries entry h.feasible)
       (taken most (yields entries) behind h.free.new h.free.room)
 
-  pub passes_others : PassesOthers most entries entry
+  pub passes_others : (IsTaken most entries entry → ⊥) → bases_of most (entries ++ entry ∷ []) ≡ bases_of most entries
   passes_others none = by (is_feasible entry.verdict) refl
     where
       by : (b : Bool) → is_feasible entry.verdict ≡ b → bases_of most (entries ++ entry ∷ []) ≡ bases_of most entries
@@ -123,7 +123,7 @@ module _ (most : ℕ) (entries : List GoalEntry) (entry : GoalEntry) where
   -- what an offer of a feasible goal's tokens to the bases of the entries before it leaves is the bases of all
   pub bases_after_offer : IsTrue (is_feasible entry.verdict) → (taken : Bool) (new : PlainBases)
       → IsTrue taken ↔ IsFree (bases_of most entries) entry.tokens
-      → new ≡ (if taken then with_base (bases_of most entries) (length entries + 1) entry.tokens else bases_of most entries)
+      → new ≡ offered (bases_of most entries) (length entries + 1) entry.tokens taken
       → new ≡ bases_of most (entries ++ entry ∷ [])
   bases_after_offer is true new free e = e ∙ sym (takes_free (record { feasible = is; free = free.0 refl }))
   bases_after_offer is false new free e = e ∙ sym (passes_others (λ t. false≢true (free.1 t.free)))

@@ -1,5 +1,5 @@
 -- Bases: lists of tokens, at most so many and each once, with the number of the first goal that has these tokens.
-use Rattle.std.specs.Prelude.{◌≡◌, ℕ, ◌+◌, ◌<◌, List, [], ◌∷◌, ◌++◌, length, map, Any, IsTrue}
+use Rattle.std.specs.Prelude.{◌≡◌, ℕ, ◌+◌, ◌<◌, List, [], ◌∷◌, ◌++◌, length, map, Any, Bool, IsTrue, if◌then◌else◌}
 use Rattle.std.specs.Global.{Vec}
 use Rattle.cs_manifest.specs.Lines.{is_feasible}
 use Rattle.cs_manifest.specs.Manifest.{GoalEntry, bases}
@@ -25,6 +25,10 @@ pub record IsFree (bases : PlainBases) (tokens : List ℕ) : Type 0 where
 abbrev pub with_base : PlainBases → ℕ → List ℕ → PlainBases
 with_base bases goal tokens = record { most = bases.most; list = bases.list ++ (goal, tokens) ∷ [] }
 
+-- what an offer leaves, as the tokens are taken or not
+abbrev pub offered : PlainBases → ℕ → List ℕ → Bool → PlainBases
+offered bases goal tokens taken = if taken then with_base bases goal tokens else bases
+
 -- ---- the bases of the entries of goals
 
 abbrev pub bases_of : ℕ → List GoalEntry → PlainBases
@@ -36,13 +40,13 @@ pub record IsTaken (most : ℕ) (entries : List GoalEntry) (entry : GoalEntry) :
   pub free : IsFree (bases_of most entries) entry.tokens
 
 -- then they are one more base; the goal's number counts from 1
-abbrev pub TakesFree : ℕ → List GoalEntry → GoalEntry → Type 0
-TakesFree most entries entry =
+abbrev pub TakesFree : ℕ → List GoalEntry → Type 0
+TakesFree most entries = (entry : GoalEntry) →
     IsTaken most entries entry → bases_of most (entries ++ entry ∷ []) ≡ with_base (bases_of most entries) (length entries + 1) entry.tokens
 
 -- else the bases stay
-abbrev pub PassesOthers : ℕ → List GoalEntry → GoalEntry → Type 0
-PassesOthers most entries entry = (IsTaken most entries entry → ⊥) → bases_of most (entries ++ entry ∷ []) ≡ bases_of most entries
+abbrev pub PassesOthers : ℕ → List GoalEntry → Type 0
+PassesOthers most entries = (entry : GoalEntry) → (IsTaken most entries entry → ⊥) → bases_of most (entries ++ entry ∷ []) ≡ bases_of most entries
 
 -- ---- the table of the bases
 

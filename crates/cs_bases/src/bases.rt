@@ -1,7 +1,7 @@
 // Lists of tokens, each once.
 
-ghost use Rattle.std.specs.Prelude.{◌≡◌, ◌<◌, ◌↔◌, Some, IfOk, OnErr, IsTrue, if◌then◌else◌, length, slice_get};
-ghost use Rattle.cs_bases.specs.Bases.{IsFree, no_bases, with_base};
+ghost use Rattle.std.specs.Prelude.{◌≡◌, ◌<◌, ◌↔◌, Some, IfOk, OnErr, IsTrue, length, slice_get};
+ghost use Rattle.cs_bases.specs.Bases.{IsFree, no_bases, offered};
 
 use indexmap::IndexMap;
 use std::alloc::{AllocError, Global};
@@ -44,7 +44,7 @@ impl Bases {
     pub fn offer(&mut self, goal: u64, tokens: &[u16]) -> Result<bool, AllocError>
         ensures taken { IfOk result (λ taken. IsTrue taken ↔ IsFree self.old tokens.now) }
         ensures bases { IfOk result (λ taken.
-            self.new ≡ (if taken then with_base self.old goal tokens.now else self.old)) }
+            self.new ≡ offered self.old goal tokens.now taken) }
         ensures refused { OnErr result (self.new ≡ self.old) }
     {
         if self.goals.len() >= self.most as usize || self.goals.contains_key(tokens) {

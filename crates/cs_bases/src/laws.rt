@@ -8,8 +8,6 @@ ghost use Rattle.cs_manifest.specs.Manifest.{GoalEntry};
 /// entry comes, its tokens are taken if it is feasible and they are free, and else the bases stay.
 pub fn bases_come_by_offers()
     ensures none { (most : ℕ) → bases_of most [] ≡ no_bases most }
-    ensures free { (most : ℕ) (entries : List GoalEntry) (entry : GoalEntry)
-        → TakesFree most entries entry }
-    ensures others { (most : ℕ) (entries : List GoalEntry) (entry : GoalEntry)
-        → PassesOthers most entries entry }
+    ensures free { (most : ℕ) (entries : List GoalEntry) → TakesFree most entries }
+    ensures others { (most : ℕ) (entries : List GoalEntry) → PassesOthers most entries }
 {}

@@ -1,6 +1,11 @@
 -- What is made of a negative of a base, and its entry in a manifest.
 use Rattle.std.specs.Prelude.{◌≡◌, ℕ, List, Some}
-use Rattle.cs_manifest.specs.Manifest.{IsNegativeOf, NegativeEntry, Texts}
+use Rattle.cs_io.specs.Faults.{next_count}
+use Rattle.cs_manifest.specs.Counts.{with_entry}
+use Rattle.cs_manifest.specs.Entry.{lines_of}
+use Rattle.cs_manifest.specs.Manifest.{IsNegativeOf, NegativeEntry, Texts, negative_entry_lines}
+use Rattle.cs_manifest.specs.declared.counts.Counts.{Counts}
+use Rattle.cs_manifest.specs.declared.entry.Entry.{Entry}
 use Rattle.cs_manifest.specs.Names.{AreNamedTokens, IsNamedEdit, IsNamedMark, IsNamedRendering}
 use Rattle.cs_mutate.specs.Edit.{edited}
 use Rattle.cs_mutate.specs.declared.negative.Negative.{Negative}
@@ -39,3 +44,15 @@ pub record IsNamedMutant (file : File) (mutant : Mutant) : Type 0 where
   pub right : IsNamedMark file mutant.negative.right
   pub tokens : AreNamedTokens file mutant.tokens
   pub text : IsNamedRendering file mutant.rendered
+
+-- ---- entries of a manifest
+
+-- in each file and of each base that it is an edit of, the entry has its lines, by the numbers of the base and of its own
+abbrev pub HasLinesOf : Entry → ℕ → ℕ → Mutant → Type 0
+HasLinesOf entry base number mutant =
+    (file : File) (tokens : List ℕ) → IsEditOf tokens mutant
+    → lines_of file entry ≡ negative_entry_lines file base tokens number (entry_of mutant)
+
+-- the entry counts as one more negative, and as nothing else
+abbrev pub CountsOneNegative : Entry → Type 0
+CountsOneNegative entry = (counts : Counts) → with_entry counts entry ≡ record counts { negatives = next_count counts.negatives }

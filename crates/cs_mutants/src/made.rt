@@ -1,15 +1,11 @@
 // What is made of a negative.
 
-ghost use Rattle.std.specs.Prelude.{◌≡◌, ℕ, List, length, IfOk};
-ghost use Rattle.cs_io.specs.Faults.{next_count};
-ghost use Rattle.cs_manifest.specs.Counts.{with_entry};
-ghost use Rattle.cs_manifest.specs.Entry.{IsNamedEntry, lines_of};
-ghost use Rattle.cs_manifest.specs.Manifest.{negative_entry_lines};
-ghost use Rattle.cs_manifest.specs.declared.counts.Counts.{Counts};
+ghost use Rattle.std.specs.Prelude.{◌≤◌, IfOk, length};
+ghost use Rattle.cs_manifest.specs.Entry.{IsNamedEntry};
 ghost use Rattle.cs_mutate.specs.Edit.{IsPlaced, edited};
 ghost use Rattle.cs_render_work.specs.Renders.{TakesTokens};
 ghost use Rattle.cs_yacc.specs.File.{File};
-ghost use Rattle.cs_mutants.specs.Mutants.{IsEditOf, IsMutantOf, IsNamedMutant, entry_of};
+ghost use Rattle.cs_mutants.specs.Mutants.{CountsOneNegative, HasLinesOf, IsMutantOf, IsNamedMutant};
 
 use cs_fan::Work;
 use cs_manifest::Entry;
@@ -43,10 +39,8 @@ impl Model for MadeNegative {
 impl MadeNegative {
     /// Its entry in a manifest, with its number and that of its base, from 1.
     pub fn entry(&self, number: u64, base: u32) -> Entry<'_>
-        ensures lines { (file : File) (tokens : List ℕ) → IsEditOf tokens self.now
-            → lines_of file result ≡ negative_entry_lines file base tokens number (entry_of self.now) }
-        ensures counts { (c : Counts)
-            → with_entry c result ≡ record c { negatives = next_count c.negatives } }
+        ensures lines { HasLinesOf result base number self.now }
+        ensures counts { CountsOneNegative result }
         ensures named { (file : File) → IsNamedMutant file self.now → IsNamedEntry file result }
     {
         Entry::Negative {
