@@ -6,7 +6,7 @@ use Rattle.std.proofs.lemmas.List.Elements.{All-nil, All-cons, All-append, All-m
 use Rattle.cs_yacc.specs.declared.name.TokenName.{TokenName}
 use Rattle.cs_yacc.specs.declared.name.TokenName.TheVariants.{Word}
 use Rattle.cs_yacc_items.specs.Items.{Item, name, literal, colon, bar, Placed, items_of}
-use Rattle.cs_yacc.specs.Meaning.{same_spelling, distinct, from_each, spelling_at, left_at, left_sides, nonterminals, spelled, is_in_use, tokens, body, bodies, SpelledRule, rules_of, rules_at, rules, is_kept, kept, only_if, has_meaning, with_meaning_behind, with_meaning, begins_with_colon}
+use Rattle.cs_yacc.specs.Meaning.{same_spelling, distinct, from_each, spelling_at, left_at, left_sides, nonterminals, spelled, body, bodies, SpelledRule, rules_of, rules_at, rules, is_kept, kept, only_if, has_meaning, with_meaning_behind, with_meaning, begins_with_colon}
 use Rattle.std.proofs.lemmas.List.{length-map, get_or-map}
 use Rattle.cs_yacc_items.specs.declared.item.Placed as held_item
 use Rattle.cs_yacc_items.specs.Views.{placed_of, placed_all}
@@ -46,12 +46,15 @@ one_word : (i : Item) (r : List Item) → length (spelling_at i) ≤ 1
 one_word (name n) r = omega arith
 one_word i r = omega arith
 
+pub few_in_use : (p : TokenName → Bool) (words : List TokenName) → length (distinct (filter p words)) ≤ length words
+few_in_use p words = omega (arith, distinct_few (filter p words), filter_few p words)
+
+-- the spellings of items are no more than the items
+pub few_words : (items : List Item) → length (distinct (spelled items)) ≤ length items
+few_words items = omega (arith, distinct_few (spelled items), from_each_few (λ i _. spelling_at i) one_word items)
+
 pub few_nonterminals : (items : List Item) → length (nonterminals items) ≤ length items
 few_nonterminals items = omega (arith, distinct_few (left_sides items), from_each_few left_at one_left items)
-
-pub few_tokens : (used lefts : List TokenName) (items : List Item) → length (tokens used lefts items) ≤ length items
-few_tokens used lefts items =
-    omega (arith, distinct_few (filter (is_in_use used lefts) (spelled items)), filter_few (is_in_use used lefts) (spelled items), from_each_few (λ i _. spelling_at i) one_word items)
 
 -- ---- rules
 

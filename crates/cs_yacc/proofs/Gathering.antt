@@ -103,6 +103,54 @@ has_distinct (v ∷ ws) w = step (same_spelling w v) refl (has_distinct ws w)
     step true e h = rw e refl
     step false e h = rw e (has_filter v w (distinct ws) (differs e) ∙ h)
 
+-- ---- tests of words
+
+filter_swap : {X : Type 0} (p q : X → Bool) (xs : List X) → filter p (filter q xs) ≡ filter q (filter p xs)
+filter_swap p q [] = refl
+filter_swap {X = X} p q (x ∷ xs) = step (p x) refl (q x) refl (filter_swap p q xs)
+  where
+    step : (a : Bool) → p x ≡ a → (b : Bool) → q x ≡ b → filter p (filter q xs) ≡ filter q (filter p xs) → filter p (filter q (x ∷ xs)) ≡ filter q (filter p (x ∷ xs))
+    step true e true f h = rw (e, f, e) (ap (λ (ys : List X). x ∷ ys) h)
+    step true e false f h = rw (e, f) h
+    step false e true f h = rw (e, f, e) h
+    step false e false f h = rw (e, f) h
+
+filter_twice : {X : Type 0} (p : X → Bool) (xs : List X) → filter p (filter p xs) ≡ filter p xs
+filter_twice p [] = refl
+filter_twice {X = X} p (x ∷ xs) = step (p x) refl (filter_twice p xs)
+  where
+    step : (b : Bool) → p x ≡ b → filter p (filter p xs) ≡ filter p xs → filter p (filter p (x ∷ xs)) ≡ filter p (x ∷ xs)
+    step true e h = rw (e, e) (ap (λ (ys : List X). x ∷ ys) h)
+    step false e h = rw e h
+
+-- the other spellings pass as if the one that doesn't pass were there
+filter_others : (p : TokenName → Bool) (w : TokenName) (ws : List TokenName) → p w ≡ false → filter p (filter (λ v. not (same_spelling w v)) ws) ≡ filter p ws
+filter_others p w [] fails = refl
+filter_others p w (v ∷ ws) fails = step (same_spelling w v) refl (filter_others p w ws fails)
+  where
+    step : (b : Bool) → same_spelling w v ≡ b → filter p (filter (λ v. not (same_spelling w v)) ws) ≡ filter p ws → filter p (filter (λ v. not (same_spelling w v)) (v ∷ ws)) ≡ filter p (v ∷ ws)
+    step true e h = let here : p v ≡ false = ap p (sym (same_is w v e)) ∙ fails in rw (e, here) h
+    step false e h = rw e (ap (λ (ys : List TokenName). cond (p v) (v ∷ ys) ys) h)
+
+-- the spellings that pass, each once
+filter-distinct : (p : TokenName → Bool) (ws : List TokenName) → filter p (distinct ws) ≡ distinct (filter p ws)
+filter-distinct p [] = refl
+filter-distinct p (w ∷ ws) = step (p w) refl (filter-distinct p ws)
+  where
+    step : (b : Bool) → p w ≡ b → filter p (distinct ws) ≡ distinct (filter p ws) → filter p (distinct (w ∷ ws)) ≡ distinct (filter p (w ∷ ws))
+    step true e h = rw e (ap (λ (ys : List TokenName). w ∷ ys) (filter_swap p (λ v. not (same_spelling w v)) (distinct ws) ∙ ap (filter (λ v. not (same_spelling w v))) h))
+    step false e h = rw e (filter_others p w (distinct ws) e ∙ h)
+
+distinct_twice : (ws : List TokenName) → distinct (distinct ws) ≡ distinct ws
+distinct_twice [] = refl
+distinct_twice (w ∷ ws) =
+    let others : TokenName → Bool = λ v. not (same_spelling w v) in
+    ap (λ (ys : List TokenName). w ∷ ys)
+    (ap (filter others) (sym (filter-distinct others (distinct ws)) ∙ ap (filter others) (distinct_twice ws)) ∙ filter_twice others (distinct ws))
+
+pub distinct-filter-distinct : (p : TokenName → Bool) (ws : List TokenName) → distinct (filter p (distinct ws)) ≡ distinct (filter p ws)
+distinct-filter-distinct p ws = ap distinct (filter-distinct p ws) ∙ distinct_twice (filter p ws)
+
 -- The table holds the words that were gathered, each once, and more come.
 pub record Gathers (table more all : List TokenName) : Type 0 where
   pub done : List TokenName

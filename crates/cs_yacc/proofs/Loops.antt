@@ -1,19 +1,20 @@
 -- Loops over the items, from the front.
 use Rattle.std.proofs.Common.{append_assoc, true, false, ◌≡◌, ℕ, ◌+◌, ◌<◌, ◌≤◌, Bool, List, [], ◌∷◌, ◌++◌, length, drop, get_or, refl, sym, ap, subst, ◌∙◌}
 use Rattle.std.specs.Prelude.{Option, Some, None, filter}
-use Rattle.std.proofs.lemmas.List.{at_drop_more, at_drop_all, append-nil, map-append}
+use Rattle.std.proofs.lemmas.List.{at_drop_more, at_drop_all, append-nil}
 use Rattle.indexmap.specs.IndexSet.{insert_all}
 use Rattle.cs_yacc_items.specs.declared.item.Placed as held
 use Rattle.cs_yacc_items.specs.declared.item.Item.TheVariants as variants
 use Rattle.cs_yacc.specs.declared.spelled.SpelledRule as prods
 use Rattle.cs_yacc.specs.RuleView.{rules_in}
-use Rattle.cs_yacc.specs.SpellingView.{spellings_of}
+use Rattle.cs_yacc.specs.declared.spelling.Spelling as code
+use Rattle.cs_yacc.specs.SpellingView.{spelling_of, spellings_of}
 use Rattle.std.specs.List.{flat_map}
 use Rattle.std.proofs.lemmas.List.Elements.{filter-append}
-use Rattle.cs_yacc_items.specs.Items.{Item, Placed, items_of}
-use Rattle.cs_yacc_items.specs.Views.{item_of, placed_of, placed_all}
+use Rattle.cs_yacc_items.specs.Items.{Item, items_of}
+use Rattle.cs_yacc_items.specs.Views.{item_of, placed_all}
 use Rattle.cs_yacc.specs.declared.name.TokenName.{TokenName}
-use Rattle.cs_yacc.specs.Meaning.{same_spelling, distinct, from_each, body, first_at, spelling_at, spelled, only_if, has_meaning, with_meaning_behind}
+use Rattle.cs_yacc.specs.Meaning.{same_spelling, distinct, from_each, body, first_at}
 use Rattle.cs_yacc.proofs.Gathering.{Gathers, Gathers-more, Gathers-ends}
 
 -- what is left from an index on
@@ -92,13 +93,16 @@ module _ (t : Item → List Item → Bool) (items : List held.Placed) (total : O
 
 -- ---- tokens
 
-filter-from_each : (p : TokenName → Bool) (items : List Item) → from_each (λ i _. filter p (spelling_at i)) items ≡ filter p (spelled items)
-filter-from_each p [] = refl
-filter-from_each p (i ∷ items) = rw (filter-from_each p items) (sym (filter-append p (spelling_at i) (spelled items)))
+pub tokens_more : (p : TokenName → Bool) (words : List code.Spelling) (k : ℕ) (w : code.Spelling) (old new ws all : List TokenName) → Gathers old (filter p (spellings_of (drop k words))) all → k < length words
+    → ws ≡ filter p (spelling_of (get_or words k w) ∷ []) → new ≡ insert_all same_spelling old ws → Gathers new (filter p (spellings_of (drop (k + 1) words))) all
+tokens_more p words k w old new ws all g lt is made =
+    let rest : List TokenName = spellings_of (drop (k + 1) words) in
+    let here : filter p (spellings_of (drop k words)) ≡ filter p (spelling_of (get_or words k w) ∷ rest) = at_drop_more (λ xs. filter p (spellings_of xs)) words k w lt in
+    let parted : filter p (spelling_of (get_or words k w) ∷ rest) ≡ ws ++ filter p rest = filter-append p (spelling_of (get_or words k w) ∷ []) rest ∙ ap (λ (x : List TokenName). x ++ filter p rest) (sym is) in
+    rw made (Gathers-more old _ (filter p rest) all ws g (here ∙ parted))
 
-pub tokens_end : (p : TokenName → Bool) (all : List Item) (items : List held.Placed) (k : ℕ) (table : List TokenName) → Gathers table (from_each (λ i _. filter p (spelling_at i)) (rest_at items k)) (from_each (λ i _. filter p (spelling_at i)) all)
-    → length items ≤ k → table ≡ distinct (filter p (spelled all))
-tokens_end p all items k table g le = gather_ends (λ i _. filter p (spelling_at i)) items k table _ g le ∙ ap distinct (filter-from_each p all)
+pub tokens_end : (p : TokenName → Bool) (words : List code.Spelling) (k : ℕ) (table all : List TokenName) → Gathers table (filter p (spellings_of (drop k words))) all → length words ≤ k → table ≡ distinct all
+tokens_end p words k table all g le = Gathers-ends table all (subst (λ (x : List TokenName). Gathers table x all) (at_drop_all (λ xs. filter p (spellings_of xs)) words k le) g)
 
 -- ---- words of the rules
 
@@ -107,24 +111,3 @@ pub used_more : (rules : List prods.SpelledRule) (k : ℕ) (p : prods.SpelledRul
 used_more rules k p old new right all g lt is made =
     let step = at_drop_more (λ xs. flat_map (λ r. r.right) (rules_in xs)) rules k p lt in
     rw made (Gathers-more old _ (flat_map (λ r. r.right) (rules_in (drop (k + 1) rules))) all right g (rw is step))
-
--- ---- items with a meaning
-
-placed_only_if : (b : Bool) (p : held.Placed) → placed_all (only_if b p) ≡ only_if b (placed_of p)
-placed_only_if true p = refl
-placed_only_if false p = refl
-
-pub with_meaning_more : (items : List held.Placed) (total : List Placed) (k : ℕ) (old new : List held.Placed) (before : Option Item) (b : Bool) → placed_all old ++ with_meaning_behind before (placed_all (drop k items)) ≡ total → k < length items
-    → b ≡ has_meaning before (item_of (get_or items k no_item).item) → new ≡ old ++ only_if b (get_or items k no_item)
-    → placed_all new ++ with_meaning_behind (Some (item_of (get_or items k no_item).item)) (placed_all (drop (k + 1) items)) ≡ total
-with_meaning_more items total k old new before b so_far lt is made =
-    let step = at_drop_more (λ xs. with_meaning_behind before (placed_all xs)) items k no_item lt in
-    let rest : List Placed = with_meaning_behind (Some (item_of (get_or items k no_item).item)) (placed_all (drop (k + 1) items)) in
-    let here : placed_all new ≡ placed_all old ++ only_if (has_meaning before (item_of (get_or items k no_item).item)) (placed_of (get_or items k no_item)) = ap placed_all made ∙ (map-append placed_of old (only_if b (get_or items k no_item)) ∙ ap (λ (x : List Placed). placed_all old ++ x) (placed_only_if b (get_or items k no_item) ∙ ap (λ t. only_if t (placed_of (get_or items k no_item))) is)) in
-    ap (λ (x : List Placed). x ++ rest) here
-    ∙ (append_assoc (placed_all old) (only_if (has_meaning before (item_of (get_or items k no_item).item)) (placed_of (get_or items k no_item))) rest
-    ∙ (ap (λ (x : List Placed). placed_all old ++ x) (sym step) ∙ so_far))
-
-pub with_meaning_ends : (items : List held.Placed) (total : List Placed) (k : ℕ) (old : List Placed) (before : Option Item) → old ++ with_meaning_behind before (placed_all (drop k items)) ≡ total → length items ≤ k → old ≡ total
-with_meaning_ends items total k old before so_far le =
-    sym (append-nil old) ∙ ap (λ (x : List Placed). old ++ x) (sym (at_drop_all (λ xs. with_meaning_behind before (placed_all xs)) items k le)) ∙ so_far

@@ -1,6 +1,6 @@
 -- From the tables to what the reader answers.
 use Rattle.std.proofs.Common.{◌≡◌, ◌≤◌, ℕ, Bool, true, false, cond, List, [], ◌∷◌, length, refl, sym, ap, subst, ◌∙◌, ◌⊎◌, inl, inr, arith}
-use Rattle.std.specs.Prelude.{Option, Some, None, Result, Ok, Err, nat_lt, option_map}
+use Rattle.std.specs.Prelude.{Option, Some, None, Result, Ok, Err, nat_lt, option_map, filter}
 use Rattle.cs_yacc_items.specs.declared.item.Placed as held
 use Rattle.cs_yacc.specs.declared.name.TokenName.{TokenName}
 use Rattle.cs_yacc.specs.declared.error.YaccLimit.{YaccLimit}
@@ -11,9 +11,9 @@ use Rattle.cs_yacc_items.specs.Items.{Placed, items_of, Reads}
 use Rattle.cs_yacc_items.specs.Table.{declarations, IsTaken, IsStuck}
 use Rattle.cs_yacc_items.proofs.Stuck.{stuck_at, stuck_from_some, taken_from_none}
 use Rattle.cs_yacc.specs.File.{File, IsFile}
-use Rattle.cs_yacc.specs.Meaning.{declared_tokens, SpelledRule, kept, used, nonterminals, tokens, tokens_of, with_meaning, start_item, wrong_start, file_with, behind_start, is_token_on_left, behind_mark, first_at, first_start, first_undefined, name_fault, above, long_right, limit_passed, or_else, unless, Parts, parts_of, file_or_limit, outcome}
+use Rattle.cs_yacc.specs.Meaning.{declared_tokens, SpelledRule, kept, used, nonterminals, distinct, spelled, is_in_use, tokens_of, with_meaning, start_item, wrong_start, file_with, behind_start, is_token_on_left, behind_mark, first_at, first_start, first_undefined, name_fault, above, long_right, limit_passed, or_else, unless, Parts, parts_of, file_or_limit, outcome}
 use Rattle.cs_yacc.specs.Reading.{IsYaccFile, Refuses, Answers, IsAccepted, IsRefused}
-use Rattle.cs_yacc.specs.Finding.{IsGiven}
+use Rattle.cs_yacc.specs.Finding.{IsGiven, fault_behind_start, left_parts}
 use Rattle.cs_yacc.specs.Errors.{error_of}
 use Rattle.cs_yacc_items.specs.Stops.{AnswersItems, StopsFor, IsRead, IsStopped}
 use Rattle.cs_yacc_items.specs.declared.error.ItemsError as item_errors
@@ -22,6 +22,7 @@ use Rattle.cs_yacc_items.specs.Views.{placed_of, placed_all}
 use Rattle.std.proofs.lemmas.List.{length-map}
 use Rattle.cs_yacc.proofs.Counts.{few_with_meaning_of, few_held}
 use Rattle.cs_yacc.proofs.Fits.{file_fits}
+use Rattle.cs_yacc.proofs.Gathering.{distinct-filter-distinct}
 
 -- what is given may be answered
 is_given : (r given : Result File YaccError) → given ≡ r → IsGiven r given
@@ -33,15 +34,23 @@ is_given r given e = e
 abbrev parts_with : List TokenName → List TokenName → List Placed → List SpelledRule → Parts
 parts_with t n s r = record { tokens = t; nonterminals = n; start = s; rules = r }
 
-pub parts_same : (all items : List Placed) (p : Parts) (used_table : List TokenName) → p.rules ≡ kept (items_of items) → used_table ≡ used p.rules → p.nonterminals ≡ nonterminals (items_of items)
-    → p.tokens ≡ tokens used_table p.nonterminals (items_of all) → p.start ≡ start_item all → p ≡ parts_of all items
-parts_same all items p used_table r u l t b =
-    let same : p.tokens ≡ tokens_of all items = t ∙ rw (u, r, l) refl in
-    by_fields p.tokens (tokens_of all items) p.nonterminals (nonterminals (items_of items)) p.start (start_item all) p.rules (kept (items_of items)) same l b r
-  where
-    by_fields : (t : List TokenName) (u : List TokenName) (n : List TokenName) (m : List TokenName) (s q : List Placed) (r k : List SpelledRule) → t ≡ u → n ≡ m → s ≡ q → r ≡ k
-        → parts_with t n s r ≡ parts_with u m q k
-    by_fields t u n m s q r k a b c d = rw (a, b, c, d) refl
+by_fields : (t : List TokenName) (u : List TokenName) (n : List TokenName) (m : List TokenName) (s q : List Placed) (r k : List SpelledRule) → t ≡ u → n ≡ m → s ≡ q → r ≡ k → parts_with t n s r ≡ parts_with u m q k
+by_fields t u n m s q r k a b c d = rw (a, b, c, d) refl
+
+-- the code's parts are those that these make
+pub left_same : (words : List TokenName) (start items : List Placed) (p : Parts) (used_table : List TokenName) → p.rules ≡ kept (items_of items) → used_table ≡ used p.rules → p.nonterminals ≡ nonterminals (items_of items)
+    → p.tokens ≡ distinct (filter (is_in_use used_table p.nonterminals) words) → p.start ≡ start → p ≡ left_parts words start items
+left_same words start items p used_table r u l t b =
+    let same : p.tokens ≡ distinct (filter (is_in_use (used (kept (items_of items))) (nonterminals (items_of items))) words) = t ∙ rw (u, r, l) refl in
+    by_fields p.tokens _ p.nonterminals (nonterminals (items_of items)) p.start start p.rules (kept (items_of items)) same l b r
+
+-- and those of all items
+pub parts_same : (all items start : List Placed) (words : List TokenName) → words ≡ distinct (spelled (items_of all)) → start ≡ start_item all → left_parts words start items ≡ parts_of all items
+parts_same all items start words w s =
+    let n : List TokenName = nonterminals (items_of items) in
+    let k : List SpelledRule = kept (items_of items) in
+    let same : distinct (filter (is_in_use (used k) n) words) ≡ tokens_of all items = rw w (distinct-filter-distinct (is_in_use (used k) n) (spelled (items_of all))) in
+    by_fields _ (tokens_of all items) n n start (start_item all) k k same refl s refl
 
 pub parts_fit : (all items : List Placed) (lefts : List TokenName) → items ≡ with_meaning all → lefts ≡ nonterminals (items_of items) → IsTaken (items_of all) → wrong_start lefts (start_item all) ≡ None
     → limit_passed (parts_of all items) ≡ None → IsFile (file_with (parts_of all items))
@@ -50,10 +59,10 @@ parts_fit all items lefts i l taken started none =
     let whole : limit_passed (parts_of all (with_meaning all)) ≡ None = rw i at none in
     rw i (file_fits all taken first whole)
 
-pub fit_same : (all items : List Placed) (p : Parts) → p ≡ parts_of all items → items ≡ with_meaning all → p.nonterminals ≡ nonterminals (items_of items) → IsTaken (items_of all) → wrong_start p.nonterminals (start_item all) ≡ None
-    → limit_passed p ≡ None → IsFile (file_with p)
-fit_same all items p e i l taken started none =
-    subst (λ q. IsFile (file_with q)) (sym e) (parts_fit all items p.nonterminals i l taken started (subst (λ q. limit_passed q ≡ None) e none))
+pub left_fit : (all items start : List Placed) (words lefts : List TokenName) → words ≡ distinct (spelled (items_of all)) → start ≡ start_item all → items ≡ with_meaning all → lefts ≡ nonterminals (items_of items) → IsTaken (items_of all)
+    → wrong_start lefts (start_item all) ≡ None → limit_passed (left_parts words start items) ≡ None → IsFile (file_with (left_parts words start items))
+left_fit all items start words lefts w s i l taken started =
+    subst (λ p. limit_passed p ≡ None → IsFile (file_with p)) (sym (parts_same all items start words w s)) (λ none. parts_fit all items lefts i l taken started none)
 
 -- the items with a meaning are no more than all
 pub few_with_meaning : (all items : List held.Placed) → placed_all items ≡ with_meaning (placed_all all) → length (items_of (placed_all items)) ≤ length all
@@ -76,6 +85,13 @@ module _ (all items : List Placed) (ds ls : List TokenName) (i : items ≡ with_
       let f : name_fault all (with_meaning all) (declared_tokens (items_of (with_meaning all))) (nonterminals (items_of (with_meaning all))) ≡ None = sym (none ∙ fault_same) in
       let h : file_or_limit (parts_of all items) ≡ outcome all = rw (f, i) refl in
       subst (IsGiven r) h g
+
+-- what is told of the items with a meaning and of the item that names the start symbol, where `%start` stands once at the most
+pub name_fault_behind : (all items start : List Placed) (ds ls : List TokenName) → None ≡ first_start (behind_start all) → start ≡ start_item all → fault_behind_start start items ds ls ≡ name_fault all items ds ls
+name_fault_behind all items start ds ls once s = rw (← once, s) refl
+
+pub gives_second_start : (all : List Placed) (at : ℕ) → Some at ≡ first_start (behind_start all) → IsGiven (Err (SecondStart at)) (outcome all)
+gives_second_start all at found = is_given (Err (SecondStart at)) (outcome all) (rw (← found) refl)
 
 second_none : {A : Type 0} (o p : Option A) → or_else o p ≡ None → p ≡ None
 second_none None p e = e

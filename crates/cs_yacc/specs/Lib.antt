@@ -8,3 +8,4 @@ pub mod Finding
 pub mod PartsView
 pub mod AcceptedView
 pub mod TokenNumbers
+pub mod SpellingHash

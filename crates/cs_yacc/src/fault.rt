@@ -4,6 +4,7 @@ ghost use Rattle.std.specs.Prelude.{◌≡◌, ◌≤◌, length};
 ghost use Rattle.std.specs.Option.{option_to_list};
 ghost use Rattle.cs_yacc.specs.Meaning as spec;
 ghost use Rattle.cs_yacc_items.specs.Views.{item_of, placed_all};
+ghost use Rattle.cs_yacc.specs.Finding.{later_fault};
 ghost use Rattle.cs_yacc.specs.SpellingView.{items_in};
 
 use crate::error::YaccError;
@@ -61,6 +62,13 @@ fn first_start(items: &[Placed<'_>]) -> Option<u32>
         }
     }
     None
+}
+
+/// The offset of the second `%start`.
+pub fn second_start(items: &[Placed<'_>]) -> Option<u32>
+    ensures { result ≡ spec.first_start (spec.behind_start (placed_all items.now)) }
+{
+    first_start(behind_start(items))
 }
 
 fn is_token_on_left(declared: &Spellings<'_>, item: Item<'_>, behind: &[Placed<'_>]) -> bool
@@ -121,35 +129,31 @@ fn is_no_left(lefts: &Spellings<'_>, item: Item<'_>) -> bool
 }
 
 /// The offset of the name behind `%start`, where it is no left side.
-fn wrong_start(items: &[Placed<'_>], lefts: &Spellings<'_>) -> Option<u32>
-    ensures { result ≡ spec.wrong_start lefts.now (spec.start_item (placed_all items.now)) }
+fn wrong_start(start: Option<Placed<'_>>, lefts: &Spellings<'_>) -> Option<u32>
+    ensures { result ≡ spec.wrong_start lefts.now (placed_all (option_to_list start.entry)) }
 {
-    match start_item(items) {
+    match start {
         Some(placed) if is_no_left(lefts, placed.item) => Some(placed.at),
         _ => None,
     }
 }
 
-/// The first fault that lies in names.
+/// The first fault that lies in names, but for a second `%start`.
 pub fn name_fault(
-    all: &[Placed<'_>],
+    start: Option<Placed<'_>>,
     items: &[Placed<'_>],
     known: &Spellings<'_>,
     lefts: &Spellings<'_>,
 ) -> Option<YaccError>
-    ensures { result
-        ≡ spec.name_fault (placed_all all.now) (placed_all items.now) known.now lefts.now }
+    ensures { result ≡ later_fault start.entry items.now known.now lefts.now }
 {
-    if let Some(at) = first_start(behind_start(all)) {
-        return Some(YaccError::SecondStart { at });
-    }
     if let Some(at) = first_token_on_left(items, known) {
         return Some(YaccError::TokenOnLeft { at });
     }
     if let Some(at) = first_undefined(behind_mark(items), known, lefts) {
         return Some(YaccError::Undefined { at });
     }
-    match wrong_start(all, lefts) {
+    match wrong_start(start, lefts) {
         Some(at) => Some(YaccError::StartNotNonterminal { at }),
         None => None,
     }

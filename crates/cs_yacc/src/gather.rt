@@ -1,11 +1,12 @@
 // Spellings that the items hold, gathered into tables.
 
-ghost use Rattle.std.specs.Prelude.{◌≡◌, ◌+◌, ◌<◌, IfOk, OnOk, length, drop};
+ghost use Rattle.std.specs.Prelude.{◌≡◌, ◌+◌, ◌<◌, [], ◌∷◌, IfOk, OnOk, length, drop};
 ghost use Rattle.cs_yacc_items.specs.Views.{item_of};
 ghost use Rattle.cs_yacc.specs.Meaning as spec;
 ghost use Rattle.cs_yacc.specs.Meaning.{listed, declared_at};
+ghost use Rattle.cs_yacc.specs.Finding.{used_among};
 ghost use Rattle.cs_yacc.specs.RuleView.{rules_in};
-ghost use Rattle.cs_yacc.specs.SpellingView.{spellings_of, spellings_in, items_in, and_all};
+ghost use Rattle.cs_yacc.specs.SpellingView.{spelling_of, spellings_of, spellings_in, items_in, and_all};
 
 use crate::spelled::SpelledRule;
 use crate::spelling::{Spelling, Spellings, spelling_at};
@@ -115,10 +116,26 @@ pub fn used<'a>(alloc: Global, rules: &[SpelledRule<'a>]) -> Result<Spellings<'a
     Ok(spellings)
 }
 
-fn token_at<'a>(item: Item<'a>, used: &Spellings<'a>, lefts: &Spellings<'a>) -> Option<Spelling<'a>>
-    ensures { spellings_in result ≡ spec.token_at used.now lefts.now (item_of item.entry) }
+/// The spellings of the items, each once.
+pub fn spelled<'a>(alloc: Global, items: &[Placed<'a>]) -> Result<Spellings<'a>, AllocError>
+    ensures { IfOk result (λ s. s ≡ spec.distinct (spec.spelled (items_in items.now))) }
 {
-    let spelling = spelling_at(item)?;
+    let mut spellings = Spellings::new(alloc);
+    for placed in items {
+        spellings.add_some(spelling_at(placed.item))?;
+    }
+    Ok(spellings)
+}
+
+/// The spelling, where it is that of a token in use.
+fn in_use<'a>(
+    spelling: Spelling<'a>,
+    used: &Spellings<'a>,
+    lefts: &Spellings<'a>,
+) -> Option<Spelling<'a>>
+    ensures { spellings_in result
+        ≡ used_among used.now lefts.now (spelling_of spelling.entry ∷ []) }
+{
     if used.has(spelling) && !lefts.has(spelling) {
         Some(spelling)
     } else {
@@ -126,18 +143,19 @@ fn token_at<'a>(item: Item<'a>, used: &Spellings<'a>, lefts: &Spellings<'a>) -> 
     }
 }
 
-/// The tokens in use, in the order of the first items that spell them.
+/// The tokens in use among the spellings, in their order.
 pub fn tokens<'a>(
     alloc: Global,
-    items: &[Placed<'a>],
+    spelled: &Spellings<'a>,
     used: &Spellings<'a>,
     lefts: &Spellings<'a>,
 ) -> Result<Spellings<'a>, AllocError>
-    ensures { IfOk result (λ s. s ≡ spec.tokens used.now lefts.now (items_in items.now)) }
+    ensures { IfOk result (λ s.
+        s ≡ spec.distinct (used_among used.now lefts.now spelled.now)) }
 {
     let mut spellings = Spellings::new(alloc);
-    for placed in items {
-        spellings.add_some(token_at(placed.item, used, lefts))?;
+    for spelling in spelled.as_slice() {
+        spellings.add_some(in_use(*spelling, used, lefts))?;
     }
     Ok(spellings)
 }

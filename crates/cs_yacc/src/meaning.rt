@@ -1,11 +1,10 @@
 // The items that have a meaning.
 
-ghost use Rattle.std.specs.Prelude.{◌≡◌, ◌++◌, option_map, IfOk, OnOk};
+ghost use Rattle.std.specs.Prelude.{◌≡◌, option_map};
 ghost use Rattle.cs_yacc.specs.Meaning as spec;
 ghost use Rattle.cs_yacc_items.specs.Views.{item_of, placed_all};
 
 use cs_yacc_items::{Directive, Item, Placed};
-use std::alloc::{AllocError, Global};
 
 fn is_prec(item: Item<'_>) -> bool
     ensures { result ≡ spec.is_prec (item_of item.entry) }
@@ -37,29 +36,21 @@ fn has_meaning(before: Option<Item<'_>>, item: Item<'_>) -> bool
     !behind_prec && !is_idle(item)
 }
 
-fn push_if<'a>(
-    has_meaning: bool,
-    kept: &mut Vec<Placed<'a>>,
-    placed: Placed<'a>,
-) -> Result<(), AllocError>
-    ensures { OnOk result
-        (kept.new.items ≡ kept.old.items ++ spec.only_if has_meaning placed.entry) }
-{
-    if has_meaning {
-        kept.push(placed)?;
-    }
-    Ok(())
-}
-
 /// The items without those that have no meaning: the idle ones, and those directly behind `%prec`.
-pub fn with_meaning<'a>(alloc: Global, items: &[Placed<'a>]) -> Result<Vec<Placed<'a>>, AllocError>
-    ensures { IfOk result (λ v. placed_all v.items ≡ spec.with_meaning (placed_all items.now)) }
+pub fn with_meaning<'a>(items: Vec<Placed<'a>>) -> Vec<Placed<'a>>
+    ensures { placed_all result.items ≡ spec.with_meaning (placed_all items.entry.items) }
 {
-    let mut kept = Vec::new(alloc);
+    let mut items = items;
     let mut before = None;
-    for placed in items {
-        push_if(has_meaning(before, placed.item), &mut kept, *placed)?;
+    let mut kept = 0;
+    for index in 0..items.len() {
+        let placed = items[index];
+        if has_meaning(before, placed.item) {
+            items[kept] = placed;
+            kept += 1;
+        }
         before = Some(placed.item);
     }
-    Ok(kept)
+    items.truncate(kept);
+    items
 }

@@ -43,7 +43,7 @@ fn symbols(
     ensures { IfOk result (λ v.
         v.items ≡ symbols_in (parts_at file.now) (spellings_of right.now)) }
 {
-    let mut symbols = Vec::new(alloc);
+    let mut symbols = Vec::with_capacity(alloc, right.len())?;
     for spelling in right {
         symbols.push(symbol(file, *spelling))?;
     }
@@ -54,7 +54,7 @@ fn symbols(
 pub fn productions(alloc: Global, file: &Accepted<'_, '_>) -> Result<Vec<Rule>, AllocError>
     ensures { IfOk result (λ v. v.items ≡ spec.productions (parts_at file.now)) }
 {
-    let mut rules = Vec::new(alloc);
+    let mut rules = Vec::with_capacity(alloc, file.parts.rules.len())?;
     for rule in &file.parts.rules {
         let left = file.parts.lefts.number(rule.left);
         let right = symbols(alloc, file, &rule.right)?;

@@ -5,9 +5,9 @@ ghost use Rattle.cs_yacc_items.specs.Limits.{most_bytes};
 ghost use Rattle.cs_yacc_items.specs.Table.{IsTaken};
 ghost use Rattle.cs_yacc_items.specs.Views.{placed_all};
 ghost use Rattle.cs_yacc.specs.File.{IsFile};
-ghost use Rattle.cs_yacc.specs.Finding.{IsGiven};
+ghost use Rattle.cs_yacc.specs.Finding.{IsGiven, FitsLimits, left_in};
 ghost use Rattle.cs_yacc.specs.Meaning as spec;
-ghost use Rattle.cs_yacc.specs.Meaning.{limit_passed, parts_of, file_or_limit as given_by};
+ghost use Rattle.cs_yacc.specs.Meaning.{file_or_limit as given_by};
 ghost use Rattle.cs_yacc.specs.AcceptedView.{parts_at};
 ghost use Rattle.cs_yacc.specs.PartsView.{parts_in};
 ghost use Rattle.cs_yacc.specs.Reading.{Answers};
@@ -15,9 +15,9 @@ ghost use Rattle.cs_yacc.specs.SpellingView.{spelling_of, spellings_of, items_in
 
 use crate::accepted::Accepted;
 use crate::error::YaccError;
-use crate::fault::{name_fault, start_item};
+use crate::fault::{name_fault, second_start, start_item};
 use crate::file::YaccFile;
-use crate::gather::{declared, nonterminals, tokens, used};
+use crate::gather::{declared, nonterminals, spelled, tokens, used};
 use crate::limit::check_limits;
 use crate::meaning::with_meaning;
 use crate::name::{Name, TokenName};
@@ -88,8 +88,7 @@ fn build(alloc: Global, file: &Accepted<'_, '_>) -> Result<YaccFile, AllocError>
 
 /// The file that the parts make, or the first limit that they pass.
 fn file_or_limit(alloc: Global, parts: &Parts<'_>) -> Result<YaccFile, YaccError>
-    requires { limit_passed (parts_in parts.now) ≡ None
-        → IsFile (spec.file_with (parts_in parts.now)) }
+    requires { FitsLimits (parts_in parts.now) }
     ensures { IsGiven result (spec.file_or_limit (parts_in parts.now)) }
 {
     match check_limits(parts) {
@@ -101,24 +100,23 @@ fn file_or_limit(alloc: Global, parts: &Parts<'_>) -> Result<YaccFile, YaccError
     }
 }
 
-/// What the items give, where no name is at fault; those with a meaning are `items`.
+/// What the items with a meaning give, where no name is at fault; `spelled` are the spellings of all items.
 fn file_of<'a>(
     alloc: Global,
-    all: &[Placed<'a>],
+    spelled: &Spellings<'a>,
+    start: Option<Placed<'a>>,
     items: &[Placed<'a>],
     lefts: Spellings<'a>,
 ) -> Result<YaccFile, YaccError>
-    requires few { length all.now ≤ most_bytes }
-    requires taken { IsTaken (items_in all.now) }
-    requires items { placed_all items.now ≡ spec.with_meaning (placed_all all.now) }
+    requires few { length items.now ≤ most_bytes }
+    requires few_spelled { length spelled.now ≤ most_bytes }
     requires lefts { lefts ≡ spec.nonterminals (items_in items.now) }
-    requires start { spec.wrong_start lefts (spec.start_item (placed_all all.now)) ≡ None }
-    ensures { IsGiven result (given_by (parts_of (placed_all all.now) (placed_all items.now))) }
+    requires fits { FitsLimits (left_in spelled.now start items.now) }
+    ensures { IsGiven result (given_by (left_in spelled.now start.entry items.now)) }
 {
     let rules = kept_rules(alloc, items)?;
     let used = used(alloc, &rules)?;
-    let tokens = tokens(alloc, all, &used, &lefts)?;
-    let start = start_item(all);
+    let tokens = tokens(alloc, spelled, &used, &lefts)?;
     let parts = Parts {
         tokens,
         lefts,
@@ -129,17 +127,22 @@ fn file_of<'a>(
 }
 
 /// What the items mean, where the table takes them.
-fn meaning(alloc: Global, all: &[Placed<'_>]) -> Result<YaccFile, YaccError>
-    requires few { length all.now ≤ most_bytes }
-    requires taken { IsTaken (items_in all.now) }
-    ensures { IsGiven result (spec.outcome (placed_all all.now)) }
+fn meaning(alloc: Global, all: Vec<Placed<'_>>) -> Result<YaccFile, YaccError>
+    requires few { length all.items ≤ most_bytes }
+    requires taken { IsTaken (items_in all.items) }
+    ensures { IsGiven result (spec.outcome (placed_all all.entry.items)) }
 {
-    let items = with_meaning(alloc, all)?;
+    if let Some(at) = second_start(&all) {
+        return Err(YaccError::SecondStart { at });
+    }
+    let start = start_item(&all);
+    let spelled = spelled(alloc, &all)?;
+    let items = with_meaning(all);
     let declared = declared(alloc, &items)?;
     let lefts = nonterminals(alloc, &items)?;
-    match name_fault(all, &items, &declared, &lefts) {
+    match name_fault(start, &items, &declared, &lefts) {
         Some(fault) => Err(fault),
-        None => file_of(alloc, all, &items, lefts),
+        None => file_of(alloc, &spelled, start, &items, lefts),
     }
 }
 
@@ -157,7 +160,7 @@ pub fn read_yacc(alloc: Global, bytes: &[u8]) -> Result<YaccFile, YaccError>
     match read_items(alloc, bytes) {
         Ok(items) => match syntax_fault(&items, bytes.len()) {
             Some(at) => Err(YaccError::Syntax { at }),
-            None => meaning(alloc, &items),
+            None => meaning(alloc, items),
         },
         Err(error) => Err(YaccError::from(error)),
     }

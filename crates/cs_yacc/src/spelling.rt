@@ -9,13 +9,30 @@ use cs_grammar::number_of;
 use cs_yacc_items::Item;
 use indexmap::IndexSet;
 use std::alloc::{AllocError, Global};
+use std::hash::{Hash, Hasher};
 use std::marker::Model;
 
 /// A name or a byte between quotes, in the bytes of the file.
-#[derive(Clone, Copy, Debug, PartialEq, Eq, Hash)]
+#[derive(Clone, Copy, Debug, PartialEq, Eq)]
 pub enum Spelling<'a> {
     Named(&'a [u8]),
     Quoted(u8),
+}
+
+// In one write, where the derived one would make a write for each byte.
+impl<'a> Hash for Spelling<'a> {
+    ghost use Rattle.cs_yacc.specs.SpellingHash.{writes_of, equal_writes};
+
+    ghost hash_input = { writes_of };
+
+    ghost respects_eq = { equal_writes };
+
+    fn hash<H: Hasher>(&self, state: &mut H) {
+        match self {
+            Spelling::Named(name) => state.write(name),
+            Spelling::Quoted(byte) => state.write_u8(*byte),
+        }
+    }
 }
 
 /// The spelling of the item, if it has one.

@@ -1,9 +1,10 @@
-use Rattle.cs_yacc.specs.Meaning.{from_each, token_at}
-use Rattle.cs_yacc.specs.SpellingView.{items_in}
+use Rattle.std.proofs.Common.{drop}
+use Rattle.std.specs.Prelude.{filter}
+use Rattle.cs_yacc.specs.Meaning.{is_in_use}
+use Rattle.cs_yacc.specs.SpellingView.{spellings_of}
 use Rattle.cs_yacc.proofs.Gathering.{Gathers}
-use Rattle.cs_yacc.proofs.Loops.{rest_at}
 use Rattle.cs_yacc.proofs.gather.tokens.Given as goal
 
-abbrev pub invariant-loop-placed : goal.invariant-loop-placed
-invariant-loop-placed l =
-    Gathers l.spellings (from_each (λ i _. token_at l.used l.lefts i) (rest_at l.items l.placed-index)) (from_each (λ i _. token_at l.used l.lefts i) (items_in l.items))
+abbrev pub invariant-loop-spelling : goal.invariant-loop-spelling
+invariant-loop-spelling l =
+    Gathers l.spellings (filter (is_in_use l.used l.lefts) (spellings_of (drop l.spelling-index l.spelling-items))) (filter (is_in_use l.used l.lefts) l.spelled)

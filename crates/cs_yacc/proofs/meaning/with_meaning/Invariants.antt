@@ -1,9 +1,12 @@
-use Rattle.std.proofs.Common.{◌≡◌, ◌++◌, drop}
+use Rattle.std.proofs.Common.{◌≡◌, ◌≤◌, ◌++◌, take, drop, length}
 use Rattle.std.specs.Prelude.{option_map}
 use Rattle.cs_yacc.specs.Meaning.{with_meaning, with_meaning_behind}
 use Rattle.cs_yacc_items.specs.Views.{item_of, placed_all}
 use Rattle.cs_yacc.proofs.meaning.with_meaning.Given as goal
 
-abbrev pub invariant-loop-placed : goal.invariant-loop-placed
-invariant-loop-placed l =
-    placed_all l.kept.items ++ with_meaning_behind (option_map item_of l.before) (placed_all (drop l.placed-index l.items)) ≡ with_meaning (placed_all l.items)
+abbrev pub invariant-loop-index : goal.invariant-loop-index
+invariant-loop-index l =
+    (l.kept ≤ l.index)
+    × (length l.items.items ≡ length l.fn.items.items)
+    × (drop l.index l.items.items ≡ drop l.index l.fn.items.items)
+    × (placed_all (take l.kept l.items.items) ++ with_meaning_behind (option_map item_of l.before) (placed_all (drop l.index l.fn.items.items)) ≡ with_meaning (placed_all l.fn.items.items))

@@ -1,22 +1,63 @@
-use Rattle.std.proofs.Common.{◌∙◌, ap, sym, subst}
+use Rattle.std.proofs.Common.{◌∙◌, ◌≡◌, length, ap, sym, subst, arith}
+use Rattle.std.specs.Prelude.{List, None}
 use Rattle.cs_yacc_items.specs.declared.item.Placed as held
-use Rattle.std.specs.Prelude.{List}
-use Rattle.cs_yacc_items.specs.Items.{items_of}
-use Rattle.cs_yacc.specs.Meaning.{declared_tokens, nonterminals, file_or_limit, parts_of}
-use Rattle.cs_yacc.specs.Finding.{IsGiven}
+use Rattle.cs_yacc_items.specs.Items.{Placed, items_of}
 use Rattle.cs_yacc_items.specs.Views.{placed_all}
-use Rattle.cs_yacc.proofs.Whole.{gives_fault, gives_rest}
+use Rattle.cs_yacc.specs.Meaning.{declared_tokens, nonterminals, distinct, spelled, behind_start, first_start, start_item, file_or_limit, parts_of}
+use Rattle.cs_yacc.specs.Finding.{IsGiven, placed_of_some}
+use Rattle.cs_yacc.proofs.Counts.{few_words, few_held}
+use Rattle.cs_yacc.proofs.Whole.{gives_second_start, name_fault_behind, gives_fault, gives_rest, started, few_with_meaning, left_fit, parts_same}
 use Rattle.cs_yacc.proofs.read.meaning.Goals as goal
 
 pub returns-in-Some : goal.returns-in-Some
 returns-in-Some c =
-    gives_fault (placed_all c.args.all.now) (placed_all c.deref-3.result.now) _ _ (ap placed_all c.deref-3.ensures.value ∙ c.in_ok-items.ensures)
-    (c.in_ok-declared.ensures ∙ ap (λ xs. declared_tokens (items_of (placed_all xs))) (c.deref.ensures.value ∙ sym c.deref-3.ensures.value))
-    (c.in_ok-lefts.ensures ∙ ap (λ xs. nonterminals (items_of (placed_all xs))) (c.deref-2.ensures.value ∙ sym c.deref-3.ensures.value)) c.in-Some.fault c.in-Some.ensures
+    gives_second_start (placed_all c.args.all.items) c.in-Some.at (c.in-Some.ensures ∙ ap (λ (xs : List held.Placed). first_start (behind_start (placed_all xs))) c.deref.ensures.value)
+
+pub returns-in-Some-name_fault : goal.returns-in-Some-name_fault
+returns-in-Some-name_fault c =
+    let all : List Placed = placed_all c.args.all.items in
+    let items : List Placed = placed_all c.deref-6.result.now in
+    let once : None ≡ first_start (behind_start all) = c.in_default.ensures ∙ ap (λ (xs : List held.Placed). first_start (behind_start (placed_all xs))) c.deref.ensures.value in
+    let named : placed_of_some c.start_item-start.result ≡ start_item all = c.start_item-start.ensures ∙ ap (λ (xs : List held.Placed). start_item (placed_all xs)) c.deref-2.ensures.value in
+    gives_fault all items c.in_ok-declared.declared c.in_ok-lefts.lefts (ap placed_all c.deref-6.ensures.value ∙ c.with_meaning-items.ensures)
+    (c.in_ok-declared.ensures ∙ ap (λ (xs : List held.Placed). declared_tokens (items_of (placed_all xs))) (c.deref-4.ensures.value ∙ sym c.deref-6.ensures.value))
+    (c.in_ok-lefts.ensures ∙ ap (λ (xs : List held.Placed). nonterminals (items_of (placed_all xs))) (c.deref-5.ensures.value ∙ sym c.deref-6.ensures.value)) c.in-Some-name_fault.fault
+    (c.in-Some-name_fault.ensures ∙ name_fault_behind all items (placed_of_some c.start_item-start.result) c.in_ok-declared.declared c.in_ok-lefts.lefts once named)
+
+pub file_of-requires-clause-few : goal.file_of-requires-clause-few
+file_of-requires-clause-few c =
+    omega (arith, few_with_meaning c.args.all.items c.deref-in-None.result.now (ap placed_all c.deref-in-None.ensures.value ∙ c.with_meaning-items.ensures), few_held c.deref-in-None.result.now, c.requires.few)
+
+pub file_of-requires-clause-few_spelled : goal.file_of-requires-clause-few_spelled
+file_of-requires-clause-few_spelled c =
+    omega (arith, ap length c.in_ok-spelled.ensures, few_words (items_of (placed_all c.deref-3.result.now)), few_held c.deref-3.result.now, ap length c.deref-3.ensures.value, c.requires.few)
+
+pub file_of-requires-clause-lefts : goal.file_of-requires-clause-lefts
+file_of-requires-clause-lefts c =
+    c.in_ok-lefts.ensures ∙ ap (λ (xs : List held.Placed). nonterminals (items_of (placed_all xs))) (c.deref-5.ensures.value ∙ sym c.deref-in-None.ensures.value)
+
+pub file_of-requires-clause-fits : goal.file_of-requires-clause-fits
+file_of-requires-clause-fits c =
+    let all : List Placed = placed_all c.args.all.items in
+    let once : None ≡ first_start (behind_start all) = c.in_default.ensures ∙ ap (λ (xs : List held.Placed). first_start (behind_start (placed_all xs))) c.deref.ensures.value in
+    let named : placed_of_some c.start_item-start.result ≡ start_item all = c.start_item-start.ensures ∙ ap (λ (xs : List held.Placed). start_item (placed_all xs)) c.deref-2.ensures.value in
+    left_fit all (placed_all c.deref-in-None.result.now) (placed_of_some c.start_item-start.result) c.in_ok-spelled.spelled c.in_ok-lefts.lefts
+    (c.in_ok-spelled.ensures ∙ ap (λ (xs : List held.Placed). distinct (spelled (items_of (placed_all xs)))) c.deref-3.ensures.value) named (ap placed_all c.deref-in-None.ensures.value ∙ c.with_meaning-items.ensures)
+    (c.in_ok-lefts.ensures ∙ ap (λ (xs : List held.Placed). nonterminals (items_of (placed_all xs))) (c.deref-5.ensures.value ∙ sym c.deref-in-None.ensures.value)) c.requires.taken
+    (started all (placed_all c.deref-6.result.now) c.in_ok-declared.declared c.in_ok-lefts.lefts
+    (c.in-None.ensures ∙ name_fault_behind all (placed_all c.deref-6.result.now) (placed_of_some c.start_item-start.result) c.in_ok-declared.declared c.in_ok-lefts.lefts once named))
 
 pub returns : goal.returns
 returns c =
-    gives_rest (placed_all c.args.all.now) (placed_all c.deref-3.result.now) _ _ (ap placed_all c.deref-3.ensures.value ∙ c.in_ok-items.ensures)
-    (c.in_ok-declared.ensures ∙ ap (λ xs. declared_tokens (items_of (placed_all xs))) (c.deref.ensures.value ∙ sym c.deref-3.ensures.value))
-    (c.in_ok-lefts.ensures ∙ ap (λ xs. nonterminals (items_of (placed_all xs))) (c.deref-2.ensures.value ∙ sym c.deref-3.ensures.value)) c.file_of.result c.in-None.ensures
-    (subst (λ (xs : List held.Placed). IsGiven c.file_of.result (file_or_limit (parts_of (placed_all c.args.all.now) (placed_all xs)))) (c.deref-in-None.ensures.value ∙ sym c.deref-3.ensures.value) c.file_of.ensures)
+    let all : List Placed = placed_all c.args.all.items in
+    let items : List Placed = placed_all c.deref-6.result.now in
+    let once : None ≡ first_start (behind_start all) = c.in_default.ensures ∙ ap (λ (xs : List held.Placed). first_start (behind_start (placed_all xs))) c.deref.ensures.value in
+    let named : placed_of_some c.start_item-start.result ≡ start_item all = c.start_item-start.ensures ∙ ap (λ (xs : List held.Placed). start_item (placed_all xs)) c.deref-2.ensures.value in
+    gives_rest all items c.in_ok-declared.declared c.in_ok-lefts.lefts (ap placed_all c.deref-6.ensures.value ∙ c.with_meaning-items.ensures)
+    (c.in_ok-declared.ensures ∙ ap (λ (xs : List held.Placed). declared_tokens (items_of (placed_all xs))) (c.deref-4.ensures.value ∙ sym c.deref-6.ensures.value))
+    (c.in_ok-lefts.ensures ∙ ap (λ (xs : List held.Placed). nonterminals (items_of (placed_all xs))) (c.deref-5.ensures.value ∙ sym c.deref-6.ensures.value)) c.file_of.result
+    (c.in-None.ensures ∙ name_fault_behind all items (placed_of_some c.start_item-start.result) c.in_ok-declared.declared c.in_ok-lefts.lefts once named)
+    (subst (λ p. IsGiven c.file_of.result (file_or_limit p))
+    (parts_same all (placed_all c.deref-in-None.result.now) (placed_of_some c.start_item-start.result) c.in_ok-spelled.spelled
+    (c.in_ok-spelled.ensures ∙ ap (λ (xs : List held.Placed). distinct (spelled (items_of (placed_all xs)))) c.deref-3.ensures.value) named
+    ∙ ap (λ (xs : List held.Placed). parts_of all (placed_all xs)) (c.deref-in-None.ensures.value ∙ sym c.deref-6.ensures.value)) c.file_of.ensures)
