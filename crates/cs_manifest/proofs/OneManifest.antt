@@ -1,5 +1,5 @@
 -- A file has at most one manifest by a choice, where the lexemes and the rendering of tokens are one.
-use Rattle.std.proofs.Common.{◌≡◌, ℕ, List, [], ◌∷◌, refl, sym, ap, ◌∙◌, subst, Ok, Option}
+use Rattle.std.proofs.Common.{◌≡◌, ℕ, List, [], sym, ap, ◌∙◌, subst, Ok, Option}
 use Rattle.std.specs.List.{AllZip}
 use Rattle.cs_grammar.specs.Grammar.{PlainGrammar}
 use Rattle.cs_grammar.specs.Weights.{Measure, Weighed, weighed}
@@ -15,17 +15,13 @@ use Rattle.cs_positive.specs.declared.verdict.Verdict.TheVariants.{Feasible, Inf
 use Rattle.cs_positive.proofs.Verdicts.{one_verdict_of}
 use Rattle.cs_render.specs.Rendering.{Rendering}
 use Rattle.cs_yacc.specs.File.{File}
-use Rattle.cs_manifest.specs.Manifest.{AreNegativesOf, AreTokensOf, BaseEntry, Choice, GoalEntry, HasOneText, IsBaseOf, IsEntryOf, IsManifest, IsNegativeOf, IsTextOf, NegativeEntry, bases, most_bases, manifest_text}
-
--- where each member has one partner at most, so has a list
-pub one_zip : {A B : Type 0} {R : A → B → Type 0} → ((x : A) (a b : B) → R x a → R x b → a ≡ b) → (xs : List A) (ys zs : List B) → AllZip R xs ys → AllZip R xs zs → ys ≡ zs
-one_zip one [] [] [] p q = refl
-one_zip one [] [] (z ∷ zs) p q = absurd q
-one_zip one [] (y ∷ ys) zs p q = absurd p
-one_zip one (x ∷ xs) [] zs p q = absurd p
-one_zip one (x ∷ xs) (y ∷ ys) [] p q = absurd q
-one_zip {A} {B} one (x ∷ xs) (y ∷ ys) (z ∷ zs) p q =
-    ap (λ (b : B). b ∷ ys) (one x y z p.0 q.0) ∙ ap (λ (bs : List B). z ∷ bs) (one_zip one xs ys zs p.1 q.1)
+use Rattle.cs_manifest.specs.declared.format.Format.{Format}
+use Rattle.cs_manifest.specs.declared.format.Format.TheVariants.{One, Two}
+use Rattle.cs_manifest.specs.declared.format.Weigh.{Weigh}
+use Rattle.cs_manifest.specs.Closed.{ClosedSets}
+use Rattle.cs_manifest.specs.Manifest.{AreNegativesOf, AreTokensOf, BaseEntry, Choice, GoalEntry, HasOneText, IsBaseOf, IsEntryOf, IsManifest, IsNegativeOf, IsTextOf, NegativeEntry, bases, IsTextIn, SharedEntry, most_bases, shared_text}
+use Rattle.cs_manifest.proofs.OneShared.{one_closed, one_list_of_shared}
+pub use Rattle.cs_manifest.proofs.Zips.{one_zip}
 
 module _ (choice : Choice) (one : HasOneText choice.texts) (lexemes : Option (List (Option (List ℕ)))) where
   module _ (of : Weighed) where
@@ -71,6 +67,16 @@ module _ (choice : Choice) (one : HasOneText choice.texts) (lexemes : Option (Li
         ∙ ap (λ (ts : List ℕ). record { goal = b.goal; tokens = ts; negatives = a.negatives }) (ha.tokens ∙ sym hb.tokens)
         ∙ ap (λ (ns : List NegativeEntry). record { goal = b.goal; tokens = b.tokens; negatives = ns }) (one_list_of_negatives base.1 a.negatives b.negatives ha.negatives hb.negatives)
 
+-- a format has one text of these
+module _ (weigh : Weigh) (file : File) (lexemes : Option (List (Option (List ℕ)))) (entries : List GoalEntry) (mutants : List BaseEntry) where
+  one_text_in : (format : Format) (text other : List ℕ) → IsTextIn format weigh file lexemes entries mutants text → IsTextIn format weigh file lexemes entries mutants other → text ≡ other
+  one_text_in One text other a b = a ∙ sym b
+  one_text_in Two text other a b =
+      let closed = one_closed file.grammar a.closed b.closed a.are_closed b.are_closed in
+      let list = one_list_of_shared file.grammar [] entries a.list b.list tt a.are_shared b.are_shared in
+      a.lines ∙ ap (λ (c : ClosedSets). shared_text file weigh lexemes c entries a.list mutants) closed
+      ∙ ap (λ (l : List SharedEntry). shared_text file weigh lexemes b.closed entries l mutants) list ∙ sym b.lines
+
 module _ (w : Measure) (choice : Choice) (file : File) (one : HasOneText choice.texts) where
   pub one_manifest_by : (text other : List ℕ) → IsManifest w choice file text → IsManifest w choice file other → text ≡ other
   one_manifest_by text other a b =
@@ -81,6 +87,7 @@ module _ (w : Measure) (choice : Choice) (file : File) (one : HasOneText choice.
       let moved = subst (λ (l : Option (List (Option (List ℕ)))). AllZip (IsBaseOf file.grammar choice l) (bases (most_bases choice) b.entries) b.mutants) (sym lexemes) b.negatives in
       let negatives = subst (λ (es : List GoalEntry). AllZip (IsBaseOf file.grammar choice a.lexemes) (bases (most_bases choice) es) b.mutants) (sym entries) moved in
       let mutants : a.mutants ≡ b.mutants = one_zip (one_base choice one a.lexemes file.grammar) (bases (most_bases choice) a.entries) a.mutants b.mutants a.negatives negatives in
-      a.lines ∙ ap (λ (l : Option (List (Option (List ℕ)))). manifest_text file l a.entries a.mutants) lexemes
-      ∙ ap (λ (es : List GoalEntry). manifest_text file b.lexemes es a.mutants) entries
-      ∙ ap (λ (bs : List BaseEntry). manifest_text file b.lexemes b.entries bs) mutants ∙ sym b.lines
+      let lines = subst (λ (l : Option (List (Option (List ℕ)))). IsTextIn choice.format choice.weigh file l b.entries b.mutants other) (sym lexemes) b.lines in
+      let lines_of = subst (λ (es : List GoalEntry). IsTextIn choice.format choice.weigh file a.lexemes es b.mutants other) (sym entries) lines in
+      one_text_in choice.weigh file a.lexemes a.entries a.mutants choice.format text other a.lines
+      (subst (λ (bs : List BaseEntry). IsTextIn choice.format choice.weigh file a.lexemes a.entries bs other) (sym mutants) lines_of)

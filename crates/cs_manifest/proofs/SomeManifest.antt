@@ -13,7 +13,7 @@ use Rattle.cs_grammar.specs.declared.symbol.Mark.{Mark}
 use Rattle.cs_goals.specs.declared.goal.Goal.{Goal}
 use Rattle.cs_goals.specs.Goal.{IsGoal}
 use Rattle.cs_goals.specs.Goals.{goals}
-use Rattle.cs_goals.proofs.Members.{Among, Contains-from_Among}
+use Rattle.cs_goals.proofs.Members.{Contains-from_Among}
 use Rattle.cs_goals.proofs.Once.{all}
 use Rattle.cs_mutate.specs.declared.edit.Edit.{Edit}
 use Rattle.cs_mutate.specs.declared.negative.Negative.{Negative}
@@ -28,13 +28,12 @@ use Rattle.cs_positive.specs.declared.verdict.Verdict.TheVariants.{Feasible, Inf
 use Rattle.cs_positive.specs.Verdict.{IsVerdict, IsChosenOf, IsMet}
 use Rattle.cs_positive.proofs.Verdicts.{chosen_exists_of, chosen_least_of, chosen_met}
 use Rattle.cs_yacc.specs.File.{File}
-use Rattle.cs_manifest.specs.Manifest.{AreLexemesBy, Choice, IsBaseOf, IsEntryOf, IsManifest, IsNegativeOf, IsNotWithout, IsRenderedBy, Texts, bases, most_bases, manifest_text}
-
--- where no member is without a partner, no list is without one
-pub some_zip : {A B : Type 0} {R : A → B → Type 0} (xs : List A) → ((x : A) → Among x xs → IsNotWithout (R x)) → IsNotWithout (AllZip R xs)
-some_zip [] each none = none [] tt
-some_zip {R = R} (x ∷ xs) each none =
-    each x (inl refl) (λ y is. some_zip {R = R} xs (λ z among. each z (inr among)) (λ ys all. none (y ∷ ys) (is, all)))
+use Rattle.cs_manifest.specs.declared.format.Format.{Format}
+use Rattle.cs_manifest.specs.declared.format.Format.TheVariants.{One, Two}
+use Rattle.cs_manifest.specs.declared.format.Weigh.{Weigh}
+use Rattle.cs_manifest.specs.Manifest.{AreLexemesBy, AreShared, BaseEntry, Choice, GoalEntry, IsBaseOf, IsEntryOf, IsManifest, IsNegativeOf, IsNotWithout, IsRenderedBy, IsTextIn, Texts, bases, most_bases, manifest_text, shared_text}
+use Rattle.cs_manifest.proofs.SomeShared.{some_closed, some_shared}
+use Rattle.cs_manifest.proofs.Zips.{some_zip}
 
 module _ (of : Weighed) where
   -- The goal has no verdict: then no tree meets it, since the chosen one of those that do would give one; and that is a verdict.
@@ -158,6 +157,22 @@ module _ (g : PlainGrammar) (choice : Choice) (lexemes : Option (List (Option (L
   pub some_bases : (list : List (ℕ × List ℕ)) → IsNotWithout (AllZip (IsBaseOf g choice lexemes) list)
   some_bases list = some_zip list (λ base among. some_base base)
 
+-- no format is without a text of these
+module _ (of : Weighed) (texts : Option Texts) (lexemes : Option (List (Option (List ℕ)))) (weigh : Weigh) (file : File) (entries : List GoalEntry) (mutants : List BaseEntry) where
+  some_text_in : (list : List Goal) → of.grammar ≡ file.grammar → AllZip (IsEntryOf of texts lexemes) list entries → (format : Format) → IsNotWithout (IsTextIn format weigh file lexemes entries mutants)
+  some_text_in list same each One none = none (manifest_text file lexemes entries mutants) refl
+  some_text_in list same each Two none =
+      some_closed file.grammar
+      (λ closed are_closed. some_shared of texts lexemes [] list entries each
+      (λ shared are_shared. none (shared_text file weigh lexemes closed entries shared mutants)
+      (record {
+        closed = closed;
+        list = shared;
+        are_closed = are_closed;
+        are_shared = subst (λ (g : PlainGrammar). AreShared g [] entries shared) same are_shared;
+        lines = refl;
+      })))
+
 module _ (w : Measure) (choice : Choice) (file : File)
     (some_rendering : (lexemes : Option (List (Option (List ℕ)))) (tokens : List ℕ) → IsNotWithout (IsRenderedBy choice.texts lexemes tokens))
     (some_lexemes : IsNotWithout (AreLexemesBy choice.texts file.grammar.tokens)) where
@@ -166,5 +181,6 @@ module _ (w : Measure) (choice : Choice) (file : File)
       some_lexemes
       (λ lexemes are. some_entries (weighed file.grammar w) choice.texts lexemes (some_rendering lexemes) choice
       (λ entries each. some_bases file.grammar choice lexemes (some_rendering lexemes) (bases (most_bases choice) entries)
-      (λ mutants of. none (manifest_text file lexemes entries mutants)
-      (record { lexemes = lexemes; entries = entries; mutants = mutants; are_lexemes = are; verdicts = each; negatives = of; lines = refl }))))
+      (λ mutants of. some_text_in (weighed file.grammar w) choice.texts lexemes choice.weigh file entries mutants (goals file.grammar choice.criteria) refl each choice.format
+      (λ text lines. none text
+      (record { lexemes = lexemes; entries = entries; mutants = mutants; are_lexemes = are; verdicts = each; negatives = of; lines = lines })))))

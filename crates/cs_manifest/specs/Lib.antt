@@ -1,6 +1,10 @@
 pub mod Words
 pub mod Names
+pub mod Closed
+pub mod Collecting
+pub mod Cases
 pub mod Lines
+pub mod SharedLines
 pub mod Head
 pub mod Entry
 pub mod Counts

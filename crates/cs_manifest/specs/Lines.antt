@@ -1,4 +1,4 @@
--- The lines of a manifest, format 1, in their order.
+-- The lines of a manifest in the first format, in their order, and those that both formats have.
 use Rattle.std.specs.Prelude.{ℕ, List, [], ◌∷◌, ◌++◌, codes, decimal, Bool, true, false, Option, None, Some}
 use Rattle.cs_grammar.specs.Grammar.{Production}
 use Rattle.cs_grammar.specs.declared.symbol.Symbol.{Symbol}
@@ -54,11 +54,15 @@ lexeme_lines lexemes names = numbered (lexeme_line lexemes) names
 abbrev pub file_lines : File → List ℕ
 file_lines file = numbered token_line file.token_names ++ numbered (rule_line file) file.grammar.rules
 
+-- the tokens and the rules, and the lexemes where there are some
+abbrev pub table_lines : File → Option (List (Option (List ℕ))) → List ℕ
+table_lines file None = file_lines file
+table_lines file (Some lexemes) = file_lines file ++ lexeme_lines lexemes file.token_names
+
 -- The form's line, the tokens and the rules; in the form of `suite`, which has lexemes, also these.
 abbrev pub head_lines : File → Option (List (Option (List ℕ))) → List ℕ
 head_lines file None = line (codes "conform 1 rules") ++ file_lines file
-head_lines file (Some lexemes) =
-    line (codes "conform 1 suite") ++ (file_lines file ++ lexeme_lines lexemes file.token_names)
+head_lines file (Some lexemes) = line (codes "conform 1 suite") ++ table_lines file (Some lexemes)
 
 -- ---- texts
 
@@ -100,9 +104,13 @@ tokens_line file tokens = line (codes "  tokens" ++ token_words file tokens)
 abbrev pub size_words : ℕ → List ℕ
 size_words size = line (codes " size " ++ decimal size)
 
+-- ` size S`, and the rule numbers and the tokens below
+abbrev pub tree_lines : File → ℕ → List ℕ → List ℕ → List ℕ
+tree_lines file size derivation tokens = size_words size ++ derive_line derivation ++ tokens_line file tokens
+
 -- A verdict's words and the lines below. Only where the goal is feasible there are some.
 abbrev pub verdict_lines : File → Verdict → List ℕ → List ℕ
-verdict_lines file (Feasible size derivation) tokens = size_words size ++ derive_line derivation ++ tokens_line file tokens
+verdict_lines file (Feasible size derivation) tokens = tree_lines file size derivation tokens
 verdict_lines file Infeasible tokens = line (codes " infeasible")
 verdict_lines file Large tokens = line (codes " large")
 
@@ -154,10 +162,15 @@ is_large (Feasible size derivation) = false
 is_large Infeasible = false
 is_large Large = true
 
--- the counts of goals, of each verdict, and of negatives
-abbrev pub end_words : ℕ → ℕ → ℕ → ℕ → ℕ → List ℕ
-end_words goals feasible infeasible large negatives =
+-- the first format has no cases
+abbrev pub cases_words : Option ℕ → List ℕ
+cases_words None = []
+cases_words (Some cases) = numbered_word (codes " cases ") cases
+
+-- the counts of goals, of each verdict, of negatives, and of cases where there are some
+abbrev pub end_words : ℕ → ℕ → ℕ → ℕ → ℕ → Option ℕ → List ℕ
+end_words goals feasible infeasible large negatives cases =
     line
     (numbered_word (codes "end goals ") goals ++ numbered_word (codes " feasible ") feasible
     ++ numbered_word (codes " infeasible ") infeasible ++ numbered_word (codes " large ") large
-    ++ numbered_word (codes " negatives ") negatives)
+    ++ numbered_word (codes " negatives ") negatives ++ cases_words cases)

@@ -1,12 +1,12 @@
 -- The manifest of a yacc file: which goals with which verdicts, tokens and texts, which bases and negatives, and the text of all
 -- that (rule coverage by Purdom 1972, context-dependent rule coverage by Lämmel 2001, pairs, and token mutations by Raselimo,
 -- Taljaard and Fischer 2019).
-use Rattle.std.specs.Prelude.{◌≡◌, ℕ, ◌+◌, ◌||◌, Bool, if◌then◌else◌, List, [], ◌∷◌, ◌++◌, length, map, take, not, bytes_eq, count_by, sum_by, true, false, Option, None, Some, IsSomeAnd}
+use Rattle.std.specs.Prelude.{◌≡◌, ℕ, ◌+◌, ◌||◌, Bool, if◌then◌else◌, List, [], ◌∷◌, ◌++◌, length, map, take, not, bytes_eq, count_by, sum_by, true, false, Option, None, Some, IsSomeAnd, option_map}
 use Rattle.std.specs.List.{AllZip, filter, enumerate_from}
 use Rattle.cs_grammar.specs.Grammar.{PlainGrammar}
 use Rattle.cs_grammar.specs.Leftmost.{IsYield}
 use Rattle.cs_grammar.specs.Laws.{AtMostOne}
-use Rattle.cs_grammar.specs.Weights.{Measure, Weighed, weighed}
+use Rattle.cs_grammar.specs.Weights.{Measure, Weighed, byte_weight, nodes, weighed}
 use Rattle.cs_yacc.specs.File.{File}
 use Rattle.cs_goals.specs.declared.goal.Criteria.{Criteria}
 use Rattle.cs_goals.specs.declared.goal.Goal.{Goal}
@@ -22,6 +22,16 @@ use Rattle.cs_mutate.specs.declared.negative.Negative.{Negative}
 use Rattle.cs_mutate.specs.Edit.{edited}
 use Rattle.cs_mutate.specs.Edits.{edits}
 use Rattle.cs_mutate.specs.Negatives.{AreNegatives}
+use Rattle.cs_manifest.specs.declared.entry.SharedVerdict.{SharedVerdict}
+use Rattle.cs_manifest.specs.declared.entry.SharedVerdict.TheVariants as shared
+use Rattle.cs_manifest.specs.declared.format.Format.{Format}
+use Rattle.cs_manifest.specs.declared.format.Format.TheVariants.{One, Two}
+use Rattle.cs_manifest.specs.declared.format.Weigh.{Weigh}
+use Rattle.cs_manifest.specs.declared.format.Weigh.TheVariants.{Nodes, Bytes}
+use Rattle.cs_manifest.specs.declared.named.Named.{Named}
+use Rattle.cs_manifest.specs.Cases.{IsNamed, with_case}
+use Rattle.cs_manifest.specs.Closed.{AreClosedSets, ClosedSets}
+use Rattle.cs_manifest.specs.SharedLines.{case_lines, shared_goal_line, shared_head_lines}
 use Rattle.cs_manifest.specs.Lines.{head_lines, goal_lines, base_line, negative_lines, end_words, is_feasible, is_infeasible, is_large}
 use Rattle.cs_manifest.specs.Words.{numbered, numbered_from}
 
@@ -32,12 +42,15 @@ pub record Texts : Type 0 where
   pub scanning : Scanning
   pub separator : List ℕ
 
--- The criteria, the texts (the form of `rules` has none), the operators, and how many bases there are at most.
+-- The criteria, the texts (the form of `rules` has none), the operators, how many bases there are at most, the format, and what was
+-- weighed, which the second format tells.
 pub record Choice : Type 0 where
   pub criteria : Criteria
   pub texts : Option Texts
   pub operators : Operators
   pub most : ℕ
+  pub format : Format
+  pub weigh : Weigh
 
 -- the form of `rules`: the rule goals alone
 abbrev pub rules_form : Choice
@@ -46,7 +59,14 @@ rules_form = record {
   texts = None;
   operators = record { delete = false; insert = false; replace = false; swap = false };
   most = 0;
+  format = One;
+  weigh = Nodes;
 }
+
+-- how trees are measured where there are so many tokens, with these lexemes
+abbrev pub measure_of : Weigh → ℕ → List (Option (List ℕ)) → Measure
+measure_of Nodes tokens lexemes = nodes tokens
+measure_of Bytes tokens lexemes = record { numbers = map (λ text. byte_weight (option_map length text)) lexemes; limit = 100000 }
 
 -- ---- lexemes and texts
 
@@ -151,6 +171,46 @@ pub record IsBaseOf (g : PlainGrammar) (choice : Choice) (lexemes : Option (List
 abbrev pub BasesOf : PlainGrammar → Choice → Option (List (Option (List ℕ))) → List (ℕ × List ℕ) → List BaseEntry → Type 0
 BasesOf g choice lexemes bases entries = AllZip (IsBaseOf g choice lexemes) bases entries
 
+-- ---- cases
+
+-- the cases behind a goal of this verdict: a feasible goal's derivation is one
+abbrev pub cases_behind : List (List ℕ) → Verdict → List (List ℕ)
+cases_behind before (Feasible size derivation) = with_case before derivation
+cases_behind before Infeasible = before
+cases_behind before Large = before
+
+-- the cases behind these entries
+abbrev pub cases_after : List (List ℕ) → List GoalEntry → List (List ℕ)
+cases_after before [] = before
+cases_after before (entry ∷ rest) = cases_after (cases_behind before entry.verdict) rest
+
+-- the cases of a manifest: the derivations of its feasible goals, each once, in order
+abbrev pub cases : List GoalEntry → List (List ℕ)
+cases entries = cases_after [] entries
+
+-- the verdict of a goal in the second format, behind these cases
+abbrev pub IsSharedVerdict : PlainGrammar → List (List ℕ) → Goal → Verdict → SharedVerdict → Type 0
+IsSharedVerdict g before goal (Feasible size derivation) verdict =
+    (named : Named) × (verdict ≡ shared.Feasible size named) × IsNamed g before goal derivation named
+IsSharedVerdict g before goal Infeasible verdict = verdict ≡ shared.Infeasible
+IsSharedVerdict g before goal Large verdict = verdict ≡ shared.Large
+
+-- an entry, with its verdict in the second format
+pub record SharedEntry : Type 0 where
+  pub entry : GoalEntry
+  pub verdict : SharedVerdict
+
+pub record IsShared (g : PlainGrammar) (before : List (List ℕ)) (entry : GoalEntry) (s : SharedEntry) : Type 0 where
+  pub is_of : s.entry ≡ entry
+  pub verdict : IsSharedVerdict g before entry.goal entry.verdict s.verdict
+
+-- one for each of these entries, in order, behind these cases
+abbrev pub AreShared : PlainGrammar → List (List ℕ) → List GoalEntry → List SharedEntry → Type 0
+AreShared g before [] list = list ≡ []
+AreShared g before (entry ∷ rest) list =
+    (first : SharedEntry) × (others : List SharedEntry) × (list ≡ first ∷ others) × IsShared g before entry first
+    × AreShared g (cases_behind before entry.verdict) rest others
+
 -- ---- the text
 
 -- the lines of a goal, by its number
@@ -171,15 +231,56 @@ base_entry_lines file negatives number (base ∷ rest) =
     ++ numbered_from (negatives + 1) (negative_entry_lines file (number + 1) base.tokens) base.negatives
     ++ base_entry_lines file (negatives + length base.negatives) (number + 1) rest
 
--- the end, with how many goals there are, how many of each verdict, and how many negatives
-abbrev pub end_line : List GoalEntry → List BaseEntry → List ℕ
-end_line entries bases =
-    end_words (length entries) (count_by (λ e. is_feasible e.verdict) entries) (count_by (λ e. is_infeasible e.verdict) entries)
-    (count_by (λ e. is_large e.verdict) entries) (sum_by (λ b. length b.negatives) bases)
+-- the rule numbers of a verdict's derivation
+abbrev pub derivation_in : Verdict → List ℕ
+derivation_in (Feasible size derivation) = derivation
+derivation_in Infeasible = []
+derivation_in Large = []
 
+-- the lines of a new case
+abbrev pub new_case_lines : File → GoalEntry → SharedVerdict → List ℕ
+new_case_lines file entry (shared.Feasible size named) =
+    if named.fresh then case_lines file named.case size (derivation_in entry.verdict) entry.tokens entry.rendered else []
+new_case_lines file entry shared.Infeasible = []
+new_case_lines file entry shared.Large = []
+
+-- the lines of a goal in the second format, by its number: its case, where that is new, and its own line
+abbrev pub shared_entry_lines : File → ℕ → SharedEntry → List ℕ
+shared_entry_lines file number s = new_case_lines file s.entry s.verdict ++ shared_goal_line file number s.entry.goal s.verdict
+
+-- the end, with how many goals there are, how many of each verdict, how many negatives, and how many cases, if there are some
+abbrev pub end_line_with : Option ℕ → List GoalEntry → List BaseEntry → List ℕ
+end_line_with many entries bases =
+    end_words (length entries) (count_by (λ e. is_feasible e.verdict) entries) (count_by (λ e. is_infeasible e.verdict) entries)
+    (count_by (λ e. is_large e.verdict) entries) (sum_by (λ b. length b.negatives) bases) many
+
+-- that of the first format
+abbrev pub end_line : List GoalEntry → List BaseEntry → List ℕ
+end_line entries bases = end_line_with None entries bases
+
+-- the text in the first format
 abbrev pub manifest_text : File → Option (List (Option (List ℕ))) → List GoalEntry → List BaseEntry → List ℕ
 manifest_text file lexemes entries bases =
     head_lines file lexemes ++ numbered (goal_entry_lines file) entries ++ base_entry_lines file 0 0 bases ++ end_line entries bases
+
+-- the text in the second format
+abbrev pub shared_text : File → Weigh → Option (List (Option (List ℕ))) → ClosedSets → List GoalEntry → List SharedEntry → List BaseEntry → List ℕ
+shared_text file weigh lexemes closed entries list bases =
+    shared_head_lines file weigh lexemes closed ++ numbered (shared_entry_lines file) list ++ base_entry_lines file 0 0 bases
+    ++ end_line_with (Some (length (cases entries))) entries bases
+
+-- it is the text in the second format
+pub record IsSharedText (file : File) (weigh : Weigh) (lexemes : Option (List (Option (List ℕ)))) (entries : List GoalEntry) (bases : List BaseEntry) (text : List ℕ) : Type 0 where
+  pub closed : ClosedSets
+  pub list : List SharedEntry
+  pub are_closed : AreClosedSets file.grammar closed
+  pub are_shared : AreShared file.grammar [] entries list
+  pub lines : text ≡ shared_text file weigh lexemes closed entries list bases
+
+-- it is the text in the format
+abbrev pub IsTextIn : Format → Weigh → File → Option (List (Option (List ℕ))) → List GoalEntry → List BaseEntry → List ℕ → Type 0
+IsTextIn One weigh file lexemes entries bases text = text ≡ manifest_text file lexemes entries bases
+IsTextIn Two weigh file lexemes entries bases text = IsSharedText file weigh lexemes entries bases text
 
 -- ---- the manifest
 
@@ -191,7 +292,7 @@ pub record IsManifest (w : Measure) (choice : Choice) (file : File) (text : List
   pub are_lexemes : AreLexemesBy choice.texts file.grammar.tokens lexemes
   pub verdicts : EntriesOf (weighed file.grammar w) choice.texts lexemes (goals file.grammar choice.criteria) entries
   pub negatives : BasesOf file.grammar choice lexemes (bases (most_bases choice) entries) mutants
-  pub lines : text ≡ manifest_text file lexemes entries mutants
+  pub lines : IsTextIn choice.format choice.weigh file lexemes entries mutants text
 
 -- It isn't so that no value is of the kind.
 abbrev pub IsNotWithout : {A : Type 0} → (A → Type 0) → Type 0

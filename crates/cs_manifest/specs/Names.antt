@@ -14,6 +14,7 @@ use Rattle.cs_goals.specs.declared.goal.Goal.TheVariants.{Rule, Context, Pair}
 use Rattle.cs_mutate.specs.declared.edit.Edit.{Edit}
 use Rattle.cs_mutate.specs.declared.edit.Edit.TheVariants.{Delete, Insert, Replace, Swap}
 use Rattle.cs_render.specs.Rendering.{Rendering, Text, NoLexeme, Differs}
+use Rattle.cs_manifest.specs.Closed.{ClosedSets}
 use Rattle.cs_manifest.specs.Words.{literal}
 
 -- a token's name: its word, or its byte between single quotes
@@ -56,6 +57,12 @@ IsNamedMark file marks.Begin = Unit {0}
 IsNamedMark file (marks.Token t) = IsNamedToken file t
 IsNamedMark file marks.End = Unit {0}
 
+abbrev pub AreNamedMarks : File → List Mark → Type 0
+AreNamedMarks file marks = All (IsNamedMark file) marks
+
+abbrev pub AreNamedNonterminals : File → List ℕ → Type 0
+AreNamedNonterminals file nonterminals = All (IsNumberOf (length file.nonterminal_names)) nonterminals
+
 abbrev pub IsNamedGoal : File → Goal → Type 0
 IsNamedGoal file (Rule r) = Unit {0}
 IsNamedGoal file (Context p i q) = Unit {0}
@@ -75,3 +82,8 @@ IsNamedRendering file (Differs after) = Unit {0}
 abbrev pub AreNamedRenderings : File → Option Rendering → Type 0
 AreNamedRenderings file None = Unit {0}
 AreNamedRenderings file (Some rendered) = IsNamedRendering file rendered
+
+-- the numbers of nonterminals in closed sets
+abbrev pub AreNamedSets : File → ClosedSets → Type 0
+AreNamedSets file closed =
+    AreNamedNonterminals file closed.productive × AreNamedNonterminals file closed.reachable × AreNamedNonterminals file closed.empty

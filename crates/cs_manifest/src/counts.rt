@@ -6,5 +6,7 @@ pub struct Counts {
     pub infeasible: u64,
     pub large: u64,
     pub negatives: u64,
+    /// The first format has none.
+    pub cases: Option<u64>,
     pub bytes: u128,
 }

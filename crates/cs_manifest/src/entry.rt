@@ -1,5 +1,6 @@
+use crate::named::Named;
 use cs_goals::Goal;
-use cs_grammar::Mark;
+use cs_grammar::{Derivation, Mark};
 use cs_mutate::Edit;
 use cs_positive::Verdict;
 use cs_render::Rendered;
@@ -7,14 +8,28 @@ use cs_render::Rendered;
 /// What stands in a manifest between its head and its end. Numbers count from 1.
 #[derive(Clone, Copy)]
 pub enum Entry<'a> {
-    /// A goal with its verdict; the tokens of its derivation, where it has one; and in the form of `suite` what came of their
-    /// rendering.
+    /// In the first format a goal with its verdict; the tokens of its derivation, where it has one; and in the form of `suite`
+    /// what came of their rendering.
     Goal {
         number: u64,
         goal: &'a Goal,
         verdict: &'a Verdict,
         tokens: &'a [u16],
         rendered: Option<&'a Rendered>,
+    },
+    /// In the second format a case: a derivation with its size and its tokens, and what came of their rendering.
+    Case {
+        number: u64,
+        size: u32,
+        derivation: &'a Derivation,
+        tokens: &'a [u16],
+        rendered: &'a Rendered,
+    },
+    /// In the second format a goal, behind the cases that it names.
+    Shared {
+        number: u64,
+        goal: &'a Goal,
+        verdict: SharedVerdict,
     },
     /// A base, and the number of the first goal whose tokens it has. Its negatives follow.
     Base {
@@ -33,4 +48,12 @@ pub enum Entry<'a> {
         tokens: &'a [u16],
         rendered: &'a Rendered,
     },
+}
+
+/// A goal's verdict in the second format: a feasible goal names cases.
+#[derive(Clone, Copy)]
+pub enum SharedVerdict {
+    Feasible { size: u32, named: Named },
+    Infeasible,
+    Large,
 }

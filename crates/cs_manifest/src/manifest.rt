@@ -1,18 +1,18 @@
 // The manifest, written part by part.
 
-ghost use Rattle.std.specs.Prelude.{◌≡◌, ◌≤◌, IfOk, IsOk, OnErr, OnOk};
-ghost use Rattle.cs_io.specs.Faults.{Rose};
+ghost use Rattle.std.specs.Prelude.{◌≡◌, ◌≤◌, IfOk, IsOk, OnErr, OnOk, option_map};
+ghost use Rattle.cs_io.specs.Faults.{Rose, next_count};
 ghost use Rattle.cs_manifest.specs.Counts as spec;
-ghost use Rattle.cs_manifest.specs.Counts.{behind_end, end_of, with_entry as counted, with_verdict};
+ghost use Rattle.cs_manifest.specs.Counts.{behind_end, end_of, with_entry as counted, with_shared_verdict, with_verdict};
 ghost use Rattle.cs_manifest.specs.Entry.{IsNamedEntry};
-ghost use Rattle.cs_manifest.specs.Head.{IsNamedHead, head_of};
+ghost use Rattle.cs_manifest.specs.Head.{IsNamedHead, head_of, no_cases, sharing_in};
 ghost use Rattle.cs_manifest.specs.Progress.{begun, behind, lines_in};
 ghost use Rattle.cs_manifest.specs.Sinks.{HasRoom, IsCalm, LeavesRoom, Took, TookPart};
 
 use crate::output::Output;
 use crate::put_entry::{put_end, put_entry};
 use crate::put_head::put_head;
-use crate::{Counts, Entry, Head};
+use crate::{Counts, Entry, Form, Head, SharedVerdict};
 use cs_io::{Sink, SinkError};
 use cs_positive::Verdict;
 use std::marker::Model;
@@ -38,7 +38,7 @@ impl<'a> Model for Manifest<'a> {
 }
 
 impl<'a> Manifest<'a> {
-    /// Writes the head. Lexemes are of as many tokens as the file has.
+    /// Writes the head. Lexemes are of as many tokens as the file has, and closed sets are those of its grammar.
     pub fn begin<S: Sink>(sink: &mut S, head: &Head<'a>) -> Result<Manifest<'a>, SinkError>
         requires { IsNamedHead head.now }
         ensures value { IfOk result (λ manifest. manifest ≡ begun head.now) }
@@ -67,7 +67,7 @@ impl<'a> Manifest<'a> {
         }
         Ok(Manifest {
             head: *head,
-            counts: first_counts(output.bytes),
+            counts: first_counts(output.bytes, first_cases(head.form)),
         })
     }
 
@@ -134,8 +134,8 @@ impl<'a> Manifest<'a> {
 }
 
 // No entries, and so many bytes.
-fn first_counts(bytes: u128) -> Counts
-    ensures { result ≡ spec.first_counts bytes }
+fn first_counts(bytes: u128, cases: Option<u64>) -> Counts
+    ensures { result ≡ record (spec.first_counts bytes) { cases = cases } }
 {
     Counts {
         goals: 0,
@@ -143,7 +143,18 @@ fn first_counts(bytes: u128) -> Counts
         infeasible: 0,
         large: 0,
         negatives: 0,
+        cases,
         bytes,
+    }
+}
+
+// How many cases stand behind the head of a form that has cases.
+fn first_cases(form: Form<'_>) -> Option<u64>
+    ensures { result ≡ no_cases (sharing_in form.entry) }
+{
+    match form {
+        Form::Rules | Form::Suite { .. } => None,
+        Form::Shared { .. } => Some(0),
     }
 }
 
@@ -160,12 +171,28 @@ fn with_entry(counts: Counts, bytes: u128, entry: &Entry<'_>) -> Counts
 {
     match entry {
         Entry::Goal { verdict, .. } => with_goal(with_bytes(counts, bytes), verdict),
+        Entry::Case { .. } => Counts {
+            cases: next_case(counts.cases),
+            bytes,
+            ..counts
+        },
+        Entry::Shared { verdict, .. } => with_shared(with_bytes(counts, bytes), *verdict),
         Entry::Base { .. } => with_bytes(counts, bytes),
         Entry::Negative { .. } => Counts {
             negatives: counts.negatives.saturating_add(1),
             bytes,
             ..counts
         },
+    }
+}
+
+// One more case, where there are some.
+fn next_case(cases: Option<u64>) -> Option<u64>
+    ensures { result ≡ option_map next_count cases }
+{
+    match cases {
+        None => None,
+        Some(cases) => Some(cases.saturating_add(1)),
     }
 }
 
@@ -186,6 +213,30 @@ fn with_goal(counts: Counts, verdict: &Verdict) -> Counts
             ..counts
         },
         Verdict::Large => Counts {
+            goals,
+            large: counts.large.saturating_add(1),
+            ..counts
+        },
+    }
+}
+
+// One more goal in the second format.
+fn with_shared(counts: Counts, verdict: SharedVerdict) -> Counts
+    ensures { result ≡ with_shared_verdict counts verdict }
+{
+    let goals = counts.goals.saturating_add(1);
+    match verdict {
+        SharedVerdict::Feasible { .. } => Counts {
+            goals,
+            feasible: counts.feasible.saturating_add(1),
+            ..counts
+        },
+        SharedVerdict::Infeasible => Counts {
+            goals,
+            infeasible: counts.infeasible.saturating_add(1),
+            ..counts
+        },
+        SharedVerdict::Large => Counts {
             goals,
             large: counts.large.saturating_add(1),
             ..counts

@@ -7,14 +7,15 @@ ghost use Rattle.cs_manifest.specs.Lines as lines;
 ghost use Rattle.cs_manifest.specs.Lines.{text_lines};
 ghost use Rattle.cs_manifest.specs.Names as names;
 ghost use Rattle.cs_manifest.specs.Putting.{Puts};
+ghost use Rattle.cs_manifest.specs.SharedLines as shared;
 ghost use Rattle.cs_manifest.specs.Words as words;
 ghost use Rattle.cs_render.specs.Rendering.{rendering};
 
 use crate::names::{put_mark, put_quoted, put_token};
 use crate::output::Output;
-use crate::{Counts, Entry};
+use crate::{Counts, Entry, SharedVerdict};
 use cs_goals::Goal;
-use cs_grammar::Mark;
+use cs_grammar::{Derivation, Mark};
 use cs_io::Sink;
 use cs_mutate::Edit;
 use cs_positive::Verdict;
@@ -37,6 +38,25 @@ pub fn put_entry<S: Sink>(output: &mut Output<'_, S>, file: &YaccFile, entry: &E
             put_goal_words(output, file, number, goal);
             put_verdict(output, file, verdict, tokens);
             put_text_lines(output, file, rendered);
+        }
+        Entry::Case {
+            number,
+            size,
+            derivation,
+            tokens,
+            rendered,
+        } => {
+            put_count(output, b"case ", number);
+            put_tree(output, file, size, derivation, tokens);
+            put_rendered(output, file, rendered);
+        }
+        Entry::Shared {
+            number,
+            goal,
+            verdict,
+        } => {
+            put_goal_words(output, file, number, goal);
+            put_shared_verdict(output, verdict);
         }
         Entry::Base { number, goal } => put_base(output, number, goal),
         Entry::Negative {
@@ -118,10 +138,38 @@ fn put_verdict<S: Sink>(
     match verdict {
         Verdict::Infeasible => output.put(b" infeasible\n"),
         Verdict::Large => output.put(b" large\n"),
-        Verdict::Feasible { size, derivation } => {
-            put_size(output, *size);
-            put_derivation(output, derivation.rules());
-            put_yield(output, file, tokens);
+        Verdict::Feasible { size, derivation } => put_tree(output, file, *size, derivation, tokens),
+    }
+}
+
+// ` size S`, and the lines of a derivation and its tokens.
+fn put_tree<S: Sink>(
+    output: &mut Output<'_, S>,
+    file: &YaccFile,
+    size: u32,
+    code: &Derivation,
+    tokens: &[u16],
+)
+    requires { names.AreNamedTokens file.now tokens.now }
+    ensures { Puts S.Sink (lines.tree_lines file.now size code.now tokens.now)
+        output.old output.new }
+{
+    put_size(output, size);
+    put_derivation(output, code.rules());
+    put_yield(output, file, tokens);
+}
+
+fn put_shared_verdict<S: Sink>(output: &mut Output<'_, S>, verdict: SharedVerdict)
+    ensures { Puts S.Sink (shared.shared_verdict_line verdict) output.old output.new }
+{
+    match verdict {
+        SharedVerdict::Infeasible => output.put(b" infeasible\n"),
+        SharedVerdict::Large => output.put(b" large\n"),
+        SharedVerdict::Feasible { size, named } => {
+            put_count(output, b" size ", size as u64);
+            put_count(output, b" case ", named.case);
+            put_count(output, b" first ", named.first);
+            output.put(b"\n");
         }
     }
 }
@@ -171,7 +219,8 @@ fn put_yield<S: Sink>(output: &mut Output<'_, S>, file: &YaccFile, tokens: &[u16
     output.put(b"\n");
 }
 
-fn put_names<S: Sink>(output: &mut Output<'_, S>, file: &YaccFile, tokens: &[u16])
+/// The names of tokens, each behind a space.
+pub fn put_names<S: Sink>(output: &mut Output<'_, S>, file: &YaccFile, tokens: &[u16])
     requires { names.AreNamedTokens file.now tokens.now }
     ensures { Puts S.Sink (lines.token_words file.now tokens.now) output.old output.new }
 {
@@ -274,5 +323,16 @@ pub fn put_end<S: Sink>(output: &mut Output<'_, S>, counts: &Counts)
     put_count(output, b" infeasible ", counts.infeasible);
     put_count(output, b" large ", counts.large);
     put_count(output, b" negatives ", counts.negatives);
+    put_cases(output, counts.cases);
     output.put(b"\n");
+}
+
+// ` cases C`, where there are some.
+fn put_cases<S: Sink>(output: &mut Output<'_, S>, cases: Option<u64>)
+    ensures { Puts S.Sink (lines.cases_words cases) output.old output.new }
+{
+    match cases {
+        None => {}
+        Some(cases) => put_count(output, b" cases ", cases),
+    }
 }

@@ -1,16 +1,18 @@
-// The head: the form's line, the tokens, the rules and the lexemes.
+// The head: the form's line, the tokens, the rules and the lexemes, and what the second format has besides.
 
-ghost use Rattle.std.specs.Prelude.{◌≡◌, ◌<◌, ◌≤◌, All, Option, length};
+ghost use Rattle.std.specs.Prelude.{◌≡◌, ◌<◌, ◌≤◌, All, Some, length};
 ghost use Rattle.cs_lexeme.specs.Lexeme.{lexeme_in};
 ghost use Rattle.cs_manifest.specs.Head.{IsNamedHead, head_of};
 ghost use Rattle.cs_manifest.specs.Lines as lines;
 ghost use Rattle.cs_manifest.specs.Names as names;
 ghost use Rattle.cs_manifest.specs.Putting.{Puts};
+ghost use Rattle.cs_manifest.specs.SharedLines as shared;
 ghost use Rattle.cs_manifest.specs.Words as words;
 
-use crate::Head;
 use crate::names::{put_nonterminal, put_quoted, put_symbol, put_token_name};
 use crate::output::Output;
+use crate::put_closed::put_closed;
+use crate::{Form, Head, Weigh};
 use cs_grammar::{Rule, Symbol};
 use cs_io::Sink;
 use cs_lexeme::Lexemes;
@@ -21,17 +23,44 @@ pub fn put_head<S: Sink>(output: &mut Output<'_, S>, head: &Head<'_>)
     requires { IsNamedHead head.now }
     ensures { Puts S.Sink (head_of head.now) output.old output.new }
 {
-    match head.lexemes {
-        None => {
+    match head.form {
+        Form::Rules => {
             output.put(b"conform 1 rules\n");
             put_file(output, head.yacc);
         }
-        Some(lexemes) => {
+        Form::Suite { lexemes } => {
             output.put(b"conform 1 suite\n");
-            put_file(output, head.yacc);
-            put_lexemes(output, head.yacc.token_names(), lexemes);
+            put_tables(output, head.yacc, lexemes);
+        }
+        Form::Shared {
+            lexemes,
+            weigh,
+            closed,
+        } => {
+            output.put(b"conform 2 suite\n");
+            put_weigh(output, weigh);
+            put_tables(output, head.yacc, lexemes);
+            put_closed(output, head.yacc, closed);
         }
     }
+}
+
+fn put_weigh<S: Sink>(output: &mut Output<'_, S>, weigh: Weigh)
+    ensures { Puts S.Sink (shared.weigh_line weigh) output.old output.new }
+{
+    match weigh {
+        Weigh::Nodes => output.put(b"weigh nodes\n"),
+        Weigh::Bytes => output.put(b"weigh bytes\n"),
+    }
+}
+
+// The lines of the tokens, the rules and the lexemes.
+fn put_tables<S: Sink>(output: &mut Output<'_, S>, file: &YaccFile, lexemes: &Lexemes)
+    requires { length lexemes.now ≡ length file.now.token_names }
+    ensures { Puts S.Sink (lines.table_lines file.now (Some lexemes.now)) output.old output.new }
+{
+    put_file(output, file);
+    put_lexemes(output, file.token_names(), lexemes);
 }
 
 // The lines of the tokens and of the rules.

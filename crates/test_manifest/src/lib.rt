@@ -4,4 +4,8 @@
 #[cfg(test)]
 mod bases;
 #[cfg(test)]
+mod files;
+#[cfg(test)]
 mod lines;
+#[cfg(test)]
+mod shared;

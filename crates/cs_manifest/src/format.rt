@@ -1,0 +1,17 @@
+/// How a manifest tells of the derivations of feasible goals.
+#[derive(Clone, Copy, Debug, PartialEq, Eq)]
+pub enum Format {
+    /// With each goal.
+    One,
+    /// Each once, as a case that goals name; closed sets of the grammar stand in the head.
+    Two,
+}
+
+/// What sizes of derivations count.
+#[derive(Clone, Copy, Debug, PartialEq, Eq)]
+pub enum Weigh {
+    /// Nodes, leaves counted.
+    Nodes,
+    /// Nodes, and for each leaf the bytes of its token's lexeme.
+    Bytes,
+}
