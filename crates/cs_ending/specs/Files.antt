@@ -11,6 +11,8 @@ use Rattle.cs_input.specs.declared.refusal.Role.{Role}
 use Rattle.cs_input.specs.declared.refusal.Role.TheVariants.{Yacc}
 use Rattle.cs_input.specs.Files.{FileIs, FilesAre, HasNoFile, IsGrammarOf, IsPairOf}
 use Rattle.cs_input.specs.Refusal.{HasManyStates, RefusesGrammar, RefusesPair}
+use Rattle.cs_manifest.specs.declared.format.Format.TheVariants.{One}
+use Rattle.cs_manifest.specs.declared.format.Weigh.TheVariants.{Nodes}
 use Rattle.cs_manifest.specs.Manifest.{Choice, IsManifest, rules_form}
 use Rattle.cs_ending.specs.Requests.{Request, ForRules, ForSuite}
 
@@ -54,6 +56,8 @@ choice_of scanner options = record {
   });
   operators = options.operators;
   most = options.bases;
+  format = One;
+  weigh = Nodes;
 }
 
 -- the text is the manifest of a yacc file by the choice, where the nodes of trees are counted

@@ -6,6 +6,8 @@ use Rattle.cs_grammar.specs.Grammar.{PlainGrammar}
 use Rattle.cs_grammar.specs.Weights.{IsMeasure, Measure, Weighed}
 use Rattle.cs_goals.specs.declared.goal.Goal.{Goal}
 use Rattle.cs_lexeme.specs.Lexeme.{AreLexemes}
+use Rattle.cs_manifest.specs.declared.format.Format.TheVariants.{One}
+use Rattle.cs_manifest.specs.declared.format.Weigh.TheVariants.{Nodes}
 use Rattle.cs_manifest.specs.Manifest.{Choice, GoalEntry, IsEntryOf, IsManifest, Texts}
 use Rattle.cs_mutate.specs.declared.edit.Operators.{Operators}
 use Rattle.cs_positive.specs.Positives.{ToJudge}
@@ -59,6 +61,8 @@ choice_in plan = record {
   texts = texts_in plan;
   operators = option_map_or (λ m. m.operators) plan.mutation no_operator;
   most = option_map_or (λ m. m.most) plan.mutation 0;
+  format = One;
+  weigh = Nodes;
 }
 
 -- the text is the plan's manifest, where trees are measured by these weights

@@ -1,12 +1,12 @@
 // What a manifest is made by.
 
 ghost use Rattle.std.specs.Prelude.{◌≡◌};
-ghost use Rattle.cs_manifest.specs.Head.{file_of, lexemes_of};
+ghost use Rattle.cs_manifest.specs.Head.{file_of, lexemes_of, sharing_of};
 ghost use Rattle.cs_manifest.specs.Manifest.{has_operator as is_some_chosen, most_bases};
 ghost use Rattle.cs_plan.specs.Plans.{choice_in, lexemes_in};
 
 use cs_goals::Criteria;
-use cs_manifest::Head;
+use cs_manifest::{Form, Head};
 use cs_mutate::Operators;
 use cs_pairs::Pairs;
 use cs_render_work::RenderWork;
@@ -31,16 +31,19 @@ pub struct Plan<'a> {
 }
 
 impl<'a> Plan<'a> {
-    /// The head of the manifest.
+    /// The head of the manifest, in the first format.
     pub fn head(&self) -> Head<'a>
         ensures file { file_of result ≡ self.now.yacc.now }
         ensures lexemes { lexemes_of result ≡ lexemes_in self.now }
+        ensures first { sharing_of result ≡ None }
     {
         Head {
             yacc: self.yacc,
-            lexemes: match self.texts {
-                None => None,
-                Some(work) => Some(work.lexemes),
+            form: match self.texts {
+                None => Form::Rules,
+                Some(work) => Form::Suite {
+                    lexemes: work.lexemes,
+                },
             },
         }
     }

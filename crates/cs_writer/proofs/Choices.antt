@@ -1,6 +1,8 @@
 -- What a suite's texts are made by is what the lex file says: so are the manifests.
 use Rattle.std.proofs.Common.{◌≡◌, ℕ, List, sym, ap, ◌∙◌, subst, Some}
 use Rattle.cs_grammar.specs.Weights.{Measure}
+use Rattle.cs_manifest.specs.declared.format.Format.TheVariants.{One}
+use Rattle.cs_manifest.specs.declared.format.Weigh.TheVariants.{Nodes}
 use Rattle.cs_manifest.specs.Manifest.{Choice, IsManifest, Texts}
 use Rattle.cs_yacc.specs.File.{File}
 use Rattle.cs_lex.specs.File as lex
@@ -16,7 +18,7 @@ texts patterns kinds literals separator =
 
 -- what the options choose, with these texts
 abbrev chosen : Options → Texts → Choice
-chosen options t = record { criteria = options.criteria; texts = Some t; operators = options.operators; most = options.bases }
+chosen options t = record { criteria = options.criteria; texts = Some t; operators = options.operators; most = options.bases; format = One; weigh = Nodes }
 
 module _ (file : File) (scanner : lex.File) (options : Options) (p : List Regex) (k : List Kind) (l s : List ℕ)
     (patterns : p ≡ scanner.patterns) (kinds : k ≡ scanner.kinds) (literals : l ≡ scanner.literals) (separator : s ≡ options.separator) where

@@ -2,6 +2,8 @@
 use Rattle.std.specs.Prelude.{ℕ, List, Some}
 use Rattle.cs_ending.specs.Files.{IsTextBy, choice_of}
 use Rattle.cs_input.specs.declared.judging.Pair.{Pair}
+use Rattle.cs_manifest.specs.declared.format.Format.TheVariants.{One}
+use Rattle.cs_manifest.specs.declared.format.Weigh.TheVariants.{Nodes}
 use Rattle.cs_manifest.specs.Manifest.{Choice}
 use Rattle.cs_plan.specs.Plans.{texts_of}
 use Rattle.cs_render_work.specs.declared.work.RenderWork.{RenderWork}
@@ -18,4 +20,6 @@ choice_with options work = record {
   texts = Some (texts_of work);
   operators = options.operators;
   most = options.bases;
+  format = One;
+  weigh = Nodes;
 }

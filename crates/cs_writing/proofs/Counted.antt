@@ -1,6 +1,6 @@
 -- The counts behind entries.
 use Rattle.std.proofs.Common.{◌≡◌, ℕ, ◌+◌, ◌-◌, ◌^◌, ◌≤◌, Bool, true, false, List, [], ◌∷◌, ◌++◌, length, length-append, min, refl, sym, ap, ◌∙◌, arith}
-use Rattle.std.specs.Prelude.{count_by, if◌then◌else◌}
+use Rattle.std.specs.Prelude.{count_by, if◌then◌else◌, Option, None}
 use Rattle.std.proofs.lemmas.List.Sums.{sum_by-cons}
 use Rattle.cs_io.specs.Faults.{greatest, next_count}
 use Rattle.cs_manifest.specs.declared.counts.Counts.{Counts}
@@ -32,6 +32,10 @@ module _ (file : File) where
   pub negatives_behind : (n : ℕ) (es : List GoalEntry) (counts : Counts) → (counts_behind file n es counts).negatives ≡ counts.negatives
   negatives_behind n [] counts = refl
   negatives_behind n (e ∷ es) counts = negatives_behind (n + 1) es (next n counts e)
+
+  cases_behind : (n : ℕ) (es : List GoalEntry) (counts : Counts) → (counts_behind file n es counts).cases ≡ counts.cases
+  cases_behind n [] counts = refl
+  cases_behind n (e ∷ es) counts = cases_behind (n + 1) es (next n counts e)
 
   next_if_below : (b : Bool) (n : ℕ) → n + 1 ≤ greatest → next_if b n ≡ n + (if b then 1 else 0)
   next_if_below true n few = omega (arith, few)
@@ -71,9 +75,9 @@ module _ (file : File) where
 
   -- the counts behind all entries, and behind so many negatives, make the end line
   pub counted_end : (entries : List GoalEntry) (bytes many : ℕ) → length entries ≤ 10000000000 → (counts : Counts) → counts ≡ counts_behind file 1 entries (first_counts bytes)
-      → end_words counts.goals counts.feasible counts.infeasible counts.large (counts.negatives + many)
+      → end_words counts.goals counts.feasible counts.infeasible counts.large (counts.negatives + many) counts.cases
       ≡ end_words (length entries) (count_by (λ e. is_feasible e.verdict) entries) (count_by (λ e. is_infeasible e.verdict) entries)
-      (count_by (λ e. is_large e.verdict) entries) many
+      (count_by (λ e. is_large e.verdict) entries) many None
   counted_end entries bytes many few after is =
       let none = first_counts bytes in
       let counts = counts_behind file 1 entries none in
@@ -86,9 +90,11 @@ module _ (file : File) where
       let infeasible : counts.infeasible ≡ others = field_behind (λ (c : Counts). c.infeasible) (λ (e : GoalEntry). is_infeasible e.verdict) (λ n c e. refl) 1 entries none fits ∙ omega arith in
       let large : counts.large ≡ last = field_behind (λ (c : Counts). c.large) (λ (e : GoalEntry). is_large e.verdict) (λ n c e. refl) 1 entries none fits ∙ omega arith in
       let negatives : counts.negatives + many ≡ many = ap (λ (n : ℕ). n + many) (negatives_behind 1 entries none) ∙ omega arith in
-      ap (λ (c : Counts). end_words c.goals c.feasible c.infeasible c.large (c.negatives + many)) is
-      ∙ ap (λ (n : ℕ). end_words n counts.feasible counts.infeasible counts.large (counts.negatives + many)) goals
-      ∙ ap (λ (n : ℕ). end_words (length entries) n counts.infeasible counts.large (counts.negatives + many)) feasible
-      ∙ ap (λ (n : ℕ). end_words (length entries) some n counts.large (counts.negatives + many)) infeasible
-      ∙ ap (λ (n : ℕ). end_words (length entries) some others n (counts.negatives + many)) large
-      ∙ ap (λ (n : ℕ). end_words (length entries) some others last n) negatives
+      let cases : counts.cases ≡ None = cases_behind 1 entries none in
+      ap (λ (c : Counts). end_words c.goals c.feasible c.infeasible c.large (c.negatives + many) c.cases) is
+      ∙ ap (λ (n : ℕ). end_words n counts.feasible counts.infeasible counts.large (counts.negatives + many) counts.cases) goals
+      ∙ ap (λ (n : ℕ). end_words (length entries) n counts.infeasible counts.large (counts.negatives + many) counts.cases) feasible
+      ∙ ap (λ (n : ℕ). end_words (length entries) some n counts.large (counts.negatives + many) counts.cases) infeasible
+      ∙ ap (λ (n : ℕ). end_words (length entries) some others n (counts.negatives + many) counts.cases) large
+      ∙ ap (λ (n : ℕ). end_words (length entries) some others last n counts.cases) negatives
+      ∙ ap (λ (k : Option ℕ). end_words (length entries) some others last many k) cases

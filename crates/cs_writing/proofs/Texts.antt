@@ -10,9 +10,10 @@ use Rattle.cs_io.specs.declared.sink.Sink as Sink
 use Rattle.cs_manifest.specs.declared.counts.Counts.{Counts}
 use Rattle.cs_manifest.specs.Counts.{behind_end, counts_of_head, end_of}
 use Rattle.cs_manifest.specs.declared.head.Head.{Head}
-use Rattle.cs_manifest.specs.Head.{file_of, head_of, lexemes_of}
+use Rattle.cs_manifest.specs.Head.{Sharing, file_of, head_of, lexemes_of, lines_with, no_cases, sharing_of}
 use Rattle.cs_manifest.specs.Lines.{head_lines}
 use Rattle.cs_manifest.specs.Manifest.{AreLexemesBy, BaseEntry, BasesOf, EntriesOf, GoalEntry, HasOneText, base_entry_lines, bases, end_line, manifest_text, most_bases}
+use Rattle.cs_manifest.specs.Progress.{begun}
 use Rattle.cs_manifest.specs.Putting.{shown}
 use Rattle.cs_manifest.specs.Sinks.{IsCutShort, IsWritten}
 use Rattle.cs_manifest.proofs.OneManifest.{one_manifest_by}
@@ -29,6 +30,10 @@ use Rattle.cs_writing.specs.Written.{AreEntriesIn, HasEntries, HasSomeEntries, H
 use Rattle.cs_writing.proofs.Counted.{bytes_behind, counted_end}
 use Rattle.cs_writing.proofs.SoFar.{entries_few, one_list}
 use Rattle.cs_writing.proofs.Stops.{stopped_by_cut, stopped_longer, stopped_behind}
+
+-- the counts behind a head of the first format
+pub begun_is : (h : Head) → sharing_of h ≡ None → (begun h).counts ≡ counts_of_head (head_of h)
+begun_is h first = ap (λ (s : Option Sharing). record (counts_of_head (head_of h)) { cases = no_cases s }) first
 
 lexemes_by : (file : File) (texts : Option (Bor RenderWork)) → CanRender file texts
     → AreLexemesBy (option_map (λ work. texts_of work.now) texts) file.grammar.tokens (option_map (λ work. work.now.lexemes.now) texts)
@@ -56,8 +61,10 @@ module _ (plan : Plan) (of : Weighed) (one : HasOneText (texts_in plan)) (is : I
   abbrev text_of : List GoalEntry → List BaseEntry → List ℕ
   text_of entries mutants = ((head ++ lines_from file 1 entries) ++ body_of mutants) ++ end_line entries mutants
 
-  pub head_is : (h : Head) → file_of h ≡ file → lexemes_of h ≡ lexemes_in plan → head_of h ≡ head
-  head_is h same lexemes = ap (λ (f : File). head_lines f (lexemes_of h)) same ∙ ap (λ (l : Option (List (Option (List ℕ)))). head_lines file l) lexemes
+  pub head_is : (h : Head) → file_of h ≡ file → lexemes_of h ≡ lexemes_in plan → sharing_of h ≡ None → head_of h ≡ head
+  head_is h same lexemes first =
+      ap (λ (s : Option Sharing). lines_with (file_of h) (lexemes_of h) s) first ∙ ap (λ (f : File). head_lines f (lexemes_of h)) same
+      ∙ ap (λ (l : Option (List (Option (List ℕ)))). head_lines file l) lexemes
 
   same_tables : of ≡ weighed file.grammar of.weights
   same_tables = ap (λ (g : PlainGrammar). weighed g of.weights) grammar

@@ -3,7 +3,7 @@
 use cs_goals::Goal;
 use cs_grammar::Mark;
 use cs_io::{MemorySink, NullSink, Sink, SinkError};
-use cs_manifest::{Counts, Entry, Head, Manifest};
+use cs_manifest::{Counts, Entry, Form, Head, Manifest};
 use cs_mutate::Edit;
 use cs_positive::Verdict;
 use cs_render::Rendered;
@@ -36,7 +36,7 @@ const TEXT: &[u8] = b" a\"\\\x00~\x7f'";
 fn write_lines<S: Sink>(sink: &mut S, file: &YaccFile, text: Vec<u8>) -> Result<Counts, SinkError> {
     let head = Head {
         yacc: file,
-        lexemes: None,
+        form: Form::Rules,
     };
     let mut manifest = Manifest::begin(sink, &head)?;
     write_goals(&mut manifest, sink)?;

@@ -12,7 +12,7 @@ use Rattle.cs_plan.specs.Plans.{IsPlanned, choice_in, lexemes_in, texts_in}
 use Rattle.cs_writing.specs.Writing.{CountsOfAll}
 use Rattle.cs_writing.proofs.Counted.{negatives_behind}
 use Rattle.cs_writing.proofs.Kept.{editable_bases, few_bases}
-use Rattle.cs_writing.proofs.Texts.{bases_stop, counts_are, end_cut, entries_stop, head_cut, head_is, whole_text}
+use Rattle.cs_writing.proofs.Texts.{bases_stop, begun_is, counts_are, end_cut, entries_stop, head_cut, head_is, whole_text}
 use Rattle.cs_writing.proofs.writing.write_manifest.Goals as goal
 
 pub returns-in_err-manifest-clause-stopped : goal.returns-in_err-manifest-clause-stopped
@@ -23,7 +23,7 @@ returns-in_err-manifest-clause-stopped g c =
     let of = c.args.positives.tables in
     let one = c.one_text.ensures (texts_in plan) in
     let lines = head_of c.head.result in
-    let is : lines ≡ head_lines plan.yacc.now (lexemes_in plan) = head_is plan of one c.requires.plan c.requires.grammar.grammar c.head.result c.head.ensures.file c.head.ensures.lexemes in
+    let is : lines ≡ head_lines plan.yacc.now (lexemes_in plan) = head_is plan of one c.requires.plan c.requires.grammar.grammar c.head.result c.head.ensures.file c.head.ensures.lexemes c.head.ensures.first in
     let cut : IsCutShort g.S.Sink lines c.args.sink.now c.begin.new.sink = record {
       written = e.err;
       fault = e.fault;
@@ -43,7 +43,7 @@ returns-in_err-bases-clause-stopped g c =
     let of = c.args.positives.tables in
     let one = c.one_text.ensures (texts_in plan) in
     let lines = head_of c.head.result in
-    let is : lines ≡ head_lines plan.yacc.now (lexemes_in plan) = head_is plan of one c.requires.plan c.requires.grammar.grammar c.head.result c.head.ensures.file c.head.ensures.lexemes in
+    let is : lines ≡ head_lines plan.yacc.now (lexemes_in plan) = head_is plan of one c.requires.plan c.requires.grammar.grammar c.head.result c.head.ensures.file c.head.ensures.lexemes c.head.ensures.first in
     let first : IsWritten g.S.Sink lines c.args.sink.now c.begin.new.sink = record {
       written = e.ok;
       faults = e.faults_never_fall;
@@ -82,7 +82,7 @@ returns-in_err-write_bases-clause-stopped g c =
     let of = c.args.positives.tables in
     let one = c.one_text.ensures (texts_in plan) in
     let lines = head_of c.head.result in
-    let is : lines ≡ head_lines plan.yacc.now (lexemes_in plan) = head_is plan of one c.requires.plan c.requires.grammar.grammar c.head.result c.head.ensures.file c.head.ensures.lexemes in
+    let is : lines ≡ head_lines plan.yacc.now (lexemes_in plan) = head_is plan of one c.requires.plan c.requires.grammar.grammar c.head.result c.head.ensures.file c.head.ensures.lexemes c.head.ensures.first in
     let first : IsWritten g.S.Sink lines c.args.sink.now c.begin.new.sink = record {
       written = e.ok;
       faults = e.faults_never_fall;
@@ -105,7 +105,7 @@ returns-in_err-finish-clause-stopped g c =
     let of = c.args.positives.tables in
     let one = c.one_text.ensures (texts_in plan) in
     let lines = head_of c.head.result in
-    let is : lines ≡ head_lines plan.yacc.now (lexemes_in plan) = head_is plan of one c.requires.plan c.requires.grammar.grammar c.head.result c.head.ensures.file c.head.ensures.lexemes in
+    let is : lines ≡ head_lines plan.yacc.now (lexemes_in plan) = head_is plan of one c.requires.plan c.requires.grammar.grammar c.head.result c.head.ensures.file c.head.ensures.lexemes c.head.ensures.first in
     let first : IsWritten g.S.Sink lines c.args.sink.now c.begin.new.sink = record {
       written = e.ok;
       faults = e.faults_never_fall;
@@ -115,7 +115,7 @@ returns-in_err-finish-clause-stopped g c =
       passed = e.passed_never_falls;
     } in
     let moved = subst (λ (l : List ℕ). IsWritten g.S.Sink l c.args.sink.now c.begin.new.sink) is first in
-    let fresh : c.in_ok-manifest.manifest.counts ≡ counts_of_head (head_lines plan.yacc.now (lexemes_in plan)) = ap (λ (q : Progress). q.counts) e.value ∙ ap counts_of_head is in
+    let fresh : c.in_ok-manifest.manifest.counts ≡ counts_of_head (head_lines plan.yacc.now (lexemes_in plan)) = ap (λ (q : Progress). q.counts) e.value ∙ begun_is c.head.result c.head.ensures.first ∙ ap counts_of_head is in
     let end = end_of c.write_bases.new.manifest.counts in
     let cut : IsCutShort g.S.Sink end c.write_bases.new.sink c.finish.new.sink = record {
       written = f.err;
@@ -136,7 +136,7 @@ returns-clause-ok g c =
     let of = c.args.positives.tables in
     let one = c.one_text.ensures (texts_in plan) in
     let lines = head_of c.head.result in
-    let is : lines ≡ head_lines plan.yacc.now (lexemes_in plan) = head_is plan of one c.requires.plan c.requires.grammar.grammar c.head.result c.head.ensures.file c.head.ensures.lexemes in
+    let is : lines ≡ head_lines plan.yacc.now (lexemes_in plan) = head_is plan of one c.requires.plan c.requires.grammar.grammar c.head.result c.head.ensures.file c.head.ensures.lexemes c.head.ensures.first in
     let first : IsWritten g.S.Sink lines c.args.sink.now c.begin.new.sink = record {
       written = e.ok;
       faults = e.faults_never_fall;
@@ -146,7 +146,7 @@ returns-clause-ok g c =
       passed = e.passed_never_falls;
     } in
     let moved = subst (λ (l : List ℕ). IsWritten g.S.Sink l c.args.sink.now c.begin.new.sink) is first in
-    let fresh : c.in_ok-manifest.manifest.counts ≡ counts_of_head (head_lines plan.yacc.now (lexemes_in plan)) = ap (λ (q : Progress). q.counts) e.value ∙ ap counts_of_head is in
+    let fresh : c.in_ok-manifest.manifest.counts ≡ counts_of_head (head_lines plan.yacc.now (lexemes_in plan)) = ap (λ (q : Progress). q.counts) e.value ∙ begun_is c.head.result c.head.ensures.first ∙ ap counts_of_head is in
     let end : IsWritten g.S.Sink (end_of c.write_bases.new.manifest.counts) c.write_bases.new.sink c.finish.new.sink = record {
       written = f.ok;
       faults = f.faults_never_fall;
@@ -164,8 +164,8 @@ returns-clause-counts g c =
     let plan = c.args.plan.now in
     let of = c.args.positives.tables in
     let one = c.one_text.ensures (texts_in plan) in
-    let is = head_is plan of one c.requires.plan c.requires.grammar.grammar c.head.result c.head.ensures.file c.head.ensures.lexemes in
-    let fresh : c.in_ok-manifest.manifest.counts ≡ counts_of_head (head_lines plan.yacc.now (lexemes_in plan)) = ap (λ (q : Progress). q.counts) e.value ∙ ap counts_of_head is in
+    let is = head_is plan of one c.requires.plan c.requires.grammar.grammar c.head.result c.head.ensures.file c.head.ensures.lexemes c.head.ensures.first in
+    let fresh : c.in_ok-manifest.manifest.counts ≡ counts_of_head (head_lines plan.yacc.now (lexemes_in plan)) = ap (λ (q : Progress). q.counts) e.value ∙ begun_is c.head.result c.head.ensures.first ∙ ap counts_of_head is in
     let are = counts_are plan of one c.requires.plan c.requires.grammar.grammar c.in_ok-manifest.manifest.counts c.write_entries.new.manifest.counts c.write_bases.new.manifest.counts c.begin.new.sink c.write_entries.new.sink c.write_bases.new.sink
     c.in_ok-bases.bases fresh c.in_ok-bases.ensures.ok c.in_ok-write_bases.ensures.ok in
     subst (λ (k : Counts). CountsOfAll (IsPlanned of.weights plan) k) (sym c.in_ok-finish.ensures.counts) are
