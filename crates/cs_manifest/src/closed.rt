@@ -9,9 +9,9 @@ use cs_positive::Tables;
 use std::alloc::{AllocError, Global};
 use std::marker::Model;
 
-/// Tokens, in the order of their numbers.
+// Tokens, in the order of their numbers.
 #[derive(Debug, Drop)]
-pub struct Tokens {
+pub(crate) struct Tokens {
     list: Vec<u16>,
 }
 
@@ -30,17 +30,17 @@ impl Tokens {
         Tokens { list }
     }
 
-    /// Their numbers.
-    pub fn list(&self) -> &[u16]
+    // Their numbers.
+    pub(crate) fn list(&self) -> &[u16]
         ensures { result.now ≡ self.now }
     {
         &self.list
     }
 }
 
-/// Marks: tokens in the order of their numbers, and the end mark behind them.
+// Marks: tokens in the order of their numbers, and the end mark behind them.
 #[derive(Debug, Drop)]
-pub struct Marks {
+pub(crate) struct Marks {
     list: Vec<Mark>,
 }
 
@@ -60,8 +60,8 @@ impl Marks {
         Marks { list }
     }
 
-    /// The marks.
-    pub fn list(&self) -> &[Mark]
+    // The marks.
+    pub(crate) fn list(&self) -> &[Mark]
         ensures { result.now ≡ self.now }
     {
         &self.list
@@ -114,50 +114,50 @@ impl Closed {
         })
     }
 
-    /// The nonterminals that have a tree.
-    pub fn productive(&self) -> &[u16]
+    // The nonterminals that have a tree.
+    pub(crate) fn productive(&self) -> &[u16]
         ensures { result.now ≡ self.now.productive }
     {
         &self.productive
     }
 
-    /// The nonterminals that have a context.
-    pub fn reachable(&self) -> &[u16]
+    // The nonterminals that have a context.
+    pub(crate) fn reachable(&self) -> &[u16]
         ensures { result.now ≡ self.now.reachable }
     {
         &self.reachable
     }
 
-    /// The nonterminals that have a tree of empty yield.
-    pub fn empty(&self) -> &[u16]
+    // The nonterminals that have a tree of empty yield.
+    pub(crate) fn empty(&self) -> &[u16]
         ensures { result.now ≡ self.now.empty }
     {
         &self.empty
     }
 
-    /// For each nonterminal the tokens that a tree of it begins with.
-    pub fn first(&self) -> &[Tokens]
+    // For each nonterminal the tokens that a tree of it begins with.
+    pub(crate) fn first(&self) -> &[Tokens]
         ensures { result.now ≡ self.now.first }
     {
         &self.first
     }
 
-    /// For each nonterminal the tokens that a tree of it ends with.
-    pub fn last(&self) -> &[Tokens]
+    // For each nonterminal the tokens that a tree of it ends with.
+    pub(crate) fn last(&self) -> &[Tokens]
         ensures { result.now ≡ self.now.last }
     {
         &self.last
     }
 
-    /// The marks that are adjacent behind the begin mark.
-    pub fn begin(&self) -> &[Mark]
+    // The marks that are adjacent behind the begin mark.
+    pub(crate) fn begin(&self) -> &[Mark]
         ensures { result.now ≡ self.now.begin }
     {
         self.begin.list()
     }
 
-    /// For each token the marks that are adjacent behind it.
-    pub fn next(&self) -> &[Marks]
+    // For each token the marks that are adjacent behind it.
+    pub(crate) fn next(&self) -> &[Marks]
         ensures { result.now ≡ self.now.next }
     {
         &self.next

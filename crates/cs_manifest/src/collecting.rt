@@ -17,7 +17,7 @@ use std::alloc::{AllocError, Global};
 
 // What nonterminals may have, and tokens by a nonterminal.
 #[derive(Clone, Copy)]
-pub enum Property {
+pub(crate) enum Property {
     Productive,
     Reachable,
     Empty,
@@ -26,7 +26,7 @@ pub enum Property {
 
 // An end of what a nonterminal yields.
 #[derive(Clone, Copy)]
-pub enum Edge {
+pub(crate) enum Edge {
     First,
     Last,
 }
@@ -70,7 +70,7 @@ fn is_at_edge(tables: &Tables<'_>, edge: Edge, nonterminal: u16, token: u16) -> 
 }
 
 /// The numbers from 1 to the last that have the property.
-pub fn numbers_with(
+pub(crate) fn numbers_with(
     alloc: Global,
     tables: &Tables<'_>,
     property: Property,
@@ -91,7 +91,7 @@ pub fn numbers_with(
 }
 
 /// For each nonterminal the tokens at an edge of what it yields.
-pub fn edges(alloc: Global, tables: &Tables<'_>, edge: Edge) -> Result<Vec<Tokens>, AllocError>
+pub(crate) fn edges(alloc: Global, tables: &Tables<'_>, edge: Edge) -> Result<Vec<Tokens>, AllocError>
     ensures { IfOk result (λ sets.
         AreEdges tables.now.grammar (IsAtEdge tables.now.grammar edge) sets.items) }
 {
@@ -106,7 +106,7 @@ pub fn edges(alloc: Global, tables: &Tables<'_>, edge: Edge) -> Result<Vec<Token
 }
 
 /// The marks that are adjacent behind a mark.
-pub fn next_to(alloc: Global, tables: &Tables<'_>, mark: Mark) -> Result<Marks, AllocError>
+pub(crate) fn next_to(alloc: Global, tables: &Tables<'_>, mark: Mark) -> Result<Marks, AllocError>
     requires { IsLeft tables.now.grammar.tokens mark }
     ensures { IfOk result (AreNext tables.now.grammar mark) }
 {
@@ -139,7 +139,7 @@ fn tokens_next_to(
 }
 
 /// For each token the marks that are adjacent behind it.
-pub fn nexts(alloc: Global, tables: &Tables<'_>) -> Result<Vec<Marks>, AllocError>
+pub(crate) fn nexts(alloc: Global, tables: &Tables<'_>) -> Result<Vec<Marks>, AllocError>
     ensures { IfOk result (λ sets. AllZip (λ t. AreNext tables.now.grammar (Mark.Token t))
         (numbers tables.now.grammar.tokens) sets.items) }
 {
