@@ -131,21 +131,6 @@ module _ (graph : List (Vec ℕ)) where
     };
   }
 
-  -- a search, but for what it needs not have found
-  pub weaker : (states : List State) (stack pending : List ℕ) (gs closed : List Group) (but : ℕ → Type 0) → IsSearch graph states stack pending gs closed → IsSearchBut graph states stack pending gs closed but
-  weaker states stack pending gs closed but s = record {
-    size = s.size;
-    placed = s.placed;
-    opened = s.opened;
-    leads = s.leads;
-    source = s.source;
-    looked = λ p x to e f. elim (s.looked p x to e f) [ inl found ↦ inl found | inr none ↦ absurd none ];
-    rising = s.rising;
-    within = s.within;
-    grouped = s.grouped;
-    done = s.done;
-  }
-
   -- ---- a pending node is taken
 
   module _ (states : List State) (stack pending : List ℕ) (gs closed : List Group) (to : ℕ) (s : IsSearch graph states stack (pending ++ to ∷ []) gs closed) (low : (g : Group) → Contains gs g → g.pending ≤ length pending) where
@@ -170,9 +155,6 @@ module _ (graph : List (Vec ℕ)) where
 
     pub taken_from : HasSource graph stack gs (length pending) to
     taken_from = s.source (length pending) to (get_pushed pending to)
-
-    pub taken_within : Edge graph taken_from.node to
-    taken_within = taken_from.step
 
     -- all nodes on the stack lead to it
     pub all_lead : AllLead graph stack to
