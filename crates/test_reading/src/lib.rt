@@ -6,8 +6,6 @@ mod bytes;
 #[cfg(test)]
 mod c_text;
 #[cfg(test)]
-mod hostile;
-#[cfg(test)]
 mod lex;
 #[cfg(test)]
 mod lex_kinds;

@@ -1,4 +1,4 @@
-use cs_grammar::{Derivation, ExpandError, Grammar, Weights, byte_weight, expand, yield_of};
+use cs_grammar::{Derivation, ExpandError, Grammar, Weights, byte_weight, expand};
 use cs_samples::sums;
 use std::test::Fail;
 
@@ -31,27 +31,6 @@ fn derivations_of_sums(rt: HostRuntime) -> Result<(), Fail> {
             (Err(error), Err(want)) => assert_eq!(rt; error, want),
             _ => panic!(rt; "the other outcome at {code:?}"),
         }
-    }
-    Ok(())
-}
-
-// Each use of the first rule adds two tokens.
-#[test]
-fn a_deep_derivation(rt: HostRuntime) -> Result<(), Fail> {
-    let alloc = rt.alloc();
-    let rules = sums(alloc)?;
-    assert!(rt; Grammar::fits(4, 2, 1, &rules));
-    let grammar = Grammar::new(4, 2, 1, rules);
-    let mut derivation = Derivation::new(alloc);
-    for (rule, times) in [(1, 100_000), (2, 1), (3, 100_001)] {
-        for _ in 0..times {
-            derivation.push(rule)?;
-        }
-    }
-    assert!(rt; derivation.rules().len() < 300_000);
-    match expand(alloc, &grammar, &derivation) {
-        Ok(tokens) => assert_eq!(rt; tokens.len(), 200_001),
-        Err(error) => panic!(rt; "{error}"),
     }
     Ok(())
 }

@@ -161,27 +161,3 @@ fn which_derivations_meet_a_goal(rt: HostRuntime) -> Result<(), Fail> {
     }
     Ok(())
 }
-
-// A tree as deep as it has rules is read without recursion.
-#[test]
-fn a_deep_derivation(rt: HostRuntime) -> Result<(), Fail> {
-    let alloc = rt.alloc();
-    let rules = sums(alloc)?;
-    assert!(rt; Grammar::fits(4, 2, 1, &rules));
-    let grammar = Grammar::new(4, 2, 1, rules);
-    let mut derivation = Derivation::new(alloc);
-    for (rule, times) in [(1, 100_000), (2, 1), (3, 100_001)] {
-        for _ in 0..times {
-            derivation.push(rule)?;
-        }
-    }
-    assert!(rt; derivation.rules().len() < 300_000);
-    match expand(alloc, &grammar, &derivation) {
-        Ok(_) => {
-            assert!(rt; meets(alloc, &grammar, &Goal::Rule(2), &derivation)?);
-            assert!(rt; meets(alloc, &grammar, &context(1, 1, 2), &derivation)?);
-        }
-        Err(error) => panic!(rt; "{error}"),
-    }
-    Ok(())
-}

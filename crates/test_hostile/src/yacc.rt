@@ -1,22 +1,12 @@
-//! Texts of a mebibyte that are made to be slow: each is read in time linear in its size.
-//!
-//! What they give is worked by hand: where the first fault stands, or that there is none.
+// Yacc files of a mebibyte that are made to be slow: each is read in time linear in its size. What they give is worked by hand:
+// where the first fault stands, or that there is none.
 
+use crate::text::repeated;
 use cs_yacc::{MOST_BYTES, YaccError, read_yacc};
-use std::alloc::{AllocError, Global};
 use std::test::Fail;
 
-/// The front, and then the piece so many times.
-fn repeated(alloc: Global, front: &str, piece: &str, times: u32) -> Result<String, AllocError> {
-    let mut text = String::from_str(alloc, front)?;
-    for _ in 0..times {
-        text.push_str(piece)?;
-    }
-    Ok(text)
-}
-
 #[test]
-fn hostile_texts(rt: HostRuntime) -> Result<(), Fail> {
+fn slow_texts(rt: HostRuntime) -> Result<(), Fail> {
     let rows = [
         ("%% s : {", "\\'", 524_000, YaccError::Unended { at: 7 }),
         ("%% s : {", "\\\"\\'", 262_000, YaccError::Unended { at: 7 }),
@@ -28,7 +18,7 @@ fn hostile_texts(rt: HostRuntime) -> Result<(), Fail> {
         ("%% s : '", "\\", 1_048_000, YaccError::BadItem { at: 7 }),
     ];
     for (front, piece, times, want) in rows {
-        let text = repeated(rt.alloc(), front, piece, times)?;
+        let text = repeated(rt.alloc(), front, piece, times, "")?;
         assert!(rt; text.len() <= MOST_BYTES);
         assert_eq!(rt;
             read_yacc(rt.alloc(), text.as_bytes()).err(),
@@ -41,7 +31,7 @@ fn hostile_texts(rt: HostRuntime) -> Result<(), Fail> {
 
 #[test]
 fn blocks_of_one_line(rt: HostRuntime) -> Result<(), Fail> {
-    let text = repeated(rt.alloc(), "%% s : ", "{\\'}", 262_000)?;
+    let text = repeated(rt.alloc(), "%% s : ", "{\\'}", 262_000, "")?;
     assert!(rt; text.len() <= MOST_BYTES);
     let file = read_yacc(rt.alloc(), text.as_bytes())
         .ok()

@@ -1,0 +1,68 @@
+// The deepest patterns: to build, copy, measure and drop one takes no more calls within one another than it is deep, and a text
+// beyond the limits is refused before a pattern is made.
+
+ghost use Rattle.std.specs.Prelude.{◌<◌, ◌≤◌, ◌^◌, IfOk};
+ghost use Rattle.cs_pattern_tree.specs.Pattern.{leaves, nesting, regex};
+
+use crate::text::repeated;
+use cs_pattern::{Definitions, MOST_BYTES, Pattern, PatternError, PatternFault, read_pattern};
+use cs_pattern_tree::{copy, leaf_count};
+use std::alloc::{AllocError, Global};
+use std::test::Fail;
+
+// The pattern of a text without definitions.
+fn pattern(alloc: Global, text: &str) -> Result<Pattern, PatternError>
+    ensures nested { IfOk result (λ pattern. nesting (regex pattern) ≤ 403) }
+    ensures leaves { IfOk result (λ pattern. leaves (regex pattern) ≤ 8192) }
+{
+    let Ok(none) = Definitions::new(alloc).check() else {
+        return Err(PatternError::Memory);
+    };
+    let bytes = text.as_bytes();
+    if bytes.len() > MOST_BYTES {
+        return Err(PatternError::Memory);
+    }
+    read_pattern(alloc, bytes, &none)
+}
+
+// So many groups within one another, each with a letter before the next and one beside it: two nodes for each group.
+fn groups(alloc: Global, depth: u32) -> Result<String, AllocError> {
+    let mut text = repeated(alloc, "", "(b", depth, "a")?;
+    text.push_str(repeated(alloc, "", "|c)", depth, "")?.as_str())?;
+    Ok(text)
+}
+
+// How many leaves a text's pattern has, and a copy of it, both dropped here; or the fault.
+fn leaves(alloc: Global, text: &str) -> Result<u32, PatternError> {
+    let pattern = pattern(alloc, text)?;
+    let copied = copy(alloc, &pattern)?;
+    drop(pattern);
+    Ok(leaf_count(alloc, &copied)?)
+}
+
+// The leaves were counted by hand: `b` and `c` for each group, and `a`.
+#[test]
+fn the_deepest_patterns(rt: HostRuntime) -> Result<(), Fail> {
+    let alloc = rt.alloc();
+    let deepest = groups(alloc, 200)?;
+    let deeper = groups(alloc, 201)?;
+    let stars = repeated(alloc, "a", "*", 200, "")?;
+    let many_stars = repeated(alloc, "a", "*", 1_000_000, "")?;
+    let many_groups = groups(alloc, 200_000)?;
+    let rows: [(&str, Result<u32, u32>); 5] = [
+        (deepest.as_str(), Ok(401)),
+        (stars.as_str(), Ok(1)),
+        (deeper.as_str(), Err(201)),
+        (many_stars.as_str(), Err(1_000_000)),
+        (many_groups.as_str(), Err(200_000)),
+    ];
+    for (text, want) in rows {
+        let got = match leaves(alloc, text) {
+            Ok(count) => Ok(count),
+            Err(PatternError::Fault(PatternFault::TooDeep { found, .. })) => Err(found),
+            Err(_) => Err(0),
+        };
+        assert_eq!(rt; got, want);
+    }
+    Ok(())
+}
