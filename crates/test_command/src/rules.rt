@@ -6,35 +6,11 @@ use std::test::Fail;
 
 const SUMS: &[u8] = b"%token NUM\n%%\ne : e '+' t | t ;\nt : NUM | '(' e ')' ;\n";
 
-const SUMS_RULES: &[u8] = b"conform 1 rules
-token 1 NUM
-token 2 '+'
-token 3 '('
-token 4 ')'
-rule 1 e : e '+' t
-rule 2 e : t
-rule 3 t : NUM
-rule 4 t : '(' e ')'
-goal 1 rule 1 size 7
-  derive 1 2 3 3
-  tokens NUM '+' NUM
-goal 2 rule 2 size 3
-  derive 2 3
-  tokens NUM
-goal 3 rule 3 size 3
-  derive 2 3
-  tokens NUM
-goal 4 rule 4 size 7
-  derive 2 4 2 3
-  tokens '(' NUM ')'
-end goals 4 feasible 4 infeasible 0 large 0 negatives 0
-";
-
 // A fresh desk with the file `g1.y`.
-fn desk(alloc: Global, file: &[u8], failing: &[u32]) -> Result<MemoryDesk, AllocError> {
+fn desk(alloc: Global, file: &[u8]) -> Result<MemoryDesk, AllocError> {
     let mut files = Vec::new(alloc);
     files.push((String::from_str(alloc, "g1.y")?, file.to_vec(alloc)?))?;
-    MemoryDesk::new(files, failing.to_vec(alloc)?)
+    MemoryDesk::new(files, Vec::new(alloc))
 }
 
 fn words(alloc: Global, texts: &[&str]) -> Result<Vec<String>, AllocError> {
@@ -49,8 +25,7 @@ fn words(alloc: Global, texts: &[&str]) -> Result<Vec<String>, AllocError> {
 fn rules_of_files(rt: HostRuntime) -> Result<(), Fail> {
     let alloc = rt.alloc();
     let words = words(alloc, &["rules", "g1.y"])?;
-    let rows: [(&[u8], u8, &[u8], &[u8]); 8] = [
-        (SUMS, 0, SUMS_RULES, b""),
+    let rows: [(&[u8], u8, &[u8], &[u8]); 7] = [
         (
             b"%%\na : a | 'x' ;\n",
             0,
@@ -80,7 +55,7 @@ fn rules_of_files(rt: HostRuntime) -> Result<(), Fail> {
         ),
     ];
     for (file, status, written, said) in rows {
-        let mut desk = desk(alloc, file, &[])?;
+        let mut desk = desk(alloc, file)?;
         let mut out = MemorySink::new(alloc, 4096, 7, Vec::new(alloc))?;
         let mut err = MemorySink::new(alloc, 99, 99, Vec::new(alloc))?;
         assert_eq!(rt;
@@ -108,7 +83,7 @@ fn bad_words_and_missing_files(rt: HostRuntime) -> Result<(), Fail> {
     ];
     for (texts, status, said) in rows {
         let words = words(alloc, texts)?;
-        let mut desk = desk(alloc, SUMS, &[])?;
+        let mut desk = desk(alloc, SUMS)?;
         let mut out = MemorySink::new(alloc, 4096, 7, Vec::new(alloc))?;
         let mut err = MemorySink::new(alloc, 99, 99, Vec::new(alloc))?;
         assert_eq!(rt;
@@ -122,55 +97,6 @@ fn bad_words_and_missing_files(rt: HostRuntime) -> Result<(), Fail> {
 }
 
 #[test]
-fn the_read_fails_and_the_line_is_cut(rt: HostRuntime) -> Result<(), Fail> {
-    let alloc = rt.alloc();
-    let words = words(alloc, &["rules", "g1.y"])?;
-    let mut desk = desk(alloc, SUMS, &[0])?;
-    let mut out = MemorySink::new(alloc, 4096, 7, Vec::new(alloc))?;
-    let mut err = MemorySink::new(alloc, 7, 4, Vec::new(alloc))?;
-    assert_eq!(rt;
-        run(&rt, alloc, &words, &mut desk, &mut out, &mut err, &OpenGate),
-        3
-    );
-    assert_eq!(rt; out.written(), b"".as_slice());
-    assert_eq!(rt; err.written(), b"conform".as_slice());
-    Ok(())
-}
-
-#[test]
-fn the_output_is_full_at_each_byte(rt: HostRuntime) -> Result<(), Fail> {
-    let alloc = rt.alloc();
-    let words = words(alloc, &["rules", "g1.y"])?;
-    for capacity in 0..SUMS_RULES.len() {
-        let mut desk = desk(alloc, SUMS, &[])?;
-        let mut out = MemorySink::new(alloc, capacity, 3, Vec::new(alloc))?;
-        let mut err = MemorySink::new(alloc, 99, 99, Vec::new(alloc))?;
-        assert_eq!(rt;
-            run(&rt, alloc, &words, &mut desk, &mut out, &mut err, &OpenGate),
-            4
-        );
-        assert_eq!(rt; out.written(), &SUMS_RULES[..capacity]);
-        assert_eq!(rt; err.written(), b"conform: write fault\n".as_slice());
-    }
-    Ok(())
-}
-
-#[test]
-fn a_write_fails_in_mid_stream(rt: HostRuntime) -> Result<(), Fail> {
-    let alloc = rt.alloc();
-    let words = words(alloc, &["rules", "g1.y"])?;
-    let mut desk = desk(alloc, SUMS, &[])?;
-    let mut out = MemorySink::new(alloc, 4096, 5, [2].to_vec(alloc)?)?;
-    let mut err = MemorySink::new(alloc, 99, 99, Vec::new(alloc))?;
-    assert_eq!(rt;
-        run(&rt, alloc, &words, &mut desk, &mut out, &mut err, &OpenGate),
-        4
-    );
-    assert_eq!(rt; out.written(), b"conform 1 ".as_slice());
-    Ok(())
-}
-
-#[test]
 fn files_about_the_most_bytes(rt: HostRuntime) -> Result<(), Fail> {
     let alloc = rt.alloc();
     let words = words(alloc, &["rules", "g1.y"])?;
@@ -180,7 +106,7 @@ fn files_about_the_most_bytes(rt: HostRuntime) -> Result<(), Fail> {
     ];
     for (length, said) in rows {
         let file = vec![in alloc; b' '; length]?;
-        let mut desk = desk(alloc, &file, &[])?;
+        let mut desk = desk(alloc, &file)?;
         let mut out = MemorySink::new(alloc, 9, 9, Vec::new(alloc))?;
         let mut err = MemorySink::new(alloc, 99, 99, Vec::new(alloc))?;
         assert_eq!(rt;
@@ -190,37 +116,5 @@ fn files_about_the_most_bytes(rt: HostRuntime) -> Result<(), Fail> {
         assert_eq!(rt; out.written(), b"".as_slice());
         assert_eq!(rt; err.written(), said);
     }
-    Ok(())
-}
-
-// `x12 : x11 x11 ;` and so on down to `x0 : 'x' ;`: the least tree has 12,287 nodes.
-fn doubling(alloc: Global) -> Result<String, AllocError> {
-    let mut file = String::from_str(alloc, "%%\n")?;
-    for level in 0..12u32 {
-        let left = 12 - level;
-        let right = 11 - level;
-        write!(file, "x{left} : x{right} x{right} ;\n")?;
-    }
-    file.push_str("x0 : 'x' ;\n")?;
-    Ok(file)
-}
-
-#[test]
-fn least_trees_above_the_limit_are_large(rt: HostRuntime) -> Result<(), Fail> {
-    let alloc = rt.alloc();
-    let words = words(alloc, &["rules", "g1.y"])?;
-    let file = doubling(alloc)?;
-    let mut desk = desk(alloc, file.as_bytes(), &[])?;
-    let mut out = MemorySink::new(alloc, 4096, 99, Vec::new(alloc))?;
-    let mut err = MemorySink::new(alloc, 99, 99, Vec::new(alloc))?;
-    assert_eq!(rt;
-        run(&rt, alloc, &words, &mut desk, &mut out, &mut err, &OpenGate),
-        0
-    );
-    assert!(rt;
-        out.written().ends_with(
-            b"goal 13 rule 13 large\nend goals 13 feasible 0 infeasible 0 large 13 negatives 0\n"
-        )
-    );
     Ok(())
 }

@@ -89,12 +89,7 @@ end goals 2 feasible 2 infeasible 0 large 0 negatives 0
 ";
 
 // A fresh desk with the files `y` and `l`, each where there is one.
-fn desk(
-    alloc: Global,
-    yacc: Option<&[u8]>,
-    lex: Option<&[u8]>,
-    failing: &[u32],
-) -> Result<MemoryDesk, AllocError> {
+fn desk(alloc: Global, yacc: Option<&[u8]>, lex: Option<&[u8]>) -> Result<MemoryDesk, AllocError> {
     let mut files = Vec::new(alloc);
     if let Some(bytes) = yacc {
         files.push((String::from_str(alloc, "y")?, bytes.to_vec(alloc)?))?;
@@ -102,7 +97,7 @@ fn desk(
     if let Some(bytes) = lex {
         files.push((String::from_str(alloc, "l")?, bytes.to_vec(alloc)?))?;
     }
-    MemoryDesk::new(files, failing.to_vec(alloc)?)
+    MemoryDesk::new(files, Vec::new(alloc))
 }
 
 // The words `suite y l` and these, but for empty ones.
@@ -210,7 +205,7 @@ fn suites_of_files(rt: HostRuntime) -> Result<(), Fail> {
     ];
     for (yacc, lex, option, part, end) in rows {
         let words = words(alloc, option)?;
-        let mut desk = desk(alloc, Some(yacc), Some(lex), &[])?;
+        let mut desk = desk(alloc, Some(yacc), Some(lex))?;
         let mut out = MemorySink::new(alloc, 100_000, 100_000, Vec::new(alloc))?;
         let mut err = MemorySink::new(alloc, 99, 99, Vec::new(alloc))?;
         assert_eq!(rt;
@@ -298,7 +293,7 @@ fn mutants_of_bases(rt: HostRuntime) -> Result<(), Fail> {
     ];
     for (yacc, lex, first, second, part, end) in rows {
         let words = suite_words(alloc, first, second)?;
-        let mut desk = desk(alloc, Some(yacc), Some(lex), &[])?;
+        let mut desk = desk(alloc, Some(yacc), Some(lex))?;
         let mut out = MemorySink::new(alloc, 100_000, 100_000, Vec::new(alloc))?;
         let mut err = MemorySink::new(alloc, 99, 99, Vec::new(alloc))?;
         assert_eq!(rt;
@@ -316,7 +311,7 @@ fn other_endings_in_their_order(rt: HostRuntime) -> Result<(), Fail> {
     let alloc = rt.alloc();
     let long = vec![in alloc; b' '; 1_048_577]?;
     // A yacc file, a lex file, an option, the status, and the line on the error output.
-    let rows: [(Option<&[u8]>, Option<&[u8]>, &str, u8, &[u8]); 10] = [
+    let rows: [(Option<&[u8]>, Option<&[u8]>, &str, u8, &[u8]); 9] = [
         (
             Some(b""),
             Some(&long),
@@ -359,13 +354,6 @@ fn other_endings_in_their_order(rt: HostRuntime) -> Result<(), Fail> {
             1,
             b"conform: lex: Pattern at 3: Trailing at 2\n",
         ),
-        (
-            Some(NUMBER),
-            Some(b"%%\n(a|b)*a(a|b){14} return NUM;\n"),
-            "--bases=1",
-            1,
-            b"conform: lex: States above 16384\n",
-        ),
         (None, None, "--bases=1001", 2, b"conform: usage: word 4\n"),
         (None, None, "--mutate=none", 2, b"conform: usage: word 4\n"),
         (
@@ -378,7 +366,7 @@ fn other_endings_in_their_order(rt: HostRuntime) -> Result<(), Fail> {
     ];
     for (yacc, lex, option, status, said) in rows {
         let words = words(alloc, option)?;
-        let mut desk = desk(alloc, yacc, lex, &[])?;
+        let mut desk = desk(alloc, yacc, lex)?;
         let mut out = MemorySink::new(alloc, 9, 9, Vec::new(alloc))?;
         let mut err = MemorySink::new(alloc, 99, 99, Vec::new(alloc))?;
         assert_eq!(rt;
@@ -398,7 +386,7 @@ fn suite_of_sums<R: Threads + Sync>(
     option: &str,
 ) -> Result<(u8, MemorySink), AllocError> {
     let words = words(alloc, option)?;
-    let mut desk = desk(alloc, Some(SUMS), Some(SCANNER), &[])?;
+    let mut desk = desk(alloc, Some(SUMS), Some(SCANNER))?;
     let mut out = MemorySink::new(alloc, 100_000, 7, Vec::new(alloc))?;
     let mut err = MemorySink::new(alloc, 99, 99, Vec::new(alloc))?;
     let status = run(rt, alloc, &words, &mut desk, &mut out, &mut err, &OpenGate);
@@ -414,42 +402,6 @@ fn criteria_in_another_order_give_the_same(rt: HostRuntime) -> Result<(), Fail> 
     assert!(rt; first == 0 && second == 0 && third == 0);
     assert_eq!(rt; other.written(), one.written());
     assert_eq!(rt; last.written(), one.written());
-    Ok(())
-}
-
-#[test]
-fn the_outside_fails_at_each_call(rt: HostRuntime) -> Result<(), Fail> {
-    let alloc = rt.alloc();
-    let words = words(alloc, "--criteria=rule")?;
-    // A call of the desk or of the output that fails, the output's room, the status, and how much is written.
-    for at in 0..CHOICE_RULES.len() {
-        let rows: [(&[u32], usize); 2] = [(&[at as u32], CHOICE_RULES.len()), (&[], at)];
-        for (failing, room) in rows {
-            let mut desk = desk(alloc, Some(CHOICE), Some(LETTER), &[])?;
-            let mut out = MemorySink::new(alloc, room, 1, failing.to_vec(alloc)?)?;
-            let mut err = MemorySink::new(alloc, 99, 99, Vec::new(alloc))?;
-            assert_eq!(rt;
-                run(&rt, alloc, &words, &mut desk, &mut out, &mut err, &OpenGate),
-                4
-            );
-            assert_eq!(rt; out.written(), &CHOICE_RULES[..at]);
-            assert_eq!(rt; err.written(), b"conform: write fault\n".as_slice());
-        }
-    }
-    for (call, said) in [
-        (0, b"conform: read fault: yacc\n".as_slice()),
-        (1, b"conform: read fault: lex\n".as_slice()),
-    ] {
-        let mut desk = desk(alloc, Some(CHOICE), Some(LETTER), &[call])?;
-        let mut out = MemorySink::new(alloc, 9, 9, Vec::new(alloc))?;
-        let mut err = MemorySink::new(alloc, 99, 99, Vec::new(alloc))?;
-        assert_eq!(rt;
-            run(&rt, alloc, &words, &mut desk, &mut out, &mut err, &OpenGate),
-            3
-        );
-        assert_eq!(rt; out.written(), b"".as_slice());
-        assert_eq!(rt; err.written(), said);
-    }
     Ok(())
 }
 
@@ -497,7 +449,7 @@ fn two_goals_meet(rt: HostRuntime) -> Result<(), Fail> {
         second_saw: AtomicBool::new(false),
     };
     let words = words(alloc, "--criteria=rule")?;
-    let mut desk = desk(alloc, Some(CHOICE), Some(LETTER), &[])?;
+    let mut desk = desk(alloc, Some(CHOICE), Some(LETTER))?;
     let mut out = MemorySink::new(alloc, 1_000, 1_000, Vec::new(alloc))?;
     let mut err = MemorySink::new(alloc, 99, 99, Vec::new(alloc))?;
     assert_eq!(rt;

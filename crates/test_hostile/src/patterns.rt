@@ -1,7 +1,7 @@
 // The deepest patterns: to build, copy, measure and drop one takes no more calls within one another than it is deep, and a text
 // beyond the limits is refused before a pattern is made.
 
-ghost use Rattle.std.specs.Prelude.{◌<◌, ◌≤◌, ◌^◌, IfOk};
+ghost use Rattle.std.specs.Prelude.{◌≤◌, IfOk};
 ghost use Rattle.cs_pattern_tree.specs.Pattern.{leaves, nesting, regex};
 
 use crate::text::repeated;
