@@ -1,23 +1,29 @@
 -- Bases written one after another, each with its negatives.
-use Rattle.std.proofs.Common.{◌≡◌, ℕ, ◌+◌, ◌*◌, ◌<◌, ◌≤◌, List, [], ◌∷◌, ◌++◌, length, get_or, take, drop, refl, sym, ap, ◌∙◌, subst, arith, append_assoc, append-nil, take-append-drop}
+use Rattle.std.proofs.Common.{◌≡◌, ℕ, ◌+◌, ◌*◌, ◌<◌, ◌≤◌, List, [], ◌∷◌, ◌++◌, length, get_or, take, drop, refl, sym, ap, ◌∙◌, subst, arith, append_assoc, append-nil, take-append-drop, Option, None, Some}
+use Rattle.std.specs.Prelude.{if◌then◌else◌}
 use Rattle.std.specs.List.{AllZip}
+use Rattle.std.specs.Option.{option_map_or}
 use Rattle.std.proofs.lemmas.List.{drop_more, length-take-le, take_all, take_more}
 use Rattle.std.proofs.lemmas.List.Sums.{sum_by-append, sum_by-cons}
+use Rattle.cs_bases.specs.Bases.{PlainBases}
 use Rattle.cs_io.specs.declared.sink.Sink as Sink
 use Rattle.cs_manifest.specs.declared.counts.Counts.{Counts}
 use Rattle.cs_manifest.specs.Lines.{base_line}
-use Rattle.cs_manifest.specs.Manifest.{AreNegativesOf, BaseEntry, BasesOf, HasOneText, IsBaseOf, NegativeEntry, base_entry_lines}
+use Rattle.cs_manifest.specs.Manifest.{AreNegativesOf, BaseEntry, BasesOf, HasOneText, IsBaseOf, NegativeEntry, base_entry_lines, has_operator, most_bases}
+use Rattle.cs_manifest.specs.Progress.{Progress}
 use Rattle.cs_manifest.specs.Sinks.{IsCutShort, IsWritten}
 use Rattle.cs_manifest.proofs.OneManifest.{one_base, one_zip}
 use Rattle.cs_manifest.proofs.Written.{written_none, written_then}
 use Rattle.cs_yacc.specs.File.{File}
+use Rattle.cs_plan.specs.declared.plan.Mutation.{Mutation}
 use Rattle.cs_plan.specs.declared.plan.Plan.{Plan}
-use Rattle.cs_plan.specs.Plans.{choice_in, lexemes_in, texts_in}
+use Rattle.cs_plan.specs.Plans.{choice_in, lexemes_in, no_operator, texts_in}
 use Rattle.cs_writing.specs.declared.halt.Halt.{Halt}
 use Rattle.cs_writing.specs.declared.halt.Halt.TheVariants.{Failed}
-use Rattle.cs_writing.specs.Mutants.{HasBases, HasSomeBases, IsCounted, negatives_from, negatives_in}
-use Rattle.cs_writing.specs.Written.{IsStopped}
-use Rattle.cs_writing.proofs.Ones.{zip_both, zip_length, zip_split}
+use Rattle.cs_writing.specs.Mutants.{CountsBases, IsBasesText, IsCounted, negatives_from, negatives_in}
+use Rattle.cs_writing.specs.Written.{HasText, IsStopped}
+use Rattle.cs_writing.proofs.Ones.{nothing_in, zip_both, zip_length, zip_split}
+use Rattle.cs_writing.proofs.Parts.{HasBases, HasSomeBases}
 use Rattle.cs_writing.proofs.Stops.{stopped_by_cut, stopped_longer, stopped_behind}
 use Rattle.cs_writing.proofs.Tallies.{counted_none, counted_then}
 
@@ -185,3 +191,31 @@ bases_all plan list i old now before after last so_far = record {
   written = so_far.written;
   counted = so_far.counted;
 }
+
+-- whichever the negatives are, they were counted
+pub bases_counted : {S : Type 0} {g : Sink.Ghosts S} {old new : S} (plan : Plan) (one : HasOneText (texts_in plan)) (bases : PlainBases) (before after : Progress)
+    → HasBases g plan bases.list old new before.counts after.counts → CountsBases plan bases before after
+bases_counted plan one bases before after has mutants are =
+    subst (λ (ms : List BaseEntry). IsCounted (negatives_in ms) (base_entry_lines plan.yacc.now 0 0 ms) before.counts after.counts)
+    (one_zip (one_base (choice_in plan) one (lexemes_in plan) plan.yacc.now.grammar) bases.list has.mutants mutants has.all are) has.counted
+
+-- ---- where nothing is mutated
+
+-- at most so many bases, by what is mutated
+abbrev most_by : Option Mutation → ℕ
+most_by mutation = if has_operator (option_map_or (λ m. m.operators) mutation no_operator) then option_map_or (λ m. m.most) mutation 0 else 0
+
+nothing_is : (mutation : Option Mutation) → ((m : Mutation) → mutation ≡ Some m → ⊥) → most_by mutation ≡ 0
+nothing_is None none = refl
+nothing_is (Some m) none = absurd (none m refl)
+
+-- there are no bases
+pub without_bases : {S : Type 0} {g : Sink.Ghosts S} (plan : Plan) (bases : PlainBases) (s : S) → ((m : Mutation) → plan.mutation ≡ Some m → ⊥) → length bases.list ≤ most_bases (choice_in plan) → HasText g (IsBasesText plan bases) s s
+without_bases plan bases s none few =
+    let most : most_bases (choice_in plan) ≡ 0 = nothing_is plan.mutation none in
+    let empty = nothing_in bases.list (omega (arith, few, most)) in
+    record {
+      text = [];
+      is = record { mutants = []; all = subst (λ (l : List (ℕ × List ℕ)). AllZip (Of plan) l []) (sym empty) tt; lines = refl };
+      written = written_none s;
+    }

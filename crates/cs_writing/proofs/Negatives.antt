@@ -9,8 +9,10 @@ use Rattle.cs_io.specs.Faults.{greatest}
 use Rattle.cs_io.specs.declared.sink.Sink as Sink
 use Rattle.cs_manifest.specs.declared.counts.Counts.{Counts}
 use Rattle.cs_manifest.specs.Manifest.{HasOneText, IsNegativeOf, NegativeEntry, negative_entry_lines}
+use Rattle.cs_manifest.specs.Progress.{Progress}
 use Rattle.cs_manifest.specs.Sinks.{IsCutShort, IsWritten}
 use Rattle.cs_manifest.specs.Words.{numbered_from}
+use Rattle.cs_manifest.proofs.OneManifest.{one_zip}
 use Rattle.cs_manifest.proofs.Written.{written_none, written_then, written_cut, cut_longer}
 use Rattle.cs_mutants.specs.Batches.{AreNext}
 use Rattle.cs_mutants.specs.Mutants.{IsEditOf, IsMutantOf, Mutant, entry_of, texts_of}
@@ -24,10 +26,12 @@ use Rattle.cs_render.specs.Rendering.{Rendering}
 use Rattle.cs_render_work.specs.declared.work.RenderWork.{RenderWork}
 use Rattle.cs_yacc.specs.File.{File}
 use Rattle.cs_writing.specs.declared.halt.Halt.TheVariants.{Failed, Memory}
-use Rattle.cs_writing.specs.Mutants.{AreMade, HasNegatives, HasSomeNegatives, IsCounted, mutants_from, negatives_from}
+use Rattle.cs_writing.specs.declared.mutants.Base.{Base}
+use Rattle.cs_writing.specs.Mutants.{AreMade, CountsMade, IsCounted, mutants_from, negatives_from}
 use Rattle.cs_writing.specs.Written.{IsStopped}
 use Rattle.cs_writing.proofs.Edits.{few_negatives, negatives_split}
 use Rattle.cs_writing.proofs.Ones.{nothing_in, numbered_both, numbered_map, zip_both, zip_front, zip_length}
+use Rattle.cs_writing.proofs.Parts.{HasNegatives, HasSomeNegatives}
 use Rattle.cs_writing.proofs.Stops.{stopped_by_memory, stopped_by_cut}
 use Rattle.cs_writing.proofs.Tallies.{counted_none, counted_then}
 
@@ -79,6 +83,12 @@ module _ (work : RenderWork) (search : Search) (one : HasOneText (Some (texts_of
       ap (λ (m : Negative). record { negative = m; rendered = a.rendered }) (ha.is_of ∙ sym hb.is_of)
       ∙ ap (λ (r : Option Rendering). record { negative = b.negative; rendered = r })
       (one.rendered (Some work.lexemes.now) (edited search.base n.edit) a.rendered b.rendered ha.text hb.text)
+
+  -- the entries of all negatives are one list
+  pub one_list_made : (a b : List NegativeEntry) → AreMade work search a → AreMade work search b → a ≡ b
+  one_list_made a b ha hb =
+      let same : hb.negatives ≡ ha.negatives = one_list search.grammar search.base search.edits hb.negatives ha.negatives hb.all ha.all in
+      one_zip one_made ha.negatives a b ha.each (subst (λ (ns : List Negative). AllZip (Partner work search.base) ns b) same hb.each)
 
   -- whichever the entries of all negatives are, they begin with these
   made_front : (left : List Edit) (entries others : List NegativeEntry) → FirstMade work search left entries → AreMade work search others → (more : List NegativeEntry) × (others ≡ entries ++ more)
@@ -224,3 +234,10 @@ module _ {S : Type 0} {g : Sink.Ghosts S} (file : File) (base : ℕ) (work : Ren
       let more = negatives_from file base search.base (before.negatives + length so_far.entries) found.0 in
       let whole = made_lines file base search.base before.negatives so_far.entries found.0 in
       subst (λ (l : List ℕ). IsStopped g l old now Memory) (sym (ap (negatives_from file base search.base before.negatives) found.1 ∙ whole)) (stopped_by_memory so_far.written more)
+
+-- whichever the negatives are, they were counted
+pub made_counted : {S : Type 0} {g : Sink.Ghosts S} {old new : S} (before after : Progress) (base : Base) (search : Search) → HasOneText (Some (texts_of base.work.now))
+    → HasNegatives g before.file base.number base.work.now search old new before.counts after.counts → CountsMade base search before after
+made_counted before after base search one has entries are =
+    subst (λ (es : List NegativeEntry). IsCounted (length es) (negatives_from before.file base.number search.base before.counts.negatives es) before.counts after.counts)
+    (one_list_made base.work.now search one has.entries entries has.all are) has.counted

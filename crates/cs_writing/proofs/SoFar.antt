@@ -9,6 +9,7 @@ use Rattle.cs_goals.specs.declared.goal.Goal.{Goal}
 use Rattle.cs_goals.specs.Goals.{goals}
 use Rattle.cs_manifest.specs.declared.counts.Counts.{Counts}
 use Rattle.cs_manifest.specs.Manifest.{GoalEntry, HasOneText, goal_entry_lines, most_bases}
+use Rattle.cs_manifest.specs.Progress.{Progress}
 use Rattle.cs_manifest.specs.Sinks.{IsCutShort, IsWritten}
 use Rattle.cs_manifest.proofs.OneManifest.{one_entry, one_zip}
 use Rattle.cs_manifest.proofs.Written.{written_none, written_then, written_cut, cut_longer}
@@ -19,11 +20,12 @@ use Rattle.cs_plan.specs.Batches.{AreNext}
 use Rattle.cs_plan.specs.Plans.{IsEntryIn, choice_in, lexemes_in, texts_in}
 use Rattle.cs_writing.specs.declared.halt.Halt.TheVariants.{Failed, Memory}
 use Rattle.cs_writing.specs.Mutants.{Keeps}
-use Rattle.cs_writing.specs.Written.{AreEntriesIn, HasEntries, HasSomeEntries, IsStopped, counts_behind, lines_from}
+use Rattle.cs_writing.specs.Written.{AreBasesOf, AreEntriesIn, CountsGoals, IsStopped, counts_behind, lines_from}
 use Rattle.cs_writing.proofs.Counted.{counts_both}
 use Rattle.cs_writing.proofs.Few.{few_goals}
 use Rattle.cs_writing.proofs.Kept.{kept_more}
-use Rattle.cs_writing.proofs.Ones.{numbered_both, zip_both, zip_front, zip_length}
+use Rattle.cs_writing.proofs.Ones.{nothing_in, numbered_both, zip_both, zip_front, zip_length}
+use Rattle.cs_writing.proofs.Parts.{HasEntries, HasSomeEntries}
 use Rattle.cs_writing.proofs.Stops.{stopped_by_memory, stopped_by_cut}
 
 -- the entries of the first goals, where these are left
@@ -131,7 +133,7 @@ module _ {S : Type 0} {g : Sink.Ghosts S} (plan : Plan) (of : Weighed) (one : Ha
       e = omega (arith, so_far.many)
 
   -- nothing came
-  pub so_far_all : (left new : ToJudge) (number : ℕ) (kept : PlainBases) (before after : Counts) (old now : S) → AreNext plan left [] new → SoFar g plan of left.goals number kept before after old now
+  so_far_all : (left new : ToJudge) (number : ℕ) (kept : PlainBases) (before after : Counts) (old now : S) → AreNext plan left [] new → SoFar g plan of left.goals number kept before after old now
       → HasEntries g plan of old now before after kept
   so_far_all left new number kept before after old now next so_far = record {
     entries = so_far.entries;
@@ -140,6 +142,11 @@ module _ {S : Type 0} {g : Sink.Ghosts S} (plan : Plan) (of : Weighed) (one : Ha
     written = so_far.written;
     kept_are = so_far.kept_are;
   }
+
+  pub so_far_none_left : (left new : ToJudge) (made : List GoalEntry) (number : ℕ) (kept : PlainBases) (before after : Counts) (old now : S) → length made ≡ 0 → AreNext plan left made new
+      → SoFar g plan of left.goals number kept before after old now → HasEntries g plan of old now before after kept
+  so_far_none_left left new made number kept before after old now empty next so_far =
+      so_far_all left new number kept before after old now (subst (λ (es : List GoalEntry). AreNext plan left es new) (nothing_in made empty) next) so_far
 
   -- so that numbers don't end
   pub so_far_few : (left new : ToJudge) (made : List GoalEntry) (number : ℕ) (kept : PlainBases) (before after : Counts) (old now : S) → left.tables ≡ of → IsGrammar of.grammar → AreNext plan left made new
@@ -161,3 +168,16 @@ module _ {S : Type 0} {g : Sink.Ghosts S} (plan : Plan) (of : Weighed) (one : Ha
       let found = lines_front plan of one new.goals (so_far.entries ++ made) others first are in
       let lines = subst (λ (l : List ℕ). IsCutShort g l old now) (lines_more plan of one so_far.entries made number so_far.many) (written_cut so_far.written cut) in
       subst (λ (l : List ℕ). IsStopped g l old now Failed) (sym found.1) (stopped_by_cut (cut_longer found.0 lines))
+
+-- ---- whichever the entries are
+
+module _ {S : Type 0} {g : Sink.Ghosts S} (plan : Plan) (left : ToJudge) (one : HasOneText (texts_in plan)) where
+  -- they were counted
+  pub goals_counted : {old new : S} (before after : Progress) (kept : PlainBases) → HasEntries g plan left.tables old new before.counts after.counts kept → CountsGoals plan left before after
+  goals_counted before after kept has entries are =
+      has.counted ∙ ap (λ (es : List GoalEntry). counts_behind plan.yacc.now 1 es before.counts) (one_list plan left.tables one has.entries entries has.all are)
+
+  -- and these are their bases
+  pub goals_kept : {old new : S} (before after : Counts) (kept : PlainBases) → HasEntries g plan left.tables old new before after kept → AreBasesOf plan left kept
+  goals_kept before after kept has entries are =
+      has.kept_are ∙ ap (λ (es : List GoalEntry). bases_of (most_bases (choice_in plan)) es) (one_list plan left.tables one has.entries entries has.all are)

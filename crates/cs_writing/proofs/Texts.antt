@@ -24,10 +24,11 @@ use Rattle.cs_plan.specs.declared.plan.Plan.{Plan}
 use Rattle.cs_plan.specs.Plans.{CanRender, IsPlan, IsPlanned, choice_in, lexemes_in, texts_in, texts_of}
 use Rattle.cs_writing.specs.declared.halt.Halt.{Halt}
 use Rattle.cs_writing.specs.declared.halt.Halt.TheVariants.{Failed}
-use Rattle.cs_writing.specs.Mutants.{HasBases, HasSomeBases, negatives_in}
+use Rattle.cs_writing.specs.Mutants.{negatives_in}
 use Rattle.cs_writing.specs.Writing.{CountsOfAll}
-use Rattle.cs_writing.specs.Written.{AreEntriesIn, HasEntries, HasSomeEntries, HasSomeText, HasText, IsStopped, counts_behind, lines_from}
+use Rattle.cs_writing.specs.Written.{AreEntriesIn, HasSomeText, HasText, IsStopped, counts_behind, lines_from}
 use Rattle.cs_writing.proofs.Counted.{bytes_behind, counted_end}
+use Rattle.cs_writing.proofs.Parts.{HasBases, HasEntries, HasSomeBases, HasSomeEntries}
 use Rattle.cs_writing.proofs.SoFar.{entries_few, one_list}
 use Rattle.cs_writing.proofs.Stops.{stopped_by_cut, stopped_longer, stopped_behind}
 
@@ -171,9 +172,14 @@ module _ (plan : Plan) (of : Weighed) (one : HasOneText (texts_in plan)) (is : I
         subst (λ (l : List ℕ). IsStopped g l old last Failed) (sym (text_is text is_text)) (stopped_by_cut whole)
 
   module _ {S : Type 0} {g : Sink.Ghosts S} where
+    -- the head was written
+    pub head_written : (h : Head) → file_of h ≡ file → lexemes_of h ≡ lexemes_in plan → sharing_of h ≡ None → (old new : S) → IsWritten g (head_of h) old new → IsWritten g head old new
+    head_written h same lexemes form old new written = subst (λ (l : List ℕ). IsWritten g l old new) (head_is h same lexemes form) written
+
     -- the head was cut short
-    pub head_cut : (old new : S) → IsCutShort g head old new → HasSomeText g (IsPlanned of.weights plan) old new Failed
-    head_cut old new cut text is_text =
+    pub head_cut : (h : Head) → file_of h ≡ file → lexemes_of h ≡ lexemes_in plan → sharing_of h ≡ None → (old new : S) → IsCutShort g (head_of h) old new → HasSomeText g (IsPlanned of.weights plan) old new Failed
+    head_cut h same lexemes form old new cut_head text is_text =
+        let cut = subst (λ (l : List ℕ). IsCutShort g l old new) (head_is h same lexemes form) cut_head in
         let found = planned_parts text is_text in
         let longer = cut_longer (end_line found.entries found.mutants) (cut_longer (body_of found.mutants) (cut_longer (lines_from file 1 found.entries) cut)) in
         subst (λ (l : List ℕ). IsStopped g l old new Failed) (sym found.whole) (stopped_by_cut longer)

@@ -1,13 +1,15 @@
 -- What was written of bases and their negatives. Working words of proofs.
-use Rattle.std.specs.Prelude.{◌≡◌, ◌≤◌, ℕ, ◌+◌, List, ◌++◌, length, sum_by, All, Some}
+use Rattle.std.specs.Prelude.{◌≡◌, ◌≤◌, ℕ, ◌+◌, List, ◌++◌, length, sum_by, All, Result, Some}
 use Rattle.std.specs.List.{AllZip}
 use Rattle.cs_grammar.specs.Grammar.{IsNumberOf}
 use Rattle.cs_io.specs.declared.sink.Sink as Sink
+use Rattle.cs_io.specs.declared.sink.SinkError.{SinkError}
 use Rattle.cs_bases.specs.Bases.{PlainBases, bases_of}
 use Rattle.cs_manifest.specs.declared.counts.Counts.{Counts}
 use Rattle.cs_manifest.specs.Manifest.{BaseEntry, BasesOf, GoalEntry, IsNegativeOf, NegativeEntry, base_entry_lines, negative_entry_lines}
+use Rattle.cs_manifest.specs.Progress.{Progress}
 use Rattle.cs_manifest.specs.Putting.{shown}
-use Rattle.cs_manifest.specs.Sinks.{IsWritten}
+use Rattle.cs_manifest.specs.Sinks.{Writes}
 use Rattle.cs_manifest.specs.Words.{numbered_from}
 use Rattle.cs_mutants.specs.Mutants.{Mutant, entry_of, texts_of}
 use Rattle.cs_mutate.specs.Negatives.{AreNegatives, Search}
@@ -16,8 +18,7 @@ use Rattle.cs_plan.specs.declared.plan.Plan.{Plan}
 use Rattle.cs_plan.specs.Plans.{choice_in, lexemes_in}
 use Rattle.cs_render_work.specs.declared.work.RenderWork.{RenderWork}
 use Rattle.cs_yacc.specs.File.{File}
-use Rattle.cs_writing.specs.declared.halt.Halt.{Halt}
-use Rattle.cs_writing.specs.Written.{IsStopped}
+use Rattle.cs_writing.specs.declared.mutants.Base.{Base}
 
 -- ---- bases of entries
 
@@ -55,28 +56,44 @@ pub record IsCounted (many : ℕ) (lines : List ℕ) (before after : Counts) : T
 abbrev pub negatives_in : List BaseEntry → ℕ
 negatives_in mutants = sum_by (λ b. length b.negatives) mutants
 
-module _ {S : Type 0} (g : Sink.Ghosts S) where
-  -- the lines of all negatives of a search were written behind those that are counted, and counted
-  pub record HasNegatives (file : File) (base : ℕ) (work : RenderWork) (search : Search) (old new : S) (before after : Counts) : Type 0 where
-    pub entries : List NegativeEntry
-    pub all : AreMade work search entries
-    pub written : IsWritten g (negatives_from file base search.base before.negatives entries) old new
-    pub counted : IsCounted (length entries) (negatives_from file base search.base before.negatives entries) before after
+-- The text is the lines of all negatives that a search gives of a base, where the manifest stands so.
+pub record IsMade (manifest : Progress) (base : Base) (search : Search) (text : List ℕ) : Type 0 where
+  pub entries : List NegativeEntry
+  pub all : AreMade base.work.now search entries
+  pub lines : text ≡ negatives_from manifest.file base.number search.base manifest.counts.negatives entries
 
-  -- whichever the negatives are, the writing of their lines behind so many negatives stopped so
-  abbrev pub HasSomeNegatives : File → ℕ → RenderWork → Search → ℕ → S → S → Halt → Type 0
-  HasSomeNegatives file base work search many old new halt =
-      (entries : List NegativeEntry) → AreMade work search entries → IsStopped g (negatives_from file base search.base many entries) old new halt
+-- whichever the negatives are, they were counted
+abbrev pub CountsMade : Base → Search → Progress → Progress → Type 0
+CountsMade base search old new =
+    (entries : List NegativeEntry) → AreMade base.work.now search entries
+    → IsCounted (length entries) (negatives_from old.file base.number search.base old.counts.negatives entries) old.counts new.counts
 
-  -- the lines of these bases and their negatives were written, and counted
-  pub record HasBases (plan : Plan) (list : List (ℕ × List ℕ)) (old new : S) (before after : Counts) : Type 0 where
-    pub mutants : List BaseEntry
-    pub all : BasesOf plan.yacc.now.grammar (choice_in plan) (lexemes_in plan) list mutants
-    pub written : IsWritten g (base_entry_lines plan.yacc.now 0 0 mutants) old new
-    pub counted : IsCounted (negatives_in mutants) (base_entry_lines plan.yacc.now 0 0 mutants) before after
+-- the lines of these negatives of a base, where the manifest stands so
+abbrev pub mutant_lines : Base → List Mutant → Progress → List ℕ
+mutant_lines base batch manifest = mutants_from manifest.file base.number base.tokens.now manifest.counts.negatives batch
 
-  -- whichever the negatives are, the writing of these lines stopped so
-  abbrev pub HasSomeBases : Plan → List (ℕ × List ℕ) → S → S → Halt → Type 0
-  HasSomeBases plan list old new halt =
-      (mutants : List BaseEntry) → BasesOf plan.yacc.now.grammar (choice_in plan) (lexemes_in plan) list mutants
-      → IsStopped g (base_entry_lines plan.yacc.now 0 0 mutants) old new halt
+-- these negatives of a base were counted
+abbrev pub CountsMutants : Base → List Mutant → Progress → Progress → Type 0
+CountsMutants base batch old new = IsCounted (length batch) (mutant_lines base batch old) old.counts new.counts
+
+-- the lines of these negatives of a base were written, or cut short
+abbrev pub PutsMutants : {S : Type 0} → Sink.Ghosts S → Base → List Mutant → Progress → S → S → Result Unit SinkError → Type 0
+PutsMutants g base batch manifest old new result = Writes g result (mutant_lines base batch manifest) old new
+
+-- ---- bases and their negatives
+
+-- the entries of these bases
+abbrev pub AreBasesIn : Plan → List (ℕ × List ℕ) → List BaseEntry → Type 0
+AreBasesIn plan list mutants = BasesOf plan.yacc.now.grammar (choice_in plan) (lexemes_in plan) list mutants
+
+-- the text is the lines of these bases and their negatives
+pub record IsBasesText (plan : Plan) (bases : PlainBases) (text : List ℕ) : Type 0 where
+  pub mutants : List BaseEntry
+  pub all : AreBasesIn plan bases.list mutants
+  pub lines : text ≡ base_entry_lines plan.yacc.now 0 0 mutants
+
+-- whichever the negatives are, they were counted
+abbrev pub CountsBases : Plan → PlainBases → Progress → Progress → Type 0
+CountsBases plan bases old new =
+    (mutants : List BaseEntry) → AreBasesIn plan bases.list mutants
+    → IsCounted (negatives_in mutants) (base_entry_lines plan.yacc.now 0 0 mutants) old.counts new.counts

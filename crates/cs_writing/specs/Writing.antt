@@ -1,10 +1,17 @@
 -- What a writer does to its output, where `Is` says of which texts it is asked for.
 use Rattle.std.specs.Prelude.{◌≡◌, ◌≤◌, ◌++◌, ℕ, List, Option, Result, Err, length}
 use Rattle.std.specs.Io.KnownBytes.{append_known}
+use Rattle.cs_io.specs.BufferedSink.{lent_sink}
+use Rattle.cs_io.specs.Faults.{Rose}
 use Rattle.cs_io.specs.Sink.{GrewByPrefix}
+use Rattle.cs_io.specs.declared.buffered_sink.BufferedSink.{BufferedSink}
+use Rattle.cs_io.specs.declared.sink.Sink as Sink
 use Rattle.cs_manifest.specs.declared.counts.Counts.{Counts}
 use Rattle.cs_manifest.specs.Counts.{end_of}
 use Rattle.cs_manifest.specs.Putting.{shown}
+use Rattle.cs_plan.specs.declared.plan.Plan.{Plan}
+use Rattle.cs_plan.specs.Plans.{IsPlanned}
+use Rattle.cs_positive.specs.Positives.{ToJudge}
 use Rattle.cs_writing.specs.declared.halt.Halt.{Halt}
 
 -- the output grew by such a text
@@ -18,6 +25,38 @@ GrewByPart Is old new = (text : List ℕ) → Is text → GrewByPrefix old new t
 -- there is room for each such text
 abbrev pub HasRoomForAll : (List ℕ → Type 0) → ℕ → Type 0
 HasRoomForAll Is room = (text : List ℕ) → Is text → length text ≤ room
+
+-- the text is the plan's manifest, where trees are measured as for these positives
+abbrev pub IsAsked : Plan → ToJudge → List ℕ → Type 0
+IsAsked plan left text = IsPlanned left.tables.weights plan text
+
+-- The same of a sink, by its meanings.
+module _ {S : Type 0} (g : Sink.Ghosts S) where
+  -- it took one such text
+  abbrev pub TookOne : (List ℕ → Type 0) → S → S → Type 0
+  TookOne Is old new = GrewByOne Is (g.written old) (g.written new)
+
+  -- it took a prefix of each such text
+  abbrev pub TookFront : (List ℕ → Type 0) → S → S → Type 0
+  TookFront Is old new = GrewByPart Is (g.written old) (g.written new)
+
+  -- where it had room for each such text, it met no fault
+  abbrev pub IsCalmForAll : (List ℕ → Type 0) → S → S → Type 0
+  IsCalmForAll Is old new = HasRoomForAll Is (g.room old) → g.faults new ≡ g.faults old
+
+  -- its faults rose
+  abbrev pub MetFault : S → S → Type 0
+  MetFault old new = Rose (g.faults old) (g.faults new)
+
+  -- the same of the sink that is lent
+  abbrev pub LentOne : (List ℕ → Type 0) → BufferedSink S → BufferedSink S → Type 0
+  LentOne Is old new = TookOne Is (lent_sink old) (lent_sink new)
+
+  abbrev pub LentPart : (List ℕ → Type 0) → BufferedSink S → BufferedSink S → Type 0
+  LentPart Is old new = TookFront Is (lent_sink old) (lent_sink new)
+
+  abbrev pub LentCalm : (List ℕ → Type 0) → BufferedSink S → BufferedSink S → Type 0
+  LentCalm Is old new = IsCalmForAll Is (lent_sink old) (lent_sink new)
 
 -- the answer is that this stopped the writing
 abbrev pub Stopped : {A : Type 0} → Halt → Result A Halt → Type 0

@@ -1,15 +1,18 @@
 -- What was written of a manifest. Working words of proofs.
-use Rattle.std.specs.Prelude.{◌≡◌, ◌≤◌, ℕ, ◌+◌, List, [], ◌∷◌}
+use Rattle.std.specs.Prelude.{◌≡◌, ◌≤◌, ℕ, ◌+◌, List, [], ◌∷◌, MatchResult, Result}
 use Rattle.cs_bases.specs.Bases.{PlainBases, bases_of}
 use Rattle.cs_grammar.specs.Weights.{Weighed}
 use Rattle.cs_goals.specs.Goals.{goals}
 use Rattle.cs_io.specs.Faults.{Rose}
 use Rattle.cs_io.specs.declared.sink.Sink as Sink
+use Rattle.cs_io.specs.declared.sink.SinkError.{SinkError}
 use Rattle.cs_manifest.specs.declared.counts.Counts.{Counts}
 use Rattle.cs_manifest.specs.Counts.{with_lines, with_verdict}
 use Rattle.cs_manifest.specs.Manifest.{EntriesOf, GoalEntry, goal_entry_lines, most_bases}
-use Rattle.cs_manifest.specs.Sinks.{IsCalm, IsWritten, TookPart}
+use Rattle.cs_manifest.specs.Progress.{Progress}
+use Rattle.cs_manifest.specs.Sinks.{IsCalm, IsWritten, TookPart, Writes}
 use Rattle.cs_manifest.specs.Words.{numbered_from}
+use Rattle.cs_positive.specs.Positives.{ToJudge}
 use Rattle.cs_yacc.specs.File.{File}
 use Rattle.cs_plan.specs.declared.plan.Plan.{Plan}
 use Rattle.cs_plan.specs.Plans.{choice_in, lexemes_in, texts_in}
@@ -40,25 +43,40 @@ module _ {S : Type 0} (g : Sink.Ghosts S) where
     pub lent : g.lent new ≡ g.lent old
     pub passed : g.passed old ≤ g.passed new
 
-  -- the lines of all entries were written, and counted, and these are their bases
-  pub record HasEntries (plan : Plan) (of : Weighed) (old new : S) (before after : Counts) (kept : PlainBases) : Type 0 where
-    pub entries : List GoalEntry
-    pub all : AreEntriesIn plan of entries
-    pub counted : after ≡ counts_behind plan.yacc.now 1 entries before
-    pub written : IsWritten g (lines_from plan.yacc.now 1 entries) old new
-    pub kept_are : kept ≡ bases_of (most_bases (choice_in plan)) entries
-
-  -- whichever the entries are, the writing of their lines stopped so
-  abbrev pub HasSomeEntries : Plan → Weighed → S → S → Halt → Type 0
-  HasSomeEntries plan of old new halt =
-      (entries : List GoalEntry) → AreEntriesIn plan of entries → IsStopped (lines_from plan.yacc.now 1 entries) old new halt
-
   -- such a text was written
   pub record HasText (Is : List ℕ → Type 0) (old new : S) : Type 0 where
     pub text : List ℕ
     pub is : Is text
     pub written : IsWritten g text old new
 
-  -- whichever the text is, its writing stopped so
+  -- whichever such a text is, its writing stopped so
   abbrev pub HasSomeText : (List ℕ → Type 0) → S → S → Halt → Type 0
   HasSomeText Is old new halt = (text : List ℕ) → Is text → IsStopped text old new halt
+
+  -- The answer says which of the two: such a text was written, or its writing stopped so.
+  abbrev pub PutsOne : {A : Type 0} → (List ℕ → Type 0) → S → S → Result A Halt → Type 0
+  PutsOne Is old new result = MatchResult result (λ _. HasText Is old new) (λ halt. HasSomeText Is old new halt)
+
+  -- the lines of a batch of entries were written behind so many, or cut short
+  abbrev pub PutsBatch : Progress → ℕ → List GoalEntry → S → S → Result Unit SinkError → Type 0
+  PutsBatch manifest number batch old new result = Writes g result (lines_from manifest.file (number + 1) batch) old new
+
+-- a batch of entries behind so many was counted
+abbrev pub CountsBatch : ℕ → List GoalEntry → Progress → Progress → Type 0
+CountsBatch number batch old new = new.counts ≡ counts_behind old.file (number + 1) batch old.counts
+
+-- the text is the lines of the entries of all goals of a plan
+pub record IsGoalsText (plan : Plan) (left : ToJudge) (text : List ℕ) : Type 0 where
+  pub entries : List GoalEntry
+  pub all : AreEntriesIn plan left.tables entries
+  pub lines : text ≡ lines_from plan.yacc.now 1 entries
+
+-- whichever the entries are, they were counted
+abbrev pub CountsGoals : Plan → ToJudge → Progress → Progress → Type 0
+CountsGoals plan left old new =
+    (entries : List GoalEntry) → AreEntriesIn plan left.tables entries → new.counts ≡ counts_behind plan.yacc.now 1 entries old.counts
+
+-- whichever the entries are, these are their bases
+abbrev pub AreBasesOf : Plan → ToJudge → PlainBases → Type 0
+AreBasesOf plan left kept =
+    (entries : List GoalEntry) → AreEntriesIn plan left.tables entries → kept ≡ bases_of (most_bases (choice_in plan)) entries

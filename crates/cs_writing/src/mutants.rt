@@ -1,15 +1,15 @@
 // The bases and their negatives, line by line.
 
-ghost use Rattle.std.specs.Prelude.{◌≡◌, ◌+◌, ◌≤◌, All, IfErr, IfOk, OnErr, OnOk, length};
+ghost use Rattle.std.specs.Prelude.{◌≡◌, ◌+◌, ◌≤◌, All, OnOk, length};
 ghost use Rattle.cs_grammar.specs.Grammar.{IsNumberOf};
 ghost use Rattle.cs_io.specs.Faults.{greatest};
 ghost use Rattle.cs_manifest.specs.Manifest.{most_bases};
-ghost use Rattle.cs_manifest.specs.Sinks.{IsCutShort, IsWritten};
 ghost use Rattle.cs_mutants.specs.Batches.{CanRender};
 ghost use Rattle.cs_mutants.specs.Mutants.{IsEditOf, IsNamedMutant};
 ghost use Rattle.cs_plan.specs.Plans.{IsPlan, choice_in};
-ghost use Rattle.cs_writing.specs.Mutants.{HasBases, HasNegatives, HasSomeBases, HasSomeNegatives};
-ghost use Rattle.cs_writing.specs.Mutants.{IsCounted, IsEditable, mutants_from};
+ghost use Rattle.cs_writing.specs.Mutants.{CountsBases, CountsMade, CountsMutants, IsBasesText, IsEditable};
+ghost use Rattle.cs_writing.specs.Mutants.{IsMade, PutsMutants};
+ghost use Rattle.cs_writing.specs.Written.{PutsOne};
 
 use crate::halt::Halt;
 use cs_bases::Bases;
@@ -23,11 +23,12 @@ use cs_render_work::RenderWork;
 use std::alloc::Global;
 use std::thread::Threads;
 
-// A base with its number.
+// A base with its number, and what renders its negatives.
 #[derive(Clone, Copy)]
-pub struct Base<'a> {
+pub struct Base<'a, 'b> {
     pub number: u32,
     pub tokens: &'a [u16],
+    pub work: &'b RenderWork<'b>,
 }
 
 /// Writes the bases, numbered from 1, and behind each its negatives, numbered from 1 through all
@@ -47,10 +48,8 @@ pub fn write_bases<R: Threads + Sync, S: Sink, G: Gate + Sync>(
     requires file { manifest.old.file ≡ plan.now.yacc.now }
     requires fresh { manifest.old.counts.negatives ≡ 0 }
     ensures lent { S.lent sink.new ≡ S.lent sink.old }
-    ensures ok { OnOk result (HasBases S.Sink plan.now bases.now.list
-        sink.old sink.new manifest.old.counts manifest.new.counts) }
-    ensures stopped { IfErr result
-        (HasSomeBases S.Sink plan.now bases.now.list sink.old sink.new) }
+    ensures text { PutsOne S.Sink (IsBasesText plan.now bases.now) sink.old sink.new result }
+    ensures counted { OnOk result (CountsBases plan.now bases.now manifest.old manifest.new) }
 {
     one_text();
     let Some(mutation) = plan.mutation else {
@@ -63,24 +62,15 @@ pub fn write_bases<R: Threads + Sync, S: Sink, G: Gate + Sync>(
         let base = Base {
             number: index + 1,
             tokens,
+            work,
         };
         let line = Entry::Base {
             number: base.number,
             goal,
         };
         manifest.entry(sink, &line)?;
-        let negatives = Negatives::new(alloc, mutation.pairs, tokens, mutation.operators);
-        write_negatives(
-            rt,
-            alloc,
-            work,
-            negatives,
-            &base,
-            &mut number,
-            manifest,
-            sink,
-            gate,
-        )?;
+        let search = Negatives::new(alloc, mutation.pairs, tokens, mutation.operators);
+        write_negatives(rt, alloc, &base, search, &mut number, manifest, sink, gate)?;
     }
     Ok(())
 }
@@ -90,32 +80,31 @@ pub fn write_bases<R: Threads + Sync, S: Sink, G: Gate + Sync>(
 fn write_negatives<R: Threads + Sync, S: Sink, G: Gate + Sync>(
     rt: &R,
     alloc: Global,
-    work: &RenderWork<'_>,
-    mut negatives: Negatives<'_>,
-    base: &Base<'_>,
+    base: &Base<'_, '_>,
+    mut search: Negatives<'_>,
     number: &mut u64,
     manifest: &mut Manifest<'_>,
     sink: &mut S,
     gate: &G,
 ) -> Result<(), Halt>
-    requires work { CanRender work.now negatives.grammar.tokens }
-    requires base { negatives.base ≡ base.now.tokens.now }
+    requires work { CanRender base.now.work.now search.grammar.tokens }
+    requires base { search.base ≡ base.now.tokens.now }
     requires short { length base.now.tokens.now ≤ 1000000 }
-    requires tokens { All (IsNumberOf negatives.grammar.tokens) base.now.tokens.now }
-    requires names { length manifest.old.file.token_names ≡ negatives.grammar.tokens }
+    requires tokens { All (IsNumberOf search.grammar.tokens) base.now.tokens.now }
+    requires names { length manifest.old.file.token_names ≡ search.grammar.tokens }
     requires number { number.old ≡ manifest.old.counts.negatives }
-    requires few { number.old + length negatives.edits ≤ greatest }
+    requires few { number.old + length search.edits ≤ greatest }
     ensures file { manifest.new.file ≡ manifest.old.file }
     ensures lent { S.lent sink.new ≡ S.lent sink.old }
     ensures number { OnOk result (number.new ≡ manifest.new.counts.negatives) }
-    ensures ok { OnOk result (HasNegatives S.Sink manifest.old.file base.now.number work.now
-        negatives.entry sink.old sink.new manifest.old.counts manifest.new.counts) }
-    ensures stopped { IfErr result (HasSomeNegatives S.Sink manifest.old.file base.now.number work.now
-        negatives.entry manifest.old.counts.negatives sink.old sink.new) }
+    ensures text { PutsOne S.Sink
+        (IsMade manifest.old base.now search.entry) sink.old sink.new result }
+    ensures counted { OnOk result
+        (CountsMade base.now search.entry manifest.old manifest.new) }
 {
     one_text();
     'batches: loop {
-        let batch = next_negatives(rt, alloc, work, base.tokens, &mut negatives, gate)?;
+        let batch = next_negatives(rt, alloc, base.work, base.tokens, &mut search, gate)?;
         if batch.is_empty() {
             return Ok(());
         }
@@ -128,7 +117,7 @@ fn write_mutants<S: Sink>(
     manifest: &mut Manifest<'_>,
     sink: &mut S,
     number: &mut u64,
-    base: &Base<'_>,
+    base: &Base<'_, '_>,
     batch: &[MadeNegative],
 ) -> Result<(), SinkError>
     requires named { All (IsNamedMutant manifest.old.file) batch.now }
@@ -137,15 +126,8 @@ fn write_mutants<S: Sink>(
     requires few { number.old + length batch.now ≤ greatest }
     ensures file { manifest.new.file ≡ manifest.old.file }
     ensures number { OnOk result (number.new ≡ manifest.new.counts.negatives) }
-    ensures counted { OnOk result (IsCounted (length batch.now)
-        (mutants_from manifest.old.file base.now.number base.now.tokens.now number.old batch.now)
-        manifest.old.counts manifest.new.counts) }
-    ensures ok { OnOk result (IsWritten S.Sink
-        (mutants_from manifest.old.file base.now.number base.now.tokens.now number.old batch.now)
-        sink.old sink.new) }
-    ensures stopped { OnErr result (IsCutShort S.Sink
-        (mutants_from manifest.old.file base.now.number base.now.tokens.now number.old batch.now)
-        sink.old sink.new) }
+    ensures counted { OnOk result (CountsMutants base.now batch.now manifest.old manifest.new) }
+    ensures lines { PutsMutants S.Sink base.now batch.now manifest.old sink.old sink.new result }
 {
     for made in batch {
         *number += 1;

@@ -1,15 +1,15 @@
 // The manifest of a plan, entry by entry.
 
-ghost use Rattle.std.specs.Prelude.{◌≡◌, ◌+◌, ◌≤◌, [], All, IfErr, IfOk, OnErr, OnOk, length};
+ghost use Rattle.std.specs.Prelude.{◌≡◌, ◌+◌, ◌≤◌, [], All, IfOk, OnErr, OnOk, length};
 ghost use Rattle.cs_goals.specs.Goals.{goals};
 ghost use Rattle.cs_io.specs.BufferedSink.{buffered_room, lent_name, lent_sink, waiting_bytes};
-ghost use Rattle.cs_io.specs.Faults.{Rose, greatest};
-ghost use Rattle.cs_manifest.specs.Sinks.{IsCutShort, IsWritten};
+ghost use Rattle.cs_io.specs.Faults.{greatest};
 ghost use Rattle.cs_writing.specs.declared.halt.Halt.TheVariants.{Failed};
-ghost use Rattle.cs_plan.specs.Plans.{IsOfPlan, IsPlan, IsPlanned};
+ghost use Rattle.cs_plan.specs.Plans.{IsOfPlan, IsPlan};
 ghost use Rattle.cs_plan.specs.Made.{IsNamedGoalEntry};
-ghost use Rattle.cs_writing.specs.Writing.{CountsOfAll, GrewByOne, GrewByPart, HasRoomForAll, Stopped};
-ghost use Rattle.cs_writing.specs.Written.{HasEntries, HasSomeEntries, HasSomeText, HasText, counts_behind, lines_from};
+ghost use Rattle.cs_writing.specs.Writing.{CountsOfAll, IsAsked, IsCalmForAll, LentCalm, LentOne, LentPart};
+ghost use Rattle.cs_writing.specs.Writing.{MetFault, Stopped, TookFront, TookOne};
+ghost use Rattle.cs_writing.specs.Written.{AreBasesOf, CountsBatch, CountsGoals, IsGoalsText, PutsBatch, PutsOne};
 
 use crate::bases::keep_bases;
 use crate::halt::Halt;
@@ -40,14 +40,12 @@ pub fn write_out<R: Threads + Sync, O: Sink, G: Gate + Sync>(
     requires plan { IsPlan plan.now }
     requires grammar { IsOfPlan plan.now positives }
     requires all { positives.goals ≡ goals positives.tables.grammar plan.now.criteria }
-    ensures ok { OnOk result (GrewByOne (IsPlanned positives.entry.tables.weights plan.now)
-        (O.written out.old) (O.written out.new)) }
-    ensures counts { IfOk result (CountsOfAll (IsPlanned positives.entry.tables.weights plan.now)) }
-    ensures part { OnErr result (GrewByPart (IsPlanned positives.entry.tables.weights plan.now)
-        (O.written out.old) (O.written out.new)) }
-    ensures failed { Stopped Failed result → Rose (O.faults out.old) (O.faults out.new) }
-    ensures room { HasRoomForAll (IsPlanned positives.entry.tables.weights plan.now)
-        (O.room out.old) → O.faults out.new ≡ O.faults out.old }
+    ensures ok { OnOk result (TookOne O.Sink (IsAsked plan.now positives.entry) out.old out.new) }
+    ensures counts { IfOk result (CountsOfAll (IsAsked plan.now positives.entry)) }
+    ensures part { OnErr result
+        (TookFront O.Sink (IsAsked plan.now positives.entry) out.old out.new) }
+    ensures failed { Stopped Failed result → MetFault O.Sink out.old out.new }
+    ensures room { IsCalmForAll O.Sink (IsAsked plan.now positives.entry) out.old out.new }
 {
     let mut buffer = Vec::with_capacity(alloc, PIECE)?;
     let mut sink = BufferedSink::new(out, &mut buffer);
@@ -69,16 +67,14 @@ fn write_through<R: Threads + Sync, O: Sink, G: Gate + Sync>(
     requires waiting { waiting_bytes sink.old ≡ [] }
     requires spare { buffered_room O.room sink.old ≡ O.room (lent_sink sink.old) + 1 }
     ensures lent { lent_name sink.new ≡ lent_name sink.old }
-    ensures ok { OnOk result (GrewByOne (IsPlanned positives.entry.tables.weights plan.now)
-        (O.written (lent_sink sink.old)) (O.written (lent_sink sink.new))) }
-    ensures counts { IfOk result (CountsOfAll (IsPlanned positives.entry.tables.weights plan.now)) }
-    ensures part { OnErr result (GrewByPart (IsPlanned positives.entry.tables.weights plan.now)
-        (O.written (lent_sink sink.old)) (O.written (lent_sink sink.new))) }
+    ensures ok { OnOk result
+        (LentOne O.Sink (IsAsked plan.now positives.entry) sink.old sink.new) }
+    ensures counts { IfOk result (CountsOfAll (IsAsked plan.now positives.entry)) }
+    ensures part { OnErr result
+        (LentPart O.Sink (IsAsked plan.now positives.entry) sink.old sink.new) }
     ensures failed { Stopped Failed result
-        → Rose (O.faults (lent_sink sink.old)) (O.faults (lent_sink sink.new)) }
-    ensures room { HasRoomForAll (IsPlanned positives.entry.tables.weights plan.now)
-        (O.room (lent_sink sink.old))
-        → O.faults (lent_sink sink.new) ≡ O.faults (lent_sink sink.old) }
+        → MetFault O.Sink (lent_sink sink.old) (lent_sink sink.new) }
+    ensures room { LentCalm O.Sink (IsAsked plan.now positives.entry) sink.old sink.new }
 {
     one_manifest();
     some_manifest();
@@ -98,12 +94,9 @@ fn write_manifest<R: Threads + Sync, S: Sink, G: Gate + Sync>(
     requires plan { IsPlan plan.now }
     requires grammar { IsOfPlan plan.now positives }
     requires all { positives.goals ≡ goals positives.tables.grammar plan.now.criteria }
-    ensures ok { OnOk result
-        (HasText S.Sink (IsPlanned positives.entry.tables.weights plan.now) sink.old sink.new) }
-    ensures counts { IfOk result (CountsOfAll (IsPlanned positives.entry.tables.weights plan.now)) }
+    ensures text { PutsOne S.Sink (IsAsked plan.now positives.entry) sink.old sink.new result }
+    ensures counts { IfOk result (CountsOfAll (IsAsked plan.now positives.entry)) }
     ensures lent { S.lent sink.new ≡ S.lent sink.old }
-    ensures stopped { IfErr result
-        (HasSomeText S.Sink (IsPlanned positives.entry.tables.weights plan.now) sink.old sink.new) }
 {
     one_text();
     let mut manifest = Manifest::begin(sink, &plan.head())?;
@@ -127,11 +120,11 @@ fn write_entries<R: Threads + Sync, S: Sink, G: Gate + Sync>(
     requires all { positives.old.goals ≡ goals positives.old.tables.grammar plan.now.criteria }
     requires file { manifest.old.file ≡ plan.now.yacc.now }
     ensures file { OnOk result (manifest.new.file ≡ plan.now.yacc.now) }
-    ensures ok { IfOk result (HasEntries S.Sink plan.now positives.old.tables
-        sink.old sink.new manifest.old.counts manifest.new.counts) }
+    ensures text { PutsOne S.Sink (IsGoalsText plan.now positives.old) sink.old sink.new result }
+    ensures counted { OnOk result
+        (CountsGoals plan.now positives.old manifest.old manifest.new) }
+    ensures bases { IfOk result (AreBasesOf plan.now positives.old) }
     ensures lent { S.lent sink.new ≡ S.lent sink.old }
-    ensures stopped { IfErr result
-        (HasSomeEntries S.Sink plan.now positives.old.tables sink.old sink.new) }
 {
     one_text();
     let mut bases = Bases::new(alloc, plan.most_bases());
@@ -157,12 +150,8 @@ fn write_batch<S: Sink>(
     requires few { number.old + length batch.now ≤ greatest }
     ensures file { manifest.new.file ≡ manifest.old.file }
     ensures number { OnOk result (number.new ≡ number.old + length batch.now) }
-    ensures counted { OnOk result (manifest.new.counts
-        ≡ counts_behind manifest.old.file (number.old + 1) batch.now manifest.old.counts) }
-    ensures ok { OnOk result (IsWritten S.Sink
-        (lines_from manifest.old.file (number.old + 1) batch.now) sink.old sink.new) }
-    ensures stopped { OnErr result (IsCutShort S.Sink
-        (lines_from manifest.old.file (number.old + 1) batch.now) sink.old sink.new) }
+    ensures counted { OnOk result (CountsBatch number.old batch.now manifest.old manifest.new) }
+    ensures lines { PutsBatch S.Sink manifest.old number.old batch.now sink.old sink.new result }
 {
     for made in batch {
         *number += 1;

@@ -1,17 +1,20 @@
-use Rattle.std.proofs.Common.{rules, ◌≡◌, ◌+◌, ◌≤◌, List, ℕ, length, inl, inr, refl, subst, sym, ap, ◌∙◌, arith}
-use Rattle.std.proofs.lemmas.Bool.{cases_lt}
+use Rattle.std.proofs.Common.{rules, ◌≡◌, ◌+◌, ◌≤◌, List, ℕ, length, refl, subst, sym, ap, ◌∙◌, arith}
 use Rattle.std.proofs.lemmas.Option.{get_or_from_slice_get, slice_get_within}
 use Rattle.std.proofs.lemmas.Result.{err_from_is_err_and}
 use Rattle.cs_manifest.specs.Lines.{base_line}
 use Rattle.cs_manifest.specs.Manifest.{NegativeEntry}
 use Rattle.cs_manifest.specs.Progress.{Progress}
-use Rattle.cs_manifest.specs.Sinks.{IsCutShort, IsWritten}
+use Rattle.cs_manifest.specs.Sinks.{IsWritten}
 use Rattle.cs_manifest.specs.declared.counts.Counts.{Counts}
 use Rattle.cs_plan.specs.Plans.{texts_in}
+use Rattle.cs_writing.specs.declared.halt.Halt.TheVariants.{Failed}
+use Rattle.cs_writing.specs.declared.mutants.Base.{Base}
 use Rattle.cs_writing.specs.Mutants.{IsCounted, IsEditable, negatives_in}
 use Rattle.cs_writing.specs.Written.{IsStopped}
 use Rattle.cs_writing.proofs.Batch.{at_place}
-use Rattle.cs_writing.proofs.Mutated.{base_cut, base_stops, bases_more, bases_none, negatives_at}
+use Rattle.cs_writing.proofs.Called.{is_cut, is_written}
+use Rattle.cs_writing.proofs.Mutated.{base_cut, base_stops, bases_all, bases_counted, bases_more, bases_none, negatives_at, without_bases}
+use Rattle.cs_writing.proofs.Parts.{bases_text_stop, has_negatives, some_negatives}
 use Rattle.cs_writing.proofs.Searches.{base_is, few_made, few_searched, from_made, to_made, tokens_are}
 use Rattle.cs_writing.proofs.Tallies.{counted_base}
 use Rattle.cs_writing.proofs.mutants.write_bases.Goals as goal
@@ -23,8 +26,8 @@ loop-index-init g c = record {
   so_far = bases_none g.S.Sink c.args.plan.now c.args.bases.now.list c.args.manifest.now.counts c.args.sink.now;
 }
 
-pub returns-in_err-entry-clause-stopped : goal.returns-in_err-entry-clause-stopped
-returns-in_err-entry-clause-stopped g c =
+pub returns-in_err-entry-clause-text : goal.returns-in_err-entry-clause-text
+returns-in_err-entry-clause-text g c =
     let p = err_from_is_err_and c.from_residual.result c.from_residual.ensures.1 in
     let e = c.in_err-entry.ensures in
     let plan = c.args.plan.now in
@@ -32,28 +35,21 @@ returns-in_err-entry-clause-stopped g c =
     let i = c.loop-index.index in
     let base : ℕ × List ℕ = (c.get-goal.result.0, c.get-goal.result.1.now) in
     let line = base_line (i + 1) c.get-goal.result.0 in
-    let cut : IsCutShort g.S.Sink line c.loop-index.sink c.entry.new.sink = record {
-      written = e.err;
-      fault = e.fault;
-      faults = e.faults_never_fall;
-      room = elim (cases_lt (g.S.Sink.room c.loop-index.sink) (length line)) [ inl less ↦ less | inr fits ↦ absurd (let no = e.ok_with_room fits in cc) ];
-      lent = e.same_lent;
-      passed = e.passed_never_falls;
-    } in
+    let cut = is_cut g.S.Sink line c.loop-index.sink c.entry.new.sink e.err e.fault e.faults_never_fall (λ fits. let no = e.ok_with_room fits in cc) e.same_lent e.passed_never_falls in
     let stopped = base_cut plan (c.one_text.ensures (texts_in plan)) list i base (slice_get_within list i base c.get-goal.ensures) (sym (get_or_from_slice_get list i base base c.get-goal.ensures))
     c.args.sink.now c.loop-index.sink c.args.manifest.now.counts c.loop-index.manifest.counts c.loop-index.invariant.so_far c.entry.new.sink cut in
-    rw (p.1, p.2) stopped
+    rw (p.1, p.2) (bases_text_stop plan c.args.bases.now c.args.sink.now c.entry.new.sink Failed stopped)
 
-pub new-negatives-requires-clause-short : goal.new-negatives-requires-clause-short
-new-negatives-requires-clause-short g c =
+pub new-search-requires-clause-short : goal.new-search-requires-clause-short
+new-search-requires-clause-short g c =
     let list = c.args.bases.now.list in
     let base : ℕ × List ℕ = (c.get-goal.result.0, c.get-goal.result.1.now) in
     let editable = at_place (IsEditable c.args.plan.now.yacc.now.grammar.tokens) list c.loop-index.index base (slice_get_within list c.loop-index.index base c.get-goal.ensures)
     (sym (get_or_from_slice_get list c.loop-index.index base base c.get-goal.ensures)) c.requires.bases in
     editable.short
 
-pub new-negatives-requires-clause-tokens : goal.new-negatives-requires-clause-tokens
-new-negatives-requires-clause-tokens g c =
+pub new-search-requires-clause-tokens : goal.new-search-requires-clause-tokens
+new-search-requires-clause-tokens g c =
     let list = c.args.bases.now.list in
     let base : ℕ × List ℕ = (c.get-goal.result.0, c.get-goal.result.1.now) in
     let editable = at_place (IsEditable c.args.plan.now.yacc.now.grammar.tokens) list c.loop-index.index base (slice_get_within list c.loop-index.index base c.get-goal.ensures)
@@ -73,13 +69,13 @@ write_negatives-requires-clause-few g c κs known =
     let many : c.entry.new.self.counts.negatives ≡ negatives_in so_far.mutants =
     ap (λ (q : Progress). q.counts.negatives) e.value ∙ ap (λ (k : Counts). k.negatives) so_far.counted.same ∙ omega (arith, c.requires.fresh) in
     let editable = at_place (IsEditable plan.yacc.now.grammar.tokens) list i base within is c.requires.bases in
-    let sought = c.new-negatives.result in
-    let few = few_searched plan c.requires.plan c.in-Some.mutation c.unwrap-work.result c.in-Some.is c.unwrap-work.ensures base sought c.new-negatives.ensures editable in
+    let sought = c.new-search.result in
+    let few = few_searched plan c.requires.plan c.in-Some.mutation c.unwrap-work.result c.in-Some.is c.unwrap-work.ensures base sought c.new-search.ensures editable in
     let small : i ≤ 4294967295 = search rules in
     omega (arith, few, many, c.loop-index.invariant.number, so_far.few, small, ap (λ (q : Progress). q.counts.negatives) e.value)
 
-pub returns-in_err-write_negatives-clause-stopped : goal.returns-in_err-write_negatives-clause-stopped
-returns-in_err-write_negatives-clause-stopped g c =
+pub returns-in_err-write_negatives-clause-text : goal.returns-in_err-write_negatives-clause-text
+returns-in_err-write_negatives-clause-text g c =
     let p = err_from_is_err_and c.from_residual-in_err-write_negatives.result c.from_residual-in_err-write_negatives.ensures.1 in
     let e = c.in_ok-entry.ensures in
     let plan = c.args.plan.now in
@@ -92,24 +88,18 @@ returns-in_err-write_negatives-clause-stopped g c =
     let many : c.entry.new.self.counts.negatives ≡ negatives_in so_far.mutants =
     ap (λ (q : Progress). q.counts.negatives) e.value ∙ ap (λ (k : Counts). k.negatives) so_far.counted.same ∙ omega (arith, c.requires.fresh) in
     let line = base_line (i + 1) c.get-goal.result.0 in
-    let first : IsWritten g.S.Sink line c.loop-index.sink c.entry.new.sink = record {
-      written = e.ok;
-      faults = e.faults_never_fall;
-      no_fault = e.no_fault;
-      room = e.room;
-      lent = e.same_lent;
-      passed = e.passed_never_falls;
-    } in
-    let sought = c.new-negatives.result in
+    let first = is_written g.S.Sink line c.loop-index.sink c.entry.new.sink e.ok e.faults_never_fall e.no_fault e.room e.same_lent e.passed_never_falls in
+    let sought = c.new-search.result in
     let file_is : c.entry.new.self.file ≡ plan.yacc.now = ap (λ (q : Progress). q.file) e.value ∙ c.loop-index.invariant.file ∙ c.requires.file in
-    let tokens_is = base_is plan c.requires.plan c.in-Some.mutation c.unwrap-work.result c.in-Some.is c.unwrap-work.ensures base sought c.new-negatives.ensures in
+    let tokens_is = base_is plan c.requires.plan c.in-Some.mutation c.unwrap-work.result c.in-Some.is c.unwrap-work.ensures base sought c.new-search.ensures in
     let lines_is = λ (entries : List NegativeEntry). negatives_at c.entry.new.self.file plan.yacc.now (i + 1) sought.base base.1 c.entry.new.self.counts.negatives (negatives_in so_far.mutants) entries
     file_is tokens_is many in
     let halt = c.in_err-write_negatives.field-0.0 in
+    let told : Base = record { number = i + 1; tokens = c.get-goal.result.1; work = c.unwrap-work.result } in
     let stopped = base_stops plan (c.one_text.ensures (texts_in plan)) list i base within is c.args.sink.now c.loop-index.sink c.args.manifest.now.counts c.loop-index.manifest.counts so_far c.entry.new.sink c.write_negatives.new.sink halt first
     (λ entries of. subst (λ (l : List ℕ). IsStopped g.S.Sink l c.entry.new.sink c.write_negatives.new.sink halt) (lines_is entries)
-    (c.in_err-write_negatives.ensures.stopped entries (to_made plan c.requires.plan c.in-Some.mutation c.unwrap-work.result c.in-Some.is c.unwrap-work.ensures base sought c.new-negatives.ensures entries of))) in
-    rw (p.1, p.2) stopped
+    (some_negatives c.entry.new.self told sought c.entry.new.sink c.write_negatives.new.sink halt c.in_err-write_negatives.ensures.text entries (to_made plan c.requires.plan c.in-Some.mutation c.unwrap-work.result c.in-Some.is c.unwrap-work.ensures base sought c.new-search.ensures entries of))) in
+    rw (p.1, p.2) (bases_text_stop plan c.args.bases.now c.args.sink.now c.write_negatives.new.sink halt stopped)
 
 pub loop-index-preserved : goal.loop-index-preserved
 loop-index-preserved g c =
@@ -124,30 +114,35 @@ loop-index-preserved g c =
     let many : c.entry.new.self.counts.negatives ≡ negatives_in so_far.mutants =
     ap (λ (q : Progress). q.counts.negatives) e.value ∙ ap (λ (k : Counts). k.negatives) so_far.counted.same ∙ omega (arith, c.requires.fresh) in
     let line = base_line (i + 1) c.get-goal.result.0 in
-    let first : IsWritten g.S.Sink line c.loop-index.sink c.entry.new.sink = record {
-      written = e.ok;
-      faults = e.faults_never_fall;
-      no_fault = e.no_fault;
-      room = e.room;
-      lent = e.same_lent;
-      passed = e.passed_never_falls;
-    } in
-    let sought = c.new-negatives.result in
+    let first = is_written g.S.Sink line c.loop-index.sink c.entry.new.sink e.ok e.faults_never_fall e.no_fault e.room e.same_lent e.passed_never_falls in
+    let sought = c.new-search.result in
     let file_is : c.entry.new.self.file ≡ plan.yacc.now = ap (λ (q : Progress). q.file) e.value ∙ c.loop-index.invariant.file ∙ c.requires.file in
-    let tokens_is = base_is plan c.requires.plan c.in-Some.mutation c.unwrap-work.result c.in-Some.is c.unwrap-work.ensures base sought c.new-negatives.ensures in
+    let tokens_is = base_is plan c.requires.plan c.in-Some.mutation c.unwrap-work.result c.in-Some.is c.unwrap-work.ensures base sought c.new-search.ensures in
     let lines_is = λ (entries : List NegativeEntry). negatives_at c.entry.new.self.file plan.yacc.now (i + 1) sought.base base.1 c.entry.new.self.counts.negatives (negatives_in so_far.mutants) entries
     file_is tokens_is many in
     let editable = at_place (IsEditable plan.yacc.now.grammar.tokens) list i base within is c.requires.bases in
     let more = c.in_ok-write_negatives.ensures in
-    let has = more.ok in
+    let told : Base = record { number = i + 1; tokens = c.get-goal.result.1; work = c.unwrap-work.result } in
+    let has = has_negatives c.entry.new.self told sought c.write_negatives.new.manifest more.text more.counted in
     let counted = counted_base c.loop-index.manifest.counts c.entry.new.self.counts line (ap (λ (q : Progress). q.counts) e.value) in
     record {
       file = more.file ∙ ap (λ (q : Progress). q.file) e.value ∙ c.loop-index.invariant.file;
       number = more.number;
       so_far = bases_more plan (c.one_text.ensures (texts_in plan)) list i base within is c.args.sink.now c.loop-index.sink c.args.manifest.now.counts c.loop-index.manifest.counts so_far c.entry.new.sink c.write_negatives.new.sink
           c.entry.new.self.counts c.write_negatives.new.manifest.counts has.entries first counted
-          (from_made plan c.requires.plan c.in-Some.mutation c.unwrap-work.result c.in-Some.is c.unwrap-work.ensures base sought c.new-negatives.ensures has.entries has.all)
+          (from_made plan c.requires.plan c.in-Some.mutation c.unwrap-work.result c.in-Some.is c.unwrap-work.ensures base sought c.new-search.ensures has.entries has.all)
           (subst (λ (l : List ℕ). IsWritten g.S.Sink l c.entry.new.sink c.write_negatives.new.sink) (lines_is has.entries) has.written)
           (subst (λ (l : List ℕ). IsCounted (length has.entries) l c.entry.new.self.counts c.write_negatives.new.manifest.counts) (lines_is has.entries) has.counted)
-          (few_made plan c.requires.plan c.in-Some.mutation c.unwrap-work.result c.in-Some.is c.unwrap-work.ensures base sought c.new-negatives.ensures editable has.entries has.all);
+          (few_made plan c.requires.plan c.in-Some.mutation c.unwrap-work.result c.in-Some.is c.unwrap-work.ensures base sought c.new-search.ensures editable has.entries has.all);
     }
+
+pub returns-in_default-clause-text : goal.returns-in_default-clause-text
+returns-in_default-clause-text g c = without_bases c.args.plan.now c.args.bases.now c.args.sink.now c.in_default.not-Some c.requires.few
+
+pub returns-clause-counted : goal.returns-clause-counted
+returns-clause-counted g c =
+    let plan = c.args.plan.now in
+    let bases = c.args.bases.now in
+    let has = bases_all plan bases.list c.loop-index.index c.args.sink.now c.loop-index.sink c.args.manifest.now.counts c.loop-index.manifest.counts
+    (omega (arith, c.loop-index-test.false, c.len-index-end.ensures)) c.loop-index.invariant.so_far in
+    bases_counted plan (c.one_text.ensures (texts_in plan)) bases c.args.manifest.now c.loop-index.manifest has

@@ -1,5 +1,4 @@
-use Rattle.std.proofs.Common.{◌+◌, List, ℕ, length, inl, inr, subst, sym, ap, ◌∙◌, arith}
-use Rattle.std.proofs.lemmas.Bool.{cases_lt}
+use Rattle.std.proofs.Common.{◌+◌, List, ℕ, subst, sym, ap, ◌∙◌, arith}
 use Rattle.std.proofs.lemmas.Result.{err_from_is_err_and}
 use Rattle.cs_manifest.specs.Entry.{lines_of}
 use Rattle.cs_manifest.specs.Counts.{with_lines, with_verdict}
@@ -9,6 +8,7 @@ use Rattle.cs_manifest.specs.Sinks.{IsCutShort, IsWritten}
 use Rattle.cs_manifest.specs.declared.counts.Counts.{Counts}
 use Rattle.cs_plan.specs.Made.{IsNamedGoalEntry}
 use Rattle.cs_yacc.specs.File.{File}
+use Rattle.cs_writing.proofs.Called.{is_cut, is_written}
 use Rattle.cs_writing.proofs.Batch.{at_place, counted_more, cut_within, lines_are, written_more}
 use Rattle.cs_writing.proofs.writing.write_batch.Goals as goal
 
@@ -18,8 +18,8 @@ entry-requires-in-loop-made g c =
     let named = at_place (IsNamedGoalEntry c.args.manifest.now.file) c.args.batch.now c.loop-made.made-index c.made-item.result c.loop-made-test.true c.made-item.is c.requires.named in
     c.entry.ensures.named c.loop-made.manifest.file (subst (λ (f : File). IsNamedGoalEntry f c.made-item.result) (sym file) named)
 
-pub returns-in_err-entry-clause-stopped : goal.returns-in_err-entry-clause-stopped
-returns-in_err-entry-clause-stopped g c =
+pub returns-in_err-entry-clause-lines : goal.returns-in_err-entry-clause-lines
+returns-in_err-entry-clause-lines g c =
     let e = c.in_err-entry.ensures in
     let file = c.args.manifest.now.file in
     let first = c.args.number.now + 1 in
@@ -27,14 +27,7 @@ returns-in_err-entry-clause-stopped g c =
     let lines = lines_of c.loop-made.manifest.file c.entry.result in
     let is = lines_are goal_entry_lines file c.loop-made.manifest.file first i (c.loop-made.number + 1) c.made-item.result lines c.loop-made.invariant.file
     (omega (arith, c.loop-made.invariant.number)) (c.entry.ensures.lines c.loop-made.manifest.file) in
-    let cut : IsCutShort g.S.Sink lines c.loop-made.sink c.entry-in-loop-made.new.sink = record {
-      written = e.err;
-      fault = e.fault;
-      faults = e.faults_never_fall;
-      room = elim (cases_lt (g.S.Sink.room c.loop-made.sink) (length lines)) [ inl less ↦ less | inr fits ↦ absurd (let no = e.ok_with_room fits in cc) ];
-      lent = e.same_lent;
-      passed = e.passed_never_falls;
-    } in
+    let cut = is_cut g.S.Sink lines c.loop-made.sink c.entry-in-loop-made.new.sink e.err e.fault e.faults_never_fall (λ fits. let no = e.ok_with_room fits in cc) e.same_lent e.passed_never_falls in
     let whole = cut_within (goal_entry_lines file) first c.args.batch.now i c.made-item.result c.loop-made-test.true c.made-item.is c.args.sink.now c.loop-made.sink c.entry-in-loop-made.new.sink
     c.loop-made.invariant.written (subst (λ (l : List ℕ). IsCutShort g.S.Sink l c.loop-made.sink c.entry-in-loop-made.new.sink) is cut) in
     let p = err_from_is_err_and c.from_residual.result c.from_residual.ensures.1 in
@@ -50,14 +43,7 @@ loop-made-preserved g c =
     let lines = lines_of c.loop-made.manifest.file c.entry.result in
     let is = lines_are goal_entry_lines file c.loop-made.manifest.file first i (c.loop-made.number + 1) c.made-item.result lines c.loop-made.invariant.file
     (omega (arith, c.loop-made.invariant.number)) (c.entry.ensures.lines c.loop-made.manifest.file) in
-    let written : IsWritten g.S.Sink lines c.loop-made.sink c.entry-in-loop-made.new.sink = record {
-      written = e.ok;
-      faults = e.faults_never_fall;
-      no_fault = e.no_fault;
-      room = e.room;
-      lent = e.same_lent;
-      passed = e.passed_never_falls;
-    } in
+    let written = is_written g.S.Sink lines c.loop-made.sink c.entry-in-loop-made.new.sink e.ok e.faults_never_fall e.no_fault e.room e.same_lent e.passed_never_falls in
     record {
       file = ap (λ (p : Progress). p.file) e.value ∙ c.loop-made.invariant.file;
       number = omega (arith, c.loop-made.invariant.number);

@@ -4,14 +4,14 @@ use Rattle.cs_grammar.specs.Grammar.{IsGrammar, PlainGrammar}
 use Rattle.cs_bases.specs.Bases.{no_bases}
 use Rattle.cs_manifest.specs.Manifest.{GoalEntry, most_bases}
 use Rattle.cs_manifest.specs.Sinks.{IsCutShort, IsWritten}
-use Rattle.cs_plan.specs.Batches.{AreNext}
 use Rattle.cs_plan.specs.Plans.{choice_in, texts_in}
 use Rattle.cs_yacc.specs.File.{File}
+use Rattle.cs_writing.specs.declared.halt.Halt.TheVariants.{Failed, Memory}
 use Rattle.cs_writing.specs.Mutants.{Keeps}
 use Rattle.cs_writing.specs.Written.{counts_behind, lines_from}
 use Rattle.cs_writing.proofs.Kept.{none_kept}
-use Rattle.cs_writing.proofs.Ones.{nothing_in}
-use Rattle.cs_writing.proofs.SoFar.{SoFar, failed_within, fewer_left, memory_behind, so_far_all, so_far_few, so_far_more, so_far_none}
+use Rattle.cs_writing.proofs.Parts.{goals_stop, goals_text}
+use Rattle.cs_writing.proofs.SoFar.{SoFar, failed_within, fewer_left, goals_counted, goals_kept, memory_behind, so_far_few, so_far_more, so_far_none, so_far_none_left}
 use Rattle.cs_writing.proofs.writing.write_entries.Goals as goal
 
 pub batches-init : goal.batches-init
@@ -29,21 +29,40 @@ batches-smaller g c =
     let some : 0 < length c.in_ok-batch.batch.items = (let e = c.is_empty.ensures in let t = c.if-is_empty.false in let o = c.in_ok-batch.batch.ok in grind arith) in
     fewer_left c.args.plan.now c.batches.positives c.next_entries.new.positives c.in_ok-batch.batch.items c.in_ok-batch.ensures.entries some
 
-pub returns-then-is_empty-clause-ok : goal.returns-then-is_empty-clause-ok
-returns-then-is_empty-clause-ok g c =
+pub returns-then-is_empty-clause-text : goal.returns-then-is_empty-clause-text
+returns-then-is_empty-clause-text g c =
     let plan = c.args.plan.now in
+    let one = c.one_text.ensures (texts_in plan) in
     let empty : length c.in_ok-batch.batch.items ≡ 0 = (let e = c.is_empty.ensures in let t = c.if-is_empty.true in let o = c.in_ok-batch.batch.ok in grind arith) in
-    let next = subst (λ (es : List GoalEntry). AreNext plan c.batches.positives es c.next_entries.new.positives) (nothing_in c.in_ok-batch.batch.items empty) c.in_ok-batch.ensures.entries in
-    so_far_all plan c.args.positives.now.tables (c.one_text.ensures (texts_in plan)) c.batches.positives c.next_entries.new.positives c.batches.number c.batches.bases
-    c.args.manifest.now.counts c.batches.manifest.counts c.args.sink.now c.batches.sink next c.batches.invariant.so_far
+    let has = so_far_none_left plan c.args.positives.now.tables one c.batches.positives c.next_entries.new.positives c.in_ok-batch.batch.items c.batches.number c.batches.bases
+    c.args.manifest.now.counts c.batches.manifest.counts c.args.sink.now c.batches.sink empty c.in_ok-batch.ensures.entries c.batches.invariant.so_far in
+    goals_text plan c.args.positives.now has
 
-pub returns-in_err-batch-clause-stopped : goal.returns-in_err-batch-clause-stopped
-returns-in_err-batch-clause-stopped g c =
+pub returns-then-is_empty-clause-counted : goal.returns-then-is_empty-clause-counted
+returns-then-is_empty-clause-counted g c =
+    let plan = c.args.plan.now in
+    let one = c.one_text.ensures (texts_in plan) in
+    let empty : length c.in_ok-batch.batch.items ≡ 0 = (let e = c.is_empty.ensures in let t = c.if-is_empty.true in let o = c.in_ok-batch.batch.ok in grind arith) in
+    let has = so_far_none_left plan c.args.positives.now.tables one c.batches.positives c.next_entries.new.positives c.in_ok-batch.batch.items c.batches.number c.batches.bases
+    c.args.manifest.now.counts c.batches.manifest.counts c.args.sink.now c.batches.sink empty c.in_ok-batch.ensures.entries c.batches.invariant.so_far in
+    goals_counted plan c.args.positives.now one c.args.manifest.now c.batches.manifest c.batches.bases has
+
+pub returns-then-is_empty-clause-bases : goal.returns-then-is_empty-clause-bases
+returns-then-is_empty-clause-bases g c =
+    let plan = c.args.plan.now in
+    let one = c.one_text.ensures (texts_in plan) in
+    let empty : length c.in_ok-batch.batch.items ≡ 0 = (let e = c.is_empty.ensures in let t = c.if-is_empty.true in let o = c.in_ok-batch.batch.ok in grind arith) in
+    let has = so_far_none_left plan c.args.positives.now.tables one c.batches.positives c.next_entries.new.positives c.in_ok-batch.batch.items c.batches.number c.batches.bases
+    c.args.manifest.now.counts c.batches.manifest.counts c.args.sink.now c.batches.sink empty c.in_ok-batch.ensures.entries c.batches.invariant.so_far in
+    goals_kept plan c.args.positives.now one c.args.manifest.now.counts c.batches.manifest.counts c.batches.bases has
+
+pub returns-in_err-batch-clause-text : goal.returns-in_err-batch-clause-text
+returns-in_err-batch-clause-text g c =
     let p = err_from_is_err_and c.from_residual.result c.from_residual.ensures.1 in
     let one = c.one_text.ensures (texts_in c.args.plan.now) in
     let stopped = memory_behind c.args.plan.now c.args.positives.now.tables one c.batches.positives.goals c.batches.number c.batches.bases c.args.manifest.now.counts c.batches.manifest.counts
     c.args.sink.now c.batches.sink c.batches.invariant.so_far in
-    rw (p.1, p.2) stopped
+    rw (p.1, p.2) (goals_stop c.args.plan.now c.args.positives.now c.args.sink.now c.batches.sink Memory stopped)
 
 pub keep_bases-requires : goal.keep_bases-requires
 keep_bases-requires g c =
@@ -53,13 +72,13 @@ keep_bases-requires g c =
     c.args.manifest.now.counts c.batches.manifest.counts c.args.sink.now c.batches.sink c.batches.invariant.tables grammar c.in_ok-batch.ensures.entries c.batches.invariant.so_far in
     omega (arith, few, ap length c.deref.ensures.value)
 
-pub returns-in_err-keep_bases-clause-stopped : goal.returns-in_err-keep_bases-clause-stopped
-returns-in_err-keep_bases-clause-stopped g c =
+pub returns-in_err-keep_bases-clause-text : goal.returns-in_err-keep_bases-clause-text
+returns-in_err-keep_bases-clause-text g c =
     let p = err_from_is_err_and c.from_residual-in_err-keep_bases.result c.from_residual-in_err-keep_bases.ensures.1 in
     let one = c.one_text.ensures (texts_in c.args.plan.now) in
     let stopped = memory_behind c.args.plan.now c.args.positives.now.tables one c.batches.positives.goals c.batches.number c.batches.bases c.args.manifest.now.counts c.batches.manifest.counts
     c.args.sink.now c.batches.sink c.batches.invariant.so_far in
-    rw (p.1, p.2) stopped
+    rw (p.1, p.2) (goals_stop c.args.plan.now c.args.positives.now c.args.sink.now c.batches.sink Memory stopped)
 
 pub write_batch-requires-clause-few : goal.write_batch-requires-clause-few
 write_batch-requires-clause-few g c =
@@ -69,17 +88,17 @@ write_batch-requires-clause-few g c =
     c.args.manifest.now.counts c.batches.manifest.counts c.args.sink.now c.batches.sink c.batches.invariant.tables grammar c.in_ok-batch.ensures.entries c.batches.invariant.so_far in
     omega (arith, few, ap length c.deref-in-batches.ensures.value)
 
-pub returns-in_err-write_batch-clause-stopped : goal.returns-in_err-write_batch-clause-stopped
-returns-in_err-write_batch-clause-stopped g c =
+pub returns-in_err-write_batch-clause-text : goal.returns-in_err-write_batch-clause-text
+returns-in_err-write_batch-clause-text g c =
     let p = err_from_is_err_and c.from_residual-in_err-write_batch.result c.from_residual-in_err-write_batch.ensures.1 in
     let one = c.one_text.ensures (texts_in c.args.plan.now) in
     let made = c.in_ok-batch.batch.items in
     let at_file = subst (λ (f : File). IsCutShort g.S.Sink (lines_from f (c.batches.number + 1) c.deref-in-batches.result.now) c.batches.sink c.write_batch.new.sink) c.batches.invariant.file
-    c.in_err-write_batch.ensures.stopped in
+    c.in_err-write_batch.ensures.lines in
     let cut = subst (λ (es : List GoalEntry). IsCutShort g.S.Sink (lines_from c.args.plan.now.yacc.now (c.batches.number + 1) es) c.batches.sink c.write_batch.new.sink) c.deref-in-batches.ensures.value at_file in
     let stopped = failed_within c.args.plan.now c.args.positives.now.tables one c.batches.positives c.next_entries.new.positives made c.batches.number c.batches.bases
     c.args.manifest.now.counts c.batches.manifest.counts c.args.sink.now c.batches.sink c.write_batch.new.sink c.batches.invariant.tables c.in_ok-batch.ensures.entries c.batches.invariant.so_far cut in
-    rw (p.1, p.2) stopped
+    rw (p.1, p.2) (goals_stop c.args.plan.now c.args.positives.now c.args.sink.now c.write_batch.new.sink Failed stopped)
 
 pub batches-preserved : goal.batches-preserved
 batches-preserved g c =
@@ -87,7 +106,7 @@ batches-preserved g c =
     let one = c.one_text.ensures (texts_in c.args.plan.now) in
     let made = c.in_ok-batch.batch.items in
     let plan = c.args.plan.now in
-    let at_file = subst (λ (f : File). IsWritten g.S.Sink (lines_from f (c.batches.number + 1) c.deref-in-batches.result.now) c.batches.sink c.write_batch.new.sink) c.batches.invariant.file e.ok in
+    let at_file = subst (λ (f : File). IsWritten g.S.Sink (lines_from f (c.batches.number + 1) c.deref-in-batches.result.now) c.batches.sink c.write_batch.new.sink) c.batches.invariant.file e.lines in
     let lines = subst (λ (es : List GoalEntry). IsWritten g.S.Sink (lines_from plan.yacc.now (c.batches.number + 1) es) c.batches.sink c.write_batch.new.sink) c.deref-in-batches.ensures.value at_file in
     let counted = e.counted ∙ ap (λ (f : File). counts_behind f (c.batches.number + 1) c.deref-in-batches.result.now c.batches.manifest.counts) c.batches.invariant.file
     ∙ ap (λ (es : List GoalEntry). counts_behind plan.yacc.now (c.batches.number + 1) es c.batches.manifest.counts) c.deref-in-batches.ensures.value in

@@ -9,7 +9,7 @@ pub returns-in_err-counts-clause-part : goal.returns-in_err-counts-clause-part
 returns-in_err-counts-clause-part g c =
     let p = err_from_is_err_and c.from_residual.result c.from_residual.ensures.1 in
     rw p.1 (λ text is.
-    let s = c.in_err-counts.ensures.stopped text is in
+    let s = c.in_err-counts.ensures.text text is in
     part_lent g.O.Sink.written c.args.sink.now c.write_manifest.new.sink text c.requires.waiting s.written s.passed)
 
 pub returns-in_err-counts-clause-failed : goal.returns-in_err-counts-clause-failed
@@ -19,7 +19,7 @@ returns-in_err-counts-clause-failed g c = λ stopped.
     let of = c.args.positives.tables in
     let some = c.some_manifest.ensures of.weights (choice_in plan) plan.yacc.now in
     rose_by_each (IsPlanned of.weights plan) some (g.O.Sink.faults c.args.sink.now.sink.now) (g.O.Sink.faults c.write_manifest.new.sink.sink.now)
-    (λ text is. let s = c.in_err-counts.ensures.stopped text is in s.failed (let q = p.1 in let r = p.2 in cc))
+    (λ text is. let s = c.in_err-counts.ensures.text text is in s.failed (let q = p.1 in let r = p.2 in cc))
 
 pub returns-in_err-counts-clause-room : goal.returns-in_err-counts-clause-room
 returns-in_err-counts-clause-room g c = λ room.
@@ -28,7 +28,7 @@ returns-in_err-counts-clause-room g c = λ room.
     let some = c.some_manifest.ensures of.weights (choice_in plan) plan.yacc.now in
     same_by_each (IsPlanned of.weights plan) some (g.O.Sink.faults c.write_manifest.new.sink.sink.now) (g.O.Sink.faults c.args.sink.now.sink.now)
     (λ text is.
-    let s = c.in_err-counts.ensures.stopped text is in
+    let s = c.in_err-counts.ensures.text text is in
     let fits = room text is in
     s.no_fault (omega (arith, fits, c.requires.spare)))
 
@@ -38,7 +38,7 @@ returns-in_err-flush-clause-part g c =
     let plan = c.args.plan.now in
     let of = c.args.positives.tables in
     let one = c.one_manifest.ensures of.weights (choice_in plan) plan.yacc.now in
-    let t = c.in_ok-counts.ensures.ok in
+    let t = c.in_ok-counts.ensures.text in
     let f = c.in_err-flush.ensures in
     let part = whole_lent g.O.Sink.written c.args.sink.now c.flush.new.self t.text c.requires.waiting (f.written ∙ t.written.written) (omega (arith, f.passed, t.written.passed)) in
     rw p.1 (λ text is. subst (λ (l : List ℕ). GrewByPrefix (g.O.Sink.written c.args.sink.now.sink.now) (g.O.Sink.written c.flush.new.self.sink.now) l)
