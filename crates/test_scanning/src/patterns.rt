@@ -254,7 +254,12 @@ fn definitions_are_checked_in_order(rt: HostRuntime) -> Result<(), Fail> {
         ),
         (
             // M is between the cycle of Q and R and that of P, and on none itself.
-            &[(b"M", b"a{P}"), (b"P", b"{P}"), (b"Q", b"{R}"), (b"R", b"{Q}{M}")],
+            &[
+                (b"M", b"a{P}"),
+                (b"P", b"{P}"),
+                (b"Q", b"{R}"),
+                (b"R", b"{Q}{M}"),
+            ],
             "Fault { index: 1, fault: DefinitionCycle { at: 0 } }",
         ),
         (
