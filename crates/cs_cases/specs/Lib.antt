@@ -1,0 +1,5 @@
+pub mod Cases
+pub mod Laws
+pub mod Met
+pub mod Firsts
+pub mod Table
