@@ -56,11 +56,19 @@ impl<'g> Cases<'g> {
         }
     }
 
+    /// The grammar that these are cases of.
+    pub fn grammar(&self) -> &'g Grammar
+        ensures { result.now ≡ self.now.grammar }
+    {
+        self.grammar
+    }
+
     /// Places the derivation of a goal that its tree meets. A derivation that no case has is a new case and stands last. After
     /// a refusal, which is want of memory, the cases are as before.
     pub fn place(&mut self, goal: &Goal, derivation: &Derivation) -> Result<Named, AllocError>
         requires { IsMeeting self.old.grammar goal.now derivation.now }
         ensures placed { IfOk result (IsPlaced self.old goal.now derivation.now self.new) }
+        ensures grammar { self.new.grammar ≡ self.old.grammar }
         ensures refused { OnErr result (self.new ≡ self.old) }
     {
         let (case, fresh) = self.own(derivation)?;

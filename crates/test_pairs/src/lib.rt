@@ -1,6 +1,8 @@
-//! Tests of neighbours and verdicts by their public calls alone. Nothing stands on this crate.
+//! Tests of neighbours, verdicts and cases by their public calls alone. Nothing stands on this crate.
 #![tactic(auto)]
 
+#[cfg(test)]
+mod cases;
 #[cfg(test)]
 mod closed;
 #[cfg(test)]
