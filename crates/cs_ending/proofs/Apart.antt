@@ -14,8 +14,9 @@ use Rattle.cs_input.specs.declared.refusal.Role.{Role}
 use Rattle.cs_input.specs.declared.refusal.Role.TheVariants.{Yacc, Lex}
 use Rattle.cs_input.specs.Files.{FileIs, FilesAre}
 use Rattle.cs_input.specs.Refusal.{HasManyStates, RefusesGrammar, RefusesPair}
-use Rattle.cs_ending.specs.Requests.{Request, ForRules, ForSuite}
-use Rattle.cs_ending.specs.Files.{AreAccepted, AreRefused, AreRefusedSo, HasNoFileFor, IsAcceptedGrammar, IsAcceptedPair, IsAskedText, IsRulesText, IsSuiteText, IsTextFor}
+use Rattle.cs_ending.specs.Requests.{Request, ForGen, ForRules, ForSuite}
+use Rattle.cs_ending.specs.Files.{AreAccepted, AreRefused, AreRefusedSo, HasNoFileFor, IsAcceptedGrammar, IsAcceptedPair, IsRulesText, IsSuiteText}
+use Rattle.cs_ending.specs.Texts.{IsAskedText, IsTextFor}
 
 -- ---- bytes
 
@@ -26,7 +27,7 @@ grammar_apart bytes (OfYacc error) a r = yacc.refused_is_not_accepted bytes a.0 
 grammar_apart bytes (OfLex error) a r = r
 grammar_apart bytes States a r = r
 
-pair_apart : (bytes more : List ℕ) (refusal : Refusal) → IsAcceptedPair bytes more → RefusesPair refusal bytes more → ⊥
+pub pair_apart : (bytes more : List ℕ) (refusal : Refusal) → IsAcceptedPair bytes more → RefusesPair refusal bytes more → ⊥
 pair_apart bytes more (TooLong Yacc) a r = omega (arith, a.2.0, r)
 pair_apart bytes more (TooLong Lex) a r = omega (arith, a.2.1, r.1)
 pair_apart bytes more (OfYacc error) a r = yacc.refused_is_not_accepted bytes a.0 error r.2 a.2.2
@@ -66,24 +67,29 @@ apart None request refusal some accepted refused = absurd cc
 apart (Some files) (ForRules name) refusal some accepted refused = found_both (file_named files name) accepted refused (λ bytes a r. grammar_apart bytes refusal a r)
 apart (Some files) (ForSuite name other options) refusal some accepted refused =
     found_both (file_named files name) accepted refused (λ bytes a r. found_both (file_named files other) a r (λ more b s. pair_apart bytes more refusal b s))
+apart (Some files) (ForGen seed) refusal some accepted refused = refused
 
 -- all files that are asked for are there
 abbrev pub AreThere : Option Files → Request → Type 0
 AreThere files (ForRules name) = FileIs files name (λ bytes. Unit {0})
 AreThere files (ForSuite name other options) = FilesAre files name other (λ bytes more. Unit {0})
+AreThere files (ForGen seed) = Unit {0}
 
 accepted_there : (files : Option Files) (request : Request) → AreAccepted files request → AreThere files request
 accepted_there files (ForRules name) is = file_more files name is (λ bytes a. tt)
 accepted_there files (ForSuite name other options) is = files_more files name other is (λ bytes more a. tt)
+accepted_there files (ForGen seed) is = tt
 
 refused_there : (files : Option Files) (request : Request) (refusal : Refusal) → AreRefusedSo files request refusal → AreThere files request
 refused_there files (ForRules name) refusal is = file_more files name is (λ bytes a. tt)
 refused_there files (ForSuite name other options) refusal is = files_more files name other is (λ bytes more a. tt)
+refused_there files (ForGen seed) refusal is = absurd is
 
 no_file : (files : Option Files) (request : Request) (faults : Change ℕ) (role : Role) → IsSome files → AreThere files request → HasNoFileFor files request faults role → HasFailed faults
 no_file None request faults role some there none = absurd cc
 no_file (Some files) (ForRules name) faults role some there (inl failed) = failed
 no_file (Some files) (ForRules name) faults role some there (inr missing) = absurd (found_there (λ bytes. Unit {0}) (file_named files name) there missing)
+no_file (Some files) (ForGen seed) faults role some there none = absurd none
 no_file (Some files) (ForSuite name other options) faults Yacc some there (inl failed) = failed
 no_file (Some files) (ForSuite name other options) faults Yacc some there (inr missing) = absurd (found_there (λ bytes. IsSomeAnd (file_named files other) (λ more. Unit {0})) (file_named files name) there missing)
 no_file (Some files) (ForSuite name other options) faults Lex some there none = second none.1
@@ -96,6 +102,7 @@ text_accepted : (files : Option Files) (request : Request) (text : List ℕ) →
 unfolding IsRulesText IsSuiteText
 text_accepted files (ForRules name) text is = file_more files name is (λ bytes t. (t.0, t.1))
 text_accepted files (ForSuite name other options) text is = files_more files name other is (λ bytes more t. (t.0, t.1, t.2, t.3))
+text_accepted files (ForGen seed) text is = tt
 
 -- ---- the same of words that ask for something
 

@@ -9,7 +9,8 @@ use Rattle.cs_input.specs.Refusal.{IsTold}
 use Rattle.cs_ending.specs.declared.ending.Ending.{Ending}
 use Rattle.cs_ending.specs.declared.ending.Ending.TheVariants.{Written, Refused, BadWord, NoFile, NotWritten, NoMemory}
 use Rattle.cs_ending.specs.Requests.{Request}
-use Rattle.cs_ending.specs.Files.{AreAccepted, AreRefusedSo, HasNoFileFor, HasRoomFor, IsAskedText}
+use Rattle.cs_ending.specs.Files.{AreAccepted, AreRefusedSo, HasNoFileFor}
+use Rattle.cs_ending.specs.Texts.{HasRoomFor, IsAskedText}
 
 -- ---- causes
 

@@ -1,5 +1,5 @@
--- Which files are accepted and refused, and which text is asked for. Where the desk tells no files, any files count.
-use Rattle.std.specs.Prelude.{◌≤◌, ℕ, length, List, Option, Some, Result, IsOkAnd}
+-- Which files are accepted and refused, and the manifests of accepted ones. Where the desk tells no files, any files count.
+use Rattle.std.specs.Prelude.{ℕ, List, Option, Some}
 use Rattle.cs_grammar.specs.Weights.{nodes}
 use Rattle.cs_io.specs.Desk.{Files}
 use Rattle.cs_io.specs.Uses.{Change}
@@ -14,7 +14,7 @@ use Rattle.cs_input.specs.Refusal.{HasManyStates, RefusesGrammar, RefusesPair}
 use Rattle.cs_manifest.specs.declared.format.Format.TheVariants.{One}
 use Rattle.cs_manifest.specs.declared.format.Weigh.TheVariants.{Nodes}
 use Rattle.cs_manifest.specs.Manifest.{Choice, IsManifest, rules_form}
-use Rattle.cs_ending.specs.Requests.{Request, ForRules, ForSuite}
+use Rattle.cs_ending.specs.Requests.{Request, ForGen, ForRules, ForSuite}
 
 -- ---- accepted and refused
 
@@ -26,15 +26,17 @@ IsAcceptedGrammar bytes = (file : yacc.File) × IsGrammarOf file bytes
 abbrev pub IsAcceptedPair : List ℕ → List ℕ → Type 0
 IsAcceptedPair bytes more = (file : yacc.File) × (scanner : lex.File) × IsPairOf file scanner bytes more × ¬ HasManyStates scanner
 
--- the files that are asked for are accepted
+-- the files that are asked for are accepted; `gen` asks for none
 abbrev pub AreAccepted : Option Files → Request → Type 0
 AreAccepted files (ForRules name) = FileIs files name IsAcceptedGrammar
 AreAccepted files (ForSuite name other options) = FilesAre files name other IsAcceptedPair
+AreAccepted files (ForGen seed) = Unit {0}
 
 -- they are refused so
 abbrev pub AreRefusedSo : Option Files → Request → Refusal → Type 0
 AreRefusedSo files (ForRules name) refusal = FileIs files name (RefusesGrammar refusal)
 AreRefusedSo files (ForSuite name other options) refusal = FilesAre files name other (RefusesPair refusal)
+AreRefusedSo files (ForGen seed) refusal = ⊥
 
 abbrev pub AreRefused : Option Files → Request → Type 0
 AreRefused files request = (refusal : Refusal) × AreRefusedSo files request refusal
@@ -43,8 +45,9 @@ AreRefused files request = (refusal : Refusal) × AreRefusedSo files request ref
 abbrev pub HasNoFileFor : Option Files → Request → Change ℕ → Role → Type 0
 HasNoFileFor files (ForRules name) faults role = HasNoFile Yacc files name name faults
 HasNoFileFor files (ForSuite name other options) faults role = HasNoFile role files name other faults
+HasNoFileFor files (ForGen seed) faults role = ⊥
 
--- ---- texts
+-- ---- manifests
 
 -- what the options choose, by the scanner
 abbrev pub choice_of : lex.File → Options → Choice
@@ -73,15 +76,3 @@ unfoldable pub IsSuiteText : Options → List ℕ → List ℕ → List ℕ → 
 IsSuiteText options text bytes more =
     (file : yacc.File) × (scanner : lex.File) × IsPairOf file scanner bytes more × (¬ HasManyStates scanner)
     × IsTextBy (choice_of scanner options) file text
-
--- the text is what is asked for
-abbrev pub IsTextFor : Option Files → Request → List ℕ → Type 0
-IsTextFor files (ForRules name) text = FileIs files name (IsRulesText text)
-IsTextFor files (ForSuite name other options) text = FilesAre files name other (IsSuiteText options text)
-
-abbrev pub IsAskedText : Result Request ℕ → Option Files → List ℕ → Type 0
-IsAskedText asked files text = IsOkAnd asked (λ request. IsTextFor files request text)
-
--- each text that may be asked for fits
-abbrev pub HasRoomFor : ℕ → Result Request ℕ → Option Files → Type 0
-HasRoomFor room asked files = (text : List ℕ) → IsAskedText asked files text → length text ≤ room

@@ -7,10 +7,12 @@ use Rattle.cs_input.specs.declared.refusal.Role.{Role}
 use Rattle.cs_ending.specs.declared.ending.Ending.{Ending}
 use Rattle.cs_ending.specs.Requests.{Request}
 use Rattle.cs_ending.specs.Ending.{Ends, Performs, Says, WroteText, WrotePart, line_of, status_of}
-use Rattle.cs_ending.specs.Files.{AreAccepted, AreRefused, HasNoFileFor, HasRoomFor}
+use Rattle.cs_ending.specs.Files.{AreAccepted, AreRefused, HasNoFileFor}
+use Rattle.cs_ending.specs.Texts.{HasRoomFor}
 
 pub record KeepsPromises (asked : Result Request ℕ) (desk : DeskUse) (out err : SinkUse) (status : ℕ) : Type 0 where
-  -- The headline: on status 0 the output grew by the manifest that the words ask for, and by nothing else.
+  -- The headline: on status 0 the output grew by the manifest that the words ask for, or for `gen` by the summary of the
+  -- number, and by nothing else. `gen` asks for no files: none of it is refused, and none can't be read.
   pub whole : status ≡ 0 → WroteText asked desk out
   pub silent : status ≡ 0 → err.written.after ≡ err.written.before
   -- The status is that of an ending that has its cause, and the error output grew by that ending's line.

@@ -1,4 +1,6 @@
 pub mod Requests
 pub mod Files
+pub mod Summary
+pub mod Texts
 pub mod Ending
 pub mod Headline

@@ -3,8 +3,9 @@
 //! The layer above does what the words ask for, comes to an [`Ending`] whose cause it knows, and gives it to [`finish`], which
 //! says it on the error output and answers the status. What a run promises then is one page, `specs/Headline`.
 //!
-//! Meaning, from the top down: `specs/Headline` (the promises), `Ending` (causes, statuses, lines), `Files` (which files are
-//! accepted and refused, which text is asked for), `Requests` (what words ask for).
+//! Meaning, from the top down: `specs/Headline` (the promises), `Ending` (causes, statuses, lines), `Texts` (which text is
+//! asked for), `Summary` (the summary of a number), `Files` (which files are accepted and refused, and their manifests),
+//! `Requests` (what words ask for).
 #![tactic(auto)]
 
 mod ending;

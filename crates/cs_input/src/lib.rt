@@ -12,7 +12,7 @@ mod lines;
 mod reading;
 mod refusal;
 
-pub use judging::Pair;
+pub use judging::{Pair, judge_pair};
 pub use lines::line;
 pub use reading::{read_grammar, read_pair};
 pub use refusal::{Refusal, Role, Stop};

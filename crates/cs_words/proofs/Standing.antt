@@ -1,5 +1,5 @@
 -- Words that stand where they stand, and the first that doesn't.
-use Rattle.std.proofs.Common.{◌≡◌, ◌≢◌, ◌+◌, ◌-◌, ◌<◌, ℕ, zero, suc, true, List, [], ◌∷◌, ◌++◌, length, refl, sym, ap, ◌∙◌, subst, ⊎_elim, inl, inr, arith, append_assoc, append-nil}
+use Rattle.std.proofs.Common.{◌≡◌, ◌≢◌, ◌+◌, ◌-◌, ◌<◌, ℕ, zero, suc, true, false, List, [], ◌∷◌, ◌++◌, length, refl, sym, ap, ◌∙◌, subst, ⊎_elim, inl, inr, arith, append_assoc, append-nil}
 use Rattle.std.specs.Prelude.{IsTrue, String, codes, string_bytes, drop, get_or}
 use Rattle.std.specs.declared.alloc.Global.{Global}
 use Rattle.std.specs.Prelude.{bytes_eq, take}
@@ -7,8 +7,9 @@ use Rattle.std.proofs.Common.{add-one}
 use Rattle.std.proofs.lemmas.List.{length-take-le, take_rest}
 use Rattle.std.proofs.lemmas.Slice.Eq.{bytes_eq-Decides}
 use Rattle.cs_words.specs.Options.{IsNewOption}
-use Rattle.cs_words.specs.Steps.{AreNew, LacksName, Stops, StopsAt}
-use Rattle.cs_words.specs.Words.{CannotGoOn, IsAccepted, IsFirstBad, StandBehind, is_name, texts}
+use Rattle.cs_words.specs.Steps.{AreNew, BeginsWithSeed, LacksName, LacksSeed, Stops, StopsAt}
+use Rattle.cs_words.specs.Values.{IsSeed, SpellsSeed}
+use Rattle.cs_words.specs.Words.{CannotGoOn, IsAccepted, IsFirstBad, MayBeArgument, StandBehind, is_name, texts}
 
 -- ---- options alone
 
@@ -22,7 +23,7 @@ behind_names : (yacc lex : List ℕ) (before words : List (List ℕ)) → AreNew
 behind_names yacc lex before [] stand = tt
 behind_names yacc lex before (word ∷ words) stand = ((refl, stand.0), behind_names yacc lex (before ++ word ∷ []) words stand.1)
 
--- ---- `rules`
+-- ---- one command is not another
 
 letters : (a b : ℕ) (xs ys : List ℕ) → a ∷ xs ≡ b ∷ ys → a ≢ b → ⊥
 letters a b xs ys same apart = let e : a ≡ b = cc in apart e
@@ -30,9 +31,25 @@ letters a b xs ys same apart = let e : a ≡ b = cc in apart e
 rules_not_suite : codes "rules" ≡ codes "suite" → ⊥
 rules_not_suite same = letters 114 115 _ _ same (λ e. omega (arith, e))
 
+pub rules_not_gen : codes "rules" ≡ codes "gen" → ⊥
+rules_not_gen same = letters 114 103 _ _ same (λ e. omega (arith, e))
+
+pub suite_not_gen : codes "suite" ≡ codes "gen" → ⊥
+suite_not_gen same = letters 115 103 _ _ same (λ e. omega (arith, e))
+
+gen_not_suite : codes "gen" ≡ codes "suite" → ⊥
+gen_not_suite same = suite_not_gen (sym same)
+
+-- what another command takes is a name
+no_name : (command word : List ℕ) → command ≢ codes "gen" → is_name word ≡ false → MayBeArgument command word → ⊥
+no_name command word apart lacks (inl seed) = apart seed.0
+no_name command word apart lacks (inr name) = let is : is_name word ≡ true = name.1 in cc
+
+-- ---- `rules`
+
 pub rules_accepted : (words : List (List ℕ)) (yacc : List ℕ) (rest : List (List ℕ)) → words ≡ yacc ∷ rest → IsTrue (is_name yacc) → rest ≡ [] → IsAccepted (codes "rules" ∷ words)
 rules_accepted words yacc rest split is none = subst (λ ws. IsAccepted (codes "rules" ∷ ws)) (sym (split ∙ ap (λ r. yacc ∷ r) none)) (record {
-  stand = (inl refl, (is, tt));
+  stand = (inl refl, (inr (rules_not_gen, is), tt));
   complete = omega arith;
 })
 
@@ -48,7 +65,7 @@ rules_no_name words none = record {
   where
     bad : (words : List (List ℕ)) → LacksName words → CannotGoOn (codes "rules" ∷ []) words
     bad [] none = λ complete. omega (arith, complete)
-    bad (word ∷ words) none = λ may. (let is : is_name word ≡ true = may in cc)
+    bad (word ∷ words) none = no_name (codes "rules") word rules_not_gen none
 
 pub rules_more : (words : List (List ℕ)) (yacc : List ℕ) (rest : List (List ℕ)) → words ≡ yacc ∷ rest → IsTrue (is_name yacc) → 0 < length rest → IsFirstBad (codes "rules" ∷ words) 2
 rules_more words yacc rest split is more = subst (λ ws. IsFirstBad (codes "rules" ∷ ws) 2) (sym split) (record {
@@ -56,7 +73,7 @@ rules_more words yacc rest split is more = subst (λ ws. IsFirstBad (codes "rule
   after = rest;
   split = refl;
   place = refl;
-  stand = (inl refl, (is, tt));
+  stand = (inl refl, (inr (rules_not_gen, is), tt));
   bad = bad rest more;
 })
   where
@@ -72,13 +89,13 @@ suite_no_name words none = record {
   after = words;
   split = refl;
   place = refl;
-  stand = (inr refl, tt);
+  stand = (inr (inl refl), tt);
   bad = bad words none;
 }
   where
     bad : (words : List (List ℕ)) → LacksName words → CannotGoOn (codes "suite" ∷ []) words
     bad [] none = λ complete. omega (arith, complete)
-    bad (word ∷ words) none = λ may. (let is : is_name word ≡ true = may in cc)
+    bad (word ∷ words) none = no_name (codes "suite") word suite_not_gen none
 
 module _ (words : List (List ℕ)) (yacc : List ℕ) (rest : List (List ℕ)) (split : words ≡ yacc ∷ rest) (is : IsTrue (is_name yacc)) where
   pub lex_no_name : LacksName rest → IsFirstBad (codes "suite" ∷ words) 2
@@ -87,20 +104,20 @@ module _ (words : List (List ℕ)) (yacc : List ℕ) (rest : List (List ℕ)) (s
     after = rest;
     split = refl;
     place = refl;
-    stand = (inr refl, (is, tt));
+    stand = (inr (inl refl), (inr (suite_not_gen, is), tt));
     bad = bad rest none;
   })
     where
       bad : (rest : List (List ℕ)) → LacksName rest → CannotGoOn (codes "suite" ∷ yacc ∷ []) rest
       bad [] none = λ complete. omega (arith, complete)
-      bad (word ∷ rest) none = λ may. (let is : is_name word ≡ true = may in cc)
+      bad (word ∷ rest) none = no_name (codes "suite") word suite_not_gen none
 
   module _ (lex : List ℕ) (options : List (List ℕ)) (split_rest : rest ≡ lex ∷ options) (is_lex : IsTrue (is_name lex)) where
     pub whole : words ≡ yacc ∷ lex ∷ options
     whole = split ∙ ap (λ r. yacc ∷ r) split_rest
 
     names_stand : (before : List (List ℕ)) → AreNew [] before → StandBehind [] (codes "suite" ∷ yacc ∷ lex ∷ before)
-    names_stand before stand = (inr refl, (is, (is_lex, behind_names yacc lex [] before stand)))
+    names_stand before stand = (inr (inl refl), (inr (suite_not_gen, is), (inr (suite_not_gen, is_lex), behind_names yacc lex [] before stand)))
 
     pub suite_accepted : AreNew [] options → IsAccepted (codes "suite" ∷ words)
     suite_accepted stand = subst (λ ws. IsAccepted (codes "suite" ∷ ws)) (sym whole) (record {
@@ -121,6 +138,46 @@ module _ (words : List (List ℕ)) (yacc : List ℕ) (rest : List (List ℕ)) (s
         goes_on : (before after : List (List ℕ)) → Stops before after → CannotGoOn (codes "suite" ∷ yacc ∷ lex ∷ before) after
         goes_on before [] none = absurd none
         goes_on before (word ∷ after) none = λ may. none may.1
+
+-- ---- `gen`
+
+pub gen_accepted : (words : List (List ℕ)) (seed : ℕ) (rest : List (List ℕ)) → BeginsWithSeed words seed rest → rest ≡ [] → IsAccepted (codes "gen" ∷ words)
+gen_accepted words seed rest begins none = subst (λ ws. IsAccepted (codes "gen" ∷ ws)) (sym (begins.1 ∙ ap (λ r. begins.0 ∷ r) none)) (record {
+  stand = (inr (inr refl), (inl (refl, (seed, begins.2)), tt));
+  complete = omega arith;
+})
+
+pub gen_no_seed : (words : List (List ℕ)) → LacksSeed words → IsFirstBad (codes "gen" ∷ words) 1
+gen_no_seed words none = record {
+  before = codes "gen" ∷ [];
+  after = words;
+  split = refl;
+  place = refl;
+  stand = (inr (inr refl), tt);
+  bad = bad words none;
+}
+  where
+    no_seed : (word : List ℕ) → ¬ SpellsSeed word → MayBeArgument (codes "gen") word → ⊥
+    no_seed word lacks (inl seed) = lacks seed.1
+    no_seed word lacks (inr name) = name.0 refl
+
+    bad : (words : List (List ℕ)) → LacksSeed words → CannotGoOn (codes "gen" ∷ []) words
+    bad [] none = λ complete. omega (arith, complete)
+    bad (word ∷ words) none = no_seed word none
+
+pub gen_more : (words : List (List ℕ)) (seed : ℕ) (rest : List (List ℕ)) → BeginsWithSeed words seed rest → 0 < length rest → IsFirstBad (codes "gen" ∷ words) 2
+gen_more words seed rest begins more = subst (λ ws. IsFirstBad (codes "gen" ∷ ws) 2) (sym begins.1) (record {
+  before = codes "gen" ∷ begins.0 ∷ [];
+  after = rest;
+  split = refl;
+  place = refl;
+  stand = (inr (inr refl), (inl (refl, (seed, begins.2)), tt));
+  bad = bad rest more;
+})
+  where
+    bad : (rest : List (List ℕ)) → 0 < length rest → CannotGoOn (codes "gen" ∷ begins.0 ∷ []) rest
+    bad [] some = absurd (omega arith)
+    bad (word ∷ rest) some = λ may. gen_not_suite may.0
 
 -- ---- all words
 
@@ -174,12 +231,12 @@ module _ (words : List (String Global)) (place : ℕ) (word : String Global) (wi
 pub no_words : IsFirstBad [] 0
 no_words = record { before = []; after = []; split = refl; place = refl; stand = tt; bad = λ complete. complete }
 
-pub no_command : (command : List ℕ) (rest : List (List ℕ)) → command ≢ codes "rules" → command ≢ codes "suite" → IsFirstBad (command ∷ rest) 0
-no_command command rest rules suite = record {
+pub no_command : (command : List ℕ) (rest : List (List ℕ)) → command ≢ codes "rules" → command ≢ codes "suite" → command ≢ codes "gen" → IsFirstBad (command ∷ rest) 0
+no_command command rest rules suite gen = record {
   before = [];
   after = command ∷ rest;
   split = refl;
   place = refl;
   stand = tt;
-  bad = λ may. ⊎_elim rules suite may;
+  bad = λ may. ⊎_elim rules (λ other. ⊎_elim suite gen other) may;
 }

@@ -58,12 +58,18 @@ abbrev pub GiveOr : {A : Type 0} → A → List ℕ → (A → Setting) → List
 GiveOr {A} default mark setting words value =
     (given : Option A) × Give mark setting words given × (value ≡ unwrap_or given default)
 
--- Words stand for these options; those that they don't give have their defaults: all criteria, all operators, 16 bases
--- and one space.
+-- the defaults: all criteria, all operators, 16 bases, and one space
+abbrev pub default_options : Options
+default_options = record {
+  criteria = record { rule = true; cdrc = true; pair = true };
+  operators = record { delete = true; insert = true; replace = true; swap = true };
+  bases = 16;
+  separator = 32 ∷ [];
+}
+
+-- Words stand for these options; those that they don't give have their defaults.
 pub record AreOptions (words : List (List ℕ)) (options : Options) : Type 0 where
-  pub criteria : GiveOr (record { rule = true; cdrc = true; pair = true }) (codes "--criteria=") Cover words options.criteria
-  pub operators :
-      GiveOr (record { delete = true; insert = true; replace = true; swap = true }) (codes "--mutate=") Mutate words
-      options.operators
-  pub bases : GiveOr 16 (codes "--bases=") Bases words options.bases
-  pub separator : GiveOr (32 ∷ []) (codes "--separator=") Separate words options.separator
+  pub criteria : GiveOr default_options.criteria (codes "--criteria=") Cover words options.criteria
+  pub operators : GiveOr default_options.operators (codes "--mutate=") Mutate words options.operators
+  pub bases : GiveOr default_options.bases (codes "--bases=") Bases words options.bases
+  pub separator : GiveOr default_options.separator (codes "--separator=") Separate words options.separator

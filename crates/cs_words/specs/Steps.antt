@@ -4,8 +4,8 @@ use Rattle.cs_words.specs.declared.options.Options.{Options}
 use Rattle.cs_words.specs.declared.given.Given.{Given}
 use Rattle.cs_words.specs.declared.setting.Setting.{Setting}
 use Rattle.cs_words.specs.declared.setting.Setting.TheVariants.{Cover, Mutate, Bases, Separate}
-use Rattle.cs_words.specs.Options.{IsNewOption}
-use Rattle.cs_words.specs.Values.{SpellsByte}
+use Rattle.cs_words.specs.Options.{IsNewOption, default_options}
+use Rattle.cs_words.specs.Values.{IsSeed, SpellsByte, SpellsSeed}
 use Rattle.cs_words.specs.Words.{is_name}
 
 -- ---- lists of names
@@ -40,10 +40,10 @@ IsNothing given = given ≡ record { criteria = None; operators = None; bases = 
 
 -- the options are what is said, and defaults for the rest
 pub record AreDefaulted (given : Given) (options : Options) : Type 0 where
-  pub criteria : options.criteria ≡ unwrap_or given.criteria (record { rule = true; cdrc = true; pair = true })
-  pub operators : options.operators ≡ unwrap_or given.operators (record { delete = true; insert = true; replace = true; swap = true })
-  pub bases : options.bases ≡ unwrap_or given.bases 16
-  pub separator : options.separator ≡ unwrap_or given.separator (32 ∷ [])
+  pub criteria : options.criteria ≡ unwrap_or given.criteria default_options.criteria
+  pub operators : options.operators ≡ unwrap_or given.operators default_options.operators
+  pub bases : options.bases ≡ unwrap_or given.bases default_options.bases
+  pub separator : options.separator ≡ unwrap_or given.separator default_options.separator
 
 -- ---- options that stand behind the names of `suite`
 
@@ -70,6 +70,15 @@ pub record StopsAt (words : List (List ℕ)) (at : ℕ) : Type 0 where
 abbrev pub LacksName : List (List ℕ) → Type 0
 LacksName [] = Unit {0}
 LacksName (word ∷ words) = is_name word ≡ false
+
+-- a seed stands in front, and these words behind it
+abbrev pub BeginsWithSeed : List (List ℕ) → ℕ → List (List ℕ) → Type 0
+BeginsWithSeed words seed rest = (word : List ℕ) × (words ≡ word ∷ rest) × IsSeed word seed
+
+-- no seed stands in front
+abbrev pub LacksSeed : List (List ℕ) → Type 0
+LacksSeed [] = Unit {0}
+LacksSeed (word ∷ words) = ¬ SpellsSeed word
 
 -- ---- separators
 

@@ -1,19 +1,28 @@
--- The values of the other options: the number of bases, and the separator.
-use Rattle.std.specs.Prelude.{◌≡◌, ◌≢◌, ◌⊎◌, ◌+◌, ◌*◌, ◌≤◌, ℕ, List, [], ◌∷◌, ◌++◌, length, IsTrue}
+-- The values of the other options, the number of bases and the separator; and the seed of `gen`.
+use Rattle.std.specs.Prelude.{◌≡◌, ◌≢◌, ◌⊎◌, ◌+◌, ◌*◌, ◌^◌, ◌≤◌, ◌<◌, ℕ, List, [], ◌∷◌, ◌++◌, length, IsTrue}
 use Rattle.std.specs.List.{list_all}
 use Rattle.cs_bytes.specs.Classes.{is_digit, is_hexadecimal_digit}
 use Rattle.cs_bytes.specs.Digits.{digit_of, number_of}
 use Rattle.cs_bytes.specs.Names.{backslash, letter_x}
 
--- one to four decimal digits
-abbrev pub IsShortNumber : List ℕ → Type 0
-IsShortNumber value = (1 ≤ length value) × (length value ≤ 4) × IsTrue (list_all is_digit value)
+-- decimal digits, at least one and at most so many
+abbrev pub AreDigits : ℕ → List ℕ → Type 0
+AreDigits most value = (1 ≤ length value) × (length value ≤ most) × IsTrue (list_all is_digit value)
 
 -- one to four decimal digits that spell a number of at most 1,000
 pub record IsBases (value : List ℕ) (bases : ℕ) : Type 0 where
-  pub digits : IsShortNumber value
+  pub digits : AreDigits 4 value
   pub number : bases ≡ number_of 10 value
   pub most : bases ≤ 1000
+
+-- one to twenty decimal digits that spell a number below 2^64
+pub record IsSeed (value : List ℕ) (seed : ℕ) : Type 0 where
+  pub digits : AreDigits 20 value
+  pub number : seed ≡ number_of 10 value
+  pub below : seed < 2 ^ 64
+
+abbrev pub SpellsSeed : List ℕ → Type 0
+SpellsSeed value = (seed : ℕ) × IsSeed value seed
 
 -- `\x` and two hexadecimal digits of the byte
 pub record IsEscape (spelling : List ℕ) (value : ℕ) : Type 0 where

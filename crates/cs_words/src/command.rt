@@ -4,11 +4,12 @@ ghost use Rattle.std.specs.Prelude.{◌≡◌, [], ◌∷◌, IfErr, IfNone, IfO
 ghost use Rattle.cs_words.specs.Words.{IsAccepted, IsFirstBad, is_name, texts};
 ghost use Rattle.cs_words.specs.Commands.{Ask};
 ghost use Rattle.cs_words.specs.Options.{AreOptions};
-ghost use Rattle.cs_words.specs.Steps.{AreNew, LacksName, StopsAt};
+ghost use Rattle.cs_words.specs.Steps.{AreNew, BeginsWithSeed, LacksName, LacksSeed, StopsAt};
 
 use crate::given::Given;
 use crate::options::Options;
 use crate::setting::read_option;
+use crate::values::read_seed;
 
 /// What words ask for. Names of files are as they stand among the words.
 #[derive(Drop)]
@@ -22,6 +23,10 @@ pub enum Command<'w> {
         yacc: &'w str,
         lex: &'w str,
         options: Options,
+    },
+    /// The summary of the two files that a number stands for.
+    Gen {
+        seed: u64,
     },
 }
 
@@ -41,6 +46,7 @@ pub fn read_words(words: &[String]) -> Result<Command<'_>, BadWord>
     match words {
         [command, names @ ..] if command.as_str() == "rules" => read_rules(names),
         [command, names @ ..] if command.as_str() == "suite" => read_suite(names),
+        [command, words @ ..] if command.as_str() == "gen" => read_gen(words),
         _ => Err(BadWord { at: 0 }),
     }
 }
@@ -77,6 +83,34 @@ fn read_suite(names: &[String]) -> Result<Command<'_>, BadWord>
     match read_options(words) {
         Ok(options) => Ok(Command::Suite { yacc, lex, options }),
         Err(at) => Err(BadWord { at: 3 + at }),
+    }
+}
+
+// What stands behind `gen`: a seed.
+fn read_gen(words: &[String]) -> Result<Command<'_>, BadWord>
+    ensures accepted { IfOk result (λ _. IsAccepted (codes "gen" ∷ texts words.now)) }
+    ensures asked { IfOk result (Ask (codes "gen" ∷ texts words.now)) }
+    ensures bad { IfErr result
+        (λ bad. IsFirstBad (codes "gen" ∷ texts words.now) bad.at) }
+{
+    let Some((seed, rest)) = front_seed(words) else {
+        return Err(BadWord { at: 1 });
+    };
+    if !rest.is_empty() {
+        return Err(BadWord { at: 2 });
+    }
+    Ok(Command::Gen { seed })
+}
+
+// The seed in front, and the words behind it.
+fn front_seed(words: &[String]) -> Option<(u64, &[String])>
+    ensures some { IfSome result
+        (λ pair. BeginsWithSeed (texts words.now) pair.0 (texts pair.1.now)) }
+    ensures none { IfNone result (LacksSeed (texts words.now)) }
+{
+    match words {
+        [] => None,
+        [word, rest @ ..] => Some((read_seed(word.as_bytes())?, rest)),
     }
 }
 

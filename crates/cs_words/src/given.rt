@@ -49,20 +49,12 @@ impl Given {
     pub fn options(self) -> Options
         ensures { AreDefaulted self result }
     {
+        let defaults = Options::defaults();
         Options {
-            criteria: self.criteria.unwrap_or(Criteria {
-                rule: true,
-                cdrc: true,
-                pair: true,
-            }),
-            operators: self.operators.unwrap_or(Operators {
-                delete: true,
-                insert: true,
-                replace: true,
-                swap: true,
-            }),
-            bases: self.bases.unwrap_or(16),
-            separator: self.separator.unwrap_or(Separator::space()),
+            criteria: self.criteria.unwrap_or(defaults.criteria),
+            operators: self.operators.unwrap_or(defaults.operators),
+            bases: self.bases.unwrap_or(defaults.bases),
+            separator: self.separator.unwrap_or(defaults.separator),
         }
     }
 }

@@ -1,5 +1,8 @@
 // What the options of `suite` say.
 
+ghost use Rattle.std.specs.Prelude.{◌≡◌};
+ghost use Rattle.cs_words.specs.Options.{default_options};
+
 use crate::separator::Separator;
 use cs_goals::Criteria;
 use cs_mutate::Operators;
@@ -15,4 +18,27 @@ pub struct Options {
     pub bases: u16,
     /// What stands between the lexemes of a text.
     pub separator: Separator,
+}
+
+impl Options {
+    /// The options where no word gives one: all criteria, all operators, 16 bases, and one space.
+    pub fn defaults() -> Options
+        ensures { result ≡ default_options }
+    {
+        Options {
+            criteria: Criteria {
+                rule: true,
+                cdrc: true,
+                pair: true,
+            },
+            operators: Operators {
+                delete: true,
+                insert: true,
+                replace: true,
+                swap: true,
+            },
+            bases: 16,
+            separator: Separator::space(),
+        }
+    }
 }

@@ -1,10 +1,11 @@
-// The values of the number of bases and of the separator.
+// The values of the number of bases and of the separator; and a seed.
 
-ghost use Rattle.std.specs.Prelude.{◌≡◌, ◌≤◌, ◌++◌, ◌↔◌, IsTrue, IfNone, IfSome, List, ℕ, drop, length, take};
+ghost use Rattle.std.specs.Prelude.{◌≡◌, ◌≤◌, ◌++◌, ◌↔◌, IsTrue, IfNone, IfSome, List, ℕ, drop, length, min, take};
 ghost use Rattle.std.specs.List.{list_all};
 ghost use Rattle.cs_bytes.specs.Classes.{is_digit};
+ghost use Rattle.cs_bytes.specs.Digits.{number_of};
 ghost use Rattle.cs_words.specs.Steps.{LacksSpelling};
-ghost use Rattle.cs_words.specs.Values.{IsBases, IsSeparator, IsShortNumber, SpellsByte};
+ghost use Rattle.cs_words.specs.Values.{AreDigits, IsBases, IsSeed, IsSeparator, SpellsByte};
 
 use crate::separator::Separator;
 use cs_bytes::{ByteClass, digit_of, from_offset, number};
@@ -14,7 +15,7 @@ pub fn read_bases(value: &[u8]) -> Option<u16>
     ensures some { IfSome result (IsBases value.now) }
     ensures none { IfNone result ((bases : ℕ) → IsBases value.now bases → ⊥) }
 {
-    if !is_short_number(value) {
+    if !are_digits(value, 4) {
         return None;
     }
     let bases = number(10, value);
@@ -24,11 +25,39 @@ pub fn read_bases(value: &[u8]) -> Option<u16>
     Some(bases as u16)
 }
 
-// One to four digits.
-fn is_short_number(value: &[u8]) -> bool
-    ensures { IsTrue result ↔ IsShortNumber value.now }
+/// The seed that the value spells.
+pub fn read_seed(value: &[u8]) -> Option<u64>
+    ensures some { IfSome result (IsSeed value.now) }
+    ensures none { IfNone result ((seed : ℕ) → IsSeed value.now seed → ⊥) }
 {
-    !value.is_empty() && value.len() <= 4 && has_only_digits(value)
+    if !are_digits(value, 20) {
+        return None;
+    }
+    let seed = long_number(value);
+    if seed > u128::from(u64::MAX) {
+        return None;
+    }
+    Some(seed as u64)
+}
+
+// The number that decimal digits spell, or the greatest `u128` where it is larger.
+fn long_number(digits: &[u8]) -> u128
+    ensures { result ≡ min (number_of 10 digits.now) u128.MAX }
+{
+    let mut number: u128 = 0;
+    for digit in digits {
+        number = number
+            .saturating_mul(10)
+            .saturating_add(u128::from(digit_of(*digit)));
+    }
+    number
+}
+
+// At least one digit and at most so many, and nothing else.
+fn are_digits(value: &[u8], most: usize) -> bool
+    ensures { IsTrue result ↔ AreDigits most value.now }
+{
+    !value.is_empty() && value.len() <= most && has_only_digits(value)
 }
 
 fn has_only_digits(value: &[u8]) -> bool
