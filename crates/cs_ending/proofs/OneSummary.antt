@@ -45,18 +45,14 @@ last_number xs ys word m n small other same =
 
 -- ---- five of them
 
-five : (before a b c d e end : List ℕ) → before ++ ((a ++ (b ++ (c ++ (d ++ e)))) ++ end) ≡ (((((before ++ a) ++ b) ++ c) ++ d) ++ e) ++ end
+five : (before a b c d e end : List ℕ) → before ++ (a ++ b ++ c ++ d ++ e ++ end) ≡ before ++ a ++ b ++ c ++ d ++ e ++ end
 five before a b c d e end =
-    ap (λ xs. before ++ xs) inner
-    ∙ sym
-    (append_assoc ((((before ++ a) ++ b) ++ c) ++ d) e end ∙ append_assoc (((before ++ a) ++ b) ++ c) d (e ++ end)
-    ∙ append_assoc ((before ++ a) ++ b) c (d ++ (e ++ end)) ∙ append_assoc (before ++ a) b (c ++ (d ++ (e ++ end)))
-    ∙ append_assoc before a (b ++ (c ++ (d ++ (e ++ end)))))
-  where
-    inner : (a ++ (b ++ (c ++ (d ++ e)))) ++ end ≡ a ++ (b ++ (c ++ (d ++ (e ++ end))))
-    inner =
-        append_assoc a (b ++ (c ++ (d ++ e))) end
-        ∙ ap (λ xs. a ++ xs) (append_assoc b (c ++ (d ++ e)) end ∙ ap (λ xs. b ++ xs) (append_assoc c (d ++ e) end ∙ ap (λ xs. c ++ xs) (append_assoc d e end)))
+    sym (append_assoc before (a ++ b ++ c ++ d ++ e) end)
+    ∙ ap (λ xs. xs ++ end)
+    (sym (append_assoc before (a ++ b ++ c ++ d) e)
+    ∙ ap (λ xs. xs ++ e)
+    (sym (append_assoc before (a ++ b ++ c) d)
+    ∙ ap (λ xs. xs ++ d) (sym (append_assoc before (a ++ b) c) ∙ ap (λ xs. xs ++ c) (sym (append_assoc before a b)))))
 
 abbrev counts : ℕ → ℕ → ℕ → ℕ → ℕ → ℕ → Counts
 counts goals feasible infeasible large negatives bytes =
