@@ -1,5 +1,5 @@
 -- A text ends with one end line: it has one list of counts.
-use Rattle.std.proofs.Common.{◌≡◌, ◌≢◌, ℕ, ◌+◌, ◌<◌, ◌%◌, ◌^◌, List, [], ◌∷◌, ◌++◌, refl, sym, ap, ◌∙◌, subst, arith, append_assoc}
+use Rattle.std.proofs.Common.{◌≡◌, ◌≢◌, ℕ, ◌+◌, ◌<◌, ◌%◌, ◌^◌, List, [], ◌∷◌, ◌++◌, refl, sym, ap, ◌∙◌, subst, arith, append_assoc, append-nil, Option, None}
 use Rattle.std.specs.Prelude.{codes, decimal}
 use Rattle.std.specs.List.{AllByRecursion}
 use Rattle.std.proofs.lemmas.Fmt.{decimal_by_steps, decimal_injective}
@@ -7,7 +7,8 @@ use Rattle.std.proofs.lemmas.List.{append_cancel_right}
 use Rattle.cs_gen.proofs.Digits.{all_push}
 use Rattle.cs_manifest.specs.declared.counts.Counts.{Counts}
 use Rattle.cs_manifest.specs.Counts.{end_of}
-use Rattle.cs_manifest.specs.Lines.{numbered_word}
+use Rattle.cs_manifest.specs.Lines.{end_words, numbered_word}
+use Rattle.cs_manifest.specs.Words.{line}
 use Rattle.cs_ending.specs.Summary.{HasCounts}
 
 -- ---- a number behind its word
@@ -54,18 +55,19 @@ five before a b c d e end =
     (sym (append_assoc before (a ++ b ++ c) d)
     ∙ ap (λ xs. xs ++ d) (sym (append_assoc before (a ++ b) c) ∙ ap (λ xs. xs ++ c) (sym (append_assoc before a b)))))
 
-abbrev counts : ℕ → ℕ → ℕ → ℕ → ℕ → ℕ → Counts
-counts goals feasible infeasible large negatives bytes =
-    record { goals = goals; feasible = feasible; infeasible = infeasible; large = large; negatives = negatives; bytes = bytes }
+abbrev counts : ℕ → ℕ → ℕ → ℕ → ℕ → Option ℕ → ℕ → Counts
+counts goals feasible infeasible large negatives cases bytes =
+    record { goals = goals; feasible = feasible; infeasible = infeasible; large = large; negatives = negatives; cases = cases; bytes = bytes }
 
-same_counts : (c d : Counts) → c.goals ≡ d.goals → c.feasible ≡ d.feasible → c.infeasible ≡ d.infeasible → c.large ≡ d.large → c.negatives ≡ d.negatives → c.bytes ≡ d.bytes → c ≡ d
-same_counts c d goals feasible infeasible large negatives bytes =
-    ap (λ (n : ℕ). counts n c.feasible c.infeasible c.large c.negatives c.bytes) goals
-    ∙ ap (λ (n : ℕ). counts d.goals n c.infeasible c.large c.negatives c.bytes) feasible
-    ∙ ap (λ (n : ℕ). counts d.goals d.feasible n c.large c.negatives c.bytes) infeasible
-    ∙ ap (λ (n : ℕ). counts d.goals d.feasible d.infeasible n c.negatives c.bytes) large
-    ∙ ap (λ (n : ℕ). counts d.goals d.feasible d.infeasible d.large n c.bytes) negatives
-    ∙ ap (λ (n : ℕ). counts d.goals d.feasible d.infeasible d.large d.negatives n) bytes
+same_counts : (c d : Counts) → c.goals ≡ d.goals → c.feasible ≡ d.feasible → c.infeasible ≡ d.infeasible → c.large ≡ d.large → c.negatives ≡ d.negatives → c.cases ≡ d.cases → c.bytes ≡ d.bytes → c ≡ d
+same_counts c d goals feasible infeasible large negatives cases bytes =
+    ap (λ (n : ℕ). counts n c.feasible c.infeasible c.large c.negatives c.cases c.bytes) goals
+    ∙ ap (λ (n : ℕ). counts d.goals n c.infeasible c.large c.negatives c.cases c.bytes) feasible
+    ∙ ap (λ (n : ℕ). counts d.goals d.feasible n c.large c.negatives c.cases c.bytes) infeasible
+    ∙ ap (λ (n : ℕ). counts d.goals d.feasible d.infeasible n c.negatives c.cases c.bytes) large
+    ∙ ap (λ (n : ℕ). counts d.goals d.feasible d.infeasible d.large n c.cases c.bytes) negatives
+    ∙ ap (λ (k : Option ℕ). counts d.goals d.feasible d.infeasible d.large d.negatives k c.bytes) cases
+    ∙ ap (λ (n : ℕ). counts d.goals d.feasible d.infeasible d.large d.negatives d.cases n) bytes
 
 -- what stands before the last number of an end line, and before each of the others
 abbrev before_feasible : List ℕ → Counts → List ℕ
@@ -80,22 +82,27 @@ before_large before c = before_infeasible before c ++ numbered_word (codes " inf
 abbrev before_negatives : List ℕ → Counts → List ℕ
 before_negatives before c = before_large before c ++ numbered_word (codes " large ") c.large
 
-by_numbers : (before : List ℕ) (c : Counts) → before ++ end_of c ≡ (before_negatives before c ++ numbered_word (codes " negatives ") c.negatives) ++ 10 ∷ []
-by_numbers before c =
-    five before (numbered_word (codes "end goals ") c.goals) (numbered_word (codes " feasible ") c.feasible)
-    (numbered_word (codes " infeasible ") c.infeasible) (numbered_word (codes " large ") c.large)
-    (numbered_word (codes " negatives ") c.negatives) (10 ∷ [])
+by_numbers : (before : List ℕ) (c : Counts) → c.cases ≡ None → before ++ end_of c ≡ (before_negatives before c ++ numbered_word (codes " negatives ") c.negatives) ++ 10 ∷ []
+by_numbers before c none =
+    let one = numbered_word (codes "end goals ") c.goals in
+    let two = numbered_word (codes " feasible ") c.feasible in
+    let three = numbered_word (codes " infeasible ") c.infeasible in
+    let four = numbered_word (codes " large ") c.large in
+    let last = numbered_word (codes " negatives ") c.negatives in
+    ap (λ (k : Option ℕ). before ++ end_words c.goals c.feasible c.infeasible c.large c.negatives k) none
+    ∙ ap (λ (words : List ℕ). before ++ line words) (append-nil (one ++ two ++ three ++ four ++ last))
+    ∙ five before one two three four last (10 ∷ [])
 
-by_ends : (xs ys : List ℕ) (c d : Counts) → xs ++ end_of c ≡ ys ++ end_of d
+by_ends : (xs ys : List ℕ) (c d : Counts) → c.cases ≡ None → d.cases ≡ None → xs ++ end_of c ≡ ys ++ end_of d
     → (before_negatives xs c ++ numbered_word (codes " negatives ") c.negatives) ++ 10 ∷ [] ≡ (before_negatives ys d ++ numbered_word (codes " negatives ") d.negatives) ++ 10 ∷ []
-by_ends xs ys c d same = sym (by_numbers xs c) ∙ (same ∙ by_numbers ys d)
+by_ends xs ys c d none no_other same = sym (by_numbers xs c none) ∙ (same ∙ by_numbers ys d no_other)
 
 pub one_counts : (text : List ℕ) (c d : Counts) → HasCounts c text → HasCounts d text → c ≡ d
 one_counts text c d is other =
-    let lines = by_ends is.before other.before c d (sym is.ends ∙ other.ends) in
+    let lines = by_ends is.before other.before c d is.cases other.cases (sym is.ends ∙ other.ends) in
     let s1 = last_number (before_negatives is.before c) (before_negatives other.before d) (codes " negatives") c.negatives d.negatives is.negatives other.negatives (append_cancel_right _ _ (10 ∷ []) lines) in
     let s2 = last_number (before_large is.before c) (before_large other.before d) (codes " large") c.large d.large is.large other.large s1.0 in
     let s3 = last_number (before_infeasible is.before c) (before_infeasible other.before d) (codes " infeasible") c.infeasible d.infeasible is.infeasible other.infeasible s2.0 in
     let s4 = last_number (before_feasible is.before c) (before_feasible other.before d) (codes " feasible") c.feasible d.feasible is.feasible other.feasible s3.0 in
     let s5 = last_number is.before other.before (codes "end goals") c.goals d.goals is.goals other.goals s4.0 in
-    same_counts c d s5.1 s4.1 s3.1 s2.1 s1.1 (is.bytes ∙ sym other.bytes)
+    same_counts c d s5.1 s4.1 s3.1 s2.1 s1.1 (is.cases ∙ sym other.cases) (is.bytes ∙ sym other.bytes)

@@ -1,5 +1,5 @@
 -- The summary of a number: one line that tells, in numbers, of the two files that stand for it and of their manifest.
-use Rattle.std.specs.Prelude.{◌≡◌, ◌<◌, ◌^◌, ℕ, List, ◌++◌, codes, length}
+use Rattle.std.specs.Prelude.{◌≡◌, ◌<◌, ◌^◌, ℕ, List, ◌++◌, None, codes, length}
 use Rattle.cs_gen.specs.Texts.{lex_text, yacc_text}
 use Rattle.cs_manifest.specs.declared.counts.Counts.{Counts}
 use Rattle.cs_manifest.specs.Counts.{end_of}
@@ -23,7 +23,7 @@ summary_line seed files counts =
     ++ numbered_word (codes " infeasible ") counts.infeasible ++ numbered_word (codes " large ") counts.large
     ++ numbered_word (codes " negatives ") counts.negatives ++ numbered_word (codes " bytes ") counts.bytes)
 
--- The text ends with the end line of these counts, each a u64, and they have its length.
+-- The text ends with the end line of these counts, each a u64, and they have its length; it is of the first format, without cases.
 pub record HasCounts (counts : Counts) (text : List ℕ) : Type 0 where
   pub before : List ℕ
   pub ends : text ≡ before ++ end_of counts
@@ -33,6 +33,7 @@ pub record HasCounts (counts : Counts) (text : List ℕ) : Type 0 where
   pub infeasible : counts.infeasible < 2 ^ 64
   pub large : counts.large < 2 ^ 64
   pub negatives : counts.negatives < 2 ^ 64
+  pub cases : counts.cases ≡ None
 
 -- the text is the manifest, by default options, of the two files of the number
 abbrev pub IsManifestOf : ℕ → List ℕ → Type 0

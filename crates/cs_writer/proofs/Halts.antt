@@ -9,29 +9,29 @@ use Rattle.cs_writer.specs.declared.halt.SuiteHalt.{SuiteHalt}
 use Rattle.cs_writer.specs.declared.halt.SuiteHalt.TheVariants.{Failed, States}
 use Rattle.cs_writer.specs.Refusals.{Stopped, halt_of, planned_halt}
 
-is_halt : (halt f : SuiteHalt) → Stopped halt (Err f) → f ≡ halt
+is_halt : {A : Type 0} (halt f : SuiteHalt) → Stopped {A = A} halt (Err f) → f ≡ halt
 is_halt halt f is = cc
 
 many : (error : AutomatonError) (P : Type 0) → halt_of error ≡ States → ((most : ℕ) → error ≡ automaton.TooManyStates most → P) → P
 many (automaton.TooManyStates most) P is told = told most refl
 many automaton.Memory P is told = absurd cc
 
-pub stopped_many : (error : AutomatonError) (result : Result Unit SuiteHalt) (P : Type 0) → IsErrAnd result (λ f. f ≡ halt_of error) → Stopped States result → ((most : ℕ) → error ≡ automaton.TooManyStates most → P) → P
-stopped_many error (Ok value) P from is told = absurd cc
-stopped_many error (Err f) P from is told = many error P (sym from ∙ is_halt States f is) told
+pub stopped_many : {A : Type 0} (error : AutomatonError) (result : Result A SuiteHalt) (P : Type 0) → IsErrAnd result (λ f. f ≡ halt_of error) → Stopped States result → ((most : ℕ) → error ≡ automaton.TooManyStates most → P) → P
+stopped_many {A = A} error (Ok value) P from is told = absurd cc
+stopped_many {A = A} error (Err f) P from is told = many error P (sym from ∙ is_halt {A = A} States f is) told
 
 failed : (halt : Halt) → planned_halt halt ≡ Failed → halt ≡ writing.Failed
 failed writing.Failed is = refl
 failed writing.Memory is = absurd cc
 
-pub stopped_failed : (halt : Halt) (result : Result Unit SuiteHalt) → IsErrAnd result (λ f. f ≡ planned_halt halt) → Stopped Failed result → halt ≡ writing.Failed
-stopped_failed halt (Ok value) from is = absurd cc
-stopped_failed halt (Err f) from is = failed halt (sym from ∙ is_halt Failed f is)
+pub stopped_failed : {A : Type 0} (halt : Halt) (result : Result A SuiteHalt) → IsErrAnd result (λ f. f ≡ planned_halt halt) → Stopped Failed result → halt ≡ writing.Failed
+stopped_failed {A = A} halt (Ok value) from is = absurd cc
+stopped_failed {A = A} halt (Err f) from is = failed halt (sym from ∙ is_halt {A = A} Failed f is)
 
 no_states : (halt : Halt) → planned_halt halt ≡ States → ⊥
 no_states writing.Failed is = absurd cc
 no_states writing.Memory is = absurd cc
 
-pub stopped_states : (halt : Halt) (result : Result Unit SuiteHalt) → IsErrAnd result (λ f. f ≡ planned_halt halt) → Stopped States result → ⊥
-stopped_states halt (Ok value) from is = absurd cc
-stopped_states halt (Err f) from is = no_states halt (sym from ∙ is_halt States f is)
+pub stopped_states : {A : Type 0} (halt : Halt) (result : Result A SuiteHalt) → IsErrAnd result (λ f. f ≡ planned_halt halt) → Stopped States result → ⊥
+stopped_states {A = A} halt (Ok value) from is = absurd cc
+stopped_states {A = A} halt (Err f) from is = no_states halt (sym from ∙ is_halt {A = A} States f is)

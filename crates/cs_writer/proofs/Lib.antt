@@ -1,3 +1,4 @@
 pub mod Choices
 pub mod Halts
 pub mod Parts
+pub mod Summaries

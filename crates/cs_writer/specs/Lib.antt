@@ -1,2 +1,4 @@
 pub mod Suite
+pub mod Outputs
 pub mod Refusals
+pub mod Summary

@@ -18,5 +18,5 @@ planned_halt writing.Failed = Failed
 planned_halt writing.Memory = Memory
 
 -- the answer is that this stopped the writing
-abbrev pub Stopped : SuiteHalt → Result Unit SuiteHalt → Type 0
+abbrev pub Stopped : {A : Type 0} → SuiteHalt → Result A SuiteHalt → Type 0
 Stopped halt result = result ≡ Err halt

@@ -2,15 +2,19 @@
 //!
 //! The layer above gives [`write_rules`] a yacc file, and [`write_suite`] a yacc file with the lex file beside it and what the
 //! options choose. Nothing is written before all tables, the automaton and the lexemes are made. Ok means that the output took
-//! the whole manifest; a [`Halt`](cs_writing::Halt) or a [`SuiteHalt`] that it took a prefix of it.
+//! the whole manifest; a [`Halt`](cs_writing::Halt) or a [`SuiteHalt`] that it took a prefix of it. [`write_summary`] makes the
+//! files of a number and their manifest, and writes one line that tells of both.
 //!
-//! Meaning: `specs/Suite` (the manifest of a pair of files), `Refusals` (why the writing stopped).
+//! Meaning: `specs/Suite` (the manifest of a pair of files), `Summary` (the summary of a number), `Refusals` (why the writing
+//! stopped).
 #![tactic(auto)]
 
 mod halt;
 mod rules;
 mod suite;
+mod summary;
 
 pub use halt::SuiteHalt;
 pub use rules::write_rules;
 pub use suite::write_suite;
+pub use summary::write_summary;

@@ -1,12 +1,12 @@
 // The writer of `rules`.
 
 ghost use Rattle.std.specs.Prelude.{◌≡◌, OnErr, OnOk};
-ghost use Rattle.cs_ending.specs.Files.{IsTextBy};
 ghost use Rattle.cs_grammar.specs.Weights.{nodes};
 ghost use Rattle.cs_io.specs.Faults.{Rose};
-ghost use Rattle.cs_manifest.specs.Manifest.{rules_form};
+ghost use Rattle.cs_writer.specs.Outputs.{IsCalm, TookOne, TookPart};
+ghost use Rattle.cs_writer.specs.Suite.{IsRules};
 ghost use Rattle.cs_writing.specs.declared.halt.Halt.TheVariants.{Failed};
-ghost use Rattle.cs_writing.specs.Writing.{GrewByOne, GrewByPart, HasRoomForAll, Stopped};
+ghost use Rattle.cs_writing.specs.Writing.{Stopped};
 
 use cs_cost::Costs;
 use cs_embed::Embeds;
@@ -36,13 +36,10 @@ pub fn write_rules<R: Threads + Sync, O: Sink, G: Gate + Sync>(
     out: &mut O,
     gate: &G,
 ) -> Result<(), Halt>
-    ensures ok { OnOk result
-        (GrewByOne (IsTextBy rules_form file.now) (O.written out.old) (O.written out.new)) }
-    ensures part { OnErr result
-        (GrewByPart (IsTextBy rules_form file.now) (O.written out.old) (O.written out.new)) }
+    ensures ok { OnOk result (TookOne O.Sink out.old out.new (IsRules file.now)) }
+    ensures part { OnErr result (TookPart O.Sink out.old out.new (IsRules file.now)) }
     ensures failed { Stopped Failed result → Rose (O.faults out.old) (O.faults out.new) }
-    ensures room { HasRoomForAll (IsTextBy rules_form file.now) (O.room out.old)
-        → O.faults out.new ≡ O.faults out.old }
+    ensures room { IsCalm O.Sink out.old out.new (IsRules file.now) }
 {
     let weights = Weights::nodes(alloc, file.grammar().tokens())?;
     write_rule_goals(rt, alloc, file, &weights, out, gate)
@@ -58,13 +55,10 @@ fn write_rule_goals<'f, R: Threads + Sync, O: Sink, G: Gate + Sync>(
     gate: &G,
 ) -> Result<(), Halt>
     requires { weights.now ≡ nodes file.now.grammar.tokens }
-    ensures ok { OnOk result
-        (GrewByOne (IsTextBy rules_form file.now) (O.written out.old) (O.written out.new)) }
-    ensures part { OnErr result
-        (GrewByPart (IsTextBy rules_form file.now) (O.written out.old) (O.written out.new)) }
+    ensures ok { OnOk result (TookOne O.Sink out.old out.new (IsRules file.now)) }
+    ensures part { OnErr result (TookPart O.Sink out.old out.new (IsRules file.now)) }
     ensures failed { Stopped Failed result → Rose (O.faults out.old) (O.faults out.new) }
-    ensures room { HasRoomForAll (IsTextBy rules_form file.now) (O.room out.old)
-        → O.faults out.new ≡ O.faults out.old }
+    ensures room { IsCalm O.Sink out.old out.new (IsRules file.now) }
 {
     let costs = Costs::new(alloc, file.grammar(), weights)?;
     let embeds = Embeds::new(alloc, &costs)?;

@@ -1,18 +1,18 @@
 // The writer of `suite`.
 
-ghost use Rattle.std.specs.Prelude.{◌≡◌, ◌⊎◌, OnErr, OnOk, Some};
-ghost use Rattle.cs_ending.specs.Files.{IsTextBy};
+ghost use Rattle.std.specs.Prelude.{◌≡◌, ◌⊎◌, IfOk, OnErr, OnOk, Some};
 ghost use Rattle.cs_grammar.specs.Weights.{nodes};
 ghost use Rattle.cs_input.specs.Refusal.{HasManyStates};
 ghost use Rattle.cs_io.specs.Faults.{Rose};
 ghost use Rattle.cs_plan.specs.Plans.{CanRender};
 ghost use Rattle.cs_writer.specs.declared.halt.SuiteHalt.TheVariants.{Failed, Memory, States};
+ghost use Rattle.cs_writer.specs.Outputs.{IsCalm, TookOne, TookPart};
 ghost use Rattle.cs_writer.specs.Refusals.{Stopped};
-ghost use Rattle.cs_writer.specs.Suite.{IsSuite, choice_with};
+ghost use Rattle.cs_writer.specs.Suite.{IsSuite, IsBy};
 ghost use Rattle.cs_writing.specs.declared.halt.Halt.TheVariants as halt;
 ghost use Rattle.cs_yacc.specs.File.{IsFile};
 ghost use Rattle.cs_writing.specs.Writing as writing;
-ghost use Rattle.cs_writing.specs.Writing.{GrewByOne, GrewByPart, HasRoomForAll};
+ghost use Rattle.cs_writing.specs.Writing.{CountsOfAll};
 
 use crate::halt::SuiteHalt;
 use cs_automaton::Automaton;
@@ -21,6 +21,7 @@ use cs_grammar::Weights;
 use cs_input::Pair;
 use cs_io::Sink;
 use cs_lexeme::Lexemes;
+use cs_manifest::Counts;
 use cs_plan::{Mutation, Plan};
 use cs_positive::{Positives, Tables};
 use cs_render_work::RenderWork;
@@ -31,7 +32,8 @@ use cs_yacc::YaccFile;
 use std::alloc::Global;
 use std::thread::Threads;
 
-/// Writes the manifest of a yacc file and a lex file by what the options choose.
+/// Writes the manifest of a yacc file and a lex file by what the options choose, and answers the
+/// counts of its end line and the length of all lines.
 pub fn write_suite<R: Threads + Sync, O: Sink, G: Gate + Sync>(
     rt: &R,
     alloc: Global,
@@ -39,11 +41,10 @@ pub fn write_suite<R: Threads + Sync, O: Sink, G: Gate + Sync>(
     options: Options,
     out: &mut O,
     gate: &G,
-) -> Result<(), SuiteHalt>
-    ensures ok { OnOk result
-        (GrewByOne (IsSuite pair options) (O.written out.old) (O.written out.new)) }
-    ensures part { OnErr result
-        (GrewByPart (IsSuite pair options) (O.written out.old) (O.written out.new)) }
+) -> Result<Counts, SuiteHalt>
+    ensures ok { OnOk result (TookOne O.Sink out.old out.new (IsSuite pair options)) }
+    ensures counts { IfOk result (CountsOfAll (IsSuite pair options)) }
+    ensures part { OnErr result (TookPart O.Sink out.old out.new (IsSuite pair options)) }
     ensures failed { Stopped Failed result → Rose (O.faults out.old) (O.faults out.new) }
 
     // Too many states.
@@ -55,8 +56,7 @@ pub fn write_suite<R: Threads + Sync, O: Sink, G: Gate + Sync>(
         → (out.new ≡ out.old) ⊎ ¬ HasManyStates pair.lex }
     ensures named { IsFile pair.yacc }
 
-    ensures room { HasRoomForAll (IsSuite pair options) (O.room out.old)
-        → O.faults out.new ≡ O.faults out.old }
+    ensures room { IsCalm O.Sink out.old out.new (IsSuite pair options) }
 {
     let Pair { yacc, lex } = pair;
     let automaton = Automaton::new(alloc, lex.patterns())?;
@@ -73,11 +73,10 @@ pub fn write_suite<R: Threads + Sync, O: Sink, G: Gate + Sync>(
         separator: options.separator.bytes(),
     };
     let weights = Weights::nodes(alloc, tokens)?;
-    write_goals(rt, alloc, &yacc, &weights, &options, &work, out, gate)?;
-    Ok(())
+    Ok(write_goals(rt, alloc, &yacc, &weights, &options, &work, out, gate)?)
 }
 
-// Writes the manifest of a yacc file by these options, by weights that count nodes.
+// The same by these texts, and by weights that count nodes.
 fn write_goals<'f, R: Threads + Sync, O: Sink, G: Gate + Sync>(
     rt: &R,
     alloc: Global,
@@ -87,18 +86,17 @@ fn write_goals<'f, R: Threads + Sync, O: Sink, G: Gate + Sync>(
     work: &'f RenderWork<'f>,
     out: &mut O,
     gate: &G,
-) -> Result<(), Halt>
+) -> Result<Counts, Halt>
     requires weights { weights.now ≡ nodes file.now.grammar.tokens }
     requires work { CanRender file.now (Some work) }
     ensures ok { OnOk result
-        (GrewByOne (IsTextBy (choice_with options.now work.now) file.now)
-        (O.written out.old) (O.written out.new)) }
+        (TookOne O.Sink out.old out.new (IsBy work.now file.now options.now)) }
+    ensures counts { IfOk result (CountsOfAll (IsBy work.now file.now options.now)) }
     ensures part { OnErr result
-        (GrewByPart (IsTextBy (choice_with options.now work.now) file.now)
-        (O.written out.old) (O.written out.new)) }
+        (TookPart O.Sink out.old out.new (IsBy work.now file.now options.now)) }
     ensures failed { writing.Stopped halt.Failed result → Rose (O.faults out.old) (O.faults out.new) }
-    ensures room { HasRoomForAll (IsTextBy (choice_with options.now work.now) file.now) (O.room out.old)
-        → O.faults out.new ≡ O.faults out.old }
+    ensures room { IsCalm O.Sink out.old out.new
+        (IsBy work.now file.now options.now) }
 {
     let tables = Tables::new(alloc, file.grammar(), weights)?;
     let plan = Plan {
@@ -112,6 +110,5 @@ fn write_goals<'f, R: Threads + Sync, O: Sink, G: Gate + Sync>(
         }),
     };
     let positives = Positives::new(&tables, options.criteria);
-    write_out(rt, alloc, &plan, positives, out, gate)?;
-    Ok(())
+    write_out(rt, alloc, &plan, positives, out, gate)
 }

@@ -33,7 +33,7 @@ module _ (file : File) where
   negatives_behind n [] counts = refl
   negatives_behind n (e ∷ es) counts = negatives_behind (n + 1) es (next n counts e)
 
-  cases_behind : (n : ℕ) (es : List GoalEntry) (counts : Counts) → (counts_behind file n es counts).cases ≡ counts.cases
+  pub cases_behind : (n : ℕ) (es : List GoalEntry) (counts : Counts) → (counts_behind file n es counts).cases ≡ counts.cases
   cases_behind n [] counts = refl
   cases_behind n (e ∷ es) counts = cases_behind (n + 1) es (next n counts e)
 

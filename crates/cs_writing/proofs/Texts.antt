@@ -27,7 +27,7 @@ use Rattle.cs_writing.specs.declared.halt.Halt.TheVariants.{Failed}
 use Rattle.cs_writing.specs.Mutants.{negatives_in}
 use Rattle.cs_writing.specs.Writing.{CountsOfAll}
 use Rattle.cs_writing.specs.Written.{AreEntriesIn, HasSomeText, HasText, IsStopped, counts_behind, lines_from}
-use Rattle.cs_writing.proofs.Counted.{bytes_behind, counted_end}
+use Rattle.cs_writing.proofs.Counted.{bytes_behind, cases_behind, counted_end}
 use Rattle.cs_writing.proofs.Parts.{HasBases, HasEntries, HasSomeBases, HasSomeEntries}
 use Rattle.cs_writing.proofs.SoFar.{entries_few, one_list}
 use Rattle.cs_writing.proofs.Stops.{stopped_by_cut, stopped_longer, stopped_behind}
@@ -151,6 +151,9 @@ module _ (plan : Plan) (of : Weighed) (one : HasOneText (texts_in plan)) (is : I
               four (2 ^ 128 - 1) (length head) (length body) (length behind) (length end) before.bytes mid.bytes after.bytes first second mutants.counted.bytes
               ∙ ap shown (sym (ap length split ∙ length-append ((head ++ body) ++ behind) end
               ∙ ap (λ (k : ℕ). k + length end) (length-append (head ++ body) behind ∙ ap (λ (k : ℕ). k + length behind) (length-append head body))));
+          cases =
+              ap (λ (c : Counts). c.cases) mutants.counted.same ∙ ap (λ (c : Counts). c.cases) lines.counted ∙ cases_behind file 1 entries before
+              ∙ ap (λ (c : Counts). c.cases) fresh;
         }
       where
         four : (m h b x e p q r : ℕ) → p ≡ min h m → q ≡ min (p + b) m → min r m ≡ min (q + x) m → min (r + e) m ≡ min (((h + b) + x) + e) m

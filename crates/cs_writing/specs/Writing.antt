@@ -1,5 +1,5 @@
 -- What a writer does to its output, where `Is` says of which texts it is asked for.
-use Rattle.std.specs.Prelude.{◌≡◌, ◌≤◌, ◌++◌, ℕ, List, Option, Result, Err, length}
+use Rattle.std.specs.Prelude.{◌≡◌, ◌≤◌, ◌++◌, ℕ, List, Option, Result, Err, None, length}
 use Rattle.std.specs.Io.KnownBytes.{append_known}
 use Rattle.cs_io.specs.BufferedSink.{lent_sink}
 use Rattle.cs_io.specs.Faults.{Rose}
@@ -67,6 +67,7 @@ pub record EndsWith (counts : Counts) (text : List ℕ) : Type 0 where
   pub before : List ℕ
   pub line : text ≡ before ++ end_of counts
   pub bytes : counts.bytes ≡ shown (length text)
+  pub cases : counts.cases ≡ None
 
 -- each such text has these counts
 abbrev pub CountsOfAll : (List ℕ → Type 0) → Counts → Type 0

@@ -6,7 +6,7 @@ use Rattle.cs_pattern_tree.specs.Pattern.{Regex, regexes}
 use Rattle.cs_grammar.specs.Weights.{nodes}
 use Rattle.cs_writer.proofs.Choices.{of_suite, suite_of}
 use Rattle.cs_writer.proofs.Halts.{stopped_failed, stopped_many, stopped_states}
-use Rattle.cs_writer.proofs.Parts.{grew_by, grew_part, has_room, no_part, on_err}
+use Rattle.cs_writer.proofs.Parts.{grew_by, grew_part, has_counts, has_room, no_part, on_err}
 use Rattle.cs_writer.proofs.suite.write_suite.Goals as goal
 
 pub returns-in_err-automaton-clause-part : goal.returns-in_err-automaton-clause-part
@@ -61,6 +61,14 @@ returns-clause-ok g c =
     grew_by _ _
     (suite_of c.args.pair.yacc c.args.pair.lex c.args.options _ _ _ _ patterns c.kinds.ensures.kinds c.literals.ensures.literals
     c.bytes.ensures.bytes w) _ _ c.in_ok-write_goals.ensures.ok
+
+pub returns-clause-counts : goal.returns-clause-counts
+returns-clause-counts g c =
+    let w = nodes c.args.pair.yacc.grammar.tokens in
+    let patterns = ap regexes c.in_ok-automaton.ensures.patterns ∙ c.patterns.ensures.patterns in
+    has_counts _ _
+    (of_suite c.args.pair.yacc c.args.pair.lex c.args.options _ _ _ _ patterns c.kinds.ensures.kinds c.literals.ensures.literals
+    c.bytes.ensures.bytes w) _ c.in_ok-write_goals.ensures.counts
 
 pub returns-clause-room : goal.returns-clause-room
 returns-clause-room g c = λ fits.

@@ -1,0 +1,92 @@
+-- The pair of files that a number stands for has one summary.
+use Rattle.std.proofs.Common.{◌≡◌, ℕ, ◌≤◌, List, length, sym, ap, ◌∙◌, subst, arith}
+use Rattle.cs_gen.specs.Boundary.{HasFewSets, IsAcceptedBesideAll}
+use Rattle.cs_gen.specs.declared.files.Generated.{Generated}
+use Rattle.cs_gen.specs.Texts.{lex_text, yacc_text}
+use Rattle.cs_yacc.specs.File as yacc
+use Rattle.cs_yacc.proofs.OneFile as yacc_files
+use Rattle.cs_lex.specs.File as lex
+use Rattle.cs_lex.specs.Reading.{IsLexFile}
+use Rattle.cs_lex.proofs.OneFile as lex_files
+use Rattle.cs_input.specs.declared.judging.Pair.{Pair}
+use Rattle.cs_input.specs.Files.{IsPairOf}
+use Rattle.cs_input.specs.Refusal.{HasManyStates, RefusesPair}
+use Rattle.cs_input.specs.declared.refusal.Refusal.{Refusal}
+use Rattle.cs_input.specs.declared.refusal.Refusal.TheVariants.{TooLong, OfYacc, OfLex, States}
+use Rattle.cs_input.specs.declared.refusal.Role.TheVariants.{Yacc, Lex}
+use Rattle.cs_lex.proofs.OneRefusal as lex_refusal
+use Rattle.cs_yacc.specs.Reading.{IsAccepted}
+use Rattle.cs_manifest.specs.declared.counts.Counts.{Counts}
+use Rattle.cs_words.specs.Options.{default_options}
+use Rattle.cs_ending.specs.Files.{IsSuiteText, IsTextBy, choice_of}
+use Rattle.cs_ending.specs.Summary.{HasCounts, IsManifestOf, IsSummary, Lengths, lengths_of, summary_line}
+use Rattle.cs_ending.proofs.OneSummary.{one_counts}
+use Rattle.cs_writing.specs.Writing.{CountsOfAll}
+use Rattle.cs_writer.specs.Suite.{IsSuite}
+use Rattle.cs_writer.specs.Summary.{AreShort, HasDefaultSuite, IsOnlySummary, lengths}
+
+-- accepted files aren't refused
+pub no_refusal : (bytes more : List ℕ) (refusal : Refusal) → length bytes ≤ 1048576 → length more ≤ 1048576 → IsAccepted bytes → IsAcceptedBesideAll more → HasFewSets more → RefusesPair refusal bytes more → ⊥
+no_refusal bytes more (TooLong Yacc) short short_lex accepted lex_accepted few r = omega (arith, short, r)
+no_refusal bytes more (TooLong Lex) short short_lex accepted lex_accepted few r = omega (arith, short_lex, r.1)
+no_refusal bytes more (OfYacc error) short short_lex accepted lex_accepted few r = yacc_files.refused_is_not_accepted bytes accepted.0 error r.2 accepted.1
+no_refusal bytes more (OfLex error) short short_lex accepted lex_accepted few r =
+    let other = lex_accepted accepted.0 in lex_refusal.refused_is_not_accepted more accepted.0 other.0 error r.3 other.1
+no_refusal bytes more States short short_lex accepted lex_accepted few r = few r.0 r.1 r.3 r.2.3 r.4
+
+-- the automaton of a generated pair hasn't too many states
+pub few_states : (pair : Pair) (bytes more : List ℕ) → IsPairOf pair.yacc pair.lex bytes more → yacc.IsFile pair.yacc → HasFewSets more → ¬ HasManyStates pair.lex
+few_states pair bytes more of named few many = few pair.yacc pair.lex named of.3 many
+
+module _ (seed : ℕ) (pair : Pair) (of : IsPairOf pair.yacc pair.lex (yacc_text seed) lex_text) (named : yacc.IsFile pair.yacc)
+    (few : ¬ HasManyStates pair.lex) (counts : Counts) (all : CountsOfAll (IsSuite pair default_options) counts) (short : AreShort counts) where
+  -- a manifest of the number is one of the pair
+  of_pair : (text : List ℕ) → IsManifestOf seed text → IsSuite pair default_options text
+  unfolding IsSuiteText
+  of_pair text is =
+      let one = yacc_files.one_file (yacc_text seed) pair.yacc is.0 of.2 is.2.2 in
+      let beside : IsLexFile lex_text pair.yacc is.1 = subst (λ (f : yacc.File). IsLexFile lex_text f is.1) (sym one) is.2.3 in
+      let same : pair.lex ≡ is.1 = lex_files.one_file lex_text pair.yacc pair.lex is.1 named of.3 beside in
+      let moved = subst (λ (s : lex.File). IsTextBy (choice_of s default_options) is.0 text) (sym same) is.4 in
+      subst (λ (f : yacc.File). IsTextBy (choice_of pair.lex default_options) f text) (sym one) moved
+
+  of_number : (text : List ℕ) → IsSuite pair default_options text → IsManifestOf seed text
+  unfolding IsSuiteText
+  of_number text is = (pair.yacc, pair.lex, of, few, is)
+
+  counted : (text : List ℕ) → IsSuite pair default_options text → HasCounts counts text
+  counted text is = let ends = all text is in record {
+    before = ends.before;
+    ends = ends.line;
+    bytes = ends.bytes;
+    goals = short.goals;
+    feasible = short.feasible;
+    infeasible = short.infeasible;
+    large = short.large;
+    negatives = short.negatives;
+    cases = ends.cases;
+  }
+
+  pub only_summary : (text : List ℕ) → text ≡ summary_line seed (lengths_of seed) counts → HasDefaultSuite pair → IsOnlySummary seed text
+  only_summary text said some = record {
+    is = record { manifest = some.0; is_of = of_number some.0 some.1; counts = counts; has = counted some.0 some.1; said = said };
+    no_other = λ other is.
+        let same : is.counts ≡ counts = one_counts is.manifest is.counts counts is.has (counted is.manifest (of_pair is.manifest is.is_of)) in
+        is.said ∙ ap (λ (c : Counts). summary_line seed (lengths_of seed) c) same ∙ sym said;
+  }
+
+-- the lengths of two texts
+abbrev sizes : List ℕ → List ℕ → Lengths
+sizes one other = record { yacc = length one; lex = length other }
+
+-- the same of the two files that were made
+pub files_summary : (seed : ℕ) (files : Generated) (pair : Pair) → files.yacc.items ≡ yacc_text seed → files.lex.items ≡ lex_text
+    → IsPairOf pair.yacc pair.lex files.yacc.items files.lex.items → yacc.IsFile pair.yacc → HasFewSets files.lex.items
+    → (counts : Counts) → CountsOfAll (IsSuite pair default_options) counts → AreShort counts → HasDefaultSuite pair
+    → (text : List ℕ) → text ≡ summary_line seed (lengths files) counts → IsOnlySummary seed text
+files_summary seed files pair is_yacc is_lex of named few counts all short some text said =
+    let moved : IsPairOf pair.yacc pair.lex (yacc_text seed) files.lex.items = subst (λ (b : List ℕ). IsPairOf pair.yacc pair.lex b files.lex.items) is_yacc of in
+    let both : IsPairOf pair.yacc pair.lex (yacc_text seed) lex_text = subst (λ (b : List ℕ). IsPairOf pair.yacc pair.lex (yacc_text seed) b) is_lex moved in
+    let same : lengths files ≡ lengths_of seed = ap (λ (b : List ℕ). sizes b files.lex.items) is_yacc ∙ ap (λ (b : List ℕ). sizes (yacc_text seed) b) is_lex in
+    only_summary seed pair both named (few_states pair files.yacc.items files.lex.items of named few) counts all short text
+    (said ∙ ap (λ (l : Lengths). summary_line seed l counts) same) some

@@ -1,0 +1,29 @@
+-- The summary that `gen` writes.
+use Rattle.std.specs.Prelude.{◌≡◌, ◌<◌, ◌^◌, ℕ, List, length}
+use Rattle.cs_ending.specs.Summary.{IsSummary, Lengths}
+use Rattle.cs_gen.specs.declared.files.Generated.{Generated}
+use Rattle.cs_input.specs.declared.judging.Pair.{Pair}
+use Rattle.cs_manifest.specs.declared.counts.Counts.{Counts}
+use Rattle.cs_words.specs.Options.{default_options}
+use Rattle.cs_writer.specs.Suite.{IsSuite}
+
+-- the text is the summary of the number, and no other text is
+pub record IsOnlySummary (seed : ℕ) (text : List ℕ) : Type 0 where
+  pub is : IsSummary seed text
+  pub no_other : (other : List ℕ) → IsSummary seed other → other ≡ text
+
+-- the pair has a manifest by default options
+abbrev pub HasDefaultSuite : Pair → Type 0
+HasDefaultSuite pair = (text : List ℕ) × IsSuite pair default_options text
+
+-- the lengths of two files
+abbrev pub lengths : Generated → Lengths
+lengths files = record { yacc = length files.yacc.items; lex = length files.lex.items }
+
+-- each count of entries is a u64
+pub record AreShort (counts : Counts) : Type 0 where
+  pub goals : counts.goals < 2 ^ 64
+  pub feasible : counts.feasible < 2 ^ 64
+  pub infeasible : counts.infeasible < 2 ^ 64
+  pub large : counts.large < 2 ^ 64
+  pub negatives : counts.negatives < 2 ^ 64

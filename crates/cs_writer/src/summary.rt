@@ -1,0 +1,112 @@
+// The writer of `gen`.
+
+ghost use Rattle.std.specs.Prelude.{◌≡◌, ◌++◌, IfOk, OnErr, OnOk, string_bytes};
+ghost use Rattle.cs_ending.specs.Summary.{IsSummary, summary_line};
+ghost use Rattle.cs_input.specs.Refusal.{HasManyStates};
+ghost use Rattle.cs_io.specs.Faults.{Rose};
+ghost use Rattle.cs_manifest.specs.Lines.{numbered_word};
+ghost use Rattle.cs_words.specs.Options.{default_options};
+ghost use Rattle.cs_writer.specs.Outputs.{IsCalm, TookOne, TookPart};
+ghost use Rattle.cs_writer.specs.Suite.{IsSuite};
+ghost use Rattle.cs_writer.specs.Summary.{AreShort, HasDefaultSuite, IsOnlySummary, lengths};
+ghost use Rattle.cs_writing.specs.declared.halt.Halt.TheVariants.{Failed};
+ghost use Rattle.cs_writing.specs.Writing.{CountsOfAll, Stopped};
+
+use crate::halt::SuiteHalt;
+use crate::suite::write_suite;
+use cs_fan::Gate;
+use cs_gen::{Generated, make};
+use cs_input::{Pair, Stop, judge_pair};
+use cs_io::{NullSink, Sink, write_all};
+use cs_manifest::Counts;
+use cs_words::Options;
+use cs_writing::Halt;
+use std::alloc::{AllocError, Global};
+use std::thread::Threads;
+
+/// Writes the summary of a number: the lengths of the two files that stand for it, and the counts
+/// and the length of their manifest by default options.
+pub fn write_summary<R: Threads + Sync, O: Sink, G: Gate + Sync>(
+    rt: &R,
+    alloc: Global,
+    seed: u64,
+    out: &mut O,
+    gate: &G,
+) -> Result<(), Halt>
+    ensures ok { OnOk result (TookOne O.Sink out.old out.new (IsSummary seed)) }
+    ensures part { OnErr result (TookPart O.Sink out.old out.new (IsSummary seed)) }
+    ensures failed { Stopped Failed result → Rose (O.faults out.old) (O.faults out.new) }
+    ensures room { IsCalm O.Sink out.old out.new (IsSummary seed) }
+{
+    let line = summary(rt, alloc, seed, gate)?;
+    write_all(out, line.as_bytes())?;
+    Ok(())
+}
+
+// The summary of a number. The readers refuse neither of its files.
+fn summary<R: Threads + Sync, G: Gate + Sync>(
+    rt: &R,
+    alloc: Global,
+    seed: u64,
+    gate: &G,
+) -> Result<String, AllocError>
+    ensures { IfOk result (λ line. IsOnlySummary seed (string_bytes line)) }
+{
+    let files = make(alloc, seed)?;
+    let pair = match judge_pair(alloc, &files.yacc, &files.lex) {
+        Ok(pair) => pair,
+        Err(Stop::Memory) => return Err(AllocError),
+        Err(Stop::Refused(_)) => unreachable!(),
+        Err(Stop::NoFile(_)) => unreachable!(),
+    };
+    let counts = count(rt, alloc, pair, gate)?;
+    line(alloc, seed, &files, counts)
+}
+
+// The counts of the manifest of a pair by default options. Its lines are kept nowhere.
+fn count<R: Threads + Sync, G: Gate + Sync>(
+    rt: &R,
+    alloc: Global,
+    pair: Pair,
+    gate: &G,
+) -> Result<Counts, AllocError>
+    requires { ¬ HasManyStates pair.lex }
+    ensures some { OnOk result (HasDefaultSuite pair) }
+    ensures counts { IfOk result (CountsOfAll (IsSuite pair default_options)) }
+{
+    let mut sink = NullSink::new();
+    match write_suite(rt, alloc, pair, Options::defaults(), &mut sink, gate) {
+        Ok(counts) => Ok(counts),
+        Err(SuiteHalt::Memory) => Err(AllocError),
+        Err(SuiteHalt::States) => unreachable!(),
+        Err(SuiteHalt::Failed) => unreachable!(),
+    }
+}
+
+// The line of a number, of its two files, and of the counts of their manifest.
+fn line(alloc: Global, seed: u64, files: &Generated, counts: Counts) -> Result<String, AllocError>
+    ensures line { IfOk result (λ line. string_bytes line
+        ≡ summary_line seed (lengths files.now) counts) }
+    ensures short { AreShort counts }
+{
+    let mut line = String::new(alloc);
+    put(&mut line, "gen ", u128::from(seed))?;
+    put(&mut line, " yacc ", files.yacc.len() as u128)?;
+    put(&mut line, " lex ", files.lex.len() as u128)?;
+    put(&mut line, " goals ", u128::from(counts.goals))?;
+    put(&mut line, " feasible ", u128::from(counts.feasible))?;
+    put(&mut line, " infeasible ", u128::from(counts.infeasible))?;
+    put(&mut line, " large ", u128::from(counts.large))?;
+    put(&mut line, " negatives ", u128::from(counts.negatives))?;
+    put(&mut line, " bytes ", counts.bytes)?;
+    line.push_str("\n")?;
+    Ok(line)
+}
+
+// A number behind its word.
+fn put(line: &mut String, word: &str, number: u128) -> Result<(), AllocError>
+    ensures { OnOk result (string_bytes line.new
+        ≡ string_bytes line.old ++ numbered_word word.now number) }
+{
+    write!(line, "{word}{number}")
+}
