@@ -17,7 +17,7 @@ use Rattle.cs_positive.specs.declared.verdict.Verdict.{Verdict}
 use Rattle.cs_positive.specs.declared.verdict.Verdict.TheVariants.{Feasible, Infeasible, Large}
 use Rattle.cs_manifest.specs.declared.entry.SharedVerdict.{SharedVerdict}
 use Rattle.cs_manifest.specs.declared.entry.SharedVerdict.TheVariants as shared
-use Rattle.cs_manifest.specs.declared.named.Named.{Named}
+use Rattle.cs_cases.specs.declared.cases.Named.{Named}
 use Rattle.cs_manifest.specs.Cases.{IsCase, IsFirstMet, IsNamed, is_case, with_case}
 use Rattle.cs_manifest.specs.Closed.{AreClosedSets, AreEdges, AreNext, AreThose, ClosedSets, HasContext, HasTree, numbers}
 use Rattle.cs_manifest.specs.Manifest.{AreShared, GoalEntry, IsShared, IsSharedVerdict, SharedEntry, cases_behind}

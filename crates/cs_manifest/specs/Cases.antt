@@ -5,7 +5,7 @@ use Rattle.std.specs.Str.{bytes_eq}
 use Rattle.cs_grammar.specs.Grammar.{PlainGrammar}
 use Rattle.cs_goals.specs.declared.goal.Goal.{Goal}
 use Rattle.cs_goals.specs.Meets.{IsMeeting}
-use Rattle.cs_manifest.specs.declared.named.Named.{Named}
+use Rattle.cs_cases.specs.declared.cases.Named.{Named}
 
 -- the code is that of a case
 abbrev pub is_case : List (List ℕ) → List ℕ → Bool

@@ -28,7 +28,7 @@ use Rattle.cs_manifest.specs.declared.format.Format.{Format}
 use Rattle.cs_manifest.specs.declared.format.Format.TheVariants.{One, Two}
 use Rattle.cs_manifest.specs.declared.format.Weigh.{Weigh}
 use Rattle.cs_manifest.specs.declared.format.Weigh.TheVariants.{Nodes, Bytes}
-use Rattle.cs_manifest.specs.declared.named.Named.{Named}
+use Rattle.cs_cases.specs.declared.cases.Named.{Named}
 use Rattle.cs_manifest.specs.Cases.{IsNamed, with_case}
 use Rattle.cs_manifest.specs.Closed.{AreClosedSets, ClosedSets}
 use Rattle.cs_manifest.specs.SharedLines.{case_lines, shared_goal_line, shared_head_lines}

@@ -48,7 +48,10 @@ fn is_productive(tables: &Tables<'_>, nonterminal: u16) -> bool
     requires { IsNumberOf tables.now.grammar.nonterminals nonterminal }
     ensures { IsTrue result ↔ HasTree tables.now.grammar nonterminal }
 {
-    !matches!(tables.costs().cost(Symbol::Nonterminal(nonterminal)), Cost::Never)
+    !matches!(
+        tables.costs().cost(Symbol::Nonterminal(nonterminal)),
+        Cost::Never
+    )
 }
 
 fn is_reachable(tables: &Tables<'_>, nonterminal: u16) -> bool
@@ -91,7 +94,11 @@ pub(crate) fn numbers_with(
 }
 
 /// For each nonterminal the tokens at an edge of what it yields.
-pub(crate) fn edges(alloc: Global, tables: &Tables<'_>, edge: Edge) -> Result<Vec<Tokens>, AllocError>
+pub(crate) fn edges(
+    alloc: Global,
+    tables: &Tables<'_>,
+    edge: Edge,
+) -> Result<Vec<Tokens>, AllocError>
     ensures { IfOk result (λ sets.
         AreEdges tables.now.grammar (IsAtEdge tables.now.grammar edge) sets.items) }
 {
@@ -118,11 +125,7 @@ pub(crate) fn next_to(alloc: Global, tables: &Tables<'_>, mark: Mark) -> Result<
 }
 
 // The tokens among them.
-fn tokens_next_to(
-    alloc: Global,
-    tables: &Tables<'_>,
-    mark: Mark,
-) -> Result<Vec<Mark>, AllocError>
+fn tokens_next_to(alloc: Global, tables: &Tables<'_>, mark: Mark) -> Result<Vec<Mark>, AllocError>
     requires { IsLeft tables.now.grammar.tokens mark }
     ensures { IfOk result (λ list. AreThose (IsAdjacent tables.now.grammar mark)
         (token_marks tables.now.grammar.tokens) list.items) }

@@ -1,4 +1,4 @@
-use crate::named::Named;
+use cs_cases::Named;
 use cs_goals::Goal;
 use cs_grammar::{Derivation, Mark};
 use cs_mutate::Edit;

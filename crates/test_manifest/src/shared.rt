@@ -6,11 +6,12 @@ ghost use Rattle.cs_manifest.specs.Names.{IsNamedGoal};
 
 use crate::files::{Files, Trouble, read};
 use cs_automaton::Automaton;
+use cs_cases::Named;
 use cs_goals::Goal;
 use cs_grammar::{Derivation, Mark, Weights};
 use cs_io::{MemorySink, SinkError};
 use cs_lexeme::Lexemes;
-use cs_manifest::{Closed, Counts, Entry, Form, Head, Manifest, Named, SharedVerdict, Weigh};
+use cs_manifest::{Closed, Counts, Entry, Form, Head, Manifest, SharedVerdict, Weigh};
 use cs_mutate::Edit;
 use cs_positive::Tables;
 use cs_render::Rendered;

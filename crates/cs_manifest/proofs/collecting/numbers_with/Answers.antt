@@ -11,7 +11,7 @@ loop-place-preserved c =
     let IsSo = Has c.args.tables.now.grammar c.args.property in
     let n = c.loop-place.place in
     elim c.if-has.branch [
-      then-has+in_ok-push w ↦
+      | then-has+in_ok-push w ↦
           next_so IsSo (numbers n) c.loop-place.list.items (n + 1) (numbers (n + 1)) c.if-has.list.items (numbers_more n)
           (ap (λ (v : Vec ℕ). v.items) w.list-is ∙ w.in_ok-push.ensures.items) c.loop-place.invariant (c.has.ensures.0 w.if-has.true)
       | else-has w ↦

@@ -18,7 +18,7 @@ loop-place-preserved c =
     let n = c.loop-place.place in
     let told = subst (λ (v : Weighed). IsTrue c.adjacent.result ↔ IsAdjacent v.grammar mark (Token (n + 1))) c.pairs-pairs.ensures c.adjacent.ensures in
     elim c.if-adjacent.branch [
-      then-adjacent+in_ok-push w ↦
+      | then-adjacent+in_ok-push w ↦
           next_so IsSo (token_marks n) c.loop-place.list.items (Token (n + 1)) (token_marks (n + 1)) c.if-adjacent.list.items (marks_more n)
           (ap (λ (v : Vec Mark). v.items) w.list-is ∙ w.in_ok-push.ensures.items) c.loop-place.invariant (told.0 w.if-adjacent.true)
       | else-adjacent w ↦
