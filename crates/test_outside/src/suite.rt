@@ -58,10 +58,17 @@ fn each_read_fails(rt: HostRuntime) -> Result<(), Fail> {
 }
 
 #[test]
-fn the_output_fails_at_each_byte(rt: HostRuntime) -> Result<(), Fail> {
+fn the_output_is_full_at_each_byte(rt: HostRuntime) -> Result<(), Fail> {
     let alloc = rt.alloc();
     let words = suite_words(alloc)?;
     assert_eq!(rt; wrong_room(&rt, alloc, &words, SUMS_SUITE)?, None);
+    Ok(())
+}
+
+#[test]
+fn each_call_of_the_output_fails(rt: HostRuntime) -> Result<(), Fail> {
+    let alloc = rt.alloc();
+    let words = suite_words(alloc)?;
     for step in [1, 7] {
         assert!(rt; has_room(&rt, alloc, &words, SUMS_SUITE, step)?);
         assert_eq!(rt; wrong_call(&rt, alloc, &words, SUMS_SUITE, step)?, None);
