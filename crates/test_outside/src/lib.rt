@@ -12,3 +12,5 @@ mod failing;
 mod rules;
 #[cfg(test)]
 mod suite;
+#[cfg(test)]
+mod summary;
