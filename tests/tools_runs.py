@@ -172,6 +172,7 @@ OTHERS = [
     (["--help"], "usage: word 0", 2, [USAGE]),
     (["rule", "g.y"], "usage: word 0", 2, ["This word may not", "  conform rule g.y\n          ^^^^    \n", USAGE]),
     (["rules"], "usage: word 1", 2, ["A word is missing behind rules.\n", USAGE]),
+    (["gen", "x"], "usage: word 1", 2, ["  conform gen x\n              ^\n", USAGE]),
     (["rules", "a", "bc"], "usage: word 2", 2, ["  conform rules a bc\n                  ^^\n", USAGE]),
     (["rules", BAD_NAME], None, 7, ["write the file's name in UTF-8"]),
 ]

@@ -192,6 +192,8 @@ negative 2 base 1 insert 0 'x' pair 'x' 'x' at 1
   text "x x"
 end goals 5 feasible 3 infeasible 2 large 0 negatives 2
 """
+# Laid down with the command.
+SUMMARY = b"gen 1 yacc 1240 lex 378 goals 968 feasible 862 infeasible 106 large 0 negatives 1442 bytes 315463\n"
 EXAMPLES = os.path.join(TOP, "examples")
 G1 = [os.path.join(EXAMPLES, "g1.y"), os.path.join(EXAMPLES, "l1.l")]
 C_EXPRESSIONS = [os.path.join(EXAMPLES, "cexpr.y"), os.path.join(EXAMPLES, "cexpr.l")]
@@ -223,6 +225,9 @@ ROWS = [
     (["suite", "one.y", "one.l"], 0, ONE, b""),
     (["suite", "g1.y", "g1.l", "--mutate=all"], 2, b"", b"conform: usage: word 3\n"),
     (["suite", "g1.y", "g1.l", "--bases=1", "--bases=1"], 2, b"", b"conform: usage: word 4\n"),
+    (["gen", "1"], 0, SUMMARY, b""),
+    (["gen", "0001"], 0, SUMMARY, b""),
+    (["gen", "18446744073709551616"], 2, b"", b"conform: usage: word 1\n"),
 ]
 
 

@@ -5,7 +5,9 @@ USAGE = """usage: conform suite YACC LEX [--criteria=LIST] [--mutate=LIST] [--ba
   and mutants that are no sentences; --criteria= takes rule, cdrc and pair, --mutate= takes delete, insert, replace and swap,
   or none, with commas between them
        conform rules YACC
-  writes the rule goals of a yacc file alone, without texts;
+  writes the rule goals of a yacc file alone, without texts
+       conform gen NUMBER
+  makes two files from a number below 2^64, and writes one line that tells of their suite;
   YACC and LEX are names of files, not empty and not beginning with `-` (./-x.y will do for -x.y)
   ./conform --explain WORDS says where a refusal is and what to do; on a terminal it does so by itself
 """
