@@ -10,4 +10,6 @@ mod rules;
 #[cfg(test)]
 mod suite;
 #[cfg(test)]
+mod summary;
+#[cfg(test)]
 mod words;

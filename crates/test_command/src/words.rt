@@ -37,7 +37,7 @@ fn bad_option(alloc: Global, texts: &[&str]) -> Result<Option<usize>, AllocError
 #[test]
 fn commands_and_names(rt: HostRuntime) -> Result<(), Fail> {
     let alloc = rt.alloc();
-    let rows: [(&[&str], Option<usize>); 27] = [
+    let rows: [(&[&str], Option<usize>); 40] = [
         (&[], Some(0)),
         (&[""], Some(0)),
         (&["--help"], Some(0)),
@@ -65,6 +65,19 @@ fn commands_and_names(rt: HostRuntime) -> Result<(), Fail> {
         (&["suite", "y", "l", "--mutate=swap,swap"], Some(3)),
         (&["suite", "y", "l", "--mutate=none,swap"], Some(3)),
         (&["suite", "y", "l", "--mutate=all"], Some(3)),
+        (&["gen"], Some(1)),
+        (&["gen", ""], Some(1)),
+        (&["gen", "g.y"], Some(1)),
+        (&["gen", "+1"], Some(1)),
+        (&["gen", "1x"], Some(1)),
+        (&["gen", "0"], None),
+        (&["gen", "007"], None),
+        (&["gen", "18446744073709551615"], None),
+        (&["gen", "18446744073709551616"], Some(1)),
+        (&["gen", "00000000000000000001"], None),
+        (&["gen", "000000000000000000001"], Some(1)),
+        (&["gen", "1", "2"], Some(2)),
+        (&["gen", "1", "--bases=1"], Some(2)),
     ];
     for (texts, want) in rows {
         let got = bad_word(alloc, texts)?;
@@ -187,6 +200,25 @@ fn settings(rt: HostRuntime) -> Result<(), Fail> {
             assert!(rt; options.separator.bytes() == b"Ab\n".as_slice());
         }
         _ => assert!(rt; false),
+    }
+    Ok(())
+}
+
+#[test]
+fn numbers_of_gen(rt: HostRuntime) -> Result<(), Fail> {
+    let alloc = rt.alloc();
+    let rows = [
+        ("0", 0),
+        ("007", 7),
+        ("00000000000000000010", 10),
+        ("18446744073709551615", u64::MAX),
+    ];
+    for (text, want) in rows {
+        let words = words(alloc, &["gen", text])?;
+        match read_words(&words) {
+            Ok(Command::Gen { seed }) => assert_eq!(rt; seed, want),
+            _ => assert!(rt; false),
+        }
     }
     Ok(())
 }
