@@ -19,11 +19,15 @@ use Rattle.cs_words.specs.declared.options.Options.{Options}
 use Rattle.cs_ending.specs.declared.ending.Ending.{Ending}
 use Rattle.cs_ending.specs.declared.ending.Ending.TheVariants.{Written, Refused, NoFile, NotWritten, NoMemory}
 use Rattle.cs_ending.specs.Ending.{Ends, Performs, WrotePart}
-use Rattle.cs_ending.specs.Files.{HasRoomFor, IsAcceptedPair, IsAskedText, IsRulesText, IsSuiteText, IsTextBy, choice_of}
-use Rattle.cs_ending.specs.Requests.{Request, ForRules, ForSuite}
+use Rattle.cs_ending.specs.Files.{IsAcceptedPair, IsRulesText, IsSuiteText, IsTextBy, choice_of}
+use Rattle.cs_ending.specs.Requests.{Request, ForGen, ForRules, ForSuite}
+use Rattle.cs_ending.specs.Summary.{IsSummary}
+use Rattle.cs_ending.specs.Texts.{HasRoomFor, IsAskedText}
 use Rattle.cs_ending.proofs.Apart.{file_more, files_more}
 use Rattle.cs_writing.specs.Writing.{GrewByOne, GrewByPart, HasRoomForAll}
-use Rattle.cs_run.specs.Words.{ending_of}
+use Rattle.cs_writing.specs.declared.halt.Halt.{Halt}
+use Rattle.cs_writing.specs.declared.halt.Halt.TheVariants as halt
+use Rattle.cs_run.specs.Words.{PerformsGen, ending_at, ending_of}
 use Rattle.cs_run.proofs.Asked.{rules_texts, suite_texts}
 
 -- a read of the desk failed
@@ -88,11 +92,37 @@ module _ (A : Type 0) (value : A) (file : File) (name : List ℕ) (desk : DeskUs
   pub rules_written : GrewByOne (IsTextBy rules_form file) out.written.before out.written.after → Performs Written (Ok (ForRules name)) desk out
   rules_written grew = rules_ended Written (grew.0, asked_rules grew.0 grew.1, grew.2)
 
-  pub rules_failed : GrewByPart (IsTextBy rules_form file) out.written.before out.written.after → HasFailed out.faults → Performs NotWritten (Ok (ForRules name)) desk out
+  rules_failed : GrewByPart (IsTextBy rules_form file) out.written.before out.written.after → HasFailed out.faults → Performs NotWritten (Ok (ForRules name)) desk out
   rules_failed part rose = rules_ended NotWritten ((file_more desk.files name read (λ bytes of. (file, of)), rules_part part), rose)
 
-  pub rules_memory : GrewByPart (IsTextBy rules_form file) out.written.before out.written.after → Performs NoMemory (Ok (ForRules name)) desk out
+  rules_memory : GrewByPart (IsTextBy rules_form file) out.written.before out.written.after → Performs NoMemory (Ok (ForRules name)) desk out
   rules_memory part = rules_ended NoMemory (inr (file_more desk.files name read (λ bytes of. (file, of)), rules_part part))
+
+  pub rules_halted : (ending : Ending) (why : Halt) → ending ≡ ending_at why → GrewByPart (IsTextBy rules_form file) out.written.before out.written.after
+      → (why ≡ halt.Failed → HasFailed out.faults) → Performs ending (Ok (ForRules name)) desk out
+  rules_halted ending why same part rose = subst (λ (e : Ending). Performs e (Ok (ForRules name)) desk out) (sym same) (by_cause why rose)
+    where
+      by_cause : (why : Halt) → (why ≡ halt.Failed → HasFailed out.faults) → Performs (ending_at why) (Ok (ForRules name)) desk out
+      by_cause halt.Failed rose = rules_failed part (rose refl)
+      by_cause halt.Memory rose = rules_memory part
+
+-- ---- no files
+
+module _ (seed : ℕ) (out : SinkUse) (room : HasRoomForAll (IsSummary seed) out.room → out.faults.after ≡ out.faults.before) where
+  summary_ended : (ending : Ending) (desk : DeskUse) → desk.faults.after ≡ desk.faults.before → Ends ending (Ok (ForGen seed)) desk out → Performs ending (Ok (ForGen seed)) desk out
+  summary_ended ending desk still ends =
+      record { ends = ends; failed = λ changed. absurd (changed still); steady = λ is. still; room = λ fits. room (λ text is. fits text is) }
+
+  pub summary_written : GrewByOne (IsSummary seed) out.written.before out.written.after → PerformsGen seed Written out
+  summary_written grew desk still = summary_ended Written desk still (grew.0, grew.1, grew.2)
+
+  pub summary_halted : (ending : Ending) (why : Halt) → ending ≡ ending_at why → GrewByPart (IsSummary seed) out.written.before out.written.after
+      → (why ≡ halt.Failed → HasFailed out.faults) → PerformsGen seed ending out
+  summary_halted ending why same part rose desk still = subst (λ (e : Ending). Performs e (Ok (ForGen seed)) desk out) (sym same) (by_cause why rose)
+    where
+      by_cause : (why : Halt) → (why ≡ halt.Failed → HasFailed out.faults) → Performs (ending_at why) (Ok (ForGen seed)) desk out
+      by_cause halt.Failed rose = summary_ended NotWritten desk still ((tt, λ some text is. part text is), rose refl)
+      by_cause halt.Memory rose = summary_ended NoMemory desk still (inr (tt, λ some text is. part text is))
 
 module _ (A : Type 0) (value : A) (pair : Pair) (name other : List ℕ) (options : Options) (desk : DeskUse) (out : SinkUse)
     (read : FilesAre desk.files name other (IsPairOf pair.yacc pair.lex))

@@ -5,7 +5,7 @@ ghost use Rattle.cs_ending.specs.Ending.{HasLine, Performs};
 ghost use Rattle.cs_ending.specs.Requests.{ForRules, ForSuite};
 ghost use Rattle.cs_input.specs.Refusal.{CanBeTold};
 ghost use Rattle.cs_io.specs.Uses.{desk_use, sink_use};
-ghost use Rattle.cs_run.specs.Words.{AreBad, KeepsPromisesTo, PerformsFor, ending_of};
+ghost use Rattle.cs_run.specs.Words.{AreBad, AskForSummary, KeepsPromisesTo, PerformsFor, PerformsGen, ending_at, ending_of};
 ghost use Rattle.cs_words.specs.Words.{texts};
 
 use cs_ending::{Ending, finish};
@@ -13,15 +13,15 @@ use cs_fan::Gate;
 use cs_input::{Refusal, Stop, read_grammar, read_pair};
 use cs_io::{Desk, Sink};
 use cs_words::{Command, Options, read_words};
-use cs_writer::{SuiteHalt, write_rules, write_suite};
+use cs_writer::{SuiteHalt, write_rules, write_suite, write_summary};
 use cs_writing::Halt;
 use std::alloc::Global;
 use std::thread::Threads;
 
 /// Does what the words ask for, says on `err` what went wrong, and gives the status: 0 where the whole output was written,
 /// 1 where the files are refused, 2 where the words aren't accepted, 3 where a file can't be read, 4 where the output can't
-/// be written, 5 for want of memory. The words are the program's arguments without its own name: `rules YACC`, or
-/// `suite YACC LEX` and options. Workers run by `rt`, and enter the gate with the place of an item in its batch.
+/// be written, 5 for want of memory. The words are the program's arguments without its own name: `rules YACC`,
+/// `suite YACC LEX` and options, or `gen SEED`. Workers run by `rt`, and enter the gate with the place of an item in its batch.
 ///
 /// What it promises stands on one page, in `specs/Headline.antt` of `cs_ending`.
 pub fn run<R: Threads + Sync, D: Desk, O: Sink, E: Sink, G: Gate + Sync>(
@@ -39,6 +39,7 @@ pub fn run<R: Threads + Sync, D: Desk, O: Sink, E: Sink, G: Gate + Sync>(
         (sink_use E.written E.faults E.room err.old err.new)
         result }
     ensures bad_words_ask_nothing { AreBad (texts words.now) → desk.new ≡ desk.old }
+    ensures gen_asks_nothing { AskForSummary (texts words.now) → desk.new ≡ desk.old }
 {
     let ending = perform(rt, alloc, words, desk, out, gate);
     finish(alloc, ending, err)
@@ -58,12 +59,14 @@ fn perform<R: Threads + Sync, D: Desk, O: Sink, G: Gate + Sync>(
         (sink_use O.written O.faults O.room out.old out.new) }
     ensures told { HasLine result }
     ensures bad_words_ask_nothing { AreBad (texts words.now) → desk.new ≡ desk.old }
+    ensures gen_asks_nothing { AskForSummary (texts words.now) → desk.new ≡ desk.old }
 {
     match read_words(words) {
         Ok(Command::Rules { yacc }) => rules(rt, alloc, yacc, desk, out, gate),
         Ok(Command::Suite { yacc, lex, options }) => {
             suite(rt, alloc, yacc, lex, options, desk, out, gate)
         }
+        Ok(Command::Gen { seed }) => summary(rt, alloc, seed, out, gate),
         Err(bad) => Ending::BadWord { at: bad.at },
     }
 }
@@ -88,8 +91,7 @@ fn rules<R: Threads + Sync, D: Desk, O: Sink, G: Gate + Sync>(
     };
     match write_rules(rt, alloc, &file, out, gate) {
         Ok(()) => Ending::Written,
-        Err(Halt::Failed) => Ending::NotWritten,
-        Err(Halt::Memory) => Ending::NoMemory,
+        Err(halt) => halted(halt),
     }
 }
 
@@ -114,10 +116,39 @@ fn suite<R: Threads + Sync, D: Desk, O: Sink, G: Gate + Sync>(
         Err(stop) => return stopped(stop),
     };
     match write_suite(rt, alloc, pair, options, out, gate) {
-        Ok(()) => Ending::Written,
+        Ok(_) => Ending::Written,
         Err(SuiteHalt::States) => Ending::Refused(Refusal::States),
         Err(SuiteHalt::Failed) => Ending::NotWritten,
         Err(SuiteHalt::Memory) => Ending::NoMemory,
+    }
+}
+
+// Writes the summary of a number.
+fn summary<R: Threads + Sync, O: Sink, G: Gate + Sync>(
+    rt: &R,
+    alloc: Global,
+    seed: u64,
+    out: &mut O,
+    gate: &G,
+) -> Ending
+    ensures performs { PerformsGen seed result
+        (sink_use O.written O.faults O.room out.old out.new) }
+    ensures told { HasLine result }
+{
+    match write_summary(rt, alloc, seed, out, gate) {
+        Ok(()) => Ending::Written,
+        Err(halt) => halted(halt),
+    }
+}
+
+// How a run ends whose writing stopped.
+fn halted(halt: Halt) -> Ending
+    ensures ending { result ≡ ending_at halt }
+    ensures told { HasLine result }
+{
+    match halt {
+        Halt::Failed => Ending::NotWritten,
+        Halt::Memory => Ending::NoMemory,
     }
 }
 
