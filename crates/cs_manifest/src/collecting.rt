@@ -1,13 +1,10 @@
 // The closed sets of a grammar, collected from its tables.
 
-ghost use Rattle.std.specs.Prelude.{◌≡◌, ◌↔◌, IfOk, IsTrue, map};
-ghost use Rattle.std.specs.List.{AllZip};
+ghost use Rattle.std.specs.Prelude.{◌≡◌, ◌↔◌, IfOk, IsTrue};
 ghost use Rattle.cs_goals.specs.Goal.{IsLeft};
-ghost use Rattle.cs_goals.specs.Goals.{token_marks};
 ghost use Rattle.cs_grammar.specs.Grammar.{IsNumberOf};
-ghost use Rattle.cs_pairs.specs.Pairs.{IsAdjacent};
-ghost use Rattle.cs_manifest.specs.Closed.{AreEdges, AreNext, AreThose, HasContext, HasTree, numbers};
-ghost use Rattle.cs_manifest.specs.Collecting.{Has, IsAtEdge, IsProperty, last_of};
+ghost use Rattle.cs_manifest.specs.Closed.{AreNext, HasContext, HasTree};
+ghost use Rattle.cs_manifest.specs.Collecting.{AreAllEdges, AreAllNext, AreAllWith, AreNextTokens, Has, IsAtEdge, IsProperty, last_of};
 
 use crate::closed::{Marks, Tokens};
 use cs_cost::Cost;
@@ -81,8 +78,7 @@ pub(crate) fn numbers_with(
 ) -> Result<Vec<u16>, AllocError>
     requires property { IsProperty tables.now.grammar property }
     requires last { last ≡ last_of tables.now.grammar property }
-    ensures { IfOk result (λ list.
-        AreThose (Has tables.now.grammar property) (numbers last) list.items) }
+    ensures { IfOk result (λ list. AreAllWith tables.now.grammar property last list.items) }
 {
     let mut list = Vec::new(alloc);
     for place in 0..last {
@@ -99,8 +95,7 @@ pub(crate) fn edges(
     tables: &Tables<'_>,
     edge: Edge,
 ) -> Result<Vec<Tokens>, AllocError>
-    ensures { IfOk result (λ sets.
-        AreEdges tables.now.grammar (IsAtEdge tables.now.grammar edge) sets.items) }
+    ensures { IfOk result (λ sets. AreAllEdges tables.now.grammar edge sets.items) }
 {
     let grammar = tables.grammar();
     let mut sets = Vec::new(alloc);
@@ -127,8 +122,7 @@ pub(crate) fn next_to(alloc: Global, tables: &Tables<'_>, mark: Mark) -> Result<
 // The tokens among them.
 fn tokens_next_to(alloc: Global, tables: &Tables<'_>, mark: Mark) -> Result<Vec<Mark>, AllocError>
     requires { IsLeft tables.now.grammar.tokens mark }
-    ensures { IfOk result (λ list. AreThose (IsAdjacent tables.now.grammar mark)
-        (token_marks tables.now.grammar.tokens) list.items) }
+    ensures { IfOk result (λ list. AreNextTokens tables.now.grammar mark list.items) }
 {
     let pairs = tables.pairs();
     let mut list = Vec::new(alloc);
@@ -143,8 +137,7 @@ fn tokens_next_to(alloc: Global, tables: &Tables<'_>, mark: Mark) -> Result<Vec<
 
 /// For each token the marks that are adjacent behind it.
 pub(crate) fn nexts(alloc: Global, tables: &Tables<'_>) -> Result<Vec<Marks>, AllocError>
-    ensures { IfOk result (λ sets. AllZip (λ t. AreNext tables.now.grammar (Mark.Token t))
-        (numbers tables.now.grammar.tokens) sets.items) }
+    ensures { IfOk result (λ sets. AreAllNext tables.now.grammar sets.items) }
 {
     let mut sets = Vec::new(alloc);
     for place in 0..tables.grammar().tokens() {

@@ -1,9 +1,10 @@
 -- The summary that `gen` writes.
-use Rattle.std.specs.Prelude.{◌≡◌, ◌<◌, ◌^◌, ℕ, List, length}
-use Rattle.cs_ending.specs.Summary.{IsSummary, Lengths}
+use Rattle.std.specs.Prelude.{◌≡◌, ◌<◌, ◌^◌, ◌++◌, ℕ, List, length}
+use Rattle.cs_ending.specs.Summary.{IsSummary, Lengths, summary_line}
 use Rattle.cs_gen.specs.declared.files.Generated.{Generated}
 use Rattle.cs_input.specs.declared.judging.Pair.{Pair}
 use Rattle.cs_manifest.specs.declared.counts.Counts.{Counts}
+use Rattle.cs_manifest.specs.Lines.{numbered_word}
 use Rattle.cs_words.specs.Options.{default_options}
 use Rattle.cs_writer.specs.Suite.{IsSuite}
 
@@ -19,6 +20,14 @@ HasDefaultSuite pair = (text : List ℕ) × IsSuite pair default_options text
 -- the lengths of two files
 abbrev pub lengths : Generated → Lengths
 lengths files = record { yacc = length files.yacc.items; lex = length files.lex.items }
+
+-- the text is the line of the number, of its two files, and of the counts of their manifest
+abbrev pub IsLineOf : ℕ → Generated → Counts → List ℕ → Type 0
+IsLineOf seed files counts text = text ≡ summary_line seed (lengths files) counts
+
+-- a number stands more behind its word
+abbrev pub HasNumberMore : List ℕ → ℕ → List ℕ → List ℕ → Type 0
+HasNumberMore word number old new = new ≡ old ++ numbered_word word number
 
 -- each count of entries is a u64
 pub record AreShort (counts : Counts) : Type 0 where

@@ -1,14 +1,13 @@
 // The writer of `gen`.
 
-ghost use Rattle.std.specs.Prelude.{◌≡◌, ◌++◌, IfOk, OnErr, OnOk, string_bytes};
-ghost use Rattle.cs_ending.specs.Summary.{IsSummary, summary_line};
+ghost use Rattle.std.specs.Prelude.{IfOk, OnErr, OnOk, string_bytes};
+ghost use Rattle.cs_ending.specs.Summary.{IsSummary};
 ghost use Rattle.cs_input.specs.Refusal.{HasManyStates};
 ghost use Rattle.cs_io.specs.Faults.{Rose};
-ghost use Rattle.cs_manifest.specs.Lines.{numbered_word};
 ghost use Rattle.cs_words.specs.Options.{default_options};
 ghost use Rattle.cs_writer.specs.Outputs.{IsCalm, TookOne, TookPart};
 ghost use Rattle.cs_writer.specs.Suite.{IsSuite};
-ghost use Rattle.cs_writer.specs.Summary.{AreShort, HasDefaultSuite, IsOnlySummary, lengths};
+ghost use Rattle.cs_writer.specs.Summary.{AreShort, HasDefaultSuite, HasNumberMore, IsLineOf, IsOnlySummary};
 ghost use Rattle.cs_writing.specs.declared.halt.Halt.TheVariants.{Failed};
 ghost use Rattle.cs_writing.specs.Writing.{CountsOfAll, Stopped};
 
@@ -85,8 +84,7 @@ fn count<R: Threads + Sync, G: Gate + Sync>(
 
 // The line of a number, of its two files, and of the counts of their manifest.
 fn line(alloc: Global, seed: u64, files: &Generated, counts: Counts) -> Result<String, AllocError>
-    ensures line { IfOk result (λ line. string_bytes line
-        ≡ summary_line seed (lengths files.now) counts) }
+    ensures line { IfOk result (λ line. IsLineOf seed files.now counts (string_bytes line)) }
     ensures short { AreShort counts }
 {
     let mut line = String::new(alloc);
@@ -105,8 +103,8 @@ fn line(alloc: Global, seed: u64, files: &Generated, counts: Counts) -> Result<S
 
 // A number behind its word.
 fn put(line: &mut String, word: &str, number: u128) -> Result<(), AllocError>
-    ensures { OnOk result (string_bytes line.new
-        ≡ string_bytes line.old ++ numbered_word word.now number) }
+    ensures { OnOk result
+        (HasNumberMore word.now number (string_bytes line.old) (string_bytes line.new)) }
 {
     write!(line, "{word}{number}")
 }
