@@ -1,5 +1,5 @@
 -- A file has at most one manifest by a choice, where the lexemes and the rendering of tokens are one.
-use Rattle.std.proofs.Common.{◌≡◌, ℕ, List, [], sym, ap, ◌∙◌, subst, Ok, Option}
+use Rattle.std.proofs.Common.{◌≡◌, length, ℕ, List, sym, ap, ◌∙◌, subst, Ok, Option}
 use Rattle.std.specs.List.{AllZip}
 use Rattle.cs_grammar.specs.Grammar.{PlainGrammar}
 use Rattle.cs_grammar.specs.Weights.{Measure, Weighed, weighed}
@@ -18,6 +18,7 @@ use Rattle.cs_yacc.specs.File.{File}
 use Rattle.cs_manifest.specs.declared.format.Format.{Format}
 use Rattle.cs_manifest.specs.declared.format.Format.TheVariants.{One, Two}
 use Rattle.cs_manifest.specs.declared.format.Weigh.{Weigh}
+use Rattle.cs_cases.specs.Cases.{PlainCases, no_cases}
 use Rattle.cs_manifest.specs.Closed.{ClosedSets}
 use Rattle.cs_manifest.specs.Manifest.{AreNegativesOf, AreTokensOf, BaseEntry, Choice, GoalEntry, HasOneText, IsBaseOf, IsEntryOf, IsManifest, IsNegativeOf, IsTextOf, NegativeEntry, bases, IsTextIn, SharedEntry, most_bases, shared_text}
 use Rattle.cs_manifest.proofs.OneShared.{one_closed, one_list_of_shared}
@@ -73,9 +74,10 @@ module _ (weigh : Weigh) (file : File) (lexemes : Option (List (Option (List ℕ
   one_text_in One text other a b = a ∙ sym b
   one_text_in Two text other a b =
       let closed = one_closed file.grammar a.closed b.closed a.are_closed b.are_closed in
-      let list = one_list_of_shared file.grammar [] entries a.list b.list tt a.are_shared b.are_shared in
-      a.lines ∙ ap (λ (c : ClosedSets). shared_text file weigh lexemes c entries a.list mutants) closed
-      ∙ ap (λ (l : List SharedEntry). shared_text file weigh lexemes b.closed entries l mutants) list ∙ sym b.lines
+      let same = one_list_of_shared (no_cases file.grammar) a.cases b.cases entries a.list b.list a.are_shared b.are_shared in
+      a.lines ∙ ap (λ (c : ClosedSets). shared_text file weigh lexemes c entries a.list (length a.cases.codes) mutants) closed
+      ∙ ap (λ (c : PlainCases). shared_text file weigh lexemes b.closed entries a.list (length c.codes) mutants) same.0
+      ∙ ap (λ (l : List SharedEntry). shared_text file weigh lexemes b.closed entries l (length b.cases.codes) mutants) same.1 ∙ sym b.lines
 
 module _ (w : Measure) (choice : Choice) (file : File) (one : HasOneText choice.texts) where
   pub one_manifest_by : (text other : List ℕ) → IsManifest w choice file text → IsManifest w choice file other → text ≡ other

@@ -31,7 +31,8 @@ use Rattle.cs_yacc.specs.File.{File}
 use Rattle.cs_manifest.specs.declared.format.Format.{Format}
 use Rattle.cs_manifest.specs.declared.format.Format.TheVariants.{One, Two}
 use Rattle.cs_manifest.specs.declared.format.Weigh.{Weigh}
-use Rattle.cs_manifest.specs.Manifest.{AreLexemesBy, AreShared, BaseEntry, Choice, GoalEntry, IsBaseOf, IsEntryOf, IsManifest, IsNegativeOf, IsNotWithout, IsRenderedBy, IsTextIn, Texts, bases, most_bases, manifest_text, shared_text}
+use Rattle.cs_manifest.specs.Manifest.{AreLexemesBy, BaseEntry, Choice, GoalEntry, IsBaseOf, IsEntryOf, IsManifest, IsNegativeOf, IsNotWithout, IsRenderedBy, IsTextIn, Texts, bases, most_bases, manifest_text, shared_text}
+use Rattle.cs_cases.specs.Cases.{no_cases}
 use Rattle.cs_manifest.proofs.SomeShared.{some_closed, some_shared}
 use Rattle.cs_manifest.proofs.Zips.{some_zip}
 
@@ -163,15 +164,9 @@ module _ (of : Weighed) (texts : Option Texts) (lexemes : Option (List (Option (
   some_text_in list same each One none = none (manifest_text file lexemes entries mutants) refl
   some_text_in list same each Two none =
       some_closed file.grammar
-      (λ closed are_closed. some_shared of texts lexemes [] list entries each
-      (λ shared are_shared. none (shared_text file weigh lexemes closed entries shared mutants)
-      (record {
-        closed = closed;
-        list = shared;
-        are_closed = are_closed;
-        are_shared = subst (λ (g : PlainGrammar). AreShared g [] entries shared) same are_shared;
-        lines = refl;
-      })))
+      (λ closed are_closed. some_shared of texts lexemes (no_cases file.grammar) list entries (sym same) each
+      (λ p are_shared. none (shared_text file weigh lexemes closed entries p.1 (length p.0.codes) mutants)
+      (record { closed = closed; cases = p.0; list = p.1; are_closed = are_closed; are_shared = are_shared; lines = refl })))
 
 module _ (w : Measure) (choice : Choice) (file : File)
     (some_rendering : (lexemes : Option (List (Option (List ℕ)))) (tokens : List ℕ) → IsNotWithout (IsRenderedBy choice.texts lexemes tokens))

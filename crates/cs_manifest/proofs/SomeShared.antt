@@ -1,12 +1,10 @@
 -- No grammar is without its closed sets, and no goal without what it names.
-use Rattle.std.proofs.Common.{◌≡◌, ◌<◌, ◌≤◌, ◌⊎◌, ℕ, zero, suc, ◌+◌, ◌-◌, ◌||◌, Bool, true, false, cond, not, List, [], ◌∷◌, ◌++◌, length, length-append, inl, inr, refl, sym, ap, ◌∙◌, subst, arith, Option, Some}
-use Rattle.std.specs.Prelude.{slice_get}
+use Rattle.std.proofs.Common.{◌≡◌, ◌<◌, ◌≤◌, ◌⊎◌, ℕ, zero, suc, ◌+◌, ◌-◌, Bool, true, false, cond, List, [], ◌∷◌, ◌++◌, length, length-append, inl, inr, refl, sym, ap, ◌∙◌, subst, arith, Option, Some}
+use Rattle.std.specs.Prelude.{◌↔◌, IsTrue, slice_get}
 use Rattle.std.specs.List.{AllZip}
-use Rattle.std.specs.Str.{bytes_eq}
 use Rattle.std.proofs.Math.Seq.{get_or-append_seam}
 use Rattle.std.proofs.lemmas.Bool.{cases_lt}
-use Rattle.std.proofs.lemmas.Option.{slice_get-get_or}
-use Rattle.std.proofs.lemmas.Slice.Eq.{bytes_eq-Decides}
+use Rattle.std.proofs.lemmas.Option.{get_or_from_slice_get, slice_get-get_or, slice_get_within}
 use Rattle.cs_grammar.specs.declared.symbol.Mark.TheVariants.{Begin, Token}
 use Rattle.cs_grammar.specs.Grammar.{PlainGrammar}
 use Rattle.cs_grammar.specs.Weights.{Weighed}
@@ -15,14 +13,16 @@ use Rattle.cs_goals.specs.Goals.{right_marks}
 use Rattle.cs_goals.specs.Meets.{IsMeeting}
 use Rattle.cs_pairs.specs.Closed.{IsFirstOf, IsLastOf, YieldsNothing}
 use Rattle.cs_pairs.specs.Pairs.{IsAdjacent}
+use Rattle.cs_cases.specs.declared.cases.Named.{Named}
+use Rattle.cs_cases.specs.Cases.{IsLowest, IsNew, IsPlaced, PlainCases, with_case}
 use Rattle.cs_positive.specs.declared.verdict.Verdict.{Verdict}
 use Rattle.cs_positive.specs.declared.verdict.Verdict.TheVariants.{Feasible, Infeasible, Large}
 use Rattle.cs_positive.specs.Verdict.{IsVerdict}
 use Rattle.cs_positive.proofs.Verdicts.{chosen_met}
+use Rattle.cs_manifest.specs.declared.entry.SharedVerdict.{SharedVerdict}
 use Rattle.cs_manifest.specs.declared.entry.SharedVerdict.TheVariants as shared
-use Rattle.cs_manifest.specs.Cases.{IsCase, IsFirstMet, IsNamed, is_case, with_case}
 use Rattle.cs_manifest.specs.Closed.{AreClosedSets, AreEdges, AreNext, AreThose, HasContext, HasTree, numbers}
-use Rattle.cs_manifest.specs.Manifest.{AreShared, GoalEntry, IsEntryOf, IsNotWithout, IsSharedVerdict, SharedEntry, Texts, cases_behind}
+use Rattle.cs_manifest.specs.Manifest.{AreShared, GoalEntry, IsEntryOf, IsNotWithout, IsSharedVerdict, SharedEntry, Texts}
 use Rattle.cs_manifest.proofs.Zips.{some_zip}
 
 -- ---- closed sets
@@ -54,86 +54,103 @@ module _ (g : PlainGrammar) where
 
 -- ---- cases
 
--- a code that is a case has a place
-slot_of : (code : List ℕ) (cases : List (List ℕ)) → is_case cases code ≡ true → (k : ℕ) × (slice_get cases k ≡ Some code)
-slot_of code [] e = absurd (let f : false ≡ true = e in cc)
-slot_of code (c ∷ cases) e = at_test (bytes_eq code c) refl (λ f. slot_of code cases f)
-  where
-    at_test : (b : Bool) → bytes_eq code c ≡ b → (is_case cases code ≡ true → (k : ℕ) × (slice_get cases k ≡ Some code)) → (k : ℕ) × (slice_get (c ∷ cases) k ≡ Some code)
-    at_test true t slot = (0, ap (λ (x : List ℕ). Some x) (sym ((bytes_eq-Decides code c).0 t)))
-    at_test false t slot =
-        let later = slot (ap (λ (b : Bool). b || is_case cases code) (sym t) ∙ e) in
-        (suc later.0, later.1)
-
--- each code has a case, once it was added
-number_of : (code : List ℕ) (cases : List (List ℕ)) → (k : ℕ) × IsCase (with_case cases code) k code
-number_of code cases = at_test (is_case cases code) refl
-  where
-    at_test : (b : Bool) → is_case cases code ≡ b → (k : ℕ) × IsCase (cond b cases (cases ++ code ∷ [])) k code
-    at_test true e =
-        let slot = slot_of code cases e in
-        let at : slot.0 ≡ slot.0 + 1 - 1 = omega arith in
-        (slot.0 + 1, (omega arith, subst (λ (k : ℕ). slice_get cases k ≡ Some code) at slot.1))
-    at_test false e =
-        let n = length cases in
-        let at : n ≡ n + 1 - 1 = omega arith in
-        let within : n < length (cases ++ code ∷ []) = omega (arith, length-append cases (code ∷ [])) in
-        let there : slice_get (cases ++ code ∷ []) n ≡ Some code =
-        slice_get-get_or (cases ++ code ∷ []) n code within ∙ ap (λ (x : List ℕ). Some x) (get_or-append_seam cases code [] code) in
-        (n + 1, (omega arith, subst (λ (k : ℕ). slice_get (cases ++ code ∷ []) k ≡ Some code) at there))
-
-module _ (g : PlainGrammar) (cases : List (List ℕ)) (goal : Goal) where
-  -- none of the cases before a number meets the goal, or the first that does is known
-  abbrev Looked : ℕ → Type 0
-  Looked n =
-      ((k : ℕ) (other : List ℕ) → k < n → IsCase cases k other → IsMeeting g goal other → ⊥) ⊎ ((k : ℕ) × IsFirstMet g cases goal k)
+module _ (IsOne : List ℕ → Type 0) (codes : List (List ℕ)) where
+  -- none of the codes before a place is of the kind, or the lowest that is is known
+  abbrev pub Looked : ℕ → Type 0
+  Looked n = ((k : ℕ) (other : List ℕ) → k < n → slice_get codes k ≡ Some other → IsOne other → ⊥) ⊎ ((n : ℕ) × IsLowest IsOne codes n)
 
   looked : (n : ℕ) → (Looked n → ⊥) → ⊥
-  looked zero none = none (inl (λ k other below is meets. absurd (omega (arith, below))))
+  looked zero none = none (inl (λ k other below at is. absurd (omega (arith, below))))
   looked (suc n) none = looked n at_last
     where
       at_last : Looked n → ⊥
       at_last (inr found) = none (inr found)
-      at_last (inl before) = none (inl (λ k other below is meets. at_place k other is meets below (cases_lt k n)))
+      at_last (inl before) = none (inl (λ k other below at is. at_place k other at is below (cases_lt k n)))
         where
-          at_place : (k : ℕ) (other : List ℕ) → IsCase cases k other → IsMeeting g goal other → k < suc n → (k < n) ⊎ (n ≤ k) → ⊥
-          at_place k other is meets below (inl less) = before k other less is meets
-          at_place k other is meets below (inr more) =
-              none (inr (k, record { code = other; case = is; meets = meets; earlier = λ j code earlier. before j code (omega (arith, earlier, below, more)) }))
+          at_place : (k : ℕ) (other : List ℕ) → slice_get codes k ≡ Some other → IsOne other → k < suc n → (k < n) ⊎ (n ≤ k) → ⊥
+          at_place k other at is below (inl less) = before k other less at is
+          at_place k other at is below (inr more) =
+              let there : k ≡ k + 1 - 1 = omega arith in
+              none (inr (
+                k + 1,
+                record {
+                  code = other;
+                  above_zero = omega arith;
+                  at = subst (λ (j : ℕ). slice_get codes j ≡ Some other) there at;
+                  is_one = is;
+                  lowest = λ j code earlier. before j code (omega (arith, earlier, below, more));
+                },
+              ))
 
-  some_first : (k : ℕ) (code : List ℕ) → IsCase cases k code → IsMeeting g goal code → IsNotWithout (IsFirstMet g cases goal)
-  some_first k code is meets none = looked (suc k) at_end
+  some_lowest : (k : ℕ) (code : List ℕ) → slice_get codes k ≡ Some code → IsOne code → IsNotWithout (IsLowest IsOne codes)
+  some_lowest k code at is none = looked (suc k) at_end
     where
       at_end : Looked (suc k) → ⊥
-      at_end (inl before) = before k code (omega arith) is meets
+      at_end (inl before) = before k code (omega arith) at is
       at_end (inr found) = none found.0 found.1
 
-module _ (of : Weighed) where
-  some_named : (cases : List (List ℕ)) (goal : Goal) (code : List ℕ) → IsMeeting of.grammar goal code → IsNotWithout (IsNamed of.grammar cases goal code)
-  some_named cases goal code meets none =
-      let own = number_of code cases in
-      some_first of.grammar (with_case cases code) goal own.0 code own.1 meets
-      (λ first is. none (record { case = own.0; first = first; fresh = not (is_case cases code) }) (record { case = own.1; first = is; fresh = refl }))
+module _ (old : PlainCases) (goal : Goal) (code : List ℕ) (meets : IsMeeting old.grammar goal code) where
+  -- what is told where the code stands there among the cases then
+  some_named : (new : PlainCases) (k : ℕ) → slice_get new.codes k ≡ Some code → IsMeeting new.grammar goal code → (fresh : Bool) → (IsTrue fresh ↔ IsNew old code)
+      → new ≡ cond fresh (with_case old code) old → IsNotWithout (λ (p : PlainCases × Named). IsPlaced old goal code p.0 p.1)
+  some_named new k at met fresh is_fresh is_new none =
+      some_lowest (λ other. other ≡ code) new.codes k code at refl
+      (λ case own. some_lowest (IsMeeting new.grammar goal) new.codes k code at met
+      (λ first is_first. none (new, record { case = case; first = first; fresh = fresh }) (record { fresh = is_fresh; cases = is_new; own = own; first = is_first })))
 
-  some_verdict : (cases : List (List ℕ)) (goal : Goal) (verdict : Verdict) → IsVerdict of.weights of.grammar goal verdict → IsNotWithout (IsSharedVerdict of.grammar cases goal verdict)
-  some_verdict cases goal Infeasible v none = none shared.Infeasible refl
-  some_verdict cases goal Large v none = none shared.Large refl
-  some_verdict cases goal (Feasible size derivation) v none =
+  pub some_placed : IsNotWithout (λ (p : PlainCases × Named). IsPlaced old goal code p.0 p.1)
+  some_placed none = at_known known
+    where
+      -- it isn't so that the code neither is new nor has a place
+      at_known : ((IsNew old code ⊎ ((k : ℕ) × (slice_get old.codes k ≡ Some code)) → ⊥) → ⊥) → ⊥
+      at_known k = k at_case
+        where
+          at_case : IsNew old code ⊎ ((k : ℕ) × (slice_get old.codes k ≡ Some code)) → ⊥
+          at_case (inl is_new) =
+              let within : length old.codes < length (old.codes ++ code ∷ []) = omega (arith, length-append old.codes (code ∷ [])) in
+              let there : slice_get (old.codes ++ code ∷ []) (length old.codes) ≡ Some code =
+              slice_get-get_or (old.codes ++ code ∷ []) (length old.codes) code within ∙ ap (λ (x : List ℕ). Some x) (get_or-append_seam old.codes code [] code) in
+              some_named (with_case old code) (length old.codes) there meets true (λ t. is_new, λ n. refl) refl none
+          at_case (inr (k, at)) =
+              some_named old k at meets false
+              (λ (t : false ≡ true). absurd (cc), λ (n : IsNew old code). absurd (n (k, slice_get_within old.codes k code at, get_or_from_slice_get old.codes k code _ at)))
+              refl none
+
+      known : (IsNew old code ⊎ ((k : ℕ) × (slice_get old.codes k ≡ Some code)) → ⊥) → ⊥
+      known neither = neither (inl (λ among. neither (inr (among.0, slice_get-get_or old.codes among.0 code among.1 ∙ ap (λ (x : List ℕ). Some x) among.2))))
+
+module _ (of : Weighed) where
+  some_verdict : (old : PlainCases) (goal : Goal) (verdict : Verdict) → old.grammar ≡ of.grammar → IsVerdict of.weights of.grammar goal verdict
+      → IsNotWithout (λ (p : PlainCases × SharedVerdict). IsSharedVerdict old goal verdict p.0 p.1)
+  some_verdict old goal Infeasible same v none = none (old, shared.Infeasible) (refl, refl)
+  some_verdict old goal Large same v none = none (old, shared.Large) (refl, refl)
+  some_verdict old goal (Feasible size derivation) same v none =
       let t = v.2.0 in
       let met = chosen_met of.weights of.grammar goal t v.2.1 in
       let meets : IsMeeting of.grammar goal derivation = record { tree = t; is_tree = met.0; code = v.2.2; meets = met.1 } in
-      some_named cases goal derivation meets (λ named is. none (shared.Feasible size named) (named, refl, is))
+      some_placed old goal derivation (subst (λ (g : PlainGrammar). IsMeeting g goal derivation) (sym same) meets)
+      (λ p is. none (p.0, shared.Feasible size p.1) (p.1, refl, is))
+
+  -- the grammar stays
+  same_grammar : (old new : PlainCases) (goal : Goal) (verdict : Verdict) (s : SharedVerdict) → IsSharedVerdict old goal verdict new s → new.grammar ≡ old.grammar
+  same_grammar old new goal (Feasible size derivation) s is = ap (λ (c : PlainCases). c.grammar) is.2.cases ∙ at_test is.0.fresh
+    where
+      at_test : (b : Bool) → (cond b (with_case old derivation) old).grammar ≡ old.grammar
+      at_test true = refl
+      at_test false = refl
+  same_grammar old new goal Infeasible s is = ap (λ (c : PlainCases). c.grammar) is.1
+  same_grammar old new goal Large s is = ap (λ (c : PlainCases). c.grammar) is.1
 
   module _ (texts : Option Texts) (lexemes : Option (List (Option (List ℕ)))) where
-    pub some_shared : (cases : List (List ℕ)) (goals : List Goal) (entries : List GoalEntry) → AllZip (IsEntryOf of texts lexemes) goals entries
-        → IsNotWithout (AreShared of.grammar cases entries)
-    some_shared cases [] [] each none = none [] refl
-    some_shared cases [] (e ∷ entries) each none = absurd each
-    some_shared cases (goal ∷ goals) [] each none = absurd each
-    some_shared cases (goal ∷ goals) (e ∷ entries) each none =
+    pub some_shared : (old : PlainCases) (goals : List Goal) (entries : List GoalEntry) → old.grammar ≡ of.grammar → AllZip (IsEntryOf of texts lexemes) goals entries
+        → IsNotWithout (λ (p : PlainCases × List SharedEntry). AreShared old entries p.0 p.1)
+    some_shared old [] [] same each none = none (old, []) (refl, refl)
+    some_shared old [] (e ∷ entries) same each none = absurd each
+    some_shared old (goal ∷ goals) [] same each none = absurd each
+    some_shared old (goal ∷ goals) (e ∷ entries) same each none =
         let verdict = subst (λ (x : Goal). IsVerdict of.weights of.grammar x e.verdict) (sym each.0.is_of) each.0.verdict in
-        some_verdict cases e.goal e.verdict verdict
-        (λ v is. some_shared (cases_behind cases e.verdict) goals entries each.1
-        (λ others are.
-        let first : SharedEntry = record { entry = e; verdict = v } in
-        none (first ∷ others) (first, others, refl, record { is_of = refl; verdict = is }, are)))
+        some_verdict old e.goal e.verdict same verdict
+        (λ p is. some_shared p.0 goals entries (same_grammar old p.0 e.goal e.verdict p.1 is ∙ same) each.1
+        (λ q are.
+        let first : SharedEntry = record { entry = e; verdict = p.1 } in
+        none (q.0, first ∷ q.1) (p.0, first, q.1, refl, record { is_of = refl; verdict = is }, are)))

@@ -2,7 +2,6 @@ pub mod Words
 pub mod Names
 pub mod Closed
 pub mod Collecting
-pub mod Cases
 pub mod Lines
 pub mod SharedLines
 pub mod Head

@@ -16,6 +16,8 @@ use Rattle.cs_positive.specs.declared.verdict.Verdict.TheVariants.{Feasible, Inf
 use Rattle.cs_positive.specs.Verdict.{IsVerdict}
 use Rattle.cs_scan.specs.Scan.{Scanning}
 use Rattle.cs_lexeme.specs.Lexeme.{AreLexemes}
+use Rattle.cs_cases.specs.declared.cases.Named.{Named}
+use Rattle.cs_cases.specs.Cases.{IsPlaced, PlainCases, no_cases}
 use Rattle.cs_render.specs.Rendering.{Rendering, IsRendered}
 use Rattle.cs_mutate.specs.declared.edit.Operators.{Operators}
 use Rattle.cs_mutate.specs.declared.negative.Negative.{Negative}
@@ -28,8 +30,6 @@ use Rattle.cs_manifest.specs.declared.format.Format.{Format}
 use Rattle.cs_manifest.specs.declared.format.Format.TheVariants.{One, Two}
 use Rattle.cs_manifest.specs.declared.format.Weigh.{Weigh}
 use Rattle.cs_manifest.specs.declared.format.Weigh.TheVariants.{Nodes, Bytes}
-use Rattle.cs_cases.specs.declared.cases.Named.{Named}
-use Rattle.cs_manifest.specs.Cases.{IsNamed, with_case}
 use Rattle.cs_manifest.specs.Closed.{AreClosedSets, ClosedSets}
 use Rattle.cs_manifest.specs.SharedLines.{case_lines, shared_goal_line, shared_head_lines}
 use Rattle.cs_manifest.specs.Lines.{head_lines, goal_lines, base_line, negative_lines, end_words, is_feasible, is_infeasible, is_large}
@@ -173,43 +173,29 @@ BasesOf g choice lexemes bases entries = AllZip (IsBaseOf g choice lexemes) base
 
 -- ---- cases
 
--- the cases behind a goal of this verdict: a feasible goal's derivation is one
-abbrev pub cases_behind : List (List ℕ) → Verdict → List (List ℕ)
-cases_behind before (Feasible size derivation) = with_case before derivation
-cases_behind before Infeasible = before
-cases_behind before Large = before
-
--- the cases behind these entries
-abbrev pub cases_after : List (List ℕ) → List GoalEntry → List (List ℕ)
-cases_after before [] = before
-cases_after before (entry ∷ rest) = cases_after (cases_behind before entry.verdict) rest
-
--- the cases of a manifest: the derivations of its feasible goals, each once, in order
-abbrev pub cases : List GoalEntry → List (List ℕ)
-cases entries = cases_after [] entries
-
--- the verdict of a goal in the second format, behind these cases
-abbrev pub IsSharedVerdict : PlainGrammar → List (List ℕ) → Goal → Verdict → SharedVerdict → Type 0
-IsSharedVerdict g before goal (Feasible size derivation) verdict =
-    (named : Named) × (verdict ≡ shared.Feasible size named) × IsNamed g before goal derivation named
-IsSharedVerdict g before goal Infeasible verdict = verdict ≡ shared.Infeasible
-IsSharedVerdict g before goal Large verdict = verdict ≡ shared.Large
+-- the verdict of a goal in the second format, from the cases before it to those behind it: a feasible goal's derivation is placed
+-- among them, and the goal names what is told then
+abbrev pub IsSharedVerdict : PlainCases → Goal → Verdict → PlainCases → SharedVerdict → Type 0
+IsSharedVerdict old goal (Feasible size derivation) new verdict =
+    (named : Named) × (verdict ≡ shared.Feasible size named) × IsPlaced old goal derivation new named
+IsSharedVerdict old goal Infeasible new verdict = (verdict ≡ shared.Infeasible) × (new ≡ old)
+IsSharedVerdict old goal Large new verdict = (verdict ≡ shared.Large) × (new ≡ old)
 
 -- an entry, with its verdict in the second format
 pub record SharedEntry : Type 0 where
   pub entry : GoalEntry
   pub verdict : SharedVerdict
 
-pub record IsShared (g : PlainGrammar) (before : List (List ℕ)) (entry : GoalEntry) (s : SharedEntry) : Type 0 where
+pub record IsShared (old : PlainCases) (entry : GoalEntry) (new : PlainCases) (s : SharedEntry) : Type 0 where
   pub is_of : s.entry ≡ entry
-  pub verdict : IsSharedVerdict g before entry.goal entry.verdict s.verdict
+  pub verdict : IsSharedVerdict old entry.goal entry.verdict new s.verdict
 
--- one for each of these entries, in order, behind these cases
-abbrev pub AreShared : PlainGrammar → List (List ℕ) → List GoalEntry → List SharedEntry → Type 0
-AreShared g before [] list = list ≡ []
-AreShared g before (entry ∷ rest) list =
-    (first : SharedEntry) × (others : List SharedEntry) × (list ≡ first ∷ others) × IsShared g before entry first
-    × AreShared g (cases_behind before entry.verdict) rest others
+-- one for each of these entries, in order, from the cases before them to those behind them
+abbrev pub AreShared : PlainCases → List GoalEntry → PlainCases → List SharedEntry → Type 0
+AreShared old [] new list = (list ≡ []) × (new ≡ old)
+AreShared old (entry ∷ rest) new list =
+    (mid : PlainCases) × (first : SharedEntry) × (others : List SharedEntry) × (list ≡ first ∷ others) × IsShared old entry mid first
+    × AreShared mid rest new others
 
 -- ---- the text
 
@@ -263,19 +249,20 @@ abbrev pub manifest_text : File → Option (List (Option (List ℕ))) → List G
 manifest_text file lexemes entries bases =
     head_lines file lexemes ++ numbered (goal_entry_lines file) entries ++ base_entry_lines file 0 0 bases ++ end_line entries bases
 
--- the text in the second format
-abbrev pub shared_text : File → Weigh → Option (List (Option (List ℕ))) → ClosedSets → List GoalEntry → List SharedEntry → List BaseEntry → List ℕ
-shared_text file weigh lexemes closed entries list bases =
+-- the text in the second format, with so many cases
+abbrev pub shared_text : File → Weigh → Option (List (Option (List ℕ))) → ClosedSets → List GoalEntry → List SharedEntry → ℕ → List BaseEntry → List ℕ
+shared_text file weigh lexemes closed entries list many bases =
     shared_head_lines file weigh lexemes closed ++ numbered (shared_entry_lines file) list ++ base_entry_lines file 0 0 bases
-    ++ end_line_with (Some (length (cases entries))) entries bases
+    ++ end_line_with (Some many) entries bases
 
 -- it is the text in the second format
 pub record IsSharedText (file : File) (weigh : Weigh) (lexemes : Option (List (Option (List ℕ)))) (entries : List GoalEntry) (bases : List BaseEntry) (text : List ℕ) : Type 0 where
   pub closed : ClosedSets
+  pub cases : PlainCases
   pub list : List SharedEntry
   pub are_closed : AreClosedSets file.grammar closed
-  pub are_shared : AreShared file.grammar [] entries list
-  pub lines : text ≡ shared_text file weigh lexemes closed entries list bases
+  pub are_shared : AreShared (no_cases file.grammar) entries cases list
+  pub lines : text ≡ shared_text file weigh lexemes closed entries list (length cases.codes) bases
 
 -- it is the text in the format
 abbrev pub IsTextIn : Format → Weigh → File → Option (List (Option (List ℕ))) → List GoalEntry → List BaseEntry → List ℕ → Type 0

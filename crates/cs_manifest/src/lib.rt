@@ -5,12 +5,11 @@
 //! is seen as its head and the counts of what was written so far. The second format has the [`Closed`] sets of the grammar in
 //! its head.
 //!
-//! Meaning, from the top down: `specs/Manifest` (the manifest of a file by a choice), `Cases` (what goals name in the second
-//! format), `Closed` (the closed sets of a grammar), `Progress` (what contracts see of a manifest), `Counts`, `Head` and `Entry`
-//! (which lines stand for what), `Lines` and `SharedLines` (the lines of both formats and those of the second, in their order),
-//! `Names` (the names of symbols, and which numbers have one), `Words` (words, lines and escapes), `Sinks` (what a call did to a
-//! sink). Working words of proofs: `Collecting` and
-//! `Putting`.
+//! Meaning, from the top down: `specs/Manifest` (the manifest of a file by a choice), `Closed` (the closed sets of a grammar),
+//! `Progress` (what contracts see of a manifest), `Counts`, `Head` and `Entry` (which lines stand for what), `Lines` and
+//! `SharedLines` (the lines of both formats and those of the second, in their order), `Names` (the names of symbols, and which
+//! numbers have one), `Words` (words, lines and escapes), `Sinks` (what a call did to a sink). Working words of proofs:
+//! `Collecting` and `Putting`.
 #![tactic(auto)]
 
 mod closed;

@@ -1,6 +1,7 @@
 // The lines of the second format: what is expected was written by hand from the page on formats.
 
 ghost use Rattle.std.specs.Prelude.{◌≡◌, OnOk, length};
+ghost use Rattle.cs_manifest.specs.Closed.{AreClosedSets};
 ghost use Rattle.cs_manifest.specs.Head.{IsNamedHead};
 ghost use Rattle.cs_manifest.specs.Names.{IsNamedGoal};
 
@@ -16,6 +17,7 @@ use cs_mutate::Edit;
 use cs_positive::Tables;
 use cs_render::Rendered;
 use cs_scan::Scanner;
+use cs_yacc::YaccFile;
 use std::alloc::Global;
 use std::test::Fail;
 
@@ -140,12 +142,27 @@ fn write(
     let weights = Weights::nodes(alloc, tokens)?;
     let tables = Tables::new(alloc, yacc.grammar(), &weights)?;
     let closed = Closed::new(alloc, &tables)?;
+    write_shared(alloc, &yacc, &lexemes, weigh, &closed, entries, sink)
+}
+
+fn write_shared<'a>(
+    alloc: Global,
+    yacc: &'a YaccFile,
+    lexemes: &'a Lexemes,
+    weigh: Weigh,
+    closed: &'a Closed,
+    entries: Entries,
+    sink: &mut MemorySink,
+) -> Result<Counts, Trouble>
+    requires lexemes { length lexemes.now ≡ length yacc.now.token_names }
+    requires closed { AreClosedSets yacc.now.grammar closed.now }
+{
     let head = Head {
-        yacc: &yacc,
+        yacc,
         form: Form::Shared {
-            lexemes: &lexemes,
+            lexemes,
             weigh,
-            closed: &closed,
+            closed,
         },
     };
     write_lines(alloc, &head, entries, sink)
@@ -233,7 +250,13 @@ fn write_goals(manifest: &mut Manifest<'_>, sink: &mut MemorySink) -> Result<(),
     let own = SharedVerdict::Feasible { size: 2, named };
     write_goal(manifest, sink, 1, Goal::Rule(1), own)?;
     write_goal(manifest, sink, 2, pair(Mark::Begin, x), own)?;
-    write_goal(manifest, sink, 3, pair(Mark::Begin, Mark::End), SharedVerdict::Infeasible)?;
+    write_goal(
+        manifest,
+        sink,
+        3,
+        pair(Mark::Begin, Mark::End),
+        SharedVerdict::Infeasible,
+    )?;
     write_goal(manifest, sink, 4, pair(x, x), SharedVerdict::Infeasible)?;
     write_goal(manifest, sink, 5, pair(x, Mark::End), own)
 }
