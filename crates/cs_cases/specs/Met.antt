@@ -1,5 +1,5 @@
 -- The goals that a tree meets, as one list.
-use Rattle.std.specs.Prelude.{◌≡◌, ℕ, ◌+◌, List, [], ◌∷◌, ◌++◌}
+use Rattle.std.specs.Prelude.{◌≡◌, ℕ, ◌+◌, List, [], ◌∷◌, ◌++◌, reverse}
 use Rattle.std.specs.Global.{Vec}
 use Rattle.cs_grammar.specs.declared.symbol.Symbol.{Symbol}
 use Rattle.cs_grammar.specs.declared.symbol.Symbol.TheVariants as symbol
@@ -58,3 +58,7 @@ spots_from outer place (symbol.Nonterminal n ∷ xs) = record { outer = outer; p
 abbrev pub TakesFirst : List Spot → List Spot → ℕ → List Goal → List Goal → Type 0
 TakesFirst [] spots r old new = (spots ≡ []) × (new ≡ old)
 TakesFirst (spot ∷ others) spots r old new = (spots ≡ others) × (new ≡ old ++ Context spot.outer spot.place r ∷ [])
+
+-- so where the open nonterminals stand in reverse
+abbrev pub TakesTop : ℕ → Vec Spot → Vec Spot → Vec Goal → Vec Goal → Type 0
+TakesTop r old new given shown = TakesFirst (reverse old.items) (reverse new.items) r given.items shown.items

@@ -121,17 +121,17 @@ impl<'g> Cases<'g> {
 
 // One more code at the end, and its number for the goals that have no case yet. After a refusal there may be some goals more.
 fn add_case(
-    codes: &mut IndexSet<Vec<u16>>,
-    firsts: &mut Firsts,
+    keys: &mut IndexSet<Vec<u16>>,
+    table: &mut Firsts,
     code: Vec<u16>,
     goals: &[Goal],
 ) -> Result<(), AllocError>
-    requires { Contains (codes_in codes.old.keys) code.items → ⊥ }
-    ensures added { OnOk result (AreAdded codes.old.keys firsts.old code goals.now codes.new.keys firsts.new) }
-    ensures codes { OnErr result (codes.new.keys ≡ codes.old.keys) }
-    ensures firsts { OnErr result (IsGrown firsts.old firsts.new) }
+    requires { Contains (codes_in keys.old.keys) code.items → ⊥ }
+    ensures ok { OnOk result (AreAdded keys.old.keys table.old code goals.now keys.new.keys table.new) }
+    ensures keys { OnErr result (keys.new.keys ≡ keys.old.keys) }
+    ensures table { OnErr result (IsGrown table.old table.new) }
 {
-    firsts.add_all(goals, codes.len() as u64 + 1)?;
-    codes.insert(code)?;
+    table.add_all(goals, keys.len() as u64 + 1)?;
+    keys.insert(code)?;
     Ok(())
 }

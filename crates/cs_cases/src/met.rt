@@ -1,10 +1,10 @@
 // The goals that a derivation's tree meets.
 
-ghost use Rattle.std.specs.Prelude.{◌≡◌, ◌++◌, ◌≤◌, IfOk, OnOk, length, map, reverse};
+ghost use Rattle.std.specs.Prelude.{◌≡◌, ◌++◌, ◌≤◌, IfOk, OnOk, length, map};
 ghost use Rattle.cs_grammar.specs.Stack.{AreOnTop};
 ghost use Rattle.cs_grammar.specs.Tree.{IsDerivationOf};
 ghost use Rattle.cs_goals.specs.declared.goal.Goal.TheVariants.{Rule};
-ghost use Rattle.cs_cases.specs.Met.{AreMet, AreContexts, framed_pairs, spots_from, TakesFirst};
+ghost use Rattle.cs_cases.specs.Met.{AreMet, AreContexts, framed_pairs, spots_from, TakesTop};
 
 use cs_goals::Goal;
 use cs_grammar::{Derivation, Grammar, Mark, Symbol, number_of, yield_of};
@@ -78,7 +78,7 @@ fn push_contexts(
 
 // Takes the first open nonterminal, for which the rule was put in. The root stands nowhere.
 fn push_context(inner: u16, spots: &mut Vec<Spot>, goals: &mut Vec<Goal>) -> Result<(), AllocError>
-    ensures { OnOk result (TakesFirst (reverse spots.old.items) (reverse spots.new.items) inner goals.old.items goals.new.items) }
+    ensures { OnOk result (TakesTop inner spots.old spots.new goals.old goals.new) }
 {
     if let Some(Spot { outer, place }) = spots.pop() {
         goals.push(Goal::Context {

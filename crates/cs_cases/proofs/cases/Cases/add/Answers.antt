@@ -18,10 +18,10 @@ pub invariant_of-self-else-is_err : goal.invariant_of-self-else-is_err
 invariant_of-self-else-is_err c =
     let g = c.self.inside.grammar.now in
     let keys = c.self.inside.codes.keys in
-    let after = c.add_case-added.new.firsts in
+    let after = c.add_case-added.new.table in
     let goals = c.in_ok-goals.goals.items in
     let code = c.in_ok-code.code.items in
-    let a = on_ok c.add_case-added.result (sym c.is_err.ensures.value ∙ c.if-is_err.false) c.add_case-added.ensures.added in
+    let a = on_ok c.add_case-added.result (sym c.is_err.ensures.value ∙ c.if-is_err.false) c.add_case-added.ensures.ok in
     let added = subst (λ (gs : List Goal). AreAllAdded c.self.inside.firsts gs (length keys + 1) after) c.deref.ensures.value a.firsts in
     let code_is : code ≡ c.args.derivation.now = c.in_ok-code.ensures.items ∙ c.rules.ensures in
     let met = subst (λ (rules : List ℕ). HasExactly goals (λ q. IsMeeting g q rules)) (sym code_is) c.in_ok-goals.ensures in
