@@ -74,6 +74,7 @@ COMMANDS = [
     ["rules", example("calculator.y")],
     ["suite", example("g1.y"), example("l1.l"), "--bases=2"],
     ["suite", example("lists.y"), example("lists.l"), "--criteria=rule", "--bases=1"],
+    ["gen", "1"],
 ]
 
 
