@@ -37,8 +37,83 @@ fn check(
     Ok(())
 }
 
-// Worked by hand: the rule goals of the sums, of which two have one code and the third is met by an earlier case too, and then
-// goals of the other kinds.
+// Worked by hand: the rule goals of the sums, of which two have one code, and the third is met by an earlier case too.
+fn check_rules(rt: &impl Abort, alloc: Global, cases: &mut Cases) -> Result<(), AllocError> {
+    let own = named(2, 1, true);
+    let again = named(2, 1, false);
+    check(
+        rt,
+        alloc,
+        cases,
+        Goal::Rule(1),
+        &[1, 2, 3, 3],
+        named(1, 1, true),
+    )?;
+    check(rt, alloc, cases, Goal::Rule(2), &[2, 3], own)?;
+    check(rt, alloc, cases, Goal::Rule(3), &[2, 3], again)?;
+    check(
+        rt,
+        alloc,
+        cases,
+        Goal::Rule(4),
+        &[2, 4, 2, 3],
+        named(3, 3, true),
+    )
+}
+
+fn context(outer: u16, place: u16, inner: u16) -> Goal {
+    Goal::Context {
+        outer,
+        place,
+        inner,
+    }
+}
+
+// Contexts behind them, the last of which no case meets yet.
+fn check_contexts(rt: &impl Abort, alloc: Global, cases: &mut Cases) -> Result<(), AllocError> {
+    let again = named(2, 1, false);
+    check(rt, alloc, cases, context(2, 1, 3), &[2, 3], again)?;
+    check(
+        rt,
+        alloc,
+        cases,
+        context(4, 2, 2),
+        &[2, 4, 2, 3],
+        named(3, 3, false),
+    )?;
+    check(
+        rt,
+        alloc,
+        cases,
+        context(1, 1, 1),
+        &[1, 1, 2, 3, 3, 3],
+        named(4, 4, true),
+    )
+}
+
+fn pair(left: Mark, right: Mark) -> Goal {
+    Goal::Pair { left, right }
+}
+
+// And pairs: NUM is 1, '+' 2, '(' 3 and ')' 4.
+fn check_pairs(rt: &impl Abort, alloc: Global, cases: &mut Cases) -> Result<(), AllocError> {
+    let first = pair(Mark::Begin, Mark::Token(3));
+    check(rt, alloc, cases, first, &[2, 4, 2, 3], named(3, 3, false))?;
+    let last = pair(Mark::Token(1), Mark::End);
+    check(rt, alloc, cases, last, &[2, 3], named(2, 1, false))?;
+    let inner = pair(Mark::Token(2), Mark::Token(1));
+    check(rt, alloc, cases, inner, &[1, 2, 3, 3], named(1, 1, false))?;
+    let closing = pair(Mark::Token(4), Mark::Token(4));
+    check(
+        rt,
+        alloc,
+        cases,
+        closing,
+        &[2, 4, 2, 4, 2, 3],
+        named(5, 5, true),
+    )
+}
+
 #[test]
 fn cases_of_sums(rt: HostRuntime) -> Result<(), Fail> {
     let alloc = rt.alloc();
@@ -46,36 +121,8 @@ fn cases_of_sums(rt: HostRuntime) -> Result<(), Fail> {
     assert!(rt; Grammar::fits(4, 2, 1, &rules));
     let grammar = Grammar::new(4, 2, 1, rules);
     let mut cases = Cases::new(alloc, &grammar);
-    let context = |outer, place, inner| Goal::Context {
-        outer,
-        place,
-        inner,
-    };
-    let pair = |left, right| Goal::Pair { left, right };
-    let [num, plus, opening, closing] = [1, 2, 3, 4].map(Mark::Token);
-    let rows: [(Goal, &[u16], Named); 11] = [
-        (Goal::Rule(1), &[1, 2, 3, 3], named(1, 1, true)),
-        (Goal::Rule(2), &[2, 3], named(2, 1, true)),
-        (Goal::Rule(3), &[2, 3], named(2, 1, false)),
-        (Goal::Rule(4), &[2, 4, 2, 3], named(3, 3, true)),
-        (context(2, 1, 3), &[2, 3], named(2, 1, false)),
-        (context(4, 2, 2), &[2, 4, 2, 3], named(3, 3, false)),
-        (context(1, 1, 1), &[1, 1, 2, 3, 3, 3], named(4, 4, true)),
-        (
-            pair(Mark::Begin, opening),
-            &[2, 4, 2, 3],
-            named(3, 3, false),
-        ),
-        (pair(num, Mark::End), &[2, 3], named(2, 1, false)),
-        (pair(plus, num), &[1, 2, 3, 3], named(1, 1, false)),
-        (
-            pair(closing, closing),
-            &[2, 4, 2, 4, 2, 3],
-            named(5, 5, true),
-        ),
-    ];
-    for (goal, code, want) in rows {
-        check(&rt, alloc, &mut cases, goal, code, want)?;
-    }
+    check_rules(&rt, alloc, &mut cases)?;
+    check_contexts(&rt, alloc, &mut cases)?;
+    check_pairs(&rt, alloc, &mut cases)?;
     Ok(())
 }
