@@ -4,7 +4,8 @@ use crate::failing::{desk, ends, has_room, words, wrong_call, wrong_room};
 use cs_io::MemorySink;
 use std::test::Fail;
 
-const SUMMARY: &[u8] = b"gen 1 yacc 1240 lex 378 goals 968 feasible 862 infeasible 106 large 0 negatives 1442 bytes 315463\n";
+const SUMMARY: &[u8] =
+    b"gen 1 yacc 1240 lex 378 goals 968 feasible 862 infeasible 106 large 0 negatives 1442 bytes 315463\n";
 
 #[test]
 fn no_file_is_asked_for(rt: HostRuntime) -> Result<(), Fail> {
