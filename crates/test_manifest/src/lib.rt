@@ -4,8 +4,4 @@
 #[cfg(test)]
 mod bases;
 #[cfg(test)]
-mod files;
-#[cfg(test)]
 mod lines;
-#[cfg(test)]
-mod shared;
