@@ -1,6 +1,7 @@
 // The items of a yacc file.
 
-ghost use Rattle.std.specs.Prelude.{◌≡◌, ◌<◌, ℕ, suc, false, length, drop, IsTrue, slice_get, Some};
+ghost use Rattle.std.specs.Prelude.{◌≡◌, ◌<◌, ◌≤◌, ℕ, suc, false, length, drop, IsTrue, slice_get, Some};
+ghost use Rattle.std.specs.List.{prefix_len};
 ghost use Rattle.cs_bytes.specs.Names.{percent, quote, less_sign, slash, opening_brace};
 ghost use Rattle.cs_bytes.specs.Classes.{is_digit};
 ghost use Rattle.cs_bytes.specs.Places.{front, begins_with, has_at};
@@ -116,11 +117,27 @@ fn tag_at(text: &[u8]) -> Front<'_>
     }
 }
 
+/// Whether a name goes on with the byte.
+fn is_name_byte(byte: u8) -> bool
+    ensures { result ≡ kinds.is_name_byte byte }
+{
+    byte.is_ascii_alphabetic() || byte == b'_' || byte.is_ascii_digit() || byte == b'.'
+}
+
+/// How many bytes in front of the text may stand in a name. Most bytes of a file are looked at here, so this tests them by
+/// one test, where `run_len` asks for their class.
+fn name_len(text: &[u8]) -> usize
+    ensures len { result ≡ prefix_len kinds.is_name_byte text.now }
+    ensures within { result ≤ length text.now }
+{
+    text.iter().take_while(|byte| is_name_byte(**byte)).count()
+}
+
 fn name_at(text: &[u8]) -> Front<'_>
     requires { IsTrue (front kinds.begins_name text.now) }
     ensures { FindsFront text.now result }
 {
-    let size = run_len(text, ByteClass::WordOr(b'.'));
+    let size = name_len(text);
     Front::Item(Item::Name(&text[..size]), size)
 }
 
