@@ -151,7 +151,7 @@ module _ (P : TokenName → Type 0) where
   body_spelled (literal b ∷ items) h = All-cons P (Byte b) (body items) (All-head P (Byte b) (spelled items) h) (body_spelled items (All-tail P (Byte b) (spelled items) h))
   body_spelled (i ∷ items) h = All-nil P
 
-  spelled_tail : (i : Item) (items : List Item) → All P (spelled (i ∷ items)) → All P (spelled items)
+  pub spelled_tail : (i : Item) (items : List Item) → All P (spelled (i ∷ items)) → All P (spelled items)
   spelled_tail (name n) items h = All-tail P (Word n) (spelled items) h
   spelled_tail (literal b) items h = All-tail P (Byte b) (spelled items) h
   spelled_tail i items h = h
@@ -229,6 +229,12 @@ module _ (P : TokenName → Type 0) where
           both (literal b) h g = All-cons P (Byte b) (spelled (items_of rest)) (All-head P (Byte b) (spelled (items_of ps)) h) g
           both i h g = g
       by_test false g = g
+
+-- the spellings of the items with a meaning are among those of all
+pub meant_are_spelled : (all : List Placed) → All (IsIn (distinct (spelled (items_of all)))) (spelled (items_of (with_meaning all)))
+meant_are_spelled all =
+    let there = spelled (items_of all) in
+    All-weaker (IsIn there) (IsIn (distinct there)) (λ w h. has_distinct there w ∙ h) (spelled (items_of (with_meaning all))) (with_meaning_spelled (IsIn there) None all (has_self there))
 
 -- a kept rule's left side is a nonterminal
 pub lefts_known : (items : List Item) → All (λ (r : SpelledRule). IsIn (nonterminals items) r.left) (kept items)

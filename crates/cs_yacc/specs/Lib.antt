@@ -9,3 +9,4 @@ pub mod PartsView
 pub mod AcceptedView
 pub mod TokenNumbers
 pub mod SpellingHash
+pub mod SymbolTable

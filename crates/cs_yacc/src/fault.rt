@@ -1,11 +1,12 @@
 // The first faults of the items.
 
 ghost use Rattle.std.specs.Prelude.{◌≡◌, ◌≤◌, length};
+ghost use Rattle.std.specs.List.{list_any};
 ghost use Rattle.std.specs.Option.{option_to_list};
 ghost use Rattle.cs_yacc.specs.Meaning as spec;
 ghost use Rattle.cs_yacc_items.specs.Views.{item_of, placed_all};
-ghost use Rattle.cs_yacc.specs.Finding.{later_fault};
-ghost use Rattle.cs_yacc.specs.SpellingView.{items_in};
+ghost use Rattle.cs_yacc.specs.Finding.{later_fault, is_unknown, HoldsSpellings};
+ghost use Rattle.cs_yacc.specs.SpellingView.{spelling_of, items_in};
 
 use crate::error::YaccError;
 use crate::gather::{behind, left_at};
@@ -119,6 +120,47 @@ fn first_undefined(
     None
 }
 
+/// Whether the spelling is a name that is neither declared nor a left side.
+fn is_unknown(declared: &Spellings<'_>, lefts: &Spellings<'_>, spelling: Spelling<'_>) -> bool
+    ensures { result ≡ is_unknown declared.now lefts.now (spelling_of spelling.entry) }
+{
+    match spelling {
+        Spelling::Named(_) => !declared.has(spelling) && !lefts.has(spelling),
+        Spelling::Quoted(_) => false,
+    }
+}
+
+/// Whether such a name is among the spellings.
+fn has_unknown(spelled: &Spellings<'_>, declared: &Spellings<'_>, lefts: &Spellings<'_>) -> bool
+    ensures { result ≡ list_any (is_unknown declared.now lefts.now) spelled.now }
+{
+    for spelling in spelled.as_slice() {
+        if is_unknown(declared, lefts, *spelling) {
+            return true;
+        }
+    }
+    false
+}
+
+/// The offset of the first name behind the first mark that is neither declared nor a left side. The items are looked at only
+/// where such a name is among the spellings, which are far fewer.
+fn undefined_name(
+    items: &[Placed<'_>],
+    spelled: &Spellings<'_>,
+    declared: &Spellings<'_>,
+    lefts: &Spellings<'_>,
+) -> Option<u32>
+    requires { HoldsSpellings spelled.now (items_in items.now) }
+    ensures { result ≡ spec.first_undefined declared.now lefts.now
+        (spec.behind_mark (placed_all items.now)) }
+{
+    if has_unknown(spelled, declared, lefts) {
+        first_undefined(behind_mark(items), declared, lefts)
+    } else {
+        None
+    }
+}
+
 fn is_no_left(lefts: &Spellings<'_>, item: Item<'_>) -> bool
     ensures { result ≡ spec.is_no_left lefts.now (item_of item.entry) }
 {
@@ -138,19 +180,21 @@ fn wrong_start(start: Option<Placed<'_>>, lefts: &Spellings<'_>) -> Option<u32>
     }
 }
 
-/// The first fault that lies in names, but for a second `%start`.
+/// The first fault that lies in names, but for a second `%start`; `spelled` are the spellings of all items.
 pub fn name_fault(
     start: Option<Placed<'_>>,
     items: &[Placed<'_>],
+    spelled: &Spellings<'_>,
     known: &Spellings<'_>,
     lefts: &Spellings<'_>,
 ) -> Option<YaccError>
+    requires { HoldsSpellings spelled.now (items_in items.now) }
     ensures { result ≡ later_fault start.entry items.now known.now lefts.now }
 {
     if let Some(at) = first_token_on_left(items, known) {
         return Some(YaccError::TokenOnLeft { at });
     }
-    if let Some(at) = first_undefined(behind_mark(items), known, lefts) {
+    if let Some(at) = undefined_name(items, spelled, known, lefts) {
         return Some(YaccError::Undefined { at });
     }
     match wrong_start(start, lefts) {

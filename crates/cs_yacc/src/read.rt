@@ -140,7 +140,7 @@ fn meaning(alloc: Global, all: Vec<Placed<'_>>) -> Result<YaccFile, YaccError>
     let items = with_meaning(all);
     let declared = declared(alloc, &items)?;
     let lefts = nonterminals(alloc, &items)?;
-    match name_fault(start, &items, &declared, &lefts) {
+    match name_fault(start, &items, &spelled, &declared, &lefts) {
         Some(fault) => Err(fault),
         None => file_of(alloc, &spelled, start, &items, lefts),
     }

@@ -11,6 +11,9 @@ use crate::spelling::{Spelling, holds_error};
 use cs_yacc_items::{Item, Placed};
 use std::alloc::{AllocError, Global};
 
+// Most bodies need no more room than this, which they are given at once.
+const USUAL_SYMBOLS: usize = 8;
+
 /// A left side and one of its bodies.
 #[derive(Debug, Drop)]
 pub struct SpelledRule<'a> {
@@ -33,7 +36,7 @@ fn spelling_next<'a>(item: Item<'a>, behind: &[Placed<'a>]) -> Option<Spelling<'
 fn body<'a>(alloc: Global, items: &[Placed<'a>]) -> Result<Vec<Spelling<'a>>, AllocError>
     ensures { IfOk result (λ v. spellings_of v.items ≡ spec.body (items_in items.now)) }
 {
-    let mut spellings = Vec::new(alloc);
+    let mut spellings = Vec::with_capacity(alloc, USUAL_SYMBOLS)?;
     for (index, placed) in items.iter().enumerate() {
         match spelling_next(placed.item, behind(items, index)) {
             Some(spelling) => spellings.push(spelling)?,

@@ -3,15 +3,25 @@ use Rattle.std.specs.Prelude.{List, None}
 use Rattle.cs_yacc_items.specs.declared.item.Placed as held
 use Rattle.cs_yacc_items.specs.Items.{Placed, items_of}
 use Rattle.cs_yacc_items.specs.Views.{placed_all}
-use Rattle.cs_yacc.specs.Meaning.{declared_tokens, nonterminals, distinct, spelled, behind_start, first_start, start_item, file_or_limit, parts_of}
-use Rattle.cs_yacc.specs.Finding.{IsGiven, placed_of_some}
+use Rattle.cs_yacc.specs.declared.name.TokenName.{TokenName}
+use Rattle.cs_yacc.specs.Meaning.{declared_tokens, nonterminals, distinct, spelled, with_meaning, behind_start, first_start, start_item, file_or_limit, parts_of}
+use Rattle.cs_yacc.specs.Finding.{IsGiven, HoldsSpellings, placed_of_some}
 use Rattle.cs_yacc.proofs.Counts.{few_words, few_held}
+use Rattle.cs_yacc.proofs.Names.{meant_are_spelled}
 use Rattle.cs_yacc.proofs.Whole.{gives_second_start, name_fault_behind, gives_fault, gives_rest, started, few_with_meaning, left_fit, parts_same}
 use Rattle.cs_yacc.proofs.read.meaning.Goals as goal
 
 pub returns-in-Some : goal.returns-in-Some
 returns-in-Some c =
     gives_second_start (placed_all c.args.all.items) c.in-Some.at (c.in-Some.ensures ∙ ap (λ (xs : List held.Placed). first_start (behind_start (placed_all xs))) c.deref.ensures.value)
+
+pub name_fault-requires : goal.name_fault-requires
+name_fault-requires c =
+    let all : List Placed = placed_all c.args.all.items in
+    let words : c.in_ok-spelled.spelled ≡ distinct (spelled (items_of all)) = c.in_ok-spelled.ensures ∙ ap (λ (xs : List held.Placed). distinct (spelled (items_of (placed_all xs)))) c.deref-3.ensures.value in
+    let meant : placed_all c.deref-6.result.now ≡ with_meaning all = ap placed_all c.deref-6.ensures.value ∙ c.with_meaning-items.ensures in
+    subst (λ (ws : List TokenName). HoldsSpellings ws (items_of (placed_all c.deref-6.result.now))) (sym words)
+    (subst (λ (ps : List Placed). HoldsSpellings (distinct (spelled (items_of all))) (items_of ps)) (sym meant) (meant_are_spelled all))
 
 pub returns-in-Some-name_fault : goal.returns-in-Some-name_fault
 returns-in-Some-name_fault c =
