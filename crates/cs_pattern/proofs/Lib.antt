@@ -9,7 +9,8 @@ pub mod Built
 pub mod Shallow
 pub mod Deep
 pub mod Limited
-pub mod Marking
+pub mod Pending
+pub mod Places
 pub mod Knowing
 pub mod TextTrees
 pub mod Sizes

@@ -118,21 +118,21 @@ module _ (ds : List Definition) (bodies : List (Vec code.Op)) (measured_as : Lis
       beyond_is_fault text ds (depth h.tree) (leaves (pattern_of h.tree)) f over (record { tree = h.tree; is_tree = h.is_tree; passes = over })
 
   -- the patterns of what the operations use are known
-  use_built : (ops : List Op) (marks : List Bool) (known : List (Option Pattern)) → AreNeeded bodies ops marks → AreKnown ds marks known → (spelled : Tree) → ops ≡ tree_ops (number_of ds) spelled
+  use_built : (ops : List Op) (needs : List ℕ) (known : List (ℕ × Pattern)) → AreNeeded bodies ops needs → AreKnown ds needs known → (spelled : Tree) → ops ≡ tree_ops (number_of ds) spelled
       → AreBuilt ds (known_at known) (tree_items spelled)
-  use_built ops marks known needed k spelled g i u d other at t =
-      k i d other (needed.marked i (directly i (subst (λ (o : List Op). Substitutes o i) (sym g) (tree_puts ds spelled i u)) (let n = a.body_count in omega (arith, get_within ds i d at)))) at t
+  use_built ops needs known needed k spelled g i u d other at t =
+      k i d other (needed.all i (directly i (subst (λ (o : List Op). Substitutes o i) (sym g) (tree_puts ds spelled i u)) (let n = a.body_count in omega (arith, get_within ds i d at)))) at t
 
   -- with the definitions put in, a tree has the pattern that its operations build
-  pub put_in_is : (ops : List Op) (r : Regex) (marks : List Bool) (known : List (Option Pattern)) → r ≡ value_of (patterns (known_at known)) ops → AreNeeded bodies ops marks → AreKnown ds marks known
+  pub put_in_is : (ops : List Op) (r : Regex) (needs : List ℕ) (known : List (ℕ × Pattern)) → r ≡ value_of (patterns (known_at known)) ops → AreNeeded bodies ops needs → AreKnown ds needs known
       → (tree spelled : Tree) → PutIn ds tree spelled → ops ≡ tree_ops (number_of ds) spelled → r ≡ pattern_of tree
-  put_in_is ops r marks known is needed k tree spelled put g =
-      is ∙ ap (value_of (patterns (known_at known))) g ∙ built ds (known_at known) tree spelled put (use_built ops marks known needed k spelled g)
+  put_in_is ops r needs known is needed k tree spelled put g =
+      is ∙ ap (value_of (patterns (known_at known))) g ∙ built ds (known_at known) tree spelled put (use_built ops needs known needed k spelled g)
 
   -- and on the way to it no pattern is deep
-  pub put_in_stays : (ops : List code.Op) (marks : List Bool) (known : List (Option Pattern)) → IsWithinDepth ds ops → AreNeeded bodies (ops_of ops) marks → AreKnown ds marks known → StayShallow known (ops_of ops)
-  put_in_stays ops marks known w needed k =
-      subst (StayShallow known) (sym w.are) (tree_stays ds (known_at known) w.tree w.spelled w.put_in (use_built (ops_of ops) marks known needed k w.spelled w.are) w.shallow)
+  pub put_in_stays : (ops : List code.Op) (needs : List ℕ) (known : List (ℕ × Pattern)) → IsWithinDepth ds ops → AreNeeded bodies (ops_of ops) needs → AreKnown ds needs known → StayShallow known (ops_of ops)
+  put_in_stays ops needs known w needed k =
+      subst (StayShallow known) (sym w.are) (tree_stays ds (known_at known) w.tree w.spelled w.put_in (use_built (ops_of ops) needs known needed k w.spelled w.are) w.shallow)
 
   -- a text within the limits has a pattern
   pub accepted : (text : List ℕ) (items : List Placed) (h : HasRead text items) (m : Measure) (ops : List Op) (r : Regex) → m ≡ value_of (measures measured_as) ops → ops ≡ tree_ops (number_of ds) h.is_tree.spelled

@@ -1,5 +1,7 @@
 -- Which definitions operations need, those that stand behind others included.
-use Rattle.std.specs.Prelude.{◌≡◌, ◌≢◌, ◌⊎◌, ℕ, ◌<◌, Bool, true, false, if◌then◌else◌, List, [], ◌∷◌, Option, Some, None, length, slice_get, slice_index_or, slice_set}
+use Rattle.std.specs.Prelude.{◌≡◌, ◌≢◌, ◌⊎◌, ℕ, ◌<◌, if◌then◌else◌, List, [], ◌∷◌, Option, Some, None, length, nat_lt, slice_get, slice_index_or}
+use Rattle.std.specs.BTreeSet.{BTreeSet, insert_key}
+use Rattle.std.specs.Ordering.{nat_cmp}
 use Rattle.std.specs.Global.{Vec}
 use Rattle.cs_pattern_postfix.specs.declared.measure.Measure.{Measure}
 use Rattle.cs_pattern_tree.specs.declared.pattern.Pattern.{Pattern}
@@ -18,25 +20,37 @@ abbrev pub Substitutes : List Op → ℕ → Type 0
 Substitutes [] index = ⊥
 Substitutes (op ∷ ops) index = (op ≡ substitute index) ⊎ Substitutes ops index
 
-abbrev pub mark_op : Op → List Bool → List Bool
-mark_op (substitute index) marks = slice_set marks index true
-mark_op (class set) marks = marks
-mark_op (quoted bytes) marks = marks
-mark_op (repeat r) marks = marks
-mark_op group marks = marks
-mark_op (join count) marks = marks
-mark_op (either count) marks = marks
+-- the index is one of these
+abbrev pub IsOneOf : List ℕ → ℕ → Type 0
+IsOneOf [] i = ⊥
+IsOneOf (x ∷ xs) i = (x ≡ i) ⊎ IsOneOf xs i
 
--- the marks, and one at each definition that the operations put in
-abbrev pub mark_ops : List Bool → List Op → List Bool
-mark_ops marks [] = marks
-mark_ops marks (op ∷ ops) = mark_ops (mark_op op marks) ops
+-- where the definition of that index stands in the order
+abbrev pub place_of : List ℕ → ℕ → ℕ
+place_of places index = slice_index_or places index 0
 
-abbrev pub is_marked : List Bool → ℕ → Bool
-is_marked marks index = slice_index_or marks index false
+-- Each index has a place, and each in the order the place where it stands.
+pub record ArePlaces (count : ℕ) (order places : List ℕ) : Type 0 where
+  pub count_is : length places ≡ count
+  pub each : (k : ℕ) → k < length order → place_of places (slice_index_or order k 0) ≡ k
 
-abbrev pub IsMarked : List Bool → ℕ → Type 0
-IsMarked marks index = is_marked marks index ≡ true
+-- the places, and that of the definition
+abbrev pub add_place : List ℕ → ℕ → List ℕ → List ℕ
+add_place places index pending = if nat_lt index (length places) then insert_key nat_cmp pending (place_of places index) else pending
+
+abbrev pub add_op : List ℕ → Op → List ℕ → List ℕ
+add_op places (substitute index) pending = add_place places index pending
+add_op places (class set) pending = pending
+add_op places (quoted bytes) pending = pending
+add_op places (repeat r) pending = pending
+add_op places group pending = pending
+add_op places (join count) pending = pending
+add_op places (either count) pending = pending
+
+-- the places, and those of the definitions that the operations put in
+abbrev pub add_used : List ℕ → List ℕ → List Op → List ℕ
+add_used places pending [] = pending
+add_used places pending (op ∷ ops) = add_used places (add_op places op pending) ops
 
 abbrev pub ops_or_none : Option (Vec code.Op) → List Op
 ops_or_none None = []
@@ -46,17 +60,17 @@ ops_or_none (Some ops) = ops_of ops.items
 abbrev pub ops_at : List (Vec code.Op) → ℕ → List Op
 ops_at bodies index = ops_or_none (slice_get bodies index)
 
--- the marks, and one at each definition that a marked definition uses
-abbrev pub mark_behind : List (Vec code.Op) → ℕ → List Bool → List Bool
-mark_behind bodies index marks = if is_marked marks index then mark_ops marks (ops_at bodies index) else marks
+-- the second places are the first and those of the definitions that the operations put in
+abbrev pub AddsUsed : List ℕ → List Op → BTreeSet ℕ → BTreeSet ℕ → Type 0
+AddsUsed places ops old new = new.keys ≡ add_used places old.keys ops
 
--- what marked definitions use is marked
-abbrev pub IsClosed : List (Vec code.Op) → List Bool → Type 0
-IsClosed bodies marks = (i j : ℕ) → IsMarked marks i → Substitutes (ops_at bodies i) j → j < length marks → IsMarked marks j
+-- other definitions have the patterns as before
+abbrev pub KeepsOthers : ℕ → List (ℕ × Pattern) → List (ℕ × Pattern) → Type 0
+KeepsOthers index old new = (i : ℕ) → i ≢ index → known_at new i ≡ known_at old i
 
--- marked definitions have their patterns
-abbrev pub AreKnown : List Definition → List Bool → List (Option Pattern) → Type 0
-AreKnown ds marks known = (i : ℕ) (d : Definition) (tree : Tree) → IsMarked marks i → slice_get ds i ≡ Some d → IsTreeOf ds d.text tree → known_at known i ≡ pattern_of tree
+-- these definitions have their patterns
+abbrev pub AreKnown : List Definition → List ℕ → List (ℕ × Pattern) → Type 0
+AreKnown ds needed known = (i : ℕ) (d : Definition) (tree : Tree) → IsOneOf needed i → slice_get ds i ≡ Some d → IsTreeOf ds d.text tree → known_at known i ≡ pattern_of tree
 
 -- the operations and the order are those of some definitions
 abbrev pub AreOf : List Definition → List (Vec code.Op) → List ℕ → Type 0
@@ -71,23 +85,22 @@ pub data Needs (bodies : List (Vec code.Op)) (ops : List Op) : ℕ → Type 0 wh
   directly : (i : ℕ) → Substitutes ops i → i < length bodies → Needs bodies ops i
   behind : (i j : ℕ) → Needs bodies ops i → Substitutes (ops_at bodies i) j → j < length bodies → Needs bodies ops j
 
--- the needed definitions are marked, and none but these
-pub record AreNeeded (bodies : List (Vec code.Op)) (ops : List Op) (marks : List Bool) : Type 0 where
-  pub count : length marks ≡ length bodies
-  pub marked : (i : ℕ) → Needs bodies ops i → IsMarked marks i
-  pub only : (i : ℕ) → IsMarked marks i → Needs bodies ops i
+-- each is a definition, and what it uses stands behind it
+abbrev pub AreInOrder : List (Vec code.Op) → List ℕ → Type 0
+AreInOrder bodies [] = Unit {0}
+AreInOrder bodies (i ∷ more) = (i < length bodies) × ((j : ℕ) → Substitutes (ops_at bodies i) j → j < length bodies → IsOneOf more j) × AreInOrder bodies more
 
--- there is a mark for each definition, and what marked ones use is marked
-pub record AreClosed (bodies : List (Vec code.Op)) (marks : List Bool) : Type 0 where
-  pub count : length marks ≡ length bodies
-  pub closed : IsClosed bodies marks
+-- the needed definitions and no others, each before those that it uses
+pub record AreNeeded (bodies : List (Vec code.Op)) (ops : List Op) (needed : List ℕ) : Type 0 where
+  pub all : (i : ℕ) → Needs bodies ops i → IsOneOf needed i
+  pub only : (i : ℕ) → IsOneOf needed i → Needs bodies ops i
+  pub in_order : AreInOrder bodies needed
 
--- if the definition is marked, its pattern is made of those known before
-pub record Learns (bodies : List (Vec code.Op)) (marks : List Bool) (index : ℕ) (old new : List (Option Pattern)) : Type 0 where
-  pub count : length new ≡ length old
-  pub this : index < length old → index < length bodies → IsMarked marks index → known_at new index ≡ value_of (patterns (known_at old)) (ops_at bodies index)
-  pub others : (i : ℕ) → i ≢ index → known_at new i ≡ known_at old i
+-- the definition's pattern is made of those known before
+pub record Learns (bodies : List (Vec code.Op)) (index : ℕ) (old new : List (ℕ × Pattern)) : Type 0 where
+  pub this : index < length bodies → known_at new index ≡ value_of (patterns (known_at old)) (ops_at bodies index)
+  pub others : KeepsOthers index old new
 
--- whatever definitions these are, the marked ones have their patterns
-abbrev pub KnowMarked : List (Vec code.Op) → List ℕ → List Bool → List (Option Pattern) → Type 0
-KnowMarked bodies order marks known = (ds : List Definition) → AreOf ds bodies order → AreKnown ds marks known
+-- whatever definitions these are, the needed ones have their patterns
+abbrev pub KnowNeeded : List (Vec code.Op) → List ℕ → List ℕ → List (ℕ × Pattern) → Type 0
+KnowNeeded bodies order needed known = (ds : List Definition) → AreOf ds bodies order → AreKnown ds needed known

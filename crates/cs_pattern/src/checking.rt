@@ -2,8 +2,11 @@
 
 ghost use Rattle.std.specs.Prelude.{◌≡◌, ◌<◌, ◌≤◌, ◌^◌, All, IfOk, IfErr, OnOk, length};
 ghost use Rattle.cs_pattern_items.specs.Views.{placed_all};
+ghost use Rattle.indexmap.specs.IndexMap.{index_map_len};
 ghost use Rattle.cs_pattern_postfix.specs.Definitions.{definitions_of, total_bytes};
+ghost use Rattle.cs_pattern.specs.Checked.{IsOrder};
 ghost use Rattle.cs_pattern.specs.Checking.{RefusesDefinitions};
+ghost use Rattle.cs_pattern.specs.Needed.{ArePlaces};
 ghost use Rattle.cs_pattern.specs.Stages.{StopsAs, AreRead, AreNamed, AreOperations, AreMeasuresOf, TellLimits, TellRefusal};
 ghost use Rattle.cs_pattern.specs.Table.{Reads};
 
@@ -99,6 +102,19 @@ pub fn measure_all(
         measures[*index] = measure;
     }
     Ok(measures)
+}
+
+/// Where each definition stands in the order.
+pub fn places_of(alloc: Global, order: &[usize], texts: &Texts) -> Result<Vec<usize>, AllocError>
+    requires { IsOrder (definitions_of texts.now.entries) order.now }
+    ensures { IfOk result (λ places.
+        ArePlaces (index_map_len texts.now) order.now places.items) }
+{
+    let mut places = vec![in alloc; 0; texts.len()]?;
+    for (place, index) in order.iter().enumerate() {
+        places[*index] = place;
+    }
+    Ok(places)
 }
 
 pub fn check_limits(measures: &[Measure]) -> Result<(), CheckError>

@@ -4,7 +4,7 @@ ghost use Rattle.std.specs.Prelude.{◌≡◌, ◌≤◌, ◌+◌, ◌++◌, ◌
 ghost use Rattle.cs_pattern.specs.Checking.{AreAccepted, RefusesDefinitions};
 ghost use Rattle.cs_pattern_postfix.specs.Definitions.{has_name, total_bytes};
 
-use crate::checking::{check_limits, check_names, measure_all, operations, read_all};
+use crate::checking::{check_limits, check_names, measure_all, operations, places_of, read_all};
 use crate::fault::{CheckError, DefinitionError};
 use crate::uses::{graph_of, order_of};
 use cs_pattern_postfix::{Measure, Op, Texts, index_of};
@@ -26,11 +26,14 @@ pub struct Checked {
     pub(crate) bodies: Vec<Vec<Op>>,
     pub(crate) measures: Vec<Measure>,
     pub(crate) order: Vec<usize>,
+    /// Where each definition stands in the order.
+    pub(crate) places: Vec<usize>,
 }
 
 impl Model for Checked {
-    ghost use Rattle.std.specs.Prelude.{List};
+    ghost use Rattle.std.specs.Prelude.{List, length};
     ghost use Rattle.cs_pattern.specs.Checked.{AreChecked};
+    ghost use Rattle.cs_pattern.specs.Needed.{ArePlaces};
     ghost use Rattle.cs_pattern_postfix.specs.Definitions.{Definition, definitions_of};
 
     ghost Value = { List Definition };
@@ -38,7 +41,8 @@ impl Model for Checked {
     ghost view = { λ d. definitions_of d.texts.entries };
 
     ghost invariant = { λ d. AreChecked (definitions_of d.texts.entries)
-        d.bodies.items d.measures.items d.order.items };
+        d.bodies.items d.measures.items d.order.items
+        × ArePlaces (length d.bodies.items) d.order.items d.places.items };
 }
 
 impl Model for Definitions {
@@ -99,11 +103,13 @@ impl Definitions {
         let bodies = operations(alloc, &items, &texts)?;
         let measures = measure_all(alloc, &bodies, &order)?;
         check_limits(&measures)?;
+        let places = places_of(alloc, &order, &texts)?;
         Ok(Checked {
             texts,
             bodies,
             measures,
             order,
+            places,
         })
     }
 }

@@ -1,134 +1,134 @@
 // The patterns of the definitions that a text needs.
 
-ghost use Rattle.std.specs.Prelude.{◌≡◌, ◌≢◌, ◌<◌, ℕ, true, IfOk, OnOk, length, slice_set};
+ghost use Rattle.std.specs.Prelude.{◌≡◌, ◌∷◌, [], IfOk, OnOk, length};
 ghost use Rattle.cs_pattern_postfix.specs.Building.{StayShallow, known_at};
 ghost use Rattle.cs_pattern_postfix.specs.Operations.{op_of, ops_of};
 ghost use Rattle.cs_pattern_tree.specs.Pattern.{regex};
 ghost use Rattle.cs_pattern.specs.Needed as spec;
-ghost use Rattle.cs_pattern.specs.Needed.{AreClosed, AreNeeded, AreOfSome, IsMarked, KnowMarked, Learns};
+ghost use Rattle.cs_pattern.specs.Needed.{AddsUsed, AreInOrder, AreNeeded, AreOfSome, ArePlaces, KeepsOthers, KnowNeeded, Learns, ops_at};
 
-use cs_pattern_postfix::{Op, build};
+use cs_pattern_postfix::{Known, Op, build};
 use cs_pattern_tree::Pattern;
+use indexmap::IndexMap;
 use std::alloc::{AllocError, Global};
+use std::collections::BTreeSet;
 
-fn is_marked(marks: &[bool], index: usize) -> bool
-    ensures { result ≡ spec.is_marked marks.now index }
+fn add_place(
+    index: usize,
+    places: &[usize],
+    pending: &mut BTreeSet<usize>,
+) -> Result<(), AllocError>
+    ensures { OnOk result
+        (pending.new.keys ≡ spec.add_place places.now index pending.old.keys) }
 {
-    index < marks.len() && marks[index]
+    if index < places.len() {
+        pending.insert(places[index])?;
+    }
+    Ok(())
 }
 
-fn mark(marks: &mut Vec<bool>, index: usize)
-    ensures { marks.new.items ≡ slice_set marks.old.items index true }
+fn add_op(op: &Op, places: &[usize], pending: &mut BTreeSet<usize>) -> Result<(), AllocError>
+    ensures { OnOk result (AddsUsed places.now (op_of op.now ∷ []) pending.old pending.new) }
 {
-    if index < marks.len() {
-        marks[index] = true;
+    match op {
+        Op::Substitute(index) => add_place(*index, places, pending),
+        _ => Ok(()),
     }
 }
 
-fn mark_op(op: &Op, marks: &mut Vec<bool>)
-    ensures { marks.new.items ≡ spec.mark_op (op_of op.now) marks.old.items }
-{
-    if let Op::Substitute(index) = op {
-        mark(marks, *index);
-    }
-}
-
-/// Marks each definition that the operations put in.
-fn mark_used(ops: &[Op], marks: &mut Vec<bool>)
-    ensures { marks.new.items ≡ spec.mark_ops marks.old.items (ops_of ops.now) }
+/// Adds the places of the definitions that the operations put in.
+fn add_used(ops: &[Op], places: &[usize], pending: &mut BTreeSet<usize>) -> Result<(), AllocError>
+    ensures { OnOk result (AddsUsed places.now (ops_of ops.now) pending.old pending.new) }
 {
     for op in ops {
-        mark_op(op, marks);
+        add_op(op, places, pending)?;
     }
+    Ok(())
 }
 
-/// Marks what the definition uses, if it is marked itself.
-fn mark_behind(bodies: &[Vec<Op>], index: usize, marks: &mut Vec<bool>)
-    ensures { marks.new.items ≡ spec.mark_behind bodies.now index marks.old.items }
+/// Adds the places of what the definition uses.
+fn add_behind(
+    bodies: &[Vec<Op>],
+    index: usize,
+    places: &[usize],
+    pending: &mut BTreeSet<usize>,
+) -> Result<(), AllocError>
+    ensures { OnOk result
+        (AddsUsed places.now (ops_at bodies.now index) pending.old pending.new) }
 {
-    if is_marked(marks, index) {
-        if let Some(ops) = bodies.get(index) {
-            mark_used(ops, marks);
-        }
+    match bodies.get(index) {
+        Some(ops) => add_used(ops, places, pending),
+        None => Ok(()),
     }
 }
 
-/// Which definitions the operations need, those that stand behind others included, and no others.
+/// The definitions that the operations need, those that stand behind others included, and no others: each before those that it
+/// uses. It takes the last of those that wait, so none that comes later uses it.
 pub fn needed(
     alloc: Global,
     ops: &[Op],
     bodies: &[Vec<Op>],
     order: &[usize],
-) -> Result<Vec<bool>, AllocError>
-    requires { AreOfSome bodies.now order.now }
-    ensures { IfOk result (λ marks. AreNeeded bodies.now (ops_of ops.now) marks.items) }
+    places: &[usize],
+) -> Result<Vec<usize>, AllocError>
+    requires of { AreOfSome bodies.now order.now }
+    requires places { ArePlaces (length bodies.now) order.now places.now }
+    ensures { IfOk result (λ needed. AreNeeded bodies.now (ops_of ops.now) needed.items) }
 {
-    let mut marks = vec![in alloc; false; bodies.len()]?;
-    mark_used(ops, &mut marks);
-    let mut end = order.len();
-    while end > 0 {
-        end -= 1;
-        mark_behind(bodies, order[end], &mut marks);
+    let mut needed = Vec::new(alloc);
+    let mut pending = BTreeSet::new(alloc);
+    add_used(ops, places, &mut pending)?;
+    while let Some(place) = pending.pop_last() {
+        let index = order[place];
+        add_behind(bodies, index, places, &mut pending)?;
+        needed.push(index)?;
     }
-    Ok(marks)
+    Ok(needed)
 }
 
-fn no_patterns(alloc: Global, count: usize) -> Result<Vec<Option<Pattern>>, AllocError>
-    ensures { IfOk result (λ v. length v.items ≡ count) }
+/// Puts the definition's pattern to those that are known.
+fn put(known: &mut Known, index: usize, pattern: Pattern) -> Result<(), AllocError>
+    ensures this { OnOk result (known_at known.new.entries index ≡ regex pattern) }
+    ensures others { OnOk result (KeepsOthers index known.old.entries known.new.entries) }
 {
-    let mut patterns = Vec::new(alloc);
-    for _i in 0..count {
-        patterns.push(None)?;
-    }
-    Ok(patterns)
+    known.insert(index, pattern)?;
+    Ok(())
 }
 
-fn put(known: &mut [Option<Pattern>], index: usize, pattern: Pattern)
-    ensures this { index < length known.old → known_at known.new index ≡ regex pattern }
-    ensures others { (i : ℕ) → i ≢ index → known_at known.new i ≡ known_at known.old i }
-{
-    if index < known.len() {
-        known[index] = Some(pattern);
-    }
-}
-
-/// Builds the pattern of the definition, if it is needed.
+/// Builds the pattern of the definition.
 fn know(
     alloc: Global,
-    needed: &[bool],
     bodies: &[Vec<Op>],
     index: usize,
-    known: &mut Vec<Option<Pattern>>,
+    known: &mut Known,
 ) -> Result<(), AllocError>
-    requires { IsMarked needed.now index
-        → StayShallow known.old.items (spec.ops_at bodies.now index) }
-    ensures { OnOk result (Learns bodies.now needed.now index known.old.items known.new.items) }
+    requires { StayShallow known.old.entries (ops_at bodies.now index) }
+    ensures { OnOk result (Learns bodies.now index known.old.entries known.new.entries) }
 {
-    if !is_marked(needed, index) {
-        return Ok(());
-    }
     let Some(ops) = bodies.get(index) else {
         return Ok(());
     };
     let pattern = build(alloc, ops, known)?;
-    put(known, index, pattern);
-    Ok(())
+    put(known, index, pattern)
 }
 
-/// The patterns of the definitions that are needed.
+/// The patterns of the definitions that are needed, the last first.
 pub fn known(
     alloc: Global,
-    needed: &[bool],
+    needed: &[usize],
     bodies: &[Vec<Op>],
     order: &[usize],
-) -> Result<Vec<Option<Pattern>>, AllocError>
+) -> Result<Known, AllocError>
     requires of { AreOfSome bodies.now order.now }
-    requires closed { AreClosed bodies.now needed.now }
-    ensures { IfOk result (λ known. KnowMarked bodies.now order.now needed.now known.items) }
+    requires in_order { AreInOrder bodies.now needed.now }
+    ensures { IfOk result (λ known.
+        KnowNeeded bodies.now order.now needed.now known.entries) }
 {
-    let mut known = no_patterns(alloc, bodies.len())?;
-    for index in order {
-        know(alloc, needed, bodies, *index, &mut known)?;
+    let mut known = IndexMap::new(alloc);
+    let mut end = needed.len();
+    while end > 0 {
+        end -= 1;
+        know(alloc, bodies, needed[end], &mut known)?;
     }
     Ok(known)
 }

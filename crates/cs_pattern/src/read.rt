@@ -22,7 +22,13 @@ fn put_in(alloc: Global, ops: &[Op], definitions: &Checked) -> Result<Pattern, A
     requires { IsWithinDepth definitions.now ops.now }
     ensures { IfOk result (λ pattern. IsPutIn definitions.now ops.now (regex pattern)) }
 {
-    let needed = needed(alloc, ops, &definitions.bodies, &definitions.order)?;
+    let needed = needed(
+        alloc,
+        ops,
+        &definitions.bodies,
+        &definitions.order,
+        &definitions.places,
+    )?;
     let known = known(alloc, &needed, &definitions.bodies, &definitions.order)?;
     let pattern = build(alloc, ops, &known)?;
     Ok(pattern)

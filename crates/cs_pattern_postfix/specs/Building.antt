@@ -1,5 +1,6 @@
 -- The patterns that operations build.
-use Rattle.std.specs.Prelude.{ℕ, ◌≤◌, List, ◌++◌, [], Option, Some, None, slice_index_or}
+use Rattle.std.specs.Prelude.{ℕ, ◌≤◌, List, ◌++◌, [], Option, Some, None, nat_eq}
+use Rattle.std.specs.Map.{lookup}
 use Rattle.cs_pattern_tree.specs.declared.pattern.Pattern.{Pattern}
 use Rattle.cs_pattern_postfix.specs.declared.operations.Op as code
 use Rattle.cs_pattern_postfix.specs.Evaluation.{Algebra, Keeps, below, last, step, value_of}
@@ -13,8 +14,8 @@ abbrev pub known_or_empty : Option Pattern → Regex
 known_or_empty None = Empty
 known_or_empty (Some p) = regex p
 
-abbrev pub known_at : List (Option Pattern) → ℕ → Regex
-known_at known index = known_or_empty (slice_index_or known index None)
+abbrev pub known_at : List (ℕ × Pattern) → ℕ → Regex
+known_at known index = known_or_empty (lookup (nat_eq index) known)
 
 -- where definitions have the known patterns
 abbrev pub patterns : (ℕ → Regex) → Algebra Regex
@@ -46,12 +47,12 @@ with_optionals parts times inner = regexes parts ++ repeats.optionals times (reg
 abbrev pub IsShallow : Regex → Type 0
 IsShallow r = nesting r ≤ 1000
 
-abbrev pub next_stack : List (Option Pattern) → List Pattern → code.Op → List Regex
+abbrev pub next_stack : List (ℕ × Pattern) → List Pattern → code.Op → List Regex
 next_stack known stack op = step (patterns (known_at known)) (regexes stack) (op_of op)
 
-abbrev pub pattern_built : List (Option Pattern) → List code.Op → Regex
+abbrev pub pattern_built : List (ℕ × Pattern) → List code.Op → Regex
 pattern_built known ops = value_of (patterns (known_at known)) (ops_of ops)
 
 -- on the way to the pattern of the operations no pattern is deeper than that
-abbrev pub StayShallow : List (Option Pattern) → List Op → Type 0
+abbrev pub StayShallow : List (ℕ × Pattern) → List Op → Type 0
 StayShallow known ops = Keeps (patterns (known_at known)) IsShallow [] ops

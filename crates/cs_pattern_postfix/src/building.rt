@@ -9,7 +9,11 @@ ghost use Rattle.cs_pattern_tree.specs.Repeated as spec;
 
 use crate::operations::Op;
 use cs_pattern_tree::{ByteSet, Pattern, Repetition, copy};
+use indexmap::IndexMap;
 use std::alloc::{AllocError, Global};
+
+/// The patterns of definitions, by their indexes.
+pub type Known = IndexMap<usize, Pattern>;
 
 /// The class of one byte.
 fn one_byte(byte: u8) -> Pattern
@@ -161,27 +165,21 @@ fn either(mut parts: Vec<Pattern>) -> Pattern
 }
 
 /// The pattern of a definition.
-fn substitute(alloc: Global, known: &[Option<Pattern>], index: usize) -> Result<Pattern, AllocError>
-    requires nested { nesting (known_at known.now index) ≤ 1000 }
-    ensures { IfOk result (λ p. regex p ≡ known_at known.now index) }
+fn substitute(alloc: Global, known: &Known, index: usize) -> Result<Pattern, AllocError>
+    requires nested { nesting (known_at known.now.entries index) ≤ 1000 }
+    ensures { IfOk result (λ p. regex p ≡ known_at known.now.entries index) }
 {
-    match known.get(index) {
-        Some(Some(pattern)) => copy(alloc, pattern),
-        Some(None) => Ok(Pattern::Empty),
+    match known.get(&index) {
+        Some(pattern) => copy(alloc, pattern),
         None => Ok(Pattern::Empty),
     }
 }
 
-fn apply(
-    alloc: Global,
-    stack: &mut Vec<Pattern>,
-    op: &Op,
-    known: &[Option<Pattern>],
-) -> Result<(), AllocError>
+fn apply(alloc: Global, stack: &mut Vec<Pattern>, op: &Op, known: &Known) -> Result<(), AllocError>
     requires before { All IsShallow (regexes stack.old.items) }
-    requires after { All IsShallow (next_stack known.now stack.old.items op.now) }
+    requires after { All IsShallow (next_stack known.now.entries stack.old.items op.now) }
     ensures { OnOk result
-        (regexes stack.new.items ≡ next_stack known.now stack.old.items op.now) }
+        (regexes stack.new.items ≡ next_stack known.now.entries stack.old.items op.now) }
 {
     match op {
         Op::Class(set) => push(stack, Pattern::Class(set.duplicate())),
@@ -208,9 +206,9 @@ fn apply(
 
 /// The pattern of the operations, where the definitions have the known ones. It asks for a pattern that is within the limits at
 /// each moment while it is made.
-pub fn build(alloc: Global, ops: &[Op], known: &[Option<Pattern>]) -> Result<Pattern, AllocError>
-    requires { StayShallow known.now (ops_of ops.now) }
-    ensures { IfOk result (λ p. regex p ≡ pattern_built known.now ops.now) }
+pub fn build(alloc: Global, ops: &[Op], known: &Known) -> Result<Pattern, AllocError>
+    requires { StayShallow known.now.entries (ops_of ops.now) }
+    ensures { IfOk result (λ p. regex p ≡ pattern_built known.now.entries ops.now) }
 {
     let mut stack = Vec::new(alloc);
     for op in ops {

@@ -1,32 +1,51 @@
-use Rattle.std.proofs.Common.{◌≡◌, ◌+◌, ◌-◌, ℕ, Bool, List, length, sym, subst, arith}
+use Rattle.std.proofs.Common.{◌≡◌, ℕ, [], List, ap, ◌∙◌, subst, arith}
+use Rattle.std.proofs.lemmas.Bool.{false≢true}
 use Rattle.cs_pattern_postfix.specs.Operations.{ops_of}
-use Rattle.cs_pattern.specs.Needed.{IsMarked}
+use Rattle.cs_pattern.specs.Needed.{add_used}
 use Rattle.cs_pattern.proofs.Knowing.{is_behind}
-use Rattle.cs_pattern.proofs.Marking.{IsMarkedFrom, from_start, marks_step, needed_at_end, none_marked}
+use Rattle.cs_pattern.proofs.Pending.{IsBehind, AreTaken, above, falls, none_there, one_last, taken_all, taken_start, taken_step}
 use Rattle.cs_pattern.proofs.needed.needed.Goals as goal
 
-pub loop-end-init : goal.loop-end-init
-loop-end-init c =
-    let count : length c.in_ok-marks.marks.items ≡ length c.args.bodies.now = omega (arith, c.in_ok-marks.ensures.len) in
-    let none : (i : ℕ) → IsMarked c.in_ok-marks.marks.items i → ⊥ = λ i m.
-    none_marked (length c.args.bodies.now) i (subst (λ (ms : List Bool). IsMarked ms i) (c.in_ok-marks.ensures.items_if_clones_equal (λ y e. e)) m) in (
-      omega arith,
-      subst (λ (ms : List Bool). IsMarkedFrom (ops_of c.args.ops.now) c.args.bodies.now c.args.order.now ms (length c.args.order.now)) (sym c.mark_used.ensures)
-          (from_start (ops_of c.args.ops.now) c.args.bodies.now c.args.order.now c.in_ok-marks.marks.items count none),
-    )
+pub loop-place-init : goal.loop-place-init
+loop-place-init c = λ b a.
+    let none = c.new-pending.ensures.empty in
+    let empty = c.new-needed.ensures.items in
+    let e = c.in_ok-add_used.ensures ∙ ap (λ (ks : List ℕ). add_used c.args.places.now ks (ops_of c.args.ops.now)) none in
+    rw (e, empty) (taken_start (ops_of c.args.ops.now) c.args.bodies.now c.args.order.now c.args.places.now b a)
 
-pub loop-end-preserved : goal.loop-end-preserved
-loop-end-preserved c =
-    let e : c.loop-end.end ≡ (c.loop-end.end - 1) + 1 = (let t = c.loop-end-test.true in omega arith) in
-    let within = c.loop-end.invariant.0 in (
-      omega arith,
-      marks_step (ops_of c.args.ops.now) c.args.bodies.now c.args.order.now c.loop-end.marks.items _ (c.loop-end.end - 1) (let t = c.loop-end-test.true in omega arith) c.mark_behind.ensures
-          (subst (λ n. IsMarkedFrom (ops_of c.args.ops.now) c.args.bodies.now c.args.order.now c.loop-end.marks.items n) e c.loop-end.invariant.1),
-    )
+pub bounds-order-place : goal.bounds-order-place
+bounds-order-place c =
+    let o = c.requires.of in
+    let b : IsBehind c.args.bodies.now c.args.order.now = is_behind o.0 c.args.bodies.now c.args.order.now o.1 in
+    let t = subst (λ (ks : List ℕ). AreTaken (ops_of c.args.ops.now) c.args.bodies.now c.args.order.now c.args.places.now b c.requires.places c.loop-place.needed.items ks) c.in-Some.ensures.removal (c.loop-place.invariant b c.requires.places) in
+    (t.wait c.in-Some.place (one_last c.pop_last.new.self.keys c.in-Some.place)).0
+
+pub offset_bounds-order-place : goal.offset_bounds-order-place
+offset_bounds-order-place c =
+    let o = c.requires.of in
+    let b : IsBehind c.args.bodies.now c.args.order.now = is_behind o.0 c.args.bodies.now c.args.order.now o.1 in
+    let t = subst (λ (ks : List ℕ). AreTaken (ops_of c.args.ops.now) c.args.bodies.now c.args.order.now c.args.places.now b c.requires.places c.loop-place.needed.items ks) c.in-Some.ensures.removal (c.loop-place.invariant b c.requires.places) in
+    let lt = (t.wait c.in-Some.place (one_last c.pop_last.new.self.keys c.in-Some.place)).0 in
+    omega arith
+
+pub loop-place-preserved : goal.loop-place-preserved
+loop-place-preserved c = λ b a.
+    let t = subst (λ (ks : List ℕ). AreTaken (ops_of c.args.ops.now) c.args.bodies.now c.args.order.now c.args.places.now b a c.loop-place.needed.items ks) c.in-Some.ensures.removal (c.loop-place.invariant b a) in
+    rw (c.in_ok-add_behind.ensures, c.in_ok-push.ensures.items) (taken_step (ops_of c.args.ops.now) c.args.bodies.now c.args.order.now c.args.places.now b a c.loop-place.needed.items c.pop_last.new.self.keys c.in-Some.place t)
+
+pub loop-place-smaller : goal.loop-place-smaller
+loop-place-smaller c =
+    let o = c.requires.of in
+    let b : IsBehind c.args.bodies.now c.args.order.now = is_behind o.0 c.args.bodies.now c.args.order.now o.1 in
+    let a = c.requires.places in
+    let t = subst (λ (ks : List ℕ). AreTaken (ops_of c.args.ops.now) c.args.bodies.now c.args.order.now c.args.places.now b a c.loop-place.needed.items ks) c.in-Some.ensures.removal (c.loop-place.invariant b a) in
+    let f = falls (ops_of c.args.ops.now) c.args.bodies.now c.args.order.now c.args.places.now b a c.loop-place.needed.items c.pop_last.new.self.keys c.in-Some.place t c.in-Some.ensures.all_below in
+    omega (arith, f, ap above c.in_ok-add_behind.ensures, ap above c.in-Some.ensures.removal)
 
 pub returns : goal.returns
 returns c =
-    let e : c.loop-end.end ≡ 0 = omega arith in
-    let a = c.requires in
-    needed_at_end (ops_of c.args.ops.now) c.args.bodies.now c.args.order.now c.loop-end.marks.items (is_behind a.0 c.args.bodies.now c.args.order.now a.1)
-    (subst (λ n. IsMarkedFrom (ops_of c.args.ops.now) c.args.bodies.now c.args.order.now c.loop-end.marks.items n) e c.loop-end.invariant.1)
+    let none : c.loop-place.pending.keys ≡ [] = none_there c.loop-place.pending.keys (λ lt. false≢true (c.in_default.ensures.variant.1 lt)) in
+    let o = c.requires.of in
+    let b : IsBehind c.args.bodies.now c.args.order.now = is_behind o.0 c.args.bodies.now c.args.order.now o.1 in
+    taken_all (ops_of c.args.ops.now) c.args.bodies.now c.args.order.now c.args.places.now b c.requires.places c.loop-place.needed.items
+    (subst (λ (ks : List ℕ). AreTaken (ops_of c.args.ops.now) c.args.bodies.now c.args.order.now c.args.places.now b c.requires.places c.loop-place.needed.items ks) none (c.loop-place.invariant b c.requires.places))

@@ -1,10 +1,11 @@
-use Rattle.std.proofs.Common.{◌≤◌, length}
+use Rattle.std.proofs.Common.{length}
 use Rattle.cs_pattern_postfix.specs.Operations.{ops_of}
-use Rattle.cs_pattern.proofs.Marking.{IsMarkedFrom}
+use Rattle.cs_pattern.specs.Needed.{ArePlaces}
+use Rattle.cs_pattern.proofs.Pending.{IsBehind, AreTaken, above}
 use Rattle.cs_pattern.proofs.needed.needed.Given as goal
 
-abbrev pub invariant-loop-end : goal.invariant-loop-end
-invariant-loop-end l = (l.end ≤ length l.order) × IsMarkedFrom (ops_of l.ops) l.bodies l.order l.marks.items l.end
+abbrev pub invariant-loop-place : goal.invariant-loop-place
+invariant-loop-place l = (b : IsBehind l.bodies l.order) (a : ArePlaces (length l.bodies) l.order l.places) → AreTaken (ops_of l.ops) l.bodies l.order l.places b a l.needed.items l.pending.keys
 
-abbrev pub decreases-loop-end : goal.decreases-loop-end
-decreases-loop-end l = l.end
+abbrev pub decreases-loop-place : goal.decreases-loop-place
+decreases-loop-place l = above l.pending.keys

@@ -17,7 +17,7 @@ use Rattle.cs_pattern.proofs.read.pattern_of_items.Goals as goal
 pub put_in-requires : goal.put_in-requires
 put_in-requires c =
     let ds : List Definition = definitions_of c.definitions.inside.texts.entries in
-    let a : AreChecked ds c.definitions.inside.bodies.items c.definitions.inside.measures.items c.definitions.inside.order.items = c.definitions.invariant in
+    let a : AreChecked ds c.definitions.inside.bodies.items c.definitions.inside.measures.items c.definitions.inside.order.items = c.definitions.invariant.0 in
     let within : passed_limit c.in_ok-measure.measure.depth c.in_ok-measure.measure.leaves ≡ None = sym c.in-None.ensures in
     let named : AreNamedOfSome ds c.args.items.now = subst (λ (es : List Definition). AreNamedOfSome es c.args.items.now) (sym c.definitions.view_is) c.requires in
     let p : IsWithinDepth ds c.in_ok-ops.ops.items =
@@ -29,7 +29,7 @@ put_in-requires c =
 pub returns-in-Some-clause-refused : goal.returns-in-Some-clause-refused
 returns-in-Some-clause-refused c =
     let ds : List Definition = definitions_of c.definitions.inside.texts.entries in
-    let a : AreChecked ds c.definitions.inside.bodies.items c.definitions.inside.measures.items c.definitions.inside.order.items = c.definitions.invariant in
+    let a : AreChecked ds c.definitions.inside.bodies.items c.definitions.inside.measures.items c.definitions.inside.order.items = c.definitions.invariant.0 in
     let over : passed_limit c.in_ok-measure.measure.depth c.in_ok-measure.measure.leaves ≡ Some c.in-Some.fault = sym c.in-Some.ensures in
     let p = refuses ds c.definitions.inside.bodies.items c.definitions.inside.measures.items c.definitions.inside.order.items a
     (placed_all c.args.items.now) c.in_ok-measure.measure (ops_of c.in_ok-ops.ops.items) c.in-Some.fault (rw (c.deref.ensures.value, c.deref-2.ensures.value) at c.in_ok-measure.ensures) c.in_ok-ops.ensures over in
@@ -38,7 +38,7 @@ returns-in-Some-clause-refused c =
 pub returns-clause-read : goal.returns-clause-read
 returns-clause-read c =
     let ds : List Definition = definitions_of c.definitions.inside.texts.entries in
-    let a : AreChecked ds c.definitions.inside.bodies.items c.definitions.inside.measures.items c.definitions.inside.order.items = c.definitions.invariant in
+    let a : AreChecked ds c.definitions.inside.bodies.items c.definitions.inside.measures.items c.definitions.inside.order.items = c.definitions.invariant.0 in
     let within : passed_limit c.in_ok-measure.measure.depth c.in_ok-measure.measure.leaves ≡ None = sym c.in-None.ensures in
     let built = subst (λ (es : List Definition). (tree spelled : Tree) → PutIn es tree spelled → ops_of c.in_ok-ops.ops.items ≡ tree_ops (number_of es) spelled → regex c.in_ok-pattern-in-None.pattern ≡ pattern_of tree) (sym c.definitions.view_is) (rw c.deref-in-None.ensures.value at c.in_ok-pattern-in-None.ensures) in
     let p = accepts ds c.definitions.inside.bodies.items c.definitions.inside.measures.items c.definitions.inside.order.items a

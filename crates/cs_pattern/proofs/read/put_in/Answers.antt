@@ -1,43 +1,44 @@
 use Rattle.std.proofs.Common.{List, sym, subst}
 use Rattle.cs_pattern.specs.Checked.{AreChecked}
-use Rattle.cs_pattern.specs.Needed.{AreClosed, AreNeeded, KnowMarked}
+use Rattle.cs_pattern.specs.Needed.{AreNeeded, KnowNeeded}
 use Rattle.cs_pattern_postfix.specs.Building.{StayShallow}
 use Rattle.cs_pattern_postfix.specs.Definitions.{Definition, definitions_of}
 use Rattle.cs_pattern_postfix.specs.Operations.{ops_of}
 use Rattle.cs_pattern_tree.specs.Pattern.{regex}
 use Rattle.cs_pattern.specs.ReadView.{IsPutIn, IsWithinDepth}
-use Rattle.cs_pattern.proofs.Marking.{needed_closed}
 use Rattle.cs_pattern.proofs.TextTrees.{put_in_is, put_in_stays}
 use Rattle.cs_pattern.proofs.read.put_in.Goals as goal
 
-pub known-requires-clause-closed : goal.known-requires-clause-closed
-known-requires-clause-closed c =
+pub needed-requires-clause-places : goal.needed-requires-clause-places
+needed-requires-clause-places c = rw (c.deref.ensures.value, c.deref-2.ensures.value, c.deref-3.ensures.value) c.definitions.invariant.1
+
+pub known-requires-clause-in_order : goal.known-requires-clause-in_order
+known-requires-clause-in_order c =
     let bodies = c.definitions.inside.bodies.items in
     let needed : AreNeeded bodies (ops_of c.args.ops.now) c.in_ok-needed.needed.items = rw c.deref.ensures.value at c.in_ok-needed.ensures in
-    let closed : AreClosed bodies c.in_ok-needed.needed.items = needed_closed (ops_of c.args.ops.now) bodies c.in_ok-needed.needed.items needed in
-    rw (c.deref-3.ensures.value, c.deref-4.ensures.value) closed
+    rw (c.deref-4.ensures.value, c.deref-5.ensures.value) needed.in_order
 
 pub build-requires : goal.build-requires
 build-requires c =
     let ds : List Definition = definitions_of c.definitions.inside.texts.entries in
     let bodies = c.definitions.inside.bodies.items in
-    let a : AreChecked ds bodies c.definitions.inside.measures.items c.definitions.inside.order.items = c.definitions.invariant in
+    let a : AreChecked ds bodies c.definitions.inside.measures.items c.definitions.inside.order.items = c.definitions.invariant.0 in
     let needed : AreNeeded bodies (ops_of c.args.ops.now) c.in_ok-needed.needed.items = rw c.deref.ensures.value at c.in_ok-needed.ensures in
-    let known : KnowMarked bodies c.definitions.inside.order.items c.in_ok-needed.needed.items c.in_ok-known.known.items = rw (c.deref-3.ensures.value, c.deref-4.ensures.value, c.deref-5.ensures.value) at c.in_ok-known.ensures in
+    let known : KnowNeeded bodies c.definitions.inside.order.items c.in_ok-needed.needed.items c.in_ok-known.known.entries = rw (c.deref-4.ensures.value, c.deref-5.ensures.value, c.deref-6.ensures.value) at c.in_ok-known.ensures in
     let within : IsWithinDepth ds c.args.ops.now = subst (λ (es : List Definition). IsWithinDepth es c.args.ops.now) (sym c.definitions.view_is) c.requires in
-    let stays : StayShallow c.in_ok-known.known.items (ops_of c.args.ops.now) =
-    put_in_stays ds bodies c.definitions.inside.measures.items c.definitions.inside.order.items a c.args.ops.now c.in_ok-needed.needed.items c.in_ok-known.known.items within needed (known ds (c.definitions.inside.measures.items, a)) in
-    rw c.deref-6.ensures.value stays
+    let stays : StayShallow c.in_ok-known.known.entries (ops_of c.args.ops.now) =
+    put_in_stays ds bodies c.definitions.inside.measures.items c.definitions.inside.order.items a c.args.ops.now c.in_ok-needed.needed.items c.in_ok-known.known.entries within needed (known ds (c.definitions.inside.measures.items, a)) in
+    stays
 
 pub returns : goal.returns
 returns c =
     let ds : List Definition = definitions_of c.definitions.inside.texts.entries in
     let bodies = c.definitions.inside.bodies.items in
-    let a : AreChecked ds bodies c.definitions.inside.measures.items c.definitions.inside.order.items = c.definitions.invariant in
+    let a : AreChecked ds bodies c.definitions.inside.measures.items c.definitions.inside.order.items = c.definitions.invariant.0 in
     let needed : AreNeeded bodies (ops_of c.args.ops.now) c.in_ok-needed.needed.items = rw c.deref.ensures.value at c.in_ok-needed.ensures in
-    let known : KnowMarked bodies c.definitions.inside.order.items c.in_ok-needed.needed.items c.in_ok-known.known.items = rw (c.deref-3.ensures.value, c.deref-4.ensures.value, c.deref-5.ensures.value) at c.in_ok-known.ensures in
-    let b = rw c.deref-6.ensures.value at c.in_ok-pattern.ensures in
+    let known : KnowNeeded bodies c.definitions.inside.order.items c.in_ok-needed.needed.items c.in_ok-known.known.entries = rw (c.deref-4.ensures.value, c.deref-5.ensures.value, c.deref-6.ensures.value) at c.in_ok-known.ensures in
+    let b = c.in_ok-pattern.ensures in
     let p : IsPutIn ds c.args.ops.now (regex c.in_ok-pattern.pattern) =
-    put_in_is ds bodies c.definitions.inside.measures.items c.definitions.inside.order.items a (ops_of c.args.ops.now) (regex c.in_ok-pattern.pattern) c.in_ok-needed.needed.items c.in_ok-known.known.items b needed
+    put_in_is ds bodies c.definitions.inside.measures.items c.definitions.inside.order.items a (ops_of c.args.ops.now) (regex c.in_ok-pattern.pattern) c.in_ok-needed.needed.items c.in_ok-known.known.entries b needed
     (known ds (c.definitions.inside.measures.items, a)) in
     subst (λ (es : List Definition). IsPutIn es c.args.ops.now (regex c.in_ok-pattern.pattern)) c.definitions.view_is p

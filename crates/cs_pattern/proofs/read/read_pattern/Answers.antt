@@ -36,7 +36,7 @@ returned c P h =
 
 pub returns-clause-scannable : goal.returns-clause-scannable
 returns-clause-scannable c =
-    let texts = subst HaveByteTexts c.definitions.view_is c.definitions.invariant.texts in
+    let texts = subst HaveByteTexts c.definitions.view_is c.definitions.invariant.0.texts in
     returned c IsScannable (λ r is. scannable c.args.definitions.now c.args.bytes.now r (AreBytes-from_fits c.args.bytes.now c.type_inv.bytes) texts is)
 
 pub returns-clause-leaves : goal.returns-clause-leaves
@@ -52,5 +52,5 @@ returns-clause-matches c =
 
 pub returns-clause-bytes : goal.returns-clause-bytes
 returns-clause-bytes c =
-    let texts = subst HaveByteTexts c.definitions.view_is c.definitions.invariant.texts in
+    let texts = subst HaveByteTexts c.definitions.view_is c.definitions.invariant.0.texts in
     returned c MatchesBytesAlone (λ r is. bytes_matched r (byte_classes_alone c.args.definitions.now c.args.bytes.now r (AreBytes-from_fits c.args.bytes.now c.type_inv.bytes) texts is))

@@ -9,6 +9,6 @@ use Rattle.cs_pattern_postfix.proofs.building.apply.Goals as goal
 pub substitute-requires : goal.substitute-requires
 substitute-requires c = record {
   nested =
-      All-last IsShallow (regexes c.args.stack.now.items) (known_at c.args.known.now c.in-Substitute.index)
-      (subst (λ (op : Op). All IsShallow (next_stack c.args.known.now c.args.stack.now.items op)) c.in-Substitute.is c.requires.after);
+      All-last IsShallow (regexes c.args.stack.now.items) (known_at c.args.known.now.entries c.in-Substitute.index)
+      (subst (λ (op : Op). All IsShallow (next_stack c.args.known.now.entries c.args.stack.now.items op)) c.in-Substitute.is c.requires.after);
 }

@@ -6,4 +6,4 @@ use Rattle.cs_pattern_tree.specs.Pattern.{regex}
 use Rattle.cs_pattern_postfix.proofs.building.build.Given as goal
 
 abbrev pub invariant-loop-op : goal.invariant-loop-op
-invariant-loop-op l = map regex l.stack.items ≡ run (patterns (known_at l.known)) [] (ops_of (take l.op-index l.ops))
+invariant-loop-op l = map regex l.stack.items ≡ run (patterns (known_at l.known.entries)) [] (ops_of (take l.op-index l.ops))

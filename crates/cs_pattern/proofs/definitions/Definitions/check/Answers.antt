@@ -1,9 +1,11 @@
-use Rattle.std.proofs.Common.{◌<◌, ℕ, List, length, get_or, sym, ap, subst, arith}
+use Rattle.std.proofs.Common.{◌≡◌, ◌<◌, ◌∙◌, ℕ, List, length, get_or, sym, ap, subst, arith}
+use Rattle.std.proofs.lemmas.List.{length-map}
 use Rattle.std.proofs.lemmas.List.Elements.{Contains-get_or}
 use Rattle.std.proofs.lemmas.Result.{err_from_is_err_and}
 use Rattle.cs_pattern.specs.Checked.{IsOrder}
 use Rattle.cs_pattern.specs.Checking.{Each, HasAllNames, HasNoCycle, AreAccepted, RefusesDefinitions}
-use Rattle.cs_pattern_postfix.specs.Definitions.{Definition, definitions_of}
+use Rattle.cs_pattern.specs.Needed.{ArePlaces}
+use Rattle.cs_pattern_postfix.specs.Definitions.{Definition, definition_of, definitions_of}
 use Rattle.cs_pattern.specs.Stages.{AreRead, AreOperations, AreMeasures, HasTree}
 use Rattle.cs_pattern.proofs.Staged.{few, have_names}
 use Rattle.cs_pattern.proofs.Trees.{all_trees}
@@ -56,7 +58,10 @@ invariant_of-result c =
     let operations : AreOperations ds c.in_ok-bodies.bodies.items = c.in_ok-bodies.ensures in
     let ms : AreMeasures ds c.in_ok-measures.measures.items = c.in_ok-measures.ensures ds (subst (AreOperations ds) (sym c.deref-6.ensures.value) operations) (subst (IsOrder ds) (sym c.deref-7.ensures.value) order) in
     let trees : Each (HasTree ds) ds = all_trees ds c.in_ok-items.items.items read names c.in_ok-order.order.items order c.self.invariant.0 in
-    are_checked ds trees (c.in_ok-check_limits.ensures.within ds (subst (AreMeasures ds) (sym c.deref-8.ensures.value) ms) trees) c.in_ok-bodies.bodies.items c.in_ok-measures.measures.items c.in_ok-order.order.items operations ms c.self.invariant.1 order
+    let texts : ℕ = length c.self.inside.texts.entries in
+    let places : ArePlaces texts c.deref-9.result.now c.in_ok-places.places.items = c.in_ok-places.ensures in
+    let size : texts ≡ length c.in_ok-bodies.bodies.items = sym (length-map c.self.inside.texts.entries definition_of) ∙ sym operations.count in
+    (are_checked ds trees (c.in_ok-check_limits.ensures.within ds (subst (AreMeasures ds) (sym c.deref-8.ensures.value) ms) trees) c.in_ok-bodies.bodies.items c.in_ok-measures.measures.items c.in_ok-order.order.items operations ms c.self.invariant.1 order, subst (λ (xs : List ℕ). ArePlaces (length c.in_ok-bodies.bodies.items) xs c.in_ok-places.places.items) c.deref-9.ensures.value (subst (λ n. ArePlaces n c.deref-9.result.now c.in_ok-places.places.items) size places))
 
 pub returns-clause-accepted : goal.returns-clause-accepted
 returns-clause-accepted c =
