@@ -105,6 +105,14 @@ def names_before_itself():
     return "\n".join([head] + lines) + "\n%%\na ;\n"
 
 
+def rules_beside_definitions():
+    """2,048 rules, each with a name of one of 80,000 definitions."""
+    count = 80_000
+    lines = [f"{name(i)} {{{name(i + 1)}}}" if i % 4 < 3 else f"{name(i)} b" for i in range(count)]
+    rules = [f"{{{name(i * 39)}}}{i} ;" for i in range(2048)]
+    return "\n".join(lines) + "\n%%\n" + "\n".join(rules) + "\n"
+
+
 def shuffled(lines):
     random.Random(1).shuffle(lines)
     return lines
@@ -120,6 +128,7 @@ ROWS = {
     "one great cycle of definitions": great_cycle(),
     "small cycles with long ways between them": cycles_and_ways(),
     "a definition that names itself last": names_before_itself(),
+    "2,048 rules beside 80,000 definitions": rules_beside_definitions(),
     "2,048 bars": "%%\n" + "a |\n" * 2047 + "a return NUM;\n",
     "a million bytes of comment": filled("%%\na ; /*", "x", "*/\n"),
     "quote marks that aren't closed": filled("%%\na ", "\\'", "\n"),
