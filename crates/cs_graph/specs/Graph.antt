@@ -43,6 +43,10 @@ IsOrderOrCycle graph found = MatchOption found (HasCycle graph) (λ order. IsOrd
 abbrev pub IsWeighedOnce : List (Vec ℕ) → List ℕ → Type 0
 IsWeighedOnce graph order = (weights : List ℕ) → length weights ≡ length graph → sum_by (λ node. slice_index weights node) order ≤ sum weights
 
+-- the nodes of each order of the graph weigh so
+abbrev pub AreWeighedOnce : List (Vec ℕ) → Type 0
+AreWeighedOnce graph = (order : List ℕ) → IsOrdered graph order → IsWeighedOnce graph order
+
 -- Each node has a number, two nodes the same one exactly where each leads to the other: the strongly connected components.
 pub record AreComponents (graph : List (Vec ℕ)) (components : List ℕ) : Type 0 where
   pub size : length components ≡ length graph

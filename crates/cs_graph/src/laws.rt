@@ -2,7 +2,7 @@
 
 ghost use Rattle.std.specs.Prelude.{ℕ, List};
 ghost use Rattle.std.specs.Global.{Vec};
-ghost use Rattle.cs_graph.specs.Graph.{HasCycle, IsOrder, IsOrdered, IsWeighedOnce};
+ghost use Rattle.cs_graph.specs.Graph.{AreWeighedOnce, HasCycle, IsOrder};
 
 /// Where there is an order no node reaches itself.
 pub fn ordered_without_cycle()
@@ -12,6 +12,5 @@ pub fn ordered_without_cycle()
 
 /// The nodes of an order weigh together at most what all nodes weigh.
 pub fn one_place()
-    ensures { (graph : List (Vec ℕ)) (order : List ℕ)
-        → IsOrdered graph order → IsWeighedOnce graph order }
+    ensures { (graph : List (Vec ℕ)) → AreWeighedOnce graph }
 {}

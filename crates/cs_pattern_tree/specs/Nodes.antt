@@ -1,5 +1,5 @@
 -- The nodes of a pattern, and a pattern made again of its nodes.
-use Rattle.std.specs.Prelude.{ℕ, ◌+◌, ◌-◌, List, [], ◌∷◌, ◌++◌, map, length, take, drop, slice_index_or}
+use Rattle.std.specs.Prelude.{◌≡◌, ℕ, ◌+◌, ◌-◌, List, [], ◌∷◌, ◌++◌, map, length, take, drop, slice_index_or}
 use Rattle.std.proofs.Common.{Bor}
 use Rattle.cs_pattern_tree.specs.declared.pattern.Pattern.{Pattern}
 use Rattle.cs_pattern_tree.specs.Pattern.{Regex, Empty, Class, Join, Either, Many, Parts, Nothing, Then, parts_of, regex}
@@ -18,6 +18,10 @@ parts_in (Class set) = []
 parts_in (Join parts) = listed parts
 parts_in (Either parts) = listed parts
 parts_in (Many part) = part ∷ []
+
+-- the second stack is the first with these on it
+abbrev pub ArePut : List (Bor Pattern) → List Regex → List (Bor Pattern) → Type 0
+ArePut old parts new = values new ≡ values old ++ parts
 
 -- the nodes of a pattern: each before its parts, and of these the last first
 abbrev mutual
@@ -67,6 +71,14 @@ with_node stack (Class set) = stack ++ Class set ∷ []
 with_node stack (Join parts) = let count = length (listed parts) in below count stack ++ Join (parts_of (last count stack)) ∷ []
 with_node stack (Either parts) = let count = length (listed parts) in below count stack ++ Either (parts_of (last count stack)) ∷ []
 with_node stack (Many part) = below 1 stack ++ Many (top stack) ∷ []
+
+-- the second stack is the first with the pattern on it
+abbrev pub IsPut : List Pattern → Regex → List Pattern → Type 0
+IsPut old pattern new = map regex new ≡ map regex old ++ pattern ∷ []
+
+-- the second stack is the first with the node in place of its parts
+abbrev pub IsMadeAgain : List Pattern → Regex → List Pattern → Type 0
+IsMadeAgain old node new = map regex new ≡ with_node (map regex old) node
 
 -- the stack when all nodes are made again, from the last to the first
 abbrev pub with_nodes : List Regex → List Regex → List Regex

@@ -1,7 +1,7 @@
 // A pattern, copied.
 
-ghost use Rattle.std.specs.Prelude.{◌≡◌, ◌≤◌, ◌++◌, ◌∷◌, [], IfOk, OnOk, map};
-ghost use Rattle.cs_pattern_tree.specs.Nodes.{below, last, top, with_node};
+ghost use Rattle.std.specs.Prelude.{◌≡◌, ◌≤◌, IfOk, OnOk, map};
+ghost use Rattle.cs_pattern_tree.specs.Nodes.{IsMadeAgain, IsPut, below, last, top};
 ghost use Rattle.cs_pattern_tree.specs.Pattern.{nesting, regex};
 
 use crate::nodes::list_nodes;
@@ -28,8 +28,7 @@ fn take_top(stack: &mut Vec<Pattern>) -> Pattern
 }
 
 fn push(stack: &mut Vec<Pattern>, pattern: Pattern) -> Result<(), AllocError>
-    ensures { OnOk result
-        (map regex stack.new.items ≡ map regex stack.old.items ++ regex pattern ∷ []) }
+    ensures { OnOk result (IsPut stack.old.items (regex pattern) stack.new.items) }
 {
     stack.push(pattern)?;
     Ok(())
@@ -37,8 +36,7 @@ fn push(stack: &mut Vec<Pattern>, pattern: Pattern) -> Result<(), AllocError>
 
 /// Makes the node again, of the parts that are on top of the stack, and puts it in their place.
 fn copy_node(alloc: Global, node: &Pattern, stack: &mut Vec<Pattern>) -> Result<(), AllocError>
-    ensures { OnOk result
-        (map regex stack.new.items ≡ with_node (map regex stack.old.items) (regex node.now)) }
+    ensures { OnOk result (IsMadeAgain stack.old.items (regex node.now) stack.new.items) }
 {
     match node {
         Pattern::Empty => push(stack, Pattern::Empty),

@@ -1,15 +1,14 @@
 // The nodes of a pattern, on a stack in memory.
 
-ghost use Rattle.std.specs.Prelude.{◌≡◌, ◌++◌, IfOk, OnOk, map};
-ghost use Rattle.cs_pattern_tree.specs.Nodes.{nodes_of, parts_in, values};
+ghost use Rattle.std.specs.Prelude.{◌≡◌, IfOk, OnOk, map};
+ghost use Rattle.cs_pattern_tree.specs.Nodes.{ArePut, nodes_of, parts_in, values};
 ghost use Rattle.cs_pattern_tree.specs.Pattern.{regex};
 
 use crate::pattern::Pattern;
 use std::alloc::{AllocError, Global};
 
 fn push_all<'p>(parts: &'p [Pattern], pending: &mut Vec<&'p Pattern>) -> Result<(), AllocError>
-    ensures { OnOk result
-        (values pending.new.items ≡ values pending.old.items ++ map regex parts.now) }
+    ensures { OnOk result (ArePut pending.old.items (map regex parts.now) pending.new.items) }
 {
     for part in parts {
         pending.push(part)?;
@@ -20,7 +19,7 @@ fn push_all<'p>(parts: &'p [Pattern], pending: &mut Vec<&'p Pattern>) -> Result<
 /// Puts the parts of the node on the stack, the last on top.
 fn open<'p>(node: &'p Pattern, pending: &mut Vec<&'p Pattern>) -> Result<(), AllocError>
     ensures { OnOk result
-        (values pending.new.items ≡ values pending.old.items ++ parts_in (regex node.now)) }
+        (ArePut pending.old.items (parts_in (regex node.now)) pending.new.items) }
 {
     match node {
         Pattern::Empty => Ok(()),
