@@ -1,5 +1,5 @@
 -- The patterns that operations build.
-use Rattle.std.specs.Prelude.{ℕ, ◌≤◌, List, ◌++◌, [], Option, Some, None, nat_eq}
+use Rattle.std.specs.Prelude.{◌≡◌, ℕ, ◌≤◌, List, ◌++◌, [], Option, Some, None, nat_eq}
 use Rattle.std.specs.Map.{lookup}
 use Rattle.cs_pattern_tree.specs.declared.pattern.Pattern.{Pattern}
 use Rattle.cs_pattern_postfix.specs.declared.operations.Op as code
@@ -49,6 +49,10 @@ IsShallow r = nesting r ≤ 1000
 
 abbrev pub next_stack : List (ℕ × Pattern) → List Pattern → code.Op → List Regex
 next_stack known stack op = step (patterns (known_at known)) (regexes stack) (op_of op)
+
+-- the second stack is the first after the operation
+abbrev pub IsNextStack : List (ℕ × Pattern) → code.Op → List Pattern → List Pattern → Type 0
+IsNextStack known op old new = regexes new ≡ next_stack known old op
 
 abbrev pub pattern_built : List (ℕ × Pattern) → List code.Op → Regex
 pattern_built known ops = value_of (patterns (known_at known)) (ops_of ops)

@@ -1,7 +1,7 @@
 // Patterns, built from their operations on a stack in memory.
 
 ghost use Rattle.std.specs.Prelude.{◌≡◌, ◌≤◌, ◌++◌, ◌∷◌, [], All, IfOk, OnOk, replicate};
-ghost use Rattle.cs_pattern_postfix.specs.Building.{IsShallow, StayShallow, below_last, known_at, last_of, next_stack, no_patterns, pattern_built, with_optionals};
+ghost use Rattle.cs_pattern_postfix.specs.Building.{IsNextStack, IsShallow, StayShallow, below_last, known_at, last_of, next_stack, no_patterns, pattern_built, with_optionals};
 ghost use Rattle.cs_pattern_postfix.specs.Evaluation.{top};
 ghost use Rattle.cs_pattern_postfix.specs.Operations.{ops_of};
 ghost use Rattle.cs_pattern_tree.specs.Pattern.{regex, regexes, Join, Either, Many, parts_of, alone_or, nesting};
@@ -179,7 +179,7 @@ fn apply(alloc: Global, stack: &mut Vec<Pattern>, op: &Op, known: &Known) -> Res
     requires before { All IsShallow (regexes stack.old.items) }
     requires after { All IsShallow (next_stack known.now.entries stack.old.items op.now) }
     ensures { OnOk result
-        (regexes stack.new.items ≡ next_stack known.now.entries stack.old.items op.now) }
+        (IsNextStack known.now.entries op.now stack.old.items stack.new.items) }
 {
     match op {
         Op::Class(set) => push(stack, Pattern::Class(set.duplicate())),
