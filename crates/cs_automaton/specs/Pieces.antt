@@ -117,8 +117,9 @@ pub record Takes (first : Piece) (behind left : List Piece) (old_ops new_ops : L
   pub list : values new.items ++ classes_in left ≡ values old.items ++ classes_in (first ∷ behind)
   pub less : work_in left < piece_work first + work_in behind
 
-abbrev pub TakesOn : Piece → Vec code.Piece Global → Vec code.Piece Global → Vec Op Global → Vec Op Global → Vec (Bor (List ℕ)) Global → Vec (Bor (List ℕ)) Global → Type 0
-TakesOn first old_left new_left old_ops new_ops old new = Takes first (pieces old_left) (pieces new_left) old_ops.items new_ops.items old new
+-- so the piece of a call is taken on
+abbrev pub Lays : code.Piece → Vec code.Piece Global → Vec code.Piece Global → Vec Op Global → Vec Op Global → Vec (Bor (List ℕ)) Global → Vec (Bor (List ℕ)) Global → Type 0
+Lays first old_left new_left old_ops new_ops old new = Takes (piece_of first) (pieces old_left) (pieces new_left) old_ops.items new_ops.items old new
 
 -- the steps and the classes of these are appended
 pub record AppendsAll (left : List Piece) (old_ops new_ops : Vec Op Global) (old new : Vec (Bor (List ℕ)) Global) : Type 0 where

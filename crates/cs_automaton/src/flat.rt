@@ -2,7 +2,7 @@
 
 ghost use Rattle.std.specs.Prelude.{◌≡◌, ◌+◌, ◌≤◌, ◌++◌, ◌∷◌, [], IfOk, OnOk, length, map};
 ghost use Rattle.cs_pattern_tree.specs.Pattern.{regex, parts_of};
-ghost use Rattle.cs_automaton.specs.Pieces.{AppendsAll, Opens, TakesOn, either, join, letters_in, piece_letters, piece_of, pieces, whole};
+ghost use Rattle.cs_automaton.specs.Pieces.{AppendsAll, Lays, Opens, either, join, letters_in, piece_letters, piece_of, pieces, whole};
 ghost use Rattle.cs_automaton.specs.Programs.{AddsClasses, GrowsBy, classes_of, letters_of, ops_of, place_behind};
 
 use crate::op::Op;
@@ -102,7 +102,7 @@ fn take_on<'p>(
 ) -> Result<(), AllocError>
     requires { length classes.old.items + piece_letters (piece_of piece) ≤ 16384 }
     ensures { OnOk result
-        (TakesOn (piece_of piece.entry) left.old left.new ops.old ops.new classes.old classes.new) }
+        (Lays piece.entry left.old left.new ops.old ops.new classes.old classes.new) }
 {
     match piece {
         Piece::Step(op) => push_op(op, ops),
