@@ -192,6 +192,36 @@ negative 2 base 1 insert 0 'x' pair 'x' 'x' at 1
   text "x x"
 end goals 5 feasible 3 infeasible 2 large 0 negatives 2
 """
+ONE_SHARED = b"""conform 2 suite
+weigh nodes
+token 1 'x'
+rule 1 s : 'x'
+lexeme 'x' "x"
+closed productive s
+closed reachable s
+closed empty
+closed first s : 'x'
+closed last s : 'x'
+closed next <begin> : 'x'
+closed next 'x' : <end>
+case 1 size 2
+  derive 1
+  tokens 'x'
+  text "x"
+goal 1 rule 1 size 2 case 1 first 1
+goal 2 pair <begin> 'x' size 2 case 1 first 1
+goal 3 pair <begin> <end> infeasible
+goal 4 pair 'x' 'x' infeasible
+goal 5 pair 'x' <end> size 2 case 1 first 1
+base 1 goal 1
+negative 1 base 1 delete 0 pair <begin> <end> at 0
+  tokens
+  text ""
+negative 2 base 1 insert 0 'x' pair 'x' 'x' at 1
+  tokens 'x' 'x'
+  text "x x"
+end goals 5 feasible 3 infeasible 2 large 0 negatives 2 cases 1
+"""
 # Laid down with the command.
 SUMMARY = b"gen 1 yacc 1240 lex 378 goals 968 feasible 862 infeasible 106 large 0 negatives 1442 bytes 315463\n"
 EXAMPLES = os.path.join(TOP, "examples")
@@ -216,13 +246,15 @@ ROWS = [
     (["rules", "missing.y"], 3, b"", b"conform: read fault: yacc\n"),
     (["rules", "."], 3, b"", b"conform: read fault: yacc\n"),
     ([b"rules", b"\xff"], 7, b"", b""),
-    (["suite", *G1, "--mutate=none", "--criteria=rule"], 0, SUITE, b""),
-    (["suite", "g1.y", "g1.l", "--criteria=rule", "--mutate=none"], 0, SUITE, b""),
+    (["suite", *G1, "--mutate=none", "--criteria=rule", "--format=1"], 0, SUITE, b""),
+    (["suite", "g1.y", "g1.l", "--criteria=rule", "--format=1", "--mutate=none"], 0, SUITE, b""),
     (["suite", "g1.y", "trailing.l", "--mutate=none"], 1, b"", b"conform: lex: Pattern at 3: Trailing at 2\n"),
     (["suite", "states.y", "states.l", "--mutate=none"], 1, b"", b"conform: lex: States above 16384\n"),
     (["suite", "empty.y", "long.y", "--mutate=none"], 1, b"", b"conform: lex: Length above 1048576\n"),
     (["suite", "empty.y", "missing.l", "--mutate=none"], 3, b"", b"conform: read fault: lex\n"),
-    (["suite", "one.y", "one.l"], 0, ONE, b""),
+    (["suite", "one.y", "one.l", "--format=1"], 0, ONE, b""),
+    (["suite", "one.y", "one.l"], 0, ONE_SHARED, b""),
+    (["suite", "g1.y", "g1.l", "--format=3"], 2, b"", b"conform: usage: word 3\n"),
     (["suite", "g1.y", "g1.l", "--mutate=all"], 2, b"", b"conform: usage: word 3\n"),
     (["suite", "g1.y", "g1.l", "--bases=1", "--bases=1"], 2, b"", b"conform: usage: word 4\n"),
     (["gen", "1"], 0, SUMMARY, b""),
@@ -246,7 +278,7 @@ def failures(folder):
         status, _, said = run(["rules", "g1.y"], folder, stdout=full, stderr=subprocess.PIPE)
         if (status, said) != (4, b"conform: write fault\n"):
             yield f"a full output: status {status}, {said!r}"
-        suite = ["suite", *C_EXPRESSIONS, "--mutate=none"]
+        suite = ["suite", *C_EXPRESSIONS, "--mutate=none", "--format=1"]
         status, _, said = run(suite, folder, stdout=full, stderr=subprocess.PIPE)
         if (status, said) != (4, b"conform: write fault\n"):
             yield f"a suite into a full output: status {status}, {said!r}"
@@ -259,7 +291,7 @@ def failures(folder):
         status, written, _ = run(["rules", "empty.y"], folder, stdout=subprocess.PIPE, stderr=full)
         if (status, written) != (1, b""):
             yield f"a full error output: status {status}, {written!r}"
-    status, written, _ = run(["suite", *C_EXPRESSIONS, "--mutate=none"], folder, **pipes)
+    status, written, _ = run(["suite", *C_EXPRESSIONS, "--mutate=none", "--format=1"], folder, **pipes)
     goals = [line for line in written.split(b"\n") if line.startswith(b"goal ")]
     texts = [line for line in written.split(b"\n") if line.startswith(b"  text ")]
     feasible = [line for line in goals if b" size " in line]

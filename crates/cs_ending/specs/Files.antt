@@ -1,6 +1,5 @@
 -- Which files are accepted and refused, and the manifests of accepted ones. Where the desk tells no files, any files count.
 use Rattle.std.specs.Prelude.{ℕ, List, Option, Some}
-use Rattle.cs_grammar.specs.Weights.{nodes}
 use Rattle.cs_io.specs.Desk.{Files}
 use Rattle.cs_io.specs.Uses.{Change}
 use Rattle.cs_yacc.specs.File as yacc
@@ -11,8 +10,6 @@ use Rattle.cs_input.specs.declared.refusal.Role.{Role}
 use Rattle.cs_input.specs.declared.refusal.Role.TheVariants.{Yacc}
 use Rattle.cs_input.specs.Files.{FileIs, FilesAre, HasNoFile, IsGrammarOf, IsPairOf}
 use Rattle.cs_input.specs.Refusal.{HasManyStates, RefusesGrammar, RefusesPair}
-use Rattle.cs_manifest.specs.declared.format.Format.TheVariants.{One}
-use Rattle.cs_manifest.specs.declared.format.Weigh.TheVariants.{Nodes}
 use Rattle.cs_manifest.specs.Manifest.{Choice, IsManifest, rules_form}
 use Rattle.cs_ending.specs.Requests.{Request, ForGen, ForRules, ForSuite}
 
@@ -59,20 +56,16 @@ choice_of scanner options = record {
   });
   operators = options.operators;
   most = options.bases;
-  format = One;
-  weigh = Nodes;
+  format = options.format;
+  weigh = options.weigh;
 }
-
--- the text is the manifest of a yacc file by the choice, where the nodes of trees are counted
-abbrev pub IsTextBy : Choice → yacc.File → List ℕ → Type 0
-IsTextBy choice file text = IsManifest (nodes file.grammar.tokens) choice file text
 
 -- the text is the `rules` form of the yacc file that the bytes mean
 unfoldable pub IsRulesText : List ℕ → List ℕ → Type 0
-IsRulesText text bytes = (file : yacc.File) × IsGrammarOf file bytes × IsTextBy rules_form file text
+IsRulesText text bytes = (file : yacc.File) × IsGrammarOf file bytes × IsManifest rules_form file text
 
 -- the text is the manifest of the pair of files that the bytes mean, by the options
 unfoldable pub IsSuiteText : Options → List ℕ → List ℕ → List ℕ → Type 0
 IsSuiteText options text bytes more =
     (file : yacc.File) × (scanner : lex.File) × IsPairOf file scanner bytes more × (¬ HasManyStates scanner)
-    × IsTextBy (choice_of scanner options) file text
+    × IsManifest (choice_of scanner options) file text

@@ -6,6 +6,8 @@ use Rattle.cs_manifest.specs.Counts.{end_of}
 use Rattle.cs_manifest.specs.Lines.{numbered_word}
 use Rattle.cs_manifest.specs.Putting.{shown}
 use Rattle.cs_manifest.specs.Words.{line}
+use Rattle.cs_manifest.specs.declared.format.Format.TheVariants.{One}
+use Rattle.cs_words.specs.declared.options.Options.{Options}
 use Rattle.cs_words.specs.Options.{default_options}
 use Rattle.cs_ending.specs.Files.{IsSuiteText}
 
@@ -35,9 +37,13 @@ pub record HasCounts (counts : Counts) (text : List ℕ) : Type 0 where
   pub negatives : counts.negatives < 2 ^ 64
   pub cases : counts.cases ≡ None
 
--- the text is the manifest, by default options, of the two files of the number
+-- the default options, with the first format
+abbrev pub summary_options : Options
+summary_options = record default_options { format = One }
+
+-- the text is the manifest, by these options, of the two files of the number
 abbrev pub IsManifestOf : ℕ → List ℕ → Type 0
-IsManifestOf seed text = IsSuiteText default_options text (yacc_text seed) lex_text
+IsManifestOf seed text = IsSuiteText summary_options text (yacc_text seed) lex_text
 
 -- the lengths of the two files of the number
 abbrev pub lengths_of : ℕ → Lengths

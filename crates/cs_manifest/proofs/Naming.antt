@@ -10,7 +10,7 @@ use Rattle.cs_goals.specs.Goals.{right_marks}
 use Rattle.cs_pairs.specs.Closed.{IsFirstOf, IsLastOf, YieldsNothing}
 use Rattle.cs_pairs.specs.Pairs.{IsAdjacent}
 use Rattle.cs_yacc.specs.File.{File, IsFile}
-use Rattle.cs_manifest.specs.Closed.{AreClosedSets, AreEdges, AreThose, ClosedSets, HasContext, HasTree, numbers}
+use Rattle.cs_closed.specs.Closed.{AreClosedSets, AreEdges, AreThose, ClosedSets, HasContext, HasTree, numbers}
 use Rattle.cs_manifest.specs.Names.{AreNamedMarks, AreNamedNonterminals, AreNamedSets, AreNamedTokens, IsNamedMark, IsNamedToken}
 
 -- what holds of each of a list holds of those that are so

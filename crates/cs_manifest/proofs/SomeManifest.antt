@@ -8,7 +8,7 @@ use Rattle.cs_grammar.specs.Grammar.{PlainGrammar}
 use Rattle.cs_grammar.specs.Leftmost.{IsYield}
 use Rattle.cs_grammar.specs.Sentence.{framed}
 use Rattle.cs_grammar.specs.Tree.{Tree, code, yield, size}
-use Rattle.cs_grammar.specs.Weights.{Measure, Weighed, weighed}
+use Rattle.cs_grammar.specs.Weights.{Weighed}
 use Rattle.cs_grammar.specs.declared.symbol.Mark.{Mark}
 use Rattle.cs_goals.specs.declared.goal.Goal.{Goal}
 use Rattle.cs_goals.specs.Goal.{IsGoal}
@@ -30,8 +30,7 @@ use Rattle.cs_positive.proofs.Verdicts.{chosen_exists_of, chosen_least_of, chose
 use Rattle.cs_yacc.specs.File.{File}
 use Rattle.cs_manifest.specs.declared.format.Format.{Format}
 use Rattle.cs_manifest.specs.declared.format.Format.TheVariants.{One, Two}
-use Rattle.cs_manifest.specs.declared.format.Weigh.{Weigh}
-use Rattle.cs_manifest.specs.Manifest.{AreLexemesBy, BaseEntry, Choice, GoalEntry, IsBaseOf, IsEntryOf, IsManifest, IsNegativeOf, IsNotWithout, IsRenderedBy, IsTextIn, Texts, bases, most_bases, manifest_text, shared_text}
+use Rattle.cs_manifest.specs.Manifest.{AreLexemesBy, BaseEntry, Choice, GoalEntry, IsBaseOf, IsEntryOf, IsManifest, IsNegativeOf, IsNotWithout, IsRenderedBy, IsTextIn, Texts, bases, goal_texts, manifest_text, most_bases, shared_text, weighed_by}
 use Rattle.cs_cases.specs.Cases.{no_cases}
 use Rattle.cs_manifest.proofs.SomeShared.{some_closed, some_shared}
 use Rattle.cs_manifest.proofs.Zips.{some_zip}
@@ -159,23 +158,24 @@ module _ (g : PlainGrammar) (choice : Choice) (lexemes : Option (List (Option (L
   some_bases list = some_zip list (λ base among. some_base base)
 
 -- no format is without a text of these
-module _ (of : Weighed) (texts : Option Texts) (lexemes : Option (List (Option (List ℕ)))) (weigh : Weigh) (file : File) (entries : List GoalEntry) (mutants : List BaseEntry) where
-  some_text_in : (list : List Goal) → of.grammar ≡ file.grammar → AllZip (IsEntryOf of texts lexemes) list entries → (format : Format) → IsNotWithout (IsTextIn format weigh file lexemes entries mutants)
+module _ (of : Weighed) (choice : Choice) (file : File) (lexemes : Option (List (Option (List ℕ)))) (entries : List GoalEntry) (mutants : List BaseEntry)
+    (some_rendering : (tokens : List ℕ) → IsNotWithout (IsRenderedBy choice.texts lexemes tokens)) where
+  some_text_in : (list : List Goal) → of.grammar ≡ file.grammar → AllZip (IsEntryOf of (goal_texts choice) lexemes) list entries → (format : Format) → IsNotWithout (IsTextIn format choice file lexemes entries mutants)
   some_text_in list same each One none = none (manifest_text file lexemes entries mutants) refl
   some_text_in list same each Two none =
       some_closed file.grammar
-      (λ closed are_closed. some_shared of texts lexemes (no_cases file.grammar) list entries (sym same) each
-      (λ p are_shared. none (shared_text file weigh lexemes closed entries p.1 (length p.0.codes) mutants)
+      (λ closed are_closed. some_shared of choice.texts (goal_texts choice) lexemes some_rendering (no_cases file.grammar) list entries (sym same) each
+      (λ p are_shared. none (shared_text file choice.weigh lexemes closed entries p.1 (length p.0.codes) mutants)
       (record { closed = closed; cases = p.0; list = p.1; are_closed = are_closed; are_shared = are_shared; lines = refl })))
 
-module _ (w : Measure) (choice : Choice) (file : File)
-    (some_rendering : (lexemes : Option (List (Option (List ℕ)))) (tokens : List ℕ) → IsNotWithout (IsRenderedBy choice.texts lexemes tokens))
+module _ (choice : Choice) (file : File)
+    (some_rendering : (texts : Option Texts) (lexemes : Option (List (Option (List ℕ)))) (tokens : List ℕ) → IsNotWithout (IsRenderedBy texts lexemes tokens))
     (some_lexemes : IsNotWithout (AreLexemesBy choice.texts file.grammar.tokens)) where
-  pub some_manifest_by : IsNotWithout (IsManifest w choice file)
+  pub some_manifest_by : IsNotWithout (IsManifest choice file)
   some_manifest_by none =
       some_lexemes
-      (λ lexemes are. some_entries (weighed file.grammar w) choice.texts lexemes (some_rendering lexemes) choice
-      (λ entries each. some_bases file.grammar choice lexemes (some_rendering lexemes) (bases (most_bases choice) entries)
-      (λ mutants of. some_text_in (weighed file.grammar w) choice.texts lexemes choice.weigh file entries mutants (goals file.grammar choice.criteria) refl each choice.format
+      (λ lexemes are. some_entries (weighed_by choice file lexemes) (goal_texts choice) lexemes (some_rendering (goal_texts choice) lexemes) choice
+      (λ entries each. some_bases file.grammar choice lexemes (some_rendering choice.texts lexemes) (bases (most_bases choice) entries)
+      (λ mutants of. some_text_in (weighed_by choice file lexemes) choice file lexemes entries mutants (some_rendering choice.texts lexemes) (goals file.grammar choice.criteria) refl each choice.format
       (λ text lines. none text
       (record { lexemes = lexemes; entries = entries; mutants = mutants; are_lexemes = are; verdicts = each; negatives = of; lines = lines })))))

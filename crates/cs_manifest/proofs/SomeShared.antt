@@ -1,5 +1,5 @@
 -- No grammar is without its closed sets, and no goal without what it names.
-use Rattle.std.proofs.Common.{◌≡◌, ◌<◌, ◌≤◌, ◌⊎◌, ℕ, zero, suc, ◌+◌, ◌-◌, Bool, true, false, cond, List, [], ◌∷◌, ◌++◌, length, length-append, inl, inr, refl, sym, ap, ◌∙◌, subst, arith, Option, Some}
+use Rattle.std.proofs.Common.{◌≡◌, ◌<◌, ◌≤◌, ◌⊎◌, ℕ, zero, suc, ◌+◌, ◌-◌, Bool, true, false, cond, List, [], ◌∷◌, ◌++◌, length, length-append, inl, inr, refl, sym, ap, ◌∙◌, subst, arith, Option, None, Some}
 use Rattle.std.specs.Prelude.{◌↔◌, IsTrue, slice_get}
 use Rattle.std.specs.List.{AllZip}
 use Rattle.std.proofs.Math.Seq.{get_or-append_seam}
@@ -21,8 +21,8 @@ use Rattle.cs_positive.specs.Verdict.{IsVerdict}
 use Rattle.cs_positive.proofs.Verdicts.{chosen_met}
 use Rattle.cs_manifest.specs.declared.entry.SharedVerdict.{SharedVerdict}
 use Rattle.cs_manifest.specs.declared.entry.SharedVerdict.TheVariants as shared
-use Rattle.cs_manifest.specs.Closed.{AreClosedSets, AreEdges, AreNext, AreThose, HasContext, HasTree, numbers}
-use Rattle.cs_manifest.specs.Manifest.{AreShared, GoalEntry, IsEntryOf, IsNotWithout, IsSharedVerdict, SharedEntry, Texts}
+use Rattle.cs_closed.specs.Closed.{AreClosedSets, AreEdges, AreNext, AreThose, HasContext, HasTree, numbers}
+use Rattle.cs_manifest.specs.Manifest.{AreShared, GoalEntry, IsEntryOf, IsNotWithout, IsRenderedBy, IsRenderedIf, IsShared, IsSharedVerdict, SharedEntry, Texts, is_new}
 use Rattle.cs_manifest.proofs.Zips.{some_zip}
 
 -- ---- closed sets
@@ -141,16 +141,26 @@ module _ (of : Weighed) where
   same_grammar old new goal Infeasible s is = ap (λ (c : PlainCases). c.grammar) is.1
   same_grammar old new goal Large s is = ap (λ (c : PlainCases). c.grammar) is.1
 
-  module _ (texts : Option Texts) (lexemes : Option (List (Option (List ℕ)))) where
-    pub some_shared : (old : PlainCases) (goals : List Goal) (entries : List GoalEntry) → old.grammar ≡ of.grammar → AllZip (IsEntryOf of texts lexemes) goals entries
-        → IsNotWithout (λ (p : PlainCases × List SharedEntry). AreShared old entries p.0 p.1)
+  module _ (texts own : Option Texts) (lexemes : Option (List (Option (List ℕ))))
+      (some_rendering : (tokens : List ℕ) → IsNotWithout (IsRenderedBy texts lexemes tokens)) where
+    some_rendered_if : (so : Bool) (tokens : List ℕ) → IsNotWithout (IsRenderedIf so texts lexemes tokens)
+    some_rendered_if true tokens none = some_rendering tokens none
+    some_rendered_if false tokens none = none None refl
+
+    -- where a goal has a verdict in the second format, it has an entry
+    some_entry : (old new : PlainCases) (e : GoalEntry) (verdict : SharedVerdict) → IsSharedVerdict old e.goal e.verdict new verdict → IsNotWithout (IsShared texts lexemes old e new)
+    some_entry old new e verdict is none =
+        some_rendered_if (is_new verdict) e.tokens
+        (λ rendered text. none (record { entry = e; verdict = verdict; rendered = rendered }) (record { is_of = refl; verdict = is; text = text }))
+
+    pub some_shared : (old : PlainCases) (goals : List Goal) (entries : List GoalEntry) → old.grammar ≡ of.grammar → AllZip (IsEntryOf of own lexemes) goals entries
+        → IsNotWithout (λ (p : PlainCases × List SharedEntry). AreShared texts lexemes old entries p.0 p.1)
     some_shared old [] [] same each none = none (old, []) (refl, refl)
     some_shared old [] (e ∷ entries) same each none = absurd each
     some_shared old (goal ∷ goals) [] same each none = absurd each
     some_shared old (goal ∷ goals) (e ∷ entries) same each none =
         let verdict = subst (λ (x : Goal). IsVerdict of.weights of.grammar x e.verdict) (sym each.0.is_of) each.0.verdict in
         some_verdict old e.goal e.verdict same verdict
-        (λ p is. some_shared p.0 goals entries (same_grammar old p.0 e.goal e.verdict p.1 is ∙ same) each.1
-        (λ q are.
-        let first : SharedEntry = record { entry = e; verdict = p.1 } in
-        none (q.0, first ∷ q.1) (p.0, first, q.1, refl, record { is_of = refl; verdict = is }, are)))
+        (λ p is. some_entry old p.0 e p.1 is
+        (λ first is_first. some_shared p.0 goals entries (same_grammar old p.0 e.goal e.verdict p.1 is ∙ same) each.1
+        (λ q are. none (q.0, first ∷ q.1) (p.0, first, q.1, refl, is_first, are))))

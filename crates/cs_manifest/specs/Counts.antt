@@ -50,10 +50,14 @@ with_shared_verdict counts (Feasible size named) = with_goal counts true false f
 with_shared_verdict counts Infeasible = with_goal counts false true false
 with_shared_verdict counts Large = with_goal counts false false true
 
+-- with one more case, where there are some
+abbrev pub with_case : Counts → Counts
+with_case counts = record counts { cases = option_map next_count counts.cases }
+
 -- with one more entry, its lines not yet
 abbrev pub with_entry : Counts → Entry → Counts
 with_entry counts (Goal number goal verdict tokens rendered) = with_verdict counts verdict.now
-with_entry counts (Case number size derivation tokens rendered) = record counts { cases = option_map next_count counts.cases }
+with_entry counts (Case number size derivation tokens rendered) = with_case counts
 with_entry counts (Shared number goal verdict) = with_shared_verdict counts verdict
 with_entry counts (Base number goal) = counts
 with_entry counts (Negative number base edit left right at tokens rendered) = record counts { negatives = next_count counts.negatives }

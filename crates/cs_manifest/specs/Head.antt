@@ -5,7 +5,7 @@ use Rattle.cs_manifest.specs.declared.format.Weigh.{Weigh}
 use Rattle.cs_manifest.specs.declared.head.Form.{Form}
 use Rattle.cs_manifest.specs.declared.head.Form.TheVariants.{Rules, Suite, Shared}
 use Rattle.cs_manifest.specs.declared.head.Head.{Head}
-use Rattle.cs_manifest.specs.Closed.{AreClosedSets, ClosedSets}
+use Rattle.cs_closed.specs.Closed.{AreClosedSets, ClosedSets}
 use Rattle.cs_manifest.specs.Lines.{head_lines}
 use Rattle.cs_manifest.specs.SharedLines.{shared_head_lines}
 

@@ -1,7 +1,5 @@
 pub mod Words
 pub mod Names
-pub mod Closed
-pub mod Collecting
 pub mod Lines
 pub mod SharedLines
 pub mod Head

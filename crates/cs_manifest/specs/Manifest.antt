@@ -30,7 +30,7 @@ use Rattle.cs_manifest.specs.declared.format.Format.{Format}
 use Rattle.cs_manifest.specs.declared.format.Format.TheVariants.{One, Two}
 use Rattle.cs_manifest.specs.declared.format.Weigh.{Weigh}
 use Rattle.cs_manifest.specs.declared.format.Weigh.TheVariants.{Nodes, Bytes}
-use Rattle.cs_manifest.specs.Closed.{AreClosedSets, ClosedSets}
+use Rattle.cs_closed.specs.Closed.{AreClosedSets, ClosedSets}
 use Rattle.cs_manifest.specs.SharedLines.{case_lines, shared_goal_line, shared_head_lines}
 use Rattle.cs_manifest.specs.Lines.{head_lines, goal_lines, base_line, negative_lines, end_words, is_feasible, is_infeasible, is_large}
 use Rattle.cs_manifest.specs.Words.{numbered, numbered_from}
@@ -63,10 +63,23 @@ rules_form = record {
   weigh = Nodes;
 }
 
--- how trees are measured where there are so many tokens, with these lexemes
-abbrev pub measure_of : Weigh → ℕ → List (Option (List ℕ)) → Measure
+-- bytes are counted: each token has the number of its lexeme's length
+abbrev pub byte_measure : List (Option (List ℕ)) → Measure
+byte_measure lexemes = record { numbers = map (λ text. byte_weight (option_map length text)) lexemes; limit = 100000 }
+
+-- how trees are measured where there are so many tokens: by their nodes, or by the bytes of these lexemes, where there are some
+abbrev pub measure_of : Weigh → ℕ → Option (List (Option (List ℕ))) → Measure
 measure_of Nodes tokens lexemes = nodes tokens
-measure_of Bytes tokens lexemes = record { numbers = map (λ text. byte_weight (option_map length text)) lexemes; limit = 100000 }
+measure_of Bytes tokens None = nodes tokens
+measure_of Bytes tokens (Some lexemes) = byte_measure lexemes
+
+-- what goals' own texts are made by: in the second format cases have texts, and goals have none
+abbrev pub texts_at : Format → Option Texts → Option Texts
+texts_at One texts = texts
+texts_at Two texts = None
+
+abbrev pub goal_texts : Choice → Option Texts
+goal_texts choice = texts_at choice.format choice.texts
 
 -- ---- lexemes and texts
 
@@ -181,21 +194,34 @@ IsSharedVerdict old goal (Feasible size derivation) new verdict =
 IsSharedVerdict old goal Infeasible new verdict = (verdict ≡ shared.Infeasible) × (new ≡ old)
 IsSharedVerdict old goal Large new verdict = (verdict ≡ shared.Large) × (new ≡ old)
 
--- an entry, with its verdict in the second format
+-- the goal is feasible, and its derivation a new case
+abbrev pub is_new : SharedVerdict → Bool
+is_new (shared.Feasible size named) = named.fresh
+is_new shared.Infeasible = false
+is_new shared.Large = false
+
+-- what comes of rendering these tokens, where that is asked for
+abbrev pub IsRenderedIf : Bool → Option Texts → Option (List (Option (List ℕ))) → List ℕ → Option Rendering → Type 0
+IsRenderedIf true texts lexemes tokens rendered = IsRenderedBy texts lexemes tokens rendered
+IsRenderedIf false texts lexemes tokens rendered = rendered ≡ None
+
+-- an entry, with its verdict in the second format; and where its derivation is a new case, what came of rendering the tokens
 pub record SharedEntry : Type 0 where
   pub entry : GoalEntry
   pub verdict : SharedVerdict
+  pub rendered : Option Rendering
 
-pub record IsShared (old : PlainCases) (entry : GoalEntry) (new : PlainCases) (s : SharedEntry) : Type 0 where
+pub record IsShared (texts : Option Texts) (lexemes : Option (List (Option (List ℕ)))) (old : PlainCases) (entry : GoalEntry) (new : PlainCases) (s : SharedEntry) : Type 0 where
   pub is_of : s.entry ≡ entry
   pub verdict : IsSharedVerdict old entry.goal entry.verdict new s.verdict
+  pub text : IsRenderedIf (is_new s.verdict) texts lexemes entry.tokens s.rendered
 
 -- one for each of these entries, in order, from the cases before them to those behind them
-abbrev pub AreShared : PlainCases → List GoalEntry → PlainCases → List SharedEntry → Type 0
-AreShared old [] new list = (list ≡ []) × (new ≡ old)
-AreShared old (entry ∷ rest) new list =
-    (mid : PlainCases) × (first : SharedEntry) × (others : List SharedEntry) × (list ≡ first ∷ others) × IsShared old entry mid first
-    × AreShared mid rest new others
+abbrev pub AreShared : Option Texts → Option (List (Option (List ℕ))) → PlainCases → List GoalEntry → PlainCases → List SharedEntry → Type 0
+AreShared texts lexemes old [] new list = (list ≡ []) × (new ≡ old)
+AreShared texts lexemes old (entry ∷ rest) new list =
+    (mid : PlainCases) × (first : SharedEntry) × (others : List SharedEntry) × (list ≡ first ∷ others)
+    × IsShared texts lexemes old entry mid first × AreShared texts lexemes mid rest new others
 
 -- ---- the text
 
@@ -223,16 +249,19 @@ derivation_in (Feasible size derivation) = derivation
 derivation_in Infeasible = []
 derivation_in Large = []
 
--- the lines of a new case
-abbrev pub new_case_lines : File → GoalEntry → SharedVerdict → List ℕ
-new_case_lines file entry (shared.Feasible size named) =
-    if named.fresh then case_lines file named.case size (derivation_in entry.verdict) entry.tokens entry.rendered else []
-new_case_lines file entry shared.Infeasible = []
-new_case_lines file entry shared.Large = []
+-- the lines of the case of an entry with this verdict, where it is new
+abbrev pub case_lines_by : File → GoalEntry → Option Rendering → SharedVerdict → List ℕ
+case_lines_by file entry rendered (shared.Feasible size named) =
+    if named.fresh then case_lines file named.case size (derivation_in entry.verdict) entry.tokens rendered else []
+case_lines_by file entry rendered shared.Infeasible = []
+case_lines_by file entry rendered shared.Large = []
+
+abbrev pub new_case_lines : File → SharedEntry → List ℕ
+new_case_lines file s = case_lines_by file s.entry s.rendered s.verdict
 
 -- the lines of a goal in the second format, by its number: its case, where that is new, and its own line
 abbrev pub shared_entry_lines : File → ℕ → SharedEntry → List ℕ
-shared_entry_lines file number s = new_case_lines file s.entry s.verdict ++ shared_goal_line file number s.entry.goal s.verdict
+shared_entry_lines file number s = new_case_lines file s ++ shared_goal_line file number s.entry.goal s.verdict
 
 -- the end, with how many goals there are, how many of each verdict, how many negatives, and how many cases, if there are some
 abbrev pub end_line_with : Option ℕ → List GoalEntry → List BaseEntry → List ℕ
@@ -256,30 +285,34 @@ shared_text file weigh lexemes closed entries list many bases =
     ++ end_line_with (Some many) entries bases
 
 -- it is the text in the second format
-pub record IsSharedText (file : File) (weigh : Weigh) (lexemes : Option (List (Option (List ℕ)))) (entries : List GoalEntry) (bases : List BaseEntry) (text : List ℕ) : Type 0 where
+pub record IsSharedText (choice : Choice) (file : File) (lexemes : Option (List (Option (List ℕ)))) (entries : List GoalEntry) (bases : List BaseEntry) (text : List ℕ) : Type 0 where
   pub closed : ClosedSets
   pub cases : PlainCases
   pub list : List SharedEntry
   pub are_closed : AreClosedSets file.grammar closed
-  pub are_shared : AreShared (no_cases file.grammar) entries cases list
-  pub lines : text ≡ shared_text file weigh lexemes closed entries list (length cases.codes) bases
+  pub are_shared : AreShared choice.texts lexemes (no_cases file.grammar) entries cases list
+  pub lines : text ≡ shared_text file choice.weigh lexemes closed entries list (length cases.codes) bases
 
 -- it is the text in the format
-abbrev pub IsTextIn : Format → Weigh → File → Option (List (Option (List ℕ))) → List GoalEntry → List BaseEntry → List ℕ → Type 0
-IsTextIn One weigh file lexemes entries bases text = text ≡ manifest_text file lexemes entries bases
-IsTextIn Two weigh file lexemes entries bases text = IsSharedText file weigh lexemes entries bases text
+abbrev pub IsTextIn : Format → Choice → File → Option (List (Option (List ℕ))) → List GoalEntry → List BaseEntry → List ℕ → Type 0
+IsTextIn One choice file lexemes entries bases text = text ≡ manifest_text file lexemes entries bases
+IsTextIn Two choice file lexemes entries bases text = IsSharedText choice file lexemes entries bases text
 
 -- ---- the manifest
 
--- the text is the manifest of the file by the choice, where trees are measured by these weights
-pub record IsManifest (w : Measure) (choice : Choice) (file : File) (text : List ℕ) : Type 0 where
+-- the grammar of the file, and how the choice measures its trees, with these lexemes
+abbrev pub weighed_by : Choice → File → Option (List (Option (List ℕ))) → Weighed
+weighed_by choice file lexemes = weighed file.grammar (measure_of choice.weigh file.grammar.tokens lexemes)
+
+-- The text is the manifest of the file by the choice.
+pub record IsManifest (choice : Choice) (file : File) (text : List ℕ) : Type 0 where
   pub lexemes : Option (List (Option (List ℕ)))
   pub entries : List GoalEntry
   pub mutants : List BaseEntry
   pub are_lexemes : AreLexemesBy choice.texts file.grammar.tokens lexemes
-  pub verdicts : EntriesOf (weighed file.grammar w) choice.texts lexemes (goals file.grammar choice.criteria) entries
+  pub verdicts : EntriesOf (weighed_by choice file lexemes) (goal_texts choice) lexemes (goals file.grammar choice.criteria) entries
   pub negatives : BasesOf file.grammar choice lexemes (bases (most_bases choice) entries) mutants
-  pub lines : IsTextIn choice.format choice.weigh file lexemes entries mutants text
+  pub lines : IsTextIn choice.format choice file lexemes entries mutants text
 
 -- It isn't so that no value is of the kind.
 abbrev pub IsNotWithout : {A : Type 0} → (A → Type 0) → Type 0

@@ -14,7 +14,7 @@ use Rattle.cs_goals.specs.declared.goal.Goal.TheVariants.{Rule, Context, Pair}
 use Rattle.cs_mutate.specs.declared.edit.Edit.{Edit}
 use Rattle.cs_mutate.specs.declared.edit.Edit.TheVariants.{Delete, Insert, Replace, Swap}
 use Rattle.cs_render.specs.Rendering.{Rendering, Text, NoLexeme, Differs}
-use Rattle.cs_manifest.specs.Closed.{ClosedSets}
+use Rattle.cs_closed.specs.Closed.{ClosedSets}
 use Rattle.cs_manifest.specs.Words.{literal}
 
 -- a token's name: its word, or its byte between single quotes

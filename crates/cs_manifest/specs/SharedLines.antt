@@ -11,7 +11,7 @@ use Rattle.cs_manifest.specs.declared.format.Weigh.{Weigh}
 use Rattle.cs_manifest.specs.declared.format.Weigh.TheVariants.{Nodes, Bytes}
 use Rattle.cs_manifest.specs.Words.{line, spaced, numbered}
 use Rattle.cs_manifest.specs.Names.{nonterminal_of, mark_text}
-use Rattle.cs_manifest.specs.Closed.{ClosedSets}
+use Rattle.cs_closed.specs.Closed.{ClosedSets}
 use Rattle.cs_manifest.specs.Lines.{numbered_word, token_words, table_lines, tree_lines, text_lines, goal_words}
 
 -- ---- the head

@@ -1,5 +1,5 @@
-use crate::closed::Closed;
 use crate::format::Weigh;
+use cs_closed::Closed;
 use cs_lexeme::Lexemes;
 use cs_yacc::YaccFile;
 

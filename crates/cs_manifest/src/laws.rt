@@ -2,7 +2,6 @@
 
 ghost use Rattle.std.specs.Prelude.{Option};
 ghost use Rattle.cs_grammar.specs.Laws.{AtMostOne};
-ghost use Rattle.cs_grammar.specs.Weights.{Measure};
 ghost use Rattle.cs_yacc.specs.File.{File};
 ghost use Rattle.cs_manifest.specs.Manifest.{Choice, HasOneText, IsManifest, IsNotWithout, Texts};
 
@@ -19,14 +18,14 @@ pub fn one_text()
 
 /// A file has at most one manifest by a choice.
 pub fn one_manifest()
-    ensures { (w : Measure) (choice : Choice) (file : File) → AtMostOne (IsManifest w choice file) }
+    ensures { (choice : Choice) (file : File) → AtMostOne (IsManifest choice file) }
 {
     one_text();
 }
 
 /// No file is without a manifest by a choice.
 pub fn some_manifest()
-    ensures { (w : Measure) (choice : Choice) (file : File) → IsNotWithout (IsManifest w choice file) }
+    ensures { (choice : Choice) (file : File) → IsNotWithout (IsManifest choice file) }
 {
     some_list_of_lexemes();
     some_rendering();

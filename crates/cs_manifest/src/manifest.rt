@@ -79,16 +79,19 @@ impl<'a> Manifest<'a> {
 
         // What the sink got.
         ensures ok { OnOk result (Took S.written sink.old sink.new (lines_in self.old entry.now)) }
-        ensures err { OnErr result (TookPart S.written sink.old sink.new (lines_in self.old entry.now)) }
+        ensures err { OnErr result (
+            TookPart S.written sink.old sink.new (lines_in self.old entry.now)) }
 
         // The faults.
         ensures fault { OnErr result (Rose (S.faults sink.old) (S.faults sink.new)) }
         ensures faults_never_fall { S.faults sink.old ≤ S.faults sink.new }
 
         // A sink with room for the lines takes them.
-        ensures ok_with_room { HasRoom S.room sink.old (lines_in self.old entry.now) → IsOk result }
+        ensures ok_with_room { HasRoom S.room sink.old (lines_in self.old entry.now)
+            → IsOk result }
         ensures no_fault { IsCalm S.room S.faults sink.old sink.new (lines_in self.old entry.now) }
-        ensures room { OnOk result (LeavesRoom S.room sink.old sink.new (lines_in self.old entry.now)) }
+        ensures room { OnOk result (
+            LeavesRoom S.room sink.old sink.new (lines_in self.old entry.now)) }
 
         // The lent sink.
         ensures same_lent { S.lent sink.new ≡ S.lent sink.old }
@@ -109,7 +112,8 @@ impl<'a> Manifest<'a> {
 
         // What the sink got.
         ensures ok { OnOk result (Took S.written sink.old sink.new (end_of self.entry.counts)) }
-        ensures err { OnErr result (TookPart S.written sink.old sink.new (end_of self.entry.counts)) }
+        ensures err { OnErr result (
+            TookPart S.written sink.old sink.new (end_of self.entry.counts)) }
 
         // The faults.
         ensures fault { OnErr result (Rose (S.faults sink.old) (S.faults sink.new)) }
@@ -118,7 +122,8 @@ impl<'a> Manifest<'a> {
         // A sink with room for the lines takes them.
         ensures ok_with_room { HasRoom S.room sink.old (end_of self.entry.counts) → IsOk result }
         ensures no_fault { IsCalm S.room S.faults sink.old sink.new (end_of self.entry.counts) }
-        ensures room { OnOk result (LeavesRoom S.room sink.old sink.new (end_of self.entry.counts)) }
+        ensures room { OnOk result (
+            LeavesRoom S.room sink.old sink.new (end_of self.entry.counts)) }
 
         // The lent sink.
         ensures same_lent { S.lent sink.new ≡ S.lent sink.old }

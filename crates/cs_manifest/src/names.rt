@@ -92,7 +92,8 @@ fn put_some<S: Sink>(output: &mut Output<'_, S>, text: &[u8]) -> usize
     requires { 0 < length text.now }
     ensures some { 0 < result }
     ensures within { result ≤ length text.now }
-    ensures put { Puts S.Sink (flat_map words.text_byte (take result text.now)) output.old output.new }
+    ensures put { Puts S.Sink (flat_map words.text_byte (take result text.now))
+        output.old output.new }
 {
     let plain = plain_len(text);
     if plain > 0 {

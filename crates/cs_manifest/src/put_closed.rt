@@ -2,16 +2,15 @@
 
 ghost use Rattle.std.specs.Prelude.{◌≡◌, ◌<◌, All, length};
 ghost use Rattle.cs_grammar.specs.Grammar.{IsNumberOf};
-ghost use Rattle.cs_manifest.specs.Closed.{AreClosedSets};
+ghost use Rattle.cs_closed.specs.Closed.{AreClosedSets};
 ghost use Rattle.cs_manifest.specs.Names as names;
 ghost use Rattle.cs_manifest.specs.Putting.{Puts};
 ghost use Rattle.cs_manifest.specs.SharedLines as lines;
 
-use crate::Closed;
-use crate::closed::{Marks, Tokens};
 use crate::names::{put_mark, put_nonterminal};
 use crate::output::Output;
 use crate::put_entry::put_names;
+use cs_closed::{Closed, Marks, Tokens};
 use cs_grammar::Mark;
 use cs_io::Sink;
 use cs_yacc::YaccFile;

@@ -133,7 +133,8 @@ fn put_verdict<S: Sink>(
     tokens: &[u16],
 )
     requires { names.AreNamedTokens file.now tokens.now }
-    ensures { Puts S.Sink (lines.verdict_lines file.now verdict.now tokens.now) output.old output.new }
+    ensures { Puts S.Sink (lines.verdict_lines file.now verdict.now tokens.now)
+        output.old output.new }
 {
     match verdict {
         Verdict::Infeasible => output.put(b" infeasible\n"),
@@ -176,7 +177,8 @@ fn put_shared_verdict<S: Sink>(output: &mut Output<'_, S>, verdict: SharedVerdic
 
 fn put_text_lines<S: Sink>(output: &mut Output<'_, S>, file: &YaccFile, rendered: Option<&Rendered>)
     requires { names.AreNamedRenderings file.now (rendering_of rendered) }
-    ensures { Puts S.Sink (text_lines file.now (rendering_of rendered.entry)) output.old output.new }
+    ensures { Puts S.Sink (text_lines file.now (rendering_of rendered.entry))
+        output.old output.new }
 {
     match rendered {
         None => {}
@@ -233,7 +235,8 @@ pub fn put_names<S: Sink>(output: &mut Output<'_, S>, file: &YaccFile, tokens: &
 // The text line.
 fn put_rendered<S: Sink>(output: &mut Output<'_, S>, file: &YaccFile, rendered: &Rendered)
     requires { names.IsNamedRendering file.now (rendering rendered.now) }
-    ensures { Puts S.Sink (lines.text_line file.now (rendering rendered.now)) output.old output.new }
+    ensures { Puts S.Sink (lines.text_line file.now (rendering rendered.now))
+        output.old output.new }
 {
     put_text(output, file, rendered);
     output.put(b"\n");
@@ -241,7 +244,8 @@ fn put_rendered<S: Sink>(output: &mut Output<'_, S>, file: &YaccFile, rendered: 
 
 fn put_text<S: Sink>(output: &mut Output<'_, S>, file: &YaccFile, rendered: &Rendered)
     requires { names.IsNamedRendering file.now (rendering rendered.now) }
-    ensures { Puts S.Sink (lines.text_words file.now (rendering rendered.now)) output.old output.new }
+    ensures { Puts S.Sink (lines.text_words file.now (rendering rendered.now))
+        output.old output.new }
 {
     match rendered {
         Rendered::Text(text) => {

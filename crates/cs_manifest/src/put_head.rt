@@ -91,7 +91,8 @@ fn put_token_line<S: Sink>(output: &mut Output<'_, S>, number: u64, name: &Token
 
 fn put_rules<S: Sink>(output: &mut Output<'_, S>, file: &YaccFile, rules: &[Rule])
     requires { All (names.IsNamedRule file.now) rules.now }
-    ensures { Puts S.Sink (words.numbered (lines.rule_line file.now) rules.now) output.old output.new }
+    ensures { Puts S.Sink (words.numbered (lines.rule_line file.now) rules.now)
+        output.old output.new }
 {
     for (place, rule) in rules.iter().enumerate() {
         put_rule_line(output, file, place as u64 + 1, rule);

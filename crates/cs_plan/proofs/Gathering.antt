@@ -87,7 +87,7 @@ module _ (old : ToJudge) (positives : List Positive) (lists : List (Vec ℕ)) (n
 
 -- the lists of judged goals can be rendered
 module _ (file : File) (is : IsFile file) (of : Weighed) (same : of.grammar ≡ file.grammar) (measure : IsMeasure of.weights) where
-  takes_list : (work : Bor RenderWork) → CanRender file (Some work) → (p : Positive) (list : Vec ℕ) → IsJudged of p → IsListOf of.grammar p list → TakesTokens work.now list.items
+  pub takes_list : (work : Bor RenderWork) → CanRender file (Some work) → (p : Positive) (list : Vec ℕ) → IsJudged of p → IsListOf of.grammar p list → TakesTokens work.now list.items
   takes_list work can p list judged is_list = record {
     kinds = can.0;
     literals = can.1;

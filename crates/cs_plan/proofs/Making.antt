@@ -94,10 +94,10 @@ module _ (file : File) (tokens : List ℕ) (are : AreNamedTokens file tokens) wh
       All-contains (IsNamedToken file) (h.front ++ token ∷ h.behind) token (subst (All (IsNamedToken file)) h.list are) (Contains-append_right h.front (token ∷ h.behind) token here)
   named_rendering s lexemes separator (Differs after) h = tt
 
-  none_named : (rendered : Option Rendering) → rendered ≡ None → AreNamedRenderings file rendered
+  pub none_named : (rendered : Option Rendering) → rendered ≡ None → AreNamedRenderings file rendered
   none_named rendered h = subst (AreNamedRenderings file) (sym h) tt
 
-  named_rendered : (texts : Option Texts) (lexemes : Option (List (Option (List ℕ)))) (rendered : Option Rendering) → IsRenderedBy texts lexemes tokens rendered → AreNamedRenderings file rendered
+  pub named_rendered : (texts : Option Texts) (lexemes : Option (List (Option (List ℕ)))) (rendered : Option Rendering) → IsRenderedBy texts lexemes tokens rendered → AreNamedRenderings file rendered
   named_rendered (Some texts) (Some lexemes) (Some r) h = named_rendering texts.scanning lexemes texts.separator r h
   named_rendered (Some texts) (Some lexemes) None h = absurd h
   named_rendered (Some texts) None rendered h = none_named rendered h

@@ -1,11 +1,13 @@
 -- The entries of the next goals.
-use Rattle.std.specs.Prelude.{◌≡◌, List, [], ◌++◌}
+use Rattle.std.specs.Prelude.{◌≡◌, List, [], ◌++◌, map}
+use Rattle.std.specs.Global.{Vec}
 use Rattle.std.specs.List.{AllZip}
 use Rattle.cs_goals.specs.declared.goal.Goal.{Goal}
-use Rattle.cs_manifest.specs.Manifest.{GoalEntry}
+use Rattle.cs_cases.specs.Cases.{PlainCases}
+use Rattle.cs_manifest.specs.Manifest.{AreShared, GoalEntry, SharedEntry}
 use Rattle.cs_positive.specs.Positives.{ToJudge}
 use Rattle.cs_plan.specs.declared.plan.Plan.{Plan}
-use Rattle.cs_plan.specs.Plans.{IsEntryIn}
+use Rattle.cs_plan.specs.Plans.{IsEntryIn, lexemes_in, texts_in}
 
 -- These are the entries of the first goals that were left, and those behind them are left; there are some, unless none was left.
 pub record AreNext (plan : Plan) (old : ToJudge) (entries : List GoalEntry) (new : ToJudge) : Type 0 where
@@ -13,3 +15,16 @@ pub record AreNext (plan : Plan) (old : ToJudge) (entries : List GoalEntry) (new
   pub split : old.goals ≡ goals ++ new.goals
   pub each : AllZip (IsEntryIn plan old.tables) goals entries
   pub some : entries ≡ [] → old.goals ≡ []
+
+-- the entries of goals of the second format, as of any
+abbrev pub entries_in : List SharedEntry → List GoalEntry
+entries_in list = map (λ s. s.entry) list
+
+-- The same in the second format: from the cases before them to those behind them.
+pub record AreNextShared (plan : Plan) (old : ToJudge) (before : PlainCases) (list : List SharedEntry) (new : ToJudge) (after : PlainCases) : Type 0 where
+  pub next : AreNext plan old (entries_in list) new
+  pub shared : AreShared (texts_in plan) (lexemes_in plan) before (entries_in list) after list
+
+-- these entries come, with what is left behind them
+abbrev pub AreGiven : Plan → ToJudge → PlainCases → ToJudge → PlainCases → Vec SharedEntry → Type 0
+AreGiven plan old before new after made = AreNextShared plan old before made.items new after

@@ -1,4 +1,5 @@
 pub mod Plans
 pub mod Waiting
 pub mod Made
+pub mod Placing
 pub mod Batches

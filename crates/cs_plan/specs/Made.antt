@@ -1,9 +1,14 @@
 -- What is made of a goal. Working words of proofs.
-use Rattle.std.specs.Prelude.{◌≡◌, ℕ, List, [], ◌∷◌, Option, None, Some, option_map}
+use Rattle.std.specs.Prelude.{◌≡◌, ℕ, Bool, true, false, List, [], ◌∷◌, Option, None, Some, IsSome, option_map}
 use Rattle.std.specs.Global.{Global, Vec}
 use Rattle.std.specs.Vec.Iter.{into_iter_items}
 use Rattle.std.specs.declared.vec.IntoIter.{IntoIter}
-use Rattle.cs_manifest.specs.Manifest.{GoalEntry}
+use Rattle.cs_manifest.specs.declared.entry.Entry.{Entry}
+use Rattle.cs_manifest.specs.declared.entry.SharedVerdict.{SharedVerdict}
+use Rattle.cs_manifest.specs.declared.entry.SharedVerdict.TheVariants as shared
+use Rattle.cs_manifest.specs.Entry.{IsNamedEntry, lines_of}
+use Rattle.cs_manifest.specs.Manifest.{GoalEntry, SharedEntry, is_new, new_case_lines}
+use Rattle.cs_manifest.specs.SharedLines.{shared_goal_line}
 use Rattle.cs_manifest.specs.Names.{AreNamedRenderings, AreNamedTokens, IsNamedGoal}
 use Rattle.cs_positive.specs.declared.positive.Positive.{Positive}
 use Rattle.cs_positive.specs.declared.verdict.Verdict.{Verdict}
@@ -17,6 +22,39 @@ pub record IsNamedGoalEntry (file : File) (entry : GoalEntry) : Type 0 where
   pub goal : IsNamedGoal file entry.goal
   pub tokens : AreNamedTokens file entry.tokens
   pub text : AreNamedRenderings file entry.rendered
+
+-- The same in the second format.
+pub record IsNamedSharedEntry (file : File) (s : SharedEntry) : Type 0 where
+  pub entry : IsNamedGoalEntry file s.entry
+  pub text : AreNamedRenderings file s.rendered
+
+-- an entry has the lines of the case
+abbrev pub HasCaseLines : SharedEntry → Entry → Type 0
+HasCaseLines s entry = (file : File) → lines_of file entry ≡ new_case_lines file s
+
+-- it has the line of the goal, by its number
+abbrev pub HasGoalLine : SharedEntry → ℕ → Entry → Type 0
+HasGoalLine s number entry = (file : File) → lines_of file entry ≡ shared_goal_line file number s.entry.goal s.verdict
+
+-- its tokens have names where the goal's have
+abbrev pub HasItsNames : SharedEntry → Entry → Type 0
+HasItsNames s entry = (file : File) → IsNamedSharedEntry file s → IsNamedEntry file entry
+
+-- both verdicts are of one kind
+abbrev pub AreOfOneKind : Verdict → SharedVerdict → Type 0
+AreOfOneKind (Feasible size derivation) (shared.Feasible other named) = Unit {0}
+AreOfOneKind Infeasible shared.Infeasible = Unit {0}
+AreOfOneKind Large shared.Large = Unit {0}
+AreOfOneKind verdict other = ⊥
+
+-- a rendering is there exactly where that is so
+abbrev pub IsThereIf : Bool → Option Rendered → Type 0
+IsThereIf true rendered = IsSome rendered
+IsThereIf false rendered = rendered ≡ None
+
+-- both verdicts are of one kind, and a rendering is there exactly where the derivation is a new case
+abbrev pub HasItsCase : Verdict → SharedVerdict → Option Rendered → Type 0
+HasItsCase verdict other rendered = AreOfOneKind verdict other × IsThereIf (is_new other) rendered
 
 -- the first item is taken, where there is one
 abbrev pub TakesFirst : {X : Type 0} → List X → Option X → List X → Type 0

@@ -14,7 +14,8 @@ use cs_positive::Positives;
 use std::alloc::{AllocError, Global};
 use std::thread::Threads;
 
-/// The entries of the next goals: at most 1,024 of them. None where no goal is left. Four workers render their tokens.
+/// The entries of the next goals in the first format: at most 1,024 of them. None where no goal is left. Four workers render
+/// their tokens.
 pub fn next_entries<R: Threads + Sync, G: Gate + Sync>(
     rt: &R,
     alloc: Global,
@@ -24,6 +25,7 @@ pub fn next_entries<R: Threads + Sync, G: Gate + Sync>(
 ) -> Result<Vec<Made>, AllocError>
     requires plan { IsPlan plan.now }
     requires positives { IsOfPlan plan.now positives.old }
+    requires first { plan.now.closed ≡ None }
     ensures entries { IfOk result (λ made. AreNext plan.now positives.old made.items positives.new) }
     ensures named { IfOk result (λ made. All (IsNamedGoalEntry plan.now.yacc.now) made.items) }
     ensures tables { positives.new.tables ≡ positives.old.tables }

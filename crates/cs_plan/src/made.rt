@@ -21,10 +21,10 @@ use std::vec::IntoIter;
 /// A goal with its verdict, the tokens of its derivation, where it has one, and what came of their rendering.
 #[derive(Drop)]
 pub struct Made {
-    goal: Goal,
-    verdict: Verdict,
-    tokens: Vec<u16>,
-    rendered: Option<Rendered>,
+    pub(crate) goal: Goal,
+    pub(crate) verdict: Verdict,
+    pub(crate) tokens: Vec<u16>,
+    pub(crate) rendered: Option<Rendered>,
 }
 
 impl Model for Made {
@@ -98,7 +98,7 @@ pub fn join(
     }
 }
 
-fn take_first<T>(left: &mut IntoIter<T, Global>) -> Option<T>
+pub fn take_first<T>(left: &mut IntoIter<T, Global>) -> Option<T>
     ensures { TakesFirst (into_iter_items left.old) result (into_iter_items left.new) }
 {
     left.next()

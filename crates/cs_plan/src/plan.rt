@@ -1,12 +1,13 @@
 // What a manifest is made by.
 
 ghost use Rattle.std.specs.Prelude.{◌≡◌};
-ghost use Rattle.cs_manifest.specs.Head.{file_of, lexemes_of, sharing_of};
+ghost use Rattle.cs_manifest.specs.Head.{file_of, lexemes_in as lexemes_by, lexemes_of, sharing_in as sharing_of_form, sharing_of};
 ghost use Rattle.cs_manifest.specs.Manifest.{has_operator as is_some_chosen, most_bases};
-ghost use Rattle.cs_plan.specs.Plans.{choice_in, lexemes_in};
+ghost use Rattle.cs_plan.specs.Plans.{IsPlan, choice_in, lexemes_in, sharing_in};
 
+use cs_closed::Closed;
 use cs_goals::Criteria;
-use cs_manifest::{Form, Head};
+use cs_manifest::{Form, Head, Weigh};
 use cs_mutate::Operators;
 use cs_pairs::Pairs;
 use cs_render_work::RenderWork;
@@ -20,30 +21,47 @@ pub struct Mutation<'a> {
     pub most: u32,
 }
 
-/// A yacc file, the criteria that goals are taken by, what token lists are rendered with, and what mutants are made by. In the
-/// form of `rules` nothing is rendered, and nothing is mutated.
+/// A yacc file, the criteria that goals are taken by, what token lists are rendered with, what mutants are made by, what sizes
+/// count, and in the second format the closed sets of the grammar. In the form of `rules` nothing is rendered, and nothing is
+/// mutated.
 #[derive(Clone, Copy)]
 pub struct Plan<'a> {
     pub yacc: &'a YaccFile,
     pub criteria: Criteria,
     pub texts: Option<&'a RenderWork<'a>>,
     pub mutation: Option<Mutation<'a>>,
+    pub weigh: Weigh,
+    pub closed: Option<&'a Closed>,
 }
 
 impl<'a> Plan<'a> {
-    /// The head of the manifest, in the first format.
+    /// The head of the manifest.
     pub fn head(&self) -> Head<'a>
+        requires { IsPlan self.now }
         ensures file { file_of result ≡ self.now.yacc.now }
         ensures lexemes { lexemes_of result ≡ lexemes_in self.now }
-        ensures first { sharing_of result ≡ None }
+        ensures sharing { sharing_of result ≡ sharing_in self.now }
     {
         Head {
             yacc: self.yacc,
-            form: match self.texts {
-                None => Form::Rules,
-                Some(work) => Form::Suite {
-                    lexemes: work.lexemes,
-                },
+            form: self.form(),
+        }
+    }
+
+    fn form(&self) -> Form<'a>
+        requires { IsPlan self.now }
+        ensures lexemes { lexemes_by result ≡ lexemes_in self.now }
+        ensures sharing { sharing_of_form result ≡ sharing_in self.now }
+    {
+        match (self.texts, self.closed) {
+            (None, _) => Form::Rules,
+            (Some(work), None) => Form::Suite {
+                lexemes: work.lexemes,
+            },
+            (Some(work), Some(closed)) => Form::Shared {
+                lexemes: work.lexemes,
+                weigh: self.weigh,
+                closed,
             },
         }
     }

@@ -7,8 +7,8 @@ use cs_grammar::{Grammar, yield_of};
 use cs_positive::{Positive, Positives, Verdict};
 use std::alloc::{AllocError, Global};
 
-// So many goals wait at most.
-const MOST: usize = 1_024;
+/// So many goals wait at most.
+pub const MOST: usize = 1_024;
 
 /// Goals with their verdicts, and the tokens of the feasible ones' derivations, in the same order.
 #[derive(Drop)]

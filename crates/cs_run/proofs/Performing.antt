@@ -1,26 +1,21 @@
 -- How a run ends that writes what was asked for, from what its calls did.
-use Rattle.std.proofs.Common.{◌≡◌, ◌⊎◌, ℕ, ◌≤◌, List, length, Bool, IsTrue, Option, Result, Ok, Err, refl, sym, ap, subst, inl, inr}
-use Rattle.std.specs.Io.KnownBytes.{append_known}
-use Rattle.cs_io.specs.Desk.{Files}
-use Rattle.cs_io.specs.Sink.{GrewByPrefix}
+use Rattle.std.proofs.Common.{◌≡◌, ◌⊎◌, ℕ, List, IsTrue, Option, Ok, Err, refl, sym, ap, subst, inl, inr}
 use Rattle.cs_io.specs.Uses.{DeskUse, SinkUse, HasFailed, IsUnused}
 use Rattle.cs_input.specs.declared.judging.Pair.{Pair}
-use Rattle.cs_input.specs.declared.refusal.Refusal.{Refusal}
 use Rattle.cs_input.specs.declared.refusal.Refusal.TheVariants.{States}
 use Rattle.cs_input.specs.declared.refusal.Role.{Role}
 use Rattle.cs_input.specs.declared.refusal.Stop.{Stop}
 use Rattle.cs_input.specs.declared.refusal.Stop.TheVariants as stop
 use Rattle.cs_input.specs.Files.{FileIs, FilesAre, IsGrammarOf, IsNoFile, IsPairOf}
 use Rattle.cs_input.specs.Refusal.{HasManyStates, StopsGrammar, StopsPair}
-use Rattle.cs_manifest.specs.Manifest.{rules_form}
+use Rattle.cs_manifest.specs.Manifest.{IsManifest, rules_form}
 use Rattle.cs_yacc.specs.File.{File, IsFile}
-use Rattle.cs_lex.specs.File as lex
 use Rattle.cs_words.specs.declared.options.Options.{Options}
 use Rattle.cs_ending.specs.declared.ending.Ending.{Ending}
 use Rattle.cs_ending.specs.declared.ending.Ending.TheVariants.{Written, Refused, NoFile, NotWritten, NoMemory}
 use Rattle.cs_ending.specs.Ending.{Ends, Performs, WrotePart}
-use Rattle.cs_ending.specs.Files.{IsAcceptedPair, IsRulesText, IsSuiteText, IsTextBy, choice_of}
-use Rattle.cs_ending.specs.Requests.{Request, ForGen, ForRules, ForSuite}
+use Rattle.cs_ending.specs.Files.{IsAcceptedPair, IsRulesText, IsSuiteText, choice_of}
+use Rattle.cs_ending.specs.Requests.{ForGen, ForRules, ForSuite}
 use Rattle.cs_ending.specs.Summary.{IsSummary}
 use Rattle.cs_ending.specs.Texts.{HasRoomFor, IsAskedText}
 use Rattle.cs_ending.proofs.Apart.{file_more, files_more}
@@ -75,12 +70,12 @@ suite_stopped A ending why name other options desk out same stops failed steady 
 
 module _ (A : Type 0) (value : A) (file : File) (name : List ℕ) (desk : DeskUse) (out : SinkUse) (read : FileIs desk.files name (IsGrammarOf file))
     (calm : Changed desk → IsNoFile {A = A} (Ok value)) (steady : IsSteady desk)
-    (room : HasRoomForAll (IsTextBy rules_form file) out.room → out.faults.after ≡ out.faults.before) where
-  asked_rules : (text : List ℕ) → IsTextBy rules_form file text → IsAskedText (Ok (ForRules name)) desk.files text
+    (room : HasRoomForAll (IsManifest rules_form file) out.room → out.faults.after ≡ out.faults.before) where
+  asked_rules : (text : List ℕ) → IsManifest rules_form file text → IsAskedText (Ok (ForRules name)) desk.files text
   unfolding IsRulesText
   asked_rules text is = file_more desk.files name read (λ bytes of. (file, of, is))
 
-  rules_part : GrewByPart (IsTextBy rules_form file) out.written.before out.written.after → WrotePart (Ok (ForRules name)) desk out
+  rules_part : GrewByPart (IsManifest rules_form file) out.written.before out.written.after → WrotePart (Ok (ForRules name)) desk out
   rules_part part some text asked = part text (rules_texts desk.files name file read some text asked)
 
   rules_room : HasRoomFor out.room (Ok (ForRules name)) desk.files → out.faults.after ≡ out.faults.before
@@ -89,16 +84,16 @@ module _ (A : Type 0) (value : A) (file : File) (name : List ℕ) (desk : DeskUs
   rules_ended : (ending : Ending) → Ends ending (Ok (ForRules name)) desk out → Performs ending (Ok (ForRules name)) desk out
   rules_ended ending ends = record { ends = ends; failed = no_failure A value desk calm ending; steady = steady; room = rules_room }
 
-  pub rules_written : GrewByOne (IsTextBy rules_form file) out.written.before out.written.after → Performs Written (Ok (ForRules name)) desk out
+  pub rules_written : GrewByOne (IsManifest rules_form file) out.written.before out.written.after → Performs Written (Ok (ForRules name)) desk out
   rules_written grew = rules_ended Written (grew.0, asked_rules grew.0 grew.1, grew.2)
 
-  rules_failed : GrewByPart (IsTextBy rules_form file) out.written.before out.written.after → HasFailed out.faults → Performs NotWritten (Ok (ForRules name)) desk out
+  rules_failed : GrewByPart (IsManifest rules_form file) out.written.before out.written.after → HasFailed out.faults → Performs NotWritten (Ok (ForRules name)) desk out
   rules_failed part rose = rules_ended NotWritten ((file_more desk.files name read (λ bytes of. (file, of)), rules_part part), rose)
 
-  rules_memory : GrewByPart (IsTextBy rules_form file) out.written.before out.written.after → Performs NoMemory (Ok (ForRules name)) desk out
+  rules_memory : GrewByPart (IsManifest rules_form file) out.written.before out.written.after → Performs NoMemory (Ok (ForRules name)) desk out
   rules_memory part = rules_ended NoMemory (inr (file_more desk.files name read (λ bytes of. (file, of)), rules_part part))
 
-  pub rules_halted : (ending : Ending) (why : Halt) → ending ≡ ending_at why → GrewByPart (IsTextBy rules_form file) out.written.before out.written.after
+  pub rules_halted : (ending : Ending) (why : Halt) → ending ≡ ending_at why → GrewByPart (IsManifest rules_form file) out.written.before out.written.after
       → (why ≡ halt.Failed → HasFailed out.faults) → Performs ending (Ok (ForRules name)) desk out
   rules_halted ending why same part rose = subst (λ (e : Ending). Performs e (Ok (ForRules name)) desk out) (sym same) (by_cause why rose)
     where
@@ -130,7 +125,7 @@ module _ (A : Type 0) (value : A) (pair : Pair) (name other : List ℕ) (options
   few_accepted : (¬ HasManyStates pair.lex) → FilesAre desk.files name other IsAcceptedPair
   few_accepted few = files_more desk.files name other read (λ bytes more of. (pair.yacc, pair.lex, of, few))
 
-  asked_suite : (¬ HasManyStates pair.lex) → (text : List ℕ) → IsTextBy (choice_of pair.lex options) pair.yacc text
+  asked_suite : (¬ HasManyStates pair.lex) → (text : List ℕ) → IsManifest (choice_of pair.lex options) pair.yacc text
       → IsAskedText (Ok (ForSuite name other options)) desk.files text
   unfolding IsSuiteText
   asked_suite few text is = files_more desk.files name other read (λ bytes more of. (pair.yacc, pair.lex, of, few, is))
@@ -151,28 +146,28 @@ module _ (A : Type 0) (value : A) (pair : Pair) (name other : List ℕ) (options
   suite_no_memory unused same = suite_ended NoMemory (inl unused) (λ fits. same)
 
   module _ (fits : IsFile pair.yacc) (few : ¬ HasManyStates pair.lex)
-      (room : HasRoomForAll (IsTextBy (choice_of pair.lex options) pair.yacc) out.room → out.faults.after ≡ out.faults.before) where
-    suite_part : GrewByPart (IsTextBy (choice_of pair.lex options) pair.yacc) out.written.before out.written.after → WrotePart (Ok (ForSuite name other options)) desk out
+      (room : HasRoomForAll (IsManifest (choice_of pair.lex options) pair.yacc) out.room → out.faults.after ≡ out.faults.before) where
+    suite_part : GrewByPart (IsManifest (choice_of pair.lex options) pair.yacc) out.written.before out.written.after → WrotePart (Ok (ForSuite name other options)) desk out
     suite_part part some text asked = part text (suite_texts desk.files name other options pair.yacc pair.lex fits read some text asked)
 
     suite_room : HasRoomFor out.room (Ok (ForSuite name other options)) desk.files → out.faults.after ≡ out.faults.before
     suite_room holds = room (λ text is. holds text (asked_suite few text is))
 
-    pub suite_written : GrewByOne (IsTextBy (choice_of pair.lex options) pair.yacc) out.written.before out.written.after
+    pub suite_written : GrewByOne (IsManifest (choice_of pair.lex options) pair.yacc) out.written.before out.written.after
         → Performs Written (Ok (ForSuite name other options)) desk out
     suite_written grew = suite_ended Written (grew.0, asked_suite few grew.0 grew.1, grew.2) suite_room
 
-    pub suite_failed : GrewByPart (IsTextBy (choice_of pair.lex options) pair.yacc) out.written.before out.written.after → HasFailed out.faults
+    pub suite_failed : GrewByPart (IsManifest (choice_of pair.lex options) pair.yacc) out.written.before out.written.after → HasFailed out.faults
         → Performs NotWritten (Ok (ForSuite name other options)) desk out
     suite_failed part rose = suite_ended NotWritten ((few_accepted few, suite_part part), rose) suite_room
 
-    pub suite_memory : GrewByPart (IsTextBy (choice_of pair.lex options) pair.yacc) out.written.before out.written.after
+    pub suite_memory : GrewByPart (IsManifest (choice_of pair.lex options) pair.yacc) out.written.before out.written.after
         → Performs NoMemory (Ok (ForSuite name other options)) desk out
     suite_memory part = suite_ended NoMemory (inr (few_accepted few, suite_part part)) suite_room
 
   -- memory ran out before anything was written, or behind a part of it
-  pub suite_out_of_memory : IsFile pair.yacc → (HasRoomForAll (IsTextBy (choice_of pair.lex options) pair.yacc) out.room → out.faults.after ≡ out.faults.before)
-      → GrewByPart (IsTextBy (choice_of pair.lex options) pair.yacc) out.written.before out.written.after
+  pub suite_out_of_memory : IsFile pair.yacc → (HasRoomForAll (IsManifest (choice_of pair.lex options) pair.yacc) out.room → out.faults.after ≡ out.faults.before)
+      → GrewByPart (IsManifest (choice_of pair.lex options) pair.yacc) out.written.before out.written.after
       → (IsUnused out × (out.faults.after ≡ out.faults.before)) ⊎ (¬ HasManyStates pair.lex) → Performs NoMemory (Ok (ForSuite name other options)) desk out
   suite_out_of_memory named room part (inl same) = suite_no_memory same.0 same.1
   suite_out_of_memory named room part (inr few) = suite_memory named few room part

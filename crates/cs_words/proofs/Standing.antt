@@ -8,7 +8,7 @@ use Rattle.std.proofs.lemmas.List.{length-take-le, take_rest}
 use Rattle.std.proofs.lemmas.Slice.Eq.{bytes_eq-Decides}
 use Rattle.cs_words.specs.Options.{IsNewOption}
 use Rattle.cs_words.specs.Steps.{AreNew, BeginsWithSeed, LacksName, LacksSeed, Stops, StopsAt}
-use Rattle.cs_words.specs.Values.{IsSeed, SpellsSeed}
+use Rattle.cs_words.specs.Values.{SpellsSeed}
 use Rattle.cs_words.specs.Words.{CannotGoOn, IsAccepted, IsFirstBad, MayBeArgument, StandBehind, is_name, texts}
 
 -- ---- options alone

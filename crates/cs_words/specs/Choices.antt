@@ -1,6 +1,11 @@
--- The values of the options that choose: names between commas, in any order, each at most once.
+-- The values of the options that choose: criteria and operators, as names between commas, in any order, each at most once; and
+-- what is weighed and the format, as one word.
 use Rattle.std.specs.Prelude.{◌≡◌, ◌≢◌, ◌⊎◌, ◌↔◌, ℕ, Bool, false, ◌==◌, ◌&&◌, ◌||◌, List, IsTrue, AllPairs, Contains, bytes_eq, codes}
 use Rattle.std.specs.List.{slice_split}
+use Rattle.cs_manifest.specs.declared.format.Format.{Format}
+use Rattle.cs_manifest.specs.declared.format.Format.TheVariants.{One, Two}
+use Rattle.cs_manifest.specs.declared.format.Weigh.{Weigh}
+use Rattle.cs_manifest.specs.declared.format.Weigh.TheVariants.{Nodes, Bytes}
 use Rattle.cs_goals.specs.declared.goal.Criteria.{Criteria}
 use Rattle.cs_mutate.specs.declared.edit.Operators.{Operators}
 use Rattle.cs_bytes.specs.Names.{comma_sign}
@@ -41,3 +46,21 @@ IsCriteria value criteria = Chooses (has_criterion criteria) (parts value)
 abbrev pub IsOperators : List ℕ → Operators → Type 0
 IsOperators value operators =
     ((value ≡ codes "none") × (operators ≡ no_operators)) ⊎ Chooses (has_operator operators) (parts value)
+
+-- the word for what sizes count
+abbrev pub weigh_word : Weigh → List ℕ
+weigh_word Nodes = codes "nodes"
+weigh_word Bytes = codes "bytes"
+
+-- the value says what sizes count
+abbrev pub IsWeigh : List ℕ → Weigh → Type 0
+IsWeigh value weigh = value ≡ weigh_word weigh
+
+-- the number of the format
+abbrev pub format_word : Format → List ℕ
+format_word One = codes "1"
+format_word Two = codes "2"
+
+-- the value names the format
+abbrev pub IsFormat : List ℕ → Format → Type 0
+IsFormat value format = value ≡ format_word format

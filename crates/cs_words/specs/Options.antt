@@ -1,9 +1,11 @@
 -- The options of `suite`: a mark and a value, in any order, each at most once.
 use Rattle.std.specs.Prelude.{◌≡◌, ℕ, Option, None, Some, List, [], ◌∷◌, ◌++◌, true, Contains, codes, unwrap_or}
 use Rattle.cs_words.specs.declared.setting.Setting.{Setting}
-use Rattle.cs_words.specs.declared.setting.Setting.TheVariants.{Cover, Mutate, Bases, Separate}
+use Rattle.cs_manifest.specs.declared.format.Format.TheVariants.{Two}
+use Rattle.cs_manifest.specs.declared.format.Weigh.TheVariants.{Nodes}
+use Rattle.cs_words.specs.declared.setting.Setting.TheVariants.{Cover, Mutate, Bases, Separate, Weigh, Format}
 use Rattle.cs_words.specs.declared.options.Options.{Options}
-use Rattle.cs_words.specs.Choices.{IsCriteria, IsOperators}
+use Rattle.cs_words.specs.Choices.{IsCriteria, IsFormat, IsOperators, IsWeigh}
 use Rattle.cs_words.specs.Values.{IsBases, IsSeparator}
 
 -- ---- one option
@@ -14,6 +16,8 @@ mark_of (Cover criteria) = codes "--criteria="
 mark_of (Mutate operators) = codes "--mutate="
 mark_of (Bases number) = codes "--bases="
 mark_of (Separate separator) = codes "--separator="
+mark_of (Weigh weigh) = codes "--weigh="
+mark_of (Format format) = codes "--format="
 
 -- the value gives the setting
 abbrev pub IsValueOf : Setting → List ℕ → Type 0
@@ -21,6 +25,8 @@ IsValueOf (Cover criteria) value = IsCriteria value criteria
 IsValueOf (Mutate operators) value = IsOperators value operators
 IsValueOf (Bases number) value = IsBases value number
 IsValueOf (Separate separator) value = IsSeparator value separator
+IsValueOf (Weigh weigh) value = IsWeigh value weigh
+IsValueOf (Format format) value = IsFormat value format
 
 -- the word is an option with this setting
 pub record IsOption (word : List ℕ) (setting : Setting) : Type 0 where
@@ -58,13 +64,15 @@ abbrev pub GiveOr : {A : Type 0} → A → List ℕ → (A → Setting) → List
 GiveOr {A} default mark setting words value =
     (given : Option A) × Give mark setting words given × (value ≡ unwrap_or given default)
 
--- the defaults: all criteria, all operators, 16 bases, and one space
+-- the defaults: all criteria, all operators, 16 bases, one space, nodes, and the second format
 abbrev pub default_options : Options
 default_options = record {
   criteria = record { rule = true; cdrc = true; pair = true };
   operators = record { delete = true; insert = true; replace = true; swap = true };
   bases = 16;
   separator = 32 ∷ [];
+  weigh = Nodes;
+  format = Two;
 }
 
 -- Words stand for these options; those that they don't give have their defaults.
@@ -73,3 +81,5 @@ pub record AreOptions (words : List (List ℕ)) (options : Options) : Type 0 whe
   pub operators : GiveOr default_options.operators (codes "--mutate=") Mutate words options.operators
   pub bases : GiveOr default_options.bases (codes "--bases=") Bases words options.bases
   pub separator : GiveOr default_options.separator (codes "--separator=") Separate words options.separator
+  pub weigh : GiveOr default_options.weigh (codes "--weigh=") Weigh words options.weigh
+  pub format : GiveOr default_options.format (codes "--format=") Format words options.format

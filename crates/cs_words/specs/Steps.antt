@@ -3,7 +3,7 @@ use Rattle.std.specs.Prelude.{◌≡◌, ◌⊎◌, ◌||◌, ℕ, Bool, true, f
 use Rattle.cs_words.specs.declared.options.Options.{Options}
 use Rattle.cs_words.specs.declared.given.Given.{Given}
 use Rattle.cs_words.specs.declared.setting.Setting.{Setting}
-use Rattle.cs_words.specs.declared.setting.Setting.TheVariants.{Cover, Mutate, Bases, Separate}
+use Rattle.cs_words.specs.declared.setting.Setting.TheVariants.{Cover, Mutate, Bases, Separate, Weigh, Format}
 use Rattle.cs_words.specs.Options.{IsNewOption, default_options}
 use Rattle.cs_words.specs.Values.{IsSeed, SpellsByte, SpellsSeed}
 use Rattle.cs_words.specs.Words.{is_name}
@@ -27,6 +27,8 @@ HasKind given (Cover criteria) = IsSome given.criteria
 HasKind given (Mutate operators) = IsSome given.operators
 HasKind given (Bases bases) = IsSome given.bases
 HasKind given (Separate separator) = IsSome given.separator
+HasKind given (Weigh weigh) = IsSome given.weigh
+HasKind given (Format format) = IsSome given.format
 
 -- the setting is new, and said now
 abbrev pub Sets : Given → Setting → Given → Type 0
@@ -34,9 +36,11 @@ Sets old (Cover criteria) new = (old.criteria ≡ None) × (new ≡ record old {
 Sets old (Mutate operators) new = (old.operators ≡ None) × (new ≡ record old { operators = Some operators })
 Sets old (Bases bases) new = (old.bases ≡ None) × (new ≡ record old { bases = Some bases })
 Sets old (Separate separator) new = (old.separator ≡ None) × (new ≡ record old { separator = Some separator })
+Sets old (Weigh weigh) new = (old.weigh ≡ None) × (new ≡ record old { weigh = Some weigh })
+Sets old (Format format) new = (old.format ≡ None) × (new ≡ record old { format = Some format })
 
 abbrev pub IsNothing : Given → Type 0
-IsNothing given = given ≡ record { criteria = None; operators = None; bases = None; separator = None }
+IsNothing given = given ≡ record { criteria = None; operators = None; bases = None; separator = None; weigh = None; format = None }
 
 -- the options are what is said, and defaults for the rest
 pub record AreDefaulted (given : Given) (options : Options) : Type 0 where
@@ -44,6 +48,8 @@ pub record AreDefaulted (given : Given) (options : Options) : Type 0 where
   pub operators : options.operators ≡ unwrap_or given.operators default_options.operators
   pub bases : options.bases ≡ unwrap_or given.bases default_options.bases
   pub separator : options.separator ≡ unwrap_or given.separator default_options.separator
+  pub weigh : options.weigh ≡ unwrap_or given.weigh default_options.weigh
+  pub format : options.format ≡ unwrap_or given.format default_options.format
 
 -- ---- options that stand behind the names of `suite`
 

@@ -1,12 +1,15 @@
-// The values that choose criteria and operators.
+// The values that choose criteria, operators, what is weighed, and the format.
 
 ghost use Rattle.std.specs.Prelude.{◌≡◌, IfNone, IfSome};
-ghost use Rattle.cs_words.specs.Choices.{IsCriteria, IsOperators, has_criterion, has_operator};
+ghost use Rattle.cs_words.specs.Choices.{IsCriteria, IsFormat, IsOperators, IsWeigh, has_criterion, has_operator};
 ghost use Rattle.cs_words.specs.Steps.{Adds, CannotAdd};
 ghost use Rattle.cs_goals.specs.declared.goal.Criteria.{Criteria};
+ghost use Rattle.cs_manifest.specs.declared.format.Format.{Format};
+ghost use Rattle.cs_manifest.specs.declared.format.Weigh.{Weigh};
 ghost use Rattle.cs_mutate.specs.declared.edit.Operators.{Operators};
 
 use cs_goals::Criteria;
+use cs_manifest::{Format, Weigh};
 use cs_mutate::Operators;
 
 /// The criteria that the value names.
@@ -101,6 +104,34 @@ fn with_operator(operators: Operators, name: &str) -> Option<Operators>
             swap: true,
             ..operators
         });
+    }
+    None
+}
+
+/// What the value says that sizes count.
+pub fn read_weigh(value: &str) -> Option<Weigh>
+    ensures some { IfSome result (IsWeigh value.now) }
+    ensures none { IfNone result ((weigh : Weigh) → IsWeigh value.now weigh → ⊥) }
+{
+    if value == "nodes" {
+        return Some(Weigh::Nodes);
+    }
+    if value == "bytes" {
+        return Some(Weigh::Bytes);
+    }
+    None
+}
+
+/// The format that the value names.
+pub fn read_format(value: &str) -> Option<Format>
+    ensures some { IfSome result (IsFormat value.now) }
+    ensures none { IfNone result ((format : Format) → IsFormat value.now format → ⊥) }
+{
+    if value == "1" {
+        return Some(Format::One);
+    }
+    if value == "2" {
+        return Some(Format::Two);
     }
     None
 }

@@ -8,6 +8,7 @@ use crate::options::Options;
 use crate::separator::Separator;
 use crate::setting::Setting;
 use cs_goals::Criteria;
+use cs_manifest::{Format, Weigh};
 use cs_mutate::Operators;
 
 /// What the options so far say.
@@ -17,6 +18,8 @@ pub struct Given {
     pub operators: Option<Operators>,
     pub bases: Option<u16>,
     pub separator: Option<Separator>,
+    pub weigh: Option<Weigh>,
+    pub format: Option<Format>,
 }
 
 impl Given {
@@ -29,6 +32,8 @@ impl Given {
             operators: None,
             bases: None,
             separator: None,
+            weigh: None,
+            format: None,
         }
     }
 
@@ -42,6 +47,8 @@ impl Given {
             Setting::Mutate(operators) => self.operators.replace(operators).is_none(),
             Setting::Bases(bases) => self.bases.replace(bases).is_none(),
             Setting::Separate(separator) => self.separator.replace(separator).is_none(),
+            Setting::Weigh(weigh) => self.weigh.replace(weigh).is_none(),
+            Setting::Format(format) => self.format.replace(format).is_none(),
         }
     }
 
@@ -55,6 +62,8 @@ impl Given {
             operators: self.operators.unwrap_or(defaults.operators),
             bases: self.bases.unwrap_or(defaults.bases),
             separator: self.separator.unwrap_or(defaults.separator),
+            weigh: self.weigh.unwrap_or(defaults.weigh),
+            format: self.format.unwrap_or(defaults.format),
         }
     }
 }

@@ -5,6 +5,7 @@ ghost use Rattle.cs_words.specs.Options.{default_options};
 
 use crate::separator::Separator;
 use cs_goals::Criteria;
+use cs_manifest::{Format, Weigh};
 use cs_mutate::Operators;
 
 /// What the options of `suite` say, with the defaults for those that no word gives.
@@ -18,10 +19,14 @@ pub struct Options {
     pub bases: u16,
     /// What stands between the lexemes of a text.
     pub separator: Separator,
+    /// What sizes of derivations count.
+    pub weigh: Weigh,
+    /// How the manifest tells of derivations.
+    pub format: Format,
 }
 
 impl Options {
-    /// The options where no word gives one: all criteria, all operators, 16 bases, and one space.
+    /// The options where no word gives one: all criteria, all operators, 16 bases, one space, nodes, and the second format.
     pub fn defaults() -> Options
         ensures { result ≡ default_options }
     {
@@ -39,6 +44,8 @@ impl Options {
             },
             bases: 16,
             separator: Separator::space(),
+            weigh: Weigh::Nodes,
+            format: Format::Two,
         }
     }
 }

@@ -4,10 +4,11 @@ ghost use Rattle.std.specs.Prelude.{◌≡◌, ◌++◌, IfNone, IfSome, List, �
 ghost use Rattle.cs_words.specs.Options.{IsOption, IsMarked};
 ghost use Rattle.cs_words.specs.declared.setting.Setting.{Setting};
 
-use crate::choices::{read_criteria, read_operators};
+use crate::choices::{read_criteria, read_format, read_operators, read_weigh};
 use crate::separator::Separator;
 use crate::values::{read_bases, read_separator};
 use cs_goals::Criteria;
+use cs_manifest::{Format, Weigh};
 use cs_mutate::Operators;
 
 /// What an option sets.
@@ -21,6 +22,10 @@ pub enum Setting {
     Bases(u16),
     /// What stands between lexemes.
     Separate(Separator),
+    /// What sizes count.
+    Weigh(Weigh),
+    /// How the manifest tells of derivations.
+    Format(Format),
 }
 
 /// The setting of an option.
@@ -37,8 +42,14 @@ pub fn read_option(word: &str) -> Option<Setting>
     if let Some(value) = behind(word, "--bases=") {
         return Some(Setting::Bases(read_bases(value.as_bytes())?));
     }
-    let value = behind(word, "--separator=")?;
-    Some(Setting::Separate(read_separator(value.as_bytes())?))
+    if let Some(value) = behind(word, "--separator=") {
+        return Some(Setting::Separate(read_separator(value.as_bytes())?));
+    }
+    if let Some(value) = behind(word, "--weigh=") {
+        return Some(Setting::Weigh(read_weigh(value)?));
+    }
+    let value = behind(word, "--format=")?;
+    Some(Setting::Format(read_format(value)?))
 }
 
 // What stands behind the mark.

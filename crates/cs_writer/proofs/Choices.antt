@@ -1,8 +1,5 @@
 -- What a suite's texts are made by is what the lex file says: so are the manifests.
 use Rattle.std.proofs.Common.{◌≡◌, ℕ, List, sym, ap, ◌∙◌, subst, Some}
-use Rattle.cs_grammar.specs.Weights.{Measure}
-use Rattle.cs_manifest.specs.declared.format.Format.TheVariants.{One}
-use Rattle.cs_manifest.specs.declared.format.Weigh.TheVariants.{Nodes}
 use Rattle.cs_manifest.specs.Manifest.{Choice, IsManifest, Texts}
 use Rattle.cs_yacc.specs.File.{File}
 use Rattle.cs_lex.specs.File as lex
@@ -18,7 +15,7 @@ texts patterns kinds literals separator =
 
 -- what the options choose, with these texts
 abbrev chosen : Options → Texts → Choice
-chosen options t = record { criteria = options.criteria; texts = Some t; operators = options.operators; most = options.bases; format = One; weigh = Nodes }
+chosen options t = record { criteria = options.criteria; texts = Some t; operators = options.operators; most = options.bases; format = options.format; weigh = options.weigh }
 
 module _ (file : File) (scanner : lex.File) (options : Options) (p : List Regex) (k : List Kind) (l s : List ℕ)
     (patterns : p ≡ scanner.patterns) (kinds : k ≡ scanner.kinds) (literals : l ≡ scanner.literals) (separator : s ≡ options.separator) where
@@ -28,8 +25,8 @@ module _ (file : File) (scanner : lex.File) (options : Options) (p : List Regex)
       ∙ ap (λ (x : List ℕ). chosen options (texts scanner.patterns scanner.kinds x s)) literals
       ∙ ap (λ (x : List ℕ). chosen options (texts scanner.patterns scanner.kinds scanner.literals x)) separator
 
-  pub suite_of : (w : Measure) (text : List ℕ) → IsManifest w (chosen options (texts p k l s)) file text → IsManifest w (choice_of scanner options) file text
-  suite_of w text a = subst (λ (c : Choice). IsManifest w c file text) same a
+  pub suite_of : (text : List ℕ) → IsManifest (chosen options (texts p k l s)) file text → IsManifest (choice_of scanner options) file text
+  suite_of text a = subst (λ (c : Choice). IsManifest c file text) same a
 
-  pub of_suite : (w : Measure) (text : List ℕ) → IsManifest w (choice_of scanner options) file text → IsManifest w (chosen options (texts p k l s)) file text
-  of_suite w text a = subst (λ (c : Choice). IsManifest w c file text) (sym same) a
+  pub of_suite : (text : List ℕ) → IsManifest (choice_of scanner options) file text → IsManifest (chosen options (texts p k l s)) file text
+  of_suite text a = subst (λ (c : Choice). IsManifest c file text) (sym same) a

@@ -1,10 +1,13 @@
 -- The manifests that `rules` and `suite` write.
-use Rattle.std.specs.Prelude.{ℕ, List, Some}
-use Rattle.cs_ending.specs.Files.{IsTextBy, choice_of}
+use Rattle.std.specs.Prelude.{◌≡◌, ℕ, List, Option, None, Some, IsSomeAnd}
+use Rattle.cs_closed.specs.Closed.{AreClosedSets, ClosedSets}
+use Rattle.cs_ending.specs.Files.{choice_of}
 use Rattle.cs_input.specs.declared.judging.Pair.{Pair}
-use Rattle.cs_manifest.specs.declared.format.Format.TheVariants.{One}
-use Rattle.cs_manifest.specs.declared.format.Weigh.TheVariants.{Nodes}
-use Rattle.cs_manifest.specs.Manifest.{Choice, rules_form}
+use Rattle.cs_grammar.specs.Grammar.{PlainGrammar}
+use Rattle.cs_grammar.specs.Weights.{Measure}
+use Rattle.cs_manifest.specs.declared.format.Format.{Format}
+use Rattle.cs_manifest.specs.declared.format.Format.TheVariants.{One, Two}
+use Rattle.cs_manifest.specs.Manifest.{Choice, IsManifest, measure_of, rules_form}
 use Rattle.cs_plan.specs.Plans.{texts_of}
 use Rattle.cs_render_work.specs.declared.work.RenderWork.{RenderWork}
 use Rattle.cs_words.specs.declared.options.Options.{Options}
@@ -12,11 +15,11 @@ use Rattle.cs_yacc.specs.File.{File}
 
 -- the text is the manifest of a yacc file in the form of `rules`
 abbrev pub IsRules : File → List ℕ → Type 0
-IsRules file text = IsTextBy rules_form file text
+IsRules file text = IsManifest rules_form file text
 
 -- the text is the manifest of the pair by the options
 abbrev pub IsSuite : Pair → Options → List ℕ → Type 0
-IsSuite pair options text = IsTextBy (choice_of pair.lex options) pair.yacc text
+IsSuite pair options text = IsManifest (choice_of pair.lex options) pair.yacc text
 
 -- what the options choose, with these texts
 abbrev pub choice_with : Options → RenderWork → Choice
@@ -25,10 +28,19 @@ choice_with options work = record {
   texts = Some (texts_of work);
   operators = options.operators;
   most = options.bases;
-  format = One;
-  weigh = Nodes;
+  format = options.format;
+  weigh = options.weigh;
 }
 
 -- the text is the manifest of a yacc file by the options and these texts
 abbrev pub IsBy : RenderWork → File → Options → List ℕ → Type 0
-IsBy work file options text = IsTextBy (choice_with options work) file text
+IsBy work file options text = IsManifest (choice_with options work) file text
+
+-- how the options measure the trees of a yacc file, with the lexemes of these texts
+abbrev pub measure_by : Options → File → RenderWork → Measure
+measure_by options file work = measure_of options.weigh file.grammar.tokens (Some work.lexemes.now)
+
+-- in the second format there are closed sets of the grammar, and else none
+abbrev pub HasSetsBy : Format → PlainGrammar → Option ClosedSets → Type 0
+HasSetsBy One g closed = closed ≡ None
+HasSetsBy Two g closed = IsSomeAnd closed (AreClosedSets g)

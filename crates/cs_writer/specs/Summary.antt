@@ -1,11 +1,11 @@
 -- The summary that `gen` writes.
-use Rattle.std.specs.Prelude.{◌≡◌, ◌<◌, ◌^◌, ◌++◌, ℕ, List, length}
-use Rattle.cs_ending.specs.Summary.{IsSummary, Lengths, summary_line}
+use Rattle.std.specs.Prelude.{◌≡◌, ◌<◌, ◌^◌, ◌++◌, ℕ, List, String, length, string_bytes}
+use Rattle.std.specs.declared.alloc.Global.{Global}
+use Rattle.cs_ending.specs.Summary.{IsSummary, Lengths, summary_line, summary_options}
 use Rattle.cs_gen.specs.declared.files.Generated.{Generated}
 use Rattle.cs_input.specs.declared.judging.Pair.{Pair}
 use Rattle.cs_manifest.specs.declared.counts.Counts.{Counts}
 use Rattle.cs_manifest.specs.Lines.{numbered_word}
-use Rattle.cs_words.specs.Options.{default_options}
 use Rattle.cs_writer.specs.Suite.{IsSuite}
 
 -- the text is the summary of the number, and no other text is
@@ -13,9 +13,9 @@ pub record IsOnlySummary (seed : ℕ) (text : List ℕ) : Type 0 where
   pub is : IsSummary seed text
   pub no_other : (other : List ℕ) → IsSummary seed other → other ≡ text
 
--- the pair has a manifest by default options
-abbrev pub HasDefaultSuite : Pair → Type 0
-HasDefaultSuite pair = (text : List ℕ) × IsSuite pair default_options text
+-- the pair has a manifest by the options of summaries
+abbrev pub HasSuite : Pair → Type 0
+HasSuite pair = (text : List ℕ) × IsSuite pair summary_options text
 
 -- the lengths of two files
 abbrev pub lengths : Generated → Lengths
@@ -26,8 +26,8 @@ abbrev pub IsLineOf : ℕ → Generated → Counts → List ℕ → Type 0
 IsLineOf seed files counts text = text ≡ summary_line seed (lengths files) counts
 
 -- a number stands more behind its word
-abbrev pub HasNumberMore : List ℕ → ℕ → List ℕ → List ℕ → Type 0
-HasNumberMore word number old new = new ≡ old ++ numbered_word word number
+abbrev pub HasNumberMore : List ℕ → ℕ → String Global → String Global → Type 0
+HasNumberMore word number old new = string_bytes new ≡ string_bytes old ++ numbered_word word number
 
 -- each count of entries is a u64
 pub record AreShort (counts : Counts) : Type 0 where

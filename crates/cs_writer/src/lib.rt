@@ -1,9 +1,10 @@
 //! The writers: they make what the manifest of accepted files is made by, and write it to an output.
 //!
 //! The layer above gives [`write_rules`] a yacc file, and [`write_suite`] a yacc file with the lex file beside it and what the
-//! options choose. Nothing is written before all tables, the automaton and the lexemes are made. Ok means that the output took
-//! the whole manifest; a [`Halt`](cs_writing::Halt) or a [`SuiteHalt`] that it took a prefix of it. [`write_summary`] makes the
-//! files of a number and their manifest, and writes one line that tells of both.
+//! options choose. Nothing is written before the automaton, the lexemes, the weights and all tables are made, and in the second
+//! format the closed sets of the grammar. Ok means that the output took the whole manifest; a [`Halt`](cs_writing::Halt) or a
+//! [`SuiteHalt`] that it took a prefix of it. [`write_summary`] makes the files of a number and their manifest, and writes one
+//! line that tells of both.
 //!
 //! Meaning: `specs/Suite` (the manifest of a pair of files), `Summary` (the summary of a number), `Refusals` (why the writing
 //! stopped).
@@ -13,6 +14,7 @@ mod halt;
 mod rules;
 mod suite;
 mod summary;
+mod weights;
 
 pub use halt::SuiteHalt;
 pub use rules::write_rules;

@@ -14,6 +14,7 @@ use cs_fan::Gate;
 use cs_goals::Criteria;
 use cs_grammar::Weights;
 use cs_io::Sink;
+use cs_manifest::Weigh;
 use cs_plan::Plan;
 use cs_positive::Positives;
 use cs_writing::{Halt, write_out};
@@ -67,6 +68,8 @@ fn write_rule_goals<'f, R: Threads + Sync, O: Sink, G: Gate + Sync>(
         criteria: RULE_GOALS,
         texts: None,
         mutation: None,
+        weigh: Weigh::Nodes,
+        closed: None,
     };
     let positives = Positives::of_trees(&costs, &embeds, RULE_GOALS);
     write_out(rt, alloc, &plan, positives, out, gate)?;

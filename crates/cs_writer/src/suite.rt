@@ -1,27 +1,29 @@
 // The writer of `suite`.
 
 ghost use Rattle.std.specs.Prelude.{◌≡◌, ◌⊎◌, IfOk, OnErr, OnOk, Some};
-ghost use Rattle.cs_grammar.specs.Weights.{nodes};
 ghost use Rattle.cs_input.specs.Refusal.{HasManyStates};
 ghost use Rattle.cs_io.specs.Faults.{Rose};
+ghost use Rattle.cs_manifest.specs.declared.format.Format.TheVariants.{One};
 ghost use Rattle.cs_plan.specs.Plans.{CanRender};
 ghost use Rattle.cs_writer.specs.declared.halt.SuiteHalt.TheVariants.{Failed, Memory, States};
 ghost use Rattle.cs_writer.specs.Outputs.{IsCalm, TookOne, TookPart};
 ghost use Rattle.cs_writer.specs.Refusals.{Stopped};
-ghost use Rattle.cs_writer.specs.Suite.{IsSuite, IsBy};
+ghost use Rattle.cs_writer.specs.Suite.{HasSetsBy, IsBy, IsSuite, measure_by};
 ghost use Rattle.cs_writing.specs.declared.halt.Halt.TheVariants as halt;
-ghost use Rattle.cs_yacc.specs.File.{IsFile};
 ghost use Rattle.cs_writing.specs.Writing as writing;
-ghost use Rattle.cs_writing.specs.Writing.{CountsOfAll};
+ghost use Rattle.cs_writing.specs.Writing.{CountsOfAll, HasNoCases, MetFault};
+ghost use Rattle.cs_yacc.specs.File.{IsFile};
 
 use crate::halt::SuiteHalt;
+use crate::weights::weights_of;
 use cs_automaton::Automaton;
+use cs_closed::Closed;
 use cs_fan::Gate;
 use cs_grammar::Weights;
 use cs_input::Pair;
 use cs_io::Sink;
 use cs_lexeme::Lexemes;
-use cs_manifest::Counts;
+use cs_manifest::{Counts, Format};
 use cs_plan::{Mutation, Plan};
 use cs_positive::{Positives, Tables};
 use cs_render_work::RenderWork;
@@ -29,7 +31,7 @@ use cs_scan::Scanner;
 use cs_words::Options;
 use cs_writing::{Halt, write_out};
 use cs_yacc::YaccFile;
-use std::alloc::Global;
+use std::alloc::{AllocError, Global};
 use std::thread::Threads;
 
 /// Writes the manifest of a yacc file and a lex file by what the options choose, and answers the
@@ -44,6 +46,7 @@ pub fn write_suite<R: Threads + Sync, O: Sink, G: Gate + Sync>(
 ) -> Result<Counts, SuiteHalt>
     ensures ok { OnOk result (TookOne O.Sink out.old out.new (IsSuite pair options)) }
     ensures counts { IfOk result (CountsOfAll (IsSuite pair options)) }
+    ensures first { options.format ≡ One → IfOk result HasNoCases }
     ensures part { OnErr result (TookPart O.Sink out.old out.new (IsSuite pair options)) }
     ensures failed { Stopped Failed result → Rose (O.faults out.old) (O.faults out.new) }
 
@@ -72,11 +75,11 @@ pub fn write_suite<R: Threads + Sync, O: Sink, G: Gate + Sync>(
         lexemes: &lexemes,
         separator: options.separator.bytes(),
     };
-    let weights = Weights::nodes(alloc, tokens)?;
+    let weights = weights_of(alloc, options.weigh, &lexemes, tokens)?;
     Ok(write_goals(rt, alloc, &yacc, &weights, &options, &work, out, gate)?)
 }
 
-// The same by these texts, and by weights that count nodes.
+// The same by these texts and weights.
 fn write_goals<'f, R: Threads + Sync, O: Sink, G: Gate + Sync>(
     rt: &R,
     alloc: Global,
@@ -87,18 +90,19 @@ fn write_goals<'f, R: Threads + Sync, O: Sink, G: Gate + Sync>(
     out: &mut O,
     gate: &G,
 ) -> Result<Counts, Halt>
-    requires weights { weights.now ≡ nodes file.now.grammar.tokens }
+    requires weights { weights.now ≡ measure_by options.now file.now work.now }
     requires work { CanRender file.now (Some work) }
     ensures ok { OnOk result
         (TookOne O.Sink out.old out.new (IsBy work.now file.now options.now)) }
     ensures counts { IfOk result (CountsOfAll (IsBy work.now file.now options.now)) }
+    ensures first { options.now.format ≡ One → IfOk result HasNoCases }
     ensures part { OnErr result
         (TookPart O.Sink out.old out.new (IsBy work.now file.now options.now)) }
-    ensures failed { writing.Stopped halt.Failed result → Rose (O.faults out.old) (O.faults out.new) }
-    ensures room { IsCalm O.Sink out.old out.new
-        (IsBy work.now file.now options.now) }
+    ensures failed { writing.Stopped halt.Failed result → MetFault O.Sink out.old out.new }
+    ensures room { IsCalm O.Sink out.old out.new (IsBy work.now file.now options.now) }
 {
     let tables = Tables::new(alloc, file.grammar(), weights)?;
+    let closed = closed_sets(alloc, options.format, &tables)?;
     let plan = Plan {
         yacc: file,
         criteria: options.criteria,
@@ -108,7 +112,23 @@ fn write_goals<'f, R: Threads + Sync, O: Sink, G: Gate + Sync>(
             operators: options.operators,
             most: options.bases as u32,
         }),
+        weigh: options.weigh,
+        closed: closed.as_ref(),
     };
     let positives = Positives::new(&tables, options.criteria);
     write_out(rt, alloc, &plan, positives, out, gate)
+}
+
+// The closed sets of the grammar, where the format has them.
+fn closed_sets(
+    alloc: Global,
+    format: Format,
+    tables: &Tables<'_>,
+) -> Result<Option<Closed>, AllocError>
+    ensures { IfOk result (HasSetsBy format tables.now.grammar) }
+{
+    match format {
+        Format::One => Ok(None),
+        Format::Two => Ok(Some(Closed::new(alloc, tables)?)),
+    }
 }

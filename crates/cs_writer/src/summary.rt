@@ -1,15 +1,14 @@
 // The writer of `gen`.
 
 ghost use Rattle.std.specs.Prelude.{IfOk, OnErr, OnOk, string_bytes};
-ghost use Rattle.cs_ending.specs.Summary.{IsSummary};
+ghost use Rattle.cs_ending.specs.Summary.{IsSummary, summary_options};
 ghost use Rattle.cs_input.specs.Refusal.{HasManyStates};
 ghost use Rattle.cs_io.specs.Faults.{Rose};
-ghost use Rattle.cs_words.specs.Options.{default_options};
 ghost use Rattle.cs_writer.specs.Outputs.{IsCalm, TookOne, TookPart};
 ghost use Rattle.cs_writer.specs.Suite.{IsSuite};
-ghost use Rattle.cs_writer.specs.Summary.{AreShort, HasDefaultSuite, HasNumberMore, IsLineOf, IsOnlySummary};
+ghost use Rattle.cs_writer.specs.Summary.{AreShort, HasSuite, HasNumberMore, IsLineOf, IsOnlySummary};
 ghost use Rattle.cs_writing.specs.declared.halt.Halt.TheVariants.{Failed};
-ghost use Rattle.cs_writing.specs.Writing.{CountsOfAll, Stopped};
+ghost use Rattle.cs_writing.specs.Writing.{CountsOfAll, HasNoCases, Stopped};
 
 use crate::halt::SuiteHalt;
 use crate::suite::write_suite;
@@ -17,14 +16,14 @@ use cs_fan::Gate;
 use cs_gen::{Generated, make};
 use cs_input::{Pair, Stop, judge_pair};
 use cs_io::{NullSink, Sink, write_all};
-use cs_manifest::Counts;
+use cs_manifest::{Counts, Format};
 use cs_words::Options;
 use cs_writing::Halt;
 use std::alloc::{AllocError, Global};
 use std::thread::Threads;
 
 /// Writes the summary of a number: the lengths of the two files that stand for it, and the counts
-/// and the length of their manifest by default options.
+/// and the length of their manifest by default options, in the first format.
 pub fn write_summary<R: Threads + Sync, O: Sink, G: Gate + Sync>(
     rt: &R,
     alloc: Global,
@@ -62,7 +61,7 @@ fn summary<R: Threads + Sync, G: Gate + Sync>(
     line(alloc, seed, &files, counts)
 }
 
-// The counts of the manifest of a pair by default options. Its lines are kept nowhere.
+// The counts of the manifest of a pair by default options, in the first format. Its lines are kept nowhere.
 fn count<R: Threads + Sync, G: Gate + Sync>(
     rt: &R,
     alloc: Global,
@@ -70,11 +69,16 @@ fn count<R: Threads + Sync, G: Gate + Sync>(
     gate: &G,
 ) -> Result<Counts, AllocError>
     requires { ¬ HasManyStates pair.lex }
-    ensures some { OnOk result (HasDefaultSuite pair) }
-    ensures counts { IfOk result (CountsOfAll (IsSuite pair default_options)) }
+    ensures some { OnOk result (HasSuite pair) }
+    ensures counts { IfOk result (CountsOfAll (IsSuite pair summary_options)) }
+    ensures first { IfOk result HasNoCases }
 {
     let mut sink = NullSink::new();
-    match write_suite(rt, alloc, pair, Options::defaults(), &mut sink, gate) {
+    let options = Options {
+        format: Format::One,
+        ..Options::defaults()
+    };
+    match write_suite(rt, alloc, pair, options, &mut sink, gate) {
         Ok(counts) => Ok(counts),
         Err(SuiteHalt::Memory) => Err(AllocError),
         Err(SuiteHalt::States) => unreachable!(),
@@ -103,8 +107,7 @@ fn line(alloc: Global, seed: u64, files: &Generated, counts: Counts) -> Result<S
 
 // A number behind its word.
 fn put(line: &mut String, word: &str, number: u128) -> Result<(), AllocError>
-    ensures { OnOk result
-        (HasNumberMore word.now number (string_bytes line.old) (string_bytes line.new)) }
+    ensures { OnOk result (HasNumberMore word.now number line.old line.new) }
 {
     write!(line, "{word}{number}")
 }

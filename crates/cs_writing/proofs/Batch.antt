@@ -1,18 +1,13 @@
 -- The entries of a batch, written one after another.
-use Rattle.std.proofs.Common.{◌≡◌, ℕ, ◌+◌, ◌<◌, List, [], ◌∷◌, ◌++◌, length, get_or, take, drop, sym, ap, ◌∙◌, subst, arith, append-nil, length-take-le, take-append-drop}
+use Rattle.std.proofs.Common.{◌≡◌, ℕ, ◌+◌, ◌<◌, List, [], ◌∷◌, ◌++◌, length, get_or, map, take, drop, sym, ap, ◌∙◌, subst, arith, append-nil, length-take-le, take-append-drop}
 use Rattle.std.specs.Prelude.{All}
-use Rattle.std.proofs.lemmas.List.{take_more}
+use Rattle.std.proofs.lemmas.List.{map-append, take_more}
 use Rattle.std.proofs.lemmas.List.Elements.{All-get_or}
 use Rattle.cs_io.specs.declared.sink.Sink as Sink
-use Rattle.cs_manifest.specs.declared.counts.Counts.{Counts}
-use Rattle.cs_manifest.specs.Counts.{with_lines, with_verdict}
-use Rattle.cs_manifest.specs.Manifest.{GoalEntry, goal_entry_lines}
 use Rattle.cs_manifest.specs.Sinks.{IsCutShort, IsWritten}
 use Rattle.cs_manifest.proofs.Written.{written_then, written_cut, cut_longer}
 use Rattle.cs_manifest.specs.Words.{numbered_from}
 use Rattle.cs_yacc.specs.File.{File}
-use Rattle.cs_writing.specs.Written.{counts_behind}
-use Rattle.cs_writing.proofs.Counted.{counts_both}
 use Rattle.cs_writing.proofs.Ones.{numbered_both}
 
 -- what holds of each holds of the one at a place
@@ -24,17 +19,22 @@ pub lines_are : {A : Type 0} (f : File → ℕ → A → List ℕ) (file now : F
     → lines ≡ f file (first + i) made
 lines_are f file now first i number made lines same at is = is ∙ ap (λ (k : ℕ). f now k made) at ∙ ap (λ (h : File). f h (first + i) made) same
 
-module _ {A : Type 0} (f : ℕ → A → List ℕ) (first : ℕ) (batch : List A) (i : ℕ) (made : A) (within : i < length batch) (is : made ≡ get_or batch i made) where
+module _ {A : Type 0} (batch : List A) (i : ℕ) (made : A) (within : i < length batch) (is : made ≡ get_or batch i made) where
   pub one_more : take (i + 1) batch ≡ take i batch ++ made ∷ []
   one_more = take_more batch i made within ∙ ap (λ (x : A). take i batch ++ x ∷ []) (sym is)
 
   pub before : length (take i batch) ≡ i
   before = length-take-le i batch (omega (arith, within))
 
+-- the same of what is made of each
+pub one_made_more : {A B : Type 0} (h : A → B) (batch : List A) (i : ℕ) (made : A) → i < length batch → made ≡ get_or batch i made → map h (take (i + 1) batch) ≡ map h (take i batch) ++ h made ∷ []
+one_made_more h batch i made within is = ap (map h) (one_more batch i made within is) ∙ map-append h (take i batch) (made ∷ [])
+
+module _ {A : Type 0} (f : ℕ → A → List ℕ) (first : ℕ) (batch : List A) (i : ℕ) (made : A) (within : i < length batch) (is : made ≡ get_or batch i made) where
   pub lines_more : numbered_from first f (take (i + 1) batch) ≡ numbered_from first f (take i batch) ++ f (first + i) made
   lines_more =
-      ap (numbered_from first f) one_more ∙ numbered_both f first (take i batch) (made ∷ [])
-      ∙ ap (λ (k : ℕ). numbered_from first f (take i batch) ++ numbered_from (first + k) f (made ∷ [])) before
+      ap (numbered_from first f) (one_more batch i made within is) ∙ numbered_both f first (take i batch) (made ∷ [])
+      ∙ ap (λ (k : ℕ). numbered_from first f (take i batch) ++ numbered_from (first + k) f (made ∷ [])) (before batch i made within is)
       ∙ ap (λ (l : List ℕ). numbered_from first f (take i batch) ++ l) (append-nil (f (first + i) made))
 
   module _ {S : Type 0} {g : Sink.Ghosts S} where
@@ -50,14 +50,3 @@ module _ {A : Type 0} (f : ℕ → A → List ℕ) (first : ℕ) (batch : List A
         sym (numbered_both f first (take (i + 1) batch) (drop (i + 1) batch)) ∙ ap (numbered_from first f) (take-append-drop (i + 1) batch) in
         let part = subst (λ (l : List ℕ). IsCutShort g l old new) (sym lines_more) (written_cut so_far cut) in
         subst (λ (l : List ℕ). IsCutShort g l old new) split (cut_longer rest part)
-
--- a goal more is counted
-pub counted_more : (file : File) (first : ℕ) (batch : List GoalEntry) (i : ℕ) (made : GoalEntry) (within : i < length batch) (is : made ≡ get_or batch i made) (old counts : Counts)
-    → counts ≡ counts_behind file first (take i batch) old
-    → with_lines (with_verdict counts made.verdict) (goal_entry_lines file (first + i) made) ≡ counts_behind file first (take (i + 1) batch) old
-counted_more file first batch i made within is old counts so_far =
-    let f = goal_entry_lines file in
-    let next = λ (k : ℕ) (c : Counts). with_lines (with_verdict c made.verdict) (goal_entry_lines file (first + k) made) in
-    ap (next i) so_far ∙ ap (λ (k : ℕ). next k (counts_behind file first (take i batch) old)) (sym (before f first batch i made within is))
-    ∙ sym (counts_both file first (take i batch) (made ∷ []) old)
-    ∙ ap (λ (es : List GoalEntry). counts_behind file first es old) (sym (one_more f first batch i made within is))

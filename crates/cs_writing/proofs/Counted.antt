@@ -1,100 +1,108 @@
--- The counts behind entries.
-use Rattle.std.proofs.Common.{◌≡◌, ℕ, ◌+◌, ◌-◌, ◌^◌, ◌≤◌, Bool, true, false, List, [], ◌∷◌, ◌++◌, length, length-append, min, refl, sym, ap, ◌∙◌, arith}
-use Rattle.std.specs.Prelude.{count_by, if◌then◌else◌, Option, None}
-use Rattle.std.proofs.lemmas.List.Sums.{sum_by-cons}
-use Rattle.cs_io.specs.Faults.{greatest, next_count}
+-- Goals, their cases and their lines, counted.
+use Rattle.std.proofs.Common.{◌≡◌, ℕ, ◌+◌, ◌-◌, ◌^◌, ◌≤◌, Bool, true, false, List, [], ◌∷◌, ◌++◌, length, length-append, refl, sym, ap, ◌∙◌, subst, arith}
+use Rattle.std.specs.Prelude.{count_by, if◌then◌else◌, IfSome, Option, None, Some, option_map}
+use Rattle.std.proofs.lemmas.List.Sums.{count_by-le-length, sum_by-append, sum_by-cons}
+use Rattle.cs_io.specs.Faults.{greatest}
 use Rattle.cs_manifest.specs.declared.counts.Counts.{Counts}
-use Rattle.cs_manifest.specs.Counts.{first_counts, next_if, with_lines, with_verdict}
-use Rattle.cs_manifest.specs.Lines.{end_words, is_feasible, is_infeasible, is_large}
-use Rattle.cs_manifest.specs.Manifest.{GoalEntry, goal_entry_lines}
+use Rattle.cs_manifest.specs.Counts.{next_if, with_verdict}
+use Rattle.cs_manifest.specs.Lines.{is_feasible, is_infeasible, is_large}
+use Rattle.cs_manifest.specs.Manifest.{GoalEntry}
 use Rattle.cs_manifest.specs.Putting.{shown}
-use Rattle.cs_yacc.specs.File.{File}
-use Rattle.cs_writing.specs.Written.{counts_behind, lines_from}
+use Rattle.cs_positive.specs.declared.verdict.Verdict.{Verdict}
+use Rattle.cs_writing.specs.Written.{AreCounted, AreWithin}
+use Rattle.cs_writing.proofs.Tallies.{sums}
 
-module _ (file : File) where
-  -- behind one more entry
-  abbrev next : ℕ → Counts → GoalEntry → Counts
-  next n counts entry = with_lines (with_verdict counts entry.verdict) (goal_entry_lines file n entry)
+more_cases : (k m n : ℕ) (cases : Option ℕ) → k ≡ m + n → option_map (λ x. x + n) (option_map (λ x. x + m) cases) ≡ option_map (λ x. x + k) cases
+more_cases k m n None is = refl
+more_cases k m n (Some x) is = let e : x + m + n ≡ x + k = omega (arith, is) in ap (λ (y : ℕ). Some y) e
 
-  pub counts_both : (n : ℕ) (xs ys : List GoalEntry) (counts : Counts) → counts_behind file n (xs ++ ys) counts ≡ counts_behind file (n + length xs) ys (counts_behind file n xs counts)
-  counts_both n [] ys counts = let e : n ≡ n + 0 = omega arith in ap (λ (k : ℕ). counts_behind file k ys counts) e
-  counts_both n (x ∷ xs) ys counts =
-      let e : n + 1 + length xs ≡ n + length (x ∷ xs) = omega arith in
-      counts_both (n + 1) xs ys (next n counts x)
-      ∙ ap (λ (k : ℕ). counts_behind file k ys (counts_behind file (n + 1) xs (next n counts x))) e
+pub same_cases : (cases : Option ℕ) → cases ≡ option_map (λ x. x + 0) cases
+same_cases None = refl
+same_cases (Some x) = let e : x ≡ x + 0 = omega arith in ap (λ (y : ℕ). Some y) e
 
-  goals_behind : (n : ℕ) (es : List GoalEntry) (counts : Counts) → counts.goals + length es ≤ greatest → (counts_behind file n es counts).goals ≡ counts.goals + length es
-  goals_behind n [] counts few = omega arith
-  goals_behind n (e ∷ es) counts few =
-      let one : next_count counts.goals ≡ counts.goals + 1 = omega (arith, few) in
-      goals_behind (n + 1) es (next n counts e) (omega (arith, few, one)) ∙ omega (arith, one)
+-- nothing
+pub goals_none : (c : Counts) → AreCounted [] 0 [] c c
+goals_none c = record {
+  goals = omega arith;
+  feasible = omega arith;
+  infeasible = omega arith;
+  large = omega arith;
+  negatives = refl;
+  cases = same_cases c.cases;
+  bytes = let e : c.bytes ≡ c.bytes + 0 = omega arith in ap shown e;
+}
 
-  pub negatives_behind : (n : ℕ) (es : List GoalEntry) (counts : Counts) → (counts_behind file n es counts).negatives ≡ counts.negatives
-  negatives_behind n [] counts = refl
-  negatives_behind n (e ∷ es) counts = negatives_behind (n + 1) es (next n counts e)
+-- entries, and more behind them
+pub goals_then : (xs ys : List GoalEntry) (k m n : ℕ) (first second : List ℕ) (a b c : Counts) → k ≡ m + n → AreCounted xs m first a b → AreCounted ys n second b c → AreCounted (xs ++ ys) k (first ++ second) a c
+goals_then xs ys k m n first second a b c is ab bc =
+    record {
+      goals = omega (arith, ab.goals, bc.goals, length-append xs ys);
+      feasible = omega (arith, ab.feasible, bc.feasible, many (λ (e : GoalEntry). is_feasible e.verdict));
+      infeasible = omega (arith, ab.infeasible, bc.infeasible, many (λ (e : GoalEntry). is_infeasible e.verdict));
+      large = omega (arith, ab.large, bc.large, many (λ (e : GoalEntry). is_large e.verdict));
+      negatives = bc.negatives ∙ ab.negatives;
+      cases = bc.cases ∙ ap (λ (o : Option ℕ). option_map (λ x. x + n) o) ab.cases ∙ more_cases k m n a.cases is;
+      bytes = sums (2 ^ 128 - 1) a.bytes b.bytes c.bytes (length first) (length second) ab.bytes bc.bytes
+          ∙ ap (λ (l : ℕ). shown (a.bytes + l)) (sym (length-append first second));
+    }
+  where
+    many : (p : GoalEntry → Bool) → count_by p (xs ++ ys) ≡ count_by p xs + count_by p ys
+    many p = sum_by-append (λ (e : GoalEntry). if p e then 1 else 0) xs ys
 
-  pub cases_behind : (n : ℕ) (es : List GoalEntry) (counts : Counts) → (counts_behind file n es counts).cases ≡ counts.cases
-  cases_behind n [] counts = refl
-  cases_behind n (e ∷ es) counts = cases_behind (n + 1) es (next n counts e)
+-- the same, where the entries and the lines are told whole
+pub goals_step : (xs ys whole : List GoalEntry) (k m n : ℕ) (first second lines : List ℕ) (a b c : Counts) → whole ≡ xs ++ ys → lines ≡ first ++ second → k ≡ m + n
+    → AreCounted xs m first a b → AreCounted ys n second b c → AreCounted whole k lines a c
+goals_step xs ys whole k m n first second lines a b c entries_are lines_are is ab bc =
+    subst (λ (es : List GoalEntry). AreCounted es k lines a c) (sym entries_are)
+    (subst (λ (l : List ℕ). AreCounted (xs ++ ys) k l a c) (sym lines_are) (goals_then xs ys k m n first second a b c is ab bc))
 
-  next_if_below : (b : Bool) (n : ℕ) → n + 1 ≤ greatest → next_if b n ≡ n + (if b then 1 else 0)
-  next_if_below true n few = omega (arith, few)
-  next_if_below false n few = omega arith
+-- ---- one entry
 
-  one_at_most : (b : Bool) → (if b then 1 else 0) ≤ 1
-  one_at_most true = omega arith
-  one_at_most false = omega arith
+one_more : (b : Bool) (n : ℕ) → n + 1 ≤ greatest → next_if b n ≡ n + (if b then 1 else 0)
+one_more true n few = omega (arith, few)
+one_more false n few = omega arith
 
-  -- one of the counts, and which entries are counted there
-  module _ (field : Counts → ℕ) (p : GoalEntry → Bool)
-      (step : (n : ℕ) (counts : Counts) (e : GoalEntry) → field (next n counts e) ≡ next_if (p e) (field counts)) where
-    field_behind : (n : ℕ) (es : List GoalEntry) (counts : Counts) → field counts + length es ≤ greatest → field (counts_behind file n es counts) ≡ field counts + count_by p es
-    field_behind n [] counts few = omega arith
-    field_behind n (e ∷ es) counts few =
-        let one : field (next n counts e) ≡ field counts + (if p e then 1 else 0) = step n counts e ∙ next_if_below (p e) (field counts) (omega (arith, few)) in
-        let more = sum_by-cons (λ (x : GoalEntry). if p x then 1 else 0) e es in
-        field_behind (n + 1) es (next n counts e) (omega (arith, few, one, one_at_most (p e))) ∙ omega (arith, one, more)
-
-  -- a count that stands still at m
-  still : (m a b c : ℕ) → min (min (a + b) m + c) m ≡ min (a + (b + c)) m
-  still m a b c = omega arith
-
-  still_at : (m a : ℕ) → a ≤ m → a ≡ min (a + 0) m
-  still_at m a below = omega arith
-
-  pub bytes_behind : (n : ℕ) (es : List GoalEntry) (counts : Counts) → counts.bytes ≡ shown counts.bytes → (counts_behind file n es counts).bytes ≡ shown (counts.bytes + length (lines_from file n es))
-  bytes_behind n [] counts is = is ∙ (let e : counts.bytes ≡ counts.bytes + 0 = omega arith in ap shown e)
-  bytes_behind n (e ∷ es) counts is =
-      let first = goal_entry_lines file n e in
-      let rest = lines_from file (n + 1) es in
-      bytes_behind (n + 1) es (next n counts e) (shown_twice (counts.bytes + length first)) ∙ still (2 ^ 128 - 1) counts.bytes (length first) (length rest)
-      ∙ ap (λ (k : ℕ). shown (counts.bytes + k)) (sym (length-append first rest))
+module _ (entry : GoalEntry) where
+  alone : (p : GoalEntry → Bool) → count_by p (entry ∷ []) ≡ (if p entry then 1 else 0)
+  alone p = sum_by-cons (λ (e : GoalEntry). if p e then 1 else 0) entry [] ∙ at (p entry)
     where
-      shown_twice : (k : ℕ) → shown k ≡ shown (shown k)
-      shown_twice k = omega arith
+      at : (b : Bool) → (if b then 1 else 0) + 0 ≡ (if b then 1 else 0)
+      at true = refl
+      at false = refl
 
-  -- the counts behind all entries, and behind so many negatives, make the end line
-  pub counted_end : (entries : List GoalEntry) (bytes many : ℕ) → length entries ≤ 10000000000 → (counts : Counts) → counts ≡ counts_behind file 1 entries (first_counts bytes)
-      → end_words counts.goals counts.feasible counts.infeasible counts.large (counts.negatives + many) counts.cases
-      ≡ end_words (length entries) (count_by (λ e. is_feasible e.verdict) entries) (count_by (λ e. is_infeasible e.verdict) entries)
-      (count_by (λ e. is_large e.verdict) entries) many None
-  counted_end entries bytes many few after is =
-      let none = first_counts bytes in
-      let counts = counts_behind file 1 entries none in
-      let fits : 0 + length entries ≤ greatest = omega (arith, few) in
-      let some = count_by (λ (e : GoalEntry). is_feasible e.verdict) entries in
-      let others = count_by (λ (e : GoalEntry). is_infeasible e.verdict) entries in
-      let last = count_by (λ (e : GoalEntry). is_large e.verdict) entries in
-      let goals : counts.goals ≡ length entries = goals_behind 1 entries none fits ∙ omega arith in
-      let feasible : counts.feasible ≡ some = field_behind (λ (c : Counts). c.feasible) (λ (e : GoalEntry). is_feasible e.verdict) (λ n c e. refl) 1 entries none fits ∙ omega arith in
-      let infeasible : counts.infeasible ≡ others = field_behind (λ (c : Counts). c.infeasible) (λ (e : GoalEntry). is_infeasible e.verdict) (λ n c e. refl) 1 entries none fits ∙ omega arith in
-      let large : counts.large ≡ last = field_behind (λ (c : Counts). c.large) (λ (e : GoalEntry). is_large e.verdict) (λ n c e. refl) 1 entries none fits ∙ omega arith in
-      let negatives : counts.negatives + many ≡ many = ap (λ (n : ℕ). n + many) (negatives_behind 1 entries none) ∙ omega arith in
-      let cases : counts.cases ≡ None = cases_behind 1 entries none in
-      ap (λ (c : Counts). end_words c.goals c.feasible c.infeasible c.large (c.negatives + many) c.cases) is
-      ∙ ap (λ (n : ℕ). end_words n counts.feasible counts.infeasible counts.large (counts.negatives + many) counts.cases) goals
-      ∙ ap (λ (n : ℕ). end_words (length entries) n counts.infeasible counts.large (counts.negatives + many) counts.cases) feasible
-      ∙ ap (λ (n : ℕ). end_words (length entries) some n counts.large (counts.negatives + many) counts.cases) infeasible
-      ∙ ap (λ (n : ℕ). end_words (length entries) some others n (counts.negatives + many) counts.cases) large
-      ∙ ap (λ (n : ℕ). end_words (length entries) some others last n counts.cases) negatives
-      ∙ ap (λ (k : Option ℕ). end_words (length entries) some others last many k) cases
+  -- an entry more, where no count stands still
+  pub goal_counted : (number new : ℕ) (lines : List ℕ) (c mid after : Counts) → AreWithin number c → number + 1 ≤ greatest
+      → mid ≡ record c { cases = option_map (λ n. n + new) c.cases; bytes = mid.bytes }
+      → after ≡ record (with_verdict mid entry.verdict) { bytes = after.bytes } → shown after.bytes ≡ shown (c.bytes + length lines)
+      → AreCounted (entry ∷ []) new lines c after
+  goal_counted number new lines c mid after within few first second bytes = record {
+    goals = ap (λ (x : Counts). x.goals) both ∙ omega (arith, few, within.goals);
+    feasible = ap (λ (x : Counts). x.feasible) both ∙ one_more (is_feasible v) c.feasible (omega (arith, few, within.feasible)) ∙ ap (λ (n : ℕ). c.feasible + n) (sym (alone (λ e. is_feasible e.verdict)));
+    infeasible = ap (λ (x : Counts). x.infeasible) both ∙ one_more (is_infeasible v) c.infeasible (omega (arith, few, within.infeasible)) ∙ ap (λ (n : ℕ). c.infeasible + n) (sym (alone (λ e. is_infeasible e.verdict)));
+    large = ap (λ (x : Counts). x.large) both ∙ one_more (is_large v) c.large (omega (arith, few, within.large)) ∙ ap (λ (n : ℕ). c.large + n) (sym (alone (λ e. is_large e.verdict)));
+    negatives = ap (λ (x : Counts). x.negatives) both;
+    cases = ap (λ (x : Counts). x.cases) both;
+    bytes = bytes;
+  }
+    where
+      v : Verdict
+      v = entry.verdict
+
+      both : after ≡ record (with_verdict (record c { cases = option_map (λ n. n + new) c.cases; bytes = mid.bytes }) v) { bytes = after.bytes }
+      both = second ∙ ap (λ (x : Counts). record (with_verdict x v) { bytes = after.bytes }) first
+
+-- ---- counts that are small
+
+some_few : (n m new number : ℕ) (cases more : Option ℕ) → more ≡ option_map (λ x. x + new) cases → new ≤ n → m ≡ number + n → IfSome cases (λ x. x ≤ number) → IfSome more (λ x. x ≤ m)
+some_few n m new number None more is few sum within = subst (λ (o : Option ℕ). IfSome o (λ x. x ≤ m)) (sym is) tt
+some_few n m new number (Some k) more is few sum within = subst (λ (o : Option ℕ). IfSome o (λ x. x ≤ m)) (sym is) (omega (arith, few, sum, within))
+
+-- behind so many entries
+pub within_more : (number m new : ℕ) (entries : List GoalEntry) (lines : List ℕ) (a b : Counts) → m ≡ number + length entries → new ≤ length entries → AreWithin number a → AreCounted entries new lines a b → AreWithin m b
+within_more number m new entries lines a b sum few within counted = record {
+  goals = omega (arith, sum, within.goals, counted.goals);
+  feasible = omega (arith, sum, within.feasible, counted.feasible, count_by-le-length (λ (e : GoalEntry). is_feasible e.verdict) entries);
+  infeasible = omega (arith, sum, within.infeasible, counted.infeasible, count_by-le-length (λ (e : GoalEntry). is_infeasible e.verdict) entries);
+  large = omega (arith, sum, within.large, counted.large, count_by-le-length (λ (e : GoalEntry). is_large e.verdict) entries);
+  cases = some_few (length entries) m new number a.cases b.cases counted.cases few sum within.cases;
+}

@@ -1,8 +1,9 @@
 -- The bases of entries, which come by offers; they can be edited, and they are no more than wanted.
-use Rattle.std.proofs.Common.{◌≡◌, ◌↔◌, ℕ, ◌+◌, ◌<◌, ◌≤◌, Bool, true, false, List, [], ◌∷◌, ◌++◌, length, length-append, length-take, get_or, take, sym, ap, ◌∙◌, subst, arith, append_assoc, append-nil}
-use Rattle.std.specs.Prelude.{All, IsTrue, bytes_eq, if◌then◌else◌, not}
+use Rattle.std.proofs.Common.{◌≡◌, ◌↔◌, ℕ, ◌+◌, ◌≤◌, Bool, true, false, List, [], ◌∷◌, ◌++◌, length, length-append, length-take, sym, ap, ◌∙◌, subst, Option, None, Some, arith, append_assoc, append-nil}
+use Rattle.std.specs.Borrow.{Bor}
+use Rattle.std.specs.Prelude.{All, IfNone, IfSome, IsTrue, bytes_eq, if◌then◌else◌, not}
 use Rattle.std.specs.List.{AllZip, enumerate_from, filter}
-use Rattle.std.proofs.lemmas.List.{length-take-le, take_all, take_more}
+use Rattle.std.proofs.lemmas.List.{take_all}
 use Rattle.std.proofs.lemmas.List.Elements.{All-nil, All-cons, All-head, All-tail, All-filter, All-map, All-take}
 use Rattle.cs_bases.specs.Bases.{IsFree, PlainBases, bases_of, no_bases, with_base}
 use Rattle.cs_bases.proofs.Offers.{bases_after_offer, bases_without_offer}
@@ -16,7 +17,7 @@ use Rattle.cs_yacc.specs.File.{IsFile}
 use Rattle.cs_plan.specs.declared.plan.Plan.{Plan}
 use Rattle.cs_plan.specs.Plans.{IsEntryIn}
 use Rattle.cs_plan.proofs.Making.{few_of, named_tokens}
-use Rattle.cs_writing.specs.Mutants.{IsEditable, Keeps}
+use Rattle.cs_writing.specs.Mutants.{AreItsTokens, IsEditable, Keeps}
 use Rattle.cs_writing.specs.Written.{AreEntriesIn}
 
 -- ---- offers
@@ -55,14 +56,19 @@ keeps_one many entry tokens taken old new feasible same free is entries long of 
 pub keeps_other : (many : ℕ) (entry : GoalEntry) (kept : PlainBases) → is_feasible entry.verdict ≡ false → Keeps many (entry ∷ []) kept kept
 keeps_other many entry kept none entries long of = of ∙ bases_without_offer kept.most entries entry none
 
+-- what was told of its tokens
+pub its_tokens : (entry : GoalEntry) (found : Option (Bor (List ℕ))) → IfSome found (λ tokens. is_feasible entry.verdict ≡ true) → IfSome found (λ tokens. tokens.now ≡ entry.tokens)
+    → IfNone found (is_feasible entry.verdict ≡ false) → AreItsTokens entry found
+its_tokens entry None feasible tokens none = none
+its_tokens entry (Some found) feasible tokens none = (feasible, tokens)
+
 -- behind one more of a batch
-pub keeps_step : (number before i : ℕ) (batch : List GoalEntry) (made : GoalEntry) (old mid new : PlainBases) → i < length batch → made ≡ get_or batch i made → before ≡ number + i
-    → Keeps number (take i batch) old mid → Keeps before (made ∷ []) mid new → Keeps number (take (i + 1) batch) old new
-keeps_step number before i batch made old mid new within is at keeps more =
-    let whole : take (i + 1) batch ≡ take i batch ++ made ∷ [] = take_more batch i made within ∙ ap (λ (e : GoalEntry). take i batch ++ e ∷ []) (sym is) in
-    let behind : before ≡ number + length (take i batch) = omega (arith, at, within, length-take-le i batch (omega (arith, within))) in
-    subst (λ (l : List GoalEntry). Keeps number l old new) (sym whole)
-    (keeps_then number (take i batch) (made ∷ []) old mid new keeps (subst (λ (k : ℕ). Keeps k (made ∷ []) mid new) behind more))
+pub keeps_step : (number before i : ℕ) (front whole : List GoalEntry) (entry : GoalEntry) (old mid new : PlainBases) → whole ≡ front ++ entry ∷ [] → length front ≡ i → before ≡ number + i
+    → Keeps number front old mid → Keeps before (entry ∷ []) mid new → Keeps number whole old new
+keeps_step number before i front whole entry old mid new is many at keeps more =
+    let behind : before ≡ number + length front = omega (arith, at, many) in
+    subst (λ (l : List GoalEntry). Keeps number l old new) (sym is)
+    (keeps_then number front (entry ∷ []) old mid new keeps (subst (λ (k : ℕ). Keeps k (entry ∷ []) mid new) behind more))
 
 -- ---- which bases there are
 

@@ -5,9 +5,12 @@ pub mod Stops
 pub mod Called
 pub mod Parts
 pub mod Kept
+pub mod Cases
+pub mod Told
 pub mod SoFar
 pub mod Texts
 pub mod Batch
+pub mod Counting
 pub mod Out
 pub mod Tallies
 pub mod Edits

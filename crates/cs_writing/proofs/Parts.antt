@@ -1,6 +1,7 @@
 -- Parts of a manifest that were written: by their entries, and by their texts.
 use Rattle.std.proofs.Common.{◌≡◌, ℕ, List, length, refl, sym, subst}
 use Rattle.cs_bases.specs.Bases.{PlainBases, bases_of}
+use Rattle.cs_cases.specs.Cases.{PlainCases}
 use Rattle.cs_grammar.specs.Weights.{Weighed}
 use Rattle.cs_io.specs.declared.sink.Sink as Sink
 use Rattle.cs_manifest.specs.declared.counts.Counts.{Counts}
@@ -16,7 +17,7 @@ use Rattle.cs_yacc.specs.File.{File}
 use Rattle.cs_writing.specs.declared.halt.Halt.{Halt}
 use Rattle.cs_writing.specs.declared.mutants.Base.{Base}
 use Rattle.cs_writing.specs.Mutants.{AreBasesIn, AreMade, CountsBases, CountsMade, IsBasesText, IsCounted, IsMade, negatives_from, negatives_in}
-use Rattle.cs_writing.specs.Written.{AreBasesOf, AreEntriesIn, CountsGoals, HasSomeText, HasText, IsGoalsText, IsStopped, counts_behind, lines_from}
+use Rattle.cs_writing.specs.Written.{AreBasesOf, AreCounted, AreGoals, CountsGoals, HasSomeText, HasText, IsGoalsText, IsStopped}
 
 -- ---- by their entries
 
@@ -24,15 +25,17 @@ module _ {S : Type 0} (g : Sink.Ghosts S) where
   -- the lines of all entries were written, and counted, and these are their bases
   pub record HasEntries (plan : Plan) (of : Weighed) (old new : S) (before after : Counts) (kept : PlainBases) : Type 0 where
     pub entries : List GoalEntry
-    pub all : AreEntriesIn plan of entries
-    pub counted : after ≡ counts_behind plan.yacc.now 1 entries before
-    pub written : IsWritten g (lines_from plan.yacc.now 1 entries) old new
+    pub cases : PlainCases
+    pub lines : List ℕ
+    pub are : AreGoals plan of entries cases lines
+    pub counted : AreCounted entries (length cases.codes) lines before after
+    pub written : IsWritten g lines old new
     pub kept_are : kept ≡ bases_of (most_bases (choice_in plan)) entries
 
   -- whichever the entries are, the writing of their lines stopped so
   abbrev pub HasSomeEntries : Plan → Weighed → S → S → Halt → Type 0
   HasSomeEntries plan of old new halt =
-      (entries : List GoalEntry) → AreEntriesIn plan of entries → IsStopped g (lines_from plan.yacc.now 1 entries) old new halt
+      (entries : List GoalEntry) (cases : PlainCases) (lines : List ℕ) → AreGoals plan of entries cases lines → IsStopped g lines old new halt
 
   -- the lines of all negatives of a search were written behind those that are counted, and counted
   pub record HasNegatives (file : File) (base : ℕ) (work : RenderWork) (search : Search) (old new : S) (before after : Counts) : Type 0 where
@@ -64,26 +67,28 @@ module _ {S : Type 0} {g : Sink.Ghosts S} where
   module _ (plan : Plan) (left : ToJudge) where
     pub goals_text : {old new : S} {before after : Counts} {kept : PlainBases} → HasEntries g plan left.tables old new before after kept → HasText g (IsGoalsText plan left) old new
     goals_text has = record {
-      text = lines_from plan.yacc.now 1 has.entries;
-      is = record { entries = has.entries; all = has.all; lines = refl };
+      text = has.lines;
+      is = record { entries = has.entries; cases = has.cases; are = has.are };
       written = has.written;
     }
 
     pub goals_stop : (old new : S) (halt : Halt) → HasSomeEntries g plan left.tables old new halt → HasSomeText g (IsGoalsText plan left) old new halt
-    goals_stop old new halt stops text is = subst (λ (l : List ℕ). IsStopped g l old new halt) (sym is.lines) (stops is.entries is.all)
+    goals_stop old new halt stops text is = stops is.entries is.cases text is.are
 
     pub has_entries : {old new : S} (before after : Progress) (kept : PlainBases) → HasText g (IsGoalsText plan left) old new → CountsGoals plan left before after → AreBasesOf plan left kept
         → HasEntries g plan left.tables old new before.counts after.counts kept
-    has_entries {old} {new} before after kept put counted kept_are = record {
+    has_entries before after kept put counted kept_are = record {
       entries = put.is.entries;
-      all = put.is.all;
-      counted = counted put.is.entries put.is.all;
-      written = subst (λ (l : List ℕ). IsWritten g l old new) put.is.lines put.written;
-      kept_are = kept_are put.is.entries put.is.all;
+      cases = put.is.cases;
+      lines = put.text;
+      are = put.is.are;
+      counted = counted put.is.entries put.is.cases put.text put.is.are;
+      written = put.written;
+      kept_are = kept_are put.is.entries put.is.are.all;
     }
 
     pub some_entries : (old new : S) (halt : Halt) → HasSomeText g (IsGoalsText plan left) old new halt → HasSomeEntries g plan left.tables old new halt
-    some_entries old new halt stops entries are = stops (lines_from plan.yacc.now 1 entries) (record { entries = entries; all = are; lines = refl })
+    some_entries old new halt stops entries cases lines are = stops lines (record { entries = entries; cases = cases; are = are })
 
   module _ (before : Progress) (base : Base) (search : Search) where
     pub made_text : {old new : S} {after : Counts} → HasNegatives g before.file base.number base.work.now search old new before.counts after → HasText g (IsMade before base search) old new

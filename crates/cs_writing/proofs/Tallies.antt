@@ -13,7 +13,7 @@ counted_none c =
     record { same = ap (λ (n : ℕ). record c { negatives = n }) negatives; bytes = ap shown bytes }
 
 -- counts that stand still at m
-sums : (m a b c x y : ℕ) → min b m ≡ min (a + x) m → min c m ≡ min (b + y) m → min c m ≡ min (a + (x + y)) m
+pub sums : (m a b c x y : ℕ) → min b m ≡ min (a + x) m → min c m ≡ min (b + y) m → min c m ≡ min (a + (x + y)) m
 sums m a b c x y first second = omega (arith, first, second)
 
 pub counted_then : (m n : ℕ) (first second : List ℕ) (a b c : Counts) → IsCounted m first a b → IsCounted n second b c → IsCounted (m + n) (first ++ second) a c

@@ -1,11 +1,13 @@
 -- What was written of bases and their negatives. Working words of proofs.
-use Rattle.std.specs.Prelude.{◌≡◌, ◌≤◌, ℕ, ◌+◌, List, ◌++◌, length, sum_by, All, Result, Some}
+use Rattle.std.specs.Prelude.{◌≡◌, ◌≤◌, ℕ, ◌+◌, List, [], ◌∷◌, ◌++◌, length, sum_by, All, None, Option, Result, Some, false, true}
+use Rattle.std.specs.Borrow.{Bor}
 use Rattle.std.specs.List.{AllZip}
 use Rattle.cs_grammar.specs.Grammar.{IsNumberOf}
 use Rattle.cs_io.specs.declared.sink.Sink as Sink
 use Rattle.cs_io.specs.declared.sink.SinkError.{SinkError}
 use Rattle.cs_bases.specs.Bases.{PlainBases, bases_of}
 use Rattle.cs_manifest.specs.declared.counts.Counts.{Counts}
+use Rattle.cs_manifest.specs.Lines.{is_feasible}
 use Rattle.cs_manifest.specs.Manifest.{BaseEntry, BasesOf, GoalEntry, IsNegativeOf, NegativeEntry, base_entry_lines, negative_entry_lines}
 use Rattle.cs_manifest.specs.Progress.{Progress}
 use Rattle.cs_manifest.specs.Putting.{shown}
@@ -25,6 +27,15 @@ use Rattle.cs_writing.specs.declared.mutants.Base.{Base}
 -- the bases behind these entries of goals, where so many stand before them
 abbrev pub Keeps : ℕ → List GoalEntry → PlainBases → PlainBases → Type 0
 Keeps many more old new = (entries : List GoalEntry) → length entries ≡ many → old ≡ bases_of old.most entries → new ≡ bases_of old.most (entries ++ more)
+
+-- the tokens of an entry's derivation, where it has one
+abbrev pub AreItsTokens : GoalEntry → Option (Bor (List ℕ)) → Type 0
+AreItsTokens entry None = is_feasible entry.verdict ≡ false
+AreItsTokens entry (Some tokens) = (is_feasible entry.verdict ≡ true) × (tokens.now ≡ entry.tokens)
+
+-- the bases behind one entry with these tokens
+abbrev pub KeepsOne : ℕ → Option (Bor (List ℕ)) → PlainBases → PlainBases → Type 0
+KeepsOne many tokens old new = (entry : GoalEntry) → AreItsTokens entry tokens → Keeps many (entry ∷ []) old new
 
 -- a base that can be edited: it isn't long, and has tokens from 1 to the last
 pub record IsEditable (tokens : ℕ) (base : ℕ × List ℕ) : Type 0 where

@@ -9,9 +9,6 @@ use Rattle.cs_io.specs.declared.sink.Sink as Sink
 use Rattle.cs_manifest.specs.declared.counts.Counts.{Counts}
 use Rattle.cs_manifest.specs.Counts.{end_of}
 use Rattle.cs_manifest.specs.Putting.{shown}
-use Rattle.cs_plan.specs.declared.plan.Plan.{Plan}
-use Rattle.cs_plan.specs.Plans.{IsPlanned}
-use Rattle.cs_positive.specs.Positives.{ToJudge}
 use Rattle.cs_writing.specs.declared.halt.Halt.{Halt}
 
 -- the output grew by such a text
@@ -25,10 +22,6 @@ GrewByPart Is old new = (text : List ℕ) → Is text → GrewByPrefix old new t
 -- there is room for each such text
 abbrev pub HasRoomForAll : (List ℕ → Type 0) → ℕ → Type 0
 HasRoomForAll Is room = (text : List ℕ) → Is text → length text ≤ room
-
--- the text is the plan's manifest, where trees are measured as for these positives
-abbrev pub IsAsked : Plan → ToJudge → List ℕ → Type 0
-IsAsked plan left text = IsPlanned left.tables.weights plan text
 
 -- The same of a sink, by its meanings.
 module _ {S : Type 0} (g : Sink.Ghosts S) where
@@ -67,7 +60,10 @@ pub record EndsWith (counts : Counts) (text : List ℕ) : Type 0 where
   pub before : List ℕ
   pub line : text ≡ before ++ end_of counts
   pub bytes : counts.bytes ≡ shown (length text)
-  pub cases : counts.cases ≡ None
+
+-- no cases were counted, as in the first format
+abbrev pub HasNoCases : Counts → Type 0
+HasNoCases counts = counts.cases ≡ None
 
 -- each such text has these counts
 abbrev pub CountsOfAll : (List ℕ → Type 0) → Counts → Type 0

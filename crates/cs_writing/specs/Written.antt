@@ -1,37 +1,141 @@
 -- What was written of a manifest. Working words of proofs.
-use Rattle.std.specs.Prelude.{◌≡◌, ◌≤◌, ℕ, ◌+◌, List, [], ◌∷◌, MatchResult, Result}
+use Rattle.std.specs.Prelude.{◌≡◌, ◌≤◌, ℕ, ◌+◌, List, IfSome, MatchResult, Result, count_by, if◌then◌else◌, length, option_map}
 use Rattle.cs_bases.specs.Bases.{PlainBases, bases_of}
+use Rattle.cs_cases.specs.Cases.{PlainCases, no_cases}
 use Rattle.cs_grammar.specs.Weights.{Weighed}
 use Rattle.cs_goals.specs.Goals.{goals}
 use Rattle.cs_io.specs.Faults.{Rose}
 use Rattle.cs_io.specs.declared.sink.Sink as Sink
 use Rattle.cs_io.specs.declared.sink.SinkError.{SinkError}
 use Rattle.cs_manifest.specs.declared.counts.Counts.{Counts}
-use Rattle.cs_manifest.specs.Counts.{with_lines, with_verdict}
-use Rattle.cs_manifest.specs.Manifest.{EntriesOf, GoalEntry, goal_entry_lines, most_bases}
+use Rattle.cs_manifest.specs.declared.format.Format.{Format}
+use Rattle.cs_manifest.specs.declared.format.Format.TheVariants.{One, Two}
+use Rattle.cs_manifest.specs.Counts.{first_counts, with_case, with_lines, with_shared_verdict, with_verdict}
+use Rattle.cs_manifest.specs.Head.{no_cases as cases_at_first}
+use Rattle.cs_manifest.specs.Lines.{is_feasible, is_infeasible, is_large}
+use Rattle.cs_manifest.specs.Manifest.{AreShared, EntriesOf, GoalEntry, SharedEntry, goal_entry_lines, goal_texts, is_new, most_bases, new_case_lines, shared_entry_lines}
+use Rattle.cs_manifest.specs.SharedLines.{shared_goal_line}
 use Rattle.cs_manifest.specs.Progress.{Progress}
+use Rattle.cs_manifest.specs.Putting.{shown}
 use Rattle.cs_manifest.specs.Sinks.{IsCalm, IsWritten, TookPart, Writes}
 use Rattle.cs_manifest.specs.Words.{numbered_from}
 use Rattle.cs_positive.specs.Positives.{ToJudge}
 use Rattle.cs_yacc.specs.File.{File}
 use Rattle.cs_plan.specs.declared.plan.Plan.{Plan}
-use Rattle.cs_plan.specs.Plans.{choice_in, lexemes_in, texts_in}
+use Rattle.cs_plan.specs.Batches.{entries_in}
+use Rattle.cs_plan.specs.Plans.{choice_in, format_by, lexemes_in, sharing_in, texts_in}
 use Rattle.cs_writing.specs.declared.halt.Halt.{Halt}
 use Rattle.cs_writing.specs.declared.halt.Halt.TheVariants.{Failed}
 
+-- ---- the lines of goals
+
 -- the entries of all goals of a plan
 abbrev pub AreEntriesIn : Plan → Weighed → List GoalEntry → Type 0
-AreEntriesIn plan of entries = EntriesOf of (texts_in plan) (lexemes_in plan) (goals of.grammar plan.criteria) entries
+AreEntriesIn plan of entries = EntriesOf of (goal_texts (choice_in plan)) (lexemes_in plan) (goals of.grammar plan.criteria) entries
 
--- the lines of entries, of which the first has this number
+-- the lines of entries in the first format, of which the first has this number
 abbrev pub lines_from : File → ℕ → List GoalEntry → List ℕ
 lines_from file number entries = numbered_from number (goal_entry_lines file) entries
 
--- the counts behind entries, of which the first has this number
-abbrev pub counts_behind : File → ℕ → List GoalEntry → Counts → Counts
-counts_behind file number [] counts = counts
-counts_behind file number (entry ∷ rest) counts =
-    counts_behind file (number + 1) rest (with_lines (with_verdict counts entry.verdict) (goal_entry_lines file number entry))
+-- and in the second
+abbrev pub shared_lines_from : File → ℕ → List SharedEntry → List ℕ
+shared_lines_from file number list = numbered_from number (shared_entry_lines file) list
+
+-- these are the lines of entries in the second format, from the cases before them to those behind them
+pub record AreSharedLines (plan : Plan) (number : ℕ) (before : PlainCases) (entries : List GoalEntry) (after : PlainCases) (lines : List ℕ) : Type 0 where
+  pub list : List SharedEntry
+  pub are : AreShared (texts_in plan) (lexemes_in plan) before entries after list
+  pub whole : lines ≡ shared_lines_from plan.yacc.now number list
+
+-- the same in any format; the first has no cases
+abbrev pub AreLinesOf : Format → Plan → ℕ → PlainCases → List GoalEntry → PlainCases → List ℕ → Type 0
+AreLinesOf One plan number before entries after lines = (lines ≡ lines_from plan.yacc.now number entries) × (after ≡ before)
+AreLinesOf Two plan number before entries after lines = AreSharedLines plan number before entries after lines
+
+-- in the plan's format
+abbrev pub AreLinesIn : Plan → ℕ → PlainCases → List GoalEntry → PlainCases → List ℕ → Type 0
+AreLinesIn plan number before entries after lines = AreLinesOf (format_by plan.closed) plan number before entries after lines
+
+-- the entries of all goals of a plan, the cases behind them, and their lines
+pub record AreGoals (plan : Plan) (of : Weighed) (entries : List GoalEntry) (cases : PlainCases) (lines : List ℕ) : Type 0 where
+  pub all : AreEntriesIn plan of entries
+  pub told : AreLinesIn plan 1 (no_cases plan.yacc.now.grammar) entries cases lines
+
+-- the text is the lines of the entries of all goals of a plan
+pub record IsGoalsText (plan : Plan) (left : ToJudge) (text : List ℕ) : Type 0 where
+  pub entries : List GoalEntry
+  pub cases : PlainCases
+  pub are : AreGoals plan left.tables entries cases text
+
+-- whichever the entries are, these are their bases
+abbrev pub AreBasesOf : Plan → ToJudge → PlainBases → Type 0
+AreBasesOf plan left kept =
+    (entries : List GoalEntry) → AreEntriesIn plan left.tables entries → kept ≡ bases_of (most_bases (choice_in plan)) entries
+
+-- ---- how goals are counted
+
+-- nothing was counted but the bytes of the head
+abbrev pub IsFresh : Plan → Counts → Type 0
+IsFresh plan counts = counts ≡ record (first_counts counts.bytes) { cases = cases_at_first (sharing_in plan) }
+
+-- no count of goals or cases is above this number
+pub record AreWithin (most : ℕ) (counts : Counts) : Type 0 where
+  pub goals : counts.goals ≤ most
+  pub feasible : counts.feasible ≤ most
+  pub infeasible : counts.infeasible ≤ most
+  pub large : counts.large ≤ most
+  pub cases : IfSome counts.cases (λ n. n ≤ most)
+
+-- these entries and their lines were counted, and so many new cases, where cases are counted
+pub record AreCounted (entries : List GoalEntry) (new : ℕ) (lines : List ℕ) (before after : Counts) : Type 0 where
+  pub goals : after.goals ≡ before.goals + length entries
+  pub feasible : after.feasible ≡ before.feasible + count_by (λ e. is_feasible e.verdict) entries
+  pub infeasible : after.infeasible ≡ before.infeasible + count_by (λ e. is_infeasible e.verdict) entries
+  pub large : after.large ≡ before.large + count_by (λ e. is_large e.verdict) entries
+  pub negatives : after.negatives ≡ before.negatives
+  pub cases : after.cases ≡ option_map (λ n. n + new) before.cases
+  pub bytes : shown after.bytes ≡ shown (before.bytes + length lines)
+
+-- whichever the entries are, they were counted
+abbrev pub CountsGoals : Plan → ToJudge → Progress → Progress → Type 0
+CountsGoals plan left old new =
+    (entries : List GoalEntry) (cases : PlainCases) (lines : List ℕ) → AreGoals plan left.tables entries cases lines
+    → AreCounted entries (length cases.codes) lines old.counts new.counts
+
+-- a batch of entries behind so many was counted
+abbrev pub CountsBatch : ℕ → List GoalEntry → Progress → Progress → Type 0
+CountsBatch number batch old new = AreCounted batch 0 (lines_from old.file (number + 1) batch) old.counts new.counts
+
+-- how many of these entries have new cases
+abbrev pub new_cases : List SharedEntry → ℕ
+new_cases list = count_by (λ s. is_new s.verdict) list
+
+-- the same in the second format
+abbrev pub CountsShared : ℕ → List SharedEntry → Progress → Progress → Type 0
+CountsShared number batch old new =
+    AreCounted (entries_in batch) (new_cases batch) (shared_lines_from old.file (number + 1) batch) old.counts new.counts
+
+-- it is counted as its goal is in the first format
+abbrev pub IsCountedAlike : SharedEntry → Type 0
+IsCountedAlike s = (c : Counts) → with_shared_verdict c s.verdict ≡ with_verdict c s.entry.verdict
+
+-- behind the case of an entry, where that is new
+abbrev pub behind_case : File → Counts → SharedEntry → Counts
+behind_case file counts s = if is_new s.verdict then with_lines (with_case counts) (new_case_lines file s) else counts
+
+-- behind the entry
+abbrev pub behind_shared : File → ℕ → Counts → SharedEntry → Counts
+behind_shared file number counts s =
+    with_lines (with_shared_verdict (behind_case file counts s) s.verdict) (shared_goal_line file number s.entry.goal s.verdict)
+
+-- an entry with its number was counted, and the case of an entry, where that is new
+abbrev pub CountsEntry : ℕ → SharedEntry → Progress → Progress → Type 0
+CountsEntry number s old new = new.counts ≡ behind_shared old.file number old.counts s
+
+abbrev pub CountsCase : SharedEntry → Progress → Progress → Type 0
+CountsCase s old new = new.counts ≡ behind_case old.file old.counts s
+
+-- ---- what a writing did to the sink
 
 module _ {S : Type 0} (g : Sink.Ghosts S) where
   -- The writing of these lines stopped so: a prefix was written.
@@ -61,22 +165,13 @@ module _ {S : Type 0} (g : Sink.Ghosts S) where
   abbrev pub PutsBatch : Progress → ℕ → List GoalEntry → S → S → Result Unit SinkError → Type 0
   PutsBatch manifest number batch old new result = Writes g result (lines_from manifest.file (number + 1) batch) old new
 
--- a batch of entries behind so many was counted
-abbrev pub CountsBatch : ℕ → List GoalEntry → Progress → Progress → Type 0
-CountsBatch number batch old new = new.counts ≡ counts_behind old.file (number + 1) batch old.counts
+  -- the same in the second format
+  abbrev pub PutsShared : Progress → ℕ → List SharedEntry → S → S → Result Unit SinkError → Type 0
+  PutsShared manifest number batch old new result = Writes g result (shared_lines_from manifest.file (number + 1) batch) old new
 
--- the text is the lines of the entries of all goals of a plan
-pub record IsGoalsText (plan : Plan) (left : ToJudge) (text : List ℕ) : Type 0 where
-  pub entries : List GoalEntry
-  pub all : AreEntriesIn plan left.tables entries
-  pub lines : text ≡ lines_from plan.yacc.now 1 entries
+  -- the lines of one entry, and those of its case
+  abbrev pub PutsEntry : Progress → ℕ → SharedEntry → S → S → Result Unit SinkError → Type 0
+  PutsEntry manifest number s old new result = Writes g result (shared_entry_lines manifest.file number s) old new
 
--- whichever the entries are, they were counted
-abbrev pub CountsGoals : Plan → ToJudge → Progress → Progress → Type 0
-CountsGoals plan left old new =
-    (entries : List GoalEntry) → AreEntriesIn plan left.tables entries → new.counts ≡ counts_behind plan.yacc.now 1 entries old.counts
-
--- whichever the entries are, these are their bases
-abbrev pub AreBasesOf : Plan → ToJudge → PlainBases → Type 0
-AreBasesOf plan left kept =
-    (entries : List GoalEntry) → AreEntriesIn plan left.tables entries → kept ≡ bases_of (most_bases (choice_in plan)) entries
+  abbrev pub PutsCase : Progress → SharedEntry → S → S → Result Unit SinkError → Type 0
+  PutsCase manifest s old new result = Writes g result (new_case_lines manifest.file s) old new

@@ -1,11 +1,12 @@
 // The bases of the entries of goals.
 
-ghost use Rattle.std.specs.Prelude.{◌+◌, ◌≤◌, [], ◌∷◌, OnOk, length};
+ghost use Rattle.std.specs.Prelude.{◌+◌, ◌≤◌, OnOk, length};
 ghost use Rattle.cs_io.specs.Faults.{greatest};
-ghost use Rattle.cs_writing.specs.Mutants.{Keeps};
+ghost use Rattle.cs_plan.specs.Batches.{entries_in};
+ghost use Rattle.cs_writing.specs.Mutants.{Keeps, KeepsOne};
 
 use cs_bases::Bases;
-use cs_plan::Made;
+use cs_plan::{Made, MadeShared};
 use std::alloc::AllocError;
 
 /// Keeps what are bases of these entries. `number` is that of the last entry before them.
@@ -15,18 +16,31 @@ pub fn keep_bases(bases: &mut Bases, number: u64, batch: &[Made]) -> Result<(), 
 {
     let mut before = number;
     for made in batch {
-        keep_base(bases, before, made)?;
+        keep_base(bases, before, made.sentence())?;
         before += 1;
     }
     Ok(())
 }
 
-// Keeps the tokens of an entry behind so many, where they are a base.
-fn keep_base(bases: &mut Bases, before: u64, made: &Made) -> Result<(), AllocError>
-    requires { before + 1 ≤ greatest }
-    ensures { OnOk result (Keeps before (made.now ∷ []) bases.old bases.new) }
+/// The same in the second format.
+pub fn keep_shared(bases: &mut Bases, number: u64, batch: &[MadeShared]) -> Result<(), AllocError>
+    requires { number + length batch.now ≤ greatest }
+    ensures { OnOk result (Keeps number (entries_in batch.now) bases.old bases.new) }
 {
-    match made.sentence() {
+    let mut before = number;
+    for made in batch {
+        keep_base(bases, before, made.sentence())?;
+        before += 1;
+    }
+    Ok(())
+}
+
+// Keeps the tokens of an entry behind so many, where it has some and they are a base.
+fn keep_base(bases: &mut Bases, before: u64, sentence: Option<&[u16]>) -> Result<(), AllocError>
+    requires { before + 1 ≤ greatest }
+    ensures { OnOk result (KeepsOne before sentence.entry bases.old bases.new) }
+{
+    match sentence {
         None => Ok(()),
         Some(tokens) => {
             bases.offer(before + 1, tokens)?;

@@ -2,7 +2,8 @@
 //!
 //! The layer above makes a plan and the positives of its goals, and gives both to [`write_out`]. Ok
 //! means that the output took the whole manifest; a [`Halt`] that it took a prefix of it. The entries
-//! of goals come first, and their bases are kept; then each base with its negatives.
+//! of goals come first, in the second format each behind its case where that is new, and their bases are
+//! kept; then each base with its negatives.
 //!
 //! Meaning: `specs/Writing` (what a writer does to its output). Working words of proofs: `Written`
 //! (entries of goals), `Mutants` (bases and negatives).
@@ -11,6 +12,7 @@
 mod bases;
 mod halt;
 mod mutants;
+mod shared;
 mod writing;
 
 pub use halt::Halt;

@@ -1,19 +1,21 @@
 // The manifest of a plan, entry by entry.
 
-ghost use Rattle.std.specs.Prelude.{◌≡◌, ◌+◌, ◌≤◌, [], All, IfOk, OnErr, OnOk, length};
+ghost use Rattle.std.specs.Prelude.{◌≡◌, ◌+◌, ◌≤◌, [], All, IfOk, None, OnErr, OnOk, length};
 ghost use Rattle.cs_goals.specs.Goals.{goals};
 ghost use Rattle.cs_io.specs.BufferedSink.{buffered_room, lent_name, lent_sink, waiting_bytes};
 ghost use Rattle.cs_io.specs.Faults.{greatest};
 ghost use Rattle.cs_writing.specs.declared.halt.Halt.TheVariants.{Failed};
-ghost use Rattle.cs_plan.specs.Plans.{IsOfPlan, IsPlan};
+ghost use Rattle.cs_plan.specs.Plans.{IsOfPlan, IsPlan, IsPlanned};
 ghost use Rattle.cs_plan.specs.Made.{IsNamedGoalEntry};
-ghost use Rattle.cs_writing.specs.Writing.{CountsOfAll, IsAsked, IsCalmForAll, LentCalm, LentOne, LentPart};
+ghost use Rattle.cs_writing.specs.Writing.{CountsOfAll, HasNoCases, IsCalmForAll, LentCalm, LentOne, LentPart};
 ghost use Rattle.cs_writing.specs.Writing.{MetFault, Stopped, TookFront, TookOne};
-ghost use Rattle.cs_writing.specs.Written.{AreBasesOf, CountsBatch, CountsGoals, IsGoalsText, PutsBatch, PutsOne};
+ghost use Rattle.cs_writing.specs.Written.{AreBasesOf, AreWithin, CountsBatch, CountsGoals, IsFresh, IsGoalsText};
+ghost use Rattle.cs_writing.specs.Written.{PutsBatch, PutsOne};
 
 use crate::bases::keep_bases;
 use crate::halt::Halt;
 use crate::mutants::write_bases;
+use crate::shared::write_shared;
 use cs_bases::Bases;
 use cs_fan::Gate;
 use cs_io::{BufferedSink, Sink, SinkError};
@@ -40,12 +42,13 @@ pub fn write_out<R: Threads + Sync, O: Sink, G: Gate + Sync>(
     requires plan { IsPlan plan.now }
     requires grammar { IsOfPlan plan.now positives }
     requires all { positives.goals ≡ goals positives.tables.grammar plan.now.criteria }
-    ensures ok { OnOk result (TookOne O.Sink (IsAsked plan.now positives.entry) out.old out.new) }
-    ensures counts { IfOk result (CountsOfAll (IsAsked plan.now positives.entry)) }
+    ensures ok { OnOk result (TookOne O.Sink (IsPlanned plan.now) out.old out.new) }
+    ensures counts { IfOk result (CountsOfAll (IsPlanned plan.now)) }
+    ensures first { plan.now.closed ≡ None → IfOk result HasNoCases }
     ensures part { OnErr result
-        (TookFront O.Sink (IsAsked plan.now positives.entry) out.old out.new) }
+        (TookFront O.Sink (IsPlanned plan.now) out.old out.new) }
     ensures failed { Stopped Failed result → MetFault O.Sink out.old out.new }
-    ensures room { IsCalmForAll O.Sink (IsAsked plan.now positives.entry) out.old out.new }
+    ensures room { IsCalmForAll O.Sink (IsPlanned plan.now) out.old out.new }
 {
     let mut buffer = Vec::with_capacity(alloc, PIECE)?;
     let mut sink = BufferedSink::new(out, &mut buffer);
@@ -68,13 +71,14 @@ fn write_through<R: Threads + Sync, O: Sink, G: Gate + Sync>(
     requires spare { buffered_room O.room sink.old ≡ O.room (lent_sink sink.old) + 1 }
     ensures lent { lent_name sink.new ≡ lent_name sink.old }
     ensures ok { OnOk result
-        (LentOne O.Sink (IsAsked plan.now positives.entry) sink.old sink.new) }
-    ensures counts { IfOk result (CountsOfAll (IsAsked plan.now positives.entry)) }
+        (LentOne O.Sink (IsPlanned plan.now) sink.old sink.new) }
+    ensures counts { IfOk result (CountsOfAll (IsPlanned plan.now)) }
+    ensures first { plan.now.closed ≡ None → IfOk result HasNoCases }
     ensures part { OnErr result
-        (LentPart O.Sink (IsAsked plan.now positives.entry) sink.old sink.new) }
+        (LentPart O.Sink (IsPlanned plan.now) sink.old sink.new) }
     ensures failed { Stopped Failed result
         → MetFault O.Sink (lent_sink sink.old) (lent_sink sink.new) }
-    ensures room { LentCalm O.Sink (IsAsked plan.now positives.entry) sink.old sink.new }
+    ensures room { LentCalm O.Sink (IsPlanned plan.now) sink.old sink.new }
 {
     one_manifest();
     some_manifest();
@@ -94,19 +98,20 @@ fn write_manifest<R: Threads + Sync, S: Sink, G: Gate + Sync>(
     requires plan { IsPlan plan.now }
     requires grammar { IsOfPlan plan.now positives }
     requires all { positives.goals ≡ goals positives.tables.grammar plan.now.criteria }
-    ensures text { PutsOne S.Sink (IsAsked plan.now positives.entry) sink.old sink.new result }
-    ensures counts { IfOk result (CountsOfAll (IsAsked plan.now positives.entry)) }
+    ensures text { PutsOne S.Sink (IsPlanned plan.now) sink.old sink.new result }
+    ensures counts { IfOk result (CountsOfAll (IsPlanned plan.now)) }
+    ensures first { plan.now.closed ≡ None → IfOk result HasNoCases }
     ensures lent { S.lent sink.new ≡ S.lent sink.old }
 {
     one_text();
     let mut manifest = Manifest::begin(sink, &plan.head())?;
-    let bases = write_entries(rt, alloc, plan, &mut positives, &mut manifest, sink, gate)?;
+    let bases = write_goals(rt, alloc, plan, &mut positives, &mut manifest, sink, gate)?;
     write_bases(rt, alloc, plan, &bases, &mut manifest, sink, gate)?;
     Ok(manifest.finish(sink)?)
 }
 
-// Writes the entries of all goals, numbered from 1, and answers their bases.
-fn write_entries<R: Threads + Sync, S: Sink, G: Gate + Sync>(
+// Writes the entries of all goals in the plan's format, numbered from 1, and answers their bases.
+fn write_goals<R: Threads + Sync, S: Sink, G: Gate + Sync>(
     rt: &R,
     alloc: Global,
     plan: &Plan<'_>,
@@ -119,6 +124,36 @@ fn write_entries<R: Threads + Sync, S: Sink, G: Gate + Sync>(
     requires grammar { IsOfPlan plan.now positives.old }
     requires all { positives.old.goals ≡ goals positives.old.tables.grammar plan.now.criteria }
     requires file { manifest.old.file ≡ plan.now.yacc.now }
+    requires fresh { IsFresh plan.now manifest.old.counts }
+    ensures file { OnOk result (manifest.new.file ≡ plan.now.yacc.now) }
+    ensures text { PutsOne S.Sink (IsGoalsText plan.now positives.old) sink.old sink.new result }
+    ensures counted { OnOk result
+        (CountsGoals plan.now positives.old manifest.old manifest.new) }
+    ensures bases { IfOk result (AreBasesOf plan.now positives.old) }
+    ensures lent { S.lent sink.new ≡ S.lent sink.old }
+{
+    match plan.closed {
+        None => write_entries(rt, alloc, plan, positives, manifest, sink, gate),
+        Some(_) => write_shared(rt, alloc, plan, positives, manifest, sink, gate),
+    }
+}
+
+// Writes the entries of all goals in the first format, numbered from 1, and answers their bases.
+fn write_entries<R: Threads + Sync, S: Sink, G: Gate + Sync>(
+    rt: &R,
+    alloc: Global,
+    plan: &Plan<'_>,
+    positives: &mut Positives<'_>,
+    manifest: &mut Manifest<'_>,
+    sink: &mut S,
+    gate: &G,
+) -> Result<Bases, Halt>
+    requires plan { IsPlan plan.now }
+    requires first { plan.now.closed ≡ None }
+    requires grammar { IsOfPlan plan.now positives.old }
+    requires all { positives.old.goals ≡ goals positives.old.tables.grammar plan.now.criteria }
+    requires file { manifest.old.file ≡ plan.now.yacc.now }
+    requires fresh { IsFresh plan.now manifest.old.counts }
     ensures file { OnOk result (manifest.new.file ≡ plan.now.yacc.now) }
     ensures text { PutsOne S.Sink (IsGoalsText plan.now positives.old) sink.old sink.new result }
     ensures counted { OnOk result
@@ -147,6 +182,7 @@ fn write_batch<S: Sink>(
     batch: &[Made],
 ) -> Result<(), SinkError>
     requires named { All (IsNamedGoalEntry manifest.old.file) batch.now }
+    requires within { AreWithin number.old manifest.old.counts }
     requires few { number.old + length batch.now ≤ greatest }
     ensures file { manifest.new.file ≡ manifest.old.file }
     ensures number { OnOk result (number.new ≡ number.old + length batch.now) }

@@ -4,6 +4,8 @@
 #[cfg(test)]
 mod fan;
 #[cfg(test)]
+mod formats;
+#[cfg(test)]
 mod inputs;
 #[cfg(test)]
 mod rules;

@@ -1,4 +1,5 @@
-// Whole suites, by `run`: what is expected was worked by hand from the definitions, as docs/FORMATS.md lays them out.
+// Suites of the first format, and how suites end, by `run`: what is expected was worked by hand from the definitions, as
+// docs/FORMATS.md lays them out.
 
 use cs_fan::{Gate, OpenGate};
 use cs_io::{MemoryDesk, MemorySink};
@@ -88,8 +89,39 @@ goal 2 rule 2 size 2
 end goals 2 feasible 2 infeasible 0 large 0 negatives 0
 ";
 
-// A fresh desk with the files `y` and `l`, each where there is one.
-fn desk(alloc: Global, yacc: Option<&[u8]>, lex: Option<&[u8]>) -> Result<MemoryDesk, AllocError> {
+// The same in the second format: rule 2 is in the first case too.
+const CHOICE_CASES: &[u8] = b"conform 2 suite
+weigh nodes
+token 1 'x'
+rule 1 a : a
+rule 2 a : 'x'
+lexeme 'x' \"x\"
+closed productive a
+closed reachable a
+closed empty
+closed first a : 'x'
+closed last a : 'x'
+closed next <begin> : 'x'
+closed next 'x' : <end>
+case 1 size 3
+  derive 1 2
+  tokens 'x'
+  text \"x\"
+goal 1 rule 1 size 3 case 1 first 1
+case 2 size 2
+  derive 2
+  tokens 'x'
+  text \"x\"
+goal 2 rule 2 size 2 case 2 first 1
+end goals 2 feasible 2 infeasible 0 large 0 negatives 0 cases 2
+";
+
+/// A fresh desk with the files `y` and `l`, each where there is one.
+pub fn desk(
+    alloc: Global,
+    yacc: Option<&[u8]>,
+    lex: Option<&[u8]>,
+) -> Result<MemoryDesk, AllocError> {
     let mut files = Vec::new(alloc);
     if let Some(bytes) = yacc {
         files.push((String::from_str(alloc, "y")?, bytes.to_vec(alloc)?))?;
@@ -100,20 +132,21 @@ fn desk(alloc: Global, yacc: Option<&[u8]>, lex: Option<&[u8]>) -> Result<Memory
     MemoryDesk::new(files, Vec::new(alloc))
 }
 
-// The words `suite y l` and these, but for empty ones.
-fn suite_words(alloc: Global, first: &str, second: &str) -> Result<Vec<String>, AllocError> {
+/// The words `suite y l` and these options, but for empty ones.
+pub fn suite_words(alloc: Global, options: &[&str]) -> Result<Vec<String>, AllocError> {
     let mut words = Vec::new(alloc);
-    for text in ["suite", "y", "l", first, second] {
+    add(alloc, &mut words, &["suite", "y", "l"])?;
+    add(alloc, &mut words, options)?;
+    Ok(words)
+}
+
+fn add(alloc: Global, words: &mut Vec<String>, texts: &[&str]) -> Result<(), AllocError> {
+    for text in texts {
         if !text.is_empty() {
             words.push(String::from_str(alloc, text)?)?;
         }
     }
-    Ok(words)
-}
-
-// The words `suite y l --mutate=none` and an option.
-fn words(alloc: Global, option: &str) -> Result<Vec<String>, AllocError> {
-    suite_words(alloc, "--mutate=none", option)
+    Ok(())
 }
 
 fn has(text: &[u8], part: &[u8]) -> bool {
@@ -204,7 +237,7 @@ fn suites_of_files(rt: HostRuntime) -> Result<(), Fail> {
         ),
     ];
     for (yacc, lex, option, part, end) in rows {
-        let words = words(alloc, option)?;
+        let words = suite_words(alloc, &["--mutate=none", option, "--format=1"])?;
         let mut desk = desk(alloc, Some(yacc), Some(lex))?;
         let mut out = MemorySink::new(alloc, 100_000, 100_000, Vec::new(alloc))?;
         let mut err = MemorySink::new(alloc, 99, 99, Vec::new(alloc))?;
@@ -292,7 +325,7 @@ fn mutants_of_bases(rt: HostRuntime) -> Result<(), Fail> {
         ),
     ];
     for (yacc, lex, first, second, part, end) in rows {
-        let words = suite_words(alloc, first, second)?;
+        let words = suite_words(alloc, &[first, second, "--format=1"])?;
         let mut desk = desk(alloc, Some(yacc), Some(lex))?;
         let mut out = MemorySink::new(alloc, 100_000, 100_000, Vec::new(alloc))?;
         let mut err = MemorySink::new(alloc, 99, 99, Vec::new(alloc))?;
@@ -365,7 +398,7 @@ fn other_endings_in_their_order(rt: HostRuntime) -> Result<(), Fail> {
         ),
     ];
     for (yacc, lex, option, status, said) in rows {
-        let words = words(alloc, option)?;
+        let words = suite_words(alloc, &["--mutate=none", option])?;
         let mut desk = desk(alloc, yacc, lex)?;
         let mut out = MemorySink::new(alloc, 9, 9, Vec::new(alloc))?;
         let mut err = MemorySink::new(alloc, 99, 99, Vec::new(alloc))?;
@@ -385,7 +418,7 @@ fn suite_of_sums<R: Threads + Sync>(
     alloc: Global,
     option: &str,
 ) -> Result<(u8, MemorySink), AllocError> {
-    let words = words(alloc, option)?;
+    let words = suite_words(alloc, &["--mutate=none", option, "--format=1"])?;
     let mut desk = desk(alloc, Some(SUMS), Some(SCANNER))?;
     let mut out = MemorySink::new(alloc, 100_000, 7, Vec::new(alloc))?;
     let mut err = MemorySink::new(alloc, 99, 99, Vec::new(alloc))?;
@@ -438,25 +471,33 @@ impl Gate for TwoFlags {
     }
 }
 
-// The two goals are one batch, and two workers are at work on them at once.
-#[test]
-fn two_goals_meet(rt: HostRuntime) -> Result<(), Fail> {
-    let alloc = rt.alloc();
+// Whether two workers are at work at once on the suite of `CHOICE` by rules, in this format, and write it.
+fn two_meet<R: Threads + Sync>(
+    rt: &R,
+    alloc: Global,
+    format: &str,
+    whole: &[u8],
+) -> Result<bool, AllocError> {
     let gate = TwoFlags {
         first: AtomicBool::new(false),
         second: AtomicBool::new(false),
         first_saw: AtomicBool::new(false),
         second_saw: AtomicBool::new(false),
     };
-    let words = words(alloc, "--criteria=rule")?;
+    let words = suite_words(alloc, &["--mutate=none", "--criteria=rule", format])?;
     let mut desk = desk(alloc, Some(CHOICE), Some(LETTER))?;
     let mut out = MemorySink::new(alloc, 1_000, 1_000, Vec::new(alloc))?;
     let mut err = MemorySink::new(alloc, 99, 99, Vec::new(alloc))?;
-    assert_eq!(rt;
-        run(&rt, alloc, &words, &mut desk, &mut out, &mut err, &gate),
-        0
-    );
-    assert_eq!(rt; out.written(), CHOICE_RULES);
-    assert!(rt; gate.first_saw.load(Ordering::SeqCst) && gate.second_saw.load(Ordering::SeqCst));
+    let status = run(rt, alloc, &words, &mut desk, &mut out, &mut err, &gate);
+    let met = gate.first_saw.load(Ordering::SeqCst) && gate.second_saw.load(Ordering::SeqCst);
+    Ok(status == 0 && met && out.written() == whole)
+}
+
+// The two goals are one batch, and so are the two cases.
+#[test]
+fn two_goals_meet(rt: HostRuntime) -> Result<(), Fail> {
+    let alloc = rt.alloc();
+    assert!(rt; two_meet(&rt, alloc, "--format=1", CHOICE_RULES)?);
+    assert!(rt; two_meet(&rt, alloc, "--format=2", CHOICE_CASES)?);
     Ok(())
 }

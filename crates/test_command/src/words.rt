@@ -1,6 +1,7 @@
 // Words of the command line. What is expected was worked by hand from the grammar of words that docs/FORMATS.md gives:
 // which word may stand behind which, and the values of each option.
 
+use cs_manifest::{Format, Weigh};
 use cs_words::{BadWord, Command, read_words};
 use std::alloc::{AllocError, Global};
 use std::test::Fail;
@@ -37,7 +38,7 @@ fn bad_option(alloc: Global, texts: &[&str]) -> Result<Option<usize>, AllocError
 #[test]
 fn commands_and_names(rt: HostRuntime) -> Result<(), Fail> {
     let alloc = rt.alloc();
-    let rows: [(&[&str], Option<usize>); 40] = [
+    let rows: [(&[&str], Option<usize>); 47] = [
         (&[], Some(0)),
         (&[""], Some(0)),
         (&["--help"], Some(0)),
@@ -50,6 +51,7 @@ fn commands_and_names(rt: HostRuntime) -> Result<(), Fail> {
         (&["rules", "y", "z"], Some(2)),
         (&["rules", "y", "--criteria=rule"], Some(2)),
         (&["rules", "y", ""], Some(2)),
+        (&["rules", "y", "--format=1"], Some(2)),
         (&["suite"], Some(1)),
         (&["suite", "", "l"], Some(1)),
         (&["suite", "y"], Some(2)),
@@ -65,6 +67,11 @@ fn commands_and_names(rt: HostRuntime) -> Result<(), Fail> {
         (&["suite", "y", "l", "--mutate=swap,swap"], Some(3)),
         (&["suite", "y", "l", "--mutate=none,swap"], Some(3)),
         (&["suite", "y", "l", "--mutate=all"], Some(3)),
+        (&["suite", "y", "l", "--format=2"], None),
+        (&["suite", "y", "l", "--weigh=bytes"], None),
+        (&["suite", "y", "l", "--format=3"], Some(3)),
+        (&["suite", "y", "l", "--format="], Some(3)),
+        (&["suite", "y", "l", "--weigh=bits"], Some(3)),
         (&["gen"], Some(1)),
         (&["gen", ""], Some(1)),
         (&["gen", "g.y"], Some(1)),
@@ -78,6 +85,7 @@ fn commands_and_names(rt: HostRuntime) -> Result<(), Fail> {
         (&["gen", "000000000000000000001"], Some(1)),
         (&["gen", "1", "2"], Some(2)),
         (&["gen", "1", "--bases=1"], Some(2)),
+        (&["gen", "1", "--weigh=bytes"], Some(2)),
     ];
     for (texts, want) in rows {
         let got = bad_word(alloc, texts)?;
@@ -89,7 +97,7 @@ fn commands_and_names(rt: HostRuntime) -> Result<(), Fail> {
 #[test]
 fn options_and_their_values(rt: HostRuntime) -> Result<(), Fail> {
     let alloc = rt.alloc();
-    let rows: [(&[&str], Option<usize>); 44] = [
+    let rows: [(&[&str], Option<usize>); 52] = [
         (&["--criteria"], Some(4)),
         (&["--criteria="], Some(4)),
         (&["--criteria=rule,"], Some(4)),
@@ -148,7 +156,15 @@ fn options_and_their_values(rt: HostRuntime) -> Result<(), Fail> {
             ],
             Some(4),
         ),
-        (&["--weigh=bytes"], Some(4)),
+        (&["--weigh="], Some(4)),
+        (&["--weigh=Bytes"], Some(4)),
+        (&["--weigh=nodes,bytes"], Some(4)),
+        (&["--weigh=nodes", "--weigh=bytes"], Some(5)),
+        (&["--format"], Some(4)),
+        (&["--format=12"], Some(4)),
+        (&["--format=1", "--format=1"], Some(5)),
+        (&["--format=2", "--bases=1", "--format=1"], Some(6)),
+        (&["--format=1", "--separator=a", "--weigh=bytes"], None),
         (&["--separator=a", "--criteria=rule", "--bases=1"], None),
     ];
     for (texts, want) in rows {
@@ -170,6 +186,8 @@ fn names_and_defaults(rt: HostRuntime) -> Result<(), Fail> {
             assert!(rt; options.criteria.rule && options.criteria.cdrc && options.criteria.pair);
             assert_eq!(rt; options.bases, 16);
             assert!(rt; options.separator.bytes() == b" ".as_slice());
+            assert_eq!(rt; options.weigh, Weigh::Nodes);
+            assert_eq!(rt; options.format, Format::Two);
         }
         _ => assert!(rt; false),
     }
@@ -185,8 +203,10 @@ fn settings(rt: HostRuntime) -> Result<(), Fail> {
             "suite",
             "g.y",
             "g.y",
+            "--format=1",
             "--separator=\\x41b\\x0a",
             "--bases=0007",
+            "--weigh=bytes",
             "--mutate=none",
             "--criteria=pair,rule",
         ],
@@ -198,6 +218,8 @@ fn settings(rt: HostRuntime) -> Result<(), Fail> {
             assert!(rt; !options.operators.replace && !options.operators.swap);
             assert_eq!(rt; options.bases, 7);
             assert!(rt; options.separator.bytes() == b"Ab\n".as_slice());
+            assert_eq!(rt; options.weigh, Weigh::Bytes);
+            assert_eq!(rt; options.format, Format::One);
         }
         _ => assert!(rt; false),
     }

@@ -23,16 +23,20 @@ pub struct Ended {
     pub err: MemorySink,
 }
 
-/// A run of the words `suite y l`.
+/// The words of a suite of the first format.
+pub const FIRST: &[&str] = &["suite", "y", "l", "--format=1"];
+
+/// A run of these words, on the files `y` and `l`.
 pub fn suite<R: Threads + Sync>(
     rt: &R,
     alloc: Global,
+    texts: &[&str],
     yacc: &[u8],
     lex: &[u8],
 ) -> Result<Ended, AllocError> {
     let mut words = Vec::new(alloc);
-    for word in ["suite", "y", "l"] {
-        words.push(String::from_str(alloc, word)?)?;
+    for text in texts {
+        words.push(String::from_str(alloc, text)?)?;
     }
     let mut files = Vec::new(alloc);
     files.push((String::from_str(alloc, "y")?, yacc.to_vec(alloc)?))?;
@@ -52,12 +56,12 @@ pub fn is_refused<R: Threads + Sync>(
     lex: &[u8],
     line: &str,
 ) -> Result<bool, AllocError> {
-    let ended = suite(rt, alloc, yacc, lex)?;
+    let ended = suite(rt, alloc, &["suite", "y", "l"], yacc, lex)?;
     let is_told = ended.err.written() == line.as_bytes();
     Ok(ended.status == 1 && ended.out.written().is_empty() && is_told)
 }
 
-/// Whether the files are accepted, and the output ends so.
+/// Whether the files are accepted, and their suite of the first format ends so.
 pub fn is_written<R: Threads + Sync>(
     rt: &R,
     alloc: Global,
@@ -65,7 +69,7 @@ pub fn is_written<R: Threads + Sync>(
     lex: &[u8],
     end: &[u8],
 ) -> Result<bool, AllocError> {
-    let ended = suite(rt, alloc, yacc, lex)?;
+    let ended = suite(rt, alloc, FIRST, yacc, lex)?;
     let is_silent = ended.err.written().is_empty();
     Ok(ended.status == 0 && ended.out.written().ends_with(end) && is_silent)
 }

@@ -1,6 +1,6 @@
 // The three kinds of line ends. In both files a carriage return is a blank; a line of a lex file ends at a newline alone.
 
-use crate::ending::suite;
+use crate::ending::{FIRST, suite};
 use std::test::Fail;
 
 // The suite of one word of one letter: the example of docs/FORMATS.md's lines, written out by hand.
@@ -48,7 +48,7 @@ fn line_ends_change_nothing(rt: HostRuntime) -> Result<(), Fail> {
     ];
     for yacc in grammars {
         for lex in scanners {
-            let ended = suite(&rt, alloc, yacc, lex)?;
+            let ended = suite(&rt, alloc, FIRST, yacc, lex)?;
             assert_eq!(rt; ended.status, 0);
             assert_eq!(rt; ended.out.written(), LETTER_SUITE);
         }

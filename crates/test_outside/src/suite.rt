@@ -38,8 +38,11 @@ end goals 4 feasible 4 infeasible 0 large 0 negatives 0
 ";
 
 fn suite_words(alloc: Global) -> Result<Vec<String>, AllocError> {
-    let options = ["--criteria=rule", "--mutate=none"];
-    words(alloc, &["suite", "g1.y", "l1.l", options[0], options[1]])
+    let options = ["--criteria=rule", "--mutate=none", "--format=1"];
+    words(
+        alloc,
+        &["suite", "g1.y", "l1.l", options[0], options[1], options[2]],
+    )
 }
 
 // A read that isn't asked for fails nothing.

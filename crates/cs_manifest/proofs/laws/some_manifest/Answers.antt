@@ -3,5 +3,5 @@ use Rattle.cs_manifest.proofs.Texts.{some_lexemes_by, some_rendering_by}
 use Rattle.cs_manifest.proofs.laws.some_manifest.Goals as goal
 
 pub returns : goal.returns
-returns c = λ w choice file.
-    some_manifest_by w choice file (some_rendering_by c.some_rendering.ensures choice.texts) (some_lexemes_by c.some_list_of_lexemes.ensures choice.texts file.grammar.tokens)
+returns c = λ choice file.
+    some_manifest_by choice file (some_rendering_by c.some_rendering.ensures) (some_lexemes_by c.some_list_of_lexemes.ensures choice.texts file.grammar.tokens)

@@ -3,10 +3,10 @@ use Rattle.std.specs.Global.{Vec}
 use Rattle.std.specs.Vec.Iter.{into_iter_items}
 use Rattle.std.specs.List.{AllZip}
 use Rattle.cs_positive.specs.declared.positive.Positive.{Positive}
-use Rattle.cs_plan.specs.Plans.{IsEntryIn}
+use Rattle.cs_plan.specs.Plans.{IsEntryIn, texts_in}
 use Rattle.cs_plan.specs.Waiting.{AreRenderingsOf, TakesLists, goals_of}
 use Rattle.cs_plan.proofs.Gathering.{takes_lists}
-use Rattle.cs_plan.proofs.Joining.{are_named, are_next, empty, joining_all, joining_has, joining_more, joining_none}
+use Rattle.cs_plan.proofs.Joining.{IsFullEntry, are_named, are_next, empty, in_plan, joining_all, joining_has, joining_more, joining_none, texts_of_goals}
 use Rattle.cs_plan.proofs.batch.next_entries.Given.{Over}
 use Rattle.cs_plan.proofs.batch.next_entries.Goals as goal
 
@@ -15,7 +15,7 @@ render_lists-requires-clause-takes g c κs within =
     let plan = c.args.plan.now in
     let of = c.args.positives.now.tables in
     let gathered = c.in_ok-goals.ensures.gathered in
-    subst (λ (l : List (Vec ℕ)). TakesLists plan.texts l) (sym c.deref.ensures.value) (takes_lists plan.yacc.now c.requires.plan.file of c.requires.positives.grammar c.requires.positives.weights plan.texts c.requires.plan.texts c.in_ok-goals.field-0.goals.items c.in_ok-goals.field-0.lists.items gathered.judged gathered.are_lists)
+    subst (λ (l : List (Vec ℕ)). TakesLists plan.texts l) (sym c.deref.ensures.value) (takes_lists plan.yacc.now c.requires.plan.file of c.requires.positives.grammar c.requires.positives.measure plan.texts c.requires.plan.texts c.in_ok-goals.field-0.goals.items c.in_ok-goals.field-0.lists.items gathered.judged gathered.are_lists)
 
 pub loop-positive-init : goal.loop-positive-init
 loop-positive-init g c =
@@ -39,11 +39,12 @@ all_joined g c =
     let entries = c.loop-positive.entries.items in
     let left = c.loop-positive.positive-iterator in
     let none = empty (into_iter_items left) left.rest.len left.rest.ok.0 c.in-None.ensures.steps.0 in
-    subst (λ (l : List Positive). AllZip (IsEntryIn plan of) (goals_of l) entries) c.into_iter-positive-iterator.ensures.into_iter_gives.0 (joining_all plan of (into_iter_items c.into_iter-positive-iterator.result) (into_iter_items left) (into_iter_items c.loop-positive.lists) (into_iter_items c.loop-positive.rendered) entries c.loop-positive.invariant none)
+    in_plan plan of (texts_in plan) (texts_of_goals plan c.requires.first) (goals_of c.in_ok-goals.field-0.goals.items) entries (
+    subst (λ (l : List Positive). AllZip (IsFullEntry plan of) (goals_of l) entries) c.into_iter-positive-iterator.ensures.into_iter_gives.0 (joining_all plan of (into_iter_items c.into_iter-positive-iterator.result) (into_iter_items left) (into_iter_items c.loop-positive.lists) (into_iter_items c.loop-positive.rendered) entries c.loop-positive.invariant none))
 
 pub returns-clause-entries : goal.returns-clause-entries
 returns-clause-entries g c =
-    are_next c.args.plan.now c.args.positives.now c.gather.new.positives c.in_ok-goals.field-0.goals.items c.in_ok-goals.field-0.lists.items c.loop-positive.entries.items c.in_ok-goals.ensures.gathered c.in_ok-goals.ensures.some (all_joined g c)
+    are_next c.args.plan.now c.args.positives.now c.gather.new.positives c.in_ok-goals.field-0.goals.items c.loop-positive.entries.items c.in_ok-goals.ensures.gathered.split c.in_ok-goals.ensures.some (all_joined g c)
 
 pub returns-clause-named : goal.returns-clause-named
 returns-clause-named g c =

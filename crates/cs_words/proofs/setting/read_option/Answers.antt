@@ -17,5 +17,5 @@ returns-in_err-read_operators-clause-none c =
 pub returns-in_err-value-clause-none : goal.returns-in_err-value-clause-none
 returns-in_err-value-clause-none c =
     let none : (setting : Setting) → IsOption c.args.word.now setting → ⊥ =
-    no_mark c.args.word.now c.in_default.ensures.none c.in_default-behind.ensures.none c.in_default-behind-2.ensures.none c.in_err-value.ensures.none in
+    no_mark c.args.word.now c.in_default.ensures.none c.in_default-behind.ensures.none c.in_default-behind-2.ensures.none c.in_default-behind-3.ensures.none c.in_default-behind-4.ensures.none c.in_err-value.ensures.none in
     none_where _ none

@@ -3,7 +3,6 @@ use Rattle.cs_automaton.specs.Counted.{IsAbove}
 use Rattle.cs_automaton.specs.Meaning.{res}
 use Rattle.cs_automaton.specs.Places.{InSet}
 use Rattle.cs_pattern_tree.specs.Pattern.{Regex, regexes}
-use Rattle.cs_grammar.specs.Weights.{nodes}
 use Rattle.cs_writer.proofs.Choices.{of_suite, suite_of}
 use Rattle.cs_writer.proofs.Halts.{stopped_failed, stopped_many, stopped_states}
 use Rattle.cs_writer.proofs.Parts.{grew_by, grew_part, has_counts, has_room, no_part, on_err}
@@ -26,12 +25,11 @@ returns-in_err-weights-clause-part g c = on_err _ _ (no_part _ _)
 
 pub returns-in_err-write_goals-clause-part : goal.returns-in_err-write_goals-clause-part
 returns-in_err-write_goals-clause-part g c =
-    let w = nodes c.args.pair.yacc.grammar.tokens in
     let patterns = ap regexes c.in_ok-automaton.ensures.patterns ∙ c.patterns.ensures.patterns in
     on_err _ _
     (grew_part _ _
     (of_suite c.args.pair.yacc c.args.pair.lex c.args.options _ _ _ _ patterns c.kinds.ensures.kinds c.literals.ensures.literals
-    c.bytes.ensures.bytes w) _ _ c.in_err-write_goals.ensures.part)
+    c.bytes.ensures.bytes) _ _ c.in_err-write_goals.ensures.part)
 
 pub returns-in_err-write_goals-clause-failed : goal.returns-in_err-write_goals-clause-failed
 returns-in_err-write_goals-clause-failed g c = λ is.
@@ -47,34 +45,30 @@ returns-in_err-write_goals-clause-unused g c = λ is.
 
 pub returns-in_err-write_goals-clause-room : goal.returns-in_err-write_goals-clause-room
 returns-in_err-write_goals-clause-room g c = λ fits.
-    let w = nodes c.args.pair.yacc.grammar.tokens in
     let patterns = ap regexes c.in_ok-automaton.ensures.patterns ∙ c.patterns.ensures.patterns in
     c.write_goals.ensures.room
     (has_room _ _
     (suite_of c.args.pair.yacc c.args.pair.lex c.args.options _ _ _ _ patterns c.kinds.ensures.kinds c.literals.ensures.literals
-    c.bytes.ensures.bytes w) _ fits)
+    c.bytes.ensures.bytes) _ fits)
 
 pub returns-clause-ok : goal.returns-clause-ok
 returns-clause-ok g c =
-    let w = nodes c.args.pair.yacc.grammar.tokens in
     let patterns = ap regexes c.in_ok-automaton.ensures.patterns ∙ c.patterns.ensures.patterns in
     grew_by _ _
     (suite_of c.args.pair.yacc c.args.pair.lex c.args.options _ _ _ _ patterns c.kinds.ensures.kinds c.literals.ensures.literals
-    c.bytes.ensures.bytes w) _ _ c.in_ok-write_goals.ensures.ok
+    c.bytes.ensures.bytes) _ _ c.in_ok-write_goals.ensures.ok
 
 pub returns-clause-counts : goal.returns-clause-counts
 returns-clause-counts g c =
-    let w = nodes c.args.pair.yacc.grammar.tokens in
     let patterns = ap regexes c.in_ok-automaton.ensures.patterns ∙ c.patterns.ensures.patterns in
     has_counts _ _
     (of_suite c.args.pair.yacc c.args.pair.lex c.args.options _ _ _ _ patterns c.kinds.ensures.kinds c.literals.ensures.literals
-    c.bytes.ensures.bytes w) _ c.in_ok-write_goals.ensures.counts
+    c.bytes.ensures.bytes) _ c.in_ok-write_goals.ensures.counts
 
 pub returns-clause-room : goal.returns-clause-room
 returns-clause-room g c = λ fits.
-    let w = nodes c.args.pair.yacc.grammar.tokens in
     let patterns = ap regexes c.in_ok-automaton.ensures.patterns ∙ c.patterns.ensures.patterns in
     c.write_goals.ensures.room
     (has_room _ _
     (suite_of c.args.pair.yacc c.args.pair.lex c.args.options _ _ _ _ patterns c.kinds.ensures.kinds c.literals.ensures.literals
-    c.bytes.ensures.bytes w) _ fits)
+    c.bytes.ensures.bytes) _ fits)

@@ -1,4 +1,4 @@
-use Rattle.std.proofs.Common.{◌≡◌, ◌∙◌, List, ℕ, sym, subst, rules}
+use Rattle.std.proofs.Common.{List, ℕ, subst, rules}
 use Rattle.std.specs.Prelude.{string_bytes}
 use Rattle.cs_input.specs.declared.refusal.Stop.{Stop}
 use Rattle.cs_input.specs.Files.{IsPairOf}
@@ -29,4 +29,4 @@ returns g c =
     if_ok_more c.line.result c.line.ensures.line
     (λ line said.
     files_summary c.args.seed files pair c.in_ok-files.ensures.yacc c.in_ok-files.ensures.lex of named c.in_ok-files.ensures.few_sets c.in_ok-counts.counts
-    c.in_ok-counts.ensures.counts c.line.ensures.short c.in_ok-counts.ensures.some (string_bytes line) said)
+    c.in_ok-counts.ensures.counts c.in_ok-counts.ensures.first c.line.ensures.short c.in_ok-counts.ensures.some (string_bytes line) said)

@@ -1,6 +1,6 @@
 use Rattle.std.proofs.Common.{◌≡◌, ◌+◌, take}
 use Rattle.cs_manifest.specs.Sinks.{IsWritten}
-use Rattle.cs_writing.specs.Written.{counts_behind, lines_from}
+use Rattle.cs_writing.specs.Written.{AreCounted, lines_from}
 use Rattle.cs_writing.proofs.writing.write_batch.Given as goal
 
 -- the first entries are written and counted
@@ -8,6 +8,6 @@ abbrev pub invariant-loop-made : goal.invariant-loop-made
 invariant-loop-made g l = record {
   file : l.manifest.file ≡ l.fn.manifest.file;
   number : l.number ≡ l.fn.number + l.made-index;
-  counted : l.manifest.counts ≡ counts_behind l.fn.manifest.file (l.fn.number + 1) (take l.made-index l.batch) l.fn.manifest.counts;
+  counted : AreCounted (take l.made-index l.batch) 0 (lines_from l.fn.manifest.file (l.fn.number + 1) (take l.made-index l.batch)) l.fn.manifest.counts l.manifest.counts;
   written : IsWritten g.S.Sink (lines_from l.fn.manifest.file (l.fn.number + 1) (take l.made-index l.batch)) l.fn.sink l.sink;
 }

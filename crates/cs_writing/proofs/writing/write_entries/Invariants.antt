@@ -1,4 +1,5 @@
 use Rattle.std.proofs.Common.{◌≡◌, length}
+use Rattle.cs_cases.specs.Cases.{no_cases}
 use Rattle.cs_writing.proofs.SoFar.{SoFar}
 use Rattle.cs_writing.proofs.writing.write_entries.Given as goal
 
@@ -6,7 +7,7 @@ abbrev pub invariant-batches : goal.invariant-batches
 invariant-batches g l = record {
   tables : l.positives.tables ≡ l.fn.positives.tables;
   file : l.manifest.file ≡ l.plan.yacc.now;
-  so_far : SoFar g.S.Sink l.plan l.fn.positives.tables l.positives.goals l.number l.bases l.fn.manifest.counts l.manifest.counts l.fn.sink l.sink;
+  so_far : SoFar g.S.Sink l.plan l.fn.positives.tables l.positives.goals l.number (no_cases l.plan.yacc.now.grammar) l.bases l.fn.manifest.counts l.manifest.counts l.fn.sink l.sink;
 }
 
 abbrev pub decreases-batches : goal.decreases-batches

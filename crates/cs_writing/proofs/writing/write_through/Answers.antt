@@ -16,17 +16,15 @@ pub returns-in_err-counts-clause-failed : goal.returns-in_err-counts-clause-fail
 returns-in_err-counts-clause-failed g c = λ stopped.
     let p = err_from_is_err_and c.from_residual.result c.from_residual.ensures.1 in
     let plan = c.args.plan.now in
-    let of = c.args.positives.tables in
-    let some = c.some_manifest.ensures of.weights (choice_in plan) plan.yacc.now in
-    rose_by_each (IsPlanned of.weights plan) some (g.O.Sink.faults c.args.sink.now.sink.now) (g.O.Sink.faults c.write_manifest.new.sink.sink.now)
+    let some = c.some_manifest.ensures (choice_in plan) plan.yacc.now in
+    rose_by_each (IsPlanned plan) some (g.O.Sink.faults c.args.sink.now.sink.now) (g.O.Sink.faults c.write_manifest.new.sink.sink.now)
     (λ text is. let s = c.in_err-counts.ensures.text text is in s.failed (let q = p.1 in let r = p.2 in cc))
 
 pub returns-in_err-counts-clause-room : goal.returns-in_err-counts-clause-room
 returns-in_err-counts-clause-room g c = λ room.
     let plan = c.args.plan.now in
-    let of = c.args.positives.tables in
-    let some = c.some_manifest.ensures of.weights (choice_in plan) plan.yacc.now in
-    same_by_each (IsPlanned of.weights plan) some (g.O.Sink.faults c.write_manifest.new.sink.sink.now) (g.O.Sink.faults c.args.sink.now.sink.now)
+    let some = c.some_manifest.ensures (choice_in plan) plan.yacc.now in
+    same_by_each (IsPlanned plan) some (g.O.Sink.faults c.write_manifest.new.sink.sink.now) (g.O.Sink.faults c.args.sink.now.sink.now)
     (λ text is.
     let s = c.in_err-counts.ensures.text text is in
     let fits = room text is in
@@ -36,8 +34,7 @@ pub returns-in_err-flush-clause-part : goal.returns-in_err-flush-clause-part
 returns-in_err-flush-clause-part g c =
     let p = err_from_is_err_and c.from_residual-in_err-flush.result c.from_residual-in_err-flush.ensures.1 in
     let plan = c.args.plan.now in
-    let of = c.args.positives.tables in
-    let one = c.one_manifest.ensures of.weights (choice_in plan) plan.yacc.now in
+    let one = c.one_manifest.ensures (choice_in plan) plan.yacc.now in
     let t = c.in_ok-counts.ensures.text in
     let f = c.in_err-flush.ensures in
     let part = whole_lent g.O.Sink.written c.args.sink.now c.flush.new.self t.text c.requires.waiting (f.written ∙ t.written.written) (omega (arith, f.passed, t.written.passed)) in

@@ -1,0 +1,15 @@
+use Rattle.std.proofs.Common.{◌≡◌, ◌+◌, take}
+use Rattle.cs_manifest.specs.Sinks.{IsWritten}
+use Rattle.cs_plan.specs.Batches.{entries_in}
+use Rattle.cs_writing.specs.Written.{AreCounted, new_cases, shared_lines_from}
+use Rattle.cs_writing.proofs.shared.write_batch.Given as goal
+
+-- the first entries are written and counted
+abbrev pub invariant-loop-made : goal.invariant-loop-made
+invariant-loop-made g l = record {
+  file : l.manifest.file ≡ l.fn.manifest.file;
+  number : l.number ≡ l.fn.number + l.made-index;
+  counted : AreCounted (entries_in (take l.made-index l.batch)) (new_cases (take l.made-index l.batch)) (shared_lines_from l.fn.manifest.file (l.fn.number + 1) (take l.made-index l.batch))
+      l.fn.manifest.counts l.manifest.counts;
+  written : IsWritten g.S.Sink (shared_lines_from l.fn.manifest.file (l.fn.number + 1) (take l.made-index l.batch)) l.fn.sink l.sink;
+}

@@ -1,0 +1,120 @@
+// The entries of goals in the second format.
+
+ghost use Rattle.std.specs.Prelude.{◌≡◌, ◌+◌, ◌≤◌, All, IfOk, IsSome, OnOk, length};
+ghost use Rattle.cs_goals.specs.Goals.{goals};
+ghost use Rattle.cs_io.specs.Faults.{greatest};
+ghost use Rattle.cs_plan.specs.Made.{IsNamedSharedEntry};
+ghost use Rattle.cs_plan.specs.Plans.{IsOfPlan, IsPlan};
+ghost use Rattle.cs_writing.specs.Written.{AreBasesOf, AreWithin, CountsCase, CountsEntry, CountsGoals, CountsShared};
+ghost use Rattle.cs_writing.specs.Written.{IsCountedAlike, IsFresh, IsGoalsText, PutsCase, PutsEntry, PutsOne};
+ghost use Rattle.cs_writing.specs.Written.{PutsShared};
+
+use crate::bases::keep_shared;
+use crate::halt::Halt;
+use cs_bases::Bases;
+use cs_cases::Cases;
+use cs_fan::Gate;
+use cs_io::{Sink, SinkError};
+use cs_manifest::{Manifest, one_text};
+use cs_plan::{MadeShared, Plan, next_shared};
+use cs_positive::Positives;
+use std::alloc::Global;
+use std::thread::Threads;
+
+/// Writes the entries of all goals in the second format, numbered from 1, each behind its case where
+/// that is new, and answers their bases.
+pub fn write_shared<R: Threads + Sync, S: Sink, G: Gate + Sync>(
+    rt: &R,
+    alloc: Global,
+    plan: &Plan<'_>,
+    positives: &mut Positives<'_>,
+    manifest: &mut Manifest<'_>,
+    sink: &mut S,
+    gate: &G,
+) -> Result<Bases, Halt>
+    requires plan { IsPlan plan.now }
+    requires second { IsSome plan.now.closed }
+    requires grammar { IsOfPlan plan.now positives.old }
+    requires all { positives.old.goals ≡ goals positives.old.tables.grammar plan.now.criteria }
+    requires file { manifest.old.file ≡ plan.now.yacc.now }
+    requires fresh { IsFresh plan.now manifest.old.counts }
+    ensures file { OnOk result (manifest.new.file ≡ plan.now.yacc.now) }
+    ensures text { PutsOne S.Sink (IsGoalsText plan.now positives.old) sink.old sink.new result }
+    ensures counted { OnOk result
+        (CountsGoals plan.now positives.old manifest.old manifest.new) }
+    ensures bases { IfOk result (AreBasesOf plan.now positives.old) }
+    ensures lent { S.lent sink.new ≡ S.lent sink.old }
+{
+    one_text();
+    let mut bases = Bases::new(alloc, plan.most_bases());
+    let mut cases = Cases::new(alloc, plan.yacc.grammar());
+    let mut number = 0u64;
+    'batches: loop {
+        let batch = next_shared(rt, alloc, plan, positives, &mut cases, gate)?;
+        if batch.is_empty() {
+            return Ok(bases);
+        }
+        keep_shared(&mut bases, number, &batch)?;
+        write_batch(manifest, sink, &mut number, &batch)?;
+    }
+}
+
+// Writes these entries. `number` is the number of the last entry, before and then.
+fn write_batch<S: Sink>(
+    manifest: &mut Manifest<'_>,
+    sink: &mut S,
+    number: &mut u64,
+    batch: &[MadeShared],
+) -> Result<(), SinkError>
+    requires named { All (IsNamedSharedEntry manifest.old.file) batch.now }
+    requires alike { All IsCountedAlike batch.now }
+    requires within { AreWithin number.old manifest.old.counts }
+    requires few { number.old + length batch.now ≤ greatest }
+    ensures file { manifest.new.file ≡ manifest.old.file }
+    ensures number { OnOk result (number.new ≡ number.old + length batch.now) }
+    ensures counted { OnOk result (CountsShared number.old batch.now manifest.old manifest.new) }
+    ensures lines { PutsShared S.Sink manifest.old number.old batch.now sink.old sink.new result }
+{
+    for made in batch {
+        *number += 1;
+        write_entry(manifest, sink, *number, made)?;
+    }
+    Ok(())
+}
+
+// Writes an entry with its number, behind its case where that is new.
+fn write_entry<S: Sink>(
+    manifest: &mut Manifest<'_>,
+    sink: &mut S,
+    number: u64,
+    made: &MadeShared,
+) -> Result<(), SinkError>
+    requires named { IsNamedSharedEntry manifest.old.file made.now }
+    ensures file { manifest.new.file ≡ manifest.old.file }
+    ensures counted { OnOk result (CountsEntry number made.now manifest.old manifest.new) }
+    ensures lines { PutsEntry S.Sink manifest.old number made.now sink.old sink.new result }
+{
+    write_case(manifest, sink, made)?;
+    manifest.entry(sink, &made.goal(number))?;
+    Ok(())
+}
+
+// Writes the case of an entry, where that is new.
+fn write_case<S: Sink>(
+    manifest: &mut Manifest<'_>,
+    sink: &mut S,
+    made: &MadeShared,
+) -> Result<(), SinkError>
+    requires named { IsNamedSharedEntry manifest.old.file made.now }
+    ensures file { manifest.new.file ≡ manifest.old.file }
+    ensures counted { OnOk result (CountsCase made.now manifest.old manifest.new) }
+    ensures lines { PutsCase S.Sink manifest.old made.now sink.old sink.new result }
+{
+    match made.case() {
+        None => Ok(()),
+        Some(case) => {
+            manifest.entry(sink, &case)?;
+            Ok(())
+        }
+    }
+}
