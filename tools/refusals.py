@@ -1,9 +1,10 @@
 """One sentence for each line that the program writes on its error output: what is meant, and what to do."""
 
 USAGE = """usage: conform suite YACC LEX [--criteria=LIST] [--mutate=LIST] [--bases=NUMBER] [--separator=BYTES]
+                     [--weigh=WHAT] [--format=NUMBER]
   writes the goals of a yacc file, each with a least derivation, the tokens that it yields and, by the lex file, a text,
   and mutants that are no sentences; --criteria= takes rule, cdrc and pair, --mutate= takes delete, insert, replace and swap,
-  or none, with commas between them
+  or none, with commas between them; --weigh= takes nodes or bytes, --format= takes 1 or 2
        conform rules YACC
   writes the rule goals of a yacc file alone, without texts
        conform gen NUMBER
