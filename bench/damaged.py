@@ -86,7 +86,7 @@ def faults(status, size, end, err, seconds):
     lines = err.decode(errors="replace").splitlines()
     if status not in (0, 1, 5):
         yield f"status {status}"
-    if status == 0 and (lines or not re.search(rb"\nend goals \d+ feasible \d+ infeasible \d+ large \d+ negatives \d+\n\Z", end)):
+    if status == 0 and (lines or not re.search(rb"\nend goals \d+ feasible \d+ infeasible \d+ large \d+ negatives \d+( cases \d+)?\n\Z", end)):
         yield "a good run without a last line, or with a line on the error output"
     if status == 1 and size:
         yield "output on a refusal"
@@ -127,7 +127,7 @@ def task(seed, number):
     grammar, scanner = draw.choice(PAIRS)
     which = draw.randrange(3)
     grammar, scanner = (damaged(draw, grammar, scanner) if which != 1 else grammar), (damaged(draw, scanner, grammar) if which else scanner)
-    words = ["rules", "g.y"] if draw.random() < 0.25 else ["suite", "g.y", "g.l", "--bases=2"]
+    words = ["rules", "g.y"] if draw.random() < 0.25 else ["suite", "g.y", "g.l", "--bases=2", *draw.choice(OPTIONS)]
     return words, {"g.y": grammar, "g.l": scanner}
 
 
@@ -162,6 +162,7 @@ def begin(path, folder):
 
 
 PAIRS = pairs()
+OPTIONS = ([], ["--format=1"], ["--weigh=bytes"])
 PLACE = None
 
 

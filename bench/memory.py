@@ -72,7 +72,8 @@ def example(name):
 COMMANDS = [
     ["rules", example("g1.y")],
     ["rules", example("calculator.y")],
-    ["suite", example("g1.y"), example("l1.l"), "--bases=2"],
+    ["suite", example("g1.y"), example("l1.l"), "--bases=2", "--format=1"],
+    ["suite", example("g1.y"), example("l1.l"), "--bases=2", "--weigh=bytes"],
     ["suite", example("lists.y"), example("lists.l"), "--criteria=rule", "--bases=1"],
     ["gen", "1"],
 ]

@@ -24,12 +24,26 @@ def example(name):
         return file.read()
 
 
+def expressions():
+    return example("cexpr.y"), example("cexpr.l")
+
+
+def pairs():
+    return random_rules(1024, 8, 12, 1), scanner()
+
+
+def long_sentence():
+    return one_sentence(), scanner()
+
+
 # The files, the words, how many runs, the most seconds and the most memory.
 ROWS = [
-    ("the C expressions without mutants", lambda: (example("cexpr.y"), example("cexpr.l")), ["--mutate=none"], 5, 0.02, None),
-    ("the C expressions", lambda: (example("cexpr.y"), example("cexpr.l")), [], 5, 0.05, None),
-    ("all pairs of 8,192 rules", lambda: (random_rules(1024, 8, 12, 1), scanner()), ["--mutate=none", "--criteria=pair"], 2, 3, 60),
-    ("8,192 rules and one sentence, all criteria", lambda: (one_sentence(), scanner()), ["--mutate=none"], 2, None, 60),
+    ("the C expressions without mutants", expressions, ["--mutate=none", "--format=1"], 5, 0.02, None),
+    ("the C expressions, first format", expressions, ["--format=1"], 5, 0.05, None),
+    ("the C expressions", expressions, [], 5, 0.05, None),
+    ("all pairs of 8,192 rules, first format", pairs, ["--mutate=none", "--criteria=pair", "--format=1"], 2, 3, 60),
+    ("all pairs of 8,192 rules", pairs, ["--mutate=none", "--criteria=pair"], 2, 4, 80),
+    ("8,192 rules and one sentence, all criteria, first format", long_sentence, ["--mutate=none", "--format=1"], 2, None, 60),
 ]
 
 
@@ -48,7 +62,7 @@ def copying(size):
 
 def many_bases(path, bounds):
     """Negatives of 1,000 bases over 150 tokens, beside copying the output."""
-    run = SuiteRun(path, many_sentences(150, 1000), scanner(150), ["--criteria=rule", "--bases=1000"])
+    run = SuiteRun(path, many_sentences(150, 1000), scanner(150), ["--criteria=rule", "--bases=1000", "--format=1"])
     copied = copying(run.written)
     print(f"1,000 bases over 150 tokens: status {run.status}, {run.written} bytes out {run.said}; {run.megabytes:.3g} MB")
     bounds.row("  time, against copying the output", run.seconds / max(copied, 0.001), 3, "times")
