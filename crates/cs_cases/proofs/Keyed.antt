@@ -1,6 +1,7 @@
 -- Goals and codes as the keys of tables.
 use Rattle.std.proofs.Common.{◌≡◌, ℕ, ◌+◌, ◌-◌, ◌<◌, ◌||◌, ◌&&◌, Bool, true, false, cond, List, [], ◌∷◌, ◌++◌, length, get_or, refl, sym, ap, ◌∙◌, arith}
 use Rattle.std.specs.Prelude.{Option, Some, None, is_some, position, slice_get, Contains}
+use Rattle.std.specs.Bool.{OnTrue}
 use Rattle.std.specs.Cmp.{IsEquivalence}
 use Rattle.std.specs.Global.{Vec}
 use Rattle.std.specs.List.{list_any, position_or_len}
@@ -92,7 +93,7 @@ mark_key-mark_of Begin = refl
 mark_key-mark_of (Token t) = refl
 mark_key-mark_of End = refl
 
-goal_of-key_of : (q : Goal) → goal_of (key_of q) ≡ q
+pub goal_of-key_of : (q : Goal) → goal_of (key_of q) ≡ q
 goal_of-key_of (goal.Rule r) = refl
 goal_of-key_of (goal.Context p i q) = refl
 goal_of-key_of (goal.Pair a b) = ap (λ (m : Mark). goal.Pair m (mark_of (mark_key b))) (mark_of-mark_key a) ∙ ap (λ (m : Mark). goal.Pair a m) (mark_of-mark_key b)
@@ -143,6 +144,18 @@ pub known_key : (q : Goal) (key : Key) (es : List (Key × ℕ)) → key ≡ key_
 known_key q key es is there =
     let some = some_is (lookup (keys.eq-value.it key) es) there in
     (some.0, found_number q some.0 es (ap (λ (k : Key). lookup (keys.eq-value.it k) es) (sym is) ∙ some.1))
+
+pub on_true : (b : Bool) (P : Type 0) → b ≡ true → OnTrue b P → P
+on_true true P e h = h
+on_true false P e h = absurd (false≢true e)
+
+-- a key that equals one that is there
+pub known_place : (known key : Key) (es : List (Key × ℕ)) (n : ℕ) (equal : Bool) → equal ≡ keys.eq-value.it known key → lookup (keys.eq-value.it known) es ≡ Some n → OnTrue equal (HasNumber (firsts_in es) (goal_of key))
+known_place known key es n false is there = tt
+known_place known key es n true is there =
+    let same : known ≡ key = same_key known key (sym is) in
+    let found : lookup (keys.eq-value.it (key_of (goal_of key))) es ≡ Some n = ap (λ (k : Key). lookup (keys.eq-value.it k) es) (key_of-goal_of key ∙ sym same) ∙ there in
+    (n, found_number (goal_of key) n es found)
 
 pub new_key : (q : Goal) (key : Key) (es new : List (Key × ℕ)) (n : ℕ) → key ≡ key_of q → is_some (lookup (keys.eq-value.it key) es) ≡ false
     → (lookup (keys.eq-value.it key) es ≡ None → new ≡ es ++ (key, n) ∷ []) → HasNone (firsts_in es) q × (firsts_in new ≡ firsts_in es ++ (q, n) ∷ [])

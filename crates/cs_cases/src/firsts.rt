@@ -1,14 +1,24 @@
 // The first case of each goal that was met.
 
 ghost use Rattle.std.specs.Prelude.{◌≡◌, [], OnOk, OnErr, length, take};
-ghost use Rattle.cs_cases.specs.Table.{IsFound, IsAdded, AreAllAdded, IsGrown};
-ghost use Rattle.cs_cases.specs.Firsts.{key_of, mark_key};
+ghost use Rattle.std.specs.Bool.{OnTrue};
+ghost use Rattle.cs_cases.specs.Table.{IsFound, IsAdded, AreAllAdded, HasNumber, IsGrown};
+ghost use Rattle.cs_cases.specs.Firsts.{goal_of, key_of, mark_key};
 
 use cs_goals::Goal;
 use cs_grammar::Mark;
 use indexmap::IndexMap;
 use std::alloc::{AllocError, Global};
 use std::marker::Model;
+
+// So many slots for goals that came lately: a power of 2 below 2^32.
+const SLOTS: usize = 32_768;
+
+// 2^32 divided by the golden ratio: multiplicative hashing (Knuth, The Art of Computer Programming 3, 6.4).
+const SPREAD: u32 = 2_654_435_769;
+
+// How far a spread number is moved, so that it is below SLOTS.
+const SHIFT: u32 = 17;
 
 // A goal that can be hashed.
 #[derive(Clone, Copy, PartialEq, Eq, Hash)]
@@ -56,10 +66,38 @@ fn key_of(goal: Goal) -> Key
     }
 }
 
-// Goals, each with the number of a case.
+// The slot of a goal. Any would do: it says where to look first.
+fn slot_of(key: Key) -> usize {
+    let number = match key {
+        Key::Rule(rule) => rule as u32,
+        Key::Context {
+            outer,
+            place,
+            inner,
+        } => joined(joined(outer as u32, place), inner),
+        Key::Pair { left, right } => joined(number_of(left) as u32, number_of(right)),
+    };
+    (number.wrapping_mul(SPREAD) >> SHIFT) as usize
+}
+
+fn joined(number: u32, next: u16) -> u32 {
+    number.wrapping_mul(31).wrapping_add(next as u32)
+}
+
+fn number_of(mark: MarkKey) -> u16 {
+    match mark {
+        MarkKey::Begin => 0,
+        MarkKey::Token(token) => token,
+        MarkKey::End => u16::MAX,
+    }
+}
+
+// Goals, each with the number of a case. Trees share most of what they meet, so most goals that come are known: for each slot
+// `recent` has a place in the table, that of the last goal with this slot, where the search begins.
 #[derive(Drop)]
 pub(crate) struct Firsts {
     table: IndexMap<Key, u64>,
+    recent: Vec<usize>,
 }
 
 impl Model for Firsts {
@@ -78,6 +116,7 @@ impl Firsts {
     {
         Firsts {
             table: IndexMap::new(alloc),
+            recent: Vec::new(alloc),
         }
     }
 
@@ -107,10 +146,49 @@ impl Firsts {
         ensures refused { OnErr result (self.new ≡ self.old) }
     {
         let key = key_of(goal);
-        if !self.table.contains_key(&key) {
-            self.table.insert(key, number)?;
+        let slot = slot_of(key);
+        if self.is_recent(slot, key) {
+            return Ok(());
         }
+        let place = self.put(goal, number)?;
+        self.keep_recent(slot, place);
         Ok(())
+    }
+
+    // The same by a search of the whole table. Answers the place where the goal stands.
+    fn put(&mut self, goal: Goal, number: u64) -> Result<usize, AllocError>
+        ensures added { OnOk result (IsAdded self.old goal number self.new) }
+        ensures refused { OnErr result (self.new ≡ self.old) }
+    {
+        let key = key_of(goal);
+        if let Some(place) = self.table.get_index_of(&key) {
+            return Ok(place);
+        }
+        let place = self.table.len();
+        self.table.insert(key, number)?;
+        Ok(place)
+    }
+
+    // Whether the goal stands where its slot says.
+    fn is_recent(&self, slot: usize, key: Key) -> bool
+        ensures { OnTrue result (HasNumber self.now (goal_of key)) }
+    {
+        let Some(place) = self.recent.get(slot) else {
+            return false;
+        };
+        match self.table.get_index(*place) {
+            None => false,
+            Some((known, _)) => *known == key,
+        }
+    }
+
+    // A goal with this slot stands at this place.
+    fn keep_recent(&mut self, slot: usize, place: usize)
+        ensures { self.new ≡ self.old }
+    {
+        if let Some(recent) = self.recent.get_mut(slot) {
+            *recent = place;
+        }
     }
 
     // Adds the goals that have none. After a refusal some of them may be there.
@@ -118,6 +196,9 @@ impl Firsts {
         ensures added { OnOk result (AreAllAdded self.old goals.now number self.new) }
         ensures refused { OnErr result (IsGrown self.old self.new) }
     {
+        if self.recent.is_empty() {
+            self.recent.resize(SLOTS, 0)?;
+        }
         for goal in goals {
             self.add(*goal, number)?;
         }
