@@ -18,7 +18,7 @@ use Rattle.cs_cost.specs.declared.cost.Cost.{Cost}
 use Rattle.cs_cost.specs.Rank.{rank, cost_of, plus, sum_from, entry}
 use Rattle.cs_cost.specs.Chosen.{IsChosen, AreChosen}
 use Rattle.cs_cost.specs.Trees.{IsTreeOf, cost_in, node_cost, IsCostTable, IsFirstRule}
-use Rattle.cs_cost.specs.Parts.{IsText, IsWithin, Opens}
+use Rattle.cs_cost.specs.Parts.{IsText, IsWithin, IsGrown, Opens}
 use Rattle.cs_cost.proofs.Ranks.{rank-cost_of, plus_written, cost_least}
 use Rattle.cs_cost.proofs.TreeCosts.{forest_at_most, node_reached}
 use Rattle.cs_cost.proofs.ChosenTrees.{IsTree-chosen, AreTrees-chosen}
@@ -189,3 +189,7 @@ module _ (w : Measure) (table : List Cost) where
 pub rule_read : (g : PlainGrammar) (r : ℕ) (p q : Production) (rules : List Production) → IsRule g r p → rules ≡ g.rules → q ≡ get_or rules (r - 1) q → q ≡ p
 rule_read g r p q rules rule e read =
     read ∙ ap (λ (ps : List Production). get_or ps (r - 1) q) e ∙ get_or_from_slice_get g.rules (r - 1) p q rule.at
+
+-- what stands behind more stands behind all
+pub grown_more : (old mid new : List ℕ) → IsGrown old mid → IsGrown mid new → IsGrown old new
+grown_more old mid new f s = (f.0 ++ s.0, s.1 ∙ ap (λ (l : List ℕ). l ++ s.0) f.1 ∙ append_assoc old f.0 s.0)

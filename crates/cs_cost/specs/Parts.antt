@@ -37,11 +37,15 @@ pub record Opens (w : Measure) (g : PlainGrammar) (table : List Cost) (left : �
   pub pending : AreOnTop first.rule.right pending_old pending_new
   pub text : new ≡ old ++ number ∷ []
 
-abbrev pub OpensIn : Kept → ℕ → Vec Symbol → Vec Symbol → Vec ℕ → Vec ℕ → Type 0
+abbrev pub OpensIn : Kept → ℕ → Vec Symbol → Vec Symbol → List ℕ → List ℕ → Type 0
 OpensIn kept left pending_old pending_new old new =
-    Opens kept.weights kept.grammar kept.table left pending_old.items pending_new.items old.items new.items
+    Opens kept.weights kept.grammar kept.table left pending_old.items pending_new.items old new
 
 -- the codes of the chosen trees of the pending symbols come behind what stood there
-abbrev pub WritesTexts : Kept → Vec Symbol → Vec ℕ → Vec ℕ → Type 0
+abbrev pub WritesTexts : Kept → Vec Symbol → List ℕ → List ℕ → Type 0
 WritesTexts kept pending old new =
-    (text : List ℕ) → IsText kept.weights kept.grammar (reverse pending.items) text → new.items ≡ old.items ++ text
+    (text : List ℕ) → IsText kept.weights kept.grammar (reverse pending.items) text → new ≡ old ++ text
+
+-- rule numbers came behind those that stood there
+abbrev pub IsGrown : List ℕ → List ℕ → Type 0
+IsGrown old new = (more : List ℕ) × (new ≡ old ++ more)

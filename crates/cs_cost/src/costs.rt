@@ -14,6 +14,9 @@ use cs_grammar::{Derivation, Grammar, Symbol, Weights, put_on_top};
 use std::alloc::{AllocError, Global};
 use std::marker::Model;
 
+// Room for as many pending symbols is made at once.
+const USUAL_SYMBOLS: usize = 32;
+
 /// What the least tree of each symbol of a grammar costs by some weights, and which tree is chosen.
 #[derive(Debug, Drop)]
 pub struct Costs<'g> {
@@ -85,10 +88,9 @@ impl<'g> Costs<'g> {
         ensures err { OnErr result (into.new ≡ into.old) }
     {
         let alloc = *self.trees.table.allocator();
-        let mut pending = vec![in alloc; symbol]?;
-        let mut out = Vec::new(alloc);
-        write(&self.trees, &mut pending, &mut out)?;
-        into.extend_from_slice(&out)
+        let mut pending = Vec::with_capacity(alloc, USUAL_SYMBOLS)?;
+        pending.push(symbol)?;
+        write(&self.trees, &mut pending, into)
     }
 
     /// Appends the codes of the chosen trees of symbols, in their order, where some trees of them are together within the
@@ -103,10 +105,8 @@ impl<'g> Costs<'g> {
             return Ok(());
         }
         let alloc = *self.trees.table.allocator();
-        let mut pending = Vec::new(alloc);
+        let mut pending = Vec::with_capacity(alloc, USUAL_SYMBOLS)?;
         put_on_top(&mut pending, symbols)?;
-        let mut out = Vec::new(alloc);
-        write(&self.trees, &mut pending, &mut out)?;
-        into.extend_from_slice(&out)
+        write(&self.trees, &mut pending, into)
     }
 }

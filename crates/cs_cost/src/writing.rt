@@ -1,11 +1,11 @@
 // The codes of chosen trees, written from left to right.
 
-ghost use Rattle.std.specs.Prelude.{OnOk};
+ghost use Rattle.std.specs.Prelude.{◌≡◌, OnErr, OnOk};
 ghost use Rattle.cs_grammar.specs.Grammar.{IsNumberOf};
-ghost use Rattle.cs_cost.specs.Parts.{IsSmallIn, AreSmallIn, OpensIn, WritesTexts};
+ghost use Rattle.cs_cost.specs.Parts.{IsSmallIn, AreSmallIn, IsGrown, OpensIn, WritesTexts};
 
 use crate::trees::Trees;
-use cs_grammar::{Symbol, place_of, put_on_top};
+use cs_grammar::{Derivation, Symbol, place_of, put_on_top};
 use std::alloc::AllocError;
 
 // Writes the number of a nonterminal's first rule, and puts the rule's right side on top of what is pending.
@@ -13,11 +13,12 @@ fn open_up(
     trees: &Trees,
     left: u16,
     pending: &mut Vec<Symbol>,
-    out: &mut Vec<u16>,
+    out: &mut Derivation,
 ) -> Result<(), AllocError>
     requires left { IsNumberOf trees.now.grammar.nonterminals left }
     requires small { IsSmallIn trees.now left }
-    ensures { OnOk result (OpensIn trees.now left pending.old pending.new out.old out.new) }
+    ensures opened { OnOk result (OpensIn trees.now left pending.old pending.new out.old out.new) }
+    ensures grown { OnErr result (IsGrown out.old out.new) }
 {
     let Some(number) = trees.firsts[place_of(left)] else {
         unreachable!()
@@ -26,14 +27,16 @@ fn open_up(
     put_on_top(pending, trees.grammar.rule(number).right())
 }
 
-// Writes the codes of the chosen trees of the pending symbols, the first of which is on top.
-pub(crate) fn write(
+// Writes the codes of the chosen trees of the pending symbols, the first of which is on top. After a refusal a part of them may
+// be there.
+fn write_some(
     trees: &Trees,
     pending: &mut Vec<Symbol>,
-    out: &mut Vec<u16>,
+    out: &mut Derivation,
 ) -> Result<(), AllocError>
     requires small { AreSmallIn trees.now pending.old }
-    ensures { OnOk result (WritesTexts trees.now pending.old out.old out.new) }
+    ensures written { OnOk result (WritesTexts trees.now pending.old out.old out.new) }
+    ensures grown { OnErr result (IsGrown out.old out.new) }
 {
     let _table = &trees.table;
     while let Some(symbol) = pending.pop() {
@@ -42,4 +45,23 @@ pub(crate) fn write(
         }
     }
     Ok(())
+}
+
+// Writes the codes of the chosen trees of the pending symbols, the first of which is on top. A refusal takes back what was
+// written.
+pub(crate) fn write(
+    trees: &Trees,
+    pending: &mut Vec<Symbol>,
+    out: &mut Derivation,
+) -> Result<(), AllocError>
+    requires small { AreSmallIn trees.now pending.old }
+    ensures written { OnOk result (WritesTexts trees.now pending.old out.old out.new) }
+    ensures refused { OnErr result (out.new ≡ out.old) }
+{
+    let before = out.rules().len();
+    let written = write_some(trees, pending, out);
+    if written.is_err() {
+        out.truncate(before);
+    }
+    written
 }

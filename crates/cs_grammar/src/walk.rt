@@ -11,6 +11,9 @@ use crate::stack::put_on_top;
 use crate::symbol::Symbol;
 use std::alloc::{AllocError, Global};
 
+// Room for as many symbols is made at once.
+const USUAL_SYMBOLS: usize = 32;
+
 // What a list of rule numbers comes to. Places are counted from 0.
 #[derive(Debug, Drop)]
 pub enum Expansion {
@@ -55,8 +58,9 @@ pub fn walk(
 ) -> Result<Expansion, AllocError>
     ensures { IfOk result (IsExpansion grammar.now derivation.now) }
 {
-    let mut done = Vec::new(alloc);
-    let mut pending = vec![in alloc; Symbol::Nonterminal(grammar.start())]?;
+    let mut done = Vec::with_capacity(alloc, USUAL_SYMBOLS)?;
+    let mut pending = Vec::with_capacity(alloc, USUAL_SYMBOLS)?;
+    pending.push(Symbol::Nonterminal(grammar.start()))?;
     for (at, number) in derivation.rules().iter().enumerate() {
         let Some(left) = settle(&mut done, &mut pending)? else {
             return Ok(Expansion::TooMany(at));

@@ -1,4 +1,5 @@
-use Rattle.std.proofs.Common.{◌≡◌, ◌++◌, ℕ, List, Option, get_or, reverse, sym, ap, ◌∙◌, subst, refl}
+use Rattle.std.proofs.Common.{◌≡◌, ◌++◌, ◌∷◌, [], ℕ, List, Option, Result, get_or, reverse, sym, ap, ◌∙◌, subst, refl}
+use Rattle.std.specs.Prelude.{Ok, Err, OnErr}
 use Rattle.std.proofs.lemmas.Result.{on_ok_weaker}
 use Rattle.cs_grammar.specs.declared.symbol.Symbol.{Symbol}
 use Rattle.cs_grammar.specs.Grammar.{Production, IsRule}
@@ -23,8 +24,8 @@ rule-requires c =
     let rule = subst (λ (k : Kept). IsRule k.grammar c.in-Some.number first.rule) (sym c.trees.view_is) first.number in
     IsNumberOf-rule _ _ _ rule
 
-pub returns : goal.returns
-returns c =
+pub returns-clause-opened : goal.returns-clause-opened
+returns-clause-opened c =
     let kept = c.args.trees.now in
     let tables = subst HasTables c.trees.view_is c.trees.invariant in
     let known = first_is kept.weights _ _ _ tables.first_rules _ c.requires.left c.requires.small _ (read _ kept _ _ c.trees.view_is (rw c.place_of.ensures at c.index.ensures)) in
@@ -38,6 +39,13 @@ returns c =
       number = _;
       first = first;
       pending = e ∙ ap (λ (xs : List Symbol). xs ++ reverse c.args.pending.now.items) right;
-      text = c.in_ok-push.ensures.items;
+      text = c.in_ok-push.ensures.ok;
     })
     c.put_on_top.ensures
+
+on_err : {A E P : Type 0} (r : Result A E) → P → OnErr r P
+on_err (Ok a) p = tt
+on_err (Err e) p = p
+
+pub returns-clause-grown : goal.returns-clause-grown
+returns-clause-grown c = on_err c.put_on_top.result (c.in-Some.number ∷ [], c.in_ok-push.ensures.ok)

@@ -30,7 +30,7 @@ write-requires c =
     let g = c.self.inside.trees.grammar in
     let f = subst (λ (v : Weighed). HaveSmall v.weights v.grammar xs) (sym c.self.view_is) c.requires.small in
     let each = subst (λ (v : Weighed). All (IsSymbol v.grammar.tokens v.grammar.nonterminals) xs) (sym c.self.view_is) c.requires.symbols in
-    let is = c.in_ok-put_on_top.ensures ∙ ap (λ (l : List Symbol). xs ++ reverse l) c.new-pending.ensures.items ∙ append-nil xs in
+    let is = c.in_ok-put_on_top.ensures ∙ ap (λ (l : List Symbol). xs ++ reverse l) c.in_ok-pending.ensures.items ∙ append-nil xs in
     record { small = subst (λ (l : List Symbol). All (IsWithin w g) l) (sym is) (forest_within w g f.0 xs f.1 f.2 each) }
 
 pub returns-clause-ok : goal.returns-clause-ok
@@ -40,13 +40,13 @@ returns-clause-ok c =
     let g = c.self.inside.trees.grammar in
     let f = subst (λ (v : Weighed). HaveSmall v.weights v.grammar xs) (sym c.self.view_is) c.requires.small in
     let h = chosen_forest w g f.0 xs f.1 in
-    let is = c.in_ok-put_on_top.ensures ∙ ap (λ (l : List Symbol). xs ++ reverse l) c.new-pending.ensures.items in
+    let is = c.in_ok-put_on_top.ensures ∙ ap (λ (l : List Symbol). xs ++ reverse l) c.in_ok-pending.ensures.items in
     let text : IsText w g (xs ++ []) (codes_of h.0 ++ []) = IsText-whole w g h.0 xs [] [] h.1 refl in
     let pending = subst (λ (l : List Symbol). IsText w g l (codes_of h.0 ++ [])) (sym is) text in
-    on_ok_weaker c.extend_from_slice.result
+    on_ok_weaker c.write.result
     (λ e. record {
       trees = h.0;
       chosen = subst (λ (v : Weighed). AreChosen v.weights v.grammar xs h.0) c.self.view_is h.1;
-      text = e ∙ ap (λ (s : List ℕ). c.args.into.now ++ s) (c.deref.ensures.value ∙ c.in_ok-write.ensures (codes_of h.0 ++ []) pending ∙ ap (λ (s : List ℕ). s ++ (codes_of h.0 ++ [])) c.new-out.ensures.items ∙ append-nil (codes_of h.0));
+      text = e (codes_of h.0 ++ []) pending ∙ ap (λ (s : List ℕ). c.args.into.now ++ s) (append-nil (codes_of h.0));
     })
-    c.extend_from_slice.ensures.ok
+    c.write.ensures.written

@@ -1,4 +1,4 @@
-use Rattle.std.proofs.Common.{◌++◌, List, ℕ, [], reverse, refl, sym, ap, ◌∙◌, subst, append-nil}
+use Rattle.std.proofs.Common.{◌++◌, ◌∷◌, List, [], reverse, refl, sym, ap, ◌∙◌, subst, append-nil}
 use Rattle.std.proofs.lemmas.Result.{on_ok_weaker}
 use Rattle.cs_grammar.specs.Weights.{Weighed}
 use Rattle.cs_grammar.specs.Tree.{code}
@@ -16,12 +16,13 @@ returns-clause-ok c =
     let g = c.self.inside.trees.grammar in
     let least = (subst (λ (v : Weighed). HasLeast v.weights v.grammar x) (sym c.self.view_is) c.requires.least).1.1.reached in
     let t = chosen_exists w g x least.0 least.1 in
-    let is : IsText w g (reverse c.in_ok-pending.pending.items) (code t.tree) =
-    subst (λ (ps : List Symbol). IsText w g (reverse ps) (code t.tree)) (sym c.in_ok-pending.ensures.items) (t.tree, [], t.chosen, refl, sym (append-nil (code t.tree))) in
-    on_ok_weaker c.extend_from_slice.result
+    let only = c.in_ok-push.ensures.items ∙ ap (λ (ps : List Symbol). ps ++ x ∷ []) c.in_ok-pending.ensures.items in
+    let is : IsText w g (reverse c.push.new.self.items) (code t.tree) =
+    subst (λ (ps : List Symbol). IsText w g (reverse ps) (code t.tree)) (sym only) (t.tree, [], t.chosen, refl, sym (append-nil (code t.tree))) in
+    on_ok_weaker c.write.result
     (λ e. record {
       tree = t.tree;
       chosen = subst (λ (v : Weighed). IsChosen v.weights v.grammar x t.tree) c.self.view_is t.chosen;
-      text = e ∙ ap (λ (s : List ℕ). c.args.into.now ++ s) (c.deref.ensures.value ∙ c.in_ok-write.ensures (code t.tree) is ∙ ap (λ (s : List ℕ). s ++ code t.tree) c.new-out.ensures.items);
+      text = e (code t.tree) is;
     })
-    c.extend_from_slice.ensures.ok
+    c.write.ensures.written
