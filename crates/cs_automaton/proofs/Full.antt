@@ -2,7 +2,7 @@
 use Rattle.std.proofs.Common.{◌≡◌, ℕ, suc, ◌+◌, List, [], ◌∷◌, ◌++◌, ◌⊎◌, inl, inr, refl, sym, subst}
 use Rattle.cs_automaton.specs.Re.{Re, empty, letter, nothing, cat, alt, many, no_parts, Spells, SpellAll}
 use Rattle.cs_automaton.specs.Linear.{First, Starts}
-use Rattle.cs_automaton.specs.Places.{Place, letters, numbered, any_of, IsFull}
+use Rattle.cs_automaton.specs.Places.{Place, letters, with_places, any_of, IsFull}
 
 module _ {A : Type 0} (Kind : A → Type 0) where
   abbrev pub AllFull : List (Re A) → Type 0
@@ -77,7 +77,7 @@ module _ (Kind : List ℕ → Type 0) where
   abbrev pub KindOf : Place → Type 0
   KindOf a = Kind a.class
 
-  pub numbered_full : (rule from : ℕ) (r : Re (List ℕ)) → IsFull Kind r → IsFull KindOf (numbered rule from r)
+  pub numbered_full : (rule from : ℕ) (r : Re (List ℕ)) → IsFull Kind r → IsFull KindOf (with_places rule from r)
   numbered_full rule from empty h = tt
   numbered_full rule from (letter c) h = h
   numbered_full rule from nothing h = absurd h
@@ -85,12 +85,12 @@ module _ (Kind : List ℕ → Type 0) where
   numbered_full rule from (alt r s) h =
       let left = numbered_full rule from r (full_left Kind r s h) in
       elim (full_right Kind r s h) [
-        | inl g ↦ full_alt KindOf (numbered rule from r) (numbered rule (from + letters r) s) left (numbered_full rule (from + letters r) s g)
-        | inr e ↦ subst (λ (t : Re (List ℕ)). IsFull KindOf (alt (numbered rule from r) (numbered rule (from + letters r) t))) (sym e) left
+        | inl g ↦ full_alt KindOf (with_places rule from r) (with_places rule (from + letters r) s) left (numbered_full rule (from + letters r) s g)
+        | inr e ↦ subst (λ (t : Re (List ℕ)). IsFull KindOf (alt (with_places rule from r) (with_places rule (from + letters r) t))) (sym e) left
       ]
   numbered_full rule from (many r) h = numbered_full rule from r h
 
   pub any_first_full : (rule from : ℕ) (ps : List (Re (List ℕ))) (a : Place) (next : List (Re Place)) → AllFull Kind ps → First (any_of rule from ps) [] a next → AllFull KindOf next
   any_first_full rule from [] a next h f = absurd f
-  any_first_full rule from (p ∷ ps) a next h (inl f) = first_full KindOf (numbered rule from p) [] a next (numbered_full rule from p h.0) tt f
+  any_first_full rule from (p ∷ ps) a next h (inl f) = first_full KindOf (with_places rule from p) [] a next (numbered_full rule from p h.0) tt f
   any_first_full rule from (p ∷ ps) a next h (inr f) = any_first_full (suc rule) (from + letters p) ps a next h.1 f

@@ -3,7 +3,7 @@ use Rattle.std.proofs.Common.{◌≡◌, IsTrue, List, [], ◌∷◌, ◌++◌, 
 use Rattle.std.proofs.lemmas.Bool.{false≢true, and_parts, and_from, or_cases, or_left, or_right}
 use Rattle.cs_automaton.specs.Re.{Re, empty, letter, nothing, cat, alt, many, Parts, no_parts, one_more, Spells, SpellAll}
 use Rattle.cs_automaton.specs.Places.{ReadEach}
-use Rattle.cs_automaton.specs.Linear.{nullable, all_nullable, First, Starts, Leads}
+use Rattle.cs_automaton.specs.Linear.{nullable, all_nullable, First, Starts, GoesBy}
 
 -- two lists whose join is empty are empty
 both_empty : {B : Type 0} (a b : List B) → [] ≡ a ++ b → (a ≡ []) × (b ≡ [])
@@ -38,7 +38,7 @@ module _ {A B : Type 0} (Reads : A → B → Type 0) where
   -- ---- the first letter
 
   -- the front x of the list is spelled by r, and z behind it by rs: the first letter is one that may come first
-  pub record Begins (r : Re A) (rs : List (Re A)) (y : B) (ys : List B) : Type 0 where
+  pub record BeginsAll (r : Re A) (rs : List (Re A)) (y : B) (ys : List B) : Type 0 where
     pub by : A
     pub next : List (Re A)
     pub first : First r rs by next
@@ -46,10 +46,10 @@ module _ {A B : Type 0} (Reads : A → B → Type 0) where
     pub others : SpellAll Reads next ys
 
   abbrev pub Firsts : Re A → Type 0
-  Firsts r = (rs : List (Re A)) (x : List B) (y : B) (ys z : List B) → x ≡ y ∷ ys → Spells Reads r x → SpellAll Reads rs z → Begins r rs y (ys ++ z)
+  Firsts r = (rs : List (Re A)) (x : List B) (y : B) (ys z : List B) → x ≡ y ∷ ys → Spells Reads r x → SpellAll Reads rs z → BeginsAll r rs y (ys ++ z)
 
   -- any number of parts
-  many_first : (r : Re A) → Firsts r → (rs : List (Re A)) {x : List B} (y : B) (ys z : List B) → x ≡ y ∷ ys → Parts (Spells Reads r) x → SpellAll Reads rs z → Begins (many r) rs y (ys ++ z)
+  many_first : (r : Re A) → Firsts r → (rs : List (Re A)) {x : List B} (y : B) (ys z : List B) → x ≡ y ∷ ys → Parts (Spells Reads r) x → SpellAll Reads rs z → BeginsAll (many r) rs y (ys ++ z)
   many_first r ih rs y ys z e no_parts h = absurd cc
   many_first r ih rs y ys z e (one_more [] v x p ps is) h = many_first r ih rs y ys z (sym is ∙ e) ps h
   many_first r ih rs y ys z e (one_more (c ∷ u) v x p ps is) h =
@@ -59,7 +59,7 @@ module _ {A B : Type 0} (Reads : A → B → Type 0) where
       let b = ih (many r ∷ rs) (c ∷ u) y u (v ++ z) (ap (λ t. t ∷ u) head) p (v, z, ps, h, refl) in
       record { by = b.by; next = b.next; first = b.first; reads = b.reads; others = subst (λ t. SpellAll Reads b.next t) (sym (append_assoc u v z) ∙ sym (ap (λ t. t ++ z) tail)) b.others }
 
-  cat_first : (r s : Re A) → Firsts r → Firsts s → (rs : List (Re A)) (x : List B) (y : B) (ys z : List B) → x ≡ y ∷ ys → (u v : List B) → Spells Reads r u → Spells Reads s v → x ≡ u ++ v → SpellAll Reads rs z → Begins (cat r s) rs y (ys ++ z)
+  cat_first : (r s : Re A) → Firsts r → Firsts s → (rs : List (Re A)) (x : List B) (y : B) (ys z : List B) → x ≡ y ∷ ys → (u v : List B) → Spells Reads r u → Spells Reads s v → x ≡ u ++ v → SpellAll Reads rs z → BeginsAll (cat r s) rs y (ys ++ z)
   cat_first r s fr fs rs x y ys z e [] v p q is h =
       let b = fs rs v y ys z (sym is ∙ e) q h in
       record { by = b.by; next = b.next; first = inr (spells_nullable r [] refl p, b.first); reads = b.reads; others = b.others }
@@ -182,7 +182,7 @@ module _ {A B : Type 0} (Reads : A → B → Type 0) where
   pub record Goes (rs : List (Re A)) (x y : List B) : Type 0 where
     pub letters : List A
     pub last : List (Re A)
-    pub leads : Leads rs letters last
+    pub leads : GoesBy rs letters last
     pub read : ReadEach Reads letters x
     pub others : SpellAll Reads last y
 
@@ -193,7 +193,7 @@ module _ {A B : Type 0} (Reads : A → B → Type 0) where
       let g = goes x y s.next s.others in
       record { letters = s.by ∷ g.letters; last = g.last; leads = (s.next, s.first, g.leads); read = (s.reads, g.read); others = g.others }
 
-  pub goes_back : (letters : List A) (x y : List B) (rs last : List (Re A)) → Leads rs letters last → ReadEach Reads letters x → SpellAll Reads last y → SpellAll Reads rs (x ++ y)
+  pub goes_back : (letters : List A) (x y : List B) (rs last : List (Re A)) → GoesBy rs letters last → ReadEach Reads letters x → SpellAll Reads last y → SpellAll Reads rs (x ++ y)
   goes_back [] x y rs last l r h = subst (λ t. SpellAll Reads rs (t ++ y)) (sym r) (subst (λ t. SpellAll Reads t y) (sym l) h)
   goes_back (a ∷ more) [] y rs last l r h = absurd r
   goes_back (a ∷ more) (b ∷ x) y rs last l r h =

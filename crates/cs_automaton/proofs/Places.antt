@@ -1,8 +1,8 @@
 -- Where places stand, and that a number has one place.
 use Rattle.std.proofs.Common.{◌≡◌, ℕ, suc, ◌+◌, ◌<◌, ◌≤◌, List, [], ◌∷◌, ◌++◌, ◌⊎◌, inl, inr, sym, ap, ◌∙◌, subst, arith}
 use Rattle.cs_automaton.specs.Re.{Re, empty, letter, nothing, cat, alt, many}
-use Rattle.cs_automaton.specs.Linear.{First, Starts, Leads, Stands}
-use Rattle.cs_automaton.specs.Places.{Place, letters, numbered, any_of}
+use Rattle.cs_automaton.specs.Linear.{First, Starts, GoesBy, Stands}
+use Rattle.cs_automaton.specs.Places.{Place, letters, with_places, any_of}
 
 module _ {A : Type 0} where
   -- what may come first stands in the pattern
@@ -41,7 +41,7 @@ module _ {A : Type 0} where
       ]
 
   -- from one pattern, letters lead to places of it
-  pub leads_stand : (r : Re A) (more : List A) (a b : A) (next last : List (Re A)) → Stands r [] a next → Leads next (more ++ b ∷ []) last → Stands r [] b last
+  pub leads_stand : (r : Re A) (more : List A) (a b : A) (next last : List (Re A)) → Stands r [] a next → GoesBy next (more ++ b ∷ []) last → Stands r [] b last
   leads_stand r [] a b next last f l =
       elim (stands_more r [] a next b l.0 f l.1) [
         | inl g ↦ subst (λ t. Stands r [] b t) l.2 g
@@ -57,7 +57,7 @@ module _ {A : Type 0} where
   start_stands r a next (inl f) = first_stands r [] a next f
   start_stands r a next (inr f) = absurd f.1
 
-  pub lead_stands : (r : Re A) (more : List A) (b : A) (last : List (Re A)) → Leads (r ∷ []) (more ++ b ∷ []) last → Stands r [] b last
+  pub lead_stands : (r : Re A) (more : List A) (b : A) (last : List (Re A)) → GoesBy (r ∷ []) (more ++ b ∷ []) last → Stands r [] b last
   lead_stands r [] b last l = subst (λ t. Stands r [] b t) l.2 (start_stands r b l.0 l.1)
   lead_stands r (c ∷ more) b last l = leads_stand r more c b l.0 last (start_stands r c l.0 l.1) l.2
 
@@ -69,14 +69,14 @@ pub record Within (rule from many_of : ℕ) (a : Place) : Type 0 where
   pub low : from ≤ a.number
   pub high : a.number < from + many_of
 
-pub within : (rule from : ℕ) (r : Re (List ℕ)) (rs : List (Re Place)) (a : Place) (next : List (Re Place)) → Stands (numbered rule from r) rs a next → Within rule from (letters r) a
+pub within : (rule from : ℕ) (r : Re (List ℕ)) (rs : List (Re Place)) (a : Place) (next : List (Re Place)) → Stands (with_places rule from r) rs a next → Within rule from (letters r) a
 within rule from empty rs a next f = absurd f
 within rule from (letter c) rs a next f =
     let e : a.number ≡ from = ap (λ t. t.number) f.0 in
     record { of_rule = ap (λ t. t.rule) f.0; low = omega arith; high = omega arith }
 within rule from nothing rs a next f = absurd f
 within rule from (cat r s) rs a next (inl f) =
-    let w = within rule from r (numbered rule (from + letters r) s ∷ rs) a next f in
+    let w = within rule from r (with_places rule (from + letters r) s ∷ rs) a next f in
     record { of_rule = w.of_rule; low = w.low; high = omega (arith, w.high) }
 within rule from (cat r s) rs a next (inr f) =
     let w = within rule (from + letters r) s rs a next f in
@@ -87,20 +87,20 @@ within rule from (alt r s) rs a next (inl f) =
 within rule from (alt r s) rs a next (inr f) =
     let w = within rule (from + letters r) s rs a next f in
     record { of_rule = w.of_rule; low = omega (arith, w.low); high = omega (arith, w.high) }
-within rule from (many r) rs a next f = within rule from r (many (numbered rule from r) ∷ rs) a next f
+within rule from (many r) rs a next f = within rule from r (many (with_places rule from r) ∷ rs) a next f
 
 -- a number has one place, with the same behind it
-pub one_place : (rule from : ℕ) (r : Re (List ℕ)) (rs : List (Re Place)) (a b : Place) (next last : List (Re Place)) → Stands (numbered rule from r) rs a next → Stands (numbered rule from r) rs b last → a.number ≡ b.number → (a ≡ b) × (next ≡ last)
+pub one_place : (rule from : ℕ) (r : Re (List ℕ)) (rs : List (Re Place)) (a b : Place) (next last : List (Re Place)) → Stands (with_places rule from r) rs a next → Stands (with_places rule from r) rs b last → a.number ≡ b.number → (a ≡ b) × (next ≡ last)
 one_place rule from empty rs a b next last f g e = absurd f
 one_place rule from (letter c) rs a b next last f g e = (f.0 ∙ sym g.0, f.1 ∙ sym g.1)
 one_place rule from nothing rs a b next last f g e = absurd f
-one_place rule from (cat r s) rs a b next last (inl f) (inl g) e = one_place rule from r (numbered rule (from + letters r) s ∷ rs) a b next last f g e
+one_place rule from (cat r s) rs a b next last (inl f) (inl g) e = one_place rule from r (with_places rule (from + letters r) s ∷ rs) a b next last f g e
 one_place rule from (cat r s) rs a b next last (inl f) (inr g) e =
-    let v = within rule from r (numbered rule (from + letters r) s ∷ rs) a next f in
+    let v = within rule from r (with_places rule (from + letters r) s ∷ rs) a next f in
     let w = within rule (from + letters r) s rs b last g in
     absurd (omega (arith, v.high, w.low))
 one_place rule from (cat r s) rs a b next last (inr f) (inl g) e =
-    let v = within rule from r (numbered rule (from + letters r) s ∷ rs) b last g in
+    let v = within rule from r (with_places rule (from + letters r) s ∷ rs) b last g in
     let w = within rule (from + letters r) s rs a next f in
     absurd (omega (arith, v.high, w.low))
 one_place rule from (cat r s) rs a b next last (inr f) (inr g) e = one_place rule (from + letters r) s rs a b next last f g e
@@ -114,7 +114,7 @@ one_place rule from (alt r s) rs a b next last (inr f) (inl g) e =
     let w = within rule (from + letters r) s rs a next f in
     absurd (omega (arith, v.high, w.low))
 one_place rule from (alt r s) rs a b next last (inr f) (inr g) e = one_place rule (from + letters r) s rs a b next last f g e
-one_place rule from (many r) rs a b next last f g e = one_place rule from r (many (numbered rule from r) ∷ rs) a b next last f g e
+one_place rule from (many r) rs a b next last f g e = one_place rule from r (many (with_places rule from r) ∷ rs) a b next last f g e
 
 -- the same of all patterns
 pub any_low : (rule from : ℕ) (ps : List (Re (List ℕ))) (rs : List (Re Place)) (a : Place) (next : List (Re Place)) → Stands (any_of rule from ps) rs a next → from ≤ a.number

@@ -1,7 +1,7 @@
 -- The set of a text is what it reaches, letter by letter.
 use Rattle.std.proofs.Common.{◌≡◌, ℕ, List, [], ◌∷◌, ◌++◌, inl, inr, refl, sym, ap, ◌∙◌, subst, append_assoc, append-nil}
 use Rattle.cs_automaton.specs.Re.{Re, Spells, SpellAll}
-use Rattle.cs_automaton.specs.Linear.{Starts, Leads, Stands}
+use Rattle.cs_automaton.specs.Linear.{Starts, GoesBy, Stands}
 use Rattle.cs_automaton.specs.Places.{Place, whole, Itself, HasByte, ReadEach, InSet}
 use Rattle.cs_automaton.specs.Reached.{Reaches, begins, goes_on, ReachesNumber}
 use Rattle.cs_automaton.proofs.Linear.{goes, goes_back}
@@ -18,7 +18,7 @@ itself_back : (xs : List Place) → ReadEach Itself xs xs
 itself_back [] = refl
 itself_back (x ∷ xs) = (refl, itself_back xs)
 
-leads_push : {A : Type 0} (rs : List (Re A)) (ls : List A) (mid : List (Re A)) (a : A) (next : List (Re A)) → Leads rs ls mid → Starts mid a next → Leads rs (ls ++ a ∷ []) next
+leads_push : {A : Type 0} (rs : List (Re A)) (ls : List A) (mid : List (Re A)) (a : A) (next : List (Re A)) → GoesBy rs ls mid → Starts mid a next → GoesBy rs (ls ++ a ∷ []) next
 leads_push rs [] mid a next l s = (next, subst (λ t. Starts t a next) (sym l) s, refl)
 leads_push rs (b ∷ ls) mid a next l s = (l.0, l.1, leads_push l.0 ls mid a next l.2 s)
 
@@ -29,7 +29,7 @@ read_push Reads (c ∷ ls) (x ∷ xs) a b h r = (h.0, read_push Reads ls xs a b 
 
 module _ (rs : List (Re (List ℕ))) where
   -- letters and the text that they read lead on
-  reaches_on : (ls : List Place) (a k : Place) (mid next : List (Re Place)) (x y z : List ℕ) → Reaches rs y k mid → Leads mid (ls ++ a ∷ []) next → ReadEach HasByte (ls ++ a ∷ []) z → x ≡ y ++ z → Reaches rs x a next
+  reaches_on : (ls : List Place) (a k : Place) (mid next : List (Re Place)) (x y z : List ℕ) → Reaches rs y k mid → GoesBy mid (ls ++ a ∷ []) next → ReadEach HasByte (ls ++ a ∷ []) z → x ≡ y ++ z → Reaches rs x a next
   reaches_on [] a k mid next x y [] r l h e = absurd h
   reaches_on [] a k mid next x y (b ∷ z) r l h e =
       subst (λ t. Reaches rs x a t) l.2 (goes_on b x y k a mid l.0 r l.1 h.0 (e ∙ ap (λ t. y ++ b ∷ t) h.1))
@@ -37,7 +37,7 @@ module _ (rs : List (Re (List ℕ))) where
   reaches_on (c ∷ ls) a k mid next x y (b ∷ z) r l h e =
       reaches_on ls a c l.0 next x (y ++ b ∷ []) z (goes_on b (y ++ b ∷ []) y k c mid l.0 r l.1 h.0 refl) l.2 h.1 (e ∙ sym (append_assoc y (b ∷ []) z))
 
-  pub leads_reach : (ls : List Place) (a : Place) (next : List (Re Place)) (x : List ℕ) → Leads (whole rs ∷ []) (ls ++ a ∷ []) next → ReadEach HasByte (ls ++ a ∷ []) x → Reaches rs x a next
+  pub leads_reach : (ls : List Place) (a : Place) (next : List (Re Place)) (x : List ℕ) → GoesBy (whole rs ∷ []) (ls ++ a ∷ []) next → ReadEach HasByte (ls ++ a ∷ []) x → Reaches rs x a next
   leads_reach [] a next [] l h = absurd h
   leads_reach [] a next (b ∷ x) l h = subst (λ t. Reaches rs (b ∷ x) a t) l.2 (begins b (b ∷ x) a l.0 l.1 h.0 (ap (λ t. b ∷ t) h.1))
   leads_reach (c ∷ ls) a next [] l h = absurd h
@@ -46,7 +46,7 @@ module _ (rs : List (Re (List ℕ))) where
   -- and back
   pub record Led (x : List ℕ) (a : Place) (next : List (Re Place)) : Type 0 where
     pub front : List Place
-    pub leads : Leads (whole rs ∷ []) (front ++ a ∷ []) next
+    pub leads : GoesBy (whole rs ∷ []) (front ++ a ∷ []) next
     pub read : ReadEach HasByte (front ++ a ∷ []) x
 
   pub led : {x : List ℕ} {a : Place} {next : List (Re Place)} → Reaches rs x a next → Led x a next
@@ -75,7 +75,7 @@ module _ (rs : List (Re (List ℕ))) where
       record {
         place = h.last;
         next = g.last;
-        reaches = leads_reach h.front h.last g.last x (subst (λ t. Leads (whole rs ∷ []) t g.last) (sym same) g.leads) h.read;
+        reaches = leads_reach h.front h.last g.last x (subst (λ t. GoesBy (whole rs ∷ []) t g.last) (sym same) g.leads) h.read;
         number = h.number;
       }
 

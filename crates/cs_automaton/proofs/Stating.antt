@@ -8,7 +8,7 @@ use Rattle.cs_pattern_tree.specs.Pattern.{Regex}
 use Rattle.cs_automaton.specs.Bits.{bit, Puts}
 use Rattle.cs_automaton.specs.Exits.{exit, nexts}
 use Rattle.cs_automaton.specs.Meaning.{re, res}
-use Rattle.cs_automaton.specs.Places.{letters, numbered, any_of, whole, all_letters}
+use Rattle.cs_automaton.specs.Places.{letters, with_places, any_of, whole, all_letters}
 use Rattle.cs_automaton.specs.Programs.{IsRule, AreRules}
 use Rattle.cs_automaton.specs.Re.{Re}
 use Rattle.cs_automaton.specs.Rules.{IsFirstSpelled}
@@ -57,16 +57,16 @@ rules_length [] from (r ∷ rs) h = absurd h
 rules_length (q ∷ rules) from [] h = absurd h
 rules_length (q ∷ rules) from (r ∷ rs) h = ap suc (rules_length rules (from + letters (re r)) rs h.1)
 
-any_push : (S : ℕ → Bool) (e : Bool) (rule from : ℕ) (ps : List (Re (List ℕ))) (r : Re (List ℕ)) (number base : ℕ) → number ≡ rule + length ps → base ≡ from + all_letters ps → nexts S (any_of rule from (ps ++ r ∷ [])) e ≡ nexts S (any_of rule from ps) e ++ nexts S (numbered number base r) e
+any_push : (S : ℕ → Bool) (e : Bool) (rule from : ℕ) (ps : List (Re (List ℕ))) (r : Re (List ℕ)) (number base : ℕ) → number ≡ rule + length ps → base ≡ from + all_letters ps → nexts S (any_of rule from (ps ++ r ∷ [])) e ≡ nexts S (any_of rule from ps) e ++ nexts S (with_places number base r) e
 any_push S e rule from [] r number base n b =
     let m : rule ≡ number = omega (arith, n) in
     let c : from ≡ base = omega (arith, b) in
-    append-nil (nexts S (numbered rule from r) e) ∙ ap (λ t. nexts S (numbered t from r) e) m ∙ ap (λ t. nexts S (numbered number t r) e) c
+    append-nil (nexts S (with_places rule from r) e) ∙ ap (λ t. nexts S (with_places t from r) e) m ∙ ap (λ t. nexts S (with_places number t r) e) c
 any_push S e rule from (p ∷ ps) r number base n b =
-    ap (λ t. nexts S (numbered rule from p) e ++ t) (any_push S e (suc rule) (from + letters p) ps r number base (omega (arith, n)) (omega (arith, b)))
-    ∙ sym (append_assoc (nexts S (numbered rule from p) e) (nexts S (any_of (suc rule) (from + letters p) ps) e) (nexts S (numbered number base r) e))
+    ap (λ t. nexts S (with_places rule from p) e ++ t) (any_push S e (suc rule) (from + letters p) ps r number base (omega (arith, n)) (omega (arith, b)))
+    ∙ sym (append_assoc (nexts S (with_places rule from p) e) (nexts S (any_of (suc rule) (from + letters p) ps) e) (nexts S (with_places number base r) e))
 
-pub whole_more : (S : ℕ → Bool) (e : Bool) (ps : List (Re (List ℕ))) (i : ℕ) (r : Re (List ℕ)) (base : ℕ) → slice_get ps i ≡ Some r → base ≡ all_letters (take i ps) → nexts S (whole (take (i + 1) ps)) e ≡ nexts S (whole (take i ps)) e ++ nexts S (numbered (suc i) base r) e
+pub whole_more : (S : ℕ → Bool) (e : Bool) (ps : List (Re (List ℕ))) (i : ℕ) (r : Re (List ℕ)) (base : ℕ) → slice_get ps i ≡ Some r → base ≡ all_letters (take i ps) → nexts S (whole (take (i + 1) ps)) e ≡ nexts S (whole (take i ps)) e ++ nexts S (with_places (suc i) base r) e
 whole_more S e ps i r base at is =
     let next : i + 1 ≡ suc i = omega arith in
     let within = slice_get_within ps i r at in
@@ -91,10 +91,10 @@ walked_more rules rs i rule entered ends set old mid new answer h at w puts low 
     let base : g.base ≡ all_letters (take i (res rs)) = omega (arith, g.base_is) in
     let more = whole_more S entered (res rs) i (re g.pattern) g.base g.at base in
     let live = w.ends_there (suc i) g.base g.pattern g.is in (
-      subst (λ t. Puts old new t) (sym more) (puts_on old mid new (nexts S (whole (take i (res rs))) entered) (nexts S (numbered (suc i) g.base (re g.pattern)) entered) puts (w.puts (suc i) g.base g.pattern g.is)),
+      subst (λ t. Puts old new t) (sym more) (puts_on old mid new (nexts S (whole (take i (res rs))) entered) (nexts S (with_places (suc i) g.base (re g.pattern)) entered) puts (w.puts (suc i) g.base g.pattern g.is)),
       lowest_more (res rs) S entered i answer ends low
-          (λ holds. record { pattern = re g.pattern; at = g.at; ends = λ number from n b. let same : g.base ≡ from = base ∙ sym b in ap (λ t. exit S (numbered t from (re g.pattern)) entered) n ∙ ap (λ t. exit S (numbered (suc i) t (re g.pattern)) entered) (sym same) ∙ sym live ∙ holds })
-          (λ e. let there = e.at in let here = g.at in let same : e.pattern ≡ re g.pattern = cc in live ∙ ap (λ t. exit S (numbered (suc i) g.base t) entered) (sym same) ∙ e.ends (suc i) g.base refl base),
+          (λ holds. record { pattern = re g.pattern; at = g.at; ends = λ number from n b. let same : g.base ≡ from = base ∙ sym b in ap (λ t. exit S (with_places t from (re g.pattern)) entered) n ∙ ap (λ t. exit S (with_places (suc i) t (re g.pattern)) entered) (sym same) ∙ sym live ∙ holds })
+          (λ e. let there = e.at in let here = g.at in let same : e.pattern ≡ re g.pattern = cc in live ∙ ap (λ t. exit S (with_places (suc i) g.base t) entered) (sym same) ∙ e.ends (suc i) g.base refl base),
     )
 
 pub walked_all : (rs : List (Re (List ℕ))) (n i : ℕ) (entered : Bool) (set old new : List ℕ) (answer : Option ℕ) → n ≡ length rs → i ≡ n → Puts old new (nexts (bit set) (whole (take i rs)) entered) → IsLowest rs (bit set) entered i answer → IsWalkedAll rs entered set old new answer

@@ -8,7 +8,7 @@ use Rattle.cs_automaton.specs.Bits.{bit}
 use Rattle.cs_automaton.specs.Exits.{final, nexts}
 use Rattle.cs_automaton.specs.Linear.{nullable, all_nullable, Starts, Stands}
 use Rattle.cs_automaton.specs.Meaning.{Has, classes, all_classes}
-use Rattle.cs_automaton.specs.Places.{Place, letters, numbered, any_of, whole, HasByte, all_letters}
+use Rattle.cs_automaton.specs.Places.{Place, letters, with_places, any_of, whole, HasByte, all_letters}
 use Rattle.cs_automaton.specs.Reached.{Reaches, begins, goes_on}
 use Rattle.cs_automaton.specs.Rules.{SpellsRule, IsFirstSpelled}
 use Rattle.cs_automaton.specs.States.{Follows, AreNext, IsReached, IsRow, EndsAt, IsLowest}
@@ -62,14 +62,14 @@ pub record ClassAt (from : ℕ) (all : List (List ℕ)) (a : Place) : Type 0 whe
   pub number : a.number ≡ from + index
   pub at : slice_get all index ≡ Some a.class
 
-class_at : (rule from : ℕ) (r : Re (List ℕ)) (rs : List (Re Place)) (a : Place) (next : List (Re Place)) → Stands (numbered rule from r) rs a next → ClassAt from (classes r) a
+class_at : (rule from : ℕ) (r : Re (List ℕ)) (rs : List (Re Place)) (a : Place) (next : List (Re Place)) → Stands (with_places rule from r) rs a next → ClassAt from (classes r) a
 class_at rule from empty rs a next f = absurd f
 class_at rule from (letter c) rs a next f =
     let n : a.number ≡ from = ap (λ t. t.number) f.0 in
     record { index = 0; number = omega (arith, n); at = ap (λ t. Some t.class) (sym f.0) }
 class_at rule from nothing rs a next f = absurd f
 class_at rule from (cat r s) rs a next (inl f) =
-    let c = class_at rule from r (numbered rule (from + letters r) s ∷ rs) a next f in
+    let c = class_at rule from r (with_places rule (from + letters r) s ∷ rs) a next f in
     record { index = c.index; number = c.number; at = get_left (classes r) (classes s) c.index a.class c.at }
 class_at rule from (cat r s) rs a next (inr f) =
     let c = class_at rule (from + letters r) s rs a next f in
@@ -80,7 +80,7 @@ class_at rule from (alt r s) rs a next (inl f) =
 class_at rule from (alt r s) rs a next (inr f) =
     let c = class_at rule (from + letters r) s rs a next f in
     record { index = letters r + c.index; number = omega (arith, c.number); at = get_right (classes r) (classes s) c.index (letters r + c.index) a.class (omega (arith, length-classes r)) c.at }
-class_at rule from (many r) rs a next f = class_at rule from r (many (numbered rule from r) ∷ rs) a next f
+class_at rule from (many r) rs a next f = class_at rule from r (many (with_places rule from r) ∷ rs) a next f
 
 any_class : (rule from : ℕ) (ps : List (Re (List ℕ))) (rs : List (Re Place)) (a : Place) (next : List (Re Place)) → Stands (any_of rule from ps) rs a next → ClassAt from (all_classes ps) a
 any_class rule from [] rs a next f = absurd f
@@ -98,29 +98,29 @@ any_rule rule from [] rs a next f = absurd f
 any_rule rule from (p ∷ ps) rs a next (inl f) = omega (arith, (within rule from p rs a next f).of_rule)
 any_rule rule from (p ∷ ps) rs a next (inr f) = omega (arith, any_rule (suc rule) (from + letters p) ps rs a next f)
 
-stands_at : (rule from : ℕ) (ps : List (Re (List ℕ))) (j number base : ℕ) (r : Re (List ℕ)) (a : Place) (next : List (Re Place)) → slice_get ps j ≡ Some r → number ≡ rule + j → base ≡ from + all_letters (take j ps) → Stands (numbered number base r) [] a next → Stands (any_of rule from ps) [] a next
+stands_at : (rule from : ℕ) (ps : List (Re (List ℕ))) (j number base : ℕ) (r : Re (List ℕ)) (a : Place) (next : List (Re Place)) → slice_get ps j ≡ Some r → number ≡ rule + j → base ≡ from + all_letters (take j ps) → Stands (with_places number base r) [] a next → Stands (any_of rule from ps) [] a next
 stands_at rule from [] j number base r a next e n b f = absurd cc
 stands_at rule from (p ∷ ps) zero number base r a next e n b f =
     let same : r ≡ p = cc in
     let m : number ≡ rule = omega (arith, n) in
     let c : base ≡ from = omega (arith, b) in
-    inl (subst (λ t. Stands (numbered rule from t) [] a next) same (subst (λ t. Stands (numbered rule t r) [] a next) c (subst (λ t. Stands (numbered t base r) [] a next) m f)))
+    inl (subst (λ t. Stands (with_places rule from t) [] a next) same (subst (λ t. Stands (with_places rule t r) [] a next) c (subst (λ t. Stands (with_places t base r) [] a next) m f)))
 stands_at rule from (p ∷ ps) (suc j) number base r a next e n b f =
     inr (stands_at (suc rule) (from + letters p) ps j number base r a next e (omega (arith, n)) (omega (arith, b)) f)
 
-at_stands : (rule from : ℕ) (ps : List (Re (List ℕ))) (j number base : ℕ) (r : Re (List ℕ)) (a : Place) (next : List (Re Place)) → slice_get ps j ≡ Some r → number ≡ rule + j → base ≡ from + all_letters (take j ps) → a.rule ≡ number → Stands (any_of rule from ps) [] a next → Stands (numbered number base r) [] a next
+at_stands : (rule from : ℕ) (ps : List (Re (List ℕ))) (j number base : ℕ) (r : Re (List ℕ)) (a : Place) (next : List (Re Place)) → slice_get ps j ≡ Some r → number ≡ rule + j → base ≡ from + all_letters (take j ps) → a.rule ≡ number → Stands (any_of rule from ps) [] a next → Stands (with_places number base r) [] a next
 at_stands rule from [] j number base r a next e n b is f = absurd f
 at_stands rule from (p ∷ ps) zero number base r a next e n b is (inl f) =
     let same : p ≡ r = cc in
     let m : rule ≡ number = omega (arith, n) in
     let c : from ≡ base = omega (arith, b) in
-    subst (λ t. Stands (numbered number base t) [] a next) same (subst (λ t. Stands (numbered number t p) [] a next) c (subst (λ t. Stands (numbered t from p) [] a next) m f))
+    subst (λ t. Stands (with_places number base t) [] a next) same (subst (λ t. Stands (with_places number t p) [] a next) c (subst (λ t. Stands (with_places t from p) [] a next) m f))
 at_stands rule from (p ∷ ps) (suc j) number base r a next e n b is (inl f) = absurd (omega (arith, (within rule from p [] a next f).of_rule, n, is))
 at_stands rule from (p ∷ ps) zero number base r a next e n b is (inr f) = absurd (omega (arith, any_rule (suc rule) (from + letters p) ps [] a next f, n, is))
 at_stands rule from (p ∷ ps) (suc j) number base r a next e n b is (inr f) =
     at_stands (suc rule) (from + letters p) ps j number base r a next e (omega (arith, n)) (omega (arith, b)) is f
 
-numbered_nullable : (rule from : ℕ) (r : Re (List ℕ)) → nullable (numbered rule from r) ≡ nullable r
+numbered_nullable : (rule from : ℕ) (r : Re (List ℕ)) → nullable (with_places rule from r) ≡ nullable r
 numbered_nullable rule from empty = refl
 numbered_nullable rule from (letter c) = refl
 numbered_nullable rule from nothing = refl
@@ -227,7 +227,7 @@ module _ (rs : List (Re (List ℕ))) where
   ends_rule x S index ne is e =
       let base = all_letters (take index rs) in
       let h = e.ends (suc index) base refl refl in
-      let f = final_stands S (numbered (suc index) base e.pattern) [] h in
+      let f = final_stands S (with_places (suc index) base e.pattern) [] h in
       let w = within (suc index) base e.pattern [] f.place f.mid f.stands in
       let stands = stands_at 1 0 rs index (suc index) base e.pattern f.place f.mid e.at (omega arith) (omega arith) f.stands in
       let r = is.reached f.place.number f.marked in
@@ -246,7 +246,7 @@ module _ (rs : List (Re (List ℕ))) where
           pattern = m.pattern;
           at = m.at;
           ends = λ number from n b.
-              (ends_final S (numbered number from m.pattern) [] r.0 r.1 (at_stands 1 0 rs m.index number from m.pattern r.0 r.1 m.at (omega (arith, n)) (omega (arith, b)) (omega (arith, r.3, m.number, n)) stands) marked r.4).0;
+              (ends_final S (with_places number from m.pattern) [] r.0 r.1 (at_stands 1 0 rs m.index number from m.pattern r.0 r.1 m.at (omega (arith, n)) (omega (arith, b)) (omega (arith, r.3, m.number, n)) stands) marked r.4).0;
         },
       )
 
@@ -264,8 +264,8 @@ module _ (rs : List (Re (List ℕ))) where
   start_ends S index none e =
       let base = all_letters (take index rs) in
       let h = e.ends (suc index) base refl refl in
-      let null : nullable (numbered (suc index) base e.pattern) ≡ true =
-      elim (or_cases (nullable (numbered (suc index) base e.pattern)) (final S (numbered (suc index) base e.pattern)) h) [
+      let null : nullable (with_places (suc index) base e.pattern) ≡ true =
+      elim (or_cases (nullable (with_places (suc index) base e.pattern)) (final S (with_places (suc index) base e.pattern)) h) [
         | inl n ↦ n
         | inr f ↦ absurd (false≢true (sym (no_final S (suc index) base e.pattern (λ n a b. none n)) ∙ f))
       ]
@@ -280,7 +280,7 @@ module _ (rs : List (Re (List ℕ))) where
     record {
       pattern = m.pattern;
       at = m.at;
-      ends = λ number from n b. ap (λ t. t || final S (numbered number from m.pattern)) (numbered_nullable number from m.pattern ∙ spells_nullable Has m.pattern [] refl m.spelled);
+      ends = λ number from n b. ap (λ t. t || final S (with_places number from m.pattern)) (numbered_nullable number from m.pattern ∙ spells_nullable Has m.pattern [] refl m.spelled);
     },
   )
 

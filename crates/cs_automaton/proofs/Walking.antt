@@ -11,7 +11,7 @@ use Rattle.cs_automaton.specs.Re.{Re, empty, letter, nothing, cat, alt, many}
 use Rattle.cs_automaton.specs.Bits.{bit, Puts}
 use Rattle.cs_automaton.specs.Linear.{nullable}
 use Rattle.cs_automaton.specs.Meaning.{re}
-use Rattle.cs_automaton.specs.Places.{letters, numbered}
+use Rattle.cs_automaton.specs.Places.{letters, with_places}
 use Rattle.cs_automaton.specs.Exits.{final, exit, nexts, finals}
 use Rattle.cs_automaton.specs.Flat.{flat, is_loop, has_loop}
 use Rattle.cs_automaton.specs.Programs.{IsRule}
@@ -54,21 +54,21 @@ no_loop S (op ∷ os) g e =
 -- ---- a rule none of whose places is in the set
 
 module _ (S : ℕ → Bool) (rule : ℕ) where
-  pub no_final : (from : ℕ) (r : Re (List ℕ)) → ((n : ℕ) → from ≤ n → n < from + letters r → S n ≡ false) → final S (numbered rule from r) ≡ false
+  pub no_final : (from : ℕ) (r : Re (List ℕ)) → ((n : ℕ) → from ≤ n → n < from + letters r → S n ≡ false) → final S (with_places rule from r) ≡ false
   no_final from empty h = refl
   no_final from (letter c) h = h from (omega arith) (omega arith)
   no_final from nothing h = refl
   no_final from (cat r s) h =
       let p = no_final from r (λ n le lt. h n le (omega (arith, lt))) in
       let q = no_final (from + letters r) s (λ n le lt. h n (omega (arith, le)) (omega (arith, lt))) in
-      ap (λ t. (t && nullable (numbered rule (from + letters r) s)) || final S (numbered rule (from + letters r) s)) p ∙ q
+      ap (λ t. (t && nullable (with_places rule (from + letters r) s)) || final S (with_places rule (from + letters r) s)) p ∙ q
   no_final from (alt r s) h =
       let p = no_final from r (λ n le lt. h n le (omega (arith, lt))) in
       let q = no_final (from + letters r) s (λ n le lt. h n (omega (arith, le)) (omega (arith, lt))) in
-      ap (λ t. t || final S (numbered rule (from + letters r) s)) p ∙ q
+      ap (λ t. t || final S (with_places rule (from + letters r) s)) p ∙ q
   no_final from (many r) h = no_final from r h
 
-  no_next : (from : ℕ) (r : Re (List ℕ)) (e : Bool) → e ≡ false → ((n : ℕ) → from ≤ n → n < from + letters r → S n ≡ false) → nexts S (numbered rule from r) e ≡ []
+  no_next : (from : ℕ) (r : Re (List ℕ)) (e : Bool) → e ≡ false → ((n : ℕ) → from ≤ n → n < from + letters r → S n ≡ false) → nexts S (with_places rule from r) e ≡ []
   no_next from empty e is h = refl
   no_next from (letter c) true is h = absurd (false≢true (sym is))
   no_next from (letter c) false is h = refl
@@ -76,23 +76,23 @@ module _ (S : ℕ → Bool) (rule : ℕ) where
   no_next from (cat r s) e is h =
       let p = no_next from r e is (λ n le lt. h n le (omega (arith, lt))) in
       let f = no_final from r (λ n le lt. h n le (omega (arith, lt))) in
-      let x : exit S (numbered rule from r) e ≡ false = ap (λ t. (t && nullable (numbered rule from r)) || final S (numbered rule from r)) is ∙ f in
-      let q = no_next (from + letters r) s (exit S (numbered rule from r) e) x (λ n le lt. h n (omega (arith, le)) (omega (arith, lt))) in
-      ap (λ t. t ++ nexts S (numbered rule (from + letters r) s) (exit S (numbered rule from r) e)) p ∙ q
+      let x : exit S (with_places rule from r) e ≡ false = ap (λ t. (t && nullable (with_places rule from r)) || final S (with_places rule from r)) is ∙ f in
+      let q = no_next (from + letters r) s (exit S (with_places rule from r) e) x (λ n le lt. h n (omega (arith, le)) (omega (arith, lt))) in
+      ap (λ t. t ++ nexts S (with_places rule (from + letters r) s) (exit S (with_places rule from r) e)) p ∙ q
   no_next from (alt r s) e is h =
       let p = no_next from r e is (λ n le lt. h n le (omega (arith, lt))) in
       let q = no_next (from + letters r) s e is (λ n le lt. h n (omega (arith, le)) (omega (arith, lt))) in
-      ap (λ t. t ++ nexts S (numbered rule (from + letters r) s) e) p ∙ q
+      ap (λ t. t ++ nexts S (with_places rule (from + letters r) s) e) p ∙ q
   no_next from (many r) e is h =
       let f = no_final from r h in
-      no_next from r (e || final S (numbered rule from r)) (ap (λ t. t || final S (numbered rule from r)) is ∙ f) h
+      no_next from r (e || final S (with_places rule from r)) (ap (λ t. t || final S (with_places rule from r)) is ∙ f) h
 
 pub idle_walked : (rule : Rule) (set next : List ℕ) (entered : Bool) → entered ≡ false → ((n : ℕ) → rule.from ≤ n → n < rule.to → bit set n ≡ false) → IsWalked rule entered set next next false
 idle_walked rule set next entered e h =
     record {
       ends_there = λ number from r is.
           let f = no_final (bit set) number from (re r) (λ n le lt. h n (omega (arith, le, is.low)) (omega (arith, lt, is.high))) in
-          sym (ap (λ t. (t && nullable (numbered number from (re r))) || final (bit set) (numbered number from (re r))) e ∙ f);
+          sym (ap (λ t. (t && nullable (with_places number from (re r))) || final (bit set) (with_places number from (re r))) e ∙ f);
       puts = λ number from r is.
           let f = no_next (bit set) number from (re r) entered e (λ n le lt. h n (omega (arith, le, is.low)) (omega (arith, lt, is.high))) in
           subst (λ t. Puts next next t) (sym f) (puts_none next);
@@ -101,7 +101,7 @@ idle_walked rule set next entered e h =
 -- ---- any other rule
 
 -- the ends that were found are those of the rule
-finals_found : (rule : Rule) (set : List ℕ) (number from : ℕ) (r : Regex) (bs : List Bool) → IsRule rule from r → bs ≡ (back_all (bit set) rule.ops.items start_back).finals → bs ≡ finals (bit set) (numbered number from (re r))
+finals_found : (rule : Rule) (set : List ℕ) (number from : ℕ) (r : Regex) (bs : List Bool) → IsRule rule from r → bs ≡ (back_all (bit set) rule.ops.items start_back).finals → bs ≡ finals (bit set) (with_places number from (re r))
 finals_found rule set number from r bs is e =
     e
     ∙ ap (λ t. (back_all (bit set) t start_back).finals) is.steps
@@ -116,7 +116,7 @@ walked rule set old new entered ends bs found live puts =
           ∙ ap (λ t. (go_all (bit set) (flat from r) (start_on entered t)).live) (finals_found rule set number from r bs is (found from r is))
           ∙ ap (λ t. t.live) (go_flat (bit set) number from r entered [] []);
       puts = λ number from r is.
-          let e : put_all (bit set) rule.ops.items (start_on entered bs) ≡ nexts (bit set) (numbered number from (re r)) entered =
+          let e : put_all (bit set) rule.ops.items (start_on entered bs) ≡ nexts (bit set) (with_places number from (re r)) entered =
           ap (λ t. put_all (bit set) t (start_on entered bs)) is.steps
           ∙ ap (λ t. put_all (bit set) (flat from r) (start_on entered t)) (finals_found rule set number from r bs is (found from r is))
           ∙ put_flat (bit set) number from r entered [] []

@@ -9,7 +9,7 @@ use Rattle.cs_automaton.specs.declared.op.Frame.{Frame}
 use Rattle.cs_automaton.specs.Re.{Re}
 use Rattle.cs_automaton.specs.Meaning.{re, cat_of, alt_of}
 use Rattle.cs_automaton.specs.Linear.{nullable}
-use Rattle.cs_automaton.specs.Places.{Place, letters, numbered}
+use Rattle.cs_automaton.specs.Places.{Place, letters, with_places}
 use Rattle.cs_automaton.specs.Exits.{final, exit, nexts, finals}
 use Rattle.cs_automaton.specs.Flat.{flat, flat_join, flat_either}
 use Rattle.cs_automaton.specs.Walks.{Going, Backing, frame, below, before_last, go, go_all, put, put_all, back, back_all}
@@ -142,16 +142,16 @@ module _ (S : ℕ → Bool) where
 
 module _ (S : ℕ → Bool) (rule : ℕ) where
   abbrev num : ℕ → Regex → Re Place
-  num from r = numbered rule from (re r)
+  num from r = with_places rule from (re r)
 
   abbrev nj : ℕ → Parts → Re Place
-  nj from ps = numbered rule from (cat_of ps)
+  nj from ps = with_places rule from (cat_of ps)
 
   abbrev ne : ℕ → Parts → Re Place
-  ne from ps = numbered rule from (alt_of ps)
+  ne from ps = with_places rule from (alt_of ps)
 
   mutual
-    pub go_flat : (from : ℕ) (r : Regex) (e : Bool) (fs : List Frame) (bs : List Bool) → go_all S (flat from r) (going e fs (bs ++ finals S (numbered rule from (re r)))) ≡ going (exit S (numbered rule from (re r)) e) fs bs
+    pub go_flat : (from : ℕ) (r : Regex) (e : Bool) (fs : List Frame) (bs : List Bool) → go_all S (flat from r) (going e fs (bs ++ finals S (with_places rule from (re r)))) ≡ going (exit S (with_places rule from (re r)) e) fs bs
     go_flat from Empty e fs bs = ap (λ t. going e fs t) (append-nil bs) ∙ ap (λ t. going t fs bs) (sym (stays e))
     go_flat from (Class set) e fs bs = ap (λ t. going (S from) fs t) (append-nil bs) ∙ ap (λ t. going (t || S from) fs bs) (sym (with_false e))
     go_flat from (Join ps) e fs bs = go_join from ps e fs bs
@@ -199,7 +199,7 @@ module _ (S : ℕ → Bool) (rule : ℕ) where
   -- ---- what may come next
 
   mutual
-    pub put_flat : (from : ℕ) (r : Regex) (e : Bool) (fs : List Frame) (bs : List Bool) → put_all S (flat from r) (going e fs (bs ++ finals S (numbered rule from (re r)))) ≡ nexts S (numbered rule from (re r)) e
+    pub put_flat : (from : ℕ) (r : Regex) (e : Bool) (fs : List Frame) (bs : List Bool) → put_all S (flat from r) (going e fs (bs ++ finals S (with_places rule from (re r)))) ≡ nexts S (with_places rule from (re r)) e
     put_flat from Empty e fs bs = refl
     put_flat from (Class set) e fs bs = append-nil (if e then from ∷ [] else [])
     put_flat from (Join ps) e fs bs = put_join from ps e fs bs
@@ -273,7 +273,7 @@ module _ (S : ℕ → Bool) (rule : ℕ) where
       ∙ ap (λ t. backing (a && true) (n || (a && false)) fs t) (sym (append-nil bs))
 
   mutual
-    pub back_flat : (from : ℕ) (r : Regex) (a n : Bool) (fs : List Frame) (bs : List Bool) → back_all S (flat from r) (backing a n fs bs) ≡ backing (a && nullable (numbered rule from (re r))) (n || (a && final S (numbered rule from (re r)))) fs (bs ++ finals S (numbered rule from (re r)))
+    pub back_flat : (from : ℕ) (r : Regex) (a n : Bool) (fs : List Frame) (bs : List Bool) → back_all S (flat from r) (backing a n fs bs) ≡ backing (a && nullable (with_places rule from (re r))) (n || (a && final S (with_places rule from (re r)))) fs (bs ++ finals S (with_places rule from (re r)))
     back_flat from Empty a n fs bs = unmoved a n fs bs
     back_flat from (Class set) a n fs bs =
         ap (λ t. backing t (n || (a && S from)) fs bs) (sym (with_false a)) ∙ ap (λ t. backing (a && false) (n || (a && S from)) fs t) (sym (append-nil bs))

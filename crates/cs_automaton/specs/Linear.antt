@@ -31,9 +31,9 @@ module _ {A : Type 0} where
   Starts (r ∷ rs) a next = First r rs a next ⊎ (IsTrue (nullable r) × Starts rs a next)
 
   -- From these patterns the letters lead to those.
-  abbrev pub Leads : List (Re A) → List A → List (Re A) → Type 0
-  Leads rs [] last = rs ≡ last
-  Leads rs (a ∷ letters) last = (next : List (Re A)) × Starts rs a next × Leads next letters last
+  abbrev pub GoesBy : List (Re A) → List A → List (Re A) → Type 0
+  GoesBy rs [] last = rs ≡ last
+  GoesBy rs (a ∷ letters) last = (next : List (Re A)) × Starts rs a next × GoesBy next letters last
 
   -- The letter a stands somewhere in r, with the patterns `next` behind it where rs stand behind r.
   abbrev pub Stands : Re A → List (Re A) → A → List (Re A) → Type 0

@@ -18,18 +18,18 @@ letters (alt r s) = letters r + letters s
 letters (many r) = letters r
 
 -- the classes of a rule's pattern numbered from left to right, the first as told
-abbrev pub numbered : ℕ → ℕ → Re (List ℕ) → Re Place
-numbered rule from empty = empty
-numbered rule from (letter class) = letter (record { number = from; rule = rule; class = class })
-numbered rule from nothing = nothing
-numbered rule from (cat r s) = cat (numbered rule from r) (numbered rule (from + letters r) s)
-numbered rule from (alt r s) = alt (numbered rule from r) (numbered rule (from + letters r) s)
-numbered rule from (many r) = many (numbered rule from r)
+abbrev pub with_places : ℕ → ℕ → Re (List ℕ) → Re Place
+with_places rule from empty = empty
+with_places rule from (letter class) = letter (record { number = from; rule = rule; class = class })
+with_places rule from nothing = nothing
+with_places rule from (cat r s) = cat (with_places rule from r) (with_places rule (from + letters r) s)
+with_places rule from (alt r s) = alt (with_places rule from r) (with_places rule (from + letters r) s)
+with_places rule from (many r) = many (with_places rule from r)
 
 -- all patterns, with their classes numbered through; the rules are numbered through too
 abbrev pub any_of : ℕ → ℕ → List (Re (List ℕ)) → Re Place
 any_of rule from [] = nothing
-any_of rule from (r ∷ rs) = alt (numbered rule from r) (any_of (suc rule) (from + letters r) rs)
+any_of rule from (r ∷ rs) = alt (with_places rule from r) (any_of (suc rule) (from + letters r) rs)
 
 abbrev pub whole : List (Re (List ℕ)) → Re Place
 whole rs = any_of 1 0 rs

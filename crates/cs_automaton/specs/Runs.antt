@@ -7,7 +7,7 @@ use Rattle.cs_automaton.specs.declared.program.Rule.{Rule}
 use Rattle.cs_automaton.specs.Bits.{bit, Puts}
 use Rattle.cs_automaton.specs.Exits.{exit, nexts}
 use Rattle.cs_automaton.specs.Meaning.{re}
-use Rattle.cs_automaton.specs.Places.{numbered}
+use Rattle.cs_automaton.specs.Places.{with_places}
 use Rattle.cs_automaton.specs.Programs.{IsRule}
 use Rattle.cs_automaton.specs.declared.op.Op.{Op}
 use Rattle.cs_automaton.specs.Walks.{Going, Backing, back_all, go_all, put_all}
@@ -31,8 +31,8 @@ FindsEnds rule set ends = (from : ℕ) (r : Regex) → IsRule rule from r → en
 
 -- The rule, entered or not, was walked over a set: whether a word may end at one of its places, and what may come next.
 pub record IsWalked (rule : Rule) (entered : Bool) (set old new : List ℕ) (ends : Bool) : Type 0 where
-  pub ends_there : (number from : ℕ) (r : Regex) → IsRule rule from r → ends ≡ exit (bit set) (numbered number from (re r)) entered
-  pub puts : (number from : ℕ) (r : Regex) → IsRule rule from r → Puts old new (nexts (bit set) (numbered number from (re r)) entered)
+  pub ends_there : (number from : ℕ) (r : Regex) → IsRule rule from r → ends ≡ exit (bit set) (with_places number from (re r)) entered
+  pub puts : (number from : ℕ) (r : Regex) → IsRule rule from r → Puts old new (nexts (bit set) (with_places number from (re r)) entered)
 
 abbrev pub start_on : Bool → List Bool → Going
 start_on entered finals = record { live = entered; frames = []; finals = finals }

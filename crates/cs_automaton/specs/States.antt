@@ -8,7 +8,7 @@ use Rattle.cs_automaton.specs.Bits.{bit, Puts}
 use Rattle.cs_automaton.specs.Exits.{exit, nexts}
 use Rattle.cs_automaton.specs.Linear.{Starts}
 use Rattle.cs_automaton.specs.Meaning.{all_classes}
-use Rattle.cs_automaton.specs.Places.{Place, whole, numbered, all_letters, IsFull}
+use Rattle.cs_automaton.specs.Places.{Place, whole, with_places, all_letters, IsFull}
 use Rattle.cs_automaton.specs.Re.{Re}
 use Rattle.cs_automaton.specs.Reached.{Reaches, ReachesNumber}
 use Rattle.cs_automaton.specs.Rules.{IsFirstSpelled}
@@ -151,7 +151,7 @@ earlier None false index = None
 pub record EndsAt (rs : List (Re (List ℕ))) (S : ℕ → Bool) (entered : Bool) (index : ℕ) : Type 0 where
   pub pattern : Re (List ℕ)
   pub at : slice_get rs index ≡ Some pattern
-  pub ends : (number from : ℕ) → number ≡ suc index → from ≡ all_letters (take index rs) → exit S (numbered number from pattern) entered ≡ true
+  pub ends : (number from : ℕ) → number ≡ suc index → from ≡ all_letters (take index rs) → exit S (with_places number from pattern) entered ≡ true
 
 -- the lowest rule that ends, among those below the index
 abbrev pub IsLowest : List (Re (List ℕ)) → (ℕ → Bool) → Bool → ℕ → Option ℕ → Type 0

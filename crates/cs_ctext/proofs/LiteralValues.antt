@@ -184,11 +184,11 @@ literal_read bytes text at value size quote is e some small close =
     rw (front, end) (IsLiteral-from_found text value size e (omega arith) (omega arith) close)
 
 -- what of the character in front of the text is no literal's
-abbrev pub Refuses : List ℕ → Option (ℕ × ℕ) → Type 0
-Refuses text None = Unit {0}
-Refuses text (Some (value, size)) = (value ≡ 0) ⊎ ((255 < value) ⊎ (begins_with 39 (drop size text) ≡ false))
+abbrev pub IsNoLiteral : List ℕ → Option (ℕ × ℕ) → Type 0
+IsNoLiteral text None = Unit {0}
+IsNoLiteral text (Some (value, size)) = (value ≡ 0) ⊎ ((255 < value) ⊎ (begins_with 39 (drop size text) ≡ false))
 
-refused : (text : List ℕ) (found : Option (ℕ × ℕ)) (byte n : ℕ) → Refuses text found → found ≡ pair byte n → 0 < byte → byte < 256 → begins_with 39 (drop n text) ≡ true → ⊥
+refused : (text : List ℕ) (found : Option (ℕ × ℕ)) (byte n : ℕ) → IsNoLiteral text found → found ≡ pair byte n → 0 < byte → byte < 256 → begins_with 39 (drop n text) ≡ true → ⊥
 refused text None byte n h e some small close = cc
 refused text (Some (value, size)) byte n (inl zero_value) e some small close =
     let same : value ≡ byte = first_same value size byte n e in
@@ -199,7 +199,7 @@ refused text (Some (value, size)) byte n (inr (inl large)) e some small close =
 refused text (Some (value, size)) byte n (inr (inr open_end)) e some small close =
     false≢true (sym open_end ∙ (ap (λ k. begins_with 39 (drop k text)) (second_same value size byte n e) ∙ close))
 
-pub literal_refused : (bytes text : List ℕ) (at : ℕ) (found : Option (ℕ × ℕ)) → slice_get bytes at ≡ Some 39 → text ≡ drop (at + 1) bytes → found ≡ character_of text → Refuses text found
+pub literal_refused : (bytes text : List ℕ) (at : ℕ) (found : Option (ℕ × ℕ)) → slice_get bytes at ≡ Some 39 → text ≡ drop (at + 1) bytes → found ≡ character_of text → IsNoLiteral text found
     → (byte size : ℕ) → ¬ IsLiteral (drop at bytes) byte size
 literal_refused bytes text at found quote is e h byte size literal =
     let front : drop at bytes ≡ 39 ∷ text = front_got bytes at 39 quote ∙ ap (λ t. 39 ∷ t) (sym is) in

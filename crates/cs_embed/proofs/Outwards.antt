@@ -267,11 +267,11 @@ module _ (w : Measure) (g : PlainGrammar) (places : List Place) (table : List Re
       (told_none w.limit g net at (reach_at table at) (subst (IsFirstTold net (start_of g) at (reach_at table at)) is (told_first o read)) small)
 
 -- where the writer of the rule numbers before a hole stands: what it has written, and the places that are left
-pub record Leads (w : Measure) (g : PlainGrammar) (start_places : List Place) (start : List ℕ) (places : List Place) (out : List ℕ) : Type 0 where
+pub record LeadsThrough (w : Measure) (g : PlainGrammar) (start_places : List Place) (start : List ℕ) (places : List Place) (out : List ℕ) : Type 0 where
   pub small : All (IsSmallPlace w g) places
   pub rest : (text : List ℕ) → IsLead w g (reverse start_places) text → (more : List ℕ) × IsLead w g (reverse places) more × (out ++ more ≡ start ++ text)
 
-pub leads_more : (w : Measure) (g : PlainGrammar) (start_places : List Place) (start : List ℕ) (items places : List Place) (out out' out'' : List ℕ) (a : Place) (p : Production) → items ≡ places ++ a ∷ [] → IsRule g a.rule p → out' ≡ out ++ a.rule ∷ [] → AppendsAllChosen w g (take a.place p.right) out' out'' → Leads w g start_places start items out → Leads w g start_places start places out''
+pub leads_more : (w : Measure) (g : PlainGrammar) (start_places : List Place) (start : List ℕ) (items places : List Place) (out out' out'' : List ℕ) (a : Place) (p : Production) → items ≡ places ++ a ∷ [] → IsRule g a.rule p → out' ≡ out ++ a.rule ∷ [] → AppendsAllChosen w g (take a.place p.right) out' out'' → LeadsThrough w g start_places start items out → LeadsThrough w g start_places start places out''
 leads_more w g start_places start items places out out' out'' a p e rule pushed appended so_far = record {
   small = All-left (IsSmallPlace w g) places (a ∷ []) (subst (λ (l : List Place). All (IsSmallPlace w g) l) e so_far.small);
   rest = λ text is.

@@ -18,12 +18,12 @@ use Rattle.cs_input.specs.Files.{FileIs, FilesAre, IsGrammarOf, IsPairOf, IsShor
 use Rattle.cs_input.specs.Refusal.{RefusesGrammar, RefusesPair, RefusesRead, RefusesReadGrammar, StopsGrammar, StopsPair, lex_stop}
 
 -- The bytes are the whole file, or its beginning where it is too long.
-pub record Begins (bytes whole : List ℕ) : Type 0 where
+pub record IsFrontOf (bytes whole : List ℕ) : Type 0 where
   pub all : length bytes ≤ 1048576 → bytes ≡ whole
   pub long : 1048576 < length bytes → 1048576 < length whole
 
 -- a read gave one of the two
-begins : (found : Option (List ℕ)) (bytes : List ℕ) → option_map (λ whole. take (MOST_BYTES + 1) whole) found ≡ Some bytes → IsSomeAnd found (Begins bytes)
+begins : (found : Option (List ℕ)) (bytes : List ℕ) → option_map (λ whole. take (MOST_BYTES + 1) whole) found ≡ Some bytes → IsSomeAnd found (IsFrontOf bytes)
 begins None bytes gave = absurd cc
 begins (Some whole) bytes gave =
     let cut : take (MOST_BYTES + 1) whole ≡ bytes = cc in
@@ -37,11 +37,11 @@ some_more None is more = is
 some_more (Some a) is more = more a is
 
 -- what holds of all files that begin so holds of the file
-pub file_is : (files : Option Files) (name bytes : List ℕ) → IsBeginning files name (MOST_BYTES + 1) bytes → (P : List ℕ → Type 0) → ((whole : List ℕ) → Begins bytes whole → P whole) → FileIs files name P
+pub file_is : (files : Option Files) (name bytes : List ℕ) → IsBeginning files name (MOST_BYTES + 1) bytes → (P : List ℕ → Type 0) → ((whole : List ℕ) → IsFrontOf bytes whole → P whole) → FileIs files name P
 file_is None name bytes read P holds = tt
 file_is (Some files) name bytes read P holds = some_more (file_named files name) (begins (file_named files name) bytes read) holds
 
-pub files_are : (files : Option Files) (name other bytes more : List ℕ) → IsBeginning files name (MOST_BYTES + 1) bytes → IsBeginning files other (MOST_BYTES + 1) more → (P : List ℕ → List ℕ → Type 0) → ((whole rest : List ℕ) → Begins bytes whole → Begins more rest → P whole rest) → FilesAre files name other P
+pub files_are : (files : Option Files) (name other bytes more : List ℕ) → IsBeginning files name (MOST_BYTES + 1) bytes → IsBeginning files other (MOST_BYTES + 1) more → (P : List ℕ → List ℕ → Type 0) → ((whole rest : List ℕ) → IsFrontOf bytes whole → IsFrontOf more rest → P whole rest) → FilesAre files name other P
 files_are None name other bytes more read read_more P holds = tt
 files_are (Some files) name other bytes more read read_more P holds =
     some_more (file_named files name) (begins (file_named files name) bytes read)

@@ -18,7 +18,7 @@ use Rattle.cs_lex_layout.specs.Bytes.{is_name_byte}
 use Rattle.cs_lex_layout.specs.Patterns.{IsQuotedText, IsBracket, unit_kind, ClosedOrLine, UnitOf, IsUnit, IsPattern}
 use Rattle.cs_lex_layout.specs.Runs.{ends_part, IsPiece, part, block, IsOpen, open_comment, open_brace, IsRun, IsOpenRun}
 use Rattle.cs_lex_layout.specs.Forms.{blanks, IsTail, IsNoDefinition}
-use Rattle.cs_lex_layout.proofs.Walks.{AreUnique, Ends, covers_same, covers_apart}
+use Rattle.cs_lex_layout.proofs.Walks.{AreUnique, StopsBefore, covers_same, covers_apart}
 use Rattle.cs_lex_layout.proofs.Units.{quoted_same, bracket_same}
 
 -- ---- patterns
@@ -46,7 +46,7 @@ space_kind b text e =
     let r : eqb b 91 ≡ false = grind (arith, nat_tests) in
     rw (p, q, r, e) refl
 
-pub pattern_ends : Ends IsUnit (λ rest. IsTrue (front_or_end is_space rest))
+pub pattern_ends : StopsBefore IsUnit (λ rest. IsTrue (front_or_end is_space rest))
 pattern_ends [] n e u = u
 pattern_ends (b ∷ text) n e u = subst (λ (k : UnitKind). UnitOf k (b ∷ text) n) (space_kind b text e) u
 
@@ -86,7 +86,7 @@ part_of_nothing (comment {n = n} h) e = nothing_opens (subst OpensComment e (ope
 part_of_nothing (quoted {n = n} h) e = subst (λ (t : List ℕ). IsQuoted t n) e h
 part_of_nothing (other plain opens closes) e = cc
 
-pub newline_ends : (braces : Bool) → Ends (IsPiece braces) (λ rest. IsTrue (front_or_end is_newline rest))
+pub newline_ends : (braces : Bool) → StopsBefore (IsPiece braces) (λ rest. IsTrue (front_or_end is_newline rest))
 newline_ends braces [] n e (part p) = part_of_nothing p refl
 newline_ends braces [] n e (block t b) = b
 newline_ends braces (b ∷ text) n e (part p) = let is : is_newline b ≡ true = e in let f : ends_part braces b ≡ true = rw is refl in false≢true (sym (part_front braces b text n p) ∙ f)
@@ -101,7 +101,7 @@ brace_part braces [] n t e p = false≢true e
 brace_part false (b ∷ text) n t e p = false≢true t
 brace_part true (b ∷ text) n t e p = let is : b ≡ 123 = eqb-true b 123 e in let f : ends_part true 123 ≡ false = subst (λ (k : ℕ). ends_part true k ≡ false) is (part_front true b text n p) in false≢true (sym f)
 
-pub open_ends : (braces : Bool) → Ends (IsPiece braces) (IsOpen braces)
+pub open_ends : (braces : Bool) → StopsBefore (IsPiece braces) (IsOpen braces)
 open_ends braces text n (open_comment h) (part p) =
     let e : part_size text ≡ Some n = part_size-part (ends_part braces) p in
     let f : part_size text ≡ None = part_size-open text h in

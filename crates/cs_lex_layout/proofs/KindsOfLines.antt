@@ -16,7 +16,7 @@ use Rattle.cs_lex_layout.specs.Forms as forms
 use Rattle.cs_lex_layout.specs.Forms.{blanks, options_of, IsCodeBlock, AreOptions, IsFirstUnknown, IsLoose}
 use Rattle.cs_lex_layout.specs.Layout as spec
 use Rattle.cs_lex_layout.specs.Layout.{bytes_of, names_of, has_name, definition_at, rule_at, DefinitionsPlace, HasDefinitionAt, IsPassed, DefinitionsLine, no_definitions, HasDefinitions, RulesPlace, HasRuleAt, IsPassedRule, RulesLine, no_rules, HasRules, HasLayout, DefinitionsFault, RulesFault, StopsWith, in_definitions, in_rules}
-use Rattle.cs_lex_layout.proofs.Walks.{Ends, covers_same, covers_apart, sized_unique, sized_none, Halts}
+use Rattle.cs_lex_layout.proofs.Walks.{StopsBefore, covers_same, covers_apart, sized_unique, sized_none, Halts}
 use Rattle.cs_lex_layout.proofs.Extents.{pattern_same, run_same, open_run_same, run_not_open}
 
 -- ---- forms have one end
@@ -43,10 +43,10 @@ code_block_same text n m x y = by_order (order x.inside y.inside)
 pub loose_same : (text : List ℕ) (n m : ℕ) → IsLoose text n → IsLoose text m → n ≡ m
 loose_same text n m x y = x.ends ∙ (ap (λ (k : ℕ). k + line_size (drop k text)) (run_same false text x.inside y.inside x.run y.run) ∙ sym y.ends)
 
-nothing_ends : Ends (HasSize option_size) (λ rest. rest ≡ [])
+nothing_ends : StopsBefore (HasSize option_size) (λ rest. rest ≡ [])
 nothing_ends text n e u = sized_none option_size text (ap option_size e) n u
 
-unknown_ends : Ends (HasSize option_size) (λ rest. IsTrue (front is_option_byte rest) × (option_size rest ≡ 0))
+unknown_ends : StopsBefore (HasSize option_size) (λ rest. IsTrue (front is_option_byte rest) × (option_size rest ≡ 0))
 unknown_ends text n e u = sized_none option_size text e.1 n u
 
 options_apart : (text : List ℕ) → text ≡ [] → (IsTrue (front is_option_byte text) × (option_size text ≡ 0)) → ⊥

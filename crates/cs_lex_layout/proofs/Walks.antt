@@ -25,8 +25,8 @@ abbrev pub AreUnique : (List ℕ → ℕ → Type 0) → Type 0
 AreUnique Unit = (text : List ℕ) (n m : ℕ) → Unit text n → Unit text m → n ≡ m
 
 -- no unit stands in front of such a rest
-abbrev pub Ends : (List ℕ → ℕ → Type 0) → (List ℕ → Type 0) → Type 0
-Ends Unit Rest = (text : List ℕ) (n : ℕ) → Rest text → Unit text n → ⊥
+abbrev pub StopsBefore : (List ℕ → ℕ → Type 0) → (List ℕ → Type 0) → Type 0
+StopsBefore Unit Rest = (text : List ℕ) (n : ℕ) → Rest text → Unit text n → ⊥
 
 spans_same : (Unit : List ℕ → ℕ → Type 0) → AreUnique Unit → (text : List ℕ) (a b c : ℕ) → Spans Unit text a b → Spans Unit text a c → b ≡ c
 spans_same Unit unique text a b c x y = omega (arith, x.ends, y.ends, unique (drop a text) x.size y.size x.unit y.unit)
@@ -36,11 +36,11 @@ pub units_same : (Unit : List ℕ → ℕ → Type 0) → AreUnique Unit → (te
     → ((k : ℕ) → Unit (drop n text) k → ⊥) → ((k : ℕ) → Unit (drop m text) k → ⊥) → n ≡ m
 units_same Unit unique text n m x y p q = one_halt (spans_same Unit unique text) x m y (λ t s. p s.size s.unit) (λ t s. q s.size s.unit)
 
-pub covers_same : (Unit : List ℕ → ℕ → Type 0) (Rest Other : List ℕ → Type 0) → AreUnique Unit → Ends Unit Rest → Ends Unit Other → (text : List ℕ) (n m : ℕ) → Covers Unit Rest text n → Covers Unit Other text m → n ≡ m
+pub covers_same : (Unit : List ℕ → ℕ → Type 0) (Rest Other : List ℕ → Type 0) → AreUnique Unit → StopsBefore Unit Rest → StopsBefore Unit Other → (text : List ℕ) (n m : ℕ) → Covers Unit Rest text n → Covers Unit Other text m → n ≡ m
 covers_same Unit Rest Other unique ends stops text n m x y = units_same Unit unique text n m x.units y.units (λ k. ends (drop n text) k x.rest) (λ k. stops (drop m text) k y.rest)
 
 -- what one kind of rest ends, another one that no text is too doesn't
-pub covers_apart : (Unit : List ℕ → ℕ → Type 0) (Rest Other : List ℕ → Type 0) → AreUnique Unit → Ends Unit Rest → Ends Unit Other → ((t : List ℕ) → Rest t → Other t → ⊥) → (text : List ℕ) (n m : ℕ) → Covers Unit Rest text n → Covers Unit Other text m → ⊥
+pub covers_apart : (Unit : List ℕ → ℕ → Type 0) (Rest Other : List ℕ → Type 0) → AreUnique Unit → StopsBefore Unit Rest → StopsBefore Unit Other → ((t : List ℕ) → Rest t → Other t → ⊥) → (text : List ℕ) (n m : ℕ) → Covers Unit Rest text n → Covers Unit Other text m → ⊥
 covers_apart Unit Rest Other unique ends stops apart text n m x y =
     apart (drop n text) x.rest (subst (λ (k : ℕ). Other (drop k text)) (sym (covers_same Unit Rest Other unique ends stops text n m x y)) y.rest)
 

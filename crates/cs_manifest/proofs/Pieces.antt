@@ -9,7 +9,7 @@ use Rattle.cs_io.specs.Sink.{GrewByPrefix}
 use Rattle.cs_io.specs.declared.sink.Sink as Sink
 use Rattle.cs_manifest.specs.declared.output.Output.{Output}
 use Rattle.cs_manifest.specs.Putting.{IsPut, IsCut, IsLeft, Puts, shown}
-use Rattle.cs_manifest.specs.Words.{spaced, numbered}
+use Rattle.cs_manifest.specs.Words.{spaced, with_numbers}
 
 module _ {S : Type 0} {g : Sink.Ghosts S} where
   both_put : {old mid new : Output S} (first second : List ℕ) → IsPut g first old mid → IsPut g second mid new → IsPut g (first ++ second) old new
@@ -118,8 +118,8 @@ module _ {S : Type 0} {g : Sink.Ghosts S} where
 
   -- one more member of a list of lines
   pub numbered_more : {A : Type 0} (f : ℕ → A → List ℕ) {old mid new : Output S} (xs : List A) (i : ℕ) (x : A) → i < length xs → x ≡ get_or xs i x
-      → Puts g (numbered f (take i xs)) old mid → Puts g (f (i + 1) x) mid new → Puts g (numbered f (take (i + 1) xs)) old new
-  numbered_more {A} f xs i x within is so_far more = spelled (numbered f (take (i + 1) xs)) whole (then so_far more)
+      → Puts g (with_numbers f (take i xs)) old mid → Puts g (f (i + 1) x) mid new → Puts g (with_numbers f (take (i + 1) xs)) old new
+  numbered_more {A} f xs i x within is so_far more = spelled (with_numbers f (take (i + 1) xs)) whole (then so_far more)
     where
       enumerate_push : (n : ℕ) (xs : List A) (x : A) → enumerate_from n (xs ++ x ∷ []) ≡ enumerate_from n xs ++ (n + length xs, x) ∷ []
       enumerate_push n [] x = let e : n ≡ n + 0 = omega arith in ap (λ (k : ℕ). (k, x) ∷ []) e
@@ -127,15 +127,15 @@ module _ {S : Type 0} {g : Sink.Ghosts S} where
           let e : n + 1 + length xs ≡ n + length (y ∷ xs) = omega arith in
           ap (λ (ps : List (ℕ × A)). (n, y) ∷ ps) (enumerate_push (n + 1) xs x ∙ ap (λ (k : ℕ). enumerate_from (n + 1) xs ++ (k, x) ∷ []) e)
 
-      whole : numbered f (take i xs) ++ f (i + 1) x ≡ numbered f (take (i + 1) xs)
+      whole : with_numbers f (take i xs) ++ f (i + 1) x ≡ with_numbers f (take (i + 1) xs)
       whole =
           let number : i + 1 ≡ 1 + length (take i xs) = omega (arith, length-take-le i xs) in
-          ap (λ (y : A). numbered f (take i xs) ++ f (i + 1) y) is
-          ∙ ap (λ (k : ℕ). numbered f (take i xs) ++ f k (get_or xs i x)) number
+          ap (λ (y : A). with_numbers f (take i xs) ++ f (i + 1) y) is
+          ∙ ap (λ (k : ℕ). with_numbers f (take i xs) ++ f k (get_or xs i x)) number
           ∙ flat_map_more (λ (p : ℕ × A). f p.0 p.1) [] (enumerate_from 1 (take i xs)) (1 + length (take i xs), get_or xs i x)
           ∙ ap (λ (ps : List (ℕ × A)). flat_map (λ (p : ℕ × A). f p.0 p.1) ps) (sym (enumerate_push 1 (take i xs) (get_or xs i x)))
-          ∙ ap (λ (ys : List A). numbered f ys) (sym (take_more xs i x within))
+          ∙ ap (λ (ys : List A). with_numbers f ys) (sym (take_more xs i x within))
 
   pub numbered_all : {A : Type 0} (f : ℕ → A → List ℕ) {old new : Output S} (xs : List A) (i : ℕ) → length xs ≤ i
-      → Puts g (numbered f (take i xs)) old new → Puts g (numbered f xs) old new
-  numbered_all {A} f xs i all p = spelled (numbered f xs) (ap (numbered f) (take_all i xs all)) p
+      → Puts g (with_numbers f (take i xs)) old new → Puts g (with_numbers f xs) old new
+  numbered_all {A} f xs i all p = spelled (with_numbers f xs) (ap (with_numbers f) (take_all i xs all)) p

@@ -10,8 +10,8 @@ use Rattle.cs_manifest.specs.Lines.{head_lines}
 use Rattle.cs_manifest.specs.SharedLines.{shared_head_lines}
 
 -- its file, and the texts of its lexemes, if it has some
-abbrev pub file_of : Head → File
-file_of head = head.yacc.now
+abbrev pub yacc_of : Head → File
+yacc_of head = head.yacc.now
 
 abbrev pub lexemes_in : Form → Option (List (Option (List ℕ)))
 lexemes_in Rules = None
@@ -41,7 +41,7 @@ lines_with file lexemes (Some sharing) = shared_head_lines file sharing.weigh le
 
 -- the lines of the head
 abbrev pub head_of : Head → List ℕ
-head_of head = lines_with (file_of head) (lexemes_of head) (sharing_of head)
+head_of head = lines_with (yacc_of head) (lexemes_of head) (sharing_of head)
 
 -- how many cases stand behind it, where it is of the second format
 abbrev pub no_cases : Option Sharing → Option ℕ
@@ -58,4 +58,4 @@ abbrev pub AreSetsOf : File → Option Sharing → Type 0
 AreSetsOf file sharing = IfSome sharing (λ s. AreClosedSets file.grammar s.closed)
 
 abbrev pub IsNamedHead : Head → Type 0
-IsNamedHead head = AreLexemesOf (file_of head) (lexemes_of head) × AreSetsOf (file_of head) (sharing_of head)
+IsNamedHead head = AreLexemesOf (yacc_of head) (lexemes_of head) × AreSetsOf (yacc_of head) (sharing_of head)

@@ -13,7 +13,7 @@ use Rattle.cs_mutate.specs.declared.edit.Edit.{Edit}
 use Rattle.cs_mutate.specs.declared.edit.Edit.TheVariants.{Delete, Insert, Replace, Swap}
 use Rattle.cs_lexeme.specs.Lexeme.{lexeme_in}
 use Rattle.cs_render.specs.Rendering.{Rendering, Text, NoLexeme, Differs}
-use Rattle.cs_manifest.specs.Words.{line, spaced, numbered, quoted}
+use Rattle.cs_manifest.specs.Words.{line, spaced, with_numbers, quoted}
 use Rattle.cs_manifest.specs.Names.{token_text, token_of, nonterminal_of, symbol_text, mark_text}
 
 -- a number behind its word
@@ -48,11 +48,11 @@ abbrev pub lexeme_line : List (Option (List ℕ)) → ℕ → TokenName → List
 lexeme_line lexemes number name = line (codes "lexeme " ++ token_text name ++ 32 ∷ lexeme_text (lexeme_in lexemes number))
 
 abbrev pub lexeme_lines : List (Option (List ℕ)) → List TokenName → List ℕ
-lexeme_lines lexemes names = numbered (lexeme_line lexemes) names
+lexeme_lines lexemes names = with_numbers (lexeme_line lexemes) names
 
 -- the tokens and the rules
 abbrev pub file_lines : File → List ℕ
-file_lines file = numbered token_line file.token_names ++ numbered (rule_line file) file.grammar.rules
+file_lines file = with_numbers token_line file.token_names ++ with_numbers (rule_line file) file.grammar.rules
 
 -- the tokens and the rules, and the lexemes where there are some
 abbrev pub table_lines : File → Option (List (Option (List ℕ))) → List ℕ

@@ -33,7 +33,7 @@ use Rattle.cs_manifest.specs.declared.format.Weigh.TheVariants.{Nodes, Bytes}
 use Rattle.cs_closed.specs.Closed.{AreClosedSets, ClosedSets}
 use Rattle.cs_manifest.specs.SharedLines.{case_lines, shared_goal_line, shared_head_lines}
 use Rattle.cs_manifest.specs.Lines.{head_lines, goal_lines, base_line, negative_lines, end_words, is_feasible, is_infeasible, is_large}
-use Rattle.cs_manifest.specs.Words.{numbered, numbered_from}
+use Rattle.cs_manifest.specs.Words.{with_numbers, numbered_from}
 
 -- ---- what is chosen
 
@@ -276,12 +276,12 @@ end_line entries bases = end_line_with None entries bases
 -- the text in the first format
 abbrev pub manifest_text : File → Option (List (Option (List ℕ))) → List GoalEntry → List BaseEntry → List ℕ
 manifest_text file lexemes entries bases =
-    head_lines file lexemes ++ numbered (goal_entry_lines file) entries ++ base_entry_lines file 0 0 bases ++ end_line entries bases
+    head_lines file lexemes ++ with_numbers (goal_entry_lines file) entries ++ base_entry_lines file 0 0 bases ++ end_line entries bases
 
 -- the text in the second format, with so many cases
 abbrev pub shared_text : File → Weigh → Option (List (Option (List ℕ))) → ClosedSets → List GoalEntry → List SharedEntry → ℕ → List BaseEntry → List ℕ
 shared_text file weigh lexemes closed entries list many bases =
-    shared_head_lines file weigh lexemes closed ++ numbered (shared_entry_lines file) list ++ base_entry_lines file 0 0 bases
+    shared_head_lines file weigh lexemes closed ++ with_numbers (shared_entry_lines file) list ++ base_entry_lines file 0 0 bases
     ++ end_line_with (Some many) entries bases
 
 -- it is the text in the second format

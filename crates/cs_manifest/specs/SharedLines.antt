@@ -9,7 +9,7 @@ use Rattle.cs_manifest.specs.declared.entry.SharedVerdict.{SharedVerdict}
 use Rattle.cs_manifest.specs.declared.entry.SharedVerdict.TheVariants.{Feasible, Infeasible, Large}
 use Rattle.cs_manifest.specs.declared.format.Weigh.{Weigh}
 use Rattle.cs_manifest.specs.declared.format.Weigh.TheVariants.{Nodes, Bytes}
-use Rattle.cs_manifest.specs.Words.{line, spaced, numbered}
+use Rattle.cs_manifest.specs.Words.{line, spaced, with_numbers}
 use Rattle.cs_manifest.specs.Names.{nonterminal_of, mark_text}
 use Rattle.cs_closed.specs.Closed.{ClosedSets}
 use Rattle.cs_manifest.specs.Lines.{numbered_word, token_words, table_lines, tree_lines, text_lines, goal_words}
@@ -38,7 +38,7 @@ edge_line set file nonterminal tokens = line (set ++ nonterminal_of file nonterm
 
 -- one for each nonterminal
 abbrev pub edge_lines : List ℕ → File → List (List ℕ) → List ℕ
-edge_lines set file edges = numbered (edge_line set file) edges
+edge_lines set file edges = with_numbers (edge_line set file) edges
 
 -- `closed next MARK :` and the marks behind it
 abbrev pub next_line : File → Mark → List Mark → List ℕ
@@ -50,7 +50,7 @@ token_next_line file token marks = next_line file (Token token) marks
 
 -- one for each token
 abbrev pub next_lines : File → List (List Mark) → List ℕ
-next_lines file nexts = numbered (token_next_line file) nexts
+next_lines file nexts = with_numbers (token_next_line file) nexts
 
 -- the sets of nonterminals
 abbrev pub set_lines : File → ClosedSets → List ℕ

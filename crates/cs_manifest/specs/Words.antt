@@ -15,8 +15,8 @@ abbrev pub numbered_from : {A : Type 0} → ℕ → (ℕ → A → List ℕ) →
 numbered_from n f xs = flat_map (λ p. f p.0 p.1) (enumerate_from n xs)
 
 -- with its number from 1 on
-abbrev pub numbered : {A : Type 0} → (ℕ → A → List ℕ) → List A → List ℕ
-numbered f xs = numbered_from 1 f xs
+abbrev pub with_numbers : {A : Type 0} → (ℕ → A → List ℕ) → List A → List ℕ
+with_numbers f xs = numbered_from 1 f xs
 
 -- `0` to `9` and `a` to `f`
 abbrev pub hexadecimal_digit : ℕ → ℕ

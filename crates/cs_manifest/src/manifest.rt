@@ -32,9 +32,9 @@ impl<'a> Model for Manifest<'a> {
 
     ghost Value = { Progress };
 
-    ghost use Rattle.cs_manifest.specs.Head.{file_of, lexemes_of};
+    ghost use Rattle.cs_manifest.specs.Head.{yacc_of, lexemes_of};
 
-    ghost view = { λ m. record { file = file_of m.head; lexemes = lexemes_of m.head; counts = m.counts } };
+    ghost view = { λ m. record { file = yacc_of m.head; lexemes = lexemes_of m.head; counts = m.counts } };
 }
 
 impl<'a> Manifest<'a> {

@@ -72,7 +72,7 @@ fn put_file<S: Sink>(output: &mut Output<'_, S>, file: &YaccFile)
 }
 
 fn put_tokens<S: Sink>(output: &mut Output<'_, S>, names: &[TokenName])
-    ensures { Puts S.Sink (words.numbered lines.token_line names.now) output.old output.new }
+    ensures { Puts S.Sink (words.with_numbers lines.token_line names.now) output.old output.new }
 {
     for (place, name) in names.iter().enumerate() {
         put_token_line(output, place as u64 + 1, name);
@@ -91,7 +91,7 @@ fn put_token_line<S: Sink>(output: &mut Output<'_, S>, number: u64, name: &Token
 
 fn put_rules<S: Sink>(output: &mut Output<'_, S>, file: &YaccFile, rules: &[Rule])
     requires { All (names.IsNamedRule file.now) rules.now }
-    ensures { Puts S.Sink (words.numbered (lines.rule_line file.now) rules.now)
+    ensures { Puts S.Sink (words.with_numbers (lines.rule_line file.now) rules.now)
         output.old output.new }
 {
     for (place, rule) in rules.iter().enumerate() {

@@ -53,29 +53,29 @@ module _ (ds : List Definition) (to : ℕ) where
   module _ (readable : Each IsReadable ds) where
     -- what leads on from a definition, by those of the list
     module _ (left : List ℕ) (inner : (j : ℕ) → Among left j → Reaches ds j to ⊎ (ReachesBy left j → ⊥)) where
-      abbrev Leads : ℕ → Type 0
-      Leads j = (j ≡ to) ⊎ Reaches ds j to
+      abbrev IsOrReaches : ℕ → Type 0
+      IsOrReaches j = (j ≡ to) ⊎ Reaches ds j to
 
       abbrev LeadsBy : ℕ → Type 0
       LeadsBy j = (j ≡ to) ⊎ (Among left j × ReachesBy left j)
 
-      leads : (j : ℕ) → Leads j ⊎ (LeadsBy j → ⊥)
+      leads : (j : ℕ) → IsOrReaches j ⊎ (LeadsBy j → ⊥)
       leads j = by_same (cases_eq j to)
         where
-          by_inner : (j ≡ to → ⊥) → (a : Among left j) → Reaches ds j to ⊎ (ReachesBy left j → ⊥) → Leads j ⊎ (LeadsBy j → ⊥)
+          by_inner : (j ≡ to → ⊥) → (a : Among left j) → Reaches ds j to ⊎ (ReachesBy left j → ⊥) → IsOrReaches j ⊎ (LeadsBy j → ⊥)
           by_inner differs a (inl r) = inl (inr r)
           by_inner differs a (inr none) = inr (λ h. elim h [ inl e ↦ differs e | inr r ↦ none r.1 ])
 
-          by_among : (j ≡ to → ⊥) → Among left j ⊎ (Among left j → ⊥) → Leads j ⊎ (LeadsBy j → ⊥)
+          by_among : (j ≡ to → ⊥) → Among left j ⊎ (Among left j → ⊥) → IsOrReaches j ⊎ (LeadsBy j → ⊥)
           by_among differs (inl a) = by_inner differs a (inner j a)
           by_among differs (inr none) = inr (λ h. elim h [ inl e ↦ differs e | inr r ↦ none r.0 ])
 
-          by_same : (j ≡ to) ⊎ (j ≡ to → ⊥) → Leads j ⊎ (LeadsBy j → ⊥)
+          by_same : (j ≡ to) ⊎ (j ≡ to → ⊥) → IsOrReaches j ⊎ (LeadsBy j → ⊥)
           by_same (inl e) = inl (inl e)
           by_same (inr differs) = by_among differs (among_or_not left j)
 
       abbrev Found : List Item → Type 0
-      Found xs = (j : ℕ) × Uses ds xs j × Leads j
+      Found xs = (j : ℕ) × Uses ds xs j × IsOrReaches j
 
       abbrev NotFound : List Item → Type 0
       NotFound xs = (j : ℕ) → Uses ds xs j → LeadsBy j → ⊥
@@ -84,7 +84,7 @@ module _ (ds : List Definition) (to : ℕ) where
       items_lead [] = inr (λ j u. absurd u)
       items_lead (x ∷ xs) = by_use (used ds x) refl (items_lead xs)
         where
-          by_leads : (j : ℕ) → used ds x ≡ Some j → NotFound xs → Leads j ⊎ (LeadsBy j → ⊥) → Found (x ∷ xs) ⊎ NotFound (x ∷ xs)
+          by_leads : (j : ℕ) → used ds x ≡ Some j → NotFound xs → IsOrReaches j ⊎ (LeadsBy j → ⊥) → Found (x ∷ xs) ⊎ NotFound (x ∷ xs)
           by_leads j e none (inl l) = inl (j, inl e, l)
           by_leads j e none (inr denied) = inr (λ k u l. elim u [
             | inl f ↦ denied (subst LeadsBy (same_Some k j (sym f ∙ e)) l)

@@ -10,11 +10,11 @@ use Rattle.cs_pattern.specs.Table.{place, beginning, next_place, MayEnd, ReadsTo
 use Rattle.cs_pattern_postfix.specs.Grammar.{Tree, LastBranch, Or, LastPiece, Beside, Piece, Repeated, Atom, Bytes, Quote, Name, Group, tree_items, branch_items, piece_items, atom_items}
 
 -- from the place these items lead to the end
-abbrev Leads : Bool → ℕ → List Item → Type 0
-Leads b k [] = place b k ≡ place true 0
-Leads b k (x ∷ xs) = (next : Place) × (next_place (place b k) x ≡ Some next) × Leads next.behind_atom next.groups xs
+abbrev GoesOn : Bool → ℕ → List Item → Type 0
+GoesOn b k [] = place b k ≡ place true 0
+GoesOn b k (x ∷ xs) = (next : Place) × (next_place (place b k) x ≡ Some next) × GoesOn next.behind_atom next.groups xs
 
-leads_from : (bytes : List ℕ) (at : ℕ) (p : Place) (xs : List Placed) (to : ℕ) (last : Place) → ReadsTo bytes at p xs to last → MayEnd last → Leads p.behind_atom p.groups (items_of xs)
+leads_from : (bytes : List ℕ) (at : ℕ) (p : Place) (xs : List Placed) (to : ℕ) (last : Place) → ReadsTo bytes at p xs to last → MayEnd last → GoesOn p.behind_atom p.groups (items_of xs)
 leads_from bytes at p [] to last r e = r.1 ∙ e
 leads_from bytes at p (x ∷ xs) to last r e = (r.1, r.4, leads_from bytes (at + r.0) r.1 xs to last r.5 e)
 
@@ -61,7 +61,7 @@ tree_of_items a (beside rs t) = with_piece_items (Repeated a rs) t ∙ append_as
 -- what is left behind a group's pattern: nothing, or its `)` and what leads on
 abbrev After : ℕ → List Item → Type 0
 After zero ys = ys ≡ []
-After (suc k) ys = (zs : List Item) × (ys ≡ closing ∷ zs) × Leads true k zs
+After (suc k) ys = (zs : List Item) × (ys ≡ closing ∷ zs) × GoesOn true k zs
 
 record HasTree (k : ℕ) (xs : List Item) : Type 0 where
   tree : Tree
@@ -87,8 +87,8 @@ atom_first k a ys h = record {
 tree_beside : (k : ℕ) (xs : List Item) → HasTree k xs → HasTail k xs
 tree_beside k xs h = record { tail = beside [] h.tree; rest = h.rest; is = h.is; after = h.after }
 
-led : (b c : Bool) (k j : ℕ) (xs : List Item) (next : Place) → Some (place c j) ≡ Some next → Leads next.behind_atom next.groups xs → Leads c j xs
-led b c k j xs next e l = let f : next ≡ place c j = cc in subst (λ (q : Place). Leads q.behind_atom q.groups xs) f l
+led : (b c : Bool) (k j : ℕ) (xs : List Item) (next : Place) → Some (place c j) ≡ Some next → GoesOn next.behind_atom next.groups xs → GoesOn c j xs
+led b c k j xs next e l = let f : next ≡ place c j = cc in subst (λ (q : Place). GoesOn q.behind_atom q.groups xs) f l
 
 not_behind : (k : ℕ) → place false k ≡ place true 0 → ⊥
 not_behind k e = false≢true (ap (λ (q : Place). q.behind_atom) e)
@@ -104,12 +104,12 @@ group_first k xs h t =
 shorter : (n k : ℕ) (xs : List Item) (h : HasTree (suc k) xs) → length xs ≤ n → length h.after.0 ≤ n
 shorter n k xs h le = omega (arith, ap length h.is, ap length h.after.1, length-append (tree_items h.tree) h.rest)
 
-opened : (b : Bool) (k : ℕ) (xs : List Item) (next : Place) → Some (place false (k + 1)) ≡ Some next → Leads next.behind_atom next.groups xs → Leads false (suc k) xs
-opened b k xs next e l = subst (λ m. Leads false m xs) (add-one k) (led b false k (k + 1) xs next e l)
+opened : (b : Bool) (k : ℕ) (xs : List Item) (next : Place) → Some (place false (k + 1)) ≡ Some next → GoesOn next.behind_atom next.groups xs → GoesOn false (suc k) xs
+opened b k xs next e l = subst (λ m. GoesOn false m xs) (add-one k) (led b false k (k + 1) xs next e l)
 
 mutual
   -- behind an atom
-  tail_at : (n k : ℕ) (xs : List Item) → length xs ≤ n → Leads true k xs → HasTail k xs
+  tail_at : (n k : ℕ) (xs : List Item) → length xs ≤ n → GoesOn true k xs → HasTail k xs
   tail_at n zero [] le l = record { tail = done []; rest = []; is = refl; after = refl }
   tail_at n (suc k) [] le l = let f : suc k ≡ 0 = ap (λ (q : Place). q.groups) l in absurd (omega arith)
   tail_at zero k (x ∷ xs) le l = absurd (omega arith)
@@ -129,7 +129,7 @@ mutual
       tree_beside k _ (group_first k xs h (tail_at n k h.after.0 (shorter n k xs h (omega arith)) h.after.2))
 
   -- where an atom must come
-  tree_at : (n k : ℕ) (xs : List Item) → length xs ≤ n → Leads false k xs → HasTree k xs
+  tree_at : (n k : ℕ) (xs : List Item) → length xs ≤ n → GoesOn false k xs → HasTree k xs
   tree_at n k [] le l = absurd (not_behind k l)
   tree_at zero k (x ∷ xs) le l = absurd (omega arith)
   tree_at (suc n) k (repetition r ∷ xs) le l = let e = l.1 in absurd cc

@@ -11,7 +11,7 @@ use Rattle.cs_pattern_items.specs.declared.item.Placed as held
 use Rattle.cs_pattern_items.specs.Views.{item_of, placed_of, placed_all}
 use Rattle.cs_pattern_postfix.specs.Grammar.{Tree, LastBranch, Or, Branch, LastPiece, Beside, Piece, Repeated, Atom, Bytes, Quote, Name, Group, tree_items, branch_items, piece_items, atom_items}
 use Rattle.cs_pattern_postfix.specs.Operations.{Op, class, quoted, substitute, repeat, group, join, either, branch_count, piece_count, tree_ops, branches_ops, pieces_ops, piece_ops, atom_ops}
-use Rattle.cs_pattern_postfix.specs.Postfix.{State, in_64_bits, new_level, with_piece, ended, with_repetition, barred, closed, step, steps}
+use Rattle.cs_pattern_postfix.specs.Postfix.{State, in_64_bits, new_level, with_piece, ended, with_repetition, barred, closed, step, state_after}
 
 abbrev level : ℕ → ℕ → Level
 level b p = record { branches = b; pieces = p }
@@ -26,7 +26,7 @@ most = 18446744073709551615
 in_64_bits_is : (n : ℕ) → n ≤ most → in_64_bits n ≡ n
 in_64_bits_is n le = omega arith
 
-pub steps-append : (number : List ℕ → ℕ) (s : State) (xs ys : List Item) → steps number s (xs ++ ys) ≡ steps number (steps number s xs) ys
+pub steps-append : (number : List ℕ → ℕ) (s : State) (xs ys : List Item) → state_after number s (xs ++ ys) ≡ state_after number (state_after number s xs) ys
 steps-append number s [] ys = refl
 steps-append number s (x ∷ xs) ys = steps-append number (step number s x) xs ys
 
@@ -40,7 +40,7 @@ closes ops outer b p l =
     ∙ ap (λ (o : List Level). record { ops = (ops ++ ended (level b p)) ++ group ∷ []; outer = o; level = with_piece (slice_index_or (outer ++ l ∷ []) (length outer) new_level) }) (take-append_seam outer (l ∷ []))
     ∙ ap (λ (m : Level). record { ops = (ops ++ ended (level b p)) ++ group ∷ []; outer = outer; level = with_piece m }) (get_or-append_seam outer l [] new_level)
 
-repeats : (number : List ℕ → ℕ) (s : State) (rs : List Repetition) → steps number s (map items.repetition rs) ≡ record { ops = s.ops ++ map repeat rs; outer = s.outer; level = s.level }
+repeats : (number : List ℕ → ℕ) (s : State) (rs : List Repetition) → state_after number s (map items.repetition rs) ≡ record { ops = s.ops ++ map repeat rs; outer = s.outer; level = s.level }
 repeats number s [] = ap (λ (o : List Op). record { ops = o; outer = s.outer; level = s.level }) (sym (append-nil s.ops))
 repeats number s (r ∷ rs) =
     repeats number (with_repetition s r) rs
@@ -77,7 +77,7 @@ module _ (number : List ℕ → ℕ) where
       ∙ ap (λ n. state (ops ++ (branches_ops number t ++ either (branch_count t) ∷ group ∷ [])) outer b n) (in_64_bits_is (p + 1) le)
 
   mutual
-    tree_steps : (t : Tree) (ops : List Op) (outer : List Level) (b : ℕ) → b + length (tree_items t) ≤ most → IsEnded number ops outer b t (steps number (state ops outer b 0) (tree_items t))
+    tree_steps : (t : Tree) (ops : List Op) (outer : List Level) (b : ℕ) → b + length (tree_items t) ≤ most → IsEnded number ops outer b t (state_after number (state ops outer b 0) (tree_items t))
     tree_steps (LastBranch x) ops outer b le =
         let e = branch_steps x ops outer b 0 (omega arith) in
         let c : in_64_bits (b + 1) ≡ b + 1 = in_64_bits_is (b + 1) (omega (arith, branch_length x)) in
@@ -94,11 +94,11 @@ module _ (number : List ℕ → ℕ) where
         let e = branch_steps x ops outer b 0 (omega arith) in
         let c : in_64_bits (b + 1) ≡ b + 1 = in_64_bits_is (b + 1) (omega arith) in
         let z : 0 + piece_count x ≡ piece_count x = omega arith in
-        let done : steps number (state ops outer b 0) (branch_items x ++ items.bar ∷ tree_items t) ≡ steps number (state ((ops ++ pieces_ops number x) ++ join (piece_count x) ∷ []) outer (b + 1) 0) (tree_items t) =
+        let done : state_after number (state ops outer b 0) (branch_items x ++ items.bar ∷ tree_items t) ≡ state_after number (state ((ops ++ pieces_ops number x) ++ join (piece_count x) ∷ []) outer (b + 1) 0) (tree_items t) =
         steps-append number (state ops outer b 0) (branch_items x) (items.bar ∷ tree_items t)
-        ∙ ap (λ (s : State). steps number (barred s) (tree_items t)) e
-        ∙ ap (λ n. steps number (state ((ops ++ pieces_ops number x) ++ join n ∷ []) outer (in_64_bits (b + 1)) 0) (tree_items t)) z
-        ∙ ap (λ n. steps number (state ((ops ++ pieces_ops number x) ++ join (piece_count x) ∷ []) outer n 0) (tree_items t)) c in
+        ∙ ap (λ (s : State). state_after number (barred s) (tree_items t)) e
+        ∙ ap (λ n. state_after number (state ((ops ++ pieces_ops number x) ++ join n ∷ []) outer (in_64_bits (b + 1)) 0) (tree_items t)) z
+        ∙ ap (λ n. state_after number (state ((ops ++ pieces_ops number x) ++ join (piece_count x) ∷ []) outer n 0) (tree_items t)) c in
         let more = tree_steps t ((ops ++ pieces_ops number x) ++ join (piece_count x) ∷ []) outer (b + 1) (omega arith) in
         subst (IsEnded number ops outer b (Or x t)) (sym done) (record {
           outer_is = more.outer_is;
@@ -110,26 +110,26 @@ module _ (number : List ℕ → ℕ) where
               ∙ ap (λ (o : List Op). ops ++ o) (sym (append_assoc (pieces_ops number x) (join (piece_count x) ∷ branches_ops number t) (either (b + (1 + branch_count t)) ∷ [])));
         })
 
-    branch_steps : (x : Branch) (ops : List Op) (outer : List Level) (b p : ℕ) → p + length (branch_items x) ≤ most → steps number (state ops outer b p) (branch_items x) ≡ state (ops ++ pieces_ops number x) outer b (p + piece_count x)
+    branch_steps : (x : Branch) (ops : List Op) (outer : List Level) (b p : ℕ) → p + length (branch_items x) ≤ most → state_after number (state ops outer b p) (branch_items x) ≡ state (ops ++ pieces_ops number x) outer b (p + piece_count x)
     branch_steps (LastPiece q) ops outer b p le = piece_steps q ops outer b p le
     branch_steps (Beside q x) ops outer b p le =
         let long = length-append (piece_items q) (branch_items x) in
         let one = piece_length q in
         steps-append number (state ops outer b p) (piece_items q) (branch_items x)
-        ∙ ap (λ (s : State). steps number s (branch_items x)) (piece_steps q ops outer b p (omega arith))
+        ∙ ap (λ (s : State). state_after number s (branch_items x)) (piece_steps q ops outer b p (omega arith))
         ∙ branch_steps x (ops ++ piece_ops number q) outer b (p + 1) (omega arith)
         ∙ ap (λ (o : List Op). state o outer b ((p + 1) + piece_count x)) (append_assoc ops (piece_ops number q) (pieces_ops number x))
         ∙ ap (λ n. state (ops ++ (piece_ops number q ++ pieces_ops number x)) outer b n) (let n : (p + 1) + piece_count x ≡ p + (1 + piece_count x) = omega arith in n)
 
-    piece_steps : (q : Piece) (ops : List Op) (outer : List Level) (b p : ℕ) → p + length (piece_items q) ≤ most → steps number (state ops outer b p) (piece_items q) ≡ state (ops ++ piece_ops number q) outer b (p + 1)
+    piece_steps : (q : Piece) (ops : List Op) (outer : List Level) (b p : ℕ) → p + length (piece_items q) ≤ most → state_after number (state ops outer b p) (piece_items q) ≡ state (ops ++ piece_ops number q) outer b (p + 1)
     piece_steps (Repeated a rs) ops outer b p le =
         let long = length-append (atom_items a) (map items.repetition rs) in
         steps-append number (state ops outer b p) (atom_items a) (map items.repetition rs)
-        ∙ ap (λ (s : State). steps number s (map items.repetition rs)) (atom_steps a ops outer b p (omega arith))
+        ∙ ap (λ (s : State). state_after number s (map items.repetition rs)) (atom_steps a ops outer b p (omega arith))
         ∙ repeats number (state (ops ++ atom_ops number a) outer b (p + 1)) rs
         ∙ ap (λ (o : List Op). state o outer b (p + 1)) (append_assoc ops (atom_ops number a) (map repeat rs))
 
-    atom_steps : (a : Atom) (ops : List Op) (outer : List Level) (b p : ℕ) → p + length (atom_items a) ≤ most → steps number (state ops outer b p) (atom_items a) ≡ state (ops ++ atom_ops number a) outer b (p + 1)
+    atom_steps : (a : Atom) (ops : List Op) (outer : List Level) (b p : ℕ) → p + length (atom_items a) ≤ most → state_after number (state ops outer b p) (atom_items a) ≡ state (ops ++ atom_ops number a) outer b (p + 1)
     atom_steps (Bytes set) ops outer b p le = ap (λ n. state (ops ++ class set ∷ []) outer b n) (in_64_bits_is (p + 1) (omega arith))
     atom_steps (Quote bytes) ops outer b p le = ap (λ n. state (ops ++ quoted bytes ∷ []) outer b n) (in_64_bits_is (p + 1) (omega arith))
     atom_steps (Name name) ops outer b p le = ap (λ n. state (ops ++ substitute (number name) ∷ group ∷ []) outer b n) (in_64_bits_is (p + 1) (omega arith))
@@ -137,12 +137,12 @@ module _ (number : List ℕ → ℕ) where
         let long = length-append (tree_items t) (items.closing ∷ []) in
         let inner = tree_steps t ops (outer ++ level b p ∷ []) 0 (omega arith) in
         steps-append number (state ops (outer ++ level b p ∷ []) 0 0) (tree_items t) (items.closing ∷ [])
-        ∙ ends t ops outer b p (steps number (state ops (outer ++ level b p ∷ []) 0 0) (tree_items t)) (omega arith) inner
+        ∙ ends t ops outer b p (state_after number (state ops (outer ++ level b p ∷ []) 0 0) (tree_items t)) (omega arith) inner
 
-  pub is_postfix : (t : Tree) (xs : List Item) (s : State) → xs ≡ tree_items t → length xs ≤ most → s ≡ steps number (state [] [] 0 0) xs → s.ops ++ ended s.level ≡ tree_ops number t
+  pub is_postfix : (t : Tree) (xs : List Item) (s : State) → xs ≡ tree_items t → length xs ≤ most → s ≡ state_after number (state [] [] 0 0) xs → s.ops ++ ended s.level ≡ tree_ops number t
   is_postfix t xs s e le is =
       let long = ap length e in
-      let f : s ≡ steps number (state [] [] 0 0) (tree_items t) = is ∙ ap (steps number (state [] [] 0 0)) e in
+      let f : s ≡ state_after number (state [] [] 0 0) (tree_items t) = is ∙ ap (state_after number (state [] [] 0 0)) e in
       let done = tree_steps t [] [] 0 (omega arith) in
       ap (λ (r : State). r.ops ++ ended r.level) f
       ∙ done.ops_is
@@ -156,9 +156,9 @@ placed_more xs i x lt e =
     ∙ map_push (λ (p : Placed). p.item) (placed_all (take i xs)) (placed_of x)
 
 pub steps_more : (number : List ℕ → ℕ) (start s t : State) (xs : List held.Placed) (i : ℕ) (x : held.Placed) → i < length xs → x ≡ get_or xs i x
-    → s ≡ steps number start (items_of (placed_all (take i xs))) → t ≡ step number s (item_of x.item) → t ≡ steps number start (items_of (placed_all (take (i + 1) xs)))
+    → s ≡ state_after number start (items_of (placed_all (take i xs))) → t ≡ step number s (item_of x.item) → t ≡ state_after number start (items_of (placed_all (take (i + 1) xs)))
 steps_more number start s t xs i x lt e is after =
     after
     ∙ ap (λ (u : State). step number u (item_of x.item)) is
     ∙ sym (steps-append number start (items_of (placed_all (take i xs))) (item_of x.item ∷ []))
-    ∙ ap (steps number start) (sym (placed_more xs i x lt e))
+    ∙ ap (state_after number start) (sym (placed_more xs i x lt e))

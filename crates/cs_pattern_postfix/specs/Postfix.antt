@@ -71,9 +71,9 @@ module _ (number : List ℕ → ℕ) where
   step s items.bar = barred s
   step s (items.repetition r) = with_repetition s r
 
-  abbrev pub steps : State → List Item → State
-  steps s [] = s
-  steps s (i ∷ rest) = steps (step s i) rest
+  abbrev pub state_after : State → List Item → State
+  state_after s [] = s
+  state_after s (i ∷ rest) = state_after (step s i) rest
 
 -- the number of a name among the entries
 abbrev pub entry_number : List (Vec ℕ × Vec ℕ) → List ℕ → ℕ

@@ -1,7 +1,7 @@
 // What a manifest is made by.
 
 ghost use Rattle.std.specs.Prelude.{◌≡◌};
-ghost use Rattle.cs_manifest.specs.Head.{file_of, lexemes_in as lexemes_by, lexemes_of, sharing_in as sharing_of_form, sharing_of};
+ghost use Rattle.cs_manifest.specs.Head.{yacc_of, lexemes_in as lexemes_by, lexemes_of, sharing_in as sharing_of_form, sharing_of};
 ghost use Rattle.cs_manifest.specs.Manifest.{has_operator as is_some_chosen, most_bases};
 ghost use Rattle.cs_plan.specs.Plans.{IsPlan, choice_in, lexemes_in, sharing_in};
 
@@ -38,7 +38,7 @@ impl<'a> Plan<'a> {
     /// The head of the manifest.
     pub fn head(&self) -> Head<'a>
         requires { IsPlan self.now }
-        ensures file { file_of result ≡ self.now.yacc.now }
+        ensures file { yacc_of result ≡ self.now.yacc.now }
         ensures lexemes { lexemes_of result ≡ lexemes_in self.now }
         ensures sharing { sharing_of result ≡ sharing_in self.now }
     {

@@ -14,7 +14,7 @@ use Rattle.cs_io.specs.declared.sink.Sink as Sink
 use Rattle.cs_manifest.specs.declared.counts.Counts.{Counts}
 use Rattle.cs_manifest.specs.Counts.{behind_end, counts_of_head, end_of}
 use Rattle.cs_manifest.specs.declared.head.Head.{Head}
-use Rattle.cs_manifest.specs.Head.{Sharing, file_of, head_of, lexemes_of, lines_with, no_cases as cases_at_first, sharing_of}
+use Rattle.cs_manifest.specs.Head.{Sharing, yacc_of, head_of, lexemes_of, lines_with, no_cases as cases_at_first, sharing_of}
 use Rattle.cs_manifest.specs.Lines.{end_words, is_feasible, is_infeasible, is_large}
 use Rattle.cs_manifest.specs.Manifest.{AreLexemesBy, BaseEntry, BasesOf, EntriesOf, GoalEntry, HasOneText, IsTextIn, Texts, base_entry_lines, bases, end_line_with, goal_texts, most_bases, shared_text, weighed_by}
 use Rattle.cs_manifest.specs.Progress.{begun}
@@ -129,13 +129,13 @@ module _ (plan : Plan) (of : Weighed) (one : (texts : Option Texts) → HasOneTe
   abbrev text_of : List GoalEntry → PlainCases → List ℕ → List BaseEntry → List ℕ
   text_of entries cases lines mutants = text_by plan plan.closed entries cases lines mutants
 
-  head_is : (h : Head) → file_of h ≡ plan.yacc.now → lexemes_of h ≡ lexemes_in plan → sharing_of h ≡ sharing_in plan → head_of h ≡ head
+  head_is : (h : Head) → yacc_of h ≡ plan.yacc.now → lexemes_of h ≡ lexemes_in plan → sharing_of h ≡ sharing_in plan → head_of h ≡ head
   head_is h same lexemes sharing =
-      ap (λ (s : Option Sharing). lines_with (file_of h) (lexemes_of h) s) sharing ∙ ap (λ (f : File). lines_with f (lexemes_of h) (sharing_in plan)) same
+      ap (λ (s : Option Sharing). lines_with (yacc_of h) (lexemes_of h) s) sharing ∙ ap (λ (f : File). lines_with f (lexemes_of h) (sharing_in plan)) same
       ∙ ap (λ (l : Option (List (Option (List ℕ)))). lines_with plan.yacc.now l (sharing_in plan)) lexemes
 
   -- the bytes of the head are counted
-  pub head_counted : (h : Head) → file_of h ≡ plan.yacc.now → lexemes_of h ≡ lexemes_in plan → sharing_of h ≡ sharing_in plan → (begun h).counts.bytes ≡ shown (length head)
+  pub head_counted : (h : Head) → yacc_of h ≡ plan.yacc.now → lexemes_of h ≡ lexemes_in plan → sharing_of h ≡ sharing_in plan → (begun h).counts.bytes ≡ shown (length head)
   head_counted h same lexemes sharing = ap (λ (l : List ℕ). shown (length l)) (head_is h same lexemes sharing)
 
   lexemes_are : AreLexemesBy (texts_in plan) plan.yacc.now.grammar.tokens (lexemes_in plan)
@@ -271,11 +271,11 @@ module _ (plan : Plan) (of : Weighed) (one : (texts : Option Texts) → HasOneTe
 
   module _ {S : Type 0} {g : Sink.Ghosts S} where
     -- the head was written
-    pub head_written : (h : Head) → file_of h ≡ plan.yacc.now → lexemes_of h ≡ lexemes_in plan → sharing_of h ≡ sharing_in plan → (old new : S) → IsWritten g (head_of h) old new → IsWritten g head old new
+    pub head_written : (h : Head) → yacc_of h ≡ plan.yacc.now → lexemes_of h ≡ lexemes_in plan → sharing_of h ≡ sharing_in plan → (old new : S) → IsWritten g (head_of h) old new → IsWritten g head old new
     head_written h same lexemes sharing old new written = subst (λ (l : List ℕ). IsWritten g l old new) (head_is h same lexemes sharing) written
 
     -- the head was cut short
-    pub head_cut : (h : Head) → file_of h ≡ plan.yacc.now → lexemes_of h ≡ lexemes_in plan → sharing_of h ≡ sharing_in plan → (old new : S) → IsCutShort g (head_of h) old new
+    pub head_cut : (h : Head) → yacc_of h ≡ plan.yacc.now → lexemes_of h ≡ lexemes_in plan → sharing_of h ≡ sharing_in plan → (old new : S) → IsCutShort g (head_of h) old new
         → HasSomeText g (IsPlanned plan) old new Failed
     head_cut h same lexemes sharing old new cut_head text is_text =
         let cut = subst (λ (l : List ℕ). IsCutShort g l old new) (head_is h same lexemes sharing) cut_head in

@@ -2,7 +2,7 @@ use Rattle.std.proofs.Common.{◌≡◌, ◌<◌, All, List, ℕ, ap, codes, len
 use Rattle.cs_grammar.specs.declared.symbol.Mark.{Mark}
 use Rattle.cs_grammar.specs.declared.symbol.Mark.TheVariants.{Begin}
 use Rattle.cs_manifest.specs.SharedLines.{edge_line, next_line, token_next_line}
-use Rattle.cs_manifest.specs.Words.{numbered}
+use Rattle.cs_manifest.specs.Words.{with_numbers}
 use Rattle.cs_manifest.specs.Names.{AreNamedMarks, AreNamedTokens}
 use Rattle.cs_manifest.proofs.Naming.{begin_named, first_few, first_many, first_named, last_few, last_many, last_named, next_few, next_many, next_named, sets_named}
 use Rattle.cs_manifest.proofs.Pieces.{spelled, then}
@@ -11,10 +11,10 @@ use Rattle.cs_manifest.proofs.put_closed.put_closed.Goals as goal
 pub returns : goal.returns
 returns g c =
     let file = c.args.file.now in
-    let first = spelled _ (ap (numbered (edge_line (codes "closed first ") file)) c.first.ensures) c.put_edges.ensures in
-    let last = spelled _ (ap (numbered (edge_line (codes "closed last ") file)) c.last.ensures) c.put_edges-2.ensures in
+    let first = spelled _ (ap (with_numbers (edge_line (codes "closed first ") file)) c.first.ensures) c.put_edges.ensures in
+    let last = spelled _ (ap (with_numbers (edge_line (codes "closed last ") file)) c.last.ensures) c.put_edges-2.ensures in
     let begin = spelled _ (ap (next_line file Begin) c.begin.ensures) c.put_next.ensures in
-    let next = spelled _ (ap (numbered (token_next_line file)) c.next.ensures) c.put_token_nexts.ensures in
+    let next = spelled _ (ap (with_numbers (token_next_line file)) c.next.ensures) c.put_token_nexts.ensures in
     then (then (then (then c.put_sets.ensures first) last) begin) next
 
 pub put_sets-requires : goal.put_sets-requires

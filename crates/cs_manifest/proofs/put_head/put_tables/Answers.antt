@@ -1,10 +1,10 @@
 use Rattle.std.proofs.Common.{ap}
 use Rattle.cs_manifest.specs.Lines.{lexeme_line}
-use Rattle.cs_manifest.specs.Words.{numbered}
+use Rattle.cs_manifest.specs.Words.{with_numbers}
 use Rattle.cs_manifest.proofs.Pieces.{spelled, then}
 use Rattle.cs_manifest.proofs.put_head.put_tables.Goals as goal
 
 pub returns : goal.returns
 returns g c =
-    let lexemes = spelled _ (ap (numbered (lexeme_line c.args.lexemes.now)) c.token_names.ensures.names) c.put_lexemes.ensures in
+    let lexemes = spelled _ (ap (with_numbers (lexeme_line c.args.lexemes.now)) c.token_names.ensures.names) c.put_lexemes.ensures in
     then c.put_file.ensures lexemes

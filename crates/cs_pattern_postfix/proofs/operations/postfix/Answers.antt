@@ -5,7 +5,7 @@ use Rattle.cs_pattern_items.specs.Views.{placed_of, placed_all}
 use Rattle.cs_pattern_items.specs.declared.item.Placed.{Placed}
 use Rattle.cs_pattern_postfix.specs.Definitions.{definitions_of}
 use Rattle.cs_pattern_postfix.specs.Operations.{number_of}
-use Rattle.cs_pattern_postfix.specs.Postfix.{state_of, steps, new_level}
+use Rattle.cs_pattern_postfix.specs.Postfix.{state_of, state_after, new_level}
 use Rattle.cs_pattern_postfix.proofs.Postfixed.{steps_more, is_postfix}
 use Rattle.cs_pattern_postfix.proofs.operations.postfix.Goals as goal
 
@@ -20,4 +20,4 @@ returns c = λ tree d.
     omega (arith, length-map (placed_all c.args.items.now) (λ p. p.item), length-map c.args.items.now placed_of) in
     c.in_ok-push_end.ensures
     ∙ is_postfix (number_of (definitions_of c.args.names.now.entries)) tree (items_of (placed_all c.args.items.now)) (state_of c.loop-placed.reader) d few
-    (c.loop-placed.invariant ∙ ap (λ (l : List Placed). steps (number_of (definitions_of c.args.names.now.entries)) (record { ops = []; outer = []; level = new_level }) (items_of (placed_all l))) whole)
+    (c.loop-placed.invariant ∙ ap (λ (l : List Placed). state_after (number_of (definitions_of c.args.names.now.entries)) (record { ops = []; outer = []; level = new_level }) (items_of (placed_all l))) whole)

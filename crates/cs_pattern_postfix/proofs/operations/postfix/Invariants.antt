@@ -2,9 +2,9 @@ use Rattle.std.proofs.Common.{◌≡◌, [], take}
 use Rattle.cs_pattern_postfix.specs.Definitions.{definitions_of}
 use Rattle.cs_pattern_items.specs.Items.{items_of}
 use Rattle.cs_pattern_postfix.specs.Operations.{number_of}
-use Rattle.cs_pattern_postfix.specs.Postfix.{state_of, new_level, steps}
+use Rattle.cs_pattern_postfix.specs.Postfix.{state_of, new_level, state_after}
 use Rattle.cs_pattern_items.specs.Views.{placed_all}
 use Rattle.cs_pattern_postfix.proofs.operations.postfix.Given as goal
 
 abbrev pub invariant-loop-placed : goal.invariant-loop-placed
-invariant-loop-placed l = state_of l.reader ≡ steps (number_of (definitions_of l.names.entries)) (record { ops = []; outer = []; level = new_level }) (items_of (placed_all (take l.placed-index l.items)))
+invariant-loop-placed l = state_of l.reader ≡ state_after (number_of (definitions_of l.names.entries)) (record { ops = []; outer = []; level = new_level }) (items_of (placed_all (take l.placed-index l.items)))
