@@ -1,5 +1,5 @@
 -- Goals and codes as the keys of tables.
-use Rattle.std.proofs.Common.{◌≡◌, ℕ, ◌+◌, ◌-◌, ◌<◌, ◌||◌, ◌&&◌, Bool, true, false, cond, List, [], ◌∷◌, ◌++◌, length, get_or, refl, sym, ap, ◌∙◌, arith}
+use Rattle.std.proofs.Common.{◌≡◌, ℕ, ◌+◌, ◌-◌, ◌<◌, ◌||◌, Bool, true, false, cond, List, [], ◌∷◌, ◌++◌, length, get_or, refl, sym, ap, ◌∙◌, arith}
 use Rattle.std.specs.Prelude.{Option, Some, None, is_some, position, slice_get, Contains}
 use Rattle.std.specs.Bool.{OnTrue}
 use Rattle.std.specs.Cmp.{IsEquivalence}
@@ -7,8 +7,7 @@ use Rattle.std.specs.Global.{Vec}
 use Rattle.std.specs.List.{list_any, position_or_len}
 use Rattle.std.specs.Map.{lookup, keys_of}
 use Rattle.std.specs.Str.{bytes_eq}
-use Rattle.std.proofs.lemmas.Bool.{false≢true, eqb-true, eq-eqb}
-use Rattle.std.proofs.lemmas.Bool.Decides.{nat_tests}
+use Rattle.std.proofs.lemmas.Bool.{false≢true, eq-eqb}
 use Rattle.std.proofs.lemmas.List.{length-map, get_or-map, map_push}
 use Rattle.std.proofs.lemmas.List.Quantifiers.{position-Some}
 use Rattle.std.proofs.lemmas.Map.Views.{Contains-from_lookup, IsSome-lookup_from_Contains, Contains-from_any, list_any-from_Contains}
@@ -26,6 +25,7 @@ use Rattle.cs_cases.specs.declared.firsts.MarkKey.TheVariants.{Begin, Token, End
 use Rattle.cs_cases.specs.contracts.firsts.KeyPartialEq.TheImpl as keys
 use Rattle.cs_cases.specs.contracts.firsts.MarkKeyPartialEq.TheImpl as marks
 use Rattle.cs_cases.specs.Cases.{IsLowest}
+use Rattle.cs_cases.specs.KeyHash.{same_key}
 use Rattle.cs_cases.specs.Firsts.{mark_key, key_of, mark_of, goal_of, first_in, firsts_in}
 use Rattle.cs_cases.specs.Table.{codes_in, IsFound, HasNumber, HasNone}
 
@@ -46,37 +46,10 @@ module _ {K : Type 0} (eq : K → K → Bool) (same : (x y : K) → eq x y ≡ t
 
 -- ---- the keys of goals
 
-same_mark : (a b : MarkKey) → marks.eq-value.it a b ≡ true → a ≡ b
-same_mark Begin Begin e = refl
-same_mark Begin (Token t) e = absurd (false≢true e)
-same_mark Begin End e = absurd (false≢true e)
-same_mark (Token s) Begin e = absurd (false≢true e)
-same_mark (Token s) (Token t) e = ap Token (eqb-true s t e)
-same_mark (Token s) End e = absurd (false≢true e)
-same_mark End Begin e = absurd (false≢true e)
-same_mark End (Token t) e = absurd (false≢true e)
-same_mark End End e = refl
-
 self_mark : (a : MarkKey) → marks.eq-value.it a a ≡ true
 self_mark Begin = refl
 self_mark (Token t) = eq-eqb t t refl
 self_mark End = refl
-
-same_key : (a b : Key) → keys.eq-value.it a b ≡ true → a ≡ b
-same_key (Rule r) (Rule s) e = ap Rule (eqb-true r s e)
-same_key (Rule r) (Context p i q) e = absurd (false≢true e)
-same_key (Rule r) (Pair a b) e = absurd (false≢true e)
-same_key (Context p i q) (Rule s) e = absurd (false≢true e)
-same_key (Context p i q) (Context o j s) e = grind (arith, nat_tests)
-same_key (Context p i q) (Pair a b) e = absurd (false≢true e)
-same_key (Pair a b) (Rule s) e = absurd (false≢true e)
-same_key (Pair a b) (Context o j s) e = absurd (false≢true e)
-same_key (Pair a b) (Pair c d) e = by (marks.eq-value.it a c) (marks.eq-value.it b d) refl refl e
-  where
-    by : (x y : Bool) → marks.eq-value.it a c ≡ x → marks.eq-value.it b d ≡ y → (x && y) ≡ true → Pair a b ≡ Pair c d
-    by true true f g h = ap (λ (m : MarkKey). Pair m b) (same_mark a c f) ∙ ap (λ (m : MarkKey). Pair c m) (same_mark b d g)
-    by true false f g h = absurd (false≢true h)
-    by false y f g h = absurd (false≢true h)
 
 self_key : (a : Key) → keys.eq-value.it a a ≡ true
 self_key (Rule r) = eq-eqb r r refl

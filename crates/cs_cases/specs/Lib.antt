@@ -2,4 +2,5 @@ pub mod Cases
 pub mod Laws
 pub mod Met
 pub mod Firsts
+pub mod KeyHash
 pub mod Table

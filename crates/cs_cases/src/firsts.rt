@@ -1,38 +1,85 @@
 // The first case of each goal that was met.
 
-ghost use Rattle.std.specs.Prelude.{◌≡◌, [], OnOk, OnErr, length, take};
+ghost use Rattle.std.specs.Prelude.{◌≡◌, ◌+◌, ◌*◌, ◌<◌, [], OnOk, OnErr, length, take};
 ghost use Rattle.std.specs.Bool.{OnTrue};
 ghost use Rattle.cs_cases.specs.Table.{IsFound, IsAdded, AreAllAdded, HasNumber, IsGrown};
 ghost use Rattle.cs_cases.specs.Firsts.{goal_of, key_of, mark_key};
+ghost use Rattle.cs_cases.specs.KeyHash.{hash_number, mark_number};
 
 use cs_goals::Goal;
 use cs_grammar::Mark;
 use indexmap::IndexMap;
 use std::alloc::{AllocError, Global};
+use std::hash::{Hash, Hasher};
 use std::marker::Model;
 
-// So many slots for goals that came lately: a power of 2 below 2^32.
-const SLOTS: usize = 32_768;
+// So many slots for goals that came lately: a power of 2.
+const SLOTS: usize = 65_536;
 
-// 2^32 divided by the golden ratio: multiplicative hashing (Knuth, The Art of Computer Programming 3, 6.4).
-const SPREAD: u32 = 2_654_435_769;
+// 2^64 divided by the golden ratio: multiplicative hashing (Knuth, The Art of Computer Programming 3, 6.4).
+const SPREAD: u64 = 11_400_714_819_323_198_485;
 
 // How far a spread number is moved, so that it is below SLOTS.
-const SHIFT: u32 = 17;
+const SHIFT: u32 = 48;
 
 // A goal that can be hashed.
-#[derive(Clone, Copy, PartialEq, Eq, Hash)]
+#[derive(Clone, Copy, PartialEq, Eq)]
 pub(crate) enum Key {
     Rule(u16),
     Context { outer: u16, place: u16, inner: u16 },
     Pair { left: MarkKey, right: MarkKey },
 }
 
-#[derive(Clone, Copy, PartialEq, Eq, Hash)]
+#[derive(Clone, Copy, PartialEq, Eq)]
 pub(crate) enum MarkKey {
     Begin,
     Token(u16),
     End,
+}
+
+// In one write, where the derived one would make a write for each part.
+impl Hash for Key {
+    ghost use Rattle.cs_cases.specs.KeyHash.{equal_writes, writes_of};
+
+    ghost hash_input = { writes_of };
+
+    ghost respects_eq = { equal_writes };
+
+    fn hash<H: Hasher>(&self, state: &mut H) {
+        state.write_u64(hash_number(*self));
+    }
+}
+
+// A number that few goals share: none of one kind, in a grammar within its limits.
+fn hash_number(key: Key) -> u64
+    ensures { result ≡ hash_number key }
+{
+    match key {
+        Key::Rule(rule) => rule as u64,
+        Key::Context {
+            outer,
+            place,
+            inner,
+        } => joined(joined(outer as u64, place), inner),
+        Key::Pair { left, right } => joined(number_of(left) as u64, number_of(right)),
+    }
+}
+
+fn joined(number: u64, next: u16) -> u64
+    requires { number < 4294967296 }
+    ensures { result ≡ number * 65536 + next }
+{
+    number * 65_536 + next as u64
+}
+
+fn number_of(mark: MarkKey) -> u16
+    ensures { result ≡ mark_number mark }
+{
+    match mark {
+        MarkKey::Begin => 0,
+        MarkKey::Token(token) => token,
+        MarkKey::End => u16::MAX,
+    }
 }
 
 fn mark_key(mark: Mark) -> MarkKey
@@ -68,28 +115,7 @@ fn key_of(goal: Goal) -> Key
 
 // The slot of a goal. Any would do: it says where to look first.
 fn slot_of(key: Key) -> usize {
-    let number = match key {
-        Key::Rule(rule) => rule as u32,
-        Key::Context {
-            outer,
-            place,
-            inner,
-        } => joined(joined(outer as u32, place), inner),
-        Key::Pair { left, right } => joined(number_of(left) as u32, number_of(right)),
-    };
-    (number.wrapping_mul(SPREAD) >> SHIFT) as usize
-}
-
-fn joined(number: u32, next: u16) -> u32 {
-    number.wrapping_mul(31).wrapping_add(next as u32)
-}
-
-fn number_of(mark: MarkKey) -> u16 {
-    match mark {
-        MarkKey::Begin => 0,
-        MarkKey::Token(token) => token,
-        MarkKey::End => u16::MAX,
-    }
+    (hash_number(key).wrapping_mul(SPREAD) >> SHIFT) as usize
 }
 
 // Goals, each with the number of a case. Trees share most of what they meet, so most goals that come are known: for each slot
@@ -97,7 +123,7 @@ fn number_of(mark: MarkKey) -> u16 {
 #[derive(Drop)]
 pub(crate) struct Firsts {
     table: IndexMap<Key, u64>,
-    recent: Vec<usize>,
+    recent: Vec<u32>,
 }
 
 impl Model for Firsts {
@@ -176,7 +202,7 @@ impl Firsts {
         let Some(place) = self.recent.get(slot) else {
             return false;
         };
-        match self.table.get_index(*place) {
+        match self.table.get_index(*place as usize) {
             None => false,
             Some((known, _)) => *known == key,
         }
@@ -186,7 +212,7 @@ impl Firsts {
     fn keep_recent(&mut self, slot: usize, place: usize)
         ensures { self.new ≡ self.old }
     {
-        if let Some(recent) = self.recent.get_mut(slot) {
+        if let (Some(recent), Ok(place)) = (self.recent.get_mut(slot), u32::try_from(place)) {
             *recent = place;
         }
     }

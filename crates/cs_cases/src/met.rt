@@ -10,6 +10,11 @@ use cs_goals::Goal;
 use cs_grammar::{Derivation, Grammar, Mark, Symbol, number_of, yield_of};
 use std::alloc::{AllocError, Global};
 
+// Room for as many goals and open nonterminals is made at once.
+const USUAL_GOALS: usize = 128;
+
+const USUAL_SPOTS: usize = 32;
+
 // Where an open nonterminal stands: the rule around it and its place there, counted from 1.
 #[derive(Clone, Copy)]
 pub(crate) struct Spot {
@@ -26,7 +31,7 @@ pub(crate) fn goals_met(
     requires { IsDerivationOf grammar.now derivation.now }
     ensures { IfOk result (AreMet grammar.now derivation.now) }
 {
-    let mut goals = Vec::new(alloc);
+    let mut goals = Vec::with_capacity(alloc, USUAL_GOALS)?;
     push_rules(derivation.rules(), &mut goals)?;
     push_contexts(alloc, grammar, derivation, &mut goals)?;
     let tokens = yield_of(alloc, grammar, derivation)?;
@@ -68,7 +73,7 @@ fn push_contexts(
     requires { IsDerivationOf grammar.now derivation.now }
     ensures { OnOk result (AreContexts grammar.now derivation.now goals.old.items goals.new.items) }
 {
-    let mut spots = Vec::new(alloc);
+    let mut spots = Vec::with_capacity(alloc, USUAL_SPOTS)?;
     for number in derivation.rules() {
         push_context(*number, &mut spots, goals)?;
         open_children(*number, grammar.rule(*number).right(), &mut spots)?;
