@@ -4,7 +4,7 @@
 //! they mean, or why not. `line` says a refusal in words.
 //!
 //! Meaning: `specs/Refusal` (why files are refused, and in which order), `Files` (what it is that a desk has a file or none),
-//! `Lines` (the line of a refusal).
+//! `Lines` (the line of a refusal), `Read` (what a call that reads gives).
 #![tactic(auto)]
 
 mod judging;

@@ -18,8 +18,9 @@
 //! [`FolderDesk`] and [`StreamSink`] are the real outside, for `main`. [`MemoryDesk`] and
 //! [`MemorySink`] say exactly which of their calls fail, for tests. [`NullSink`] keeps nothing.
 //!
-//! All files of `specs/` are meaning: `Desk`, `Sink` and `Faults` of the traits, the others of the
-//! implementations of their names.
+//! All files of `specs/` are meaning: `Desk`, `Sink` and `Faults` of the traits; `MemoryDesk`,
+//! `MemorySink`, `StreamSink` and `BufferedSink` of the implementations of these names, `Failing` of
+//! both in memory; `Uses` (what a call did to a desk or a sink) is for the layers above.
 #![tactic(auto)]
 
 mod buffered_sink;

@@ -4,7 +4,7 @@
 //!
 //! Meaning, from the top down: `specs/Words` (which word may stand behind which, accepted words, the first bad one),
 //! `Commands` (what words ask for), `Options` (the options of `suite`, their settings and defaults), `Choices` and `Values`
-//! (their values).
+//! (their values). Working words of proofs: `Steps`.
 #![tactic(auto)]
 
 mod choices;
