@@ -115,7 +115,7 @@ fn pattern(at: u32, fault: PatternFault) -> LexError {
 fn why_files_are_refused(rt: HostRuntime) -> Result<(), Fail> {
     let alloc = rt.alloc();
     let yacc = sums(alloc).ok_or("yacc")?;
-    let rows: [(&[u8], LexError); 26] = [
+    let rows: [(&[u8], LexError); 28] = [
         (b"", LexError::Layout { at: 0 }),
         (b"%%\n", LexError::NoRules),
         (b"%%\na |\n", LexError::DanglingBar { at: 3 }),
@@ -153,6 +153,10 @@ fn why_files_are_refused(rt: HostRuntime) -> Result<(), Fail> {
             pattern(7, PatternFault::Anchor { at: 0 }),
         ),
         (
+            b"%%\na ;\nb/c^ ;\n^d ;\n",
+            pattern(7, PatternFault::Trailing { at: 1 }),
+        ),
+        (
             b"%%\na {x}\n{D} ;\n",
             pattern(9, PatternFault::UndefinedName { at: 0 }),
         ),
@@ -175,6 +179,10 @@ fn why_files_are_refused(rt: HostRuntime) -> Result<(), Fail> {
                 found: 24_000,
                 most: 16_384,
             },
+        ),
+        (
+            b"%%\na{1000}{8} ;\na{1000}{8} ;\na{1000}{8} ;\n^ ;\n",
+            pattern(42, PatternFault::Anchor { at: 0 }),
         ),
     ];
     for (text, want) in rows {

@@ -73,7 +73,7 @@ fn shown(alloc: Global, text: &[u8]) -> Result<Vec<u8>, LayoutError>
 
 #[test]
 fn parts_of_files(rt: HostRuntime) -> Result<(), Fail> {
-    let cases: [(&[u8], &[u8]); 24] = [
+    let cases: [(&[u8], &[u8]); 25] = [
         (b"%%\n", b"%"),
         (b"%%", b"%"),
         (b"%% x y\na\tb c ", b"%a~b c ~"),
@@ -122,6 +122,7 @@ fn parts_of_files(rt: HostRuntime) -> Result<(), Fail> {
         (b"%%\n%x a\n%", b"%%x~a~%~~"),
         (b"A {B}\nB x\n%%\n", b"A~{B}~B~x~%"),
         (b" 'a /* \n */ x'\n \"/*\" \n%%\n", b"%"),
+        (b"%{foo\n%}bar\n%%foo\na ;\n%%baz\nb {", b"%a~;~"),
     ];
     for (text, want) in cases {
         assert!(rt; text.len() <= MOST_BYTES);

@@ -71,7 +71,7 @@ fn counts(alloc: Global, text: &[u8]) -> Result<(u16, u16, usize), YaccError>
 
 #[test]
 fn texts_at_the_edges(rt: HostRuntime) {
-    let cases: [(&[u8], Result<(u16, u16, usize), YaccError>); 17] = [
+    let cases: [(&[u8], Result<(u16, u16, usize), YaccError>); 18] = [
         (b"%%\ns : t ;", Err(YaccError::Undefined { at: 7 })),
         (b"%%\ns : { x } ;", Ok((0, 1, 1))),
         (b"%%s:||;", Ok((0, 1, 3))),
@@ -86,6 +86,7 @@ fn texts_at_the_edges(rt: HostRuntime) {
         (b"%%\na : b b : 'x'", Ok((1, 2, 2))),
         (b"%%\na : 'x' ; | 'y' ;", Ok((2, 1, 2))),
         (b"%%\ns : 'x' | error ';' ;", Ok((1, 1, 1))),
+        (b"%token error A\n%%\ns : A %prec error ;", Ok((1, 1, 1))),
         (b"%%\ns : ; %% 'open", Ok((0, 1, 1))),
         (b"%token A\r\n%%\r\ns : A\r\n | s A ;\r\n", Ok((1, 1, 2))),
         (
@@ -110,7 +111,7 @@ fn texts_at_the_edges(rt: HostRuntime) {
 
 #[test]
 fn refusals_by_place(rt: HostRuntime) {
-    let cases: [(&[u8], YaccError); 10] = [
+    let cases: [(&[u8], YaccError); 12] = [
         (b"", YaccError::Syntax { at: 0 }),
         (b"%%\na : 'x' ; b\n", YaccError::Syntax { at: 15 }),
         (
@@ -126,6 +127,11 @@ fn refusals_by_place(rt: HostRuntime) {
             b"%start t\n%%\ns : 'x' ;",
             YaccError::StartNotNonterminal { at: 7 },
         ),
+        (
+            b"%start error\n%%\ns : 'x' ;",
+            YaccError::StartNotNonterminal { at: 7 },
+        ),
+        (b"%%\ns : error t ;", YaccError::Undefined { at: 13 }),
         (b"%code {x}", YaccError::UnknownDirective { at: 0 }),
         (b"%%\na : \"x\" ;", YaccError::BadItem { at: 7 }),
         (
@@ -286,5 +292,22 @@ fn limits(rt: HostRuntime) -> Result<(), Fail> {
         assert!(rt; counts(rt.alloc(), fits.as_bytes()).is_ok(), "{which:?}");
         assert_eq!(rt; counts(rt.alloc(), above.as_bytes()).err(), Some(want));
     }
+    Ok(())
+}
+
+// By the limits of docs/FORMATS.md: of 601 declared tokens one is in use, and of 1,025 left sides all but the last have a
+// rule that is left out.
+#[test]
+fn what_the_limits_count(rt: HostRuntime) -> Result<(), Fail> {
+    let declared = counted(rt.alloc(), "%token T", " T", 600, " %% s : T ;")?;
+    let left_out = counted(rt.alloc(), "%% s", " : error ; n", 1024, " : ;")?;
+    assert!(rt; declared.len() <= MOST_BYTES && left_out.len() <= MOST_BYTES);
+    let want = YaccError::Limit {
+        which: YaccLimit::Nonterminals,
+        found: 1025,
+        most: 1024,
+    };
+    assert_eq!(rt; counts(rt.alloc(), declared.as_bytes()), Ok((1, 1, 1)));
+    assert_eq!(rt; counts(rt.alloc(), left_out.as_bytes()).err(), Some(want));
     Ok(())
 }

@@ -61,7 +61,7 @@ fn where_reading_stops(rt: HostRuntime) {
 
 #[test]
 fn where_the_table_stops(rt: HostRuntime) {
-    let cases: [(&[u8], Option<u32>); 12] = [
+    let cases: [(&[u8], Option<u32>); 13] = [
         (b"", Some(0)),
         (b"%%\na : 'x' ; b\n", Some(15)),
         (b"%%\n%%\n", Some(3)),
@@ -71,6 +71,7 @@ fn where_the_table_stops(rt: HostRuntime) {
         (b"%union a", Some(7)),
         (b"%token <t> A 1, B, 'c' 2\r\n%%\r\na : A", None),
         (b"%token <t> <u>", Some(11)),
+        (b"%token <> A %% a : A", None),
         (b"%expect A", Some(8)),
         (b"%% a : %prec ;", Some(13)),
         (b"%{ \"%}\n%%\na : ;", None),
