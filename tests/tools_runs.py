@@ -30,6 +30,14 @@ exit "$STATUS"
 """
 MARK = "«".encode()
 
+# Stands for the command rt in the build of a program.
+MADE_UP_RT = """#!/bin/sh
+case "$1" in
+all) printf '== low\\n== high\\nrt: more\\n== cs_cli\\n== summary\\n' ;;
+run) cp "$BUILDS" out/cs_cli && echo 'conform: usage: word 0' ;;
+esac
+"""
+
 # Bison's text, and the plain one.
 PLAIN = [
     ("%token A \"a\"\n%%\ns : \"a\"s | ;\n", "%token A    \n%%\ns : A  s | ;\n"),
@@ -451,9 +459,36 @@ def scripts(folder):
             yield f"conform on a terminal: {status}, {said}"
 
 
+def builds(folder):
+    """The program is built of what it stands on, and anew where that is newer, which a test or an edit is not."""
+    top, tools, line = os.path.join(folder, "built"), os.path.join(folder, "with_rt"), b"conform: usage: word 0\n"
+    for part in ("cs_cli/src", "low/src", "low/must-fail", "test_low/src"):
+        os.makedirs(os.path.join(top, "crates", part))
+    os.makedirs(tools)
+    os.chmod(written(tools, "rt", MADE_UP_RT), 0o755)
+    script = shutil.copy(os.path.join(TOP, "conform"), top)
+    written(top, "crates.txt", "# kit is no crate\ncs_cli: high low\ntest_low: low\nhigh: low kit\nlow: kit")
+    told = {"SAID": line.decode(), "STATUS": "2", "WROTE": "out", "BUILDS": os.path.join(folder, "program")}
+    told["PATH"] = tools + os.pathsep + os.environ["PATH"]
+    turns = [b"conform: proving %s (%d of 3)" % (name, at) for at, name in enumerate((b"low", b"high", b"cs_cli"), 1)]
+    rows = (None, True), ("low/must-fail/a.edit", False), ("test_low/src/lib.rt", False), ("low/src/lib.rt", True)
+    for name, is_built in rows:
+        if name:
+            written(os.path.join(top, "crates"), name, "")
+        status, out, said = call([script], folder, **told)
+        found = [it for it in said.splitlines() if not it.startswith(b"conform: building; ")]
+        if (status, out, found) != (2, b"out", [*turns, *line.splitlines()] if is_built else line.splitlines()):
+            yield f"conform beside a new {name}: {status}, {out}, {said}"
+    shutil.rmtree(os.path.join(top, "crates", "cs_cli", "out"))
+    out = written(os.path.join(top, "crates", "cs_cli"), "out", "")
+    status, _, said = call([script], folder, **told)
+    if status != 73 or said != f"conform: the folder {out} can't be written: File exists\n".encode():
+        yield f"conform without a folder: {status}, {said}"
+
+
 def main():
     failed = []
-    for rows in (plain_rows, not_plain_rows, calls, reports, places, long_lines, others, good_runs, sentences, scripts):
+    for rows in (plain_rows, not_plain_rows, calls, reports, places, long_lines, others, good_runs, sentences, scripts, builds):
         with tempfile.TemporaryDirectory() as folder:
             os.chmod(written(folder, "program", MADE_UP), 0o755)
             failed += rows(folder)
