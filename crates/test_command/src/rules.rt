@@ -1,3 +1,6 @@
+// Manifests of `rules`, and how its runs end, by `run`. What is expected was worked by hand from the grammar file of POSIX yacc
+// and from docs/FORMATS.md, which has the lines, the statuses and the order of the refusals.
+
 use cs_fan::OpenGate;
 use cs_io::{MemoryDesk, MemorySink};
 use cs_run::run;

@@ -1,4 +1,5 @@
-// Bases that are offered one after another.
+// Bases that are offered one after another. Worked by hand from what bases are: the first lists of tokens that differ, as many as
+// are wanted, each with the number that it was offered with first.
 
 use cs_bases::Bases;
 use std::test::Fail;

@@ -1,4 +1,5 @@
-// Orders and components of graphs.
+// Orders and components of graphs, worked by hand: each node stands behind those that it leads to, and no graph here has two such
+// orders; nodes have one number where each leads to the other.
 
 use cs_graph::{components, is_graph, order};
 use std::alloc::{AllocError, Global};
