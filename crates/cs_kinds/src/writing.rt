@@ -14,6 +14,9 @@ use cs_cost::{Cost, Costs};
 use cs_grammar::{Derivation, Symbol};
 use std::alloc::{AllocError, Global};
 
+// Room for as many pending parts is made at once.
+const USUAL_PARTS: usize = 16;
+
 // What is still to be written: the code of the chosen tree of a kind and a symbol.
 #[derive(Clone, Copy, Debug)]
 pub(crate) struct Part {
@@ -180,7 +183,7 @@ pub fn kind_into(
     requires small { HaveSmallOfKind kinds.now.weights kinds.now.grammar kind symbols.now }
     ensures { OnOk result (AppendsIn kinds.now kind symbols.now into.old into.new) }
 {
-    let mut pending = Vec::new(alloc);
+    let mut pending = Vec::with_capacity(alloc, USUAL_PARTS)?;
     put_first(&mut pending, kind, place_of(kinds, kind, symbols), symbols)?;
     write(kinds, costs, &mut pending, into)
 }

@@ -12,13 +12,13 @@ use Rattle.cs_kinds.proofs.writing.kind_into.Goals as goal
 pub write-requires-clause-parts : goal.write-requires-clause-parts
 write-requires-clause-parts c =
     let g = c.args.kinds.now.grammar in
-    let is = c.in_ok-put_first.ensures ∙ ap (λ (l : List Part). parts_from c.args.kind c.place_of.result 0 c.args.symbols.now ++ reverse l) c.new-pending.ensures.items ∙ append-nil _ in
+    let is = c.in_ok-put_first.ensures ∙ ap (λ (l : List Part). parts_from c.args.kind c.place_of.result 0 c.args.symbols.now ++ reverse l) c.in_ok-pending.ensures.items ∙ append-nil _ in
     subst (All (IsPartOf g)) (sym is) (parts_fit c.args.kinds.now.weights g c.args.kind c.place_of.result 0 c.args.symbols.now c.requires.kind c.requires.symbols)
 
 pub write-requires-clause-small : goal.write-requires-clause-small
 write-requires-clause-small c =
     let g = c.args.kinds.now.grammar in
-    let is = c.in_ok-put_first.ensures ∙ ap (λ (l : List Part). parts_from c.args.kind c.place_of.result 0 c.args.symbols.now ++ reverse l) c.new-pending.ensures.items ∙ append-nil _ in
+    let is = c.in_ok-put_first.ensures ∙ ap (λ (l : List Part). parts_from c.args.kind c.place_of.result 0 c.args.symbols.now ++ reverse l) c.in_ok-pending.ensures.items ∙ append-nil _ in
     let f = c.requires.small in
     let h = list_exists c.args.kinds.now.weights g c.args.kind c.args.symbols.now f.0 f.1 in
     let small = list_least c.args.kinds.now.weights g h.0 f.0 c.args.kind c.args.symbols.now f.1 h.1 in
@@ -27,7 +27,7 @@ write-requires-clause-small c =
 pub returns : goal.returns
 returns c =
     let g = c.args.kinds.now.grammar in
-    let is = c.in_ok-put_first.ensures ∙ ap (λ (l : List Part). parts_from c.args.kind c.place_of.result 0 c.args.symbols.now ++ reverse l) c.new-pending.ensures.items ∙ append-nil _ in
+    let is = c.in_ok-put_first.ensures ∙ ap (λ (l : List Part). parts_from c.args.kind c.place_of.result 0 c.args.symbols.now ++ reverse l) c.in_ok-pending.ensures.items ∙ append-nil _ in
     let f = c.requires.small in
     let h = list_exists c.args.kinds.now.weights g c.args.kind c.args.symbols.now f.0 f.1 in
     let small = list_least c.args.kinds.now.weights g h.0 f.0 c.args.kind c.args.symbols.now f.1 h.1 in
