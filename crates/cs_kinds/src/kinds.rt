@@ -172,7 +172,7 @@ impl<'g> Kinds<'g> {
     {
         match symbol {
             Symbol::Token(token) => leaf_cost(self.weights, kind, token),
-            Symbol::Nonterminal(number) => self.row(kind)[number as usize - 1],
+            Symbol::Nonterminal(number) => self.row(kind)[place_of(number)],
         }
     }
 
@@ -185,8 +185,8 @@ impl<'g> Kinds<'g> {
         match kind {
             TreeKind::Any => self.rows.any.costs(),
             TreeKind::Empty => self.rows.empty.costs(),
-            TreeKind::Begins(token) => self.rows.begins[token as usize - 1].costs(),
-            TreeKind::Ends(token) => self.rows.ends[token as usize - 1].costs(),
+            TreeKind::Begins(token) => self.rows.begins[place_of(token)].costs(),
+            TreeKind::Ends(token) => self.rows.ends[place_of(token)].costs(),
         }
     }
 }

@@ -118,7 +118,7 @@ fn open_up(
 {
     let number = root_of(kinds, kind, left);
     into.push(number)?;
-    let right = kinds.grammar().rules()[number as usize - 1].right();
+    let right = kinds.grammar().rule(number).right();
     put_first(pending, kind, place_of(kinds, kind, right), right)
 }
 

@@ -1,4 +1,4 @@
-use Rattle.std.proofs.Common.{◌∙◌}
+use Rattle.std.proofs.Common.{get_or, ap, ◌∙◌}
 use Rattle.cs_kinds.specs.declared.kind.TreeKind.TheVariants.{Any, Empty}
 use Rattle.cs_kinds.proofs.KindCosts.{costs_held, begins_held, ends_held}
 use Rattle.cs_kinds.proofs.kinds.Kinds.row.Goals as goal
@@ -11,8 +11,8 @@ returns-in-Empty c = costs_held _ _ _ _ c.self.view_is c.self.invariant.0 c.requ
 
 pub returns-in-Begins : goal.returns-in-Begins
 returns-in-Begins c =
-    begins_held _ _ _ _ c.self.view_is c.self.invariant.0 c.requires c.in-Begins.token _ _ c.in-Begins.is (c.costs-in-Begins.ensures ∙ c.index.ensures)
+    begins_held _ _ _ _ c.self.view_is c.self.invariant.0 c.requires c.in-Begins.token _ _ c.in-Begins.is (c.costs-in-Begins.ensures ∙ c.index.ensures ∙ ap (λ i. get_or c.self.inside.rows.begins.items i c.index.result.now) c.place_of.ensures)
 
 pub returns-in-Ends : goal.returns-in-Ends
 returns-in-Ends c =
-    ends_held _ _ _ _ c.self.view_is c.self.invariant.0 c.requires c.in-Ends.token _ _ c.in-Ends.is (c.costs-in-Ends.ensures ∙ c.index-in-Ends.ensures)
+    ends_held _ _ _ _ c.self.view_is c.self.invariant.0 c.requires c.in-Ends.token _ _ c.in-Ends.is (c.costs-in-Ends.ensures ∙ c.index-in-Ends.ensures ∙ ap (λ i. get_or c.self.inside.rows.ends.items i c.index-in-Ends.result.now) c.place_of-in-Ends.ensures)

@@ -18,4 +18,4 @@ returns-in-Token c =
     (subst (IsCost w.limit (IsTreeOfKind g k (Token c.in-Token.token)) (size w)) (sym c.leaf_cost.ensures.cost) (leaf_exact w g k c.in-Token.token)))
 
 pub returns-in-Nonterminal : goal.returns-in-Nonterminal
-returns-in-Nonterminal c = symbol_told c.args.self.now.weights _ _ _ c.in-Nonterminal.number _ _ c.in-Nonterminal.is c.requires.symbol c.row.ensures
+returns-in-Nonterminal c = rw c.place_of.ensures (symbol_told c.args.self.now.weights _ _ _ c.in-Nonterminal.number _ _ c.in-Nonterminal.is c.requires.symbol c.row.ensures)
