@@ -19,9 +19,9 @@ use crate::lefts::lefts_of;
 use crate::nets::{net_of, token_rows};
 use crate::rims::Bases;
 use crate::row::Row;
-use crate::rows::{at_most, leaf_cost, lesser};
+use crate::rows::leaf_cost;
 use crate::side::Side;
-use cs_cost::{Cost, Costs, cost_of, plus};
+use cs_cost::{Cost, Costs, cost_of, is_below, plus};
 use cs_grammar::{Grammar, Symbol, Weights, place_of};
 use cs_ways::{Steps, turned};
 use std::alloc::{AllocError, Global};
@@ -95,7 +95,7 @@ impl<'g> Kinds<'g> {
         ensures cost { result ≡ lesser self.now.weights.limit a b }
         ensures capped { IsCapped self.now.weights.limit result }
     {
-        lesser(self.weights, a, b)
+        if is_below(b, a) { b } else { a }
     }
 
     // Whether a cost is no higher than another.
@@ -104,7 +104,7 @@ impl<'g> Kinds<'g> {
         requires b { IsCapped self.now.weights.limit b }
         ensures { IsTrue result ↔ (rank self.now.weights.limit a ≤ rank self.now.weights.limit b) }
     {
-        at_most(self.weights, a, b)
+        !is_below(b, a)
     }
 
     /// Costs together: `Large` where they are above the limit of the weights.

@@ -1,41 +1,13 @@
-// The order of costs, and what leaves and no trees at all cost.
+// What leaves and no trees at all cost.
 
-ghost use Rattle.std.specs.Prelude.{◌≡◌, ◌<◌, ◌≤◌, ◌↔◌, IsTrue, length};
+ghost use Rattle.std.specs.Prelude.{◌≡◌, length};
 ghost use Rattle.cs_grammar.specs.Grammar.{IsNumberOf};
-ghost use Rattle.cs_cost.specs.Rank.{rank, IsCapped};
-ghost use Rattle.cs_kinds.specs.ListCost.{lesser, leaf_cost, bare_cost};
+ghost use Rattle.cs_cost.specs.Rank.{IsCapped};
+ghost use Rattle.cs_kinds.specs.ListCost.{leaf_cost, bare_cost};
 
 use crate::kind::TreeKind;
-use cs_cost::{Cost, cost_of, is_below};
+use cs_cost::{Cost, cost_of};
 use cs_grammar::Weights;
-
-// Whether a cost is lower than another.
-fn is_lower(_weights: &Weights, a: Cost, b: Cost) -> bool
-    requires a { IsCapped _weights.now.limit a }
-    requires b { IsCapped _weights.now.limit b }
-    ensures { IsTrue result ↔ (rank _weights.now.limit a < rank _weights.now.limit b) }
-{
-    is_below(a, b)
-}
-
-// The lower of two costs, the first where they are as low.
-pub(crate) fn lesser(_weights: &Weights, a: Cost, b: Cost) -> Cost
-    requires a { IsCapped _weights.now.limit a }
-    requires b { IsCapped _weights.now.limit b }
-    ensures cost { result ≡ lesser _weights.now.limit a b }
-    ensures capped { IsCapped _weights.now.limit result }
-{
-    if is_lower(_weights, b, a) { b } else { a }
-}
-
-// Whether a cost is no higher than another.
-pub(crate) fn at_most(_weights: &Weights, a: Cost, b: Cost) -> bool
-    requires a { IsCapped _weights.now.limit a }
-    requires b { IsCapped _weights.now.limit b }
-    ensures { IsTrue result ↔ (rank _weights.now.limit a ≤ rank _weights.now.limit b) }
-{
-    !is_lower(_weights, b, a)
-}
 
 // What no tree at all costs.
 pub(crate) fn bare_cost(kind: TreeKind) -> Cost
