@@ -104,7 +104,7 @@ fn root_of(kinds: &Kinds, kind: TreeKind, left: u16) -> u16
 }
 
 // Writes the rule at the root, and puts its children in front of what is pending.
-fn open_up(
+fn open_part(
     kinds: &Kinds,
     kind: TreeKind,
     left: u16,
@@ -140,7 +140,7 @@ fn take_on(
         Symbol::Token(_) => Ok(()),
         Symbol::Nonterminal(left) => match part.kind {
             TreeKind::Any => costs.least_into(part.symbol, into),
-            _ => open_up(kinds, part.kind, left, pending, into),
+            _ => open_part(kinds, part.kind, left, pending, into),
         },
     }
 }

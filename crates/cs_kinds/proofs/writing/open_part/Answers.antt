@@ -6,7 +6,7 @@ use Rattle.cs_grammar.specs.Grammar.{Production, PlainGrammar, IsRule, IsSymbolO
 use Rattle.cs_grammar.proofs.OneTree.{one_rule}
 use Rattle.cs_grammar.proofs.Measures.{rule_number}
 use Rattle.cs_kinds.proofs.Written.{takes_root}
-use Rattle.cs_kinds.proofs.writing.open_up.Goals as goal
+use Rattle.cs_kinds.proofs.writing.open_part.Goals as goal
 
 pub rule-requires : goal.rule-requires
 rule-requires c =
