@@ -71,7 +71,7 @@ pub(crate) fn seam_code<'g>(
     requires meeting { IsMeetingOf kinds.now tokens at }
     ensures { IfOk result (IsCodeOfTokens kinds.now tokens) }
 {
-    let rule = &kinds.grammar().rules()[at.rule as usize - 1];
+    let rule = kinds.grammar().rule(at.rule);
     let parts = split_at(rule.right(), at.place as usize);
     let context = embeds.around(costs, rule.left())?;
     let mut derivation = Derivation::new(alloc);

@@ -85,7 +85,7 @@ impl<'g> Pairs<'g> {
         match (left, right) {
             (Mark::Begin, Mark::Token(second)) => self.whole_cost(TreeKind::Begins(second)),
             (Mark::Token(first), Mark::Token(second)) => {
-                self.rows.costs[second as usize - 1].costs()[first as usize - 1]
+                self.rows.costs[place_of(second)].costs()[place_of(first)]
             }
             (Mark::Token(first), Mark::End) => self.whole_cost(TreeKind::Ends(first)),
             (Mark::Begin, Mark::End) => self.whole_cost(TreeKind::Empty),

@@ -1,47 +1,42 @@
-use Rattle.std.proofs.Common.{◌+◌, ◌-◌, ◌<◌, ◌++◌, List, [], ◌∷◌, ℕ, length, get_or, take, drop, sym, ap, subst, ◌∙◌}
+use Rattle.std.proofs.Common.{◌+◌, ◌<◌, ◌++◌, List, [], ◌∷◌, ℕ, length, get_or, take, drop, sym, ap, subst, ◌∙◌}
 use Rattle.std.specs.Prelude.{All}
 use Rattle.std.proofs.lemmas.List.Elements.{All-nil, All-cons, All-take, All-drop}
 use Rattle.cs_grammar.specs.declared.symbol.Symbol.{Symbol}
 use Rattle.cs_grammar.specs.declared.symbol.Symbol.TheVariants.{Token}
-use Rattle.cs_grammar.specs.Grammar.{Production, PlainGrammar, IsGrammar, IsSymbol, IsSymbolOf}
+use Rattle.cs_grammar.specs.Grammar.{PlainGrammar, IsRule, IsSymbol, IsSymbolOf}
+use Rattle.cs_grammar.proofs.Measures.{rule_number}
 use Rattle.cs_grammar.specs.Weights.{Weighed}
 use Rattle.cs_cost.specs.Chosen.{AppendsAllChosen}
 use Rattle.cs_cost.specs.Trees.{HaveSmall}
-use Rattle.cs_cost.proofs.Rules.{well_formed_at}
 use Rattle.cs_embed.specs.Around.{HasLeastContext, IsAround}
 use Rattle.cs_kinds.specs.declared.kind.TreeKind.TheVariants.{Begins, Ends}
 use Rattle.cs_kinds.specs.ChosenKind.{AppendsOfKind}
 use Rattle.cs_kinds.specs.Parts.{HaveSmallOfKind}
-use Rattle.cs_pairs.proofs.Laying.{Laid, laid, laid_context, laid_lefts, laid_last, laid_rights, laid_code, rule_met}
+use Rattle.cs_pairs.proofs.Laying.{Laid, laid, laid_context, laid_lefts, laid_last, laid_rights, laid_code}
 use Rattle.cs_pairs.proofs.derive.seam_code.Goals as goal
 use Rattle.cs_pairs.proofs.derive.seam_code.Goals.{After-right}
 
--- the rule that is read, and the parts of the chosen tree by its symbols
-abbrev rule_of : (c : After-right) → Production
-rule_of c = c.index-rules-at.result
+pub rule-rule-requires : goal.rule-rule-requires
+rule-rule-requires c =
+    let m = c.requires.meeting in
+    rule_number c.args.kinds.now.grammar c.grammar.result.now c.args.at.rule m.chosen.rule c.grammar.ensures (subst (λ n. IsRule c.args.kinds.now.grammar n m.chosen.rule) m.at_rule m.chosen.is_rule)
 
-abbrev symbol_of : (c : After-right) → Symbol
-symbol_of c = get_or c.index-rules-at.result.right c.args.at.place (Token 0)
-
-parts : (c : After-right) → Laid c.args.kinds.now.weights c.args.kinds.now.grammar c.args.tokens.first c.args.tokens.second c.args.at.rule c.args.at.place c.index-rules-at.result (get_or c.index-rules-at.result.right c.args.at.place (Token 0))
+-- the parts of the chosen tree by the symbols of the rule
+parts : (c : After-right) → Laid c.args.kinds.now.weights c.args.kinds.now.grammar c.args.tokens.first c.args.tokens.second c.args.at.rule c.args.at.place c.rule-rule.result.now (get_or c.rule-rule.result.now.right c.args.at.place (Token 0))
 parts c =
-    let rules = c.rules.ensures.rules ∙ ap (λ (s : PlainGrammar). s.rules) c.grammar.ensures in
-    laid c.args.kinds.now.weights c.args.kinds.now.grammar c.args.tokens.first c.args.tokens.second c.args.at.rule c.args.at.place c.index-rules-at.result (Token 0)
-    (rule_met c.args.kinds.now.weights c.args.kinds.now.grammar c.args.tokens.first c.args.tokens.second c.args.at.rule c.args.at.place c.index-rules-at.result _ c.requires.meeting rules c.index-rules-at.is)
+    laid c.args.kinds.now.weights c.args.kinds.now.grammar c.args.tokens.first c.args.tokens.second c.args.at.rule c.args.at.place c.rule-rule.result.now (Token 0)
+    (subst (λ (s : PlainGrammar). IsRule s c.args.at.rule c.rule-rule.result.now) c.grammar.ensures c.rule-rule.ensures.rule)
     c.requires.meeting
 
-symbols : (c : After-right) → All (IsSymbol c.args.kinds.now.grammar.tokens c.args.kinds.now.grammar.nonterminals) c.index-rules-at.result.right
-symbols c =
-    let rules = c.rules.ensures.rules ∙ ap (λ (s : PlainGrammar). s.rules) c.grammar.ensures in
-    let rule = rule_met c.args.kinds.now.weights c.args.kinds.now.grammar c.args.tokens.first c.args.tokens.second c.args.at.rule c.args.at.place c.index-rules-at.result _ c.requires.meeting rules c.index-rules-at.is in
-    (well_formed_at c.args.kinds.now.grammar (c.args.at.rule - 1) c.index-rules-at.result (subst IsGrammar c.grammar.ensures c.rules.ensures.well_formed) rule.at).right
+symbols : (c : After-right) → All (IsSymbolOf c.args.kinds.now.grammar) c.rule-rule.result.now.right
+symbols c = subst (λ (s : PlainGrammar). All (IsSymbolOf s) c.rule-rule.result.now.right) c.grammar.ensures c.rule-rule.ensures.fits.right
 
 pub split_at-parts-requires : goal.split_at-parts-requires
 split_at-parts-requires c = subst (λ (l : List Symbol). c.args.at.place < length l) (sym c.right.ensures) (parts (goal.at.split_at-parts-requires c).After-right).within
 
 pub around-requires-clause-least : goal.around-requires-clause-least
 around-requires-clause-least c =
-    let least = laid_context c.args.kinds.now.weights c.args.kinds.now.grammar c.args.tokens.first c.args.tokens.second c.args.at.rule c.args.at.place c.index-rules-at.result _ (parts (goal.at.around-requires-clause-least c).After-right) in
+    let least = laid_context c.args.kinds.now.weights c.args.kinds.now.grammar c.args.tokens.first c.args.tokens.second c.args.at.rule c.args.at.place c.rule-rule.result.now _ (parts (goal.at.around-requires-clause-least c).After-right) in
     subst (λ (v : Weighed). HasLeastContext v.weights v.grammar c.left.result) (sym c.requires.embeds) (subst (HasLeastContext c.args.kinds.now.weights c.args.kinds.now.grammar) (sym c.left.ensures) least)
 
 pub all_into-requires-clause-symbols : goal.all_into-requires-clause-symbols
@@ -49,12 +44,12 @@ all_into-requires-clause-symbols c =
     let is = c.split_at-parts.ensures.before ∙ ap (λ (l : List Symbol). take c.args.at.place l) c.right.ensures in
     subst (λ (v : Weighed). All (IsSymbolOf v.grammar) c.split_at-parts.result.before.now) (sym c.requires.costs)
     (subst (λ (l : List Symbol). All (IsSymbol c.args.kinds.now.grammar.tokens c.args.kinds.now.grammar.nonterminals) l) (sym is)
-    (All-take (IsSymbol c.args.kinds.now.grammar.tokens c.args.kinds.now.grammar.nonterminals) c.args.at.place c.index-rules-at.result.right (symbols (goal.at.all_into-requires-clause-symbols c).After-right)))
+    (All-take (IsSymbol c.args.kinds.now.grammar.tokens c.args.kinds.now.grammar.nonterminals) c.args.at.place c.rule-rule.result.now.right (symbols (goal.at.all_into-requires-clause-symbols c).After-right)))
 
 pub all_into-requires-clause-small : goal.all_into-requires-clause-small
 all_into-requires-clause-small c =
     let is = c.split_at-parts.ensures.before ∙ ap (λ (l : List Symbol). take c.args.at.place l) c.right.ensures in
-    let small = laid_lefts c.args.kinds.now.weights c.args.kinds.now.grammar c.args.tokens.first c.args.tokens.second c.args.at.rule c.args.at.place c.index-rules-at.result _ (parts (goal.at.all_into-requires-clause-small c).After-right) in
+    let small = laid_lefts c.args.kinds.now.weights c.args.kinds.now.grammar c.args.tokens.first c.args.tokens.second c.args.at.rule c.args.at.place c.rule-rule.result.now _ (parts (goal.at.all_into-requires-clause-small c).After-right) in
     subst (λ (v : Weighed). HaveSmall v.weights v.grammar c.split_at-parts.result.before.now) (sym c.requires.costs) (subst (HaveSmall c.args.kinds.now.weights c.args.kinds.now.grammar) (sym is) small)
 
 pub kind_into-requires-clause-symbols : goal.kind_into-requires-clause-symbols
@@ -69,7 +64,7 @@ pub kind_into-requires-clause-small : goal.kind_into-requires-clause-small
 kind_into-requires-clause-small c =
     let g = c.args.kinds.now.grammar in
     let is = c.split_at-parts.ensures.symbol (Token 0) ∙ ap (λ (l : List Symbol). get_or l c.args.at.place (Token 0)) c.right.ensures in
-    let small = laid_last c.args.kinds.now.weights g c.args.tokens.first c.args.tokens.second c.args.at.rule c.args.at.place c.index-rules-at.result _ (parts (goal.at.kind_into-requires-clause-small c).After-right) in
+    let small = laid_last c.args.kinds.now.weights g c.args.tokens.first c.args.tokens.second c.args.at.rule c.args.at.place c.rule-rule.result.now _ (parts (goal.at.kind_into-requires-clause-small c).After-right) in
     subst (λ x. HaveSmallOfKind c.args.kinds.now.weights g (Ends c.args.tokens.first) (x ∷ [])) (sym is) small
 
 pub kind_into-requires-2-clause-symbols : goal.kind_into-requires-2-clause-symbols
@@ -77,13 +72,13 @@ kind_into-requires-2-clause-symbols c =
     let g = c.args.kinds.now.grammar in
     let is = c.split_at-parts.ensures.behind ∙ ap (λ (l : List Symbol). drop (c.args.at.place + 1) l) c.right.ensures in
     subst (λ (l : List Symbol). All (IsSymbol g.tokens g.nonterminals) l) (sym is)
-    (All-drop (IsSymbol g.tokens g.nonterminals) (c.args.at.place + 1) c.index-rules-at.result.right (symbols (goal.at.kind_into-requires-2-clause-symbols c).After-right))
+    (All-drop (IsSymbol g.tokens g.nonterminals) (c.args.at.place + 1) c.rule-rule.result.now.right (symbols (goal.at.kind_into-requires-2-clause-symbols c).After-right))
 
 pub kind_into-requires-2-clause-small : goal.kind_into-requires-2-clause-small
 kind_into-requires-2-clause-small c =
     let g = c.args.kinds.now.grammar in
     let is = c.split_at-parts.ensures.behind ∙ ap (λ (l : List Symbol). drop (c.args.at.place + 1) l) c.right.ensures in
-    let small = laid_rights c.args.kinds.now.weights g c.args.tokens.first c.args.tokens.second c.args.at.rule c.args.at.place c.index-rules-at.result _ (parts (goal.at.kind_into-requires-2-clause-small c).After-right) in
+    let small = laid_rights c.args.kinds.now.weights g c.args.tokens.first c.args.tokens.second c.args.at.rule c.args.at.place c.rule-rule.result.now _ (parts (goal.at.kind_into-requires-2-clause-small c).After-right) in
     subst (HaveSmallOfKind c.args.kinds.now.weights g (Begins c.args.tokens.second)) (sym is) small
 
 pub returns : goal.returns
@@ -98,7 +93,7 @@ returns c =
     (subst (λ (v : Weighed). AppendsAllChosen v.weights v.grammar c.split_at-parts.result.before.now c.push.new.self c.all_into.new.into) c.requires.costs c.in_ok-all_into.ensures.ok) in
     let last = subst (λ x. AppendsOfKind c.args.kinds.now.weights g (Ends c.args.tokens.first) (x ∷ []) c.all_into.new.into c.kind_into.new.into) symbol c.in_ok-kind_into.ensures in
     let rights = subst (λ (l : List Symbol). AppendsOfKind c.args.kinds.now.weights g (Begins c.args.tokens.second) l c.kind_into.new.into c.kind_into-2.new.into) behind c.in_ok-kind_into-2.ensures in
-    laid_code c.args.kinds.now.weights g c.args.tokens.first c.args.tokens.second c.args.at.rule c.args.at.place c.index-rules-at.result _ (parts (goal.at.returns c).After-right)
+    laid_code c.args.kinds.now.weights g c.args.tokens.first c.args.tokens.second c.args.at.rule c.args.at.place c.rule-rule.result.now _ (parts (goal.at.returns c).After-right)
     c.in_ok-context.context.before.items c.in_ok-context.context.after.items c.new-derivation.result c.extend_from_slice.new.self c.push.new.self c.all_into.new.into c.kind_into.new.into c.kind_into-2.new.into c.extend_from_slice-2.new.self
     around c.new-derivation.ensures
     (c.in_ok-extend_from_slice.ensures.ok ∙ ap (λ (l : List ℕ). c.new-derivation.result ++ l) c.deref.ensures.value)
