@@ -229,8 +229,8 @@ module _ (w : Measure) (g : PlainGrammar) (p i q : ℕ) (outer inner : Productio
       IsCost-same w.limit ArePlaced (IsMet g (Context p i q)) placed_size (size w) (plus w.limit (plus w.limit a (plus w.limit (cost_of w.limit 1) (plus w.limit l s))) (plus w.limit (cost_of w.limit 1) b)) placed parted all
 
 -- the inner nonterminal stands at its place of the outer rule
-pub placed_in : (w : Measure) (g : PlainGrammar) (p i q : ℕ) (outer inner : Production) → IsOccurrence g p i q → IsRule g p outer → IsRule g q inner → (outer.right ≡ take (i - 1) outer.right ++ Nonterminal inner.left ∷ drop i outer.right) × (length (take (i - 1) outer.right) + 1 ≡ i)
-placed_in w g p i q outer inner o is_outer is_inner =
+pub placed_in : (g : PlainGrammar) (p i q : ℕ) (outer inner : Production) → IsOccurrence g p i q → IsRule g p outer → IsRule g q inner → (outer.right ≡ take (i - 1) outer.right ++ Nonterminal inner.left ∷ drop i outer.right) × (length (take (i - 1) outer.right) + 1 ≡ i)
+placed_in g p i q outer inner o is_outer is_inner =
     let outers = one_rule g p p o.outer outer refl o.is_outer is_outer in
     let inners = one_rule g q q o.inner inner refl o.is_inner is_inner in
     let at : slice_get outer.right (i - 1) ≡ Some (Nonterminal inner.left) =

@@ -1,3 +1,4 @@
 pub mod Verdict
 pub mod Judges
 pub mod Positives
+pub mod Occurrences

@@ -7,6 +7,7 @@ use Rattle.cs_grammar.specs.Laws.{AtLeastOne}
 use Rattle.cs_grammar.specs.Weights.{Measure, Weighed}
 use Rattle.cs_grammar.specs.Tree.{Tree, Node, Forest, IsTree, size, code}
 use Rattle.cs_grammar.specs.Context.{Context as TreeContext, Under, plug}
+use Rattle.cs_cost.specs.declared.cost.Cost.{Cost}
 use Rattle.cs_cost.specs.declared.cost.Cost.TheVariants.{Least}
 use Rattle.cs_cost.specs.Least.{IsLeast, IsCost}
 use Rattle.cs_cost.specs.Chosen.{AreChosen}
@@ -92,6 +93,10 @@ IsVerdictIn v goal verdict = IsVerdict v.weights v.grammar goal verdict
 -- the code of the chosen tree of a goal
 abbrev pub IsCodeIn : Weighed → Goal → List ℕ → Type 0
 IsCodeIn v goal derivation = IsCodeOf v.weights v.grammar goal derivation
+
+-- what the least tree that meets the goal costs
+abbrev pub IsGoalCost : Weighed → Goal → Cost → Type 0
+IsGoalCost v goal cost = IsCost v.weights.limit (IsMet v.grammar goal) (size v.weights) cost
 
 -- the least tree that meets the goal is within the limit
 abbrev pub HasLeastIn : Weighed → Goal → Type 0

@@ -1,49 +1,67 @@
-// The verdicts of context goals.
+// The least trees of context goals.
 
-ghost use Rattle.std.specs.Prelude.{◌≡◌, IfOk};
+ghost use Rattle.std.specs.Prelude.{◌≡◌, IfOk, All};
+ghost use Rattle.cs_grammar.specs.Grammar.{IsRuleOf, IsSymbolOf};
 ghost use Rattle.cs_goals.specs.Goal.{IsOccurrence};
-ghost use Rattle.cs_positive.specs.Verdict.{IsVerdictIn, HasLeastIn, IsCodeIn};
+ghost use Rattle.cs_positive.specs.Occurrences.{IsCutAt};
+ghost use Rattle.cs_positive.specs.Verdict.{IsGoalCost, HasLeastIn, IsCodeIn};
 
 use crate::sums::{joint_cost, node_cost};
-use crate::verdict::Verdict;
 use cs_cost::{Cost, Costs};
 use cs_embed::Embeds;
 use cs_goals::Goal;
-use cs_grammar::Derivation;
+use cs_grammar::{Derivation, Grammar, Rule, Symbol, place_of};
 use std::alloc::{AllocError, Global};
 
-pub(crate) fn judge_context(
-    alloc: Global,
+// The rules of a context goal, and the symbols beside the inner one's left side in the outer one's right side.
+#[derive(Clone, Copy)]
+struct Occurrence<'g> {
+    outer: &'g Rule,
+    before: &'g [Symbol],
+    inner: &'g Rule,
+    behind: &'g [Symbol],
+}
+
+fn occurrence_of<'g>(grammar: &'g Grammar, outer: u16, place: u16, inner: u16) -> Occurrence<'g>
+    requires { IsOccurrence grammar.now outer place inner }
+    ensures cut { IsCutAt grammar.now outer place inner result }
+    ensures outer { IsRuleOf grammar.now.tokens grammar.now.nonterminals result.outer.now }
+    ensures before { All (IsSymbolOf grammar.now) result.before.now }
+    ensures inner { IsRuleOf grammar.now.tokens grammar.now.nonterminals result.inner.now }
+    ensures behind { All (IsSymbolOf grammar.now) result.behind.now }
+{
+    let outer_rule = grammar.rule(outer);
+    let right = outer_rule.right();
+    Occurrence {
+        outer: outer_rule,
+        before: &right[..place_of(place)],
+        inner: grammar.rule(inner),
+        behind: &right[place as usize..],
+    }
+}
+
+// What the least tree costs that meets a context goal.
+pub(crate) fn context_cost(
     costs: &Costs,
     embeds: &Embeds,
     outer: u16,
     place: u16,
     inner: u16,
-) -> Result<Verdict, AllocError>
+) -> Cost
     requires embeds { embeds.now ≡ costs.now }
     requires goal { IsOccurrence costs.now.grammar outer place inner }
-    ensures { IfOk result (IsVerdictIn costs.now (Goal.Context outer place inner)) }
+    ensures { IsGoalCost costs.now (Goal.Context outer place inner) result }
 {
-    let outer_rule = costs.grammar().rule(outer);
-    let inner_rule = costs.grammar().rule(inner);
-    let right = outer_rule.right();
-    let left = costs.sum(&right[..place as usize - 1]);
-    let siblings = joint_cost(costs, left, costs.sum(&right[place as usize..]));
-    let context = embeds.embed(outer_rule.left());
+    let parts = occurrence_of(costs.grammar(), outer, place, inner);
+    let siblings = joint_cost(costs, costs.sum(parts.before), costs.sum(parts.behind));
+    let context = embeds.embed(parts.outer.left());
     let around = joint_cost(costs, context, node_cost(costs, siblings));
-    let node = node_cost(costs, costs.sum(inner_rule.right()));
-    match joint_cost(costs, around, node) {
-        Cost::Never => Ok(Verdict::Infeasible),
-        Cost::Large => Ok(Verdict::Large),
-        Cost::Least(size) => {
-            let derivation = derive_context(alloc, costs, embeds, outer, place, inner)?;
-            Ok(Verdict::Feasible { size, derivation })
-        }
-    }
+    let node = node_cost(costs, costs.sum(parts.inner.right()));
+    joint_cost(costs, around, node)
 }
 
 // The code of the chosen tree of a context goal.
-fn derive_context(
+pub(crate) fn derive_context(
     alloc: Global,
     costs: &Costs,
     embeds: &Embeds,
@@ -56,20 +74,15 @@ fn derive_context(
     requires feasible { HasLeastIn costs.now (Goal.Context outer place inner) }
     ensures { IfOk result (IsCodeIn costs.now (Goal.Context outer place inner)) }
 {
-    let outer_rule = costs.grammar().rule(outer);
-    let inner_rule = costs.grammar().rule(inner);
-    let right = outer_rule.right();
-    let before = &right[..place as usize - 1];
-    let behind = &right[place as usize..];
-    let children = inner_rule.right();
-    let context = embeds.around(costs, outer_rule.left())?;
+    let parts = occurrence_of(costs.grammar(), outer, place, inner);
+    let context = embeds.around(costs, parts.outer.left())?;
     let mut derivation = Derivation::new(alloc);
     derivation.extend_from_slice(&context.before)?;
     derivation.push(outer)?;
-    costs.all_into(before, &mut derivation)?;
+    costs.all_into(parts.before, &mut derivation)?;
     derivation.push(inner)?;
-    costs.all_into(children, &mut derivation)?;
-    costs.all_into(behind, &mut derivation)?;
+    costs.all_into(parts.inner.right(), &mut derivation)?;
+    costs.all_into(parts.behind, &mut derivation)?;
     derivation.extend_from_slice(&context.after)?;
     Ok(derivation)
 }

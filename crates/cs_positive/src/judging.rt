@@ -2,16 +2,17 @@
 
 ghost use Rattle.std.specs.Prelude.{◌≡◌, IfOk};
 ghost use Rattle.cs_goals.specs.Goal.{IsGoal};
-ghost use Rattle.cs_positive.specs.Verdict.{IsVerdictIn, IsTreeGoal};
+ghost use Rattle.cs_positive.specs.Verdict.{IsVerdictIn, IsTreeGoal, IsGoalCost, HasLeastIn, IsCodeIn};
 
-use crate::contexts::judge_context;
+use crate::contexts::{context_cost, derive_context};
 use crate::pairs::judge_pair;
-use crate::rules::judge_rule;
+use crate::rules::{derive_rule, rule_cost};
 use crate::tables::Tables;
 use crate::verdict::Verdict;
-use cs_cost::Costs;
+use cs_cost::{Cost, Costs};
 use cs_embed::Embeds;
 use cs_goals::Goal;
+use cs_grammar::Derivation;
 use std::alloc::{AllocError, Global};
 
 /// The verdict of a goal of the grammar, over all trees of the start symbol: `Infeasible` exactly where none meets the goal,
@@ -39,13 +40,54 @@ pub fn judge_tree_goal(
     requires kind { IsTreeGoal goal.now }
     ensures { IfOk result (IsVerdictIn costs.now goal.now) }
 {
+    match goal_cost(costs, embeds, goal) {
+        Cost::Never => Ok(Verdict::Infeasible),
+        Cost::Large => Ok(Verdict::Large),
+        Cost::Least(size) => {
+            let derivation = derive_goal(alloc, costs, embeds, goal)?;
+            Ok(Verdict::Feasible { size, derivation })
+        }
+    }
+}
+
+// What the least tree costs that meets a rule goal or a context goal.
+fn goal_cost(costs: &Costs, embeds: &Embeds, goal: &Goal) -> Cost
+    requires embeds { embeds.now ≡ costs.now }
+    requires goal { IsGoal costs.now.grammar goal.now }
+    requires kind { IsTreeGoal goal.now }
+    ensures { IsGoalCost costs.now goal.now result }
+{
     match *goal {
-        Goal::Rule(rule) => judge_rule(alloc, costs, embeds, rule),
+        Goal::Rule(rule) => rule_cost(costs, embeds, rule),
         Goal::Context {
             outer,
             place,
             inner,
-        } => judge_context(alloc, costs, embeds, outer, place, inner),
+        } => context_cost(costs, embeds, outer, place, inner),
+        Goal::Pair { .. } => unreachable!(),
+    }
+}
+
+// The code of the chosen tree of a rule goal or a context goal.
+fn derive_goal(
+    alloc: Global,
+    costs: &Costs,
+    embeds: &Embeds,
+    goal: &Goal,
+) -> Result<Derivation, AllocError>
+    requires embeds { embeds.now ≡ costs.now }
+    requires goal { IsGoal costs.now.grammar goal.now }
+    requires kind { IsTreeGoal goal.now }
+    requires feasible { HasLeastIn costs.now goal.now }
+    ensures { IfOk result (IsCodeIn costs.now goal.now) }
+{
+    match *goal {
+        Goal::Rule(rule) => derive_rule(alloc, costs, embeds, rule),
+        Goal::Context {
+            outer,
+            place,
+            inner,
+        } => derive_context(alloc, costs, embeds, outer, place, inner),
         Goal::Pair { .. } => unreachable!(),
     }
 }

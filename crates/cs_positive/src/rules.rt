@@ -1,42 +1,30 @@
-// The verdicts of rule goals.
+// The least trees of rule goals.
 
 ghost use Rattle.std.specs.Prelude.{◌≡◌, IfOk, length};
 ghost use Rattle.cs_grammar.specs.Grammar.{IsNumberOf};
-ghost use Rattle.cs_positive.specs.Verdict.{IsVerdictIn, HasLeastIn, IsCodeIn};
+ghost use Rattle.cs_positive.specs.Verdict.{IsGoalCost, HasLeastIn, IsCodeIn};
 
 use crate::sums::{joint_cost, node_cost};
-use crate::verdict::Verdict;
 use cs_cost::{Cost, Costs};
 use cs_embed::Embeds;
 use cs_goals::Goal;
 use cs_grammar::Derivation;
 use std::alloc::{AllocError, Global};
 
-pub(crate) fn judge_rule(
-    alloc: Global,
-    costs: &Costs,
-    embeds: &Embeds,
-    number: u16,
-) -> Result<Verdict, AllocError>
+// What the least tree costs that meets a rule goal.
+pub(crate) fn rule_cost(costs: &Costs, embeds: &Embeds, number: u16) -> Cost
     requires embeds { embeds.now ≡ costs.now }
     requires number { IsNumberOf (length costs.now.grammar.rules) number }
-    ensures { IfOk result (IsVerdictIn costs.now (Goal.Rule number)) }
+    ensures { IsGoalCost costs.now (Goal.Rule number) result }
 {
     let rule = costs.grammar().rule(number);
     let around = embeds.embed(rule.left());
     let node = node_cost(costs, costs.sum(rule.right()));
-    match joint_cost(costs, around, node) {
-        Cost::Never => Ok(Verdict::Infeasible),
-        Cost::Large => Ok(Verdict::Large),
-        Cost::Least(size) => {
-            let derivation = derive_rule(alloc, costs, embeds, number)?;
-            Ok(Verdict::Feasible { size, derivation })
-        }
-    }
+    joint_cost(costs, around, node)
 }
 
 // The code of the chosen tree of a rule goal.
-fn derive_rule(
+pub(crate) fn derive_rule(
     alloc: Global,
     costs: &Costs,
     embeds: &Embeds,
