@@ -146,46 +146,6 @@ at_join Bare t right (suc k) e = absurd (omega (arith, e))
 at_join (Grown u f) t right zero e = absurd (omega (arith, e))
 at_join (Grown u f) t right (suc k) e = at_join f t right k (omega (arith, e))
 
-module _ (w : Measure) (g : PlainGrammar) (p i q : ℕ) where
-  -- the chosen tree of a context goal meets it
-  pub context_met : (u : Tree) → IsChosenOfContext w g p i q u → IsMet g (Context p i q) u
-  context_met u h =
-      let c = Under h.parts.context p h.parts.left h.parts.right in
-      let node = Node q h.parts.children in
-      let lefts = AreTrees-chosen w g h.parts.left h.parts.before h.parts.left_are in
-      let around : IsContext g (Nonterminal h.parts.inner.left) c = (h.parts.outer, h.parts.before, h.parts.behind, h.parts.is_outer, h.parts.right_side, lefts, AreTrees-chosen w g h.parts.right h.parts.behind h.parts.right_are, IsContext-chosen w g h.parts.context (Nonterminal h.parts.outer.left) h.parts.around) in
-      let tree = IsTree-plug g c (Nonterminal h.parts.inner.left) node around (h.parts.inner, h.parts.is_inner, refl, AreTrees-chosen w g h.parts.children h.parts.inner.right h.parts.children_are) in
-      let place : count h.parts.left ≡ i - 1 = omega (arith, count_is g h.parts.left h.parts.before lefts, h.parts.place) in
-      let child : IsChild i q (join h.parts.left (Grown node h.parts.right)) = record { grandchildren = h.parts.children; above_zero = omega (arith, h.parts.place); at = at_join h.parts.left node h.parts.right (i - 1) place } in
-      let uses = UsesRuleIn-plug w g p i q h.parts.context (Node p (join h.parts.left (Grown node h.parts.right))) (inl (refl, child)) in
-      subst (IsMet g (Context p i q)) (sym h.whole) (tree, uses)
-
-  -- is of least size
-  pub context_least : (t u : Tree) → IsMet g (Context p i q) t → IsChosenOfContext w g p i q u → size w u ≤ size w t
-  context_least t u h k =
-      let v = found_in_whole w g p i q t h in
-      let outer = one_rule g p p v.parts.outer k.parts.outer refl v.parts.is_outer k.parts.is_outer in
-      let inner = one_rule g q q v.parts.inner k.parts.inner refl v.parts.is_inner k.parts.is_inner in
-      let split = one_split v.parts.before k.parts.before (Nonterminal v.parts.inner.left) (Nonterminal k.parts.inner.left) v.parts.behind k.parts.behind (sym v.parts.right_side ∙ ap (λ (o : Production). o.right) outer ∙ k.parts.right_side) (omega (arith, v.parts.place, k.parts.place)) in
-      let around = chosen_context_least w g (Nonterminal k.parts.outer.left) v.parts.context k.parts.context (subst (λ (o : Production). IsContext g (Nonterminal o.left) v.parts.context) outer v.parts.around) k.parts.around in
-      let lefts = forest_least w g k.parts.left v.parts.left k.parts.before k.parts.left_are (subst (λ (l : List Symbol). AreTrees g l v.parts.left) split.before v.parts.left_are) in
-      let rights = forest_least w g k.parts.right v.parts.right k.parts.behind k.parts.right_are (subst (λ (l : List Symbol). AreTrees g l v.parts.right) split.behind v.parts.right_are) in
-      let children = forest_least w g k.parts.children v.parts.children k.parts.inner.right k.parts.children_are (subst (λ (o : Production). AreTrees g o.right v.parts.children) inner v.parts.children_are) in
-      omega (arith, v.measure, around, lefts, rights, children, ap (size w) k.whole, size-plug w (Under k.parts.context p k.parts.left k.parts.right) (Node q k.parts.children))
-
-  -- and is the only one
-  pub one_of_context : (t u : Tree) → IsChosenOfContext w g p i q t → IsChosenOfContext w g p i q u → t ≡ u
-  one_of_context t u h k =
-      let outer = one_rule g p p h.parts.outer k.parts.outer refl h.parts.is_outer k.parts.is_outer in
-      let inner = one_rule g q q h.parts.inner k.parts.inner refl h.parts.is_inner k.parts.is_inner in
-      let split = one_split h.parts.before k.parts.before (Nonterminal h.parts.inner.left) (Nonterminal k.parts.inner.left) h.parts.behind k.parts.behind (sym h.parts.right_side ∙ ap (λ (o : Production). o.right) outer ∙ k.parts.right_side) (omega (arith, h.parts.place, k.parts.place)) in
-      let contexts = one_chosen_context w g h.parts.context k.parts.context (Nonterminal h.parts.outer.left) h.parts.around (subst (λ (o : Production). IsChosenContext w g (Nonterminal o.left) k.parts.context) (sym outer) k.parts.around) in
-      let lefts = all_chosen w g h.parts.left k.parts.left h.parts.before h.parts.left_are (subst (λ (l : List Symbol). AreChosen w g l k.parts.left) (sym split.before) k.parts.left_are) in
-      let rights = all_chosen w g h.parts.right k.parts.right h.parts.behind h.parts.right_are (subst (λ (l : List Symbol). AreChosen w g l k.parts.right) (sym split.behind) k.parts.right_are) in
-      let children = all_chosen w g h.parts.children k.parts.children h.parts.inner.right h.parts.children_are (subst (λ (o : Production). AreChosen w g o.right k.parts.children) (sym inner) k.parts.children_are) in
-      h.whole ∙ ap (λ c. plug (Under c p h.parts.left h.parts.right) (Node q h.parts.children)) contexts ∙ ap (λ f. plug (Under k.parts.context p f h.parts.right) (Node q h.parts.children)) lefts
-      ∙ ap (λ f. plug (Under k.parts.context p k.parts.left f) (Node q h.parts.children)) rights ∙ ap (λ f. plug (Under k.parts.context p k.parts.left k.parts.right) (Node q f)) children ∙ sym k.whole
-
 module _ (w : Measure) (g : PlainGrammar) (p i q : ℕ) (outer inner : Production) (is_outer : IsRule g p outer) (is_inner : IsRule g q inner) (xs ys : List Symbol) (e : outer.right ≡ xs ++ Nonterminal inner.left ∷ ys) (at : length xs + 1 ≡ i) where
   -- the parts of a tree that meets the goal: a context of the outer left side, the inner node's siblings and its children
   abbrev pub ArePlaced : (TreeContext × (Forest × Forest)) × Forest → Type 0
@@ -194,8 +154,9 @@ module _ (w : Measure) (g : PlainGrammar) (p i q : ℕ) (outer inner : Productio
   abbrev pub placed_size : (TreeContext × (Forest × Forest)) × Forest → ℕ
   placed_size ps = context_size w ps.0.0 + siblings_size w ps.0.1 + (1 + sizes w ps.1)
 
-  placed : (ps : (TreeContext × (Forest × Forest)) × Forest) → ArePlaced ps → (t : Tree) × IsMet g (Context p i q) t × (size w t ≤ placed_size ps)
-  placed ps h =
+  -- together they meet it
+  placed_met : (ps : (TreeContext × (Forest × Forest)) × Forest) → ArePlaced ps → IsMet g (Context p i q) (plug (Under ps.0.0 p ps.0.1.0 ps.0.1.1) (Node q ps.1))
+  placed_met ps h =
       let left = ps.0.1.0 in
       let right = ps.0.1.1 in
       let c = Under ps.0.0 p left right in
@@ -204,8 +165,13 @@ module _ (w : Measure) (g : PlainGrammar) (p i q : ℕ) (outer inner : Productio
       let tree = IsTree-plug g c (Nonterminal inner.left) node around (inner, is_inner, refl, h.1) in
       let place : count left ≡ i - 1 = omega (arith, count_is g left xs h.0.1.0, at) in
       let child : IsChild i q (join left (Grown node right)) = record { grandchildren = ps.1; above_zero = omega (arith, at); at = at_join left node right (i - 1) place } in
-      let uses = UsesRuleIn-plug w g p i q ps.0.0 (Node p (join left (Grown node right))) (inl (refl, child)) in
-      (plug c node, (tree, uses), omega (arith, size-plug w c node))
+      (tree, UsesRuleIn-plug w g p i q ps.0.0 (Node p (join left (Grown node right))) (inl (refl, child)))
+
+  placed : (ps : (TreeContext × (Forest × Forest)) × Forest) → ArePlaced ps → (t : Tree) × IsMet g (Context p i q) t × (size w t ≤ placed_size ps)
+  placed ps h =
+      let c = Under ps.0.0 p ps.0.1.0 ps.0.1.1 in
+      let node = Node q ps.1 in
+      (plug c node, placed_met ps h, omega (arith, size-plug w c node))
 
   pub parted : (t : Tree) → IsMet g (Context p i q) t → (ps : (TreeContext × (Forest × Forest)) × Forest) × ArePlaced ps × (placed_size ps ≤ size w t)
   parted t h =
@@ -272,6 +238,39 @@ module _ (w : Measure) (g : PlainGrammar) (p i q : ℕ) (outer inner : Productio
         trees = v.trees;
         measure = omega (arith, v.measure, found.0, found.1.reached.2);
       }
+
+-- the chosen tree of a context goal meets it
+pub context_met : (w : Measure) (g : PlainGrammar) (p i q : ℕ) (u : Tree) → IsChosenOfContext w g p i q u → IsMet g (Context p i q) u
+context_met w g p i q u h =
+    let lefts = AreTrees-chosen w g h.parts.left h.parts.before h.parts.left_are in
+    let rights = AreTrees-chosen w g h.parts.right h.parts.behind h.parts.right_are in
+    let children = AreTrees-chosen w g h.parts.children h.parts.inner.right h.parts.children_are in
+    let context = IsContext-chosen w g h.parts.context (Nonterminal h.parts.outer.left) h.parts.around in
+    let met = placed_met w g p i q h.parts.outer h.parts.inner h.parts.is_outer h.parts.is_inner h.parts.before h.parts.behind h.parts.right_side h.parts.place ((h.parts.context, (h.parts.left, h.parts.right)), h.parts.children) ((context, (lefts, rights)), children) in
+    subst (IsMet g (Context p i q)) (sym h.whole) met
+
+-- is of least size
+pub context_least : (w : Measure) (g : PlainGrammar) (p i q : ℕ) (t u : Tree) → IsMet g (Context p i q) t → IsChosenOfContext w g p i q u → size w u ≤ size w t
+context_least w g p i q t u h k =
+    let v = context_parts w g p i q k.parts.outer k.parts.inner k.parts.is_outer k.parts.is_inner k.parts.before k.parts.behind k.parts.right_side k.parts.place t h in
+    let around = chosen_context_least w g (Nonterminal k.parts.outer.left) v.context k.parts.context v.around k.parts.around in
+    let lefts = forest_least w g k.parts.left v.left k.parts.before k.parts.left_are v.left_trees in
+    let rights = forest_least w g k.parts.right v.right k.parts.behind k.parts.right_are v.right_trees in
+    let children = forest_least w g k.parts.children v.children k.parts.inner.right k.parts.children_are v.trees in
+    omega (arith, v.measure, around, lefts, rights, children, ap (size w) k.whole, size-plug w (Under k.parts.context p k.parts.left k.parts.right) (Node q k.parts.children))
+
+-- and is the only one
+pub one_of_context : (w : Measure) (g : PlainGrammar) (p i q : ℕ) (t u : Tree) → IsChosenOfContext w g p i q t → IsChosenOfContext w g p i q u → t ≡ u
+one_of_context w g p i q t u h k =
+    let outer = one_rule g p p h.parts.outer k.parts.outer refl h.parts.is_outer k.parts.is_outer in
+    let inner = one_rule g q q h.parts.inner k.parts.inner refl h.parts.is_inner k.parts.is_inner in
+    let split = one_split h.parts.before k.parts.before (Nonterminal h.parts.inner.left) (Nonterminal k.parts.inner.left) h.parts.behind k.parts.behind (sym h.parts.right_side ∙ ap (λ (o : Production). o.right) outer ∙ k.parts.right_side) (omega (arith, h.parts.place, k.parts.place)) in
+    let contexts = one_chosen_context w g h.parts.context k.parts.context (Nonterminal h.parts.outer.left) h.parts.around (subst (λ (o : Production). IsChosenContext w g (Nonterminal o.left) k.parts.context) (sym outer) k.parts.around) in
+    let lefts = all_chosen w g h.parts.left k.parts.left h.parts.before h.parts.left_are (subst (λ (l : List Symbol). AreChosen w g l k.parts.left) (sym split.before) k.parts.left_are) in
+    let rights = all_chosen w g h.parts.right k.parts.right h.parts.behind h.parts.right_are (subst (λ (l : List Symbol). AreChosen w g l k.parts.right) (sym split.behind) k.parts.right_are) in
+    let children = all_chosen w g h.parts.children k.parts.children h.parts.inner.right h.parts.children_are (subst (λ (o : Production). AreChosen w g o.right k.parts.children) (sym inner) k.parts.children_are) in
+    h.whole ∙ ap (λ c. plug (Under c p h.parts.left h.parts.right) (Node q h.parts.children)) contexts ∙ ap (λ f. plug (Under k.parts.context p f h.parts.right) (Node q h.parts.children)) lefts
+    ∙ ap (λ f. plug (Under k.parts.context p k.parts.left f) (Node q h.parts.children)) rights ∙ ap (λ f. plug (Under k.parts.context p k.parts.left k.parts.right) (Node q f)) children ∙ sym k.whole
 
 module _ (w : Measure) (g : PlainGrammar) (outer inner : Production) (xs ys : List Symbol) (parts : ContextParts w g outer inner xs ys w.limit) where
   pub outer_context : HasLeastContext w g outer.left
