@@ -6,15 +6,17 @@ use Rattle.cs_grammar.specs.Grammar.{PlainGrammar, IsGrammar}
 use Rattle.cs_grammar.specs.Weights.{Measure}
 use Rattle.cs_grammar.specs.Tree.{Forest}
 use Rattle.cs_grammar.specs.Context.{Context, Hole, Under, context_size}
+use Rattle.cs_cost.specs.Least.{IsCost}
 use Rattle.cs_cost.specs.Rank.{capped, rank}
-use Rattle.cs_cost.proofs.Ranks.{cost_reached, cost_least}
+use Rattle.cs_cost.proofs.Ranks.{cost_low, cost_reached, cost_least}
 use Rattle.cs_embed.specs.declared.inwards.Place.{Place}
 use Rattle.cs_embed.specs.ChosenContext.{count}
 use Rattle.cs_embed.specs.Around.{IsContextOf}
 use Rattle.cs_embed.specs.Embeds.{AreSiblings, siblings_size, IsEarlier}
 use Rattle.cs_embed.specs.Ways.{IsInward, AreInwards, start_of, told_cost, told_at}
 use Rattle.cs_embed.proofs.Steps.{not_both}
-use Rattle.cs_embed.proofs.InwardWays.{told_low, told_reached, taken, context_way, told_exact}
+use Rattle.cs_embed.proofs.InwardWays.{taken, context_way, told_exact}
+use Rattle.cs_embed.proofs.Told.{told_ways}
 use Rattle.cs_ways.specs.declared.step.Step.{Step}
 use Rattle.cs_ways.specs.declared.reach.Reach.{Reach}
 use Rattle.cs_ways.specs.declared.reach.Reach.TheVariants.{Never, Large, Least}
@@ -49,8 +51,11 @@ module _ (w : Measure) (g : PlainGrammar) (grammar : IsGrammar g) (places : List
   abbrev told : ℕ → ℕ
   told m = rank w.limit (told_at table m)
 
+  ways_cost : (m : ℕ) → IsCost w.limit (IsWay net (start_of g) m) way_cost (told_at table m)
+  ways_cost m = told_ways w.limit net (start_of g) m (reach_at table m) (least.exact m)
+
   low : (m : ℕ) (v : Way) → IsWay net (start_of g) m v → told m ≤ capped w.limit (way_cost v)
-  low m v is = told_low w.limit net (start_of g) m (reach_at table m) (least.exact m) v is
+  low m v is = cost_low w.limit (IsWay net (start_of g) m) way_cost (told_at table m) (ways_cost m) v is
 
   -- a least way that a context gives, where the context is as small as is told
   way_by : (outer : Context) (q : ℕ) (left right : Forest) → IsContextOf g n (Under outer q left right) → capped w.limit (context_size w (Under outer q left right)) ≤ told n → (i : ℕ) × (b : Place) × (s : Step) × (slice_get places i ≡ Some b) × (slice_get steps i ≡ Some s) × (b.rule ≡ q) × (b.place ≡ count left) × ((v : Way) × IsWay net (start_of g) n (On v s) × (way_cost (On v s) ≡ told n))
@@ -78,7 +83,7 @@ module _ (w : Measure) (g : PlainGrammar) (grammar : IsGrammar g) (places : List
       from_low = low s.from first.ends.0 first.ends.1.2
 
       reached : (v : Way) × IsWay net (start_of g) s.from v × (capped w.limit (way_cost v) ≤ told s.from)
-      reached = told_reached w.limit net (start_of g) s.from (reach_at table s.from) (least.exact s.from) (omega (arith, from_low, first.ends.2, small))
+      reached = cost_reached w.limit (IsWay net (start_of g) s.from) way_cost (told_at table s.from) (ways_cost s.from) (omega (arith, from_low, first.ends.2, small))
 
       high : told n ≤ capped w.limit (way_cost (On reached.0 s))
       high = low n (On reached.0 s) (first.ends.1.0, first.ends.1.1, reached.1)

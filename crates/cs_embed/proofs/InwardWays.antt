@@ -8,39 +8,22 @@ use Rattle.cs_grammar.specs.Weights.{Measure}
 use Rattle.cs_grammar.specs.Tree.{Forest}
 use Rattle.cs_grammar.specs.Context.{Context, Hole, Under, context_size}
 use Rattle.cs_cost.specs.Least.{IsCost}
-use Rattle.cs_cost.specs.Rank.{capped, rank, IsCapped}
-use Rattle.cs_cost.proofs.Ranks.{IsCost-from, cost_low, cost_reached}
+use Rattle.cs_cost.specs.Rank.{capped}
+use Rattle.cs_cost.proofs.Ranks.{IsCost-alike, cost_low, cost_reached}
 use Rattle.cs_embed.specs.declared.inwards.Place.{Place}
 use Rattle.cs_embed.specs.ChosenContext.{count}
 use Rattle.cs_embed.specs.Around.{IsContextOf}
 use Rattle.cs_embed.specs.Embeds.{AreSiblings, siblings_size}
-use Rattle.cs_embed.specs.Ways.{IsInward, AreInwards, start_of, told_cost, told_at}
+use Rattle.cs_embed.specs.Ways.{IsInward, AreInwards, start_of, told_at}
 use Rattle.cs_embed.proofs.Steps.{inward_at}
 use Rattle.cs_embed.proofs.StepEnds.{inward_from, inward_to}
 use Rattle.cs_embed.proofs.ChosenContexts.{count_is}
+use Rattle.cs_embed.proofs.Told.{told_ways}
 use Rattle.cs_ways.specs.declared.step.Step.{Step}
 use Rattle.cs_ways.specs.declared.step.Source.{Source}
 use Rattle.cs_ways.specs.declared.reach.Reach.{Reach}
-use Rattle.cs_ways.specs.declared.reach.Reach.TheVariants.{Never, Large, Least}
 use Rattle.cs_ways.proofs.FirstTight.{contains_at, get_contained}
-use Rattle.cs_ways.specs.Ways.{Net, net_of, IsNet, Way, Begin, On, IsWay, way_cost, IsReach, reach_at, AreLeastWays}
-
--- what is told of a node holds of the ways to it
-module _ (limit : ℕ) (net : Net) (sources : List Source) (n : ℕ) where
-  pub told_capped : (r : Reach) → IsReach limit net sources n r → IsCapped limit (told_cost r)
-  told_capped Never is = tt
-  told_capped Large is = tt
-  told_capped (Least c o) is = is.0
-
-  pub told_reached : (r : Reach) → IsReach limit net sources n r → rank limit (told_cost r) ≤ limit + 1 → (v : Way) × IsWay net sources n v × (capped limit (way_cost v) ≤ rank limit (told_cost r))
-  told_reached Never is low = absurd (omega (arith, low))
-  told_reached Large is low = (is.0, is.1, omega arith)
-  told_reached (Least c o) is low = (is.1.way, is.1.is_way, omega (arith, is.1.costs))
-
-  pub told_low : (r : Reach) → IsReach limit net sources n r → (v : Way) → IsWay net sources n v → rank limit (told_cost r) ≤ capped limit (way_cost v)
-  told_low Never is v h = absurd (is v h)
-  told_low Large is v h = omega (arith, is.2 v h)
-  told_low (Least c o) is v h = omega (arith, is.0, is.1.least v h)
+use Rattle.cs_ways.specs.Ways.{Net, net_of, IsNet, Way, Begin, On, IsWay, way_cost, reach_at, AreLeastWays}
 
 -- the step by which a context goes on inwards, where its node stands in outer
 pub record IsTaken (w : Measure) (g : PlainGrammar) (places : List Place) (steps : List Step) (n : ℕ) (outer : Context) (r : ℕ) (left right : Forest) : Type 0 where
@@ -133,8 +116,7 @@ module _ (w : Measure) (g : PlainGrammar) (grammar : IsGrammar g) (places : List
   -- what is told of a nonterminal is what its least context costs
   pub told_exact : (table : List Reach) → AreLeastWays w.limit net (start_of g) table → (n : ℕ) → IsCost w.limit (IsContextOf g n) (context_size w) (told_at table n)
   told_exact table least n =
-      let r = reach_at table n in
-      let is = least.exact n in
-      IsCost-from w.limit (IsContextOf g n) (context_size w) (told_cost r) (told_capped w.limit net (start_of g) n r is)
-      (λ low. let v = told_reached w.limit net (start_of g) n r is low in let c = way_context v.0 n v.1 in (c.0, c.1, omega (arith, v.2, c.2)))
-      (λ c h. let v = context_way c n h in omega (arith, told_low w.limit net (start_of g) n r is v.0 v.1, v.2))
+      IsCost-alike w.limit (IsWay net (start_of g) n) (IsContextOf g n) way_cost (context_size w) (told_at table n)
+      (λ v is. way_context v n is)
+      (λ c h. context_way c n h)
+      (told_ways w.limit net (start_of g) n (reach_at table n) (least.exact n))

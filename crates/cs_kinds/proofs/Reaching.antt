@@ -1,5 +1,5 @@
 -- What the least ways of rims cost, the least trees cost.
-use Rattle.std.proofs.Common.{◌≡◌, ℕ, suc, ◌+◌, ◌<◌, ◌≤◌, List, [], ◌∷◌, length, get_or, refl, sym, subst, arith}
+use Rattle.std.proofs.Common.{◌≡◌, ℕ, suc, ◌+◌, ◌<◌, List, [], ◌∷◌, length, get_or, refl, sym, subst, arith}
 use Rattle.std.proofs.lemmas.List.{get_or_default}
 use Rattle.cs_grammar.specs.declared.symbol.Symbol.{Symbol}
 use Rattle.cs_grammar.specs.declared.symbol.Symbol.TheVariants.{Nonterminal}
@@ -7,13 +7,13 @@ use Rattle.cs_grammar.specs.Grammar.{PlainGrammar, IsNumberOf, IsSymbolOf, IsGra
 use Rattle.cs_grammar.specs.Weights.{Measure, number}
 use Rattle.cs_grammar.specs.Tree.{size}
 use Rattle.cs_cost.specs.Least.{IsCost}
-use Rattle.cs_cost.specs.Rank.{capped, rank, IsCapped}
-use Rattle.cs_cost.proofs.Ranks.{IsCost-from}
+use Rattle.cs_cost.proofs.Ranks.{IsCost-alike}
 use Rattle.cs_embed.specs.Ways.{told_cost}
+use Rattle.cs_embed.proofs.Told.{told_ways}
 use Rattle.cs_ways.specs.declared.step.Source.{Source}
 use Rattle.cs_ways.specs.declared.reach.Reach.{Reach}
-use Rattle.cs_ways.specs.declared.reach.Reach.TheVariants.{Never, Large, Least}
-use Rattle.cs_ways.specs.Ways.{Net, Way, IsWay, way_cost, IsReach, reach_at, AreLeastWays}
+use Rattle.cs_ways.specs.declared.reach.Reach.TheVariants.{Never}
+use Rattle.cs_ways.specs.Ways.{Net, IsWay, way_cost, IsReach, reach_at, AreLeastWays}
 use Rattle.cs_kinds.specs.declared.side.Side.{Side}
 use Rattle.cs_kinds.specs.declared.rims.Place.{Place}
 use Rattle.cs_kinds.specs.Kinds.{IsTreeOfKind}
@@ -22,34 +22,13 @@ use Rattle.cs_kinds.specs.Sides.{kind_on}
 use Rattle.cs_kinds.specs.Rims.{AreRims}
 use Rattle.cs_kinds.proofs.Rimming.{way_of_tree, tree_of_way}
 
--- what is told of a node holds of the ways to it
-module _ (limit : ℕ) (net : Net) (sources : List Source) (n : ℕ) where
-  pub told_capped : (r : Reach) → IsReach limit net sources n r → IsCapped limit (told_cost r)
-  told_capped Never is = tt
-  told_capped Large is = tt
-  told_capped (Least c o) is = is.0
-
-  pub told_reached : (r : Reach) → IsReach limit net sources n r → rank limit (told_cost r) ≤ limit + 1 → (v : Way) × IsWay net sources n v × (capped limit (way_cost v) ≤ rank limit (told_cost r))
-  told_reached Never is low = absurd (omega (arith, low))
-  told_reached Large is low = (is.0, is.1, omega arith)
-  told_reached (Least c o) is low = (is.1.way, is.1.is_way, omega (arith, is.1.costs))
-
-  pub told_low : (r : Reach) → IsReach limit net sources n r → (v : Way) → IsWay net sources n v → rank limit (told_cost r) ≤ capped limit (way_cost v)
-  told_low Never is v h = absurd (is v h)
-  told_low Large is v h = omega (arith, is.2 v h)
-  told_low (Least c o) is v h = omega (arith, is.0, is.1.least v h)
-
 pub reach_exact : (w : Measure) (g : PlainGrammar) (side : Side) (grammar : IsGrammar g) (net : Net) (places : List Place) (rims : AreRims w g side places net.steps) (t : ℕ) (source : Source) (begins : source.node ≡ t) (leaf : source.cost ≡ number w t) (fits : IsNumberOf g.tokens t) (x : Symbol) → IsSymbolOf g x → (r : Reach) → IsReach w.limit net (source ∷ []) (number_of g.tokens x) r → IsCost w.limit (IsTreeOfKind g (kind_on side t) x) (size w) (told_cost r)
 reach_exact w g side grammar net places rims t source begins leaf fits x xf r is =
     let n = number_of g.tokens x in
-    IsCost-from w.limit (IsTreeOfKind g (kind_on side t) x) (size w) (told_cost r) (told_capped w.limit net (source ∷ []) n r is)
-    (λ low.
-    let v = told_reached w.limit net (source ∷ []) n r is low in
-    let u = tree_of_way w g side grammar net places rims t source begins leaf fits v.0 n v.1 x xf refl in
-    (u.tree, u.is_tree, omega (arith, v.2, u.cost)))
-    (λ u h.
-    let v = way_of_tree w g side grammar net places rims t source begins leaf fits u x h.0 h.1 in
-    omega (arith, told_low w.limit net (source ∷ []) n r is v.way v.is_way, v.cost))
+    IsCost-alike w.limit (IsWay net (source ∷ []) n) (IsTreeOfKind g (kind_on side t) x) way_cost (size w) (told_cost r)
+    (λ v v_is. let u = tree_of_way w g side grammar net places rims t source begins leaf fits v n v_is x xf refl in (u.tree, u.is_tree, u.cost))
+    (λ u h. let v = way_of_tree w g side grammar net places rims t source begins leaf fits u x h.0 h.1 in (v.way, v.is_way, v.cost))
+    (told_ways w.limit net (source ∷ []) n r is)
 
 -- what a table says of a node, as the code reads it
 pub reach_read : (table : List Reach) (m i : ℕ) (d : Reach) → m ≡ i + 1 → i < length table → reach_at table m ≡ get_or table i d

@@ -16,6 +16,7 @@ use Rattle.cs_cost.proofs.Ranks.{rank-cost_of, IsCapped-cost_of, plus_written, I
 use Rattle.cs_embed.specs.ChosenContext.{count, IsAtMost}
 use Rattle.cs_embed.specs.Ways.{told_cost}
 use Rattle.cs_embed.proofs.ChosenContexts.{count_is}
+use Rattle.cs_embed.proofs.Told.{told_ways}
 use Rattle.cs_ways.specs.declared.step.Source.{Source}
 use Rattle.cs_ways.specs.declared.reach.Reach.{Reach}
 use Rattle.cs_ways.specs.declared.reach.Reach.TheVariants.{Never, Large, Least}
@@ -24,7 +25,6 @@ use Rattle.cs_kinds.specs.Numbers.{number_of}
 use Rattle.cs_kinds.specs.Nets.{AreStepsToEnds}
 use Rattle.cs_kinds.proofs.Numbers.{rule_symbol}
 use Rattle.cs_kinds.proofs.Ending.{way_on, ended}
-use Rattle.cs_kinds.proofs.Reaching.{told_capped, told_reached, told_low}
 use Rattle.cs_pairs.specs.declared.meeting.Meeting.{Meeting}
 use Rattle.cs_pairs.specs.Beside.{IsSeam, seam_size}
 use Rattle.cs_pairs.specs.Pairs.{HasPair}
@@ -116,10 +116,7 @@ module _ (w : Measure) (g : PlainGrammar) (grammar : IsGrammar g) (net : Net) (i
 
   module _ (reach : Reach) (is : IsReach w.limit net sources a reach) where
     ways_cost : IsCost w.limit (IsWay net sources a) way_cost (told_cost reach)
-    ways_cost =
-        IsCost-from w.limit (IsWay net sources a) way_cost (told_cost reach) (told_capped w.limit net sources a reach is)
-        (told_reached w.limit net sources a reach is)
-        (told_low w.limit net sources a reach is)
+    ways_cost = told_ways w.limit net sources a reach is
 
     abbrev Both : ℕ × Way → Type 0
     Both q = (q.0 ≡ number w a) × IsWay net sources a q.1

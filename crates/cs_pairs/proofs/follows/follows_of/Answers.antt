@@ -5,10 +5,11 @@ use Rattle.cs_grammar.specs.Grammar.{PlainGrammar, IsNumberOf}
 use Rattle.cs_grammar.specs.Weights.{Measure}
 use Rattle.cs_grammar.specs.Tree.{size}
 use Rattle.cs_cost.specs.Least.{IsCost}
+use Rattle.cs_cost.proofs.Ranks.{cost_capped}
+use Rattle.cs_embed.proofs.Told.{told_ways}
 use Rattle.cs_ways.specs.declared.step.Source.{Source}
 use Rattle.cs_ways.specs.Ways.{Net, IsNode, AreLeastWays, IsReach}
 use Rattle.cs_kinds.proofs.Filling.{filled_more, filled_all}
-use Rattle.cs_kinds.proofs.Reaching.{told_capped}
 use Rattle.cs_pairs.specs.declared.meeting.Meeting.{Meeting}
 use Rattle.cs_pairs.specs.Pairs.{HasPair, ArePairs}
 use Rattle.cs_pairs.specs.Meetings.{origin_in, TellsMeeting, TellMeetings}
@@ -46,7 +47,7 @@ pair_cost-requires-clause-reach c =
     let within : i < g.tokens = omega (arith, c.loop-place-test.true, c.tokens-place-end.ensures, ap (λ (m : PlainGrammar). m.tokens) c.grammar.ensures) in
     let reach = c.index-reach.result.now in
     let told = subst (IsReach w.limit net sources (i + 1)) (sym c.index-reach.ensures) (told_at w.limit net sources table least i reach (omega (arith, within, nodes))) in
-    told_capped w.limit net sources (i + 1) reach told
+    cost_capped _ _ _ _ (told_ways w.limit net sources (i + 1) reach told)
 
 pub loop-place-preserved : goal.loop-place-preserved
 loop-place-preserved c =
