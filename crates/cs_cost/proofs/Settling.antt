@@ -27,7 +27,8 @@ use Rattle.cs_cost.specs.Trees.{IsTreeOf, cost_in, node_cost, IsSound, IsClosed,
 use Rattle.cs_cost.specs.Users.{occurs, stands, AreUsers}
 use Rattle.cs_cost.specs.Worklist.{is_open, open_in, nonterminals_in, Candidate, candidate, by_size, IsCandidate, offered, IsCovered, IsTold, IsAt, IsTaken}
 use Rattle.cs_cost.proofs.Ranks.{rank-cost_of, rank_most, IsCapped-cost_of}
-use Rattle.cs_cost.proofs.Tables.{IsCapped-entry, entry-at, entry-set_same, entry-set_other, entry-replicate, Holds-set}
+use Rattle.cs_grammar.proofs.Tables.{entry_or-at, entry_or-set_same, entry_or-set_other, entry_or-replicate}
+use Rattle.cs_cost.proofs.Tables.{IsCapped-entry, Holds-set}
 use Rattle.cs_cost.proofs.TreeCosts.{IsReached-holds, node_reached}
 use Rattle.cs_cost.proofs.Rules.{rule_at, well_formed_at, sound_start}
 use Rattle.cs_cost.proofs.Counts.{same_yes, same_no, stands_below, open_never, closed_known, known_not, sum_from_other, open_settled}
@@ -50,7 +51,7 @@ least_first c (d ∷ heap) h =
 pub at_start : (w : Measure) (g : PlainGrammar) (unsettled : List ℕ) (heap : List Candidate) → length unsettled ≡ length g.rules → ((k : ℕ) (p : Production) → slice_get g.rules k ≡ Some p → slice_index unsettled k ≡ open_in (replicate g.nonterminals Never) p.right) → heap ≡ [] → IsHeap by_size heap → IsAt w g (replicate g.nonterminals Never) unsettled heap 0 [] 0
 at_start w g unsettled heap many counts empty ordered = record {
   sound = sound_start w g;
-  settled = λ n h. absurd (omega (arith, h, ap (rank w.limit) (entry-replicate g.nonterminals n)));
+  settled = λ n h. absurd (omega (arith, h, ap (rank w.limit) (entry_or-replicate Never g.nonterminals n)));
   ordered = ordered;
   candidates = subst (All (IsCandidate w g 0)) (sym empty) (All-nil (IsCandidate w g 0));
   told = All-nil (IsTold w g (replicate g.nonterminals Never) 0);
@@ -241,10 +242,10 @@ module _ (w : Measure) (g : PlainGrammar) (table : List Cost) (unsettled : List 
     not_never e = omega (arith, ap (rank w.limit) e, settled_rank, the_candidate.small)
 
     rank_here : rank w.limit (entry then_table number) ≡ least
-    rank_here = ap (rank w.limit) (entry-set_same table number settles within_table) ∙ settled_rank
+    rank_here = ap (rank w.limit) (entry_or-set_same Never table number settles within_table) ∙ settled_rank
 
     rank_there : (n : ℕ) → (n ≡ number → ⊥) → rank w.limit (entry then_table n) ≡ rank w.limit (entry table n)
-    rank_there n ne = ap (rank w.limit) (entry-set_other table number n settles within_table.0 ne)
+    rank_there n ne = ap (rank w.limit) (entry_or-set_other Never table number n settles within_table.0 ne)
 
     sound_then : IsSound w g then_table
     sound_then = record {
@@ -357,7 +358,7 @@ counts_more g counts i q n at is so_far = record {
 pub open_in-replicate : (many : ℕ) (xs : List Symbol) → open_in (replicate many Never) xs ≡ nonterminals_in xs
 open_in-replicate many [] = refl
 open_in-replicate many (Token t ∷ xs) = open_in-replicate many xs
-open_in-replicate many (Nonterminal n ∷ xs) = omega (arith, ap is_open (entry-replicate many n), open_in-replicate many xs)
+open_in-replicate many (Nonterminal n ∷ xs) = omega (arith, ap is_open (entry_or-replicate Never many n), open_in-replicate many xs)
 
 -- the loop over the rules in which a nonterminal stands
 module _ (w : Measure) (g : PlainGrammar) (table : List Cost) (unsettled : List ℕ) (heap : List Candidate) (last : ℕ) (places : List ℕ) (i done : ℕ) (within : i < length places) (here : IsAt w g table unsettled heap last (drop i places) done) where
@@ -422,7 +423,7 @@ take_least w g table unsettled before heap last c here taken keeps below = recor
 -- what was read of a nonterminal is what the table says of it
 pub read_entry : (table : List Cost) (n : ℕ) (c : Cost) → IsNumberOf (length table) n → c ≡ get_or table (n - 1) c → c ≡ entry table n
 read_entry table n c number read =
-    read ∙ get_or_default table (n - 1) c Never (omega (arith, number)) ∙ sym (entry-at table n number.0)
+    read ∙ get_or_default table (n - 1) c Never (omega (arith, number)) ∙ sym (entry_or-at Never table n number.0)
 
 -- the loop over all rules, which puts those without nonterminals among the candidates
 module _ (w : Measure) (g : PlainGrammar) (table : List Cost) (unsettled : List ℕ) (heap : List Candidate) (i : ℕ) (here : IsAt w g table unsettled heap 0 [] i) (p : Production) (at : slice_get g.rules i ≡ Some p) (x : ℕ) (read : x ≡ get_or unsettled i x) where

@@ -9,3 +9,4 @@ pub mod Fault
 pub mod Laws
 pub mod Stack
 pub mod Walk
+pub mod Entries

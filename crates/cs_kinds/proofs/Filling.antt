@@ -10,7 +10,7 @@ use Rattle.cs_cost.specs.Least.{IsCost}
 use Rattle.cs_cost.specs.Rank.{capped, rank, IsCapped, entry}
 use Rattle.cs_cost.specs.Holds.{Holds}
 use Rattle.cs_cost.proofs.Ranks.{cost_capped, cost_reached}
-use Rattle.cs_cost.proofs.Tables.{entry-at, entry_past}
+use Rattle.cs_grammar.proofs.Tables.{entry_or-at, entry_or_past}
 use Rattle.cs_kinds.specs.Filled.{IsFilled}
 
 entry_before : (row : List Cost) (c : Cost) (n : ℕ) → n ≤ length row → entry (row ++ c ∷ []) n ≡ entry row n
@@ -25,7 +25,7 @@ entry_last (x ∷ row) c = entry_last row c
 
 -- the cost of a number stands at the place before it
 pub entry_read : (row : List Cost) (n : ℕ) (d : Cost) → IsNumberOf (length row) n → entry row n ≡ get_or row (n - 1) d
-entry_read row n d h = entry-at row n h.0 ∙ get_or_default row (n - 1) Never d (omega (arith, h))
+entry_read row n d h = entry_or-at Never row n h.0 ∙ get_or_default row (n - 1) Never d (omega (arith, h))
 
 pub entry_next : (row : List Cost) (i : ℕ) (d : Cost) → i < length row → entry row (i + 1) ≡ get_or row i d
 entry_next row i d h = let e : i + 1 - 1 ≡ i = omega arith in entry_read row (i + 1) d (omega arith, omega (arith, h)) ∙ ap (λ k. get_or row k d) e
@@ -63,7 +63,7 @@ module _ {A : Type 0} (limit : ℕ) (Kind : ℕ → A → Type 0) (measure : A �
   }
     where
       past : (n : ℕ) → (IsNumberOf count n → ⊥) → rank limit (entry row n) ≡ limit + 2
-      past n none = ap (rank limit) (entry_past row n (λ w. none (w.0, omega (arith, w.1, filled.many))))
+      past n none = ap (rank limit) (entry_or_past Never row n (λ w. none (w.0, omega (arith, w.1, filled.many))))
 
       reached : (n : ℕ) → rank limit (entry row n) ≤ limit + 1 → (a : A) × Kind n a × (capped limit (measure a) ≤ rank limit (entry row n))
       reached n h =
