@@ -14,14 +14,14 @@ open_up-requires-clause-small c =
 
 pub loop-symbol-preserved-in-Continue-1 : goal.loop-symbol-preserved-in-Continue-1
 loop-symbol-preserved-in-Continue-1 c = (
-    loop_node c.args.trees.now.weights _ _ _ _ _ _ _ _ _ _ (subst HasTables c.trees.view_is c.trees.invariant).costs (c.in-Some.ensures.items ∙ ap (λ (x : Symbol). c.pop.new.self.items ++ x ∷ []) c.in-Nonterminal.is) c.in_ok-open_up.ensures.opened c.loop-symbol.invariant.0,
-    grown_more c.args.out.now c.loop-symbol.out c.open_up.new.out c.loop-symbol.invariant.1 (c.in_ok-open_up.ensures.opened.number ∷ [], c.in_ok-open_up.ensures.opened.text),
+  loop_node c.args.trees.now.weights _ _ _ _ _ _ _ _ _ _ (subst HasTables c.trees.view_is c.trees.invariant).costs (c.in-Some.ensures.items ∙ ap (λ (x : Symbol). c.pop.new.self.items ++ x ∷ []) c.in-Nonterminal.is) c.in_ok-open_up.ensures.opened c.loop-symbol.invariant.0,
+  grown_more c.args.out.now c.loop-symbol.out c.open_up.new.out c.loop-symbol.invariant.1 (c.in_ok-open_up.ensures.opened.number ∷ [], c.in_ok-open_up.ensures.opened.text),
 )
 
 pub loop-symbol-preserved : goal.loop-symbol-preserved
 loop-symbol-preserved c = (
-    loop_leaf c.args.trees.now.weights _ _ _ _ _ c.in_default-symbol.field-0 _ _ (c.in-Some.ensures.items ∙ ap (λ (x : Symbol). c.pop.new.self.items ++ x ∷ []) c.in_default-symbol.is) c.loop-symbol.invariant.0,
-    c.loop-symbol.invariant.1,
+  loop_leaf c.args.trees.now.weights _ _ _ _ _ c.in_default-symbol.field-0 _ _ (c.in-Some.ensures.items ∙ ap (λ (x : Symbol). c.pop.new.self.items ++ x ∷ []) c.in_default-symbol.is) c.loop-symbol.invariant.0,
+  c.loop-symbol.invariant.1,
 )
 
 pub loop-symbol-smaller-in-Continue-1 : goal.loop-symbol-smaller-in-Continue-1
