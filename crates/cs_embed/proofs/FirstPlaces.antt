@@ -3,6 +3,7 @@ use Rattle.std.proofs.Common.{◌≡◌, ◌≢◌, ℕ, ◌+◌, ◌<◌, ◌�
 use Rattle.std.specs.Prelude.{slice_get}
 use Rattle.std.proofs.lemmas.Bool.{cases_lt}
 use Rattle.cs_grammar.specs.Grammar.{PlainGrammar, IsGrammar}
+use Rattle.cs_grammar.specs.Places.{IsEarlier}
 use Rattle.cs_grammar.specs.Weights.{Measure}
 use Rattle.cs_grammar.specs.Tree.{Forest}
 use Rattle.cs_grammar.specs.Context.{Context, Hole, Under, context_size}
@@ -12,14 +13,14 @@ use Rattle.cs_cost.proofs.Ranks.{cost_low, cost_reached, cost_least}
 use Rattle.cs_embed.specs.declared.inwards.Place.{Place}
 use Rattle.cs_embed.specs.ChosenContext.{count}
 use Rattle.cs_embed.specs.Around.{IsContextOf}
-use Rattle.cs_embed.specs.Embeds.{AreSiblings, siblings_size, IsEarlier}
+use Rattle.cs_embed.specs.Embeds.{AreSiblings, siblings_size}
 use Rattle.cs_embed.specs.Ways.{IsInward, AreInwards, start_of, told_cost, told_at}
-use Rattle.cs_embed.proofs.Steps.{not_both}
 use Rattle.cs_embed.proofs.InwardWays.{taken, context_way, told_exact}
 use Rattle.cs_embed.proofs.Told.{told_ways}
 use Rattle.cs_ways.specs.declared.step.Step.{Step}
 use Rattle.cs_ways.specs.declared.reach.Reach.{Reach}
 use Rattle.cs_ways.specs.declared.reach.Reach.TheVariants.{Never, Large, Least}
+use Rattle.cs_ways.proofs.PlacedLists.{not_both}
 use Rattle.cs_ways.proofs.FirstTight.{contains_at}
 use Rattle.cs_ways.specs.Ways.{Net, net_of, Way, Begin, On, IsWay, way_cost, reach_at, AreLeastWays, HasNoStep, IsFirstStep, IsFirstTold}
 
@@ -113,7 +114,7 @@ module _ (w : Measure) (g : PlainGrammar) (grammar : IsGrammar g) (places : List
   first_inside i a at first = λ same.
       let inward = (are.each i a first.step at first.at).0 in
       let hole : told n ≤ capped w.limit 0 = low n (Begin 0 (record { node = g.start; cost = 0 })) (refl, sym same) in
-      let fs = cost_reached w.limit (AreSiblings g inward.before inward.behind) (siblings_size w) inward.others inward.is_others inward.low in
+      let fs = cost_reached w.limit (AreSiblings g inward.here.before inward.here.behind) (siblings_size w) inward.others inward.is_others inward.low in
       omega (arith, first.ends.2, hole, inward.cost, fs.2)
 
   -- where no least way to n ends by a step n is the start symbol

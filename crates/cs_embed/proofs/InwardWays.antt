@@ -2,10 +2,12 @@
 use Rattle.std.proofs.Common.{◌≡◌, ℕ, zero, suc, ◌+◌, ◌-◌, ◌<◌, ◌≤◌, List, Some, length, get_or, refl, sym, ap, ◌∙◌, subst, inl, arith}
 use Rattle.std.specs.Prelude.{slice_get, Contains}
 use Rattle.std.proofs.lemmas.Option.{slice_get_within, slice_get-get_or}
+use Rattle.cs_grammar.specs.declared.symbol.Symbol.{Symbol}
 use Rattle.cs_grammar.specs.declared.symbol.Symbol.TheVariants.{Nonterminal}
-use Rattle.cs_grammar.specs.Grammar.{PlainGrammar, IsGrammar}
+use Rattle.cs_grammar.specs.Grammar.{Production, PlainGrammar, IsGrammar}
+use Rattle.cs_grammar.specs.Places.{SymbolAt}
 use Rattle.cs_grammar.specs.Weights.{Measure}
-use Rattle.cs_grammar.specs.Tree.{Forest}
+use Rattle.cs_grammar.specs.Tree.{Forest, AreTrees}
 use Rattle.cs_grammar.specs.Context.{Context, Hole, Under, context_size}
 use Rattle.cs_cost.specs.Least.{IsCost}
 use Rattle.cs_cost.specs.Rank.{capped}
@@ -15,7 +17,7 @@ use Rattle.cs_embed.specs.ChosenContext.{count}
 use Rattle.cs_embed.specs.Around.{IsContextOf}
 use Rattle.cs_embed.specs.Embeds.{AreSiblings, siblings_size}
 use Rattle.cs_embed.specs.Ways.{IsInward, AreInwards, start_of, told_at}
-use Rattle.cs_embed.proofs.Steps.{inward_at}
+use Rattle.cs_embed.proofs.Steps.{same_place, inward_right}
 use Rattle.cs_embed.proofs.StepEnds.{inward_from, inward_to}
 use Rattle.cs_embed.proofs.ChosenContexts.{count_is}
 use Rattle.cs_embed.proofs.Told.{told_ways}
@@ -42,9 +44,17 @@ pub taken : (w : Measure) (g : PlainGrammar) (places : List Place) (steps : List
 taken w g places steps are n outer r left right h =
     let p = h.0 in
     let last : r < length g.rules + 1 = omega (arith, slice_get_within g.rules (r - 1) p h.3.at) in
-    let v = are.every r p h.1 n h.2 (left, right) h.3 h.4 (inl last) (h.5, h.6) in
-    let at = inward_at w g v.1 v.2 r p h.1 n h.2 (are.each v.0 v.1 v.2 v.3 v.4).0 h.3 h.4 v.5 v.6 in
-    let others = cost_low w.limit (AreSiblings g h.1 h.2) (siblings_size w) at.others at.is_others (left, right) (h.5, h.6) in
+    let here : SymbolAt g r (length h.1) = record { production = p; before = h.1; symbol = Nonterminal n; behind = h.2; number = h.3; right = h.4; placed = refl } in
+    let v = are.every r (length h.1) (record { here = here; nonterminal = n; is = refl; siblings = (left, right); are = (h.5, h.6) }) (inl last) in
+    let at = (are.each v.0 v.1 v.2 v.3 v.4).0 in
+    let same = same_place g v.1.rule v.1.place r (length h.1) v.5 v.6 at.here here in
+    let beside : AreSiblings g at.here.before at.here.behind (left, right) = (
+      subst (λ (l : List Symbol). AreTrees g l left) (sym same.before) h.5,
+      subst (λ (l : List Symbol). AreTrees g l right) (sym same.behind) h.6,
+    ) in
+    let others = cost_low w.limit (AreSiblings g at.here.before at.here.behind) (siblings_size w) at.others at.is_others (left, right) beside in
+    let is_to : v.2.to ≡ n = let e = sym at.to ∙ same.symbol in cc in
+    let is_from : v.2.from ≡ p.left = at.from ∙ ap (λ (q : Production). q.left) same.production in
     record {
       index = v.0;
       place = v.1;
@@ -53,8 +63,8 @@ taken w g places steps are n outer r left right h =
       at_step = v.4;
       rule = v.5;
       counted = v.6 ∙ sym (count_is g left h.1 h.5);
-      to = at.to;
-      around = subst (λ m. IsContextOf g m outer) (sym at.from) h.7;
+      to = is_to;
+      around = subst (λ m. IsContextOf g m outer) (sym is_from) h.7;
       low = omega (arith, others, at.cost);
     }
 
@@ -104,12 +114,12 @@ module _ (w : Measure) (g : PlainGrammar) (grammar : IsGrammar g) (places : List
   way_context (On v s) n is =
       let at = inward_of s is.0 in
       let inward = at.1 in
-      let fs = cost_reached w.limit (AreSiblings g inward.before inward.behind) (siblings_size w) inward.others inward.is_others inward.low in
+      let fs = cost_reached w.limit (AreSiblings g inward.here.before inward.here.behind) (siblings_size w) inward.others inward.is_others inward.low in
       let outer = way_context v s.from is.2 in
       let around = subst (λ m. IsContextOf g m outer.0) inward.from outer.1 in (
         Under outer.0 at.0.rule fs.0.0 fs.0.1,
         subst (λ m. IsContextOf g m (Under outer.0 at.0.rule fs.0.0 fs.0.1)) is.1
-            (inward.production, inward.before, inward.behind, inward.number, inward.right, fs.1.0, fs.1.1, around),
+            (inward.here.production, inward.here.before, inward.here.behind, inward.here.number, inward_right w g at.0 s inward, fs.1.0, fs.1.1, around),
         omega (arith, outer.2, fs.2, inward.cost),
       )
 

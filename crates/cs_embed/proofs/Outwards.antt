@@ -8,6 +8,7 @@ use Rattle.std.proofs.lemmas.List.Elements.{All-nil, All-cons, All-head, All-app
 use Rattle.cs_grammar.specs.declared.symbol.Symbol.{Symbol}
 use Rattle.cs_grammar.specs.declared.symbol.Symbol.TheVariants.{Nonterminal}
 use Rattle.cs_grammar.specs.Grammar.{Production, PlainGrammar, IsRule, IsNumberOf, IsSymbol, IsGrammar}
+use Rattle.cs_grammar.specs.Places.{IsEarlier}
 use Rattle.cs_grammar.specs.Weights.{Measure}
 use Rattle.cs_grammar.specs.Tree.{Tree, Forest, IsTree, AreTrees, sizes, code, codes_of}
 use Rattle.cs_grammar.specs.Context.{Context, Hole, Under, context_size, code_before, code_after, plug}
@@ -19,7 +20,7 @@ use Rattle.cs_cost.specs.Chosen.{AreChosen, AppendsAllChosen}
 use Rattle.cs_embed.specs.declared.inwards.Place.{Place}
 use Rattle.cs_embed.specs.ChosenContext.{count, IsChosenContext}
 use Rattle.cs_embed.specs.Around.{IsContextOf, HasLeastContext, IsAround, Fills}
-use Rattle.cs_embed.specs.Embeds.{AreSiblings, siblings_size, IsEarlier, IsLead}
+use Rattle.cs_embed.specs.Embeds.{AreSiblings, siblings_size, IsLead}
 use Rattle.cs_embed.specs.Ways.{start_of, told_cost, told_at}
 use Rattle.cs_embed.specs.Kept.{AreEmbeds, IsSmallPlace, IsOutward}
 use Rattle.cs_cost.proofs.Ranks.{cost_low, cost_least}
@@ -27,7 +28,7 @@ use Rattle.cs_cost.proofs.Rules.{well_formed_at}
 use Rattle.cs_cost.proofs.ChosenTrees.{AreTrees-chosen, all_chosen}
 use Rattle.cs_embed.proofs.ChosenContexts.{count_is, IsContext-chosen, chosen_context_least}
 use Rattle.cs_embed.proofs.Lists.{All-left, All-right}
-use Rattle.cs_embed.proofs.Steps.{one_split}
+use Rattle.cs_embed.proofs.Steps.{one_split, inward_right}
 use Rattle.cs_embed.proofs.StepEnds.{inward_from}
 use Rattle.cs_embed.proofs.InwardWays.{told_exact}
 use Rattle.cs_embed.proofs.FirstPlaces.{IsFirstPlace, told_none, told_some, first_place, first_inside, first_outside}
@@ -60,9 +61,9 @@ module _ (w : Measure) (g : PlainGrammar) (table : List Reach) (exact : IsEmbedT
   abbrev step : Step
   step = first.step
 
-  siblings : (fs : Forest × Forest) × AreSiblings g first.inward.before first.inward.behind fs × (siblings_size w fs ≡ step.cost)
+  siblings : (fs : Forest × Forest) × AreSiblings g first.inward.here.before first.inward.here.behind fs × (siblings_size w fs ≡ step.cost)
   siblings =
-      let fs = cost_least w.limit (AreSiblings g first.inward.before first.inward.behind) (siblings_size w) first.inward.others first.inward.is_others (omega (arith, first.cost, first.inward.cost, small)) in
+      let fs = cost_least w.limit (AreSiblings g first.inward.here.before first.inward.here.behind) (siblings_size w) first.inward.others first.inward.is_others (omega (arith, first.cost, first.inward.cost, small)) in
       (fs.0, fs.1, omega (arith, fs.2, first.inward.cost))
 
   -- its outer nonterminal costs less
@@ -79,11 +80,11 @@ module _ (w : Measure) (g : PlainGrammar) (table : List Reach) (exact : IsEmbedT
 
   taken_is : IsContextOf g n (Under around.0 a.rule siblings.0.0 siblings.0.1)
   taken_is = (
-    first.inward.production,
-    first.inward.before,
-    first.inward.behind,
-    first.inward.number,
-    first.inward.right ∙ ap (λ m. first.inward.before ++ Nonterminal m ∷ first.inward.behind) first.to,
+    first.inward.here.production,
+    first.inward.here.before,
+    first.inward.here.behind,
+    first.inward.here.number,
+    inward_right w g a step first.inward ∙ ap (λ m. first.inward.here.before ++ Nonterminal m ∷ first.inward.here.behind) first.to,
     siblings.1.0,
     siblings.1.1,
     subst (λ m. IsContextOf g m around.0) first.inward.from around.1,
@@ -100,7 +101,7 @@ module _ (w : Measure) (g : PlainGrammar) (table : List Reach) (exact : IsEmbedT
       let even : context_size w (Under around.0 a.rule siblings.0.0 siblings.0.1) ≡ context_size w c =
       omega (arith, measured, around.2, siblings.2, first.cost) in
       let lowest = h.5.lowest around.0 a.rule siblings.0.0 siblings.0.1 taken_is even in
-      let counted = count_is g siblings.0.0 first.inward.before siblings.1.0 in
+      let counted = count_is g siblings.0.0 first.inward.here.before siblings.1.0 in
       let not_earlier : IsEarlier q (count left) a.rule a.place → ⊥ = λ early. omega (arith, first.earlier outer q left right c_is early, measured, small) in
       ⊎_elim
       (λ lower. absurd (not_earlier (inl lower)))
@@ -108,34 +109,34 @@ module _ (w : Measure) (g : PlainGrammar) (table : List Reach) (exact : IsEmbedT
         same.0,
         ⊎_elim
             (λ below. absurd (not_earlier (inr (same.0, below))))
-            (λ not_below. omega (arith, same.1, counted, first.inward.at, not_below))
+            (λ not_below. omega (arith, same.1, counted, first.inward.here.placed, not_below))
             (cases_lt (count left) a.place),
       ))
       lowest
 
 -- the siblings at a place, by the places in its rule
 module _ (w : Measure) (g : PlainGrammar) (a : Place) (p : Production) (small : IsSmallPlace w g a) (rule : IsRule g a.rule p) where
-  same_rule : small.inward.production ≡ p
-  same_rule = one_rule g a.rule a.rule small.inward.production p refl small.inward.number rule
+  same_rule : small.inward.here.production ≡ p
+  same_rule = one_rule g a.rule a.rule small.inward.here.production p refl small.inward.here.number rule
 
-  whole : p.right ≡ small.inward.before ++ Nonterminal small.step.to ∷ small.inward.behind
-  whole = ap (λ (q : Production). q.right) (sym same_rule) ∙ small.inward.right
+  whole : p.right ≡ small.inward.here.before ++ Nonterminal small.step.to ∷ small.inward.here.behind
+  whole = ap (λ (q : Production). q.right) (sym same_rule) ∙ inward_right w g a small.step small.inward
 
-  pub before_is : take a.place p.right ≡ small.inward.before
-  before_is = ap (λ (l : List Symbol). take a.place l) whole ∙ take_at small.inward.before (Nonterminal small.step.to ∷ small.inward.behind) a.place small.inward.at
+  pub before_is : take a.place p.right ≡ small.inward.here.before
+  before_is = ap (λ (l : List Symbol). take a.place l) whole ∙ take_at small.inward.here.before (Nonterminal small.step.to ∷ small.inward.here.behind) a.place small.inward.here.placed
 
-  pub behind_is : drop (a.place + 1) p.right ≡ small.inward.behind
+  pub behind_is : drop (a.place + 1) p.right ≡ small.inward.here.behind
   behind_is =
-      let longer : length (small.inward.before ++ Nonterminal small.step.to ∷ []) ≡ a.place + 1 = omega (arith, length_push small.inward.before (Nonterminal small.step.to), small.inward.at) in
-      let regrouped : small.inward.before ++ Nonterminal small.step.to ∷ [] ++ small.inward.behind ≡ small.inward.before ++ (Nonterminal small.step.to ∷ small.inward.behind) = append_assoc small.inward.before (Nonterminal small.step.to ∷ []) small.inward.behind in
-      ap (λ (l : List Symbol). drop (a.place + 1) l) (whole ∙ sym regrouped) ∙ drop_at (small.inward.before ++ Nonterminal small.step.to ∷ []) small.inward.behind (a.place + 1) longer
+      let longer : length (small.inward.here.before ++ Nonterminal small.step.to ∷ []) ≡ a.place + 1 = omega (arith, length_push small.inward.here.before (Nonterminal small.step.to), small.inward.here.placed) in
+      let regrouped : small.inward.here.before ++ Nonterminal small.step.to ∷ [] ++ small.inward.here.behind ≡ small.inward.here.before ++ (Nonterminal small.step.to ∷ small.inward.here.behind) = append_assoc small.inward.here.before (Nonterminal small.step.to ∷ []) small.inward.here.behind in
+      ap (λ (l : List Symbol). drop (a.place + 1) l) (whole ∙ sym regrouped) ∙ drop_at (small.inward.here.before ++ Nonterminal small.step.to ∷ []) small.inward.here.behind (a.place + 1) longer
 
   pub place_within : a.place < length p.right
-  place_within = omega (arith, ap (λ (l : List Symbol). length l) whole, length-append small.inward.before (Nonterminal small.step.to ∷ small.inward.behind), small.inward.at)
+  place_within = omega (arith, ap (λ (l : List Symbol). length l) whole, length-append small.inward.here.before (Nonterminal small.step.to ∷ small.inward.here.behind), small.inward.here.placed)
 
-  siblings_reached : (fs : Forest × Forest) × AreSiblings g small.inward.before small.inward.behind fs × (siblings_size w fs ≡ small.step.cost)
+  siblings_reached : (fs : Forest × Forest) × AreSiblings g small.inward.here.before small.inward.here.behind fs × (siblings_size w fs ≡ small.step.cost)
   siblings_reached =
-      let fs = cost_least w.limit (AreSiblings g small.inward.before small.inward.behind) (siblings_size w) small.inward.others small.inward.is_others (omega (arith, small.inward.cost, small.small)) in
+      let fs = cost_least w.limit (AreSiblings g small.inward.here.before small.inward.here.behind) (siblings_size w) small.inward.others small.inward.is_others (omega (arith, small.inward.cost, small.small)) in
       (fs.0, fs.1, omega (arith, fs.2, small.inward.cost))
 
   pub before_small : (f : Forest) × AreTrees g (take a.place p.right) f × (sizes w f ≤ w.limit)
@@ -187,8 +188,8 @@ module _ (w : Measure) (g : PlainGrammar) (table : List Reach) (exact : IsEmbedT
   step_taken c (Under outer q left right) h text other is eb ea =
       let taken = chosen_takes w g table exact at a first here.small outer q left right h in
       let p_is : h.0 ≡ p = one_rule g q a.rule h.0 p taken.0 h.3 rule in
-      let even : length h.1 ≡ length taken_small.inward.before = sym (count_is g left h.1 (AreTrees-chosen w g left h.1 h.6)) ∙ taken.1 ∙ sym taken_small.inward.at in
-      let split = one_split h.1 taken_small.inward.before (Nonterminal at) (Nonterminal first.step.to) h.2 taken_small.inward.behind (sym h.4 ∙ ap (λ (v : Production). v.right) p_is ∙ whole w g a p taken_small rule) even in
+      let even : length h.1 ≡ length taken_small.inward.here.before = sym (count_is g left h.1 (AreTrees-chosen w g left h.1 h.6)) ∙ taken.1 ∙ sym taken_small.inward.here.placed in
+      let split = one_split h.1 taken_small.inward.here.before (Nonterminal at) (Nonterminal first.step.to) h.2 taken_small.inward.here.behind (sym h.4 ∙ ap (λ (v : Production). v.right) p_is ∙ whole w g a p taken_small rule) even in
       let left_chosen : AreChosen w g (take a.place p.right) left = subst (λ (l : List Symbol). AreChosen w g l left) (split.before ∙ sym (before_is w g a p taken_small rule)) h.6 in
       let right_chosen : AreChosen w g (drop (a.place + 1) p.right) right = subst (λ (l : List Symbol). AreChosen w g l right) (split.behind ∙ sym (behind_is w g a p taken_small rule)) h.7 in
       let rights : right ≡ appended.trees = all_chosen w g right appended.trees (drop (a.place + 1) p.right) right_chosen appended.chosen in

@@ -1,5 +1,5 @@
--- Siblings of a hole, the order of places, and the rule numbers before a hole.
-use Rattle.std.specs.Prelude.{◌≡◌, ℕ, ◌+◌, ◌<◌, ◌⊎◌, List, [], ◌∷◌, ◌++◌, take}
+-- Siblings of a hole, and the rule numbers before it.
+use Rattle.std.specs.Prelude.{◌≡◌, ℕ, ◌+◌, List, [], ◌∷◌, ◌++◌, take}
 use Rattle.cs_grammar.specs.declared.symbol.Symbol.{Symbol}
 use Rattle.cs_grammar.specs.Grammar.{Production, PlainGrammar, IsRule}
 use Rattle.cs_grammar.specs.Weights.{Measure}
@@ -13,10 +13,6 @@ AreSiblings g xs ys fs = AreTrees g xs fs.0 × AreTrees g ys fs.1
 
 abbrev pub siblings_size : Measure → Forest × Forest → ℕ
 siblings_size w fs = 1 + (sizes w fs.0 + sizes w fs.1)
-
--- rule r at place k comes before rule q at place j
-abbrev pub IsEarlier : ℕ → ℕ → ℕ → ℕ → Type 0
-IsEarlier r k q j = (r < q) ⊎ ((r ≡ q) × (k < j))
 
 -- the rule numbers before a hole, by the places from the outermost to the innermost: a place's rule, and the codes of the chosen
 -- trees of the symbols before the place

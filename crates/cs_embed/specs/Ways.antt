@@ -1,9 +1,10 @@
 -- Contexts as ways between nonterminals: each node around the hole is a step from its left side inwards, to the nonterminal at
 -- the hole's place, and costs what the node and its other children do.
-use Rattle.std.specs.Prelude.{◌≡◌, ℕ, ◌+◌, ◌<◌, ◌≤◌, List, [], ◌∷◌, ◌++◌, Option, Some, None, length, slice_get}
+use Rattle.std.specs.Prelude.{◌≡◌, ℕ, ◌+◌, ◌≤◌, List, [], ◌∷◌, Option, Some, None, length}
 use Rattle.cs_grammar.specs.declared.symbol.Symbol.{Symbol}
 use Rattle.cs_grammar.specs.declared.symbol.Symbol.TheVariants.{Token, Nonterminal}
-use Rattle.cs_grammar.specs.Grammar.{Production, PlainGrammar, IsRule}
+use Rattle.cs_grammar.specs.Grammar.{PlainGrammar}
+use Rattle.cs_grammar.specs.Places.{IsEarlier, SymbolAt}
 use Rattle.cs_grammar.specs.Weights.{Measure}
 use Rattle.cs_grammar.specs.Tree.{Forest}
 use Rattle.cs_cost.specs.declared.cost.Cost.{Cost}
@@ -11,11 +12,12 @@ use Rattle.cs_cost.specs.declared.cost.Cost.TheVariants as cost
 use Rattle.cs_cost.specs.Least.{IsCost}
 use Rattle.cs_cost.specs.Rank.{rank, cost_of, plus}
 use Rattle.cs_embed.specs.declared.inwards.Place.{Place}
-use Rattle.cs_embed.specs.Embeds.{AreSiblings, siblings_size, IsEarlier}
+use Rattle.cs_embed.specs.Embeds.{AreSiblings, siblings_size}
 use Rattle.cs_ways.specs.declared.step.Step.{Step}
 use Rattle.cs_ways.specs.declared.step.Source.{Source}
 use Rattle.cs_ways.specs.declared.reach.Reach.{Reach}
 use Rattle.cs_ways.specs.declared.reach.Reach.TheVariants.{Never, Large, Least}
+use Rattle.cs_ways.specs.Placed.{ArePlaced}
 use Rattle.cs_ways.specs.Ways.{reach_at}
 
 -- what a node costs with siblings that cost this before the hole and behind it
@@ -31,25 +33,32 @@ inward limit left (Nonterminal n) (cost.Least m) = Some (record { from = left; t
 
 -- the step leads from the left side of the place's rule to the nonterminal there, and costs what the siblings do
 pub record IsInward (w : Measure) (g : PlainGrammar) (a : Place) (s : Step) : Type 0 where
-  pub production : Production
-  pub before : List Symbol
-  pub behind : List Symbol
-  pub number : IsRule g a.rule production
-  pub right : production.right ≡ before ++ Nonterminal s.to ∷ behind
-  pub at : length before ≡ a.place
-  pub from : s.from ≡ production.left
+  pub here : SymbolAt g a.rule a.place
+  pub to : here.symbol ≡ Nonterminal s.to
+  pub from : s.from ≡ here.production.left
   pub others : Cost
-  pub is_others : IsCost w.limit (AreSiblings g before behind) (siblings_size w) others
+  pub is_others : IsCost w.limit (AreSiblings g here.before here.behind) (siblings_size w) others
   pub cost : s.cost ≡ rank w.limit others
   pub low : rank w.limit others ≤ w.limit + 1
 
+-- a nonterminal stands at this place of a rule, beside which siblings can stand
+pub record HasSiblings (g : PlainGrammar) (r k : ℕ) : Type 0 where
+  pub here : SymbolAt g r k
+  pub nonterminal : ℕ
+  pub is : here.symbol ≡ Nonterminal nonterminal
+  pub siblings : Forest × Forest
+  pub are : AreSiblings g here.before here.behind siblings
+
+abbrev pub at_rule : Place → ℕ
+at_rule a = a.rule
+
+abbrev pub at_place : Place → ℕ
+at_place a = a.place
+
 -- The lists have, in order, the places before place j of rule q and the steps to them, but not those where no siblings can
 -- stand.
-pub record AreInwardsTo (w : Measure) (g : PlainGrammar) (q j : ℕ) (places : List Place) (steps : List Step) : Type 0 where
-  pub many : length places ≡ length steps
-  pub each : (i : ℕ) → (a : Place) → (s : Step) → slice_get places i ≡ Some a → slice_get steps i ≡ Some s → IsInward w g a s × IsEarlier a.rule a.place q j
-  pub every : (r : ℕ) → (p : Production) → (xs : List Symbol) → (n : ℕ) → (ys : List Symbol) → (fs : Forest × Forest) → IsRule g r p → p.right ≡ xs ++ Nonterminal n ∷ ys → IsEarlier r (length xs) q j → AreSiblings g xs ys fs → (i : ℕ) × (a : Place) × (s : Step) × (slice_get places i ≡ Some a) × (slice_get steps i ≡ Some s) × (a.rule ≡ r) × (a.place ≡ length xs)
-  pub ordered : (i k : ℕ) → (a b : Place) → i < k → slice_get places i ≡ Some a → slice_get places k ≡ Some b → IsEarlier a.rule a.place b.rule b.place
+abbrev pub AreInwardsTo : Measure → PlainGrammar → ℕ → ℕ → List Place → List Step → Type 0
+AreInwardsTo w g q j places steps = ArePlaced at_rule at_place (IsInward w g) (HasSiblings g) (λ r k. IsEarlier r k q j) places steps
 
 -- all of a grammar
 abbrev pub AreInwards : Measure → PlainGrammar → List Place → List Step → Type 0

@@ -10,3 +10,4 @@ pub mod Laws
 pub mod Stack
 pub mod Walk
 pub mod Entries
+pub mod Places

@@ -4,9 +4,9 @@
 //! write the code of a tree into a `Derivation`, and get the tokens of a derivation by `expand` or `yield_of`. Trees are
 //! measured by `Weights`. Numbers count from 1 and places from 0; `place_of` and `number_of` lead from one to the other.
 //!
-//! Of the files of `specs/`, these say what is meant: `Grammar`, `Tree`, `Weights`, `Context`, `Uses`, `Sentence`,
-//! `Leftmost`, `Fault`; `Laws` has the two halves of "exactly one". `Stack`, `Walk` and `Entries` have working words of
-//! proofs. The lemmas on trees, contexts and tables that the layers above share stand in `proofs/`.
+//! Of the files of `specs/`, these say what is meant: `Grammar`, `Tree`, `Weights`, `Context`, `Places`, `Uses`,
+//! `Sentence`, `Leftmost`, `Fault`; `Laws` has the two halves of "exactly one". `Stack`, `Walk` and `Entries` have
+//! working words of proofs. The lemmas on trees, contexts and tables that the layers above share stand in `proofs/`.
 #![tactic(auto)]
 
 mod derivation;

@@ -8,7 +8,7 @@ use Rattle.std.proofs.lemmas.List.{get_or-set_same, get_or-set_other}
 use Rattle.std.proofs.lemmas.Option.{slice_get_within, slice_get-get_or, get_or_from_slice_get}
 use Rattle.cs_grammar.specs.Grammar.{Production, PlainGrammar, IsRule, IsNumberOf}
 use Rattle.cs_grammar.proofs.OneTree.{one_rule}
-use Rattle.cs_embed.proofs.Steps.{get_cases, get_new, get_kept}
+use Rattle.cs_ways.proofs.PlacedLists.{get_cases, get_new, get_kept}
 use Rattle.cs_kinds.specs.Lefts.{AreRulesTo, AreLeftsTo, AreLefts, HasNoLefts}
 
 nothing : (i r : ℕ) → slice_get [] i ≡ Some r → ⊥

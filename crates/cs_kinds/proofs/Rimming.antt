@@ -5,15 +5,15 @@ use Rattle.std.proofs.lemmas.Option.{slice_get_within, slice_get_read, slice_get
 use Rattle.cs_grammar.specs.declared.symbol.Symbol.{Symbol}
 use Rattle.cs_grammar.specs.declared.symbol.Symbol.TheVariants.{Token, Nonterminal}
 use Rattle.cs_grammar.specs.Grammar.{Production, PlainGrammar, IsRule, IsNumberOf, IsSymbolOf, IsGrammar}
+use Rattle.cs_grammar.specs.Places.{SymbolAt}
 use Rattle.cs_grammar.specs.Weights.{Measure, number}
 use Rattle.cs_grammar.specs.Tree.{Tree, Leaf, Node, Forest, Bare, Grown, IsTree, AreTrees, size, sizes, yield, yields}
 use Rattle.cs_grammar.specs.Context.{join}
-use Rattle.cs_grammar.proofs.OneTree.{one_rule}
 use Rattle.cs_grammar.proofs.Forests.{AreTrees-join, sizes-join, yields-join}
 use Rattle.cs_cost.specs.Rank.{capped}
 use Rattle.cs_cost.proofs.Ranks.{cost_low, cost_reached}
 use Rattle.cs_embed.specs.Embeds.{siblings_size}
-use Rattle.cs_embed.proofs.Steps.{one_split}
+use Rattle.cs_embed.proofs.Steps.{same_place}
 use Rattle.cs_ways.specs.declared.step.Step.{Step}
 use Rattle.cs_ways.specs.declared.step.Source.{Source}
 use Rattle.cs_ways.specs.Ways.{Net, Way, Begin, On, IsWay, way_cost}
@@ -84,15 +84,15 @@ module _ (w : Measure) (g : PlainGrammar) (side : Side) (grammar : IsGrammar g) 
   pub step_at : (r : ℕ) (p : Production) (xs : List Symbol) (x : Symbol) (ys : List Symbol) (fs : Forest × Forest) → IsRule g r p → p.right ≡ xs ++ x ∷ ys → AreBeside g side xs ys fs → StepAt r p xs x ys fs
   step_at r p xs x ys fs rule e beside =
       let last : r < length g.rules + 1 = omega (arith, slice_get_within g.rules (r - 1) p rule.at) in
-      let v = rims.every r p xs x ys fs rule e (inl last) beside in
+      let here : SymbolAt g r (length xs) = record { production = p; before = xs; symbol = x; behind = ys; number = rule; right = e; placed = refl } in
+      let v = rims.every r (length xs) (record { here = here; beside = fs; are = beside }) (inl last) in
       let rim = (rims.each v.0 v.1 v.2 v.3 v.4).0 in
-      let same = one_rule g v.1.rule r rim.production p v.5 rim.number rule in
-      let split = one_split rim.before xs rim.symbol x rim.behind ys (sym rim.right ∙ ap (λ (o : Production). o.right) same ∙ e) (rim.placed ∙ v.6) in
-      let beside' : AreBeside g side rim.before rim.behind fs = (
-        subst (λ (l : List Symbol). AreTreesOfKind g (before_on side) l fs.0) (sym split.before) beside.0,
-        subst (λ (l : List Symbol). AreTreesOfKind g (behind_on side) l fs.1) (sym split.behind) beside.1,
+      let same = same_place g v.1.rule v.1.place r (length xs) v.5 v.6 rim.here here in
+      let beside' : AreBeside g side rim.here.before rim.here.behind fs = (
+        subst (λ (l : List Symbol). AreTreesOfKind g (before_on side) l fs.0) (sym same.before) beside.0,
+        subst (λ (l : List Symbol). AreTreesOfKind g (behind_on side) l fs.1) (sym same.behind) beside.1,
       ) in
-      let low = cost_low w.limit (AreBeside g side rim.before rim.behind) (siblings_size w) rim.others rim.is_others fs beside' in
+      let low = cost_low w.limit (AreBeside g side rim.here.before rim.here.behind) (siblings_size w) rim.others rim.is_others fs beside' in
       record {
         index = v.0;
         place = v.1;
@@ -101,8 +101,8 @@ module _ (w : Measure) (g : PlainGrammar) (side : Side) (grammar : IsGrammar g) 
         is_step = v.4;
         rule = v.5;
         place_is = v.6;
-        from = rim.from ∙ ap (number_of g.tokens) split.here;
-        to = rim.to ∙ ap (λ (o : Production). g.tokens + o.left) same;
+        from = rim.from ∙ ap (number_of g.tokens) same.symbol;
+        to = rim.to ∙ ap (λ (o : Production). g.tokens + o.left) same.production;
         cost = omega (arith, rim.cost, low);
       }
 
@@ -170,17 +170,17 @@ module _ (w : Measure) (g : PlainGrammar) (side : Side) (grammar : IsGrammar g) 
     leaf_tree (Nonterminal m) c xf e is_c = absurd (omega (arith, xf, e, fits))
 
     -- a node with such a child
-    pub tree_on : (a : Place) (s : Step) (c : ℕ) → (rim : IsRim w g side a s) → TreeOf rim.symbol c → (f h : Forest) × (u : Tree) × IsTreeOfKind g (kind_on side t) (Nonterminal rim.production.left) (Node a.rule (join f (Grown u h))) × (capped w.limit (size w (Node a.rule (join f (Grown u h)))) ≤ capped w.limit (c + s.cost))
+    pub tree_on : (a : Place) (s : Step) (c : ℕ) → (rim : IsRim w g side a s) → TreeOf rim.here.symbol c → (f h : Forest) × (u : Tree) × IsTreeOfKind g (kind_on side t) (Nonterminal rim.here.production.left) (Node a.rule (join f (Grown u h))) × (capped w.limit (size w (Node a.rule (join f (Grown u h)))) ≤ capped w.limit (c + s.cost))
     tree_on a s c rim below =
-        let fs = cost_reached w.limit (AreBeside g side rim.before rim.behind) (siblings_size w) rim.others rim.is_others rim.low in
+        let fs = cost_reached w.limit (AreBeside g side rim.here.before rim.here.behind) (siblings_size w) rim.others rim.is_others rim.low in
         let u = below.tree in
-        let are = AreTrees-join g fs.0.0 (Grown u fs.0.1) rim.before (rim.symbol ∷ rim.behind) fs.1.0.0 (below.is_tree.0, fs.1.1.0) in
+        let are = AreTrees-join g fs.0.0 (Grown u fs.0.1) rim.here.before (rim.here.symbol ∷ rim.here.behind) fs.1.0.0 (below.is_tree.0, fs.1.1.0) in
         let of_kind = node_on side t (yields fs.0.0) (yield u) (yields fs.0.1) fs.1.0.1 below.is_tree.1 fs.1.1.1 in (
           fs.0.0,
           fs.0.1,
           u,
           (
-            (rim.production, rim.number, refl, subst (λ (l : List Symbol). AreTrees g l (join fs.0.0 (Grown u fs.0.1))) (sym rim.right) are),
+            (rim.here.production, rim.here.number, refl, subst (λ (l : List Symbol). AreTrees g l (join fs.0.0 (Grown u fs.0.1))) (sym rim.here.right) are),
             subst (IsOfKind (kind_on side t)) (sym (yields-join fs.0.0 (Grown u fs.0.1))) of_kind,
           ),
           omega (arith, sizes-join w fs.0.0 (Grown u fs.0.1), fs.2, rim.cost, below.cost),
@@ -195,9 +195,9 @@ module _ (w : Measure) (g : PlainGrammar) (side : Side) (grammar : IsGrammar g) 
         let i = is.0.0 in
         let a = place_of i s at in
         let rim = (rims.each i a.0 s a.1 at).0 in
-        let below = tree_of_way v s.from is.2 rim.symbol (rule_symbol g a.0.rule rim.production rim.before rim.symbol rim.behind grammar rim.number rim.right) (sym rim.from) in
+        let below = tree_of_way v s.from is.2 rim.here.symbol (rule_symbol g a.0.rule rim.here.production rim.here.before rim.here.symbol rim.here.behind grammar rim.here.number rim.here.right) (sym rim.from) in
         let node = tree_on a.0 s (way_cost v) rim below in
-        let is_x : x ≡ Nonterminal rim.production.left = same_number g x (Nonterminal rim.production.left) xf (rule_left g a.0.rule rim.production grammar rim.number) (e ∙ sym is.1 ∙ rim.to) in
+        let is_x : x ≡ Nonterminal rim.here.production.left = same_number g x (Nonterminal rim.here.production.left) xf (rule_left g a.0.rule rim.here.production grammar rim.here.number) (e ∙ sym is.1 ∙ rim.to) in
         record {
           tree = Node a.0.rule (join node.0 (Grown node.2 node.1));
           is_tree = subst (λ y. IsTreeOfKind g (kind_on side t) y (Node a.0.rule (join node.0 (Grown node.2 node.1)))) (sym is_x) node.3;

@@ -1,15 +1,17 @@
 -- Rims: the nodes between the root of a tree and the token at a side of its yield. Each leads from one of its children, which has
 -- the token at that side itself, to its rule's left side.
-use Rattle.std.specs.Prelude.{◌≡◌, ℕ, ◌+◌, ◌<◌, ◌≤◌, List, ◌∷◌, ◌++◌, Some, length, slice_get}
+use Rattle.std.specs.Prelude.{◌≡◌, ℕ, ◌+◌, ◌≤◌, List, length}
 use Rattle.cs_grammar.specs.declared.symbol.Symbol.{Symbol}
-use Rattle.cs_grammar.specs.Grammar.{Production, PlainGrammar, IsRule}
+use Rattle.cs_grammar.specs.Grammar.{PlainGrammar}
+use Rattle.cs_grammar.specs.Places.{IsEarlier, SymbolAt}
 use Rattle.cs_grammar.specs.Weights.{Measure}
 use Rattle.cs_grammar.specs.Tree.{Forest}
 use Rattle.cs_cost.specs.declared.cost.Cost.{Cost}
 use Rattle.cs_cost.specs.Least.{IsCost}
 use Rattle.cs_cost.specs.Rank.{rank}
-use Rattle.cs_embed.specs.Embeds.{siblings_size, IsEarlier}
+use Rattle.cs_embed.specs.Embeds.{siblings_size}
 use Rattle.cs_ways.specs.declared.step.Step.{Step}
+use Rattle.cs_ways.specs.Placed.{ArePlaced}
 use Rattle.cs_kinds.specs.declared.side.Side.{Side}
 use Rattle.cs_kinds.specs.declared.rims.Place.{Place}
 use Rattle.cs_kinds.specs.Kinds.{AreTreesOfKind}
@@ -26,26 +28,29 @@ IsBesideCost w g side xs ys cost = IsCost w.limit (AreBeside g side xs ys) (sibl
 
 -- the step leads from the symbol at this place of a rule to its left side, and costs what stands beside the symbol
 pub record IsRim (w : Measure) (g : PlainGrammar) (side : Side) (a : Place) (s : Step) : Type 0 where
-  pub production : Production
-  pub before : List Symbol
-  pub symbol : Symbol
-  pub behind : List Symbol
-  pub number : IsRule g a.rule production
-  pub right : production.right ≡ before ++ symbol ∷ behind
-  pub placed : length before ≡ a.place
-  pub from : s.from ≡ number_of g.tokens symbol
-  pub to : s.to ≡ g.tokens + production.left
+  pub here : SymbolAt g a.rule a.place
+  pub from : s.from ≡ number_of g.tokens here.symbol
+  pub to : s.to ≡ g.tokens + here.production.left
   pub others : Cost
-  pub is_others : IsBesideCost w g side before behind others
+  pub is_others : IsBesideCost w g side here.before here.behind others
   pub cost : s.cost ≡ rank w.limit others
   pub low : rank w.limit others ≤ w.limit + 1
 
+-- trees can stand beside the symbol at this place of a rule
+pub record HasBeside (g : PlainGrammar) (side : Side) (r k : ℕ) : Type 0 where
+  pub here : SymbolAt g r k
+  pub beside : Forest × Forest
+  pub are : AreBeside g side here.before here.behind beside
+
+abbrev pub at_rule : Place → ℕ
+at_rule a = a.rule
+
+abbrev pub at_place : Place → ℕ
+at_place a = a.place
+
 -- the lists have, in order, the places and the steps up to a place of a rule, but those beside which no trees can stand
-pub record AreRimsTo (w : Measure) (g : PlainGrammar) (side : Side) (q j : ℕ) (places : List Place) (steps : List Step) : Type 0 where
-  pub many : length places ≡ length steps
-  pub each : (i : ℕ) → (a : Place) → (s : Step) → slice_get places i ≡ Some a → slice_get steps i ≡ Some s → IsRim w g side a s × IsEarlier a.rule a.place q j
-  pub every : (r : ℕ) → (p : Production) → (xs : List Symbol) → (x : Symbol) → (ys : List Symbol) → (fs : Forest × Forest) → IsRule g r p → p.right ≡ xs ++ x ∷ ys → IsEarlier r (length xs) q j → AreBeside g side xs ys fs → (i : ℕ) × (a : Place) × (s : Step) × (slice_get places i ≡ Some a) × (slice_get steps i ≡ Some s) × (a.rule ≡ r) × (a.place ≡ length xs)
-  pub ordered : (i k : ℕ) → (a b : Place) → i < k → slice_get places i ≡ Some a → slice_get places k ≡ Some b → IsEarlier a.rule a.place b.rule b.place
+abbrev pub AreRimsTo : Measure → PlainGrammar → Side → ℕ → ℕ → List Place → List Step → Type 0
+AreRimsTo w g side q j places steps = ArePlaced at_rule at_place (IsRim w g side) (HasBeside g side) (λ r k. IsEarlier r k q j) places steps
 
 -- all of a grammar
 abbrev pub AreRims : Measure → PlainGrammar → Side → List Place → List Step → Type 0

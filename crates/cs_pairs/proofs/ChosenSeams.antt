@@ -7,6 +7,7 @@ use Rattle.std.proofs.lemmas.Option.{slice_get_within, slice_get-get_or}
 use Rattle.cs_grammar.specs.declared.symbol.Symbol.{Symbol}
 use Rattle.cs_grammar.specs.declared.symbol.Symbol.TheVariants.{Token, Nonterminal}
 use Rattle.cs_grammar.specs.Grammar.{Production, PlainGrammar, IsRule}
+use Rattle.cs_grammar.specs.Places.{IsAtMost}
 use Rattle.cs_grammar.specs.Weights.{Measure}
 use Rattle.cs_grammar.specs.Tree.{Tree, Forest, AreTrees, size}
 use Rattle.cs_grammar.specs.Context.{Context, Hole, Under, IsContext, plug}
@@ -14,7 +15,7 @@ use Rattle.cs_grammar.proofs.OneTree.{one_rule}
 use Rattle.cs_grammar.proofs.Holes.{size-plug}
 use Rattle.cs_cost.specs.Chosen.{AreChosen}
 use Rattle.cs_cost.proofs.ChosenTrees.{LeastForest, AreTrees-chosen, all_chosen, settled as tree_settled, forest_settled}
-use Rattle.cs_embed.specs.ChosenContext.{count, IsAtMost, IsChosenContext}
+use Rattle.cs_embed.specs.ChosenContext.{count, IsChosenContext}
 use Rattle.cs_embed.proofs.ChosenContexts.{count_is, IsContext-chosen, one_chosen_context, LeastContext, context_settled}
 use Rattle.cs_embed.proofs.Steps.{split_at, one_split}
 use Rattle.cs_kinds.specs.declared.kind.TreeKind.TheVariants.{Begins, Ends}

@@ -6,6 +6,7 @@ use Rattle.std.proofs.lemmas.Option.{slice_get_within, slice_get-get_or}
 use Rattle.cs_grammar.specs.declared.symbol.Symbol.{Symbol}
 use Rattle.cs_grammar.specs.declared.symbol.Mark.TheVariants as mark
 use Rattle.cs_grammar.specs.Grammar.{PlainGrammar, IsNumberOf, IsGrammar}
+use Rattle.cs_grammar.specs.Places.{IsAtMost, SymbolAt}
 use Rattle.cs_grammar.specs.Weights.{Measure, Weighed, number}
 use Rattle.cs_grammar.specs.Tree.{Tree, Forest, size, yield}
 use Rattle.cs_grammar.specs.Context.{Context, Hole, Under, plug}
@@ -13,7 +14,7 @@ use Rattle.cs_cost.specs.declared.cost.Cost.TheVariants as cost
 use Rattle.cs_cost.specs.Least.{IsCost}
 use Rattle.cs_cost.specs.Rank.{capped, rank, cost_of}
 use Rattle.cs_cost.proofs.Ranks.{rank-cost_of, IsCapped-cost_of, plus_written, IsCost-from, IsCost-plus, cost_low, cost_reached, cost_capped, one_cost}
-use Rattle.cs_embed.specs.ChosenContext.{count, IsAtMost}
+use Rattle.cs_embed.specs.ChosenContext.{count}
 use Rattle.cs_embed.specs.Ways.{told_cost}
 use Rattle.cs_embed.proofs.ChosenContexts.{count_is}
 use Rattle.cs_embed.proofs.Told.{told_ways}
@@ -60,10 +61,11 @@ module _ (w : Measure) (g : PlainGrammar) (grammar : IsGrammar g) (net : Net) (i
       let c = is.0.0 in
       let round : AreRound g b c.0.left c.1 c.2 ((o, f), h) = ((c.7, c.5), (c.6, is.0.1)) in
       let first : IsAtMost 1 0 r (length c.1) = ⊎_elim (λ more. inl more) (λ no. inr (omega (arith, no, c.3.above_zero), omega arith)) (cases_lt 1 r) in
-      let v = are.every r c.0 c.1 x c.2 ((o, f), h) c.3 c.4 first round in
-      let s = (are.each v.0 v.1 v.2 v.3 v.4).0 in
-      let here = same_round g b r v.1.rule c.0 s.production c.1 s.before x s.symbol c.2 s.behind ((o, f), h) c.3 s.number (sym v.5) c.4 s.right (sym v.6 ∙ sym s.placed) round in
-      let low = cost_low w.limit (AreRound g b s.production.left s.before s.behind) (round_size w) s.others s.is_others ((o, f), h) here.0 in
+      let at_hole : SymbolAt g r (length c.1) = record { production = c.0; before = c.1; symbol = x; behind = c.2; number = c.3; right = c.4; placed = refl } in
+      let v = are.placed.every r (length c.1) (record { here = at_hole; round = ((o, f), h); are = round }) first in
+      let s = (are.placed.each v.0 v.1 v.2 v.3 v.4).0 in
+      let here = same_round g b r (length c.1) v.1.rule v.1.place (sym v.5) (sym v.6) at_hole s.here ((o, f), h) round in
+      let low = cost_low w.limit (AreRound g b s.here.production.left s.here.before s.here.behind) (round_size w) s.others s.is_others ((o, f), h) here.0 in
       let begin : Way = Begin v.0 v.2 in
       let at : IsWay net sources (number_of g.tokens x) begin = (v.4, s.node ∙ ap (number_of g.tokens) (sym here.1)) in
       let back = way_on weighed grammar net inwards sources a fits u x is.1 begin at in
@@ -87,22 +89,22 @@ module _ (w : Measure) (g : PlainGrammar) (grammar : IsGrammar g) (net : Net) (i
   pub way_seam : (z : Way) → IsWay net sources a z → SeamFrom (way_origin z) (way_cost z + number w a)
   way_seam z is =
       let t = ended weighed grammar net inwards sources a fits z is in
-      let p = place_at places sources are.many (way_origin z) t.begin t.at in
-      let s = (are.each (way_origin z) p.0 t.begin p.1 t.at).0 in
-      let symbol = rule_symbol g p.0.rule s.production s.before s.symbol s.behind grammar s.number s.right in
-      let tree = t.tree s.symbol symbol (sym s.node) in
-      let o = cost_reached w.limit (AreRound g b s.production.left s.before s.behind) (round_size w) s.others s.is_others s.low in
+      let p = place_at places sources are.placed.many (way_origin z) t.begin t.at in
+      let s = (are.placed.each (way_origin z) p.0 t.begin p.1 t.at).0 in
+      let symbol = rule_symbol g p.0.rule s.here.production s.here.before s.here.symbol s.here.behind grammar s.here.number s.here.right in
+      let tree = t.tree s.here.symbol symbol (sym s.node) in
+      let o = cost_reached w.limit (AreRound g b s.here.production.left s.here.before s.here.behind) (round_size w) s.others s.is_others s.low in
       record {
         place = p.0;
         at = p.1;
         seam = record {
-          symbol = s.symbol;
+          symbol = s.here.symbol;
           outer = o.0.0.0;
           left = o.0.0.1;
           right = o.0.1;
           last = tree.0;
-          is_seam = (((s.production, s.before, s.behind, s.number, s.right, o.1.0.1, o.1.1.0, o.1.0.0), o.1.1.1), tree.1);
-          placed = count_is g o.0.0.1 s.before o.1.0.1 ∙ s.placed;
+          is_seam = (((s.here.production, s.here.before, s.here.behind, s.here.number, s.here.right, o.1.0.1, o.1.1.0, o.1.0.0), o.1.1.1), tree.1);
+          placed = count_is g o.0.0.1 s.here.before o.1.0.1 ∙ s.here.placed;
         };
         cost = omega (arith, o.2, tree.2, s.cost);
       }
@@ -163,7 +165,7 @@ module _ (w : Measure) (g : PlainGrammar) (grammar : IsGrammar g) (net : Net) (i
         ⊎_elim
         (λ lower. inl (omega (arith, lower, v.rule)))
         (λ here. inr (here.0 ∙ v.rule, omega (arith, here.1, v.place_is, u.placed)))
-        (are.ordered o (way_origin v.way) place v.place before at v.origin))
+        (are.placed.ordered o (way_origin v.way) place v.place before at v.origin))
         (λ not_before.
         let same_origin : o ≡ way_origin v.way = omega (arith, first, not_before) in
         let e : Some place ≡ Some v.place = sym at ∙ ap (slice_get places) same_origin ∙ v.origin in

@@ -5,13 +5,14 @@ use Rattle.cs_grammar.specs.declared.symbol.Mark.TheVariants.{Begin, Token, End}
 use Rattle.cs_grammar.specs.declared.symbol.Symbol.{Symbol}
 use Rattle.cs_grammar.specs.declared.symbol.Symbol.TheVariants.{Nonterminal}
 use Rattle.cs_grammar.specs.Grammar.{Production, PlainGrammar, IsRule}
+use Rattle.cs_grammar.specs.Places.{IsAtMost}
 use Rattle.cs_grammar.specs.Weights.{Measure}
 use Rattle.cs_grammar.specs.Tree.{Tree, Forest, size, code}
 use Rattle.cs_grammar.specs.Context.{Context, Under, plug}
 use Rattle.cs_cost.specs.declared.cost.Cost.TheVariants.{Least}
 use Rattle.cs_cost.specs.Least.{IsCost}
 use Rattle.cs_cost.specs.Chosen.{AreChosen}
-use Rattle.cs_embed.specs.ChosenContext.{count, IsAtMost, IsChosenContext}
+use Rattle.cs_embed.specs.ChosenContext.{count, IsChosenContext}
 use Rattle.cs_kinds.specs.declared.kind.TreeKind.{TreeKind}
 use Rattle.cs_kinds.specs.declared.kind.TreeKind.TheVariants.{Empty, Begins, Ends}
 use Rattle.cs_kinds.specs.ChosenKind.{IsChosenOfKind, AreChosenOfKind}

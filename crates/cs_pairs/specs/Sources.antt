@@ -1,16 +1,16 @@
 -- Where a token may directly follow a child: the rule and place of the child, and what stands around it.
-use Rattle.std.specs.Prelude.{◌≡◌, ℕ, ◌+◌, ◌*◌, ◌<◌, ◌≤◌, List, ◌∷◌, ◌++◌, Some, length, reverse, slice_get}
+use Rattle.std.specs.Prelude.{◌≡◌, ℕ, ◌+◌, ◌*◌, ◌≤◌, List, length, reverse}
 use Rattle.cs_grammar.specs.declared.symbol.Symbol.{Symbol}
-use Rattle.cs_grammar.specs.Grammar.{Production, PlainGrammar, IsRule}
+use Rattle.cs_grammar.specs.Grammar.{PlainGrammar}
+use Rattle.cs_grammar.specs.Places.{IsAtMost, SymbolAt}
 use Rattle.cs_grammar.specs.Weights.{Measure, Weighed}
 use Rattle.cs_grammar.specs.Tree.{Forest, sizes}
 use Rattle.cs_grammar.specs.Context.{Context}
 use Rattle.cs_cost.specs.declared.cost.Cost.{Cost}
 use Rattle.cs_cost.specs.Least.{IsCost}
 use Rattle.cs_cost.specs.Rank.{rank}
-use Rattle.cs_embed.specs.Embeds.{IsEarlier}
-use Rattle.cs_embed.specs.ChosenContext.{IsAtMost}
 use Rattle.cs_ways.specs.declared.step.Source.{Source}
+use Rattle.cs_ways.specs.Placed.{ArePlaced}
 use Rattle.cs_kinds.specs.declared.kind.TreeKind.TheVariants.{Begins}
 use Rattle.cs_kinds.specs.Kinds.{AreTreesOfKind}
 use Rattle.cs_kinds.specs.Numbers.{number_of}
@@ -28,26 +28,29 @@ round_size w q = front_size w q.0 + sizes w q.1
 
 -- the source is the symbol at this place of a rule, and costs what stands around it
 pub record IsSourceAt (w : Measure) (g : PlainGrammar) (b : ℕ) (a : Meeting) (s : Source) : Type 0 where
-  pub production : Production
-  pub before : List Symbol
-  pub symbol : Symbol
-  pub behind : List Symbol
-  pub number : IsRule g a.rule production
-  pub right : production.right ≡ before ++ symbol ∷ behind
-  pub placed : length before ≡ a.place
-  pub node : s.node ≡ number_of g.tokens symbol
+  pub here : SymbolAt g a.rule a.place
+  pub node : s.node ≡ number_of g.tokens here.symbol
   pub others : Cost
-  pub is_others : IsCost w.limit (AreRound g b production.left before behind) (round_size w) others
+  pub is_others : IsCost w.limit (AreRound g b here.production.left here.before here.behind) (round_size w) others
   pub cost : s.cost ≡ rank w.limit others
   pub low : rank w.limit others ≤ w.limit + 1
 
+-- something can stand around the symbol at this place of a rule
+pub record HasRound (g : PlainGrammar) (b r k : ℕ) : Type 0 where
+  pub here : SymbolAt g r k
+  pub round : (Context × Forest) × Forest
+  pub are : AreRound g b here.production.left here.before here.behind round
+
+abbrev pub at_rule : Meeting → ℕ
+at_rule a = a.rule
+
+abbrev pub at_place : Meeting → ℕ
+at_place a = a.place
+
 -- the lists have, in order, the places and the sources from a place of a rule on, but those around which nothing can stand
 pub record AreSourcesFrom (w : Measure) (g : PlainGrammar) (b q j : ℕ) (places : List Meeting) (sources : List Source) : Type 0 where
-  pub many : length places ≡ length sources
   pub few : length sources + (128 * q + j) ≤ 128 * (length g.rules + 1)
-  pub each : (i : ℕ) → (a : Meeting) → (s : Source) → slice_get places i ≡ Some a → slice_get sources i ≡ Some s → IsSourceAt w g b a s × IsAtMost q j a.rule a.place
-  pub every : (r : ℕ) → (p : Production) → (xs : List Symbol) → (x : Symbol) → (ys : List Symbol) → (o : (Context × Forest) × Forest) → IsRule g r p → p.right ≡ xs ++ x ∷ ys → IsAtMost q j r (length xs) → AreRound g b p.left xs ys o → (i : ℕ) × (a : Meeting) × (s : Source) × (slice_get places i ≡ Some a) × (slice_get sources i ≡ Some s) × (a.rule ≡ r) × (a.place ≡ length xs)
-  pub ordered : (i k : ℕ) → (a d : Meeting) → i < k → slice_get places i ≡ Some a → slice_get places k ≡ Some d → IsEarlier a.rule a.place d.rule d.place
+  pub placed : ArePlaced at_rule at_place (IsSourceAt w g b) (HasRound g b) (λ r k. IsAtMost q j r k) places sources
 
 -- while they are made, in reverse
 abbrev pub AreSourcesBack : Weighed → ℕ → ℕ → Sources → Type 0

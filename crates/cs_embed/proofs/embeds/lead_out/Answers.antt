@@ -48,7 +48,7 @@ index-place-requires c =
     omega (arith, inside, c.args.tables.now.places.ok.0)
 
 pub rule-rule-requires : goal.rule-rule-requires
-rule-rule-requires c = rule_number _ _ _ _ c.grammar-grammar.ensures (first_at (goal.at.rule-rule-requires c).After-index-place).1.inward.number
+rule-rule-requires c = rule_number _ _ _ _ c.grammar-grammar.ensures (first_at (goal.at.rule-rule-requires c).After-index-place).1.inward.here.number
 
 pub slice_bounds-all_into-count : goal.slice_bounds-all_into-count
 slice_bounds-all_into-count c = let at = goal.at.slice_bounds-all_into-count c in within at.After-right (small_at at.After-index-place)
