@@ -2,7 +2,7 @@
 use Rattle.std.specs.Prelude.{ℕ, Bool, ◌==◌, nat_le, ◌&&◌, ◌||◌, not}
 use Rattle.cs_bytes.specs.declared.class.ByteClass.{ByteClass}
 use Rattle.cs_bytes.specs.declared.class.ByteClass.TheVariants.{Letter, Digit, OctalDigit, HexadecimalDigit, Newline, Blank, Space, WhiteSpace, WordStart, Word, WordOr, Not, Neither}
-use Rattle.cs_bytes.specs.Names.{tab, newline, carriage_return, space, underscore}
+use Rattle.cs_bytes.specs.Names.{tab, newline, carriage_return, space, dash, closing_bracket, underscore}
 
 -- the byte is one of those from the first to the last
 abbrev pub is_between : ℕ → ℕ → ℕ → Bool
@@ -46,6 +46,14 @@ begins_word b = is_letter b || (b == underscore)
 -- what a C word goes on with: a letter, `_` or a digit
 abbrev pub is_word_byte : ℕ → Bool
 is_word_byte b = begins_word b || is_digit b
+
+-- what a word with dashes goes on with: a letter, `_`, a digit or `-`
+abbrev pub is_dashed_word_byte : ℕ → Bool
+is_dashed_word_byte b = is_word_byte b || (b == dash)
+
+-- what may stand in a named part of a bracket: neither `]` nor newline
+abbrev pub is_inner : ℕ → Bool
+is_inner b = not ((b == closing_bracket) || (b == newline))
 
 -- the byte is of the class
 abbrev pub is_in : ByteClass → ℕ → Bool

@@ -1,6 +1,6 @@
 -- What stands at a place of a text, and how far it goes.
 use Rattle.std.specs.Prelude.{◌≡◌, ℕ, ◌+◌, ◌<◌, ◌≤◌, Bool, true, false, ◌==◌, ◌&&◌, List, [], ◌∷◌, length, take, drop, min, IsTrue}
-use Rattle.std.specs.List.{list_all, position_or_len}
+use Rattle.std.specs.List.{list_all, prefix_len, position_or_len}
 use Rattle.cs_bytes.specs.Classes.{is_newline}
 
 -- the text begins with a byte that passes
@@ -39,6 +39,16 @@ pub record IsRun (passes : ℕ → Bool) (text : List ℕ) (n : ℕ) : Type 0 wh
   pub within : n ≤ length text
   pub run : IsTrue (list_all passes (take n text))
   pub ends : front passes (drop n text) ≡ false
+
+-- the offset behind the longest run of bytes that pass from the other offset on
+abbrev pub run_end : (ℕ → Bool) → List ℕ → ℕ → ℕ
+run_end passes text from = from + prefix_len passes (drop from text)
+
+-- A longest run of bytes that pass ends at the offset `end`, and it begins at or before the offset `from`.
+pub record EndsRun (passes : ℕ → Bool) (text : List ℕ) (from end : ℕ) : Type 0 where
+  pub start : ℕ
+  pub before : start ≤ from
+  pub is : end ≡ run_end passes text start
 
 -- Behind n bytes stand the first two such bytes.
 pub record IsFirstPair (first second : ℕ) (text : List ℕ) (n : ℕ) : Type 0 where

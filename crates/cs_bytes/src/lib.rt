@@ -17,4 +17,4 @@ pub use class::ByteClass;
 pub use digits::{digit_of, number};
 pub use laws::{byte_names, one_run};
 pub use place::{begins, find_pair, from_offset, has_at, has_pair, same_bytes, to_offset};
-pub use run::{line_len, line_size, run_len};
+pub use run::{line_len, line_size, run_end, run_len};

@@ -6,6 +6,7 @@ ghost use Rattle.cs_bytes.specs.Classes.{is_in};
 ghost use Rattle.cs_bytes.specs.Places as places;
 
 use crate::class::ByteClass;
+use crate::place::from_offset;
 
 /// How many bytes in front of the text are of the class: the size of their longest run.
 pub fn run_len(text: &[u8], class: ByteClass) -> usize
@@ -13,6 +14,20 @@ pub fn run_len(text: &[u8], class: ByteClass) -> usize
     ensures within { result ≤ length text.now }
 {
     text.iter().take_while(|byte| class.has(**byte)).count()
+}
+
+/// The offset behind the longest run of the class from the offset on, where the known one is that of a run that begins there or
+/// earlier. Who asks for one offset after the other, each behind the last, and hands in the last answer, has each byte looked at
+/// once.
+pub fn run_end(text: &[u8], class: ByteClass, from: usize, known: usize) -> usize
+    requires { places.EndsRun (is_in class) text.now from known }
+    ensures { result ≡ places.run_end (is_in class) text.now from }
+{
+    if from <= known {
+        known
+    } else {
+        from + run_len(from_offset(text, from.min(text.len())), class)
+    }
 }
 
 /// The size of the line in front, without its newline.

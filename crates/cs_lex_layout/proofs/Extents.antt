@@ -13,8 +13,7 @@ use Rattle.cs_ctext.proofs.PartSizes.{part_size-part, part-not_special, part_siz
 use Rattle.cs_lex_layout.specs.declared.unit.UnitKind.{UnitKind}
 use Rattle.cs_lex_layout.specs.declared.unit.UnitKind.TheVariants.{Escape, Quoted, Bracket, Plain, Nothing}
 use Rattle.cs_bytes.specs.Places.{front_or_end}
-use Rattle.cs_bytes.specs.Classes.{is_space, is_newline}
-use Rattle.cs_lex_layout.specs.Bytes.{is_name_byte}
+use Rattle.cs_bytes.specs.Classes.{is_space, is_newline, is_dashed_word_byte}
 use Rattle.cs_lex_layout.specs.Patterns.{IsQuotedText, IsBracket, unit_kind, ClosedOrLine, UnitOf, IsUnit, IsPattern}
 use Rattle.cs_lex_layout.specs.Runs.{ends_part, IsPiece, part, block, IsOpen, open_comment, open_brace, IsRun, IsOpenRun}
 use Rattle.cs_lex_layout.specs.Forms.{blanks, IsTail, IsNoDefinition}
@@ -133,7 +132,7 @@ run_not_open braces = covers_apart (IsPiece braces) (λ rest. IsTrue (front_or_e
 
 -- ---- definitions
 
-module _ (text behind rest : List ℕ) (name_to k n : ℕ) (name : name_to ≡ prefix_len is_name_byte text) (is_behind : behind ≡ drop name_to text) (blank : k ≡ blanks behind)
+module _ (text behind rest : List ℕ) (name_to k n : ℕ) (name : name_to ≡ prefix_len is_dashed_word_byte text) (is_behind : behind ≡ drop name_to text) (blank : k ≡ blanks behind)
     (is_rest : rest ≡ drop (name_to + k) text) (extent : IsPattern rest n)
     (why : (name_to + k ≤ name_to) ⊎ ((name_to + k + n ≤ name_to + k) ⊎ (¬ IsTail (drop (name_to + k + n) text)))) where
   pub no_definition : IsNoDefinition text

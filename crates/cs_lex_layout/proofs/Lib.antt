@@ -1,6 +1,5 @@
 pub mod Walks
 pub mod Units
-pub mod NextEnds
 pub mod Pieces
 pub mod NameTables
 pub mod Tails

@@ -14,8 +14,7 @@ use Rattle.cs_lex_layout.specs.declared.error.LayoutError.TheVariants.{Unended, 
 use Rattle.cs_lex_layout.specs.Runs.{IsOpenRun}
 use Rattle.cs_lex_layout.specs.Steps.{Walk, here}
 use Rattle.cs_bytes.specs.Places.{line_size, front}
-use Rattle.cs_lex_layout.specs.Bytes.{is_name_byte}
-use Rattle.cs_bytes.specs.Classes.{begins_word}
+use Rattle.cs_bytes.specs.Classes.{begins_word, is_dashed_word_byte}
 use Rattle.cs_lex_layout.specs.Lines.{is_among, skipped_words, begins_condition, begins_loose, word_kind, percent_kind, definitions_kind, rules_kind}
 use Rattle.cs_lex_layout.specs.Forms.{line_of, IsCodeBlock, IsNoDefinition, IsOpenRule}
 use Rattle.cs_lex_layout.specs.Layout.{bytes_of, names_of, has_name, DefinitionsPlace, HasDefinitionAt, IsPassed, DefinitionsLine, passed, definition, no_definitions, HasDefinitions, RulesPlace, HasRuleAt, IsPassedRule, RulesLine, rule, no_rules, HasRules, HasLayout, DefinitionsFault, no_form, defined_again, RulesFault, open_action, StopsWith, in_definitions, in_rules}
@@ -41,18 +40,18 @@ option_word word e = by_test (bytes_eq word (codes "option")) refl e
 option_rest : (rest : List ℕ) → percent_kind rest ≡ kinds.Options → 6 ≤ length rest
 option_rest rest e = by_test (begins_with 37 rest) (begins_with 123 rest) e
   where
-    long : word_kind (take_while is_name_byte rest) ≡ kinds.Options → 6 ≤ length rest
+    long : word_kind (take_while is_dashed_word_byte rest) ≡ kinds.Options → 6 ≤ length rest
     long f =
-        let same : take (prefix_len is_name_byte rest) rest ≡ codes "option" = (bytes_eq-Decides (take_while is_name_byte rest) (codes "option")).0 (option_word (take_while is_name_byte rest) f) in
-        let size : length (take (prefix_len is_name_byte rest) rest) ≡ 6 = ap length same in
-        omega (arith, size, length_take (prefix_len is_name_byte rest) rest)
+        let same : take (prefix_len is_dashed_word_byte rest) rest ≡ codes "option" = (bytes_eq-Decides (take_while is_dashed_word_byte rest) (codes "option")).0 (option_word (take_while is_dashed_word_byte rest) f) in
+        let size : length (take (prefix_len is_dashed_word_byte rest) rest) ≡ 6 = ap length same in
+        omega (arith, size, length_take (prefix_len is_dashed_word_byte rest) rest)
       where
         length_take : (n : ℕ) (xs : List ℕ) → length (take n xs) ≤ length xs
         length_take zero xs = omega arith
         length_take (suc n) [] = omega arith
         length_take (suc n) (x ∷ xs) = omega (arith, length_take n xs)
 
-    by_test : (t u : Bool) → cond t kinds.SectionEnd (cond u kinds.Block (word_kind (take_while is_name_byte rest))) ≡ kinds.Options → 6 ≤ length rest
+    by_test : (t u : Bool) → cond t kinds.SectionEnd (cond u kinds.Block (word_kind (take_while is_dashed_word_byte rest))) ≡ kinds.Options → 6 ≤ length rest
     by_test true u f = absurd cc
     by_test false true f = absurd cc
     by_test false false f = long f

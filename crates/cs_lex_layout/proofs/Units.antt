@@ -1,11 +1,14 @@
 -- Units of a pattern's text.
 use Rattle.std.proofs.Common.{◌≡◌, ℕ, ◌+◌, ◌≤◌, Bool, true, false, eqb, List, [], ◌∷◌, length, drop, refl, sym, ap, subst, ◌∙◌, arith, IsTrue}
 use Rattle.std.proofs.lemmas.Bool.{false≢true, eqb-true}
+use Rattle.std.proofs.lemmas.List.{length-drop}
+use Rattle.std.proofs.lemmas.List.Sums.{prefix_len-le-length}
+use Rattle.cs_bytes.specs.Classes.{is_inner}
 use Rattle.cs_bytes.specs.Places.{begins_with}
 use Rattle.cs_bytes.proofs.Fronts.{and_true}
 use Rattle.cs_lex_layout.specs.Steps.{Walk, Spans, Covers, HasSize}
 use Rattle.cs_bytes.specs.Places.{front}
-use Rattle.cs_lex_layout.specs.Patterns.{quoted_unit_size, member_size, opens_part, IsQuotedText, IsBracket, opening_size}
+use Rattle.cs_lex_layout.specs.Patterns.{quoted_unit_size, member_size, opens_part, part_len, IsQuotedText, IsBracket, opening_size}
 use Rattle.cs_lex_layout.proofs.Walks.{sized_same}
 
 pub front_within : (p : ℕ → Bool) (text : List ℕ) → front p text ≡ true → 1 ≤ length text
@@ -16,6 +19,10 @@ pub opens_part_within : (text : List ℕ) → opens_part text ≡ true → 2 ≤
 opens_part_within [] e = absurd (false≢true e)
 opens_part_within (b ∷ []) e = absurd (false≢true ((and_true (eqb b 91) false e).1))
 opens_part_within (b ∷ c ∷ text) e = omega arith
+
+-- the end of what may stand in a named part lies behind the part's mark
+pub part_within : (text : List ℕ) → opens_part text ≡ true → part_len text + 2 ≤ length text
+part_within text e = omega (arith, opens_part_within text e, prefix_len-le-length is_inner (drop 2 text), length-drop 2 text)
 
 -- the byte in front ends a quoted text
 pub quote_none : (text : List ℕ) → begins_with 34 text ≡ true → quoted_unit_size text ≡ 0

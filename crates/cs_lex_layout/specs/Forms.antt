@@ -4,8 +4,7 @@ use Rattle.std.specs.List.{prefix_len}
 use Rattle.cs_ctext.specs.Comments.{IsComment}
 use Rattle.cs_bytes.specs.Places.{begins_with, begins_with_two}
 use Rattle.cs_lex_layout.specs.Steps.{Covers, HasSize}
-use Rattle.cs_bytes.specs.Classes.{is_blank}
-use Rattle.cs_lex_layout.specs.Bytes.{is_name_byte}
+use Rattle.cs_bytes.specs.Classes.{is_blank, is_dashed_word_byte}
 use Rattle.cs_bytes.specs.Places.{front, line_len, line_size}
 use Rattle.cs_lex_layout.specs.Patterns.{IsPattern}
 use Rattle.cs_lex_layout.specs.Runs.{IsRun, IsOpenRun}
@@ -58,7 +57,7 @@ IsTail line = IsCommentTail (drop (blanks line) line)
 
 -- A line, without its newline, is a definition: a name, blanks, a substitute with the extent of a pattern, and a tail.
 pub record IsDefinition (line : List ℕ) (name_to from to : ℕ) : Type 0 where
-  pub name : name_to ≡ prefix_len is_name_byte line
+  pub name : name_to ≡ prefix_len is_dashed_word_byte line
   pub blank : from ≡ name_to + blanks (drop name_to line)
   pub some_blank : name_to < from
   pub extent : (n : ℕ) × IsPattern (drop from line) n × (to ≡ from + n)

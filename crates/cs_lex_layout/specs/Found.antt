@@ -1,6 +1,5 @@
 -- What the steps of reading answer.
-use Rattle.std.specs.Prelude.{◌≡◌, ℕ, ◌+◌, ◌<◌, ◌≤◌, Bool, false, List, length, drop, Option, Some, None}
-use Rattle.std.specs.List.{position_or_len}
+use Rattle.std.specs.Prelude.{ℕ, ◌<◌, ◌≤◌, Bool, false, List, length, Option, Some, None}
 use Rattle.cs_lex_layout.specs.declared.forms.DefinitionForm.{DefinitionForm}
 use Rattle.cs_lex_layout.specs.declared.forms.RuleForm.{RuleForm}
 use Rattle.cs_lex_layout.specs.declared.run.Run.{Run}
@@ -8,7 +7,6 @@ use Rattle.cs_lex_layout.specs.declared.run.Run.TheVariants.{To, Open}
 use Rattle.cs_lex_layout.specs.declared.forms.RuleLine.{RuleLine}
 use Rattle.cs_lex_layout.specs.declared.forms.RuleLine.TheVariants as lines
 use Rattle.cs_bytes.specs.Places.{line_len}
-use Rattle.cs_lex_layout.specs.Patterns as patterns
 use Rattle.cs_lex_layout.specs.Runs.{IsRun, IsOpenRun}
 use Rattle.cs_lex_layout.specs.Forms.{IsLoose, IsRule, IsOpenRule}
 
@@ -35,13 +33,3 @@ FindsRule text (lines.Open n) = IsOpenRule text n × (n < length text)
 -- the parts of the definition stand in order within the line
 abbrev pub DefinitionIn : List ℕ → DefinitionForm → Type 0
 DefinitionIn line f = (f.name_to ≤ f.from) × (f.from ≤ f.to) × (f.to ≤ length line)
-
--- the offset of the first `]` or newline at or behind the other offset
-abbrev pub end_from : List ℕ → ℕ → ℕ
-end_from text from = from + position_or_len patterns.ends_part (drop from text)
-
--- the offset is that of the first `]` or newline at or behind some offset that isn't behind this one
-pub record IsEnd (text : List ℕ) (from known : ℕ) : Type 0 where
-  pub start : ℕ
-  pub before : start ≤ from
-  pub is : known ≡ end_from text start

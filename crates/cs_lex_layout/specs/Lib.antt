@@ -1,5 +1,4 @@
 pub mod Steps
-pub mod Bytes
 pub mod Patterns
 pub mod Runs
 pub mod Lines

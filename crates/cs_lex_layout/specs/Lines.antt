@@ -1,13 +1,12 @@
 -- What a line of a lex file is, by what it begins with (POSIX lex; `%option` and its words of flex).
-use Rattle.std.specs.Prelude.{ℕ, Bool, ◌==◌, ◌||◌, not, if◌then◌else◌, List, [], ◌∷◌, drop, codes}
+use Rattle.std.specs.Prelude.{ℕ, Bool, true, false, ◌==◌, ◌||◌, not, if◌then◌else◌, List, [], ◌∷◌, drop, codes}
 use Rattle.std.specs.List.{prefix_len, take_while, list_any}
 use Rattle.std.specs.Str.{bytes_eq}
 use Rattle.cs_bytes.specs.Places.{begins_with, begins_with_two}
 use Rattle.cs_ctext.specs.Scans.{opens_comment}
 use Rattle.cs_lex_layout.specs.declared.line.LineKind.{LineKind}
 use Rattle.cs_lex_layout.specs.declared.line.LineKind.TheVariants.{SectionEnd, Block, Options, Skipped, Conditions, Unknown, Loose, Definition, Rule, NoForm}
-use Rattle.cs_bytes.specs.Classes.{is_blank, is_space, begins_word}
-use Rattle.cs_lex_layout.specs.Bytes.{is_name_byte, is_end}
+use Rattle.cs_bytes.specs.Classes.{is_blank, is_space, begins_word, is_dashed_word_byte}
 use Rattle.cs_bytes.specs.Places.{front}
 
 -- the word is one of these
@@ -42,7 +41,7 @@ abbrev pub percent_kind : List ℕ → LineKind
 percent_kind rest =
     if begins_with 37 rest then SectionEnd
     else if begins_with 123 rest then Block
-    else word_kind (take_while is_name_byte rest)
+    else word_kind (take_while is_dashed_word_byte rest)
 
 -- a blank, a newline, `/*` or `//` begins the text
 abbrev pub begins_loose : List ℕ → Bool
@@ -55,6 +54,11 @@ definitions_kind text =
     else if begins_loose text then Loose
     else if front begins_word text then Definition
     else NoForm
+
+-- nothing is left of the text
+abbrev pub is_end : List ℕ → Bool
+is_end [] = true
+is_end (b ∷ text) = false
 
 -- the kind of the line of the rules section in front of the text; the section may also end with the file
 abbrev pub rules_kind : List ℕ → LineKind

@@ -1,11 +1,11 @@
 -- The extent of a pattern: to the first blank or newline outside escapes, quoted texts and brackets (POSIX lex).
 use Rattle.std.specs.Prelude.{◌≡◌, ℕ, ◌+◌, Bool, ◌==◌, nat_lt, ◌&&◌, ◌||◌, not, if◌then◌else◌, List, drop, slice_index_or, IsTrue, ◌⊎◌}
-use Rattle.std.specs.List.{position_or_len}
+use Rattle.std.specs.List.{prefix_len}
 use Rattle.cs_bytes.specs.Places.{begins_with}
 use Rattle.cs_lex_layout.specs.declared.unit.UnitKind.{UnitKind}
 use Rattle.cs_lex_layout.specs.declared.unit.UnitKind.TheVariants.{Escape, Quoted, Bracket, Plain, Nothing}
 use Rattle.cs_lex_layout.specs.Steps.{Covers, HasSize}
-use Rattle.cs_bytes.specs.Classes.{is_newline, is_space}
+use Rattle.cs_bytes.specs.Classes.{is_newline, is_space, is_inner}
 use Rattle.cs_bytes.specs.Places.{front, front_or_end, line_len}
 
 -- a backslash, and a byte that it takes along: any but newline
@@ -35,13 +35,9 @@ pub record IsQuotedText (text : List ℕ) (size : ℕ) : Type 0 where
 abbrev pub is_part_mark : ℕ → Bool
 is_part_mark b = (b == 58) || (b == 46) || (b == 61)
 
--- `]` or newline
-abbrev pub ends_part : ℕ → Bool
-ends_part b = (b == 93) || is_newline b
-
 -- how many bytes stand behind the `[` and the mark of a named part, up to the next `]` or the line's end
 abbrev pub part_len : List ℕ → ℕ
-part_len text = position_or_len ends_part (drop 2 text)
+part_len text = prefix_len is_inner (drop 2 text)
 
 -- `[` and a mark begin the text
 abbrev pub opens_part : List ℕ → Bool

@@ -1,14 +1,15 @@
 // Brackets of patterns.
 
 ghost use Rattle.std.specs.Prelude.{◌≡◌, ◌≤◌, ◌<◌, ◌+◌, ℕ, length, drop, IfSome, IfNone, IsTrue};
-ghost use Rattle.std.specs.List.{position_or_len};
 ghost use Rattle.cs_bytes.specs.Places.{begins_with};
-ghost use Rattle.cs_lex_layout.specs.Found as found;
 ghost use Rattle.cs_lex_layout.specs.Patterns as spec;
 ghost use Rattle.cs_lex_layout.specs.Steps.{Walk, Spans, HasSize};
 
 use crate::unit::is_escape;
-use cs_bytes::{from_offset, has_at};
+use cs_bytes::{ByteClass, from_offset, has_at, run_end, run_len};
+
+/// What may stand in a named part.
+const INNER: ByteClass = ByteClass::Neither(b']', b'\n');
 
 fn is_bracket_byte(byte: u8) -> bool
     ensures { result ≡ spec.is_bracket_byte byte }
@@ -20,20 +21,6 @@ fn is_part_mark(byte: u8) -> bool
     ensures { result ≡ spec.is_part_mark byte }
 {
     byte == b':' || byte == b'.' || byte == b'='
-}
-
-fn ends_part(byte: u8) -> bool
-    ensures { result ≡ spec.ends_part byte }
-{
-    byte == b']' || byte == b'\n'
-}
-
-/// How many bytes stand in front of the next `]` or newline.
-fn part_len(inside: &[u8]) -> usize
-    ensures size { result ≡ position_or_len spec.ends_part inside.now }
-    ensures within { result ≤ length inside.now }
-{
-    inside.iter().take_while(|byte| !ends_part(**byte)).count()
 }
 
 /// Whether `[` and the mark of a named part begin the text.
@@ -55,7 +42,7 @@ fn closes_part(text: &[u8], len: usize) -> bool
 }
 
 /// The size of the named part in front, or 0, where so many bytes stand behind its mark before the next `]` or newline.
-#[tactic(auto, using(crate::proofs::NextEnds::part_within))]
+#[tactic(auto, using(crate::proofs::Units::part_within))]
 fn named_size(text: &[u8], len: usize) -> usize
     requires { len ≡ spec.part_len text.now }
     ensures size { result ≡ spec.named_size text.now }
@@ -88,19 +75,6 @@ fn member_size(text: &[u8], len: usize) -> usize
     }
 }
 
-/// The offset of the first `]` or newline at or behind the offset, where the known one is the first behind an earlier offset:
-/// so it is looked for once.
-fn next_end(text: &[u8], from: usize, known: usize) -> usize
-    requires { found.IsEnd text.now from known }
-    ensures { result ≡ found.end_from text.now from }
-{
-    if from <= known {
-        known
-    } else {
-        from + part_len(from_offset(text, from.min(text.len())))
-    }
-}
-
 /// How many bytes the members in front take.
 fn members_len(text: &[u8]) -> usize
     ensures units { Walk (Spans (HasSize spec.member_size) text.now) 0 result }
@@ -108,11 +82,11 @@ fn members_len(text: &[u8]) -> usize
     ensures within { result ≤ length text.now }
 {
     let mut at = 0;
-    let mut end = next_end(text, 2, part_len(text));
+    let mut end = run_end(text, INNER, 2, run_len(text, INNER));
     let mut size = member_size(text, end - 2);
     while size > 0 {
         at += size;
-        end = next_end(text, at + 2, end);
+        end = run_end(text, INNER, at + 2, end);
         size = member_size(from_offset(text, at), end - (at + 2));
     }
     at

@@ -3,7 +3,7 @@
 //! The layer above calls `read_layout` and goes on with the parts: the name and the substitute of each definition, and the
 //! pattern and the action of each rule. Patterns and actions have no meaning yet.
 //!
-//! Meaning, in `specs/`: `Bytes` and `Steps` (words of the others), `Lines` (what a line is, by what it begins with),
+//! Meaning, in `specs/`: `Steps` (words of the others), `Lines` (what a line is, by what it begins with),
 //! `Patterns`, `Runs` and `Forms` (how far each goes), `Layout` (which bytes have which layout, and where it stops), `Lies`
 //! (where the parts lie), `Answers` and `Laws`. `Names`, `Found`, `Places` and `Settled` are working words of the proofs.
 #![tactic(auto)]

@@ -9,9 +9,8 @@ use Rattle.cs_bytes.proofs.Fronts.{front_got, and_true}
 use Rattle.cs_bytes.proofs.Runs.{run-stops, run-passes}
 use Rattle.cs_pattern_items.specs.declared.item.Repetition.{Repetition}
 use Rattle.cs_pattern_items.specs.declared.item.Repetition.TheVariants.{Exactly, AtLeast, Between}
-use Rattle.cs_bytes.specs.Classes.{is_digit, is_letter, begins_word}
+use Rattle.cs_bytes.specs.Classes.{is_digit, is_letter, begins_word, is_dashed_word_byte}
 use Rattle.cs_bytes.specs.Places.{has_at}
-use Rattle.cs_pattern_items.specs.ByteKind.{is_name_byte}
 use Rattle.cs_bytes.specs.Digits.{number_of}
 use Rattle.cs_pattern_items.specs.Interval.{exactly, at_least, between, sized, digits, open_interval, longer, interval, name}
 use Rattle.cs_pattern_items.specs.Spelling.{IsNumber, IsInterval, IsName}
@@ -289,12 +288,12 @@ sound_interval text r n e =
 
 -- ---- names
 
-named_byte : (b : ℕ) → begins_word b ≡ true → is_name_byte b ≡ true
+named_byte : (b : ℕ) → begins_word b ≡ true → is_dashed_word_byte b ≡ true
 named_byte b e = rw e refl
 
-name_run : (b : ℕ) (rest : List ℕ) → begins_word b ≡ true → has_at (b ∷ rest) (prefix_len is_name_byte (b ∷ rest)) 125 ≡ true → name (b ∷ rest) ≡ Some (take (prefix_len is_name_byte (b ∷ rest)) (b ∷ rest), prefix_len is_name_byte (b ∷ rest) + 1)
+name_run : (b : ℕ) (rest : List ℕ) → begins_word b ≡ true → has_at (b ∷ rest) (prefix_len is_dashed_word_byte (b ∷ rest)) 125 ≡ true → name (b ∷ rest) ≡ Some (take (prefix_len is_dashed_word_byte (b ∷ rest)) (b ∷ rest), prefix_len is_dashed_word_byte (b ∷ rest) + 1)
 unfolding name
-name_run b rest e f = ap (λ v. if v then Some (take (prefix_len is_name_byte (b ∷ rest)) (b ∷ rest), prefix_len is_name_byte (b ∷ rest) + 1) else None) (both (begins_word b) (has_at (b ∷ rest) (prefix_len is_name_byte (b ∷ rest)) 125) e f)
+name_run b rest e f = ap (λ v. if v then Some (take (prefix_len is_dashed_word_byte (b ∷ rest)) (b ∷ rest), prefix_len is_dashed_word_byte (b ∷ rest) + 1) else None) (both (begins_word b) (has_at (b ∷ rest) (prefix_len is_dashed_word_byte (b ∷ rest)) 125) e f)
   where
     both : (p q : Bool) → p ≡ true → q ≡ true → (p && q) ≡ true
     both p q x y = rw (x, y) refl
@@ -302,9 +301,9 @@ name_run b rest e f = ap (λ v. if v then Some (take (prefix_len is_name_byte (b
 pub complete_name : (bytes rest : List ℕ) → IsName bytes → name (bytes ++ 125 ∷ rest) ≡ Some (bytes, length bytes + 1)
 complete_name [] rest h = absurd h
 complete_name (b ∷ more) rest h =
-    let first : is_name_byte b ≡ true = named_byte b h.0 in
-    let all : list_all is_name_byte (b ∷ more) ≡ true = rw first h.1 in
-    let run : prefix_len is_name_byte (b ∷ (more ++ 125 ∷ rest)) ≡ length (b ∷ more) = run_then is_name_byte (b ∷ more) 125 rest all refl in
+    let first : is_dashed_word_byte b ≡ true = named_byte b h.0 in
+    let all : list_all is_dashed_word_byte (b ∷ more) ≡ true = rw first h.1 in
+    let run : prefix_len is_dashed_word_byte (b ∷ (more ++ 125 ∷ rest)) ≡ length (b ∷ more) = run_then is_dashed_word_byte (b ∷ more) 125 rest all refl in
     name_run b (more ++ 125 ∷ rest) h.0 (ap (λ k. has_at (b ∷ (more ++ 125 ∷ rest)) k 125) run ∙ has_at_end (b ∷ more) 125 125 rest)
     ∙ ap (λ k. Some (take k (b ∷ (more ++ 125 ∷ rest)), k + 1)) run
     ∙ ap (λ (xs : List ℕ). Some (xs, length (b ∷ more) + 1)) (take_at (b ∷ more) (125 ∷ rest) (length (b ∷ more)) refl)
@@ -322,32 +321,32 @@ name_none = refl
 run_next : (p : ℕ → Bool) (b : ℕ) (rest : List ℕ) → p b ≡ true → prefix_len p (b ∷ rest) ≡ suc (prefix_len p rest)
 run_next p b rest e = rw e (one-add (prefix_len p rest))
 
-is_name_run : (b : ℕ) (rest : List ℕ) → begins_word b ≡ true → IsName (take (prefix_len is_name_byte (b ∷ rest)) (b ∷ rest))
+is_name_run : (b : ℕ) (rest : List ℕ) → begins_word b ≡ true → IsName (take (prefix_len is_dashed_word_byte (b ∷ rest)) (b ∷ rest))
 is_name_run b rest e =
-    subst (λ k. IsName (take k (b ∷ rest))) (sym (run_next is_name_byte b rest (named_byte b e))) (e, run-passes is_name_byte (prefix_len is_name_byte rest) rest (omega arith))
+    subst (λ k. IsName (take k (b ∷ rest))) (sym (run_next is_dashed_word_byte b rest (named_byte b e))) (e, run-passes is_dashed_word_byte (prefix_len is_dashed_word_byte rest) rest (omega arith))
 
-sound_name_at : (b : ℕ) (rest bytes : List ℕ) (n : ℕ) → begins_word b ≡ true → has_at (b ∷ rest) (prefix_len is_name_byte (b ∷ rest)) 125 ≡ true
-    → take (prefix_len is_name_byte (b ∷ rest)) (b ∷ rest) ≡ bytes → prefix_len is_name_byte (b ∷ rest) + 1 ≡ n → ReadsName (b ∷ rest) bytes n
+sound_name_at : (b : ℕ) (rest bytes : List ℕ) (n : ℕ) → begins_word b ≡ true → has_at (b ∷ rest) (prefix_len is_dashed_word_byte (b ∷ rest)) 125 ≡ true
+    → take (prefix_len is_dashed_word_byte (b ∷ rest)) (b ∷ rest) ≡ bytes → prefix_len is_dashed_word_byte (b ∷ rest) + 1 ≡ n → ReadsName (b ∷ rest) bytes n
 sound_name_at b rest bytes n e f same size =
     subst (λ xs. ReadsName (b ∷ rest) xs n) same
     (record {
-      rest = drop (prefix_len is_name_byte (b ∷ rest) + 1) (b ∷ rest);
-      is = split_run is_name_byte (b ∷ rest) 125 f;
+      rest = drop (prefix_len is_dashed_word_byte (b ∷ rest) + 1) (b ∷ rest);
+      is = split_run is_dashed_word_byte (b ∷ rest) 125 f;
       name = is_name_run b rest e;
-      size = sym size ∙ ap (λ k. k + 1) (sym (length_run is_name_byte (b ∷ rest)));
+      size = sym size ∙ ap (λ k. k + 1) (sym (length_run is_dashed_word_byte (b ∷ rest)));
     })
 
-name_by : (b : ℕ) (rest : List ℕ) → name (b ∷ rest) ≡ (if begins_word b && has_at (b ∷ rest) (prefix_len is_name_byte (b ∷ rest)) 125 then Some (take (prefix_len is_name_byte (b ∷ rest)) (b ∷ rest), prefix_len is_name_byte (b ∷ rest) + 1) else None)
+name_by : (b : ℕ) (rest : List ℕ) → name (b ∷ rest) ≡ (if begins_word b && has_at (b ∷ rest) (prefix_len is_dashed_word_byte (b ∷ rest)) 125 then Some (take (prefix_len is_dashed_word_byte (b ∷ rest)) (b ∷ rest), prefix_len is_dashed_word_byte (b ∷ rest) + 1) else None)
 unfolding name
 name_by b rest = refl
 
 pub sound_name : (text bytes : List ℕ) (n : ℕ) → name text ≡ Some (bytes, n) → ReadsName text bytes n
 sound_name [] bytes n e = absurd (no_some (bytes, n) (sym name_none ∙ e))
 sound_name (b ∷ rest) bytes n e =
-    elim (chosen (begins_word b && has_at (b ∷ rest) (prefix_len is_name_byte (b ∷ rest)) 125) _ _ _ (sym (name_by b rest) ∙ e)) [
+    elim (chosen (begins_word b && has_at (b ∷ rest) (prefix_len is_dashed_word_byte (b ∷ rest)) 125) _ _ _ (sym (name_by b rest) ∙ e)) [
       | inl there ↦
-          let both = and_true (begins_word b) (has_at (b ∷ rest) (prefix_len is_name_byte (b ∷ rest)) 125) there.0 in
-          let same = unsome (take (prefix_len is_name_byte (b ∷ rest)) (b ∷ rest), prefix_len is_name_byte (b ∷ rest) + 1) (bytes, n) there.1 in
+          let both = and_true (begins_word b) (has_at (b ∷ rest) (prefix_len is_dashed_word_byte (b ∷ rest)) 125) there.0 in
+          let same = unsome (take (prefix_len is_dashed_word_byte (b ∷ rest)) (b ∷ rest), prefix_len is_dashed_word_byte (b ∷ rest) + 1) (bytes, n) there.1 in
           sound_name_at b rest bytes n both.0 both.1 (ap (λ (r : List ℕ × ℕ). r.0) same) (ap (λ (r : List ℕ × ℕ). r.1) same)
       | inr missing ↦ absurd (no_some (bytes, n) missing.1)
     ]

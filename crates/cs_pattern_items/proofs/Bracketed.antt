@@ -8,7 +8,7 @@ use Rattle.std.proofs.lemmas.List.Sums.{prefix_len-le-length}
 use Rattle.cs_bytes.proofs.Fronts.{front_got, and_true}
 use Rattle.cs_bytes.proofs.Runs.{run-passes}
 use Rattle.cs_bytes.specs.Places.{has_at}
-use Rattle.cs_pattern_items.specs.ByteKind.{is_inner}
+use Rattle.cs_bytes.specs.Classes.{is_inner}
 use Rattle.cs_pattern_items.specs.Character.{escape}
 use Rattle.cs_pattern_items.specs.Steps.{steps}
 use Rattle.cs_pattern_items.specs.Marks.{Mark, plain, escaped, class, collating, part_of, named_part, or_itself, escape_mark, mark, marks}

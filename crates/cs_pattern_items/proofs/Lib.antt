@@ -3,7 +3,6 @@ pub mod Bit
 pub mod Numbers
 pub mod Walking
 pub mod Moving
-pub mod Ends
 pub mod Membership
 pub mod Intervals
 pub mod Spelled

@@ -3,9 +3,8 @@ use Rattle.std.proofs.Common.{◌≡◌, ℕ, suc, ◌+◌, ◌≤◌, ◌<◌, 
 use Rattle.std.specs.Prelude.{Option, Some, None, ◌==◌, ◌||◌, ◌&&◌, nat_lt, IsTrue, IsSomeAnd, slice_get, ◌-◌}
 use Rattle.std.specs.List.{prefix_len}
 use Rattle.std.proofs.lemmas.List.Sums.{prefix_len-le-length}
-use Rattle.cs_bytes.specs.Classes.{is_octal_digit, is_hexadecimal_digit}
+use Rattle.cs_bytes.specs.Classes.{is_octal_digit, is_hexadecimal_digit, is_inner}
 use Rattle.cs_bytes.specs.Places.{has_at}
-use Rattle.cs_pattern_items.specs.ByteKind.{is_inner}
 use Rattle.cs_pattern_items.specs.Character.{octal, hexadecimal, escape, letter, byte_of}
 use Rattle.cs_bytes.specs.Digits.{number_of}
 use Rattle.cs_pattern_items.specs.Quoted as quotes

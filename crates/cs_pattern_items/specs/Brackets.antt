@@ -3,7 +3,7 @@ use Rattle.std.specs.Prelude.{◌≡◌, ◌≢◌, ◌⊎◌, ◌↔◌, ℕ, �
 use Rattle.std.specs.List.{list_all, AllByRecursion}
 use Rattle.cs_bytes.specs.Names.{newline, backslash, dash, caret, full_stop, colon_sign, equals_sign, opening_bracket, closing_bracket}
 use Rattle.cs_pattern_items.specs.declared.bracket.Class.{Class}
-use Rattle.cs_pattern_items.specs.ByteKind.{is_inner}
+use Rattle.cs_bytes.specs.Classes.{is_inner}
 use Rattle.cs_pattern_items.specs.Members.{IsByteSet, has}
 use Rattle.cs_pattern_items.specs.Marks.{Mark, plain, escaped, class, collating}
 use Rattle.cs_pattern_items.specs.Bracket.{Member, one, range, class_of, is_in_class}

@@ -3,9 +3,8 @@ use Rattle.std.specs.Prelude.{ℕ, ◌+◌, ◌==◌, nat_le, ◌&&◌, if◌the
 use Rattle.std.specs.List.{prefix_len}
 use Rattle.cs_pattern_items.specs.declared.item.Repetition.{Repetition}
 use Rattle.cs_pattern_items.specs.declared.item.Repetition.TheVariants.{Exactly, AtLeast, Between}
-use Rattle.cs_bytes.specs.Classes.{is_digit, begins_word}
+use Rattle.cs_bytes.specs.Classes.{is_digit, begins_word, is_dashed_word_byte}
 use Rattle.cs_bytes.specs.Places.{has_at}
-use Rattle.cs_pattern_items.specs.ByteKind.{is_name_byte}
 use Rattle.cs_bytes.specs.Digits.{number_of}
 
 -- the numbers of an interval are at most 1,000, the first is at most the second, and the last is at least 1, but for `{0,}`
@@ -47,8 +46,8 @@ interval text =
 unfoldable pub name : List ℕ → Option (List ℕ × ℕ)
 name [] = None
 name (b ∷ rest) =
-    if begins_word b && has_at (b ∷ rest) (prefix_len is_name_byte (b ∷ rest)) 125
-    then Some (take (prefix_len is_name_byte (b ∷ rest)) (b ∷ rest), prefix_len is_name_byte (b ∷ rest) + 1) else None
+    if begins_word b && has_at (b ∷ rest) (prefix_len is_dashed_word_byte (b ∷ rest)) 125
+    then Some (take (prefix_len is_dashed_word_byte (b ∷ rest)) (b ∷ rest), prefix_len is_dashed_word_byte (b ∷ rest) + 1) else None
 
 -- what was found ends within so many bytes, with those before it
 abbrev pub EndsWithin : ℕ → ℕ → Option (Repetition × ℕ) → Type 0

@@ -1,8 +1,8 @@
 -- What stands inside a bracket, one mark after another (POSIX, bracket expressions).
-use Rattle.std.specs.Prelude.{◌≡◌, ℕ, ◌+◌, ◌≤◌, ◌-◌, ◌==◌, ◌&&◌, ◌||◌, nat_lt, if◌then◌else◌, List, [], ◌∷◌, Option, Some, None, take, drop}
+use Rattle.std.specs.Prelude.{ℕ, ◌+◌, ◌-◌, ◌==◌, ◌&&◌, ◌||◌, nat_lt, if◌then◌else◌, List, [], ◌∷◌, Option, Some, None, take, drop}
 use Rattle.std.specs.List.{prefix_len}
+use Rattle.cs_bytes.specs.Classes.{is_inner}
 use Rattle.cs_bytes.specs.Places.{has_at}
-use Rattle.cs_pattern_items.specs.ByteKind.{is_inner}
 use Rattle.cs_pattern_items.specs.Character.{escape}
 use Rattle.cs_pattern_items.specs.Steps.{steps}
 
@@ -47,13 +47,3 @@ mark (b ∷ rest) =
 -- the marks up to the closing `]` and their size without it; a `]` that is the first stands for itself
 unfoldable pub marks : List ℕ → List Mark × ℕ
 marks text = if has_at text 0 93 then (plain 93 ∷ (steps mark (drop 1 text)).0, 1 + (steps mark (drop 1 text)).1) else steps mark text
-
--- the offset of the first `]` or newline at or behind the other offset
-abbrev pub end_from : List ℕ → ℕ → ℕ
-end_from text from = from + prefix_len is_inner (drop from text)
-
--- the offset is that of the first `]` or newline at or behind some offset that isn't behind this one
-pub record IsEnd (text : List ℕ) (from known : ℕ) : Type 0 where
-  pub start : ℕ
-  pub before : start ≤ from
-  pub is : known ≡ end_from text start

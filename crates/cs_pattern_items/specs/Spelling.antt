@@ -2,14 +2,13 @@
 use Rattle.std.specs.Prelude.{◌≡◌, ◌≢◌, ◌⊎◌, ℕ, ◌+◌, ◌<◌, ◌≤◌, ◌==◌, not, true, List, [], ◌∷◌, ◌++◌, length, Some, slice_get, codes}
 use Rattle.std.specs.List.{list_all}
 use Rattle.cs_bytes.specs.Names.{newline, double_quote, backslash, opening_brace, closing_brace, comma_sign, caret, dollar, slash}
-use Rattle.cs_bytes.specs.Classes.{is_digit}
+use Rattle.cs_bytes.specs.Classes.{is_digit, begins_word, is_dashed_word_byte}
 use Rattle.cs_bytes.specs.Digits.{number_of}
 use Rattle.cs_pattern_items.specs.declared.item.Repetition.{Repetition}
 use Rattle.cs_pattern_items.specs.declared.item.Repetition.TheVariants.{Optional, Exactly, AtLeast, Between}
 use Rattle.cs_pattern_items.specs.declared.front.Stop.{Stop}
 use Rattle.cs_pattern_items.specs.declared.front.Stop.TheVariants.{Anchor, Trailing, Collation, Syntax}
-use Rattle.cs_bytes.specs.Classes.{begins_word}
-use Rattle.cs_pattern_items.specs.ByteKind.{is_plain, is_name_byte}
+use Rattle.cs_pattern_items.specs.ByteKind.{is_plain}
 use Rattle.cs_pattern_items.specs.Members.{bytes_where}
 use Rattle.cs_pattern_items.specs.Parts.{Shows, Escapes, InTurn, BeginsWith}
 use Rattle.cs_pattern_items.specs.Brackets.{IsBracket, BeginsCollation}
@@ -45,7 +44,7 @@ pub data IsInterval : List ℕ → Repetition → Type 0 where
 
 abbrev pub IsName : List ℕ → Type 0
 IsName [] = ⊥
-IsName (b ∷ rest) = (begins_word b ≡ true) × (list_all is_name_byte rest ≡ true)
+IsName (b ∷ rest) = (begins_word b ≡ true) × (list_all is_dashed_word_byte rest ≡ true)
 
 -- ---- items
 

@@ -2,14 +2,18 @@
 
 ghost use Rattle.std.specs.Prelude.{◌≡◌, ◌<◌, ◌≤◌, ◌+◌, length, drop, IfSome, IfOk, OnOk};
 ghost use Rattle.std.specs.List.{prefix_len};
-ghost use Rattle.cs_pattern_items.specs.ByteKind.{is_inner};
+ghost use Rattle.cs_bytes.specs.Classes.{is_inner};
+ghost use Rattle.cs_bytes.specs.Places as places;
 ghost use Rattle.cs_pattern_items.specs.Marks as spec;
 ghost use Rattle.cs_pattern_items.specs.Steps.{steps};
 ghost use Rattle.cs_pattern_items.specs.Views.{sized_mark, marks_of, AddsMarks};
 
 use crate::character::escape;
-use cs_bytes::{ByteClass, from_offset, has_at, run_len};
+use cs_bytes::{ByteClass, from_offset, has_at, run_end, run_len};
 use std::alloc::{AllocError, Global};
+
+/// What may stand in a named part.
+const INNER: ByteClass = ByteClass::Neither(b']', b'\n');
 
 /// What stands inside a bracket.
 #[derive(Clone, Copy, Debug)]
@@ -69,36 +73,15 @@ fn mark_of(text: &[u8], inner: usize) -> Option<(Mark<'_>, usize)>
     }
 }
 
-/// How many bytes stand before the first `]` or newline.
-fn inner_len(text: &[u8]) -> usize
-    ensures len { result ≡ prefix_len is_inner text.now }
-    ensures within { result ≤ length text.now }
-{
-    run_len(text, ByteClass::Neither(b']', b'\n'))
-}
-
-/// The offset of the first `]` or newline at or behind the offset, or the text's length, where the known one is the first
-/// behind an earlier offset: so each byte is looked at once.
-fn next_end(text: &[u8], from: usize, known: usize) -> usize
-    requires { spec.IsEnd text.now from known }
-    ensures { result ≡ spec.end_from text.now from }
-{
-    if from <= known {
-        known
-    } else {
-        from + inner_len(from_offset(text, from.min(text.len())))
-    }
-}
-
 /// The mark at the offset, and its size. The end of what may stand in a named part moves on with the offset.
 fn mark_at<'a>(text: &'a [u8], at: usize, end: &mut usize) -> Option<(Mark<'a>, usize)>
     requires within { at ≤ length text.now }
-    requires end { spec.IsEnd text.now (at + 2) end.old }
+    requires end { places.EndsRun is_inner text.now (at + 2) end.old }
     ensures value { sized_mark result ≡ spec.mark (drop at text.now) }
     ensures size { IfSome result (λ r. (0 < r.1) × (at + r.1 ≤ length text.now)) }
-    ensures end { end.new ≡ spec.end_from text.now (at + 2) }
+    ensures end { end.new ≡ places.run_end is_inner text.now (at + 2) }
 {
-    *end = next_end(text, at + 2, *end);
+    *end = run_end(text, INNER, at + 2, *end);
     mark_of(from_offset(text, at), *end - (at + 2))
 }
 
@@ -109,7 +92,7 @@ fn push_marks<'a>(marks: &mut Vec<Mark<'a>>, text: &'a [u8]) -> Result<usize, Al
     ensures within { IfOk result (λ n. n ≤ length text.now) }
 {
     let mut at = 0;
-    let mut end = inner_len(text);
+    let mut end = run_len(text, INNER);
     while let Some((mark, size)) = mark_at(text, at, &mut end) {
         marks.push(mark)?;
         at += size;

@@ -1,5 +1,6 @@
 use Rattle.std.proofs.Common.{◌≡◌, ◌+◌, ◌-◌, ◌≤◌, length, drop}
-use Rattle.cs_lex_layout.specs.Found.{end_from}
+use Rattle.cs_bytes.specs.Classes.{is_inner}
+use Rattle.cs_bytes.specs.Places.{run_end}
 use Rattle.cs_lex_layout.specs.Patterns.{member_size}
 use Rattle.cs_lex_layout.specs.Steps.{Walk, Spans, HasSize}
 use Rattle.cs_lex_layout.proofs.bracket.members_len.Given as goal
@@ -7,7 +8,7 @@ use Rattle.cs_lex_layout.proofs.bracket.members_len.Given as goal
 abbrev pub invariant-loop-size : goal.invariant-loop-size
 invariant-loop-size l = record {
   units : Walk (Spans (HasSize member_size) l.text) 0 l.at;
-  end : l.end ≡ end_from l.text (l.at + 2);
+  end : l.end ≡ run_end is_inner l.text (l.at + 2);
   is : l.size ≡ member_size (drop l.at l.text);
   within : l.at + l.size ≤ length l.text;
 }

@@ -1,8 +1,9 @@
 use Rattle.std.proofs.Common.{ℕ, List, ◌+◌, ◌++◌, ◌∷◌, [], ◌∙◌, ap, arith, refl, sym, append_assoc}
 use Rattle.std.proofs.lemmas.List.{map_push}
+use Rattle.cs_bytes.specs.Classes.{is_inner}
+use Rattle.cs_bytes.proofs.RunEnds.{end_behind}
 use Rattle.cs_pattern_items.specs.Marks.{Mark, mark}
 use Rattle.cs_pattern_items.specs.Views.{mark_of, marks_of}
-use Rattle.cs_pattern_items.proofs.Ends.{end_behind}
 use Rattle.cs_pattern_items.proofs.Walking.{walks_more, walks_all}
 use Rattle.cs_pattern_items.proofs.Moving.{mark_moves}
 use Rattle.cs_pattern_items.proofs.mark.push_marks.Goals as goal
@@ -13,7 +14,7 @@ loop-mark-preserved c =
       so_far.0 ++ mark_of c.in-Some.mark ∷ [],
       ap marks_of c.in_ok-push.ensures.items ∙ map_push mark_of _ _ ∙ ap (λ xs. xs ++ mark_of c.in-Some.mark ∷ []) so_far.1 ∙ append_assoc _ so_far.0 (mark_of c.in-Some.mark ∷ []),
       walks_more mark mark_moves _ _ c.loop-mark.at (mark_of c.in-Some.mark) c.in-Some.size _ refl (sym c.in-Some.ensures.value) so_far.2,
-      end_behind c.args.text.now (c.loop-mark.at + 2) (c.loop-mark.at + c.in-Some.size + 2) c.mark_at.new.end c.mark_at.ensures.end (omega arith),
+      end_behind is_inner c.args.text.now (c.loop-mark.at + 2) (c.loop-mark.at + c.in-Some.size + 2) c.mark_at.new.end c.mark_at.ensures.end (omega arith),
     )
 
 pub returns-clause-list : goal.returns-clause-list

@@ -1,5 +1,7 @@
 use Rattle.std.proofs.Common.{◌≡◌, ◌++◌, List, length, ◌-◌, ◌+◌}
-use Rattle.cs_pattern_items.specs.Marks.{Mark, mark, IsEnd}
+use Rattle.cs_bytes.specs.Classes.{is_inner}
+use Rattle.cs_bytes.specs.Places.{EndsRun}
+use Rattle.cs_pattern_items.specs.Marks.{Mark, mark}
 use Rattle.cs_pattern_items.specs.Views.{marks_of}
 use Rattle.cs_pattern_items.proofs.Walking.{Walks}
 use Rattle.cs_pattern_items.proofs.Moving.{mark_moves}
@@ -7,7 +9,7 @@ use Rattle.cs_pattern_items.proofs.mark.push_marks.Given as goal
 
 abbrev pub invariant-loop-mark : goal.invariant-loop-mark
 invariant-loop-mark l =
-    (xs : List Mark) × (marks_of l.marks.items ≡ marks_of l.initial.marks.items ++ xs) × Walks mark mark_moves l.text xs l.at × IsEnd l.text (l.at + 2) l.end
+    (xs : List Mark) × (marks_of l.marks.items ≡ marks_of l.initial.marks.items ++ xs) × Walks mark mark_moves l.text xs l.at × EndsRun is_inner l.text (l.at + 2) l.end
 
 abbrev pub decreases-loop-mark : goal.decreases-loop-mark
 decreases-loop-mark l = length l.text - l.at
