@@ -12,7 +12,7 @@ use Rattle.cs_bytes.specs.Classes.{is_inner}
 use Rattle.cs_pattern_items.specs.Character.{escape}
 use Rattle.cs_pattern_items.specs.Steps.{steps}
 use Rattle.cs_pattern_items.specs.Marks.{Mark, plain, escaped, class, collating, part_of, named_part, or_itself, escape_mark, mark, marks}
-use Rattle.cs_pattern_items.specs.Parts.{Shows, InTurn, BeginsWith}
+use Rattle.cs_pattern_items.specs.Parts.{Shows, InTurn, BeginsWithByte}
 use Rattle.cs_pattern_items.specs.Brackets.{part, IsPart, IsMark, AreMarks, IsClosed}
 use Rattle.cs_pattern_items.specs.Bracket.{nothing, closed, bracket_in, bracket}
 use Rattle.cs_pattern_items.proofs.Picked.{not_equal}
@@ -208,7 +208,7 @@ sound_or_itself rest n m (Some (x, k)) e f =
     let g = unsome (x, k + 1) (m, n) f in
     subst (λ (y : Mark). IsMark (91 ∷ rest) n y) (ap (λ (r : Mark × ℕ). r.0) g) (subst (λ j. IsMark (91 ∷ rest) j x) (ap (λ (r : Mark × ℕ). r.1) g) (IsMark.named (91 ∷ rest) (k + 1) x (sound_part rest x k e)))
 
-begins_bracket : (text : List ℕ) (n : ℕ) (m : Mark) → IsPart text n m → BeginsWith text 91
+begins_bracket : (text : List ℕ) (n : ℕ) (m : Mark) → IsPart text n m → BeginsWithByte text 91
 begins_bracket text n m h = let r = complete_part text n m h in ap (λ (xs : List ℕ). slice_get xs 0) r.is
 
 sound_mark : (text : List ℕ) (n : ℕ) (m : Mark) → mark text ≡ Some (m, n) → IsMark text n m
@@ -251,14 +251,14 @@ marks_others : (text : List ℕ) → has_at text 0 93 ≡ false → marks text �
 unfolding marks
 marks_others text e = rw e refl
 
-no_begin : (text : List ℕ) (b : ℕ) → (BeginsWith text b → ⊥) → has_at text 0 b ≡ false
+no_begin : (text : List ℕ) (b : ℕ) → (BeginsWithByte text b → ⊥) → has_at text 0 b ≡ false
 no_begin text b never = by_test (has_at text 0 b) refl
   where
     by_test : (v : Bool) → has_at text 0 b ≡ v → v ≡ false
     by_test true e = absurd (never (got_at text 0 b e))
     by_test false e = refl
 
-no_begins : (text : List ℕ) (b : ℕ) → has_at text 0 b ≡ false → BeginsWith text b → ⊥
+no_begins : (text : List ℕ) (b : ℕ) → has_at text 0 b ≡ false → BeginsWithByte text b → ⊥
 no_begins text b e h = false≢true (sym e ∙ has_at-got text 0 b h)
 
 complete_marks : (text : List ℕ) (n : ℕ) (ms : List Mark) → AreMarks text n ms → slice_get text n ≡ Some 93 → marks text ≡ (ms, n)

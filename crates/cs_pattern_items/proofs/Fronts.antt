@@ -16,7 +16,7 @@ use Rattle.cs_pattern_items.specs.Bracket.{Bracket, set, collation, nothing, set
 use Rattle.cs_pattern_items.specs.Brackets.{IsBracket, BeginsCollation}
 use Rattle.cs_pattern_items.specs.Interval.{interval, name}
 use Rattle.cs_pattern_items.specs.Items.{Item, class, quoted, named, opening, closing, bar, repetition}
-use Rattle.cs_pattern_items.specs.Parts.{Shows, BeginsWith}
+use Rattle.cs_pattern_items.specs.Parts.{Shows, BeginsWithByte}
 use Rattle.cs_pattern_items.specs.Spelling.{Spells, SpellsClass, SpellsRepetition, IsQuoted, braced, BeginsNothing, IsStoppedBy}
 use Rattle.cs_pattern_items.specs.Front.{Front, item, stop, one_byte, any_byte, escape_front, quoted_front, bracket_front, name_front, brace_front, sign_front, front}
 use Rattle.cs_pattern_items.specs.declared.front.Front as code_fronts
@@ -163,8 +163,8 @@ complete text n (repetition r) h = complete_repetition text n r h
 -- what the front tells is so; of Syntax nothing is told yet
 abbrev FrontIs : List ℕ → Front → Type 0
 FrontIs text (item i n) = Spells text n i
-FrontIs text (stop Anchor) = BeginsWith text 94 ⊎ BeginsWith text 36
-FrontIs text (stop Trailing) = BeginsWith text 47
+FrontIs text (stop Anchor) = BeginsWithByte text 94 ⊎ BeginsWithByte text 36
+FrontIs text (stop Trailing) = BeginsWithByte text 47
 FrontIs text (stop Collation) = BeginsCollation text
 FrontIs text (stop Syntax) = Unit {0}
 
@@ -175,13 +175,13 @@ choose P false x y p q = q refl
 shows_one : (b c : ℕ) (rest : List ℕ) → (b == c) ≡ true → Shows (b ∷ rest) (c ∷ []) 1
 shows_one b c rest e = record { rest = rest; is = ap (λ d. d ∷ rest) (eqb-true b c e); size = refl }
 
-begins_one : (b c : ℕ) (rest : List ℕ) → (b == c) ≡ true → BeginsWith (b ∷ rest) c
+begins_one : (b c : ℕ) (rest : List ℕ) → (b == c) ≡ true → BeginsWithByte (b ∷ rest) c
 begins_one b c rest e = ap Some (eqb-true b c e)
 
-anchor_is : (b : ℕ) (rest : List ℕ) → ((b == 94) || (b == 36)) ≡ true → BeginsWith (b ∷ rest) 94 ⊎ BeginsWith (b ∷ rest) 36
+anchor_is : (b : ℕ) (rest : List ℕ) → ((b == 94) || (b == 36)) ≡ true → BeginsWithByte (b ∷ rest) 94 ⊎ BeginsWithByte (b ∷ rest) 36
 anchor_is b rest e = by_test (b == 94) refl e
   where
-    by_test : (v : Bool) → (b == 94) ≡ v → (v || (b == 36)) ≡ true → BeginsWith (b ∷ rest) 94 ⊎ BeginsWith (b ∷ rest) 36
+    by_test : (v : Bool) → (b == 94) ≡ v → (v || (b == 36)) ≡ true → BeginsWithByte (b ∷ rest) 94 ⊎ BeginsWithByte (b ∷ rest) 36
     by_test true f g = inl (begins_one b 94 rest f)
     by_test false f g = inr (begins_one b 36 rest g)
 
@@ -325,7 +325,7 @@ front_slash : (rest : List ℕ) → front (47 ∷ rest) ≡ stop Trailing
 unfolding front sign_front
 front_slash rest = refl
 
-begun : (text : List ℕ) (b : ℕ) (s : Stop) → ((rest : List ℕ) → front (b ∷ rest) ≡ stop s) → BeginsWith text b → front text ≡ stop s
+begun : (text : List ℕ) (b : ℕ) (s : Stop) → ((rest : List ℕ) → front (b ∷ rest) ≡ stop s) → BeginsWithByte text b → front text ≡ stop s
 begun text b s h e = ap front (front_got text 0 b e) ∙ h (drop 1 text)
 
 collation_front : (text : List ℕ) → BeginsCollation text → front text ≡ stop Collation

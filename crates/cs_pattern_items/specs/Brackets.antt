@@ -7,7 +7,7 @@ use Rattle.cs_bytes.specs.Classes.{is_inner}
 use Rattle.cs_pattern_items.specs.Members.{IsByteSet, has}
 use Rattle.cs_pattern_items.specs.Marks.{Mark, plain, escaped, class, collating}
 use Rattle.cs_pattern_items.specs.Bracket.{Member, one, range, class_of, is_in_class}
-use Rattle.cs_pattern_items.specs.Parts.{Shows, Escapes, InTurn, BeginsWith}
+use Rattle.cs_pattern_items.specs.Parts.{Shows, Escapes, InTurn, BeginsWithByte}
 
 -- ---- the marks of a bracket
 
@@ -30,11 +30,11 @@ pub data IsMark : List ℕ → ℕ → Mark → Type 0 where
 -- the marks behind a `[` or `[^`, where a `]` that stands first stands for itself
 pub data AreMarks : List ℕ → ℕ → List Mark → Type 0 where
   closing_first : (text : List ℕ) (n : ℕ) (ms : List Mark) → InTurn IsMark text n ms → AreMarks (closing_bracket ∷ text) (n + 1) (plain closing_bracket ∷ ms)
-  others : (text : List ℕ) (n : ℕ) (ms : List Mark) → (BeginsWith text closing_bracket → ⊥) → InTurn IsMark text n ms → AreMarks text n ms
+  others : (text : List ℕ) (n : ℕ) (ms : List Mark) → (BeginsWithByte text closing_bracket → ⊥) → InTurn IsMark text n ms → AreMarks text n ms
 
 -- The first n bytes of the text are a closed bracket with these marks. The test says whether a `^` stands first.
 pub data IsClosed : List ℕ → ℕ → Bool → List Mark → Type 0 where
-  upright : (text : List ℕ) (n : ℕ) (ms : List Mark) → (BeginsWith text caret → ⊥) → AreMarks text n ms → slice_get text n ≡ Some closing_bracket → IsClosed (opening_bracket ∷ text) (n + 2) false ms
+  upright : (text : List ℕ) (n : ℕ) (ms : List Mark) → (BeginsWithByte text caret → ⊥) → AreMarks text n ms → slice_get text n ≡ Some closing_bracket → IsClosed (opening_bracket ∷ text) (n + 2) false ms
   inverted : (text : List ℕ) (n : ℕ) (ms : List Mark) → AreMarks text n ms → slice_get text n ≡ Some closing_bracket → IsClosed (opening_bracket ∷ caret ∷ text) (n + 3) true ms
 
 -- ---- its members

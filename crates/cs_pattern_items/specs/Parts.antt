@@ -7,8 +7,8 @@ use Rattle.cs_bytes.specs.Digits.{number_of}
 use Rattle.cs_pattern_items.specs.Character.{byte_of, letter}
 
 -- the byte is the first of the text
-abbrev pub BeginsWith : List ℕ → ℕ → Type 0
-BeginsWith text b = slice_get text 0 ≡ Some b
+abbrev pub BeginsWithByte : List ℕ → ℕ → Type 0
+BeginsWithByte text b = slice_get text 0 ≡ Some b
 
 -- the text begins with these n bytes
 pub record Shows (text bytes : List ℕ) (n : ℕ) : Type 0 where

@@ -10,7 +10,7 @@ use Rattle.cs_pattern_items.specs.declared.front.Stop.{Stop}
 use Rattle.cs_pattern_items.specs.declared.front.Stop.TheVariants.{Anchor, Trailing, Collation, Syntax}
 use Rattle.cs_pattern_items.specs.ByteKind.{is_plain}
 use Rattle.cs_pattern_items.specs.Members.{bytes_where}
-use Rattle.cs_pattern_items.specs.Parts.{Shows, Escapes, InTurn, BeginsWith}
+use Rattle.cs_pattern_items.specs.Parts.{Shows, Escapes, InTurn, BeginsWithByte}
 use Rattle.cs_pattern_items.specs.Brackets.{IsBracket, BeginsCollation}
 use Rattle.cs_pattern_items.specs.Items.{Item, class, quoted, named, opening, closing, bar, repetition}
 
@@ -83,14 +83,14 @@ Spells text n (repetition r) = SpellsRepetition text n r
 -- the text spells no item in front, and begins with nothing that has a fault of its own
 pub record BeginsNothing (text : List ℕ) : Type 0 where
   pub no_item : (n : ℕ) (i : Item) → Spells text n i → ⊥
-  pub no_caret : BeginsWith text caret → ⊥
-  pub no_dollar : BeginsWith text dollar → ⊥
-  pub no_slash : BeginsWith text slash → ⊥
+  pub no_caret : BeginsWithByte text caret → ⊥
+  pub no_dollar : BeginsWithByte text dollar → ⊥
+  pub no_slash : BeginsWithByte text slash → ⊥
   pub no_collation : BeginsCollation text → ⊥
 
 -- why the text spells no item in front
 abbrev pub IsStoppedBy : List ℕ → Stop → Type 0
-IsStoppedBy text Anchor = BeginsWith text caret ⊎ BeginsWith text dollar
-IsStoppedBy text Trailing = BeginsWith text slash
+IsStoppedBy text Anchor = BeginsWithByte text caret ⊎ BeginsWithByte text dollar
+IsStoppedBy text Trailing = BeginsWithByte text slash
 IsStoppedBy text Collation = BeginsCollation text
 IsStoppedBy text Syntax = BeginsNothing text
