@@ -7,8 +7,8 @@
 //! Meaning: `specs/Table.antt` (which item may stand where, and where reading stops), `specs/Substitution.antt` (definitions put
 //! in for names), `specs/Names.antt`, `specs/Uses.antt` (which definitions use which), `specs/Limits.antt`, `specs/Answers.antt`
 //! (what reading a pattern answers), `specs/Checking.antt` (what checking definitions answers), `specs/Classes.antt`,
-//! `specs/Laws.antt`. Working
-//! words of proofs: `specs/ReadView.antt`, `specs/Checked.antt`, `specs/Stages.antt`, `specs/Needed.antt`.
+//! `specs/Laws.antt`. Working words of proofs: `specs/ReadView.antt`, `specs/UseView.antt`, `specs/Checked.antt`,
+//! `specs/Stages.antt`, `specs/Needed.antt`.
 #![tactic(auto)]
 
 mod checking;

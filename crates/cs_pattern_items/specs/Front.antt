@@ -1,4 +1,4 @@
--- The item at the front of a text, by its longest spelling.
+-- The item at the front of a text, or why there is none, by what the text begins with.
 use Rattle.std.specs.Prelude.{ℕ, ◌+◌, ◌==◌, ◌||◌, not, if◌then◌else◌, List, [], ◌∷◌, Option, Some, None}
 use Rattle.cs_pattern_items.specs.declared.item.Repetition.{Repetition}
 use Rattle.cs_pattern_items.specs.declared.item.Repetition.TheVariants.{Optional, AtLeast}
