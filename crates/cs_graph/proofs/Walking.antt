@@ -9,9 +9,10 @@ use Rattle.std.proofs.lemmas.List.Elements.{All-nil, All-push, All-pop, All-weak
 use Rattle.std.proofs.lemmas.List.Sums.{sum_by-append}
 use Rattle.std.proofs.lemmas.Option.{slice_get_within}
 use Rattle.cs_graph.specs.declared.ordering.Open.{Open}
+use Rattle.cs_graph.specs.declared.ordering.Walk.{Walk}
 use Rattle.cs_graph.specs.Graph.{Edge, Path, edge, IsOrder, HasCycle}
 use Rattle.cs_graph.specs.Marks.{IsMarked}
-use Rattle.cs_graph.specs.Walk.{nodes, IsTrail, IsLookedAt, IsWalk, unopened, work}
+use Rattle.cs_graph.specs.Walk.{nodes, IsTrail, IsLookedAt, IsWalk, IsWalkWith, unopened, work}
 use Rattle.cs_graph.proofs.Counting.{marked_there, marked_still, marked_before, unmarked_not}
 use Rattle.cs_graph.proofs.Single.{contained_alone, contains_none}
 use Rattle.cs_graph.proofs.Edges.{path_then_edge, edge_to}
@@ -75,15 +76,54 @@ module _ (graph : List (Vec ℕ)) where
       let at = contained_at l.successors.items to (edge_to graph o.node l.successors to l.is e) in
       subst (IsMarked r) at.2 (l.done at.0 (omega (arith, z)) at.1)
 
-  pub node_within : (r : List Bool) (o : Open) → IsLookedAt graph r o → o.node < length graph
-  node_within r o l = slice_get_within graph o.node l.successors l.is
+  -- ---- the beginning and the end
 
-  module _ (ready seen : List Bool) (path : List Open) (order : List ℕ) (last : Open) (w : IsWalk graph ready seen (path ++ last ∷ []) order) where
+  pub begins : (ready seen : List Bool) (order : List ℕ) (root : Open) (row : Vec ℕ) → IsWalk graph ready seen [] order → slice_get graph root.node ≡ Some row → root.left ≡ length row.items → IsWalk graph ready (set seen root.node true) (root ∷ []) order
+  begins ready seen order root row w is all = record {
+    partial = w.partial;
+    size = length-set seen root.node true ∙ w.size;
+    opened = λ i h. elim (marked_before seen root.node i h) [
+      | inl before ↦ elim (w.opened i before) [ inl marked ↦ inl marked | inr there ↦ absurd (contains_none i there) ]
+      | inr here ↦ inr (subst (Contains (root.node ∷ [])) (sym here) (Contains-push [] root.node))
+    ];
+    trail = trail_one root.node;
+    looked = All-push (IsLookedAt graph ready) [] root (All-nil (IsLookedAt graph ready)) (record {
+      successors = row;
+      is = is;
+      left = omega (arith, all);
+      done = λ k le lt. absurd (omega (arith, le, lt, all));
+    });
+  }
+
+  pub all_walked : (ready seen : List Bool) (order : List ℕ) → IsWalk graph ready seen [] order → ((i : ℕ) → i < length graph → IsMarked seen i) → IsOrder graph order
+  all_walked ready seen order w all = record {
+    all = λ i lt. elim (w.opened i (all i lt)) [ inl marked ↦ w.partial.listed i marked | inr there ↦ absurd (contains_none i there) ];
+    ordered = w.partial.ordered;
+  }
+
+  -- ---- a step
+
+  module _ (walk : Walk) (last : Open) (w : IsWalkWith graph walk last) where
+    abbrev ready : List Bool
+    ready = walk.ready.items
+
+    abbrev seen : List Bool
+    seen = walk.seen.items
+
+    abbrev path : List Open
+    path = walk.path.items
+
+    abbrev order : List ℕ
+    order = walk.order.items
+
     looked_both : All (IsLookedAt graph ready) path × IsLookedAt graph ready last
     looked_both = All-pop (IsLookedAt graph ready) (path ++ last ∷ []) path (Some last) refl w.looked
 
-    pub last_looked : IsLookedAt graph ready last
+    last_looked : IsLookedAt graph ready last
     last_looked = looked_both.1
+
+    pub last_within : last.node < length graph
+    last_within = slice_get_within graph last.node last_looked.successors last_looked.is
 
     trail_of : IsTrail graph (nodes path ++ last.node ∷ [])
     trail_of = subst (IsTrail graph) (map_push (λ (o : Open). o.node) path last) w.trail
@@ -94,7 +134,7 @@ module _ (graph : List (Vec ℕ)) where
     -- the last node goes into the order
     pub closes : last.left ≡ 0 → get_or ready last.node false ≡ false → IsWalk graph (set ready last.node true) seen path (order ++ last.node ∷ [])
     closes z e =
-        let lt = node_within ready last last_looked in
+        let lt = last_within in
         let still = λ (i : ℕ) (h : IsMarked ready i). marked_still ready last.node i h in
         record {
           partial = partial_push graph ready order last.node w.partial lt e (all_done ready last last_looked z);
@@ -126,90 +166,66 @@ module _ (graph : List (Vec ℕ)) where
       looked = looked_both.0;
     }
 
-    module _ (row : Vec ℕ) (row_is : slice_get graph last.node ≡ Some row) (to : ℕ) (some : last.left ≢ 0) (to_is : to ≡ get_or row.items (last.left - 1) 0) where
+    module _ (row : Vec ℕ) (row_is : slice_get graph last.node ≡ Some row) (some : last.left ≢ 0) where
       same_row : last_looked.successors ≡ row
       same_row = let e = last_looked.is in cc
 
       pub left_within : last.left - 1 < length row.items
       left_within = let le : last.left ≤ length row.items = subst (λ (v : Vec ℕ). last.left ≤ length v.items) same_row last_looked.left in omega (arith, le, some)
 
-      pub edge_is : Edge graph last.node to
-      edge_is = record { successors = row; is = row_is; has = (last.left - 1, left_within, any_default row.items (last.left - 1) to 0 left_within ∙ sym to_is) }
+      module _ (to : ℕ) (to_is : to ≡ get_or row.items (last.left - 1) 0) where
+        pub edge_is : Edge graph last.node to
+        edge_is = record { successors = row; is = row_is; has = (last.left - 1, left_within, any_default row.items (last.left - 1) to 0 left_within ∙ sym to_is) }
 
-      -- its successor is in the order
-      pub looks_on : (next : Open) → next.node ≡ last.node → next.left ≡ last.left - 1 → IsMarked ready to → IsWalk graph ready seen (path ++ next ∷ []) order
-      looks_on next same less e =
-          let list : nodes (path ++ next ∷ []) ≡ nodes path ++ last.node ∷ [] = map_push (λ (o : Open). o.node) path next ∙ ap (λ n. nodes path ++ n ∷ []) same in
-          record {
-            partial = w.partial;
-            size = w.size;
-            opened = λ i h. subst (λ (xs : List ℕ). IsMarked ready i ⊎ Contains xs i) (sym list) (opened_of i h);
-            trail = subst (IsTrail graph) (sym list) trail_of;
-            looked = All-push (IsLookedAt graph ready) path next looked_both.0 (record {
-              successors = row;
-              is = ap (slice_get graph) same ∙ row_is;
-              left = omega (arith, left_within, less);
-              done = λ k le lt. elim (cases_eq k (last.left - 1)) [
-                | inl here ↦ subst (IsMarked ready) (to_is ∙ ap (λ j. get_or row.items j 0) (sym here)) e
-                | inr other ↦
-                    subst (λ (v : Vec ℕ). IsMarked ready (get_or v.items k 0)) same_row
-                    (last_looked.done k (omega (arith, le, less, other)) (subst (λ (v : Vec ℕ). k < length v.items) (sym same_row) lt))
-              ];
-            });
-          }
+        -- its successor is in the order
+        pub looks_on : (next : Open) → next.node ≡ last.node → next.left ≡ last.left - 1 → IsMarked ready to → IsWalk graph ready seen (path ++ next ∷ []) order
+        looks_on next same less e =
+            let list : nodes (path ++ next ∷ []) ≡ nodes path ++ last.node ∷ [] = map_push (λ (o : Open). o.node) path next ∙ ap (λ n. nodes path ++ n ∷ []) same in
+            record {
+              partial = w.partial;
+              size = w.size;
+              opened = λ i h. subst (λ (xs : List ℕ). IsMarked ready i ⊎ Contains xs i) (sym list) (opened_of i h);
+              trail = subst (IsTrail graph) (sym list) trail_of;
+              looked = All-push (IsLookedAt graph ready) path next looked_both.0 (record {
+                successors = row;
+                is = ap (slice_get graph) same ∙ row_is;
+                left = omega (arith, left_within, less);
+                done = λ k le lt. elim (cases_eq k (last.left - 1)) [
+                  | inl here ↦ subst (IsMarked ready) (to_is ∙ ap (λ j. get_or row.items j 0) (sym here)) e
+                  | inr other ↦
+                      subst (λ (v : Vec ℕ). IsMarked ready (get_or v.items k 0)) same_row
+                      (last_looked.done k (omega (arith, le, less, other)) (subst (λ (v : Vec ℕ). k < length v.items) (sym same_row) lt))
+                ];
+              });
+            }
 
-      -- its successor is on the path
-      pub reaches_itself : IsMarked seen to → get_or ready to false ≡ false → HasCycle graph
-      reaches_itself s e = elim (opened_of to s) [
-        | inl marked ↦ absurd (unmarked_not ready to e marked)
-        | inr there ↦ (to, through (nodes path) last.node to trail_of edge_is to there)
-      ]
+        -- its successor is on the path
+        pub reaches_itself : IsMarked seen to → get_or ready to false ≡ false → HasCycle graph
+        reaches_itself s e = elim (opened_of to s) [
+          | inl marked ↦ absurd (unmarked_not ready to e marked)
+          | inr there ↦ (to, through (nodes path) last.node to trail_of edge_is to there)
+        ]
 
-      -- its successor is opened
-      pub goes_on : (child : Open) (row_then : Vec ℕ) → child.node ≡ to → slice_get graph to ≡ Some row_then → child.left ≡ length row_then.items → IsWalk graph ready (set seen to true) ((path ++ last ∷ []) ++ child ∷ []) order
-      goes_on child row_then same is all =
-          let list : nodes ((path ++ last ∷ []) ++ child ∷ []) ≡ (nodes path ++ last.node ∷ []) ++ to ∷ [] =
-          map_push (λ (o : Open). o.node) (path ++ last ∷ []) child ∙ ap (λ (xs : List ℕ). xs ++ child.node ∷ []) (map_push (λ (o : Open). o.node) path last) ∙ ap (λ n. (nodes path ++ last.node ∷ []) ++ n ∷ []) same in
-          record {
-            partial = w.partial;
-            size = length-set seen to true ∙ w.size;
-            opened = λ i h. subst (λ (xs : List ℕ). IsMarked ready i ⊎ Contains xs i) (sym list) (elim (marked_before seen to i h) [
-              | inl before ↦ elim (opened_of i before) [ inl marked ↦ inl marked | inr there ↦ inr (Contains-append_left (nodes path ++ last.node ∷ []) (to ∷ []) i there) ]
-              | inr here ↦ inr (subst (Contains ((nodes path ++ last.node ∷ []) ++ to ∷ [])) (sym here) (Contains-push (nodes path ++ last.node ∷ []) to))
-            ]);
-            trail = subst (IsTrail graph) (sym list) (trail_push (nodes path) last.node to trail_of edge_is);
-            looked = All-push (IsLookedAt graph ready) (path ++ last ∷ []) child w.looked (record {
-              successors = row_then;
-              is = ap (slice_get graph) same ∙ is;
-              left = omega (arith, all);
-              done = λ k le lt. absurd (omega (arith, le, lt, all));
-            });
-          }
-
-  -- ---- the beginning and the end
-
-  pub begins : (ready seen : List Bool) (order : List ℕ) (root : Open) (row : Vec ℕ) → IsWalk graph ready seen [] order → slice_get graph root.node ≡ Some row → root.left ≡ length row.items → IsWalk graph ready (set seen root.node true) (root ∷ []) order
-  begins ready seen order root row w is all = record {
-    partial = w.partial;
-    size = length-set seen root.node true ∙ w.size;
-    opened = λ i h. elim (marked_before seen root.node i h) [
-      | inl before ↦ elim (w.opened i before) [ inl marked ↦ inl marked | inr there ↦ absurd (contains_none i there) ]
-      | inr here ↦ inr (subst (Contains (root.node ∷ [])) (sym here) (Contains-push [] root.node))
-    ];
-    trail = trail_one root.node;
-    looked = All-push (IsLookedAt graph ready) [] root (All-nil (IsLookedAt graph ready)) (record {
-      successors = row;
-      is = is;
-      left = omega (arith, all);
-      done = λ k le lt. absurd (omega (arith, le, lt, all));
-    });
-  }
-
-  pub all_walked : (ready seen : List Bool) (order : List ℕ) → IsWalk graph ready seen [] order → ((i : ℕ) → i < length graph → IsMarked seen i) → IsOrder graph order
-  all_walked ready seen order w all = record {
-    all = λ i lt. elim (w.opened i (all i lt)) [ inl marked ↦ w.partial.listed i marked | inr there ↦ absurd (contains_none i there) ];
-    ordered = w.partial.ordered;
-  }
+        -- its successor is opened
+        pub goes_on : (child : Open) (row_then : Vec ℕ) → child.node ≡ to → slice_get graph to ≡ Some row_then → child.left ≡ length row_then.items → IsWalk graph ready (set seen to true) ((path ++ last ∷ []) ++ child ∷ []) order
+        goes_on child row_then same is all =
+            let list : nodes ((path ++ last ∷ []) ++ child ∷ []) ≡ (nodes path ++ last.node ∷ []) ++ to ∷ [] =
+            map_push (λ (o : Open). o.node) (path ++ last ∷ []) child ∙ ap (λ (xs : List ℕ). xs ++ child.node ∷ []) (map_push (λ (o : Open). o.node) path last) ∙ ap (λ n. (nodes path ++ last.node ∷ []) ++ n ∷ []) same in
+            record {
+              partial = w.partial;
+              size = length-set seen to true ∙ w.size;
+              opened = λ i h. subst (λ (xs : List ℕ). IsMarked ready i ⊎ Contains xs i) (sym list) (elim (marked_before seen to i h) [
+                | inl before ↦ elim (opened_of i before) [ inl marked ↦ inl marked | inr there ↦ inr (Contains-append_left (nodes path ++ last.node ∷ []) (to ∷ []) i there) ]
+                | inr here ↦ inr (subst (Contains ((nodes path ++ last.node ∷ []) ++ to ∷ [])) (sym here) (Contains-push (nodes path ++ last.node ∷ []) to))
+              ]);
+              trail = subst (IsTrail graph) (sym list) (trail_push (nodes path) last.node to trail_of edge_is);
+              looked = All-push (IsLookedAt graph ready) (path ++ last ∷ []) child w.looked (record {
+                successors = row_then;
+                is = ap (slice_get graph) same ∙ is;
+                left = omega (arith, all);
+                done = λ k le lt. absurd (omega (arith, le, lt, all));
+              });
+            }
 
 -- ---- what was read
 
