@@ -1,9 +1,8 @@
 -- No more sets than states, and as many sets as states.
-use Rattle.std.proofs.Common.{◌≡◌, ◌≢◌, ℕ, zero, suc, ◌+◌, ◌<◌, Bool, true, false, List, [], ◌∷◌, ◌++◌, ◌⊎◌, inl, inr, Some, None, refl, sym, ap, ◌∙◌, subst, arith, length, eqb, get_or, append_assoc, append-nil, All}
+use Rattle.std.proofs.Common.{◌≡◌, ◌≢◌, ℕ, zero, suc, ◌+◌, ◌<◌, Bool, true, false, List, [], ◌∷◌, ◌++◌, ◌⊎◌, inl, inr, Some, None, refl, sym, ap, ◌∙◌, subst, arith, length, get_or, append_assoc, append-nil, All}
 use Rattle.std.specs.Prelude.{slice_get, Option}
-use Rattle.std.specs.List.{IsDistinct, list_any, AllByRecursion}
-use Rattle.std.proofs.lemmas.Bool.{false≢true, or_cases, eqb-true, ne_eqb}
-use Rattle.std.proofs.lemmas.Map.Steps.{length-le_from_distinct_below}
+use Rattle.std.specs.List.{AllByRecursion}
+use Rattle.std.proofs.lemmas.Bool.{false≢true}
 use Rattle.std.proofs.lemmas.Option.{slice_get_within, slice_get-get_or}
 use Rattle.cs_automaton.specs.Bits.{bit}
 use Rattle.cs_automaton.specs.Counted.{HaveOneSet, IsAbove}
@@ -14,6 +13,7 @@ use Rattle.cs_automaton.specs.Reached.{Reaches}
 use Rattle.cs_automaton.specs.Rules.{SpellsRule, IsBegunSpelled}
 use Rattle.cs_automaton.specs.States.{IsReached, AreColumns, StandsFor, AreBytes, IsState, HasStates, IsStep, IsBuilt, HasSome, AreFull}
 use Rattle.cs_automaton.proofs.Full.{AllFull}
+use Rattle.cs_automaton.proofs.Numbers.{few_numbers}
 use Rattle.cs_automaton.proofs.Growing.{append_some, same_words, has_text}
 use Rattle.cs_automaton.proofs.Reached.{in_set_reaches, reaches_in_set}
 use Rattle.cs_automaton.proofs.Rules.{begun_reaches, reaches_begun}
@@ -21,25 +21,6 @@ use Rattle.cs_automaton.proofs.Rules.{begun_reaches, reaches_begun}
 pub full_all : (rs : List (Re (List ℕ))) → AreFull rs → AllFull HasSome rs
 full_all [] h = tt
 full_all (r ∷ rs) h = (h.0, full_all rs h.1)
-
--- ---- numbers that differ
-
-all_other : (x : ℕ) (xs : List ℕ) → ((k : ℕ) → slice_get xs k ≡ Some x → ⊥) → AllByRecursion (λ y. eqb x y ≡ false) xs
-all_other x [] h = tt
-all_other x (y ∷ xs) h = (ne_eqb x y (λ e. h 0 (ap Some (sym e))), all_other x xs (λ k e. h (suc k) e))
-
-distinct : (xs : List ℕ) → ((j k x : ℕ) → slice_get xs j ≡ Some x → slice_get xs k ≡ Some x → j ≡ k) → IsDistinct eqb xs
-unfolding IsDistinct
-distinct [] h = tt
-distinct (x ∷ xs) h = (all_other x xs (λ k e. let same = h 0 (suc k) x refl e in omega (arith, same)), distinct xs (λ j k y d e. let same = h (suc j) (suc k) y d e in omega (arith, same)))
-
-any_below : (xs : List ℕ) (n : ℕ) → ((k x : ℕ) → slice_get xs k ≡ Some x → x < n) → (q : ℕ) → list_any (eqb q) xs ≡ true → q < n
-any_below [] n h q e = absurd (false≢true e)
-any_below (x ∷ xs) n h q e =
-    elim (or_cases (eqb q x) (list_any (eqb q) xs) e) [
-      | inl s ↦ let same = eqb-true q x s in let lt = h 0 x refl in omega (arith, same, lt)
-      | inr t ↦ any_below xs n (λ k y f. h (suc k) y f) q t
-    ]
 
 module _ (rs : List (Re (List ℕ))) (full : AreFull rs) where
   abbrev ReachesNothing : List ℕ → Type 0
@@ -207,7 +188,7 @@ module _ (rs : List (Re (List ℕ))) (full : AreFull rs) where
     not_above h = count (number_all h.texts h.each)
       where
         count : Numbers h.texts → ⊥
-        count n = omega (arith, length-le_from_distinct_below n.numbers limit (distinct n.numbers apart) (any_below n.numbers limit (λ k j e. (n.each k j e).2.below)), n.many, h.many)
+        count n = omega (arith, few_numbers n.numbers limit apart (λ k j e. (n.each k j e).2.below), n.many, h.many)
           where
             apart : (j k i : ℕ) → slice_get n.numbers j ≡ Some i → slice_get n.numbers k ≡ Some i → j ≡ k
             apart j k i d e =

@@ -13,6 +13,7 @@ mod Walking
 mod Adding
 mod Steps
 mod Growing
+pub mod Numbers
 mod Counting
 mod Columning
 mod Stating

@@ -1,11 +1,10 @@
 -- The patterns of the generated lex file have few sets of positions: that of a text is told by a small number.
 use Rattle.std.proofs.Common.{◌≡◌, ℕ, zero, suc, ◌+◌, ◌-◌, ◌*◌, ◌<◌, ◌≤◌, Bool, true, false, cond, eqb, List, [], ◌∷◌, ◌++◌, length, map, take, refl, sym, ap, subst, ◌∙◌, inl, inr, arith, append-nil, Some}
 use Rattle.std.specs.Prelude.{Contains, slice_get, decimal}
-use Rattle.std.specs.List.{AllByRecursion, IsDistinct, list_all, list_any}
-use Rattle.std.proofs.lemmas.Bool.{false≢true, cases_lt, or_cases, eqb-true, ne_eqb}
+use Rattle.std.specs.List.{AllByRecursion, list_all}
+use Rattle.std.proofs.lemmas.Bool.{false≢true, cases_lt, eqb-true}
 use Rattle.std.proofs.lemmas.Bool.Decides.{nat_tests}
 use Rattle.std.proofs.lemmas.List.{length-map}
-use Rattle.std.proofs.lemmas.Map.Steps.{length-le_from_distinct_below}
 use Rattle.cs_bytes.specs.Classes.{is_digit}
 use Rattle.cs_bytes.proofs.Fronts.{and_true}
 use Rattle.cs_pattern_items.specs.Members.{picked}
@@ -16,8 +15,9 @@ use Rattle.cs_pattern_postfix.specs.Depth.{pattern_of}
 use Rattle.cs_pattern_tree.specs.Pattern.{Regex, Empty}
 use Rattle.cs_automaton.specs.Counted.{HaveOneSet, IsAbove}
 use Rattle.cs_automaton.specs.Meaning.{re, cat_of, res}
-use Rattle.cs_automaton.specs.Places.{Place, letters, numbered, any_of, whole, Itself, HasByte, ReadEach, InSet}
+use Rattle.cs_automaton.specs.Places.{Place, letters, with_places, any_of, whole, Itself, HasByte, ReadEach, InSet}
 use Rattle.cs_automaton.specs.Re.{Re, letter, Parts, no_parts, one_more, Spells}
+use Rattle.cs_automaton.proofs.Numbers.{few_numbers}
 use Rattle.cs_gen.proofs.TokenPatterns.{tree_of, branch_of, spacing, is_spacing, spacing_tree}
 use Rattle.cs_gen.proofs.LexAccepted.{patterns_of, AreFew}
 use Rattle.cs_gen.proofs.Digits.{decimal_passes, short_decimal}
@@ -42,7 +42,7 @@ AreClassesOf (a ∷ w) (b ∷ bs) = (a.class ≡ one_byte b) × AreClassesOf w b
 abbrev no_names : List ℕ → Regex
 no_names name = Empty
 
-letter_word : (rule from b : ℕ) (w : List Place) → Spells Itself (numbered rule from (letter (one_byte b))) w → (a : Place) × (a.class ≡ one_byte b) × (w ≡ a ∷ [])
+letter_word : (rule from b : ℕ) (w : List Place) → Spells Itself (with_places rule from (letter (one_byte b))) w → (a : Place) × (a.class ≡ one_byte b) × (w ≡ a ∷ [])
 letter_word rule from b w h = (h.0, ap (λ (p : Place). p.class) h.1, h.2)
 
 joined_end : (x y w : List Place) (a : Place) → w ≡ x ++ y → x ≡ a ∷ [] → y ≡ [] → w ≡ a ∷ []
@@ -51,7 +51,7 @@ joined_end x y w a e f g = e ∙ rw (f, g) refl
 joined_more : (x y w : List Place) (a : Place) → w ≡ x ++ y → x ≡ a ∷ [] → w ≡ a ∷ y
 joined_more x y w a e f = e ∙ rw f refl
 
-joined_word : (rule from b : ℕ) (cs : List ℕ) (w : List Place) → Spells Itself (numbered rule from (cat_of (piece_parts no_names (branch_of b cs)))) w → AreClassesOf w (b ∷ cs)
+joined_word : (rule from b : ℕ) (cs : List ℕ) (w : List Place) → Spells Itself (with_places rule from (cat_of (piece_parts no_names (branch_of b cs)))) w → AreClassesOf w (b ∷ cs)
 joined_word rule from b [] w h =
     let one = letter_word rule from b h.0 h.2 in
     let is = joined_end h.0 h.1 w one.0 h.4 one.2 h.3 in
@@ -65,7 +65,7 @@ joined_word rule from b (c ∷ cs) w h =
 abbrev token_re : ℕ → List ℕ → Re (List ℕ)
 token_re b cs = re (pattern_of (tree_of b cs))
 
-token_word : (rule from b : ℕ) (cs : List ℕ) (w : List Place) → Spells Itself (numbered rule from (token_re b cs)) w → AreClassesOf w (b ∷ cs)
+token_word : (rule from b : ℕ) (cs : List ℕ) (w : List Place) → Spells Itself (with_places rule from (token_re b cs)) w → AreClassesOf w (b ∷ cs)
 token_word rule from b [] w h =
     let one = letter_word rule from b w h in
     subst (λ (v : List Place). AreClassesOf v (b ∷ [])) (sym one.2) (one.1, tt)
@@ -100,7 +100,7 @@ parts_same p ws (one_more x y xs h more e) =
     subst (AreAll p) (sym is) (refl, parts_same p y more)
 
 -- one place, and then the next any number of times
-spacing_word : (rule from : ℕ) (w : List Place) → Spells Itself (numbered rule from spacing_re) w → (ws : List Place) × (w ≡ place_at rule from ∷ ws) × AreAll (place_at rule (from + 1)) ws
+spacing_word : (rule from : ℕ) (w : List Place) → Spells Itself (with_places rule from spacing_re) w → (ws : List Place) × (w ≡ place_at rule from ∷ ws) × AreAll (place_at rule (from + 1)) ws
 spacing_word rule from w h =
     let first : h.0 ≡ place_at rule from ∷ [] = h.2.2 ∙ ap (λ (a : Place). a ∷ []) h.2.1 in
     let many = h.3.2 in
@@ -152,14 +152,14 @@ some_read (a ∷ front) last = ap suc (some_read front last)
 digit_byte : (d : ℕ) → d < 10 → is_digit (48 + d) ≡ true
 digit_byte d lt = grind (arith, nat_tests)
 
-token_shape : (at from rule number : ℕ) (x : List ℕ) (p : ℕ) (front : List Place) (last : Place) (rest : List Place) → number ≤ 24 → Spells Itself (numbered rule from (token_re 116 (decimal number))) ((front ++ last ∷ []) ++ rest)
+token_shape : (at from rule number : ℕ) (x : List ℕ) (p : ℕ) (front : List Place) (last : Place) (rest : List Place) → number ≤ 24 → Spells Itself (with_places rule from (token_re 116 (decimal number))) ((front ++ last ∷ []) ++ rest)
     → ReadEach HasByte (front ++ last ∷ []) x → Shape at x p
 token_shape at from rule number x p front last rest le h r =
     let is = reads_front (front ++ last ∷ []) rest (116 ∷ decimal number) x (token_word rule from 116 (decimal number) ((front ++ last ∷ []) ++ rest) h) r in
     let e : x ≡ 116 ∷ take (length front) (decimal number) = is ∙ ap (λ (k : ℕ). take k (116 ∷ decimal number)) (some_read front last) in
     of_token (take (length front) (decimal number)) e (all_taken is_digit (length front) (decimal number) (decimal_passes is_digit digit_byte number (omega arith))) (omega (arith, few_taken (length front) (decimal number), short_decimal number 24 le (omega arith)))
 
-spacing_shape : (rule from : ℕ) (x : List ℕ) (p : ℕ) (front : List Place) (last : Place) (rest : List Place) → Spells Itself (numbered rule from spacing_re) ((front ++ last ∷ []) ++ rest) → ReadEach HasByte (front ++ last ∷ []) x → last.number ≡ p → Shape from x p
+spacing_shape : (rule from : ℕ) (x : List ℕ) (p : ℕ) (front : List Place) (last : Place) (rest : List Place) → Spells Itself (with_places rule from spacing_re) ((front ++ last ∷ []) ++ rest) → ReadEach HasByte (front ++ last ∷ []) x → last.number ≡ p → Shape from x p
 spacing_shape rule from x p [] last rest h r n =
     let w = spacing_word rule from (last ∷ rest) h in
     let is : last ≡ place_at rule from = heads last (place_at rule from) rest w.0 w.1 in
@@ -196,7 +196,7 @@ spacing_shape rule from (c ∷ x) p (a ∷ front) last rest h r n =
     more [] h lt e = absurd (omega arith)
     more (d ∷ y) h lt e = of_spacing c (d ∷ y) refl h e
 
--- where the classes of the last rule are numbered from
+-- where the classes of the last rule are with_places from
 abbrev last_from : ℕ → List ℕ → ℕ
 last_from from [] = from
 last_from from (number ∷ numbers) = last_from (from + letters (token_re 116 (decimal number))) numbers
@@ -244,7 +244,7 @@ record Read (rule from : ℕ) (r : Re Place) (x : List ℕ) (p : ℕ) : Type 0 w
   read : ReadEach HasByte (front ++ last ∷ []) x
   number : last.number ≡ p
 
-spacing_read : (rule from c : ℕ) (x : List ℕ) → list_all is_spacing (c ∷ x) ≡ true → Read rule from (numbered rule from spacing_re) (c ∷ x) (number_in from (c ∷ x))
+spacing_read : (rule from c : ℕ) (x : List ℕ) → list_all is_spacing (c ∷ x) ≡ true → Read rule from (with_places rule from spacing_re) (c ∷ x) (number_in from (c ∷ x))
 unfolding copies
 spacing_read rule from c [] h =
     let both = and_true (is_spacing c) true h in
@@ -347,31 +347,12 @@ spacing_small : (x : List ℕ) → spacing_code x ≤ 1
 spacing_small [] = omega arith
 spacing_small (d ∷ x) = omega arith
 
--- ---- numbers that differ
-
-all_other : (x : ℕ) (xs : List ℕ) → ((k : ℕ) → slice_get xs k ≡ Some x → ⊥) → AllByRecursion (λ y. eqb x y ≡ false) xs
-all_other x [] h = tt
-all_other x (y ∷ xs) h = (ne_eqb x y (λ e. h 0 (ap Some (sym e))), all_other x xs (λ k e. h (suc k) e))
-
-distinct : (xs : List ℕ) → ((j k x : ℕ) → slice_get xs j ≡ Some x → slice_get xs k ≡ Some x → j ≡ k) → IsDistinct eqb xs
-unfolding IsDistinct
-distinct [] h = tt
-distinct (x ∷ xs) h = (all_other x xs (λ k e. let same = h 0 (suc k) x refl e in omega (arith, same)), distinct xs (λ j k y d e. let same = h (suc j) (suc k) y d e in omega (arith, same)))
-
-any_below : (xs : List ℕ) (n : ℕ) → ((k x : ℕ) → slice_get xs k ≡ Some x → x < n) → (q : ℕ) → list_any (eqb q) xs ≡ true → q < n
-any_below [] n h q e = absurd (false≢true e)
-any_below (x ∷ xs) n h q e =
-    elim (or_cases (eqb q x) (list_any (eqb q) xs) e) [
-      | inl s ↦ let same = eqb-true q x s in let lt = h 0 x refl in omega (arith, same, lt)
-      | inr t ↦ any_below xs n (λ k y f. h (suc k) y f) q t
-    ]
+-- ---- few sets
 
 text_at : (texts : List (List ℕ)) (k n : ℕ) → slice_get (map code texts) k ≡ Some n → (x : List ℕ) × (slice_get texts k ≡ Some x) × (code x ≡ n)
 text_at [] k n e = absurd cc
 text_at (x ∷ texts) zero n e = (x, refl, cc)
 text_at (x ∷ texts) (suc k) n e = text_at texts k n e
-
--- ---- few sets
 
 module _ (numbers : List ℕ) (small_numbers : AreFew numbers) where
   abbrev all_res : List (Re (List ℕ))
@@ -451,5 +432,5 @@ module _ (numbers : List ℕ) (small_numbers : AreFew numbers) where
       let r = above.each j t.0 t.1 in
       let s = above.each k u.0 u.1 in
       above.differ j k t.0 u.0 t.1 u.1 (one_set t.0 u.0 r.2.0 s.2.0 (shape_in t.0 r.2.0 r.2.1) (shape_in u.0 s.2.0 s.2.1) (t.2 ∙ sym u.2)) in
-      let few : length codes ≤ 113 = length-le_from_distinct_below codes 113 (distinct codes apart) (any_below codes 113 below) in
+      let few : length codes ≤ 113 = few_numbers codes 113 apart below in
       omega (arith, few, above.many, length-map above.texts code)
