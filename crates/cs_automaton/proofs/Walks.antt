@@ -1,6 +1,7 @@
 -- What the walks find in a pattern.
 use Rattle.std.proofs.Common.{◌≡◌, ℕ, ◌+◌, ◌-◌, Bool, true, false, List, [], ◌∷◌, ◌++◌, refl, sym, ap, ◌∙◌, arith, length, get_or, take, append_assoc, append-nil, length-append}
 use Rattle.std.specs.Prelude.{◌&&◌, ◌||◌, if◌then◌else◌}
+use Rattle.std.proofs.Math.Bool.{and-true, and-false, or-false, and_assoc, and_comm, or_assoc, or_comm, and-or_distrib_left, and-or_distrib_right}
 use Rattle.std.proofs.lemmas.List.{get_or_push}
 use Rattle.cs_pattern_tree.specs.Pattern.{Regex, Empty, Class, Join, Either, Many, Parts, Nothing, Then}
 use Rattle.cs_automaton.specs.declared.op.Op.{Op}
@@ -54,67 +55,32 @@ backing ahead ends fs bs = record { ahead = ahead; ends = ends; frames = fs; fin
 -- ---- truth values
 
 stays : (e : Bool) → (e && true) || false ≡ e
-stays true = refl
-stays false = refl
+stays e = or-false (e && true) ∙ and-true e
 
-with_true : (e : Bool) → e && true ≡ e
-with_true true = refl
-with_true false = refl
-
-with_false : (e : Bool) → e && false ≡ false
-with_false true = refl
-with_false false = refl
+-- the middle two of four change places
+or_middle : (a b c d : Bool) → (a || b) || (c || d) ≡ (a || c) || (b || d)
+or_middle a b c d = or_assoc a b (c || d) ∙ ap (λ t. a || t) (sym (or_assoc b c d) ∙ ap (λ t. t || d) (or_comm b c) ∙ or_assoc c b d) ∙ sym (or_assoc a c (b || d))
 
 exits_on : (e n f m g : Bool) → (((e && n) || f) && m) || g ≡ (e && (n && m)) || ((f && m) || g)
-exits_on true true f true g = refl
-exits_on true true true false g = refl
-exits_on true true false false g = refl
-exits_on true false true m g = refl
-exits_on true false false m g = refl
-exits_on false n true m g = refl
-exits_on false n false m g = refl
+exits_on e n f m g =
+    ap (λ t. t || g) (and-or_distrib_right (e && n) f m) ∙ or_assoc ((e && n) && m) (f && m) g ∙ ap (λ t. t || ((f && m) || g)) (and_assoc e n m)
 
 either_exits : (e n f m g acc : Bool) → (acc || ((e && n) || f)) || ((e && m) || g) ≡ acc || ((e && (n || m)) || (f || g))
-either_exits e n f m g true = refl
-either_exits true true f m g false = refl
-either_exits true false true true g false = refl
-either_exits true false true false g false = refl
-either_exits true false false true g false = refl
-either_exits true false false false g false = refl
-either_exits false n true m g false = refl
-either_exits false n false m g false = refl
+either_exits e n f m g acc =
+    or_assoc acc ((e && n) || f) ((e && m) || g)
+    ∙ ap (λ t. acc || t) (or_middle (e && n) f (e && m) g ∙ ap (λ t. t || (f || g)) (sym (and-or_distrib_left e n m)))
 
 join_ahead : (a n m : Bool) → (a && m) && n ≡ a && (n && m)
-join_ahead true true m = with_true m
-join_ahead true false m = with_false m
-join_ahead false n m = refl
-
-join_ends : (e a n f m g : Bool) → (e || (a && g)) || ((a && m) && f) ≡ e || (a && ((f && m) || g))
-join_ends true a n f m g = refl
-join_ends false true n true true true = refl
-join_ends false true n true true false = refl
-join_ends false true n true false true = refl
-join_ends false true n true false false = refl
-join_ends false true n false true true = refl
-join_ends false true n false true false = refl
-join_ends false true n false false true = refl
-join_ends false true n false false false = refl
-join_ends false false n f m g = refl
+join_ahead a n m = and_assoc a m n ∙ ap (λ t. a && t) (and_comm m n)
 
 either_ahead : (a n m : Bool) → (a && m) || (a && n) ≡ a && (n || m)
-either_ahead true true true = refl
-either_ahead true true false = refl
-either_ahead true false true = refl
-either_ahead true false false = refl
-either_ahead false n m = refl
+either_ahead a n m = or_comm (a && m) (a && n) ∙ sym (and-or_distrib_left a n m)
 
 either_ends : (e a f g : Bool) → (e || (a && g)) || (a && f) ≡ e || (a && (f || g))
-either_ends true a f g = refl
-either_ends false true true true = refl
-either_ends false true true false = refl
-either_ends false true false true = refl
-either_ends false true false false = refl
-either_ends false false f g = refl
+either_ends e a f g = or_assoc e (a && g) (a && f) ∙ ap (λ t. e || t) (either_ahead a f g)
+
+join_ends : (e a f m g : Bool) → (e || (a && g)) || ((a && m) && f) ≡ e || (a && ((f && m) || g))
+join_ends e a f m g = ap (λ t. (e || (a && g)) || t) (join_ahead a f m) ∙ either_ends e a (f && m) g
 
 -- ---- to the end
 
@@ -153,7 +119,7 @@ module _ (S : ℕ → Bool) (rule : ℕ) where
   mutual
     pub go_flat : (from : ℕ) (r : Regex) (e : Bool) (fs : List Frame) (bs : List Bool) → go_all S (flat from r) (going e fs (bs ++ finals S (with_places rule from (re r)))) ≡ going (exit S (with_places rule from (re r)) e) fs bs
     go_flat from Empty e fs bs = ap (λ t. going e fs t) (append-nil bs) ∙ ap (λ t. going t fs bs) (sym (stays e))
-    go_flat from (Class set) e fs bs = ap (λ t. going (S from) fs t) (append-nil bs) ∙ ap (λ t. going (t || S from) fs bs) (sym (with_false e))
+    go_flat from (Class set) e fs bs = ap (λ t. going (S from) fs t) (append-nil bs) ∙ ap (λ t. going (t || S from) fs bs) (sym (and-false e))
     go_flat from (Join ps) e fs bs = go_join from ps e fs bs
     go_flat from (Either ps) e fs bs = go_either from ps e false fs bs
     go_flat from (Many r) e fs bs =
@@ -163,7 +129,7 @@ module _ (S : ℕ → Bool) (rule : ℕ) where
         ∙ go_all-append S (flat from r) (ops.Again ∷ []) (going (e || f) inner (bs ++ finals S (num from r)))
         ∙ ap (go S ops.Again) (go_flat from r (e || f) inner bs)
         ∙ again_step S (exit S (num from r) (e || f)) e f fs bs
-        ∙ ap (λ t. going (t || f) fs bs) (sym (with_true e))
+        ∙ ap (λ t. going (t || f) fs bs) (sym (and-true e))
 
     go_join : (from : ℕ) (ps : Parts) (e : Bool) (fs : List Frame) (bs : List Bool) → go_all S (flat_join from ps) (going e fs (bs ++ finals S (nj from ps))) ≡ going (exit S (nj from ps) e) fs bs
     go_join from Nothing e fs bs = ap (λ t. going e fs t) (append-nil bs) ∙ ap (λ t. going t fs bs) (sym (stays e))
@@ -181,9 +147,7 @@ module _ (S : ℕ → Bool) (rule : ℕ) where
         close_step S e e acc fs (bs ++ []) ∙ ap (λ t. going acc fs t) (append-nil bs) ∙ ap (λ t. going t fs bs) (or_none acc e)
       where
         or_none : (a b : Bool) → a ≡ a || ((b && false) || false)
-        or_none true b = refl
-        or_none false true = refl
-        or_none false false = refl
+        or_none a b = sym (ap (λ t. a || t) (or-false (b && false) ∙ and-false b) ∙ or-false a)
     go_either from (Then r ps) e acc fs bs =
         let later = from + letters (re r) in
         let inner = fs ++ frame e acc ∷ [] in
@@ -262,13 +226,11 @@ module _ (S : ℕ → Bool) (rule : ℕ) where
       ∙ ap (λ t. backing a (n || (a && f)) t (bs ++ f ∷ [])) (rest_push fs (frame a n))
 
   same_ends : (n a : Bool) → n ≡ n || (a && false)
-  same_ends true a = refl
-  same_ends false true = refl
-  same_ends false false = refl
+  same_ends n a = sym (ap (λ t. n || t) (and-false a) ∙ or-false n)
 
   unmoved : (a n : Bool) (fs : List Frame) (bs : List Bool) → backing a n fs bs ≡ backing (a && true) (n || (a && false)) fs (bs ++ [])
   unmoved a n fs bs =
-      ap (λ t. backing t n fs bs) (sym (with_true a))
+      ap (λ t. backing t n fs bs) (sym (and-true a))
       ∙ ap (λ t. backing (a && true) t fs bs) (same_ends n a)
       ∙ ap (λ t. backing (a && true) (n || (a && false)) fs t) (sym (append-nil bs))
 
@@ -276,7 +238,7 @@ module _ (S : ℕ → Bool) (rule : ℕ) where
     pub back_flat : (from : ℕ) (r : Regex) (a n : Bool) (fs : List Frame) (bs : List Bool) → back_all S (flat from r) (backing a n fs bs) ≡ backing (a && nullable (with_places rule from (re r))) (n || (a && final S (with_places rule from (re r)))) fs (bs ++ finals S (with_places rule from (re r)))
     back_flat from Empty a n fs bs = unmoved a n fs bs
     back_flat from (Class set) a n fs bs =
-        ap (λ t. backing t (n || (a && S from)) fs bs) (sym (with_false a)) ∙ ap (λ t. backing (a && false) (n || (a && S from)) fs t) (sym (append-nil bs))
+        ap (λ t. backing t (n || (a && S from)) fs bs) (sym (and-false a)) ∙ ap (λ t. backing (a && false) (n || (a && S from)) fs t) (sym (append-nil bs))
     back_flat from (Join ps) a n fs bs = back_join from ps a n fs bs
     back_flat from (Either ps) a n fs bs =
         let b = back_either from ps a n fs bs in
@@ -289,7 +251,7 @@ module _ (S : ℕ → Bool) (rule : ℕ) where
         ∙ ap (back S ops.Loop) (back_flat from r true false inner bs)
         ∙ back_loop a n (nullable (num from r)) (final S (num from r)) fs (bs ++ finals S (num from r))
         ∙ ap (λ t. backing a (n || (a && final S (num from r))) fs t) (append_assoc bs (finals S (num from r)) (final S (num from r) ∷ []))
-        ∙ ap (λ t. backing t (n || (a && final S (num from r))) fs (bs ++ (finals S (num from r) ++ final S (num from r) ∷ []))) (sym (with_true a))
+        ∙ ap (λ t. backing t (n || (a && final S (num from r))) fs (bs ++ (finals S (num from r) ++ final S (num from r) ∷ []))) (sym (and-true a))
 
     back_join : (from : ℕ) (ps : Parts) (a n : Bool) (fs : List Frame) (bs : List Bool) → back_all S (flat_join from ps) (backing a n fs bs) ≡ backing (a && nullable (nj from ps)) (n || (a && final S (nj from ps))) fs (bs ++ finals S (nj from ps))
     back_join from Nothing a n fs bs = unmoved a n fs bs
@@ -302,7 +264,7 @@ module _ (S : ℕ → Bool) (rule : ℕ) where
         ∙ ap (back_all S (flat from r)) (back_join later ps a n fs bs)
         ∙ back_flat from r (a && m) (n || (a && g)) fs cs
         ∙ ap (λ t. backing t ((n || (a && g)) || ((a && m) && final S (num from r))) fs (cs ++ finals S (num from r))) (join_ahead a (nullable (num from r)) m)
-        ∙ ap (λ t. backing (a && (nullable (num from r) && m)) t fs (cs ++ finals S (num from r))) (join_ends n a true (final S (num from r)) m g)
+        ∙ ap (λ t. backing (a && (nullable (num from r) && m)) t fs (cs ++ finals S (num from r))) (join_ends n a (final S (num from r)) m g)
         ∙ ap (λ t. backing (a && (nullable (num from r) && m)) (n || (a && ((final S (num from r) && m) || g))) fs t) (append_assoc bs (finals S (nj later ps)) (finals S (num from r)))
 
     back_either : (from : ℕ) (ps : Parts) (a n : Bool) (fs : List Frame) (bs : List Bool) → EitherBack from ps a n fs bs
@@ -311,7 +273,7 @@ module _ (S : ℕ → Bool) (rule : ℕ) where
           acc = false;
           here = false;
           is = ap (λ t. backing false t (fs ++ frame a false ∷ []) bs) (same_ends n a) ∙ ap (λ t. backing false (n || (a && false)) (fs ++ frame a false ∷ []) t) (sym (append-nil bs));
-          together = sym (with_false a);
+          together = sym (and-false a);
         }
     back_either from (Then r ps) a n fs bs =
         let later = from + letters (re r) in
