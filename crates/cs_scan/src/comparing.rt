@@ -6,6 +6,7 @@ ghost use Rattle.cs_scan.specs.Going.{tokens_of, IsNext};
 ghost use Rattle.cs_scan.specs.Scan.{given, Scans};
 
 use crate::front::longest_front;
+use crate::number::place_of;
 use crate::scanner::Scanner;
 use cs_pattern_tree::Kind;
 
@@ -63,7 +64,7 @@ fn advance(scanner: &Scanner<'_>, text: &[u8]) -> Next
     let Some((rule, size)) = longest_front(scanner.automaton, text) else {
         return Next::Stop;
     };
-    match give(scanner.kinds[rule as usize - 1], scanner.literals, text) {
+    match give(scanner.kinds[place_of(rule)], scanner.literals, text) {
         Given::Nothing => Next::Pass(size),
         Given::Token(token) => Next::Give(size, token),
         Given::Stop => Next::Stop,

@@ -19,5 +19,5 @@ pub returns-in-Stop : goal.returns-in-Stop
 returns-in-Stop c size tokens g =
     let one = match_one _ c.args.text.now _ _ _ _ g.is_match c.in-Some.ensures in
     let kinds = c.args.scanner.now.kinds.now in
-    let at : slice_get kinds (c.in-Some.rule - 1) ≡ Some g.kind = subst (λ k. slice_get kinds (k - 1) ≡ Some g.kind) one.0 g.at in
-    none_given _ c.args.text.now tokens _ g.kind c.give.result (get_or_from_slice_get kinds (c.in-Some.rule - 1) g.kind (Token 0) at) c.give.ensures c.in-Stop.is g.gives
+    let at : slice_get kinds c.place_of.result ≡ Some g.kind = subst (λ k. slice_get kinds k ≡ Some g.kind) (ap (λ n. n - 1) one.0 ∙ sym c.place_of.ensures) g.at in
+    none_given _ c.args.text.now tokens _ g.kind c.give.result (get_or_from_slice_get kinds c.place_of.result g.kind (Token 0) at) c.give.ensures c.in-Stop.is g.gives
