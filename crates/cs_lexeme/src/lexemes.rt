@@ -13,7 +13,7 @@ use crate::search::{Origin, Visit, meet_all, text_at};
 use crate::steps::{StepTable, with_steps};
 use cs_automaton::State;
 use cs_pattern_tree::Kind;
-use cs_scan::Scanner;
+use cs_scan::{Scanner, place_of};
 use std::alloc::{AllocError, Global};
 use std::marker::Model;
 
@@ -40,7 +40,7 @@ fn kind_at(scanner: &Scanner<'_>, state: State) -> Option<Kind>
     ensures { IsKindAt scanner.now state result }
 {
     let rule = scanner.automaton.first_rule(state)?;
-    Some(scanner.kinds[rule as usize - 1])
+    Some(scanner.kinds[place_of(rule)])
 }
 
 /// The token that the kind names, if it is one of those asked for and has no text yet.
@@ -51,7 +51,7 @@ fn open_token(texts: &[Option<Vec<u8>>], kind: Option<Kind>) -> Option<u16>
     let Some(Kind::Token(token)) = kind else {
         return None;
     };
-    if token > 0 && token as usize <= texts.len() && texts[token as usize - 1].is_none() {
+    if token > 0 && token as usize <= texts.len() && texts[place_of(token)].is_none() {
         return Some(token);
     }
     None
@@ -96,7 +96,7 @@ fn put_text(texts: &mut Vec<Option<Vec<u8>>>, token: u16, text: Vec<u8>)
     requires within { token ≤ length (texts_of texts.old.items) }
     ensures { PutsText (texts_of texts.old.items) token text.items (texts_of texts.new.items) }
 {
-    texts[token as usize - 1] = Some(text);
+    texts[place_of(token)] = Some(text);
 }
 
 /// Puts the text of each open token that the kind of a place names.
@@ -206,7 +206,7 @@ fn keep_text(texts: &mut Vec<Option<Vec<u8>>>, token: u16, text: Vec<u8>)
     requires within { token ≤ length (texts_of texts.old.items) }
     ensures { KeepsText (texts_of texts.old.items) token text.items (texts_of texts.new.items) }
 {
-    keep_least(&mut texts[token as usize - 1], text);
+    keep_least(&mut texts[place_of(token)], text);
 }
 
 /// Puts the least text that gives the byte's token as its own byte, where it is the lesser one.
@@ -254,7 +254,7 @@ impl Lexemes {
         requires within { token ≤ length self.now }
         ensures { option_map (λ text. text.now) result ≡ lexeme_in self.now token }
     {
-        match &self.texts[token as usize - 1] {
+        match &self.texts[place_of(token)] {
             Some(text) => Some(text.as_slice()),
             None => None,
         }

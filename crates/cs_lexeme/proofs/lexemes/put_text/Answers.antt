@@ -1,7 +1,10 @@
-use Rattle.std.proofs.Common.{Some, ◌-◌}
+use Rattle.std.proofs.Common.{Some, ap, ◌∙◌}
+use Rattle.std.specs.Prelude.{slice_set}
 use Rattle.std.proofs.lemmas.List.{map-set}
-use Rattle.cs_lexeme.specs.Texts.{text_of}
+use Rattle.cs_lexeme.specs.Texts.{text_of, texts_of}
 use Rattle.cs_lexeme.proofs.lexemes.put_text.Goals as goal
 
 pub returns : goal.returns
-returns c = map-set text_of c.args.texts.now.items (c.args.token - 1) (Some c.args.text)
+returns c =
+    let items = c.args.texts.now.items in
+    map-set text_of items c.place_of.result (Some c.args.text) ∙ ap (λ k. slice_set (texts_of items) k (Some c.args.text.items)) c.place_of.ensures
