@@ -5,9 +5,9 @@
 //! lexeme, and one where some text scans to it in one match, and that tokens have at most one list of lexemes, and not none.
 //!
 //! Meaning: `specs/Rank.antt` (the ranks of bytes), `specs/Order.antt` (the order of lexemes), `specs/Lexeme.antt` (the lexeme
-//! of a token, over all texts), `specs/Laws.antt`. All else are working words of proofs: `Texts` (what is seen of lexemes),
-//! `Number` (the order by numbers), `Bytes`, `Steps` and `Table` (bytes and steps by rank), `Visits` (states that were met),
-//! `Kinds` (which texts give a token).
+//! of a token, over all texts), `specs/Texts.antt` (what is seen of lexemes), `specs/Laws.antt`. Working words of proofs:
+//! `specs/Number.antt` (the order by numbers), `specs/Bytes.antt`, `specs/Steps.antt` and `specs/Table.antt` (bytes and steps by
+//! rank), `specs/Visits.antt` (states that were met), `specs/Kinds.antt` (which texts give a token).
 #![tactic(auto)]
 
 mod laws;
