@@ -1,9 +1,7 @@
 // What threads may share.
 
 use crate::automaton::Automaton;
-
-/// Takes what threads may share.
-fn take_shared<T: Sync>(_value: &T) {}
+use cs_pattern_tree::take_shared;
 
 /// Threads may share an automaton.
 fn may_be_shared(automaton: &Automaton<'_>) {

@@ -1,9 +1,7 @@
 // What threads may share.
 
 use crate::lexemes::Lexemes;
-
-/// Takes what threads may share.
-fn take_shared<T: Sync>(_value: &T) {}
+use cs_pattern_tree::take_shared;
 
 /// Threads may share the lexemes of tokens.
 fn may_be_shared(lexemes: &Lexemes) {

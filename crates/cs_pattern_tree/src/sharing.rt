@@ -3,8 +3,9 @@
 use crate::kind::Kind;
 use crate::pattern::Pattern;
 
-/// Takes what threads may share.
-fn take_shared<T: Sync>(_value: &T) {}
+/// Takes what threads may share: by a call of it a crate shows that they may share its values.
+#[inline]
+pub fn take_shared<T: Sync>(_value: &T) {}
 
 /// Threads may share kinds and patterns.
 fn may_be_shared(kind: &Kind, pattern: &Pattern) {

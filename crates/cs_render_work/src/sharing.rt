@@ -1,9 +1,7 @@
 // What threads may share.
 
 use crate::work::RenderWork;
-
-/// Takes what threads may share.
-fn take_shared<T: Sync>(_value: &T) {}
+use cs_pattern_tree::take_shared;
 
 /// Threads may share the rendering of lists.
 fn may_be_shared(work: &RenderWork<'_>) {

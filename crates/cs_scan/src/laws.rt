@@ -5,6 +5,7 @@ ghost use Rattle.cs_pattern_tree.specs.Pattern.{Regex};
 ghost use Rattle.cs_scan.specs.Scan.{AreOneMatch, AreOneScan, HasScan, Scanning};
 
 use crate::scanner::Scanner;
+use cs_pattern_tree::take_shared;
 
 /// A text has at most one match at its front.
 pub fn one_match()
@@ -20,9 +21,6 @@ pub fn one_scan()
 pub fn some_scan()
     ensures { (s : Scanning) (text : List ℕ) → HasScan s text }
 {}
-
-/// Takes what threads may share.
-fn take_shared<T: Sync>(_value: &T) {}
 
 /// Threads may share a scanner, and so its automaton.
 pub fn shared_scanner(scanner: &Scanner<'_>) {
