@@ -1,8 +1,8 @@
 // Files that are accepted, however long or deep. The ends of the outputs were worked by hand: `s : NUM` has a rule goal and four
 // pairs, of which `<begin> <end>` and `NUM NUM` are infeasible, and its base without its token, or with one more, is a negative.
 
-use crate::ending::{NUMBER, SCANNER, is_written};
-use crate::text::repeated;
+use crate::ending::is_written;
+use cs_samples::{NUMBER, SCANNER, repeated};
 use std::alloc::{AllocError, Global};
 use std::test::Fail;
 

@@ -1,19 +1,12 @@
 // How a run of `suite` on a yacc file and a lex file ends.
 
 use cs_fan::OpenGate;
-use cs_io::{MemoryDesk, MemorySink};
+use cs_io::MemorySink;
 use cs_run::run;
+use cs_sample_files::desk;
+use cs_samples::words;
 use std::alloc::{AllocError, Global};
 use std::thread::Threads;
-
-/// Sums: `examples/g1.y`.
-pub const SUMS: &[u8] = b"%token NUM\n%%\ne : e '+' t | t ;\nt : NUM | '(' e ')' ;\n";
-
-/// The scanner of sums: `examples/l1.l`.
-pub const SCANNER: &[u8] = b"%%\n[0-9]+ return NUM;\n[-+*/()] return yytext[0];\n[ \\t\\n]+ ;\n";
-
-/// A token alone.
-pub const NUMBER: &[u8] = b"%token NUM\n%%\ns : NUM ;\n";
 
 /// A run: its status, its output and its error output.
 #[derive(Drop)]
@@ -34,14 +27,8 @@ pub fn suite<R: Threads + Sync>(
     yacc: &[u8],
     lex: &[u8],
 ) -> Result<Ended, AllocError> {
-    let mut words = Vec::new(alloc);
-    for text in texts {
-        words.push(String::from_str(alloc, text)?)?;
-    }
-    let mut files = Vec::new(alloc);
-    files.push((String::from_str(alloc, "y")?, yacc.to_vec(alloc)?))?;
-    files.push((String::from_str(alloc, "l")?, lex.to_vec(alloc)?))?;
-    let mut desk = MemoryDesk::new(files, Vec::new(alloc))?;
+    let words = words(alloc, texts)?;
+    let mut desk = desk(alloc, Some(yacc), Some(lex))?;
     let mut out = MemorySink::new(alloc, 4_000_000, 4_000_000, Vec::new(alloc))?;
     let mut err = MemorySink::new(alloc, 99, 99, Vec::new(alloc))?;
     let status = run(rt, alloc, &words, &mut desk, &mut out, &mut err, &OpenGate);

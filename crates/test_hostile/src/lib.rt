@@ -15,6 +15,4 @@ mod patterns;
 #[cfg(test)]
 mod refused;
 #[cfg(test)]
-mod text;
-#[cfg(test)]
 mod yacc;

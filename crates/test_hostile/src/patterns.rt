@@ -4,9 +4,9 @@
 ghost use Rattle.std.specs.Prelude.{◌≤◌, IfOk};
 ghost use Rattle.cs_pattern_tree.specs.Pattern.{leaves, nesting, regex};
 
-use crate::text::repeated;
 use cs_pattern::{Definitions, MOST_BYTES, Pattern, PatternError, PatternFault, read_pattern};
 use cs_pattern_tree::{copy, leaf_count};
+use cs_samples::repeated;
 use std::alloc::{AllocError, Global};
 use std::test::Fail;
 

@@ -1,8 +1,8 @@
 // Files that are refused. Each line of the error output was worked by hand from the rules of docs/FORMATS.md: the offset
 // where reading stops, or the number that is above its limit.
 
-use crate::ending::{NUMBER, SCANNER, SUMS, is_refused};
-use crate::text::repeated;
+use crate::ending::is_refused;
+use cs_samples::{NUMBER, SCANNER, SUMS, repeated};
 use std::alloc::{AllocError, Global};
 use std::test::Fail;
 

@@ -1,7 +1,7 @@
 // Yacc files of a mebibyte that are made to be slow: each is read in time linear in its size. What they give is worked by hand:
 // where the first fault stands, or that there is none.
 
-use crate::text::repeated;
+use cs_samples::repeated;
 use cs_yacc::{MOST_BYTES, YaccError, read_yacc};
 use std::test::Fail;
 

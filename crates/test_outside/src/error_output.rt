@@ -1,10 +1,11 @@
 // The error output fails, at each call or for want of room: the status stays, and of the line the bytes before are there. The
 // lines are those of docs/FORMATS.md.
 
-use crate::failing::{desk, words};
+use crate::failing::desk;
 use cs_fan::OpenGate;
 use cs_io::MemorySink;
 use cs_run::run;
+use cs_samples::words;
 use std::alloc::{AllocError, Global};
 use std::test::Fail;
 use std::thread::Threads;

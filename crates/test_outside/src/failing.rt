@@ -4,12 +4,9 @@
 use cs_fan::OpenGate;
 use cs_io::{MemoryDesk, MemorySink};
 use cs_run::run;
+use cs_samples::{SCANNER, SUMS};
 use std::alloc::{AllocError, Global};
 use std::thread::Threads;
-
-const SUMS: &[u8] = b"%token NUM\n%%\ne : e '+' t | t ;\nt : NUM | '(' e ')' ;\n";
-
-const SCANNER: &[u8] = b"%%\n[0-9]+ return NUM;\n[-+*/()] return yytext[0];\n[ \\t\\n]+ ;\n";
 
 /// Sums and their scanner, `g1.y` and `l1.l`, of whose reads these fail.
 pub fn desk(alloc: Global, failing: &[u32]) -> Result<MemoryDesk, AllocError> {
@@ -17,15 +14,6 @@ pub fn desk(alloc: Global, failing: &[u32]) -> Result<MemoryDesk, AllocError> {
     files.push((String::from_str(alloc, "g1.y")?, SUMS.to_vec(alloc)?))?;
     files.push((String::from_str(alloc, "l1.l")?, SCANNER.to_vec(alloc)?))?;
     MemoryDesk::new(files, failing.to_vec(alloc)?)
-}
-
-/// Words of the command line.
-pub fn words(alloc: Global, texts: &[&str]) -> Result<Vec<String>, AllocError> {
-    let mut words = Vec::new(alloc);
-    for text in texts {
-        words.push(String::from_str(alloc, text)?)?;
-    }
-    Ok(words)
 }
 
 /// Whether a run ends with this status and line, and these bytes of the output.

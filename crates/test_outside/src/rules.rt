@@ -1,6 +1,7 @@
 // The manifest of the rules of sums: `docs/FORMATS.md` gives its lines, and what they tell was worked by hand.
 
-use crate::failing::{has_room, stops_at_read, words, wrong_call, wrong_room};
+use crate::failing::{has_room, stops_at_read, wrong_call, wrong_room};
+use cs_samples::words;
 use std::test::Fail;
 
 const SUMS_RULES: &[u8] = b"conform 1 rules

@@ -1,7 +1,8 @@
 // The summary of the number 1, as the page of the generator gives it: a run asks for no file, and its output is one line.
 
-use crate::failing::{desk, ends, has_room, words, wrong_call, wrong_room};
+use crate::failing::{desk, ends, has_room, wrong_call, wrong_room};
 use cs_io::MemorySink;
+use cs_samples::words;
 use std::test::Fail;
 
 const SUMMARY: &[u8] =

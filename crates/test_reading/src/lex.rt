@@ -1,20 +1,11 @@
 //! Lex files beside a yacc file, worked by hand from POSIX.1-2017, lex, and the profile of docs/FORMATS.md.
 
-use crate::lex_layout::EXPRESSIONS;
 use cs_lex::{Kind, LexError, LexLimit, MOST_BYTES, PatternFault, read_lex};
-use cs_yacc::{YaccFile, read_yacc};
+use cs_sample_files::sums;
+use cs_samples::C_SCANNER;
+use cs_yacc::YaccFile;
 use std::alloc::{AllocError, Global};
 use std::test::Fail;
-
-// NUM 1, '+' 2, '(' 3 and ')' 4 are its tokens in use.
-const SUMS: &[u8] = b"%token NUM\n%%\ne : e '+' t | t ;\nt : NUM | '(' e ')' ;\n";
-
-fn sums(alloc: Global) -> Option<YaccFile> {
-    if SUMS.len() > MOST_BYTES {
-        return None;
-    }
-    read_yacc(alloc, SUMS).ok()
-}
 
 // The kinds of the rules of the file, and why it is refused.
 fn kinds(alloc: Global, text: &[u8], yacc: &YaccFile) -> Result<Vec<Kind>, LexError> {
@@ -35,7 +26,7 @@ fn with_action(alloc: Global, action: &[u8]) -> Result<Vec<u8>, AllocError> {
 #[test]
 fn kinds_of_rules(rt: HostRuntime) -> Result<(), Fail> {
     let alloc = rt.alloc();
-    let yacc = sums(alloc).ok_or("yacc")?;
+    let yacc = sums(alloc)?;
     let rows: [(&[u8], Kind); 14] = [
         (b"{ n++; return(NUM); }", Kind::Token(1)),
         (b"return '+';", Kind::Token(2)),
@@ -63,7 +54,7 @@ fn kinds_of_rules(rt: HostRuntime) -> Result<(), Fail> {
 #[test]
 fn bars_take_the_kind_of_the_next_rule(rt: HostRuntime) -> Result<(), Fail> {
     let alloc = rt.alloc();
-    let yacc = sums(alloc).ok_or("yacc")?;
+    let yacc = sums(alloc)?;
     let text: &[u8] = b"%%\na |\nb | /* c */\nc return NUM;\nd |\n int x;\ne ;\nf\tECHO;\n";
     let found = kinds(alloc, text, &yacc)?;
     let want = [
@@ -81,7 +72,7 @@ fn bars_take_the_kind_of_the_next_rule(rt: HostRuntime) -> Result<(), Fail> {
 #[test]
 fn files_as_people_write_them(rt: HostRuntime) -> Result<(), Fail> {
     let alloc = rt.alloc();
-    let yacc = sums(alloc).ok_or("yacc")?;
+    let yacc = sums(alloc)?;
     let rows: [(&[u8], &[Kind]); 4] = [
         (
             b"%{\n#include \"y.tab.h\"\nint n; /* %% */\n%}\n%option noyywrap yylineno\nD [0-9] /* digits */\n%%\n{D}+ {\n  n = atoi(yytext); /* } */\n  return NUM;\n}\n[+()] return *yytext;\n[ \\t\\n]+ ;\n. { ECHO; printf(\"}\"); }\n%%\nint main() { return yylex(); }\n\"\n",
@@ -114,7 +105,7 @@ fn pattern(at: u32, fault: PatternFault) -> LexError {
 #[test]
 fn why_files_are_refused(rt: HostRuntime) -> Result<(), Fail> {
     let alloc = rt.alloc();
-    let yacc = sums(alloc).ok_or("yacc")?;
+    let yacc = sums(alloc)?;
     let rows: [(&[u8], LexError); 28] = [
         (b"", LexError::Layout { at: 0 }),
         (b"%%\n", LexError::NoRules),
@@ -201,7 +192,7 @@ fn push_all(text: &mut Vec<u8>, piece: &[u8], times: u32) -> Result<(), AllocErr
 #[test]
 fn rules_up_to_the_limit(rt: HostRuntime) -> Result<(), Fail> {
     let alloc = rt.alloc();
-    let yacc = sums(alloc).ok_or("yacc")?;
+    let yacc = sums(alloc)?;
     let mut text = Vec::from_slice(alloc, b"%%\n")?;
     push_all(&mut text, b"a |\n", 2047)?;
     text.extend_from_slice(b"a return NUM;\n")?;
@@ -221,7 +212,7 @@ fn rules_up_to_the_limit(rt: HostRuntime) -> Result<(), Fail> {
 #[test]
 fn open_brackets_in_numbers(rt: HostRuntime) -> Result<(), Fail> {
     let alloc = rt.alloc();
-    let yacc = sums(alloc).ok_or("yacc")?;
+    let yacc = sums(alloc)?;
     let mut text = Vec::from_slice(alloc, b"%%\n")?;
     push_all(&mut text, b"(", 300_000)?;
     text.push(b'a')?;
@@ -241,7 +232,7 @@ fn open_brackets_in_numbers(rt: HostRuntime) -> Result<(), Fail> {
 #[test]
 fn doubled_definitions(rt: HostRuntime) -> Result<(), Fail> {
     let alloc = rt.alloc();
-    let yacc = sums(alloc).ok_or("yacc")?;
+    let yacc = sums(alloc)?;
     let text: &[u8] =
         b"D0 aa\nD1 {D0}{D0}\nD2 {D1}{D1}\nD3 {D2}{D2}\nD4 {D3}{D3}\nD5 {D4}{D4}\nD6 {D5}{D5}\nD7 {D6}{D6}\nD8 {D7}{D7}\nD9 {D8}{D8}\nD10 {D9}{D9}\nD11 {D10}{D10}\nD12 {D11}{D11}\nD13 {D12}{D12}\n%%\na ;\n";
     let fault = PatternFault::TooManyPositions { most: 8192 };
@@ -255,9 +246,9 @@ fn doubled_definitions(rt: HostRuntime) -> Result<(), Fail> {
 #[test]
 fn parts_of_the_file_of_c_expressions(rt: HostRuntime) -> Result<(), Fail> {
     let alloc = rt.alloc();
-    let yacc = sums(alloc).ok_or("yacc")?;
-    assert!(rt; EXPRESSIONS.len() <= MOST_BYTES);
-    let file = read_lex(alloc, EXPRESSIONS, &yacc).ok().ok_or("lex")?;
+    let yacc = sums(alloc)?;
+    assert!(rt; C_SCANNER.len() <= MOST_BYTES);
+    let file = read_lex(alloc, C_SCANNER, &yacc).ok().ok_or("lex")?;
     assert_eq!(rt; (file.patterns().len(), file.kinds().len()), (30, 30));
     let mut entries = Vec::new(alloc);
     for (byte, token) in file.literals().iter().enumerate() {

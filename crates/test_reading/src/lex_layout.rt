@@ -3,43 +3,9 @@
 ghost use Rattle.std.specs.Prelude.{◌≤◌, length};
 
 use cs_lex_layout::{LayoutError, MOST_BYTES, Part, read_layout};
+use cs_samples::C_SCANNER;
 use std::alloc::Global;
 use std::test::Fail;
-
-// The lex file of C expressions.
-pub const EXPRESSIONS: &[u8] = b"D [0-9]\n\
-L [a-zA-Z_]\n\
-%%\n\
-\"int\" { count(); return(INT); }\n\
-\"char\" { count(); return(CHAR); }\n\
-\"sizeof\" { count(); return(SIZEOF); }\n\
-{L}({L}|{D})* { count(); return check_type(); /*@token IDENTIFIER*/ }\n\
-{D}+ { count(); return(CONSTANT); }\n\
-\\\"(\\\\.|[^\\\\\"\\n])*\\\" { count(); return(STRING_LITERAL); }\n\
-\">>=\" return RIGHT_ASSIGN;\n\
-\"<<=\" return LEFT_ASSIGN;\n\
-\"+=\" return ADD_ASSIGN;\n\
-\"-=\" return SUB_ASSIGN;\n\
-\"*=\" return MUL_ASSIGN;\n\
-\"/=\" return DIV_ASSIGN;\n\
-\"%=\" return MOD_ASSIGN;\n\
-\"&=\" return AND_ASSIGN;\n\
-\"^=\" return XOR_ASSIGN;\n\
-\"|=\" return OR_ASSIGN;\n\
-\">>\" return RIGHT_OP;\n\
-\"<<\" return LEFT_OP;\n\
-\"++\" return INC_OP;\n\
-\"--\" return DEC_OP;\n\
-\"->\" return PTR_OP;\n\
-\"&&\" return AND_OP;\n\
-\"||\" return OR_OP;\n\
-\"<=\" return LE_OP;\n\
-\">=\" return GE_OP;\n\
-\"==\" return EQ_OP;\n\
-\"!=\" return NE_OP;\n\
-[-+*/%&|^~!<>=?:.,()\\[\\]] return *yytext;\n\
-[ \\t\\v\\n\\f]+ { count(); }\n\
-. ;\n";
 
 fn part<'a>(bytes: &'a [u8], part: Part) -> Option<&'a [u8]> {
     bytes.get(part.from..part.to)
@@ -195,7 +161,7 @@ fn where_layout_stops(rt: HostRuntime) {
 
 #[test]
 fn parts_of_c_expressions(rt: HostRuntime) -> Result<(), Fail> {
-    let text = EXPRESSIONS;
+    let text = C_SCANNER;
     assert!(rt; text.len() <= MOST_BYTES);
     let layout = read_layout(rt.alloc(), text).ok().ok_or("read")?;
     let [digit, letter] = layout.definitions.as_slice() else {

@@ -4,12 +4,10 @@ ghost use Rattle.std.specs.Prelude.{◌≤◌, length};
 ghost use Rattle.cs_yacc_items.specs.Limits.{most_bytes};
 
 use cs_grammar::{Rule, Symbol};
+use cs_samples::{SUMS, repeated};
 use cs_yacc::{MOST_BYTES, TokenName, YaccError, YaccLimit, read_yacc};
 use std::alloc::{AllocError, Global};
 use std::test::Fail;
-
-// e : e '+' t | t ;  t : NUM | '(' e ')' ;  with NUM 1, '+' 2, '(' 3, ')' 4, e 1, t 2.
-const SUMS: &[u8] = b"%token NUM\n%%\ne : e '+' t | t ;\nt : NUM | '(' e ')' ;\n";
 
 fn is_rule(rule: &Rule, left: u16, right: &[Symbol]) -> bool {
     rule.left() == left && rule.right() == right
@@ -225,22 +223,6 @@ fn tokens_by_name(rt: HostRuntime) -> Result<(), Fail> {
     Ok(())
 }
 
-// The front, the piece so many times, and the end.
-fn repeated(
-    alloc: Global,
-    front: &str,
-    piece: &str,
-    times: u16,
-    end: &str,
-) -> Result<String, AllocError> {
-    let mut text = String::from_str(alloc, front)?;
-    for _ in 0..times {
-        text.push_str(piece)?;
-    }
-    text.push_str(end)?;
-    Ok(text)
-}
-
 // The front, the piece with each number below the count, and the end.
 fn counted(
     alloc: Global,
@@ -266,8 +248,8 @@ fn text_with(alloc: Global, which: YaccLimit, count: u16) -> Result<String, Allo
             Ok(text)
         }
         YaccLimit::Nonterminals => counted(alloc, "%% s", " : ; n", count, " : ;"),
-        YaccLimit::Rules => repeated(alloc, "%% s :", " |", count, " ;"),
-        YaccLimit::RightSide => repeated(alloc, "%% s : 'x'", " 'x'", count, " ;"),
+        YaccLimit::Rules => repeated(alloc, "%% s :", " |", u32::from(count), " ;"),
+        YaccLimit::RightSide => repeated(alloc, "%% s : 'x'", " 'x'", u32::from(count), " ;"),
     }
 }
 

@@ -1,26 +1,9 @@
 // The items of patterns, and sets of bytes.
 
+use crate::sets::show_set;
 use cs_pattern_items::{ByteSet, Front, Item, front_of};
 use std::alloc::{AllocError, Global};
 use std::test::Fail;
-
-// The runs of a set's members, in hexadecimal.
-fn show_set(out: &mut String, set: &ByteSet) -> Result<(), AllocError> {
-    let mut before = false;
-    for byte in 0..=255 {
-        let after = byte < 255 && set.contains(byte + 1);
-        if set.contains(byte) {
-            if !before {
-                write!(out, " {byte:02x}")?;
-            }
-            if before && !after {
-                write!(out, "-{byte:02x}")?;
-            }
-        }
-        before = set.contains(byte);
-    }
-    Ok(())
-}
 
 // What stands at the front of a text, as text.
 fn answer(alloc: Global, text: &[u8]) -> Result<String, AllocError> {

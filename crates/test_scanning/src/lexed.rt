@@ -2,32 +2,15 @@
 
 use crate::automaton::rule_after;
 use cs_automaton::{Automaton, AutomatonError};
-use cs_lex::{LexFile, MOST_BYTES, read_lex};
+use cs_lex::LexFile;
+use cs_sample_files::read_files;
+use cs_samples::SUMS;
 use cs_scan::{Agreement, Scanner, agrees};
-use cs_yacc::{YaccFile, read_yacc};
 use std::alloc::{AllocError, Global};
 use std::test::Fail;
 
-// NUM 1, '+' 2, '(' 3 and ')' 4 are its tokens in use.
-const SUMS: &[u8] = b"%token NUM\n%%\ne : e '+' t | t ;\nt : NUM | '(' e ')' ;\n";
-
 const LEXEMES: &[u8] =
     b"%%\n[0-9]+ return NUM;\n[-+*/()] return yytext[0];\n[ \\t\\n]+ ;\n~ return f();\n";
-
-fn sums(alloc: Global) -> Option<YaccFile> {
-    if SUMS.len() > MOST_BYTES {
-        return None;
-    }
-    read_yacc(alloc, SUMS).ok()
-}
-
-fn file(alloc: Global, text: &[u8]) -> Option<LexFile> {
-    let yacc = sums(alloc)?;
-    if text.len() > MOST_BYTES {
-        return None;
-    }
-    read_lex(alloc, text, &yacc).ok()
-}
 
 fn compared(
     alloc: Global,
@@ -52,7 +35,7 @@ fn compared(
 #[test]
 fn texts_and_tokens(rt: HostRuntime) -> Result<(), Fail> {
     let alloc = rt.alloc();
-    let file = file(alloc, LEXEMES).ok_or("lex")?;
+    let (_, file) = read_files(alloc, SUMS, LEXEMES)?;
     let rows: [(&str, &[u16], Agreement); 12] = [
         ("", &[], Agreement::Whole),
         (" ", &[], Agreement::Whole),
@@ -123,7 +106,7 @@ fn bs(alloc: Global, count: usize, end: &str) -> Result<String, AllocError> {
 
 // The first rule of the lex file after the text, as `rule_after` has it.
 fn rule_in(alloc: Global, lex: &str, text: &str) -> Result<Option<u16>, Fail> {
-    let file = file(alloc, lex.as_bytes()).ok_or("lex")?;
+    let (_, file) = read_files(alloc, SUMS, lex.as_bytes())?;
     let automaton = Automaton::new(alloc, file.patterns())?;
     Ok(rule_after(&automaton, text.as_bytes()))
 }
@@ -132,7 +115,7 @@ fn rule_in(alloc: Global, lex: &str, text: &str) -> Result<Option<u16>, Fail> {
 #[test]
 fn as_many_rules_as_may_be(rt: HostRuntime) -> Result<(), Fail> {
     let alloc = rt.alloc();
-    let file = file(alloc, numbered_rules(alloc)?.as_bytes()).ok_or("lex")?;
+    let (_, file) = read_files(alloc, SUMS, numbered_rules(alloc)?.as_bytes())?;
     let automaton = Automaton::new(alloc, file.patterns())?;
     assert_eq!(rt; rule_after(&automaton, b"r"), Some(0));
     assert_eq!(rt; rule_after(&automaton, b"r1"), Some(1));

@@ -15,3 +15,5 @@ mod patterns;
 mod rules;
 #[cfg(test)]
 mod scan;
+#[cfg(test)]
+mod sets;

@@ -3,30 +3,13 @@
 ghost use Rattle.std.specs.Prelude.{◌+◌, ◌≤◌, IfOk};
 ghost use Rattle.cs_pattern_postfix.specs.Definitions.{total_bytes};
 
+use crate::sets::show_set;
 use cs_pattern::{
-    ByteSet, CheckError, Checked, DefinitionError, Definitions, MOST_BYTES, Pattern, PatternError,
+    CheckError, Checked, DefinitionError, Definitions, MOST_BYTES, Pattern, PatternError,
     PatternFault, read_pattern,
 };
 use std::alloc::{AllocError, Global};
 use std::test::Fail;
-
-// The runs of a set's members, in hexadecimal.
-fn show_set(out: &mut String, set: &ByteSet) -> Result<(), AllocError> {
-    let mut before = false;
-    for byte in 0..=255 {
-        let after = byte < 255 && set.contains(byte + 1);
-        if set.contains(byte) {
-            if !before {
-                write!(out, " {byte:02x}")?;
-            }
-            if before && !after {
-                write!(out, "-{byte:02x}")?;
-            }
-        }
-        before = set.contains(byte);
-    }
-    Ok(())
-}
 
 #[cycle(show)]
 fn show(out: &mut String, pattern: &Pattern) -> Result<(), AllocError> {

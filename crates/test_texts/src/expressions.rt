@@ -1,6 +1,7 @@
 //! The lexemes of the tokens of C expressions, worked by hand: of each token's texts the least.
 
 use crate::files::lexemes;
+use cs_samples::C_SCANNER;
 use std::test::Fail;
 
 // Expressions of C, with pointers and casts.
@@ -39,43 +40,6 @@ asgop : '=' | MUL_ASSIGN | DIV_ASSIGN | MOD_ASSIGN | ADD_ASSIGN\n\
 \x20 | XOR_ASSIGN | OR_ASSIGN ;\n\
 expr : assign | expr ',' assign ;\n\
 type : INT | CHAR | type '*' ;\n\
-";
-
-// Their lex file: the identifiers are told from type names by a call.
-const LEX: &str = "\
-D [0-9]\n\
-L [a-zA-Z_]\n\
-%%\n\
-\"int\" { count(); return(INT); }\n\
-\"char\" { count(); return(CHAR); }\n\
-\"sizeof\" { count(); return(SIZEOF); }\n\
-{L}({L}|{D})* { count(); return check_type(); /*@token IDENTIFIER*/ }\n\
-{D}+ { count(); return(CONSTANT); }\n\
-\\\"(\\\\.|[^\\\\\"\\n])*\\\" { count(); return(STRING_LITERAL); }\n\
-\">>=\" return RIGHT_ASSIGN;\n\
-\"<<=\" return LEFT_ASSIGN;\n\
-\"+=\" return ADD_ASSIGN;\n\
-\"-=\" return SUB_ASSIGN;\n\
-\"*=\" return MUL_ASSIGN;\n\
-\"/=\" return DIV_ASSIGN;\n\
-\"%=\" return MOD_ASSIGN;\n\
-\"&=\" return AND_ASSIGN;\n\
-\"^=\" return XOR_ASSIGN;\n\
-\"|=\" return OR_ASSIGN;\n\
-\">>\" return RIGHT_OP;\n\
-\"<<\" return LEFT_OP;\n\
-\"++\" return INC_OP;\n\
-\"--\" return DEC_OP;\n\
-\"->\" return PTR_OP;\n\
-\"&&\" return AND_OP;\n\
-\"||\" return OR_OP;\n\
-\"<=\" return LE_OP;\n\
-\">=\" return GE_OP;\n\
-\"==\" return EQ_OP;\n\
-\"!=\" return NE_OP;\n\
-[-+*/%&|^~!<>=?:.,()\\[\\]] return *yytext;\n\
-[ \\t\\v\\n\\f]+ { count(); }\n\
-. ;\n\
 ";
 
 // The tokens by their numbers: the declared ones, then the literals as they are used.
@@ -133,7 +97,7 @@ CHAR char\n\
 #[test]
 fn lexemes_of_c_expressions(rt: HostRuntime) -> Result<(), Fail> {
     let alloc = rt.alloc();
-    let found = lexemes(alloc, YACC.as_bytes(), LEX.as_bytes())?;
+    let found = lexemes(alloc, YACC.as_bytes(), C_SCANNER)?;
     assert_eq!(rt; found.as_str(), WANT);
     Ok(())
 }

@@ -2,56 +2,13 @@
 
 ghost use Rattle.std.specs.Prelude.{◌<◌, ◌≤◌, ◌↔◌, All, IsTrue, length};
 
-use cs_automaton::{Automaton, AutomatonError};
-use cs_lex::{LexError, LexFile, read_lex};
+use cs_automaton::Automaton;
 use cs_lexeme::Lexemes;
 use cs_render::{Rendered, render};
+use cs_sample_files::{Trouble, lexemes_of, read_files};
 use cs_scan::Scanner;
-use cs_yacc::{TokenName, YaccError, YaccFile, read_yacc};
+use cs_yacc::TokenName;
 use std::alloc::{AllocError, Global};
-
-/// Why there are no texts.
-#[derive(Debug, Drop)]
-pub enum Trouble {
-    TooLong,
-    Yacc(YaccError),
-    Lex(LexError),
-    Automaton(AutomatonError),
-    Memory,
-}
-
-impl From<YaccError> for Trouble {
-    fn from(error: YaccError) -> Self {
-        Trouble::Yacc(error)
-    }
-}
-
-impl From<LexError> for Trouble {
-    fn from(error: LexError) -> Self {
-        Trouble::Lex(error)
-    }
-}
-
-impl From<AutomatonError> for Trouble {
-    fn from(error: AutomatonError) -> Self {
-        Trouble::Automaton(error)
-    }
-}
-
-impl From<AllocError> for Trouble {
-    fn from(_error: AllocError) -> Self {
-        Trouble::Memory
-    }
-}
-
-fn read(alloc: Global, yacc: &[u8], lex: &[u8]) -> Result<(YaccFile, LexFile), Trouble> {
-    if yacc.len() > cs_yacc::MOST_BYTES || lex.len() > cs_lex::MOST_BYTES {
-        return Err(Trouble::TooLong);
-    }
-    let yacc = read_yacc(alloc, yacc)?;
-    let lex = read_lex(alloc, lex, &yacc)?;
-    Ok((yacc, lex))
-}
 
 /// Puts the name of a token and its lexeme, or `none`.
 fn put_lexeme(
@@ -75,15 +32,9 @@ fn put_lexeme(
 
 /// A line for each token: its name, and its lexeme with escapes, or `none`.
 pub fn lexemes(alloc: Global, yacc: &[u8], lex: &[u8]) -> Result<String, Trouble> {
-    let (yacc, lex) = read(alloc, yacc, lex)?;
-    let automaton = Automaton::new(alloc, lex.patterns())?;
-    let scanner = Scanner {
-        automaton: &automaton,
-        kinds: lex.kinds(),
-        literals: lex.literals(),
-    };
+    let (yacc, lex) = read_files(alloc, yacc, lex)?;
     let tokens = yacc.grammar().tokens();
-    let lexemes = Lexemes::new(alloc, &scanner, tokens)?;
+    let lexemes = lexemes_of(alloc, &yacc, &lex)?;
     let mut out = String::new(alloc);
     for token in 1..=tokens {
         if let Some(name) = yacc.token_names().get(token as usize - 1) {
@@ -108,7 +59,7 @@ pub fn rendered(
     separator: &[u8],
     tokens: &[u16],
 ) -> Result<String, Trouble> {
-    let (yacc, lex) = read(alloc, yacc, lex)?;
+    let (yacc, lex) = read_files(alloc, yacc, lex)?;
     let automaton = Automaton::new(alloc, lex.patterns())?;
     let scanner = Scanner {
         automaton: &automaton,

@@ -1,9 +1,8 @@
 //! Renderings, worked by hand.
 
 use crate::files::rendered;
+use cs_samples::SUMS;
 use std::test::Fail;
-
-const YACC: &str = "%token NUM\n%%\ne : e '+' t | t ;\nt : NUM | '(' e ')' ;\n";
 
 const LEX: &str = "%%\n[0-9]+ return NUM;\n[-+*/(] return yytext[0];\n[ \\t\\n]+ ;\n";
 
@@ -23,13 +22,7 @@ fn texts_of_tokens(rt: HostRuntime) -> Result<(), Fail> {
         ("\n", &[3, 3], "text (\\n("),
     ];
     for (separator, tokens, want) in rows {
-        let found = rendered(
-            alloc,
-            YACC.as_bytes(),
-            LEX.as_bytes(),
-            separator.as_bytes(),
-            tokens,
-        )?;
+        let found = rendered(alloc, SUMS, LEX.as_bytes(), separator.as_bytes(), tokens)?;
         assert_eq!(rt; found.as_str(), want, "{separator} {tokens:?}");
     }
     Ok(())

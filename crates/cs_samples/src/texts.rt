@@ -1,4 +1,4 @@
-// Long texts.
+// Long texts, and words of a command line.
 
 use std::alloc::{AllocError, Global};
 
@@ -16,4 +16,13 @@ pub fn repeated(
     }
     text.push_str(end)?;
     Ok(text)
+}
+
+/// Words of the command line.
+pub fn words(alloc: Global, texts: &[&str]) -> Result<Vec<String>, AllocError> {
+    let mut words = Vec::new(alloc);
+    for text in texts {
+        words.push(String::from_str(alloc, text)?)?;
+    }
+    Ok(words)
 }
