@@ -2,24 +2,14 @@
 // docs/FORMATS.md gives.
 
 use cs_input::{Refusal, Role, Stop, line, read_pair};
-use cs_io::MemoryDesk;
+use cs_sample_files::desk;
+use cs_samples::{SCANNER, SUMS};
 use std::alloc::{AllocError, Global};
 use std::test::Fail;
 
-const SUMS: &[u8] = b"%token NUM\n%%\ne : e '+' t | t ;\nt : NUM | '(' e ')' ;\n";
-
-const SCANNER: &[u8] = b"%%\n[0-9]+ return NUM;\n[-+*/()] return yytext[0];\n[ \\t\\n]+ ;\n";
-
 // What is said of a yacc file `y` and a lex file `l`, each where there is one.
 fn said(alloc: Global, yacc: Option<&[u8]>, lex: Option<&[u8]>) -> Result<String, AllocError> {
-    let mut files = Vec::new(alloc);
-    if let Some(bytes) = yacc {
-        files.push((String::from_str(alloc, "y")?, bytes.to_vec(alloc)?))?;
-    }
-    if let Some(bytes) = lex {
-        files.push((String::from_str(alloc, "l")?, bytes.to_vec(alloc)?))?;
-    }
-    let mut desk = MemoryDesk::new(files, Vec::new(alloc))?;
+    let mut desk = desk(alloc, yacc, lex)?;
     match read_pair(alloc, "y", "l", &mut desk) {
         Ok(_) => String::from_str(alloc, "read"),
         Err(Stop::NoFile(Role::Yacc)) => String::from_str(alloc, "no yacc file"),

@@ -4,24 +4,15 @@
 use cs_fan::OpenGate;
 use cs_io::{MemoryDesk, MemorySink};
 use cs_run::run;
+use cs_samples::{SUMS, words};
 use std::alloc::{AllocError, Global};
 use std::test::Fail;
-
-const SUMS: &[u8] = b"%token NUM\n%%\ne : e '+' t | t ;\nt : NUM | '(' e ')' ;\n";
 
 // A fresh desk with the file `g1.y`.
 fn desk(alloc: Global, file: &[u8]) -> Result<MemoryDesk, AllocError> {
     let mut files = Vec::new(alloc);
     files.push((String::from_str(alloc, "g1.y")?, file.to_vec(alloc)?))?;
     MemoryDesk::new(files, Vec::new(alloc))
-}
-
-fn words(alloc: Global, texts: &[&str]) -> Result<Vec<String>, AllocError> {
-    let mut words = Vec::new(alloc);
-    for text in texts {
-        words.push(String::from_str(alloc, text)?)?;
-    }
-    Ok(words)
 }
 
 #[test]

@@ -4,6 +4,7 @@
 use cs_fan::OpenGate;
 use cs_io::{Desk, DeskError, MemoryDesk, MemorySink};
 use cs_run::run;
+use cs_samples::words;
 use std::alloc::{AllocError, Global};
 use std::test::Fail;
 use std::thread::Threads;
@@ -25,9 +26,7 @@ fn summary<R: Threads + Sync>(
     seed: &str,
     mut out: MemorySink,
 ) -> Result<(u8, MemorySink, MemorySink), AllocError> {
-    let mut words = Vec::new(alloc);
-    words.push(String::from_str(alloc, "gen")?)?;
-    words.push(String::from_str(alloc, seed)?)?;
+    let words = words(alloc, &["gen", seed])?;
     let mut desk = desk(alloc)?;
     let mut err = MemorySink::new(alloc, 99, 99, Vec::new(alloc))?;
     let status = run(rt, alloc, &words, &mut desk, &mut out, &mut err, &OpenGate);
@@ -87,9 +86,7 @@ fn words_that_are_no_number(rt: HostRuntime) -> Result<(), Fail> {
 #[test]
 fn no_file_is_asked_for(rt: HostRuntime) -> Result<(), Fail> {
     let alloc = rt.alloc();
-    let mut words = Vec::new(alloc);
-    words.push(String::from_str(alloc, "gen")?)?;
-    words.push(String::from_str(alloc, "1")?)?;
+    let words = words(alloc, &["gen", "1"])?;
     let mut desk = desk(alloc)?;
     let mut out = ample(alloc)?;
     let mut err = ample(alloc)?;

@@ -2,17 +2,10 @@
 // which word may stand behind which, and the values of each option.
 
 use cs_manifest::{Format, Weigh};
+use cs_samples::words;
 use cs_words::{BadWord, Command, read_words};
 use std::alloc::{AllocError, Global};
 use std::test::Fail;
-
-fn words(alloc: Global, texts: &[&str]) -> Result<Vec<String>, AllocError> {
-    let mut words = Vec::new(alloc);
-    for text in texts {
-        words.push(String::from_str(alloc, text)?)?;
-    }
-    Ok(words)
-}
 
 // The place of the first bad word.
 fn bad_word(alloc: Global, texts: &[&str]) -> Result<Option<usize>, AllocError> {

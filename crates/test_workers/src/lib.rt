@@ -1,5 +1,12 @@
-//! Tests of lists that workers render, by public calls alone. Nothing stands on this crate.
+//! Tests of workers, of lists that they render and of gates that wait for each other, by public calls alone. Nothing stands on this
+//! crate.
 #![tactic(auto)]
 
 #[cfg(test)]
+mod fan;
+#[cfg(test)]
 mod rendering;
+#[cfg(test)]
+mod suites;
+#[cfg(test)]
+mod two_flags;

@@ -4,37 +4,17 @@ ghost use Rattle.std.specs.Prelude.{◌≡◌, ◌<◌, ◌≤◌, length, All};
 ghost use Rattle.cs_render.specs.Rendering.{AreTokens};
 ghost use Rattle.cs_scan.specs.Compared.{HasKinds, HasLiterals};
 
-use cs_automaton::{Automaton, AutomatonError};
+use cs_automaton::Automaton;
 use cs_fan::{Counter, OpenGate, fan};
-use cs_lex::{LexFile, MOST_BYTES, read_lex};
 use cs_lexeme::Lexemes;
 use cs_render::Rendered;
 use cs_render_work::RenderWork;
+use cs_sample_files::read_files;
+use cs_samples::{SCANNER, SUMS};
 use cs_scan::Scanner;
-use cs_yacc::{YaccFile, read_yacc};
 use std::alloc::{AllocError, Global};
 use std::test::Fail;
 use std::thread::Threads;
-
-// NUM 1, '+' 2, '(' 3 and ')' 4 are its tokens in use.
-const SUMS: &[u8] = b"%token NUM\n%%\ne : e '+' t | t ;\nt : NUM | '(' e ')' ;\n";
-
-const LEXEMES: &[u8] = b"%%\n[0-9]+ return NUM;\n[-+*/()] return yytext[0];\n[ \\t\\n]+ ;\n";
-
-fn sums(alloc: Global) -> Option<YaccFile> {
-    if SUMS.len() > MOST_BYTES {
-        return None;
-    }
-    read_yacc(alloc, SUMS).ok()
-}
-
-fn file(alloc: Global) -> Option<LexFile> {
-    let yacc = sums(alloc)?;
-    if LEXEMES.len() > MOST_BYTES {
-        return None;
-    }
-    read_lex(alloc, LEXEMES, &yacc).ok()
-}
 
 // What comes of `NUM`, `NUM NUM` and the empty list, by so many workers.
 fn rendered<R: Threads + Sync>(
@@ -66,7 +46,7 @@ fn is_text(rendered: &Rendered, wanted: &[u8]) -> bool {
 #[test]
 fn texts_stand_in_the_order_of_the_lists(rt: HostRuntime) -> Result<(), Fail> {
     let alloc = rt.alloc();
-    let file = file(alloc).ok_or("lex")?;
+    let (_, file) = read_files(alloc, SUMS, SCANNER)?;
     let automaton = Automaton::new(alloc, file.patterns())?;
     let scanner = Scanner {
         automaton: &automaton,

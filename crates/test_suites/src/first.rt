@@ -1,27 +1,14 @@
 // Suites of the first format, and how suites end, by `run`: what is expected was worked by hand from the definitions, as
 // docs/FORMATS.md lays them out.
 
-use cs_fan::{Gate, OpenGate};
-use cs_io::{MemoryDesk, MemorySink};
+use cs_fan::OpenGate;
+use cs_io::MemorySink;
 use cs_run::run;
+use cs_sample_files::{desk, suite_words};
+use cs_samples::{LETTER, LETTER_SCANNER, LETTER_SUITE_ONE, NUMBER, SCANNER, SUMS};
 use std::alloc::{AllocError, Global};
-use std::sync::atomic::{AtomicBool, Ordering};
 use std::test::Fail;
 use std::thread::Threads;
-
-const SUMS: &[u8] = b"%token NUM\n%%\ne : e '+' t | t ;\nt : NUM | '(' e ')' ;\n";
-
-const SCANNER: &[u8] = b"%%\n[0-9]+ return NUM;\n[-+*/()] return yytext[0];\n[ \\t\\n]+ ;\n";
-
-const CHOICE: &[u8] = b"%%\na : a | 'x' ;\n";
-
-const LETTER: &[u8] = b"%%\nx return 'x';\n";
-
-const NUMBER: &[u8] = b"%token NUM\n%%\ns : NUM ;\n";
-
-const ONE: &[u8] = b"%%\ns : 'x' ;\n";
-
-const BLANKS: &[u8] = b"%%\nx return 'x';\n[ ]+ ;\n";
 
 // The second base of sums, and its first negatives.
 const SECOND_BASE: &[u8] = b"base 2 goal 2
@@ -43,112 +30,7 @@ negative 2 base 1 swap 1 pair 'y' 'x' at 2
   text \"x y x\"
 ";
 
-// The suite of one word of one letter, whole.
-const LETTER_SUITE: &[u8] = b"conform 1 suite
-token 1 'x'
-rule 1 s : 'x'
-lexeme 'x' \"x\"
-goal 1 rule 1 size 2
-  derive 1
-  tokens 'x'
-  text \"x\"
-goal 2 pair <begin> 'x' size 2
-  derive 1
-  tokens 'x'
-  text \"x\"
-goal 3 pair <begin> <end> infeasible
-goal 4 pair 'x' 'x' infeasible
-goal 5 pair 'x' <end> size 2
-  derive 1
-  tokens 'x'
-  text \"x\"
-base 1 goal 1
-negative 1 base 1 delete 0 pair <begin> <end> at 0
-  tokens
-  text \"\"
-negative 2 base 1 insert 0 'x' pair 'x' 'x' at 1
-  tokens 'x' 'x'
-  text \"x x\"
-end goals 5 feasible 3 infeasible 2 large 0 negatives 2
-";
-
-// The suite of `CHOICE` and `LETTER` by rules alone.
-const CHOICE_RULES: &[u8] = b"conform 1 suite
-token 1 'x'
-rule 1 a : a
-rule 2 a : 'x'
-lexeme 'x' \"x\"
-goal 1 rule 1 size 3
-  derive 1 2
-  tokens 'x'
-  text \"x\"
-goal 2 rule 2 size 2
-  derive 2
-  tokens 'x'
-  text \"x\"
-end goals 2 feasible 2 infeasible 0 large 0 negatives 0
-";
-
-// The same in the second format: rule 2 is in the first case too.
-const CHOICE_CASES: &[u8] = b"conform 2 suite
-weigh nodes
-token 1 'x'
-rule 1 a : a
-rule 2 a : 'x'
-lexeme 'x' \"x\"
-closed productive a
-closed reachable a
-closed empty
-closed first a : 'x'
-closed last a : 'x'
-closed next <begin> : 'x'
-closed next 'x' : <end>
-case 1 size 3
-  derive 1 2
-  tokens 'x'
-  text \"x\"
-goal 1 rule 1 size 3 case 1 first 1
-case 2 size 2
-  derive 2
-  tokens 'x'
-  text \"x\"
-goal 2 rule 2 size 2 case 2 first 1
-end goals 2 feasible 2 infeasible 0 large 0 negatives 0 cases 2
-";
-
-/// A fresh desk with the files `y` and `l`, each where there is one.
-pub fn desk(
-    alloc: Global,
-    yacc: Option<&[u8]>,
-    lex: Option<&[u8]>,
-) -> Result<MemoryDesk, AllocError> {
-    let mut files = Vec::new(alloc);
-    if let Some(bytes) = yacc {
-        files.push((String::from_str(alloc, "y")?, bytes.to_vec(alloc)?))?;
-    }
-    if let Some(bytes) = lex {
-        files.push((String::from_str(alloc, "l")?, bytes.to_vec(alloc)?))?;
-    }
-    MemoryDesk::new(files, Vec::new(alloc))
-}
-
-/// The words `suite y l` and these options, but for empty ones.
-pub fn suite_words(alloc: Global, options: &[&str]) -> Result<Vec<String>, AllocError> {
-    let mut words = Vec::new(alloc);
-    add(alloc, &mut words, &["suite", "y", "l"])?;
-    add(alloc, &mut words, options)?;
-    Ok(words)
-}
-
-fn add(alloc: Global, words: &mut Vec<String>, texts: &[&str]) -> Result<(), AllocError> {
-    for text in texts {
-        if !text.is_empty() {
-            words.push(String::from_str(alloc, text)?)?;
-        }
-    }
-    Ok(())
-}
-
+// Whether the part stands in the text.
 fn has(text: &[u8], part: &[u8]) -> bool {
     for at in 0..text.len() {
         if text[at..].starts_with(part) {
@@ -164,7 +46,7 @@ fn suites_of_files(rt: HostRuntime) -> Result<(), Fail> {
     let unused: &[u8] = b"%token NUM\n%%\ne : e '+' t | t ;\nt : NUM | '(' e ')' ;\nu : u 'x' ;\n";
     let keywords: &[u8] = b"%token IF ID\n%%\ns : IF | ID ;\n";
     // A yacc file, a lex file, an option, a part of the output, and its end.
-    let rows: [(&[u8], &[u8], &str, &[u8], &[u8]); 10] = [
+    let rows: [(&[u8], &[u8], &str, &[u8], &[u8]); 9] = [
         (
             SUMS,
             SCANNER,
@@ -202,7 +84,7 @@ fn suites_of_files(rt: HostRuntime) -> Result<(), Fail> {
         ),
         (
             b"%%\ns : s 'x' ;\n",
-            LETTER,
+            LETTER_SCANNER,
             "--bases=3",
             b"goal 1 rule 1 infeasible\n",
             b"end goals 6 feasible 0 infeasible 6 large 0 negatives 0\n",
@@ -228,13 +110,6 @@ fn suites_of_files(rt: HostRuntime) -> Result<(), Fail> {
             b"lexeme NUM \"aaaaaaaaaaaaaa\"\n",
             b"end goals 1 feasible 1 infeasible 0 large 0 negatives 0\n",
         ),
-        (
-            CHOICE,
-            LETTER,
-            "--criteria=rule",
-            CHOICE_RULES,
-            CHOICE_RULES,
-        ),
     ];
     for (yacc, lex, option, part, end) in rows {
         let words = suite_words(alloc, &["--mutate=none", option, "--format=1"])?;
@@ -258,18 +133,25 @@ fn mutants_of_bases(rt: HostRuntime) -> Result<(), Fail> {
     let alloc = rt.alloc();
     // A yacc file, a lex file, two options, a part of the output, and its end.
     let rows: [(&[u8], &[u8], &str, &str, &[u8], &[u8]); 9] = [
-        (ONE, BLANKS, "", "", LETTER_SUITE, LETTER_SUITE),
         (
-            ONE,
-            BLANKS,
-            "--mutate=insert,delete",
+            LETTER,
+            LETTER_SCANNER,
             "",
-            LETTER_SUITE,
-            LETTER_SUITE,
+            "",
+            LETTER_SUITE_ONE,
+            LETTER_SUITE_ONE,
         ),
         (
-            ONE,
-            BLANKS,
+            LETTER,
+            LETTER_SCANNER,
+            "--mutate=insert,delete",
+            "",
+            LETTER_SUITE_ONE,
+            LETTER_SUITE_ONE,
+        ),
+        (
+            LETTER,
+            LETTER_SCANNER,
             "--mutate=swap,replace",
             "",
             b"base 1 goal 1\n",
@@ -301,7 +183,7 @@ fn mutants_of_bases(rt: HostRuntime) -> Result<(), Fail> {
         ),
         (
             b"%%\ns : s 'x' ;\n",
-            LETTER,
+            LETTER_SCANNER,
             "",
             "",
             b"goal 6 pair 'x' <end> infeasible\n",
@@ -309,7 +191,7 @@ fn mutants_of_bases(rt: HostRuntime) -> Result<(), Fail> {
         ),
         (
             b"%%\ns : ;\nt : 'x' ;\n",
-            BLANKS,
+            LETTER_SCANNER,
             "--criteria=rule",
             "",
             b"base 1 goal 1\nnegative 1 base 1 insert 0 'x' pair <begin> 'x' at 0\n  tokens 'x'\n  text \"x\"\n",
@@ -435,69 +317,5 @@ fn criteria_in_another_order_give_the_same(rt: HostRuntime) -> Result<(), Fail> 
     assert!(rt; first == 0 && second == 0 && third == 0);
     assert_eq!(rt; other.written(), one.written());
     assert_eq!(rt; last.written(), one.written());
-    Ok(())
-}
-
-// Most turns for which a worker waits at a gate.
-const MOST_TURNS: u32 = 100_000_000;
-
-// A flag for each of two items.
-#[derive(Drop)]
-struct TwoFlags {
-    first: AtomicBool,
-    second: AtomicBool,
-    first_saw: AtomicBool,
-    second_saw: AtomicBool,
-}
-
-// Raises a flag and waits for the other.
-fn meet(mine: &AtomicBool, other: &AtomicBool, saw: &AtomicBool) {
-    mine.store(true, Ordering::SeqCst);
-    for _ in 0..MOST_TURNS {
-        if other.load(Ordering::SeqCst) {
-            saw.store(true, Ordering::SeqCst);
-            return;
-        }
-    }
-}
-
-impl Gate for TwoFlags {
-    fn enter(&self, index: u32) {
-        if index == 0 {
-            meet(&self.first, &self.second, &self.first_saw);
-        } else {
-            meet(&self.second, &self.first, &self.second_saw);
-        }
-    }
-}
-
-// Whether two workers are at work at once on the suite of `CHOICE` by rules, in this format, and write it.
-fn two_meet<R: Threads + Sync>(
-    rt: &R,
-    alloc: Global,
-    format: &str,
-    whole: &[u8],
-) -> Result<bool, AllocError> {
-    let gate = TwoFlags {
-        first: AtomicBool::new(false),
-        second: AtomicBool::new(false),
-        first_saw: AtomicBool::new(false),
-        second_saw: AtomicBool::new(false),
-    };
-    let words = suite_words(alloc, &["--mutate=none", "--criteria=rule", format])?;
-    let mut desk = desk(alloc, Some(CHOICE), Some(LETTER))?;
-    let mut out = MemorySink::new(alloc, 1_000, 1_000, Vec::new(alloc))?;
-    let mut err = MemorySink::new(alloc, 99, 99, Vec::new(alloc))?;
-    let status = run(rt, alloc, &words, &mut desk, &mut out, &mut err, &gate);
-    let met = gate.first_saw.load(Ordering::SeqCst) && gate.second_saw.load(Ordering::SeqCst);
-    Ok(status == 0 && met && out.written() == whole)
-}
-
-// The two goals are one batch, and so are the two cases.
-#[test]
-fn two_goals_meet(rt: HostRuntime) -> Result<(), Fail> {
-    let alloc = rt.alloc();
-    assert!(rt; two_meet(&rt, alloc, "--format=1", CHOICE_RULES)?);
-    assert!(rt; two_meet(&rt, alloc, "--format=2", CHOICE_CASES)?);
     Ok(())
 }

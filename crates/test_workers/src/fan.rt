@@ -1,13 +1,11 @@
 // Workers: the answers are those of doubling by hand; that workers work at once is seen at gates
 // that wait for each other, each at most so many turns.
 
+use crate::two_flags::{MOST_TURNS, TwoFlags};
 use cs_fan::{Counter, Gate, OpenGate, Work, fan};
 use std::alloc::{AllocError, Global};
 use std::sync::atomic::{AtomicBool, AtomicU64, Ordering};
 use std::test::Fail;
-
-// Most turns for which a worker waits at a gate.
-const MOST_TURNS: u32 = 100_000_000;
 
 struct Doubling;
 
@@ -20,36 +18,6 @@ impl Work<u32, u32> for Doubling {
 
     fn one(&self, _alloc: Global, item: &u32) -> Result<u32, AllocError> {
         Ok(*item + *item)
-    }
-}
-
-// A flag for each of two items.
-#[derive(Drop)]
-struct TwoFlags {
-    first: AtomicBool,
-    second: AtomicBool,
-    first_saw: AtomicBool,
-    second_saw: AtomicBool,
-}
-
-// Raises a flag and waits for the other.
-fn meet(mine: &AtomicBool, other: &AtomicBool, saw: &AtomicBool) {
-    mine.store(true, Ordering::SeqCst);
-    for _ in 0..MOST_TURNS {
-        if other.load(Ordering::SeqCst) {
-            saw.store(true, Ordering::SeqCst);
-            return;
-        }
-    }
-}
-
-impl Gate for TwoFlags {
-    fn enter(&self, index: u32) {
-        if index == 0 {
-            meet(&self.first, &self.second, &self.first_saw);
-        } else {
-            meet(&self.second, &self.first, &self.second_saw);
-        }
     }
 }
 
@@ -126,12 +94,7 @@ fn seats_are_split_drawn_from_and_joined(rt: HostRuntime) -> Result<(), Fail> {
 
 #[test]
 fn two_items_meet(rt: HostRuntime) -> Result<(), Fail> {
-    let gate = TwoFlags {
-        first: AtomicBool::new(false),
-        second: AtomicBool::new(false),
-        first_saw: AtomicBool::new(false),
-        second_saw: AtomicBool::new(false),
-    };
+    let gate = TwoFlags::new();
     let (counter, mut seat) = Counter::new(rt.alloc(), 2, 2)?;
     let answers = fan(
         &rt,
@@ -143,7 +106,7 @@ fn two_items_meet(rt: HostRuntime) -> Result<(), Fail> {
         &mut seat,
     )?;
     assert!(rt; answers.as_slice() == [6, 8].as_slice());
-    assert!(rt; gate.first_saw.load(Ordering::SeqCst) && gate.second_saw.load(Ordering::SeqCst));
+    assert!(rt; gate.have_met());
     Ok(())
 }
 

@@ -1,100 +1,18 @@
 // Suites of the second format, and suites that weigh bytes, by `run`. What is expected was worked by hand from the definitions:
 // the closed sets over all trees, the least trees by their sizes, the cases in the order of the goals.
 
-use crate::suite::{desk, suite_words};
 use cs_fan::OpenGate;
 use cs_io::MemorySink;
 use cs_run::run;
+use cs_sample_files::{desk, suite_words};
+use cs_samples::{LETTER, LETTER_SCANNER, LETTER_SUITE_TWO, SCANNER, SUMS, SUMS_SUITE_TWO};
 use std::alloc::{AllocError, Global};
 use std::test::Fail;
 use std::thread::Threads;
 
-const BLANKS: &[u8] = b"%%\nx return 'x';\n[ ]+ ;\n";
-
-const SUMS: &[u8] = b"%token NUM\n%%\ne : e '+' t | t ;\nt : NUM | '(' e ')' ;\n";
-
-const SCANNER: &[u8] = b"%%\n[0-9]+ return NUM;\n[-+*/()] return yytext[0];\n[ \\t\\n]+ ;\n";
-
 const LONG: &[u8] = b"%token LONG\n%%\ns : a t ; a : LONG | 'x' 'y' ; t : 'z' ;\n";
 
 const LONG_SCANNER: &[u8] = b"%%\nlonglong return LONG;\n[xyz] return yytext[0];\n[ ]+ ;\n";
-
-const LETTER_SUITE: &[u8] = b"conform 2 suite
-weigh nodes
-token 1 'x'
-rule 1 s : 'x'
-lexeme 'x' \"x\"
-closed productive s
-closed reachable s
-closed empty
-closed first s : 'x'
-closed last s : 'x'
-closed next <begin> : 'x'
-closed next 'x' : <end>
-case 1 size 2
-  derive 1
-  tokens 'x'
-  text \"x\"
-goal 1 rule 1 size 2 case 1 first 1
-goal 2 pair <begin> 'x' size 2 case 1 first 1
-goal 3 pair <begin> <end> infeasible
-goal 4 pair 'x' 'x' infeasible
-goal 5 pair 'x' <end> size 2 case 1 first 1
-base 1 goal 1
-negative 1 base 1 delete 0 pair <begin> <end> at 0
-  tokens
-  text \"\"
-negative 2 base 1 insert 0 'x' pair 'x' 'x' at 1
-  tokens 'x' 'x'
-  text \"x x\"
-end goals 5 feasible 3 infeasible 2 large 0 negatives 2 cases 1
-";
-
-// Goals 2 and 3 have one code, which isn't the first case that meets them.
-const SUMS_SUITE: &[u8] = b"conform 2 suite
-weigh nodes
-token 1 NUM
-token 2 '+'
-token 3 '('
-token 4 ')'
-rule 1 e : e '+' t
-rule 2 e : t
-rule 3 t : NUM
-rule 4 t : '(' e ')'
-lexeme NUM \"0\"
-lexeme '+' \"+\"
-lexeme '(' \"(\"
-lexeme ')' \")\"
-closed productive e t
-closed reachable e t
-closed empty
-closed first e : NUM '('
-closed first t : NUM '('
-closed last e : NUM ')'
-closed last t : NUM ')'
-closed next <begin> : NUM '('
-closed next NUM : '+' ')' <end>
-closed next '+' : NUM '('
-closed next '(' : NUM '('
-closed next ')' : '+' ')' <end>
-case 1 size 7
-  derive 1 2 3 3
-  tokens NUM '+' NUM
-  text \"0 + 0\"
-goal 1 rule 1 size 7 case 1 first 1
-case 2 size 3
-  derive 2 3
-  tokens NUM
-  text \"0\"
-goal 2 rule 2 size 3 case 2 first 1
-goal 3 rule 3 size 3 case 2 first 1
-case 3 size 7
-  derive 2 4 2 3
-  tokens '(' NUM ')'
-  text \"( 0 )\"
-goal 4 rule 4 size 7 case 3 first 3
-end goals 4 feasible 4 infeasible 0 large 0 negatives 0 cases 3
-";
 
 // No tree at all: the hole alone is a context of the start symbol.
 const NO_SENTENCE: &[u8] = b"conform 2 suite
@@ -256,18 +174,17 @@ fn writes<R: Threads + Sync>(
 #[test]
 fn whole_suites_of_the_second_format(rt: HostRuntime) -> Result<(), Fail> {
     let alloc = rt.alloc();
-    let one: &[u8] = b"%%\ns : 'x' ;\n";
     let none: &[u8] = b"%%\ns : s 'x' ;\n";
     let rules = "--criteria=rule";
     let rows: [((&[u8], &[u8]), &[&str], &[u8]); 4] = [
-        ((one, BLANKS), &[], LETTER_SUITE),
+        ((LETTER, LETTER_SCANNER), &[], LETTER_SUITE_TWO),
         (
             (SUMS, SCANNER),
             &["--format=2", rules, "--mutate=none"],
-            SUMS_SUITE,
+            SUMS_SUITE_TWO,
         ),
-        ((none, BLANKS), &["--weigh=nodes"], NO_SENTENCE),
-        ((LOOSE, BLANKS), &[rules], LOOSE_SUITE),
+        ((none, LETTER_SCANNER), &["--weigh=nodes"], NO_SENTENCE),
+        ((LOOSE, LETTER_SCANNER), &[rules], LOOSE_SUITE),
     ];
     for (files, options, whole) in rows {
         assert!(rt; writes(&rt, alloc, files, options, whole, whole)?);
@@ -282,7 +199,7 @@ fn sizes_by_bytes_and_by_nodes(rt: HostRuntime) -> Result<(), Fail> {
     let rows: [((&[u8], &[u8]), &str, &[u8]); 3] = [
         ((LONG, LONG_SCANNER), "--weigh=bytes", LONG_BY_BYTES),
         ((LONG, LONG_SCANNER), "--weigh=nodes", LONG_BY_NODES),
-        ((indent, BLANKS), "--weigh=bytes", NO_LEXEME),
+        ((indent, LETTER_SCANNER), "--weigh=bytes", NO_LEXEME),
     ];
     for (files, weigh, end) in rows {
         let options = ["--format=1", "--criteria=rule", weigh, "--mutate=none"];
