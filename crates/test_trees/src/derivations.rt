@@ -35,6 +35,25 @@ fn derivations_of_sums(rt: HostRuntime) -> Result<(), Fail> {
     Ok(())
 }
 
+// By hand: a longer list is cut, a shorter one stays.
+#[test]
+fn derivations_are_cut_and_taken_apart(rt: HostRuntime) -> Result<(), Fail> {
+    let alloc = rt.alloc();
+    let rows: [(usize, &[u16]); 4] = [
+        (0, &[]),
+        (2, &[1, 2]),
+        (4, &[1, 2, 3, 3]),
+        (9, &[1, 2, 3, 3]),
+    ];
+    for (len, want) in rows {
+        let mut derivation = Derivation::new(alloc);
+        derivation.extend_from_slice(&[1, 2, 3, 3])?;
+        derivation.truncate(len);
+        assert_eq!(rt; derivation.into_rules().as_slice(), want, "{len}");
+    }
+    Ok(())
+}
+
 // By the limits of 512 tokens and 1,024 nonterminals.
 #[test]
 fn what_fits(rt: HostRuntime) -> Result<(), Fail> {
