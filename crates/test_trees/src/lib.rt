@@ -1,5 +1,5 @@
-//! Tests of the layers of trees by their public calls alone: grammars, goals, least trees, least ways, least contexts,
-//! and the edits of sentences.
+//! Tests of the layers of trees by their public calls alone: grammars, goals, least trees, kinds of trees, least ways, least
+//! contexts, and the edits of sentences.
 #![tactic(auto)]
 
 #[cfg(test)]
@@ -10,6 +10,8 @@ mod costs;
 mod derivations;
 #[cfg(test)]
 mod goals;
+#[cfg(test)]
+mod kinds;
 #[cfg(test)]
 mod mutate;
 #[cfg(test)]
