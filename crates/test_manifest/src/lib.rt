@@ -5,3 +5,5 @@
 mod bases;
 #[cfg(test)]
 mod lines;
+#[cfg(test)]
+mod shared;
