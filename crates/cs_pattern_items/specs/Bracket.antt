@@ -1,5 +1,6 @@
 -- Brackets (POSIX, bracket expressions in the POSIX locale).
 use Rattle.std.specs.Prelude.{ℕ, ◌+◌, Bool, true, false, ◌==◌, nat_le, ◌&&◌, ◌||◌, not, if◌then◌else◌, List, [], ◌∷◌, Option, Some, None, codes, drop}
+use Rattle.std.specs.Option.{option_or}
 use Rattle.std.specs.List.{list_any}
 use Rattle.std.specs.Str.{bytes_eq}
 use Rattle.cs_pattern_items.specs.declared.bracket.Class.{Class}
@@ -21,13 +22,9 @@ other_class name =
     else (if bytes_eq name (codes "cntrl") then Some Cntrl else (if bytes_eq name (codes "graph") then Some Graph
     else (if bytes_eq name (codes "print") then Some Print else (if bytes_eq name (codes "punct") then Some Punct else None)))))
 
-abbrev pub or_else : Option Class → Option Class → Option Class
-or_else None o = o
-or_else (Some k) o = Some k
-
 -- the class of that name
 unfoldable pub class_of : List ℕ → Option Class
-class_of name = or_else (letter_class name) (other_class name)
+class_of name = option_or (letter_class name) (other_class name)
 
 -- the bytes of a class
 unfoldable pub is_in_class : Class → ℕ → Bool

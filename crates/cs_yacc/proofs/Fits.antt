@@ -5,6 +5,7 @@ use Rattle.std.specs.List.{All}
 use Rattle.std.proofs.lemmas.List.{length-map}
 use Rattle.std.proofs.lemmas.Bool.{false≢true, lt-ltb}
 use Rattle.std.proofs.lemmas.List.Elements.{All-nil, All-cons, All-map, All-weaker}
+use Rattle.std.specs.Option.{option_or}
 use Rattle.cs_grammar.specs.declared.symbol.Symbol.TheVariants.{Token, Nonterminal}
 use Rattle.cs_grammar.specs.Grammar.{IsSymbol, IsRuleOf}
 use Rattle.cs_yacc.specs.declared.name.TokenName.{TokenName}
@@ -16,7 +17,7 @@ use Rattle.cs_yacc_items.specs.declared.directive.Directive.{Directive}
 use Rattle.cs_yacc_items.specs.declared.directive.Directive.TheVariants as directives
 use Rattle.cs_yacc_items.specs.Items.{Item, mark, prologue, directive, name, literal, number, tag, block, colon, semicolon, comma, Placed, items_of}
 use Rattle.cs_yacc_items.specs.Table.{Place, declarations, start, union, expect, list, tagged, entry, counted, behind_comma, rules, left, body, named, prec, closed, done, behind_directive, in_declarations, in_entry, Row, may_end, MayEnd, TakesTo, IsTaken}
-use Rattle.cs_yacc.specs.Meaning.{has_spelling, distinct, number_in, symbol_of, production_of, left_at, left_sides, nonterminals, tokens_of, SpelledRule, kept, above, or_else, long_right, limit_passed, bytes_of, number_or_first, start_of, start_item, is_no_left, wrong_start, is_prec, is_prec_before, has_meaning, with_meaning_behind, with_meaning, spelling_at, used, Parts, parts_of, file_with}
+use Rattle.cs_yacc.specs.Meaning.{has_spelling, distinct, number_in, symbol_of, production_of, left_at, left_sides, nonterminals, tokens_of, SpelledRule, kept, above, long_right, limit_passed, bytes_of, number_or_first, start_of, start_item, is_no_left, wrong_start, is_prec, is_prec_before, has_meaning, with_meaning_behind, with_meaning, spelling_at, used, Parts, parts_of, file_with}
 use Rattle.cs_yacc.specs.File.{IsFile}
 use Rattle.cs_yacc.proofs.Names.{IsIn, number_within, names_differ, lefts_known, rights_known}
 
@@ -29,11 +30,11 @@ not_above which found most e = by_test (nat_lt most found) refl e
     by_test true t e = let f : above which found most ≢ None = rw t (λ g. cc) in absurd (f e)
     by_test false t e = omega (arith, λ (lt : most < found). false≢true (sym t ∙ lt-ltb most found lt))
 
-first_none : {A : Type 0} (o p : Option A) → or_else o p ≡ None → o ≡ None
+first_none : {A : Type 0} (o p : Option A) → option_or o p ≡ None → o ≡ None
 first_none None p e = refl
 first_none (Some x) p e = e
 
-second_none : {A : Type 0} (o p : Option A) → or_else o p ≡ None → p ≡ None
+second_none : {A : Type 0} (o p : Option A) → option_or o p ≡ None → p ≡ None
 second_none None p e = e
 second_none (Some x) p e = absurd cc
 
@@ -194,10 +195,10 @@ module _ (all : List Placed) where
   }
 
   abbrev behind_nonterminals : Option YaccError
-  behind_nonterminals = or_else (above Rules (length (kept items)) 8192) (long_right (kept items))
+  behind_nonterminals = option_or (above Rules (length (kept items)) 8192) (long_right (kept items))
 
   abbrev behind_tokens : Option YaccError
-  behind_tokens = or_else (above Nonterminals (length (nonterminals items)) 1024) behind_nonterminals
+  behind_tokens = option_or (above Nonterminals (length (nonterminals items)) 1024) behind_nonterminals
 
   -- what a file means that is taken and within the limits is well formed
   pub file_fits : IsTaken (items_of all) → wrong_start (nonterminals items) (start_item all) ≡ None → limit_passed (parts_of all (with_meaning all)) ≡ None → IsFile (file_with (parts_of all (with_meaning all)))
@@ -227,8 +228,8 @@ module _ (all : List Placed) where
 -- parts within the limits have few tokens and nonterminals
 pub few_symbols : (p : Parts) → limit_passed p ≡ None → (length p.tokens ≤ 512) × (length p.nonterminals ≤ 1024)
 few_symbols p none =
-    let rules_or_right = or_else (above Rules (length p.rules) 8192) (long_right p.rules) in
-    let rest = or_else (above Nonterminals (length p.nonterminals) 1024) rules_or_right in (
+    let rules_or_right = option_or (above Rules (length p.rules) 8192) (long_right p.rules) in
+    let rest = option_or (above Nonterminals (length p.nonterminals) 1024) rules_or_right in (
       not_above Tokens (length p.tokens) 512 (first_none (above Tokens (length p.tokens) 512) rest none),
       not_above Nonterminals (length p.nonterminals) 1024 (first_none (above Nonterminals (length p.nonterminals) 1024) rules_or_right (second_none (above Tokens (length p.tokens) 512) rest none)),
     )

@@ -1,6 +1,7 @@
 -- From the tables to what the reader answers.
 use Rattle.std.proofs.Common.{◌≡◌, ◌≤◌, ℕ, Bool, true, false, cond, List, [], ◌∷◌, length, refl, sym, ap, subst, ◌∙◌, ◌⊎◌, inl, inr, arith}
 use Rattle.std.specs.Prelude.{Option, Some, None, Result, Ok, Err, nat_lt, option_map, filter}
+use Rattle.std.specs.Option.{option_or}
 use Rattle.cs_yacc_items.specs.declared.item.Placed as held
 use Rattle.cs_yacc.specs.declared.name.TokenName.{TokenName}
 use Rattle.cs_yacc.specs.declared.error.YaccLimit.{YaccLimit}
@@ -11,7 +12,7 @@ use Rattle.cs_yacc_items.specs.Items.{Placed, items_of, Reads}
 use Rattle.cs_yacc_items.specs.Table.{declarations, IsTaken, IsStuck}
 use Rattle.cs_yacc_items.proofs.Stuck.{stuck_at, stuck_from_some, taken_from_none}
 use Rattle.cs_yacc.specs.File.{File, IsFile}
-use Rattle.cs_yacc.specs.Meaning.{declared_tokens, SpelledRule, kept, used, nonterminals, distinct, spelled, is_in_use, tokens_of, with_meaning, start_item, wrong_start, file_with, behind_start, is_token_on_left, behind_mark, first_at, first_start, first_undefined, name_fault, above, long_right, limit_passed, or_else, unless, Parts, parts_of, file_or_limit, outcome}
+use Rattle.cs_yacc.specs.Meaning.{declared_tokens, SpelledRule, kept, used, nonterminals, distinct, spelled, is_in_use, tokens_of, with_meaning, start_item, wrong_start, file_with, behind_start, is_token_on_left, behind_mark, first_at, first_start, first_undefined, name_fault, above, long_right, limit_passed, unless, Parts, parts_of, file_or_limit, outcome}
 use Rattle.cs_yacc.specs.Reading.{IsYaccFile, Refuses, Answers, IsAccepted, IsRefused}
 use Rattle.cs_yacc.specs.Finding.{IsGiven, fault_behind_start, left_parts}
 use Rattle.cs_yacc.specs.Errors.{error_of}
@@ -93,7 +94,7 @@ name_fault_behind all items start ds ls once s = rw (← once, s) refl
 pub gives_second_start : (all : List Placed) (at : ℕ) → Some at ≡ first_start (behind_start all) → IsGiven (Err (SecondStart at)) (outcome all)
 gives_second_start all at found = is_given (Err (SecondStart at)) (outcome all) (rw (← found) refl)
 
-second_none : {A : Type 0} (o p : Option A) → or_else o p ≡ None → p ≡ None
+second_none : {A : Type 0} (o p : Option A) → option_or o p ≡ None → p ≡ None
 second_none None p e = e
 second_none (Some x) p e = absurd cc
 
@@ -122,9 +123,9 @@ abbrev IsFound : Option YaccError → Type 0
 IsFound None = Unit {0}
 IsFound (Some e) = IsOfMeaning e
 
-or_else_found : (o p : Option YaccError) → IsFound o → IsFound p → IsFound (or_else o p)
-or_else_found None p h g = g
-or_else_found (Some e) p h g = h
+option_or_found : (o p : Option YaccError) → IsFound o → IsFound p → IsFound (option_or o p)
+option_or_found None p h g = g
+option_or_found (Some e) p h g = h
 
 above_found : (which : YaccLimit) (found most : ℕ) → IsFound (above which found most)
 above_found which found most = by_test (nat_lt most found)
@@ -135,13 +136,13 @@ above_found which found most = by_test (nat_lt most found)
 
 long_found : (rs : List SpelledRule) → IsFound (long_right rs)
 long_found [] = tt
-long_found (r ∷ rs) = or_else_found (above RightSide (length r.right) 128) (long_right rs) (above_found RightSide (length r.right) 128) (long_found rs)
+long_found (r ∷ rs) = option_or_found (above RightSide (length r.right) 128) (long_right rs) (above_found RightSide (length r.right) 128) (long_found rs)
 
 limit_found : (p : Parts) → IsFound (limit_passed p)
 limit_found p =
-    or_else_found (above Tokens (length p.tokens) 512) _ (above_found Tokens (length p.tokens) 512)
-    (or_else_found (above Nonterminals (length p.nonterminals) 1024) _ (above_found Nonterminals (length p.nonterminals) 1024)
-    (or_else_found (above Rules (length p.rules) 8192) (long_right p.rules) (above_found Rules (length p.rules) 8192) (long_found p.rules)))
+    option_or_found (above Tokens (length p.tokens) 512) _ (above_found Tokens (length p.tokens) 512)
+    (option_or_found (above Nonterminals (length p.nonterminals) 1024) _ (above_found Nonterminals (length p.nonterminals) 1024)
+    (option_or_found (above Rules (length p.rules) 8192) (long_right p.rules) (above_found Rules (length p.rules) 8192) (long_found p.rules)))
 
 map_found : (f : ℕ → YaccError) → ((n : ℕ) → IsOfMeaning (f n)) → (o : Option ℕ) → IsFound (option_map f o)
 map_found f h None = tt
@@ -149,9 +150,9 @@ map_found f h (Some n) = h n
 
 name_found : (all items : List Placed) (ds ls : List TokenName) → IsFound (name_fault all items ds ls)
 name_found all items ds ls =
-    or_else_found (option_map SecondStart (first_start (behind_start all))) _ (map_found SecondStart (λ n. tt) _)
-    (or_else_found (option_map TokenOnLeft (first_at (is_token_on_left ds) items)) _ (map_found TokenOnLeft (λ n. tt) _)
-    (or_else_found (option_map Undefined (first_undefined ds ls (behind_mark items))) _ (map_found Undefined (λ n. tt) _) (map_found StartNotNonterminal (λ n. tt) _)))
+    option_or_found (option_map SecondStart (first_start (behind_start all))) _ (map_found SecondStart (λ n. tt) _)
+    (option_or_found (option_map TokenOnLeft (first_at (is_token_on_left ds) items)) _ (map_found TokenOnLeft (λ n. tt) _)
+    (option_or_found (option_map Undefined (first_undefined ds ls (behind_mark items))) _ (map_found Undefined (λ n. tt) _) (map_found StartNotNonterminal (λ n. tt) _)))
 
 unless_meant : (o : Option YaccError) (r : Result File YaccError) (e : YaccError) → IsFound o → (r ≡ Err e → IsOfMeaning e) → unless o r ≡ Err e → IsOfMeaning e
 unless_meant None r e h g f = g f

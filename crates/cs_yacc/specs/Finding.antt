@@ -1,7 +1,7 @@
 -- What the steps of reading answer.
 use Rattle.std.specs.Prelude.{◌≡◌, Bool, true, false, not, ◌&&◌, List, Option, Some, None, option_map, Result, Ok, Err, filter}
 use Rattle.std.specs.List.{All}
-use Rattle.std.specs.Option.{option_to_list}
+use Rattle.std.specs.Option.{option_to_list, option_or}
 use Rattle.cs_yacc.specs.declared.error.YaccError.{YaccError}
 use Rattle.cs_yacc.specs.declared.error.YaccError.TheVariants.{TokenOnLeft, Undefined, StartNotNonterminal, Memory}
 use Rattle.cs_yacc.specs.declared.name.TokenName.{TokenName}
@@ -10,7 +10,7 @@ use Rattle.cs_yacc_items.specs.Items.{Item, Placed, items_of}
 use Rattle.cs_yacc_items.specs.Views.{placed_all}
 use Rattle.cs_yacc_items.specs.declared.item.Placed as held
 use Rattle.cs_yacc.specs.File.{File, IsFile}
-use Rattle.cs_yacc.specs.Meaning.{has_spelling, spelled, distinct, is_in_use, used, kept, nonterminals, Parts, limit_passed, file_with, or_else, first_at, is_token_on_left, first_undefined, behind_mark, wrong_start}
+use Rattle.cs_yacc.specs.Meaning.{has_spelling, spelled, distinct, is_in_use, used, kept, nonterminals, Parts, limit_passed, file_with, first_at, is_token_on_left, first_undefined, behind_mark, wrong_start}
 
 -- what a check that takes no memory answers: the fault, if there is one
 abbrev pub FindsFault : Result (Unit {0}) YaccError → Option YaccError → Type 0
@@ -26,8 +26,8 @@ IsGiven answer given = given ≡ answer
 -- the items with a meaning
 abbrev pub fault_behind_start : List Placed → List Placed → List TokenName → List TokenName → Option YaccError
 fault_behind_start start items declared lefts =
-    or_else (option_map TokenOnLeft (first_at (is_token_on_left declared) items))
-    (or_else (option_map Undefined (first_undefined declared lefts (behind_mark items)))
+    option_or (option_map TokenOnLeft (first_at (is_token_on_left declared) items))
+    (option_or (option_map Undefined (first_undefined declared lefts (behind_mark items)))
     (option_map StartNotNonterminal (wrong_start lefts start)))
 
 -- a name that is neither declared nor a left side

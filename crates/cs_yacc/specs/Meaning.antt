@@ -1,6 +1,7 @@
 -- What the items of a yacc file mean (POSIX yacc, the grammar file). It speaks of items that the table takes: of others it
 -- says nothing that counts.
 use Rattle.std.specs.Prelude.{ℕ, suc, Bool, true, false, ◌==◌, ◌&&◌, not, if◌then◌else◌, List, [], ◌∷◌, ◌++◌, length, map, take, filter, Option, Some, None, option_map, Result, Ok, Err, nat_lt, codes}
+use Rattle.std.specs.Option.{option_or}
 use Rattle.std.specs.List.{list_any, position_or_len, flat_map}
 use Rattle.std.specs.Str.{bytes_eq}
 use Rattle.cs_grammar.specs.declared.symbol.Symbol.{Symbol}
@@ -16,10 +17,6 @@ use Rattle.cs_yacc_items.specs.declared.directive.Directive.{Directive}
 use Rattle.cs_yacc_items.specs.declared.directive.Directive.TheVariants as directives
 use Rattle.cs_yacc_items.specs.Items.{Item, mark, directive, name, literal, number, tag, block, colon, bar, comma, Placed, items_of}
 use Rattle.cs_yacc.specs.File.{File}
-
-abbrev pub or_else : {A : Type 0} → Option A → Option A → Option A
-or_else None o = o
-or_else (Some x) o = Some x
 
 -- the error, where there is one
 abbrev pub unless : {A E : Type 0} → Option E → Result A E → Result A E
@@ -327,9 +324,9 @@ first_undefined declared lefts ps = first_at (λ i _. is_undefined declared left
 -- token nor a left side; a start symbol that is no left side.
 abbrev pub name_fault : List Placed → List Placed → List TokenName → List TokenName → Option YaccError
 name_fault all items declared lefts =
-    or_else (option_map SecondStart (first_start (behind_start all)))
-    (or_else (option_map TokenOnLeft (first_at (is_token_on_left declared) items))
-    (or_else (option_map Undefined (first_undefined declared lefts (behind_mark items)))
+    option_or (option_map SecondStart (first_start (behind_start all)))
+    (option_or (option_map TokenOnLeft (first_at (is_token_on_left declared) items))
+    (option_or (option_map Undefined (first_undefined declared lefts (behind_mark items)))
     (option_map StartNotNonterminal (wrong_start lefts (start_item all)))))
 
 abbrev pub above : YaccLimit → ℕ → ℕ → Option YaccError
@@ -338,14 +335,14 @@ above which found most = if nat_lt most found then Some (Limit which found most)
 -- the first right side that is too long
 abbrev pub long_right : List SpelledRule → Option YaccError
 long_right [] = None
-long_right (r ∷ rs) = or_else (above RightSide (length r.right) 128) (long_right rs)
+long_right (r ∷ rs) = option_or (above RightSide (length r.right) 128) (long_right rs)
 
 -- the first limit that is passed
 abbrev pub limit_passed : Parts → Option YaccError
 limit_passed p =
-    or_else (above Tokens (length p.tokens) 512)
-    (or_else (above Nonterminals (length p.nonterminals) 1024)
-    (or_else (above Rules (length p.rules) 8192)
+    option_or (above Tokens (length p.tokens) 512)
+    (option_or (above Nonterminals (length p.nonterminals) 1024)
+    (option_or (above Rules (length p.rules) 8192)
     (long_right p.rules)))
 
 -- the file that the parts make, or the first limit that they pass
