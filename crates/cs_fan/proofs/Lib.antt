@@ -2,3 +2,4 @@ pub mod Totals
 pub mod Steps
 pub mod Ends
 pub mod InOrder
+pub mod Zips
