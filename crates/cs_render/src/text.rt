@@ -1,6 +1,6 @@
 // The text of a list of tokens.
 
-ghost use Rattle.std.specs.Prelude.{◌≡◌, ◌<◌, ◌≤◌, All, IfNone, IfOk, IfSome, length};
+ghost use Rattle.std.specs.Prelude.{◌≡◌, ◌<◌, ◌≤◌, All, IfErr, IfOk, length};
 ghost use Rattle.cs_scan.specs.Compared.{HasKinds, HasLiterals};
 ghost use Rattle.cs_render.specs.Rendering.{AreTokens, HasLexeme, IsFirstWithout, IsRuleText, Renders};
 ghost use Rattle.cs_render.specs.Parts.{PutsLexeme};
@@ -10,22 +10,24 @@ use cs_lexeme::Lexemes;
 use cs_scan::{Agreement, Scanner, agrees};
 use std::alloc::{AllocError, Global};
 
-/// The first of the tokens that has no lexeme.
-fn first_without(lexemes: &Lexemes, tokens: &[u16]) -> Option<u16>
+// The room that the tokens' text needs; or the first token that has no lexeme.
+fn room_for(lexemes: &Lexemes, separator: &[u8], tokens: &[u16]) -> Result<usize, u16>
     requires { AreTokens lexemes.now tokens.now }
-    ensures some { IfSome result (λ token. IsFirstWithout lexemes.now tokens.now token) }
-    ensures none { IfNone result (All (HasLexeme lexemes.now) tokens.now) }
+    ensures without { IfErr result (λ token. IsFirstWithout lexemes.now tokens.now token) }
+    ensures have { IfOk result (λ _. All (HasLexeme lexemes.now) tokens.now) }
 {
+    let mut room = 0usize;
     for i in 0..tokens.len() {
         let token = tokens[i];
-        let Some(_) = lexemes.get(token) else {
-            return Some(token);
+        let Some(lexeme) = lexemes.get(token) else {
+            return Err(token);
         };
+        room = room.saturating_add(lexeme.len() + separator.len());
     }
-    None
+    Ok(room)
 }
 
-/// Puts the lexeme of the token.
+// Puts the lexeme of the token.
 fn put_lexeme(text: &mut Vec<u8>, lexemes: &Lexemes, token: u16) -> Result<(), AllocError>
     requires some { 0 < token }
     requires within { token ≤ length lexemes.now }
@@ -38,18 +40,19 @@ fn put_lexeme(text: &mut Vec<u8>, lexemes: &Lexemes, token: u16) -> Result<(), A
     Ok(())
 }
 
-/// The lexemes of the tokens, with the separator between them.
+// The lexemes of the tokens, with the separator between them, put into as much room.
 fn join(
     alloc: Global,
     lexemes: &Lexemes,
     separator: &[u8],
     tokens: &[u16],
+    room: usize,
 ) -> Result<Vec<u8>, AllocError>
     requires tokens { AreTokens lexemes.now tokens.now }
     requires have { All (HasLexeme lexemes.now) tokens.now }
     ensures { IfOk result (λ text. IsRuleText lexemes.now separator.now tokens.now text.items) }
 {
-    let mut text = Vec::new(alloc);
+    let mut text = Vec::with_capacity(alloc, room)?;
     for i in 0..tokens.len() {
         if i > 0 {
             text.extend_from_slice(separator)?;
@@ -75,10 +78,11 @@ pub fn render(
     requires few { length tokens.now ≤ 1000001 }
     ensures { IfOk result (Renders scanner.now lexemes.now separator.now tokens.now) }
 {
-    if let Some(token) = first_without(lexemes, tokens) {
-        return Ok(Rendered::NoLexeme(token));
-    }
-    let text = join(alloc, lexemes, separator, tokens)?;
+    let room = match room_for(lexemes, separator, tokens) {
+        Ok(room) => room,
+        Err(token) => return Ok(Rendered::NoLexeme(token)),
+    };
+    let text = join(alloc, lexemes, separator, tokens, room)?;
     match agrees(scanner, &text, tokens) {
         Agreement::Whole => Ok(Rendered::Text(text)),
         Agreement::Differs { after } => Ok(Rendered::Differs { after }),
