@@ -70,7 +70,7 @@ fn patch(
     requires { place + gone ≤ length base.now }
     ensures { IfOk result (λ list. list.items ≡ patched base.now place put.now gone) }
 {
-    let mut list = Vec::new(alloc);
+    let mut list = Vec::with_capacity(alloc, base.len() + put.len())?;
     list.extend_from_slice(&base[..place])?;
     list.extend_from_slice(put)?;
     list.extend_from_slice(&base[place + gone..])?;
