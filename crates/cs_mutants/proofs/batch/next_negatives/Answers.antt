@@ -11,8 +11,8 @@ use Rattle.cs_mutants.proofs.Naming.{named_mutants}
 use Rattle.cs_mutants.proofs.Taking.{takes_all}
 use Rattle.cs_mutants.proofs.batch.next_negatives.Goals as goal
 
-pub fan-requires-clause-takes : goal.fan-requires-clause-takes
-fan-requires-clause-takes g c κs within =
+pub make_all-requires-clause-takes : goal.make_all-requires-clause-takes
+make_all-requires-clause-takes g c κs within =
     let old = c.args.negatives.now in
     let each = subst (λ (ns : List Negative). All (IsFoundIn old) ns) (sym c.deref.ensures.value) c.in_ok-found.ensures.each in
     takes_all (record { base = c.args.base; render = c.args.work }) old c.requires.work c.requires.base c.requires.short c.requires.tokens
@@ -24,10 +24,10 @@ returns-clause-entries g c =
     let work = c.args.work.now in
     let found = c.deref.result.now in
     let are : AreFound old found c.gather.new.negatives = subst (λ (ns : List Negative). AreFound old ns c.gather.new.negatives) (sym c.deref.ensures.value) c.in_ok-found.ensures.found in
-    IfOk-weaker c.fan.result (λ made. AllZip (IsMutantOf work c.args.base.now) found made.items) _
+    IfOk-weaker c.make_all.result (λ made. AllZip (IsMutantOf work c.args.base.now) found made.items) _
     (λ made each. are_next work old c.gather.new.negatives found made.items are
     (subst (λ (w : List ℕ). AllZip (IsMutantOf work w) found made.items) (sym c.requires.base) each))
-    c.fan.ensures.answers
+    c.make_all.ensures
 
 pub returns-clause-named : goal.returns-clause-named
 returns-clause-named g c =
@@ -36,7 +36,7 @@ returns-clause-named g c =
     let found = c.deref.result.now in
     let each_found = subst (λ (ns : List Negative). All (IsFoundIn old) ns) (sym c.deref.ensures.value) c.in_ok-found.ensures.each in
     let tokens = subst (λ (w : List ℕ). All (IsNumberOf old.grammar.tokens) w) (sym c.requires.base) c.requires.tokens in
-    IfOk-weaker c.fan.result (λ made. AllZip (IsMutantOf work c.args.base.now) found made.items) _
+    IfOk-weaker c.make_all.result (λ made. AllZip (IsMutantOf work c.args.base.now) found made.items) _
     (λ made each file names. named_mutants file work old names tokens found made.items each_found
     (subst (λ (w : List ℕ). AllZip (IsMutantOf work w) found made.items) (sym c.requires.base) each))
-    c.fan.ensures.answers
+    c.make_all.ensures
