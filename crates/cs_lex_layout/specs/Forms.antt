@@ -2,6 +2,7 @@
 use Rattle.std.specs.Prelude.{◌≡◌, ℕ, ◌+◌, ◌<◌, ◌⊎◌, Bool, true, false, ◌&&◌, List, [], length, take, drop, IsTrue}
 use Rattle.std.specs.List.{prefix_len}
 use Rattle.cs_ctext.specs.Comments.{IsComment}
+use Rattle.cs_bytes.specs.Names.{newline, percent, closing_brace}
 use Rattle.cs_bytes.specs.Places.{begins_with, begins_with_two}
 use Rattle.cs_lex_layout.specs.Steps.{Covers, HasSize}
 use Rattle.cs_bytes.specs.Classes.{is_blank, is_dashed_word_byte}
@@ -16,7 +17,7 @@ blanks text = prefix_len is_blank text
 
 -- a newline, and `%}` at the next line's beginning
 abbrev pub closes_block : List ℕ → Bool
-closes_block text = begins_with 10 text && begins_with_two 37 125 (drop 1 text)
+closes_block text = begins_with newline text && begins_with_two percent closing_brace (drop 1 text)
 
 -- A block goes from the line in front through the next line that begins with `%}`.
 pub record IsCodeBlock (text : List ℕ) (size : ℕ) : Type 0 where

@@ -2,6 +2,7 @@
 use Rattle.std.specs.Prelude.{ℕ, Bool, true, false, ◌==◌, ◌||◌, not, if◌then◌else◌, List, [], ◌∷◌, drop, codes}
 use Rattle.std.specs.List.{prefix_len, take_while, list_any}
 use Rattle.std.specs.Str.{bytes_eq}
+use Rattle.cs_bytes.specs.Names.{percent, letter_x, opening_brace}
 use Rattle.cs_bytes.specs.Places.{begins_with, begins_with_two}
 use Rattle.cs_ctext.specs.Scans.{opens_comment}
 use Rattle.cs_lex_layout.specs.declared.line.LineKind.{LineKind}
@@ -24,9 +25,18 @@ option_words =
     ∷ codes "verbose" ∷ codes "8bit" ∷ codes "reentrant" ∷ codes "bison-bridge" ∷ codes "bison-locations" ∷ codes "never-interactive"
     ∷ codes "always-interactive" ∷ []
 
+abbrev pub letter_s : ℕ
+letter_s = 115
+
+abbrev pub capital_s : ℕ
+capital_s = 83
+
+abbrev pub capital_x : ℕ
+capital_x = 88
+
 -- s, S, x or X
 abbrev pub begins_condition : ℕ → Bool
-begins_condition b = (b == 115) || (b == 83) || (b == 120) || (b == 88)
+begins_condition b = (b == letter_s) || (b == capital_s) || (b == letter_x) || (b == capital_x)
 
 -- the kind of a line that begins with `%` and this word, which may be empty
 abbrev pub word_kind : List ℕ → LineKind
@@ -39,8 +49,8 @@ word_kind word =
 -- the kind of a line that begins with `%` and this rest
 abbrev pub percent_kind : List ℕ → LineKind
 percent_kind rest =
-    if begins_with 37 rest then SectionEnd
-    else if begins_with 123 rest then Block
+    if begins_with percent rest then SectionEnd
+    else if begins_with opening_brace rest then Block
     else word_kind (take_while is_dashed_word_byte rest)
 
 -- a blank, a newline, `/*` or `//` begins the text
@@ -50,7 +60,7 @@ begins_loose text = front is_space text || opens_comment text
 -- the kind of the line of the definitions section in front of the text; none has a form at the end
 abbrev pub definitions_kind : List ℕ → LineKind
 definitions_kind text =
-    if begins_with 37 text then percent_kind (drop 1 text)
+    if begins_with percent text then percent_kind (drop 1 text)
     else if begins_loose text then Loose
     else if front begins_word text then Definition
     else NoForm
@@ -63,8 +73,8 @@ is_end (b ∷ text) = false
 -- the kind of the line of the rules section in front of the text; the section may also end with the file
 abbrev pub rules_kind : List ℕ → LineKind
 rules_kind text =
-    if is_end text || begins_with_two 37 37 text then SectionEnd
-    else if begins_with_two 37 123 text then Block
+    if is_end text || begins_with_two percent percent text then SectionEnd
+    else if begins_with_two percent opening_brace text then Block
     else if begins_loose text then Loose
     else Rule
 

@@ -1,6 +1,7 @@
 -- The extent of a pattern: to the first blank or newline outside escapes, quoted texts and brackets (POSIX lex).
 use Rattle.std.specs.Prelude.{◌≡◌, ℕ, ◌+◌, Bool, ◌==◌, nat_lt, ◌&&◌, ◌||◌, not, if◌then◌else◌, List, drop, slice_index_or, IsTrue, ◌⊎◌}
 use Rattle.std.specs.List.{prefix_len}
+use Rattle.cs_bytes.specs.Names.{double_quote, full_stop, colon_sign, equals_sign, opening_bracket, backslash, closing_bracket, caret}
 use Rattle.cs_bytes.specs.Places.{begins_with}
 use Rattle.cs_lex_layout.specs.declared.unit.UnitKind.{UnitKind}
 use Rattle.cs_lex_layout.specs.declared.unit.UnitKind.TheVariants.{Escape, Quoted, Bracket, Plain, Nothing}
@@ -10,13 +11,13 @@ use Rattle.cs_bytes.specs.Places.{front, front_or_end, line_len}
 
 -- a backslash, and a byte that it takes along: any but newline
 abbrev pub is_escape : List ℕ → Bool
-is_escape text = begins_with 92 text && front (λ b. not (is_newline b)) (drop 1 text)
+is_escape text = begins_with backslash text && front (λ b. not (is_newline b)) (drop 1 text)
 
 -- ---- quoted texts
 
 -- neither double quote, backslash nor newline
 abbrev pub is_quoted_byte : ℕ → Bool
-is_quoted_byte b = not ((b == 34) || (b == 92) || is_newline b)
+is_quoted_byte b = not ((b == double_quote) || (b == backslash) || is_newline b)
 
 -- of the escape or the byte in front, inside a quoted text; 0 where neither stands there
 abbrev pub quoted_unit_size : List ℕ → ℕ
@@ -25,15 +26,15 @@ quoted_unit_size text = if is_escape text then 2 else if front is_quoted_byte te
 -- A quoted text begins the text: `"`, escapes and bytes, and the next `"` behind them, on the line.
 pub record IsQuotedText (text : List ℕ) (size : ℕ) : Type 0 where
   pub inside : ℕ
-  pub opened : IsTrue (begins_with 34 text)
-  pub closed : Covers (HasSize quoted_unit_size) (λ rest. IsTrue (begins_with 34 rest)) (drop 1 text) inside
+  pub opened : IsTrue (begins_with double_quote text)
+  pub closed : Covers (HasSize quoted_unit_size) (λ rest. IsTrue (begins_with double_quote rest)) (drop 1 text) inside
   pub ends : size ≡ inside + 2
 
 -- ---- brackets
 
 -- `:`, `.` or `=`
 abbrev pub is_part_mark : ℕ → Bool
-is_part_mark b = (b == 58) || (b == 46) || (b == 61)
+is_part_mark b = (b == colon_sign) || (b == full_stop) || (b == equals_sign)
 
 -- how many bytes stand behind the `[` and the mark of a named part, up to the next `]` or the line's end
 abbrev pub part_len : List ℕ → ℕ
@@ -41,11 +42,11 @@ part_len text = prefix_len is_inner (drop 2 text)
 
 -- `[` and a mark begin the text
 abbrev pub opens_part : List ℕ → Bool
-opens_part text = begins_with 91 text && front is_part_mark (drop 1 text)
+opens_part text = begins_with opening_bracket text && front is_part_mark (drop 1 text)
 
 -- behind so many bytes stands `]`, directly behind a second mark that is equal to the first
 abbrev pub closes_part : ℕ → List ℕ → Bool
-closes_part len text = begins_with 93 (drop (len + 2) text) && nat_lt 0 len && (slice_index_or text (len + 1) 0 == slice_index_or text 1 0)
+closes_part len text = begins_with closing_bracket (drop (len + 2) text) && nat_lt 0 len && (slice_index_or text (len + 1) 0 == slice_index_or text 1 0)
 
 -- A named part begins the text: `[` and a mark, and the next `]` on the line stands directly behind a second equal mark.
 abbrev pub is_named_part : List ℕ → Bool
@@ -53,7 +54,7 @@ is_named_part text = opens_part text && closes_part (part_len text) text
 
 -- neither `]`, backslash nor newline
 abbrev pub is_bracket_byte : ℕ → Bool
-is_bracket_byte b = not ((b == 93) || (b == 92) || is_newline b)
+is_bracket_byte b = not ((b == closing_bracket) || (b == backslash) || is_newline b)
 
 -- of the named part in front; 0 where none stands there
 abbrev pub named_size : List ℕ → ℕ
@@ -73,14 +74,14 @@ one_if passes = if passes then 1 else 0
 -- of `[` with an optional `^` and then an optional `]`
 abbrev pub opening_size : List ℕ → ℕ
 opening_size text =
-    let turned = one_if (begins_with 94 (drop 1 text)) in
-    1 + turned + one_if (begins_with 93 (drop (1 + turned) text))
+    let turned = one_if (begins_with caret (drop 1 text)) in
+    1 + turned + one_if (begins_with closing_bracket (drop (1 + turned) text))
 
 -- A bracket begins the text: its opening, members, and the next `]` behind them, on the line.
 pub record IsBracket (text : List ℕ) (size : ℕ) : Type 0 where
   pub inside : ℕ
-  pub opened : IsTrue (begins_with 91 text)
-  pub closed : Covers (HasSize member_size) (λ rest. IsTrue (begins_with 93 rest)) (drop (opening_size text) text) inside
+  pub opened : IsTrue (begins_with opening_bracket text)
+  pub closed : Covers (HasSize member_size) (λ rest. IsTrue (begins_with closing_bracket rest)) (drop (opening_size text) text) inside
   pub ends : size ≡ opening_size text + inside + 1
 
 -- ---- patterns
@@ -89,8 +90,8 @@ pub record IsBracket (text : List ℕ) (size : ℕ) : Type 0 where
 abbrev pub unit_kind : List ℕ → UnitKind
 unit_kind text =
     if is_escape text then Escape
-    else if begins_with 34 text then Quoted
-    else if begins_with 91 text then Bracket
+    else if begins_with double_quote text then Quoted
+    else if begins_with opening_bracket text then Bracket
     else if front_or_end is_space text then Nothing
     else Plain
 

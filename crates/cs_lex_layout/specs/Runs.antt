@@ -2,6 +2,7 @@
 use Rattle.std.specs.Prelude.{ℕ, Bool, ◌==◌, ◌&&◌, ◌||◌, List, IsTrue}
 use Rattle.cs_ctext.specs.Comments.{IsOpenComment}
 use Rattle.cs_ctext.specs.Blocks.{IsPart, IsBlock}
+use Rattle.cs_bytes.specs.Names.{opening_brace}
 use Rattle.cs_bytes.specs.Places.{begins_with}
 use Rattle.cs_lex_layout.specs.Steps.{Covers}
 use Rattle.cs_bytes.specs.Classes.{is_newline}
@@ -9,7 +10,7 @@ use Rattle.cs_bytes.specs.Places.{front_or_end}
 
 -- a newline, and `{` where braces count
 abbrev pub ends_part : Bool → ℕ → Bool
-ends_part braces b = is_newline b || (braces && (b == 123))
+ends_part braces b = is_newline b || (braces && (b == opening_brace))
 
 -- A comment, a closed quoted construct or another byte stands in front; where braces count, a whole block in place of a `{`.
 -- A `}` is another byte: inside a block it has its partner, and outside it is plain.
@@ -24,7 +25,7 @@ IsRun braces text n = Covers (IsPiece braces) (λ rest. IsTrue (front_or_end is_
 -- A comment or, where braces count, a brace opens there and isn't closed.
 pub data IsOpen (braces : Bool) (text : List ℕ) : Type 0 where
   open_comment : IsOpenComment text → IsOpen braces text
-  open_brace : IsTrue braces → IsTrue (begins_with 123 text) → ((n : ℕ) → ¬ IsBlock text n) → IsOpen braces text
+  open_brace : IsTrue braces → IsTrue (begins_with opening_brace text) → ((n : ℕ) → ¬ IsBlock text n) → IsOpen braces text
 
 -- The run is open: a comment or brace that isn't closed begins behind n bytes of whole pieces.
 abbrev pub IsOpenRun : Bool → List ℕ → ℕ → Type 0

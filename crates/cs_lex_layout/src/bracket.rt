@@ -1,6 +1,7 @@
 // Brackets of patterns.
 
 ghost use Rattle.std.specs.Prelude.{◌≡◌, ◌≤◌, ◌<◌, ◌+◌, ℕ, length, drop, IfSome, IfNone, IsTrue};
+ghost use Rattle.cs_bytes.specs.Names.{opening_bracket};
 ghost use Rattle.cs_bytes.specs.Places.{begins_with};
 ghost use Rattle.cs_lex_layout.specs.Patterns as spec;
 ghost use Rattle.cs_lex_layout.specs.Steps.{Walk, Spans, HasSize};
@@ -102,7 +103,7 @@ fn one_if_at(text: &[u8], index: usize, byte: u8) -> usize
 
 /// The size of the `[` with a `^` and a `]` that directly follow it.
 fn opening_size(text: &[u8]) -> usize
-    requires { IsTrue (begins_with 91 text.now) }
+    requires { IsTrue (begins_with opening_bracket text.now) }
     ensures size { result ≡ spec.opening_size text.now }
     ensures within { result ≤ length text.now }
 {
@@ -112,7 +113,7 @@ fn opening_size(text: &[u8]) -> usize
 
 /// The size of the bracket in front, where it is closed on its line.
 pub fn bracket_size(text: &[u8]) -> Option<usize>
-    requires { IsTrue (begins_with 91 text.now) }
+    requires { IsTrue (begins_with opening_bracket text.now) }
     ensures closed { IfSome result (λ size. spec.IsBracket text.now size) }
     ensures within { IfSome result (λ size. (0 < size) × (size ≤ length text.now)) }
     ensures unclosed { IfNone result ((size : ℕ) → ¬ spec.IsBracket text.now size) }

@@ -1,6 +1,7 @@
 // Quoted texts of patterns.
 
 ghost use Rattle.std.specs.Prelude.{◌≡◌, ◌≤◌, ◌<◌, ℕ, length, drop, IfSome, IfNone, IsTrue};
+ghost use Rattle.cs_bytes.specs.Names.{double_quote};
 ghost use Rattle.cs_bytes.specs.Places.{begins_with};
 ghost use Rattle.cs_lex_layout.specs.Patterns as spec;
 ghost use Rattle.cs_lex_layout.specs.Steps.{Walk, Spans, HasSize};
@@ -45,7 +46,7 @@ fn quoted_len(text: &[u8]) -> usize
 
 /// The size of the quoted text in front, where it is closed on its line.
 pub fn quoted_size(text: &[u8]) -> Option<usize>
-    requires { IsTrue (begins_with 34 text.now) }
+    requires { IsTrue (begins_with double_quote text.now) }
     ensures closed { IfSome result (λ size. spec.IsQuotedText text.now size) }
     ensures within { IfSome result (λ size. (0 < size) × (size ≤ length text.now)) }
     ensures unclosed { IfNone result ((size : ℕ) → ¬ spec.IsQuotedText text.now size) }
