@@ -2,6 +2,7 @@
 use Rattle.std.specs.Prelude.{◌≡◌, ℕ, ◌+◌, Bool, true, false, List, [], ◌∷◌, take, drop, filter, codes}
 use Rattle.std.specs.List.{list_any}
 use Rattle.std.specs.Str.{bytes_eq}
+use Rattle.cs_bytes.specs.Names.{vertical_bar}
 use Rattle.cs_bytes.specs.Classes.{is_blank}
 use Rattle.cs_ctext.specs.declared.word_iter.Word.{Word}
 use Rattle.cs_ctext.specs.Words.{HasWords}
@@ -35,7 +36,7 @@ of_mark (marks.literal b) = literal b
 pub record IsBar (text : List ℕ) : Type 0 where
   pub size : ℕ
   pub rest : ℕ
-  pub signed : IsSign is_blank 124 text size
+  pub signed : IsSign is_blank vertical_bar text size
   pub is_gap : IsGap is_blank (drop size text) rest
   pub ends : drop (size + rest) text ≡ []
 

@@ -1,6 +1,7 @@
 -- What stands behind `return` in an action.
 use Rattle.std.specs.Prelude.{◌≡◌, ◌≢◌, ℕ, ◌+◌, List, take, drop, IsTrue, codes}
 use Rattle.std.specs.List.{prefix_len}
+use Rattle.cs_bytes.specs.Names.{opening_parenthesis, closing_parenthesis, semicolon_sign}
 use Rattle.cs_bytes.specs.Classes.{is_word_byte, begins_word}
 use Rattle.cs_ctext.specs.Literals.{IsLiteral}
 use Rattle.cs_bytes.specs.Classes.{is_space}
@@ -28,9 +29,9 @@ pub record Returns (text : List ℕ) (n : Named) : Type 0 where
   pub size : ℕ
   pub closed : ℕ
   pub last : ℕ
-  pub opens : AreSigns 40 text count opened
-  pub no_more : (k : ℕ) → ¬ IsSign is_space 40 (drop opened text) k
+  pub opens : AreSigns opening_parenthesis text count opened
+  pub no_more : (k : ℕ) → ¬ IsSign is_space opening_parenthesis (drop opened text) k
   pub is_gap : IsGap is_space (drop opened text) gap
   pub named : IsNamed (drop (opened + gap) text) n size
-  pub closes : AreSigns 41 (drop (opened + gap + size) text) count closed
-  pub ends : IsSign is_space 59 (drop (opened + gap + size + closed) text) last
+  pub closes : AreSigns closing_parenthesis (drop (opened + gap + size) text) count closed
+  pub ends : IsSign is_space semicolon_sign (drop (opened + gap + size + closed) text) last
