@@ -1,13 +1,14 @@
 -- What an automaton answers, from its tables.
 use Rattle.std.proofs.Common.{◌≡◌, ◌≢◌, ℕ, zero, suc, ◌*◌, ◌/◌, ◌<◌, Bool, true, List, [], ◌∷◌, ◌++◌, inl, inr, Some, None, refl, sym, ap, ◌∙◌, subst, arith, length, map, Contains, get_or}
-use Rattle.std.specs.Prelude.{slice_get, Option, if◌then◌else◌, IfSome}
+use Rattle.std.specs.Prelude.{slice_get, Option, IfSome}
 use Rattle.std.proofs.lemmas.Bool.{false≢true, cases_lt}
 use Rattle.std.proofs.lemmas.List.{length-map}
-use Rattle.std.proofs.lemmas.List.Elements.{Contains-append_left, Contains-append_right, Contains-append_cases}
 use Rattle.std.proofs.lemmas.Option.{slice_get_within}
+use Rattle.cs_pattern_items.specs.Members.{picked}
+use Rattle.cs_pattern_items.proofs.Picked.{has_picked_above, has_picked, has-contains, contains-has}
 use Rattle.cs_pattern_tree.specs.declared.pattern.Pattern.{Pattern}
 use Rattle.cs_pattern_tree.specs.Pattern.{regex}
-use Rattle.cs_automaton.specs.Automata.{picked, members, step_at, AreTables}
+use Rattle.cs_automaton.specs.Automata.{members, step_at, AreTables}
 use Rattle.cs_automaton.specs.Bits.{bit}
 use Rattle.cs_automaton.specs.Machine.{Machine, StateOf, IsNextState, IsFirstRule}
 use Rattle.cs_automaton.specs.Meaning.{res, all_classes}
@@ -18,7 +19,6 @@ use Rattle.cs_automaton.specs.States.{StandsFor, IsStep, AreColumns, IsBuilt, Ar
 use Rattle.cs_automaton.proofs.BitLemmas.{past_bit}
 use Rattle.cs_automaton.proofs.Counting.{full_all, byte_step, step_within}
 use Rattle.cs_automaton.proofs.Growing.{append_some}
-use Rattle.cs_automaton.proofs.Lists.{none_of, in_one}
 use Rattle.cs_automaton.proofs.Meanings.{first_matched, begun_spelled, begun_matched}
 use Rattle.cs_automaton.proofs.Reached.{in_set_reaches, reaches_in_set}
 use Rattle.cs_automaton.proofs.Rules.{begun_reaches, reaches_begun}
@@ -26,24 +26,15 @@ use Rattle.cs_automaton.proofs.Rules.{begun_reaches, reaches_begun}
 -- ---- the numbers of a set
 
 pub picked_passes : (t : ℕ → Bool) (n m : ℕ) → Contains (picked t n) m → (m < n) × (t m ≡ true)
-picked_passes t zero m h = absurd (none_of m h)
-picked_passes t (suc n) m h =
-    elim (Contains-append_cases (picked t n) (if t n then n ∷ [] else []) m h) [
-      | inl c ↦ let p = picked_passes t n m c in (omega (arith, p.0), p.1)
-      | inr c ↦ let p = in_one (t n) n m c in (omega (arith, p.1), subst (λ k. t k ≡ true) p.1 p.0)
+picked_passes t n m h =
+    let there = contains-has (picked t n) m h in
+    elim (cases_lt m n) [
+      | inl lt ↦ (lt, sym (has_picked t n m lt) ∙ there)
+      | inr le ↦ absurd (false≢true (sym (has_picked_above t n m le) ∙ there))
     ]
 
 pub passes_picked : (t : ℕ → Bool) (n m : ℕ) → m < n → t m ≡ true → Contains (picked t n) m
-passes_picked t zero m lt h = absurd (omega (arith, lt))
-passes_picked t (suc n) m lt h =
-    elim (cases_lt m n) [
-      | inl below ↦ Contains-append_left (picked t n) (if t n then n ∷ [] else []) m (passes_picked t n m below h)
-      | inr above ↦
-          let same : n ≡ m = omega (arith, above, lt) in
-          let holds : t n ≡ true = ap t same ∙ h in
-          let P : Bool → Type 0 = λ b. Contains (if b then n ∷ [] else []) m in
-          Contains-append_right (picked t n) (if t n then n ∷ [] else []) m (subst P (sym holds) (0, omega arith, same))
-    ]
+passes_picked t n m lt h = has-contains (picked t n) m (has_picked t n m lt ∙ h)
 
 bit_within : (words : List ℕ) (n : ℕ) → bit words n ≡ true → n < 64 * length words
 bit_within words n h =

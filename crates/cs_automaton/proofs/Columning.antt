@@ -1,12 +1,13 @@
 -- The rows of bytes and their columns.
 use Rattle.std.proofs.Common.{◌≡◌, ℕ, zero, suc, ◌+◌, ◌*◌, ◌/◌, ◌%◌, ◌<◌, ◌≤◌, Bool, true, false, List, [], ◌∷◌, ◌++◌, ◌⊎◌, inl, inr, Some, refl, sym, ap, ◌∙◌, subst, arith, length, get_or, take, drop, Contains, replicate, append_assoc, append-nil, length-append, nat_eq, Bor}
-use Rattle.std.specs.Prelude.{◌==◌, if◌then◌else◌, slice_get}
+use Rattle.std.specs.Prelude.{if◌then◌else◌, slice_get}
 use Rattle.std.specs.Int.{bit_at}
-use Rattle.std.proofs.lemmas.Bool.{false≢true, or_cases, or_left, or_right, eqb-true, eq-eqb, cases_lt}
+use Rattle.std.proofs.lemmas.Bool.{false≢true, cases_lt}
 use Rattle.std.proofs.lemmas.List.{take_more, take_all, drop_all, length-map, get_or_push, get_or_append_left, get_or-replicate, get_or_past, length-replicate}
 use Rattle.std.proofs.lemmas.List.Elements.{Contains-append_left, Contains-append_right, Contains-append_cases}
 use Rattle.std.proofs.lemmas.Nat.Bits.{bit_at-zero}
 use Rattle.cs_pattern_items.specs.Members.{has}
+use Rattle.cs_pattern_items.proofs.Picked.{has-contains, contains-has}
 use Rattle.cs_automaton.specs.Bits.{bit, Puts}
 use Rattle.cs_automaton.specs.Programs.{values}
 use Rattle.cs_automaton.specs.Sets.{AddsOnce}
@@ -30,21 +31,6 @@ written len xs ys e f =
     let rest : drop (length xs) ys ≡ [] = drop_all (length xs) ys (omega arith) in
     let whole : xs ++ drop (length xs) ys ≡ xs = ap (λ t. xs ++ t) rest ∙ append-nil xs in
     ap (λ t. take len t) whole ∙ take_all len xs (omega arith)
-
--- ---- membership
-
-pub has_contains : (xs : List ℕ) (b : ℕ) → has xs b ≡ true → Contains xs b
-has_contains [] b h = absurd (false≢true h)
-has_contains (x ∷ xs) b h =
-    elim (or_cases (x == b) (has xs b) h) [
-      | inl e ↦ (0, omega arith, eqb-true x b e)
-      | inr t ↦ let c = has_contains xs b t in (suc c.0, omega (arith, c.1), c.2)
-    ]
-
-pub contains_has : (xs : List ℕ) (b : ℕ) → Contains xs b → has xs b ≡ true
-contains_has [] b h = absurd (none_of b h)
-contains_has (x ∷ xs) b (zero, lt, e) = or_left (x == b) (has xs b) (eq-eqb x b e)
-contains_has (x ∷ xs) b (suc k, lt, e) = or_right (x == b) (has xs b) (contains_has xs b (k, omega (arith, lt), e))
 
 -- ---- one class more
 
@@ -124,10 +110,10 @@ row_is cs width byte new le p =
             | inr c ↦
                 let g = numbered_class 0 (values cs) byte n c in
                 let same : g.index ≡ n = omega (arith, g.number) in
-                record { class = g.class; at = subst (λ m. slice_get (values cs) m ≡ Some g.class) same g.at; has = has_contains g.class byte g.has_it }
+                record { class = g.class; at = subst (λ m. slice_get (values cs) m ≡ Some g.class) same g.at; has = has-contains g.class byte g.has_it }
           ];
       all = λ n h.
-          p.added n (class_number 0 (values cs) byte n n h.class (omega arith) h.at (contains_has h.class byte h.has))
+          p.added n (class_number 0 (values cs) byte n n h.class (omega arith) h.at (contains-has h.class byte h.has))
           (omega (arith, le, p.long, length-replicate {A = ℕ} width 0, get_within (values cs) n h.class h.at, length-map cs (λ (b : Bor (List ℕ)). b.now)));
     }
 

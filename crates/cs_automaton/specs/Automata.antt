@@ -1,13 +1,9 @@
 -- What holds of an automaton's tables.
-use Rattle.std.specs.Prelude.{◌≡◌, ℕ, zero, suc, ◌*◌, ◌<◌, ◌≤◌, ◌+◌, Bool, if◌then◌else◌, List, ◌∷◌, ◌++◌, Option, None, [], length, slice_get, Some, slice_index, slice_index_or}
+use Rattle.std.specs.Prelude.{◌≡◌, ℕ, ◌*◌, ◌<◌, ◌≤◌, ◌+◌, List, Option, None, [], length, slice_get, Some, slice_index, slice_index_or}
+use Rattle.cs_pattern_items.specs.Members.{picked}
 use Rattle.cs_automaton.specs.Bits.{bit}
 use Rattle.cs_automaton.specs.Re.{Re}
 use Rattle.cs_automaton.specs.States.{AreFull, HasStates, IsStep, AreFirstRules}
-
--- the numbers below a limit that pass a test, ascending
-abbrev pub picked : (ℕ → Bool) → ℕ → List ℕ
-picked test zero = []
-picked test (suc n) = picked test n ++ (if test n then n ∷ [] else [])
 
 -- the numbers of a set, ascending
 abbrev pub members : List ℕ → List ℕ

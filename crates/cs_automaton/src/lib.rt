@@ -14,6 +14,7 @@ mod bits;
 mod columns;
 mod error;
 mod flat;
+mod number;
 mod op;
 mod program;
 mod running;

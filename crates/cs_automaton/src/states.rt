@@ -11,6 +11,7 @@ ghost use Rattle.cs_automaton.specs.States as spec;
 
 use crate::bits::{common, is_empty};
 use crate::error::{AutomatonError, MOST_SETS, State};
+use crate::number::number_of;
 use crate::program::Program;
 use crate::running::walk;
 use crate::sets::add;
@@ -39,7 +40,7 @@ fn earlier(first_rule: Option<u16>, ends: bool, index: usize) -> Option<u16>
 {
     match first_rule {
         Some(rule) => Some(rule),
-        None => if ends { Some(index as u16 + 1) } else { None },
+        None => if ends { Some(number_of(index)) } else { None },
     }
 }
 
