@@ -5,7 +5,9 @@ use Rattle.std.proofs.lemmas.List.Elements.{All-push, Contains-push, Contains-ap
 use Rattle.std.specs.Prelude.{Contains, List, [], ◌∷◌, ◌++◌, if◌then◌else◌, ◌==◌}
 use Rattle.cs_lexeme.specs.Bytes.{AreByRank}
 use Rattle.cs_lexeme.proofs.Lists.{all_at, rises_pushed}
-use Rattle.cs_lexeme.specs.Rank.{is_from, class_of, rank}
+use Rattle.cs_bytes.specs.Names.{tab, newline, space}
+use Rattle.cs_bytes.specs.Classes.{is_between, is_digit}
+use Rattle.cs_lexeme.specs.Rank.{class_of, rank}
 
 -- one of two numbers below a limit is
 in_if : (b : Bool) (m n limit : ℕ) → m ≤ limit → n ≤ limit → (if b then m else n) ≤ limit
@@ -14,7 +16,7 @@ in_if false m n limit here there = there
 
 pub few_classes : (b : ℕ) → class_of b ≤ 7
 few_classes b =
-    in_if (is_from 97 122 b) _ _ 7 (omega arith) (in_if (is_from 48 57 b) _ _ 7 (omega arith) (in_if (is_from 65 90 b) _ _ 7 (omega arith) (in_if (is_from 33 126 b) _ _ 7 (omega arith) (in_if (b == 32) _ _ 7 (omega arith) (in_if (b == 10) _ _ 7 (omega arith) (in_if (b == 9) _ _ 7 (omega arith) (omega arith)))))))
+    in_if (is_between 97 122 b) _ _ 7 (omega arith) (in_if (is_digit b) _ _ 7 (omega arith) (in_if (is_between 65 90 b) _ _ 7 (omega arith) (in_if (is_between 33 126 b) _ _ 7 (omega arith) (in_if (b == space) _ _ 7 (omega arith) (in_if (b == newline) _ _ 7 (omega arith) (in_if (b == tab) _ _ 7 (omega arith) (omega arith)))))))
 
 -- the rank of a byte is below 2,048
 pub rank_within : (b : ℕ) → b < 256 → rank b < 2048
