@@ -1,8 +1,11 @@
 -- Goals that get a number where they have none.
 use Rattle.std.proofs.Common.{◌≡◌, ℕ, inl, inr, ⊎_elim, List, [], ◌∷◌, ◌++◌, sym, ap, ◌∙◌, subst, append_assoc}
-use Rattle.std.specs.Prelude.{Contains}
-use Rattle.std.proofs.lemmas.List.Elements.{Contains-append_left, Contains-push, Contains-push_cases}
+use Rattle.std.specs.Prelude.{Contains, Option}
+use Rattle.std.proofs.lemmas.List.Elements.{All-weaker, Contains-append_left, Contains-push, Contains-push_cases}
 use Rattle.cs_goals.specs.declared.goal.Goal.{Goal}
+use Rattle.std.proofs.lemmas.Option.{IfSome_then}
+use Rattle.cs_cases.specs.declared.firsts.Key.{Key}
+use Rattle.cs_cases.specs.Firsts.{goal_of, IsKnown, AreKnown}
 use Rattle.cs_cases.specs.Table.{IsAdded, AreAllAdded, IsOldOrNew, HasNumber, HasNone}
 
 module _ (old mid new : List (Goal × ℕ)) (goals : List Goal) (one : Goal) (n : ℕ) (h : AreAllAdded old goals n mid) where
@@ -41,3 +44,17 @@ module _ (old mid new : List (Goal × ℕ)) (goals : List Goal) (one : Goal) (n 
 
   pub added_more : IsAdded mid one n new → AreAllAdded old more n new
   added_more k = ⊎_elim (λ was. added_there was.0 was.1) (λ got. added_new got.0 got.1) k
+
+-- a goal that was added has a number, and what was known stays so
+pub added_has : (old new : List (Goal × ℕ)) (one : Goal) (n : ℕ) → IsAdded old one n new → HasNumber new one
+added_has old new one n k =
+    ⊎_elim (λ was. subst (λ (l : List (Goal × ℕ)). HasNumber l one) (sym was.1) was.0)
+    (λ got. (n, subst (λ (l : List (Goal × ℕ)). Contains l (one, n)) (sym got.1) (Contains-push old (one, n)))) k
+
+has_more : (old more : List (Goal × ℕ)) (goal : Goal) → HasNumber old goal → HasNumber (old ++ more) goal
+has_more old more goal has = (has.0, Contains-append_left old more (goal, has.0) has.1)
+
+pub known_more : (old new more : List (Goal × ℕ)) (slots : List (Option Key)) → new ≡ old ++ more → AreKnown old slots → AreKnown new slots
+known_more old new more slots put all =
+    subst (λ (l : List (Goal × ℕ)). AreKnown l slots) (sym put)
+    (All-weaker (IsKnown old) (IsKnown (old ++ more)) (λ slot known. IfSome_then slot known (λ key has. has_more old more (goal_of key) has)) slots all)

@@ -122,14 +122,6 @@ pub on_true : (b : Bool) (P : Type 0) → b ≡ true → OnTrue b P → P
 on_true true P e h = h
 on_true false P e h = absurd (false≢true e)
 
--- a key that equals one that is there
-pub known_place : (known key : Key) (es : List (Key × ℕ)) (n : ℕ) (equal : Bool) → equal ≡ keys.eq-value.it known key → lookup (keys.eq-value.it known) es ≡ Some n → OnTrue equal (HasNumber (firsts_in es) (goal_of key))
-known_place known key es n false is there = tt
-known_place known key es n true is there =
-    let same : known ≡ key = same_key known key (sym is) in
-    let found : lookup (keys.eq-value.it (key_of (goal_of key))) es ≡ Some n = ap (λ (k : Key). lookup (keys.eq-value.it k) es) (key_of-goal_of key ∙ sym same) ∙ there in
-    (n, found_number (goal_of key) n es found)
-
 pub new_key : (q : Goal) (key : Key) (es new : List (Key × ℕ)) (n : ℕ) → key ≡ key_of q → is_some (lookup (keys.eq-value.it key) es) ≡ false
     → (lookup (keys.eq-value.it key) es ≡ None → new ≡ es ++ (key, n) ∷ []) → HasNone (firsts_in es) q × (firsts_in new ≡ firsts_in es ++ (q, n) ∷ [])
 new_key q key es new n is absent put =

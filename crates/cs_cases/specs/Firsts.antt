@@ -1,5 +1,5 @@
 -- Goals as the keys of a table.
-use Rattle.std.specs.Prelude.{ℕ, List, map}
+use Rattle.std.specs.Prelude.{ℕ, List, Option, IfSome, All, map}
 use Rattle.cs_grammar.specs.declared.symbol.Mark.{Mark}
 use Rattle.cs_grammar.specs.declared.symbol.Mark.TheVariants as mark
 use Rattle.cs_goals.specs.declared.goal.Goal.{Goal}
@@ -8,6 +8,7 @@ use Rattle.cs_cases.specs.declared.firsts.Key.{Key}
 use Rattle.cs_cases.specs.declared.firsts.Key.TheVariants.{Rule, Context, Pair}
 use Rattle.cs_cases.specs.declared.firsts.MarkKey.{MarkKey}
 use Rattle.cs_cases.specs.declared.firsts.MarkKey.TheVariants.{Begin, Token, End}
+use Rattle.cs_cases.specs.Table.{HasNumber}
 
 abbrev pub mark_key : Mark → MarkKey
 mark_key mark.Begin = Begin
@@ -36,3 +37,10 @@ first_in entry = (goal_of entry.0, entry.1)
 
 abbrev pub firsts_in : List (Key × ℕ) → List (Goal × ℕ)
 firsts_in entries = map first_in entries
+
+-- the key of a slot that has one is that of a goal with a number
+abbrev pub IsKnown : List (Goal × ℕ) → Option Key → Type 0
+IsKnown firsts slot = IfSome slot (λ key. HasNumber firsts (goal_of key))
+
+abbrev pub AreKnown : List (Goal × ℕ) → List (Option Key) → Type 0
+AreKnown firsts slots = All (IsKnown firsts) slots

@@ -119,21 +119,23 @@ fn slot_of(key: Key) -> usize {
 }
 
 // Goals, each with the number of a case. Trees share most of what they meet, so most goals that come are known: for each slot
-// `recent` has a place in the table, that of the last goal with this slot, where the search begins.
+// `recent` has the last goal with this slot, which is in the table, so that one look tells of most goals that they are.
 #[derive(Drop)]
 pub(crate) struct Firsts {
     table: IndexMap<Key, u64>,
-    recent: Vec<u32>,
+    recent: Vec<Option<Key>>,
 }
 
 impl Model for Firsts {
     ghost use Rattle.std.specs.Prelude.{List, ℕ};
     ghost use Rattle.cs_goals.specs.declared.goal.Goal.{Goal};
-    ghost use Rattle.cs_cases.specs.Firsts.{firsts_in};
+    ghost use Rattle.cs_cases.specs.Firsts.{firsts_in, AreKnown};
 
     ghost Value = { List (Goal × ℕ) };
 
     ghost view = { λ f. firsts_in f.table.entries };
+
+    ghost invariant = { λ f. AreKnown (firsts_in f.table.entries) f.recent.items };
 }
 
 impl Firsts {
@@ -152,10 +154,11 @@ impl Firsts {
         self.table.len()
     }
 
-    // Keeps the first so many.
+    // Keeps the first so many, and no slot, since the goal of one may be gone.
     pub(crate) fn truncate(&mut self, len: usize)
         ensures { self.new ≡ take len self.old }
     {
+        self.recent.clear();
         self.table.truncate(len);
     }
 
@@ -176,44 +179,41 @@ impl Firsts {
         if self.is_recent(slot, key) {
             return Ok(());
         }
-        let place = self.put(goal, number)?;
-        self.keep_recent(slot, place);
+        self.put(goal, number)?;
+        self.keep_recent(slot, key);
         Ok(())
     }
 
-    // The same by a search of the whole table. Answers the place where the goal stands.
-    fn put(&mut self, goal: Goal, number: u64) -> Result<usize, AllocError>
+    // The same by a search of the whole table.
+    fn put(&mut self, goal: Goal, number: u64) -> Result<(), AllocError>
         ensures added { OnOk result (IsAdded self.old goal number self.new) }
         ensures refused { OnErr result (self.new ≡ self.old) }
     {
         let key = key_of(goal);
-        if let Some(place) = self.table.get_index_of(&key) {
-            return Ok(place);
+        if self.table.contains_key(&key) {
+            return Ok(());
         }
-        let place = self.table.len();
         self.table.insert(key, number)?;
-        Ok(place)
+        Ok(())
     }
 
-    // Whether the goal stands where its slot says.
+    // Whether its slot has the goal.
     fn is_recent(&self, slot: usize, key: Key) -> bool
         ensures { OnTrue result (HasNumber self.now (goal_of key)) }
     {
-        let Some(place) = self.recent.get(slot) else {
-            return false;
-        };
-        match self.table.get_index(*place as usize) {
-            None => false,
-            Some((known, _)) => *known == key,
+        match self.recent.get(slot) {
+            Some(Some(known)) => *known == key,
+            _ => false,
         }
     }
 
-    // A goal with this slot stands at this place.
-    fn keep_recent(&mut self, slot: usize, place: usize)
+    // The slot has this goal from now on.
+    fn keep_recent(&mut self, slot: usize, key: Key)
+        requires { HasNumber self.old (goal_of key) }
         ensures { self.new ≡ self.old }
     {
-        if let (Some(recent), Ok(place)) = (self.recent.get_mut(slot), u32::try_from(place)) {
-            *recent = place;
+        if let Some(recent) = self.recent.get_mut(slot) {
+            *recent = Some(key);
         }
     }
 
@@ -223,7 +223,7 @@ impl Firsts {
         ensures refused { OnErr result (IsGrown self.old self.new) }
     {
         if self.recent.is_empty() {
-            self.recent.resize(SLOTS, 0)?;
+            self.recent.resize(SLOTS, None)?;
         }
         for goal in goals {
             self.add(*goal, number)?;
