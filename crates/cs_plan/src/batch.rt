@@ -1,6 +1,6 @@
 // The entries of goals, batch by batch.
 
-ghost use Rattle.std.specs.Prelude.{◌≡◌, All, IfOk};
+ghost use Rattle.std.specs.Prelude.{◌≡◌, ◌≤◌, All, IfOk, length};
 ghost use Rattle.cs_plan.specs.Batches.{AreNext};
 ghost use Rattle.cs_plan.specs.Made.{IsNamedGoalEntry};
 ghost use Rattle.cs_plan.specs.Plans.{IsOfPlan, IsPlan};
@@ -28,6 +28,7 @@ pub fn next_entries<R: Threads + Sync, G: Gate + Sync>(
     requires first { plan.now.closed ≡ None }
     ensures entries { IfOk result (λ made. AreNext plan.now positives.old made.items positives.new) }
     ensures named { IfOk result (λ made. All (IsNamedGoalEntry plan.now.yacc.now) made.items) }
+    ensures few { IfOk result (λ made. length made.items ≤ 1024) }
     ensures tables { positives.new.tables ≡ positives.old.tables }
 {
     let Waiting { goals, lists } = gather(alloc, plan.yacc.grammar(), positives)?;

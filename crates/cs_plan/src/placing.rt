@@ -40,6 +40,7 @@ pub fn place_next(
         (λ p. PlacesNext positives.old cases.old p positives.new cases.new) }
     ensures some { IfOk result (λ p. p.goals.items ≡ [] → positives.old.goals ≡ []) }
     ensures few { IfOk result (λ p. length p.lists.items ≤ 1024) }
+    ensures few_goals { IfOk result (λ p. length p.goals.items ≤ 1024) }
     ensures tables { positives.new.tables ≡ positives.old.tables }
     ensures grammar { cases.new.grammar ≡ cases.old.grammar }
 {

@@ -1,7 +1,7 @@
 // The entries of goals in the second format, batch by batch.
 
 ghost use Rattle.std.specs.Vec.Iter.{into_iter_items};
-ghost use Rattle.std.specs.Prelude.{◌≡◌, All, IfNone, IfOk, IfSome, IsSome, [], false, true};
+ghost use Rattle.std.specs.Prelude.{◌≡◌, ◌≤◌, All, IfNone, IfOk, IfSome, IsSome, [], false, length, true};
 ghost use Rattle.cs_manifest.specs.declared.counts.Counts.{Counts};
 ghost use Rattle.cs_manifest.specs.Counts.{with_case, with_entry, with_shared_verdict};
 ghost use Rattle.cs_manifest.specs.Lines.{is_feasible};
@@ -119,6 +119,7 @@ pub fn next_shared<R: Threads + Sync, G: Gate + Sync>(
     ensures entries { IfOk result
         (AreGiven plan.now positives.old cases.old positives.new cases.new) }
     ensures named { IfOk result (λ made. All (IsNamedSharedEntry plan.now.yacc.now) made.items) }
+    ensures few { IfOk result (λ made. length made.items ≤ 1024) }
     ensures tables { positives.new.tables ≡ positives.old.tables }
     ensures grammar { cases.new.grammar ≡ cases.old.grammar }
 {

@@ -27,6 +27,7 @@ pub fn gather(
     ensures gathered { IfOk result (λ w. Gathers positives.old w positives.new) }
     ensures some { IfOk result (λ w. w.goals.items ≡ [] → positives.old.goals ≡ []) }
     ensures few { IfOk result (λ w. length w.lists.items ≤ 1024) }
+    ensures few_goals { IfOk result (λ w. length w.goals.items ≤ 1024) }
     ensures tables { positives.new.tables ≡ positives.old.tables }
 {
     let mut waiting = Waiting {

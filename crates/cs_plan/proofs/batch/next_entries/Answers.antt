@@ -1,4 +1,6 @@
-use Rattle.std.proofs.Common.{ℕ, List, sym, subst}
+use Rattle.std.proofs.Common.{ℕ, List, sym, subst, arith}
+use Rattle.std.proofs.lemmas.List.{length-map}
+use Rattle.std.proofs.lemmas.Slice.Zip.{AllZip-long}
 use Rattle.std.specs.Global.{Vec}
 use Rattle.std.specs.Vec.Iter.{into_iter_items}
 use Rattle.std.specs.List.{AllZip}
@@ -49,3 +51,9 @@ returns-clause-entries g c =
 pub returns-clause-named : goal.returns-clause-named
 returns-clause-named g c =
     are_named c.args.plan.now c.requires.plan.file c.args.positives.now.tables c.requires.positives.grammar c.in_ok-goals.field-0.goals.items c.loop-positive.entries.items c.in_ok-goals.ensures.gathered.judged (all_joined g c)
+
+pub returns-clause-few : goal.returns-clause-few
+returns-clause-few g c =
+    let goals = c.in_ok-goals.field-0.goals.items in
+    let long = AllZip-long (IsEntryIn c.args.plan.now c.args.positives.now.tables) (goals_of goals) c.loop-positive.entries.items (all_joined g c) in
+    omega (arith, long, length-map goals (λ (p : Positive). p.goal), c.in_ok-goals.ensures.few_goals)

@@ -80,3 +80,9 @@ returns-clause-tables c = c.loop.invariant.1
 
 pub returns-clause-grammar : goal.returns-clause-grammar
 returns-clause-grammar c = c.loop.invariant.2
+
+pub returns-in_default-clause-few_goals : goal.returns-in_default-clause-few_goals
+returns-in_default-clause-few_goals c = omega (arith, c.loop.invariant.4, c.loop-test.true)
+
+pub returns-clause-few_goals : goal.returns-clause-few_goals
+returns-clause-few_goals c = omega (arith, c.loop.invariant.4, c.loop.auto.counter-end)

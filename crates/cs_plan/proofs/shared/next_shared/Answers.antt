@@ -1,8 +1,11 @@
-use Rattle.std.proofs.Common.{ℕ, List, None, sym, subst}
+use Rattle.std.proofs.Common.{ℕ, List, None, sym, subst, arith}
+use Rattle.std.proofs.lemmas.List.{length-map}
+use Rattle.std.proofs.lemmas.Slice.Zip.{AllZip-long}
+use Rattle.cs_positive.specs.declared.positive.Positive.{Positive}
 use Rattle.std.specs.Global.{Vec}
 use Rattle.std.specs.Vec.Iter.{into_iter_items}
 use Rattle.std.specs.List.{AllZip}
-use Rattle.cs_manifest.specs.Manifest.{AreShared, IsEntryOf}
+use Rattle.cs_manifest.specs.Manifest.{AreShared, IsEntryOf, SharedEntry}
 use Rattle.cs_plan.specs.declared.placing.Placed.{Placed}
 use Rattle.cs_plan.specs.Batches.{entries_in}
 use Rattle.cs_plan.specs.Placing.{positives_in}
@@ -52,3 +55,10 @@ returns-clause-entries g c =
 pub returns-clause-named : goal.returns-clause-named
 returns-clause-named g c =
     are_named_shared c.args.plan.now c.requires.plan.file c.requires.second c.args.positives.now.tables c.requires.positives.grammar c.args.cases.now c.place_next.new.cases c.in_ok-goals.field-0.goals.items c.loop-placed.entries.items c.in_ok-goals.ensures.placed.judged (all_finished g c).0 (all_finished g c).1
+
+pub returns-clause-few : goal.returns-clause-few
+returns-clause-few g c =
+    let goals = c.in_ok-goals.field-0.goals.items in
+    let entries = c.loop-placed.entries.items in
+    let long = AllZip-long (IsEntryOf c.args.positives.now.tables None (lexemes_in c.args.plan.now)) (goals_of (positives_in goals)) (entries_in entries) (all_finished g c).0 in
+    omega (arith, long, length-map (positives_in goals) (λ (p : Positive). p.goal), length-map goals (λ (p : Placed). p.positive), length-map entries (λ (s : SharedEntry). s.entry), c.in_ok-goals.ensures.few_goals)

@@ -70,3 +70,9 @@ returns-clause-few c = omega (arith, c.loop.invariant.2, c.loop.auto.counter-end
 
 pub returns-clause-tables : goal.returns-clause-tables
 returns-clause-tables c = c.loop.invariant.1
+
+pub returns-in_default-clause-few_goals : goal.returns-in_default-clause-few_goals
+returns-in_default-clause-few_goals c = omega (arith, c.loop.invariant.3, c.loop-test.true)
+
+pub returns-clause-few_goals : goal.returns-clause-few_goals
+returns-clause-few_goals c = omega (arith, c.loop.invariant.3, c.loop.auto.counter-end)
