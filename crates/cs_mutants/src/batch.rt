@@ -43,6 +43,7 @@ pub fn next_negatives<R: Threads + Sync, G: Gate + Sync>(
         AreNext work.now negatives.old made.items negatives.new) }
     ensures named { IfOk result (λ made.
         AreNamedMutants negatives.old.grammar.tokens made.items) }
+    ensures few { IfOk result (λ made. length made.items ≤ 1024) }
     ensures grammar { negatives.new.grammar ≡ negatives.old.grammar }
     ensures base { negatives.new.base ≡ negatives.old.base }
 {
@@ -79,7 +80,7 @@ fn make_all<R: Threads + Sync, G: Gate + Sync>(
 fn gather(alloc: Global, negatives: &mut Negatives<'_>) -> Result<Vec<Negative>, AllocError>
     ensures found { IfOk result (λ found. AreFound negatives.old found.items negatives.new) }
     ensures each { IfOk result (λ found. All (IsFoundIn negatives.old) found.items) }
-    ensures few { IfOk result (λ found. length found.items ≤ BATCH) }
+    ensures few { IfOk result (λ found. length found.items ≤ 1024) }
     ensures grammar { negatives.new.grammar ≡ negatives.old.grammar }
     ensures base { negatives.new.base ≡ negatives.old.base }
 {

@@ -1,7 +1,8 @@
-use Rattle.std.proofs.Common.{ℕ, List, sym, subst}
+use Rattle.std.proofs.Common.{ℕ, ◌≤◌, List, length, sym, subst, arith}
 use Rattle.std.specs.Prelude.{All}
 use Rattle.std.specs.List.{AllZip}
 use Rattle.std.proofs.lemmas.Result.{IfOk-weaker}
+use Rattle.std.proofs.lemmas.Slice.Zip.{AllZip-long}
 use Rattle.cs_grammar.specs.Grammar.{IsNumberOf}
 use Rattle.cs_mutate.specs.declared.negative.Negative.{Negative}
 use Rattle.cs_mutants.specs.Gathering.{AreFound, IsFoundIn}
@@ -39,4 +40,12 @@ returns-clause-named g c =
     IfOk-weaker c.make_all.result (λ made. AllZip (IsMutantOf work c.args.base.now) found made.items) _
     (λ made each file names. named_mutants file work old names tokens found made.items each_found
     (subst (λ (w : List ℕ). AllZip (IsMutantOf work w) found made.items) (sym c.requires.base) each))
+    c.make_all.ensures
+
+pub returns-clause-few : goal.returns-clause-few
+returns-clause-few g c =
+    let found = c.deref.result.now in
+    let few : length found ≤ 1024 = subst (λ (ns : List Negative). length ns ≤ 1024) (sym c.deref.ensures.value) c.in_ok-found.ensures.few in
+    IfOk-weaker c.make_all.result (λ made. AllZip (IsMutantOf c.args.work.now c.args.base.now) found made.items) _
+    (λ made each. omega (arith, few, AllZip-long (IsMutantOf c.args.work.now c.args.base.now) found made.items each))
     c.make_all.ensures
