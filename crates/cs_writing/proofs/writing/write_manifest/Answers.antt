@@ -1,4 +1,5 @@
 use Rattle.std.proofs.Common.{◌≡◌, length, subst, sym, ap, ◌∙◌}
+use Rattle.cs_manifest.specs.Sinks.{IsWritten}
 use Rattle.std.proofs.lemmas.Result.{err_from_is_err_and}
 use Rattle.cs_manifest.specs.declared.counts.Counts.{Counts}
 use Rattle.cs_manifest.specs.Counts.{end_of}
@@ -13,13 +14,53 @@ use Rattle.cs_writing.specs.Writing.{CountsOfAll}
 use Rattle.cs_writing.specs.Written.{IsFresh}
 use Rattle.cs_writing.proofs.Called.{is_cut, is_written}
 use Rattle.cs_writing.proofs.Kept.{editable_bases, few_bases}
-use Rattle.cs_writing.proofs.Parts.{has_bases, has_entries, some_bases, some_entries}
+use Rattle.cs_writing.proofs.Parts.{HasBases, HasEntries, has_bases, has_entries, some_bases, some_entries}
 use Rattle.cs_writing.proofs.Texts.{bases_stop, counts_are, end_cut, entries_stop, fresh_behind, head_by, head_counted, head_cut, head_written, no_cases_are, weighed_so, whole_text}
+use Rattle.cs_writing.proofs.writing.write_manifest.Given.{Over}
 use Rattle.cs_writing.proofs.writing.write_manifest.Goals as goal
+use Rattle.cs_writing.proofs.writing.write_manifest.Goals.{In_ok-bases, In_ok-manifest, In_ok-write_bases}
 
 -- the goals are weighed as the plan says
 weighed_as : (plan : Plan) (left : ToJudge) → IsOfPlan plan left → left.tables ≡ weighed_by (choice_in plan) plan.yacc.now (lexemes_in plan)
 weighed_as plan left is = weighed_so plan left.tables is.grammar is.weights
+
+-- the head was written
+first : (g : Over) (c : In_ok-manifest g) → IsWritten g.S.Sink (head_by c.args.plan.now c.args.plan.now.closed) c.args.sink.now c.begin.new.sink
+first g c =
+    let plan = c.args.plan.now in
+    let weighs = weighed_as plan c.args.positives c.requires.grammar in
+    let h = c.head.result in
+    let is = c.head.ensures in
+    let e = c.in_ok-manifest.ensures in
+    head_written plan c.args.positives.tables c.one_text.ensures c.requires.plan weighs h is.file is.lexemes is.sharing c.args.sink.now c.begin.new.sink
+    (is_written g.S.Sink (head_of h) c.args.sink.now c.begin.new.sink e.ok e.faults_never_fall e.no_fault e.room e.same_lent e.passed_never_falls)
+
+-- nothing else was counted
+fresh : (g : Over) (c : In_ok-manifest g) → IsFresh c.args.plan.now c.in_ok-manifest.manifest.counts
+fresh g c =
+    let plan = c.args.plan.now in
+    subst (λ (k : Counts). IsFresh plan k) (sym (ap (λ (q : Progress). q.counts) c.in_ok-manifest.ensures.value)) (fresh_behind plan c.head.result c.head.ensures.sharing)
+
+bytes : (g : Over) (c : In_ok-manifest g) → c.in_ok-manifest.manifest.counts.bytes ≡ shown (length (head_by c.args.plan.now c.args.plan.now.closed))
+bytes g c =
+    let plan = c.args.plan.now in
+    let weighs = weighed_as plan c.args.positives c.requires.grammar in
+    let is = c.head.ensures in
+    ap (λ (q : Progress). q.counts.bytes) c.in_ok-manifest.ensures.value ∙ head_counted plan c.args.positives.tables c.one_text.ensures c.requires.plan weighs c.head.result is.file is.lexemes is.sharing
+
+-- the entries were written
+goals_of : (g : Over) (c : In_ok-bases g)
+    → HasEntries g.S.Sink c.args.plan.now c.args.positives.tables c.begin.new.sink c.write_goals.new.sink c.in_ok-manifest.manifest.counts c.write_goals.new.manifest.counts c.in_ok-bases.bases
+goals_of g c =
+    let b = c.in_ok-bases.ensures in
+    has_entries c.args.plan.now c.args.positives c.in_ok-manifest.manifest c.write_goals.new.manifest c.in_ok-bases.bases b.text b.counted b.bases
+
+-- the bases were written
+mutants : (g : Over) (c : In_ok-write_bases g)
+    → HasBases g.S.Sink c.args.plan.now c.in_ok-bases.bases.list c.write_goals.new.sink c.write_bases.new.sink c.write_goals.new.manifest.counts c.write_bases.new.manifest.counts
+mutants g c =
+    let m = c.in_ok-write_bases.ensures in
+    has_bases c.args.plan.now c.in_ok-bases.bases c.write_goals.new.manifest c.write_bases.new.manifest m.text m.counted
 
 pub returns-in_err-manifest-clause-text : goal.returns-in_err-manifest-clause-text
 returns-in_err-manifest-clause-text g c =
@@ -42,17 +83,13 @@ write_goals-requires-clause-fresh g c κs within =
 pub returns-in_err-bases-clause-text : goal.returns-in_err-bases-clause-text
 returns-in_err-bases-clause-text g c =
     let p = err_from_is_err_and c.from_residual-in_err-bases.result c.from_residual-in_err-bases.ensures.1 in
+    let at = goal.at.returns-in_err-bases-clause-text g c in
     let plan = c.args.plan.now in
     let of = c.args.positives.tables in
     let one = c.one_text.ensures in
     let weighs = weighed_as plan c.args.positives c.requires.grammar in
-    let h = c.head.result in
-    let is = c.head.ensures in
-    let e = c.in_ok-manifest.ensures in
-    let first = head_written plan of one c.requires.plan weighs h is.file is.lexemes is.sharing c.args.sink.now c.begin.new.sink
-    (is_written g.S.Sink (head_of h) c.args.sink.now c.begin.new.sink e.ok e.faults_never_fall e.no_fault e.room e.same_lent e.passed_never_falls) in
     let halt = c.in_err-bases.field-0.0 in
-    rw (p.1, p.2) (entries_stop plan of one c.requires.plan weighs halt c.args.sink.now c.begin.new.sink c.write_goals.new.sink first
+    rw (p.1, p.2) (entries_stop plan of one c.requires.plan weighs halt c.args.sink.now c.begin.new.sink c.write_goals.new.sink (first g at.In_ok-manifest)
     (some_entries plan c.args.positives c.begin.new.sink c.write_goals.new.sink halt c.in_err-bases.ensures.text))
 
 pub write_bases-requires-clause-bases : goal.write_bases-requires-clause-bases
@@ -77,102 +114,58 @@ write_bases-requires-clause-fresh g c κs within =
 pub returns-in_err-write_bases-clause-text : goal.returns-in_err-write_bases-clause-text
 returns-in_err-write_bases-clause-text g c =
     let p = err_from_is_err_and c.from_residual-in_err-write_bases.result c.from_residual-in_err-write_bases.ensures.1 in
+    let at = goal.at.returns-in_err-write_bases-clause-text g c in
     let plan = c.args.plan.now in
     let of = c.args.positives.tables in
     let one = c.one_text.ensures in
     let weighs = weighed_as plan c.args.positives c.requires.grammar in
-    let h = c.head.result in
-    let is = c.head.ensures in
-    let e = c.in_ok-manifest.ensures in
-    let first = head_written plan of one c.requires.plan weighs h is.file is.lexemes is.sharing c.args.sink.now c.begin.new.sink
-    (is_written g.S.Sink (head_of h) c.args.sink.now c.begin.new.sink e.ok e.faults_never_fall e.no_fault e.room e.same_lent e.passed_never_falls) in
-    let b = c.in_ok-bases.ensures in
-    let goals_of = has_entries plan c.args.positives c.in_ok-manifest.manifest c.write_goals.new.manifest c.in_ok-bases.bases b.text b.counted b.bases in
     let halt = c.in_err-write_bases.field-0.0 in
     rw (p.1, p.2) (bases_stop plan of one c.requires.plan weighs halt c.in_ok-manifest.manifest.counts c.write_goals.new.manifest.counts
-    c.args.sink.now c.begin.new.sink c.write_goals.new.sink c.write_bases.new.sink c.in_ok-bases.bases first goals_of
+    c.args.sink.now c.begin.new.sink c.write_goals.new.sink c.write_bases.new.sink c.in_ok-bases.bases (first g at.In_ok-manifest) (goals_of g at.In_ok-bases)
     (some_bases plan c.in_ok-bases.bases c.write_goals.new.sink c.write_bases.new.sink halt c.in_err-write_bases.ensures.text))
 
 pub returns-in_err-finish-clause-text : goal.returns-in_err-finish-clause-text
 returns-in_err-finish-clause-text g c =
     let p = err_from_is_err_and c.from_residual-in_err-finish.result c.from_residual-in_err-finish.ensures.1 in
     let f = c.in_err-finish.ensures in
+    let at = goal.at.returns-in_err-finish-clause-text g c in
     let plan = c.args.plan.now in
     let of = c.args.positives.tables in
     let one = c.one_text.ensures in
     let weighs = weighed_as plan c.args.positives c.requires.grammar in
-    let h = c.head.result in
-    let is = c.head.ensures in
-    let e = c.in_ok-manifest.ensures in
-    let first = head_written plan of one c.requires.plan weighs h is.file is.lexemes is.sharing c.args.sink.now c.begin.new.sink
-    (is_written g.S.Sink (head_of h) c.args.sink.now c.begin.new.sink e.ok e.faults_never_fall e.no_fault e.room e.same_lent e.passed_never_falls) in
-    let b = c.in_ok-bases.ensures in
-    let goals_of = has_entries plan c.args.positives c.in_ok-manifest.manifest c.write_goals.new.manifest c.in_ok-bases.bases b.text b.counted b.bases in
-    let fresh = subst (λ (k : Counts). IsFresh plan k) (sym (ap (λ (q : Progress). q.counts) c.in_ok-manifest.ensures.value)) (fresh_behind plan h is.sharing) in
-    let bytes : c.in_ok-manifest.manifest.counts.bytes ≡ shown (length (head_by plan plan.closed)) =
-    ap (λ (q : Progress). q.counts.bytes) c.in_ok-manifest.ensures.value ∙ head_counted plan of one c.requires.plan weighs h is.file is.lexemes is.sharing in
-    let m = c.in_ok-write_bases.ensures in
-    let mutants = has_bases plan c.in_ok-bases.bases c.write_goals.new.manifest c.write_bases.new.manifest m.text m.counted in
     let cut = is_cut g.S.Sink (end_of c.write_bases.new.manifest.counts) c.write_bases.new.sink c.finish.new.sink f.err f.fault f.faults_never_fall (λ fits. let no = f.ok_with_room fits in cc) f.same_lent f.passed_never_falls in
     rw (p.1, p.2) (end_cut plan of one c.requires.plan weighs c.in_ok-manifest.manifest.counts c.write_goals.new.manifest.counts c.write_bases.new.manifest.counts c.begin.new.sink c.write_goals.new.sink c.write_bases.new.sink
-    c.in_ok-bases.bases fresh bytes goals_of mutants c.args.sink.now c.finish.new.sink first cut)
+    c.in_ok-bases.bases (fresh g at.In_ok-manifest) (bytes g at.In_ok-manifest) (goals_of g at.In_ok-bases) (mutants g at.In_ok-write_bases) c.args.sink.now c.finish.new.sink (first g at.In_ok-manifest) cut)
 
 pub returns-clause-text : goal.returns-clause-text
 returns-clause-text g c =
     let f = c.in_ok-finish.ensures in
+    let at = goal.at.returns-clause-text g c in
     let plan = c.args.plan.now in
     let of = c.args.positives.tables in
     let one = c.one_text.ensures in
     let weighs = weighed_as plan c.args.positives c.requires.grammar in
-    let h = c.head.result in
-    let is = c.head.ensures in
-    let e = c.in_ok-manifest.ensures in
-    let first = head_written plan of one c.requires.plan weighs h is.file is.lexemes is.sharing c.args.sink.now c.begin.new.sink
-    (is_written g.S.Sink (head_of h) c.args.sink.now c.begin.new.sink e.ok e.faults_never_fall e.no_fault e.room e.same_lent e.passed_never_falls) in
-    let b = c.in_ok-bases.ensures in
-    let goals_of = has_entries plan c.args.positives c.in_ok-manifest.manifest c.write_goals.new.manifest c.in_ok-bases.bases b.text b.counted b.bases in
-    let fresh = subst (λ (k : Counts). IsFresh plan k) (sym (ap (λ (q : Progress). q.counts) c.in_ok-manifest.ensures.value)) (fresh_behind plan h is.sharing) in
-    let bytes : c.in_ok-manifest.manifest.counts.bytes ≡ shown (length (head_by plan plan.closed)) =
-    ap (λ (q : Progress). q.counts.bytes) c.in_ok-manifest.ensures.value ∙ head_counted plan of one c.requires.plan weighs h is.file is.lexemes is.sharing in
-    let m = c.in_ok-write_bases.ensures in
-    let mutants = has_bases plan c.in_ok-bases.bases c.write_goals.new.manifest c.write_bases.new.manifest m.text m.counted in
     let end = is_written g.S.Sink (end_of c.write_bases.new.manifest.counts) c.write_bases.new.sink c.finish.new.sink f.ok f.faults_never_fall f.no_fault f.room f.same_lent f.passed_never_falls in
     whole_text plan of one c.requires.plan weighs c.in_ok-manifest.manifest.counts c.write_goals.new.manifest.counts c.write_bases.new.manifest.counts c.begin.new.sink c.write_goals.new.sink c.write_bases.new.sink
-    c.in_ok-bases.bases fresh bytes goals_of mutants c.args.sink.now c.finish.new.sink first end
+    c.in_ok-bases.bases (fresh g at.In_ok-manifest) (bytes g at.In_ok-manifest) (goals_of g at.In_ok-bases) (mutants g at.In_ok-write_bases) c.args.sink.now c.finish.new.sink (first g at.In_ok-manifest) end
 
 pub returns-clause-counts : goal.returns-clause-counts
 returns-clause-counts g c =
+    let at = goal.at.returns-clause-counts g c in
     let plan = c.args.plan.now in
     let of = c.args.positives.tables in
     let one = c.one_text.ensures in
     let weighs = weighed_as plan c.args.positives c.requires.grammar in
-    let h = c.head.result in
-    let is = c.head.ensures in
-    let b = c.in_ok-bases.ensures in
-    let goals_of = has_entries plan c.args.positives c.in_ok-manifest.manifest c.write_goals.new.manifest c.in_ok-bases.bases b.text b.counted b.bases in
-    let fresh = subst (λ (k : Counts). IsFresh plan k) (sym (ap (λ (q : Progress). q.counts) c.in_ok-manifest.ensures.value)) (fresh_behind plan h is.sharing) in
-    let bytes : c.in_ok-manifest.manifest.counts.bytes ≡ shown (length (head_by plan plan.closed)) =
-    ap (λ (q : Progress). q.counts.bytes) c.in_ok-manifest.ensures.value ∙ head_counted plan of one c.requires.plan weighs h is.file is.lexemes is.sharing in
-    let m = c.in_ok-write_bases.ensures in
-    let mutants = has_bases plan c.in_ok-bases.bases c.write_goals.new.manifest c.write_bases.new.manifest m.text m.counted in
     let are = counts_are plan of one c.requires.plan weighs c.in_ok-manifest.manifest.counts c.write_goals.new.manifest.counts c.write_bases.new.manifest.counts c.begin.new.sink c.write_goals.new.sink c.write_bases.new.sink
-    c.in_ok-bases.bases fresh bytes goals_of mutants in
+    c.in_ok-bases.bases (fresh g at.In_ok-manifest) (bytes g at.In_ok-manifest) (goals_of g at.In_ok-bases) (mutants g at.In_ok-write_bases) in
     subst (λ (k : Counts). CountsOfAll (IsPlanned plan) k) (sym c.in_ok-finish.ensures.counts) are
 
 pub returns-clause-first : goal.returns-clause-first
 returns-clause-first g c = λ none.
+    let at = goal.at.returns-clause-first g c in
     let plan = c.args.plan.now in
     let of = c.args.positives.tables in
     let one = c.one_text.ensures in
     let weighs = weighed_as plan c.args.positives c.requires.grammar in
-    let h = c.head.result in
-    let is = c.head.ensures in
-    let b = c.in_ok-bases.ensures in
-    let goals_of = has_entries plan c.args.positives c.in_ok-manifest.manifest c.write_goals.new.manifest c.in_ok-bases.bases b.text b.counted b.bases in
-    let fresh = subst (λ (k : Counts). IsFresh plan k) (sym (ap (λ (q : Progress). q.counts) c.in_ok-manifest.ensures.value)) (fresh_behind plan h is.sharing) in
-    let bytes : c.in_ok-manifest.manifest.counts.bytes ≡ shown (length (head_by plan plan.closed)) =
-    ap (λ (q : Progress). q.counts.bytes) c.in_ok-manifest.ensures.value ∙ head_counted plan of one c.requires.plan weighs h is.file is.lexemes is.sharing in
-    let m = c.in_ok-write_bases.ensures in
-    let mutants = has_bases plan c.in_ok-bases.bases c.write_goals.new.manifest c.write_bases.new.manifest m.text m.counted in
     ap (λ (k : Counts). k.cases) c.in_ok-finish.ensures.counts ∙ no_cases_are plan of one c.requires.plan weighs c.in_ok-manifest.manifest.counts c.write_goals.new.manifest.counts c.write_bases.new.manifest.counts c.begin.new.sink c.write_goals.new.sink c.write_bases.new.sink
-    c.in_ok-bases.bases fresh bytes goals_of mutants none
+    c.in_ok-bases.bases (fresh g at.In_ok-manifest) (bytes g at.In_ok-manifest) (goals_of g at.In_ok-bases) (mutants g at.In_ok-write_bases) none
