@@ -39,7 +39,7 @@ RefusesPair (TooLong Yacc) bytes more = 1048576 < length bytes
 RefusesPair (TooLong Lex) bytes more = IsShort bytes × (1048576 < length more)
 RefusesPair (OfYacc error) bytes more = IsShort bytes × IsShort more × Refuses error bytes
 RefusesPair (OfLex error) bytes more =
-    IsShort bytes × IsShort more × ((file : yacc.File) × IsYaccFile bytes file) × lex_reading.Refuses more error
+    IsShort bytes × IsShort more × ((file : yacc.File) × IsYaccFile bytes file) × lex_reading.Refuses error more
 RefusesPair States bytes more =
     (file : yacc.File) × (scanner : lex.File) × IsPairOf file scanner bytes more × yacc.IsFile file × HasManyStates scanner
 

@@ -27,7 +27,7 @@ use Rattle.cs_pattern_tree.specs.Scannable.{IsScannable}
 use Rattle.cs_lex.specs.Tokens.{AreLiterals}
 use Rattle.cs_lex.proofs.TokensNamed.{has_tokens}
 
-pub refuses : (bytes : List ℕ) (e : LexError) → Refuses bytes e → RefusesOrMemory bytes e
+pub refuses : (bytes : List ℕ) (e : LexError) → Refuses e bytes → RefusesOrMemory bytes e
 refuses bytes (Unended at) r = r
 refuses bytes (Layout at) r = r
 refuses bytes (UnknownDirective at) r = r

@@ -72,11 +72,11 @@ pub data IsFaulty (bytes : List ℕ) (ds : List Definition) (rs : List Rule) (er
       → 16384 < positions patterns → error ≡ Limit Positions (positions patterns) 16384 → IsFaulty bytes ds rs error
 
 -- The bytes are refused with this error. Want of memory refuses nothing.
-pub data Refuses (bytes : List ℕ) (error : LexError) : Type 0 where
-  stops : (stop : layout.LayoutError) → StopsWith bytes stop → error ≡ error_of stop → Refuses bytes error
-  faulty : (ds : List Definition) (rs : List Rule) → HasLayout bytes ds rs → IsFaulty bytes ds rs error → Refuses bytes error
+pub data Refuses (error : LexError) (bytes : List ℕ) : Type 0 where
+  stops : (stop : layout.LayoutError) → StopsWith bytes stop → error ≡ error_of stop → Refuses error bytes
+  faulty : (ds : List Definition) (rs : List Rule) → HasLayout bytes ds rs → IsFaulty bytes ds rs error → Refuses error bytes
 
 -- the bytes are refused so; memory may run out
 abbrev pub RefusesOrMemory : List ℕ → LexError → Type 0
 RefusesOrMemory bytes Memory = Unit {0}
-RefusesOrMemory bytes error = Refuses bytes error
+RefusesOrMemory bytes error = Refuses error bytes
