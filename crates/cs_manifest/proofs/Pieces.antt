@@ -1,15 +1,32 @@
 -- A text that was put to an output piece by piece.
-use Rattle.std.proofs.Common.{◌≡◌, ◌⊎◌, inl, inr, refl, subst, ℕ, ◌+◌, ◌<◌, ◌≤◌, List, [], ◌∷◌, ◌++◌, length, length-append, take, get_or, ap, sym, ◌∙◌, arith, true, false, Bool, Option}
+use Rattle.std.proofs.Common.{◌≡◌, ◌⊎◌, inl, inr, refl, subst, ℕ, ◌+◌, ◌-◌, ◌<◌, ◌≤◌, List, [], ◌∷◌, ◌++◌, length, append_assoc, length-append, take, get_or, ap, sym, ◌∙◌, arith, true, false, Bool, Option}
 use Rattle.std.specs.Io.KnownBytes.{append_known}
 use Rattle.std.specs.List.{flat_map, enumerate_from}
-use Rattle.std.proofs.lemmas.List.{take_more, take_all, flat_map_more, length-take-le}
+use Rattle.std.proofs.lemmas.List.{append-nil, take_more, take_all, flat_map_more, length-take-le}
+use Rattle.std.proofs.lemmas.Slice.{take-put_mid}
+use borrow.Rule.Slice.PartMut.{put_mid}
 use Rattle.cs_io.proofs.Known.{known_none, known_twice, known_then_part, known_part}
 use Rattle.cs_io.specs.Faults.{Rose}
 use Rattle.cs_io.specs.Sink.{GrewByPrefix}
 use Rattle.cs_io.specs.declared.sink.Sink as Sink
 use Rattle.cs_manifest.specs.declared.output.Output.{Output}
-use Rattle.cs_manifest.specs.Putting.{IsPut, IsCut, IsLeft, Puts, shown}
+use Rattle.cs_manifest.specs.Putting.{IsPut, IsCut, IsLeft, Puts, shown, waiting}
 use Rattle.cs_manifest.specs.Words.{spaced, with_numbers}
+
+-- what went to the sink, and a second text behind the first
+sent_then : (sent old mid first second : List ℕ) → sent ++ mid ≡ old ++ first → sent ++ (mid ++ second) ≡ old ++ (first ++ second)
+sent_then sent old mid first second split =
+    sym (append_assoc sent mid second) ∙ ap (λ (text : List ℕ). text ++ second) split ∙ append_assoc old first second
+
+-- what went to the sink twice, and what waits behind it
+sent_twice : (sent more old mid new first second : List ℕ) → sent ++ mid ≡ old ++ first → more ++ new ≡ mid ++ second → (sent ++ more) ++ new ≡ old ++ (first ++ second)
+sent_twice sent more old mid new first second split next =
+    append_assoc sent more new ∙ ap (λ (text : List ℕ). sent ++ text) next ∙ sent_then sent old mid first second split
+
+-- a text that was written into a line, behind the bytes that it had
+pub put_in : (line text part : List ℕ) (used end : ℕ) → used ≤ length line → end ≡ used + length text → part ≡ text → take end (put_mid used (end - used) line part) ≡ take used line ++ text
+put_in line text part used end within at same =
+    take-put_mid used (end - used) line part end (omega (arith, at, ap length same)) within ∙ ap (λ (t : List ℕ). take used line ++ t) same
 
 module _ {S : Type 0} {g : Sink.Ghosts S} where
   both_put : {old mid new : Output S} (first second : List ℕ) → IsPut g first old mid → IsPut g second mid new → IsPut g (first ++ second) old new
@@ -18,7 +35,9 @@ module _ {S : Type 0} {g : Sink.Ghosts S} where
     still_fine = b.still_fine;
     reference = b.reference ∙ a.reference;
     bytes = omega (arith, a.bytes, b.bytes, length-append first second);
-    written = b.written ∙ ap (λ (known : Option (List ℕ)). append_known known second) a.written ∙ known_twice (g.written old.sink.now) first second;
+    sent = a.sent ++ b.sent;
+    split = sent_twice a.sent b.sent (waiting old) (waiting mid) (waiting new) first second a.split b.split;
+    written = b.written ∙ ap (λ (known : Option (List ℕ)). append_known known b.sent) a.written ∙ known_twice (g.written old.sink.now) a.sent b.sent;
     faults = omega (arith, a.faults, b.faults);
     no_fault = λ fits. b.no_fault (omega (arith, fits, a.room, length-append first second)) ∙ a.no_fault (omega (arith, fits, length-append first second));
     room = omega (arith, a.room, b.room, length-append first second);
@@ -31,7 +50,10 @@ module _ {S : Type 0} {g : Sink.Ghosts S} where
     fine = a.fine;
     failed = b.failed;
     reference = b.reference ∙ a.reference;
-    written = known_then_part (g.written old.sink.now) (g.written mid.sink.now) (g.written new.sink.now) first second a.written b.written;
+    written =
+        subst (λ (text : List ℕ). GrewByPrefix (g.written old.sink.now) (g.written new.sink.now) text)
+        (sent_then a.sent (waiting old) (waiting mid) first second a.split)
+        (known_then_part (g.written old.sink.now) (g.written mid.sink.now) (g.written new.sink.now) a.sent (waiting mid ++ second) a.written b.written);
     fault = omega (arith, a.faults, b.fault);
     faults = omega (arith, a.faults, b.faults);
     room = omega (arith, a.room, b.room, length-append first second);
@@ -44,7 +66,10 @@ module _ {S : Type 0} {g : Sink.Ghosts S} where
     fine = a.fine;
     failed = b.still_failed;
     reference = b.reference ∙ a.reference;
-    written = subst (λ (s : S). GrewByPrefix (g.written old.sink.now) (g.written s) (first ++ second)) (sym b.sink) (known_part (g.written old.sink.now) (g.written mid.sink.now) first second a.written);
+    written =
+        subst (λ (text : List ℕ). GrewByPrefix (g.written old.sink.now) (g.written new.sink.now) text) (append_assoc (waiting old) first second)
+        (subst (λ (s : S). GrewByPrefix (g.written old.sink.now) (g.written s) ((waiting old ++ first) ++ second)) (sym b.sink)
+        (known_part (g.written old.sink.now) (g.written mid.sink.now) (waiting old ++ first) second a.written));
     fault = subst (λ (s : S). Rose (g.faults old.sink.now) (g.faults s)) (sym b.sink) a.fault;
     faults = subst (λ (s : S). g.faults old.sink.now ≤ g.faults s) (sym b.sink) a.faults;
     room = omega (arith, a.room, length-append first second);
@@ -80,6 +105,8 @@ module _ {S : Type 0} {g : Sink.Ghosts S} where
           still_fine = e;
           reference = refl;
           bytes = ap shown (omega arith);
+          sent = [];
+          split = sym (append-nil (waiting out));
           written = sym (known_none (g.written out.sink.now));
           faults = omega arith;
           no_fault = λ fits. refl;
@@ -88,6 +115,46 @@ module _ {S : Type 0} {g : Sink.Ghosts S} where
           passed = omega arith;
         });
       }
+
+  -- nothing happens after a write that failed
+  pub lost : {out : Output S} {text : List ℕ} → out.failed ≡ true → Puts g text out out
+  lost e = record { how = inr (inr (record { failed = e; still_failed = e; reference = refl; sink = refl })) }
+
+  -- the text waits behind what waited
+  pub kept : {old new : Output S} {text : List ℕ} → new.failed ≡ old.failed → new.sink.ghost_name ≡ old.sink.ghost_name → new.sink.now ≡ old.sink.now → new.bytes ≡ old.bytes
+      → waiting new ≡ waiting old ++ text → Puts g text old new
+  kept {old} {new} {text} same reference sink bytes waits = at_flag old.failed refl
+    where
+      at_flag : (flag : Bool) → old.failed ≡ flag → Puts g text old new
+      at_flag true e = record { how = inr (inr (record { failed = e; still_failed = same ∙ e; reference = reference; sink = sink })) }
+      at_flag false e = record {
+        how = inl (record {
+          fine = e;
+          still_fine = same ∙ e;
+          reference = reference;
+          bytes = omega (arith, bytes, ap length waits, length-append (waiting old) text);
+          sent = [];
+          split = waits;
+          written = ap g.written sink ∙ sym (known_none (g.written old.sink.now));
+          faults = omega (arith, ap g.faults sink);
+          no_fault = λ fits. ap g.faults sink;
+          room = omega (arith, ap g.room sink, ap length waits, length-append (waiting old) text);
+          lent = ap g.lent sink;
+          passed = omega (arith, ap g.passed sink);
+        });
+      }
+
+  -- a write failed where nothing had waited before the text, and what waited behind it was to be passed on
+  pub failed_part : {old mid new : Output S} {text : List ℕ} → old.failed ≡ false → waiting old ≡ [] → Puts g text old mid → Puts g [] mid new → new.failed ≡ true
+      → GrewByPrefix (g.written old.sink.now) (g.written new.sink.now) text
+  failed_part {old} {mid} {new} {text} fine nothing_waits put passed failed = part (then put passed).how
+    where
+      part : IsPut g (text ++ []) old new ⊎ IsCut g (text ++ []) old new ⊎ IsLeft g old new → GrewByPrefix (g.written old.sink.now) (g.written new.sink.now) text
+      part (inl p) = absurd (let e = sym failed ∙ p.still_fine in cc)
+      part (inr (inl q)) =
+          subst (λ (t : List ℕ). GrewByPrefix (g.written old.sink.now) (g.written new.sink.now) t)
+          (ap (λ (t : List ℕ). t ++ (text ++ [])) nothing_waits ∙ append-nil text) q.written
+      part (inr (inr q)) = absurd (let e = sym fine ∙ q.failed in cc)
 
   -- the same text, spelled otherwise
   pub spelled : {old new : Output S} {text : List ℕ} (other : List ℕ) → text ≡ other → Puts g text old new → Puts g other old new

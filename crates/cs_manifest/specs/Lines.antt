@@ -1,5 +1,6 @@
 -- The lines of a manifest in the first format, in their order, and those that both formats have.
 use Rattle.std.specs.Prelude.{ℕ, List, [], ◌∷◌, ◌++◌, codes, decimal, Bool, true, false, Option, None, Some}
+use Rattle.cs_bytes.specs.Names.{space}
 use Rattle.cs_grammar.specs.Grammar.{Production}
 use Rattle.cs_grammar.specs.declared.symbol.Symbol.{Symbol}
 use Rattle.cs_grammar.specs.declared.symbol.Mark.{Mark}
@@ -24,7 +25,7 @@ numbered_word word number = word ++ decimal number
 
 -- `token N NAME`
 abbrev pub token_line : ℕ → TokenName → List ℕ
-token_line number name = line (codes "token " ++ decimal number ++ 32 ∷ token_text name)
+token_line number name = line (codes "token " ++ decimal number ++ space ∷ token_text name)
 
 -- the names of symbols, each behind a space
 abbrev pub symbol_words : File → List Symbol → List ℕ
@@ -37,7 +38,10 @@ token_words file tokens = spaced (token_of file) tokens
 -- `rule N LEFT :` and the names of the right side
 abbrev pub rule_line : File → ℕ → Production → List ℕ
 rule_line file number rule =
-    line (codes "rule " ++ decimal number ++ 32 ∷ nonterminal_of file rule.left ++ codes " :" ++ symbol_words file rule.right)
+    line (codes "rule " ++ decimal number ++ space ∷ nonterminal_of file rule.left ++ codes " :" ++ symbol_words file rule.right)
+
+abbrev pub rule_lines : File → List Production → List ℕ
+rule_lines file rules = with_numbers (rule_line file) rules
 
 -- `lexeme NAME "TEXT"` or `lexeme NAME none`
 abbrev pub lexeme_text : Option (List ℕ) → List ℕ
@@ -45,14 +49,14 @@ lexeme_text None = codes "none"
 lexeme_text (Some text) = quoted text
 
 abbrev pub lexeme_line : List (Option (List ℕ)) → ℕ → TokenName → List ℕ
-lexeme_line lexemes number name = line (codes "lexeme " ++ token_text name ++ 32 ∷ lexeme_text (lexeme_in lexemes number))
+lexeme_line lexemes number name = line (codes "lexeme " ++ token_text name ++ space ∷ lexeme_text (lexeme_in lexemes number))
 
 abbrev pub lexeme_lines : List (Option (List ℕ)) → List TokenName → List ℕ
 lexeme_lines lexemes names = with_numbers (lexeme_line lexemes) names
 
 -- the tokens and the rules
 abbrev pub file_lines : File → List ℕ
-file_lines file = with_numbers token_line file.token_names ++ with_numbers (rule_line file) file.grammar.rules
+file_lines file = with_numbers token_line file.token_names ++ rule_lines file file.grammar.rules
 
 -- the tokens and the rules, and the lexemes where there are some
 abbrev pub table_lines : File → Option (List (Option (List ℕ))) → List ℕ
@@ -83,7 +87,7 @@ text_lines file (Some rendered) = text_line file rendered
 -- ---- goals
 
 abbrev pub pair_words : File → Mark → Mark → List ℕ
-pair_words file left right = codes "pair " ++ mark_text file left ++ 32 ∷ mark_text file right
+pair_words file left right = codes "pair " ++ mark_text file left ++ space ∷ mark_text file right
 
 abbrev pub goal_text : File → Goal → List ℕ
 goal_text file (Rule r) = codes "rule " ++ decimal r
@@ -92,7 +96,7 @@ goal_text file (Pair a b) = pair_words file a b
 
 -- `goal N GOAL`
 abbrev pub goal_words : File → ℕ → Goal → List ℕ
-goal_words file number goal = codes "goal " ++ decimal number ++ 32 ∷ goal_text file goal
+goal_words file number goal = codes "goal " ++ decimal number ++ space ∷ goal_text file goal
 
 -- the rule numbers of a derivation, and the names of its tokens
 abbrev pub derive_line : List ℕ → List ℕ
@@ -127,8 +131,8 @@ base_line number goal = line (numbered_word (codes "base ") number ++ numbered_w
 
 abbrev pub edit_text : File → Edit → List ℕ
 edit_text file (Delete i) = codes "delete " ++ decimal i
-edit_text file (Insert i t) = codes "insert " ++ decimal i ++ 32 ∷ token_of file t
-edit_text file (Replace i t) = codes "replace " ++ decimal i ++ 32 ∷ token_of file t
+edit_text file (Insert i t) = codes "insert " ++ decimal i ++ space ∷ token_of file t
+edit_text file (Replace i t) = codes "replace " ++ decimal i ++ space ∷ token_of file t
 edit_text file (Swap i) = codes "swap " ++ decimal i
 
 -- `negative N base B`
@@ -138,7 +142,7 @@ negative_words number base = numbered_word (codes "negative ") number ++ numbere
 -- ` EDIT pair A B at K`: the edit, the pair of the edited list that no sentence has, and its place
 abbrev pub fault_line : File → Edit → Mark → Mark → ℕ → List ℕ
 fault_line file edit left right at =
-    line (32 ∷ edit_text file edit ++ 32 ∷ pair_words file left right ++ numbered_word (codes " at ") at)
+    line (space ∷ edit_text file edit ++ space ∷ pair_words file left right ++ numbered_word (codes " at ") at)
 
 -- these, and the edited list with what came of its rendering
 abbrev pub negative_lines : File → ℕ → ℕ → Edit → Mark → Mark → ℕ → List ℕ → Option Rendering → List ℕ

@@ -9,7 +9,7 @@ ghost use Rattle.cs_manifest.specs.Head.{IsNamedHead, head_of, no_cases, sharing
 ghost use Rattle.cs_manifest.specs.Progress.{begun, behind, lines_in};
 ghost use Rattle.cs_manifest.specs.Sinks.{HasRoom, IsCalm, LeavesRoom, Took, TookPart};
 
-use crate::output::Output;
+use crate::output::{LINE_LENGTH, Output};
 use crate::put_entry::{put_end, put_entry};
 use crate::put_head::put_head;
 use crate::{Counts, Entry, Form, Head, SharedVerdict};
@@ -60,14 +60,13 @@ impl<'a> Manifest<'a> {
         ensures same_lent { S.lent sink.new ≡ S.lent sink.old }
         ensures passed_never_falls { S.passed sink.old ≤ S.passed sink.new }
     {
-        let mut output = Output::new(sink, 0);
+        let mut line = [0u8; LINE_LENGTH];
+        let mut output = Output::new(sink, &mut line, 0);
         put_head(&mut output, head);
-        if output.failed {
-            return Err(SinkError::Failed);
-        }
+        let bytes = output.end()?;
         Ok(Manifest {
             head: *head,
-            counts: first_counts(output.bytes, first_cases(head.form)),
+            counts: first_counts(bytes, first_cases(head.form)),
         })
     }
 
@@ -97,12 +96,11 @@ impl<'a> Manifest<'a> {
         ensures same_lent { S.lent sink.new ≡ S.lent sink.old }
         ensures passed_never_falls { S.passed sink.old ≤ S.passed sink.new }
     {
-        let mut output = Output::new(sink, self.counts.bytes);
+        let mut line = [0u8; LINE_LENGTH];
+        let mut output = Output::new(sink, &mut line, self.counts.bytes);
         put_entry(&mut output, self.head.yacc, entry);
-        if output.failed {
-            return Err(SinkError::Failed);
-        }
-        self.counts = with_entry(self.counts, output.bytes, entry);
+        let bytes = output.end()?;
+        self.counts = with_entry(self.counts, bytes, entry);
         Ok(())
     }
 
@@ -129,12 +127,11 @@ impl<'a> Manifest<'a> {
         ensures same_lent { S.lent sink.new ≡ S.lent sink.old }
         ensures passed_never_falls { S.passed sink.old ≤ S.passed sink.new }
     {
-        let mut output = Output::new(sink, self.counts.bytes);
+        let mut line = [0u8; LINE_LENGTH];
+        let mut output = Output::new(sink, &mut line, self.counts.bytes);
         put_end(&mut output, &self.counts);
-        if output.failed {
-            return Err(SinkError::Failed);
-        }
-        Ok(with_bytes(self.counts, output.bytes))
+        let bytes = output.end()?;
+        Ok(with_bytes(self.counts, bytes))
     }
 }
 

@@ -8,7 +8,7 @@ ghost use Rattle.cs_manifest.specs.Putting.{Puts};
 ghost use Rattle.cs_manifest.specs.Words as words;
 
 use crate::output::Output;
-use cs_grammar::{Mark, Symbol};
+use cs_grammar::{Mark, Symbol, place_of};
 use cs_io::Sink;
 use cs_yacc::{TokenName, YaccFile};
 
@@ -16,14 +16,14 @@ pub fn put_token<S: Sink>(output: &mut Output<'_, S>, file: &YaccFile, token: u1
     requires { names.IsNamedToken file.now token }
     ensures { Puts S.Sink (names.token_of file.now token) output.old output.new }
 {
-    put_token_name(output, &file.token_names()[token as usize - 1]);
+    put_token_name(output, &file.token_names()[place_of(token)]);
 }
 
 pub fn put_nonterminal<S: Sink>(output: &mut Output<'_, S>, file: &YaccFile, nonterminal: u16)
     requires { IsNumberOf (length file.now.nonterminal_names) nonterminal }
     ensures { Puts S.Sink (names.nonterminal_of file.now nonterminal) output.old output.new }
 {
-    output.put(file.nonterminal_names()[nonterminal as usize - 1].bytes());
+    output.put(file.nonterminal_names()[place_of(nonterminal)].bytes());
 }
 
 pub fn put_symbol<S: Sink>(output: &mut Output<'_, S>, file: &YaccFile, symbol: Symbol)

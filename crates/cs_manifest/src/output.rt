@@ -1,45 +1,117 @@
-// An output: a lent sink, with a count of the bytes that were put to it.
+// An output: a lent sink behind a lent line of bytes that wait for it, with a count of the bytes that it got.
 
-ghost use Rattle.std.specs.Prelude.{◌≡◌, ◌++◌, ◌∷◌, ◌<◌, false, [], codes, decimal, length};
+ghost use Rattle.std.specs.Prelude.{◌≡◌, ◌+◌, ◌++◌, ◌∷◌, ◌<◌, ◌≤◌, IfOk, OnErr, OnOk, false, true, [], codes, decimal, length, take};
 ghost use Rattle.std.specs.List.{flat_map};
+ghost use Rattle.cs_manifest.specs.Sinks.{Writes};
 ghost use Rattle.cs_manifest.specs.Words as spec;
 
-use cs_io::{Sink, write_all};
+use cs_io::{Sink, SinkError, write_all};
 use itoa::Buffer;
 
-// After a write that failed nothing more is put. So the lines are written one piece after another, and the failure is asked
-// for at their end.
+/// How many bytes may wait.
+pub const LINE_LENGTH: usize = 1024;
+
+// Most pieces are a few bytes, so they gather in the line, and the sink gets them together. After a write that failed nothing
+// more is passed on, and what is put into the line is lost. So the lines are written one piece after another, and the failure
+// is asked for at their end.
 #[derive(Drop)]
 pub struct Output<'s, S: Sink> {
     pub sink: &'s mut S,
+    pub line: &'s mut [u8; LINE_LENGTH],
+    pub used: usize,
     pub bytes: u128,
     pub failed: bool,
 }
 
 impl<'s, S: Sink> Output<'s, S> {
-    ghost use Rattle.cs_manifest.specs.Putting.{Puts};
+    ghost use Rattle.cs_manifest.specs.Putting.{Puts, shown, waiting};
 
-    pub fn new(sink: &'s mut S, bytes: u128) -> Output<'s, S>
+    pub fn new(sink: &'s mut S, line: &'s mut [u8; LINE_LENGTH], bytes: u128) -> Output<'s, S>
         ensures reference { result.sink.ghost_name ≡ sink.entry.ghost_name }
         ensures sink { result.sink.now ≡ sink.old }
+        ensures waiting { waiting result ≡ [] }
         ensures bytes { result.bytes ≡ bytes }
         ensures fine { result.failed ≡ false }
     {
         Output {
             sink,
+            line,
+            used: 0,
             bytes,
             failed: false,
         }
     }
 
+    #[inline(always)]
     pub fn put(&mut self, piece: &[u8])
         ensures { Puts S.Sink piece.now self.old self.new }
     {
+        if piece.len() <= LINE_LENGTH && self.used <= LINE_LENGTH - piece.len() {
+            self.keep(piece);
+        } else {
+            self.put_behind(piece);
+        }
+    }
+
+    // Lets a piece wait, for which the line has room.
+    #[inline(always)]
+    fn keep(&mut self, piece: &[u8])
+        requires { self.old.used + length piece.now ≤ 1024 }
+        ensures { Puts S.Sink piece.now self.old self.new }
+    {
+        put_at(&mut *self.line, self.used, piece);
+        self.used += piece.len();
+    }
+
+    // Passes on what waits, and puts a piece behind it.
+    #[inline(never)]
+    fn put_behind(&mut self, piece: &[u8])
+        ensures { Puts S.Sink piece.now self.old self.new }
+    {
+        self.pass_on();
         if self.failed {
             return;
         }
-        match write_all(&mut *self.sink, piece) {
-            Ok(()) => self.bytes = self.bytes.saturating_add(piece.len() as u128),
+        if piece.len() <= LINE_LENGTH {
+            self.keep(piece);
+        } else {
+            self.write(piece);
+        }
+    }
+
+    // Writes a piece, for which nothing waits.
+    fn write(&mut self, piece: &[u8])
+        requires fine { self.old.failed ≡ false }
+        requires waiting { waiting self.old ≡ [] }
+        ensures { Puts S.Sink piece.now self.old self.new }
+    {
+        let outcome = write_all(&mut *self.sink, piece);
+        self.note(outcome, piece.len());
+    }
+
+    // Passes on what waits.
+    fn pass_on(&mut self)
+        ensures puts { Puts S.Sink [] self.old self.new }
+        ensures waiting { waiting self.new ≡ [] }
+        ensures used { self.new.used ≡ 0 }
+    {
+        let used = self.used.min(LINE_LENGTH);
+        self.used = 0;
+        if self.failed {
+            return;
+        }
+        let outcome = write_front(&mut *self.sink, &*self.line, used);
+        self.note(outcome, used);
+    }
+
+    // Notes how a write of so many bytes ended.
+    fn note(&mut self, outcome: Result<(), SinkError>, count: usize)
+        ensures ok { OnOk outcome (self.new
+            ≡ record self.old { bytes = shown (self.old.bytes + count) }) }
+        ensures err { OnErr outcome (self.new ≡ record self.old { failed = true }) }
+    {
+        match outcome {
+            Ok(()) => self.bytes = self.bytes.saturating_add(count as u128),
             Err(_) => self.failed = true,
         }
     }
@@ -50,4 +122,41 @@ impl<'s, S: Sink> Output<'s, S> {
         let mut digits = Buffer::new();
         self.put(digits.format(number).as_bytes());
     }
+
+    /// Passes on what waits, and answers the count of bytes.
+    pub fn end(&mut self) -> Result<u128, SinkError>
+        ensures puts { Puts S.Sink [] self.old self.new }
+        ensures waiting { waiting self.new ≡ [] }
+        ensures bytes { IfOk result (λ bytes. bytes ≡ self.new.bytes) }
+        ensures ok { OnOk result (self.new.failed ≡ false) }
+        ensures err { OnErr result (self.new.failed ≡ true) }
+    {
+        self.pass_on();
+        if self.failed {
+            return Err(SinkError::Failed);
+        }
+        Ok(self.bytes)
+    }
+}
+
+// Puts a piece into a line.
+#[inline(always)]
+fn put_at(line: &mut [u8; LINE_LENGTH], at: usize, piece: &[u8])
+    requires { at + length piece.now ≤ 1024 }
+    ensures { take (at + length piece.now) line.new ≡ take at line.old ++ piece.now }
+{
+    line[at..at + piece.len()].copy_from_slice(piece);
+}
+
+// Writes the first bytes of a line.
+fn write_front<S: Sink>(
+    sink: &mut S,
+    line: &[u8; LINE_LENGTH],
+    count: usize,
+) -> Result<(), SinkError>
+    requires { count ≤ 1024 }
+    ensures length { length line.now ≡ 1024 }
+    ensures writes { Writes S.Sink result (take count line.now) sink.old sink.new }
+{
+    write_all(sink, &line[..count])
 }

@@ -11,7 +11,7 @@ use crate::names::{put_mark, put_nonterminal};
 use crate::output::Output;
 use crate::put_entry::put_names;
 use cs_closed::{Closed, Marks, Tokens};
-use cs_grammar::Mark;
+use cs_grammar::{Mark, number_of};
 use cs_io::Sink;
 use cs_yacc::YaccFile;
 
@@ -67,7 +67,7 @@ fn put_edges<S: Sink>(output: &mut Output<'_, S>, file: &YaccFile, set: &[u8], e
         output.old output.new }
 {
     for (place, tokens) in edges.iter().enumerate() {
-        put_edge(output, file, set, place as u16 + 1, tokens.list());
+        put_edge(output, file, set, number_of(place), tokens.list());
     }
 }
 
@@ -99,7 +99,7 @@ fn put_token_nexts<S: Sink>(output: &mut Output<'_, S>, file: &YaccFile, nexts: 
         output.old output.new }
 {
     for (place, marks) in nexts.iter().enumerate() {
-        put_next(output, file, Mark::Token(place as u16 + 1), marks.list());
+        put_next(output, file, Mark::Token(number_of(place)), marks.list());
     }
 }
 

@@ -13,7 +13,7 @@ use crate::names::{put_nonterminal, put_quoted, put_symbol, put_token_name};
 use crate::output::Output;
 use crate::put_closed::put_closed;
 use crate::{Form, Head, Weigh};
-use cs_grammar::{Rule, Symbol};
+use cs_grammar::{Rule, Symbol, number_of};
 use cs_io::Sink;
 use cs_lexeme::Lexemes;
 use cs_yacc::{TokenName, YaccFile};
@@ -91,8 +91,7 @@ fn put_token_line<S: Sink>(output: &mut Output<'_, S>, number: u64, name: &Token
 
 fn put_rules<S: Sink>(output: &mut Output<'_, S>, file: &YaccFile, rules: &[Rule])
     requires { All (names.IsNamedRule file.now) rules.now }
-    ensures { Puts S.Sink (words.with_numbers (lines.rule_line file.now) rules.now)
-        output.old output.new }
+    ensures { Puts S.Sink (lines.rule_lines file.now rules.now) output.old output.new }
 {
     for (place, rule) in rules.iter().enumerate() {
         put_rule_line(output, file, place as u64 + 1, rule);
@@ -128,7 +127,7 @@ fn put_lexemes<S: Sink>(output: &mut Output<'_, S>, names: &[TokenName], lexemes
     ensures { Puts S.Sink (lines.lexeme_lines lexemes.now names.now) output.old output.new }
 {
     for (place, name) in names.iter().enumerate() {
-        put_lexeme_line(output, lexemes, place as u16 + 1, name);
+        put_lexeme_line(output, lexemes, number_of(place), name);
     }
 }
 

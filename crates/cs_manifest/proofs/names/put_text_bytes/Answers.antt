@@ -1,7 +1,11 @@
 use Rattle.std.proofs.Common.{◌≡◌, ◌-◌, arith, drop, length, take}
 use Rattle.std.proofs.lemmas.List.{length-drop, take_all}
 use Rattle.cs_manifest.proofs.Runs.{more_bytes}
+use Rattle.cs_manifest.proofs.Pieces.{nothing}
 use Rattle.cs_manifest.proofs.names.put_text_bytes.Goals as goal
+
+pub loop-at-init : goal.loop-at-init
+loop-at-init g c = (omega arith, nothing _)
 
 pub loop-at-preserved : goal.loop-at-preserved
 loop-at-preserved g c =
