@@ -1,10 +1,12 @@
 -- The negatives of a batch before their lists are edited. Working words of proofs.
 use Rattle.std.specs.Prelude.{◌≡◌, List, [], ◌++◌, length}
+use Rattle.std.specs.List.{AllZip}
 use Rattle.cs_mutate.specs.Edit.{IsPlaced, edited}
 use Rattle.cs_mutate.specs.Negatives.{AreNegatives, FitsBase, IsNegative, Search}
 use Rattle.cs_mutate.specs.declared.edit.Edit.{Edit}
 use Rattle.cs_mutate.specs.declared.negative.Negative.{Negative}
 use Rattle.cs_render_work.specs.Renders.{TakesTokens}
+use Rattle.cs_mutants.specs.Mutants.{IsMutantOf, Mutant}
 use Rattle.cs_mutants.specs.declared.work.MutantWork.{MutantWork}
 
 -- the search gave these so far, and these edits were looked at
@@ -27,3 +29,7 @@ pub record IsFoundIn (search : Search) (negative : Negative) : Type 0 where
 pub record TakesNegative (work : MutantWork) (negative : Negative) : Type 0 where
   pub placed : IsPlaced (length work.base.now) negative.edit
   pub taken : TakesTokens work.render.now (edited work.base.now negative.edit)
+
+-- each is made of its negative
+abbrev pub AreMutants : MutantWork → List Negative → List Mutant → Type 0
+AreMutants work = AllZip (IsMutantOf work.render.now work.base.now)

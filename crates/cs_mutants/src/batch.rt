@@ -1,11 +1,9 @@
 // The entries of a base's negatives, batch by batch.
 
 ghost use Rattle.std.specs.Prelude.{◌≡◌, ◌≤◌, length, All, IfOk};
-ghost use Rattle.std.specs.List.{AllZip};
 ghost use Rattle.cs_grammar.specs.Grammar.{IsNumberOf};
 ghost use Rattle.cs_mutants.specs.Batches.{AreNamedMutants, AreNext, CanRender};
-ghost use Rattle.cs_mutants.specs.Gathering.{AreFound, IsFoundIn, TakesNegative};
-ghost use Rattle.cs_mutants.specs.Mutants.{IsMutantOf};
+ghost use Rattle.cs_mutants.specs.Gathering.{AreFound, AreMutants, IsFoundIn, TakesNegative};
 
 use crate::made::MadeNegative;
 use crate::work::MutantWork;
@@ -66,8 +64,7 @@ fn make_all<R: Threads + Sync, G: Gate + Sync>(
     requires short { length work.now.base.now ≤ 1000000 }
     requires few { length found.now ≤ BATCH }
     requires takes { All (TakesNegative work.now) found.now }
-    ensures { IfOk result (λ made.
-        AllZip (IsMutantOf work.now.render.now work.now.base.now) found.now made.items) }
+    ensures { IfOk result (λ made. AreMutants work.now found.now made.items) }
 {
     if found.len() * (work.base.len() + 1) < SHARED_TOKENS {
         return work_alone(alloc, found, work, gate);
