@@ -1,15 +1,19 @@
 -- One more symbol in a sweep.
-use Rattle.std.proofs.Common.{◌≡◌, ℕ, ◌≤◌, ◌⊎◌, List, [], ◌∷◌, ◌++◌, refl, ap, ⊎_elim, inl, inr, arith}
+use Rattle.std.proofs.Common.{◌≡◌, ℕ, ◌≤◌, ◌⊎◌, List, [], ◌∷◌, ◌++◌, refl, sym, ap, ◌∙◌, subst, ⊎_elim, inl, inr, arith}
 use Rattle.cs_grammar.specs.declared.symbol.Symbol.{Symbol}
+use Rattle.cs_grammar.specs.declared.symbol.Symbol.TheVariants.{Token}
 use Rattle.cs_grammar.specs.Grammar.{PlainGrammar}
 use Rattle.cs_grammar.specs.Weights.{Measure}
-use Rattle.cs_grammar.specs.Tree.{Tree, Forest, Bare, Grown, size, sizes, yield, yields}
+use Rattle.cs_grammar.specs.Tree.{Tree, Leaf, Node, Forest, Bare, Grown, size, sizes, yield, yields}
 use Rattle.cs_cost.specs.declared.cost.Cost.{Cost}
+use Rattle.cs_cost.specs.declared.cost.Cost.TheVariants.{Never}
 use Rattle.cs_cost.specs.Least.{IsCost}
 use Rattle.cs_cost.specs.Rank.{capped, rank, plus}
 use Rattle.cs_cost.proofs.Ranks.{IsCost-from, IsCost-plus, IsCost-same, cost_low, cost_reached, cost_capped}
 use Rattle.cs_kinds.specs.declared.kind.TreeKind.{TreeKind}
 use Rattle.cs_kinds.specs.declared.kind.TreeKind.TheVariants.{Any, Empty, Begins, Ends}
+use Rattle.cs_kinds.specs.declared.sweep.Sweep.{Sweep}
+use Rattle.cs_kinds.specs.Sweep.{IsSwept}
 use Rattle.cs_kinds.specs.Kinds.{IsOfKind, IsTreeOfKind, AreTreesOfKind, before, behind}
 use Rattle.cs_kinds.specs.ListCost.{lesser, bare_cost}
 use Rattle.cs_kinds.specs.Ways.{AreHere, AreLater, joint_size}
@@ -92,3 +96,48 @@ module _ (w : Measure) (g : PlainGrammar) where
       apart : (f : Forest) → AreTreesOfKind g (behind k) (x ∷ xs) f → (p : Tree × Forest) × (IsTreeOfKind g (behind k) x p.0 × AreTreesOfKind g (behind k) xs p.1) × (joint_size w p ≤ sizes w f)
       apart Bare h = absurd h.0
       apart (Grown t f) h = let o = parted k (yield t) (yields f) h.1 in ((t, f), ((h.0.0, o.0), (h.0.1, o.1)), omega arith)
+
+  -- trees behind a leaf of the token begin with it, whatever they are
+  token_first : (b t : ℕ) (xs : List Symbol) (cost : Cost) → t ≡ b → IsCost w.limit (AreTreesOfKind g Any (Token t ∷ xs)) (sizes w) cost → IsCost w.limit (AreTreesOfKind g (Begins b) (Token t ∷ xs)) (sizes w) cost
+  token_first b t xs cost same any =
+      IsCost-same w.limit (AreTreesOfKind g Any (Token t ∷ xs)) (AreTreesOfKind g (Begins b) (Token t ∷ xs)) (sizes w) (sizes w) cost
+      begins
+      (λ f h. (f, (h.0, tt), omega arith))
+      any
+    where
+      begins : (f : Forest) → AreTreesOfKind g Any (Token t ∷ xs) f → (e : Forest) × AreTreesOfKind g (Begins b) (Token t ∷ xs) e × (sizes w e ≤ sizes w f)
+      begins Bare h = absurd h.0
+      begins (Grown (Leaf s) f) h =
+          let leaf : t ≡ s = (let e = h.0.0 in cc) in
+          (Grown (Leaf s) f, (h.0, (yields f, ap (λ k. k ∷ yields f) (sym leaf ∙ same))), omega arith)
+      begins (Grown (Node r children) f) h = let e = h.0.0.2 in absurd cc
+
+  -- behind a leaf of another token none do
+  token_other : (b t : ℕ) (xs : List Symbol) → (t ≡ b → ⊥) → (f : Forest) → AreTreesOfKind g (Begins b) (Token t ∷ xs) f → ⊥
+  token_other b t xs other Bare h = h.0
+  token_other b t xs other (Grown (Leaf s) f) h =
+      let leaf : t ≡ s = (let e = h.0.0 in cc) in
+      let first : s ≡ b = (let e = h.1.1 in cc) in
+      other (leaf ∙ first)
+  token_other b t xs other (Grown (Node r children) f) h = let e = h.0.0.2 in absurd cc
+
+  module _ (s : Sweep) (b t : ℕ) (xs : List Symbol) (own sum : Cost) (kind : s.kind ≡ Begins b) (leaf : IsCost w.limit (IsTreeOfKind g Any (Token t)) (size w) own) (is_sum : sum ≡ plus w.limit own s.rest) (swept : IsSwept w g xs s) where
+    any_trees : IsCost w.limit (AreTreesOfKind g Any (Token t ∷ xs)) (sizes w) sum
+    any_trees =
+        let others = subst (λ (j : TreeKind). IsCost w.limit (AreTreesOfKind g j xs) (sizes w) s.rest) (ap behind kind) swept.is_rest in
+        subst (IsCost w.limit (AreTreesOfKind g Any (Token t ∷ xs)) (sizes w)) (sym is_sum) (behind_cost (Begins b) (Token t) xs own s.rest leaf others)
+
+    behind_trees : IsCost w.limit (AreTreesOfKind g (behind s.kind) (Token t ∷ xs)) (sizes w) sum
+    behind_trees = subst (λ (j : TreeKind). IsCost w.limit (AreTreesOfKind g j (Token t ∷ xs)) (sizes w) sum) (sym (ap behind kind)) any_trees
+
+    pub swept_first : t ≡ b → IsSwept w g (Token t ∷ xs) (record { kind = s.kind; whole = sum; rest = sum })
+    swept_first same = record {
+      is_whole = subst (λ (j : TreeKind). IsCost w.limit (AreTreesOfKind g j (Token t ∷ xs)) (sizes w) sum) (sym kind) (token_first b t xs sum same any_trees);
+      is_rest = behind_trees;
+    }
+
+    pub swept_other : (t ≡ b → ⊥) → IsSwept w g (Token t ∷ xs) (record { kind = s.kind; whole = Never; rest = sum })
+    swept_other other = record {
+      is_whole = subst (λ (j : TreeKind). IsCost w.limit (AreTreesOfKind g j (Token t ∷ xs)) (sizes w) Never) (sym kind) (token_other b t xs other);
+      is_rest = behind_trees;
+    }

@@ -2,8 +2,10 @@
 
 ghost use Rattle.std.specs.Prelude.{◌≡◌, [], List};
 ghost use Rattle.cs_grammar.specs.declared.symbol.Symbol.{Symbol};
-ghost use Rattle.cs_grammar.specs.Grammar.{PlainGrammar, IsSymbolOf};
+ghost use Rattle.cs_grammar.specs.declared.symbol.Symbol.TheVariants.{Token};
+ghost use Rattle.cs_grammar.specs.Grammar.{PlainGrammar, IsNumberOf, IsSymbolOf};
 ghost use Rattle.cs_grammar.specs.Weights.{Measure};
+ghost use Rattle.cs_kinds.specs.declared.kind.TreeKind.TheVariants.{Begins};
 ghost use Rattle.cs_kinds.specs.Kinds.{IsKind};
 ghost use Rattle.cs_kinds.specs.Sweep.{IsSwept};
 ghost use Rattle.cs_kinds.specs.Clauses.{AreWaysOver, IsSweptOver};
@@ -57,9 +59,26 @@ impl Sweep {
         Ways { here, later }
     }
 
-    /// One symbol more in front of those that are swept.
+    // One token more: the trees behind it are of the kind where it is the first of them alone.
     #[inline(always)]
-    pub fn over(self, kinds: &Kinds, symbol: Symbol) -> Sweep
+    fn over_token(self, kinds: &Kinds, first: u16, token: u16) -> Sweep
+        requires kind { self.kind ≡ Begins first }
+        requires token { IsNumberOf kinds.now.grammar.tokens token }
+        requires swept { (xs : List Symbol) × IsSwept kinds.now.weights kinds.now.grammar xs self }
+        ensures kind { result.kind ≡ self.kind }
+        ensures swept { IsSweptOver kinds.now self (Token token) result }
+    {
+        let rest = kinds.plus(kinds.told(TreeKind::Any, Symbol::Token(token)), self.rest);
+        Sweep {
+            kind: self.kind,
+            whole: if token == first { rest } else { Cost::Never },
+            rest,
+        }
+    }
+
+    // One symbol more, by the two ways.
+    #[inline(always)]
+    fn over_symbol(self, kinds: &Kinds, symbol: Symbol) -> Sweep
         requires kind { IsKind kinds.now.grammar.tokens self.kind }
         requires symbol { IsSymbolOf kinds.now.grammar symbol }
         requires swept { (xs : List Symbol) × IsSwept kinds.now.weights kinds.now.grammar xs self }
@@ -71,6 +90,21 @@ impl Sweep {
             kind: self.kind,
             whole: kinds.lesser(ways.here, ways.later),
             rest: kinds.plus(kinds.told(self.kind.behind(), symbol), self.rest),
+        }
+    }
+
+    /// One symbol more in front of those that are swept.
+    #[inline(always)]
+    pub fn over(self, kinds: &Kinds, symbol: Symbol) -> Sweep
+        requires kind { IsKind kinds.now.grammar.tokens self.kind }
+        requires symbol { IsSymbolOf kinds.now.grammar symbol }
+        requires swept { (xs : List Symbol) × IsSwept kinds.now.weights kinds.now.grammar xs self }
+        ensures kind { result.kind ≡ self.kind }
+        ensures swept { IsSweptOver kinds.now self symbol result }
+    {
+        match (self.kind, symbol) {
+            (TreeKind::Begins(first), Symbol::Token(token)) => self.over_token(kinds, first, token),
+            _ => self.over_symbol(kinds, symbol),
         }
     }
 }
