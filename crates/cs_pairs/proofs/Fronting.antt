@@ -1,5 +1,5 @@
--- What stands before the places of a rule, one place after another.
-use Rattle.std.proofs.Common.{◌≡◌, ℕ, ◌+◌, ◌-◌, ◌<◌, ◌≤◌, List, [], ◌∷◌, ◌++◌, Some, length, get_or, take, sym, ap, ◌∙◌, subst, arith}
+-- What stands before and behind the places of a rule, one place after another.
+use Rattle.std.proofs.Common.{◌≡◌, ℕ, ◌+◌, ◌-◌, ◌<◌, ◌≤◌, List, [], ◌∷◌, ◌++◌, Some, length, get_or, take, drop, sym, ap, ◌∙◌, subst, arith}
 use Rattle.std.specs.Prelude.{slice_get}
 use Rattle.std.proofs.lemmas.Grind.{take_at_read}
 use Rattle.std.proofs.lemmas.Option.{slice_get_within}
@@ -10,16 +10,23 @@ use Rattle.cs_grammar.specs.Tree.{Tree, Forest, Bare, Grown, IsTree, AreTrees, s
 use Rattle.cs_grammar.specs.Context.{Context, context_size, join}
 use Rattle.cs_grammar.proofs.Forests.{AreTrees-join, sizes-join}
 use Rattle.cs_cost.specs.declared.cost.Cost.{Cost}
+use Rattle.cs_cost.specs.declared.cost.Cost.TheVariants.{Never}
 use Rattle.cs_cost.specs.Least.{IsCost}
 use Rattle.cs_cost.specs.Rank.{cost_of, plus, entry}
 use Rattle.cs_cost.proofs.Ranks.{IsCost-plus, IsCost-more, IsCost-same}
 use Rattle.cs_cost.proofs.Rules.{well_formed_at}
 use Rattle.cs_embed.specs.Around.{IsContextOf}
+use Rattle.cs_kinds.specs.declared.kind.TreeKind.TheVariants.{Any, Begins}
+use Rattle.cs_kinds.specs.declared.kind.TreeKind.{TreeKind}
+use Rattle.cs_kinds.specs.declared.sweep.Sweep.{Sweep}
+use Rattle.cs_kinds.specs.Sweep.{IsSwept}
+use Rattle.cs_kinds.specs.Kinds.{AreTreesOfKind, behind}
 use Rattle.cs_kinds.specs.Filled.{IsFilled}
 use Rattle.cs_kinds.specs.Tables.{row_in}
+use Rattle.cs_kinds.proofs.KindCosts.{all_of_any}
 use Rattle.cs_kinds.proofs.RowLists.{row_read}
 use Rattle.cs_kinds.proofs.Filling.{filled_more, entry_next}
-use Rattle.cs_pairs.specs.Fronts.{AreFront, front_size, AreFronts, AreFrontsOf, AreRuleFronts}
+use Rattle.cs_pairs.specs.Fronts.{AreFront, front_size, AreFronts, AreBehinds, IsRowOf, AreRuleRows}
 
 -- some rule of a grammar is well formed
 pub some_rule : (w : Measure) (g : PlainGrammar) (p : Production) → IsGrammar g → IsSomeRule g p → IsRuleOf g.tokens g.nonterminals p
@@ -72,22 +79,29 @@ fronts_more w g p i row a so_far here =
     filled_more w.limit (λ n. AreFront g p.left (take (n - 1) p.right)) (front_size w) i row a so_far
     (subst (λ k. IsCost w.limit (AreFront g p.left (take k p.right)) (front_size w) a) place here)
 
--- what is right of one rule and its number is right of the rule at an index
-pub fronts_at : (w : Measure) (g : PlainGrammar) (i : ℕ) (q : Production) (row : List Cost) → slice_get g.rules i ≡ Some q → AreFronts w g q row → AreFrontsOf w g (i + 1) row
-fronts_at w g i q row at fronts = λ p rule.
-    let there : slice_get g.rules i ≡ Some p = (let e : i + 1 - 1 ≡ i = omega arith in subst (λ k. slice_get g.rules k ≡ Some p) e rule.at) in
-    let same : q ≡ p = cc in
-    subst (λ (o : Production). AreFronts w g o row) same fronts
+module _ (Are : Production → List Cost → Type 0) (g : PlainGrammar) where
+  -- what is right of one rule and its number is right of the rule at an index
+  pub row_at : (i : ℕ) (q : Production) (row : List Cost) → slice_get g.rules i ≡ Some q → Are q row → IsRowOf Are g (i + 1) row
+  row_at i q row at are = λ p rule.
+      let there : slice_get g.rules i ≡ Some p = (let e : i + 1 - 1 ≡ i = omega arith in subst (λ k. slice_get g.rules k ≡ Some p) e rule.at) in
+      let same : q ≡ p = cc in
+      subst (λ (o : Production). Are o row) same are
 
--- the fronts of all rules
-pub fronts_all : (w : Measure) (g : PlainGrammar) (items : List Production) (rows : List (List Cost)) (i : ℕ) → items ≡ g.rules → length items ≤ i → i ≤ length items → length rows ≡ i → ((n : ℕ) → IsNumberOf i n → AreFrontsOf w g n (row_in rows n)) → AreRuleFronts w g rows
-fronts_all w g items rows i same all within many each = record {
-  many = (let e = ap (λ (l : List Production). length l) same in omega (arith, e, all, within, many));
-  each = λ r p rule.
-      let e = ap (λ (l : List Production). length l) same in
-      let last = slice_get_within g.rules (r - 1) p rule.at in
-      each r (rule.above_zero, omega (arith, last, rule.above_zero, e, all)) p rule;
-}
+  -- the rows of all rules
+  pub rows_all : (items : List Production) (rows : List (List Cost)) (i : ℕ) → items ≡ g.rules → length items ≤ i → i ≤ length items → length rows ≡ i → ((n : ℕ) → IsNumberOf i n → IsRowOf Are g n (row_in rows n)) → AreRuleRows Are g rows
+  rows_all items rows i same all within many each = record {
+    many = (let e = ap (λ (l : List Production). length l) same in omega (arith, e, all, within, many));
+    each = λ r p rule.
+        let e = ap (λ (l : List Production). length l) same in
+        let last = slice_get_within g.rules (r - 1) p rule.at in
+        each r (rule.above_zero, omega (arith, last, rule.above_zero, e, all)) p rule;
+  }
+
+  -- that of the rule of a number
+  pub row_of_rule : (rows : List (List Cost)) (r : ℕ) (held row d : List Cost) → AreRuleRows Are g rows → IsNumberOf (length rows) r → held ≡ row → row ≡ get_or rows (r - 1) d → IsRowOf Are g r held
+  row_of_rule rows r held row d are number is_held is_row = λ p rule.
+      let there = row_read rows r row d number is_row in
+      subst (Are p) (sym (is_held ∙ there)) (are.each r p rule)
 
 -- the front at an index
 pub front_at : (w : Measure) (g : PlainGrammar) (p : Production) (fronts : List Cost) → AreFronts w g p fronts → (i : ℕ) → i < length p.right → (front d : Cost) → front ≡ get_or fronts i d → IsCost w.limit (AreFront g p.left (take i p.right)) (front_size w) front
@@ -98,8 +112,25 @@ front_at w g p fronts are i within front d is_front =
     subst (λ k. IsCost w.limit (AreFront g p.left (take k p.right)) (front_size w) front) place
     (subst (IsCost w.limit (AreFront g p.left (take (i + 1 - 1) p.right)) (front_size w)) at here)
 
--- those of the rule of a number
-pub fronts_row : (w : Measure) (g : PlainGrammar) (rows : List (List Cost)) (r : ℕ) (held row d : List Cost) → AreRuleFronts w g rows → IsNumberOf (length rows) r → held ≡ row → row ≡ get_or rows (r - 1) d → AreFrontsOf w g r held
-fronts_row w g rows r held row d are number is_held is_row = λ p rule.
-    let there = row_read rows r row d number is_row in
-    subst (AreFronts w g p) (sym (is_held ∙ there)) (are.each r p rule)
+-- what is behind the place at an index
+pub behind_at : (w : Measure) (g : PlainGrammar) (p : Production) (behinds : List Cost) → AreBehinds w g p behinds → (i : ℕ) → i < length p.right → (d : Cost) → IsCost w.limit (AreTreesOfKind g Any (drop (i + 1) p.right)) (sizes w) (get_or behinds i d)
+behind_at w g p behinds are i within d =
+    subst (IsCost w.limit (AreTreesOfKind g Any (drop (i + 1) p.right)) (sizes w)) (entry_next behinds i d (omega (arith, within, are.many)))
+    (are.exact (i + 1) (omega arith, omega (arith, within)))
+
+-- one place more
+pub behinds_more : (w : Measure) (g : PlainGrammar) (p : Production) (i : ℕ) (row : List Cost) (rest : List Symbol) (a : Cost) → IsFilled w.limit (λ n. AreTreesOfKind g Any (drop n p.right)) (sizes w) i row → rest ≡ drop (i + 1) p.right → IsCost w.limit (AreTrees g rest) (sizes w) a → IsFilled w.limit (λ n. AreTreesOfKind g Any (drop n p.right)) (sizes w) (i + 1) (row ++ a ∷ [])
+behinds_more w g p i row rest a so_far is cost =
+    filled_more w.limit (λ n. AreTreesOfKind g Any (drop n p.right)) (sizes w) i row a so_far
+    (subst (λ (l : List Symbol). IsCost w.limit (AreTreesOfKind g Any l) (sizes w) a) is (all_of_any w g rest a cost))
+
+-- the sweep at a place, with what is behind it
+pub swept_at : (w : Measure) (g : PlainGrammar) (p : Production) (b j place : ℕ) (items : List Symbol) (behinds : List Cost) (s : Sweep) → AreBehinds w g p behinds → items ≡ p.right → j + 1 ≡ place → j < length items → s.kind ≡ Begins b → IsCost w.limit (AreTreesOfKind g (Begins b) (drop place items)) (sizes w) s.whole → s.rest ≡ get_or behinds j Never → IsSwept w g (drop place items) s
+swept_at w g p b j place items behinds s are same next within kind whole is_rest =
+    let within' : j < length p.right = subst (λ (l : List Symbol). j < length l) same within in
+    let here = subst (IsCost w.limit (AreTreesOfKind g Any (drop (j + 1) p.right)) (sizes w)) (sym is_rest) (behind_at w g p behinds are j within' Never) in
+    let there = subst (λ (l : List Symbol). IsCost w.limit (AreTreesOfKind g Any (drop place l)) (sizes w) s.rest) (sym same) (subst (λ k. IsCost w.limit (AreTreesOfKind g Any (drop k p.right)) (sizes w) s.rest) next here) in
+    record {
+      is_whole = subst (λ (k : TreeKind). IsCost w.limit (AreTreesOfKind g k (drop place items)) (sizes w) s.whole) (sym kind) whole;
+      is_rest = subst (λ (k : TreeKind). IsCost w.limit (AreTreesOfKind g (behind k) (drop place items)) (sizes w) s.rest) (sym kind) there;
+    }

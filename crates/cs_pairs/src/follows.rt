@@ -5,9 +5,10 @@ ghost use Rattle.cs_grammar.specs.Grammar.{IsNumberOf};
 ghost use Rattle.cs_embed.specs.Ways.{told_cost};
 ghost use Rattle.cs_cost.specs.Rank.{cost_of, plus, IsCapped};
 ghost use Rattle.cs_kinds.specs.Nets.{AreStepsToEnds};
-ghost use Rattle.cs_pairs.specs.Fronts.{AreRuleFronts};
+ghost use Rattle.cs_pairs.specs.Fronts.{IsAround};
 ghost use Rattle.cs_pairs.specs.Meetings.{pair_cost, AreFollowsIn, AreFollowRows};
 
+use crate::fronts::Around;
 use crate::meeting::{Meetings, origin_in};
 use crate::sources::sources_of;
 use cs_cost::{Cost, cost_of, plus};
@@ -38,15 +39,15 @@ fn follows_of(
     alloc: Global,
     kinds: &Kinds,
     steps: &Steps,
-    fronts: &[Row],
+    around: &Around,
     second: u16,
 ) -> Result<Follows, AllocError>
     requires steps { AreStepsToEnds kinds.now steps.now }
-    requires fronts { AreRuleFronts kinds.now.weights kinds.now.grammar fronts.now }
+    requires around { IsAround kinds.now around.now }
     requires second { IsNumberOf kinds.now.grammar.tokens second }
     ensures { IfOk result (AreFollowsIn kinds.now second) }
 {
-    let sources = sources_of(alloc, kinds, fronts, second)?;
+    let sources = sources_of(alloc, kinds, around, second)?;
     let table = least_ways(alloc, steps, &sources.list, kinds.weights().limit())?;
     let mut costs = Vec::new(alloc);
     let mut meetings = Vec::new(alloc);
@@ -72,10 +73,10 @@ pub(crate) fn follow_rows(
     alloc: Global,
     kinds: &Kinds,
     steps: &Steps,
-    fronts: &[Row],
+    around: &Around,
 ) -> Result<FollowRows, AllocError>
     requires steps { AreStepsToEnds kinds.now steps.now }
-    requires fronts { AreRuleFronts kinds.now.weights kinds.now.grammar fronts.now }
+    requires around { IsAround kinds.now around.now }
     ensures { IfOk result (AreFollowRows kinds.now) }
 {
     let mut rows = FollowRows {
@@ -83,7 +84,7 @@ pub(crate) fn follow_rows(
         meetings: Vec::new(alloc),
     };
     for place in 0..kinds.grammar().tokens() {
-        let follows = follows_of(alloc, kinds, steps, fronts, place + 1)?;
+        let follows = follows_of(alloc, kinds, steps, around, place + 1)?;
         rows.costs.push(follows.costs)?;
         rows.meetings.push(follows.meetings)?;
     }

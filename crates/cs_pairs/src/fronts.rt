@@ -1,8 +1,8 @@
-// What stands before the places of a rule.
+// What stands before and behind the places of a rule.
 
 ghost use Rattle.std.specs.Prelude.{◌≡◌, IfOk};
 ghost use Rattle.cs_grammar.specs.Grammar.{IsSomeRule};
-ghost use Rattle.cs_pairs.specs.Fronts.{AreFronts, AreRuleFronts};
+ghost use Rattle.cs_pairs.specs.Fronts.{AreFronts, AreBehinds, IsAround};
 
 use cs_cost::Costs;
 use cs_embed::Embeds;
@@ -27,18 +27,42 @@ fn fronts_of(alloc: Global, costs: &Costs, embeds: &Embeds, rule: &Rule) -> Resu
     Ok(Row::new(fronts))
 }
 
-// The fronts of all rules.
-pub(crate) fn rule_fronts(
+// What any trees of the symbols behind each place of a rule's right side cost.
+fn behinds_of(alloc: Global, costs: &Costs, rule: &Rule) -> Result<Row, AllocError>
+    requires { IsSomeRule costs.now.grammar rule.now }
+    ensures { IfOk result (λ behinds. AreBehinds costs.now.weights costs.now.grammar rule.now behinds) }
+{
+    let _rules = costs.grammar().rules();
+    let right = rule.right();
+    let mut behinds = Vec::new(alloc);
+    for place in 0..right.len() {
+        behinds.push(costs.sum(&right[place + 1..]))?;
+    }
+    Ok(Row::new(behinds))
+}
+
+// The fronts of all rules, and what is behind their places.
+#[derive(Debug, Drop)]
+pub(crate) struct Around {
+    pub(crate) fronts: Vec<Row>,
+    pub(crate) behinds: Vec<Row>,
+}
+
+pub(crate) fn around_rules(
     alloc: Global,
     costs: &Costs,
     embeds: &Embeds,
-) -> Result<Vec<Row>, AllocError>
+) -> Result<Around, AllocError>
     requires { embeds.now ≡ costs.now }
-    ensures { IfOk result (λ fronts. AreRuleFronts costs.now.weights costs.now.grammar fronts.items) }
+    ensures { IfOk result (IsAround costs.now) }
 {
-    let mut fronts = Vec::new(alloc);
+    let mut around = Around {
+        fronts: Vec::new(alloc),
+        behinds: Vec::new(alloc),
+    };
     for rule in costs.grammar().rules() {
-        fronts.push(fronts_of(alloc, costs, embeds, rule)?)?;
+        around.fronts.push(fronts_of(alloc, costs, embeds, rule)?)?;
+        around.behinds.push(behinds_of(alloc, costs, rule)?)?;
     }
-    Ok(fronts)
+    Ok(around)
 }

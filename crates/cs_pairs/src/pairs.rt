@@ -13,7 +13,7 @@ ghost use Rattle.cs_pairs.specs.Clauses.{IsPairCost, HasLeastOf, IsCodeOfTokens,
 
 use crate::derive::{kind_code, seam_code};
 use crate::follows::{FollowRows, follow_rows};
-use crate::fronts::rule_fronts;
+use crate::fronts::around_rules;
 use crate::meeting::TokenPair;
 use cs_cost::{Cost, Costs};
 use cs_embed::Embeds;
@@ -51,9 +51,9 @@ impl<'g> Pairs<'g> {
         ensures { IfOk result (λ pairs. pairs ≡ costs.now) }
     {
         let kinds = Kinds::new(alloc, costs)?;
-        let fronts = rule_fronts(alloc, costs, embeds)?;
+        let around = around_rules(alloc, costs, embeds)?;
         let steps = kinds.steps_to_ends(alloc, costs)?;
-        let rows = follow_rows(alloc, &kinds, &steps, &fronts)?;
+        let rows = follow_rows(alloc, &kinds, &steps, &around)?;
         Ok(Pairs { kinds, rows })
     }
 

@@ -2,13 +2,14 @@
 
 ghost use Rattle.std.specs.Prelude.{◌≡◌, ◌+◌, IfOk, OnOk, length};
 ghost use Rattle.cs_grammar.specs.Grammar.{IsNumberOf};
-ghost use Rattle.cs_pairs.specs.Fronts.{AreFrontsOf, AreRuleFronts};
+ghost use Rattle.cs_pairs.specs.Fronts.{AreFrontsOf, AreBehindsOf, IsAround};
 ghost use Rattle.cs_pairs.specs.Sources.{AreSourcesBack, AreAllSources};
 
+use crate::fronts::Around;
 use crate::meeting::Meeting;
 use cs_cost::Cost;
 use cs_grammar::number_of;
-use cs_kinds::{Kinds, Row, Sweep, TreeKind, step_cost, symbol_number};
+use cs_kinds::{Kinds, Sweep, TreeKind, step_cost, symbol_number};
 use cs_ways::Source;
 use std::alloc::{AllocError, Global};
 
@@ -25,11 +26,13 @@ fn push_sources(
     token: u16,
     number: u16,
     fronts: &[Cost],
+    behinds: &[Cost],
     sources: &mut Sources,
 ) -> Result<(), AllocError>
     requires token { IsNumberOf kinds.now.grammar.tokens token }
     requires number { IsNumberOf (length kinds.now.grammar.rules) number }
     requires fronts { AreFrontsOf kinds.now.weights kinds.now.grammar number fronts.now }
+    requires behinds { AreBehindsOf kinds.now.weights kinds.now.grammar number behinds.now }
     requires sources { AreSourcesBack kinds.now token (number + 1) sources.old }
     ensures { OnOk result (AreSourcesBack kinds.now token number sources.new) }
 {
@@ -49,6 +52,7 @@ fn push_sources(
             })?;
             sources.list.push(Source { node, cost })?;
         }
+        sweep.rest = behinds[place];
         sweep = sweep.over(kinds, symbol);
     }
     Ok(())
@@ -58,11 +62,11 @@ fn push_sources(
 pub(crate) fn sources_of(
     alloc: Global,
     kinds: &Kinds,
-    fronts: &[Row],
+    around: &Around,
     token: u16,
 ) -> Result<Sources, AllocError>
     requires token { IsNumberOf kinds.now.grammar.tokens token }
-    requires fronts { AreRuleFronts kinds.now.weights kinds.now.grammar fronts.now }
+    requires around { IsAround kinds.now around.now }
     ensures { IfOk result (AreAllSources kinds.now token) }
 {
     let mut sources = Sources {
@@ -74,7 +78,8 @@ pub(crate) fn sources_of(
             kinds,
             token,
             number_of(place),
-            fronts[place].costs(),
+            around.fronts[place].costs(),
+            around.behinds[place].costs(),
             &mut sources,
         )?;
     }

@@ -1,4 +1,4 @@
-use Rattle.std.proofs.Common.{◌≡◌, ◌+◌, ◌-◌, ◌<◌, List, length, get_or, drop, reverse, refl, sym, ap, ◌∙◌, subst, arith}
+use Rattle.std.proofs.Common.{◌≡◌, ◌+◌, ◌-◌, ◌<◌, List, [], ◌∷◌, length, get_or, drop, reverse, refl, sym, ap, ◌∙◌, subst, arith}
 use Rattle.std.specs.Prelude.{All}
 use Rattle.std.proofs.lemmas.List.{at_drop_all}
 use Rattle.std.proofs.lemmas.List.Elements.{All-get_or}
@@ -15,13 +15,12 @@ use Rattle.cs_kinds.specs.declared.kind.TreeKind.TheVariants.{Begins}
 use Rattle.cs_kinds.specs.Kinds.{AreTreesOfKind}
 use Rattle.cs_kinds.specs.Numbers.{number_of}
 use Rattle.cs_kinds.specs.RimsOf.{IsStepCost}
-use Rattle.cs_kinds.specs.Sweep.{IsSwept}
 use Rattle.cs_kinds.proofs.Filling.{IsCapped-filled}
 use Rattle.cs_kinds.proofs.Numbers.{wide}
 use Rattle.cs_kinds.proofs.Placing.{left_from}
 use Rattle.cs_pairs.specs.declared.sources.Sources.{Sources}
 use Rattle.cs_pairs.specs.Sources.{AreSourcesFrom}
-use Rattle.cs_pairs.proofs.Fronting.{front_at}
+use Rattle.cs_pairs.proofs.Fronting.{front_at, swept_at}
 use Rattle.cs_pairs.proofs.SourceLists.{sources_rule, source_passed, source_made}
 use Rattle.cs_pairs.proofs.sources.push_sources.Goals as goal
 use Rattle.cs_pairs.proofs.sources.push_sources.Goals.{in-Some+in_ok-push+in_ok-push-2, in_default}
@@ -38,9 +37,16 @@ loop-place-init c =
     record {
       sources = sources_rule w g c.args.token c.args.number (length items) p _ _ rule (omega (arith, even)) (omega (arith, even, c.rule-rule.ensures.fits.short)) c.requires.sources;
       is_kind = c.new-sweep.ensures.kind;
-      swept = subst (λ (l : List Symbol). IsSwept w g l c.new-sweep.result) (sym none) (c.new-sweep.ensures.swept w g);
+      whole = subst (λ (l : List Symbol). IsCost w.limit (AreTreesOfKind g (Begins c.args.token) l) (sizes w) c.new-sweep.result.whole) (sym none)
+          (subst (λ k. IsCost w.limit (AreTreesOfKind g k []) (sizes w) c.new-sweep.result.whole) c.new-sweep.ensures.kind (c.new-sweep.ensures.swept w g).is_whole);
       within = omega arith;
     }
+
+pub bounds-behinds-place : goal.bounds-behinds-place
+bounds-behinds-place c =
+    let p = c.rule-rule.result.now in
+    let rule = subst (λ (m : PlainGrammar). IsRule m c.args.number p) c.grammar-grammar.ensures c.rule-rule.ensures.rule in
+    omega (arith, c.loop-place-test.true, c.loop-place.invariant.within, (c.requires.behinds p rule).many, ap (λ (l : List Symbol). length l) c.right-right.ensures)
 
 pub bounds-fronts-place : goal.bounds-fronts-place
 bounds-fronts-place c =
@@ -56,7 +62,7 @@ plus-cost-requires-clause-a c =
     IsCapped-filled c.args.kinds.now.weights.limit _ _ _ c.args.fronts.now are (c.loop-place.place - 1) Never (omega (arith, c.loop-place-test.true, c.loop-place.invariant.within, are.many, ap (λ (l : List Symbol). length l) c.right-right.ensures))
 
 pub plus-cost-requires-clause-b : goal.plus-cost-requires-clause-b
-plus-cost-requires-clause-b c = cost_capped _ _ _ _ c.loop-place.invariant.swept.is_whole
+plus-cost-requires-clause-b c = cost_capped _ _ _ _ c.loop-place.invariant.whole
 
 pub symbol_number-node-requires-clause-tokens : goal.symbol_number-node-requires-clause-tokens
 symbol_number-node-requires-clause-tokens c = omega (arith, c.tokens.ensures, c.rules-rules.ensures.well_formed.tokens)
@@ -67,6 +73,18 @@ symbol_number-node-requires-clause-symbol c =
     let items = c.right-right.result.now in
     let each = subst (λ (l : List Symbol). All (IsSymbolOf g) l) (sym c.right-right.ensures) c.rule-rule.ensures.fits.right in
     wide g _ c.rules-rules.ensures.well_formed (All-get_or (IsSymbolOf g) items (c.loop-place.place - 1) (Token 0) (omega (arith, c.loop-place-test.true, c.loop-place.invariant.within)) each)
+
+pub over-sweep-requires-clause-swept : goal.over-sweep-requires-clause-swept
+over-sweep-requires-clause-swept c =
+    let w = c.args.kinds.now.weights in
+    let g = c.args.kinds.now.grammar in
+    let p = c.rule-rule.result.now in
+    let items = c.right-right.result.now in
+    let so_far = c.loop-place.invariant in
+    let rule = subst (λ (m : PlainGrammar). IsRule m c.args.number p) c.grammar-grammar.ensures c.rule-rule.ensures.rule in (
+      drop c.loop-place.place items,
+      swept_at w g p c.args.token (c.loop-place.place - 1) c.loop-place.place items c.args.behinds.now _ (c.requires.behinds p rule) c.right-right.ensures (omega (arith, c.loop-place-test.true)) (omega (arith, c.loop-place-test.true, so_far.within)) so_far.is_kind so_far.whole refl,
+    )
 
 pub over-sweep-requires-clause-symbol : goal.over-sweep-requires-clause-symbol
 over-sweep-requires-clause-symbol c =
@@ -92,11 +110,13 @@ loop-place-preserved c =
     let here = slice_get-get_or items j (Token 0) within in
     let within' : j < length p.right = subst (λ (l : List Symbol). j < length l) c.right-right.ensures within in
     let front = front_at w g p c.args.fronts.now (c.requires.fronts p rule) j within' (get_or c.args.fronts.now j Never) Never refl in
-    let whole' = subst (λ k. IsCost w.limit (AreTreesOfKind g k (drop c.loop-place.place items)) (sizes w) c.loop-place.sweep.whole) so_far.is_kind so_far.swept.is_whole in
-    let whole = subst (λ k. IsCost w.limit (AreTreesOfKind g (Begins b) (drop k p.right)) (sizes w) c.loop-place.sweep.whole) (sym next) (subst (λ (l : List Symbol). IsCost w.limit (AreTreesOfKind g (Begins b) (drop c.loop-place.place l)) (sizes w) c.loop-place.sweep.whole) c.right-right.ensures whole') in
+    let whole = subst (λ k. IsCost w.limit (AreTreesOfKind g (Begins b) (drop k p.right)) (sizes w) c.loop-place.sweep.whole) (sym next) (subst (λ (l : List Symbol). IsCost w.limit (AreTreesOfKind g (Begins b) (drop c.loop-place.place l)) (sizes w) c.loop-place.sweep.whole) c.right-right.ensures so_far.whole) in
     let before = subst (λ k. AreSourcesFrom w g b q k (reverse c.loop-place.sources.places.items) (reverse c.loop-place.sources.list.items)) (sym next) so_far.sources in
     let is_kind = c.over-sweep.ensures.kind ∙ so_far.is_kind in
-    let swept = subst (λ (l : List Symbol). IsSwept w g l c.over-sweep.result) (left_from items _ _ (Token 0) next within) (c.over-sweep.ensures.swept _ so_far.swept) in
+    let swept = c.over-sweep.ensures.swept (drop c.loop-place.place items)
+    (swept_at w g p b j c.loop-place.place items c.args.behinds.now _ (c.requires.behinds p rule) c.right-right.ensures next within so_far.is_kind so_far.whole refl) in
+    let on = subst (λ (l : List Symbol). IsCost w.limit (AreTreesOfKind g (Begins b) l) (sizes w) c.over-sweep.result.whole) (left_from items _ _ (Token 0) next within)
+    (subst (λ k. IsCost w.limit (AreTreesOfKind g k (x ∷ drop c.loop-place.place items)) (sizes w) c.over-sweep.result.whole) is_kind swept.is_whole) in
     let step = subst (λ (m : Measure). IsStepCost m.limit c.plus-cost.result c.step_cost.result) c.weights.ensures.weights c.step_cost.ensures in
     elim c.match-step_cost.branch [
       | in-Some+in_ok-push+in_ok-push-2 s ↦
@@ -108,7 +128,7 @@ loop-place-preserved c =
                 (s.symbol_number-node.ensures ∙ ap (λ n. number_of n x) tokens)
                 (subst (IsStepCost w.limit c.plus-cost.result) s.in-Some.is step));
             is_kind = is_kind;
-            swept = swept;
+            whole = on;
             within = omega (arith, within);
           }
       | in_default s ↦
@@ -117,7 +137,7 @@ loop-place-preserved c =
                 (source_passed w g b q j p rule items c.right-right.ensures x here _ _ c.plus-cost.result front whole c.plus-cost.ensures c.loop-place.sources.places.items c.loop-place.sources.list.items before
                 (subst (IsStepCost w.limit c.plus-cost.result) s.in_default.is step));
             is_kind = is_kind;
-            swept = swept;
+            whole = on;
             within = omega (arith, within);
           }
     ]

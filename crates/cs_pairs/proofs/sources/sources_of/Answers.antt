@@ -2,8 +2,9 @@ use Rattle.std.proofs.Common.{◌≡◌, ◌+◌, ◌-◌, List, length, get_or,
 use Rattle.cs_grammar.specs.Grammar.{Production, PlainGrammar}
 use Rattle.cs_ways.specs.declared.step.Source.{Source}
 use Rattle.cs_pairs.specs.declared.meeting.Meeting.{Meeting}
+use Rattle.cs_pairs.specs.Fronts.{AreFronts, AreBehinds}
 use Rattle.cs_pairs.specs.Sources.{AreSourcesFrom}
-use Rattle.cs_pairs.proofs.Fronting.{fronts_row}
+use Rattle.cs_pairs.proofs.Fronting.{row_of_rule}
 use Rattle.cs_pairs.proofs.SourceLists.{sources_none}
 use Rattle.cs_pairs.proofs.sources.sources_of.Goals as goal
 
@@ -18,18 +19,32 @@ loop-place-init c =
       within = omega (arith, even);
     }
 
-pub bounds-fronts-place : goal.bounds-fronts-place
-bounds-fronts-place c = omega (arith, c.loop-place-test.true, c.loop-place.invariant.within, c.requires.fronts.many)
+pub index-requires : goal.index-requires
+index-requires c = omega (arith, c.loop-place-test.true, c.loop-place.invariant.within, c.requires.around.fronts.many)
+
+pub index-requires-in-loop-place : goal.index-requires-in-loop-place
+index-requires-in-loop-place c = omega (arith, c.loop-place-test.true, c.loop-place.invariant.within, c.requires.around.behinds.many)
 
 pub push_sources-requires-clause-number : goal.push_sources-requires-clause-number
 push_sources-requires-clause-number c = (omega (arith, c.number_of.ensures), omega (arith, c.number_of.ensures, c.loop-place-test.true, c.loop-place.invariant.within))
 
 pub push_sources-requires-clause-fronts : goal.push_sources-requires-clause-fronts
 push_sources-requires-clause-fronts c =
+    let v = c.args.kinds.now in
+    let rows = c.args.around.now.fronts.items in
     let place : c.loop-place.place - 1 ≡ c.number_of.result - 1 = omega (arith, c.number_of.ensures) in
-    fronts_row c.args.kinds.now.weights c.args.kinds.now.grammar c.args.fronts.now c.number_of.result c.costs.result.now c.index-fronts-place.result c.index-fronts-place.result c.requires.fronts
-    (omega (arith, c.number_of.ensures), omega (arith, c.number_of.ensures, c.loop-place-test.true, c.loop-place.invariant.within, c.requires.fronts.many))
-    c.costs.ensures (c.index-fronts-place.is ∙ ap (λ k. get_or c.args.fronts.now k c.index-fronts-place.result) place)
+    row_of_rule (AreFronts v.weights v.grammar) v.grammar rows c.number_of.result c.costs.result.now c.index.result.now c.index.result.now c.requires.around.fronts
+    (omega (arith, c.number_of.ensures), omega (arith, c.number_of.ensures, c.loop-place-test.true, c.loop-place.invariant.within, c.requires.around.fronts.many))
+    c.costs.ensures (c.index.ensures ∙ ap (λ k. get_or rows k c.index.result.now) place)
+
+pub push_sources-requires-clause-behinds : goal.push_sources-requires-clause-behinds
+push_sources-requires-clause-behinds c =
+    let v = c.args.kinds.now in
+    let rows = c.args.around.now.behinds.items in
+    let place : c.loop-place.place - 1 ≡ c.number_of.result - 1 = omega (arith, c.number_of.ensures) in
+    row_of_rule (AreBehinds v.weights v.grammar) v.grammar rows c.number_of.result c.costs-in-loop-place.result.now c.index-in-loop-place.result.now c.index-in-loop-place.result.now c.requires.around.behinds
+    (omega (arith, c.number_of.ensures), omega (arith, c.number_of.ensures, c.loop-place-test.true, c.loop-place.invariant.within, c.requires.around.behinds.many))
+    c.costs-in-loop-place.ensures (c.index-in-loop-place.ensures ∙ ap (λ k. get_or rows k c.index-in-loop-place.result.now) place)
 
 pub push_sources-requires-clause-sources : goal.push_sources-requires-clause-sources
 push_sources-requires-clause-sources c =

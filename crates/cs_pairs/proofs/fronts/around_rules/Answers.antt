@@ -4,9 +4,9 @@ use Rattle.std.proofs.lemmas.Option.{slice_get_read}
 use Rattle.cs_grammar.specs.Grammar.{Production, PlainGrammar}
 use Rattle.cs_cost.proofs.Rules.{rule_at}
 use Rattle.cs_kinds.proofs.RowLists.{rows_more, length_more}
-use Rattle.cs_pairs.proofs.Fronting.{fronts_at, fronts_all}
-use Rattle.cs_pairs.specs.Fronts.{AreFrontsOf}
-use Rattle.cs_pairs.proofs.fronts.rule_fronts.Goals as goal
+use Rattle.cs_pairs.proofs.Fronting.{row_at, rows_all}
+use Rattle.cs_pairs.specs.Fronts.{AreFronts, AreBehinds, AreFrontsOf, AreBehindsOf}
+use Rattle.cs_pairs.proofs.fronts.around_rules.Goals as goal
 
 pub fronts_of-requires-clause-rule : goal.fronts_of-requires-clause-rule
 fronts_of-requires-clause-rule c =
@@ -23,13 +23,24 @@ loop-rule-preserved c =
     let here = slice_get_read _ _ i c.rule-item.result refl c.loop-rule-test.true c.rule-item.is in
     let same = c.rules-rule-items.ensures.rules ∙ ap (λ (s : PlainGrammar). s.rules) c.grammar.ensures in
     let at = subst (λ (rules : List Production). slice_get rules i ≡ Some c.rule-item.result) same here in
-    let row = fronts_at c.args.costs.now.weights g i c.rule-item.result _ at c.in_ok-fronts_of.ensures in
-    rw c.in_ok-push.ensures.items (record {
-      many = length_more (AreFrontsOf c.args.costs.now.weights g) i _ _ c.loop-rule.invariant.many;
-      each = rows_more (AreFrontsOf c.args.costs.now.weights g) i _ _ c.loop-rule.invariant.many c.loop-rule.invariant.each row;
+    let w = c.args.costs.now.weights in
+    let front = row_at (AreFronts w g) g i c.rule-item.result _ at c.in_ok-fronts_of.ensures in
+    let behind = row_at (AreBehinds w g) g i c.rule-item.result _ at c.in_ok-behinds_of.ensures in
+    rw (c.in_ok-push.ensures.items, c.in_ok-push-2.ensures.items) (record {
+      many = length_more (AreFrontsOf w g) i _ _ c.loop-rule.invariant.many;
+      fronts = rows_more (AreFrontsOf w g) i _ _ c.loop-rule.invariant.many c.loop-rule.invariant.fronts front;
+      many_behind = length_more (AreBehindsOf w g) i _ _ c.loop-rule.invariant.many_behind;
+      behinds = rows_more (AreBehindsOf w g) i _ _ c.loop-rule.invariant.many_behind c.loop-rule.invariant.behinds behind;
     })
 
 pub returns : goal.returns
 returns c =
     let same = c.rules-rule-items.ensures.rules ∙ ap (λ (s : PlainGrammar). s.rules) c.grammar.ensures in
-    fronts_all c.args.costs.now.weights _ _ _ _ same c.loop-rule-test.false c.loop-rule.auto.rule-index-end c.loop-rule.invariant.many c.loop-rule.invariant.each
+    let w = c.args.costs.now.weights in
+    let g = c.args.costs.now.grammar in
+    let before = c.loop-rule.invariant in
+    let end = c.loop-rule.auto.rule-index-end in
+    record {
+      fronts = rows_all (AreFronts w g) g _ _ _ same c.loop-rule-test.false end before.many before.fronts;
+      behinds = rows_all (AreBehinds w g) g _ _ _ same c.loop-rule-test.false end before.many_behind before.behinds;
+    }
