@@ -1,10 +1,28 @@
 // What stands between items: blanks and comments.
 
 ghost use Rattle.std.specs.Prelude.{◌≡◌, ℕ, suc, ◌-◌, ◌<◌, ◌≤◌, length, drop, IfSome, IfNone};
+ghost use Rattle.cs_bytes.specs.Classes as classes;
+ghost use Rattle.cs_bytes.specs.Places.{front};
 ghost use Rattle.cs_yacc_items.specs.Items.{IsGap};
 
-use cs_bytes::{ByteClass, begins, from_offset};
+use cs_bytes::from_offset;
 use cs_ctext::{opens_comment, skip_comment};
+
+// Asked between all items, so it tests the byte by one test, where `ByteClass` looks for the class.
+fn is_white_space(byte: u8) -> bool
+    ensures { result ≡ classes.is_white_space byte }
+{
+    matches!(byte, b' ' | 9..=13)
+}
+
+fn begins_blank(text: &[u8]) -> bool
+    ensures { result ≡ front classes.is_white_space text.now }
+{
+    match text {
+        [first, ..] => is_white_space(*first),
+        [] => false,
+    }
+}
 
 /// The offset behind the blank or closed comment that stands at the offset.
 #[tactic(auto, using(crate::proofs::Gaps::blank_within))]
@@ -14,7 +32,7 @@ fn gap_step(bytes: &[u8], at: usize) -> Option<usize>
     ensures within { IfSome result (λ end. (at < end) × (end ≤ length bytes.now)) }
     ensures none { IfNone result ((n : ℕ) → ¬ IsGap (drop at bytes.now) (suc n)) }
 {
-    if begins(from_offset(bytes, at), ByteClass::WhiteSpace) {
+    if begins_blank(from_offset(bytes, at)) {
         return Some(at + 1);
     }
     if opens_comment(bytes, at) {

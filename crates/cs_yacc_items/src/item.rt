@@ -187,7 +187,7 @@ fn front_of(text: &[u8]) -> Front<'_>
 fn begins_name(byte: u8) -> bool
     ensures { result ≡ kinds.begins_name byte }
 {
-    ByteClass::WordStart.has(byte) || byte == b'.'
+    byte.is_ascii_alphabetic() || byte == b'_' || byte == b'.'
 }
 
 /// What stands at the offset, where neither white space nor a closed comment stands there.
