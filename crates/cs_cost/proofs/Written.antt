@@ -1,8 +1,8 @@
 -- The chosen trees' codes are written.
-use Rattle.std.proofs.Common.{◌≡◌, ℕ, ◌+◌, ◌-◌, ◌<◌, ◌≤◌, List, [], ◌∷◌, ◌++◌, get_or, reverse, sym, ap, ◌∙◌, subst, ⊎_elim, arith, append_assoc}
+use Rattle.std.proofs.Common.{◌≡◌, ℕ, ◌+◌, ◌-◌, ◌<◌, ◌≤◌, List, [], ◌∷◌, ◌++◌, get_or, reverse, true, refl, sym, ap, ◌∙◌, subst, ⊎_elim, arith, append_assoc}
 use Rattle.std.specs.Prelude.{All}
-use Rattle.std.specs.List.{sum_by}
-use Rattle.std.proofs.lemmas.Bool.{cases_lt}
+use Rattle.std.specs.List.{list_all, sum_by}
+use Rattle.std.proofs.lemmas.Bool.{cases_lt, false≢true}
 use Rattle.std.proofs.lemmas.List.{reverse-append}
 use Rattle.std.proofs.lemmas.List.Sums.{sum_by-cons, sum_by-append}
 use Rattle.std.proofs.lemmas.List.Elements.{All-nil, All-cons, All-head, All-tail, All-append}
@@ -18,7 +18,7 @@ use Rattle.cs_cost.specs.declared.cost.Cost.{Cost}
 use Rattle.cs_cost.specs.Rank.{rank, cost_of, plus, sum_from, entry}
 use Rattle.cs_cost.specs.Chosen.{IsChosen, AreChosen}
 use Rattle.cs_cost.specs.Trees.{IsTreeOf, cost_in, node_cost, IsCostTable, IsFirstRule}
-use Rattle.cs_cost.specs.Parts.{IsText, IsWithin, IsGrown, Opens}
+use Rattle.cs_cost.specs.Parts.{is_token, IsText, IsWithin, IsGrown, Opens}
 use Rattle.cs_cost.proofs.Ranks.{rank-cost_of, plus_written, cost_least}
 use Rattle.cs_cost.proofs.TreeCosts.{forest_at_most, node_reached}
 use Rattle.cs_cost.proofs.ChosenTrees.{IsTree-chosen, AreTrees-chosen}
@@ -61,6 +61,12 @@ IsText-whole w g Bare (x ∷ xs) parts rest cf h = absurd cf
 IsText-whole w g (Grown t f) [] parts rest cf h = absurd cf
 IsText-whole w g (Grown t f) (x ∷ xs) parts rest cf h =
     (t, codes_of f ++ rest, cf.0, IsText-whole w g f xs parts rest cf.1 h, append_assoc (code t) (codes_of f) rest)
+
+-- the chosen trees of tokens have no code
+pub tokens_chosen : (w : Measure) (g : PlainGrammar) (xs : List Symbol) → list_all is_token xs ≡ true → (f : Forest) × AreChosen w g xs f × (codes_of f ≡ [])
+tokens_chosen w g [] e = (Bare, tt, refl)
+tokens_chosen w g (Token t ∷ xs) e = let f = tokens_chosen w g xs e in (Grown (Leaf t) f.0, (refl, f.1), f.2)
+tokens_chosen w g (Nonterminal n ∷ xs) e = absurd (false≢true e)
 
 -- trees within the limit together are so each
 pub forest_within : (w : Measure) (g : PlainGrammar) (f : Forest) (xs : List Symbol) → AreTrees g xs f → sizes w f ≤ w.limit → All (IsSymbol g.tokens g.nonterminals) xs → All (IsWithin w g) (xs)

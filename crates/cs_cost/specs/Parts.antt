@@ -1,7 +1,8 @@
 -- Words of the proof of writing: codes of chosen trees that are still to be written.
-use Rattle.std.specs.Prelude.{◌≡◌, ℕ, ◌≤◌, List, [], ◌∷◌, ◌++◌, reverse, All}
+use Rattle.std.specs.Prelude.{◌≡◌, ℕ, ◌≤◌, Bool, true, false, List, [], ◌∷◌, ◌++◌, reverse, All}
 use Rattle.std.specs.Global.{Vec}
 use Rattle.cs_grammar.specs.declared.symbol.Symbol.{Symbol}
+use Rattle.cs_grammar.specs.declared.symbol.Symbol.TheVariants.{Token, Nonterminal}
 use Rattle.cs_grammar.specs.Grammar.{PlainGrammar, IsSymbol}
 use Rattle.cs_grammar.specs.Weights.{Measure}
 use Rattle.cs_grammar.specs.Stack.{AreOnTop}
@@ -11,6 +12,11 @@ use Rattle.cs_cost.specs.Rank.{rank, entry}
 use Rattle.cs_cost.specs.Trees.{IsFirstRule}
 use Rattle.cs_cost.specs.Tables.{Kept}
 use Rattle.cs_cost.specs.Chosen.{IsChosen}
+
+-- the symbol is a token
+abbrev pub is_token : Symbol → Bool
+is_token (Token t) = true
+is_token (Nonterminal n) = false
 
 -- the codes of the chosen trees of these symbols make this list of rule numbers
 abbrev pub IsText : Measure → PlainGrammar → List Symbol → List ℕ → Type 0

@@ -9,7 +9,7 @@ ghost use Rattle.cs_cost.specs.Trees.{IsTreeCost, AreTreesCost, HasLeast, HaveSm
 use crate::cost::Cost;
 use crate::sums::{cost_in, sum_from};
 use crate::trees::{Trees, trees_of};
-use crate::writing::write;
+use crate::writing::{are_tokens, write};
 use cs_grammar::{Derivation, Grammar, Symbol, Weights, put_on_top};
 use std::alloc::{AllocError, Global};
 use std::marker::Model;
@@ -101,7 +101,7 @@ impl<'g> Costs<'g> {
         ensures ok { OnOk result (WritesAllChosen self.now symbols.now into.old into.new) }
         ensures err { OnErr result (into.new ≡ into.old) }
     {
-        if symbols.is_empty() {
+        if are_tokens(symbols) {
             return Ok(());
         }
         let alloc = *self.trees.table.allocator();

@@ -2,11 +2,25 @@
 
 ghost use Rattle.std.specs.Prelude.{◌≡◌, OnErr, OnOk};
 ghost use Rattle.cs_grammar.specs.Grammar.{IsNumberOf};
-ghost use Rattle.cs_cost.specs.Parts.{IsSmallIn, AreSmallIn, IsGrown, OpensIn, WritesTexts};
+ghost use Rattle.std.specs.List.{list_all};
+ghost use Rattle.cs_cost.specs.Parts.{is_token, IsSmallIn, AreSmallIn, IsGrown, OpensIn, WritesTexts};
 
 use crate::trees::Trees;
 use cs_grammar::{Derivation, Symbol, place_of, put_on_top};
 use std::alloc::AllocError;
+
+fn is_token(symbol: Symbol) -> bool
+    ensures { result ≡ is_token symbol }
+{
+    matches!(symbol, Symbol::Token(_))
+}
+
+// Whether the symbols are tokens, whose trees have no code.
+pub(crate) fn are_tokens(symbols: &[Symbol]) -> bool
+    ensures { result ≡ list_all is_token symbols.now }
+{
+    symbols.iter().all(|symbol| is_token(*symbol))
+}
 
 // Writes the number of a nonterminal's first rule, and puts the rule's right side on top of what is pending.
 fn open_up(

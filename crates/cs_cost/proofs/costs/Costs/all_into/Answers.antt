@@ -11,16 +11,16 @@ use Rattle.cs_cost.specs.Chosen.{AreChosen}
 use Rattle.cs_cost.specs.Trees.{HaveSmall}
 use Rattle.cs_cost.specs.Parts.{IsText, IsWithin}
 use Rattle.cs_cost.proofs.ChosenTrees.{chosen_forest}
-use Rattle.cs_cost.proofs.Written.{IsText-whole, forest_within}
+use Rattle.cs_cost.proofs.Written.{IsText-whole, forest_within, tokens_chosen}
 use Rattle.cs_cost.proofs.costs.Costs.all_into.Goals as goal
 
-pub returns-then-is_empty-clause-ok : goal.returns-then-is_empty-clause-ok
-returns-then-is_empty-clause-ok c =
-    let none : c.args.symbols.now ≡ [] = nil_from_length c.args.symbols.now (eqb-true (length c.args.symbols.now) 0 (sym c.is_empty.ensures ∙ c.if-is_empty.true)) in
+pub returns-then-are_tokens-clause-ok : goal.returns-then-are_tokens-clause-ok
+returns-then-are_tokens-clause-ok c =
+    let f = tokens_chosen c.args.self.now.weights c.args.self.now.grammar c.args.symbols.now (sym c.are_tokens.ensures ∙ c.if-are_tokens.true) in
     record {
-      trees = Bare;
-      chosen = subst (λ (xs : List Symbol). AreChosen c.args.self.now.weights c.args.self.now.grammar xs Bare) (sym none) search;
-      text = sym (append-nil c.args.into.now);
+      trees = f.0;
+      chosen = f.1;
+      text = sym (ap (λ (l : List ℕ). c.args.into.now ++ l) f.2 ∙ append-nil c.args.into.now);
     }
 
 pub write-requires : goal.write-requires
