@@ -1,4 +1,4 @@
-mod Matching
-mod OneMatch
-mod SomeScan
-mod Together
+pub mod Matching
+pub mod OneMatch
+pub mod SomeScan
+pub mod Together
