@@ -7,13 +7,16 @@ ghost use Rattle.cs_cost.specs.Users.{HasNoUsers, AddsUser, IsUserTable};
 use cs_grammar::{Grammar, Symbol, place_of};
 use std::alloc::{AllocError, Global};
 
+// Each list is given room for as many rules at once.
+const USUAL_USERS: usize = 16;
+
 // Empty lists, so many.
 fn no_users(alloc: Global, many: u16) -> Result<Vec<Vec<u16>>, AllocError>
     ensures { IfOk result (λ users. HasNoUsers many users.items) }
 {
-    let mut users = Vec::new(alloc);
+    let mut users = Vec::with_capacity(alloc, many as usize)?;
     for _number in 0..many {
-        users.push(Vec::new(alloc))?;
+        users.push(Vec::with_capacity(alloc, USUAL_USERS)?)?;
     }
     Ok(users)
 }

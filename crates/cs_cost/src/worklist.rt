@@ -52,7 +52,7 @@ fn nonterminals_in(symbols: &[Symbol]) -> u16
 fn counts_of(alloc: Global, grammar: &Grammar) -> Result<Vec<u16>, AllocError>
     ensures { IfOk result (λ counts. AreCounts grammar.now counts.items) }
 {
-    let mut counts = Vec::new(alloc);
+    let mut counts = Vec::with_capacity(alloc, grammar.rules().len())?;
     for rule in grammar.rules() {
         counts.push(nonterminals_in(rule.right()))?;
     }
