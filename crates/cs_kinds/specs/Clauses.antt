@@ -14,7 +14,11 @@ use Rattle.cs_kinds.specs.declared.writing.Part.{Part}
 use Rattle.cs_kinds.specs.Kinds.{AreTreesOfKind}
 use Rattle.cs_kinds.specs.Sweep.{IsSwept, AreWays, node_size}
 use Rattle.cs_kinds.specs.ChosenKind.{AreChosenOfKind, AppendsOfKind}
-use Rattle.cs_kinds.specs.Parts.{parts_from, AreChosenParts, TakesOn}
+use Rattle.cs_kinds.specs.Parts.{parts_from, AreChosenParts, HasSmallOfKind, TakesOn}
+
+-- some symbols are swept
+abbrev pub HasSwept : Weighed → Sweep → Type 0
+HasSwept v s = (xs : List Symbol) × IsSwept v.weights v.grammar xs s
 
 -- the sweep of any symbols goes on by this one
 abbrev pub AreWaysOver : Weighed → Sweep → Symbol → Ways → Type 0
@@ -34,6 +38,10 @@ ArePutFirst k i xs old new = reverse new.items ≡ parts_from k i 0 xs ++ revers
 -- with this place of the tree of the kind itself, the chosen trees of the symbols are those of their parts
 abbrev pub IsPlaceIn : Weighed → TreeKind → List Symbol → ℕ → Type 0
 IsPlaceIn v k xs i = (f : Forest) → AreChosenOfKind v.weights v.grammar k xs f → sizes v.weights f ≤ v.weights.limit → AreChosenParts v.weights v.grammar (parts_from k i 0 xs) f
+
+-- some tree of the symbol that is of the kind is within the limit
+abbrev pub HasSmallIn : Weighed → TreeKind → Symbol → Type 0
+HasSmallIn v k x = HasSmallOfKind v.weights v.grammar k x
 
 -- a part is taken on, where the parts stand in reverse
 abbrev pub TakesOnIn : Weighed → Part → Vec Part → Vec Part → List ℕ → List ℕ → Type 0

@@ -25,6 +25,10 @@ HasTreeIn v k x = AtLeastOne (IsTreeOfKind v.grammar k x)
 abbrev pub HasChosenIn : Weighed → TreeKind → Symbol → Type 0
 HasChosenIn v k x = AtLeastOne (IsChosenIn v k x)
 
+-- where there is a tree of the kind and the symbol, one is chosen
+abbrev pub ChosenExists : Weighed → TreeKind → Symbol → Type 0
+ChosenExists v k x = HasTreeIn v k x → HasChosenIn v k x
+
 -- a tree of the kind and the symbol, and none is smaller
 pub record IsLeastIn (v : Weighed) (k : TreeKind) (x : Symbol) (u : Tree) : Type 0 where
   pub is_tree : IsTreeOfKind v.grammar k x u

@@ -1,11 +1,15 @@
 -- What lists of trees of a kind cost, by what single trees cost.
-use Rattle.std.specs.Prelude.{ℕ, nat_eq, nat_le, if◌then◌else◌}
+use Rattle.std.specs.Prelude.{ℕ, ◌≤◌, nat_eq, nat_le, if◌then◌else◌}
 use Rattle.cs_grammar.specs.Weights.{Measure, number}
 use Rattle.cs_cost.specs.declared.cost.Cost.{Cost}
 use Rattle.cs_cost.specs.declared.cost.Cost.TheVariants.{Never, Least}
 use Rattle.cs_cost.specs.Rank.{rank, cost_of}
 use Rattle.cs_kinds.specs.declared.kind.TreeKind.{TreeKind}
 use Rattle.cs_kinds.specs.declared.kind.TreeKind.TheVariants.{Any, Empty, Begins, Ends}
+
+-- the first of two costs isn't higher
+abbrev pub IsAtMost : ℕ → Cost → Cost → Type 0
+IsAtMost limit a b = rank limit a ≤ rank limit b
 
 -- the first of two costs where the second is no lower
 abbrev pub lesser : ℕ → Cost → Cost → Cost

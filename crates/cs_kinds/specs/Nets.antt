@@ -1,5 +1,5 @@
 -- The steps of one side as a net of ways, and the rows that come from it.
-use Rattle.std.specs.Prelude.{◌≡◌, ◌+◌, List}
+use Rattle.std.specs.Prelude.{◌≡◌, ℕ, ◌+◌, List}
 use Rattle.cs_grammar.specs.Weights.{Weighed}
 use Rattle.cs_cost.specs.declared.cost.Cost.{Cost}
 use Rattle.cs_ways.specs.Ways as ways
@@ -10,12 +10,16 @@ use Rattle.cs_kinds.specs.declared.side.Side.{Side}
 use Rattle.cs_kinds.specs.declared.side.Side.TheVariants.{Last}
 use Rattle.cs_kinds.specs.Sides.{kind_on}
 use Rattle.cs_kinds.specs.Rims.{AreRims}
-use Rattle.cs_kinds.specs.Tables.{AreCostRows}
+use Rattle.cs_kinds.specs.Tables.{AreCosts, AreCostRows}
 
 -- all steps of the side, between all symbols of the grammar
 pub record IsNetOf (v : Weighed) (net : Net) : Type 0 where
   pub nodes : net.steps.nodes ≡ v.grammar.tokens + v.grammar.nonterminals
   pub rims : AreRims v.weights v.grammar net.side net.places.items net.steps.steps
+
+-- the row of the trees that have this token at the side
+abbrev pub IsRowOn : Weighed → Side → ℕ → List Cost → Type 0
+IsRowOn v side token row = AreCosts v.weights v.grammar (kind_on side token) row
 
 -- a row for each token that may stand at the side
 abbrev pub AreRowsOn : Weighed → Side → List (List Cost) → Type 0

@@ -1,11 +1,11 @@
 // What the least trees of each kind and symbol cost.
 
-ghost use Rattle.std.specs.Prelude.{◌≡◌, ◌≤◌, ◌↔◌, IsTrue, IfOk};
+ghost use Rattle.std.specs.Prelude.{◌≡◌, ◌↔◌, IsTrue, IfOk};
 ghost use Rattle.cs_grammar.specs.Grammar.{IsNumberOf, IsSymbolOf};
 ghost use Rattle.cs_grammar.specs.Weights.{Weighs, weighed};
 ghost use Rattle.cs_grammar.specs.Tree.{size};
-ghost use Rattle.cs_cost.specs.Rank.{rank, IsCapped, cost_of, plus};
-ghost use Rattle.cs_kinds.specs.ListCost.{lesser};
+ghost use Rattle.cs_cost.specs.Rank.{IsCapped, cost_of, plus};
+ghost use Rattle.cs_kinds.specs.ListCost.{IsAtMost, lesser};
 ghost use Rattle.cs_kinds.specs.Kinds.{IsKind};
 ghost use Rattle.cs_kinds.specs.RowsOf.{AreTablesOf};
 ghost use Rattle.cs_kinds.specs.Tables.{AreCosts};
@@ -47,14 +47,13 @@ struct Rows {
 
 impl<'g> Model for Kinds<'g> {
     ghost use Rattle.cs_grammar.specs.Weights.{Weighed};
-    ghost use Rattle.cs_kinds.specs.RowsOf.{AreTablesOf};
-    ghost use Rattle.cs_kinds.specs.Lefts.{AreLefts};
+    ghost use Rattle.cs_kinds.specs.RowsOf.{AreKindsOf};
 
     ghost Value = { Weighed };
 
     ghost view = { λ k. record { grammar = k.grammar.now; weights = k.weights.now } };
 
-    ghost invariant = { λ k. AreTablesOf k.weights.now k.grammar.now k.rows × AreLefts k.grammar.now k.lefts.items };
+    ghost invariant = { λ k. AreKindsOf k.weights.now k.grammar.now k.rows k.lefts.items };
 }
 
 impl<'g> Kinds<'g> {
@@ -102,7 +101,7 @@ impl<'g> Kinds<'g> {
     pub(crate) fn at_most(&self, a: Cost, b: Cost) -> bool
         requires a { IsCapped self.now.weights.limit a }
         requires b { IsCapped self.now.weights.limit b }
-        ensures { IsTrue result ↔ (rank self.now.weights.limit a ≤ rank self.now.weights.limit b) }
+        ensures { IsTrue result ↔ IsAtMost self.now.weights.limit a b }
     {
         !is_below(b, a)
     }

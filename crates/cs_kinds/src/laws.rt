@@ -4,7 +4,7 @@ ghost use Rattle.cs_grammar.specs.declared.symbol.Symbol.{Symbol};
 ghost use Rattle.cs_grammar.specs.Laws.{AtMostOne};
 ghost use Rattle.cs_grammar.specs.Weights.{Weighed};
 ghost use Rattle.cs_kinds.specs.declared.kind.TreeKind.{TreeKind};
-ghost use Rattle.cs_kinds.specs.Laws.{IsChosenIn, AnyIsChosen, HasTreeIn, HasChosenIn, ChosenIsLeast};
+ghost use Rattle.cs_kinds.specs.Laws.{IsChosenIn, AnyIsChosen, ChosenExists, ChosenIsLeast};
 
 /// A kind and a symbol have at most one chosen tree. That of any yield is the symbol's chosen tree.
 pub fn one_chosen_of_kind()
@@ -15,6 +15,6 @@ pub fn one_chosen_of_kind()
 /// A chosen tree of a kind and a symbol exists exactly where a tree of the kind and the symbol exists, however large, and it
 /// is of least size.
 pub fn chosen_of_kind_exists()
-    ensures exists { (v : Weighed) (k : TreeKind) (x : Symbol) → HasTreeIn v k x → HasChosenIn v k x }
+    ensures exists { (v : Weighed) (k : TreeKind) (x : Symbol) → ChosenExists v k x }
     ensures least { (v : Weighed) (k : TreeKind) (x : Symbol) → ChosenIsLeast v k x }
 {}

@@ -3,10 +3,8 @@
 ghost use Rattle.std.specs.Prelude.{◌≡◌, IfOk};
 ghost use Rattle.cs_grammar.specs.Grammar.{IsNumberOf};
 ghost use Rattle.cs_embed.specs.Ways.{told_cost};
-ghost use Rattle.cs_kinds.specs.Sides.{kind_on};
-ghost use Rattle.cs_kinds.specs.Tables.{AreCosts};
 ghost use Rattle.cs_kinds.specs.RimsOf.{AreBases};
-ghost use Rattle.cs_kinds.specs.Nets.{IsNetOf, AreRowsOn};
+ghost use Rattle.cs_kinds.specs.Nets.{IsNetOf, AreRowsOn, IsRowOn};
 
 use crate::rims::{Bases, Place, all_rims};
 use crate::row::Row;
@@ -53,7 +51,7 @@ pub fn reach_cost(reach: Reach) -> Cost
 fn token_row(alloc: Global, costs: &Costs, net: &Net, token: u16) -> Result<Row, AllocError>
     requires net { IsNetOf costs.now net.now }
     requires token { IsNumberOf costs.now.grammar.tokens token }
-    ensures { IfOk result (AreCosts costs.now.weights costs.now.grammar (kind_on net.now.side token)) }
+    ensures { IfOk result (IsRowOn costs.now net.now.side token) }
 {
     let weights = costs.weights();
     let _list = net.steps.list();

@@ -1,14 +1,13 @@
 // A sweep over a right side, from its last symbol to its first.
 
-ghost use Rattle.std.specs.Prelude.{◌≡◌, [], List};
-ghost use Rattle.cs_grammar.specs.declared.symbol.Symbol.{Symbol};
+ghost use Rattle.std.specs.Prelude.{◌≡◌, []};
 ghost use Rattle.cs_grammar.specs.declared.symbol.Symbol.TheVariants.{Token};
 ghost use Rattle.cs_grammar.specs.Grammar.{PlainGrammar, IsNumberOf, IsSymbolOf};
 ghost use Rattle.cs_grammar.specs.Weights.{Measure};
 ghost use Rattle.cs_kinds.specs.declared.kind.TreeKind.TheVariants.{Begins};
 ghost use Rattle.cs_kinds.specs.Kinds.{IsKind};
 ghost use Rattle.cs_kinds.specs.Sweep.{IsSwept};
-ghost use Rattle.cs_kinds.specs.Clauses.{AreWaysOver, IsSweptOver};
+ghost use Rattle.cs_kinds.specs.Clauses.{AreWaysOver, HasSwept, IsSweptOver};
 
 use crate::kind::TreeKind;
 use crate::kinds::Kinds;
@@ -51,7 +50,7 @@ impl Sweep {
     pub(crate) fn ways(&self, kinds: &Kinds, symbol: Symbol) -> Ways
         requires kind { IsKind kinds.now.grammar.tokens self.now.kind }
         requires symbol { IsSymbolOf kinds.now.grammar symbol }
-        requires swept { (xs : List Symbol) × IsSwept kinds.now.weights kinds.now.grammar xs self.now }
+        requires swept { HasSwept kinds.now self.now }
         ensures { AreWaysOver kinds.now self.now symbol result }
     {
         let here = kinds.plus(kinds.told(self.kind, symbol), self.rest);
@@ -64,7 +63,7 @@ impl Sweep {
     fn over_token(self, kinds: &Kinds, first: u16, token: u16) -> Sweep
         requires kind { self.kind ≡ Begins first }
         requires token { IsNumberOf kinds.now.grammar.tokens token }
-        requires swept { (xs : List Symbol) × IsSwept kinds.now.weights kinds.now.grammar xs self }
+        requires swept { HasSwept kinds.now self }
         ensures kind { result.kind ≡ self.kind }
         ensures swept { IsSweptOver kinds.now self (Token token) result }
     {
@@ -81,7 +80,7 @@ impl Sweep {
     fn over_symbol(self, kinds: &Kinds, symbol: Symbol) -> Sweep
         requires kind { IsKind kinds.now.grammar.tokens self.kind }
         requires symbol { IsSymbolOf kinds.now.grammar symbol }
-        requires swept { (xs : List Symbol) × IsSwept kinds.now.weights kinds.now.grammar xs self }
+        requires swept { HasSwept kinds.now self }
         ensures kind { result.kind ≡ self.kind }
         ensures swept { IsSweptOver kinds.now self symbol result }
     {
@@ -98,7 +97,7 @@ impl Sweep {
     pub fn over(self, kinds: &Kinds, symbol: Symbol) -> Sweep
         requires kind { IsKind kinds.now.grammar.tokens self.kind }
         requires symbol { IsSymbolOf kinds.now.grammar symbol }
-        requires swept { (xs : List Symbol) × IsSwept kinds.now.weights kinds.now.grammar xs self }
+        requires swept { HasSwept kinds.now self }
         ensures kind { result.kind ≡ self.kind }
         ensures swept { IsSweptOver kinds.now self symbol result }
     {

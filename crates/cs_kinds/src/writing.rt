@@ -4,8 +4,8 @@ ghost use Rattle.std.specs.Prelude.{◌≡◌, reverse, OnOk, All};
 ghost use Rattle.cs_grammar.specs.Grammar.{IsSymbolOf, IsNumberOf};
 ghost use Rattle.cs_grammar.specs.Weights.{IsMeasure};
 ghost use Rattle.cs_kinds.specs.Kinds.{IsKind};
-ghost use Rattle.cs_kinds.specs.Parts.{kind_at, IsPartOf, HasSmallOfKind, HaveSmallOfKind, IsRootOf};
-ghost use Rattle.cs_kinds.specs.Clauses.{ArePutFirst, IsPlaceIn, IsNodeCost, OpensUp, TakesOnIn, HaveSmallParts, Writes, AppendsIn};
+ghost use Rattle.cs_kinds.specs.Parts.{kind_at, IsPartOf, HaveSmallOfKind, IsRootOf};
+ghost use Rattle.cs_kinds.specs.Clauses.{ArePutFirst, IsPlaceIn, IsNodeCost, OpensUp, HasSmallIn, TakesOnIn, HaveSmallParts, Writes, AppendsIn};
 
 use crate::kind::TreeKind;
 use crate::kinds::Kinds;
@@ -90,7 +90,7 @@ fn node_cost(kinds: &Kinds, kind: TreeKind, symbols: &[Symbol]) -> Cost
 fn root_of(kinds: &Kinds, kind: TreeKind, left: u16) -> u16
     requires kind { IsKind kinds.now.grammar.tokens kind }
     requires left { IsNumberOf kinds.now.grammar.nonterminals left }
-    requires small { HasSmallOfKind kinds.now.weights kinds.now.grammar kind (Symbol.Nonterminal left) }
+    requires small { HasSmallIn kinds.now kind (Symbol.Nonterminal left) }
     ensures { IsRootOf kinds.now.weights kinds.now.grammar kind left result }
 {
     let cost = kinds.told(kind, Symbol::Nonterminal(left));
@@ -113,7 +113,7 @@ fn open_part(
 ) -> Result<(), AllocError>
     requires kind { IsKind kinds.now.grammar.tokens kind }
     requires left { IsNumberOf kinds.now.grammar.nonterminals left }
-    requires small { HasSmallOfKind kinds.now.weights kinds.now.grammar kind (Symbol.Nonterminal left) }
+    requires small { HasSmallIn kinds.now kind (Symbol.Nonterminal left) }
     ensures { OnOk result (OpensUp kinds.now kind left pending.old pending.new into.old into.new) }
 {
     let number = root_of(kinds, kind, left);
@@ -133,7 +133,7 @@ fn take_on(
     requires costs { costs.now ≡ kinds.now }
     requires measure { IsMeasure kinds.now.weights }
     requires part { IsPartOf kinds.now.grammar part }
-    requires small { HasSmallOfKind kinds.now.weights kinds.now.grammar part.kind part.symbol }
+    requires small { HasSmallIn kinds.now part.kind part.symbol }
     ensures { OnOk result (TakesOnIn kinds.now part pending.old pending.new into.old into.new) }
 {
     match part.symbol {
