@@ -29,6 +29,13 @@ AreFronts w g p row = IsFilled w.limit (λ n. AreFront g p.left (take (n - 1) p.
 abbrev pub AreBehinds : Measure → PlainGrammar → Production → List Cost → Type 0
 AreBehinds w g p row = IsFilled w.limit (λ n. AreTreesOfKind g Any (drop n p.right)) (sizes w) (length p.right) row
 
+-- both of a grammar and its weights
+abbrev pub AreFrontsIn : Weighed → Production → List Cost → Type 0
+AreFrontsIn v p row = AreFronts v.weights v.grammar p row
+
+abbrev pub AreBehindsIn : Weighed → Production → List Cost → Type 0
+AreBehindsIn v p row = AreBehinds v.weights v.grammar p row
+
 -- such rows for the rule of this number
 abbrev pub IsRowOf : (Production → List Cost → Type 0) → PlainGrammar → ℕ → List Cost → Type 0
 IsRowOf Are g r row = (p : Production) → IsRule g r p → Are p row

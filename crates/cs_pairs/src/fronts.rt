@@ -2,7 +2,7 @@
 
 ghost use Rattle.std.specs.Prelude.{◌≡◌, IfOk};
 ghost use Rattle.cs_grammar.specs.Grammar.{IsSomeRule};
-ghost use Rattle.cs_pairs.specs.Fronts.{AreFronts, AreBehinds, IsAround};
+ghost use Rattle.cs_pairs.specs.Fronts.{AreFrontsIn, AreBehindsIn, IsAround};
 
 use cs_cost::Costs;
 use cs_embed::Embeds;
@@ -15,7 +15,7 @@ use std::alloc::{AllocError, Global};
 fn fronts_of(alloc: Global, costs: &Costs, embeds: &Embeds, rule: &Rule) -> Result<Row, AllocError>
     requires embeds { embeds.now ≡ costs.now }
     requires rule { IsSomeRule costs.now.grammar rule.now }
-    ensures { IfOk result (λ fronts. AreFronts costs.now.weights costs.now.grammar rule.now fronts) }
+    ensures { IfOk result (AreFrontsIn costs.now rule.now) }
 {
     let _rules = costs.grammar().rules();
     let mut fronts = Vec::new(alloc);
@@ -30,7 +30,7 @@ fn fronts_of(alloc: Global, costs: &Costs, embeds: &Embeds, rule: &Rule) -> Resu
 // What any trees of the symbols behind each place of a rule's right side cost.
 fn behinds_of(alloc: Global, costs: &Costs, rule: &Rule) -> Result<Row, AllocError>
     requires { IsSomeRule costs.now.grammar rule.now }
-    ensures { IfOk result (λ behinds. AreBehinds costs.now.weights costs.now.grammar rule.now behinds) }
+    ensures { IfOk result (AreBehindsIn costs.now rule.now) }
 {
     let _rules = costs.grammar().rules();
     let right = rule.right();
