@@ -1,8 +1,8 @@
 -- What the rests of a right side cost, from its end on.
-use Rattle.std.proofs.Common.{◌≡◌, ℕ, ◌+◌, ◌<◌, ◌≤◌, List, [], ◌∷◌, length, get_or, drop, replicate, sym, ◌∙◌, subst, ⊎_elim, arith}
+use Rattle.std.proofs.Common.{◌≡◌, ℕ, ◌+◌, ◌-◌, ◌<◌, ◌≤◌, List, [], ◌∷◌, ◌++◌, length, get_or, take, drop, replicate, sym, ap, ◌∙◌, subst, ⊎_elim, arith}
 use Rattle.std.proofs.Math.ListN.{set}
 use Rattle.std.proofs.lemmas.Bool.{cases_eq}
-use Rattle.std.proofs.lemmas.List.{at_drop_all, at_drop_more, get_or-replicate, get_or-set_same, get_or-set_other, get_or_default}
+use Rattle.std.proofs.lemmas.List.{take_all, at_drop_all, at_drop_more, get_or-replicate, get_or-set_same, get_or-set_other, get_or_default}
 use Rattle.cs_grammar.specs.declared.symbol.Symbol.{Symbol}
 use Rattle.cs_grammar.specs.Weights.{Weighed}
 use Rattle.cs_cost.specs.declared.cost.Cost.{Cost}
@@ -10,6 +10,12 @@ use Rattle.cs_cost.specs.declared.cost.Cost.TheVariants.{Never, Least}
 use Rattle.cs_cost.specs.Rank.{plus}
 use Rattle.cs_cost.specs.Trees.{IsTreeCost, AreTreesCost}
 use Rattle.cs_cost.proofs.TreeLists.{trees_none, trees_one, trees_join}
+
+-- a list that was emptied and then filled up
+pub filled_up : (n : ℕ) (x : Cost) → take n [] ++ replicate (n - 0) x ≡ replicate n x
+filled_up n x =
+    let none : List Cost = [] in
+    ap (λ (l : List Cost). l ++ replicate (n - 0) x) (take_all n none (omega arith)) ∙ ap (λ m. replicate m x) (omega arith)
 
 -- behind the last symbol there is nothing
 pub rest_none : (v : Weighed) (xs : List Symbol) (k : ℕ) → length xs ≤ k → k ≤ length xs → AreTreesCost v (drop k xs) (get_or (replicate (length xs + 1) (Least 0)) k Never)

@@ -31,6 +31,10 @@ inward limit left (Nonterminal n) cost.Never = None
 inward limit left (Nonterminal n) cost.Large = Some (record { from = left; to = n; cost = limit + 1 })
 inward limit left (Nonterminal n) (cost.Least m) = Some (record { from = left; to = n; cost = m })
 
+-- the same, if the siblings before the symbol and behind it cost this
+abbrev pub inward_beside : ℕ → ℕ → Symbol → Cost → Cost → Option Step
+inward_beside limit left inner before behind = inward limit left inner (siblings_cost limit before behind)
+
 -- the step leads from the left side of the place's rule to the nonterminal there, and costs what the siblings do
 pub record IsInward (w : Measure) (g : PlainGrammar) (a : Place) (s : Step) : Type 0 where
   pub here : SymbolAt g a.rule a.place

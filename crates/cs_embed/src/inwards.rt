@@ -4,13 +4,16 @@
 ghost use Rattle.std.specs.Prelude.{◌≡◌, ◌+◌, ◌<◌, ◌≤◌, IfOk, OnOk, length, All};
 ghost use Rattle.cs_grammar.specs.Grammar.{IsNumberOf, IsSymbolOf};
 ghost use Rattle.cs_cost.specs.Rank.{IsCapped, cost_of, plus};
-ghost use Rattle.cs_embed.specs.Ways.{inward, siblings_cost};
+ghost use Rattle.cs_embed.specs.Ways.{inward_beside, siblings_cost};
 ghost use Rattle.cs_embed.specs.Kept.{AreRestCosts, AreInwardsBefore, AreInwardsOf};
 
 use cs_cost::{Cost, Costs, cost_of, plus};
 use cs_grammar::{Symbol, number_of};
 use cs_ways::Step;
 use std::alloc::{AllocError, Global};
+
+// Room for the costs behind as many symbols is made at once.
+const USUAL_SYMBOLS: usize = 16;
 
 // Where the hole of a context may stand: at this place of a rule's right side.
 #[derive(Clone, Copy, Debug)]
@@ -36,17 +39,18 @@ fn joint_cost(costs: &Costs, a: Cost, b: Cost) -> Cost
     plus(a, b, costs.weights().limit())
 }
 
-// What the least trees of the symbols from each place of a list on cost together.
-fn rest_costs(alloc: Global, costs: &Costs, symbols: &[Symbol]) -> Result<Vec<Cost>, AllocError>
+// Puts into a list what the least trees of the symbols from each place of another on cost together.
+fn put_rest_costs(costs: &Costs, symbols: &[Symbol], rest: &mut Vec<Cost>) -> Result<(), AllocError>
     requires short { length symbols.now ≤ 128 }
     requires symbols { All (IsSymbolOf costs.now.grammar) symbols.now }
-    ensures { IfOk result (λ rest. AreRestCosts costs.now symbols.now rest.items) }
+    ensures { OnOk result (AreRestCosts costs.now symbols.now rest.new.items) }
 {
-    let mut rest = vec![in alloc; Cost::Least(0); symbols.len() + 1]?;
+    rest.clear();
+    rest.resize(symbols.len() + 1, Cost::Least(0))?;
     for place in (0..symbols.len()).rev() {
         rest[place] = joint_cost(costs, costs.cost(symbols[place]), rest[place + 1]);
     }
-    Ok(rest)
+    Ok(())
 }
 
 // What a node costs with the least trees before one of its children and behind it, which cost this.
@@ -60,30 +64,36 @@ fn siblings_cost(costs: &Costs, before: Cost, behind: Cost) -> Cost
     joint_cost(costs, node, joint_cost(costs, before, behind))
 }
 
-// The step from a left side to a symbol, if that is a nonterminal, and if there are trees beside it.
-fn inward(costs: &Costs, left: u16, inner: Symbol, others: Cost) -> Option<Step>
-    ensures { result ≡ inward costs.now.weights.limit left inner others }
+// The step from a left side to a symbol, if that is a nonterminal, and if there are trees beside it, of which the least before
+// it and behind it cost this.
+fn inward(costs: &Costs, left: u16, inner: Symbol, before: Cost, behind: Cost) -> Option<Step>
+    requires before { IsCapped costs.now.weights.limit before }
+    requires behind { IsCapped costs.now.weights.limit behind }
+    ensures { result ≡ inward_beside costs.now.weights.limit left inner before behind }
 {
-    match (inner, others) {
-        (Symbol::Nonterminal(to), Cost::Large) => Some(Step {
+    let Symbol::Nonterminal(to) = inner else {
+        return None;
+    };
+    match siblings_cost(costs, before, behind) {
+        Cost::Never => None,
+        Cost::Large => Some(Step {
             from: left,
             to,
             cost: costs.weights().limit() + 1,
         }),
-        (Symbol::Nonterminal(to), Cost::Least(cost)) => Some(Step {
+        Cost::Least(cost) => Some(Step {
             from: left,
             to,
             cost,
         }),
-        _ => None,
     }
 }
 
-// Appends the steps of a rule, in the order of their places.
+// Appends the steps of a rule, in the order of their places. What is behind each place is put into `rest`, which is lent.
 fn push_inwards(
-    alloc: Global,
     costs: &Costs,
     number: u16,
+    rest: &mut Vec<Cost>,
     inwards: &mut Inwards,
 ) -> Result<(), AllocError>
     requires number { IsNumberOf (length costs.now.grammar.rules) number }
@@ -92,12 +102,12 @@ fn push_inwards(
 {
     let rule = costs.grammar().rule(number);
     let right = rule.right();
-    let rest = rest_costs(alloc, costs, right)?;
+    put_rest_costs(costs, right, rest)?;
     let mut before = Cost::Least(0);
     for (place, symbol) in right.iter().enumerate() {
-        let others = siblings_cost(costs, before, rest[place + 1]);
+        let found = inward(costs, rule.left(), *symbol, before, rest[place + 1]);
         before = joint_cost(costs, before, costs.cost(*symbol));
-        if let Some(step) = inward(costs, rule.left(), *symbol, others) {
+        if let Some(step) = found {
             inwards.places.push(Place {
                 rule: number,
                 place: place as u16,
@@ -111,12 +121,13 @@ fn push_inwards(
 pub(crate) fn all_inwards(alloc: Global, costs: &Costs) -> Result<Inwards, AllocError>
     ensures { IfOk result (AreInwardsOf costs.now) }
 {
-    let mut inwards = Inwards {
-        places: Vec::new(alloc),
-        steps: Vec::new(alloc),
-    };
-    for place in 0..costs.grammar().rules().len() {
-        push_inwards(alloc, costs, number_of(place), &mut inwards)?;
+    let count = costs.grammar().rules().len();
+    let places = Vec::with_capacity(alloc, count)?;
+    let steps = Vec::with_capacity(alloc, count)?;
+    let mut inwards = Inwards { places, steps };
+    let mut rest = Vec::with_capacity(alloc, USUAL_SYMBOLS)?;
+    for place in 0..count {
+        push_inwards(costs, number_of(place), &mut rest, &mut inwards)?;
     }
     Ok(inwards)
 }

@@ -1,11 +1,10 @@
-use Rattle.std.proofs.Common.{◌≡◌, ◌+◌, ◌≤◌, List, [], ◌∷◌, ◌++◌, length, get_or, take, drop, sym, ap, ◌∙◌, subst, arith}
+use Rattle.std.proofs.Common.{◌≡◌, ◌+◌, ◌≤◌, List, [], ◌∷◌, ◌++◌, length, get_or, take, drop, sym, ◌∙◌, subst, arith}
 use Rattle.std.proofs.lemmas.List.{take_more, get_or_default}
 use Rattle.std.proofs.lemmas.Option.{slice_get-get_or}
 use Rattle.cs_grammar.specs.declared.symbol.Symbol.{Symbol}
 use Rattle.cs_grammar.specs.declared.symbol.Symbol.TheVariants.{Token}
 use Rattle.cs_grammar.proofs.Measures.{rule_here}
 use Rattle.cs_cost.specs.declared.cost.Cost.TheVariants.{Never}
-use Rattle.cs_cost.specs.declared.cost.Cost.{Cost}
 use Rattle.cs_cost.specs.Trees.{AreTreesCost}
 use Rattle.cs_cost.proofs.TreeLists.{trees_none, trees_one, trees_join}
 use Rattle.cs_embed.specs.Ways.{inward, siblings_cost}
@@ -28,15 +27,14 @@ loop-place-preserved c =
     let rule = rule_here g _ q c.rule-rule.result.now c.grammar.ensures c.rule-rule.ensures.rule in
     let here = slice_get-get_or items j (Token 0) within in
     let before = c.loop-place.invariant.before in
-    let rest = c.in_ok-rest.rest.items in
-    let behind = subst (AreTreesCost v (drop (j + 1) items)) (get_or_default rest (j + 1) Never c.index.result.now (omega (arith, within, c.in_ok-rest.ensures.many)) ∙ sym c.index.ensures) (c.in_ok-rest.ensures.each (j + 1) (omega (arith, within))) in
+    let rest = c.put_rest_costs.new.rest.items in
+    let behind = subst (AreTreesCost v (drop (j + 1) items)) (get_or_default rest (j + 1) Never c.index.result.now (omega (arith, within, c.in_ok-put_rest_costs.ensures.many)) ∙ sym c.index.ensures) (c.in_ok-put_rest_costs.ensures.each (j + 1) (omega (arith, within))) in
     let sum = trees_join v.weights g (take j items) (x ∷ []) c.loop-place.before c.cost.result before (trees_one v.weights g x c.cost.result c.cost.ensures) in
-    let made : c.inward.result ≡ inward v.weights.limit c.left.result x (siblings_cost v.weights.limit c.loop-place.before c.index.result.now) =
-    c.inward.ensures ∙ ap (λ (o : Cost). inward v.weights.limit c.left.result x o) c.siblings_cost-others.ensures.cost in
+    let made : c.inward-found.result ≡ inward v.weights.limit c.left.result x (siblings_cost v.weights.limit c.loop-place.before c.index.result.now) = c.inward-found.ensures in
     record {
       before = subst (λ (l : List Symbol). AreTreesCost v l c.joint_cost-before.result) (sym (take_more items j (Token 0) within))
           (subst (AreTreesCost v (take j items ++ x ∷ [])) (sym c.joint_cost-before.ensures.cost) sum);
-      inwards = elim c.match-inward.branch [
+      inwards = elim c.match-found.branch [
         | in-Some+in_ok-push+in_ok-push-2 b ↦
             rw (b.inwards-is, b.in_ok-push.ensures.items, b.in_ok-push-2.ensures.items)
             (place_made v.weights g q j c.rule-rule.result.now rule items c.right-right.ensures x here c.loop-place.before c.index.result.now before behind c.left.result c.left.ensures _ _ c.loop-place.invariant.inwards b.in-Some.step (sym made ∙ b.in-Some.is))

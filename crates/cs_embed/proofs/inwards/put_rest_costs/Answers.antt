@@ -1,19 +1,21 @@
-use Rattle.std.proofs.Common.{◌+◌, ◌-◌, List, length, get_or, drop, sym, ap, ◌∙◌, subst, arith, rules}
+use Rattle.std.proofs.Common.{◌≡◌, ◌+◌, ◌-◌, List, length, get_or, drop, replicate, sym, ap, ◌∙◌, subst, arith}
 use Rattle.std.proofs.Math.ListN.{set}
 use Rattle.std.proofs.lemmas.List.{length-set, length-replicate}
 use Rattle.cs_cost.specs.declared.cost.Cost.{Cost}
 use Rattle.cs_cost.specs.declared.cost.Cost.TheVariants.{Never, Least}
 use Rattle.cs_cost.specs.Trees.{AreTreesCost}
 use Rattle.cs_grammar.specs.declared.symbol.Symbol.TheVariants.{Token}
-use Rattle.cs_embed.proofs.Rests.{rest_none, rest_more}
-use Rattle.cs_embed.proofs.inwards.rest_costs.Goals as goal
+use Rattle.cs_embed.proofs.Rests.{filled_up, rest_none, rest_more}
+use Rattle.cs_embed.proofs.inwards.put_rest_costs.Goals as goal
 
 pub loop-place-init : goal.loop-place-init
 loop-place-init c =
     let xs = c.args.symbols.now in
-    let items = c.in_ok-rest.ensures.items_if_clones_equal (λ y e. search rules) in
+    let n = length xs + 1 in
+    let items : c.resize.new.self.items ≡ replicate n (Least 0) =
+    c.in_ok-resize.ensures.items ∙ rw (c.clear.ensures.items, c.clear.ensures.len) (filled_up n (Least 0)) in
     record {
-      many = ap (λ (l : List Cost). length l) items ∙ length-replicate (length xs + 1) (Least 0);
+      many = ap (λ (l : List Cost). length l) items ∙ length-replicate n (Least 0);
       each = λ k above below. subst (λ (l : List Cost). AreTreesCost c.args.costs.now (drop k xs) (get_or l k Never)) (sym items) (rest_none c.args.costs.now xs k above below);
     }
 
