@@ -1,11 +1,13 @@
 // The least trees of context goals.
 
-ghost use Rattle.std.specs.Prelude.{◌≡◌, IfOk, All};
+ghost use Rattle.std.specs.Prelude.{◌≡◌, IfOk, IfSome, All};
 ghost use Rattle.cs_grammar.specs.Grammar.{IsRuleOf, IsSymbolOf};
 ghost use Rattle.cs_goals.specs.Goal.{IsOccurrence};
+ghost use Rattle.cs_positive.specs.Kept.{IsKeptIn};
 ghost use Rattle.cs_positive.specs.Occurrences.{IsCutAt};
 ghost use Rattle.cs_positive.specs.Verdict.{IsGoalCost, HasLeastIn, IsCodeIn};
 
+use crate::kept::{Kept, USUAL_RULES, take_around};
 use crate::sums::{joint_cost, node_cost};
 use cs_cost::{Cost, Costs};
 use cs_embed::Embeds;
@@ -68,21 +70,25 @@ pub(crate) fn derive_context(
     outer: u16,
     place: u16,
     inner: u16,
+    kept: &mut Option<Kept>,
 ) -> Result<Derivation, AllocError>
     requires embeds { embeds.now ≡ costs.now }
     requires goal { IsOccurrence costs.now.grammar outer place inner }
     requires feasible { HasLeastIn costs.now (Goal.Context outer place inner) }
-    ensures { IfOk result (IsCodeIn costs.now (Goal.Context outer place inner)) }
+    requires kept { IfSome kept.old (IsKeptIn costs.now) }
+    ensures code { IfOk result (IsCodeIn costs.now (Goal.Context outer place inner)) }
+    ensures kept { IfSome kept.new (IsKeptIn costs.now) }
 {
     let parts = occurrence_of(costs.grammar(), outer, place, inner);
-    let context = embeds.around(costs, parts.outer.left())?;
-    let mut derivation = Derivation::new(alloc);
-    derivation.extend_from_slice(&context.before)?;
+    let around = take_around(costs, embeds, parts.outer.left(), kept)?;
+    let mut derivation = Derivation::with_capacity(alloc, USUAL_RULES)?;
+    derivation.extend_from_slice(&around.context.before)?;
     derivation.push(outer)?;
     costs.all_into(parts.before, &mut derivation)?;
     derivation.push(inner)?;
     costs.all_into(parts.inner.right(), &mut derivation)?;
     costs.all_into(parts.behind, &mut derivation)?;
-    derivation.extend_from_slice(&context.after)?;
+    derivation.extend_from_slice(&around.context.after)?;
+    *kept = Some(around);
     Ok(derivation)
 }

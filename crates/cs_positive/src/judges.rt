@@ -1,11 +1,13 @@
 // What verdicts come from.
 
-ghost use Rattle.std.specs.Prelude.{IfOk};
+ghost use Rattle.std.specs.Prelude.{IfOk, IfSome};
 ghost use Rattle.cs_goals.specs.Goal.{IsGoal};
 ghost use Rattle.cs_positive.specs.Judges.{judged_by, CanJudge, IsJudge};
+ghost use Rattle.cs_positive.specs.Kept.{IsKeptIn};
 ghost use Rattle.cs_positive.specs.Verdict.{IsVerdictIn};
 
-use crate::judging::{judge, judge_tree_goal};
+use crate::judging::{judge_keeping, judge_tree_keeping};
+use crate::kept::Kept;
 use crate::tables::Tables;
 use crate::verdict::Verdict;
 use cs_cost::Costs;
@@ -24,15 +26,22 @@ pub(crate) enum Judge<'t> {
 }
 
 impl<'t> Judge<'t> {
-    pub(crate) fn verdict(&self, alloc: Global, goal: &Goal) -> Result<Verdict, AllocError>
+    pub(crate) fn verdict(
+        &self,
+        alloc: Global,
+        goal: &Goal,
+        kept: &mut Option<Kept>,
+    ) -> Result<Verdict, AllocError>
         requires judge { IsJudge self.now }
         requires goal { IsGoal (judged_by self.now).grammar goal.now }
         requires kind { CanJudge self.now goal.now }
-        ensures { IfOk result (IsVerdictIn (judged_by self.now) goal.now) }
+        requires kept { IfSome kept.old (IsKeptIn (judged_by self.now)) }
+        ensures verdict { IfOk result (IsVerdictIn (judged_by self.now) goal.now) }
+        ensures kept { IfSome kept.new (IsKeptIn (judged_by self.now)) }
     {
         match *self {
-            Judge::Tables(tables) => judge(alloc, tables, goal),
-            Judge::Trees { costs, embeds } => judge_tree_goal(alloc, costs, embeds, goal),
+            Judge::Tables(tables) => judge_keeping(alloc, tables, goal, kept),
+            Judge::Trees { costs, embeds } => judge_tree_keeping(alloc, costs, embeds, goal, kept),
         }
     }
 }

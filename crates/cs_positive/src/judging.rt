@@ -1,10 +1,12 @@
 // The verdict of a goal.
 
-ghost use Rattle.std.specs.Prelude.{◌≡◌, IfOk};
+ghost use Rattle.std.specs.Prelude.{◌≡◌, IfOk, IfSome};
 ghost use Rattle.cs_goals.specs.Goal.{IsGoal};
+ghost use Rattle.cs_positive.specs.Kept.{IsKeptIn};
 ghost use Rattle.cs_positive.specs.Verdict.{IsVerdictIn, IsTreeGoal, IsGoalCost, HasLeastIn, IsCodeIn};
 
 use crate::contexts::{context_cost, derive_context};
+use crate::kept::Kept;
 use crate::pairs::judge_pair;
 use crate::rules::{derive_rule, rule_cost};
 use crate::tables::Tables;
@@ -22,9 +24,25 @@ pub fn judge(alloc: Global, tables: &Tables, goal: &Goal) -> Result<Verdict, All
     requires { IsGoal tables.now.grammar goal.now }
     ensures { IfOk result (IsVerdictIn tables.now goal.now) }
 {
+    let mut kept = None;
+    judge_keeping(alloc, tables, goal, &mut kept)
+}
+
+// The same, by a context that is kept from goal to goal.
+pub(crate) fn judge_keeping(
+    alloc: Global,
+    tables: &Tables,
+    goal: &Goal,
+    kept: &mut Option<Kept>,
+) -> Result<Verdict, AllocError>
+    requires goal { IsGoal tables.now.grammar goal.now }
+    requires kept { IfSome kept.old (IsKeptIn tables.now) }
+    ensures verdict { IfOk result (IsVerdictIn tables.now goal.now) }
+    ensures kept { IfSome kept.new (IsKeptIn tables.now) }
+{
     match *goal {
         Goal::Pair { left, right } => judge_pair(alloc, tables, left, right),
-        _ => judge_tree_goal(alloc, &tables.costs, &tables.embeds, goal),
+        _ => judge_tree_keeping(alloc, &tables.costs, &tables.embeds, goal, kept),
     }
 }
 
@@ -40,11 +58,30 @@ pub fn judge_tree_goal(
     requires kind { IsTreeGoal goal.now }
     ensures { IfOk result (IsVerdictIn costs.now goal.now) }
 {
+    let mut kept = None;
+    judge_tree_keeping(alloc, costs, embeds, goal, &mut kept)
+}
+
+// The same, by a context that is kept from goal to goal.
+pub(crate) fn judge_tree_keeping(
+    alloc: Global,
+    costs: &Costs,
+    embeds: &Embeds,
+    goal: &Goal,
+    kept: &mut Option<Kept>,
+) -> Result<Verdict, AllocError>
+    requires embeds { embeds.now ≡ costs.now }
+    requires goal { IsGoal costs.now.grammar goal.now }
+    requires kind { IsTreeGoal goal.now }
+    requires kept { IfSome kept.old (IsKeptIn costs.now) }
+    ensures verdict { IfOk result (IsVerdictIn costs.now goal.now) }
+    ensures kept { IfSome kept.new (IsKeptIn costs.now) }
+{
     match goal_cost(costs, embeds, goal) {
         Cost::Never => Ok(Verdict::Infeasible),
         Cost::Large => Ok(Verdict::Large),
         Cost::Least(size) => {
-            let derivation = derive_goal(alloc, costs, embeds, goal)?;
+            let derivation = derive_goal(alloc, costs, embeds, goal, kept)?;
             Ok(Verdict::Feasible { size, derivation })
         }
     }
@@ -74,20 +111,23 @@ fn derive_goal(
     costs: &Costs,
     embeds: &Embeds,
     goal: &Goal,
+    kept: &mut Option<Kept>,
 ) -> Result<Derivation, AllocError>
     requires embeds { embeds.now ≡ costs.now }
     requires goal { IsGoal costs.now.grammar goal.now }
     requires kind { IsTreeGoal goal.now }
     requires feasible { HasLeastIn costs.now goal.now }
-    ensures { IfOk result (IsCodeIn costs.now goal.now) }
+    requires kept { IfSome kept.old (IsKeptIn costs.now) }
+    ensures code { IfOk result (IsCodeIn costs.now goal.now) }
+    ensures kept { IfSome kept.new (IsKeptIn costs.now) }
 {
     match *goal {
-        Goal::Rule(rule) => derive_rule(alloc, costs, embeds, rule),
+        Goal::Rule(rule) => derive_rule(alloc, costs, embeds, rule, kept),
         Goal::Context {
             outer,
             place,
             inner,
-        } => derive_context(alloc, costs, embeds, outer, place, inner),
+        } => derive_context(alloc, costs, embeds, outer, place, inner, kept),
         Goal::Pair { .. } => unreachable!(),
     }
 }

@@ -4,6 +4,7 @@ ghost use Rattle.std.specs.Prelude.{◌≡◌, false, IfOk, OnErr};
 ghost use Rattle.cs_positive.specs.Positives.{positives_of, GivesGoalOf, GivesNext};
 
 use crate::judges::Judge;
+use crate::kept::Kept;
 use crate::tables::Tables;
 use crate::verdict::Verdict;
 use cs_cost::Costs;
@@ -24,11 +25,13 @@ pub struct Positive {
 pub struct Positives<'t> {
     judge: Judge<'t>,
     goals: Goals<'t>,
+    kept: Option<Kept>,
 }
 
 impl<'t> Model for Positives<'t> {
-    ghost use Rattle.std.specs.Prelude.{All};
+    ghost use Rattle.std.specs.Prelude.{All, IfSome};
     ghost use Rattle.cs_positive.specs.Judges.{judged_by, CanJudge, IsJudge};
+    ghost use Rattle.cs_positive.specs.Kept.{IsKeptIn};
     ghost use Rattle.cs_positive.specs.Positives.{ToJudge, AreOfGrammar};
 
     ghost Value = { ToJudge };
@@ -37,7 +40,8 @@ impl<'t> Model for Positives<'t> {
 
     ghost invariant = { λ p. IsJudge p.judge
         × AreOfGrammar (judged_by p.judge).grammar p.goals
-        × All (CanJudge p.judge) p.goals };
+        × All (CanJudge p.judge) p.goals
+        × IfSome p.kept (IsKeptIn (judged_by p.judge)) };
 }
 
 impl<'t> Positives<'t> {
@@ -48,6 +52,7 @@ impl<'t> Positives<'t> {
         Positives {
             judge: Judge::Tables(tables),
             goals: Goals::new(tables.grammar(), criteria),
+            kept: None,
         }
     }
 
@@ -64,6 +69,7 @@ impl<'t> Positives<'t> {
         Positives {
             judge: Judge::Trees { costs, embeds },
             goals: Goals::new(costs.grammar(), criteria),
+            kept: None,
         }
     }
 
@@ -79,7 +85,7 @@ impl<'t> Positives<'t> {
         let Some(goal) = goals.next() else {
             return Ok(None);
         };
-        let verdict = self.judge.verdict(alloc, &goal)?;
+        let verdict = self.judge.verdict(alloc, &goal, &mut self.kept)?;
         self.goals = goals;
         Ok(Some(Positive { goal, verdict }))
     }

@@ -1,9 +1,11 @@
 // The least trees of rule goals.
 
-ghost use Rattle.std.specs.Prelude.{◌≡◌, IfOk, length};
+ghost use Rattle.std.specs.Prelude.{◌≡◌, IfOk, IfSome, length};
 ghost use Rattle.cs_grammar.specs.Grammar.{IsNumberOf};
+ghost use Rattle.cs_positive.specs.Kept.{IsKeptIn};
 ghost use Rattle.cs_positive.specs.Verdict.{IsGoalCost, HasLeastIn, IsCodeIn};
 
+use crate::kept::{Kept, USUAL_RULES, take_around};
 use crate::sums::{joint_cost, node_cost};
 use cs_cost::{Cost, Costs};
 use cs_embed::Embeds;
@@ -29,18 +31,22 @@ pub(crate) fn derive_rule(
     costs: &Costs,
     embeds: &Embeds,
     number: u16,
+    kept: &mut Option<Kept>,
 ) -> Result<Derivation, AllocError>
     requires embeds { embeds.now ≡ costs.now }
     requires number { IsNumberOf (length costs.now.grammar.rules) number }
     requires feasible { HasLeastIn costs.now (Goal.Rule number) }
-    ensures { IfOk result (IsCodeIn costs.now (Goal.Rule number)) }
+    requires kept { IfSome kept.old (IsKeptIn costs.now) }
+    ensures code { IfOk result (IsCodeIn costs.now (Goal.Rule number)) }
+    ensures kept { IfSome kept.new (IsKeptIn costs.now) }
 {
     let rule = costs.grammar().rule(number);
-    let context = embeds.around(costs, rule.left())?;
-    let mut derivation = Derivation::new(alloc);
-    derivation.extend_from_slice(&context.before)?;
+    let around = take_around(costs, embeds, rule.left(), kept)?;
+    let mut derivation = Derivation::with_capacity(alloc, USUAL_RULES)?;
+    derivation.extend_from_slice(&around.context.before)?;
     derivation.push(number)?;
     costs.all_into(rule.right(), &mut derivation)?;
-    derivation.extend_from_slice(&context.after)?;
+    derivation.extend_from_slice(&around.context.after)?;
+    *kept = Some(around);
     Ok(derivation)
 }

@@ -1,7 +1,6 @@
 use Rattle.std.proofs.Common.{ℕ, List, ◌++◌, sym, ap, ◌∙◌, subst}
 use Rattle.cs_grammar.specs.declared.symbol.Symbol.{Symbol}
 use Rattle.cs_grammar.specs.Grammar.{PlainGrammar}
-use Rattle.cs_grammar.specs.Weights.{Weighed}
 use Rattle.cs_cost.specs.Chosen.{AppendsAllChosen}
 use Rattle.cs_cost.specs.Trees.{HaveSmall}
 use Rattle.cs_embed.specs.Around.{HasLeastContext, IsAround}
@@ -18,11 +17,10 @@ parts : (c : After-occurrence_of-parts) → ContextParts c.args.costs.now.weight
 parts c =
     small_parts c.args.costs.now.weights c.args.costs.now.grammar c.args.outer c.args.place c.args.inner _ _ (cut c).is_outer (cut c).is_inner _ _ (cut c).right_side (cut c).place c.requires.feasible.0 c.requires.feasible.1
 
-pub around-requires-clause-least : goal.around-requires-clause-least
-around-requires-clause-least c =
-    let context = outer_context _ _ _ _ _ _ (parts (goal.at.around-requires-clause-least c).After-occurrence_of-parts) in
-    subst (λ (v : Weighed). HasLeastContext v.weights v.grammar c.left.result) (sym c.requires.embeds)
-    (subst (λ n. HasLeastContext c.args.costs.now.weights c.args.costs.now.grammar n) (sym c.left.ensures) context)
+pub take_around-requires-clause-least : goal.take_around-requires-clause-least
+take_around-requires-clause-least c =
+    let context = outer_context _ _ _ _ _ _ (parts (goal.at.take_around-requires-clause-least c).After-occurrence_of-parts) in
+    subst (λ n. HasLeastContext c.args.costs.now.weights c.args.costs.now.grammar n) (sym c.left.ensures) context
 
 pub all_into-requires-clause-small : goal.all_into-requires-clause-small
 all_into-requires-clause-small c = small_left _ _ _ _ _ _ (parts (goal.at.all_into-requires-clause-small c).After-occurrence_of-parts)
@@ -35,20 +33,20 @@ all_into-requires-2-clause-small c =
 pub all_into-requires-3-clause-small : goal.all_into-requires-3-clause-small
 all_into-requires-3-clause-small c = small_right _ _ _ _ _ _ (parts (goal.at.all_into-requires-3-clause-small c).After-occurrence_of-parts)
 
-pub returns : goal.returns
-returns c =
-    let at = cut (goal.at.returns c).After-occurrence_of-parts in
+pub returns-clause-code : goal.returns-clause-code
+returns-clause-code c =
+    let at = cut (goal.at.returns-clause-code c).After-occurrence_of-parts in
     let w = c.args.costs.now.weights in
     let g = c.args.costs.now.grammar in
     let o = c.occurrence_of-parts.result in
     let p = o.outer.now in
-    let before = c.in_ok-context.context.before.items in
-    let after = c.in_ok-context.context.after.items in
-    let around = subst (λ (v : Weighed). IsAround v.weights v.grammar p.left before after) c.requires.embeds
-    (subst (λ n. IsAround c.args.embeds.now.weights c.args.embeds.now.grammar n before after) c.left.ensures c.in_ok-context.ensures.chosen) in
+    let context = c.in_ok-around.around.context in
+    let before = context.before.items in
+    let after = context.after.items in
+    let around = subst (λ n. IsAround w g n before after) (c.in_ok-around.ensures.nonterminal ∙ c.left.ensures) c.in_ok-around.ensures.chosen in
     let inners = subst (λ (l : List Symbol). AppendsAllChosen w g l c.push-2.new.self c.all_into-2.new.into) c.right.ensures c.in_ok-all_into-2.ensures.ok in
     context_code w g c.args.outer c.args.place c.args.inner p o.inner.now at.is_outer at.is_inner o.before.now o.behind.now at.right_side at.place before after
     c.extend_from_slice.new.self c.push.new.self c.all_into.new.into c.push-2.new.self c.all_into-2.new.into c.all_into-3.new.into c.extend_from_slice-2.new.self around
-    (c.in_ok-extend_from_slice.ensures.ok ∙ ap (λ (l : List ℕ). l ++ c.deref.result.now) c.new-derivation.ensures ∙ c.deref.ensures.value)
+    (c.in_ok-extend_from_slice.ensures.ok ∙ ap (λ (l : List ℕ). l ++ c.deref.result.now) c.in_ok-derivation.ensures ∙ c.deref.ensures.value)
     c.in_ok-push.ensures.ok c.in_ok-all_into.ensures.ok c.in_ok-push-2.ensures.ok inners c.in_ok-all_into-3.ensures.ok
     (c.in_ok-extend_from_slice-2.ensures.ok ∙ ap (λ (l : List ℕ). c.all_into-3.new.into ++ l) c.deref-2.ensures.value)

@@ -10,4 +10,4 @@ pub invariant_of-result : goal.invariant_of-result
 invariant_of-result c =
     let g = c.args.tables.now.grammar in
     let is = c.new.ensures ∙ ap (λ (m : PlainGrammar). goals m c.args.criteria) c.grammar.ensures in
-    (tt, subst (λ (l : List Goal). AreOfGrammar g l) (sym is) (of_grammar g c.args.criteria), λ k d within. tt)
+    (tt, subst (λ (l : List Goal). AreOfGrammar g l) (sym is) (of_grammar g c.args.criteria), (λ k d within. tt), tt)

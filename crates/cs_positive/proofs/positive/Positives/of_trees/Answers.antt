@@ -12,4 +12,4 @@ pub invariant_of-result : goal.invariant_of-result
 invariant_of-result c =
     let g = c.args.costs.now.grammar in
     let is = c.new.ensures ∙ ap (λ (m : PlainGrammar). goals m c.args.criteria) c.grammar.ensures in
-    (c.requires.embeds, subst (λ (l : List Goal). AreOfGrammar g l) (sym is) (of_grammar g c.args.criteria), subst (λ (l : List Goal). All IsTreeGoal l) (sym is) (tree_goals g c.args.criteria c.requires.criteria))
+    (c.requires.embeds, subst (λ (l : List Goal). AreOfGrammar g l) (sym is) (of_grammar g c.args.criteria), subst (λ (l : List Goal). All IsTreeGoal l) (sym is) (tree_goals g c.args.criteria c.requires.criteria), tt)
