@@ -1,5 +1,5 @@
 -- How many tokens, nonterminals, rules and symbols the items can give.
-use Rattle.std.proofs.Common.{◌≡◌, ℕ, suc, ◌<◌, ◌≤◌, Bool, true, false, cond, List, [], ◌∷◌, ◌++◌, length, get_or, length-append, sym, ap, ◌∙◌, arith}
+use Rattle.std.proofs.Common.{◌≡◌, ℕ, suc, ◌<◌, ◌≤◌, Bool, true, false, cond, List, [], ◌∷◌, ◌++◌, length, get_or, length-append, ap, ◌∙◌, arith}
 use Rattle.std.specs.Prelude.{Option, Some, None, filter, not}
 use Rattle.std.specs.List.{All}
 use Rattle.std.proofs.lemmas.List.Elements.{All-nil, All-cons, All-append, All-map, All-filter}
@@ -13,7 +13,9 @@ use Rattle.cs_yacc_items.specs.Views.{placed_of, placed_all}
 use Rattle.cs_yacc.specs.declared.spelling.Spelling as code
 use Rattle.cs_yacc.specs.declared.spelled.SpelledRule as held
 use Rattle.cs_yacc.specs.SpellingView.{spelling_of, spellings_of}
+use Rattle.cs_yacc.specs.Places.{name_at, names_at}
 use Rattle.cs_yacc.specs.RuleView.{opened, next_left, rule_of, rules_in}
+use Rattle.cs_yacc.proofs.Gathering.{Gathers}
 use Rattle.cs_yacc.proofs.RuleLoop.{pending, rule_step}
 
 -- ---- words
@@ -48,6 +50,11 @@ one_word i r = omega arith
 
 pub few_in_use : (p : TokenName → Bool) (words : List TokenName) → length (distinct (filter p words)) ≤ length words
 few_in_use p words = omega (arith, distinct_few (filter p words), filter_few p words)
+
+-- those that were gathered are no more than the items
+pub few_gathered : (table more : List TokenName) (items : List Item) → Gathers table more (spelled items) → length table ≤ length items
+few_gathered table more items g =
+    omega (arith, ap length g.table_is, distinct_few g.done, length-append g.done more, ap length g.all_is, from_each_few (λ i _. spelling_at i) one_word items)
 
 -- the spellings of items are no more than the items
 pub few_words : (items : List Item) → length (distinct (spelled items)) ≤ length items
@@ -92,21 +99,21 @@ few_with_meaning_of ps = few_behind None ps
 pub few_keys : (keys : List code.Spelling) (ws : List TokenName) (n : ℕ) → spellings_of keys ≡ ws → length ws ≤ n → length keys ≤ n
 few_keys keys ws n e le = omega (arith, ap length e, length-map keys spelling_of)
 
-pub few_spelled : (held_rules : List held.SpelledRule) (rs : List SpelledRule) (n : ℕ) → rules_in held_rules ≡ rs → length rs ≤ n → length held_rules ≤ n
-few_spelled held_rules rs n e le = omega (arith, ap length e, length-map held_rules rule_of)
+pub few_spelled : (words : List TokenName) (held_rules : List held.SpelledRule) (rs : List SpelledRule) (n : ℕ) → rules_in words held_rules ≡ rs → length rs ≤ n → length held_rules ≤ n
+few_spelled words held_rules rs n e le = omega (arith, ap length e, length-map held_rules (rule_of words))
 
 -- a right side of a list of rules in which each is short
-pub right_within : (held_rules : List held.SpelledRule) (k : ℕ) (r : held.SpelledRule) (n : ℕ) → r ≡ get_or held_rules k r → k < length held_rules
-    → All (λ (s : SpelledRule). length s.right < n) (rules_in held_rules) → length r.right.items < n
-right_within held_rules k r n is lt all =
-    let at : get_or (rules_in held_rules) k (rule_of r) ≡ rule_of r = get_or-map rule_of held_rules k r (rule_of r) lt ∙ ap rule_of (sym is) in
-    let short : length (get_or (rules_in held_rules) k (rule_of r)).right < n = all k (rule_of r) (omega (arith, length-map held_rules rule_of)) in
-    let size : length (spellings_of r.right.items) < n = rw at at short in
-    omega (arith, size, length-map r.right.items spelling_of)
+pub right_within : (words : List TokenName) (held_rules : List held.SpelledRule) (k : ℕ) (r : held.SpelledRule) (n : ℕ) → k < length held_rules → All (λ (s : SpelledRule). length s.right < n) (rules_in words held_rules)
+    → length (get_or held_rules k r).right.now < n
+right_within words held_rules k r n lt all =
+    let at : get_or (rules_in words held_rules) k (rule_of words r) ≡ rule_of words (get_or held_rules k r) = get_or-map (rule_of words) held_rules k r (rule_of words r) lt in
+    let short : length (get_or (rules_in words held_rules) k (rule_of words r)).right < n = all k (rule_of words r) (omega (arith, length-map held_rules (rule_of words))) in
+    let size : length (names_at words (get_or held_rules k r).right.now) < n = rw at at short in
+    omega (arith, size, length-map (get_or held_rules k r).right.now (name_at words))
 
 -- ---- right sides
 
-few_body : (items : List Item) → length (body items) ≤ length items
+pub few_body : (items : List Item) → length (body items) ≤ length items
 few_body [] = omega arith
 few_body (name n ∷ items) = by_colon (begins_with_colon items) (few_body items)
   where

@@ -1,11 +1,11 @@
 pub mod Gathering
 pub mod TokenTables
-pub mod SymbolTables
 pub mod Loops
 pub mod RuleLoop
 pub mod Numbers
 pub mod OneFile
 pub mod Counts
+pub mod Places
 pub mod Names
 pub mod Unknown
 pub mod Fits

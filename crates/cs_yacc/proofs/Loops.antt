@@ -1,11 +1,12 @@
 -- Loops over the items, from the front.
-use Rattle.std.proofs.Common.{append_assoc, true, false, ◌≡◌, ℕ, ◌+◌, ◌<◌, ◌≤◌, Bool, List, [], ◌∷◌, ◌++◌, length, drop, get_or, refl, sym, ap, subst, ◌∙◌}
+use Rattle.std.proofs.Common.{arith, true, false, ◌≡◌, ℕ, suc, ◌+◌, ◌<◌, ◌≤◌, Bool, List, [], ◌∷◌, ◌++◌, length, drop, get_or, refl, sym, ap, subst, ◌∙◌}
 use Rattle.std.specs.Prelude.{Option, Some, None, filter}
-use Rattle.std.proofs.lemmas.List.{at_drop_more, at_drop_all, append-nil}
+use Rattle.std.proofs.lemmas.List.{at_drop_more, at_drop_all}
 use Rattle.indexmap.specs.IndexSet.{insert_all}
 use Rattle.cs_yacc_items.specs.declared.item.Placed as held
 use Rattle.cs_yacc_items.specs.declared.item.Item.TheVariants as variants
 use Rattle.cs_yacc.specs.declared.spelled.SpelledRule as prods
+use Rattle.cs_yacc.specs.Places.{names_at}
 use Rattle.cs_yacc.specs.RuleView.{rules_in}
 use Rattle.cs_yacc.specs.declared.spelling.Spelling as code
 use Rattle.cs_yacc.specs.SpellingView.{spelling_of, spellings_of}
@@ -40,22 +41,19 @@ module _ (f : Item → List Item → List TokenName) (items : List held.Placed) 
 
 -- ---- a body
 
-module _ (items : List held.Placed) (total : List TokenName) where
-  pub body_more : (k : ℕ) (p : held.Placed) (words new : List TokenName) (w : TokenName) (after : List held.Placed) → words ++ body (rest_at items k) ≡ total → k < length items → after ≡ drop (k + 1) items
-      → body (item_of (get_or items k p).item ∷ items_of (placed_all after)) ≡ w ∷ body (items_of (placed_all after)) → new ≡ words ++ w ∷ [] → new ++ body (rest_at items (k + 1)) ≡ total
-  body_more k p words new w after so_far lt e step made =
-      let here : body (rest_at items k) ≡ w ∷ body (rest_at items (k + 1)) =
-      ap body (rest_more items k p lt) ∙ subst (λ (x : List held.Placed). body (item_of (get_or items k p).item ∷ items_of (placed_all x)) ≡ w ∷ body (items_of (placed_all x))) e step in
-      rw made (append_assoc words (w ∷ []) (body (rest_at items (k + 1))) ∙ ap (λ (x : List TokenName). words ++ x) (sym here) ∙ so_far)
+module _ (items : List held.Placed) (k : ℕ) (p : held.Placed) (after : List held.Placed) (lt : k < length items) (behind : after ≡ drop (k + 1) items) where
+  body_here : body (rest_at items k) ≡ body (item_of (get_or items k p).item ∷ items_of (placed_all after))
+  body_here = ap body (rest_more items k p lt) ∙ ap (λ (x : List held.Placed). body (item_of (get_or items k p).item ∷ items_of (placed_all x))) (sym behind)
 
-  pub body_stops : (k : ℕ) (p : held.Placed) (words : List TokenName) (after : List held.Placed) → words ++ body (rest_at items k) ≡ total → k < length items → after ≡ drop (k + 1) items
-      → body (item_of (get_or items k p).item ∷ items_of (placed_all after)) ≡ [] → words ≡ total
-  body_stops k p words after so_far lt e step =
-      let here : body (rest_at items k) ≡ [] = ap body (rest_more items k p lt) ∙ subst (λ (x : List held.Placed). body (item_of (get_or items k p).item ∷ items_of (placed_all x)) ≡ []) e step in
-      sym (append-nil words) ∙ ap (λ (x : List TokenName). words ++ x) (sym here) ∙ so_far
+  pub body_more : (total : ℕ) → k + length (body (rest_at items k)) ≡ total → length (body (item_of (get_or items k p).item ∷ items_of (placed_all after))) ≡ suc (length (body (items_of (placed_all after)))) → (k + 1) + length (body (rest_at items (k + 1))) ≡ total
+  body_more total so_far step =
+      omega (arith, so_far, ap length body_here, step, ap (λ (x : List held.Placed). length (body (items_of (placed_all x)))) behind)
 
-  pub body_ends : (k : ℕ) (words : List TokenName) → words ++ body (rest_at items k) ≡ total → length items ≤ k → words ≡ total
-  body_ends k words so_far le = sym (append-nil words) ∙ ap (λ (x : List TokenName). words ++ x) (sym (ap body (rest_all items k le))) ∙ so_far
+  pub body_stops : (total : ℕ) → k + length (body (rest_at items k)) ≡ total → body (item_of (get_or items k p).item ∷ items_of (placed_all after)) ≡ [] → k ≡ total
+  body_stops total so_far step = omega (arith, so_far, ap length body_here, ap length step)
+
+pub body_ends : (items : List held.Placed) (k total : ℕ) → k + length (body (rest_at items k)) ≡ total → length items ≤ k → k ≡ total
+body_ends items k total so_far le = omega (arith, so_far, ap (λ (x : List Item). length (body x)) (rest_all items k le))
 
 -- ---- the first item that passes
 
@@ -106,8 +104,8 @@ tokens_end p words k table all g le = Gathers-ends table all (subst (λ (x : Lis
 
 -- ---- words of the rules
 
-pub used_more : (rules : List prods.SpelledRule) (k : ℕ) (p : prods.SpelledRule) (old new right : List TokenName) (all : List TokenName) → Gathers old (flat_map (λ r. r.right) (rules_in (drop k rules))) all → k < length rules
-    → right ≡ spellings_of (get_or rules k p).right.items → new ≡ insert_all same_spelling old right → Gathers new (flat_map (λ r. r.right) (rules_in (drop (k + 1) rules))) all
-used_more rules k p old new right all g lt is made =
-    let step = at_drop_more (λ xs. flat_map (λ r. r.right) (rules_in xs)) rules k p lt in
-    rw made (Gathers-more old _ (flat_map (λ r. r.right) (rules_in (drop (k + 1) rules))) all right g (rw is step))
+pub used_more : (words : List TokenName) (rules : List prods.SpelledRule) (k : ℕ) (p : prods.SpelledRule) (old new all : List TokenName) → Gathers old (flat_map (λ r. r.right) (rules_in words (drop k rules))) all → k < length rules
+    → new ≡ insert_all same_spelling old (names_at words (get_or rules k p).right.now) → Gathers new (flat_map (λ r. r.right) (rules_in words (drop (k + 1) rules))) all
+used_more words rules k p old new all g lt made =
+    let step = at_drop_more (λ xs. flat_map (λ r. r.right) (rules_in words xs)) rules k p lt in
+    rw made (Gathers-more old _ (flat_map (λ r. r.right) (rules_in words (drop (k + 1) rules))) all (names_at words (get_or rules k p).right.now) g step)

@@ -31,9 +31,9 @@ number_is v ks o n len found is size =
     rw (add-one, f) refl
 
 -- one more rule by numbers
-pub production_more : (tokens lefts : List TokenName) (rules : List prods.SpelledRule) (k : ℕ) (old new : List Production) (r : prods.SpelledRule) (p : Production) → old ≡ map (production_of tokens lefts) (rules_in (take k rules)) → k < length rules
-    → r ≡ get_or rules k r → p ≡ production_of tokens lefts (rule_of r) → new ≡ old ++ p ∷ [] → new ≡ map (production_of tokens lefts) (rules_in (take (k + 1) rules))
-production_more tokens lefts rules k old new r p so_far lt is numbers made =
+pub production_more : (words tokens lefts : List TokenName) (rules : List prods.SpelledRule) (k : ℕ) (old new : List Production) (r : prods.SpelledRule) (p : Production) → old ≡ map (production_of tokens lefts) (rules_in words (take k rules)) → k < length rules
+    → r ≡ get_or rules k r → p ≡ production_of tokens lefts (rule_of words r) → new ≡ old ++ p ∷ [] → new ≡ map (production_of tokens lefts) (rules_in words (take (k + 1) rules))
+production_more words tokens lefts rules k old new r p so_far lt is numbers made =
     let more : take (k + 1) rules ≡ take k rules ++ r ∷ [] = take_more rules k r lt ∙ ap (λ (x : prods.SpelledRule). take k rules ++ x ∷ []) (sym is) in
-    let whole : map (production_of tokens lefts) (rules_in (take (k + 1) rules)) ≡ map (production_of tokens lefts) (rules_in (take k rules)) ++ production_of tokens lefts (rule_of r) ∷ [] = ap (λ (xs : List prods.SpelledRule). map (production_of tokens lefts) (rules_in xs)) more ∙ (ap (map (production_of tokens lefts)) (map_push rule_of (take k rules) r) ∙ map_push (production_of tokens lefts) (rules_in (take k rules)) (rule_of r)) in
-    made ∙ (ap (λ (x : List Production). x ++ p ∷ []) so_far ∙ (ap (λ (x : Production). map (production_of tokens lefts) (rules_in (take k rules)) ++ x ∷ []) numbers ∙ sym whole))
+    let whole : map (production_of tokens lefts) (rules_in words (take (k + 1) rules)) ≡ map (production_of tokens lefts) (rules_in words (take k rules)) ++ production_of tokens lefts (rule_of words r) ∷ [] = ap (λ (xs : List prods.SpelledRule). map (production_of tokens lefts) (rules_in words xs)) more ∙ (ap (map (production_of tokens lefts)) (map_push (rule_of words) (take k rules) r) ∙ map_push (production_of tokens lefts) (rules_in words (take k rules)) (rule_of words r)) in
+    made ∙ (ap (λ (x : List Production). x ++ p ∷ []) so_far ∙ (ap (λ (x : Production). map (production_of tokens lefts) (rules_in words (take k rules)) ++ x ∷ []) numbers ∙ sym whole))

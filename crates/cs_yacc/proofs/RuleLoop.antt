@@ -1,15 +1,18 @@
 -- Reading the rules off the items, from the front.
 use Rattle.std.proofs.Common.{◌≡◌, ℕ, ◌+◌, ◌<◌, ◌≤◌, Bool, true, false, cond, List, [], ◌∷◌, ◌++◌, length, drop, get_or, refl, sym, ap, subst, ◌∙◌, append_assoc}
-use Rattle.std.specs.Prelude.{Option, Some, None, filter}
-use Rattle.std.proofs.lemmas.List.{append-nil}
+use Rattle.std.specs.Prelude.{Option, Some, None, filter, not}
+use Rattle.std.proofs.lemmas.List.{append-nil, map_push}
 use Rattle.std.proofs.lemmas.List.Elements.{filter-append}
 use Rattle.cs_yacc_items.specs.declared.item.Placed as held
 use Rattle.cs_yacc_items.specs.Items.{Item, mark, prologue, directive, unknown, name, literal, number, tag, block, colon, semicolon, bar, comma, items_of}
 use Rattle.cs_yacc_items.specs.Views.{item_of, placed_all}
 use Rattle.cs_yacc.specs.declared.name.TokenName.{TokenName}
 use Rattle.cs_yacc.specs.declared.name.TokenName.TheVariants.{Word}
-use Rattle.cs_yacc.specs.Meaning.{SpelledRule, bodies, rules_of, rules, is_kept, begins_with_colon}
-use Rattle.cs_yacc.specs.RuleView.{opened, next_left}
+use Rattle.cs_yacc.specs.Meaning.{SpelledRule, bodies, rules_of, rules, is_kept, begins_with_colon, has_spelling, error_spelling}
+use Rattle.cs_yacc.specs.declared.spelled.SpelledRule as code
+use Rattle.cs_yacc.specs.Places.{names_at}
+use Rattle.cs_yacc.specs.SpellingView.{spelling_of}
+use Rattle.cs_yacc.specs.RuleView.{opened, next_left, rule_of, rules_in}
 use Rattle.cs_yacc.proofs.Loops.{rest_at, rest_more, rest_all}
 
 -- the rules that the bodies make, where a left side stands before them
@@ -77,3 +80,25 @@ module _ (items : List held.Placed) (all : List SpelledRule) where
       nothing : (o : Option TokenName) → filter is_kept (pending o (bodies []) ++ rules []) ≡ []
       nothing None = refl
       nothing (Some l) = refl
+
+-- ---- one rule of the code
+
+module _ (words : List TokenName) (old new : List code.SpelledRule) (r : code.SpelledRule) (here : List SpelledRule) (right : List TokenName) (one : here ≡ record { left = spelling_of r.left; right = right } ∷ []) (same : names_at words r.right.now ≡ right) where
+  one_here : here ≡ rule_of words r ∷ []
+  one_here = one ∙ ap (λ (ws : List TokenName). record { left = spelling_of r.left; right = ws } ∷ []) (sym same)
+
+  kept_here : has_spelling (names_at words r.right.now) error_spelling ≡ false → filter is_kept here ≡ rule_of words r ∷ []
+  kept_here none = ap (filter is_kept) one_here ∙ ap (λ (b : Bool). cond (not b) (rule_of words r ∷ []) []) none
+
+  left_out_here : has_spelling (names_at words r.right.now) error_spelling ≡ true → filter is_kept here ≡ []
+  left_out_here has = ap (filter is_kept) one_here ∙ ap (λ (b : Bool). cond (not b) (rule_of words r ∷ []) []) has
+
+  pub rule_added : has_spelling (names_at words r.right.now) error_spelling ≡ false → new ≡ old ++ r ∷ [] → rules_in words new ≡ rules_in words old ++ filter is_kept here
+  rule_added none made = ap (rules_in words) made ∙ (map_push (rule_of words) old r ∙ ap (λ (x : List SpelledRule). rules_in words old ++ x) (sym (kept_here none)))
+
+pub no_rule : (words : List TokenName) (old : List code.SpelledRule) (here : List SpelledRule) → here ≡ [] → rules_in words old ≡ rules_in words old ++ filter is_kept here
+no_rule words old here none = sym (append-nil (rules_in words old)) ∙ ap (λ (x : List SpelledRule). rules_in words old ++ filter is_kept x) (sym none)
+
+pub rule_left_out : (words : List TokenName) (old : List code.SpelledRule) (r : code.SpelledRule) (here : List SpelledRule) (right : List TokenName) → here ≡ record { left = spelling_of r.left; right = right } ∷ [] → names_at words r.right.now ≡ right
+    → has_spelling (names_at words r.right.now) error_spelling ≡ true → rules_in words old ≡ rules_in words old ++ filter is_kept here
+rule_left_out words old r here right one same has = sym (append-nil (rules_in words old)) ∙ ap (λ (x : List SpelledRule). rules_in words old ++ x) (sym (left_out_here words old old r here right one same has))

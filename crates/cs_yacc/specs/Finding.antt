@@ -1,5 +1,5 @@
 -- What the steps of reading answer.
-use Rattle.std.specs.Prelude.{◌≡◌, Bool, true, false, not, ◌&&◌, List, Option, Some, None, option_map, Result, Ok, Err, filter}
+use Rattle.std.specs.Prelude.{◌≡◌, ℕ, Bool, true, false, not, ◌&&◌, List, Option, Some, None, option_map, Result, Ok, Err, filter}
 use Rattle.std.specs.List.{All}
 use Rattle.std.specs.Option.{option_to_list, option_or}
 use Rattle.cs_yacc.specs.declared.error.YaccError.{YaccError}
@@ -64,6 +64,10 @@ left_in spelled start items = left_parts spelled (placed_of_some start) (placed_
 -- the parts make a file, if they pass no limit
 abbrev pub FitsLimits : Parts → Type 0
 FitsLimits p = limit_passed p ≡ None → IsFile (file_with p)
+
+-- the offset of the first name behind the first mark that is neither declared nor a left side
+abbrev pub undefined_in : List TokenName → List TokenName → List held.Placed → Option ℕ
+undefined_in declared lefts items = first_undefined declared lefts (behind_mark (placed_all items))
 
 abbrev pub later_fault : Option held.Placed → List held.Placed → List TokenName → List TokenName → Option YaccError
 later_fault start items declared lefts = fault_behind_start (placed_of_some start) (placed_all items) declared lefts

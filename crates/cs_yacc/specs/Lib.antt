@@ -3,6 +3,7 @@ pub mod File
 pub mod Meaning
 pub mod Reading
 pub mod SpellingView
+pub mod Places
 pub mod RuleView
 pub mod Finding
 pub mod PartsView

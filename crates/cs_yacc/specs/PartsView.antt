@@ -10,5 +10,5 @@ parts_in p = record {
   tokens = p.tokens;
   nonterminals = p.lefts;
   start = placed_all (option_to_list p.start);
-  rules = rules_in p.rules.items;
+  rules = rules_in p.words.now p.rules.items;
 }

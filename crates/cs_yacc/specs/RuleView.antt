@@ -1,5 +1,6 @@
 -- What the code's rules are.
-use Rattle.std.specs.Prelude.{◌≡◌, List, [], ◌∷◌, ◌++◌, filter, map, Option, Some, None, if◌then◌else◌}
+use Rattle.std.specs.Prelude.{◌≡◌, Bool, true, false, suc, List, [], ◌∷◌, ◌++◌, length, filter, map, Option, Some, None, if◌then◌else◌}
+use Rattle.std.specs.Global.{Vec}
 use Rattle.cs_yacc.specs.declared.spelled.SpelledRule as held
 use Rattle.cs_yacc.specs.declared.spelling.Spelling as code
 use Rattle.cs_yacc.specs.declared.name.TokenName.{TokenName}
@@ -9,13 +10,15 @@ use Rattle.cs_yacc.specs.Meaning.{SpelledRule, body, begins_with_colon, is_kept}
 use Rattle.cs_yacc_items.specs.declared.item.Item as items
 use Rattle.cs_yacc_items.specs.declared.item.Placed as items_held
 use Rattle.cs_yacc_items.specs.Views.{item_of}
-use Rattle.cs_yacc.specs.SpellingView.{spelling_of, spellings_of, left_of, items_in}
+use Rattle.cs_yacc.specs.SpellingView.{spelling_of, left_of, items_in}
+use Rattle.cs_yacc.specs.Places.{names_at}
 
-abbrev pub rule_of : held.SpelledRule → SpelledRule
-rule_of r = record { left = spelling_of r.left; right = spellings_of r.right.items }
+-- a rule whose body is given by places in this list
+abbrev pub rule_of : List TokenName → held.SpelledRule → SpelledRule
+rule_of words r = record { left = spelling_of r.left; right = names_at words r.right.now }
 
-abbrev pub rules_in : List held.SpelledRule → List SpelledRule
-rules_in = map rule_of
+abbrev pub rules_in : List TokenName → List held.SpelledRule → List SpelledRule
+rules_in words rules = map (rule_of words) rules
 
 -- the rule that an item opens, where a left side stands before
 abbrev pub opened : Option TokenName → Item → List Item → List SpelledRule
@@ -28,11 +31,16 @@ abbrev pub next_left : Option TokenName → Item → List Item → Option TokenN
 next_left left (name n) items = if begins_with_colon items then Some (Word n) else left
 next_left left i items = left
 
--- what the code says of the item that stands next: it adds this spelling to its body, or the body ends before it
-abbrev pub GoesOn : Option code.Spelling → Item → List Item → Type 0
-GoesOn None i items = body (i ∷ items) ≡ []
-GoesOn (Some w) i items = body (i ∷ items) ≡ spelling_of w ∷ body items
+-- what the code says of the item that stands next: its body has it and goes on, or ends before it
+abbrev pub GoesOn : Bool → Item → List Item → Type 0
+GoesOn true i items = length (body (i ∷ items)) ≡ suc (length (body items))
+GoesOn false i items = body (i ∷ items) ≡ []
+
+-- what the code says of the item behind this left side: it opens a body of this one, or none
+abbrev pub Opens : Option code.Spelling → Option code.Spelling → items.Item → Type 0
+Opens None left item = (rest : List Item) → opened (left_of left) (item_of item) rest ≡ []
+Opens (Some w) left item = (rest : List Item) → opened (left_of left) (item_of item) rest ≡ record { left = spelling_of w; right = body rest } ∷ []
 
 -- to the rules the one is added that an item opens behind this left side, if it is kept
-abbrev pub AddsRule : List held.SpelledRule → List held.SpelledRule → Option code.Spelling → items.Item → List items_held.Placed → Type 0
-AddsRule was now left item rest = rules_in now ≡ rules_in was ++ filter is_kept (opened (left_of left) (item_of item) (items_in rest))
+abbrev pub AddsRule : List TokenName → Vec held.SpelledRule → Vec held.SpelledRule → Option code.Spelling → items.Item → List items_held.Placed → Type 0
+AddsRule words was now left item rest = rules_in words now.items ≡ rules_in words was.items ++ filter is_kept (opened (left_of left) (item_of item) (items_in rest))

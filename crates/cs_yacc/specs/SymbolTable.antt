@@ -1,15 +1,10 @@
--- A table that gives the symbol of a spelling.
-use Rattle.std.specs.Prelude.{◌≡◌, List, Option, Some}
-use Rattle.std.specs.Map.{lookup}
+-- A table of symbols.
+use Rattle.std.specs.Prelude.{◌≡◌, List}
 use Rattle.cs_grammar.specs.declared.symbol.Symbol.{Symbol}
-use Rattle.cs_yacc.specs.declared.spelling.Spelling as code
-use Rattle.cs_yacc.specs.Meaning.{Parts, symbol_in, same_spelling}
-use Rattle.cs_yacc.specs.SpellingView.{spelling_of}
+use Rattle.cs_yacc.specs.declared.accepted.Accepted as code
+use Rattle.cs_yacc.specs.Meaning.{symbols_in}
+use Rattle.cs_yacc.specs.AcceptedView.{parts_at, words_at}
 
--- what the entries have at a spelling
-abbrev pub symbol_at : List (code.Spelling × Symbol) → code.Spelling → Option Symbol
-symbol_at entries v = lookup (λ k. same_spelling (spelling_of v) (spelling_of k)) entries
-
--- what the entries have at a spelling is its symbol
-abbrev pub HasSymbols : List (code.Spelling × Symbol) → Parts → Type 0
-HasSymbols entries p = (v : code.Spelling) (s : Symbol) → symbol_at entries v ≡ Some s → s ≡ symbol_in p (spelling_of v)
+-- the symbols of all spellings of the file, in their order
+abbrev pub IsTable : List Symbol → code.Accepted → Type 0
+IsTable table f = table ≡ symbols_in (parts_at f) (words_at f)

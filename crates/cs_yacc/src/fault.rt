@@ -5,7 +5,7 @@ ghost use Rattle.std.specs.List.{list_any};
 ghost use Rattle.std.specs.Option.{option_to_list};
 ghost use Rattle.cs_yacc.specs.Meaning as spec;
 ghost use Rattle.cs_yacc_items.specs.Views.{item_of, placed_all};
-ghost use Rattle.cs_yacc.specs.Finding.{later_fault, is_unknown, HoldsSpellings};
+ghost use Rattle.cs_yacc.specs.Finding.{later_fault, undefined_in, is_unknown, HoldsSpellings};
 ghost use Rattle.cs_yacc.specs.SpellingView.{spelling_of, items_in};
 
 use crate::error::YaccError;
@@ -151,8 +151,7 @@ fn undefined_name(
     lefts: &Spellings<'_>,
 ) -> Option<u32>
     requires { HoldsSpellings spelled.now (items_in items.now) }
-    ensures { result ≡ spec.first_undefined declared.now lefts.now
-        (spec.behind_mark (placed_all items.now)) }
+    ensures { result ≡ undefined_in declared.now lefts.now items.now }
 {
     if has_unknown(spelled, declared, lefts) {
         first_undefined(behind_mark(items), declared, lefts)

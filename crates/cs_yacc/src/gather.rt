@@ -5,11 +5,12 @@ ghost use Rattle.cs_yacc_items.specs.Views.{item_of};
 ghost use Rattle.cs_yacc.specs.Meaning as spec;
 ghost use Rattle.cs_yacc.specs.Meaning.{listed, declared_at};
 ghost use Rattle.cs_yacc.specs.Finding.{used_among};
+ghost use Rattle.cs_yacc.specs.Places.{names_at};
 ghost use Rattle.cs_yacc.specs.RuleView.{rules_in};
-ghost use Rattle.cs_yacc.specs.SpellingView.{spelling_of, spellings_of, spellings_in, items_in, and_all};
+ghost use Rattle.cs_yacc.specs.SpellingView.{spelling_of, spellings_in, items_in, and_all};
 
 use crate::spelled::SpelledRule;
-use crate::spelling::{Spelling, Spellings, spelling_at};
+use crate::spelling::{Spelling, Spellings};
 use cs_yacc_items::{Directive, Item, Placed};
 use std::alloc::{AllocError, Global};
 
@@ -96,33 +97,31 @@ pub fn declared<'a>(alloc: Global, items: &[Placed<'a>]) -> Result<Spellings<'a>
     Ok(spellings)
 }
 
-fn add_all<'a>(spellings: &mut Spellings<'a>, right: &[Spelling<'a>]) -> Result<(), AllocError>
-    ensures { OnOk result (spellings.new ≡ and_all spellings.old (spellings_of right.now)) }
+fn add_all<'a>(
+    spellings: &mut Spellings<'a>,
+    words: &Spellings<'a>,
+    places: &[u32],
+) -> Result<(), AllocError>
+    ensures { OnOk result
+        (spellings.new ≡ and_all spellings.old (names_at words.now places.now)) }
 {
-    for spelling in right {
-        spellings.add(*spelling)?;
+    for place in places {
+        spellings.add(words.at(*place))?;
     }
     Ok(())
 }
 
-/// The spellings of the rules' right sides, each once.
-pub fn used<'a>(alloc: Global, rules: &[SpelledRule<'a>]) -> Result<Spellings<'a>, AllocError>
-    ensures { IfOk result (λ s. s ≡ spec.used (rules_in rules.now)) }
+/// The spellings of the rules' right sides, each once; these give places among `words`.
+pub fn used<'a>(
+    alloc: Global,
+    words: &Spellings<'a>,
+    rules: &[SpelledRule<'_, 'a>],
+) -> Result<Spellings<'a>, AllocError>
+    ensures { IfOk result (λ s. s ≡ spec.used (rules_in words.now rules.now)) }
 {
     let mut spellings = Spellings::new(alloc);
     for rule in rules {
-        add_all(&mut spellings, &rule.right)?;
-    }
-    Ok(spellings)
-}
-
-/// The spellings of the items, each once.
-pub fn spelled<'a>(alloc: Global, items: &[Placed<'a>]) -> Result<Spellings<'a>, AllocError>
-    ensures { IfOk result (λ s. s ≡ spec.distinct (spec.spelled (items_in items.now))) }
-{
-    let mut spellings = Spellings::new(alloc);
-    for placed in items {
-        spellings.add_some(spelling_at(placed.item))?;
+        add_all(&mut spellings, words, rule.right)?;
     }
     Ok(spellings)
 }

@@ -1,15 +1,12 @@
 // Limits of a file.
 
-ghost use Rattle.std.specs.Prelude.{◌≡◌, ◌<◌, ◌^◌, length};
-ghost use Rattle.std.specs.List.{All};
+ghost use Rattle.std.specs.Prelude.{◌<◌, ◌^◌};
 ghost use Rattle.cs_yacc.specs.Meaning as spec;
 ghost use Rattle.cs_yacc.specs.Finding.{FindsFault};
 ghost use Rattle.cs_yacc.specs.PartsView.{parts_in};
-ghost use Rattle.cs_yacc.specs.RuleView.{rules_in};
 
 use crate::error::{YaccError, YaccLimit};
 use crate::parts::Parts;
-use crate::spelled::SpelledRule;
 use cs_grammar::{MOST_NONTERMINALS, MOST_RULES, MOST_SYMBOLS, MOST_TOKENS};
 
 fn check_limit(which: YaccLimit, found: usize, most: u32) -> Result<(), YaccError>
@@ -23,18 +20,17 @@ fn check_limit(which: YaccLimit, found: usize, most: u32) -> Result<(), YaccErro
     Ok(())
 }
 
-fn check_rights(rules: &[SpelledRule<'_>]) -> Result<(), YaccError>
-    requires { All (λ r. length r.right < 2 ^ 32) (rules_in rules.now) }
-    ensures { FindsFault result (spec.long_right (rules_in rules.now)) }
+fn check_rights(parts: &Parts<'_, '_>) -> Result<(), YaccError>
+    ensures { FindsFault result (spec.long_right (parts_in parts.now).rules) }
 {
-    for rule in rules {
+    for rule in &parts.rules {
         check_limit(YaccLimit::RightSide, rule.right.len(), MOST_SYMBOLS as u32)?;
     }
     Ok(())
 }
 
 /// The first limit that the parts pass.
-pub fn check_limits(parts: &Parts<'_>) -> Result<(), YaccError>
+pub fn check_limits(parts: &Parts<'_, '_>) -> Result<(), YaccError>
     ensures { FindsFault result (spec.limit_passed (parts_in parts.now)) }
 {
     check_limit(
@@ -48,5 +44,5 @@ pub fn check_limits(parts: &Parts<'_>) -> Result<(), YaccError>
         u32::from(MOST_NONTERMINALS),
     )?;
     check_limit(YaccLimit::Rules, parts.rules.len(), MOST_RULES as u32)?;
-    check_rights(&parts.rules)
+    check_rights(parts)
 }

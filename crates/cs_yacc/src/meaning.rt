@@ -1,10 +1,16 @@
-// The items that have a meaning.
+// The items that have a meaning, and the spellings of all.
 
-ghost use Rattle.std.specs.Prelude.{◌≡◌, option_map};
+ghost use Rattle.std.specs.Prelude.{◌≡◌, ◌≤◌, IfOk, length, option_map};
+ghost use Rattle.cs_yacc_items.specs.Limits.{most_bytes};
 ghost use Rattle.cs_yacc.specs.Meaning as spec;
+ghost use Rattle.cs_yacc.specs.Meaning.{distinct, spelled};
+ghost use Rattle.cs_yacc.specs.Places.{meant_in, HasPlaces};
+ghost use Rattle.cs_yacc.specs.SpellingView.{items_in};
 ghost use Rattle.cs_yacc_items.specs.Views.{item_of, placed_all};
 
+use crate::spelling::Spellings;
 use cs_yacc_items::{Directive, Item, Placed};
+use std::alloc::{AllocError, Global};
 
 fn is_prec(item: Item<'_>) -> bool
     ensures { result ≡ spec.is_prec (item_of item.entry) }
@@ -36,21 +42,41 @@ fn has_meaning(before: Option<Item<'_>>, item: Item<'_>) -> bool
     !behind_prec && !is_idle(item)
 }
 
-/// The items without those that have no meaning: the idle ones, and those directly behind `%prec`.
-pub fn with_meaning<'a>(items: Vec<Placed<'a>>) -> Vec<Placed<'a>>
-    ensures { placed_all result.items ≡ spec.with_meaning (placed_all items.entry.items) }
+/// The items that have a meaning, the spellings of all items, each once, and the place among these of each of those.
+#[derive(Drop)]
+pub struct Meant<'a> {
+    pub items: Vec<Placed<'a>>,
+    pub words: Spellings<'a>,
+    pub places: Vec<u32>,
+}
+
+/// Leaves out the items that have no meaning: the idle ones, and those directly behind `%prec`.
+pub fn with_meaning<'a>(alloc: Global, items: Vec<Placed<'a>>) -> Result<Meant<'a>, AllocError>
+    requires { length items.items ≤ most_bytes }
+    ensures items { IfOk result (λ m.
+        meant_in m ≡ spec.with_meaning (placed_all items.entry.items)) }
+    ensures words { IfOk result (λ m. m.words ≡ distinct (spelled (items_in items.entry.items))) }
+    ensures places { IfOk result HasPlaces }
 {
     let mut items = items;
+    let mut words = Spellings::new(alloc);
+    let mut places = Vec::with_capacity(alloc, items.len())?;
     let mut before = None;
     let mut kept = 0;
     for index in 0..items.len() {
         let placed = items[index];
+        let place = words.place_of(placed.item)?;
         if has_meaning(before, placed.item) {
             items[kept] = placed;
+            places.push(place)?;
             kept += 1;
         }
         before = Some(placed.item);
     }
     items.truncate(kept);
-    items
+    Ok(Meant {
+        items,
+        words,
+        places,
+    })
 }

@@ -8,15 +8,17 @@ use crate::spelled::SpelledRule;
 use crate::spelling::Spellings;
 use cs_yacc_items::Placed;
 
-/// The tokens in use, the left sides, the item that names the start symbol, if one does, and the rules.
+/// The spellings of all items, the tokens in use among them, the left sides, the item that names the start symbol, if one
+/// does, and the rules, whose bodies give places among the spellings.
 #[derive(Drop)]
-pub struct Parts<'a> {
+pub struct Parts<'p, 'a> {
+    pub words: &'p Spellings<'a>,
     pub tokens: Spellings<'a>,
     pub lefts: Spellings<'a>,
     pub start: Option<Placed<'a>>,
-    pub rules: Vec<SpelledRule<'a>>,
+    pub rules: Vec<SpelledRule<'p, 'a>>,
     ghost few_tokens: { length tokens < 2 ^ 32 },
     ghost few_lefts: { length lefts < 2 ^ 32 },
     ghost few_rules: { length rules.items < 2 ^ 32 },
-    ghost short: { All (λ r. length r.right < 2 ^ 32) (rules_in rules.items) },
+    ghost short: { All (λ r. length r.right < 2 ^ 32) (rules_in words.now rules.items) },
 }

@@ -10,6 +10,7 @@ ghost use Rattle.cs_yacc.specs.Meaning as spec;
 ghost use Rattle.cs_yacc.specs.Meaning.{file_or_limit as given_by};
 ghost use Rattle.cs_yacc.specs.AcceptedView.{parts_at};
 ghost use Rattle.cs_yacc.specs.PartsView.{parts_in};
+ghost use Rattle.cs_yacc.specs.Places.{HasPlaces};
 ghost use Rattle.cs_yacc.specs.Reading.{Answers};
 ghost use Rattle.cs_yacc.specs.SpellingView.{spelling_of, spellings_of, items_in};
 
@@ -17,9 +18,9 @@ use crate::accepted::Accepted;
 use crate::error::YaccError;
 use crate::fault::{name_fault, second_start, start_item};
 use crate::file::YaccFile;
-use crate::gather::{declared, nonterminals, spelled, tokens, used};
+use crate::gather::{declared, nonterminals, tokens, used};
 use crate::limit::check_limits;
-use crate::meaning::with_meaning;
+use crate::meaning::{Meant, with_meaning};
 use crate::name::{Name, TokenName};
 use crate::number::{productions, start_number};
 use crate::parts::Parts;
@@ -68,7 +69,7 @@ fn nonterminal_names(alloc: Global, spellings: &[Spelling<'_>]) -> Result<Vec<Na
     Ok(names)
 }
 
-fn build(alloc: Global, file: &Accepted<'_, '_>) -> Result<YaccFile, AllocError>
+fn build(alloc: Global, file: &Accepted<'_, '_, '_>) -> Result<YaccFile, AllocError>
     requires { IsFile (spec.file_with (parts_at file.now)) }
     ensures { IfOk result (λ f. f ≡ spec.file_with (parts_at file.now)) }
 {
@@ -87,7 +88,7 @@ fn build(alloc: Global, file: &Accepted<'_, '_>) -> Result<YaccFile, AllocError>
 }
 
 /// The file that the parts make, or the first limit that they pass.
-fn file_or_limit(alloc: Global, parts: &Parts<'_>) -> Result<YaccFile, YaccError>
+fn file_or_limit(alloc: Global, parts: &Parts<'_, '_>) -> Result<YaccFile, YaccError>
     requires { FitsLimits (parts_in parts.now) }
     ensures { IsGiven result (spec.file_or_limit (parts_in parts.now)) }
 {
@@ -100,24 +101,27 @@ fn file_or_limit(alloc: Global, parts: &Parts<'_>) -> Result<YaccFile, YaccError
     }
 }
 
-/// What the items with a meaning give, where no name is at fault; `spelled` are the spellings of all items.
+/// What the items with a meaning give, where no name is at fault.
 fn file_of<'a>(
     alloc: Global,
-    spelled: &Spellings<'a>,
+    meant: &Meant<'a>,
     start: Option<Placed<'a>>,
-    items: &[Placed<'a>],
     lefts: Spellings<'a>,
 ) -> Result<YaccFile, YaccError>
-    requires few { length items.now ≤ most_bytes }
-    requires few_spelled { length spelled.now ≤ most_bytes }
-    requires lefts { lefts ≡ spec.nonterminals (items_in items.now) }
-    requires fits { FitsLimits (left_in spelled.now start items.now) }
-    ensures { IsGiven result (given_by (left_in spelled.now start.entry items.now)) }
+    requires few { length meant.now.items.items ≤ most_bytes }
+    requires few_words { length meant.now.words ≤ most_bytes }
+    requires places { HasPlaces meant.now }
+    requires lefts { lefts ≡ spec.nonterminals (items_in meant.now.items.items) }
+    requires fits { FitsLimits (left_in meant.now.words start meant.now.items.items) }
+    ensures { IsGiven result
+        (given_by (left_in meant.now.words start.entry meant.now.items.items)) }
 {
-    let rules = kept_rules(alloc, items)?;
-    let used = used(alloc, &rules)?;
-    let tokens = tokens(alloc, spelled, &used, &lefts)?;
+    let words = &meant.words;
+    let rules = kept_rules(alloc, words, &meant.items, &meant.places)?;
+    let used = used(alloc, words, &rules)?;
+    let tokens = tokens(alloc, words, &used, &lefts)?;
     let parts = Parts {
+        words,
         tokens,
         lefts,
         start,
@@ -136,13 +140,12 @@ fn meaning(alloc: Global, all: Vec<Placed<'_>>) -> Result<YaccFile, YaccError>
         return Err(YaccError::SecondStart { at });
     }
     let start = start_item(&all);
-    let spelled = spelled(alloc, &all)?;
-    let items = with_meaning(all);
-    let declared = declared(alloc, &items)?;
-    let lefts = nonterminals(alloc, &items)?;
-    match name_fault(start, &items, &spelled, &declared, &lefts) {
+    let meant = with_meaning(alloc, all)?;
+    let declared = declared(alloc, &meant.items)?;
+    let lefts = nonterminals(alloc, &meant.items)?;
+    match name_fault(start, &meant.items, &meant.words, &declared, &lefts) {
         Some(fault) => Err(fault),
-        None => file_of(alloc, &spelled, start, &items, lefts),
+        None => file_of(alloc, &meant, start, lefts),
     }
 }
 

@@ -1,49 +1,53 @@
 // The rules, as the file spells them.
 
-ghost use Rattle.std.specs.Prelude.{◌≡◌, IfOk, OnOk};
+ghost use Rattle.std.specs.Prelude.{◌≡◌, IfOk, OnOk, length, take};
 ghost use Rattle.cs_yacc.specs.Meaning as spec;
+ghost use Rattle.cs_yacc.specs.Places.{ArePlaces};
 ghost use Rattle.cs_yacc_items.specs.Views.{item_of};
-ghost use Rattle.cs_yacc.specs.SpellingView.{spellings_of, items_in, left_of};
-ghost use Rattle.cs_yacc.specs.RuleView.{rules_in, next_left, GoesOn, AddsRule};
+ghost use Rattle.cs_yacc.specs.SpellingView.{items_in, left_of};
+ghost use Rattle.cs_yacc.specs.RuleView.{rules_in, next_left, GoesOn, Opens, AddsRule};
 
 use crate::gather::{begins_with_colon, behind, left_at};
-use crate::spelling::{Spelling, holds_error};
+use crate::spelling::{Spelling, Spellings};
 use cs_yacc_items::{Item, Placed};
 use std::alloc::{AllocError, Global};
 
-// Most bodies need no more room than this, which they are given at once.
-const USUAL_SYMBOLS: usize = 8;
-
-/// A left side and one of its bodies.
-#[derive(Debug, Drop)]
-pub struct SpelledRule<'a> {
+/// A left side and one of its bodies, by the places of its spellings among those of all items.
+#[derive(Clone, Copy, Debug)]
+pub struct SpelledRule<'p, 'a> {
     pub left: Spelling<'a>,
-    pub right: Vec<Spelling<'a>>,
+    pub right: &'p [u32],
 }
 
-/// The spelling that the item adds to its body; `None` where the body ends before the item.
-fn spelling_next<'a>(item: Item<'a>, behind: &[Placed<'a>]) -> Option<Spelling<'a>>
+/// Whether the body goes on with the item.
+fn goes_on(item: Item<'_>, behind: &[Placed<'_>]) -> bool
     ensures { GoesOn result (item_of item.entry) (items_in behind.now) }
 {
     match item {
-        Item::Name(name) if !begins_with_colon(behind) => Some(Spelling::Named(name)),
-        Item::Literal(byte) => Some(Spelling::Quoted(byte)),
-        _ => None,
+        Item::Name(_) if !begins_with_colon(behind) => true,
+        Item::Literal(_) => true,
+        _ => false,
     }
 }
 
-/// The spellings of the body that begins here.
-fn body<'a>(alloc: Global, items: &[Placed<'a>]) -> Result<Vec<Spelling<'a>>, AllocError>
-    ensures { IfOk result (λ v. spellings_of v.items ≡ spec.body (items_in items.now)) }
+/// How many items the body has that begins here.
+fn body_len(items: &[Placed<'_>]) -> usize
+    ensures { result ≡ length (spec.body (items_in items.now)) }
 {
-    let mut spellings = Vec::with_capacity(alloc, USUAL_SYMBOLS)?;
     for (index, placed) in items.iter().enumerate() {
-        match spelling_next(placed.item, behind(items, index)) {
-            Some(spelling) => spellings.push(spelling)?,
-            None => return Ok(spellings),
+        if !goes_on(placed.item, behind(items, index)) {
+            return index;
         }
     }
-    Ok(spellings)
+    items.len()
+}
+
+/// The places of the body that begins here.
+fn body<'p>(items: &[Placed<'_>], places: &'p [u32]) -> &'p [u32]
+    requires { length items.now ≡ length places.now }
+    ensures { result.now ≡ take (length (spec.body (items_in items.now))) places.now }
+{
+    &places[..body_len(items)]
 }
 
 /// The left side of the bodies behind the item.
@@ -61,42 +65,59 @@ fn left_behind<'a>(
     }
 }
 
+/// The left side, where the item opens one of its bodies.
+fn opening<'a>(left: Option<Spelling<'a>>, item: Item<'a>) -> Option<Spelling<'a>>
+    ensures { Opens result left.entry item.entry }
+{
+    match (left, item) {
+        (Some(left), Item::Colon | Item::Bar) => Some(left),
+        _ => None,
+    }
+}
+
 /// Adds the rule whose body the item opens, unless the body holds `error`.
-fn push_rule<'a>(
-    alloc: Global,
-    rules: &mut Vec<SpelledRule<'a>>,
+fn push_rule<'p, 'a>(
+    rules: &mut Vec<SpelledRule<'p, 'a>>,
+    words: &Spellings<'a>,
     left: Option<Spelling<'a>>,
     item: Item<'a>,
     behind: &[Placed<'a>],
+    places: &'p [u32],
 ) -> Result<(), AllocError>
+    requires { ArePlaces words.now (items_in behind.now) places.now }
     ensures { OnOk result
-        (AddsRule rules.old.items rules.new.items left.entry item.entry behind.now) }
+        (AddsRule words.now rules.old rules.new left.entry item.entry behind.now) }
 {
-    match (left, item) {
-        (Some(left), Item::Colon | Item::Bar) => {
-            let right = body(alloc, behind)?;
-            if !holds_error(&right) {
+    match opening(left, item) {
+        Some(left) => {
+            let right = body(behind, places);
+            if !words.holds_error(right) {
                 rules.push(SpelledRule { left, right })?;
             }
             Ok(())
         }
-        _ => Ok(()),
+        None => Ok(()),
     }
 }
 
-/// The rules without those whose body holds `error`, in the file's order.
-pub fn kept_rules<'a>(
+/// The rules without those whose body holds `error`, in the file's order. The places are those of the items among the
+/// spellings.
+pub fn kept_rules<'p, 'a>(
     alloc: Global,
+    words: &Spellings<'a>,
     items: &[Placed<'a>],
-) -> Result<Vec<SpelledRule<'a>>, AllocError>
-    ensures { IfOk result (λ v. rules_in v.items ≡ spec.kept (items_in items.now)) }
+    places: &'p [u32],
+) -> Result<Vec<SpelledRule<'p, 'a>>, AllocError>
+    requires { ArePlaces words.now (items_in items.now) places.now }
+    ensures { IfOk result (λ v. rules_in words.now v.items ≡ spec.kept (items_in items.now)) }
 {
     let mut rules = Vec::new(alloc);
     let mut left = None;
     for (index, placed) in items.iter().enumerate() {
         let after = behind(items, index);
         left = left_behind(left, placed.item, after);
-        push_rule(alloc, &mut rules, left, placed.item, after)?;
+        let rest = &places[index + 1..];
+        push_rule(&mut rules, words, left, placed.item, after, rest)?;
     }
     Ok(rules)
 }

@@ -1,7 +1,8 @@
 // Spellings of symbols, and lists in which each stands once.
 
-ghost use Rattle.std.specs.Prelude.{◌≡◌, ◌+◌, ◌^◌, ◌<◌, [], OnOk, length};
+ghost use Rattle.std.specs.Prelude.{◌≡◌, ◌+◌, ◌^◌, ◌<◌, [], IfOk, OnOk, Some, length, slice_get};
 ghost use Rattle.cs_yacc.specs.Meaning as spec;
+ghost use Rattle.cs_yacc.specs.Places.{name_at, names_at, IsPlace};
 ghost use Rattle.cs_yacc_items.specs.Views.{item_of};
 ghost use Rattle.cs_yacc.specs.SpellingView.{spelling_of, spellings_of, spellings_in, and_one, and_all};
 
@@ -46,17 +47,8 @@ pub fn spelling_at(item: Item<'_>) -> Option<Spelling<'_>>
     }
 }
 
-/// Whether the spellings hold the name `error`.
-pub fn holds_error(spellings: &[Spelling<'_>]) -> bool
-    ensures { result ≡ spec.has_spelling (spellings_of spellings.now) spec.error_spelling }
-{
-    for spelling in spellings {
-        if *spelling == Spelling::Named(b"error") {
-            return true;
-        }
-    }
-    false
-}
+/// The place of an item without a spelling.
+const NO_PLACE: u32 = u32::MAX;
 
 /// Spellings, each once, in the order in which they came. Contracts see them as a list of names.
 #[derive(Debug, Drop)]
@@ -101,6 +93,52 @@ impl<'a> Spellings<'a> {
             Some(spelling) => self.add(spelling),
             None => Ok(()),
         }
+    }
+
+    /// Puts the spelling last, if it is missing, and answers its place.
+    pub fn place(&mut self, spelling: Spelling<'a>) -> Result<u32, AllocError>
+        requires { length self.old < 2 ^ 32 }
+        ensures words { OnOk result (self.new ≡ and_one self.old (spelling_of spelling.entry)) }
+        ensures place { IfOk result (λ k.
+            slice_get self.new k ≡ Some (spelling_of spelling.entry)) }
+    {
+        let (place, _) = self.set.insert_full(spelling)?;
+        Ok(place as u32)
+    }
+
+    /// Puts the spelling of the item last, if it has one and it is missing, and answers its place.
+    pub fn place_of(&mut self, item: Item<'a>) -> Result<u32, AllocError>
+        requires { length self.old < 2 ^ 32 }
+        ensures words { OnOk result
+            (self.new ≡ and_all self.old (spec.spelling_at (item_of item.entry))) }
+        ensures place { IfOk result (λ k. IsPlace self.new (item_of item.entry) k) }
+    {
+        match spelling_at(item) {
+            Some(spelling) => self.place(spelling),
+            None => Ok(NO_PLACE),
+        }
+    }
+
+    /// The spelling at the place.
+    pub fn at(&self, place: u32) -> Spelling<'a>
+        ensures { spelling_of result ≡ name_at self.now place }
+    {
+        match self.set.as_slice().get(place as usize) {
+            Some(spelling) => *spelling,
+            None => Spelling::Quoted(0),
+        }
+    }
+
+    /// Whether the name `error` is at one of the places.
+    pub fn holds_error(&self, places: &[u32]) -> bool
+        ensures { result ≡ spec.has_spelling (names_at self.now places.now) spec.error_spelling }
+    {
+        for place in places {
+            if self.at(*place) == Spelling::Named(b"error") {
+                return true;
+            }
+        }
+        false
     }
 
     pub fn has(&self, spelling: Spelling<'_>) -> bool

@@ -5,4 +5,5 @@ use Rattle.cs_yacc.proofs.Gathering.{Gathers}
 use Rattle.cs_yacc.proofs.gather.used.Given as goal
 
 abbrev pub invariant-loop-rule : goal.invariant-loop-rule
-invariant-loop-rule l = Gathers l.spellings (flat_map (λ r. r.right) (rules_in (drop l.rule-index l.rules))) (flat_map (λ r. r.right) (rules_in l.rules))
+invariant-loop-rule l =
+    Gathers l.spellings (flat_map (λ r. r.right) (rules_in l.words (drop l.rule-index l.rules))) (flat_map (λ r. r.right) (rules_in l.words l.rules))

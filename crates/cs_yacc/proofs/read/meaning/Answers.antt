@@ -18,56 +18,53 @@ returns-in-Some c =
 pub name_fault-requires : goal.name_fault-requires
 name_fault-requires c =
     let all : List Placed = placed_all c.args.all.items in
-    let words : c.in_ok-spelled.spelled ≡ distinct (spelled (items_of all)) = c.in_ok-spelled.ensures ∙ ap (λ (xs : List held.Placed). distinct (spelled (items_of (placed_all xs)))) c.deref-3.ensures.value in
-    let meant : placed_all c.deref-6.result.now ≡ with_meaning all = ap placed_all c.deref-6.ensures.value ∙ c.with_meaning-items.ensures in
-    subst (λ (ws : List TokenName). HoldsSpellings ws (items_of (placed_all c.deref-6.result.now))) (sym words)
+    let meant : placed_all c.deref-5.result.now ≡ with_meaning all = ap placed_all c.deref-5.ensures.value ∙ c.in_ok-meant.ensures.items in
+    subst (λ (ws : List TokenName). HoldsSpellings ws (items_of (placed_all c.deref-5.result.now))) (sym c.in_ok-meant.ensures.words)
     (subst (λ (ps : List Placed). HoldsSpellings (distinct (spelled (items_of all))) (items_of ps)) (sym meant) (meant_are_spelled all))
 
 pub returns-in-Some-name_fault : goal.returns-in-Some-name_fault
 returns-in-Some-name_fault c =
     let all : List Placed = placed_all c.args.all.items in
-    let items : List Placed = placed_all c.deref-6.result.now in
+    let items : List Placed = placed_all c.deref-5.result.now in
     let once : None ≡ first_start (behind_start all) = c.in_default.ensures ∙ ap (λ (xs : List held.Placed). first_start (behind_start (placed_all xs))) c.deref.ensures.value in
     let named : placed_of_some c.start_item-start.result ≡ start_item all = c.start_item-start.ensures ∙ ap (λ (xs : List held.Placed). start_item (placed_all xs)) c.deref-2.ensures.value in
-    gives_fault all items c.in_ok-declared.declared c.in_ok-lefts.lefts (ap placed_all c.deref-6.ensures.value ∙ c.with_meaning-items.ensures)
-    (c.in_ok-declared.ensures ∙ ap (λ (xs : List held.Placed). declared_tokens (items_of (placed_all xs))) (c.deref-4.ensures.value ∙ sym c.deref-6.ensures.value))
-    (c.in_ok-lefts.ensures ∙ ap (λ (xs : List held.Placed). nonterminals (items_of (placed_all xs))) (c.deref-5.ensures.value ∙ sym c.deref-6.ensures.value)) c.in-Some-name_fault.fault
+    gives_fault all items c.in_ok-declared.declared c.in_ok-lefts.lefts (ap placed_all c.deref-5.ensures.value ∙ c.in_ok-meant.ensures.items)
+    (c.in_ok-declared.ensures ∙ ap (λ (xs : List held.Placed). declared_tokens (items_of (placed_all xs))) (c.deref-3.ensures.value ∙ sym c.deref-5.ensures.value))
+    (c.in_ok-lefts.ensures ∙ ap (λ (xs : List held.Placed). nonterminals (items_of (placed_all xs))) (c.deref-4.ensures.value ∙ sym c.deref-5.ensures.value)) c.in-Some-name_fault.fault
     (c.in-Some-name_fault.ensures ∙ name_fault_behind all items (placed_of_some c.start_item-start.result) c.in_ok-declared.declared c.in_ok-lefts.lefts once named)
 
 pub file_of-requires-clause-few : goal.file_of-requires-clause-few
 file_of-requires-clause-few c =
-    omega (arith, few_with_meaning c.args.all.items c.deref-in-None.result.now (ap placed_all c.deref-in-None.ensures.value ∙ c.with_meaning-items.ensures), few_held c.deref-in-None.result.now, c.requires.few)
+    omega (arith, few_with_meaning c.args.all.items c.in_ok-meant.meant.items.items c.in_ok-meant.ensures.items, few_held c.in_ok-meant.meant.items.items, c.requires.few)
 
-pub file_of-requires-clause-few_spelled : goal.file_of-requires-clause-few_spelled
-file_of-requires-clause-few_spelled c =
-    omega (arith, ap length c.in_ok-spelled.ensures, few_words (items_of (placed_all c.deref-3.result.now)), few_held c.deref-3.result.now, ap length c.deref-3.ensures.value, c.requires.few)
+pub file_of-requires-clause-few_words : goal.file_of-requires-clause-few_words
+file_of-requires-clause-few_words c =
+    omega (arith, ap length c.in_ok-meant.ensures.words, few_words (items_of (placed_all c.args.all.items)), few_held c.args.all.items, c.requires.few)
 
 pub file_of-requires-clause-lefts : goal.file_of-requires-clause-lefts
 file_of-requires-clause-lefts c =
-    c.in_ok-lefts.ensures ∙ ap (λ (xs : List held.Placed). nonterminals (items_of (placed_all xs))) (c.deref-5.ensures.value ∙ sym c.deref-in-None.ensures.value)
+    c.in_ok-lefts.ensures ∙ ap (λ (xs : List held.Placed). nonterminals (items_of (placed_all xs))) c.deref-4.ensures.value
 
 pub file_of-requires-clause-fits : goal.file_of-requires-clause-fits
 file_of-requires-clause-fits c =
     let all : List Placed = placed_all c.args.all.items in
     let once : None ≡ first_start (behind_start all) = c.in_default.ensures ∙ ap (λ (xs : List held.Placed). first_start (behind_start (placed_all xs))) c.deref.ensures.value in
     let named : placed_of_some c.start_item-start.result ≡ start_item all = c.start_item-start.ensures ∙ ap (λ (xs : List held.Placed). start_item (placed_all xs)) c.deref-2.ensures.value in
-    left_fit all (placed_all c.deref-in-None.result.now) (placed_of_some c.start_item-start.result) c.in_ok-spelled.spelled c.in_ok-lefts.lefts
-    (c.in_ok-spelled.ensures ∙ ap (λ (xs : List held.Placed). distinct (spelled (items_of (placed_all xs)))) c.deref-3.ensures.value) named (ap placed_all c.deref-in-None.ensures.value ∙ c.with_meaning-items.ensures)
-    (c.in_ok-lefts.ensures ∙ ap (λ (xs : List held.Placed). nonterminals (items_of (placed_all xs))) (c.deref-5.ensures.value ∙ sym c.deref-in-None.ensures.value)) c.requires.taken
-    (started all (placed_all c.deref-6.result.now) c.in_ok-declared.declared c.in_ok-lefts.lefts
-    (c.in-None.ensures ∙ name_fault_behind all (placed_all c.deref-6.result.now) (placed_of_some c.start_item-start.result) c.in_ok-declared.declared c.in_ok-lefts.lefts once named))
+    left_fit all (placed_all c.in_ok-meant.meant.items.items) (placed_of_some c.start_item-start.result) c.in_ok-meant.meant.words c.in_ok-lefts.lefts c.in_ok-meant.ensures.words named c.in_ok-meant.ensures.items
+    (c.in_ok-lefts.ensures ∙ ap (λ (xs : List held.Placed). nonterminals (items_of (placed_all xs))) c.deref-4.ensures.value) c.requires.taken
+    (started all (placed_all c.deref-5.result.now) c.in_ok-declared.declared c.in_ok-lefts.lefts
+    (c.in-None.ensures ∙ name_fault_behind all (placed_all c.deref-5.result.now) (placed_of_some c.start_item-start.result) c.in_ok-declared.declared c.in_ok-lefts.lefts once named))
 
 pub returns : goal.returns
 returns c =
     let all : List Placed = placed_all c.args.all.items in
-    let items : List Placed = placed_all c.deref-6.result.now in
+    let items : List Placed = placed_all c.deref-5.result.now in
     let once : None ≡ first_start (behind_start all) = c.in_default.ensures ∙ ap (λ (xs : List held.Placed). first_start (behind_start (placed_all xs))) c.deref.ensures.value in
     let named : placed_of_some c.start_item-start.result ≡ start_item all = c.start_item-start.ensures ∙ ap (λ (xs : List held.Placed). start_item (placed_all xs)) c.deref-2.ensures.value in
-    gives_rest all items c.in_ok-declared.declared c.in_ok-lefts.lefts (ap placed_all c.deref-6.ensures.value ∙ c.with_meaning-items.ensures)
-    (c.in_ok-declared.ensures ∙ ap (λ (xs : List held.Placed). declared_tokens (items_of (placed_all xs))) (c.deref-4.ensures.value ∙ sym c.deref-6.ensures.value))
-    (c.in_ok-lefts.ensures ∙ ap (λ (xs : List held.Placed). nonterminals (items_of (placed_all xs))) (c.deref-5.ensures.value ∙ sym c.deref-6.ensures.value)) c.file_of.result
+    gives_rest all items c.in_ok-declared.declared c.in_ok-lefts.lefts (ap placed_all c.deref-5.ensures.value ∙ c.in_ok-meant.ensures.items)
+    (c.in_ok-declared.ensures ∙ ap (λ (xs : List held.Placed). declared_tokens (items_of (placed_all xs))) (c.deref-3.ensures.value ∙ sym c.deref-5.ensures.value))
+    (c.in_ok-lefts.ensures ∙ ap (λ (xs : List held.Placed). nonterminals (items_of (placed_all xs))) (c.deref-4.ensures.value ∙ sym c.deref-5.ensures.value)) c.file_of.result
     (c.in-None.ensures ∙ name_fault_behind all items (placed_of_some c.start_item-start.result) c.in_ok-declared.declared c.in_ok-lefts.lefts once named)
     (subst (λ p. IsGiven c.file_of.result (file_or_limit p))
-    (parts_same all (placed_all c.deref-in-None.result.now) (placed_of_some c.start_item-start.result) c.in_ok-spelled.spelled
-    (c.in_ok-spelled.ensures ∙ ap (λ (xs : List held.Placed). distinct (spelled (items_of (placed_all xs)))) c.deref-3.ensures.value) named
-    ∙ ap (λ (xs : List held.Placed). parts_of all (placed_all xs)) (c.deref-in-None.ensures.value ∙ sym c.deref-6.ensures.value)) c.file_of.ensures)
+    (parts_same all (placed_all c.in_ok-meant.meant.items.items) (placed_of_some c.start_item-start.result) c.in_ok-meant.meant.words c.in_ok-meant.ensures.words named
+    ∙ ap (λ (xs : List held.Placed). parts_of all (placed_all xs)) (sym c.deref-5.ensures.value)) c.file_of.ensures)

@@ -1,15 +1,9 @@
-use Rattle.std.proofs.Common.{◌∙◌, ap}
-use Rattle.std.proofs.lemmas.List.{map_push}
-use Rattle.cs_yacc.specs.SpellingView.{spelling_of, spellings_of}
-use Rattle.cs_yacc.proofs.Loops.{body_more, body_stops, body_ends}
+use Rattle.std.proofs.Common.{arith}
+use Rattle.std.proofs.lemmas.List.{length-take}
+use Rattle.cs_yacc.specs.SpellingView.{items_in}
+use Rattle.cs_yacc.proofs.Counts.{few_body, few_held}
 use Rattle.cs_yacc.proofs.spelled.body.Goals as goal
 
-pub loop-index-preserved : goal.loop-index-preserved
-loop-index-preserved c =
-    body_more c.args.items.now _ c.loop-index.index _ _ _ _ _ c.loop-index.invariant c.loop-index-test.true c.behind.ensures c.in-Some.ensures (ap spellings_of c.in_ok-push-in-Some.ensures.items ∙ map_push spelling_of _ _)
-
-pub returns-in-None : goal.returns-in-None
-returns-in-None c = body_stops c.args.items.now _ c.loop-index.index _ _ _ c.loop-index.invariant c.loop-index-test.true c.behind.ensures c.in-None.ensures
-
-pub returns : goal.returns
-returns c = body_ends c.args.items.now _ c.loop-index.index _ c.loop-index.invariant c.loop-index-test.false
+pub slice_bounds-result-end : goal.slice_bounds-result-end
+slice_bounds-result-end c =
+    omega (arith, length-take c.body_len.result c.args.places.now, few_body (items_in c.args.items.now), few_held c.args.items.now, c.requires, c.body_len.ensures)

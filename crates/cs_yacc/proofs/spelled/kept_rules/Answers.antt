@@ -1,3 +1,5 @@
+use Rattle.std.proofs.Common.{◌+◌, ◌≤◌, length, arith}
+use Rattle.cs_yacc.proofs.Places.{places_long, places_rest}
 use Rattle.cs_yacc.proofs.RuleLoop.{rules_more, rules_end}
 use Rattle.cs_yacc.proofs.spelled.kept_rules.Goals as goal
 
@@ -7,3 +9,14 @@ loop-index-preserved c =
 
 pub returns : goal.returns
 returns c = rules_end c.args.items.now _ c.loop-index.index _ _ c.loop-index.invariant c.loop-index-test.false
+
+pub slice_bounds-rest-count : goal.slice_bounds-rest-count
+slice_bounds-rest-count c = omega (arith, places_long c.args.words.now c.args.items.now c.args.places.now c.requires, c.loop-index-test.true)
+
+pub slice_bounds-rest-start : goal.slice_bounds-rest-start
+slice_bounds-rest-start c =
+    let within : c.loop-index.index + 1 ≤ length c.args.places.now = omega (arith, places_long c.args.words.now c.args.items.now c.args.places.now c.requires, c.loop-index-test.true) in
+    within
+
+pub push_rule-requires : goal.push_rule-requires
+push_rule-requires c = places_rest c.args.words.now c.args.items.now c.behind-after.result.now c.args.places.now (c.loop-index.index + 1) c.requires c.behind-after.ensures

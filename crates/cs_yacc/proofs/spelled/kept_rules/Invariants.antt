@@ -9,4 +9,4 @@ use Rattle.cs_yacc.proofs.RuleLoop.{HasRules}
 use Rattle.cs_yacc.proofs.spelled.kept_rules.Given as goal
 
 abbrev pub invariant-loop-index : goal.invariant-loop-index
-invariant-loop-index l = HasRules (rules_in l.rules.items) (option_map spelling_of l.left) (rest_at l.items l.index) (kept (items_of (placed_all l.items)))
+invariant-loop-index l = HasRules (rules_in l.words l.rules.items) (option_map spelling_of l.left) (rest_at l.items l.index) (kept (items_of (placed_all l.items)))
