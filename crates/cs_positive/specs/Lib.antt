@@ -3,3 +3,4 @@ pub mod Judges
 pub mod Positives
 pub mod Occurrences
 pub mod Kept
+pub mod Sums

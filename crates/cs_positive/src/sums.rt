@@ -1,7 +1,8 @@
 // Costs together, by the limit of the weights.
 
 ghost use Rattle.std.specs.Prelude.{◌≡◌};
-ghost use Rattle.cs_cost.specs.Rank.{IsCapped, cost_of, plus};
+ghost use Rattle.cs_cost.specs.Rank.{IsCapped, plus};
+ghost use Rattle.cs_positive.specs.Sums.{node_cost};
 
 use cs_cost::{Cost, Costs, cost_of, plus};
 
@@ -18,7 +19,7 @@ pub(crate) fn joint_cost(costs: &Costs, a: Cost, b: Cost) -> Cost
 // A node above its children.
 pub(crate) fn node_cost(costs: &Costs, children: Cost) -> Cost
     requires { IsCapped costs.now.weights.limit children }
-    ensures cost { result ≡ plus costs.now.weights.limit (cost_of costs.now.weights.limit 1) children }
+    ensures cost { result ≡ node_cost costs.now.weights.limit children }
     ensures capped { IsCapped costs.now.weights.limit result }
 {
     let limit = costs.weights().limit();
