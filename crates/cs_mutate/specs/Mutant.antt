@@ -61,8 +61,8 @@ abbrev pub IsListedEdit : ℕ → List ℕ → Operators → Edit → Type 0
 IsListedEdit tokens w c e = IsOfChosen c e × Fits (length w) tokens e × IsTrue (is_listed w e)
 
 -- two edits of the list of w's edits have different results
-abbrev pub HasDifferentResults : ℕ → List ℕ → Operators → Type 0
-HasDifferentResults tokens w c = AllPairs (λ a b. edited w a ≢ edited w b) (edits tokens w c)
+abbrev pub ResultsDiffer : ℕ → List ℕ → Operators → Type 0
+ResultsDiffer tokens w c = AllPairs (λ a b. edited w a ≢ edited w b) (edits tokens w c)
 
 -- the results are the other mutants
 abbrev pub HasEachMutant : ℕ → List ℕ → Operators → Type 0

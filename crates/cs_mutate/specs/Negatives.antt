@@ -1,6 +1,7 @@
 -- Negatives: the edits of a list that give it a poisoned pair.
 use Rattle.std.specs.Prelude.{Option, MatchOption, ◌≡◌, ◌↔◌, ℕ, ◌≤◌, ◌⊎◌, Bool, IsTrue, List, [], ◌∷◌, ◌++◌, length, All}
 use Rattle.cs_grammar.specs.Grammar.{PlainGrammar, IsNumberOf}
+use Rattle.cs_grammar.specs.Laws.{AtMostOne}
 use Rattle.std.specs.List.{Contains}
 use Rattle.cs_grammar.specs.Sentence.{framed, IsSentence}
 use Rattle.cs_goals.specs.Goals.{HasExactly}
@@ -74,6 +75,10 @@ ComesFirst g w = (old : List Edit) (n : Negative) (new : List Edit) → IsNext g
 -- where each edit is harmless there is no negative
 abbrev pub HasNone : PlainGrammar → List ℕ → List Edit → Type 0
 HasNone g w es = All (IsHarmless g w) es → AreNegatives g w es []
+
+-- there is at most one list of the negatives
+abbrev pub HasOneList : PlainGrammar → List ℕ → List Edit → Type 0
+HasOneList g w es = AtMostOne (AreNegatives g w es)
 
 -- the list has the negative of each edit that has one, and nothing else
 abbrev pub HasEachNegative : PlainGrammar → List ℕ → List Edit → Type 0

@@ -2,19 +2,18 @@
 
 ghost use Rattle.std.specs.Prelude.{ℕ, List};
 ghost use Rattle.cs_grammar.specs.Grammar.{PlainGrammar};
-ghost use Rattle.cs_grammar.specs.Laws.{AtMostOne};
 ghost use Rattle.cs_mutate.specs.declared.edit.Edit.{Edit};
 ghost use Rattle.cs_mutate.specs.declared.edit.Operators.{Operators};
 ghost use Rattle.cs_mutate.specs.declared.negative.Negative.{Negative};
-ghost use Rattle.cs_mutate.specs.Mutant.{HasDifferentResults, HasEachMutant, HasEachEdit};
-ghost use Rattle.cs_mutate.specs.Negatives.{AreNegatives, ComesFirst, HasNone, HasEachNegative, IsOutside};
+ghost use Rattle.cs_mutate.specs.Mutant.{ResultsDiffer, HasEachMutant, HasEachEdit};
+ghost use Rattle.cs_mutate.specs.Negatives.{ComesFirst, HasNone, HasOneList, HasEachNegative, IsOutside};
 
 /// The results of a list's edits all differ, and they are the lists other than itself that come from
 /// it by a chosen operator: by the deletion of one token, the insertion of one, the replacement of
 /// one or the exchange of two neighbours. The edits are those of chosen operators that fit the list
 /// and are listed: of those with one result, one.
 pub fn each_mutant_once()
-    ensures once { (tokens : ℕ) (w : List ℕ) (c : Operators) → HasDifferentResults tokens w c }
+    ensures once { (tokens : ℕ) (w : List ℕ) (c : Operators) → ResultsDiffer tokens w c }
     ensures all { (tokens : ℕ) (w : List ℕ) (c : Operators) → HasEachMutant tokens w c }
     ensures edits { (tokens : ℕ) (w : List ℕ) (c : Operators) → HasEachEdit tokens w c }
 {}
@@ -26,7 +25,7 @@ pub fn each_mutant_once()
 pub fn one_list_of_negatives()
     ensures next { (g : PlainGrammar) (w : List ℕ) → ComesFirst g w }
     ensures none { (g : PlainGrammar) (w : List ℕ) (es : List Edit) → HasNone g w es }
-    ensures one { (g : PlainGrammar) (w : List ℕ) (es : List Edit) → AtMostOne (AreNegatives g w es) }
+    ensures one { (g : PlainGrammar) (w : List ℕ) (es : List Edit) → HasOneList g w es }
     ensures all { (g : PlainGrammar) (w : List ℕ) (es : List Edit) → HasEachNegative g w es }
     ensures outside { (g : PlainGrammar) (w : List ℕ) (n : Negative) → IsOutside g w n }
 {}
