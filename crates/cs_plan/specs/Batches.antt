@@ -16,6 +16,10 @@ pub record AreNext (plan : Plan) (old : ToJudge) (entries : List GoalEntry) (new
   pub each : AllZip (IsEntryIn plan old.tables) goals entries
   pub some : entries ≡ [] → old.goals ≡ []
 
+-- these entries come, with what is left behind them
+abbrev pub AreGivenNext : Plan → ToJudge → ToJudge → Vec GoalEntry → Type 0
+AreGivenNext plan old new made = AreNext plan old made.items new
+
 -- the entries of goals of the second format, as of any
 abbrev pub entries_in : List SharedEntry → List GoalEntry
 entries_in list = map (λ s. s.entry) list
@@ -25,6 +29,6 @@ pub record AreNextShared (plan : Plan) (old : ToJudge) (before : PlainCases) (li
   pub next : AreNext plan old (entries_in list) new
   pub shared : AreShared (texts_in plan) (lexemes_in plan) before (entries_in list) after list
 
--- these entries come, with what is left behind them
+-- these entries of the second format come, with what is left behind them
 abbrev pub AreGiven : Plan → ToJudge → PlainCases → ToJudge → PlainCases → Vec SharedEntry → Type 0
 AreGiven plan old before new after made = AreNextShared plan old before made.items new after

@@ -1,7 +1,7 @@
 // The entries of goals, batch by batch.
 
 ghost use Rattle.std.specs.Prelude.{◌≡◌, ◌≤◌, All, IfOk, length};
-ghost use Rattle.cs_plan.specs.Batches.{AreNext};
+ghost use Rattle.cs_plan.specs.Batches.{AreGivenNext};
 ghost use Rattle.cs_plan.specs.Made.{IsNamedGoalEntry};
 ghost use Rattle.cs_plan.specs.Plans.{IsOfPlan, IsPlan};
 
@@ -26,7 +26,7 @@ pub fn next_entries<R: Threads + Sync, G: Gate + Sync>(
     requires plan { IsPlan plan.now }
     requires positives { IsOfPlan plan.now positives.old }
     requires first { plan.now.closed ≡ None }
-    ensures entries { IfOk result (λ made. AreNext plan.now positives.old made.items positives.new) }
+    ensures entries { IfOk result (AreGivenNext plan.now positives.old positives.new) }
     ensures named { IfOk result (λ made. All (IsNamedGoalEntry plan.now.yacc.now) made.items) }
     ensures few { IfOk result (λ made. length made.items ≤ 1024) }
     ensures tables { positives.new.tables ≡ positives.old.tables }

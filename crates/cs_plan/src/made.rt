@@ -2,13 +2,8 @@
 
 ghost use Rattle.std.specs.Prelude.{◌≡◌, IfNone, IfSome, false, true};
 ghost use Rattle.std.specs.Vec.Iter.{into_iter_items};
-ghost use Rattle.cs_manifest.specs.declared.counts.Counts.{Counts};
-ghost use Rattle.cs_yacc.specs.File.{File};
-ghost use Rattle.cs_manifest.specs.Counts.{with_entry, with_verdict};
-ghost use Rattle.cs_manifest.specs.Entry.{IsNamedEntry, lines_of};
 ghost use Rattle.cs_manifest.specs.Lines.{is_feasible};
-ghost use Rattle.cs_manifest.specs.Manifest.{goal_entry_lines};
-ghost use Rattle.cs_plan.specs.Made.{HasListIn, IsJoined, IsNamedGoalEntry, TakesFirst};
+ghost use Rattle.cs_plan.specs.Made.{CountsByVerdict, HasGoalLines, HasGoalNames, HasListIn, IsJoined, TakesFirst};
 
 use cs_goals::Goal;
 use cs_manifest::Entry;
@@ -45,9 +40,9 @@ impl Model for Made {
 impl Made {
     /// Its entry in a manifest, with its number from 1.
     pub fn entry(&self, number: u64) -> Entry<'_>
-        ensures lines { (file : File) → lines_of file result ≡ goal_entry_lines file number self.now }
-        ensures counts { (c : Counts) → with_entry c result ≡ with_verdict c self.now.verdict }
-        ensures named { (file : File) → IsNamedGoalEntry file self.now → IsNamedEntry file result }
+        ensures lines { HasGoalLines self.now number result }
+        ensures counts { CountsByVerdict self.now.verdict result }
+        ensures named { HasGoalNames self.now result }
     {
         Entry::Goal {
             number,

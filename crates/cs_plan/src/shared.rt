@@ -2,12 +2,11 @@
 
 ghost use Rattle.std.specs.Vec.Iter.{into_iter_items};
 ghost use Rattle.std.specs.Prelude.{◌≡◌, ◌≤◌, All, IfNone, IfOk, IfSome, IsSome, [], false, length, true};
-ghost use Rattle.cs_manifest.specs.declared.counts.Counts.{Counts};
-ghost use Rattle.cs_manifest.specs.Counts.{with_case, with_entry, with_shared_verdict};
 ghost use Rattle.cs_manifest.specs.Lines.{is_feasible};
 ghost use Rattle.cs_manifest.specs.Manifest.{is_new, new_case_lines};
 ghost use Rattle.cs_plan.specs.Batches.{AreGiven};
-ghost use Rattle.cs_plan.specs.Made.{HasCaseLines, HasGoalLine, HasItsCase, HasItsNames, IsNamedSharedEntry};
+ghost use Rattle.cs_plan.specs.Made.{CountsByShared, CountsCase, HasCaseLines, HasGoalLine, HasItsCase, HasItsNames};
+ghost use Rattle.cs_plan.specs.Made.{IsNamedSharedEntry};
 ghost use Rattle.cs_plan.specs.Placing.{CanFinish, IsFinished, shared_with};
 ghost use Rattle.cs_plan.specs.Plans.{IsOfPlan, IsPlan};
 ghost use Rattle.cs_yacc.specs.File.{File};
@@ -56,8 +55,7 @@ impl MadeShared {
     /// The entry of its case, where that is new.
     pub fn case(&self) -> Option<Entry<'_>>
         ensures lines { IfSome result (HasCaseLines self.now) }
-        ensures counts { IfSome result
-            (λ entry. (c : Counts) → with_entry c entry ≡ with_case c) }
+        ensures counts { IfSome result CountsCase }
         ensures named { IfSome result (HasItsNames self.now) }
         ensures is_new { IfSome result (λ _. is_new self.now.verdict ≡ true) }
         ensures none { IfNone result (is_new self.now.verdict ≡ false) }
@@ -82,7 +80,7 @@ impl MadeShared {
     /// The entry of the goal, with its number from 1.
     pub fn goal(&self, number: u64) -> Entry<'_>
         ensures lines { HasGoalLine self.now number result }
-        ensures counts { (c : Counts) → with_entry c result ≡ with_shared_verdict c self.now.verdict }
+        ensures counts { CountsByShared self.now.verdict result }
         ensures named { HasItsNames self.now result }
     {
         Entry::Shared {
