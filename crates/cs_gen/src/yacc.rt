@@ -2,14 +2,14 @@
 
 ghost use Rattle.std.specs.Prelude.{◌≡◌, ◌++◌, ◌<◌, ◌≤◌, OnOk, IfOk};
 ghost use Rattle.cs_gen.specs.Rules as rules;
-ghost use Rattle.cs_gen.specs.Texts as texts;
+ghost use Rattle.cs_gen.specs.Texts.{bodies_text, body_text, declaration, first_text, line_of, yacc_text};
 
 use crate::numbers::{NONTERMINALS, Numbers, TOKENS};
 use crate::symbol::Symbol;
 use std::alloc::{AllocError, Global};
 
 fn put_body(text: &mut Vec<u8>, numbers: &mut Numbers) -> Result<(), AllocError>
-    ensures text { OnOk result (text.new.items ≡ text.old.items ++ texts.body_text numbers.old.at) }
+    ensures text { OnOk result (text.new.items ≡ text.old.items ++ body_text numbers.old.at) }
     ensures numbers { OnOk result (numbers.new.at ≡ (rules.body numbers.old.at).behind) }
 {
     let length = numbers.draw(4);
@@ -20,7 +20,7 @@ fn put_body(text: &mut Vec<u8>, numbers: &mut Numbers) -> Result<(), AllocError>
 }
 
 fn put_alternatives(text: &mut Vec<u8>, numbers: &mut Numbers) -> Result<(), AllocError>
-    ensures text { OnOk result (text.new.items ≡ text.old.items ++ texts.bodies_text numbers.old.at) }
+    ensures text { OnOk result (text.new.items ≡ text.old.items ++ bodies_text numbers.old.at) }
     ensures numbers { OnOk result (numbers.new.at ≡ (rules.bodies numbers.old.at).behind) }
 {
     let count = numbers.one_of(3);
@@ -33,7 +33,7 @@ fn put_alternatives(text: &mut Vec<u8>, numbers: &mut Numbers) -> Result<(), All
 
 fn put_first_body(text: &mut Vec<u8>, left: u8, token: u8) -> Result<(), AllocError>
     requires { left ≤ 40 }
-    ensures { OnOk result (text.new.items ≡ text.old.items ++ texts.first_text left token) }
+    ensures { OnOk result (text.new.items ≡ text.old.items ++ first_text left token) }
 {
     Symbol::Token(token).put_spaced(text)?;
     if left < NONTERMINALS {
@@ -44,7 +44,7 @@ fn put_first_body(text: &mut Vec<u8>, left: u8, token: u8) -> Result<(), AllocEr
 
 fn put_line(text: &mut Vec<u8>, left: u8, numbers: &mut Numbers) -> Result<(), AllocError>
     requires { left ≤ 40 }
-    ensures text { OnOk result (text.new.items ≡ text.old.items ++ texts.line_of left numbers.old.at) }
+    ensures text { OnOk result (text.new.items ≡ text.old.items ++ line_of left numbers.old.at) }
     ensures numbers { OnOk result (numbers.new.at ≡ (rules.line left numbers.old.at).behind) }
 {
     Symbol::Nonterminal(left).put(text)?;
@@ -57,7 +57,7 @@ fn put_line(text: &mut Vec<u8>, left: u8, numbers: &mut Numbers) -> Result<(), A
 }
 
 fn put_declaration(text: &mut Vec<u8>) -> Result<(), AllocError>
-    ensures { OnOk result (text.new.items ≡ text.old.items ++ texts.declaration) }
+    ensures { OnOk result (text.new.items ≡ text.old.items ++ declaration) }
 {
     text.extend_from_slice(b"%token")?;
     for number in 0..TOKENS {
@@ -68,7 +68,7 @@ fn put_declaration(text: &mut Vec<u8>) -> Result<(), AllocError>
 
 /// The yacc file of the seed.
 pub fn yacc_text(alloc: Global, seed: u64) -> Result<Vec<u8>, AllocError>
-    ensures { IfOk result (λ text. text.items ≡ texts.yacc_text seed) }
+    ensures { IfOk result (λ text. text.items ≡ yacc_text seed) }
 {
     let mut text = Vec::new(alloc);
     put_declaration(&mut text)?;
