@@ -7,6 +7,8 @@ use Rattle.cs_scan.specs.Compared.{IsInCommon, scanning}
 use Rattle.cs_lexeme.specs.Lexeme.{lexeme_in}
 use Rattle.cs_render.specs.declared.rendered.Rendered.{Rendered}
 use Rattle.cs_render.specs.declared.rendered.Rendered.TheVariants as answers
+use Rattle.cs_render.specs.declared.rendered.RenderedParts.{RenderedParts}
+use Rattle.cs_render.specs.declared.rendered.RenderedParts.TheVariants as parts
 use Rattle.cs_render.specs.Joined.{joined}
 
 -- the value of an answer: a text, the token without a lexeme, or how many tokens the scan has in common with the list
@@ -20,6 +22,12 @@ abbrev pub rendering : Rendered → Rendering
 rendering (answers.Text text) = Text text.items
 rendering (answers.NoLexeme token) = NoLexeme token
 rendering (answers.Differs after) = Differs after
+
+-- and off one that is lent: its parts stand one behind another
+abbrev pub rendering_in : RenderedParts → Rendering
+rendering_in (parts.Text front middle back) = Text (front.now ++ middle.now ++ back.now)
+rendering_in (parts.NoLexeme token) = NoLexeme token
+rendering_in (parts.Differs after) = Differs after
 
 -- each token is one of those that have an entry in the list
 abbrev pub AreTokens : List (Option (List ℕ)) → List ℕ → Type 0

@@ -13,5 +13,5 @@ mod sharing;
 mod text;
 
 pub use laws::{one_rendering, some_rendering};
-pub use rendered::Rendered;
+pub use rendered::{Rendered, RenderedParts};
 pub use text::render;
