@@ -1,8 +1,9 @@
 -- A text that was put to an output piece by piece.
-use Rattle.std.proofs.Common.{◌≡◌, ◌⊎◌, inl, inr, refl, subst, ℕ, ◌+◌, ◌-◌, ◌<◌, ◌≤◌, List, [], ◌∷◌, ◌++◌, length, append_assoc, length-append, take, get_or, ap, sym, ◌∙◌, arith, true, false, Bool, Option}
+use Rattle.std.proofs.Common.{◌≡◌, ◌⊎◌, inl, inr, refl, subst, ℕ, ◌+◌, ◌-◌, ◌<◌, ◌≤◌, List, [], ◌∷◌, ◌++◌, length, append_assoc, length-append, take, drop, get_or, ap, sym, ◌∙◌, arith, true, false, Bool, Option}
 use Rattle.std.specs.Io.KnownBytes.{append_known}
 use Rattle.std.specs.List.{flat_map, enumerate_from}
-use Rattle.std.proofs.lemmas.List.{append-nil, take_more, take_all, flat_map_more, length-take-le}
+use Rattle.std.proofs.Math.Seq.{take-append-add}
+use Rattle.std.proofs.lemmas.List.{append-nil, take_more, take_all, flat_map_more, length-take, length-take-le, take-append-drop, take-append-le}
 use Rattle.std.proofs.lemmas.Slice.{take-put_mid}
 use borrow.Rule.Slice.PartMut.{put_mid}
 use Rattle.cs_io.proofs.Known.{known_none, known_twice, known_then_part, known_part}
@@ -27,6 +28,40 @@ sent_twice sent more old mid new first second split next =
 pub put_in : (line text part : List ℕ) (used end : ℕ) → used ≤ length line → end ≡ used + length text → part ≡ text → take end (put_mid used (end - used) line part) ≡ take used line ++ text
 put_in line text part used end within at same =
     take-put_mid used (end - used) line part end (omega (arith, at, ap length same)) within ∙ ap (λ (t : List ℕ). take used line ++ t) same
+
+-- the front of a front
+take_twice : (few many : ℕ) (xs : List ℕ) → few ≤ many → many ≤ length xs → take few (take many xs) ≡ take few xs
+take_twice few many xs less within =
+    sym (take-append-le few (take many xs) (drop many xs) (omega (arith, less, length-take-le many xs within)))
+    ∙ ap (λ (ys : List ℕ). take few ys) (take-append-drop many xs)
+
+-- a line is no shorter than what was written into it
+pub reached : (line mid text : List ℕ) (used count : ℕ) → used ≤ length line → count ≤ length text → take (used + count) mid ≡ take used line ++ take count text → used + count ≤ length mid
+reached line mid text used count within some first =
+    omega (
+      arith,
+      length-take (used + count) mid,
+      ap length first,
+      length-append (take used line) (take count text),
+      length-take-le used line within,
+      length-take-le count text some,
+    )
+
+-- a text that was written into a line by its front and its back, which overlap
+pub put_by_ends : (line mid new text : List ℕ) (used count back : ℕ) → used ≤ length line → back ≤ count → count ≤ length text
+    → take (used + count) mid ≡ take used line ++ take count text → take (used + length text) new ≡ take (used + back) mid ++ drop back text
+    → take (used + length text) new ≡ take used line ++ text
+put_by_ends line mid new text used count back within less some first second =
+    second ∙ ap (λ (t : List ℕ). t ++ drop back text) front ∙ append_assoc (take used line) (take back text) (drop back text)
+    ∙ ap (λ (t : List ℕ). take used line ++ t) (take-append-drop back text)
+  where
+    front : take (used + back) mid ≡ take used line ++ take back text
+    front =
+        sym (take_twice (used + back) (used + count) mid (omega (arith, less)) (reached line mid text used count within some first))
+        ∙ ap (λ (t : List ℕ). take (used + back) t) first
+        ∙ ap (λ (n : ℕ). take (n + back) (take used line ++ take count text)) (sym (length-take-le used line within))
+        ∙ take-append-add (take used line) (take count text) back
+        ∙ ap (λ (t : List ℕ). take used line ++ t) (take_twice back count text less some)
 
 module _ {S : Type 0} {g : Sink.Ghosts S} where
   both_put : {old mid new : Output S} (first second : List ℕ) → IsPut g first old mid → IsPut g second mid new → IsPut g (first ++ second) old new
@@ -79,7 +114,7 @@ module _ {S : Type 0} {g : Sink.Ghosts S} where
 
   -- two texts, one after the other
   pub then : {old mid new : Output S} {first second : List ℕ} → Puts g first old mid → Puts g second mid new → Puts g (first ++ second) old new
-  then {old} {mid} {new} {first} {second} a b = record { how = joined a.how b.how }
+  then {old} {mid} {new} {first} {second} a b = record { line = b.line ∙ a.line; how = joined a.how b.how }
     where
       joined : IsPut g first old mid ⊎ IsCut g first old mid ⊎ IsLeft g old mid → IsPut g second mid new ⊎ IsCut g second mid new ⊎ IsLeft g mid new
           → IsPut g (first ++ second) old new ⊎ IsCut g (first ++ second) old new ⊎ IsLeft g old new
@@ -98,8 +133,9 @@ module _ {S : Type 0} {g : Sink.Ghosts S} where
   nothing out = at_flag out.failed refl
     where
       at_flag : (flag : Bool) → out.failed ≡ flag → Puts g [] out out
-      at_flag true e = record { how = inr (inr (record { failed = e; still_failed = e; reference = refl; sink = refl })) }
+      at_flag true e = record { line = refl; how = inr (inr (record { failed = e; still_failed = e; reference = refl; sink = refl })) }
       at_flag false e = record {
+        line = refl;
         how = inl (record {
           fine = e;
           still_fine = e;
@@ -118,16 +154,17 @@ module _ {S : Type 0} {g : Sink.Ghosts S} where
 
   -- nothing happens after a write that failed
   pub lost : {out : Output S} {text : List ℕ} → out.failed ≡ true → Puts g text out out
-  lost e = record { how = inr (inr (record { failed = e; still_failed = e; reference = refl; sink = refl })) }
+  lost e = record { line = refl; how = inr (inr (record { failed = e; still_failed = e; reference = refl; sink = refl })) }
 
   -- the text waits behind what waited
-  pub kept : {old new : Output S} {text : List ℕ} → new.failed ≡ old.failed → new.sink.ghost_name ≡ old.sink.ghost_name → new.sink.now ≡ old.sink.now → new.bytes ≡ old.bytes
+  pub kept : {old new : Output S} {text : List ℕ} → new.failed ≡ old.failed → new.sink.ghost_name ≡ old.sink.ghost_name → new.sink.now ≡ old.sink.now → new.line.ghost_name ≡ old.line.ghost_name → new.bytes ≡ old.bytes
       → waiting new ≡ waiting old ++ text → Puts g text old new
-  kept {old} {new} {text} same reference sink bytes waits = at_flag old.failed refl
+  kept {old} {new} {text} same reference sink line bytes waits = at_flag old.failed refl
     where
       at_flag : (flag : Bool) → old.failed ≡ flag → Puts g text old new
-      at_flag true e = record { how = inr (inr (record { failed = e; still_failed = same ∙ e; reference = reference; sink = sink })) }
+      at_flag true e = record { line = line; how = inr (inr (record { failed = e; still_failed = same ∙ e; reference = reference; sink = sink })) }
       at_flag false e = record {
+        line = line;
         how = inl (record {
           fine = e;
           still_fine = same ∙ e;
@@ -160,6 +197,17 @@ module _ {S : Type 0} {g : Sink.Ghosts S} where
   pub spelled : {old new : Output S} {text : List ℕ} (other : List ℕ) → text ≡ other → Puts g text old new → Puts g other old new
   spelled {old} {new} {text} other e p = subst (λ (t : List ℕ). Puts g t old new) e p
 
+  -- a second text with a newline in front, which ends the line of the first
+  pub then_below : {old mid new : Output S} (front line below : List ℕ) → Puts g (front ++ line) old mid → Puts g (10 ∷ below) mid new
+      → Puts g ((front ++ (line ++ 10 ∷ [])) ++ below) old new
+  then_below front line below a b = spelled ((front ++ (line ++ 10 ∷ [])) ++ below) same (then a b)
+    where
+      same : (front ++ line) ++ (10 ∷ below) ≡ (front ++ (line ++ 10 ∷ [])) ++ below
+      same =
+          append_assoc front line (10 ∷ below)
+          ∙ ap (λ (t : List ℕ). front ++ t) (sym (append_assoc line (10 ∷ []) below))
+          ∙ sym (append_assoc front (line ++ 10 ∷ []) below)
+
   -- one more byte of a text, spelled by f
   pub bytes_more : {A : Type 0} (f : A → List ℕ) {old mid new : Output S} (xs : List A) (i : ℕ) (d : A) → i < length xs
       → Puts g (flat_map f (take i xs)) old mid → Puts g (f (get_or xs i d)) mid new → Puts g (flat_map f (take (i + 1) xs)) old new
@@ -178,6 +226,11 @@ module _ {S : Type 0} {g : Sink.Ghosts S} where
   pub spaced_more : {A : Type 0} (f : A → List ℕ) {old mid next new : Output S} (xs : List A) (i : ℕ) (d : A) → i < length xs
       → Puts g (spaced f (take i xs)) old mid → Puts g (32 ∷ []) mid next → Puts g (f (get_or xs i d)) next new → Puts g (spaced f (take (i + 1) xs)) old new
   spaced_more {A} f xs i d within so_far space more = bytes_more (λ (y : A). 32 ∷ f y) xs i d within so_far (then space more)
+
+  -- the same, with the space in one piece with it
+  pub spaced_next : {A : Type 0} (f : A → List ℕ) {old mid new : Output S} (xs : List A) (i : ℕ) (d : A) → i < length xs
+      → Puts g (spaced f (take i xs)) old mid → Puts g (32 ∷ f (get_or xs i d)) mid new → Puts g (spaced f (take (i + 1) xs)) old new
+  spaced_next {A} f xs i d within so_far more = bytes_more (λ (y : A). 32 ∷ f y) xs i d within so_far more
 
   pub spaced_all : {A : Type 0} (f : A → List ℕ) {old new : Output S} (xs : List A) (i : ℕ) → length xs ≤ i
       → Puts g (spaced f (take i xs)) old new → Puts g (spaced f xs) old new

@@ -1,7 +1,8 @@
 -- A text that is put run by run: the bytes that stand for themselves in one piece.
-use Rattle.std.proofs.Common.{◌≡◌, refl, subst, cond, arith, ℕ, suc, ◌+◌, List, [], ◌∷◌, ◌++◌, take, drop, ap, sym, ◌∙◌, true, false, Bool}
+use Rattle.std.proofs.Common.{◌≡◌, refl, subst, cond, arith, ℕ, suc, ◌+◌, List, [], ◌∷◌, ◌++◌, take, drop, ap, sym, ◌∙◌, append_assoc, true, false, Bool}
 use Rattle.std.proofs.Math.Seq.{take-add}
-use Rattle.std.specs.List.{flat_map, prefix_len}
+use Rattle.std.specs.Prelude.{◌&&◌}
+use Rattle.std.specs.List.{flat_map, list_all, prefix_len}
 use Rattle.std.proofs.lemmas.Grind.{flat_map-append}
 use Rattle.cs_io.specs.declared.sink.Sink as Sink
 use Rattle.cs_manifest.specs.declared.output.Output.{Output}
@@ -32,6 +33,24 @@ plain_run (b ∷ text) = by (is_plain_text b) refl (plain_run text)
         (sym (ap (λ (plain : Bool). cond plain (1 + prefix_len is_plain_text text) 0) e))
         (plain_more b text (prefix_len is_plain_text text) e rest)
     by false e rest = rw e refl
+
+-- a text whose bytes all stand for themselves is its own text
+pub plain_all : (text : List ℕ) → list_all is_plain_text text ≡ true → text ≡ flat_map text_byte text
+plain_all [] all = refl
+plain_all (b ∷ text) all = by (is_plain_text b) refl (plain_all text)
+  where
+    by : (plain : Bool) → is_plain_text b ≡ plain → (list_all is_plain_text text ≡ true → text ≡ flat_map text_byte text) → b ∷ text ≡ flat_map text_byte (b ∷ text)
+    by true e rest = rw e (ap (λ (bs : List ℕ). b ∷ bs) (rest (subst (λ (t : Bool). (t && list_all is_plain_text text) ≡ true) e all)))
+    by false e rest = let none : false ≡ true = subst (λ (t : Bool). (t && list_all is_plain_text text) ≡ true) e all in absurd (cc)
+
+-- a text spelled part by part, and what stands behind it
+pub parts_spelled : (front middle back : List ℕ)
+    → ((flat_map text_byte front ++ flat_map text_byte middle) ++ flat_map text_byte back) ++ (34 ∷ 10 ∷ [])
+    ≡ (flat_map text_byte ((front ++ middle) ++ back) ++ 34 ∷ []) ++ 10 ∷ []
+parts_spelled front middle back =
+    ap (λ (t : List ℕ). t ++ (34 ∷ 10 ∷ []))
+    (ap (λ (t : List ℕ). t ++ flat_map text_byte back) (sym (flat_map-append text_byte front middle)) ∙ sym (flat_map-append text_byte (front ++ middle) back))
+    ∙ sym (append_assoc (flat_map text_byte ((front ++ middle) ++ back)) (34 ∷ []) (10 ∷ []))
 
 module _ {S : Type 0} {g : Sink.Ghosts S} where
   -- so many more bytes of a text

@@ -2,7 +2,7 @@
 use Rattle.std.specs.Prelude.{ℕ, List, Option, Some, option_map}
 use Rattle.std.specs.Borrow.{Bor}
 use Rattle.cs_render.specs.declared.rendered.Rendered.{Rendered}
-use Rattle.cs_render.specs.Rendering.{Rendering, rendering}
+use Rattle.cs_render.specs.Rendering.{Rendering, rendering, rendering_in}
 use Rattle.cs_yacc.specs.File.{File}
 use Rattle.cs_manifest.specs.declared.entry.Entry.{Entry}
 use Rattle.cs_manifest.specs.declared.entry.Entry.TheVariants.{Goal, Case, Shared, Base, Negative}
@@ -23,7 +23,7 @@ lines_of file (Case number size derivation tokens rendered) =
 lines_of file (Shared number goal verdict) = shared_goal_line file number goal.now verdict
 lines_of file (Base number goal) = base_line number goal
 lines_of file (Negative number base edit left right at tokens rendered) =
-    negative_lines file number base edit left right at tokens.now (Some (rendering rendered.now))
+    negative_lines file number base edit left right at tokens.now (Some (rendering_in rendered))
 
 -- the numbers of its tokens are of the file
 abbrev pub IsNamedEntry : File → Entry → Type 0
@@ -35,4 +35,4 @@ IsNamedEntry file (Shared number goal verdict) = IsNamedGoal file goal.now
 IsNamedEntry file (Base number goal) = Unit {0}
 IsNamedEntry file (Negative number base edit left right at tokens rendered) =
     IsNamedEdit file edit × IsNamedMark file left × IsNamedMark file right × AreNamedTokens file tokens.now
-    × IsNamedRendering file (rendering rendered.now)
+    × IsNamedRendering file (rendering_in rendered)

@@ -9,3 +9,4 @@ pub mod Progress
 pub mod Manifest
 pub mod Sinks
 pub mod Putting
+pub mod Below

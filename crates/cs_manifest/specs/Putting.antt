@@ -53,6 +53,7 @@ module _ {S : Type 0} (g : Sink.Ghosts S) where
     pub reference : new.sink.ghost_name ≡ old.sink.ghost_name
     pub sink : new.sink.now ≡ old.sink.now
 
-  -- one of these three
+  -- one of these three; and the line is still the one that was lent
   pub record Puts (text : List ℕ) (old new : Output S) : Type 0 where
+    pub line : new.line.ghost_name ≡ old.line.ghost_name
     pub how : IsPut text old new ⊎ IsCut text old new ⊎ IsLeft old new

@@ -3,7 +3,7 @@ use cs_goals::Goal;
 use cs_grammar::{Derivation, Mark};
 use cs_mutate::Edit;
 use cs_positive::Verdict;
-use cs_render::Rendered;
+use cs_render::{Rendered, RenderedParts};
 
 /// What stands in a manifest between its head and its end. Numbers count from 1.
 #[derive(Clone, Copy)]
@@ -46,7 +46,7 @@ pub enum Entry<'a> {
         right: Mark,
         at: u32,
         tokens: &'a [u16],
-        rendered: &'a Rendered,
+        rendered: RenderedParts<'a>,
     },
 }
 

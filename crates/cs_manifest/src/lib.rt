@@ -8,7 +8,7 @@
 //! `Progress` (what contracts see of a manifest), `Counts`, `Head` and `Entry` (which lines stand for what), `Lines` and
 //! `SharedLines` (the lines of both formats and those of the second, in their order), `Names` (the names of symbols, and which
 //! numbers have one), `Words` (words, lines and escapes), `Sinks` (what a call did to a sink). Working words of proofs:
-//! `Putting`.
+//! `Putting`, `Below`.
 #![tactic(auto)]
 
 mod counts;

@@ -25,6 +25,9 @@ use std::marker::Model;
 pub struct Manifest<'a> {
     head: Head<'a>,
     counts: Counts,
+
+    // Lent to the output of each entry; what it has between them means nothing.
+    line: [u8; LINE_LENGTH],
 }
 
 impl<'a> Model for Manifest<'a> {
@@ -67,6 +70,7 @@ impl<'a> Manifest<'a> {
         Ok(Manifest {
             head: *head,
             counts: first_counts(bytes, first_cases(head.form)),
+            line,
         })
     }
 
@@ -96,11 +100,10 @@ impl<'a> Manifest<'a> {
         ensures same_lent { S.lent sink.new ≡ S.lent sink.old }
         ensures passed_never_falls { S.passed sink.old ≤ S.passed sink.new }
     {
-        let mut line = [0u8; LINE_LENGTH];
-        let mut output = Output::new(sink, &mut line, self.counts.bytes);
+        let mut output = Output::new(sink, &mut self.line, self.counts.bytes);
         put_entry(&mut output, self.head.yacc, entry);
         let bytes = output.end()?;
-        self.counts = with_entry(self.counts, bytes, entry);
+        count_entry(&mut self.counts, bytes, entry);
         Ok(())
     }
 
@@ -167,24 +170,17 @@ fn with_bytes(counts: Counts, bytes: u128) -> Counts
     Counts { bytes, ..counts }
 }
 
-// One more entry, and so many bytes.
-fn with_entry(counts: Counts, bytes: u128, entry: &Entry<'_>) -> Counts
-    ensures { result ≡ counted (record counts { bytes = bytes }) entry.now }
+// Counts one more entry, and so many bytes.
+fn count_entry(counts: &mut Counts, bytes: u128, entry: &Entry<'_>)
+    ensures { counts.new ≡ counted (record counts.old { bytes = bytes }) entry.now }
 {
+    counts.bytes = bytes;
     match entry {
-        Entry::Goal { verdict, .. } => with_goal(with_bytes(counts, bytes), verdict),
-        Entry::Case { .. } => Counts {
-            cases: next_case(counts.cases),
-            bytes,
-            ..counts
-        },
-        Entry::Shared { verdict, .. } => with_shared(with_bytes(counts, bytes), *verdict),
-        Entry::Base { .. } => with_bytes(counts, bytes),
-        Entry::Negative { .. } => Counts {
-            negatives: counts.negatives.saturating_add(1),
-            bytes,
-            ..counts
-        },
+        Entry::Goal { verdict, .. } => *counts = with_goal(*counts, verdict),
+        Entry::Case { .. } => counts.cases = next_case(counts.cases),
+        Entry::Shared { verdict, .. } => *counts = with_shared(*counts, *verdict),
+        Entry::Base { .. } => {}
+        Entry::Negative { .. } => counts.negatives = counts.negatives.saturating_add(1),
     }
 }
 

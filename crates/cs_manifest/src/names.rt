@@ -1,7 +1,8 @@
 // The names of symbols and marks, and bytes between quotes.
 
-ghost use Rattle.std.specs.Prelude.{◌≡◌, ◌<◌, ◌≤◌, length, take};
-ghost use Rattle.std.specs.List.{flat_map, prefix_len};
+ghost use Rattle.std.specs.Prelude.{◌≡◌, ◌∷◌, ◌<◌, ◌≤◌, length, take};
+ghost use Rattle.std.specs.List.{flat_map, list_all, prefix_len};
+ghost use Rattle.cs_bytes.specs.Names.{space};
 ghost use Rattle.cs_grammar.specs.Grammar.{IsNumberOf};
 ghost use Rattle.cs_manifest.specs.Names as names;
 ghost use Rattle.cs_manifest.specs.Putting.{Puts};
@@ -36,14 +37,35 @@ pub fn put_symbol<S: Sink>(output: &mut Output<'_, S>, file: &YaccFile, symbol: 
     }
 }
 
-pub fn put_mark<S: Sink>(output: &mut Output<'_, S>, file: &YaccFile, mark: Mark)
+/// A token's name behind a space.
+pub fn put_spaced_token<S: Sink>(output: &mut Output<'_, S>, file: &YaccFile, token: u16)
+    requires { names.IsNamedToken file.now token }
+    ensures { Puts S.Sink (space ∷ names.token_of file.now token) output.old output.new }
+{
+    put_spaced_name(output, &file.token_names()[place_of(token)]);
+}
+
+/// A mark's name behind a space.
+pub fn put_spaced_mark<S: Sink>(output: &mut Output<'_, S>, file: &YaccFile, mark: Mark)
     requires { names.IsNamedMark file.now mark }
-    ensures { Puts S.Sink (names.mark_text file.now mark) output.old output.new }
+    ensures { Puts S.Sink (space ∷ names.mark_text file.now mark) output.old output.new }
 {
     match mark {
-        Mark::Begin => output.put(b"<begin>"),
-        Mark::Token(token) => put_token(output, file, token),
-        Mark::End => output.put(b"<end>"),
+        Mark::Begin => output.put(b" <begin>"),
+        Mark::Token(token) => put_spaced_token(output, file, token),
+        Mark::End => output.put(b" <end>"),
+    }
+}
+
+fn put_spaced_name<S: Sink>(output: &mut Output<'_, S>, name: &TokenName)
+    ensures { Puts S.Sink (space ∷ names.token_text name.now) output.old output.new }
+{
+    match name {
+        TokenName::Word(name) => output.put_spaced(name.bytes()),
+        TokenName::Byte(byte) => {
+            output.put(b" ");
+            put_literal(output, *byte);
+        }
     }
 }
 
@@ -78,7 +100,29 @@ pub fn put_quoted<S: Sink>(output: &mut Output<'_, S>, text: &[u8])
     output.put(b"\"");
 }
 
-fn put_text_bytes<S: Sink>(output: &mut Output<'_, S>, text: &[u8])
+/// Bytes of a text between double quotes.
+pub fn put_text_bytes<S: Sink>(output: &mut Output<'_, S>, text: &[u8])
+    ensures { Puts S.Sink (flat_map words.text_byte text.now) output.old output.new }
+{
+    if is_plain(text) {
+        output.put(text);
+    } else {
+        put_runs(output, text);
+    }
+}
+
+// Whether each byte stands for itself. It looks at all of them, and so at many at once.
+fn is_plain(text: &[u8]) -> bool
+    ensures { result ≡ list_all words.is_plain_text text.now }
+{
+    let mut plain = true;
+    for byte in text {
+        plain &= is_plain_text(*byte);
+    }
+    plain
+}
+
+fn put_runs<S: Sink>(output: &mut Output<'_, S>, text: &[u8])
     ensures { Puts S.Sink (flat_map words.text_byte text.now) output.old output.new }
 {
     let mut at = 0usize;

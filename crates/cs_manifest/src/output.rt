@@ -2,8 +2,8 @@
 
 ghost use Rattle.std.specs.Prelude.{◌≡◌, ◌+◌, ◌++◌, ◌∷◌, ◌<◌, ◌≤◌, IfOk, OnErr, OnOk, false, true, [], codes, decimal, length, take};
 ghost use Rattle.std.specs.List.{flat_map};
+ghost use Rattle.cs_bytes.specs.Names.{space};
 ghost use Rattle.cs_manifest.specs.Sinks.{Writes};
-ghost use Rattle.cs_manifest.specs.Words as spec;
 
 use cs_io::{Sink, SinkError, write_all};
 use itoa::Buffer;
@@ -28,6 +28,7 @@ impl<'s, S: Sink> Output<'s, S> {
 
     pub fn new(sink: &'s mut S, line: &'s mut [u8; LINE_LENGTH], bytes: u128) -> Output<'s, S>
         ensures reference { result.sink.ghost_name ≡ sink.entry.ghost_name }
+        ensures line { result.line.ghost_name ≡ line.entry.ghost_name }
         ensures sink { result.sink.now ≡ sink.old }
         ensures waiting { waiting result ≡ [] }
         ensures bytes { result.bytes ≡ bytes }
@@ -53,14 +54,46 @@ impl<'s, S: Sink> Output<'s, S> {
         }
     }
 
+    /// Puts a space and a word behind it.
+    #[inline(always)]
+    pub fn put_spaced(&mut self, word: &[u8])
+        ensures { Puts S.Sink (space ∷ word.now) self.old self.new }
+    {
+        if word.len() < LINE_LENGTH && self.used < LINE_LENGTH - word.len() {
+            self.keep_spaced(word);
+        } else {
+            self.put_spaced_behind(word);
+        }
+    }
+
     // Lets a piece wait, for which the line has room.
     #[inline(always)]
     fn keep(&mut self, piece: &[u8])
         requires { self.old.used + length piece.now ≤ 1024 }
-        ensures { Puts S.Sink piece.now self.old self.new }
+        ensures puts { Puts S.Sink piece.now self.old self.new }
+        ensures used { self.new.used ≡ self.old.used + length piece.now }
     {
         put_at(&mut *self.line, self.used, piece);
         self.used += piece.len();
+    }
+
+    // Lets a space and a word wait, for which the line has room.
+    #[inline(always)]
+    fn keep_spaced(&mut self, word: &[u8])
+        requires { self.old.used + length word.now < 1024 }
+        ensures { Puts S.Sink (space ∷ word.now) self.old self.new }
+    {
+        self.keep(b" ");
+        self.keep(word);
+    }
+
+    // Passes on what waits, and puts a space and a word behind it.
+    #[inline(never)]
+    fn put_spaced_behind(&mut self, word: &[u8])
+        ensures { Puts S.Sink (space ∷ word.now) self.old self.new }
+    {
+        self.put_behind(b" ");
+        self.put(word);
     }
 
     // Passes on what waits, and puts a piece behind it.
@@ -139,13 +172,32 @@ impl<'s, S: Sink> Output<'s, S> {
     }
 }
 
-// Puts a piece into a line.
+// Puts a piece into a line. Most are shorter than what a call to copy them takes.
 #[inline(always)]
 fn put_at(line: &mut [u8; LINE_LENGTH], at: usize, piece: &[u8])
     requires { at + length piece.now ≤ 1024 }
     ensures { take (at + length piece.now) line.new ≡ take at line.old ++ piece.now }
 {
-    line[at..at + piece.len()].copy_from_slice(piece);
+    match piece.len() {
+        1 => put_ends(line, at, piece, 1),
+        2..=3 => put_ends(line, at, piece, 2),
+        4..=7 => put_ends(line, at, piece, 4),
+        8..=16 => put_ends(line, at, piece, 8),
+        _ => line[at..at + piece.len()].copy_from_slice(piece),
+    }
+}
+
+// Puts a piece into a line by its first bytes and its last, so many of each; those between are put twice.
+#[inline(always)]
+fn put_ends(line: &mut [u8; LINE_LENGTH], at: usize, piece: &[u8], count: usize)
+    requires room { at + length piece.now ≤ 1024 }
+    requires some { count ≤ length piece.now }
+    requires all { length piece.now ≤ count + count }
+    ensures { take (at + length piece.now) line.new ≡ take at line.old ++ piece.now }
+{
+    let back = piece.len() - count;
+    line[at..at + count].copy_from_slice(&piece[..count]);
+    line[at + back..at + back + count].copy_from_slice(&piece[back..]);
 }
 
 // Writes the first bytes of a line.

@@ -7,7 +7,7 @@ ghost use Rattle.cs_manifest.specs.Names as names;
 ghost use Rattle.cs_manifest.specs.Putting.{Puts};
 ghost use Rattle.cs_manifest.specs.SharedLines as lines;
 
-use crate::names::{put_mark, put_nonterminal};
+use crate::names::{put_nonterminal, put_spaced_mark};
 use crate::output::Output;
 use crate::put_entry::put_names;
 use cs_closed::{Closed, Marks, Tokens};
@@ -108,8 +108,8 @@ fn put_next<S: Sink>(output: &mut Output<'_, S>, file: &YaccFile, mark: Mark, ma
     requires marks { names.AreNamedMarks file.now marks.now }
     ensures { Puts S.Sink (lines.next_line file.now mark marks.now) output.old output.new }
 {
-    output.put(b"closed next ");
-    put_mark(output, file, mark);
+    output.put(b"closed next");
+    put_spaced_mark(output, file, mark);
     output.put(b" :");
     put_marks(output, file, marks);
     output.put(b"\n");
@@ -120,7 +120,6 @@ fn put_marks<S: Sink>(output: &mut Output<'_, S>, file: &YaccFile, marks: &[Mark
     ensures { Puts S.Sink (lines.mark_words file.now marks.now) output.old output.new }
 {
     for mark in marks {
-        output.put(b" ");
-        put_mark(output, file, *mark);
+        put_spaced_mark(output, file, *mark);
     }
 }

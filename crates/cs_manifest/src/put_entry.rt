@@ -1,17 +1,19 @@
 // The lines of goals, of bases and negatives, and the end.
 
-ghost use Rattle.std.specs.Prelude.{◌≡◌, decimal};
+ghost use Rattle.std.specs.Prelude.{◌≡◌, ◌∷◌, decimal};
+ghost use Rattle.cs_bytes.specs.Names.{space};
 ghost use Rattle.cs_manifest.specs.Entry.{IsNamedEntry, lines_of, rendering_of};
 ghost use Rattle.cs_manifest.specs.Counts.{end_of};
+ghost use Rattle.cs_manifest.specs.Below as below;
+ghost use Rattle.cs_manifest.specs.Below.{text_below, texts_below};
 ghost use Rattle.cs_manifest.specs.Lines as lines;
-ghost use Rattle.cs_manifest.specs.Lines.{text_lines};
 ghost use Rattle.cs_manifest.specs.Names as names;
 ghost use Rattle.cs_manifest.specs.Putting.{Puts};
 ghost use Rattle.cs_manifest.specs.SharedLines as shared;
 ghost use Rattle.cs_manifest.specs.Words as words;
-ghost use Rattle.cs_render.specs.Rendering.{rendering};
+ghost use Rattle.cs_render.specs.Rendering.{rendering_in};
 
-use crate::names::{put_mark, put_quoted, put_token};
+use crate::names::{put_spaced_mark, put_spaced_token, put_text_bytes};
 use crate::output::Output;
 use crate::{Counts, Entry, SharedVerdict};
 use cs_goals::Goal;
@@ -19,7 +21,7 @@ use cs_grammar::{Derivation, Mark};
 use cs_io::Sink;
 use cs_mutate::Edit;
 use cs_positive::Verdict;
-use cs_render::Rendered;
+use cs_render::{Rendered, RenderedParts};
 use cs_yacc::YaccFile;
 
 /// The lines of an entry.
@@ -48,7 +50,7 @@ pub fn put_entry<S: Sink>(output: &mut Output<'_, S>, file: &YaccFile, entry: &E
         } => {
             put_count(output, b"case ", number);
             put_tree(output, file, size, derivation, tokens);
-            put_rendered(output, file, rendered);
+            put_rendered(output, file, rendered.parts());
         }
         Entry::Shared {
             number,
@@ -103,11 +105,15 @@ fn put_goal<S: Sink>(output: &mut Output<'_, S>, file: &YaccFile, goal: &Goal)
             put_count(output, b" ", place as u64);
             put_count(output, b" ", inner as u64);
         }
-        Goal::Pair { left, right } => put_pair(output, file, left, right),
+        Goal::Pair { left, right } => {
+            output.put(b"pair");
+            put_pair(output, file, left, right);
+        }
     }
 }
 
 // A number behind a word.
+#[inline(always)]
 fn put_count<S: Sink>(output: &mut Output<'_, S>, word: &[u8], count: u64)
     ensures { Puts S.Sink (lines.numbered_word word.now count) output.old output.new }
 {
@@ -115,17 +121,17 @@ fn put_count<S: Sink>(output: &mut Output<'_, S>, word: &[u8], count: u64)
     output.put_number(count);
 }
 
+// Two marks, each behind a space.
 fn put_pair<S: Sink>(output: &mut Output<'_, S>, file: &YaccFile, left: Mark, right: Mark)
     requires left { names.IsNamedMark file.now left }
     requires right { names.IsNamedMark file.now right }
-    ensures { Puts S.Sink (lines.pair_words file.now left right) output.old output.new }
+    ensures { Puts S.Sink (below.two_marks file.now left right) output.old output.new }
 {
-    output.put(b"pair ");
-    put_mark(output, file, left);
-    output.put(b" ");
-    put_mark(output, file, right);
+    put_spaced_mark(output, file, left);
+    put_spaced_mark(output, file, right);
 }
 
+// A verdict's words and the lines below, without the last newline.
 fn put_verdict<S: Sink>(
     output: &mut Output<'_, S>,
     file: &YaccFile,
@@ -133,17 +139,17 @@ fn put_verdict<S: Sink>(
     tokens: &[u16],
 )
     requires { names.AreNamedTokens file.now tokens.now }
-    ensures { Puts S.Sink (lines.verdict_lines file.now verdict.now tokens.now)
+    ensures { Puts S.Sink (below.verdict_words file.now verdict.now tokens.now)
         output.old output.new }
 {
     match verdict {
-        Verdict::Infeasible => output.put(b" infeasible\n"),
-        Verdict::Large => output.put(b" large\n"),
+        Verdict::Infeasible => output.put(b" infeasible"),
+        Verdict::Large => output.put(b" large"),
         Verdict::Feasible { size, derivation } => put_tree(output, file, *size, derivation, tokens),
     }
 }
 
-// ` size S`, and the lines of a derivation and its tokens.
+// ` size S`, and the lines of a derivation and its tokens, without the last newline.
 fn put_tree<S: Sink>(
     output: &mut Output<'_, S>,
     file: &YaccFile,
@@ -152,10 +158,10 @@ fn put_tree<S: Sink>(
     tokens: &[u16],
 )
     requires { names.AreNamedTokens file.now tokens.now }
-    ensures { Puts S.Sink (lines.tree_lines file.now size code.now tokens.now)
+    ensures { Puts S.Sink (below.tree_words file.now size code.now tokens.now)
         output.old output.new }
 {
-    put_size(output, size);
+    put_count(output, b" size ", size as u64);
     put_derivation(output, code.rules());
     put_yield(output, file, tokens);
 }
@@ -177,29 +183,20 @@ fn put_shared_verdict<S: Sink>(output: &mut Output<'_, S>, verdict: SharedVerdic
 
 fn put_text_lines<S: Sink>(output: &mut Output<'_, S>, file: &YaccFile, rendered: Option<&Rendered>)
     requires { names.AreNamedRenderings file.now (rendering_of rendered) }
-    ensures { Puts S.Sink (text_lines file.now (rendering_of rendered.entry))
+    ensures { Puts S.Sink (texts_below file.now (rendering_of rendered.entry))
         output.old output.new }
 {
     match rendered {
-        None => {}
-        Some(rendered) => put_rendered(output, file, rendered),
+        None => output.put(b"\n"),
+        Some(rendered) => put_rendered(output, file, rendered.parts()),
     }
 }
 
-fn put_size<S: Sink>(output: &mut Output<'_, S>, size: u32)
-    ensures { Puts S.Sink (lines.size_words size) output.old output.new }
-{
-    output.put(b" size ");
-    output.put_number(size as u64);
-    output.put(b"\n");
-}
-
 fn put_derivation<S: Sink>(output: &mut Output<'_, S>, rules: &[u16])
-    ensures { Puts S.Sink (lines.derive_line rules.now) output.old output.new }
+    ensures { Puts S.Sink (below.derive_below rules.now) output.old output.new }
 {
-    output.put(b"  derive");
+    output.put(b"\n  derive");
     put_numbers(output, rules);
-    output.put(b"\n");
 }
 
 fn put_numbers<S: Sink>(output: &mut Output<'_, S>, numbers: &[u16])
@@ -211,14 +208,13 @@ fn put_numbers<S: Sink>(output: &mut Output<'_, S>, numbers: &[u16])
     }
 }
 
-// The line of the tokens.
+// The line of the tokens behind the newline above, without its own.
 fn put_yield<S: Sink>(output: &mut Output<'_, S>, file: &YaccFile, tokens: &[u16])
     requires { names.AreNamedTokens file.now tokens.now }
-    ensures { Puts S.Sink (lines.tokens_line file.now tokens.now) output.old output.new }
+    ensures { Puts S.Sink (below.tokens_below file.now tokens.now) output.old output.new }
 {
-    output.put(b"  tokens");
+    output.put(b"\n  tokens");
     put_names(output, file, tokens);
-    output.put(b"\n");
 }
 
 /// The names of tokens, each behind a space.
@@ -227,37 +223,44 @@ pub fn put_names<S: Sink>(output: &mut Output<'_, S>, file: &YaccFile, tokens: &
     ensures { Puts S.Sink (lines.token_words file.now tokens.now) output.old output.new }
 {
     for token in tokens {
-        output.put(b" ");
-        put_token(output, file, *token);
+        put_spaced_token(output, file, *token);
     }
 }
 
-// The text line.
-fn put_rendered<S: Sink>(output: &mut Output<'_, S>, file: &YaccFile, rendered: &Rendered)
-    requires { names.IsNamedRendering file.now (rendering rendered.now) }
-    ensures { Puts S.Sink (lines.text_line file.now (rendering rendered.now))
-        output.old output.new }
-{
-    put_text(output, file, rendered);
-    output.put(b"\n");
-}
-
-fn put_text<S: Sink>(output: &mut Output<'_, S>, file: &YaccFile, rendered: &Rendered)
-    requires { names.IsNamedRendering file.now (rendering rendered.now) }
-    ensures { Puts S.Sink (lines.text_words file.now (rendering rendered.now))
+// The text line behind the newline above.
+fn put_rendered<S: Sink>(output: &mut Output<'_, S>, file: &YaccFile, rendered: RenderedParts<'_>)
+    requires { names.IsNamedRendering file.now (rendering_in rendered) }
+    ensures { Puts S.Sink (text_below file.now (rendering_in rendered.entry))
         output.old output.new }
 {
     match rendered {
-        Rendered::Text(text) => {
-            output.put(b"  text ");
-            put_quoted(output, text.as_slice());
+        RenderedParts::Text {
+            front,
+            middle,
+            back,
+        } => put_text_line(output, front, middle, back),
+        RenderedParts::NoLexeme(token) => {
+            output.put(b"\n  no text lexeme");
+            put_spaced_token(output, file, token);
+            output.put(b"\n");
         }
-        Rendered::NoLexeme(token) => {
-            output.put(b"  no text lexeme ");
-            put_token(output, file, *token);
+        RenderedParts::Differs { after } => {
+            put_count(output, b"\n  no text scan ", after as u64);
+            output.put(b"\n");
         }
-        Rendered::Differs { after } => put_count(output, b"  no text scan ", *after as u64),
     }
+}
+
+// The line of a text in three parts.
+fn put_text_line<S: Sink>(output: &mut Output<'_, S>, front: &[u8], middle: &[u8], back: &[u8])
+    ensures { Puts S.Sink (below.parts_below front.now middle.now back.now)
+        output.old output.new }
+{
+    output.put(b"\n  text \"");
+    put_text_bytes(output, front);
+    put_text_bytes(output, middle);
+    put_text_bytes(output, back);
+    output.put(b"\"\n");
 }
 
 fn put_base<S: Sink>(output: &mut Output<'_, S>, number: u32, goal: u64)
@@ -276,7 +279,7 @@ fn put_negative_words<S: Sink>(output: &mut Output<'_, S>, number: u64, base: u3
     put_count(output, b" base ", base as u64);
 }
 
-// ` EDIT pair A B at K`
+// ` EDIT pair A B at K`, without the newline.
 fn put_fault<S: Sink>(
     output: &mut Output<'_, S>,
     file: &YaccFile,
@@ -288,33 +291,30 @@ fn put_fault<S: Sink>(
     requires edit { names.IsNamedEdit file.now edit }
     requires left { names.IsNamedMark file.now left }
     requires right { names.IsNamedMark file.now right }
-    ensures { Puts S.Sink (lines.fault_line file.now edit left right at) output.old output.new }
+    ensures { Puts S.Sink (below.fault_words file.now edit left right at) output.old output.new }
 {
-    output.put(b" ");
     put_edit(output, file, edit);
-    output.put(b" ");
+    output.put(b" pair");
     put_pair(output, file, left, right);
     put_count(output, b" at ", at as u64);
-    output.put(b"\n");
 }
 
+// ` EDIT`
 fn put_edit<S: Sink>(output: &mut Output<'_, S>, file: &YaccFile, edit: Edit)
     requires { names.IsNamedEdit file.now edit }
-    ensures { Puts S.Sink (lines.edit_text file.now edit) output.old output.new }
+    ensures { Puts S.Sink (space ∷ lines.edit_text file.now edit) output.old output.new }
 {
     match edit {
-        Edit::Delete(place) => put_count(output, b"delete ", place as u64),
+        Edit::Delete(place) => put_count(output, b" delete ", place as u64),
         Edit::Insert(place, token) => {
-            put_count(output, b"insert ", place as u64);
-            output.put(b" ");
-            put_token(output, file, token);
+            put_count(output, b" insert ", place as u64);
+            put_spaced_token(output, file, token);
         }
         Edit::Replace(place, token) => {
-            put_count(output, b"replace ", place as u64);
-            output.put(b" ");
-            put_token(output, file, token);
+            put_count(output, b" replace ", place as u64);
+            put_spaced_token(output, file, token);
         }
-        Edit::Swap(place) => put_count(output, b"swap ", place as u64),
+        Edit::Swap(place) => put_count(output, b" swap ", place as u64),
     }
 }
 

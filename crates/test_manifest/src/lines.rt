@@ -6,7 +6,7 @@ use cs_io::{MemorySink, NullSink, Sink, SinkError};
 use cs_manifest::{Counts, Entry, Form, Head, Manifest};
 use cs_mutate::Edit;
 use cs_positive::Verdict;
-use cs_render::Rendered;
+use cs_render::{Rendered, RenderedParts};
 use cs_yacc::{YaccFile, read_yacc};
 use std::test::Fail;
 
@@ -93,7 +93,7 @@ fn write_mutants<S: Sink>(
         right: Mark::End,
         at: 0,
         tokens: &[],
-        rendered: &rendered,
+        rendered: rendered.parts(),
     };
     manifest.entry(sink, &first)?;
     let second = Entry::Negative {
@@ -104,7 +104,7 @@ fn write_mutants<S: Sink>(
         right: Mark::End,
         at: 3,
         tokens: &[],
-        rendered: &Rendered::Differs { after: u32::MAX },
+        rendered: RenderedParts::Differs { after: u32::MAX },
     };
     manifest.entry(sink, &second)
 }

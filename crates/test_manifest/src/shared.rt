@@ -13,7 +13,7 @@ use cs_io::{MemorySink, SinkError};
 use cs_manifest::{Counts, Entry, Form, Head, Manifest, SharedVerdict, Weigh};
 use cs_mutate::Edit;
 use cs_positive::Tables;
-use cs_render::Rendered;
+use cs_render::{Rendered, RenderedParts};
 use cs_sample_files::{Trouble, lexemes_of, read_files};
 use cs_samples::{LETTER, LETTER_SCANNER, LETTER_SUITE_TWO, SCANNER, SUMS, SUMS_SUITE_TWO};
 use cs_yacc::YaccFile;
@@ -216,15 +216,11 @@ fn put_mutants(
     requires { length manifest.old.file.token_names ≡ 1 }
 {
     manifest.entry(sink, &Entry::Base { number: 1, goal: 1 })?;
-    put_deleted(alloc, manifest, sink)?;
+    put_deleted(manifest, sink)?;
     put_inserted(alloc, manifest, sink)
 }
 
-fn put_deleted(
-    alloc: Global,
-    manifest: &mut Manifest<'_>,
-    sink: &mut MemorySink,
-) -> Result<(), Trouble>
+fn put_deleted(manifest: &mut Manifest<'_>, sink: &mut MemorySink) -> Result<(), Trouble>
     ensures { OnOk result (manifest.new.file ≡ manifest.old.file) }
 {
     let negative = Entry::Negative {
@@ -235,7 +231,11 @@ fn put_deleted(
         right: Mark::End,
         at: 0,
         tokens: &[],
-        rendered: &Rendered::Text(Vec::new(alloc)),
+        rendered: RenderedParts::Text {
+            front: &[],
+            middle: &[],
+            back: &[],
+        },
     };
     Ok(manifest.entry(sink, &negative)?)
 }
@@ -256,7 +256,7 @@ fn put_inserted(
         right: Mark::Token(1),
         at: 1,
         tokens: &[1, 1],
-        rendered: &rendered,
+        rendered: rendered.parts(),
     };
     Ok(manifest.entry(sink, &negative)?)
 }

@@ -2,8 +2,8 @@ use Rattle.std.proofs.Common.{length, ◌≡◌, ◌≤◌, ◌+◌, arith, refl
 use Rattle.cs_manifest.proofs.Pieces.{put_in}
 use Rattle.cs_manifest.proofs.output.put_at.Goals as goal
 
-pub returns : goal.returns
-returns c =
+pub returns-in_default : goal.returns-in_default
+returns-in_default c =
     let line = c.args.line.now in
     let at = c.args.at in
     let piece = c.args.piece.now in

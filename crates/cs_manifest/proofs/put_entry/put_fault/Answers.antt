@@ -2,4 +2,4 @@ use Rattle.cs_manifest.proofs.Pieces.{then}
 use Rattle.cs_manifest.proofs.put_entry.put_fault.Goals as goal
 
 pub returns : goal.returns
-returns g c = then (then (then (then c.put.ensures c.put_edit.ensures) (then c.put-2.ensures c.put_pair.ensures)) c.put_count.ensures) c.put-3.ensures
+returns g c = then (then c.put_edit.ensures (then c.put.ensures c.put_pair.ensures)) c.put_count.ensures

@@ -2,4 +2,4 @@ use Rattle.cs_manifest.proofs.Pieces.{then}
 use Rattle.cs_manifest.proofs.put_entry.put_pair.Goals as goal
 
 pub returns : goal.returns
-returns g c = then (then c.put.ensures c.put_mark.ensures) (then c.put-2.ensures c.put_mark-2.ensures)
+returns g c = then c.put_spaced_mark.ensures c.put_spaced_mark-2.ensures

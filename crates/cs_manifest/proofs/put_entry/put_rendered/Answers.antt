@@ -1,5 +1,8 @@
 use Rattle.cs_manifest.proofs.Pieces.{then}
 use Rattle.cs_manifest.proofs.put_entry.put_rendered.Goals as goal
 
-pub returns : goal.returns
-returns g c = then c.put_text.ensures c.put.ensures
+pub returns-in-NoLexeme : goal.returns-in-NoLexeme
+returns-in-NoLexeme g c = rw c.in-NoLexeme.is (then (then c.put.ensures c.put_spaced_token.ensures) c.put-in-NoLexeme.ensures)
+
+pub returns-in-Differs : goal.returns-in-Differs
+returns-in-Differs g c = rw c.in-Differs.is (then c.put_count.ensures c.put-in-Differs.ensures)

@@ -1,5 +1,10 @@
-use Rattle.cs_manifest.proofs.Pieces.{nothing}
+use Rattle.std.proofs.Common.{ap}
+use Rattle.cs_manifest.specs.Below.{text_below}
+use Rattle.cs_manifest.proofs.Pieces.{spelled}
 use Rattle.cs_manifest.proofs.put_entry.put_text_lines.Goals as goal
 
 pub returns-in-None : goal.returns-in-None
-returns-in-None g c = rw c.in-None.is (nothing _)
+returns-in-None g c = rw c.in-None.is c.put.ensures
+
+pub returns-in-Some : goal.returns-in-Some
+returns-in-Some g c = rw c.in-Some.is (spelled _ (ap (text_below c.args.file.now) c.parts.ensures) c.put_rendered.ensures)

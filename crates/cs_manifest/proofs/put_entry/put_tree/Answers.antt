@@ -1,7 +1,14 @@
-use Rattle.std.proofs.Common.{ap}
-use Rattle.cs_manifest.specs.Lines.{derive_line}
-use Rattle.cs_manifest.proofs.Pieces.{spelled, then}
+use Rattle.std.proofs.Common.{◌++◌, [], ap, codes, decimal}
+use Rattle.cs_manifest.specs.Below.{derive_below, tokens_words}
+use Rattle.cs_manifest.specs.Lines.{size_words}
+use Rattle.cs_manifest.specs.Words.{spaced}
+use Rattle.cs_manifest.proofs.Pieces.{spelled, then_below}
 use Rattle.cs_manifest.proofs.put_entry.put_tree.Goals as goal
 
 pub returns : goal.returns
-returns g c = then (then c.put_size.ensures (spelled _ (ap derive_line c.rules.ensures) c.put_derivation.ensures)) c.put_yield.ensures
+returns g c =
+    let size = c.args.size in
+    let rules = codes "  derive" ++ spaced decimal c.args.code.now in
+    let derivation = spelled _ (ap derive_below c.rules.ensures) c.put_derivation.ensures in
+    let above = then_below [] (codes " size " ++ decimal size) rules c.put_count.ensures derivation in
+    then_below (size_words size) rules (tokens_words c.args.file.now c.args.tokens.now) above c.put_yield.ensures

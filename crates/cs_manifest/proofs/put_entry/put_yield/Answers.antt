@@ -2,4 +2,4 @@ use Rattle.cs_manifest.proofs.Pieces.{then}
 use Rattle.cs_manifest.proofs.put_entry.put_yield.Goals as goal
 
 pub returns : goal.returns
-returns g c = then (then c.put.ensures c.put_names.ensures) c.put-2.ensures
+returns g c = then c.put.ensures c.put_names.ensures

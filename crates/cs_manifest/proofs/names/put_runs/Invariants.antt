@@ -2,7 +2,7 @@ use Rattle.std.proofs.Common.{◌-◌, ◌≤◌, length, take}
 use Rattle.std.specs.List.{flat_map}
 use Rattle.cs_manifest.specs.Putting.{Puts}
 use Rattle.cs_manifest.specs.Words.{text_byte}
-use Rattle.cs_manifest.proofs.names.put_text_bytes.Given as goal
+use Rattle.cs_manifest.proofs.names.put_runs.Given as goal
 
 abbrev pub invariant-loop-at : goal.invariant-loop-at
 invariant-loop-at g l = (l.at ≤ length l.text) × Puts g.S.Sink (flat_map text_byte (take l.at l.text)) l.initial.output l.output
