@@ -35,7 +35,7 @@ pub fn next_entries<R: Threads + Sync, G: Gate + Sync>(
     let rendered = render_lists(rt, alloc, plan.texts, &lists, gate)?;
     let mut lists = lists.into_iter();
     let mut rendered = rendered.into_iter();
-    let mut entries = Vec::new(alloc);
+    let mut entries = Vec::with_capacity(alloc, goals.len())?;
     for positive in goals {
         entries.push(join(alloc, positive, &mut lists, &mut rendered))?;
     }

@@ -30,10 +30,9 @@ pub fn gather(
     ensures few_goals { IfOk result (λ w. length w.goals.items ≤ 1024) }
     ensures tables { positives.new.tables ≡ positives.old.tables }
 {
-    let mut waiting = Waiting {
-        goals: Vec::new(alloc),
-        lists: Vec::new(alloc),
-    };
+    let goals = Vec::with_capacity(alloc, MOST)?;
+    let lists = Vec::with_capacity(alloc, MOST)?;
+    let mut waiting = Waiting { goals, lists };
     for _ in 0..MOST {
         let Some(positive) = positives.next(alloc)? else {
             return Ok(waiting);

@@ -23,7 +23,7 @@ pub loop-positive-init : goal.loop-positive-init
 loop-positive-init g c =
     let gathered = c.in_ok-goals.ensures.gathered in
     let rendered = subst (λ (l : List (Vec ℕ)). AreRenderingsOf c.args.plan.now.texts l c.in_ok-rendered.rendered.items) c.deref.ensures.value c.in_ok-rendered.ensures in
-    joining_none c.args.plan.now c.args.positives.now.tables (into_iter_items c.into_iter-positive-iterator.result) c.in_ok-goals.field-0.goals.items (into_iter_items c.into_iter-lists.result) c.in_ok-goals.field-0.lists.items (into_iter_items c.into_iter-rendered.result) c.in_ok-rendered.rendered.items c.new-entries.result.items c.into_iter-positive-iterator.ensures.into_iter_gives.0 c.into_iter-lists.ensures.rest c.into_iter-rendered.ensures.rest c.new-entries.ensures.items gathered.judged gathered.are_lists rendered
+    joining_none c.args.plan.now c.args.positives.now.tables (into_iter_items c.into_iter-positive-iterator.result) c.in_ok-goals.field-0.goals.items (into_iter_items c.into_iter-lists.result) c.in_ok-goals.field-0.lists.items (into_iter_items c.into_iter-rendered.result) c.in_ok-rendered.rendered.items c.in_ok-entries.entries.items c.into_iter-positive-iterator.ensures.into_iter_gives.0 c.into_iter-lists.ensures.rest c.into_iter-rendered.ensures.rest c.in_ok-entries.ensures.items gathered.judged gathered.are_lists rendered
 
 pub join-requires : goal.join-requires
 join-requires g c =

@@ -10,9 +10,9 @@ use Rattle.cs_plan.proofs.waiting.gather.Goals as goal
 
 pub loop-init : goal.loop-init
 loop-init c =
-    let no_lists : length c.new-2.result.items ≡ 0 = ap length c.new-2.ensures.items in
-    let no_goals : length c.new.result.items ≡ 0 = ap length c.new.ensures.items in
-    (gathered_none c.args.positives.now c.new.result.items c.new-2.result.items c.new.ensures.items c.new-2.ensures.items, refl, omega (arith, no_lists), no_goals)
+    let no_lists : length c.in_ok-lists.lists.items ≡ 0 = ap length c.in_ok-lists.ensures.items in
+    let no_goals : length c.in_ok-goals.goals.items ≡ 0 = ap length c.in_ok-goals.ensures.items in
+    (gathered_none c.args.positives.now c.in_ok-goals.goals.items c.in_ok-lists.lists.items c.in_ok-goals.ensures.items c.in_ok-lists.ensures.items, refl, omega (arith, no_lists), no_goals)
 
 pub returns-in_err-positive-clause-tables : goal.returns-in_err-positive-clause-tables
 returns-in_err-positive-clause-tables c = c.next.ensures.tables ∙ c.loop.invariant.1
