@@ -1,5 +1,5 @@
 -- Words of the proof of expansions: what a walk over rule numbers has in hand, and what it comes to.
-use Rattle.std.specs.Prelude.{◌≡◌, ℕ, List, ◌++◌, map, reverse, Option, Some, None}
+use Rattle.std.specs.Prelude.{◌≡◌, ℕ, ◌≤◌, List, ◌++◌, length, map, reverse, take, Option, Some, None}
 use Rattle.std.specs.Global.{Vec}
 use Rattle.cs_grammar.specs.declared.symbol.Symbol.{Symbol}
 use Rattle.cs_grammar.specs.declared.symbol.Symbol.TheVariants.{Token}
@@ -18,6 +18,10 @@ IsExpansion g rules (TooMany at) = IsTooManyAt g rules at
 -- the symbols that a walk has in hand: the tokens in front, and what is open behind them, which stands in reverse
 abbrev pub in_hand : Vec ℕ → Vec Symbol → List Symbol
 in_hand done pending = map Token done.items ++ reverse pending.items
+
+-- the first so many of the symbols are tokens, and stand behind those that were done
+abbrev pub AreDone : List Symbol → ℕ → Vec ℕ → Vec ℕ → Type 0
+AreDone symbols count old new = (count ≤ length symbols) × (map Token new.items ≡ map Token old.items ++ take count symbols)
 
 -- the symbols are tokens alone, or the nonterminal n stands behind the tokens in front
 abbrev pub IsFront : List Symbol → Vec ℕ → Vec Symbol → Option ℕ → Type 0

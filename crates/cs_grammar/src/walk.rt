@@ -2,7 +2,7 @@
 
 ghost use Rattle.std.specs.Prelude.{IfOk, IfNone, IfSome};
 ghost use Rattle.cs_grammar.specs.Leftmost.{HasNoRuleOf, IsRuleFrom};
-ghost use Rattle.cs_grammar.specs.Walk.{IsExpansion, in_hand, IsFront};
+ghost use Rattle.cs_grammar.specs.Walk.{AreDone, IsExpansion, in_hand, IsFront};
 
 use crate::derivation::Derivation;
 use crate::grammar::Grammar;
@@ -37,6 +37,19 @@ fn settle(done: &mut Vec<u16>, pending: &mut Vec<Symbol>) -> Result<Option<u16>,
     Ok(None)
 }
 
+// Puts the tokens in front of these symbols behind those that are done, and gives how many they are.
+fn push_leading(symbols: &[Symbol], done: &mut Vec<u16>) -> Result<usize, AllocError>
+    ensures { IfOk result (λ count. AreDone symbols.now count done.old done.new) }
+{
+    for (place, symbol) in symbols.iter().enumerate() {
+        match *symbol {
+            Symbol::Token(t) => done.push(t)?,
+            Symbol::Nonterminal(_) => return Ok(place),
+        }
+    }
+    Ok(symbols.len())
+}
+
 // The rule of that number, where there is one with this left side.
 fn rule_of(grammar: &Grammar, number: u16, left: u16) -> Option<&Rule>
     ensures none { IfNone result (HasNoRuleOf grammar.now number left) }
@@ -68,7 +81,9 @@ pub fn walk(
         let Some(rule) = rule_of(grammar, *number, left) else {
             return Ok(Expansion::WrongRule(at));
         };
-        put_on_top(&mut pending, rule.right())?;
+        let right = rule.right();
+        let leading = push_leading(right, &mut done)?;
+        put_on_top(&mut pending, &right[leading..])?;
     }
     match settle(&mut done, &mut pending)? {
         None => Ok(Expansion::Yield(done)),

@@ -1,6 +1,8 @@
-use Rattle.std.proofs.Common.{List, ◌++◌, reverse, ap, ◌∙◌}
+use Rattle.std.proofs.Common.{List, ◌+◌, ◌++◌, take, reverse, ap, ◌∙◌, subst}
+use Rattle.std.proofs.lemmas.List.{take_rest}
 use Rattle.cs_grammar.specs.declared.symbol.Symbol.{Symbol}
-use Rattle.cs_grammar.proofs.Leading.{front_none, front_some, too_many, too_few, wrong_at, step_at, whole_at}
+use Rattle.cs_grammar.specs.Leftmost.{Derives, from_start}
+use Rattle.cs_grammar.proofs.Leading.{front_none, front_some, led, too_many, too_few, wrong_at, step_at, whole_at}
 use Rattle.cs_grammar.proofs.walk.walk.Goals as goal
 
 pub returns-in_default : goal.returns-in_default
@@ -16,9 +18,15 @@ returns-in_default-rule_of c =
 pub loop-at-preserved : goal.loop-at-preserved
 loop-at-preserved c =
     let rule = c.in-Some-rule_of.ensures.some in
-    step_at c.args.grammar.now _ _ c.rules-number-items.ensures c.loop-at.at _ c.loop-at.invariant _ _ _ _ _ c.loop-at-test.true
+    let right = c.right-right.result.now in
+    let leading = c.in_ok-leading.leading in
+    let rest = reverse c.settle.new.pending.items in
+    let stepped = step_at c.args.grammar.now _ _ c.rules-number-items.ensures c.loop-at.at _ c.loop-at.invariant _ _ _ (right ++ rest) _ c.loop-at-test.true
     (front_some _ c.settle.new.done c.settle.new.pending _ _ c.in-Some.is c.in_ok-left.ensures) rule.0 rule.1
-    (c.in_ok-put_on_top.ensures ∙ ap (λ (xs : List Symbol). xs ++ reverse c.settle.new.pending.items) c.right.ensures)
+    (ap (λ (xs : List Symbol). xs ++ rest) c.right-right.ensures) in
+    let behind = c.in_ok-put_on_top.ensures ∙ ap (λ (xs : List Symbol). xs ++ rest) (take_rest right leading) in
+    subst (Derives c.args.grammar.now (from_start c.args.grammar.now) (take (c.loop-at.at + 1) c.rules-number-items.result.now))
+    (led right leading _ _ rest _ c.in_ok-leading.ensures.1 behind) stepped
 
 pub returns-in-None : goal.returns-in-None
 returns-in-None c =
