@@ -7,6 +7,7 @@ pub mod OneFile
 pub mod Counts
 pub mod Places
 pub mod Names
+pub mod Marks
 pub mod Unknown
 pub mod Fits
 pub mod Whole

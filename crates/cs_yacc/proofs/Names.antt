@@ -53,7 +53,7 @@ in_filter p w (v ∷ ws) passes h = filter_step p v w ws (p v) refl passes h (in
 
 -- ---- distinct words
 
-abbrev Differ : TokenName → TokenName → Type 0
+abbrev pub Differ : TokenName → TokenName → Type 0
 Differ a b = a ≢ b
 
 not_filtered : (w : TokenName) (ws : List TokenName) → All (Differ w) (filter (λ v. not (same_spelling w v)) ws)
@@ -64,15 +64,15 @@ not_filtered w (v ∷ ws) = step (same_spelling w v) refl (not_filtered w ws)
     step true e h = h
     step false e h = All-cons (Differ w) v (filter (λ v. not (same_spelling w v)) ws) (λ f. false≢true (sym e ∙ rw f (same_self v))) h
 
-distinct_differ : (ws : List TokenName) → AllPairs Differ (distinct ws)
+pub distinct_differ : (ws : List TokenName) → AllPairs Differ (distinct ws)
 distinct_differ [] = λ i j d lt within. absurd (omega arith)
 distinct_differ (w ∷ ws) =
     AllPairs-cons Differ w (filter (λ v. not (same_spelling w v)) (distinct ws)) (not_filtered w (distinct ws)) (AllPairs-filter Differ (λ v. not (same_spelling w v)) (distinct ws) (distinct_differ ws))
 
-pairs_tail : (w : TokenName) (ws : List TokenName) → AllPairs Differ (w ∷ ws) → AllPairs Differ ws
+pub pairs_tail : (w : TokenName) (ws : List TokenName) → AllPairs Differ (w ∷ ws) → AllPairs Differ ws
 pairs_tail w ws h = λ i j d lt within. h (suc i) (suc j) d (omega arith) (omega arith)
 
-pairs_head : (w : TokenName) (ws : List TokenName) → AllPairs Differ (w ∷ ws) → All (Differ w) ws
+pub pairs_head : (w : TokenName) (ws : List TokenName) → AllPairs Differ (w ∷ ws) → All (Differ w) ws
 pairs_head w ws h = λ k d lt. h 0 (suc k) d (omega arith) (omega arith)
 
 -- two lists of words that differ, of which one holds what the other doesn't

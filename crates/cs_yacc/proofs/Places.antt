@@ -1,9 +1,10 @@
 -- Places of spellings.
-use Rattle.std.proofs.Common.{◌≡◌, ℕ, zero, suc, ◌+◌, ◌-◌, Bool, true, false, cond, List, [], ◌∷◌, ◌++◌, length, take, drop, refl, sym, ap, ◌∙◌}
+use Rattle.std.proofs.Common.{◌≡◌, ℕ, zero, suc, ◌+◌, ◌-◌, ◌<◌, Bool, true, false, cond, List, [], ◌∷◌, ◌++◌, length, take, drop, refl, sym, ap, ◌∙◌}
 use Rattle.std.specs.Prelude.{Some, slice_get}
-use Rattle.std.specs.List.{list_any}
-use Rattle.std.proofs.lemmas.Option.{none-some, get_or_from_slice_get}
+use Rattle.std.specs.List.{All, list_any}
+use Rattle.std.proofs.lemmas.Option.{none-some, get_or_from_slice_get, slice_get_within}
 use Rattle.std.proofs.lemmas.List.{map_push, drop-drop, take_rest}
+use Rattle.std.proofs.lemmas.List.Elements.{All-nil, All-cons}
 use Rattle.std.proofs.lemmas.Slice.Zip.{AllZip-long, all_zipped_more}
 use Rattle.indexmap.specs.IndexSet.{insert_key, insert_all}
 use Rattle.cs_yacc_items.specs.Items.{Item, name, literal, Placed, items_of}
@@ -69,6 +70,9 @@ places_long words items places h = sym (few_held items) ∙ sym (AllZip-long (Is
 
 -- ---- a body by places
 
+abbrev IsWithin : List TokenName → ℕ → Type 0
+IsWithin words k = k < length words
+
 pub body_run : (words : List TokenName) (items : List Item) (places : List ℕ) → ArePlaces words items places → names_at words (take (length (body items)) places) ≡ body items
 body_run words [] [] h = refl
 body_run words [] (k ∷ places) h = absurd h
@@ -86,6 +90,18 @@ body_at words items places run h e = ap (names_at words) e ∙ body_run words it
 
 pub places_rest : (words : List TokenName) (items after : List held.Placed) (places : List ℕ) (n : ℕ) → ArePlaces words (items_of (placed_all items)) places → after ≡ drop n items → ArePlaces words (items_of (placed_all after)) (take (length places - n) (drop n places))
 places_rest words items after places n h e = rw (e, take_rest places n) (places_drop words items places n h)
+
+pub body_within : (words : List TokenName) (items : List Item) (places : List ℕ) → ArePlaces words items places → All (λ k. k < length words) (take (length (body items)) places)
+body_within words [] [] h = All-nil (IsWithin words)
+body_within words [] (k ∷ places) h = absurd h
+body_within words (i ∷ items) [] h = absurd h
+body_within words (name n ∷ items) (k ∷ places) h = by_colon (begins_with_colon items) (body_within words items places h.1)
+  where
+    by_colon : (b : Bool) → All (IsWithin words) (take (length (body items)) places) → All (IsWithin words) (take (length (cond b [] (Word n ∷ body items))) (k ∷ places))
+    by_colon true g = All-nil (IsWithin words)
+    by_colon false g = All-cons (IsWithin words) k (take (length (body items)) places) (slice_get_within words k (Word n) h.0) g
+body_within words (literal b ∷ items) (k ∷ places) h = All-cons (IsWithin words) k (take (length (body items)) places) (slice_get_within words k (Byte b) h.0) (body_within words items places h.1)
+body_within words (i ∷ items) (k ∷ places) h = All-nil (IsWithin words)
 
 -- ---- the items with a meaning, one by one
 

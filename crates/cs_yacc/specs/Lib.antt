@@ -6,6 +6,7 @@ pub mod SpellingView
 pub mod Places
 pub mod RuleView
 pub mod Finding
+pub mod Marks
 pub mod PartsView
 pub mod AcceptedView
 pub mod TokenNumbers

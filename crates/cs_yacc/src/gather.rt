@@ -1,12 +1,11 @@
 // Spellings that the items hold, gathered into tables.
 
-ghost use Rattle.std.specs.Prelude.{◌≡◌, ◌+◌, ◌<◌, [], ◌∷◌, IfOk, OnOk, length, drop};
+ghost use Rattle.std.specs.Prelude.{◌≡◌, ◌+◌, ◌<◌, IfOk, OnOk, length, drop};
+ghost use Rattle.std.specs.List.{All};
 ghost use Rattle.cs_yacc_items.specs.Views.{item_of};
 ghost use Rattle.cs_yacc.specs.Meaning as spec;
 ghost use Rattle.cs_yacc.specs.Meaning.{listed, declared_at};
-ghost use Rattle.cs_yacc.specs.Finding.{used_among};
-ghost use Rattle.cs_yacc.specs.Places.{names_at};
-ghost use Rattle.cs_yacc.specs.RuleView.{rules_in};
+ghost use Rattle.cs_yacc.specs.Marks.{AreApart, AreWithin, TellsUsed, MarksAt, AreTokens, used_here};
 ghost use Rattle.cs_yacc.specs.SpellingView.{spelling_of, spellings_in, items_in, and_all};
 
 use crate::spelled::SpelledRule;
@@ -97,64 +96,58 @@ pub fn declared<'a>(alloc: Global, items: &[Placed<'a>]) -> Result<Spellings<'a>
     Ok(spellings)
 }
 
-fn add_all<'a>(
-    spellings: &mut Spellings<'a>,
-    words: &Spellings<'a>,
-    places: &[u32],
-) -> Result<(), AllocError>
-    ensures { OnOk result
-        (spellings.new ≡ and_all spellings.old (names_at words.now places.now)) }
+/// Marks the places.
+fn mark_all(marks: &mut Vec<bool>, places: &[u32])
+    requires { All (λ k. k < length marks.old.items) places.now }
+    ensures length { length marks.new.items ≡ length marks.old.items }
+    ensures marks { MarksAt marks.old.items marks.new.items places.now }
 {
     for place in places {
-        spellings.add(words.at(*place))?;
+        marks[*place as usize] = true;
     }
-    Ok(())
 }
 
-/// The spellings of the rules' right sides, each once; these give places among `words`.
-pub fn used<'a>(
+/// Marks those of the spellings that stand in the rules' right sides.
+pub fn used(
     alloc: Global,
-    words: &Spellings<'a>,
-    rules: &[SpelledRule<'_, 'a>],
-) -> Result<Spellings<'a>, AllocError>
-    ensures { IfOk result (λ s. s ≡ spec.used (rules_in words.now rules.now)) }
+    words: &Spellings<'_>,
+    rules: &[SpelledRule<'_, '_>],
+) -> Result<Vec<bool>, AllocError>
+    requires apart { AreApart words.now }
+    requires within { AreWithin words.now rules.now }
+    ensures { IfOk result (λ marks. TellsUsed marks.items words.now rules.now) }
 {
-    let mut spellings = Spellings::new(alloc);
+    let mut marks = vec![in alloc; false; words.len()]?;
     for rule in rules {
-        add_all(&mut spellings, words, rule.right)?;
+        mark_all(&mut marks, rule.right);
     }
-    Ok(spellings)
+    Ok(marks)
 }
 
-/// The spelling, where it is that of a token in use.
-fn in_use<'a>(
-    spelling: Spelling<'a>,
-    used: &Spellings<'a>,
-    lefts: &Spellings<'a>,
-) -> Option<Spelling<'a>>
-    ensures { spellings_in result
-        ≡ used_among used.now lefts.now (spelling_of spelling.entry ∷ []) }
+/// The spelling, where it is used and no left side.
+fn in_use<'a>(spelling: Spelling<'a>, used: bool, lefts: &Spellings<'a>) -> Option<Spelling<'a>>
+    ensures { spellings_in result ≡ used_here used lefts.now (spelling_of spelling.entry) }
 {
-    if used.has(spelling) && !lefts.has(spelling) {
+    if used && !lefts.has(spelling) {
         Some(spelling)
     } else {
         None
     }
 }
 
-/// The tokens in use among the spellings, in their order.
+/// The tokens in use among the spellings, in their order; those that are used are marked.
 pub fn tokens<'a>(
     alloc: Global,
-    spelled: &Spellings<'a>,
-    used: &Spellings<'a>,
+    words: &Spellings<'a>,
+    marks: &[bool],
     lefts: &Spellings<'a>,
 ) -> Result<Spellings<'a>, AllocError>
-    ensures { IfOk result (λ s.
-        s ≡ spec.distinct (used_among used.now lefts.now spelled.now)) }
+    requires { length marks.now ≡ length words.now }
+    ensures { IfOk result (λ s. AreTokens s marks.now words.now lefts.now) }
 {
     let mut spellings = Spellings::new(alloc);
-    for spelling in spelled.as_slice() {
-        spellings.add_some(in_use(*spelling, used, lefts))?;
+    for (place, spelling) in words.as_slice().iter().enumerate() {
+        spellings.add_some(in_use(*spelling, marks[place], lefts))?;
     }
     Ok(spellings)
 }

@@ -5,8 +5,9 @@
 //!
 //! Meaning, in `specs/`: `Reading` (which bytes are accepted, what file they mean, and why others are refused) over
 //! `Meaning` (what the items mean), `File` and the definitions of `cs_yacc_items`; the laws say that bytes are accepted or
-//! refused, mean one file or have one error, and not both. `Errors`, `SpellingView`, `RuleView`, `PartsView` and `AcceptedView`
-//! say what the code's values are; `Finding`, `SpellingHash`, `SymbolTable` and `TokenNumbers` are working words of proofs.
+//! refused, mean one file or have one error, and not both. `Errors`, `SpellingView`, `Places`, `RuleView`, `PartsView` and
+//! `AcceptedView` say what the code's values are; `Finding`, `Marks`, `SpellingHash`, `SymbolTable` and `TokenNumbers` are
+//! working words of proofs.
 #![tactic(auto)]
 
 mod accepted;

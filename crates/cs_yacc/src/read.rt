@@ -9,6 +9,7 @@ ghost use Rattle.cs_yacc.specs.Finding.{IsGiven, FitsLimits, left_in};
 ghost use Rattle.cs_yacc.specs.Meaning as spec;
 ghost use Rattle.cs_yacc.specs.Meaning.{file_or_limit as given_by};
 ghost use Rattle.cs_yacc.specs.AcceptedView.{parts_at};
+ghost use Rattle.cs_yacc.specs.Marks.{AreApart};
 ghost use Rattle.cs_yacc.specs.PartsView.{parts_in};
 ghost use Rattle.cs_yacc.specs.Places.{HasPlaces};
 ghost use Rattle.cs_yacc.specs.Reading.{Answers};
@@ -111,6 +112,7 @@ fn file_of<'a>(
     requires few { length meant.now.items.items ≤ most_bytes }
     requires few_words { length meant.now.words ≤ most_bytes }
     requires places { HasPlaces meant.now }
+    requires apart { AreApart meant.now.words }
     requires lefts { lefts ≡ spec.nonterminals (items_in meant.now.items.items) }
     requires fits { FitsLimits (left_in meant.now.words start meant.now.items.items) }
     ensures { IsGiven result

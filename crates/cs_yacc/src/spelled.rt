@@ -2,6 +2,7 @@
 
 ghost use Rattle.std.specs.Prelude.{◌≡◌, IfOk, OnOk, length, take};
 ghost use Rattle.cs_yacc.specs.Meaning as spec;
+ghost use Rattle.cs_yacc.specs.Marks.{AreWithin, KeepsWithin};
 ghost use Rattle.cs_yacc.specs.Places.{ArePlaces};
 ghost use Rattle.cs_yacc_items.specs.Views.{item_of};
 ghost use Rattle.cs_yacc.specs.SpellingView.{items_in, left_of};
@@ -81,16 +82,17 @@ fn push_rule<'p, 'a>(
     words: &Spellings<'a>,
     left: Option<Spelling<'a>>,
     item: Item<'a>,
-    behind: &[Placed<'a>],
+    rest: &[Placed<'a>],
     places: &'p [u32],
 ) -> Result<(), AllocError>
-    requires { ArePlaces words.now (items_in behind.now) places.now }
-    ensures { OnOk result
-        (AddsRule words.now rules.old rules.new left.entry item.entry behind.now) }
+    requires { ArePlaces words.now (items_in rest.now) places.now }
+    ensures rule { OnOk result
+        (AddsRule words.now rules.old rules.new left.entry item.entry rest.now) }
+    ensures within { OnOk result (KeepsWithin words.now rules.old.items rules.new.items) }
 {
     match opening(left, item) {
         Some(left) => {
-            let right = body(behind, places);
+            let right = body(rest, places);
             if !words.holds_error(right) {
                 rules.push(SpelledRule { left, right })?;
             }
@@ -109,7 +111,8 @@ pub fn kept_rules<'p, 'a>(
     places: &'p [u32],
 ) -> Result<Vec<SpelledRule<'p, 'a>>, AllocError>
     requires { ArePlaces words.now (items_in items.now) places.now }
-    ensures { IfOk result (λ v. rules_in words.now v.items ≡ spec.kept (items_in items.now)) }
+    ensures rules { IfOk result (λ v. rules_in words.now v.items ≡ spec.kept (items_in items.now)) }
+    ensures within { IfOk result (λ v. AreWithin words.now v.items) }
 {
     let mut rules = Vec::new(alloc);
     let mut left = None;

@@ -6,8 +6,9 @@ use Rattle.cs_yacc_items.specs.Views.{placed_all}
 use Rattle.cs_yacc.specs.declared.name.TokenName.{TokenName}
 use Rattle.cs_yacc.specs.Meaning.{declared_tokens, nonterminals, distinct, spelled, with_meaning, behind_start, first_start, start_item, file_or_limit, parts_of}
 use Rattle.cs_yacc.specs.Finding.{IsGiven, HoldsSpellings, placed_of_some}
+use Rattle.cs_yacc.specs.Marks.{AreApart}
 use Rattle.cs_yacc.proofs.Counts.{few_words, few_held}
-use Rattle.cs_yacc.proofs.Names.{meant_are_spelled}
+use Rattle.cs_yacc.proofs.Names.{distinct_differ, meant_are_spelled}
 use Rattle.cs_yacc.proofs.Whole.{gives_second_start, name_fault_behind, gives_fault, gives_rest, started, few_with_meaning, left_fit, parts_same}
 use Rattle.cs_yacc.proofs.read.meaning.Goals as goal
 
@@ -68,3 +69,6 @@ returns c =
     (subst (λ p. IsGiven c.file_of.result (file_or_limit p))
     (parts_same all (placed_all c.in_ok-meant.meant.items.items) (placed_of_some c.start_item-start.result) c.in_ok-meant.meant.words c.in_ok-meant.ensures.words named
     ∙ ap (λ (xs : List held.Placed). parts_of all (placed_all xs)) (sym c.deref-5.ensures.value)) c.file_of.ensures)
+
+pub file_of-requires-clause-apart : goal.file_of-requires-clause-apart
+file_of-requires-clause-apart c = subst AreApart (sym c.in_ok-meant.ensures.words) (distinct_differ (spelled (items_of (placed_all c.args.all.items))))

@@ -4,11 +4,13 @@ use Rattle.cs_yacc.proofs.RuleLoop.{rules_more, rules_end}
 use Rattle.cs_yacc.proofs.spelled.kept_rules.Goals as goal
 
 pub loop-index-preserved : goal.loop-index-preserved
-loop-index-preserved c =
-    rules_more c.args.items.now _ c.loop-index.index _ _ _ _ _ _ c.loop-index.invariant c.loop-index-test.true c.behind-after.ensures c.left_behind-left.ensures c.in_ok-push_rule.ensures
+loop-index-preserved c = (
+  rules_more c.args.items.now _ c.loop-index.index _ _ _ _ _ _ c.loop-index.invariant.0 c.loop-index-test.true c.behind-after.ensures c.left_behind-left.ensures c.in_ok-push_rule.ensures.rule,
+  c.in_ok-push_rule.ensures.within c.loop-index.invariant.1,
+)
 
-pub returns : goal.returns
-returns c = rules_end c.args.items.now _ c.loop-index.index _ _ c.loop-index.invariant c.loop-index-test.false
+pub returns-clause-rules : goal.returns-clause-rules
+returns-clause-rules c = rules_end c.args.items.now _ c.loop-index.index _ _ c.loop-index.invariant.0 c.loop-index-test.false
 
 pub slice_bounds-rest-count : goal.slice_bounds-rest-count
 slice_bounds-rest-count c = omega (arith, places_long c.args.words.now c.args.items.now c.args.places.now c.requires, c.loop-index-test.true)

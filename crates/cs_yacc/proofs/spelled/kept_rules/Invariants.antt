@@ -3,10 +3,13 @@ use Rattle.cs_yacc_items.specs.Items.{items_of}
 use Rattle.cs_yacc.specs.Meaning.{kept}
 use Rattle.cs_yacc_items.specs.Views.{placed_all}
 use Rattle.cs_yacc.specs.SpellingView.{spelling_of}
+use Rattle.cs_yacc.specs.Marks.{AreWithin}
 use Rattle.cs_yacc.specs.RuleView.{rules_in}
 use Rattle.cs_yacc.proofs.Loops.{rest_at}
 use Rattle.cs_yacc.proofs.RuleLoop.{HasRules}
 use Rattle.cs_yacc.proofs.spelled.kept_rules.Given as goal
 
 abbrev pub invariant-loop-index : goal.invariant-loop-index
-invariant-loop-index l = HasRules (rules_in l.words l.rules.items) (option_map spelling_of l.left) (rest_at l.items l.index) (kept (items_of (placed_all l.items)))
+invariant-loop-index l =
+    HasRules (rules_in l.words l.rules.items) (option_map spelling_of l.left) (rest_at l.items l.index) (kept (items_of (placed_all l.items)))
+    × AreWithin l.words l.rules.items

@@ -1,0 +1,41 @@
+-- Marks of spellings.
+use Rattle.std.specs.Prelude.{◌≡◌, ◌≢◌, ℕ, ◌<◌, Bool, ◌&&◌, not, List, ◌++◌, length, map}
+use Rattle.std.specs.List.{All, AllPairs}
+use Rattle.cs_yacc.specs.declared.name.TokenName.{TokenName}
+use Rattle.cs_yacc.specs.declared.spelled.SpelledRule as held
+use Rattle.cs_yacc.specs.Meaning.{has_spelling, distinct, only_if, used}
+use Rattle.cs_yacc.specs.Finding.{used_among}
+use Rattle.cs_yacc.specs.Places.{names_at}
+use Rattle.cs_yacc.specs.RuleView.{rules_in}
+
+-- each is spelled in another way
+abbrev pub AreApart : List TokenName → Type 0
+AreApart words = AllPairs (λ v w. v ≢ w) words
+
+-- the places of the rules' bodies are places of this list
+abbrev pub AreWithin : List TokenName → List held.SpelledRule → Type 0
+AreWithin words rules = All (λ r. All (λ k. k < length words) r.right.now) rules
+
+-- if the places of those rules are within, those of these are
+abbrev pub KeepsWithin : List TokenName → List held.SpelledRule → List held.SpelledRule → Type 0
+KeepsWithin words was now = AreWithin words was → AreWithin words now
+
+-- the marks tell which of the spellings are among these
+abbrev pub Tells : List Bool → List TokenName → List TokenName → Type 0
+Tells marks words among = marks ≡ map (has_spelling among) words
+
+-- which stand in the right sides of the rules
+abbrev pub TellsUsed : List Bool → List TokenName → List held.SpelledRule → Type 0
+TellsUsed marks words rules = Tells marks words (used (rules_in words rules))
+
+-- where the marks told which spellings are among some, they now tell which are among these and those at the places
+abbrev pub MarksAt : List Bool → List Bool → List ℕ → Type 0
+MarksAt was now places = (words among : List TokenName) → AreApart words → Tells was words among → Tells now words (among ++ names_at words places)
+
+-- the spelling of a token in use, where it is used as told
+abbrev pub used_here : Bool → List TokenName → TokenName → List TokenName
+used_here used lefts w = only_if (used && not (has_spelling lefts w)) w
+
+-- the tokens in use among the spellings, where the marks tell which are used
+abbrev pub AreTokens : List TokenName → List Bool → List TokenName → List TokenName → Type 0
+AreTokens tokens marks words lefts = (used : List TokenName) → Tells marks words used → tokens ≡ distinct (used_among used lefts words)
