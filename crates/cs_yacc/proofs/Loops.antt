@@ -5,12 +5,8 @@ use Rattle.std.proofs.lemmas.List.{at_drop_more, at_drop_all}
 use Rattle.indexmap.specs.IndexSet.{insert_all}
 use Rattle.cs_yacc_items.specs.declared.item.Placed as held
 use Rattle.cs_yacc_items.specs.declared.item.Item.TheVariants as variants
-use Rattle.cs_yacc.specs.declared.spelled.SpelledRule as prods
-use Rattle.cs_yacc.specs.Places.{names_at}
-use Rattle.cs_yacc.specs.RuleView.{rules_in}
 use Rattle.cs_yacc.specs.declared.spelling.Spelling as code
 use Rattle.cs_yacc.specs.SpellingView.{spelling_of, spellings_of}
-use Rattle.std.specs.List.{flat_map}
 use Rattle.std.proofs.lemmas.List.Elements.{filter-append}
 use Rattle.cs_yacc_items.specs.Items.{Item, items_of}
 use Rattle.cs_yacc_items.specs.Views.{item_of, placed_all}
@@ -101,11 +97,3 @@ tokens_more p words k w old new ws all g lt is made =
 
 pub tokens_end : (p : TokenName → Bool) (words : List code.Spelling) (k : ℕ) (table all : List TokenName) → Gathers table (filter p (spellings_of (drop k words))) all → length words ≤ k → table ≡ distinct all
 tokens_end p words k table all g le = Gathers-ends table all (subst (λ (x : List TokenName). Gathers table x all) (at_drop_all (λ xs. filter p (spellings_of xs)) words k le) g)
-
--- ---- words of the rules
-
-pub used_more : (words : List TokenName) (rules : List prods.SpelledRule) (k : ℕ) (p : prods.SpelledRule) (old new all : List TokenName) → Gathers old (flat_map (λ r. r.right) (rules_in words (drop k rules))) all → k < length rules
-    → new ≡ insert_all same_spelling old (names_at words (get_or rules k p).right.now) → Gathers new (flat_map (λ r. r.right) (rules_in words (drop (k + 1) rules))) all
-used_more words rules k p old new all g lt made =
-    let step = at_drop_more (λ xs. flat_map (λ r. r.right) (rules_in words xs)) rules k p lt in
-    rw made (Gathers-more old _ (flat_map (λ r. r.right) (rules_in words (drop (k + 1) rules))) all (names_at words (get_or rules k p).right.now) g step)

@@ -1,5 +1,5 @@
 -- Numbers of words.
-use Rattle.std.proofs.Common.{◌≡◌, ℕ, ◌+◌, ◌≤◌, cond, ltb, List, [], ◌∷◌, length, refl, ◌∙◌, arith, add-one, inl, inr, ◌<◌, ◌++◌, get_or, take, map, sym, ap}
+use Rattle.std.proofs.Common.{◌≡◌, ℕ, ◌+◌, ◌≤◌, cond, ltb, List, [], ◌∷◌, length, refl, ◌∙◌, arith, add-one, inl, inr}
 use Rattle.std.specs.Prelude.{Option, Some, None, unwrap_or, not}
 use Rattle.std.specs.List.{position, position_or_len}
 use Rattle.std.proofs.lemmas.Bool.{cases_lt, lt-ltb, le-ltb}
@@ -8,12 +8,6 @@ use Rattle.cs_yacc.specs.declared.spelling.Spelling as code
 use Rattle.cs_yacc.specs.contracts.spelling.SpellingPartialEq.TheImpl as derived
 use Rattle.cs_yacc.specs.Meaning.{same_spelling, number_in}
 use Rattle.cs_yacc.specs.SpellingView.{spelling_of, spellings_of}
-use Rattle.std.proofs.lemmas.List.{map_push, take_more}
-use Rattle.cs_grammar.specs.Grammar.{Production}
-use Rattle.cs_yacc.specs.declared.name.TokenName.{TokenName}
-use Rattle.cs_yacc.specs.declared.spelled.SpelledRule as prods
-use Rattle.cs_yacc.specs.Meaning.{production_of}
-use Rattle.cs_yacc.specs.RuleView.{rule_of, rules_in}
 use Rattle.cs_yacc.proofs.Gathering.{eq_is}
 
 place_is : (v : code.Spelling) (ks : List code.Spelling) → position_or_len (derived.eq-value.it v) ks ≡ position_or_len (same_spelling (spelling_of v)) (spellings_of ks)
@@ -29,11 +23,3 @@ number_is v ks o n len found is size =
     let e : unwrap_or (cond (ltb p (length ks)) (Some p) None) (length ks) ≡ p = place_or p (length ks) (prefix_len-le-length (λ x. not (derived.eq-value.it v x)) ks) in
     let f : n ≡ position_or_len (same_spelling (spelling_of v)) (spellings_of ks) = is ∙ rw (found, size) (e ∙ place_is v ks) in
     rw (add-one, f) refl
-
--- one more rule by numbers
-pub production_more : (words tokens lefts : List TokenName) (rules : List prods.SpelledRule) (k : ℕ) (old new : List Production) (r : prods.SpelledRule) (p : Production) → old ≡ map (production_of tokens lefts) (rules_in words (take k rules)) → k < length rules
-    → r ≡ get_or rules k r → p ≡ production_of tokens lefts (rule_of words r) → new ≡ old ++ p ∷ [] → new ≡ map (production_of tokens lefts) (rules_in words (take (k + 1) rules))
-production_more words tokens lefts rules k old new r p so_far lt is numbers made =
-    let more : take (k + 1) rules ≡ take k rules ++ r ∷ [] = take_more rules k r lt ∙ ap (λ (x : prods.SpelledRule). take k rules ++ x ∷ []) (sym is) in
-    let whole : map (production_of tokens lefts) (rules_in words (take (k + 1) rules)) ≡ map (production_of tokens lefts) (rules_in words (take k rules)) ++ production_of tokens lefts (rule_of words r) ∷ [] = ap (λ (xs : List prods.SpelledRule). map (production_of tokens lefts) (rules_in words xs)) more ∙ (ap (map (production_of tokens lefts)) (map_push (rule_of words) (take k rules) r) ∙ map_push (production_of tokens lefts) (rules_in words (take k rules)) (rule_of words r)) in
-    made ∙ (ap (λ (x : List Production). x ++ p ∷ []) so_far ∙ (ap (λ (x : Production). map (production_of tokens lefts) (rules_in words (take k rules)) ++ x ∷ []) numbers ∙ sym whole))

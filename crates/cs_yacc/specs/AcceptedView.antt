@@ -1,11 +1,13 @@
 -- What the code's parts of an accepted file are.
-use Rattle.std.specs.Prelude.{ℕ, List}
+use Rattle.std.specs.Prelude.{◌≡◌, ℕ, List, Option, Some, None}
 use Rattle.cs_yacc.specs.declared.accepted.Accepted as code
+use Rattle.cs_yacc.specs.declared.spelling.Spelling.{Spelling}
 use Rattle.cs_yacc.specs.declared.name.TokenName.{TokenName}
-use Rattle.cs_yacc.specs.Meaning.{Parts, symbols_in}
+use Rattle.cs_yacc.specs.Meaning.{Parts, symbols_in, number_in}
 use Rattle.cs_grammar.specs.declared.symbol.Symbol.{Symbol}
 use Rattle.cs_yacc.specs.PartsView.{parts_in}
 use Rattle.cs_yacc.specs.Places.{names_at}
+use Rattle.cs_yacc.specs.SpellingView.{spelling_of}
 
 abbrev pub parts_at : code.Accepted → Parts
 parts_at f = parts_in f.parts.now
@@ -17,3 +19,8 @@ words_at f = f.parts.now.words.now
 -- the symbols of the spellings at these places
 abbrev pub symbols_at : code.Accepted → List ℕ → List Symbol
 symbols_at f places = symbols_in (parts_at f) (names_at (words_at f) places)
+
+-- the number is that of the left side, if there is one
+abbrev pub IsNumbered : code.Accepted → Option (Spelling × ℕ) → Type 0
+IsNumbered f None = Unit {0}
+IsNumbered f (Some p) = p.1 ≡ number_in f.parts.now.lefts (spelling_of p.0)

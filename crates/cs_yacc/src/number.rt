@@ -2,7 +2,7 @@
 
 ghost use Rattle.std.specs.Prelude.{◌≡◌, IfOk};
 ghost use Rattle.cs_yacc.specs.Meaning as spec;
-ghost use Rattle.cs_yacc.specs.AcceptedView.{parts_at, words_at, symbols_at};
+ghost use Rattle.cs_yacc.specs.AcceptedView.{parts_at, words_at, symbols_at, IsNumbered};
 ghost use Rattle.cs_yacc.specs.Places.{name_at};
 ghost use Rattle.cs_yacc.specs.SpellingView.{spelling_of};
 ghost use Rattle.cs_yacc.specs.SymbolTable.{IsTable};
@@ -74,14 +74,31 @@ fn symbols(
     Ok(symbols)
 }
 
+/// The number of a left side. The last one is asked first, since the rules of a left side mostly stand together.
+fn left_number<'a>(
+    file: &Accepted<'_, '_, 'a>,
+    last: Option<(Spelling<'a>, u16)>,
+    left: Spelling<'a>,
+) -> u16
+    requires { IsNumbered file.now last }
+    ensures { result ≡ spec.number_in file.now.parts.now.lefts (spelling_of left.entry) }
+{
+    match last {
+        Some((spelling, number)) if spelling == left => number,
+        _ => file.parts.lefts.number(left),
+    }
+}
+
 /// The rules by numbers.
 pub fn productions(alloc: Global, file: &Accepted<'_, '_, '_>) -> Result<Vec<Rule>, AllocError>
     ensures { IfOk result (λ v. v.items ≡ spec.productions (parts_at file.now)) }
 {
     let table = symbol_table(alloc, file)?;
     let mut rules = Vec::with_capacity(alloc, file.parts.rules.len())?;
+    let mut last = None;
     for rule in &file.parts.rules {
-        let left = file.parts.lefts.number(rule.left);
+        let left = left_number(file, last, rule.left);
+        last = Some((rule.left, left));
         let right = symbols(alloc, &table, file, rule.right)?;
         rules.push(Rule::new(left, right))?;
     }
