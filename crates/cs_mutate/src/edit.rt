@@ -1,6 +1,6 @@
 // Edits of a list of tokens, and their results.
 
-ghost use Rattle.std.specs.Prelude.{◌≡◌, ◌↔◌, ◌+◌, ◌≤◌, ◌++◌, IsTrue, IfOk, length, take, drop};
+ghost use Rattle.std.specs.Prelude.{◌≡◌, ◌↔◌, ◌+◌, ◌≤◌, ◌++◌, IsTrue, IfOk, OnOk, length, take, drop};
 ghost use Rattle.cs_mutate.specs.Edit.{IsPlaced, Fits, patched, edited};
 
 use std::alloc::{AllocError, Global};
@@ -48,31 +48,41 @@ pub fn apply(alloc: Global, base: &[u16], edit: &Edit) -> Result<Vec<u16>, Alloc
     requires { IsPlaced (length base.now) edit.now }
     ensures { IfOk result (λ list. list.items ≡ edited base.now edit.now) }
 {
+    let mut list = Vec::with_capacity(alloc, base.len() + 1)?;
+    apply_into(&mut list, base, edit)?;
+    Ok(list)
+}
+
+/// Puts the edited list in place of what another holds.
+pub fn apply_into(list: &mut Vec<u16>, base: &[u16], edit: &Edit) -> Result<(), AllocError>
+    requires { IsPlaced (length base.now) edit.now }
+    ensures { OnOk result (list.new.items ≡ edited base.now edit.now) }
+{
     match *edit {
-        Edit::Delete(place) => patch(alloc, base, place as usize, &[], 1),
-        Edit::Insert(place, token) => patch(alloc, base, place as usize, &[token], 0),
-        Edit::Replace(place, token) => patch(alloc, base, place as usize, &[token], 1),
+        Edit::Delete(place) => patch(list, base, place as usize, &[], 1),
+        Edit::Insert(place, token) => patch(list, base, place as usize, &[token], 0),
+        Edit::Replace(place, token) => patch(list, base, place as usize, &[token], 1),
         Edit::Swap(place) => {
             let at = place as usize;
-            patch(alloc, base, at, &[base[at + 1], base[at]], 2)
+            patch(list, base, at, &[base[at + 1], base[at]], 2)
         }
     }
 }
 
-// The list with other tokens in place of so many from a place on.
+// Puts the base with other tokens in place of so many from a place on.
 fn patch(
-    alloc: Global,
+    list: &mut Vec<u16>,
     base: &[u16],
     place: usize,
     put: &[u16],
     gone: usize,
-) -> Result<Vec<u16>, AllocError>
+) -> Result<(), AllocError>
     requires { place + gone ≤ length base.now }
-    ensures { IfOk result (λ list. list.items ≡ patched base.now place put.now gone) }
+    ensures { OnOk result (list.new.items ≡ patched base.now place put.now gone) }
 {
-    let mut list = Vec::with_capacity(alloc, base.len() + put.len())?;
+    list.clear();
     list.extend_from_slice(&base[..place])?;
     list.extend_from_slice(put)?;
     list.extend_from_slice(&base[place + gone..])?;
-    Ok(list)
+    Ok(())
 }

@@ -2,9 +2,9 @@
 //! language.
 //!
 //! The layers above get the edits of a list one after another from [`Edits`], test one by
-//! [`edit_fits`], make the edited list by [`apply`], and ask [`poison`] for the first pair of a
-//! framed list that stands side by side in no sentence. [`Negatives`] gives the edits whose results
-//! have such a pair, one after another.
+//! [`edit_fits`], make the edited list by [`apply`] or [`apply_into`], and ask [`poison`] for the
+//! first pair of a framed list that stands side by side in no sentence. [`Negatives`] gives the
+//! edits whose results have such a pair, one after another.
 //!
 //! Of the files of `specs/`, these say what is meant: `Edit` (what an edit makes of a list), `Edits`
 //! (the list of a list's edits), `Mutant` (which lists come from a list by a mutation), `Poison`
@@ -20,7 +20,7 @@ mod negative;
 mod poisoning;
 mod touched;
 
-pub use edit::{Edit, Operators, apply, edit_fits};
+pub use edit::{Edit, Operators, apply, apply_into, edit_fits};
 pub use edits::Edits;
 pub use laws::{each_mutant_once, one_list_of_negatives};
 pub use negative::{Negative, Negatives};

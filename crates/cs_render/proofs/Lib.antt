@@ -1,3 +1,3 @@
-mod Pieces
+pub mod Pieces
 pub mod OneRendering
 pub mod SomeRendering
