@@ -1,5 +1,5 @@
 -- Loops over the items, from the front.
-use Rattle.std.proofs.Common.{arith, true, false, ◌≡◌, ℕ, suc, ◌+◌, ◌<◌, ◌≤◌, Bool, List, [], ◌∷◌, ◌++◌, length, drop, get_or, refl, sym, ap, subst, ◌∙◌}
+use Rattle.std.proofs.Common.{true, false, ◌≡◌, ℕ, ◌+◌, ◌<◌, ◌≤◌, Bool, List, [], ◌∷◌, ◌++◌, length, drop, get_or, refl, sym, ap, subst, ◌∙◌}
 use Rattle.std.specs.Prelude.{Option, Some, None, filter}
 use Rattle.std.proofs.lemmas.List.{at_drop_more, at_drop_all}
 use Rattle.indexmap.specs.IndexSet.{insert_all}
@@ -11,7 +11,7 @@ use Rattle.std.proofs.lemmas.List.Elements.{filter-append}
 use Rattle.cs_yacc_items.specs.Items.{Item, items_of}
 use Rattle.cs_yacc_items.specs.Views.{item_of, placed_all}
 use Rattle.cs_yacc.specs.declared.name.TokenName.{TokenName}
-use Rattle.cs_yacc.specs.Meaning.{same_spelling, distinct, from_each, body, first_at}
+use Rattle.cs_yacc.specs.Meaning.{same_spelling, distinct, from_each, first_at}
 use Rattle.cs_yacc.proofs.Gathering.{Gathers, Gathers-more, Gathers-ends}
 
 -- what is left from an index on
@@ -34,22 +34,6 @@ module _ (f : Item → List Item → List TokenName) (items : List held.Placed) 
 
   pub gather_ends : (k : ℕ) (table all : List TokenName) → Gathers table (from_each f (rest_at items k)) all → length items ≤ k → table ≡ distinct all
   gather_ends k table all g le = Gathers-ends table all (subst (λ (x : List Item). Gathers table (from_each f x) all) (rest_all items k le) g)
-
--- ---- a body
-
-module _ (items : List held.Placed) (k : ℕ) (p : held.Placed) (after : List held.Placed) (lt : k < length items) (behind : after ≡ drop (k + 1) items) where
-  body_here : body (rest_at items k) ≡ body (item_of (get_or items k p).item ∷ items_of (placed_all after))
-  body_here = ap body (rest_more items k p lt) ∙ ap (λ (x : List held.Placed). body (item_of (get_or items k p).item ∷ items_of (placed_all x))) (sym behind)
-
-  pub body_more : (total : ℕ) → k + length (body (rest_at items k)) ≡ total → length (body (item_of (get_or items k p).item ∷ items_of (placed_all after))) ≡ suc (length (body (items_of (placed_all after)))) → (k + 1) + length (body (rest_at items (k + 1))) ≡ total
-  body_more total so_far step =
-      omega (arith, so_far, ap length body_here, step, ap (λ (x : List held.Placed). length (body (items_of (placed_all x)))) behind)
-
-  pub body_stops : (total : ℕ) → k + length (body (rest_at items k)) ≡ total → body (item_of (get_or items k p).item ∷ items_of (placed_all after)) ≡ [] → k ≡ total
-  body_stops total so_far step = omega (arith, so_far, ap length body_here, ap length step)
-
-pub body_ends : (items : List held.Placed) (k total : ℕ) → k + length (body (rest_at items k)) ≡ total → length items ≤ k → k ≡ total
-body_ends items k total so_far le = omega (arith, so_far, ap (λ (x : List Item). length (body x)) (rest_all items k le))
 
 -- ---- the first item that passes
 

@@ -1,6 +1,6 @@
 // The first faults of the items.
 
-ghost use Rattle.std.specs.Prelude.{◌≡◌, ◌≤◌, length};
+ghost use Rattle.std.specs.Prelude.{◌≡◌, ◌≤◌, length, take};
 ghost use Rattle.std.specs.List.{list_any};
 ghost use Rattle.std.specs.Option.{option_to_list};
 ghost use Rattle.cs_yacc.specs.Meaning as spec;
@@ -32,7 +32,7 @@ fn is_start(item: Item<'_>) -> bool
 }
 
 /// The items behind the first `%start`.
-fn behind_start<'i, 'a>(items: &'i [Placed<'a>]) -> &'i [Placed<'a>]
+pub fn behind_start<'i, 'a>(items: &'i [Placed<'a>]) -> &'i [Placed<'a>]
     ensures { placed_all result.now ≡ spec.behind_start (placed_all items.now) }
 {
     for (index, placed) in items.iter().enumerate() {
@@ -43,18 +43,18 @@ fn behind_start<'i, 'a>(items: &'i [Placed<'a>]) -> &'i [Placed<'a>]
     &items[items.len()..]
 }
 
-/// The item that names the start symbol.
-pub fn start_item<'a>(items: &[Placed<'a>]) -> Option<Placed<'a>>
-    ensures { placed_all (option_to_list result) ≡ spec.start_item (placed_all items.now) }
+/// The item that stands first.
+pub fn first_item<'a>(items: &[Placed<'a>]) -> Option<Placed<'a>>
+    ensures { placed_all (option_to_list result) ≡ take 1 (placed_all items.now) }
 {
-    match behind_start(items).split_first() {
+    match items.split_first() {
         Some((first, _)) => Some(*first),
         None => None,
     }
 }
 
 /// The offset of the first `%start`.
-fn first_start(items: &[Placed<'_>]) -> Option<u32>
+pub fn first_start(items: &[Placed<'_>]) -> Option<u32>
     ensures { result ≡ spec.first_start (placed_all items.now) }
 {
     for placed in items {
@@ -63,13 +63,6 @@ fn first_start(items: &[Placed<'_>]) -> Option<u32>
         }
     }
     None
-}
-
-/// The offset of the second `%start`.
-pub fn second_start(items: &[Placed<'_>]) -> Option<u32>
-    ensures { result ≡ spec.first_start (spec.behind_start (placed_all items.now)) }
-{
-    first_start(behind_start(items))
 }
 
 fn is_token_on_left(declared: &Spellings<'_>, item: Item<'_>, behind: &[Placed<'_>]) -> bool

@@ -17,7 +17,7 @@ ghost use Rattle.cs_yacc.specs.SpellingView.{spelling_of, spellings_of, items_in
 
 use crate::accepted::Accepted;
 use crate::error::YaccError;
-use crate::fault::{name_fault, second_start, start_item};
+use crate::fault::{behind_start, first_item, first_start, name_fault};
 use crate::file::YaccFile;
 use crate::gather::{declared, nonterminals, tokens, used};
 use crate::limit::check_limits;
@@ -138,10 +138,11 @@ fn meaning(alloc: Global, all: Vec<Placed<'_>>) -> Result<YaccFile, YaccError>
     requires taken { IsTaken (items_in all.items) }
     ensures { IsGiven result (spec.outcome (placed_all all.entry.items)) }
 {
-    if let Some(at) = second_start(&all) {
+    let rest = behind_start(&all);
+    if let Some(at) = first_start(rest) {
         return Err(YaccError::SecondStart { at });
     }
-    let start = start_item(&all);
+    let start = first_item(rest);
     let meant = with_meaning(alloc, all)?;
     let declared = declared(alloc, &meant.items)?;
     let lefts = nonterminals(alloc, &meant.items)?;
