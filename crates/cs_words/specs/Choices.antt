@@ -64,3 +64,7 @@ format_word Two = codes "2"
 -- the value names the format
 abbrev pub IsFormat : List ℕ → Format → Type 0
 IsFormat value format = value ≡ format_word format
+
+-- the value means nothing, by what values mean
+abbrev pub MeansNothing : {A : Type 0} → (List ℕ → A → Type 0) → List ℕ → Type 0
+MeansNothing {A} Means value = (a : A) → Means value a → ⊥

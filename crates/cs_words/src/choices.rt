@@ -1,12 +1,9 @@
 // The values that choose criteria, operators, what is weighed, and the format.
 
 ghost use Rattle.std.specs.Prelude.{◌≡◌, IfNone, IfSome};
-ghost use Rattle.cs_words.specs.Choices.{IsCriteria, IsFormat, IsOperators, IsWeigh, has_criterion, has_operator};
+ghost use Rattle.cs_words.specs.Choices.{IsCriteria, IsFormat, IsOperators, IsWeigh, MeansNothing};
+ghost use Rattle.cs_words.specs.Choices.{has_criterion, has_operator};
 ghost use Rattle.cs_words.specs.Steps.{Adds, CannotAdd};
-ghost use Rattle.cs_goals.specs.declared.goal.Criteria.{Criteria};
-ghost use Rattle.cs_manifest.specs.declared.format.Format.{Format};
-ghost use Rattle.cs_manifest.specs.declared.format.Weigh.{Weigh};
-ghost use Rattle.cs_mutate.specs.declared.edit.Operators.{Operators};
 
 use cs_goals::Criteria;
 use cs_manifest::{Format, Weigh};
@@ -15,7 +12,7 @@ use cs_mutate::Operators;
 /// The criteria that the value names.
 pub fn read_criteria(value: &str) -> Option<Criteria>
     ensures some { IfSome result (IsCriteria value.now) }
-    ensures none { IfNone result ((criteria : Criteria) → IsCriteria value.now criteria → ⊥) }
+    ensures none { IfNone result (MeansNothing IsCriteria value.now) }
 {
     let mut criteria = Criteria {
         rule: false,
@@ -58,7 +55,7 @@ fn with_criterion(criteria: Criteria, name: &str) -> Option<Criteria>
 /// The operators that the value names; none of them where it is `none`.
 pub fn read_operators(value: &str) -> Option<Operators>
     ensures some { IfSome result (IsOperators value.now) }
-    ensures none { IfNone result ((operators : Operators) → IsOperators value.now operators → ⊥) }
+    ensures none { IfNone result (MeansNothing IsOperators value.now) }
 {
     let mut operators = Operators {
         delete: false,
@@ -111,7 +108,7 @@ fn with_operator(operators: Operators, name: &str) -> Option<Operators>
 /// What the value says that sizes count.
 pub fn read_weigh(value: &str) -> Option<Weigh>
     ensures some { IfSome result (IsWeigh value.now) }
-    ensures none { IfNone result ((weigh : Weigh) → IsWeigh value.now weigh → ⊥) }
+    ensures none { IfNone result (MeansNothing IsWeigh value.now) }
 {
     if value == "nodes" {
         return Some(Weigh::Nodes);
@@ -125,7 +122,7 @@ pub fn read_weigh(value: &str) -> Option<Weigh>
 /// The format that the value names.
 pub fn read_format(value: &str) -> Option<Format>
     ensures some { IfSome result (IsFormat value.now) }
-    ensures none { IfNone result ((format : Format) → IsFormat value.now format → ⊥) }
+    ensures none { IfNone result (MeansNothing IsFormat value.now) }
 {
     if value == "1" {
         return Some(Format::One);
