@@ -1,3 +1,3 @@
 pub mod Mutants
-pub mod Batches
-pub mod Gathering
+pub mod Makers
+pub mod Kept

@@ -1,17 +1,16 @@
-//! The negatives of a base as entries of a manifest, made batch by batch: each with its edited list
-//! and what came of the rendering of that list, by workers that share the work.
+//! The negatives of a base as entries of a manifest, made one after another: each with its edited
+//! list and what came of the rendering of that list.
 //!
-//! The layer above begins a search for the negatives of a base, and asks [`next_negatives`] for the
-//! next of them until none comes. A [`MadeNegative`] lends itself as the entry of a manifest.
+//! The layer above makes a [`Maker`] of a base, and a [`MadeNegative`], in whose memory each negative
+//! of the base is made in its turn. It lends itself as the entry of a manifest. The text of an edited
+//! list is told by that of the base where it can be.
 //!
-//! Meaning: `specs/Mutants` (what is made of a negative, and its entry), `Batches` (which negatives
-//! come next). Working words of proofs: `Gathering`.
+//! Meaning: `specs/Mutants` (what is made of a negative, and its entry), `specs/Makers` (what a maker
+//! makes negatives of).
 #![tactic(auto)]
 
-mod batch;
 mod made;
-mod sharing;
-mod work;
+mod maker;
 
-pub use batch::next_negatives;
 pub use made::MadeNegative;
+pub use maker::Maker;

@@ -1,5 +1,5 @@
 -- Negatives of edits: those of two lists, one after the other, and how many there are.
-use Rattle.std.proofs.Common.{◌≡◌, ℕ, ◌+◌, ◌-◌, ◌*◌, ◌≤◌, List, [], ◌∷◌, ◌++◌, length, length-append, map, refl, ap, ◌∙◌, inl, inr, arith}
+use Rattle.std.proofs.Common.{◌≡◌, ℕ, ◌+◌, ◌-◌, ◌*◌, ◌≤◌, List, [], ◌∷◌, ◌++◌, length, length-append, map, refl, sym, ap, ◌∙◌, subst, inl, inr, arith}
 use Rattle.std.specs.Prelude.{if◌then◌else◌}
 use Rattle.std.specs.List.{range_with_len}
 use Rattle.std.proofs.lemmas.List.{length-map}
@@ -15,6 +15,13 @@ use Rattle.cs_mutate.specs.Negatives.{AreNegatives}
 use Rattle.cs_writing.proofs.Few.{few_chosen, short_513}
 
 module _ (g : PlainGrammar) (w : List ℕ) where
+  pub negatives_both : (xs ys : List Edit) (ns ms : List Negative) → AreNegatives g w xs ns → AreNegatives g w ys ms → AreNegatives g w (xs ++ ys) (ns ++ ms)
+  negatives_both [] ys ns ms h k = subst (λ (l : List Negative). AreNegatives g w ys l) (sym (ap (λ (l : List Negative). l ++ ms) h)) k
+  negatives_both (e ∷ xs) ys ns ms h k = elim h [
+    | inl p ↦ inl (p.0, negatives_both xs ys ns ms p.1 k)
+    | inr p ↦ inr (p.0, p.1 ++ ms, ap (λ (l : List Negative). l ++ ms) p.2, p.3, p.4, negatives_both xs ys p.1 ms p.5 k)
+  ]
+
   pub negatives_split : (xs ys : List Edit) (ns : List Negative) → AreNegatives g w (xs ++ ys) ns
       → (a : List Negative) × (b : List Negative) × (ns ≡ a ++ b) × AreNegatives g w xs a × AreNegatives g w ys b
   negatives_split [] ys ns are = ([], ns, refl, refl, are)

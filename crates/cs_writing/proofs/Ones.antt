@@ -1,5 +1,5 @@
 -- The entries of a plan are one, and their lines begin with the lines of the first ones.
-use Rattle.std.proofs.Common.{◌≡◌, ℕ, ◌+◌, List, [], ◌∷◌, ◌++◌, length, map, refl, sym, ap, ◌∙◌, arith, append_assoc}
+use Rattle.std.proofs.Common.{◌≡◌, ℕ, ◌+◌, List, [], ◌∷◌, ◌++◌, length, refl, sym, ap, ◌∙◌, arith, append_assoc}
 use Rattle.std.specs.List.{AllZip}
 use Rattle.cs_manifest.specs.Words.{numbered_from}
 
@@ -46,8 +46,3 @@ numbered_both {A} f n (x ∷ xs) ys =
     let e : n + 1 + length xs ≡ n + length (x ∷ xs) = omega arith in
     ap (λ (l : List ℕ). f n x ++ l) (numbered_both f (n + 1) xs ys ∙ ap (λ (k : ℕ). numbered_from (n + 1) f xs ++ numbered_from k f ys) e)
     ∙ sym (append_assoc (f n x) (numbered_from (n + 1) f xs) (numbered_from (n + length (x ∷ xs)) f ys))
-
--- lines of what is made of each
-pub numbered_map : {A B : Type 0} (f : ℕ → B → List ℕ) (h : A → B) (n : ℕ) (xs : List A) → numbered_from n (λ k x. f k (h x)) xs ≡ numbered_from n f (map h xs)
-numbered_map f h n [] = refl
-numbered_map f h n (x ∷ xs) = ap (λ (l : List ℕ). f n (h x) ++ l) (numbered_map f h (n + 1) xs)

@@ -1,5 +1,5 @@
 -- Negatives and their lines, counted.
-use Rattle.std.proofs.Common.{◌≡◌, ℕ, ◌+◌, ◌-◌, ◌^◌, ◌≤◌, List, [], ◌++◌, length, length-append, min, sym, ap, ◌∙◌, subst, arith}
+use Rattle.std.proofs.Common.{◌≡◌, ℕ, ◌+◌, ◌-◌, ◌^◌, ◌≤◌, List, [], ◌++◌, length, length-append, min, sym, ap, ◌∙◌, arith}
 use Rattle.cs_io.specs.Faults.{greatest, next_count}
 use Rattle.cs_manifest.specs.declared.counts.Counts.{Counts}
 use Rattle.cs_manifest.specs.Counts.{with_lines}
@@ -46,9 +46,3 @@ counted_negative c new lines few is = counted_lines c new (next_count c.negative
 -- a base more
 pub counted_base : (c new : Counts) (lines : List ℕ) → new ≡ with_lines c lines → IsCounted 0 lines c new
 counted_base c new lines is = counted_lines c new c.negatives 0 lines is (omega arith)
-
--- behind one more of a batch
-pub counted_step : (i : ℕ) (first second whole : List ℕ) (a b c : Counts) → whole ≡ first ++ second → b.negatives + 1 ≤ greatest
-    → c ≡ with_lines (record b { negatives = next_count b.negatives }) second → IsCounted i first a b → IsCounted (i + 1) whole a c
-counted_step i first second whole a b c is few next so_far =
-    subst (λ (l : List ℕ). IsCounted (i + 1) l a c) (sym is) (counted_then i 1 first second a b c so_far (counted_negative b c second few next))

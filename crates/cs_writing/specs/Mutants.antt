@@ -1,19 +1,16 @@
 -- What was written of bases and their negatives. Working words of proofs.
-use Rattle.std.specs.Prelude.{◌≡◌, ◌≤◌, ℕ, ◌+◌, List, [], ◌∷◌, ◌++◌, length, sum_by, All, None, Option, Result, Some, false, true}
+use Rattle.std.specs.Prelude.{◌≡◌, ◌≤◌, ℕ, ◌+◌, List, [], ◌∷◌, ◌++◌, length, sum_by, All, None, Option, Some, false, true}
 use Rattle.std.specs.Borrow.{Bor}
 use Rattle.std.specs.List.{AllZip}
 use Rattle.cs_grammar.specs.Grammar.{IsNumberOf}
-use Rattle.cs_io.specs.declared.sink.Sink as Sink
-use Rattle.cs_io.specs.declared.sink.SinkError.{SinkError}
 use Rattle.cs_bases.specs.Bases.{PlainBases, bases_of}
 use Rattle.cs_manifest.specs.declared.counts.Counts.{Counts}
 use Rattle.cs_manifest.specs.Lines.{is_feasible}
 use Rattle.cs_manifest.specs.Manifest.{BaseEntry, BasesOf, GoalEntry, IsNegativeOf, NegativeEntry, base_entry_lines, negative_entry_lines}
 use Rattle.cs_manifest.specs.Progress.{Progress}
 use Rattle.cs_manifest.specs.Putting.{shown}
-use Rattle.cs_manifest.specs.Sinks.{Writes}
 use Rattle.cs_manifest.specs.Words.{numbered_from}
-use Rattle.cs_mutants.specs.Mutants.{Mutant, entry_of, texts_of}
+use Rattle.cs_mutants.specs.Mutants.{texts_of}
 use Rattle.cs_mutate.specs.Negatives.{AreNegatives, Search}
 use Rattle.cs_mutate.specs.declared.negative.Negative.{Negative}
 use Rattle.cs_plan.specs.declared.plan.Plan.{Plan}
@@ -48,10 +45,6 @@ pub record IsEditable (tokens : ℕ) (base : ℕ × List ℕ) : Type 0 where
 abbrev pub negatives_from : File → ℕ → List ℕ → ℕ → List NegativeEntry → List ℕ
 negatives_from file base tokens many entries = numbered_from (many + 1) (negative_entry_lines file base tokens) entries
 
--- the same of what was made of them
-abbrev pub mutants_from : File → ℕ → List ℕ → ℕ → List Mutant → List ℕ
-mutants_from file base tokens many mutants = numbered_from (many + 1) (λ number m. negative_entry_lines file base tokens number (entry_of m)) mutants
-
 -- the entries of all negatives that a search gives
 pub record AreMade (work : RenderWork) (search : Search) (entries : List NegativeEntry) : Type 0 where
   pub negatives : List Negative
@@ -78,18 +71,6 @@ abbrev pub CountsMade : Base → Search → Progress → Progress → Type 0
 CountsMade base search old new =
     (entries : List NegativeEntry) → AreMade base.work.now search entries
     → IsCounted (length entries) (negatives_from old.file base.number search.base old.counts.negatives entries) old.counts new.counts
-
--- the lines of these negatives of a base, where the manifest stands so
-abbrev pub mutant_lines : Base → List Mutant → Progress → List ℕ
-mutant_lines base batch manifest = mutants_from manifest.file base.number base.tokens.now manifest.counts.negatives batch
-
--- these negatives of a base were counted
-abbrev pub CountsMutants : Base → List Mutant → Progress → Progress → Type 0
-CountsMutants base batch old new = IsCounted (length batch) (mutant_lines base batch old) old.counts new.counts
-
--- the lines of these negatives of a base were written, or cut short
-abbrev pub PutsMutants : {S : Type 0} → Sink.Ghosts S → Base → List Mutant → Progress → S → S → Result Unit SinkError → Type 0
-PutsMutants g base batch manifest old new result = Writes g result (mutant_lines base batch manifest) old new
 
 -- ---- bases and their negatives
 

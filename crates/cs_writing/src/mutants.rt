@@ -4,24 +4,20 @@ ghost use Rattle.std.specs.Prelude.{◌≡◌, ◌+◌, ◌≤◌, All, OnOk, le
 ghost use Rattle.cs_grammar.specs.Grammar.{IsNumberOf};
 ghost use Rattle.cs_io.specs.Faults.{greatest};
 ghost use Rattle.cs_manifest.specs.Manifest.{most_bases};
-ghost use Rattle.cs_mutants.specs.Batches.{CanRender};
-ghost use Rattle.cs_mutants.specs.Mutants.{IsEditOf, IsNamedMutant};
+ghost use Rattle.cs_mutants.specs.Makers.{CanRender, IsMakerOf};
 ghost use Rattle.cs_plan.specs.Plans.{IsPlan, choice_in};
-ghost use Rattle.cs_writing.specs.Mutants.{CountsBases, CountsMade, CountsMutants, IsBasesText, IsEditable};
-ghost use Rattle.cs_writing.specs.Mutants.{IsMade, PutsMutants};
+ghost use Rattle.cs_writing.specs.Mutants.{CountsBases, CountsMade, IsBasesText, IsEditable, IsMade};
 ghost use Rattle.cs_writing.specs.Written.{PutsOne};
 
 use crate::halt::Halt;
 use cs_bases::Bases;
-use cs_fan::Gate;
-use cs_io::{Sink, SinkError};
+use cs_io::Sink;
 use cs_manifest::{Entry, Manifest, one_text};
-use cs_mutants::{MadeNegative, next_negatives};
+use cs_mutants::{MadeNegative, Maker};
 use cs_mutate::Negatives;
 use cs_plan::Plan;
 use cs_render_work::RenderWork;
 use std::alloc::Global;
-use std::thread::Threads;
 
 // A base with its number, and what renders its negatives.
 #[derive(Clone, Copy)]
@@ -33,14 +29,12 @@ pub struct Base<'a, 'b> {
 
 /// Writes the bases, numbered from 1, and behind each its negatives, numbered from 1 through all
 /// bases. Where nothing is mutated there are no bases.
-pub fn write_bases<R: Threads + Sync, S: Sink, G: Gate + Sync>(
-    rt: &R,
+pub fn write_bases<S: Sink>(
     alloc: Global,
     plan: &Plan<'_>,
     bases: &Bases,
     manifest: &mut Manifest<'_>,
     sink: &mut S,
-    gate: &G,
 ) -> Result<(), Halt>
     requires plan { IsPlan plan.now }
     requires bases { All (IsEditable plan.now.yacc.now.grammar.tokens) bases.now.list }
@@ -70,22 +64,20 @@ pub fn write_bases<R: Threads + Sync, S: Sink, G: Gate + Sync>(
         };
         manifest.entry(sink, &line)?;
         let search = Negatives::new(alloc, mutation.pairs, tokens, mutation.operators);
-        write_negatives(rt, alloc, &base, search, &mut number, manifest, sink, gate)?;
+        write_negatives(alloc, &base, search, &mut number, manifest, sink)?;
     }
     Ok(())
 }
 
 // Writes the negatives that a search gives of a base. `number` is the number of the last negative,
 // before and then.
-fn write_negatives<R: Threads + Sync, S: Sink, G: Gate + Sync>(
-    rt: &R,
+fn write_negatives<S: Sink>(
     alloc: Global,
     base: &Base<'_, '_>,
-    mut search: Negatives<'_>,
+    search: Negatives<'_>,
     number: &mut u64,
     manifest: &mut Manifest<'_>,
     sink: &mut S,
-    gate: &G,
 ) -> Result<(), Halt>
     requires work { CanRender base.now.work.now search.grammar.tokens }
     requires base { search.base ≡ base.now.tokens.now }
@@ -103,35 +95,46 @@ fn write_negatives<R: Threads + Sync, S: Sink, G: Gate + Sync>(
         (CountsMade base.now search.entry manifest.old manifest.new) }
 {
     one_text();
-    'batches: loop {
-        let batch = next_negatives(rt, alloc, base.work, base.tokens, &mut search, gate)?;
-        if batch.is_empty() {
-            return Ok(());
-        }
-        write_mutants(manifest, sink, number, base, &batch)?;
-    }
+    let maker = Maker::new(alloc, base.work, base.tokens)?;
+    write_made(alloc, &maker, base, search, number, manifest, sink)
 }
 
-// Writes these negatives of a base. `number` is the number of the last negative, before and then.
-fn write_mutants<S: Sink>(
+// The same, by what makes them.
+fn write_made<S: Sink>(
+    alloc: Global,
+    maker: &Maker<'_>,
+    base: &Base<'_, '_>,
+    mut search: Negatives<'_>,
+    number: &mut u64,
     manifest: &mut Manifest<'_>,
     sink: &mut S,
-    number: &mut u64,
-    base: &Base<'_, '_>,
-    batch: &[MadeNegative],
-) -> Result<(), SinkError>
-    requires named { All (IsNamedMutant manifest.old.file) batch.now }
-    requires edits { All (IsEditOf base.now.tokens.now) batch.now }
+) -> Result<(), Halt>
+    requires maker { IsMakerOf base.now.work.now base.now.tokens.now maker.now }
+    requires work { CanRender base.now.work.now search.grammar.tokens }
+    requires base { search.base ≡ base.now.tokens.now }
+    requires short { length base.now.tokens.now ≤ 1000000 }
+    requires tokens { All (IsNumberOf search.grammar.tokens) base.now.tokens.now }
+    requires names { length manifest.old.file.token_names ≡ search.grammar.tokens }
     requires number { number.old ≡ manifest.old.counts.negatives }
-    requires few { number.old + length batch.now ≤ greatest }
+    requires few { number.old + length search.edits ≤ greatest }
     ensures file { manifest.new.file ≡ manifest.old.file }
+    ensures lent { S.lent sink.new ≡ S.lent sink.old }
     ensures number { OnOk result (number.new ≡ manifest.new.counts.negatives) }
-    ensures counted { OnOk result (CountsMutants base.now batch.now manifest.old manifest.new) }
-    ensures lines { PutsMutants S.Sink base.now batch.now manifest.old sink.old sink.new result }
+    ensures text { PutsOne S.Sink
+        (IsMade manifest.old base.now search.entry) sink.old sink.new result }
+    ensures counted { OnOk result
+        (CountsMade base.now search.entry manifest.old manifest.new) }
 {
-    for made in batch {
-        *number += 1;
-        manifest.entry(sink, &made.entry(*number, base.number))?;
+    one_text();
+    let mut made = MadeNegative::new(alloc);
+    'negatives: loop {
+        match search.next()? {
+            None => return Ok(()),
+            Some(negative) => {
+                maker.make(&mut made, &negative)?;
+                *number += 1;
+                manifest.entry(sink, &made.entry(*number, base.number))?;
+            }
+        }
     }
-    Ok(())
 }

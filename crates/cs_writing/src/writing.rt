@@ -106,7 +106,7 @@ fn write_manifest<R: Threads + Sync, S: Sink, G: Gate + Sync>(
     one_text();
     let mut manifest = Manifest::begin(sink, &plan.head())?;
     let bases = write_goals(rt, alloc, plan, &mut positives, &mut manifest, sink, gate)?;
-    write_bases(rt, alloc, plan, &bases, &mut manifest, sink, gate)?;
+    write_bases(alloc, plan, &bases, &mut manifest, sink)?;
     Ok(manifest.finish(sink)?)
 }
 

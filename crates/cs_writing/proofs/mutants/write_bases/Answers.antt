@@ -57,7 +57,7 @@ new-search-requires-clause-tokens g c =
     tokens_are c.args.plan.now c.requires.plan c.in-Some.mutation c.unwrap-work.result c.in-Some.is c.unwrap-work.ensures base editable
 
 pub write_negatives-requires-clause-few : goal.write_negatives-requires-clause-few
-write_negatives-requires-clause-few g c κs known =
+write_negatives-requires-clause-few g c =
     let e = c.in_ok-entry.ensures in
     let plan = c.args.plan.now in
     let list = c.args.bases.now.list in

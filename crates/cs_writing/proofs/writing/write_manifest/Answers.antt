@@ -93,7 +93,7 @@ returns-in_err-bases-clause-text g c =
     (some_entries plan c.args.positives c.begin.new.sink c.write_goals.new.sink halt c.in_err-bases.ensures.text))
 
 pub write_bases-requires-clause-bases : goal.write_bases-requires-clause-bases
-write_bases-requires-clause-bases g c κs within =
+write_bases-requires-clause-bases g c =
     let plan = c.args.plan.now in
     let is = c.in_ok-bases.ensures.text.is in
     let measure = c.requires.grammar.measure in
@@ -101,12 +101,12 @@ write_bases-requires-clause-bases g c κs within =
     is.are.all (c.in_ok-bases.ensures.bases is.entries is.are.all)
 
 pub write_bases-requires-clause-few : goal.write_bases-requires-clause-few
-write_bases-requires-clause-few g c κs within =
+write_bases-requires-clause-few g c =
     let is = c.in_ok-bases.ensures.text.is in
     few_bases (most_bases (choice_in c.args.plan.now)) is.entries c.in_ok-bases.bases (c.in_ok-bases.ensures.bases is.entries is.are.all)
 
 pub write_bases-requires-clause-fresh : goal.write_bases-requires-clause-fresh
-write_bases-requires-clause-fresh g c κs within =
+write_bases-requires-clause-fresh g c =
     let text = c.in_ok-bases.ensures.text in
     let is = text.is in
     (c.in_ok-bases.ensures.counted is.entries is.cases text.text is.are).negatives ∙ ap (λ (q : Progress). q.counts.negatives) c.in_ok-manifest.ensures.value

@@ -1,0 +1,5 @@
+pub mod Settling
+pub mod Marking
+pub mod Aligning
+pub mod Lists
+pub mod Telling

@@ -1,0 +1,10 @@
+-- What is seen of a list of tokens that was prepared.
+use Rattle.std.specs.Prelude.{ℕ, List, Option}
+use Rattle.cs_scan.specs.declared.scanner.Scanner.{Scanner}
+
+-- a list of tokens, and what it was rendered by
+pub record Near : Type 0 where
+  pub scanner : Scanner
+  pub lexemes : List (Option (List ℕ))
+  pub separator : List ℕ
+  pub tokens : List ℕ

@@ -1,0 +1,9 @@
+//! Tests of negatives as they are made, and of the texts that are told for them, by public calls alone.
+#![tactic(auto)]
+
+#[cfg(test)]
+mod edits;
+#[cfg(test)]
+mod made;
+#[cfg(test)]
+mod near;
