@@ -90,7 +90,13 @@ impl<'a> Maker<'a> {
             }
         }
         let work = self.work;
-        let rendered = render(self.alloc, work.scanner, work.lexemes, work.separator, tokens)?;
+        let rendered = render(
+            self.alloc,
+            work.scanner,
+            work.lexemes,
+            work.separator,
+            tokens,
+        )?;
         Ok(Kept::Whole(rendered))
     }
 }

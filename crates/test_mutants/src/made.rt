@@ -120,12 +120,7 @@ fn are_made_of(
 }
 
 // Whether the negatives of a base of sums, with this between two lexemes, are as the rows have them.
-fn are_sums(
-    alloc: Global,
-    separator: &[u8],
-    base: &[u16],
-    rows: &[Row],
-) -> Result<bool, Trouble> {
+fn are_sums(alloc: Global, separator: &[u8], base: &[u16], rows: &[Row]) -> Result<bool, Trouble> {
     let (yacc, lex) = read_files(alloc, SUMS, SCANNER)?;
     let automaton = Automaton::new(alloc, lex.patterns())?;
     let scanner = Scanner {
