@@ -2,8 +2,8 @@
 
 ghost use Rattle.std.specs.Prelude.{◌≡◌, IfOk, OnOk, length};
 ghost use Rattle.cs_mutate.specs.Edit.{IsPlaced, edited};
-ghost use Rattle.cs_render_work.specs.Renders.{IsRenderedBy, TakesTokens};
-ghost use Rattle.cs_mutants.specs.Kept.{rendering_kept};
+ghost use Rattle.cs_render_work.specs.Renders.{TakesTokens};
+ghost use Rattle.cs_mutants.specs.Kept.{KeepsRendering};
 ghost use Rattle.cs_mutants.specs.Makers.{IsMakerOf};
 ghost use Rattle.cs_mutants.specs.Mutants.{IsMutantOf};
 
@@ -81,8 +81,7 @@ impl<'a> Maker<'a> {
     // else as it is rendered.
     fn render(&self, middle: &mut Vec<u8>, tokens: &[u16]) -> Result<Kept<'_>, AllocError>
         requires { TakesTokens self.now.work tokens.now }
-        ensures { IfOk result (λ kept.
-            IsRenderedBy self.now.work tokens.now (rendering_kept middle.new.items kept)) }
+        ensures { IfOk result (KeepsRendering self.now.work tokens.now middle.new.items) }
     {
         if let Some(near) = &self.near {
             if let Some(splice) = near.splice(middle, tokens)? {
