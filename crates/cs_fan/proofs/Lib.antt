@@ -2,4 +2,3 @@ pub mod Totals
 pub mod Steps
 pub mod Ends
 pub mod InOrder
-pub mod Zips

@@ -101,27 +101,6 @@ fn in_order<U: Drop>(alloc: Global, mut pairs: Vec<(u32, U)>) -> Result<Vec<U>, 
     without_numbers(alloc, pairs)
 }
 
-/// The answers of the items, in the items' order, worked out by the caller alone: what one worker
-/// of [`fan`] answers, without a counter. Before each item the gate is entered with its place.
-pub fn work_alone<T, U: Drop, W: Work<T, U>, G: Gate>(
-    alloc: Global,
-    items: &[T],
-    work: &W,
-    gate: &G,
-) -> Result<Vec<U>, AllocError>
-    requires few { length items.now < 2 ^ 32 }
-    requires takes { All (W.takes work.now) items.now }
-    ensures { IfOk result (λ answers. AllZip (W.answers work.now) items.now answers.items) }
-{
-    let mut answers = Vec::with_capacity(alloc, items.len())?;
-    for i in 0..items.len() {
-        gate.enter(i as u32);
-        let answer = work.one(alloc, &items[i])?;
-        answers.push(answer)?;
-    }
-    Ok(answers)
-}
-
 /// The answers of the items, in the items' order, worked out by as many workers as the counter has.
 ///
 /// The lent seat stands for all of them and has drawn nothing. Each worker draws a number, enters

@@ -4,9 +4,8 @@
 //! The layers above say what is to be done to an item by an implementation of [`Work`], make a
 //! [`Counter`] of as many items as they have and for as many workers as they want, and lend it with
 //! its [`Seat`] to [`fan`], which answers what one worker would have answered: the items' answers
-//! in the items' order, for every number of workers. Where the work is so short that a thread costs
-//! more than it saves, [`work_alone`] answers the same. What a worker does before it works on an
-//! item is a [`Gate`]; [`OpenGate`] does nothing.
+//! in the items' order, for every number of workers. What a worker does before it works on an item
+//! is a [`Gate`]; [`OpenGate`] does nothing.
 //!
 //! They may also hand out seats themselves, by `split`, `draw` and `join`: the numbers of a seat
 //! differ from each other, and a seat that stands for all workers and has seen the end has drawn
@@ -27,5 +26,5 @@ mod view;
 mod work;
 
 pub use counter::{Counter, Seat};
-pub use fans::{fan, work_alone};
+pub use fans::fan;
 pub use work::{Gate, OpenGate, Work};
