@@ -1,11 +1,9 @@
 //! Each list that is near a short one: where its text is told, that is the one by which it is rendered, and it is told wherever
 //! there is one.
 
-use crate::near::edits;
-use cs_samples::SUMS;
+use crate::compared::compare_near;
+use cs_samples::{SCANNER, SUMS};
 use std::test::Fail;
-
-const LEX: &str = "%%\n[0-9]+ return NUM;\n[-+*/()] return yytext[0];\n[ \\t\\n]+ ;\n";
 
 const PAIRS: &[u8] = b"%token PAIR LONG\n%%\ns : 'a' 'b' PAIR LONG ;\n";
 
@@ -17,25 +15,23 @@ const PAIRS_LEX: &[u8] =
 #[test]
 fn sums(rt: HostRuntime) -> Result<(), Fail> {
     let alloc = rt.alloc();
-    let rows: [(&str, &[u16], bool); 8] = [
-        (" ", &[1, 2, 1], true),
-        (" ", &[1, 2, 3, 1, 4], true),
-        (" ", &[1], true),
-        (" ", &[], true),
-        ("", &[1, 2, 1], true),
-        ("", &[3, 1, 2, 1, 4], true),
-        ("\n \n", &[1, 2, 1, 2], true),
-        ("+", &[1, 1], false),
+    let rows: [(&[u8], &[u16]); 7] = [
+        (b" ", &[1, 2, 1]),
+        (b" ", &[1, 2, 3, 1, 4]),
+        (b" ", &[1]),
+        (b" ", &[]),
+        (b"", &[1, 2, 1]),
+        (b"", &[3, 1, 2, 1, 4]),
+        (b"\n \n", &[1, 2, 1, 2]),
     ];
-    for (separator, tokens, prepared) in rows {
-        match edits(alloc, SUMS, LEX.as_bytes(), separator.as_bytes(), tokens)? {
-            Some(counts) => {
-                assert_eq!(rt; counts.wrong, 0, "{separator:?} {tokens:?}");
-                assert_eq!(rt; counts.told, counts.texts, "{separator:?} {tokens:?}");
-            }
-            None => assert!(rt; !prepared, "{separator:?} {tokens:?}"),
-        }
+    for (separator, tokens) in rows {
+        let counts = compare_near(alloc, SUMS, SCANNER, separator, tokens)?;
+        assert!(rt;
+            matches!(counts, Some(counts) if counts.tell_all()),
+            "{tokens:?} {counts:?}"
+        );
     }
+    assert!(rt; compare_near(alloc, SUMS, SCANNER, b"+", &[1, 1])?.is_none());
     Ok(())
 }
 
@@ -45,15 +41,12 @@ fn tokens_with_blanks(rt: HostRuntime) -> Result<(), Fail> {
     let alloc = rt.alloc();
     let rows: [&[u16]; 3] = [&[4, 3], &[1, 4, 4, 3], &[4, 4, 1, 4]];
     for tokens in rows {
-        match edits(alloc, PAIRS, PAIRS_LEX, b" ", tokens)? {
-            Some(counts) => {
-                assert_eq!(rt; counts.wrong, 0, "{tokens:?}");
-                assert_eq!(rt; counts.told, counts.texts, "{tokens:?}");
-                assert!(rt; counts.texts > 0, "{tokens:?}");
-            }
-            None => assert!(rt; false, "{tokens:?}"),
-        }
+        let counts = compare_near(alloc, PAIRS, PAIRS_LEX, b" ", tokens)?;
+        assert!(rt;
+            matches!(counts, Some(counts) if counts.tell_all()),
+            "{tokens:?} {counts:?}"
+        );
     }
-    assert!(rt; edits(alloc, PAIRS, PAIRS_LEX, b" ", &[3, 3, 4])?.is_none());
+    assert!(rt; compare_near(alloc, PAIRS, PAIRS_LEX, b" ", &[3, 3, 4])?.is_none());
     Ok(())
 }

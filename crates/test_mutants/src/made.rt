@@ -4,9 +4,10 @@ ghost use Rattle.std.specs.Prelude.{◌≤◌, All, length};
 ghost use Rattle.cs_grammar.specs.Grammar.{IsNumberOf};
 ghost use Rattle.cs_mutants.specs.Makers.{CanRender, IsMakerOf};
 
-use crate::near::are_tokens;
+use crate::compared::is_short_list;
 use cs_automaton::Automaton;
 use cs_grammar::Mark;
+use cs_lex::LexFile;
 use cs_lexeme::Lexemes;
 use cs_manifest::Entry;
 use cs_mutants::{MadeNegative, Maker};
@@ -16,6 +17,7 @@ use cs_render_work::RenderWork;
 use cs_sample_files::{Trouble, read_files};
 use cs_samples::{SCANNER, SUMS};
 use cs_scan::Scanner;
+use cs_yacc::YaccFile;
 use std::alloc::{AllocError, Global};
 use std::test::Fail;
 
@@ -112,16 +114,21 @@ fn are_made_of(
 ) -> Result<bool, AllocError>
     requires work { CanRender work.now most }
 {
-    if base.len() > 1_000 || !are_tokens(base, most) {
+    if !is_short_list(base, most) {
         return Ok(false);
     }
     let maker = Maker::new(alloc, work, base)?;
     are_made(alloc, &maker, base, work, most, rows)
 }
 
-// Whether the negatives of a base of sums, with this between two lexemes, are as the rows have them.
-fn are_sums(alloc: Global, separator: &[u8], base: &[u16], rows: &[Row]) -> Result<bool, Trouble> {
-    let (yacc, lex) = read_files(alloc, SUMS, SCANNER)?;
+fn are_read(
+    alloc: Global,
+    yacc: &YaccFile,
+    lex: &LexFile,
+    separator: &[u8],
+    base: &[u16],
+    rows: &[Row],
+) -> Result<bool, Trouble> {
     let automaton = Automaton::new(alloc, lex.patterns())?;
     let scanner = Scanner {
         automaton: &automaton,
@@ -136,6 +143,12 @@ fn are_sums(alloc: Global, separator: &[u8], base: &[u16], rows: &[Row]) -> Resu
         separator,
     };
     Ok(are_made_of(alloc, base, &work, most, rows)?)
+}
+
+// Whether the negatives of a base of sums, with this between two lexemes, are as the rows have them.
+fn are_sums(alloc: Global, separator: &[u8], base: &[u16], rows: &[Row]) -> Result<bool, Trouble> {
+    let (yacc, lex) = read_files(alloc, SUMS, SCANNER)?;
+    are_read(alloc, &yacc, &lex, separator, base, rows)
 }
 
 // NUM is 1, '+' is 2, '(' is 3 and ')' is 4. Without a separator two numbers are one, and a base of two has no text itself.
