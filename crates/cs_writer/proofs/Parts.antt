@@ -5,15 +5,6 @@ use Rattle.std.specs.Prelude.{IfOk}
 use Rattle.cs_manifest.specs.declared.counts.Counts.{Counts}
 use Rattle.cs_writing.specs.Writing.{CountsOfAll, GrewByOne, GrewByPart, HasRoomForAll}
 
--- nothing is a part of each text
-pub no_part : (Is : List ℕ → Type 0) (known : Option (List ℕ)) → GrewByPart Is known known
-no_part Is known = λ text is. record { count = 0; grew = sym (known_none known) }
-
--- what holds holds on an error
-pub on_err : {A E : Type 0} (P : Type 0) (result : Result A E) → P → OnErr result P
-on_err P (Ok value) holds = tt
-on_err P (Err error) holds = holds
-
 pub on_ok : {A E : Type 0} (P : Type 0) (result : Result A E) → P → OnOk result P
 on_ok P (Ok value) holds = holds
 on_ok P (Err error) holds = tt

@@ -1,5 +1,5 @@
 -- From the sink over an output to the output.
-use Rattle.std.proofs.Common.{◌≡◌, ℕ, ◌<◌, ◌≤◌, ◌⊎◌, List, [], length, inl, inr, ap, sym, ◌∙◌, subst, Option, arith}
+use Rattle.std.proofs.Common.{◌≡◌, ℕ, ◌<◌, ◌≤◌, ◌⊎◌, List, [], length, inl, inr, ap, sym, ◌∙◌, subst, Option, Result, Ok, Err, OnErr, arith}
 use Rattle.std.proofs.lemmas.Bool.{cases_lt}
 use Rattle.std.proofs.Math.Seq.{take-length}
 use Rattle.std.specs.Io.KnownBytes.{append_known}
@@ -9,6 +9,16 @@ use Rattle.cs_io.specs.Sink.{GrewByPrefix}
 use Rattle.cs_io.specs.declared.buffered_sink.BufferedSink.{BufferedSink}
 use Rattle.cs_io.proofs.Known.{known_none, lent_prefix}
 use Rattle.cs_manifest.specs.Manifest.{IsNotWithout}
+use Rattle.cs_writing.specs.Writing.{GrewByPart}
+
+-- nothing is a part of each text
+pub no_part : (Is : List ℕ → Type 0) (known : Option (List ℕ)) → GrewByPart Is known known
+no_part Is known = λ text is. record { count = 0; grew = sym (known_none known) }
+
+-- what holds holds on an error
+pub on_err : {A E : Type 0} (P : Type 0) (result : Result A E) → P → OnErr result P
+on_err P (Ok value) holds = tt
+on_err P (Err error) holds = holds
 
 module _ {S : Type 0} (written : S → Option (List ℕ)) (old new : BufferedSink S) (text : List ℕ) (empty : waiting_bytes old ≡ []) where
   same : buffered_written written old ≡ written (lent_sink old)

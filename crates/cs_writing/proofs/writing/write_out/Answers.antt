@@ -2,6 +2,7 @@ use Rattle.std.proofs.Common.{◌≡◌, List, ℕ, ap, sym, subst, rules, Optio
 use Rattle.std.proofs.lemmas.Grind.{common_steps}
 use Rattle.std.specs.Prelude.{OnErr, OnOk}
 use Rattle.cs_writing.specs.Writing.{GrewByOne, GrewByPart}
+use Rattle.cs_writing.proofs.Out.{no_part, on_err}
 use Rattle.cs_writing.proofs.writing.write_out.Goals as goal
 
 -- what is said of the sink's output is said of the output
@@ -18,3 +19,6 @@ returns-clause-ok g c = grown c.write_through.result _ _ _ _ _ (ap g.O.Sink.writ
 
 pub returns-clause-part : goal.returns-clause-part
 returns-clause-part g c = part_grown c.write_through.result _ _ _ _ _ (ap g.O.Sink.written c.new-sink.ensures.sink) (first_of (search rules, grind (arith, common_steps))) c.write_through.ensures.part
+
+pub returns-in_err-buffer-clause-part : goal.returns-in_err-buffer-clause-part
+returns-in_err-buffer-clause-part g c = on_err _ _ (no_part _ _)
