@@ -1,0 +1,110 @@
+// The statuses and the lines of endings, as `docs/FORMATS.md` has them.
+
+ghost use Rattle.std.specs.Prelude.{IsTrue};
+ghost use Rattle.cs_ending.specs.Ending.{HasLine};
+
+use cs_ending::{Ending, finish};
+use cs_input::{Refusal, Role};
+use cs_io::MemorySink;
+use cs_lex::LexError;
+use cs_yacc::{YaccError, YaccLimit};
+use std::alloc::{AllocError, Global};
+use std::test::Fail;
+
+// Want of memory while a file is read is no refusal of it.
+fn has_line(ending: Ending) -> bool
+    ensures { IsTrue result → HasLine ending }
+{
+    match ending {
+        Ending::Refused(Refusal::OfYacc(error)) => error != YaccError::Memory,
+        Ending::Refused(Refusal::OfLex(error)) => error != LexError::Memory,
+        _ => true,
+    }
+}
+
+// An output with so much room takes the front of the line.
+fn ends_so(
+    alloc: Global,
+    ending: Ending,
+    room: usize,
+    status: u8,
+    line: &[u8],
+) -> Result<bool, AllocError> {
+    let mut err = MemorySink::new(alloc, room, 5, Vec::new(alloc))?;
+    if !has_line(ending) {
+        return Ok(false);
+    }
+    let ended = finish(alloc, ending, &mut err);
+    Ok(ended == status && err.written() == line)
+}
+
+// The last two outputs are too small for the line: the status is the same.
+#[test]
+fn statuses_and_lines(rt: HostRuntime) -> Result<(), Fail> {
+    let limit = YaccError::Limit {
+        which: YaccLimit::Rules,
+        found: 8_193,
+        most: 8_192,
+    };
+    let long = Refusal::TooLong(Role::Yacc);
+    let syntax = Refusal::OfYacc(YaccError::Syntax { at: 12 });
+    let rules = Refusal::OfYacc(limit);
+    let none = Refusal::OfLex(LexError::NoRules);
+    let rows: [(Ending, usize, u8, &[u8]); 13] = [
+        (Ending::Written, 99, 0, b""),
+        (
+            Ending::Refused(long),
+            99,
+            1,
+            b"conform: yacc: Length above 1048576\n",
+        ),
+        (
+            Ending::Refused(syntax),
+            99,
+            1,
+            b"conform: yacc: Syntax at 12\n",
+        ),
+        (
+            Ending::Refused(rules),
+            99,
+            1,
+            b"conform: yacc: Limit Rules 8193 of 8192\n",
+        ),
+        (Ending::Refused(none), 99, 1, b"conform: lex: NoRules\n"),
+        (
+            Ending::Refused(Refusal::States),
+            99,
+            1,
+            b"conform: lex: States above 16384\n",
+        ),
+        (
+            Ending::BadWord { at: 3 },
+            99,
+            2,
+            b"conform: usage: word 3\n",
+        ),
+        (
+            Ending::NoFile(Role::Yacc),
+            99,
+            3,
+            b"conform: read fault: yacc\n",
+        ),
+        (
+            Ending::NoFile(Role::Lex),
+            99,
+            3,
+            b"conform: read fault: lex\n",
+        ),
+        (Ending::NotWritten, 99, 4, b"conform: write fault\n"),
+        (Ending::NoMemory, 99, 5, b"conform: out of memory\n"),
+        (Ending::NotWritten, 7, 4, b"conform"),
+        (Ending::NotWritten, 0, 4, b""),
+    ];
+    for (ending, room, status, line) in rows {
+        assert!(rt;
+            ends_so(rt.alloc(), ending, room, status, line)?,
+            "{ending:?}"
+        );
+    }
+    Ok(())
+}

@@ -1,0 +1,54 @@
+// The entries of goals, batch by batch.
+
+use cs_fan::OpenGate;
+use cs_goals::Criteria;
+use cs_grammar::Weights;
+use cs_manifest::Weigh;
+use cs_plan::{Made, Plan, next_entries};
+use cs_positive::{Positives, Tables};
+use cs_sample_files::sums;
+use std::test::Fail;
+
+const RULE_GOALS: Criteria = Criteria {
+    rule: true,
+    cdrc: false,
+    pair: false,
+};
+
+// Whether the entry at this place, from 0, has a sentence of these tokens.
+fn has_tokens(entries: &[Made], at: usize, tokens: &[u16]) -> bool {
+    let Some(made) = entries.get(at) else {
+        return false;
+    };
+    match made.sentence() {
+        Some(found) => found == tokens,
+        None => false,
+    }
+}
+
+// The tokens are those of the first format's manifest in `docs/FORMATS.md`. Behind the last entry comes an empty batch.
+#[test]
+fn entries_of_rule_goals(rt: HostRuntime) -> Result<(), Fail> {
+    let alloc = rt.alloc();
+    let yacc = sums(alloc)?;
+    let weights = Weights::nodes(alloc, yacc.grammar().tokens())?;
+    let tables = Tables::new(alloc, yacc.grammar(), &weights)?;
+    let plan = Plan {
+        yacc: &yacc,
+        criteria: RULE_GOALS,
+        texts: None,
+        mutation: None,
+        weigh: Weigh::Nodes,
+        closed: None,
+    };
+    let mut positives = Positives::new(&tables, RULE_GOALS);
+    let entries = next_entries(&rt, alloc, &plan, &mut positives, &OpenGate)?;
+    assert_eq!(rt; entries.len(), 4);
+    let rows: [(usize, &[u16]); 4] = [(0, &[1, 2, 1]), (1, &[1]), (2, &[1]), (3, &[3, 1, 4])];
+    for (at, tokens) in rows {
+        assert!(rt; has_tokens(&entries, at, tokens), "{at}");
+    }
+    let none = next_entries(&rt, alloc, &plan, &mut positives, &OpenGate)?;
+    assert!(rt; none.is_empty());
+    Ok(())
+}

@@ -1,0 +1,10 @@
+//! Tests of the writing of manifests by public calls alone: the entries of plans, whole manifests, how a run ends. Nothing stands
+//! on this crate.
+#![tactic(auto)]
+
+#[cfg(test)]
+mod endings;
+#[cfg(test)]
+mod entries;
+#[cfg(test)]
+mod manifests;

@@ -1,0 +1,224 @@
+// The whole manifests of `docs/FORMATS.md`, one in each format, by `write_out`.
+
+ghost use Rattle.std.specs.Prelude.{◌≡◌, Some};
+ghost use Rattle.cs_grammar.specs.Weights.{nodes};
+ghost use Rattle.cs_plan.specs.Plans.{CanRender, HasSetsOf};
+
+use cs_automaton::Automaton;
+use cs_closed::Closed;
+use cs_fan::OpenGate;
+use cs_goals::Criteria;
+use cs_grammar::Weights;
+use cs_io::MemorySink;
+use cs_lexeme::Lexemes;
+use cs_manifest::{Counts, Format, Weigh};
+use cs_mutate::Operators;
+use cs_plan::{Mutation, Plan};
+use cs_positive::{Positives, Tables};
+use cs_render_work::RenderWork;
+use cs_sample_files::{Trouble, read_files};
+use cs_samples::{LETTER, LETTER_SCANNER, LETTER_SUITE_TWO, SCANNER, SUMS};
+use cs_scan::Scanner;
+use cs_writing::{Halt, write_out};
+use cs_yacc::YaccFile;
+use std::alloc::{AllocError, Global};
+use std::test::Fail;
+use std::thread::Threads;
+
+// The page's manifest of the first format.
+const SUMS_WHOLE: &[u8] = b"conform 1 suite
+token 1 NUM
+token 2 '+'
+token 3 '('
+token 4 ')'
+rule 1 e : e '+' t
+rule 2 e : t
+rule 3 t : NUM
+rule 4 t : '(' e ')'
+lexeme NUM \"0\"
+lexeme '+' \"+\"
+lexeme '(' \"(\"
+lexeme ')' \")\"
+goal 1 rule 1 size 7
+  derive 1 2 3 3
+  tokens NUM '+' NUM
+  text \"0 + 0\"
+goal 2 rule 2 size 3
+  derive 2 3
+  tokens NUM
+  text \"0\"
+goal 3 rule 3 size 3
+  derive 2 3
+  tokens NUM
+  text \"0\"
+goal 4 rule 4 size 7
+  derive 2 4 2 3
+  tokens '(' NUM ')'
+  text \"( 0 )\"
+base 1 goal 1
+negative 1 base 1 delete 0 pair <begin> '+' at 0
+  tokens '+' NUM
+  text \"+ 0\"
+negative 2 base 1 delete 1 pair NUM NUM at 1
+  tokens NUM NUM
+  text \"0 0\"
+negative 3 base 1 delete 2 pair '+' <end> at 2
+  tokens NUM '+'
+  text \"0 +\"
+end goals 4 feasible 4 infeasible 0 large 0 negatives 3
+";
+
+// What a manifest is to have.
+struct Choice {
+    criteria: Criteria,
+    operators: Operators,
+    bases: u32,
+    format: Format,
+}
+
+const FIRST: Choice = Choice {
+    criteria: Criteria {
+        rule: true,
+        cdrc: false,
+        pair: false,
+    },
+    operators: Operators {
+        delete: true,
+        insert: false,
+        replace: false,
+        swap: false,
+    },
+    bases: 1,
+    format: Format::One,
+};
+
+const SECOND: Choice = Choice {
+    criteria: Criteria {
+        rule: true,
+        cdrc: true,
+        pair: true,
+    },
+    operators: Operators {
+        delete: true,
+        insert: true,
+        replace: true,
+        swap: true,
+    },
+    bases: 16,
+    format: Format::Two,
+};
+
+// Writes the manifest of a yacc file and a lex file.
+fn write<R: Threads + Sync>(
+    rt: &R,
+    alloc: Global,
+    files: (&[u8], &[u8]),
+    choice: &Choice,
+    out: &mut MemorySink,
+) -> Result<Result<Counts, Halt>, Trouble> {
+    let (yacc, lex) = read_files(alloc, files.0, files.1)?;
+    let automaton = Automaton::new(alloc, lex.patterns())?;
+    let scanner = Scanner {
+        automaton: &automaton,
+        kinds: lex.kinds(),
+        literals: lex.literals(),
+    };
+    let lexemes = Lexemes::new(alloc, &scanner, yacc.grammar().tokens())?;
+    let work = RenderWork {
+        scanner: &scanner,
+        lexemes: &lexemes,
+        separator: b" ",
+    };
+    Ok(write_goals(rt, alloc, &yacc, &work, choice, out)?)
+}
+
+// The same with these texts.
+fn write_goals<'f, R: Threads + Sync>(
+    rt: &R,
+    alloc: Global,
+    yacc: &'f YaccFile,
+    work: &'f RenderWork<'f>,
+    choice: &Choice,
+    out: &mut MemorySink,
+) -> Result<Result<Counts, Halt>, AllocError>
+    requires { CanRender yacc.now (Some work) }
+{
+    let weights = Weights::nodes(alloc, yacc.grammar().tokens())?;
+    let tables = Tables::new(alloc, yacc.grammar(), &weights)?;
+    if choice.format == Format::One {
+        return Ok(write_plan(rt, alloc, yacc, work, &tables, None, choice, out));
+    }
+    let closed = Closed::new(alloc, &tables)?;
+    Ok(write_plan(rt, alloc, yacc, work, &tables, Some(&closed), choice, out))
+}
+
+// The same by these tables, and in the second format by closed sets.
+fn write_plan<'f, R: Threads + Sync>(
+    rt: &R,
+    alloc: Global,
+    yacc: &'f YaccFile,
+    work: &'f RenderWork<'f>,
+    tables: &'f Tables<'f>,
+    closed: Option<&'f Closed>,
+    choice: &Choice,
+    out: &mut MemorySink,
+) -> Result<Counts, Halt>
+    requires work { CanRender yacc.now (Some work) }
+    requires grammar { tables.now.grammar ≡ yacc.now.grammar }
+    requires weights { tables.now.weights ≡ nodes yacc.now.grammar.tokens }
+    requires closed { HasSetsOf yacc.now.grammar closed }
+{
+    let _named = yacc.grammar();
+    let plan = Plan {
+        yacc,
+        criteria: choice.criteria,
+        texts: Some(work),
+        mutation: Some(Mutation {
+            pairs: tables.pairs(),
+            operators: choice.operators,
+            most: choice.bases,
+        }),
+        weigh: Weigh::Nodes,
+        closed,
+    };
+    let positives = Positives::new(tables, choice.criteria);
+    write_out(rt, alloc, &plan, positives, out, &OpenGate)
+}
+
+#[test]
+fn first_format(rt: HostRuntime) -> Result<(), Fail> {
+    let alloc = rt.alloc();
+    let mut out = MemorySink::new(alloc, 2_000, 7, Vec::new(alloc))?;
+    let counts = write(&rt, alloc, (SUMS, SCANNER), &FIRST, &mut out)?;
+    let wanted = Counts {
+        goals: 4,
+        feasible: 4,
+        infeasible: 0,
+        large: 0,
+        negatives: 3,
+        cases: None,
+        bytes: SUMS_WHOLE.len() as u128,
+    };
+    assert_eq!(rt; counts, Ok(wanted));
+    assert_eq!(rt; out.written(), SUMS_WHOLE);
+    Ok(())
+}
+
+#[test]
+fn second_format(rt: HostRuntime) -> Result<(), Fail> {
+    let alloc = rt.alloc();
+    let mut out = MemorySink::new(alloc, 2_000, 7, Vec::new(alloc))?;
+    let counts = write(&rt, alloc, (LETTER, LETTER_SCANNER), &SECOND, &mut out)?;
+    let wanted = Counts {
+        goals: 5,
+        feasible: 3,
+        infeasible: 2,
+        large: 0,
+        negatives: 2,
+        cases: Some(1),
+        bytes: LETTER_SUITE_TWO.len() as u128,
+    };
+    assert_eq!(rt; counts, Ok(wanted));
+    assert_eq!(rt; out.written(), LETTER_SUITE_TWO);
+    Ok(())
+}
