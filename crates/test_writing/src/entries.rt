@@ -6,8 +6,10 @@ use cs_grammar::Weights;
 use cs_manifest::Weigh;
 use cs_plan::{Made, Plan, next_entries};
 use cs_positive::{Positives, Tables};
-use cs_sample_files::sums;
+use cs_sample_files::{Trouble, sums};
+use std::alloc::Global;
 use std::test::Fail;
+use std::thread::Threads;
 
 const RULE_GOALS: Criteria = Criteria {
     rule: true,
@@ -26,10 +28,11 @@ fn has_tokens(entries: &[Made], at: usize, tokens: &[u16]) -> bool {
     }
 }
 
-// The tokens are those of the first format's manifest in `docs/FORMATS.md`. Behind the last entry comes an empty batch.
-#[test]
-fn entries_of_rule_goals(rt: HostRuntime) -> Result<(), Fail> {
-    let alloc = rt.alloc();
+// The first batches of entries of the rule goals of sums.
+fn two_batches<R: Threads + Sync>(
+    rt: &R,
+    alloc: Global,
+) -> Result<(Vec<Made>, Vec<Made>), Trouble> {
     let yacc = sums(alloc)?;
     let weights = Weights::nodes(alloc, yacc.grammar().tokens())?;
     let tables = Tables::new(alloc, yacc.grammar(), &weights)?;
@@ -42,13 +45,20 @@ fn entries_of_rule_goals(rt: HostRuntime) -> Result<(), Fail> {
         closed: None,
     };
     let mut positives = Positives::new(&tables, RULE_GOALS);
-    let entries = next_entries(&rt, alloc, &plan, &mut positives, &OpenGate)?;
+    let first = next_entries(rt, alloc, &plan, &mut positives, &OpenGate)?;
+    let second = next_entries(rt, alloc, &plan, &mut positives, &OpenGate)?;
+    Ok((first, second))
+}
+
+// The tokens are those of the first format's manifest in `docs/FORMATS.md`. Behind the last entry comes an empty batch.
+#[test]
+fn entries_of_rule_goals(rt: HostRuntime) -> Result<(), Fail> {
+    let (entries, none) = two_batches(&rt, rt.alloc())?;
     assert_eq!(rt; entries.len(), 4);
     let rows: [(usize, &[u16]); 4] = [(0, &[1, 2, 1]), (1, &[1]), (2, &[1]), (3, &[3, 1, 4])];
     for (at, tokens) in rows {
         assert!(rt; has_tokens(&entries, at, tokens), "{at}");
     }
-    let none = next_entries(&rt, alloc, &plan, &mut positives, &OpenGate)?;
     assert!(rt; none.is_empty());
     Ok(())
 }
