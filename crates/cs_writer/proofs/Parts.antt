@@ -1,13 +1,8 @@
 -- What an output grew by, for texts of one kind and of another.
-use Rattle.std.proofs.Common.{ℕ, List, Option, Result, Ok, Err, OnErr, OnOk, sym}
-use Rattle.cs_io.proofs.Known.{known_none}
+use Rattle.std.proofs.Common.{ℕ, List, Option, Result, Ok, Err}
 use Rattle.std.specs.Prelude.{IfOk}
 use Rattle.cs_manifest.specs.declared.counts.Counts.{Counts}
 use Rattle.cs_writing.specs.Writing.{CountsOfAll, GrewByOne, GrewByPart, HasRoomForAll}
-
-pub on_ok : {A E : Type 0} (P : Type 0) (result : Result A E) → P → OnOk result P
-on_ok P (Ok value) holds = holds
-on_ok P (Err error) holds = tt
 
 -- what is so on Ok, said of what follows from it
 pub if_ok_more : {A E : Type 0} {P Q : A → Type 0} (result : Result A E) → IfOk result P → ((a : A) → P a → Q a) → IfOk result Q

@@ -5,7 +5,8 @@ use Rattle.cs_automaton.specs.Places.{InSet}
 use Rattle.cs_pattern_tree.specs.Pattern.{Regex, regexes}
 use Rattle.cs_writer.proofs.Choices.{of_suite, suite_of}
 use Rattle.cs_writer.proofs.Halts.{stopped_failed, stopped_many, stopped_states}
-use Rattle.cs_writer.proofs.Parts.{grew_by, grew_part, has_counts, has_room, no_part, on_err}
+use Rattle.cs_writer.proofs.Parts.{grew_by, grew_part, has_counts, has_room}
+use Rattle.cs_writing.proofs.Out.{no_part, on_err}
 use Rattle.cs_writer.proofs.suite.write_suite.Goals as goal
 
 pub returns-in_err-automaton-clause-part : goal.returns-in_err-automaton-clause-part

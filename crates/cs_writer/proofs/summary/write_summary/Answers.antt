@@ -2,7 +2,7 @@ use Rattle.std.proofs.Common.{◌∙◌, List, ℕ, sym, subst}
 use Rattle.cs_ending.specs.Summary.{IsSummary}
 use Rattle.cs_io.specs.Sink.{GrewByPrefix}
 use Rattle.cs_writing.specs.Writing.{GrewByPart}
-use Rattle.cs_writer.proofs.Parts.{on_err}
+use Rattle.cs_writing.proofs.Out.{on_err}
 use Rattle.cs_writer.proofs.summary.write_summary.Goals as goal
 
 pub returns-in_err-write_all-clause-part : goal.returns-in_err-write_all-clause-part
