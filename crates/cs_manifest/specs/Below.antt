@@ -5,7 +5,7 @@ use Rattle.cs_grammar.specs.declared.symbol.Mark.{Mark}
 use Rattle.cs_yacc.specs.File.{File}
 use Rattle.cs_positive.specs.declared.verdict.Verdict.{Verdict}
 use Rattle.cs_positive.specs.declared.verdict.Verdict.TheVariants.{Feasible, Infeasible, Large}
-use Rattle.cs_mutate.specs.declared.edit.Edit.{Edit}
+use Rattle.cs_mutate.specs.declared.negative.Negative.{Negative}
 use Rattle.cs_render.specs.Rendering.{Rendering}
 use Rattle.cs_manifest.specs.Words.{line, quoted, spaced}
 use Rattle.cs_manifest.specs.Names.{mark_text}
@@ -16,9 +16,8 @@ abbrev pub two_marks : File → Mark → Mark → List ℕ
 two_marks file left right = (space ∷ mark_text file left) ++ space ∷ mark_text file right
 
 -- a fault's line without its newline
-abbrev pub fault_words : File → Edit → Mark → Mark → ℕ → List ℕ
-fault_words file edit left right at =
-    space ∷ edit_text file edit ++ space ∷ pair_words file left right ++ numbered_word (codes " at ") at
+abbrev pub fault_words : File → Negative → List ℕ
+fault_words file n = space ∷ edit_text file n.edit ++ space ∷ pair_words file n.left n.right ++ numbered_word (codes " at ") n.at
 
 -- the rule numbers of a derivation
 abbrev pub derive_below : List ℕ → List ℕ

@@ -60,7 +60,7 @@ with_entry counts (Goal number goal verdict tokens rendered) = with_verdict coun
 with_entry counts (Case number size derivation tokens rendered) = with_case counts
 with_entry counts (Shared number goal verdict) = with_shared_verdict counts verdict
 with_entry counts (Base number goal) = counts
-with_entry counts (Negative number base edit left right at tokens rendered) = record counts { negatives = next_count counts.negatives }
+with_entry counts (Negative numbered) = record counts { negatives = next_count counts.negatives }
 
 -- behind one more entry
 abbrev pub behind_entry : File → Counts → Entry → Counts

@@ -12,6 +12,7 @@ use Rattle.cs_positive.specs.declared.verdict.Verdict.{Verdict}
 use Rattle.cs_positive.specs.declared.verdict.Verdict.TheVariants.{Feasible, Infeasible, Large}
 use Rattle.cs_mutate.specs.declared.edit.Edit.{Edit}
 use Rattle.cs_mutate.specs.declared.edit.Edit.TheVariants.{Delete, Insert, Replace, Swap}
+use Rattle.cs_mutate.specs.declared.negative.Negative.{Negative}
 use Rattle.cs_lexeme.specs.Lexeme.{lexeme_in}
 use Rattle.cs_render.specs.Rendering.{Rendering, Text, NoLexeme, Differs}
 use Rattle.cs_manifest.specs.Words.{line, spaced, with_numbers, quoted}
@@ -136,18 +137,18 @@ edit_text file (Replace i t) = codes "replace " ++ decimal i ++ space ∷ token_
 edit_text file (Swap i) = codes "swap " ++ decimal i
 
 -- `negative N base B`
-abbrev pub negative_words : ℕ → ℕ → List ℕ
-negative_words number base = numbered_word (codes "negative ") number ++ numbered_word (codes " base ") base
+abbrev pub base_words : ℕ → ℕ → List ℕ
+base_words number base = numbered_word (codes "negative ") number ++ numbered_word (codes " base ") base
 
 -- ` EDIT pair A B at K`: the edit, the pair of the edited list that no sentence has, and its place
-abbrev pub fault_line : File → Edit → Mark → Mark → ℕ → List ℕ
-fault_line file edit left right at =
-    line (space ∷ edit_text file edit ++ space ∷ pair_words file left right ++ numbered_word (codes " at ") at)
+abbrev pub fault_line : File → Negative → List ℕ
+fault_line file n =
+    line (space ∷ edit_text file n.edit ++ space ∷ pair_words file n.left n.right ++ numbered_word (codes " at ") n.at)
 
 -- these, and the edited list with what came of its rendering
-abbrev pub negative_lines : File → ℕ → ℕ → Edit → Mark → Mark → ℕ → List ℕ → Option Rendering → List ℕ
-negative_lines file number base edit left right at tokens rendered =
-    negative_words number base ++ fault_line file edit left right at ++ tokens_line file tokens ++ text_lines file rendered
+abbrev pub negative_lines : File → ℕ → ℕ → Negative → List ℕ → Option Rendering → List ℕ
+negative_lines file number base negative tokens rendered =
+    base_words number base ++ fault_line file negative ++ tokens_line file tokens ++ text_lines file rendered
 
 -- ---- the end
 

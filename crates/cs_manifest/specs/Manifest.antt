@@ -232,8 +232,7 @@ goal_entry_lines file number entry = goal_lines file number entry.goal entry.ver
 -- the lines of a negative of a base, by its number
 abbrev pub negative_entry_lines : File → ℕ → List ℕ → ℕ → NegativeEntry → List ℕ
 negative_entry_lines file base tokens number entry =
-    negative_lines file number base entry.negative.edit entry.negative.left entry.negative.right entry.negative.at
-    (edited tokens entry.negative.edit) entry.rendered
+    negative_lines file number base entry.negative (edited tokens entry.negative.edit) entry.rendered
 
 -- the lines of bases, where so many negatives and bases stand before them; negatives are numbered through all bases
 abbrev pub base_entry_lines : File → ℕ → ℕ → List BaseEntry → List ℕ

@@ -13,6 +13,7 @@ use Rattle.cs_goals.specs.declared.goal.Goal.{Goal}
 use Rattle.cs_goals.specs.declared.goal.Goal.TheVariants.{Rule, Context, Pair}
 use Rattle.cs_mutate.specs.declared.edit.Edit.{Edit}
 use Rattle.cs_mutate.specs.declared.edit.Edit.TheVariants.{Delete, Insert, Replace, Swap}
+use Rattle.cs_mutate.specs.declared.negative.Negative.{Negative}
 use Rattle.cs_render.specs.Rendering.{Rendering, Text, NoLexeme, Differs}
 use Rattle.cs_closed.specs.Closed.{ClosedSets}
 use Rattle.cs_manifest.specs.Words.{literal}
@@ -73,6 +74,12 @@ IsNamedEdit file (Delete i) = Unit {0}
 IsNamedEdit file (Insert i t) = IsNamedToken file t
 IsNamedEdit file (Replace i t) = IsNamedToken file t
 IsNamedEdit file (Swap i) = Unit {0}
+
+-- those of its edit and of its pair
+pub record IsNamedNegative (file : File) (negative : Negative) : Type 0 where
+  pub edit : IsNamedEdit file negative.edit
+  pub left : IsNamedMark file negative.left
+  pub right : IsNamedMark file negative.right
 
 abbrev pub IsNamedRendering : File → Rendering → Type 0
 IsNamedRendering file (Text text) = Unit {0}

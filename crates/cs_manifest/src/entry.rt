@@ -1,7 +1,7 @@
 use cs_cases::Named;
 use cs_goals::Goal;
-use cs_grammar::{Derivation, Mark};
-use cs_mutate::Edit;
+use cs_grammar::Derivation;
+use cs_mutate::Negative;
 use cs_positive::Verdict;
 use cs_render::{Rendered, RenderedParts};
 
@@ -36,18 +36,19 @@ pub enum Entry<'a> {
         number: u32,
         goal: u64,
     },
-    /// A negative: the edit of a base, the first pair of the edited list that is adjacent in no sentence, with its place from 0
-    /// in the framed list, the edited list, and what came of its rendering.
-    Negative {
-        number: u64,
-        base: u32,
-        edit: Edit,
-        left: Mark,
-        right: Mark,
-        at: u32,
-        tokens: &'a [u16],
-        rendered: RenderedParts<'a>,
-    },
+    /// A negative of the base above.
+    Negative(NumberedNegative<'a>),
+}
+
+/// A negative with its number and that of its base: the edit with its poisoned pair, the edited list, and what came of the
+/// rendering of that list.
+#[derive(Clone, Copy)]
+pub struct NumberedNegative<'a> {
+    pub number: u64,
+    pub base: u32,
+    pub negative: Negative,
+    pub tokens: &'a [u16],
+    pub rendered: RenderedParts<'a>,
 }
 
 /// A goal's verdict in the second format: a feasible goal names cases.

@@ -24,7 +24,7 @@ mod put_entry;
 mod put_head;
 
 pub use counts::Counts;
-pub use entry::{Entry, SharedVerdict};
+pub use entry::{Entry, NumberedNegative, SharedVerdict};
 pub use format::{Format, Weigh};
 pub use head::{Form, Head};
 pub use laws::{one_manifest, one_text, some_manifest};

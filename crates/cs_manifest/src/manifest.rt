@@ -180,7 +180,7 @@ fn count_entry(counts: &mut Counts, bytes: u128, entry: &Entry<'_>)
         Entry::Case { .. } => counts.cases = next_case(counts.cases),
         Entry::Shared { verdict, .. } => *counts = with_shared(*counts, *verdict),
         Entry::Base { .. } => {}
-        Entry::Negative { .. } => counts.negatives = counts.negatives.saturating_add(1),
+        Entry::Negative(_) => counts.negatives = counts.negatives.saturating_add(1),
     }
 }
 

@@ -2,7 +2,7 @@
 
 ghost use Rattle.std.specs.Prelude.{◌≡◌, ◌∷◌, decimal};
 ghost use Rattle.cs_bytes.specs.Names.{space};
-ghost use Rattle.cs_manifest.specs.Entry.{IsNamedEntry, lines_of, rendering_of};
+ghost use Rattle.cs_manifest.specs.Entry.{IsNamedEntry, IsNamedNumbered, lines_of, lines_of_numbered, rendering_of};
 ghost use Rattle.cs_manifest.specs.Counts.{end_of};
 ghost use Rattle.cs_manifest.specs.Below as below;
 ghost use Rattle.cs_manifest.specs.Below.{text_below, texts_below};
@@ -15,11 +15,11 @@ ghost use Rattle.cs_render.specs.Rendering.{rendering_in};
 
 use crate::names::{put_spaced_mark, put_spaced_token, put_text_bytes};
 use crate::output::Output;
-use crate::{Counts, Entry, SharedVerdict};
+use crate::{Counts, Entry, NumberedNegative, SharedVerdict};
 use cs_goals::Goal;
 use cs_grammar::{Derivation, Mark};
 use cs_io::Sink;
-use cs_mutate::Edit;
+use cs_mutate::{Edit, Negative};
 use cs_positive::Verdict;
 use cs_render::{Rendered, RenderedParts};
 use cs_yacc::YaccFile;
@@ -61,21 +61,7 @@ pub fn put_entry<S: Sink>(output: &mut Output<'_, S>, file: &YaccFile, entry: &E
             put_shared_verdict(output, verdict);
         }
         Entry::Base { number, goal } => put_base(output, number, goal),
-        Entry::Negative {
-            number,
-            base,
-            edit,
-            left,
-            right,
-            at,
-            tokens,
-            rendered,
-        } => {
-            put_negative_words(output, number, base);
-            put_fault(output, file, edit, left, right, at);
-            put_yield(output, file, tokens);
-            put_rendered(output, file, rendered);
-        }
+        Entry::Negative(numbered) => put_negative(output, file, &numbered),
     }
 }
 
@@ -271,32 +257,37 @@ fn put_base<S: Sink>(output: &mut Output<'_, S>, number: u32, goal: u64)
     output.put(b"\n");
 }
 
+fn put_negative<S: Sink>(
+    output: &mut Output<'_, S>,
+    file: &YaccFile,
+    numbered: &NumberedNegative<'_>,
+)
+    requires { IsNamedNumbered file.now numbered.now }
+    ensures { Puts S.Sink (lines_of_numbered file.now numbered.now) output.old output.new }
+{
+    put_base_words(output, numbered.number, numbered.base);
+    put_fault(output, file, &numbered.negative);
+    put_yield(output, file, numbered.tokens);
+    put_rendered(output, file, numbered.rendered);
+}
+
 // `negative N base B`
-fn put_negative_words<S: Sink>(output: &mut Output<'_, S>, number: u64, base: u32)
-    ensures { Puts S.Sink (lines.negative_words number base) output.old output.new }
+fn put_base_words<S: Sink>(output: &mut Output<'_, S>, number: u64, base: u32)
+    ensures { Puts S.Sink (lines.base_words number base) output.old output.new }
 {
     put_count(output, b"negative ", number);
     put_count(output, b" base ", base as u64);
 }
 
 // ` EDIT pair A B at K`, without the newline.
-fn put_fault<S: Sink>(
-    output: &mut Output<'_, S>,
-    file: &YaccFile,
-    edit: Edit,
-    left: Mark,
-    right: Mark,
-    at: u32,
-)
-    requires edit { names.IsNamedEdit file.now edit }
-    requires left { names.IsNamedMark file.now left }
-    requires right { names.IsNamedMark file.now right }
-    ensures { Puts S.Sink (below.fault_words file.now edit left right at) output.old output.new }
+fn put_fault<S: Sink>(output: &mut Output<'_, S>, file: &YaccFile, negative: &Negative)
+    requires { names.IsNamedNegative file.now negative.now }
+    ensures { Puts S.Sink (below.fault_words file.now negative.now) output.old output.new }
 {
-    put_edit(output, file, edit);
+    put_edit(output, file, negative.edit);
     output.put(b" pair");
-    put_pair(output, file, left, right);
-    put_count(output, b" at ", at as u64);
+    put_pair(output, file, negative.left, negative.right);
+    put_count(output, b" at ", negative.at as u64);
 }
 
 // ` EDIT`

@@ -6,7 +6,7 @@ use Rattle.std.proofs.lemmas.Option.{get_or_from_slice_get, slice_get_within}
 use Rattle.cs_grammar.specs.Grammar.{IsNumberOf, PlainGrammar}
 use Rattle.cs_grammar.specs.Sentence.{framed}
 use Rattle.cs_grammar.specs.declared.symbol.Mark.TheVariants.{Begin, Token, End}
-use Rattle.cs_manifest.specs.Names.{AreNamedTokens, IsNamedEdit, IsNamedMark, IsNamedRendering, IsNamedToken}
+use Rattle.cs_manifest.specs.Names.{AreNamedTokens, IsNamedEdit, IsNamedMark, IsNamedNegative, IsNamedRendering, IsNamedToken}
 use Rattle.cs_mutate.specs.Edit.{Fits, HasToken, edited}
 use Rattle.cs_mutate.specs.Negatives.{IsNegative}
 use Rattle.cs_mutate.specs.declared.edit.Edit.{Edit}
@@ -54,12 +54,14 @@ module _ (file : File) where
         let named : AreNamedTokens file list = subst (λ (k : ℕ). All (IsNumberOf k) list) (sym names) (edited_tokens g.tokens base tokens n.edit fits) in
         let marks = named_frame list named in
         let pair = is.pair in
-        let edit : IsNamedEdit file n.edit = named_edit n.edit (subst (λ (k : ℕ). HasToken k n.edit) (sym names) fits.1) in
         let edited_as : m.tokens ≡ list = made.tokens ∙ ap (λ (x : Negative). edited base x.edit) same in
+        let named_n : IsNamedNegative file n = record {
+          edit = named_edit n.edit (subst (λ (k : ℕ). HasToken k n.edit) (sym names) fits.1);
+          left = All-slice_get (IsNamedMark file) (framed list) n.at n.left marks pair.left;
+          right = All-slice_get (IsNamedMark file) (framed list) (n.at + 1) n.right marks pair.right;
+        } in
         record {
-          edit = subst (λ (x : Negative). IsNamedEdit file x.edit) (sym same) edit;
-          left = subst (λ (x : Negative). IsNamedMark file x.left) (sym same) (All-slice_get (IsNamedMark file) (framed list) n.at n.left marks pair.left);
-          right = subst (λ (x : Negative). IsNamedMark file x.right) (sym same) (All-slice_get (IsNamedMark file) (framed list) (n.at + 1) n.right marks pair.right);
+          negative = subst (IsNamedNegative file) (sym same) named_n;
           tokens = subst (AreNamedTokens file) (sym edited_as) named;
           text = named_rendering (scanning work.scanner.now) work.lexemes.now work.separator.now list m.rendered named made.entry.text;
         }

@@ -1,3 +1,2 @@
 pub mod Mutants
 pub mod Makers
-pub mod Kept

@@ -6,7 +6,7 @@ use Rattle.cs_manifest.specs.Entry.{lines_of}
 use Rattle.cs_manifest.specs.Manifest.{IsNegativeOf, NegativeEntry, Texts, negative_entry_lines}
 use Rattle.cs_manifest.specs.declared.counts.Counts.{Counts}
 use Rattle.cs_manifest.specs.declared.entry.Entry.{Entry}
-use Rattle.cs_manifest.specs.Names.{AreNamedTokens, IsNamedEdit, IsNamedMark, IsNamedRendering}
+use Rattle.cs_manifest.specs.Names.{AreNamedTokens, IsNamedNegative, IsNamedRendering}
 use Rattle.cs_mutate.specs.Edit.{edited}
 use Rattle.cs_mutate.specs.declared.negative.Negative.{Negative}
 use Rattle.cs_render.specs.Rendering.{Rendering}
@@ -39,9 +39,7 @@ pub record IsMutantOf (work : RenderWork) (base : List ℕ) (negative : Negative
 
 -- the numbers of its tokens have names
 pub record IsNamedMutant (file : File) (mutant : Mutant) : Type 0 where
-  pub edit : IsNamedEdit file mutant.negative.edit
-  pub left : IsNamedMark file mutant.negative.left
-  pub right : IsNamedMark file mutant.negative.right
+  pub negative : IsNamedNegative file mutant.negative
   pub tokens : AreNamedTokens file mutant.tokens
   pub text : IsNamedRendering file mutant.rendered
 

@@ -1,41 +1,16 @@
 // A negative that was made, and its entry.
 
-ghost use Rattle.std.specs.Prelude.{◌≡◌};
 ghost use Rattle.cs_manifest.specs.Entry.{IsNamedEntry};
-ghost use Rattle.cs_render.specs.Rendering.{rendering_in};
 ghost use Rattle.cs_yacc.specs.File.{File};
-ghost use Rattle.cs_mutants.specs.Kept.{rendering_kept};
 ghost use Rattle.cs_mutants.specs.Mutants.{CountsOneNegative, HasLinesOf, IsNamedMutant};
 
 use cs_grammar::Mark;
-use cs_manifest::Entry;
+use cs_manifest::{Entry, NumberedNegative};
 use cs_mutate::{Edit, Negative};
-use cs_render::{Rendered, RenderedParts};
-use cs_splice::Splice;
+use cs_render::Rendered;
+use cs_splice::Spliced;
 use std::alloc::Global;
 use std::marker::Model;
-
-/// What came of the rendering of an edited list, as it is kept.
-#[derive(Drop)]
-pub(crate) enum Kept<'p> {
-    /// The front and the back of a text, around what is kept beside them.
-    Spliced(Splice<'p>),
-    Whole(Rendered),
-}
-
-// What came of the rendering, lent.
-fn parts<'m>(middle: &'m [u8], kept: &'m Kept<'_>) -> RenderedParts<'m>
-    ensures { rendering_in result ≡ rendering_kept middle.now kept.now }
-{
-    match kept {
-        Kept::Spliced(splice) => RenderedParts::Text {
-            front: splice.front,
-            middle,
-            back: splice.back,
-        },
-        Kept::Whole(rendered) => rendered.parts(),
-    }
-}
 
 /// A negative of a base with its edited list and what came of the rendering of that list, in memory
 /// that another may be made in.
@@ -44,7 +19,7 @@ pub struct MadeNegative<'p> {
     pub(crate) negative: Negative,
     pub(crate) tokens: Vec<u16>,
     pub(crate) middle: Vec<u8>,
-    pub(crate) kept: Kept<'p>,
+    pub(crate) spliced: Spliced<'p>,
 }
 
 impl<'p> Model for MadeNegative<'p> {
@@ -52,12 +27,12 @@ impl<'p> Model for MadeNegative<'p> {
 
     ghost Value = { Mutant };
 
-    ghost use Rattle.cs_mutants.specs.Kept.{rendering_kept};
+    ghost use Rattle.cs_splice.specs.Spliced.{rendering_around};
 
     ghost view = { λ m. record {
       negative = m.negative;
       tokens = m.tokens.items;
-      rendered = rendering_kept m.middle.items m.kept;
+      rendered = rendering_around m.middle.items m.spliced;
     } };
 }
 
@@ -73,7 +48,7 @@ impl<'p> MadeNegative<'p> {
             },
             tokens: Vec::new(alloc),
             middle: Vec::new(alloc),
-            kept: Kept::Whole(Rendered::Differs { after: 0 }),
+            spliced: Spliced::Whole(Rendered::Differs { after: 0 }),
         }
     }
 
@@ -83,15 +58,12 @@ impl<'p> MadeNegative<'p> {
         ensures counts { CountsOneNegative result }
         ensures named { (file : File) → IsNamedMutant file self.now → IsNamedEntry file result }
     {
-        Entry::Negative {
+        Entry::Negative(NumberedNegative {
             number,
             base,
-            edit: self.negative.edit,
-            left: self.negative.left,
-            right: self.negative.right,
-            at: self.negative.at,
+            negative: self.negative,
             tokens: &self.tokens,
-            rendered: parts(&self.middle, &self.kept),
-        }
+            rendered: self.spliced.parts(&self.middle),
+        })
     }
 }

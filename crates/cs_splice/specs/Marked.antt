@@ -11,9 +11,9 @@ use Rattle.cs_splice.specs.Marks.{AreAligned, AreAllMarks, IsAligned, IsMark}
 use Rattle.cs_splice.specs.Near.{Near}
 use Rattle.cs_splice.specs.Spliced.{Tells, near_by}
 
--- what is seen of it
+-- what it was rendered by
 abbrev pub near_of : Marked → Near
-near_of p = near_by p.scanner.now p.lexemes.now p.separator.now p.tokens.now
+near_of p = near_by p.scanner.now p.lexemes.now p.separator.now
 
 -- its text is that of its tokens, and its marks are those of its matches
 pub record IsMarkedList (p : Marked) : Type 0 where
@@ -25,8 +25,14 @@ pub record IsMarkedList (p : Marked) : Type 0 where
   pub aligned : AreAligned p.lexemes.now p.separator.now p.tokens.now p.text.items p.marks.items
 
 -- what is said of a list that could be marked
-abbrev pub IfMarkedList : Scanner → List (Option (List ℕ)) → List ℕ → List ℕ → Option Marked → Type 0
-IfMarkedList scanner lexemes separator tokens found = IfSome found (λ p. IsMarkedList p × (near_of p ≡ near_by scanner lexemes separator tokens))
+abbrev pub IfMarkedList : Scanner → List (Option (List ℕ)) → List ℕ → Option Marked → Type 0
+IfMarkedList scanner lexemes separator found = IfSome found (λ p. IsMarkedList p × (near_of p ≡ near_by scanner lexemes separator))
+
+-- what lists are rendered by, with a list by which those near it can be spliced, if there is one
+pub record CanSplice (scanner : Scanner) (lexemes : List (Option (List ℕ))) (separator : List ℕ) (list : Option Marked) : Type 0 where
+  pub kinds : HasKinds scanner
+  pub literals : HasLiterals scanner
+  pub marked : IfMarkedList scanner lexemes separator list
 
 -- the mark of the match that gives the token at the place
 pub record IsMarkAt (p : Marked) (place : ℕ) (mark : Mark) : Type 0 where

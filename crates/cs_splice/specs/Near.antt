@@ -2,9 +2,8 @@
 use Rattle.std.specs.Prelude.{ℕ, List, Option}
 use Rattle.cs_scan.specs.declared.scanner.Scanner.{Scanner}
 
--- a list of tokens, and what it was rendered by
+-- what lists are rendered by
 pub record Near : Type 0 where
   pub scanner : Scanner
   pub lexemes : List (Option (List ℕ))
   pub separator : List ℕ
-  pub tokens : List ℕ

@@ -1,23 +1,36 @@
--- What a splice tells: the text of a list of tokens, in three parts.
-use Rattle.std.specs.Prelude.{◌≡◌, ℕ, List, ◌++◌, Option, IfSome}
+-- What comes of a list of tokens that is rendered by one that is near it.
+use Rattle.std.specs.Prelude.{ℕ, List, ◌++◌, Option, IfSome}
 use Rattle.cs_scan.specs.declared.scanner.Scanner.{Scanner}
 use Rattle.cs_scan.specs.Compared.{scanning}
-use Rattle.cs_render.specs.Rendering.{IsRendered, Text}
-use Rattle.cs_splice.specs.declared.prepared.Splice.{Splice}
+use Rattle.cs_render.specs.Rendering.{IsRendered, Rendering, Text, rendering}
+use Rattle.cs_splice.specs.declared.marked.Splice.{Splice}
+use Rattle.cs_splice.specs.declared.spliced.Spliced.{Spliced}
+use Rattle.cs_splice.specs.declared.spliced.Spliced.TheVariants.{Around, Whole}
 use Rattle.cs_splice.specs.Near.{Near}
 
--- a list with this scanner, these lexemes and this separator
-abbrev pub near_by : Scanner → List (Option (List ℕ)) → List ℕ → List ℕ → Near
-near_by scanner lexemes separator tokens = record { scanner = scanner; lexemes = lexemes; separator = separator; tokens = tokens }
+-- lists are rendered by this scanner, these lexemes and this separator
+abbrev pub near_by : Scanner → List (Option (List ℕ)) → List ℕ → Near
+near_by scanner lexemes separator = record { scanner = scanner; lexemes = lexemes; separator = separator }
 
--- what is said of a list that could be prepared
-abbrev pub IfPrepared : Scanner → List (Option (List ℕ)) → List ℕ → List ℕ → Option Near → Type 0
-IfPrepared scanner lexemes separator tokens found = IfSome found (λ near. near ≡ near_by scanner lexemes separator tokens)
+-- the rendering of the tokens
+abbrev pub IsRenderedNear : Near → List ℕ → Rendering → Type 0
+IsRenderedNear near tokens r = IsRendered (scanning near.scanner) near.lexemes near.separator tokens r
 
--- the text is the rendering of the tokens, as the list was rendered
+-- what an answer says with the middle that is kept beside it: the parts of a text stand one behind another
+abbrev pub rendering_around : List ℕ → Spliced → Rendering
+rendering_around middle (Around front back) = Text (front.now ++ middle ++ back.now)
+rendering_around middle (Whole rendered) = rendering rendered
+
+-- the answer and the middle say what comes of the tokens
+abbrev pub RendersNear : Near → List ℕ → List ℕ → Spliced → Type 0
+RendersNear near tokens middle spliced = IsRenderedNear near tokens (rendering_around middle spliced)
+
+-- ---- working words of proofs
+
+-- the text is that of the tokens
 abbrev pub Tells : Near → List ℕ → List ℕ → Type 0
-Tells near tokens text = IsRendered (scanning near.scanner) near.lexemes near.separator tokens (Text text)
+Tells near tokens text = IsRenderedNear near tokens (Text text)
 
--- what is said of three parts of a text that were told: the middle is this
+-- what is said of a front and a back that were told: around the middle they make the text
 abbrev pub IfTold : Near → List ℕ → List ℕ → Option Splice → Type 0
 IfTold near tokens middle told = IfSome told (λ parts. Tells near tokens (parts.front.now ++ middle ++ parts.back.now))

@@ -1,11 +1,11 @@
-//! The texts of lists of tokens that are near a list whose text is known, told with a scan around what differs alone.
+//! The renderings of lists of tokens that are near a list whose text is known, with a scan around what differs alone.
 //!
-//! The layers above prepare a list of tokens by `Prepared::new`, and ask it for the texts of lists that are near by `splice`,
-//! which tells a text in three parts, or none: `cs_render::render` tells what comes of a list then.
+//! The layers above prepare a list of tokens by `Prepared::new`, and render those that are near it by `render`, which answers what
+//! `cs_render::render` does: the text in three parts, whose middle is in a buffer of the caller.
 //!
-//! Meaning: `specs/Spliced.antt` (what is told), `specs/Near.antt` (what is seen of a prepared list). Working words of proofs:
-//! `specs/Settled.antt` (what the first bytes of a text settle of its scan), `specs/Marks.antt`, `specs/Marked.antt`,
-//! `specs/Middle.antt`, `specs/Lists.antt`.
+//! Meaning: `specs/Spliced.antt` (what an answer says), `specs/Near.antt` (what is seen of a prepared list). Working words of
+//! proofs: `specs/Settled.antt` (what the first bytes of a text settle of its scan), `specs/Marks.antt`, `specs/Marked.antt`,
+//! `specs/Middle.antt`, `specs/Lists.antt`, and the end of `specs/Spliced.antt`.
 #![tactic(auto)]
 
 mod common;
@@ -14,6 +14,8 @@ mod marks;
 mod middle;
 mod parts;
 mod prepared;
+mod spliced;
 mod step;
 
-pub use prepared::{Prepared, Splice};
+pub use prepared::Prepared;
+pub use spliced::Spliced;

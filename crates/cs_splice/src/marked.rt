@@ -10,7 +10,6 @@ use crate::common::{same_back, same_front};
 use crate::marks::{Mark, are_lexemes, marks_of};
 use crate::middle::put_middle;
 use crate::parts::{begins_with_part, from_place, up_to};
-use crate::prepared::Splice;
 use crate::step::arrives;
 use cs_lexeme::Lexemes;
 use cs_render::{Rendered, render};
@@ -28,6 +27,13 @@ pub(crate) struct Marked<'a> {
     marks: Vec<Mark>,
 }
 
+/// What a text has of the text of a list near its own, in front of what was put for it and behind that.
+#[derive(Clone, Copy)]
+pub(crate) struct Splice<'p> {
+    pub(crate) front: &'p [u8],
+    pub(crate) back: &'p [u8],
+}
+
 impl<'a> Marked<'a> {
     /// The list with its text. None where it has no text, or where a match of the text's scan isn't a lexeme.
     pub(crate) fn new(
@@ -41,7 +47,7 @@ impl<'a> Marked<'a> {
         requires literals { HasLiterals scanner.now }
         requires tokens { AreTokens lexemes.now tokens.now }
         requires few { length tokens.now ≤ 1000001 }
-        ensures { IfOk result (IfMarkedList scanner.now lexemes.now separator.now tokens.now) }
+        ensures { IfOk result (IfMarkedList scanner.now lexemes.now separator.now) }
     {
         let Rendered::Text(text) = render(alloc, scanner, lexemes, separator, tokens)? else {
             return Ok(None);

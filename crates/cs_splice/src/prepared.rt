@@ -1,27 +1,28 @@
-// A list of tokens by which the texts of lists that are near it are told.
+// Rendering lists of tokens that are near one whose text is known.
 
-ghost use Rattle.std.specs.Prelude.{◌≤◌, IfOk, length};
+ghost use Rattle.std.specs.Prelude.{◌≡◌, ◌≤◌, IfOk, length};
 ghost use Rattle.cs_scan.specs.Compared.{HasKinds, HasLiterals};
 ghost use Rattle.cs_render.specs.Rendering.{AreTokens};
-ghost use Rattle.cs_splice.specs.Spliced.{IfPrepared, IfTold};
+ghost use Rattle.cs_splice.specs.Spliced.{RendersNear, near_by};
 
-use crate::marked::Marked;
+use crate::marked::{Marked, Splice};
+use crate::spliced::Spliced;
 use cs_lexeme::Lexemes;
+use cs_render::render;
 use cs_scan::Scanner;
 use std::alloc::{AllocError, Global};
 use std::marker::Model;
 
-/// A list of tokens that was rendered, by which the texts of lists that are near it are told.
+/// A list of tokens that was rendered, by which lists near it are rendered for less.
 #[derive(Drop)]
 pub struct Prepared<'a> {
-    list: Marked<'a>,
-}
+    alloc: Global,
+    scanner: &'a Scanner<'a>,
+    lexemes: &'a Lexemes,
+    separator: &'a [u8],
 
-/// What a text has of the prepared list's text, in front of what was put for it and behind that.
-#[derive(Clone, Copy)]
-pub struct Splice<'p> {
-    pub front: &'p [u8],
-    pub back: &'p [u8],
+    // None where the list has no text, or where a match of its scan isn't a lexeme.
+    list: Option<Marked<'a>>,
 }
 
 impl<'a> Model for Prepared<'a> {
@@ -33,46 +34,60 @@ impl<'a> Model for Prepared<'a> {
 
     ghost coded = { Prim.hlevel (codes, pattern.the_row.coded) };
 
-    ghost use Rattle.cs_splice.specs.Marked.{IsMarkedList, near_of};
+    ghost use Rattle.cs_splice.specs.Spliced.{near_by};
+    ghost use Rattle.cs_splice.specs.Marked.{CanSplice};
 
-    ghost view = { λ p. near_of p.list };
+    ghost view = { λ p. near_by p.scanner.now p.lexemes.now p.separator.now };
 
-    ghost invariant = { λ p. IsMarkedList p.list };
+    ghost invariant = { λ p. CanSplice p.scanner.now p.lexemes.now p.separator.now p.list };
 }
 
 impl<'a> Prepared<'a> {
-    /// The list, ready to tell. None where it has no text, or where a match of the text's scan isn't a lexeme.
+    /// Renders the list, and keeps what renders those that are near it.
     pub fn new(
         alloc: Global,
         scanner: &'a Scanner<'a>,
         lexemes: &'a Lexemes,
         separator: &'a [u8],
         tokens: &'a [u16],
-    ) -> Result<Option<Prepared<'a>>, AllocError>
+    ) -> Result<Prepared<'a>, AllocError>
         requires kinds { HasKinds scanner.now }
         requires literals { HasLiterals scanner.now }
         requires tokens { AreTokens lexemes.now tokens.now }
         requires few { length tokens.now ≤ 1000001 }
-        ensures { IfOk result (IfPrepared scanner.now lexemes.now separator.now tokens.now) }
+        ensures { IfOk result (λ near. near ≡ near_by scanner.now lexemes.now separator.now) }
     {
-        match Marked::new(alloc, scanner, lexemes, separator, tokens)? {
-            Some(list) => Ok(Some(Prepared { list })),
-            None => Ok(None),
-        }
+        let list = Marked::new(alloc, scanner, lexemes, separator, tokens)?;
+        Ok(Prepared {
+            alloc,
+            scanner,
+            lexemes,
+            separator,
+            list,
+        })
     }
 
-    /// The text of a list of tokens, whose front and back are of this list's text, and whose middle is put in place of what the
-    /// buffer holds. None where the text isn't told here, which doesn't say that there is none.
+    /// Renders a list of tokens; the middle of a text is put in place of what the buffer holds. The answer is that of
+    /// `cs_render::render`, whatever list was prepared.
     ///
-    /// It scans what isn't as in this list alone, and takes no memory but the buffer's.
-    pub fn splice(
-        &self,
-        middle: &mut Vec<u8>,
-        tokens: &[u16],
-    ) -> Result<Option<Splice<'_>>, AllocError>
-        requires { AreTokens self.now.lexemes tokens.now }
-        ensures { IfOk result (IfTold self.now tokens.now middle.new.items) }
+    /// Where the list is near the prepared one, it mostly scans what isn't as there alone, and takes no memory but the buffer's.
+    pub fn render(&self, middle: &mut Vec<u8>, tokens: &[u16]) -> Result<Spliced<'_>, AllocError>
+        requires tokens { AreTokens self.now.lexemes tokens.now }
+        requires few { length tokens.now ≤ 1000001 }
+        ensures { IfOk result (RendersNear self.now tokens.now middle.new.items) }
     {
-        self.list.splice(middle, tokens)
+        if let Some(list) = &self.list {
+            if let Some(Splice { front, back }) = list.splice(middle, tokens)? {
+                return Ok(Spliced::Around { front, back });
+            }
+        }
+        let rendered = render(
+            self.alloc,
+            self.scanner,
+            self.lexemes,
+            self.separator,
+            tokens,
+        )?;
+        Ok(Spliced::Whole(rendered))
     }
 }

@@ -3,8 +3,8 @@
 use cs_goals::Goal;
 use cs_grammar::Mark;
 use cs_io::{MemorySink, NullSink, Sink, SinkError};
-use cs_manifest::{Counts, Entry, Form, Head, Manifest};
-use cs_mutate::Edit;
+use cs_manifest::{Counts, Entry, Form, Head, Manifest, NumberedNegative};
+use cs_mutate::{Edit, Negative};
 use cs_positive::Verdict;
 use cs_render::{Rendered, RenderedParts};
 use cs_yacc::{YaccFile, read_yacc};
@@ -85,27 +85,31 @@ fn write_mutants<S: Sink>(
 ) -> Result<(), SinkError> {
     let rendered = Rendered::Text(text);
     manifest.entry(sink, &Entry::Base { number: 1, goal: 3 })?;
-    let first = Entry::Negative {
+    let first = Entry::Negative(NumberedNegative {
         number: 1,
         base: 1,
-        edit: Edit::Delete(0),
-        left: Mark::Begin,
-        right: Mark::End,
-        at: 0,
+        negative: Negative {
+            edit: Edit::Delete(0),
+            left: Mark::Begin,
+            right: Mark::End,
+            at: 0,
+        },
         tokens: &[],
         rendered: rendered.parts(),
-    };
+    });
     manifest.entry(sink, &first)?;
-    let second = Entry::Negative {
+    let second = Entry::Negative(NumberedNegative {
         number: 2,
         base: 1,
-        edit: Edit::Swap(7),
-        left: Mark::Begin,
-        right: Mark::End,
-        at: 3,
+        negative: Negative {
+            edit: Edit::Swap(7),
+            left: Mark::Begin,
+            right: Mark::End,
+            at: 3,
+        },
         tokens: &[],
         rendered: RenderedParts::Differs { after: u32::MAX },
-    };
+    });
     manifest.entry(sink, &second)
 }
 

@@ -10,8 +10,8 @@ use cs_closed::Closed;
 use cs_goals::Goal;
 use cs_grammar::{Derivation, Mark, Weights};
 use cs_io::{MemorySink, SinkError};
-use cs_manifest::{Counts, Entry, Form, Head, Manifest, SharedVerdict, Weigh};
-use cs_mutate::Edit;
+use cs_manifest::{Counts, Entry, Form, Head, Manifest, NumberedNegative, SharedVerdict, Weigh};
+use cs_mutate::{Edit, Negative};
 use cs_positive::Tables;
 use cs_render::{Rendered, RenderedParts};
 use cs_sample_files::{Trouble, lexemes_of, read_files};
@@ -223,20 +223,22 @@ fn put_mutants(
 fn put_deleted(manifest: &mut Manifest<'_>, sink: &mut MemorySink) -> Result<(), Trouble>
     ensures { OnOk result (manifest.new.file ≡ manifest.old.file) }
 {
-    let negative = Entry::Negative {
+    let negative = Entry::Negative(NumberedNegative {
         number: 1,
         base: 1,
-        edit: Edit::Delete(0),
-        left: Mark::Begin,
-        right: Mark::End,
-        at: 0,
+        negative: Negative {
+            edit: Edit::Delete(0),
+            left: Mark::Begin,
+            right: Mark::End,
+            at: 0,
+        },
         tokens: &[],
         rendered: RenderedParts::Text {
             front: &[],
             middle: &[],
             back: &[],
         },
-    };
+    });
     Ok(manifest.entry(sink, &negative)?)
 }
 
@@ -248,16 +250,18 @@ fn put_inserted(
     requires { length manifest.old.file.token_names ≡ 1 }
 {
     let rendered = Rendered::Text(b"x x".to_vec(alloc)?);
-    let negative = Entry::Negative {
+    let negative = Entry::Negative(NumberedNegative {
         number: 2,
         base: 1,
-        edit: Edit::Insert(0, 1),
-        left: Mark::Token(1),
-        right: Mark::Token(1),
-        at: 1,
+        negative: Negative {
+            edit: Edit::Insert(0, 1),
+            left: Mark::Token(1),
+            right: Mark::Token(1),
+            at: 1,
+        },
         tokens: &[1, 1],
         rendered: rendered.parts(),
-    };
+    });
     Ok(manifest.entry(sink, &negative)?)
 }
 

@@ -1,4 +1,4 @@
-//! How the texts that are told of lists compare with their renderings.
+//! How the answers of lists near one that was prepared compare with their renderings.
 
 ghost use Rattle.std.specs.Prelude.{◌≡◌, ◌≤◌, All, IsTrue, length};
 ghost use Rattle.cs_grammar.specs.Grammar.{IsNumberOf};
@@ -10,26 +10,58 @@ use crate::near::near_lists;
 use cs_automaton::Automaton;
 use cs_lex::LexFile;
 use cs_lexeme::Lexemes;
-use cs_render::{Rendered, render};
+use cs_render::{Rendered, RenderedParts, render};
 use cs_render_work::RenderWork;
 use cs_sample_files::{Trouble, read_files};
 use cs_scan::Scanner;
-use cs_splice::Prepared;
+use cs_splice::{Prepared, Spliced};
 use cs_yacc::YaccFile;
 use std::alloc::{AllocError, Global};
 
-/// How many lists were told a text, have one, and were told one that isn't theirs.
+/// How many lists have a text, of how many it was cut from the prepared list's, and how many were answered otherwise than they
+/// are rendered.
 #[derive(Clone, Copy, Debug)]
 pub struct Counts {
-    told: u32,
     texts: u32,
+    cut: u32,
     wrong: u32,
 }
 
 impl Counts {
-    /// Whether there are texts, and each of them was told and nothing else.
-    pub fn tell_all(&self) -> bool {
-        self.wrong == 0 && self.told == self.texts && self.texts > 0
+    /// Whether there are texts, each of them cut from the prepared list's, and each answer is right.
+    pub fn are_cut(&self) -> bool {
+        self.wrong == 0 && self.cut == self.texts && self.texts > 0
+    }
+
+    /// Whether there are texts, none of them cut from the prepared list's, and each answer is right.
+    pub fn are_whole(&self) -> bool {
+        self.wrong == 0 && self.cut == 0 && self.texts > 0
+    }
+}
+
+/// Whether the text is these parts, one behind another.
+pub fn is_joined(text: &[u8], front: &[u8], middle: &[u8], back: &[u8]) -> bool {
+    let behind = front.len().saturating_add(middle.len());
+    text.len() == behind.saturating_add(back.len())
+        && text.starts_with(front)
+        && text[front.len()..].starts_with(middle)
+        && text.ends_with(back)
+}
+
+// Whether the answer is what comes of the rendering.
+fn is_same(answer: RenderedParts<'_>, rendered: &Rendered) -> bool {
+    match (answer, rendered) {
+        (
+            RenderedParts::Text {
+                front,
+                middle,
+                back,
+            },
+            Rendered::Text(text),
+        ) => is_joined(text, front, middle, back),
+        (RenderedParts::NoLexeme(token), Rendered::NoLexeme(other)) => token == *other,
+        (RenderedParts::Differs { after }, Rendered::Differs { after: other }) => after == *other,
+        _ => false,
     }
 }
 
@@ -41,40 +73,30 @@ pub fn is_short_list(numbers: &[u16], most: u16) -> bool
     numbers.len() <= 1_000 && numbers.iter().all(|number| 0 < *number && *number <= most)
 }
 
-// The text that is told of a list, if one is.
-fn told_text(
-    alloc: Global,
-    prepared: &Prepared<'_>,
-    tokens: &[u16],
-) -> Result<Option<Vec<u8>>, AllocError>
-    requires { AreTokens prepared.now.lexemes tokens.now }
-{
-    let mut middle = Vec::new(alloc);
-    let Some(parts) = prepared.splice(&mut middle, tokens)? else {
-        return Ok(None);
-    };
-    let mut text = Vec::new(alloc);
-    text.extend_from_slice(parts.front)?;
-    text.extend_from_slice(&middle)?;
-    text.extend_from_slice(parts.back)?;
-    Ok(Some(text))
-}
-
-// The text by which a list is rendered, if it has one.
-fn own_text(
+// Counts a list.
+fn compare(
     alloc: Global,
     work: &RenderWork<'_>,
-    tokens: &[u16],
-) -> Result<Option<Vec<u8>>, AllocError>
-    requires { TakesTokens work.now tokens.now }
+    prepared: &Prepared<'_>,
+    list: &[u16],
+    counts: &mut Counts,
+) -> Result<(), AllocError>
+    requires tokens { AreTokens prepared.now.lexemes list.now }
+    requires taken { TakesTokens work.now list.now }
 {
-    match render(alloc, work.scanner, work.lexemes, work.separator, tokens)? {
-        Rendered::Text(text) => Ok(Some(text)),
-        _ => Ok(None),
-    }
+    let mut middle = Vec::new(alloc);
+    let spliced = prepared.render(&mut middle, list)?;
+    let rendered = render(alloc, work.scanner, work.lexemes, work.separator, list)?;
+    let is_text = matches!(rendered, Rendered::Text(_));
+    let is_cut = matches!(spliced, Spliced::Around { .. });
+    let is_wrong = !is_same(spliced.parts(&middle), &rendered);
+    counts.texts = counts.texts.saturating_add(is_text as u32);
+    counts.cut = counts.cut.saturating_add(is_cut as u32);
+    counts.wrong = counts.wrong.saturating_add(is_wrong as u32);
+    Ok(())
 }
 
-// Compares the texts of the lists.
+// Compares the answers of the lists.
 fn compare_all(
     alloc: Global,
     work: &RenderWork<'_>,
@@ -86,41 +108,34 @@ fn compare_all(
     requires near { prepared.now.lexemes ≡ work.now.lexemes.now }
 {
     let mut counts = Counts {
-        told: 0,
         texts: 0,
+        cut: 0,
         wrong: 0,
     };
     for list in lists {
         if !is_short_list(list, most) {
             return Err(Trouble::TooLong);
         }
-        let told = told_text(alloc, prepared, list)?;
-        let text = own_text(alloc, work, list)?;
-        let wrong = told.is_some() && told != text;
-        counts.told = counts.told.saturating_add(told.is_some() as u32);
-        counts.texts = counts.texts.saturating_add(text.is_some() as u32);
-        counts.wrong = counts.wrong.saturating_add(wrong as u32);
+        compare(alloc, work, prepared, list, &mut counts)?;
     }
     Ok(counts)
 }
 
-// Compares the texts of the lists near a list. None where the list can't be prepared.
+// Compares the answers of the lists near a list.
 fn compare_by(
     alloc: Global,
     work: &RenderWork<'_>,
     most: u16,
     tokens: &[u16],
-) -> Result<Option<Counts>, Trouble>
+) -> Result<Counts, Trouble>
     requires work { CanRender work.now most }
 {
     if !is_short_list(tokens, most) {
         return Err(Trouble::TooLong);
     }
     let lists = near_lists(alloc, tokens, most)?;
-    match Prepared::new(alloc, work.scanner, work.lexemes, work.separator, tokens)? {
-        Some(prepared) => Ok(Some(compare_all(alloc, work, &prepared, most, &lists)?)),
-        None => Ok(None),
-    }
+    let prepared = Prepared::new(alloc, work.scanner, work.lexemes, work.separator, tokens)?;
+    compare_all(alloc, work, &prepared, most, &lists)
 }
 
 fn compare_read(
@@ -129,7 +144,7 @@ fn compare_read(
     lex: &LexFile,
     separator: &[u8],
     tokens: &[u16],
-) -> Result<Option<Counts>, Trouble> {
+) -> Result<Counts, Trouble> {
     let automaton = Automaton::new(alloc, lex.patterns())?;
     let scanner = Scanner {
         automaton: &automaton,
@@ -146,14 +161,14 @@ fn compare_read(
     compare_by(alloc, &work, most, tokens)
 }
 
-/// Compares the texts of the lists near a list, by the rules of these files. None where the list can't be prepared.
+/// Compares the answers of the lists near a list, by the rules of these files.
 pub fn compare_near(
     alloc: Global,
     yacc: &[u8],
     lex: &[u8],
     separator: &[u8],
     tokens: &[u16],
-) -> Result<Option<Counts>, Trouble> {
+) -> Result<Counts, Trouble> {
     let (yacc, lex) = read_files(alloc, yacc, lex)?;
     compare_read(alloc, &yacc, &lex, separator, tokens)
 }

@@ -1,5 +1,4 @@
-//! Each list that is near a short one: where its text is told, that is the one by which it is rendered, and it is told wherever
-//! there is one.
+//! Each list that is near a short one: the answer is its rendering, and each text is cut from the short one's, where that has one.
 
 use crate::compared::compare_near;
 use cs_samples::{SCANNER, SUMS};
@@ -26,12 +25,9 @@ fn sums(rt: HostRuntime) -> Result<(), Fail> {
     ];
     for (separator, tokens) in rows {
         let counts = compare_near(alloc, SUMS, SCANNER, separator, tokens)?;
-        assert!(rt;
-            matches!(counts, Some(counts) if counts.tell_all()),
-            "{tokens:?} {counts:?}"
-        );
+        assert!(rt; counts.are_cut(), "{tokens:?} {counts:?}");
     }
-    assert!(rt; compare_near(alloc, SUMS, SCANNER, b"+", &[1, 1])?.is_none());
+    assert!(rt; compare_near(alloc, SUMS, SCANNER, b"+", &[1, 1])?.are_whole());
     Ok(())
 }
 
@@ -42,11 +38,8 @@ fn tokens_with_blanks(rt: HostRuntime) -> Result<(), Fail> {
     let rows: [&[u16]; 3] = [&[4, 3], &[1, 4, 4, 3], &[4, 4, 1, 4]];
     for tokens in rows {
         let counts = compare_near(alloc, PAIRS, PAIRS_LEX, b" ", tokens)?;
-        assert!(rt;
-            matches!(counts, Some(counts) if counts.tell_all()),
-            "{tokens:?} {counts:?}"
-        );
+        assert!(rt; counts.are_cut(), "{tokens:?} {counts:?}");
     }
-    assert!(rt; compare_near(alloc, PAIRS, PAIRS_LEX, b" ", &[3, 3, 4])?.is_none());
+    assert!(rt; compare_near(alloc, PAIRS, PAIRS_LEX, b" ", &[3, 3, 4])?.are_whole());
     Ok(())
 }

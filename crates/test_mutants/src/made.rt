@@ -4,7 +4,7 @@ ghost use Rattle.std.specs.Prelude.{◌≤◌, All, length};
 ghost use Rattle.cs_grammar.specs.Grammar.{IsNumberOf};
 ghost use Rattle.cs_mutants.specs.Makers.{CanRender, IsMakerOf};
 
-use crate::compared::is_short_list;
+use crate::compared::{is_joined, is_short_list};
 use cs_automaton::Automaton;
 use cs_grammar::Mark;
 use cs_lex::LexFile;
@@ -24,15 +24,6 @@ use std::test::Fail;
 // An edit, and the edited list with its text, where it has one.
 type Row = (Edit, &'static [u16], Option<&'static [u8]>);
 
-// Whether the text is these parts, one behind another.
-fn is_joined(text: &[u8], front: &[u8], middle: &[u8], back: &[u8]) -> bool {
-    let behind = front.len().saturating_add(middle.len());
-    text.len() == behind.saturating_add(back.len())
-        && text.starts_with(front)
-        && text[front.len()..].starts_with(middle)
-        && text.ends_with(back)
-}
-
 fn is_text(rendered: RenderedParts<'_>, text: Option<&[u8]>) -> bool {
     match rendered {
         RenderedParts::Text {
@@ -48,25 +39,11 @@ fn is_text(rendered: RenderedParts<'_>, text: Option<&[u8]>) -> bool {
 // Whether the entry with number 9 of base 2 is that of this negative.
 fn is_entry(made: &MadeNegative<'_>, wanted: &Negative, row: &Row) -> bool {
     match made.entry(9, 2) {
-        Entry::Negative {
-            number,
-            base,
-            edit,
-            left,
-            right,
-            at,
-            tokens,
-            rendered,
-        } => {
-            (number, base) == (9, 2)
-                && Negative {
-                    edit,
-                    left,
-                    right,
-                    at,
-                } == *wanted
-                && tokens == row.1
-                && is_text(rendered, row.2)
+        Entry::Negative(numbered) => {
+            (numbered.number, numbered.base) == (9, 2)
+                && numbered.negative == *wanted
+                && numbered.tokens == row.1
+                && is_text(numbered.rendered, row.2)
         }
         _ => false,
     }

@@ -1,8 +1,8 @@
 use Rattle.std.proofs.Common.{◌++◌, ap, codes, List, ℕ}
-use Rattle.cs_manifest.specs.Below.{fault_words, text_below, tokens_words, tree_words, verdict_words}
+use Rattle.cs_manifest.specs.Below.{text_below, tree_words, verdict_words}
 use Rattle.cs_render.specs.Rendering.{rendering}
 use Rattle.cs_manifest.specs.Entry.{rendering_of}
-use Rattle.cs_manifest.specs.Lines.{fault_line, goal_words, negative_words, numbered_word, text_line, text_lines}
+use Rattle.cs_manifest.specs.Lines.{goal_words, numbered_word, text_line, text_lines}
 use Rattle.cs_manifest.proofs.Ends.{tree_ends, verdict_ends}
 use Rattle.cs_manifest.proofs.Pieces.{spelled, then, then_below}
 use Rattle.cs_manifest.proofs.put_entry.put_entry.Goals as goal
@@ -33,13 +33,3 @@ returns-in-Case g c =
 
 pub returns-in-Shared : goal.returns-in-Shared
 returns-in-Shared g c = rw c.in-Shared.is (then c.put_goal_words-in-Shared.ensures c.put_shared_verdict.ensures)
-
-pub returns-in-Negative : goal.returns-in-Negative
-returns-in-Negative g c =
-    let file = c.args.file.now in
-    let words = negative_words c.in-Negative.number c.in-Negative.base in
-    let fault = fault_words file c.in-Negative.edit c.in-Negative.left c.in-Negative.right c.in-Negative.at in
-    let tokens = tokens_words file c.in-Negative.tokens.now in
-    let above = then_below words fault tokens (then c.put_negative_words.ensures c.put_fault.ensures) c.put_yield.ensures in
-    rw c.in-Negative.is
-    (then_below (words ++ fault_line file c.in-Negative.edit c.in-Negative.left c.in-Negative.right c.in-Negative.at) tokens _ above c.put_rendered-in-Negative.ensures)
