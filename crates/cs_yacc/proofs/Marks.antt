@@ -1,8 +1,8 @@
 -- Marks of the spellings that are used.
-use Rattle.std.proofs.Common.{◌≡◌, ◌≢◌, ℕ, zero, suc, ◌+◌, ◌<◌, ◌≤◌, Bool, true, false, List, [], ◌∷◌, ◌++◌, length, get_or, take, drop, set, map, replicate, refl, sym, ap, ◌∙◌, append_assoc, arith}
-use Rattle.std.specs.Prelude.{Some, slice_get, filter, ◌||◌}
-use Rattle.std.specs.List.{All, AllPairs, flat_map}
-use Rattle.std.proofs.lemmas.Bool.{false_from_ne_true}
+use Rattle.std.proofs.Common.{◌≡◌, ◌≢◌, ℕ, zero, suc, ◌+◌, ◌<◌, ◌≤◌, Bool, true, false, cond, eqb, List, [], ◌∷◌, ◌++◌, length, get_or, take, drop, set, map, replicate, refl, sym, ap, ◌∙◌, append_assoc, arith}
+use Rattle.std.specs.Prelude.{Some, slice_get, filter, not, ◌||◌}
+use Rattle.std.specs.List.{All, AllPairs, flat_map, list_any}
+use Rattle.std.proofs.lemmas.Bool.{false_from_ne_true, eqb-true, eqb-false, eq-eqb, ne_eqb}
 use Rattle.std.proofs.lemmas.List.{map_more, get_or-map, length-map, at_drop_more, at_drop_all, append-nil}
 use Rattle.std.proofs.lemmas.List.Elements.{All-head, All-tail, All-push, All-same}
 use Rattle.std.proofs.lemmas.Option.{none-some, same_Some, slice_get-get_or}
@@ -12,7 +12,7 @@ use Rattle.cs_yacc.specs.Meaning.{same_spelling, has_spelling, distinct, is_in_u
 use Rattle.cs_yacc.specs.declared.spelled.SpelledRule as held
 use Rattle.cs_yacc.specs.declared.spelling.Spelling as code
 use Rattle.cs_yacc.specs.Marks.{AreApart, AreWithin, Tells, MarksAt, used_here}
-use Rattle.cs_yacc.specs.Places.{name_at, names_at}
+use Rattle.cs_yacc.specs.Places.{name_at, names_at, place_in}
 use Rattle.cs_yacc.specs.RuleView.{rules_in}
 use Rattle.cs_yacc.specs.SpellingView.{spelling_of, spellings_of}
 use Rattle.cs_yacc.proofs.Gathering.{same_is, same_self, has_distinct}
@@ -115,6 +115,32 @@ in_use_as_told marks all words used lefts ws k d w tells same lt is =
     is ∙ ap (λ (b : Bool). used_here b lefts (spelling_of (get_or words k w))) (tells_at marks words used k d w (tells ∙ ap (map (has_spelling used)) (sym same)) lt)
 
 -- ---- places within the list
+
+next_eqb : (k n : ℕ) → eqb (suc k) (1 + n) ≡ eqb k n
+next_eqb k n = step (eqb k n) refl
+  where
+    step : (b : Bool) → eqb k n ≡ b → eqb (suc k) (1 + n) ≡ b
+    step true e = eq-eqb (suc k) (1 + n) (let same : k ≡ n = eqb-true k n e in omega (arith, same))
+    step false e = ne_eqb (suc k) (1 + n) (λ same. eqb-false k n e (omega (arith, same)))
+
+same_place : (words : List TokenName) (w : TokenName) (k : ℕ) → AllPairs Differ words → k < length words → eqb k (place_in words w) ≡ same_spelling w (name_at words k)
+same_place [] w k d lt = absurd (omega (arith, lt))
+same_place (v ∷ words) w zero d lt = here (same_spelling w v)
+  where
+    here : (b : Bool) → eqb 0 (cond (not b) (1 + place_in words w) 0) ≡ b
+    here true = refl
+    here false = ne_eqb 0 (1 + place_in words w) (λ same. omega (arith, same))
+same_place (v ∷ words) w (suc k) d lt = later (same_spelling w v) refl (same_place words w k (pairs_tail v words d) (omega (arith, lt)))
+  where
+    later : (b : Bool) → same_spelling w v ≡ b → eqb k (place_in words w) ≡ same_spelling w (name_at words k) → eqb (suc k) (cond (not b) (1 + place_in words w) 0) ≡ same_spelling w (name_at words k)
+    later true e h = ne_eqb (suc k) 0 (λ same. omega (arith, same)) ∙ sym (unlike (name_at words k) w (λ same. pairs_head v words d k (Byte 0) (omega (arith, lt)) (sym (same_is w v e) ∙ sym same)))
+    later false e h = next_eqb k (place_in words w) ∙ h
+
+-- the place of a spelling is among these exactly where the spelling is at one of them
+pub holds_place : (words : List TokenName) (w : TokenName) (places : List ℕ) → AllPairs Differ words → All (λ k. k < length words) places → list_any (λ k. eqb k (place_in words w)) places ≡ has_spelling (names_at words places) w
+holds_place words w [] d within = refl
+holds_place words w (k ∷ places) d within =
+    rw (same_place words w k d (All-head (λ k. k < length words) k places within), holds_place words w places d (All-tail (λ k. k < length words) k places within)) refl
 
 pub within_more : (words : List TokenName) (old new : List held.SpelledRule) (r : held.SpelledRule) (run : List ℕ) → new ≡ old ++ r ∷ [] → r.right.now ≡ run → All (λ k. k < length words) run → AreWithin words old → AreWithin words new
 within_more words old new r run made is within before =

@@ -1,12 +1,17 @@
 -- Marks of spellings.
-use Rattle.std.specs.Prelude.{◌≡◌, ◌≢◌, ℕ, ◌<◌, Bool, ◌&&◌, not, List, ◌++◌, length, map}
+use Rattle.std.specs.Prelude.{◌≡◌, ◌≢◌, ℕ, ◌<◌, Bool, ◌&&◌, not, List, ◌++◌, length, map, Option}
+use Rattle.std.specs.Global.{Vec}
 use Rattle.std.specs.List.{All, AllPairs}
 use Rattle.cs_yacc.specs.declared.name.TokenName.{TokenName}
 use Rattle.cs_yacc.specs.declared.spelled.SpelledRule as held
-use Rattle.cs_yacc.specs.Meaning.{has_spelling, distinct, only_if, used}
+use Rattle.cs_yacc.specs.Meaning.{has_spelling, distinct, only_if, used, error_spelling}
 use Rattle.cs_yacc.specs.Finding.{used_among}
-use Rattle.cs_yacc.specs.Places.{names_at}
-use Rattle.cs_yacc.specs.RuleView.{rules_in}
+use Rattle.cs_yacc.specs.Places.{names_at, place_in, ArePlaces}
+use Rattle.cs_yacc.specs.RuleView.{rules_in, AddsRule}
+use Rattle.cs_yacc.specs.SpellingView.{items_in}
+use Rattle.cs_yacc.specs.declared.spelling.Spelling as code
+use Rattle.cs_yacc_items.specs.declared.item.Item as items
+use Rattle.cs_yacc_items.specs.declared.item.Placed as items_held
 
 -- each is spelled in another way
 abbrev pub AreApart : List TokenName → Type 0
@@ -19,6 +24,11 @@ AreWithin words rules = All (λ r. All (λ k. k < length words) r.right.now) rul
 -- if the places of those rules are within, those of these are
 abbrev pub KeepsWithin : List TokenName → List held.SpelledRule → List held.SpelledRule → Type 0
 KeepsWithin words was now = AreWithin words was → AreWithin words now
+
+-- to the rules the one is added that an item opens behind this left side, if it is kept, by any list of spellings among which
+-- these are the places of the items behind it and this one that of `error`
+abbrev pub Adds : ℕ → Vec held.SpelledRule → Vec held.SpelledRule → Option code.Spelling → items.Item → List items_held.Placed → List ℕ → Type 0
+Adds error was now left item rest places = (words : List TokenName) → AreApart words → error ≡ place_in words error_spelling → ArePlaces words (items_in rest) places → AddsRule words was now left item rest × KeepsWithin words was.items now.items
 
 -- the marks tell which of the spellings are among these
 abbrev pub Tells : List Bool → List TokenName → List TokenName → Type 0

@@ -1,9 +1,10 @@
 -- Where spellings stand in a list in which each stands once.
 use Rattle.std.specs.Prelude.{◌≡◌, ℕ, List, map, Some, slice_get, get_or}
-use Rattle.std.specs.List.{AllZip}
+use Rattle.std.specs.List.{AllZip, position_or_len}
 use Rattle.cs_yacc.specs.declared.name.TokenName.{TokenName}
 use Rattle.cs_yacc.specs.declared.name.TokenName.TheVariants.{Word, Byte}
 use Rattle.cs_yacc.specs.declared.meaning.Meant.{Meant}
+use Rattle.cs_yacc.specs.Meaning.{same_spelling}
 use Rattle.cs_yacc.specs.SpellingView.{items_in}
 use Rattle.cs_yacc_items.specs.Items.{Item, name, literal, Placed}
 use Rattle.cs_yacc_items.specs.Views.{placed_all}
@@ -14,6 +15,10 @@ name_at words k = get_or words k (Byte 0)
 
 abbrev pub names_at : List TokenName → List ℕ → List TokenName
 names_at words places = map (name_at words) places
+
+-- the place of a spelling in the list, or the list's length
+abbrev pub place_in : List TokenName → TokenName → ℕ
+place_in words w = position_or_len (same_spelling w) words
 
 -- at the place stands the item's spelling, if it has one
 abbrev pub IsPlace : List TokenName → Item → ℕ → Type 0

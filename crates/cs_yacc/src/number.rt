@@ -1,11 +1,11 @@
 // Numbers for the spellings.
 
-ghost use Rattle.std.specs.Prelude.{◌≡◌, IfOk};
+ghost use Rattle.std.specs.Prelude.{◌≡◌, ◌<◌, IfOk, length, map};
+ghost use Rattle.std.specs.List.{All};
 ghost use Rattle.cs_yacc.specs.Meaning as spec;
-ghost use Rattle.cs_yacc.specs.AcceptedView.{parts_at, words_at, symbols_at, IsNumbered};
-ghost use Rattle.cs_yacc.specs.Places.{name_at};
+ghost use Rattle.cs_yacc.specs.AcceptedView.{parts_at, IsNumbered};
 ghost use Rattle.cs_yacc.specs.SpellingView.{spelling_of};
-ghost use Rattle.cs_yacc.specs.SymbolTable.{IsTable};
+ghost use Rattle.cs_yacc.specs.SymbolTable.{symbol_at, IsTable};
 
 use crate::accepted::Accepted;
 use crate::spelling::{Spelling, spelling_at};
@@ -47,29 +47,14 @@ fn symbol_table(alloc: Global, file: &Accepted<'_, '_, '_>) -> Result<Vec<Symbol
     Ok(symbols)
 }
 
-/// The symbol of the spelling at the place.
-fn symbol_at(table: &[Symbol], file: &Accepted<'_, '_, '_>, place: u32) -> Symbol
-    requires { IsTable table.now file.now }
-    ensures { result ≡ spec.symbol_in (parts_at file.now) (name_at (words_at file.now) place) }
+/// The symbols at these places of the table.
+fn symbols(alloc: Global, table: &[Symbol], places: &[u32]) -> Result<Vec<Symbol>, AllocError>
+    requires { All (λ k. k < length table.now) places.now }
+    ensures { IfOk result (λ v. v.items ≡ map (symbol_at table.now) places.now) }
 {
-    match table.get(place as usize).copied() {
-        Some(known) => known,
-        None => symbol(file, file.parts.words.at(place)),
-    }
-}
-
-fn symbols(
-    alloc: Global,
-    table: &[Symbol],
-    file: &Accepted<'_, '_, '_>,
-    right: &[u32],
-) -> Result<Vec<Symbol>, AllocError>
-    requires { IsTable table.now file.now }
-    ensures { IfOk result (λ v. v.items ≡ symbols_at file.now right.now) }
-{
-    let mut symbols = Vec::with_capacity(alloc, right.len())?;
-    for place in right {
-        symbols.push(symbol_at(table, file, *place))?;
+    let mut symbols = Vec::with_capacity(alloc, places.len())?;
+    for place in places {
+        symbols.push(table[*place as usize])?;
     }
     Ok(symbols)
 }
@@ -99,7 +84,7 @@ pub fn productions(alloc: Global, file: &Accepted<'_, '_, '_>) -> Result<Vec<Rul
     for rule in &file.parts.rules {
         let left = left_number(file, last, rule.left);
         last = Some((rule.left, left));
-        let right = symbols(alloc, &table, file, rule.right)?;
+        let right = symbols(alloc, &table, rule.right)?;
         rules.push(Rule::new(left, right))?;
     }
     Ok(rules)

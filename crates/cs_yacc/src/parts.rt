@@ -2,6 +2,7 @@
 
 ghost use Rattle.std.specs.Prelude.{◌^◌, ◌<◌, length};
 ghost use Rattle.std.specs.List.{All};
+ghost use Rattle.cs_yacc.specs.Marks.{AreWithin};
 ghost use Rattle.cs_yacc.specs.RuleView.{rules_in};
 
 use crate::spelled::SpelledRule;
@@ -20,5 +21,6 @@ pub struct Parts<'p, 'a> {
     ghost few_tokens: { length tokens < 2 ^ 32 },
     ghost few_lefts: { length lefts < 2 ^ 32 },
     ghost few_rules: { length rules.items < 2 ^ 32 },
+    ghost within: { AreWithin words.now rules.items },
     ghost short: { All (λ r. length r.right < 2 ^ 32) (rules_in words.now rules.items) },
 }

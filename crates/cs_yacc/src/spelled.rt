@@ -1,12 +1,12 @@
 // The rules, as the file spells them.
 
-ghost use Rattle.std.specs.Prelude.{◌≡◌, IfOk, OnOk, length, take};
+ghost use Rattle.std.specs.Prelude.{◌≡◌, ◌<◌, ◌^◌, IfOk, OnOk, length, take};
 ghost use Rattle.cs_yacc.specs.Meaning as spec;
-ghost use Rattle.cs_yacc.specs.Marks.{AreWithin, KeepsWithin};
+ghost use Rattle.cs_yacc.specs.Marks.{AreApart, AreWithin, Adds};
 ghost use Rattle.cs_yacc.specs.Places.{ArePlaces};
 ghost use Rattle.cs_yacc_items.specs.Views.{item_of};
 ghost use Rattle.cs_yacc.specs.SpellingView.{items_in, left_of};
-ghost use Rattle.cs_yacc.specs.RuleView.{rules_in, next_left, GoesOn, Opens, AddsRule};
+ghost use Rattle.cs_yacc.specs.RuleView.{rules_in, next_left, GoesOn, Opens};
 
 use crate::gather::{begins_with_colon, behind, left_at};
 use crate::spelling::{Spelling, Spellings};
@@ -76,30 +76,26 @@ fn opening<'a>(left: Option<Spelling<'a>>, item: Item<'a>) -> Option<Spelling<'a
     }
 }
 
-/// Adds the rule whose body the item opens, unless the body holds `error`.
+/// Adds the rule whose body the item opens, unless the body holds `error`, which stands at this place.
 fn push_rule<'p, 'a>(
     rules: &mut Vec<SpelledRule<'p, 'a>>,
-    words: &Spellings<'a>,
+    error: u32,
     left: Option<Spelling<'a>>,
     item: Item<'a>,
     rest: &[Placed<'a>],
     places: &'p [u32],
 ) -> Result<(), AllocError>
-    requires { ArePlaces words.now (items_in rest.now) places.now }
-    ensures rule { OnOk result
-        (AddsRule words.now rules.old rules.new left.entry item.entry rest.now) }
-    ensures within { OnOk result (KeepsWithin words.now rules.old.items rules.new.items) }
+    requires { length rest.now ≡ length places.now }
+    ensures { OnOk result (Adds error rules.old rules.new left.entry item.entry
+        rest.now places.now) }
 {
-    match opening(left, item) {
-        Some(left) => {
-            let right = body(rest, places);
-            if !words.holds_error(right) {
-                rules.push(SpelledRule { left, right })?;
-            }
-            Ok(())
+    if let Some(left) = opening(left, item) {
+        let right = body(rest, places);
+        if !right.contains(&error) {
+            rules.push(SpelledRule { left, right })?;
         }
-        None => Ok(()),
     }
+    Ok(())
 }
 
 /// The rules without those whose body holds `error`, in the file's order. The places are those of the items among the
@@ -110,17 +106,20 @@ pub fn kept_rules<'p, 'a>(
     items: &[Placed<'a>],
     places: &'p [u32],
 ) -> Result<Vec<SpelledRule<'p, 'a>>, AllocError>
-    requires { ArePlaces words.now (items_in items.now) places.now }
+    requires few { length words.now < 2 ^ 32 }
+    requires apart { AreApart words.now }
+    requires places { ArePlaces words.now (items_in items.now) places.now }
     ensures rules { IfOk result (λ v. rules_in words.now v.items ≡ spec.kept (items_in items.now)) }
     ensures within { IfOk result (λ v. AreWithin words.now v.items) }
 {
+    let error = words.find(Spelling::Named(b"error")) as u32;
     let mut rules = Vec::new(alloc);
     let mut left = None;
     for (index, placed) in items.iter().enumerate() {
         let after = behind(items, index);
         left = left_behind(left, placed.item, after);
         let rest = &places[index + 1..];
-        push_rule(&mut rules, words, left, placed.item, after, rest)?;
+        push_rule(&mut rules, error, left, placed.item, after, rest)?;
     }
     Ok(rules)
 }

@@ -2,7 +2,7 @@
 
 ghost use Rattle.std.specs.Prelude.{◌≡◌, ◌+◌, ◌^◌, ◌<◌, [], IfOk, OnOk, Some, length, slice_get};
 ghost use Rattle.cs_yacc.specs.Meaning as spec;
-ghost use Rattle.cs_yacc.specs.Places.{name_at, names_at, IsPlace};
+ghost use Rattle.cs_yacc.specs.Places.{place_in, IsPlace};
 ghost use Rattle.cs_yacc_items.specs.Views.{item_of};
 ghost use Rattle.cs_yacc.specs.SpellingView.{spelling_of, spellings_of, spellings_in, and_one, and_all};
 
@@ -119,32 +119,17 @@ impl<'a> Spellings<'a> {
         }
     }
 
-    /// The spelling at the place.
-    pub fn at(&self, place: u32) -> Spelling<'a>
-        ensures { spelling_of result ≡ name_at self.now place }
-    {
-        match self.set.as_slice().get(place as usize) {
-            Some(spelling) => *spelling,
-            None => Spelling::Quoted(0),
-        }
-    }
-
-    /// Whether the name `error` is at one of the places.
-    pub fn holds_error(&self, places: &[u32]) -> bool
-        ensures { result ≡ spec.has_spelling (names_at self.now places.now) spec.error_spelling }
-    {
-        for place in places {
-            if self.at(*place) == Spelling::Named(b"error") {
-                return true;
-            }
-        }
-        false
-    }
-
     pub fn has(&self, spelling: Spelling<'_>) -> bool
         ensures { result ≡ spec.has_spelling self.now (spelling_of spelling.entry) }
     {
         self.set.contains(&spelling)
+    }
+
+    /// The place of the spelling; the length of the list where it is none of them.
+    pub fn find(&self, spelling: Spelling<'_>) -> usize
+        ensures { result ≡ place_in self.now (spelling_of spelling.entry) }
+    {
+        self.set.get_index_of(&spelling).unwrap_or(self.set.len())
     }
 
     /// The number of the spelling, from 1; one above all where it is none of them.
@@ -152,8 +137,7 @@ impl<'a> Spellings<'a> {
         requires { length self.now + 1 < 2 ^ 16 }
         ensures { result ≡ spec.number_in self.now (spelling_of spelling.entry) }
     {
-        let place = self.set.get_index_of(&spelling);
-        number_of(place.unwrap_or(self.set.len()))
+        number_of(self.find(spelling))
     }
 
     pub fn len(&self) -> usize

@@ -43,8 +43,11 @@ impl TokenNames {
         requires { length names.items < 2 ^ 16 }
         ensures { IfOk result (λ t. t ≡ names.items) }
     {
-        let words = words(alloc, &names)?;
-        let literals = literals(alloc, &names)?;
+        let mut words = IndexMap::new(alloc);
+        let mut literals = IndexMap::new(alloc);
+        for (index, name) in names.iter().enumerate() {
+            put(alloc, &mut words, &mut literals, name, number_of(index))?;
+        }
         Ok(TokenNames {
             names,
             words,
@@ -76,55 +79,21 @@ impl TokenNames {
     }
 }
 
-/// Puts the number at the name, if it is a word.
-fn add_word(
+/// Puts the number at the name, in the table of its kind.
+fn put(
     alloc: Global,
     words: &mut Words,
+    literals: &mut Literals,
     name: &TokenName,
     number: u16,
 ) -> Result<(), AllocError>
-    ensures { OnOk result (PutsWord words.new.entries words.old.entries name.now number) }
+    ensures words { OnOk result (PutsWord words.new.entries words.old.entries name.now number) }
+    ensures bytes { OnOk result
+        (PutsByte literals.new.entries literals.old.entries name.now number) }
 {
     match name {
-        TokenName::Word(word) => {
-            words.insert(Vec::from_slice(alloc, word.bytes())?, number)?;
-            Ok(())
-        }
-        TokenName::Byte(_) => Ok(()),
-    }
-}
-
-/// Puts the number at the name, if it is a literal.
-fn add_literal(literals: &mut Literals, name: &TokenName, number: u16) -> Result<(), AllocError>
-    ensures { OnOk result (PutsByte literals.new.entries literals.old.entries name.now number) }
-{
-    match name {
-        TokenName::Word(_) => Ok(()),
-        TokenName::Byte(byte) => {
-            literals.insert(*byte, number)?;
-            Ok(())
-        }
-    }
-}
-
-fn words(alloc: Global, names: &[TokenName]) -> Result<Words, AllocError>
-    requires { length names.now < 2 ^ 16 }
-    ensures { IfOk result (λ words. FindsWords words.entries (length names.now) names.now) }
-{
-    let mut words = IndexMap::new(alloc);
-    for (index, name) in names.iter().enumerate() {
-        add_word(alloc, &mut words, name, number_of(index))?;
-    }
-    Ok(words)
-}
-
-fn literals(alloc: Global, names: &[TokenName]) -> Result<Literals, AllocError>
-    requires { length names.now < 2 ^ 16 }
-    ensures { IfOk result (λ literals. FindsBytes literals.entries (length names.now) names.now) }
-{
-    let mut literals = IndexMap::new(alloc);
-    for (index, name) in names.iter().enumerate() {
-        add_literal(&mut literals, name, number_of(index))?;
-    }
-    Ok(literals)
+        TokenName::Word(word) => words.insert(Vec::from_slice(alloc, word.bytes())?, number)?,
+        TokenName::Byte(byte) => literals.insert(*byte, number)?,
+    };
+    Ok(())
 }

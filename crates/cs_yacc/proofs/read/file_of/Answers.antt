@@ -43,6 +43,9 @@ pub invariant_of-parts-clause-few_rules : goal.invariant_of-parts-clause-few_rul
 invariant_of-parts-clause-few_rules c =
     omega (arith, few_held c.deref.result.now, ap length c.deref.ensures.value, few_spelled c.args.meant.now.words c.in_ok-rules.rules.items _ _ c.in_ok-rules.ensures.rules (few_rules (items_of (placed_all c.deref.result.now))), c.requires.few)
 
+pub invariant_of-parts-clause-within : goal.invariant_of-parts-clause-within
+invariant_of-parts-clause-within c = c.in_ok-rules.ensures.within
+
 pub invariant_of-parts-clause-short : goal.invariant_of-parts-clause-short
 invariant_of-parts-clause-short c =
     let all = items_of (placed_all c.deref.result.now) in

@@ -1,27 +1,30 @@
-use Rattle.std.proofs.Common.{◌∙◌, sym}
+use Rattle.std.proofs.Common.{◌≡◌, ◌<◌, List, ℕ, eqb, length, ap, sym, ◌∙◌}
+use Rattle.std.specs.List.{list_any}
+use Rattle.std.proofs.lemmas.List.Elements.{All-same}
 use Rattle.cs_yacc.specs.SpellingView.{items_in}
-use Rattle.cs_yacc.proofs.Marks.{within_more}
-use Rattle.cs_yacc.proofs.Places.{places_long, body_at, body_within}
-use Rattle.cs_yacc.proofs.RuleLoop.{rule_added, rule_left_out, no_rule}
+use Rattle.cs_yacc.specs.Meaning.{has_spelling, error_spelling}
+use Rattle.cs_yacc.specs.Places.{names_at}
+use Rattle.cs_yacc.proofs.Marks.{within_more, holds_place}
+use Rattle.cs_yacc.proofs.Places.{body_at, body_within}
+use Rattle.cs_yacc.proofs.RuleLoop.{rule_added, rule_left_out}
 use Rattle.cs_yacc.proofs.spelled.push_rule.Goals as goal
 
-pub body-right-requires : goal.body-right-requires
-body-right-requires c = places_long c.args.words.now c.args.rest.now c.args.places.now c.requires
+pub returns-in_ok-push : goal.returns-in_ok-push
+returns-in_ok-push c = λ words apart is at.
+    let right : List ℕ = c.body-right.result.now in
+    let rest = items_in c.args.rest.now in
+    let within = body_within words rest c.args.places.now at in
+    let holds : c.contains.result ≡ has_spelling (names_at words right) error_spelling = c.contains.ensures.value ∙ (ap (λ (p : ℕ). list_any (λ k. eqb k p) right) is ∙ holds_place words error_spelling right apart (All-same (λ (k : ℕ). k < length words) right _ c.body-right.ensures within)) in (
+      rule_added words c.args.rules.now.items _ (record { left = c.in-Some.left; right = c.body-right.result }) _ _ (c.in-Some.ensures rest) (body_at words rest c.args.places.now right at c.body-right.ensures) (sym holds ∙ c.if-not-contains.true) c.in_ok-push.ensures.items,
+      within_more words c.args.rules.now.items _ (record { left = c.in-Some.left; right = c.body-right.result }) _ c.in_ok-push.ensures.items c.body-right.ensures within,
+    )
 
-pub returns-in_ok-push-in-Some-clause-rule : goal.returns-in_ok-push-in-Some-clause-rule
-returns-in_ok-push-in-Some-clause-rule c =
-    rule_added c.args.words.now c.args.rules.now.items _ (record { left = c.in-Some.left; right = c.body-right.result }) _ _ (c.in-Some.ensures (items_in c.args.rest.now))
-    (body_at c.args.words.now (items_in c.args.rest.now) c.args.places.now c.body-right.result.now c.requires c.body-right.ensures) (sym c.holds_error.ensures ∙ c.if-not-holds_error.true) c.in_ok-push-in-Some.ensures.items
-
-pub returns-else-not-holds_error-clause-rule : goal.returns-else-not-holds_error-clause-rule
-returns-else-not-holds_error-clause-rule c =
-    rule_left_out c.args.words.now c.args.rules.now.items (record { left = c.in-Some.left; right = c.body-right.result }) _ _ (c.in-Some.ensures (items_in c.args.rest.now))
-    (body_at c.args.words.now (items_in c.args.rest.now) c.args.places.now c.body-right.result.now c.requires c.body-right.ensures) (sym c.holds_error.ensures ∙ c.if-not-holds_error.false)
-
-pub returns-in-None-clause-rule : goal.returns-in-None-clause-rule
-returns-in-None-clause-rule c = no_rule c.args.words.now c.args.rules.now.items _ (c.in-None.ensures (items_in c.args.rest.now))
-
-pub returns-in_ok-push-in-Some-clause-within : goal.returns-in_ok-push-in-Some-clause-within
-returns-in_ok-push-in-Some-clause-within c =
-    within_more c.args.words.now c.args.rules.now.items _ (record { left = c.in-Some.left; right = c.body-right.result }) _ c.in_ok-push-in-Some.ensures.items c.body-right.ensures
-    (body_within c.args.words.now (items_in c.args.rest.now) c.args.places.now c.requires)
+pub returns-else-not-contains : goal.returns-else-not-contains
+returns-else-not-contains c = λ words apart is at.
+    let right : List ℕ = c.body-right.result.now in
+    let rest = items_in c.args.rest.now in
+    let within = body_within words rest c.args.places.now at in
+    let holds : c.contains.result ≡ has_spelling (names_at words right) error_spelling = c.contains.ensures.value ∙ (ap (λ (p : ℕ). list_any (λ k. eqb k p) right) is ∙ holds_place words error_spelling right apart (All-same (λ (k : ℕ). k < length words) right _ c.body-right.ensures within)) in (
+      rule_left_out words c.args.rules.now.items (record { left = c.in-Some.left; right = c.body-right.result }) _ _ (c.in-Some.ensures rest) (body_at words rest c.args.places.now right at c.body-right.ensures) (sym holds ∙ c.if-not-contains.false),
+      λ was. was,
+    )
