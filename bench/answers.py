@@ -13,16 +13,10 @@ import tempfile
 
 from generated import yacc_file
 from grammars import ROWS
+from judging import LIBRARIES, program_text
 from measure import TOP, build
 
 HERE = os.path.dirname(os.path.abspath(__file__))
-
-LIBRARIES = "cs_positive cs_goals cs_yacc cs_io cs_grammar"
-
-TABLES = """\
-    let weights = Weights::nodes(alloc, file.grammar().tokens()).ok()?;
-    let tables = Tables::new(alloc, file.grammar(), &weights).ok()?;
-"""
 
 MAIN = """\
 //! Judges the goals of a kind of the grammar in a file, and makes a checksum of their verdicts.
@@ -56,13 +50,7 @@ fn with_rules(sum: u64, rules: &[u16]) -> u64 {
     sum
 }
 
-fn verdict(alloc: Global, tables: &Tables, goal: &Goal) -> Option<Verdict> {
-    if fits_goal(tables.grammar(), goal) {
-        judge(alloc, tables, goal).ok()
-    } else {
-        None
-    }
-}
+@HELPERS@
 
 fn summed(alloc: Global, tables: &Tables, criteria: Criteria) -> u64 {
     let mut goals = Goals::new(tables.grammar(), criteria);
@@ -79,26 +67,12 @@ fn summed(alloc: Global, tables: &Tables, criteria: Criteria) -> u64 {
 }
 
 fn sums(alloc: Global, file: &YaccFile, has_contexts: bool) -> Option<(u64, u64, u64)> {
-@TABLES@
+    let weights = Weights::nodes(alloc, file.grammar().tokens()).ok()?;
+    let tables = Tables::new(alloc, file.grammar(), &weights).ok()?;
     let rule = summed(alloc, &tables, Criteria { rule: true, cdrc: false, pair: false });
     let context = summed(alloc, &tables, Criteria { rule: false, cdrc: has_contexts, pair: false });
     let pair = summed(alloc, &tables, Criteria { rule: false, cdrc: false, pair: true });
     Some((rule, context, pair))
-}
-
-fn named_file(alloc: Global, desk: &mut impl Desk, name: &str) -> Option<YaccFile> {
-    match desk.read(alloc, name, MOST_BYTES) {
-        Ok(bytes) => read_file(alloc, &bytes),
-        Err(_) => None,
-    }
-}
-
-fn read_file(alloc: Global, bytes: &[u8]) -> Option<YaccFile> {
-    if bytes.len() <= MOST_BYTES {
-        read_yacc(alloc, bytes).ok()
-    } else {
-        None
-    }
 }
 
 fn main(rt: HostRuntime) -> io::Result<()> {
@@ -134,7 +108,7 @@ def main():
             names.append(name)
             with open(os.path.join(folder, name), "w") as file:
                 file.write(text)
-        program = build(folder, TOP, MAIN.replace("@TABLES@", TABLES), LIBRARIES)
+        program = build(folder, TOP, program_text(MAIN), LIBRARIES)
         done = subprocess.run([program, *names], cwd=folder, capture_output=True, text=True, check=True)
     found = dict(line.split(" ", 1) for line in done.stdout.splitlines())
     differ = [name for name in names if found.get(name) != wanted.get(name)]

@@ -13,9 +13,8 @@ import subprocess
 import tempfile
 
 from grammars import ROWS, random_rules
+from judging import LIBRARIES, program_text
 from measure import TOP, Bounds, build
-
-LIBRARIES = "cs_positive cs_goals cs_yacc cs_io cs_grammar"
 
 MAIN = """\
 //! Judges the goals of a kind of the grammar in each file, and counts their verdicts.
@@ -30,13 +29,7 @@ use std::alloc::Global;
 use std::time::Instant;
 use std::{env, io};
 
-fn verdict(alloc: Global, tables: &Tables, goal: &Goal) -> Option<Verdict> {
-    if fits_goal(tables.grammar(), goal) {
-        judge(alloc, tables, goal).ok()
-    } else {
-        None
-    }
-}
+@HELPERS@
 
 fn feasible(alloc: Global, tables: &Tables, criteria: Criteria) -> u64 {
     let mut goals = Goals::new(tables.grammar(), criteria);
@@ -50,21 +43,6 @@ fn feasible(alloc: Global, tables: &Tables, criteria: Criteria) -> u64 {
         }
     }
     count
-}
-
-fn named_file(alloc: Global, desk: &mut impl Desk, name: &str) -> Option<YaccFile> {
-    match desk.read(alloc, name, MOST_BYTES) {
-        Ok(bytes) => read_file(alloc, &bytes),
-        Err(_) => None,
-    }
-}
-
-fn read_file(alloc: Global, bytes: &[u8]) -> Option<YaccFile> {
-    if bytes.len() <= MOST_BYTES {
-        read_yacc(alloc, bytes).ok()
-    } else {
-        None
-    }
 }
 
 fn timed(rt: &HostRuntime, name: &str, file: &YaccFile) -> io::Result<()> {
@@ -123,7 +101,7 @@ def best(path, folder, text):
 def main():
     bounds = Bounds()
     with tempfile.TemporaryDirectory() as folder:
-        path = build(folder, TOP, MAIN, LIBRARIES)
+        path = build(folder, TOP, program_text(MAIN), LIBRARIES)
         for name, make in ROWS[1:5]:
             made, context, pair, contexts, pairs, used = best(path, folder, make())
             tables_most, pairs_most = BOUNDS.get(name, (1000, 3000))
