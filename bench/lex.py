@@ -1,20 +1,20 @@
 #!/usr/bin/env python3
 """Times the reading of lex files of 1 MiB: bench/lex.py.
 
-No command reads a lex file yet, so a program that does is made in a copy of this repository, proved and run there. Each row is a
-file, the milliseconds that `read_lex` takes, its bound, and how it answers. Ends with status 1 where a bound is passed. Nothing
-here is part of the gate.
+No command reads a lex file alone, so a program that does is made in a copy of this repository, proved and run there. Each row is
+a file, how it is answered, and the milliseconds that `read_lex` takes beside their bound. Ends with status 1 where one is passed.
+Nothing here is part of the gate.
 """
 
 import os
 import random
-import shutil
 import string
 import subprocess
 import sys
 import tempfile
 
-TOP = os.path.dirname(os.path.dirname(os.path.abspath(__file__)))
+from measure import TOP, Bounds, build
+
 MOST_BYTES = 1_048_576
 BOUND = 1000
 LETTERS = string.ascii_letters + string.digits
@@ -141,42 +141,24 @@ ROWS = {
 }
 
 
-def make_crate(copy, names):
-    """The program in a copy of the repository; answers the crate's folder."""
-    shutil.copytree(TOP, copy, ignore=shutil.ignore_patterns("out", ".git"))
-    subprocess.run(["rt", "new", "crates/bench_lex", "start_io"], cwd=copy, check=True, stdout=subprocess.DEVNULL)
-    crate = os.path.join(copy, "crates", "bench_lex")
-    for name in os.listdir(os.path.join(crate, "src")):
-        os.remove(os.path.join(crate, "src", name))
-    with open(os.path.join(crate, "src", "main.rt"), "w") as file:
-        file.write(MAIN.replace("@NAMES@", ", ".join(f'"{name}"' for name in names)))
-    with open(os.path.join(copy, "crates.txt"), "a") as file:
-        file.write("bench_lex: cs_lex cs_yacc cs_io\n")
-    return crate
-
-
 def main():
-    passed = False
+    bounds = Bounds()
     with tempfile.TemporaryDirectory() as folder:
         names = {f"{number}.l": title for number, title in enumerate(ROWS)}
         for name, title in names.items():
             with open(os.path.join(folder, name), "w") as file:
                 file.write(ROWS[title])
-        crate = make_crate(os.path.join(folder, "copy"), names)
-        built = subprocess.run(["rt", "run"], cwd=crate, capture_output=True, text=True)
-        program = os.path.join(crate, "out", "bench_lex")
-        if not os.path.exists(program):
-            sys.exit(built.stdout + built.stderr)
+        text = MAIN.replace("@NAMES@", ", ".join(f'"{name}"' for name in names))
+        program = build(folder, TOP, text, "cs_lex cs_yacc cs_io")
         done = subprocess.run([program], cwd=folder, capture_output=True, text=True)
         for line in done.stdout.splitlines():
             name, took, accepted = line.split()
             size = os.path.getsize(os.path.join(folder, name))
             answer = "accepted" if accepted == "true" else "refused"
-            print(f"{names[name]} ({size} bytes): {took} ms, bound {BOUND} ms, {answer}")
-            passed = passed or int(took) > BOUND
+            bounds.row(f"{names[name]}, {size} bytes, {answer}", int(took), BOUND, "ms")
         if done.returncode or len(done.stdout.splitlines()) != len(names):
             sys.exit(done.stdout + done.stderr + "the program didn't read all files")
-    sys.exit(1 if passed else 0)
+    bounds.end()
 
 
 main()

@@ -66,8 +66,8 @@ def build(folder, top, text, libraries, proofs=None):
     """The program of this text, with these files of proofs, proved and built in a copy of the repository at `top`; its path."""
     copy = os.path.join(folder, "copy")
     shutil.copytree(top, copy, ignore=shutil.ignore_patterns("out", ".git"))
-    subprocess.run(["rt", "new", "crates/bench_goals", "start_io"], cwd=copy, check=True, stdout=subprocess.DEVNULL)
-    crate = os.path.join(copy, "crates", "bench_goals")
+    subprocess.run(["rt", "new", "crates/bench_program", "start_io"], cwd=copy, check=True, stdout=subprocess.DEVNULL)
+    crate = os.path.join(copy, "crates", "bench_program")
     for name in os.listdir(os.path.join(crate, "src")):
         os.remove(os.path.join(crate, "src", name))
     with open(os.path.join(crate, "src", "main.rt"), "w") as file:
@@ -77,9 +77,9 @@ def build(folder, top, text, libraries, proofs=None):
         with open(os.path.join(crate, name), "w") as file:
             file.write(proof)
     with open(os.path.join(copy, "crates.txt"), "a") as file:
-        file.write(f"bench_goals: {libraries}\n")
+        file.write(f"bench_program: {libraries}\n")
     built = subprocess.run(["rt", "run"], cwd=crate, capture_output=True, text=True)
-    path = os.path.join(crate, "out", "bench_goals")
+    path = os.path.join(crate, "out", "bench_program")
     if not os.path.exists(path):
         sys.exit(built.stdout + built.stderr)
     return path
