@@ -10,7 +10,7 @@ const TWO: &[u8] = b"%token A B\n%%\ns : A | B ;\n";
 
 const A: &[u8] = b"%%\ns : 'a' ;\n";
 
-const ROWS: [(&[u8], &str, &str); 15] = [
+const ROWS: &[(&[u8], &str, &str)] = &[
     (
         SUMS,
         "%%\n[0-9]+ return NUM;\n[-+*/()] return yytext[0];\n[ \\t\\n]+ ;\n",
@@ -50,7 +50,7 @@ const ROWS: [(&[u8], &str, &str); 15] = [
 #[test]
 fn lexemes_of_tokens(rt: HostRuntime) -> Result<(), Fail> {
     let alloc = rt.alloc();
-    for (yacc, lex, want) in ROWS {
+    for &(yacc, lex, want) in ROWS {
         let found = lexemes(alloc, yacc, lex.as_bytes())?;
         assert_eq!(rt; found.as_str(), want, "{lex}");
     }
