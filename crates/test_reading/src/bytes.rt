@@ -2,34 +2,50 @@
 
 use cs_bytes::*;
 
+const RUNS: &[(&str, ByteClass, usize)] = &[
+    ("azAZ09", ByteClass::Letter, 4),
+    ("0789a", ByteClass::Digit, 4),
+    ("0789a", ByteClass::OctalDigit, 2),
+    ("09afAFgG", ByteClass::HexadecimalDigit, 6),
+    ("\n\n\r", ByteClass::Newline, 2),
+    (" \t\r\n", ByteClass::Blank, 3),
+    (" \t\r\n\x0b", ByteClass::Space, 4),
+    ("\t\n\x0b\x0c\r \x0e", ByteClass::WhiteSpace, 6),
+    ("_a1", ByteClass::WordStart, 2),
+    ("_a1-", ByteClass::Word, 3),
+    ("_a1-.", ByteClass::WordOr(b'-'), 4),
+    ("ab]\n", ByteClass::Neither(b']', b'\n'), 2),
+];
+
 #[test]
 fn longest_runs(rt: HostRuntime) {
-    let rows: [(&str, ByteClass, usize); 12] = [
-        ("azAZ09", ByteClass::Letter, 4),
-        ("0789a", ByteClass::Digit, 4),
-        ("0789a", ByteClass::OctalDigit, 2),
-        ("09afAFgG", ByteClass::HexadecimalDigit, 6),
-        ("\n\n\r", ByteClass::Newline, 2),
-        (" \t\r\n", ByteClass::Blank, 3),
-        (" \t\r\n\x0b", ByteClass::Space, 4),
-        ("\t\n\x0b\x0c\r \x0e", ByteClass::WhiteSpace, 6),
-        ("_a1", ByteClass::WordStart, 2),
-        ("_a1-", ByteClass::Word, 3),
-        ("_a1-.", ByteClass::WordOr(b'-'), 4),
-        ("ab]\n", ByteClass::Neither(b']', b'\n'), 2),
-    ];
-    for (text, class, len) in rows {
+    for &(text, class, len) in RUNS {
         assert_eq!(rt; run_len(text.as_bytes(), class), len, "{text:?}");
         assert_eq!(rt; begins(text.as_bytes(), class), len > 0, "{text:?}");
     }
 }
 
+// A text, and the size of the line in front without and with its newline.
+const LINES: &[(&[u8], usize, usize)] = &[(b"ab\nc", 2, 3), (b"ab", 2, 2)];
+
+// A text, and where `*/` stands in it first.
+const PAIRS: &[(&[u8], Option<usize>)] = &[(b"/**/", Some(2)), (b"*", None)];
+
 #[test]
 fn lines_and_pairs(rt: HostRuntime) {
-    assert_eq!(rt; (line_len(b"ab\nc"), line_size(b"ab\nc")), (2, 3));
-    assert_eq!(rt; (line_len(b"ab"), line_size(b"ab")), (2, 2));
-    assert_eq!(rt; find_pair(b"/**/", b'*', b'/'), Some(2));
-    assert_eq!(rt; find_pair(b"*", b'*', b'/'), None);
+    for &(text, len, size) in LINES {
+        assert!(rt;
+            line_len(text) == len && line_size(text) == size,
+            "{text:?}"
+        );
+    }
+    for &(text, at) in PAIRS {
+        assert_eq!(rt; find_pair(text, b'*', b'/'), at, "{text:?}");
+    }
+}
+
+#[test]
+fn bytes_at_places(rt: HostRuntime) {
     assert!(rt; has_at(b"ab", 1, b'b') && !has_at(b"ab", 2, b'b'));
     assert!(rt; has_pair(b"xab", 1, b'a', b'b') && !same_bytes(b"ab", b"ba"));
 }

@@ -2,13 +2,13 @@
 
 ghost use Rattle.std.specs.Prelude.{◌≤◌, length};
 
-use cs_lex_layout::{LayoutError, MOST_BYTES, Part, read_layout};
+use cs_lex_layout::{Definition, LayoutError, MOST_BYTES, Part, Rule, read_layout};
 use cs_samples::C_SCANNER;
 use std::alloc::Global;
 use std::test::Fail;
 
-fn part<'a>(bytes: &'a [u8], part: Part) -> Option<&'a [u8]> {
-    bytes.get(part.from..part.to)
+fn is_part(bytes: &[u8], part: Part, want: &[u8]) -> bool {
+    bytes.get(part.from..part.to) == Some(want)
 }
 
 fn put(shown: &mut Vec<u8>, bytes: &[u8], part: Part) -> Result<(), LayoutError> {
@@ -37,60 +37,61 @@ fn shown(alloc: Global, text: &[u8]) -> Result<Vec<u8>, LayoutError>
     Ok(shown)
 }
 
+const PARTS: &[(&[u8], &[u8])] = &[
+    (b"%%\n", b"%"),
+    (b"%%", b"%"),
+    (b"%% x y\na\tb c ", b"%a~b c ~"),
+    (b"%%\na |\n", b"%a~|~"),
+    (
+        b"D [0-9]\nL\t\t[a z]x \r\n%%\n{D} ;\n%%\nb ;",
+        b"D~[0-9]~L~[a z]x~%{D}~;~",
+    ),
+    (b"a-b_1 x/*c*/ // d\n%%\n", b"a-b_1~x/*c*/~%"),
+    (b"A x /* c */ \n_ y // c /*\n%%\n", b"A~x~_~y~%"),
+    (
+        b"%{ %}\nint x; \"\n%} z\n%option debug 8bit \r\n%option\n%p 3000\n%array\n\n /* a\n b */ c\n// /*\n%%\n",
+        b"%",
+    ),
+    (
+        b"%%\n%{\n%%\n%}\n  int x;\n/* a\n */ \n\n'a' { if (x) {\n '}' /* } */ } }\n",
+        b"%'a'~{ if (x) {\n '}' /* } */ } }~",
+    ),
+    (
+        b"%%\n\"a b\" x\n\"a b x\nq y\n",
+        b"%\"a b\"~x~\"a b x~~q~y~",
+    ),
+    (b"%%\n\\ a b\n\\\n\"\\\n", b"%\\ a~b~\\~~\"\\~~"),
+    (b"%%\n[^] ] b\n[]^] b\n[] b\n", b"%[^] ]~b~[]^]~b~[] b~~"),
+    (
+        b"%%\n[[:] ] b\n[[: ]:] b\n[ [:x :] ] b\n",
+        b"%[[:]~] b~[[: ]:]~b~[ [:x :] ]~b~",
+    ),
+    (
+        b"%%\n[\\] ] b\n[[.].] c\n[[=x=]] d\n",
+        b"%[\\] ]~b~[[.].]~c~[[=x=]]~d~",
+    ),
+    (b"%%\na } b\nc '{' \"}\nd\\\n", b"%a~} b~c~'{' \"}~d\\~~"),
+    (
+        b"%%\na ' {\n}\nb \"\\\n{\" c\n",
+        b"%a~' {\n}~b~\"\\\n{\" c~",
+    ),
+    (
+        b"%%\na /* x\ny */ z\nb // {\nc x",
+        b"%a~/* x\ny */ z~b~// {~c~x~",
+    ),
+    (b"%%\r\na\r\nb \r c\r\n", b"%a~~b~c\r~"),
+    (b"%%\na\x0cb c\n", b"%a\x0cb~c~"),
+    (b"%%\na\x0bb c\n", b"%a\x0bb~c~"),
+    (b"%%\n[a\\\nb c\n", b"%[a\\~~b~c~"),
+    (b"%%\n%x a\n%", b"%%x~a~%~~"),
+    (b"A {B}\nB x\n%%\n", b"A~{B}~B~x~%"),
+    (b" 'a /* \n */ x'\n \"/*\" \n%%\n", b"%"),
+    (b"%{foo\n%}bar\n%%foo\na ;\n%%baz\nb {", b"%a~;~"),
+];
+
 #[test]
 fn parts_of_files(rt: HostRuntime) -> Result<(), Fail> {
-    let cases: [(&[u8], &[u8]); 25] = [
-        (b"%%\n", b"%"),
-        (b"%%", b"%"),
-        (b"%% x y\na\tb c ", b"%a~b c ~"),
-        (b"%%\na |\n", b"%a~|~"),
-        (
-            b"D [0-9]\nL\t\t[a z]x \r\n%%\n{D} ;\n%%\nb ;",
-            b"D~[0-9]~L~[a z]x~%{D}~;~",
-        ),
-        (b"a-b_1 x/*c*/ // d\n%%\n", b"a-b_1~x/*c*/~%"),
-        (b"A x /* c */ \n_ y // c /*\n%%\n", b"A~x~_~y~%"),
-        (
-            b"%{ %}\nint x; \"\n%} z\n%option debug 8bit \r\n%option\n%p 3000\n%array\n\n /* a\n b */ c\n// /*\n%%\n",
-            b"%",
-        ),
-        (
-            b"%%\n%{\n%%\n%}\n  int x;\n/* a\n */ \n\n'a' { if (x) {\n '}' /* } */ } }\n",
-            b"%'a'~{ if (x) {\n '}' /* } */ } }~",
-        ),
-        (
-            b"%%\n\"a b\" x\n\"a b x\nq y\n",
-            b"%\"a b\"~x~\"a b x~~q~y~",
-        ),
-        (b"%%\n\\ a b\n\\\n\"\\\n", b"%\\ a~b~\\~~\"\\~~"),
-        (b"%%\n[^] ] b\n[]^] b\n[] b\n", b"%[^] ]~b~[]^]~b~[] b~~"),
-        (
-            b"%%\n[[:] ] b\n[[: ]:] b\n[ [:x :] ] b\n",
-            b"%[[:]~] b~[[: ]:]~b~[ [:x :] ]~b~",
-        ),
-        (
-            b"%%\n[\\] ] b\n[[.].] c\n[[=x=]] d\n",
-            b"%[\\] ]~b~[[.].]~c~[[=x=]]~d~",
-        ),
-        (b"%%\na } b\nc '{' \"}\nd\\\n", b"%a~} b~c~'{' \"}~d\\~~"),
-        (
-            b"%%\na ' {\n}\nb \"\\\n{\" c\n",
-            b"%a~' {\n}~b~\"\\\n{\" c~",
-        ),
-        (
-            b"%%\na /* x\ny */ z\nb // {\nc x",
-            b"%a~/* x\ny */ z~b~// {~c~x~",
-        ),
-        (b"%%\r\na\r\nb \r c\r\n", b"%a~~b~c\r~"),
-        (b"%%\na\x0cb c\n", b"%a\x0cb~c~"),
-        (b"%%\na\x0bb c\n", b"%a\x0bb~c~"),
-        (b"%%\n[a\\\nb c\n", b"%[a\\~~b~c~"),
-        (b"%%\n%x a\n%", b"%%x~a~%~~"),
-        (b"A {B}\nB x\n%%\n", b"A~{B}~B~x~%"),
-        (b" 'a /* \n */ x'\n \"/*\" \n%%\n", b"%"),
-        (b"%{foo\n%}bar\n%%foo\na ;\n%%baz\nb {", b"%a~;~"),
-    ];
-    for (text, want) in cases {
+    for &(text, want) in PARTS {
         assert!(rt; text.len() <= MOST_BYTES);
         let found = shown(rt.alloc(), text).ok().ok_or("read")?;
         assert_eq!(rt; found.as_slice(), want, "{text:?}");
@@ -98,89 +99,95 @@ fn parts_of_files(rt: HostRuntime) -> Result<(), Fail> {
     Ok(())
 }
 
+const STOPS: &[(&[u8], LayoutError)] = &[
+    (b"A x/* c */\n%%\n", LayoutError::Layout { at: 0 }),
+    (b"", LayoutError::Layout { at: 0 }),
+    (b"%s X\n%%\n", LayoutError::StartCondition { at: 0 }),
+    (
+        b"%option case-insensitive\n",
+        LayoutError::UnknownOption { at: 8 },
+    ),
+    (b"\n", LayoutError::Layout { at: 1 }),
+    (b"A x\nA y\n%%\n", LayoutError::Layout { at: 4 }),
+    (b"A x\nB y\nA x\n%s\n", LayoutError::Layout { at: 8 }),
+    (b"A\n%%\n", LayoutError::Layout { at: 0 }),
+    (b"A  \n%%\n", LayoutError::Layout { at: 0 }),
+    (b"A+ x\n%%\n", LayoutError::Layout { at: 0 }),
+    (b"A x y\n%%\n", LayoutError::Layout { at: 0 }),
+    (b"A x /* a */ /* b */\n%%\n", LayoutError::Layout { at: 0 }),
+    (b"A x /* a\n*/\n%%\n", LayoutError::Layout { at: 0 }),
+    (b"\n-a x\n", LayoutError::Layout { at: 1 }),
+    (b"1a x\n", LayoutError::Layout { at: 0 }),
+    (b"/a\n", LayoutError::Layout { at: 0 }),
+    (b"\x0c\n", LayoutError::Layout { at: 0 }),
+    (b"%\n%%\n", LayoutError::UnknownDirective { at: 0 }),
+    (b"%-s\n%%\n", LayoutError::UnknownDirective { at: 0 }),
+    (b"%pp\n", LayoutError::UnknownDirective { at: 0 }),
+    (b"%options\n", LayoutError::UnknownDirective { at: 0 }),
+    (b"%Xa\n", LayoutError::StartCondition { at: 0 }),
+    (b"%start A\n", LayoutError::StartCondition { at: 0 }),
+    (b"\n%x-y A\n", LayoutError::StartCondition { at: 1 }),
+    (
+        b"%option warn /* a */\n",
+        LayoutError::UnknownOption { at: 13 },
+    ),
+    (b"%option=x\n", LayoutError::UnknownOption { at: 7 }),
+    (
+        b"%option warn\tdebugx\n",
+        LayoutError::UnknownOption { at: 13 },
+    ),
+    (b"%{\n %}\n", LayoutError::Unended { at: 0 }),
+    (b"%{ %}\n%%\n", LayoutError::Unended { at: 0 }),
+    (b"A x\n /* a\n%%\n", LayoutError::Unended { at: 5 }),
+    (b"\n/*/\n%%\n", LayoutError::Unended { at: 1 }),
+    (b"%%\n%{\n", LayoutError::Unended { at: 3 }),
+    (b"%%\n x /* a\n", LayoutError::Unended { at: 6 }),
+    (b"%%\na { { } \n", LayoutError::Unended { at: 5 }),
+    (b"%%\na { /* } \n", LayoutError::Unended { at: 5 }),
+    (b"%%\na { { /* } } \n", LayoutError::Unended { at: 5 }),
+    (b"%%\na x /* } \n", LayoutError::Unended { at: 7 }),
+    (b"%%\na {} {\n'}' // }\n", LayoutError::Unended { at: 8 }),
+    (b"%option", LayoutError::Layout { at: 7 }),
+    (b"A x", LayoutError::Layout { at: 3 }),
+    (b"A \"x y\n%%\nb {", LayoutError::Unended { at: 12 }),
+    (b"%{\n%}", LayoutError::Layout { at: 5 }),
+];
+
 #[test]
 fn where_layout_stops(rt: HostRuntime) {
-    let cases: [(&[u8], LayoutError); 42] = [
-        (b"A x/* c */\n%%\n", LayoutError::Layout { at: 0 }),
-        (b"", LayoutError::Layout { at: 0 }),
-        (b"%s X\n%%\n", LayoutError::StartCondition { at: 0 }),
-        (
-            b"%option case-insensitive\n",
-            LayoutError::UnknownOption { at: 8 },
-        ),
-        (b"\n", LayoutError::Layout { at: 1 }),
-        (b"A x\nA y\n%%\n", LayoutError::Layout { at: 4 }),
-        (b"A x\nB y\nA x\n%s\n", LayoutError::Layout { at: 8 }),
-        (b"A\n%%\n", LayoutError::Layout { at: 0 }),
-        (b"A  \n%%\n", LayoutError::Layout { at: 0 }),
-        (b"A+ x\n%%\n", LayoutError::Layout { at: 0 }),
-        (b"A x y\n%%\n", LayoutError::Layout { at: 0 }),
-        (b"A x /* a */ /* b */\n%%\n", LayoutError::Layout { at: 0 }),
-        (b"A x /* a\n*/\n%%\n", LayoutError::Layout { at: 0 }),
-        (b"\n-a x\n", LayoutError::Layout { at: 1 }),
-        (b"1a x\n", LayoutError::Layout { at: 0 }),
-        (b"/a\n", LayoutError::Layout { at: 0 }),
-        (b"\x0c\n", LayoutError::Layout { at: 0 }),
-        (b"%\n%%\n", LayoutError::UnknownDirective { at: 0 }),
-        (b"%-s\n%%\n", LayoutError::UnknownDirective { at: 0 }),
-        (b"%pp\n", LayoutError::UnknownDirective { at: 0 }),
-        (b"%options\n", LayoutError::UnknownDirective { at: 0 }),
-        (b"%Xa\n", LayoutError::StartCondition { at: 0 }),
-        (b"%start A\n", LayoutError::StartCondition { at: 0 }),
-        (b"\n%x-y A\n", LayoutError::StartCondition { at: 1 }),
-        (
-            b"%option warn /* a */\n",
-            LayoutError::UnknownOption { at: 13 },
-        ),
-        (b"%option=x\n", LayoutError::UnknownOption { at: 7 }),
-        (
-            b"%option warn\tdebugx\n",
-            LayoutError::UnknownOption { at: 13 },
-        ),
-        (b"%{\n %}\n", LayoutError::Unended { at: 0 }),
-        (b"%{ %}\n%%\n", LayoutError::Unended { at: 0 }),
-        (b"A x\n /* a\n%%\n", LayoutError::Unended { at: 5 }),
-        (b"\n/*/\n%%\n", LayoutError::Unended { at: 1 }),
-        (b"%%\n%{\n", LayoutError::Unended { at: 3 }),
-        (b"%%\n x /* a\n", LayoutError::Unended { at: 6 }),
-        (b"%%\na { { } \n", LayoutError::Unended { at: 5 }),
-        (b"%%\na { /* } \n", LayoutError::Unended { at: 5 }),
-        (b"%%\na { { /* } } \n", LayoutError::Unended { at: 5 }),
-        (b"%%\na x /* } \n", LayoutError::Unended { at: 7 }),
-        (b"%%\na {} {\n'}' // }\n", LayoutError::Unended { at: 8 }),
-        (b"%option", LayoutError::Layout { at: 7 }),
-        (b"A x", LayoutError::Layout { at: 3 }),
-        (b"A \"x y\n%%\nb {", LayoutError::Unended { at: 12 }),
-        (b"%{\n%}", LayoutError::Layout { at: 5 }),
-    ];
-    for (text, want) in cases {
+    for &(text, want) in STOPS {
         assert!(rt; text.len() <= MOST_BYTES);
         assert_eq!(rt; read_layout(rt.alloc(), text).err(), Some(want), "{text:?}");
     }
 }
 
+// Whether these are the definitions of the file of C expressions: D and L.
+fn are_definitions(text: &[u8], definitions: &[Definition]) -> bool {
+    let [digit, letter] = definitions else {
+        return false;
+    };
+    is_part(text, digit.substitute, b"[0-9]") && is_part(text, letter.name, b"L")
+}
+
+// Whether these are its rules: the first and the last three.
+fn are_rules(text: &[u8], rules: &[Rule]) -> bool {
+    let [int, .., classes, space, other] = rules else {
+        return false;
+    };
+    is_part(text, int.pattern, b"\"int\"")
+        && is_part(text, int.action, b"{ count(); return(INT); }")
+        && is_part(text, classes.action, b"return *yytext;")
+        && is_part(text, space.pattern, b"[ \\t\\v\\n\\f]+")
+        && is_part(text, other.pattern, b".")
+        && is_part(text, other.action, b";")
+}
+
 #[test]
 fn parts_of_c_expressions(rt: HostRuntime) -> Result<(), Fail> {
-    let text = C_SCANNER;
-    assert!(rt; text.len() <= MOST_BYTES);
-    let layout = read_layout(rt.alloc(), text).ok().ok_or("read")?;
-    let [digit, letter] = layout.definitions.as_slice() else {
-        return Err("two definitions".into());
-    };
-    assert_eq!(rt; part(text, digit.substitute), Some(&b"[0-9]"[..]));
-    assert_eq!(rt; part(text, letter.name), Some(&b"L"[..]));
-    assert_eq!(rt; layout.rules.len(), 30);
-    let [int, .., classes, space, other] = layout.rules.as_slice() else {
-        return Err("rules".into());
-    };
-    assert_eq!(rt; part(text, int.pattern), Some(&b"\"int\""[..]));
-    assert_eq!(rt;
-        part(text, int.action),
-        Some(&b"{ count(); return(INT); }"[..])
-    );
-    assert_eq!(rt; part(text, classes.action), Some(&b"return *yytext;"[..]));
-    assert_eq!(rt; part(text, space.pattern), Some(&b"[ \\t\\v\\n\\f]+"[..]));
-    assert_eq!(rt; part(text, other.pattern), Some(&b"."[..]));
-    assert_eq!(rt; part(text, other.action), Some(&b";"[..]));
+    assert!(rt; C_SCANNER.len() <= MOST_BYTES);
+    let layout = read_layout(rt.alloc(), C_SCANNER).ok().ok_or("read")?;
+    assert!(rt; are_definitions(C_SCANNER, &layout.definitions));
+    assert!(rt; layout.rules.len() == 30);
+    assert!(rt; are_rules(C_SCANNER, &layout.rules));
     Ok(())
 }

@@ -3,54 +3,86 @@
 ghost use Rattle.std.specs.Prelude.{◌≤◌, length};
 ghost use Rattle.cs_yacc_items.specs.Limits.{most_bytes};
 
-use cs_grammar::{Rule, Symbol};
+use cs_grammar::{Grammar, Rule, Symbol};
 use cs_samples::{SUMS, repeated};
-use cs_yacc::{MOST_BYTES, TokenName, YaccError, YaccLimit, read_yacc};
+use cs_yacc::{MOST_BYTES, TokenName, YaccError, YaccFile, YaccLimit, read_yacc};
 use std::alloc::{AllocError, Global};
 use std::test::Fail;
 
-fn is_rule(rule: &Rule, left: u16, right: &[Symbol]) -> bool {
-    rule.left() == left && rule.right() == right
+// Whether these are the rules: of each the left side and the right side.
+fn are_rules(rules: &[Rule], want: &[(u16, &[Symbol])]) -> bool {
+    rules.len() == want.len()
+        && rules.iter().zip(want).all(|(rule, want)| rule.left() == want.0
+            && rule.right() == want.1)
 }
 
+// Whether a grammar has so many tokens and nonterminals, this start, and these rules.
+fn is_grammar(grammar: &Grammar, sizes: (u16, u16, u16), rules: &[(u16, &[Symbol])]) -> bool {
+    grammar.tokens() == sizes.0
+        && grammar.nonterminals() == sizes.1
+        && grammar.start() == sizes.2
+        && are_rules(grammar.rules(), rules)
+}
+
+// Whether a file has such a grammar.
+fn has_grammar(
+    alloc: Global,
+    text: &[u8],
+    sizes: (u16, u16, u16),
+    rules: &[(u16, &[Symbol])],
+) -> Result<bool, YaccError>
+    requires { length text.now ≤ most_bytes }
+{
+    let file = read_yacc(alloc, text)?;
+    Ok(is_grammar(file.grammar(), sizes, rules))
+}
+
+// NUM 1, '+' 2, '(' 3, ')' 4; e 1, t 2.
+const SUMS_RULES: &[(u16, &[Symbol])] = &[
+    (
+        1,
+        &[
+            Symbol::Nonterminal(1),
+            Symbol::Token(2),
+            Symbol::Nonterminal(2),
+        ],
+    ),
+    (1, &[Symbol::Nonterminal(2)]),
+    (2, &[Symbol::Token(1)]),
+    (
+        2,
+        &[Symbol::Token(3), Symbol::Nonterminal(1), Symbol::Token(4)],
+    ),
+];
+
 #[test]
-fn grammar_of_sums(rt: HostRuntime) -> Result<(), Fail> {
-    let file = read_yacc(rt.alloc(), SUMS).ok().ok_or("plain")?;
-    let grammar = file.grammar();
-    let e = Symbol::Nonterminal(1);
-    let t = Symbol::Nonterminal(2);
-    assert_eq!(rt;
-        (grammar.tokens(), grammar.nonterminals(), grammar.start()),
-        (4, 2, 1)
-    );
-    let [first, second, third, fourth] = grammar.rules() else {
-        return Err("four rules".into());
-    };
-    assert!(rt; is_rule(first, 1, &[e, Symbol::Token(2), t]));
-    assert!(rt; is_rule(second, 1, &[t]));
-    assert!(rt; is_rule(third, 2, &[Symbol::Token(1)]));
-    assert!(rt; is_rule(fourth, 2, &[Symbol::Token(3), e, Symbol::Token(4)]));
-    Ok(())
+fn grammar_of_sums(rt: HostRuntime) {
+    assert!(rt; SUMS.len() <= MOST_BYTES);
+    assert!(rt; has_grammar(rt.alloc(), SUMS, (4, 2, 1), SUMS_RULES) == Ok(true));
+}
+
+// Whether these are the names of the tokens of sums.
+fn are_tokens_of_sums(names: &[TokenName]) -> bool {
+    match names {
+        [
+            TokenName::Word(number),
+            TokenName::Byte(b'+'),
+            TokenName::Byte(b'('),
+            TokenName::Byte(b')'),
+        ] => number.bytes() == b"NUM".as_slice(),
+        _ => false,
+    }
 }
 
 #[test]
 fn names_of_sums(rt: HostRuntime) -> Result<(), Fail> {
+    assert!(rt; SUMS.len() <= MOST_BYTES);
     let file = read_yacc(rt.alloc(), SUMS).ok().ok_or("plain")?;
-    let [
-        TokenName::Word(number),
-        TokenName::Byte(b'+'),
-        TokenName::Byte(b'('),
-        TokenName::Byte(b')'),
-    ] = file.token_names()
-    else {
-        return Err("four tokens".into());
-    };
-    assert_eq!(rt; number.bytes(), b"NUM".as_slice());
+    assert!(rt; are_tokens_of_sums(file.token_names()));
     let [e, t] = file.nonterminal_names() else {
         return Err("two nonterminals".into());
     };
-    assert_eq!(rt; e.bytes(), b"e".as_slice());
-    assert_eq!(rt; t.bytes(), b"t".as_slice());
+    assert!(rt; e.bytes() == b"e".as_slice() && t.bytes() == b"t".as_slice());
     Ok(())
 }
 
@@ -67,81 +99,83 @@ fn counts(alloc: Global, text: &[u8]) -> Result<(u16, u16, usize), YaccError>
     ))
 }
 
+const EDGES: &[(&[u8], Result<(u16, u16, usize), YaccError>)] = &[
+    (b"%%\ns : t ;", Err(YaccError::Undefined { at: 7 })),
+    (b"%%\ns : { x } ;", Ok((0, 1, 1))),
+    (b"%%s:||;", Ok((0, 1, 3))),
+    (b"%%\ns : ' ' '\x7F' ;", Ok((2, 1, 1))),
+    (b"%token A A\n%token A\n%%\ns : A ;", Ok((1, 1, 1))),
+    (
+        b"%token A\n%%\ns : a A b ;",
+        Err(YaccError::Undefined { at: 16 }),
+    ),
+    (b"%%\ns : error ;", Ok((0, 1, 0))),
+    (b"%%\ns : 'a'", Ok((1, 1, 1))),
+    (b"%%\na : b b : 'x'", Ok((1, 2, 2))),
+    (b"%%\na : 'x' ; | 'y' ;", Ok((2, 1, 2))),
+    (b"%%\ns : 'x' | error ';' ;", Ok((1, 1, 1))),
+    (b"%token error A\n%%\ns : A %prec error ;", Ok((1, 1, 1))),
+    (b"%%\ns : ; %% 'open", Ok((0, 1, 1))),
+    (b"%token A\r\n%%\r\ns : A\r\n | s A ;\r\n", Ok((1, 1, 2))),
+    (
+        b"%left <t> '+' 300, '-' 301\n%right <t> NEG 302\n%%\ns : '-' s %prec NEG | s '+' s | 'x' ;",
+        Ok((3, 1, 3)),
+    ),
+    (b"%%\ns : { a(); } 'x' { b(); } t\nt : 'y'", Ok((2, 2, 2))),
+    (
+        b"/* a */ %token // b\nA /* c */ %% /* d */ s /* e */ : /* f */ A // g\n; /* h */",
+        Ok((1, 1, 1)),
+    ),
+    (
+        b"%{ \"%}\" %}\n%%\ns : ;",
+        Err(YaccError::BadItem { at: 6 }),
+    ),
+];
+
 #[test]
 fn texts_at_the_edges(rt: HostRuntime) {
-    let cases: [(&[u8], Result<(u16, u16, usize), YaccError>); 18] = [
-        (b"%%\ns : t ;", Err(YaccError::Undefined { at: 7 })),
-        (b"%%\ns : { x } ;", Ok((0, 1, 1))),
-        (b"%%s:||;", Ok((0, 1, 3))),
-        (b"%%\ns : ' ' '\x7F' ;", Ok((2, 1, 1))),
-        (b"%token A A\n%token A\n%%\ns : A ;", Ok((1, 1, 1))),
-        (
-            b"%token A\n%%\ns : a A b ;",
-            Err(YaccError::Undefined { at: 16 }),
-        ),
-        (b"%%\ns : error ;", Ok((0, 1, 0))),
-        (b"%%\ns : 'a'", Ok((1, 1, 1))),
-        (b"%%\na : b b : 'x'", Ok((1, 2, 2))),
-        (b"%%\na : 'x' ; | 'y' ;", Ok((2, 1, 2))),
-        (b"%%\ns : 'x' | error ';' ;", Ok((1, 1, 1))),
-        (b"%token error A\n%%\ns : A %prec error ;", Ok((1, 1, 1))),
-        (b"%%\ns : ; %% 'open", Ok((0, 1, 1))),
-        (b"%token A\r\n%%\r\ns : A\r\n | s A ;\r\n", Ok((1, 1, 2))),
-        (
-            b"%left <t> '+' 300, '-' 301\n%right <t> NEG 302\n%%\ns : '-' s %prec NEG | s '+' s | 'x' ;",
-            Ok((3, 1, 3)),
-        ),
-        (b"%%\ns : { a(); } 'x' { b(); } t\nt : 'y'", Ok((2, 2, 2))),
-        (
-            b"/* a */ %token // b\nA /* c */ %% /* d */ s /* e */ : /* f */ A // g\n; /* h */",
-            Ok((1, 1, 1)),
-        ),
-        (
-            b"%{ \"%}\" %}\n%%\ns : ;",
-            Err(YaccError::BadItem { at: 6 }),
-        ),
-    ];
-    for (text, want) in cases {
+    for &(text, want) in EDGES {
         assert!(rt; text.len() <= MOST_BYTES);
         assert_eq!(rt; counts(rt.alloc(), text), want, "{text:?}");
     }
 }
 
+const REFUSALS: &[(&[u8], YaccError)] = &[
+    (b"", YaccError::Syntax { at: 0 }),
+    (b"%%\na : 'x' ; b\n", YaccError::Syntax { at: 15 }),
+    (
+        b"%token A B\n%%\nA : 'x' ;",
+        YaccError::TokenOnLeft { at: 14 },
+    ),
+    (b"%%\nerror : 'x' ;", YaccError::TokenOnLeft { at: 3 }),
+    (
+        b"%start s\n%start t\n%%\ns : ;",
+        YaccError::SecondStart { at: 9 },
+    ),
+    (
+        b"%start t\n%%\ns : 'x' ;",
+        YaccError::StartNotNonterminal { at: 7 },
+    ),
+    (
+        b"%start error\n%%\ns : 'x' ;",
+        YaccError::StartNotNonterminal { at: 7 },
+    ),
+    (b"%%\ns : error t ;", YaccError::Undefined { at: 13 }),
+    (b"%code {x}", YaccError::UnknownDirective { at: 0 }),
+    (b"%%\na : \"x\" ;", YaccError::BadItem { at: 7 }),
+    (
+        b"%token NUM\n%%\ne : e '+' t | t ; t : NUM { x",
+        YaccError::Unended { at: 40 },
+    ),
+    (
+        b"%token\n%%\ns : t ; %- ",
+        YaccError::UnknownDirective { at: 18 },
+    ),
+];
+
 #[test]
 fn refusals_by_place(rt: HostRuntime) {
-    let cases: [(&[u8], YaccError); 12] = [
-        (b"", YaccError::Syntax { at: 0 }),
-        (b"%%\na : 'x' ; b\n", YaccError::Syntax { at: 15 }),
-        (
-            b"%token A B\n%%\nA : 'x' ;",
-            YaccError::TokenOnLeft { at: 14 },
-        ),
-        (b"%%\nerror : 'x' ;", YaccError::TokenOnLeft { at: 3 }),
-        (
-            b"%start s\n%start t\n%%\ns : ;",
-            YaccError::SecondStart { at: 9 },
-        ),
-        (
-            b"%start t\n%%\ns : 'x' ;",
-            YaccError::StartNotNonterminal { at: 7 },
-        ),
-        (
-            b"%start error\n%%\ns : 'x' ;",
-            YaccError::StartNotNonterminal { at: 7 },
-        ),
-        (b"%%\ns : error t ;", YaccError::Undefined { at: 13 }),
-        (b"%code {x}", YaccError::UnknownDirective { at: 0 }),
-        (b"%%\na : \"x\" ;", YaccError::BadItem { at: 7 }),
-        (
-            b"%token NUM\n%%\ne : e '+' t | t ; t : NUM { x",
-            YaccError::Unended { at: 40 },
-        ),
-        (
-            b"%token\n%%\ns : t ; %- ",
-            YaccError::UnknownDirective { at: 18 },
-        ),
-    ];
-    for (text, want) in cases {
+    for &(text, want) in REFUSALS {
         assert!(rt; text.len() <= MOST_BYTES);
         assert_eq!(rt; counts(rt.alloc(), text).err(), Some(want), "{text:?}");
     }
@@ -154,41 +188,39 @@ const CALCULATOR: &[u8] =
 %expect 1\n%start line\n;\n%%\nextra : NAME\nline // all\n : term { $$ = $1; /* } */ } term '\\n'\n | error ';'\n | %empty\n ;\n\
 term : '-' term %prec NEG { c = '}'; }\n | NUM\n%%\nint main() { return 'a; }\n";
 
+// NUM 1, NAME 2, '-' 3, newline 4; extra 1, line 2, term 3.
+const CALCULATOR_RULES: &[(u16, &[Symbol])] = &[
+    (1, &[Symbol::Token(2)]),
+    (
+        2,
+        &[
+            Symbol::Nonterminal(3),
+            Symbol::Nonterminal(3),
+            Symbol::Token(4),
+        ],
+    ),
+    (2, &[]),
+    (3, &[Symbol::Token(3), Symbol::Nonterminal(3)]),
+    (3, &[Symbol::Token(1)]),
+];
+
 #[test]
-fn file_as_people_write_it(rt: HostRuntime) -> Result<(), Fail> {
+fn file_as_people_write_it(rt: HostRuntime) {
     assert!(rt; CALCULATOR.len() <= MOST_BYTES);
-    let file = read_yacc(rt.alloc(), CALCULATOR).ok().ok_or("accepted")?;
-    let grammar = file.grammar();
-    let term = Symbol::Nonterminal(3);
-    // NUM 1, NAME 2, '-' 3, newline 4; extra 1, line 2, term 3.
-    assert_eq!(rt;
-        (grammar.tokens(), grammar.nonterminals(), grammar.start()),
-        (4, 3, 2)
-    );
-    let [extra, line, empty, minus, number] = grammar.rules() else {
-        return Err("five rules".into());
-    };
-    assert!(rt; is_rule(extra, 1, &[Symbol::Token(2)]));
-    assert!(rt; is_rule(line, 2, &[term, term, Symbol::Token(4)]));
-    assert!(rt; is_rule(empty, 2, &[]));
-    assert!(rt; is_rule(minus, 3, &[Symbol::Token(3), term]));
-    assert!(rt; is_rule(number, 3, &[Symbol::Token(1)]));
-    Ok(())
+    let found = has_grammar(rt.alloc(), CALCULATOR, (4, 3, 2), CALCULATOR_RULES);
+    assert!(rt; found == Ok(true));
 }
+
+const NEWLINES: &[u8] = b"%%\ns : '\\n' '\\12' '\\x0a' ;";
 
 #[test]
 fn spellings_of_one_byte(rt: HostRuntime) -> Result<(), Fail> {
-    let file = read_yacc(rt.alloc(), b"%%\ns : '\\n' '\\12' '\\x0a' ;")
-        .ok()
-        .ok_or("accepted")?;
+    assert!(rt; NEWLINES.len() <= MOST_BYTES);
+    let file = read_yacc(rt.alloc(), NEWLINES).ok().ok_or("accepted")?;
     let newline = Symbol::Token(1);
-    let [rule] = file.grammar().rules() else {
-        return Err("one rule".into());
-    };
-    assert!(rt; is_rule(rule, 1, &[newline, newline, newline]));
-    let [TokenName::Byte(10)] = file.token_names() else {
-        return Err("one token".into());
-    };
+    let rules: &[(u16, &[Symbol])] = &[(1, &[newline, newline, newline])];
+    assert!(rt; are_rules(file.grammar().rules(), rules));
+    assert!(rt; matches!(file.token_names(), [TokenName::Byte(10)]));
     Ok(())
 }
 
@@ -196,28 +228,44 @@ fn spellings_of_one_byte(rt: HostRuntime) -> Result<(), Fail> {
 const LOOKED_UP: &[u8] =
     b"%token NUM ID UNUSED '?'\n%%\ne : e '+' NUM | ID '\\n' | '\\12' | error '!' ;\n";
 
+const TOKENS: &[(&[u8], Option<u16>)] = &[
+    (b"NUM", Some(1)),
+    (b"ID", Some(2)),
+    (b"UNUSED", None),
+    (b"e", None),
+    (b"error", None),
+    (b"+", None),
+    (b"NU", None),
+    (b"", None),
+];
+
+const LITERALS: &[(u8, Option<u16>)] = &[
+    (b'+', Some(3)),
+    (b'\n', Some(4)),
+    (b'!', None),
+    (b'?', None),
+];
+
+fn looked_up(alloc: Global) -> Option<YaccFile> {
+    if LOOKED_UP.len() > MOST_BYTES {
+        return None;
+    }
+    read_yacc(alloc, LOOKED_UP).ok()
+}
+
 #[test]
 fn tokens_by_name(rt: HostRuntime) -> Result<(), Fail> {
-    let file = read_yacc(rt.alloc(), LOOKED_UP).ok().ok_or("accepted")?;
-    let words: [(&[u8], Option<u16>); 8] = [
-        (b"NUM", Some(1)),
-        (b"ID", Some(2)),
-        (b"UNUSED", None),
-        (b"e", None),
-        (b"error", None),
-        (b"+", None),
-        (b"NU", None),
-        (b"", None),
-    ];
-    for (name, want) in words {
+    let file = looked_up(rt.alloc()).ok_or("accepted")?;
+    for &(name, want) in TOKENS {
         assert_eq!(rt; file.token(name), want, "{name:?}");
     }
-    for (byte, want) in [
-        (b'+', Some(3)),
-        (b'\n', Some(4)),
-        (b'!', None),
-        (b'?', None),
-    ] {
+    Ok(())
+}
+
+#[test]
+fn tokens_by_literal(rt: HostRuntime) -> Result<(), Fail> {
+    let file = looked_up(rt.alloc()).ok_or("accepted")?;
+    for &(byte, want) in LITERALS {
         assert_eq!(rt; file.literal(byte), want, "{byte}");
     }
     Ok(())
@@ -253,15 +301,16 @@ fn text_with(alloc: Global, which: YaccLimit, count: u16) -> Result<String, Allo
     }
 }
 
+const LIMITS: &[(YaccLimit, u16)] = &[
+    (YaccLimit::Tokens, 512),
+    (YaccLimit::Nonterminals, 1024),
+    (YaccLimit::Rules, 8192),
+    (YaccLimit::RightSide, 128),
+];
+
 #[test]
 fn limits(rt: HostRuntime) -> Result<(), Fail> {
-    let cases: [(YaccLimit, u16); 4] = [
-        (YaccLimit::Tokens, 512),
-        (YaccLimit::Nonterminals, 1024),
-        (YaccLimit::Rules, 8192),
-        (YaccLimit::RightSide, 128),
-    ];
-    for (which, most) in cases {
+    for &(which, most) in LIMITS {
         let fits = text_with(rt.alloc(), which, most - 1)?;
         let above = text_with(rt.alloc(), which, most)?;
         assert!(rt; fits.len() <= MOST_BYTES && above.len() <= MOST_BYTES);
