@@ -1,7 +1,7 @@
 // The states of automata, and how many sets of positions there may be.
 
 use crate::rules::rule;
-use cs_automaton::{Automaton, AutomatonError};
+use cs_automaton::Automaton;
 use cs_pattern::PatternError;
 use std::alloc::Global;
 use std::test::Fail;
@@ -16,53 +16,56 @@ pub fn rule_after(automaton: &Automaton<'_>, text: &[u8]) -> Option<u16> {
 }
 
 // Worked by hand: `(ab)+` matches ab, abab and so on, and `a` the one letter.
+const AFTER: &[(&str, Option<u16>)] = &[
+    ("", Some(0)),
+    ("a", Some(2)),
+    ("ab", Some(1)),
+    ("aba", Some(0)),
+    ("abab", Some(1)),
+    ("b", None),
+    ("aa", None),
+    ("abb", None),
+];
+
 #[test]
 fn rules_after_texts(rt: HostRuntime) -> Result<(), Fail> {
     let alloc = rt.alloc();
     let rules = [rule(alloc, "(ab)+")?, rule(alloc, "a")?];
     let automaton = Automaton::new(alloc, &rules)?;
-    let cases = [
-        ("", Some(0)),
-        ("a", Some(2)),
-        ("ab", Some(1)),
-        ("aba", Some(0)),
-        ("abab", Some(1)),
-        ("b", None),
-        ("aa", None),
-        ("abb", None),
-    ];
-    for (text, want) in cases {
+    for &(text, want) in AFTER {
         assert_eq!(rt; rule_after(&automaton, text.as_bytes()), want, "{text}");
     }
     Ok(())
 }
 
-// What making the automaton of one rule answers, with the first rule at the start.
-fn made(alloc: Global, text: &str) -> Result<Result<Option<u16>, AutomatonError>, PatternError> {
+// What making the automaton of one rule answers, with the first rule at the start, as text.
+fn made(alloc: Global, text: &str) -> Result<String, PatternError> {
     let rules = [rule(alloc, text)?];
     match Automaton::new(alloc, &rules) {
-        Ok(automaton) => Ok(Ok(automaton.first_rule(automaton.start()))),
-        Err(error) => Ok(Err(error)),
+        Ok(automaton) => {
+            let first = automaton.first_rule(automaton.start());
+            Ok(format!(in alloc; "{first:?}")?)
+        }
+        Err(error) => Ok(format!(in alloc; "{error:?}")?),
     }
 }
 
 // Worked by hand: which of the last n + 1 letters are an a is what `(a|b)*a(a|b){n}` has to know, so it has 2 to the power of
 // n + 1 sets.
+const STARTS: &[(&str, &str)] = &[
+    ("a", "None"),
+    ("a*", "Some(1)"),
+    ("\"\"", "Some(1)"),
+    ("(a|b)*a(a|b){13}", "None"),
+    ("(a|b)*a(a|b){14}", "TooManyStates { most: 16384 }"),
+];
+
 #[test]
 fn rules_at_the_start(rt: HostRuntime) -> Result<(), Fail> {
     let alloc = rt.alloc();
-    let too_many = Err(AutomatonError::TooManyStates { most: 16_384 });
-    let cases = [
-        ("a", Ok(None)),
-        ("a*", Ok(Some(1))),
-        ("\"\"", Ok(Some(1))),
-        ("(a|b)*a(a|b){13}", Ok(None)),
-        ("(a|b)*a(a|b){14}", too_many),
-    ];
-    for (text, want) in cases {
-        let found = format!(in alloc; "{:?}", made(alloc, text)?)?;
-        let want = format!(in alloc; "{want:?}")?;
-        assert_eq!(rt; found.as_str(), want.as_str(), "{text}");
+    for &(text, want) in STARTS {
+        let found = made(alloc, text)?;
+        assert_eq!(rt; found.as_str(), want, "{text}");
     }
     Ok(())
 }

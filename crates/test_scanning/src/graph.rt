@@ -31,20 +31,21 @@ fn shown(alloc: Global, graph: &[Vec<usize>]) -> Result<String, AllocError> {
     }
 }
 
+const ORDERS: &[(&str, &str)] = &[
+    ("-", "[0]"),
+    ("- 0 1", "[0, 1, 2]"),
+    ("1 2 -", "[2, 1, 0]"),
+    ("21 2 - 01", "[2, 1, 0, 3]"),
+    ("0", "cycle"),
+    ("- 2 1", "cycle"),
+    ("1 2 3 1", "cycle"),
+    ("1", "no graph"),
+];
+
 #[test]
 fn nodes_in_order(rt: HostRuntime) -> Result<(), Fail> {
     let alloc = rt.alloc();
-    let cases = [
-        ("-", "[0]"),
-        ("- 0 1", "[0, 1, 2]"),
-        ("1 2 -", "[2, 1, 0]"),
-        ("21 2 - 01", "[2, 1, 0, 3]"),
-        ("0", "cycle"),
-        ("- 2 1", "cycle"),
-        ("1 2 3 1", "cycle"),
-        ("1", "no graph"),
-    ];
-    for (text, want) in cases {
+    for &(text, want) in ORDERS {
         let graph = graph_of(alloc, text)?;
         let found = shown(alloc, &graph)?;
         assert_eq!(rt; found.as_str(), want, "{text}");
@@ -69,27 +70,28 @@ fn first_nodes(alloc: Global, graph: &[Vec<usize>]) -> Result<String, AllocError
     Ok(text)
 }
 
+const COMPONENTS: &[(&str, &str)] = &[
+    ("-", "0 "),
+    ("0", "0 "),
+    ("1 0", "0 0 "),
+    ("1 2 -", "0 1 2 "),
+    ("12 3 3 -", "0 1 2 3 "),
+    ("1 - 10", "0 1 2 "),
+    // The last edge goes back over two nodes.
+    ("1 2 3 1", "0 1 1 1 "),
+    // Two cycles share node 0.
+    ("12 0 0", "0 0 0 "),
+    // Node 3 is between the cycles of 1 and 2 and of 4 and 5, node 0 in front of them, and node 6 behind them.
+    ("1 2 13 4 5 46 -", "0 1 1 3 4 4 6 "),
+    // The same, with edges over the node between.
+    ("14 2 413 4 5 64 -", "0 1 1 3 4 4 6 "),
+    ("1", "no graph"),
+];
+
 #[test]
 fn nodes_that_lead_to_one_another(rt: HostRuntime) -> Result<(), Fail> {
     let alloc = rt.alloc();
-    let cases = [
-        ("-", "0 "),
-        ("0", "0 "),
-        ("1 0", "0 0 "),
-        ("1 2 -", "0 1 2 "),
-        ("12 3 3 -", "0 1 2 3 "),
-        ("1 - 10", "0 1 2 "),
-        // The last edge goes back over two nodes.
-        ("1 2 3 1", "0 1 1 1 "),
-        // Two cycles share node 0.
-        ("12 0 0", "0 0 0 "),
-        // Node 3 is between the cycles of 1 and 2 and of 4 and 5, node 0 in front of them, and node 6 behind them.
-        ("1 2 13 4 5 46 -", "0 1 1 3 4 4 6 "),
-        // The same, with edges over the node between.
-        ("14 2 413 4 5 64 -", "0 1 1 3 4 4 6 "),
-        ("1", "no graph"),
-    ];
-    for (text, want) in cases {
+    for &(text, want) in COMPONENTS {
         let graph = graph_of(alloc, text)?;
         let found = first_nodes(alloc, &graph)?;
         assert_eq!(rt; found.as_str(), want, "{text}");

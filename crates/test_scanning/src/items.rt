@@ -70,20 +70,28 @@ fn fronts(rt: HostRuntime) -> Result<(), Fail> {
 }
 
 // Worked by hand: the letters a to c and the byte 255, what is left of 256 bytes, and both with the byte 0 beside them.
-#[test]
-fn sets_of_bytes(rt: HostRuntime) -> Result<(), Fail> {
-    let alloc = rt.alloc();
+fn some_letters() -> ByteSet {
     let mut set = ByteSet::new();
-    assert!(rt; set.is_empty());
     set.insert_range(b'a', b'c');
     set.insert(0xff);
+    set
+}
+
+fn show_three(alloc: Global, set: &ByteSet) -> Result<String, AllocError> {
     let mut zero = ByteSet::new();
     zero.insert(0);
     let mut shown = String::new(alloc);
     show_set(&mut shown, &set.duplicate())?;
     show_set(&mut shown, &set.complement())?;
     show_set(&mut shown, &set.union(&zero))?;
+    Ok(shown)
+}
+
+#[test]
+fn sets_of_bytes(rt: HostRuntime) -> Result<(), Fail> {
+    let set = some_letters();
+    assert!(rt; ByteSet::new().is_empty() && set.len() == 4);
+    let shown = show_three(rt.alloc(), &set)?;
     assert_eq!(rt; shown.as_str(), " 61-63 ff 00-60 64-fe 00 61-63 ff");
-    assert_eq!(rt; set.len(), 4);
     Ok(())
 }

@@ -167,8 +167,16 @@ fn texts_without_definitions(rt: HostRuntime) -> Result<(), Fail> {
             count = count.wrapping_add(1);
         }
     }
-    assert_eq!(rt; count, 95);
-    for text in [b"a\t".as_slice(), b"a\\\n".as_slice()] {
+    assert!(rt; count == 95);
+    Ok(())
+}
+
+#[test]
+fn texts_with_bytes_that_end_rows(rt: HostRuntime) -> Result<(), Fail> {
+    let alloc = rt.alloc();
+    let none = Definitions::new(alloc).check()?;
+    let texts: [&[u8]; 2] = [b"a\t", b"a\\\n"];
+    for text in texts {
         let found = answer(alloc, text, &none)?;
         assert_eq!(rt; found.as_str(), "Syntax { at: 1 }");
     }
@@ -202,76 +210,75 @@ fn define(alloc: Global, texts: &[(&[u8], &[u8])]) -> Result<Definitions, Defini
     Ok(definitions)
 }
 
+const CHECKED: &[(&[(&[u8], &[u8])], &str)] = &[
+    (
+        &[(b"A", b"{B}"), (b"B", b"{A}")],
+        "Some(Fault { index: 0, fault: DefinitionCycle { at: 0 } })",
+    ),
+    (
+        &[(b"A", b"{B}"), (b"B", b"c{C}"), (b"C", b"x{B}")],
+        "Some(Fault { index: 1, fault: DefinitionCycle { at: 1 } })",
+    ),
+    (
+        &[(b"A", b"{A}"), (b"B", b"{C}")],
+        "Some(Fault { index: 1, fault: UndefinedName { at: 0 } })",
+    ),
+    (
+        &[(b"A", b"{C}"), (b"B", b"a)")],
+        "Some(Fault { index: 1, fault: Syntax { at: 1 } })",
+    ),
+    (
+        &[(b"A", b"<a"), (b"B", b"^")],
+        "Some(Fault { index: 0, fault: Condition { at: 0 } })",
+    ),
+    (
+        &[(b"A", b"{B}{9}"), (b"B", b"a{1000}")],
+        "Some(Fault { index: 0, fault: TooManyPositions { most: 8192 } })",
+    ),
+    (
+        // C leads into the cycle of D and E, and is on none itself.
+        &[(b"C", b"{D}"), (b"D", b"a{E}"), (b"E", b"b|{D}")],
+        "Some(Fault { index: 1, fault: DefinitionCycle { at: 1 } })",
+    ),
+    (
+        // M is between the cycle of Q and R and that of P, and on none itself.
+        &[
+            (b"M", b"a{P}"),
+            (b"P", b"{P}"),
+            (b"Q", b"{R}"),
+            (b"R", b"{Q}{M}"),
+        ],
+        "Some(Fault { index: 1, fault: DefinitionCycle { at: 0 } })",
+    ),
+    (
+        &[(b"A", b"b{B}{A}"), (b"B", b"c")],
+        "Some(Fault { index: 0, fault: DefinitionCycle { at: 4 } })",
+    ),
+    (
+        &[(b"A", b"{B}"), (b"B", b"{A}{C}")],
+        "Some(Fault { index: 1, fault: UndefinedName { at: 3 } })",
+    ),
+    (
+        &[(b"A", b"{B}"), (b"B", b"")],
+        "Some(Fault { index: 1, fault: Syntax { at: 0 } })",
+    ),
+    (
+        &[
+            (b"A", b"{B}{D}"),
+            (b"B", b"b"),
+            (b"D", b"{E}{B}"),
+            (b"E", b"e|f"),
+        ],
+        "None",
+    ),
+];
+
 #[test]
 fn definitions_are_checked_in_order(rt: HostRuntime) -> Result<(), Fail> {
     let alloc = rt.alloc();
-    let cases: [(&[(&[u8], &[u8])], &str); 12] = [
-        (
-            &[(b"A", b"{B}"), (b"B", b"{A}")],
-            "Fault { index: 0, fault: DefinitionCycle { at: 0 } }",
-        ),
-        (
-            &[(b"A", b"{B}"), (b"B", b"c{C}"), (b"C", b"x{B}")],
-            "Fault { index: 1, fault: DefinitionCycle { at: 1 } }",
-        ),
-        (
-            &[(b"A", b"{A}"), (b"B", b"{C}")],
-            "Fault { index: 1, fault: UndefinedName { at: 0 } }",
-        ),
-        (
-            &[(b"A", b"{C}"), (b"B", b"a)")],
-            "Fault { index: 1, fault: Syntax { at: 1 } }",
-        ),
-        (
-            &[(b"A", b"<a"), (b"B", b"^")],
-            "Fault { index: 0, fault: Condition { at: 0 } }",
-        ),
-        (
-            &[(b"A", b"{B}{9}"), (b"B", b"a{1000}")],
-            "Fault { index: 0, fault: TooManyPositions { most: 8192 } }",
-        ),
-        (
-            // C leads into the cycle of D and E, and is on none itself.
-            &[(b"C", b"{D}"), (b"D", b"a{E}"), (b"E", b"b|{D}")],
-            "Fault { index: 1, fault: DefinitionCycle { at: 1 } }",
-        ),
-        (
-            // M is between the cycle of Q and R and that of P, and on none itself.
-            &[
-                (b"M", b"a{P}"),
-                (b"P", b"{P}"),
-                (b"Q", b"{R}"),
-                (b"R", b"{Q}{M}"),
-            ],
-            "Fault { index: 1, fault: DefinitionCycle { at: 0 } }",
-        ),
-        (
-            &[(b"A", b"b{B}{A}"), (b"B", b"c")],
-            "Fault { index: 0, fault: DefinitionCycle { at: 4 } }",
-        ),
-        (
-            &[(b"A", b"{B}"), (b"B", b"{A}{C}")],
-            "Fault { index: 1, fault: UndefinedName { at: 3 } }",
-        ),
-        (
-            &[(b"A", b"{B}"), (b"B", b"")],
-            "Fault { index: 1, fault: Syntax { at: 0 } }",
-        ),
-        (
-            &[
-                (b"A", b"{B}{D}"),
-                (b"B", b"b"),
-                (b"D", b"{E}{B}"),
-                (b"E", b"e|f"),
-            ],
-            "none",
-        ),
-    ];
-    for (texts, want) in cases {
-        let found = match define(alloc, texts)?.check() {
-            Ok(_) => format!(in alloc; "none")?,
-            Err(error) => format!(in alloc; "{error:?}")?,
-        };
+    for &(texts, want) in CHECKED {
+        let found = define(alloc, texts)?.check().err();
+        let found = format!(in alloc; "{found:?}")?;
         assert_eq!(rt; found.as_str(), want);
     }
     Ok(())
@@ -327,23 +334,36 @@ fn push_all(text: &mut Vec<u8>, byte: u8, times: u32) -> Result<(), AllocError> 
     Ok(())
 }
 
+// So many groups around `a`.
+fn nested(alloc: Global, groups: u32) -> Result<Vec<u8>, AllocError> {
+    let mut text = Vec::new(alloc);
+    push_all(&mut text, b'(', groups)?;
+    text.push(b'a')?;
+    push_all(&mut text, b')', groups)?;
+    Ok(text)
+}
+
+const TOO_DEEP: &[(u32, &str)] = &[
+    (300_000, "TooDeep { found: 300000, most: 200 }"),
+    (201, "TooDeep { found: 201, most: 200 }"),
+];
+
 #[test]
 fn the_depth_is_told(rt: HostRuntime) -> Result<(), Fail> {
     let alloc = rt.alloc();
     let none = Definitions::new(alloc).check()?;
-    for groups in [300_000u32, 201] {
-        let mut text = Vec::new(alloc);
-        push_all(&mut text, b'(', groups)?;
-        text.push(b'a')?;
-        push_all(&mut text, b')', groups)?;
+    for &(groups, want) in TOO_DEEP {
+        let text = nested(alloc, groups)?;
         let found = answer(alloc, &text, &none)?;
-        let want = format!(in alloc; "TooDeep {{ found: {groups}, most: 200 }}")?;
-        assert_eq!(rt; found.as_str(), want.as_str());
+        assert_eq!(rt; found.as_str(), want);
     }
-    let mut body = Vec::new(alloc);
-    push_all(&mut body, b'(', 200)?;
-    body.push(b'a')?;
-    push_all(&mut body, b')', 200)?;
+    Ok(())
+}
+
+#[test]
+fn the_depth_counts_the_name(rt: HostRuntime) -> Result<(), Fail> {
+    let alloc = rt.alloc();
+    let body = nested(alloc, 200)?;
     let named = define(alloc, &[(b"A", &body)])?.check()?;
     let found = answer(alloc, b"{A}", &named)?;
     assert_eq!(rt; found.as_str(), "TooDeep { found: 201, most: 200 }");
