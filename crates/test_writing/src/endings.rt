@@ -38,9 +38,8 @@ fn ends_so(
     Ok(ended == status && err.written() == line)
 }
 
-// The last two outputs are too small for the line: the status is the same.
 #[test]
-fn statuses_and_lines(rt: HostRuntime) -> Result<(), Fail> {
+fn lines_of_refusals(rt: HostRuntime) -> Result<(), Fail> {
     let limit = YaccError::Limit {
         which: YaccLimit::Rules,
         found: 8_193,
@@ -50,51 +49,31 @@ fn statuses_and_lines(rt: HostRuntime) -> Result<(), Fail> {
     let syntax = Refusal::OfYacc(YaccError::Syntax { at: 12 });
     let rules = Refusal::OfYacc(limit);
     let none = Refusal::OfLex(LexError::NoRules);
-    let rows: [(Ending, usize, u8, &[u8]); 13] = [
+    let rows: [(Refusal, &[u8]); 5] = [
+        (long, b"conform: yacc: Length above 1048576\n"),
+        (syntax, b"conform: yacc: Syntax at 12\n"),
+        (rules, b"conform: yacc: Limit Rules 8193 of 8192\n"),
+        (none, b"conform: lex: NoRules\n"),
+        (Refusal::States, b"conform: lex: States above 16384\n"),
+    ];
+    for (refusal, line) in rows {
+        let ending = Ending::Refused(refusal);
+        assert!(rt; ends_so(rt.alloc(), ending, 99, 1, line)?, "{ending:?}");
+    }
+    Ok(())
+}
+
+// The last two outputs are too small for the line: the status is the same.
+#[test]
+fn statuses_and_lines(rt: HostRuntime) -> Result<(), Fail> {
+    let word = Ending::BadWord { at: 3 };
+    let yacc = Ending::NoFile(Role::Yacc);
+    let lex = Ending::NoFile(Role::Lex);
+    let rows: [(Ending, usize, u8, &[u8]); 8] = [
         (Ending::Written, 99, 0, b""),
-        (
-            Ending::Refused(long),
-            99,
-            1,
-            b"conform: yacc: Length above 1048576\n",
-        ),
-        (
-            Ending::Refused(syntax),
-            99,
-            1,
-            b"conform: yacc: Syntax at 12\n",
-        ),
-        (
-            Ending::Refused(rules),
-            99,
-            1,
-            b"conform: yacc: Limit Rules 8193 of 8192\n",
-        ),
-        (Ending::Refused(none), 99, 1, b"conform: lex: NoRules\n"),
-        (
-            Ending::Refused(Refusal::States),
-            99,
-            1,
-            b"conform: lex: States above 16384\n",
-        ),
-        (
-            Ending::BadWord { at: 3 },
-            99,
-            2,
-            b"conform: usage: word 3\n",
-        ),
-        (
-            Ending::NoFile(Role::Yacc),
-            99,
-            3,
-            b"conform: read fault: yacc\n",
-        ),
-        (
-            Ending::NoFile(Role::Lex),
-            99,
-            3,
-            b"conform: read fault: lex\n",
-        ),
+        (word, 99, 2, b"conform: usage: word 3\n"),
+        (yacc, 99, 3, b"conform: read fault: yacc\n"),
+        (lex, 99, 3, b"conform: read fault: lex\n"),
         (Ending::NotWritten, 99, 4, b"conform: write fault\n"),
         (Ending::NoMemory, 99, 5, b"conform: out of memory\n"),
         (Ending::NotWritten, 7, 4, b"conform"),

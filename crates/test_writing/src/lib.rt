@@ -1,5 +1,5 @@
-//! Tests of the writing of manifests by public calls alone: the entries of plans, whole manifests, how a run ends. Nothing stands
-//! on this crate.
+//! Tests of the writing of manifests by public calls alone: the entries of plans, whole manifests, the writers, how a run ends.
+//! Nothing stands on this crate.
 #![tactic(auto)]
 
 #[cfg(test)]
@@ -8,3 +8,5 @@ mod endings;
 mod entries;
 #[cfg(test)]
 mod manifests;
+#[cfg(test)]
+mod writers;

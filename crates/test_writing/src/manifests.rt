@@ -17,7 +17,7 @@ use cs_plan::{Mutation, Plan};
 use cs_positive::{Positives, Tables};
 use cs_render_work::RenderWork;
 use cs_sample_files::{Trouble, read_files};
-use cs_samples::{LETTER, LETTER_SCANNER, LETTER_SUITE_TWO, SCANNER, SUMS};
+use cs_samples::{LETTER, LETTER_SCANNER, LETTER_SUITE_TWO, SCANNER, SUMS, SUMS_SUITE_ONE};
 use cs_scan::Scanner;
 use cs_writing::{Halt, write_out};
 use cs_yacc::YaccFile;
@@ -25,37 +25,10 @@ use std::alloc::{AllocError, Global};
 use std::test::Fail;
 use std::thread::Threads;
 
-// The page's manifest of the first format.
-const SUMS_WHOLE: &[u8] = b"conform 1 suite
-token 1 NUM
-token 2 '+'
-token 3 '('
-token 4 ')'
-rule 1 e : e '+' t
-rule 2 e : t
-rule 3 t : NUM
-rule 4 t : '(' e ')'
-lexeme NUM \"0\"
-lexeme '+' \"+\"
-lexeme '(' \"(\"
-lexeme ')' \")\"
-goal 1 rule 1 size 7
-  derive 1 2 3 3
-  tokens NUM '+' NUM
-  text \"0 + 0\"
-goal 2 rule 2 size 3
-  derive 2 3
-  tokens NUM
-  text \"0\"
-goal 3 rule 3 size 3
-  derive 2 3
-  tokens NUM
-  text \"0\"
-goal 4 rule 4 size 7
-  derive 2 4 2 3
-  tokens '(' NUM ')'
-  text \"( 0 )\"
-base 1 goal 1
+// The page's manifest of the first format goes as `SUMS_SUITE_ONE` up to this line, and on as `SUMS_NEGATIVES`.
+const SUMS_END: &[u8] = b"end goals 4 feasible 4 infeasible 0 large 0 negatives 0\n";
+
+const SUMS_NEGATIVES: &[u8] = b"base 1 goal 1
 negative 1 base 1 delete 0 pair <begin> '+' at 0
   tokens '+' NUM
   text \"+ 0\"
@@ -67,6 +40,16 @@ negative 3 base 1 delete 2 pair '+' <end> at 2
   text \"0 +\"
 end goals 4 feasible 4 infeasible 0 large 0 negatives 3
 ";
+
+// The page's manifest of the first format.
+fn sums_whole(alloc: Global) -> Result<Vec<u8>, AllocError> {
+    let mut whole = Vec::new(alloc);
+    if let Some(front) = SUMS_SUITE_ONE.strip_suffix(SUMS_END) {
+        whole.extend_from_slice(front)?;
+    }
+    whole.extend_from_slice(SUMS_NEGATIVES)?;
+    Ok(whole)
+}
 
 // What a manifest is to have.
 struct Choice {
@@ -190,6 +173,7 @@ fn first_format(rt: HostRuntime) -> Result<(), Fail> {
     let alloc = rt.alloc();
     let mut out = MemorySink::new(alloc, 2_000, 7, Vec::new(alloc))?;
     let counts = write(&rt, alloc, (SUMS, SCANNER), &FIRST, &mut out)?;
+    let whole = sums_whole(alloc)?;
     let wanted = Counts {
         goals: 4,
         feasible: 4,
@@ -197,10 +181,10 @@ fn first_format(rt: HostRuntime) -> Result<(), Fail> {
         large: 0,
         negatives: 3,
         cases: None,
-        bytes: SUMS_WHOLE.len() as u128,
+        bytes: whole.len() as u128,
     };
     assert_eq!(rt; counts, Ok(wanted));
-    assert_eq!(rt; out.written(), SUMS_WHOLE);
+    assert_eq!(rt; out.written(), whole.as_slice());
     Ok(())
 }
 
