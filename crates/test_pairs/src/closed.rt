@@ -1,9 +1,12 @@
+ghost use Rattle.cs_grammar.specs.Grammar.{IsNumberOf};
+
+use crate::prepared::{Lines, grammar_of, grammar_of_sums, weights_of};
 use cs_cost::Costs;
 use cs_embed::Embeds;
 use cs_grammar::Symbol::{Nonterminal, Token};
-use cs_grammar::{Grammar, Symbol, Weights, number_of};
+use cs_grammar::{Symbol, Weights, number_of};
 use cs_pairs::Pairs;
-use cs_samples::{rules, sums};
+use cs_samples::rules;
 use std::alloc::{AllocError, Global};
 use std::process::Abort;
 use std::test::Fail;
@@ -22,18 +25,50 @@ const NOTHING: Want = Want {
     last: &[],
 };
 
+const OWN: Want = Want {
+    empty: false,
+    first: &[1],
+    last: &[1],
+};
+
+const MAYBE: Want = Want {
+    empty: true,
+    first: &[2],
+    last: &[2],
+};
+
+const BEGINS: Want = Want {
+    empty: false,
+    first: &[1, 2],
+    last: &[1],
+};
+
+// Whether a nonterminal can begin and end with the wanted tokens, and with no others.
+fn has_ends(pairs: &Pairs, nonterminal: u16, want: Want) -> bool
+    requires { IsNumberOf pairs.now.grammar.nonterminals nonterminal }
+{
+    for place in 0..pairs.grammar().tokens() {
+        let token = place + 1;
+        let first = pairs.first(nonterminal, token);
+        let last = pairs.last(nonterminal, token);
+        if first != want.first.contains(&token) || last != want.last.contains(&token) {
+            return false;
+        }
+    }
+    true
+}
+
 // The closed sets have what is wanted of a nonterminal, and nothing else.
 fn compare(rt: &impl Abort, pairs: &Pairs, nonterminal: u16, want: Want) {
-    let grammar = pairs.grammar();
-    let _rules = grammar.rules();
-    assert!(rt; 0 < nonterminal && nonterminal <= grammar.nonterminals());
-    assert_eq!(rt; pairs.empty(nonterminal), want.empty);
-    for place in 0..grammar.tokens() {
-        let token = place + 1;
-        let first = want.first.contains(&token);
-        assert_eq!(rt; pairs.first(nonterminal, token), first);
-        let last = want.last.contains(&token);
-        assert_eq!(rt; pairs.last(nonterminal, token), last);
+    assert!(rt; 0 < nonterminal && nonterminal <= pairs.grammar().nonterminals());
+    assert!(rt; pairs.empty(nonterminal) == want.empty);
+    assert!(rt; has_ends(pairs, nonterminal, want));
+}
+
+fn compare_all(rt: &impl Abort, pairs: &Pairs, wants: &[Want]) {
+    for (place, want) in wants.iter().enumerate() {
+        assert!(rt; place < 2);
+        compare(rt, pairs, number_of(place), *want);
     }
 }
 
@@ -41,80 +76,76 @@ fn compare(rt: &impl Abort, pairs: &Pairs, nonterminal: u16, want: Want) {
 fn check(
     rt: &impl Abort,
     alloc: Global,
-    lines: &[(u16, &[Symbol])],
-    limit: u32,
-    wants: &[Want],
+    (lines, limit, wants): (Lines, u32, [Want; 2]),
 ) -> Result<(), AllocError> {
-    let rules = rules(alloc, lines)?;
-    assert!(rt; Grammar::fits(2, 2, 1, &rules));
-    let grammar = Grammar::new(2, 2, 1, rules);
-    assert!(rt; 0 < limit && limit <= 1_000_000);
-    let weights = Weights::new([1, 1].to_vec(alloc)?, limit);
+    let grammar = grammar_of(rt, 2, 2, rules(alloc, lines)?);
+    let weights = weights_of(rt, alloc, &[1, 1], limit)?;
     let costs = Costs::new(alloc, &grammar, &weights)?;
     let embeds = Embeds::new(alloc, &costs)?;
-    let pairs = Pairs::new(alloc, &costs, &embeds)?;
-    for (place, want) in wants.iter().enumerate() {
-        assert!(rt; place < 2);
-        compare(rt, &pairs, number_of(place), *want);
+    compare_all(rt, &Pairs::new(alloc, &costs, &embeds)?, &wants);
+    Ok(())
+}
+
+const S: Symbol = Nonterminal(1);
+
+const U: Symbol = Nonterminal(2);
+
+const X: Symbol = Token(1);
+
+const Y: Symbol = Token(2);
+
+// The sets of empty, first and last symbols of these grammars, by hand.
+const ROWS: [(Lines, u32, [Want; 2]); 5] = [
+    // s : 'x' ;
+    (&[(1, &[X])], 10_000, [OWN, NOTHING]),
+    // s : s 'x' | u ;  u : u 'y' ;  of which neither has a tree.
+    (
+        &[(1, &[S, X]), (1, &[U]), (2, &[U, Y])],
+        10_000,
+        [NOTHING, NOTHING],
+    ),
+    // s : u 'x' ;  u : | u 'y' ;
+    (
+        &[(1, &[U, X]), (2, &[]), (2, &[U, Y])],
+        10_000,
+        [BEGINS, MAYBE],
+    ),
+    // s : 'x' ;  u : | 'y' ;  where no sentence uses u.
+    (&[(1, &[X]), (2, &[]), (2, &[Y])], 10_000, [OWN, MAYBE]),
+    // s : u u ;  u : | 'y' ;  where each tree of s is above a limit of 2.
+    (&[(1, &[U, U]), (2, &[]), (2, &[Y])], 2, [MAYBE, MAYBE]),
+];
+
+#[test]
+fn closed_sets(rt: HostRuntime) -> Result<(), Fail> {
+    for row in ROWS {
+        check(&rt, rt.alloc(), row)?;
     }
     Ok(())
 }
 
-// The sets of empty, first and last symbols of these grammars, by hand.
-#[test]
-fn closed_sets(rt: HostRuntime) -> Result<(), Fail> {
-    let alloc = rt.alloc();
-    let [s, u] = [1, 2].map(Nonterminal);
-    let [x, y] = [1, 2].map(Token);
-    let own = Want {
-        empty: false,
-        first: &[1],
-        last: &[1],
-    };
-    // s : 'x' ;
-    check(&rt, alloc, &[(1, &[x])], 10_000, &[own, NOTHING])?;
-    // s : s 'x' | u ;  u : u 'y' ;  of which neither has a tree.
-    let none: &[(u16, &[Symbol])] = &[(1, &[s, x]), (1, &[u]), (2, &[u, y])];
-    check(&rt, alloc, none, 10_000, &[NOTHING, NOTHING])?;
-    // s : u 'x' ;  u : | u 'y' ;
-    let ends: &[(u16, &[Symbol])] = &[(1, &[u, x]), (2, &[]), (2, &[u, y])];
-    let begins = Want {
-        empty: false,
-        first: &[1, 2],
-        last: &[1],
-    };
-    let maybe = Want {
-        empty: true,
-        first: &[2],
-        last: &[2],
-    };
-    check(&rt, alloc, ends, 10_000, &[begins, maybe])?;
-    // s : 'x' ;  u : | 'y' ;  where no sentence uses u.
-    let useless: &[(u16, &[Symbol])] = &[(1, &[x]), (2, &[]), (2, &[y])];
-    check(&rt, alloc, useless, 10_000, &[own, maybe])?;
-    // s : u u ;  u : | 'y' ;  where each tree of s is above a limit of 2.
-    let large: &[(u16, &[Symbol])] = &[(1, &[u, u]), (2, &[]), (2, &[y])];
-    check(&rt, alloc, large, 2, &[maybe, maybe])?;
-    Ok(())
-}
-
 // The same of the sums of an arithmetic grammar: e and t begin with NUM and '(', and end with NUM and ')'.
-#[test]
-fn closed_sets_of_sums(rt: HostRuntime) -> Result<(), Fail> {
-    let alloc = rt.alloc();
-    let rules = sums(alloc)?;
-    assert!(rt; Grammar::fits(4, 2, 1, &rules));
-    let grammar = Grammar::new(4, 2, 1, rules);
+const OF_SUMS: Want = Want {
+    empty: false,
+    first: &[1, 3],
+    last: &[1, 4],
+};
+
+fn check_sums(rt: &impl Abort, alloc: Global) -> Result<(), AllocError> {
+    let grammar = grammar_of_sums(rt, alloc)?;
     let weights = Weights::nodes(alloc, 4)?;
     let costs = Costs::new(alloc, &grammar, &weights)?;
     let embeds = Embeds::new(alloc, &costs)?;
-    let pairs = Pairs::new(alloc, &costs, &embeds)?;
-    let want = Want {
-        empty: false,
-        first: &[1, 3],
-        last: &[1, 4],
-    };
-    compare(&rt, &pairs, 1, want);
-    compare(&rt, &pairs, 2, want);
+    compare_all(
+        rt,
+        &Pairs::new(alloc, &costs, &embeds)?,
+        &[OF_SUMS, OF_SUMS],
+    );
+    Ok(())
+}
+
+#[test]
+fn closed_sets_of_sums(rt: HostRuntime) -> Result<(), Fail> {
+    check_sums(&rt, rt.alloc())?;
     Ok(())
 }

@@ -9,3 +9,5 @@ mod closed;
 mod pairs;
 #[cfg(test)]
 mod positive;
+#[cfg(test)]
+mod prepared;
