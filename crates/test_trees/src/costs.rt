@@ -1,46 +1,43 @@
+use crate::prepared::{Lines, chain, grammar_of, weights_of};
+use cs_cost::Cost::{Large, Least, Never};
 use cs_cost::{Cost, Costs, cost_of, is_below, plus};
-use cs_grammar::Symbol::{Nonterminal, Token};
-use cs_grammar::{Derivation, Grammar, Rule, Symbol, Weights};
+use cs_grammar::Symbol::Nonterminal;
+use cs_grammar::{Derivation, Symbol, Weights};
 use cs_samples::rules;
 use std::alloc::{AllocError, Global};
 use std::process::Abort;
 use std::test::Fail;
 
+// Rules, the numbers of tokens, a limit, what the least tree of nonterminal 1 costs, and the code of the chosen one.
+type Row = (Lines, &'static [u32], u32, Cost, &'static [u16]);
+
 // What the least tree of nonterminal 1 costs is this, and where it is a size the chosen tree has this code.
-fn check(
+fn compare(
     rt: &impl Abort,
     alloc: Global,
-    lines: &[(u16, &[Symbol])],
-    numbers: &[u32],
-    limit: u32,
-    want: (Cost, &[u16]),
+    costs: &Costs,
+    want: Cost,
+    code: &[u16],
 ) -> Result<(), AllocError> {
-    let rules = rules(alloc, lines)?;
-    assert!(rt; numbers.len() <= 512);
-    let tokens = numbers.len() as u16;
-    assert!(rt; Grammar::fits(tokens, 1024, 1, &rules));
-    let grammar = Grammar::new(tokens, 1024, 1, rules);
-    let numbers = numbers.to_vec(alloc)?;
-    assert!(rt; 0 < limit && limit <= 1_000_000);
-    assert!(rt;
-        numbers.len() == tokens as usize
-            && numbers
-                .iter()
-                .all(|number| 0 < *number && *number <= 1_000_000)
-    );
-    let weights = Weights::new(numbers, limit);
-    let costs = Costs::new(alloc, &grammar, &weights)?;
-    let cost = costs.cost(Nonterminal(1));
-    assert_eq!(rt; cost, want.0);
-    if let Cost::Least(_) = cost {
-        let mut into = Derivation::new(alloc);
-        costs.least_into(Nonterminal(1), &mut into)?;
-        assert_eq!(rt; into.rules(), want.1);
+    let first = Nonterminal(1);
+    assert!(rt; 0 < costs.grammar().nonterminals());
+    let mut into = Derivation::new(alloc);
+    let cost = costs.cost(first);
+    if let Least(_) = cost {
+        costs.least_into(first, &mut into)?;
     }
+    assert!(rt; cost == want && into.rules() == code, "{cost:?}");
     Ok(())
 }
 
-type Lines<const N: usize> = [(u16, &'static [Symbol]); N];
+fn check(rt: &impl Abort, alloc: Global, row: Row) -> Result<(), AllocError> {
+    let (lines, numbers, limit, want, code) = row;
+    assert!(rt; numbers.len() <= 512);
+    let grammar = grammar_of(rt, numbers.len() as u16, 1024, rules(alloc, lines)?);
+    let weights = weights_of(rt, alloc, numbers, limit)?;
+    let costs = Costs::new(alloc, &grammar, &weights)?;
+    compare(rt, alloc, &costs, want, code)
+}
 
 const START: Symbol = Symbol::Nonterminal(1);
 
@@ -57,13 +54,13 @@ const THIRD: Symbol = Symbol::Token(3);
 const FOURTH: Symbol = Symbol::Token(4);
 
 // s : b | A ;  b : 'x' ;  with A 1 and 'x' 2.
-const EVEN: Lines<3> = [(1, &[INNER]), (1, &[FIRST]), (2, &[SECOND])];
+const EVEN: Lines = &[(1, &[INNER]), (1, &[FIRST]), (2, &[SECOND])];
 
 // s : A | b ;  b : 'x' ;
-const EXCHANGED: Lines<3> = [(1, &[FIRST]), (1, &[INNER]), (2, &[SECOND])];
+const EXCHANGED: Lines = &[(1, &[FIRST]), (1, &[INNER]), (2, &[SECOND])];
 
 // s : a t ;  a : LONG | 'x' 'y' ;  t : 'z' ;
-const TEXTS: Lines<4> = [
+const TEXTS: Lines = &[
     (1, &[INNER, OTHER]),
     (2, &[FIRST]),
     (2, &[SECOND, THIRD]),
@@ -71,88 +68,63 @@ const TEXTS: Lines<4> = [
 ];
 
 // s : a a | 'x' 'x' ;  a : LONG ;
-const LARGE: Lines<3> = [(1, &[INNER, INNER]), (1, &[SECOND, SECOND]), (2, &[FIRST])];
+const LARGE: Lines = &[(1, &[INNER, INNER]), (1, &[SECOND, SECOND]), (2, &[FIRST])];
 
 // s : A ;
-const ONE: Lines<1> = [(1, &[FIRST])];
+const ONE: Lines = &[(1, &[FIRST])];
 
 // s : s ;
-const NONE: Lines<1> = [(1, &[START])];
+const NONE: Lines = &[(1, &[START])];
+
+const MOST: u32 = 1_000_000;
 
 // Sizes reckoned by hand: a leaf is its token's number, a node 1 and its children; of equals the lowest rule is taken.
+const ROWS: [Row; 8] = [
+    (EVEN, &[2, 1], 100, Least(3), &[1, 3]),
+    (EXCHANGED, &[2, 1], 100, Least(3), &[1]),
+    (TEXTS, &[129, 17, 17, 17], 100_000, Least(54), &[1, 3, 4]),
+    (TEXTS, &[1; 4], 100_000, Least(5), &[1, 2, 4]),
+    (LARGE, &[60, 49], 100, Least(99), &[2]),
+    (ONE, &[MOST], MOST, Large, &[]),
+    (ONE, &[999_999], MOST, Least(MOST), &[1]),
+    (NONE, &[1], 100, Never, &[]),
+];
+
 #[test]
 fn least_trees_by_weights(rt: HostRuntime) -> Result<(), Fail> {
-    let alloc = rt.alloc();
-    let texts = [129, 17, 17, 17];
-    let most = 1_000_000;
-    check(&rt, alloc, &EVEN, &[2, 1], 100, (Cost::Least(3), &[1, 3]))?;
-    check(&rt, alloc, &EXCHANGED, &[2, 1], 100, (Cost::Least(3), &[1]))?;
-    check(
-        &rt,
-        alloc,
-        &TEXTS,
-        &texts,
-        100_000,
-        (Cost::Least(54), &[1, 3, 4]),
-    )?;
-    check(
-        &rt,
-        alloc,
-        &TEXTS,
-        &[1; 4],
-        100_000,
-        (Cost::Least(5), &[1, 2, 4]),
-    )?;
-    check(&rt, alloc, &LARGE, &[60, 49], 100, (Cost::Least(99), &[2]))?;
-    check(&rt, alloc, &ONE, &[most], most, (Cost::Large, &[]))?;
-    check(
-        &rt,
-        alloc,
-        &ONE,
-        &[most - 1],
-        most,
-        (Cost::Least(most), &[1]),
-    )?;
-    check(&rt, alloc, &NONE, &[1], 100, (Cost::Never, &[]))?;
+    for row in ROWS {
+        check(&rt, rt.alloc(), row)?;
+    }
+    Ok(())
+}
+
+fn check_chain(rt: &impl Abort, alloc: Global, backwards: bool) -> Result<(), AllocError> {
+    let grammar = grammar_of(rt, 1, 1024, chain(alloc, backwards)?);
+    let weights = Weights::nodes(alloc, 1)?;
+    let costs = Costs::new(alloc, &grammar, &weights)?;
+    assert!(rt; costs.cost(Nonterminal(1)) == Least(1025));
+    assert!(rt; costs.cost(Nonterminal(1024)) == Least(2));
     Ok(())
 }
 
 // n1 : n2 ;  down to  n1024 : 'x' ;  has 1,024 nodes and a leaf, in either order of the rules.
 #[test]
 fn chain_of_nonterminals(rt: HostRuntime) -> Result<(), Fail> {
-    let alloc = rt.alloc();
-    for last in [0, 1025] {
-        let mut rules = Vec::new(alloc);
-        for place in 0..1024 {
-            let number = if last == 0 { place + 1 } else { 1024 - place };
-            let symbol = if number == 1024 {
-                Token(1)
-            } else {
-                Nonterminal(number + 1)
-            };
-            rules.push(Rule::new(number, [symbol].to_vec(alloc)?))?;
-        }
-        assert!(rt; Grammar::fits(1, 1024, 1, &rules));
-        let grammar = Grammar::new(1, 1024, 1, rules);
-        let weights = Weights::nodes(alloc, 1)?;
-        let costs = Costs::new(alloc, &grammar, &weights)?;
-        assert_eq!(rt; costs.cost(Nonterminal(1)), Cost::Least(1025));
-        assert_eq!(rt; costs.cost(Nonterminal(1024)), Cost::Least(2));
-    }
+    check_chain(&rt, rt.alloc(), false)?;
+    check_chain(&rt, rt.alloc(), true)?;
     Ok(())
 }
 
 // By the order: sizes, then large ones, then none; and sums stop at the limit.
 #[test]
 fn costs_are_ordered(rt: HostRuntime) -> Result<(), Fail> {
-    let least = |size| Cost::Least(size);
-    assert!(rt; is_below(least(3), least(4)));
-    assert!(rt; is_below(least(10_000), Cost::Large));
-    assert!(rt; is_below(Cost::Large, Cost::Never));
-    assert!(rt; !is_below(Cost::Large, Cost::Large));
-    assert_eq!(rt; cost_of(10_001, 10_000), Cost::Large);
-    assert_eq!(rt; plus(least(9_999), least(1), 10_000), least(10_000));
-    assert_eq!(rt; plus(least(9_999), least(2), 10_000), Cost::Large);
-    assert_eq!(rt; plus(Cost::Large, Cost::Never, 10_000), Cost::Never);
+    assert!(rt; is_below(Least(3), Least(4)));
+    assert!(rt; is_below(Least(10_000), Large));
+    assert!(rt; is_below(Large, Never));
+    assert!(rt; !is_below(Large, Large));
+    assert!(rt; cost_of(10_001, 10_000) == Large);
+    assert!(rt; plus(Least(9_999), Least(1), 10_000) == Least(10_000));
+    assert!(rt; plus(Least(9_999), Least(2), 10_000) == Large);
+    assert!(rt; plus(Large, Never, 10_000) == Never);
     Ok(())
 }

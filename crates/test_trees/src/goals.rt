@@ -1,6 +1,9 @@
+use crate::prepared::{derivation_of, grammar_of, grammar_of_sums};
 use cs_goals::{Criteria, Goal, Goals, fits_goal, meets};
-use cs_grammar::{Derivation, Grammar, Mark, Rule, Symbol, expand};
-use cs_samples::sums;
+use cs_grammar::{Grammar, Mark, Symbol, expand};
+use cs_samples::rules;
+use std::alloc::{AllocError, Global};
+use std::process::Abort;
 use std::test::Fail;
 
 fn context(outer: u16, place: u16, inner: u16) -> Goal {
@@ -11,93 +14,99 @@ fn context(outer: u16, place: u16, inner: u16) -> Goal {
     }
 }
 
+fn pair(left: Mark, right: Mark) -> Goal {
+    Goal::Pair { left, right }
+}
+
 const ALL: Criteria = Criteria {
     rule: true,
     cdrc: true,
     pair: true,
 };
 
+const BEGIN: Mark = Mark::Begin;
+
+const END: Mark = Mark::End;
+
+const FIRST: Mark = Mark::Token(1);
+
+const SECOND: Mark = Mark::Token(2);
+
+const THIRD: Mark = Mark::Token(3);
+
+const FOURTH: Mark = Mark::Token(4);
+
+// Whether these goals, which are of the grammar, come next.
+fn come(grammar: &Grammar, goals: &mut Goals, wants: &[Goal]) -> bool {
+    for want in wants {
+        if !fits_goal(grammar, want) || goals.next() != Some(*want) {
+            return false;
+        }
+    }
+    true
+}
+
+fn is_at_end(goals: &mut Goals) -> bool {
+    goals.next().is_none() && goals.next().is_none()
+}
+
+fn contexts_of_sums() -> [Goal; 8] {
+    [
+        context(1, 1, 1),
+        context(1, 1, 2),
+        context(1, 3, 3),
+        context(1, 3, 4),
+        context(2, 1, 3),
+        context(2, 1, 4),
+        context(4, 2, 1),
+        context(4, 2, 2),
+    ]
+}
+
 // Listed by hand from the definition of the three lists.
 #[test]
 fn goals_of_sums_in_order(rt: HostRuntime) -> Result<(), Fail> {
-    let alloc = rt.alloc();
-    let rules = sums(alloc)?;
-    assert!(rt; Grammar::fits(4, 2, 1, &rules));
-    let grammar = Grammar::new(4, 2, 1, rules);
+    let grammar = grammar_of_sums(&rt, rt.alloc())?;
     let mut goals = Goals::new(&grammar, ALL);
-    for rule in 1..5 {
-        assert_eq!(rt; goals.next(), Some(Goal::Rule(rule)));
+    let rules = [1, 2, 3, 4].map(Goal::Rule);
+    assert!(rt; come(&grammar, &mut goals, &rules));
+    assert!(rt; come(&grammar, &mut goals, &contexts_of_sums()));
+    for left in [BEGIN, FIRST, SECOND, THIRD, FOURTH] {
+        let pairs = [FIRST, SECOND, THIRD, FOURTH, END].map(|right| pair(left, right));
+        assert!(rt; come(&grammar, &mut goals, &pairs));
     }
-    let contexts = [
-        (1, 1, 1),
-        (1, 1, 2),
-        (1, 3, 3),
-        (1, 3, 4),
-        (2, 1, 3),
-        (2, 1, 4),
-        (4, 2, 1),
-        (4, 2, 2),
-    ];
-    for (outer, place, inner) in contexts {
-        assert_eq!(rt; goals.next(), Some(context(outer, place, inner)));
-    }
-    let [one, two, three, four] = [1, 2, 3, 4].map(Mark::Token);
-    for left in [Mark::Begin, one, two, three, four] {
-        for right in [one, two, three, four, Mark::End] {
-            let goal = Goal::Pair { left, right };
-            assert!(rt; fits_goal(&grammar, &goal));
-            assert_eq!(rt; goals.next(), Some(goal));
-        }
-    }
-    assert_eq!(rt; goals.next(), None);
-    assert_eq!(rt; goals.next(), None);
+    assert!(rt; is_at_end(&mut goals));
     Ok(())
+}
+
+// Whether these are the goals of the grammar, and the last.
+fn are_all(grammar: &Grammar, criteria: Criteria, wants: &[Goal]) -> bool {
+    let mut goals = Goals::new(grammar, criteria);
+    come(grammar, &mut goals, wants) && is_at_end(&mut goals)
 }
 
 // Listed by hand.
 #[test]
 fn chosen_goals_of_small_grammars(rt: HostRuntime) -> Result<(), Fail> {
-    let alloc = rt.alloc();
     // s : ;  with no token, and  s : A ;  with A 1.
-    let mut empty = Vec::new(alloc);
-    empty.push(Rule::new(1, Vec::new(alloc)))?;
-    assert!(rt; Grammar::fits(0, 1, 1, &empty));
-    let empty = Grammar::new(0, 1, 1, empty);
-    let mut goals = Goals::new(&empty, ALL);
-    let begin_end = Goal::Pair {
-        left: Mark::Begin,
-        right: Mark::End,
-    };
-    assert_eq!(rt; goals.next(), Some(Goal::Rule(1)));
-    assert_eq!(rt; goals.next(), Some(begin_end));
-    assert_eq!(rt; goals.next(), None);
-    let mut one = Vec::new(alloc);
-    one.push(Rule::new(1, [Symbol::Token(1)].to_vec(alloc)?))?;
-    assert!(rt; Grammar::fits(1, 1, 1, &one));
-    let one = Grammar::new(1, 1, 1, one);
+    let empty = grammar_of(&rt, 0, 1, rules(rt.alloc(), &[(1, &[])])?);
+    assert!(rt; are_all(&empty, ALL, &[Goal::Rule(1), pair(BEGIN, END)]));
+    let one = grammar_of(&rt, 1, 1, rules(rt.alloc(), &[(1, &[Symbol::Token(1)])])?);
     let pairs = Criteria { rule: false, ..ALL };
-    let mut goals = Goals::new(&one, pairs);
-    let token = Mark::Token(1);
-    for (left, right) in [
-        (Mark::Begin, token),
-        (Mark::Begin, Mark::End),
-        (token, token),
-        (token, Mark::End),
-    ] {
-        assert_eq!(rt; goals.next(), Some(Goal::Pair { left, right }));
-    }
-    assert_eq!(rt; goals.next(), None);
+    let wants = [
+        pair(BEGIN, FIRST),
+        pair(BEGIN, END),
+        pair(FIRST, FIRST),
+        pair(FIRST, END),
+    ];
+    assert!(rt; are_all(&one, pairs, &wants));
     Ok(())
 }
 
 // Numbers that the grammar does not have, and marks on the wrong side.
 #[test]
 fn goals_that_do_not_fit(rt: HostRuntime) -> Result<(), Fail> {
-    let alloc = rt.alloc();
-    let rules = sums(alloc)?;
-    assert!(rt; Grammar::fits(4, 2, 1, &rules));
-    let grammar = Grammar::new(4, 2, 1, rules);
-    let pair = |left, right| Goal::Pair { left, right };
+    let grammar = grammar_of_sums(&rt, rt.alloc())?;
     let goals = [
         Goal::Rule(0),
         Goal::Rule(5),
@@ -117,47 +126,51 @@ fn goals_that_do_not_fit(rt: HostRuntime) -> Result<(), Fail> {
     Ok(())
 }
 
+// Whether the derivation with these rules meets a goal.
+fn is_met(
+    rt: &impl Abort,
+    alloc: Global,
+    grammar: &Grammar,
+    code: &[u16],
+    goal: &Goal,
+) -> Result<bool, AllocError> {
+    let derivation = derivation_of(alloc, code)?;
+    assert!(rt; derivation.rules().len() < 10);
+    match expand(alloc, grammar, &derivation) {
+        Ok(_) => meets(alloc, grammar, goal, &derivation),
+        Err(error) => panic!(rt; "{error}"),
+    }
+}
+
+// Rules 2, 4, 2 and 3.
+const NESTED: &[u16] = &[2, 4, 2, 3];
+
 // Read off the trees drawn by hand.
 #[test]
 fn which_derivations_meet_a_goal(rt: HostRuntime) -> Result<(), Fail> {
-    let alloc = rt.alloc();
-    let rules = sums(alloc)?;
-    assert!(rt; Grammar::fits(4, 2, 1, &rules));
-    let grammar = Grammar::new(4, 2, 1, rules);
-    let pair = |left, right| Goal::Pair { left, right };
+    let grammar = grammar_of_sums(&rt, rt.alloc())?;
     let cases: [(&[u16], Goal, bool); 16] = [
-        (&[2, 4, 2, 3], Goal::Rule(4), true),
+        (NESTED, Goal::Rule(4), true),
         (&[2, 3], Goal::Rule(4), false),
-        (&[2, 4, 2, 3], context(2, 1, 4), true),
-        (&[2, 4, 2, 3], context(4, 2, 2), true),
-        (&[2, 4, 2, 3], context(2, 1, 3), true),
-        (&[2, 4, 2, 3], context(4, 2, 1), false),
-        (&[2, 4, 2, 3], context(1, 1, 2), false),
+        (NESTED, context(2, 1, 4), true),
+        (NESTED, context(4, 2, 2), true),
+        (NESTED, context(2, 1, 3), true),
+        (NESTED, context(4, 2, 1), false),
+        (NESTED, context(1, 1, 2), false),
         // Rule 3 is used, but not below rule 1.
         (&[1, 2, 3, 4, 2, 3], context(1, 3, 4), true),
         (&[1, 2, 3, 4, 2, 3], context(1, 3, 3), false),
-        (&[2, 4, 2, 3], pair(Mark::Begin, Mark::Token(3)), true),
-        (&[2, 4, 2, 3], pair(Mark::Token(3), Mark::Token(1)), true),
-        (&[2, 4, 2, 3], pair(Mark::Token(4), Mark::End), true),
-        (&[2, 4, 2, 3], pair(Mark::Token(1), Mark::Token(3)), false),
-        (&[2, 4, 2, 3], pair(Mark::Token(3), Mark::Token(4)), false),
-        (&[2, 4, 2, 3], pair(Mark::Begin, Mark::Token(1)), false),
+        (NESTED, pair(Mark::Begin, Mark::Token(3)), true),
+        (NESTED, pair(Mark::Token(3), Mark::Token(1)), true),
+        (NESTED, pair(Mark::Token(4), Mark::End), true),
+        (NESTED, pair(Mark::Token(1), Mark::Token(3)), false),
+        (NESTED, pair(Mark::Token(3), Mark::Token(4)), false),
+        (NESTED, pair(Mark::Begin, Mark::Token(1)), false),
         (&[2, 3], pair(Mark::Begin, Mark::End), false),
     ];
     for (code, goal, want) in cases {
-        let mut derivation = Derivation::new(alloc);
-        derivation.extend_from_slice(code)?;
-        assert!(rt; derivation.rules().len() < 10);
-        match expand(alloc, &grammar, &derivation) {
-            Ok(_) => {
-                assert_eq!(rt;
-                    meets(alloc, &grammar, &goal, &derivation)?,
-                    want,
-                    "{code:?} {goal:?}"
-                );
-            }
-            Err(error) => panic!(rt; "{error}"),
-        }
+        let got = is_met(&rt, rt.alloc(), &grammar, code, &goal)?;
+        assert!(rt; got == want, "{code:?} {goal:?}");
     }
     Ok(())
 }

@@ -4,16 +4,17 @@ ghost use Rattle.std.specs.Prelude.{◌≡◌, IsTrue};
 ghost use Rattle.cs_grammar.specs.Grammar.{IsSymbolOf};
 ghost use Rattle.cs_kinds.specs.Kinds.{IsKind};
 
+use crate::prepared::{grammar_of, grammar_of_sums, weights_of};
 use cs_cost::Cost::{Large, Least, Never};
 use cs_cost::{Cost, Costs};
 use cs_grammar::Symbol::{Nonterminal, Token};
-use cs_grammar::{Derivation, Grammar, Rule, Symbol, Weights};
+use cs_grammar::{Derivation, Grammar, Symbol, Weights};
 use cs_kinds::TreeKind::{Any, Begins, Empty, Ends};
 use cs_kinds::{
     Kinds, Row, Sweep, TreeKind, chosen_of_kind_exists, joint_cost, kind_into, one_chosen_of_kind,
     one_node, reach_cost, step_cost, symbol_number,
 };
-use cs_samples::{rules, sums};
+use cs_samples::rules;
 use cs_ways::{Reach, Step};
 use std::alloc::{AllocError, Global};
 use std::process::Abort;
@@ -47,7 +48,7 @@ fn check_told(rt: &impl Abort, kinds: &Kinds, told: &[Told]) {
     for (kind, symbol, want) in told {
         assert!(rt; is_kind(kinds.grammar().tokens(), *kind));
         assert!(rt; is_symbol(kinds.grammar(), *symbol));
-        assert_eq!(rt; kinds.told(*kind, *symbol), *want);
+        assert!(rt; kinds.told(*kind, *symbol) == *want, "{kind:?} {symbol:?}");
     }
 }
 
@@ -65,28 +66,27 @@ fn check_both(
     assert!(rt; is_symbol(kinds.grammar(), first));
     assert!(rt; is_symbol(kinds.grammar(), second));
     let sweep = Sweep::new(kind).over(kinds, second).over(kinds, first);
-    assert_eq!(rt; sweep.whole, want);
+    assert!(rt; sweep.whole == want);
     let mut into = Derivation::new(alloc);
     if let Least(_) = sweep.whole {
         kind_into(alloc, kinds, costs, kind, &[first, second], &mut into)?;
     }
-    assert_eq!(rt; into.rules(), code);
+    assert!(rt; into.rules() == code);
     Ok(())
 }
 
 fn check(
     rt: &impl Abort,
     alloc: Global,
-    rules: Vec<Rule>,
+    grammar: &Grammar,
     limit: u32,
     told: &[Told],
     both: &[Both],
-) -> Result<(), AllocError> {
-    assert!(rt; Grammar::fits(4, 3, 1, &rules));
-    let grammar = Grammar::new(4, 3, 1, rules);
-    assert!(rt; 0 < limit && limit <= 1_000_000);
-    let weights = Weights::new([1, 1, 1, 1].to_vec(alloc)?, limit);
-    let costs = Costs::new(alloc, &grammar, &weights)?;
+) -> Result<(), AllocError>
+    requires { grammar.now.tokens ≡ 4 }
+{
+    let weights = weights_of(rt, alloc, &[1, 1, 1, 1], limit)?;
+    let costs = Costs::new(alloc, grammar, &weights)?;
     let kinds = Kinds::new(alloc, &costs)?;
     check_told(rt, &kinds, told);
     for row in both {
@@ -95,105 +95,161 @@ fn check(
     Ok(())
 }
 
+// e : e '+' t | t ;  t : NUM | '(' e ')' ;  where NUM is 1, '+' 2, '(' 3 and ')' 4.
+const E: Symbol = Nonterminal(1);
+
+const T: Symbol = Nonterminal(2);
+
+const NUM: Symbol = Token(1);
+
+const SUMS_TOLD: [Told; 13] = [
+    (Any, E, Least(3)),
+    (Empty, E, Never),
+    (Begins(1), E, Least(3)),
+    (Begins(2), E, Never),
+    (Begins(3), E, Least(7)),
+    (Begins(3), T, Least(6)),
+    (Ends(1), T, Least(2)),
+    (Ends(4), E, Least(7)),
+    (Ends(3), E, Never),
+    (Any, NUM, Least(1)),
+    (Empty, NUM, Never),
+    (Begins(1), NUM, Least(1)),
+    (Ends(2), NUM, Never),
+];
+
+const SUMS_BOTH: [Both; 4] = [
+    (Any, [Token(2), T], Least(3), &[3]),
+    (Begins(3), [E, T], Least(9), &[2, 4, 2, 3, 3]),
+    (Ends(4), [E, T], Least(9), &[2, 3, 4, 2, 3]),
+    (Begins(4), [T, E], Never, &[]),
+];
+
 #[test]
 fn kinds_of_sums(rt: HostRuntime) -> Result<(), Fail> {
-    let [e, t] = [1, 2].map(Nonterminal);
-    let [num, plus] = [1, 2].map(Token);
-    let told = [
-        (Any, e, Least(3)),
-        (Empty, e, Never),
-        (Begins(1), e, Least(3)),
-        (Begins(2), e, Never),
-        (Begins(3), e, Least(7)),
-        (Begins(3), t, Least(6)),
-        (Ends(1), t, Least(2)),
-        (Ends(4), e, Least(7)),
-        (Ends(3), e, Never),
-        (Any, num, Least(1)),
-        (Empty, num, Never),
-        (Begins(1), num, Least(1)),
-        (Ends(2), num, Never),
-    ];
-    let both: [Both; 4] = [
-        (Any, [plus, t], Least(3), &[3]),
-        (Begins(3), [e, t], Least(9), &[2, 4, 2, 3, 3]),
-        (Ends(4), [e, t], Least(9), &[2, 3, 4, 2, 3]),
-        (Begins(4), [t, e], Never, &[]),
-    ];
-    let rules = sums(rt.alloc())?;
-    check(&rt, rt.alloc(), rules, 10_000, &told, &both)?;
+    let grammar = grammar_of_sums(&rt, rt.alloc())?;
+    check(&rt, rt.alloc(), &grammar, 10_000, &SUMS_TOLD, &SUMS_BOTH)?;
     Ok(())
 }
 
 // s : a b ;  a : | 'x' ;  b : 'y' | ;  where 3 nodes are the limit.
+const S: Symbol = Nonterminal(1);
+
+const A: Symbol = Nonterminal(2);
+
+const B: Symbol = Nonterminal(3);
+
+const LINES: [(u16, &[Symbol]); 5] = [
+    (1, &[A, B]),
+    (2, &[]),
+    (2, &[Token(1)]),
+    (3, &[Token(2)]),
+    (3, &[]),
+];
+
+const EMPTY_TOLD: [Told; 8] = [
+    (Any, S, Least(3)),
+    (Empty, S, Least(3)),
+    (Begins(1), S, Large),
+    (Begins(2), S, Large),
+    (Ends(1), S, Large),
+    (Begins(1), A, Least(2)),
+    (Begins(1), B, Never),
+    (Empty, B, Least(1)),
+];
+
+const EMPTY_BOTH: [Both; 6] = [
+    (Empty, [A, B], Least(2), &[2, 5]),
+    (Begins(1), [A, B], Least(3), &[3, 5]),
+    (Begins(2), [A, B], Least(3), &[2, 4]),
+    (Ends(1), [A, B], Least(3), &[3, 5]),
+    (Ends(2), [A, B], Least(3), &[2, 4]),
+    (Any, [S, A], Large, &[]),
+];
+
 #[test]
 fn kinds_over_empty_trees(rt: HostRuntime) -> Result<(), Fail> {
-    let [s, a, b] = [1, 2, 3].map(Nonterminal);
-    let [x, y] = [1, 2].map(Token);
-    let told = [
-        (Any, s, Least(3)),
-        (Empty, s, Least(3)),
-        (Begins(1), s, Large),
-        (Begins(2), s, Large),
-        (Ends(1), s, Large),
-        (Begins(1), a, Least(2)),
-        (Begins(1), b, Never),
-        (Empty, b, Least(1)),
-    ];
-    let both: [Both; 6] = [
-        (Empty, [a, b], Least(2), &[2, 5]),
-        (Begins(1), [a, b], Least(3), &[3, 5]),
-        (Begins(2), [a, b], Least(3), &[2, 4]),
-        (Ends(1), [a, b], Least(3), &[3, 5]),
-        (Ends(2), [a, b], Least(3), &[2, 4]),
-        (Any, [s, a], Large, &[]),
-    ];
-    let lines: &[(u16, &[Symbol])] = &[(1, &[a, b]), (2, &[]), (2, &[x]), (3, &[y]), (3, &[])];
-    let rules = rules(rt.alloc(), lines)?;
-    check(&rt, rt.alloc(), rules, 3, &told, &both)?;
+    let grammar = grammar_of(&rt, 4, 3, rules(rt.alloc(), &LINES)?);
+    check(&rt, rt.alloc(), &grammar, 3, &EMPTY_TOLD, &EMPTY_BOTH)?;
     one_chosen_of_kind();
     chosen_of_kind_exists();
+    Ok(())
+}
+
+// Sizes are added up to the limit.
+fn check_sums_of_costs(rt: &impl Abort, kinds: &Kinds, costs: &Costs) {
+    assert!(rt; kinds.weights().limit() == 10_000 && costs.weights().limit() == 10_000);
+    assert!(rt; kinds.plus(Least(3), Least(4)) == Least(7));
+    assert!(rt; kinds.plus(Least(6_000), Least(6_000)) == Large);
+    assert!(rt; joint_cost(costs, Least(6_000), Never) == Never);
+    assert!(rt; one_node(costs) == Least(1));
+}
+
+const STEPS: [Step; 4] = [
+    Step {
+        from: 5,
+        to: 6,
+        cost: 5,
+    },
+    Step {
+        from: 5,
+        to: 6,
+        cost: 1,
+    },
+    Step {
+        from: 6,
+        to: 1,
+        cost: 1,
+    },
+    Step {
+        from: 6,
+        to: 4,
+        cost: 5,
+    },
+];
+
+fn check_steps(
+    rt: &impl Abort,
+    alloc: Global,
+    kinds: &Kinds,
+    costs: &Costs,
+) -> Result<(), AllocError>
+    requires { costs.now ≡ kinds.now }
+{
+    let steps = kinds.steps_to_ends(alloc, costs)?;
+    assert!(rt; steps.list() == STEPS.as_slice());
     Ok(())
 }
 
 // Each leads from a left side to the last symbol of a right side, and costs the node and the least trees beside it.
 #[test]
 fn steps_to_the_last_tokens_of_sums(rt: HostRuntime) -> Result<(), Fail> {
-    let alloc = rt.alloc();
-    let rules = sums(alloc)?;
-    assert!(rt; Grammar::fits(4, 2, 1, &rules));
-    let grammar = Grammar::new(4, 2, 1, rules);
-    let weights = Weights::nodes(alloc, 4)?;
-    let costs = Costs::new(alloc, &grammar, &weights)?;
-    let kinds = Kinds::new(alloc, &costs)?;
-    let steps = kinds.steps_to_ends(alloc, &costs)?;
-    let wants = [(5, 6, 5), (5, 6, 1), (6, 1, 1), (6, 4, 5)].map(|(from, to, cost)| Step {
-        from,
-        to,
-        cost,
-    });
-    assert_eq!(rt; steps.list(), wants.as_slice());
-    assert_eq!(rt; kinds.weights().limit(), 10_000);
-    assert_eq!(rt; kinds.plus(Least(3), Least(4)), Least(7));
-    assert_eq!(rt; kinds.plus(Least(6_000), Least(6_000)), Large);
-    assert_eq!(rt; joint_cost(&costs, Least(6_000), Never), Never);
-    assert_eq!(rt; one_node(&costs), Least(1));
+    let grammar = grammar_of_sums(&rt, rt.alloc())?;
+    let weights = Weights::nodes(rt.alloc(), 4)?;
+    let costs = Costs::new(rt.alloc(), &grammar, &weights)?;
+    let kinds = Kinds::new(rt.alloc(), &costs)?;
+    check_steps(&rt, rt.alloc(), &kinds, &costs)?;
+    check_sums_of_costs(&rt, &kinds, &costs);
     Ok(())
 }
 
 #[test]
 fn costs_and_numbers(rt: HostRuntime) -> Result<(), Fail> {
-    let alloc = rt.alloc();
-    let weights = Weights::nodes(alloc, 2)?;
-    assert_eq!(rt; step_cost(&weights, Least(7)), Some(7));
-    assert_eq!(rt; step_cost(&weights, Large), Some(10_001));
-    assert_eq!(rt; step_cost(&weights, Never), None);
-    assert_eq!(rt; reach_cost(Reach::Least { cost: 5, origin: 1 }), Least(5));
-    assert_eq!(rt; reach_cost(Reach::Large), Large);
-    assert_eq!(rt; reach_cost(Reach::Never), Never);
-    assert_eq!(rt; symbol_number(4, Token(3)), 3);
-    assert_eq!(rt; symbol_number(4, Nonterminal(2)), 6);
-    let row = Row::new([Never, Least(2)].to_vec(alloc)?);
-    assert_eq!(rt; row.costs(), [Never, Least(2)].as_slice());
+    let weights = Weights::nodes(rt.alloc(), 2)?;
+    assert!(rt; step_cost(&weights, Least(7)) == Some(7));
+    assert!(rt; step_cost(&weights, Large) == Some(10_001));
+    assert!(rt; step_cost(&weights, Never).is_none());
+    assert!(rt; reach_cost(Reach::Least { cost: 5, origin: 1 }) == Least(5));
+    assert!(rt; reach_cost(Reach::Large) == Large);
+    assert!(rt; reach_cost(Reach::Never) == Never);
+    assert!(rt; symbol_number(4, Token(3)) == 3);
+    assert!(rt; symbol_number(4, Nonterminal(2)) == 6);
+    Ok(())
+}
+
+#[test]
+fn rows_keep_their_costs(rt: HostRuntime) -> Result<(), Fail> {
+    let row = Row::new([Never, Least(2)].to_vec(rt.alloc())?);
+    assert!(rt; row.costs() == [Never, Least(2)].as_slice());
     Ok(())
 }

@@ -15,4 +15,6 @@ mod kinds;
 #[cfg(test)]
 mod mutate;
 #[cfg(test)]
+mod prepared;
+#[cfg(test)]
 mod ways;

@@ -3,16 +3,17 @@
 ghost use Rattle.std.specs.Prelude.{◌↔◌, IsTrue, All};
 ghost use Rattle.cs_grammar.specs.Grammar.{IsNumberOf};
 
+use crate::prepared::{grammar_of, grammar_of_sums};
 use cs_cost::Costs;
 use cs_embed::Embeds;
-use cs_grammar::{Grammar, Mark, Rule, Symbol, Weights};
+use cs_grammar::{Grammar, Mark, Symbol, Weights};
 use cs_mutate::Edit::{Delete, Insert, Replace, Swap};
 use cs_mutate::{
     Edit, Edits, Negative, Negatives, Operators, apply, each_mutant_once, edit_fits,
     one_list_of_negatives, poison,
 };
 use cs_pairs::Pairs;
-use cs_samples::{rules, sums};
+use cs_samples::rules;
 use std::alloc::{AllocError, Global};
 use std::process::Abort;
 use std::test::Fail;
@@ -28,12 +29,15 @@ const BEGIN: Mark = Mark::Begin;
 
 const END: Mark = Mark::End;
 
+// An edit, the marks of its pair and their place.
+type Row = (Edit, Mark, Mark, u32);
+
 // A list with the number of its edits, the first of its negatives and their number.
-#[derive(Drop)]
+#[derive(Clone, Copy)]
 struct Case {
     base: &'static [u16],
     edits: u32,
-    first: &'static [(Edit, Mark, Mark, u32)],
+    first: &'static [Row],
     negatives: usize,
 }
 
@@ -62,8 +66,7 @@ fn gather(
     pairs: &Pairs,
     base: &[u16],
 ) -> Result<Vec<Negative>, AllocError> {
-    assert!(rt; base.len() < 100);
-    assert!(rt; are_tokens(pairs.grammar().tokens(), base));
+    assert!(rt; base.len() < 100 && are_tokens(pairs.grammar().tokens(), base));
     let mut negatives = Negatives::new(alloc, pairs, base, ALL);
     let mut found = Vec::new(alloc);
     for _ in 0..100 {
@@ -75,33 +78,43 @@ fn gather(
     Ok(found)
 }
 
-// The list has so many edits and negatives, these first. Each has a list that `poison` refuses at its
-// place.
-fn check_case(
+// Whether the negatives begin with these.
+fn begin_with(found: &[Negative], first: &[Row]) -> bool {
+    for (negative, row) in found.iter().zip(first) {
+        if (negative.edit, negative.left, negative.right, negative.at) != *row {
+            return false;
+        }
+    }
+    true
+}
+
+// The negative has a list that `poison` refuses at its place.
+fn check_negative(
     rt: &impl Abort,
     alloc: Global,
     pairs: &Pairs,
-    case: &Case,
+    base: &[u16],
+    negative: &Negative,
 ) -> Result<(), AllocError> {
     let tokens = pairs.grammar().tokens();
-    assert!(rt; case.base.len() < 100);
-    assert!(rt; are_tokens(tokens, case.base));
-    assert_eq!(rt;
-        count_edits(rt, Edits::new(tokens, case.base, ALL)),
-        case.edits
-    );
+    assert!(rt; base.len() < 100 && are_tokens(tokens, base));
+    assert!(rt; edit_fits(base.len() as u32, tokens, &negative.edit));
+    let list = apply(alloc, base, &negative.edit)?;
+    assert!(rt; list.len() < 200 && are_tokens(tokens, &list));
+    assert!(rt; poison(pairs, &list) == Some(negative.at));
+    Ok(())
+}
+
+// The list has so many edits and negatives, these first.
+fn check_case(rt: &impl Abort, alloc: Global, pairs: &Pairs, case: Case) -> Result<(), AllocError> {
+    let tokens = pairs.grammar().tokens();
+    assert!(rt; case.base.len() < 100 && are_tokens(tokens, case.base));
+    let edits = Edits::new(tokens, case.base, ALL);
+    assert!(rt; count_edits(rt, edits) == case.edits);
     let found = gather(rt, alloc, pairs, case.base)?;
-    assert_eq!(rt; found.len(), case.negatives);
-    for (negative, first) in found.iter().zip(case.first) {
-        let got = (negative.edit, negative.left, negative.right, negative.at);
-        assert_eq!(rt; got, *first);
-    }
+    assert!(rt; found.len() == case.negatives && begin_with(&found, case.first));
     for negative in &found {
-        assert!(rt; edit_fits(case.base.len() as u32, tokens, &negative.edit));
-        let list = apply(alloc, case.base, &negative.edit)?;
-        assert!(rt; are_tokens(tokens, &list));
-        assert!(rt; list.len() < 200);
-        assert_eq!(rt; poison(pairs, &list), Some(negative.at));
+        check_negative(rt, alloc, pairs, case.base, negative)?;
     }
     Ok(())
 }
@@ -109,19 +122,15 @@ fn check_case(
 fn check_cases(
     rt: &impl Abort,
     alloc: Global,
-    tokens: u16,
-    nonterminals: u16,
-    rules: Vec<Rule>,
+    grammar: &Grammar,
     cases: &[Case],
 ) -> Result<(), AllocError> {
-    assert!(rt; Grammar::fits(tokens, nonterminals, 1, &rules));
-    let grammar = Grammar::new(tokens, nonterminals, 1, rules);
-    let weights = Weights::nodes(alloc, tokens)?;
-    let costs = Costs::new(alloc, &grammar, &weights)?;
+    let weights = Weights::nodes(alloc, grammar.tokens())?;
+    let costs = Costs::new(alloc, grammar, &weights)?;
     let embeds = Embeds::new(alloc, &costs)?;
     let pairs = Pairs::new(alloc, &costs, &embeds)?;
     for case in cases {
-        check_case(rt, alloc, &pairs, case)?;
+        check_case(rt, alloc, &pairs, *case)?;
     }
     Ok(())
 }
@@ -143,25 +152,28 @@ fn edits_come_in_order(rt: HostRuntime) -> Result<(), Fail> {
         Swap(1),
     ];
     for want in wants {
-        assert_eq!(rt; edits.next(), Some(want));
+        assert!(rt; edits.next() == Some(want), "{want:?}");
     }
-    assert_eq!(rt; edits.next(), None);
-    assert_eq!(rt; edits.next(), None);
+    assert!(rt; edits.next().is_none());
+    assert!(rt; edits.next().is_none());
+    Ok(())
+}
+
+#[test]
+fn edits_are_counted(rt: HostRuntime) -> Result<(), Fail> {
     let chosen = Operators {
         insert: false,
         swap: false,
         ..ALL
     };
-    assert_eq!(rt; count_edits(&rt, Edits::new(2, &[1, 1, 2], chosen)), 5);
-    assert_eq!(rt; count_edits(&rt, Edits::new(3, &[], ALL)), 3);
-    assert_eq!(rt; count_edits(&rt, Edits::new(0, &[], ALL)), 0);
+    assert!(rt; count_edits(&rt, Edits::new(2, &[1, 1, 2], chosen)) == 5);
+    assert!(rt; count_edits(&rt, Edits::new(3, &[], ALL)) == 3);
+    assert!(rt; count_edits(&rt, Edits::new(0, &[], ALL)) == 0);
     Ok(())
 }
 
 #[test]
 fn edits_change_lists(rt: HostRuntime) -> Result<(), Fail> {
-    let alloc = rt.alloc();
-    let base = [1, 2, 3];
     let cases: [(Edit, &[u16]); 6] = [
         (Delete(1), &[1, 3]),
         (Insert(0, 4), &[4, 1, 2, 3]),
@@ -172,8 +184,14 @@ fn edits_change_lists(rt: HostRuntime) -> Result<(), Fail> {
     ];
     for (edit, want) in cases {
         assert!(rt; edit_fits(3, 4, &edit));
-        assert_eq!(rt; &apply(alloc, &base, &edit)?[..], want);
+        let list = apply(rt.alloc(), &[1, 2, 3], &edit)?;
+        assert!(rt; list.as_slice() == want, "{edit:?}");
     }
+    Ok(())
+}
+
+#[test]
+fn edits_outside_a_list(rt: HostRuntime) -> Result<(), Fail> {
     let outside = [
         Delete(3),
         Insert(4, 1),
@@ -190,48 +208,53 @@ fn edits_change_lists(rt: HostRuntime) -> Result<(), Fail> {
     Ok(())
 }
 
+const NUM: Mark = Mark::Token(1);
+
+const PLUS: Mark = Mark::Token(2);
+
+const OPENING: Mark = Mark::Token(3);
+
+const CLOSING: Mark = Mark::Token(4);
+
+const THREE: Case = Case {
+    base: &[1, 2, 1],
+    edits: 27,
+    first: &[
+        (Delete(0), BEGIN, PLUS, 0),
+        (Delete(1), NUM, NUM, 1),
+        (Delete(2), PLUS, END, 2),
+        (Insert(0, 1), NUM, NUM, 1),
+        (Insert(0, 2), BEGIN, PLUS, 0),
+        (Insert(0, 4), BEGIN, CLOSING, 0),
+        (Insert(1, 2), PLUS, PLUS, 2),
+        (Insert(1, 3), NUM, OPENING, 1),
+    ],
+    negatives: 23,
+};
+
+const ONE: Case = Case {
+    base: &[1],
+    edits: 11,
+    first: &[(Delete(0), BEGIN, END, 0), (Insert(0, 1), NUM, NUM, 1)],
+    negatives: 9,
+};
+
+// A list that has a poisoned pair itself.
+const POISONED: Case = Case {
+    base: &[1, 1],
+    edits: 17,
+    first: &[
+        (Insert(0, 1), NUM, NUM, 1),
+        (Insert(0, 2), BEGIN, PLUS, 0),
+        (Insert(0, 3), NUM, NUM, 2),
+    ],
+    negatives: 13,
+};
+
 #[test]
 fn negatives_of_sums(rt: HostRuntime) -> Result<(), Fail> {
-    const NUM: Mark = Mark::Token(1);
-    const PLUS: Mark = Mark::Token(2);
-    const OPENING: Mark = Mark::Token(3);
-    const CLOSING: Mark = Mark::Token(4);
-    let sums = sums(rt.alloc())?;
-    let cases = [
-        Case {
-            base: &[1, 2, 1],
-            edits: 27,
-            first: &[
-                (Delete(0), BEGIN, PLUS, 0),
-                (Delete(1), NUM, NUM, 1),
-                (Delete(2), PLUS, END, 2),
-                (Insert(0, 1), NUM, NUM, 1),
-                (Insert(0, 2), BEGIN, PLUS, 0),
-                (Insert(0, 4), BEGIN, CLOSING, 0),
-                (Insert(1, 2), PLUS, PLUS, 2),
-                (Insert(1, 3), NUM, OPENING, 1),
-            ],
-            negatives: 23,
-        },
-        Case {
-            base: &[1],
-            edits: 11,
-            first: &[(Delete(0), BEGIN, END, 0), (Insert(0, 1), NUM, NUM, 1)],
-            negatives: 9,
-        },
-        // A list that has a poisoned pair itself.
-        Case {
-            base: &[1, 1],
-            edits: 17,
-            first: &[
-                (Insert(0, 1), NUM, NUM, 1),
-                (Insert(0, 2), BEGIN, PLUS, 0),
-                (Insert(0, 3), NUM, NUM, 2),
-            ],
-            negatives: 13,
-        },
-    ];
-    check_cases(&rt, rt.alloc(), 4, 2, sums, &cases)?;
+    let sums = grammar_of_sums(&rt, rt.alloc())?;
+    check_cases(&rt, rt.alloc(), &sums, &[THREE, ONE, POISONED])?;
     Ok(())
 }
 
@@ -239,14 +262,14 @@ fn negatives_of_sums(rt: HostRuntime) -> Result<(), Fail> {
 #[test]
 fn a_sentence_of_two_has_no_negative(rt: HostRuntime) -> Result<(), Fail> {
     let x = Symbol::Token(1);
-    let twice = rules(rt.alloc(), &[(1, &[x, x])])?;
-    let cases = [Case {
+    let twice = grammar_of(&rt, 1, 1, rules(rt.alloc(), &[(1, &[x, x])])?);
+    let case = Case {
         base: &[1, 1],
         edits: 2,
         first: &[],
         negatives: 0,
-    }];
-    check_cases(&rt, rt.alloc(), 1, 1, twice, &cases)?;
+    };
+    check_cases(&rt, rt.alloc(), &twice, &[case])?;
     each_mutant_once();
     one_list_of_negatives();
     Ok(())

@@ -42,12 +42,10 @@ fn least_ways_of_a_small_net(rt: HostRuntime) -> Result<(), Fail> {
         Reach::Large,
         Reach::Never,
     ];
-    assert_eq!(rt; table.as_slice(), want.as_slice());
+    assert!(rt; table.as_slice() == want.as_slice());
     let firsts = first_steps(alloc, &steps, &table)?;
-    assert_eq!(rt;
-        firsts.as_slice(),
-        [None, Some(2), Some(1), Some(3), None, None].as_slice()
-    );
+    let want = [None, Some(2), Some(1), Some(3), None, None];
+    assert!(rt; firsts.as_slice() == want.as_slice());
     Ok(())
 }
 
@@ -65,9 +63,9 @@ fn first_source_of_equals(rt: HostRuntime) -> Result<(), Fail> {
         Reach::Least { cost: 4, origin: 1 },
         Reach::Least { cost: 5, origin: 0 },
     ];
-    assert_eq!(rt; table.as_slice(), want.as_slice());
+    assert!(rt; table.as_slice() == want.as_slice());
     let firsts = first_steps(alloc, &steps, &table)?;
-    assert_eq!(rt; firsts.as_slice(), [None, None, Some(0)].as_slice());
+    assert!(rt; firsts.as_slice() == [None, None, Some(0)].as_slice());
     Ok(())
 }
 
@@ -90,6 +88,6 @@ fn costs_at_the_limit(rt: HostRuntime) -> Result<(), Fail> {
         Reach::Large,
         Reach::Never,
     ];
-    assert_eq!(rt; table.as_slice(), want.as_slice());
+    assert!(rt; table.as_slice() == want.as_slice());
     Ok(())
 }
