@@ -169,15 +169,19 @@ fn check_contexts(
     Ok(())
 }
 
+fn check_context_goals(rt: &impl Abort, alloc: Global) -> Result<(), AllocError> {
+    let mut rules = sums(alloc)?;
+    rules.push(Rule::new(3, [T, X].to_vec(alloc)?))?;
+    let grammar = grammar_of(rt, 4, 3, rules);
+    let weights = Weights::nodes(alloc, 4)?;
+    let costs = Costs::new(alloc, &grammar, &weights)?;
+    let embeds = Embeds::new(alloc, &costs)?;
+    check_contexts(rt, alloc, &costs, &embeds)
+}
+
 #[test]
 fn context_goals_of_sums(rt: HostRuntime) -> Result<(), Fail> {
-    let mut rules = sums(rt.alloc())?;
-    rules.push(Rule::new(3, [T, X].to_vec(rt.alloc())?))?;
-    let grammar = grammar_of(&rt, 4, 3, rules);
-    let weights = Weights::nodes(rt.alloc(), 4)?;
-    let costs = Costs::new(rt.alloc(), &grammar, &weights)?;
-    let embeds = Embeds::new(rt.alloc(), &costs)?;
-    check_contexts(&rt, rt.alloc(), &costs, &embeds)?;
+    check_context_goals(&rt, rt.alloc())?;
     Ok(())
 }
 
@@ -207,17 +211,26 @@ const THIRD: Mark = Mark::Token(3);
 
 const FOURTH: Mark = Mark::Token(4);
 
+fn count_pairs(rt: &impl Abort, alloc: Global, tables: &Tables) -> Result<u16, AllocError> {
+    let mut feasible = 0u16;
+    for left in [Mark::Begin, FIRST, SECOND, THIRD, FOURTH] {
+        let found = feasible_behind(rt, alloc, tables, left)?;
+        feasible = feasible.saturating_add(found);
+    }
+    Ok(feasible)
+}
+
+fn feasible_pairs_of_sums(rt: &impl Abort, alloc: Global) -> Result<u16, AllocError> {
+    let grammar = grammar_of_sums(rt, alloc)?;
+    let weights = Weights::nodes(alloc, 4)?;
+    let tables = Tables::new(alloc, &grammar, &weights)?;
+    count_pairs(rt, alloc, &tables)
+}
+
 // The pair goals of the sums: 12 of 25 are feasible, as a table of neighbours by hand shows.
 #[test]
 fn pair_goals_of_sums(rt: HostRuntime) -> Result<(), Fail> {
-    let grammar = grammar_of_sums(&rt, rt.alloc())?;
-    let weights = Weights::nodes(rt.alloc(), 4)?;
-    let tables = Tables::new(rt.alloc(), &grammar, &weights)?;
-    let mut feasible = 0u16;
-    for left in [Mark::Begin, FIRST, SECOND, THIRD, FOURTH] {
-        let found = feasible_behind(&rt, rt.alloc(), &tables, left)?;
-        feasible = feasible.saturating_add(found);
-    }
+    let feasible = feasible_pairs_of_sums(&rt, rt.alloc())?;
     assert!(rt; feasible == 12);
     Ok(())
 }
@@ -265,23 +278,41 @@ fn count(rt: &impl Abort, alloc: Global, positives: &mut Positives) -> Result<Co
     Ok(counts)
 }
 
+fn is_at_end(alloc: Global, positives: &mut Positives) -> Result<bool, AllocError> {
+    Ok(positives.next(alloc)?.is_none())
+}
+
+const ALL: Criteria = Criteria {
+    rule: true,
+    cdrc: true,
+    pair: true,
+};
+
 // The goals of the sums by kind: 4 rules, 8 rules in context and 25 pairs, of which all, all and 12 are feasible, as the
 // tests above have them; and none when all were given.
-#[test]
-fn positives_of_sums(rt: HostRuntime) -> Result<(), Fail> {
-    let grammar = grammar_of_sums(&rt, rt.alloc())?;
-    let weights = Weights::nodes(rt.alloc(), 4)?;
-    let tables = Tables::new(rt.alloc(), &grammar, &weights)?;
-    let criteria = Criteria {
-        rule: true,
-        cdrc: true,
-        pair: true,
-    };
-    let mut positives = Positives::new(&tables, criteria);
-    let counts = count(&rt, rt.alloc(), &mut positives)?;
+fn check_positives<'t>(
+    rt: &impl Abort,
+    alloc: Global,
+    tables: &'t Tables<'t>,
+) -> Result<(), AllocError> {
+    let mut positives = Positives::new(tables, ALL);
+    let counts = count(rt, alloc, &mut positives)?;
     assert!(rt; counts.given == [4, 8, 25]);
     assert!(rt; counts.feasible == [4, 8, 12]);
-    assert!(rt; positives.next(rt.alloc())?.is_none());
-    assert!(rt; positives.next(rt.alloc())?.is_none());
+    assert!(rt; is_at_end(alloc, &mut positives)?);
+    assert!(rt; is_at_end(alloc, &mut positives)?);
+    Ok(())
+}
+
+fn check_sums(rt: &impl Abort, alloc: Global) -> Result<(), AllocError> {
+    let grammar = grammar_of_sums(rt, alloc)?;
+    let weights = Weights::nodes(alloc, 4)?;
+    let tables = Tables::new(alloc, &grammar, &weights)?;
+    check_positives(rt, alloc, &tables)
+}
+
+#[test]
+fn positives_of_sums(rt: HostRuntime) -> Result<(), Fail> {
+    check_sums(&rt, rt.alloc())?;
     Ok(())
 }
