@@ -221,15 +221,19 @@ fn check_steps(
     Ok(())
 }
 
+fn check_sums(rt: &impl Abort, alloc: Global) -> Result<(), AllocError> {
+    let grammar = grammar_of_sums(rt, alloc)?;
+    let weights = Weights::nodes(alloc, 4)?;
+    let costs = Costs::new(alloc, &grammar, &weights)?;
+    let kinds = Kinds::new(alloc, &costs)?;
+    check_sums_of_costs(rt, &kinds, &costs);
+    check_steps(rt, alloc, &kinds, &costs)
+}
+
 // Each leads from a left side to the last symbol of a right side, and costs the node and the least trees beside it.
 #[test]
 fn steps_to_the_last_tokens_of_sums(rt: HostRuntime) -> Result<(), Fail> {
-    let grammar = grammar_of_sums(&rt, rt.alloc())?;
-    let weights = Weights::nodes(rt.alloc(), 4)?;
-    let costs = Costs::new(rt.alloc(), &grammar, &weights)?;
-    let kinds = Kinds::new(rt.alloc(), &costs)?;
-    check_steps(&rt, rt.alloc(), &kinds, &costs)?;
-    check_sums_of_costs(&rt, &kinds, &costs);
+    check_sums(&rt, rt.alloc())?;
     Ok(())
 }
 
