@@ -19,74 +19,83 @@ fn said(alloc: Global, yacc: Option<&[u8]>, lex: Option<&[u8]>) -> Result<String
     }
 }
 
+// A yacc file, a lex file, and what is said.
+type Row = (Option<&'static [u8]>, Option<&'static [u8]>, &'static str);
+
+const CAUSES: [Row; 6] = [
+    (Some(SUMS), Some(SCANNER), "read"),
+    (None, Some(SCANNER), "no yacc file"),
+    (Some(b""), None, "no lex file"),
+    (Some(b""), Some(b""), "conform: yacc: Syntax at 0\n"),
+    (Some(SUMS), Some(b""), "conform: lex: Layout at 0\n"),
+    (Some(SUMS), Some(b"%%\n"), "conform: lex: NoRules\n"),
+];
+
 #[test]
 fn causes_in_their_order(rt: HostRuntime) -> Result<(), Fail> {
-    let alloc = rt.alloc();
-    let long = vec![in alloc; b'x'; 1_048_577]?;
-    let rows: [(Option<&[u8]>, Option<&[u8]>, &str); 9] = [
-        (Some(SUMS), Some(SCANNER), "read"),
-        (None, Some(SCANNER), "no yacc file"),
-        (Some(b""), None, "no lex file"),
-        (
-            Some(&long),
-            Some(&long),
-            "conform: yacc: Length above 1048576\n",
-        ),
-        (
-            Some(&long),
-            Some(b""),
-            "conform: yacc: Length above 1048576\n",
-        ),
-        (
-            Some(b""),
-            Some(&long),
-            "conform: lex: Length above 1048576\n",
-        ),
-        (Some(b""), Some(b""), "conform: yacc: Syntax at 0\n"),
-        (Some(SUMS), Some(b""), "conform: lex: Layout at 0\n"),
-        (Some(SUMS), Some(b"%%\n"), "conform: lex: NoRules\n"),
+    for (yacc, lex, want) in CAUSES {
+        let got = said(rt.alloc(), yacc, lex)?;
+        assert!(rt; got.as_str() == want);
+    }
+    Ok(())
+}
+
+// The length of the yacc file is judged first, and that of the lex file before what the yacc file holds.
+#[test]
+fn long_files_in_their_order(rt: HostRuntime) -> Result<(), Fail> {
+    let long = vec![in rt.alloc(); b'x'; 1_048_577]?;
+    let empty: &[u8] = b"";
+    let rows: [(&[u8], &[u8], &str); 3] = [
+        (&long, &long, "conform: yacc: Length above 1048576\n"),
+        (&long, empty, "conform: yacc: Length above 1048576\n"),
+        (empty, &long, "conform: lex: Length above 1048576\n"),
     ];
     for (yacc, lex, want) in rows {
-        let got = said(alloc, yacc, lex)?;
+        let got = said(rt.alloc(), Some(yacc), Some(lex))?;
+        assert!(rt; got.as_str() == want);
+    }
+    Ok(())
+}
+
+const LINES: [(&[u8], &str); 9] = [
+    (b"%%\na return NUM; /*\n", "conform: lex: Unended at 17\n"),
+    (b"%q\n%%\na ;\n", "conform: lex: UnknownDirective at 0\n"),
+    (
+        b"%option yywrap\n%%\na ;\n",
+        "conform: lex: UnknownOption at 8\n",
+    ),
+    (b"%s A\n%%\na ;\n", "conform: lex: StartCondition at 0\n"),
+    (b"%%\na |\n", "conform: lex: DanglingBar at 3\n"),
+    (
+        b"%%\nab/cd return NUM;\n",
+        "conform: lex: Pattern at 3: Trailing at 2\n",
+    ),
+    (
+        b"%%\n{A} ;\n",
+        "conform: lex: Pattern at 3: UndefinedName at 0\n",
+    ),
+    (
+        b"A {B}\nB {A}\n%%\na ;\n",
+        "conform: lex: Pattern at 2: DefinitionCycle at 0\n",
+    ),
+    (
+        b"%%\n((a{1000}){1000}) ;\n",
+        "conform: lex: Pattern at 3: TooManyPositions above 8192\n",
+    ),
+];
+
+#[test]
+fn lines_on_lex_files(rt: HostRuntime) -> Result<(), Fail> {
+    for (lex, want) in LINES {
+        let got = said(rt.alloc(), Some(SUMS), Some(lex))?;
         assert!(rt; got.as_str() == want);
     }
     Ok(())
 }
 
 #[test]
-fn lines_on_lex_files(rt: HostRuntime) -> Result<(), Fail> {
-    let alloc = rt.alloc();
-    let rows: [(&[u8], &str); 9] = [
-        (b"%%\na return NUM; /*\n", "conform: lex: Unended at 17\n"),
-        (b"%q\n%%\na ;\n", "conform: lex: UnknownDirective at 0\n"),
-        (
-            b"%option yywrap\n%%\na ;\n",
-            "conform: lex: UnknownOption at 8\n",
-        ),
-        (b"%s A\n%%\na ;\n", "conform: lex: StartCondition at 0\n"),
-        (b"%%\na |\n", "conform: lex: DanglingBar at 3\n"),
-        (
-            b"%%\nab/cd return NUM;\n",
-            "conform: lex: Pattern at 3: Trailing at 2\n",
-        ),
-        (
-            b"%%\n{A} ;\n",
-            "conform: lex: Pattern at 3: UndefinedName at 0\n",
-        ),
-        (
-            b"A {B}\nB {A}\n%%\na ;\n",
-            "conform: lex: Pattern at 2: DefinitionCycle at 0\n",
-        ),
-        (
-            b"%%\n((a{1000}){1000}) ;\n",
-            "conform: lex: Pattern at 3: TooManyPositions above 8192\n",
-        ),
-    ];
-    for (lex, want) in rows {
-        let got = said(alloc, Some(SUMS), Some(lex))?;
-        assert!(rt; got.as_str() == want);
-    }
-    let states = line(alloc, Refusal::States)?;
+fn the_line_on_states(rt: HostRuntime) -> Result<(), Fail> {
+    let states = line(rt.alloc(), Refusal::States)?;
     assert!(rt; states.as_str() == "conform: lex: States above 16384\n");
     Ok(())
 }

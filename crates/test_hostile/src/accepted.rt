@@ -5,35 +5,52 @@ use crate::ending::is_written;
 use cs_samples::{NUMBER, SCANNER, repeated};
 use std::alloc::{AllocError, Global};
 use std::test::Fail;
+use std::thread::Threads;
 
 const END: &[u8] = b"end goals 5 feasible 3 infeasible 2 large 0 negatives 2\n";
 
+fn takes_yacc<R: Threads + Sync>(rt: &R, alloc: Global, yacc: String) -> Result<bool, AllocError> {
+    is_written(rt, alloc, yacc.as_bytes(), SCANNER, END)
+}
+
+fn takes_lex<R: Threads + Sync>(rt: &R, alloc: Global, lex: String) -> Result<bool, AllocError> {
+    is_written(rt, alloc, NUMBER, lex.as_bytes(), END)
+}
+
+// So many braces within one another.
+fn braces(alloc: Global, front: &str, depth: u32, back: &str) -> Result<String, AllocError> {
+    let mut text = repeated(alloc, front, "{", depth, "")?;
+    text.push_str(repeated(alloc, "", "}", depth, back)?.as_str())?;
+    Ok(text)
+}
+
+const NUMBERS: &str = "%%\n5 return NUM;\n[ ]+ ";
+
 #[test]
 fn long_names_and_blocks(rt: HostRuntime) -> Result<(), Fail> {
-    let alloc = rt.alloc();
-    let token = repeated(alloc, "%token NUM ", "a", 1_000_000, "\n%%\ns : NUM ;\n")?;
-    let mut blocks = repeated(alloc, "%token NUM\n%%\ns : NUM ", "{", 500_000, "")?;
-    blocks.push_str(repeated(alloc, "", "}", 500_000, " ;\n")?.as_str())?;
-    let bracket = repeated(
-        alloc,
-        "D [",
-        "5",
-        100_000,
-        "]\n%%\n{D} return NUM;\n[ ]+ ;\n",
+    let token = repeated(
+        rt.alloc(),
+        "%token NUM ",
+        "a",
+        1_000_000,
+        "\n%%\ns : NUM ;\n",
     )?;
-    let name = repeated(alloc, "", "D", 100_000, " x\n%%\n5 return NUM;\n[ ]+ ;\n")?;
-    let mut action = repeated(alloc, "%%\n5 return NUM;\n[ ]+ ", "{", 50_000, "")?;
-    action.push_str(repeated(alloc, "", "}", 50_000, "\n")?.as_str())?;
-    let rows: [(&[u8], &[u8]); 5] = [
-        (token.as_bytes(), SCANNER),
-        (blocks.as_bytes(), SCANNER),
-        (NUMBER, bracket.as_bytes()),
-        (NUMBER, name.as_bytes()),
-        (NUMBER, action.as_bytes()),
-    ];
-    for (yacc, lex) in rows {
-        assert!(rt; is_written(&rt, alloc, yacc, lex, END)?);
-    }
+    assert!(rt; takes_yacc(&rt, rt.alloc(), token)?);
+    let blocks = braces(rt.alloc(), "%token NUM\n%%\ns : NUM ", 500_000, " ;\n")?;
+    assert!(rt; takes_yacc(&rt, rt.alloc(), blocks)?);
+    Ok(())
+}
+
+#[test]
+fn long_parts_of_a_lex_file(rt: HostRuntime) -> Result<(), Fail> {
+    let back = "]\n%%\n{D} return NUM;\n[ ]+ ;\n";
+    let bracket = repeated(rt.alloc(), "D [", "5", 100_000, back)?;
+    assert!(rt; takes_lex(&rt, rt.alloc(), bracket)?);
+    let back = " x\n%%\n5 return NUM;\n[ ]+ ;\n";
+    let name = repeated(rt.alloc(), "", "D", 100_000, back)?;
+    assert!(rt; takes_lex(&rt, rt.alloc(), name)?);
+    let action = braces(rt.alloc(), NUMBERS, 50_000, "\n")?;
+    assert!(rt; takes_lex(&rt, rt.alloc(), action)?);
     Ok(())
 }
 

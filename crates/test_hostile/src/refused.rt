@@ -5,53 +5,107 @@ use crate::ending::is_refused;
 use cs_samples::{NUMBER, SCANNER, SUMS, repeated};
 use std::alloc::{AllocError, Global};
 use std::test::Fail;
+use std::thread::Threads;
+
+// A yacc file, a lex file, and the line.
+const FILES: [(&[u8], &[u8], &str); 14] = [
+    (b"%token A /* x", SCANNER, "conform: yacc: Unended at 9\n"),
+    (b"%{ x", SCANNER, "conform: yacc: Unended at 0\n"),
+    (
+        b"%%\ns : 'x' { \"}\" ;",
+        SCANNER,
+        "conform: yacc: Unended at 11\n",
+    ),
+    (b"%%\ns : '\\0' ;", SCANNER, "conform: yacc: BadItem at 7\n"),
+    (b"%", SCANNER, "conform: yacc: BadItem at 0\n"),
+    (SUMS, b"%", "conform: lex: UnknownDirective at 0\n"),
+    (b"\n\n%", SCANNER, "conform: yacc: BadItem at 2\n"),
+    (SUMS, b"\n\n%", "conform: lex: UnknownDirective at 2\n"),
+    (
+        SUMS,
+        b"A {B}\nB {A}\n%%\na ;\n",
+        "conform: lex: Pattern at 2: DefinitionCycle at 0\n",
+    ),
+    (
+        SUMS,
+        b"%%\na{1000}{8} ;\na{1000}{8} ;\na{1000}{8} ;\n",
+        "conform: lex: Limit Positions 24000 of 16384\n",
+    ),
+    (
+        SUMS,
+        b"%%\na{1000}{1000}{1000}{1000}{1000} ;\n",
+        "conform: lex: Pattern at 3: TooManyPositions above 8192\n",
+    ),
+    (
+        NUMBER,
+        b"%%\n(a|b)*a(a|b){14} return NUM;\n",
+        "conform: lex: States above 16384\n",
+    ),
+    (
+        b"// a line that ends the file\r%%\rs : 'x' ;\r",
+        SCANNER,
+        "conform: yacc: Syntax at 42\n",
+    ),
+    (SUMS, b"%%\r[0-9]+ return NUM;\r", "conform: lex: NoRules\n"),
+];
 
 #[test]
 fn short_files(rt: HostRuntime) -> Result<(), Fail> {
-    let alloc = rt.alloc();
-    // A yacc file, a lex file, and the line.
-    let rows: [(&[u8], &[u8], &str); 14] = [
-        (b"%token A /* x", SCANNER, "conform: yacc: Unended at 9\n"),
-        (b"%{ x", SCANNER, "conform: yacc: Unended at 0\n"),
-        (
-            b"%%\ns : 'x' { \"}\" ;",
-            SCANNER,
-            "conform: yacc: Unended at 11\n",
-        ),
-        (b"%%\ns : '\\0' ;", SCANNER, "conform: yacc: BadItem at 7\n"),
-        (b"%", SCANNER, "conform: yacc: BadItem at 0\n"),
-        (SUMS, b"%", "conform: lex: UnknownDirective at 0\n"),
-        (b"\n\n%", SCANNER, "conform: yacc: BadItem at 2\n"),
-        (SUMS, b"\n\n%", "conform: lex: UnknownDirective at 2\n"),
-        (
-            SUMS,
-            b"A {B}\nB {A}\n%%\na ;\n",
-            "conform: lex: Pattern at 2: DefinitionCycle at 0\n",
-        ),
-        (
-            SUMS,
-            b"%%\na{1000}{8} ;\na{1000}{8} ;\na{1000}{8} ;\n",
-            "conform: lex: Limit Positions 24000 of 16384\n",
-        ),
-        (
-            SUMS,
-            b"%%\na{1000}{1000}{1000}{1000}{1000} ;\n",
-            "conform: lex: Pattern at 3: TooManyPositions above 8192\n",
-        ),
-        (
-            NUMBER,
-            b"%%\n(a|b)*a(a|b){14} return NUM;\n",
-            "conform: lex: States above 16384\n",
-        ),
-        (
-            b"// a line that ends the file\r%%\rs : 'x' ;\r",
-            SCANNER,
-            "conform: yacc: Syntax at 42\n",
-        ),
-        (SUMS, b"%%\r[0-9]+ return NUM;\r", "conform: lex: NoRules\n"),
-    ];
-    for (yacc, lex, line) in rows {
-        assert!(rt; is_refused(&rt, alloc, yacc, lex, line)?, "{line}");
+    for (yacc, lex, line) in FILES {
+        assert!(rt; is_refused(&rt, rt.alloc(), yacc, lex, line)?, "{line}");
+    }
+    Ok(())
+}
+
+// A front, a piece, how often it stands, a back, and the line.
+type Row = (&'static str, &'static str, u32, &'static str, &'static str);
+
+const LONG_YACC: [Row; 4] = [
+    (
+        "%%\ns :",
+        " 'x'",
+        129,
+        " ;\n",
+        "conform: yacc: Limit RightSide 129 of 128\n",
+    ),
+    (
+        "%%\ns : ",
+        "a",
+        1_000_000,
+        " ;\n",
+        "conform: yacc: Undefined at 7\n",
+    ),
+    ("", "%", 1_048_576, "", "conform: yacc: Syntax at 2\n"),
+    (
+        "%%\ns : ",
+        "{",
+        1_000_000,
+        "",
+        "conform: yacc: Unended at 7\n",
+    ),
+];
+
+#[test]
+fn long_yacc_files(rt: HostRuntime) -> Result<(), Fail> {
+    for (front, piece, times, back, line) in LONG_YACC {
+        let yacc = repeated(rt.alloc(), front, piece, times, back)?;
+        let is_told = is_refused(&rt, rt.alloc(), yacc.as_bytes(), SCANNER, line)?;
+        assert!(rt; is_told, "{line}");
+    }
+    Ok(())
+}
+
+#[test]
+fn files_of_one_byte_alone(rt: HostRuntime) -> Result<(), Fail> {
+    for byte in [0u8, 255] {
+        let file = vec![in rt.alloc(); byte; 1_048_576]?;
+        let yacc = "conform: yacc: BadItem at 0\n";
+        assert!(rt;
+            is_refused(&rt, rt.alloc(), &file, SCANNER, yacc)?,
+            "{byte}"
+        );
+        let lex = "conform: lex: Layout at 0\n";
+        assert!(rt; is_refused(&rt, rt.alloc(), SUMS, &file, lex)?, "{byte}");
     }
     Ok(())
 }
@@ -71,59 +125,46 @@ fn many_tokens(alloc: Global) -> Result<String, AllocError> {
 }
 
 #[test]
-fn long_yacc_files(rt: HostRuntime) -> Result<(), Fail> {
-    let alloc = rt.alloc();
-    let tokens = many_tokens(alloc)?;
-    let letters = repeated(alloc, "%%\ns :", " 'x'", 129, " ;\n")?;
-    let undefined = repeated(alloc, "%%\ns : ", "a", 1_000_000, " ;\n")?;
-    let signs = repeated(alloc, "", "%", 1_048_576, "")?;
-    let zeros = vec![in alloc; 0u8; 1_048_576]?;
-    let full = vec![in alloc; 255u8; 1_048_576]?;
-    let braces = repeated(alloc, "%%\ns : ", "{", 1_000_000, "")?;
-    let rows: [(&[u8], &str); 7] = [
-        (
-            tokens.as_bytes(),
-            "conform: yacc: Limit Tokens 513 of 512\n",
-        ),
-        (
-            letters.as_bytes(),
-            "conform: yacc: Limit RightSide 129 of 128\n",
-        ),
-        (undefined.as_bytes(), "conform: yacc: Undefined at 7\n"),
-        (signs.as_bytes(), "conform: yacc: Syntax at 2\n"),
-        (&zeros, "conform: yacc: BadItem at 0\n"),
-        (&full, "conform: yacc: BadItem at 0\n"),
-        (braces.as_bytes(), "conform: yacc: Unended at 7\n"),
-    ];
-    for (yacc, line) in rows {
-        assert!(rt; is_refused(&rt, alloc, yacc, SCANNER, line)?, "{line}");
-    }
+fn too_many_tokens(rt: HostRuntime) -> Result<(), Fail> {
+    let yacc = many_tokens(rt.alloc())?;
+    let line = "conform: yacc: Limit Tokens 513 of 512\n";
+    assert!(rt; is_refused(&rt, rt.alloc(), yacc.as_bytes(), SCANNER, line)?);
     Ok(())
 }
 
+const LONG_LEX: [Row; 4] = [
+    (
+        "%%\na",
+        "*",
+        1_000_000,
+        " ;\n",
+        "conform: lex: Pattern at 3: TooDeep 1000000 of 200\n",
+    ),
+    (
+        "D ",
+        "a",
+        1_000_000,
+        "\n%%\na ;\n",
+        "conform: lex: Pattern at 2: TooManyPositions above 8192\n",
+    ),
+    ("", "%", 1_048_576, "", "conform: lex: NoRules\n"),
+    (
+        "%%\n",
+        "(",
+        100_000,
+        " ;\n",
+        "conform: lex: Pattern at 3: Syntax at 100000\n",
+    ),
+];
+
 #[test]
 fn lex_files_of_a_million_bytes(rt: HostRuntime) -> Result<(), Fail> {
-    let alloc = rt.alloc();
-    let stars = repeated(alloc, "%%\na", "*", 1_000_000, " ;\n")?;
-    let definition = repeated(alloc, "D ", "a", 1_000_000, "\n%%\na ;\n")?;
-    let signs = repeated(alloc, "", "%", 1_048_576, "")?;
-    let zeros = vec![in alloc; 0u8; 1_048_576]?;
-    let full = vec![in alloc; 255u8; 1_048_576]?;
-    let rows: [(&[u8], &str); 5] = [
-        (
-            stars.as_bytes(),
-            "conform: lex: Pattern at 3: TooDeep 1000000 of 200\n",
-        ),
-        (
-            definition.as_bytes(),
-            "conform: lex: Pattern at 2: TooManyPositions above 8192\n",
-        ),
-        (signs.as_bytes(), "conform: lex: NoRules\n"),
-        (&zeros, "conform: lex: Layout at 0\n"),
-        (&full, "conform: lex: Layout at 0\n"),
-    ];
-    for (lex, line) in rows {
-        assert!(rt; is_refused(&rt, alloc, SUMS, lex, line)?, "{line}");
+    for (front, piece, times, back, line) in LONG_LEX {
+        let lex = repeated(rt.alloc(), front, piece, times, back)?;
+        assert!(rt;
+            is_refused(&rt, rt.alloc(), SUMS, lex.as_bytes(), line)?,
+            "{line}"
+        );
     }
     Ok(())
 }
@@ -150,39 +191,35 @@ fn chained(alloc: Global, last: &str) -> Result<String, AllocError> {
     Ok(text)
 }
 
+// Groups within one another.
+fn groups(alloc: Global) -> Result<String, AllocError> {
+    let mut text = repeated(alloc, "%%\n", "(", 300_000, "a")?;
+    text.push_str(repeated(alloc, "", ")", 300_000, " ;\n")?.as_str())?;
+    Ok(text)
+}
+
+fn refuses_lex<R: Threads + Sync>(
+    rt: &R,
+    alloc: Global,
+    lex: String,
+    line: &str,
+) -> Result<bool, AllocError> {
+    is_refused(rt, alloc, SUMS, lex.as_bytes(), line)
+}
+
 #[test]
 fn deep_patterns(rt: HostRuntime) -> Result<(), Fail> {
-    let alloc = rt.alloc();
-    let mut groups = repeated(alloc, "%%\n", "(", 300_000, "a")?;
-    groups.push_str(repeated(alloc, "", ")", 300_000, " ;\n")?.as_str())?;
-    let open = repeated(alloc, "%%\n", "(", 100_000, " ;\n")?;
-    let doubled = doubled(alloc)?;
-    let chain = chained(alloc, "a")?;
-    let cycle = chained(alloc, "{D0}")?;
-    let rows: [(&[u8], &str); 5] = [
-        (
-            groups.as_bytes(),
-            "conform: lex: Pattern at 3: TooDeep 300000 of 200\n",
-        ),
-        (
-            open.as_bytes(),
-            "conform: lex: Pattern at 3: Syntax at 100000\n",
-        ),
-        (
-            doubled.as_bytes(),
-            "conform: lex: Pattern at 161: TooManyPositions above 8192\n",
-        ),
-        (
-            chain.as_bytes(),
-            "conform: lex: Pattern at 3: TooDeep 20000 of 200\n",
-        ),
-        (
-            cycle.as_bytes(),
-            "conform: lex: Pattern at 3: DefinitionCycle at 0\n",
-        ),
-    ];
-    for (lex, line) in rows {
-        assert!(rt; is_refused(&rt, alloc, SUMS, lex, line)?, "{line}");
-    }
+    let groups = groups(rt.alloc())?;
+    let line = "conform: lex: Pattern at 3: TooDeep 300000 of 200\n";
+    assert!(rt; refuses_lex(&rt, rt.alloc(), groups, line)?);
+    let doubled = doubled(rt.alloc())?;
+    let line = "conform: lex: Pattern at 161: TooManyPositions above 8192\n";
+    assert!(rt; refuses_lex(&rt, rt.alloc(), doubled, line)?);
+    let chain = chained(rt.alloc(), "a")?;
+    let line = "conform: lex: Pattern at 3: TooDeep 20000 of 200\n";
+    assert!(rt; refuses_lex(&rt, rt.alloc(), chain, line)?);
+    let cycle = chained(rt.alloc(), "{D0}")?;
+    let line = "conform: lex: Pattern at 3: DefinitionCycle at 0\n";
+    assert!(rt; refuses_lex(&rt, rt.alloc(), cycle, line)?);
     Ok(())
 }

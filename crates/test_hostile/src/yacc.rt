@@ -20,11 +20,8 @@ fn slow_texts(rt: HostRuntime) -> Result<(), Fail> {
     for (front, piece, times, want) in rows {
         let text = repeated(rt.alloc(), front, piece, times, "")?;
         assert!(rt; text.len() <= MOST_BYTES);
-        assert_eq!(rt;
-            read_yacc(rt.alloc(), text.as_bytes()).err(),
-            Some(want),
-            "{front}{piece}"
-        );
+        let fault = read_yacc(rt.alloc(), text.as_bytes()).err();
+        assert!(rt; fault == Some(want), "{front}{piece}");
     }
     Ok(())
 }
@@ -36,6 +33,6 @@ fn blocks_of_one_line(rt: HostRuntime) -> Result<(), Fail> {
     let file = read_yacc(rt.alloc(), text.as_bytes())
         .ok()
         .ok_or("accepted")?;
-    assert_eq!(rt; file.grammar().rules().len(), 1);
+    assert!(rt; file.grammar().rules().len() == 1);
     Ok(())
 }

@@ -1,10 +1,7 @@
 // Suites of the second format, and suites that weigh bytes, by `run`. What is expected was worked by hand from the definitions:
 // the closed sets over all trees, the least trees by their sizes, the cases in the order of the goals.
 
-use cs_fan::OpenGate;
-use cs_io::MemorySink;
-use cs_run::run;
-use cs_sample_files::{desk, suite_words};
+use crate::ending::written;
 use cs_samples::{LETTER, LETTER_SCANNER, LETTER_SUITE_TWO, SCANNER, SUMS, SUMS_SUITE_TWO};
 use std::alloc::{AllocError, Global};
 use std::test::Fail;
@@ -162,13 +159,10 @@ fn writes<R: Threads + Sync>(
     begin: &[u8],
     end: &[u8],
 ) -> Result<bool, AllocError> {
-    let words = suite_words(alloc, options)?;
-    let mut desk = desk(alloc, Some(files.0), Some(files.1))?;
-    let mut out = MemorySink::new(alloc, 100_000, 100_000, Vec::new(alloc))?;
-    let mut err = MemorySink::new(alloc, 99, 99, Vec::new(alloc))?;
-    let status = run(rt, alloc, &words, &mut desk, &mut out, &mut err, &OpenGate);
-    let text = out.written();
-    Ok(status == 0 && text.starts_with(begin) && text.ends_with(end))
+    match written(rt, alloc, files.0, files.1, options)? {
+        Some(text) => Ok(text.written().starts_with(begin) && text.written().ends_with(end)),
+        None => Ok(false),
+    }
 }
 
 #[test]

@@ -1,11 +1,14 @@
 // Workers: the answers are those of doubling by hand; that workers work at once is seen at gates
 // that wait for each other, each at most so many turns.
 
+ghost use Rattle.std.specs.Prelude.{◌<◌, ◌≤◌, All, length};
+
 use crate::two_flags::{MOST_TURNS, TwoFlags};
 use cs_fan::{Counter, Gate, OpenGate, Work, fan};
 use std::alloc::{AllocError, Global};
 use std::sync::atomic::{AtomicBool, AtomicU64, Ordering};
 use std::test::Fail;
+use std::thread::Threads;
 
 struct Doubling;
 
@@ -44,37 +47,37 @@ impl Gate for Last {
     }
 }
 
+// What comes of doubling the items at a gate, by so many workers.
+fn doubled<R: Threads + Sync, G: Gate + Sync>(
+    rt: &R,
+    alloc: Global,
+    items: &[u32],
+    gate: &G,
+    workers: u16,
+) -> Result<Vec<u32>, AllocError>
+    requires few { length items.now < 1000 }
+    requires small { All (λ item. item < 1000) items.now }
+    requires some_workers { 0 < workers }
+    requires few_workers { workers ≤ 64 }
+{
+    let (counter, mut seat) = Counter::new(alloc, items.len() as u32, workers)?;
+    fan(rt, alloc, items, &Doubling, gate, &counter, &mut seat)
+}
+
 #[test]
 fn answers_stand_in_order_for_each_number_of_workers(rt: HostRuntime) -> Result<(), Fail> {
     let items = [7, 1, 9, 4, 4, 0, 300, 12, 5];
+    let wanted = [14, 2, 18, 8, 8, 0, 600, 24, 10];
     for workers in 1..6 {
-        let (counter, mut seat) = Counter::new(rt.alloc(), 9, workers)?;
-        let answers = fan(
-            &rt,
-            rt.alloc(),
-            &items,
-            &Doubling,
-            &OpenGate,
-            &counter,
-            &mut seat,
-        )?;
-        assert!(rt; answers.as_slice() == [14, 2, 18, 8, 8, 0, 600, 24, 10].as_slice());
+        let answers = doubled(&rt, rt.alloc(), &items, &OpenGate, workers)?;
+        assert!(rt; answers.as_slice() == wanted.as_slice());
     }
     Ok(())
 }
 
 #[test]
 fn no_items_have_no_answers(rt: HostRuntime) -> Result<(), Fail> {
-    let (counter, mut seat) = Counter::new(rt.alloc(), 0, 3)?;
-    let answers = fan(
-        &rt,
-        rt.alloc(),
-        &[],
-        &Doubling,
-        &OpenGate,
-        &counter,
-        &mut seat,
-    )?;
+    let answers = doubled(&rt, rt.alloc(), &[], &OpenGate, 3)?;
     assert!(rt; answers.is_empty());
     Ok(())
 }
@@ -95,16 +98,7 @@ fn seats_are_split_drawn_from_and_joined(rt: HostRuntime) -> Result<(), Fail> {
 #[test]
 fn two_items_meet(rt: HostRuntime) -> Result<(), Fail> {
     let gate = TwoFlags::new();
-    let (counter, mut seat) = Counter::new(rt.alloc(), 2, 2)?;
-    let answers = fan(
-        &rt,
-        rt.alloc(),
-        &[3, 4],
-        &Doubling,
-        &gate,
-        &counter,
-        &mut seat,
-    )?;
+    let answers = doubled(&rt, rt.alloc(), &[3, 4], &gate, 2)?;
     assert!(rt; answers.as_slice() == [6, 8].as_slice());
     assert!(rt; gate.have_met());
     Ok(())
@@ -113,22 +107,14 @@ fn two_items_meet(rt: HostRuntime) -> Result<(), Fail> {
 // Where the list is divided beforehand, one of the eight waits for an item behind it.
 #[test]
 fn one_item_waits_for_seven(rt: HostRuntime) -> Result<(), Fail> {
+    let items = [1, 2, 3, 4, 5, 6, 7, 8];
     for index in 0..8 {
         let gate = Last {
             index,
             entered: AtomicU64::new(0),
             saw: AtomicBool::new(false),
         };
-        let (counter, mut seat) = Counter::new(rt.alloc(), 8, 2)?;
-        let answers = fan(
-            &rt,
-            rt.alloc(),
-            &[1, 2, 3, 4, 5, 6, 7, 8],
-            &Doubling,
-            &gate,
-            &counter,
-            &mut seat,
-        )?;
+        let answers = doubled(&rt, rt.alloc(), &items, &gate, 2)?;
         assert!(rt; answers.as_slice() == [2, 4, 6, 8, 10, 12, 14, 16].as_slice());
         assert!(rt; gate.saw.load(Ordering::SeqCst));
     }

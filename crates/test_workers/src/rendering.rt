@@ -6,13 +6,15 @@ ghost use Rattle.cs_scan.specs.Compared.{HasKinds, HasLiterals};
 
 use cs_automaton::Automaton;
 use cs_fan::{Counter, OpenGate, fan};
+use cs_lex::LexFile;
 use cs_lexeme::Lexemes;
 use cs_render::Rendered;
 use cs_render_work::RenderWork;
-use cs_sample_files::read_files;
+use cs_sample_files::{Trouble, read_files};
 use cs_samples::{SCANNER, SUMS};
 use cs_scan::Scanner;
 use std::alloc::{AllocError, Global};
+use std::process::Abort;
 use std::test::Fail;
 use std::thread::Threads;
 
@@ -42,11 +44,36 @@ fn is_text(rendered: &Rendered, wanted: &[u8]) -> bool {
     }
 }
 
-// Worked by hand: the lexeme of NUM is `0`, and one space stands between two lexemes.
-#[test]
-fn texts_stand_in_the_order_of_the_lists(rt: HostRuntime) -> Result<(), Fail> {
-    let alloc = rt.alloc();
-    let (_, file) = read_files(alloc, SUMS, SCANNER)?;
+// Whether these are the texts of the lists.
+fn are_texts(texts: &[Rendered]) -> bool {
+    texts.len() == 3
+        && is_text(&texts[0], b"0")
+        && is_text(&texts[1], b"0 0")
+        && is_text(&texts[2], b"")
+}
+
+// The lists are rendered by some numbers of workers.
+fn check<R: Abort + Threads + Sync>(
+    rt: &R,
+    alloc: Global,
+    work: &RenderWork<'_>,
+) -> Result<(), AllocError>
+    requires kinds { HasKinds work.now.scanner.now }
+    requires literals { HasLiterals work.now.scanner.now }
+    requires tokens { length work.now.lexemes.now ≡ 4 }
+{
+    for workers in [2, 1, 3, 4, 5] {
+        let texts = rendered(rt, alloc, work, workers)?;
+        assert!(rt; are_texts(&texts), "{workers}");
+    }
+    Ok(())
+}
+
+fn check_file<R: Abort + Threads + Sync>(
+    rt: &R,
+    alloc: Global,
+    file: &LexFile,
+) -> Result<(), Trouble> {
     let automaton = Automaton::new(alloc, file.patterns())?;
     let scanner = Scanner {
         automaton: &automaton,
@@ -59,12 +86,13 @@ fn texts_stand_in_the_order_of_the_lists(rt: HostRuntime) -> Result<(), Fail> {
         lexemes: &lexemes,
         separator: b" ",
     };
-    for workers in [2, 1, 3, 4, 5] {
-        let texts = rendered(&rt, alloc, &work, workers)?;
-        assert_eq!(rt; texts.len(), 3);
-        assert!(rt; is_text(&texts[0], b"0"));
-        assert!(rt; is_text(&texts[1], b"0 0"));
-        assert!(rt; is_text(&texts[2], b""));
-    }
+    Ok(check(rt, alloc, &work)?)
+}
+
+// Worked by hand: the lexeme of NUM is `0`, and one space stands between two lexemes.
+#[test]
+fn texts_stand_in_the_order_of_the_lists(rt: HostRuntime) -> Result<(), Fail> {
+    let (_, file) = read_files(rt.alloc(), SUMS, SCANNER)?;
+    check_file(&rt, rt.alloc(), &file)?;
     Ok(())
 }
