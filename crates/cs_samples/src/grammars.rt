@@ -1,7 +1,13 @@
 // Grammars, by their rules.
 
-use cs_grammar::{Rule, Symbol};
+ghost use Rattle.std.specs.Prelude.{◌≡◌, IfOk};
+
+use crate::error::SampleError;
+use cs_grammar::{Grammar, Rule, Symbol};
 use std::alloc::{AllocError, Global};
+
+/// Rules, as their left and right sides.
+pub type Lines = &'static [(u16, &'static [Symbol])];
 
 /// The rules of these left sides and right sides.
 pub fn rules(alloc: Global, lines: &[(u16, &[Symbol])]) -> Result<Vec<Rule>, AllocError> {
@@ -26,4 +32,22 @@ pub fn sums(alloc: Global) -> Result<Vec<Rule>, AllocError> {
             (2, &[opening, e, closing]),
         ],
     )
+}
+
+/// The grammar of these rules with the start symbol 1.
+pub fn grammar_of(tokens: u16, nonterminals: u16, rules: Vec<Rule>) -> Result<Grammar, SampleError>
+    ensures tokens { IfOk result (λ grammar. grammar.tokens ≡ tokens) }
+    ensures nonterminals { IfOk result (λ grammar. grammar.nonterminals ≡ nonterminals) }
+{
+    if !Grammar::fits(tokens, nonterminals, 1, &rules) {
+        return Err(SampleError::Grammar);
+    }
+    Ok(Grammar::new(tokens, nonterminals, 1, rules))
+}
+
+/// The grammar of sums.
+pub fn grammar_of_sums(alloc: Global) -> Result<Grammar, SampleError>
+    ensures { IfOk result (λ grammar. grammar.tokens ≡ 4) }
+{
+    grammar_of(4, 2, sums(alloc)?)
 }

@@ -1,13 +1,17 @@
-//! Samples for tests: grammars as tables of their rules' sides, texts of files, suites that were written by hand, and texts that
-//! repeat a piece.
+//! Samples for tests: grammars as tables of their rules' sides, weights, texts of files, suites that were written by hand, and
+//! texts that repeat a piece.
 #![tactic(auto)]
 
+mod error;
 mod files;
 mod grammars;
 mod suites;
 mod texts;
+mod weights;
 
+pub use error::SampleError;
 pub use files::{C_SCANNER, LETTER, LETTER_SCANNER, NUMBER, SCANNER, SUMS};
-pub use grammars::{rules, sums};
+pub use grammars::{Lines, grammar_of, grammar_of_sums, rules, sums};
 pub use suites::{LETTER_SUITE_ONE, LETTER_SUITE_TWO, SUMS_SUITE_ONE, SUMS_SUITE_TWO};
 pub use texts::{repeated, words};
+pub use weights::weights_of;

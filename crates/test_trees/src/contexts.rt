@@ -1,11 +1,11 @@
 ghost use Rattle.std.specs.Prelude.{◌≡◌};
 ghost use Rattle.cs_grammar.specs.Grammar.{IsNumberOf};
 
-use crate::prepared::{Lines, chain, grammar_of, weights_of};
+use crate::prepared::chain;
 use cs_cost::{Cost, Costs};
 use cs_embed::Embeds;
 use cs_grammar::{Grammar, Symbol, Weights, number_of};
-use cs_samples::rules;
+use cs_samples::{Lines, SampleError, grammar_of, rules, weights_of};
 use std::alloc::{AllocError, Global};
 use std::process::Abort;
 use std::test::Fail;
@@ -57,13 +57,13 @@ fn check_all(
 // Rules, the numbers of four tokens, and what is told of each nonterminal, where 200 is the limit.
 type Row = (Lines, [u32; 4], [Want<'static>; 4]);
 
-fn check(rt: &impl Abort, alloc: Global, row: Row) -> Result<(), AllocError> {
+fn check(rt: &impl Abort, alloc: Global, row: Row) -> Result<(), SampleError> {
     let (lines, numbers, wants) = row;
-    let grammar = grammar_of(rt, 4, 14, rules(alloc, lines)?);
-    let weights = weights_of(rt, alloc, &numbers, 200)?;
+    let grammar = grammar_of(4, 14, rules(alloc, lines)?)?;
+    let weights = weights_of(alloc, &numbers, 200)?;
     let costs = Costs::new(alloc, &grammar, &weights)?;
     let embeds = Embeds::new(alloc, &costs)?;
-    check_all(rt, &costs, &embeds, &wants)
+    Ok(check_all(rt, &costs, &embeds, &wants)?)
 }
 
 const A: Symbol = Symbol::Nonterminal(2);
@@ -168,7 +168,7 @@ fn check_chain(
 #[test]
 fn context_at_the_end_of_a_chain(rt: HostRuntime) -> Result<(), Fail> {
     let outer = outer_rules(rt.alloc())?;
-    let grammar = grammar_of(&rt, 1, 1024, chain(rt.alloc(), false)?);
+    let grammar = grammar_of(1, 1024, chain(rt.alloc(), false)?)?;
     check_chain(&rt, rt.alloc(), &grammar, &outer)?;
     Ok(())
 }

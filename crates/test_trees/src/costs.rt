@@ -1,9 +1,9 @@
-use crate::prepared::{Lines, chain, grammar_of, weights_of};
+use crate::prepared::chain;
 use cs_cost::Cost::{Large, Least, Never};
 use cs_cost::{Cost, Costs, cost_of, is_below, plus};
 use cs_grammar::Symbol::Nonterminal;
 use cs_grammar::{Derivation, Symbol, Weights};
-use cs_samples::rules;
+use cs_samples::{Lines, SampleError, grammar_of, rules, weights_of};
 use std::alloc::{AllocError, Global};
 use std::process::Abort;
 use std::test::Fail;
@@ -30,13 +30,13 @@ fn compare(
     Ok(())
 }
 
-fn check(rt: &impl Abort, alloc: Global, row: Row) -> Result<(), AllocError> {
+fn check(rt: &impl Abort, alloc: Global, row: Row) -> Result<(), SampleError> {
     let (lines, numbers, limit, want, code) = row;
     assert!(rt; numbers.len() <= 512);
-    let grammar = grammar_of(rt, numbers.len() as u16, 1024, rules(alloc, lines)?);
-    let weights = weights_of(rt, alloc, numbers, limit)?;
+    let grammar = grammar_of(numbers.len() as u16, 1024, rules(alloc, lines)?)?;
+    let weights = weights_of(alloc, numbers, limit)?;
     let costs = Costs::new(alloc, &grammar, &weights)?;
-    compare(rt, alloc, &costs, want, code)
+    Ok(compare(rt, alloc, &costs, want, code)?)
 }
 
 const START: Symbol = Symbol::Nonterminal(1);
@@ -98,8 +98,8 @@ fn least_trees_by_weights(rt: HostRuntime) -> Result<(), Fail> {
     Ok(())
 }
 
-fn check_chain(rt: &impl Abort, alloc: Global, backwards: bool) -> Result<(), AllocError> {
-    let grammar = grammar_of(rt, 1, 1024, chain(alloc, backwards)?);
+fn check_chain(rt: &impl Abort, alloc: Global, backwards: bool) -> Result<(), SampleError> {
+    let grammar = grammar_of(1, 1024, chain(alloc, backwards)?)?;
     let weights = Weights::nodes(alloc, 1)?;
     let costs = Costs::new(alloc, &grammar, &weights)?;
     assert!(rt; costs.cost(Nonterminal(1)) == Least(1025));

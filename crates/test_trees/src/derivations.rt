@@ -1,6 +1,6 @@
-use crate::prepared::{derivation_of, grammar_of_sums};
+use crate::prepared::derivation_of;
 use cs_grammar::{Derivation, ExpandError, Grammar, Weights, byte_weight, expand};
-use cs_samples::sums;
+use cs_samples::{grammar_of_sums, sums};
 use std::alloc::{AllocError, Global};
 use std::process::Abort;
 use std::test::Fail;
@@ -28,7 +28,7 @@ fn is_wanted(got: &Result<Vec<u16>, ExpandError>, want: Result<&[u16], ExpandErr
 // Worked by hand from the grammar; numbers of rules begin with 1.
 #[test]
 fn derivations_of_sums(rt: HostRuntime) -> Result<(), Fail> {
-    let grammar = grammar_of_sums(&rt, rt.alloc())?;
+    let grammar = grammar_of_sums(rt.alloc())?;
     assert!(rt; (grammar.tokens(), grammar.nonterminals(), grammar.start()) == (4, 2, 1));
     assert!(rt; grammar.rules().len() == 4);
     let rows: [(&[u16], Result<&[u16], ExpandError>); 6] = [

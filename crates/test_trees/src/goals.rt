@@ -1,7 +1,8 @@
-use crate::prepared::{derivation_of, grammar_of, grammar_of_sums};
+use crate::prepared::derivation_of;
 use cs_goals::{Criteria, Goal, Goals, fits_goal, meets};
+use cs_grammar::Mark::{Begin, End, Token};
 use cs_grammar::{Grammar, Mark, Symbol, expand};
-use cs_samples::rules;
+use cs_samples::{grammar_of, grammar_of_sums, rules};
 use std::alloc::{AllocError, Global};
 use std::process::Abort;
 use std::test::Fail;
@@ -23,18 +24,6 @@ const ALL: Criteria = Criteria {
     cdrc: true,
     pair: true,
 };
-
-const BEGIN: Mark = Mark::Begin;
-
-const END: Mark = Mark::End;
-
-const FIRST: Mark = Mark::Token(1);
-
-const SECOND: Mark = Mark::Token(2);
-
-const THIRD: Mark = Mark::Token(3);
-
-const FOURTH: Mark = Mark::Token(4);
 
 // Whether these goals, which are of the grammar, come next.
 fn come(grammar: &Grammar, goals: &mut Goals, wants: &[Goal]) -> bool {
@@ -66,13 +55,13 @@ fn contexts_of_sums() -> [Goal; 8] {
 // Listed by hand from the definition of the three lists.
 #[test]
 fn goals_of_sums_in_order(rt: HostRuntime) -> Result<(), Fail> {
-    let grammar = grammar_of_sums(&rt, rt.alloc())?;
+    let grammar = grammar_of_sums(rt.alloc())?;
     let mut goals = Goals::new(&grammar, ALL);
     let rules = [1, 2, 3, 4].map(Goal::Rule);
     assert!(rt; come(&grammar, &mut goals, &rules));
     assert!(rt; come(&grammar, &mut goals, &contexts_of_sums()));
-    for left in [BEGIN, FIRST, SECOND, THIRD, FOURTH] {
-        let pairs = [FIRST, SECOND, THIRD, FOURTH, END].map(|right| pair(left, right));
+    for left in [Begin, Token(1), Token(2), Token(3), Token(4)] {
+        let pairs = [Token(1), Token(2), Token(3), Token(4), End].map(|right| pair(left, right));
         assert!(rt; come(&grammar, &mut goals, &pairs));
     }
     assert!(rt; is_at_end(&mut goals));
@@ -89,15 +78,15 @@ fn are_all(grammar: &Grammar, criteria: Criteria, wants: &[Goal]) -> bool {
 #[test]
 fn chosen_goals_of_small_grammars(rt: HostRuntime) -> Result<(), Fail> {
     // s : ;  with no token, and  s : A ;  with A 1.
-    let empty = grammar_of(&rt, 0, 1, rules(rt.alloc(), &[(1, &[])])?);
-    assert!(rt; are_all(&empty, ALL, &[Goal::Rule(1), pair(BEGIN, END)]));
-    let one = grammar_of(&rt, 1, 1, rules(rt.alloc(), &[(1, &[Symbol::Token(1)])])?);
+    let empty = grammar_of(0, 1, rules(rt.alloc(), &[(1, &[])])?)?;
+    assert!(rt; are_all(&empty, ALL, &[Goal::Rule(1), pair(Begin, End)]));
+    let one = grammar_of(1, 1, rules(rt.alloc(), &[(1, &[Symbol::Token(1)])])?)?;
     let pairs = Criteria { rule: false, ..ALL };
     let wants = [
-        pair(BEGIN, FIRST),
-        pair(BEGIN, END),
-        pair(FIRST, FIRST),
-        pair(FIRST, END),
+        pair(Begin, Token(1)),
+        pair(Begin, End),
+        pair(Token(1), Token(1)),
+        pair(Token(1), End),
     ];
     assert!(rt; are_all(&one, pairs, &wants));
     Ok(())
@@ -106,7 +95,7 @@ fn chosen_goals_of_small_grammars(rt: HostRuntime) -> Result<(), Fail> {
 // Numbers that the grammar does not have, and marks on the wrong side.
 #[test]
 fn goals_that_do_not_fit(rt: HostRuntime) -> Result<(), Fail> {
-    let grammar = grammar_of_sums(&rt, rt.alloc())?;
+    let grammar = grammar_of_sums(rt.alloc())?;
     let goals = [
         Goal::Rule(0),
         Goal::Rule(5),
@@ -115,10 +104,10 @@ fn goals_that_do_not_fit(rt: HostRuntime) -> Result<(), Fail> {
         context(1, 1, 3),
         context(1, 4, 3),
         context(5, 1, 1),
-        pair(Mark::End, Mark::Token(1)),
-        pair(Mark::Begin, Mark::Begin),
-        pair(Mark::Token(5), Mark::End),
-        pair(Mark::Begin, Mark::Token(0)),
+        pair(End, Token(1)),
+        pair(Begin, Begin),
+        pair(Token(5), End),
+        pair(Begin, Token(0)),
     ];
     for goal in goals {
         assert!(rt; !fits_goal(&grammar, &goal), "{goal:?}");
@@ -148,7 +137,7 @@ const NESTED: &[u16] = &[2, 4, 2, 3];
 // Read off the trees drawn by hand.
 #[test]
 fn which_derivations_meet_a_goal(rt: HostRuntime) -> Result<(), Fail> {
-    let grammar = grammar_of_sums(&rt, rt.alloc())?;
+    let grammar = grammar_of_sums(rt.alloc())?;
     let cases: [(&[u16], Goal, bool); 16] = [
         (NESTED, Goal::Rule(4), true),
         (&[2, 3], Goal::Rule(4), false),
@@ -160,13 +149,13 @@ fn which_derivations_meet_a_goal(rt: HostRuntime) -> Result<(), Fail> {
         // Rule 3 is used, but not below rule 1.
         (&[1, 2, 3, 4, 2, 3], context(1, 3, 4), true),
         (&[1, 2, 3, 4, 2, 3], context(1, 3, 3), false),
-        (NESTED, pair(Mark::Begin, Mark::Token(3)), true),
-        (NESTED, pair(Mark::Token(3), Mark::Token(1)), true),
-        (NESTED, pair(Mark::Token(4), Mark::End), true),
-        (NESTED, pair(Mark::Token(1), Mark::Token(3)), false),
-        (NESTED, pair(Mark::Token(3), Mark::Token(4)), false),
-        (NESTED, pair(Mark::Begin, Mark::Token(1)), false),
-        (&[2, 3], pair(Mark::Begin, Mark::End), false),
+        (NESTED, pair(Begin, Token(3)), true),
+        (NESTED, pair(Token(3), Token(1)), true),
+        (NESTED, pair(Token(4), End), true),
+        (NESTED, pair(Token(1), Token(3)), false),
+        (NESTED, pair(Token(3), Token(4)), false),
+        (NESTED, pair(Begin, Token(1)), false),
+        (&[2, 3], pair(Begin, End), false),
     ];
     for (code, goal, want) in cases {
         let got = is_met(&rt, rt.alloc(), &grammar, code, &goal)?;

@@ -4,7 +4,6 @@ ghost use Rattle.std.specs.Prelude.{◌≡◌, IsTrue};
 ghost use Rattle.cs_grammar.specs.Grammar.{IsSymbolOf};
 ghost use Rattle.cs_kinds.specs.Kinds.{IsKind};
 
-use crate::prepared::{grammar_of, grammar_of_sums, weights_of};
 use cs_cost::Cost::{Large, Least, Never};
 use cs_cost::{Cost, Costs};
 use cs_grammar::Symbol::{Nonterminal, Token};
@@ -14,7 +13,7 @@ use cs_kinds::{
     Kinds, Row, Sweep, TreeKind, chosen_of_kind_exists, joint_cost, kind_into, one_chosen_of_kind,
     one_node, reach_cost, step_cost, symbol_number,
 };
-use cs_samples::rules;
+use cs_samples::{SampleError, grammar_of, grammar_of_sums, rules, weights_of};
 use cs_ways::{Reach, Step};
 use std::alloc::{AllocError, Global};
 use std::process::Abort;
@@ -82,10 +81,10 @@ fn check(
     limit: u32,
     told: &[Told],
     both: &[Both],
-) -> Result<(), AllocError>
+) -> Result<(), SampleError>
     requires { grammar.now.tokens ≡ 4 }
 {
-    let weights = weights_of(rt, alloc, &[1, 1, 1, 1], limit)?;
+    let weights = weights_of(alloc, &[1, 1, 1, 1], limit)?;
     let costs = Costs::new(alloc, grammar, &weights)?;
     let kinds = Kinds::new(alloc, &costs)?;
     check_told(rt, &kinds, told);
@@ -127,7 +126,7 @@ const SUMS_BOTH: [Both; 4] = [
 
 #[test]
 fn kinds_of_sums(rt: HostRuntime) -> Result<(), Fail> {
-    let grammar = grammar_of_sums(&rt, rt.alloc())?;
+    let grammar = grammar_of_sums(rt.alloc())?;
     check(&rt, rt.alloc(), &grammar, 10_000, &SUMS_TOLD, &SUMS_BOTH)?;
     Ok(())
 }
@@ -169,7 +168,7 @@ const EMPTY_BOTH: [Both; 6] = [
 
 #[test]
 fn kinds_over_empty_trees(rt: HostRuntime) -> Result<(), Fail> {
-    let grammar = grammar_of(&rt, 4, 3, rules(rt.alloc(), &LINES)?);
+    let grammar = grammar_of(4, 3, rules(rt.alloc(), &LINES)?)?;
     check(&rt, rt.alloc(), &grammar, 3, &EMPTY_TOLD, &EMPTY_BOTH)?;
     one_chosen_of_kind();
     chosen_of_kind_exists();
@@ -221,13 +220,13 @@ fn check_steps(
     Ok(())
 }
 
-fn check_sums(rt: &impl Abort, alloc: Global) -> Result<(), AllocError> {
-    let grammar = grammar_of_sums(rt, alloc)?;
+fn check_sums(rt: &impl Abort, alloc: Global) -> Result<(), SampleError> {
+    let grammar = grammar_of_sums(alloc)?;
     let weights = Weights::nodes(alloc, 4)?;
     let costs = Costs::new(alloc, &grammar, &weights)?;
     let kinds = Kinds::new(alloc, &costs)?;
     check_sums_of_costs(rt, &kinds, &costs);
-    check_steps(rt, alloc, &kinds, &costs)
+    Ok(check_steps(rt, alloc, &kinds, &costs)?)
 }
 
 // Each leads from a left side to the last symbol of a right side, and costs the node and the least trees beside it.

@@ -3,7 +3,6 @@
 ghost use Rattle.std.specs.Prelude.{◌↔◌, IsTrue, All};
 ghost use Rattle.cs_grammar.specs.Grammar.{IsNumberOf};
 
-use crate::prepared::{grammar_of, grammar_of_sums};
 use cs_cost::Costs;
 use cs_embed::Embeds;
 use cs_grammar::{Grammar, Mark, Symbol, Weights};
@@ -13,7 +12,7 @@ use cs_mutate::{
     one_list_of_negatives, poison,
 };
 use cs_pairs::Pairs;
-use cs_samples::rules;
+use cs_samples::{grammar_of, grammar_of_sums, rules};
 use std::alloc::{AllocError, Global};
 use std::process::Abort;
 use std::test::Fail;
@@ -253,7 +252,7 @@ const POISONED: Case = Case {
 
 #[test]
 fn negatives_of_sums(rt: HostRuntime) -> Result<(), Fail> {
-    let sums = grammar_of_sums(&rt, rt.alloc())?;
+    let sums = grammar_of_sums(rt.alloc())?;
     check_cases(&rt, rt.alloc(), &sums, &[THREE, ONE, POISONED])?;
     Ok(())
 }
@@ -262,7 +261,7 @@ fn negatives_of_sums(rt: HostRuntime) -> Result<(), Fail> {
 #[test]
 fn a_sentence_of_two_has_no_negative(rt: HostRuntime) -> Result<(), Fail> {
     let x = Symbol::Token(1);
-    let twice = grammar_of(&rt, 1, 1, rules(rt.alloc(), &[(1, &[x, x])])?);
+    let twice = grammar_of(1, 1, rules(rt.alloc(), &[(1, &[x, x])])?)?;
     let case = Case {
         base: &[1, 1],
         edits: 2,

@@ -1,15 +1,9 @@
-// Grammars, weights and lists of rules, made before anything is asked of them.
+// Rules and lists of rules, made before anything is asked of them.
 
-ghost use Rattle.std.specs.Prelude.{◌≡◌, ◌↔◌, All, IfOk, IsTrue, length};
-ghost use Rattle.cs_grammar.specs.Grammar.{IsNumberOf};
+ghost use Rattle.std.specs.Prelude.{◌≡◌, IfOk};
 
-use cs_grammar::{Derivation, Grammar, Rule, Symbol, Weights};
-use cs_samples::sums;
+use cs_grammar::{Derivation, Rule, Symbol};
 use std::alloc::{AllocError, Global};
-use std::process::Abort;
-
-/// Rules, as their left and right sides.
-pub type Lines = &'static [(u16, &'static [Symbol])];
 
 /// n1 : n2 ;  down to  n1024 : 'x' ;  in this order, or backwards.
 pub fn chain(alloc: Global, backwards: bool) -> Result<Vec<Rule>, AllocError> {
@@ -24,44 +18,6 @@ pub fn chain(alloc: Global, backwards: bool) -> Result<Vec<Rule>, AllocError> {
         rules.push(Rule::new(number, [symbol].to_vec(alloc)?))?;
     }
     Ok(rules)
-}
-
-/// The grammar of these rules with the start symbol 1.
-pub fn grammar_of(rt: &impl Abort, tokens: u16, nonterminals: u16, rules: Vec<Rule>) -> Grammar
-    ensures tokens { result.tokens ≡ tokens }
-    ensures nonterminals { result.nonterminals ≡ nonterminals }
-{
-    assert!(rt; Grammar::fits(tokens, nonterminals, 1, &rules));
-    Grammar::new(tokens, nonterminals, 1, rules)
-}
-
-/// The sums of an arithmetic grammar.
-pub fn grammar_of_sums(rt: &impl Abort, alloc: Global) -> Result<Grammar, AllocError>
-    ensures { IfOk result (λ grammar. grammar.tokens ≡ 4) }
-{
-    Ok(grammar_of(rt, 4, 2, sums(alloc)?))
-}
-
-fn are_weights(numbers: &[u32]) -> bool
-    ensures { IsTrue result ↔ All (IsNumberOf 1000000) numbers.now }
-{
-    numbers
-        .iter()
-        .all(|number| 0 < *number && *number <= 1_000_000)
-}
-
-/// The weights of tokens with these numbers.
-pub fn weights_of(
-    rt: &impl Abort,
-    alloc: Global,
-    numbers: &[u32],
-    limit: u32,
-) -> Result<Weights, AllocError>
-    ensures { IfOk result (λ weights. length weights.numbers ≡ length numbers.now) }
-{
-    assert!(rt; 0 < limit && limit <= 1_000_000);
-    assert!(rt; are_weights(numbers));
-    Ok(Weights::new(numbers.to_vec(alloc)?, limit))
 }
 
 /// A list of rules.
