@@ -1,32 +1,18 @@
 ghost use Rattle.std.specs.Prelude.{◌<◌, ◌^◌, IfOk, IsTrue, length};
 ghost use Rattle.cs_goals.specs.Meets.{IsMeeting};
 
-use crate::prepared::grammar_of_sums;
 use cs_cases::{Cases, Named};
 use cs_goals::{Goal, meets};
+use cs_grammar::Mark::{Begin, End, Token};
 use cs_grammar::{Derivation, Grammar, Mark, expand};
+use cs_samples::grammar_of_sums;
 use std::alloc::{AllocError, Global};
 use std::process::Abort;
 use std::test::Fail;
 
-// A goal, the code of a tree that meets it, and what is told of them.
-type Row = (Goal, &'static [u16], Named);
-
-fn named(case: u64, first: u64, fresh: bool) -> Named {
-    Named { case, first, fresh }
-}
-
-fn context(outer: u16, place: u16, inner: u16) -> Goal {
-    Goal::Context {
-        outer,
-        place,
-        inner,
-    }
-}
-
-fn pair(left: Mark, right: Mark) -> Goal {
-    Goal::Pair { left, right }
-}
+// The code of a tree, and what is told of it: the number of its case, that of the first goal that the case meets, and whether it
+// is new.
+type Told = (&'static [u16], (u64, u64, bool));
 
 // Whether these are the numbers of a derivation that meets the goal.
 fn is_met(
@@ -59,7 +45,8 @@ fn check(
     rt: &impl Abort,
     alloc: Global,
     cases: &mut Cases,
-    (goal, code, want): Row,
+    goal: Goal,
+    (code, (case, first, fresh)): Told,
 ) -> Result<(), AllocError> {
     let mut derivation = Derivation::new(alloc);
     derivation.extend_from_slice(code)?;
@@ -68,63 +55,66 @@ fn check(
         is_met(alloc, cases.grammar(), &goal, &derivation)?,
         "{goal:?}"
     );
+    let want = Named { case, first, fresh };
     assert!(rt; place(cases, &goal, &derivation)? == want, "{goal:?}");
     Ok(())
 }
 
 // Worked by hand: the rule goals of the sums, of which two have one code, and the third is met by an earlier case too.
-fn rules() -> [Row; 4] {
-    [
-        (Goal::Rule(1), &[1, 2, 3, 3], named(1, 1, true)),
-        (Goal::Rule(2), &[2, 3], named(2, 1, true)),
-        (Goal::Rule(3), &[2, 3], named(2, 1, false)),
-        (Goal::Rule(4), &[2, 4, 2, 3], named(3, 3, true)),
-    ]
-}
+const RULES: &[(u16, Told)] = &[
+    (1, (&[1, 2, 3, 3], (1, 1, true))),
+    (2, (&[2, 3], (2, 1, true))),
+    (3, (&[2, 3], (2, 1, false))),
+    (4, (&[2, 4, 2, 3], (3, 3, true))),
+];
 
 // Contexts behind them, the last of which no case meets yet.
-fn contexts() -> [Row; 3] {
-    [
-        (context(2, 1, 3), &[2, 3], named(2, 1, false)),
-        (context(4, 2, 2), &[2, 4, 2, 3], named(3, 3, false)),
-        (context(1, 1, 1), &[1, 1, 2, 3, 3, 3], named(4, 4, true)),
-    ]
-}
+const CONTEXTS: &[((u16, u16, u16), Told)] = &[
+    ((2, 1, 3), (&[2, 3], (2, 1, false))),
+    ((4, 2, 2), (&[2, 4, 2, 3], (3, 3, false))),
+    ((1, 1, 1), (&[1, 1, 2, 3, 3, 3], (4, 4, true))),
+];
 
 // And pairs: NUM is 1, '+' 2, '(' 3 and ')' 4.
-fn pairs() -> [Row; 4] {
-    let [num, plus, opening, closing] = [1, 2, 3, 4].map(Mark::Token);
-    let nested: &[u16] = &[2, 4, 2, 4, 2, 3];
-    [
-        (
-            pair(Mark::Begin, opening),
-            &[2, 4, 2, 3],
-            named(3, 3, false),
-        ),
-        (pair(num, Mark::End), &[2, 3], named(2, 1, false)),
-        (pair(plus, num), &[1, 2, 3, 3], named(1, 1, false)),
-        (pair(closing, closing), nested, named(5, 5, true)),
-    ]
+const PAIRS: &[((Mark, Mark), Told)] = &[
+    ((Begin, Token(3)), (&[2, 4, 2, 3], (3, 3, false))),
+    ((Token(1), End), (&[2, 3], (2, 1, false))),
+    ((Token(2), Token(1)), (&[1, 2, 3, 3], (1, 1, false))),
+    ((Token(4), Token(4)), (&[2, 4, 2, 4, 2, 3], (5, 5, true))),
+];
+
+fn check_rules(rt: &impl Abort, alloc: Global, cases: &mut Cases) -> Result<(), AllocError> {
+    for &(rule, told) in RULES {
+        check(rt, alloc, cases, Goal::Rule(rule), told)?;
+    }
+    Ok(())
 }
 
-fn check_all(
-    rt: &impl Abort,
-    alloc: Global,
-    cases: &mut Cases,
-    rows: &[Row],
-) -> Result<(), AllocError> {
-    for row in rows {
-        check(rt, alloc, cases, *row)?;
+fn check_contexts(rt: &impl Abort, alloc: Global, cases: &mut Cases) -> Result<(), AllocError> {
+    for &((outer, place, inner), told) in CONTEXTS {
+        let goal = Goal::Context {
+            outer,
+            place,
+            inner,
+        };
+        check(rt, alloc, cases, goal, told)?;
+    }
+    Ok(())
+}
+
+fn check_pairs(rt: &impl Abort, alloc: Global, cases: &mut Cases) -> Result<(), AllocError> {
+    for &((left, right), told) in PAIRS {
+        check(rt, alloc, cases, Goal::Pair { left, right }, told)?;
     }
     Ok(())
 }
 
 #[test]
 fn cases_of_sums(rt: HostRuntime) -> Result<(), Fail> {
-    let grammar = grammar_of_sums(&rt, rt.alloc())?;
+    let grammar = grammar_of_sums(rt.alloc())?;
     let mut cases = Cases::new(rt.alloc(), &grammar);
-    check_all(&rt, rt.alloc(), &mut cases, &rules())?;
-    check_all(&rt, rt.alloc(), &mut cases, &contexts())?;
-    check_all(&rt, rt.alloc(), &mut cases, &pairs())?;
+    check_rules(&rt, rt.alloc(), &mut cases)?;
+    check_contexts(&rt, rt.alloc(), &mut cases)?;
+    check_pairs(&rt, rt.alloc(), &mut cases)?;
     Ok(())
 }

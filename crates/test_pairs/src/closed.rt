@@ -1,13 +1,13 @@
 ghost use Rattle.cs_grammar.specs.Grammar.{IsNumberOf};
 
-use crate::prepared::{Lines, grammar_of, grammar_of_sums, weights_of};
+use crate::prepared::{X, Y};
 use cs_cost::Costs;
 use cs_embed::Embeds;
-use cs_grammar::Symbol::{Nonterminal, Token};
+use cs_grammar::Symbol::Nonterminal;
 use cs_grammar::{Symbol, Weights, number_of};
 use cs_pairs::Pairs;
-use cs_samples::rules;
-use std::alloc::{AllocError, Global};
+use cs_samples::{Lines, SampleError, grammar_of, grammar_of_sums, rules, weights_of};
+use std::alloc::Global;
 use std::process::Abort;
 use std::test::Fail;
 
@@ -77,9 +77,9 @@ fn check(
     rt: &impl Abort,
     alloc: Global,
     (lines, limit, wants): (Lines, u32, [Want; 2]),
-) -> Result<(), AllocError> {
-    let grammar = grammar_of(rt, 2, 2, rules(alloc, lines)?);
-    let weights = weights_of(rt, alloc, &[1, 1], limit)?;
+) -> Result<(), SampleError> {
+    let grammar = grammar_of(2, 2, rules(alloc, lines)?)?;
+    let weights = weights_of(alloc, &[1, 1], limit)?;
     let costs = Costs::new(alloc, &grammar, &weights)?;
     let embeds = Embeds::new(alloc, &costs)?;
     compare_all(rt, &Pairs::new(alloc, &costs, &embeds)?, &wants);
@@ -89,10 +89,6 @@ fn check(
 const S: Symbol = Nonterminal(1);
 
 const U: Symbol = Nonterminal(2);
-
-const X: Symbol = Token(1);
-
-const Y: Symbol = Token(2);
 
 // The sets of empty, first and last symbols of these grammars, by hand.
 const ROWS: [(Lines, u32, [Want; 2]); 5] = [
@@ -131,8 +127,8 @@ const OF_SUMS: Want = Want {
     last: &[1, 4],
 };
 
-fn check_sums(rt: &impl Abort, alloc: Global) -> Result<(), AllocError> {
-    let grammar = grammar_of_sums(rt, alloc)?;
+fn check_sums(rt: &impl Abort, alloc: Global) -> Result<(), SampleError> {
+    let grammar = grammar_of_sums(alloc)?;
     let weights = Weights::nodes(alloc, 4)?;
     let costs = Costs::new(alloc, &grammar, &weights)?;
     let embeds = Embeds::new(alloc, &costs)?;

@@ -1,11 +1,11 @@
 use crate::prepared::Want::{Code, Nowhere, TooLarge};
-use crate::prepared::{Lines, Want, grammar_of, is_wanted};
+use crate::prepared::{A, FIRST, FOURTH, SECOND, THIRD, Want, X, Y, Z, is_wanted};
 use cs_cost::Cost;
 use cs_goals::{Goal, fits_goal};
 use cs_grammar::Symbol::{Nonterminal, Token};
 use cs_grammar::{Mark, Symbol, Weights};
 use cs_positive::{Tables, judge};
-use cs_samples::rules;
+use cs_samples::{Lines, SampleError, grammar_of, rules};
 use std::alloc::{AllocError, Global};
 use std::process::Abort;
 use std::test::Fail;
@@ -22,31 +22,15 @@ const BEGIN: Mark = Mark::Begin;
 
 const END: Mark = Mark::End;
 
-const FIRST: Mark = Mark::Token(1);
-
-const SECOND: Mark = Mark::Token(2);
-
-const THIRD: Mark = Mark::Token(3);
-
-const FOURTH: Mark = Mark::Token(4);
-
 const E: Symbol = Nonterminal(1);
 
 const T: Symbol = Nonterminal(2);
 
 const U: Symbol = Nonterminal(3);
 
-const A: Symbol = Nonterminal(2);
-
 const B: Symbol = Nonterminal(3);
 
 const C: Symbol = Nonterminal(4);
-
-const X: Symbol = Token(1);
-
-const Y: Symbol = Token(2);
-
-const Z: Symbol = Token(3);
 
 fn is_cost(cost: Cost, want: Want) -> bool {
     match (cost, want) {
@@ -76,8 +60,8 @@ fn check_pair(
 }
 
 // So of each pair of a row, where nodes are counted.
-fn check(rt: &impl Abort, alloc: Global, row: Row) -> Result<(), AllocError> {
-    let grammar = grammar_of(rt, row.tokens, 13, rules(alloc, row.lines)?);
+fn check(rt: &impl Abort, alloc: Global, row: Row) -> Result<(), SampleError> {
+    let grammar = grammar_of(row.tokens, 13, rules(alloc, row.lines)?)?;
     let weights = Weights::nodes(alloc, row.tokens)?;
     let tables = Tables::new(alloc, &grammar, &weights)?;
     for want in row.wants {

@@ -1,14 +1,14 @@
 ghost use Rattle.std.specs.Prelude.{◌≡◌, ◌<◌};
 
 use crate::prepared::Want::{Code, Nowhere, OfSize, TooLarge};
-use crate::prepared::{Lines, Want, grammar_of, grammar_of_sums, is_wanted, weights_of};
+use crate::prepared::{A, FIRST, FOURTH, SECOND, THIRD, Want, X, Y, Z, is_wanted};
 use cs_cost::Costs;
 use cs_embed::Embeds;
 use cs_goals::{Criteria, Goal, fits_goal};
 use cs_grammar::Symbol::{Nonterminal, Token};
 use cs_grammar::{Mark, Rule, Symbol, Weights, number_of};
 use cs_positive::{Positive, Positives, Tables, Verdict, judge, judge_tree_goal};
-use cs_samples::{rules, sums};
+use cs_samples::{Lines, SampleError, grammar_of, grammar_of_sums, rules, sums, weights_of};
 use std::alloc::{AllocError, Global};
 use std::process::Abort;
 use std::test::Fail;
@@ -38,24 +38,16 @@ fn check_told(
     Ok(())
 }
 
-fn check(rt: &impl Abort, alloc: Global, row: Row) -> Result<(), AllocError> {
-    let grammar = grammar_of(rt, 4, 14, rules(alloc, row.lines)?);
-    let weights = weights_of(rt, alloc, &row.numbers, row.limit)?;
+fn check(rt: &impl Abort, alloc: Global, row: Row) -> Result<(), SampleError> {
+    let grammar = grammar_of(4, 14, rules(alloc, row.lines)?)?;
+    let weights = weights_of(alloc, &row.numbers, row.limit)?;
     let tables = Tables::new(alloc, &grammar, &weights)?;
-    check_told(rt, alloc, &tables, row.wants)
+    Ok(check_told(rt, alloc, &tables, row.wants)?)
 }
 
 const S: Symbol = Nonterminal(1);
 
-const A: Symbol = Nonterminal(2);
-
 const T: Symbol = Nonterminal(3);
-
-const X: Symbol = Token(1);
-
-const Y: Symbol = Token(2);
-
-const Z: Symbol = Token(3);
 
 const LONG: Symbol = Token(4);
 
@@ -169,14 +161,19 @@ fn check_contexts(
     Ok(())
 }
 
-fn check_context_goals(rt: &impl Abort, alloc: Global) -> Result<(), AllocError> {
+// The rules of sums, and behind them the one of `u`.
+fn sums_and_one(alloc: Global) -> Result<Vec<Rule>, AllocError> {
     let mut rules = sums(alloc)?;
     rules.push(Rule::new(3, [T, X].to_vec(alloc)?))?;
-    let grammar = grammar_of(rt, 4, 3, rules);
+    Ok(rules)
+}
+
+fn check_context_goals(rt: &impl Abort, alloc: Global) -> Result<(), SampleError> {
+    let grammar = grammar_of(4, 3, sums_and_one(alloc)?)?;
     let weights = Weights::nodes(alloc, 4)?;
     let costs = Costs::new(alloc, &grammar, &weights)?;
     let embeds = Embeds::new(alloc, &costs)?;
-    check_contexts(rt, alloc, &costs, &embeds)
+    Ok(check_contexts(rt, alloc, &costs, &embeds)?)
 }
 
 #[test]
@@ -203,14 +200,6 @@ fn feasible_behind(
     Ok(feasible)
 }
 
-const FIRST: Mark = Mark::Token(1);
-
-const SECOND: Mark = Mark::Token(2);
-
-const THIRD: Mark = Mark::Token(3);
-
-const FOURTH: Mark = Mark::Token(4);
-
 fn count_pairs(rt: &impl Abort, alloc: Global, tables: &Tables) -> Result<u16, AllocError> {
     let mut feasible = 0u16;
     for left in [Mark::Begin, FIRST, SECOND, THIRD, FOURTH] {
@@ -220,11 +209,11 @@ fn count_pairs(rt: &impl Abort, alloc: Global, tables: &Tables) -> Result<u16, A
     Ok(feasible)
 }
 
-fn feasible_pairs_of_sums(rt: &impl Abort, alloc: Global) -> Result<u16, AllocError> {
-    let grammar = grammar_of_sums(rt, alloc)?;
+fn feasible_pairs_of_sums(rt: &impl Abort, alloc: Global) -> Result<u16, SampleError> {
+    let grammar = grammar_of_sums(alloc)?;
     let weights = Weights::nodes(alloc, 4)?;
     let tables = Tables::new(alloc, &grammar, &weights)?;
-    count_pairs(rt, alloc, &tables)
+    Ok(count_pairs(rt, alloc, &tables)?)
 }
 
 // The pair goals of the sums: 12 of 25 are feasible, as a table of neighbours by hand shows.
@@ -304,11 +293,11 @@ fn check_positives<'t>(
     Ok(())
 }
 
-fn check_sums(rt: &impl Abort, alloc: Global) -> Result<(), AllocError> {
-    let grammar = grammar_of_sums(rt, alloc)?;
+fn check_sums(rt: &impl Abort, alloc: Global) -> Result<(), SampleError> {
+    let grammar = grammar_of_sums(alloc)?;
     let weights = Weights::nodes(alloc, 4)?;
     let tables = Tables::new(alloc, &grammar, &weights)?;
-    check_positives(rt, alloc, &tables)
+    Ok(check_positives(rt, alloc, &tables)?)
 }
 
 #[test]
