@@ -12,6 +12,6 @@ mod weights;
 pub use error::SampleError;
 pub use files::{C_SCANNER, LETTER, LETTER_SCANNER, NUMBER, SCANNER, SUMS};
 pub use grammars::{Lines, grammar_of, grammar_of_sums, rules, sums};
-pub use suites::{LETTER_SUITE_ONE, LETTER_SUITE_TWO, SUMS_SUITE_ONE, SUMS_SUITE_TWO};
+pub use suites::{LETTER_SUITE_ONE, LETTER_SUITE_TWO, SUMS_RULES, SUMS_SUITE_ONE, SUMS_SUITE_TWO};
 pub use texts::{repeated, words};
 pub use weights::weights_of;

@@ -61,9 +61,13 @@ negative 2 base 1 insert 0 'x' pair 'x' 'x' at 1
 end goals 5 feasible 3 infeasible 2 large 0 negatives 2 cases 1
 ";
 
-/// The suite of the rules of sums, without mutants, in the first format.
-pub const SUMS_SUITE_ONE: &[u8] = b"conform 1 suite
-token 1 NUM
+// What stands in a manifest of sums: behind its head the tokens and the rules, and then the rest. It is a text, since constants
+// of bytes can't be joined.
+macro_rules! of_sums {
+    ($head:literal, $($rest:literal),+) => {
+        concat!(
+            $head,
+            "token 1 NUM
 token 2 '+'
 token 3 '('
 token 4 ')'
@@ -71,11 +75,50 @@ rule 1 e : e '+' t
 rule 2 e : t
 rule 3 t : NUM
 rule 4 t : '(' e ')'
-lexeme NUM \"0\"
+",
+            $($rest),+
+        )
+    };
+}
+
+// The same in a suite of sums: the lexemes stand before the rest.
+macro_rules! suite_of_sums {
+    ($head:literal, $rest:literal) => {
+        of_sums!(
+            $head,
+            "lexeme NUM \"0\"
 lexeme '+' \"+\"
 lexeme '(' \"(\"
 lexeme ')' \")\"
-goal 1 rule 1 size 7
+",
+            $rest
+        )
+    };
+}
+
+/// The manifest of the rules of sums.
+pub const SUMS_RULES: &str = of_sums!(
+    "conform 1 rules\n",
+    "goal 1 rule 1 size 7
+  derive 1 2 3 3
+  tokens NUM '+' NUM
+goal 2 rule 2 size 3
+  derive 2 3
+  tokens NUM
+goal 3 rule 3 size 3
+  derive 2 3
+  tokens NUM
+goal 4 rule 4 size 7
+  derive 2 4 2 3
+  tokens '(' NUM ')'
+end goals 4 feasible 4 infeasible 0 large 0 negatives 0
+"
+);
+
+/// The suite of the rules of sums, without mutants, in the first format.
+pub const SUMS_SUITE_ONE: &str = suite_of_sums!(
+    "conform 1 suite\n",
+    "goal 1 rule 1 size 7
   derive 1 2 3 3
   tokens NUM '+' NUM
   text \"0 + 0\"
@@ -92,24 +135,13 @@ goal 4 rule 4 size 7
   tokens '(' NUM ')'
   text \"( 0 )\"
 end goals 4 feasible 4 infeasible 0 large 0 negatives 0
-";
+"
+);
 
 /// The same in the second format. Goals 2 and 3 have one code, which isn't the first case that meets them.
-pub const SUMS_SUITE_TWO: &[u8] = b"conform 2 suite
-weigh nodes
-token 1 NUM
-token 2 '+'
-token 3 '('
-token 4 ')'
-rule 1 e : e '+' t
-rule 2 e : t
-rule 3 t : NUM
-rule 4 t : '(' e ')'
-lexeme NUM \"0\"
-lexeme '+' \"+\"
-lexeme '(' \"(\"
-lexeme ')' \")\"
-closed productive e t
+pub const SUMS_SUITE_TWO: &str = suite_of_sums!(
+    "conform 2 suite\nweigh nodes\n",
+    "closed productive e t
 closed reachable e t
 closed empty
 closed first e : NUM '('
@@ -138,4 +170,5 @@ case 3 size 7
   text \"( 0 )\"
 goal 4 rule 4 size 7 case 3 first 3
 end goals 4 feasible 4 infeasible 0 large 0 negatives 0 cases 3
-";
+"
+);

@@ -279,9 +279,10 @@ fn a_whole_manifest(rt: HostRuntime) -> Result<(), Fail> {
 #[test]
 fn rule_goals_that_share_cases(rt: HostRuntime) -> Result<(), Fail> {
     let alloc = rt.alloc();
-    let mut sink = MemorySink::new(alloc, SUMS_SUITE_TWO.len(), 7, Vec::new(alloc))?;
+    let whole = SUMS_SUITE_TWO.as_bytes();
+    let mut sink = MemorySink::new(alloc, whole.len(), 7, Vec::new(alloc))?;
     let _counts = write(alloc, (SUMS, SCANNER), Weigh::Nodes, &mut sink)?;
-    assert_eq!(rt; sink.written(), SUMS_SUITE_TWO);
+    assert_eq!(rt; sink.written(), whole);
     Ok(())
 }
 

@@ -24,8 +24,9 @@ fn each_read_fails(rt: HostRuntime) -> Result<(), Fail> {
     assert!(rt; stops_at_read(&rt, alloc, &words, 0, yacc)?);
     assert!(rt; stops_at_read(&rt, alloc, &words, 1, lex)?);
     let desk = desk(alloc, &[2])?;
-    let out = MemorySink::new(alloc, SUMS_SUITE_ONE.len(), 7, Vec::new(alloc))?;
-    assert!(rt; ends(&rt, alloc, &words, desk, out, (0, "", SUMS_SUITE_ONE))?);
+    let whole = SUMS_SUITE_ONE.as_bytes();
+    let out = MemorySink::new(alloc, whole.len(), 7, Vec::new(alloc))?;
+    assert!(rt; ends(&rt, alloc, &words, desk, out, (0, "", whole))?);
     Ok(())
 }
 
@@ -33,7 +34,10 @@ fn each_read_fails(rt: HostRuntime) -> Result<(), Fail> {
 fn the_output_is_full_at_each_byte(rt: HostRuntime) -> Result<(), Fail> {
     let alloc = rt.alloc();
     let words = suite_words(alloc)?;
-    assert_eq!(rt; wrong_room(&rt, alloc, &words, SUMS_SUITE_ONE)?, None);
+    assert_eq!(rt;
+        wrong_room(&rt, alloc, &words, SUMS_SUITE_ONE.as_bytes())?,
+        None
+    );
     Ok(())
 }
 
@@ -41,9 +45,10 @@ fn the_output_is_full_at_each_byte(rt: HostRuntime) -> Result<(), Fail> {
 fn each_call_of_the_output_fails(rt: HostRuntime) -> Result<(), Fail> {
     let alloc = rt.alloc();
     let words = suite_words(alloc)?;
+    let whole = SUMS_SUITE_ONE.as_bytes();
     for step in [1, 7] {
-        assert!(rt; has_room(&rt, alloc, &words, SUMS_SUITE_ONE, step)?);
-        assert_eq!(rt; wrong_call(&rt, alloc, &words, SUMS_SUITE_ONE, step)?, None);
+        assert!(rt; has_room(&rt, alloc, &words, whole, step)?);
+        assert_eq!(rt; wrong_call(&rt, alloc, &words, whole, step)?, None);
     }
     Ok(())
 }

@@ -175,7 +175,7 @@ fn whole_suites_of_the_second_format(rt: HostRuntime) -> Result<(), Fail> {
         (
             (SUMS, SCANNER),
             &["--format=2", rules, "--mutate=none"],
-            SUMS_SUITE_TWO,
+            SUMS_SUITE_TWO.as_bytes(),
         ),
         ((none, LETTER_SCANNER), &["--weigh=nodes"], NO_SENTENCE),
         ((LOOSE, LETTER_SCANNER), &[rules], LOOSE_SUITE),

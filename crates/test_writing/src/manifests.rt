@@ -26,7 +26,7 @@ use std::test::Fail;
 use std::thread::Threads;
 
 // The page's manifest of the first format goes as `SUMS_SUITE_ONE` up to this line, and on as `SUMS_NEGATIVES`.
-const SUMS_END: &[u8] = b"end goals 4 feasible 4 infeasible 0 large 0 negatives 0\n";
+const SUMS_END: &str = "end goals 4 feasible 4 infeasible 0 large 0 negatives 0\n";
 
 const SUMS_NEGATIVES: &[u8] = b"base 1 goal 1
 negative 1 base 1 delete 0 pair <begin> '+' at 0
@@ -45,7 +45,7 @@ end goals 4 feasible 4 infeasible 0 large 0 negatives 3
 fn sums_whole(alloc: Global) -> Result<Vec<u8>, AllocError> {
     let mut whole = Vec::new(alloc);
     if let Some(front) = SUMS_SUITE_ONE.strip_suffix(SUMS_END) {
-        whole.extend_from_slice(front)?;
+        whole.extend_from_slice(front.as_bytes())?;
     }
     whole.extend_from_slice(SUMS_NEGATIVES)?;
     Ok(whole)
