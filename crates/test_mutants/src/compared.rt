@@ -7,15 +7,11 @@ ghost use Rattle.cs_render.specs.Rendering.{AreTokens};
 ghost use Rattle.cs_render_work.specs.Renders.{TakesTokens};
 
 use crate::near::near_lists;
-use cs_automaton::Automaton;
-use cs_lex::LexFile;
-use cs_lexeme::Lexemes;
+use crate::work::with_work;
 use cs_render::{Rendered, RenderedParts, render};
 use cs_render_work::RenderWork;
-use cs_sample_files::{Trouble, read_files};
-use cs_scan::Scanner;
+use cs_sample_files::Trouble;
 use cs_splice::{Prepared, Spliced};
-use cs_yacc::YaccFile;
 use std::alloc::{AllocError, Global};
 
 /// How many lists have a text, of how many it was cut from the prepared list's, and how many were answered otherwise than they
@@ -138,29 +134,6 @@ fn compare_by(
     compare_all(alloc, work, &prepared, most, &lists)
 }
 
-fn compare_read(
-    alloc: Global,
-    yacc: &YaccFile,
-    lex: &LexFile,
-    separator: &[u8],
-    tokens: &[u16],
-) -> Result<Counts, Trouble> {
-    let automaton = Automaton::new(alloc, lex.patterns())?;
-    let scanner = Scanner {
-        automaton: &automaton,
-        kinds: lex.kinds(),
-        literals: lex.literals(),
-    };
-    let most = yacc.grammar().tokens();
-    let lexemes = Lexemes::new(alloc, &scanner, most)?;
-    let work = RenderWork {
-        scanner: &scanner,
-        lexemes: &lexemes,
-        separator,
-    };
-    compare_by(alloc, &work, most, tokens)
-}
-
 /// Compares the answers of the lists near a list, by the rules of these files.
 pub fn compare_near(
     alloc: Global,
@@ -169,6 +142,7 @@ pub fn compare_near(
     separator: &[u8],
     tokens: &[u16],
 ) -> Result<Counts, Trouble> {
-    let (yacc, lex) = read_files(alloc, yacc, lex)?;
-    compare_read(alloc, &yacc, &lex, separator, tokens)
+    with_work(alloc, (yacc, lex), separator, |work, most| {
+        compare_by(alloc, work, most, tokens)
+    })
 }

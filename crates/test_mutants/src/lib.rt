@@ -9,3 +9,5 @@ mod edits;
 mod made;
 #[cfg(test)]
 mod near;
+#[cfg(test)]
+mod work;

@@ -5,19 +5,15 @@ ghost use Rattle.cs_grammar.specs.Grammar.{IsNumberOf};
 ghost use Rattle.cs_mutants.specs.Makers.{CanRender, IsMakerOf};
 
 use crate::compared::{is_joined, is_short_list};
-use cs_automaton::Automaton;
+use crate::work::with_work;
 use cs_grammar::Mark;
-use cs_lex::LexFile;
-use cs_lexeme::Lexemes;
 use cs_manifest::Entry;
 use cs_mutants::{MadeNegative, Maker};
 use cs_mutate::{Edit, Negative, edit_fits};
 use cs_render::RenderedParts;
 use cs_render_work::RenderWork;
-use cs_sample_files::{Trouble, read_files};
+use cs_sample_files::Trouble;
 use cs_samples::{SCANNER, SUMS};
-use cs_scan::Scanner;
-use cs_yacc::YaccFile;
 use std::alloc::{AllocError, Global};
 use std::test::Fail;
 
@@ -98,34 +94,11 @@ fn are_made_of(
     are_made(alloc, &maker, base, work, most, rows)
 }
 
-fn are_read(
-    alloc: Global,
-    yacc: &YaccFile,
-    lex: &LexFile,
-    separator: &[u8],
-    base: &[u16],
-    rows: &[Row],
-) -> Result<bool, Trouble> {
-    let automaton = Automaton::new(alloc, lex.patterns())?;
-    let scanner = Scanner {
-        automaton: &automaton,
-        kinds: lex.kinds(),
-        literals: lex.literals(),
-    };
-    let most = yacc.grammar().tokens();
-    let lexemes = Lexemes::new(alloc, &scanner, most)?;
-    let work = RenderWork {
-        scanner: &scanner,
-        lexemes: &lexemes,
-        separator,
-    };
-    Ok(are_made_of(alloc, base, &work, most, rows)?)
-}
-
 // Whether the negatives of a base of sums, with this between two lexemes, are as the rows have them.
 fn are_sums(alloc: Global, separator: &[u8], base: &[u16], rows: &[Row]) -> Result<bool, Trouble> {
-    let (yacc, lex) = read_files(alloc, SUMS, SCANNER)?;
-    are_read(alloc, &yacc, &lex, separator, base, rows)
+    with_work(alloc, (SUMS, SCANNER), separator, |work, most| {
+        Ok(are_made_of(alloc, base, work, most, rows)?)
+    })
 }
 
 // NUM is 1, '+' is 2, '(' is 3 and ')' is 4. Without a separator two numbers are one, and a base of two has no text itself.
