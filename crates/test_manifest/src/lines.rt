@@ -30,6 +30,14 @@ negative 2 base 1 swap 7 pair <begin> <end> at 3
 end goals 3 feasible 0 infeasible 2 large 1 negatives 2
 ";
 
+/// The negative of a base of one token that lacks it.
+pub const DELETED: Negative = Negative {
+    edit: Edit::Delete(0),
+    left: Mark::Begin,
+    right: Mark::End,
+    at: 0,
+};
+
 // The text of the first negative.
 const TEXT: &[u8] = b" a\"\\\x00~\x7f'";
 
@@ -88,12 +96,7 @@ fn write_mutants<S: Sink>(
     let first = Entry::Negative(NumberedNegative {
         number: 1,
         base: 1,
-        negative: Negative {
-            edit: Edit::Delete(0),
-            left: Mark::Begin,
-            right: Mark::End,
-            at: 0,
-        },
+        negative: DELETED,
         tokens: &[],
         rendered: rendered.parts(),
     });

@@ -5,6 +5,7 @@ ghost use Rattle.cs_closed.specs.Closed.{AreClosedSets};
 ghost use Rattle.cs_manifest.specs.Head.{IsNamedHead};
 ghost use Rattle.cs_manifest.specs.Names.{AreNamedTokens, IsNamedGoal, IsNamedMark};
 
+use crate::lines::DELETED;
 use cs_cases::Named;
 use cs_closed::Closed;
 use cs_goals::Goal;
@@ -226,12 +227,7 @@ fn put_deleted(manifest: &mut Manifest<'_>, sink: &mut MemorySink) -> Result<(),
     let negative = Entry::Negative(NumberedNegative {
         number: 1,
         base: 1,
-        negative: Negative {
-            edit: Edit::Delete(0),
-            left: Mark::Begin,
-            right: Mark::End,
-            at: 0,
-        },
+        negative: DELETED,
         tokens: &[],
         rendered: RenderedParts::Text {
             front: &[],
