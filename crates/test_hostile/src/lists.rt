@@ -4,7 +4,7 @@ ghost use Rattle.cs_grammar.specs.Tree.{IsDerivationOf};
 
 use cs_goals::{Goal, meets};
 use cs_grammar::{Derivation, ExpandError, Grammar, Mark, expand};
-use cs_samples::sums;
+use cs_samples::grammar_of_sums;
 use std::alloc::{AllocError, Global};
 use std::process::Abort;
 use std::test::Fail;
@@ -59,12 +59,6 @@ const GOALS: [(Goal, bool); 7] = [
     ),
 ];
 
-fn grammar_of_sums(rt: &impl Abort, alloc: Global) -> Result<Grammar, AllocError> {
-    let rules = sums(alloc)?;
-    assert!(rt; Grammar::fits(4, 2, 1, &rules));
-    Ok(Grammar::new(4, 2, 1, rules))
-}
-
 // The goals are met, or not, by a derivation.
 fn check_goals(
     rt: &impl Abort,
@@ -101,7 +95,7 @@ fn check_derivation(
 
 #[test]
 fn a_deep_derivation(rt: HostRuntime) -> Result<(), Fail> {
-    let grammar = grammar_of_sums(&rt, rt.alloc())?;
+    let grammar = grammar_of_sums(rt.alloc())?;
     let derivation = list(rt.alloc(), &[(1, 100_000), (2, 1), (3, 100_001)])?;
     check_derivation(&rt, rt.alloc(), &grammar, &derivation, 200_001)?;
     Ok(())
@@ -124,7 +118,7 @@ const LISTS: [(&[(u16, u32)], ExpandError); 5] = [
 
 #[test]
 fn lists_that_are_no_derivation(rt: HostRuntime) -> Result<(), Fail> {
-    let grammar = grammar_of_sums(&rt, rt.alloc())?;
+    let grammar = grammar_of_sums(rt.alloc())?;
     for (parts, want) in LISTS {
         let derivation = list(rt.alloc(), parts)?;
         assert!(rt; derivation.rules().len() < 300_000);
