@@ -38,48 +38,72 @@ fn ends_so(
     Ok(ended == status && err.written() == line)
 }
 
+const LIMIT: YaccError = YaccError::Limit {
+    which: YaccLimit::Rules,
+    found: 8_193,
+    most: 8_192,
+};
+
+const REFUSALS: &[(Refusal, &[u8])] = &[
+    (
+        Refusal::TooLong(Role::Yacc),
+        b"conform: yacc: Length above 1048576\n",
+    ),
+    (
+        Refusal::OfYacc(YaccError::Syntax { at: 12 }),
+        b"conform: yacc: Syntax at 12\n",
+    ),
+    (
+        Refusal::OfYacc(LIMIT),
+        b"conform: yacc: Limit Rules 8193 of 8192\n",
+    ),
+    (
+        Refusal::OfLex(LexError::NoRules),
+        b"conform: lex: NoRules\n",
+    ),
+    (Refusal::States, b"conform: lex: States above 16384\n"),
+];
+
 #[test]
 fn lines_of_refusals(rt: HostRuntime) -> Result<(), Fail> {
-    let limit = YaccError::Limit {
-        which: YaccLimit::Rules,
-        found: 8_193,
-        most: 8_192,
-    };
-    let long = Refusal::TooLong(Role::Yacc);
-    let syntax = Refusal::OfYacc(YaccError::Syntax { at: 12 });
-    let rules = Refusal::OfYacc(limit);
-    let none = Refusal::OfLex(LexError::NoRules);
-    let rows: [(Refusal, &[u8]); 5] = [
-        (long, b"conform: yacc: Length above 1048576\n"),
-        (syntax, b"conform: yacc: Syntax at 12\n"),
-        (rules, b"conform: yacc: Limit Rules 8193 of 8192\n"),
-        (none, b"conform: lex: NoRules\n"),
-        (Refusal::States, b"conform: lex: States above 16384\n"),
-    ];
-    for (refusal, line) in rows {
+    for &(refusal, line) in REFUSALS {
         let ending = Ending::Refused(refusal);
         assert!(rt; ends_so(rt.alloc(), ending, 99, 1, line)?, "{ending:?}");
     }
     Ok(())
 }
 
-// The last two outputs are too small for the line: the status is the same.
+// Endings, how much room their output has, the status, and what it gets. The last two outputs are too small for the line: the
+// status is the same.
+const ENDINGS: &[(Ending, usize, u8, &[u8])] = &[
+    (Ending::Written, 99, 0, b""),
+    (
+        Ending::BadWord { at: 3 },
+        99,
+        2,
+        b"conform: usage: word 3\n",
+    ),
+    (
+        Ending::NoFile(Role::Yacc),
+        99,
+        3,
+        b"conform: read fault: yacc\n",
+    ),
+    (
+        Ending::NoFile(Role::Lex),
+        99,
+        3,
+        b"conform: read fault: lex\n",
+    ),
+    (Ending::NotWritten, 99, 4, b"conform: write fault\n"),
+    (Ending::NoMemory, 99, 5, b"conform: out of memory\n"),
+    (Ending::NotWritten, 7, 4, b"conform"),
+    (Ending::NotWritten, 0, 4, b""),
+];
+
 #[test]
 fn statuses_and_lines(rt: HostRuntime) -> Result<(), Fail> {
-    let word = Ending::BadWord { at: 3 };
-    let yacc = Ending::NoFile(Role::Yacc);
-    let lex = Ending::NoFile(Role::Lex);
-    let rows: [(Ending, usize, u8, &[u8]); 8] = [
-        (Ending::Written, 99, 0, b""),
-        (word, 99, 2, b"conform: usage: word 3\n"),
-        (yacc, 99, 3, b"conform: read fault: yacc\n"),
-        (lex, 99, 3, b"conform: read fault: lex\n"),
-        (Ending::NotWritten, 99, 4, b"conform: write fault\n"),
-        (Ending::NoMemory, 99, 5, b"conform: out of memory\n"),
-        (Ending::NotWritten, 7, 4, b"conform"),
-        (Ending::NotWritten, 0, 4, b""),
-    ];
-    for (ending, room, status, line) in rows {
+    for &(ending, room, status, line) in ENDINGS {
         assert!(rt;
             ends_so(rt.alloc(), ending, room, status, line)?,
             "{ending:?}"

@@ -50,13 +50,15 @@ fn two_batches<R: Threads + Sync>(
     Ok((first, second))
 }
 
-// The tokens are those of the first format's manifest in `docs/FORMATS.md`. Behind the last entry comes an empty batch.
+// The places of entries, and the tokens of their sentences: those of the first format's manifest in `docs/FORMATS.md`.
+const TOKENS: &[(usize, &[u16])] = &[(0, &[1, 2, 1]), (1, &[1]), (2, &[1]), (3, &[3, 1, 4])];
+
+// Behind the last entry comes an empty batch.
 #[test]
 fn entries_of_rule_goals(rt: HostRuntime) -> Result<(), Fail> {
     let (entries, none) = two_batches(&rt, rt.alloc())?;
     assert_eq!(rt; entries.len(), 4);
-    let rows: [(usize, &[u16]); 4] = [(0, &[1, 2, 1]), (1, &[1]), (2, &[1]), (3, &[3, 1, 4])];
-    for (at, tokens) in rows {
+    for &(at, tokens) in TOKENS {
         assert!(rt; has_tokens(&entries, at, tokens), "{at}");
     }
     assert!(rt; none.is_empty());

@@ -4,6 +4,7 @@ ghost use Rattle.std.specs.Prelude.{◌≡◌, Some};
 ghost use Rattle.cs_grammar.specs.Weights.{nodes};
 ghost use Rattle.cs_plan.specs.Plans.{CanRender, HasSetsOf};
 
+use crate::writers::letter_counts;
 use cs_automaton::Automaton;
 use cs_closed::Closed;
 use cs_fan::OpenGate;
@@ -19,6 +20,7 @@ use cs_render_work::RenderWork;
 use cs_sample_files::{Trouble, read_files};
 use cs_samples::{LETTER, LETTER_SCANNER, LETTER_SUITE_TWO, SCANNER, SUMS, SUMS_SUITE_ONE};
 use cs_scan::Scanner;
+use cs_words::Options;
 use cs_writing::{Halt, write_out};
 use cs_yacc::YaccFile;
 use std::alloc::{AllocError, Global};
@@ -51,52 +53,32 @@ fn sums_whole(alloc: Global) -> Result<Vec<u8>, AllocError> {
     Ok(whole)
 }
 
-// What a manifest is to have.
-struct Choice {
-    criteria: Criteria,
-    operators: Operators,
-    bases: u32,
-    format: Format,
+// The options of the page's manifest of the first format.
+fn first_options() -> Options {
+    Options {
+        criteria: Criteria {
+            rule: true,
+            cdrc: false,
+            pair: false,
+        },
+        operators: Operators {
+            delete: true,
+            insert: false,
+            replace: false,
+            swap: false,
+        },
+        bases: 1,
+        format: Format::One,
+        ..Options::defaults()
+    }
 }
-
-const FIRST: Choice = Choice {
-    criteria: Criteria {
-        rule: true,
-        cdrc: false,
-        pair: false,
-    },
-    operators: Operators {
-        delete: true,
-        insert: false,
-        replace: false,
-        swap: false,
-    },
-    bases: 1,
-    format: Format::One,
-};
-
-const SECOND: Choice = Choice {
-    criteria: Criteria {
-        rule: true,
-        cdrc: true,
-        pair: true,
-    },
-    operators: Operators {
-        delete: true,
-        insert: true,
-        replace: true,
-        swap: true,
-    },
-    bases: 16,
-    format: Format::Two,
-};
 
 // Writes the manifest of a yacc file and a lex file.
 fn write<R: Threads + Sync>(
     rt: &R,
     alloc: Global,
     files: (&[u8], &[u8]),
-    choice: &Choice,
+    options: &Options,
     out: &mut MemorySink,
 ) -> Result<Result<Counts, Halt>, Trouble> {
     let (yacc, lex) = read_files(alloc, files.0, files.1)?;
@@ -112,7 +94,7 @@ fn write<R: Threads + Sync>(
         lexemes: &lexemes,
         separator: b" ",
     };
-    Ok(write_goals(rt, alloc, &yacc, &work, choice, out)?)
+    Ok(write_goals(rt, alloc, &yacc, &work, options, out)?)
 }
 
 // The same with these texts.
@@ -121,18 +103,18 @@ fn write_goals<'f, R: Threads + Sync>(
     alloc: Global,
     yacc: &'f YaccFile,
     work: &'f RenderWork<'f>,
-    choice: &Choice,
+    options: &Options,
     out: &mut MemorySink,
 ) -> Result<Result<Counts, Halt>, AllocError>
     requires { CanRender yacc.now (Some work) }
 {
     let weights = Weights::nodes(alloc, yacc.grammar().tokens())?;
     let tables = Tables::new(alloc, yacc.grammar(), &weights)?;
-    if choice.format == Format::One {
-        return Ok(write_plan(rt, alloc, yacc, work, &tables, None, choice, out));
+    if options.format == Format::One {
+        return Ok(write_plan(rt, alloc, yacc, work, &tables, None, options, out));
     }
     let closed = Closed::new(alloc, &tables)?;
-    Ok(write_plan(rt, alloc, yacc, work, &tables, Some(&closed), choice, out))
+    Ok(write_plan(rt, alloc, yacc, work, &tables, Some(&closed), options, out))
 }
 
 // The same by these tables, and in the second format by closed sets.
@@ -143,7 +125,7 @@ fn write_plan<'f, R: Threads + Sync>(
     work: &'f RenderWork<'f>,
     tables: &'f Tables<'f>,
     closed: Option<&'f Closed>,
-    choice: &Choice,
+    options: &Options,
     out: &mut MemorySink,
 ) -> Result<Counts, Halt>
     requires work { CanRender yacc.now (Some work) }
@@ -154,17 +136,17 @@ fn write_plan<'f, R: Threads + Sync>(
     let _named = yacc.grammar();
     let plan = Plan {
         yacc,
-        criteria: choice.criteria,
+        criteria: options.criteria,
         texts: Some(work),
         mutation: Some(Mutation {
             pairs: tables.pairs(),
-            operators: choice.operators,
-            most: choice.bases,
+            operators: options.operators,
+            most: options.bases as u32,
         }),
         weigh: Weigh::Nodes,
         closed,
     };
-    let positives = Positives::new(tables, choice.criteria);
+    let positives = Positives::new(tables, options.criteria);
     write_out(rt, alloc, &plan, positives, out, &OpenGate)
 }
 
@@ -172,7 +154,7 @@ fn write_plan<'f, R: Threads + Sync>(
 fn first_format(rt: HostRuntime) -> Result<(), Fail> {
     let alloc = rt.alloc();
     let mut out = MemorySink::new(alloc, 2_000, 7, Vec::new(alloc))?;
-    let counts = write(&rt, alloc, (SUMS, SCANNER), &FIRST, &mut out)?;
+    let counts = write(&rt, alloc, (SUMS, SCANNER), &first_options(), &mut out)?;
     let whole = sums_whole(alloc)?;
     let wanted = Counts {
         goals: 4,
@@ -192,17 +174,14 @@ fn first_format(rt: HostRuntime) -> Result<(), Fail> {
 fn second_format(rt: HostRuntime) -> Result<(), Fail> {
     let alloc = rt.alloc();
     let mut out = MemorySink::new(alloc, 2_000, 7, Vec::new(alloc))?;
-    let counts = write(&rt, alloc, (LETTER, LETTER_SCANNER), &SECOND, &mut out)?;
-    let wanted = Counts {
-        goals: 5,
-        feasible: 3,
-        infeasible: 2,
-        large: 0,
-        negatives: 2,
-        cases: Some(1),
-        bytes: LETTER_SUITE_TWO.len() as u128,
-    };
-    assert_eq!(rt; counts, Ok(wanted));
+    let counts = write(
+        &rt,
+        alloc,
+        (LETTER, LETTER_SCANNER),
+        &Options::defaults(),
+        &mut out,
+    )?;
+    assert_eq!(rt; counts, Ok(letter_counts()));
     assert_eq!(rt; out.written(), LETTER_SUITE_TWO);
     Ok(())
 }

@@ -97,11 +97,9 @@ fn no_room_for_rules(rt: HostRuntime) -> Result<(), Fail> {
     Ok(())
 }
 
-// The counts are those of the page's end line.
-#[test]
-fn the_suite_of_the_letter(rt: HostRuntime) -> Result<(), Fail> {
-    let (answer, out) = suite(&rt, rt.alloc(), (LETTER, LETTER_SCANNER), 999)?;
-    let wanted = Counts {
+/// The counts of the whole suite of the letter in the second format: those of the page's end line.
+pub fn letter_counts() -> Counts {
+    Counts {
         goals: 5,
         feasible: 3,
         infeasible: 2,
@@ -109,8 +107,13 @@ fn the_suite_of_the_letter(rt: HostRuntime) -> Result<(), Fail> {
         negatives: 2,
         cases: Some(1),
         bytes: LETTER_SUITE_TWO.len() as u128,
-    };
-    assert_eq!(rt; answer, Ok(wanted));
+    }
+}
+
+#[test]
+fn the_suite_of_the_letter(rt: HostRuntime) -> Result<(), Fail> {
+    let (answer, out) = suite(&rt, rt.alloc(), (LETTER, LETTER_SCANNER), 999)?;
+    assert_eq!(rt; answer, Ok(letter_counts()));
     assert_eq!(rt; out.written(), LETTER_SUITE_TWO);
     Ok(())
 }
