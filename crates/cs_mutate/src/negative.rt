@@ -1,6 +1,6 @@
 // The negatives of a list, one after another.
 
-ghost use Rattle.std.specs.Prelude.{◌≡◌, ◌≤◌, length, IsTrue, All, IfSome, IfOk, OnErr};
+ghost use Rattle.std.specs.Prelude.{◌≡◌, ◌≤◌, length, All, IfSome, IfOk, OnErr};
 ghost use Rattle.cs_grammar.specs.Grammar.{IsNumberOf};
 ghost use Rattle.cs_grammar.specs.Sentence.{framed};
 ghost use Rattle.cs_mutate.specs.Edit.{Fits, edited};
@@ -82,58 +82,82 @@ impl<'p> Negatives<'p> {
         ensures base { self.new.base ≡ self.old.base }
         ensures refused { OnErr result (self.new.edits ≡ self.old.edits) }
     {
+        if self.sound {
+            return Ok(next_touched(self.pairs, self.base, &mut self.edits));
+        }
         let mut edits = self.edits.copied();
-        let found = next_negative(self.alloc, self.pairs, self.base, self.sound, &mut edits)?;
+        let found = next_whole(self.alloc, self.pairs, self.base, &mut edits)?;
         self.edits = edits;
         Ok(found)
     }
 }
 
-// The first negative of these edits, which are taken away up to it.
-fn next_negative(
+// An edit and the first pair of its framed result that isn't adjacent.
+fn negative_of(edit: Edit, found: PoisonedPair) -> Negative
+    ensures { result ≡ record {
+      edit = edit;
+      left = found.left;
+      right = found.right;
+      at = found.at;
+    } }
+{
+    Negative {
+        edit,
+        left: found.left,
+        right: found.right,
+        at: found.at,
+    }
+}
+
+// The first negative of these edits, which are taken away up to it. All pairs of the framed list are adjacent, so only those are
+// looked at that the edits make, without memory.
+fn next_touched(pairs: &Pairs, base: &[u16], edits: &mut Edits) -> Option<Negative>
+    requires sound { HasNoPoison pairs.now.grammar (framed base.now) }
+    requires short { length base.now ≤ 1000000 }
+    requires tokens { All (IsNumberOf pairs.now.grammar.tokens) base.now }
+    requires fits { All (Fits (length base.now) pairs.now.grammar.tokens) edits.old }
+    ensures { Finds pairs.now.grammar base.now edits.old result edits.new }
+{
+    while let Some(edit) = edits.next() {
+        if let Some(found) = poison_touched(pairs, base, &edit) {
+            return Some(negative_of(edit, found));
+        }
+    }
+    None
+}
+
+// The same of any list, whose edited lists are read whole.
+fn next_whole(
     alloc: Global,
     pairs: &Pairs,
     base: &[u16],
-    sound: bool,
     edits: &mut Edits,
 ) -> Result<Option<Negative>, AllocError>
-    requires sound { IsTrue sound → HasNoPoison pairs.now.grammar (framed base.now) }
     requires short { length base.now ≤ 1000000 }
     requires tokens { All (IsNumberOf pairs.now.grammar.tokens) base.now }
     requires fits { All (Fits (length base.now) pairs.now.grammar.tokens) edits.old }
     ensures { IfOk result (λ found. Finds pairs.now.grammar base.now edits.old found edits.new) }
 {
     while let Some(edit) = edits.next() {
-        if let Some(found) = poison_behind(alloc, pairs, base, sound, &edit)? {
-            return Ok(Some(Negative {
-                edit,
-                left: found.left,
-                right: found.right,
-                at: found.at,
-            }));
+        if let Some(found) = poison_edited(alloc, pairs, base, &edit)? {
+            return Ok(Some(negative_of(edit, found)));
         }
     }
     Ok(None)
 }
 
-// The first pair of the framed result of an edit that isn't adjacent. Where all pairs of the framed list are adjacent, only
-// those are looked at that the edit makes, without memory.
-fn poison_behind(
+// The first pair of the framed result of an edit that isn't adjacent.
+fn poison_edited(
     alloc: Global,
     pairs: &Pairs,
     base: &[u16],
-    sound: bool,
     edit: &Edit,
 ) -> Result<Option<PoisonedPair>, AllocError>
-    requires sound { IsTrue sound → HasNoPoison pairs.now.grammar (framed base.now) }
     requires short { length base.now ≤ 1000000 }
     requires tokens { All (IsNumberOf pairs.now.grammar.tokens) base.now }
     requires fits { Fits (length base.now) pairs.now.grammar.tokens edit.now }
     ensures { IfOk result (TellsPair pairs.now.grammar (framed (edited base.now edit.now))) }
 {
-    if sound {
-        return Ok(poison_touched(pairs, base, edit));
-    }
     let list = apply(alloc, base, edit)?;
     Ok(poison_between(pairs, Mark::Begin, &list, Mark::End))
 }

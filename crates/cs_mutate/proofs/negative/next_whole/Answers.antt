@@ -1,6 +1,6 @@
 use Rattle.std.proofs.lemmas.Option.{MatchOption-at_none}
 use Rattle.cs_mutate.proofs.Searching.{passed_more, passed_all}
-use Rattle.cs_mutate.proofs.negative.next_negative.Goals as goal
+use Rattle.cs_mutate.proofs.negative.next_whole.Goals as goal
 
 pub loop-edit-preserved : goal.loop-edit-preserved
 loop-edit-preserved c =

@@ -5,10 +5,7 @@ use Rattle.cs_grammar.specs.Grammar.{IsNumberOf}
 use Rattle.cs_grammar.specs.Sentence.{framed}
 use Rattle.cs_mutate.specs.Poison.{HasNoPoison, IsFirstPoisoned}
 use Rattle.cs_mutate.proofs.Searching.{edited_tokens}
-use Rattle.cs_mutate.proofs.negative.poison_behind.Goals as goal
-
-pub poison_touched-requires-clause-sound : goal.poison_touched-requires-clause-sound
-poison_touched-requires-clause-sound c = c.requires.sound c.if-sound.true
+use Rattle.cs_mutate.proofs.negative.poison_edited.Goals as goal
 
 pub poison_between-requires-clause-tokens : goal.poison_between-requires-clause-tokens
 poison_between-requires-clause-tokens c =

@@ -1,6 +1,6 @@
 use Rattle.std.proofs.Common.{length}
 use Rattle.cs_mutate.proofs.Searching.{Passed}
-use Rattle.cs_mutate.proofs.negative.next_negative.Given as goal
+use Rattle.cs_mutate.proofs.negative.next_touched.Given as goal
 
 abbrev pub invariant-loop-edit : goal.invariant-loop-edit
 invariant-loop-edit l = Passed l.pairs.grammar l.base l.fn.edits l.edits
