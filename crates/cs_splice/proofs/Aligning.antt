@@ -54,8 +54,20 @@ module _ (lexemes : List (Option (List ℕ))) (sep : List ℕ) where
             is = ap (λ r. (r ++ sep) ++ u) is ∙ ap (λ r. (joined sep (a ∷ ts) ++ sep) ++ r) it ∙ sym (joined_append sep a ts b us);
           }
 
+  -- the text of one token is its lexeme
+  pub one_text : (token : ℕ) (text lexeme : List ℕ) → Has token lexeme → Rule (token ∷ []) text → text ≡ lexeme
+  one_text token text lexeme has rule = go rule.texts rule.each rule.is
+    where
+      go : (texts : List (List ℕ)) → AllZip Has (token ∷ []) texts → text ≡ joined sep texts → text ≡ lexeme
+      go [] all is = absurd all
+      go (x ∷ []) all is =
+          let e = all.0 in
+          let same : x ≡ lexeme = cc in
+          is ∙ same
+      go (x ∷ y ∷ more) all is = absurd all.1
+
   -- the text begins with the first token's lexeme
-  begins : (token : ℕ) (tokens text lexeme : List ℕ) → Has token lexeme → Rule (token ∷ tokens) text → (later : List ℕ) × (text ≡ lexeme ++ later)
+  pub begins : (token : ℕ) (tokens text lexeme : List ℕ) → Has token lexeme → Rule (token ∷ tokens) text → (later : List ℕ) × (text ≡ lexeme ++ later)
   begins token tokens text lexeme has rule = go rule.texts rule.each rule.is
     where
       go : (texts : List (List ℕ)) → AllZip Has (token ∷ tokens) texts → text ≡ joined sep texts → (later : List ℕ) × (text ≡ lexeme ++ later)
@@ -70,7 +82,7 @@ module _ (lexemes : List (Option (List ℕ))) (sep : List ℕ) where
           (sep ++ joined sep (y ∷ more), is ∙ append_assoc x sep (joined sep (y ∷ more)) ∙ ap (λ f. f ++ (sep ++ joined sep (y ∷ more))) same)
 
   -- and goes on with the separator, where more tokens are behind it
-  goes_on : (token : ℕ) (tokens text lexeme : List ℕ) → 0 < length tokens → Has token lexeme → Rule (token ∷ tokens) text → (later : List ℕ) × (text ≡ (lexeme ++ sep) ++ later) × Rule tokens later
+  pub goes_on : (token : ℕ) (tokens text lexeme : List ℕ) → 0 < length tokens → Has token lexeme → Rule (token ∷ tokens) text → (later : List ℕ) × (text ≡ (lexeme ++ sep) ++ later) × Rule tokens later
   goes_on token [] text lexeme some has rule = absurd (omega (arith, some))
   goes_on token (u ∷ tokens) text lexeme some has rule = go rule.texts rule.each rule.is
     where

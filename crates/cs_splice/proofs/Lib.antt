@@ -3,3 +3,4 @@ pub mod Marking
 pub mod Aligning
 pub mod Lists
 pub mod Telling
+pub mod Standing

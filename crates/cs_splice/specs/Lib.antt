@@ -5,3 +5,4 @@ pub mod Middle
 pub mod Near
 pub mod Spliced
 pub mod Marked
+pub mod Apart

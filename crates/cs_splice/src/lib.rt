@@ -1,13 +1,17 @@
-//! The renderings of lists of tokens that are near a list whose text is known, with a scan around what differs alone.
+//! The renderings of lists of tokens that are near a list whose text is known, with a scan around what differs alone; and the
+//! tokens whose lists have a text without any scan.
 //!
 //! The layers above prepare a list of tokens by `Prepared::new`, and render those that are near it by `render`, which answers what
-//! `cs_render::render` does: the text in three parts, whose middle is in a buffer of the caller.
+//! `cs_render::render` does: the text in three parts, whose middle is in a buffer of the caller. They ask `Apart`, made of what
+//! lists are rendered by, whether a token stands apart: where each token of a list does, the rule's text of the list scans to it.
 //!
-//! Meaning: `specs/Spliced.antt` (what an answer says), `specs/Near.antt` (what is seen of a prepared list). Working words of
-//! proofs: `specs/Settled.antt` (what the first bytes of a text settle of its scan), `specs/Marks.antt`, `specs/Marked.antt`,
-//! `specs/Middle.antt`, `specs/Lists.antt`, and the end of `specs/Spliced.antt`.
+//! Meaning: `specs/Spliced.antt` (what an answer says), `specs/Near.antt` (what lists are rendered by), `specs/Apart.antt` (which
+//! tokens stand apart, and that their lists scan back). Working words of proofs: `specs/Settled.antt` (what the first bytes of a
+//! text settle of its scan), `specs/Marks.antt`, `specs/Marked.antt`, `specs/Middle.antt`, `specs/Lists.antt`, and the ends of
+//! `specs/Spliced.antt` and `specs/Apart.antt`.
 #![tactic(auto)]
 
+mod apart;
 mod common;
 mod marked;
 mod marks;
@@ -17,5 +21,6 @@ mod prepared;
 mod spliced;
 mod step;
 
+pub use apart::Apart;
 pub use prepared::Prepared;
 pub use spliced::Spliced;

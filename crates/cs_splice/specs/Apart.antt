@@ -1,0 +1,43 @@
+-- Tokens whose lexemes scan back to them, whichever of them stand side by side.
+use Rattle.std.specs.Prelude.{◌≡◌, ℕ, ◌-◌, ◌<◌, List, Bool, [], ◌∷◌, ◌++◌, All, Some, true, length, slice_get}
+use Rattle.cs_lexeme.specs.Lexeme.{lexeme_in}
+use Rattle.cs_scan.specs.Compared.{scanning}
+use Rattle.cs_scan.specs.Going.{IsBegunBy}
+use Rattle.cs_scan.specs.Scan.{Scanning, Gives, Scans}
+use Rattle.cs_render.specs.Rendering.{IsRuleText}
+use Rattle.cs_splice.specs.Near.{Near}
+
+-- the token, which counts from 1, is one of those that are marked
+abbrev pub IsApart : List Bool → ℕ → Type 0
+IsApart marks token = (0 < token) × (slice_get marks (token - 1) ≡ Some true)
+
+abbrev pub AreApart : List Bool → List ℕ → Type 0
+AreApart marks tokens = All (IsApart marks) tokens
+
+-- the rule's text of each list of marked tokens scans to the list
+abbrev pub ScanBack : Near → List Bool → Type 0
+ScanBack near marks =
+    (tokens text : List ℕ) → AreApart marks tokens → IsRuleText near.lexemes near.separator tokens text
+    → Scans (scanning near.scanner) text tokens
+
+-- ---- working words of proofs
+
+-- each text that begins with the lexeme and the separator has the lexeme as its first match, which gives the token
+abbrev pub IsTakenFirst : Scanning → List ℕ → List ℕ → ℕ → Type 0
+IsTakenFirst s lexeme separator token = (later : List ℕ) → Gives s ((lexeme ++ separator) ++ later) (length lexeme) (token ∷ [])
+
+-- the scan of each text that begins with the separator and the byte gives what the scan from the byte on does
+abbrev pub IsPassedBefore : Scanning → List ℕ → ℕ → Type 0
+IsPassedBefore s separator first = (later : List ℕ) → IsBegunBy s (separator ++ first ∷ later) [] (first ∷ later)
+
+-- the token has a lexeme, which is taken first, and the separator in front of its first byte is passed over
+pub record StandsApart (near : Near) (token : ℕ) : Type 0 where
+  pub first : ℕ
+  pub rest : List ℕ
+  pub has : lexeme_in near.lexemes token ≡ Some (first ∷ rest)
+  pub taken : IsTakenFirst (scanning near.scanner) (first ∷ rest) near.separator token
+  pub passed : IsPassedBefore (scanning near.scanner) near.separator first
+
+-- each token that is marked stands apart
+abbrev pub MarkApart : Near → List Bool → Type 0
+MarkApart near marks = (token : ℕ) → IsApart marks token → StandsApart near token

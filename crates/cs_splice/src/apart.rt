@@ -1,0 +1,115 @@
+// Tokens whose lexemes scan back to them, whichever of them stand side by side.
+
+ghost use Rattle.std.specs.Prelude.{◌≡◌, ◌<◌, ◌≤◌, ◌↔◌, IfOk, IsTrue, length};
+ghost use Rattle.cs_scan.specs.Compared.{HasKinds, HasLiterals, scanning};
+ghost use Rattle.cs_splice.specs.Apart.{IsApart, IsPassedBefore, IsTakenFirst, ScanBack, StandsApart};
+ghost use Rattle.cs_splice.specs.Spliced.{near_by};
+
+use crate::step::{Given, step_over};
+use cs_lexeme::Lexemes;
+use cs_scan::Scanner;
+use std::alloc::{AllocError, Global};
+use std::marker::Model;
+
+/// The tokens whose lexemes stand apart in texts: each list of such tokens has a text, without a scan of it.
+#[derive(Drop)]
+pub struct Apart {
+    marks: Vec<bool>,
+}
+
+impl Model for Apart {
+    ghost use Rattle.std.specs.Prelude.{Bool, List};
+
+    ghost Value = { List Bool };
+
+    ghost view = { λ a. a.marks.items };
+}
+
+// Whether the lexeme is the first match of each text that begins with it and the separator, and gives the token.
+fn is_taken_first(scanner: &Scanner<'_>, lexeme: &[u8], separator: &[u8], token: u16) -> bool
+    requires kinds { HasKinds scanner.now }
+    requires literals { HasLiterals scanner.now }
+    requires some { 0 < length lexeme.now }
+    ensures { IsTrue result
+        → IsTakenFirst (scanning scanner.now) lexeme.now separator.now token }
+{
+    let Some(step) = step_over(scanner, lexeme, separator) else {
+        return false;
+    };
+    match (step.given, step.read) {
+        (Given::Token(given), Some(_)) => given == token && step.size == lexeme.len(),
+        _ => false,
+    }
+}
+
+// Whether the scan of each text that begins with the separator and the byte passes over the separator.
+fn is_passed_before(scanner: &Scanner<'_>, separator: &[u8], first: u8) -> bool
+    requires kinds { HasKinds scanner.now }
+    requires literals { HasLiterals scanner.now }
+    ensures { IsTrue result → IsPassedBefore (scanning scanner.now) separator.now first }
+{
+    let mut rest = separator;
+    'matches: while !rest.is_empty() {
+        let Some(step) = step_over(scanner, rest, &[first]) else {
+            return false;
+        };
+        let (Given::Nothing, Some(_)) = (step.given, step.read) else {
+            return false;
+        };
+        if step.size > rest.len() {
+            return false;
+        }
+        rest = &rest[step.size..];
+    }
+    true
+}
+
+// Whether the token's lexeme stands apart.
+fn stands_apart(scanner: &Scanner<'_>, lexemes: &Lexemes, separator: &[u8], token: u16) -> bool
+    requires kinds { HasKinds scanner.now }
+    requires literals { HasLiterals scanner.now }
+    requires some { 0 < token }
+    requires within { token ≤ length lexemes.now }
+    ensures { IsTrue result
+        → StandsApart (near_by scanner.now lexemes.now separator.now) token }
+{
+    let Some(lexeme) = lexemes.get(token) else {
+        return false;
+    };
+    if lexeme.is_empty() {
+        return false;
+    }
+    is_taken_first(scanner, lexeme, separator, token)
+        && is_passed_before(scanner, separator, lexeme[0])
+}
+
+impl Apart {
+    /// Finds them among the tokens from 1 to so many. A token stands apart where the separator behind its lexeme settles the
+    /// match of that, and where the first byte of its lexeme settles the matches of the separator, which give nothing.
+    pub fn new(
+        alloc: Global,
+        scanner: &Scanner<'_>,
+        lexemes: &Lexemes,
+        separator: &[u8],
+        tokens: u16,
+    ) -> Result<Apart, AllocError>
+        requires kinds { HasKinds scanner.now }
+        requires literals { HasLiterals scanner.now }
+        requires tokens { tokens ≤ length lexemes.now }
+        ensures { IfOk result (ScanBack (near_by scanner.now lexemes.now separator.now)) }
+    {
+        let mut marks = Vec::new(alloc);
+        for place in 0..tokens {
+            marks.push(stands_apart(scanner, lexemes, separator, place + 1))?;
+        }
+        Ok(Apart { marks })
+    }
+
+    /// Whether the token is one of them.
+    pub fn has(&self, token: u16) -> bool
+        ensures { IsTrue result ↔ IsApart self.now token }
+    {
+        let token = token as usize;
+        0 < token && token <= self.marks.len() && self.marks[token - 1]
+    }
+}
