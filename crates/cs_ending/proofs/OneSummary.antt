@@ -5,10 +5,10 @@ use Rattle.std.specs.List.{AllByRecursion}
 use Rattle.std.proofs.lemmas.Fmt.{decimal_by_steps, decimal_injective}
 use Rattle.std.proofs.lemmas.List.{append_cancel_right}
 use Rattle.cs_gen.proofs.Digits.{all_push}
+use Rattle.cs_output.specs.Words.{line}
 use Rattle.cs_manifest.specs.declared.counts.Counts.{Counts}
 use Rattle.cs_manifest.specs.Counts.{end_of}
 use Rattle.cs_manifest.specs.Lines.{end_words, numbered_word}
-use Rattle.cs_manifest.specs.Words.{line}
 use Rattle.cs_ending.specs.Summary.{HasCounts}
 
 -- ---- a number behind its word

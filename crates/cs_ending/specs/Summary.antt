@@ -1,11 +1,11 @@
 -- The summary of a number: one line that tells, in numbers, of the two files that stand for it and of their manifest.
 use Rattle.std.specs.Prelude.{◌≡◌, ◌<◌, ◌^◌, ℕ, List, ◌++◌, None, codes, length}
 use Rattle.cs_gen.specs.Texts.{lex_text, yacc_text}
+use Rattle.cs_output.specs.Putting.{shown}
+use Rattle.cs_output.specs.Words.{line}
 use Rattle.cs_manifest.specs.declared.counts.Counts.{Counts}
 use Rattle.cs_manifest.specs.Counts.{end_of}
 use Rattle.cs_manifest.specs.Lines.{numbered_word}
-use Rattle.cs_manifest.specs.Putting.{shown}
-use Rattle.cs_manifest.specs.Words.{line}
 use Rattle.cs_manifest.specs.declared.format.Format.TheVariants.{One}
 use Rattle.cs_words.specs.declared.options.Options.{Options}
 use Rattle.cs_words.specs.Options.{default_options}

@@ -3,9 +3,9 @@ use Rattle.std.proofs.Common.{◌≡◌, ℕ, List, [], ◌∷◌, ◌++◌, ref
 use Rattle.cs_positive.specs.declared.verdict.Verdict.{Verdict}
 use Rattle.cs_positive.specs.declared.verdict.Verdict.TheVariants.{Feasible, Infeasible, Large}
 use Rattle.cs_yacc.specs.File.{File}
+use Rattle.cs_output.specs.Words.{line}
 use Rattle.cs_manifest.specs.Below.{tokens_words, tree_words, verdict_words}
 use Rattle.cs_manifest.specs.Lines.{derive_line, size_words, tree_lines, verdict_lines}
-use Rattle.cs_manifest.specs.Words.{line}
 
 pub tree_ends : (file : File) (size : ℕ) (derivation tokens : List ℕ) → line (tree_words file size derivation tokens) ≡ tree_lines file size derivation tokens
 tree_ends file size derivation tokens = append_assoc (size_words size ++ derive_line derivation) (tokens_words file tokens) (10 ∷ [])

@@ -11,7 +11,8 @@ use Rattle.cs_pairs.specs.Closed.{IsFirstOf, IsLastOf, YieldsNothing}
 use Rattle.cs_pairs.specs.Pairs.{IsAdjacent}
 use Rattle.cs_yacc.specs.File.{File, IsFile}
 use Rattle.cs_closed.specs.Closed.{AreClosedSets, AreEdges, AreThose, ClosedSets, HasContext, HasTree, numbers}
-use Rattle.cs_manifest.specs.Names.{AreNamedMarks, AreNamedNonterminals, AreNamedSets, AreNamedTokens, IsNamedMark, IsNamedToken}
+use Rattle.cs_output.specs.Names.{AreNamedMarks, AreNamedNonterminals, AreNamedTokens, IsNamedMark, IsNamedToken}
+use Rattle.cs_manifest.specs.Named.{AreNamedSets}
 
 -- what holds of each of a list holds of those that are so
 module _ {A : Type 0} (IsSo P : A → Type 0) where

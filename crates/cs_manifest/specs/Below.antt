@@ -7,8 +7,8 @@ use Rattle.cs_positive.specs.declared.verdict.Verdict.{Verdict}
 use Rattle.cs_positive.specs.declared.verdict.Verdict.TheVariants.{Feasible, Infeasible, Large}
 use Rattle.cs_mutate.specs.declared.negative.Negative.{Negative}
 use Rattle.cs_render.specs.Rendering.{Rendering}
-use Rattle.cs_manifest.specs.Words.{line, quoted, spaced}
-use Rattle.cs_manifest.specs.Names.{mark_text}
+use Rattle.cs_output.specs.Words.{line, quoted, spaced}
+use Rattle.cs_output.specs.Names.{mark_text}
 use Rattle.cs_manifest.specs.Lines.{derive_line, edit_text, numbered_word, pair_words, size_words, text_line, text_lines, token_words}
 
 -- two marks, each behind a space

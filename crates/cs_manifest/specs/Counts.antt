@@ -3,14 +3,14 @@ use Rattle.std.specs.Prelude.{ℕ, ◌+◌, List, length, Bool, if◌then◌else
 use Rattle.cs_io.specs.Faults.{next_count}
 use Rattle.cs_positive.specs.declared.verdict.Verdict.{Verdict}
 use Rattle.cs_yacc.specs.File.{File}
+use Rattle.cs_output.specs.Putting.{shown}
 use Rattle.cs_manifest.specs.declared.counts.Counts.{Counts}
 use Rattle.cs_manifest.specs.declared.entry.Entry.{Entry}
-use Rattle.cs_manifest.specs.declared.entry.Entry.TheVariants.{Goal, Case, Shared, Base, Negative}
+use Rattle.cs_manifest.specs.declared.entry.Entry.TheVariants.{Goal, Case, Shared, Base, Negative, Filled}
 use Rattle.cs_manifest.specs.declared.entry.SharedVerdict.{SharedVerdict}
 use Rattle.cs_manifest.specs.declared.entry.SharedVerdict.TheVariants.{Feasible, Infeasible, Large}
 use Rattle.cs_manifest.specs.Entry.{lines_of}
 use Rattle.cs_manifest.specs.Lines.{end_words, is_feasible, is_infeasible, is_large}
-use Rattle.cs_manifest.specs.Putting.{shown}
 
 -- no entries, and so many bytes; in the first format, which has no cases
 abbrev pub first_counts : ℕ → Counts
@@ -61,6 +61,7 @@ with_entry counts (Case number size derivation tokens rendered) = with_case coun
 with_entry counts (Shared number goal verdict) = with_shared_verdict counts verdict
 with_entry counts (Base number goal) = counts
 with_entry counts (Negative numbered) = record counts { negatives = next_count counts.negatives }
+with_entry counts (Filled negative) = record counts { negatives = next_count counts.negatives }
 
 -- behind one more entry
 abbrev pub behind_entry : File → Counts → Entry → Counts

@@ -4,12 +4,15 @@ use Rattle.std.specs.Borrow.{Bor}
 use Rattle.cs_render.specs.declared.rendered.Rendered.{Rendered}
 use Rattle.cs_render.specs.Rendering.{Rendering, rendering, rendering_in}
 use Rattle.cs_yacc.specs.File.{File}
+use Rattle.cs_output.specs.Names.{AreNamedTokens}
 use Rattle.cs_manifest.specs.declared.entry.Entry.{Entry}
+use Rattle.cs_manifest.specs.declared.entry.FilledNegative.{FilledNegative}
 use Rattle.cs_manifest.specs.declared.entry.NumberedNegative.{NumberedNegative}
-use Rattle.cs_manifest.specs.declared.entry.Entry.TheVariants.{Goal, Case, Shared, Base, Negative}
+use Rattle.cs_manifest.specs.declared.entry.Entry.TheVariants.{Goal, Case, Shared, Base, Negative, Filled}
 use Rattle.cs_manifest.specs.Lines.{goal_lines, base_line, negative_lines}
+use Rattle.cs_manifest.specs.Open.{filled}
 use Rattle.cs_manifest.specs.SharedLines.{case_lines, shared_goal_line}
-use Rattle.cs_manifest.specs.Names.{AreNamedRenderings, AreNamedTokens, IsNamedGoal, IsNamedNegative, IsNamedRendering}
+use Rattle.cs_manifest.specs.Named.{AreNamedRenderings, IsNamedGoal, IsNamedNegative, IsNamedRendering}
 
 -- the value of an answer behind a reference, where there is one
 abbrev pub rendering_of : Option (Bor Rendered) → Option Rendering
@@ -18,6 +21,10 @@ rendering_of rendered = option_map (λ r. rendering r.now) rendered
 -- the lines of a negative with its numbers
 abbrev pub lines_of_numbered : File → NumberedNegative → List ℕ
 lines_of_numbered file n = negative_lines file n.number n.base n.negative n.tokens.now (Some (rendering_in n.rendered))
+
+-- those of one that fills lines
+abbrev pub lines_of_filled : FilledNegative → List ℕ
+lines_of_filled n = filled n.lines.now n.number n.name.now n.lexeme.now
 
 -- the numbers of its tokens are of the file
 pub record IsNamedNumbered (file : File) (n : NumberedNegative) : Type 0 where
@@ -34,6 +41,7 @@ lines_of file (Case number size derivation tokens rendered) =
 lines_of file (Shared number goal verdict) = shared_goal_line file number goal.now verdict
 lines_of file (Base number goal) = base_line number goal
 lines_of file (Negative numbered) = lines_of_numbered file numbered
+lines_of file (Filled negative) = lines_of_filled negative
 
 -- the numbers of its tokens are of the file
 abbrev pub IsNamedEntry : File → Entry → Type 0
@@ -44,3 +52,4 @@ IsNamedEntry file (Case number size derivation tokens rendered) =
 IsNamedEntry file (Shared number goal verdict) = IsNamedGoal file goal.now
 IsNamedEntry file (Base number goal) = Unit {0}
 IsNamedEntry file (Negative numbered) = IsNamedNumbered file numbered
+IsNamedEntry file (Filled negative) = Unit {0}

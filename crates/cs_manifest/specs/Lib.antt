@@ -1,12 +1,12 @@
-pub mod Words
-pub mod Names
+pub mod Named
 pub mod Lines
 pub mod SharedLines
 pub mod Head
+pub mod Open
 pub mod Entry
 pub mod Counts
 pub mod Progress
 pub mod Manifest
-pub mod Sinks
-pub mod Putting
 pub mod Below
+pub mod Holes
+pub mod ByToken

@@ -15,8 +15,8 @@ use Rattle.cs_mutate.specs.declared.edit.Edit.TheVariants.{Delete, Insert, Repla
 use Rattle.cs_mutate.specs.declared.negative.Negative.{Negative}
 use Rattle.cs_lexeme.specs.Lexeme.{lexeme_in}
 use Rattle.cs_render.specs.Rendering.{Rendering, Text, NoLexeme, Differs}
-use Rattle.cs_manifest.specs.Words.{line, spaced, with_numbers, quoted}
-use Rattle.cs_manifest.specs.Names.{token_text, token_of, nonterminal_of, symbol_text, mark_text}
+use Rattle.cs_output.specs.Words.{line, spaced, with_numbers, quoted}
+use Rattle.cs_output.specs.Names.{token_text, token_of, nonterminal_of, symbol_text, mark_text}
 
 -- a number behind its word
 abbrev pub numbered_word : List ℕ → ℕ → List ℕ

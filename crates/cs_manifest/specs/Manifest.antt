@@ -31,9 +31,9 @@ use Rattle.cs_manifest.specs.declared.format.Format.TheVariants.{One, Two}
 use Rattle.cs_manifest.specs.declared.format.Weigh.{Weigh}
 use Rattle.cs_manifest.specs.declared.format.Weigh.TheVariants.{Nodes, Bytes}
 use Rattle.cs_closed.specs.Closed.{AreClosedSets, ClosedSets}
+use Rattle.cs_output.specs.Words.{with_numbers, numbered_from}
 use Rattle.cs_manifest.specs.SharedLines.{case_lines, shared_goal_line, shared_head_lines}
 use Rattle.cs_manifest.specs.Lines.{head_lines, goal_lines, base_line, negative_lines, end_words, is_feasible, is_infeasible, is_large}
-use Rattle.cs_manifest.specs.Words.{with_numbers, numbered_from}
 
 -- ---- what is chosen
 

@@ -5,12 +5,12 @@ use Rattle.cs_grammar.specs.declared.symbol.Mark.TheVariants.{Begin, Token}
 use Rattle.cs_yacc.specs.File.{File}
 use Rattle.cs_goals.specs.declared.goal.Goal.{Goal}
 use Rattle.cs_render.specs.Rendering.{Rendering}
+use Rattle.cs_output.specs.Words.{line, spaced, with_numbers}
+use Rattle.cs_output.specs.Names.{nonterminal_of, mark_text}
 use Rattle.cs_manifest.specs.declared.entry.SharedVerdict.{SharedVerdict}
 use Rattle.cs_manifest.specs.declared.entry.SharedVerdict.TheVariants.{Feasible, Infeasible, Large}
 use Rattle.cs_manifest.specs.declared.format.Weigh.{Weigh}
 use Rattle.cs_manifest.specs.declared.format.Weigh.TheVariants.{Nodes, Bytes}
-use Rattle.cs_manifest.specs.Words.{line, spaced, with_numbers}
-use Rattle.cs_manifest.specs.Names.{nonterminal_of, mark_text}
 use Rattle.cs_closed.specs.Closed.{ClosedSets}
 use Rattle.cs_manifest.specs.Lines.{numbered_word, token_words, table_lines, tree_lines, text_lines, goal_words}
 

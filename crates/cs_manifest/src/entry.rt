@@ -1,7 +1,9 @@
+use crate::open::OpenLines;
 use cs_cases::Named;
 use cs_goals::Goal;
 use cs_grammar::Derivation;
 use cs_mutate::Negative;
+use cs_output::Piece;
 use cs_positive::Verdict;
 use cs_render::{Rendered, RenderedParts};
 
@@ -38,6 +40,8 @@ pub enum Entry<'a> {
     },
     /// A negative of the base above.
     Negative(NumberedNegative<'a>),
+    /// The same, told by lines that lack what it alone has.
+    Filled(FilledNegative<'a>),
 }
 
 /// A negative with its number and that of its base: the edit with its poisoned pair, the edited list, and what came of the
@@ -49,6 +53,16 @@ pub struct NumberedNegative<'a> {
     pub negative: Negative,
     pub tokens: &'a [u16],
     pub rendered: RenderedParts<'a>,
+}
+
+/// A negative by the lines of those that differ in the token of their edit alone: its number, the name of that token behind a
+/// space, and the token's lexeme as it stands between quotes.
+#[derive(Clone, Copy)]
+pub struct FilledNegative<'a> {
+    pub number: u64,
+    pub lines: &'a OpenLines,
+    pub name: &'a Piece,
+    pub lexeme: &'a Piece,
 }
 
 /// A goal's verdict in the second format: a feasible goal names cases.

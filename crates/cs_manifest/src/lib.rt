@@ -4,11 +4,15 @@
 //! sink took exactly the lines of that call, and a failure that it took a prefix of them; no such call takes memory. A manifest
 //! is seen as its head and the counts of what was written so far.
 //!
+//! Negatives that differ in the token that their edit puts alone have lines that differ in their number, that token and its
+//! lexeme alone. What stands around these is spelled once, as [`OpenLines`] of an [`OpenNegative`], and [`TokenPieces`] have the
+//! name and the lexeme of each token. An entry that is filled so has the lines of that negative, and is put by copying.
+//!
 //! Meaning, from the top down: `specs/Manifest` (the manifest of a file by a choice; closed sets are those of `cs_closed`),
 //! `Progress` (what contracts see of a manifest), `Counts`, `Head` and `Entry` (which lines stand for what), `Lines` and
-//! `SharedLines` (the lines of both formats and those of the second, in their order), `Names` (the names of symbols, and which
-//! numbers have one), `Words` (words, lines and escapes), `Sinks` (what a call did to a sink). Working words of proofs:
-//! `Putting`, `Below`.
+//! `SharedLines` (the lines of both formats and those of the second, in their order), `Open` (negatives without their token, and
+//! their lines), `Named` (what has names). Working words of proofs: `Below`, `Holes`, `ByToken`. The words of lines, the names
+//! of symbols and what a call did to a sink are those of `cs_output`.
 #![tactic(auto)]
 
 mod counts;
@@ -17,15 +21,17 @@ mod format;
 mod head;
 mod laws;
 mod manifest;
-mod names;
-mod output;
+mod open;
 mod put_closed;
 mod put_entry;
 mod put_head;
+mod token_pieces;
 
 pub use counts::Counts;
-pub use entry::{Entry, NumberedNegative, SharedVerdict};
+pub use entry::{Entry, FilledNegative, NumberedNegative, SharedVerdict};
 pub use format::{Format, Weigh};
 pub use head::{Form, Head};
 pub use laws::{one_manifest, one_text, some_manifest};
 pub use manifest::Manifest;
+pub use open::{OpenEdit, OpenLines, OpenNegative, OpenPair};
+pub use token_pieces::TokenPieces;

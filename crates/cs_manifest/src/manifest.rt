@@ -2,18 +2,18 @@
 
 ghost use Rattle.std.specs.Prelude.{◌≡◌, ◌≤◌, IfOk, IsOk, OnErr, OnOk, option_map};
 ghost use Rattle.cs_io.specs.Faults.{Rose, next_count};
+ghost use Rattle.cs_output.specs.Sinks.{HasRoom, IsCalm, LeavesRoom, Took, TookPart};
 ghost use Rattle.cs_manifest.specs.Counts as spec;
 ghost use Rattle.cs_manifest.specs.Counts.{behind_end, end_of, with_entry as counted, with_shared_verdict, with_verdict};
 ghost use Rattle.cs_manifest.specs.Entry.{IsNamedEntry};
 ghost use Rattle.cs_manifest.specs.Head.{IsNamedHead, head_of, no_cases, sharing_in};
 ghost use Rattle.cs_manifest.specs.Progress.{begun, behind, lines_in};
-ghost use Rattle.cs_manifest.specs.Sinks.{HasRoom, IsCalm, LeavesRoom, Took, TookPart};
 
-use crate::output::{LINE_LENGTH, Output};
 use crate::put_entry::{put_end, put_entry};
 use crate::put_head::put_head;
 use crate::{Counts, Entry, Form, Head, SharedVerdict};
 use cs_io::{Sink, SinkError};
+use cs_output::{LINE_LENGTH, Output};
 use cs_positive::Verdict;
 use std::marker::Model;
 
@@ -180,7 +180,9 @@ fn count_entry(counts: &mut Counts, bytes: u128, entry: &Entry<'_>)
         Entry::Case { .. } => counts.cases = next_case(counts.cases),
         Entry::Shared { verdict, .. } => *counts = with_shared(*counts, *verdict),
         Entry::Base { .. } => {}
-        Entry::Negative(_) => counts.negatives = counts.negatives.saturating_add(1),
+        Entry::Negative(_) | Entry::Filled(_) => {
+            counts.negatives = counts.negatives.saturating_add(1);
+        }
     }
 }
 

@@ -3,16 +3,16 @@
 ghost use Rattle.std.specs.Prelude.{◌≡◌, ◌<◌, All, length};
 ghost use Rattle.cs_grammar.specs.Grammar.{IsNumberOf};
 ghost use Rattle.cs_closed.specs.Closed.{AreClosedSets};
-ghost use Rattle.cs_manifest.specs.Names as names;
-ghost use Rattle.cs_manifest.specs.Putting.{Puts};
+ghost use Rattle.cs_output.specs.Names as names;
+ghost use Rattle.cs_output.specs.Putting.{Puts};
+ghost use Rattle.cs_manifest.specs.Named.{AreNamedSets};
 ghost use Rattle.cs_manifest.specs.SharedLines as lines;
 
-use crate::names::{put_nonterminal, put_spaced_mark};
-use crate::output::Output;
 use crate::put_entry::put_names;
 use cs_closed::{Closed, Marks, Tokens};
 use cs_grammar::{Mark, number_of};
 use cs_io::Sink;
+use cs_output::{Output, put_nonterminal, put_spaced_mark};
 use cs_yacc::YaccFile;
 
 /// The lines of the closed sets of the file's grammar.
@@ -30,7 +30,7 @@ pub fn put_closed<S: Sink>(output: &mut Output<'_, S>, file: &YaccFile, closed: 
 
 // The lines of the sets of nonterminals.
 fn put_sets<S: Sink>(output: &mut Output<'_, S>, file: &YaccFile, closed: &Closed)
-    requires { names.AreNamedSets file.now closed.now }
+    requires { AreNamedSets file.now closed.now }
     ensures { Puts S.Sink (lines.set_lines file.now closed.now) output.old output.new }
 {
     put_set(output, file, b"closed productive", closed.productive());

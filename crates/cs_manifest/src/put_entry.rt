@@ -2,24 +2,24 @@
 
 ghost use Rattle.std.specs.Prelude.{◌≡◌, ◌∷◌, decimal};
 ghost use Rattle.cs_bytes.specs.Names.{space};
-ghost use Rattle.cs_manifest.specs.Entry.{IsNamedEntry, IsNamedNumbered, lines_of, lines_of_numbered, rendering_of};
+ghost use Rattle.cs_output.specs.Names as names;
+ghost use Rattle.cs_output.specs.Putting.{Puts};
+ghost use Rattle.cs_output.specs.Words as words;
+ghost use Rattle.cs_manifest.specs.Entry.{IsNamedEntry, IsNamedNumbered, lines_of, lines_of_filled, lines_of_numbered, rendering_of};
 ghost use Rattle.cs_manifest.specs.Counts.{end_of};
 ghost use Rattle.cs_manifest.specs.Below as below;
 ghost use Rattle.cs_manifest.specs.Below.{text_below, texts_below};
 ghost use Rattle.cs_manifest.specs.Lines as lines;
-ghost use Rattle.cs_manifest.specs.Names as names;
-ghost use Rattle.cs_manifest.specs.Putting.{Puts};
+ghost use Rattle.cs_manifest.specs.Named.{AreNamedRenderings, IsNamedEdit, IsNamedGoal, IsNamedNegative, IsNamedRendering};
 ghost use Rattle.cs_manifest.specs.SharedLines as shared;
-ghost use Rattle.cs_manifest.specs.Words as words;
 ghost use Rattle.cs_render.specs.Rendering.{rendering_in};
 
-use crate::names::{put_spaced_mark, put_spaced_token, put_text_bytes};
-use crate::output::Output;
-use crate::{Counts, Entry, NumberedNegative, SharedVerdict};
+use crate::{Counts, Entry, FilledNegative, NumberedNegative, SharedVerdict};
 use cs_goals::Goal;
 use cs_grammar::{Derivation, Mark};
 use cs_io::Sink;
 use cs_mutate::{Edit, Negative};
+use cs_output::{Output, put_spaced_mark, put_spaced_token, put_text_bytes};
 use cs_positive::Verdict;
 use cs_render::{Rendered, RenderedParts};
 use cs_yacc::YaccFile;
@@ -62,12 +62,13 @@ pub fn put_entry<S: Sink>(output: &mut Output<'_, S>, file: &YaccFile, entry: &E
         }
         Entry::Base { number, goal } => put_base(output, number, goal),
         Entry::Negative(numbered) => put_negative(output, file, &numbered),
+        Entry::Filled(filled) => put_filled(output, &filled),
     }
 }
 
 // `goal N GOAL`
 fn put_goal_words<S: Sink>(output: &mut Output<'_, S>, file: &YaccFile, number: u64, goal: &Goal)
-    requires { names.IsNamedGoal file.now goal.now }
+    requires { IsNamedGoal file.now goal.now }
     ensures { Puts S.Sink (lines.goal_words file.now number goal.now) output.old output.new }
 {
     output.put(b"goal ");
@@ -77,7 +78,7 @@ fn put_goal_words<S: Sink>(output: &mut Output<'_, S>, file: &YaccFile, number: 
 }
 
 fn put_goal<S: Sink>(output: &mut Output<'_, S>, file: &YaccFile, goal: &Goal)
-    requires { names.IsNamedGoal file.now goal.now }
+    requires { IsNamedGoal file.now goal.now }
     ensures { Puts S.Sink (lines.goal_text file.now goal.now) output.old output.new }
 {
     match *goal {
@@ -98,9 +99,9 @@ fn put_goal<S: Sink>(output: &mut Output<'_, S>, file: &YaccFile, goal: &Goal)
     }
 }
 
-// A number behind a word.
+/// A number behind a word.
 #[inline(always)]
-fn put_count<S: Sink>(output: &mut Output<'_, S>, word: &[u8], count: u64)
+pub fn put_count<S: Sink>(output: &mut Output<'_, S>, word: &[u8], count: u64)
     ensures { Puts S.Sink (lines.numbered_word word.now count) output.old output.new }
 {
     output.put(word);
@@ -168,7 +169,7 @@ fn put_shared_verdict<S: Sink>(output: &mut Output<'_, S>, verdict: SharedVerdic
 }
 
 fn put_text_lines<S: Sink>(output: &mut Output<'_, S>, file: &YaccFile, rendered: Option<&Rendered>)
-    requires { names.AreNamedRenderings file.now (rendering_of rendered) }
+    requires { AreNamedRenderings file.now (rendering_of rendered) }
     ensures { Puts S.Sink (texts_below file.now (rendering_of rendered.entry))
         output.old output.new }
 {
@@ -194,8 +195,8 @@ fn put_numbers<S: Sink>(output: &mut Output<'_, S>, numbers: &[u16])
     }
 }
 
-// The line of the tokens behind the newline above, without its own.
-fn put_yield<S: Sink>(output: &mut Output<'_, S>, file: &YaccFile, tokens: &[u16])
+/// The line of the tokens behind the newline above, without its own.
+pub fn put_yield<S: Sink>(output: &mut Output<'_, S>, file: &YaccFile, tokens: &[u16])
     requires { names.AreNamedTokens file.now tokens.now }
     ensures { Puts S.Sink (below.tokens_below file.now tokens.now) output.old output.new }
 {
@@ -215,7 +216,7 @@ pub fn put_names<S: Sink>(output: &mut Output<'_, S>, file: &YaccFile, tokens: &
 
 // The text line behind the newline above.
 fn put_rendered<S: Sink>(output: &mut Output<'_, S>, file: &YaccFile, rendered: RenderedParts<'_>)
-    requires { names.IsNamedRendering file.now (rendering_in rendered) }
+    requires { IsNamedRendering file.now (rendering_in rendered) }
     ensures { Puts S.Sink (text_below file.now (rendering_in rendered.entry))
         output.old output.new }
 {
@@ -271,6 +272,23 @@ fn put_negative<S: Sink>(
     put_rendered(output, file, numbered.rendered);
 }
 
+fn put_filled<S: Sink>(output: &mut Output<'_, S>, negative: &FilledNegative<'_>)
+    ensures { Puts S.Sink (lines_of_filled negative.now) output.old output.new }
+{
+    let lines = negative.lines;
+    output.put(b"negative ");
+    output.put_number(negative.number);
+    output.put_piece(&lines.head);
+    output.put_piece(negative.name);
+    output.put_piece(&lines.pair);
+    output.put_piece(negative.name);
+    output.put_piece(&lines.list);
+    output.put_piece(negative.name);
+    output.put_piece(&lines.text);
+    output.put_piece(negative.lexeme);
+    output.put_piece(&lines.end);
+}
+
 // `negative N base B`
 fn put_base_words<S: Sink>(output: &mut Output<'_, S>, number: u64, base: u32)
     ensures { Puts S.Sink (lines.base_words number base) output.old output.new }
@@ -281,7 +299,7 @@ fn put_base_words<S: Sink>(output: &mut Output<'_, S>, number: u64, base: u32)
 
 // ` EDIT pair A B at K`, without the newline.
 fn put_fault<S: Sink>(output: &mut Output<'_, S>, file: &YaccFile, negative: &Negative)
-    requires { names.IsNamedNegative file.now negative.now }
+    requires { IsNamedNegative file.now negative.now }
     ensures { Puts S.Sink (below.fault_words file.now negative.now) output.old output.new }
 {
     put_edit(output, file, negative.edit);
@@ -292,7 +310,7 @@ fn put_fault<S: Sink>(output: &mut Output<'_, S>, file: &YaccFile, negative: &Ne
 
 // ` EDIT`
 fn put_edit<S: Sink>(output: &mut Output<'_, S>, file: &YaccFile, edit: Edit)
-    requires { names.IsNamedEdit file.now edit }
+    requires { IsNamedEdit file.now edit }
     ensures { Puts S.Sink (space ∷ lines.edit_text file.now edit) output.old output.new }
 {
     match edit {

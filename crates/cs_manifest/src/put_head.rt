@@ -2,20 +2,20 @@
 
 ghost use Rattle.std.specs.Prelude.{◌≡◌, ◌<◌, ◌≤◌, All, Some, length};
 ghost use Rattle.cs_lexeme.specs.Lexeme.{lexeme_in};
+ghost use Rattle.cs_output.specs.Names as names;
+ghost use Rattle.cs_output.specs.Putting.{Puts};
+ghost use Rattle.cs_output.specs.Words as words;
 ghost use Rattle.cs_manifest.specs.Head.{IsNamedHead, head_of};
 ghost use Rattle.cs_manifest.specs.Lines as lines;
-ghost use Rattle.cs_manifest.specs.Names as names;
-ghost use Rattle.cs_manifest.specs.Putting.{Puts};
+ghost use Rattle.cs_manifest.specs.Named.{IsNamedRule};
 ghost use Rattle.cs_manifest.specs.SharedLines as shared;
-ghost use Rattle.cs_manifest.specs.Words as words;
 
-use crate::names::{put_nonterminal, put_quoted, put_symbol, put_token_name};
-use crate::output::Output;
 use crate::put_closed::put_closed;
 use crate::{Form, Head, Weigh};
 use cs_grammar::{Rule, Symbol, number_of};
 use cs_io::Sink;
 use cs_lexeme::Lexemes;
+use cs_output::{Output, put_nonterminal, put_quoted, put_symbol, put_token_name};
 use cs_yacc::{TokenName, YaccFile};
 
 /// The lines of the head.
@@ -90,7 +90,7 @@ fn put_token_line<S: Sink>(output: &mut Output<'_, S>, number: u64, name: &Token
 }
 
 fn put_rules<S: Sink>(output: &mut Output<'_, S>, file: &YaccFile, rules: &[Rule])
-    requires { All (names.IsNamedRule file.now) rules.now }
+    requires { All (IsNamedRule file.now) rules.now }
     ensures { Puts S.Sink (lines.rule_lines file.now rules.now) output.old output.new }
 {
     for (place, rule) in rules.iter().enumerate() {
@@ -99,7 +99,7 @@ fn put_rules<S: Sink>(output: &mut Output<'_, S>, file: &YaccFile, rules: &[Rule
 }
 
 fn put_rule_line<S: Sink>(output: &mut Output<'_, S>, file: &YaccFile, number: u64, rule: &Rule)
-    requires { names.IsNamedRule file.now rule.now }
+    requires { IsNamedRule file.now rule.now }
     ensures { Puts S.Sink (lines.rule_line file.now number rule.now) output.old output.new }
 {
     output.put(b"rule ");

@@ -1,2 +1,5 @@
+pub mod Entries
+pub mod Filling
 pub mod Naming
 pub mod Taking
+pub mod Texts

@@ -1,12 +1,18 @@
--- What is made of a base's negative has names for its tokens.
-use Rattle.std.proofs.Common.{◌≡◌, ℕ, ◌+◌, List, [], ◌∷◌, ◌++◌, length, map, sym, ap, ◌∙◌, subst, Option}
+-- The negatives of a base, and what comes of the rendering of their edited lists, have names for their tokens.
+use Rattle.std.proofs.Common.{◌≡◌, ℕ, ◌+◌, List, [], ◌∷◌, ◌++◌, length, map, sym, subst, Option}
 use Rattle.std.specs.Prelude.{All, Some, slice_get}
 use Rattle.std.proofs.lemmas.List.Elements.{All-nil, All-cons, All-append, All-head, All-tail, All-map}
 use Rattle.std.proofs.lemmas.Option.{get_or_from_slice_get, slice_get_within}
 use Rattle.cs_grammar.specs.Grammar.{IsNumberOf, PlainGrammar}
 use Rattle.cs_grammar.specs.Sentence.{framed}
 use Rattle.cs_grammar.specs.declared.symbol.Mark.TheVariants.{Begin, Token, End}
-use Rattle.cs_manifest.specs.Names.{AreNamedTokens, IsNamedEdit, IsNamedMark, IsNamedNegative, IsNamedRendering, IsNamedToken}
+use Rattle.cs_output.specs.Names.{AreNamedTokens, IsNamedMark, IsNamedToken}
+use Rattle.cs_manifest.specs.Named.{IsNamedEdit, IsNamedNegative, IsNamedRendering}
+use Rattle.cs_manifest.specs.Open.{mark_in, negative_by}
+use Rattle.cs_manifest.specs.declared.open.OpenEdit.{OpenEdit}
+use Rattle.cs_manifest.specs.declared.open.OpenEdit.TheVariants as puts
+use Rattle.cs_manifest.specs.declared.open.OpenPair.{OpenPair}
+use Rattle.cs_manifest.specs.declared.open.OpenPair.TheVariants.{Behind, Before}
 use Rattle.cs_mutate.specs.Edit.{Fits, HasToken, edited}
 use Rattle.cs_mutate.specs.Negatives.{IsNegative}
 use Rattle.cs_mutate.specs.declared.edit.Edit.{Edit}
@@ -14,11 +20,8 @@ use Rattle.cs_mutate.specs.declared.edit.Edit.TheVariants.{Delete, Insert, Repla
 use Rattle.cs_mutate.specs.declared.negative.Negative.{Negative}
 use Rattle.cs_mutate.proofs.Searching.{edited_tokens}
 use Rattle.cs_render.specs.Rendering.{Rendering, Text, NoLexeme, Differs, IsRendered}
-use Rattle.cs_render_work.specs.declared.work.RenderWork.{RenderWork}
 use Rattle.cs_scan.specs.Scan.{Scanning}
-use Rattle.cs_scan.specs.Compared.{scanning}
 use Rattle.cs_yacc.specs.File.{File}
-use Rattle.cs_mutants.specs.Mutants.{IsMutantOf, IsNamedMutant, Mutant}
 
 All-there : {A : Type 0} (P : A → Type 0) (xs : List A) (y : A) (ys : List A) → All P (xs ++ y ∷ ys) → P y
 All-there P [] y ys h = All-head P y ys h
@@ -40,28 +43,33 @@ module _ (file : File) where
       (All-append (IsNamedMark file) (map Token list) (End ∷ []) (All-map (IsNamedMark file) Token list h)
       (All-cons (IsNamedMark file) End [] tt (All-nil (IsNamedMark file))))
 
-  named_rendering : (s : Scanning) (lexemes : List (Option (List ℕ))) (separator tokens : List ℕ) (r : Rendering) → AreNamedTokens file tokens → IsRendered s lexemes separator tokens r → IsNamedRendering file r
+  -- a negative of a base
+  module _ (g : PlainGrammar) (base : List ℕ) (names : length file.token_names ≡ g.tokens) (tokens : All (IsNumberOf g.tokens) base) where
+    pub named_negative : (n : Negative) → Fits (length base) g.tokens n.edit → IsNegative g base n → IsNamedNegative file n
+    named_negative n fits is =
+        let list = edited base n.edit in
+        let named : AreNamedTokens file list = subst (λ (k : ℕ). All (IsNumberOf k) list) (sym names) (edited_tokens g.tokens base tokens n.edit fits) in
+        let marks = named_frame list named in
+        record {
+          edit = named_edit n.edit (subst (λ (k : ℕ). HasToken k n.edit) (sym names) fits.1);
+          left = All-slice_get (IsNamedMark file) (framed list) n.at n.left marks is.pair.left;
+          right = All-slice_get (IsNamedMark file) (framed list) (n.at + 1) n.right marks is.pair.right;
+        }
+
+  -- the token that its edit puts, and the other mark of its pair
+  pub token_named : (edit : OpenEdit) (pair : OpenPair) (token : ℕ) → IsNamedNegative file (negative_by edit pair token) → IsNamedToken file token
+  token_named (puts.Insert place) (Behind left) token named = named.edit
+  token_named (puts.Insert place) (Before right) token named = named.edit
+  token_named (puts.Replace place) (Behind left) token named = named.edit
+  token_named (puts.Replace place) (Before right) token named = named.edit
+
+  pub mark_named : (edit : OpenEdit) (pair : OpenPair) (token : ℕ) → IsNamedNegative file (negative_by edit pair token) → IsNamedMark file (mark_in pair)
+  mark_named edit (Behind left) token named = named.left
+  mark_named edit (Before right) token named = named.right
+
+  -- what comes of the rendering of tokens with names
+  pub named_rendering : (s : Scanning) (lexemes : List (Option (List ℕ))) (separator tokens : List ℕ) (r : Rendering) → AreNamedTokens file tokens → IsRendered s lexemes separator tokens r → IsNamedRendering file r
   named_rendering s lexemes separator tokens (Text text) named h = tt
   named_rendering s lexemes separator tokens (NoLexeme token) named h =
       All-there (IsNamedToken file) h.front token h.behind (subst (AreNamedTokens file) h.list named)
   named_rendering s lexemes separator tokens (Differs after) named h = tt
-
-  module _ (work : RenderWork) (g : PlainGrammar) (base : List ℕ) (names : length file.token_names ≡ g.tokens) (tokens : All (IsNumberOf g.tokens) base) where
-    pub named_mutant : (n : Negative) (m : Mutant) → Fits (length base) g.tokens n.edit → IsNegative g base n → IsMutantOf work base n m → IsNamedMutant file m
-    named_mutant n m fits is made =
-        let same : m.negative ≡ n = made.entry.is_of in
-        let list = edited base n.edit in
-        let named : AreNamedTokens file list = subst (λ (k : ℕ). All (IsNumberOf k) list) (sym names) (edited_tokens g.tokens base tokens n.edit fits) in
-        let marks = named_frame list named in
-        let pair = is.pair in
-        let edited_as : m.tokens ≡ list = made.tokens ∙ ap (λ (x : Negative). edited base x.edit) same in
-        let named_n : IsNamedNegative file n = record {
-          edit = named_edit n.edit (subst (λ (k : ℕ). HasToken k n.edit) (sym names) fits.1);
-          left = All-slice_get (IsNamedMark file) (framed list) n.at n.left marks pair.left;
-          right = All-slice_get (IsNamedMark file) (framed list) (n.at + 1) n.right marks pair.right;
-        } in
-        record {
-          negative = subst (IsNamedNegative file) (sym same) named_n;
-          tokens = subst (AreNamedTokens file) (sym edited_as) named;
-          text = named_rendering (scanning work.scanner.now) work.lexemes.now work.separator.now list m.rendered named made.entry.text;
-        }

@@ -1,2 +1,3 @@
-pub mod Mutants
 pub mod Makers
+pub mod Mutants
+pub mod Rows

@@ -1,16 +1,21 @@
-//! The negatives of a base as entries of a manifest, made one after another: each with its edited
-//! list and what came of the rendering of that list.
+//! The negatives of a base as entries of a manifest, made one after another.
 //!
-//! The layer above makes a [`Maker`] of a base, and a [`MadeNegative`], in whose memory each negative
-//! of the base is made in its turn. It lends itself as the entry of a manifest. The text of an edited
-//! list is told by that of the base where it can be.
+//! The layer above makes [`Tools`] of a file and of what lists of tokens are rendered with, of each base a [`Maker`], and of that a
+//! [`MadeNegative`], in whose memory each negative of the base is made in its turn. It lends itself as the entry of a manifest. Of
+//! negatives that differ in the token that their edit puts alone the lines are spelled once, where texts need no scan; else the text
+//! of an edited list is told by that of the base where it can be.
 //!
-//! Meaning: `specs/Mutants` (what is made of a negative, and its entry), `specs/Makers` (what a maker
-//! makes negatives of).
+//! Meaning: `specs/Makers` (what makes negatives), `specs/Mutants` (what is made of a negative, and its entry). Working words of
+//! proofs: the end of `Makers`, and `Rows`.
 #![tactic(auto)]
 
 mod made;
 mod maker;
+mod opened;
+mod row;
+mod rows;
+mod tools;
 
 pub use made::MadeNegative;
 pub use maker::Maker;
+pub use tools::{ToldToken, Tools};

@@ -11,8 +11,9 @@ use Rattle.cs_grammar.specs.Grammar.{PlainGrammar}
 use Rattle.cs_grammar.specs.Weights.{Weighed}
 use Rattle.cs_goals.specs.declared.goal.Goal.{Goal}
 use Rattle.cs_cases.specs.Cases.{PlainCases}
+use Rattle.cs_output.specs.Names.{AreNamedTokens}
 use Rattle.cs_manifest.specs.Manifest.{AreShared, AreTokensOf, GoalEntry, IsEntryOf, IsRenderedIf, IsShared, IsTextOf, SharedEntry, Texts, is_new}
-use Rattle.cs_manifest.specs.Names.{AreNamedRenderings, AreNamedTokens}
+use Rattle.cs_manifest.specs.Named.{AreNamedRenderings}
 use Rattle.cs_positive.specs.declared.positive.Positive.{Positive}
 use Rattle.cs_positive.specs.declared.verdict.Verdict.{Verdict}
 use Rattle.cs_positive.specs.declared.verdict.Verdict.TheVariants.{Feasible, Infeasible, Large}

@@ -15,8 +15,9 @@ use Rattle.cs_grammar.proofs.OneTree.{one_tree}
 use Rattle.cs_goals.specs.declared.goal.Goal.{Goal}
 use Rattle.cs_goals.specs.declared.goal.Goal.TheVariants.{Rule, Context, Pair}
 use Rattle.cs_goals.specs.Goal.{IsGoal, IsLeft, IsRight}
+use Rattle.cs_output.specs.Names.{AreNamedTokens, IsNamedMark, IsNamedToken}
 use Rattle.cs_manifest.specs.Manifest.{AreTokensOf, GoalEntry, IsEntryOf, IsRenderedBy, IsTextOf, Texts}
-use Rattle.cs_manifest.specs.Names.{AreNamedRenderings, AreNamedTokens, IsNamedGoal, IsNamedMark, IsNamedRendering, IsNamedToken}
+use Rattle.cs_manifest.specs.Named.{AreNamedRenderings, IsNamedGoal, IsNamedRendering}
 use Rattle.cs_positive.specs.declared.verdict.Verdict.{Verdict}
 use Rattle.cs_positive.specs.declared.verdict.Verdict.TheVariants.{Feasible, Infeasible, Large}
 use Rattle.cs_positive.specs.Verdict.{IsVerdict}

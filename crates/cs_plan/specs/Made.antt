@@ -3,6 +3,7 @@ use Rattle.std.specs.Prelude.{◌≡◌, ℕ, Bool, true, false, List, [], ◌�
 use Rattle.std.specs.Global.{Global, Vec}
 use Rattle.std.specs.Vec.Iter.{into_iter_items}
 use Rattle.std.specs.declared.vec.IntoIter.{IntoIter}
+use Rattle.cs_output.specs.Names.{AreNamedTokens}
 use Rattle.cs_manifest.specs.declared.counts.Counts.{Counts}
 use Rattle.cs_manifest.specs.declared.entry.Entry.{Entry}
 use Rattle.cs_manifest.specs.declared.entry.SharedVerdict.{SharedVerdict}
@@ -11,7 +12,7 @@ use Rattle.cs_manifest.specs.Counts.{with_case, with_entry, with_shared_verdict,
 use Rattle.cs_manifest.specs.Entry.{IsNamedEntry, lines_of}
 use Rattle.cs_manifest.specs.Manifest.{GoalEntry, SharedEntry, goal_entry_lines, is_new, new_case_lines}
 use Rattle.cs_manifest.specs.SharedLines.{shared_goal_line}
-use Rattle.cs_manifest.specs.Names.{AreNamedRenderings, AreNamedTokens, IsNamedGoal}
+use Rattle.cs_manifest.specs.Named.{AreNamedRenderings, IsNamedGoal}
 use Rattle.cs_positive.specs.declared.positive.Positive.{Positive}
 use Rattle.cs_positive.specs.declared.verdict.Verdict.{Verdict}
 use Rattle.cs_positive.specs.declared.verdict.Verdict.TheVariants.{Feasible, Infeasible, Large}

@@ -4,9 +4,9 @@ use Rattle.std.specs.Prelude.{All}
 use Rattle.std.proofs.lemmas.List.{map-append, take_more}
 use Rattle.std.proofs.lemmas.List.Elements.{All-get_or}
 use Rattle.cs_io.specs.declared.sink.Sink as Sink
-use Rattle.cs_manifest.specs.Sinks.{IsCutShort, IsWritten}
-use Rattle.cs_manifest.proofs.Written.{written_then, written_cut, cut_longer}
-use Rattle.cs_manifest.specs.Words.{numbered_from}
+use Rattle.cs_output.specs.Sinks.{IsCutShort, IsWritten}
+use Rattle.cs_output.proofs.Written.{written_then, written_cut, cut_longer}
+use Rattle.cs_output.specs.Words.{numbered_from}
 use Rattle.cs_yacc.specs.File.{File}
 use Rattle.cs_writing.proofs.Ones.{numbered_both}
 

@@ -3,11 +3,11 @@ use Rattle.std.proofs.Common.{◌≡◌, ℕ, ◌+◌, ◌-◌, ◌^◌, ◌≤�
 use Rattle.std.specs.Prelude.{count_by, if◌then◌else◌, IfSome, Option, None, Some, option_map}
 use Rattle.std.proofs.lemmas.List.Sums.{count_by-le-length, sum_by-append, sum_by-cons}
 use Rattle.cs_io.specs.Faults.{greatest}
+use Rattle.cs_output.specs.Putting.{shown}
 use Rattle.cs_manifest.specs.declared.counts.Counts.{Counts}
 use Rattle.cs_manifest.specs.Counts.{next_if, with_verdict}
 use Rattle.cs_manifest.specs.Lines.{is_feasible, is_infeasible, is_large}
 use Rattle.cs_manifest.specs.Manifest.{GoalEntry}
-use Rattle.cs_manifest.specs.Putting.{shown}
 use Rattle.cs_positive.specs.declared.verdict.Verdict.{Verdict}
 use Rattle.cs_writing.specs.Written.{AreCounted, AreWithin}
 use Rattle.cs_writing.proofs.Tallies.{sums}

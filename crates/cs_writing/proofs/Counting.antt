@@ -4,10 +4,10 @@ use Rattle.std.specs.Prelude.{if◌then◌else◌, IfSome, None, Some, option_ma
 use Rattle.std.proofs.lemmas.List.Sums.{count_by-le-length, sum_by-append, sum_by-cons}
 use Rattle.std.proofs.lemmas.List.{length-map}
 use Rattle.cs_io.specs.Faults.{greatest, next_count}
+use Rattle.cs_output.specs.Putting.{shown}
 use Rattle.cs_manifest.specs.declared.counts.Counts.{Counts}
 use Rattle.cs_manifest.specs.Counts.{with_case, with_lines, with_verdict}
 use Rattle.cs_manifest.specs.Manifest.{GoalEntry, SharedEntry, goal_entry_lines, is_new, new_case_lines, shared_entry_lines}
-use Rattle.cs_manifest.specs.Putting.{shown}
 use Rattle.cs_manifest.specs.SharedLines.{shared_goal_line}
 use Rattle.cs_plan.specs.Batches.{entries_in}
 use Rattle.cs_yacc.specs.File.{File}

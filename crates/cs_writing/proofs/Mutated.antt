@@ -7,24 +7,24 @@ use Rattle.std.proofs.lemmas.List.{drop_more, length-take-le, take_all, take_mor
 use Rattle.std.proofs.lemmas.List.Sums.{sum_by-append, sum_by-cons}
 use Rattle.cs_bases.specs.Bases.{PlainBases}
 use Rattle.cs_io.specs.declared.sink.Sink as Sink
+use Rattle.cs_output.specs.Sinks.{IsCutShort, IsWritten}
+use Rattle.cs_output.proofs.Written.{written_none, written_then}
 use Rattle.cs_manifest.specs.declared.counts.Counts.{Counts}
 use Rattle.cs_manifest.specs.Lines.{base_line}
 use Rattle.cs_manifest.specs.Manifest.{AreNegativesOf, BaseEntry, BasesOf, HasOneText, IsBaseOf, NegativeEntry, base_entry_lines, has_operator, most_bases}
 use Rattle.cs_manifest.specs.Progress.{Progress}
-use Rattle.cs_manifest.specs.Sinks.{IsCutShort, IsWritten}
 use Rattle.cs_manifest.proofs.OneManifest.{one_base, one_zip}
-use Rattle.cs_manifest.proofs.Written.{written_none, written_then}
 use Rattle.cs_yacc.specs.File.{File}
 use Rattle.cs_plan.specs.declared.plan.Mutation.{Mutation}
 use Rattle.cs_plan.specs.declared.plan.Plan.{Plan}
 use Rattle.cs_plan.specs.Plans.{choice_in, lexemes_in, no_operator, texts_in}
 use Rattle.cs_writing.specs.declared.halt.Halt.{Halt}
-use Rattle.cs_writing.specs.declared.halt.Halt.TheVariants.{Failed}
+use Rattle.cs_writing.specs.declared.halt.Halt.TheVariants.{Failed, Memory}
 use Rattle.cs_writing.specs.Mutants.{CountsBases, IsBasesText, IsCounted, negatives_from, negatives_in}
 use Rattle.cs_writing.specs.Written.{HasText, IsStopped}
 use Rattle.cs_writing.proofs.Ones.{nothing_in, zip_both, zip_length, zip_split}
 use Rattle.cs_writing.proofs.Parts.{HasBases, HasSomeBases}
-use Rattle.cs_writing.proofs.Stops.{stopped_by_cut, stopped_longer, stopped_behind}
+use Rattle.cs_writing.proofs.Stops.{stopped_by_cut, stopped_by_memory, stopped_longer, stopped_behind}
 use Rattle.cs_writing.proofs.Tallies.{counted_none, counted_then}
 
 -- lines of bases and of more
@@ -126,6 +126,10 @@ module _ {S : Type 0} (g : Sink.Ghosts S) (plan : Plan) (list : List (ℕ × Lis
   pub bases_none : (counts : Counts) (s : S) → BasesSoFar 0 s s counts counts
   bases_none counts s = record { mutants = []; all = tt; written = written_none s; counted = counted_none counts; few = omega arith }
 
+-- memory ran out before the first of them
+pub bases_refused : {S : Type 0} {g : Sink.Ghosts S} (plan : Plan) (list : List (ℕ × List ℕ)) (s : S) → HasSomeBases g plan list s s Memory
+bases_refused plan list s others are = stopped_by_memory (written_none s) (base_entry_lines plan.yacc.now 0 0 others)
+
 module _ {S : Type 0} {g : Sink.Ghosts S} (plan : Plan) (one : HasOneText (texts_in plan)) (list : List (ℕ × List ℕ)) (i : ℕ) (base : ℕ × List ℕ)
     (within : i < length list) (is : base ≡ get_or list i base) (old mid : S) (before counts : Counts) (so_far : BasesSoFar g plan list i old mid before counts) where
   abbrev mutants : List BaseEntry
@@ -136,6 +140,13 @@ module _ {S : Type 0} {g : Sink.Ghosts S} (plan : Plan) (one : HasOneText (texts
 
   many : length mutants ≡ i
   many = zip_length (Of plan) (take i list) mutants so_far.all ∙ length-take-le i list (omega (arith, within))
+
+  -- memory ran out before the line of the next base
+  pub base_memory : HasSomeBases g plan list old mid Memory
+  base_memory others are =
+      let next = bases_next plan one list i base within is mutants others many so_far.all are in
+      let rest = (base_line (i + 1) base.0 ++ negatives_from (file plan) (i + 1) base.1 (negatives_in mutants) next.negatives) ++ next.more in
+      subst (λ (l : List ℕ). IsStopped g l old mid Memory) (sym next.lines) (stopped_by_memory so_far.written rest)
 
   -- the line of the next base was cut short
   pub base_cut : (now : S) → IsCutShort g (base_line (i + 1) base.0) mid now → HasSomeBases g plan list old now Failed

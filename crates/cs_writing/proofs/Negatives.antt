@@ -5,14 +5,15 @@ use Rattle.std.specs.List.{AllZip}
 use Rattle.cs_grammar.specs.Grammar.{PlainGrammar}
 use Rattle.cs_io.specs.Faults.{greatest}
 use Rattle.cs_io.specs.declared.sink.Sink as Sink
+use Rattle.cs_output.specs.Sinks.{IsCutShort, IsWritten}
+use Rattle.cs_output.specs.Words.{numbered_from}
+use Rattle.cs_output.proofs.Written.{written_none, written_then, written_cut, cut_longer}
 use Rattle.cs_manifest.specs.declared.counts.Counts.{Counts}
 use Rattle.cs_manifest.specs.Manifest.{HasOneText, IsNegativeOf, NegativeEntry, negative_entry_lines}
 use Rattle.cs_manifest.specs.Progress.{Progress}
-use Rattle.cs_manifest.specs.Sinks.{IsCutShort, IsWritten}
-use Rattle.cs_manifest.specs.Words.{numbered_from}
 use Rattle.cs_manifest.proofs.OneManifest.{one_zip}
-use Rattle.cs_manifest.proofs.Written.{written_none, written_then, written_cut, cut_longer}
-use Rattle.cs_mutants.specs.Mutants.{IsMutantOf, Mutant, entry_of, texts_of}
+use Rattle.cs_mutants.specs.Makers.{Making}
+use Rattle.cs_mutants.specs.Mutants.{IsOfNegative, texts_of}
 use Rattle.cs_mutate.specs.Edit.{Fits, edited}
 use Rattle.cs_mutate.specs.Negatives.{AreNegatives, Finds, FindsNext, FitsBase, IsNegative, IsNext, Search}
 use Rattle.cs_mutate.specs.declared.edit.Edit.{Edit}
@@ -22,7 +23,6 @@ use Rattle.cs_render.specs.Rendering.{Rendering}
 use Rattle.cs_render_work.specs.declared.work.RenderWork.{RenderWork}
 use Rattle.cs_yacc.specs.File.{File}
 use Rattle.cs_writing.specs.declared.halt.Halt.TheVariants.{Failed, Memory}
-use Rattle.cs_writing.specs.declared.mutants.Base.{Base}
 use Rattle.cs_writing.specs.Mutants.{AreMade, CountsMade, IsCounted, negatives_from}
 use Rattle.cs_writing.specs.Written.{IsStopped}
 use Rattle.cs_writing.proofs.Edits.{few_negatives, negatives_both, negatives_split}
@@ -33,7 +33,7 @@ use Rattle.cs_writing.proofs.Tallies.{counted_none, counted_then}
 
 -- the partner of a negative
 abbrev Partner : RenderWork → List ℕ → Negative → NegativeEntry → Type 0
-Partner work base = IsNegativeOf (Some (texts_of work)) (Some work.lexemes.now) base
+Partner work base = IsOfNegative work base
 
 -- where a negative came, fewer edits are left
 pub fewer_edits : (old new : Search) (n : Negative) → FindsNext old (Some n) new → length new.edits < length old.edits
@@ -120,7 +120,7 @@ module _ (work : RenderWork) (search left : Search) (entries : List NegativeEntr
         each = first.each;
       }
 
-  first_few : length entries ≤ length search.edits
+  first_few : length entries + length left.edits ≤ length search.edits
   first_few =
       omega (
         arith,
@@ -170,16 +170,14 @@ module _ {S : Type 0} {g : Sink.Ghosts S} (file : File) (base : ℕ) (work : Ren
     entries = so_far.entries
 
     -- so that numbers don't end
-    pub negatives_few : (n : Negative) (m : Mutant) (new : Search) → FindsNext left (Some n) new → IsMutantOf work search.base n m → new.grammar ≡ left.grammar → new.base ≡ left.base
-        → before.negatives + length search.edits ≤ greatest → counts.negatives + 1 ≤ greatest
-    negatives_few n m new is made grammar base few =
-        let more = first_more work search left entries so_far.first n (entry_of m) new is made.entry grammar base in
+    pub negatives_few : (n : Negative) (new : Search) → FindsNext left (Some n) new → before.negatives + length search.edits ≤ greatest → counts.negatives + 1 ≤ greatest
+    negatives_few n new is few =
         omega (
           arith,
           few,
           ap (λ (c : Counts). c.negatives) so_far.counted.same,
-          first_few work search new (entries ++ entry_of m ∷ []) more,
-          length-append entries (entry_of m ∷ []),
+          first_few work search left entries so_far.first,
+          fewer_edits left new n is,
         )
 
     -- none came
@@ -200,41 +198,41 @@ module _ {S : Type 0} {g : Sink.Ghosts S} (file : File) (base : ℕ) (work : Ren
           subst (λ (l : List ℕ). IsStopped g l old mid Memory) (sym whole.1) (stopped_by_memory so_far.written whole.0)
 
     -- the next negative, as it was made
-    module _ (n : Negative) (m : Mutant) (new : Search) (now : S) (is : FindsNext left (Some n) new) (made : IsMutantOf work search.base n m)
+    module _ (n : Negative) (told : NegativeEntry) (new : Search) (now : S) (is : FindsNext left (Some n) new) (made : IsOfNegative work search.base n told)
         (grammar : new.grammar ≡ left.grammar) (same : new.base ≡ left.base) where
       abbrev lines : List ℕ
-      lines = negative_entry_lines file base search.base (counts.negatives + 1) (entry_of m)
+      lines = negative_entry_lines file base search.base (counts.negatives + 1) told
 
       -- its lines stand behind those that were written
-      lines_more : negatives_from file base search.base before.negatives entries ++ lines ≡ negatives_from file base search.base before.negatives (entries ++ entry_of m ∷ [])
-      lines_more = line_more file base search.base before.negatives counts.negatives entries (entry_of m) (ap (λ (c : Counts). c.negatives) so_far.counted.same)
+      lines_more : negatives_from file base search.base before.negatives entries ++ lines ≡ negatives_from file base search.base before.negatives (entries ++ told ∷ [])
+      lines_more = line_more file base search.base before.negatives counts.negatives entries told (ap (λ (c : Counts). c.negatives) so_far.counted.same)
 
-      more : FirstMade work search new (entries ++ entry_of m ∷ [])
-      more = first_more work search left entries so_far.first n (entry_of m) new is made.entry grammar same
+      more : FirstMade work search new (entries ++ told ∷ [])
+      more = first_more work search left entries so_far.first n told new is made grammar same
 
       pub negatives_more : (after : Counts) → IsWritten g lines mid now → IsCounted 1 lines counts after → NegativesSoFar g file base work search new old now before after
       negatives_more after written counted =
-          let many : length entries + 1 ≡ length (entries ++ entry_of m ∷ []) = omega (arith, length-append entries (entry_of m ∷ [])) in
+          let many : length entries + 1 ≡ length (entries ++ told ∷ []) = omega (arith, length-append entries (told ∷ [])) in
           let both = counted_then (length entries) 1 (negatives_from file base search.base before.negatives entries) lines before counts after so_far.counted counted in
           record {
-            entries = entries ++ entry_of m ∷ [];
+            entries = entries ++ told ∷ [];
             first = more;
             written = subst (λ (l : List ℕ). IsWritten g l old now) lines_more (written_then so_far.written written);
-            counted = subst (λ (l : List ℕ). IsCounted (length (entries ++ entry_of m ∷ [])) l before after) lines_more
+            counted = subst (λ (l : List ℕ). IsCounted (length (entries ++ told ∷ [])) l before after) lines_more
                 (subst (λ (k : ℕ). IsCounted k (negatives_from file base search.base before.negatives entries ++ lines) before after) many both);
           }
 
       -- its lines were cut short
       pub negatives_cut : HasOneText (Some (texts_of work)) → IsCutShort g lines mid now → HasSomeNegatives g file base work search before.negatives old now Failed
       negatives_cut one cut others are =
-          let found = made_front work search one new (entries ++ entry_of m ∷ []) others more are in
-          let whole = lines_front file base search.base before.negatives (entries ++ entry_of m ∷ []) found.0 others found.1 in
+          let found = made_front work search one new (entries ++ told ∷ []) others more are in
+          let whole = lines_front file base search.base before.negatives (entries ++ told ∷ []) found.0 others found.1 in
           let written = subst (λ (l : List ℕ). IsCutShort g l old now) lines_more (written_cut so_far.written cut) in
           subst (λ (l : List ℕ). IsStopped g l old now Failed) (sym whole.1) (stopped_by_cut (cut_longer whole.0 written))
 
 -- whichever the negatives are, they were counted
-pub made_counted : {S : Type 0} {g : Sink.Ghosts S} {old new : S} (before after : Progress) (base : Base) (search : Search) → HasOneText (Some (texts_of base.work.now))
-    → HasNegatives g before.file base.number base.work.now search old new before.counts after.counts → CountsMade base search before after
-made_counted before after base search one has entries are =
-    subst (λ (es : List NegativeEntry). IsCounted (length es) (negatives_from before.file base.number search.base before.counts.negatives es) before.counts after.counts)
-    (one_list_made base.work.now search one has.entries entries has.all are) has.counted
+pub made_counted : {S : Type 0} {g : Sink.Ghosts S} {old new : S} (before after : Progress) (making : Making) (search : Search) → HasOneText (Some (texts_of making.tools.work))
+    → HasNegatives g before.file making.number making.tools.work search old new before.counts after.counts → CountsMade making search before after
+made_counted before after making search one has entries are =
+    subst (λ (es : List NegativeEntry). IsCounted (length es) (negatives_from before.file making.number search.base before.counts.negatives es) before.counts after.counts)
+    (one_list_made making.tools.work search one has.entries entries has.all are) has.counted

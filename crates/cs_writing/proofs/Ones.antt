@@ -1,7 +1,7 @@
 -- The entries of a plan are one, and their lines begin with the lines of the first ones.
 use Rattle.std.proofs.Common.{◌≡◌, ℕ, ◌+◌, List, [], ◌∷◌, ◌++◌, length, refl, sym, ap, ◌∙◌, arith, append_assoc}
 use Rattle.std.specs.List.{AllZip}
-use Rattle.cs_manifest.specs.Words.{numbered_from}
+use Rattle.cs_output.specs.Words.{numbered_from}
 
 -- where each member has one partner at most, the partners of a longer list begin with those of its front
 pub zip_front : {A B : Type 0} {R : A → B → Type 0} → ((x : A) (a b : B) → R x a → R x b → a ≡ b) → (xs rest : List A) (ys zs : List B) → AllZip R xs ys → AllZip R (xs ++ rest) zs → (more : List B) × (zs ≡ ys ++ more)

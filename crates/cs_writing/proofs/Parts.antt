@@ -4,10 +4,11 @@ use Rattle.cs_bases.specs.Bases.{PlainBases, bases_of}
 use Rattle.cs_cases.specs.Cases.{PlainCases}
 use Rattle.cs_grammar.specs.Weights.{Weighed}
 use Rattle.cs_io.specs.declared.sink.Sink as Sink
+use Rattle.cs_output.specs.Sinks.{IsWritten}
 use Rattle.cs_manifest.specs.declared.counts.Counts.{Counts}
 use Rattle.cs_manifest.specs.Manifest.{BaseEntry, GoalEntry, NegativeEntry, base_entry_lines, most_bases}
 use Rattle.cs_manifest.specs.Progress.{Progress}
-use Rattle.cs_manifest.specs.Sinks.{IsWritten}
+use Rattle.cs_mutants.specs.Makers.{Making}
 use Rattle.cs_mutate.specs.Negatives.{Search}
 use Rattle.cs_plan.specs.declared.plan.Plan.{Plan}
 use Rattle.cs_plan.specs.Plans.{choice_in}
@@ -15,7 +16,6 @@ use Rattle.cs_positive.specs.Positives.{ToJudge}
 use Rattle.cs_render_work.specs.declared.work.RenderWork.{RenderWork}
 use Rattle.cs_yacc.specs.File.{File}
 use Rattle.cs_writing.specs.declared.halt.Halt.{Halt}
-use Rattle.cs_writing.specs.declared.mutants.Base.{Base}
 use Rattle.cs_writing.specs.Mutants.{AreBasesIn, AreMade, CountsBases, CountsMade, IsBasesText, IsCounted, IsMade, negatives_from, negatives_in}
 use Rattle.cs_writing.specs.Written.{AreBasesOf, AreCounted, AreGoals, CountsGoals, HasSomeText, HasText, IsGoalsText, IsStopped}
 
@@ -90,20 +90,20 @@ module _ {S : Type 0} {g : Sink.Ghosts S} where
     pub some_entries : (old new : S) (halt : Halt) → HasSomeText g (IsGoalsText plan left) old new halt → HasSomeEntries g plan left.tables old new halt
     some_entries old new halt stops entries cases lines are = stops lines (record { entries = entries; cases = cases; are = are })
 
-  module _ (before : Progress) (base : Base) (search : Search) where
-    pub made_text : {old new : S} {after : Counts} → HasNegatives g before.file base.number base.work.now search old new before.counts after → HasText g (IsMade before base search) old new
+  module _ (before : Progress) (making : Making) (search : Search) where
+    pub made_text : {old new : S} {after : Counts} → HasNegatives g before.file making.number making.tools.work search old new before.counts after → HasText g (IsMade before making search) old new
     made_text has = record {
-      text = negatives_from before.file base.number search.base before.counts.negatives has.entries;
+      text = negatives_from before.file making.number search.base before.counts.negatives has.entries;
       is = record { entries = has.entries; all = has.all; lines = refl };
       written = has.written;
     }
 
-    pub made_stop : (old new : S) (halt : Halt) → HasSomeNegatives g before.file base.number base.work.now search before.counts.negatives old new halt
-        → HasSomeText g (IsMade before base search) old new halt
+    pub made_stop : (old new : S) (halt : Halt) → HasSomeNegatives g before.file making.number making.tools.work search before.counts.negatives old new halt
+        → HasSomeText g (IsMade before making search) old new halt
     made_stop old new halt stops text is = subst (λ (l : List ℕ). IsStopped g l old new halt) (sym is.lines) (stops is.entries is.all)
 
-    pub has_negatives : {old new : S} (after : Progress) → HasText g (IsMade before base search) old new → CountsMade base search before after
-        → HasNegatives g before.file base.number base.work.now search old new before.counts after.counts
+    pub has_negatives : {old new : S} (after : Progress) → HasText g (IsMade before making search) old new → CountsMade making search before after
+        → HasNegatives g before.file making.number making.tools.work search old new before.counts after.counts
     has_negatives {old} {new} after put counted = record {
       entries = put.is.entries;
       all = put.is.all;
@@ -111,10 +111,10 @@ module _ {S : Type 0} {g : Sink.Ghosts S} where
       counted = counted put.is.entries put.is.all;
     }
 
-    pub some_negatives : (old new : S) (halt : Halt) → HasSomeText g (IsMade before base search) old new halt
-        → HasSomeNegatives g before.file base.number base.work.now search before.counts.negatives old new halt
+    pub some_negatives : (old new : S) (halt : Halt) → HasSomeText g (IsMade before making search) old new halt
+        → HasSomeNegatives g before.file making.number making.tools.work search before.counts.negatives old new halt
     some_negatives old new halt stops entries are =
-        stops (negatives_from before.file base.number search.base before.counts.negatives entries) (record { entries = entries; all = are; lines = refl })
+        stops (negatives_from before.file making.number search.base before.counts.negatives entries) (record { entries = entries; all = are; lines = refl })
 
   module _ (plan : Plan) (bases : PlainBases) where
     pub bases_text : {old new : S} {before after : Counts} → HasBases g plan bases.list old new before after → HasText g (IsBasesText plan bases) old new

@@ -10,10 +10,17 @@ use Rattle.cs_mutate.specs.Negatives.{Search, search_of}
 use Rattle.cs_render_work.specs.declared.work.RenderWork.{RenderWork}
 use Rattle.cs_plan.specs.declared.plan.Mutation.{Mutation}
 use Rattle.cs_plan.specs.declared.plan.Plan.{Plan}
-use Rattle.cs_plan.specs.Plans.{HasPairsOf, IsPlan, choice_in, lexemes_in, no_operator, texts_in, texts_of}
+use Rattle.cs_mutants.specs.Makers.{CanRender}
+use Rattle.cs_plan.specs.Plans.{CanRender as CanRenderBy, HasPairsOf, IsPlan, choice_in, lexemes_in, no_operator, texts_in, texts_of}
 use Rattle.cs_writing.specs.Mutants.{AreMade, IsEditable}
 use Rattle.cs_writing.proofs.Edits.{few_edits, few_negatives}
 use Rattle.cs_writing.proofs.Ones.{zip_length}
+
+-- lists of the file's tokens can be rendered
+pub can_render : (plan : Plan) → IsPlan plan → (work : Bor RenderWork) → plan.texts ≡ Some work → CanRender work.now (length plan.yacc.now.token_names)
+can_render plan is_plan work texts =
+    let can = subst (λ (t : Option (Bor RenderWork)). CanRenderBy plan.yacc.now t) texts is_plan.texts in
+    record { kinds = can.0; literals = can.1; lexemes = can.2.all ∙ sym is_plan.file.tokens }
 
 module _ (plan : Plan) (is_plan : IsPlan plan) (mutation : Mutation) (work : Bor RenderWork) (is : plan.mutation ≡ Some mutation) (texts : plan.texts ≡ Some work) where
   abbrev g : PlainGrammar

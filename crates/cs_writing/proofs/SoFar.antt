@@ -9,12 +9,12 @@ use Rattle.cs_grammar.specs.Grammar.{IsGrammar}
 use Rattle.cs_grammar.specs.Weights.{Weighed}
 use Rattle.cs_goals.specs.declared.goal.Goal.{Goal}
 use Rattle.cs_goals.specs.Goals.{goals}
+use Rattle.cs_output.specs.Sinks.{IsCutShort, IsWritten}
+use Rattle.cs_output.proofs.Written.{written_none, written_then, written_cut, cut_longer}
 use Rattle.cs_manifest.specs.declared.counts.Counts.{Counts}
 use Rattle.cs_manifest.specs.Head.{Sharing, no_cases as cases_at_first}
 use Rattle.cs_manifest.specs.Manifest.{GoalEntry, HasOneText, Texts, most_bases}
 use Rattle.cs_manifest.specs.Progress.{Progress}
-use Rattle.cs_manifest.specs.Sinks.{IsCutShort, IsWritten}
-use Rattle.cs_manifest.proofs.Written.{written_none, written_then, written_cut, cut_longer}
 use Rattle.cs_positive.specs.Positives.{ToJudge}
 use Rattle.cs_plan.specs.declared.plan.Plan.{Plan}
 use Rattle.cs_plan.specs.Batches.{AreNext}

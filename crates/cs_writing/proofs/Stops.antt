@@ -4,7 +4,7 @@ use Rattle.std.proofs.Math.Seq.{take-length}
 use Rattle.std.specs.Io.KnownBytes.{append_known}
 use Rattle.cs_io.specs.declared.sink.Sink as Sink
 use Rattle.cs_io.proofs.Known.{known_part, known_then_part}
-use Rattle.cs_manifest.specs.Sinks.{IsCutShort, IsWritten}
+use Rattle.cs_output.specs.Sinks.{IsCutShort, IsWritten}
 use Rattle.cs_writing.specs.declared.halt.Halt.{Halt}
 use Rattle.cs_writing.specs.declared.halt.Halt.TheVariants.{Failed, Memory}
 use Rattle.cs_writing.specs.Written.{IsStopped}

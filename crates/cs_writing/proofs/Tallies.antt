@@ -1,9 +1,9 @@
 -- Negatives and their lines, counted.
 use Rattle.std.proofs.Common.{◌≡◌, ℕ, ◌+◌, ◌-◌, ◌^◌, ◌≤◌, List, [], ◌++◌, length, length-append, min, sym, ap, ◌∙◌, arith}
 use Rattle.cs_io.specs.Faults.{greatest, next_count}
+use Rattle.cs_output.specs.Putting.{shown}
 use Rattle.cs_manifest.specs.declared.counts.Counts.{Counts}
 use Rattle.cs_manifest.specs.Counts.{with_lines}
-use Rattle.cs_manifest.specs.Putting.{shown}
 use Rattle.cs_writing.specs.Mutants.{IsCounted}
 
 pub counted_none : (c : Counts) → IsCounted 0 [] c c

@@ -11,6 +11,9 @@ use Rattle.cs_closed.specs.Closed.{ClosedSets}
 use Rattle.cs_closed.specs.declared.closed.Closed.{Closed}
 use Rattle.cs_closed.proofs.OneClosed.{one_closed}
 use Rattle.cs_io.specs.declared.sink.Sink as Sink
+use Rattle.cs_output.specs.Putting.{shown}
+use Rattle.cs_output.specs.Sinks.{IsCutShort, IsWritten}
+use Rattle.cs_output.proofs.Written.{written_then, written_cut, cut_longer}
 use Rattle.cs_manifest.specs.declared.counts.Counts.{Counts}
 use Rattle.cs_manifest.specs.Counts.{behind_end, counts_of_head, end_of}
 use Rattle.cs_manifest.specs.declared.head.Head.{Head}
@@ -18,10 +21,7 @@ use Rattle.cs_manifest.specs.Head.{Sharing, yacc_of, head_of, lexemes_of, lines_
 use Rattle.cs_manifest.specs.Lines.{end_words, is_feasible, is_infeasible, is_large}
 use Rattle.cs_manifest.specs.Manifest.{AreLexemesBy, BaseEntry, BasesOf, EntriesOf, GoalEntry, HasOneText, IsTextIn, Texts, base_entry_lines, bases, end_line_with, goal_texts, most_bases, shared_text, weighed_by}
 use Rattle.cs_manifest.specs.Progress.{begun}
-use Rattle.cs_manifest.specs.Putting.{shown}
-use Rattle.cs_manifest.specs.Sinks.{IsCutShort, IsWritten}
 use Rattle.cs_manifest.proofs.OneManifest.{one_manifest_by}
-use Rattle.cs_manifest.proofs.Written.{written_then, written_cut, cut_longer}
 use Rattle.cs_render_work.specs.declared.work.RenderWork.{RenderWork}
 use Rattle.cs_yacc.specs.File.{File}
 use Rattle.cs_plan.specs.declared.plan.Plan.{Plan}

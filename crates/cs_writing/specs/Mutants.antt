@@ -4,20 +4,20 @@ use Rattle.std.specs.Borrow.{Bor}
 use Rattle.std.specs.List.{AllZip}
 use Rattle.cs_grammar.specs.Grammar.{IsNumberOf}
 use Rattle.cs_bases.specs.Bases.{PlainBases, bases_of}
+use Rattle.cs_output.specs.Putting.{shown}
+use Rattle.cs_output.specs.Words.{numbered_from}
 use Rattle.cs_manifest.specs.declared.counts.Counts.{Counts}
 use Rattle.cs_manifest.specs.Lines.{is_feasible}
-use Rattle.cs_manifest.specs.Manifest.{BaseEntry, BasesOf, GoalEntry, IsNegativeOf, NegativeEntry, base_entry_lines, negative_entry_lines}
+use Rattle.cs_manifest.specs.Manifest.{BaseEntry, BasesOf, GoalEntry, NegativeEntry, base_entry_lines, negative_entry_lines}
 use Rattle.cs_manifest.specs.Progress.{Progress}
-use Rattle.cs_manifest.specs.Putting.{shown}
-use Rattle.cs_manifest.specs.Words.{numbered_from}
-use Rattle.cs_mutants.specs.Mutants.{texts_of}
+use Rattle.cs_mutants.specs.Makers.{Making}
+use Rattle.cs_mutants.specs.Mutants.{IsOfNegative}
 use Rattle.cs_mutate.specs.Negatives.{AreNegatives, Search}
 use Rattle.cs_mutate.specs.declared.negative.Negative.{Negative}
 use Rattle.cs_plan.specs.declared.plan.Plan.{Plan}
 use Rattle.cs_plan.specs.Plans.{choice_in, lexemes_in}
 use Rattle.cs_render_work.specs.declared.work.RenderWork.{RenderWork}
 use Rattle.cs_yacc.specs.File.{File}
-use Rattle.cs_writing.specs.declared.mutants.Base.{Base}
 
 -- ---- bases of entries
 
@@ -49,7 +49,7 @@ negatives_from file base tokens many entries = numbered_from (many + 1) (negativ
 pub record AreMade (work : RenderWork) (search : Search) (entries : List NegativeEntry) : Type 0 where
   pub negatives : List Negative
   pub all : AreNegatives search.grammar search.base search.edits negatives
-  pub each : AllZip (IsNegativeOf (Some (texts_of work)) (Some work.lexemes.now) search.base) negatives entries
+  pub each : AllZip (IsOfNegative work search.base) negatives entries
 
 -- lines with so many negatives, and else no entry of a goal, were counted
 pub record IsCounted (many : ℕ) (lines : List ℕ) (before after : Counts) : Type 0 where
@@ -61,16 +61,16 @@ abbrev pub negatives_in : List BaseEntry → ℕ
 negatives_in mutants = sum_by (λ b. length b.negatives) mutants
 
 -- The text is the lines of all negatives that a search gives of a base, where the manifest stands so.
-pub record IsMade (manifest : Progress) (base : Base) (search : Search) (text : List ℕ) : Type 0 where
+pub record IsMade (manifest : Progress) (making : Making) (search : Search) (text : List ℕ) : Type 0 where
   pub entries : List NegativeEntry
-  pub all : AreMade base.work.now search entries
-  pub lines : text ≡ negatives_from manifest.file base.number search.base manifest.counts.negatives entries
+  pub all : AreMade making.tools.work search entries
+  pub lines : text ≡ negatives_from manifest.file making.number search.base manifest.counts.negatives entries
 
 -- whichever the negatives are, they were counted
-abbrev pub CountsMade : Base → Search → Progress → Progress → Type 0
-CountsMade base search old new =
-    (entries : List NegativeEntry) → AreMade base.work.now search entries
-    → IsCounted (length entries) (negatives_from old.file base.number search.base old.counts.negatives entries) old.counts new.counts
+abbrev pub CountsMade : Making → Search → Progress → Progress → Type 0
+CountsMade making search old new =
+    (entries : List NegativeEntry) → AreMade making.tools.work search entries
+    → IsCounted (length entries) (negatives_from old.file making.number search.base old.counts.negatives entries) old.counts new.counts
 
 -- ---- bases and their negatives
 

@@ -6,9 +6,9 @@ use Rattle.cs_io.specs.Faults.{Rose}
 use Rattle.cs_io.specs.Sink.{GrewByPrefix}
 use Rattle.cs_io.specs.declared.buffered_sink.BufferedSink.{BufferedSink}
 use Rattle.cs_io.specs.declared.sink.Sink as Sink
+use Rattle.cs_output.specs.Putting.{shown}
 use Rattle.cs_manifest.specs.declared.counts.Counts.{Counts}
 use Rattle.cs_manifest.specs.Counts.{end_of}
-use Rattle.cs_manifest.specs.Putting.{shown}
 use Rattle.cs_writing.specs.declared.halt.Halt.{Halt}
 
 -- the output grew by such a text

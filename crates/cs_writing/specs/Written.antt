@@ -7,6 +7,9 @@ use Rattle.cs_goals.specs.Goals.{goals}
 use Rattle.cs_io.specs.Faults.{Rose}
 use Rattle.cs_io.specs.declared.sink.Sink as Sink
 use Rattle.cs_io.specs.declared.sink.SinkError.{SinkError}
+use Rattle.cs_output.specs.Putting.{shown}
+use Rattle.cs_output.specs.Sinks.{IsCalm, IsWritten, TookPart, Writes}
+use Rattle.cs_output.specs.Words.{numbered_from}
 use Rattle.cs_manifest.specs.declared.counts.Counts.{Counts}
 use Rattle.cs_manifest.specs.declared.format.Format.{Format}
 use Rattle.cs_manifest.specs.declared.format.Format.TheVariants.{One, Two}
@@ -16,9 +19,6 @@ use Rattle.cs_manifest.specs.Lines.{is_feasible, is_infeasible, is_large}
 use Rattle.cs_manifest.specs.Manifest.{AreShared, EntriesOf, GoalEntry, SharedEntry, goal_entry_lines, goal_texts, is_new, most_bases, new_case_lines, shared_entry_lines}
 use Rattle.cs_manifest.specs.SharedLines.{shared_goal_line}
 use Rattle.cs_manifest.specs.Progress.{Progress}
-use Rattle.cs_manifest.specs.Putting.{shown}
-use Rattle.cs_manifest.specs.Sinks.{IsCalm, IsWritten, TookPart, Writes}
-use Rattle.cs_manifest.specs.Words.{numbered_from}
 use Rattle.cs_positive.specs.Positives.{ToJudge}
 use Rattle.cs_yacc.specs.File.{File}
 use Rattle.cs_plan.specs.declared.plan.Plan.{Plan}

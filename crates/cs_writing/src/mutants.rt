@@ -4,7 +4,7 @@ ghost use Rattle.std.specs.Prelude.{◌≡◌, ◌+◌, ◌≤◌, All, OnOk, le
 ghost use Rattle.cs_grammar.specs.Grammar.{IsNumberOf};
 ghost use Rattle.cs_io.specs.Faults.{greatest};
 ghost use Rattle.cs_manifest.specs.Manifest.{most_bases};
-ghost use Rattle.cs_mutants.specs.Makers.{CanRender, IsMakerOf};
+ghost use Rattle.cs_mutants.specs.Makers.{CanRender};
 ghost use Rattle.cs_plan.specs.Plans.{IsPlan, choice_in};
 ghost use Rattle.cs_writing.specs.Mutants.{CountsBases, CountsMade, IsBasesText, IsEditable, IsMade};
 ghost use Rattle.cs_writing.specs.Written.{PutsOne};
@@ -13,19 +13,10 @@ use crate::halt::Halt;
 use cs_bases::Bases;
 use cs_io::Sink;
 use cs_manifest::{Entry, Manifest, one_text};
-use cs_mutants::{MadeNegative, Maker};
+use cs_mutants::{MadeNegative, Maker, Tools};
 use cs_mutate::Negatives;
 use cs_plan::Plan;
-use cs_render_work::RenderWork;
 use std::alloc::Global;
-
-// A base with its number, and what renders its negatives.
-#[derive(Clone, Copy)]
-pub struct Base<'a, 'b> {
-    pub number: u32,
-    pub tokens: &'a [u16],
-    pub work: &'b RenderWork<'b>,
-}
 
 /// Writes the bases, numbered from 1, and behind each its negatives, numbered from 1 through all
 /// bases. Where nothing is mutated there are no bases.
@@ -50,21 +41,18 @@ pub fn write_bases<S: Sink>(
         return Ok(());
     };
     let work = plan.texts.unwrap();
+    let tools = Tools::new(alloc, plan.yacc, work)?;
     let mut number = 0u64;
     for index in 0..bases.len() {
         let (goal, tokens) = bases.get(index);
-        let base = Base {
-            number: index + 1,
-            tokens,
-            work,
-        };
+        let maker = Maker::new(alloc, &tools, index + 1, tokens)?;
         let line = Entry::Base {
-            number: base.number,
+            number: index + 1,
             goal,
         };
         manifest.entry(sink, &line)?;
         let search = Negatives::new(alloc, mutation.pairs, tokens, mutation.operators);
-        write_negatives(alloc, &base, search, &mut number, manifest, sink)?;
+        write_negatives(alloc, &maker, search, &mut number, manifest, sink)?;
     }
     Ok(())
 }
@@ -73,47 +61,17 @@ pub fn write_bases<S: Sink>(
 // before and then.
 fn write_negatives<S: Sink>(
     alloc: Global,
-    base: &Base<'_, '_>,
-    search: Negatives<'_>,
-    number: &mut u64,
-    manifest: &mut Manifest<'_>,
-    sink: &mut S,
-) -> Result<(), Halt>
-    requires work { CanRender base.now.work.now search.grammar.tokens }
-    requires base { search.base ≡ base.now.tokens.now }
-    requires short { length base.now.tokens.now ≤ 1000000 }
-    requires tokens { All (IsNumberOf search.grammar.tokens) base.now.tokens.now }
-    requires names { length manifest.old.file.token_names ≡ search.grammar.tokens }
-    requires number { number.old ≡ manifest.old.counts.negatives }
-    requires few { number.old + length search.edits ≤ greatest }
-    ensures file { manifest.new.file ≡ manifest.old.file }
-    ensures lent { S.lent sink.new ≡ S.lent sink.old }
-    ensures number { OnOk result (number.new ≡ manifest.new.counts.negatives) }
-    ensures text { PutsOne S.Sink
-        (IsMade manifest.old base.now search.entry) sink.old sink.new result }
-    ensures counted { OnOk result
-        (CountsMade base.now search.entry manifest.old manifest.new) }
-{
-    one_text();
-    let maker = Maker::new(alloc, base.work, base.tokens)?;
-    write_made(alloc, &maker, base, search, number, manifest, sink)
-}
-
-// The same, by what makes them.
-fn write_made<S: Sink>(
-    alloc: Global,
-    maker: &Maker<'_>,
-    base: &Base<'_, '_>,
+    base: &Maker<'_>,
     mut search: Negatives<'_>,
     number: &mut u64,
     manifest: &mut Manifest<'_>,
     sink: &mut S,
 ) -> Result<(), Halt>
-    requires maker { IsMakerOf base.now.work.now base.now.tokens.now maker.now }
-    requires work { CanRender base.now.work.now search.grammar.tokens }
-    requires base { search.base ≡ base.now.tokens.now }
-    requires short { length base.now.tokens.now ≤ 1000000 }
-    requires tokens { All (IsNumberOf search.grammar.tokens) base.now.tokens.now }
+    requires work { CanRender base.now.tools.work search.grammar.tokens }
+    requires base { search.base ≡ base.now.base }
+    requires short { length base.now.base ≤ 1000000 }
+    requires tokens { All (IsNumberOf search.grammar.tokens) base.now.base }
+    requires file { manifest.old.file ≡ base.now.tools.file }
     requires names { length manifest.old.file.token_names ≡ search.grammar.tokens }
     requires number { number.old ≡ manifest.old.counts.negatives }
     requires few { number.old + length search.edits ≤ greatest }
@@ -126,14 +84,14 @@ fn write_made<S: Sink>(
         (CountsMade base.now search.entry manifest.old manifest.new) }
 {
     one_text();
-    let mut made = MadeNegative::new(alloc);
+    let mut made = MadeNegative::new(alloc, base);
     'negatives: loop {
         match search.next()? {
             None => return Ok(()),
             Some(negative) => {
-                maker.make(&mut made, &negative)?;
+                made.make(&negative)?;
                 *number += 1;
-                manifest.entry(sink, &made.entry(*number, base.number))?;
+                manifest.entry(sink, &made.entry(*number))?;
             }
         }
     }

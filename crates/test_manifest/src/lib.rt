@@ -4,6 +4,8 @@
 #[cfg(test)]
 mod bases;
 #[cfg(test)]
+mod filled;
+#[cfg(test)]
 mod lines;
 #[cfg(test)]
 mod shared;

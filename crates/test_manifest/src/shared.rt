@@ -2,8 +2,9 @@
 
 ghost use Rattle.std.specs.Prelude.{◌≡◌, IfOk, OnOk, length};
 ghost use Rattle.cs_closed.specs.Closed.{AreClosedSets};
+ghost use Rattle.cs_output.specs.Names.{AreNamedTokens, IsNamedMark};
 ghost use Rattle.cs_manifest.specs.Head.{IsNamedHead};
-ghost use Rattle.cs_manifest.specs.Names.{AreNamedTokens, IsNamedGoal, IsNamedMark};
+ghost use Rattle.cs_manifest.specs.Named.{IsNamedGoal};
 
 use crate::lines::DELETED;
 use cs_cases::Named;

@@ -142,7 +142,7 @@ pub fn compare_near(
     separator: &[u8],
     tokens: &[u16],
 ) -> Result<Counts, Trouble> {
-    with_work(alloc, (yacc, lex), separator, |work, most| {
+    with_work(alloc, (yacc, lex), separator, |_yacc, work, most| {
         compare_by(alloc, work, most, tokens)
     })
 }

@@ -1,77 +1,105 @@
-//! Negatives of a base that are made one after another, worked by hand.
+//! Negatives of a base that are made one after another: their lines were written by hand from the page on formats.
 
-ghost use Rattle.std.specs.Prelude.{◌≤◌, All, length};
+ghost use Rattle.std.specs.Prelude.{◌≡◌, ◌≤◌, All, IsSome, IsTrue, length};
 ghost use Rattle.cs_grammar.specs.Grammar.{IsNumberOf};
-ghost use Rattle.cs_mutants.specs.Makers.{CanRender, IsMakerOf};
+ghost use Rattle.cs_output.specs.Names.{IsNamedMark};
+ghost use Rattle.cs_mutants.specs.Makers.{CanRender};
 
-use crate::compared::{is_joined, is_short_list};
+use crate::compared::is_short_list;
 use crate::work::with_work;
 use cs_grammar::Mark;
-use cs_manifest::Entry;
-use cs_mutants::{MadeNegative, Maker};
+use cs_io::MemorySink;
+use cs_manifest::{Form, Head, Manifest};
+use cs_mutants::{MadeNegative, Maker, Tools};
 use cs_mutate::{Edit, Negative, edit_fits};
-use cs_render::RenderedParts;
 use cs_render_work::RenderWork;
 use cs_sample_files::Trouble;
 use cs_samples::{SCANNER, SUMS};
-use std::alloc::{AllocError, Global};
+use cs_yacc::YaccFile;
+use std::alloc::Global;
 use std::test::Fail;
 
-// An edit, and the edited list with its text, where it has one.
-type Row = (Edit, &'static [u16], Option<&'static [u8]>);
+// A negative, and its lines as number 9 of base 2.
+type Row = (Negative, &'static [u8]);
 
-fn is_text(rendered: RenderedParts<'_>, text: Option<&[u8]>) -> bool {
-    match rendered {
-        RenderedParts::Text {
-            front,
-            middle,
-            back,
-        } => text.is_some_and(|text| is_joined(text, front, middle, back)),
-        RenderedParts::Differs { .. } => text.is_none(),
-        RenderedParts::NoLexeme(_) => false,
+// A base of a file with so many tokens.
+#[derive(Clone, Copy)]
+struct Base<'a> {
+    yacc: &'a YaccFile,
+    most: u16,
+    tokens: &'a [u16],
+}
+
+// Whether a mark is of a file with so many tokens.
+fn is_mark(yacc: &YaccFile, most: u16, mark: Mark) -> bool
+    requires { length yacc.now.token_names ≡ most }
+    ensures { IsTrue result → IsNamedMark yacc.now mark }
+{
+    match mark {
+        Mark::Token(token) => 0 < token && token <= most,
+        Mark::Begin | Mark::End => true,
     }
 }
 
-// Whether the entry with number 9 of base 2 is that of this negative.
-fn is_entry(made: &MadeNegative<'_>, wanted: &Negative, row: &Row) -> bool {
-    match made.entry(9, 2) {
-        Entry::Negative(numbered) => {
-            (numbered.number, numbered.base) == (9, 2)
-                && numbered.negative == *wanted
-                && numbered.tokens == row.1
-                && is_text(numbered.rendered, row.2)
-        }
-        _ => false,
+// Whether the lines of what is made are these.
+fn has_lines(
+    alloc: Global,
+    yacc: &YaccFile,
+    made: &MadeNegative<'_>,
+    lines: &[u8],
+) -> Result<bool, Trouble>
+    requires made { IsSome made.now.negative }
+    requires file { made.now.making.tools.file ≡ yacc.now }
+{
+    let form = Form::Rules;
+    let mut sink = MemorySink::new(alloc, 1_000, 7, Vec::new(alloc))?;
+    let mut manifest = Manifest::begin(&mut sink, &Head { yacc, form })?;
+    let head = sink.written().len();
+    manifest.entry(&mut sink, &made.entry(9))?;
+    Ok(&sink.written()[head..] == lines)
+}
+
+// Makes a row's negative; whether its lines are the row's.
+fn is_made(
+    alloc: Global,
+    base: Base<'_>,
+    made: &mut MadeNegative<'_>,
+    row: &Row,
+) -> Result<bool, Trouble>
+    requires file { made.old.making.tools.file ≡ base.yacc.now }
+    requires base { made.old.making.base ≡ base.tokens.now }
+    requires names { length base.yacc.now.token_names ≡ base.most }
+    requires work { CanRender made.old.making.tools.work base.most }
+    requires short { length base.tokens.now ≤ 1000 }
+    requires tokens { All (IsNumberOf base.most) base.tokens.now }
+    ensures { made.new.making ≡ made.old.making }
+{
+    let (negative, lines) = row;
+    if !is_mark(base.yacc, base.most, negative.left) {
+        return Ok(false);
     }
+    if !is_mark(base.yacc, base.most, negative.right) {
+        return Ok(false);
+    }
+    if !edit_fits(base.tokens.len() as u32, base.most, &negative.edit) {
+        return Ok(false);
+    }
+    made.make(negative)?;
+    has_lines(alloc, base.yacc, made, lines)
 }
 
 // Makes each in the memory of the one before.
-fn are_made(
-    alloc: Global,
-    maker: &Maker<'_>,
-    base: &[u16],
-    work: &RenderWork<'_>,
-    most: u16,
-    rows: &[Row],
-) -> Result<bool, AllocError>
-    requires maker { IsMakerOf work.now base.now maker.now }
-    requires work { CanRender work.now most }
-    requires short { length base.now ≤ 1000 }
-    requires tokens { All (IsNumberOf most) base.now }
+fn are_made(alloc: Global, base: Base<'_>, maker: &Maker<'_>, rows: &[Row]) -> Result<bool, Trouble>
+    requires file { maker.now.tools.file ≡ base.yacc.now }
+    requires base { maker.now.base ≡ base.tokens.now }
+    requires names { length base.yacc.now.token_names ≡ base.most }
+    requires work { CanRender maker.now.tools.work base.most }
+    requires short { length base.tokens.now ≤ 1000 }
+    requires tokens { All (IsNumberOf base.most) base.tokens.now }
 {
-    let mut made = MadeNegative::new(alloc);
+    let mut made = MadeNegative::new(alloc, maker);
     for row in rows {
-        let negative = Negative {
-            edit: row.0,
-            left: Mark::Begin,
-            right: Mark::Token(1),
-            at: 3,
-        };
-        if !edit_fits(base.len() as u32, most, &negative.edit) {
-            return Ok(false);
-        }
-        maker.make(&mut made, &negative)?;
-        if !is_entry(&made, &negative, row) {
+        if !is_made(alloc, base, &mut made, row)? {
             return Ok(false);
         }
     }
@@ -80,51 +108,178 @@ fn are_made(
 
 fn are_made_of(
     alloc: Global,
-    base: &[u16],
+    base: Base<'_>,
     work: &RenderWork<'_>,
-    most: u16,
     rows: &[Row],
-) -> Result<bool, AllocError>
-    requires work { CanRender work.now most }
+) -> Result<bool, Trouble>
+    requires { CanRender work.now base.most }
 {
-    if !is_short_list(base, most) {
-        return Ok(false);
+    if base.yacc.token_names().len() != base.most as usize {
+        return Err(Trouble::TooLong);
     }
-    let maker = Maker::new(alloc, work, base)?;
-    are_made(alloc, &maker, base, work, most, rows)
+    if !is_short_list(base.tokens, base.most) {
+        return Err(Trouble::TooLong);
+    }
+    let tools = Tools::new(alloc, base.yacc, work)?;
+    let maker = Maker::new(alloc, &tools, 2, base.tokens)?;
+    are_made(alloc, base, &maker, rows)
 }
 
-// Whether the negatives of a base of sums, with this between two lexemes, are as the rows have them.
-fn are_sums(alloc: Global, separator: &[u8], base: &[u16], rows: &[Row]) -> Result<bool, Trouble> {
-    with_work(alloc, (SUMS, SCANNER), separator, |work, most| {
-        Ok(are_made_of(alloc, base, work, most, rows)?)
+// Whether the negatives of a base of sums, with this between two lexemes, have the lines of the rows.
+fn are_sums(
+    alloc: Global,
+    separator: &[u8],
+    tokens: &[u16],
+    rows: &[Row],
+) -> Result<bool, Trouble> {
+    with_work(alloc, (SUMS, SCANNER), separator, |yacc, work, most| {
+        are_made_of(alloc, Base { yacc, most, tokens }, work, rows)
     })
 }
 
-// NUM is 1, '+' is 2, '(' is 3 and ')' is 4. Without a separator two numbers are one, and a base of two has no text itself.
+// NUM is 1, '+' is 2, '(' is 3 and ')' is 4.
+const NUM: Mark = Mark::Token(1);
+
+const PLUS: Mark = Mark::Token(2);
+
+const OPEN: Mark = Mark::Token(3);
+
+const CLOSE: Mark = Mark::Token(4);
+
+// Of the base NUM '+' NUM, with a space between lexemes: ')' has a lexeme too, and each stands apart.
+const APART: &[Row] = &[
+    (
+        Negative {
+            edit: Edit::Delete(0),
+            left: Mark::Begin,
+            right: PLUS,
+            at: 0,
+        },
+        b"negative 9 base 2 delete 0 pair <begin> '+' at 0\n  tokens '+' NUM\n  text \"+ 0\"\n",
+    ),
+    (
+        Negative {
+            edit: Edit::Insert(1, 1),
+            left: NUM,
+            right: NUM,
+            at: 1,
+        },
+        b"negative 9 base 2 insert 1 NUM pair NUM NUM at 1\n  tokens NUM NUM '+' NUM\n  text \"0 0 + 0\"\n",
+    ),
+    (
+        Negative {
+            edit: Edit::Insert(1, 3),
+            left: NUM,
+            right: OPEN,
+            at: 1,
+        },
+        b"negative 9 base 2 insert 1 '(' pair NUM '(' at 1\n  tokens NUM '(' '+' NUM\n  text \"0 ( + 0\"\n",
+    ),
+    (
+        Negative {
+            edit: Edit::Insert(0, 4),
+            left: Mark::Begin,
+            right: CLOSE,
+            at: 0,
+        },
+        b"negative 9 base 2 insert 0 ')' pair <begin> ')' at 0\n  tokens ')' NUM '+' NUM\n  text \") 0 + 0\"\n",
+    ),
+    (
+        Negative {
+            edit: Edit::Insert(3, 2),
+            left: PLUS,
+            right: Mark::End,
+            at: 4,
+        },
+        b"negative 9 base 2 insert 3 '+' pair '+' <end> at 4\n  tokens NUM '+' NUM '+'\n  text \"0 + 0 +\"\n",
+    ),
+    (
+        Negative {
+            edit: Edit::Replace(0, 3),
+            left: OPEN,
+            right: PLUS,
+            at: 1,
+        },
+        b"negative 9 base 2 replace 0 '(' pair '(' '+' at 1\n  tokens '(' '+' NUM\n  text \"( + 0\"\n",
+    ),
+    (
+        Negative {
+            edit: Edit::Replace(2, 4),
+            left: PLUS,
+            right: CLOSE,
+            at: 2,
+        },
+        b"negative 9 base 2 replace 2 ')' pair '+' ')' at 2\n  tokens NUM '+' ')'\n  text \"0 + )\"\n",
+    ),
+    (
+        Negative {
+            edit: Edit::Swap(0),
+            left: Mark::Begin,
+            right: PLUS,
+            at: 0,
+        },
+        b"negative 9 base 2 swap 0 pair <begin> '+' at 0\n  tokens '+' NUM NUM\n  text \"+ 0 0\"\n",
+    ),
+];
+
+// The same without a separator: two numbers are one.
+const JOINED: &[Row] = &[
+    (
+        Negative {
+            edit: Edit::Replace(0, 3),
+            left: OPEN,
+            right: PLUS,
+            at: 1,
+        },
+        b"negative 9 base 2 replace 0 '(' pair '(' '+' at 1\n  tokens '(' '+' NUM\n  text \"(+0\"\n",
+    ),
+    (
+        Negative {
+            edit: Edit::Delete(1),
+            left: NUM,
+            right: NUM,
+            at: 1,
+        },
+        b"negative 9 base 2 delete 1 pair NUM NUM at 1\n  tokens NUM NUM\n  no text scan 1\n",
+    ),
+    (
+        Negative {
+            edit: Edit::Insert(3, 2),
+            left: PLUS,
+            right: Mark::End,
+            at: 4,
+        },
+        b"negative 9 base 2 insert 3 '+' pair '+' <end> at 4\n  tokens NUM '+' NUM '+'\n  text \"0+0+\"\n",
+    ),
+];
+
+// Of a base of two numbers, which has no text itself.
+const RENDERED: &[Row] = &[
+    (
+        Negative {
+            edit: Edit::Insert(0, 2),
+            left: Mark::Begin,
+            right: PLUS,
+            at: 0,
+        },
+        b"negative 9 base 2 insert 0 '+' pair <begin> '+' at 0\n  tokens '+' NUM NUM\n  no text scan 2\n",
+    ),
+    (
+        Negative {
+            edit: Edit::Replace(0, 4),
+            left: Mark::Begin,
+            right: CLOSE,
+            at: 0,
+        },
+        b"negative 9 base 2 replace 0 ')' pair <begin> ')' at 0\n  tokens ')' NUM\n  text \")0\"\n",
+    ),
+];
+
 #[test]
 fn negatives_of_sums(rt: HostRuntime) -> Result<(), Fail> {
     let alloc = rt.alloc();
-    let apart: [Row; 6] = [
-        (Edit::Delete(0), &[2, 1], Some(b"+ 0")),
-        (Edit::Delete(2), &[1, 2], Some(b"0 +")),
-        (Edit::Insert(3, 1), &[1, 2, 1, 1], Some(b"0 + 0 0")),
-        (Edit::Insert(0, 4), &[4, 1, 2, 1], Some(b") 0 + 0")),
-        (Edit::Replace(1, 3), &[1, 3, 1], Some(b"0 ( 0")),
-        (Edit::Swap(0), &[2, 1, 1], Some(b"+ 0 0")),
-    ];
-    let joined: [Row; 3] = [
-        (Edit::Replace(0, 3), &[3, 2, 1], Some(b"(+0")),
-        (Edit::Delete(1), &[1, 1], None),
-        (Edit::Insert(3, 2), &[1, 2, 1, 2], Some(b"0+0+")),
-    ];
-    let rendered: [Row; 3] = [
-        (Edit::Insert(1, 2), &[1, 2, 1], Some(b"0+0")),
-        (Edit::Delete(0), &[1], Some(b"0")),
-        (Edit::Replace(0, 4), &[4, 1], Some(b")0")),
-    ];
-    assert!(rt; are_sums(alloc, b" ", &[1, 2, 1], &apart)?);
-    assert!(rt; are_sums(alloc, b"", &[1, 2, 1], &joined)?);
-    assert!(rt; are_sums(alloc, b"", &[1, 1], &rendered)?);
+    assert!(rt; are_sums(alloc, b" ", &[1, 2, 1], APART)?);
+    assert!(rt; are_sums(alloc, b"", &[1, 2, 1], JOINED)?);
+    assert!(rt; are_sums(alloc, b"", &[1, 1], RENDERED)?);
     Ok(())
 }

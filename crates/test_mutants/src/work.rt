@@ -7,29 +7,33 @@ use cs_lexeme::Lexemes;
 use cs_render_work::RenderWork;
 use cs_sample_files::{Trouble, read_files};
 use cs_scan::Scanner;
+use cs_yacc::YaccFile;
 use std::alloc::Global;
 
 // What the call answers of these, which it can be called with.
-fn answer_of<T: Drop, F: FnOnce(&RenderWork<'_>, u16) -> Result<T, Trouble>>(
+fn answer_of<T: Drop, F: FnOnce(&YaccFile, &RenderWork<'_>, u16) -> Result<T, Trouble>>(
+    yacc: &YaccFile,
     work: &RenderWork<'_>,
     most: u16,
     call: F,
 ) -> Result<T, Trouble>
     requires work { CanRender work.now most }
-    requires callable { (work : _) (most : _) → CanRender work.now most → F.pre call work most }
+    requires calls { (y : _) (work : _) (most : _)
+        → CanRender work.now most → F.pre call y work most }
 {
-    call(work, most)
+    call(yacc, work, most)
 }
 
-/// What the call answers of what lists are rendered with by these files and this separator, and of how many tokens there are. A
-/// call, since what it gets lends what is made here.
-pub fn with_work<T: Drop, F: FnOnce(&RenderWork<'_>, u16) -> Result<T, Trouble>>(
+/// What the call answers of a yacc file, of what lists are rendered with by it, a lex file and this separator, and of how many
+/// tokens there are. A call, since what it gets lends what is made here.
+pub fn with_work<T: Drop, F: FnOnce(&YaccFile, &RenderWork<'_>, u16) -> Result<T, Trouble>>(
     alloc: Global,
     files: (&[u8], &[u8]),
     separator: &[u8],
     call: F,
 ) -> Result<T, Trouble>
-    requires { (work : _) (most : _) → CanRender work.now most → F.pre call work most }
+    requires { (y : _) (work : _) (most : _)
+        → CanRender work.now most → F.pre call y work most }
 {
     let (yacc, lex) = read_files(alloc, files.0, files.1)?;
     let automaton = Automaton::new(alloc, lex.patterns())?;
@@ -45,5 +49,5 @@ pub fn with_work<T: Drop, F: FnOnce(&RenderWork<'_>, u16) -> Result<T, Trouble>>
         lexemes: &lexemes,
         separator,
     };
-    answer_of(&work, most, call)
+    answer_of(&yacc, &work, most, call)
 }

@@ -1,11 +1,11 @@
 use Rattle.std.proofs.Common.{◌≡◌, ◌<◌, All, List, ℕ, ap, codes, length, subst, sym}
 use Rattle.cs_grammar.specs.declared.symbol.Mark.{Mark}
 use Rattle.cs_grammar.specs.declared.symbol.Mark.TheVariants.{Begin}
+use Rattle.cs_output.specs.Words.{with_numbers}
+use Rattle.cs_output.specs.Names.{AreNamedMarks, AreNamedTokens}
+use Rattle.cs_output.proofs.Pieces.{spelled, then}
 use Rattle.cs_manifest.specs.SharedLines.{edge_line, next_line, token_next_line}
-use Rattle.cs_manifest.specs.Words.{with_numbers}
-use Rattle.cs_manifest.specs.Names.{AreNamedMarks, AreNamedTokens}
 use Rattle.cs_manifest.proofs.Naming.{begin_named, first_few, first_many, first_named, last_few, last_many, last_named, next_few, next_many, next_named, sets_named}
-use Rattle.cs_manifest.proofs.Pieces.{spelled, then}
 use Rattle.cs_manifest.proofs.put_closed.put_closed.Goals as goal
 
 pub returns : goal.returns

@@ -1,6 +1,6 @@
 use Rattle.std.proofs.Common.{ap, ◌∙◌, ℕ}
+use Rattle.cs_output.proofs.Pieces.{nothing, numbered_more, spelled}
 use Rattle.cs_manifest.specs.SharedLines.{edge_line}
-use Rattle.cs_manifest.proofs.Pieces.{nothing, numbered_more, spelled}
 use Rattle.cs_manifest.proofs.put_closed.put_edges.Goals as goal
 
 pub loop-place-init : goal.loop-place-init

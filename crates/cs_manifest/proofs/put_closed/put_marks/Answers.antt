@@ -1,5 +1,5 @@
-use Rattle.cs_manifest.specs.Names.{mark_text}
-use Rattle.cs_manifest.proofs.Pieces.{nothing, spaced_next}
+use Rattle.cs_output.specs.Names.{mark_text}
+use Rattle.cs_output.proofs.Pieces.{nothing, spaced_next}
 use Rattle.cs_manifest.proofs.put_closed.put_marks.Goals as goal
 
 pub loop-mark-init : goal.loop-mark-init

@@ -1,7 +1,7 @@
 use Rattle.std.proofs.Common.{take}
-use Rattle.cs_manifest.specs.Words.{spaced}
-use Rattle.cs_manifest.specs.Names.{mark_text}
-use Rattle.cs_manifest.specs.Putting.{Puts}
+use Rattle.cs_output.specs.Words.{spaced}
+use Rattle.cs_output.specs.Names.{mark_text}
+use Rattle.cs_output.specs.Putting.{Puts}
 use Rattle.cs_manifest.proofs.put_closed.put_marks.Given as goal
 
 abbrev pub invariant-loop-mark : goal.invariant-loop-mark

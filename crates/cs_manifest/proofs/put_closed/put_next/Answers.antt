@@ -1,4 +1,4 @@
-use Rattle.cs_manifest.proofs.Pieces.{then}
+use Rattle.cs_output.proofs.Pieces.{then}
 use Rattle.cs_manifest.proofs.put_closed.put_next.Goals as goal
 
 pub returns : goal.returns

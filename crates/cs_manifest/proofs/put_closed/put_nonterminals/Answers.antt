@@ -1,5 +1,5 @@
-use Rattle.cs_manifest.specs.Names.{nonterminal_of}
-use Rattle.cs_manifest.proofs.Pieces.{nothing, spaced_more}
+use Rattle.cs_output.specs.Names.{nonterminal_of}
+use Rattle.cs_output.proofs.Pieces.{nothing, spaced_more}
 use Rattle.cs_manifest.proofs.put_closed.put_nonterminals.Goals as goal
 
 pub loop-nonterminal-init : goal.loop-nonterminal-init

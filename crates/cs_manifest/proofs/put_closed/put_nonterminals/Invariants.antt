@@ -1,7 +1,7 @@
 use Rattle.std.proofs.Common.{take}
-use Rattle.cs_manifest.specs.Words.{spaced}
-use Rattle.cs_manifest.specs.Names.{nonterminal_of}
-use Rattle.cs_manifest.specs.Putting.{Puts}
+use Rattle.cs_output.specs.Words.{spaced}
+use Rattle.cs_output.specs.Names.{nonterminal_of}
+use Rattle.cs_output.specs.Putting.{Puts}
 use Rattle.cs_manifest.proofs.put_closed.put_nonterminals.Given as goal
 
 abbrev pub invariant-loop-nonterminal : goal.invariant-loop-nonterminal

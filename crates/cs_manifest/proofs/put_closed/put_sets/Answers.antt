@@ -1,6 +1,6 @@
 use Rattle.std.proofs.Common.{ap, codes}
+use Rattle.cs_output.proofs.Pieces.{spelled, then}
 use Rattle.cs_manifest.specs.SharedLines.{set_line}
-use Rattle.cs_manifest.proofs.Pieces.{spelled, then}
 use Rattle.cs_manifest.proofs.put_closed.put_sets.Goals as goal
 
 pub returns : goal.returns

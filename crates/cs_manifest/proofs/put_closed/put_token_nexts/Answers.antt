@@ -1,6 +1,6 @@
 use Rattle.std.proofs.Common.{ap, ◌∙◌, ℕ}
+use Rattle.cs_output.proofs.Pieces.{nothing, numbered_more, spelled}
 use Rattle.cs_manifest.specs.SharedLines.{token_next_line}
-use Rattle.cs_manifest.proofs.Pieces.{nothing, numbered_more, spelled}
 use Rattle.cs_manifest.proofs.put_closed.put_token_nexts.Goals as goal
 
 pub loop-place-init : goal.loop-place-init

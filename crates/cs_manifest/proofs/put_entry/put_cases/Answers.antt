@@ -1,4 +1,4 @@
-use Rattle.cs_manifest.proofs.Pieces.{nothing}
+use Rattle.cs_output.proofs.Pieces.{nothing}
 use Rattle.cs_manifest.proofs.put_entry.put_cases.Goals as goal
 
 pub returns-in-None : goal.returns-in-None

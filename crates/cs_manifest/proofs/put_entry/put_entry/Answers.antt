@@ -1,10 +1,10 @@
 use Rattle.std.proofs.Common.{◌++◌, ap, codes, List, ℕ}
 use Rattle.cs_manifest.specs.Below.{text_below, tree_words, verdict_words}
 use Rattle.cs_render.specs.Rendering.{rendering}
+use Rattle.cs_output.proofs.Pieces.{spelled, then, then_below}
 use Rattle.cs_manifest.specs.Entry.{rendering_of}
 use Rattle.cs_manifest.specs.Lines.{goal_words, numbered_word, text_line, text_lines}
 use Rattle.cs_manifest.proofs.Ends.{tree_ends, verdict_ends}
-use Rattle.cs_manifest.proofs.Pieces.{spelled, then, then_below}
 use Rattle.cs_manifest.proofs.put_entry.put_entry.Goals as goal
 
 pub returns-in-Goal : goal.returns-in-Goal

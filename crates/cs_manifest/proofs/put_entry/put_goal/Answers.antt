@@ -1,4 +1,4 @@
-use Rattle.cs_manifest.proofs.Pieces.{then}
+use Rattle.cs_output.proofs.Pieces.{then}
 use Rattle.cs_manifest.proofs.put_entry.put_goal.Goals as goal
 
 pub returns-in-Context : goal.returns-in-Context

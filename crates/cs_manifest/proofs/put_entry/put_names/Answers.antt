@@ -1,5 +1,5 @@
-use Rattle.cs_manifest.specs.Names.{token_of}
-use Rattle.cs_manifest.proofs.Pieces.{nothing, spaced_next}
+use Rattle.cs_output.specs.Names.{token_of}
+use Rattle.cs_output.proofs.Pieces.{nothing, spaced_next}
 use Rattle.cs_manifest.proofs.put_entry.put_names.Goals as goal
 
 pub loop-token-init : goal.loop-token-init

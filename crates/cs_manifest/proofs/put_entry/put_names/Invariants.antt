@@ -1,7 +1,7 @@
 use Rattle.std.proofs.Common.{take}
-use Rattle.cs_manifest.specs.Words.{spaced}
-use Rattle.cs_manifest.specs.Names.{token_of}
-use Rattle.cs_manifest.specs.Putting.{Puts}
+use Rattle.cs_output.specs.Words.{spaced}
+use Rattle.cs_output.specs.Names.{token_of}
+use Rattle.cs_output.specs.Putting.{Puts}
 use Rattle.cs_manifest.proofs.put_entry.put_names.Given as goal
 
 abbrev pub invariant-loop-token : goal.invariant-loop-token

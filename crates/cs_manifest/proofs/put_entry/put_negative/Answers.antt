@@ -1,7 +1,7 @@
 use Rattle.std.proofs.Common.{◌++◌}
+use Rattle.cs_output.proofs.Pieces.{then, then_below}
 use Rattle.cs_manifest.specs.Below.{fault_words, tokens_words}
 use Rattle.cs_manifest.specs.Lines.{base_words, fault_line}
-use Rattle.cs_manifest.proofs.Pieces.{then, then_below}
 use Rattle.cs_manifest.proofs.put_entry.put_negative.Goals as goal
 
 pub returns : goal.returns

@@ -1,5 +1,5 @@
 use Rattle.std.proofs.Common.{decimal}
-use Rattle.cs_manifest.proofs.Pieces.{nothing, spaced_more}
+use Rattle.cs_output.proofs.Pieces.{nothing, spaced_more}
 use Rattle.cs_manifest.proofs.put_entry.put_numbers.Goals as goal
 
 pub loop-number-init : goal.loop-number-init

@@ -1,4 +1,4 @@
-use Rattle.cs_manifest.proofs.Pieces.{then}
+use Rattle.cs_output.proofs.Pieces.{then}
 use Rattle.cs_manifest.proofs.put_entry.put_rendered.Goals as goal
 
 pub returns-in-NoLexeme : goal.returns-in-NoLexeme

@@ -1,6 +1,6 @@
 use Rattle.std.proofs.Common.{ap, codes, List, ℕ, ◌∷◌, ◌++◌}
-use Rattle.cs_manifest.proofs.Pieces.{spelled, then}
-use Rattle.cs_manifest.proofs.Runs.{parts_spelled}
+use Rattle.cs_output.proofs.Pieces.{spelled, then}
+use Rattle.cs_output.proofs.Runs.{parts_spelled}
 use Rattle.cs_manifest.proofs.put_entry.put_text_line.Goals as goal
 
 pub returns : goal.returns

@@ -1,6 +1,6 @@
 use Rattle.std.proofs.Common.{ap}
+use Rattle.cs_output.proofs.Pieces.{spelled}
 use Rattle.cs_manifest.specs.Below.{text_below}
-use Rattle.cs_manifest.proofs.Pieces.{spelled}
 use Rattle.cs_manifest.proofs.put_entry.put_text_lines.Goals as goal
 
 pub returns-in-None : goal.returns-in-None

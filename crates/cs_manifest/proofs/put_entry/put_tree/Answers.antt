@@ -1,8 +1,8 @@
 use Rattle.std.proofs.Common.{◌++◌, [], ap, codes, decimal}
+use Rattle.cs_output.specs.Words.{spaced}
+use Rattle.cs_output.proofs.Pieces.{spelled, then_below}
 use Rattle.cs_manifest.specs.Below.{derive_below, tokens_words}
 use Rattle.cs_manifest.specs.Lines.{size_words}
-use Rattle.cs_manifest.specs.Words.{spaced}
-use Rattle.cs_manifest.proofs.Pieces.{spelled, then_below}
 use Rattle.cs_manifest.proofs.put_entry.put_tree.Goals as goal
 
 pub returns : goal.returns

@@ -1,8 +1,8 @@
 use Rattle.std.proofs.Common.{ap, ◌∙◌}
 use Rattle.cs_grammar.specs.Grammar.{PlainGrammar}
+use Rattle.cs_output.specs.Words.{with_numbers}
+use Rattle.cs_output.proofs.Pieces.{spelled, then}
 use Rattle.cs_manifest.specs.Lines.{rule_line, token_line}
-use Rattle.cs_manifest.specs.Words.{with_numbers}
-use Rattle.cs_manifest.proofs.Pieces.{spelled, then}
 use Rattle.cs_manifest.proofs.put_head.put_file.Goals as goal
 
 pub returns : goal.returns

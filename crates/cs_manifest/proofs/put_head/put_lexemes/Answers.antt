@@ -1,6 +1,6 @@
 use Rattle.std.proofs.Common.{ap, ℕ}
+use Rattle.cs_output.proofs.Pieces.{nothing, numbered_more, spelled}
 use Rattle.cs_manifest.specs.Lines.{lexeme_line}
-use Rattle.cs_manifest.proofs.Pieces.{nothing, numbered_more, spelled}
 use Rattle.cs_manifest.proofs.put_head.put_lexemes.Goals as goal
 
 pub loop-place-init : goal.loop-place-init

@@ -1,7 +1,7 @@
 use Rattle.std.proofs.Common.{take}
-use Rattle.cs_manifest.specs.Words.{with_numbers}
+use Rattle.cs_output.specs.Words.{with_numbers}
+use Rattle.cs_output.specs.Putting.{Puts}
 use Rattle.cs_manifest.specs.Lines.{lexeme_line}
-use Rattle.cs_manifest.specs.Putting.{Puts}
 use Rattle.cs_manifest.proofs.put_head.put_lexemes.Given as goal
 
 abbrev pub invariant-loop-place : goal.invariant-loop-place

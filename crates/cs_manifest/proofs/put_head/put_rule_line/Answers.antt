@@ -1,7 +1,7 @@
 use Rattle.std.proofs.Common.{ap}
+use Rattle.cs_output.specs.Names.{nonterminal_of}
+use Rattle.cs_output.proofs.Pieces.{spelled, then}
 use Rattle.cs_manifest.specs.Lines.{symbol_words}
-use Rattle.cs_manifest.specs.Names.{nonterminal_of}
-use Rattle.cs_manifest.proofs.Pieces.{spelled, then}
 use Rattle.cs_manifest.proofs.put_head.put_rule_line.Goals as goal
 
 pub returns : goal.returns

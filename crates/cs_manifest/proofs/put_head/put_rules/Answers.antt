@@ -1,5 +1,5 @@
+use Rattle.cs_output.proofs.Pieces.{nothing, numbered_more}
 use Rattle.cs_manifest.specs.Lines.{rule_line}
-use Rattle.cs_manifest.proofs.Pieces.{nothing, numbered_more}
 use Rattle.cs_manifest.proofs.put_head.put_rules.Goals as goal
 
 pub loop-place-init : goal.loop-place-init

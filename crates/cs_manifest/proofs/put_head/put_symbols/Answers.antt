@@ -1,5 +1,5 @@
-use Rattle.cs_manifest.specs.Names.{symbol_text}
-use Rattle.cs_manifest.proofs.Pieces.{nothing, spaced_more}
+use Rattle.cs_output.specs.Names.{symbol_text}
+use Rattle.cs_output.proofs.Pieces.{nothing, spaced_more}
 use Rattle.cs_manifest.proofs.put_head.put_symbols.Goals as goal
 
 pub loop-symbol-init : goal.loop-symbol-init

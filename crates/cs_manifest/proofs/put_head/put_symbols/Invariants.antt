@@ -1,7 +1,7 @@
 use Rattle.std.proofs.Common.{take}
-use Rattle.cs_manifest.specs.Words.{spaced}
-use Rattle.cs_manifest.specs.Names.{symbol_text}
-use Rattle.cs_manifest.specs.Putting.{Puts}
+use Rattle.cs_output.specs.Words.{spaced}
+use Rattle.cs_output.specs.Names.{symbol_text}
+use Rattle.cs_output.specs.Putting.{Puts}
 use Rattle.cs_manifest.proofs.put_head.put_symbols.Given as goal
 
 abbrev pub invariant-loop-symbol : goal.invariant-loop-symbol

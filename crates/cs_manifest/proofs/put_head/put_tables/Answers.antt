@@ -1,7 +1,7 @@
 use Rattle.std.proofs.Common.{ap}
+use Rattle.cs_output.specs.Words.{with_numbers}
+use Rattle.cs_output.proofs.Pieces.{spelled, then}
 use Rattle.cs_manifest.specs.Lines.{lexeme_line}
-use Rattle.cs_manifest.specs.Words.{with_numbers}
-use Rattle.cs_manifest.proofs.Pieces.{spelled, then}
 use Rattle.cs_manifest.proofs.put_head.put_tables.Goals as goal
 
 pub returns : goal.returns

@@ -1,8 +1,8 @@
 use Rattle.std.proofs.Common.{◌≡◌, ◌+◌, List, ℕ, refl, subst, sym, ap, ◌∙◌, arith}
 use Rattle.std.proofs.lemmas.Result.{err_from_is_err_and}
+use Rattle.cs_output.specs.Sinks.{IsCutShort, IsWritten}
+use Rattle.cs_output.proofs.Written.{written_none}
 use Rattle.cs_manifest.specs.Manifest.{shared_entry_lines}
-use Rattle.cs_manifest.specs.Sinks.{IsCutShort, IsWritten}
-use Rattle.cs_manifest.proofs.Written.{written_none}
 use Rattle.cs_plan.specs.Made.{IsNamedSharedEntry}
 use Rattle.cs_yacc.specs.File.{File}
 use Rattle.cs_writing.specs.Written.{IsCountedAlike, behind_shared}

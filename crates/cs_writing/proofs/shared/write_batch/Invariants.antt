@@ -1,5 +1,5 @@
 use Rattle.std.proofs.Common.{◌≡◌, ◌+◌, take}
-use Rattle.cs_manifest.specs.Sinks.{IsWritten}
+use Rattle.cs_output.specs.Sinks.{IsWritten}
 use Rattle.cs_plan.specs.Batches.{entries_in}
 use Rattle.cs_writing.specs.Written.{AreCounted, new_cases, shared_lines_from}
 use Rattle.cs_writing.proofs.shared.write_batch.Given as goal

@@ -1,13 +1,13 @@
 use Rattle.std.proofs.Common.{Bool, List, ℕ, subst, sym, ap, ◌∙◌}
 use Rattle.std.specs.Prelude.{if◌then◌else◌}
 use Rattle.std.proofs.lemmas.Result.{err_from_is_err_and}
+use Rattle.cs_output.specs.Sinks.{IsCutShort, IsWritten}
+use Rattle.cs_output.proofs.Written.{written_none}
 use Rattle.cs_manifest.specs.Counts.{with_case, with_lines}
 use Rattle.cs_manifest.specs.Entry.{lines_of}
 use Rattle.cs_manifest.specs.Manifest.{new_case_lines}
 use Rattle.cs_manifest.specs.Progress.{Progress}
-use Rattle.cs_manifest.specs.Sinks.{IsCutShort, IsWritten}
 use Rattle.cs_manifest.specs.declared.counts.Counts.{Counts}
-use Rattle.cs_manifest.proofs.Written.{written_none}
 use Rattle.cs_writing.proofs.Called.{is_cut, is_written}
 use Rattle.cs_writing.proofs.shared.write_case.Goals as goal
 

@@ -1,12 +1,12 @@
 use Rattle.std.proofs.Common.{◌≡◌, List, ℕ, subst, sym, ap, ◌∙◌}
 use Rattle.std.proofs.lemmas.Result.{err_from_is_err_and}
+use Rattle.cs_output.specs.Sinks.{IsCutShort, IsWritten}
+use Rattle.cs_output.proofs.Written.{cut_longer, written_cut, written_then}
 use Rattle.cs_manifest.specs.Counts.{with_lines, with_shared_verdict}
 use Rattle.cs_manifest.specs.Entry.{lines_of}
 use Rattle.cs_manifest.specs.Progress.{Progress}
 use Rattle.cs_manifest.specs.SharedLines.{shared_goal_line}
-use Rattle.cs_manifest.specs.Sinks.{IsCutShort, IsWritten}
 use Rattle.cs_manifest.specs.declared.counts.Counts.{Counts}
-use Rattle.cs_manifest.proofs.Written.{cut_longer, written_cut, written_then}
 use Rattle.cs_plan.specs.Made.{IsNamedSharedEntry}
 use Rattle.cs_yacc.specs.File.{File}
 use Rattle.cs_writing.proofs.Called.{is_cut, is_written}

@@ -5,8 +5,8 @@ use Rattle.std.proofs.lemmas.Result.{err_from_is_err_and}
 use Rattle.cs_grammar.specs.Grammar.{IsGrammar, PlainGrammar}
 use Rattle.cs_bases.specs.Bases.{no_bases}
 use Rattle.cs_cases.specs.Cases.{PlainCases, no_cases}
+use Rattle.cs_output.specs.Sinks.{IsCutShort, IsWritten}
 use Rattle.cs_manifest.specs.Manifest.{SharedEntry, most_bases}
-use Rattle.cs_manifest.specs.Sinks.{IsCutShort, IsWritten}
 use Rattle.cs_plan.specs.Batches.{entries_in}
 use Rattle.cs_plan.proofs.Sharing.{shared_codes}
 use Rattle.cs_plan.specs.Plans.{choice_in, lexemes_in, texts_in}

@@ -1,12 +1,12 @@
 use Rattle.std.proofs.Common.{◌≡◌, ◌+◌, List, ℕ, refl, subst, sym, ap, ◌∙◌, arith}
 use Rattle.std.proofs.lemmas.Result.{err_from_is_err_and}
+use Rattle.cs_output.specs.Sinks.{IsCutShort, IsWritten}
+use Rattle.cs_output.proofs.Written.{written_none}
 use Rattle.cs_manifest.specs.Entry.{lines_of}
 use Rattle.cs_manifest.specs.Counts.{with_lines, with_verdict}
 use Rattle.cs_manifest.specs.Manifest.{goal_entry_lines}
 use Rattle.cs_manifest.specs.Progress.{Progress}
-use Rattle.cs_manifest.specs.Sinks.{IsCutShort, IsWritten}
 use Rattle.cs_manifest.specs.declared.counts.Counts.{Counts}
-use Rattle.cs_manifest.proofs.Written.{written_none}
 use Rattle.cs_plan.specs.Made.{IsNamedGoalEntry}
 use Rattle.cs_yacc.specs.File.{File}
 use Rattle.cs_writing.proofs.Called.{is_cut, is_written}

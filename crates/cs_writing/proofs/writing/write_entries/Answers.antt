@@ -3,8 +3,8 @@ use Rattle.std.proofs.lemmas.Result.{err_from_is_err_and}
 use Rattle.cs_grammar.specs.Grammar.{IsGrammar, PlainGrammar}
 use Rattle.cs_bases.specs.Bases.{no_bases}
 use Rattle.cs_cases.specs.Cases.{no_cases}
+use Rattle.cs_output.specs.Sinks.{IsCutShort, IsWritten}
 use Rattle.cs_manifest.specs.Manifest.{GoalEntry, most_bases}
-use Rattle.cs_manifest.specs.Sinks.{IsCutShort, IsWritten}
 use Rattle.cs_plan.specs.Plans.{choice_in}
 use Rattle.cs_yacc.specs.File.{File}
 use Rattle.cs_writing.specs.declared.halt.Halt.TheVariants.{Failed, Memory}

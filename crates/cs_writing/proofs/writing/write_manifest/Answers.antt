@@ -1,12 +1,12 @@
 use Rattle.std.proofs.Common.{◌≡◌, length, subst, sym, ap, ◌∙◌}
-use Rattle.cs_manifest.specs.Sinks.{IsWritten}
+use Rattle.cs_output.specs.Sinks.{IsWritten}
 use Rattle.std.proofs.lemmas.Result.{err_from_is_err_and}
+use Rattle.cs_output.specs.Putting.{shown}
 use Rattle.cs_manifest.specs.declared.counts.Counts.{Counts}
 use Rattle.cs_manifest.specs.Counts.{end_of}
 use Rattle.cs_manifest.specs.Head.{head_of}
 use Rattle.cs_manifest.specs.Manifest.{most_bases, weighed_by}
 use Rattle.cs_manifest.specs.Progress.{Progress}
-use Rattle.cs_manifest.specs.Putting.{shown}
 use Rattle.cs_plan.specs.Plans.{IsOfPlan, IsPlanned, choice_in, lexemes_in}
 use Rattle.cs_plan.specs.declared.plan.Plan.{Plan}
 use Rattle.cs_positive.specs.Positives.{ToJudge}

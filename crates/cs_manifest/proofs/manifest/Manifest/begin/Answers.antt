@@ -1,6 +1,6 @@
 use Rattle.std.proofs.Common.{arith}
 use Rattle.std.proofs.lemmas.Grind.{common_steps}
-use Rattle.cs_manifest.proofs.Pieces.{failed_part}
+use Rattle.cs_output.proofs.Pieces.{failed_part}
 use Rattle.cs_manifest.proofs.manifest.Manifest.begin.Goals as goal
 
 pub returns-in_err-bytes-clause-err : goal.returns-in_err-bytes-clause-err

@@ -2,10 +2,10 @@ use Rattle.std.proofs.Common.{◌≡◌, ap, arith, subst, List, ℕ}
 use Rattle.std.specs.Result.{OnErr}
 use Rattle.std.proofs.lemmas.Grind.{common_steps}
 use Rattle.cs_io.specs.Sink.{GrewByPrefix}
+use Rattle.cs_output.proofs.Pieces.{failed_part}
 use Rattle.cs_manifest.specs.Counts.{end_of}
 use Rattle.cs_manifest.specs.declared.counts.Counts.{Counts}
 use Rattle.cs_manifest.specs.Progress.{Progress}
-use Rattle.cs_manifest.proofs.Pieces.{failed_part}
 use Rattle.cs_manifest.proofs.manifest.Manifest.finish.Goals as goal
 
 pub returns-in_err-bytes-clause-err : goal.returns-in_err-bytes-clause-err

@@ -1,0 +1,122 @@
+// The lines of negatives of a base that differ in the token that their edit puts alone.
+
+ghost use Rattle.std.specs.Prelude.{◌≡◌, [], IfOk, IfSome, drop, length, take};
+ghost use Rattle.cs_output.specs.Names.{IsNamedMark};
+ghost use Rattle.cs_manifest.specs.Open.{mark_in, place_of};
+ghost use Rattle.cs_render.specs.Rendering.{AreTokens};
+ghost use Rattle.cs_mutants.specs.Rows.{IsOpenPlaced, IsRowOf, PutsBehind, PutsInFront, behind_place};
+
+use crate::maker::Maker;
+use cs_lexeme::Lexemes;
+use cs_manifest::{OpenEdit, OpenLines, OpenNegative, OpenPair};
+use std::alloc::{AllocError, Global};
+
+/// The lines of the negatives with this edit and this pair, whatever token stands apart there.
+#[derive(Drop)]
+pub(crate) struct Row {
+    pub edit: OpenEdit,
+    pub pair: OpenPair,
+    pub lines: OpenLines,
+}
+
+impl Row {
+    /// The row of these negatives of a base. None where a token of the base has no lexeme.
+    pub fn new(
+        alloc: Global,
+        maker: &Maker<'_>,
+        edit: OpenEdit,
+        pair: OpenPair,
+    ) -> Result<Option<Row>, AllocError>
+        requires placed { IsOpenPlaced (length maker.now.base) edit }
+        requires named { IsNamedMark maker.now.tools.file (mark_in pair) }
+        ensures { IfOk result (λ row. IfSome row (IsRowOf maker.now edit pair)) }
+    {
+        let tools = maker.tools;
+        let work = tools.work;
+        let front = tokens_in_front(maker.base, edit);
+        let back = tokens_behind(maker.base, edit);
+        let mut text_front = Vec::new(alloc);
+        let mut text_back = Vec::new(alloc);
+        if !put_in_front(&mut text_front, work.lexemes, work.separator, front)?
+            || !put_behind(&mut text_back, work.lexemes, work.separator, back)?
+        {
+            return Ok(None);
+        }
+        let open = OpenNegative {
+            base: maker.number,
+            edit,
+            pair,
+            front,
+            back,
+            text_front: &text_front,
+            text_back: &text_back,
+        };
+        let lines = OpenLines::new(alloc, tools.yacc, &open)?;
+        Ok(Some(Row { edit, pair, lines }))
+    }
+}
+
+// The tokens in front of the one that the edit puts.
+fn tokens_in_front(base: &[u16], edit: OpenEdit) -> &[u16]
+    requires { IsOpenPlaced (length base.now) edit }
+    ensures { result.now ≡ take (place_of edit) base.now }
+{
+    match edit {
+        OpenEdit::Insert(place) | OpenEdit::Replace(place) => &base[..place as usize],
+    }
+}
+
+// Those behind it.
+fn tokens_behind(base: &[u16], edit: OpenEdit) -> &[u16]
+    requires { IsOpenPlaced (length base.now) edit }
+    ensures { result.now ≡ drop (behind_place edit) base.now }
+{
+    match edit {
+        OpenEdit::Insert(place) => &base[place as usize..],
+        OpenEdit::Replace(place) => &base[place as usize + 1..],
+    }
+}
+
+// Puts the text in front of a lexeme: the lexemes of the tokens, each with a separator behind it. False where one has none.
+fn put_in_front(
+    out: &mut Vec<u8>,
+    lexemes: &Lexemes,
+    separator: &[u8],
+    tokens: &[u16],
+) -> Result<bool, AllocError>
+    requires empty { out.old.items ≡ [] }
+    requires tokens { AreTokens lexemes.now tokens.now }
+    ensures { IfOk result (
+        PutsInFront lexemes.now separator.now tokens.now out.new.items) }
+{
+    for token in tokens {
+        let Some(lexeme) = lexemes.get(*token) else {
+            return Ok(false);
+        };
+        out.extend_from_slice(lexeme)?;
+        out.extend_from_slice(separator)?;
+    }
+    Ok(true)
+}
+
+// Puts the text behind a lexeme: the lexemes of the tokens, each with a separator in front of it. False where one has none.
+fn put_behind(
+    out: &mut Vec<u8>,
+    lexemes: &Lexemes,
+    separator: &[u8],
+    tokens: &[u16],
+) -> Result<bool, AllocError>
+    requires empty { out.old.items ≡ [] }
+    requires tokens { AreTokens lexemes.now tokens.now }
+    ensures { IfOk result (
+        PutsBehind lexemes.now separator.now tokens.now out.new.items) }
+{
+    for token in tokens {
+        let Some(lexeme) = lexemes.get(*token) else {
+            return Ok(false);
+        };
+        out.extend_from_slice(separator)?;
+        out.extend_from_slice(lexeme)?;
+    }
+    Ok(true)
+}

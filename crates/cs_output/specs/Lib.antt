@@ -1,0 +1,5 @@
+pub mod Words
+pub mod Names
+pub mod Sinks
+pub mod Putting
+pub mod Spelled
