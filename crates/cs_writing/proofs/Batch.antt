@@ -19,6 +19,11 @@ pub lines_are : {A : Type 0} (f : File → ℕ → A → List ℕ) (file now : F
     → lines ≡ f file (first + i) made
 lines_are f file now first i number made lines same at is = is ∙ ap (λ (k : ℕ). f now k made) at ∙ ap (λ (h : File). f h (first + i) made) same
 
+-- and those of a whole batch
+pub batch_lines_are : {A : Type 0} (f : File → ℕ → A → List ℕ) (number : ℕ) {now file : File} {batch made : List A} → now ≡ file → batch ≡ made
+    → numbered_from number (f now) batch ≡ numbered_from number (f file) made
+batch_lines_are f number {now} {file} {batch} {made} same is = ap (λ (h : File). numbered_from number (f h) batch) same ∙ ap (numbered_from number (f file)) is
+
 module _ {A : Type 0} (batch : List A) (i : ℕ) (made : A) (within : i < length batch) (is : made ≡ get_or batch i made) where
   pub one_more : take (i + 1) batch ≡ take i batch ++ made ∷ []
   one_more = take_more batch i made within ∙ ap (λ (x : A). take i batch ++ x ∷ []) (sym is)

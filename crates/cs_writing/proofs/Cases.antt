@@ -17,7 +17,7 @@ use Rattle.cs_plan.proofs.Sharing.{shared_codes, shared_entries}
 use Rattle.cs_yacc.specs.File.{File}
 use Rattle.cs_positive.specs.declared.verdict.Verdict.{Verdict}
 use Rattle.cs_positive.specs.declared.verdict.Verdict.TheVariants.{Feasible, Infeasible, Large}
-use Rattle.cs_writing.specs.Written.{IsCountedAlike}
+use Rattle.cs_writing.specs.Written.{IsCountedAlike, behind_shared}
 
 -- both verdicts are counted alike
 alike : (old new : PlainCases) (goal : Goal) (verdict : Verdict) (s : SharedVerdict) → IsSharedVerdict old goal verdict new s → (c : Counts) → with_shared_verdict c s ≡ with_verdict c verdict
@@ -34,6 +34,11 @@ old_lines_by file entry rendered shared.Large old = refl
 
 pub old_case_lines : (file : File) (s : SharedEntry) → is_new s.verdict ≡ false → new_case_lines file s ≡ []
 old_case_lines file s old = old_lines_by file s.entry s.rendered s.verdict old
+
+-- the counts behind an entry, by the file and the number as they are told
+pub behind_at : {now file : File} {number told : ℕ} {after : Counts} (counts : Counts) (s : SharedEntry) → now ≡ file → number ≡ told → after ≡ behind_shared now number counts s
+    → after ≡ behind_shared file told counts s
+behind_at {now} {file} {number} counts s same at is = is ∙ ap (λ (f : File). behind_shared f number counts s) same ∙ ap (λ (n : ℕ). behind_shared file n counts s) at
 
 module _ (texts : Option Texts) (lexemes : Option (List (Option (List ℕ)))) where
   counted_alike : (old new : PlainCases) (entry : GoalEntry) (s : SharedEntry) → IsShared texts lexemes old entry new s → IsCountedAlike s

@@ -17,3 +17,4 @@ pub mod Edits
 pub mod Negatives
 pub mod Mutated
 pub mod Searches
+pub mod OneBase

@@ -9,7 +9,7 @@ use Rattle.cs_output.specs.Sinks.{IsCutShort, IsWritten}
 use Rattle.cs_output.specs.Words.{numbered_from}
 use Rattle.cs_output.proofs.Written.{written_none, written_then, written_cut, cut_longer}
 use Rattle.cs_manifest.specs.declared.counts.Counts.{Counts}
-use Rattle.cs_manifest.specs.Manifest.{HasOneText, IsNegativeOf, NegativeEntry, negative_entry_lines}
+use Rattle.cs_manifest.specs.Manifest.{HasOneText, NegativeEntry, negative_entry_lines}
 use Rattle.cs_manifest.specs.Progress.{Progress}
 use Rattle.cs_manifest.proofs.OneManifest.{one_zip}
 use Rattle.cs_mutants.specs.Makers.{Making}

@@ -21,7 +21,7 @@ use Rattle.cs_plan.specs.Batches.{AreNext}
 use Rattle.cs_plan.specs.Plans.{IsEntryIn, choice_in, format_by, sharing_in}
 use Rattle.cs_writing.specs.declared.halt.Halt.TheVariants.{Failed, Memory}
 use Rattle.cs_writing.specs.Mutants.{Keeps}
-use Rattle.cs_writing.specs.Written.{AreBasesOf, AreCounted, AreEntriesIn, AreGoals, AreLinesIn, AreWithin, CountsGoals, IsFresh, IsStopped}
+use Rattle.cs_writing.specs.Written.{AreCounted, AreEntriesIn, AreGoals, AreLinesIn, AreWithin, CountsGoals, HasNumbers, IsFresh, IsReady, IsStopped, TellsGoals}
 use Rattle.cs_writing.proofs.Counted.{goals_none, goals_then, within_more}
 use Rattle.cs_writing.proofs.Few.{few_goals}
 use Rattle.cs_writing.proofs.Kept.{kept_more}
@@ -42,8 +42,8 @@ pub record IsBatch (plan : Plan) (number : ℕ) (left : ToJudge) (cases : PlainC
   pub told : AreLinesIn plan (number + 1) cases made more lines
 
 -- where something came, fewer are left
-pub fewer_left : (plan : Plan) (old new : ToJudge) (made : List GoalEntry) → AreNext plan old made new → 0 < length made → length new.goals < length old.goals
-fewer_left plan old new made next some =
+pub fewer_left : {plan : Plan} {old new : ToJudge} {made : List GoalEntry} → AreNext plan old made new → 0 < length made → length new.goals < length old.goals
+fewer_left {plan} {old} {new} {made} next some =
     omega (arith, some, zip_length (IsEntryIn plan old.tables) next.goals made next.each, ap length next.split, length-append next.goals new.goals)
 
 module _ (plan : Plan) (of : Weighed) where
@@ -102,7 +102,7 @@ fresh_few plan counts fresh = subst (AreWithin 0) (sym fresh) (record {
   cases = cases_few (sharing_in plan);
 })
 
-module _ {S : Type 0} {g : Sink.Ghosts S} (plan : Plan) (of : Weighed) where
+module _ {S : Type 0} {g : Sink.Ghosts S} {plan : Plan} {of : Weighed} where
   pub so_far_none : (left : List Goal) (kept : PlainBases) (counts : Counts) (s : S) → left ≡ goals of.grammar plan.criteria → kept ≡ bases_of (most_bases (choice_in plan)) []
       → SoFar g plan of left 0 (no_cases plan.yacc.now.grammar) kept counts counts s s
   so_far_none left kept counts s all none = record {
@@ -117,9 +117,9 @@ module _ {S : Type 0} {g : Sink.Ghosts S} (plan : Plan) (of : Weighed) where
   }
 
   -- nothing came
-  pub so_far_all : (left new : ToJudge) (made : List GoalEntry) (number : ℕ) (cases : PlainCases) (kept : PlainBases) (before after : Counts) (old now : S) → length made ≡ 0 → AreNext plan left made new
+  pub so_far_all : {left new : ToJudge} {made : List GoalEntry} {number : ℕ} {cases : PlainCases} {kept : PlainBases} {before after : Counts} {old now : S} → length made ≡ 0 → AreNext plan left made new
       → SoFar g plan of left.goals number cases kept before after old now → HasEntries g plan of old now before after kept
-  so_far_all left new made number cases kept before after old now empty next so_far = record {
+  so_far_all {left} {new} {made} {number} {cases} empty next so_far = record {
     entries = so_far.entries;
     cases = cases;
     lines = so_far.lines;
@@ -129,7 +129,7 @@ module _ {S : Type 0} {g : Sink.Ghosts S} (plan : Plan) (of : Weighed) where
     kept_are = so_far.kept_are;
   }
 
-  module _ (left : List Goal) (number : ℕ) (cases : PlainCases) (kept : PlainBases) (before counts : Counts) (old mid : S)
+  module _ {left : List Goal} {number : ℕ} {cases : PlainCases} {kept : PlainBases} {before counts : Counts} {old mid : S}
       (so_far : SoFar g plan of left number cases kept before counts old mid) where
     -- no count is above the number of goals
     pub so_far_within : IsFresh plan before → AreWithin number counts
@@ -144,11 +144,11 @@ module _ {S : Type 0} {g : Sink.Ghosts S} (plan : Plan) (of : Weighed) where
         subst (λ (l : List ℕ). IsStopped g l old mid Memory) (sym found.1) (stopped_by_memory so_far.written found.0)
 
   -- behind a batch
-  module _ (left new : ToJudge) (made : List GoalEntry) (number : ℕ) (cases more : PlainCases) (kept : PlainBases) (before counts : Counts) (old mid now : S) (lines : List ℕ)
+  module _ {left : ToJudge} {number : ℕ} {cases : PlainCases} {kept : PlainBases} {before counts : Counts} {old mid : S}
       (tables : left.tables ≡ of) (so_far : SoFar g plan of left.goals number cases kept before counts old mid) where
     -- numbers don't end
-    pub so_far_few : IsGrammar of.grammar → AreNext plan left made new → number + length made ≤ 10000000000
-    so_far_few is next =
+    so_far_few : {made : List GoalEntry} {new : ToJudge} → IsGrammar of.grammar → AreNext plan left made new → number + length made ≤ 10000000000
+    so_far_few {made} {new} is next =
         omega (
           arith,
           first_few plan of new.goals (so_far.entries ++ made) is (first_more plan of left new so_far.entries made tables next so_far.first),
@@ -156,20 +156,20 @@ module _ {S : Type 0} {g : Sink.Ghosts S} (plan : Plan) (of : Weighed) where
           length-append so_far.entries made,
         )
 
-    module _ (batch : IsBatch plan number left cases made new more lines) where
+    module _ {made : List GoalEntry} {new : ToJudge} {more : PlainCases} {lines : List ℕ} (batch : IsBatch plan number left cases made new more lines) where
       told_more : AreLinesIn plan 1 (no_cases plan.yacc.now.grammar) (so_far.entries ++ made) more (so_far.lines ++ lines)
       told_more =
           let e : number + 1 ≡ 1 + length so_far.entries = omega (arith, so_far.many) in
           lines_both plan (format_by plan.closed) 1 (no_cases plan.yacc.now.grammar) cases more so_far.entries made so_far.lines lines so_far.told
           (subst (λ (n : ℕ). AreLinesIn plan n cases made more lines) e batch.told)
 
-      pub so_far_more : (new_cases : ℕ) (after : Counts) (next_kept : PlainBases) → length more.codes ≡ length cases.codes + new_cases → IsWritten g lines mid now
-          → AreCounted made new_cases lines counts after → Keeps number made kept next_kept → SoFar g plan of new.goals (number + length made) more next_kept before after old now
-      so_far_more new_cases after next_kept grown written counted keeps = record {
+      pub so_far_more : {new_cases next : ℕ} {after : Counts} {next_kept : PlainBases} {now : S} → length more.codes ≡ length cases.codes + new_cases → next ≡ number + length made → IsWritten g lines mid now
+          → AreCounted made new_cases lines counts after → Keeps number made kept next_kept → SoFar g plan of new.goals next more next_kept before after old now
+      so_far_more {new_cases} {next} {after} {next_kept} {now} grown next_is written counted keeps = record {
         entries = so_far.entries ++ made;
         lines = so_far.lines ++ lines;
         first = first_more plan of left new so_far.entries made tables batch.next so_far.first;
-        many = omega (arith, so_far.many, length-append so_far.entries made);
+        many = omega (arith, next_is, so_far.many, length-append so_far.entries made);
         told = told_more;
         counted = goals_then so_far.entries made (length more.codes) (length cases.codes) new_cases so_far.lines lines before counts after grown so_far.counted counted;
         written = written_then so_far.written written;
@@ -177,24 +177,35 @@ module _ {S : Type 0} {g : Sink.Ghosts S} (plan : Plan) (of : Weighed) where
       }
 
       -- a write failed within it
-      pub failed_within : (one : (texts : Option Texts) → HasOneText texts) → IsCutShort g lines mid now → HasSomeEntries g plan of old now Failed
-      failed_within one cut others other whole are =
+      pub failed_within : {now : S} → (one : (texts : Option Texts) → HasOneText texts) → IsCutShort g lines mid now → HasSomeEntries g plan of old now Failed
+      failed_within {now} one cut others other whole are =
           let first = first_more plan of left new so_far.entries made tables batch.next so_far.first in
           let found = first_lines plan of one new.goals (so_far.entries ++ made) others more other (so_far.lines ++ lines) whole first told_more are in
           subst (λ (l : List ℕ). IsStopped g l old now Failed) (sym found.1) (stopped_by_cut (cut_longer found.0 (written_cut so_far.written cut)))
 
+-- numbers and counts don't end
+pub numbers_left : {S : Type 0} {g : Sink.Ghosts S} {plan : Plan} {given left new : ToJudge} {manifest : Progress} {made : List GoalEntry} {number many : ℕ} {cases : PlainCases} {kept : PlainBases}
+    {counts : Counts} {old mid : S} → IsReady plan given manifest → left.tables ≡ given.tables → SoFar g plan given.tables left.goals number cases kept manifest.counts counts old mid
+    → AreNext plan left made new → many ≡ length made → HasNumbers number many counts
+numbers_left ready tables so_far next same =
+    let grammar = subst IsGrammar (sym ready.grammar.grammar) ready.plan_is.file.grammar in
+    record { within = so_far_within so_far ready.fresh; few = omega (arith, so_far_few tables so_far grammar next, same) }
+
 -- ---- whichever the entries are
 
-module _ {S : Type 0} {g : Sink.Ghosts S} (plan : Plan) (left : ToJudge) (one : (texts : Option Texts) → HasOneText texts) where
-  -- they were counted
-  pub goals_counted : {old new : S} (before after : Progress) (kept : PlainBases) → HasEntries g plan left.tables old new before.counts after.counts kept → CountsGoals plan left before after
-  goals_counted before after kept has entries cases lines are =
+module _ {S : Type 0} {g : Sink.Ghosts S} (plan : Plan) (left : ToJudge) (one : (texts : Option Texts) → HasOneText texts) {old new : S} (before after : Progress) (kept : PlainBases)
+    (has : HasEntries g plan left.tables old new before.counts after.counts kept) where
+  goals_counted : CountsGoals plan left before after
+  goals_counted entries cases lines are =
       let same = one_goals plan one left.tables has.entries entries has.cases cases has.lines lines has.are are in
       subst (λ (es : List GoalEntry). AreCounted es (length cases.codes) lines before.counts after.counts) same.entries_are
       (subst (λ (c : PlainCases). AreCounted has.entries (length c.codes) lines before.counts after.counts) same.cases_are
       (subst (λ (l : List ℕ). AreCounted has.entries (length has.cases.codes) l before.counts after.counts) same.lines_are has.counted))
 
-  -- and these are their bases
-  pub goals_kept : {old new : S} (before after : Counts) (kept : PlainBases) → HasEntries g plan left.tables old new before after kept → AreBasesOf plan left kept
-  goals_kept before after kept has entries are =
-      has.kept_are ∙ ap (λ (es : List GoalEntry). bases_of (most_bases (choice_in plan)) es) (one_list plan one left.tables has.entries entries has.are.all are)
+  -- they were counted, and these are their bases
+  pub goals_told : after.file ≡ plan.yacc.now → TellsGoals plan left before after kept
+  goals_told file = record {
+    file = file;
+    counted = goals_counted;
+    bases = λ entries are. has.kept_are ∙ ap (λ (es : List GoalEntry). bases_of (most_bases (choice_in plan)) es) (one_list plan one left.tables has.entries entries has.are.all are);
+  }

@@ -4,7 +4,7 @@ use Rattle.cs_bases.specs.Bases.{PlainBases, bases_of}
 use Rattle.cs_cases.specs.Cases.{PlainCases, no_cases}
 use Rattle.cs_grammar.specs.Weights.{Weighed}
 use Rattle.cs_goals.specs.Goals.{goals}
-use Rattle.cs_io.specs.Faults.{Rose}
+use Rattle.cs_io.specs.Faults.{Rose, greatest}
 use Rattle.cs_io.specs.declared.sink.Sink as Sink
 use Rattle.cs_io.specs.declared.sink.SinkError.{SinkError}
 use Rattle.cs_output.specs.Putting.{shown}
@@ -23,7 +23,7 @@ use Rattle.cs_positive.specs.Positives.{ToJudge}
 use Rattle.cs_yacc.specs.File.{File}
 use Rattle.cs_plan.specs.declared.plan.Plan.{Plan}
 use Rattle.cs_plan.specs.Batches.{entries_in}
-use Rattle.cs_plan.specs.Plans.{choice_in, format_by, lexemes_in, sharing_in, texts_in}
+use Rattle.cs_plan.specs.Plans.{IsOfPlan, IsPlan, choice_in, format_by, lexemes_in, sharing_in, texts_in}
 use Rattle.cs_writing.specs.declared.halt.Halt.{Halt}
 use Rattle.cs_writing.specs.declared.halt.Halt.TheVariants.{Failed}
 
@@ -78,6 +78,14 @@ AreBasesOf plan left kept =
 abbrev pub IsFresh : Plan → Counts → Type 0
 IsFresh plan counts = counts ≡ record (first_counts counts.bytes) { cases = cases_at_first (sharing_in plan) }
 
+-- The entries of all goals can be written: these are the goals of the plan, and nothing but the head was written.
+pub record IsReady (plan : Plan) (left : ToJudge) (manifest : Progress) : Type 0 where
+  pub plan_is : IsPlan plan
+  pub grammar : IsOfPlan plan left
+  pub all : left.goals ≡ goals left.tables.grammar plan.criteria
+  pub file : manifest.file ≡ plan.yacc.now
+  pub fresh : IsFresh plan manifest.counts
+
 -- no count of goals or cases is above this number
 pub record AreWithin (most : ℕ) (counts : Counts) : Type 0 where
   pub goals : counts.goals ≤ most
@@ -102,18 +110,35 @@ CountsGoals plan left old new =
     (entries : List GoalEntry) (cases : PlainCases) (lines : List ℕ) → AreGoals plan left.tables entries cases lines
     → AreCounted entries (length cases.codes) lines old.counts new.counts
 
--- a batch of entries behind so many was counted
-abbrev pub CountsBatch : ℕ → List GoalEntry → Progress → Progress → Type 0
-CountsBatch number batch old new = AreCounted batch 0 (lines_from old.file (number + 1) batch) old.counts new.counts
+-- the entries of all goals were counted, and these are their bases
+pub record TellsGoals (plan : Plan) (left : ToJudge) (old new : Progress) (kept : PlainBases) : Type 0 where
+  pub file : new.file ≡ plan.yacc.now
+  pub counted : CountsGoals plan left old new
+  pub bases : AreBasesOf plan left kept
+
+-- so many entries more have numbers and can be counted, behind so many
+pub record HasNumbers (number many : ℕ) (counts : Counts) : Type 0 where
+  pub within : AreWithin number counts
+  pub few : number + many ≤ greatest
+
+-- these entries, so many new cases and these lines were counted behind so many entries
+pub record CountsMore (many : ℕ) (entries : List GoalEntry) (new : ℕ) (lines : List ℕ) (next : ℕ) (before after : Progress) : Type 0 where
+  pub file : after.file ≡ before.file
+  pub number : next ≡ many + length entries
+  pub counted : AreCounted entries new lines before.counts after.counts
+
+-- a batch of entries was counted
+abbrev pub TellsBatch : ℕ → List GoalEntry → ℕ → Progress → Progress → Type 0
+TellsBatch number batch next old new = CountsMore number batch 0 (lines_from old.file (number + 1) batch) next old new
 
 -- how many of these entries have new cases
 abbrev pub new_cases : List SharedEntry → ℕ
 new_cases list = count_by (λ s. is_new s.verdict) list
 
 -- the same in the second format
-abbrev pub CountsShared : ℕ → List SharedEntry → Progress → Progress → Type 0
-CountsShared number batch old new =
-    AreCounted (entries_in batch) (new_cases batch) (shared_lines_from old.file (number + 1) batch) old.counts new.counts
+abbrev pub TellsShared : ℕ → List SharedEntry → ℕ → Progress → Progress → Type 0
+TellsShared number batch next old new =
+    CountsMore number (entries_in batch) (new_cases batch) (shared_lines_from old.file (number + 1) batch) next old new
 
 -- it is counted as its goal is in the first format
 abbrev pub IsCountedAlike : SharedEntry → Type 0

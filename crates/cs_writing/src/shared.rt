@@ -1,13 +1,9 @@
 // The entries of goals in the second format.
 
-ghost use Rattle.std.specs.Prelude.{◌≡◌, ◌+◌, ◌≤◌, All, IfOk, IsSome, OnOk, length};
-ghost use Rattle.cs_goals.specs.Goals.{goals};
-ghost use Rattle.cs_io.specs.Faults.{greatest};
+ghost use Rattle.std.specs.Prelude.{◌≡◌, All, IfOk, IsSome, OnOk, length};
 ghost use Rattle.cs_plan.specs.Made.{IsNamedSharedEntry};
-ghost use Rattle.cs_plan.specs.Plans.{IsOfPlan, IsPlan};
-ghost use Rattle.cs_writing.specs.Written.{AreBasesOf, AreWithin, CountsCase, CountsEntry, CountsGoals, CountsShared};
-ghost use Rattle.cs_writing.specs.Written.{IsCountedAlike, IsFresh, IsGoalsText, PutsCase, PutsEntry, PutsOne};
-ghost use Rattle.cs_writing.specs.Written.{PutsShared};
+ghost use Rattle.cs_writing.specs.Written.{CountsCase, CountsEntry, HasNumbers, IsCountedAlike, IsGoalsText, IsReady};
+ghost use Rattle.cs_writing.specs.Written.{PutsCase, PutsEntry, PutsOne, PutsShared, TellsGoals, TellsShared};
 
 use crate::bases::keep_shared;
 use crate::halt::Halt;
@@ -32,17 +28,10 @@ pub fn write_shared<R: Threads + Sync, S: Sink, G: Gate + Sync>(
     sink: &mut S,
     gate: &G,
 ) -> Result<Bases, Halt>
-    requires plan { IsPlan plan.now }
+    requires ready { IsReady plan.now positives.old manifest.old }
     requires second { IsSome plan.now.closed }
-    requires grammar { IsOfPlan plan.now positives.old }
-    requires all { positives.old.goals ≡ goals positives.old.tables.grammar plan.now.criteria }
-    requires file { manifest.old.file ≡ plan.now.yacc.now }
-    requires fresh { IsFresh plan.now manifest.old.counts }
-    ensures file { OnOk result (manifest.new.file ≡ plan.now.yacc.now) }
     ensures text { PutsOne S.Sink (IsGoalsText plan.now positives.old) sink.old sink.new result }
-    ensures counted { OnOk result
-        (CountsGoals plan.now positives.old manifest.old manifest.new) }
-    ensures bases { IfOk result (AreBasesOf plan.now positives.old) }
+    ensures told { IfOk result (TellsGoals plan.now positives.old manifest.old manifest.new) }
     ensures lent { S.lent sink.new ≡ S.lent sink.old }
 {
     one_text();
@@ -68,11 +57,9 @@ fn write_batch<S: Sink>(
 ) -> Result<(), SinkError>
     requires named { All (IsNamedSharedEntry manifest.old.file) batch.now }
     requires alike { All IsCountedAlike batch.now }
-    requires within { AreWithin number.old manifest.old.counts }
-    requires few { number.old + length batch.now ≤ greatest }
-    ensures file { manifest.new.file ≡ manifest.old.file }
-    ensures number { OnOk result (number.new ≡ number.old + length batch.now) }
-    ensures counted { OnOk result (CountsShared number.old batch.now manifest.old manifest.new) }
+    requires numbers { HasNumbers number.old (length batch.now) manifest.old.counts }
+    ensures told { OnOk result
+        (TellsShared number.old batch.now number.new manifest.old manifest.new) }
     ensures lines { PutsShared S.Sink manifest.old number.old batch.now sink.old sink.new result }
 {
     for made in batch {

@@ -1,16 +1,15 @@
 // The manifest of a plan, entry by entry.
 
-ghost use Rattle.std.specs.Prelude.{◌≡◌, ◌+◌, ◌≤◌, [], All, IfOk, None, OnErr, OnOk, length};
+ghost use Rattle.std.specs.Prelude.{◌≡◌, ◌+◌, [], All, IfOk, None, OnErr, OnOk, length};
 ghost use Rattle.cs_goals.specs.Goals.{goals};
 ghost use Rattle.cs_io.specs.BufferedSink.{buffered_room, lent_name, lent_sink, waiting_bytes};
-ghost use Rattle.cs_io.specs.Faults.{greatest};
 ghost use Rattle.cs_writing.specs.declared.halt.Halt.TheVariants.{Failed};
 ghost use Rattle.cs_plan.specs.Plans.{IsOfPlan, IsPlan, IsPlanned};
 ghost use Rattle.cs_plan.specs.Made.{IsNamedGoalEntry};
 ghost use Rattle.cs_writing.specs.Writing.{CountsOfAll, HasNoCases, IsCalmForAll, LentCalm, LentOne, LentPart};
 ghost use Rattle.cs_writing.specs.Writing.{MetFault, Stopped, TookFront, TookOne};
-ghost use Rattle.cs_writing.specs.Written.{AreBasesOf, AreWithin, CountsBatch, CountsGoals, IsFresh, IsGoalsText};
-ghost use Rattle.cs_writing.specs.Written.{PutsBatch, PutsOne};
+ghost use Rattle.cs_writing.specs.Written.{HasNumbers, IsGoalsText, IsReady, PutsBatch, PutsOne, TellsBatch};
+ghost use Rattle.cs_writing.specs.Written.{TellsGoals};
 
 use crate::bases::keep_bases;
 use crate::halt::Halt;
@@ -120,16 +119,9 @@ fn write_goals<R: Threads + Sync, S: Sink, G: Gate + Sync>(
     sink: &mut S,
     gate: &G,
 ) -> Result<Bases, Halt>
-    requires plan { IsPlan plan.now }
-    requires grammar { IsOfPlan plan.now positives.old }
-    requires all { positives.old.goals ≡ goals positives.old.tables.grammar plan.now.criteria }
-    requires file { manifest.old.file ≡ plan.now.yacc.now }
-    requires fresh { IsFresh plan.now manifest.old.counts }
-    ensures file { OnOk result (manifest.new.file ≡ plan.now.yacc.now) }
+    requires ready { IsReady plan.now positives.old manifest.old }
     ensures text { PutsOne S.Sink (IsGoalsText plan.now positives.old) sink.old sink.new result }
-    ensures counted { OnOk result
-        (CountsGoals plan.now positives.old manifest.old manifest.new) }
-    ensures bases { IfOk result (AreBasesOf plan.now positives.old) }
+    ensures told { IfOk result (TellsGoals plan.now positives.old manifest.old manifest.new) }
     ensures lent { S.lent sink.new ≡ S.lent sink.old }
 {
     match plan.closed {
@@ -148,17 +140,10 @@ fn write_entries<R: Threads + Sync, S: Sink, G: Gate + Sync>(
     sink: &mut S,
     gate: &G,
 ) -> Result<Bases, Halt>
-    requires plan { IsPlan plan.now }
+    requires ready { IsReady plan.now positives.old manifest.old }
     requires first { plan.now.closed ≡ None }
-    requires grammar { IsOfPlan plan.now positives.old }
-    requires all { positives.old.goals ≡ goals positives.old.tables.grammar plan.now.criteria }
-    requires file { manifest.old.file ≡ plan.now.yacc.now }
-    requires fresh { IsFresh plan.now manifest.old.counts }
-    ensures file { OnOk result (manifest.new.file ≡ plan.now.yacc.now) }
     ensures text { PutsOne S.Sink (IsGoalsText plan.now positives.old) sink.old sink.new result }
-    ensures counted { OnOk result
-        (CountsGoals plan.now positives.old manifest.old manifest.new) }
-    ensures bases { IfOk result (AreBasesOf plan.now positives.old) }
+    ensures told { IfOk result (TellsGoals plan.now positives.old manifest.old manifest.new) }
     ensures lent { S.lent sink.new ≡ S.lent sink.old }
 {
     one_text();
@@ -182,11 +167,9 @@ fn write_batch<S: Sink>(
     batch: &[Made],
 ) -> Result<(), SinkError>
     requires named { All (IsNamedGoalEntry manifest.old.file) batch.now }
-    requires within { AreWithin number.old manifest.old.counts }
-    requires few { number.old + length batch.now ≤ greatest }
-    ensures file { manifest.new.file ≡ manifest.old.file }
-    ensures number { OnOk result (number.new ≡ number.old + length batch.now) }
-    ensures counted { OnOk result (CountsBatch number.old batch.now manifest.old manifest.new) }
+    requires numbers { HasNumbers number.old (length batch.now) manifest.old.counts }
+    ensures told { OnOk result
+        (TellsBatch number.old batch.now number.new manifest.old manifest.new) }
     ensures lines { PutsBatch S.Sink manifest.old number.old batch.now sink.old sink.new result }
 {
     for made in batch {

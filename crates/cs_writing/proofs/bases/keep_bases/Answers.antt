@@ -8,13 +8,12 @@ loop-made-init c = record { before = omega arith; kept = keeps_none c.args.numbe
 
 pub loop-made-preserved : goal.loop-made-preserved
 loop-made-preserved c =
-    let i = c.loop-made.made-index in
-    let batch = c.args.batch.now in
-    let made = c.made-item.result in
     let s = c.sentence.ensures in
+    let at = c.loop-made.made-index in
+    let kept = c.in_ok-keep_base.ensures c.made-item.result (its_tokens c.made-item.result c.sentence.result s.feasible s.tokens s.none) in
     record {
       before = omega (arith, c.loop-made.invariant.before);
-      kept = keeps_step c.args.number c.loop-made.before i (take i batch) (take (i + 1) batch) made c.args.bases.now c.loop-made.bases c.keep_base.new.bases
-          (one_more batch i made c.loop-made-test.true c.made-item.is) (before batch i made c.loop-made-test.true c.made-item.is) c.loop-made.invariant.before c.loop-made.invariant.kept
-          (c.in_ok-keep_base.ensures made (its_tokens made c.sentence.result s.feasible s.tokens s.none));
+      kept = keeps_step c.args.number c.loop-made.before at (take at c.args.batch.now) (take (at + 1) c.args.batch.now) c.made-item.result c.args.bases.now c.loop-made.bases c.keep_base.new.bases
+          (one_more c.args.batch.now at c.made-item.result c.loop-made-test.true c.made-item.is) (before c.args.batch.now at c.made-item.result c.loop-made-test.true c.made-item.is)
+          c.loop-made.invariant.before c.loop-made.invariant.kept kept;
     }

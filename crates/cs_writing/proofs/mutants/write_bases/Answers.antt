@@ -1,36 +1,58 @@
-use Rattle.std.proofs.Common.{rules, ◌≡◌, ◌+◌, ◌≤◌, List, ℕ, length, refl, subst, sym, ap, ◌∙◌, arith}
-use Rattle.std.specs.Borrow.{Bor}
+use Rattle.std.proofs.Common.{rules, ◌≡◌, ◌+◌, ◌<◌, ◌≤◌, List, ℕ, get_or, length, refl, subst, sym, ap, ◌∙◌, arith}
 use Rattle.std.proofs.lemmas.Option.{get_or_from_slice_get, slice_get_within}
 use Rattle.std.proofs.lemmas.Result.{err_from_is_err_and}
 use Rattle.cs_output.specs.Sinks.{IsWritten}
 use Rattle.cs_manifest.specs.Lines.{base_line}
-use Rattle.cs_manifest.specs.Manifest.{NegativeEntry}
 use Rattle.cs_manifest.specs.Progress.{Progress}
 use Rattle.cs_manifest.specs.declared.counts.Counts.{Counts}
-use Rattle.cs_mutants.specs.Makers.{AreToolsOf, CanRender, IsMakerOf, Making, PlainTools}
+use Rattle.cs_mutants.specs.Makers.{CanRender}
 use Rattle.cs_mutants.proofs.Taking.{takes_base}
-use Rattle.cs_plan.specs.declared.plan.Plan.{Plan}
 use Rattle.cs_plan.specs.Plans.{texts_in}
 use Rattle.cs_render_work.specs.Renders.{TakesTokens}
 use Rattle.cs_render_work.specs.declared.work.RenderWork.{RenderWork}
-use Rattle.cs_yacc.specs.File.{File}
 use Rattle.cs_writing.specs.declared.halt.Halt.TheVariants.{Failed, Memory}
-use Rattle.cs_writing.specs.Mutants.{CountsMade, IsCounted, IsEditable, IsMade, negatives_in}
-use Rattle.cs_writing.specs.Written.{HasSomeText, HasText, IsStopped}
+use Rattle.cs_writing.specs.Mutants.{IsEditable, negatives_in}
 use Rattle.cs_writing.proofs.Batch.{at_place}
 use Rattle.cs_writing.proofs.Called.{is_cut, is_written}
-use Rattle.cs_writing.proofs.Mutated.{base_cut, base_memory, base_stops, bases_all, bases_counted, bases_more, bases_none, bases_refused, negatives_at, without_bases}
-use Rattle.cs_writing.proofs.Parts.{bases_text_stop, has_negatives, some_negatives}
-use Rattle.cs_writing.proofs.Searches.{base_is, can_render, few_made, few_searched, from_made, to_made, tokens_are}
+use Rattle.cs_writing.proofs.Mutated.{base_cut, base_memory, base_stops, bases_all, bases_counted, bases_more, bases_none, bases_refused, without_bases}
+use Rattle.cs_writing.proofs.OneBase.{one_base_stops, one_base_written}
+use Rattle.cs_writing.proofs.Parts.{bases_text_stop}
+use Rattle.cs_writing.proofs.Searches.{can_render, few_searched, tokens_are}
 use Rattle.cs_writing.proofs.Tallies.{counted_base}
+use Rattle.cs_writing.proofs.mutants.write_bases.Given.{Over}
 use Rattle.cs_writing.proofs.mutants.write_bases.Goals as goal
+use Rattle.cs_writing.proofs.mutants.write_bases.Goals.{After-get-goal, In_ok-entry}
 
--- a maker of a base by tools of the plan
-made_of : (plan : Plan) (work : Bor RenderWork) (tools : PlainTools) → AreToolsOf plan.yacc.now work.now tools → (number : ℕ) (base : List ℕ) (made : Making) → IsMakerOf tools number base made
-    → made ≡ record { tools = record { file = plan.yacc.now; work = work.now; apart = tools.apart }; number = number; base = base }
-made_of plan work tools are number base made is =
-    is ∙ ap (λ (f : File). record { tools = record { file = f; work = tools.work; apart = tools.apart }; number = number; base = base }) are.file_is
-    ∙ ap (λ (w : RenderWork). record { tools = record { file = plan.yacc.now; work = w; apart = tools.apart }; number = number; base = base }) are.work_is
+-- ---- the base of an iteration
+
+abbrev base_of : (g : Over) (c : After-get-goal g) → ℕ × List ℕ
+base_of g c = (c.get-goal.result.0, c.get-goal.result.1.now)
+
+within : (g : Over) (c : After-get-goal g) → c.loop-index.index < length c.args.bases.now.list
+within g c = slice_get_within c.args.bases.now.list c.loop-index.index (base_of g c) c.get-goal.ensures
+
+is_base : (g : Over) (c : After-get-goal g) → base_of g c ≡ get_or c.args.bases.now.list c.loop-index.index (base_of g c)
+is_base g c = sym (get_or_from_slice_get c.args.bases.now.list c.loop-index.index (base_of g c) (base_of g c) c.get-goal.ensures)
+
+editable : (g : Over) (c : After-get-goal g) → IsEditable c.args.plan.now.yacc.now.grammar.tokens (base_of g c)
+editable g c =
+    at_place (IsEditable c.args.plan.now.yacc.now.grammar.tokens) c.args.bases.now.list c.loop-index.index (base_of g c) (within g c) (is_base g c) c.requires.bases
+
+-- its line was written
+first : (g : Over) (c : In_ok-entry g) → IsWritten g.S.Sink (base_line (c.loop-index.index + 1) c.get-goal.result.0) c.loop-index.sink c.entry.new.sink
+first g c =
+    let e = c.in_ok-entry.ensures in
+    is_written g.S.Sink (base_line (c.loop-index.index + 1) c.get-goal.result.0) c.loop-index.sink c.entry.new.sink e.ok e.faults_never_fall e.no_fault e.room e.same_lent e.passed_never_falls
+
+file_is : (g : Over) (c : In_ok-entry g) → c.entry.new.self.file ≡ c.args.plan.now.yacc.now
+file_is g c = ap (λ (q : Progress). q.file) c.in_ok-entry.ensures.value ∙ c.loop-index.invariant.file ∙ c.requires.file
+
+-- so many negatives stand before its own
+many : (g : Over) (c : In_ok-entry g) → c.entry.new.self.counts.negatives ≡ negatives_in c.loop-index.invariant.so_far.mutants
+many g c =
+    ap (λ (q : Progress). q.counts.negatives) c.in_ok-entry.ensures.value ∙ ap (λ (k : Counts). k.negatives) c.loop-index.invariant.so_far.counted.same ∙ omega (arith, c.requires.fresh)
+
+-- ---- answers
 
 pub loop-index-init : goal.loop-index-init
 loop-index-init g c = record {
@@ -51,11 +73,9 @@ returns-in_err-tools-clause-text g c =
 pub returns-in_err-maker-clause-text : goal.returns-in_err-maker-clause-text
 returns-in_err-maker-clause-text g c =
     let p = err_from_is_err_and c.from_residual-in_err-maker.result c.from_residual-in_err-maker.ensures.1 in
+    let at = (goal.at.returns-in_err-maker-clause-text g c).After-get-goal in
     let plan = c.args.plan.now in
-    let list = c.args.bases.now.list in
-    let i = c.loop-index.index in
-    let base : ℕ × List ℕ = (c.get-goal.result.0, c.get-goal.result.1.now) in
-    let stopped = base_memory plan (c.one_text.ensures (texts_in plan)) list i base (slice_get_within list i base c.get-goal.ensures) (sym (get_or_from_slice_get list i base base c.get-goal.ensures))
+    let stopped = base_memory plan (c.one_text.ensures (texts_in plan)) c.args.bases.now.list c.loop-index.index (base_of g at) (within g at) (is_base g at)
     c.args.sink.now c.loop-index.sink c.args.manifest.now.counts c.loop-index.manifest.counts c.loop-index.invariant.so_far in
     rw (p.1, p.2) (bases_text_stop plan c.args.bases.now c.args.sink.now c.loop-index.sink Memory stopped)
 
@@ -64,136 +84,83 @@ new-requires g c = can_render c.args.plan.now c.requires.plan c.unwrap-work.resu
 
 pub new-requires-in-loop-index-clause-base : goal.new-requires-in-loop-index-clause-base
 new-requires-in-loop-index-clause-base g c =
+    let at = (goal.at.new-requires-in-loop-index-clause-base g c).After-get-goal in
     let plan = c.args.plan.now in
-    let list = c.args.bases.now.list in
-    let base : ℕ × List ℕ = (c.get-goal.result.0, c.get-goal.result.1.now) in
-    let editable = at_place (IsEditable plan.yacc.now.grammar.tokens) list c.loop-index.index base (slice_get_within list c.loop-index.index base c.get-goal.ensures)
-    (sym (get_or_from_slice_get list c.loop-index.index base base c.get-goal.ensures)) c.requires.bases in
+    let base = base_of g at in
+    let editable = editable g at in
     let can = can_render plan c.requires.plan c.unwrap-work.result c.unwrap-work.ensures in
     let names = c.requires.plan.file.tokens in
     let takes = takes_base c.unwrap-work.result.now plan.yacc.now.grammar.tokens base.1 (subst (λ (n : ℕ). CanRender c.unwrap-work.result.now n) names can) editable.short editable.tokens_of in
     subst (λ (w : RenderWork). TakesTokens w base.1) (sym c.in_ok-tools.ensures.work_is) takes
 
 pub new-requires-in-loop-index-clause-short : goal.new-requires-in-loop-index-clause-short
-new-requires-in-loop-index-clause-short g c =
-    let list = c.args.bases.now.list in
-    let base : ℕ × List ℕ = (c.get-goal.result.0, c.get-goal.result.1.now) in
-    let editable = at_place (IsEditable c.args.plan.now.yacc.now.grammar.tokens) list c.loop-index.index base (slice_get_within list c.loop-index.index base c.get-goal.ensures)
-    (sym (get_or_from_slice_get list c.loop-index.index base base c.get-goal.ensures)) c.requires.bases in
-    editable.short
+new-requires-in-loop-index-clause-short g c = (editable g (goal.at.new-requires-in-loop-index-clause-short g c).After-get-goal).short
 
 pub returns-in_err-entry-clause-text : goal.returns-in_err-entry-clause-text
 returns-in_err-entry-clause-text g c =
     let p = err_from_is_err_and c.from_residual-in_err-entry.result c.from_residual-in_err-entry.ensures.1 in
+    let at = (goal.at.returns-in_err-entry-clause-text g c).After-get-goal in
     let e = c.in_err-entry.ensures in
     let plan = c.args.plan.now in
-    let list = c.args.bases.now.list in
     let i = c.loop-index.index in
-    let base : ℕ × List ℕ = (c.get-goal.result.0, c.get-goal.result.1.now) in
     let line = base_line (i + 1) c.get-goal.result.0 in
     let cut = is_cut g.S.Sink line c.loop-index.sink c.entry.new.sink e.err e.fault e.faults_never_fall (λ fits. let no = e.ok_with_room fits in cc) e.same_lent e.passed_never_falls in
-    let stopped = base_cut plan (c.one_text.ensures (texts_in plan)) list i base (slice_get_within list i base c.get-goal.ensures) (sym (get_or_from_slice_get list i base base c.get-goal.ensures))
+    let stopped = base_cut plan (c.one_text.ensures (texts_in plan)) c.args.bases.now.list i (base_of g at) (within g at) (is_base g at)
     c.args.sink.now c.loop-index.sink c.args.manifest.now.counts c.loop-index.manifest.counts c.loop-index.invariant.so_far c.entry.new.sink cut in
     rw (p.1, p.2) (bases_text_stop plan c.args.bases.now c.args.sink.now c.entry.new.sink Failed stopped)
 
 pub new-search-requires-clause-short : goal.new-search-requires-clause-short
-new-search-requires-clause-short g c =
-    let list = c.args.bases.now.list in
-    let base : ℕ × List ℕ = (c.get-goal.result.0, c.get-goal.result.1.now) in
-    let editable = at_place (IsEditable c.args.plan.now.yacc.now.grammar.tokens) list c.loop-index.index base (slice_get_within list c.loop-index.index base c.get-goal.ensures)
-    (sym (get_or_from_slice_get list c.loop-index.index base base c.get-goal.ensures)) c.requires.bases in
-    editable.short
+new-search-requires-clause-short g c = (editable g (goal.at.new-search-requires-clause-short g c).After-get-goal).short
 
 pub new-search-requires-clause-tokens : goal.new-search-requires-clause-tokens
 new-search-requires-clause-tokens g c =
-    let list = c.args.bases.now.list in
-    let base : ℕ × List ℕ = (c.get-goal.result.0, c.get-goal.result.1.now) in
-    let editable = at_place (IsEditable c.args.plan.now.yacc.now.grammar.tokens) list c.loop-index.index base (slice_get_within list c.loop-index.index base c.get-goal.ensures)
-    (sym (get_or_from_slice_get list c.loop-index.index base base c.get-goal.ensures)) c.requires.bases in
-    tokens_are c.args.plan.now c.requires.plan c.in-Some.mutation c.unwrap-work.result c.in-Some.is c.unwrap-work.ensures base editable
+    let at = (goal.at.new-search-requires-clause-tokens g c).After-get-goal in
+    tokens_are c.args.plan.now c.requires.plan c.in-Some.mutation c.unwrap-work.result c.in-Some.is c.unwrap-work.ensures (base_of g at) (editable g at)
 
 pub write_negatives-requires-clause-few : goal.write_negatives-requires-clause-few
 write_negatives-requires-clause-few g c =
-    let e = c.in_ok-entry.ensures in
-    let plan = c.args.plan.now in
-    let list = c.args.bases.now.list in
-    let i = c.loop-index.index in
-    let base : ℕ × List ℕ = (c.get-goal.result.0, c.get-goal.result.1.now) in
-    let within = slice_get_within list i base c.get-goal.ensures in
-    let is = sym (get_or_from_slice_get list i base base c.get-goal.ensures) in
+    let at = goal.at.write_negatives-requires-clause-few g c in
     let so_far = c.loop-index.invariant.so_far in
-    let many : c.entry.new.self.counts.negatives ≡ negatives_in so_far.mutants =
-    ap (λ (q : Progress). q.counts.negatives) e.value ∙ ap (λ (k : Counts). k.negatives) so_far.counted.same ∙ omega (arith, c.requires.fresh) in
-    let editable = at_place (IsEditable plan.yacc.now.grammar.tokens) list i base within is c.requires.bases in
-    let sought = c.new-search.result in
-    let few = few_searched plan c.requires.plan c.in-Some.mutation c.unwrap-work.result c.in-Some.is c.unwrap-work.ensures base sought c.new-search.ensures editable in
-    let small : i ≤ 4294967295 = search rules in
-    omega (arith, few, many, c.loop-index.invariant.number, so_far.few, small, ap (λ (q : Progress). q.counts.negatives) e.value)
+    let base = base_of g at.After-get-goal in
+    let few = few_searched c.args.plan.now c.requires.plan c.in-Some.mutation c.unwrap-work.result c.in-Some.is c.unwrap-work.ensures base c.new-search.result c.new-search.ensures (editable g at.After-get-goal) in
+    let small : c.loop-index.index ≤ 4294967295 = search rules in
+    omega (arith, few, many g at.In_ok-entry, c.loop-index.invariant.number, so_far.few, small, ap (λ (q : Progress). q.counts.negatives) c.in_ok-entry.ensures.value)
 
 pub returns-in_err-write_negatives-clause-text : goal.returns-in_err-write_negatives-clause-text
 returns-in_err-write_negatives-clause-text g c =
     let p = err_from_is_err_and c.from_residual-in_err-write_negatives.result c.from_residual-in_err-write_negatives.ensures.1 in
-    let e = c.in_ok-entry.ensures in
+    let at = goal.at.returns-in_err-write_negatives-clause-text g c in
     let plan = c.args.plan.now in
-    let list = c.args.bases.now.list in
     let i = c.loop-index.index in
-    let base : ℕ × List ℕ = (c.get-goal.result.0, c.get-goal.result.1.now) in
-    let within = slice_get_within list i base c.get-goal.ensures in
-    let is = sym (get_or_from_slice_get list i base base c.get-goal.ensures) in
+    let base = base_of g at.After-get-goal in
     let so_far = c.loop-index.invariant.so_far in
-    let many : c.entry.new.self.counts.negatives ≡ negatives_in so_far.mutants =
-    ap (λ (q : Progress). q.counts.negatives) e.value ∙ ap (λ (k : Counts). k.negatives) so_far.counted.same ∙ omega (arith, c.requires.fresh) in
-    let line = base_line (i + 1) c.get-goal.result.0 in
-    let first = is_written g.S.Sink line c.loop-index.sink c.entry.new.sink e.ok e.faults_never_fall e.no_fault e.room e.same_lent e.passed_never_falls in
-    let sought = c.new-search.result in
-    let file_is : c.entry.new.self.file ≡ plan.yacc.now = ap (λ (q : Progress). q.file) e.value ∙ c.loop-index.invariant.file ∙ c.requires.file in
-    let tokens_is = base_is plan c.requires.plan c.in-Some.mutation c.unwrap-work.result c.in-Some.is c.unwrap-work.ensures base sought c.new-search.ensures in
-    let lines_is = λ (entries : List NegativeEntry). negatives_at c.entry.new.self.file plan.yacc.now (i + 1) sought.base base.1 c.entry.new.self.counts.negatives (negatives_in so_far.mutants) entries
-    file_is tokens_is many in
     let halt = c.in_err-write_negatives.field-0.0 in
-    let told : Making = record { tools = record { file = plan.yacc.now; work = c.unwrap-work.result.now; apart = c.in_ok-tools.tools.apart }; number = i + 1; base = base.1 } in
-    let same : c.in_ok-maker.maker ≡ told = made_of plan c.unwrap-work.result c.in_ok-tools.tools c.in_ok-tools.ensures (i + 1) base.1 c.in_ok-maker.maker c.in_ok-maker.ensures in
-    let stopped = base_stops plan (c.one_text.ensures (texts_in plan)) list i base within is c.args.sink.now c.loop-index.sink c.args.manifest.now.counts c.loop-index.manifest.counts so_far c.entry.new.sink c.write_negatives.new.sink halt first
-    (λ entries of. subst (λ (l : List ℕ). IsStopped g.S.Sink l c.entry.new.sink c.write_negatives.new.sink halt) (lines_is entries)
-    (some_negatives c.entry.new.self told sought c.entry.new.sink c.write_negatives.new.sink halt (subst (λ (m : Making). HasSomeText g.S.Sink (IsMade c.entry.new.self m sought) c.entry.new.sink c.write_negatives.new.sink halt) same c.in_err-write_negatives.ensures.text) entries (to_made plan c.requires.plan c.in-Some.mutation c.unwrap-work.result c.in-Some.is c.unwrap-work.ensures base sought c.new-search.ensures entries of))) in
+    let stops = one_base_stops plan c.requires.plan c.in-Some.mutation c.unwrap-work.result c.in-Some.is c.unwrap-work.ensures (i + 1) base c.new-search.result c.new-search.ensures
+    c.in_ok-tools.tools c.in_ok-tools.ensures c.in_ok-maker.maker c.in_ok-maker.ensures c.entry.new.self (negatives_in so_far.mutants) (file_is g at.In_ok-entry) (many g at.In_ok-entry)
+    c.entry.new.sink c.write_negatives.new.sink halt c.in_err-write_negatives.ensures.text in
+    let stopped = base_stops plan (c.one_text.ensures (texts_in plan)) c.args.bases.now.list i base (within g at.After-get-goal) (is_base g at.After-get-goal)
+    c.args.sink.now c.loop-index.sink c.args.manifest.now.counts c.loop-index.manifest.counts so_far c.entry.new.sink c.write_negatives.new.sink halt (first g at.In_ok-entry) stops in
     rw (p.1, p.2) (bases_text_stop plan c.args.bases.now c.args.sink.now c.write_negatives.new.sink halt stopped)
 
 pub loop-index-preserved : goal.loop-index-preserved
 loop-index-preserved g c =
+    let at = goal.at.loop-index-preserved g c in
     let e = c.in_ok-entry.ensures in
     let plan = c.args.plan.now in
-    let list = c.args.bases.now.list in
     let i = c.loop-index.index in
-    let base : ℕ × List ℕ = (c.get-goal.result.0, c.get-goal.result.1.now) in
-    let within = slice_get_within list i base c.get-goal.ensures in
-    let is = sym (get_or_from_slice_get list i base base c.get-goal.ensures) in
+    let base = base_of g at.After-get-goal in
     let so_far = c.loop-index.invariant.so_far in
-    let many : c.entry.new.self.counts.negatives ≡ negatives_in so_far.mutants =
-    ap (λ (q : Progress). q.counts.negatives) e.value ∙ ap (λ (k : Counts). k.negatives) so_far.counted.same ∙ omega (arith, c.requires.fresh) in
-    let line = base_line (i + 1) c.get-goal.result.0 in
-    let first = is_written g.S.Sink line c.loop-index.sink c.entry.new.sink e.ok e.faults_never_fall e.no_fault e.room e.same_lent e.passed_never_falls in
-    let sought = c.new-search.result in
-    let file_is : c.entry.new.self.file ≡ plan.yacc.now = ap (λ (q : Progress). q.file) e.value ∙ c.loop-index.invariant.file ∙ c.requires.file in
-    let tokens_is = base_is plan c.requires.plan c.in-Some.mutation c.unwrap-work.result c.in-Some.is c.unwrap-work.ensures base sought c.new-search.ensures in
-    let lines_is = λ (entries : List NegativeEntry). negatives_at c.entry.new.self.file plan.yacc.now (i + 1) sought.base base.1 c.entry.new.self.counts.negatives (negatives_in so_far.mutants) entries
-    file_is tokens_is many in
-    let editable = at_place (IsEditable plan.yacc.now.grammar.tokens) list i base within is c.requires.bases in
     let more = c.in_ok-write_negatives.ensures in
-    let told : Making = record { tools = record { file = plan.yacc.now; work = c.unwrap-work.result.now; apart = c.in_ok-tools.tools.apart }; number = i + 1; base = base.1 } in
-    let same : c.in_ok-maker.maker ≡ told = made_of plan c.unwrap-work.result c.in_ok-tools.tools c.in_ok-tools.ensures (i + 1) base.1 c.in_ok-maker.maker c.in_ok-maker.ensures in
-    let text = subst (λ (m : Making). HasText g.S.Sink (IsMade c.entry.new.self m sought) c.entry.new.sink c.write_negatives.new.sink) same more.text in
-    let were_counted = subst (λ (m : Making). CountsMade m sought c.entry.new.self c.write_negatives.new.manifest) same more.counted in
-    let has = has_negatives c.entry.new.self told sought c.write_negatives.new.manifest text were_counted in
-    let counted = counted_base c.loop-index.manifest.counts c.entry.new.self.counts line (ap (λ (q : Progress). q.counts) e.value) in
+    let has = one_base_written plan c.requires.plan c.in-Some.mutation c.unwrap-work.result c.in-Some.is c.unwrap-work.ensures (i + 1) base c.new-search.result c.new-search.ensures
+    c.in_ok-tools.tools c.in_ok-tools.ensures c.in_ok-maker.maker c.in_ok-maker.ensures c.entry.new.self (negatives_in so_far.mutants) (file_is g at.In_ok-entry) (many g at.In_ok-entry)
+    c.entry.new.sink c.write_negatives.new.sink c.write_negatives.new.manifest (editable g at.After-get-goal) more.text more.counted in
+    let counted = counted_base c.loop-index.manifest.counts c.entry.new.self.counts (base_line (i + 1) c.get-goal.result.0) (ap (λ (q : Progress). q.counts) e.value) in
     record {
       file = more.file ∙ ap (λ (q : Progress). q.file) e.value ∙ c.loop-index.invariant.file;
       number = more.number;
-      so_far = bases_more plan (c.one_text.ensures (texts_in plan)) list i base within is c.args.sink.now c.loop-index.sink c.args.manifest.now.counts c.loop-index.manifest.counts so_far c.entry.new.sink c.write_negatives.new.sink
-          c.entry.new.self.counts c.write_negatives.new.manifest.counts has.entries first counted
-          (from_made plan c.requires.plan c.in-Some.mutation c.unwrap-work.result c.in-Some.is c.unwrap-work.ensures base sought c.new-search.ensures has.entries has.all)
-          (subst (λ (l : List ℕ). IsWritten g.S.Sink l c.entry.new.sink c.write_negatives.new.sink) (lines_is has.entries) has.written)
-          (subst (λ (l : List ℕ). IsCounted (length has.entries) l c.entry.new.self.counts c.write_negatives.new.manifest.counts) (lines_is has.entries) has.counted)
-          (few_made plan c.requires.plan c.in-Some.mutation c.unwrap-work.result c.in-Some.is c.unwrap-work.ensures base sought c.new-search.ensures editable has.entries has.all);
+      so_far = bases_more plan (c.one_text.ensures (texts_in plan)) c.args.bases.now.list i base (within g at.After-get-goal) (is_base g at.After-get-goal)
+          c.args.sink.now c.loop-index.sink c.args.manifest.now.counts c.loop-index.manifest.counts so_far c.entry.new.sink c.write_negatives.new.sink
+          c.entry.new.self.counts c.write_negatives.new.manifest.counts has.negatives (first g at.In_ok-entry) counted has.of has.written has.counted has.few;
     }
 
 pub returns-in_default-clause-text : goal.returns-in_default-clause-text

@@ -53,7 +53,7 @@ goals_of : (g : Over) (c : In_ok-bases g)
     → HasEntries g.S.Sink c.args.plan.now c.args.positives.tables c.begin.new.sink c.write_goals.new.sink c.in_ok-manifest.manifest.counts c.write_goals.new.manifest.counts c.in_ok-bases.bases
 goals_of g c =
     let b = c.in_ok-bases.ensures in
-    has_entries c.args.plan.now c.args.positives c.in_ok-manifest.manifest c.write_goals.new.manifest c.in_ok-bases.bases b.text b.counted b.bases
+    has_entries c.args.plan.now c.args.positives c.in_ok-manifest.manifest c.write_goals.new.manifest c.in_ok-bases.bases b.text b.told.counted b.told.bases
 
 -- the bases were written
 mutants : (g : Over) (c : In_ok-write_bases g)
@@ -75,21 +75,13 @@ returns-in_err-manifest-clause-text g c =
     let cut = is_cut g.S.Sink (head_of h) c.args.sink.now c.begin.new.sink e.err e.fault e.faults_never_fall (λ fits. let no = e.ok_with_room fits in cc) e.same_lent e.passed_never_falls in
     rw (p.1, p.2) (head_cut plan of one c.requires.plan weighs h is.file is.lexemes is.sharing c.args.sink.now c.begin.new.sink cut)
 
-pub write_goals-requires-clause-fresh : goal.write_goals-requires-clause-fresh
-write_goals-requires-clause-fresh g c κs within =
-    let plan = c.args.plan.now in
-    subst (λ (k : Counts). IsFresh plan k) (sym (ap (λ (q : Progress). q.counts) c.in_ok-manifest.ensures.value)) (fresh_behind plan c.head.result c.head.ensures.sharing)
-
 pub returns-in_err-bases-clause-text : goal.returns-in_err-bases-clause-text
 returns-in_err-bases-clause-text g c =
     let p = err_from_is_err_and c.from_residual-in_err-bases.result c.from_residual-in_err-bases.ensures.1 in
     let at = goal.at.returns-in_err-bases-clause-text g c in
     let plan = c.args.plan.now in
-    let of = c.args.positives.tables in
-    let one = c.one_text.ensures in
-    let weighs = weighed_as plan c.args.positives c.requires.grammar in
     let halt = c.in_err-bases.field-0.0 in
-    rw (p.1, p.2) (entries_stop plan of one c.requires.plan weighs halt c.args.sink.now c.begin.new.sink c.write_goals.new.sink (first g at.In_ok-manifest)
+    rw (p.1, p.2) (entries_stop plan c.args.positives.tables c.one_text.ensures c.requires.plan (weighed_as plan c.args.positives c.requires.grammar) halt c.args.sink.now c.begin.new.sink c.write_goals.new.sink (first g at.In_ok-manifest)
     (some_entries plan c.args.positives c.begin.new.sink c.write_goals.new.sink halt c.in_err-bases.ensures.text))
 
 pub write_bases-requires-clause-bases : goal.write_bases-requires-clause-bases
@@ -98,29 +90,26 @@ write_bases-requires-clause-bases g c =
     let is = c.in_ok-bases.ensures.text.is in
     let measure = c.requires.grammar.measure in
     editable_bases plan c.requires.plan.file c.args.positives.tables c.requires.grammar.grammar measure (most_bases (choice_in plan)) is.entries c.in_ok-bases.bases
-    is.are.all (c.in_ok-bases.ensures.bases is.entries is.are.all)
+    is.are.all (c.in_ok-bases.ensures.told.bases is.entries is.are.all)
 
 pub write_bases-requires-clause-few : goal.write_bases-requires-clause-few
 write_bases-requires-clause-few g c =
     let is = c.in_ok-bases.ensures.text.is in
-    few_bases (most_bases (choice_in c.args.plan.now)) is.entries c.in_ok-bases.bases (c.in_ok-bases.ensures.bases is.entries is.are.all)
+    few_bases (most_bases (choice_in c.args.plan.now)) is.entries c.in_ok-bases.bases (c.in_ok-bases.ensures.told.bases is.entries is.are.all)
 
 pub write_bases-requires-clause-fresh : goal.write_bases-requires-clause-fresh
 write_bases-requires-clause-fresh g c =
     let text = c.in_ok-bases.ensures.text in
     let is = text.is in
-    (c.in_ok-bases.ensures.counted is.entries is.cases text.text is.are).negatives ∙ ap (λ (q : Progress). q.counts.negatives) c.in_ok-manifest.ensures.value
+    (c.in_ok-bases.ensures.told.counted is.entries is.cases text.text is.are).negatives ∙ ap (λ (q : Progress). q.counts.negatives) c.in_ok-manifest.ensures.value
 
 pub returns-in_err-write_bases-clause-text : goal.returns-in_err-write_bases-clause-text
 returns-in_err-write_bases-clause-text g c =
     let p = err_from_is_err_and c.from_residual-in_err-write_bases.result c.from_residual-in_err-write_bases.ensures.1 in
     let at = goal.at.returns-in_err-write_bases-clause-text g c in
     let plan = c.args.plan.now in
-    let of = c.args.positives.tables in
-    let one = c.one_text.ensures in
-    let weighs = weighed_as plan c.args.positives c.requires.grammar in
     let halt = c.in_err-write_bases.field-0.0 in
-    rw (p.1, p.2) (bases_stop plan of one c.requires.plan weighs halt c.in_ok-manifest.manifest.counts c.write_goals.new.manifest.counts
+    rw (p.1, p.2) (bases_stop plan c.args.positives.tables c.one_text.ensures c.requires.plan (weighed_as plan c.args.positives c.requires.grammar) halt c.in_ok-manifest.manifest.counts c.write_goals.new.manifest.counts
     c.args.sink.now c.begin.new.sink c.write_goals.new.sink c.write_bases.new.sink c.in_ok-bases.bases (first g at.In_ok-manifest) (goals_of g at.In_ok-bases)
     (some_bases plan c.in_ok-bases.bases c.write_goals.new.sink c.write_bases.new.sink halt c.in_err-write_bases.ensures.text))
 
