@@ -1,10 +1,10 @@
 -- The scan of a text, match by match, and what settles it.
-use Rattle.std.proofs.Common.{◌≡◌, ℕ, ◌+◌, ◌≤◌, List, [], ◌∷◌, ◌++◌, Some, None, sym, ap, ◌∙◌, subst, arith, length, length-append, length-drop, take, drop, inl, inr, ◌⊎◌}
+use Rattle.std.proofs.Common.{◌≡◌, ℕ, ◌+◌, ◌-◌, ◌≤◌, List, [], ◌∷◌, ◌++◌, Some, None, sym, ap, ◌∙◌, subst, arith, length, length-append, length-drop, take, drop, inl, inr, ◌⊎◌}
 use Rattle.std.specs.Prelude.{Option, IfSome}
 use Rattle.std.proofs.lemmas.List.{append-nil, drop-drop, drop-take, take-append-drop, length-take-le}
 use Rattle.cs_scan.specs.Scan.{Scanning, Gives}
 use Rattle.cs_scan.specs.Going.{IsBegunBy}
-use Rattle.cs_scan.proofs.Together.{begun_more}
+use Rattle.cs_scan.proofs.Together.{begun_more, tail_is}
 use Rattle.cs_splice.specs.declared.marks.Mark.{Mark}
 use Rattle.cs_splice.specs.declared.step.Step.{Step}
 use Rattle.cs_splice.specs.Settled.{IsFurther, IsPassed, IsSettledBy, IsStep, tokens_of}
@@ -34,7 +34,7 @@ module _ (s : Scanning) (text : List ℕ) where
             (settled_at (λ u. Gives s u size now) (drop at text) (drop at t) k step (same_later t at k n more same)),
       )
 
-  pub front_more : (first : List ℕ) (at : ℕ) (read more : Option ℕ) (step : Step) → IsFront s text first at read → IsStep s (drop at text) step → IsFurther read at step.read more → IsFront s text (first ++ tokens_of step.given) (at + step.size) more
+  front_more : (first : List ℕ) (at : ℕ) (read more : Option ℕ) (step : Step) → IsFront s text first at read → IsStep s (drop at text) step → IsFurther read at step.read more → IsFront s text (first ++ tokens_of step.given) (at + step.size) more
   front_more first at read more step front taken further =
       record {
         within = omega (arith, taken.gives.is_match.within, length-drop at text, front.within);
@@ -53,9 +53,19 @@ module _ (s : Scanning) (text : List ℕ) where
           let long : length (take k (drop at text) ++ []) ≡ length (take k (drop at text)) + 0 = length-append (take k (drop at text)) [] in
           (omega (arith, f.5, fits, long, length-take-le k (drop at text) here.0), settled_more first (tokens_of step.given) at step.size m k n before.1 here front.within f.4 f.5 f.6)
 
+  -- behind a match of what is left of the text
+  pub front_next : (first : List ℕ) (at : ℕ) (read more : Option ℕ) (step : Step) → IsFront s text first at read → IsStep s (take (length text - at) (drop at text) ++ []) step → IsFurther read at step.read more
+      → IsFront s text (first ++ tokens_of step.given) (at + step.size) more
+  front_next first at read more step front taken further =
+      let left = take (length text - at) (drop at text) in
+      front_more first at read more step front (subst (λ (t : List ℕ). IsStep s t step) (append-nil left ∙ tail_is at text) taken) further
+
+  -- one that gives nothing
+  pub front_still : (first : List ℕ) (at : ℕ) (read more : Option ℕ) (step : Step) → IsFront s text first at read → IsStep s (take (length text - at) (drop at text) ++ []) step → IsFurther read at step.read more
+      → tokens_of step.given ≡ [] → IsFront s text first (at + step.size) more
+  front_still first at read more step front taken further none =
+      subst (λ (ts : List ℕ). IsFront s text ts (at + step.size) more) (ap (λ (ts : List ℕ). first ++ ts) none ∙ append-nil first) (front_next first at read more step front taken further)
+
   pub marks_more : (tokens : List ℕ) (marks : List Mark) (mark : Mark) → AreMarks s text tokens marks → IsMark s text tokens (length marks) mark → AreMarks s text tokens (marks ++ mark ∷ [])
   marks_more tokens marks mark all here k other e =
       elim (pushed marks mark other k e) [ inl there ↦ all k other there | inr last ↦ subst (λ m. IsMark s text tokens k m) last.1 (subst (λ i. IsMark s text tokens i mark) (sym last.0) here) ]
-
-pub step_alone : (s : Scanning) (text : List ℕ) (step : Step) → IsStep s (text ++ []) step → IsStep s text step
-step_alone s text step = subst (λ t. IsStep s t step) (append-nil text)

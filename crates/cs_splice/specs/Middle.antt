@@ -14,8 +14,5 @@ IsMiddle lexemes separator tokens from to middle =
     IsRuleText lexemes separator tokens (front ++ middle ++ back)
 
 -- what is said of an answer that no token was without a lexeme
-abbrev pub IfPut : List (Option (List ℕ)) → List ℕ → List ℕ → ℕ → ℕ → List ℕ → Bool → Type 0
-IfPut lexemes separator tokens from to put all = IsTrue all → IsPut lexemes separator tokens from to put
-
 abbrev pub IfMiddle : List (Option (List ℕ)) → List ℕ → List ℕ → ℕ → ℕ → List ℕ → Bool → Type 0
 IfMiddle lexemes separator tokens from to middle all = IsTrue all → IsMiddle lexemes separator tokens from to middle

@@ -1,12 +1,11 @@
 -- A match that gives nothing, or the list's next token.
-use Rattle.std.proofs.Common.{◌≡◌, ℕ, ◌+◌, ◌-◌, ◌≤◌, List, [], ◌∷◌, ◌++◌, sym, ap, ◌∙◌, subst, arith, length, take, drop}
-use Rattle.std.proofs.lemmas.List.{append-nil, length_push}
+use Rattle.std.proofs.Common.{◌≡◌, ◌+◌, ◌≤◌, [], ◌∷◌, ◌++◌, sym, ap, ◌∙◌, subst, arith, length, take}
+use Rattle.std.proofs.lemmas.List.{length_push}
 use Rattle.cs_scan.specs.Compared.{scanning}
-use Rattle.cs_scan.proofs.Together.{tail_is}
 use Rattle.cs_splice.specs.declared.marks.Mark.{Mark}
 use Rattle.cs_splice.specs.Marks.{AreMarks, IsFront, IsMark}
-use Rattle.cs_splice.specs.Settled.{IsCounted, IsStep, tokens_of}
-use Rattle.cs_splice.proofs.Marking.{front_more, marks_more, step_alone}
+use Rattle.cs_splice.specs.Settled.{IsCounted, tokens_of}
+use Rattle.cs_splice.proofs.Marking.{front_next, front_still, marks_more}
 use Rattle.cs_splice.proofs.marks.marks_of.Goals as goal
 
 pub matches-preserved-in_ok-push : goal.matches-preserved-in_ok-push
@@ -19,13 +18,11 @@ matches-preserved-in_ok-push c =
     let step = c.in-Some.step in
     let more = c.further-read.result in
     let count = c.in-Some-counted.field-0 in
-    let P : List ℕ → Type 0 = λ t. IsStep s t step in
-    let made : IsStep s (drop at text) step = subst P (tail_is at text) (step_alone s (take (length text - at) (drop at text)) step c.in-Some.ensures) in
     let many : c.len.result ≡ length marks = omega arith in
     let counted : IsCounted tokens (length marks) (tokens_of step.given) count = subst (λ n. IsCounted tokens n (tokens_of step.given) count) many c.in-Some-counted.ensures in
     let one : length (tokens_of step.given) ≡ 1 = ap (λ g. length (tokens_of g)) c.in-Token.is in
     let next : count ≡ length marks + 1 = omega (arith, counted.all, one) in
-    let front : IsFront s text (take count tokens) (at + step.size) more = subst (λ ts. IsFront s text ts (at + step.size) more) (sym counted.front) (front_more s text (take (length marks) tokens) at c.matches.read more step c.matches.invariant.front made c.further-read.ensures) in
+    let front : IsFront s text (take count tokens) (at + step.size) more = subst (λ ts. IsFront s text ts (at + step.size) more) (sym counted.front) (front_next s text (take (length marks) tokens) at c.matches.read more step c.matches.invariant.front c.in-Some.ensures c.further-read.ensures) in
     let mark : Mark = record { start = at; end = at + step.size; read = more } in
     let is_mark : IsMark s text tokens (length marks) mark = record { starts = c.matches.invariant.front.passed; ends = subst (λ n. IsFront s text (take n tokens) (at + step.size) more) next front; order = omega arith } in
     let longer : length (marks ++ mark ∷ []) ≡ length marks + 1 = length_push marks mark in
@@ -37,20 +34,9 @@ matches-preserved-in_ok-push c =
     })
 
 pub matches-preserved : goal.matches-preserved
-matches-preserved c =
-    let s = scanning c.args.scanner.now in
-    let text = c.args.text.now in
-    let tokens = c.args.tokens.now in
-    let marks = c.matches.marks.items in
-    let at = c.matches.at in
-    let step = c.in-Some.step in
-    let more = c.further-read.result in
-    let P : List ℕ → Type 0 = λ t. IsStep s t step in
-    let made : IsStep s (drop at text) step = subst P (tail_is at text) (step_alone s (take (length text - at) (drop at text)) step c.in-Some.ensures) in
-    let none : tokens_of step.given ≡ [] = ap tokens_of c.in_default-given.is in
-    let same : take (length marks) tokens ++ tokens_of step.given ≡ take (length marks) tokens = ap (λ t. take (length marks) tokens ++ t) none ∙ append-nil (take (length marks) tokens) in
-    record {
-      few = c.matches.invariant.few;
-      front = subst (λ ts. IsFront s text ts (at + step.size) more) same (front_more s text (take (length marks) tokens) at c.matches.read more step c.matches.invariant.front made c.further-read.ensures);
-      marks = c.matches.invariant.marks;
-    }
+matches-preserved c = record {
+  few = c.matches.invariant.few;
+  front = front_still (scanning c.args.scanner.now) c.args.text.now (take (length c.matches.marks.items) c.args.tokens.now) c.matches.at c.matches.read c.further-read.result c.in-Some.step
+      c.matches.invariant.front c.in-Some.ensures c.further-read.ensures (ap tokens_of c.in_default-given.is);
+  marks = c.matches.invariant.marks;
+}
