@@ -25,7 +25,7 @@ use Rattle.cs_render_work.specs.Renders.{IsRenderedBy as IsAnswerOf}
 use Rattle.cs_yacc.specs.File.{IsFile}
 use Rattle.cs_plan.specs.declared.plan.Plan.{Plan}
 use Rattle.cs_plan.specs.Batches.{AreNext}
-use Rattle.cs_plan.specs.Made.{HasListIn, IsNamedGoalEntry, Joins, TakesFirst}
+use Rattle.cs_plan.specs.Made.{HasListIn, IsNamedGoalEntry, Joins, TakesFirst, TakesNone, entry_with}
 use Rattle.cs_plan.specs.Plans.{IsEntryIn, choice_in, format_by, lexemes_in, texts_in, texts_of}
 use Rattle.cs_plan.specs.Waiting.{AreListsOf, AreRenderingsOf, IsJudged, IsListOf, feasible_of, goals_of}
 use Rattle.cs_plan.proofs.Making.{named_entry}
@@ -64,6 +64,15 @@ pub record IsOneJoined (of : Weighed) (texts : Option (Bor RenderWork)) (goal : 
   pub are_rendered : AreRenderingsOf texts lists_left rendered_left
 
 module _ (of : Weighed) (texts : Option (Bor RenderWork)) (goal : Goal) (left : List Positive) (lists : List (Vec ℕ)) (rendered : List Rendered) (entry : GoalEntry) (lists_left : List (Vec ℕ)) (rendered_left : List Rendered) (are_rendered : AreRenderingsOf texts lists rendered) where
+  -- a goal without a list takes neither
+  none_joined : (p : Positive) → IsEntryOf of (option_map (λ work. texts_of work.now) texts) (option_map (λ work. work.now.lexemes.now) texts) goal (entry_with p [] None) → AreListsOf of.grammar left lists → TakesNone p lists rendered entry lists_left rendered_left → IsOneJoined of texts goal left entry lists_left rendered_left
+  none_joined p is are joins = record {
+    is_entry = subst (IsEntryOf of (option_map (λ work. texts_of work.now) texts) (option_map (λ work. work.now.lexemes.now) texts) goal) (sym joins.made) is;
+    are_lists = subst (AreListsOf of.grammar left) (sym joins.same_lists) are;
+    are_rendered =
+        subst (AreRenderingsOf texts lists_left) (sym joins.same_rendered) (subst (λ (l : List (Vec ℕ)). AreRenderingsOf texts l rendered) (sym joins.same_lists) are_rendered);
+  }
+
   pub one_joined : (verdict : Verdict) → IsVerdictIn of goal verdict → AreListsOf of.grammar (record { goal = goal; verdict = verdict } ∷ left) lists → Joins verdict (record { goal = goal; verdict = verdict }) lists rendered entry lists_left rendered_left → IsOneJoined of texts goal left entry lists_left rendered_left
   one_joined (Feasible n d) judged are joins =
       let p : Positive = record { goal = goal; verdict = Feasible n d } in
@@ -80,30 +89,10 @@ module _ (of : Weighed) (texts : Option (Bor RenderWork)) (goal : Goal) (left : 
         are_lists = zipped.1;
         are_rendered = answered.1;
       }
-  one_joined Infeasible judged are joins = record {
-    is_entry =
-        subst (IsEntryOf of (option_map (λ work. texts_of work.now) texts) (option_map (λ work. work.now.lexemes.now) texts) goal) (sym joins.made) (record {
-          is_of = refl;
-          verdict = judged;
-          tokens = refl;
-          text = refl;
-        });
-    are_lists = subst (AreListsOf of.grammar left) (sym joins.same_lists) are;
-    are_rendered =
-        subst (AreRenderingsOf texts lists_left) (sym joins.same_rendered) (subst (λ (l : List (Vec ℕ)). AreRenderingsOf texts l rendered) (sym joins.same_lists) are_rendered);
-  }
-  one_joined Large judged are joins = record {
-    is_entry =
-        subst (IsEntryOf of (option_map (λ work. texts_of work.now) texts) (option_map (λ work. work.now.lexemes.now) texts) goal) (sym joins.made) (record {
-          is_of = refl;
-          verdict = judged;
-          tokens = refl;
-          text = refl;
-        });
-    are_lists = subst (AreListsOf of.grammar left) (sym joins.same_lists) are;
-    are_rendered =
-        subst (AreRenderingsOf texts lists_left) (sym joins.same_rendered) (subst (λ (l : List (Vec ℕ)). AreRenderingsOf texts l rendered) (sym joins.same_lists) are_rendered);
-  }
+  one_joined Infeasible judged are joins =
+      none_joined (record { goal = goal; verdict = Infeasible }) (record { is_of = refl; verdict = judged; tokens = refl; text = refl }) are joins
+  one_joined Large judged are joins =
+      none_joined (record { goal = goal; verdict = Large }) (record { is_of = refl; verdict = judged; tokens = refl; text = refl }) are joins
 
 -- a feasible goal has a list
 has_first : (g : PlainGrammar) (goal : Goal) (left : List Positive) (verdict : Verdict) (lists : List (Vec ℕ)) → AreListsOf g (record { goal = goal; verdict = verdict } ∷ left) lists → HasListIn verdict lists
