@@ -24,7 +24,7 @@ lines_of_numbered file n = negative_lines file n.number n.base n.negative n.toke
 
 -- those of one that fills lines
 abbrev pub lines_of_filled : FilledNegative → List ℕ
-lines_of_filled n = filled n.lines.now n.number n.name.now n.lexeme.now
+lines_of_filled n = filled n.lines.now n.number.now n.name.now n.lexeme.now
 
 -- the numbers of its tokens are of the file
 pub record IsNamedNumbered (file : File) (n : NumberedNegative) : Type 0 where

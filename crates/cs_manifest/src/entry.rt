@@ -3,7 +3,7 @@ use cs_cases::Named;
 use cs_goals::Goal;
 use cs_grammar::Derivation;
 use cs_mutate::Negative;
-use cs_output::Piece;
+use cs_output::{Numeral, Piece};
 use cs_positive::Verdict;
 use cs_render::{Rendered, RenderedParts};
 
@@ -59,7 +59,7 @@ pub struct NumberedNegative<'a> {
 /// space, and the token's lexeme as it stands between quotes.
 #[derive(Clone, Copy)]
 pub struct FilledNegative<'a> {
-    pub number: u64,
+    pub number: &'a Numeral,
     pub lines: &'a OpenLines,
     pub name: &'a Piece,
     pub lexeme: &'a Piece,

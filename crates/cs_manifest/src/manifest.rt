@@ -75,6 +75,7 @@ impl<'a> Manifest<'a> {
     }
 
     /// Writes an entry. Its numbers of tokens are of the head's file.
+    #[inline(always)]
     pub fn entry<S: Sink>(&mut self, sink: &mut S, entry: &Entry<'_>) -> Result<(), SinkError>
         requires { IsNamedEntry self.old.file entry.now }
         ensures value { OnOk result (self.new ≡ behind self.old entry.now) }
@@ -171,6 +172,7 @@ fn with_bytes(counts: Counts, bytes: u128) -> Counts
 }
 
 // Counts one more entry, and so many bytes.
+#[inline(always)]
 fn count_entry(counts: &mut Counts, bytes: u128, entry: &Entry<'_>)
     ensures { counts.new ≡ counted (record counts.old { bytes = bytes }) entry.now }
 {

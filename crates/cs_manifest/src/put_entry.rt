@@ -25,6 +25,7 @@ use cs_render::{Rendered, RenderedParts};
 use cs_yacc::YaccFile;
 
 /// The lines of an entry.
+#[inline(always)]
 pub fn put_entry<S: Sink>(output: &mut Output<'_, S>, file: &YaccFile, entry: &Entry<'_>)
     requires { IsNamedEntry file.now entry.now }
     ensures { Puts S.Sink (lines_of file.now entry.now) output.old output.new }
@@ -67,6 +68,7 @@ pub fn put_entry<S: Sink>(output: &mut Output<'_, S>, file: &YaccFile, entry: &E
 }
 
 // `goal N GOAL`
+#[inline(never)]
 fn put_goal_words<S: Sink>(output: &mut Output<'_, S>, file: &YaccFile, number: u64, goal: &Goal)
     requires { IsNamedGoal file.now goal.now }
     ensures { Puts S.Sink (lines.goal_words file.now number goal.now) output.old output.new }
@@ -119,6 +121,7 @@ fn put_pair<S: Sink>(output: &mut Output<'_, S>, file: &YaccFile, left: Mark, ri
 }
 
 // A verdict's words and the lines below, without the last newline.
+#[inline(never)]
 fn put_verdict<S: Sink>(
     output: &mut Output<'_, S>,
     file: &YaccFile,
@@ -137,6 +140,7 @@ fn put_verdict<S: Sink>(
 }
 
 // ` size S`, and the lines of a derivation and its tokens, without the last newline.
+#[inline(never)]
 fn put_tree<S: Sink>(
     output: &mut Output<'_, S>,
     file: &YaccFile,
@@ -153,6 +157,7 @@ fn put_tree<S: Sink>(
     put_yield(output, file, tokens);
 }
 
+#[inline(never)]
 fn put_shared_verdict<S: Sink>(output: &mut Output<'_, S>, verdict: SharedVerdict)
     ensures { Puts S.Sink (shared.shared_verdict_line verdict) output.old output.new }
 {
@@ -168,6 +173,7 @@ fn put_shared_verdict<S: Sink>(output: &mut Output<'_, S>, verdict: SharedVerdic
     }
 }
 
+#[inline(never)]
 fn put_text_lines<S: Sink>(output: &mut Output<'_, S>, file: &YaccFile, rendered: Option<&Rendered>)
     requires { AreNamedRenderings file.now (rendering_of rendered) }
     ensures { Puts S.Sink (texts_below file.now (rendering_of rendered.entry))
@@ -215,6 +221,7 @@ pub fn put_names<S: Sink>(output: &mut Output<'_, S>, file: &YaccFile, tokens: &
 }
 
 // The text line behind the newline above.
+#[inline(never)]
 fn put_rendered<S: Sink>(output: &mut Output<'_, S>, file: &YaccFile, rendered: RenderedParts<'_>)
     requires { IsNamedRendering file.now (rendering_in rendered) }
     ensures { Puts S.Sink (text_below file.now (rendering_in rendered.entry))
@@ -250,6 +257,7 @@ fn put_text_line<S: Sink>(output: &mut Output<'_, S>, front: &[u8], middle: &[u8
     output.put(b"\"\n");
 }
 
+#[inline(never)]
 fn put_base<S: Sink>(output: &mut Output<'_, S>, number: u32, goal: u64)
     ensures { Puts S.Sink (lines.base_line number goal) output.old output.new }
 {
@@ -258,6 +266,7 @@ fn put_base<S: Sink>(output: &mut Output<'_, S>, number: u32, goal: u64)
     output.put(b"\n");
 }
 
+#[inline(never)]
 fn put_negative<S: Sink>(
     output: &mut Output<'_, S>,
     file: &YaccFile,
@@ -272,12 +281,13 @@ fn put_negative<S: Sink>(
     put_rendered(output, file, numbered.rendered);
 }
 
+#[inline(always)]
 fn put_filled<S: Sink>(output: &mut Output<'_, S>, negative: &FilledNegative<'_>)
     ensures { Puts S.Sink (lines_of_filled negative.now) output.old output.new }
 {
     let lines = negative.lines;
     output.put(b"negative ");
-    output.put_number(negative.number);
+    output.put_numeral(negative.number);
     output.put_piece(&lines.head);
     output.put_piece(negative.name);
     output.put_piece(&lines.pair);

@@ -1,20 +1,17 @@
 -- A row filled with a token.
-use Rattle.std.proofs.Common.{◌≡◌, ℕ, ◌+◌, ◌<◌, ◌≤◌, List, [], ◌∷◌, ◌++◌, Bool, Option, Some, refl, sym, ap, ◌∙◌, subst, arith, append_assoc, length, take, drop}
-use Rattle.std.specs.Prelude.{All, IfSome}
+use Rattle.std.proofs.Common.{◌≡◌, ℕ, ◌+◌, List, [], ◌∷◌, ◌++◌, Option, Some, refl, sym, ap, ◌∙◌, subst, arith, append_assoc, take, drop}
+use Rattle.std.specs.Prelude.{IfSome}
 use Rattle.std.specs.Borrow.{Bor}
 use Rattle.std.proofs.lemmas.List.Elements.{All-append, All-cons, All-drop, All-take}
 use Rattle.cs_bytes.specs.Names.{space}
 use Rattle.cs_output.specs.Names.{token_of}
 use Rattle.cs_manifest.specs.Lines.{negative_lines}
-use Rattle.cs_manifest.specs.Manifest.{NegativeEntry}
-use Rattle.cs_manifest.specs.Named.{IsNamedEdit}
 use Rattle.cs_manifest.specs.Open.{AreLinesOf, edit_with, filled, negative_by, place_of}
 use Rattle.cs_manifest.specs.declared.open.OpenEdit.{OpenEdit}
 use Rattle.cs_manifest.specs.declared.open.OpenEdit.TheVariants.{Insert, Replace}
 use Rattle.cs_manifest.specs.declared.open.OpenPair.{OpenPair}
 use Rattle.cs_manifest.specs.declared.open.OpenPair.TheVariants.{Behind, Before}
 use Rattle.cs_mutate.specs.Edit.{IsPlaced, edited}
-use Rattle.cs_mutate.specs.declared.negative.Negative.{Negative}
 use Rattle.cs_render.specs.Rendering.{IsRuleText, Text}
 use Rattle.cs_scan.specs.Compared.{scanning}
 use Rattle.cs_scan.specs.Scan.{Scans}

@@ -1,5 +1,5 @@
 -- A base and its edited lists can be rendered.
-use Rattle.std.proofs.Common.{◌≡◌, ℕ, ◌+◌, ◌≤◌, List, [], ◌∷◌, length, sym, subst, get_or, arith}
+use Rattle.std.proofs.Common.{ℕ, ◌+◌, ◌≤◌, List, [], ◌∷◌, length, sym, subst, get_or, arith}
 use Rattle.std.specs.Prelude.{All}
 use Rattle.cs_grammar.specs.Grammar.{IsNumberOf}
 use Rattle.cs_mutate.specs.Edit.{Fits, IsPlaced, edited}

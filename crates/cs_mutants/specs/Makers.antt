@@ -1,6 +1,5 @@
 -- What makes the negatives of a base.
 use Rattle.std.specs.Prelude.{◌≡◌, ◌≤◌, ℕ, List, Bool, true, length}
-use Rattle.std.specs.Borrow.{Bor}
 use Rattle.cs_manifest.specs.Open.{TokenTable}
 use Rattle.cs_mutate.specs.Edit.{edited}
 use Rattle.cs_mutate.specs.declared.edit.Edit.{Edit}

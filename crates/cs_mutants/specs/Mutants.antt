@@ -1,11 +1,12 @@
--- What is made of a negative of a base, and its entry in a manifest.
-use Rattle.std.specs.Prelude.{◌≡◌, ℕ, List, Option, Some, None}
+-- What is made of a negative of a base, and what its writing does.
+use Rattle.std.specs.Prelude.{◌≡◌, ℕ, List, MatchResult, Option, Result, Some, None}
 use Rattle.cs_io.specs.Faults.{next_count}
-use Rattle.cs_manifest.specs.Counts.{with_entry}
-use Rattle.cs_manifest.specs.Entry.{IsNamedEntry, lines_of}
+use Rattle.cs_io.specs.declared.sink.Sink as Sink
+use Rattle.cs_io.specs.declared.sink.SinkError.{SinkError}
+use Rattle.cs_output.specs.Sinks.{Writes}
+use Rattle.cs_manifest.specs.Counts.{with_lines}
 use Rattle.cs_manifest.specs.Manifest.{IsNegativeOf, NegativeEntry, Texts, negative_entry_lines}
-use Rattle.cs_manifest.specs.declared.counts.Counts.{Counts}
-use Rattle.cs_manifest.specs.declared.entry.Entry.{Entry}
+use Rattle.cs_manifest.specs.Progress.{Progress}
 use Rattle.cs_mutate.specs.declared.negative.Negative.{Negative}
 use Rattle.cs_render_work.specs.declared.work.RenderWork.{RenderWork}
 use Rattle.cs_scan.specs.Compared.{scanning}
@@ -28,18 +29,24 @@ texts_of work = record { scanning = scanning work.scanner.now; separator = work.
 abbrev pub IsOfNegative : RenderWork → List ℕ → Negative → NegativeEntry → Type 0
 IsOfNegative work base negative entry = IsNegativeOf (Some (texts_of work)) (Some work.lexemes.now) base negative entry
 
--- the entry counts as one more negative, and as nothing else
-abbrev pub CountsOneNegative : Entry → Type 0
-CountsOneNegative entry = (counts : Counts) → with_entry counts entry ≡ record counts { negatives = next_count counts.negatives }
+-- the lines of a negative with this number
+abbrev pub made_lines : Making → ℕ → NegativeEntry → List ℕ
+made_lines making number told = negative_entry_lines making.tools.file making.number making.base number told
 
--- the entry of a manifest is that of the negative with this number
-pub record IsEntryOf (making : Making) (negative : Negative) (number : ℕ) (entry : Entry) : Type 0 where
-  pub told : NegativeEntry
-  pub of : IsOfNegative making.tools.work making.base negative told
-  pub lines : lines_of making.tools.file entry ≡ negative_entry_lines making.tools.file making.number making.base number told
-  pub counts : CountsOneNegative entry
-  pub named : IsNamedEntry making.tools.file entry
+-- behind the lines of one more negative
+abbrev pub behind_negative : Progress → List ℕ → Progress
+behind_negative progress lines = record progress { counts = with_lines (record progress.counts { negatives = next_count progress.counts.negatives }) lines }
 
--- that of the negative that is made
-abbrev pub IsEntryOfMade : Mutant → ℕ → Entry → Type 0
-IsEntryOfMade mutant number entry = (negative : Negative) → mutant.negative ≡ Some negative → IsEntryOf mutant.making negative number entry
+-- What the writing of a negative with this number did to a manifest and a sink.
+module _ {S : Type 0} (g : Sink.Ghosts S) where
+  -- the sink took its lines, and it counts; or a prefix of them, and the manifest is as before
+  pub record WritesNegative (making : Making) (negative : Negative) (number : ℕ) (old : Progress) (before : S) (new : Progress) (after : S) (result : Result Unit SinkError) : Type 0 where
+    pub told : NegativeEntry
+    pub of : IsOfNegative making.tools.work making.base negative told
+    pub lines : Writes g result (made_lines making number told) before after
+    pub counts : MatchResult result (λ _. new ≡ behind_negative old (made_lines making number told)) (λ _. new ≡ old)
+
+  -- the one that is made was written
+  abbrev pub WritesMade : Mutant → ℕ → Progress → S → Progress → S → Result Unit SinkError → Type 0
+  WritesMade mutant number old before new after result =
+      (negative : Negative) → mutant.negative ≡ Some negative → WritesNegative mutant.making negative number old before new after result

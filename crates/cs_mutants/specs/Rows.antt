@@ -1,8 +1,13 @@
 -- The negatives of a base that differ in the token that their edit puts alone. Working words of proofs.
-use Rattle.std.specs.Prelude.{◌≡◌, ℕ, ◌+◌, ◌<◌, ◌≤◌, List, [], ◌∷◌, ◌++◌, Bool, Option, None, Some, IfSome, IsTrue, true, length, take, drop, option_map}
+use Rattle.std.specs.Prelude.{◌≡◌, ℕ, ◌+◌, ◌<◌, ◌≤◌, List, ◌∷◌, ◌++◌, Bool, Option, None, Some, IfSome, IsTrue, length, take, drop, option_map}
 use Rattle.std.specs.Borrow.{Bor}
 use Rattle.cs_bytes.specs.Names.{space}
 use Rattle.cs_output.specs.Names.{AreNamedTokens, token_of}
+use Rattle.cs_io.specs.Faults.{next_count}
+use Rattle.cs_manifest.specs.Counts.{with_entry}
+use Rattle.cs_manifest.specs.Entry.{IsNamedEntry, lines_of}
+use Rattle.cs_manifest.specs.declared.counts.Counts.{Counts}
+use Rattle.cs_manifest.specs.declared.entry.Entry.{Entry}
 use Rattle.cs_manifest.specs.Lines.{negative_lines}
 use Rattle.cs_manifest.specs.Manifest.{NegativeEntry, negative_entry_lines}
 use Rattle.cs_manifest.specs.Named.{IsNamedNegative, IsNamedRendering}
@@ -14,18 +19,19 @@ use Rattle.cs_manifest.specs.declared.open.OpenPair.TheVariants.{Behind, Before}
 use Rattle.cs_grammar.specs.declared.symbol.Mark.TheVariants.{Token}
 use Rattle.cs_mutate.specs.Edit.{edited}
 use Rattle.cs_mutate.specs.declared.negative.Negative.{Negative}
-use Rattle.cs_render.specs.Rendering.{IsRuleText, Rendering, Text}
+use Rattle.cs_render.specs.Rendering.{IsRuleText, Text}
 use Rattle.cs_render_work.specs.Renders.{IsRenderedBy}
+use Rattle.cs_render_work.specs.declared.work.RenderWork.{RenderWork}
 use Rattle.cs_splice.specs.Apart.{IsApart, ScanBack}
 use Rattle.cs_splice.specs.Spliced.{rendering_around}
-use Rattle.cs_splice.specs.declared.spliced.Spliced.{Spliced}
 use Rattle.cs_mutants.specs.Makers.{Making, PlainTools, near_of}
-use Rattle.cs_mutants.specs.Mutants.{IsOfNegative}
-use Rattle.cs_mutants.specs.declared.made.Form.{Form}
-use Rattle.cs_mutants.specs.declared.made.Form.TheVariants.{Filled, Rendered}
-use Rattle.cs_mutants.specs.declared.made.Made.{Made}
+use Rattle.cs_mutants.specs.Mutants.{IsOfNegative, made_lines}
+use Rattle.cs_mutants.specs.declared.made.Filling.{Filling}
+use Rattle.cs_mutants.specs.declared.made.Rendering.{Rendering}
 use Rattle.cs_mutants.specs.declared.opened.Opened.{Opened}
 use Rattle.cs_mutants.specs.declared.row.Row.{Row}
+use Rattle.cs_mutants.specs.declared.row.Side.{Side}
+use Rattle.cs_mutants.specs.declared.row.Side.TheVariants as stands
 use Rattle.cs_mutants.specs.declared.rows.Rows.{Rows}
 use Rattle.cs_mutants.specs.declared.tools.ToldToken.{ToldToken}
 
@@ -72,12 +78,19 @@ module _ (lexemes : List (Option (List ℕ))) (separator : List ℕ) where
       (others more : List ℕ) → 0 < length others → IsRuleText lexemes separator others more
       → IsRuleText lexemes separator (others ++ tokens) (more ++ text)
 
-  -- it was put, where each token has a lexeme
-  abbrev pub PutsInFront : List ℕ → List ℕ → Bool → Type 0
-  PutsInFront tokens text has = IsTrue has → IsTextInFront tokens text
+  -- where the separator stands behind each of its lexemes it is a text in front of one, and else behind one
+  abbrev pub IsTextBeside : Side → List ℕ → List ℕ → Type 0
+  IsTextBeside stands.Before tokens text = IsTextBehind tokens text
+  IsTextBeside stands.Behind tokens text = IsTextInFront tokens text
 
-  abbrev pub PutsBehind : List ℕ → List ℕ → Bool → Type 0
-  PutsBehind tokens text has = IsTrue has → IsTextBehind tokens text
+-- it was put, where each token has a lexeme
+abbrev pub PutsText : RenderWork → Side → List ℕ → List ℕ → Bool → Type 0
+PutsText work side tokens text has = IsTrue has → IsTextBeside work.lexemes.now work.separator.now side tokens text
+
+-- a lexeme with the separator on this side of it
+abbrev pub with_separator : List ℕ → Side → List ℕ → List ℕ
+with_separator separator stands.Before lexeme = separator ++ lexeme
+with_separator separator stands.Behind lexeme = lexeme ++ separator
 
 -- ---- rows
 
@@ -128,33 +141,49 @@ pub record HasRow (rows : Rows) (edit : OpenEdit) (pair : OpenPair) : Type 0 whe
 
 -- ---- what was made
 
+-- the negative that fills a row
+abbrev pub negative_of : Filling → Negative
+negative_of filling = negative_by filling.opened.edit filling.opened.pair filling.opened.token
+
+-- the one that is made
+abbrev pub negative_in : Option Filling → Option Rendering → Option Negative
+negative_in None rendering = option_map (λ r. r.negative) rendering
+negative_in (Some filling) rendering = Some (negative_of filling)
+
 -- the lines, filled with a number and these pieces, are those of the negative
 pub record IsFilled (making : Making) (negative : Negative) (parts : LineParts) (name lexeme : List ℕ) : Type 0 where
   pub told : NegativeEntry
   pub of : IsOfNegative making.tools.work making.base negative told
   pub lines : (number : ℕ) → filled parts number name lexeme ≡ negative_entry_lines making.tools.file making.number making.base number told
 
+-- the negative fills a row that is there
+pub record FillsRow (making : Making) (rows : Rows) (filling : Filling) : Type 0 where
+  pub row : Row
+  pub there : row_for rows filling.opened.pair ≡ Some row
+  pub fills : IsFilled making (negative_of filling) row.lines filling.token.name.now filling.token.lexeme.now
+
+-- it is this negative
+abbrev pub IsFillingOf : Negative → Filling → Type 0
+IsFillingOf negative filling = IsOpened negative filling.opened
+
 -- the list is the edited one, this came of its rendering, and the numbers of all tokens are of the file
-pub record IsRenderedAs (making : Making) (negative : Negative) (tokens : List ℕ) (rendered : Rendering) : Type 0 where
-  pub tokens_are : tokens ≡ edited making.base negative.edit
-  pub rendered_is : IsRenderedBy making.tools.work (edited making.base negative.edit) rendered
-  pub negative_named : IsNamedNegative making.tools.file negative
+pub record IsRenderedAs (making : Making) (tokens middle : List ℕ) (r : Rendering) : Type 0 where
+  pub tokens_are : tokens ≡ edited making.base r.negative.edit
+  pub rendered_is : IsRenderedBy making.tools.work (edited making.base r.negative.edit) (rendering_around middle r.spliced)
+  pub negative_named : IsNamedNegative making.tools.file r.negative
   pub tokens_named : AreNamedTokens making.tools.file tokens
-  pub rendering_named : IsNamedRendering making.tools.file rendered
+  pub rendering_named : IsNamedRendering making.tools.file (rendering_around middle r.spliced)
 
--- a row that is there filled with a token, or the edited list with what came of its rendering
-abbrev pub IsFormOf : Making → Rows → List ℕ → List ℕ → Negative → Form → Type 0
-IsFormOf making rows tokens middle negative (Filled pair token) =
-    (row : Row) × (row_for rows pair ≡ Some row) × IsFilled making negative row.lines token.name.now token.lexeme.now
-IsFormOf making rows tokens middle negative (Rendered spliced) = IsRenderedAs making negative tokens (rendering_around middle spliced)
+-- ---- its entry in a manifest
 
--- the form is a row that is there and a token
-abbrev pub FillsRow : Making → Rows → Negative → Form → Type 0
-FillsRow making rows negative form = (tokens middle : List ℕ) → IsFormOf making rows tokens middle negative form
+-- the entry counts as one more negative, and as nothing else
+abbrev pub CountsOneNegative : Entry → Type 0
+CountsOneNegative entry = (counts : Counts) → with_entry counts entry ≡ record counts { negatives = next_count counts.negatives }
 
--- the form is the edited list's rendering
-abbrev pub IsRenderedForm : Making → List ℕ → List ℕ → Negative → Form → Type 0
-IsRenderedForm making tokens middle negative form = (rows : Rows) → IsFormOf making rows tokens middle negative form
-
-abbrev pub IsMade : Making → Rows → List ℕ → List ℕ → Made → Type 0
-IsMade making rows tokens middle made = IsFormOf making rows tokens middle made.negative made.form
+-- the entry of a manifest is that of the negative with this number
+pub record IsEntryOf (making : Making) (negative : Negative) (number : ℕ) (entry : Entry) : Type 0 where
+  pub told : NegativeEntry
+  pub of : IsOfNegative making.tools.work making.base negative told
+  pub lines : lines_of making.tools.file entry ≡ made_lines making number told
+  pub counts : CountsOneNegative entry
+  pub named : IsNamedEntry making.tools.file entry

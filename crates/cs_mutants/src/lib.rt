@@ -1,12 +1,12 @@
-//! The negatives of a base as entries of a manifest, made one after another.
+//! The negatives of a base, made one after another and written to a manifest.
 //!
 //! The layer above makes [`Tools`] of a file and of what lists of tokens are rendered with, of each base a [`Maker`], and of that a
-//! [`MadeNegative`], in whose memory each negative of the base is made in its turn. It lends itself as the entry of a manifest. Of
-//! negatives that differ in the token that their edit puts alone the lines are spelled once, where texts need no scan; else the text
-//! of an edited list is told by that of the base where it can be.
+//! [`MadeNegative`], in whose memory each negative of the base is made in its turn. It writes itself to a manifest. Of negatives
+//! that differ in the token that their edit puts alone the lines are spelled once, where texts need no scan; else the text of an
+//! edited list is told by that of the base where it can be.
 //!
-//! Meaning: `specs/Makers` (what makes negatives), `specs/Mutants` (what is made of a negative, and its entry). Working words of
-//! proofs: the end of `Makers`, and `Rows`.
+//! Meaning: `specs/Makers` (what makes negatives), `specs/Mutants` (what is made of a negative, and what its writing does). Working
+//! words of proofs: the end of `Makers`, and `Rows`.
 #![tactic(auto)]
 
 mod made;

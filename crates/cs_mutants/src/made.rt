@@ -1,18 +1,20 @@
-// The negatives of a base, made one after another, and their entries.
+// The negatives of a base, made one after another, and written.
 
 ghost use Rattle.std.specs.Prelude.{◌≡◌, IfOk, IfSome, IsSome, OnOk, Some, length};
 ghost use Rattle.cs_manifest.specs.Named.{IsNamedNegative};
 ghost use Rattle.cs_mutate.specs.Edit.{IsPlaced};
 ghost use Rattle.cs_mutants.specs.Makers.{TakesEdited};
-ghost use Rattle.cs_mutants.specs.Mutants.{IsEntryOfMade, starts};
-ghost use Rattle.cs_mutants.specs.Rows.{AreRows, FillsRow, IsFormOf, IsRenderedForm};
+ghost use Rattle.cs_mutants.specs.Mutants.{WritesMade, starts};
+ghost use Rattle.cs_mutants.specs.Rows.{AreRows, FillsRow, IsEntryOf, IsFillingOf, IsRenderedAs};
 
 use crate::maker::Maker;
 use crate::opened::{Opened, open_negative};
 use crate::rows::Rows;
 use crate::tools::ToldToken;
-use cs_manifest::{Entry, FilledNegative, NumberedNegative, OpenPair};
+use cs_io::{Sink, SinkError};
+use cs_manifest::{Entry, FilledNegative, Manifest, NumberedNegative};
 use cs_mutate::{Negative, apply_into};
+use cs_output::Numeral;
 use cs_splice::Spliced;
 use std::alloc::{AllocError, Global};
 use std::marker::Model;
@@ -23,32 +25,33 @@ pub struct MadeNegative<'m> {
     alloc: Global,
     maker: &'m Maker<'m>,
     rows: Rows,
+    // What is made, where it is one that fills a row; else it is what was rendered.
+    filling: Option<Filling<'m>>,
+    rendering: Option<Rendering<'m>>,
     tokens: Vec<u16>,
     middle: Vec<u8>,
-    made: Option<Made<'m>>,
 }
 
-// What was made of a negative, but for what is kept beside it.
+// A negative without its token, and the token that fills the lines of its row.
+#[derive(Clone, Copy)]
+struct Filling<'m> {
+    opened: Opened,
+    token: ToldToken<'m>,
+}
+
+// A negative, and what came of the rendering of its edited list, but for what is kept beside it.
 #[derive(Drop)]
-struct Made<'m> {
+struct Rendering<'m> {
     negative: Negative,
-    form: Form<'m>,
-}
-
-#[derive(Drop)]
-enum Form<'m> {
-    // The token that fills the lines of the row of such pairs.
-    Filled(OpenPair, ToldToken<'m>),
-    // What came of the rendering of the edited list.
-    Rendered(Spliced<'m>),
+    spliced: Spliced<'m>,
 }
 
 impl<'m> Model for MadeNegative<'m> {
     ghost use Rattle.std.specs.Coded.{codes};
     ghost use Rattle.cs_pattern_tree.specs.contracts.pattern.Pattern as pattern;
-    ghost use Rattle.std.specs.Prelude.{IfSome, option_map};
+    ghost use Rattle.std.specs.Prelude.{IfSome};
     ghost use Rattle.cs_mutants.specs.Mutants.{Mutant};
-    ghost use Rattle.cs_mutants.specs.Rows.{AreRows, IsMade};
+    ghost use Rattle.cs_mutants.specs.Rows.{AreRows, FillsRow, IsRenderedAs, negative_in};
 
     ghost Value = { Mutant };
 
@@ -56,11 +59,12 @@ impl<'m> Model for MadeNegative<'m> {
 
     ghost view = { λ m. record {
       making = m.maker.now;
-      negative = option_map (λ made. made.negative) m.made;
+      negative = negative_in m.filling m.rendering;
     } };
 
     ghost invariant = { λ m. AreRows m.maker.now m.rows
-        × IfSome m.made (IsMade m.maker.now m.rows m.tokens.items m.middle.items) };
+        × IfSome m.filling (FillsRow m.maker.now m.rows)
+        × IfSome m.rendering (IsRenderedAs m.maker.now m.tokens.items m.middle.items) };
 }
 
 impl<'m> MadeNegative<'m> {
@@ -72,9 +76,10 @@ impl<'m> MadeNegative<'m> {
             alloc,
             maker,
             rows: Rows::new(),
+            filling: None,
+            rendering: None,
             tokens: Vec::new(alloc),
             middle: Vec::new(alloc),
-            made: None,
         }
     }
 
@@ -86,112 +91,119 @@ impl<'m> MadeNegative<'m> {
         ensures making { self.new.making ≡ self.old.making }
         ensures made { OnOk result (self.new.negative ≡ Some negative.now) }
     {
-        self.made.take();
-        let form = form_of(
-            self.alloc,
-            self.maker,
-            &mut self.rows,
-            &mut self.tokens,
-            &mut self.middle,
-            negative,
-        )?;
-        self.made.replace(Made {
-            negative: *negative,
-            form,
-        });
+        self.filling = None;
+        self.filling = fill(self.alloc, self.maker, &mut self.rows, negative)?;
+        if self.filling.is_none() {
+            self.rendering.take();
+            let rendering = render(self.maker, &mut self.tokens, &mut self.middle, negative)?;
+            self.rendering.replace(rendering);
+        }
         Ok(())
     }
 
-    /// Its entry in a manifest, with its number from 1.
-    pub fn entry(&self, number: u64) -> Entry<'_>
-        requires { IsSome self.now.negative }
-        ensures { IsEntryOfMade self.now number result }
+    /// Writes the negative that was made, with its number from 1, to a manifest of its file. Ok means that the sink took its lines,
+    /// and a failure that it took a prefix of them; then the manifest is as before.
+    #[inline(always)]
+    pub fn write<S: Sink>(
+        &self,
+        number: &Numeral,
+        manifest: &mut Manifest<'_>,
+        sink: &mut S,
+    ) -> Result<(), SinkError>
+        requires made { IsSome self.now.negative }
+        requires file { manifest.old.file ≡ self.now.making.tools.file }
+        ensures { WritesMade S.Sink self.now number.now
+            manifest.old sink.old manifest.new sink.new result }
     {
-        let maker = self.maker;
-        let Made { negative, form } = self.made.as_ref().unwrap();
-        match form {
-            Form::Filled(pair, token) => Entry::Filled(FilledNegative {
-                number,
-                lines: &self.rows.get(*pair).unwrap().lines,
-                name: token.name,
-                lexeme: token.lexeme,
-            }),
-            Form::Rendered(spliced) => Entry::Negative(NumberedNegative {
-                number,
-                base: maker.number,
-                negative: *negative,
-                tokens: &self.tokens,
-                rendered: spliced.parts(&self.middle),
-            }),
+        match &self.filling {
+            Some(filling) => {
+                let entry = Entry::Filled(FilledNegative {
+                    number,
+                    lines: &self.rows.get(filling.opened.pair).unwrap().lines,
+                    name: filling.token.name,
+                    lexeme: filling.token.lexeme,
+                });
+                manifest.entry(sink, &entry)
+            }
+            None => {
+                let rendering = self.rendering.as_ref().unwrap();
+                let entry = rendered(number, self.maker, rendering, &self.tokens, &self.middle);
+                manifest.entry(sink, &entry)
+            }
         }
     }
 }
 
-// What is made of a negative: a row and the token that fills it, where there are such, and else its edited list and the middle of
-// the text of that, in place of what is there.
-fn form_of<'m>(
-    alloc: Global,
-    maker: &'m Maker<'m>,
-    rows: &mut Rows,
-    list: &mut Vec<u16>,
-    text: &mut Vec<u8>,
-    negative: &Negative,
-) -> Result<Form<'m>, AllocError>
-    requires placed { IsPlaced (length maker.now.base) negative.now.edit }
-    requires taken { TakesEdited maker.now negative.now.edit }
-    requires named { IsNamedNegative maker.now.tools.file negative.now }
-    requires rows { AreRows maker.now rows.old }
-    ensures rows { AreRows maker.now rows.new }
-    ensures of { IfOk result (
-        IsFormOf maker.now rows.new list.new.items text.new.items negative.now) }
+// The entry of a negative whose edited list was rendered.
+#[inline(never)]
+fn rendered<'e>(
+    number: &Numeral,
+    maker: &Maker<'_>,
+    rendering: &'e Rendering<'_>,
+    tokens: &'e [u16],
+    middle: &'e [u8],
+) -> Entry<'e>
+    requires { IsRenderedAs maker.now tokens.now middle.now rendering.now }
+    ensures { IsEntryOf maker.now rendering.now.negative number.now result }
 {
-    match fill(alloc, maker, rows, negative)? {
-        Some(form) => Ok(form),
-        None => render(maker, list, text, negative),
-    }
+    Entry::Negative(NumberedNegative {
+        number: number.number(),
+        base: maker.number,
+        negative: rendering.negative,
+        tokens,
+        rendered: rendering.spliced.parts(middle),
+    })
 }
 
-// The row of a negative, which is made where it isn't there, and the token that fills it. None where no row can be filled.
+// The negative without its token, and the token that fills its row, which is made where it isn't there. None where no row can be
+// filled.
+#[inline(always)]
 fn fill<'m>(
     alloc: Global,
     maker: &'m Maker<'m>,
     rows: &mut Rows,
     negative: &Negative,
-) -> Result<Option<Form<'m>>, AllocError>
+) -> Result<Option<Filling<'m>>, AllocError>
     requires placed { IsPlaced (length maker.now.base) negative.now.edit }
     requires named { IsNamedNegative maker.now.tools.file negative.now }
     requires rows { AreRows maker.now rows.old }
     ensures rows { AreRows maker.now rows.new }
-    ensures form { IfOk result (λ form. IfSome form (FillsRow maker.now rows.new negative.now)) }
+    ensures fills { IfOk result (λ filling. IfSome filling (FillsRow maker.now rows.new)) }
+    ensures of { IfOk result (λ filling. IfSome filling (IsFillingOf negative.now)) }
 {
     if !maker.apart {
         return Ok(None);
     }
-    let Some(Opened { edit, pair, token }) = open_negative(negative) else {
+    let Some(opened) = open_negative(negative) else {
         return Ok(None);
     };
-    let Some(told) = maker.tools.told(token) else {
+    let Some(token) = maker.tools.told(opened.token) else {
         return Ok(None);
     };
-    if rows.settle(alloc, maker, edit, pair)? {
-        Ok(Some(Form::Filled(pair, told)))
+    if rows.settle(alloc, maker, opened.edit, opened.pair)? {
+        Ok(Some(Filling { opened, token }))
     } else {
         Ok(None)
     }
 }
 
 // Puts the edited list and the middle of its text in place of what is there, and renders the list.
+#[inline(never)]
 fn render<'m>(
     maker: &'m Maker<'m>,
     list: &mut Vec<u16>,
     text: &mut Vec<u8>,
     negative: &Negative,
-) -> Result<Form<'m>, AllocError>
+) -> Result<Rendering<'m>, AllocError>
     requires placed { IsPlaced (length maker.now.base) negative.now.edit }
     requires taken { TakesEdited maker.now negative.now.edit }
     requires named { IsNamedNegative maker.now.tools.file negative.now }
-    ensures { IfOk result (IsRenderedForm maker.now list.new.items text.new.items negative.now) }
+    ensures rendered { IfOk result (IsRenderedAs maker.now list.new.items text.new.items) }
+    ensures of { IfOk result (λ rendering. rendering.negative ≡ negative.now) }
 {
     apply_into(list, maker.base, &negative.edit)?;
-    Ok(Form::Rendered(maker.near.render(text, list)?))
+    Ok(Rendering {
+        negative: *negative,
+        spliced: maker.near.render(text, list)?,
+    })
 }

@@ -16,6 +16,7 @@ pub(crate) struct Opened {
 }
 
 /// The negative without its token. None where its edit puts none, or where its pair is another than those that the token makes.
+#[inline(always)]
 pub(crate) fn open_negative(negative: &Negative) -> Option<Opened>
     ensures { IfSome result (IsOpened negative.now) }
 {
@@ -29,6 +30,7 @@ pub(crate) fn open_negative(negative: &Negative) -> Option<Opened>
 }
 
 // The negative's pair without the token that stands at the place of its edit. None where it isn't in the pair.
+#[inline(always)]
 fn open_pair(negative: &Negative, place: u32, token: u16) -> Option<OpenPair>
     ensures { IfSome result (IsOpenPairOf negative.now place token) }
 {

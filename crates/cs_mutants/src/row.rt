@@ -1,14 +1,14 @@
 // The lines of negatives of a base that differ in the token that their edit puts alone.
 
-ghost use Rattle.std.specs.Prelude.{◌≡◌, [], IfOk, IfSome, drop, length, take};
+ghost use Rattle.std.specs.Prelude.{◌≡◌, ◌++◌, [], IfOk, IfSome, drop, length, take};
 ghost use Rattle.cs_output.specs.Names.{IsNamedMark};
 ghost use Rattle.cs_manifest.specs.Open.{mark_in, place_of};
 ghost use Rattle.cs_render.specs.Rendering.{AreTokens};
-ghost use Rattle.cs_mutants.specs.Rows.{IsOpenPlaced, IsRowOf, PutsBehind, PutsInFront, behind_place};
+ghost use Rattle.cs_mutants.specs.Rows.{IsOpenPlaced, IsRowOf, PutsText, behind_place, with_separator};
 
 use crate::maker::Maker;
-use cs_lexeme::Lexemes;
 use cs_manifest::{OpenEdit, OpenLines, OpenNegative, OpenPair};
+use cs_render_work::RenderWork;
 use std::alloc::{AllocError, Global};
 
 /// The lines of the negatives with this edit and this pair, whatever token stands apart there.
@@ -37,8 +37,8 @@ impl Row {
         let back = tokens_behind(maker.base, edit);
         let mut text_front = Vec::new(alloc);
         let mut text_back = Vec::new(alloc);
-        if !put_in_front(&mut text_front, work.lexemes, work.separator, front)?
-            || !put_behind(&mut text_back, work.lexemes, work.separator, back)?
+        if !put_text(&mut text_front, work, Side::Behind, front)?
+            || !put_text(&mut text_back, work, Side::Before, back)?
         {
             return Ok(None);
         }
@@ -77,46 +77,42 @@ fn tokens_behind(base: &[u16], edit: OpenEdit) -> &[u16]
     }
 }
 
-// Puts the text in front of a lexeme: the lexemes of the tokens, each with a separator behind it. False where one has none.
-fn put_in_front(
+// On which side of each lexeme its separator stands: behind those in front of the lexeme that the edit puts, and before those
+// behind it.
+#[derive(Clone, Copy)]
+enum Side {
+    Before,
+    Behind,
+}
+
+// Puts the lexemes of the tokens, each with a separator on this side of it. False where a token has none.
+fn put_text(
     out: &mut Vec<u8>,
-    lexemes: &Lexemes,
-    separator: &[u8],
+    work: &RenderWork<'_>,
+    side: Side,
     tokens: &[u16],
 ) -> Result<bool, AllocError>
     requires empty { out.old.items ≡ [] }
-    requires tokens { AreTokens lexemes.now tokens.now }
-    ensures { IfOk result (
-        PutsInFront lexemes.now separator.now tokens.now out.new.items) }
+    requires tokens { AreTokens work.now.lexemes.now tokens.now }
+    ensures { IfOk result (PutsText work.now side tokens.now out.new.items) }
 {
     for token in tokens {
-        let Some(lexeme) = lexemes.get(*token) else {
+        let Some(lexeme) = work.lexemes.get(*token) else {
             return Ok(false);
         };
-        out.extend_from_slice(lexeme)?;
-        out.extend_from_slice(separator)?;
+        let (first, second) = in_order(work.separator, side, lexeme);
+        out.extend_from_slice(first)?;
+        out.extend_from_slice(second)?;
     }
     Ok(true)
 }
 
-// Puts the text behind a lexeme: the lexemes of the tokens, each with a separator in front of it. False where one has none.
-fn put_behind(
-    out: &mut Vec<u8>,
-    lexemes: &Lexemes,
-    separator: &[u8],
-    tokens: &[u16],
-) -> Result<bool, AllocError>
-    requires empty { out.old.items ≡ [] }
-    requires tokens { AreTokens lexemes.now tokens.now }
-    ensures { IfOk result (
-        PutsBehind lexemes.now separator.now tokens.now out.new.items) }
+// A lexeme and the separator on this side of it, in the order of the text.
+fn in_order<'t>(separator: &'t [u8], side: Side, lexeme: &'t [u8]) -> (&'t [u8], &'t [u8])
+    ensures { result.0.now ++ result.1.now ≡ with_separator separator.now side lexeme.now }
 {
-    for token in tokens {
-        let Some(lexeme) = lexemes.get(*token) else {
-            return Ok(false);
-        };
-        out.extend_from_slice(separator)?;
-        out.extend_from_slice(lexeme)?;
+    match side {
+        Side::Before => (separator, lexeme),
+        Side::Behind => (lexeme, separator),
     }
-    Ok(true)
 }

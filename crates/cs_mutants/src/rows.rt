@@ -31,6 +31,7 @@ impl Rows {
     }
 
     /// The row of pairs as this one.
+    #[inline(always)]
     pub fn get(&self, pair: OpenPair) -> Option<&Row>
         ensures { IsLentRow (row_for self.now pair) result }
     {
@@ -51,6 +52,7 @@ impl Rows {
     }
 
     // Whether the row of pairs as this one is that of these negatives.
+    #[inline(always)]
     fn has(&self, edit: OpenEdit, pair: OpenPair) -> bool
         ensures { IsTrue result → HasRow self.now edit pair }
     {
@@ -61,6 +63,7 @@ impl Rows {
     }
 
     /// Sees to it that the row of these negatives of a base is there. False where they have none.
+    #[inline(always)]
     pub fn settle(
         &mut self,
         alloc: Global,
@@ -77,6 +80,24 @@ impl Rows {
         if self.has(edit, pair) {
             return Ok(true);
         }
+        self.renew(alloc, maker, edit, pair)
+    }
+
+    // Makes the row of these negatives of a base, in place of that of pairs as this one. False where they have none.
+    #[inline(never)]
+    fn renew(
+        &mut self,
+        alloc: Global,
+        maker: &Maker<'_>,
+        edit: OpenEdit,
+        pair: OpenPair,
+    ) -> Result<bool, AllocError>
+        requires placed { IsOpenPlaced (length maker.now.base) edit }
+        requires named { IsNamedMark maker.now.tools.file (mark_in pair) }
+        requires rows { AreRows maker.now self.old }
+        ensures rows { AreRows maker.now self.new }
+        ensures has { IfOk result (λ has. IsTrue has → HasRow self.new edit pair) }
+    {
         let row = Row::new(alloc, maker, edit, pair)?;
         let has = row.is_some();
         self.put(row, pair);

@@ -75,6 +75,7 @@ impl<'a> Tools<'a> {
     }
 
     // A token as lines have it. None where it doesn't stand apart.
+    #[inline(always)]
     pub(crate) fn told(&self, token: u16) -> Option<ToldToken<'_>>
         requires { IsNamedToken self.now.file token }
         ensures { IfSome result (IsTold self.now token) }

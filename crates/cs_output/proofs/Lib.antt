@@ -1,3 +1,5 @@
+pub mod Called
+pub mod Numerals
 pub mod Pieces
 pub mod Runs
 pub mod Written

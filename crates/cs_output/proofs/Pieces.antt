@@ -57,18 +57,6 @@ put_front line mid text used count few within less some first =
     ∙ take-append-add (take used line) (take count text) few
     ∙ ap (λ (t : List ℕ). take used line ++ t) (take_twice few count text less some)
 
--- a text that was written into a line with what stands behind it
-pub put_padded : (line padded part text : List ℕ) (used count len : ℕ) → used ≤ length line → count ≤ length padded → len ≤ length padded → take len padded ≡ text
-    → length text ≤ count → part ≡ take count padded → take (used + length text) (put_mid used (used + count - used) line part) ≡ take used line ++ text
-put_padded line padded part text used count len within enough fits is short same =
-    put_front line (put_mid used (used + count - used) line part) padded used count (length text) within short enough first ∙ ap (λ (t : List ℕ). take used line ++ t) front
-  where
-    first : take (used + count) (put_mid used (used + count - used) line part) ≡ take used line ++ take count padded
-    first = put_in line (take count padded) part used (used + count) within (ap (λ (n : ℕ). used + n) (sym (length-take-le count padded enough))) same
-
-    front : take (length text) padded ≡ text
-    front = ap (λ (t : List ℕ). take (length t) padded) (sym is) ∙ ap (λ (n : ℕ). take n padded) (length-take-le len padded fits) ∙ is
-
 -- a text that was written into a line by its front and its back, which overlap
 pub put_by_ends : (line mid new text : List ℕ) (used count back : ℕ) → used ≤ length line → back ≤ count → count ≤ length text
     → take (used + count) mid ≡ take used line ++ take count text → take (used + length text) new ≡ take (used + back) mid ++ drop back text

@@ -5,8 +5,8 @@
 //! nothing more reaches the sink. Numbers, words, names and texts between quotes are put by calls of their own. An output takes
 //! no memory.
 //!
-//! A [`Piece`] has bytes that are put often. A [`Speller`] lends an output whose sink is memory, so that what is put there can be
-//! kept as a piece.
+//! A [`Numeral`] counts up and keeps its digits. A [`Piece`] has bytes that are put often. A [`Speller`] lends an output whose
+//! sink is memory, so that what is put there can be kept as a piece.
 //!
 //! All files of `specs/` are meaning: `Putting` (what a text that was put did to an output and its sink), `Words` (words, lines
 //! and escapes), `Names` (the names of symbols and marks, and which numbers have one), `Spelled` (pieces that are spelled in
@@ -14,6 +14,7 @@
 #![tactic(auto)]
 
 mod names;
+mod numeral;
 mod output;
 mod piece;
 mod speller;
@@ -22,6 +23,7 @@ pub use names::{
     put_nonterminal, put_quoted, put_spaced_mark, put_spaced_name, put_spaced_token, put_symbol,
     put_text_bytes, put_token_name,
 };
+pub use numeral::Numeral;
 pub use output::{LINE_LENGTH, Output};
 pub use piece::Piece;
 pub use speller::{SpelledBytes, Speller, spelled_piece};

@@ -5,7 +5,8 @@ ghost use Rattle.std.specs.List.{flat_map};
 ghost use Rattle.cs_bytes.specs.Names.{space};
 ghost use Rattle.cs_output.specs.Sinks.{Writes};
 
-use crate::piece::{Piece, SHORT_LENGTH};
+use crate::numeral::{NUMERAL_LENGTH, Numeral};
+use crate::piece::{Piece, SHORT_LENGTH, WORD_LENGTH};
 use cs_io::{Sink, SinkError, write_all};
 use itoa::Buffer;
 
@@ -76,8 +77,12 @@ impl<'s, S: Sink> Output<'s, S> {
     pub fn put_piece(&mut self, piece: &Piece)
         ensures { Puts S.Sink piece.now self.old self.new }
     {
-        if piece.len() <= SHORT_LENGTH && self.used <= LINE_LENGTH - SHORT_LENGTH {
-            self.keep_short(piece);
+        if self.used > LINE_LENGTH - SHORT_LENGTH {
+            self.put_long(piece);
+        } else if piece.len() <= WORD_LENGTH {
+            self.keep_front::<WORD_LENGTH>(piece.padded(), piece.len());
+        } else if piece.len() <= SHORT_LENGTH {
+            self.keep_front::<SHORT_LENGTH>(piece.padded(), piece.len());
         } else {
             self.put_long(piece);
         }
@@ -91,15 +96,16 @@ impl<'s, S: Sink> Output<'s, S> {
         self.put(piece.bytes());
     }
 
-    // Lets a short piece wait, for which the line has more room than it takes.
+    // Lets the first bytes of a text wait, by one copy of a fixed length, for which both have room.
     #[inline(always)]
-    fn keep_short(&mut self, short: &Piece)
-        requires short { length short.now ≤ 64 }
-        requires room { self.old.used + 64 ≤ 1024 }
-        ensures { Puts S.Sink short.now self.old self.new }
+    fn keep_front<const N: usize>(&mut self, padded: &[u8], len: usize)
+        requires short { len ≤ N }
+        requires padded { N ≤ length padded.now }
+        requires room { self.old.used + N ≤ 1024 }
+        ensures { Puts S.Sink (take len padded.now) self.old self.new }
     {
-        short.put_short(&mut *self.line, self.used);
-        self.used += short.len();
+        put_front::<N>(&mut *self.line, self.used, padded);
+        self.used += len;
     }
 
     // Lets a piece wait, for which the line has room.
@@ -193,6 +199,18 @@ impl<'s, S: Sink> Output<'s, S> {
         self.put(digits.format(number).as_bytes());
     }
 
+    /// Puts a number that counts up.
+    #[inline(always)]
+    pub fn put_numeral(&mut self, numeral: &Numeral)
+        ensures { Puts S.Sink (decimal numeral.now) self.old self.new }
+    {
+        if self.used <= LINE_LENGTH - NUMERAL_LENGTH {
+            self.keep_front::<NUMERAL_LENGTH>(numeral.padded(), numeral.len());
+        } else {
+            self.put_behind(numeral.bytes());
+        }
+    }
+
     /// Passes on what waits, and answers the count of bytes.
     pub fn end(&mut self) -> Result<u128, SinkError>
         ensures puts { Puts S.Sink [] self.old self.new }
@@ -235,6 +253,19 @@ fn put_ends(line: &mut [u8; LINE_LENGTH], at: usize, piece: &[u8], count: usize)
     let back = piece.len() - count;
     line[at..at + count].copy_from_slice(&piece[..count]);
     line[at + back..at + back + count].copy_from_slice(&piece[back..]);
+}
+
+// Puts the first bytes of a text into a line. By way of an array, which can't overlap the line, the copy is a few moves.
+#[inline(always)]
+fn put_front<const N: usize>(line: &mut [u8; LINE_LENGTH], at: usize, text: &[u8])
+    requires some { N ≤ length text.now }
+    requires room { at + N ≤ 1024 }
+    ensures length { length line.old ≡ 1024 }
+    ensures front { take (at + N) line.new ≡ take at line.old ++ take N text.now }
+{
+    let mut bytes = [0u8; N];
+    bytes.copy_from_slice(&text[..N]);
+    line[at..at + N].copy_from_slice(&bytes);
 }
 
 // Writes the first bytes of a line.

@@ -1,10 +1,12 @@
 // Bytes that are put often.
 
-ghost use Rattle.std.specs.Prelude.{◌≡◌, ◌+◌, ◌++◌, ◌≤◌, IfOk, length, take};
+ghost use Rattle.std.specs.Prelude.{◌≡◌, ◌<◌, ◌≤◌, IfOk, length, take};
 
-use crate::output::LINE_LENGTH;
 use std::alloc::{AllocError, Global};
 use std::marker::Model;
+
+/// Up to so many bytes, as those of a word, are put by one copy of that length.
+pub(crate) const WORD_LENGTH: usize = 16;
 
 /// Up to so many bytes are put by one copy of that length.
 pub const SHORT_LENGTH: usize = 64;
@@ -18,13 +20,15 @@ pub struct Piece {
 }
 
 impl Model for Piece {
-    ghost use Rattle.std.specs.Prelude.{List, ℕ, ◌≤◌, length, take};
+    ghost use Rattle.std.specs.Prelude.{List, ℕ, ◌<◌, ◌≤◌, length, take};
 
     ghost Value = { List ℕ };
 
     ghost view = { λ p. take p.len p.padded.items };
 
-    ghost invariant = { λ p. (p.len ≤ length p.padded.items) × (64 ≤ length p.padded.items) };
+    ghost invariant = { λ p. (p.len ≤ length p.padded.items)
+        × (16 ≤ length p.padded.items)
+        × (16 < p.len → 64 ≤ length p.padded.items) };
 }
 
 impl Piece {
@@ -33,7 +37,11 @@ impl Piece {
         ensures { IfOk result (λ piece. piece ≡ bytes.now) }
     {
         let len = bytes.len();
-        let capacity = len.max(SHORT_LENGTH);
+        let capacity = if len <= WORD_LENGTH {
+            WORD_LENGTH
+        } else {
+            len.max(SHORT_LENGTH)
+        };
         let mut padded = Vec::with_capacity(alloc, capacity)?;
         padded.extend_from_slice(bytes)?;
         padded.resize(capacity, 0)?;
@@ -53,16 +61,13 @@ impl Piece {
         &self.padded[..self.len]
     }
 
-    // Puts a short piece into a line, and behind it bytes that mean nothing. By way of an array, which can't overlap the line,
-    // the copy is a few moves.
+    // The bytes, and behind them bytes that mean nothing.
     #[inline(always)]
-    pub(crate) fn put_short(&self, line: &mut [u8; LINE_LENGTH], at: usize)
-        requires short { length self.now ≤ 64 }
-        requires room { at + 64 ≤ 1024 }
-        ensures { take (at + length self.now) line.new ≡ take at line.old ++ self.now }
+    pub(crate) fn padded(&self) -> &[u8]
+        ensures word { 16 ≤ length result.now }
+        ensures short { 16 < length self.now → 64 ≤ length result.now }
+        ensures bytes { take (length self.now) result.now ≡ self.now }
     {
-        let mut bytes = [0u8; SHORT_LENGTH];
-        bytes.copy_from_slice(&self.padded[..SHORT_LENGTH]);
-        line[at..at + SHORT_LENGTH].copy_from_slice(&bytes);
+        &self.padded
     }
 }

@@ -2,7 +2,6 @@ pub mod Few
 pub mod Ones
 pub mod Counted
 pub mod Stops
-pub mod Called
 pub mod Parts
 pub mod Kept
 pub mod Cases

@@ -13,7 +13,7 @@ use Rattle.cs_manifest.specs.Manifest.{HasOneText, NegativeEntry, negative_entry
 use Rattle.cs_manifest.specs.Progress.{Progress}
 use Rattle.cs_manifest.proofs.OneManifest.{one_zip}
 use Rattle.cs_mutants.specs.Makers.{Making}
-use Rattle.cs_mutants.specs.Mutants.{IsOfNegative, texts_of}
+use Rattle.cs_mutants.specs.Mutants.{IsOfNegative, made_lines, texts_of}
 use Rattle.cs_mutate.specs.Edit.{Fits, edited}
 use Rattle.cs_mutate.specs.Negatives.{AreNegatives, Finds, FindsNext, FitsBase, IsNegative, IsNext, Search}
 use Rattle.cs_mutate.specs.declared.edit.Edit.{Edit}
@@ -30,6 +30,16 @@ use Rattle.cs_writing.proofs.Ones.{numbered_both, zip_both, zip_front, zip_lengt
 use Rattle.cs_writing.proofs.Parts.{HasNegatives, HasSomeNegatives}
 use Rattle.cs_writing.proofs.Stops.{stopped_by_memory, stopped_by_cut}
 use Rattle.cs_writing.proofs.Tallies.{counted_none, counted_then}
+
+-- what is told of a negative and its lines, by the list of the search, the file and the count of the manifest
+pub told_by : (mine making : Making) (file : File) (search : Search) (n : Negative) (told : NegativeEntry) (number many : ℕ) → mine ≡ making → file ≡ making.tools.file → search.base ≡ making.base → number ≡ many + 1
+    → IsOfNegative mine.tools.work mine.base n told
+    → IsOfNegative making.tools.work search.base n told × (made_lines mine number told ≡ negative_entry_lines file making.number search.base (many + 1) told)
+told_by mine making file search n told number many same file_is base_is at of = (
+  subst (λ (w : List ℕ). IsOfNegative making.tools.work w n told) (sym base_is) (subst (λ (m : Making). IsOfNegative m.tools.work m.base n told) same of),
+  ap (λ (m : Making). made_lines m number told) same ∙ ap (λ (f : File). negative_entry_lines f making.number making.base number told) (sym file_is)
+      ∙ ap (λ (w : List ℕ). negative_entry_lines file making.number w number told) (sym base_is) ∙ ap (λ (k : ℕ). negative_entry_lines file making.number search.base k told) at,
+)
 
 -- the partner of a negative
 abbrev Partner : RenderWork → List ℕ → Negative → NegativeEntry → Type 0

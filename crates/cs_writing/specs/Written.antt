@@ -122,14 +122,14 @@ pub record HasNumbers (number many : ℕ) (counts : Counts) : Type 0 where
   pub few : number + many ≤ greatest
 
 -- these entries, so many new cases and these lines were counted behind so many entries
-pub record CountsMore (many : ℕ) (entries : List GoalEntry) (new : ℕ) (lines : List ℕ) (next : ℕ) (before after : Progress) : Type 0 where
+pub record TellsMore (many : ℕ) (entries : List GoalEntry) (new : ℕ) (lines : List ℕ) (next : ℕ) (before after : Progress) : Type 0 where
   pub file : after.file ≡ before.file
   pub number : next ≡ many + length entries
   pub counted : AreCounted entries new lines before.counts after.counts
 
 -- a batch of entries was counted
 abbrev pub TellsBatch : ℕ → List GoalEntry → ℕ → Progress → Progress → Type 0
-TellsBatch number batch next old new = CountsMore number batch 0 (lines_from old.file (number + 1) batch) next old new
+TellsBatch number batch next old new = TellsMore number batch 0 (lines_from old.file (number + 1) batch) next old new
 
 -- how many of these entries have new cases
 abbrev pub new_cases : List SharedEntry → ℕ
@@ -138,7 +138,7 @@ new_cases list = count_by (λ s. is_new s.verdict) list
 -- the same in the second format
 abbrev pub TellsShared : ℕ → List SharedEntry → ℕ → Progress → Progress → Type 0
 TellsShared number batch next old new =
-    CountsMore number (entries_in batch) (new_cases batch) (shared_lines_from old.file (number + 1) batch) next old new
+    TellsMore number (entries_in batch) (new_cases batch) (shared_lines_from old.file (number + 1) batch) next old new
 
 -- it is counted as its goal is in the first format
 abbrev pub IsCountedAlike : SharedEntry → Type 0

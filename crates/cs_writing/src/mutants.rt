@@ -15,6 +15,7 @@ use cs_io::Sink;
 use cs_manifest::{Entry, Manifest, one_text};
 use cs_mutants::{MadeNegative, Maker, Tools};
 use cs_mutate::Negatives;
+use cs_output::Numeral;
 use cs_plan::Plan;
 use std::alloc::Global;
 
@@ -42,7 +43,7 @@ pub fn write_bases<S: Sink>(
     };
     let work = plan.texts.unwrap();
     let tools = Tools::new(alloc, plan.yacc, work)?;
-    let mut number = 0u64;
+    let mut number = Numeral::new(0);
     for index in 0..bases.len() {
         let (goal, tokens) = bases.get(index);
         let maker = Maker::new(alloc, &tools, index + 1, tokens)?;
@@ -57,13 +58,12 @@ pub fn write_bases<S: Sink>(
     Ok(())
 }
 
-// Writes the negatives that a search gives of a base. `number` is the number of the last negative,
-// before and then.
+// Writes the negatives that a search gives of a base. `number` is that of the last negative, before and then.
 fn write_negatives<S: Sink>(
     alloc: Global,
     base: &Maker<'_>,
     mut search: Negatives<'_>,
-    number: &mut u64,
+    number: &mut Numeral,
     manifest: &mut Manifest<'_>,
     sink: &mut S,
 ) -> Result<(), Halt>
@@ -90,8 +90,8 @@ fn write_negatives<S: Sink>(
             None => return Ok(()),
             Some(negative) => {
                 made.make(&negative)?;
-                *number += 1;
-                manifest.entry(sink, &made.entry(*number))?;
+                number.advance();
+                made.write(&*number, manifest, sink)?;
             }
         }
     }

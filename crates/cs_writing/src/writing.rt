@@ -25,7 +25,7 @@ use std::alloc::Global;
 use std::thread::Threads;
 
 // So many bytes go to the output in one piece.
-const PIECE: usize = 65_536;
+const PIECE: usize = 524_288;
 
 /// Writes the manifest of a plan to the output, each batch of entries as it is made, and answers
 /// the counts of its end line and the length of all lines. The positives are those of all goals of

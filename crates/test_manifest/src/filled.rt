@@ -11,6 +11,7 @@ use cs_manifest::{
     Entry, FilledNegative, Form, Head, Manifest, OpenEdit, OpenLines, OpenNegative, OpenPair,
     TokenPieces,
 };
+use cs_output::Numeral;
 use cs_sample_files::{Trouble, lexemes_of, read_files};
 use cs_samples::{SCANNER, SUMS};
 use cs_yacc::YaccFile;
@@ -117,8 +118,9 @@ fn is_filled(
     let Some(lexeme) = pieces.lexeme(token) else {
         return Ok(false);
     };
+    let number = Numeral::new(9);
     let entry = Entry::Filled(FilledNegative {
-        number: 9,
+        number: &number,
         lines,
         name: pieces.name(token),
         lexeme,

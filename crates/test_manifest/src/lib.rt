@@ -8,4 +8,6 @@ mod filled;
 #[cfg(test)]
 mod lines;
 #[cfg(test)]
+mod numerals;
+#[cfg(test)]
 mod shared;

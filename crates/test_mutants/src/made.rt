@@ -8,10 +8,11 @@ ghost use Rattle.cs_mutants.specs.Makers.{CanRender};
 use crate::compared::is_short_list;
 use crate::work::with_work;
 use cs_grammar::Mark;
-use cs_io::MemorySink;
+use cs_io::{MemorySink, NullSink};
 use cs_manifest::{Form, Head, Manifest};
 use cs_mutants::{MadeNegative, Maker, Tools};
 use cs_mutate::{Edit, Negative, edit_fits};
+use cs_output::Numeral;
 use cs_render_work::RenderWork;
 use cs_sample_files::Trouble;
 use cs_samples::{SCANNER, SUMS};
@@ -52,11 +53,10 @@ fn has_lines(
     requires file { made.now.making.tools.file ≡ yacc.now }
 {
     let form = Form::Rules;
+    let mut manifest = Manifest::begin(&mut NullSink::new(), &Head { yacc, form })?;
     let mut sink = MemorySink::new(alloc, 1_000, 7, Vec::new(alloc))?;
-    let mut manifest = Manifest::begin(&mut sink, &Head { yacc, form })?;
-    let head = sink.written().len();
-    manifest.entry(&mut sink, &made.entry(9))?;
-    Ok(&sink.written()[head..] == lines)
+    made.write(&Numeral::new(9), &mut manifest, &mut sink)?;
+    Ok(sink.written() == lines)
 }
 
 // Makes a row's negative; whether its lines are the row's.

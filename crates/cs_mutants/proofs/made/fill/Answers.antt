@@ -1,24 +1,30 @@
-use Rattle.std.proofs.Common.{◌≡◌, sym, subst}
+use Rattle.std.proofs.Common.{sym, subst}
 use Rattle.cs_manifest.specs.declared.open.OpenEdit.{OpenEdit}
 use Rattle.cs_manifest.specs.declared.open.OpenPair.{OpenPair}
-use Rattle.cs_mutate.specs.declared.negative.Negative.{Negative}
 use Rattle.cs_mutants.specs.Makers.{Making}
-use Rattle.cs_mutants.specs.Rows.{AreRows, IsFilled, IsRowOf}
+use Rattle.cs_mutants.specs.Rows.{AreRows, FillsRow, IsRowOf}
+use Rattle.cs_mutants.specs.declared.made.Filling.{Filling}
+use Rattle.cs_mutants.specs.declared.opened.Opened.{Opened}
+use Rattle.cs_mutants.specs.declared.rows.Rows.{Rows}
 use Rattle.cs_mutants.proofs.Filling.{filled_row, row_there}
 use Rattle.cs_mutants.proofs.made.fill.Goals as goal
 
-pub returns-then-branch-clause-form : goal.returns-then-branch-clause-form
-returns-then-branch-clause-form c = λ tokens middle.
-    let o = c.in-Some.field-0 in
-    let told = c.in-Some-told.told in
+pub returns-then-branch-clause-fills : goal.returns-then-branch-clause-fills
+returns-then-branch-clause-fills c =
+    let o : Opened = c.in-Some.opened in
+    let told = c.in-Some-told.token in
+    let rows : Rows = c.settle.new.self in
     let m = c.maker.inside in
     let making : Making = record { tools = m.tools.now; number = m.number; base = m.base.now } in
+    let filling : Filling = record { opened = o; token = told } in
     let has = c.in_ok-settle.ensures.has c.if-branch.true in
-    let rows : AreRows making c.settle.new.self = subst (λ (k : Making). AreRows k c.settle.new.self) (sym c.maker.view_is) c.in_ok-settle.ensures.rows in
-    let row = row_there making c.settle.new.self o.pair has.row rows has.there in
+    let are : AreRows making rows = subst (λ (k : Making). AreRows k rows) (sym c.maker.view_is) c.in_ok-settle.ensures.rows in
+    let row = row_there making rows o.pair has.row are has.there in
     let of : IsRowOf making o.edit o.pair has.row =
     subst (λ (e : OpenEdit). IsRowOf making e o.pair has.row) has.edit_is (subst (λ (p : OpenPair). IsRowOf making has.row.edit p has.row) has.pair_is row) in
-    let filled = filled_row making o.edit o.pair o.token has.row told (c.maker.invariant.all c.if-not-maker.false) c.in-Some-told.ensures of in
-    let here : IsFilled making c.args.negative.now has.row.lines told.name.now told.lexeme.now =
-    subst (λ (n : Negative). IsFilled making n has.row.lines told.name.now told.lexeme.now) (sym c.in-Some.ensures) filled in
-    (has.row, has.there, subst (λ (k : Making). IsFilled k c.args.negative.now has.row.lines told.name.now told.lexeme.now) c.maker.view_is here)
+    let fills : FillsRow making rows filling = record {
+      row = has.row;
+      there = has.there;
+      fills = filled_row making o.edit o.pair o.token has.row told (c.maker.invariant.all c.if-not-maker.false) c.in-Some-told.ensures of;
+    } in
+    subst (λ (k : Making). FillsRow k rows filling) c.maker.view_is fills

@@ -13,7 +13,7 @@ use Rattle.cs_render_work.specs.declared.work.RenderWork.{RenderWork}
 use Rattle.cs_writing.specs.declared.halt.Halt.TheVariants.{Failed, Memory}
 use Rattle.cs_writing.specs.Mutants.{IsEditable, negatives_in}
 use Rattle.cs_writing.proofs.Batch.{at_place}
-use Rattle.cs_writing.proofs.Called.{is_cut, is_written}
+use Rattle.cs_output.proofs.Called.{is_cut, is_written}
 use Rattle.cs_writing.proofs.Mutated.{base_cut, base_memory, base_stops, bases_all, bases_counted, bases_more, bases_none, bases_refused, without_bases}
 use Rattle.cs_writing.proofs.OneBase.{one_base_stops, one_base_written}
 use Rattle.cs_writing.proofs.Parts.{bases_text_stop}
@@ -57,7 +57,7 @@ many g c =
 pub loop-index-init : goal.loop-index-init
 loop-index-init g c = record {
   file = refl;
-  number = sym c.requires.fresh;
+  number = c.new-number.ensures ∙ sym c.requires.fresh;
   so_far = bases_none g.S.Sink c.args.plan.now c.args.bases.now.list c.args.manifest.now.counts c.args.sink.now;
 }
 

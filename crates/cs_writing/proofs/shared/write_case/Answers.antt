@@ -8,7 +8,7 @@ use Rattle.cs_manifest.specs.Entry.{lines_of}
 use Rattle.cs_manifest.specs.Manifest.{new_case_lines}
 use Rattle.cs_manifest.specs.Progress.{Progress}
 use Rattle.cs_manifest.specs.declared.counts.Counts.{Counts}
-use Rattle.cs_writing.proofs.Called.{is_cut, is_written}
+use Rattle.cs_output.proofs.Called.{is_cut, is_written}
 use Rattle.cs_writing.proofs.shared.write_case.Goals as goal
 
 pub returns-in-None-clause-counted : goal.returns-in-None-clause-counted

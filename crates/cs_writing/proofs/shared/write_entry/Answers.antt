@@ -9,7 +9,7 @@ use Rattle.cs_manifest.specs.SharedLines.{shared_goal_line}
 use Rattle.cs_manifest.specs.declared.counts.Counts.{Counts}
 use Rattle.cs_plan.specs.Made.{IsNamedSharedEntry}
 use Rattle.cs_yacc.specs.File.{File}
-use Rattle.cs_writing.proofs.Called.{is_cut, is_written}
+use Rattle.cs_output.proofs.Called.{is_cut, is_written}
 use Rattle.cs_writing.proofs.shared.write_entry.Goals as goal
 
 pub returns-in_err-write_case-clause-lines : goal.returns-in_err-write_case-clause-lines

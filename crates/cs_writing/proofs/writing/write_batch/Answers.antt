@@ -11,7 +11,7 @@ use Rattle.cs_manifest.specs.declared.counts.Counts.{Counts}
 use Rattle.cs_plan.specs.Made.{IsNamedGoalEntry}
 use Rattle.cs_yacc.specs.File.{File}
 use Rattle.cs_writing.specs.Written.{AreCounted, lines_from}
-use Rattle.cs_writing.proofs.Called.{is_cut, is_written}
+use Rattle.cs_output.proofs.Called.{is_cut, is_written}
 use Rattle.cs_writing.proofs.Batch.{at_place, cut_within, lines_are, written_more}
 use Rattle.cs_writing.proofs.Counting.{entry_counted}
 use Rattle.cs_writing.proofs.Counted.{goals_none}

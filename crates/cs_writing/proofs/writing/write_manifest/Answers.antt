@@ -12,7 +12,7 @@ use Rattle.cs_plan.specs.declared.plan.Plan.{Plan}
 use Rattle.cs_positive.specs.Positives.{ToJudge}
 use Rattle.cs_writing.specs.Writing.{CountsOfAll}
 use Rattle.cs_writing.specs.Written.{IsFresh}
-use Rattle.cs_writing.proofs.Called.{is_cut, is_written}
+use Rattle.cs_output.proofs.Called.{is_cut, is_written}
 use Rattle.cs_writing.proofs.Kept.{editable_bases, few_bases}
 use Rattle.cs_writing.proofs.Parts.{HasBases, HasEntries, has_bases, has_entries, some_bases, some_entries}
 use Rattle.cs_writing.proofs.Texts.{bases_stop, counts_are, end_cut, entries_stop, fresh_behind, head_by, head_counted, head_cut, head_written, no_cases_are, weighed_so, whole_text}

@@ -1,7 +1,6 @@
-use Rattle.std.proofs.Common.{◌≡◌, List, ℕ, length, sym, ap, ◌∙◌, subst, take, drop}
-use Rattle.cs_manifest.specs.Open.{place_of}
+use Rattle.std.proofs.Common.{◌≡◌, List, ℕ, sym, ap, ◌∙◌, subst}
 use Rattle.cs_mutants.specs.Makers.{Making, PlainTools}
-use Rattle.cs_mutants.specs.Rows.{IsRow, IsTextBehind, IsTextInFront, behind_place}
+use Rattle.cs_mutants.specs.Rows.{IsRow, IsTextBehind, IsTextInFront}
 use Rattle.cs_mutants.specs.declared.row.Row.{Row}
 use Rattle.cs_mutants.proofs.Filling.{row_made}
 use Rattle.cs_mutants.proofs.row.Row.new.Goals as goal
@@ -17,8 +16,8 @@ returns c =
     let sep = t.work.now.separator.now in
     let front = c.tokens_in_front-front.result in
     let back = c.tokens_behind-back.result in
-    let in_front = subst (λ (text : List ℕ). IsTextInFront lexemes sep front.now text) (sym c.deref.ensures.value) (c.in_ok-put_in_front.ensures c.if-not-branch.false) in
-    let behind = subst (λ (text : List ℕ). IsTextBehind lexemes sep back.now text) (sym c.deref-2.ensures.value) (c.in_ok-put_behind.ensures c.if-not-branch-2.false) in
+    let in_front = subst (λ (text : List ℕ). IsTextInFront lexemes sep front.now text) (sym c.deref.ensures.value) (c.in_ok-put_text.ensures c.if-not-branch.false) in
+    let behind = subst (λ (text : List ℕ). IsTextBehind lexemes sep back.now text) (sym c.deref-2.ensures.value) (c.in_ok-put_text-2.ensures c.if-not-branch-2.false) in
     let made : IsRow making row = row_made making row front back c.deref.result c.deref-2.result c.tokens_in_front-front.ensures c.tokens_behind-back.ensures in_front behind c.in_ok-lines.ensures in
     let same : making ≡ c.args.maker.now = ap (λ (k : PlainTools). record { tools = k; number = m.number; base = m.base.now }) c.tools.view_is ∙ c.maker.view_is in
     subst (λ (k : Making). IsRow k row) same made

@@ -1,4 +1,4 @@
-use Rattle.std.proofs.Common.{◌≡◌, ◌∷◌, ap, ◌∙◌, subst}
+use Rattle.std.proofs.Common.{◌∷◌, ap, ◌∙◌, subst}
 use Rattle.cs_bytes.specs.Names.{space}
 use Rattle.cs_output.specs.Names.{token_of}
 use Rattle.cs_manifest.specs.Open.{IsQuotedLexeme, TokenTable}

@@ -1,4 +1,4 @@
--- What a call of a manifest did to its sink, in one fact.
+-- What a call that writes lines did to its sink, in one fact.
 use Rattle.std.proofs.Common.{◌≡◌, ◌≤◌, List, ℕ, length, inl, inr}
 use Rattle.std.proofs.lemmas.Bool.{cases_lt}
 use Rattle.cs_io.specs.Faults.{Rose}
