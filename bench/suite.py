@@ -60,10 +60,16 @@ def copying(size):
     return after.ru_utime + after.ru_stime - before.ru_utime - before.ru_stime
 
 
+def least(runs):
+    """The run of the fewest processor seconds."""
+    return min(runs, key=lambda run: run.seconds)
+
+
 def many_bases(path, bounds):
     """Negatives of 1,000 bases over 150 tokens, beside copying the output."""
-    run = SuiteRun(path, many_sentences(150, 1000), scanner(150), ["--criteria=rule", "--bases=1000", "--format=1"])
-    copied = copying(run.written)
+    words = ["--criteria=rule", "--bases=1000", "--format=1"]
+    run = least(SuiteRun(path, many_sentences(150, 1000), scanner(150), words) for _ in range(5))
+    copied = min(copying(run.written) for _ in range(5))
     print(f"1,000 bases over 150 tokens: status {run.status}, {run.written} bytes out {run.said}; {run.megabytes:.3g} MB")
     bounds.row("  time, against copying the output", run.seconds / max(copied, 0.001), 3, "times")
 
@@ -73,7 +79,7 @@ def main():
     many_bases(path, bounds)
     for name, make, words, times, seconds, megabytes in ROWS:
         grammar, lex = make()
-        run = min((SuiteRun(path, grammar, lex, words) for _ in range(times)), key=lambda run: run.seconds)
+        run = least(SuiteRun(path, grammar, lex, words) for _ in range(times))
         print(f"{name}: status {run.status}, {run.written} bytes out {run.said}")
         for kind, figure, most, unit in (("time", run.seconds, seconds, "s"), ("memory", run.megabytes, megabytes, "MB")):
             if most is None:
