@@ -5,8 +5,8 @@ Each run takes a pair of files, of examples/ or small ones of its own, damages o
 exchanged, a piece of another file), and asks for `rules` or `suite`. It prints what shouldn't be: a status other than 0, 1 and 5, a
 line on the error output that docs/FORMATS.md doesn't have, output on a refusal, a good run without a last line, and more than a
 second of processor time. The files of such a run are kept in the system's temporary folder, below damaged/. It prints figures as it
-goes, and ends with status 1 where anything was wrong. A run depends on its number and the seed alone. Nothing here is part of the
-gate.
+goes, at the end how often something was wrong and the most processor time of a run beside their bounds, and ends with status 1 where
+one is passed. A run depends on its number and the seed alone. Nothing here is part of the gate.
 """
 
 import collections
@@ -20,7 +20,9 @@ import tempfile
 import time
 
 sys.dont_write_bytecode = True
-TOP = os.path.dirname(os.path.dirname(os.path.abspath(__file__)))
+
+from measure import TOP, Bounds
+
 sys.path.insert(0, os.path.join(TOP, "tools"))
 
 from refusals import SENTENCES
@@ -141,19 +143,20 @@ def keep(kept, number, files):
 
 
 def block(work):
-    """Some runs one after another: how many there were of each status, what was wrong, and the processor time."""
+    """Some runs one after another: how many there were of each status, what was wrong, and the processor time of all and the most."""
     seed, kept, numbers = work
-    statuses, wrong, seconds = collections.Counter(), [], 0
+    statuses, wrong, seconds, most = collections.Counter(), [], 0, 0
     for number in numbers:
         words, files = task(seed, number)
         status, *told, used = PLACE.run(words, files)
         statuses[status] += 1
         seconds += used
+        most = max(most, used)
         found = list(faults(status, *told, used))
         if found:
             keep(kept, number, files)
             wrong += [f"run {number}, {' '.join(words)}: {fault}" for fault in found]
-    return statuses, wrong, seconds
+    return statuses, wrong, seconds, most
 
 
 def begin(path, folder):
@@ -170,13 +173,14 @@ class Figures:
     """What came of the runs so far, printed now and then."""
 
     def __init__(self, number):
-        self.number, self.statuses, self.wrong, self.seconds = number, collections.Counter(), 0, 0
+        self.number, self.statuses, self.wrong, self.seconds, self.most = number, collections.Counter(), 0, 0, 0
         self.began = self.told = time.monotonic()
 
-    def add(self, statuses, wrong, seconds):
+    def add(self, statuses, wrong, seconds, most):
         self.statuses += statuses
         self.wrong += len(wrong)
         self.seconds += seconds
+        self.most = max(self.most, most)
         for line in wrong:
             print(line, flush=True)
         if time.monotonic() - self.told >= PERIOD:
@@ -187,7 +191,7 @@ class Figures:
         made, passed = sum(self.statuses.values()), time.monotonic() - self.began
         counts = ", ".join(f"{count} of status {status}" for status, count in sorted(self.statuses.items()))
         rate = f"{passed:.0f} s, {made / passed:.0f} runs a second, {1000 * self.seconds / max(made, 1):.1f} ms of processor time each"
-        print(f"{made} of {self.number} runs: {counts}; {self.wrong} wrong; {rate}", flush=True)
+        print(f"{made} of {self.number} runs: {counts}; {self.wrong} wrong, at most 0; {rate}", flush=True)
 
 
 def main():
@@ -202,7 +206,10 @@ def main():
         for answer in pool.imap_unordered(block, blocks):
             figures.add(*answer)
     figures.tell()
-    sys.exit(1 if figures.wrong else 0)
+    bounds = Bounds()
+    bounds.row("what was wrong", figures.wrong, 0, "times")
+    bounds.row("most processor time of a run", figures.most, SECONDS, "s")
+    bounds.end()
 
 
 if __name__ == "__main__":

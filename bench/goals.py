@@ -2,10 +2,10 @@
 """Times the verdicts of all goals on grammars at the limits: bench/goals.py.
 
 Each row is a grammar: the milliseconds for all its tables, and those for the tables and the verdicts of all context goals, or
-of all pair goals, with their derivations, beside their bounds; then the same for four sizes, which shows how time grows. It
-ends with status 1 where a bound is passed. No command judges these goals yet, so a program that does is made in a copy of
-this repository, proved and run there. The wide grammar is left out: it has billions of context goals. Nothing here is part of
-the gate.
+of all pair goals, with their derivations, beside their bounds; then the tables and the pair goals for four sizes, which shows how
+time grows: the bounds are those of the greatest. It ends with status 1 where a bound is passed. No command does this alone, so a
+program that does is made in a copy of this repository, proved and run there. The wide grammar is left out: it has billions of
+context goals. Nothing here is part of the gate.
 """
 
 import os
@@ -74,8 +74,9 @@ fn main(rt: HostRuntime) -> io::Result<()> {
 }
 """
 
-# the milliseconds that the tables and all pair goals with them may take
-BOUNDS = {"8,192 rules of up to 12 symbols": (800, 2000)}
+# the milliseconds that the tables, and all context goals or all pair goals with them, may take
+RANDOM = (800, 2000)
+BOUNDS = {"8,192 rules of up to 12 symbols": RANDOM}
 MEGABYTES = 40
 
 
@@ -104,14 +105,17 @@ def main():
         path = build(folder, TOP, program_text(MAIN), LIBRARIES)
         for name, make in ROWS[1:5]:
             made, context, pair, contexts, pairs, used = best(path, folder, make())
-            tables_most, pairs_most = BOUNDS.get(name, (1000, 3000))
-            print(f"{name}: {contexts} context goals and {pairs} pair goals are feasible; contexts {context:.1f} ms")
+            tables_most, goals_most = BOUNDS.get(name, (1000, 3000))
+            print(f"{name}: {contexts} context goals and {pairs} pair goals are feasible")
             bounds.row("  tables", made, tables_most, "ms")
-            bounds.row("  tables and pairs", made + pair, pairs_most, "ms")
+            bounds.row("  tables and contexts", made + context, goals_most, "ms")
+            bounds.row("  tables and pairs", made + pair, goals_most, "ms")
             bounds.row("  memory", used, MEGABYTES, "MB")
         for nonterminals in (128, 256, 512, 1024):
             made, _, pair, _, pairs, _ = measured(path, folder, random_rules(nonterminals, 8, 12, 1))
-            print(f"{nonterminals * 8} rules of up to 12 symbols: tables {made:.1f} ms, {pairs} feasible pairs {pair:.1f} ms")
+            print(f"{nonterminals * 8} rules of up to 12 symbols: {pairs} pair goals are feasible")
+            bounds.row("  tables", made, RANDOM[0], "ms")
+            bounds.row("  tables and pairs", made + pair, RANDOM[1], "ms")
     bounds.end()
 
 

@@ -1,8 +1,8 @@
 #!/usr/bin/env python3
 """Times `conform rules` on texts of 1 MiB that were made to be slow to read: bench/hostile.py [PROGRAM].
 
-Each row is a text, and the processor seconds of one run beside the bound. It ends with status 1 where one is passed.
-Nothing here is part of the gate.
+Each row is a text, with the status of one run beside the wanted one, and its processor seconds beside the bound. It ends with
+status 1 where the bound is passed or the status is another. Nothing here is part of the gate.
 """
 
 from measure import Bounds, Run, program
@@ -54,11 +54,24 @@ TEXTS = {
 }
 
 
+# the texts that are yacc files of the profile: each of the others is refused
+ACCEPTED = {
+    "escaped marks on one line, in a block",
+    "escaped double marks on one line",
+    "marks of both kinds by turns",
+    "marks with a backslash behind, in a block",
+    "one mark a line",
+    "nested braces that are closed",
+    "percent signs in rules",
+}
+
+
 def main():
     path, bounds = program(), Bounds()
     for name, text in TEXTS.items():
         run = Run(path, text)
-        bounds.row(f"{name} (status {run.status}, {run.said})", run.seconds, SECONDS, "s")
+        bounds.status(name, run, 0 if name in ACCEPTED else 1)
+        bounds.row("  time", run.seconds, SECONDS, "s")
     bounds.end()
 
 

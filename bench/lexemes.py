@@ -22,7 +22,6 @@ MAIN = """\
 #![tactic(auto)]
 
 ghost use Rattle.std.specs.Prelude.{◌≡◌, length};
-ghost use Rattle.cs_scan.specs.Compared.{HasKinds, HasLiterals};
 
 use cs_automaton::Automaton;
 use cs_io::{Desk, FolderDesk};
@@ -65,10 +64,7 @@ fn sums(lexemes: &Lexemes, tokens: u16) -> (u64, u64)
 }
 
 /// Makes the lexemes so many times, and says what is summed of them.
-fn make(rt: &HostRuntime, scanner: &Scanner<'_>, tokens: u16, times: usize) -> io::Result<()>
-    requires kinds { HasKinds scanner.now }
-    requires literals { HasLiterals scanner.now }
-{
+fn make(rt: &HostRuntime, scanner: &Scanner<'_>, tokens: u16, times: usize) -> io::Result<()> {
     let alloc = rt.alloc();
     for _ in 0..times {
         let lexemes = Lexemes::new(alloc, scanner, tokens)?;
@@ -224,9 +220,8 @@ def main():
         path = os.path.abspath(sys.argv[1]) if len(sys.argv) > 1 else build(folder, TOP, MAIN, LIBRARIES)
         for name, make, times, most in ROWS:
             seconds, used, used_made = measured(path, folder, make(), times)
-            print(f"{name}: {used:.3g} MB without the lexemes")
-            bounds.row("  lexemes", seconds, most, "s")
-            bounds.row("  memory", used_made, MEGABYTES, "MB")
+            bounds.row(f"{name}, lexemes", seconds, most, "s")
+            bounds.row(f"{name}, memory ({used:.3g} MB of it without the lexemes)", used_made, MEGABYTES, "MB")
     print(f"load average {os.getloadavg()[0]:.3g}")
     bounds.end()
 

@@ -47,7 +47,7 @@ class SuiteRun(Run):
 
 
 class Bounds:
-    """Prints each figure beside its bound, and remembers whether one was passed."""
+    """Prints each figure beside its bound and each status beside the wanted one, and remembers where one was passed or another."""
 
     def __init__(self):
         self.passed = []
@@ -57,6 +57,13 @@ class Bounds:
         if over:
             self.passed.append(name)
         print(f"{name}: {figure:.3g} {unit}, at most {most:g} {unit}{'  PASSED' if over else ''}", flush=True)
+
+    def status(self, name, run, wanted=0):
+        other = run.status != wanted
+        if other:
+            self.passed.append(name)
+        wrong = f", not {wanted}  PASSED" if other else ", as wanted"
+        print(f"{name}: status {run.status}{wrong}, {run.written} bytes out {run.said}".rstrip(), flush=True)
 
     def end(self):
         sys.exit(1 if self.passed else 0)

@@ -2,8 +2,9 @@
 """Fails one allocation of `conform` after another: bench/memory.py [PROGRAM].
 
 A preloaded library, which is built here by cc, lets the Nth allocation fail, for each N up to the number that a whole run makes. Each
-run has to end with status 5 and a prefix of the whole output, or with 0 and the whole output. It prints how many numbers were tried, and
-ends with status 1 where a run did otherwise. Nothing here is part of the gate.
+run has to end with status 5 and a prefix of the whole output, or with 0 and the whole output. Each row is a command, with how many
+numbers were tried and how many runs did otherwise, which is to be none; it ends with status 1 where one did. Nothing here is part of the
+gate.
 """
 
 import os
@@ -11,7 +12,7 @@ import subprocess
 import sys
 import tempfile
 
-from measure import TOP, program
+from measure import TOP, Bounds, program
 
 SHIM = r"""
 #define _GNU_SOURCE
@@ -103,7 +104,7 @@ def tried(path, library, words, counter):
 
 
 def main():
-    path, failed = program(), False
+    path, bounds = program(), Bounds()
     with tempfile.TemporaryDirectory() as folder:
         source, library = os.path.join(folder, "failing.c"), os.path.join(folder, "failing.so")
         with open(source, "w") as file:
@@ -112,9 +113,10 @@ def main():
         for words in COMMANDS:
             number, wanting, wrong = tried(path, library, words, os.path.join(folder, "count"))
             names = " ".join(os.path.basename(word) for word in words)
-            print(f"{names}: {number} numbers tried, {wanting} ended for want of memory, {len(wrong)} wrong", *wrong[:10], sep="\n  ", flush=True)
-            failed |= bool(wrong)
-    sys.exit(1 if failed else 0)
+            bounds.row(f"{names}: {number} numbers tried, {wanting} ended for want of memory, wrong", len(wrong), 0, "runs")
+            for line in wrong[:10]:
+                print(f"  {line}", flush=True)
+    bounds.end()
 
 
 main()

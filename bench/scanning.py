@@ -3,8 +3,8 @@
 
 Each row is two patterns: the processor seconds for their automaton, and the greatest memory while it is made, beside their
 bounds; then the processor seconds for the scan of a text of 1 MiB. It ends with status 1 where a bound is passed. No command
-makes automata yet, so a program that does is made in a copy of this repository, proved and run there. Nothing here is part of
-the gate.
+does this alone, so a program that does is made in a copy of this repository, proved and run there. Nothing here is part of the
+gate.
 """
 
 import os

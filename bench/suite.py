@@ -1,8 +1,8 @@
 #!/usr/bin/env python3
 """Times `conform suite`: bench/suite.py [PROGRAM].
 
-Each row is a pair of files, and the processor seconds and the greatest memory of one run beside their bounds. It ends with status
-1 where one is passed. Nothing here is part of the gate.
+Each row is a pair of files, with the status of one run, which has to be 0, and its processor seconds and greatest memory beside
+their bounds. It ends with status 1 where one is passed or the status is another. Nothing here is part of the gate.
 """
 
 import os
@@ -38,12 +38,12 @@ def long_sentence():
 
 # The files, the words, how many runs, the most seconds and the most memory.
 ROWS = [
-    ("the C expressions without mutants", expressions, ["--mutate=none", "--format=1"], 5, 0.02, None),
-    ("the C expressions, first format", expressions, ["--format=1"], 5, 0.05, None),
-    ("the C expressions", expressions, [], 5, 0.05, None),
+    ("the C expressions without mutants", expressions, ["--mutate=none", "--format=1"], 5, 0.02, 60),
+    ("the C expressions, first format", expressions, ["--format=1"], 5, 0.05, 60),
+    ("the C expressions", expressions, [], 5, 0.05, 60),
     ("all pairs of 8,192 rules, first format", pairs, ["--mutate=none", "--criteria=pair", "--format=1"], 2, 3, 60),
     ("all pairs of 8,192 rules", pairs, ["--mutate=none", "--criteria=pair"], 2, 4, 80),
-    ("8,192 rules and one sentence, all criteria, first format", long_sentence, ["--mutate=none", "--format=1"], 2, None, 60),
+    ("8,192 rules and one sentence, all criteria, first format", long_sentence, ["--mutate=none", "--format=1"], 2, 3, 60),
 ]
 
 
@@ -70,8 +70,9 @@ def many_bases(path, bounds):
     words = ["--criteria=rule", "--bases=1000", "--format=1"]
     run = least(SuiteRun(path, many_sentences(150, 1000), scanner(150), words) for _ in range(5))
     copied = min(copying(run.written) for _ in range(5))
-    print(f"1,000 bases over 150 tokens: status {run.status}, {run.written} bytes out {run.said}; {run.megabytes:.3g} MB")
+    bounds.status("1,000 bases over 150 tokens", run)
     bounds.row("  time, against copying the output", run.seconds / max(copied, 0.001), 3, "times")
+    bounds.row("  memory", run.megabytes, 60, "MB")
 
 
 def main():
@@ -80,12 +81,9 @@ def main():
     for name, make, words, times, seconds, megabytes in ROWS:
         grammar, lex = make()
         run = least(SuiteRun(path, grammar, lex, words) for _ in range(times))
-        print(f"{name}: status {run.status}, {run.written} bytes out {run.said}")
-        for kind, figure, most, unit in (("time", run.seconds, seconds, "s"), ("memory", run.megabytes, megabytes, "MB")):
-            if most is None:
-                print(f"  {kind}: {figure:.3g} {unit}")
-            else:
-                bounds.row(f"  {kind}", figure, most, unit)
+        bounds.status(name, run)
+        bounds.row("  time", run.seconds, seconds, "s")
+        bounds.row("  memory", run.megabytes, megabytes, "MB")
     bounds.end()
 
 

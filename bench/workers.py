@@ -1,10 +1,10 @@
 #!/usr/bin/env python3
 """Times the rendering of 10,000 lists of 1,000 tokens by 1, 2 and 4 workers: bench/workers.py.
 
-Each row is a number of workers: their wall time, and for four workers the part of the time of one that it is, beside its
-bound. The bound is for four free processors, so the load average stands beside it. It ends with status 1 where the bound is
-passed. No command takes a number of workers, so a program that does is made in a copy of this repository, proved and run there;
-where the first word names that program, as an earlier run built it, that one is timed. Nothing here is part of the gate.
+Each row is two or four workers: which part of the wall time of one theirs is, beside its bound, and in its words both times. The
+bounds are for four free processors, so the load average stands below. It ends with status 1 where one is passed. No command takes
+a number of workers, so a program that does is made in a copy of this repository, proved and run there; where the first word names
+that program, as an earlier run built it, that one is timed. Nothing here is part of the gate.
 """
 
 import os
@@ -21,7 +21,6 @@ MAIN = """\
 #![tactic(auto)]
 
 ghost use Rattle.std.specs.Prelude.{◌≡◌, ◌<◌, ◌≤◌, All, IfOk, IfSome, length, replicate};
-ghost use Rattle.cs_scan.specs.Compared.{HasKinds, HasLiterals};
 ghost use Rattle.cs_render_work.specs.Renders.{TakesTokens};
 
 use cs_automaton::Automaton;
@@ -59,8 +58,6 @@ fn numbers(alloc: Global) -> Result<Vec<u16>, AllocError>
 /// The same as a list that can be rendered.
 #[tactic(auto, using(crate::proofs::Takes::takes))]
 fn list(alloc: Global, work: &RenderWork<'_>) -> Result<Vec<u16>, AllocError>
-    requires kinds { HasKinds work.now.scanner.now }
-    requires literals { HasLiterals work.now.scanner.now }
     requires tokens { length work.now.lexemes.now ≡ 4 }
     ensures { IfOk result (λ list. TakesTokens work.now list.items) }
 {
@@ -69,8 +66,6 @@ fn list(alloc: Global, work: &RenderWork<'_>) -> Result<Vec<u16>, AllocError>
 
 /// 10,000 such lists.
 fn lists(alloc: Global, work: &RenderWork<'_>) -> Result<Vec<Vec<u16>>, AllocError>
-    requires kinds { HasKinds work.now.scanner.now }
-    requires literals { HasLiterals work.now.scanner.now }
     requires tokens { length work.now.lexemes.now ≡ 4 }
     ensures { IfOk result (λ lists. All (λ list. TakesTokens work.now list.items) lists.items) }
 {
@@ -129,8 +124,6 @@ fn timed<R: Threads + Sync>(
     work: &RenderWork<'_>,
     workers: u16,
 ) -> io::Result<()>
-    requires kinds { HasKinds work.now.scanner.now }
-    requires literals { HasLiterals work.now.scanner.now }
     requires tokens { length work.now.lexemes.now ≡ 4 }
     requires some { 0 < workers }
     requires few { workers ≤ 4 }
@@ -197,20 +190,19 @@ mod Takes
 use Rattle.std.proofs.Common.{◌≡◌, ◌<◌, ◌≤◌, List, ℕ, length, replicate, arith, sym, subst}
 use Rattle.std.proofs.lemmas.List.{length-replicate}
 use Rattle.std.proofs.lemmas.List.Elements.{All-replicate}
-use Rattle.cs_scan.specs.Compared.{HasKinds, HasLiterals}
 use Rattle.cs_render_work.specs.Renders.{TakesTokens}
 use Rattle.cs_render_work.specs.declared.work.RenderWork.{RenderWork}
 
-pub takes : (work : RenderWork) (tokens : List ℕ) (count : ℕ) → HasKinds work.scanner.now → HasLiterals work.scanner.now → length work.lexemes.now ≡ 4 → count ≤ 1000 → tokens ≡ replicate count 1 → TakesTokens work tokens
-takes work tokens count kinds literals four few ones =
+pub takes : (work : RenderWork) (tokens : List ℕ) (count : ℕ) → length work.lexemes.now ≡ 4 → count ≤ 1000 → tokens ≡ replicate count 1 → TakesTokens work tokens
+takes work tokens count four few ones =
     let each = All-replicate (λ token. (0 < token) × (token ≤ length work.lexemes.now)) count 1 (omega arith, omega (arith, four)) in
     let short : length (replicate count 1) ≤ 1000001 = omega (arith, few, length-replicate {A = ℕ} count 1) in
-    subst (λ t. TakesTokens work t) (sym ones) (record { kinds = kinds; literals = literals; tokens_of = each; few = short })
+    subst (λ t. TakesTokens work t) (sym ones) (record { tokens_of = each; few = short })
 """,
     "proofs/lists/Answers.antt": """\
 use Rattle.std.proofs.lemmas.List.Elements.{All-push}
 use Rattle.cs_render_work.specs.Renders.{TakesTokens}
-use Rattle.bench_goals.proofs.lists.Goals as goal
+use Rattle.bench_program.proofs.lists.Goals as goal
 
 pub loop-preserved : goal.loop-preserved
 loop-preserved c =
@@ -219,7 +211,7 @@ loop-preserved c =
     "proofs/lists/Invariants.antt": """\
 use Rattle.std.proofs.Common.{All}
 use Rattle.cs_render_work.specs.Renders.{TakesTokens}
-use Rattle.bench_goals.proofs.lists.Given as goal
+use Rattle.bench_program.proofs.lists.Given as goal
 
 abbrev pub invariant-loop : goal.invariant-loop
 invariant-loop l = All (λ list. TakesTokens l.work list.items) l.lists.items
@@ -232,8 +224,8 @@ TOKENS = 1_000
 BYTES = LISTS * (2 * TOKENS - 1)
 # the least of so many runs counts
 RUNS = 5
-# what the time of four workers may be of that of one
-PART = 0.4
+# how many workers, and what their time may be of that of one
+PARTS = [(2, 0.7), (4, 0.4)]
 
 
 def rendered(path, workers):
@@ -253,12 +245,9 @@ def main():
     with tempfile.TemporaryDirectory() as folder:
         path = os.path.abspath(sys.argv[1]) if len(sys.argv) > 1 else build(folder, TOP, MAIN, LIBRARIES, PROOFS)
         one = rendered(path, 1)
-        print(f"1 worker: {one:.3g} s")
-        two = rendered(path, 2)
-        print(f"2 workers: {two:.3g} s, {two / one:.3g} of the time of one")
-        four = rendered(path, 4)
-        print(f"4 workers: {four:.3g} s")
-        bounds.row("  of the time of one", four / one, PART, "parts")
+        for workers, most in PARTS:
+            several = rendered(path, workers)
+            bounds.row(f"{workers} workers, {several:.3g} s of {one:.3g} s", several / one, most, "parts")
     print(f"{os.cpu_count()} processors, load average {os.getloadavg()[0]:.3g}")
     bounds.end()
 
