@@ -223,7 +223,7 @@ negative 2 base 1 insert 0 'x' pair 'x' 'x' at 1
   text "x x"
 end goals 5 feasible 3 infeasible 2 large 0 negatives 2 cases 1
 """
-# Laid down with the command.
+# The line of "The generated files" in docs/FORMATS.md.
 SUMMARY = b"gen 1 yacc 1240 lex 378 goals 968 feasible 862 infeasible 106 large 0 negatives 1442 bytes 315463\n"
 EXAMPLES = os.path.join(TOP, "examples")
 G1 = [os.path.join(EXAMPLES, "g1.y"), os.path.join(EXAMPLES, "l1.l")]

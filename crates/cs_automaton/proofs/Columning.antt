@@ -11,7 +11,7 @@ use Rattle.cs_pattern_items.proofs.Picked.{has-contains, contains-has}
 use Rattle.cs_automaton.specs.Bits.{bit, Puts}
 use Rattle.cs_automaton.specs.Programs.{values}
 use Rattle.cs_automaton.specs.Sets.{AddsOnce}
-use Rattle.cs_automaton.specs.States.{IsRow, has_at, with_byte}
+use Rattle.cs_automaton.specs.States.{IsRow, class_has, with_byte}
 use Rattle.cs_automaton.proofs.BitLemmas.{puts_on}
 use Rattle.cs_automaton.proofs.Growing.{at_pushed, kept}
 use Rattle.cs_automaton.proofs.Lists.{none_of, in_one}
@@ -47,21 +47,21 @@ take_length zero xs le = refl
 take_length (suc n) [] le = absurd (omega (arith, le))
 take_length (suc n) (x ∷ xs) le = ap suc (take_length n xs (omega (arith, le)))
 
-with_more : (cs : List (List ℕ)) (n byte : ℕ) → n < length cs → with_byte 0 (take (n + 1) cs) byte ≡ with_byte 0 (take n cs) byte ++ (if has_at cs n byte then n ∷ [] else [])
+with_more : (cs : List (List ℕ)) (n byte : ℕ) → n < length cs → with_byte 0 (take (n + 1) cs) byte ≡ with_byte 0 (take n cs) byte ++ (if class_has cs n byte then n ∷ [] else [])
 with_more cs n byte lt =
     ap (λ t. with_byte 0 t byte) (take_more cs n [] lt) ∙ with_push 0 (take n cs) (get_or cs n []) byte n (omega (arith, take_length n cs (omega (arith, lt))))
 
 if_is : (b c : Bool) (n : ℕ) → b ≡ c → (if b then n ∷ [] else []) ≡ (if c then n ∷ [] else [])
 if_is b c n e = ap (λ t. if t then n ∷ [] else []) e
 
-pub mark_one : (old mid new : List ℕ) (cs : List (Bor (List ℕ))) (n byte : ℕ) (r : Bool) → n < length cs → r ≡ has_at (values cs) n byte → r ≡ true → Puts old mid (with_byte 0 (take n (values cs)) byte) → Puts mid new (n ∷ []) → Puts old new (with_byte 0 (take (n + 1) (values cs)) byte)
+pub mark_one : (old mid new : List ℕ) (cs : List (Bor (List ℕ))) (n byte : ℕ) (r : Bool) → n < length cs → r ≡ class_has (values cs) n byte → r ≡ true → Puts old mid (with_byte 0 (take n (values cs)) byte) → Puts mid new (n ∷ []) → Puts old new (with_byte 0 (take (n + 1) (values cs)) byte)
 mark_one old mid new cs n byte r lt is holds p q =
-    let more = with_more (values cs) n byte (omega (arith, lt, length-map cs (λ (b : Bor (List ℕ)). b.now))) ∙ ap (λ t. with_byte 0 (take n (values cs)) byte ++ t) (if_is (has_at (values cs) n byte) true n (sym is ∙ holds)) in
+    let more = with_more (values cs) n byte (omega (arith, lt, length-map cs (λ (b : Bor (List ℕ)). b.now))) ∙ ap (λ t. with_byte 0 (take n (values cs)) byte ++ t) (if_is (class_has (values cs) n byte) true n (sym is ∙ holds)) in
     subst (λ t. Puts old new t) (sym more) (puts_on old mid new (with_byte 0 (take n (values cs)) byte) (n ∷ []) p q)
 
-pub mark_none : (old mid : List ℕ) (cs : List (Bor (List ℕ))) (n byte : ℕ) (r : Bool) → n < length cs → r ≡ has_at (values cs) n byte → r ≡ false → Puts old mid (with_byte 0 (take n (values cs)) byte) → Puts old mid (with_byte 0 (take (n + 1) (values cs)) byte)
+pub mark_none : (old mid : List ℕ) (cs : List (Bor (List ℕ))) (n byte : ℕ) (r : Bool) → n < length cs → r ≡ class_has (values cs) n byte → r ≡ false → Puts old mid (with_byte 0 (take n (values cs)) byte) → Puts old mid (with_byte 0 (take (n + 1) (values cs)) byte)
 mark_none old mid cs n byte r lt is fails p =
-    let more = with_more (values cs) n byte (omega (arith, lt, length-map cs (λ (b : Bor (List ℕ)). b.now))) ∙ ap (λ t. with_byte 0 (take n (values cs)) byte ++ t) (if_is (has_at (values cs) n byte) false n (sym is ∙ fails)) in
+    let more = with_more (values cs) n byte (omega (arith, lt, length-map cs (λ (b : Bor (List ℕ)). b.now))) ∙ ap (λ t. with_byte 0 (take n (values cs)) byte ++ t) (if_is (class_has (values cs) n byte) false n (sym is ∙ fails)) in
     subst (λ t. Puts old mid t) (sym (more ∙ append-nil (with_byte 0 (take n (values cs)) byte))) p
 
 pub mark_all : (old mid : List ℕ) (cs : List (Bor (List ℕ))) (n byte : ℕ) → length cs ≤ n → Puts old mid (with_byte 0 (take n (values cs)) byte) → Puts old mid (with_byte 0 (values cs) byte)

@@ -198,9 +198,6 @@ module _ (rs : List (Re (List ℕ))) (full : AreFull rs) where
 
     -- ---- what a step answers
 
-    pub answer_none : (k byte : ℕ) → IsStep rs sets k byte None → (x : List ℕ) → StandsFor rs sets k x → IsBegunSpelled rs (x ++ byte ∷ []) → ⊥
-    answer_none k byte h x s b = let r = begun_reaches rs (x ++ byte ∷ []) (append_some rs x byte) b in h x s r.0 r.1 r.2
-
     -- a state's text begins a match
     pub state_begun : (j : ℕ) (x : List ℕ) → x ≢ [] → StandsFor rs sets j x → IsBegunSpelled rs x
     state_begun zero x ne s = absurd (ne s)
@@ -208,9 +205,6 @@ module _ (rs : List (Re (List ℕ))) (full : AreFull rs) where
         let state = built.states.each j s.0 s.1 in
         let r = s.3.reached state.number state.some in
         reaches_begun rs HasSome (λ c k. k) (full_all rs full) x r.place r.next r.reaches
-
-    pub answer_some : (k byte j : ℕ) → IsStep rs sets k byte (Some j) → (x : List ℕ) → StandsFor rs sets k x → IsBegunSpelled rs (x ++ byte ∷ []) × StandsFor rs sets j (x ++ byte ∷ [])
-    answer_some k byte j step x s = let next = step x s in (state_begun j (x ++ byte ∷ []) (append_some rs x byte) next, next)
 
     pub step_within : (k byte j : ℕ) → k < length sets → IsStep rs sets k byte (Some j) → j < length sets
     step_within k byte j lt step =

@@ -152,9 +152,6 @@ module _ (rs : List (Re (List ℕ))) where
 
   -- ---- the steps of a state
 
-  pub no_steps : (width : ℕ) (rows old : List (List ℕ)) (state : ℕ) (next : List ℕ) → IsReady rs width old state next → HasSteps rs width rows old old state next []
-  no_steps width rows old state next r = record { ready = r; grows = λ k ps e. e; steps_are = λ k byte row lt. absurd (omega (arith, lt)) }
-
   pub more_steps : (width : ℕ) (rows old mid new : List (List ℕ)) (state : ℕ) (next : List ℕ) (steps : List (Option ℕ)) (column : ℕ) (row : List ℕ) (to : Option ℕ) → HasSteps rs width rows old mid state next steps → column ≡ length steps → slice_get rows column ≡ Some row → Added rs width mid new → RowStep rs new state row to → HasSteps rs width rows old new state next (steps ++ to ∷ [])
   more_steps width rows old mid new state next steps column row to h e at a step =
       record { ready = ready_grown width mid new state next h.ready a; grows = λ k ps t. a.grows k ps (h.grows k ps t); steps_are = are }

@@ -5,7 +5,7 @@ use Rattle.std.proofs.lemmas.Bool.{false≢true, and_parts, and_from, or_cases, 
 use Rattle.std.proofs.lemmas.Option.{slice_get_within}
 use Rattle.cs_automaton.specs.Re.{Re, empty, letter, nothing, cat, alt, many}
 use Rattle.cs_automaton.specs.Bits.{bit}
-use Rattle.cs_automaton.specs.Exits.{final, nexts}
+use Rattle.cs_automaton.specs.Exits.{exit, final, nexts}
 use Rattle.cs_automaton.specs.Linear.{nullable, all_nullable, Starts, Stands}
 use Rattle.cs_automaton.specs.Meaning.{Has, classes, all_classes}
 use Rattle.cs_automaton.specs.Places.{Place, letters, with_places, any_of, whole, HasByte, all_letters}
@@ -234,29 +234,31 @@ module _ (rs : List (Re (List ℕ))) where
       let same = one_of_any 1 0 rs [] r.place f.place r.next f.mid (reaches_stands rs r.reaches) stands r.number in
       reached_rule rs (suc index) x r.place r.next r.reaches (ap (λ t. t.rule) same.0 ∙ w.of_rule) (subst (λ t. IsTrue (all_nullable t)) (sym same.1) (f.leaves.ends refl))
 
-  pub rule_ends : (x : List ℕ) (S : ℕ → Bool) (rule : ℕ) → x ≢ [] → IsReached rs x S → SpellsRule rs rule x → (index : ℕ) × (rule ≡ suc index) × (index < length rs) × EndsAt rs S false index
+  -- the index of a rule that ends
+  abbrev Ending : (ℕ → Bool) → Bool → ℕ → Type 0
+  Ending S entered rule = (index : ℕ) × (rule ≡ suc index) × (index < length rs) × EndsAt rs S entered index
+
+  ending : (S : ℕ → Bool) (entered : Bool) (x : List ℕ) (rule : ℕ) (m : SpellsRule rs rule x) → ((number from : ℕ) → number ≡ suc m.index → from ≡ all_letters (take m.index rs) → exit S (with_places number from m.pattern) entered ≡ true) → Ending S entered rule
+  ending S entered x rule m ends = (m.index, m.number, slice_get_within rs m.index m.pattern m.at, record { pattern = m.pattern; at = m.at; ends = ends })
+
+  -- where the rules that end are those that spell the text
+  first_spelled : (S : ℕ → Bool) (entered : Bool) (x : List ℕ) (answer : Option ℕ) → ((index : ℕ) → EndsAt rs S entered index → SpellsRule rs (suc index) x) → ((rule : ℕ) → SpellsRule rs rule x → Ending S entered rule) → IsLowest rs S entered (length rs) answer → IsFirstSpelled rs x answer
+  first_spelled S entered x None spells ends low = λ rule m. let e = ends rule m in low e.0 e.2 e.3
+  first_spelled S entered x (Some rule) spells ends low =
+      (subst (λ n. SpellsRule rs n x) (sym low.1) (spells low.0 low.3), λ other m. let e = ends other m in least e.0 (omega (arith, e.1)) e.3)
+    where
+      least : (index : ℕ) {other : ℕ} → other ≡ suc index → EndsAt rs S entered index → rule ≤ other
+      least index {other} e h = elim (cases_lt index low.0) [ inl lt ↦ absurd (low.4 index lt h) | inr le ↦ omega (arith, e, le, low.1) ]
+
+  rule_ends : (x : List ℕ) (S : ℕ → Bool) (rule : ℕ) → x ≢ [] → IsReached rs x S → SpellsRule rs rule x → Ending S false rule
   rule_ends x S rule ne is m =
       let r = rule_matches rs rule x ne m in
       let stands = reaches_stands rs r.2 in
-      let marked = is.all r.0.number (record { place = r.0; next = r.1; reaches = r.2; number = refl }) in (
-        m.index,
-        m.number,
-        slice_get_within rs m.index m.pattern m.at,
-        record {
-          pattern = m.pattern;
-          at = m.at;
-          ends = λ number from n b.
-              (ends_final S (with_places number from m.pattern) [] r.0 r.1 (at_stands 1 0 rs m.index number from m.pattern r.0 r.1 m.at (omega (arith, n)) (omega (arith, b)) (omega (arith, r.3, m.number, n)) stands) marked r.4).0;
-        },
-      )
+      let marked = is.all r.0.number (record { place = r.0; next = r.1; reaches = r.2; number = refl }) in
+      ending S false x rule m (λ number from n b. (ends_final S (with_places number from m.pattern) [] r.0 r.1 (at_stands 1 0 rs m.index number from m.pattern r.0 r.1 m.at (omega (arith, n)) (omega (arith, b)) (omega (arith, r.3, m.number, n)) stands) marked r.4).0)
 
   pub lowest_first : (x : List ℕ) (S : ℕ → Bool) (answer : Option ℕ) → x ≢ [] → IsReached rs x S → IsLowest rs S false (length rs) answer → IsFirstSpelled rs x answer
-  lowest_first x S None ne is low = λ rule m. let e = rule_ends x S rule ne is m in low e.0 e.2 e.3
-  lowest_first x S (Some rule) ne is low =
-      (subst (λ n. SpellsRule rs n x) (sym low.1) (ends_rule x S low.0 ne is low.3), λ other m. let e = rule_ends x S other ne is m in least e.0 (omega (arith, e.1)) e.3)
-    where
-      least : (index : ℕ) {other : ℕ} → other ≡ suc index → EndsAt rs S false index → rule ≤ other
-      least index {other} e h = elim (cases_lt index low.0) [ inl lt ↦ absurd (low.4 index lt h) | inr le ↦ omega (arith, e, le, low.1) ]
+  lowest_first x S answer ne is = first_spelled S false x answer (λ index e. ends_rule x S index ne is e) (λ rule m. rule_ends x S rule ne is m)
 
   -- at the start
 
@@ -272,22 +274,8 @@ module _ (rs : List (Re (List ℕ))) where
       in
       record { index = index; pattern = e.pattern; number = refl; at = e.at; spelled = nullable_spells Has e.pattern (sym (numbered_nullable (suc index) base e.pattern) ∙ null) }
 
-  start_rule : (S : ℕ → Bool) (m_rule : ℕ) → SpellsRule rs m_rule [] → (index : ℕ) × (m_rule ≡ suc index) × (index < length rs) × EndsAt rs S true index
-  start_rule S rule m = (
-    m.index,
-    m.number,
-    slice_get_within rs m.index m.pattern m.at,
-    record {
-      pattern = m.pattern;
-      at = m.at;
-      ends = λ number from n b. ap (λ t. t || final S (with_places number from m.pattern)) (numbered_nullable number from m.pattern ∙ spells_nullable Has m.pattern [] refl m.spelled);
-    },
-  )
+  start_rule : (S : ℕ → Bool) (rule : ℕ) → SpellsRule rs rule [] → Ending S true rule
+  start_rule S rule m = ending S true [] rule m (λ number from n b. ap (λ t. t || final S (with_places number from m.pattern)) (numbered_nullable number from m.pattern ∙ spells_nullable Has m.pattern [] refl m.spelled))
 
   pub start_first : (S : ℕ → Bool) (answer : Option ℕ) → ((n : ℕ) → S n ≡ false) → IsLowest rs S true (length rs) answer → IsFirstSpelled rs [] answer
-  start_first S None none low = λ rule m. let e = start_rule S rule m in low e.0 e.2 e.3
-  start_first S (Some rule) none low =
-      (subst (λ n. SpellsRule rs n []) (sym low.1) (start_ends S low.0 none low.3), λ other m. let e = start_rule S other m in least e.0 (omega (arith, e.1)) e.3)
-    where
-      least : (index : ℕ) {other : ℕ} → other ≡ suc index → EndsAt rs S true index → rule ≤ other
-      least index {other} e h = elim (cases_lt index low.0) [ inl lt ↦ absurd (low.4 index lt h) | inr le ↦ omega (arith, e, le, low.1) ]
+  start_first S answer none = first_spelled S true [] answer (λ index e. start_ends S index none e) (λ rule m. start_rule S rule m)

@@ -39,8 +39,8 @@ pub record IsRow (classes : List (List ℕ)) (byte : ℕ) (row : List ℕ) : Typ
   pub all : (n : ℕ) → HasClass classes byte n → bit row n ≡ true
 
 -- the class with the number has the byte, as a test
-abbrev pub has_at : List (List ℕ) → ℕ → ℕ → Bool
-has_at classes n byte = has (slice_index_or classes n []) byte
+abbrev pub class_has : List (List ℕ) → ℕ → ℕ → Bool
+class_has classes n byte = has (slice_index_or classes n []) byte
 
 -- the numbers of the classes that have the byte, the first class numbered as told
 abbrev pub with_byte : ℕ → List (List ℕ) → ℕ → List ℕ

@@ -6,7 +6,7 @@ ghost use Rattle.cs_automaton.specs.Bits.{bit, Puts};
 use std::alloc::{AllocError, Global};
 
 /// Whether the number is in the set.
-pub fn has(words: &[u64], n: usize) -> bool
+pub(crate) fn has(words: &[u64], n: usize) -> bool
     ensures { result ≡ bit words.now n }
 {
     let word = if n / 64 < words.len() {
@@ -18,7 +18,7 @@ pub fn has(words: &[u64], n: usize) -> bool
 }
 
 /// Puts the number into the set, if it has room for it.
-pub fn put(words: &mut [u64], n: usize)
+pub(crate) fn put(words: &mut [u64], n: usize)
     ensures { Puts words.old words.new (n ∷ []) }
 {
     if n / 64 < words.len() {
@@ -27,7 +27,7 @@ pub fn put(words: &mut [u64], n: usize)
 }
 
 /// What both sets have.
-pub fn common(alloc: Global, left: &[u64], right: &[u64]) -> Result<Vec<u64>, AllocError>
+pub(crate) fn common(alloc: Global, left: &[u64], right: &[u64]) -> Result<Vec<u64>, AllocError>
     requires { length left.now ≡ length right.now }
     ensures long { IfOk result (λ v. length v.items ≡ length left.now) }
     ensures words { IfOk result (λ v. (k : ℕ) → slice_index v.items k < 2 ^ 64) }
@@ -42,7 +42,7 @@ pub fn common(alloc: Global, left: &[u64], right: &[u64]) -> Result<Vec<u64>, Al
 }
 
 /// Whether no number is in the set.
-pub fn is_empty(words: &[u64]) -> bool
+pub(crate) fn is_empty(words: &[u64]) -> bool
     ensures empty { result ≡ true → (m : ℕ) → bit words.now m ≡ false }
     ensures other { result ≡ false
         → (m : ℕ) × (m < 64 * length words.now) × (bit words.now m ≡ true) }

@@ -4,7 +4,7 @@ ghost use Rattle.std.specs.Prelude.{◌≡◌, ℕ, ◌*◌, ◌<◌, ◌≤◌,
 ghost use Rattle.cs_automaton.specs.Bits.{Puts};
 ghost use Rattle.cs_automaton.specs.Built.{AreColumnsOf};
 ghost use Rattle.cs_automaton.specs.Programs.{values};
-ghost use Rattle.cs_automaton.specs.States.{IsRow, with_byte, has_at};
+ghost use Rattle.cs_automaton.specs.States.{IsRow, with_byte, class_has};
 
 use crate::bits::put;
 use crate::sets::add;
@@ -14,15 +14,15 @@ use std::alloc::{AllocError, Global};
 
 /// For each column the classes that have its bytes, and the column of each byte.
 #[derive(Drop)]
-pub struct Columns {
-    pub rows: IndexSet<Vec<u64>>,
-    pub column_of: Vec<usize>,
+pub(crate) struct Columns {
+    pub(crate) rows: IndexSet<Vec<u64>>,
+    pub(crate) column_of: Vec<usize>,
 }
 
 /// Whether the class has the byte.
 fn class_has(classes: &[&ByteSet], n: usize, byte: u8) -> bool
     requires { n < length classes.now }
-    ensures { result ≡ has_at (values classes.now) n byte }
+    ensures { result ≡ class_has (values classes.now) n byte }
 {
     classes[n].contains(byte)
 }
@@ -55,7 +55,7 @@ fn row_of(
 }
 
 /// The columns of all bytes.
-pub fn make_columns(
+pub(crate) fn make_columns(
     alloc: Global,
     classes: &[&ByteSet],
     width: usize,

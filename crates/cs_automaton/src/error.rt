@@ -6,7 +6,7 @@ use std::alloc::{AllocError, AllocFailed};
 pub type State = u16;
 
 /// The most different sets of positions, without the start's.
-pub const MOST_SETS: u32 = 16_384;
+pub(crate) const MOST_SETS: u32 = 16_384;
 
 /// Why there is no automaton.
 #[derive(Debug, Drop)]

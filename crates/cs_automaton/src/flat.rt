@@ -129,7 +129,7 @@ fn lay_out<'p>(
 }
 
 /// Appends the steps of the pattern and its classes, whose numbers go on from those that are there.
-pub fn push_ops<'p>(
+pub(crate) fn push_ops<'p>(
     alloc: Global,
     pattern: &'p Pattern,
     ops: &mut Vec<Op>,

@@ -14,7 +14,6 @@ mod bits;
 mod columns;
 mod error;
 mod flat;
-mod number;
 mod op;
 mod program;
 mod running;

@@ -2,7 +2,7 @@
 
 /// A step through a pattern, from left to right.
 #[derive(Clone, Copy, Debug, PartialEq, Eq)]
-pub enum Op {
+pub(crate) enum Op {
     /// The class with this number.
     Place(u16),
     /// An either begins.
@@ -19,7 +19,7 @@ pub enum Op {
 
 /// What an open either or many remembers.
 #[derive(Clone, Copy, Debug, PartialEq, Eq)]
-pub struct Frame {
-    pub entered: bool,
-    pub left: bool,
+pub(crate) struct Frame {
+    pub(crate) entered: bool,
+    pub(crate) left: bool,
 }

@@ -14,11 +14,11 @@ use std::alloc::{AllocError, Global};
 
 /// The steps of a pattern, and the numbers of its classes.
 #[derive(Drop)]
-pub struct Rule {
-    pub ops: Vec<Op>,
-    pub from: usize,
-    pub to: usize,
-    pub has_loop: bool,
+pub(crate) struct Rule {
+    pub(crate) ops: Vec<Op>,
+    pub(crate) from: usize,
+    pub(crate) to: usize,
+    pub(crate) has_loop: bool,
 }
 
 fn any_loop(ops: &[Op]) -> bool
@@ -59,14 +59,17 @@ fn rule_of<'p>(
 
 /// Patterns with the steps of each and the classes of all, in order.
 #[derive(Drop)]
-pub struct Program<'p> {
-    pub patterns: &'p [Pattern],
-    pub rules: Vec<Rule>,
-    pub classes: Vec<&'p ByteSet>,
+pub(crate) struct Program<'p> {
+    pub(crate) patterns: &'p [Pattern],
+    pub(crate) rules: Vec<Rule>,
+    pub(crate) classes: Vec<&'p ByteSet>,
 }
 
 /// The program of the patterns.
-pub fn make_program<'p>(alloc: Global, patterns: &'p [Pattern]) -> Result<Program<'p>, AllocError>
+pub(crate) fn make_program<'p>(
+    alloc: Global,
+    patterns: &'p [Pattern],
+) -> Result<Program<'p>, AllocError>
     requires { all_letters (res_of patterns.now) ≤ 16384 }
     ensures patterns { IfOk result (λ p. p.patterns.now ≡ patterns.now) }
     ensures rules { IfOk result (λ p. AreRules p.rules.items 0 (map regex patterns.now)) }

@@ -203,7 +203,7 @@ fn ends_of(alloc: Global, rule: &Rule, set: &[u64]) -> Result<Vec<bool>, AllocEr
 }
 
 /// Puts the places that may come next in the rule, and answers whether a word of it may end.
-pub fn walk(
+pub(crate) fn walk(
     alloc: Global,
     rule: &Rule,
     entered: bool,

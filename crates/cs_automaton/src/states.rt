@@ -11,19 +11,19 @@ ghost use Rattle.cs_automaton.specs.States as spec;
 
 use crate::bits::{common, is_empty};
 use crate::error::{AutomatonError, MOST_SETS, State};
-use crate::number::number_of;
 use crate::program::Program;
 use crate::running::walk;
 use crate::sets::add;
+use cs_numbers::number_of;
 use indexmap::IndexSet;
 use std::alloc::{AllocError, Global};
 
 /// The sets of all states, the steps of each by column, and the first rule of each.
 #[derive(Drop)]
-pub struct States {
-    pub sets: IndexSet<Vec<u64>>,
-    pub steps: Vec<Vec<Option<State>>>,
-    pub first_rules: Vec<Option<u16>>,
+pub(crate) struct States {
+    pub(crate) sets: IndexSet<Vec<u64>>,
+    pub(crate) steps: Vec<Vec<Option<State>>>,
+    pub(crate) first_rules: Vec<Option<u16>>,
 }
 
 /// What may come behind a set, and the first rule that ends there.
@@ -143,7 +143,7 @@ fn set_at(sets: &IndexSet<Vec<u64>>, state: usize) -> &[u64]
 }
 
 /// All states and their steps, or more states than the limit.
-pub fn make_states(
+pub(crate) fn make_states(
     alloc: Global,
     program: &Program<'_>,
     rows: &[Vec<u64>],

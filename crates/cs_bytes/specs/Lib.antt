@@ -2,3 +2,4 @@ pub mod Names
 pub mod Classes
 pub mod Places
 pub mod Digits
+pub mod Limits

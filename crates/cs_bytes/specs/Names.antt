@@ -1,11 +1,23 @@
 -- The names of bytes (ASCII).
 use Rattle.std.specs.Prelude.{ℕ}
 
+abbrev pub alert : ℕ
+alert = 7
+
+abbrev pub backspace : ℕ
+backspace = 8
+
 abbrev pub tab : ℕ
 tab = 9
 
 abbrev pub newline : ℕ
 newline = 10
+
+abbrev pub vertical_tab : ℕ
+vertical_tab = 11
+
+abbrev pub form_feed : ℕ
+form_feed = 12
 
 abbrev pub carriage_return : ℕ
 carriage_return = 13
@@ -82,6 +94,27 @@ caret = 94
 
 abbrev pub underscore : ℕ
 underscore = 95
+
+abbrev pub letter_a : ℕ
+letter_a = 97
+
+abbrev pub letter_b : ℕ
+letter_b = 98
+
+abbrev pub letter_f : ℕ
+letter_f = 102
+
+abbrev pub letter_n : ℕ
+letter_n = 110
+
+abbrev pub letter_r : ℕ
+letter_r = 114
+
+abbrev pub letter_t : ℕ
+letter_t = 116
+
+abbrev pub letter_v : ℕ
+letter_v = 118
 
 abbrev pub letter_x : ℕ
 letter_x = 120

@@ -2,8 +2,11 @@
 
 ghost use Rattle.std.specs.Prelude.{◌≡◌, ◌↔◌, ℕ, Bool, List, [], ◌∷◌, codes};
 ghost use Rattle.std.specs.List.{prefix_len};
+ghost use Rattle.cs_bytes.specs.Limits.{most_bytes};
 ghost use Rattle.cs_bytes.specs.Names as names;
 ghost use Rattle.cs_bytes.specs.Places.{IsRun};
+
+use crate::MOST_BYTES;
 
 /// A text has one longest run of bytes that pass, and `prefix_len` is its size.
 pub fn one_run()
@@ -28,6 +31,13 @@ pub fn byte_names()
     ensures signs { codes "<=>"
         ≡ names.less_sign ∷ names.equals_sign ∷ names.greater_sign ∷ [] }
     ensures marks { codes "?^+" ≡ names.question_mark ∷ names.caret ∷ names.plus_sign ∷ [] }
-    ensures letters { codes " x" ≡ names.space ∷ names.letter_x ∷ [] }
-    ensures others { codes "$;" ≡ names.dollar ∷ names.semicolon_sign ∷ [] }
+    ensures escapes { codes "abf" ≡ names.letter_a ∷ names.letter_b ∷ names.letter_f ∷ [] }
+    ensures more_escapes { codes "nrt" ≡ names.letter_n ∷ names.letter_r ∷ names.letter_t ∷ [] }
+    ensures last_escapes { codes "vx" ≡ names.letter_v ∷ names.letter_x ∷ [] }
+    ensures others { codes " $;" ≡ names.space ∷ names.dollar ∷ names.semicolon_sign ∷ [] }
+{}
+
+/// The limit of the definitions is the code's.
+pub fn byte_limit()
+    ensures { MOST_BYTES ≡ most_bytes }
 {}

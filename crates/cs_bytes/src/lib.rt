@@ -4,7 +4,8 @@
 //! No call takes memory, and each looks at a byte once. The layers above find their constructs by these calls alone.
 //!
 //! All files of `specs/` are meaning: `Names` (the names of bytes), `Classes` (which bytes are of a class), `Places` (what
-//! stands at a place, a longest run, a line) and `Digits` (the number that digits spell).
+//! stands at a place, a longest run, a line), `Digits` (the number that digits spell) and `Limits` (how large a text may
+//! be).
 #![tactic(auto)]
 
 mod class;
@@ -15,6 +16,9 @@ mod run;
 
 pub use class::ByteClass;
 pub use digits::{digit_of, number};
-pub use laws::{byte_names, one_run};
+pub use laws::{byte_limit, byte_names, one_run};
 pub use place::{begins, find_pair, from_offset, has_at, has_pair, same_bytes, to_offset};
 pub use run::{line_len, line_size, run_end, run_len};
+
+/// The most bytes of a text: of a yacc file, of a lex file, and of a pattern with all its definitions.
+pub const MOST_BYTES: usize = 1_048_576;

@@ -1,7 +1,6 @@
 -- The lowest of a kind in a list of codes, and what is known of goals when one more code stands last.
-use Rattle.std.proofs.Common.{◌≡◌, ℕ, zero, suc, ◌+◌, ◌-◌, ◌<◌, ◌⊎◌, inl, inr, ⊎_elim, Bool, true, false, List, [], ◌∷◌, ◌++◌, length, take, refl, sym, ap, ◌∙◌, subst, arith}
+use Rattle.std.proofs.Common.{◌≡◌, ℕ, zero, suc, ◌+◌, ◌-◌, ◌<◌, ◌⊎◌, inl, inr, ⊎_elim, Bool, true, false, List, [], ◌∷◌, ◌++◌, length, refl, sym, ap, ◌∙◌, subst, arith}
 use Rattle.std.specs.Prelude.{Some, slice_get, Contains, IsTrue, ◌↔◌, if◌then◌else◌}
-use Rattle.std.proofs.Math.Seq.{take-append_seam}
 use Rattle.std.proofs.lemmas.Bool.{cases_lt, false≢true}
 use Rattle.std.proofs.lemmas.List.{length-append}
 use Rattle.std.proofs.lemmas.List.Elements.{Contains-append_left}
@@ -11,9 +10,9 @@ use Rattle.cs_goals.specs.declared.goal.Goal.{Goal}
 use Rattle.cs_goals.specs.Goals.{HasExactly}
 use Rattle.cs_goals.specs.Meets.{IsMeeting}
 use Rattle.cs_cases.specs.declared.cases.Named.{Named}
-use Rattle.cs_cases.specs.Cases.{PlainCases, IsLowest, IsNew, IsCaseOf, HasMeeting, with_case}
+use Rattle.cs_cases.specs.Cases.{PlainCases, IsLowest, IsNew, IsCaseOf, with_case}
 use Rattle.cs_cases.specs.Laws.{IsOnePlacing}
-use Rattle.cs_cases.specs.Table.{Tells, AreAllAdded, IsGrown, IsOwn}
+use Rattle.cs_cases.specs.Table.{Tells, AreAllAdded, IsOwn}
 
 -- ---- a list with one more at its end
 
@@ -73,12 +72,6 @@ module _ (IsOne : List ℕ → Type 0) (codes : List (List ℕ)) where
 
 -- ---- what is known of goals
 
-pub tells_none : (g : PlainGrammar) → Tells g [] []
-tells_none g = record {
-  lowest = λ goal n h. (let lt = h.1 in absurd (omega (arith, lt)));
-  every = λ k code goal at meets. absurd cc;
-}
-
 pub tells_more : (g : PlainGrammar) (codes : List (List ℕ)) (firsts after : List (Goal × ℕ)) (code : List ℕ) (goals : List Goal) (n : ℕ) → n ≡ length codes + 1
     → Tells g codes firsts → HasExactly goals (λ goal. IsMeeting g goal code) → AreAllAdded firsts goals n after → Tells g (codes ++ code ∷ []) after
 tells_more g codes firsts after code goals n last tells met added = record {
@@ -97,9 +90,6 @@ tells_more g codes firsts after code goals n last tells met added = record {
       (get_cases codes code other k at);
 }
 
-pub grown_back : (old new : List (Goal × ℕ)) (n : ℕ) → n ≡ length old → IsGrown old new → take n new ≡ old
-grown_back old new n long grown = ap (λ k. take k new) long ∙ ap (take (length old)) grown.1 ∙ take-append_seam old grown.0
-
 -- ---- a code's own case
 
 pub known_own : (old : PlainCases) (code : List ℕ) (n : ℕ) → IsCaseOf old code n → IsOwn old code old (n, false)
@@ -116,16 +106,6 @@ new_own old new code n is_new made last = record {
   number = subst (λ (c : PlainCases). IsCaseOf c code n) (sym made)
       (lowest_last (λ other. other ≡ code) old.codes code n last refl (λ k other at same. is_new (Contains-get old.codes k code (at ∙ ap Some same))));
 }
-
--- the tree of some case meets the goal that is placed with its code
-pub own_meets : (old new : PlainCases) (goal : Goal) (code : List ℕ) (own : ℕ × Bool) → IsOwn old code new own → IsMeeting old.grammar goal code → HasMeeting new goal
-own_meets old new goal code own h m =
-    let grammar : new.grammar ≡ old.grammar = ap (λ (c : PlainCases). c.grammar) h.cases ∙ of_cases own.1 in
-    (own.0 - 1, code, h.number.at ∙ ap Some h.number.is_one, subst (λ (g : PlainGrammar). IsMeeting g goal code) (sym grammar) m)
-  where
-    of_cases : (b : Bool) → (if b then with_case old code else old).grammar ≡ old.grammar
-    of_cases true = refl
-    of_cases false = refl
 
 -- ---- one answer
 

@@ -5,8 +5,8 @@
 //! does nothing.
 //!
 //! Of the files in `specs/` these say what is meant: `Cases` (what cases are, and what is told when a derivation is placed) and
-//! `Laws`. `Met` has the list of goals that a tree meets, `Firsts` and `Table` what is known of goals that were met: working
-//! words of proofs.
+//! `Laws`. `Met` has the list of goals that a tree meets, `Firsts` and `Table` what is known of goals that were met, `KeyHash` what
+//! a goal gives a hasher: working words of proofs.
 #![tactic(auto)]
 
 mod cases;

@@ -7,7 +7,8 @@ ghost use Rattle.cs_goals.specs.declared.goal.Goal.TheVariants.{Rule};
 ghost use Rattle.cs_cases.specs.Met.{AreMet, AreContexts, framed_pairs, spots_from, TakesTop};
 
 use cs_goals::Goal;
-use cs_grammar::{Derivation, Grammar, Mark, Symbol, number_of, yield_of};
+use cs_grammar::{Derivation, Grammar, Mark, Symbol, yield_of};
+use cs_numbers::number_of;
 use std::alloc::{AllocError, Global};
 
 // Room for as many goals and open nonterminals is made at once.

@@ -1,5 +1,5 @@
 -- The worklist's steps: what is settled later is no smaller than what was settled earlier.
-use Rattle.std.proofs.Common.{◌≡◌, ℕ, zero, suc, ◌+◌, ◌-◌, ◌<◌, ◌≤◌, ◌⊎◌, false, List, [], ◌∷◌, ◌++◌, Some, length, get_or, drop, replicate, refl, sym, ap, ◌∙◌, subst, ⊎_elim, inl, inr, arith, below_more}
+use Rattle.std.proofs.Common.{◌≡◌, ℕ, zero, suc, ◌+◌, ◌-◌, ◌<◌, ◌≤◌, ◌⊎◌, false, List, [], ◌∷◌, Some, length, get_or, drop, replicate, refl, sym, ap, ◌∙◌, subst, ⊎_elim, inl, inr, arith, below_more}
 use Rattle.std.specs.Prelude.{All, Contains, slice_get, slice_index}
 use Rattle.std.specs.List.{sum_by}
 use Rattle.std.specs.List.Sorted.{IsPermutation}
@@ -8,9 +8,9 @@ use Rattle.std.specs.Ordering.{nat_cmp, ordering_then, is_lt}
 use Rattle.std.specs.declared.cmp.Ordering.{Ordering}
 use Rattle.std.specs.declared.cmp.Ordering.TheVariants.{Less, Equal, Greater}
 use Rattle.std.proofs.Math.ListN.{set}
-use Rattle.std.proofs.lemmas.Bool.{cases_eq, cases_lt}
+use Rattle.std.proofs.lemmas.Bool.{cases_eq}
 use Rattle.std.proofs.lemmas.Bool.Decides.{nat_tests}
-use Rattle.std.proofs.lemmas.List.{length-set, get_or-set_same, get_or-set_other, get_or_append_left, get_or_push, get_or_read, get_or_default, length-append, at_drop_more}
+use Rattle.std.proofs.lemmas.List.{length-set, get_or-set_same, get_or-set_other, get_or_read, get_or_default, at_drop_more}
 use Rattle.std.proofs.lemmas.List.Elements.{All-nil, All-cons, All-head, All-tail, Contains-append_left, Contains-append_right, Contains-append_cases, Contains-push}
 use Rattle.std.proofs.lemmas.List.Sums.{sum_by-set}
 use Rattle.std.proofs.lemmas.List.Sorted.{All-permutation, Contains-permutation}
@@ -338,21 +338,6 @@ closed_at_end w g table unsettled heap last empty here = record { below = λ r p
 pub record CountsBelow (g : PlainGrammar) (counts : List ℕ) (i : ℕ) : Type 0 where
   pub many : length counts ≡ i
   pub each : (k : ℕ) (p : Production) → k < i → slice_get g.rules k ≡ Some p → slice_index counts k ≡ nonterminals_in p.right
-
-pub counts_more : (g : PlainGrammar) (counts : List ℕ) (i : ℕ) (q : Production) (n : ℕ) → slice_get g.rules i ≡ Some q → n ≡ nonterminals_in q.right → CountsBelow g counts i → CountsBelow g (counts ++ n ∷ []) (i + 1)
-counts_more g counts i q n at is so_far = record {
-  many = omega (arith, length-append counts (n ∷ []), so_far.many);
-  each = λ k p below there. ⊎_elim (λ lower. earlier k p lower there) (λ above. last k p (omega (arith, below, above)) there) (cases_lt k i);
-}
-  where
-    earlier : (k : ℕ) (p : Production) → k < i → slice_get g.rules k ≡ Some p → slice_index (counts ++ n ∷ []) k ≡ nonterminals_in p.right
-    earlier k p lower there = get_or_append_left counts (n ∷ []) 0 k (omega (arith, lower, so_far.many)) ∙ so_far.each k p lower there
-
-    last : (k : ℕ) (p : Production) → k ≡ i → slice_get g.rules k ≡ Some p → slice_index (counts ++ n ∷ []) k ≡ nonterminals_in p.right
-    last k p e there =
-        let here = ap (λ j. slice_get g.rules j) e in
-        let same : q ≡ p = cc in
-        get_or_push counts n 0 k (omega (arith, e, so_far.many)) ∙ is ∙ ap (λ (o : Production). nonterminals_in o.right) same
 
 -- where nothing is settled each nonterminal is open
 pub open_in-replicate : (many : ℕ) (xs : List Symbol) → open_in (replicate many Never) xs ≡ nonterminals_in xs

@@ -4,13 +4,13 @@ use Rattle.std.specs.Prelude.{All, slice_get}
 use Rattle.std.specs.Global.{Vec}
 use Rattle.std.proofs.Math.ListN.{set}
 use Rattle.std.proofs.lemmas.Bool.{cases_eq, cases_lt}
-use Rattle.std.proofs.lemmas.List.{length-set, get_or-set_same, get_or-set_other, at_drop_more, at_drop_all, get_or_default, take_all, drop_all}
-use Rattle.std.proofs.lemmas.List.Elements.{All-nil, All-append, All-replicate, All-weaker}
+use Rattle.std.proofs.lemmas.List.{length-set, get_or-set_same, get_or-set_other, at_drop_more, get_or_default, take_all, drop_all}
+use Rattle.std.proofs.lemmas.List.Elements.{All-append, All-replicate, All-weaker}
 use Rattle.std.proofs.lemmas.Option.{slice_get_within}
 use Rattle.cs_grammar.specs.declared.symbol.Symbol.{Symbol}
 use Rattle.cs_grammar.specs.declared.symbol.Symbol.TheVariants.{Token, Nonterminal}
 use Rattle.cs_grammar.specs.Grammar.{Production, PlainGrammar, IsNumberOf}
-use Rattle.cs_cost.specs.Users.{same, occurs, stands, IsUserTable, HasNoUsers, AddsUser}
+use Rattle.cs_cost.specs.Users.{same, occurs, stands, IsUserTable, AddsUser}
 use Rattle.cs_cost.proofs.Counts.{same_yes, same_no}
 
 -- what stands in lists
@@ -83,17 +83,6 @@ module _ (rule : ℕ) (right : List Symbol) (old new : List (Vec ℕ)) (i : ℕ)
           ∙ so_far.rest k was lt
           ∙ ap (λ (o : Vec ℕ). o.items ++ replicate (stands (k + 1) right) rule) (get_or_default old k was u lt)
 
-pub adds_start : (rule : ℕ) (right : List Symbol) (old : List (Vec ℕ)) → AddsRest rule right old old 0
-adds_start rule right old = record { many = refl; rest = λ k d lt. refl }
-
-pub adds_all : (rule : ℕ) (right : List Symbol) (old new : List (Vec ℕ)) (i : ℕ) → length right ≤ i → AddsRest rule right old new i → AddsUser rule right old new
-adds_all rule right old new i all so_far = record {
-  many = so_far.many;
-  each = λ k d lt.
-      let none : stands (k + 1) (drop i right) ≡ 0 = at_drop_all (λ (l : List Symbol). stands (k + 1) l) right i all in
-      sym (append-nil (get_or new k d).items) ∙ ap (λ n. (get_or new k d).items ++ replicate n rule) (sym none) ∙ so_far.rest k d lt;
-}
-
 -- the lists of the rules below index i
 pub record UsersBelow (g : PlainGrammar) (n : ℕ) (users : List ℕ) (i : ℕ) : Type 0 where
   pub within : All (λ k. k < i) users
@@ -102,12 +91,6 @@ pub record UsersBelow (g : PlainGrammar) (n : ℕ) (users : List ℕ) (i : ℕ) 
 pub record UserTableBelow (g : PlainGrammar) (users : List (Vec ℕ)) (i : ℕ) : Type 0 where
   pub many : length users ≡ g.nonterminals
   pub each : (k : ℕ) (d : Vec ℕ) → k < length users → UsersBelow g (k + 1) (get_or users k d).items i
-
-pub users_start : (g : PlainGrammar) (users : List (Vec ℕ)) → HasNoUsers g.nonterminals users → UserTableBelow g users 0
-users_start g users none = record {
-  many = none.many;
-  each = λ k d lt. subst (λ (l : List ℕ). UsersBelow g (k + 1) l 0) (sym (none.none k d lt)) (record { within = All-nil (λ j. j < 0); each = λ j p below at. absurd (omega (arith, below)) });
-}
 
 pub users_more : (g : PlainGrammar) (old new : List (Vec ℕ)) (i : ℕ) (q : Production) → slice_get g.rules i ≡ Some q → UserTableBelow g old i → AddsUser i q.right old new → UserTableBelow g new (i + 1)
 users_more g old new i q at so_far adds = record {

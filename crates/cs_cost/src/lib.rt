@@ -5,8 +5,9 @@
 //! reckon with costs by `cost_of`, `plus` and `is_below`. The laws are functions that do nothing.
 //!
 //! Of the files of `specs/`, these say what is meant: `Least` (least sizes, and what a cost tells), `Chosen`, and of `Trees`
-//! the kinds of trees. `Rank` and `Holds` have costs as numbers, which the layers above use too; the rest of `Trees`,
-//! `Tables`, `Users`, `Worklist`, `Searching` and `Parts` have working words of proofs.
+//! `IsTreeCost`, `AreTreesCost`, `HasLeast` and `HaveSmall` (what least trees cost, and which are within the limit). `Rank` and
+//! `Holds` have costs as numbers, which the layers above use too; the rest of `Trees`, `Tables`, `Users`, `Worklist`, `Searching`
+//! and `Parts` have working words of proofs.
 #![tactic(auto)]
 
 mod cost;

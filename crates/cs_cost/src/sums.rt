@@ -6,7 +6,8 @@ ghost use Rattle.cs_cost.specs.Rank.{IsCapped};
 ghost use Rattle.cs_cost.specs.Trees.{cost_in, symbols_cost, node_cost};
 
 use crate::cost::{Cost, cost_of, plus};
-use cs_grammar::{Symbol, Weights, place_of};
+use cs_grammar::{Symbol, Weights};
+use cs_numbers::place_of;
 
 pub(crate) fn cost_in(weights: &Weights, table: &[Cost], symbol: Symbol) -> Cost
     requires { IsSymbol (length weights.now.numbers) (length table.now) symbol }

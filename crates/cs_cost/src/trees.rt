@@ -8,7 +8,8 @@ ghost use Rattle.cs_cost.specs.Trees.{IsCostTable, IsFirstSoFar, AreFirstRules};
 use crate::cost::{Cost, is_below};
 use crate::sums::node_cost;
 use crate::worklist::settled;
-use cs_grammar::{Grammar, Symbol, Weights, number_of, place_of};
+use cs_grammar::{Grammar, Symbol, Weights};
+use cs_numbers::{number_of, place_of};
 use std::alloc::{AllocError, Global};
 use std::marker::Model;
 

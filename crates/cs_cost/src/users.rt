@@ -4,7 +4,8 @@ ghost use Rattle.std.specs.Prelude.{◌≡◌, OnOk, IfOk, All, length};
 ghost use Rattle.cs_grammar.specs.Grammar.{IsSymbol};
 ghost use Rattle.cs_cost.specs.Users.{HasNoUsers, AddsUser, IsUserTable};
 
-use cs_grammar::{Grammar, Symbol, place_of};
+use cs_grammar::{Grammar, Symbol};
+use cs_numbers::place_of;
 use std::alloc::{AllocError, Global};
 
 // Each list is given room for as many rules at once.

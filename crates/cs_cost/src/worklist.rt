@@ -13,7 +13,8 @@ ghost use Rattle.cs_cost.specs.Searching.{AreRules, IsReady, IsBeforeOffers, Has
 use crate::cost::{Cost, cost_of, rank};
 use crate::sums::node_cost;
 use crate::users::users_of;
-use cs_grammar::{Grammar, Rule, Symbol, Weights, place_of};
+use cs_grammar::{Grammar, Rule, Symbol, Weights};
+use cs_numbers::place_of;
 use std::alloc::{AllocError, Global};
 use std::cmp::Reverse;
 use std::collections::BinaryHeap;

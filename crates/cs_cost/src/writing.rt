@@ -6,7 +6,8 @@ ghost use Rattle.std.specs.List.{list_all};
 ghost use Rattle.cs_cost.specs.Parts.{is_token, IsSmallIn, AreSmallIn, IsGrown, OpensIn, WritesTexts};
 
 use crate::trees::Trees;
-use cs_grammar::{Derivation, Symbol, place_of, put_on_top};
+use cs_grammar::{Derivation, Symbol, put_on_top};
+use cs_numbers::place_of;
 use std::alloc::AllocError;
 
 fn is_token(symbol: Symbol) -> bool

@@ -1,10 +1,10 @@
 -- Marks that aren't closed on their line.
-use Rattle.std.proofs.Common.{◌≡◌, ◌≢◌, ℕ, suc, ◌+◌, ◌-◌, Bool, true, false, cond, List, ◌∷◌, drop, Option, Some, None, option_map, refl, sym, ap, subst, ◌∙◌, inl, inr, arith}
+use Rattle.std.proofs.Common.{◌≡◌, ℕ, suc, ◌+◌, ◌-◌, Bool, true, false, cond, List, ◌∷◌, drop, Option, Some, None, option_map, refl, sym, ap, subst, ◌∙◌, inl, inr, arith}
 use Rattle.std.specs.Prelude.{slice_get}
 use Rattle.std.proofs.lemmas.Bool.{cases_lt}
 use Rattle.std.proofs.lemmas.List.{drop-drop}
 use Rattle.cs_bytes.specs.Places.{has_at}
-use Rattle.cs_bytes.proofs.Fronts.{false-eqb, front_got, front_has, has_at-got}
+use Rattle.cs_bytes.proofs.Fronts.{front_got, front_has, has_at-got}
 use Rattle.cs_ctext.specs.Marks.{is_quote}
 use Rattle.cs_ctext.specs.Scans.{quoted_rest, quoted_size}
 use Rattle.cs_ctext.specs.Unclosed.{NoneCloses, StaysOpen}
@@ -39,10 +39,3 @@ none_closes bytes at mark end stands open_rest i from to here = elim (cases_lt a
       let same : i ≡ at = omega arith in
       subst (λ n. quoted_size (drop n bytes) ≡ None) (sym same) (unclosed_at bytes at mark (has_at-got bytes at mark stands) open_rest.unclosed)
 ]
-
-pub other_byte : (b : ℕ) (text : List ℕ) → b ≢ 39 → b ≢ 34 → quoted_size (b ∷ text) ≡ None
-other_byte b text no_single no_double = rw (false-eqb b 34 no_double, false-eqb b 39 no_single) refl
-
-pub no_mark_at : (bytes : List ℕ) (at b : ℕ) → slice_get bytes at ≡ Some b → b ≢ 39 → b ≢ 34 → quoted_size (drop at bytes) ≡ None
-no_mark_at bytes at b stands no_single no_double =
-    ap quoted_size (front_got bytes at b stands) ∙ other_byte b (drop (at + 1) bytes) no_single no_double

@@ -1,20 +1,20 @@
 -- Character literals: a single quote, one character or escape, a single quote (ISO C, character constants).
 use Rattle.std.specs.Prelude.{◌≡◌, ◌≢◌, ℕ, ◌+◌, ◌<◌, ◌≤◌, ◌==◌, ◌||◌, if◌then◌else◌, List, [], ◌∷◌, ◌++◌, length, Option, Some, None, IsTrue}
 use Rattle.std.specs.List.{list_all}
-use Rattle.cs_bytes.specs.Names.{tab, newline, carriage_return, quote, double_quote, backslash, question_mark, letter_x}
+use Rattle.cs_bytes.specs.Names.{tab, newline, carriage_return, quote, double_quote, backslash, question_mark, letter_x, alert, backspace, form_feed, letter_a, letter_b, letter_f, letter_n, letter_r, letter_t, letter_v, vertical_tab}
 use Rattle.cs_bytes.specs.Classes.{is_octal_digit, is_hexadecimal_digit}
 use Rattle.cs_bytes.specs.Digits.{number_of}
 
 -- the byte that a backslash and this one spell: `a b f n r t v` are control bytes, and `\ ' " ?` stand for themselves
 abbrev pub escaped_byte : ℕ → Option ℕ
 escaped_byte b =
-    if b == 97 then Some 7
-    else if b == 98 then Some 8
-    else if b == 102 then Some 12
-    else if b == 110 then Some newline
-    else if b == 114 then Some carriage_return
-    else if b == 116 then Some tab
-    else if b == 118 then Some 11
+    if b == letter_a then Some alert
+    else if b == letter_b then Some backspace
+    else if b == letter_f then Some form_feed
+    else if b == letter_n then Some newline
+    else if b == letter_r then Some carriage_return
+    else if b == letter_t then Some tab
+    else if b == letter_v then Some vertical_tab
     else if (b == backslash) || (b == quote) || (b == double_quote) || (b == question_mark) then Some b
     else None
 

@@ -28,7 +28,7 @@ pub fn opens_comment(bytes: &[u8], at: usize) -> bool
 }
 
 /// Whether a comment begins at the place.
-pub fn opens(text: &[u8], at: usize) -> bool
+pub(crate) fn opens(text: &[u8], at: usize) -> bool
     ensures { result ≡ scans.opens_comment (drop at text.now) }
 {
     has_pair(text, at, b'/', b'*') || has_pair(text, at, b'/', b'/')
@@ -36,7 +36,7 @@ pub fn opens(text: &[u8], at: usize) -> bool
 
 /// The size of the comment in front of the text.
 #[tactic(auto, using(crate::proofs::Fronts::comment_within))]
-pub fn comment_size(text: &[u8]) -> Option<usize>
+pub(crate) fn comment_size(text: &[u8]) -> Option<usize>
     requires { IsTrue (scans.opens_comment text.now) }
     ensures size { result ≡ scans.comment_size text.now }
     ensures within { IfSome result (λ size. (0 < size) × (size ≤ length text.now)) }

@@ -22,7 +22,7 @@ pub fn skip_quoted(bytes: &[u8], at: usize) -> Option<usize>
 }
 
 /// How the rest of a quoted construct goes on, behind its first mark.
-pub enum Rest {
+pub(crate) enum Rest {
     /// It has this size, with its closing mark.
     Closed(usize),
     /// It isn't closed, and its line ends behind so many bytes.
@@ -30,7 +30,7 @@ pub enum Rest {
 }
 
 /// How the text goes on as the rest of a construct of this mark.
-pub fn rest_of(text: &[u8], mark: u8) -> Rest
+pub(crate) fn rest_of(text: &[u8], mark: u8) -> Rest
     ensures { FindsRest mark text.now result }
 {
     let mut is_taken = false;

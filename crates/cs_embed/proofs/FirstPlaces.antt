@@ -10,7 +10,7 @@ use Rattle.cs_grammar.specs.Context.{Context, Hole, Under, context_size}
 use Rattle.cs_cost.specs.Least.{IsCost}
 use Rattle.cs_cost.specs.Rank.{capped, rank}
 use Rattle.cs_cost.proofs.Ranks.{cost_low, cost_reached, cost_least}
-use Rattle.cs_embed.specs.declared.inwards.Place.{Place}
+use Rattle.cs_embed.specs.declared.inwards.RulePlace.{RulePlace}
 use Rattle.cs_embed.specs.ChosenContext.{count}
 use Rattle.cs_embed.specs.Around.{IsContextOf}
 use Rattle.cs_embed.specs.Embeds.{AreSiblings, siblings_size}
@@ -26,7 +26,7 @@ use Rattle.cs_ways.specs.Ways.{Net, net_of, Way, Begin, On, IsWay, way_cost, rea
 
 -- A step to the place costs, with the least context of its left side, what is told of n, and each context of n whose rule and
 -- place come before costs more.
-pub record IsFirstPlace (w : Measure) (g : PlainGrammar) (table : List Reach) (n : ℕ) (a : Place) : Type 0 where
+pub record IsFirstPlace (w : Measure) (g : PlainGrammar) (table : List Reach) (n : ℕ) (a : RulePlace) : Type 0 where
   pub step : Step
   pub inward : IsInward w g a step
   pub to : step.to ≡ n
@@ -45,7 +45,7 @@ module _ (limit : ℕ) (g : PlainGrammar) (net : Net) (n : ℕ) where
   told_some Large i h small = absurd (omega (arith, small))
   told_some (Least c o) i h small = h
 
-module _ (w : Measure) (g : PlainGrammar) (grammar : IsGrammar g) (places : List Place) (steps : List Step) (are : AreInwards w g places steps) (table : List Reach) (least : AreLeastWays w.limit (net_of g.nonterminals steps) (start_of g) table) (n : ℕ) (small : rank w.limit (told_at table n) ≤ w.limit) where
+module _ (w : Measure) (g : PlainGrammar) (grammar : IsGrammar g) (places : List RulePlace) (steps : List Step) (are : AreInwards w g places steps) (table : List Reach) (least : AreLeastWays w.limit (net_of g.nonterminals steps) (start_of g) table) (n : ℕ) (small : rank w.limit (told_at table n) ≤ w.limit) where
   abbrev net : Net
   net = net_of g.nonterminals steps
 
@@ -59,7 +59,7 @@ module _ (w : Measure) (g : PlainGrammar) (grammar : IsGrammar g) (places : List
   low m v is = cost_low w.limit (IsWay net (start_of g) m) way_cost (told_at table m) (ways_cost m) v is
 
   -- a least way that a context gives, where the context is as small as is told
-  way_by : (outer : Context) (q : ℕ) (left right : Forest) → IsContextOf g n (Under outer q left right) → capped w.limit (context_size w (Under outer q left right)) ≤ told n → (i : ℕ) × (b : Place) × (s : Step) × (slice_get places i ≡ Some b) × (slice_get steps i ≡ Some s) × (b.rule ≡ q) × (b.place ≡ count left) × ((v : Way) × IsWay net (start_of g) n (On v s) × (way_cost (On v s) ≡ told n))
+  way_by : (outer : Context) (q : ℕ) (left right : Forest) → IsContextOf g n (Under outer q left right) → capped w.limit (context_size w (Under outer q left right)) ≤ told n → (i : ℕ) × (b : RulePlace) × (s : Step) × (slice_get places i ≡ Some b) × (slice_get steps i ≡ Some s) × (b.rule ≡ q) × (b.place ≡ count left) × ((v : Way) × IsWay net (start_of g) n (On v s) × (way_cost (On v s) ≡ told n))
   way_by outer q left right h cheap =
       let t = taken w g places steps are n outer q left right h in
       let before = context_way w g grammar places steps are outer t.step.from t.around in
@@ -68,7 +68,7 @@ module _ (w : Measure) (g : PlainGrammar) (grammar : IsGrammar g) (places : List
       (t.index, t.place, t.step, t.at_place, t.at_step, t.rule, t.counted, (before.0, is, even))
 
   -- the first step by which a least way to n ends leads to the place of the hole
-  pub first_place : (i : ℕ) (a : Place) → slice_get places i ≡ Some a → IsFirstStep net (start_of g) n (told n) i → IsFirstPlace w g table n a
+  pub first_place : (i : ℕ) (a : RulePlace) → slice_get places i ≡ Some a → IsFirstStep net (start_of g) n (told n) i → IsFirstPlace w g table n a
   first_place i a at first = record {
     step = s;
     inward = (are.each i a s at first.at).0;
@@ -103,14 +103,14 @@ module _ (w : Measure) (g : PlainGrammar) (grammar : IsGrammar g) (places : List
           (λ not_above.
           let here : slice_get places i ≡ Some b = ap (λ k. slice_get places k) (let e : i ≡ t.0 = omega (arith, not_below, not_above) in e) ∙ t.3 in
           let same : b ≡ a = cc in
-          let again : IsEarlier b.rule b.place b.rule b.place = subst (λ (z : Place). IsEarlier b.rule b.place z.rule z.place) (sym same) before in
+          let again : IsEarlier b.rule b.place b.rule b.place = subst (λ (z : RulePlace). IsEarlier b.rule b.place z.rule z.place) (sym same) before in
           not_both b.rule b.place b.rule b.place again again)
           (cases_lt i t.0))
           (cases_lt t.0 i)))
           (cases_lt (told n) (capped w.limit (context_size w (Under o q f h))))
 
   -- and n isn't the start symbol, whose least way takes no step
-  pub first_inside : (i : ℕ) (a : Place) → slice_get places i ≡ Some a → IsFirstStep net (start_of g) n (told n) i → n ≢ g.start
+  pub first_inside : (i : ℕ) (a : RulePlace) → slice_get places i ≡ Some a → IsFirstStep net (start_of g) n (told n) i → n ≢ g.start
   first_inside i a at first = λ same.
       let inward = (are.each i a first.step at first.at).0 in
       let hole : told n ≤ capped w.limit 0 = low n (Begin 0 (record { node = g.start; cost = 0 })) (refl, sym same) in

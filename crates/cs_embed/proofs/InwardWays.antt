@@ -12,7 +12,7 @@ use Rattle.cs_grammar.specs.Context.{Context, Hole, Under, context_size}
 use Rattle.cs_cost.specs.Least.{IsCost}
 use Rattle.cs_cost.specs.Rank.{capped}
 use Rattle.cs_cost.proofs.Ranks.{IsCost-alike, cost_low, cost_reached}
-use Rattle.cs_embed.specs.declared.inwards.Place.{Place}
+use Rattle.cs_embed.specs.declared.inwards.RulePlace.{RulePlace}
 use Rattle.cs_embed.specs.ChosenContext.{count}
 use Rattle.cs_embed.specs.Around.{IsContextOf}
 use Rattle.cs_embed.specs.Embeds.{AreSiblings, siblings_size}
@@ -28,9 +28,9 @@ use Rattle.cs_ways.proofs.FirstTight.{contains_at, get_contained}
 use Rattle.cs_ways.specs.Ways.{Net, net_of, IsNet, Way, Begin, On, IsWay, way_cost, reach_at, AreLeastWays}
 
 -- the step by which a context goes on inwards, where its node stands in outer
-pub record IsTaken (w : Measure) (g : PlainGrammar) (places : List Place) (steps : List Step) (n : ℕ) (outer : Context) (r : ℕ) (left right : Forest) : Type 0 where
+pub record IsTaken (w : Measure) (g : PlainGrammar) (places : List RulePlace) (steps : List Step) (n : ℕ) (outer : Context) (r : ℕ) (left right : Forest) : Type 0 where
   pub index : ℕ
-  pub place : Place
+  pub place : RulePlace
   pub step : Step
   pub at_place : slice_get places index ≡ Some place
   pub at_step : slice_get steps index ≡ Some step
@@ -40,7 +40,7 @@ pub record IsTaken (w : Measure) (g : PlainGrammar) (places : List Place) (steps
   pub around : IsContextOf g step.from outer
   pub low : step.cost ≤ capped w.limit (siblings_size w (left, right))
 
-pub taken : (w : Measure) (g : PlainGrammar) (places : List Place) (steps : List Step) → AreInwards w g places steps → (n : ℕ) (outer : Context) (r : ℕ) (left right : Forest) → IsContextOf g n (Under outer r left right) → IsTaken w g places steps n outer r left right
+pub taken : (w : Measure) (g : PlainGrammar) (places : List RulePlace) (steps : List Step) → AreInwards w g places steps → (n : ℕ) (outer : Context) (r : ℕ) (left right : Forest) → IsContextOf g n (Under outer r left right) → IsTaken w g places steps n outer r left right
 taken w g places steps are n outer r left right h =
     let p = h.0 in
     let last : r < length g.rules + 1 = omega (arith, slice_get_within g.rules (r - 1) p h.3.at) in
@@ -68,14 +68,14 @@ taken w g places steps are n outer r left right h =
       low = omega (arith, others, at.cost);
     }
 
-module _ (w : Measure) (g : PlainGrammar) (grammar : IsGrammar g) (places : List Place) (steps : List Step) (are : AreInwards w g places steps) where
+module _ (w : Measure) (g : PlainGrammar) (grammar : IsGrammar g) (places : List RulePlace) (steps : List Step) (are : AreInwards w g places steps) where
   abbrev net : Net
   net = net_of g.nonterminals steps
 
   -- the steps lead between nonterminals of the grammar
   pub inwards_net : IsNet (net_of g.nonterminals steps)
   inwards_net = λ k d within.
-      let none : Place = record { rule = 0; place = 0 } in
+      let none : RulePlace = record { rule = 0; place = 0 } in
       let a = get_or places k none in
       let s = get_or steps k d in
       let is = (are.each k a s (slice_get-get_or places k none (omega (arith, within, are.many))) (slice_get-get_or steps k d within)).0 in
@@ -99,9 +99,9 @@ module _ (w : Measure) (g : PlainGrammar) (grammar : IsGrammar g) (places : List
   one_source (suc i) s e = absurd cc
 
   -- the step of a way stands at a place
-  inward_of : (s : Step) → Contains steps s → (a : Place) × IsInward w g a s
+  inward_of : (s : Step) → Contains steps s → (a : RulePlace) × IsInward w g a s
   inward_of s has =
-      let none : Place = record { rule = 0; place = 0 } in
+      let none : RulePlace = record { rule = 0; place = 0 } in
       let at = get_contained steps s has in
       let a = get_or places has.0 none in
       (a, (are.each has.0 a s (slice_get-get_or places has.0 none (omega (arith, slice_get_within steps has.0 s at, are.many))) at).0)

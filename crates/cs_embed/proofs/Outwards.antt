@@ -4,10 +4,10 @@ use Rattle.std.specs.Prelude.{slice_get, All}
 use Rattle.std.proofs.lemmas.Bool.{cases_lt}
 use Rattle.std.proofs.lemmas.List.{reverse-append, take_at, drop_at, length_push, length-append}
 use Rattle.std.proofs.lemmas.Option.{slice_get_read, slice_get_within, get_or_from_slice_get}
-use Rattle.std.proofs.lemmas.List.Elements.{All-nil, All-cons, All-head, All-append, All-take, All-drop}
+use Rattle.std.proofs.lemmas.List.Elements.{All-nil, All-cons, All-head, All-append}
 use Rattle.cs_grammar.specs.declared.symbol.Symbol.{Symbol}
 use Rattle.cs_grammar.specs.declared.symbol.Symbol.TheVariants.{Nonterminal}
-use Rattle.cs_grammar.specs.Grammar.{Production, PlainGrammar, IsRule, IsNumberOf, IsSymbol, IsGrammar}
+use Rattle.cs_grammar.specs.Grammar.{Production, PlainGrammar, IsRule, IsNumberOf, IsGrammar}
 use Rattle.cs_grammar.specs.Places.{IsEarlier}
 use Rattle.cs_grammar.specs.Weights.{Measure}
 use Rattle.cs_grammar.specs.Tree.{Tree, Forest, IsTree, AreTrees, sizes, code, codes_of}
@@ -17,14 +17,13 @@ use Rattle.cs_grammar.proofs.Holes.{IsTree-plug, size-plug, code-plug}
 use Rattle.cs_cost.specs.Least.{IsCost}
 use Rattle.cs_cost.specs.Rank.{rank}
 use Rattle.cs_cost.specs.Chosen.{AreChosen, AppendsAllChosen}
-use Rattle.cs_embed.specs.declared.inwards.Place.{Place}
+use Rattle.cs_embed.specs.declared.inwards.RulePlace.{RulePlace}
 use Rattle.cs_embed.specs.ChosenContext.{count, IsChosenContext}
 use Rattle.cs_embed.specs.Around.{IsContextOf, HasLeastContext, IsAround, Fills}
 use Rattle.cs_embed.specs.Embeds.{AreSiblings, siblings_size, IsLead}
 use Rattle.cs_embed.specs.Ways.{start_of, told_cost, told_at}
 use Rattle.cs_embed.specs.Kept.{AreEmbeds, IsSmallPlace, IsOutward}
 use Rattle.cs_cost.proofs.Ranks.{cost_low, cost_least}
-use Rattle.cs_cost.proofs.Rules.{well_formed_at}
 use Rattle.cs_cost.proofs.ChosenTrees.{AreTrees-chosen, all_chosen}
 use Rattle.cs_embed.proofs.ChosenContexts.{count_is, IsContext-chosen, chosen_context_least}
 use Rattle.cs_embed.proofs.Lists.{All-left, All-right}
@@ -42,7 +41,7 @@ pub record IsEmbedTable (w : Measure) (g : PlainGrammar) (table : List Reach) : 
   pub grammar : IsGrammar g
   pub exact : (n : ℕ) → IsCost w.limit (IsContextOf g n) (context_size w) (told_at table n)
 
-pub embed_table : (w : Measure) (g : PlainGrammar) (places : List Place) (table : List Reach) (firsts : List (Option ℕ)) → AreEmbeds w g places table firsts → IsEmbedTable w g table
+pub embed_table : (w : Measure) (g : PlainGrammar) (places : List RulePlace) (table : List Reach) (firsts : List (Option ℕ)) → AreEmbeds w g places table firsts → IsEmbedTable w g table
 embed_table w g places table firsts are = record {
   grammar = are.grammar;
   exact = λ n. told_exact w g are.grammar places are.steps are.inwards table are.least n;
@@ -54,7 +53,7 @@ told_small w g table n exact least =
     let c = least.1.1.reached in
     omega (arith, cost_low w.limit (IsContextOf g n) (context_size w) (told_at table n) (exact.exact n) c.0 c.1, c.2, least.1.0)
 
-module _ (w : Measure) (g : PlainGrammar) (table : List Reach) (exact : IsEmbedTable w g table) (n : ℕ) (a : Place) (first : IsFirstPlace w g table n a) (small : rank w.limit (told_at table n) ≤ w.limit) where
+module _ (w : Measure) (g : PlainGrammar) (table : List Reach) (exact : IsEmbedTable w g table) (n : ℕ) (a : RulePlace) (first : IsFirstPlace w g table n a) (small : rank w.limit (told_at table n) ≤ w.limit) where
   abbrev told : ℕ → ℕ
   told m = rank w.limit (told_at table m)
 
@@ -115,7 +114,7 @@ module _ (w : Measure) (g : PlainGrammar) (table : List Reach) (exact : IsEmbedT
       lowest
 
 -- the siblings at a place, by the places in its rule
-module _ (w : Measure) (g : PlainGrammar) (a : Place) (p : Production) (small : IsSmallPlace w g a) (rule : IsRule g a.rule p) where
+module _ (w : Measure) (g : PlainGrammar) (a : RulePlace) (p : Production) (small : IsSmallPlace w g a) (rule : IsRule g a.rule p) where
   same_rule : small.inward.here.production ≡ p
   same_rule = one_rule g a.rule a.rule small.inward.here.production p refl small.inward.here.number rule
 
@@ -149,31 +148,14 @@ module _ (w : Measure) (g : PlainGrammar) (a : Place) (p : Production) (small : 
       let fs = siblings_reached in
       (fs.0.1, subst (λ (l : List Symbol). AreTrees g l fs.0.1) (sym behind_is) fs.1.1, omega (arith, fs.2, small.small))
 
-  right_symbols : IsGrammar g → All (IsSymbol g.tokens g.nonterminals) p.right
-  right_symbols grammar = (well_formed_at g (a.rule - 1) p grammar rule.at).right
-
-  pub before_symbols : IsGrammar g → All (IsSymbol g.tokens g.nonterminals) (take a.place p.right)
-  before_symbols grammar = All-take (IsSymbol g.tokens g.nonterminals) a.place p.right (right_symbols grammar)
-
-  pub behind_symbols : IsGrammar g → All (IsSymbol g.tokens g.nonterminals) (drop (a.place + 1) p.right)
-  behind_symbols grammar = All-drop (IsSymbol g.tokens g.nonterminals) (a.place + 1) p.right (right_symbols grammar)
-
 -- where the way outwards stands at a nonterminal
-pub record OutTo (w : Measure) (g : PlainGrammar) (table : List Reach) (n at : ℕ) (places : List Place) (after : List ℕ) : Type 0 where
+pub record OutTo (w : Measure) (g : PlainGrammar) (table : List Reach) (n at : ℕ) (places : List RulePlace) (after : List ℕ) : Type 0 where
   pub number : IsNumberOf g.nonterminals at
   pub small : rank w.limit (told_at table at) ≤ w.limit
   pub places_small : All (IsSmallPlace w g) places
   pub so_far : (c : Context) → IsChosenContext w g (Nonterminal n) c → (outer : Context) × (text : List ℕ) × IsChosenContext w g (Nonterminal at) outer × IsLead w g (reverse places) text × (code_before c ≡ code_before outer ++ text) × (code_after c ≡ after ++ code_after outer)
 
-pub out_start : (w : Measure) (g : PlainGrammar) (table : List Reach) (n : ℕ) → IsNumberOf g.nonterminals n → rank w.limit (told_at table n) ≤ w.limit → OutTo w g table n n [] []
-out_start w g table n number small = record {
-  number = number;
-  small = small;
-  places_small = All-nil (IsSmallPlace w g);
-  so_far = λ c h. (c, [], h, refl, sym (append-nil (code_before c)), refl);
-}
-
-module _ (w : Measure) (g : PlainGrammar) (table : List Reach) (exact : IsEmbedTable w g table) (n at : ℕ) (places places' : List Place) (after after' : List ℕ) (a : Place) (p : Production) (first : IsFirstPlace w g table at a) (rule : IsRule g a.rule p) (left_side : ℕ) (is_left : left_side ≡ p.left) (pushed : places' ≡ places ++ a ∷ []) (appended : AppendsAllChosen w g (drop (a.place + 1) p.right) after after') (here : OutTo w g table n at places after) where
+module _ (w : Measure) (g : PlainGrammar) (table : List Reach) (exact : IsEmbedTable w g table) (n at : ℕ) (places places' : List RulePlace) (after after' : List ℕ) (a : RulePlace) (p : Production) (first : IsFirstPlace w g table at a) (rule : IsRule g a.rule p) (left_side : ℕ) (is_left : left_side ≡ p.left) (pushed : places' ≡ places ++ a ∷ []) (appended : AppendsAllChosen w g (drop (a.place + 1) p.right) after after') (here : OutTo w g table n at places after) where
   taken_small : IsSmallPlace w g a
   taken_small = small_place w g table exact at a first here.small
 
@@ -202,7 +184,7 @@ module _ (w : Measure) (g : PlainGrammar) (table : List Reach) (exact : IsEmbedT
         outer,
         a.rule ∷ codes_of left ++ text,
         subst (λ m. IsChosenContext w g (Nonterminal m) outer) next_is h.8,
-        subst (λ (l : List Place). IsLead w g l (a.rule ∷ codes_of left ++ text)) (sym reversed) lead,
+        subst (λ (l : List RulePlace). IsLead w g l (a.rule ∷ codes_of left ++ text)) (sym reversed) lead,
         eb ∙ before_text,
         ea ∙ after_text,
       )
@@ -219,13 +201,13 @@ module _ (w : Measure) (g : PlainGrammar) (table : List Reach) (exact : IsEmbedT
   out_more other = record {
     number = subst (λ m. IsNumberOf g.nonterminals m) left_from (inward_from w g a first.step exact.grammar first.inward);
     small = omega (arith, left_less, here.small);
-    places_small = subst (λ (l : List Place). All (IsSmallPlace w g) l) (sym pushed)
+    places_small = subst (λ (l : List RulePlace). All (IsSmallPlace w g) l) (sym pushed)
         (All-append (IsSmallPlace w g) places (a ∷ []) here.places_small (All-cons (IsSmallPlace w g) a [] taken_small (All-nil (IsSmallPlace w g))));
     so_far = λ c h. let v = here.so_far c h in step_taken c v.0 v.2 v.1 other v.3 v.4 v.5;
   }
 
 -- at the start symbol it is whole
-pub out_end : (w : Measure) (g : PlainGrammar) (table : List Reach) (n at : ℕ) (places : List Place) (after : List ℕ) → at ≡ g.start → OutTo w g table n at places after → IsOutward w g n places after
+pub out_end : (w : Measure) (g : PlainGrammar) (table : List Reach) (n at : ℕ) (places : List RulePlace) (after : List ℕ) → at ≡ g.start → OutTo w g table n at places after → IsOutward w g n places after
 out_end w g table n at places after same here = record {
   small = here.places_small;
   text = λ c h. let v = here.so_far c h in end c v.0 v.1 v.2 v.3 v.4 v.5;
@@ -236,7 +218,7 @@ out_end w g table n at places after same here = record {
     end c (Under outer q left right) text h is eb ea = absurd (omega (arith, h.5.least Hole (ap Nonterminal same)))
 
 -- what the first steps say where the way outwards stands
-module _ (w : Measure) (g : PlainGrammar) (places : List Place) (table : List Reach) (firsts : List (Option ℕ)) (are : AreEmbeds w g places table firsts) (at : ℕ) (number : IsNumberOf g.nonterminals at) (small : rank w.limit (told_at table at) ≤ w.limit) where
+module _ (w : Measure) (g : PlainGrammar) (places : List RulePlace) (table : List Reach) (firsts : List (Option ℕ)) (are : AreEmbeds w g places table firsts) (at : ℕ) (number : IsNumberOf g.nonterminals at) (small : rank w.limit (told_at table at) ≤ w.limit) where
   abbrev net : Net
   net = net_of g.nonterminals are.steps
 
@@ -254,7 +236,7 @@ module _ (w : Measure) (g : PlainGrammar) (places : List Place) (table : List Re
       let first = first_step i o read is in
       omega (arith, slice_get_within are.steps i first.step first.at, are.inwards.many)
 
-  pub first_some : (i : ℕ) (o : Option ℕ) → o ≡ get_or firsts (at - 1) o → o ≡ Some i → (a : Place) → a ≡ get_or places i a → (at ≢ g.start) × IsFirstPlace w g table at a
+  pub first_some : (i : ℕ) (o : Option ℕ) → o ≡ get_or firsts (at - 1) o → o ≡ Some i → (a : RulePlace) → a ≡ get_or places i a → (at ≢ g.start) × IsFirstPlace w g table at a
   first_some i o read is a there =
       let first = first_step i o read is in
       let placed = slice_get_read places (length places) i a refl (first_within i o read is) there in (
@@ -268,16 +250,16 @@ module _ (w : Measure) (g : PlainGrammar) (places : List Place) (table : List Re
       (told_none w.limit g net at (reach_at table at) (subst (IsFirstTold net (start_of g) at (reach_at table at)) is (told_first o read)) small)
 
 -- where the writer of the rule numbers before a hole stands: what it has written, and the places that are left
-pub record LeadsThrough (w : Measure) (g : PlainGrammar) (start_places : List Place) (start : List ℕ) (places : List Place) (out : List ℕ) : Type 0 where
+pub record LeadsThrough (w : Measure) (g : PlainGrammar) (start_places : List RulePlace) (start : List ℕ) (places : List RulePlace) (out : List ℕ) : Type 0 where
   pub small : All (IsSmallPlace w g) places
   pub rest : (text : List ℕ) → IsLead w g (reverse start_places) text → (more : List ℕ) × IsLead w g (reverse places) more × (out ++ more ≡ start ++ text)
 
-pub leads_more : (w : Measure) (g : PlainGrammar) (start_places : List Place) (start : List ℕ) (items places : List Place) (out out' out'' : List ℕ) (a : Place) (p : Production) → items ≡ places ++ a ∷ [] → IsRule g a.rule p → out' ≡ out ++ a.rule ∷ [] → AppendsAllChosen w g (take a.place p.right) out' out'' → LeadsThrough w g start_places start items out → LeadsThrough w g start_places start places out''
+pub leads_more : (w : Measure) (g : PlainGrammar) (start_places : List RulePlace) (start : List ℕ) (items places : List RulePlace) (out out' out'' : List ℕ) (a : RulePlace) (p : Production) → items ≡ places ++ a ∷ [] → IsRule g a.rule p → out' ≡ out ++ a.rule ∷ [] → AppendsAllChosen w g (take a.place p.right) out' out'' → LeadsThrough w g start_places start items out → LeadsThrough w g start_places start places out''
 leads_more w g start_places start items places out out' out'' a p e rule pushed appended so_far = record {
-  small = All-left (IsSmallPlace w g) places (a ∷ []) (subst (λ (l : List Place). All (IsSmallPlace w g) l) e so_far.small);
+  small = All-left (IsSmallPlace w g) places (a ∷ []) (subst (λ (l : List RulePlace). All (IsSmallPlace w g) l) e so_far.small);
   rest = λ text is.
       let m = so_far.rest text is in
-      let front : IsLead w g (a ∷ reverse places) m.0 = subst (λ (l : List Place). IsLead w g l m.0) (ap reverse e ∙ reverse-append places (a ∷ [])) m.1 in
+      let front : IsLead w g (a ∷ reverse places) m.0 = subst (λ (l : List RulePlace). IsLead w g l m.0) (ap reverse e ∙ reverse-append places (a ∷ [])) m.1 in
       let same = one_rule g a.rule a.rule front.0 p refl front.3 rule in
       let chosen = subst (λ (v : Production). AreChosen w g (take a.place v.right) front.1) same front.4 in
       let trees : appended.trees ≡ front.1 = all_chosen w g appended.trees front.1 (take a.place p.right) appended.chosen chosen in
@@ -288,8 +270,8 @@ leads_more w g start_places start items places out out' out'' a p e rule pushed 
 }
 
 -- the last of the places that are left
-pub last_small : (w : Measure) (g : PlainGrammar) (items places : List Place) (a : Place) → items ≡ places ++ a ∷ [] → All (IsSmallPlace w g) items → IsSmallPlace w g a
-last_small w g items places a e each = All-head (IsSmallPlace w g) a [] (All-right (IsSmallPlace w g) places (a ∷ []) (subst (λ (l : List Place). All (IsSmallPlace w g) l) e each))
+pub last_small : (w : Measure) (g : PlainGrammar) (items places : List RulePlace) (a : RulePlace) → items ≡ places ++ a ∷ [] → All (IsSmallPlace w g) items → IsSmallPlace w g a
+last_small w g items places a e each = All-head (IsSmallPlace w g) a [] (All-right (IsSmallPlace w g) places (a ∷ []) (subst (λ (l : List RulePlace). All (IsSmallPlace w g) l) e each))
 
 -- what the code reads of a table at a number
 pub told_read : (table : List Reach) (n : ℕ) (r : Reach) → IsNumberOf (length table) n → r ≡ get_or table (n - 1) r → told_cost r ≡ told_at table n

@@ -7,18 +7,18 @@ use Rattle.cs_grammar.specs.declared.symbol.Symbol.{Symbol}
 use Rattle.cs_grammar.specs.declared.symbol.Symbol.TheVariants.{Nonterminal}
 use Rattle.cs_grammar.specs.Grammar.{PlainGrammar, IsNumberOf, IsGrammar, IsSymbol}
 use Rattle.cs_grammar.specs.Weights.{Measure}
-use Rattle.cs_embed.specs.declared.inwards.Place.{Place}
+use Rattle.cs_embed.specs.declared.inwards.RulePlace.{RulePlace}
 use Rattle.cs_embed.specs.Ways.{IsInward}
 use Rattle.cs_embed.proofs.Steps.{inward_right}
 use Rattle.cs_cost.proofs.Rules.{well_formed_at}
 use Rattle.cs_ways.specs.declared.step.Step.{Step}
 
 -- a step's nonterminals are the grammar's
-pub inward_from : (w : Measure) (g : PlainGrammar) (a : Place) (s : Step) → IsGrammar g → IsInward w g a s → IsNumberOf g.nonterminals s.from
+pub inward_from : (w : Measure) (g : PlainGrammar) (a : RulePlace) (s : Step) → IsGrammar g → IsInward w g a s → IsNumberOf g.nonterminals s.from
 inward_from w g a s grammar is =
     subst (λ n. IsNumberOf g.nonterminals n) (sym is.from) (well_formed_at g (a.rule - 1) is.here.production grammar is.here.number.at).left
 
-pub inward_to : (w : Measure) (g : PlainGrammar) (a : Place) (s : Step) → IsGrammar g → IsInward w g a s → IsNumberOf g.nonterminals s.to
+pub inward_to : (w : Measure) (g : PlainGrammar) (a : RulePlace) (s : Step) → IsGrammar g → IsInward w g a s → IsNumberOf g.nonterminals s.to
 inward_to w g a s grammar is =
     let each = subst (λ (xs : List Symbol). All (IsSymbol g.tokens g.nonterminals) xs) (inward_right w g a s is) (well_formed_at g (a.rule - 1) is.here.production grammar is.here.number.at).right in
     let within : length is.here.before < length (is.here.before ++ Nonterminal s.to ∷ is.here.behind) = omega (arith, length-append is.here.before (Nonterminal s.to ∷ is.here.behind)) in

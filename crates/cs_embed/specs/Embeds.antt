@@ -5,7 +5,7 @@ use Rattle.cs_grammar.specs.Grammar.{Production, PlainGrammar, IsRule}
 use Rattle.cs_grammar.specs.Weights.{Measure}
 use Rattle.cs_grammar.specs.Tree.{Forest, AreTrees, sizes, codes_of}
 use Rattle.cs_cost.specs.Chosen.{AreChosen}
-use Rattle.cs_embed.specs.declared.inwards.Place.{Place}
+use Rattle.cs_embed.specs.declared.inwards.RulePlace.{RulePlace}
 
 -- a hole's siblings: trees of the symbols before it and behind it; their node is counted with them
 abbrev pub AreSiblings : PlainGrammar → List Symbol → List Symbol → Forest × Forest → Type 0
@@ -16,7 +16,7 @@ siblings_size w fs = 1 + (sizes w fs.0 + sizes w fs.1)
 
 -- the rule numbers before a hole, by the places from the outermost to the innermost: a place's rule, and the codes of the chosen
 -- trees of the symbols before the place
-abbrev pub IsLead : Measure → PlainGrammar → List Place → List ℕ → Type 0
+abbrev pub IsLead : Measure → PlainGrammar → List RulePlace → List ℕ → Type 0
 IsLead w g [] text = text ≡ []
 IsLead w g (a ∷ places) text =
     (p : Production) × (f : Forest) × (rest : List ℕ) × IsRule g a.rule p × AreChosen w g (take a.place p.right) f

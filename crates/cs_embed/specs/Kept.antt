@@ -10,7 +10,7 @@ use Rattle.cs_cost.specs.declared.cost.Cost.{Cost}
 use Rattle.cs_cost.specs.declared.cost.Cost.TheVariants.{Never}
 use Rattle.cs_cost.specs.Rank.{rank}
 use Rattle.cs_cost.specs.Trees.{AreTreesCost}
-use Rattle.cs_embed.specs.declared.inwards.Place.{Place}
+use Rattle.cs_embed.specs.declared.inwards.RulePlace.{RulePlace}
 use Rattle.cs_embed.specs.declared.inwards.Inwards.{Inwards}
 use Rattle.cs_embed.specs.declared.table.Tables.{Tables}
 use Rattle.cs_embed.specs.declared.embeds.Outward.{Outward}
@@ -35,7 +35,7 @@ AreInwardsOf v inwards = AreInwards v.weights v.grammar inwards.places.items inw
 
 -- what is kept of a grammar's contexts: the places of its steps, the least ways over the steps, and by which step each of them
 -- ends first
-pub record AreEmbeds (w : Measure) (g : PlainGrammar) (places : List Place) (table : List Reach) (firsts : List (Option ℕ)) : Type 0 where
+pub record AreEmbeds (w : Measure) (g : PlainGrammar) (places : List RulePlace) (table : List Reach) (firsts : List (Option ℕ)) : Type 0 where
   pub grammar : IsGrammar g
   pub steps : List Step
   pub inwards : AreInwards w g places steps
@@ -50,14 +50,14 @@ abbrev pub IsSmallIn : Weighed → Tables → ℕ → Type 0
 IsSmallIn v tables n = rank v.weights.limit (told_at tables.reaches.items n) ≤ v.weights.limit
 
 -- a place whose siblings are within the limit
-pub record IsSmallPlace (w : Measure) (g : PlainGrammar) (a : Place) : Type 0 where
+pub record IsSmallPlace (w : Measure) (g : PlainGrammar) (a : RulePlace) : Type 0 where
   pub step : Step
   pub inward : IsInward w g a step
   pub small : step.cost ≤ w.limit
 
 -- the places of the holes in the chosen context of a nonterminal from the innermost outwards, and the rule numbers behind the
 -- innermost
-pub record IsOutward (w : Measure) (g : PlainGrammar) (n : ℕ) (places : List Place) (after : List ℕ) : Type 0 where
+pub record IsOutward (w : Measure) (g : PlainGrammar) (n : ℕ) (places : List RulePlace) (after : List ℕ) : Type 0 where
   pub small : All (IsSmallPlace w g) places
   pub text : (c : Context) → IsChosenContext w g (Nonterminal n) c → IsLead w g (reverse places) (code_before c) × (code_after c ≡ after)
 
@@ -65,5 +65,5 @@ abbrev pub LeadsOut : Weighed → ℕ → Outward → Type 0
 LeadsOut v n outward = IsOutward v.weights v.grammar n outward.places.items outward.after
 
 -- the rule numbers before a hole come behind what stood there
-abbrev pub WritesLead : Weighed → Vec Place → List ℕ → List ℕ → Type 0
+abbrev pub WritesLead : Weighed → Vec RulePlace → List ℕ → List ℕ → Type 0
 WritesLead v places old new = (text : List ℕ) → IsLead v.weights v.grammar (reverse places.items) text → new ≡ old ++ text

@@ -11,7 +11,7 @@ use Rattle.cs_cost.specs.declared.cost.Cost.{Cost}
 use Rattle.cs_cost.specs.declared.cost.Cost.TheVariants as cost
 use Rattle.cs_cost.specs.Least.{IsCost}
 use Rattle.cs_cost.specs.Rank.{rank, cost_of, plus}
-use Rattle.cs_embed.specs.declared.inwards.Place.{Place}
+use Rattle.cs_embed.specs.declared.inwards.RulePlace.{RulePlace}
 use Rattle.cs_embed.specs.Embeds.{AreSiblings, siblings_size}
 use Rattle.cs_ways.specs.declared.step.Step.{Step}
 use Rattle.cs_ways.specs.declared.step.Source.{Source}
@@ -36,7 +36,7 @@ abbrev pub inward_beside : ℕ → ℕ → Symbol → Cost → Cost → Option S
 inward_beside limit left inner before behind = inward limit left inner (siblings_cost limit before behind)
 
 -- the step leads from the left side of the place's rule to the nonterminal there, and costs what the siblings do
-pub record IsInward (w : Measure) (g : PlainGrammar) (a : Place) (s : Step) : Type 0 where
+pub record IsInward (w : Measure) (g : PlainGrammar) (a : RulePlace) (s : Step) : Type 0 where
   pub here : SymbolAt g a.rule a.place
   pub to : here.symbol ≡ Nonterminal s.to
   pub from : s.from ≡ here.production.left
@@ -53,19 +53,19 @@ pub record HasSiblings (g : PlainGrammar) (r k : ℕ) : Type 0 where
   pub siblings : Forest × Forest
   pub are : AreSiblings g here.before here.behind siblings
 
-abbrev pub at_rule : Place → ℕ
+abbrev pub at_rule : RulePlace → ℕ
 at_rule a = a.rule
 
-abbrev pub at_place : Place → ℕ
+abbrev pub at_place : RulePlace → ℕ
 at_place a = a.place
 
 -- The lists have, in order, the places before place j of rule q and the steps to them, but not those where no siblings can
 -- stand.
-abbrev pub AreInwardsTo : Measure → PlainGrammar → ℕ → ℕ → List Place → List Step → Type 0
+abbrev pub AreInwardsTo : Measure → PlainGrammar → ℕ → ℕ → List RulePlace → List Step → Type 0
 AreInwardsTo w g q j places steps = ArePlaced at_rule at_place (IsInward w g) (HasSiblings g) (λ r k. IsEarlier r k q j) places steps
 
 -- all of a grammar
-abbrev pub AreInwards : Measure → PlainGrammar → List Place → List Step → Type 0
+abbrev pub AreInwards : Measure → PlainGrammar → List RulePlace → List Step → Type 0
 AreInwards w g places steps = AreInwardsTo w g (length g.rules + 1) 0 places steps
 
 -- ways begin at the start symbol, where the context is the hole alone

@@ -8,24 +8,25 @@ ghost use Rattle.cs_embed.specs.Ways.{inward_beside, siblings_cost};
 ghost use Rattle.cs_embed.specs.Kept.{AreRestCosts, AreInwardsBefore, AreInwardsOf};
 
 use cs_cost::{Cost, Costs, cost_of, plus};
-use cs_grammar::{Symbol, number_of};
+use cs_grammar::Symbol;
+use cs_numbers::number_of;
 use cs_ways::Step;
 use std::alloc::{AllocError, Global};
 
 // Room for the costs behind as many symbols is made at once.
 const USUAL_SYMBOLS: usize = 16;
 
-// Where the hole of a context may stand: at this place of a rule's right side.
+/// Where a symbol stands: at a place, from 0, of the right side of a rule, by its number from 1.
 #[derive(Clone, Copy, Debug)]
-pub(crate) struct Place {
-    pub(crate) rule: u16,
-    pub(crate) place: u16,
+pub struct RulePlace {
+    pub rule: u16,
+    pub place: u16,
 }
 
 // The steps of a grammar, in the order of their rules and places, and the place to which each leads.
 #[derive(Debug, Drop)]
 pub(crate) struct Inwards {
-    pub(crate) places: Vec<Place>,
+    pub(crate) places: Vec<RulePlace>,
     pub(crate) steps: Vec<Step>,
 }
 
@@ -108,7 +109,7 @@ fn push_inwards(
         let found = inward(costs, rule.left(), *symbol, before, rest[place + 1]);
         before = joint_cost(costs, before, costs.cost(*symbol));
         if let Some(step) = found {
-            inwards.places.push(Place {
+            inwards.places.push(RulePlace {
                 rule: number,
                 place: place as u16,
             })?;

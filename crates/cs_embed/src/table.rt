@@ -5,7 +5,7 @@ ghost use Rattle.std.specs.Prelude.{◌≡◌, IfOk};
 ghost use Rattle.cs_embed.specs.Ways.{told_cost};
 ghost use Rattle.cs_embed.specs.Kept.{AreTablesOf};
 
-use crate::inwards::{Inwards, Place, all_inwards};
+use crate::inwards::{Inwards, RulePlace, all_inwards};
 use cs_cost::{Cost, Costs};
 use cs_ways::{Reach, Source, Steps, first_steps, least_ways};
 use std::alloc::{AllocError, Global};
@@ -14,7 +14,7 @@ use std::alloc::{AllocError, Global};
 // ones takes last.
 #[derive(Debug, Drop)]
 pub(crate) struct Tables {
-    pub(crate) places: Vec<Place>,
+    pub(crate) places: Vec<RulePlace>,
     pub(crate) reaches: Vec<Reach>,
     pub(crate) firsts: Vec<Option<usize>>,
 }

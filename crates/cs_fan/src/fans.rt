@@ -62,7 +62,7 @@ fn share<R: Threads, T: Sync, U: Send + Drop, W: Work<T, U> + Sync, G: Gate + Sy
     let (theirs, mine) = join_mut(
         rt,
         &mut ||
-            requires { IsReady (W.takes all.now.work.now)
+            requires ready { IsReady (W.takes all.now.work.now)
                 all.now.items.now all.now.counter.now other }
             ensures of { IsOf all.entry.now.counter.now other.exit }
             ensures workers { other.exit.workers ≡ other.entry.workers }

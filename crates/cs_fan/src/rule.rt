@@ -4,7 +4,7 @@ use crate::view::View;
 use atomic_table::{Join, Play, Split, TableRule};
 
 /// The rule of a counter, told by its numbers of items and of workers.
-pub struct Draws;
+pub(crate) struct Draws;
 
 impl TableRule<u8, View, (u32, u16)> for Draws {
     ghost use Rattle.cs_fan.specs.Rule.{Kept, first_view};
@@ -15,7 +15,7 @@ impl TableRule<u8, View, (u32, u16)> for Draws {
 }
 
 /// A draw: the word grows by 1, and the seat gets the number or sees the end.
-pub struct Draw;
+pub(crate) struct Draw;
 
 impl Play<u8, View> for Draw {
     ghost use Rattle.cs_fan.specs.Rule.{Drew};
@@ -24,7 +24,7 @@ impl Play<u8, View> for Draw {
 }
 
 /// A look at the word, which changes nothing and tells what the rule says of the seat.
-pub struct Look;
+pub(crate) struct Look;
 
 impl Play<u8, View> for Look {
     ghost use Rattle.cs_fan.specs.Rule.{Looked};
@@ -33,7 +33,7 @@ impl Play<u8, View> for Look {
 }
 
 /// One worker's part of a view, split off and joined again.
-pub struct Part;
+pub(crate) struct Part;
 
 impl Split<View> for Part {
     ghost use Rattle.cs_fan.specs.Rule.{kept_part, given_part};

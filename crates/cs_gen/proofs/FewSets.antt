@@ -201,10 +201,6 @@ abbrev last_from : ℕ → List ℕ → ℕ
 last_from from [] = from
 last_from from (number ∷ numbers) = last_from (from + letters (token_re 116 (decimal number))) numbers
 
-abbrev last_rule : ℕ → List ℕ → ℕ
-last_rule rule [] = rule
-last_rule rule (number ∷ numbers) = last_rule (suc rule) numbers
-
 shape_of : (numbers : List ℕ) → AreFew numbers → (rule from : ℕ) (x : List ℕ) (p : ℕ) (front : List Place) (last : Place) (rest : List Place) → Spells Itself (any_of rule from (res (patterns_of numbers))) ((front ++ last ∷ []) ++ rest)
     → ReadEach HasByte (front ++ last ∷ []) x → last.number ≡ p → Shape (last_from from numbers) x p
 shape_of [] few rule from x p front last rest (inl h) r n = spacing_shape rule from x p front last rest h r n

@@ -21,7 +21,7 @@ use Rattle.cs_lex_layout.specs.Steps.{here, step}
 use Rattle.cs_lex_layout.specs.Runs as runs
 use Rattle.cs_lex_layout.specs.Runs.{ends_part, IsPiece}
 use Rattle.cs_lex_kinds.specs.Gaps.{byte, IsGap, IsSign}
-use Rattle.cs_lex_kinds.specs.Returns.{Named, IsNamed, spelled, Returns}
+use Rattle.cs_lex_kinds.specs.Returns.{IsNamed, spelled, Returns}
 use Rattle.cs_lex_kinds.specs.Returns as named
 use Rattle.cs_lex_kinds.specs.Marks.{IsUnmarked, HasNoMark}
 use Rattle.cs_lex_kinds.specs.Kinds.{skip, word, bar, IsBar, text_of, has_foreign, returns_of, IsKindByWords, no_return, one_return, IsKind, by_words}
@@ -83,9 +83,6 @@ one_gap passes c b rest f e o = record {
 }
 
 -- ---- `;`
-
-semicolon_bytes : list_all is_action_byte (59 ∷ []) ≡ true
-semicolon_bytes = refl
 
 semicolon_no_bar : ¬ IsBar (59 ∷ [])
 semicolon_no_bar = no_bar_sign (59 ∷ []) (no_sign is_blank refl 124 (59 ∷ []) 0 (no_gap is_blank 59 [] refl (opens_none 59 [] refl)) refl)

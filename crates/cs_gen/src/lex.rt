@@ -18,7 +18,7 @@ fn put_token_rule(text: &mut Vec<u8>, number: u8) -> Result<(), AllocError>
 }
 
 /// The lex file.
-pub fn lex_text(alloc: Global) -> Result<Vec<u8>, AllocError>
+pub(crate) fn lex_text(alloc: Global) -> Result<Vec<u8>, AllocError>
     ensures { IfOk result (λ text. text.items ≡ texts.lex_text) }
 {
     let mut text = Vec::from_slice(alloc, b"%%\n")?;

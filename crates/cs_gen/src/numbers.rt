@@ -11,14 +11,14 @@ const MULTIPLIER: u64 = 6_364_136_223_846_793_005;
 const INCREMENT: u64 = 1_442_695_040_888_963_407;
 
 /// The tokens and the nonterminals of each generated file.
-pub const TOKENS: u8 = 24;
+pub(crate) const TOKENS: u8 = 24;
 
-pub const NONTERMINALS: u8 = 40;
+pub(crate) const NONTERMINALS: u8 = 40;
 
 /// A sequence of numbers, by the number at which it stands.
 #[derive(Drop)]
-pub struct Numbers {
-    pub at: u64,
+pub(crate) struct Numbers {
+    pub(crate) at: u64,
 }
 
 impl Numbers {

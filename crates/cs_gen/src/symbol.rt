@@ -8,7 +8,7 @@ use std::alloc::AllocError;
 
 /// A symbol by its number, from 1.
 #[derive(Clone, Copy)]
-pub enum Symbol {
+pub(crate) enum Symbol {
     Token(u8),
     Nonterminal(u8),
 }

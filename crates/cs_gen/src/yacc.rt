@@ -67,7 +67,7 @@ fn put_declaration(text: &mut Vec<u8>) -> Result<(), AllocError>
 }
 
 /// The yacc file of the seed.
-pub fn yacc_text(alloc: Global, seed: u64) -> Result<Vec<u8>, AllocError>
+pub(crate) fn yacc_text(alloc: Global, seed: u64) -> Result<Vec<u8>, AllocError>
     ensures { IfOk result (λ text. text.items ≡ yacc_text seed) }
 {
     let mut text = Vec::new(alloc);

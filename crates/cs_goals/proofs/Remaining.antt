@@ -12,7 +12,7 @@ use Rattle.cs_grammar.specs.Grammar.{Production, PlainGrammar}
 use Rattle.cs_goals.specs.declared.goal.Goal.{Goal}
 use Rattle.cs_goals.specs.declared.goal.Goal.TheVariants.{Rule, Context, Pair}
 use Rattle.cs_goals.specs.Goals.{rule_goals, numbered_rules, rules_of, goals_at, goals_in, context_goals, token_marks, left_marks, right_marks, goals_after, pair_goals}
-use Rattle.cs_goals.specs.Rest.{rules_left, places_left, outers_left, contexts_left, lefts_left, pairs_left}
+use Rattle.cs_goals.specs.Rest.{left_mark, rules_left, places_left, outers_left, contexts_left, lefts_left, pairs_left}
 use Rattle.cs_goals.proofs.Numbered.{drop-enumerate_from, drop-enumerate_from_past, drop-map-range, drop-map-range_past}
 
 -- rule goals
@@ -109,17 +109,11 @@ module _ (g : PlainGrammar) where
         ∙ ap (λ (l : List Goal). Context (p + 1) (j + 1) (r + 1) ∷ l) (sym (at_rule j (r + 1)))
 
 -- the left mark behind so many
-pub left_mark : ℕ → Mark
-left_mark zero = Begin
-left_mark (suc n) = Token (suc n)
-
 pub left_mark_first : (a : ℕ) → a ≡ 0 → left_mark a ≡ Begin
-unfolding left_mark
 left_mark_first zero e = refl
 left_mark_first (suc a) e = absurd (omega (arith, e))
 
 pub left_mark_token : (a : ℕ) → a ≢ 0 → left_mark a ≡ Token a
-unfolding left_mark
 left_mark_token zero e = absurd (e refl)
 left_mark_token (suc a) e = refl
 
@@ -141,7 +135,6 @@ module _ (tokens : ℕ) where
       ap (λ (l : List Mark). lefts_left tokens l b) (drop_all a (left_marks tokens) (omega arith))
 
   lefts : (a : ℕ) → a ≤ tokens → drop a (left_marks tokens) ≡ left_mark a ∷ drop (a + 1) (left_marks tokens)
-  unfolding left_mark
   lefts zero within = refl
   lefts (suc a) within =
       let same : suc a + 1 ≡ suc (a + 1) = omega arith in

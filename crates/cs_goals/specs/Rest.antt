@@ -1,9 +1,10 @@
 -- What is left of the list of goals, and how one more is taken from it.
-use Rattle.std.specs.Prelude.{◌≡◌, ℕ, ◌+◌, ◌<◌, List, [], ◌∷◌, ◌++◌, Option, MatchOption, map, length, drop}
+use Rattle.std.specs.Prelude.{◌≡◌, ℕ, zero, suc, ◌+◌, ◌<◌, List, [], ◌∷◌, ◌++◌, Option, MatchOption, map, length, drop}
 use Rattle.std.specs.List.{flat_map, enumerate_from, range_with_len}
 use Rattle.cs_grammar.specs.declared.symbol.Symbol.{Symbol}
 use Rattle.cs_grammar.specs.declared.symbol.Symbol.TheVariants.{Token, Nonterminal}
 use Rattle.cs_grammar.specs.declared.symbol.Mark.{Mark}
+use Rattle.cs_grammar.specs.declared.symbol.Mark.TheVariants.{Begin, Token as TokenMark}
 use Rattle.cs_grammar.specs.Grammar.{Production, PlainGrammar}
 use Rattle.cs_goals.specs.declared.goal.Goal.{Goal}
 use Rattle.cs_goals.specs.declared.goals.GivenPairs.{GivenPairs}
@@ -30,6 +31,11 @@ outers_left g ((p, rule) ∷ rules) i q = places_left g p (drop i (enumerate_fro
 -- the context goals behind the first p rules, the first i places and the first q rules there
 abbrev pub contexts_left : PlainGrammar → ℕ → ℕ → ℕ → List Goal
 contexts_left g p i q = outers_left g (drop p (numbered_rules g)) i q
+
+-- the left mark behind so many
+abbrev pub left_mark : ℕ → Mark
+left_mark zero = Begin
+left_mark (suc n) = TokenMark (suc n)
 
 -- the pair goals of these left marks, without those of the first b right marks at the first of them
 abbrev pub lefts_left : ℕ → List Mark → ℕ → List Goal

@@ -2,11 +2,12 @@
 
 ghost use Rattle.std.specs.Prelude.{◌≡◌, ◌≤◌, [], ◌∷◌, IfSome, IfNone};
 ghost use Rattle.cs_goals.specs.Goals.{goals};
-ghost use Rattle.cs_goals.specs.Rest.{rules_left, contexts_at, pairs_at, Gives};
+ghost use Rattle.cs_goals.specs.Rest.{left_mark, rules_left, contexts_at, pairs_at, Gives};
 
 use crate::goal::{Criteria, Goal};
 use crate::occurrence::{Occurrence, next_occurrence};
-use cs_grammar::{Grammar, Mark, number_of};
+use cs_grammar::{Grammar, Mark};
+use cs_numbers::number_of;
 use std::marker::Model;
 
 /// The goals that are still to be given: rule goals by number, then context goals by outer rule, place and inner rule,
@@ -126,6 +127,17 @@ fn next_context(grammar: &Grammar, given: &mut Occurrence) -> Option<Goal>
     }
 }
 
+// The left mark that comes after so many.
+fn left_mark(given: u16) -> Mark
+    ensures { result ≡ left_mark given }
+{
+    if given == 0 {
+        Mark::Begin
+    } else {
+        Mark::Token(given)
+    }
+}
+
 fn next_pair(grammar: &Grammar, given: &mut GivenPairs) -> Option<Goal>
     requires { given.old.right ≤ grammar.now.tokens }
     ensures goal { Gives (pairs_at grammar.now given.old) (pairs_at grammar.now given.new) result }
@@ -136,11 +148,7 @@ fn next_pair(grammar: &Grammar, given: &mut GivenPairs) -> Option<Goal>
     if tokens < given.left {
         return None;
     }
-    let left = if given.left == 0 {
-        Mark::Begin
-    } else {
-        Mark::Token(given.left)
-    };
+    let left = left_mark(given.left);
     if given.right < tokens {
         given.right += 1;
         Some(Goal::Pair {

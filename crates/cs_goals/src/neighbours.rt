@@ -12,7 +12,7 @@ fn same_mark(first: Mark, second: Mark) -> bool
 }
 
 // Whether one mark is directly followed by another in the framed list.
-pub fn has_pair(tokens: &[u16], left: Mark, right: Mark) -> bool
+pub(crate) fn has_pair(tokens: &[u16], left: Mark, right: Mark) -> bool
     ensures { IsTrue result ↔ IsFollowed left right (framed tokens.now) }
 {
     let mut last = Mark::Begin;

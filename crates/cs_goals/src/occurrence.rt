@@ -7,10 +7,10 @@ use cs_grammar::{Grammar, Rule, Symbol};
 
 // A context goal's place in the list of them, each number counted from 0.
 #[derive(Clone, Copy, Debug)]
-pub struct Occurrence {
-    pub outer: usize,
-    pub place: usize,
-    pub inner: usize,
+pub(crate) struct Occurrence {
+    pub(crate) outer: usize,
+    pub(crate) place: usize,
+    pub(crate) inner: usize,
 }
 
 // The first rule of a left side from a place of the rules on.
@@ -42,7 +42,7 @@ fn next_in(grammar: &Grammar, rule: &Rule, place: usize, inner: usize) -> Option
 }
 
 // The first context goal from a place in the list of them on.
-pub fn next_occurrence(grammar: &Grammar, from: Occurrence) -> Option<Occurrence>
+pub(crate) fn next_occurrence(grammar: &Grammar, from: Occurrence) -> Option<Occurrence>
     ensures { IsNextContext grammar.now from result }
 {
     let mut start = from;

@@ -2,7 +2,7 @@
 //!
 //! The layers above build a `Grammar` (which is well formed from then on) and read it by `rules`, `rule` and the counts;
 //! write the code of a tree into a `Derivation`, and get the tokens of a derivation by `expand` or `yield_of`. Trees are
-//! measured by `Weights`. Numbers count from 1 and places from 0; `place_of` and `number_of` lead from one to the other.
+//! measured by `Weights`. Numbers count from 1 and places from 0: see `cs_numbers`.
 //!
 //! Of the files of `specs/`, these say what is meant: `Grammar`, `Tree`, `Weights`, `Context`, `Places`, `Uses`,
 //! `Sentence`, `Leftmost`, `Fault`; `Laws` has the two halves of "exactly one". `Stack`, `Walk` and `Entries` have
@@ -13,7 +13,6 @@ mod derivation;
 mod expansion;
 mod grammar;
 mod laws;
-mod number;
 mod rule;
 mod stack;
 mod symbol;
@@ -24,7 +23,6 @@ pub use derivation::Derivation;
 pub use expansion::{ExpandError, expand, yield_of};
 pub use grammar::Grammar;
 pub use laws::{one_outcome, one_tree};
-pub use number::{number_of, place_of};
 pub use rule::Rule;
 pub use stack::put_on_top;
 pub use symbol::{Mark, Symbol};

@@ -16,7 +16,7 @@ const USUAL_SYMBOLS: usize = 32;
 
 // What a list of rule numbers comes to. Places are counted from 0.
 #[derive(Debug, Drop)]
-pub enum Expansion {
+pub(crate) enum Expansion {
     Yield(Vec<u16>),
     WrongRule(usize),
     TooFew,
@@ -64,7 +64,7 @@ fn rule_of(grammar: &Grammar, number: u16, left: u16) -> Option<&Rule>
 }
 
 // What the rule numbers come to.
-pub fn walk(
+pub(crate) fn walk(
     alloc: Global,
     grammar: &Grammar,
     derivation: &Derivation,

@@ -6,10 +6,10 @@ use Rattle.std.proofs.Math.ListN.{set, length-set}
 use Rattle.std.proofs.lemmas.Bool.{cases_eq}
 use Rattle.std.proofs.lemmas.List.Elements.{Contains-append_left, Contains-append_cases, Contains-push}
 use Rattle.cs_graph.specs.Graph.{Edge, IsOrdered}
-use Rattle.cs_graph.specs.Marks.{IsMarked, unmarked}
+use Rattle.cs_graph.specs.Marks.{IsMarked}
 use Rattle.cs_graph.specs.Order.{IsPartial}
 use Rattle.cs_graph.proofs.Counting.{unmarked-set, marked_there, marked_still, marked_before, unmarked_not}
-use Rattle.cs_graph.proofs.Single.{contained_alone, contains_none}
+use Rattle.cs_graph.proofs.Single.{contained_alone}
 
 pub not_nil : (xs ys : List ℕ) (y : ℕ) → [] ≡ xs ++ y ∷ ys → ⊥
 not_nil xs ys y e = let f : 0 ≡ length (xs ++ y ∷ ys) = ap length e in absurd (omega (arith, length-append xs (y ∷ ys)))
@@ -42,22 +42,6 @@ module _ (graph : List (Vec ℕ)) where
       | inl last ↦ new (subst (Contains order) last.1 (subst (λ (xs : List ℕ). Contains xs i) last.0 h))
       | inr inner ↦ o.once before inner.0 i inner.1 h
     ];
-  }
-
-  pub none_ordered : IsOrdered graph []
-  none_ordered = record {
-    within = λ i h. absurd (contains_none i h);
-    behind = λ before after i to is e. absurd (not_nil before after i is);
-    once = λ before after i is h. not_nil before after i is;
-  }
-
-  pub none_partial : (ready : List Bool) → length ready ≡ length graph → ((i : ℕ) → IsMarked ready i → ⊥) → unmarked ready ≡ length graph → IsPartial graph ready []
-  none_partial ready size none count = record {
-    size = size;
-    ordered = none_ordered;
-    marked = λ i h. absurd (contains_none i h);
-    listed = λ i h. absurd (none i h);
-    count = omega arith;
   }
 
   pub partial_push : (ready : List Bool) (order : List ℕ) (node : ℕ) → IsPartial graph ready order → node < length graph → get_or ready node false ≡ false → ((to : ℕ) → Edge graph node to → IsMarked ready to) → IsPartial graph (set ready node true) (order ++ node ∷ [])

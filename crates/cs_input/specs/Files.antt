@@ -1,5 +1,6 @@
 -- Files that a command names. Where the desk tells no files, any files count.
 use Rattle.std.specs.Prelude.{◌≡◌, ◌⊎◌, ◌≤◌, ℕ, length, List, Option, None, Some, Result, Err, IsSomeAnd}
+use Rattle.cs_bytes.specs.Limits.{most_bytes}
 use Rattle.cs_io.specs.Desk.{Files, IsMissing, file_named}
 use Rattle.cs_io.specs.Uses.{Change, HasFailed}
 use Rattle.cs_yacc.specs.File as yacc
@@ -13,7 +14,7 @@ use Rattle.cs_input.specs.declared.refusal.Stop.TheVariants.{NoFile}
 
 -- a file has at most so many bytes
 abbrev pub IsShort : List ℕ → Type 0
-IsShort bytes = length bytes ≤ 1048576
+IsShort bytes = length bytes ≤ most_bytes
 
 -- where the files are told, the file is there and has P
 abbrev pub FileIs : Option Files → List ℕ → (List ℕ → Type 0) → Type 0

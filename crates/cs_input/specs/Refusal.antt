@@ -1,5 +1,6 @@
 -- Why files are refused, the first cause that applies.
 use Rattle.std.specs.Prelude.{◌≡◌, ◌⊎◌, ◌<◌, ℕ, length, List, Option}
+use Rattle.cs_bytes.specs.Limits.{most_bytes}
 use Rattle.cs_automaton.specs.Counted.{IsAbove}
 use Rattle.cs_automaton.specs.Meaning.{res}
 use Rattle.cs_automaton.specs.Places.{InSet}
@@ -26,7 +27,7 @@ HasManyStates file = IsAbove (InSet (res file.patterns)) 16384
 
 -- why a yacc file alone is refused
 abbrev pub RefusesGrammar : Refusal → List ℕ → Type 0
-RefusesGrammar (TooLong Yacc) bytes = 1048576 < length bytes
+RefusesGrammar (TooLong Yacc) bytes = most_bytes < length bytes
 RefusesGrammar (TooLong Lex) bytes = ⊥
 RefusesGrammar (OfYacc error) bytes = IsShort bytes × Refuses error bytes
 RefusesGrammar (OfLex error) bytes = ⊥
@@ -35,8 +36,8 @@ RefusesGrammar States bytes = ⊥
 -- Why a yacc file and a lex file are refused: the length of the one, of the other, the reading of the one, of the other, and
 -- the states of the automaton.
 abbrev pub RefusesPair : Refusal → List ℕ → List ℕ → Type 0
-RefusesPair (TooLong Yacc) bytes more = 1048576 < length bytes
-RefusesPair (TooLong Lex) bytes more = IsShort bytes × (1048576 < length more)
+RefusesPair (TooLong Yacc) bytes more = most_bytes < length bytes
+RefusesPair (TooLong Lex) bytes more = IsShort bytes × (most_bytes < length more)
 RefusesPair (OfYacc error) bytes more = IsShort bytes × IsShort more × Refuses error bytes
 RefusesPair (OfLex error) bytes more =
     IsShort bytes × IsShort more × ((file : yacc.File) × IsYaccFile bytes file) × lex_reading.Refuses error more

@@ -1,6 +1,7 @@
 // What bytes mean that were read.
 
 ghost use Rattle.std.specs.Prelude.{◌≡◌, ◌≤◌, ◌<◌, IfErr, IfOk, Ok, length, Err};
+ghost use Rattle.cs_bytes.specs.Limits.{most_bytes};
 ghost use Rattle.cs_lex.specs.File.{HasTokensOf};
 ghost use Rattle.cs_input.specs.Files.{IsGrammarOf, IsPairOf, IsShort};
 ghost use Rattle.cs_input.specs.Refusal.{CanBeTold, RefusesRead, RefusesReadGrammar, lex_stop};
@@ -20,7 +21,7 @@ pub struct Pair {
 }
 
 /// What the bytes of a yacc file mean.
-pub fn judge_grammar(alloc: Global, bytes: &[u8]) -> Result<YaccFile, Stop>
+pub(crate) fn judge_grammar(alloc: Global, bytes: &[u8]) -> Result<YaccFile, Stop>
     ensures read { IfOk result (λ file. IsGrammarOf file bytes.now) }
     ensures refused { IfErr result (RefusesReadGrammar bytes.now) }
     ensures told { IfErr result CanBeTold }
@@ -58,7 +59,7 @@ fn stop_of(error: LexError) -> Stop
 
 fn check_length(bytes: &[u8], role: Role) -> Result<(), Stop>
     ensures short { IfOk result (λ _. IsShort bytes.now) }
-    ensures long { IfErr result (λ _. 1048576 < length bytes.now) }
+    ensures long { IfErr result (λ _. most_bytes < length bytes.now) }
     ensures error { IfErr result (λ stop. stop ≡ Refused (TooLong role)) }
 {
     if bytes.len() > MOST_BYTES {

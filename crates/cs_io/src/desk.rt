@@ -31,7 +31,7 @@ pub trait Desk {
     /// How many calls have failed. The count never falls, and at the greatest u64 it stands still.
     ghost faults: { Self → ℕ };
 
-    /// Whether no call ever fails.
+    /// Whether no call adds to `faults`.
     ghost steady: { Self → Bool };
 
     /// The first `most` bytes of the file of that name, or all of them where it is shorter.

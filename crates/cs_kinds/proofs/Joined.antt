@@ -60,11 +60,3 @@ joined_later Any u v hu hv = tt
 joined_later Empty u v hu hv = ap (λ (l : List ℕ). l ++ v) hu ∙ hv
 joined_later (Begins b) u v hu hv = (hv.0, ap (λ (l : List ℕ). l ++ v) hu ∙ hv.1)
 joined_later (Ends a) u v hu hv = (u ++ hv.0, ap (λ (l : List ℕ). u ++ l) hv.1 ∙ sym (append_assoc u hv.0 (a ∷ [])))
-
--- no token at all is of the kinds that name none
-pub bare_of_kind : (k : TreeKind) → IsOfKind k [] → (k ≡ Any) ⊎ (k ≡ Empty)
-bare_of_kind Any h = inl refl
-bare_of_kind Empty h = inr refl
-bare_of_kind (Begins b) h = let e = h.1 in absurd cc
-bare_of_kind (Ends a) ([], e) = absurd cc
-bare_of_kind (Ends a) (x ∷ rest, e) = absurd cc

@@ -1,13 +1,14 @@
 -- A kind and a symbol with a tree have a chosen tree.
-use Rattle.std.proofs.Common.{◌≡◌, ℕ, zero, suc, ◌+◌, ◌-◌, ◌<◌, ◌≤◌, ◌⊎◌, List, [], ◌∷◌, length, get_or, refl, sym, ap, ◌∙◌, subst, ⊎_elim, inl, inr, arith}
+use Rattle.std.proofs.Common.{◌≡◌, ℕ, zero, suc, ◌+◌, ◌-◌, ◌<◌, ◌≤◌, ◌⊎◌, List, [], ◌∷◌, length, refl, sym, ap, ◌∙◌, subst, ⊎_elim, inl, inr, arith}
 use Rattle.std.proofs.lemmas.Bool.{cases_eq, cases_lt}
-use Rattle.std.proofs.lemmas.Option.{slice_get_within, slice_get-get_or}
+use Rattle.std.proofs.lemmas.Option.{slice_get_within}
 use Rattle.cs_grammar.specs.declared.symbol.Symbol.{Symbol}
 use Rattle.cs_grammar.specs.declared.symbol.Symbol.TheVariants.{Token, Nonterminal}
 use Rattle.cs_grammar.specs.Grammar.{Production, PlainGrammar, IsRule}
 use Rattle.cs_grammar.specs.Weights.{Measure}
 use Rattle.cs_grammar.specs.Tree.{IsTree, Tree, Leaf, Node, Forest, Bare, Grown, size, sizes}
 use Rattle.cs_grammar.proofs.OneTree.{one_rule}
+use Rattle.cs_cost.proofs.Rules.{some_rule}
 use Rattle.cs_kinds.specs.declared.kind.TreeKind.{TreeKind}
 use Rattle.cs_kinds.specs.declared.kind.TreeKind.TheVariants.{Any, Empty, Begins, Ends}
 use Rattle.cs_kinds.specs.Kinds.{IsTreeOfKind, AreTreesOfKind, before, behind}
@@ -118,9 +119,9 @@ module _ (w : Measure) (g : PlainGrammar) where
     node_settled i =
         ⊎_elim
         (λ within.
-        let p = get_or g.rules i (record { left = 0; right = [] }) in
-        let at = slice_get-get_or g.rules i (record { left = 0; right = [] }) within in
-        let rule : IsRule g (suc i) p = record { above_zero = omega arith; at = (let e : suc i - 1 ≡ i = omega arith in rw e at) } in
+        let there = some_rule g i within in
+        let p = there.0 in
+        let rule = there.1 in
         ⊎_elim
         (λ left. ⊎_elim
         (λ none. inl (λ a. omega (arith, none a.children (here p rule a))))

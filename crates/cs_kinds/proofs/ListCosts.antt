@@ -6,12 +6,11 @@ use Rattle.cs_grammar.specs.Grammar.{PlainGrammar}
 use Rattle.cs_grammar.specs.Weights.{Measure, number}
 use Rattle.cs_grammar.specs.Tree.{Tree, Leaf, Bare, size}
 use Rattle.cs_cost.specs.declared.cost.Cost.{Cost}
-use Rattle.cs_cost.specs.Least.{IsCost}
 use Rattle.cs_cost.specs.Rank.{capped, rank, IsCapped}
-use Rattle.cs_cost.proofs.Ranks.{rank-cost_of, IsCapped-cost_of, IsCost-from, cost_low, cost_reached, cost_capped}
+use Rattle.cs_cost.proofs.Ranks.{rank-cost_of, IsCapped-cost_of}
 use Rattle.cs_kinds.specs.declared.kind.TreeKind.{TreeKind}
 use Rattle.cs_kinds.specs.declared.kind.TreeKind.TheVariants.{Any, Empty, Begins, Ends}
-use Rattle.cs_kinds.specs.Kinds.{IsOfKind, IsTreeOfKind, AreTreesOfKind, before, behind, IsPart, IsKind}
+use Rattle.cs_kinds.specs.Kinds.{IsOfKind, IsTreeOfKind, AreTreesOfKind, before, behind, IsKind}
 use Rattle.cs_kinds.specs.ListCost.{lesser, leaf_cost, bare_cost}
 
 -- the parts of a kind
@@ -26,13 +25,6 @@ IsKind-behind tokens Any h = tt
 IsKind-behind tokens Empty h = tt
 IsKind-behind tokens (Begins b) h = tt
 IsKind-behind tokens (Ends a) h = tt
-
-pub IsKind-part : (tokens : ℕ) (k j : TreeKind) → IsPart k j → IsKind tokens k → IsKind tokens j
-IsKind-part tokens k j part h =
-    ⊎_elim
-    (λ e. subst (IsKind tokens) (sym e) h)
-    (λ other. ⊎_elim (λ e. subst (IsKind tokens) (sym e) (IsKind-before tokens k h)) (λ e. subst (IsKind tokens) (sym e) (IsKind-behind tokens k h)) other)
-    part
 
 module _ (w : Measure) where
   pub lesser_left : (a b : Cost) → rank w.limit (lesser w.limit a b) ≤ rank w.limit a
@@ -87,19 +79,3 @@ module _ (w : Measure) where
   IsCapped-bare Empty = omega arith
   IsCapped-bare (Begins b) = tt
   IsCapped-bare (Ends a) = tt
-
--- the members of two kinds together cost the lesser
-module _ {A : Type 0} (w : Measure) (First Second Both : A → Type 0) (measure : A → ℕ) where
-  pub IsCost-either : (a b : Cost) → IsCost w.limit First measure a → IsCost w.limit Second measure b → ((x : A) → First x → Both x) → ((x : A) → Second x → Both x) → ((x : A) → Both x → First x ⊎ Second x) → IsCost w.limit Both measure (lesser w.limit a b)
-  IsCost-either a b ha hb one other split =
-      IsCost-from w.limit Both measure (lesser w.limit a b) (IsCapped-lesser w a b (cost_capped w.limit First measure a ha) (cost_capped w.limit Second measure b hb))
-      (λ h.
-      ⊎_elim
-      (λ e. let x = cost_reached w.limit First measure a ha (omega (arith, h, ap (rank w.limit) e)) in (x.0, one x.0 x.1, omega (arith, x.2, ap (rank w.limit) e)))
-      (λ e. let x = cost_reached w.limit Second measure b hb (omega (arith, h, ap (rank w.limit) e)) in (x.0, other x.0 x.1, omega (arith, x.2, ap (rank w.limit) e)))
-      (lesser_either w a b))
-      (λ x h.
-      ⊎_elim
-      (λ is. omega (arith, lesser_left w a b, cost_low w.limit First measure a ha x is))
-      (λ is. omega (arith, lesser_right w a b, cost_low w.limit Second measure b hb x is))
-      (split x h))

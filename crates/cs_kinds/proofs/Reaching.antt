@@ -15,14 +15,14 @@ use Rattle.cs_ways.specs.declared.reach.Reach.{Reach}
 use Rattle.cs_ways.specs.declared.reach.Reach.TheVariants.{Never}
 use Rattle.cs_ways.specs.Ways.{Net, IsWay, way_cost, IsReach, reach_at, AreLeastWays}
 use Rattle.cs_kinds.specs.declared.side.Side.{Side}
-use Rattle.cs_kinds.specs.declared.rims.Place.{Place}
+use Rattle.cs_embed.specs.declared.inwards.RulePlace.{RulePlace}
 use Rattle.cs_kinds.specs.Kinds.{IsTreeOfKind}
 use Rattle.cs_kinds.specs.Numbers.{number_of}
 use Rattle.cs_kinds.specs.Sides.{kind_on}
 use Rattle.cs_kinds.specs.Rims.{AreRims}
 use Rattle.cs_kinds.proofs.Rimming.{way_of_tree, tree_of_way}
 
-pub reach_exact : (w : Measure) (g : PlainGrammar) (side : Side) (grammar : IsGrammar g) (net : Net) (places : List Place) (rims : AreRims w g side places net.steps) (t : ℕ) (source : Source) (begins : source.node ≡ t) (leaf : source.cost ≡ number w t) (fits : IsNumberOf g.tokens t) (x : Symbol) → IsSymbolOf g x → (r : Reach) → IsReach w.limit net (source ∷ []) (number_of g.tokens x) r → IsCost w.limit (IsTreeOfKind g (kind_on side t) x) (size w) (told_cost r)
+pub reach_exact : (w : Measure) (g : PlainGrammar) (side : Side) (grammar : IsGrammar g) (net : Net) (places : List RulePlace) (rims : AreRims w g side places net.steps) (t : ℕ) (source : Source) (begins : source.node ≡ t) (leaf : source.cost ≡ number w t) (fits : IsNumberOf g.tokens t) (x : Symbol) → IsSymbolOf g x → (r : Reach) → IsReach w.limit net (source ∷ []) (number_of g.tokens x) r → IsCost w.limit (IsTreeOfKind g (kind_on side t) x) (size w) (told_cost r)
 reach_exact w g side grammar net places rims t source begins leaf fits x xf r is =
     let n = number_of g.tokens x in
     IsCost-alike w.limit (IsWay net (source ∷ []) n) (IsTreeOfKind g (kind_on side t) x) way_cost (size w) (told_cost r)
@@ -37,7 +37,7 @@ reach_read table m i d e within =
     subst (λ k. reach_at table k ≡ get_or table i d) (sym next) (get_or_default table i Never d within)
 
 -- the entry of a nonterminal in a table of least ways from a token
-pub row_entry : (w : Measure) (g : PlainGrammar) (side : Side) (grammar : IsGrammar g) (net : Net) (places : List Place) (rims : AreRims w g side places net.steps) (t : ℕ) (fits : IsNumberOf g.tokens t) (source : Source) → source.node ≡ t → source.cost ≡ number w t → net.nodes ≡ g.tokens + g.nonterminals → (table : List Reach) → AreLeastWays w.limit net (source ∷ []) table → (n i : ℕ) (d : Reach) → n < g.nonterminals → i ≡ g.tokens + n → IsCost w.limit (IsTreeOfKind g (kind_on side t) (Nonterminal (n + 1))) (size w) (told_cost (get_or table i d))
+pub row_entry : (w : Measure) (g : PlainGrammar) (side : Side) (grammar : IsGrammar g) (net : Net) (places : List RulePlace) (rims : AreRims w g side places net.steps) (t : ℕ) (fits : IsNumberOf g.tokens t) (source : Source) → source.node ≡ t → source.cost ≡ number w t → net.nodes ≡ g.tokens + g.nonterminals → (table : List Reach) → AreLeastWays w.limit net (source ∷ []) table → (n i : ℕ) (d : Reach) → n < g.nonterminals → i ≡ g.tokens + n → IsCost w.limit (IsTreeOfKind g (kind_on side t) (Nonterminal (n + 1))) (size w) (told_cost (get_or table i d))
 row_entry w g side grammar net places rims t fits source begins leaf nodes table least n i d within is_i =
     let m = g.tokens + (n + 1) in
     let at = reach_read table m i d (omega (arith, is_i)) (omega (arith, is_i, within, nodes, least.many)) in

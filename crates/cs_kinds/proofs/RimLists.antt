@@ -1,12 +1,12 @@
 -- The lists of rims, one step and one rule after another, and what stands beside a symbol.
-use Rattle.std.proofs.Common.{◌≡◌, ℕ, ◌+◌, ◌≤◌, List, [], ◌∷◌, ◌++◌, Some, length, get_or, take, drop, refl, sym, ap, ◌∙◌, subst, ⊎_elim, arith}
+use Rattle.std.proofs.Common.{◌≡◌, ℕ, ◌+◌, ◌≤◌, List, [], ◌∷◌, ◌++◌, Some, length, get_or, take, drop, refl, sym, ap, ◌∙◌, subst, arith}
 use Rattle.std.specs.Prelude.{slice_get, All}
 use Rattle.std.proofs.lemmas.List.{length-take-le}
 use Rattle.std.proofs.lemmas.Option.{slice_get_within, slice_get-get_or}
 use Rattle.cs_grammar.specs.declared.symbol.Symbol.{Symbol}
 use Rattle.cs_grammar.specs.declared.symbol.Symbol.TheVariants.{Token, Nonterminal}
 use Rattle.cs_grammar.specs.Grammar.{Production, PlainGrammar, IsRule, IsSymbolOf, IsGrammar}
-use Rattle.cs_grammar.specs.Places.{IsEarlier, SymbolAt}
+use Rattle.cs_grammar.specs.Places.{SymbolAt}
 use Rattle.cs_grammar.specs.Weights.{Measure}
 use Rattle.cs_grammar.specs.Tree.{Forest, sizes}
 use Rattle.cs_cost.specs.declared.cost.Cost.{Cost}
@@ -18,9 +18,9 @@ use Rattle.cs_embed.specs.Embeds.{siblings_size}
 use Rattle.cs_embed.proofs.Steps.{split_at, same_place, place_low}
 use Rattle.cs_ways.specs.declared.step.Step.{Step}
 use Rattle.cs_ways.specs.Ways.{IsNode}
-use Rattle.cs_ways.proofs.PlacedLists.{placed_none, placed_skip, placed_push, placed_next}
+use Rattle.cs_ways.proofs.PlacedLists.{placed_skip, placed_push, placed_next}
 use Rattle.cs_kinds.specs.declared.side.Side.{Side}
-use Rattle.cs_kinds.specs.declared.rims.Place.{Place}
+use Rattle.cs_embed.specs.declared.inwards.RulePlace.{RulePlace}
 use Rattle.cs_kinds.specs.Kinds.{AreTreesOfKind}
 use Rattle.cs_kinds.specs.Sides.{before_on, behind_on}
 use Rattle.cs_kinds.specs.Numbers.{number_of}
@@ -42,19 +42,14 @@ beside_none : (w : Measure) (g : PlainGrammar) (side : Side) (xs ys : List Symbo
 beside_none w g side xs ys c h none = subst (IsBesideCost w g side xs ys) none h
 
 module _ (w : Measure) (g : PlainGrammar) (side : Side) where
-  pub rims_none : (places : List Place) (steps : List Step) → places ≡ [] → steps ≡ [] → AreRimsTo w g side 1 0 places steps
-  rims_none places steps e f =
-      placed_none at_rule at_place (IsRim w g side) (HasBeside g side) (λ r k. IsEarlier r k 1 0) places steps e f
-      (λ r k has early. ⊎_elim (λ less. omega (arith, less, has.here.number.above_zero)) (λ same. omega (arith, same.1)) early)
-
   -- behind the last place of a rule the next begins
-  pub rims_next : (q j : ℕ) (p : Production) (places : List Place) (steps : List Step) → IsRule g q p → length p.right ≤ j → AreRimsTo w g side q j places steps → AreRimsTo w g side (q + 1) 0 places steps
+  pub rims_next : (q j : ℕ) (p : Production) (places : List RulePlace) (steps : List Step) → IsRule g q p → length p.right ≤ j → AreRimsTo w g side q j places steps → AreRimsTo w g side (q + 1) 0 places steps
   rims_next q j p places steps rule past so_far =
       placed_next at_rule at_place (IsRim w g side) (HasBeside g side) q j places steps so_far
       (λ k has. omega (arith, place_low g q k p has.here rule, past))
 
   -- the step of a symbol of a rule, as the code makes it
-  module _ (q j : ℕ) (p : Production) (rule : IsRule g q p) (items : List Symbol) (is : items ≡ p.right) (x : Symbol) (here : slice_get items j ≡ Some x) (ys : List Symbol) (is_ys : ys ≡ drop (j + 1) items) (others : Cost) (is_others : IsBesideCost w g side (take j items) ys others) (places : List Place) (steps : List Step) (so_far : AreRimsTo w g side q j places steps) where
+  module _ (q j : ℕ) (p : Production) (rule : IsRule g q p) (items : List Symbol) (is : items ≡ p.right) (x : Symbol) (here : slice_get items j ≡ Some x) (ys : List Symbol) (is_ys : ys ≡ drop (j + 1) items) (others : Cost) (is_others : IsBesideCost w g side (take j items) ys others) (places : List RulePlace) (steps : List Step) (so_far : AreRimsTo w g side q j places steps) where
     abbrev split : p.right ≡ take j items ++ x ∷ ys
     split = sym is ∙ split_at items j x here ∙ ap (λ (l : List Symbol). take j items ++ x ∷ l) (sym is_ys)
 
@@ -73,7 +68,7 @@ module _ (w : Measure) (g : PlainGrammar) (side : Side) where
             beside_none w g side (take j items) ys others is_others never has.beside
             (subst (λ (l : List Symbol). AreTreesOfKind g (before_on side) l has.beside.0) same.before has.are.0, subst (λ (l : List Symbol). AreTreesOfKind g (behind_on side) l has.beside.1) same.behind has.are.1)
 
-    pub rims_made : (a : Place) (s : Step) (places' : List Place) (steps' : List Step) → places' ≡ places ++ a ∷ [] → steps' ≡ steps ++ s ∷ [] → a.rule ≡ q → a.place ≡ j → s.from ≡ number_of g.tokens x → s.to ≡ g.tokens + p.left → IsStepCost w.limit others (Some s.cost) → AreRimsTo w g side q (j + 1) places' steps'
+    pub rims_made : (a : RulePlace) (s : Step) (places' : List RulePlace) (steps' : List Step) → places' ≡ places ++ a ∷ [] → steps' ≡ steps ++ s ∷ [] → a.rule ≡ q → a.place ≡ j → s.from ≡ number_of g.tokens x → s.to ≡ g.tokens + p.left → IsStepCost w.limit others (Some s.cost) → AreRimsTo w g side q (j + 1) places' steps'
     rims_made a s places' steps' ep es is_rule is_place from to cost =
         let rim : IsRim w g side a s = record {
           here = record {
@@ -92,13 +87,13 @@ module _ (w : Measure) (g : PlainGrammar) (side : Side) where
           cost = cost.0;
           low = cost.1;
         } in
-        subst (λ (l : List Place). AreRimsTo w g side q (j + 1) l steps') (sym ep) (subst (λ (l : List Step). AreRimsTo w g side q (j + 1) (places ++ a ∷ []) l) (sym es)
+        subst (λ (l : List RulePlace). AreRimsTo w g side q (j + 1) l steps') (sym ep) (subst (λ (l : List Step). AreRimsTo w g side q (j + 1) (places ++ a ∷ []) l) (sym es)
         (placed_push at_rule at_place (IsRim w g side) (HasBeside g side) q j places steps so_far a s is_rule is_place rim))
 
 -- the steps lead from symbols of the grammar to symbols of the grammar
-pub rims_net : (w : Measure) (g : PlainGrammar) (side : Side) (grammar : IsGrammar g) (places : List Place) (steps : List Step) → AreRims w g side places steps → (nodes : ℕ) → nodes ≡ g.tokens + g.nonterminals → All (λ (s : Step). IsNode nodes s.from × IsNode nodes s.to) steps
+pub rims_net : (w : Measure) (g : PlainGrammar) (side : Side) (grammar : IsGrammar g) (places : List RulePlace) (steps : List Step) → AreRims w g side places steps → (nodes : ℕ) → nodes ≡ g.tokens + g.nonterminals → All (λ (s : Step). IsNode nodes s.from × IsNode nodes s.to) steps
 rims_net w g side grammar places steps rims nodes e k d within =
-    let dp : Place = record { rule = 0; place = 0 } in
+    let dp : RulePlace = record { rule = 0; place = 0 } in
     let s = get_or steps k d in
     let rim = (rims.each k (get_or places k dp) s (slice_get-get_or places k dp (omega (arith, within, rims.many))) (slice_get-get_or steps k d within)).0 in
     let from = node_fits rim.here.symbol (rule_symbol g (get_or places k dp).rule rim.here.production rim.here.before rim.here.symbol rim.here.behind grammar rim.here.number rim.here.right) in

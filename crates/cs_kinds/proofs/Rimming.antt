@@ -20,7 +20,7 @@ use Rattle.cs_ways.specs.Ways.{Net, Way, Begin, On, IsWay, way_cost}
 use Rattle.cs_kinds.specs.declared.kind.TreeKind.TheVariants.{Empty, Begins, Ends}
 use Rattle.cs_kinds.specs.declared.side.Side.{Side}
 use Rattle.cs_kinds.specs.declared.side.Side.TheVariants.{First, Last}
-use Rattle.cs_kinds.specs.declared.rims.Place.{Place}
+use Rattle.cs_embed.specs.declared.inwards.RulePlace.{RulePlace}
 use Rattle.cs_kinds.specs.Kinds.{IsOfKind, IsTreeOfKind, AreTreesOfKind}
 use Rattle.cs_kinds.specs.Numbers.{number_of}
 use Rattle.cs_kinds.specs.Sides.{kind_on, before_on, behind_on}
@@ -67,11 +67,11 @@ get_contained xs x has = slice_get_read xs (length xs) has.0 x refl has.1 (sym h
 pub contained_get : {X : Type 0} (xs : List X) (i : ℕ) (x : X) → slice_get xs i ≡ Some x → Contains xs x
 contained_get xs i x at = (i, slice_get_within xs i x at, get_or_from_slice_get xs i x x at)
 
-module _ (w : Measure) (g : PlainGrammar) (side : Side) (grammar : IsGrammar g) (net : Net) (places : List Place) (rims : AreRims w g side places net.steps) where
+module _ (w : Measure) (g : PlainGrammar) (side : Side) (grammar : IsGrammar g) (net : Net) (places : List RulePlace) (rims : AreRims w g side places net.steps) where
   -- the step by which a child's way goes on to its node
   pub record StepAt (r : ℕ) (p : Production) (xs : List Symbol) (x : Symbol) (ys : List Symbol) (fs : Forest × Forest) : Type 0 where
     pub index : ℕ
-    pub place : Place
+    pub place : RulePlace
     pub step : Step
     pub placed : slice_get places index ≡ Some place
     pub is_step : slice_get net.steps index ≡ Some step
@@ -170,7 +170,7 @@ module _ (w : Measure) (g : PlainGrammar) (side : Side) (grammar : IsGrammar g) 
     leaf_tree (Nonterminal m) c xf e is_c = absurd (omega (arith, xf, e, fits))
 
     -- a node with such a child
-    pub tree_on : (a : Place) (s : Step) (c : ℕ) → (rim : IsRim w g side a s) → TreeOf rim.here.symbol c → (f h : Forest) × (u : Tree) × IsTreeOfKind g (kind_on side t) (Nonterminal rim.here.production.left) (Node a.rule (join f (Grown u h))) × (capped w.limit (size w (Node a.rule (join f (Grown u h)))) ≤ capped w.limit (c + s.cost))
+    pub tree_on : (a : RulePlace) (s : Step) (c : ℕ) → (rim : IsRim w g side a s) → TreeOf rim.here.symbol c → (f h : Forest) × (u : Tree) × IsTreeOfKind g (kind_on side t) (Nonterminal rim.here.production.left) (Node a.rule (join f (Grown u h))) × (capped w.limit (size w (Node a.rule (join f (Grown u h)))) ≤ capped w.limit (c + s.cost))
     tree_on a s c rim below =
         let fs = cost_reached w.limit (AreBeside g side rim.here.before rim.here.behind) (siblings_size w) rim.others rim.is_others rim.low in
         let u = below.tree in
@@ -204,8 +204,8 @@ module _ (w : Measure) (g : PlainGrammar) (side : Side) (grammar : IsGrammar g) 
           cost = node.4;
         }
       where
-        place_of : (i : ℕ) (s : Step) → slice_get net.steps i ≡ Some s → (a : Place) × (slice_get places i ≡ Some a)
+        place_of : (i : ℕ) (s : Step) → slice_get net.steps i ≡ Some s → (a : RulePlace) × (slice_get places i ≡ Some a)
         place_of i s at =
             let within : i < length places = omega (arith, rims.many, slice_get_within net.steps i s at) in
-            let d : Place = record { rule = 0; place = 0 } in
+            let d : RulePlace = record { rule = 0; place = 0 } in
             (get_or places i d, slice_get-get_or places i d within)

@@ -1,5 +1,6 @@
 -- One more symbol in a sweep.
-use Rattle.std.proofs.Common.{◌≡◌, ℕ, ◌≤◌, ◌⊎◌, List, [], ◌∷◌, ◌++◌, refl, sym, ap, ◌∙◌, subst, ⊎_elim, inl, inr, arith}
+use Rattle.std.proofs.Common.{◌≡◌, ℕ, ◌≤◌, ◌⊎◌, List, [], ◌∷◌, ◌++◌, length, drop, refl, sym, ap, ◌∙◌, subst, ⊎_elim, inl, inr, arith}
+use Rattle.std.proofs.lemmas.List.{drop_all}
 use Rattle.cs_grammar.specs.declared.symbol.Symbol.{Symbol}
 use Rattle.cs_grammar.specs.declared.symbol.Symbol.TheVariants.{Token}
 use Rattle.cs_grammar.specs.Grammar.{PlainGrammar}
@@ -43,6 +44,10 @@ module _ (w : Measure) (g : PlainGrammar) where
       low : (f : Forest) → AreTreesOfKind g k [] f → rank w.limit (bare_cost k) ≤ capped w.limit (sizes w f)
       low Bare h = omega (arith, bare_low w k h.1)
       low (Grown t f) h = absurd h.0
+
+  -- a sweep over no symbols is one over what is left behind all
+  pub swept_behind : (xs : List Symbol) (sweep : Sweep) → IsSwept w g [] sweep → IsSwept w g (drop (length xs) xs) sweep
+  swept_behind xs sweep none = subst (λ (l : List Symbol). IsSwept w g l sweep) (sym (drop_all (length xs) xs (omega arith))) none
 
   module _ (k : TreeKind) (x : Symbol) (xs : List Symbol) where
     -- the lesser of the two ways is the least

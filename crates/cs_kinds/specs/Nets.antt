@@ -5,7 +5,7 @@ use Rattle.cs_cost.specs.declared.cost.Cost.{Cost}
 use Rattle.cs_ways.specs.Ways as ways
 use Rattle.cs_ways.specs.Turned.{turned}
 use Rattle.cs_kinds.specs.declared.nets.Net.{Net}
-use Rattle.cs_kinds.specs.declared.rims.Place.{Place}
+use Rattle.cs_embed.specs.declared.inwards.RulePlace.{RulePlace}
 use Rattle.cs_kinds.specs.declared.side.Side.{Side}
 use Rattle.cs_kinds.specs.declared.side.Side.TheVariants.{Last}
 use Rattle.cs_kinds.specs.Sides.{kind_on}
@@ -27,7 +27,7 @@ AreRowsOn v side rows = AreCostRows v.weights v.grammar (kind_on side) v.grammar
 
 -- the steps to the last token of a yield, turned round: from the nodes inwards
 pub record AreStepsToEnds (v : Weighed) (inwards : ways.Net) : Type 0 where
-  pub places : List Place
+  pub places : List RulePlace
   pub ends : ways.Net
   pub nodes : ends.nodes ≡ v.grammar.tokens + v.grammar.nonterminals
   pub rims : AreRims v.weights v.grammar Last places ends.steps

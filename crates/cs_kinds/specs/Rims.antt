@@ -13,7 +13,7 @@ use Rattle.cs_embed.specs.Embeds.{siblings_size}
 use Rattle.cs_ways.specs.declared.step.Step.{Step}
 use Rattle.cs_ways.specs.Placed.{ArePlaced}
 use Rattle.cs_kinds.specs.declared.side.Side.{Side}
-use Rattle.cs_kinds.specs.declared.rims.Place.{Place}
+use Rattle.cs_embed.specs.declared.inwards.RulePlace.{RulePlace}
 use Rattle.cs_kinds.specs.Kinds.{AreTreesOfKind}
 use Rattle.cs_kinds.specs.Numbers.{number_of}
 use Rattle.cs_kinds.specs.Sides.{before_on, behind_on}
@@ -27,7 +27,7 @@ abbrev pub IsBesideCost : Measure → PlainGrammar → Side → List Symbol → 
 IsBesideCost w g side xs ys cost = IsCost w.limit (AreBeside g side xs ys) (siblings_size w) cost
 
 -- the step leads from the symbol at this place of a rule to its left side, and costs what stands beside the symbol
-pub record IsRim (w : Measure) (g : PlainGrammar) (side : Side) (a : Place) (s : Step) : Type 0 where
+pub record IsRim (w : Measure) (g : PlainGrammar) (side : Side) (a : RulePlace) (s : Step) : Type 0 where
   pub here : SymbolAt g a.rule a.place
   pub from : s.from ≡ number_of g.tokens here.symbol
   pub to : s.to ≡ g.tokens + here.production.left
@@ -42,16 +42,16 @@ pub record HasBeside (g : PlainGrammar) (side : Side) (r k : ℕ) : Type 0 where
   pub beside : Forest × Forest
   pub are : AreBeside g side here.before here.behind beside
 
-abbrev pub at_rule : Place → ℕ
+abbrev pub at_rule : RulePlace → ℕ
 at_rule a = a.rule
 
-abbrev pub at_place : Place → ℕ
+abbrev pub at_place : RulePlace → ℕ
 at_place a = a.place
 
 -- the lists have, in order, the places and the steps up to a place of a rule, but those beside which no trees can stand
-abbrev pub AreRimsTo : Measure → PlainGrammar → Side → ℕ → ℕ → List Place → List Step → Type 0
+abbrev pub AreRimsTo : Measure → PlainGrammar → Side → ℕ → ℕ → List RulePlace → List Step → Type 0
 AreRimsTo w g side q j places steps = ArePlaced at_rule at_place (IsRim w g side) (HasBeside g side) (λ r k. IsEarlier r k q j) places steps
 
 -- all of a grammar
-abbrev pub AreRims : Measure → PlainGrammar → Side → List Place → List Step → Type 0
+abbrev pub AreRims : Measure → PlainGrammar → Side → List RulePlace → List Step → Type 0
 AreRims w g side places steps = AreRimsTo w g side (length g.rules + 1) 0 places steps

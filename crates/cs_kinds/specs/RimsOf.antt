@@ -5,15 +5,9 @@ use Rattle.cs_grammar.specs.Weights.{Weighed}
 use Rattle.cs_cost.specs.declared.cost.Cost.{Cost}
 use Rattle.cs_cost.specs.declared.cost.Cost.TheVariants.{Never}
 use Rattle.cs_cost.specs.Rank.{rank}
-use Rattle.cs_kinds.specs.declared.kind.TreeKind.TheVariants.{Empty}
 use Rattle.cs_kinds.specs.declared.side.Side.{Side}
-use Rattle.cs_kinds.specs.declared.rims.Bases.{Bases}
 use Rattle.cs_kinds.specs.declared.rims.Rims.{Rims}
-use Rattle.cs_kinds.specs.Tables.{AreCosts}
 use Rattle.cs_kinds.specs.Rims.{IsBesideCost, AreRimsTo}
-
-abbrev pub AreBases : Bases → Type 0
-AreBases b = AreCosts b.costs.now.weights b.costs.now.grammar Empty b.empty.now
 
 abbrev pub IsBesideCostOf : Weighed → Side → List Symbol → List Symbol → Cost → Type 0
 IsBesideCostOf v side xs ys cost = IsBesideCost v.weights v.grammar side xs ys cost

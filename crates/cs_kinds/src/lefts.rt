@@ -3,7 +3,8 @@
 ghost use Rattle.std.specs.Prelude.{IfOk};
 ghost use Rattle.cs_kinds.specs.Lefts.{HasNoLefts, AreLefts};
 
-use cs_grammar::{Grammar, number_of, place_of};
+use cs_grammar::Grammar;
+use cs_numbers::{number_of, place_of};
 use std::alloc::{AllocError, Global};
 
 // Empty lists, so many.

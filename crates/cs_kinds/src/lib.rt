@@ -5,8 +5,8 @@
 //! the symbols of a right side cost that are of a kind together, and the codes of the chosen ones by `kind_into`. `Row` is a
 //! list of costs by number. The laws are functions that do nothing.
 //!
-//! Of the files in `specs/` these say what is meant: `Kinds`, `KindCost`, `ChosenKind` and `Laws`. The others are words of the
-//! parts: what their rows, rims, sweeps and pending parts hold.
+//! Of the files in `specs/` these say what is meant: `Kinds`, `KindCost`, `ChosenKind` and `Laws`. The others have working
+//! words of proofs: what rows, rims, sweeps and pending parts hold.
 #![tactic(auto)]
 
 mod empties;

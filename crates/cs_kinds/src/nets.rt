@@ -3,13 +3,13 @@
 ghost use Rattle.std.specs.Prelude.{◌≡◌, IfOk};
 ghost use Rattle.cs_grammar.specs.Grammar.{IsNumberOf};
 ghost use Rattle.cs_embed.specs.Ways.{told_cost};
-ghost use Rattle.cs_kinds.specs.RimsOf.{AreBases};
 ghost use Rattle.cs_kinds.specs.Nets.{IsNetOf, AreRowsOn, IsRowOn};
 
-use crate::rims::{Bases, Place, all_rims};
+use crate::rims::{Bases, all_rims};
 use crate::row::Row;
 use crate::side::Side;
 use cs_cost::{Cost, Costs};
+use cs_embed::RulePlace;
 use cs_ways::{Reach, Source, Steps, least_ways};
 use std::alloc::{AllocError, Global};
 
@@ -17,13 +17,12 @@ use std::alloc::{AllocError, Global};
 #[derive(Debug, Drop)]
 pub(crate) struct Net {
     pub(crate) side: Side,
-    pub(crate) places: Vec<Place>,
+    pub(crate) places: Vec<RulePlace>,
     pub(crate) steps: Steps,
 }
 
 pub(crate) fn net_of(alloc: Global, bases: &Bases, side: Side) -> Result<Net, AllocError>
-    requires { AreBases bases.now }
-    ensures { IfOk result (λ net. (net.side ≡ side) × IsNetOf bases.now.costs.now net) }
+    ensures { IfOk result (λ net. (net.side ≡ side) × IsNetOf bases.now net) }
 {
     let grammar = bases.costs.grammar();
     let _rules = grammar.rules();

@@ -6,33 +6,41 @@ ghost use Rattle.cs_cost.specs.Rank.{IsCapped, cost_of, plus};
 ghost use Rattle.cs_kinds.specs.Numbers.{number_of};
 ghost use Rattle.cs_kinds.specs.Sides.{before_on, behind_on};
 ghost use Rattle.cs_kinds.specs.KindCost.{IsKindCost, AreKindCost};
-ghost use Rattle.cs_kinds.specs.RimsOf.{AreBases, IsBesideCostOf, IsStepCost, AreRimsUpTo, AreRimsOf};
+ghost use Rattle.cs_kinds.specs.RimsOf.{IsBesideCostOf, IsStepCost, AreRimsUpTo, AreRimsOf};
 
 use crate::kind::TreeKind;
 use crate::side::Side;
 use cs_cost::{Cost, Costs, cost_of, plus};
-use cs_grammar::{Symbol, Weights, number_of, place_of};
+use cs_embed::RulePlace;
+use cs_grammar::{Symbol, Weights};
+use cs_numbers::{number_of, place_of};
 use cs_ways::Step;
 use std::alloc::{AllocError, Global};
-
-// Where a symbol stands: at this place of a rule's right side.
-#[derive(Clone, Copy, Debug)]
-pub(crate) struct Place {
-    pub(crate) rule: u16,
-    pub(crate) place: u16,
-}
+use std::marker::Model;
 
 // What any trees cost, and what those of empty yield do.
-#[derive(Clone, Copy, Debug)]
+#[derive(Debug, Drop)]
 pub(crate) struct Bases<'a, 'g> {
     pub(crate) costs: &'a Costs<'g>,
     pub(crate) empty: &'a [Cost],
 }
 
+impl<'a, 'g> Model for Bases<'a, 'g> {
+    ghost use Rattle.cs_grammar.specs.Weights.{Weighed};
+    ghost use Rattle.cs_kinds.specs.declared.kind.TreeKind.TheVariants.{Empty};
+    ghost use Rattle.cs_kinds.specs.Tables.{AreCosts};
+
+    ghost Value = { Weighed };
+
+    ghost view = { λ b. b.costs.now };
+
+    ghost invariant = { λ b. AreCosts b.costs.now.weights b.costs.now.grammar Empty b.empty.now };
+}
+
 // The steps of one side, and the place at which each leads. Symbols are numbered in one, tokens first.
 #[derive(Debug, Drop)]
 pub(crate) struct Rims {
-    pub(crate) places: Vec<Place>,
+    pub(crate) places: Vec<RulePlace>,
     pub(crate) steps: Vec<Step>,
 }
 
@@ -55,9 +63,8 @@ pub fn one_node(costs: &Costs) -> Cost
 }
 
 fn empty_cost(bases: &Bases, symbol: Symbol) -> Cost
-    requires bases { AreBases bases.now }
-    requires symbol { IsSymbolOf bases.now.costs.now.grammar symbol }
-    ensures { IsKindCost bases.now.costs.now TreeKind.Empty symbol result }
+    requires { IsSymbolOf bases.now.grammar symbol }
+    ensures { IsKindCost bases.now TreeKind.Empty symbol result }
 {
     match symbol {
         Symbol::Token(_) => Cost::Never,
@@ -67,10 +74,9 @@ fn empty_cost(bases: &Bases, symbol: Symbol) -> Cost
 
 // What trees of these symbols cost whose yields are empty.
 pub(crate) fn empty_sum(bases: &Bases, symbols: &[Symbol]) -> Cost
-    requires bases { AreBases bases.now }
-    requires symbols { All (IsSymbolOf bases.now.costs.now.grammar) symbols.now }
-    ensures cost { AreKindCost bases.now.costs.now TreeKind.Empty symbols.now result }
-    ensures capped { IsCapped bases.now.costs.now.weights.limit result }
+    requires { All (IsSymbolOf bases.now.grammar) symbols.now }
+    ensures cost { AreKindCost bases.now TreeKind.Empty symbols.now result }
+    ensures capped { IsCapped bases.now.weights.limit result }
 {
     let mut sum = Cost::Least(0);
     for place in (0..symbols.len()).rev() {
@@ -81,18 +87,17 @@ pub(crate) fn empty_sum(bases: &Bases, symbols: &[Symbol]) -> Cost
 
 // What trees of these symbols cost.
 pub(crate) fn any_sum(bases: &Bases, symbols: &[Symbol]) -> Cost
-    requires { All (IsSymbolOf bases.now.costs.now.grammar) symbols.now }
-    ensures cost { AreKindCost bases.now.costs.now TreeKind.Any symbols.now result }
-    ensures capped { IsCapped bases.now.costs.now.weights.limit result }
+    requires { All (IsSymbolOf bases.now.grammar) symbols.now }
+    ensures cost { AreKindCost bases.now TreeKind.Any symbols.now result }
+    ensures capped { IsCapped bases.now.weights.limit result }
 {
     bases.costs.sum(symbols)
 }
 
 fn before_cost(bases: &Bases, side: Side, symbols: &[Symbol]) -> Cost
-    requires bases { AreBases bases.now }
-    requires symbols { All (IsSymbolOf bases.now.costs.now.grammar) symbols.now }
-    ensures cost { AreKindCost bases.now.costs.now (before_on side) symbols.now result }
-    ensures capped { IsCapped bases.now.costs.now.weights.limit result }
+    requires { All (IsSymbolOf bases.now.grammar) symbols.now }
+    ensures cost { AreKindCost bases.now (before_on side) symbols.now result }
+    ensures capped { IsCapped bases.now.weights.limit result }
 {
     match side {
         Side::First => empty_sum(bases, symbols),
@@ -101,10 +106,9 @@ fn before_cost(bases: &Bases, side: Side, symbols: &[Symbol]) -> Cost
 }
 
 fn behind_cost(bases: &Bases, side: Side, symbols: &[Symbol]) -> Cost
-    requires bases { AreBases bases.now }
-    requires symbols { All (IsSymbolOf bases.now.costs.now.grammar) symbols.now }
-    ensures cost { AreKindCost bases.now.costs.now (behind_on side) symbols.now result }
-    ensures capped { IsCapped bases.now.costs.now.weights.limit result }
+    requires { All (IsSymbolOf bases.now.grammar) symbols.now }
+    ensures cost { AreKindCost bases.now (behind_on side) symbols.now result }
+    ensures capped { IsCapped bases.now.weights.limit result }
 {
     match side {
         Side::First => any_sum(bases, symbols),
@@ -114,11 +118,10 @@ fn behind_cost(bases: &Bases, side: Side, symbols: &[Symbol]) -> Cost
 
 // What a node costs with the trees beside a child that has a token at the side itself.
 fn beside_cost(bases: &Bases, side: Side, before: &[Symbol], behind: &[Symbol]) -> Cost
-    requires bases { AreBases bases.now }
-    requires before { All (IsSymbolOf bases.now.costs.now.grammar) before.now }
-    requires behind { All (IsSymbolOf bases.now.costs.now.grammar) behind.now }
-    ensures cost { IsBesideCostOf bases.now.costs.now side before.now behind.now result }
-    ensures capped { IsCapped bases.now.costs.now.weights.limit result }
+    requires before { All (IsSymbolOf bases.now.grammar) before.now }
+    requires behind { All (IsSymbolOf bases.now.grammar) behind.now }
+    ensures cost { IsBesideCostOf bases.now side before.now behind.now result }
+    ensures capped { IsCapped bases.now.weights.limit result }
 {
     let first = before_cost(bases, side, before);
     let last = behind_cost(bases, side, behind);
@@ -155,10 +158,9 @@ pub fn symbol_number(tokens: u16, symbol: Symbol) -> u16
 
 // Appends the steps of a rule, in the order of their places.
 fn push_rims(bases: &Bases, side: Side, number: u16, rims: &mut Rims) -> Result<(), AllocError>
-    requires bases { AreBases bases.now }
-    requires number { IsNumberOf (length bases.now.costs.now.grammar.rules) number }
-    requires rims { AreRimsUpTo bases.now.costs.now side number rims.old }
-    ensures { OnOk result (AreRimsUpTo bases.now.costs.now side (number + 1) rims.new) }
+    requires number { IsNumberOf (length bases.now.grammar.rules) number }
+    requires rims { AreRimsUpTo bases.now side number rims.old }
+    ensures { OnOk result (AreRimsUpTo bases.now side (number + 1) rims.new) }
 {
     let grammar = bases.costs.grammar();
     let _rules = grammar.rules();
@@ -169,7 +171,7 @@ fn push_rims(bases: &Bases, side: Side, number: u16, rims: &mut Rims) -> Result<
         let others = beside_cost(bases, side, &right[..place], &right[place + 1..]);
         if let Some(cost) = step_cost(bases.costs.weights(), others) {
             let from = symbol_number(grammar.tokens(), *symbol);
-            rims.places.push(Place {
+            rims.places.push(RulePlace {
                 rule: number,
                 place: place as u16,
             })?;
@@ -181,8 +183,7 @@ fn push_rims(bases: &Bases, side: Side, number: u16, rims: &mut Rims) -> Result<
 
 // The steps of a side, in the order of their rules and places.
 pub(crate) fn all_rims(alloc: Global, bases: &Bases, side: Side) -> Result<Rims, AllocError>
-    requires { AreBases bases.now }
-    ensures { IfOk result (AreRimsOf bases.now.costs.now side) }
+    ensures { IfOk result (AreRimsOf bases.now side) }
 {
     let mut rims = Rims {
         places: Vec::new(alloc),

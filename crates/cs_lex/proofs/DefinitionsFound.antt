@@ -5,7 +5,7 @@ use Rattle.std.specs.List.{position_or_len}
 use Rattle.std.specs.Str.{bytes_eq}
 use Rattle.std.proofs.lemmas.Bool.{false≢true}
 use Rattle.std.proofs.lemmas.Bool.Decides.{nat_tests}
-use Rattle.std.proofs.lemmas.List.{take_more, take-append-drop, map_push, length-map, length-drop, length-take}
+use Rattle.std.proofs.lemmas.List.{take-append-drop, length-map, length-drop, length-take}
 use Rattle.std.proofs.lemmas.List.Sums.{sum_by-append}
 use Rattle.std.proofs.lemmas.Option.{slice_get_within, slice_get-get_or}
 use Rattle.std.proofs.Math.Seq.{drop-cons}
@@ -73,14 +73,6 @@ not_twice bytes ds i d so_far name new lt is e n twice =
     let got : slice_get ds i ≡ Some d = slice_get-get_or ds i d lt ∙ ap Some (sym is) in
     let none : layout.has_name (layout.names_of bytes (take i ds)) name ≡ false = subst (λ (x : List ℕ). layout.has_name (layout.names_of bytes (take i ds)) x ≡ false) (sym n) (new i d got) in
     false≢true (sym (is_new bytes name (take i ds) so_far e none) ∙ twice)
-
-pub spelled_more : (bytes : List ℕ) (ds : List Definition) (i : ℕ) (d : Definition) (so_far more : List definitions.Definition) (name text : List ℕ) → i < length ds → d ≡ get_or ds i d → so_far ≡ all_spelled bytes (take i ds)
-    → name ≡ layout.bytes_of bytes d.name → text ≡ layout.bytes_of bytes d.substitute → more ≡ so_far ++ record { name = name; text = text } ∷ [] → more ≡ all_spelled bytes (take (i + 1) ds)
-spelled_more bytes ds i d so_far more name text lt is e n t m =
-    let front : take (i + 1) ds ≡ take i ds ++ d ∷ [] = take_more ds i d lt ∙ ap (λ (x : Definition). take i ds ++ x ∷ []) (sym is) in
-    let one : definitions.Definition = record { name = name; text = text } in
-    let same : one ≡ spelled bytes d = ap (λ (x : List ℕ). let y : definitions.Definition = record { name = x; text = text } in y) n ∙ ap (λ (x : List ℕ). let y : definitions.Definition = record { name = layout.bytes_of bytes d.name; text = x } in y) t in
-    m ∙ (ap (λ (xs : List definitions.Definition). xs ++ one ∷ []) e ∙ (ap (λ (x : definitions.Definition). all_spelled bytes (take i ds) ++ x ∷ []) same ∙ (sym (map_push (spelled bytes) (take i ds) d) ∙ ap (all_spelled bytes) (sym front))))
 
 -- ---- refused definitions
 

@@ -1,13 +1,12 @@
 -- A walk over the rules section, by which each action has a kind.
-use Rattle.std.proofs.Common.{◌≡◌, ℕ, ◌-◌, ◌<◌, ◌≤◌, List, [], ◌∷◌, ◌++◌, length, drop, refl, inl, inr}
+use Rattle.std.proofs.Common.{◌≡◌, ℕ, ◌-◌, ◌<◌, List, [], ◌∷◌, ◌++◌, drop, refl, inl}
 use Rattle.std.specs.List.{AllByRecursion}
 use Rattle.cs_lex_layout.specs.declared.line.LineKind.TheVariants as kinds
 use Rattle.cs_lex_layout.specs.declared.parts.Rule.{Rule}
-use Rattle.cs_lex_layout.specs.declared.error.LayoutError.{LayoutError}
 use Rattle.cs_lex_layout.specs.Steps.{Walk, here}
 use Rattle.cs_lex_layout.specs.Lines.{rules_kind}
-use Rattle.cs_lex_layout.specs.Layout.{HasRuleAt, IsPassedRule, RulesLine, no_rules, RulesFault}
-use Rattle.cs_lex_layout.proofs.Reading.{rule_passed, rule_more, has_rules, has_rules_at_end}
+use Rattle.cs_lex_layout.specs.Layout.{HasRuleAt, IsPassedRule, RulesLine, no_rules}
+use Rattle.cs_lex_layout.proofs.Reading.{rule_passed, rule_more, has_rules}
 use Rattle.cs_pattern.proofs.Linked.{all_push}
 use Rattle.cs_lex.specs.Settled.{HasActionKind, KindsEndOrStop}
 
@@ -32,9 +31,3 @@ kinds_rule bytes from at to r h is kind = record {
 
 pub kinds_end : (bytes : List ℕ) (from at : ℕ) → WalkedKinds bytes from at → rules_kind (drop at bytes) ≡ kinds.SectionEnd → KindsEndOrStop bytes from
 kinds_end bytes from at h k = inl (h.rules, has_rules bytes from at h.rules h.lines k, h.kinds)
-
-pub kinds_out : (bytes : List ℕ) (from at : ℕ) → WalkedKinds bytes from at → length bytes ≤ at → KindsEndOrStop bytes from
-kinds_out bytes from at h le = inl (h.rules, has_rules_at_end bytes from at h.rules h.lines le, h.kinds)
-
-pub kinds_fault : (bytes : List ℕ) (from at : ℕ) (error : LayoutError) → WalkedKinds bytes from at → RulesFault bytes at error → KindsEndOrStop bytes from
-kinds_fault bytes from at error h f = inr (error, (record { at = at; rules = h.rules }, h.lines, f))

@@ -23,16 +23,6 @@ module _ (ds : List definitions.Definition) (bytes : List ℕ) where
   patterns_push (s ∷ rs) r [] p h is = absurd h
   patterns_push (s ∷ rs) r (q ∷ ps) p h is = (h.0, patterns_push rs r ps p h.1 is)
 
-  pub found_start : (kept : List Pattern) → kept ≡ [] → HaveFound ds bytes [] kept 0
-  found_start kept e = record {
-    patterns = [];
-    have = refl;
-    scannable = λ k d lt. absurd (omega arith);
-    counted = refl;
-    are_kept = λ le. ap regexes e;
-    few = omega arith;
-  }
-
   pub found_more : (rs : List Rule) (i : ℕ) (r : Rule) (p : Pattern) (kept more : List Pattern) (count here : ℕ) → HaveFound ds bytes (take i rs) kept count → i < length rs → r ≡ get_or rs i r
       → IsRulePattern ds (pattern_of bytes r) (regex p) → here ≡ leaves (regex p) → (count + here ≤ 16384 → more ≡ kept ++ p ∷ []) → HaveFound ds bytes (take (i + 1) rs) more (count + here)
   found_more rs i r p kept more count here h lt is one counted keeps =

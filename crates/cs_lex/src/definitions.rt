@@ -1,6 +1,7 @@
 // The definitions of the file, all checked before the first rule.
 
 ghost use Rattle.std.specs.Prelude.{◌≡◌, ◌≤◌, length, IfOk, IfErr, OnOk};
+ghost use Rattle.cs_bytes.specs.Limits.{most_bytes};
 ghost use Rattle.cs_lex.specs.Found.{RefusesSubstitute};
 ghost use Rattle.cs_lex.specs.Patterns as spec;
 ghost use Rattle.cs_lex_layout.specs.Layout as layout;
@@ -16,7 +17,7 @@ use std::alloc::{AllocError, Global};
 /// The definitions with their names and texts.
 fn spelled(alloc: Global, bytes: &[u8], all: &[Definition]) -> Result<Definitions, AllocError>
     requires lie { DefinitionsLie (length bytes.now) (length bytes.now) all.now }
-    requires short { length bytes.now ≤ 1048576 }
+    requires short { length bytes.now ≤ most_bytes }
     requires new { layout.HaveNewNames bytes.now all.now }
     ensures { IfOk result (λ definitions. definitions ≡ spec.all_spelled bytes.now all.now) }
 {
@@ -34,13 +35,13 @@ fn spelled(alloc: Global, bytes: &[u8], all: &[Definition]) -> Result<Definition
 }
 
 /// The definitions, all of which are accepted.
-pub fn checked_definitions(
+pub(crate) fn checked_definitions(
     alloc: Global,
     bytes: &[u8],
     all: &[Definition],
 ) -> Result<Checked, LexError>
     requires lie { DefinitionsLie (length bytes.now) (length bytes.now) all.now }
-    requires short { length bytes.now ≤ 1048576 }
+    requires short { length bytes.now ≤ most_bytes }
     requires new { layout.HaveNewNames bytes.now all.now }
     ensures checked { IfOk result (λ checked. checked ≡ spec.all_spelled bytes.now all.now) }
     ensures accepted { OnOk result (AreAccepted (spec.all_spelled bytes.now all.now)) }

@@ -54,7 +54,7 @@ fn rule_kind(yacc: &YaccFile, bytes: &[u8], rule: Rule, next: Kind) -> Kind
 }
 
 /// The kinds of the rules, found from the last rule to the first.
-pub fn rule_kinds(
+pub(crate) fn rule_kinds(
     alloc: Global,
     yacc: &YaccFile,
     bytes: &[u8],

@@ -1,6 +1,7 @@
 // Laws of reading.
 
 ghost use Rattle.std.specs.Prelude.{◌≡◌, ◌≤◌, ℕ, List, length};
+ghost use Rattle.cs_bytes.specs.Limits.{most_bytes};
 ghost use Rattle.cs_yacc.specs.File.{File};
 ghost use Rattle.cs_lex.specs.Laws as spec;
 
@@ -25,7 +26,7 @@ pub fn refused_is_not_accepted()
 
 /// Bytes are accepted beside a yacc file, or refused. Which of the two is decided by walks over the bytes without memory.
 pub fn accepted_or_refused(bytes: &[u8])
-    requires { length bytes.now ≤ 1048576 }
+    requires { length bytes.now ≤ most_bytes }
     ensures { (yacc : File) → spec.IsAcceptedOrRefused bytes.now yacc }
 {
     if let Some(from) = definitions_end(bytes) {
@@ -35,7 +36,7 @@ pub fn accepted_or_refused(bytes: &[u8])
 
 /// The limits of the definitions are the code's.
 pub fn limits()
-    ensures bytes { MOST_BYTES ≡ 1048576 }
+    ensures bytes { MOST_BYTES ≡ most_bytes }
     ensures rules { MOST_RULES ≡ 2048 }
     ensures positions { MOST_POSITIONS ≡ 16384 }
 {}

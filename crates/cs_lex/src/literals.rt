@@ -14,7 +14,7 @@ fn entry(yacc: &YaccFile, byte: u8) -> u16
 }
 
 /// The tokens of the literals of all bytes, in order, or 0.
-pub fn literals(alloc: Global, yacc: &YaccFile) -> Result<Vec<u16>, AllocError>
+pub(crate) fn literals(alloc: Global, yacc: &YaccFile) -> Result<Vec<u16>, AllocError>
     ensures { IfOk result (λ literals. AreLiterals yacc.now literals.items) }
 {
     let mut literals = Vec::new(alloc);

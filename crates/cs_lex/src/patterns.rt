@@ -1,6 +1,7 @@
 // The patterns of the rules.
 
 ghost use Rattle.std.specs.Prelude.{◌≤◌, length, IfOk, IfErr, OnOk};
+ghost use Rattle.cs_bytes.specs.Limits.{most_bytes};
 ghost use Rattle.cs_lex.specs.Found.{ReadsRule, RefusesRule, HasCollected, RefusesSome, IsWithin, Keeps, RefusesPositions};
 ghost use Rattle.cs_lex_layout.specs.Lies.{RuleLies, RulesLie};
 
@@ -14,9 +15,9 @@ use std::alloc::{AllocError, Global};
 
 /// The patterns of rules, and how many leaves they have together. Beyond the limit the patterns aren't kept.
 #[derive(Drop)]
-pub struct Collected {
-    pub patterns: Vec<Pattern>,
-    pub leaves: u32,
+pub(crate) struct Collected {
+    pub(crate) patterns: Vec<Pattern>,
+    pub(crate) leaves: u32,
 }
 
 /// The pattern of the rule.
@@ -27,7 +28,7 @@ fn rule_pattern(
     definitions: &Checked,
 ) -> Result<Pattern, LexError>
     requires lies { RuleLies (length bytes.now) rule }
-    requires short { length bytes.now ≤ 1048576 }
+    requires short { length bytes.now ≤ most_bytes }
     ensures read { IfOk result (ReadsRule definitions.now bytes.now rule) }
     ensures refused { IfErr result (RefusesRule definitions.now bytes.now rule) }
 {
@@ -52,14 +53,14 @@ fn keep(patterns: &mut Vec<Pattern>, pattern: Pattern, leaves: u32) -> Result<()
 }
 
 /// The patterns of the rules, in order.
-pub fn collect_patterns(
+pub(crate) fn collect_patterns(
     alloc: Global,
     bytes: &[u8],
     rules: &[Rule],
     definitions: &Checked,
 ) -> Result<Collected, LexError>
     requires lie { RulesLie (length bytes.now) (length bytes.now) rules.now }
-    requires short { length bytes.now ≤ 1048576 }
+    requires short { length bytes.now ≤ most_bytes }
     requires few { length rules.now ≤ 2048 }
     ensures found { IfOk result (HasCollected definitions.now bytes.now rules.now) }
     ensures refused { IfErr result (RefusesSome definitions.now bytes.now rules.now) }
@@ -75,7 +76,7 @@ pub fn collect_patterns(
 }
 
 /// The patterns, where they have few enough leaves together.
-pub fn within_limit(collected: Collected) -> Result<Vec<Pattern>, LexError>
+pub(crate) fn within_limit(collected: Collected) -> Result<Vec<Pattern>, LexError>
     ensures within { IfOk result (IsWithin collected) }
     ensures refused { IfErr result (RefusesPositions collected) }
 {

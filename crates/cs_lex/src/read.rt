@@ -1,6 +1,7 @@
 // Reads a whole file.
 
 ghost use Rattle.std.specs.Prelude.{◌≤◌, length, IfOk, IfErr};
+ghost use Rattle.cs_bytes.specs.Limits.{most_bytes};
 ghost use Rattle.cs_lex.specs.File.{HasTokensOf};
 ghost use Rattle.cs_lex.specs.Reading.{IsLexFile, RefusesOrMemory};
 
@@ -22,7 +23,7 @@ use std::alloc::Global;
 /// place where layout stops; the others are tried in the order of the specification: no rules, `|` as the last action, too many
 /// rules, a definition, a rule's pattern in file order, too many positions. `Memory` is want of memory.
 pub fn read_lex(alloc: Global, bytes: &[u8], yacc: &YaccFile) -> Result<LexFile, LexError>
-    requires { length bytes.now ≤ 1048576 }
+    requires { length bytes.now ≤ most_bytes }
     ensures read { IfOk result (IsLexFile bytes.now yacc.now) }
     ensures tokens { IfOk result (HasTokensOf (length yacc.now.token_names)) }
     ensures refused { IfErr result (RefusesOrMemory bytes.now) }

@@ -1,6 +1,7 @@
 // Whether the rules are well made, before their patterns are read.
 
 ghost use Rattle.std.specs.Prelude.{◌≡◌, ◌≤◌, ◌<◌, ◌^◌, false, length, OnOk, IfErr, IsTrue};
+ghost use Rattle.cs_bytes.specs.Limits.{most_bytes};
 ghost use Rattle.cs_lex.specs.Found.{RulesRefused};
 ghost use Rattle.cs_lex.specs.Kinds as kinds;
 ghost use Rattle.cs_lex.specs.Reading.{AreRules};
@@ -13,7 +14,7 @@ use cs_lex_kinds::{ActionKind, action_kind};
 use cs_lex_layout::{Part, Rule};
 
 /// The bytes of a part.
-pub fn bytes_of(bytes: &[u8], part: Part) -> &[u8]
+pub(crate) fn bytes_of(bytes: &[u8], part: Part) -> &[u8]
     requires { LiesIn (length bytes.now) part }
     ensures { result.now ≡ layout.bytes_of bytes.now part }
 {
@@ -33,9 +34,9 @@ fn is_bar(bytes: &[u8], rule: Rule) -> bool
 }
 
 /// Refuses rules that are none, that end with `|`, or that are too many.
-pub fn check_rules(bytes: &[u8], rules: &[Rule]) -> Result<(), LexError>
+pub(crate) fn check_rules(bytes: &[u8], rules: &[Rule]) -> Result<(), LexError>
     requires lie { RulesLie (length bytes.now) (length bytes.now) rules.now }
-    requires short { length bytes.now ≤ 1048576 }
+    requires short { length bytes.now ≤ most_bytes }
     ensures ok { OnOk result (AreRules bytes.now rules.now) }
     ensures refused { IfErr result (RulesRefused bytes.now rules.now) }
 {

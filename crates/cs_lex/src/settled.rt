@@ -1,6 +1,7 @@
 // That the rules section ends or stops, and its actions have kinds.
 
 ghost use Rattle.std.specs.Prelude.{◌≤◌, length};
+ghost use Rattle.cs_bytes.specs.Limits.{most_bytes};
 ghost use Rattle.cs_lex.specs.Settled.{KindsEndOrStop};
 
 use crate::rules::bytes_of;
@@ -9,9 +10,9 @@ use cs_lex_layout::{RulesLine, rules_line};
 
 /// Walks over the rules section that begins at the offset, and over the action of each rule. It takes no memory and answers
 /// nothing: it is there for the law.
-pub fn walk_kinds(bytes: &[u8], from: usize)
+pub(crate) fn walk_kinds(bytes: &[u8], from: usize)
     requires within { from ≤ length bytes.now }
-    requires short { length bytes.now ≤ 1048576 }
+    requires short { length bytes.now ≤ most_bytes }
     ensures { KindsEndOrStop bytes.now from }
 {
     let mut at = from;

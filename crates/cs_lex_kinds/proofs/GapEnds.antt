@@ -1,6 +1,6 @@
 -- Gaps have one end.
-use Rattle.std.proofs.Common.{◌≡◌, ℕ, Bool, ◌+◌, ◌-◌, true, false, List, [], ◌∷◌, drop, Option, Some, None, sym, ap, subst, ◌∙◌, arith}
-use Rattle.std.specs.Prelude.{IfSome, IfNone}
+use Rattle.std.proofs.Common.{◌≡◌, ℕ, Bool, ◌+◌, ◌-◌, true, false, List, [], ◌∷◌, drop, Option, Some, None, sym, ap, subst, ◌∙◌}
+use Rattle.std.specs.Prelude.{IfNone}
 use Rattle.std.proofs.lemmas.Bool.{false≢true}
 use Rattle.cs_ctext.specs.Comments.{IsComment, OpensComment}
 use Rattle.cs_ctext.specs.Scans.{comment_size}
@@ -44,10 +44,6 @@ module _ (passes : ℕ → Bool) (no_slash : passes slash ≡ false) where
 -- ---- what the code finds
 
 module _ (passes : ℕ → Bool) where
-  pub comment_spacing : (text : List ℕ) (found : Option ℕ) → IfSome found (λ end. IsComment text (end - 0)) → IfSome found (λ n. IsSpacing passes text n)
-  comment_spacing text None h = h
-  comment_spacing text (Some n) h = let e : n - 0 ≡ n = omega arith in comment (rw e at h)
-
   pub no_spacing_there : (text : List ℕ) (found : Option ℕ) → front passes text ≡ false → IfNone found ((n : ℕ) → ¬ IsComment text n) → IfNone found ((n : ℕ) → ¬ IsSpacing passes text n)
   no_spacing_there text (Some n) e h = h
   no_spacing_there text None e h = none

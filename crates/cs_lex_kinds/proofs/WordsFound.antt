@@ -50,17 +50,9 @@ here_within n (v ∷ given) w rest h = here_within n given w rest h.2
 
 -- ---- one word more
 
-or_here : (b c : Bool) → c ≡ true → (b || c) ≡ true
-or_here true c e = refl
-or_here false c e = e
-
 neither : (b c d : Bool) → (b || c) ≡ false → (c ≡ false → d ≡ false) → (b || d) ≡ false
 neither true c d e f = absurd (false≢true (sym e))
 neither false c d e f = f e
-
-pub any_here : (p : Word → Bool) (given : List Word) (w : Word) (rest : List Word) → p w ≡ true → list_any p (given ++ w ∷ rest) ≡ true
-any_here p [] w rest e = rw e refl
-any_here p (v ∷ given) w rest e = or_here (p v) (list_any p (given ++ w ∷ rest)) (any_here p given w rest e)
 
 pub any_push : (p : Word → Bool) (given : List Word) (w : Word) → list_any p given ≡ false → p w ≡ false → list_any p (given ++ w ∷ []) ≡ false
 any_push p [] w e f = rw f refl

@@ -23,7 +23,7 @@ fn spacing_size(text: &[u8], class: ByteClass) -> Option<usize>
 }
 
 /// The size of the gap in front: bytes of the class, and closed comments.
-pub fn gap_size(text: &[u8], class: ByteClass) -> usize
+pub(crate) fn gap_size(text: &[u8], class: ByteClass) -> usize
     ensures gap { spec.IsGap (is_in class) text.now result }
     ensures within { result ≤ length text.now }
 {

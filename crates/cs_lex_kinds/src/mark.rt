@@ -17,7 +17,7 @@ use cs_ctext::{CText, opens_comment, skip_comment};
 
 /// What a mark says.
 #[derive(Clone, Copy, Debug)]
-pub enum Mark<'a> {
+pub(crate) enum Mark<'a> {
     Skip,
     Word(&'a [u8]),
     Literal(u8),
@@ -90,7 +90,7 @@ fn mark_at(text: &[u8]) -> Option<Mark<'_>>
 }
 
 /// The first mark of the text. A comment that isn't closed takes the rest.
-pub fn first_mark(text: &[u8]) -> Option<Mark<'_>>
+pub(crate) fn first_mark(text: &[u8]) -> Option<Mark<'_>>
     ensures { FindsMark text.now result }
 {
     let mut walk = CText::new(text);

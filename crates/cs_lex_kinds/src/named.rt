@@ -10,7 +10,7 @@ use cs_ctext::read_literal;
 
 /// What an action names: a token by its word or its byte, or the byte that was read.
 #[derive(Clone, Copy, Debug)]
-pub enum Named<'a> {
+pub(crate) enum Named<'a> {
     Word(&'a [u8]),
     Literal(u8),
     OwnByte,
@@ -18,20 +18,20 @@ pub enum Named<'a> {
 
 /// A name, and its size.
 #[derive(Clone, Copy, Debug)]
-pub struct FoundName<'a> {
-    pub named: Named<'a>,
-    pub size: usize,
+pub(crate) struct FoundName<'a> {
+    pub(crate) named: Named<'a>,
+    pub(crate) size: usize,
 }
 
 /// Whether the word begins the text.
-pub fn begins_with(text: &[u8], word: &[u8]) -> bool
+pub(crate) fn begins_with(text: &[u8], word: &[u8]) -> bool
     ensures { result ≡ bytes_eq (take (length word.now) text.now) word.now }
 {
     text.len() >= word.len() && same_bytes(to_offset(text, word.len()), word)
 }
 
 /// The literal in front.
-pub fn literal_at(text: &[u8]) -> Option<(u8, usize)>
+pub(crate) fn literal_at(text: &[u8]) -> Option<(u8, usize)>
     ensures literal { IfSome result (λ f. IsLiteral text.now f.0 f.1 × (f.1 ≤ length text.now)) }
     ensures none { IfNone result ((byte size : ℕ) → ¬ IsLiteral text.now byte size) }
 {
@@ -42,7 +42,7 @@ pub fn literal_at(text: &[u8]) -> Option<(u8, usize)>
 }
 
 /// The name in front of the text.
-pub fn named_at(text: &[u8]) -> Option<FoundName<'_>>
+pub(crate) fn named_at(text: &[u8]) -> Option<FoundName<'_>>
     ensures { FindsNamed text.now result }
 {
     if begins_with(text, b"yytext[0]") {

@@ -23,7 +23,7 @@ fn signs_size(text: &[u8], sign: u8, count: usize) -> Option<usize>
 }
 
 /// What is named behind `return`, between parentheses and before `;`.
-pub fn returned(text: &[u8]) -> Option<Named<'_>>
+pub(crate) fn returned(text: &[u8]) -> Option<Named<'_>>
     ensures { FindsReturned text.now result }
 {
     let opened = all_signs(text, b'(');

@@ -9,7 +9,7 @@ use crate::gap::gap_size;
 use cs_bytes::{ByteClass, from_offset, has_at};
 
 /// The size of the gap in front, in which bytes of the class may stand, and the sign behind it.
-pub fn sign_size(text: &[u8], sign: u8, class: ByteClass) -> Option<usize>
+pub(crate) fn sign_size(text: &[u8], sign: u8, class: ByteClass) -> Option<usize>
     requires { is_in class slash ≡ false }
     ensures signed { IfSome result (λ size. spec.IsSign (is_in class) sign text.now size) }
     ensures within { IfSome result (λ size. (0 < size) × (size ≤ length text.now)) }
@@ -25,13 +25,13 @@ pub fn sign_size(text: &[u8], sign: u8, class: ByteClass) -> Option<usize>
 
 /// How many signs were passed, and how many bytes.
 #[derive(Clone, Copy, Debug)]
-pub struct SignCount {
-    pub count: usize,
-    pub at: usize,
+pub(crate) struct SignCount {
+    pub(crate) count: usize,
+    pub(crate) at: usize,
 }
 
 /// All such signs in front, with the gaps of blanks, newlines and comments before them.
-pub fn all_signs(text: &[u8], sign: u8) -> SignCount
+pub(crate) fn all_signs(text: &[u8], sign: u8) -> SignCount
     ensures signs { spec.AreSigns sign text.now result.count result.at }
     ensures within { result.at ≤ length text.now }
     ensures few { result.count ≤ result.at }

@@ -11,7 +11,7 @@ use cs_ctext::{Word, words};
 
 /// What the words of an action say.
 #[derive(Clone, Copy, Debug)]
-pub enum Words {
+pub(crate) enum Words {
     /// One of them makes the action foreign.
     Foreign,
     /// None of them is `return`.
@@ -54,7 +54,7 @@ fn bytes_of(text: &[u8], word: Word) -> &[u8]
 }
 
 /// What the words of the text say.
-pub fn words_of(text: &[u8]) -> Words
+pub(crate) fn words_of(text: &[u8]) -> Words
     ensures { FindsWords text.now result }
 {
     let mut found = Words::None;

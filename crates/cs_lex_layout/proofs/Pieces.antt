@@ -1,8 +1,7 @@
 -- Parts and pieces of C text.
-use Rattle.std.proofs.Common.{◌≡◌, ℕ, ◌<◌, ◌≤◌, Bool, true, false, not, eqb, ◌&&◌, ◌||◌, List, [], ◌∷◌, length, drop, Option, Some, None, refl, sym, arith}
+use Rattle.std.proofs.Common.{◌≡◌, ℕ, ◌<◌, ◌≤◌, Bool, true, false, not, eqb, ◌&&◌, ◌||◌, List, [], ◌∷◌, length, Option, Some, None, refl, sym, arith}
 use Rattle.std.specs.Prelude.{IfSome}
 use Rattle.std.proofs.lemmas.Bool.{false≢true}
-use Rattle.std.proofs.lemmas.List.{length-drop}
 use Rattle.std.proofs.lemmas.List.Sums.{prefix_len-le-length}
 use Rattle.cs_ctext.specs.Blocks.{BeginsPart}
 use Rattle.cs_bytes.specs.Places.{begins_with}
@@ -10,10 +9,6 @@ use Rattle.cs_bytes.specs.Places.{front, front_or_end, line_len}
 use Rattle.cs_bytes.specs.Classes.{is_newline, is_space}
 use Rattle.cs_lex_layout.specs.Runs.{ends_part, IsPiece, part}
 use Rattle.cs_lex_layout.specs.Found.{closed_or_line}
-
-some_left : (text : List ℕ) → front_or_end is_newline text ≡ false → 0 < length text
-some_left [] e = absurd (false≢true (sym e))
-some_left (b ∷ text) e = omega arith
 
 -- ---- pieces
 
@@ -23,10 +18,6 @@ not_special braces (b ∷ text) e f = rw (e, f) refl
 
 pub part_piece : (braces : Bool) (text : List ℕ) (size : ℕ) → front_or_end is_newline text ≡ false → (braces && begins_with 123 text) ≡ false → BeginsPart text size → IsPiece braces text size
 part_piece braces text size e f h = part (h (ends_part braces) (not_special braces text e f))
-
--- a byte that begins no run's end stands before the text's end
-pub inside_text : (text : List ℕ) (at : ℕ) → front_or_end is_newline (drop at text) ≡ false → at < length text
-inside_text text at e = omega (arith, some_left (drop at text) e, length-drop at text)
 
 -- ---- what goes to the line's end
 

@@ -17,7 +17,7 @@ use Rattle.cs_bytes.specs.Places.{line_size, front}
 use Rattle.cs_bytes.specs.Classes.{begins_word, is_dashed_word_byte}
 use Rattle.cs_lex_layout.specs.Lines.{is_among, skipped_words, begins_condition, begins_loose, word_kind, percent_kind, definitions_kind, rules_kind}
 use Rattle.cs_lex_layout.specs.Forms.{line_of, IsCodeBlock, IsNoDefinition, IsOpenRule}
-use Rattle.cs_lex_layout.specs.Layout.{bytes_of, names_of, has_name, DefinitionsPlace, HasDefinitionAt, IsPassed, DefinitionsLine, passed, definition, no_definitions, HasDefinitions, RulesPlace, HasRuleAt, IsPassedRule, RulesLine, rule, no_rules, HasRules, HasLayout, DefinitionsFault, no_form, defined_again, RulesFault, open_action, StopsWith, in_definitions, in_rules}
+use Rattle.cs_lex_layout.specs.Layout.{bytes_of, names_of, has_name, HasDefinitionAt, IsPassed, DefinitionsLine, passed, definition, no_definitions, HasDefinitions, HasRuleAt, IsPassedRule, RulesLine, rule, no_rules, HasRules, no_form, defined_again, RulesFault, open_action, StopsWith, in_definitions, in_rules}
 use Rattle.cs_lex_layout.specs.Layout as spec
 use Rattle.cs_lex_layout.specs.Answers.{AnswersError}
 use Rattle.cs_lex_layout.specs.Places.{StopsInRulesOr}
@@ -122,14 +122,6 @@ module _ (bytes : List ℕ) (from at : ℕ) (rs : List Rule) (so_far : Walk (Rul
 
   pub has_rules_at_end : length bytes ≤ at → HasRules bytes from rs
   has_rules_at_end le = has_rules (ap rules_kind (drop_all at bytes le))
-
-  pub stops_in_rules : (e : LayoutError) → RulesFault bytes at e → StopsInRulesOr bytes from e
-  stops_in_rules (Unended n) f = (record { at = at; rules = rs }, so_far, f)
-  stops_in_rules (Layout n) f = (record { at = at; rules = rs }, so_far, f)
-  stops_in_rules (UnknownDirective n) f = (record { at = at; rules = rs }, so_far, f)
-  stops_in_rules (UnknownOption n) f = (record { at = at; rules = rs }, so_far, f)
-  stops_in_rules (StartCondition n) f = (record { at = at; rules = rs }, so_far, f)
-  stops_in_rules Memory f = tt
 
 pub rules_stop : (bytes : List ℕ) (ds : List Definition) (from : ℕ) (e : LayoutError) → HasDefinitions bytes ds from → StopsInRulesOr bytes from e → AnswersError bytes e
 rules_stop bytes ds from (Unended n) h s = in_rules ds from h s.0 s.1 s.2

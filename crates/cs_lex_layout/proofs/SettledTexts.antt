@@ -7,11 +7,10 @@ use Rattle.cs_lex_layout.specs.declared.error.LayoutError.{LayoutError}
 use Rattle.cs_lex_layout.specs.declared.error.LayoutError.TheVariants.{Layout}
 use Rattle.cs_lex_layout.specs.Steps.{Walk, here}
 use Rattle.cs_bytes.specs.Places.{line_size}
-use Rattle.cs_lex_layout.specs.Lines.{definitions_kind, rules_kind}
-use Rattle.cs_lex_layout.specs.Layout.{bytes_of, names_of, has_name, HasDefinitionAt, IsPassed, DefinitionsLine, definition, no_definitions, HasRuleAt, IsPassedRule, RulesLine, no_rules, DefinitionsFault, defined_again, RulesFault, in_definitions, in_rules}
+use Rattle.cs_lex_layout.specs.Layout.{bytes_of, names_of, has_name, HasDefinitionAt, IsPassed, DefinitionsLine, definition, no_definitions, HasRuleAt, IsPassedRule, RulesLine, no_rules, DefinitionsFault, defined_again, in_definitions, in_rules}
 use Rattle.cs_lex_layout.specs.Settled.{Stops, IsSettled, EndsOrStops, RulesEndOrStop}
 use Rattle.cs_lex_layout.proofs.Walks.{walk_push}
-use Rattle.cs_lex_layout.proofs.Reading.{passed_more, never_ends, has_definitions, rule_passed, rule_more, has_rules, has_rules_at_end}
+use Rattle.cs_lex_layout.proofs.Reading.{passed_more, never_ends, rule_passed, rule_more}
 
 -- layout stops, or lines of the definitions section lead to the offset
 abbrev pub Walked : List ℕ → ℕ → Type 0
@@ -31,10 +30,6 @@ walked_definition bytes at to d (inr h) def e = by_name (has_name (names_of byte
     by_name : (b : Bool) → has_name (names_of bytes h.0) (bytes_of bytes d.name) ≡ b → Walked bytes to
     by_name true old = inl (Layout at, in_definitions (record { at = at; definitions = h.0 }) h.1 (defined_again d def old refl))
     by_name false new = inr (h.0 ++ d ∷ [], walk_push h.1 (record { at = to; definitions = h.0 ++ d ∷ [] }) (definition d def new (rw e refl)))
-
-pub walked_end : (bytes : List ℕ) (at to : ℕ) → Walked bytes at → definitions_kind (drop at bytes) ≡ kinds.SectionEnd → to ≡ at + line_size (drop at bytes) → EndsOrStops bytes to
-walked_end bytes at to (inl s) k e = inl s
-walked_end bytes at to (inr h) k e = inr (h.0, has_definitions bytes at h.0 h.1 to k e)
 
 pub walked_fault : (bytes : List ℕ) (at : ℕ) (error : LayoutError) → Walked bytes at → ((ds : List Definition) → DefinitionsFault bytes (record { at = at; definitions = ds }) error) → Stops bytes
 walked_fault bytes at error (inl s) f = s
@@ -57,15 +52,6 @@ rules_walk_on bytes from at to h lt p = (h.0, rule_passed bytes from at h.0 h.1 
 
 pub rules_walk_rule : (bytes : List ℕ) (from at to : ℕ) (r : Rule) → WalkedRules bytes from at → HasRuleAt bytes at r to → WalkedRules bytes from to
 rules_walk_rule bytes from at to r h is = (h.0 ++ r ∷ [], rule_more bytes from at h.0 h.1 r to (h.0 ++ r ∷ []) is refl)
-
-pub rules_walk_end : (bytes : List ℕ) (from at : ℕ) → WalkedRules bytes from at → rules_kind (drop at bytes) ≡ kinds.SectionEnd → RulesEndOrStop bytes from
-rules_walk_end bytes from at h k = inl (h.0, has_rules bytes from at h.0 h.1 k)
-
-pub rules_walk_out : (bytes : List ℕ) (from at : ℕ) → WalkedRules bytes from at → length bytes ≤ at → RulesEndOrStop bytes from
-rules_walk_out bytes from at h le = inl (h.0, has_rules_at_end bytes from at h.0 h.1 le)
-
-pub rules_walk_fault : (bytes : List ℕ) (from at : ℕ) (error : LayoutError) → WalkedRules bytes from at → RulesFault bytes at error → RulesEndOrStop bytes from
-rules_walk_fault bytes from at error h f = inr (error, (record { at = at; rules = h.0 }, h.1, f))
 
 pub both_settled : (bytes : List ℕ) (from : ℕ) → EndsOrStops bytes from → RulesEndOrStop bytes from → IsSettled bytes
 both_settled bytes from (inl s) r = inr s

@@ -112,7 +112,7 @@ fn opening_size(text: &[u8]) -> usize
 }
 
 /// The size of the bracket in front, where it is closed on its line.
-pub fn bracket_size(text: &[u8]) -> Option<usize>
+pub(crate) fn bracket_size(text: &[u8]) -> Option<usize>
     requires { IsTrue (begins_with opening_bracket text.now) }
     ensures closed { IfSome result (λ size. spec.IsBracket text.now size) }
     ensures within { IfSome result (λ size. (0 < size) × (size ≤ length text.now)) }

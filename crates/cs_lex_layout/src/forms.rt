@@ -23,7 +23,7 @@ fn closes_block(text: &[u8], index: usize) -> bool
 }
 
 /// The size of the block in front, through the next line that begins with `%}`.
-pub fn block_size(text: &[u8]) -> Option<usize>
+pub(crate) fn block_size(text: &[u8]) -> Option<usize>
     ensures closed { IfSome result (λ size. spec.IsCodeBlock text.now size) }
     ensures within { IfSome result (λ size. (0 < size) × (size ≤ length text.now)) }
     ensures unclosed { IfNone result ((size : ℕ) → ¬ spec.IsCodeBlock text.now size) }
@@ -37,7 +37,7 @@ pub fn block_size(text: &[u8]) -> Option<usize>
 }
 
 /// The line in front without its newline.
-pub fn line_of(text: &[u8]) -> &[u8]
+pub(crate) fn line_of(text: &[u8]) -> &[u8]
     ensures { result.now ≡ spec.line_of text.now }
 {
     to_offset(text, line_len(text))
@@ -92,7 +92,7 @@ fn options_len(line: &[u8]) -> usize
 }
 
 /// Behind how many bytes of the rest of an `%option` line the first word stands that isn't known.
-pub fn unknown_option(text: &[u8]) -> Option<usize>
+pub(crate) fn unknown_option(text: &[u8]) -> Option<usize>
     requires { 7 ≤ length text.now }
     ensures unknown { IfSome result (λ n. spec.IsFirstUnknown text.now n) }
     ensures within { IfSome result (λ n. 7 + n ≤ length text.now) }
@@ -104,7 +104,7 @@ pub fn unknown_option(text: &[u8]) -> Option<usize>
 }
 
 /// How far the loose text in front goes, through its last newline.
-pub fn loose_run(text: &[u8]) -> Run
+pub(crate) fn loose_run(text: &[u8]) -> Run
     ensures { found.FindsLoose text.now result }
 {
     match run_of(text, false) {
@@ -141,14 +141,14 @@ fn is_tail(line: &[u8]) -> bool
 /// Where the parts of a definition stand behind its line's beginning: its name ends at `name_to`, and its substitute is
 /// `from..to`.
 #[derive(Clone, Copy, Debug)]
-pub struct DefinitionForm {
-    pub name_to: usize,
-    pub from: usize,
-    pub to: usize,
+pub(crate) struct DefinitionForm {
+    pub(crate) name_to: usize,
+    pub(crate) from: usize,
+    pub(crate) to: usize,
 }
 
 /// The form of the definition that the line, without its newline, is.
-pub fn definition_form(line: &[u8]) -> Option<DefinitionForm>
+pub(crate) fn definition_form(line: &[u8]) -> Option<DefinitionForm>
     ensures form { IfSome result (λ f. spec.IsDefinition line.now f.name_to f.from f.to) }
     ensures within { IfSome result (found.DefinitionIn line.now) }
     ensures none { IfNone result (spec.IsNoDefinition line.now) }
@@ -166,23 +166,23 @@ pub fn definition_form(line: &[u8]) -> Option<DefinitionForm>
 /// Where the parts of a rule stand behind its line's beginning: its pattern ends at `pattern_to`, its action is `from..to`, and
 /// the rule with its newline has `size` bytes.
 #[derive(Clone, Copy, Debug)]
-pub struct RuleForm {
-    pub pattern_to: usize,
-    pub from: usize,
-    pub to: usize,
-    pub size: usize,
+pub(crate) struct RuleForm {
+    pub(crate) pattern_to: usize,
+    pub(crate) from: usize,
+    pub(crate) to: usize,
+    pub(crate) size: usize,
 }
 
 /// What a rule's line is.
 #[derive(Clone, Copy, Debug)]
-pub enum RuleLine {
+pub(crate) enum RuleLine {
     Closed(RuleForm),
     /// A comment or brace of the action that isn't closed stands behind so many bytes.
     Open(usize),
 }
 
 /// The form of the rule in front, or where its action isn't closed.
-pub fn rule_form(text: &[u8]) -> RuleLine
+pub(crate) fn rule_form(text: &[u8]) -> RuleLine
     ensures { found.FindsRule text.now result }
 {
     let pattern_to = pattern_size(text);

@@ -1,6 +1,7 @@
 // Laws of layouts.
 
 ghost use Rattle.std.specs.Prelude.{◌≡◌, ℕ, List};
+ghost use Rattle.cs_bytes.specs.Limits.{most_bytes};
 ghost use Rattle.cs_lex_layout.specs.Laws as spec;
 
 use crate::MOST_BYTES;
@@ -27,5 +28,5 @@ pub fn new_names()
 
 /// The limit of the definitions is the code's.
 pub fn limits()
-    ensures { MOST_BYTES ≡ 1048576 }
+    ensures { MOST_BYTES ≡ most_bytes }
 {}

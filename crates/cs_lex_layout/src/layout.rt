@@ -1,6 +1,7 @@
 // The layout of a lex file.
 
 ghost use Rattle.std.specs.Prelude.{◌≡◌, ◌≤◌, ◌<◌, ◌+◌, ◌-◌, ℕ, false, length, drop, IfOk, IfErr};
+ghost use Rattle.cs_bytes.specs.Limits.{most_bytes};
 ghost use Rattle.cs_lex_layout.specs.declared.line.LineKind.TheVariants as kinds;
 ghost use Rattle.cs_lex_layout.specs.Answers.{AnswersLayout};
 ghost use Rattle.cs_lex_layout.specs.Forms as forms;
@@ -37,7 +38,7 @@ struct Section {
 }
 
 /// What a line of the definitions section is, and the offset behind it.
-pub enum DefinitionsLine {
+pub(crate) enum DefinitionsLine {
     End(usize),
     Passed(usize),
     Definition(Definition, usize),
@@ -53,7 +54,7 @@ pub enum RulesLine {
 /// The offset behind the block at the offset.
 fn block_at(bytes: &[u8], at: usize) -> Result<usize, LayoutError>
     requires within { at < length bytes.now }
-    requires short { length bytes.now ≤ 1048576 }
+    requires short { length bytes.now ≤ most_bytes }
     ensures closed { IfOk result (λ to. forms.IsCodeBlock (drop at bytes.now) (to - at)) }
     ensures within { IfOk result (IsBehind bytes.now at) }
     ensures unclosed { IfErr result (places.IsOpenBlock bytes.now at) }
@@ -67,7 +68,7 @@ fn block_at(bytes: &[u8], at: usize) -> Result<usize, LayoutError>
 /// The offset behind the loose text at the offset.
 fn loose_at(bytes: &[u8], at: usize) -> Result<usize, LayoutError>
     requires within { at < length bytes.now }
-    requires short { length bytes.now ≤ 1048576 }
+    requires short { length bytes.now ≤ most_bytes }
     ensures closed { IfOk result (λ to. forms.IsLoose (drop at bytes.now) (to - at)) }
     ensures within { IfOk result (IsBehind bytes.now at) }
     ensures unclosed { IfErr result (places.IsOpenLoose bytes.now at) }
@@ -84,7 +85,7 @@ fn loose_at(bytes: &[u8], at: usize) -> Result<usize, LayoutError>
 /// The offset behind the `%option` line at the offset.
 fn options_at(bytes: &[u8], at: usize) -> Result<usize, LayoutError>
     requires within { at + 7 ≤ length bytes.now }
-    requires short { length bytes.now ≤ 1048576 }
+    requires short { length bytes.now ≤ most_bytes }
     ensures known { IfOk result (places.AreOptionsTo bytes.now at) }
     ensures within { IfOk result (IsBehind bytes.now at) }
     ensures unknown { IfErr result (places.IsUnknownOption bytes.now at) }
@@ -102,7 +103,7 @@ fn options_at(bytes: &[u8], at: usize) -> Result<usize, LayoutError>
 /// The definition at the offset.
 fn definition_at(bytes: &[u8], at: usize) -> Result<Definition, LayoutError>
     requires within { at < length bytes.now }
-    requires short { length bytes.now ≤ 1048576 }
+    requires short { length bytes.now ≤ most_bytes }
     requires kind { lines.definitions_kind (drop at bytes.now) ≡ kinds.Definition }
     ensures definition { IfOk result (places.FindsDefinition bytes.now at) }
     ensures none { IfErr result (places.IsNoDefinitionThere bytes.now at) }
@@ -124,9 +125,9 @@ fn definition_at(bytes: &[u8], at: usize) -> Result<Definition, LayoutError>
 }
 
 /// The line of the definitions section at the offset.
-pub fn definitions_line(bytes: &[u8], at: usize) -> Result<DefinitionsLine, LayoutError>
+pub(crate) fn definitions_line(bytes: &[u8], at: usize) -> Result<DefinitionsLine, LayoutError>
     requires within { at < length bytes.now }
-    requires short { length bytes.now ≤ 1048576 }
+    requires short { length bytes.now ≤ most_bytes }
     ensures { FindsDefinitionsLine bytes.now at result }
 {
     let text = from_offset(bytes, at);
@@ -146,7 +147,7 @@ pub fn definitions_line(bytes: &[u8], at: usize) -> Result<DefinitionsLine, Layo
 
 /// The definitions section of the bytes.
 fn read_definitions(alloc: Global, bytes: &[u8]) -> Result<Section, LayoutError>
-    requires { length bytes.now ≤ 1048576 }
+    requires { length bytes.now ≤ most_bytes }
     ensures answers { AnswersDefinitions bytes.now result }
     ensures lies { IfOk result (SectionLies (length bytes.now)) }
 {
@@ -177,7 +178,7 @@ fn read_definitions(alloc: Global, bytes: &[u8]) -> Result<Section, LayoutError>
 /// The rule at the offset, and the offset behind it.
 fn rule_at(bytes: &[u8], at: usize) -> Result<RulesLine, LayoutError>
     requires within { at < length bytes.now }
-    requires short { length bytes.now ≤ 1048576 }
+    requires short { length bytes.now ≤ most_bytes }
     requires kind { lines.rules_kind (drop at bytes.now) ≡ kinds.Rule }
     ensures { FindsRulesLine bytes.now at result }
 {
@@ -206,7 +207,7 @@ fn rule_at(bytes: &[u8], at: usize) -> Result<RulesLine, LayoutError>
 /// The line of the rules section at the offset.
 pub fn rules_line(bytes: &[u8], at: usize) -> Result<RulesLine, LayoutError>
     requires within { at < length bytes.now }
-    requires short { length bytes.now ≤ 1048576 }
+    requires short { length bytes.now ≤ most_bytes }
     ensures { FindsRulesLine bytes.now at result }
 {
     match rules_kind(from_offset(bytes, at)) {
@@ -220,7 +221,7 @@ pub fn rules_line(bytes: &[u8], at: usize) -> Result<RulesLine, LayoutError>
 /// The rules section that begins at the offset.
 fn read_rules(alloc: Global, bytes: &[u8], from: usize) -> Result<Vec<Rule>, LayoutError>
     requires within { from ≤ length bytes.now }
-    requires short { length bytes.now ≤ 1048576 }
+    requires short { length bytes.now ≤ most_bytes }
     ensures answers { AnswersRules bytes.now from result }
     ensures lies { IfOk result (λ rules. RulesLie (length bytes.now) (length bytes.now) rules.items) }
 {
@@ -245,7 +246,7 @@ fn read_rules(alloc: Global, bytes: &[u8], from: usize) -> Result<Vec<Rule>, Lay
 /// a line has no form of the definitions section, defines a name again, or the file ends in that section, `UnknownDirective`,
 /// `UnknownOption` and `StartCondition` where a line says so. `Memory` is want of memory. Source: POSIX lex.
 pub fn read_layout(alloc: Global, bytes: &[u8]) -> Result<Layout, LayoutError>
-    requires { length bytes.now ≤ 1048576 }
+    requires { length bytes.now ≤ most_bytes }
     ensures answers { AnswersLayout bytes.now result }
     ensures lies { IfOk result (LayoutLies (length bytes.now)) }
 {

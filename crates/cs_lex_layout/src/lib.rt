@@ -29,4 +29,4 @@ pub use parts::{Definition, Part, Rule};
 pub use settled::{definitions_end, layout_or_stop};
 
 /// The most bytes of a lex file.
-pub const MOST_BYTES: usize = 1_048_576;
+pub const MOST_BYTES: usize = cs_bytes::MOST_BYTES;

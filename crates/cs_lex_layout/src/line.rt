@@ -36,7 +36,7 @@ fn is_skipped(word: &[u8]) -> bool
 }
 
 /// Whether `%option` may have the word.
-pub fn is_option(word: &[u8]) -> bool
+pub(crate) fn is_option(word: &[u8]) -> bool
     ensures { result ≡ spec.is_among spec.option_words word.now }
 {
     same_bytes(word, b"noyywrap")
@@ -95,7 +95,7 @@ fn begins_loose(text: &[u8]) -> bool
 }
 
 /// The kind of the line of the definitions section in front of the text.
-pub fn definitions_kind(text: &[u8]) -> LineKind
+pub(crate) fn definitions_kind(text: &[u8]) -> LineKind
     ensures { result ≡ spec.definitions_kind text.now }
 {
     if has_at(text, 0, b'%') {
@@ -110,7 +110,7 @@ pub fn definitions_kind(text: &[u8]) -> LineKind
 }
 
 /// The kind of the line of the rules section in front of the text.
-pub fn rules_kind(text: &[u8]) -> LineKind
+pub(crate) fn rules_kind(text: &[u8]) -> LineKind
     ensures { result ≡ spec.rules_kind text.now }
 {
     if text.is_empty() || has_pair(text, 0, b'%', b'%') {

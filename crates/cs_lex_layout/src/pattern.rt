@@ -38,7 +38,7 @@ fn unit_size(text: &[u8]) -> usize
 /// The size of the pattern in front: it goes to the first blank or newline outside escapes, quoted texts and brackets.
 ///
 /// A quoted text or bracket that isn't closed on its line makes it go to the line's end.
-pub fn pattern_size(text: &[u8]) -> usize
+pub(crate) fn pattern_size(text: &[u8]) -> usize
     ensures extent { spec.IsPattern text.now result }
     ensures within { result ≤ length text.now }
 {

@@ -45,7 +45,7 @@ fn quoted_len(text: &[u8]) -> usize
 }
 
 /// The size of the quoted text in front, where it is closed on its line.
-pub fn quoted_size(text: &[u8]) -> Option<usize>
+pub(crate) fn quoted_size(text: &[u8]) -> Option<usize>
     requires { IsTrue (begins_with double_quote text.now) }
     ensures closed { IfSome result (λ size. spec.IsQuotedText text.now size) }
     ensures within { IfSome result (λ size. (0 < size) × (size ≤ length text.now)) }

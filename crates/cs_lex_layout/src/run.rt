@@ -11,7 +11,7 @@ use cs_ctext::CText;
 
 /// How far a run goes.
 #[derive(Clone, Copy, Debug)]
-pub enum Run {
+pub(crate) enum Run {
     /// To the line's end, behind so many bytes.
     To(usize),
     /// A comment or brace that isn't closed stands behind so many bytes.
@@ -46,7 +46,7 @@ fn skip_piece(text: &mut CText<'_>, at: usize, braces: bool) -> Option<usize>
 
 /// How far the run in front goes: to the first newline outside comments, closed quoted constructs and, where braces count,
 /// blocks.
-pub fn run_of(text: &[u8], braces: bool) -> Run
+pub(crate) fn run_of(text: &[u8], braces: bool) -> Run
     ensures { found.FindsRun braces text.now result }
 {
     let mut walk = CText::new(text);

@@ -1,13 +1,14 @@
 // That each text has a layout or stops.
 
 ghost use Rattle.std.specs.Prelude.{◌≤◌, length, IfSome, IfNone};
+ghost use Rattle.cs_bytes.specs.Limits.{most_bytes};
 ghost use Rattle.cs_lex_layout.specs.Settled as spec;
 
 use crate::layout::{DefinitionsLine, RulesLine, definitions_line, rules_line};
 
 /// The offset behind the definitions section, where it ends; a name that is defined twice may be passed.
 pub fn definitions_end(bytes: &[u8]) -> Option<usize>
-    requires { length bytes.now ≤ 1048576 }
+    requires { length bytes.now ≤ most_bytes }
     ensures end { IfSome result (λ from. spec.EndsOrStops bytes.now from) }
     ensures within { IfSome result (λ from. from ≤ length bytes.now) }
     ensures stop { IfNone result (spec.Stops bytes.now) }
@@ -27,7 +28,7 @@ pub fn definitions_end(bytes: &[u8]) -> Option<usize>
 /// Walks over the rules section that begins at the offset.
 fn walk_rules(bytes: &[u8], from: usize)
     requires within { from ≤ length bytes.now }
-    requires short { length bytes.now ≤ 1048576 }
+    requires short { length bytes.now ≤ most_bytes }
     ensures { spec.RulesEndOrStop bytes.now from }
 {
     let mut at = from;
@@ -43,7 +44,7 @@ fn walk_rules(bytes: &[u8], from: usize)
 
 /// A text has a layout, or layout of it stops. The walk takes no memory and answers nothing: it is there for the law.
 pub fn layout_or_stop(bytes: &[u8])
-    requires { length bytes.now ≤ 1048576 }
+    requires { length bytes.now ≤ most_bytes }
     ensures { spec.IsSettled bytes.now }
 {
     if let Some(from) = definitions_end(bytes) {

@@ -18,7 +18,7 @@ pub enum UnitKind {
 }
 
 /// Whether a backslash stands in front, with a byte that it takes along.
-pub fn is_escape(text: &[u8]) -> bool
+pub(crate) fn is_escape(text: &[u8]) -> bool
     ensures { result ≡ spec.is_escape text.now }
 {
     match text {
@@ -28,7 +28,7 @@ pub fn is_escape(text: &[u8]) -> bool
 }
 
 /// Whether the text is empty or begins with a blank or newline.
-pub fn ends_pattern(text: &[u8]) -> bool
+pub(crate) fn ends_pattern(text: &[u8]) -> bool
     ensures { result ≡ places.front_or_end is_space text.now }
 {
     match text {
@@ -37,7 +37,7 @@ pub fn ends_pattern(text: &[u8]) -> bool
     }
 }
 
-pub fn unit_kind(text: &[u8]) -> UnitKind
+pub(crate) fn unit_kind(text: &[u8]) -> UnitKind
     ensures { result ≡ spec.unit_kind text.now }
 {
     if is_escape(text) {

@@ -5,5 +5,6 @@ mod Differing
 mod Stepping
 mod Meeting
 mod Reaching
+mod Standing
 mod Winning
 mod LawProofs

@@ -11,7 +11,7 @@ use Rattle.cs_lexeme.specs.declared.search.Origin.{Origin}
 use Rattle.cs_lexeme.specs.declared.search.Visit.{Visit}
 use Rattle.cs_lexeme.specs.Number.{number, with_byte}
 use Rattle.cs_lexeme.specs.Steps.{Goes, AreRows, HasStep}
-use Rattle.cs_lexeme.specs.Visits.{Spells, weight_of, weight, origin_weight, IsLinked, AreVisits, AreEarlier, AreAllMet}
+use Rattle.cs_lexeme.specs.Visits.{Spells, weight_of, weight, origin_weight, IsLinked, AreVisits, AreAllMet}
 use Rattle.cs_lexeme.proofs.Lists.{has_at}
 use Rattle.cs_lexeme.proofs.Ranking.{rank_within}
 use Rattle.cs_lexeme.proofs.Numbers.{number_pushed, head_byte, tail_bytes}
@@ -19,9 +19,6 @@ use Rattle.cs_lexeme.proofs.Numbers.{number_pushed, head_byte, tail_bytes}
 module _ (m : Machine) (visits : List Visit) (a : AreVisits m visits) where
   pub linked_by : (k : ℕ) (v : Visit) (origin : Option Origin) → slice_get visits k ≡ Some v → v.origin ≡ origin → IsLinked m visits k v.state origin
   linked_by k v origin at e = let P : Option Origin → Type 0 = λ o. IsLinked m visits k v.state o in subst P e (a.linked k v at)
-
-  pub origins_earlier : AreEarlier visits
-  origins_earlier k v o at e = (linked_by k v (Some o) at e).earlier
 
   -- a place has a text
   text_behind : (k : ℕ) → ((p : ℕ) → p < k → (x : List ℕ) × Spells visits p x) → (v : Visit) (origin : Option Origin) → slice_get visits k ≡ Some v → v.origin ≡ origin → (x : List ℕ) × Spells visits k x

@@ -1,8 +1,7 @@
 -- Rows of steps, byte by byte.
 use Rattle.std.proofs.Common.{◌≡◌, ℕ, ◌+◌, ◌<◌, ◌≤◌, arith, List, [], ◌∷◌, ◌++◌, length, sym, ◌∙◌, ap, subst, inl, inr, refl, ⊎_elim, Some, None, length-append}
-use Rattle.std.specs.Prelude.{slice_get, slice_index_or, slice_set}
+use Rattle.std.specs.Prelude.{slice_get}
 use Rattle.std.proofs.lemmas.Bool.{cases_lt}
-use Rattle.std.proofs.lemmas.List.{length-set, get_or-set_same, get_or-set_other}
 use Rattle.std.proofs.lemmas.Option.{slice_get-get_or}
 use Rattle.cs_automaton.specs.Machine.{Machine}
 use Rattle.cs_lexeme.specs.declared.steps.Step.{Step}
@@ -118,15 +117,3 @@ next_row m state rows row r new = record {
 
 pub noted_none : (count : ℕ) (places : List ℕ) → length places ≡ count → AreNoted count [] places
 noted_none count places all = record { all = all; told = λ place step at. absurd (cc) }
-
--- a step to a new state is put, and its place noted
-pub noted_pushed : (count : ℕ) (row : List Step) (places : List ℕ) (step : Step) → step.to < count → (LeadsTo row step.to → ⊥) → AreNoted count row places → AreNoted count (row ++ step ∷ []) (slice_set places step.to (length row))
-noted_pushed count row places step within new noted = record {
-  all = length-set places step.to (length row) ∙ noted.all;
-  told = λ place other at. ⊎_elim
-      (λ (old : slice_get row place ≡ Some other). get_or-set_other places step.to other.to (length row) 0 (λ same. new (place, other, old, same)) ∙ noted.told place other old)
-      (λ (last : (place ≡ length row) × (other ≡ step)).
-      let P : Step → Type 0 = λ t. slice_index_or (slice_set places step.to (length row)) t.to 0 ≡ place in
-      subst P (sym last.1) (get_or-set_same places step.to (length row) 0 (omega (arith, within, noted.all)) ∙ sym last.0))
-      (at_pushed row step other place at);
-}

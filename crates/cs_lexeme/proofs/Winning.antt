@@ -18,7 +18,7 @@ use Rattle.cs_lexeme.specs.Lexeme.{IsOneMatch, IsLexemeOf, AreLexemes, lexeme_in
 use Rattle.cs_lexeme.specs.Texts.{text_of, texts_of}
 use Rattle.cs_lexeme.specs.Steps.{Goes, AreRows}
 use Rattle.cs_lexeme.specs.Visits.{Spells, weight, AreVisits, AreAllMet, AreLight, IsFrom, IsBehind, IsLinked}
-use Rattle.cs_lexeme.specs.Kinds.{IsReached, IsWonBy, IsKindOf, IsNamed, IsOwn, IsOwnBelow, IsGiven, IsLeast, AreLeast, IsWonAt, IsLostAt, IsFirstWon, IsFoundText, IsFound, AreFound, AreNamed, AreEmpty, first_visit, second_visit, KeepsLeast, KeepsText, IsOpen}
+use Rattle.cs_lexeme.specs.Kinds.{IsReached, IsWonBy, IsKindOf, IsNamed, IsOwn, IsOwnBelow, IsGiven, IsLeast, AreLeast, IsWonAt, IsLostAt, IsFoundText, IsFound, AreFound, AreNamed, AreEmpty, first_visit, second_visit, KeepsLeast, KeepsText, IsOpen}
 use Rattle.cs_lexeme.proofs.Lists.{has_at}
 use Rattle.cs_lexeme.proofs.Ranking.{rank_within}
 use Rattle.cs_lexeme.proofs.Numbers.{at_most_by_number, order_is_total, number_by_at_most, head_byte, tail_bytes}
@@ -73,9 +73,6 @@ module _ (s : Scanning) (m : Machine) (visits : List Visit) where
   pub found_now : (place : ℕ) (kind : Kind) (entry : Option (List ℕ)) (text : List ℕ) → 0 < place → entry ≡ None → IsFound s m visits place kind entry → IsWonAt s m visits place kind → Spells visits place text → IsFound s m visits (place + 1) kind (Some text)
   found_now place kind None text some none found won spells = record { place = place; below = omega arith; first = record { behind = some; won = won; lost = found }; spells = spells }
   found_now place kind (Some other) text some none found won spells = absurd (cc)
-
-  pub found_text : (place limit : ℕ) (kind : Kind) (text : List ℕ) → place < limit → IsFirstWon s m visits kind place → Spells visits place text → IsFound s m visits limit kind (Some text)
-  found_text place limit kind text below first spells = record { place = place; below = below; first = first; spells = spells }
 
   -- a found text comes before no other text that leads to a later place
   found_low : (limit from : ℕ) (kind : Kind) (text other : List ℕ) (a : AreVisits m visits) → IsFoundText s m visits limit kind text → AreBytes other → IsWonBy s other kind → (it : IsReachedBy m visits a from other) → 0 < it.place → IsAtMost text other
@@ -260,24 +257,6 @@ empty_pushed count texts e = record {
 -- ---- own bytes
 
 module _ (m : Machine) (start : ℕ) (within : start < length m.sets) (stands : StateOf m start []) where
-  one_visit_at : (k : ℕ) (v : Visit) → slice_get (first_visit start ∷ []) k ≡ Some v → (k ≡ 0) × (v ≡ first_visit start)
-  one_visit_at zero v at = (refl, cc)
-  one_visit_at (suc k) v at = absurd (cc)
-
-  pub one_visit : AreVisits m (first_visit start ∷ [])
-  one_visit = record {
-    within = λ k v at. let P : Visit → Type 0 = λ t. t.state < length m.sets in subst P (sym (one_visit_at k v at).1) within;
-    linked = λ k v at.
-        let it = one_visit_at k v at in
-        let P : Visit → Type 0 = λ t. IsLinked m (first_visit start ∷ []) k t.state t.origin in
-        subst P (sym it.1) (it.0, stands);
-    rises = λ i j x y less at other. absurd (omega (arith, (one_visit_at j y other).0));
-    distinct = λ j k v w at other same. (one_visit_at j v at).0 ∙ sym (one_visit_at k w other).0;
-  }
-
-  pub one_light : AreLight 0 (first_visit start ∷ [])
-  one_light k v at = let P : Visit → Type 0 = λ t. weight t ≤ 0 in subst P (sym (one_visit_at k v at).1) (omega arith)
-
   module _ (byte to : ℕ) (fits : byte < 256) (there : to < length m.sets) (next : Goes m start byte (Some to)) where
     abbrev two : List Visit
     two = first_visit start ∷ second_visit byte to ∷ []

@@ -1,7 +1,7 @@
 // The lexemes of tokens.
 
 ghost use Rattle.std.specs.Prelude.{◌≡◌, ◌+◌, ◌<◌, ◌≤◌, ◌↔◌, [], ◌∷◌, IfNone, IfOk, IfSome, IsTrue, Some, length, option_map};
-ghost use Rattle.cs_scan.specs.Compared.{HasKinds, HasLiterals, scanning};
+ghost use Rattle.cs_scan.specs.Compared.{scanning};
 ghost use Rattle.cs_lexeme.specs.Kinds.{AreEmpty, AreLeastTexts, AreNamedTexts, IsFirstOwn, IsFirstOwnText, IsKindAt, IsLeastOwn, IsReached, KeepsCount, KeepsLeast, KeepsText, NamesNoOpen, NamesOpen, PutsNamed, PutsText, first_visit, own_byte};
 ghost use Rattle.cs_lexeme.specs.Lexeme.{AreLexemes, lexeme_in};
 ghost use Rattle.cs_lexeme.specs.Table.{IsTable};
@@ -12,8 +12,9 @@ use crate::order::is_before;
 use crate::search::{Origin, Visit, meet_all, text_at};
 use crate::steps::{StepTable, with_steps};
 use cs_automaton::State;
+use cs_numbers::place_of;
 use cs_pattern_tree::Kind;
-use cs_scan::{Scanner, place_of};
+use cs_scan::Scanner;
 use std::alloc::{AllocError, Global};
 use std::marker::Model;
 
@@ -34,7 +35,6 @@ impl Model for Lexemes {
 
 /// The kind of the first rule that matches the texts of the state.
 fn kind_at(scanner: &Scanner<'_>, state: State) -> Option<Kind>
-    requires kinds { HasKinds scanner.now }
     requires state { state < length scanner.now.automaton.now.sets }
     requires reached { IsReached scanner.now.automaton.now state }
     ensures { IsKindAt scanner.now state result }
@@ -106,7 +106,6 @@ fn put_named(
     visits: &[Visit],
     texts: &mut Vec<Option<Vec<u8>>>,
 ) -> Result<(), AllocError>
-    requires kinds { HasKinds table.now.scanner }
     requires visits { AreVisits table.now.scanner.automaton.now visits.now }
     requires some { 0 < length visits.now }
     requires texts { AreEmpty (length (texts_of texts.old.items)) (texts_of texts.old.items) }
@@ -128,7 +127,6 @@ fn find_named(
     table: &StepTable<'_>,
     tokens: u16,
 ) -> Result<Vec<Option<Vec<u8>>>, AllocError>
-    requires kinds { HasKinds table.now.scanner }
     requires table { IsTable table.now }
     ensures named { IfOk result (λ list. AreNamedTexts table.now.scanner list.items) }
     ensures all { IfOk result (λ texts. length (texts_of texts.items) ≡ tokens) }
@@ -142,7 +140,6 @@ fn find_named(
 
 /// The first place behind the start whose texts give their own byte.
 fn first_own(table: &StepTable<'_>, visits: &[Visit]) -> Option<usize>
-    requires kinds { HasKinds table.now.scanner }
     requires visits { AreVisits table.now.scanner.automaton.now visits.now }
     ensures { IsFirstOwn table.now.scanner visits.now result }
 {
@@ -160,7 +157,6 @@ fn first_text(
     table: &StepTable<'_>,
     visits: &[Visit],
 ) -> Result<Option<Vec<u8>>, AllocError>
-    requires kinds { HasKinds table.now.scanner }
     requires visits { AreVisits table.now.scanner.automaton.now visits.now }
     ensures { IfOk result (λ text. IsFirstOwnText table.now.scanner visits.now (text_of text)) }
 {
@@ -172,7 +168,6 @@ fn first_text(
 
 /// The least text that begins with the byte and gives its own byte's token.
 fn find_own(alloc: Global, table: &StepTable<'_>, byte: u8) -> Result<Option<Vec<u8>>, AllocError>
-    requires kinds { HasKinds table.now.scanner }
     requires table { IsTable table.now }
     ensures { IfOk result (λ text. IsLeastOwn table.now.scanner byte (text_of text)) }
 {
@@ -216,8 +211,6 @@ fn put_own(
     byte: u8,
     texts: &mut Vec<Option<Vec<u8>>>,
 ) -> Result<(), AllocError>
-    requires kinds { HasKinds table.now.scanner }
-    requires literals { HasLiterals table.now.scanner }
     requires table { IsTable table.now }
     requires least { AreLeastTexts table.now.scanner byte texts.old.items }
     ensures least { IfOk result (λ _. AreLeastTexts table.now.scanner (byte + 1) texts.new.items) }
@@ -236,8 +229,6 @@ fn put_own(
 impl Lexemes {
     /// The lexemes of the tokens from 1 to so many.
     pub fn new(alloc: Global, scanner: &Scanner<'_>, tokens: u16) -> Result<Lexemes, AllocError>
-        requires kinds { HasKinds scanner.now }
-        requires literals { HasLiterals scanner.now }
         ensures { IfOk result (λ lexemes. AreLexemes (scanning scanner.now) tokens lexemes) }
     {
         let table = with_steps(alloc, scanner)?;

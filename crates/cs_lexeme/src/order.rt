@@ -6,7 +6,7 @@ ghost use Rattle.cs_lexeme.specs.Order.{IsBefore};
 use crate::rank::rank;
 
 /// Whether the one text comes before the other.
-pub fn is_before(text: &[u8], other: &[u8]) -> bool
+pub(crate) fn is_before(text: &[u8], other: &[u8]) -> bool
     ensures { IsTrue result ↔ IsBefore text.now other.now }
 {
     if text.len() != other.len() {

@@ -23,7 +23,7 @@ fn class_of(byte: u8) -> u16
 }
 
 /// The rank of a byte.
-pub fn rank(byte: u8) -> u16
+pub(crate) fn rank(byte: u8) -> u16
     ensures { result ≡ spec.rank byte }
 {
     256 * class_of(byte) + u16::from(byte)
@@ -45,7 +45,7 @@ fn put_class(bytes: &mut Vec<u8>, class: u16) -> Result<(), AllocError>
 }
 
 /// All bytes, by rank.
-pub fn bytes_by_rank(alloc: Global) -> Result<Vec<u8>, AllocError>
+pub(crate) fn bytes_by_rank(alloc: Global) -> Result<Vec<u8>, AllocError>
     ensures { IfOk result (λ bytes. AreByRank 2048 bytes.items) }
 {
     let mut bytes = Vec::new(alloc);

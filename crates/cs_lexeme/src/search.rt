@@ -10,16 +10,16 @@ use std::alloc::{AllocError, Global};
 
 /// The byte by which a state was met, behind the state that was met at the place.
 #[derive(Clone, Copy, Debug, PartialEq, Eq)]
-pub struct Origin {
-    pub place: usize,
-    pub byte: u8,
+pub(crate) struct Origin {
+    pub(crate) place: usize,
+    pub(crate) byte: u8,
 }
 
 /// A state that was met. The start alone has no origin.
 #[derive(Clone, Copy, Debug, PartialEq, Eq)]
-pub struct Visit {
-    pub state: State,
-    pub origin: Option<Origin>,
+pub(crate) struct Visit {
+    pub(crate) state: State,
+    pub(crate) origin: Option<Origin>,
 }
 
 /// Which of so many states were met.
@@ -72,7 +72,7 @@ fn meet_behind(
 }
 
 /// Meets all states behind those from the place on, breadth first.
-pub fn meet_all(
+pub(crate) fn meet_all(
     alloc: Global,
     table: &StepTable<'_>,
     visits: &mut Vec<Visit>,
@@ -94,7 +94,7 @@ pub fn meet_all(
 }
 
 /// The text by which the state at the place was met.
-pub fn text_at(alloc: Global, visits: &[Visit], place: usize) -> Result<Vec<u8>, AllocError>
+pub(crate) fn text_at(alloc: Global, visits: &[Visit], place: usize) -> Result<Vec<u8>, AllocError>
     requires earlier { AreEarlier visits.now }
     requires place { place < length visits.now }
     ensures { IfOk result (λ text. Spells visits.now place text.items) }

@@ -12,9 +12,9 @@ use std::alloc::{AllocError, Global};
 
 /// A step of a state, by the byte.
 #[derive(Clone, Copy, Debug, PartialEq, Eq)]
-pub struct Step {
-    pub byte: u8,
-    pub to: State,
+pub(crate) struct Step {
+    pub(crate) byte: u8,
+    pub(crate) to: State,
 }
 
 /// Whether a step of the row leads to the state, by the places that are noted of such steps.
@@ -83,13 +83,16 @@ fn all_steps(alloc: Global, automaton: &Automaton<'_>) -> Result<Vec<Vec<Step>>,
 
 /// A scanner with the steps of its automaton's states.
 #[derive(Drop)]
-pub struct StepTable<'a> {
-    pub scanner: Scanner<'a>,
-    pub rows: Vec<Vec<Step>>,
+pub(crate) struct StepTable<'a> {
+    pub(crate) scanner: Scanner<'a>,
+    pub(crate) rows: Vec<Vec<Step>>,
 }
 
 /// The scanner with the steps.
-pub fn with_steps<'a>(alloc: Global, scanner: &Scanner<'a>) -> Result<StepTable<'a>, AllocError>
+pub(crate) fn with_steps<'a>(
+    alloc: Global,
+    scanner: &Scanner<'a>,
+) -> Result<StepTable<'a>, AllocError>
     ensures table { IfOk result IsTable }
     ensures scanner { IfOk result (λ t. t.scanner ≡ scanner.now) }
 {

@@ -10,13 +10,14 @@ ghost use Rattle.cs_manifest.specs.SharedLines as lines;
 
 use crate::put_entry::put_names;
 use cs_closed::{Closed, Marks, Tokens};
-use cs_grammar::{Mark, number_of};
+use cs_grammar::Mark;
 use cs_io::Sink;
+use cs_numbers::number_of;
 use cs_output::{Output, put_nonterminal, put_spaced_mark};
 use cs_yacc::YaccFile;
 
 /// The lines of the closed sets of the file's grammar.
-pub fn put_closed<S: Sink>(output: &mut Output<'_, S>, file: &YaccFile, closed: &Closed)
+pub(crate) fn put_closed<S: Sink>(output: &mut Output<'_, S>, file: &YaccFile, closed: &Closed)
     requires { AreClosedSets file.now.grammar closed.now }
     ensures { Puts S.Sink (lines.closed_lines file.now closed.now) output.old output.new }
 {

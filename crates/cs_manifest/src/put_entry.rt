@@ -26,7 +26,7 @@ use cs_yacc::YaccFile;
 
 /// The lines of an entry.
 #[inline(always)]
-pub fn put_entry<S: Sink>(output: &mut Output<'_, S>, file: &YaccFile, entry: &Entry<'_>)
+pub(crate) fn put_entry<S: Sink>(output: &mut Output<'_, S>, file: &YaccFile, entry: &Entry<'_>)
     requires { IsNamedEntry file.now entry.now }
     ensures { Puts S.Sink (lines_of file.now entry.now) output.old output.new }
 {
@@ -103,7 +103,7 @@ fn put_goal<S: Sink>(output: &mut Output<'_, S>, file: &YaccFile, goal: &Goal)
 
 /// A number behind a word.
 #[inline(always)]
-pub fn put_count<S: Sink>(output: &mut Output<'_, S>, word: &[u8], count: u64)
+pub(crate) fn put_count<S: Sink>(output: &mut Output<'_, S>, word: &[u8], count: u64)
     ensures { Puts S.Sink (lines.numbered_word word.now count) output.old output.new }
 {
     output.put(word);
@@ -202,7 +202,7 @@ fn put_numbers<S: Sink>(output: &mut Output<'_, S>, numbers: &[u16])
 }
 
 /// The line of the tokens behind the newline above, without its own.
-pub fn put_yield<S: Sink>(output: &mut Output<'_, S>, file: &YaccFile, tokens: &[u16])
+pub(crate) fn put_yield<S: Sink>(output: &mut Output<'_, S>, file: &YaccFile, tokens: &[u16])
     requires { names.AreNamedTokens file.now tokens.now }
     ensures { Puts S.Sink (below.tokens_below file.now tokens.now) output.old output.new }
 {
@@ -211,7 +211,7 @@ pub fn put_yield<S: Sink>(output: &mut Output<'_, S>, file: &YaccFile, tokens: &
 }
 
 /// The names of tokens, each behind a space.
-pub fn put_names<S: Sink>(output: &mut Output<'_, S>, file: &YaccFile, tokens: &[u16])
+pub(crate) fn put_names<S: Sink>(output: &mut Output<'_, S>, file: &YaccFile, tokens: &[u16])
     requires { names.AreNamedTokens file.now tokens.now }
     ensures { Puts S.Sink (lines.token_words file.now tokens.now) output.old output.new }
 {
@@ -338,7 +338,7 @@ fn put_edit<S: Sink>(output: &mut Output<'_, S>, file: &YaccFile, edit: Edit)
 }
 
 /// The end line.
-pub fn put_end<S: Sink>(output: &mut Output<'_, S>, counts: &Counts)
+pub(crate) fn put_end<S: Sink>(output: &mut Output<'_, S>, counts: &Counts)
     ensures { Puts S.Sink (end_of counts.now) output.old output.new }
 {
     put_count(output, b"end goals ", counts.goals);

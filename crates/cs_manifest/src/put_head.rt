@@ -12,14 +12,15 @@ ghost use Rattle.cs_manifest.specs.SharedLines as shared;
 
 use crate::put_closed::put_closed;
 use crate::{Form, Head, Weigh};
-use cs_grammar::{Rule, Symbol, number_of};
+use cs_grammar::{Rule, Symbol};
 use cs_io::Sink;
 use cs_lexeme::Lexemes;
+use cs_numbers::number_of;
 use cs_output::{Output, put_nonterminal, put_quoted, put_symbol, put_token_name};
 use cs_yacc::{TokenName, YaccFile};
 
 /// The lines of the head.
-pub fn put_head<S: Sink>(output: &mut Output<'_, S>, head: &Head<'_>)
+pub(crate) fn put_head<S: Sink>(output: &mut Output<'_, S>, head: &Head<'_>)
     requires { IsNamedHead head.now }
     ensures { Puts S.Sink (head_of head.now) output.old output.new }
 {

@@ -7,8 +7,8 @@ ghost use Rattle.cs_output.specs.Names.{IsNamedToken, token_of};
 ghost use Rattle.cs_manifest.specs.Open.{IsQuotedLexeme, between_quotes};
 ghost use Rattle.cs_manifest.specs.ByToken.{spaced_name};
 
-use cs_grammar::{number_of, place_of};
 use cs_lexeme::Lexemes;
+use cs_numbers::{number_of, place_of};
 use cs_output::{Piece, Speller, put_spaced_name, put_text_bytes, spelled_piece};
 use cs_yacc::{TokenName, YaccFile};
 use std::alloc::{AllocError, Global};

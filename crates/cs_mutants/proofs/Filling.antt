@@ -11,13 +11,13 @@ use Rattle.cs_manifest.specs.declared.open.OpenEdit.{OpenEdit}
 use Rattle.cs_manifest.specs.declared.open.OpenEdit.TheVariants.{Insert, Replace}
 use Rattle.cs_manifest.specs.declared.open.OpenPair.{OpenPair}
 use Rattle.cs_manifest.specs.declared.open.OpenPair.TheVariants.{Behind, Before}
-use Rattle.cs_mutate.specs.Edit.{IsPlaced, edited}
+use Rattle.cs_mutate.specs.Edit.{edited}
 use Rattle.cs_render.specs.Rendering.{IsRuleText, Text}
 use Rattle.cs_scan.specs.Compared.{scanning}
 use Rattle.cs_scan.specs.Scan.{Scans}
 use Rattle.cs_splice.specs.Apart.{AreApart, IsApart}
 use Rattle.cs_mutants.specs.Makers.{Making}
-use Rattle.cs_mutants.specs.Rows.{AreRows, IsFilled, IsOpenPlaced, IsRow, IsRowOf, IsTextBehind, IsTextInFront, IsTold, behind_place, row_for}
+use Rattle.cs_mutants.specs.Rows.{AreRows, IsFilled, IsRow, IsRowOf, IsTextBehind, IsTextInFront, IsTold, behind_place, row_for}
 use Rattle.cs_mutants.specs.declared.row.Row.{Row}
 use Rattle.cs_mutants.specs.declared.rows.Rows.{Rows}
 use Rattle.cs_mutants.specs.declared.tools.ToldToken.{ToldToken}
@@ -32,10 +32,6 @@ edited_open w (Replace place) token = append_assoc (take place w) (token ∷ [])
 pub edit_of : (edit : OpenEdit) (pair : OpenPair) (token : ℕ) → (negative_by edit pair token).edit ≡ edit_with edit token
 edit_of edit (Behind left) token = refl
 edit_of edit (Before right) token = refl
-
-pub placed_open : (many : ℕ) (edit : OpenEdit) (token : ℕ) → IsPlaced many (edit_with edit token) → IsOpenPlaced many edit
-placed_open many (Insert place) token placed = placed
-placed_open many (Replace place) token placed = placed
 
 module _ (making : Making) (edit : OpenEdit) (pair : OpenPair) (token : ℕ) (row : Row) (told : ToldToken) where
   pub filled_row : AreApart making.tools.apart making.base → IsTold making.tools token told → IsRowOf making edit pair row → IsFilled making (negative_by edit pair token) row.lines told.name.now told.lexeme.now

@@ -8,11 +8,7 @@ use Rattle.cs_grammar.specs.Sentence.{framed}
 use Rattle.cs_grammar.specs.declared.symbol.Mark.TheVariants.{Begin, Token, End}
 use Rattle.cs_output.specs.Names.{AreNamedTokens, IsNamedMark, IsNamedToken}
 use Rattle.cs_manifest.specs.Named.{IsNamedEdit, IsNamedNegative, IsNamedRendering}
-use Rattle.cs_manifest.specs.Open.{mark_in, negative_by}
-use Rattle.cs_manifest.specs.declared.open.OpenEdit.{OpenEdit}
 use Rattle.cs_manifest.specs.declared.open.OpenEdit.TheVariants as puts
-use Rattle.cs_manifest.specs.declared.open.OpenPair.{OpenPair}
-use Rattle.cs_manifest.specs.declared.open.OpenPair.TheVariants.{Behind, Before}
 use Rattle.cs_mutate.specs.Edit.{Fits, HasToken, edited}
 use Rattle.cs_mutate.specs.Negatives.{IsNegative}
 use Rattle.cs_mutate.specs.declared.edit.Edit.{Edit}
@@ -55,17 +51,6 @@ module _ (file : File) where
           left = All-slice_get (IsNamedMark file) (framed list) n.at n.left marks is.pair.left;
           right = All-slice_get (IsNamedMark file) (framed list) (n.at + 1) n.right marks is.pair.right;
         }
-
-  -- the token that its edit puts, and the other mark of its pair
-  pub token_named : (edit : OpenEdit) (pair : OpenPair) (token : ℕ) → IsNamedNegative file (negative_by edit pair token) → IsNamedToken file token
-  token_named (puts.Insert place) (Behind left) token named = named.edit
-  token_named (puts.Insert place) (Before right) token named = named.edit
-  token_named (puts.Replace place) (Behind left) token named = named.edit
-  token_named (puts.Replace place) (Before right) token named = named.edit
-
-  pub mark_named : (edit : OpenEdit) (pair : OpenPair) (token : ℕ) → IsNamedNegative file (negative_by edit pair token) → IsNamedMark file (mark_in pair)
-  mark_named edit (Behind left) token named = named.left
-  mark_named edit (Before right) token named = named.right
 
   -- what comes of the rendering of tokens with names
   pub named_rendering : (s : Scanning) (lexemes : List (Option (List ℕ))) (separator tokens : List ℕ) (r : Rendering) → AreNamedTokens file tokens → IsRendered s lexemes separator tokens r → IsNamedRendering file r

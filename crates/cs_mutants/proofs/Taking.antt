@@ -21,9 +21,7 @@ length-edited w (Swap i) within = omega (arith, within, length-patched w i (get_
 module _ (work : RenderWork) (most : ℕ) (base : List ℕ) (can : CanRender work most) (short : length base ≤ 1000000) (tokens : All (IsNumberOf most) base) where
   takes_list : (list : List ℕ) → All (IsNumberOf most) list → length list ≤ 1000001 → TakesTokens work list
   takes_list list all few = record {
-    kinds = can.kinds;
-    literals = can.literals;
-    tokens_of = subst (λ (m : ℕ). All (IsNumberOf m) list) (sym can.lexemes) all;
+    tokens_of = subst (λ (m : ℕ). All (IsNumberOf m) list) (sym can) all;
     few = few;
   }
 

@@ -5,17 +5,14 @@ use Rattle.cs_mutate.specs.Edit.{edited}
 use Rattle.cs_mutate.specs.declared.edit.Edit.{Edit}
 use Rattle.cs_render_work.specs.Renders.{TakesTokens}
 use Rattle.cs_render_work.specs.declared.work.RenderWork.{RenderWork}
-use Rattle.cs_scan.specs.Compared.{HasKinds, HasLiterals}
 use Rattle.cs_splice.specs.Apart.{AreApart, ScanBack}
 use Rattle.cs_splice.specs.Near.{Near}
 use Rattle.cs_splice.specs.Spliced.{near_by}
 use Rattle.cs_yacc.specs.File.{File}
 
 -- lists of tokens from 1 to so many can be rendered
-pub record CanRender (work : RenderWork) (tokens : ℕ) : Type 0 where
-  pub kinds : HasKinds work.scanner.now
-  pub literals : HasLiterals work.scanner.now
-  pub lexemes : length work.lexemes.now ≡ tokens
+abbrev pub CanRender : RenderWork → ℕ → Type 0
+CanRender work tokens = length work.lexemes.now ≡ tokens
 
 -- a file, what lists are rendered by, and the tokens that stand apart in texts
 pub record PlainTools : Type 0 where

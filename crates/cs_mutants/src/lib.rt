@@ -6,7 +6,7 @@
 //! edited list is told by that of the base where it can be.
 //!
 //! Meaning: `specs/Makers` (what makes negatives), `specs/Mutants` (what is made of a negative, and what its writing does). Working
-//! words of proofs: the end of `Makers`, and `Rows`.
+//! words of proofs: `near_of`, `AreSound` and `IsReady` of `Makers`, and `Rows`.
 #![tactic(auto)]
 
 mod made;

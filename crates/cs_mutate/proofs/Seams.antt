@@ -192,10 +192,6 @@ module _ (w : List ℕ) (i gone : ℕ) (left right : Mark) (h : Around w i gone 
               ⊎_elim (λ adjacent. adjacent) (λ here. let at = here.1 in first.earlier here.0 x y (omega arith) here.2) (pair_cases m x y p);
         }
 
--- the marks of a framed list
-pub mark_first : (w : List ℕ) (at : ℕ) → at ≡ 0 → slice_get (framed w) at ≡ Some Begin
-mark_first w at is = ap (slice_get (framed w)) is
-
 pub mark_token : (w : List ℕ) (at k : ℕ) → at ≡ k + 1 → k < length w → slice_get (framed w) at ≡ Some (Token (get_or w k 0))
 mark_token w at k is within = ap (slice_get (framed w)) (is ∙ add-one k) ∙ token_at End w k 0 within
 

@@ -14,7 +14,7 @@ use Rattle.cs_mutate.specs.declared.negative.Negative.{Negative}
 use Rattle.cs_mutate.specs.Edit.{Fits, patched, edited}
 use Rattle.cs_mutate.specs.Edits.{is_listed, fitting_edits, edits}
 use Rattle.cs_mutate.specs.Poison.{HasNoPoison, IsPoisonedAt}
-use Rattle.cs_mutate.specs.Negatives.{IsHarmless, IsNegative, IsNext}
+use Rattle.cs_mutate.specs.Negatives.{IsHarmless, IsNext}
 use Rattle.cs_mutate.proofs.Fitting.{All-from_Among, in_fitting}
 
 -- the tokens of an edited list
@@ -51,23 +51,12 @@ pub record Passed (g : PlainGrammar) (w : List ℕ) (old new : List Edit) : Type
   pub fits : All (Fits (length w) g.tokens) new
 
 module _ (g : PlainGrammar) (w : List ℕ) where
-  pub passed_none : (old : List Edit) → All (Fits (length w) g.tokens) old → Passed g w old old
-  passed_none old fits = record { skipped = []; whole = refl; harmless = All-nil (IsHarmless g w); fits = fits }
-
   pub passed_more : (old mid new : List Edit) (e : Edit) → mid ≡ e ∷ new → Passed g w old mid → IsHarmless g w e → Passed g w old new
   passed_more old mid new e is p harmless = record {
     skipped = p.skipped ++ e ∷ [];
     whole = p.whole ∙ ap (λ (l : List Edit). p.skipped ++ l) is ∙ sym (append_assoc p.skipped (e ∷ []) new);
     harmless = All-push (IsHarmless g w) p.skipped e p.harmless harmless;
     fits = All-rest (Fits (length w) g.tokens) e new mid is p.fits;
-  }
-
-  pub passed_next : (old mid new : List Edit) (n : Negative) → mid ≡ n.edit ∷ new → Passed g w old mid → IsNegative g w n → IsNext g w old n new
-  passed_next old mid new n is p negative = record {
-    skipped = p.skipped;
-    edits = p.whole ∙ ap (λ (l : List Edit). p.skipped ++ l) is;
-    harmless = p.harmless;
-    negative = negative;
   }
 
   pub passed_all : (old new : List Edit) → new ≡ [] → Passed g w old new → All (IsHarmless g w) old

@@ -9,7 +9,7 @@ use std::marker::Model;
 
 // Places that are still to be given.
 #[derive(Debug, Drop)]
-pub struct Places {
+pub(crate) struct Places {
     place: u32,
     places: u32,
 }
@@ -55,7 +55,7 @@ impl Places {
 
 // Places with tokens that are still to be given.
 #[derive(Debug, Drop)]
-pub struct Cells {
+pub(crate) struct Cells {
     place: u32,
     token: u16,
     places: u32,
@@ -117,7 +117,7 @@ impl Cells {
 
 // The edits that are still to be given.
 #[derive(Debug, Drop)]
-pub struct Candidates {
+pub(crate) struct Candidates {
     deletions: Places,
     insertions: Cells,
     replacements: Cells,

@@ -11,10 +11,10 @@ use cs_pairs::Pairs;
 
 // A pair that isn't adjacent, with its place, counted from 0.
 #[derive(Clone, Copy, Debug)]
-pub struct PoisonedPair {
-    pub at: u32,
-    pub left: Mark,
-    pub right: Mark,
+pub(crate) struct PoisonedPair {
+    pub(crate) at: u32,
+    pub(crate) left: Mark,
+    pub(crate) right: Mark,
 }
 
 /// The place of the first pair of a framed list that isn't adjacent; that of the begin mark and the
@@ -33,7 +33,12 @@ pub fn poison(pairs: &Pairs, list: &[u16]) -> Option<u32>
 }
 
 // The first pair that isn't adjacent of a mark, some tokens and a mark.
-pub fn poison_between(pairs: &Pairs, left: Mark, list: &[u16], right: Mark) -> Option<PoisonedPair>
+pub(crate) fn poison_between(
+    pairs: &Pairs,
+    left: Mark,
+    list: &[u16],
+    right: Mark,
+) -> Option<PoisonedPair>
     requires left { IsLeft pairs.now.grammar.tokens left }
     requires right { IsRight pairs.now.grammar.tokens right }
     requires tokens { All (IsNumberOf pairs.now.grammar.tokens) list.now }

@@ -13,7 +13,7 @@ use cs_pairs::Pairs;
 
 // The first pair of the framed result of an edit that isn't adjacent. All pairs of the framed list itself are adjacent, so only
 // those are looked at that the edit makes.
-pub fn poison_touched(pairs: &Pairs, base: &[u16], edit: &Edit) -> Option<PoisonedPair>
+pub(crate) fn poison_touched(pairs: &Pairs, base: &[u16], edit: &Edit) -> Option<PoisonedPair>
     requires sound { HasNoPoison pairs.now.grammar (framed base.now) }
     requires short { length base.now ≤ 1000000 }
     requires tokens { All (IsNumberOf pairs.now.grammar.tokens) base.now }

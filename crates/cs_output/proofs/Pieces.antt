@@ -3,7 +3,7 @@ use Rattle.std.proofs.Common.{◌≡◌, ◌⊎◌, inl, inr, refl, subst, ℕ, 
 use Rattle.std.specs.Io.KnownBytes.{append_known}
 use Rattle.std.specs.List.{flat_map, enumerate_from}
 use Rattle.std.proofs.Math.Seq.{take-append-add}
-use Rattle.std.proofs.lemmas.List.{append-nil, take_more, take_all, flat_map_more, length-take, length-take-le, take-append-drop, take-append-le}
+use Rattle.std.proofs.lemmas.List.{append-nil, take_more, flat_map_more, length-take, length-take-le, take-append-drop, take-append-le}
 use Rattle.std.proofs.lemmas.Slice.{take-put_mid}
 use borrow.Rule.Slice.PartMut.{put_mid}
 use Rattle.cs_io.proofs.Known.{known_none, known_twice, known_then_part, known_part}
@@ -221,10 +221,6 @@ module _ {S : Type 0} {g : Sink.Ghosts S} where
           flat_map_more f [] (take i xs) (get_or xs i d)
           ∙ ap (λ (ys : List A). flat_map f ys) (sym (take_more xs i d within))
 
-  pub bytes_all : {A : Type 0} (f : A → List ℕ) {old new : Output S} (xs : List A) (i : ℕ) → length xs ≤ i
-      → Puts g (flat_map f (take i xs)) old new → Puts g (flat_map f xs) old new
-  bytes_all {A} f xs i all p = spelled (flat_map f xs) (ap (flat_map f) (take_all i xs all)) p
-
   -- one more member of a list of words
   pub spaced_more : {A : Type 0} (f : A → List ℕ) {old mid next new : Output S} (xs : List A) (i : ℕ) (d : A) → i < length xs
       → Puts g (spaced f (take i xs)) old mid → Puts g (32 ∷ []) mid next → Puts g (f (get_or xs i d)) next new → Puts g (spaced f (take (i + 1) xs)) old new
@@ -234,10 +230,6 @@ module _ {S : Type 0} {g : Sink.Ghosts S} where
   pub spaced_next : {A : Type 0} (f : A → List ℕ) {old mid new : Output S} (xs : List A) (i : ℕ) (d : A) → i < length xs
       → Puts g (spaced f (take i xs)) old mid → Puts g (32 ∷ f (get_or xs i d)) mid new → Puts g (spaced f (take (i + 1) xs)) old new
   spaced_next {A} f xs i d within so_far more = bytes_more (λ (y : A). 32 ∷ f y) xs i d within so_far more
-
-  pub spaced_all : {A : Type 0} (f : A → List ℕ) {old new : Output S} (xs : List A) (i : ℕ) → length xs ≤ i
-      → Puts g (spaced f (take i xs)) old new → Puts g (spaced f xs) old new
-  spaced_all {A} f xs i all p = spelled (spaced f xs) (ap (spaced f) (take_all i xs all)) p
 
   -- one more member of a list of lines
   pub numbered_more : {A : Type 0} (f : ℕ → A → List ℕ) {old mid new : Output S} (xs : List A) (i : ℕ) (x : A) → i < length xs → x ≡ get_or xs i x
@@ -258,7 +250,3 @@ module _ {S : Type 0} {g : Sink.Ghosts S} where
           ∙ flat_map_more (λ (p : ℕ × A). f p.0 p.1) [] (enumerate_from 1 (take i xs)) (1 + length (take i xs), get_or xs i x)
           ∙ ap (λ (ps : List (ℕ × A)). flat_map (λ (p : ℕ × A). f p.0 p.1) ps) (sym (enumerate_push 1 (take i xs) (get_or xs i x)))
           ∙ ap (λ (ys : List A). with_numbers f ys) (sym (take_more xs i x within))
-
-  pub numbered_all : {A : Type 0} (f : ℕ → A → List ℕ) {old new : Output S} (xs : List A) (i : ℕ) → length xs ≤ i
-      → Puts g (with_numbers f (take i xs)) old new → Puts g (with_numbers f xs) old new
-  numbered_all {A} f xs i all p = spelled (with_numbers f xs) (ap (with_numbers f) (take_all i xs all)) p

@@ -9,8 +9,9 @@ ghost use Rattle.cs_output.specs.Putting.{Puts};
 ghost use Rattle.cs_output.specs.Words as words;
 
 use crate::output::Output;
-use cs_grammar::{Mark, Symbol, place_of};
+use cs_grammar::{Mark, Symbol};
 use cs_io::Sink;
+use cs_numbers::place_of;
 use cs_yacc::{TokenName, YaccFile};
 
 fn put_token<S: Sink>(output: &mut Output<'_, S>, file: &YaccFile, token: u16)

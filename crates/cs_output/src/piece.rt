@@ -9,7 +9,7 @@ use std::marker::Model;
 pub(crate) const WORD_LENGTH: usize = 16;
 
 /// Up to so many bytes are put by one copy of that length.
-pub const SHORT_LENGTH: usize = 64;
+pub(crate) const SHORT_LENGTH: usize = 64;
 
 /// Bytes that are put often. Others may stand behind them, which mean nothing, so that a few are copied by one copy of a fixed
 /// length.

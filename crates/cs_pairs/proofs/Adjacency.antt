@@ -1,14 +1,12 @@
 -- What pairs with marks cost, and which pairs stand in a sentence.
-use Rattle.std.proofs.Common.{◌≡◌, ℕ, ◌-◌, List, get_or, refl, sym, ◌∙◌, subst, arith}
+use Rattle.std.proofs.Common.{◌≡◌, ℕ, ◌-◌, List, get_or, sym, ◌∙◌, subst, arith}
 use Rattle.cs_grammar.specs.declared.symbol.Symbol.TheVariants.{Nonterminal}
 use Rattle.cs_grammar.specs.declared.symbol.Mark.{Mark}
 use Rattle.cs_grammar.specs.declared.symbol.Mark.TheVariants.{Begin, Token, End}
 use Rattle.cs_grammar.specs.Grammar.{PlainGrammar, IsNumberOf}
 use Rattle.cs_grammar.specs.Weights.{Measure, Weighed}
 use Rattle.cs_grammar.specs.Tree.{yield, size}
-use Rattle.cs_grammar.specs.Sentence.{framed, IsFollowed}
 use Rattle.cs_cost.specs.declared.cost.Cost.{Cost}
-use Rattle.cs_cost.specs.declared.cost.Cost.TheVariants.{Never, Large, Least}
 use Rattle.cs_cost.specs.Least.{IsCost}
 use Rattle.cs_cost.proofs.Ranks.{IsCost-same}
 use Rattle.cs_goals.specs.Goal.{IsLeft, IsRight}
@@ -16,7 +14,7 @@ use Rattle.cs_kinds.specs.declared.kind.TreeKind.TheVariants.{Empty, Begins, End
 use Rattle.cs_kinds.specs.Kinds.{IsTreeOfKind}
 use Rattle.cs_kinds.proofs.RowLists.{row_read}
 use Rattle.cs_kinds.proofs.Filling.{entry_read}
-use Rattle.cs_pairs.specs.Pairs.{IsAdjacent, HasPair, ArePairs, ArePairRows}
+use Rattle.cs_pairs.specs.Pairs.{HasPair, ArePairs, ArePairRows}
 use Rattle.cs_pairs.proofs.Framed.{first_token, token_first, no_token, none_framed, last_token, token_last}
 
 module _ (w : Measure) (g : PlainGrammar) where
@@ -47,15 +45,3 @@ module _ (w : Measure) (g : PlainGrammar) where
   of_tokens left right a b row d at_left at_right h =
       let at = entry_read row a d (h.1.0, omega (arith, h.1, h.0.many)) in
       of_marks left right (Token a) (Token b) (get_or row (a - 1) d) at_left at_right (subst (IsCost w.limit (HasPair g (Token a) (Token b)) (size w)) at (h.0.exact a h.1))
-
-  -- a pair stands in a sentence exactly where it has a cost
-  pub adjacent_where : (a b : Mark) (c : Cost) → IsCost w.limit (HasPair g a b) (size w) c → (c ≡ Never → ⊥) → IsAdjacent g a b
-  adjacent_where a b Never h some = absurd (some refl)
-  adjacent_where a b Large h some = (yield h.0, (h.0, h.1.0, refl), h.1.1)
-  adjacent_where a b (Least n) h some = let r = h.1.reached in (yield r.0, (r.0, r.1.0, refl), r.1.1)
-
-  pub never_adjacent : (a b : Mark) (c : Cost) → IsCost w.limit (HasPair g a b) (size w) c → c ≡ Never → IsAdjacent g a b → ⊥
-  never_adjacent a b c h none v =
-      let never : IsCost w.limit (HasPair g a b) (size w) Never = subst (IsCost w.limit (HasPair g a b) (size w)) none h in
-      let s = v.1 in
-      never s.0 (s.1, subst (λ (ts : List ℕ). IsFollowed a b (framed ts)) s.2 v.2)

@@ -1,5 +1,5 @@
 -- The chosen tree of two tokens: there is at most one, and one where a tree has the pair.
-use Rattle.std.proofs.Common.{◌≡◌, ℕ, zero, suc, ◌+◌, ◌-◌, ◌<◌, ◌≤◌, List, [], ◌∷◌, ◌++◌, Some, length, get_or, take, drop, refl, sym, ap, ◌∙◌, subst, ⊎_elim, inl, inr, arith}
+use Rattle.std.proofs.Common.{◌≡◌, ℕ, zero, suc, ◌+◌, ◌-◌, ◌<◌, ◌≤◌, List, ◌∷◌, ◌++◌, Some, length, get_or, take, drop, refl, sym, ap, ◌∙◌, subst, ⊎_elim, inl, inr, arith}
 use Rattle.std.specs.Prelude.{slice_get}
 use Rattle.std.proofs.lemmas.Bool.{cases_lt}
 use Rattle.std.proofs.lemmas.List.{length-take-le, length-append}
@@ -14,6 +14,7 @@ use Rattle.cs_grammar.specs.Context.{Context, Hole, Under, IsContext, plug}
 use Rattle.cs_grammar.proofs.OneTree.{one_rule}
 use Rattle.cs_grammar.proofs.Holes.{size-plug}
 use Rattle.cs_cost.specs.Chosen.{AreChosen}
+use Rattle.cs_cost.proofs.Rules.{some_rule}
 use Rattle.cs_cost.proofs.ChosenTrees.{LeastForest, AreTrees-chosen, all_chosen, settled as tree_settled, forest_settled}
 use Rattle.cs_embed.specs.ChosenContext.{count, IsChosenContext}
 use Rattle.cs_embed.proofs.ChosenContexts.{count_is, IsContext-chosen, one_chosen_context, LeastContext, context_settled}
@@ -185,9 +186,9 @@ module _ (w : Measure) (g : PlainGrammar) (a b : ℕ) where
   rule_settled n i =
       ⊎_elim
       (λ within.
-      let p = get_or g.rules i (record { left = 0; right = [] }) in
-      let at = slice_get-get_or g.rules i (record { left = 0; right = [] }) within in
-      let rule : IsRule g (suc i) p = record { above_zero = omega arith; at = (let e : suc i - 1 ≡ i = omega arith in rw e at) } in
+      let there = some_rule g i within in
+      let p = there.0 in
+      let rule = there.1 in
       ⊎_elim
       (λ large. inl (λ s. large s.0 (place_within (suc i) p rule s.0 s.1) s.1))
       (λ best. inr (

@@ -1,5 +1,5 @@
 -- The code of the chosen tree of a pair.
-use Rattle.std.proofs.Common.{◌≡◌, ℕ, ◌≤◌, sym, ap, subst, arith}
+use Rattle.std.proofs.Common.{◌≡◌, ℕ, ◌≤◌, ap, subst, arith}
 use Rattle.cs_grammar.specs.declared.symbol.Symbol.{Symbol}
 use Rattle.cs_grammar.specs.declared.symbol.Symbol.TheVariants.{Nonterminal}
 use Rattle.cs_grammar.specs.declared.symbol.Mark.{Mark}
@@ -19,7 +19,7 @@ use Rattle.cs_kinds.specs.Parts.{HasSmallOfKind}
 use Rattle.cs_pairs.specs.Beside.{IsSeam, seam_size}
 use Rattle.cs_pairs.specs.Pairs.{HasPair}
 use Rattle.cs_pairs.specs.SeamPlace.{IsMeetingAt}
-use Rattle.cs_pairs.specs.ChosenPair.{IsCodeOfPair, HasLeastPair, IsChosenMeeting}
+use Rattle.cs_pairs.specs.ChosenPair.{HasLeastPair, IsChosenMeeting}
 use Rattle.cs_pairs.proofs.Framed.{first_token, no_token, last_token, tokens_in}
 use Rattle.cs_pairs.proofs.Seams.{cut}
 use Rattle.cs_pairs.proofs.ChosenSeams.{seam_exists}
@@ -56,15 +56,6 @@ module _ (w : Measure) (g : PlainGrammar) where
   none_small Begin (Token d) is_left is_right h = absurd cc
   none_small (Token c) right is_left is_right h = absurd cc
   none_small End right is_left is_right h = absurd cc
-
-  -- in the names of the code
-  pub code_at : (left right a b : Mark) (rules : _) → left ≡ a → right ≡ b → IsCodeOfPair w g a b rules → IsCodeOfPair w g left right rules
-  code_at left right a b rules is_left is_right h =
-      subst (λ m. IsCodeOfPair w g m right rules) (sym is_left) (subst (λ m. IsCodeOfPair w g a m rules) (sym is_right) h)
-
-  pub least_at : (left right a b : Mark) → left ≡ a → right ≡ b → HasLeastPair w g left right → HasLeastPair w g a b
-  least_at left right a b is_left is_right h =
-      subst (λ m. HasLeastPair w g a m) is_right (subst (λ m. HasLeastPair w g m right) is_left h)
 
   module _ (a b : ℕ) (cost : Cost) (is_cost : IsCost w.limit (HasPair g (Token a) (Token b)) (size w) cost) (least : HasLeastPair w g (Token a) (Token b)) where
     same_cost : cost ≡ Least least.0

@@ -28,9 +28,6 @@ each_more Holds d count items x many each here n number =
     (cases_eq n (count + 1))
 
 module _ (w : Measure) (g : PlainGrammar) where
-  pub tell_none : (b : ℕ) → TellMeetings w g b 0 []
-  tell_none b = record { many = refl; each = λ a h. absurd (omega (arith, h)) }
-
   pub tell_more : (b count : ℕ) (places : List (Option Meeting)) (found : Option Meeting) → TellMeetings w g b count places → TellsMeeting w g (count + 1) b found → TellMeetings w g b (count + 1) (places ++ found ∷ [])
   tell_more b count places found so_far here = record {
     many = length-append places (found ∷ []) ∙ ap (λ n. n + 1) so_far.many;

@@ -17,8 +17,9 @@ use crate::fronts::around_rules;
 use crate::meeting::TokenPair;
 use cs_cost::{Cost, Costs};
 use cs_embed::Embeds;
-use cs_grammar::{Derivation, Grammar, Mark, Symbol, place_of};
+use cs_grammar::{Derivation, Grammar, Mark, Symbol};
 use cs_kinds::{Kinds, TreeKind};
+use cs_numbers::place_of;
 use std::alloc::{AllocError, Global};
 use std::marker::Model;
 

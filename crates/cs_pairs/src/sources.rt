@@ -8,8 +8,8 @@ ghost use Rattle.cs_pairs.specs.Sources.{AreSourcesBack, AreAllSources};
 use crate::fronts::Around;
 use crate::meeting::Meeting;
 use cs_cost::Cost;
-use cs_grammar::number_of;
 use cs_kinds::{Kinds, Sweep, TreeKind, step_cost, symbol_number};
+use cs_numbers::number_of;
 use cs_ways::Source;
 use std::alloc::{AllocError, Global};
 

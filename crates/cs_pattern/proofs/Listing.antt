@@ -12,7 +12,7 @@ use Rattle.cs_pattern_items.specs.Items.{Placed, items_of}
 use Rattle.cs_pattern_items.specs.Views.{item_of, placed_of, placed_all}
 use Rattle.cs_pattern_postfix.specs.Definitions.{Definition}
 use Rattle.cs_pattern.specs.Uses.{used, Uses, LeadsTo, IsFirstTo}
-use Rattle.cs_pattern.proofs.Linked.{HasUses, all_push}
+use Rattle.cs_pattern.proofs.Linked.{HasUses}
 use Rattle.cs_pattern.proofs.Staged.{get_still, get_last}
 
 -- one item more
@@ -30,10 +30,6 @@ more_uses ds items k p us more lt is e f =
     f ∙ ap (λ (xs : List ℕ). xs ++ filter_map (used ds) (item_of p.item ∷ [])) e
     ∙ sym (filter_map-append (used ds) (items_of (placed_all (take k items))) (item_of p.item ∷ []))
     ∙ ap (filter_map (used ds)) (sym m)
-
-pub more_without : (P : Placed → Type 0) (items : List held.Placed) (k : ℕ) (p : held.Placed) → k < length items → p ≡ get_or items k p
-    → AllByRecursion P (placed_all (take k items)) → P (placed_of p) → AllByRecursion P (placed_all (take (k + 1) items))
-more_without P items k p lt is h q = subst (AllByRecursion P) (sym (one_more_placed items k p lt is)) (all_push P (placed_all (take k items)) (placed_of p) h q)
 
 -- what an item names, the items use
 pub item_used : (ds : List Definition) (next : ℕ) (items : List held.Placed) (k : ℕ) (p : held.Placed) → k < length items → p ≡ get_or items k p → used ds (placed_of p).item ≡ Some next → Uses ds (items_of (placed_all items)) next

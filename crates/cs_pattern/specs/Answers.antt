@@ -1,5 +1,6 @@
 -- What reading a pattern answers.
 use Rattle.std.specs.Prelude.{◌≡◌, ℕ, ◌≤◌, List, Option, Some, None, length}
+use Rattle.cs_bytes.specs.Limits.{most_bytes}
 use Rattle.cs_pattern.specs.declared.fault.PatternFault.{PatternFault}
 use Rattle.cs_pattern.specs.declared.fault.PatternFault.TheVariants as faults
 use Rattle.cs_pattern.specs.declared.fault.PatternError as errors
@@ -29,7 +30,7 @@ pub record IsPatternOf (ds : List Definition) (text : List ℕ) (pattern : Regex
 pub record IsNamed (ds : List Definition) (text : List ℕ) (items : List Placed) : Type 0 where
   pub read : Reads text items
   pub defined : first_undefined ds items ≡ None
-  pub few : length items ≤ 1048576
+  pub few : length items ≤ most_bytes
 
 -- the text is read to its end, and the first name that is not defined stands at the offset
 pub record IsUndefinedAt (bytes : List ℕ) (ds : List Definition) (at : ℕ) : Type 0 where

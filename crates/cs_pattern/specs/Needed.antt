@@ -80,6 +80,10 @@ AreOf ds bodies order = (measures : List Measure) × AreChecked ds bodies measur
 abbrev pub AreOfSome : List (Vec code.Op) → List ℕ → Type 0
 AreOfSome bodies order = (ds : List Definition) × AreOf ds bodies order
 
+-- they are, in some order
+abbrev pub HaveOrder : List (Vec code.Op) → Type 0
+HaveOrder bodies = (order : List ℕ) × AreOfSome bodies order
+
 -- the operations, or those of a definition that they need, put the definition in
 pub data Needs (bodies : List (Vec code.Op)) (ops : List Op) : ℕ → Type 0 where
   directly : (i : ℕ) → Substitutes ops i → i < length bodies → Needs bodies ops i
@@ -102,5 +106,5 @@ pub record Learns (bodies : List (Vec code.Op)) (index : ℕ) (old new : List (�
   pub others : KeepsOthers index old new
 
 -- whatever definitions these are, the needed ones have their patterns
-abbrev pub KnowNeeded : List (Vec code.Op) → List ℕ → List ℕ → List (ℕ × Pattern) → Type 0
-KnowNeeded bodies order needed known = (ds : List Definition) → AreOf ds bodies order → AreKnown ds needed known
+abbrev pub KnowNeeded : List (Vec code.Op) → List ℕ → List (ℕ × Pattern) → Type 0
+KnowNeeded bodies needed known = (ds : List Definition) (order : List ℕ) → AreOf ds bodies order → AreKnown ds needed known

@@ -1,5 +1,6 @@
 -- Which item may stand where in a pattern's text, and where reading stops.
 use Rattle.std.specs.Prelude.{◌≡◌, ℕ, zero, suc, ◌+◌, ◌<◌, ◌⊎◌, Bool, true, false, List, [], ◌∷◌, Option, Some, None, length, drop}
+use Rattle.cs_bytes.specs.Names.{less_sign}
 use Rattle.cs_pattern.specs.declared.place.Place.{Place}
 use Rattle.cs_pattern_items.specs.declared.front.Stop.{Stop}
 use Rattle.cs_pattern_items.specs.declared.front.Stop.TheVariants.{Syntax}
@@ -48,7 +49,7 @@ ReadsTo bytes at p (x ∷ xs) to last =
 
 -- the first byte is no `<`, with which a start condition would begin
 abbrev pub IsPlainText : List ℕ → Type 0
-IsPlainText bytes = has_at bytes 0 60 ≡ false
+IsPlainText bytes = has_at bytes 0 less_sign ≡ false
 
 -- The text is read into these items, all of it.
 pub record Reads (bytes : List ℕ) (items : List Placed) : Type 0 where
@@ -86,4 +87,4 @@ fault_of stops.Syntax at = faults.Syntax at
 
 -- the first place where reading stops, and its fault
 abbrev pub IsFirstStop : List ℕ → PatternFault → Type 0
-IsFirstStop bytes fault = ((has_at bytes 0 60 ≡ true) × (fault ≡ faults.Condition 0)) ⊎ ((at : ℕ) × (why : Stop) × StopsAt bytes at why × (fault ≡ fault_of why at))
+IsFirstStop bytes fault = ((has_at bytes 0 less_sign ≡ true) × (fault ≡ faults.Condition 0)) ⊎ ((at : ℕ) × (why : Stop) × StopsAt bytes at why × (fault ≡ fault_of why at))

@@ -1,6 +1,7 @@
 // The stages of checking definitions: their texts, their names, their operations and their measures.
 
 ghost use Rattle.std.specs.Prelude.{◌≡◌, ◌<◌, ◌≤◌, ◌^◌, All, IfOk, IfErr, OnOk, length};
+ghost use Rattle.cs_bytes.specs.Limits.{most_bytes};
 ghost use Rattle.cs_pattern_items.specs.Views.{placed_all};
 ghost use Rattle.indexmap.specs.IndexMap.{index_map_len};
 ghost use Rattle.cs_pattern_postfix.specs.Definitions.{definitions_of, total_bytes};
@@ -19,7 +20,7 @@ use cs_pattern_postfix::{Measure, Op, Texts, leaf, measure_of, postfix};
 use std::alloc::{AllocError, Global};
 
 /// The fault of the definition of that index.
-pub fn fault_at(index: usize, fault: PatternFault) -> CheckError
+pub(crate) fn fault_at(index: usize, fault: PatternFault) -> CheckError
     requires { index < 2 ^ 32 }
     ensures { result ≡ CheckError.Fault index fault }
 {
@@ -30,7 +31,7 @@ pub fn fault_at(index: usize, fault: PatternFault) -> CheckError
 }
 
 fn read_text(alloc: Global, index: usize, text: &[u8]) -> Result<Vec<Placed>, CheckError>
-    requires text { length text.now ≤ 1048576 }
+    requires text { length text.now ≤ most_bytes }
     requires index { index < 2 ^ 32 }
     ensures read { IfOk result (λ items. Reads text.now (placed_all items.items)) }
     ensures short { IfOk result (λ items. length items.items ≤ length text.now) }
@@ -44,8 +45,8 @@ fn read_text(alloc: Global, index: usize, text: &[u8]) -> Result<Vec<Placed>, Ch
 }
 
 /// The items of each text.
-pub fn read_all(alloc: Global, texts: &Texts) -> Result<Vec<Vec<Placed>>, CheckError>
-    requires { total_bytes (definitions_of texts.now.entries) ≤ 1048576 }
+pub(crate) fn read_all(alloc: Global, texts: &Texts) -> Result<Vec<Vec<Placed>>, CheckError>
+    requires { total_bytes (definitions_of texts.now.entries) ≤ most_bytes }
     ensures read { IfOk result (λ all. AreRead (definitions_of texts.now.entries) all.items) }
     ensures refused { IfErr result (RefusesDefinitions (definitions_of texts.now.entries)) }
 {
@@ -56,8 +57,8 @@ pub fn read_all(alloc: Global, texts: &Texts) -> Result<Vec<Vec<Placed>>, CheckE
     Ok(all)
 }
 
-pub fn check_names(all: &[Vec<Placed>], texts: &Texts) -> Result<(), CheckError>
-    requires bytes { total_bytes (definitions_of texts.now.entries) ≤ 1048576 }
+pub(crate) fn check_names(all: &[Vec<Placed>], texts: &Texts) -> Result<(), CheckError>
+    requires bytes { total_bytes (definitions_of texts.now.entries) ≤ most_bytes }
     requires read { AreRead (definitions_of texts.now.entries) all.now }
     ensures named { OnOk result (AreNamed (definitions_of texts.now.entries) all.now) }
     ensures refused { IfErr result (RefusesDefinitions (definitions_of texts.now.entries)) }
@@ -71,7 +72,7 @@ pub fn check_names(all: &[Vec<Placed>], texts: &Texts) -> Result<(), CheckError>
 }
 
 /// The operations of each definition.
-pub fn operations(
+pub(crate) fn operations(
     alloc: Global,
     all: &[Vec<Placed>],
     texts: &Texts,
@@ -88,7 +89,7 @@ pub fn operations(
 }
 
 /// The measure of each definition, by an order in which each stands behind those that it uses.
-pub fn measure_all(
+pub(crate) fn measure_all(
     alloc: Global,
     bodies: &[Vec<Op>],
     order: &[usize],
@@ -105,7 +106,11 @@ pub fn measure_all(
 }
 
 /// Where each definition stands in the order.
-pub fn places_of(alloc: Global, order: &[usize], texts: &Texts) -> Result<Vec<usize>, AllocError>
+pub(crate) fn places_of(
+    alloc: Global,
+    order: &[usize],
+    texts: &Texts,
+) -> Result<Vec<usize>, AllocError>
     requires { IsOrder (definitions_of texts.now.entries) order.now }
     ensures { IfOk result (λ places.
         ArePlaces (index_map_len texts.now) order.now places.items) }
@@ -117,7 +122,7 @@ pub fn places_of(alloc: Global, order: &[usize], texts: &Texts) -> Result<Vec<us
     Ok(places)
 }
 
-pub fn check_limits(measures: &[Measure]) -> Result<(), CheckError>
+pub(crate) fn check_limits(measures: &[Measure]) -> Result<(), CheckError>
     requires { length measures.now < 2 ^ 32 }
     ensures within { OnOk result (TellLimits measures.now) }
     ensures refused { IfErr result (TellRefusal measures.now) }

@@ -1,6 +1,7 @@
 // The definitions of a file.
 
 ghost use Rattle.std.specs.Prelude.{◌≡◌, ◌≤◌, ◌+◌, ◌++◌, ◌∷◌, [], IfOk, IfErr, OnOk, OnErr, ◌↔◌, IsErrOf, IsTrue, length};
+ghost use Rattle.cs_bytes.specs.Limits.{most_bytes};
 ghost use Rattle.cs_pattern.specs.Checking.{AreAccepted, RefusesDefinitions};
 ghost use Rattle.cs_pattern_postfix.specs.Definitions.{has_name, total_bytes};
 
@@ -47,6 +48,7 @@ impl Model for Checked {
 
 impl Model for Definitions {
     ghost use Rattle.std.specs.Prelude.{List, ◌≤◌};
+    ghost use Rattle.cs_bytes.specs.Limits.{most_bytes};
     ghost use Rattle.cs_pattern.specs.Classes.{HaveByteTexts};
     ghost use Rattle.cs_pattern_postfix.specs.Definitions.{Definition, definitions_of, total_bytes};
 
@@ -54,7 +56,7 @@ impl Model for Definitions {
 
     ghost view = { λ d. definitions_of d.texts.entries };
 
-    ghost invariant = { λ d. (total_bytes (definitions_of d.texts.entries) ≤ 1048576)
+    ghost invariant = { λ d. (total_bytes (definitions_of d.texts.entries) ≤ most_bytes)
         × HaveByteTexts (definitions_of d.texts.entries) };
 }
 
@@ -72,7 +74,7 @@ impl Definitions {
     /// Adds a definition, where all names and texts together have at most `MOST_BYTES` bytes with it. After a refusal the
     /// definitions are as before.
     pub fn add(&mut self, name: &[u8], text: &[u8]) -> Result<(), DefinitionError>
-        requires { total_bytes self.old + length name.now + length text.now ≤ 1048576 }
+        requires { total_bytes self.old + length name.now + length text.now ≤ most_bytes }
         ensures ok { OnOk result
             (self.new ≡ self.old ++ record { name = name.now; text = text.now } ∷ []) }
         ensures twice { IsErrOf result DefinitionError.Twice

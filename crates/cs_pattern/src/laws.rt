@@ -1,6 +1,7 @@
 // Laws of reading.
 
-ghost use Rattle.std.specs.Prelude.{ℕ, List};
+ghost use Rattle.std.specs.Prelude.{◌≡◌, ℕ, List};
+ghost use Rattle.cs_bytes.specs.Limits.{most_bytes};
 ghost use Rattle.cs_pattern_items.specs.Items.{Placed};
 ghost use Rattle.cs_pattern_postfix.specs.Definitions.{Definition};
 ghost use Rattle.cs_pattern.specs.Answers.{IsPatternOf, IsFault};
@@ -9,6 +10,8 @@ ghost use Rattle.cs_pattern.specs.Laws.{HaveBytes, HaveVerdict, Exclude, HasAtMo
 ghost use Rattle.cs_pattern.specs.Substitution.{IsTreeOf, SpellsTree};
 ghost use Rattle.cs_pattern.specs.Table.{Reads};
 ghost use Rattle.cs_pattern.specs.Uses.{Reaches};
+
+use crate::MOST_BYTES;
 
 /// A text is read into one list of items, or reading stops at one place for one reason, and not both.
 pub fn one_reading()
@@ -67,4 +70,9 @@ pub fn definitions_accepted_or_refused()
 pub fn scannable_pattern()
     ensures { (ds : List Definition) (text : List ℕ)
         → HaveBytes ds text → IsScannableText ds text }
+{}
+
+/// The limit of the definitions is the code's.
+pub fn byte_limit()
+    ensures { MOST_BYTES ≡ most_bytes }
 {}

@@ -27,14 +27,13 @@ pub use cs_pattern_tree::{ByteSet, Kind, Pattern};
 pub use definitions::{Checked, Definitions};
 pub use fault::{CheckError, DefinitionError, PatternError, PatternFault};
 pub use laws::{
-    definitions_accepted_or_refused, has_answer, has_derivation, no_tree_in_a_cycle, one_answer,
-    one_pattern, one_reading, one_refusal, reads_or_stops, scannable_pattern,
+    byte_limit, definitions_accepted_or_refused, has_answer, has_derivation, no_tree_in_a_cycle,
+    one_answer, one_pattern, one_reading, one_refusal, reads_or_stops, scannable_pattern,
 };
-pub use limits::may_have_bytes;
 pub use read::read_pattern;
 
 /// The most bytes of a pattern's text, and of the names and texts of all definitions together.
-pub const MOST_BYTES: usize = 1_048_576;
+pub const MOST_BYTES: usize = cs_bytes::MOST_BYTES;
 
 /// The most groups, substitutions and repetitions around one atom.
 pub const MOST_DEPTH: u32 = 200;

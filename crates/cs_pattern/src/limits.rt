@@ -1,14 +1,14 @@
 // The limits of a pattern.
 
-ghost use Rattle.std.specs.Prelude.{◌≡◌, ◌≤◌, ◌↔◌, IsTrue};
+ghost use Rattle.std.specs.Prelude.{◌≡◌};
 ghost use Rattle.cs_pattern.specs.Limits as spec;
 
 use crate::fault::PatternFault;
-use crate::{MOST_BYTES, MOST_DEPTH, MOST_LEAVES};
+use crate::{MOST_DEPTH, MOST_LEAVES};
 use cs_pattern_postfix::Measure;
 
 /// The limit that a pattern of this measure passes, if it passes one.
-pub fn passed_limit(measure: Measure) -> Option<PatternFault>
+pub(crate) fn passed_limit(measure: Measure) -> Option<PatternFault>
     ensures { result ≡ spec.passed_limit measure.depth measure.leaves }
 {
     if measure.depth > MOST_DEPTH {
@@ -21,11 +21,4 @@ pub fn passed_limit(measure: Measure) -> Option<PatternFault>
         return Some(PatternFault::TooManyPositions { most: MOST_LEAVES });
     }
     None
-}
-
-/// Whether a pattern's text, or the names and texts of all definitions together, may have so many bytes.
-pub fn may_have_bytes(count: usize) -> bool
-    ensures { IsTrue result ↔ (count ≤ 1048576) }
-{
-    count <= MOST_BYTES
 }

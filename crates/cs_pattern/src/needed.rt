@@ -5,7 +5,7 @@ ghost use Rattle.cs_pattern_postfix.specs.Building.{StayShallow, known_at};
 ghost use Rattle.cs_pattern_postfix.specs.Operations.{op_of, ops_of};
 ghost use Rattle.cs_pattern_tree.specs.Pattern.{regex};
 ghost use Rattle.cs_pattern.specs.Needed as spec;
-ghost use Rattle.cs_pattern.specs.Needed.{AddsUsed, AreInOrder, AreNeeded, AreOfSome, ArePlaces, KeepsOthers, KnowNeeded, Learns, ops_at};
+ghost use Rattle.cs_pattern.specs.Needed.{AddsUsed, AreInOrder, AreNeeded, AreOfSome, ArePlaces, HaveOrder, KeepsOthers, KnowNeeded, Learns, ops_at};
 
 use cs_pattern_postfix::{Known, Op, build};
 use cs_pattern_tree::Pattern;
@@ -64,7 +64,7 @@ fn add_behind(
 
 /// The definitions that the operations need, those that stand behind others included, and no others: each before those that it
 /// uses. It takes the last of those that wait, so none that comes later uses it.
-pub fn needed(
+pub(crate) fn needed(
     alloc: Global,
     ops: &[Op],
     bodies: &[Vec<Op>],
@@ -113,16 +113,14 @@ fn know(
 }
 
 /// The patterns of the definitions that are needed, the last first.
-pub fn known(
+pub(crate) fn known(
     alloc: Global,
     needed: &[usize],
     bodies: &[Vec<Op>],
-    order: &[usize],
 ) -> Result<Known, AllocError>
-    requires of { AreOfSome bodies.now order.now }
-    requires in_order { AreInOrder bodies.now needed.now }
-    ensures { IfOk result (λ known.
-        KnowNeeded bodies.now order.now needed.now known.entries) }
+    requires order { HaveOrder bodies.now }
+    requires needed { AreInOrder bodies.now needed.now }
+    ensures { IfOk result (λ known. KnowNeeded bodies.now needed.now known.entries) }
 {
     let mut known = IndexMap::new(alloc);
     let mut end = needed.len();

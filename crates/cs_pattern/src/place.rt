@@ -9,13 +9,13 @@ use cs_pattern_items::Item;
 /// A place between two items: whether it is directly behind an atom's last item or a repetition, and how many more `(` than
 /// `)` stand before it.
 #[derive(Clone, Copy, Debug, PartialEq, Eq)]
-pub struct Place {
-    pub behind_atom: bool,
-    pub groups: usize,
+pub(crate) struct Place {
+    pub(crate) behind_atom: bool,
+    pub(crate) groups: usize,
 }
 
 /// The place before the first item.
-pub fn beginning() -> Place
+pub(crate) fn beginning() -> Place
     ensures { result ≡ spec.beginning }
 {
     Place {
@@ -40,7 +40,7 @@ fn closed(place: Place) -> Option<Place>
 }
 
 /// The place behind the item, where the item may stand at the place.
-pub fn behind(place: Place, item: &Item) -> Option<Place>
+pub(crate) fn behind(place: Place, item: &Item) -> Option<Place>
     requires { place.groups < 2 ^ 32 }
     ensures value { result ≡ spec.next_place place (item_of item.now) }
     ensures groups { IfSome result (λ next. next.groups ≤ place.groups + 1) }
@@ -68,7 +68,7 @@ pub fn behind(place: Place, item: &Item) -> Option<Place>
 }
 
 /// Whether a text may end at the place.
-pub fn may_end(place: Place) -> bool
+pub(crate) fn may_end(place: Place) -> bool
     ensures { IsTrue result ↔ spec.MayEnd place }
 {
     place.behind_atom && place.groups == 0

@@ -1,6 +1,7 @@
 // Reading a pattern.
 
 ghost use Rattle.std.specs.Prelude.{◌≤◌, length, IfOk, IfErr};
+ghost use Rattle.cs_bytes.specs.Limits.{most_bytes};
 ghost use Rattle.cs_pattern_tree.specs.Pattern.{regex, leaves, nesting};
 ghost use Rattle.cs_pattern_tree.specs.Scannable.{IsScannable, MatchesBytesAlone, MatchesSomeText};
 ghost use Rattle.cs_pattern.specs.Answers.{IsPatternOf, RefusesText};
@@ -29,7 +30,7 @@ fn put_in(alloc: Global, ops: &[Op], definitions: &Checked) -> Result<Pattern, A
         &definitions.order,
         &definitions.places,
     )?;
-    let known = known(alloc, &needed, &definitions.bodies, &definitions.order)?;
+    let known = known(alloc, &needed, &definitions.bodies)?;
     let pattern = build(alloc, ops, &known)?;
     Ok(pattern)
 }
@@ -63,7 +64,7 @@ pub fn read_pattern(
     bytes: &[u8],
     definitions: &Checked,
 ) -> Result<Pattern, PatternError>
-    requires { length bytes.now ≤ 1048576 }
+    requires { length bytes.now ≤ most_bytes }
     ensures read { IfOk result (λ pattern. IsPatternOf definitions.now bytes.now (regex pattern)) }
     ensures scannable { IfOk result (λ pattern. IsScannable (regex pattern)) }
     ensures bytes { IfOk result (λ pattern. MatchesBytesAlone (regex pattern)) }

@@ -1,6 +1,7 @@
 // The items of a text, up to the first place where reading stops.
 
 ghost use Rattle.std.specs.Prelude.{◌≡◌, ◌<◌, ◌≤◌, ◌^◌, length, IfOk, IfErr};
+ghost use Rattle.cs_bytes.specs.Limits.{most_bytes};
 ghost use Rattle.cs_pattern.specs.Table as spec;
 ghost use Rattle.cs_pattern_items.specs.Views.{placed_all};
 ghost use Rattle.cs_pattern.specs.ReadView.{IsNext, StopsReading};
@@ -42,8 +43,8 @@ fn fault(stop: Stop, at: u32) -> PatternFault
 }
 
 /// The items of a text, each of which may stand where it stands.
-pub fn items(alloc: Global, bytes: &[u8]) -> Result<Vec<Placed>, PatternError>
-    requires { length bytes.now ≤ 1048576 }
+pub(crate) fn items(alloc: Global, bytes: &[u8]) -> Result<Vec<Placed>, PatternError>
+    requires { length bytes.now ≤ most_bytes }
     ensures read { IfOk result (λ v. spec.Reads bytes.now (placed_all v.items)) }
     ensures short { IfOk result (λ v. length v.items ≤ length bytes.now) }
     ensures stops { IfErr result (StopsReading bytes.now) }

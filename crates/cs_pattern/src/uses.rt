@@ -1,6 +1,7 @@
 // Which definitions use which.
 
 ghost use Rattle.std.specs.Prelude.{◌≡◌, ◌<◌, ◌≤◌, ◌↔◌, IsTrue, IfOk, IfErr, OnOk, length};
+ghost use Rattle.cs_bytes.specs.Limits.{most_bytes};
 ghost use Rattle.cs_pattern.specs.Names as spec;
 ghost use Rattle.cs_pattern.specs.Checked.{IsOrder};
 ghost use Rattle.cs_pattern.specs.Checking.{RefusesDefinitions, HasNoCycle};
@@ -28,7 +29,7 @@ fn is_undefined(item: &Item, names: &Texts) -> bool
 }
 
 /// The offset of the first name that is not defined.
-pub fn first_undefined(items: &[Placed], names: &Texts) -> Option<u32>
+pub(crate) fn first_undefined(items: &[Placed], names: &Texts) -> Option<u32>
     ensures { result
         ≡ spec.first_undefined (definitions_of names.now.entries) (placed_all items.now) }
 {
@@ -71,7 +72,7 @@ fn uses_of(alloc: Global, items: &[Placed], names: &Texts) -> Result<Vec<usize>,
 }
 
 /// For each definition those that it uses.
-pub fn graph_of(
+pub(crate) fn graph_of(
     alloc: Global,
     all: &[Vec<Placed>],
     names: &Texts,
@@ -121,7 +122,7 @@ fn check_cycles(
     names: &Texts,
     graph: &[Vec<usize>],
 ) -> Result<(), CheckError>
-    requires bytes { total_bytes (definitions_of names.now.entries) ≤ 1048576 }
+    requires bytes { total_bytes (definitions_of names.now.entries) ≤ most_bytes }
     requires read { AreRead (definitions_of names.now.entries) all.now }
     requires named { AreNamed (definitions_of names.now.entries) all.now }
     requires graph { IsUseGraph (definitions_of names.now.entries) graph.now }
@@ -138,13 +139,13 @@ fn check_cycles(
 }
 
 /// The definitions in an order in which each stands behind those that it uses.
-pub fn order_of(
+pub(crate) fn order_of(
     alloc: Global,
     all: &[Vec<Placed>],
     names: &Texts,
     graph: &[Vec<usize>],
 ) -> Result<Vec<usize>, CheckError>
-    requires bytes { total_bytes (definitions_of names.now.entries) ≤ 1048576 }
+    requires bytes { total_bytes (definitions_of names.now.entries) ≤ most_bytes }
     requires read { AreRead (definitions_of names.now.entries) all.now }
     requires named { AreNamed (definitions_of names.now.entries) all.now }
     requires graph { IsUseGraph (definitions_of names.now.entries) graph.now }

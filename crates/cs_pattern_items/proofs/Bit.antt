@@ -6,19 +6,19 @@ use Rattle.std.specs.Int.{bit_at, w64}
 use Rattle.std.proofs.lemmas.Bool.{cases_eq, eq-eqb}
 use Rattle.std.proofs.lemmas.Nat.Bits.{bit_at_set_same, bit_at_set_other, bit_at_or, bit_at-lt}
 use Rattle.cs_pattern_items.proofs.Picked.{not_equal}
-use Rattle.cs_pattern_items.specs.Bits.{is_in}
+use Rattle.cs_pattern_items.specs.Bits.{has_bit}
 
 module _ (words : List ℕ) (byte b : ℕ) (within : byte / 64 < length words) where
   abbrev new : List ℕ
   new = set words (byte / 64) (bit_or (get_or words (byte / 64) 0) (1 * 2 ^ (byte % 64) % 2 ^ 64))
 
-  pub set_bit_same : b ≡ byte → is_in new b ≡ true
+  pub set_bit_same : b ≡ byte → has_bit new b ≡ true
   set_bit_same e =
-      ap (is_in new) e
+      ap (has_bit new) e
       ∙ ap (λ w. nat_eq (bit_at w (byte % 64)) 1) (get_or-set_same words (byte / 64) (bit_or (get_or words (byte / 64) 0) (1 * 2 ^ (byte % 64) % 2 ^ 64)) 0 within)
       ∙ ap (λ n. nat_eq n 1) (bit_at_set_same w64 (get_or words (byte / 64) 0) (byte % 64) (omega arith))
 
-  pub set_bit_other : (b ≡ byte → ⊥) → is_in new b ≡ is_in words b
+  pub set_bit_other : (b ≡ byte → ⊥) → has_bit new b ≡ has_bit words b
   set_bit_other ne =
       elim (cases_eq (b / 64) (byte / 64)) [
         | inl e ↦
@@ -30,11 +30,11 @@ module _ (words : List ℕ) (byte b : ℕ) (within : byte / 64 < length words) w
             ap (λ w. nat_eq (bit_at w (b % 64)) 1) (get_or-set_other words (byte / 64) (b / 64) (bit_or (get_or words (byte / 64) 0) (1 * 2 ^ (byte % 64) % 2 ^ 64)) 0 other)
       ]
 
-  pub set_bit : is_in new b ≡ ((b == byte) || is_in words b)
+  pub set_bit : has_bit new b ≡ ((b == byte) || has_bit words b)
   set_bit =
       elim (cases_eq b byte) [
-        | inl e ↦ set_bit_same e ∙ sym (ap (λ v. v || is_in words b) (eq-eqb b byte e))
-        | inr ne ↦ set_bit_other ne ∙ sym (ap (λ v. v || is_in words b) (not_equal b byte ne))
+        | inl e ↦ set_bit_same e ∙ sym (ap (λ v. v || has_bit words b) (eq-eqb b byte e))
+        | inr ne ↦ set_bit_other ne ∙ sym (ap (λ v. v || has_bit words b) (not_equal b byte ne))
       ]
 
 -- ---- the words of two sets, joined
@@ -58,7 +58,7 @@ either_bit (suc (suc x)) y p q = absurd (omega (arith, p))
 either_bit zero (suc (suc y)) p q = absurd (omega (arith, q))
 either_bit (suc zero) (suc (suc y)) p q = absurd (omega (arith, q))
 
-pub joined_bit : (v w : List ℕ) (b : ℕ) → b < 256 → is_in (joined v w) b ≡ (is_in v b || is_in w b)
+pub joined_bit : (v w : List ℕ) (b : ℕ) → b < 256 → has_bit (joined v w) b ≡ (has_bit v b || has_bit w b)
 joined_bit v w b lt =
     ap (λ u. nat_eq (bit_at u (b % 64)) 1) (word_joined v w (b / 64) (omega arith))
     ∙ ap (λ n. nat_eq n 1) (bit_at_or (get_or v (b / 64) 0) (get_or w (b / 64) 0) (b % 64))

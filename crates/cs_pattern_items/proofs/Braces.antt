@@ -126,9 +126,6 @@ between_some n m r e =
 
 -- ---- what is an interval is read
 
-no_digit_brace : is_digit 125 ≡ false
-no_digit_brace = refl
-
 long : (xs : List ℕ) → IsNumber xs → length xs ≢ 0
 long xs p z = omega (arith, p.0, z)
 

@@ -18,7 +18,7 @@ use Rattle.cs_pattern_items.specs.Interval.{interval, name}
 use Rattle.cs_pattern_items.specs.Items.{Item, class, quoted, named, opening, closing, bar, repetition}
 use Rattle.cs_pattern_items.specs.Parts.{Shows, BeginsWithByte}
 use Rattle.cs_pattern_items.specs.Spelling.{Spells, SpellsClass, SpellsRepetition, IsQuoted, braced, BeginsNothing, IsStoppedBy}
-use Rattle.cs_pattern_items.specs.Front.{Front, item, stop, one_byte, any_byte, escape_front, quoted_front, bracket_front, name_front, brace_front, sign_front, front}
+use Rattle.cs_pattern_items.specs.Front.{Front, item, stop, one_byte_item, any_byte, escape_front, quoted_front, bracket_front, name_front, brace_front, sign_front, front}
 use Rattle.cs_pattern_items.specs.declared.front.Front as code_fronts
 use Rattle.cs_pattern_items.specs.declared.front.Front.TheVariants as front_kinds
 use Rattle.cs_pattern_items.specs.Views.{item_of, front_of, IsFront}
@@ -34,7 +34,7 @@ use Rattle.cs_pattern_items.proofs.Braces.{complete_interval, sound_interval, co
 plain_not : (b c : ℕ) → is_plain b ≡ true → is_plain c ≡ false → (b == c) ≡ false
 plain_not b c e f = not_equal b c (λ is. false≢true (sym f ∙ ap is_plain (sym is) ∙ e))
 
-front_plain : (b : ℕ) (rest : List ℕ) → is_plain b ≡ true → front (b ∷ rest) ≡ item (one_byte b) 1
+front_plain : (b : ℕ) (rest : List ℕ) → is_plain b ≡ true → front (b ∷ rest) ≡ item (one_byte_item b) 1
 unfolding front sign_front
 front_plain b rest e =
     let n92 = plain_not b 92 e refl in
@@ -125,9 +125,9 @@ complete_bracket text n s b =
     ∙ ap (item (class s)) (sym c.sized)
 
 complete_class : (text : List ℕ) (n : ℕ) (s : List ℕ) → SpellsClass text n s → front text ≡ item (class s) n
-complete_class text n _ (SpellsClass.byte b e h) = shown text b n (one_byte b) (λ rest. front_plain b rest e) h
+complete_class text n _ (SpellsClass.byte b e h) = shown text b n (one_byte_item b) (λ rest. front_plain b rest e) h
 complete_class text n _ (SpellsClass.escape rest m b is e size) =
-    ap front is ∙ front_escape rest ∙ ap escape_front (complete_escape rest m (Some b) e) ∙ ap (item (one_byte b)) (sym size)
+    ap front is ∙ front_escape rest ∙ ap escape_front (complete_escape rest m (Some b) e) ∙ ap (item (one_byte_item b)) (sym size)
 complete_class text n _ (SpellsClass.full_stop h) = shown text 46 n any_byte front_full_stop h
 complete_class text n _ (SpellsClass.bracket s b) = complete_bracket text n s b
 
@@ -197,7 +197,7 @@ sign_is b rest =
     choose (FrontIs (b ∷ rest)) (b == 63) (item (repetition Optional) 1) _ (λ e. SpellsRepetition.question_mark (shows_one b 63 rest e)) (λ _.
     choose (FrontIs (b ∷ rest)) ((b == 94) || (b == 36)) (stop Anchor) _ (anchor_is b rest) (λ _.
     choose (FrontIs (b ∷ rest)) (b == 47) (stop Trailing) _ (begins_one b 47 rest) (λ _.
-    choose (FrontIs (b ∷ rest)) (is_plain b) (item (one_byte b) 1) (stop Syntax) (λ e. SpellsClass.byte b e (record { rest = rest; is = refl; size = refl })) (λ _. tt))))))))))
+    choose (FrontIs (b ∷ rest)) (is_plain b) (item (one_byte_item b) 1) (stop Syntax) (λ e. SpellsClass.byte b e (record { rest = rest; is = refl; size = refl })) (λ _. tt))))))))))
 
 escape_is : (rest : List ℕ) (o : Option (Option ℕ × ℕ)) → escape rest ≡ o → FrontIs (92 ∷ rest) (escape_front o)
 escape_is rest None e = tt

@@ -9,7 +9,7 @@ use Rattle.cs_pattern_items.specs.declared.bracket.Class.{Class}
 use Rattle.cs_pattern_items.specs.Members.{has, bytes_where, IsByteSet}
 use Rattle.cs_pattern_items.specs.Marks.{Mark, plain, escaped, class, collating}
 use Rattle.cs_pattern_items.specs.Brackets.{AreMembers, IsByteOf, IsAllowed, IsIn, IsInAny, IsOf}
-use Rattle.cs_pattern_items.specs.Bracket.{Member, one, range, is_dash, begins_range, members, byte_of, within, same, class_of, is_in_class, class_by, member_test, or_both, any_test, is_yes, is_refused, member_bytes, unless_empty, turned, is_collating}
+use Rattle.cs_pattern_items.specs.Bracket.{Member, one, range, is_dash, begins_range, members, byte_of_mark, within, same, class_of, is_in_class, class_by, member_test, or_both, any_test, is_yes, is_refused, member_bytes, unless_empty, turned, is_collating}
 use Rattle.cs_pattern_items.proofs.Picked.{has_picked, same_picked, same_set, bytes_where-set}
 use Rattle.cs_pattern_items.proofs.Moving.{chosen}
 use Rattle.cs_pattern_items.proofs.Membership.{one_first}
@@ -63,13 +63,13 @@ sound_members (x ∷ d ∷ y ∷ rest) = by_dash x d y rest (sound_members rest)
 tested : (c b : ℕ) (v : Bool) → (b == c) ≡ v → (v ≡ true) ↔ (c ≡ b)
 tested c b v e = (λ t. sym (eqb-true b c (e ∙ t)), λ is. sym e ∙ eq-eqb b c (sym is))
 
-byte_is : (x : Mark) (b : ℕ) → byte_of x ≡ Some b → IsByteOf x b
+byte_is : (x : Mark) (b : ℕ) → byte_of_mark x ≡ Some b → IsByteOf x b
 byte_is (plain c) b e = unsome c b e
 byte_is (escaped byte) b e = e
 byte_is (class name) b e = absurd (no_some b e)
 byte_is collating b e = absurd (no_some b e)
 
-is_byte_of : (x : Mark) (b : ℕ) → IsByteOf x b → byte_of x ≡ Some b
+is_byte_of : (x : Mark) (b : ℕ) → IsByteOf x b → byte_of_mark x ≡ Some b
 is_byte_of (plain c) b h = ap Some h
 is_byte_of (escaped byte) b h = h
 is_byte_of (class name) b h = absurd h
@@ -91,7 +91,7 @@ range_test first last b le = ap (λ v. if v then Some (nat_le first b && nat_le 
 both_true : (p q : Bool) → p ≡ true → q ≡ true → (p && q) ≡ true
 both_true p q e f = rw (e, f) refl
 
-tells_range : (x y : Mark) (b : ℕ) (v : Bool) (o p : Option ℕ) → byte_of x ≡ o → byte_of y ≡ p → within o p b ≡ Some v → Tells (range x y) b v
+tells_range : (x y : Mark) (b : ℕ) (v : Bool) (o p : Option ℕ) → byte_of_mark x ≡ o → byte_of_mark y ≡ p → within o p b ≡ Some v → Tells (range x y) b v
 tells_range x y b v None p e f g = absurd (no_some v g)
 tells_range x y b v (Some first) None e f g = absurd (no_some v g)
 tells_range x y b v (Some first) (Some last) e f g =
@@ -118,7 +118,7 @@ tells_member (one (escaped (Some c))) b v e =
     ((c, refl), (λ h. ap Some (t.0 h), λ h. t.1 (unsome c b h)))
 tells_member (one (class name)) b v e = tells_class name b v (class_of name) refl e
 tells_member (one collating) b v e = absurd (no_some v e)
-tells_member (range x y) b v e = tells_range x y b v (byte_of x) (byte_of y) refl refl e
+tells_member (range x y) b v e = tells_range x y b v (byte_of_mark x) (byte_of_mark y) refl refl e
 
 allowed_test : (m : Member) (b : ℕ) → IsAllowed m → (v : Bool) × (member_test m b ≡ Some v)
 allowed_test (one (plain c)) b h = (b == c, refl)
@@ -126,7 +126,7 @@ allowed_test (one (escaped byte)) b h = (b == h.0, ap (λ o. same o b) h.1)
 allowed_test (one (class name)) b h = (is_in_class h.0 b, ap (λ o. class_by o b) h.1)
 allowed_test (one collating) b h = absurd h
 allowed_test (range x y) b h =
-    (nat_le h.0 b && nat_le b h.1, ap (λ o. within o (byte_of y) b) (is_byte_of x h.0 h.2) ∙ ap (λ o. within (Some h.0) o b) (is_byte_of y h.1 h.3) ∙ range_test h.0 h.1 b h.4)
+    (nat_le h.0 b && nat_le b h.1, ap (λ o. within o (byte_of_mark y) b) (is_byte_of x h.0 h.2) ∙ ap (λ o. within (Some h.0) o b) (is_byte_of y h.1 h.3) ∙ range_test h.0 h.1 b h.4)
 
 -- ---- the bytes of all members
 

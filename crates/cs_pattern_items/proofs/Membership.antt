@@ -6,7 +6,7 @@ use Rattle.std.proofs.lemmas.Bool.{false≢true}
 use Rattle.cs_pattern_items.specs.Members.{has, bytes_where}
 use Rattle.cs_pattern_items.specs.Marks.{Mark, collating}
 use Rattle.cs_pattern_items.specs.Bracket.{one, range, members, member_test, any_test, or_both, is_yes, is_refused, begins_range, is_dash, member_bytes, turned, unless_empty}
-use Rattle.cs_pattern_items.specs.Inserting.{Inserts, AreMembers, AddsMember, RefusesMember}
+use Rattle.cs_pattern_items.specs.Inserting.{Inserts, AreBytesOfMembers, AddsMember, RefusesMember}
 use Rattle.cs_pattern_items.proofs.Picked.{has_picked, same_picked, picked_none, picked_by_itself}
 
 -- The set has what was gathered, and with the marks from the index on it is what all marks give.
@@ -58,7 +58,7 @@ some_yes : (o : Bool) (t : Option Bool) → or_both (Some o) (Some false) ≡ t 
 some_yes true t e = (ap is_refused (sym e), ap is_yes e)
 some_yes false t e = (ap is_refused (sym e), ap is_yes e)
 
-pub gathers_all : (ms : List Mark) (set : List ℕ) (index : ℕ) → length ms ≤ index → Gathers ms set index → AreMembers ms set
+pub gathers_all : (ms : List Mark) (set : List ℕ) (index : ℕ) → length ms ≤ index → Gathers ms set index → AreBytesOfMembers ms set
 gathers_all ms set index le g =
     let rest : drop index ms ≡ [] = drop_all index ms le in
     let each : (b : ℕ) → b < 256 → or_both (Some (has set b)) (Some false) ≡ any_test (members ms) b = λ b lt. sym (ap (λ x. or_both (Some (has set b)) (any_test (members x) b)) rest) ∙ g.tests b lt in
@@ -109,12 +109,12 @@ module _ (ms : List Mark) (index : ℕ) where
 
 -- ---- the set of a bracket
 
-pub turned_no : (ms : List Mark) (set : List ℕ) → AreMembers ms set → unless_empty set ≡ turned false (member_bytes ms)
+pub turned_no : (ms : List Mark) (set : List ℕ) → AreBytesOfMembers ms set → unless_empty set ≡ turned false (member_bytes ms)
 unfolding member_bytes
 turned_no ms set a =
     ap unless_empty a.is ∙ sym (ap (λ v. turned false (if v then None else Some (bytes_where (λ b. is_yes (any_test (members ms) b))))) a.accepted)
 
-pub turned_yes : (ms : List Mark) (set others : List ℕ) → AreMembers ms set → others ≡ bytes_where (λ b. not (has set b)) → unless_empty others ≡ turned true (member_bytes ms)
+pub turned_yes : (ms : List Mark) (set others : List ℕ) → AreBytesOfMembers ms set → others ≡ bytes_where (λ b. not (has set b)) → unless_empty others ≡ turned true (member_bytes ms)
 unfolding member_bytes
 turned_yes ms set others a is =
     ap unless_empty (is ∙ ap (λ s. bytes_where (λ b. not (has s b))) a.is)

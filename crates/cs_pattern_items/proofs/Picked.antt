@@ -266,10 +266,6 @@ same_set xs ys p q h =
     same_ascending xs ys p.ascends q.ascends (λ b.
     elim (cases_lt b 256) [ inl lt ↦ h b lt | inr le ↦ has_no_more xs b p.bytes le ∙ sym (has_no_more ys b q.bytes le) ])
 
--- a set is its members
-pub set_of_members : (xs : List ℕ) → IsByteSet xs → xs ≡ bytes_where (has xs)
-set_of_members xs p = same_set xs (bytes_where (has xs)) p (bytes_where-set (has xs)) (λ b lt. sym (has_picked (has xs) 256 b lt))
-
 -- ---- one word: to have a byte is to contain it
 
 pub has-contains : (xs : List ℕ) (b : ℕ) → has xs b ≡ true → Contains xs b

@@ -20,10 +20,8 @@ use Rattle.cs_pattern_items.specs.Marks.{Mark, marks}
 use Rattle.cs_pattern_items.specs.Bracket.{Bracket, collation, nothing, is_refused, is_yes, any_test, members, member_bytes, unless_empty, turned, is_collating, set_or_nothing, closed, bracket_in, bracket}
 use Rattle.cs_pattern_items.specs.Interval.{interval, name}
 use Rattle.cs_pattern_items.specs.Items.{Item, opening, closing, bar, repetition}
-use Rattle.cs_pattern_items.specs.Front.{Front, item, stop, one_byte, any_byte, escape_front, quoted_front, bracket_front, brace_front, sign_front, front}
+use Rattle.cs_pattern_items.specs.Front.{Front, item, stop, one_byte_item, any_byte, escape_front, quoted_front, bracket_front, brace_front, sign_front, front}
 use Rattle.cs_pattern_items.specs.StandsFor.{AreBytes, HasByte, StandsForBytes}
-use Rattle.cs_pattern_items.specs.Spelling.{Spells}
-use Rattle.cs_pattern_items.proofs.Fronts.{complete}
 use Rattle.cs_pattern_items.proofs.Picked.{has_picked, some_is_no_none, picked_below}
 
 either_way : {A : Type 0} (P : A → Type 0) (v : Bool) (x y : A) → P x → P y → P (if v then x else y)
@@ -204,7 +202,7 @@ sign_stands b lt =
     (either_way StandsWell (b == 124) (item bar 1) _ tt (either_way StandsWell (b == 42) (item (repetition (AtLeast 0)) 1) _ tt
     (either_way StandsWell (b == 43) (item (repetition (AtLeast 1)) 1) _ tt (either_way StandsWell (b == 63) (item (repetition Optional) 1) _ tt
     (either_way StandsWell ((b == 94) || (b == 36)) (stop Anchor) _ tt (either_way StandsWell (b == 47) (stop Trailing) _ tt
-    (either_way StandsWell (is_plain b) (item (one_byte b) 1) (stop Syntax) (one_byte-has_byte b lt) tt)))))))))
+    (either_way StandsWell (is_plain b) (item (one_byte_item b) 1) (stop Syntax) (one_byte-has_byte b lt) tt)))))))))
 
 front_stands : (text : List ℕ) → AreBytes text → StandsWell (front text)
 unfolding front
@@ -220,7 +218,3 @@ front_stands (b ∷ rest) h =
 -- what stands at the front of bytes stands for bytes
 pub front-stands_for_bytes : (text : List ℕ) (i : Item) (n : ℕ) → AreBytes text → front text ≡ item i n → StandsForBytes i
 front-stands_for_bytes text i n h e = subst StandsWell e (front_stands text h)
-
--- what a text of bytes spells in front stands for bytes
-pub spelled-stands_for_bytes : (text : List ℕ) (i : Item) (n : ℕ) → AreBytes text → Spells text n i → StandsForBytes i
-spelled-stands_for_bytes text i n h s = front-stands_for_bytes text i n h (complete text n i s)

@@ -4,9 +4,9 @@ use Rattle.std.specs.Int.{bit_at}
 use Rattle.cs_pattern_items.specs.Members.{bytes_where}
 
 -- the byte's bit is set
-abbrev pub is_in : List ℕ → ℕ → Bool
-is_in words byte = bit_at (slice_index words (byte / 64)) (byte % 64) == 1
+abbrev pub has_bit : List ℕ → ℕ → Bool
+has_bit words byte = bit_at (slice_index words (byte / 64)) (byte % 64) == 1
 
 -- the bytes whose bits are set
 abbrev pub bytes_of : List ℕ → List ℕ
-bytes_of words = bytes_where (is_in words)
+bytes_of words = bytes_where (has_bit words)

@@ -3,6 +3,7 @@ use Rattle.std.specs.Prelude.{ℕ, ◌+◌, Bool, true, false, ◌==◌, nat_le,
 use Rattle.std.specs.Option.{option_or}
 use Rattle.std.specs.List.{list_any}
 use Rattle.std.specs.Str.{bytes_eq}
+use Rattle.cs_bytes.specs.Names.{caret, closing_bracket, dash, space, tab}
 use Rattle.cs_pattern_items.specs.declared.bracket.Class.{Class}
 use Rattle.cs_pattern_items.specs.declared.bracket.Class.TheVariants.{Upper, Lower, Digit, Alpha, Alnum, Xdigit, Blank, Space, Cntrl, Graph, Print, Punct}
 use Rattle.cs_bytes.specs.Classes.{is_letter, is_digit, is_hexadecimal_digit}
@@ -34,8 +35,8 @@ is_in_class Digit b = is_digit b
 is_in_class Alpha b = is_letter b
 is_in_class Alnum b = is_letter b || is_digit b
 is_in_class Xdigit b = is_hexadecimal_digit b
-is_in_class Blank b = (b == 32) || (b == 9)
-is_in_class Space b = (b == 32) || (nat_le 9 b && nat_le b 13)
+is_in_class Blank b = (b == space) || (b == tab)
+is_in_class Space b = (b == space) || (nat_le 9 b && nat_le b 13)
 is_in_class Cntrl b = nat_le b 31 || (b == 127)
 is_in_class Graph b = nat_le 33 b && nat_le b 126
 is_in_class Print b = nat_le 32 b && nat_le b 126
@@ -55,7 +56,7 @@ pub data Member : Type 0 where
   range : Mark → Mark → Member
 
 abbrev pub is_dash : Mark → Bool
-is_dash (plain b) = b == 45
+is_dash (plain b) = b == dash
 is_dash (escaped b) = false
 is_dash (class name) = false
 is_dash collating = false
@@ -82,11 +83,11 @@ abbrev mutual
   behind_dash x d (y ∷ rest) = range x y ∷ members rest
 
 -- the byte for which a mark stands
-abbrev pub byte_of : Mark → Option ℕ
-byte_of (plain b) = Some b
-byte_of (escaped b) = b
-byte_of (class name) = None
-byte_of collating = None
+abbrev pub byte_of_mark : Mark → Option ℕ
+byte_of_mark (plain b) = Some b
+byte_of_mark (escaped b) = b
+byte_of_mark (class name) = None
+byte_of_mark collating = None
 
 abbrev pub within : Option ℕ → Option ℕ → ℕ → Option Bool
 within (Some first) (Some last) b = if nat_le first last then Some (nat_le first b && nat_le b last) else None
@@ -103,7 +104,7 @@ member_test (one (plain c)) b = Some (b == c)
 member_test (one (escaped c)) b = same c b
 member_test (one (class name)) b = class_test name b
 member_test (one collating) b = None
-member_test (range x y) b = within (byte_of x) (byte_of y) b
+member_test (range x y) b = within (byte_of_mark x) (byte_of_mark y) b
 
 abbrev pub or_both : Option Bool → Option Bool → Option Bool
 or_both None q = None
@@ -159,7 +160,7 @@ abbrev pub closed : Bool → List Mark → ℕ → Bracket
 closed inverted ms size = if list_any is_collating ms then collation else set_or_nothing (turned inverted (member_bytes ms)) size
 
 abbrev pub bracket_in : Bool → ℕ → List ℕ → Bracket
-bracket_in inverted skipped text = if has_at text (marks text).1 93 then closed inverted (marks text).0 (skipped + ((marks text).1 + 1)) else nothing
+bracket_in inverted skipped text = if has_at text (marks text).1 closing_bracket then closed inverted (marks text).0 (skipped + ((marks text).1 + 1)) else nothing
 
 unfoldable pub bracket : List ℕ → Bracket
-bracket text = if has_at text 0 94 then bracket_in true 1 (drop 1 text) else bracket_in false 0 text
+bracket text = if has_at text 0 caret then bracket_in true 1 (drop 1 text) else bracket_in false 0 text

@@ -1,6 +1,7 @@
 -- Escapes (POSIX lex, escape sequences).
 use Rattle.std.specs.Prelude.{ℕ, ◌+◌, min, take, ◌==◌, nat_le, if◌then◌else◌, List, [], ◌∷◌, Option, Some, None}
 use Rattle.std.specs.List.{prefix_len}
+use Rattle.cs_bytes.specs.Names.{alert, backspace, carriage_return, form_feed, letter_a, letter_b, letter_f, letter_n, letter_r, letter_t, letter_v, letter_x, newline, tab, vertical_tab}
 use Rattle.cs_bytes.specs.Classes.{is_octal_digit, is_hexadecimal_digit}
 use Rattle.cs_bytes.specs.Digits.{number_of}
 
@@ -11,8 +12,8 @@ byte_of n = if nat_le n 255 then Some n else None
 -- the byte for which an escape of one letter stands
 abbrev pub letter : ℕ → ℕ
 letter b =
-    if b == 97 then 7 else (if b == 98 then 8 else (if b == 116 then 9 else (if b == 110 then 10
-    else (if b == 118 then 11 else (if b == 102 then 12 else (if b == 114 then 13 else b))))))
+    if b == letter_a then alert else (if b == letter_b then backspace else (if b == letter_t then tab else (if b == letter_n then newline
+    else (if b == letter_v then vertical_tab else (if b == letter_f then form_feed else (if b == letter_r then carriage_return else b))))))
 
 -- the longest run of up to three octal digits: its byte, which is missing above 255, and its size
 unfoldable pub octal : List ℕ → Option ℕ × ℕ
@@ -21,12 +22,12 @@ octal text = (byte_of (number_of 8 (take (min (prefix_len is_octal_digit text) 3
 -- one or two hexadecimal digits behind `x`, which stands for itself where there is none
 unfoldable pub hexadecimal : List ℕ → Option ℕ × ℕ
 hexadecimal text =
-    if min (prefix_len is_hexadecimal_digit text) 2 == 0 then (Some 120, 0)
+    if min (prefix_len is_hexadecimal_digit text) 2 == 0 then (Some letter_x, 0)
     else (byte_of (number_of 16 (take (min (prefix_len is_hexadecimal_digit text) 2) text)), min (prefix_len is_hexadecimal_digit text) 2)
 
 -- The escape behind a backslash: its byte, if it has one, and its size. There is none where nothing or a newline follows.
 unfoldable pub escape : List ℕ → Option (Option ℕ × ℕ)
 escape [] = None
 escape (b ∷ rest) =
-    if b == 10 then None else (if is_octal_digit b then Some (octal (b ∷ rest))
-    else (if b == 120 then Some ((hexadecimal rest).0, (hexadecimal rest).1 + 1) else Some (Some (letter b), 1)))
+    if b == newline then None else (if is_octal_digit b then Some (octal (b ∷ rest))
+    else (if b == letter_x then Some ((hexadecimal rest).0, (hexadecimal rest).1 + 1) else Some (Some (letter b), 1)))

@@ -10,7 +10,7 @@ Inserts old new test true = ((b : ℕ) → is_refused (test b) ≡ false) × (ne
 Inserts old new test false = (b : ℕ) → test b ≡ None
 
 -- the set has the bytes of the members, of which none is refused
-pub record AreMembers (ms : List Mark) (set : List ℕ) : Type 0 where
+pub record AreBytesOfMembers (ms : List Mark) (set : List ℕ) : Type 0 where
   pub accepted : is_refused (any_test (members ms) 0) ≡ false
   pub is : set ≡ bytes_where (λ b. is_yes (any_test (members ms) b))
 
@@ -39,4 +39,4 @@ AddsOrRefuses ms index old new answer = MatchOption answer (RefusesMember ms ind
 
 -- the set of the members, or none where one is refused
 abbrev pub IsSetOrNone : List Mark → Option (List ℕ) → Type 0
-IsSetOrNone ms answer = MatchOption answer (member_bytes ms ≡ None) (AreMembers ms)
+IsSetOrNone ms answer = MatchOption answer (member_bytes ms ≡ None) (AreBytesOfMembers ms)

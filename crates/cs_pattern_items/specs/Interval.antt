@@ -1,6 +1,7 @@
 -- Intervals and names between braces (POSIX lex, regular expressions).
 use Rattle.std.specs.Prelude.{ℕ, ◌+◌, ◌==◌, nat_le, ◌&&◌, if◌then◌else◌, List, [], ◌∷◌, Option, Some, None, IfSome, ◌≤◌, take, drop}
 use Rattle.std.specs.List.{prefix_len}
+use Rattle.cs_bytes.specs.Names.{closing_brace, comma_sign}
 use Rattle.cs_pattern_items.specs.declared.item.Repetition.{Repetition}
 use Rattle.cs_pattern_items.specs.declared.item.Repetition.TheVariants.{Exactly, AtLeast, Between}
 use Rattle.cs_bytes.specs.Classes.{is_digit, begins_word, is_dashed_word_byte}
@@ -28,7 +29,7 @@ digits text = prefix_len is_digit text
 -- what stands behind the comma
 unfoldable pub open_interval : ℕ → List ℕ → Option (Repetition × ℕ)
 open_interval n text =
-    if has_at text (digits text) 125
+    if has_at text (digits text) closing_brace
     then sized (if digits text == 0 then at_least n else between n (number_of 10 (take (digits text) text))) (digits text + 1) else None
 
 abbrev pub longer : ℕ → Option (Repetition × ℕ) → Option (Repetition × ℕ)
@@ -39,8 +40,8 @@ longer n (Some (r, m)) = Some (r, n + m)
 unfoldable pub interval : List ℕ → Option (Repetition × ℕ)
 interval text =
     if digits text == 0 then None
-    else (if has_at text (digits text) 125 then sized (exactly (number_of 10 (take (digits text) text))) (digits text + 1)
-    else (if has_at text (digits text) 44 then longer (digits text + 1) (open_interval (number_of 10 (take (digits text) text)) (drop (digits text + 1) text)) else None))
+    else (if has_at text (digits text) closing_brace then sized (exactly (number_of 10 (take (digits text) text))) (digits text + 1)
+    else (if has_at text (digits text) comma_sign then longer (digits text + 1) (open_interval (number_of 10 (take (digits text) text)) (drop (digits text + 1) text)) else None))
 
 -- the name behind a `{`, and its size with the `}`
 unfoldable pub name : List ℕ → Option (List ℕ × ℕ)

@@ -13,7 +13,7 @@ use cs_bytes::{from_offset, has_at};
 use std::alloc::{AllocError, Global};
 
 /// What a `[` begins.
-pub enum Bracket {
+pub(crate) enum Bracket {
     /// The bytes of the bracket, and its size without the `[`.
     Set(ByteSet, usize),
     /// A closed bracket with a collating symbol or an equivalence class.
@@ -24,7 +24,7 @@ pub enum Bracket {
 
 /// The named classes, which are those of ASCII.
 #[derive(Clone, Copy, Debug, PartialEq, Eq)]
-pub enum Class {
+pub(crate) enum Class {
     Upper,
     Lower,
     Digit,
@@ -135,8 +135,8 @@ fn class_bytes(class: Class) -> ByteSet
 }
 
 /// The byte for which a mark stands, if it stands for one.
-fn byte_of(mark: Mark<'_>) -> Option<u8>
-    ensures { result ≡ spec.byte_of (mark_of mark.entry) }
+fn byte_of_mark(mark: Mark<'_>) -> Option<u8>
+    ensures { result ≡ spec.byte_of_mark (mark_of mark.entry) }
 {
     match mark {
         Mark::Plain(byte) => Some(byte),
@@ -185,7 +185,7 @@ fn insert_mark(set: &mut ByteSet, mark: Mark<'_>) -> bool
 fn insert_range(set: &mut ByteSet, first: Mark<'_>, last: Mark<'_>) -> bool
     ensures { InsertsRange set.old set.new (mark_of first.entry) (mark_of last.entry) result }
 {
-    match (byte_of(first), byte_of(last)) {
+    match (byte_of_mark(first), byte_of_mark(last)) {
         (Some(first), Some(last)) if first <= last => {
             set.insert_range(first, last);
             true
@@ -313,7 +313,7 @@ fn bracket_in(
 
 /// What the `[` before the text begins.
 #[tactic(auto, unfolding(crate::specs::Bracket::bracket))]
-pub fn read_bracket(alloc: Global, text: &[u8]) -> Result<Bracket, AllocError>
+pub(crate) fn read_bracket(alloc: Global, text: &[u8]) -> Result<Bracket, AllocError>
     ensures value { IfOk result (λ b. bracket_of b ≡ spec.bracket text.now) }
     ensures size { IfOk result (IsWithin (length text.now)) }
 {

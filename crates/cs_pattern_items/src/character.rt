@@ -58,7 +58,7 @@ fn hexadecimal(rest: &[u8]) -> (Option<u8>, usize)
 /// The escape behind a backslash: its byte, which is missing where an octal number is above 255, and its size without the
 /// backslash. `None` where no byte but a newline follows.
 #[tactic(auto, unfolding(crate::specs::Character::escape))]
-pub fn escape(text: &[u8]) -> Option<(Option<u8>, usize)>
+pub(crate) fn escape(text: &[u8]) -> Option<(Option<u8>, usize)>
     ensures value { result ≡ spec.escape text.now }
     ensures size { IfSome result (λ r. (0 < r.1) × (r.1 ≤ length text.now)) }
 {

@@ -58,8 +58,8 @@ fn is_plain(byte: u8) -> bool
     )
 }
 
-fn one_byte(byte: u8) -> Item
-    ensures { item_of result ≡ spec.one_byte byte }
+fn one_byte_item(byte: u8) -> Item
+    ensures { item_of result ≡ spec.one_byte_item byte }
 {
     let mut set = ByteSet::new();
     set.insert(byte);
@@ -80,7 +80,7 @@ fn escape_front(rest: &[u8]) -> Front
     ensures size { FrontWithin (length rest.now + 1) result }
 {
     match escape(rest) {
-        Some((Some(byte), size)) => Front::Item(one_byte(byte), size + 1),
+        Some((Some(byte), size)) => Front::Item(one_byte_item(byte), size + 1),
         _ => Front::Stop(Stop::Syntax),
     }
 }
@@ -139,7 +139,7 @@ fn sign_front(byte: u8) -> Front
         b'^' | b'$' => Front::Stop(Stop::Anchor),
         b'/' => Front::Stop(Stop::Trailing),
         other => if is_plain(other) {
-            Front::Item(one_byte(other), 1)
+            Front::Item(one_byte_item(other), 1)
         } else {
             Front::Stop(Stop::Syntax)
         },

@@ -79,7 +79,7 @@ fn open_interval(least: u32, text: &[u8]) -> Option<(Repetition, usize)>
 }
 
 /// The interval behind a `{`, and its size without that.
-pub fn interval(text: &[u8]) -> Option<(Repetition, usize)>
+pub(crate) fn interval(text: &[u8]) -> Option<(Repetition, usize)>
     ensures value { result ≡ spec.interval text.now }
     ensures size { IfSome result (λ r. r.1 ≤ length text.now) }
 {
@@ -100,7 +100,7 @@ pub fn interval(text: &[u8]) -> Option<(Repetition, usize)>
 
 /// The name behind a `{`, and its size with the `}`.
 #[tactic(auto, unfolding(crate::specs::Interval::name))]
-pub fn name(text: &[u8]) -> Option<(&[u8], usize)>
+pub(crate) fn name(text: &[u8]) -> Option<(&[u8], usize)>
     ensures value { option_map (λ p. (p.0.now, p.1)) result ≡ spec.name text.now }
     ensures size { IfSome result (λ r. r.1 ≤ length text.now) }
 {

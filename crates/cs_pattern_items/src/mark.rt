@@ -17,7 +17,7 @@ const INNER: ByteClass = ByteClass::Neither(b']', b'\n');
 
 /// What stands inside a bracket.
 #[derive(Clone, Copy, Debug)]
-pub enum Mark<'a> {
+pub(crate) enum Mark<'a> {
     /// A byte that stands for itself.
     Plain(u8),
     /// An escape; no byte where an octal number is above 255.
@@ -102,7 +102,7 @@ fn push_marks<'a>(marks: &mut Vec<Mark<'a>>, text: &'a [u8]) -> Result<usize, Al
 
 /// The marks up to the closing `]`, and their size without it. A `]` stands for itself where it is the first.
 #[tactic(auto, unfolding(crate::specs::Marks::marks))]
-pub fn marks(alloc: Global, text: &[u8]) -> Result<(Vec<Mark<'_>>, usize), AllocError>
+pub(crate) fn marks(alloc: Global, text: &[u8]) -> Result<(Vec<Mark<'_>>, usize), AllocError>
     ensures value { IfOk result (λ r. (marks_of r.0.items, r.1) ≡ spec.marks text.now) }
     ensures size { IfOk result (λ r. r.1 ≤ length text.now) }
 {

@@ -28,7 +28,7 @@ fn quoted_byte(text: &[u8]) -> Option<(u8, usize)>
 
 /// The bytes of the quoted text behind a double quote, and its size with the closing quote. `None` where it is not closed or
 /// holds an escape that is none.
-pub fn quoted(alloc: Global, text: &[u8]) -> Result<Option<(Vec<u8>, usize)>, AllocError>
+pub(crate) fn quoted(alloc: Global, text: &[u8]) -> Result<Option<(Vec<u8>, usize)>, AllocError>
     ensures value { IfOk result (λ r.
         option_map (λ p. (p.0.items, p.1)) r ≡ spec.quoted text.now) }
     ensures size { IfOk result (λ r. IfSome r (λ p. p.1 ≤ length text.now)) }

@@ -1,12 +1,11 @@
 -- What holds of each value on the stack.
-use Rattle.std.proofs.Common.{◌≡◌, ℕ, zero, suc, ◌-◌, ◌≤◌, List, [], ◌∷◌, ◌++◌, length, take, get_or, refl, sym, ap, ◌∙◌, inl, inr, subst, arith, length-append}
+use Rattle.std.proofs.Common.{◌≡◌, ℕ, zero, suc, ◌-◌, ◌≤◌, List, [], ◌∷◌, ◌++◌, length, take, sym, ap, ◌∙◌, subst, arith, length-append}
 use Rattle.std.specs.Prelude.{All}
-use Rattle.std.proofs.lemmas.Bool.{cases_lt}
 use Rattle.std.proofs.Math.Seq.{get_or-append_seam}
 use Rattle.std.proofs.lemmas.List.{length-map, take-map}
 use Rattle.cs_pattern_postfix.specs.declared.operations.Op as code
 use Rattle.cs_pattern_postfix.specs.Operations.{Op, op_of, ops_of}
-use Rattle.cs_pattern_postfix.specs.Evaluation.{Algebra, Keeps, run, step, top}
+use Rattle.cs_pattern_postfix.specs.Evaluation.{Algebra, Keeps, run, step}
 
 pub All-last : {V : Type 0} (P : V → Type 0) (xs : List V) (v : V) → All P (xs ++ v ∷ []) → P v
 All-last P xs v h = subst P (get_or-append_seam xs v [] v) (h (length xs) v (omega (arith, length-append xs (v ∷ []))))
@@ -21,17 +20,6 @@ module _ {V : Type 0} (a : Algebra V) (P : V → Type 0) where
   pub keeps-append : (xs ys : List Op) (stack : List V) → Keeps a P stack xs → Keeps a P (run a stack xs) ys → Keeps a P stack (xs ++ ys)
   keeps-append [] ys stack h k = k
   keeps-append (x ∷ xs) ys stack h k = (h.0, keeps-append xs ys (step a stack x) h.1 k)
-
-  pub top_keeps : (stack : List V) → P a.nothing → All P stack → P (top a stack)
-  top_keeps stack n h =
-      elim (cases_lt (length stack - 1) (length stack)) [
-        | inl lt ↦ h (length stack - 1) a.nothing lt
-        | inr ge ↦ subst P (sym_past stack ge) n
-      ]
-    where
-      sym_past : (s : List V) → length s ≤ length s - 1 → a.nothing ≡ get_or s (length s - 1) a.nothing
-      sym_past [] le = refl
-      sym_past (x ∷ s) le = absurd (omega arith)
 
   -- after so many of the operations
   pub keeps_built : (ops : List code.Op) (k : ℕ) (stack : List V) → k ≤ length ops → Keeps a P [] (ops_of ops) → stack ≡ run a [] (ops_of (take k ops)) → All P stack

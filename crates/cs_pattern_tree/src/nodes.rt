@@ -34,7 +34,7 @@ fn open<'p>(node: &'p Pattern, pending: &mut Vec<&'p Pattern>) -> Result<(), All
 }
 
 /// The nodes of the pattern: each before its parts, and of these the last first.
-pub fn list_nodes(alloc: Global, pattern: &Pattern) -> Result<Vec<&Pattern>, AllocError>
+pub(crate) fn list_nodes(alloc: Global, pattern: &Pattern) -> Result<Vec<&Pattern>, AllocError>
     ensures { IfOk result (λ nodes. values nodes.items ≡ nodes_of (regex pattern.now)) }
 {
     let mut nodes = Vec::new(alloc);

@@ -89,9 +89,7 @@ module _ (old : ToJudge) (positives : List Positive) (lists : List (Vec ℕ)) (n
 module _ (file : File) (is : IsFile file) (of : Weighed) (same : of.grammar ≡ file.grammar) (measure : IsMeasure of.weights) where
   pub takes_list : (work : Bor RenderWork) → CanRender file (Some work) → (p : Positive) (list : Vec ℕ) → IsJudged of p → IsListOf of.grammar p list → TakesTokens work.now list.items
   takes_list work can p list judged is_list = record {
-    kinds = can.0;
-    literals = can.1;
-    tokens_of = subst (λ (n : ℕ). All (IsNumberOf n) list.items) (is.tokens ∙ sym can.2.all) (named_tokens file is of.grammar p.verdict list.items same is_list);
+    tokens_of = subst (λ (n : ℕ). All (IsNumberOf n) list.items) (is.tokens ∙ sym can.all) (named_tokens file is of.grammar p.verdict list.items same is_list);
     few = omega (arith, few_of of.weights measure of.grammar p.goal p.verdict list.items judged.1 is_list);
   }
 

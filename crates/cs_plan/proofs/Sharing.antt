@@ -1,7 +1,7 @@
 -- Goals that share cases: one batch behind another, and how many cases are new.
 use Rattle.std.proofs.Common.{◌≡◌, ℕ, ◌+◌, Bool, true, false, cond, List, [], ◌∷◌, ◌++◌, Option, length, length-append, refl, sym, ap, ◌∙◌, subst, arith}
 use Rattle.std.specs.Prelude.{count_by}
-use Rattle.std.proofs.lemmas.List.Sums.{sum_by-append, sum_by-cons}
+use Rattle.std.proofs.lemmas.List.Sums.{sum_by-cons}
 use Rattle.cs_goals.specs.declared.goal.Goal.{Goal}
 use Rattle.cs_cases.specs.declared.cases.Named.{Named}
 use Rattle.cs_cases.specs.Cases.{PlainCases, with_case}
@@ -45,12 +45,6 @@ module _ (texts : Option Texts) (lexemes : Option (List (Option (List ℕ)))) wh
   shared_push old mid new entries e list s are is =
       shared_append old mid new entries (e ∷ []) list (s ∷ []) are (new, s, [], refl, is, (refl, refl))
 
-  -- the grammar stays
-  pub shared_grammar : (old new : PlainCases) (entries : List GoalEntry) (list : List SharedEntry) → AreShared texts lexemes old entries new list → new.grammar ≡ old.grammar
-  shared_grammar old new [] list are = ap (λ (c : PlainCases). c.grammar) are.1
-  shared_grammar old new (e ∷ rest) list are =
-      shared_grammar are.0 new rest are.2 are.5 ∙ (verdict_step old are.0 e.goal e.verdict are.1.verdict are.4.verdict).grammar
-
   -- there are as many codes more as cases are new
   pub shared_codes : (old new : PlainCases) (entries : List GoalEntry) (list : List SharedEntry) → AreShared texts lexemes old entries new list → length new.codes ≡ length old.codes + new_cases list
   shared_codes old new [] list are =
@@ -68,7 +62,3 @@ module _ (texts : Option Texts) (lexemes : Option (List (Option (List ℕ)))) wh
   shared_entries old new [] list are = ap entries_in are.0
   shared_entries old new (e ∷ rest) list are =
       ap entries_in are.3 ∙ ap (λ (x : GoalEntry). x ∷ entries_in are.2) are.4.is_of ∙ ap (λ (l : List GoalEntry). e ∷ l) (shared_entries are.0 new rest are.2 are.5)
-
--- two lists have as many new cases as both
-pub new_cases-append : (list more : List SharedEntry) → new_cases (list ++ more) ≡ new_cases list + new_cases more
-new_cases-append list more = sum_by-append (λ (s : SharedEntry). cond (is_new s.verdict) 1 0) list more

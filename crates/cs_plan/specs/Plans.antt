@@ -16,7 +16,7 @@ use Rattle.cs_manifest.specs.Manifest.{Choice, GoalEntry, IsEntryOf, IsManifest,
 use Rattle.cs_mutate.specs.declared.edit.Operators.{Operators}
 use Rattle.cs_positive.specs.Positives.{ToJudge}
 use Rattle.cs_render_work.specs.declared.work.RenderWork.{RenderWork}
-use Rattle.cs_scan.specs.Compared.{HasKinds, HasLiterals, scanning}
+use Rattle.cs_scan.specs.Compared.{scanning}
 use Rattle.cs_yacc.specs.File.{File, IsFile}
 use Rattle.cs_plan.specs.declared.plan.Mutation.{Mutation}
 use Rattle.cs_plan.specs.declared.plan.Plan.{Plan}
@@ -34,9 +34,7 @@ lexemes_in plan = option_map (λ work. work.now.lexemes.now) plan.texts
 -- lists of a file's tokens can be rendered
 abbrev pub CanRender : File → Option (Bor RenderWork) → Type 0
 CanRender file None = Unit {0}
-CanRender file (Some work) =
-    HasKinds work.now.scanner.now × HasLiterals work.now.scanner.now
-    × AreLexemes (scanning work.now.scanner.now) file.grammar.tokens work.now.lexemes.now
+CanRender file (Some work) = AreLexemes (scanning work.now.scanner.now) file.grammar.tokens work.now.lexemes.now
 
 -- mutants are made by the pairs of the grammar
 abbrev pub HasPairsOf : PlainGrammar → Option Mutation → Type 0

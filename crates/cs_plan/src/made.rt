@@ -67,7 +67,7 @@ impl Made {
 }
 
 /// A goal with the first of the lists and the first of what came of them, where it is feasible.
-pub fn join(
+pub(crate) fn join(
     alloc: Global,
     positive: Positive,
     lists: &mut IntoIter<Vec<u16>, Global>,
@@ -93,7 +93,7 @@ pub fn join(
     }
 }
 
-pub fn take_first<T>(left: &mut IntoIter<T, Global>) -> Option<T>
+pub(crate) fn take_first<T>(left: &mut IntoIter<T, Global>) -> Option<T>
     ensures { TakesFirst (into_iter_items left.old) result (into_iter_items left.new) }
 {
     left.next()

@@ -14,21 +14,21 @@ use std::alloc::{AllocError, Global};
 
 /// A goal with its verdicts in both formats, and the tokens of its derivation, unless they are those of a new case.
 #[derive(Drop)]
-pub struct Placed {
-    pub positive: Positive,
-    pub verdict: SharedVerdict,
-    pub tokens: Vec<u16>,
+pub(crate) struct Placed {
+    pub(crate) positive: Positive,
+    pub(crate) verdict: SharedVerdict,
+    pub(crate) tokens: Vec<u16>,
 }
 
 /// Goals that were placed, and the tokens of the new cases, in the same order.
 #[derive(Drop)]
-pub struct Placing {
-    pub goals: Vec<Placed>,
-    pub lists: Vec<Vec<u16>>,
+pub(crate) struct Placing {
+    pub(crate) goals: Vec<Placed>,
+    pub(crate) lists: Vec<Vec<u16>>,
 }
 
 /// Takes the next goals and places the derivations of feasible ones.
-pub fn place_next(
+pub(crate) fn place_next(
     alloc: Global,
     grammar: &Grammar,
     positives: &mut Positives<'_>,
@@ -126,7 +126,7 @@ fn tokens_of(alloc: Global, grammar: &Grammar, verdict: &Verdict) -> Result<Vec<
 }
 
 /// Whether the goal's derivation is a new case.
-pub fn is_new(verdict: SharedVerdict) -> bool
+pub(crate) fn is_new(verdict: SharedVerdict) -> bool
     ensures { result ≡ is_new verdict }
 {
     match verdict {

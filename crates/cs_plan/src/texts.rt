@@ -13,7 +13,7 @@ use std::thread::Threads;
 const WORKERS: u16 = 4;
 
 /// What comes of rendering each list, in order. None where nothing is rendered.
-pub fn render_lists<R: Threads + Sync, G: Gate + Sync>(
+pub(crate) fn render_lists<R: Threads + Sync, G: Gate + Sync>(
     rt: &R,
     alloc: Global,
     texts: Option<&RenderWork<'_>>,

@@ -8,17 +8,17 @@ use cs_positive::{Positive, Positives, Verdict};
 use std::alloc::{AllocError, Global};
 
 /// So many goals wait at most.
-pub const MOST: usize = 1_024;
+pub(crate) const MOST: usize = 1_024;
 
 /// Goals with their verdicts, and the tokens of the feasible ones' derivations, in the same order.
 #[derive(Drop)]
-pub struct Waiting {
-    pub goals: Vec<Positive>,
-    pub lists: Vec<Vec<u16>>,
+pub(crate) struct Waiting {
+    pub(crate) goals: Vec<Positive>,
+    pub(crate) lists: Vec<Vec<u16>>,
 }
 
 /// Takes the next goals.
-pub fn gather(
+pub(crate) fn gather(
     alloc: Global,
     grammar: &Grammar,
     positives: &mut Positives<'_>,

@@ -12,7 +12,8 @@ use crate::sums::{joint_cost, node_cost};
 use cs_cost::{Cost, Costs};
 use cs_embed::Embeds;
 use cs_goals::Goal;
-use cs_grammar::{Derivation, Grammar, Rule, Symbol, place_of};
+use cs_grammar::{Derivation, Grammar, Rule, Symbol};
+use cs_numbers::place_of;
 use std::alloc::{AllocError, Global};
 
 // The rules of a context goal, and the symbols beside the inner one's left side in the outer one's right side.

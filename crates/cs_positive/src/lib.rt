@@ -6,7 +6,7 @@
 //! are functions that do nothing.
 //!
 //! Of the files of `specs/`, these say what is meant: `Verdict` (a verdict, and the chosen tree of a goal) and `Positives` (the
-//! goals with their verdicts, in order). `Judges`, `Kept` and `Occurrences` have working words of proofs.
+//! goals with their verdicts, in order). `Judges`, `Kept`, `Occurrences` and `Sums` have working words of proofs.
 #![tactic(auto)]
 
 mod contexts;

@@ -1,7 +1,6 @@
 // The text of a list of tokens.
 
 ghost use Rattle.std.specs.Prelude.{◌≡◌, ◌<◌, ◌≤◌, All, IfErr, IfOk, length};
-ghost use Rattle.cs_scan.specs.Compared.{HasKinds, HasLiterals};
 ghost use Rattle.cs_render.specs.Rendering.{AreTokens, HasLexeme, IsFirstWithout, IsRuleText, Renders};
 ghost use Rattle.cs_render.specs.Parts.{PutsLexeme};
 
@@ -72,8 +71,6 @@ pub fn render(
     separator: &[u8],
     tokens: &[u16],
 ) -> Result<Rendered, AllocError>
-    requires kinds { HasKinds scanner.now }
-    requires literals { HasLiterals scanner.now }
     requires tokens { AreTokens lexemes.now tokens.now }
     requires few { length tokens.now ≤ 1000001 }
     ensures { IfOk result (Renders scanner.now lexemes.now separator.now tokens.now) }

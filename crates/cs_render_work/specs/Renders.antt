@@ -1,13 +1,11 @@
 -- The lists of tokens that are rendered, and the rendering of each.
 use Rattle.std.specs.Prelude.{ℕ, ◌≤◌, List, length}
-use Rattle.cs_scan.specs.Compared.{HasKinds, HasLiterals, scanning}
+use Rattle.cs_scan.specs.Compared.{scanning}
 use Rattle.cs_render.specs.Rendering.{AreTokens, IsRendered, Rendering}
 use Rattle.cs_render_work.specs.declared.work.RenderWork.{RenderWork}
 
 -- a list that can be rendered: its tokens are among those of the lexemes, and it isn't longer than a scan is compared with
 pub record TakesTokens (work : RenderWork) (tokens : List ℕ) : Type 0 where
-  pub kinds : HasKinds work.scanner.now
-  pub literals : HasLiterals work.scanner.now
   pub tokens_of : AreTokens work.lexemes.now tokens
   pub few : length tokens ≤ 1000001
 

@@ -7,7 +7,7 @@ use Rattle.cs_input.specs.declared.refusal.Role.{Role}
 use Rattle.cs_input.specs.declared.refusal.Stop.{Stop}
 use Rattle.cs_input.specs.declared.refusal.Stop.TheVariants as stop
 use Rattle.cs_input.specs.Files.{FileIs, FilesAre, IsGrammarOf, IsNoFile, IsPairOf}
-use Rattle.cs_input.specs.Refusal.{HasManyStates, StopsGrammar, StopsPair}
+use Rattle.cs_input.specs.Refusal.{HasManyStates}
 use Rattle.cs_manifest.specs.Manifest.{IsManifest, rules_form}
 use Rattle.cs_yacc.specs.File.{File, IsFile}
 use Rattle.cs_words.specs.declared.options.Options.{Options}
@@ -43,28 +43,6 @@ failure A why desk failed changed =
     let is : Err why ≡ Err (stop.NoFile found.0) = found.1 in
     let same : why ≡ stop.NoFile found.0 = cc in
     (found.0, ap ending_of same)
-
--- ---- files that aren't given
-
-rules_ends : (why : Stop) (name : List ℕ) (desk : DeskUse) (out : SinkUse) → StopsGrammar desk.files name desk.faults why → IsUnused out → Ends (ending_of why) (Ok (ForRules name)) desk out
-rules_ends (stop.NoFile role) name desk out stops unused = (stops, unused)
-rules_ends (stop.Refused refusal) name desk out stops unused = (stops, unused)
-rules_ends stop.Memory name desk out stops unused = inl unused
-
-pub rules_stopped : (A : Type 0) (ending : Ending) (why : Stop) (name : List ℕ) (desk : DeskUse) (out : SinkUse) → ending ≡ ending_of why → StopsGrammar desk.files name desk.faults why → (Changed desk → IsNoFile {A = A} (Err why)) → IsSteady desk → IsUnused out → out.faults.after ≡ out.faults.before → Performs ending (Ok (ForRules name)) desk out
-rules_stopped A ending why name desk out same stops failed steady unused calm =
-    subst (λ (e : Ending). Performs e (Ok (ForRules name)) desk out) (sym same)
-    (record { ends = rules_ends why name desk out stops unused; failed = failure A why desk failed; steady = steady; room = λ fits. calm })
-
-suite_ends : (why : Stop) (name other : List ℕ) (options : Options) (desk : DeskUse) (out : SinkUse) → StopsPair desk.files name other desk.faults why → IsUnused out → Ends (ending_of why) (Ok (ForSuite name other options)) desk out
-suite_ends (stop.NoFile role) name other options desk out stops unused = (stops, unused)
-suite_ends (stop.Refused refusal) name other options desk out stops unused = (stops, unused)
-suite_ends stop.Memory name other options desk out stops unused = inl unused
-
-pub suite_stopped : (A : Type 0) (ending : Ending) (why : Stop) (name other : List ℕ) (options : Options) (desk : DeskUse) (out : SinkUse) → ending ≡ ending_of why → StopsPair desk.files name other desk.faults why → (Changed desk → IsNoFile {A = A} (Err why)) → IsSteady desk → IsUnused out → out.faults.after ≡ out.faults.before → Performs ending (Ok (ForSuite name other options)) desk out
-suite_stopped A ending why name other options desk out same stops failed steady unused calm =
-    subst (λ (e : Ending). Performs e (Ok (ForSuite name other options)) desk out) (sym same)
-    (record { ends = suite_ends why name other options desk out stops unused; failed = failure A why desk failed; steady = steady; room = λ fits. calm })
 
 -- ---- files that are given
 

@@ -15,9 +15,6 @@ front_more (suc i) (suc n) [] le = ([], refl)
 front_more (suc i) (suc n) (x ∷ xs) le = let r = front_more i n xs (omega (arith, le)) in (r.0, ap (λ t. x ∷ t) r.1)
 
 module _ (rs : List Regex) (text : List ℕ) where
-  pub best_none : IsBest rs text 0 None
-  best_none rule n some le m = omega (arith, some, le)
-
   -- a rule matches the longer front
   pub best_now : (i rule : ℕ) → IsFirstRule rs (take (i + 1) text) (Some rule) → IsBest rs text (i + 1) (Some (rule, i + 1))
   best_now i rule f = record { some = omega arith; within = omega arith; matches = f.0; longest = λ other n le m. le; lowest = f.1 }

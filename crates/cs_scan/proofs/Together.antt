@@ -1,5 +1,5 @@
 -- How far a list of tokens and the scan of a text go together.
-use Rattle.std.proofs.Common.{◌≡◌, ◌≢◌, ℕ, zero, suc, ◌+◌, ◌<◌, ◌≤◌, Bool, true, false, List, [], ◌∷◌, ◌++◌, Some, refl, sym, ap, ◌∙◌, subst, arith, length, length-append, length-drop, ◌-◌, take, drop, slice_get, append_assoc, ◌==◌}
+use Rattle.std.proofs.Common.{◌≡◌, ◌≢◌, ℕ, zero, suc, ◌+◌, ◌≤◌, Bool, true, false, List, [], ◌∷◌, ◌++◌, Some, refl, sym, ap, ◌∙◌, subst, arith, length, length-append, length-drop, ◌-◌, take, drop, slice_get, append_assoc, ◌==◌}
 use Rattle.std.proofs.lemmas.List.{append-nil, take_all, drop_all, length-take-le, take_more}
 use Rattle.std.proofs.lemmas.Option.{get_or_from_slice_get, slice_get_within}
 use Rattle.std.proofs.lemmas.Bool.Decides.{nat_tests}
@@ -97,10 +97,6 @@ module _ (s : Scanning) where
       let zero_is : in_common (drop n tokens) a.0 ≡ 0 = ap (in_common (drop n tokens)) go.1 ∙ in_common_other n token tokens go.0 ne in
       let given_is : in_common tokens given ≡ in_common tokens (take n tokens ++ a.0) = ap (in_common tokens) a.1 in
       omega (arith, front, zero_is, given_is)
-
-  -- the scan gives a list that has fewer in common with the tokens than they are
-  pub fewer_not_whole : (text tokens : List ℕ) (n : ℕ) → IsInCommon s text tokens n → n < length tokens → Scans s text tokens → ⊥
-  fewer_not_whole text tokens n c lt r = omega (arith, c tokens true r, in_common_self tokens, lt)
 
   pub stop_not_whole : (text tokens rest first : List ℕ) → IsBegunBy s text first rest → rest ≢ [] → GivesNone s rest → Scans s text tokens → ⊥
   stop_not_whole text tokens rest first b ne none r =

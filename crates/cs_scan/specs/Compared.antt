@@ -1,5 +1,5 @@
 -- What a comparison of a list of tokens with the scan of a text answers.
-use Rattle.std.specs.Prelude.{◌≡◌, ℕ, Bool, List, length}
+use Rattle.std.specs.Prelude.{◌≡◌, ℕ, Bool, List}
 use Rattle.cs_automaton.specs.Machine.{patterns_of}
 use Rattle.cs_scan.specs.declared.scanner.Scanner.{Scanner}
 use Rattle.cs_scan.specs.declared.comparing.Agreement.{Agreement}
@@ -9,14 +9,6 @@ use Rattle.cs_scan.specs.Scan.{Scanning, Runs, in_common}
 -- what a scanner scans by
 abbrev pub scanning : Scanner → Scanning
 scanning s = record { patterns = patterns_of s.automaton.now; kinds = s.kinds.now; literals = s.literals.now }
-
--- as many kinds as patterns
-abbrev pub HasKinds : Scanner → Type 0
-HasKinds s = length s.kinds.now ≡ length s.automaton.now.patterns
-
--- a token, or 0, for each byte
-abbrev pub HasLiterals : Scanner → Type 0
-HasLiterals s = length s.literals.now ≡ 256
 
 -- The list of tokens and the list that the scan of the text gives, before it ends or stops, have so many in common at their
 -- fronts. A text has one scan (`one_scan`, `some_scan`).

@@ -1,13 +1,13 @@
 // Whether a text scans to a list of tokens.
 
 ghost use Rattle.std.specs.Prelude.{◌≡◌, ◌↔◌, ◌<◌, ◌≤◌, length, slice_get, IsTrue};
-ghost use Rattle.cs_scan.specs.Compared.{scanning, HasKinds, HasLiterals, IfDiffers, IsInCommon};
+ghost use Rattle.cs_scan.specs.Compared.{scanning, IfDiffers, IsInCommon};
 ghost use Rattle.cs_scan.specs.Going.{tokens_of, IsNext};
 ghost use Rattle.cs_scan.specs.Scan.{given, Scans};
 
 use crate::front::longest_front;
-use crate::number::place_of;
 use crate::scanner::Scanner;
+use cs_numbers::place_of;
 use cs_pattern_tree::Kind;
 
 /// Whether a text scans to a list of tokens; if not, how many tokens the list and the scan's own have in common.
@@ -56,8 +56,6 @@ fn give(kind: Kind, literals: &[u16], text: &[u8]) -> Given
 
 /// What the scan does at the front of the text.
 fn advance(scanner: &Scanner<'_>, text: &[u8]) -> Next
-    requires kinds { HasKinds scanner.now }
-    requires literals { HasLiterals scanner.now }
     requires some { 0 < length text.now }
     ensures { IsNext (scanning scanner.now) text.now result }
 {
@@ -81,8 +79,6 @@ fn is_at(tokens: &[u16], place: usize, token: u16) -> bool
 /// Whether the text scans to the tokens; if not, how many tokens the list and the scan's own have in common at their fronts,
 /// before the scan ends or stops (POSIX lex). It takes no memory.
 pub fn agrees(scanner: &Scanner<'_>, text: &[u8], tokens: &[u16]) -> Agreement
-    requires kinds { HasKinds scanner.now }
-    requires literals { HasLiterals scanner.now }
     requires few { length tokens.now ≤ 1000001 }
     ensures whole { result ≡ Agreement.Whole ↔ Scans (scanning scanner.now) text.now tokens.now }
     ensures after { IfDiffers result (IsInCommon (scanning scanner.now) text.now tokens.now) }

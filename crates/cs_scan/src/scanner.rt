@@ -1,5 +1,7 @@
 // What a scanner is made of.
 
+ghost use Rattle.std.specs.Prelude.{◌≡◌, length};
+
 use cs_automaton::Automaton;
 use cs_pattern_tree::Kind;
 
@@ -9,4 +11,7 @@ pub struct Scanner<'a> {
     pub automaton: &'a Automaton<'a>,
     pub kinds: &'a [Kind],
     pub literals: &'a [u16],
+
+    pub ghost has_kinds: { length kinds.now ≡ length automaton.now.patterns },
+    pub ghost has_literals: { length literals.now ≡ 256 },
 }

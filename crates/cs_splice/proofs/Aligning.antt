@@ -98,7 +98,7 @@ module _ (lexemes : List (Option (List ℕ))) (sep : List ℕ) where
   due_start tokens text rule some =
       record {
         within = omega arith;
-        leads = λ lexeme has. at_first lexemes sep tokens [] 0 lexeme (omega arith) some has nil_rule;
+        takes_lexeme = λ lexeme has. at_first lexemes sep tokens [] 0 lexeme (omega arith) some has nil_rule;
         back = rule;
       }
 
@@ -119,7 +119,7 @@ module _ (lexemes : List (Option (List ℕ))) (sep : List ℕ) where
       let later = begins (slice_index tokens i) (drop (i + 1) tokens) (drop at text) lexeme has (split tokens text i at within due.back) in
       let cut = taken text lexeme later.0 at due.within later.1 in
       record {
-        front = subst (λ n. Rule (take (i + 1) tokens) (take n text)) (sym end) (subst (λ t. Rule (take (i + 1) tokens) t) (sym cut.0) (due.leads lexeme has));
+        front = subst (λ n. Rule (take (i + 1) tokens) (take n text)) (sym end) (subst (λ t. Rule (take (i + 1) tokens) t) (sym cut.0) (due.takes_lexeme lexeme has));
         back = subst (λ n. Rule (drop i tokens) (drop n text)) (sym start) due.back;
       }
 
@@ -132,7 +132,7 @@ module _ (lexemes : List (Option (List ℕ))) (sep : List ℕ) where
       let longer : length (drop at text) ≡ length (lexeme ++ sep) + length later.0 = ap length later.1 ∙ length-append (lexeme ++ sep) later.0 in
       subst (λ n. IsDue lexemes sep tokens text (i + 1) n) place (record {
         within = omega (arith, longer, length-drop at text, due.within);
-        leads = λ next also. subst (λ t. Rule (take (i + 1 + 1) tokens) (t ++ next)) (append_assoc (take at text) lexeme sep ∙ sym cut.0) (at_next lexemes sep tokens (take at text ++ lexeme) (i + 1) next (omega arith) within also (due.leads lexeme has));
+        takes_lexeme = λ next also. subst (λ t. Rule (take (i + 1 + 1) tokens) (t ++ next)) (append_assoc (take at text) lexeme sep ∙ sym cut.0) (at_next lexemes sep tokens (take at text ++ lexeme) (i + 1) next (omega arith) within also (due.takes_lexeme lexeme has));
         back = subst (λ t. Rule (drop (i + 1) tokens) t) (sym cut.1) later.2;
       })
 

@@ -1,7 +1,7 @@
 -- A list of tokens with its text and the marks of its matches. Working words of proofs.
 use Rattle.std.specs.Prelude.{◌≡◌, ℕ, ◌-◌, List, ◌++◌, Option, IfSome, length, take, drop}
 use Rattle.cs_scan.specs.declared.scanner.Scanner.{Scanner}
-use Rattle.cs_scan.specs.Compared.{HasKinds, HasLiterals, scanning}
+use Rattle.cs_scan.specs.Compared.{scanning}
 use Rattle.cs_scan.specs.Scan.{Scans}
 use Rattle.cs_scan.specs.Going.{IsBegunBy}
 use Rattle.cs_render.specs.Rendering.{AreTokens, IsRuleText}
@@ -17,22 +17,14 @@ near_of p = near_by p.scanner.now p.lexemes.now p.separator.now
 
 -- its text is that of its tokens, and its marks are those of its matches
 pub record IsMarkedList (p : Marked) : Type 0 where
-  pub kinds : HasKinds p.scanner.now
-  pub literals : HasLiterals p.scanner.now
   pub tokens : AreTokens p.lexemes.now p.tokens.now
   pub rendered : Tells (near_of p) p.tokens.now p.text.items
   pub marks : AreAllMarks (scanning p.scanner.now) p.text.items p.tokens.now p.marks.items
   pub aligned : AreAligned p.lexemes.now p.separator.now p.tokens.now p.text.items p.marks.items
 
--- what is said of a list that could be marked
+-- what is said of a list that could be marked, by which those near it can be spliced
 abbrev pub IfMarkedList : Scanner → List (Option (List ℕ)) → List ℕ → Option Marked → Type 0
 IfMarkedList scanner lexemes separator found = IfSome found (λ p. IsMarkedList p × (near_of p ≡ near_by scanner lexemes separator))
-
--- what lists are rendered by, with a list by which those near it can be spliced, if there is one
-pub record CanSplice (scanner : Scanner) (lexemes : List (Option (List ℕ))) (separator : List ℕ) (list : Option Marked) : Type 0 where
-  pub kinds : HasKinds scanner
-  pub literals : HasLiterals scanner
-  pub marked : IfMarkedList scanner lexemes separator list
 
 -- the mark of the match that gives the token at the place
 pub record IsMarkAt (p : Marked) (place : ℕ) (mark : Mark) : Type 0 where

@@ -43,12 +43,12 @@ abbrev pub AreAligned : List (Option (List ℕ)) → List ℕ → List ℕ → L
 AreAligned lexemes separator tokens text marks = AreAlignedUpTo lexemes separator tokens text marks (length tokens)
 
 -- behind the front, a lexeme of the token at the place k makes the rule's text of the tokens up to it
-abbrev pub Leads : List (Option (List ℕ)) → List ℕ → List ℕ → ℕ → List ℕ → Type 0
-Leads lexemes separator tokens k front =
+abbrev pub TakesLexeme : List (Option (List ℕ)) → List ℕ → List ℕ → ℕ → List ℕ → Type 0
+TakesLexeme lexemes separator tokens k front =
     (lexeme : List ℕ) → lexeme_in lexemes (slice_index tokens k) ≡ Some lexeme → IsRuleText lexemes separator (take (k + 1) tokens) (front ++ lexeme)
 
 -- the place is where the match of the token at the place k is to stand
 pub record IsDue (lexemes : List (Option (List ℕ))) (separator tokens text : List ℕ) (k at : ℕ) : Type 0 where
   pub within : at ≤ length text
-  pub leads : Leads lexemes separator tokens k (take at text)
+  pub takes_lexeme : TakesLexeme lexemes separator tokens k (take at text)
   pub back : IsRuleText lexemes separator (drop k tokens) (drop at text)

@@ -1,7 +1,7 @@
 // Tokens whose lexemes scan back to them, whichever of them stand side by side.
 
 ghost use Rattle.std.specs.Prelude.{◌≡◌, ◌<◌, ◌≤◌, ◌↔◌, IfOk, IsTrue, length};
-ghost use Rattle.cs_scan.specs.Compared.{HasKinds, HasLiterals, scanning};
+ghost use Rattle.cs_scan.specs.Compared.{scanning};
 ghost use Rattle.cs_splice.specs.Apart.{IsApart, IsPassedBefore, IsTakenFirst, ScanBack, StandsApart};
 ghost use Rattle.cs_splice.specs.Spliced.{near_by};
 
@@ -27,8 +27,6 @@ impl Model for Apart {
 
 // Whether the lexeme is the first match of each text that begins with it and the separator, and gives the token.
 fn is_taken_first(scanner: &Scanner<'_>, lexeme: &[u8], separator: &[u8], token: u16) -> bool
-    requires kinds { HasKinds scanner.now }
-    requires literals { HasLiterals scanner.now }
     requires some { 0 < length lexeme.now }
     ensures { IsTrue result
         → IsTakenFirst (scanning scanner.now) lexeme.now separator.now token }
@@ -44,8 +42,6 @@ fn is_taken_first(scanner: &Scanner<'_>, lexeme: &[u8], separator: &[u8], token:
 
 // Whether the scan of each text that begins with the separator and the byte passes over the separator.
 fn is_passed_before(scanner: &Scanner<'_>, separator: &[u8], first: u8) -> bool
-    requires kinds { HasKinds scanner.now }
-    requires literals { HasLiterals scanner.now }
     ensures { IsTrue result → IsPassedBefore (scanning scanner.now) separator.now first }
 {
     let mut rest = separator;
@@ -66,8 +62,6 @@ fn is_passed_before(scanner: &Scanner<'_>, separator: &[u8], first: u8) -> bool
 
 // Whether the token's lexeme stands apart.
 fn stands_apart(scanner: &Scanner<'_>, lexemes: &Lexemes, separator: &[u8], token: u16) -> bool
-    requires kinds { HasKinds scanner.now }
-    requires literals { HasLiterals scanner.now }
     requires some { 0 < token }
     requires within { token ≤ length lexemes.now }
     ensures { IsTrue result
@@ -93,8 +87,6 @@ impl Apart {
         separator: &[u8],
         tokens: u16,
     ) -> Result<Apart, AllocError>
-        requires kinds { HasKinds scanner.now }
-        requires literals { HasLiterals scanner.now }
         requires tokens { tokens ≤ length lexemes.now }
         ensures { IfOk result (ScanBack (near_by scanner.now lexemes.now separator.now)) }
     {

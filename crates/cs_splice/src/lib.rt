@@ -7,8 +7,8 @@
 //!
 //! Meaning: `specs/Spliced.antt` (what an answer says), `specs/Near.antt` (what lists are rendered by), `specs/Apart.antt` (which
 //! tokens stand apart, and that their lists scan back). Working words of proofs: `specs/Settled.antt` (what the first bytes of a
-//! text settle of its scan), `specs/Marks.antt`, `specs/Marked.antt`, `specs/Middle.antt`, `specs/Lists.antt`, and the ends of
-//! `specs/Spliced.antt` and `specs/Apart.antt`.
+//! text settle of its scan), `specs/Marks.antt`, `specs/Marked.antt`, `specs/Middle.antt`, `specs/Lists.antt`, `Tells` and
+//! `IfTold` of `specs/Spliced.antt`, and `IsTakenFirst`, `IsPassedBefore`, `StandsApart` and `MarkApart` of `specs/Apart.antt`.
 #![tactic(auto)]
 
 mod apart;

@@ -1,7 +1,6 @@
 // A list of tokens with its text and the marks of its matches, and the texts of lists that are near it.
 
 ghost use Rattle.std.specs.Prelude.{◌<◌, ◌≤◌, IfOk, IfSome, length};
-ghost use Rattle.cs_scan.specs.Compared.{HasKinds, HasLiterals};
 ghost use Rattle.cs_render.specs.Rendering.{AreTokens};
 ghost use Rattle.cs_splice.specs.Marked.{IfMarkedList, IsBack, IsFrontFor, IsMarkAt, IsMarkedList, near_of};
 ghost use Rattle.cs_splice.specs.Spliced.{IfTold};
@@ -43,8 +42,6 @@ impl<'a> Marked<'a> {
         separator: &'a [u8],
         tokens: &'a [u16],
     ) -> Result<Option<Marked<'a>>, AllocError>
-        requires kinds { HasKinds scanner.now }
-        requires literals { HasLiterals scanner.now }
         requires tokens { AreTokens lexemes.now tokens.now }
         requires few { length tokens.now ≤ 1000001 }
         ensures { IfOk result (IfMarkedList scanner.now lexemes.now separator.now) }

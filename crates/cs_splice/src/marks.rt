@@ -1,7 +1,7 @@
 // Where the matches of tokens stand in a text, and how many of its bytes settle the scan up to their ends.
 
 ghost use Rattle.std.specs.Prelude.{◌≡◌, ◌+◌, ◌^◌, ◌<◌, IfOk, IfSome, IsTrue, length};
-ghost use Rattle.cs_scan.specs.Compared.{HasKinds, HasLiterals, scanning};
+ghost use Rattle.cs_scan.specs.Compared.{scanning};
 ghost use Rattle.cs_render.specs.Rendering.{AreTokens, IsRuleText};
 ghost use Rattle.cs_splice.specs.Marks.{AreAligned, IfMarked};
 ghost use Rattle.cs_splice.specs.Settled.{IsFurther};
@@ -38,8 +38,6 @@ pub(crate) fn marks_of(
     text: &[u8],
     tokens: &[u16],
 ) -> Result<Option<Vec<Mark>>, AllocError>
-    requires kinds { HasKinds scanner.now }
-    requires literals { HasLiterals scanner.now }
     ensures { IfOk result (IfMarked (scanning scanner.now) text.now tokens.now) }
 {
     let mut marks = Vec::new(alloc);

@@ -1,7 +1,6 @@
 // Rendering lists of tokens that are near one whose text is known.
 
 ghost use Rattle.std.specs.Prelude.{◌≡◌, ◌≤◌, IfOk, length};
-ghost use Rattle.cs_scan.specs.Compared.{HasKinds, HasLiterals};
 ghost use Rattle.cs_render.specs.Rendering.{AreTokens};
 ghost use Rattle.cs_splice.specs.Spliced.{RendersNear, near_by};
 
@@ -35,11 +34,11 @@ impl<'a> Model for Prepared<'a> {
     ghost coded = { Prim.hlevel (codes, pattern.the_row.coded) };
 
     ghost use Rattle.cs_splice.specs.Spliced.{near_by};
-    ghost use Rattle.cs_splice.specs.Marked.{CanSplice};
+    ghost use Rattle.cs_splice.specs.Marked.{IfMarkedList};
 
     ghost view = { λ p. near_by p.scanner.now p.lexemes.now p.separator.now };
 
-    ghost invariant = { λ p. CanSplice p.scanner.now p.lexemes.now p.separator.now p.list };
+    ghost invariant = { λ p. IfMarkedList p.scanner.now p.lexemes.now p.separator.now p.list };
 }
 
 impl<'a> Prepared<'a> {
@@ -51,8 +50,6 @@ impl<'a> Prepared<'a> {
         separator: &'a [u8],
         tokens: &'a [u16],
     ) -> Result<Prepared<'a>, AllocError>
-        requires kinds { HasKinds scanner.now }
-        requires literals { HasLiterals scanner.now }
         requires tokens { AreTokens lexemes.now tokens.now }
         requires few { length tokens.now ≤ 1000001 }
         ensures { IfOk result (λ near. near ≡ near_by scanner.now lexemes.now separator.now) }

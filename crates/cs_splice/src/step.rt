@@ -2,12 +2,13 @@
 
 ghost use Rattle.std.specs.Prelude.{◌≡◌, ◌+◌, ◌<◌, ◌≤◌, ◌++◌, IfSome, IsTrue, length, slice_index};
 ghost use Rattle.cs_automaton.specs.Machine.{patterns_of};
-ghost use Rattle.cs_scan.specs.Compared.{HasKinds, HasLiterals, scanning};
+ghost use Rattle.cs_scan.specs.Compared.{scanning};
 ghost use Rattle.cs_splice.specs.Settled.{Arrives, IsCounted, IsGivenBy, IsLook, IsStep, tokens_of};
 
 use cs_automaton::Automaton;
+use cs_numbers::place_of;
 use cs_pattern_tree::Kind;
-use cs_scan::{Scanner, place_of};
+use cs_scan::Scanner;
 
 /// The longest match at the front of a text, and how many of its bytes settle that. None where nothing but its end does.
 #[derive(Clone, Copy)]
@@ -87,8 +88,6 @@ fn give(kind: Kind, literals: &[u16], first: u8) -> Option<Given>
 
 /// What the scan does at the front of the two texts, one behind the other. None where it stops.
 pub(crate) fn step_over(scanner: &Scanner<'_>, near: &[u8], far: &[u8]) -> Option<Step>
-    requires kinds { HasKinds scanner.now }
-    requires literals { HasLiterals scanner.now }
     requires some { 0 < length near.now }
     ensures { IfSome result (IsStep (scanning scanner.now) (near.now ++ far.now)) }
 {
@@ -117,8 +116,6 @@ pub(crate) fn counted(wanted: &[u16], count: usize, given: Given) -> Option<usiz
 
 /// Whether the scan of the two texts, one behind the other, gives the tokens first, and then what the second gives.
 pub(crate) fn arrives(scanner: &Scanner<'_>, near: &[u8], far: &[u8], tokens: &[u16]) -> bool
-    requires kinds { HasKinds scanner.now }
-    requires literals { HasLiterals scanner.now }
     ensures { IsTrue result
         → Arrives (scanning scanner.now) near.now far.now tokens.now }
 {

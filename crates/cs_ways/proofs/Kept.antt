@@ -98,12 +98,6 @@ module _ (limit : ℕ) where
   }
 
 module _ (known : List (Option Candidate)) where
-  pub holds_none : HoldsUpTo 0 known []
-  holds_none = record {
-    all = λ p c lt e. absurd (omega (arith, lt));
-    only = λ c h. absurd (contains_none _ h);
-  }
-
   pub holds_pass : (n : ℕ) (heap : List (Reverse Candidate)) → get_or known n None ≡ None → HoldsUpTo n known heap → HoldsUpTo (n + 1) known heap
   holds_pass n heap none so_far = record {
     all = λ p c lt e.

@@ -1,5 +1,5 @@
 -- Ways over steps that are turned round: a way there and a way back over the same steps make one another.
-use Rattle.std.proofs.Common.{◌≡◌, ℕ, zero, suc, ◌+◌, List, [], ◌∷◌, ◌++◌, Some, length, get_or, map, refl, sym, ap, ◌∙◌, subst, inl, inr, arith}
+use Rattle.std.proofs.Common.{◌≡◌, ℕ, zero, suc, ◌+◌, List, [], ◌∷◌, Some, length, get_or, map, refl, sym, ap, ◌∙◌, subst, inl, inr, arith}
 use Rattle.std.specs.Prelude.{slice_get, Contains}
 use Rattle.cs_ways.specs.declared.step.Step.{Step}
 use Rattle.cs_ways.specs.declared.step.Source.{Source}
@@ -35,10 +35,6 @@ pub IsNet-turned : (net : Net) → IsNet net → IsNet (turned net)
 IsNet-turned net is k d within =
     let h = is k (turned_step d) (omega (arith, within, length-turned net.steps)) in
     subst (λ (s : Step). IsNode net.nodes s.from × IsNode net.nodes s.to) (sym (at_turned net.steps k d)) (h.1, h.0)
-
-pub turned_more : (steps : List Step) (s : Step) → map turned_step (steps ++ s ∷ []) ≡ map turned_step steps ++ turned_step s ∷ []
-turned_more [] s = refl
-turned_more (t ∷ steps) s = ap (λ (l : List Step). turned_step t ∷ l) (turned_more steps s)
 
 module _ (net : Net) (source : Source) where
   -- a way in the turned net to where a way from the source ends goes on to the source's node

@@ -4,17 +4,13 @@ use Rattle.std.specs.Prelude.{IsSome, codes}
 use Rattle.std.specs.List.{Contains}
 use Rattle.std.proofs.lemmas.List.Elements.{Contains-append_left, Contains-append_right, Contains-append_cases}
 use Rattle.cs_words.specs.declared.given.Given.{Given}
-use Rattle.cs_words.specs.declared.options.Options.{Options}
 use Rattle.cs_words.specs.declared.setting.Setting.{Setting}
 use Rattle.cs_words.specs.declared.setting.Setting.TheVariants.{Cover, Mutate, Bases, Separate, Weigh, Format}
-use Rattle.cs_words.specs.Options.{AreOptions, Give, HasMarked, IsMarked, IsNewOption, IsOption, LacksMark, mark_of}
-use Rattle.cs_words.specs.Choices.{IsCriteria, IsFormat, IsOperators, IsWeigh}
-use Rattle.cs_words.specs.Values.{IsBases, IsSeparator}
+use Rattle.cs_words.specs.Options.{Give, HasMarked, IsMarked, IsNewOption, IsOption, LacksMark, mark_of}
+use Rattle.cs_words.specs.Choices.{IsCriteria, IsOperators}
 use Rattle.cs_goals.specs.declared.goal.Criteria.{Criteria}
 use Rattle.cs_mutate.specs.declared.edit.Operators.{Operators}
-use Rattle.cs_manifest.specs.declared.format.Format.{Format as Form}
-use Rattle.cs_manifest.specs.declared.format.Weigh.{Weigh as Weighing}
-use Rattle.cs_words.specs.Steps.{AreDefaulted, HasKind, IsNothing, Sets}
+use Rattle.cs_words.specs.Steps.{HasKind, Sets}
 
 -- the words so far say this
 pub record AreGiven (words : List (List ℕ)) (given : Given) : Type 0 where
@@ -74,16 +70,6 @@ same_mark word (Format x) (Format y) one other = refl
 
 nothing : (mark : List ℕ) → LacksMark mark []
 nothing mark word there is = omega (arith, there.1)
-
-pub given_none : (given : Given) → IsNothing given → AreGiven [] given
-given_none given is = subst (λ g. AreGiven [] g) (sym is) (record {
-  criteria = nothing (codes "--criteria=");
-  operators = nothing (codes "--mutate=");
-  bases = nothing (codes "--bases=");
-  separator = nothing (codes "--separator=");
-  weigh = nothing (codes "--weigh=");
-  format = nothing (codes "--format=");
-})
 
 -- ---- one more option
 
@@ -181,16 +167,6 @@ module _ (words : List (List ℕ)) (given : Given) (are : AreGiven words given) 
       let same = same_mark word setting new.setting (marked word setting is) (marked word new.setting new.is) in
       new.is_new there.0 there.1 (subst (λ m. IsMarked m there.0) same there.2)
 
-  pub options_are : (options : Options) → AreDefaulted given options → AreOptions words options
-  options_are options are_defaulted = record {
-    criteria = (given.criteria, are.criteria, are_defaulted.criteria);
-    operators = (given.operators, are.operators, are_defaulted.operators);
-    bases = (given.bases, are.bases, are_defaulted.bases);
-    separator = (given.separator, are.separator, are_defaulted.separator);
-    weigh = (given.weigh, are.weigh, are_defaulted.weigh);
-    format = (given.format, are.format, are_defaulted.format);
-  }
-
 -- ---- words that are no options
 
 behind_mark : (mark v w : List ℕ) → mark ++ v ≡ mark ++ w → v ≡ w
@@ -213,38 +189,6 @@ module _ (word value : List ℕ) where
   not_operators is none (Separate x) option = differ 109 115 _ _ word is option.spelled (λ e. omega (arith, e))
   not_operators is none (Weigh x) option = differ 109 119 _ _ word is option.spelled (λ e. omega (arith, e))
   not_operators is none (Format x) option = differ 109 102 _ _ word is option.spelled (λ e. omega (arith, e))
-
-  pub not_bases : word ≡ codes "--bases=" ++ value → ((x : ℕ) → IsBases value x → ⊥) → (setting : Setting) → IsOption word setting → ⊥
-  not_bases is none (Cover x) option = differ 98 99 _ _ word is option.spelled (λ e. omega (arith, e))
-  not_bases is none (Mutate x) option = differ 98 109 _ _ word is option.spelled (λ e. omega (arith, e))
-  not_bases is none (Bases x) option = none x (subst (λ v. IsBases v x) (behind_mark (codes "--bases=") _ _ (sym option.spelled ∙ is)) option.gives)
-  not_bases is none (Separate x) option = differ 98 115 _ _ word is option.spelled (λ e. omega (arith, e))
-  not_bases is none (Weigh x) option = differ 98 119 _ _ word is option.spelled (λ e. omega (arith, e))
-  not_bases is none (Format x) option = differ 98 102 _ _ word is option.spelled (λ e. omega (arith, e))
-
-  pub not_separator : word ≡ codes "--separator=" ++ value → ((x : List ℕ) → IsSeparator value x → ⊥) → (setting : Setting) → IsOption word setting → ⊥
-  not_separator is none (Cover x) option = differ 115 99 _ _ word is option.spelled (λ e. omega (arith, e))
-  not_separator is none (Mutate x) option = differ 115 109 _ _ word is option.spelled (λ e. omega (arith, e))
-  not_separator is none (Bases x) option = differ 115 98 _ _ word is option.spelled (λ e. omega (arith, e))
-  not_separator is none (Separate x) option = none x (subst (λ v. IsSeparator v x) (behind_mark (codes "--separator=") _ _ (sym option.spelled ∙ is)) option.gives)
-  not_separator is none (Weigh x) option = differ 115 119 _ _ word is option.spelled (λ e. omega (arith, e))
-  not_separator is none (Format x) option = differ 115 102 _ _ word is option.spelled (λ e. omega (arith, e))
-
-  pub not_weigh : word ≡ codes "--weigh=" ++ value → ((x : Weighing) → IsWeigh value x → ⊥) → (setting : Setting) → IsOption word setting → ⊥
-  not_weigh is none (Cover x) option = differ 119 99 _ _ word is option.spelled (λ e. omega (arith, e))
-  not_weigh is none (Mutate x) option = differ 119 109 _ _ word is option.spelled (λ e. omega (arith, e))
-  not_weigh is none (Bases x) option = differ 119 98 _ _ word is option.spelled (λ e. omega (arith, e))
-  not_weigh is none (Separate x) option = differ 119 115 _ _ word is option.spelled (λ e. omega (arith, e))
-  not_weigh is none (Weigh x) option = none x (subst (λ v. IsWeigh v x) (behind_mark (codes "--weigh=") _ _ (sym option.spelled ∙ is)) option.gives)
-  not_weigh is none (Format x) option = differ 119 102 _ _ word is option.spelled (λ e. omega (arith, e))
-
-  pub not_format : word ≡ codes "--format=" ++ value → ((x : Form) → IsFormat value x → ⊥) → (setting : Setting) → IsOption word setting → ⊥
-  not_format is none (Cover x) option = differ 102 99 _ _ word is option.spelled (λ e. omega (arith, e))
-  not_format is none (Mutate x) option = differ 102 109 _ _ word is option.spelled (λ e. omega (arith, e))
-  not_format is none (Bases x) option = differ 102 98 _ _ word is option.spelled (λ e. omega (arith, e))
-  not_format is none (Separate x) option = differ 102 115 _ _ word is option.spelled (λ e. omega (arith, e))
-  not_format is none (Weigh x) option = differ 102 119 _ _ word is option.spelled (λ e. omega (arith, e))
-  not_format is none (Format x) option = none x (subst (λ v. IsFormat v x) (behind_mark (codes "--format=") _ _ (sym option.spelled ∙ is)) option.gives)
 
 pub no_mark : (word : List ℕ) → (IsMarked (codes "--criteria=") word → ⊥) → (IsMarked (codes "--mutate=") word → ⊥) → (IsMarked (codes "--bases=") word → ⊥) → (IsMarked (codes "--separator=") word → ⊥) → (IsMarked (codes "--weigh=") word → ⊥) → (IsMarked (codes "--format=") word → ⊥) → (setting : Setting) → IsOption word setting → ⊥
 no_mark word c m b s w f (Cover x) option = c (marked word (Cover x) option)

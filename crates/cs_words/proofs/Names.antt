@@ -151,25 +151,3 @@ third true true false z h = refl
 third false true false z h = sym (or_true z)
 third true false false z h = refl
 third false false false z h = or_false z
-
-module _ (o : Operators) (name : List ℕ) where
-  pub adds_delete : name ≡ codes "delete" → o.delete ≡ false → Adds (has_operator o) name (has_operator (record o { delete = true }))
-  adds_delete is none = record {
-    was = subst (λ n. has_operator o n ≡ false) (sym is) (rw none);
-    now = λ other. first (bytes_eq other (codes "delete")) o.delete (bytes_eq other (codes "insert") && o.insert) (bytes_eq other (codes "replace") && o.replace) (bytes_eq other (codes "swap") && o.swap) none
-        ∙ ap (λ n. has_operator o other || bytes_eq other n) (sym is);
-  }
-
-  pub adds_insert : name ≡ codes "insert" → o.insert ≡ false → Adds (has_operator o) name (has_operator (record o { insert = true }))
-  adds_insert is none = record {
-    was = subst (λ n. has_operator o n ≡ false) (sym is) (rw none);
-    now = λ other. second (bytes_eq other (codes "delete") && o.delete) (bytes_eq other (codes "insert")) o.insert (bytes_eq other (codes "replace") && o.replace) (bytes_eq other (codes "swap") && o.swap) none
-        ∙ ap (λ n. has_operator o other || bytes_eq other n) (sym is);
-  }
-
-  pub adds_replace : name ≡ codes "replace" → o.replace ≡ false → Adds (has_operator o) name (has_operator (record o { replace = true }))
-  adds_replace is none = record {
-    was = subst (λ n. has_operator o n ≡ false) (sym is) (rw none);
-    now = λ other. third ((bytes_eq other (codes "delete") && o.delete) || (bytes_eq other (codes "insert") && o.insert)) (bytes_eq other (codes "replace")) o.replace (bytes_eq other (codes "swap") && o.swap) none
-        ∙ ap (λ n. has_operator o other || bytes_eq other n) (sym is);
-  }

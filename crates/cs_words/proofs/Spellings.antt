@@ -1,5 +1,5 @@
 -- Spelled bytes that are read one by one.
-use Rattle.std.proofs.Common.{◌≡◌, ℕ, ◌+◌, ◌<◌, ◌≤◌, List, [], ◌∷◌, ◌++◌, length, refl, sym, ap, ◌∙◌, subst, inl, inr, arith, append_assoc, append-nil, length-append, take, drop}
+use Rattle.std.proofs.Common.{◌≡◌, ℕ, ◌+◌, ◌<◌, ◌≤◌, List, [], ◌∷◌, ◌++◌, length, sym, ap, ◌∙◌, subst, inl, inr, arith, append_assoc, append-nil, take, drop}
 use Rattle.std.proofs.lemmas.List.{take-append-drop, drop-drop}
 use Rattle.cs_words.specs.Values.{Spells, SpellsByte, IsSeparator}
 
@@ -25,9 +25,6 @@ pub record Reads (value done rest : List ℕ) : Type 0 where
   pub onto : (bytes : List ℕ) → Spells rest bytes → Spells value (done ++ bytes)
   pub off : (bytes : List ℕ) → Spells value bytes → (tail : List ℕ) × (bytes ≡ done ++ tail) × Spells rest tail
 
-pub reads_none : (value : List ℕ) → Reads value [] value
-reads_none value = record { onto = λ bytes is. is; off = λ bytes is. (bytes, refl, is) }
-
 module _ (value done rest : List ℕ) (reads : Reads value done rest) where
   pub reads_more : (text behind : List ℕ) (byte : ℕ) → rest ≡ text ++ behind → SpellsByte text byte → Reads value (done ++ byte ∷ []) behind
   reads_more text behind byte split spelled = record {
@@ -51,13 +48,6 @@ module _ (value done rest : List ℕ) (reads : Reads value done rest) where
       go : (tail : List ℕ) → Spells rest tail → ⊥
       go [] empty = omega (arith, ap length empty)
       go (c ∷ tail) (s, r, e, sp, more) = none s r c e sp
-
-  pub reads_full : (bytes : List ℕ) → 0 < length rest → 64 ≤ length done → IsSeparator value bytes → ⊥
-  reads_full bytes some full is = let o = reads.off bytes is.0 in go o.0 o.1 o.2
-    where
-      go : (tail : List ℕ) → bytes ≡ done ++ tail → Spells rest tail → ⊥
-      go [] same empty = omega (arith, ap length empty)
-      go (c ∷ tail) same more = omega (arith, ap length same, length-append done (c ∷ tail), is.1)
 
   pub reads_all : rest ≡ [] → length done ≤ 64 → IsSeparator value done
   reads_all empty few = (subst (λ xs. Spells value xs) (append-nil done) (reads.onto [] empty), few)

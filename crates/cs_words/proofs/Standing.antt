@@ -1,5 +1,5 @@
 -- Words that stand where they stand, and the first that doesn't.
-use Rattle.std.proofs.Common.{◌≡◌, ◌≢◌, ◌+◌, ◌-◌, ◌<◌, ℕ, zero, suc, true, false, List, [], ◌∷◌, ◌++◌, length, refl, sym, ap, ◌∙◌, subst, ⊎_elim, inl, inr, arith, append_assoc, append-nil}
+use Rattle.std.proofs.Common.{◌≡◌, ◌≢◌, ◌+◌, ◌-◌, ◌<◌, ℕ, zero, suc, true, false, List, [], ◌∷◌, ◌++◌, length, refl, sym, ap, ◌∙◌, subst, inl, inr, arith, append_assoc, append-nil}
 use Rattle.std.specs.Prelude.{IsTrue, String, codes, string_bytes, drop, get_or}
 use Rattle.std.specs.declared.alloc.Global.{Global}
 use Rattle.std.specs.Prelude.{bytes_eq, take}
@@ -46,12 +46,6 @@ no_name command word apart lacks (inl seed) = apart seed.0
 no_name command word apart lacks (inr name) = let is : is_name word ≡ true = name.1 in cc
 
 -- ---- `rules`
-
-pub rules_accepted : (words : List (List ℕ)) (yacc : List ℕ) (rest : List (List ℕ)) → words ≡ yacc ∷ rest → IsTrue (is_name yacc) → rest ≡ [] → IsAccepted (codes "rules" ∷ words)
-rules_accepted words yacc rest split is none = subst (λ ws. IsAccepted (codes "rules" ∷ ws)) (sym (split ∙ ap (λ r. yacc ∷ r) none)) (record {
-  stand = (inl refl, (inr (rules_not_gen, is), tt));
-  complete = omega arith;
-})
 
 pub rules_no_name : (words : List (List ℕ)) → LacksName words → IsFirstBad (codes "rules" ∷ words) 1
 rules_no_name words none = record {
@@ -141,12 +135,6 @@ module _ (words : List (List ℕ)) (yacc : List ℕ) (rest : List (List ℕ)) (s
 
 -- ---- `gen`
 
-pub gen_accepted : (words : List (List ℕ)) (seed : ℕ) (rest : List (List ℕ)) → BeginsWithSeed words seed rest → rest ≡ [] → IsAccepted (codes "gen" ∷ words)
-gen_accepted words seed rest begins none = subst (λ ws. IsAccepted (codes "gen" ∷ ws)) (sym (begins.1 ∙ ap (λ r. begins.0 ∷ r) none)) (record {
-  stand = (inr (inr refl), (inl (refl, (seed, begins.2)), tt));
-  complete = omega arith;
-})
-
 pub gen_no_seed : (words : List (List ℕ)) → LacksSeed words → IsFirstBad (codes "gen" ∷ words) 1
 gen_no_seed words none = record {
   before = codes "gen" ∷ [];
@@ -230,13 +218,3 @@ module _ (words : List (String Global)) (place : ℕ) (word : String Global) (wi
 
 pub no_words : IsFirstBad [] 0
 no_words = record { before = []; after = []; split = refl; place = refl; stand = tt; bad = λ complete. complete }
-
-pub no_command : (command : List ℕ) (rest : List (List ℕ)) → command ≢ codes "rules" → command ≢ codes "suite" → command ≢ codes "gen" → IsFirstBad (command ∷ rest) 0
-no_command command rest rules suite gen = record {
-  before = [];
-  after = command ∷ rest;
-  split = refl;
-  place = refl;
-  stand = tt;
-  bad = λ may. ⊎_elim rules (λ other. ⊎_elim suite gen other) may;
-}

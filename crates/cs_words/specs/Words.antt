@@ -1,6 +1,7 @@
 -- The grammar of words: which word may stand behind which.
 use Rattle.std.specs.Prelude.{◌≡◌, ◌≢◌, ◌⊎◌, ◌≤◌, ◌==◌, ℕ, zero, suc, Bool, false, not, List, [], ◌∷◌, ◌++◌, String, IsTrue, bytes_eq, codes, if◌then◌else◌, length, map, string_bytes}
 use Rattle.std.specs.declared.alloc.Global.{Global}
+use Rattle.cs_bytes.specs.Names.{dash}
 use Rattle.cs_words.specs.Options.{IsNewOption}
 use Rattle.cs_words.specs.Values.{SpellsSeed}
 
@@ -20,7 +21,7 @@ argument_count command = if bytes_eq command (codes "suite") then 2 else 1
 -- a file's name isn't empty and doesn't begin with `-`
 abbrev pub is_name : List ℕ → Bool
 is_name [] = false
-is_name (first ∷ rest) = not (first == 45)
+is_name (first ∷ rest) = not (first == dash)
 
 -- `gen` takes a seed, and the other commands take names of files
 abbrev pub MayBeArgument : List ℕ → List ℕ → Type 0

@@ -10,7 +10,7 @@ use cs_manifest::{Format, Weigh};
 use cs_mutate::Operators;
 
 /// The criteria that the value names.
-pub fn read_criteria(value: &str) -> Option<Criteria>
+pub(crate) fn read_criteria(value: &str) -> Option<Criteria>
     ensures some { IfSome result (IsCriteria value.now) }
     ensures none { IfNone result (MeansNothing IsCriteria value.now) }
 {
@@ -53,7 +53,7 @@ fn with_criterion(criteria: Criteria, name: &str) -> Option<Criteria>
 }
 
 /// The operators that the value names; none of them where it is `none`.
-pub fn read_operators(value: &str) -> Option<Operators>
+pub(crate) fn read_operators(value: &str) -> Option<Operators>
     ensures some { IfSome result (IsOperators value.now) }
     ensures none { IfNone result (MeansNothing IsOperators value.now) }
 {
@@ -106,7 +106,7 @@ fn with_operator(operators: Operators, name: &str) -> Option<Operators>
 }
 
 /// What the value says that sizes count.
-pub fn read_weigh(value: &str) -> Option<Weigh>
+pub(crate) fn read_weigh(value: &str) -> Option<Weigh>
     ensures some { IfSome result (IsWeigh value.now) }
     ensures none { IfNone result (MeansNothing IsWeigh value.now) }
 {
@@ -120,7 +120,7 @@ pub fn read_weigh(value: &str) -> Option<Weigh>
 }
 
 /// The format that the value names.
-pub fn read_format(value: &str) -> Option<Format>
+pub(crate) fn read_format(value: &str) -> Option<Format>
     ensures some { IfSome result (IsFormat value.now) }
     ensures none { IfNone result (MeansNothing IsFormat value.now) }
 {

@@ -13,13 +13,13 @@ use cs_mutate::Operators;
 
 /// What the options so far say.
 #[derive(Drop)]
-pub struct Given {
-    pub criteria: Option<Criteria>,
-    pub operators: Option<Operators>,
-    pub bases: Option<u16>,
-    pub separator: Option<Separator>,
-    pub weigh: Option<Weigh>,
-    pub format: Option<Format>,
+pub(crate) struct Given {
+    pub(crate) criteria: Option<Criteria>,
+    pub(crate) operators: Option<Operators>,
+    pub(crate) bases: Option<u16>,
+    pub(crate) separator: Option<Separator>,
+    pub(crate) weigh: Option<Weigh>,
+    pub(crate) format: Option<Format>,
 }
 
 impl Given {

@@ -2,6 +2,7 @@
 
 ghost use Rattle.std.specs.Prelude.{◌≡◌, ◌≤◌, ◌<◌, [], ◌∷◌, ◌++◌, length};
 ghost use Rattle.std.specs.Bool.{OnTrue, OnFalse};
+ghost use Rattle.cs_bytes.specs.Names as byte_names;
 
 use arrayvec::ArrayVec;
 use std::marker::Model;
@@ -35,7 +36,7 @@ impl Separator {
 
     /// One space.
     pub fn space() -> Separator
-        ensures { result ≡ 32 ∷ [] }
+        ensures { result ≡ byte_names.space ∷ [] }
     {
         let mut space = Separator::new();
         space.push(b' ');

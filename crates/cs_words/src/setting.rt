@@ -13,7 +13,7 @@ use cs_mutate::Operators;
 
 /// What an option sets.
 #[derive(Drop)]
-pub enum Setting {
+pub(crate) enum Setting {
     /// The criteria of goals.
     Cover(Criteria),
     /// The operators of edits.
@@ -29,7 +29,7 @@ pub enum Setting {
 }
 
 /// The setting of an option.
-pub fn read_option(word: &str) -> Option<Setting>
+pub(crate) fn read_option(word: &str) -> Option<Setting>
     ensures some { IfSome result (IsOption word.now) }
     ensures none { IfNone result ((setting : Setting) → IsOption word.now setting → ⊥) }
 {

@@ -11,7 +11,7 @@ use crate::separator::Separator;
 use cs_bytes::{ByteClass, digit_of, from_offset, number};
 
 /// The number of bases that the value spells.
-pub fn read_bases(value: &[u8]) -> Option<u16>
+pub(crate) fn read_bases(value: &[u8]) -> Option<u16>
     ensures some { IfSome result (IsBases value.now) }
     ensures none { IfNone result ((bases : ℕ) → IsBases value.now bases → ⊥) }
 {
@@ -26,7 +26,7 @@ pub fn read_bases(value: &[u8]) -> Option<u16>
 }
 
 /// The seed that the value spells.
-pub fn read_seed(value: &[u8]) -> Option<u64>
+pub(crate) fn read_seed(value: &[u8]) -> Option<u64>
     ensures some { IfSome result (IsSeed value.now) }
     ensures none { IfNone result ((seed : ℕ) → IsSeed value.now seed → ⊥) }
 {
@@ -67,7 +67,7 @@ fn has_only_digits(value: &[u8]) -> bool
 }
 
 /// The separator that the value spells.
-pub fn read_separator(value: &[u8]) -> Option<Separator>
+pub(crate) fn read_separator(value: &[u8]) -> Option<Separator>
     ensures some { IfSome result (IsSeparator value.now) }
     ensures none { IfNone result ((bytes : List ℕ) → IsSeparator value.now bytes → ⊥) }
 {

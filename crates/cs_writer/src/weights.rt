@@ -14,7 +14,7 @@ use std::alloc::{AllocError, Global};
 const BYTE_LIMIT: u32 = 100_000;
 
 /// The weights of what sizes count, for so many tokens with these lexemes.
-pub fn weights_of(
+pub(crate) fn weights_of(
     alloc: Global,
     weigh: Weigh,
     lexemes: &Lexemes,

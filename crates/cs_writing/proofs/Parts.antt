@@ -117,13 +117,6 @@ module _ {S : Type 0} {g : Sink.Ghosts S} where
         stops (negatives_from before.file making.number search.base before.counts.negatives entries) (record { entries = entries; all = are; lines = refl })
 
   module _ (plan : Plan) (bases : PlainBases) where
-    pub bases_text : {old new : S} {before after : Counts} → HasBases g plan bases.list old new before after → HasText g (IsBasesText plan bases) old new
-    bases_text has = record {
-      text = base_entry_lines plan.yacc.now 0 0 has.mutants;
-      is = record { mutants = has.mutants; all = has.all; lines = refl };
-      written = has.written;
-    }
-
     pub bases_text_stop : (old new : S) (halt : Halt) → HasSomeBases g plan bases.list old new halt → HasSomeText g (IsBasesText plan bases) old new halt
     bases_text_stop old new halt stops text is = subst (λ (l : List ℕ). IsStopped g l old new halt) (sym is.lines) (stops is.mutants is.all)
 

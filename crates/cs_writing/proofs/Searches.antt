@@ -20,7 +20,7 @@ use Rattle.cs_writing.proofs.Ones.{zip_length}
 pub can_render : (plan : Plan) → IsPlan plan → (work : Bor RenderWork) → plan.texts ≡ Some work → CanRender work.now (length plan.yacc.now.token_names)
 can_render plan is_plan work texts =
     let can = subst (λ (t : Option (Bor RenderWork)). CanRenderBy plan.yacc.now t) texts is_plan.texts in
-    record { kinds = can.0; literals = can.1; lexemes = can.2.all ∙ sym is_plan.file.tokens }
+    can.all ∙ sym is_plan.file.tokens
 
 module _ (plan : Plan) (is_plan : IsPlan plan) (mutation : Mutation) (work : Bor RenderWork) (is : plan.mutation ≡ Some mutation) (texts : plan.texts ≡ Some work) where
   abbrev g : PlainGrammar

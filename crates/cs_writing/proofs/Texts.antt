@@ -47,7 +47,7 @@ weighed_so plan of grammar weights = ap (λ (g : PlainGrammar). weighed g of.wei
 lexemes_by : (file : File) (texts : Option (Bor RenderWork)) → CanRender file texts
     → AreLexemesBy (option_map (λ work. texts_of work.now) texts) file.grammar.tokens (option_map (λ work. work.now.lexemes.now) texts)
 lexemes_by file None can = refl
-lexemes_by file (Some work) can = can.2
+lexemes_by file (Some work) can = can
 
 -- how many cases the end tells of
 abbrev cases_by : Option (Bor Closed) → PlainCases → Option ℕ

@@ -10,7 +10,7 @@ use cs_plan::{Made, MadeShared};
 use std::alloc::AllocError;
 
 /// Keeps what are bases of these entries. `number` is that of the last entry before them.
-pub fn keep_bases(bases: &mut Bases, number: u64, batch: &[Made]) -> Result<(), AllocError>
+pub(crate) fn keep_bases(bases: &mut Bases, number: u64, batch: &[Made]) -> Result<(), AllocError>
     requires { number + length batch.now ≤ greatest }
     ensures { OnOk result (Keeps number batch.now bases.old bases.new) }
 {
@@ -23,7 +23,11 @@ pub fn keep_bases(bases: &mut Bases, number: u64, batch: &[Made]) -> Result<(), 
 }
 
 /// The same in the second format.
-pub fn keep_shared(bases: &mut Bases, number: u64, batch: &[MadeShared]) -> Result<(), AllocError>
+pub(crate) fn keep_shared(
+    bases: &mut Bases,
+    number: u64,
+    batch: &[MadeShared],
+) -> Result<(), AllocError>
     requires { number + length batch.now ≤ greatest }
     ensures { OnOk result (Keeps number (entries_in batch.now) bases.old bases.new) }
 {

@@ -21,7 +21,7 @@ use std::alloc::Global;
 
 /// Writes the bases, numbered from 1, and behind each its negatives, numbered from 1 through all
 /// bases. Where nothing is mutated there are no bases.
-pub fn write_bases<S: Sink>(
+pub(crate) fn write_bases<S: Sink>(
     alloc: Global,
     plan: &Plan<'_>,
     bases: &Bases,

@@ -19,7 +19,7 @@ use std::thread::Threads;
 
 /// Writes the entries of all goals in the second format, numbered from 1, each behind its case where
 /// that is new, and answers their bases.
-pub fn write_shared<R: Threads + Sync, S: Sink, G: Gate + Sync>(
+pub(crate) fn write_shared<R: Threads + Sync, S: Sink, G: Gate + Sync>(
     rt: &R,
     alloc: Global,
     plan: &Plan<'_>,

@@ -12,7 +12,6 @@ use Rattle.cs_yacc_items.specs.declared.item.Placed as held_item
 use Rattle.cs_yacc_items.specs.Views.{placed_of, placed_all}
 use Rattle.cs_yacc.specs.declared.spelling.Spelling as code
 use Rattle.cs_yacc.specs.declared.spelled.SpelledRule as held
-use Rattle.cs_yacc.specs.SpellingView.{spelling_of, spellings_of}
 use Rattle.cs_yacc.specs.Places.{name_at, names_at}
 use Rattle.cs_yacc.specs.RuleView.{opened, next_left, rule_of, rules_in}
 use Rattle.cs_yacc.proofs.Gathering.{Gathers}
@@ -94,10 +93,6 @@ few_behind before (p ∷ ps) =
 
 pub few_with_meaning_of : (ps : List Placed) → length (with_meaning ps) ≤ length ps
 few_with_meaning_of ps = few_behind None ps
-
--- the code's words are as many as the words that they are
-pub few_keys : (keys : List code.Spelling) (ws : List TokenName) (n : ℕ) → spellings_of keys ≡ ws → length ws ≤ n → length keys ≤ n
-few_keys keys ws n e le = omega (arith, ap length e, length-map keys spelling_of)
 
 pub few_spelled : (words : List TokenName) (held_rules : List held.SpelledRule) (rs : List SpelledRule) (n : ℕ) → rules_in words held_rules ≡ rs → length rs ≤ n → length held_rules ≤ n
 few_spelled words held_rules rs n e le = omega (arith, ap length e, length-map held_rules (rule_of words))

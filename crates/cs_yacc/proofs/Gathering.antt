@@ -157,9 +157,6 @@ pub record Gathers (table more all : List TokenName) : Type 0 where
   pub table_is : table ≡ distinct done
   pub all_is : done ++ more ≡ all
 
-pub Gathers-none : (all : List TokenName) → Gathers [] all all
-Gathers-none all = record { done = []; table_is = refl; all_is = refl }
-
 pub Gathers-more : (table more rest all ws : List TokenName) → Gathers table more all → more ≡ ws ++ rest → Gathers (insert_all same_spelling table ws) rest all
 Gathers-more table more rest all [] g e = record { done = g.done; table_is = g.table_is; all_is = ap (λ (x : List TokenName). g.done ++ x) (sym e) ∙ g.all_is }
 Gathers-more table more rest all (w ∷ ws) g e =

@@ -78,6 +78,3 @@ tokens_more p words k w old new ws all g lt is made =
     let here : filter p (spellings_of (drop k words)) ≡ filter p (spelling_of (get_or words k w) ∷ rest) = at_drop_more (λ xs. filter p (spellings_of xs)) words k w lt in
     let parted : filter p (spelling_of (get_or words k w) ∷ rest) ≡ ws ++ filter p rest = filter-append p (spelling_of (get_or words k w) ∷ []) rest ∙ ap (λ (x : List TokenName). x ++ filter p rest) (sym is) in
     rw made (Gathers-more old _ (filter p rest) all ws g (here ∙ parted))
-
-pub tokens_end : (p : TokenName → Bool) (words : List code.Spelling) (k : ℕ) (table all : List TokenName) → Gathers table (filter p (spellings_of (drop k words))) all → length words ≤ k → table ≡ distinct all
-tokens_end p words k table all g le = Gathers-ends table all (subst (λ (x : List TokenName). Gathers table x all) (at_drop_all (λ xs. filter p (spellings_of xs)) words k le) g)

@@ -7,7 +7,7 @@ use Rattle.cs_yacc_items.specs.Items.{Placed, items_of, BeginsUnknown, BeginsNei
 use Rattle.cs_yacc.specs.File.{File}
 use Rattle.cs_yacc_items.specs.Table.{IsTaken, IsStuck}
 use Rattle.cs_yacc.specs.Meaning.{outcome}
-use Rattle.cs_yacc.specs.Reading.{Gives, IsYaccFile, Refuses, Answers, IsStuckThere}
+use Rattle.cs_yacc.specs.Reading.{Gives, IsYaccFile, Refuses, IsStuckThere}
 use Rattle.cs_yacc_items.proofs.Begin.{open_not_unknown}
 use Rattle.cs_yacc_items.specs.Stops.{StopsThere}
 use Rattle.cs_yacc_items.proofs.Reading.{one_reading, one_stop, stopped_not_read}
@@ -97,8 +97,3 @@ not_both bytes file e (inr (inr r)) a = let g = one_given bytes (Ok file) (Err e
 pub refused_is_not_accepted : (bytes : List ℕ) (f : File) (e : YaccError) → Refuses e bytes → IsYaccFile bytes f → ⊥
 unfolding IsYaccFile
 refused_is_not_accepted bytes f e r a = not_both bytes f e (way bytes e r) a
-
--- an error that is answered refuses the bytes, but for want of memory
-pub refused_or_memory : (bytes : List ℕ) (e : YaccError) → Answers bytes (Err e) → (e ≡ Memory) ⊎ Refuses e bytes
-refused_or_memory bytes Memory a = inl refl
-refused_or_memory bytes e a = inr a

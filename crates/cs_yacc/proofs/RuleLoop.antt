@@ -96,9 +96,6 @@ module _ (words : List TokenName) (old new : List code.SpelledRule) (r : code.Sp
   pub rule_added : has_spelling (names_at words r.right.now) error_spelling ≡ false → new ≡ old ++ r ∷ [] → rules_in words new ≡ rules_in words old ++ filter is_kept here
   rule_added none made = ap (rules_in words) made ∙ (map_push (rule_of words) old r ∙ ap (λ (x : List SpelledRule). rules_in words old ++ x) (sym (kept_here none)))
 
-pub no_rule : (words : List TokenName) (old : List code.SpelledRule) (here : List SpelledRule) → here ≡ [] → rules_in words old ≡ rules_in words old ++ filter is_kept here
-no_rule words old here none = sym (append-nil (rules_in words old)) ∙ ap (λ (x : List SpelledRule). rules_in words old ++ filter is_kept x) (sym none)
-
 pub rule_left_out : (words : List TokenName) (old : List code.SpelledRule) (r : code.SpelledRule) (here : List SpelledRule) (right : List TokenName) → here ≡ record { left = spelling_of r.left; right = right } ∷ [] → names_at words r.right.now ≡ right
     → has_spelling (names_at words r.right.now) error_spelling ≡ true → rules_in words old ≡ rules_in words old ++ filter is_kept here
 rule_left_out words old r here right one same has = sym (append-nil (rules_in words old)) ∙ ap (λ (x : List SpelledRule). rules_in words old ++ x) (sym (left_out_here words old old r here right one same has))

@@ -54,9 +54,6 @@ at_word_put es v n w = lookup-insert_entry (λ x y. bytes_eq x.items y.items) (�
 -- ---- a table after one name more
 
 module _ {A : Type 0} (spelled : A → TokenName) (names : List TokenName) where
-  pub finds_none : (found : A → Option ℕ) → ((a : A) → found a ≡ None) → Finds spelled found 0 names
-  finds_none found empty = record { number = λ a t e. absurd (let f : found a ≡ None = empty a in cc); none = λ a e k lt. absurd (omega arith) }
-
   module _ (old new : A → Option ℕ) (k : ℕ) (name : TokenName) (at : slice_get names k ≡ Some name) (put : (a : A) → new a ≡ cond (same_spelling (spelled a) name) (Some (k + 1)) (old a)) (before : Finds spelled old k names) where
     number_step : (a : A) (t : ℕ) (b : Bool) → same_spelling (spelled a) name ≡ b → cond b (Some (k + 1)) (old a) ≡ Some t → (0 < t) × (slice_get names (t - 1) ≡ Some (spelled a))
     number_step a t true same e =

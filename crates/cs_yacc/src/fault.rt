@@ -14,7 +14,7 @@ use crate::spelling::{Spelling, Spellings, spelling_at};
 use cs_yacc_items::{Directive, Item, Placed};
 
 /// The items behind the first mark.
-pub fn behind_mark<'i, 'a>(items: &'i [Placed<'a>]) -> &'i [Placed<'a>]
+pub(crate) fn behind_mark<'i, 'a>(items: &'i [Placed<'a>]) -> &'i [Placed<'a>]
     ensures { placed_all result.now ≡ spec.behind_mark (placed_all items.now) }
 {
     for (index, placed) in items.iter().enumerate() {
@@ -32,7 +32,7 @@ fn is_start(item: Item<'_>) -> bool
 }
 
 /// The items behind the first `%start`.
-pub fn behind_start<'i, 'a>(items: &'i [Placed<'a>]) -> &'i [Placed<'a>]
+pub(crate) fn behind_start<'i, 'a>(items: &'i [Placed<'a>]) -> &'i [Placed<'a>]
     ensures { placed_all result.now ≡ spec.behind_start (placed_all items.now) }
 {
     for (index, placed) in items.iter().enumerate() {
@@ -44,7 +44,7 @@ pub fn behind_start<'i, 'a>(items: &'i [Placed<'a>]) -> &'i [Placed<'a>]
 }
 
 /// The item that stands first.
-pub fn first_item<'a>(items: &[Placed<'a>]) -> Option<Placed<'a>>
+pub(crate) fn first_item<'a>(items: &[Placed<'a>]) -> Option<Placed<'a>>
     ensures { placed_all (option_to_list result) ≡ take 1 (placed_all items.now) }
 {
     match items.split_first() {
@@ -54,7 +54,7 @@ pub fn first_item<'a>(items: &[Placed<'a>]) -> Option<Placed<'a>>
 }
 
 /// The offset of the first `%start`.
-pub fn first_start(items: &[Placed<'_>]) -> Option<u32>
+pub(crate) fn first_start(items: &[Placed<'_>]) -> Option<u32>
     ensures { result ≡ spec.first_start (placed_all items.now) }
 {
     for placed in items {
@@ -173,7 +173,7 @@ fn wrong_start(start: Option<Placed<'_>>, lefts: &Spellings<'_>) -> Option<u32>
 }
 
 /// The first fault that lies in names, but for a second `%start`; `spelled` are the spellings of all items.
-pub fn name_fault(
+pub(crate) fn name_fault(
     start: Option<Placed<'_>>,
     items: &[Placed<'_>],
     spelled: &Spellings<'_>,

@@ -14,7 +14,7 @@ use cs_yacc_items::{Directive, Item, Placed};
 use std::alloc::{AllocError, Global};
 
 /// The items behind the index.
-pub fn behind<'i, 'a>(items: &'i [Placed<'a>], index: usize) -> &'i [Placed<'a>]
+pub(crate) fn behind<'i, 'a>(items: &'i [Placed<'a>], index: usize) -> &'i [Placed<'a>]
     requires { index < length items.now }
     ensures { result.now ≡ drop (index + 1) items.now }
 {
@@ -22,7 +22,7 @@ pub fn behind<'i, 'a>(items: &'i [Placed<'a>], index: usize) -> &'i [Placed<'a>]
 }
 
 /// Whether a colon stands first.
-pub fn begins_with_colon(items: &[Placed<'_>]) -> bool
+pub(crate) fn begins_with_colon(items: &[Placed<'_>]) -> bool
     ensures { result ≡ spec.begins_with_colon (items_in items.now) }
 {
     match items.split_first() {
@@ -31,7 +31,7 @@ pub fn begins_with_colon(items: &[Placed<'_>]) -> bool
     }
 }
 
-pub fn left_at<'a>(item: Item<'a>, behind: &[Placed<'a>]) -> Option<Spelling<'a>>
+pub(crate) fn left_at<'a>(item: Item<'a>, behind: &[Placed<'a>]) -> Option<Spelling<'a>>
     ensures { spellings_in result ≡ spec.left_at (item_of item.entry) (items_in behind.now) }
 {
     match item {
@@ -41,7 +41,10 @@ pub fn left_at<'a>(item: Item<'a>, behind: &[Placed<'a>]) -> Option<Spelling<'a>
 }
 
 /// The left sides, each once.
-pub fn nonterminals<'a>(alloc: Global, items: &[Placed<'a>]) -> Result<Spellings<'a>, AllocError>
+pub(crate) fn nonterminals<'a>(
+    alloc: Global,
+    items: &[Placed<'a>],
+) -> Result<Spellings<'a>, AllocError>
     ensures { IfOk result (λ s. s ≡ spec.nonterminals (items_in items.now)) }
 {
     let mut spellings = Spellings::new(alloc);
@@ -82,7 +85,7 @@ fn declared_list<'i, 'a>(by: Item<'a>, rest: &'i [Placed<'a>]) -> &'i [Placed<'a
 }
 
 /// The declared tokens and `error`, each once.
-pub fn declared<'a>(alloc: Global, items: &[Placed<'a>]) -> Result<Spellings<'a>, AllocError>
+pub(crate) fn declared<'a>(alloc: Global, items: &[Placed<'a>]) -> Result<Spellings<'a>, AllocError>
     ensures { IfOk result (λ s. s ≡ spec.declared_tokens (items_in items.now)) }
 {
     let mut spellings = Spellings::new(alloc);
@@ -108,7 +111,7 @@ fn mark_all(marks: &mut Vec<bool>, places: &[u32])
 }
 
 /// Marks those of the spellings that stand in the rules' right sides.
-pub fn used(
+pub(crate) fn used(
     alloc: Global,
     words: &Spellings<'_>,
     rules: &[SpelledRule<'_, '_>],
@@ -136,7 +139,7 @@ fn in_use<'a>(spelling: Spelling<'a>, used: bool, lefts: &Spellings<'a>) -> Opti
 }
 
 /// The tokens in use among the spellings, in their order; those that are used are marked.
-pub fn tokens<'a>(
+pub(crate) fn tokens<'a>(
     alloc: Global,
     words: &Spellings<'a>,
     marks: &[bool],

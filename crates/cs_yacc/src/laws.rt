@@ -2,7 +2,7 @@
 
 ghost use Rattle.std.specs.Prelude.{◌≡◌, ◌≤◌, ◌⊎◌, ℕ, List, length};
 ghost use Rattle.cs_yacc.specs.declared.error.YaccError.{YaccError};
-ghost use Rattle.cs_yacc_items.specs.Limits.{most_bytes};
+ghost use Rattle.cs_bytes.specs.Limits.{most_bytes};
 ghost use Rattle.cs_yacc.specs.File.{File};
 ghost use Rattle.cs_yacc.specs.Reading.{IsYaccFile, Refuses, IsAccepted, IsRefused};
 

@@ -30,7 +30,7 @@ fn check_rights(parts: &Parts<'_, '_>) -> Result<(), YaccError>
 }
 
 /// The first limit that the parts pass.
-pub fn check_limits(parts: &Parts<'_, '_>) -> Result<(), YaccError>
+pub(crate) fn check_limits(parts: &Parts<'_, '_>) -> Result<(), YaccError>
     ensures { FindsFault result (spec.limit_passed (parts_in parts.now)) }
 {
     check_limit(

@@ -1,7 +1,7 @@
 // The items that have a meaning, and the spellings of all.
 
 ghost use Rattle.std.specs.Prelude.{◌≡◌, ◌≤◌, IfOk, length, option_map};
-ghost use Rattle.cs_yacc_items.specs.Limits.{most_bytes};
+ghost use Rattle.cs_bytes.specs.Limits.{most_bytes};
 ghost use Rattle.cs_yacc.specs.Meaning as spec;
 ghost use Rattle.cs_yacc.specs.Meaning.{distinct, spelled};
 ghost use Rattle.cs_yacc.specs.Places.{meant_in, HasPlaces};
@@ -44,14 +44,17 @@ fn has_meaning(before: Option<Item<'_>>, item: Item<'_>) -> bool
 
 /// The items that have a meaning, the spellings of all items, each once, and the place among these of each of those.
 #[derive(Drop)]
-pub struct Meant<'a> {
-    pub items: Vec<Placed<'a>>,
-    pub words: Spellings<'a>,
-    pub places: Vec<u32>,
+pub(crate) struct Meant<'a> {
+    pub(crate) items: Vec<Placed<'a>>,
+    pub(crate) words: Spellings<'a>,
+    pub(crate) places: Vec<u32>,
 }
 
 /// Leaves out the items that have no meaning: the idle ones, and those directly behind `%prec`.
-pub fn with_meaning<'a>(alloc: Global, items: Vec<Placed<'a>>) -> Result<Meant<'a>, AllocError>
+pub(crate) fn with_meaning<'a>(
+    alloc: Global,
+    items: Vec<Placed<'a>>,
+) -> Result<Meant<'a>, AllocError>
     requires { length items.items ≤ most_bytes }
     ensures items { IfOk result (λ m.
         meant_in m ≡ spec.with_meaning (placed_all items.entry.items)) }

@@ -13,7 +13,7 @@ use cs_grammar::{Rule, Symbol};
 use std::alloc::{AllocError, Global};
 
 /// The number of the start symbol: that of the item behind `%start`, or 1.
-pub fn start_number(file: &Accepted<'_, '_, '_>) -> u16
+pub(crate) fn start_number(file: &Accepted<'_, '_, '_>) -> u16
     ensures { result ≡ spec.start_in (parts_at file.now) }
 {
     let start = match file.parts.start {
@@ -75,7 +75,10 @@ fn left_number<'a>(
 }
 
 /// The rules by numbers.
-pub fn productions(alloc: Global, file: &Accepted<'_, '_, '_>) -> Result<Vec<Rule>, AllocError>
+pub(crate) fn productions(
+    alloc: Global,
+    file: &Accepted<'_, '_, '_>,
+) -> Result<Vec<Rule>, AllocError>
     ensures { IfOk result (λ v. v.items ≡ spec.productions (parts_at file.now)) }
 {
     let table = symbol_table(alloc, file)?;

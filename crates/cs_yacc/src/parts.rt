@@ -12,12 +12,12 @@ use cs_yacc_items::Placed;
 /// The spellings of all items, the tokens in use among them, the left sides, the item that names the start symbol, if one
 /// does, and the rules, whose bodies give places among the spellings.
 #[derive(Drop)]
-pub struct Parts<'p, 'a> {
-    pub words: &'p Spellings<'a>,
-    pub tokens: Spellings<'a>,
-    pub lefts: Spellings<'a>,
-    pub start: Option<Placed<'a>>,
-    pub rules: Vec<SpelledRule<'p, 'a>>,
+pub(crate) struct Parts<'p, 'a> {
+    pub(crate) words: &'p Spellings<'a>,
+    pub(crate) tokens: Spellings<'a>,
+    pub(crate) lefts: Spellings<'a>,
+    pub(crate) start: Option<Placed<'a>>,
+    pub(crate) rules: Vec<SpelledRule<'p, 'a>>,
     ghost few_tokens: { length tokens < 2 ^ 32 },
     ghost few_lefts: { length lefts < 2 ^ 32 },
     ghost few_rules: { length rules.items < 2 ^ 32 },

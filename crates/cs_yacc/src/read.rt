@@ -1,7 +1,7 @@
 // Reads a whole file.
 
 ghost use Rattle.std.specs.Prelude.{◌≡◌, ◌≤◌, IfOk, None, length, map};
-ghost use Rattle.cs_yacc_items.specs.Limits.{most_bytes};
+ghost use Rattle.cs_bytes.specs.Limits.{most_bytes};
 ghost use Rattle.cs_yacc_items.specs.Table.{IsTaken};
 ghost use Rattle.cs_yacc_items.specs.Views.{placed_all};
 ghost use Rattle.cs_yacc.specs.File.{IsFile};

@@ -15,9 +15,9 @@ use std::alloc::{AllocError, Global};
 
 /// A left side and one of its bodies, by the places of its spellings among those of all items.
 #[derive(Clone, Copy, Debug)]
-pub struct SpelledRule<'p, 'a> {
-    pub left: Spelling<'a>,
-    pub right: &'p [u32],
+pub(crate) struct SpelledRule<'p, 'a> {
+    pub(crate) left: Spelling<'a>,
+    pub(crate) right: &'p [u32],
 }
 
 /// Whether the body goes on with the item.
@@ -100,7 +100,7 @@ fn push_rule<'p, 'a>(
 
 /// The rules without those whose body holds `error`, in the file's order. The places are those of the items among the
 /// spellings.
-pub fn kept_rules<'p, 'a>(
+pub(crate) fn kept_rules<'p, 'a>(
     alloc: Global,
     words: &Spellings<'a>,
     items: &[Placed<'a>],

@@ -6,7 +6,7 @@ ghost use Rattle.cs_yacc.specs.Places.{place_in, IsPlace};
 ghost use Rattle.cs_yacc_items.specs.Views.{item_of};
 ghost use Rattle.cs_yacc.specs.SpellingView.{spelling_of, spellings_of, spellings_in, and_one, and_all};
 
-use cs_grammar::number_of;
+use cs_numbers::number_of;
 use cs_yacc_items::Item;
 use indexmap::IndexSet;
 use std::alloc::{AllocError, Global};
@@ -15,7 +15,7 @@ use std::marker::Model;
 
 /// A name or a byte between quotes, in the bytes of the file.
 #[derive(Clone, Copy, Debug, PartialEq, Eq)]
-pub enum Spelling<'a> {
+pub(crate) enum Spelling<'a> {
     Named(&'a [u8]),
     Quoted(u8),
 }
@@ -37,7 +37,7 @@ impl<'a> Hash for Spelling<'a> {
 }
 
 /// The spelling of the item, if it has one.
-pub fn spelling_at(item: Item<'_>) -> Option<Spelling<'_>>
+pub(crate) fn spelling_at(item: Item<'_>) -> Option<Spelling<'_>>
     ensures { spellings_in result ≡ spec.spelling_at (item_of item.entry) }
 {
     match item {
@@ -52,7 +52,7 @@ const NO_PLACE: u32 = u32::MAX;
 
 /// Spellings, each once, in the order in which they came. Contracts see them as a list of names.
 #[derive(Debug, Drop)]
-pub struct Spellings<'a> {
+pub(crate) struct Spellings<'a> {
     set: IndexSet<Spelling<'a>>,
 }
 

@@ -5,7 +5,7 @@ ghost use Rattle.cs_yacc.specs.File.{IsNamed, NoneNamed};
 ghost use Rattle.cs_yacc.specs.TokenNumbers.{FindsWords, FindsBytes, PutsWord, PutsByte};
 
 use crate::name::TokenName;
-use cs_grammar::number_of;
+use cs_numbers::number_of;
 use indexmap::IndexMap;
 use std::alloc::{AllocError, Global};
 use std::marker::Model;
@@ -18,7 +18,7 @@ type Literals = IndexMap<u8, u16>;
 
 /// The names of the tokens in the order of their numbers, which count from 1. The number of a name is looked up in a table.
 #[derive(Debug, Drop)]
-pub struct TokenNames {
+pub(crate) struct TokenNames {
     names: Vec<TokenName>,
     words: Words,
     literals: Literals,

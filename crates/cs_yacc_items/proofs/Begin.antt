@@ -19,17 +19,13 @@ use Rattle.cs_bytes.specs.Classes.{is_digit, begins_word}
 use Rattle.cs_yacc_items.specs.Bytes.{begins_name, is_name_byte, is_directive_byte, ends_tag}
 use Rattle.cs_yacc_items.specs.Directives.{directive_of}
 use Rattle.cs_yacc_items.specs.Items.{Item, mark, prologue, directive, unknown, name, literal, number, tag, block, colon, semicolon, bar, comma, Shows, IsName, IsDirectiveWord, IsNumber, IsPrologue, IsTag, Spells, BeginsItem, BeginsNoItem, BeginsNeither, BeginsUnknown, IsOpen, open_comment, open_prologue, open_block}
-use Rattle.cs_yacc_items.proofs.Front.{run_passes, shows_within, shows_cons, shows_run, class, class_is, byte_class, mark_no_word, prologue_no_word, mark_no_prologue, same_prologue, same_tag, nothing_unknown}
+use Rattle.cs_yacc_items.proofs.Front.{run_passes, shows_within, shows_cons, shows_run, class, class_is, mark_no_word, prologue_no_word, mark_no_prologue, same_prologue, same_tag, nothing_unknown}
 
 -- an item that no other one is longer than
 sole : (text : List ℕ) (i : Item) (n : ℕ) → n ≤ length text → Spells text n i → ((j : Item) (m : ℕ) → m ≤ length text → Spells text m j → m ≤ n) → BeginsItem text i n
 sole text i n le h longest = record { within = le; spelled = h; longest = longest }
 
 -- ---- signs
-
-comma_size : (text : List ℕ) (i : Item) (m : ℕ) → Spells text m i → class i ≡ 44 → m ≤ 1
-comma_size text comma m h e = omega (arith, h.1)
-comma_size text i m h e = absurd (omega arith)
 
 colon_size : (text : List ℕ) (i : Item) (m : ℕ) → Spells text m i → class i ≡ 58 → m ≤ 1
 colon_size text colon m h e = omega (arith, h.1)
@@ -42,10 +38,6 @@ semicolon_size text i m h e = absurd (omega arith)
 bar_size : (text : List ℕ) (i : Item) (m : ℕ) → Spells text m i → class i ≡ 124 → m ≤ 1
 bar_size text bar m h e = omega (arith, h.1)
 bar_size text i m h e = absurd (omega arith)
-
-pub begins_comma : (text : List ℕ) → 0 < length text → get_or text 0 0 ≡ 44 → BeginsItem text comma 1
-begins_comma [] lt e = absurd (omega arith)
-begins_comma (c ∷ text) lt e = rw e (sole (44 ∷ text) comma 1 (omega arith) (refl, refl) (λ j m le h. comma_size (44 ∷ text) j m h (class_is 44 text m j h)))
 
 pub begins_colon : (text : List ℕ) → 0 < length text → get_or text 0 0 ≡ 58 → BeginsItem text colon 1
 begins_colon [] lt e = absurd (omega arith)
@@ -60,13 +52,6 @@ begins_bar [] lt e = absurd (omega arith)
 begins_bar (c ∷ text) lt e = rw e (sole (124 ∷ text) bar 1 (omega arith) (refl, refl) (λ j m le h. bar_size (124 ∷ text) j m h (class_is 124 text m j h)))
 
 -- ---- nothing
-
--- which items begin with this kind of byte
-abbrev AreNone : ℕ → List ℕ → Type 0
-AreNone k text = (i : Item) (n : ℕ) → class i ≡ k → n ≤ length text → Spells text n i → ⊥
-
-none_begins : (c : ℕ) (text : List ℕ) → AreNone (byte_class c) (c ∷ text) → BeginsNoItem (c ∷ text)
-none_begins c text none i n known b = none i n (class_is c text n i b.spelled) b.within b.spelled
 
 -- a text that begins with another byte opens nothing
 closed_front : (c : ℕ) (text : List ℕ) → c ≢ 47 → c ≢ 37 → c ≢ 123 → ¬ IsOpen (c ∷ text)

@@ -6,7 +6,7 @@ use Rattle.cs_ctext.specs.Comments.{IsComment, OpensComment}
 use Rattle.cs_ctext.proofs.PartSizes.{opens-comment, opens-slash}
 use Rattle.cs_bytes.specs.Classes.{is_white_space, is_digit}
 use Rattle.cs_yacc_items.specs.Bytes.{begins_name}
-use Rattle.cs_yacc_items.specs.Items.{Item, mark, prologue, directive, unknown, name, literal, number, tag, block, colon, semicolon, bar, comma, IsNumber, Spells, BeginsItem, BeginsNoItem, IsGap, blank, comment, IsKnown, Placed, Follows, Reached, start, marks_behind, ReadsTo, ReadingEnds, at_mark, at_end, Reads, Stops, StopsAt}
+use Rattle.cs_yacc_items.specs.Items.{Item, mark, prologue, directive, unknown, name, literal, number, tag, block, colon, semicolon, bar, comma, IsNumber, Spells, BeginsItem, IsGap, blank, comment, Placed, Follows, Reached, start, marks_behind, ReadsTo, ReadingEnds, at_mark, at_end, Reads, Stops, StopsAt}
 use Rattle.cs_yacc_items.proofs.Gaps.{NoGap, same_gap}
 use Rattle.cs_yacc_items.proofs.Front.{spells_nothing, class, byte_class, class_is, same_size}
 
@@ -233,12 +233,6 @@ read_to_stop bytes items r at h lt s = record { from = r; read = h.read; more = 
 module _ (bytes : List ℕ) (from at : ℕ) (gap : IsGap (drop from bytes) (at - from)) (after : from ≤ at) (ends : NoGap (drop at bytes)) where
   pub end_is : at ≡ length bytes → (marks : ℕ) → marks < 2 → ReadingEnds bytes (record { at = from; marks = marks })
   end_is e marks lt = at_end lt (omega arith) (rw e at gap)
-
-  pub follows_is : (text : List ℕ) (i : Item) (n : ℕ) → text ≡ drop at bytes → BeginsItem text i n → IsKnown i → Follows bytes from (record { at = at; item = i }) (at + n)
-  follows_is text i n e b k = record { gap = (at - from, gap, omega arith); item = (n, subst (λ (t : List ℕ). BeginsItem t i n) e b, refl); known = k }
-
-  pub stops_is : (text : List ℕ) → at < length bytes → text ≡ drop at bytes → BeginsNoItem text → Stops bytes from at
-  stops_is text lt e none = record { gap = (at - from, gap, omega arith); left = lt; no_gap = ends; no_item = subst BeginsNoItem e none }
 
 -- ---- how many items
 few_to : (bytes : List ℕ) (r : Reached) (ps : List Placed) (to : Reached) → ReadsTo bytes r ps to → (r.at + length ps ≤ to.at) × (r.at ≤ length bytes → to.at ≤ length bytes)

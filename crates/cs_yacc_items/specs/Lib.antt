@@ -5,5 +5,4 @@ pub mod Table
 pub mod Views
 pub mod PlaceView
 pub mod Stops
-pub mod Limits
 pub mod Finds

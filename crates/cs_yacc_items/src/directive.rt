@@ -22,7 +22,7 @@ pub enum Directive {
 }
 
 /// The directive of the word, where one has it.
-pub fn directive_of(word: &[u8]) -> Option<Directive>
+pub(crate) fn directive_of(word: &[u8]) -> Option<Directive>
     ensures { result ≡ spec.directive_of word.now }
 {
     if same_bytes(word, b"token") {

@@ -42,7 +42,7 @@ fn gap_step(bytes: &[u8], at: usize) -> Option<usize>
 }
 
 /// The offset behind all blanks and closed comments that stand at the offset.
-pub fn skip_gap(bytes: &[u8], from: usize) -> usize
+pub(crate) fn skip_gap(bytes: &[u8], from: usize) -> usize
     requires { from ≤ length bytes.now }
     ensures gap { IsGap (drop from bytes.now) (result - from) }
     ensures within { (from ≤ result) × (result ≤ length bytes.now) }

@@ -40,7 +40,7 @@ pub struct Placed<'a> {
 
 /// What stands at the front of a text.
 #[derive(Clone, Copy, Debug)]
-pub enum Front<'a> {
+pub(crate) enum Front<'a> {
     /// An item of this size.
     Item(Item<'a>, usize),
     /// A comment, prologue or block that isn't closed.
@@ -191,7 +191,7 @@ fn begins_name(byte: u8) -> bool
 }
 
 /// What stands at the offset, where neither white space nor a closed comment stands there.
-pub fn front_at<'a>(text: &mut CText<'a>, at: usize) -> Front<'a>
+pub(crate) fn front_at<'a>(text: &mut CText<'a>, at: usize) -> Front<'a>
     requires some { at < length text.old }
     requires no_gap { (n : ℕ) → ¬ spec.IsGap (drop at text.old) (suc n) }
     ensures front { FindsFront (drop at text.old) result }

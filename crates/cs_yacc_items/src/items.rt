@@ -2,7 +2,7 @@
 
 ghost use Rattle.std.specs.Prelude.{◌≡◌, ◌≤◌, ◌<◌, ◌⊎◌, length};
 ghost use Rattle.cs_yacc_items.specs.Items as spec;
-ghost use Rattle.cs_yacc_items.specs.Limits.{most_bytes};
+ghost use Rattle.cs_bytes.specs.Limits.{most_bytes};
 ghost use Rattle.cs_yacc_items.specs.Finds.{IsNext};
 ghost use Rattle.cs_yacc_items.specs.Stops.{AnswersItems, IsRead, IsStopped};
 ghost use Rattle.cs_yacc_items.specs.Views.{item_of};

@@ -2,7 +2,7 @@
 
 ghost use Rattle.std.specs.Prelude.{◌≡◌, ℕ, List};
 ghost use Rattle.cs_yacc_items.specs.Items.{Placed, Reads, items_of};
-ghost use Rattle.cs_yacc_items.specs.Limits.{most_bytes};
+ghost use Rattle.cs_bytes.specs.Limits.{most_bytes};
 ghost use Rattle.cs_yacc_items.specs.Stops.{StopsThere};
 ghost use Rattle.cs_yacc_items.specs.Table.{IsTaken, IsStuck};
 

@@ -5,7 +5,7 @@
 //! byte. No item has a meaning yet.
 //!
 //! Meaning, in `specs/`: `Bytes`, `Directives` and `Items` (which bytes are read into which items), `Stops` (where reading
-//! stops, and why), `Table` (which items are taken), `Limits`, and `Views` and `PlaceView` (what the code's items and places
+//! stops, and why), `Table` (which items are taken), and `Views` and `PlaceView` (what the code's items and places
 //! are). `Finds` are working words of the proofs.
 #![tactic(auto)]
 
@@ -27,4 +27,4 @@ pub use laws::{
 pub use table::syntax_fault;
 
 /// The most bytes of a yacc file.
-pub const MOST_BYTES: usize = 1_048_576;
+pub const MOST_BYTES: usize = cs_bytes::MOST_BYTES;

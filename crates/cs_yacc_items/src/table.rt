@@ -11,7 +11,7 @@ use crate::item::{Item, Placed};
 
 /// A place in the list of items.
 #[derive(Clone, Copy, Debug)]
-pub enum Place {
+pub(crate) enum Place {
     Declarations,
     Start,
     Union,

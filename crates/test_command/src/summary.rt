@@ -1,5 +1,5 @@
-// The summaries of numbers, by `run`. The line of 1 was laid down with the command, and the lengths of files come from a
-// reckoning of the generator in Python.
+// The summaries of numbers, by `run`. The line of 1 is that of "The generated files" in docs/FORMATS.md, and the lengths of files
+// come from a reckoning of the generator in Python.
 
 use cs_fan::OpenGate;
 use cs_io::{Desk, DeskError, MemoryDesk, MemorySink};

@@ -10,17 +10,17 @@ use std::thread::Threads;
 
 /// A run: its status, its output and its error output.
 #[derive(Drop)]
-pub struct Ended {
-    pub status: u8,
-    pub out: MemorySink,
-    pub err: MemorySink,
+pub(crate) struct Ended {
+    pub(crate) status: u8,
+    pub(crate) out: MemorySink,
+    pub(crate) err: MemorySink,
 }
 
 /// The words of a suite of the first format.
-pub const FIRST: &[&str] = &["suite", "y", "l", "--format=1"];
+pub(crate) const FIRST: &[&str] = &["suite", "y", "l", "--format=1"];
 
 /// A run of these words, on the files `y` and `l`.
-pub fn suite<R: Threads + Sync>(
+pub(crate) fn suite<R: Threads + Sync>(
     rt: &R,
     alloc: Global,
     texts: &[&str],
@@ -36,7 +36,7 @@ pub fn suite<R: Threads + Sync>(
 }
 
 /// Whether the files are refused with this line, without output.
-pub fn is_refused<R: Threads + Sync>(
+pub(crate) fn is_refused<R: Threads + Sync>(
     rt: &R,
     alloc: Global,
     yacc: &[u8],
@@ -49,7 +49,7 @@ pub fn is_refused<R: Threads + Sync>(
 }
 
 /// Whether the files are accepted, and their suite of the first format ends so.
-pub fn is_written<R: Threads + Sync>(
+pub(crate) fn is_written<R: Threads + Sync>(
     rt: &R,
     alloc: Global,
     yacc: &[u8],

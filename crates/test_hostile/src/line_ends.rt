@@ -1,4 +1,5 @@
 // The three kinds of line ends. In both files a carriage return is a blank; a line of a lex file ends at a newline alone.
+// So all these files have one suite: that of the letter in `cs_samples`, which was written by hand.
 
 use crate::ending::{FIRST, suite};
 use cs_samples::{LETTER, LETTER_SCANNER, LETTER_SUITE_ONE};

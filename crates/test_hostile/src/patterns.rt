@@ -50,6 +50,7 @@ fn the_deepest_patterns(rt: HostRuntime) -> Result<(), Fail> {
     Ok(())
 }
 
+// By hand: `a` is the one leaf, and each star adds one to the depth.
 #[test]
 fn the_deepest_stars(rt: HostRuntime) -> Result<(), Fail> {
     let none = Definitions::new(rt.alloc()).check()?;

@@ -31,7 +31,7 @@ end goals 3 feasible 0 infeasible 2 large 1 negatives 2
 ";
 
 /// The negative of a base of one token that lacks it.
-pub const DELETED: Negative = Negative {
+pub(crate) const DELETED: Negative = Negative {
     edit: Edit::Delete(0),
     left: Mark::Begin,
     right: Mark::End,

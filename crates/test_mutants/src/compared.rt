@@ -17,7 +17,7 @@ use std::alloc::{AllocError, Global};
 /// How many lists have a text, of how many it was cut from the prepared list's, and how many were answered otherwise than they
 /// are rendered.
 #[derive(Clone, Copy, Debug)]
-pub struct Counts {
+pub(crate) struct Counts {
     texts: u32,
     cut: u32,
     wrong: u32,
@@ -36,7 +36,7 @@ impl Counts {
 }
 
 /// Whether the text is these parts, one behind another.
-pub fn is_joined(text: &[u8], front: &[u8], middle: &[u8], back: &[u8]) -> bool {
+pub(crate) fn is_joined(text: &[u8], front: &[u8], middle: &[u8], back: &[u8]) -> bool {
     let behind = front.len().saturating_add(middle.len());
     text.len() == behind.saturating_add(back.len())
         && text.starts_with(front)
@@ -62,7 +62,7 @@ fn is_same(answer: RenderedParts<'_>, rendered: &Rendered) -> bool {
 }
 
 /// Whether a list is short, and each of its numbers that of a token.
-pub fn is_short_list(numbers: &[u16], most: u16) -> bool
+pub(crate) fn is_short_list(numbers: &[u16], most: u16) -> bool
     ensures short { IsTrue result → length numbers.now ≤ 1000 }
     ensures tokens { IsTrue result → All (IsNumberOf most) numbers.now }
 {
@@ -135,7 +135,7 @@ fn compare_by(
 }
 
 /// Compares the answers of the lists near a list, by the rules of these files.
-pub fn compare_near(
+pub(crate) fn compare_near(
     alloc: Global,
     yacc: &[u8],
     lex: &[u8],

@@ -67,7 +67,11 @@ fn put_at(
 }
 
 /// The lists that the list becomes by taking out and putting in tokens at a place, at most two each.
-pub fn near_lists(alloc: Global, tokens: &[u16], most: u16) -> Result<Vec<Vec<u16>>, AllocError> {
+pub(crate) fn near_lists(
+    alloc: Global,
+    tokens: &[u16],
+    most: u16,
+) -> Result<Vec<Vec<u16>>, AllocError> {
     let between = short_lists(alloc, most)?;
     let mut lists = Vec::new(alloc);
     for place in 0..=tokens.len() {

@@ -26,7 +26,7 @@ fn answer_of<T: Drop, F: FnOnce(&YaccFile, &RenderWork<'_>, u16) -> Result<T, Tr
 
 /// What the call answers of a yacc file, of what lists are rendered with by it, a lex file and this separator, and of how many
 /// tokens there are. A call, since what it gets lends what is made here.
-pub fn with_work<T: Drop, F: FnOnce(&YaccFile, &RenderWork<'_>, u16) -> Result<T, Trouble>>(
+pub(crate) fn with_work<T: Drop, F: FnOnce(&YaccFile, &RenderWork<'_>, u16) -> Result<T, Trouble>>(
     alloc: Global,
     files: (&[u8], &[u8]),
     separator: &[u8],

@@ -9,7 +9,7 @@ use std::alloc::{AllocError, Global};
 use std::thread::Threads;
 
 /// Sums and their scanner, `g1.y` and `l1.l`, of whose reads these fail.
-pub fn desk(alloc: Global, failing: &[u32]) -> Result<MemoryDesk, AllocError> {
+pub(crate) fn desk(alloc: Global, failing: &[u32]) -> Result<MemoryDesk, AllocError> {
     let mut files = Vec::new(alloc);
     files.push((String::from_str(alloc, "g1.y")?, SUMS.to_vec(alloc)?))?;
     files.push((String::from_str(alloc, "l1.l")?, SCANNER.to_vec(alloc)?))?;
@@ -17,7 +17,7 @@ pub fn desk(alloc: Global, failing: &[u32]) -> Result<MemoryDesk, AllocError> {
 }
 
 /// Whether a run ends with this status and line, and these bytes of the output.
-pub fn ends<R: Threads + Sync>(
+pub(crate) fn ends<R: Threads + Sync>(
     rt: &R,
     alloc: Global,
     words: &[String],
@@ -32,7 +32,7 @@ pub fn ends<R: Threads + Sync>(
 }
 
 /// Whether the whole output is written where nothing fails and just that room is there.
-pub fn has_room<R: Threads + Sync>(
+pub(crate) fn has_room<R: Threads + Sync>(
     rt: &R,
     alloc: Global,
     words: &[String],
@@ -48,7 +48,7 @@ pub fn has_room<R: Threads + Sync>(
 }
 
 /// Whether a read that fails ends the run with this line; none does that isn't asked for.
-pub fn stops_at_read<R: Threads + Sync>(
+pub(crate) fn stops_at_read<R: Threads + Sync>(
     rt: &R,
     alloc: Global,
     words: &[String],
@@ -61,7 +61,7 @@ pub fn stops_at_read<R: Threads + Sync>(
 }
 
 /// The first room below the whole output with which a run ends otherwise than it has to.
-pub fn wrong_room<R: Threads + Sync>(
+pub(crate) fn wrong_room<R: Threads + Sync>(
     rt: &R,
     alloc: Global,
     words: &[String],
@@ -80,7 +80,7 @@ pub fn wrong_room<R: Threads + Sync>(
 
 /// The first place in the whole output at which, where the call of an output of this step fails that would write on there, a run
 /// ends otherwise than it has to.
-pub fn wrong_call<R: Threads + Sync>(
+pub(crate) fn wrong_call<R: Threads + Sync>(
     rt: &R,
     alloc: Global,
     words: &[String],

@@ -1,3 +1,5 @@
+// Goals of the sums and the cases that they share: the codes, and what is told of each, were worked by hand.
+
 ghost use Rattle.std.specs.Prelude.{◌<◌, ◌^◌, IfOk, IsTrue, length};
 ghost use Rattle.cs_goals.specs.Meets.{IsMeeting};
 
@@ -60,7 +62,7 @@ fn check(
     Ok(())
 }
 
-// Worked by hand: the rule goals of the sums, of which two have one code, and the third is met by an earlier case too.
+// The rule goals, of which two have one code, and the third is met by an earlier case too.
 const RULES: &[(u16, Told)] = &[
     (1, (&[1, 2, 3, 3], (1, 1, true))),
     (2, (&[2, 3], (2, 1, true))),

@@ -3,25 +3,25 @@
 use cs_grammar::{Mark, Symbol};
 use cs_positive::Verdict;
 
-pub const A: Symbol = Symbol::Nonterminal(2);
+pub(crate) const A: Symbol = Symbol::Nonterminal(2);
 
-pub const X: Symbol = Symbol::Token(1);
+pub(crate) const X: Symbol = Symbol::Token(1);
 
-pub const Y: Symbol = Symbol::Token(2);
+pub(crate) const Y: Symbol = Symbol::Token(2);
 
-pub const Z: Symbol = Symbol::Token(3);
+pub(crate) const Z: Symbol = Symbol::Token(3);
 
-pub const FIRST: Mark = Mark::Token(1);
+pub(crate) const FIRST: Mark = Mark::Token(1);
 
-pub const SECOND: Mark = Mark::Token(2);
+pub(crate) const SECOND: Mark = Mark::Token(2);
 
-pub const THIRD: Mark = Mark::Token(3);
+pub(crate) const THIRD: Mark = Mark::Token(3);
 
-pub const FOURTH: Mark = Mark::Token(4);
+pub(crate) const FOURTH: Mark = Mark::Token(4);
 
 /// What is to be told of a goal.
 #[derive(Clone, Copy)]
-pub enum Want {
+pub(crate) enum Want {
     Code(u32, &'static [u16]),
     OfSize(u32),
     Nowhere,
@@ -29,7 +29,7 @@ pub enum Want {
 }
 
 /// Whether a verdict is the wanted one.
-pub fn is_wanted(verdict: &Verdict, want: Want) -> bool {
+pub(crate) fn is_wanted(verdict: &Verdict, want: Want) -> bool {
     match (verdict, want) {
         (Verdict::Feasible { size, derivation }, Want::Code(least, code)) => {
             *size == least && derivation.rules() == code

@@ -1,7 +1,7 @@
 //! Files and what they mean, worked by hand from the grammar file of POSIX yacc.
 
 ghost use Rattle.std.specs.Prelude.{◌≤◌, length};
-ghost use Rattle.cs_yacc_items.specs.Limits.{most_bytes};
+ghost use Rattle.cs_bytes.specs.Limits.{most_bytes};
 
 use cs_grammar::{Grammar, Rule, Symbol};
 use cs_samples::{SUMS, repeated};

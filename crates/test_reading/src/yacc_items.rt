@@ -1,7 +1,7 @@
 //! Files and their items, worked by hand from the grammar file of POSIX yacc.
 
 ghost use Rattle.std.specs.Prelude.{◌≤◌, length};
-ghost use Rattle.cs_yacc_items.specs.Limits.{most_bytes};
+ghost use Rattle.cs_bytes.specs.Limits.{most_bytes};
 
 use cs_yacc_items::{Item, ItemsError, MOST_BYTES, Placed, read_items, syntax_fault};
 use std::alloc::Global;

@@ -7,7 +7,7 @@ use std::alloc::Global;
 use std::test::Fail;
 
 // The first rule after the text, or 0 where no rule matches it; None where none matches a text that begins with it.
-pub fn rule_after(automaton: &Automaton<'_>, text: &[u8]) -> Option<u16> {
+pub(crate) fn rule_after(automaton: &Automaton<'_>, text: &[u8]) -> Option<u16> {
     let mut state = automaton.start();
     for i in 0..text.len() {
         state = automaton.step(state, text[i])?;

@@ -1,4 +1,5 @@
-// Patterns as people write them, with and without definitions.
+// Patterns as people write them, with and without definitions: what is expected was worked by hand from POSIX lex and from
+// "Patterns of a lex file" in docs/FORMATS.md.
 
 ghost use Rattle.std.specs.Prelude.{◌+◌, ◌≤◌, IfOk};
 ghost use Rattle.cs_pattern_postfix.specs.Definitions.{total_bytes};

@@ -8,7 +8,7 @@ use cs_pattern::{Definitions, MOST_BYTES, Pattern, PatternError, read_pattern};
 use std::alloc::Global;
 
 // The pattern of a text without definitions.
-pub fn rule(alloc: Global, text: &str) -> Result<Pattern, PatternError>
+pub(crate) fn rule(alloc: Global, text: &str) -> Result<Pattern, PatternError>
     ensures scannable { IfOk result (λ pattern. IsScannable (regex pattern)) }
     ensures leaves { IfOk result (λ pattern. leaves (regex pattern) ≤ 8192) }
 {

@@ -4,7 +4,7 @@ use cs_pattern_items::ByteSet;
 use std::alloc::AllocError;
 
 /// Puts the runs of a set's members, in hexadecimal.
-pub fn show_set(out: &mut String, set: &ByteSet) -> Result<(), AllocError> {
+pub(crate) fn show_set(out: &mut String, set: &ByteSet) -> Result<(), AllocError> {
     let mut before = false;
     for byte in 0..=255 {
         let after = byte < 255 && set.contains(byte + 1);

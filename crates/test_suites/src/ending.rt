@@ -9,17 +9,17 @@ use std::thread::Threads;
 
 /// A run: its status, its output and its error output.
 #[derive(Drop)]
-pub struct Ended {
-    pub status: u8,
-    pub out: MemorySink,
-    pub err: MemorySink,
+pub(crate) struct Ended {
+    pub(crate) status: u8,
+    pub(crate) out: MemorySink,
+    pub(crate) err: MemorySink,
 }
 
 /// A yacc file and a lex file, each where there is one.
-pub type Files<'f> = (Option<&'f [u8]>, Option<&'f [u8]>);
+pub(crate) type Files<'f> = (Option<&'f [u8]>, Option<&'f [u8]>);
 
 /// A run of these options, whose output goes to this sink.
-pub fn suite<R: Threads + Sync>(
+pub(crate) fn suite<R: Threads + Sync>(
     rt: &R,
     alloc: Global,
     files: Files<'_>,
@@ -34,7 +34,7 @@ pub fn suite<R: Threads + Sync>(
 }
 
 /// The text that a run of these options writes, where it ends well and says nothing.
-pub fn written<R: Threads + Sync>(
+pub(crate) fn written<R: Threads + Sync>(
     rt: &R,
     alloc: Global,
     yacc: &[u8],

@@ -5,6 +5,7 @@ ghost use Rattle.std.specs.Prelude.{◌<◌, ◌≡◌, ◌≤◌, ◌↔◌, Al
 use cs_automaton::Automaton;
 use cs_lex::LexFile;
 use cs_lexeme::Lexemes;
+use cs_numbers::place_of;
 use cs_render::{Rendered, render};
 use cs_sample_files::{Trouble, lexemes_of, read_files};
 use cs_scan::Scanner;
@@ -36,7 +37,7 @@ fn put_lexemes(out: &mut String, yacc: &YaccFile, lexemes: &Lexemes) -> Result<(
     requires each { length lexemes.now ≡ yacc.now.grammar.tokens }
 {
     for token in 1..=yacc.grammar().tokens() {
-        if let Some(name) = yacc.token_names().get(token as usize - 1) {
+        if let Some(name) = yacc.token_names().get(place_of(token)) {
             put_lexeme(out, name, lexemes, token)?;
         }
     }
@@ -52,7 +53,7 @@ fn lexeme_lines(alloc: Global, yacc: &YaccFile, lex: &LexFile) -> Result<String,
 }
 
 /// A line for each token: its name, and its lexeme with escapes, or `none`.
-pub fn lexemes(alloc: Global, yacc: &[u8], lex: &[u8]) -> Result<String, Trouble> {
+pub(crate) fn lexemes(alloc: Global, yacc: &[u8], lex: &[u8]) -> Result<String, Trouble> {
     let (yacc, lex) = read_files(alloc, yacc, lex)?;
     lexeme_lines(alloc, &yacc, &lex)
 }
@@ -94,7 +95,7 @@ fn shown(alloc: Global, rendered: &Rendered) -> Result<String, AllocError> {
 }
 
 /// What comes of a list of tokens, as text.
-pub fn rendered(
+pub(crate) fn rendered(
     alloc: Global,
     yacc: &[u8],
     lex: &[u8],

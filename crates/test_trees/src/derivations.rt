@@ -84,6 +84,7 @@ fn what_fits(rt: HostRuntime) -> Result<(), Fail> {
     Ok(())
 }
 
+// By hand: behind no rule the one that is appended stands alone.
 #[test]
 fn a_rule_is_appended(rt: HostRuntime) -> Result<(), Fail> {
     let mut derivation = Derivation::new(rt.alloc());

@@ -6,7 +6,7 @@ use cs_grammar::{Derivation, Rule, Symbol};
 use std::alloc::{AllocError, Global};
 
 /// n1 : n2 ;  down to  n1024 : 'x' ;  in this order, or backwards.
-pub fn chain(alloc: Global, backwards: bool) -> Result<Vec<Rule>, AllocError> {
+pub(crate) fn chain(alloc: Global, backwards: bool) -> Result<Vec<Rule>, AllocError> {
     let mut rules = Vec::new(alloc);
     for place in 0..1024 {
         let number = if backwards { 1024 - place } else { place + 1 };
@@ -21,7 +21,7 @@ pub fn chain(alloc: Global, backwards: bool) -> Result<Vec<Rule>, AllocError> {
 }
 
 /// A list of rules.
-pub fn derivation_of(alloc: Global, code: &[u16]) -> Result<Derivation, AllocError>
+pub(crate) fn derivation_of(alloc: Global, code: &[u16]) -> Result<Derivation, AllocError>
     ensures { IfOk result (λ derivation. derivation ≡ code.now) }
 {
     let mut derivation = Derivation::new(alloc);

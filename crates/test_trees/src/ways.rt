@@ -1,3 +1,5 @@
+// Ways over steps: the costs, the sources and the first steps were found by hand.
+
 use cs_ways::{Reach, Source, Step, Steps, first_steps, least_ways};
 use std::alloc::{AllocError, Global};
 use std::test::Fail;
@@ -14,7 +16,7 @@ fn steps_of(alloc: Global, triples: &[(u16, u16, u32)]) -> Result<Vec<Step>, All
     Ok(list)
 }
 
-// Ways and costs found by hand.
+// Node 4 is a source too, node 5 is beyond the limit, and no way reaches node 6.
 #[test]
 fn least_ways_of_a_small_net(rt: HostRuntime) -> Result<(), Fail> {
     let alloc = rt.alloc();

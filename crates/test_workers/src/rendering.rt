@@ -2,7 +2,6 @@
 
 ghost use Rattle.std.specs.Prelude.{◌≡◌, ◌<◌, ◌≤◌, length, All};
 ghost use Rattle.cs_render.specs.Rendering.{AreTokens};
-ghost use Rattle.cs_scan.specs.Compared.{HasKinds, HasLiterals};
 
 use cs_automaton::Automaton;
 use cs_fan::{Counter, OpenGate, fan};
@@ -25,8 +24,6 @@ fn rendered<R: Threads + Sync>(
     work: &RenderWork<'_>,
     workers: u16,
 ) -> Result<Vec<Rendered>, AllocError>
-    requires kinds { HasKinds work.now.scanner.now }
-    requires literals { HasLiterals work.now.scanner.now }
     requires tokens { length work.now.lexemes.now ≡ 4 }
     requires some { 0 < workers }
     requires few { workers ≤ 64 }
@@ -58,8 +55,6 @@ fn check<R: Abort + Threads + Sync>(
     alloc: Global,
     work: &RenderWork<'_>,
 ) -> Result<(), AllocError>
-    requires kinds { HasKinds work.now.scanner.now }
-    requires literals { HasLiterals work.now.scanner.now }
     requires tokens { length work.now.lexemes.now ≡ 4 }
 {
     for workers in [2, 1, 3, 4, 5] {

@@ -4,11 +4,11 @@ use cs_fan::Gate;
 use std::sync::atomic::{AtomicBool, Ordering};
 
 /// Most turns for which a worker waits at a gate.
-pub const MOST_TURNS: u32 = 100_000_000;
+pub(crate) const MOST_TURNS: u32 = 100_000_000;
 
 /// A flag for each of two items.
 #[derive(Drop)]
-pub struct TwoFlags {
+pub(crate) struct TwoFlags {
     first: AtomicBool,
     second: AtomicBool,
     first_saw: AtomicBool,
@@ -16,6 +16,7 @@ pub struct TwoFlags {
 }
 
 impl TwoFlags {
+    /// Two flags that aren't raised.
     pub fn new() -> TwoFlags {
         TwoFlags {
             first: AtomicBool::new(false),

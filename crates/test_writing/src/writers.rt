@@ -98,7 +98,7 @@ fn no_room_for_rules(rt: HostRuntime) -> Result<(), Fail> {
 }
 
 /// The counts of the whole suite of the letter in the second format: those of the page's end line.
-pub fn letter_counts() -> Counts {
+pub(crate) fn letter_counts() -> Counts {
     Counts {
         goals: 5,
         feasible: 3,

@@ -1,11 +1,10 @@
-use Rattle.std.proofs.Common.{◌≡◌, ◌+◌, ◌∷◌, sym, ap, ◌∙◌, arith}
+use Rattle.std.proofs.Common.{◌+◌, ◌∷◌, sym, ap, ◌∙◌, arith}
 use Rattle.cs_grammar.specs.declared.symbol.Mark.{Mark}
 use Rattle.cs_grammar.specs.declared.symbol.Mark.TheVariants.{Token, End}
 use Rattle.cs_goals.specs.declared.goal.Goal.TheVariants.{Pair}
 use Rattle.cs_goals.specs.Rest.{pairs_left}
-use Rattle.cs_goals.proofs.Remaining.{left_mark, left_mark_first, left_mark_token, pairs_left_more, pairs_left_last, pairs_left_past}
+use Rattle.cs_goals.proofs.Remaining.{pairs_left_more, pairs_left_last, pairs_left_past}
 use Rattle.cs_goals.proofs.goals.next_pair.Goals as goal
-use Rattle.cs_goals.proofs.goals.next_pair.Goals.{then-given-eq0, else-given-eq0}
 
 pub returns-then-tokens-given-clause-goal : goal.returns-then-tokens-given-clause-goal
 returns-then-tokens-given-clause-goal c =
@@ -17,21 +16,13 @@ returns-then-given-tokens-clause-goal c =
     let tokens = c.args.grammar.now.tokens in
     let a = c.args.given.now.left in
     let b = c.args.given.now.right in
-    let left : left_mark a ≡ c.if-given-eq0.left = elim c.if-given-eq0.branch [
-      | then-given-eq0 w ↦ left_mark_first a w.if-given-eq0.true ∙ sym w.left-is
-      | else-given-eq0 w ↦ left_mark_token a w.if-given-eq0.false ∙ sym w.left-is
-    ] in
     pairs_left_more tokens a b (omega (arith, c.tokens-tokens.ensures)) (omega (arith, c.tokens-tokens.ensures))
-    ∙ ap (λ (m : Mark). Pair m (Token (b + 1)) ∷ pairs_left tokens a (b + 1)) left
+    ∙ ap (λ (m : Mark). Pair m (Token (b + 1)) ∷ pairs_left tokens a (b + 1)) (sym c.left_mark-left.ensures)
 
 pub returns-else-given-tokens-clause-goal : goal.returns-else-given-tokens-clause-goal
 returns-else-given-tokens-clause-goal c =
     let tokens = c.args.grammar.now.tokens in
     let a = c.args.given.now.left in
     let b = c.args.given.now.right in
-    let left : left_mark a ≡ c.if-given-eq0.left = elim c.if-given-eq0.branch [
-      | then-given-eq0 w ↦ left_mark_first a w.if-given-eq0.true ∙ sym w.left-is
-      | else-given-eq0 w ↦ left_mark_token a w.if-given-eq0.false ∙ sym w.left-is
-    ] in
     pairs_left_last tokens a b (omega (arith, c.tokens-tokens.ensures)) (omega (arith, c.tokens-tokens.ensures, c.requires))
-    ∙ ap (λ (m : Mark). Pair m End ∷ pairs_left tokens (a + 1) 0) left
+    ∙ ap (λ (m : Mark). Pair m End ∷ pairs_left tokens (a + 1) 0) (sym c.left_mark-left.ensures)

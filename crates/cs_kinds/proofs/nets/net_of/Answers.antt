@@ -1,13 +1,14 @@
 use Rattle.std.proofs.Common.{◌+◌, ap, ◌∙◌, subst, arith}
 use Rattle.cs_grammar.specs.Grammar.{PlainGrammar, IsGrammar}
+use Rattle.cs_grammar.specs.Weights.{Weighed}
 use Rattle.cs_kinds.proofs.RimLists.{rims_net}
 use Rattle.cs_kinds.proofs.nets.net_of.Goals as goal
 
 pub new-requires : goal.new-requires
 new-requires c =
-    let v = c.args.bases.now.costs.now in
+    let v = c.args.bases.now in
     let rims = c.in_ok-rims.rims in
-    let same = c.grammar-grammar.ensures in
+    let same = c.grammar-grammar.ensures ∙ ap (λ (u : Weighed). u.grammar) c.bases.view_is in
     let tokens = c.tokens.ensures ∙ ap (λ (m : PlainGrammar). m.tokens) same in
     let nonterminals = c.nonterminals.ensures ∙ ap (λ (m : PlainGrammar). m.nonterminals) same in
     rims_net v.weights v.grammar c.args.side (subst IsGrammar same c.rules-rules.ensures.well_formed) rims.places.items rims.steps.items c.in_ok-rims.ensures (c.tokens.result + c.nonterminals.result) (omega (arith, tokens, nonterminals))

@@ -1,9 +1,11 @@
-use Rattle.std.proofs.Common.{◌≡◌, ◌+◌, ◌-◌, ◌<◌, List, ◌∷◌, length, get_or, drop, sym, subst, arith}
-use Rattle.std.proofs.lemmas.List.{at_drop_all}
+use Rattle.std.proofs.Common.{◌≡◌, ◌+◌, ◌-◌, ◌<◌, List, ◌∷◌, length, get_or, drop, sym, ap, ◌∙◌, subst, arith}
+use Rattle.std.proofs.lemmas.List.{drop_all}
 use Rattle.cs_grammar.specs.declared.symbol.Symbol.{Symbol}
 use Rattle.cs_grammar.specs.declared.symbol.Symbol.TheVariants.{Token}
+use Rattle.cs_grammar.specs.Weights.{Weighed}
 use Rattle.cs_cost.specs.declared.cost.Cost.{Cost}
 use Rattle.cs_cost.specs.declared.cost.Cost.TheVariants.{Least}
+use Rattle.cs_cost.specs.Rank.{IsCapped, plus}
 use Rattle.cs_kinds.specs.declared.kind.TreeKind.TheVariants.{Empty, Ends}
 use Rattle.cs_kinds.specs.KindCost.{AreKindCost}
 use Rattle.cs_kinds.proofs.Placing.{left_from}
@@ -12,9 +14,9 @@ use Rattle.cs_kinds.proofs.rims.empty_sum.Goals as goal
 
 pub loop-place-init : goal.loop-place-init
 loop-place-init c =
-    let v = c.args.bases.now.costs.now in
+    let v = c.args.bases.now in
     let xs = c.args.symbols.now in
-    let none = at_drop_all (λ (l : List Symbol). l) xs (length xs) (omega arith) in
+    let none = drop_all (length xs) xs (omega arith) in
     record {
       cost = subst (λ (l : List Symbol). AreKindCost v Empty l (Least 0)) (sym none) (swept_none v.weights v.grammar Empty);
       capped = omega arith;
@@ -22,13 +24,14 @@ loop-place-init c =
 
 pub loop-place-preserved : goal.loop-place-preserved
 loop-place-preserved c =
-    let v = c.args.bases.now.costs.now in
+    let v = c.args.bases.now in
     let xs = c.args.symbols.now in
     let next : c.loop-place.place - 1 + 1 ≡ c.loop-place.place = omega (arith, c.loop-place-test.true) in
     let within : c.loop-place.place - 1 < length xs = omega (arith, c.loop-place-test.true) in
     let x = get_or xs (c.loop-place.place - 1) (Token 0) in
+    let same = c.joint_cost-sum.ensures.cost ∙ ap (λ (u : Weighed). plus u.weights.limit c.empty_cost.result c.loop-place.sum) c.bases.view_is in
     let sum = behind_cost v.weights v.grammar (Ends 0) x (drop c.loop-place.place xs) c.empty_cost.result c.loop-place.sum c.empty_cost.ensures c.loop-place.invariant.cost in
     record {
-      cost = subst (λ (l : List Symbol). AreKindCost v Empty l c.joint_cost-sum.result) (left_from xs _ _ (Token 0) next within) (subst (λ (k : Cost). AreKindCost v Empty (x ∷ drop c.loop-place.place xs) k) (sym c.joint_cost-sum.ensures.cost) sum);
-      capped = c.joint_cost-sum.ensures.capped;
+      cost = subst (λ (l : List Symbol). AreKindCost v Empty l c.joint_cost-sum.result) (left_from xs _ _ (Token 0) next within) (subst (λ (k : Cost). AreKindCost v Empty (x ∷ drop c.loop-place.place xs) k) (sym same) sum);
+      capped = subst (λ (u : Weighed). IsCapped u.weights.limit c.joint_cost-sum.result) c.bases.view_is c.joint_cost-sum.ensures.capped;
     }

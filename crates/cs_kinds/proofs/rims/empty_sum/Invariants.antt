@@ -6,6 +6,6 @@ use Rattle.cs_kinds.proofs.rims.empty_sum.Given as goal
 
 abbrev pub invariant-loop-place : goal.invariant-loop-place
 invariant-loop-place l = record {
-  cost : AreKindCost l.bases.costs.now Empty (drop l.place l.symbols) l.sum;
-  capped : IsCapped l.bases.costs.now.weights.limit l.sum;
+  cost : AreKindCost l.bases Empty (drop l.place l.symbols) l.sum;
+  capped : IsCapped l.bases.weights.limit l.sum;
 }

@@ -5,7 +5,7 @@ use Rattle.std.proofs.lemmas.Option.{slice_get-get_or}
 use Rattle.cs_grammar.specs.declared.symbol.Symbol.{Symbol}
 use Rattle.cs_grammar.specs.declared.symbol.Symbol.TheVariants.{Token}
 use Rattle.cs_grammar.specs.Grammar.{PlainGrammar, IsRule, IsSymbolOf}
-use Rattle.cs_grammar.specs.Weights.{Measure}
+use Rattle.cs_grammar.specs.Weights.{Measure, Weighed}
 use Rattle.cs_embed.proofs.Lists.{rest_is}
 use Rattle.cs_kinds.specs.declared.rims.Rims.{Rims}
 use Rattle.cs_kinds.specs.Numbers.{number_of}
@@ -36,21 +36,22 @@ symbol_number-from-requires-clause-symbol c =
 
 pub loop-place-preserved : goal.loop-place-preserved
 loop-place-preserved c =
-    let v = c.args.bases.now.costs.now in
+    let v = c.args.bases.now in
     let g = v.grammar in
     let q = c.args.number in
     let j = c.loop-place.place in
     let p = c.rule-rule.result.now in
     let items = c.right-right.result.now in
     let x = get_or items j (Token 0) in
-    let rule = subst (λ (m : PlainGrammar). IsRule m q p) c.grammar-grammar.ensures c.rule-rule.ensures.rule in
+    let same = c.grammar-grammar.ensures ∙ ap (λ (u : Weighed). u.grammar) c.bases.view_is in
+    let rule = subst (λ (m : PlainGrammar). IsRule m q p) same c.rule-rule.ensures.rule in
     let here = slice_get-get_or items j (Token 0) c.loop-place-test.true in
     let others = c.beside_cost-others.result in
-    let tokens = c.tokens.ensures ∙ ap (λ (m : PlainGrammar). m.tokens) c.grammar-grammar.ensures in
-    let step = subst (λ (m : Measure). IsStepCost m.limit others c.step_cost.result) c.weights.ensures.weights c.step_cost.ensures in
+    let tokens = c.tokens.ensures ∙ ap (λ (m : PlainGrammar). m.tokens) same in
+    let step = subst (λ (m : Measure). IsStepCost m.limit others c.step_cost.result) (c.weights.ensures.weights ∙ ap (λ (u : Weighed). u.weights) c.bases.view_is) c.step_cost.ensures in
     elim c.match-step_cost.branch [
       | in-Some+in_ok-push+in_ok-push-2 b ↦
-          let tokens' = b.tokens-in-Some.ensures ∙ ap (λ (m : PlainGrammar). m.tokens) c.grammar-grammar.ensures in
+          let tokens' = b.tokens-in-Some.ensures ∙ ap (λ (m : PlainGrammar). m.tokens) same in
           subst (λ (r : Rims). AreRimsTo v.weights g c.args.side q (j + 1) r.places.items r.steps.items) (sym b.rims-is)
           (rims_made v.weights g c.args.side q j p rule items c.right-right.ensures x here _ (rest_is items (j + 1)) others c.beside_cost-others.ensures.cost _ _ c.loop-place.invariant
           _ _ _ _ b.in_ok-push.ensures.items b.in_ok-push-2.ensures.items refl refl
@@ -65,8 +66,9 @@ loop-place-preserved c =
 
 pub returns : goal.returns
 returns c =
-    let v = c.args.bases.now.costs.now in
+    let v = c.args.bases.now in
     let p = c.rule-rule.result.now in
-    let rule = subst (λ (m : PlainGrammar). IsRule m c.args.number p) c.grammar-grammar.ensures c.rule-rule.ensures.rule in
+    let same = c.grammar-grammar.ensures ∙ ap (λ (u : Weighed). u.grammar) c.bases.view_is in
+    let rule = subst (λ (m : PlainGrammar). IsRule m c.args.number p) same c.rule-rule.ensures.rule in
     let all = subst (λ (s : List Symbol). length s ≤ c.loop-place.place) c.right-right.ensures c.loop-place-test.false in
     rims_next v.weights v.grammar c.args.side _ _ p _ _ rule all c.loop-place.invariant

@@ -2,4 +2,4 @@ use Rattle.cs_kinds.specs.Rims.{AreRimsTo}
 use Rattle.cs_kinds.proofs.rims.push_rims.Given as goal
 
 abbrev pub invariant-loop-place : goal.invariant-loop-place
-invariant-loop-place l = AreRimsTo l.bases.costs.now.weights l.bases.costs.now.grammar l.side l.number l.place l.rims.places.items l.rims.steps.items
+invariant-loop-place l = AreRimsTo l.bases.weights l.bases.grammar l.side l.number l.place l.rims.places.items l.rims.steps.items

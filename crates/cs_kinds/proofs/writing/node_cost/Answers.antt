@@ -1,19 +1,16 @@
-use Rattle.std.proofs.Common.{◌≡◌, ◌+◌, ◌-◌, ◌<◌, List, length, sym, subst, ◌∙◌, arith}
-use Rattle.std.proofs.lemmas.List.{at_drop_all}
+use Rattle.std.proofs.Common.{◌≡◌, ◌+◌, ◌-◌, ◌<◌, List, length, subst, ◌∙◌, arith}
 use Rattle.cs_grammar.specs.declared.symbol.Symbol.{Symbol}
 use Rattle.cs_grammar.specs.declared.symbol.Symbol.TheVariants.{Token}
 use Rattle.cs_kinds.specs.Sweep.{IsSwept}
 use Rattle.cs_kinds.proofs.Placing.{left_from}
+use Rattle.cs_kinds.proofs.Sweeping.{swept_behind}
 use Rattle.cs_kinds.proofs.writing.node_cost.Goals as goal
 
 pub loop-index-init : goal.loop-index-init
-loop-index-init c =
-    let xs = c.args.symbols.now in
-    let none = at_drop_all (λ (l : List Symbol). l) xs (length xs) (omega arith) in
-    record {
-      is_kind = c.new-sweep.ensures.kind;
-      swept = subst (λ (l : List Symbol). IsSwept c.args.kinds.now.weights c.args.kinds.now.grammar l c.new-sweep.result) (sym none) (c.new-sweep.ensures.swept c.args.kinds.now.weights c.args.kinds.now.grammar);
-    }
+loop-index-init c = record {
+  is_kind = c.new-sweep.ensures.kind;
+  swept = swept_behind c.args.kinds.now.weights c.args.kinds.now.grammar c.args.symbols.now _ (c.new-sweep.ensures.swept _ _);
+}
 
 pub loop-index-preserved : goal.loop-index-preserved
 loop-index-preserved c =

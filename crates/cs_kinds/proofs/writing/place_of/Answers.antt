@@ -1,22 +1,22 @@
-use Rattle.std.proofs.Common.{◌≡◌, ◌+◌, ◌-◌, ◌<◌, List, length, sym, subst, ◌∙◌, arith}
-use Rattle.std.proofs.lemmas.List.{at_drop_all}
+use Rattle.std.proofs.Common.{◌≡◌, ◌+◌, ◌-◌, ◌<◌, List, length, subst, ◌∙◌, arith}
+use Rattle.std.proofs.lemmas.List.{drop_all}
 use Rattle.cs_grammar.specs.declared.symbol.Symbol.{Symbol}
 use Rattle.cs_grammar.specs.declared.symbol.Symbol.TheVariants.{Token}
 use Rattle.cs_cost.proofs.Ranks.{cost_capped}
 use Rattle.cs_kinds.specs.Sweep.{IsSwept}
 use Rattle.cs_kinds.proofs.Placing.{left_from, not_at_most, place_none, place_taken, place_passed}
+use Rattle.cs_kinds.proofs.Sweeping.{swept_behind}
 use Rattle.cs_kinds.proofs.writing.place_of.Goals as goal
 use Rattle.cs_kinds.proofs.writing.place_of.Goals.{then-at_most, else-at_most}
 
 pub loop-index-init : goal.loop-index-init
 loop-index-init c =
     let xs = c.args.symbols.now in
-    let none = at_drop_all (λ (l : List Symbol). l) xs (length xs) (omega arith) in
     record {
       is_kind = c.new-sweep.ensures.kind;
       within = omega arith;
-      swept = subst (λ (l : List Symbol). IsSwept c.args.kinds.now.weights c.args.kinds.now.grammar l c.new-sweep.result) (sym none) (c.new-sweep.ensures.swept c.args.kinds.now.weights c.args.kinds.now.grammar);
-      placed = place_none c.args.kinds.now.weights c.args.kinds.now.grammar c.args.kind (length xs) (length xs) _ none;
+      swept = swept_behind c.args.kinds.now.weights c.args.kinds.now.grammar xs _ (c.new-sweep.ensures.swept _ _);
+      placed = place_none c.args.kinds.now.weights c.args.kinds.now.grammar c.args.kind (length xs) (length xs) _ (drop_all (length xs) xs (omega arith));
     }
 
 pub at_most-requires-clause-a : goal.at_most-requires-clause-a

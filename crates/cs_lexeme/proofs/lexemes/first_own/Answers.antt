@@ -1,11 +1,9 @@
-use Rattle.std.proofs.Common.{arith, rules, ◌≡◌, Some, None, ℕ, List, Option, subst}
+use Rattle.std.proofs.Common.{arith, rules, ◌≡◌, Some, ℕ, List, Option, subst}
 use Rattle.cs_pattern_tree.specs.declared.kind.Kind.{Kind}
 use Rattle.cs_automaton.specs.Machine.{StateOf}
-use Rattle.std.specs.Prelude.{slice_get, slice_index_or}
-use Rattle.std.proofs.lemmas.Option.{slice_get-get_or}
 use Rattle.cs_scan.specs.Compared.{scanning}
-use Rattle.cs_lexeme.specs.declared.search.Visit.{Visit}
 use Rattle.cs_lexeme.specs.Kinds.{own_byte, IsKindOf}
+use Rattle.cs_lexeme.proofs.Standing.{visit_at, is_visit}
 use Rattle.cs_lexeme.proofs.Winning.{reached, won_at, lost_at, lost_more}
 use Rattle.cs_lexeme.proofs.lexemes.first_own.Goals as goal
 
@@ -13,16 +11,14 @@ pub kind_at-requires-clause-reached : goal.kind_at-requires-clause-reached
 kind_at-requires-clause-reached c =
     let visits = c.args.visits.now in
     let at = c.loop-place.place in
-    let v : Visit = slice_index_or visits at (record { state = 0; origin = None }) in
-    let here : slice_get visits at ≡ Some v = slice_get-get_or visits at (record { state = 0; origin = None }) c.loop-place-test.true in
-    reached (scanning c.args.table.now.scanner) c.args.table.now.scanner.automaton.now visits c.requires.visits at v here
+    reached (scanning c.args.table.now.scanner) c.args.table.now.scanner.automaton.now visits c.requires.visits at (visit_at visits at) (is_visit visits at c.loop-place-test.true)
 
 pub loop-place-preserved : goal.loop-place-preserved
 loop-place-preserved c =
     let visits = c.args.visits.now in
     let at = c.loop-place.place in
-    let v : Visit = slice_index_or visits at (record { state = 0; origin = None }) in
-    let here : slice_get visits at ≡ Some v = slice_get-get_or visits at (record { state = 0; origin = None }) c.loop-place-test.true in
+    let v = visit_at visits at in
+    let here = is_visit visits at c.loop-place-test.true in
     let s = scanning c.args.table.now.scanner in
     let m = c.args.table.now.scanner.automaton.now in
     lost_more s m visits at own_byte c.loop-place.invariant (lost_at s m visits at v c.kind_at.result own_byte here c.kind_at.ensures (λ e. let f = c.if-is_own.ensures.1 e in search rules))
@@ -31,8 +27,8 @@ pub returns-then-is_own : goal.returns-then-is_own
 returns-then-is_own c =
     let visits = c.args.visits.now in
     let at = c.loop-place.place in
-    let v : Visit = slice_index_or visits at (record { state = 0; origin = None }) in
-    let here : slice_get visits at ≡ Some v = slice_get-get_or visits at (record { state = 0; origin = None }) c.loop-place-test.true in
+    let v = visit_at visits at in
+    let here = is_visit visits at c.loop-place-test.true in
     let s = scanning c.args.table.now.scanner in
     let m = c.args.table.now.scanner.automaton.now in
     let K : Option Kind → Type 0 = λ k. (x : List ℕ) → StateOf m v.state x → IsKindOf s x k in

@@ -1,11 +1,10 @@
-use Rattle.std.proofs.Common.{arith, ◌≡◌, Some, None, refl, ℕ, ◌+◌, List, Option, Vec, Global, ◌-◌, subst, sym, ◌∙◌, ap}
-use Rattle.std.specs.Prelude.{slice_get, slice_index_or, slice_set}
+use Rattle.std.proofs.Common.{arith, Some, refl, ℕ, ◌+◌, List, Option, Vec, Global, ◌-◌, subst, sym, ◌∙◌, ap}
+use Rattle.std.specs.Prelude.{slice_set}
 use Rattle.std.proofs.lemmas.List.{length-set}
-use Rattle.std.proofs.lemmas.Option.{slice_get-get_or}
 use Rattle.cs_scan.specs.Compared.{scanning}
-use Rattle.cs_lexeme.specs.declared.search.Visit.{Visit}
 use Rattle.cs_lexeme.specs.Kinds.{AreAllFound, IsOpen, NamesNoOpen}
 use Rattle.cs_lexeme.specs.Texts.{texts_of}
+use Rattle.cs_lexeme.proofs.Standing.{visit_at, is_visit}
 use Rattle.cs_lexeme.proofs.Winning.{reached, found_same, found_put, none_found}
 use Rattle.cs_lexeme.proofs.lexemes.put_named.Goals as goal
 use Rattle.cs_lexeme.proofs.lexemes.put_named.Goals.{in-Some+in_ok-text, in_default}
@@ -14,9 +13,7 @@ pub kind_at-kind-requires-clause-reached : goal.kind_at-kind-requires-clause-rea
 kind_at-kind-requires-clause-reached c =
     let visits = c.args.visits.now in
     let at = c.loop-place.place in
-    let v : Visit = slice_index_or visits at (record { state = 0; origin = None }) in
-    let here : slice_get visits at ≡ Some v = slice_get-get_or visits at (record { state = 0; origin = None }) c.loop-place-test.true in
-    reached (scanning c.args.table.now.scanner) c.args.table.now.scanner.automaton.now visits c.requires.visits at v here
+    reached (scanning c.args.table.now.scanner) c.args.table.now.scanner.automaton.now visits c.requires.visits at (visit_at visits at) (is_visit visits at c.loop-place-test.true)
 
 pub loop-place-init : goal.loop-place-init
 loop-place-init c = record {
@@ -28,8 +25,8 @@ pub loop-place-preserved : goal.loop-place-preserved
 loop-place-preserved c =
     let visits = c.args.visits.now in
     let at = c.loop-place.place in
-    let v : Visit = slice_index_or visits at (record { state = 0; origin = None }) in
-    let here : slice_get visits at ≡ Some v = slice_get-get_or visits at (record { state = 0; origin = None }) c.loop-place-test.true in
+    let v = visit_at visits at in
+    let here = is_visit visits at c.loop-place-test.true in
     let scanner = c.args.table.now.scanner in
     let s = scanning scanner in
     let m = scanner.automaton.now in

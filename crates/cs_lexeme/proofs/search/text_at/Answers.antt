@@ -1,7 +1,4 @@
-use Rattle.std.proofs.Common.{◌≡◌, Some, None}
-use Rattle.std.specs.Prelude.{slice_get, slice_index_or}
-use Rattle.std.proofs.lemmas.Option.{slice_get-get_or}
-use Rattle.cs_lexeme.specs.declared.search.Visit.{Visit}
+use Rattle.cs_lexeme.proofs.Standing.{visit_at, is_visit}
 use Rattle.cs_lexeme.proofs.Meeting.{text_next, text_done, mid_text}
 use Rattle.cs_lexeme.proofs.search.text_at.Goals as goal
 
@@ -12,8 +9,8 @@ pub origins-preserved : goal.origins-preserved
 origins-preserved c =
     let visits = c.args.visits.now in
     let at = c.origins.at in
-    let v : Visit = slice_index_or visits at (record { state = 0; origin = None }) in
-    let here : slice_get visits at ≡ Some v = slice_get-get_or visits at (record { state = 0; origin = None }) c.origins.invariant.within in
+    let v = visit_at visits at in
+    let here = is_visit visits at c.origins.invariant.within in
     rw c.in_ok-push.ensures.items
     (text_next visits c.args.place at c.origins.bytes.items v c.in-Some.origin here c.in-Some.is (c.requires.earlier at v c.in-Some.origin here c.in-Some.is) c.origins.invariant)
 
@@ -21,6 +18,6 @@ pub returns : goal.returns
 returns c =
     let visits = c.args.visits.now in
     let at = c.origins.at in
-    let v : Visit = slice_index_or visits at (record { state = 0; origin = None }) in
-    let here : slice_get visits at ≡ Some v = slice_get-get_or visits at (record { state = 0; origin = None }) c.origins.invariant.within in
+    let v = visit_at visits at in
+    let here = is_visit visits at c.origins.invariant.within in
     rw c.reverse.ensures.items (text_done visits c.args.place at c.origins.bytes.items v here c.in_default.is c.origins.invariant)

@@ -1,4 +1,4 @@
-use Rattle.std.proofs.Common.{◌≤◌, length, List}
+use Rattle.std.proofs.Common.{ℕ, ◌≤◌, length, List}
 use Rattle.cs_pattern_postfix.specs.Definitions.{Definition}
 use Rattle.cs_pattern.specs.Needed.{AreOf}
 use Rattle.cs_pattern.proofs.Knowing.{AreKnownFrom}
@@ -7,7 +7,7 @@ use Rattle.cs_pattern.proofs.needed.known.Given as goal
 abbrev pub invariant-loop-end : goal.invariant-loop-end
 invariant-loop-end l =
     (l.end ≤ length l.needed)
-    × ((ds : List Definition) → AreOf ds l.bodies l.order → AreKnownFrom ds l.needed l.known.entries l.end)
+    × ((ds : List Definition) (order : List ℕ) → AreOf ds l.bodies order → AreKnownFrom ds l.needed l.known.entries l.end)
 
 abbrev pub decreases-loop-end : goal.decreases-loop-end
 decreases-loop-end l = l.end

@@ -7,18 +7,22 @@ use Rattle.cs_splice.proofs.Settling.{dies_settled}
 use Rattle.cs_splice.proofs.step.look_over.Goals as goal
 use Rattle.cs_splice.proofs.step.look_over.Goals.{in-Some-first_rule, in_default-first_rule}
 
+one_more : (near far : List ℕ) (i byte : ℕ) → i < length near + length far → byte ≡ get_or (near ++ far) i 0 → (i < length (near ++ far)) × (take (i + 1) (near ++ far) ≡ take i (near ++ far) ++ byte ∷ [])
+one_more near far i byte lt is =
+    let text = near ++ far in
+    let within : i < length text = omega (arith, length-append near far, lt) in
+    (within, take_more text i 0 within ∙ ap (λ b. take i text ++ b ∷ []) (sym is))
+
 pub returns-in_default : goal.returns-in_default
 returns-in_default c =
     let text = c.args.near.now ++ c.args.far.now in
     let rs = patterns_of c.args.automaton.now in
     let i = c.loop-i.i in
-    let within : i < length text = omega (arith, length-append c.args.near.now c.args.far.now, c.loop-i-test.true) in
-    let more : take (i + 1) text ≡ take i text ++ get_or text i 0 ∷ [] = take_more text i 0 within in
-    let also : take (i + 1) text ≡ take i text ++ c.byte_at.result ∷ [] = more ∙ ap (λ b. take i text ++ b ∷ []) (sym c.byte_at.ensures) in
-    let stop : IsBegun rs (take (i + 1) text) → ⊥ = λ b. c.in_default.ensures.next (take i text) c.loop-i.invariant.stands (subst (λ t. IsBegun rs t) also b) in
+    let more = one_more c.args.near.now c.args.far.now i c.byte_at.result c.loop-i-test.true c.byte_at.ensures in
+    let stop : IsBegun rs (take (i + 1) text) → ⊥ = λ b. c.in_default.ensures.next (take i text) c.loop-i.invariant.stands (subst (λ t. IsBegun rs t) more.1 b) in
     record {
-      longest = best_stops rs text i c.loop-i.found (omega (arith, within)) c.loop-i.invariant.best stop;
-      settled = dies_settled rs text i c.loop-i.found within c.loop-i.invariant.best stop;
+      longest = best_stops rs text i c.loop-i.found (omega (arith, more.0)) c.loop-i.invariant.best stop;
+      settled = dies_settled rs text i c.loop-i.found more.0 c.loop-i.invariant.best stop;
     }
 
 pub loop-i-preserved : goal.loop-i-preserved
@@ -26,11 +30,9 @@ loop-i-preserved c =
     let text = c.args.near.now ++ c.args.far.now in
     let rs = patterns_of c.args.automaton.now in
     let i = c.loop-i.i in
-    let within : i < length text = omega (arith, length-append c.args.near.now c.args.far.now, c.loop-i-test.true) in
-    let more : take (i + 1) text ≡ take i text ++ get_or text i 0 ∷ [] = take_more text i 0 within in
-    let also : take (i + 1) text ≡ take i text ++ c.byte_at.result ∷ [] = more ∙ ap (λ b. take i text ++ b ∷ []) (sym c.byte_at.ensures) in
+    let more = one_more c.args.near.now c.args.far.now i c.byte_at.result c.loop-i-test.true c.byte_at.ensures in
     let P : List ℕ → Type 0 = λ t. StateOf c.args.automaton.now c.in-Some.next t in
-    let stands = subst P (sym also) (c.in-Some.ensures.next (take i text) c.loop-i.invariant.stands).1 in
+    let stands = subst P (sym more.1) (c.in-Some.ensures.next (take i text) c.loop-i.invariant.stands).1 in
     record {
       within = c.in-Some.ensures.within;
       stands = stands;

@@ -24,7 +24,7 @@ returns c =
     let m = match.matches in
     let known : m.index < length s.patterns = slice_get_within s.patterns m.index m.pattern m.at in
     let many : length s.patterns ≡ length scanner.automaton.now.patterns = length-map scanner.automaton.now.patterns regex in
-    let within : place < length scanner.kinds.now = omega (arith, c.place_of.ensures, m.number, known, many, c.requires.kinds) in
+    let within : place < length scanner.kinds.now = omega (arith, c.place_of.ensures, m.number, known, many, scanner.has_kinds) in
     let at : slice_get scanner.kinds.now (rule - 1) ≡ Some kind = subst (λ k. slice_get scanner.kinds.now k ≡ Some kind) c.place_of.ensures (slice_get-get_or scanner.kinds.now place (Token 0) within) in
     let first : get_or text 0 0 ≡ get_or c.args.near.now 0 0 = get_or_append_left c.args.near.now c.args.far.now 0 0 c.requires.some in
     step_made s text c.look_over-found.result rule size kind c.in_ok-given.given c.in_ok-rule.was c.look_over-found.ensures at (λ t same. c.in_ok-given.ensures t (same ∙ first))

@@ -9,11 +9,8 @@ use Rattle.cs_kinds.specs.RowsOf.{AreTablesOf}
 use Rattle.cs_kinds.specs.Tables.{AreCosts}
 use Rattle.cs_kinds.proofs.kinds.Kinds.new.Goals as goal
 
-pub net_of-requires : goal.net_of-requires
-net_of-requires c = subst (AreCosts c.args.costs.now.weights c.args.costs.now.grammar Empty) (sym c.costs.ensures) c.in_ok-empty.ensures
-
-pub net_of-requires-2 : goal.net_of-requires-2
-net_of-requires-2 c = subst (AreCosts c.args.costs.now.weights c.args.costs.now.grammar Empty) (sym c.costs.ensures) c.in_ok-empty.ensures
+pub invariant_of-bases : goal.invariant_of-bases
+invariant_of-bases c = subst (AreCosts c.args.costs.now.weights c.args.costs.now.grammar Empty) (sym c.costs.ensures) c.in_ok-empty.ensures
 
 pub kinds_of-requires-clause-rows : goal.kinds_of-requires-clause-rows
 kinds_of-requires-clause-rows c =

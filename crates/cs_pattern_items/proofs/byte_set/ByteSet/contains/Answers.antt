@@ -1,7 +1,7 @@
 -- The bit is the test by which the bytes are picked.
 use Rattle.std.proofs.Common.{◌∙◌, sym, ap, arith, ◌/◌, ◌%◌, get_or, nat_eq}
 use Rattle.std.proofs.lemmas.Nat.Bits.{shr_and_one}
-use Rattle.cs_pattern_items.specs.Bits.{is_in}
+use Rattle.cs_pattern_items.specs.Bits.{has_bit}
 use Rattle.cs_pattern_items.specs.Members.{has}
 use Rattle.cs_pattern_items.proofs.Picked.{has_picked}
 use Rattle.cs_pattern_items.proofs.byte_set.ByteSet.contains.Goals as goal
@@ -11,5 +11,5 @@ returns c =
     let words = c.self.inside.words in
     let byte = c.args.byte in
     ap (λ z. nat_eq z 1) (shr_and_one (get_or words (byte / 64) 0) (byte % 64))
-    ∙ sym (has_picked (is_in words) 256 byte (omega arith))
+    ∙ sym (has_picked (has_bit words) 256 byte (omega arith))
     ∙ ap (λ v. has v byte) c.self.view_is

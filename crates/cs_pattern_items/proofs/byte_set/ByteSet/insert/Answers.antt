@@ -1,6 +1,6 @@
 use Rattle.std.proofs.Common.{◌∙◌, sym, ap, arith}
 use Rattle.std.specs.Prelude.{◌==◌, ◌||◌}
-use Rattle.cs_pattern_items.specs.Bits.{is_in}
+use Rattle.cs_pattern_items.specs.Bits.{has_bit}
 use Rattle.cs_pattern_items.specs.Members.{has}
 use Rattle.cs_pattern_items.proofs.Picked.{has_picked, same_picked, bytes_where-set}
 use Rattle.cs_pattern_items.proofs.Bit.{set_bit}
@@ -12,7 +12,7 @@ returns c =
     let byte = c.args.byte in
     same_picked _ _ 256 (λ b lt.
     set_bit words byte b (omega arith)
-    ∙ ap (λ v. (b == byte) || v) (sym (has_picked (is_in words) 256 b lt) ∙ ap (λ s. has s b) c.self.view_is))
+    ∙ ap (λ v. (b == byte) || v) (sym (has_picked (has_bit words) 256 b lt) ∙ ap (λ s. has s b) c.self.view_is))
 
 pub invariant_of-self : goal.invariant_of-self
-invariant_of-self c = bytes_where-set (is_in _)
+invariant_of-self c = bytes_where-set (has_bit _)

@@ -1,12 +1,12 @@
 use Rattle.std.proofs.Common.{arith}
 use Rattle.std.proofs.lemmas.Bool.{le-leb}
-use Rattle.cs_pattern_items.specs.Bits.{is_in}
+use Rattle.cs_pattern_items.specs.Bits.{has_bit}
 use Rattle.cs_pattern_items.specs.Members.{has}
 use Rattle.cs_pattern_items.proofs.Picked.{picked_by_itself, range_none, range_more, range_all}
 use Rattle.cs_pattern_items.proofs.byte_set.ByteSet.insert_range.Goals as goal
 
 pub loop-index-init : goal.loop-index-init
-loop-index-init c = range_none c.args.first c.args.self.now (picked_by_itself (is_in c.self.inside.words) 256 _ c.self.view_is)
+loop-index-init c = range_none c.args.first c.args.self.now (picked_by_itself (has_bit c.self.inside.words) 256 _ c.self.view_is)
 
 pub loop-index-preserved : goal.loop-index-preserved
 loop-index-preserved c =

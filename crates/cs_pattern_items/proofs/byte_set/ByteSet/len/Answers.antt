@@ -1,5 +1,5 @@
 use Rattle.std.proofs.Common.{arith, ◌≡◌, ◌+◌, ◌∙◌, sym, ap, refl, length}
-use Rattle.cs_pattern_items.specs.Bits.{is_in}
+use Rattle.cs_pattern_items.specs.Bits.{has_bit}
 use Rattle.cs_pattern_items.specs.Members.{has, picked}
 use Rattle.cs_pattern_items.proofs.Picked.{picked_by_itself, length-picked, length-picked_in, length-picked_out}
 use Rattle.cs_pattern_items.proofs.byte_set.ByteSet.len.Goals as goal
@@ -22,4 +22,4 @@ loop-index-preserved c =
 pub returns-clause-count : goal.returns-clause-count
 returns-clause-count c =
     let end : c.loop-index.index ≡ 256 = omega arith in
-    c.loop-index.invariant ∙ ap (λ n. length (picked (has c.args.self.now) n)) end ∙ sym (ap length (picked_by_itself (is_in c.self.inside.words) 256 _ c.self.view_is))
+    c.loop-index.invariant ∙ ap (λ n. length (picked (has c.args.self.now) n)) end ∙ sym (ap length (picked_by_itself (has_bit c.self.inside.words) 256 _ c.self.view_is))

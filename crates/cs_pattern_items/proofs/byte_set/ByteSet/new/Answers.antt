@@ -1,6 +1,6 @@
 use Rattle.std.proofs.Common.{refl, ◌∷◌, []}
 use Rattle.cs_pattern_items.specs.Members.{picked}
-use Rattle.cs_pattern_items.specs.Bits.{is_in}
+use Rattle.cs_pattern_items.specs.Bits.{has_bit}
 use Rattle.cs_pattern_items.proofs.Picked.{bytes_where-set}
 use Rattle.cs_pattern_items.proofs.byte_set.ByteSet.new.Goals as goal
 
@@ -9,4 +9,4 @@ unfolding picked
 returns c = refl
 
 pub invariant_of-result : goal.invariant_of-result
-invariant_of-result c = bytes_where-set (is_in (0 ∷ 0 ∷ 0 ∷ 0 ∷ []))
+invariant_of-result c = bytes_where-set (has_bit (0 ∷ 0 ∷ 0 ∷ 0 ∷ []))

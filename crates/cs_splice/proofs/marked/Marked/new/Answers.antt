@@ -18,8 +18,6 @@ returns c =
     let M : Option (Vec Mark Global) → Type 0 = λ o. IfMarked s c.deref.result.now tokens o in
     let L : List ℕ → List Mark → Type 0 = λ text marks. AreAligned lexemes sep tokens text marks in (
       record {
-        kinds = c.requires.kinds;
-        literals = c.requires.literals;
         tokens = c.requires.tokens;
         rendered = subst R c.in-Text.is c.in_ok-text.ensures;
         marks = subst (λ t. AreAllMarks s t tokens c.in-Some.marks.items) c.deref.ensures.value (subst M c.in-Some.is c.in_ok-marks.ensures);

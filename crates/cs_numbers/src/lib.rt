@@ -1,8 +1,12 @@
-// Numbers, which count from 1, and places, which count from 0.
+//! Numbers, which count from 1, and places in lists, which count from 0.
+//!
+//! Tokens, nonterminals, rules and the places of right sides are numbered. The layers above go from one to the other by
+//! these calls alone. There are no `specs/`: the clauses say it all.
+#![tactic(auto)]
 
 ghost use Rattle.std.specs.Prelude.{◌≡◌, ◌+◌, ◌-◌, ◌<◌};
 
-/// The place in a list of what has this number. Tokens, nonterminals, rules and places of right sides are numbered from 1.
+/// The place in a list of what has this number.
 #[inline]
 pub fn place_of(number: u16) -> usize
     requires { 0 < number }
