@@ -23,7 +23,7 @@ MAIN = """\
 
 ghost use Rattle.std.specs.Prelude.{◌≡◌, length};
 
-use cs_automaton::Automaton;
+use cs_automaton::{Automaton, AutomatonError};
 use cs_io::{Desk, FolderDesk};
 use cs_lex::{LexFile, read_lex};
 use cs_lexeme::Lexemes;
@@ -66,6 +66,8 @@ fn sums(lexemes: &Lexemes, tokens: u16) -> (u64, u64)
 /// Makes the lexemes so many times, and says what is summed of them.
 fn make(rt: &HostRuntime, scanner: &Scanner<'_>, tokens: u16, times: usize) -> io::Result<()> {
     let alloc = rt.alloc();
+    let states = scanner.automaton.state_count();
+    println!(rt; "{tokens} {states}")?;
     for _ in 0..times {
         let lexemes = Lexemes::new(alloc, scanner, tokens)?;
         let (bytes, count) = sums(&lexemes, tokens);
@@ -75,20 +77,14 @@ fn make(rt: &HostRuntime, scanner: &Scanner<'_>, tokens: u16, times: usize) -> i
 }
 
 /// Makes the automaton, and the lexemes so many times.
-fn run(rt: &HostRuntime, yacc: &YaccFile, lex: &LexFile, times: usize) -> io::Result<()> {
-    let alloc = rt.alloc();
-    let Ok(automaton) = Automaton::new(alloc, lex.patterns()) else {
-        return Ok(());
-    };
-    let tokens = yacc.grammar().tokens();
-    let states = automaton.state_count();
-    println!(rt; "{tokens} {states}")?;
+fn run(rt: &HostRuntime, yacc: &YaccFile, lex: &LexFile, times: usize) -> Result<io::Result<()>, AutomatonError> {
+    let automaton = Automaton::new(rt.alloc(), lex.patterns())?;
     let scanner = Scanner {
         automaton: &automaton,
         kinds: lex.kinds(),
         literals: lex.literals(),
     };
-    make(rt, &scanner, tokens, times)
+    Ok(make(rt, &scanner, yacc.grammar().tokens(), times))
 }
 
 fn main(rt: HostRuntime) -> io::Result<()> {
@@ -110,7 +106,10 @@ fn main(rt: HostRuntime) -> io::Result<()> {
     let Some(lex) = lex_file(alloc, &more, &yacc) else {
         return Ok(());
     };
-    run(&rt, &yacc, &lex, words.len() - 3)
+    match run(&rt, &yacc, &lex, words.len() - 3) {
+        Ok(done) => done,
+        Err(_) => Ok(()),
+    }
 }
 """
 

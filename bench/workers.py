@@ -23,7 +23,7 @@ MAIN = """\
 ghost use Rattle.std.specs.Prelude.{◌≡◌, ◌<◌, ◌≤◌, All, IfOk, IfSome, length, replicate};
 ghost use Rattle.cs_render_work.specs.Renders.{TakesTokens};
 
-use cs_automaton::Automaton;
+use cs_automaton::{Automaton, AutomatonError};
 use cs_fan::{Counter, OpenGate, fan};
 use cs_lex::{LexFile, MOST_BYTES, read_lex};
 use cs_lexeme::Lexemes;
@@ -146,14 +146,12 @@ fn run<R: Threads + Sync>(
     rt: &HostRuntime,
     file: &LexFile,
     workers: u16,
-) -> io::Result<()>
+) -> Result<io::Result<()>, AutomatonError>
     requires some { 0 < workers }
     requires few { workers ≤ 4 }
 {
     let alloc = rt.alloc();
-    let Ok(automaton) = Automaton::new(alloc, file.patterns()) else {
-        return Ok(());
-    };
+    let automaton = Automaton::new(alloc, file.patterns())?;
     let scanner = Scanner {
         automaton: &automaton,
         kinds: file.kinds(),
@@ -165,7 +163,7 @@ fn run<R: Threads + Sync>(
         lexemes: &lexemes,
         separator: b" ",
     };
-    timed(threads, rt, &work, workers)
+    Ok(timed(threads, rt, &work, workers))
 }
 
 fn main(rt: HostRuntime) -> io::Result<()> {
@@ -177,7 +175,10 @@ fn main(rt: HostRuntime) -> io::Result<()> {
     let (Some(file), Some(workers)) = (file(alloc), workers(words[1].as_str())) else {
         return Ok(());
     };
-    run(&rt, &rt, &file, workers)
+    match run(&rt, &rt, &file, workers) {
+        Ok(done) => done,
+        Err(_) => Ok(()),
+    }
 }
 """
 
