@@ -1,6 +1,6 @@
 -- Tokens that are offered to bases: which are free, and what one more entry makes of the bases of entries.
 use Rattle.std.proofs.Common.{◌≡◌, ◌↔◌, ℕ, ◌+◌, ◌<◌, ◌||◌, Bool, true, false, cond, List, [], ◌∷◌, ◌++◌, length, map, take, filter, refl, sym, ap, ◌∙◌, inl, inr, arith}
-use Rattle.std.specs.Prelude.{Any, Option, Some, is_some, IsTrue, if◌then◌else◌}
+use Rattle.std.specs.Prelude.{Any, Option, Some, is_some, IsTrue}
 use Rattle.std.specs.Global.{Vec}
 use Rattle.std.specs.List.{enumerate_from}
 use Rattle.std.specs.Map.{lookup}

@@ -12,7 +12,7 @@ use Rattle.cs_goals.specs.Meets.{IsMeeting}
 use Rattle.cs_cases.specs.declared.cases.Named.{Named}
 use Rattle.cs_cases.specs.Cases.{PlainCases, IsLowest, IsNew, IsCaseOf, with_case}
 use Rattle.cs_cases.specs.Laws.{IsOnePlacing}
-use Rattle.cs_cases.specs.Table.{Tells, AreAllAdded, IsOwn}
+use Rattle.cs_cases.specs.Table.{AreFirstCases, AreAllAdded, IsOwn}
 
 -- ---- a list with one more at its end
 
@@ -73,7 +73,7 @@ module _ (IsOne : List ℕ → Type 0) (codes : List (List ℕ)) where
 -- ---- what is known of goals
 
 pub tells_more : (g : PlainGrammar) (codes : List (List ℕ)) (firsts after : List (Goal × ℕ)) (code : List ℕ) (goals : List Goal) (n : ℕ) → n ≡ length codes + 1
-    → Tells g codes firsts → HasExactly goals (λ goal. IsMeeting g goal code) → AreAllAdded firsts goals n after → Tells g (codes ++ code ∷ []) after
+    → AreFirstCases g codes firsts → HasExactly goals (λ goal. IsMeeting g goal code) → AreAllAdded firsts goals n after → AreFirstCases g (codes ++ code ∷ []) after
 tells_more g codes firsts after code goals n last tells met added = record {
   lowest = λ goal m h.
       ⊎_elim (λ old. lowest_more (IsMeeting g goal) codes code m (tells.lowest goal m old))

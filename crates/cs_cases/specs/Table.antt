@@ -17,7 +17,7 @@ abbrev pub HasNone : List (Goal × ℕ) → Goal → Type 0
 HasNone firsts goal = (n : ℕ) → Contains firsts (goal, n) → ⊥
 
 -- the numbers are those of the first cases, and each goal that a case meets has one
-pub record Tells (g : PlainGrammar) (codes : List (List ℕ)) (firsts : List (Goal × ℕ)) : Type 0 where
+pub record AreFirstCases (g : PlainGrammar) (codes : List (List ℕ)) (firsts : List (Goal × ℕ)) : Type 0 where
   pub lowest : (goal : Goal) → (n : ℕ) → Contains firsts (goal, n) → IsLowest (IsMeeting g goal) codes n
   pub every : (k : ℕ) → (code : List ℕ) → (goal : Goal) → slice_get codes k ≡ Some code → IsMeeting g goal code → HasNumber firsts goal
 

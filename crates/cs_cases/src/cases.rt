@@ -34,13 +34,13 @@ pub struct Cases<'g> {
 
 impl<'g> Model for Cases<'g> {
     ghost use Rattle.cs_cases.specs.Cases.{PlainCases};
-    ghost use Rattle.cs_cases.specs.Table.{codes_in, Tells};
+    ghost use Rattle.cs_cases.specs.Table.{codes_in, AreFirstCases};
 
     ghost Value = { PlainCases };
 
     ghost view = { λ c. record { grammar = c.grammar.now; codes = codes_in c.codes.keys } };
 
-    ghost invariant = { λ c. Tells c.grammar.now (codes_in c.codes.keys) c.firsts };
+    ghost invariant = { λ c. AreFirstCases c.grammar.now (codes_in c.codes.keys) c.firsts };
 }
 
 impl<'g> Cases<'g> {

@@ -61,7 +61,7 @@ fn hash_number(key: Key) -> u64
             place,
             inner,
         } => joined(joined(outer as u64, place), inner),
-        Key::Pair { left, right } => joined(number_of(left) as u64, number_of(right)),
+        Key::Pair { left, right } => joined(mark_number(left) as u64, mark_number(right)),
     }
 }
 
@@ -72,7 +72,7 @@ fn joined(number: u64, next: u16) -> u64
     number * 65_536 + next as u64
 }
 
-fn number_of(mark: MarkKey) -> u16
+fn mark_number(mark: MarkKey) -> u16
     ensures { result ≡ mark_number mark }
 {
     match mark {

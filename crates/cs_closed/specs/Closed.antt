@@ -5,10 +5,9 @@ use Rattle.std.specs.List.{AllZip, range_with_len}
 use Rattle.cs_grammar.specs.declared.symbol.Mark.{Mark}
 use Rattle.cs_grammar.specs.declared.symbol.Mark.TheVariants.{Begin, Token}
 use Rattle.cs_grammar.specs.declared.symbol.Symbol.TheVariants.{Nonterminal}
-use Rattle.cs_grammar.specs.Context.{IsContext}
 use Rattle.cs_grammar.specs.Grammar.{PlainGrammar}
-use Rattle.cs_grammar.specs.Laws.{AtLeastOne}
-use Rattle.cs_grammar.specs.Tree.{IsTree}
+use Rattle.cs_cost.specs.Chosen as chosen
+pub use Rattle.cs_embed.specs.Around.{HasContext}
 use Rattle.cs_goals.specs.Goals.{right_marks}
 use Rattle.cs_pairs.specs.Closed.{IsFirstOf, IsLastOf, YieldsNothing}
 use Rattle.cs_pairs.specs.Pairs.{IsAdjacent}
@@ -25,11 +24,7 @@ pub record ClosedSets : Type 0 where
 
 -- the nonterminal has a tree
 abbrev pub HasTree : PlainGrammar → ℕ → Type 0
-HasTree g n = AtLeastOne (IsTree g (Nonterminal n))
-
--- it has a context
-abbrev pub HasContext : PlainGrammar → ℕ → Type 0
-HasContext g n = AtLeastOne (IsContext g (Nonterminal n))
+HasTree g n = chosen.HasTree g (Nonterminal n)
 
 -- those of a list that are so, in order
 abbrev pub AreThose : {A : Type 0} → (A → Type 0) → List A → List A → Type 0

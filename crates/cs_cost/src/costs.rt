@@ -3,10 +3,11 @@
 ghost use Rattle.std.specs.Prelude.{◌≡◌, IfOk, OnOk, OnErr, All, length};
 ghost use Rattle.cs_grammar.specs.Grammar.{IsSymbolOf};
 ghost use Rattle.cs_grammar.specs.Weights.{Weighs, weighed};
+ghost use Rattle.cs_cost.specs.Rank.{IsCapped, cost_of, plus};
 ghost use Rattle.cs_cost.specs.Chosen.{WritesChosen, WritesAllChosen};
 ghost use Rattle.cs_cost.specs.Trees.{IsTreeCost, AreTreesCost, HasLeast, HaveSmall};
 
-use crate::cost::Cost;
+use crate::cost::{Cost, cost_of, plus};
 use crate::sums::{cost_in, sum_from};
 use crate::trees::{Trees, trees_of};
 use crate::writing::{are_tokens, write};
@@ -78,6 +79,24 @@ impl<'g> Costs<'g> {
         let trees = &self.trees;
         let _rules = trees.grammar.rules();
         sum_from(trees.weights, &trees.table, Cost::Least(0), symbols)
+    }
+
+    /// Costs together, by the limit of the weights.
+    pub fn plus(&self, a: Cost, b: Cost) -> Cost
+        requires a { IsCapped self.now.weights.limit a }
+        requires b { IsCapped self.now.weights.limit b }
+        ensures cost { result ≡ plus self.now.weights.limit a b }
+        ensures capped { IsCapped self.now.weights.limit result }
+    {
+        plus(a, b, self.trees.weights.limit())
+    }
+
+    /// What a node alone costs.
+    pub fn node(&self) -> Cost
+        ensures cost { result ≡ cost_of self.now.weights.limit 1 }
+        ensures capped { IsCapped self.now.weights.limit result }
+    {
+        cost_of(1, self.trees.weights.limit())
     }
 
     /// Appends the code of the chosen tree of a symbol, whose cost is a size. After a refusal `into` is unchanged.

@@ -2,7 +2,8 @@
 //!
 //! The layers above make `Costs` of a `Grammar` and `Weights`, ask it by `cost` what the least tree of a symbol costs and by
 //! `sum` what those of some symbols cost together, and write the codes of chosen trees by `least_into` and `all_into`. They
-//! reckon with costs by `cost_of`, `plus` and `is_below`. The laws are functions that do nothing.
+//! reckon with costs by its `plus` and `node`, or under any limit by `cost_of`, `plus` and `is_below`. The laws are functions
+//! that do nothing.
 //!
 //! Of the files of `specs/`, these say what is meant: `Least` (least sizes, and what a cost tells), `Chosen`, and of `Trees`
 //! `IsTreeCost`, `AreTreesCost`, `HasLeast` and `HaveSmall` (what least trees cost, and which are within the limit). `Rank` and

@@ -3,11 +3,11 @@
 
 ghost use Rattle.std.specs.Prelude.{◌≡◌, ◌+◌, ◌<◌, ◌≤◌, IfOk, OnOk, length, All};
 ghost use Rattle.cs_grammar.specs.Grammar.{IsNumberOf, IsSymbolOf};
-ghost use Rattle.cs_cost.specs.Rank.{IsCapped, cost_of, plus};
+ghost use Rattle.cs_cost.specs.Rank.{IsCapped};
 ghost use Rattle.cs_embed.specs.Ways.{inward_beside, siblings_cost};
 ghost use Rattle.cs_embed.specs.Kept.{AreRestCosts, AreInwardsBefore, AreInwardsOf};
 
-use cs_cost::{Cost, Costs, cost_of, plus};
+use cs_cost::{Cost, Costs};
 use cs_grammar::Symbol;
 use cs_numbers::number_of;
 use cs_ways::Step;
@@ -30,16 +30,6 @@ pub(crate) struct Inwards {
     pub(crate) steps: Vec<Step>,
 }
 
-// Costs together, by the limit of the weights.
-fn joint_cost(costs: &Costs, a: Cost, b: Cost) -> Cost
-    requires a { IsCapped costs.now.weights.limit a }
-    requires b { IsCapped costs.now.weights.limit b }
-    ensures cost { result ≡ plus costs.now.weights.limit a b }
-    ensures capped { IsCapped costs.now.weights.limit result }
-{
-    plus(a, b, costs.weights().limit())
-}
-
 // Puts into a list what the least trees of the symbols from each place of another on cost together.
 fn put_rest_costs(costs: &Costs, symbols: &[Symbol], rest: &mut Vec<Cost>) -> Result<(), AllocError>
     requires short { length symbols.now ≤ 128 }
@@ -49,7 +39,7 @@ fn put_rest_costs(costs: &Costs, symbols: &[Symbol], rest: &mut Vec<Cost>) -> Re
     rest.clear();
     rest.resize(symbols.len() + 1, Cost::Least(0))?;
     for place in (0..symbols.len()).rev() {
-        rest[place] = joint_cost(costs, costs.cost(symbols[place]), rest[place + 1]);
+        rest[place] = costs.plus(costs.cost(symbols[place]), rest[place + 1]);
     }
     Ok(())
 }
@@ -61,8 +51,7 @@ fn siblings_cost(costs: &Costs, before: Cost, behind: Cost) -> Cost
     ensures cost { result ≡ siblings_cost costs.now.weights.limit before behind }
     ensures capped { IsCapped costs.now.weights.limit result }
 {
-    let node = cost_of(1, costs.weights().limit());
-    joint_cost(costs, node, joint_cost(costs, before, behind))
+    costs.plus(costs.node(), costs.plus(before, behind))
 }
 
 // The step from a left side to a symbol, if that is a nonterminal, and if there are trees beside it, of which the least before
@@ -107,7 +96,7 @@ fn push_inwards(
     let mut before = Cost::Least(0);
     for (place, symbol) in right.iter().enumerate() {
         let found = inward(costs, rule.left(), *symbol, before, rest[place + 1]);
-        before = joint_cost(costs, before, costs.cost(*symbol));
+        before = costs.plus(before, costs.cost(*symbol));
         if let Some(step) = found {
             inwards.places.push(RulePlace {
                 rule: number,

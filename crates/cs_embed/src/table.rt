@@ -19,7 +19,8 @@ pub(crate) struct Tables {
     pub(crate) firsts: Vec<Option<usize>>,
 }
 
-pub(crate) fn cost_of(reach: Reach) -> Cost
+/// What is told of a node, as a cost.
+pub fn told_cost(reach: Reach) -> Cost
     ensures { result ≡ told_cost reach }
 {
     match reach {

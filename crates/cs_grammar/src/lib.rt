@@ -1,12 +1,13 @@
 //! Context-free grammars: symbols, rules, grammars within their limits, derivations and what they yield.
 //!
 //! The layers above build a `Grammar` (which is well formed from then on) and read it by `rules`, `rule` and the counts;
-//! write the code of a tree into a `Derivation`, and get the tokens of a derivation by `expand` or `yield_of`. Trees are
-//! measured by `Weights`. Numbers count from 1 and places from 0: see `cs_numbers`.
+//! write the code of a tree into a `Derivation`, and get the tokens of a derivation by `expand` or `yield_of`. Symbols that
+//! they still have to take on they keep on a stack, by `put_on_top`. Trees are measured by `Weights`. Numbers count from 1
+//! and places from 0: see `cs_numbers`.
 //!
 //! Of the files of `specs/`, these say what is meant: `Grammar`, `Tree`, `Weights`, `Context`, `Places`, `Uses`,
-//! `Sentence`, `Leftmost`, `Fault`; `Laws` has the two halves of "exactly one". `Stack`, `Walk` and `Entries` have
-//! working words of proofs. The lemmas on trees, contexts and tables that the layers above share stand in `proofs/`.
+//! `Sentence`, `Leftmost`, `Fault`, `Stack`; `Laws` has the two halves of "exactly one". `Walk` and `Entries` have working
+//! words of proofs. The lemmas on trees, contexts and tables that the layers above share stand in `proofs/`.
 #![tactic(auto)]
 
 mod derivation;

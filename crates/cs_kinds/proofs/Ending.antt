@@ -13,7 +13,7 @@ use Rattle.cs_ways.proofs.Turning.{way_back, way_there}
 use Rattle.cs_kinds.specs.declared.kind.TreeKind.TheVariants.{Ends}
 use Rattle.cs_kinds.specs.declared.side.Side.TheVariants.{Last}
 use Rattle.cs_kinds.specs.Kinds.{IsTreeOfKind}
-use Rattle.cs_kinds.specs.Numbers.{number_of}
+use Rattle.cs_kinds.specs.Numbers.{symbol_number}
 use Rattle.cs_kinds.specs.Nets.{AreStepsToEnds}
 use Rattle.cs_kinds.proofs.Rimming.{way_of_tree, tree_of_way}
 
@@ -28,10 +28,10 @@ module _ (v : Weighed) (grammar : IsGrammar v.grammar) (net : Net) (are : AreSte
     pub cost : capped v.weights.limit (way_cost way + number v.weights t) ≤ capped v.weights.limit c
     pub origin : way_origin way ≡ i
 
-  pub way_on : (u : Tree) (x : Symbol) → IsTreeOfKind v.grammar (Ends t) x u → (begin : Way) → IsWay net sources (number_of v.grammar.tokens x) begin → WayOn (way_cost begin + size v.weights u) (way_origin begin)
+  pub way_on : (u : Tree) (x : Symbol) → IsTreeOfKind v.grammar (Ends t) x u → (begin : Way) → IsWay net sources (symbol_number v.grammar.tokens x) begin → WayOn (way_cost begin + size v.weights u) (way_origin begin)
   way_on u x is begin hb =
       let w = way_of_tree v.weights v.grammar Last grammar are.ends are.places are.rims t leaf refl refl fits u x is.0 is.1 in
-      let back = way_back are.ends leaf w.way sources (number_of v.grammar.tokens x) w.is_way begin (subst (λ n. IsWay n sources (number_of v.grammar.tokens x) begin) are.is_turned hb) in
+      let back = way_back are.ends leaf w.way sources (symbol_number v.grammar.tokens x) w.is_way begin (subst (λ n. IsWay n sources (symbol_number v.grammar.tokens x) begin) are.is_turned hb) in
       record {
         way = back.way;
         is_way = subst (λ n. IsWay n sources t back.way) (sym are.is_turned) back.is_way;
@@ -43,7 +43,7 @@ module _ (v : Weighed) (grammar : IsGrammar v.grammar) (net : Net) (are : AreSte
   pub record Ended (i c : ℕ) : Type 0 where
     pub begin : Source
     pub at : slice_get sources i ≡ Some begin
-    pub tree : (x : Symbol) → IsSymbolOf v.grammar x → number_of v.grammar.tokens x ≡ begin.node → (u : Tree) × IsTreeOfKind v.grammar (Ends t) x u × (capped v.weights.limit (begin.cost + size v.weights u) ≤ capped v.weights.limit c)
+    pub tree : (x : Symbol) → IsSymbolOf v.grammar x → symbol_number v.grammar.tokens x ≡ begin.node → (u : Tree) × IsTreeOfKind v.grammar (Ends t) x u × (capped v.weights.limit (begin.cost + size v.weights u) ≤ capped v.weights.limit c)
 
   pub ended : (z : Way) → IsWay net sources t z → Ended (way_origin z) (way_cost z + number v.weights t)
   ended z is =

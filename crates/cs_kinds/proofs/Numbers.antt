@@ -7,10 +7,10 @@ use Rattle.cs_grammar.specs.declared.symbol.Symbol.{Symbol}
 use Rattle.cs_grammar.specs.declared.symbol.Symbol.TheVariants.{Token, Nonterminal}
 use Rattle.cs_grammar.specs.Grammar.{Production, PlainGrammar, IsRule, IsSymbol, IsSymbolOf, IsGrammar}
 use Rattle.cs_cost.proofs.Rules.{well_formed_at}
-use Rattle.cs_kinds.specs.Numbers.{number_of}
+use Rattle.cs_kinds.specs.Numbers.{symbol_number}
 
 -- symbols of one number are the same
-pub same_number : (g : PlainGrammar) (x y : Symbol) → IsSymbolOf g x → IsSymbolOf g y → number_of g.tokens x ≡ number_of g.tokens y → x ≡ y
+pub same_number : (g : PlainGrammar) (x y : Symbol) → IsSymbolOf g x → IsSymbolOf g y → symbol_number g.tokens x ≡ symbol_number g.tokens y → x ≡ y
 same_number g (Token s) (Token t) hx hy e = ap Token e
 same_number g (Token s) (Nonterminal n) hx hy e = absurd (omega (arith, e, hx, hy))
 same_number g (Nonterminal m) (Token t) hx hy e = absurd (omega (arith, e, hx, hy))

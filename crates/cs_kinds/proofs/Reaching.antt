@@ -17,14 +17,14 @@ use Rattle.cs_ways.specs.Ways.{Net, IsWay, way_cost, IsReach, reach_at, AreLeast
 use Rattle.cs_kinds.specs.declared.side.Side.{Side}
 use Rattle.cs_embed.specs.declared.inwards.RulePlace.{RulePlace}
 use Rattle.cs_kinds.specs.Kinds.{IsTreeOfKind}
-use Rattle.cs_kinds.specs.Numbers.{number_of}
+use Rattle.cs_kinds.specs.Numbers.{symbol_number}
 use Rattle.cs_kinds.specs.Sides.{kind_on}
 use Rattle.cs_kinds.specs.Rims.{AreRims}
 use Rattle.cs_kinds.proofs.Rimming.{way_of_tree, tree_of_way}
 
-pub reach_exact : (w : Measure) (g : PlainGrammar) (side : Side) (grammar : IsGrammar g) (net : Net) (places : List RulePlace) (rims : AreRims w g side places net.steps) (t : ℕ) (source : Source) (begins : source.node ≡ t) (leaf : source.cost ≡ number w t) (fits : IsNumberOf g.tokens t) (x : Symbol) → IsSymbolOf g x → (r : Reach) → IsReach w.limit net (source ∷ []) (number_of g.tokens x) r → IsCost w.limit (IsTreeOfKind g (kind_on side t) x) (size w) (told_cost r)
+pub reach_exact : (w : Measure) (g : PlainGrammar) (side : Side) (grammar : IsGrammar g) (net : Net) (places : List RulePlace) (rims : AreRims w g side places net.steps) (t : ℕ) (source : Source) (begins : source.node ≡ t) (leaf : source.cost ≡ number w t) (fits : IsNumberOf g.tokens t) (x : Symbol) → IsSymbolOf g x → (r : Reach) → IsReach w.limit net (source ∷ []) (symbol_number g.tokens x) r → IsCost w.limit (IsTreeOfKind g (kind_on side t) x) (size w) (told_cost r)
 reach_exact w g side grammar net places rims t source begins leaf fits x xf r is =
-    let n = number_of g.tokens x in
+    let n = symbol_number g.tokens x in
     IsCost-alike w.limit (IsWay net (source ∷ []) n) (IsTreeOfKind g (kind_on side t) x) way_cost (size w) (told_cost r)
     (λ v v_is. let u = tree_of_way w g side grammar net places rims t source begins leaf fits v n v_is x xf refl in (u.tree, u.is_tree, u.cost))
     (λ u h. let v = way_of_tree w g side grammar net places rims t source begins leaf fits u x h.0 h.1 in (v.way, v.is_way, v.cost))

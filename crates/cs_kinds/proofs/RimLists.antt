@@ -15,6 +15,7 @@ use Rattle.cs_cost.specs.Least.{IsCost}
 use Rattle.cs_cost.specs.Rank.{cost_of, plus}
 use Rattle.cs_cost.proofs.Ranks.{IsCost-plus, IsCost-same, IsCost-more}
 use Rattle.cs_embed.specs.Embeds.{siblings_size}
+use Rattle.cs_embed.specs.Ways.{at_rule, at_place}
 use Rattle.cs_embed.proofs.Steps.{split_at, same_place, place_low}
 use Rattle.cs_ways.specs.declared.step.Step.{Step}
 use Rattle.cs_ways.specs.Ways.{IsNode}
@@ -23,8 +24,8 @@ use Rattle.cs_kinds.specs.declared.side.Side.{Side}
 use Rattle.cs_embed.specs.declared.inwards.RulePlace.{RulePlace}
 use Rattle.cs_kinds.specs.Kinds.{AreTreesOfKind}
 use Rattle.cs_kinds.specs.Sides.{before_on, behind_on}
-use Rattle.cs_kinds.specs.Numbers.{number_of}
-use Rattle.cs_kinds.specs.Rims.{AreBeside, IsBesideCost, IsRim, HasBeside, at_rule, at_place, AreRimsTo, AreRims}
+use Rattle.cs_kinds.specs.Numbers.{symbol_number}
+use Rattle.cs_kinds.specs.Rims.{AreBeside, IsBesideCost, IsRim, HasBeside, AreRimsTo, AreRims}
 use Rattle.cs_kinds.specs.RimsOf.{IsStepCost}
 use Rattle.cs_kinds.proofs.Numbers.{rule_symbol, rule_left}
 
@@ -68,7 +69,7 @@ module _ (w : Measure) (g : PlainGrammar) (side : Side) where
             beside_none w g side (take j items) ys others is_others never has.beside
             (subst (λ (l : List Symbol). AreTreesOfKind g (before_on side) l has.beside.0) same.before has.are.0, subst (λ (l : List Symbol). AreTreesOfKind g (behind_on side) l has.beside.1) same.behind has.are.1)
 
-    pub rims_made : (a : RulePlace) (s : Step) (places' : List RulePlace) (steps' : List Step) → places' ≡ places ++ a ∷ [] → steps' ≡ steps ++ s ∷ [] → a.rule ≡ q → a.place ≡ j → s.from ≡ number_of g.tokens x → s.to ≡ g.tokens + p.left → IsStepCost w.limit others (Some s.cost) → AreRimsTo w g side q (j + 1) places' steps'
+    pub rims_made : (a : RulePlace) (s : Step) (places' : List RulePlace) (steps' : List Step) → places' ≡ places ++ a ∷ [] → steps' ≡ steps ++ s ∷ [] → a.rule ≡ q → a.place ≡ j → s.from ≡ symbol_number g.tokens x → s.to ≡ g.tokens + p.left → IsStepCost w.limit others (Some s.cost) → AreRimsTo w g side q (j + 1) places' steps'
     rims_made a s places' steps' ep es is_rule is_place from to cost =
         let rim : IsRim w g side a s = record {
           here = record {
@@ -100,6 +101,6 @@ rims_net w g side grammar places steps rims nodes e k d within =
     let to = rule_left g (get_or places k dp).rule rim.here.production grammar rim.here.number in
     (subst (IsNode nodes) (sym rim.from) from, (omega (arith, rim.to, to), omega (arith, rim.to, to, e)))
   where
-    node_fits : (x : Symbol) → IsSymbolOf g x → IsNode nodes (number_of g.tokens x)
+    node_fits : (x : Symbol) → IsSymbolOf g x → IsNode nodes (symbol_number g.tokens x)
     node_fits (Token t) h = (h.0, omega (arith, h, e))
     node_fits (Nonterminal n) h = (omega (arith, h), omega (arith, h, e))

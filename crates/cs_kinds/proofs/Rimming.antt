@@ -22,7 +22,7 @@ use Rattle.cs_kinds.specs.declared.side.Side.{Side}
 use Rattle.cs_kinds.specs.declared.side.Side.TheVariants.{First, Last}
 use Rattle.cs_embed.specs.declared.inwards.RulePlace.{RulePlace}
 use Rattle.cs_kinds.specs.Kinds.{IsOfKind, IsTreeOfKind, AreTreesOfKind}
-use Rattle.cs_kinds.specs.Numbers.{number_of}
+use Rattle.cs_kinds.specs.Numbers.{symbol_number}
 use Rattle.cs_kinds.specs.Sides.{kind_on, before_on, behind_on}
 use Rattle.cs_kinds.specs.Rims.{AreBeside, IsRim, AreRims}
 use Rattle.cs_kinds.proofs.Joined.{joined_cases, joined_here, joined_later}
@@ -77,7 +77,7 @@ module _ (w : Measure) (g : PlainGrammar) (side : Side) (grammar : IsGrammar g) 
     pub is_step : slice_get net.steps index ≡ Some step
     pub rule : place.rule ≡ r
     pub place_is : place.place ≡ length xs
-    pub from : step.from ≡ number_of g.tokens x
+    pub from : step.from ≡ symbol_number g.tokens x
     pub to : step.to ≡ g.tokens + p.left
     pub cost : step.cost ≤ capped w.limit (siblings_size w fs)
 
@@ -101,7 +101,7 @@ module _ (w : Measure) (g : PlainGrammar) (side : Side) (grammar : IsGrammar g) 
         is_step = v.4;
         rule = v.5;
         place_is = v.6;
-        from = rim.from ∙ ap (number_of g.tokens) same.symbol;
+        from = rim.from ∙ ap (symbol_number g.tokens) same.symbol;
         to = rim.to ∙ ap (λ (o : Production). g.tokens + o.left) same.production;
         cost = omega (arith, rim.cost, low);
       }
@@ -116,7 +116,7 @@ module _ (w : Measure) (g : PlainGrammar) (side : Side) (grammar : IsGrammar g) 
       pub is_way : IsWay net (source ∷ []) n way
       pub cost : capped w.limit (way_cost way) ≤ capped w.limit c
 
-    pub way_on : (r : ℕ) (p : Production) (xs : List Symbol) (x : Symbol) (ys : List Symbol) (fs : Forest × Forest) (c : ℕ) → StepAt r p xs x ys fs → WayTo (number_of g.tokens x) c → WayTo (g.tokens + p.left) (siblings_size w fs + c)
+    pub way_on : (r : ℕ) (p : Production) (xs : List Symbol) (x : Symbol) (ys : List Symbol) (fs : Forest × Forest) (c : ℕ) → StepAt r p xs x ys fs → WayTo (symbol_number g.tokens x) c → WayTo (g.tokens + p.left) (siblings_size w fs + c)
     way_on r p xs x ys fs c s v = record {
       way = On v.way s.step;
       is_way = (contained_get net.steps s.index s.step s.is_step, s.to, subst (λ m. IsWay net (source ∷ []) m v.way) (sym s.from) v.is_way);
@@ -124,15 +124,15 @@ module _ (w : Measure) (g : PlainGrammar) (side : Side) (grammar : IsGrammar g) 
     }
 
     mutual
-      pub way_of_tree : (u : Tree) (x : Symbol) → IsTree g x u → IsOfKind (kind_on side t) (yield u) → WayTo (number_of g.tokens x) (size w u)
+      pub way_of_tree : (u : Tree) (x : Symbol) → IsTree g x u → IsOfKind (kind_on side t) (yield u) → WayTo (symbol_number g.tokens x) (size w u)
       way_of_tree (Leaf s) x h of =
           let same = leaf_on side t s of in
-          let is_x : number_of g.tokens x ≡ t = ap (number_of g.tokens) h ∙ same in
+          let is_x : symbol_number g.tokens x ≡ t = ap (symbol_number g.tokens) h ∙ same in
           record { way = Begin 0 source; is_way = (refl, begins ∙ sym is_x); cost = omega (arith, leaf, ap (number w) same) }
       way_of_tree (Node r f) x h of =
           let v = way_among f h.0.right r h.0 [] Bare h.1 refl (tt, before_bare side) h.3 of in
           let e : 1 + (sizes w Bare + sizes w f) ≡ size w (Node r f) = omega arith in
-          subst (λ m. WayTo m (size w (Node r f))) (sym (ap (number_of g.tokens) h.2)) (subst (λ c. WayTo (g.tokens + h.0.left) c) e v)
+          subst (λ m. WayTo m (size w (Node r f))) (sym (ap (symbol_number g.tokens) h.2)) (subst (λ c. WayTo (g.tokens + h.0.left) c) e v)
 
       way_among : (f : Forest) (ys : List Symbol) (r : ℕ) (p : Production) (xs : List Symbol) (left : Forest) → IsRule g r p → p.right ≡ xs ++ ys → AreTreesOfKind g (before_on side) xs left → AreTrees g ys f → IsOfKind (kind_on side t) (yields f) → WayTo (g.tokens + p.left) (1 + (sizes w left + sizes w f))
       way_among Bare ys r p xs left rule e hl hf of = absurd (none_on side t of)
@@ -164,7 +164,7 @@ module _ (w : Measure) (g : PlainGrammar) (side : Side) (grammar : IsGrammar g) 
       pub is_tree : IsTreeOfKind g (kind_on side t) x tree
       pub cost : capped w.limit (size w tree) ≤ capped w.limit c
 
-    leaf_tree : (x : Symbol) (c : ℕ) → IsSymbolOf g x → number_of g.tokens x ≡ t → number w t ≡ c → TreeOf x c
+    leaf_tree : (x : Symbol) (c : ℕ) → IsSymbolOf g x → symbol_number g.tokens x ≡ t → number w t ≡ c → TreeOf x c
     leaf_tree (Token s) c xf e is_c =
         record { tree = Leaf t; is_tree = (ap Token e, on_leaf side t); cost = omega (arith, is_c) }
     leaf_tree (Nonterminal m) c xf e is_c = absurd (omega (arith, xf, e, fits))
@@ -186,7 +186,7 @@ module _ (w : Measure) (g : PlainGrammar) (side : Side) (grammar : IsGrammar g) 
           omega (arith, sizes-join w fs.0.0 (Grown u fs.0.1), fs.2, rim.cost, below.cost),
         )
 
-    pub tree_of_way : (v : Way) (n : ℕ) → IsWay net (source ∷ []) n v → (x : Symbol) → IsSymbolOf g x → number_of g.tokens x ≡ n → TreeOf x (way_cost v)
+    pub tree_of_way : (v : Way) (n : ℕ) → IsWay net (source ∷ []) n v → (x : Symbol) → IsSymbolOf g x → symbol_number g.tokens x ≡ n → TreeOf x (way_cost v)
     tree_of_way (Begin i s) n is x xf e =
         let same = one_source i s is.0 in
         leaf_tree x s.cost xf (e ∙ sym is.1 ∙ ap (λ (z : Source). z.node) (sym same) ∙ begins) (sym leaf ∙ ap (λ (z : Source). z.cost) same)

@@ -1,6 +1,6 @@
 -- The codes of chosen trees of kinds are written.
-use Rattle.std.proofs.Common.{◌≡◌, ℕ, ◌+◌, ◌<◌, ◌≤◌, ◌⊎◌, List, [], ◌∷◌, ◌++◌, reverse, refl, sym, ap, ◌∙◌, subst, ⊎_elim, arith, append_assoc, append-nil}
-use Rattle.std.specs.Prelude.{All}
+use Rattle.std.proofs.Common.{◌≡◌, ℕ, ◌+◌, ◌<◌, ◌≤◌, ◌⊎◌, List, [], ◌∷◌, ◌++◌, Result, reverse, refl, sym, ap, ◌∙◌, subst, ⊎_elim, arith, append_assoc, append-nil}
+use Rattle.std.specs.Prelude.{All, Ok, Err, OnOk, OnErr}
 use Rattle.std.proofs.lemmas.List.{reverse-append}
 use Rattle.std.proofs.lemmas.List.Elements.{All-head, All-tail, All-append}
 use Rattle.cs_grammar.specs.declared.symbol.Symbol.{Symbol}
@@ -13,6 +13,7 @@ use Rattle.cs_grammar.proofs.Measures.{size_above}
 use Rattle.cs_grammar.proofs.OneTree.{one_rule}
 use Rattle.cs_grammar.proofs.Forests.{sizes-join, codes_of-join}
 use Rattle.cs_cost.specs.Chosen.{AppendsChosen}
+use Rattle.cs_cost.specs.Parts.{IsGrown}
 use Rattle.cs_cost.specs.Trees.{HasLeast}
 use Rattle.cs_cost.proofs.ChosenTrees.{IsTree-chosen, one_chosen, chosen_exists}
 use Rattle.cs_kinds.specs.declared.kind.TreeKind.{TreeKind}
@@ -125,3 +126,8 @@ pub small_least : (w : Measure) (g : PlainGrammar) (x : Symbol) (t : Tree) → I
 small_least w g x t h small =
     let u = chosen_exists w g x t h in
     (size w u.tree, (omega (arith, u.least t h, small), record { reached = (u.tree, IsTree-chosen w g u.tree x u.chosen, refl); least = λ v is. u.least v is }))
+
+-- the code of a chosen tree is appended, or nothing
+pub grown_whole : {A E : Type 0} (r : Result A E) (w : Measure) (g : PlainGrammar) (x : Symbol) (old new : List ℕ) → OnOk r (AppendsChosen w g x old new) → OnErr r (new ≡ old) → IsGrown old new
+grown_whole (Ok a) w g x old new appends same = (code appends.tree, appends.text)
+grown_whole (Err e) w g x old new appends same = ([], same ∙ sym (append-nil old))

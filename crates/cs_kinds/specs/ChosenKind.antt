@@ -10,16 +10,16 @@ use Rattle.cs_kinds.specs.declared.kind.TreeKind.{TreeKind}
 use Rattle.cs_kinds.specs.Kinds.{IsOfKind, IsTreeOfKind, before, behind}
 use Rattle.cs_kinds.specs.Ways.{AreHere, AreLater, joint_size}
 
--- no tree of x that is of the kind has fewer than n nodes, and none of n nodes has a rule below r at its root
+-- no tree of x that is of the kind is smaller than n, and none of size n has a rule below r at its root
 pub record IsFirstOfKind (w : Measure) (g : PlainGrammar) (k : TreeKind) (x : Symbol) (r n : ℕ) : Type 0 where
   pub least : (u : Tree) → IsTreeOfKind g k x u → n ≤ size w u
   pub lowest : (q : ℕ) → (f : Forest) → IsTreeOfKind g k x (Node q f) → size w (Node q f) ≡ n → r ≤ q
 
--- lists whose first tree is of the kind itself have more than n nodes
+-- lists whose first tree is of the kind itself are larger than n
 abbrev pub NoneHere : Measure → PlainGrammar → TreeKind → Symbol → List Symbol → ℕ → Type 0
 NoneHere w g k x xs n = (p : Tree × Forest) → AreHere g k x xs p → n < joint_size w p
 
--- lists whose others are of the kind have no fewer than n nodes
+-- lists whose others are of the kind are no smaller than n
 abbrev pub NoneLess : Measure → PlainGrammar → TreeKind → Symbol → List Symbol → ℕ → Type 0
 NoneLess w g k x xs n = (p : Tree × Forest) → AreLater g k x xs p → n ≤ joint_size w p
 

@@ -15,7 +15,8 @@ use Rattle.cs_kinds.specs.Tables.{AreCosts, AreCostRows}
 -- all steps of the side, between all symbols of the grammar
 pub record IsNetOf (v : Weighed) (net : Net) : Type 0 where
   pub nodes : net.steps.nodes ≡ v.grammar.tokens + v.grammar.nonterminals
-  pub rims : AreRims v.weights v.grammar net.side net.places.items net.steps.steps
+  pub places : List RulePlace
+  pub rims : AreRims v.weights v.grammar net.side places net.steps.steps
 
 -- the row of the trees that have this token at the side
 abbrev pub IsRowOn : Weighed → Side → ℕ → List Cost → Type 0

@@ -3,6 +3,6 @@ use Rattle.std.specs.Prelude.{ℕ, ◌+◌}
 use Rattle.cs_grammar.specs.declared.symbol.Symbol.{Symbol}
 use Rattle.cs_grammar.specs.declared.symbol.Symbol.TheVariants.{Token, Nonterminal}
 
-abbrev pub number_of : ℕ → Symbol → ℕ
-number_of tokens (Token t) = t
-number_of tokens (Nonterminal n) = tokens + n
+abbrev pub symbol_number : ℕ → Symbol → ℕ
+symbol_number tokens (Token t) = t
+symbol_number tokens (Nonterminal n) = tokens + n

@@ -10,12 +10,13 @@ use Rattle.cs_cost.specs.declared.cost.Cost.{Cost}
 use Rattle.cs_cost.specs.Least.{IsCost}
 use Rattle.cs_cost.specs.Rank.{rank}
 use Rattle.cs_embed.specs.Embeds.{siblings_size}
+use Rattle.cs_embed.specs.Ways.{at_rule, at_place}
 use Rattle.cs_ways.specs.declared.step.Step.{Step}
 use Rattle.cs_ways.specs.Placed.{ArePlaced}
 use Rattle.cs_kinds.specs.declared.side.Side.{Side}
 use Rattle.cs_embed.specs.declared.inwards.RulePlace.{RulePlace}
 use Rattle.cs_kinds.specs.Kinds.{AreTreesOfKind}
-use Rattle.cs_kinds.specs.Numbers.{number_of}
+use Rattle.cs_kinds.specs.Numbers.{symbol_number}
 use Rattle.cs_kinds.specs.Sides.{before_on, behind_on}
 
 -- the trees beside a child that has the token at the side itself; their node is counted with them
@@ -29,7 +30,7 @@ IsBesideCost w g side xs ys cost = IsCost w.limit (AreBeside g side xs ys) (sibl
 -- the step leads from the symbol at this place of a rule to its left side, and costs what stands beside the symbol
 pub record IsRim (w : Measure) (g : PlainGrammar) (side : Side) (a : RulePlace) (s : Step) : Type 0 where
   pub here : SymbolAt g a.rule a.place
-  pub from : s.from ≡ number_of g.tokens here.symbol
+  pub from : s.from ≡ symbol_number g.tokens here.symbol
   pub to : s.to ≡ g.tokens + here.production.left
   pub others : Cost
   pub is_others : IsBesideCost w g side here.before here.behind others
@@ -41,12 +42,6 @@ pub record HasBeside (g : PlainGrammar) (side : Side) (r k : ℕ) : Type 0 where
   pub here : SymbolAt g r k
   pub beside : Forest × Forest
   pub are : AreBeside g side here.before here.behind beside
-
-abbrev pub at_rule : RulePlace → ℕ
-at_rule a = a.rule
-
-abbrev pub at_place : RulePlace → ℕ
-at_place a = a.place
 
 -- the lists have, in order, the places and the steps up to a place of a rule, but those beside which no trees can stand
 abbrev pub AreRimsTo : Measure → PlainGrammar → Side → ℕ → ℕ → List RulePlace → List Step → Type 0

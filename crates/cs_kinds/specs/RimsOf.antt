@@ -1,12 +1,14 @@
 -- Rims, as the code has them.
 use Rattle.std.specs.Prelude.{◌≡◌, ℕ, ◌+◌, ◌≤◌, List, Option, Some, None, length}
+use Rattle.std.specs.Global.{Vec}
 use Rattle.cs_grammar.specs.declared.symbol.Symbol.{Symbol}
 use Rattle.cs_grammar.specs.Weights.{Weighed}
 use Rattle.cs_cost.specs.declared.cost.Cost.{Cost}
 use Rattle.cs_cost.specs.declared.cost.Cost.TheVariants.{Never}
 use Rattle.cs_cost.specs.Rank.{rank}
+use Rattle.cs_embed.specs.declared.inwards.RulePlace.{RulePlace}
+use Rattle.cs_ways.specs.declared.step.Step.{Step}
 use Rattle.cs_kinds.specs.declared.side.Side.{Side}
-use Rattle.cs_kinds.specs.declared.rims.Rims.{Rims}
 use Rattle.cs_kinds.specs.Rims.{IsBesideCost, AreRimsTo}
 
 abbrev pub IsBesideCostOf : Weighed → Side → List Symbol → List Symbol → Cost → Type 0
@@ -17,9 +19,13 @@ abbrev pub IsStepCost : ℕ → Cost → Option ℕ → Type 0
 IsStepCost limit cost None = cost ≡ Never
 IsStepCost limit cost (Some c) = (c ≡ rank limit cost) × (rank limit cost ≤ limit + 1)
 
--- the steps of the rules before this number, and all of a grammar
-abbrev pub AreRimsUpTo : Weighed → Side → ℕ → Rims → Type 0
-AreRimsUpTo v side r rims = AreRimsTo v.weights v.grammar side r 0 rims.places.items rims.steps.items
+-- the steps up to a place of a rule
+abbrev pub AreStepsTo : Weighed → Side → ℕ → ℕ → Vec Step → Type 0
+AreStepsTo v side q j steps = (places : List RulePlace) × AreRimsTo v.weights v.grammar side q j places steps.items
 
-abbrev pub AreRimsOf : Weighed → Side → Rims → Type 0
-AreRimsOf v side rims = AreRimsUpTo v side (length v.grammar.rules + 1) rims
+-- the steps of the rules before this number, and all of a grammar
+abbrev pub AreRimsUpTo : Weighed → Side → ℕ → Vec Step → Type 0
+AreRimsUpTo v side r steps = AreStepsTo v side r 0 steps
+
+abbrev pub AreRimsOf : Weighed → Side → Vec Step → Type 0
+AreRimsOf v side steps = AreRimsUpTo v side (length v.grammar.rules + 1) steps

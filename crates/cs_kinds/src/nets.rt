@@ -2,22 +2,20 @@
 
 ghost use Rattle.std.specs.Prelude.{◌≡◌, IfOk};
 ghost use Rattle.cs_grammar.specs.Grammar.{IsNumberOf};
-ghost use Rattle.cs_embed.specs.Ways.{told_cost};
 ghost use Rattle.cs_kinds.specs.Nets.{IsNetOf, AreRowsOn, IsRowOn};
 
 use crate::rims::{Bases, all_rims};
 use crate::row::Row;
 use crate::side::Side;
-use cs_cost::{Cost, Costs};
-use cs_embed::RulePlace;
-use cs_ways::{Reach, Source, Steps, least_ways};
+use cs_cost::Costs;
+use cs_embed::told_cost;
+use cs_ways::{Source, Steps, least_ways};
 use std::alloc::{AllocError, Global};
 
-// The steps of one side between all symbols, and where each leads.
+// The steps of one side between all symbols.
 #[derive(Debug, Drop)]
 pub(crate) struct Net {
     pub(crate) side: Side,
-    pub(crate) places: Vec<RulePlace>,
     pub(crate) steps: Steps,
 }
 
@@ -27,23 +25,8 @@ pub(crate) fn net_of(alloc: Global, bases: &Bases, side: Side) -> Result<Net, Al
     let grammar = bases.costs.grammar();
     let _rules = grammar.rules();
     let rims = all_rims(alloc, bases, side)?;
-    let steps = Steps::new(alloc, grammar.tokens() + grammar.nonterminals(), rims.steps)?;
-    Ok(Net {
-        side,
-        places: rims.places,
-        steps,
-    })
-}
-
-/// What is told of a node, as a cost.
-pub fn reach_cost(reach: Reach) -> Cost
-    ensures { result ≡ told_cost reach }
-{
-    match reach {
-        Reach::Never => Cost::Never,
-        Reach::Large => Cost::Large,
-        Reach::Least { cost, .. } => Cost::Least(cost),
-    }
+    let steps = Steps::new(alloc, grammar.tokens() + grammar.nonterminals(), rims)?;
+    Ok(Net { side, steps })
 }
 
 // What the least trees of each nonterminal cost that have this token at the side.
@@ -63,7 +46,7 @@ fn token_row(alloc: Global, costs: &Costs, net: &Net, token: u16) -> Result<Row,
     let tokens = costs.grammar().tokens() as usize;
     let mut row = Vec::new(alloc);
     for place in 0..costs.grammar().nonterminals() {
-        row.push(reach_cost(table[tokens + place as usize]))?;
+        row.push(told_cost(table[tokens + place as usize]))?;
     }
     Ok(Row::new(row))
 }

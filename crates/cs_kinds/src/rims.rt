@@ -2,16 +2,15 @@
 
 ghost use Rattle.std.specs.Prelude.{◌≡◌, ◌+◌, ◌≤◌, IfOk, OnOk, length, All};
 ghost use Rattle.cs_grammar.specs.Grammar.{IsNumberOf, IsSymbol, IsSymbolOf};
-ghost use Rattle.cs_cost.specs.Rank.{IsCapped, cost_of, plus};
-ghost use Rattle.cs_kinds.specs.Numbers.{number_of};
+ghost use Rattle.cs_cost.specs.Rank.{IsCapped};
+ghost use Rattle.cs_kinds.specs.Numbers.{symbol_number};
 ghost use Rattle.cs_kinds.specs.Sides.{before_on, behind_on};
 ghost use Rattle.cs_kinds.specs.KindCost.{IsKindCost, AreKindCost};
 ghost use Rattle.cs_kinds.specs.RimsOf.{IsBesideCostOf, IsStepCost, AreRimsUpTo, AreRimsOf};
 
 use crate::kind::TreeKind;
 use crate::side::Side;
-use cs_cost::{Cost, Costs, cost_of, plus};
-use cs_embed::RulePlace;
+use cs_cost::{Cost, Costs};
 use cs_grammar::{Symbol, Weights};
 use cs_numbers::{number_of, place_of};
 use cs_ways::Step;
@@ -37,31 +36,6 @@ impl<'a, 'g> Model for Bases<'a, 'g> {
     ghost invariant = { λ b. AreCosts b.costs.now.weights b.costs.now.grammar Empty b.empty.now };
 }
 
-// The steps of one side, and the place at which each leads. Symbols are numbered in one, tokens first.
-#[derive(Debug, Drop)]
-pub(crate) struct Rims {
-    pub(crate) places: Vec<RulePlace>,
-    pub(crate) steps: Vec<Step>,
-}
-
-/// Costs together, by the limit of the weights.
-pub fn joint_cost(costs: &Costs, a: Cost, b: Cost) -> Cost
-    requires a { IsCapped costs.now.weights.limit a }
-    requires b { IsCapped costs.now.weights.limit b }
-    ensures cost { result ≡ plus costs.now.weights.limit a b }
-    ensures capped { IsCapped costs.now.weights.limit result }
-{
-    plus(a, b, costs.weights().limit())
-}
-
-/// What a node alone costs.
-pub fn one_node(costs: &Costs) -> Cost
-    ensures cost { result ≡ cost_of costs.now.weights.limit 1 }
-    ensures capped { IsCapped costs.now.weights.limit result }
-{
-    cost_of(1, costs.weights().limit())
-}
-
 fn empty_cost(bases: &Bases, symbol: Symbol) -> Cost
     requires { IsSymbolOf bases.now.grammar symbol }
     ensures { IsKindCost bases.now TreeKind.Empty symbol result }
@@ -80,7 +54,7 @@ pub(crate) fn empty_sum(bases: &Bases, symbols: &[Symbol]) -> Cost
 {
     let mut sum = Cost::Least(0);
     for place in (0..symbols.len()).rev() {
-        sum = joint_cost(bases.costs, empty_cost(bases, symbols[place]), sum);
+        sum = bases.costs.plus(empty_cost(bases, symbols[place]), sum);
     }
     sum
 }
@@ -125,11 +99,9 @@ fn beside_cost(bases: &Bases, side: Side, before: &[Symbol], behind: &[Symbol]) 
 {
     let first = before_cost(bases, side, before);
     let last = behind_cost(bases, side, behind);
-    joint_cost(
-        bases.costs,
-        one_node(bases.costs),
-        joint_cost(bases.costs, first, last),
-    )
+    bases
+        .costs
+        .plus(bases.costs.node(), bases.costs.plus(first, last))
 }
 
 /// A cost as that of a step or a source of ways, if there is one: one more than the limit of the weights for `Large`.
@@ -148,7 +120,7 @@ pub fn step_cost(weights: &Weights, cost: Cost) -> Option<u32>
 pub fn symbol_number(tokens: u16, symbol: Symbol) -> u16
     requires tokens { tokens ≤ 512 }
     requires symbol { IsSymbol 512 1024 symbol }
-    ensures { result ≡ number_of tokens symbol }
+    ensures { result ≡ symbol_number tokens symbol }
 {
     match symbol {
         Symbol::Token(token) => token,
@@ -157,10 +129,15 @@ pub fn symbol_number(tokens: u16, symbol: Symbol) -> u16
 }
 
 // Appends the steps of a rule, in the order of their places.
-fn push_rims(bases: &Bases, side: Side, number: u16, rims: &mut Rims) -> Result<(), AllocError>
+fn push_rims(
+    bases: &Bases,
+    side: Side,
+    number: u16,
+    steps: &mut Vec<Step>,
+) -> Result<(), AllocError>
     requires number { IsNumberOf (length bases.now.grammar.rules) number }
-    requires rims { AreRimsUpTo bases.now side number rims.old }
-    ensures { OnOk result (AreRimsUpTo bases.now side (number + 1) rims.new) }
+    requires steps { AreRimsUpTo bases.now side number steps.old }
+    ensures { OnOk result (AreRimsUpTo bases.now side (number + 1) steps.new) }
 {
     let grammar = bases.costs.grammar();
     let _rules = grammar.rules();
@@ -171,26 +148,19 @@ fn push_rims(bases: &Bases, side: Side, number: u16, rims: &mut Rims) -> Result<
         let others = beside_cost(bases, side, &right[..place], &right[place + 1..]);
         if let Some(cost) = step_cost(bases.costs.weights(), others) {
             let from = symbol_number(grammar.tokens(), *symbol);
-            rims.places.push(RulePlace {
-                rule: number,
-                place: place as u16,
-            })?;
-            rims.steps.push(Step { from, to, cost })?;
+            steps.push(Step { from, to, cost })?;
         }
     }
     Ok(())
 }
 
-// The steps of a side, in the order of their rules and places.
-pub(crate) fn all_rims(alloc: Global, bases: &Bases, side: Side) -> Result<Rims, AllocError>
+// The steps of a side, in the order of their rules and places. Symbols are numbered in one, tokens first.
+pub(crate) fn all_rims(alloc: Global, bases: &Bases, side: Side) -> Result<Vec<Step>, AllocError>
     ensures { IfOk result (AreRimsOf bases.now side) }
 {
-    let mut rims = Rims {
-        places: Vec::new(alloc),
-        steps: Vec::new(alloc),
-    };
+    let mut steps = Vec::new(alloc);
     for place in 0..bases.costs.grammar().rules().len() {
-        push_rims(bases, side, number_of(place), &mut rims)?;
+        push_rims(bases, side, number_of(place), &mut steps)?;
     }
-    Ok(rims)
+    Ok(steps)
 }

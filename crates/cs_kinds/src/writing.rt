@@ -1,8 +1,9 @@
 // The codes of chosen trees of kinds, written from left to right.
 
-ghost use Rattle.std.specs.Prelude.{◌≡◌, reverse, OnOk, All};
+ghost use Rattle.std.specs.Prelude.{◌≡◌, reverse, OnOk, OnErr, All};
 ghost use Rattle.cs_grammar.specs.Grammar.{IsSymbolOf, IsNumberOf};
 ghost use Rattle.cs_grammar.specs.Weights.{IsMeasure};
+ghost use Rattle.cs_cost.specs.Parts.{IsGrown};
 ghost use Rattle.cs_kinds.specs.Kinds.{IsKind};
 ghost use Rattle.cs_kinds.specs.Parts.{kind_at, IsPartOf, HaveSmallOfKind, IsRootOf};
 ghost use Rattle.cs_kinds.specs.Clauses.{ArePutFirst, IsPlaceIn, IsNodeCost, OpensUp, HasSmallIn, TakesOnIn, HaveSmallParts, Writes, AppendsIn};
@@ -56,7 +57,7 @@ fn put_first(
 }
 
 // Where the tree of the kind itself stands in the chosen trees of symbols; behind all where there is none.
-fn place_of(kinds: &Kinds, kind: TreeKind, symbols: &[Symbol]) -> usize
+fn place_of_kind(kinds: &Kinds, kind: TreeKind, symbols: &[Symbol]) -> usize
     requires kind { IsKind kinds.now.grammar.tokens kind }
     requires symbols { All (IsSymbolOf kinds.now.grammar) symbols.now }
     ensures { IsPlaceIn kinds.now kind symbols.now result }
@@ -114,12 +115,14 @@ fn open_part(
     requires kind { IsKind kinds.now.grammar.tokens kind }
     requires left { IsNumberOf kinds.now.grammar.nonterminals left }
     requires small { HasSmallIn kinds.now kind (Symbol.Nonterminal left) }
-    ensures { OnOk result (OpensUp kinds.now kind left pending.old pending.new into.old into.new) }
+    ensures ok { OnOk result
+        (OpensUp kinds.now kind left pending.old pending.new into.old into.new) }
+    ensures grown { IsGrown into.old into.new }
 {
     let number = root_of(kinds, kind, left);
     into.push(number)?;
     let right = kinds.grammar().rule(number).right();
-    put_first(pending, kind, place_of(kinds, kind, right), right)
+    put_first(pending, kind, place_of_kind(kinds, kind, right), right)
 }
 
 // Writes a part, or what stands at the root of its tree.
@@ -134,7 +137,9 @@ fn take_on(
     requires measure { IsMeasure kinds.now.weights }
     requires part { IsPartOf kinds.now.grammar part }
     requires small { HasSmallIn kinds.now part.kind part.symbol }
-    ensures { OnOk result (TakesOnIn kinds.now part pending.old pending.new into.old into.new) }
+    ensures taken { OnOk result
+        (TakesOnIn kinds.now part pending.old pending.new into.old into.new) }
+    ensures grown { IsGrown into.old into.new }
 {
     match part.symbol {
         Symbol::Token(_) => Ok(()),
@@ -145,8 +150,9 @@ fn take_on(
     }
 }
 
-// Writes what is pending, which stands in reverse. Each step writes a node or more, and they are within the limit.
-fn write(
+// Writes what is pending, which stands in reverse. Each step writes a node or more, and they are within the limit. After a
+// refusal a part of it may be there.
+fn write_some(
     kinds: &Kinds,
     costs: &Costs,
     pending: &mut Vec<Part>,
@@ -155,7 +161,8 @@ fn write(
     requires costs { costs.now ≡ kinds.now }
     requires parts { All (IsPartOf kinds.now.grammar) (reverse pending.old.items) }
     requires small { HaveSmallParts kinds.now pending.old }
-    ensures { OnOk result (Writes kinds.now pending.old into.old into.new) }
+    ensures written { OnOk result (Writes kinds.now pending.old into.old into.new) }
+    ensures grown { IsGrown into.old into.new }
 {
     let limit = kinds.limit();
     for _ in 0..limit {
@@ -167,8 +174,29 @@ fn write(
     Ok(())
 }
 
+// Writes what is pending, which stands in reverse. A refusal takes back what was written.
+fn write(
+    kinds: &Kinds,
+    costs: &Costs,
+    pending: &mut Vec<Part>,
+    into: &mut Derivation,
+) -> Result<(), AllocError>
+    requires costs { costs.now ≡ kinds.now }
+    requires parts { All (IsPartOf kinds.now.grammar) (reverse pending.old.items) }
+    requires small { HaveSmallParts kinds.now pending.old }
+    ensures written { OnOk result (Writes kinds.now pending.old into.old into.new) }
+    ensures refused { OnErr result (into.new ≡ into.old) }
+{
+    let before = into.rules().len();
+    let written = write_some(kinds, costs, pending, into);
+    if written.is_err() {
+        into.truncate(before);
+    }
+    written
+}
+
 /// Appends the codes of the chosen trees of these symbols that are of the kind together, from left to right. Some such trees
-/// are within the limit of the weights. After an error the derivation may have a part of the codes.
+/// are within the limit of the weights. After a refusal `into` is unchanged.
 pub fn kind_into(
     alloc: Global,
     kinds: &Kinds,
@@ -181,9 +209,15 @@ pub fn kind_into(
     requires kind { IsKind kinds.now.grammar.tokens kind }
     requires symbols { All (IsSymbolOf kinds.now.grammar) symbols.now }
     requires small { HaveSmallOfKind kinds.now.weights kinds.now.grammar kind symbols.now }
-    ensures { OnOk result (AppendsIn kinds.now kind symbols.now into.old into.new) }
+    ensures ok { OnOk result (AppendsIn kinds.now kind symbols.now into.old into.new) }
+    ensures err { OnErr result (into.new ≡ into.old) }
 {
     let mut pending = Vec::with_capacity(alloc, USUAL_PARTS)?;
-    put_first(&mut pending, kind, place_of(kinds, kind, symbols), symbols)?;
+    put_first(
+        &mut pending,
+        kind,
+        place_of_kind(kinds, kind, symbols),
+        symbols,
+    )?;
     write(kinds, costs, &mut pending, into)
 }

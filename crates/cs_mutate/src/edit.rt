@@ -53,7 +53,7 @@ pub fn apply(alloc: Global, base: &[u16], edit: &Edit) -> Result<Vec<u16>, Alloc
     Ok(list)
 }
 
-/// Puts the edited list in place of what another holds.
+/// Puts the edited list in place of what another holds. After a refusal, which is want of memory, nothing of use stands there.
 pub fn apply_into(list: &mut Vec<u16>, base: &[u16], edit: &Edit) -> Result<(), AllocError>
     requires { IsPlaced (length base.now) edit.now }
     ensures { OnOk result (list.new.items ≡ edited base.now edit.now) }

@@ -1,7 +1,6 @@
 // The edits of a list, one after another.
 
-ghost use Rattle.std.specs.Prelude.{◌≡◌, ◌↔◌, ◌≤◌, [], ◌∷◌, length, IsTrue, IfSome, IfNone, All};
-ghost use Rattle.cs_grammar.specs.Grammar.{IsNumberOf};
+ghost use Rattle.std.specs.Prelude.{◌≡◌, ◌↔◌, ◌≤◌, [], ◌∷◌, length, IsTrue, IfSome, IfNone};
 ghost use Rattle.cs_mutate.specs.Edit.{IsPlaced};
 ghost use Rattle.cs_mutate.specs.Edits.{is_fresh, is_listed, edits};
 
@@ -33,8 +32,7 @@ impl<'b> Model for Edits<'b> {
 impl<'b> Edits<'b> {
     /// The edits of a list for the chosen operators, with tokens from 1 to so many.
     pub fn new(tokens: u16, base: &'b [u16], operators: Operators) -> Edits<'b>
-        requires short { length base.now ≤ 1000000 }
-        requires tokens { All (IsNumberOf tokens) base.now }
+        requires { length base.now ≤ 1000000 }
         ensures { result ≡ edits tokens base.now operators }
     {
         Edits {

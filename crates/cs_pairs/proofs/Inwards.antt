@@ -22,7 +22,7 @@ use Rattle.cs_ways.specs.declared.step.Source.{Source}
 use Rattle.cs_ways.specs.declared.reach.Reach.{Reach}
 use Rattle.cs_ways.specs.declared.reach.Reach.TheVariants.{Never, Large, Least}
 use Rattle.cs_ways.specs.Ways.{Net, Way, Begin, IsWay, way_cost, way_origin, IsReach}
-use Rattle.cs_kinds.specs.Numbers.{number_of}
+use Rattle.cs_kinds.specs.Numbers.{symbol_number}
 use Rattle.cs_kinds.specs.Nets.{AreStepsToEnds}
 use Rattle.cs_kinds.proofs.Numbers.{rule_symbol}
 use Rattle.cs_kinds.proofs.Ending.{way_on, ended}
@@ -67,7 +67,7 @@ module _ (w : Measure) (g : PlainGrammar) (grammar : IsGrammar g) (net : Net) (i
       let here = same_round g b r (length c.1) v.1.rule v.1.place (sym v.5) (sym v.6) at_hole s.here ((o, f), h) round in
       let low = cost_low w.limit (AreRound g b s.here.production.left s.here.before s.here.behind) (round_size w) s.others s.is_others ((o, f), h) here.0 in
       let begin : Way = Begin v.0 v.2 in
-      let at : IsWay net sources (number_of g.tokens x) begin = (v.4, s.node ∙ ap (number_of g.tokens) (sym here.1)) in
+      let at : IsWay net sources (symbol_number g.tokens x) begin = (v.4, s.node ∙ ap (symbol_number g.tokens) (sym here.1)) in
       let back = way_on weighed grammar net inwards sources a fits u x is.1 begin at in
       record {
         way = back.way;

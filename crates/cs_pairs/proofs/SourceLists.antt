@@ -22,7 +22,7 @@ use Rattle.cs_ways.specs.Ways.{IsNode}
 use Rattle.cs_ways.proofs.PlacedLists.{placed_none, placed_on, placed_before}
 use Rattle.cs_kinds.specs.declared.kind.TreeKind.TheVariants.{Begins}
 use Rattle.cs_kinds.specs.Kinds.{AreTreesOfKind}
-use Rattle.cs_kinds.specs.Numbers.{number_of}
+use Rattle.cs_kinds.specs.Numbers.{symbol_number}
 use Rattle.cs_kinds.specs.RimsOf.{IsStepCost}
 use Rattle.cs_kinds.proofs.Numbers.{rule_symbol}
 use Rattle.cs_pairs.specs.declared.meeting.Meeting.{Meeting}
@@ -126,7 +126,7 @@ module _ (w : Measure) (g : PlainGrammar) (b : ℕ) where
     pub source_passed : others ≡ Never → AreSourcesFrom w g b q j (reverse places) (reverse sources)
     source_passed never = sources_pass q j there others is_others (reverse places) (reverse sources) so_far never
 
-    pub source_made : (a : Meeting) (s : Source) (places' : List Meeting) (sources' : List Source) → places' ≡ places ++ a ∷ [] → sources' ≡ sources ++ s ∷ [] → a.rule ≡ q → a.place ≡ j → s.node ≡ number_of g.tokens x → IsStepCost w.limit others (Some s.cost) → AreSourcesFrom w g b q j (reverse places') (reverse sources')
+    pub source_made : (a : Meeting) (s : Source) (places' : List Meeting) (sources' : List Source) → places' ≡ places ++ a ∷ [] → sources' ≡ sources ++ s ∷ [] → a.rule ≡ q → a.place ≡ j → s.node ≡ symbol_number g.tokens x → IsStepCost w.limit others (Some s.cost) → AreSourcesFrom w g b q j (reverse places') (reverse sources')
     source_made a s places' sources' ep es is_rule is_place node cost =
         let source : IsSourceAt w g b a s = record {
           here = record {
@@ -158,7 +158,7 @@ module _ (w : Measure) (g : PlainGrammar) (b : ℕ) where
       let source = (are.placed.each k a s (slice_get-get_or places k da (omega (arith, within, are.placed.many))) (slice_get-get_or sources k d within)).0 in
       subst (IsNode nodes) (sym source.node) (node_fits source.here.symbol (rule_symbol g a.rule source.here.production source.here.before source.here.symbol source.here.behind grammar source.here.number source.here.right))
     where
-      node_fits : (x : Symbol) → IsSymbolOf g x → IsNode nodes (number_of g.tokens x)
+      node_fits : (x : Symbol) → IsSymbolOf g x → IsNode nodes (symbol_number g.tokens x)
       node_fits (Token t) h = (h.0, omega (arith, h, e))
       node_fits (Nonterminal n) h = (omega (arith, h), omega (arith, h, e))
 

@@ -19,8 +19,8 @@ use Rattle.cs_kinds.specs.ChosenKind.{IsChosenOfKind, AreChosenOfKind}
 use Rattle.cs_pairs.specs.Beside.{IsSeam, seam_size}
 use Rattle.cs_pairs.specs.Pairs.{HasPair}
 
--- No seam of a and b has fewer than n nodes. Of those with n nodes none has a lower rule than r around its hole, or rule r and its
--- hole at a lower place than k.
+-- No seam of a and b is smaller than n. Of those of size n none has a lower rule than r around its hole, or rule r and its hole at
+-- a lower place than k.
 pub record IsFirstSeam (w : Measure) (g : PlainGrammar) (a b r k n : ℕ) : Type 0 where
   pub least : (x : Symbol) → (s : Context × Tree) → IsSeam g a b x s → n ≤ seam_size w s
   pub lowest : (x : Symbol) → (outer : Context) → (q : ℕ) → (left right : Forest) → (u : Tree) → IsSeam g a b x (Under outer q left right, u) → seam_size w (Under outer q left right, u) ≡ n → IsAtMost r k q (count left)

@@ -1,5 +1,5 @@
 -- Which marks may stand side by side: the pairs of neighbours over all framed sentences, as in Raselimo, Taljaard and Fischer 2019,
--- "Breaking Parsers: Mutation-based Generation of Programs with Guaranteed PlainGrammar Errors".
+-- "Breaking Parsers: Mutation-based Generation of Programs with Guaranteed Syntax Errors".
 use Rattle.std.specs.Prelude.{◌≡◌, ℕ, List, length}
 use Rattle.cs_grammar.specs.declared.symbol.Mark.{Mark}
 use Rattle.cs_grammar.specs.declared.symbol.Mark.TheVariants.{Token}

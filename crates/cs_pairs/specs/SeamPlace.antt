@@ -21,11 +21,11 @@ pub record SeamAt (g : PlainGrammar) (a b r i : ℕ) : Type 0 where
 abbrev pub size_at : (w : Measure) (g : PlainGrammar) (a b r i : ℕ) → SeamAt g a b r i → ℕ
 size_at w g a b r i s = seam_size w (Under s.outer r s.left s.right, s.last)
 
--- each seam at the places of the rule from i up to j has more than n nodes
+-- each seam at the places of the rule from i up to j is larger than n
 abbrev pub NoSeamTo : Measure → PlainGrammar → ℕ → ℕ → ℕ → ℕ → ℕ → ℕ → Type 0
 NoSeamTo w g a b r n i j = (k : ℕ) → i ≤ k → k < j → (s : SeamAt g a b r k) → n < size_at w g a b r k s
 
--- rule r and its place k are the lowest with a seam of at most n nodes
+-- rule r and its place k are the lowest with a seam no larger than n
 pub record IsMeetingAt (w : Measure) (g : PlainGrammar) (a b n r k : ℕ) : Type 0 where
   pub seam : SeamAt g a b r k
   pub small : size_at w g a b r k seam ≤ n

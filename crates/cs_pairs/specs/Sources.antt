@@ -13,7 +13,7 @@ use Rattle.cs_ways.specs.declared.step.Source.{Source}
 use Rattle.cs_ways.specs.Placed.{ArePlaced}
 use Rattle.cs_kinds.specs.declared.kind.TreeKind.TheVariants.{Begins}
 use Rattle.cs_kinds.specs.Kinds.{AreTreesOfKind}
-use Rattle.cs_kinds.specs.Numbers.{number_of}
+use Rattle.cs_kinds.specs.Numbers.{symbol_number}
 use Rattle.cs_pairs.specs.declared.meeting.Meeting.{Meeting}
 use Rattle.cs_pairs.specs.declared.sources.Sources.{Sources}
 use Rattle.cs_pairs.specs.Fronts.{AreFront, front_size}
@@ -29,7 +29,7 @@ round_size w q = front_size w q.0 + sizes w q.1
 -- the source is the symbol at this place of a rule, and costs what stands around it
 pub record IsSourceAt (w : Measure) (g : PlainGrammar) (b : ℕ) (a : Meeting) (s : Source) : Type 0 where
   pub here : SymbolAt g a.rule a.place
-  pub node : s.node ≡ number_of g.tokens here.symbol
+  pub node : s.node ≡ symbol_number g.tokens here.symbol
   pub others : Cost
   pub is_others : IsCost w.limit (AreRound g b here.production.left here.before here.behind) (round_size w) others
   pub cost : s.cost ≡ rank w.limit others

@@ -12,7 +12,8 @@ use crate::fronts::Around;
 use crate::meeting::{Meetings, origin_in};
 use crate::sources::sources_of;
 use cs_cost::{Cost, cost_of, plus};
-use cs_kinds::{Kinds, Row, reach_cost};
+use cs_embed::told_cost;
+use cs_kinds::{Kinds, Row};
 use cs_ways::{Reach, Steps, least_ways};
 use std::alloc::{AllocError, Global};
 
@@ -31,7 +32,7 @@ fn pair_cost(kinds: &Kinds, first: u16, reach: Reach) -> Cost
 {
     let weights = kinds.weights();
     let leaf = cost_of(weights.number(first), weights.limit());
-    plus(leaf, reach_cost(reach), weights.limit())
+    plus(leaf, told_cost(reach), weights.limit())
 }
 
 // The pairs of one second token, by the least ways inwards from all nodes at which it may follow.

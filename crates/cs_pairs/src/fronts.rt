@@ -7,7 +7,7 @@ ghost use Rattle.cs_pairs.specs.Fronts.{AreFrontsIn, AreBehindsIn, IsAround};
 use cs_cost::Costs;
 use cs_embed::Embeds;
 use cs_grammar::Rule;
-use cs_kinds::{Row, joint_cost, one_node};
+use cs_kinds::Row;
 use std::alloc::{AllocError, Global};
 
 // What stands before each place of a rule's right side costs: a context of the left side, the node, and trees of the symbols
@@ -19,10 +19,10 @@ fn fronts_of(alloc: Global, costs: &Costs, embeds: &Embeds, rule: &Rule) -> Resu
 {
     let _rules = costs.grammar().rules();
     let mut fronts = Vec::new(alloc);
-    let mut front = joint_cost(costs, one_node(costs), embeds.embed(rule.left()));
+    let mut front = costs.plus(costs.node(), embeds.embed(rule.left()));
     for symbol in rule.right() {
         fronts.push(front)?;
-        front = joint_cost(costs, front, costs.cost(*symbol));
+        front = costs.plus(front, costs.cost(*symbol));
     }
     Ok(Row::new(fronts))
 }

@@ -7,7 +7,8 @@
 //! they ask by `empty`, `first` and `last`. The laws are functions that do nothing.
 //!
 //! Of the files in `specs/` these say what is meant: `Beside` (seams), `Pairs`, `Closed` (what nonterminals yield), `ChosenPair`
-//! and `Laws`; kinds of trees are the layer's below. The others have working words of proofs: what sources and rows hold.
+//! and `Laws`, and of `Clauses` `IsPairCost`; kinds of trees are the layer's below. The rest has working words of proofs: what
+//! sources and rows hold.
 #![tactic(auto)]
 
 mod derive;

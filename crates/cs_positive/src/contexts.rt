@@ -8,7 +8,7 @@ ghost use Rattle.cs_positive.specs.Occurrences.{IsCutAt};
 ghost use Rattle.cs_positive.specs.Verdict.{IsGoalCost, HasLeastIn, IsCodeIn};
 
 use crate::kept::{Kept, USUAL_RULES, take_around};
-use crate::sums::{joint_cost, node_cost};
+use crate::sums::node_cost;
 use cs_cost::{Cost, Costs};
 use cs_embed::Embeds;
 use cs_goals::Goal;
@@ -56,11 +56,11 @@ pub(crate) fn context_cost(
     ensures { IsGoalCost costs.now (Goal.Context outer place inner) result }
 {
     let parts = occurrence_of(costs.grammar(), outer, place, inner);
-    let siblings = joint_cost(costs, costs.sum(parts.before), costs.sum(parts.behind));
+    let siblings = costs.plus(costs.sum(parts.before), costs.sum(parts.behind));
     let context = embeds.embed(parts.outer.left());
-    let around = joint_cost(costs, context, node_cost(costs, siblings));
+    let around = costs.plus(context, node_cost(costs, siblings));
     let node = node_cost(costs, costs.sum(parts.inner.right()));
-    joint_cost(costs, around, node)
+    costs.plus(around, node)
 }
 
 // The code of the chosen tree of a context goal.

@@ -6,7 +6,7 @@ ghost use Rattle.cs_positive.specs.Kept.{IsKeptIn};
 ghost use Rattle.cs_positive.specs.Verdict.{IsGoalCost, HasLeastIn, IsCodeIn};
 
 use crate::kept::{Kept, USUAL_RULES, take_around};
-use crate::sums::{joint_cost, node_cost};
+use crate::sums::node_cost;
 use cs_cost::{Cost, Costs};
 use cs_embed::Embeds;
 use cs_goals::Goal;
@@ -22,7 +22,7 @@ pub(crate) fn rule_cost(costs: &Costs, embeds: &Embeds, number: u16) -> Cost
     let rule = costs.grammar().rule(number);
     let around = embeds.embed(rule.left());
     let node = node_cost(costs, costs.sum(rule.right()));
-    joint_cost(costs, around, node)
+    costs.plus(around, node)
 }
 
 // The code of the chosen tree of a rule goal.

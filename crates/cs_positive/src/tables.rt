@@ -56,13 +56,6 @@ impl<'g> Tables<'g> {
         self.costs.grammar()
     }
 
-    /// The weights that sizes are measured by.
-    pub fn weights(&self) -> &'g Weights
-        ensures { result.now ≡ self.now.weights }
-    {
-        self.costs.weights()
-    }
-
     /// What the least trees of its symbols cost, and which trees are chosen.
     pub fn costs(&self) -> &Costs<'g>
         ensures { result.now ≡ self.now }

@@ -15,7 +15,7 @@ use Rattle.cs_ways.specs.Search.{Holds, IsAhead, IsKept, AreFirsts, HoldsUpTo, A
 use Rattle.cs_ways.proofs.Ahead.{ahead_trans, ahead_from_less, ahead_itself}
 use Rattle.cs_ways.proofs.Holding.{contains_none, contains_first, contains_later, contains_cases, inside}
 use Rattle.cs_ways.proofs.Offered.{known_ahead}
-use Rattle.cs_ways.proofs.Searching.{none_yet, unknown}
+use Rattle.cs_ways.proofs.Searching.{none_yet}
 
 entry_within : (known : List (Option Candidate)) (p : ℕ) (c : Candidate) → get_or known p none_yet ≡ Some c → p < length known
 entry_within known p c e =
@@ -36,13 +36,6 @@ module _ (limit : ℕ) where
   newer_ahead (Some a) b c e h =
       let same : a ≡ b = cc in
       subst (λ (d : Candidate). IsAhead limit c.cost c.origin d.cost d.origin) same (ahead_from_less limit a c (lt_by_cmp order (record { 0 = a }) (record { 0 = c })) refl h)
-
-  pub firsts_none : (Kind : Candidate → Type 0) (many : ℕ) → ((c : Candidate) → Kind c → ⊥) → AreFirsts limit Kind (replicate many None)
-  firsts_none Kind many none = record {
-    kind = λ p c e. absurd (unknown many p c e);
-    node = λ p c e. absurd (unknown many p c e);
-    each = λ c k. absurd (none c k);
-  }
 
   -- one more, of a kind that has this one besides
   pub firsts_more : (P Q : Candidate → Type 0) (known known' : List (Option Candidate)) (c : Candidate) → ((d : Candidate) → P d → Q d) → Q c → ((d : Candidate) → Q d → P d ⊎ (c ≡ d)) → IsNode (length known) c.node → IsKept c known known' → AreFirsts limit P known → AreFirsts limit Q known'

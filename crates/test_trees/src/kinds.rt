@@ -6,12 +6,13 @@ ghost use Rattle.cs_kinds.specs.Kinds.{IsKind};
 
 use cs_cost::Cost::{Large, Least, Never};
 use cs_cost::{Cost, Costs};
+use cs_embed::told_cost;
 use cs_grammar::Symbol::{Nonterminal, Token};
 use cs_grammar::{Derivation, Grammar, Symbol, Weights};
 use cs_kinds::TreeKind::{Any, Begins, Empty, Ends};
 use cs_kinds::{
-    Kinds, Row, Sweep, TreeKind, chosen_of_kind_exists, joint_cost, kind_into, one_chosen_of_kind,
-    one_node, reach_cost, step_cost, symbol_number,
+    Kinds, Row, Sweep, TreeKind, chosen_of_kind_exists, kind_into, one_chosen_of_kind, step_cost,
+    symbol_number,
 };
 use cs_samples::{SampleError, grammar_of, grammar_of_sums, rules, weights_of};
 use cs_ways::{Reach, Step};
@@ -180,8 +181,8 @@ fn check_sums_of_costs(rt: &impl Abort, kinds: &Kinds, costs: &Costs) {
     assert!(rt; kinds.weights().limit() == 10_000 && costs.weights().limit() == 10_000);
     assert!(rt; kinds.plus(Least(3), Least(4)) == Least(7));
     assert!(rt; kinds.plus(Least(6_000), Least(6_000)) == Large);
-    assert!(rt; joint_cost(costs, Least(6_000), Never) == Never);
-    assert!(rt; one_node(costs) == Least(1));
+    assert!(rt; costs.plus(Least(6_000), Never) == Never);
+    assert!(rt; costs.node() == Least(1));
 }
 
 const STEPS: [Step; 4] = [
@@ -242,9 +243,9 @@ fn costs_and_numbers(rt: HostRuntime) -> Result<(), Fail> {
     assert!(rt; step_cost(&weights, Least(7)) == Some(7));
     assert!(rt; step_cost(&weights, Large) == Some(10_001));
     assert!(rt; step_cost(&weights, Never).is_none());
-    assert!(rt; reach_cost(Reach::Least { cost: 5, origin: 1 }) == Least(5));
-    assert!(rt; reach_cost(Reach::Large) == Large);
-    assert!(rt; reach_cost(Reach::Never) == Never);
+    assert!(rt; told_cost(Reach::Least { cost: 5, origin: 1 }) == Least(5));
+    assert!(rt; told_cost(Reach::Large) == Large);
+    assert!(rt; told_cost(Reach::Never) == Never);
     assert!(rt; symbol_number(4, Token(3)) == 3);
     assert!(rt; symbol_number(4, Nonterminal(2)) == 6);
     Ok(())

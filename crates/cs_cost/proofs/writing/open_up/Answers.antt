@@ -41,7 +41,7 @@ returns-clause-opened c =
       pending = e ∙ ap (λ (xs : List Symbol). xs ++ reverse c.args.pending.now.items) right;
       text = c.in_ok-push.ensures.ok;
     })
-    c.put_on_top.ensures
+    c.put_on_top.ensures.ok
 
 on_err : {A E P : Type 0} (r : Result A E) → P → OnErr r P
 on_err (Ok a) p = tt

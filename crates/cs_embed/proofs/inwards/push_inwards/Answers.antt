@@ -32,8 +32,8 @@ loop-place-preserved c =
     let sum = trees_join v.weights g (take j items) (x ∷ []) c.loop-place.before c.cost.result before (trees_one v.weights g x c.cost.result c.cost.ensures) in
     let made : c.inward-found.result ≡ inward v.weights.limit c.left.result x (siblings_cost v.weights.limit c.loop-place.before c.index.result.now) = c.inward-found.ensures in
     record {
-      before = subst (λ (l : List Symbol). AreTreesCost v l c.joint_cost-before.result) (sym (take_more items j (Token 0) within))
-          (subst (AreTreesCost v (take j items ++ x ∷ [])) (sym c.joint_cost-before.ensures.cost) sum);
+      before = subst (λ (l : List Symbol). AreTreesCost v l c.plus-before.result) (sym (take_more items j (Token 0) within))
+          (subst (AreTreesCost v (take j items ++ x ∷ [])) (sym c.plus-before.ensures.cost) sum);
       inwards = elim c.match-found.branch [
         | in-Some+in_ok-push+in_ok-push-2 b ↦
             rw (b.inwards-is, b.in_ok-push.ensures.items, b.in_ok-push-2.ensures.items)

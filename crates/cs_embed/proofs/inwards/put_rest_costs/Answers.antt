@@ -26,9 +26,9 @@ loop-place-preserved c =
     let rest = c.loop-place.rest.items in
     let j = c.loop-place.place - 1 in
     let above_zero = c.loop-place-test.true in
-    let sum = c.joint_cost.ensures.cost in
+    let sum = c.plus.ensures.cost in
     record {
-      many = length-set rest j c.joint_cost.result ∙ c.loop-place.invariant.many;
+      many = length-set rest j c.plus.result ∙ c.loop-place.invariant.many;
       each = λ k above below.
           subst (λ (x : Cost). AreTreesCost v (drop k xs) (get_or (set rest j x) k Never)) (sym sum)
           (rest_more v xs rest j (Token 0) c.cost.result c.index.result.now (omega (arith, above_zero)) c.loop-place.invariant.many c.cost.ensures c.index.ensures (λ m low high. c.loop-place.invariant.each m (omega (arith, low)) high) k above below);

@@ -24,7 +24,7 @@ loop-at-preserved c =
     let stepped = step_at c.args.grammar.now _ _ c.rules-number-items.ensures c.loop-at.at _ c.loop-at.invariant _ _ _ (right ++ rest) _ c.loop-at-test.true
     (front_some _ c.settle.new.done c.settle.new.pending _ _ c.in-Some.is c.in_ok-left.ensures) rule.0 rule.1
     (ap (λ (xs : List Symbol). xs ++ rest) c.right-right.ensures) in
-    let behind = c.in_ok-put_on_top.ensures ∙ ap (λ (xs : List Symbol). xs ++ rest) (take_rest right leading) in
+    let behind = c.in_ok-put_on_top.ensures.ok ∙ ap (λ (xs : List Symbol). xs ++ rest) (take_rest right leading) in
     subst (Derives c.args.grammar.now (from_start c.args.grammar.now) (take (c.loop-at.at + 1) c.rules-number-items.result.now))
     (led right leading _ _ rest _ c.in_ok-leading.ensures.1 behind) stepped
 

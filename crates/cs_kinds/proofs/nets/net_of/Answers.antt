@@ -11,4 +11,4 @@ new-requires c =
     let same = c.grammar-grammar.ensures ∙ ap (λ (u : Weighed). u.grammar) c.bases.view_is in
     let tokens = c.tokens.ensures ∙ ap (λ (m : PlainGrammar). m.tokens) same in
     let nonterminals = c.nonterminals.ensures ∙ ap (λ (m : PlainGrammar). m.nonterminals) same in
-    rims_net v.weights v.grammar c.args.side (subst IsGrammar same c.rules-rules.ensures.well_formed) rims.places.items rims.steps.items c.in_ok-rims.ensures (c.tokens.result + c.nonterminals.result) (omega (arith, tokens, nonterminals))
+    rims_net v.weights v.grammar c.args.side (subst IsGrammar same c.rules-rules.ensures.well_formed) c.in_ok-rims.ensures.0 rims.items c.in_ok-rims.ensures.1 (c.tokens.result + c.nonterminals.result) (omega (arith, tokens, nonterminals))

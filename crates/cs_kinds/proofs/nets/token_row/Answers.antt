@@ -31,10 +31,10 @@ loop-place-preserved c =
     let grammar = subst IsGrammar c.grammar.ensures c.rules-rules.ensures.well_formed in
     let within : n < g.nonterminals = omega (arith, c.loop-place-test.true, c.nonterminals-place-end.ensures, ap (λ (m : PlainGrammar). m.nonterminals) c.grammar-3.ensures) in
     let tokens : c.tokens-tokens.result ≡ g.tokens = c.tokens-tokens.ensures ∙ ap (λ (m : PlainGrammar). m.tokens) c.grammar-2.ensures in
-    let cost = row_entry w g side grammar net c.args.net.now.places.items c.requires.net.rims t c.requires.token source refl (c.number.ensures ∙ ap (λ (m : Measure). number m t) same) c.requires.net.nodes table least n (c.tokens-tokens.result + n) c.index.result.now within (ap (λ k. k + n) tokens) in
+    let cost = row_entry w g side grammar net c.requires.net.places c.requires.net.rims t c.requires.token source refl (c.number.ensures ∙ ap (λ (m : Measure). number m t) same) c.requires.net.nodes table least n (c.tokens-tokens.result + n) c.index.result.now within (ap (λ k. k + n) tokens) in
     subst (IsFilled w.limit (λ m. IsTreeOfKind g (kind_on side t) (Nonterminal m)) (size w) (n + 1)) (sym c.in_ok-push.ensures.items)
     (filled_more w.limit (λ m. IsTreeOfKind g (kind_on side t) (Nonterminal m)) (size w) n _ _ c.loop-place.invariant
-    (subst (IsCost w.limit (IsTreeOfKind g (kind_on side t) (Nonterminal (n + 1))) (size w)) (sym (c.reach_cost.ensures ∙ ap told_cost c.index.ensures)) cost))
+    (subst (IsCost w.limit (IsTreeOfKind g (kind_on side t) (Nonterminal (n + 1))) (size w)) (sym (c.told_cost.ensures ∙ ap told_cost c.index.ensures)) cost))
 
 pub returns : goal.returns
 returns c =

@@ -3,4 +3,4 @@ use Rattle.cs_kinds.specs.RimsOf.{AreRimsUpTo}
 use Rattle.cs_kinds.proofs.rims.all_rims.Given as goal
 
 abbrev pub invariant-loop-place : goal.invariant-loop-place
-invariant-loop-place l = AreRimsUpTo l.bases l.side (l.place + 1) l.rims
+invariant-loop-place l = AreRimsUpTo l.bases l.side (l.place + 1) l.steps

@@ -29,9 +29,9 @@ loop-place-preserved c =
     let next : c.loop-place.place - 1 + 1 ≡ c.loop-place.place = omega (arith, c.loop-place-test.true) in
     let within : c.loop-place.place - 1 < length xs = omega (arith, c.loop-place-test.true) in
     let x = get_or xs (c.loop-place.place - 1) (Token 0) in
-    let same = c.joint_cost-sum.ensures.cost ∙ ap (λ (u : Weighed). plus u.weights.limit c.empty_cost.result c.loop-place.sum) c.bases.view_is in
+    let same = c.plus-sum.ensures.cost ∙ ap (λ (u : Weighed). plus u.weights.limit c.empty_cost.result c.loop-place.sum) c.bases.view_is in
     let sum = behind_cost v.weights v.grammar (Ends 0) x (drop c.loop-place.place xs) c.empty_cost.result c.loop-place.sum c.empty_cost.ensures c.loop-place.invariant.cost in
     record {
-      cost = subst (λ (l : List Symbol). AreKindCost v Empty l c.joint_cost-sum.result) (left_from xs _ _ (Token 0) next within) (subst (λ (k : Cost). AreKindCost v Empty (x ∷ drop c.loop-place.place xs) k) (sym same) sum);
-      capped = subst (λ (u : Weighed). IsCapped u.weights.limit c.joint_cost-sum.result) c.bases.view_is c.joint_cost-sum.ensures.capped;
+      cost = subst (λ (l : List Symbol). AreKindCost v Empty l c.plus-sum.result) (left_from xs _ _ (Token 0) next within) (subst (λ (k : Cost). AreKindCost v Empty (x ∷ drop c.loop-place.place xs) k) (sym same) sum);
+      capped = subst (λ (u : Weighed). IsCapped u.weights.limit c.plus-sum.result) c.bases.view_is c.plus-sum.ensures.capped;
     }

@@ -1,4 +1,4 @@
-use Rattle.std.proofs.Common.{◌+◌, ◌≤◌, List, length, get_or, refl, sym, ap, ◌∙◌, subst, arith}
+use Rattle.std.proofs.Common.{◌+◌, ◌≤◌, List, [], ◌∷◌, ◌++◌, length, get_or, refl, sym, ap, ◌∙◌, subst, arith}
 use Rattle.std.specs.Prelude.{All}
 use Rattle.std.proofs.lemmas.List.Elements.{All-get_or}
 use Rattle.std.proofs.lemmas.Option.{slice_get-get_or}
@@ -7,14 +7,13 @@ use Rattle.cs_grammar.specs.declared.symbol.Symbol.TheVariants.{Token}
 use Rattle.cs_grammar.specs.Grammar.{PlainGrammar, IsRule, IsSymbolOf}
 use Rattle.cs_grammar.specs.Weights.{Measure, Weighed}
 use Rattle.cs_embed.proofs.Lists.{rest_is}
-use Rattle.cs_kinds.specs.declared.rims.Rims.{Rims}
-use Rattle.cs_kinds.specs.Numbers.{number_of}
-use Rattle.cs_kinds.specs.Rims.{AreRimsTo}
+use Rattle.cs_embed.specs.declared.inwards.RulePlace.{RulePlace}
+use Rattle.cs_kinds.specs.Numbers.{symbol_number}
 use Rattle.cs_kinds.specs.RimsOf.{IsStepCost}
 use Rattle.cs_kinds.proofs.Numbers.{wide}
 use Rattle.cs_kinds.proofs.RimLists.{rims_passed, rims_made, rims_next}
 use Rattle.cs_kinds.proofs.rims.push_rims.Goals as goal
-use Rattle.cs_kinds.proofs.rims.push_rims.Goals.{in-Some+in_ok-push+in_ok-push-2, in_default}
+use Rattle.cs_kinds.proofs.rims.push_rims.Goals.{in-Some+in_ok-push, in_default}
 
 pub symbol_number-to-requires-clause-tokens : goal.symbol_number-to-requires-clause-tokens
 symbol_number-to-requires-clause-tokens c = omega (arith, c.tokens.ensures, c.rules-rules.ensures.well_formed.tokens)
@@ -49,19 +48,25 @@ loop-place-preserved c =
     let others = c.beside_cost-others.result in
     let tokens = c.tokens.ensures ∙ ap (λ (m : PlainGrammar). m.tokens) same in
     let step = subst (λ (m : Measure). IsStepCost m.limit others c.step_cost.result) (c.weights.ensures.weights ∙ ap (λ (u : Weighed). u.weights) c.bases.view_is) c.step_cost.ensures in
+    let so_far = c.loop-place.invariant in
+    let a : RulePlace = record { rule = q; place = j } in
     elim c.match-step_cost.branch [
-      | in-Some+in_ok-push+in_ok-push-2 b ↦
-          let tokens' = b.tokens-in-Some.ensures ∙ ap (λ (m : PlainGrammar). m.tokens) same in
-          subst (λ (r : Rims). AreRimsTo v.weights g c.args.side q (j + 1) r.places.items r.steps.items) (sym b.rims-is)
-          (rims_made v.weights g c.args.side q j p rule items c.right-right.ensures x here _ (rest_is items (j + 1)) others c.beside_cost-others.ensures.cost _ _ c.loop-place.invariant
-          _ _ _ _ b.in_ok-push.ensures.items b.in_ok-push-2.ensures.items refl refl
-          (b.symbol_number-from.ensures ∙ ap (λ n. number_of n x) tokens')
-          (c.symbol_number-to.ensures ∙ ap (λ n. n + c.left.result) tokens ∙ ap (λ n. g.tokens + n) c.left.ensures)
-          (subst (IsStepCost v.weights.limit others) b.in-Some.is step))
-      | in_default b ↦
-          subst (λ (r : Rims). AreRimsTo v.weights g c.args.side q (j + 1) r.places.items r.steps.items) (sym b.rims-is)
-          (rims_passed v.weights g c.args.side q j p rule items c.right-right.ensures x here _ (rest_is items (j + 1)) others c.beside_cost-others.ensures.cost _ _ c.loop-place.invariant
-          (subst (IsStepCost v.weights.limit others) b.in_default.is step))
+      | in-Some+in_ok-push b ↦
+          let tokens' = b.tokens-in-Some.ensures ∙ ap (λ (m : PlainGrammar). m.tokens) same in (
+            so_far.0 ++ a ∷ [],
+            rw b.steps-is
+                (rims_made v.weights g c.args.side q j p rule items c.right-right.ensures x here _ (rest_is items (j + 1)) others c.beside_cost-others.ensures.cost so_far.0 _ so_far.1
+                a _ _ _ refl b.in_ok-push.ensures.items refl refl
+                (b.symbol_number-from.ensures ∙ ap (λ n. symbol_number n x) tokens')
+                (c.symbol_number-to.ensures ∙ ap (λ n. n + c.left.result) tokens ∙ ap (λ n. g.tokens + n) c.left.ensures)
+                (subst (IsStepCost v.weights.limit others) b.in-Some.is step)),
+          )
+      | in_default b ↦ (
+        so_far.0,
+        rw b.steps-is
+            (rims_passed v.weights g c.args.side q j p rule items c.right-right.ensures x here _ (rest_is items (j + 1)) others c.beside_cost-others.ensures.cost so_far.0 _ so_far.1
+            (subst (IsStepCost v.weights.limit others) b.in_default.is step)),
+      )
     ]
 
 pub returns : goal.returns
@@ -71,4 +76,4 @@ returns c =
     let same = c.grammar-grammar.ensures ∙ ap (λ (u : Weighed). u.grammar) c.bases.view_is in
     let rule = subst (λ (m : PlainGrammar). IsRule m c.args.number p) same c.rule-rule.ensures.rule in
     let all = subst (λ (s : List Symbol). length s ≤ c.loop-place.place) c.right-right.ensures c.loop-place-test.false in
-    rims_next v.weights v.grammar c.args.side _ _ p _ _ rule all c.loop-place.invariant
+    (c.loop-place.invariant.0, rims_next v.weights v.grammar c.args.side _ _ p _ _ rule all c.loop-place.invariant.1)

@@ -1,5 +1,5 @@
-use Rattle.cs_kinds.specs.Rims.{AreRimsTo}
+use Rattle.cs_kinds.specs.RimsOf.{AreStepsTo}
 use Rattle.cs_kinds.proofs.rims.push_rims.Given as goal
 
 abbrev pub invariant-loop-place : goal.invariant-loop-place
-invariant-loop-place l = AreRimsTo l.bases.weights l.bases.grammar l.side l.number l.place l.rims.places.items l.rims.steps.items
+invariant-loop-place l = AreStepsTo l.bases l.side l.number l.place l.steps

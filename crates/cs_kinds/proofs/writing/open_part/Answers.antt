@@ -1,4 +1,4 @@
-use Rattle.std.proofs.Common.{List, refl, sym, ap, subst, ◌∙◌}
+use Rattle.std.proofs.Common.{List, [], ◌∷◌, refl, sym, ap, subst, ◌∙◌}
 use Rattle.std.specs.Prelude.{All}
 use Rattle.std.proofs.lemmas.Result.{on_ok_weaker}
 use Rattle.cs_grammar.specs.declared.symbol.Symbol.{Symbol}
@@ -13,8 +13,8 @@ rule-requires c =
     let root = c.root_of-number.ensures in
     rule_number c.args.kinds.now.grammar c.grammar.result.now _ root.rule c.grammar.ensures root.number
 
-pub returns : goal.returns
-returns c =
+pub returns-clause-ok : goal.returns-clause-ok
+returns-clause-ok c =
     let g = c.args.kinds.now.grammar in
     let root = c.root_of-number.ensures in
     let r = c.root_of-number.result in
@@ -24,5 +24,8 @@ returns c =
     let fits = subst (λ (s : PlainGrammar). All (IsSymbolOf s) p.right) c.grammar.ensures c.rule.ensures.fits.right in
     let each = subst (λ (l : List Symbol). All (IsSymbolOf g) l) (sym c.right-right.ensures) fits in
     on_ok_weaker c.put_first.result
-    (λ e. takes_root c.args.kinds.now.weights g c.args.kind c.args.left _ _ _ root right c.place_of.ensures _ _ _ _ c.requires.kind each c.in_ok-push.ensures.ok e)
+    (λ e. takes_root c.args.kinds.now.weights g c.args.kind c.args.left _ _ _ root right c.place_of_kind.ensures _ _ _ _ c.requires.kind each c.in_ok-push.ensures.ok e)
     c.put_first.ensures
+
+pub returns-clause-grown : goal.returns-clause-grown
+returns-clause-grown c = (c.root_of-number.result ∷ [], c.in_ok-push.ensures.ok)

@@ -91,8 +91,8 @@ returns c =
     (subst (λ (v : Weighed). IsAround v.weights v.grammar c.left.result c.in_ok-context.context.before.items c.in_ok-context.context.after.items) c.requires.embeds c.in_ok-context.ensures.chosen) in
     let lefts = subst (λ (l : List Symbol). AppendsAllChosen c.args.kinds.now.weights g l c.push.new.self c.all_into.new.into) before
     (subst (λ (v : Weighed). AppendsAllChosen v.weights v.grammar c.split_at-parts.result.before.now c.push.new.self c.all_into.new.into) c.requires.costs c.in_ok-all_into.ensures.ok) in
-    let last = subst (λ x. AppendsOfKind c.args.kinds.now.weights g (Ends c.args.tokens.first) (x ∷ []) c.all_into.new.into c.kind_into.new.into) symbol c.in_ok-kind_into.ensures in
-    let rights = subst (λ (l : List Symbol). AppendsOfKind c.args.kinds.now.weights g (Begins c.args.tokens.second) l c.kind_into.new.into c.kind_into-2.new.into) behind c.in_ok-kind_into-2.ensures in
+    let last = subst (λ x. AppendsOfKind c.args.kinds.now.weights g (Ends c.args.tokens.first) (x ∷ []) c.all_into.new.into c.kind_into.new.into) symbol c.in_ok-kind_into.ensures.ok in
+    let rights = subst (λ (l : List Symbol). AppendsOfKind c.args.kinds.now.weights g (Begins c.args.tokens.second) l c.kind_into.new.into c.kind_into-2.new.into) behind c.in_ok-kind_into-2.ensures.ok in
     laid_code c.args.kinds.now.weights g c.args.tokens.first c.args.tokens.second c.args.at.rule c.args.at.place c.rule-rule.result.now _ (parts (goal.at.returns c).After-right)
     c.in_ok-context.context.before.items c.in_ok-context.context.after.items c.new-derivation.result c.extend_from_slice.new.self c.push.new.self c.all_into.new.into c.kind_into.new.into c.kind_into-2.new.into c.extend_from_slice-2.new.self
     around c.new-derivation.ensures

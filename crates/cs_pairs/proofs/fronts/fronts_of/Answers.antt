@@ -22,7 +22,7 @@ loop-symbol-init c =
     (subst (λ (v : Weighed). IsCost v.weights.limit (IsContextOf v.grammar c.left.result) (context_size v.weights) c.embed.result) c.requires.embeds c.embed.ensures) in
     record {
       so_far = rw c.new-fronts.ensures.items (filled_none c.args.costs.now.weights.limit (λ n. AreFront g p.left (take (n - 1) p.right)) (front_size c.args.costs.now.weights));
-      is_front = subst (IsCost c.args.costs.now.weights.limit (AreFront g p.left (take 0 p.right)) (front_size c.args.costs.now.weights)) (sym (c.joint_cost-front.ensures.cost ∙ ap (λ (x : Cost). plus c.args.costs.now.weights.limit x c.embed.result) c.one_node.ensures.cost)) (front_first c.args.costs.now.weights g p.left _ embed);
+      is_front = subst (IsCost c.args.costs.now.weights.limit (AreFront g p.left (take 0 p.right)) (front_size c.args.costs.now.weights)) (sym (c.plus-front.ensures.cost ∙ ap (λ (x : Cost). plus c.args.costs.now.weights.limit x c.embed.result) c.node.ensures.cost)) (front_first c.args.costs.now.weights g p.left _ embed);
     }
 
 pub cost-requires : goal.cost-requires
@@ -42,5 +42,5 @@ loop-symbol-preserved c =
     record {
       so_far = subst (IsFilled c.args.costs.now.weights.limit (λ n. AreFront g p.left (take (n - 1) p.right)) (front_size c.args.costs.now.weights) (i + 1)) (sym c.in_ok-push.ensures.items)
           (fronts_more c.args.costs.now.weights g p i _ _ c.loop-symbol.invariant.so_far c.loop-symbol.invariant.is_front);
-      is_front = front_taken c.args.costs.now.weights g p.left p.right _ i _ (Token 0) _ _ _ c.right-symbol-items.ensures c.loop-symbol-test.true refl c.loop-symbol.invariant.is_front c.cost.ensures c.joint_cost-front-in-loop-symbol.ensures.cost;
+      is_front = front_taken c.args.costs.now.weights g p.left p.right _ i _ (Token 0) _ _ _ c.right-symbol-items.ensures c.loop-symbol-test.true refl c.loop-symbol.invariant.is_front c.cost.ensures c.plus-front-in-loop-symbol.ensures.cost;
     }

@@ -13,7 +13,7 @@ use Rattle.cs_cost.specs.Least.{IsCost}
 use Rattle.cs_cost.proofs.Ranks.{cost_capped}
 use Rattle.cs_kinds.specs.declared.kind.TreeKind.TheVariants.{Begins}
 use Rattle.cs_kinds.specs.Kinds.{AreTreesOfKind}
-use Rattle.cs_kinds.specs.Numbers.{number_of}
+use Rattle.cs_kinds.specs.Numbers.{symbol_number}
 use Rattle.cs_kinds.specs.RimsOf.{IsStepCost}
 use Rattle.cs_kinds.proofs.Filling.{IsCapped-filled}
 use Rattle.cs_kinds.proofs.Numbers.{wide}
@@ -125,7 +125,7 @@ loop-place-preserved c =
             sources = subst (λ (r : Sources). AreSourcesFrom w g b q j (reverse r.places.items) (reverse r.list.items)) (sym s.sources-is)
                 (source_made w g b q j p rule items c.right-right.ensures x here _ _ c.plus-cost.result front whole c.plus-cost.ensures _ _ before
                 _ _ _ _ s.in_ok-push.ensures.items s.in_ok-push-2.ensures.items refl refl
-                (s.symbol_number-node.ensures ∙ ap (λ n. number_of n x) tokens)
+                (s.symbol_number-node.ensures ∙ ap (λ n. symbol_number n x) tokens)
                 (subst (IsStepCost w.limit c.plus-cost.result) s.in-Some.is step));
             is_kind = is_kind;
             whole = on;

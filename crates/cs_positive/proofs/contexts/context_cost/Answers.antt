@@ -25,8 +25,8 @@ returns c =
     (subst (λ n. IsCost c.args.embeds.now.weights.limit (IsContextOf c.args.embeds.now.grammar n) (context_size c.args.embeds.now.weights) c.embed-context.result) c.left.ensures c.embed-context.ensures) in
     let children = subst (λ (l : List Symbol). IsCost w.limit (AreTrees g l) (sizes w) c.sum-3.result) c.right.ensures c.sum-3.ensures in
     let one = cost_of w.limit 1 in
-    let around_is = c.joint_cost-around.ensures.cost ∙ ap (λ (k : Cost). plus w.limit c.embed-context.result k) (c.node_cost.ensures.cost ∙ ap (λ (k : Cost). plus w.limit one k) c.joint_cost-siblings.ensures.cost) in
-    let sum = c.joint_cost.ensures.cost ∙ ap (λ (k : Cost). plus w.limit k c.node_cost-node.result) around_is
+    let around_is = c.plus-around.ensures.cost ∙ ap (λ (k : Cost). plus w.limit c.embed-context.result k) (c.node_cost.ensures.cost ∙ ap (λ (k : Cost). plus w.limit one k) c.plus-siblings.ensures.cost) in
+    let sum = c.plus.ensures.cost ∙ ap (λ (k : Cost). plus w.limit k c.node_cost-node.result) around_is
     ∙ ap (λ (k : Cost). plus w.limit (plus w.limit c.embed-context.result (plus w.limit one (plus w.limit c.sum.result c.sum-2.result))) k) c.node_cost-node.ensures.cost in
     subst (IsCost w.limit (IsMet g (Context c.args.outer c.args.place c.args.inner)) (size w)) (sym sum)
     (context_cost w g c.args.outer c.args.place c.args.inner p o.inner.now cut.is_outer cut.is_inner o.before.now o.behind.now cut.right_side cut.place c.embed-context.result c.sum.result c.sum-2.result c.sum-3.result around c.sum.ensures c.sum-2.ensures children)

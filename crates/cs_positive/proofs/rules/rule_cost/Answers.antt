@@ -22,6 +22,6 @@ returns c =
     let around = subst (λ (v : Weighed). IsCost v.weights.limit (IsContextOf v.grammar p.left) (context_size v.weights) c.embed-around.result) c.requires.embeds
     (subst (λ n. IsCost c.args.embeds.now.weights.limit (IsContextOf c.args.embeds.now.grammar n) (context_size c.args.embeds.now.weights) c.embed-around.result) c.left.ensures c.embed-around.ensures) in
     let children = subst (λ (l : List Symbol). IsCost w.limit (AreTrees g l) (sizes w) c.sum.result) c.right.ensures c.sum.ensures in
-    let sum = c.joint_cost.ensures.cost ∙ ap (λ (k : Cost). plus w.limit c.embed-around.result k) c.node_cost-node.ensures.cost in
+    let sum = c.plus.ensures.cost ∙ ap (λ (k : Cost). plus w.limit c.embed-around.result k) c.node_cost-node.ensures.cost in
     subst (IsCost w.limit (IsMet g (Rule c.args.number)) (size w)) (sym sum)
     (rule_cost w g c.args.number p rule c.embed-around.result c.sum.result around children)

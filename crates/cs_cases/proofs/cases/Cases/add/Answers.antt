@@ -6,7 +6,7 @@ use Rattle.std.proofs.lemmas.List.{length-map}
 use Rattle.cs_goals.specs.declared.goal.Goal.{Goal}
 use Rattle.cs_goals.specs.Goals.{HasExactly}
 use Rattle.cs_goals.specs.Meets.{IsMeeting}
-use Rattle.cs_cases.specs.Table.{codes_in, Tells, AreAllAdded}
+use Rattle.cs_cases.specs.Table.{codes_in, AreFirstCases, AreAllAdded}
 use Rattle.cs_cases.proofs.Lowest.{tells_more}
 use Rattle.cs_cases.proofs.cases.Cases.add.Goals as goal
 
@@ -26,4 +26,4 @@ invariant_of-self-else-is_err c =
     let code_is : code ≡ c.args.derivation.now = c.in_ok-code.ensures.items ∙ c.rules.ensures in
     let met = subst (λ (rules : List ℕ). HasExactly goals (λ q. IsMeeting g q rules)) (sym code_is) c.in_ok-goals.ensures in
     let last : length keys + 1 ≡ length (codes_in keys) + 1 = ap (λ n. n + 1) (sym (length-map keys (λ (v : Vec ℕ). v.items))) in
-    subst (λ (codes : List (List ℕ)). Tells g codes after) (sym a.codes) (tells_more g (codes_in keys) c.self.inside.firsts after code goals (length keys + 1) last c.self.invariant met added)
+    subst (λ (codes : List (List ℕ)). AreFirstCases g codes after) (sym a.codes) (tells_more g (codes_in keys) c.self.inside.firsts after code goals (length keys + 1) last c.self.invariant met added)

@@ -1,11 +1,9 @@
-use Rattle.std.proofs.Common.{◌≡◌, ◌++◌, length, List, ℕ, [], reverse, refl, sym, ap, ◌∙◌, subst, append-nil}
+use Rattle.std.proofs.Common.{◌++◌, length, List, ℕ, [], reverse, refl, sym, ap, ◌∙◌, subst, append-nil}
 use Rattle.std.specs.Prelude.{All}
-use Rattle.std.proofs.lemmas.Bool.{eqb-true}
-use Rattle.std.proofs.lemmas.List.{nil_from_length}
 use Rattle.std.proofs.lemmas.Result.{on_ok_weaker}
 use Rattle.cs_grammar.specs.Grammar.{IsSymbol}
 use Rattle.cs_grammar.specs.Weights.{Weighed}
-use Rattle.cs_grammar.specs.Tree.{Bare, codes_of}
+use Rattle.cs_grammar.specs.Tree.{codes_of}
 use Rattle.cs_grammar.specs.declared.symbol.Symbol.{Symbol}
 use Rattle.cs_cost.specs.Chosen.{AreChosen}
 use Rattle.cs_cost.specs.Trees.{HaveSmall}
@@ -30,7 +28,7 @@ write-requires c =
     let g = c.self.inside.trees.grammar in
     let f = subst (λ (v : Weighed). HaveSmall v.weights v.grammar xs) (sym c.self.view_is) c.requires.small in
     let each = subst (λ (v : Weighed). All (IsSymbol v.grammar.tokens v.grammar.nonterminals) xs) (sym c.self.view_is) c.requires.symbols in
-    let is = c.in_ok-put_on_top.ensures ∙ ap (λ (l : List Symbol). xs ++ reverse l) c.in_ok-pending.ensures.items ∙ append-nil xs in
+    let is = c.in_ok-put_on_top.ensures.ok ∙ ap (λ (l : List Symbol). xs ++ reverse l) c.in_ok-pending.ensures.items ∙ append-nil xs in
     record { small = subst (λ (l : List Symbol). All (IsWithin w g) l) (sym is) (forest_within w g f.0 xs f.1 f.2 each) }
 
 pub returns-clause-ok : goal.returns-clause-ok
@@ -40,7 +38,7 @@ returns-clause-ok c =
     let g = c.self.inside.trees.grammar in
     let f = subst (λ (v : Weighed). HaveSmall v.weights v.grammar xs) (sym c.self.view_is) c.requires.small in
     let h = chosen_forest w g f.0 xs f.1 in
-    let is = c.in_ok-put_on_top.ensures ∙ ap (λ (l : List Symbol). xs ++ reverse l) c.in_ok-pending.ensures.items in
+    let is = c.in_ok-put_on_top.ensures.ok ∙ ap (λ (l : List Symbol). xs ++ reverse l) c.in_ok-pending.ensures.items in
     let text : IsText w g (xs ++ []) (codes_of h.0 ++ []) = IsText-whole w g h.0 xs [] [] h.1 refl in
     let pending = subst (λ (l : List Symbol). IsText w g l (codes_of h.0 ++ [])) (sym is) text in
     on_ok_weaker c.write.result

@@ -3,7 +3,7 @@ use Rattle.cs_grammar.specs.Tree.{Forest, sizes}
 use Rattle.cs_kinds.specs.ChosenKind.{AreChosenOfKind}
 use Rattle.cs_kinds.specs.Sweep.{IsSwept}
 use Rattle.cs_kinds.specs.Parts.{parts_from, AreChosenParts}
-use Rattle.cs_kinds.proofs.writing.place_of.Given as goal
+use Rattle.cs_kinds.proofs.writing.place_of_kind.Given as goal
 
 -- the place in the chosen trees of the swept symbols
 abbrev pub invariant-loop-index : goal.invariant-loop-index

@@ -6,8 +6,8 @@ use Rattle.cs_cost.proofs.Ranks.{cost_capped}
 use Rattle.cs_kinds.specs.Sweep.{IsSwept}
 use Rattle.cs_kinds.proofs.Placing.{left_from, not_at_most, place_none, place_taken, place_passed}
 use Rattle.cs_kinds.proofs.Sweeping.{swept_behind}
-use Rattle.cs_kinds.proofs.writing.place_of.Goals as goal
-use Rattle.cs_kinds.proofs.writing.place_of.Goals.{then-at_most, else-at_most}
+use Rattle.cs_kinds.proofs.writing.place_of_kind.Goals as goal
+use Rattle.cs_kinds.proofs.writing.place_of_kind.Goals.{then-at_most, else-at_most}
 
 pub loop-index-init : goal.loop-index-init
 loop-index-init c =

@@ -1,6 +1,0 @@
-use Rattle.std.proofs.Common.{reverse}
-use Rattle.cs_kinds.proofs.Written.{Writes}
-use Rattle.cs_kinds.proofs.writing.write.Given as goal
-
-abbrev pub invariant-loop : goal.invariant-loop
-invariant-loop l = Writes l.kinds.weights l.kinds.grammar (reverse l.initial.pending.items) l.initial.into (reverse l.pending.items) l.into l.counter
