@@ -2,7 +2,6 @@
 use Rattle.std.proofs.Common.{◌≡◌, ℕ, ◌+◌, ◌<◌, List, [], ◌∷◌, ◌++◌, Bor, Vec, Global, ap, ◌∙◌, arith, length, map, reverse}
 use Rattle.std.proofs.lemmas.List.{reverse-append}
 use Rattle.cs_automaton.specs.declared.op.Op.{Op}
-use Rattle.cs_automaton.specs.declared.op.Op.TheVariants as ops
 use Rattle.cs_automaton.specs.declared.flat.Piece as code
 use Rattle.cs_automaton.specs.Programs.{values}
 use Rattle.cs_automaton.specs.Pieces.{Piece, piece_of, pieces, ops_in, letters_in, classes_in, work_in, Takes}

@@ -1,5 +1,7 @@
 -- How many different sets there are, over all texts of bytes.
 use Rattle.std.specs.Prelude.{◌≡◌, ◌≢◌, ℕ, ◌<◌, List, [], All, slice_get, Some, length}
+use Rattle.cs_automaton.specs.declared.error.AutomatonError.{AutomatonError}
+use Rattle.cs_automaton.specs.declared.error.AutomatonError.TheVariants.{TooManyStates}
 use Rattle.cs_automaton.specs.Re.{Re}
 use Rattle.cs_automaton.specs.Places.{InSet}
 
@@ -18,3 +20,7 @@ module _ (In : List ℕ → ℕ → Type 0) where
 -- so many sets are the most that there may be, which is 16,384, and there are more
 abbrev pub TooMany : List (Re (List ℕ)) → ℕ → Type 0
 TooMany rs most = (most ≡ 16384) × IsAbove (InSet rs) 16384
+
+-- the error that names so many
+abbrev pub too_many : ℕ → AutomatonError
+too_many most = TooManyStates most

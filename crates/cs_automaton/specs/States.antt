@@ -2,8 +2,6 @@
 use Rattle.std.specs.Prelude.{◌≡◌, ◌≢◌, ◌⊎◌, ℕ, zero, suc, ◌+◌, ◌*◌, ◌<◌, ◌≤◌, Bool, true, false, List, [], ◌∷◌, ◌++◌, All, Contains, slice_get, slice_index, slice_index_or, Option, Some, None, length, take, ◌^◌, if◌then◌else◌}
 use Rattle.cs_pattern_items.specs.Members.{has}
 use Rattle.std.proofs.Common.{Vec, Global, map}
-use Rattle.cs_automaton.specs.declared.error.AutomatonError.{AutomatonError}
-use Rattle.cs_automaton.specs.declared.error.AutomatonError.TheVariants.{TooManyStates}
 use Rattle.cs_automaton.specs.Bits.{bit, Puts}
 use Rattle.cs_automaton.specs.Exits.{exit, nexts}
 use Rattle.cs_automaton.specs.Linear.{Starts}
@@ -186,9 +184,6 @@ pub record IsBuilt (rs : List (Re (List ℕ))) (rows : List (List ℕ)) (width l
 -- the first rule of each state
 abbrev pub AreFirstRules : List (Re (List ℕ)) → List (List ℕ) → List (Option ℕ) → Type 0
 AreFirstRules rs sets first_rules = (k : ℕ) (x : List ℕ) → k < length first_rules → StandsFor rs sets k x → IsFirstSpelled rs x (slice_index_or first_rules k None)
-
-abbrev pub too_many : ℕ → AutomatonError
-too_many most = TooManyStates most
 
 abbrev pub option_lists : List (Vec (Option ℕ) Global) → List (List (Option ℕ))
 option_lists = map (λ v. v.items)

@@ -3,11 +3,10 @@
 ghost use Rattle.std.specs.Prelude.{◌≡◌, ℕ, ◌+◌, ◌<◌, ◌≤◌, List, [], length, map, IfOk, IfSome, Err};
 ghost use Rattle.cs_pattern_tree.specs.Pattern.{regex};
 ghost use Rattle.cs_pattern_tree.specs.Scannable.{AreScannable};
-ghost use Rattle.cs_automaton.specs.Counted.{IsAbove, TooMany};
+ghost use Rattle.cs_automaton.specs.Counted.{IsAbove, TooMany, too_many};
 ghost use Rattle.cs_automaton.specs.Machine.{StateOf, IsNextState, IsFirstRule, patterns_of};
 ghost use Rattle.cs_automaton.specs.Meaning.{res_of};
 ghost use Rattle.cs_automaton.specs.Places.{InSet};
-ghost use Rattle.cs_automaton.specs.States.{too_many};
 ghost use Rattle.cs_automaton.specs.States as spec;
 
 use crate::columns::{Columns, make_columns};
@@ -107,7 +106,7 @@ impl Automaton<'_> {
         self.sets.len()
     }
 
-    /// Where the byte leads from the state.
+    /// Where the byte leads from the state. None where no rule matches a text that begins with what was read and the byte.
     pub fn step(&self, state: State, byte: u8) -> Option<State>
         requires { state < length self.now.sets }
         ensures next { (x : List ℕ)
@@ -117,7 +116,7 @@ impl Automaton<'_> {
         step_in(&self.steps, state as usize, self.column_of[byte as usize])
     }
 
-    /// The lowest rule that matches what was read.
+    /// The lowest rule, counted from 1, that matches what was read. None where none does.
     pub fn first_rule(&self, state: State) -> Option<u16>
         requires { state < length self.now.sets }
         ensures { (x : List ℕ)

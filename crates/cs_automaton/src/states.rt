@@ -2,11 +2,11 @@
 
 ghost use Rattle.std.specs.Prelude.{◌≡◌, ℕ, ◌+◌, ◌*◌, ◌<◌, ◌≤◌, IfOk, Err, length, slice_get, Some};
 ghost use Rattle.cs_automaton.specs.Built.{AddsStep, AddsSteps, AreLong, AreStates, HaveFirstRules, IsBehind, WalksAll};
-ghost use Rattle.cs_automaton.specs.Counted.{TooMany};
+ghost use Rattle.cs_automaton.specs.Counted.{TooMany, too_many};
 ghost use Rattle.cs_automaton.specs.Places.{all_letters};
 ghost use Rattle.cs_automaton.specs.Programs.{IsProgram, rules_of};
 ghost use Rattle.cs_automaton.specs.Sets.{lists};
-ghost use Rattle.cs_automaton.specs.States.{AreFull, too_many};
+ghost use Rattle.cs_automaton.specs.States.{AreFull};
 ghost use Rattle.cs_automaton.specs.States as spec;
 
 use crate::bits::{common, is_empty};

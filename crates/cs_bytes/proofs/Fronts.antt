@@ -81,3 +81,6 @@ got_at [] zero x e = absurd (false≢true e)
 got_at [] (suc i) x e = absurd (false≢true e)
 got_at (y ∷ xs) zero x e = ap Some (eqb-true y x e)
 got_at (y ∷ xs) (suc i) x e = got_at xs i x e
+
+pub has_within : (xs : List ℕ) (i x : ℕ) → has_at xs i x ≡ true → i < length xs
+has_within xs i x e = got_within xs i x (got_at xs i x e)

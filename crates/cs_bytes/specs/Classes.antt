@@ -1,7 +1,7 @@
 -- Classes of bytes (ASCII; the classes of the POSIX locale).
 use Rattle.std.specs.Prelude.{ℕ, Bool, ◌==◌, nat_le, ◌&&◌, ◌||◌, not}
 use Rattle.cs_bytes.specs.declared.class.ByteClass.{ByteClass}
-use Rattle.cs_bytes.specs.declared.class.ByteClass.TheVariants.{Letter, Digit, OctalDigit, HexadecimalDigit, Newline, Blank, Space, WhiteSpace, WordStart, Word, WordOr, Not, Neither}
+use Rattle.cs_bytes.specs.declared.class.ByteClass.TheVariants.{Digit, OctalDigit, HexadecimalDigit, Blank, Space, WordStart, Word, WordOr, Not, Neither}
 use Rattle.cs_bytes.specs.Names.{tab, newline, carriage_return, space, dash, closing_bracket, underscore}
 
 -- the byte is one of those from the first to the last
@@ -57,14 +57,11 @@ is_inner b = not ((b == closing_bracket) || (b == newline))
 
 -- the byte is of the class
 abbrev pub is_in : ByteClass → ℕ → Bool
-is_in Letter b = is_letter b
 is_in Digit b = is_digit b
 is_in OctalDigit b = is_octal_digit b
 is_in HexadecimalDigit b = is_hexadecimal_digit b
-is_in Newline b = is_newline b
 is_in Blank b = is_blank b
 is_in Space b = is_space b
-is_in WhiteSpace b = is_white_space b
 is_in WordStart b = begins_word b
 is_in Word b = is_word_byte b
 is_in (WordOr other) b = is_word_byte b || (b == other)

@@ -80,6 +80,12 @@ greater_sign = 62
 abbrev pub question_mark : ℕ
 question_mark = 63
 
+abbrev pub capital_s : ℕ
+capital_s = 83
+
+abbrev pub capital_x : ℕ
+capital_x = 88
+
 abbrev pub opening_bracket : ℕ
 opening_bracket = 91
 
@@ -109,6 +115,9 @@ letter_n = 110
 
 abbrev pub letter_r : ℕ
 letter_r = 114
+
+abbrev pub letter_s : ℕ
+letter_s = 115
 
 abbrev pub letter_t : ℕ
 letter_t = 116

@@ -6,17 +6,13 @@ ghost use Rattle.cs_bytes.specs.Classes.{is_in, is_blank, begins_word};
 /// A class of bytes, to test one or to find a run of them.
 #[derive(Clone, Copy, Debug)]
 pub enum ByteClass {
-    Letter,
     Digit,
     OctalDigit,
     HexadecimalDigit,
-    Newline,
     /// Space, tab and carriage return.
     Blank,
     /// Blanks and newline.
     Space,
-    /// Space, and the control bytes from tab to carriage return.
-    WhiteSpace,
     /// Letters and `_`.
     WordStart,
     /// Letters, `_` and digits.
@@ -35,14 +31,11 @@ impl ByteClass {
         ensures { result ≡ is_in self byte }
     {
         match self {
-            ByteClass::Letter => byte.is_ascii_alphabetic(),
             ByteClass::Digit => byte.is_ascii_digit(),
             ByteClass::OctalDigit => matches!(byte, b'0'..=b'7'),
             ByteClass::HexadecimalDigit => byte.is_ascii_hexdigit(),
-            ByteClass::Newline => byte == b'\n',
             ByteClass::Blank => is_blank(byte),
             ByteClass::Space => is_blank(byte) || byte == b'\n',
-            ByteClass::WhiteSpace => matches!(byte, b' ' | 9..=13),
             ByteClass::WordStart => begins_word(byte),
             ByteClass::Word => begins_word(byte) || byte.is_ascii_digit(),
             ByteClass::WordOr(other) => {

@@ -1,6 +1,6 @@
 //! The value of digits.
 
-ghost use Rattle.std.specs.Prelude.{◌≡◌, ◌≤◌, ◌<◌, min};
+ghost use Rattle.std.specs.Prelude.{◌≡◌, ◌<◌, min};
 ghost use Rattle.cs_bytes.specs.Digits as spec;
 
 /// The value of a digit in a base up to 16; 0 for another byte.
@@ -18,7 +18,6 @@ pub fn digit_of(byte: u8) -> u32
 
 /// The number that the digits spell in the base, or the greatest `u32` where it is larger.
 pub fn number(base: u32, digits: &[u8]) -> u32
-    requires { 1 ≤ base }
     ensures { result ≡ min (spec.number_of base digits.now) u32.MAX }
 {
     let mut number: u32 = 0;

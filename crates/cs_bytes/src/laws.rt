@@ -18,6 +18,8 @@ pub fn one_run()
 pub fn byte_names()
     ensures controls { codes "\t\n\r"
         ≡ names.tab ∷ names.newline ∷ names.carriage_return ∷ [] }
+    ensures bells { codes "\u{7}\u{8}" ≡ names.alert ∷ names.backspace ∷ [] }
+    ensures feeds { codes "\u{b}\u{c}" ≡ names.vertical_tab ∷ names.form_feed ∷ [] }
     ensures quotes { codes "\"'\\"
         ≡ names.double_quote ∷ names.quote ∷ names.backslash ∷ [] }
     ensures braces { codes "{}" ≡ names.opening_brace ∷ names.closing_brace ∷ [] }
@@ -34,6 +36,8 @@ pub fn byte_names()
     ensures escapes { codes "abf" ≡ names.letter_a ∷ names.letter_b ∷ names.letter_f ∷ [] }
     ensures more_escapes { codes "nrt" ≡ names.letter_n ∷ names.letter_r ∷ names.letter_t ∷ [] }
     ensures last_escapes { codes "vx" ≡ names.letter_v ∷ names.letter_x ∷ [] }
+    ensures condition_letters { codes "sSX"
+        ≡ names.letter_s ∷ names.capital_s ∷ names.capital_x ∷ [] }
     ensures others { codes " $;" ≡ names.space ∷ names.dollar ∷ names.semicolon_sign ∷ [] }
 {}
 

@@ -1,7 +1,8 @@
 //! Bytes and text: the ground on which all readers stand.
 //!
 //! What stands at a place of a text, the longest run of a class of bytes, lines, pairs of bytes, and the value of digits.
-//! No call takes memory, and each looks at a byte once. The layers above find their constructs by these calls alone.
+//! No call takes memory, and each looks at a byte at most twice. The layers above find most of their constructs by these
+//! calls.
 //!
 //! All files of `specs/` are meaning: `Names` (the names of bytes), `Classes` (which bytes are of a class), `Places` (what
 //! stands at a place, a longest run, a line), `Digits` (the number that digits spell) and `Limits` (how large a text may

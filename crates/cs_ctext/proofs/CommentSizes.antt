@@ -4,8 +4,8 @@ use Rattle.std.specs.Prelude.{codes}
 use Rattle.std.proofs.lemmas.Bool.{false≢true}
 use Rattle.cs_bytes.specs.Places.{BeginsWith, IsFirstPair, HasNoPair, begins_with_two, has_pair, line_len}
 use Rattle.cs_bytes.proofs.Fronts.{BeginsWith-from_test, test_from_BeginsWith, test_false}
-use Rattle.cs_ctext.specs.Comments.{IsComment}
-use Rattle.cs_ctext.specs.Scans.{closing_size, comment_size, opens_comment}
+use Rattle.cs_ctext.specs.Comments.{IsComment, opens_comment}
+use Rattle.cs_ctext.specs.Scans.{closing_size, comment_size}
 use Rattle.cs_ctext.proofs.Fronts.{some_from_map}
 
 no_pair_in_nothing : (place : ℕ) → has_pair [] place 42 47 ≡ true → ⊥

@@ -2,8 +2,7 @@
 use Rattle.std.proofs.Common.{◌≡◌, ℕ, ◌+◌, ◌-◌, ◌≤◌, Bool, true, false, ◌||◌, List, length, Option, Some, None, option_map, refl, inl, inr, arith}
 use Rattle.cs_bytes.specs.Places.{begins_with_two}
 use Rattle.cs_bytes.proofs.Fronts.{BeginsWith-from_test, test_from_BeginsWith, pair_within}
-use Rattle.cs_ctext.specs.Comments.{OpensComment}
-use Rattle.cs_ctext.specs.Scans.{opens_comment}
+use Rattle.cs_ctext.specs.Comments.{OpensComment, opens_comment}
 
 pub some_from_map : (f : ℕ → ℕ) (found : Option ℕ) (n : ℕ) → option_map f found ≡ Some n → (m : ℕ) × (found ≡ Some m) × (f m ≡ n)
 some_from_map f None n e = absurd cc

@@ -1,6 +1,5 @@
 -- The byte and the size that are found are the literal's.
 use Rattle.std.proofs.Common.{◌≡◌, ◌≢◌, ℕ, suc, ◌+◌, ◌-◌, ◌<◌, ◌≤◌, Bool, true, false, cond, eqb, ◌||◌, List, [], ◌∷◌, ◌++◌, length, get_or, take, drop, min, Option, Some, None, refl, sym, ap, subst, ◌∙◌, ◌⊎◌, inl, inr, arith, eq-eqb, add-one, take-append-drop}
-use Rattle.std.specs.Prelude.{slice_get}
 use Rattle.std.specs.List.{prefix_len, list_all}
 use Rattle.std.proofs.lemmas.Bool.{false≢true, eqb-true}
 use Rattle.std.proofs.lemmas.Bool.Decides.{nat_tests}
@@ -10,9 +9,9 @@ use Rattle.cs_bytes.specs.Classes.{is_octal_digit, is_hexadecimal_digit}
 use Rattle.cs_bytes.specs.Digits.{number_of}
 use Rattle.cs_bytes.proofs.Runs.{run-stops, run-passes}
 use Rattle.cs_ctext.specs.Literals.{escaped_byte, IsCharacter, plain, named, octal, hexadecimal, IsLiteral}
-use Rattle.cs_bytes.specs.Places.{begins_with}
+use Rattle.cs_bytes.specs.Places.{begins_with, has_at}
 use Rattle.cs_ctext.specs.Scans.{digits_of, behind, single, escape_of, character_of}
-use Rattle.cs_bytes.proofs.Fronts.{false-eqb, and_true, front_got}
+use Rattle.cs_bytes.proofs.Fronts.{false-eqb, and_true, front_has}
 
 -- ---- pairs
 
@@ -176,10 +175,10 @@ found_from_IsLiteral text byte size h =
 
 -- ---- at a place of the bytes
 
-pub literal_read : (bytes text : List ℕ) (at value size : ℕ) → slice_get bytes at ≡ Some 39 → text ≡ drop (at + 1) bytes → character_of text ≡ Some (value, size)
+pub literal_read : (bytes text : List ℕ) (at value size : ℕ) → has_at bytes at 39 ≡ true → text ≡ drop (at + 1) bytes → character_of text ≡ Some (value, size)
     → value ≢ 0 → value ≤ 255 → begins_with 39 (drop size text) ≡ true → IsLiteral (drop at bytes) value ((at + size + 2) - at)
 literal_read bytes text at value size quote is e some small close =
-    let front : drop at bytes ≡ 39 ∷ text = front_got bytes at 39 quote ∙ ap (λ t. 39 ∷ t) (sym is) in
+    let front : drop at bytes ≡ 39 ∷ text = front_has bytes at 39 quote ∙ ap (λ t. 39 ∷ t) (sym is) in
     let end : (at + size + 2) - at ≡ size + 2 = omega arith in
     rw (front, end) (IsLiteral-from_found text value size e (omega arith) (omega arith) close)
 
@@ -199,12 +198,15 @@ refused text (Some (value, size)) byte n (inr (inl large)) e some small close =
 refused text (Some (value, size)) byte n (inr (inr open_end)) e some small close =
     false≢true (sym open_end ∙ (ap (λ k. begins_with 39 (drop k text)) (second_same value size byte n e) ∙ close))
 
-pub literal_refused : (bytes text : List ℕ) (at : ℕ) (found : Option (ℕ × ℕ)) → slice_get bytes at ≡ Some 39 → text ≡ drop (at + 1) bytes → found ≡ character_of text → IsNoLiteral text found
+pub literal_refused : (bytes text : List ℕ) (at : ℕ) (found : Option (ℕ × ℕ)) → has_at bytes at 39 ≡ true → text ≡ drop (at + 1) bytes → found ≡ character_of text → IsNoLiteral text found
     → (byte size : ℕ) → ¬ IsLiteral (drop at bytes) byte size
 literal_refused bytes text at found quote is e h byte size literal =
-    let front : drop at bytes ≡ 39 ∷ text = front_got bytes at 39 quote ∙ ap (λ t. 39 ∷ t) (sym is) in
+    let front : drop at bytes ≡ 39 ∷ text = front_has bytes at 39 quote ∙ ap (λ t. 39 ∷ t) (sym is) in
     let f = found_from_IsLiteral text byte size (subst (λ t. IsLiteral t byte size) front literal) in
     refused text found byte f.0 h (e ∙ f.1) f.3 f.4 f.2
+
+pub no_quote : (text : List ℕ) → begins_with 39 text ≡ false → (byte size : ℕ) → ¬ IsLiteral text byte size
+no_quote text e byte size literal = false≢true (sym e ∙ ap (begins_with 39) literal.spelled)
 
 pub same_literal : (text : List ℕ) (a b m n : ℕ) → IsLiteral text a m → IsLiteral text b n → (a ≡ b) × (m ≡ n)
 same_literal [] a b m n p q = absurd (nothing_spelled p.spelled)

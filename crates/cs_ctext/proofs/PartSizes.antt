@@ -2,10 +2,10 @@
 use Rattle.std.proofs.Common.{◌≡◌, ℕ, ◌<◌, length, arith, Bool, true, false, cond, eqb, ◌||◌, List, [], ◌∷◌, Option, Some, None, unwrap_or, refl, sym, ◌∙◌, inl, inr}
 use Rattle.std.proofs.lemmas.Bool.{false≢true, eqb-true}
 use Rattle.cs_ctext.specs.Marks.{is_quote}
-use Rattle.cs_ctext.specs.Comments.{IsComment, OpensComment, IsOpenComment}
+use Rattle.cs_ctext.specs.Comments.{IsComment, OpensComment, opens_comment, IsOpenComment}
 use Rattle.cs_ctext.specs.Quotes.{IsQuoted}
 use Rattle.cs_ctext.specs.Blocks.{IsPart, comment, quoted, other, BeginsPart}
-use Rattle.cs_ctext.specs.Scans.{opens_comment, comment_size, quoted_size, part_size}
+use Rattle.cs_ctext.specs.Scans.{comment_size, quoted_size, part_size}
 use Rattle.cs_ctext.proofs.Fronts.{OpensComment-from_test, test_from_OpensComment}
 use Rattle.cs_ctext.proofs.CommentSizes.{comment_size-comment, IsComment-from_size, no_comment_from_size}
 use Rattle.cs_ctext.proofs.QuotedSizes.{quoted_size-quoted, IsQuoted-from_size, no_quoted_from_size}

@@ -1,7 +1,7 @@
 -- Comments of C: `/*` through the next `*/`, and `//` to the line's end (ISO C, comments).
-use Rattle.std.specs.Prelude.{◌≡◌, ℕ, ◌+◌, ◌⊎◌, List, drop, codes}
+use Rattle.std.specs.Prelude.{◌≡◌, ℕ, ◌+◌, ◌⊎◌, Bool, ◌||◌, List, drop, codes}
 use Rattle.cs_bytes.specs.Names.{star, slash}
-use Rattle.cs_bytes.specs.Places.{BeginsWith, IsFirstPair, line_len}
+use Rattle.cs_bytes.specs.Places.{BeginsWith, IsFirstPair, begins_with_two, line_len}
 
 -- The text begins with `/*`, and the first `*/` behind it stands behind `inside` bytes.
 pub record IsClosedComment (text : List ℕ) (size : ℕ) : Type 0 where
@@ -22,6 +22,10 @@ IsComment text size = IsClosedComment text size ⊎ IsLineComment text size
 -- the text begins with what opens a comment
 abbrev pub OpensComment : List ℕ → Type 0
 OpensComment text = BeginsWith (codes "/*") text ⊎ BeginsWith (codes "//") text
+
+-- the same as a test
+abbrev pub opens_comment : List ℕ → Bool
+opens_comment text = begins_with_two slash star text || begins_with_two slash slash text
 
 -- the text opens a comment that isn't closed
 abbrev pub IsOpenComment : List ℕ → Type 0

@@ -7,12 +7,10 @@ use Rattle.cs_bytes.specs.Classes.{is_octal_digit, is_hexadecimal_digit, is_word
 use Rattle.cs_bytes.specs.Places.{begins_with_two, line_len}
 use Rattle.cs_bytes.specs.Digits.{number_of}
 use Rattle.cs_ctext.specs.Marks.{is_quote}
+use Rattle.cs_ctext.specs.Comments.{opens_comment}
 use Rattle.cs_ctext.specs.Literals.{escaped_byte}
 use Rattle.cs_ctext.specs.Words.{word_at}
 use Rattle.cs_ctext.specs.declared.word_iter.Word.{Word}
-
-abbrev pub opens_comment : List ℕ → Bool
-opens_comment text = begins_with_two slash star text || begins_with_two slash slash text
 
 -- through the first `*/`
 abbrev pub closing_size : List ℕ → Option ℕ

@@ -92,7 +92,7 @@ impl<'a> CText<'a> {
     }
 
     /// The size of the comment, closed quoted construct or other byte at `at`; `None` where an open comment stands there.
-    pub fn part_size(&mut self, at: usize) -> Option<usize>
+    pub(crate) fn part_size(&mut self, at: usize) -> Option<usize>
         requires { at < length self.old }
         ensures size { result ≡ scans.part_size (drop at self.old) }
         ensures within { IfSome result (λ size. (0 < size) × (at + size ≤ length self.old)) }

@@ -1,7 +1,6 @@
 //! Character literals.
 
-ghost use Rattle.std.specs.Prelude.{◌≡◌, ℕ, ◌-◌, ◌<◌, ◌≤◌, Some, length, drop, slice_get, IfSome, IfNone};
-ghost use Rattle.cs_bytes.specs.Names.{quote};
+ghost use Rattle.std.specs.Prelude.{◌≡◌, ℕ, ◌-◌, ◌<◌, ◌≤◌, length, drop, IfSome, IfNone};
 ghost use Rattle.cs_bytes.specs.Classes.{is_in};
 ghost use Rattle.cs_ctext.specs.Literals as spec;
 ghost use Rattle.cs_ctext.specs.Scans as scans;
@@ -13,14 +12,17 @@ use cs_bytes::{ByteClass, from_offset, has_at, number, run_len};
 /// Between the quotes stands one byte other than a single quote, a backslash and a newline, or an escape: a backslash with
 /// one of `a b f n r t v`, one to three octal digits, `x` and one or two hexadecimal digits, or one of `\ ' " ?`. `None`
 /// comes exactly where no literal begins at `at`; none spells 0 or a value above 255.
+#[tactic(auto, using(cs_bytes::proofs::Fronts::has_within))]
 pub fn read_literal(bytes: &[u8], at: usize) -> Option<(u8, usize)>
-    requires { slice_get bytes.now at ≡ Some quote }
     ensures literal { IfSome result (λ read.
         spec.IsLiteral (drop at bytes.now) read.0 (read.1 - at)) }
     ensures within { IfSome result (λ read. (at < read.1) × (read.1 ≤ length bytes.now)) }
     ensures none { IfNone result
         ((byte size : ℕ) → ¬ spec.IsLiteral (drop at bytes.now) byte size) }
 {
+    if !has_at(bytes, at, b'\'') {
+        return None;
+    }
     let text = from_offset(bytes, at + 1);
     let (value, size) = character(text)?;
     if value == 0 || value > 255 || !has_at(text, size, b'\'') {
@@ -86,9 +88,8 @@ fn escaped_byte(byte: u8) -> Option<u8>
 }
 
 /// The number of up to `most` digits in front of the text, and their count; `None` where none stands there.
-
 fn digits(text: &[u8], class: ByteClass, base: u32, most: usize) -> Option<(u32, usize)>
-    requires base { (1 ≤ base) × (base ≤ 16) }
+    requires base { base ≤ 16 }
     requires few { most ≤ 3 }
     ensures value { result ≡ scans.digits_of (is_in class) base most text.now }
     ensures within { IfSome result (λ read. read.1 ≤ length text.now) }

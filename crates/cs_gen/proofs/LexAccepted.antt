@@ -20,6 +20,7 @@ use Rattle.cs_yacc.specs.declared.name.TokenName.{TokenName}
 use Rattle.cs_yacc.specs.declared.name.TokenName.TheVariants.{Word, Byte}
 use Rattle.cs_yacc.specs.Meaning.{same_spelling}
 use Rattle.cs_yacc.specs.File as tokens
+use Rattle.cs_yacc.specs.File.{IsNamed}
 use Rattle.cs_yacc.proofs.Gathering.{same_is, same_self}
 use Rattle.cs_lex_layout.specs.declared.parts.Rule.{Rule}
 use Rattle.cs_lex_layout.specs.declared.unit.UnitKind.TheVariants.{Plain}
@@ -31,7 +32,7 @@ use Rattle.cs_lex.specs.File.{File}
 use Rattle.cs_lex.specs.Kinds.{action_of, HasKind, HaveKinds}
 use Rattle.cs_lex.specs.Patterns.{HavePatterns, positions}
 use Rattle.cs_lex.specs.Reading.{IsLast, IsLexFile}
-use Rattle.cs_lex.specs.Tokens.{IsTokenOf, IsNotInUse, GivesName, in_use, not_in_use, IsEntry, AreLiterals}
+use Rattle.cs_lex.specs.Tokens.{GivesName, in_use, not_in_use, IsEntry, AreLiterals}
 use Rattle.cs_lex.specs.Tokens as entries
 use Rattle.cs_gen.specs.declared.symbol.Symbol.TheVariants as symbols
 use Rattle.cs_gen.specs.Texts.{up_to, name, token_rule, lex_text}
@@ -166,8 +167,8 @@ found (v ∷ names) w = by_same (same_spelling v w) refl (found names w)
     by_same true e rest = inl (0, ap Some (same_is v w e))
     by_same false e rest = shifted rest (λ f. false≢true (sym e ∙ ap (λ u. same_spelling v u) (sym f) ∙ same_self v))
 
-token_at : (yacc : tokens.File) (w : TokenName) (k : ℕ) → slice_get yacc.token_names k ≡ Some w → IsTokenOf yacc w (suc k)
-token_at yacc w k e = let same : suc k - 1 ≡ k = omega arith in record { some = omega arith; named = rw same e }
+token_at : (yacc : tokens.File) (w : TokenName) (k : ℕ) → slice_get yacc.token_names k ≡ Some w → IsNamed yacc.token_names (suc k) w
+token_at yacc w k e = let same : suc k - 1 ≡ k = omega arith in (omega arith, rw same e)
 
 -- what a name gives, whatever is in use
 given : (yacc : tokens.File) (w : TokenName) → (kind : Kind) × GivesName yacc w kind

@@ -10,12 +10,10 @@ use Rattle.cs_pattern_items.specs.declared.item.Repetition.TheVariants.{AtLeast}
 use Rattle.cs_pattern_items.specs.ByteKind.{is_plain}
 use Rattle.cs_pattern_items.specs.Items as items
 use Rattle.cs_pattern_items.specs.Items.{Placed, items_of}
-use Rattle.cs_pattern_items.specs.Marks.{Mark, plain, escaped}
 use Rattle.cs_pattern_items.specs.Members.{has, bytes_where}
-use Rattle.cs_pattern_items.specs.Bracket.{Member, one}
-use Rattle.cs_pattern_items.specs.Parts.{Shows, Escapes, itself_or_control, InTurn}
+use Rattle.cs_pattern_items.specs.Parts.{Escapes, itself_or_control, InTurn}
 use Rattle.cs_pattern_items.specs.Parts as parts
-use Rattle.cs_pattern_items.specs.Brackets.{IsPart, of_class, of_symbol, of_equivalence, IsMark, itself, escape, others, IsClosed, upright, AreMembers, none, single, IsOf, IsBracket}
+use Rattle.cs_pattern_items.specs.Brackets.{Mark, plain, escaped, Member, one, IsPart, of_class, of_symbol, of_equivalence, IsMark, itself, escape, others, IsClosed, upright, AreMembers, none, single, IsOf, IsBracket}
 use Rattle.cs_pattern_items.specs.Spelling.{one_byte, Spells, byte, bracket, plus_sign}
 use Rattle.cs_pattern_items.proofs.Picked.{has_picked, bytes_where-set}
 use Rattle.cs_pattern_postfix.specs.Grammar.{Tree, LastBranch, Branch, LastPiece, Beside, Piece, Repeated, Bytes, branch_items, piece_parts}

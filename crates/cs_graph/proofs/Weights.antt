@@ -1,13 +1,11 @@
 -- What the nodes of an order weigh.
 use Rattle.std.proofs.Common.{◌≡◌, ℕ, zero, suc, ◌+◌, ◌<◌, ◌≤◌, Bool, true, false, List, [], ◌∷◌, ◌++◌, length, replicate, get_or, refl, sym, ◌∙◌, subst, append_assoc, arith, inl, inr}
 use Rattle.std.specs.Prelude.{Contains, sum, sum_by}
-use Rattle.std.specs.Global.{Vec}
 use Rattle.std.proofs.Math.ListN.{set, length-set}
 use Rattle.std.proofs.lemmas.Bool.{false≢true}
 use Rattle.std.proofs.lemmas.List.{length-replicate}
 use Rattle.std.proofs.lemmas.List.Sums.{sum_by-cons}
 use Rattle.std.proofs.lemmas.List.Elements.{Contains-append_left, Contains-append_right, Contains-push}
-use Rattle.cs_graph.specs.Graph.{IsOrdered}
 use Rattle.cs_graph.specs.Marks.{IsMarked}
 use Rattle.cs_graph.proofs.Counting.{true_or_false, marked_before, none_marked}
 
@@ -50,6 +48,3 @@ module _ (order weights : List ℕ) (within : (i : ℕ) → Contains order i →
   weighed_once =
       let first = weighed order [] (replicate (length weights) false) refl (length-replicate (length weights) false) (λ i m. absurd (none_marked (length weights) i m)) in
       omega (arith, spare-none weights)
-
-pub one_place : (graph : List (Vec ℕ)) (order weights : List ℕ) → IsOrdered graph order → length weights ≡ length graph → sum_by (λ node. get_or weights node 0) order ≤ sum weights
-one_place graph order weights o size = weighed_once order weights (λ i h. let lt = o.within i h in omega arith) o.once

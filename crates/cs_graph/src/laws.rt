@@ -11,6 +11,6 @@ pub fn ordered_without_cycle()
 {}
 
 /// The nodes of an order weigh together at most what all nodes weigh.
-pub fn one_place()
+pub fn weighed_once()
     ensures { (graph : List (Vec ℕ)) → AreWeighedOnce graph }
 {}

@@ -15,5 +15,5 @@ mod ordering;
 
 pub use component::components;
 pub use fits::is_graph;
-pub use laws::{one_place, ordered_without_cycle};
+pub use laws::{ordered_without_cycle, weighed_once};
 pub use ordering::order;

@@ -1,5 +1,5 @@
 -- The kinds of rules, as the code finds them.
-use Rattle.std.proofs.Common.{◌≡◌, ◌≢◌, ℕ, suc, ◌+◌, ◌-◌, ◌<◌, ◌≤◌, Option, Some, None, List, [], ◌∷◌, ◌++◌, length, take, drop, get_or, slice_get, ◌⊎◌, inl, inr, refl, sym, ap, subst, ◌∙◌, arith}
+use Rattle.std.proofs.Common.{◌≡◌, ℕ, suc, ◌+◌, ◌<◌, ◌≤◌, Option, Some, None, List, [], ◌∷◌, ◌++◌, length, take, drop, get_or, ◌⊎◌, inl, inr, refl, sym, ap, subst, ◌∙◌, arith}
 use Rattle.std.specs.Prelude.{IfSome, IfNone, reverse}
 use Rattle.std.proofs.lemmas.List.{reverse-append, take-append-drop, drop_all, length-drop}
 use Rattle.std.proofs.lemmas.Bool.{cases_lt}
@@ -9,15 +9,16 @@ use Rattle.cs_lex.proofs.LastRules.{last_same}
 use Rattle.cs_pattern_tree.specs.declared.kind.Kind.{Kind}
 use Rattle.cs_yacc.specs.declared.name.TokenName.{TokenName}
 use Rattle.cs_yacc.specs.File as tokens
+use Rattle.cs_yacc.specs.File.{IsNamed, NoneNamed}
 use Rattle.cs_lex_kinds.specs.Kinds.{IsKind}
 use Rattle.cs_lex_layout.specs.declared.parts.Rule.{Rule}
 use Rattle.cs_lex.specs.Found.{GivesNamed, GivesOver}
 use Rattle.cs_lex.specs.Kinds.{action_of, IsBarRule, HaveKinds}
 use Rattle.cs_lex.specs.Tokens.{GivesName, in_use, not_in_use}
 
-pub given_name : (file : tokens.File) (name : TokenName) (token : Option ℕ) (kind : Kind) → IfSome token (λ t. (0 < t) × (slice_get file.token_names (t - 1) ≡ Some name))
-    → IfNone token ((k : ℕ) → slice_get file.token_names k ≢ Some name) → GivesNamed token kind → GivesName file name kind
-given_name file name (Some t) kind found none is = in_use t (record { some = found.0; named = found.1 }) is
+pub given_name : (file : tokens.File) (name : TokenName) (token : Option ℕ) (kind : Kind) → IfSome token (λ t. IsNamed file.token_names t name)
+    → IfNone token (NoneNamed file.token_names name) → GivesNamed token kind → GivesName file name kind
+given_name file name (Some t) kind found none is = in_use t found is
 given_name file name None kind found none is = not_in_use none is
 
 -- the rule behind which no rule stands

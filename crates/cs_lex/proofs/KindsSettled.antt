@@ -10,11 +10,12 @@ use Rattle.cs_pattern_tree.specs.declared.kind.Kind.TheVariants.{Token, OwnByte,
 use Rattle.cs_yacc.specs.declared.name.TokenName.{TokenName}
 use Rattle.cs_yacc.specs.declared.name.TokenName.TheVariants.{Word, Byte}
 use Rattle.cs_yacc.specs.File as tokens
+use Rattle.cs_yacc.specs.File.{IsNamed}
 use Rattle.cs_lex_layout.specs.declared.parts.Rule.{Rule}
 use Rattle.cs_lex_kinds.specs.Kinds.{ActionKind, bar, skip, word, literal, own_byte, foreign, IsKind}
 use Rattle.cs_lex.specs.Kinds.{action_of, IsBarRule, Gives, HasKind, HaveKinds}
 use Rattle.cs_lex.specs.Settled.{HasActionKind}
-use Rattle.cs_lex.specs.Tokens.{IsTokenOf, GivesName, IsEntry, AreLiterals}
+use Rattle.cs_lex.specs.Tokens.{GivesName, IsEntry, AreLiterals}
 use Rattle.cs_lex.specs.Tokens as spec
 use Rattle.cs_lex.proofs.LastRules.{no_bar}
 
@@ -50,10 +51,10 @@ place_of (n ∷ names) name = by_first (same_name n name) (place_of names name)
         not_there (suc place) e = none place e
 
 module _ (file : tokens.File) where
-  token_at : (name : TokenName) (place : ℕ) → slice_get file.token_names place ≡ Some name → IsTokenOf file name (place + 1)
+  token_at : (name : TokenName) (place : ℕ) → slice_get file.token_names place ≡ Some name → IsNamed file.token_names (place + 1) name
   token_at name place e =
       let same : place ≡ place + 1 - 1 = omega arith in
-      record { some = omega arith; named = subst (λ (k : ℕ). slice_get file.token_names k ≡ Some name) same e }
+      (omega arith, subst (λ (k : ℕ). slice_get file.token_names k ≡ Some name) same e)
 
   name_given : (name : TokenName) → (k : Kind) × GivesName file name k
   name_given name = elim (place_of file.token_names name) [

@@ -10,28 +10,29 @@ use Rattle.cs_pattern_tree.specs.declared.kind.Kind.TheVariants.{Token}
 use Rattle.cs_yacc.specs.declared.name.TokenName.{TokenName}
 use Rattle.cs_yacc.specs.declared.name.TokenName.TheVariants.{Word, Byte}
 use Rattle.cs_yacc.specs.File as tokens
+use Rattle.cs_yacc.specs.File.{IsNamed}
 use Rattle.cs_lex_kinds.specs.Kinds.{ActionKind, bar, skip, word, literal, own_byte, foreign}
 use Rattle.cs_lex_layout.specs.declared.parts.Rule.{Rule}
 use Rattle.cs_lex.specs.File.{File, NamesTokenOf, HasTokensOf}
 use Rattle.cs_lex.specs.Kinds.{Gives, HaveKinds}
-use Rattle.cs_lex.specs.Tokens.{IsTokenOf, IsNotInUse, GivesName, in_use, not_in_use, IsEntry, AreLiterals}
+use Rattle.cs_lex.specs.Tokens.{GivesName, in_use, not_in_use, IsEntry, AreLiterals}
 use Rattle.cs_lex.specs.Tokens as spec
 
 module _ (file : tokens.File) (is_file : tokens.IsFile file) where
-  name_there : (name d : TokenName) (t : ℕ) → IsTokenOf file name t → get_or (tokens.all_names file) (t - 1) d ≡ name
+  name_there : (name d : TokenName) (t : ℕ) → IsNamed file.token_names t name → get_or (tokens.all_names file) (t - 1) d ≡ name
   name_there name d t h =
-      let lt : t - 1 < length file.token_names = slice_get_within file.token_names (t - 1) name h.named in
-      get_or_append_left file.token_names (map Word file.nonterminal_names) d (t - 1) lt ∙ get_or_from_slice_get file.token_names (t - 1) name d h.named
+      let lt : t - 1 < length file.token_names = slice_get_within file.token_names (t - 1) name h.1 in
+      get_or_append_left file.token_names (map Word file.nonterminal_names) d (t - 1) lt ∙ get_or_from_slice_get file.token_names (t - 1) name d h.1
 
-  place_within : (name : TokenName) (t : ℕ) → IsTokenOf file name t → t - 1 < length (tokens.all_names file)
-  place_within name t h = omega (arith, slice_get_within file.token_names (t - 1) name h.named, length-append file.token_names (map Word file.nonterminal_names))
+  place_within : (name : TokenName) (t : ℕ) → IsNamed file.token_names t name → t - 1 < length (tokens.all_names file)
+  place_within name t h = omega (arith, slice_get_within file.token_names (t - 1) name h.1, length-append file.token_names (map Word file.nonterminal_names))
 
-  differ_below : (name : TokenName) (t u : ℕ) → t < u → IsTokenOf file name t → IsTokenOf file name u → ⊥
+  differ_below : (name : TokenName) (t u : ℕ) → t < u → IsNamed file.token_names t name → IsNamed file.token_names u name → ⊥
   differ_below name t u lt h k =
-      is_file.differ (t - 1) (u - 1) name (omega (arith, h.some)) (place_within name u k) (name_there name name t h ∙ sym (name_there name name u k))
+      is_file.differ (t - 1) (u - 1) name (omega (arith, h.0)) (place_within name u k) (name_there name name t h ∙ sym (name_there name name u k))
 
   -- a name is that of one token
-  pub one_token : (name : TokenName) (t u : ℕ) → IsTokenOf file name t → IsTokenOf file name u → t ≡ u
+  pub one_token : (name : TokenName) (t u : ℕ) → IsNamed file.token_names t name → IsNamed file.token_names u name → t ≡ u
   one_token name t u h k = by_order (cases_lt t u) (cases_lt u t)
     where
       by_order : (t < u) ⊎ (u ≤ t) → (u < t) ⊎ (t ≤ u) → t ≡ u
@@ -41,14 +42,14 @@ module _ (file : tokens.File) (is_file : tokens.IsFile file) where
 
   pub one_given_name : (name : TokenName) (j k : Kind) → GivesName file name j → GivesName file name k → j ≡ k
   one_given_name name j k (in_use t h p) (in_use u i q) = p ∙ (ap Token (one_token name t u h i) ∙ sym q)
-  one_given_name name j k (in_use t h p) (not_in_use n q) = absurd (n (t - 1) h.named)
-  one_given_name name j k (not_in_use n p) (in_use u i q) = absurd (n (u - 1) i.named)
+  one_given_name name j k (in_use t h p) (not_in_use n q) = absurd (n (t - 1) h.1)
+  one_given_name name j k (not_in_use n p) (in_use u i q) = absurd (n (u - 1) i.1)
   one_given_name name j k (not_in_use n p) (not_in_use m q) = p ∙ sym q
 
   one_entry : (b x y : ℕ) → IsEntry file b x → IsEntry file b y → x ≡ y
   one_entry b x y (spec.IsEntry.in_use h) (spec.IsEntry.in_use i) = one_token (Byte b) x y h i
-  one_entry b x y (spec.IsEntry.in_use h) (spec.IsEntry.not_in_use n q) = absurd (n (x - 1) h.named)
-  one_entry b x y (spec.IsEntry.not_in_use n p) (spec.IsEntry.in_use i) = absurd (n (y - 1) i.named)
+  one_entry b x y (spec.IsEntry.in_use h) (spec.IsEntry.not_in_use n q) = absurd (n (x - 1) h.1)
+  one_entry b x y (spec.IsEntry.not_in_use n p) (spec.IsEntry.in_use i) = absurd (n (y - 1) i.1)
   one_entry b x y (spec.IsEntry.not_in_use n p) (spec.IsEntry.not_in_use m q) = p ∙ sym q
 
   pub one_list_of_literals : (xs ys : List ℕ) → AreLiterals file xs → AreLiterals file ys → xs ≡ ys
@@ -62,11 +63,11 @@ module _ (file : tokens.File) (is_file : tokens.IsFile file) where
 -- ---- tokens of the file
 
 module _ (file : tokens.File) where
-  token_within : (name : TokenName) (t : ℕ) → IsTokenOf file name t → t ≤ length file.token_names
-  token_within name t h = omega (arith, h.some, slice_get_within file.token_names (t - 1) name h.named)
+  token_within : (name : TokenName) (t : ℕ) → IsNamed file.token_names t name → t ≤ length file.token_names
+  token_within name t h = omega (arith, h.0, slice_get_within file.token_names (t - 1) name h.1)
 
   names_token : (name : TokenName) (k : Kind) → GivesName file name k → NamesTokenOf (length file.token_names) k
-  names_token name k (in_use t h p) = subst (NamesTokenOf (length file.token_names)) (sym p) (h.some, token_within name t h)
+  names_token name k (in_use t h p) = subst (NamesTokenOf (length file.token_names)) (sym p) (h.0, token_within name t h)
   names_token name k (not_in_use n p) = subst (NamesTokenOf (length file.token_names)) (sym p) tt
 
   kind_names : (a : ActionKind) (behind : List Kind) (k : Kind) → Gives file a behind k → All (NamesTokenOf (length file.token_names)) behind → NamesTokenOf (length file.token_names) k

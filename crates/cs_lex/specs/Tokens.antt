@@ -1,29 +1,21 @@
 -- The tokens in use of a yacc file, by their names.
-use Rattle.std.specs.Prelude.{◌≡◌, ◌≢◌, ℕ, ◌-◌, ◌<◌, List, Some, slice_get, slice_index, length}
+use Rattle.std.specs.Prelude.{◌≡◌, ℕ, ◌<◌, List, slice_index, length}
 use Rattle.cs_pattern_tree.specs.declared.kind.Kind.{Kind}
 use Rattle.cs_pattern_tree.specs.declared.kind.Kind.TheVariants.{Token, Foreign}
 use Rattle.cs_yacc.specs.declared.name.TokenName.{TokenName}
 use Rattle.cs_yacc.specs.declared.name.TokenName.TheVariants.{Byte}
 use Rattle.cs_yacc.specs.File as tokens
-
--- the token, by its number from 1, has the name
-pub record IsTokenOf (file : tokens.File) (name : TokenName) (token : ℕ) : Type 0 where
-  pub some : 0 < token
-  pub named : slice_get file.token_names (token - 1) ≡ Some name
-
--- no token in use has the name
-abbrev pub IsNotInUse : tokens.File → TokenName → Type 0
-IsNotInUse file name = (place : ℕ) → slice_get file.token_names place ≢ Some name
+use Rattle.cs_yacc.specs.File.{IsNamed, NoneNamed}
 
 -- What a name gives: its token, or what isn't known where it isn't in use.
 pub data GivesName (file : tokens.File) (name : TokenName) (kind : Kind) : Type 0 where
-  in_use : (token : ℕ) → IsTokenOf file name token → kind ≡ Token token → GivesName file name kind
-  not_in_use : IsNotInUse file name → kind ≡ Foreign → GivesName file name kind
+  in_use : (token : ℕ) → IsNamed file.token_names token name → kind ≡ Token token → GivesName file name kind
+  not_in_use : NoneNamed file.token_names name → kind ≡ Foreign → GivesName file name kind
 
 -- The entry of a byte: the token of its literal, or 0 where that isn't in use.
 pub data IsEntry (file : tokens.File) (byte entry : ℕ) : Type 0 where
-  in_use : IsTokenOf file (Byte byte) entry → IsEntry file byte entry
-  not_in_use : IsNotInUse file (Byte byte) → entry ≡ 0 → IsEntry file byte entry
+  in_use : IsNamed file.token_names entry (Byte byte) → IsEntry file byte entry
+  not_in_use : NoneNamed file.token_names (Byte byte) → entry ≡ 0 → IsEntry file byte entry
 
 -- the entries of all bytes, in order
 pub record AreLiterals (file : tokens.File) (literals : List ℕ) : Type 0 where

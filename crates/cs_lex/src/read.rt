@@ -20,8 +20,8 @@ use std::alloc::Global;
 /// (POSIX lex; the profile and its departures are in docs/FORMATS.md).
 ///
 /// `Ok` comes exactly where the bytes are accepted, with the file that they mean. The first five errors are told by the first
-/// place where layout stops; the others are tried in the order of the specification: no rules, `|` as the last action, too many
-/// rules, a definition, a rule's pattern in file order, too many positions. `Memory` is want of memory.
+/// place where layout stops; the others are tried in this order: no rules, `|` as the last action, too many rules, a
+/// definition, a rule's pattern in file order, too many positions. `Memory` is want of memory.
 pub fn read_lex(alloc: Global, bytes: &[u8], yacc: &YaccFile) -> Result<LexFile, LexError>
     requires { length bytes.now ≤ most_bytes }
     ensures read { IfOk result (IsLexFile bytes.now yacc.now) }

@@ -5,7 +5,7 @@ ghost use Rattle.cs_bytes.specs.Classes.{is_in};
 ghost use Rattle.cs_lex_kinds.specs.Gaps as spec;
 
 use cs_bytes::{ByteClass, begins, from_offset};
-use cs_ctext::{opens_comment, skip_comment};
+use cs_ctext::skip_comment;
 
 /// The size of the byte of the class or closed comment in front.
 fn spacing_size(text: &[u8], class: ByteClass) -> Option<usize>
@@ -16,10 +16,7 @@ fn spacing_size(text: &[u8], class: ByteClass) -> Option<usize>
     if begins(text, class) {
         return Some(1);
     }
-    if opens_comment(text, 0) {
-        return skip_comment(text, 0);
-    }
-    None
+    skip_comment(text, 0)
 }
 
 /// The size of the gap in front: bytes of the class, and closed comments.

@@ -76,7 +76,11 @@ fn by_words(action: &[u8]) -> ActionKind<'_>
     }
 }
 
-/// The kind of the action.
+/// The kind of the action. No C is run: its comments and C words decide, by the first row that applies of the table in
+/// docs/FORMATS.md: `|` alone, a comment that says the kind, a word such as REJECT, no word `return`, one `return` with a name, a
+/// literal or the match's first byte behind it, anything else.
+///
+/// Source: POSIX.1-2017, lex, "Actions in lex"; which C texts give which kind is this project's own table.
 pub fn action_kind(action: &[u8]) -> ActionKind<'_>
     ensures { spec.IsKind action.now (kind_of result) }
 {

@@ -13,7 +13,7 @@ ghost use Rattle.cs_lex_kinds.specs.MarkViews.{FindsSpelled, FindsIn, FindsFront
 
 use crate::named::{begins_with, literal_at};
 use cs_bytes::{ByteClass, from_offset, run_len, same_bytes, to_offset};
-use cs_ctext::{CText, opens_comment, skip_comment};
+use cs_ctext::{CText, skip_comment};
 
 /// What a mark says.
 #[derive(Clone, Copy, Debug)]
@@ -82,9 +82,6 @@ fn mark_of(comment: &[u8]) -> Option<Mark<'_>>
 fn mark_at(text: &[u8]) -> Option<Mark<'_>>
     ensures { FindsFront text.now result }
 {
-    if !opens_comment(text, 0) {
-        return None;
-    }
     let size = skip_comment(text, 0)?;
     mark_of(to_offset(text, size))
 }

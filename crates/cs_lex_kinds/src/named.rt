@@ -5,7 +5,7 @@ ghost use Rattle.std.specs.Str.{bytes_eq};
 ghost use Rattle.cs_ctext.specs.Literals.{IsLiteral};
 ghost use Rattle.cs_lex_kinds.specs.Views.{FindsNamed};
 
-use cs_bytes::{ByteClass, begins, has_at, run_len, same_bytes, to_offset};
+use cs_bytes::{ByteClass, begins, run_len, same_bytes, to_offset};
 use cs_ctext::read_literal;
 
 /// What an action names: a token by its word or its byte, or the byte that was read.
@@ -35,10 +35,7 @@ pub(crate) fn literal_at(text: &[u8]) -> Option<(u8, usize)>
     ensures literal { IfSome result (λ f. IsLiteral text.now f.0 f.1 × (f.1 ≤ length text.now)) }
     ensures none { IfNone result ((byte size : ℕ) → ¬ IsLiteral text.now byte size) }
 {
-    if has_at(text, 0, b'\'') {
-        return read_literal(text, 0);
-    }
-    None
+    read_literal(text, 0)
 }
 
 /// The name in front of the text.

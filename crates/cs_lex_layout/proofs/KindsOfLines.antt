@@ -15,7 +15,7 @@ use Rattle.cs_lex_layout.specs.Runs.{IsOpenRun}
 use Rattle.cs_lex_layout.specs.Forms as forms
 use Rattle.cs_lex_layout.specs.Forms.{blanks, options_of, IsCodeBlock, AreOptions, IsFirstUnknown, IsLoose}
 use Rattle.cs_lex_layout.specs.Layout as spec
-use Rattle.cs_lex_layout.specs.Layout.{bytes_of, names_of, has_name, definition_at, rule_at, DefinitionsPlace, HasDefinitionAt, IsPassed, DefinitionsLine, no_definitions, HasDefinitions, RulesPlace, HasRuleAt, IsPassedRule, RulesLine, no_rules, HasRules, HasLayout, DefinitionsFault, RulesFault, StopsWith, in_definitions, in_rules}
+use Rattle.cs_lex_layout.specs.Layout.{bytes_of, names_of, has_name, DefinitionsPlace, HasDefinitionAt, IsPassed, DefinitionsLine, DefinitionsFault}
 use Rattle.cs_lex_layout.proofs.Walks.{StopsBefore, covers_same, covers_apart, sized_unique, sized_none, Halts}
 use Rattle.cs_lex_layout.proofs.Extents.{pattern_same, run_same, open_run_same, run_not_open}
 

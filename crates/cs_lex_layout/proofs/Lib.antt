@@ -10,4 +10,5 @@ pub mod Lying
 pub mod Reading
 pub mod KindsOfLines
 pub mod Uniqueness
+pub mod Ending
 pub mod SettledTexts

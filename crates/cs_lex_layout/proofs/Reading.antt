@@ -94,9 +94,6 @@ module _ (bytes : List ℕ) (at : ℕ) (ds : List Definition) (so_far : Walk (De
   pub never_ends : length bytes ≤ at → StopsWith bytes (Layout at)
   never_ends le = in_definitions (record { at = at; definitions = ds }) so_far (no_form (ap definitions_kind (drop_all at bytes le)) refl)
 
-  pub has_definitions : (to : ℕ) → definitions_kind (drop at bytes) ≡ kinds.SectionEnd → to ≡ at + line_size (drop at bytes) → HasDefinitions bytes ds to
-  has_definitions to e f = record { at = at; lines = so_far; ends = e; behind_is = f }
-
 pub names_more : (bytes : List ℕ) (ds all : List Definition) (d : Definition) (names more : List (List ℕ)) (name : List ℕ) → names ≡ names_of bytes ds → all ≡ ds ++ d ∷ [] → name ≡ bytes_of bytes d.name → more ≡ names ++ name ∷ [] → more ≡ names_of bytes all
 names_more bytes ds all d names more name is f e g = rw (g, is, e, f) (sym (map_push (λ (x : Definition). bytes_of bytes x.name) ds d))
 
@@ -119,9 +116,6 @@ module _ (bytes : List ℕ) (from at : ℕ) (rs : List Rule) (so_far : Walk (Rul
 
   pub has_rules : rules_kind (drop at bytes) ≡ kinds.SectionEnd → HasRules bytes from rs
   has_rules e = record { at = at; lines = so_far; ends = e }
-
-  pub has_rules_at_end : length bytes ≤ at → HasRules bytes from rs
-  has_rules_at_end le = has_rules (ap rules_kind (drop_all at bytes le))
 
 pub rules_stop : (bytes : List ℕ) (ds : List Definition) (from : ℕ) (e : LayoutError) → HasDefinitions bytes ds from → StopsInRulesOr bytes from e → AnswersError bytes e
 rules_stop bytes ds from (Unended n) h s = in_rules ds from h s.0 s.1 s.2

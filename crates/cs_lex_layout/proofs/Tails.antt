@@ -1,5 +1,5 @@
 -- Blocks of code, and tails of definitions.
-use Rattle.std.proofs.Common.{◌≡◌, ℕ, zero, suc, ◌+◌, ◌<◌, ◌≤◌, true, false, List, [], length, drop, sym, ap, ◌∙◌, ◌⊎◌, inl, inr, arith}
+use Rattle.std.proofs.Common.{◌≡◌, ℕ, zero, suc, ◌+◌, ◌<◌, ◌≤◌, true, false, eqb, List, [], length, drop, sym, ap, ◌∙◌, ◌⊎◌, inl, inr, arith}
 use Rattle.std.proofs.lemmas.Bool.{false≢true}
 use Rattle.std.proofs.lemmas.List.{drop_all}
 use Rattle.cs_ctext.specs.Comments.{IsComment}
@@ -25,6 +25,6 @@ no_block text end le none n b = by_order (lt-or-le b.inside end)
 pub block_is : (text rest : List ℕ) (index size : ℕ) → closes_block (drop index text) ≡ true → ((k : ℕ) → k < index → closes_block (drop k text) ≡ false) → rest ≡ drop (index + 1) text → size ≡ line_size rest → IsCodeBlock text (index + 1 + size)
 block_is text rest index size e first is s = record { inside = index; closed = e; first = first; ends = ap (λ (k : ℕ). index + 1 + k) (s ∙ ap line_size is) }
 
-pub no_tail : (line : List ℕ) → ((n : ℕ) → ¬ IsComment line n) → (line ≡ [] → ⊥) → ¬ IsCommentTail line
-no_tail line none some (inl e) = some e
-no_tail line none some (inr h) = none h.0 h.1
+pub no_tail : (line : List ℕ) → eqb (length line) 0 ≡ false → ((n : ℕ) → ¬ IsComment line n) → ¬ IsCommentTail line
+no_tail line some none (inl e) = false≢true (sym some ∙ ap (λ (t : List ℕ). eqb (length t) 0) e)
+no_tail line some none (inr h) = none h.0 h.1

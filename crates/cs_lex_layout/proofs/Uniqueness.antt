@@ -14,7 +14,7 @@ use Rattle.cs_lex_layout.specs.Patterns.{IsPattern}
 use Rattle.cs_lex_layout.specs.Runs.{IsRun, IsOpenRun}
 use Rattle.cs_lex_layout.specs.Forms.{blanks, IsCodeBlock, IsLoose, IsRule, IsOpenRule}
 use Rattle.cs_lex_layout.specs.Layout as spec
-use Rattle.cs_lex_layout.specs.Layout.{rule_at, DefinitionsPlace, DefinitionsLine, no_definitions, HasDefinitions, RulesPlace, HasRuleAt, IsPassedRule, RulesLine, no_rules, HasRules, HasLayout, DefinitionsFault, RulesFault, StopsWith, in_definitions, in_rules}
+use Rattle.cs_lex_layout.specs.Layout.{DefinitionsPlace, DefinitionsLine, no_definitions, HasDefinitions, RulesPlace, HasRuleAt, IsPassedRule, RulesLine, no_rules, HasRules, HasLayout, DefinitionsFault, RulesFault, StopsWith, in_definitions, in_rules}
 use Rattle.cs_lex_layout.proofs.Walks.{one_halt, Halts}
 use Rattle.cs_lex_layout.proofs.Extents.{pattern_same, run_same, open_run_same, run_not_open}
 use Rattle.cs_lex_layout.proofs.KindsOfLines.{code_block_same, loose_same, lines_one, faults_one, fault_halts, end_halts, end_no_fault}

@@ -1,9 +1,11 @@
--- A text has at most one layout, or stops in at most one way, and not both. In a layout no name is defined again.
+-- A text has at most one layout, or stops in at most one way, and not both. In a layout no name is defined again. Its definitions
+-- section ends at one offset at most.
 use Rattle.std.specs.Prelude.{◌≡◌, ℕ, List}
 use Rattle.cs_lex_layout.specs.declared.parts.Definition.{Definition}
 use Rattle.cs_lex_layout.specs.declared.parts.Rule.{Rule}
 use Rattle.cs_lex_layout.specs.declared.error.LayoutError.{LayoutError}
-use Rattle.cs_lex_layout.specs.Layout.{HasLayout, HaveNewNames, StopsWith}
+use Rattle.cs_lex_layout.specs.Layout.{HasDefinitions, HasLayout, HaveNewNames, StopsWith}
+use Rattle.cs_lex_layout.specs.Ends.{EndsBefore}
 
 abbrev pub HasOneLayout : List ℕ → Type 0
 HasOneLayout bytes = (ds es : List Definition) (rs qs : List Rule) → HasLayout bytes ds rs → HasLayout bytes es qs → (ds ≡ es) × (rs ≡ qs)
@@ -16,3 +18,10 @@ HasNoLayoutWhereItStops bytes = (e : LayoutError) (ds : List Definition) (rs : L
 
 abbrev pub DefinesNoNameAgain : List ℕ → Type 0
 DefinesNoNameAgain bytes = (ds : List Definition) (rs : List Rule) → HasLayout bytes ds rs → HaveNewNames bytes ds
+
+abbrev pub HasOneEnd : List ℕ → Type 0
+HasOneEnd bytes = (a b : ℕ) → EndsBefore bytes a → EndsBefore bytes b → a ≡ b
+
+-- where the section ends with new names, it ends
+abbrev pub EndsWithNewNames : List ℕ → Type 0
+EndsWithNewNames bytes = (ds : List Definition) (behind : ℕ) → HasDefinitions bytes ds behind → EndsBefore bytes behind

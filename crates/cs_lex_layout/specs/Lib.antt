@@ -4,6 +4,7 @@ pub mod Runs
 pub mod Lines
 pub mod Forms
 pub mod Layout
+pub mod Ends
 pub mod Names
 pub mod Found
 pub mod Answers

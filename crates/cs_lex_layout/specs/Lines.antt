@@ -2,9 +2,9 @@
 use Rattle.std.specs.Prelude.{ℕ, Bool, true, false, ◌==◌, ◌||◌, not, if◌then◌else◌, List, [], ◌∷◌, drop, codes}
 use Rattle.std.specs.List.{prefix_len, take_while, list_any}
 use Rattle.std.specs.Str.{bytes_eq}
-use Rattle.cs_bytes.specs.Names.{percent, letter_x, opening_brace}
+use Rattle.cs_bytes.specs.Names.{percent, capital_s, capital_x, letter_s, letter_x, opening_brace}
 use Rattle.cs_bytes.specs.Places.{begins_with, begins_with_two}
-use Rattle.cs_ctext.specs.Scans.{opens_comment}
+use Rattle.cs_ctext.specs.Comments.{opens_comment}
 use Rattle.cs_lex_layout.specs.declared.line.LineKind.{LineKind}
 use Rattle.cs_lex_layout.specs.declared.line.LineKind.TheVariants.{SectionEnd, Block, Options, Skipped, Conditions, Unknown, Loose, Definition, Rule, NoForm}
 use Rattle.cs_bytes.specs.Classes.{is_blank, is_space, begins_word, is_dashed_word_byte}
@@ -24,15 +24,6 @@ option_words =
     codes "noyywrap" ∷ codes "yylineno" ∷ codes "nounput" ∷ codes "noinput" ∷ codes "nodefault" ∷ codes "warn" ∷ codes "debug"
     ∷ codes "verbose" ∷ codes "8bit" ∷ codes "reentrant" ∷ codes "bison-bridge" ∷ codes "bison-locations" ∷ codes "never-interactive"
     ∷ codes "always-interactive" ∷ []
-
-abbrev pub letter_s : ℕ
-letter_s = 115
-
-abbrev pub capital_s : ℕ
-capital_s = 83
-
-abbrev pub capital_x : ℕ
-capital_x = 88
 
 -- s, S, x or X
 abbrev pub begins_condition : ℕ → Bool

@@ -11,7 +11,7 @@ use crate::line::is_option;
 use crate::pattern::pattern_size;
 use crate::run::{Run, run_of};
 use cs_bytes::{ByteClass, from_offset, has_at, has_pair, line_len, line_size, run_len, to_offset};
-use cs_ctext::{opens_comment, skip_comment};
+use cs_ctext::skip_comment;
 
 /// Whether a newline stands at the index, and `%}` behind it.
 fn closes_block(text: &[u8], index: usize) -> bool
@@ -120,9 +120,6 @@ fn is_comment_tail(line: &[u8]) -> bool
 {
     if line.is_empty() {
         return true;
-    }
-    if !opens_comment(line, 0) {
-        return false;
     }
     match skip_comment(line, 0) {
         Some(end) => run_len(from_offset(line, end), ByteClass::Blank) == line.len() - end,

@@ -26,6 +26,12 @@ pub fn new_names()
     ensures { (bytes : List ℕ) → spec.DefinesNoNameAgain bytes }
 {}
 
+/// The definitions section ends before one offset, by its lines' forms; with new names it ends there too.
+pub fn one_end()
+    ensures one { (bytes : List ℕ) → spec.HasOneEnd bytes }
+    ensures new_names { (bytes : List ℕ) → spec.EndsWithNewNames bytes }
+{}
+
 /// The limit of the definitions is the code's.
 pub fn limits()
     ensures { MOST_BYTES ≡ most_bytes }

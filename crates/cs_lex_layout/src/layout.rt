@@ -204,7 +204,8 @@ fn rule_at(bytes: &[u8], at: usize) -> Result<RulesLine, LayoutError>
     }
 }
 
-/// The line of the rules section at the offset.
+/// The line of the rules section at the offset. The error is `Unended`, where the line's block, a comment or its action's brace
+/// isn't closed; any other line is answered.
 pub fn rules_line(bytes: &[u8], at: usize) -> Result<RulesLine, LayoutError>
     requires within { at < length bytes.now }
     requires short { length bytes.now ≤ most_bytes }

@@ -1,16 +1,20 @@
-// That each text has a layout or stops.
+// Where the definitions section ends, and that each text has a layout or stops.
 
 ghost use Rattle.std.specs.Prelude.{◌≤◌, length, IfSome, IfNone};
 ghost use Rattle.cs_bytes.specs.Limits.{most_bytes};
+ghost use Rattle.cs_lex_layout.specs.Ends.{EndsBefore, NeverEnds};
 ghost use Rattle.cs_lex_layout.specs.Settled as spec;
 
 use crate::layout::{DefinitionsLine, RulesLine, definitions_line, rules_line};
 
-/// The offset behind the definitions section, where it ends; a name that is defined twice may be passed.
+/// The offset behind the definitions section, where its lines lead to one that ends it. `None` comes where one of them has a
+/// fault, or none ends the section. That a line defines a name again is no fault here, though layout stops there.
 pub fn definitions_end(bytes: &[u8]) -> Option<usize>
     requires { length bytes.now ≤ most_bytes }
+    ensures before { IfSome result (EndsBefore bytes.now) }
     ensures end { IfSome result (λ from. spec.EndsOrStops bytes.now from) }
     ensures within { IfSome result (λ from. from ≤ length bytes.now) }
+    ensures never { IfNone result (NeverEnds bytes.now) }
     ensures stop { IfNone result (spec.Stops bytes.now) }
 {
     let mut at = 0;

@@ -239,7 +239,7 @@ impl Lexemes {
         Ok(Lexemes { texts })
     }
 
-    /// The lexeme of the token, which counts from 1. It takes no memory.
+    /// The lexeme of the token, which counts from 1. None where it has none. It takes no memory.
     pub fn get(&self, token: u16) -> Option<&[u8]>
         requires from_1 { 0 < token }
         requires within { token ≤ length self.now }

@@ -7,18 +7,16 @@ use Rattle.std.proofs.lemmas.Bool.{cases_eq, cases_lt, le-ltb, lt-ltb}
 use Rattle.std.proofs.lemmas.List.Elements.{Contains-append_right}
 use Rattle.cs_pattern_tree.specs.declared.pattern.Pattern.{Pattern}
 use Rattle.cs_pattern_postfix.specs.declared.operations.Op as code
-use Rattle.cs_pattern_postfix.specs.Building.{known_at, patterns, StayShallow}
 use Rattle.cs_pattern_postfix.specs.Definitions.{Definition}
-use Rattle.cs_pattern_postfix.specs.Evaluation.{value_of}
 use Rattle.cs_pattern_postfix.specs.Grammar.{Tree, tree_items}
 use Rattle.cs_pattern.specs.Needed.{Substitutes, IsOneOf, AreInOrder, AreOf, ops_at, ops_or_none}
 use Rattle.cs_pattern_postfix.specs.Operations.{Op, tree_ops, number_of}
 use Rattle.cs_pattern.specs.Substitution.{SpellsTree, IsTreeOf}
 use Rattle.cs_pattern_postfix.specs.Depth.{pattern_of}
 use Rattle.cs_pattern.specs.Uses.{Uses}
-use Rattle.cs_pattern.proofs.Built.{AreBuilt, built}
+use Rattle.cs_pattern_postfix.specs.Trees.{known_at, HasPattern, IsPatternOf, GiveShallow}
+use Rattle.cs_pattern.proofs.Given.{AreSo, given}
 use Rattle.cs_pattern.proofs.Limited.{limit_depth}
-use Rattle.cs_pattern.proofs.Shallow.{tree_stays}
 use Rattle.cs_pattern.proofs.Pending.{IsBehind}
 use Rattle.cs_pattern.proofs.PuttingIn.{one_spelled}
 use Rattle.cs_pattern.proofs.Using.{tree_puts, tree_uses}
@@ -90,7 +88,7 @@ one_more (x ∷ xs) (suc k) i lt h = one_more xs k i (omega arith) h
 -- what a needed definition uses is known, where it comes next
 built_next : (ds : List Definition) (bodies : List (Vec code.Op)) (order needed : List ℕ) (known : List (ℕ × Pattern)) (k : ℕ) (d : Definition) (tree : Tree) (is : IsTreeOf ds d.text tree)
     → AreOf ds bodies order → AreInOrder bodies needed → k < length needed → slice_get ds (get_or needed k 0) ≡ Some d
-    → AreKnownFrom ds needed known (suc k) → AreBuilt ds (known_at known) (tree_items is.spelled)
+    → AreKnownFrom ds needed known (suc k) → AreSo ds (HasPattern known) (tree_items is.spelled)
 built_next ds bodies order needed known k d tree is a o lt here so_far j u f other there that =
     let ops = ops_is ds bodies order a (get_or needed k 0) d is.spelled here is.is_spelled in
     let s : Substitutes (ops_at bodies (get_or needed k 0)) j = subst (λ (x : List Op). Substitutes x j) (sym ops) (tree_puts ds is.spelled j u) in
@@ -98,20 +96,23 @@ built_next ds bodies order needed known k d tree is a o lt here so_far j u f oth
     let below : j < length bodies = (let n = a.1.body_count in omega arith) in
     so_far j f other ((at_in_order bodies needed k lt o).1 j s below) there that
 
--- so its pattern is made of shallow ones
+-- so its operations give a tree that is not deep
 pub shallow_next : (ds : List Definition) (bodies : List (Vec code.Op)) (order needed : List ℕ) (known : List (ℕ × Pattern)) (k : ℕ)
     → AreOf ds bodies order → AreInOrder bodies needed → k < length needed
-    → AreKnownFrom ds needed known (suc k) → StayShallow known (ops_at bodies (get_or needed k 0))
+    → AreKnownFrom ds needed known (suc k) → GiveShallow known (ops_at bodies (get_or needed k 0))
 shallow_next ds bodies order needed known k a o lt so_far =
     let d = has_at ds (get_or needed k 0) (let n = a.1.body_count in omega (arith, (at_in_order bodies needed k lt o).0)) in
     let h = (a.1.each (get_or needed k 0) d.0 d.1).is in
     let is : IsTreeOf ds d.0.text h.tree = record { spelled = h.spelled; is_spelled = h.is_spelled; put_in = h.put_in } in
-    subst (StayShallow known) (sym (ops_is ds bodies order a (get_or needed k 0) d.0 h.spelled d.1 h.is_spelled))
-    (tree_stays ds (known_at known) h.tree h.spelled h.put_in (built_next ds bodies order needed known k d.0 h.tree is a o lt d.1 so_far) (limit_depth h.tree h.within))
+    record {
+      tree = h.tree;
+      given = given ds (HasPattern known) (ops_at bodies (get_or needed k 0)) h.tree h.spelled h.put_in (built_next ds bodies order needed known k d.0 h.tree is a o lt d.1 so_far) (ops_is ds bodies order a (get_or needed k 0) d.0 h.spelled d.1 h.is_spelled);
+      shallow = limit_depth h.tree h.within;
+    }
 
 pub known_step : (ds : List Definition) (bodies : List (Vec code.Op)) (order needed : List ℕ) (old new : List (ℕ × Pattern)) (k : ℕ)
     → AreOf ds bodies order → AreInOrder bodies needed → k < length needed
-    → (get_or needed k 0 < length bodies → known_at new (get_or needed k 0) ≡ value_of (patterns (known_at old)) (ops_at bodies (get_or needed k 0)))
+    → (get_or needed k 0 < length bodies → IsPatternOf old (ops_at bodies (get_or needed k 0)) (known_at new (get_or needed k 0)))
     → ((i : ℕ) → i ≢ get_or needed k 0 → known_at new i ≡ known_at old i)
     → AreKnownFrom ds needed old (suc k) → AreKnownFrom ds needed new k
 known_step ds bodies order needed old new k a o lt this others known i d tree c at is =
@@ -120,9 +121,7 @@ known_step ds bodies order needed old new k a o lt this others known i d tree c 
           let here = subst (λ n. slice_get ds n ≡ Some d) e at in
           let ops = ops_is ds bodies order a (get_or needed k 0) d is.spelled here is.is_spelled in
           ap (known_at new) e
-          ∙ this (at_in_order bodies needed k lt o).0
-          ∙ ap (value_of (patterns (known_at old))) ops
-          ∙ built ds (known_at old) tree is.spelled is.put_in (built_next ds bodies order needed old k d tree is a o lt here known)
+          ∙ this (at_in_order bodies needed k lt o).0 tree (given ds (HasPattern old) (ops_at bodies (get_or needed k 0)) tree is.spelled is.put_in (built_next ds bodies order needed old k d tree is a o lt here known) ops)
       | inr ne ↦ others i ne ∙ elim (one_more needed k i lt c) [
         | inl e ↦ absurd (ne (sym e))
         | inr b ↦ known i d tree b at is

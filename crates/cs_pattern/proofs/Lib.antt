@@ -4,9 +4,7 @@ pub mod OneDerivation
 pub mod HasDerivation
 pub mod PuttingIn
 pub mod Using
-pub mod Measured
-pub mod Built
-pub mod Shallow
+pub mod Given
 pub mod Deep
 pub mod Limited
 pub mod Pending

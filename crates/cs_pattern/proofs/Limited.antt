@@ -3,12 +3,11 @@ use Rattle.std.proofs.Common.{◌≡◌, ℕ, ◌<◌, ◌≤◌, ◌^◌, true,
 use Rattle.std.specs.Prelude.{nat_lt, if◌then◌else◌, Some, None}
 use Rattle.std.proofs.lemmas.Bool.{cases_lt, lt-ltb, le-ltb}
 use Rattle.cs_pattern_tree.specs.Pattern.{leaves}
-use Rattle.cs_pattern_postfix.specs.Depth.{depth, pattern_of}
+use Rattle.cs_pattern_postfix.specs.Depth.{depth, pattern_of, in_32_bits}
 use Rattle.cs_pattern_postfix.specs.Grammar.{Tree}
 use Rattle.cs_pattern.specs.declared.fault.PatternFault.TheVariants.{TooDeep, TooManyPositions}
 use Rattle.cs_pattern.specs.Answers.{limit_of}
 use Rattle.cs_pattern.specs.Limits.{passed_limit}
-use Rattle.cs_pattern_postfix.specs.Measures.{in_32_bits}
 
 pub capped_limit : (depth leaves : ℕ) → depth < 2 ^ 32 → passed_limit (in_32_bits depth) (in_32_bits leaves) ≡ passed_limit depth leaves
 capped_limit depth leaves lt =

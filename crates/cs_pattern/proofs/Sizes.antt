@@ -6,9 +6,8 @@ use Rattle.std.proofs.lemmas.Option.{slice_get_within}
 use Rattle.cs_bytes.specs.Classes.{is_octal_digit, is_hexadecimal_digit}
 use Rattle.cs_bytes.specs.Names.{double_quote, closing_bracket}
 use Rattle.cs_pattern_items.specs.declared.item.Repetition.{Repetition}
-use Rattle.cs_pattern_items.specs.Brackets.{IsClosed, upright, inverted}
+use Rattle.cs_pattern_items.specs.Brackets.{Mark, IsClosed, upright, inverted}
 use Rattle.cs_pattern_items.specs.Items.{Item, class, quoted, named, opening, closing, bar, repetition}
-use Rattle.cs_pattern_items.specs.Marks.{Mark}
 use Rattle.cs_pattern_items.specs.Parts.{Shows, Escapes, octal_digits, hexadecimal_digits, itself_or_control}
 use Rattle.cs_pattern_items.specs.Spelling as spelling
 use Rattle.cs_pattern_items.specs.Spelling.{Spells, SpellsClass, SpellsRepetition, IsQuoted, braced}

@@ -25,22 +25,21 @@ use Rattle.cs_pattern.specs.Checked.{IsOrder}
 use Rattle.cs_pattern.specs.Answers.{limit_of}
 use Rattle.cs_pattern.specs.Checking.{IsReadable, HasAllNames, IsAccepted, Each, EachBefore, HasNoCycle, IsRefused, RefusesDefinitions, stopped, undefined, cyclic, too_large}
 use Rattle.cs_pattern_postfix.specs.Definitions.{Definition, definition_of, definitions_of, total_bytes}
-use Rattle.cs_pattern_postfix.specs.Evaluation.{value_of}
 use Rattle.cs_pattern_postfix.specs.Grammar.{Tree, IsDerivation, tree_items}
 use Rattle.cs_pattern.specs.Limits.{passed_limit}
-use Rattle.cs_pattern_postfix.specs.Measures.{measure_of, leaf, measures}
 use Rattle.cs_pattern.specs.Names.{first_undefined}
 use Rattle.cs_pattern_postfix.specs.Operations.{ops_of, tree_ops, number_of}
 use Rattle.cs_pattern_tree.specs.Pattern.{leaves}
 use Rattle.cs_pattern.specs.Stages.{StopsAs, HasItems, AreRead, AreNamed, AreItemsOf, HasOperations, AreOperations, IsMeasured, AreMeasures, HasTree}
 use Rattle.cs_pattern.specs.Substitution.{IsTreeOf}
-use Rattle.cs_pattern_postfix.specs.Depth.{depth, pattern_of}
+use Rattle.cs_pattern_postfix.specs.Depth.{depth, pattern_of, measure_of, leaf}
 use Rattle.cs_pattern.specs.Table.{Reads, IsFirstStop}
 use Rattle.cs_pattern.specs.Uses.{Uses, LeadsTo, Reaches, IsFirstTo}
 use Rattle.cs_pattern.proofs.HasDerivation.{has_derivation}
 use Rattle.cs_pattern.proofs.Limited.{capped_limit}
 use Rattle.cs_pattern.proofs.Linked.{definition_at, not_reached}
-use Rattle.cs_pattern.proofs.Measured.{AreMeasured, measured}
+use Rattle.cs_pattern_postfix.specs.Trees.{HasMeasure, GiveTree}
+use Rattle.cs_pattern.proofs.Given.{AreSo, given}
 use Rattle.cs_pattern.proofs.PuttingIn.{one_tree_of, one_spelled}
 use Rattle.cs_pattern.proofs.Readings.{none_at_end}
 
@@ -199,19 +198,17 @@ module _ (ds : List Definition) (bodies : List (Vec code.Op)) where
 
 -- ---- measures
 
--- the operations of a definition measure its tree, where those before it in the order have their measures
-pub measured_one : (ds : List Definition) (known : List Measure) (bodies : List (Vec code.Op)) (order before after : List ℕ) (x : ℕ) (ops : Vec code.Op) (d : Definition) (tree : Tree) → AreOperations ds bodies → IsOrder ds order
-    → order ≡ before ++ x ∷ after → ((i : ℕ) → Contains before i → IsMeasured ds known i) → slice_get bodies x ≡ Some ops → slice_get ds x ≡ Some d → IsTreeOf ds d.text tree → value_of (measures known) (ops_of ops.items) ≡ measure_of tree
-measured_one ds known bodies order before after x ops d tree operations o place ms there is t =
+-- the operations of a definition give its tree, where those before it in the order have their measures
+pub given_one : (ds : List Definition) (known : List Measure) (bodies : List (Vec code.Op)) (order before after : List ℕ) (x : ℕ) (ops : Vec code.Op) (d : Definition) (tree : Tree) → AreOperations ds bodies → IsOrder ds order
+    → order ≡ before ++ x ∷ after → ((i : ℕ) → Contains before i → IsMeasured ds known i) → slice_get bodies x ≡ Some ops → slice_get ds x ≡ Some d → IsTreeOf ds d.text tree → GiveTree (HasMeasure known) (ops_of ops.items) tree
+given_one ds known bodies order before after x ops d tree operations o place ms there is t =
     let h = operations.each x d is in
     let same : ops ≡ h.ops = cc (there, h.there) in
     let spelled = one_spelled d.text d.text t.spelled h.tree refl t.is_spelled h.spelled in
     let text = t.is_spelled in
-    let each : AreMeasured ds known (tree_items t.spelled) = λ i u e w at is_tree.
+    let each : AreSo ds (HasMeasure known) (tree_items t.spelled) = λ i u e w at is_tree.
     ms i (o.behind before after x i place (record { definition = d; is = is; items = text.items; read = text.read; uses = subst (λ (xs : List Item). Uses ds xs i) (sym text.derived) u })) e w at is_tree in
-    ap (λ (v : Vec code.Op). value_of (measures known) (ops_of v.items)) same
-    ∙ ap (value_of (measures known)) (h.are ∙ ap (tree_ops (number_of ds)) (sym spelled))
-    ∙ measured ds known tree t.spelled t.put_in each
+    given ds (HasMeasure known) (ops_of ops.items) tree t.spelled t.put_in each (ap (λ (v : Vec code.Op). ops_of v.items) same ∙ h.are ∙ ap (tree_ops (number_of ds)) (sym spelled))
 
 pub measured_set : (ds : List Definition) (known : List Measure) (x : ℕ) (m : Measure) (Among : ℕ → Type 0) → x < length known
     → ((d : Definition) (tree : Tree) → slice_get ds x ≡ Some d → IsTreeOf ds d.text tree → m ≡ measure_of tree) → ((i : ℕ) → Among i → IsMeasured ds known i)

@@ -11,28 +11,25 @@ use Rattle.cs_pattern_tree.specs.declared.pattern.Pattern.{Pattern}
 use Rattle.cs_pattern_postfix.specs.declared.measure.Measure.{Measure}
 use Rattle.cs_pattern_postfix.specs.declared.operations.Op as code
 use Rattle.cs_pattern.specs.Answers.{limit_of, IsNamed, IsPatternOf, IsBeyond, IsFault}
-use Rattle.cs_pattern_postfix.specs.Building.{known_at, patterns, StayShallow}
 use Rattle.cs_pattern.specs.Checked.{AreChecked}
 use Rattle.cs_pattern_postfix.specs.Definitions.{Definition, index_of, has_name}
-use Rattle.cs_pattern_postfix.specs.Evaluation.{value_of}
 use Rattle.cs_pattern_postfix.specs.Grammar.{Tree, tree_items}
 use Rattle.cs_pattern.specs.Limits.{passed_limit}
-use Rattle.cs_pattern_postfix.specs.Measures.{measures, measure_of, leaf}
 use Rattle.cs_pattern.specs.Names.{is_undefined, first_undefined}
 use Rattle.cs_pattern.specs.Needed.{Substitutes, AreKnown, AreNeeded, directly}
 use Rattle.cs_pattern.specs.ReadView.{IsWithinDepth}
 use Rattle.cs_pattern_postfix.specs.Operations.{Op, ops_of, number_of, tree_ops}
 use Rattle.cs_pattern_tree.specs.Pattern.{Regex, leaves}
 use Rattle.cs_pattern.specs.Substitution.{PutIn, IsTreeOf}
-use Rattle.cs_pattern_postfix.specs.Depth.{depth, pattern_of}
+use Rattle.cs_pattern_postfix.specs.Depth.{depth, pattern_of, measure_of, leaf}
 use Rattle.cs_pattern.specs.Table.{Reads}
-use Rattle.cs_pattern.proofs.Built.{AreBuilt, built}
-use Rattle.cs_pattern.proofs.Shallow.{tree_stays}
+use Rattle.cs_pattern_postfix.specs.Trees as trees
+use Rattle.cs_pattern_postfix.specs.Trees.{HasMeasure, HasPattern, GiveTree, GiveShallow, IsMeasureOf}
+use Rattle.cs_pattern.proofs.Given.{AreSo, given}
 use Rattle.cs_pattern.proofs.Deep.{text_deep}
 use Rattle.cs_pattern.proofs.HasDerivation.{has_derivation}
 use Rattle.cs_pattern.proofs.Knowing.{get_within, has_at, position_within}
 use Rattle.cs_pattern.proofs.Limited.{capped_limit, limit_depth}
-use Rattle.cs_pattern.proofs.Measured.{measured}
 use Rattle.cs_pattern.proofs.PuttingIn.{one_tree_of, HasTree, HaveTrees, put_tree}
 use Rattle.cs_pattern.proofs.Using.{tree_puts}
 
@@ -90,7 +87,7 @@ module _ (ds : List Definition) (bodies : List (Vec code.Op)) (measured_as : Lis
     pub is_tree : IsTreeOf ds text tree
     pub items_is : items_of items ≡ tree_items is_tree.spelled
     pub deep : depth tree < 2 ^ 32
-    pub measure_is : value_of (measures measured_as) (tree_ops (number_of ds) is_tree.spelled) ≡ measure_of tree
+    pub is_given : GiveTree (HasMeasure measured_as) (tree_ops (number_of ds) is_tree.spelled) tree
 
   pub has_read : (text : List ℕ) (items : List Placed) → Reads text items → first_undefined ds items ≡ None → length items ≤ 1048576 → HasRead text items
   has_read text items r e few =
@@ -102,16 +99,16 @@ module _ (ds : List Definition) (bodies : List (Vec code.Op)) (measured_as : Lis
         is_tree = record { spelled = d.0; is_spelled = record { items = items; read = r; derived = d.1 }; put_in = p.1 };
         items_is = d.1;
         deep = omega (arith, long, ap length d.1, length-map items (λ (x : Placed). x.item));
-        measure_is = measured ds measured_as p.0 d.0 p.1 (λ i u x t at is. (checked_tree i x t at is).0);
+        is_given = given ds (HasMeasure measured_as) (tree_ops (number_of ds) d.0) p.0 d.0 p.1 (λ i u x t at is. (checked_tree i x t at is).0) refl;
       }
 
-  limit_is : (text : List ℕ) (items : List Placed) (h : HasRead text items) (m : Measure) (ops : List Op) → m ≡ value_of (measures measured_as) ops → ops ≡ tree_ops (number_of ds) h.is_tree.spelled → passed_limit m.depth m.leaves ≡ limit_of h.tree
+  limit_is : (text : List ℕ) (items : List Placed) (h : HasRead text items) (m : Measure) (ops : List Op) → IsMeasureOf measured_as ops m → ops ≡ tree_ops (number_of ds) h.is_tree.spelled → passed_limit m.depth m.leaves ≡ limit_of h.tree
   limit_is text items h m ops e f =
-      ap (λ (n : Measure). passed_limit n.depth n.leaves) (e ∙ ap (value_of (measures measured_as)) f ∙ h.measure_is)
+      ap (λ (n : Measure). passed_limit n.depth n.leaves) (e h.tree (subst (λ (o : List Op). GiveTree (HasMeasure measured_as) o h.tree) (sym f) h.is_given))
       ∙ capped_limit (depth h.tree) (leaves (pattern_of h.tree)) h.deep
 
   -- a text that passes a limit is refused
-  pub refused : (text : List ℕ) (items : List Placed) (h : HasRead text items) (m : Measure) (ops : List Op) (f : PatternFault) → m ≡ value_of (measures measured_as) ops → ops ≡ tree_ops (number_of ds) h.is_tree.spelled
+  pub refused : (text : List ℕ) (items : List Placed) (h : HasRead text items) (m : Measure) (ops : List Op) (f : PatternFault) → IsMeasureOf measured_as ops m → ops ≡ tree_ops (number_of ds) h.is_tree.spelled
       → passed_limit m.depth m.leaves ≡ Some f → IsFault text ds f
   refused text items h m ops f e g passes =
       let over = sym (limit_is text items h m ops e g) ∙ passes in
@@ -119,29 +116,29 @@ module _ (ds : List Definition) (bodies : List (Vec code.Op)) (measured_as : Lis
 
   -- the patterns of what the operations use are known
   use_built : (ops : List Op) (needs : List ℕ) (known : List (ℕ × Pattern)) → AreNeeded bodies ops needs → AreKnown ds needs known → (spelled : Tree) → ops ≡ tree_ops (number_of ds) spelled
-      → AreBuilt ds (known_at known) (tree_items spelled)
+      → AreSo ds (HasPattern known) (tree_items spelled)
   use_built ops needs known needed k spelled g i u d other at t =
       k i d other (needed.all i (directly i (subst (λ (o : List Op). Substitutes o i) (sym g) (tree_puts ds spelled i u)) (let n = a.body_count in omega (arith, get_within ds i d at)))) at t
 
   -- with the definitions put in, a tree has the pattern that its operations build
-  pub put_in_is : (ops : List Op) (r : Regex) (needs : List ℕ) (known : List (ℕ × Pattern)) → r ≡ value_of (patterns (known_at known)) ops → AreNeeded bodies ops needs → AreKnown ds needs known
+  pub put_in_is : (ops : List Op) (r : Regex) (needs : List ℕ) (known : List (ℕ × Pattern)) → trees.IsPatternOf known ops r → AreNeeded bodies ops needs → AreKnown ds needs known
       → (tree spelled : Tree) → PutIn ds tree spelled → ops ≡ tree_ops (number_of ds) spelled → r ≡ pattern_of tree
   put_in_is ops r needs known is needed k tree spelled put g =
-      is ∙ ap (value_of (patterns (known_at known))) g ∙ built ds (known_at known) tree spelled put (use_built ops needs known needed k spelled g)
+      is tree (given ds (HasPattern known) ops tree spelled put (use_built ops needs known needed k spelled g) g)
 
-  -- and on the way to it no pattern is deep
-  pub put_in_stays : (ops : List code.Op) (needs : List ℕ) (known : List (ℕ × Pattern)) → IsWithinDepth ds ops → AreNeeded bodies (ops_of ops) needs → AreKnown ds needs known → StayShallow known (ops_of ops)
-  put_in_stays ops needs known w needed k =
-      subst (StayShallow known) (sym w.are) (tree_stays ds (known_at known) w.tree w.spelled w.put_in (use_built (ops_of ops) needs known needed k w.spelled w.are) w.shallow)
+  -- and they give a tree that is not deep
+  pub put_in_shallow : (ops : List code.Op) (needs : List ℕ) (known : List (ℕ × Pattern)) → IsWithinDepth ds ops → AreNeeded bodies (ops_of ops) needs → AreKnown ds needs known → GiveShallow known (ops_of ops)
+  put_in_shallow ops needs known w needed k =
+      record { tree = w.tree; given = given ds (HasPattern known) (ops_of ops) w.tree w.spelled w.put_in (use_built (ops_of ops) needs known needed k w.spelled w.are) w.are; shallow = w.shallow }
 
   -- a text within the limits has a pattern
-  pub accepted : (text : List ℕ) (items : List Placed) (h : HasRead text items) (m : Measure) (ops : List Op) (r : Regex) → m ≡ value_of (measures measured_as) ops → ops ≡ tree_ops (number_of ds) h.is_tree.spelled
+  pub accepted : (text : List ℕ) (items : List Placed) (h : HasRead text items) (m : Measure) (ops : List Op) (r : Regex) → IsMeasureOf measured_as ops m → ops ≡ tree_ops (number_of ds) h.is_tree.spelled
       → passed_limit m.depth m.leaves ≡ None → r ≡ pattern_of h.tree → IsPatternOf ds text r
   accepted text items h m ops r e g within is =
       record { tree = h.tree; is_tree = h.is_tree; within = sym (limit_is text items h m ops e g) ∙ within; is = is }
 
   -- the tree of a text within the limits is not deep
-  pub is_within : (items : List Placed) (m : Measure) (ops : List code.Op) → m ≡ value_of (measures measured_as) (ops_of ops) → ((t : Tree) → items_of items ≡ tree_items t → ops_of ops ≡ tree_ops (number_of ds) t)
+  pub is_within : (items : List Placed) (m : Measure) (ops : List code.Op) → IsMeasureOf measured_as (ops_of ops) m → ((t : Tree) → items_of items ≡ tree_items t → ops_of ops ≡ tree_ops (number_of ds) t)
       → passed_limit m.depth m.leaves ≡ None → (text : List ℕ) → IsNamed ds text items → IsWithinDepth ds ops
   is_within items m ops e g within text n =
       let h = has_read text items n.read n.defined n.few in
@@ -149,11 +146,11 @@ module _ (ds : List Definition) (bodies : List (Vec code.Op)) (measured_as : Lis
       let limit = sym (limit_is text items h m (ops_of ops) e are) ∙ within in
       record { tree = h.tree; spelled = h.is_tree.spelled; put_in = h.is_tree.put_in; are = are; shallow = limit_depth h.tree limit }
 
-  pub refuses : (items : List Placed) (m : Measure) (ops : List Op) (f : PatternFault) → m ≡ value_of (measures measured_as) ops → ((t : Tree) → items_of items ≡ tree_items t → ops ≡ tree_ops (number_of ds) t)
+  pub refuses : (items : List Placed) (m : Measure) (ops : List Op) (f : PatternFault) → IsMeasureOf measured_as ops m → ((t : Tree) → items_of items ≡ tree_items t → ops ≡ tree_ops (number_of ds) t)
       → passed_limit m.depth m.leaves ≡ Some f → (text : List ℕ) → IsNamed ds text items → IsFault text ds f
   refuses items m ops f e g passes text n = let h = has_read text items n.read n.defined n.few in refused text items h m ops f e (g h.is_tree.spelled h.items_is) passes
 
-  pub accepts : (items : List Placed) (m : Measure) (ops : List Op) (r : Regex) → m ≡ value_of (measures measured_as) ops → ((t : Tree) → items_of items ≡ tree_items t → ops ≡ tree_ops (number_of ds) t)
+  pub accepts : (items : List Placed) (m : Measure) (ops : List Op) (r : Regex) → IsMeasureOf measured_as ops m → ((t : Tree) → items_of items ≡ tree_items t → ops ≡ tree_ops (number_of ds) t)
       → passed_limit m.depth m.leaves ≡ None → ((tree spelled : Tree) → PutIn ds tree spelled → ops ≡ tree_ops (number_of ds) spelled → r ≡ pattern_of tree) → (text : List ℕ) → IsNamed ds text items → IsPatternOf ds text r
   accepts items m ops r e g within is text n =
       let h = has_read text items n.read n.defined n.few in

@@ -10,8 +10,8 @@ use Rattle.cs_pattern.specs.Checked.{HasBody, IsOrder, AreChecked}
 use Rattle.cs_pattern.specs.Checking.{Each, AreAccepted}
 use Rattle.cs_pattern.specs.Classes.{HaveByteTexts}
 use Rattle.cs_pattern_postfix.specs.Definitions.{Definition}
+use Rattle.cs_pattern_postfix.specs.Depth.{leaf}
 use Rattle.cs_pattern_postfix.specs.Grammar.{Tree}
-use Rattle.cs_pattern_postfix.specs.Measures.{leaf}
 use Rattle.cs_pattern.specs.Stages.{AreOperations, AreMeasures, HasTree}
 use Rattle.cs_pattern.specs.Substitution.{IsTreeOf, PutIn}
 use Rattle.cs_pattern.proofs.PuttingIn.{one_spelled}

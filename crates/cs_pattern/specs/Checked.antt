@@ -6,9 +6,9 @@ use Rattle.cs_pattern_postfix.specs.declared.operations.Op as code
 use Rattle.cs_pattern.specs.Answers.{limit_of}
 use Rattle.cs_pattern.specs.Classes.{HaveByteTexts}
 use Rattle.cs_pattern_postfix.specs.Definitions.{Definition}
+use Rattle.cs_pattern_postfix.specs.Depth.{measure_of}
 use Rattle.cs_pattern_postfix.specs.Grammar.{Tree}
 use Rattle.cs_pattern_postfix.specs.Operations.{ops_of, tree_ops, number_of}
-use Rattle.cs_pattern_postfix.specs.Measures.{measure_of}
 use Rattle.cs_pattern.specs.Substitution.{SpellsTree, PutIn}
 use Rattle.cs_pattern.specs.Uses.{UsesDefinition}
 

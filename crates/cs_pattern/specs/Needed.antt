@@ -6,14 +6,13 @@ use Rattle.std.specs.Global.{Vec}
 use Rattle.cs_pattern_postfix.specs.declared.measure.Measure.{Measure}
 use Rattle.cs_pattern_tree.specs.declared.pattern.Pattern.{Pattern}
 use Rattle.cs_pattern_postfix.specs.declared.operations.Op as code
-use Rattle.cs_pattern_postfix.specs.Building.{known_at, patterns}
-use Rattle.cs_pattern_postfix.specs.Evaluation.{value_of}
 use Rattle.cs_pattern.specs.Checked.{AreChecked}
 use Rattle.cs_pattern_postfix.specs.Definitions.{Definition}
 use Rattle.cs_pattern_postfix.specs.Grammar.{Tree}
 use Rattle.cs_pattern_postfix.specs.Operations.{Op, ops_of, class, quoted, substitute, repeat, group, join, either}
 use Rattle.cs_pattern.specs.Substitution.{IsTreeOf}
 use Rattle.cs_pattern_postfix.specs.Depth.{pattern_of}
+use Rattle.cs_pattern_postfix.specs.Trees.{known_at, IsPatternOf}
 
 -- some operation puts in the definition of that index
 abbrev pub Substitutes : List Op → ℕ → Type 0
@@ -102,7 +101,7 @@ pub record AreNeeded (bodies : List (Vec code.Op)) (ops : List Op) (needed : Lis
 
 -- the definition's pattern is made of those known before
 pub record Learns (bodies : List (Vec code.Op)) (index : ℕ) (old new : List (ℕ × Pattern)) : Type 0 where
-  pub this : index < length bodies → known_at new index ≡ value_of (patterns (known_at old)) (ops_at bodies index)
+  pub this : index < length bodies → IsPatternOf old (ops_at bodies index) (known_at new index)
   pub others : KeepsOthers index old new
 
 -- whatever definitions these are, the needed ones have their patterns

@@ -11,11 +11,10 @@ use Rattle.cs_pattern_postfix.specs.declared.measure.Measure.{Measure}
 use Rattle.cs_pattern_postfix.specs.declared.operations.Op as code
 use Rattle.cs_pattern_postfix.specs.Definitions.{Definition}
 use Rattle.cs_pattern_postfix.specs.Grammar.{Tree}
-use Rattle.cs_pattern_postfix.specs.Measures.{measure_of, leaf}
 use Rattle.cs_pattern.specs.Names.{first_undefined}
 use Rattle.cs_pattern_postfix.specs.Operations.{ops_of, tree_ops, number_of}
 use Rattle.cs_pattern.specs.Substitution.{SpellsTree, IsTreeOf}
-use Rattle.cs_pattern_postfix.specs.Depth.{depth}
+use Rattle.cs_pattern_postfix.specs.Depth.{depth, measure_of, leaf}
 use Rattle.cs_pattern.specs.Table.{Reads, IsFirstStop}
 use Rattle.cs_pattern.specs.Uses.{used, Uses, UsesDefinition, Reaches}
 use Rattle.cs_pattern.specs.Answers.{limit_of}

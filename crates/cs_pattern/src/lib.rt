@@ -22,7 +22,6 @@ mod read;
 mod reading;
 mod uses;
 
-pub use cs_pattern_items::MOST_REPEATS;
 pub use cs_pattern_tree::{ByteSet, Kind, Pattern};
 pub use definitions::{Checked, Definitions};
 pub use fault::{CheckError, DefinitionError, PatternError, PatternFault};

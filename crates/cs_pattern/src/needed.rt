@@ -1,8 +1,8 @@
 // The patterns of the definitions that a text needs.
 
 ghost use Rattle.std.specs.Prelude.{◌≡◌, ◌∷◌, [], IfOk, OnOk, length};
-ghost use Rattle.cs_pattern_postfix.specs.Building.{StayShallow, known_at};
 ghost use Rattle.cs_pattern_postfix.specs.Operations.{op_of, ops_of};
+ghost use Rattle.cs_pattern_postfix.specs.Trees.{GiveShallow, known_at};
 ghost use Rattle.cs_pattern_tree.specs.Pattern.{regex};
 ghost use Rattle.cs_pattern.specs.Needed as spec;
 ghost use Rattle.cs_pattern.specs.Needed.{AddsUsed, AreInOrder, AreNeeded, AreOfSome, ArePlaces, HaveOrder, KeepsOthers, KnowNeeded, Learns, ops_at};
@@ -102,7 +102,7 @@ fn know(
     index: usize,
     known: &mut Known,
 ) -> Result<(), AllocError>
-    requires { StayShallow known.old.entries (ops_at bodies.now index) }
+    requires { GiveShallow known.old.entries (ops_at bodies.now index) }
     ensures { OnOk result (Learns bodies.now index known.old.entries known.new.entries) }
 {
     let Some(ops) = bodies.get(index) else {

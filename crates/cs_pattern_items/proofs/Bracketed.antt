@@ -11,9 +11,9 @@ use Rattle.cs_bytes.specs.Places.{has_at}
 use Rattle.cs_bytes.specs.Classes.{is_inner}
 use Rattle.cs_pattern_items.specs.Character.{escape}
 use Rattle.cs_pattern_items.specs.Steps.{steps}
-use Rattle.cs_pattern_items.specs.Marks.{Mark, plain, escaped, class, collating, part_of, named_part, or_itself, escape_mark, mark, marks}
+use Rattle.cs_pattern_items.specs.Marks.{part_of, named_part, or_itself, escape_mark, mark, marks}
 use Rattle.cs_pattern_items.specs.Parts.{Shows, InTurn, BeginsWithByte}
-use Rattle.cs_pattern_items.specs.Brackets.{part, IsPart, IsMark, AreMarks, IsClosed}
+use Rattle.cs_pattern_items.specs.Brackets.{Mark, plain, escaped, class, collating, part, IsPart, IsMark, AreMarks, IsClosed}
 use Rattle.cs_pattern_items.specs.Bracket.{nothing, closed, bracket_in, bracket}
 use Rattle.cs_pattern_items.proofs.Picked.{not_equal}
 use Rattle.cs_pattern_items.proofs.Moving.{chosen, mark_moves}

@@ -11,9 +11,8 @@ use Rattle.cs_pattern_items.specs.declared.front.Stop.TheVariants.{Anchor, Trail
 use Rattle.cs_pattern_items.specs.ByteKind.{is_plain}
 use Rattle.cs_pattern_items.specs.Character.{escape}
 use Rattle.cs_pattern_items.specs.Quoted as quotes
-use Rattle.cs_pattern_items.specs.Marks.{Mark}
-use Rattle.cs_pattern_items.specs.Bracket.{Bracket, set, collation, nothing, set_or_nothing, closed, bracket, is_collating, turned, member_bytes, members, Member}
-use Rattle.cs_pattern_items.specs.Brackets.{IsBracket, BeginsCollation}
+use Rattle.cs_pattern_items.specs.Bracket.{Bracket, set, collation, nothing, set_or_nothing, closed, bracket, is_collating, turned, member_bytes, members}
+use Rattle.cs_pattern_items.specs.Brackets.{Mark, Member, IsBracket, BeginsCollation}
 use Rattle.cs_pattern_items.specs.Interval.{interval, name}
 use Rattle.cs_pattern_items.specs.Items.{Item, class, quoted, named, opening, closing, bar, repetition}
 use Rattle.cs_pattern_items.specs.Parts.{Shows, BeginsWithByte}

@@ -7,9 +7,9 @@ use Rattle.std.proofs.lemmas.List.Elements.{Contains-append_right, Contains-appe
 use Rattle.cs_bytes.proofs.Fronts.{and_true}
 use Rattle.cs_pattern_items.specs.declared.bracket.Class.{Class}
 use Rattle.cs_pattern_items.specs.Members.{has, bytes_where, IsByteSet}
-use Rattle.cs_pattern_items.specs.Marks.{Mark, plain, escaped, class, collating}
-use Rattle.cs_pattern_items.specs.Brackets.{AreMembers, IsByteOf, IsAllowed, IsIn, IsInAny, IsOf}
-use Rattle.cs_pattern_items.specs.Bracket.{Member, one, range, is_dash, begins_range, members, byte_of_mark, within, same, class_of, is_in_class, class_by, member_test, or_both, any_test, is_yes, is_refused, member_bytes, unless_empty, turned, is_collating}
+use Rattle.cs_pattern_items.specs.NamedClasses.{class_of, is_in_class}
+use Rattle.cs_pattern_items.specs.Brackets.{Mark, plain, escaped, class, collating, Member, one, range, AreMembers, IsByteOf, IsAllowed, IsIn, IsInAny, IsOf}
+use Rattle.cs_pattern_items.specs.Bracket.{is_dash, begins_range, members, byte_of_mark, within, same, class_by, member_test, or_both, any_test, is_yes, is_refused, member_bytes, unless_empty, turned, is_collating}
 use Rattle.cs_pattern_items.proofs.Picked.{has_picked, same_picked, same_set, bytes_where-set}
 use Rattle.cs_pattern_items.proofs.Moving.{chosen}
 use Rattle.cs_pattern_items.proofs.Membership.{one_first}
@@ -76,10 +76,10 @@ is_byte_of (class name) b h = absurd h
 is_byte_of collating b h = absurd h
 
 -- a test of a member and a byte that is told
-abbrev Tells : Member → ℕ → Bool → Type 0
-Tells m b v = IsAllowed m × ((v ≡ true) ↔ IsIn m b)
+abbrev Decides : Member → ℕ → Bool → Type 0
+Decides m b v = IsAllowed m × ((v ≡ true) ↔ IsIn m b)
 
-tells_class : (name : List ℕ) (b : ℕ) (v : Bool) (o : Option Class) → class_of name ≡ o → class_by o b ≡ Some v → Tells (one (class name)) b v
+tells_class : (name : List ℕ) (b : ℕ) (v : Bool) (o : Option Class) → class_of name ≡ o → class_by o b ≡ Some v → Decides (one (class name)) b v
 tells_class name b v None e f = absurd (no_some v f)
 tells_class name b v (Some k) e f =
     let is : is_in_class k b ≡ v = unsome (is_in_class k b) v f in
@@ -91,7 +91,7 @@ range_test first last b le = ap (λ v. if v then Some (nat_le first b && nat_le 
 both_true : (p q : Bool) → p ≡ true → q ≡ true → (p && q) ≡ true
 both_true p q e f = rw (e, f) refl
 
-tells_range : (x y : Mark) (b : ℕ) (v : Bool) (o p : Option ℕ) → byte_of_mark x ≡ o → byte_of_mark y ≡ p → within o p b ≡ Some v → Tells (range x y) b v
+tells_range : (x y : Mark) (b : ℕ) (v : Bool) (o p : Option ℕ) → byte_of_mark x ≡ o → byte_of_mark y ≡ p → within o p b ≡ Some v → Decides (range x y) b v
 tells_range x y b v None p e f g = absurd (no_some v g)
 tells_range x y b v (Some first) None e f g = absurd (no_some v g)
 tells_range x y b v (Some first) (Some last) e f g =
@@ -110,7 +110,7 @@ tells_range x y b v (Some first) (Some last) e f g =
       | inr down ↦ absurd (no_some v down.1)
     ]
 
-tells_member : (m : Member) (b : ℕ) (v : Bool) → member_test m b ≡ Some v → Tells m b v
+tells_member : (m : Member) (b : ℕ) (v : Bool) → member_test m b ≡ Some v → Decides m b v
 tells_member (one (plain c)) b v e = (tt, tested c b v (unsome (b == c) v e))
 tells_member (one (escaped None)) b v e = absurd (no_some v e)
 tells_member (one (escaped (Some c))) b v e =

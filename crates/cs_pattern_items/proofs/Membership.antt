@@ -4,8 +4,8 @@ use Rattle.std.specs.Prelude.{Option, Some, None, ◌||◌, not, if◌then◌els
 use Rattle.std.proofs.lemmas.List.{drop_more, drop_all, length-drop}
 use Rattle.std.proofs.lemmas.Bool.{false≢true}
 use Rattle.cs_pattern_items.specs.Members.{has, bytes_where}
-use Rattle.cs_pattern_items.specs.Marks.{Mark, collating}
-use Rattle.cs_pattern_items.specs.Bracket.{one, range, members, member_test, any_test, or_both, is_yes, is_refused, begins_range, is_dash, member_bytes, turned, unless_empty}
+use Rattle.cs_pattern_items.specs.Brackets.{Mark, collating, one, range}
+use Rattle.cs_pattern_items.specs.Bracket.{members, member_test, any_test, or_both, is_yes, is_refused, begins_range, is_dash, member_bytes, turned, unless_empty}
 use Rattle.cs_pattern_items.specs.Inserting.{Inserts, AreBytesOfMembers, AddsMember, RefusesMember}
 use Rattle.cs_pattern_items.proofs.Picked.{has_picked, same_picked, picked_none, picked_by_itself}
 

@@ -5,13 +5,15 @@ use Rattle.std.specs.List.{prefix_len}
 use Rattle.std.proofs.lemmas.List.Sums.{prefix_len-le-length}
 use Rattle.cs_bytes.specs.Classes.{is_octal_digit, is_hexadecimal_digit, is_inner}
 use Rattle.cs_bytes.specs.Places.{has_at}
-use Rattle.cs_pattern_items.specs.Character.{octal, hexadecimal, escape, letter, byte_of}
+use Rattle.cs_pattern_items.specs.Character.{octal, hexadecimal, escape}
+use Rattle.cs_pattern_items.specs.Parts.{letter, byte_of}
+use Rattle.cs_pattern_items.specs.Brackets.{Mark, plain}
 use Rattle.cs_bytes.specs.Digits.{number_of}
 use Rattle.cs_pattern_items.specs.Quoted as quotes
-use Rattle.cs_pattern_items.specs.Marks.{Mark, plain, mark, named_part, part_of, or_itself, escape_mark}
-use Rattle.cs_pattern_items.specs.Marks as marked
+use Rattle.cs_pattern_items.specs.Marks.{mark, named_part, part_of, or_itself, escape_mark}
+use Rattle.cs_pattern_items.specs.Brackets as marked
 use Rattle.cs_pattern_items.proofs.Walking.{Moves}
-use Rattle.cs_bytes.proofs.Fronts.{got_within, got_at}
+use Rattle.cs_bytes.proofs.Fronts.{has_within}
 
 pub chosen : {A : Type 0} (b : Bool) (x y z : A) → cond b x y ≡ z → ((b ≡ true) × (x ≡ z)) ⊎ ((b ≡ false) × (y ≡ z))
 chosen true x y z e = inl (refl, e)
@@ -117,9 +119,6 @@ part_size kind name size x n e =
 pub and_true : (p q : Bool) → (p && q) ≡ true → (p ≡ true) × (q ≡ true)
 and_true true q e = (refl, e)
 and_true false q e = absurd cc
-
-pub has_within : (text : List ℕ) (i b : ℕ) → has_at text i b ≡ true → i < length text
-has_within text i b e = got_within text i b (got_at text i b e)
 
 named_within : (text : List ℕ) (x : Mark) (n : ℕ) → named_part text ≡ Some (x, n) → n ≤ length text
 unfolding named_part

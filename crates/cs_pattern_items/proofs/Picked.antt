@@ -172,10 +172,23 @@ lt_le b last =
       | inr below ↦ let e : nat_lt b (last + 1) ≡ true = lt-ltb b (last + 1) (omega arith) in let f : nat_le b last ≡ true = le-leb b last below in e ∙ sym f
     ]
 
-pub range_all : (first last k : ℕ) (o : ℕ → Bool) (set : List ℕ) → k ≡ last + 1 → set ≡ bytes_where (λ b. (nat_le first b && nat_lt b k) || o b) → set ≡ bytes_where (λ b. (nat_le first b && nat_le b last) || o b)
-range_all first last k o set e is =
+in_range : (first last k b : ℕ) → (first ≤ last → k ≡ last + 1) → (last < first → k ≤ first) → (nat_le first b && nat_lt b k) ≡ (nat_le first b && nat_le b last)
+in_range first last k b some none =
+    elim (cases_lt last first) [
+      | inl empty ↦
+          let end : k ≤ first = none empty in
+          elim (cases_lt b first) [
+            | inl below ↦ let e : nat_le first b ≡ false = lt-leb first b below in ap (λ v. v && nat_lt b k) e ∙ sym (ap (λ v. v && nat_le b last) e)
+            | inr above ↦ let e : nat_lt b k ≡ false = le-ltb b k (omega arith) in let f : nat_le b last ≡ false = lt-leb b last (omega arith) in ap (λ v. nat_le first b && v) (e ∙ sym f)
+          ]
+      | inr goes ↦ ap (λ v. nat_le first b && v) (ap (nat_lt b) (some goes) ∙ lt_le b last)
+    ]
+
+pub range_all : (first last k : ℕ) (o : ℕ → Bool) (set : List ℕ) → (first ≤ last → k ≡ last + 1) → (last < first → k ≤ first)
+    → set ≡ bytes_where (λ b. (nat_le first b && nat_lt b k) || o b) → set ≡ bytes_where (λ b. (nat_le first b && nat_le b last) || o b)
+range_all first last k o set some none is =
     is ∙ same_picked (λ b. (nat_le first b && nat_lt b k) || o b) (λ b. (nat_le first b && nat_le b last) || o b) 256 (λ b lt.
-    ap (λ v. (nat_le first b && v) || o b) (ap (nat_lt b) e ∙ lt_le b last))
+    ap (λ v. v || o b) (in_range first last k b some none))
 
 -- one byte put into the empty set
 pub only_one : (k b : ℕ) (old new : List ℕ) → old ≡ [] → new ≡ picked (λ c. (c == k) || has old c) 256 → b < 256 → has new b ≡ (b == k)

@@ -7,9 +7,9 @@ use Rattle.std.proofs.lemmas.List.{drop-drop}
 use Rattle.cs_bytes.proofs.Fronts.{front_got}
 use Rattle.cs_bytes.specs.Classes.{is_octal_digit, is_hexadecimal_digit}
 use Rattle.cs_bytes.specs.Places.{has_at}
-use Rattle.cs_pattern_items.specs.Character.{octal, hexadecimal, escape, letter, byte_of}
+use Rattle.cs_pattern_items.specs.Character.{octal, hexadecimal, escape}
 use Rattle.cs_bytes.specs.Digits.{number_of}
-use Rattle.cs_pattern_items.specs.Parts.{Escapes, InTurn}
+use Rattle.cs_pattern_items.specs.Parts.{letter, byte_of, Escapes, InTurn}
 use Rattle.cs_pattern_items.specs.Spelling.{StandsFor}
 use Rattle.cs_pattern_items.specs.Steps.{and_more, up_to, steps}
 use Rattle.cs_pattern_items.specs.Quoted as quotes

@@ -11,12 +11,14 @@ use Rattle.cs_pattern_items.specs.Members.{picked, bytes_where, has}
 use Rattle.cs_bytes.specs.Classes.{is_octal_digit, is_hexadecimal_digit}
 use Rattle.cs_bytes.specs.Places.{has_at}
 use Rattle.cs_pattern_items.specs.ByteKind.{is_plain}
-use Rattle.cs_pattern_items.specs.Character.{byte_of, letter, octal, hexadecimal, escape}
+use Rattle.cs_pattern_items.specs.Character.{octal, hexadecimal, escape}
+use Rattle.cs_pattern_items.specs.Parts.{byte_of, letter}
+use Rattle.cs_pattern_items.specs.Brackets.{Mark}
 use Rattle.cs_bytes.specs.Digits.{number_of}
 use Rattle.cs_pattern_items.specs.Steps.{and_more, up_to, steps}
 use Rattle.cs_pattern_items.specs.Quoted.{escaped, quoted_byte}
 use Rattle.cs_pattern_items.specs.Quoted as quotes
-use Rattle.cs_pattern_items.specs.Marks.{Mark, marks}
+use Rattle.cs_pattern_items.specs.Marks.{marks}
 use Rattle.cs_pattern_items.specs.Bracket.{Bracket, collation, nothing, is_refused, is_yes, any_test, members, member_bytes, unless_empty, turned, is_collating, set_or_nothing, closed, bracket_in, bracket}
 use Rattle.cs_pattern_items.specs.Interval.{interval, name}
 use Rattle.cs_pattern_items.specs.Items.{Item, opening, closing, bar, repetition}

@@ -1,46 +1,13 @@
 -- Brackets (POSIX, bracket expressions in the POSIX locale).
-use Rattle.std.specs.Prelude.{ℕ, ◌+◌, Bool, true, false, ◌==◌, nat_le, ◌&&◌, ◌||◌, not, if◌then◌else◌, List, [], ◌∷◌, Option, Some, None, codes, drop}
-use Rattle.std.specs.Option.{option_or}
+use Rattle.std.specs.Prelude.{ℕ, ◌+◌, Bool, true, false, ◌==◌, nat_le, ◌&&◌, ◌||◌, not, if◌then◌else◌, List, [], ◌∷◌, Option, Some, None, drop}
 use Rattle.std.specs.List.{list_any}
-use Rattle.std.specs.Str.{bytes_eq}
-use Rattle.cs_bytes.specs.Names.{caret, closing_bracket, dash, space, tab}
+use Rattle.cs_bytes.specs.Names.{caret, closing_bracket, dash}
 use Rattle.cs_pattern_items.specs.declared.bracket.Class.{Class}
-use Rattle.cs_pattern_items.specs.declared.bracket.Class.TheVariants.{Upper, Lower, Digit, Alpha, Alnum, Xdigit, Blank, Space, Cntrl, Graph, Print, Punct}
-use Rattle.cs_bytes.specs.Classes.{is_letter, is_digit, is_hexadecimal_digit}
 use Rattle.cs_bytes.specs.Places.{has_at}
 use Rattle.cs_pattern_items.specs.Members.{bytes_where, has}
-use Rattle.cs_pattern_items.specs.Marks.{Mark, plain, escaped, class, collating, marks}
-
-unfoldable pub letter_class : List ℕ → Option Class
-letter_class name =
-    if bytes_eq name (codes "upper") then Some Upper else (if bytes_eq name (codes "lower") then Some Lower
-    else (if bytes_eq name (codes "digit") then Some Digit else (if bytes_eq name (codes "alpha") then Some Alpha
-    else (if bytes_eq name (codes "alnum") then Some Alnum else (if bytes_eq name (codes "xdigit") then Some Xdigit else None)))))
-
-unfoldable pub other_class : List ℕ → Option Class
-other_class name =
-    if bytes_eq name (codes "blank") then Some Blank else (if bytes_eq name (codes "space") then Some Space
-    else (if bytes_eq name (codes "cntrl") then Some Cntrl else (if bytes_eq name (codes "graph") then Some Graph
-    else (if bytes_eq name (codes "print") then Some Print else (if bytes_eq name (codes "punct") then Some Punct else None)))))
-
--- the class of that name
-unfoldable pub class_of : List ℕ → Option Class
-class_of name = option_or (letter_class name) (other_class name)
-
--- the bytes of a class
-unfoldable pub is_in_class : Class → ℕ → Bool
-is_in_class Upper b = nat_le 65 b && nat_le b 90
-is_in_class Lower b = nat_le 97 b && nat_le b 122
-is_in_class Digit b = is_digit b
-is_in_class Alpha b = is_letter b
-is_in_class Alnum b = is_letter b || is_digit b
-is_in_class Xdigit b = is_hexadecimal_digit b
-is_in_class Blank b = (b == space) || (b == tab)
-is_in_class Space b = (b == space) || (nat_le 9 b && nat_le b 13)
-is_in_class Cntrl b = nat_le b 31 || (b == 127)
-is_in_class Graph b = nat_le 33 b && nat_le b 126
-is_in_class Print b = nat_le 32 b && nat_le b 126
-is_in_class Punct b = (nat_le 33 b && nat_le b 126) && not (is_letter b || is_digit b)
+use Rattle.cs_pattern_items.specs.NamedClasses.{class_of, is_in_class}
+use Rattle.cs_pattern_items.specs.Brackets.{Mark, plain, escaped, class, collating, Member, one, range}
+use Rattle.cs_pattern_items.specs.Marks.{marks}
 
 abbrev pub class_by : Option Class → ℕ → Option Bool
 class_by None b = None
@@ -49,11 +16,6 @@ class_by (Some k) b = Some (is_in_class k b)
 -- the byte is in the class of that name; None where there is no such class
 abbrev pub class_test : List ℕ → ℕ → Option Bool
 class_test name = class_by (class_of name)
-
--- a member of a bracket: one mark, or two marks with a `-` between them
-pub data Member : Type 0 where
-  one : Mark → Member
-  range : Mark → Mark → Member
 
 abbrev pub is_dash : Mark → Bool
 is_dash (plain b) = b == dash

@@ -5,11 +5,21 @@ use Rattle.cs_bytes.specs.Names.{newline, backslash, dash, caret, full_stop, col
 use Rattle.cs_pattern_items.specs.declared.bracket.Class.{Class}
 use Rattle.cs_bytes.specs.Classes.{is_inner}
 use Rattle.cs_pattern_items.specs.Members.{IsByteSet, has}
-use Rattle.cs_pattern_items.specs.Marks.{Mark, plain, escaped, class, collating}
-use Rattle.cs_pattern_items.specs.Bracket.{Member, one, range, class_of, is_in_class}
+use Rattle.cs_pattern_items.specs.NamedClasses.{class_of, is_in_class}
 use Rattle.cs_pattern_items.specs.Parts.{Shows, Escapes, InTurn, BeginsWithByte}
 
 -- ---- the marks of a bracket
+
+-- what stands inside a bracket, one mark after another
+pub data Mark : Type 0 where
+  -- a byte that stands for itself
+  plain : ℕ → Mark
+  -- an escape, with its byte, if it has one
+  escaped : Option ℕ → Mark
+  -- `[:name:]`
+  class : List ℕ → Mark
+  -- `[.name.]` or `[=name=]`
+  collating : Mark
 
 -- `[`, a byte of the kind, a name, that byte again, and `]`
 abbrev pub part : ℕ → List ℕ → List ℕ
@@ -38,6 +48,11 @@ pub data IsClosed : List ℕ → ℕ → Bool → List Mark → Type 0 where
   inverted : (text : List ℕ) (n : ℕ) (ms : List Mark) → AreMarks text n ms → slice_get text n ≡ Some closing_bracket → IsClosed (opening_bracket ∷ caret ∷ text) (n + 3) true ms
 
 -- ---- its members
+
+-- a member of a bracket: one mark, or two marks with a `-` between them
+pub data Member : Type 0 where
+  one : Mark → Member
+  range : Mark → Mark → Member
 
 -- these marks are those members: a `-` between two marks makes a range of them
 pub data AreMembers : List Mark → List Member → Type 0 where

@@ -1,19 +1,10 @@
 -- Escapes (POSIX lex, escape sequences).
-use Rattle.std.specs.Prelude.{ℕ, ◌+◌, min, take, ◌==◌, nat_le, if◌then◌else◌, List, [], ◌∷◌, Option, Some, None}
+use Rattle.std.specs.Prelude.{ℕ, ◌+◌, min, take, ◌==◌, if◌then◌else◌, List, [], ◌∷◌, Option, Some, None}
 use Rattle.std.specs.List.{prefix_len}
-use Rattle.cs_bytes.specs.Names.{alert, backspace, carriage_return, form_feed, letter_a, letter_b, letter_f, letter_n, letter_r, letter_t, letter_v, letter_x, newline, tab, vertical_tab}
+use Rattle.cs_bytes.specs.Names.{letter_x, newline}
 use Rattle.cs_bytes.specs.Classes.{is_octal_digit, is_hexadecimal_digit}
 use Rattle.cs_bytes.specs.Digits.{number_of}
-
--- the byte of a number, where it is one
-abbrev pub byte_of : ℕ → Option ℕ
-byte_of n = if nat_le n 255 then Some n else None
-
--- the byte for which an escape of one letter stands
-abbrev pub letter : ℕ → ℕ
-letter b =
-    if b == letter_a then alert else (if b == letter_b then backspace else (if b == letter_t then tab else (if b == letter_n then newline
-    else (if b == letter_v then vertical_tab else (if b == letter_f then form_feed else (if b == letter_r then carriage_return else b))))))
+use Rattle.cs_pattern_items.specs.Parts.{byte_of, letter}
 
 -- the longest run of up to three octal digits: its byte, which is missing above 255, and its size
 unfoldable pub octal : List ℕ → Option ℕ × ℕ

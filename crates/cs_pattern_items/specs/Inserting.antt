@@ -1,8 +1,8 @@
 -- What adding to a set does.
 use Rattle.std.specs.Prelude.{◌≡◌, ℕ, ◌<◌, ◌≤◌, Bool, true, false, ◌||◌, List, ◌∷◌, length, drop, Option, None, MatchOption}
 use Rattle.cs_pattern_items.specs.Members.{has, bytes_where}
-use Rattle.cs_pattern_items.specs.Bracket.{Member, is_yes, is_refused, any_test, members, member_test, range, member_bytes}
-use Rattle.cs_pattern_items.specs.Marks.{Mark}
+use Rattle.cs_pattern_items.specs.Bracket.{is_yes, is_refused, any_test, members, member_test, member_bytes}
+use Rattle.cs_pattern_items.specs.Brackets.{Member, range, Mark}
 
 -- Where the test refuses no byte, those that pass it are added; else it refuses each.
 abbrev pub Inserts : List ℕ → List ℕ → (ℕ → Option Bool) → Bool → Type 0

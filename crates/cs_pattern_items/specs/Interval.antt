@@ -47,7 +47,7 @@ interval text =
 unfoldable pub name : List ℕ → Option (List ℕ × ℕ)
 name [] = None
 name (b ∷ rest) =
-    if begins_word b && has_at (b ∷ rest) (prefix_len is_dashed_word_byte (b ∷ rest)) 125
+    if begins_word b && has_at (b ∷ rest) (prefix_len is_dashed_word_byte (b ∷ rest)) closing_brace
     then Some (take (prefix_len is_dashed_word_byte (b ∷ rest)) (b ∷ rest), prefix_len is_dashed_word_byte (b ∷ rest) + 1) else None
 
 -- what was found ends within so many bytes, with those before it

@@ -1,6 +1,11 @@
 pub mod Members
 pub mod Bits
 pub mod ByteKind
+pub mod Parts
+pub mod NamedClasses
+pub mod Brackets
+pub mod Items
+pub mod Spelling
 pub mod Character
 pub mod Steps
 pub mod Quoted
@@ -8,10 +13,6 @@ pub mod Marks
 pub mod Bracket
 pub mod Inserting
 pub mod Interval
-pub mod Items
-pub mod Parts
-pub mod Brackets
-pub mod Spelling
 pub mod Front
 pub mod Views
 pub mod StandsFor

@@ -4,18 +4,9 @@ use Rattle.std.specs.List.{prefix_len}
 use Rattle.cs_bytes.specs.Names.{backslash, closing_bracket, colon_sign, equals_sign, full_stop, newline, opening_bracket}
 use Rattle.cs_bytes.specs.Classes.{is_inner}
 use Rattle.cs_bytes.specs.Places.{has_at}
+use Rattle.cs_pattern_items.specs.Brackets.{Mark, plain, escaped, class, collating}
 use Rattle.cs_pattern_items.specs.Character.{escape}
 use Rattle.cs_pattern_items.specs.Steps.{steps}
-
-pub data Mark : Type 0 where
-  -- a byte that stands for itself
-  plain : ℕ → Mark
-  -- an escape, with its byte, if it has one
-  escaped : Option ℕ → Mark
-  -- `[:name:]`
-  class : List ℕ → Mark
-  -- `[.name.]` or `[=name=]`
-  collating : Mark
 
 -- a part of this kind and name
 abbrev pub part_of : ℕ → List ℕ → ℕ → Option (Mark × ℕ)

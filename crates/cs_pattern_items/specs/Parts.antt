@@ -1,10 +1,9 @@
 -- Parts of a pattern's text (POSIX lex, "Escape sequences in lex").
-use Rattle.std.specs.Prelude.{◌≡◌, ◌≢◌, ℕ, ◌+◌, ◌<◌, min, false, List, [], ◌∷◌, ◌++◌, length, take, drop, Option, Some, slice_get}
+use Rattle.std.specs.Prelude.{◌≡◌, ◌≢◌, ℕ, ◌+◌, ◌<◌, ◌==◌, nat_le, if◌then◌else◌, min, false, List, [], ◌∷◌, ◌++◌, length, take, drop, Option, Some, None, slice_get}
 use Rattle.std.specs.List.{prefix_len}
-use Rattle.cs_bytes.specs.Names.{newline, letter_x}
+use Rattle.cs_bytes.specs.Names.{alert, backspace, carriage_return, form_feed, letter_a, letter_b, letter_f, letter_n, letter_r, letter_t, letter_v, letter_x, newline, tab, vertical_tab}
 use Rattle.cs_bytes.specs.Classes.{is_octal_digit, is_hexadecimal_digit}
 use Rattle.cs_bytes.specs.Digits.{number_of}
-use Rattle.cs_pattern_items.specs.Character.{byte_of, letter}
 
 -- the byte is the first of the text
 abbrev pub BeginsWithByte : List ℕ → ℕ → Type 0
@@ -15,6 +14,16 @@ pub record Shows (text bytes : List ℕ) (n : ℕ) : Type 0 where
   pub rest : List ℕ
   pub is : text ≡ bytes ++ rest
   pub size : n ≡ length bytes
+
+-- the byte of a number, where it is one
+abbrev pub byte_of : ℕ → Option ℕ
+byte_of n = if nat_le n 255 then Some n else None
+
+-- the byte for which an escape of one letter stands
+abbrev pub letter : ℕ → ℕ
+letter b =
+    if b == letter_a then alert else (if b == letter_b then backspace else (if b == letter_t then tab else (if b == letter_n then newline
+    else (if b == letter_v then vertical_tab else (if b == letter_f then form_feed else (if b == letter_r then carriage_return else b))))))
 
 -- Behind a backslash the first n bytes are an escape, and it stands for the byte, if there is one: the longest run of up to
 -- three octal digits, whose number may be above 255; `x` and the longest run of up to two hexadecimal digits; another byte

@@ -10,6 +10,8 @@ use Rattle.cs_pattern_items.specs.declared.bracket.Bracket.TheVariants as bracke
 use Rattle.cs_pattern_items.specs.declared.front.Front as code_fronts
 use Rattle.cs_pattern_items.specs.declared.front.Front.TheVariants as front_kinds
 use Rattle.cs_pattern_items.specs.Items.{Item, class, quoted, named, opening, closing, bar, repetition, Placed}
+use Rattle.cs_pattern_items.specs.Brackets.{Mark, plain, escaped, collating}
+use Rattle.cs_pattern_items.specs.Brackets as spelled
 use Rattle.cs_pattern_items.specs.Marks as marks
 use Rattle.cs_pattern_items.specs.Steps.{steps}
 use Rattle.cs_pattern_items.specs.Bracket as brackets
@@ -31,13 +33,13 @@ placed_of p = record { at = p.at; item = item_of p.item }
 abbrev pub placed_all : List held.Placed → List Placed
 placed_all = map placed_of
 
-abbrev pub mark_of : code_marks.Mark → marks.Mark
-mark_of (mark_kinds.Plain b) = marks.plain b
-mark_of (mark_kinds.Escape b) = marks.escaped b
-mark_of (mark_kinds.Class name) = marks.class name.now
-mark_of mark_kinds.Collating = marks.collating
+abbrev pub mark_of : code_marks.Mark → Mark
+mark_of (mark_kinds.Plain b) = plain b
+mark_of (mark_kinds.Escape b) = escaped b
+mark_of (mark_kinds.Class name) = spelled.class name.now
+mark_of mark_kinds.Collating = collating
 
-abbrev pub marks_of : List code_marks.Mark → List marks.Mark
+abbrev pub marks_of : List code_marks.Mark → List Mark
 marks_of = map mark_of
 
 -- the marks from the front of the text on are added
@@ -45,7 +47,7 @@ abbrev pub AddsMarks : List ℕ → List code_marks.Mark → List code_marks.Mar
 AddsMarks text old new = marks_of new ≡ marks_of old ++ (steps marks.mark text).0
 
 -- a mark and its size
-abbrev pub sized_mark : Option (code_marks.Mark × ℕ) → Option (marks.Mark × ℕ)
+abbrev pub sized_mark : Option (code_marks.Mark × ℕ) → Option (Mark × ℕ)
 sized_mark = option_map (λ p. (mark_of p.0, p.1))
 
 abbrev pub bracket_of : code_brackets.Bracket → brackets.Bracket

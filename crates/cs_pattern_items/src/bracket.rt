@@ -4,6 +4,8 @@ ghost use Rattle.std.specs.Prelude.{◌≡◌, ◌==◌, ◌||◌, ◌&&◌, ◌
 ghost use Rattle.std.specs.List.{list_any};
 ghost use Rattle.cs_pattern_items.specs.Members.{has, bytes_where};
 ghost use Rattle.cs_pattern_items.specs.Bracket as spec;
+ghost use Rattle.cs_pattern_items.specs.Brackets as brackets;
+ghost use Rattle.cs_pattern_items.specs.NamedClasses as classes;
 ghost use Rattle.cs_pattern_items.specs.Inserting.{Inserts, InsertsRange, AddsOrRefuses, IsSetOrNone};
 ghost use Rattle.cs_pattern_items.specs.Views.{mark_of, marks_of, bracket_of, IsWithin};
 
@@ -39,9 +41,9 @@ pub(crate) enum Class {
     Punct,
 }
 
-#[tactic(auto, unfolding(crate::specs::Bracket::letter_class))]
+#[tactic(auto, unfolding(crate::specs::NamedClasses::letter_class))]
 fn letter_class(name: &[u8]) -> Option<Class>
-    ensures { result ≡ spec.letter_class name.now }
+    ensures { result ≡ classes.letter_class name.now }
 {
     if name == b"upper".as_slice() {
         return Some(Class::Upper);
@@ -64,9 +66,9 @@ fn letter_class(name: &[u8]) -> Option<Class>
     None
 }
 
-#[tactic(auto, unfolding(crate::specs::Bracket::other_class))]
+#[tactic(auto, unfolding(crate::specs::NamedClasses::other_class))]
 fn other_class(name: &[u8]) -> Option<Class>
-    ensures { result ≡ spec.other_class name.now }
+    ensures { result ≡ classes.other_class name.now }
 {
     if name == b"blank".as_slice() {
         return Some(Class::Blank);
@@ -90,9 +92,9 @@ fn other_class(name: &[u8]) -> Option<Class>
 }
 
 /// The class of that name.
-#[tactic(auto, unfolding(crate::specs::Bracket::class_of))]
+#[tactic(auto, unfolding(crate::specs::NamedClasses::class_of))]
 fn class_of(name: &[u8]) -> Option<Class>
-    ensures { result ≡ spec.class_of name.now }
+    ensures { result ≡ classes.class_of name.now }
 {
     match letter_class(name) {
         Some(class) => Some(class),
@@ -100,9 +102,9 @@ fn class_of(name: &[u8]) -> Option<Class>
     }
 }
 
-#[tactic(auto, unfolding(crate::specs::Bracket::is_in_class))]
+#[tactic(auto, unfolding(crate::specs::NamedClasses::is_in_class))]
 fn is_in_class(class: Class, byte: u8) -> bool
-    ensures { result ≡ spec.is_in_class class byte }
+    ensures { result ≡ classes.is_in_class class byte }
 {
     match class {
         Class::Upper => byte.is_ascii_uppercase(),
@@ -122,7 +124,7 @@ fn is_in_class(class: Class, byte: u8) -> bool
 
 /// The bytes of the class.
 fn class_bytes(class: Class) -> ByteSet
-    ensures { result ≡ bytes_where (spec.is_in_class class) }
+    ensures { result ≡ bytes_where (classes.is_in_class class) }
 {
     let mut set = ByteSet::new();
     for index in 0..256u16 {
@@ -171,7 +173,7 @@ fn insert_named(set: &mut ByteSet, name: &[u8]) -> bool
 
 /// Adds the bytes of a mark that stands alone. Whether it stands for some.
 fn insert_mark(set: &mut ByteSet, mark: Mark<'_>) -> bool
-    ensures { Inserts set.old set.new (spec.member_test (spec.one (mark_of mark.entry))) result }
+    ensures { Inserts set.old set.new (spec.member_test (brackets.one (mark_of mark.entry))) result }
 {
     match mark {
         Mark::Class(name) => insert_named(set, name),

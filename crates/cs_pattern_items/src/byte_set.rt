@@ -1,6 +1,6 @@
 // Sets of bytes.
 
-ghost use Rattle.std.specs.Prelude.{◌≡◌, ◌↔◌, ◌≤◌, IsTrue, ◌==◌, ◌||◌, ◌&&◌, nat_le, not, [], length};
+ghost use Rattle.std.specs.Prelude.{◌≡◌, ◌↔◌, IsTrue, ◌==◌, ◌||◌, ◌&&◌, nat_le, not, [], length};
 ghost use Rattle.cs_pattern_items.specs.Members.{has, bytes_where, IsByteSet};
 
 use std::marker::Model;
@@ -48,7 +48,6 @@ impl ByteSet {
 
     /// Makes each byte from the first through the last a member.
     pub fn insert_range(&mut self, first: u8, last: u8)
-        requires { first ≤ last }
         ensures { self.new
             ≡ bytes_where (λ b. (nat_le first b && nat_le b last) || has self.old b) }
     {

@@ -3,19 +3,20 @@
 ghost use Rattle.std.specs.Prelude.{◌≡◌, ◌≤◌, ◌<◌, min, length, slice_get, IfSome, IsSomeAnd, IsTrue};
 ghost use Rattle.cs_bytes.specs.Classes.{is_octal_digit};
 ghost use Rattle.cs_pattern_items.specs.Character as spec;
+ghost use Rattle.cs_pattern_items.specs.Parts as parts;
 
 use cs_bytes::{ByteClass, number, run_len};
 
 /// The byte of a number, where it is one.
 fn to_byte(number: u32) -> Option<u8>
-    ensures { result ≡ spec.byte_of number }
+    ensures { result ≡ parts.byte_of number }
 {
     u8::try_from(number).ok()
 }
 
 /// The byte for which an escape of one letter stands: its own, but for the control characters that have a letter.
 fn letter(byte: u8) -> u8
-    ensures { result ≡ spec.letter byte }
+    ensures { result ≡ parts.letter byte }
 {
     match byte {
         b'a' => 7,

@@ -20,9 +20,13 @@ use std::alloc::{AllocError, Global};
 /// Why no item stands at the front of a text.
 #[derive(Clone, Copy, Debug, PartialEq, Eq)]
 pub enum Stop {
+    /// A `^` or a `$`.
     Anchor,
+    /// A `/`.
     Trailing,
+    /// A closed bracket with a collating symbol or an equivalence class.
     Collation,
+    /// Anything else that spells no item, and the end.
     Syntax,
 }
 

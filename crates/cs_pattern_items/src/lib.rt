@@ -4,11 +4,9 @@
 //! decides itself which item may stand where. It may use `ByteSet` for the bytes that an item matches. What an item means is no
 //! part of this layer. The laws say that a text spells at most one item, of one size, or is stopped for one cause, and not both.
 //!
-//! Meaning, in `specs/`: `Members` (sets of bytes), `ByteKind` (bytes that stand for themselves), `Parts` (escapes), `Brackets`,
-//! `Spelling` (what a text spells, and why it spells nothing), `Items`, `StandsFor`; of `Character` the tables `letter` and
-//! `byte_of`, of `Marks` the data `Mark`, of `Bracket` the data `Member` and the tables `class_of` and `is_in_class`. `Views`
-//! says which value of the code is which of theirs. All else there are working words of proofs: they follow the code step by
-//! step.
+//! Meaning, in `specs/`: `Members` (sets of bytes), `ByteKind` (bytes that stand for themselves), `Parts` (escapes),
+//! `NamedClasses`, `Brackets`, `Spelling` (what a text spells, and why it spells nothing), `Items`, `StandsFor`. `Views` says
+//! which value of the code is which of theirs. All else there are working words of proofs: they follow the code step by step.
 #![tactic(auto)]
 
 mod bracket;

@@ -6,3 +6,6 @@ pub mod Stacks
 pub mod Keeping
 pub mod Nested
 pub mod Eithers
+pub mod Measured
+pub mod Built
+pub mod Shallow

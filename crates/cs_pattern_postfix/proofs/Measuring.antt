@@ -4,7 +4,8 @@ use Rattle.std.specs.Prelude.{max, sum_by}
 use Rattle.std.proofs.lemmas.List.{take_more}
 use Rattle.std.proofs.lemmas.List.Sums.{sum_by-append}
 use Rattle.cs_pattern_postfix.specs.declared.measure.Measure.{Measure}
-use Rattle.cs_pattern_postfix.specs.Measures.{in_32_bits, greatest_depth, together}
+use Rattle.cs_pattern_postfix.specs.Depth.{in_32_bits}
+use Rattle.cs_pattern_postfix.specs.Measures.{greatest_depth, together}
 
 greatest-append : (xs : List Measure) (m : Measure) → greatest_depth (xs ++ m ∷ []) ≡ max (greatest_depth xs) m.depth
 greatest-append [] m = omega arith

@@ -1,21 +1,13 @@
 -- The patterns that operations build.
-use Rattle.std.specs.Prelude.{◌≡◌, ℕ, ◌≤◌, List, ◌++◌, [], Option, Some, None, nat_eq}
-use Rattle.std.specs.Map.{lookup}
+use Rattle.std.specs.Prelude.{◌≡◌, ℕ, ◌≤◌, List, ◌++◌, []}
 use Rattle.cs_pattern_tree.specs.declared.pattern.Pattern.{Pattern}
 use Rattle.cs_pattern_postfix.specs.declared.operations.Op as code
-use Rattle.cs_pattern_postfix.specs.Evaluation.{Algebra, Keeps, below, last, step, value_of}
-use Rattle.cs_pattern_postfix.specs.Operations.{Op, op_of, ops_of}
+use Rattle.cs_pattern_postfix.specs.Evaluation.{Algebra, Keeps, below, last, step}
+use Rattle.cs_pattern_postfix.specs.Operations.{Op, op_of}
+use Rattle.cs_pattern_postfix.specs.Trees.{known_at}
 use Rattle.cs_pattern_tree.specs.Pattern.{alone_or}
 use Rattle.cs_pattern_tree.specs.Pattern.{Regex, Empty, Class, Join, Either, parts_of, nesting, regex, regexes}
 use Rattle.cs_pattern_tree.specs.Repeated as repeats
-
--- the known pattern of a definition
-abbrev pub known_or_empty : Option Pattern → Regex
-known_or_empty None = Empty
-known_or_empty (Some p) = regex p
-
-abbrev pub known_at : List (ℕ × Pattern) → ℕ → Regex
-known_at known index = known_or_empty (lookup (nat_eq index) known)
 
 -- where definitions have the known patterns
 abbrev pub patterns : (ℕ → Regex) → Algebra Regex
@@ -53,9 +45,6 @@ next_stack known stack op = step (patterns (known_at known)) (regexes stack) (op
 -- the second stack is the first after the operation
 abbrev pub IsNextStack : List (ℕ × Pattern) → code.Op → List Pattern → List Pattern → Type 0
 IsNextStack known op old new = regexes new ≡ next_stack known old op
-
-abbrev pub pattern_built : List (ℕ × Pattern) → List code.Op → Regex
-pattern_built known ops = value_of (patterns (known_at known)) (ops_of ops)
 
 -- on the way to the pattern of the operations no pattern is deeper than that
 abbrev pub StayShallow : List (ℕ × Pattern) → List Op → Type 0

@@ -1,6 +1,7 @@
--- How deep a derivation tree is, and the pattern of a tree in which no names are left.
-use Rattle.std.specs.Prelude.{ℕ, ◌+◌, max, length}
-use Rattle.cs_pattern_tree.specs.Pattern.{Regex, Empty}
+-- How deep a derivation tree is, and the pattern and the measure of a tree in which no names are left.
+use Rattle.std.specs.Prelude.{ℕ, ◌+◌, ◌-◌, ◌^◌, min, max, length}
+use Rattle.cs_pattern_tree.specs.Pattern.{Regex, Empty, leaves}
+use Rattle.cs_pattern_postfix.specs.declared.measure.Measure.{Measure}
 use Rattle.cs_pattern_postfix.specs.Grammar.{Tree, LastBranch, Or, Branch, LastPiece, Beside, Piece, Repeated, Atom, Bytes, Quote, Name, Group, tree_regex}
 
 -- how many groups and repetitions stand around the atom of a tree that has the most
@@ -25,3 +26,17 @@ abbrev mutual
 -- the pattern of a tree in which no names are left
 abbrev pub pattern_of : Tree → Regex
 pattern_of = tree_regex (λ name. Empty)
+
+abbrev pub in_32_bits : ℕ → ℕ
+in_32_bits n = min n (2 ^ 32 - 1)
+
+-- so many groups and repetitions around an atom, and so many leaves, each at most the greatest number of 32 bits
+abbrev pub measure : ℕ → ℕ → Measure
+measure d l = record { depth = in_32_bits d; leaves = in_32_bits l }
+
+-- the measure of a tree in which no names are left
+abbrev pub measure_of : Tree → Measure
+measure_of tree = measure (depth tree) (leaves (pattern_of tree))
+
+abbrev pub leaf : Measure
+leaf = measure 0 1

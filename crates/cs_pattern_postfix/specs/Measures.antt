@@ -1,27 +1,12 @@
 -- The depth and the leaves of what operations make, each at most the greatest number of 32 bits.
-use Rattle.std.specs.Prelude.{ℕ, ◌+◌, ◌-◌, ◌*◌, ◌^◌, min, max, List, [], ◌∷◌, ◌++◌, length, sum_by, slice_index_or}
+use Rattle.std.specs.Prelude.{ℕ, ◌+◌, ◌-◌, ◌*◌, max, List, [], ◌∷◌, ◌++◌, length, sum_by, slice_index_or}
 use Rattle.cs_pattern_items.specs.declared.item.Repetition.{Repetition}
 use Rattle.cs_pattern_items.specs.declared.item.Repetition.TheVariants.{Optional, Exactly, AtLeast, Between}
 use Rattle.cs_pattern_postfix.specs.declared.measure.Measure.{Measure}
 use Rattle.cs_pattern_postfix.specs.declared.operations.Op as code
-use Rattle.cs_pattern_postfix.specs.Evaluation.{Algebra, below, last, step, value_of}
-use Rattle.cs_pattern_postfix.specs.Operations.{op_of, ops_of}
-use Rattle.cs_pattern_postfix.specs.Grammar.{Tree}
-use Rattle.cs_pattern_tree.specs.Pattern.{leaves}
-use Rattle.cs_pattern_postfix.specs.Depth.{depth, pattern_of}
-
-abbrev pub in_32_bits : ℕ → ℕ
-in_32_bits n = min n (2 ^ 32 - 1)
-
-abbrev pub measure : ℕ → ℕ → Measure
-measure d l = record { depth = in_32_bits d; leaves = in_32_bits l }
-
--- the measure of a tree in which no names are left
-abbrev pub measure_of : Tree → Measure
-measure_of tree = measure (depth tree) (leaves (pattern_of tree))
-
-abbrev pub leaf : Measure
-leaf = measure 0 1
+use Rattle.cs_pattern_postfix.specs.Evaluation.{Algebra, below, last, step}
+use Rattle.cs_pattern_postfix.specs.Operations.{op_of}
+use Rattle.cs_pattern_postfix.specs.Depth.{in_32_bits, measure, leaf}
 
 -- the leaves of what a repetition makes of a pattern with so many
 abbrev pub repeated_leaves : ℕ → Repetition → ℕ
@@ -59,6 +44,3 @@ joined count stack = below (measures []) count stack ++ together (last (measures
 
 abbrev pub next_stack : List Measure → List Measure → code.Op → List Measure
 next_stack known stack op = step (measures known) stack (op_of op)
-
-abbrev pub measure_made : List Measure → List code.Op → Measure
-measure_made known ops = value_of (measures known) (ops_of ops)

@@ -1,18 +1,15 @@
 -- How the operations of a text's items are made.
-use Rattle.std.specs.Prelude.{◌≡◌, ℕ, ◌+◌, ◌-◌, ◌^◌, min, List, [], ◌∷◌, ◌++◌, length, take, slice_index_or}
+use Rattle.std.specs.Prelude.{ℕ, ◌+◌, ◌-◌, ◌^◌, min, List, [], ◌∷◌, ◌++◌, length, take, slice_index_or}
 use Rattle.cs_pattern_postfix.specs.declared.operations.Level.{Level}
 use Rattle.cs_pattern_postfix.specs.declared.operations.Reader as code
 use Rattle.cs_pattern_items.specs.Items as items
 use Rattle.cs_pattern_items.specs.declared.item.Item as item_code
-use Rattle.cs_pattern_items.specs.declared.item.Placed as placed_code
 use Rattle.cs_pattern_items.specs.declared.item.Repetition.{Repetition}
-use Rattle.cs_pattern_items.specs.Views.{item_of, placed_all}
-use Rattle.cs_pattern_items.specs.Items.{Item, items_of}
+use Rattle.cs_pattern_items.specs.Views.{item_of}
+use Rattle.cs_pattern_items.specs.Items.{Item}
 use Rattle.std.specs.Global.{Vec}
-use Rattle.cs_pattern_postfix.specs.declared.operations.Op as op_code
-use Rattle.cs_pattern_postfix.specs.Definitions.{definitions_of}
-use Rattle.cs_pattern_postfix.specs.Grammar.{Tree, IsDerivation}
-use Rattle.cs_pattern_postfix.specs.Operations.{Op, ops_of, number_of, tree_ops, class, quoted, substitute, repeat, group, join, either}
+use Rattle.cs_pattern_postfix.specs.Trees.{entry_number}
+use Rattle.cs_pattern_postfix.specs.Operations.{Op, ops_of, class, quoted, substitute, repeat, group, join, either}
 
 -- the operations so far, the open groups from the outermost on, and the group that is read
 pub record State : Type 0 where
@@ -75,14 +72,5 @@ module _ (number : List ℕ → ℕ) where
   state_after s [] = s
   state_after s (i ∷ rest) = state_after (step s i) rest
 
--- the number of a name among the entries
-abbrev pub entry_number : List (Vec ℕ × Vec ℕ) → List ℕ → ℕ
-entry_number entries = number_of (definitions_of entries)
-
 abbrev pub next_state : List (Vec ℕ × Vec ℕ) → code.Reader → item_code.Item → State
 next_state entries reader i = step (entry_number entries) (state_of reader) (item_of i)
-
--- the operations of the tree that derives the items
-abbrev pub AreOperationsOf : List (Vec ℕ × Vec ℕ) → List placed_code.Placed → List op_code.Op → Type 0
-AreOperationsOf entries items ops =
-    (tree : Tree) → IsDerivation (items_of (placed_all items)) tree → ops_of ops ≡ tree_ops (entry_number entries) tree

@@ -1,9 +1,10 @@
 // Patterns, built from their operations on a stack in memory.
 
 ghost use Rattle.std.specs.Prelude.{◌≡◌, ◌≤◌, ◌++◌, ◌∷◌, [], All, IfOk, OnOk, replicate};
-ghost use Rattle.cs_pattern_postfix.specs.Building.{IsNextStack, IsShallow, StayShallow, below_last, known_at, last_of, next_stack, no_patterns, pattern_built, with_optionals};
+ghost use Rattle.cs_pattern_postfix.specs.Building.{IsNextStack, IsShallow, below_last, last_of, next_stack, no_patterns, with_optionals};
 ghost use Rattle.cs_pattern_postfix.specs.Evaluation.{top};
 ghost use Rattle.cs_pattern_postfix.specs.Operations.{ops_of};
+ghost use Rattle.cs_pattern_postfix.specs.Trees.{GiveShallow, IsPatternOf, known_at};
 ghost use Rattle.cs_pattern_tree.specs.Pattern.{regex, regexes, Join, Either, Many, parts_of, alone_or, nesting};
 ghost use Rattle.cs_pattern_tree.specs.Repeated as spec;
 
@@ -204,11 +205,11 @@ fn apply(alloc: Global, stack: &mut Vec<Pattern>, op: &Op, known: &Known) -> Res
     }
 }
 
-/// The pattern of the operations, where the definitions have the known ones. It asks for a pattern that is within the limits at
-/// each moment while it is made.
+/// The pattern of a tree's operations, where the definitions have the known ones; an index that has none stands for the empty
+/// text. No pattern that it makes on the way is nested deeper than 1,000.
 pub fn build(alloc: Global, ops: &[Op], known: &Known) -> Result<Pattern, AllocError>
-    requires { StayShallow known.now.entries (ops_of ops.now) }
-    ensures { IfOk result (λ p. regex p ≡ pattern_built known.now.entries ops.now) }
+    requires { GiveShallow known.now.entries (ops_of ops.now) }
+    ensures { IfOk result (λ p. IsPatternOf known.now.entries (ops_of ops.now) (regex p)) }
 {
     let mut stack = Vec::new(alloc);
     for op in ops {

@@ -5,8 +5,9 @@
 //! `measure_of`, and only then, where the pattern is within the limits, makes it by `build`. Nothing here goes down a text.
 //!
 //! Meaning: `specs/Grammar.antt` (the derivation trees of items, and which pattern each gives), `specs/Depth.antt`,
-//! `specs/Definitions.antt`. Working words of proofs: the other files (operations, what they make in an algebra, and how the
-//! operations of items are made).
+//! `specs/Definitions.antt`, `specs/Operations.antt` (the operations of a tree), `specs/Trees.antt` (trees put in for names, and
+//! what operations give). Working words of proofs: the other files (what operations make in an algebra, and how the operations
+//! of items are made).
 #![tactic(auto)]
 
 mod building;

@@ -1,8 +1,11 @@
 // How deep a pattern is and how many leaves it has, without building it.
 
 ghost use Rattle.std.specs.Prelude.{◌≡◌, ◌+◌, ◌*◌, ◌-◌, ◌++◌, ◌∷◌, [], IfOk, OnOk, max, slice_index_or};
+ghost use Rattle.cs_pattern_postfix.specs.Depth as spec;
 ghost use Rattle.cs_pattern_postfix.specs.Evaluation.{below, top};
 ghost use Rattle.cs_pattern_postfix.specs.Measures as measures;
+ghost use Rattle.cs_pattern_postfix.specs.Operations.{ops_of};
+ghost use Rattle.cs_pattern_postfix.specs.Trees.{IsMeasureOf};
 
 use crate::operations::Op;
 use cs_pattern_items::Repetition;
@@ -17,7 +20,7 @@ pub struct Measure {
 
 /// One leaf.
 pub fn leaf() -> Measure
-    ensures { result ≡ measures.leaf }
+    ensures { result ≡ spec.leaf }
 {
     Measure {
         depth: 0,
@@ -27,7 +30,7 @@ pub fn leaf() -> Measure
 
 /// The leaves of a quoted text of so many bytes.
 fn quoted(length: usize) -> Measure
-    ensures { result ≡ measures.measure 0 (max length 1) }
+    ensures { result ≡ spec.measure 0 (max length 1) }
 {
     let leaves = u32::try_from(length).unwrap_or(u32::MAX);
     Measure {
@@ -37,7 +40,7 @@ fn quoted(length: usize) -> Measure
 }
 
 fn grouped(inner: Measure) -> Measure
-    ensures { result ≡ measures.measure (inner.depth + 1) inner.leaves }
+    ensures { result ≡ spec.measure (inner.depth + 1) inner.leaves }
 {
     Measure {
         depth: inner.depth.saturating_add(1),
@@ -47,7 +50,7 @@ fn grouped(inner: Measure) -> Measure
 
 /// How many leaves so many copies have, and so many optional ones.
 fn copies(leaves: u32, times: u32, optional: u32) -> u32
-    ensures { result ≡ measures.in_32_bits (leaves * times + (leaves + 1) * optional) }
+    ensures { result ≡ spec.in_32_bits (leaves * times + (leaves + 1) * optional) }
 {
     leaves
         .saturating_mul(times)
@@ -114,7 +117,7 @@ fn join_last(stack: &mut Vec<Measure>, count: usize) -> Result<(), AllocError>
 
 /// The measure of a definition.
 fn known_at(known: &[Measure], index: usize) -> Measure
-    ensures { result ≡ slice_index_or known.now index measures.leaf }
+    ensures { result ≡ slice_index_or known.now index spec.leaf }
 {
     if index < known.len() {
         known[index]
@@ -144,9 +147,9 @@ fn apply(stack: &mut Vec<Measure>, op: &Op, known: &[Measure]) -> Result<(), All
     }
 }
 
-/// The measure of a pattern, where the definitions have the known ones.
+/// The measure of a pattern, where the definitions have the known ones; an index that has none counts as one leaf.
 pub fn measure_of(alloc: Global, ops: &[Op], known: &[Measure]) -> Result<Measure, AllocError>
-    ensures { IfOk result (λ m. m ≡ measures.measure_made known.now ops.now) }
+    ensures { IfOk result (IsMeasureOf known.now (ops_of ops.now)) }
 {
     let mut stack = Vec::new(alloc);
     for op in ops {

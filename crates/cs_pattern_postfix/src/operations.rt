@@ -6,6 +6,7 @@ ghost use Rattle.cs_pattern_postfix.specs.Operations as operations;
 ghost use Rattle.cs_pattern_postfix.specs.Operations.{op_of, ops_of, number_of};
 ghost use Rattle.cs_pattern_postfix.specs.Postfix as spec;
 ghost use Rattle.cs_pattern_postfix.specs.Postfix.{state_of};
+ghost use Rattle.cs_pattern_postfix.specs.Trees.{AreOperationsOf};
 
 use crate::names::{Texts, index_of};
 use cs_pattern_items::{ByteSet, Item, Placed, Repetition};
@@ -155,9 +156,10 @@ fn push_end(ops: &mut Vec<Op>, level: Level) -> Result<(), AllocError>
     Ok(())
 }
 
-/// The operations of the items of a pattern, each name by the index of its definition.
+/// The operations of the items of a pattern, each name by the index of its definition; one that has none by the number of
+/// definitions.
 pub fn postfix(alloc: Global, items: &[Placed], names: &Texts) -> Result<Vec<Op>, AllocError>
-    ensures { IfOk result (λ v. spec.AreOperationsOf names.now.entries items.now v.items) }
+    ensures { IfOk result (λ v. AreOperationsOf names.now.entries items.now v.items) }
 {
     let mut reader = Reader {
         ops: Vec::new(alloc),

@@ -5,8 +5,9 @@
 //! count the leaves of a pattern and copy it, both on a stack in memory. A copy is asked for only of a pattern that is not
 //! deeper than 1,000: to let a pattern go takes as many calls within one another as it is deep.
 //! An automaton is made of patterns that are `AreScannable`. The laws say what `Matches` means of repetitions and of joins and
-//! eithers of one part, and which lists a pattern matches. By `take_shared` this crate and those above show that threads may
-//! share their values.
+//! eithers of one part, and which lists a pattern matches. `Kind` says what a match of a rule gives: it stands here for the
+//! readers of lex files and for the scanners. By `take_shared` this crate and those above show that threads may share their
+//! values.
 //!
 //! Meaning: `specs/Pattern.antt` (values, `Matches`, leaves, nesting), `specs/Repeated.antt` (what a repetition makes),
 //! `specs/Counting.antt` (so many parts, one after another), `specs/Scannable.antt`. Working words of proofs: `specs/Nodes.antt`.

@@ -10,7 +10,6 @@ use Rattle.cs_yacc.specs.Meaning.{same_spelling, distinct, from_each, spelling_a
 use Rattle.std.proofs.lemmas.List.{length-map, get_or-map}
 use Rattle.cs_yacc_items.specs.declared.item.Placed as held_item
 use Rattle.cs_yacc_items.specs.Views.{placed_of, placed_all}
-use Rattle.cs_yacc.specs.declared.spelling.Spelling as code
 use Rattle.cs_yacc.specs.declared.spelled.SpelledRule as held
 use Rattle.cs_yacc.specs.Places.{name_at, names_at}
 use Rattle.cs_yacc.specs.RuleView.{opened, next_left, rule_of, rules_in}

@@ -11,7 +11,7 @@ use Rattle.cs_yacc.specs.declared.name.TokenName.TheVariants.{Byte}
 use Rattle.cs_yacc.specs.Meaning.{same_spelling, has_spelling, distinct, is_in_use}
 use Rattle.cs_yacc.specs.declared.spelled.SpelledRule as held
 use Rattle.cs_yacc.specs.declared.spelling.Spelling as code
-use Rattle.cs_yacc.specs.Marks.{AreApart, AreWithin, Tells, MarksAt, used_here}
+use Rattle.cs_yacc.specs.Marks.{AreApart, AreWithin, AreMarksOf, MarksAt, used_here}
 use Rattle.cs_yacc.specs.Places.{name_at, names_at, place_in}
 use Rattle.cs_yacc.specs.RuleView.{rules_in}
 use Rattle.cs_yacc.specs.SpellingView.{spelling_of, spellings_of}
@@ -75,7 +75,7 @@ marks_distinct all (w ∷ words) = rw (has_distinct all w, marks_distinct all wo
 -- The marks tell which spellings are among those done, and more come.
 pub record Marking (words : List TokenName) (marks : List Bool) (more all : List TokenName) : Type 0 where
   pub done : List TokenName
-  pub tells : Tells marks words done
+  pub tells : AreMarksOf marks words done
   pub all_is : done ++ more ≡ all
 
 none_marked : (words : List TokenName) → replicate (length words) false ≡ map (has_spelling []) words
@@ -97,19 +97,19 @@ marking_more words rules k r old new all apart m lt marked =
       all_is = append_assoc m.done here rest ∙ ap (λ (x : List TokenName). m.done ++ x) (sym step) ∙ m.all_is;
     }
 
-pub marking_ends : (words : List TokenName) (rules : List held.SpelledRule) (k : ℕ) (marks : List Bool) (all : List TokenName) → Marking words marks (flat_map (λ r. r.right) (rules_in words (drop k rules))) all → length rules ≤ k → Tells marks words (distinct all)
+pub marking_ends : (words : List TokenName) (rules : List held.SpelledRule) (k : ℕ) (marks : List Bool) (all : List TokenName) → Marking words marks (flat_map (λ r. r.right) (rules_in words (drop k rules))) all → length rules ≤ k → AreMarksOf marks words (distinct all)
 marking_ends words rules k marks all m le =
     let none : flat_map (λ r. r.right) (rules_in words (drop k rules)) ≡ [] = at_drop_all (λ xs. flat_map (λ r. r.right) (rules_in words xs)) rules k le in
     let whole : m.done ≡ all = sym (append-nil m.done) ∙ ap (λ (x : List TokenName). m.done ++ x) (sym none) ∙ m.all_is in
     m.tells ∙ ap (λ (ws : List TokenName). map (has_spelling ws) words) whole ∙ marks_distinct all words
 
 -- what the mark of a spelling tells
-pub tells_at : (marks : List Bool) (words : List code.Spelling) (used : List TokenName) (k : ℕ) (d : Bool) (w : code.Spelling) → Tells marks (spellings_of words) used → k < length words → get_or marks k d ≡ has_spelling used (spelling_of (get_or words k w))
+pub tells_at : (marks : List Bool) (words : List code.Spelling) (used : List TokenName) (k : ℕ) (d : Bool) (w : code.Spelling) → AreMarksOf marks (spellings_of words) used → k < length words → get_or marks k d ≡ has_spelling used (spelling_of (get_or words k w))
 tells_at marks words used k d w tells lt =
     ap (λ (ms : List Bool). get_or ms k d) tells ∙ (get_or-map (has_spelling used) (spellings_of words) k (spelling_of w) d (omega (arith, lt, length-map words spelling_of)) ∙ ap (has_spelling used) (get_or-map spelling_of words k w (spelling_of w) lt))
 
 -- what the clause of a token in use says of the mark
-pub in_use_as_told : (marks : List Bool) (all : List TokenName) (words : List code.Spelling) (used lefts ws : List TokenName) (k : ℕ) (d : Bool) (w : code.Spelling) → Tells marks all used → spellings_of words ≡ all → k < length words
+pub in_use_as_told : (marks : List Bool) (all : List TokenName) (words : List code.Spelling) (used lefts ws : List TokenName) (k : ℕ) (d : Bool) (w : code.Spelling) → AreMarksOf marks all used → spellings_of words ≡ all → k < length words
     → ws ≡ used_here (get_or marks k d) lefts (spelling_of (get_or words k w)) → ws ≡ filter (is_in_use used lefts) (spelling_of (get_or words k w) ∷ [])
 in_use_as_told marks all words used lefts ws k d w tells same lt is =
     is ∙ ap (λ (b : Bool). used_here b lefts (spelling_of (get_or words k w))) (tells_at marks words used k d w (tells ∙ ap (map (has_spelling used)) (sym same)) lt)

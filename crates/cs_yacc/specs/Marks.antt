@@ -31,16 +31,16 @@ abbrev pub Adds : ℕ → Vec held.SpelledRule → Vec held.SpelledRule → Opti
 Adds error was now left item rest places = (words : List TokenName) → AreApart words → error ≡ place_in words error_spelling → ArePlaces words (items_in rest) places → AddsRule words was now left item rest × KeepsWithin words was.items now.items
 
 -- the marks tell which of the spellings are among these
-abbrev pub Tells : List Bool → List TokenName → List TokenName → Type 0
-Tells marks words among = marks ≡ map (has_spelling among) words
+abbrev pub AreMarksOf : List Bool → List TokenName → List TokenName → Type 0
+AreMarksOf marks words among = marks ≡ map (has_spelling among) words
 
 -- which stand in the right sides of the rules
-abbrev pub TellsUsed : List Bool → List TokenName → List held.SpelledRule → Type 0
-TellsUsed marks words rules = Tells marks words (used (rules_in words rules))
+abbrev pub AreMarksOfUsed : List Bool → List TokenName → List held.SpelledRule → Type 0
+AreMarksOfUsed marks words rules = AreMarksOf marks words (used (rules_in words rules))
 
 -- where the marks told which spellings are among some, they now tell which are among these and those at the places
 abbrev pub MarksAt : List Bool → List Bool → List ℕ → Type 0
-MarksAt was now places = (words among : List TokenName) → AreApart words → Tells was words among → Tells now words (among ++ names_at words places)
+MarksAt was now places = (words among : List TokenName) → AreApart words → AreMarksOf was words among → AreMarksOf now words (among ++ names_at words places)
 
 -- the spelling of a token in use, where it is used as told
 abbrev pub used_here : Bool → List TokenName → TokenName → List TokenName
@@ -48,4 +48,4 @@ used_here used lefts w = only_if (used && not (has_spelling lefts w)) w
 
 -- the tokens in use among the spellings, where the marks tell which are used
 abbrev pub AreTokens : List TokenName → List Bool → List TokenName → List TokenName → Type 0
-AreTokens tokens marks words lefts = (used : List TokenName) → Tells marks words used → tokens ≡ distinct (used_among used lefts words)
+AreTokens tokens marks words lefts = (used : List TokenName) → AreMarksOf marks words used → tokens ≡ distinct (used_among used lefts words)

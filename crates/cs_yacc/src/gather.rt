@@ -5,7 +5,7 @@ ghost use Rattle.std.specs.List.{All};
 ghost use Rattle.cs_yacc_items.specs.Views.{item_of};
 ghost use Rattle.cs_yacc.specs.Meaning as spec;
 ghost use Rattle.cs_yacc.specs.Meaning.{listed, declared_at};
-ghost use Rattle.cs_yacc.specs.Marks.{AreApart, AreWithin, TellsUsed, MarksAt, AreTokens, used_here};
+ghost use Rattle.cs_yacc.specs.Marks.{AreApart, AreWithin, AreMarksOfUsed, MarksAt, AreTokens, used_here};
 ghost use Rattle.cs_yacc.specs.SpellingView.{spelling_of, spellings_in, items_in, and_all};
 
 use crate::spelled::SpelledRule;
@@ -118,7 +118,7 @@ pub(crate) fn used(
 ) -> Result<Vec<bool>, AllocError>
     requires apart { AreApart words.now }
     requires within { AreWithin words.now rules.now }
-    ensures { IfOk result (λ marks. TellsUsed marks.items words.now rules.now) }
+    ensures { IfOk result (λ marks. AreMarksOfUsed marks.items words.now rules.now) }
 {
     let mut marks = vec![in alloc; false; words.len()]?;
     for rule in rules {

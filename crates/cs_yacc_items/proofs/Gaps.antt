@@ -74,7 +74,7 @@ comment_gap text at None h = h
 comment_gap text at (Some end) h = comment h nothing (omega arith)
 
 -- where neither a blank nor a closed comment stands, no gap does
-pub no_gap : (text : List ℕ) → front is_white_space text ≡ false → ((c : ℕ) → IsComment text c → ⊥) → (n : ℕ) → IsGap text (suc n) → ⊥
+no_gap : (text : List ℕ) → front is_white_space text ≡ false → ((c : ℕ) → IsComment text c → ⊥) → (n : ℕ) → IsGap text (suc n) → ⊥
 no_gap text no_blank no_comment n (blank {b = b} e g) = false≢true (sym no_blank ∙ e)
 no_gap text no_blank no_comment n (comment {c = c} is g e) = no_comment c is
 

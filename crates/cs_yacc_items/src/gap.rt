@@ -6,7 +6,7 @@ ghost use Rattle.cs_bytes.specs.Places.{front};
 ghost use Rattle.cs_yacc_items.specs.Items.{IsGap};
 
 use cs_bytes::from_offset;
-use cs_ctext::{opens_comment, skip_comment};
+use cs_ctext::skip_comment;
 
 // Asked between all items, so it tests the byte by one test, where `ByteClass` looks for the class.
 fn is_white_space(byte: u8) -> bool
@@ -35,10 +35,7 @@ fn gap_step(bytes: &[u8], at: usize) -> Option<usize>
     if begins_blank(from_offset(bytes, at)) {
         return Some(at + 1);
     }
-    if opens_comment(bytes, at) {
-        return skip_comment(bytes, at);
-    }
-    None
+    skip_comment(bytes, at)
 }
 
 /// The offset behind all blanks and closed comments that stand at the offset.

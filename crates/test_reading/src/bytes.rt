@@ -3,14 +3,11 @@
 use cs_bytes::*;
 
 const RUNS: &[(&str, ByteClass, usize)] = &[
-    ("azAZ09", ByteClass::Letter, 4),
     ("0789a", ByteClass::Digit, 4),
     ("0789a", ByteClass::OctalDigit, 2),
     ("09afAFgG", ByteClass::HexadecimalDigit, 6),
-    ("\n\n\r", ByteClass::Newline, 2),
     (" \t\r\n", ByteClass::Blank, 3),
     (" \t\r\n\x0b", ByteClass::Space, 4),
-    ("\t\n\x0b\x0c\r \x0e", ByteClass::WhiteSpace, 6),
     ("_a1", ByteClass::WordStart, 2),
     ("_a1-", ByteClass::Word, 3),
     ("_a1-.", ByteClass::WordOr(b'-'), 4),

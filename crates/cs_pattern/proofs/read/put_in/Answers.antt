@@ -1,12 +1,12 @@
 use Rattle.std.proofs.Common.{List, sym, subst}
 use Rattle.cs_pattern.specs.Checked.{AreChecked}
 use Rattle.cs_pattern.specs.Needed.{AreNeeded, KnowNeeded}
-use Rattle.cs_pattern_postfix.specs.Building.{StayShallow}
 use Rattle.cs_pattern_postfix.specs.Definitions.{Definition, definitions_of}
 use Rattle.cs_pattern_postfix.specs.Operations.{ops_of}
+use Rattle.cs_pattern_postfix.specs.Trees.{GiveShallow}
 use Rattle.cs_pattern_tree.specs.Pattern.{regex}
 use Rattle.cs_pattern.specs.ReadView.{IsPutIn, IsWithinDepth}
-use Rattle.cs_pattern.proofs.TextTrees.{put_in_is, put_in_stays}
+use Rattle.cs_pattern.proofs.TextTrees.{put_in_is, put_in_shallow}
 use Rattle.cs_pattern.proofs.read.put_in.Goals as goal
 
 pub needed-requires-clause-places : goal.needed-requires-clause-places
@@ -26,9 +26,9 @@ build-requires c =
     let needed : AreNeeded bodies (ops_of c.args.ops.now) c.in_ok-needed.needed.items = rw c.deref.ensures.value at c.in_ok-needed.ensures in
     let known : KnowNeeded bodies c.in_ok-needed.needed.items c.in_ok-known.known.entries = rw (c.deref-4.ensures.value, c.deref-5.ensures.value) at c.in_ok-known.ensures in
     let within : IsWithinDepth ds c.args.ops.now = subst (λ (es : List Definition). IsWithinDepth es c.args.ops.now) (sym c.definitions.view_is) c.requires in
-    let stays : StayShallow c.in_ok-known.known.entries (ops_of c.args.ops.now) =
-    put_in_stays ds bodies c.definitions.inside.measures.items c.definitions.inside.order.items a c.args.ops.now c.in_ok-needed.needed.items c.in_ok-known.known.entries within needed (known ds c.definitions.inside.order.items (c.definitions.inside.measures.items, a)) in
-    stays
+    let shallow : GiveShallow c.in_ok-known.known.entries (ops_of c.args.ops.now) =
+    put_in_shallow ds bodies c.definitions.inside.measures.items c.definitions.inside.order.items a c.args.ops.now c.in_ok-needed.needed.items c.in_ok-known.known.entries within needed (known ds c.definitions.inside.order.items (c.definitions.inside.measures.items, a)) in
+    shallow
 
 pub returns : goal.returns
 returns c =

@@ -1,6 +1,6 @@
 use Rattle.std.proofs.Common.{◌+◌, ◌∙◌, sym, ap, arith}
 use Rattle.std.proofs.lemmas.List.{get_or-map, length-map}
-use Rattle.cs_pattern_items.specs.Marks.{collating}
+use Rattle.cs_pattern_items.specs.Brackets.{collating}
 use Rattle.cs_pattern_items.specs.Views.{mark_of, marks_of}
 use Rattle.cs_pattern_items.specs.Bracket.{is_dash}
 use Rattle.cs_pattern_items.proofs.Membership.{begins_short, begins_long}

@@ -1,5 +1,5 @@
 use Rattle.std.proofs.Common.{arith, ◌∙◌, sym}
-use Rattle.cs_pattern_items.specs.Bracket.{is_in_class}
+use Rattle.cs_pattern_items.specs.NamedClasses.{is_in_class}
 use Rattle.cs_pattern_items.proofs.Picked.{below_none, below_in, below_out, below_all}
 use Rattle.cs_pattern_items.proofs.bracket.class_bytes.Goals as goal
 use Rattle.cs_pattern_items.proofs.bracket.class_bytes.Goals.{then-is_in_class, else-is_in_class}

@@ -1,7 +1,7 @@
 use Rattle.std.proofs.Common.{◌≡◌}
 use Rattle.std.specs.Prelude.{◌&&◌, nat_lt}
 use Rattle.cs_pattern_items.specs.Members.{bytes_where}
-use Rattle.cs_pattern_items.specs.Bracket.{is_in_class}
+use Rattle.cs_pattern_items.specs.NamedClasses.{is_in_class}
 use Rattle.cs_pattern_items.proofs.bracket.class_bytes.Given as goal
 
 abbrev pub invariant-loop-index : goal.invariant-loop-index

@@ -1,6 +1,6 @@
 use Rattle.std.proofs.Common.{arith, sym}
 use Rattle.std.proofs.lemmas.List.{get_or-map, length-map}
-use Rattle.cs_pattern_items.specs.Marks.{collating}
+use Rattle.cs_pattern_items.specs.Brackets.{collating}
 use Rattle.cs_pattern_items.specs.Views.{mark_of, marks_of}
 use Rattle.cs_pattern_items.proofs.Membership.{adds_range, refuses_range, adds_one, refuses_one}
 use Rattle.cs_pattern_items.proofs.bracket.insert_member.Goals as goal

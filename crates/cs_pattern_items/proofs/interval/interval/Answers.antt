@@ -2,7 +2,7 @@ use Rattle.std.proofs.Common.{◌≡◌, ◌≤◌, ◌+◌, ℕ, length, ◌∙
 use Rattle.std.proofs.lemmas.List.{length-drop}
 use Rattle.cs_pattern_items.specs.declared.item.Repetition.{Repetition}
 use Rattle.cs_pattern_items.specs.Interval.{sized}
-use Rattle.cs_pattern_items.proofs.Moving.{has_within}
+use Rattle.cs_bytes.proofs.Fronts.{has_within}
 use Rattle.cs_pattern_items.proofs.Intervals.{interval_none, interval_closed, interval_no_comma, interval_open, if_some}
 use Rattle.cs_pattern_items.proofs.interval.interval.Goals as goal
 

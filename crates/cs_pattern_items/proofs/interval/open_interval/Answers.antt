@@ -1,7 +1,7 @@
 use Rattle.std.proofs.Common.{◌≡◌, ◌≤◌, ◌+◌, ℕ, length, ◌∙◌, sym, arith, ap}
 use Rattle.cs_pattern_items.specs.declared.item.Repetition.{Repetition}
 use Rattle.cs_pattern_items.specs.Interval.{sized}
-use Rattle.cs_pattern_items.proofs.Moving.{has_within}
+use Rattle.cs_bytes.proofs.Fronts.{has_within}
 use Rattle.cs_pattern_items.proofs.Intervals.{open_none, open_short, open_long, if_some}
 use Rattle.cs_pattern_items.proofs.interval.open_interval.Goals as goal
 

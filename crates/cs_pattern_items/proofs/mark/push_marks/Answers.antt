@@ -2,7 +2,8 @@ use Rattle.std.proofs.Common.{ℕ, List, ◌+◌, ◌++◌, ◌∷◌, [], ◌�
 use Rattle.std.proofs.lemmas.List.{map_push}
 use Rattle.cs_bytes.specs.Classes.{is_inner}
 use Rattle.cs_bytes.proofs.RunEnds.{end_behind}
-use Rattle.cs_pattern_items.specs.Marks.{Mark, mark}
+use Rattle.cs_pattern_items.specs.Marks.{mark}
+use Rattle.cs_pattern_items.specs.Brackets.{Mark}
 use Rattle.cs_pattern_items.specs.Views.{mark_of, marks_of}
 use Rattle.cs_pattern_items.proofs.Walking.{walks_more, walks_all}
 use Rattle.cs_pattern_items.proofs.Moving.{mark_moves}

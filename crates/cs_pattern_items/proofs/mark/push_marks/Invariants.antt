@@ -1,7 +1,8 @@
 use Rattle.std.proofs.Common.{◌≡◌, ◌++◌, List, length, ◌-◌, ◌+◌}
 use Rattle.cs_bytes.specs.Classes.{is_inner}
 use Rattle.cs_bytes.specs.Places.{EndsRun}
-use Rattle.cs_pattern_items.specs.Marks.{Mark, mark}
+use Rattle.cs_pattern_items.specs.Marks.{mark}
+use Rattle.cs_pattern_items.specs.Brackets.{Mark}
 use Rattle.cs_pattern_items.specs.Views.{marks_of}
 use Rattle.cs_pattern_items.proofs.Walking.{Walks}
 use Rattle.cs_pattern_items.proofs.Moving.{mark_moves}

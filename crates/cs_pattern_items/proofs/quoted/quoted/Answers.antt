@@ -4,7 +4,8 @@ use Rattle.cs_bytes.specs.Places.{has_at}
 use Rattle.cs_pattern_items.specs.Quoted.{quoted, quoted_byte}
 use Rattle.cs_pattern_items.specs.Steps.{steps}
 use Rattle.cs_pattern_items.proofs.Walking.{walks_more, walks_all}
-use Rattle.cs_pattern_items.proofs.Moving.{quoted_moves, has_within}
+use Rattle.cs_pattern_items.proofs.Moving.{quoted_moves}
+use Rattle.cs_bytes.proofs.Fronts.{has_within}
 use Rattle.cs_pattern_items.proofs.quoted.quoted.Goals as goal
 
 quoted_is : (text bytes : List ℕ) (at : ℕ) → steps quoted_byte text ≡ (bytes, at) → quoted text ≡ (if has_at text at 34 then Some (bytes, at + 1) else None)

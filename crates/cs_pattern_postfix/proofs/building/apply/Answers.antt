@@ -1,7 +1,8 @@
 use Rattle.std.proofs.Common.{subst}
 use Rattle.std.specs.Prelude.{All}
 use Rattle.cs_pattern_postfix.specs.declared.operations.Op.{Op}
-use Rattle.cs_pattern_postfix.specs.Building.{IsShallow, known_at, next_stack}
+use Rattle.cs_pattern_postfix.specs.Building.{IsShallow, next_stack}
+use Rattle.cs_pattern_postfix.specs.Trees.{known_at}
 use Rattle.cs_pattern_tree.specs.Pattern.{regexes}
 use Rattle.cs_pattern_postfix.proofs.Keeping.{All-last}
 use Rattle.cs_pattern_postfix.proofs.building.apply.Goals as goal

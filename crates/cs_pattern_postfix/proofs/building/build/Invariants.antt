@@ -1,5 +1,6 @@
 use Rattle.std.proofs.Common.{◌≡◌, [], map, take}
-use Rattle.cs_pattern_postfix.specs.Building.{known_at, patterns}
+use Rattle.cs_pattern_postfix.specs.Building.{patterns}
+use Rattle.cs_pattern_postfix.specs.Trees.{known_at}
 use Rattle.cs_pattern_postfix.specs.Evaluation.{run}
 use Rattle.cs_pattern_postfix.specs.Operations.{ops_of}
 use Rattle.cs_pattern_tree.specs.Pattern.{regex}

@@ -1,7 +1,7 @@
 use Rattle.std.proofs.Common.{drop, List}
 use Rattle.std.specs.Prelude.{filter}
 use Rattle.cs_yacc.specs.declared.name.TokenName.{TokenName}
-use Rattle.cs_yacc.specs.Marks.{Tells}
+use Rattle.cs_yacc.specs.Marks.{AreMarksOf}
 use Rattle.cs_yacc.specs.Meaning.{is_in_use}
 use Rattle.cs_yacc.specs.SpellingView.{spellings_of}
 use Rattle.cs_yacc.proofs.Gathering.{Gathers}
@@ -9,4 +9,4 @@ use Rattle.cs_yacc.proofs.gather.tokens.Given as goal
 
 abbrev pub invariant-loop-place : goal.invariant-loop-place
 invariant-loop-place l =
-    (used : List TokenName) → Tells l.marks l.words used → Gathers l.spellings (filter (is_in_use used l.lefts) (spellings_of (drop l.place l.spelling-items))) (filter (is_in_use used l.lefts) l.words)
+    (used : List TokenName) → AreMarksOf l.marks l.words used → Gathers l.spellings (filter (is_in_use used l.lefts) (spellings_of (drop l.place l.spelling-items))) (filter (is_in_use used l.lefts) l.words)

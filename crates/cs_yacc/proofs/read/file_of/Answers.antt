@@ -5,7 +5,7 @@ use Rattle.std.proofs.lemmas.List.Elements.{All-weaker}
 use Rattle.std.proofs.lemmas.List.{length-map}
 use Rattle.cs_yacc_items.specs.declared.item.Placed as held
 use Rattle.cs_yacc.specs.declared.spelled.SpelledRule as held_rule
-use Rattle.cs_yacc.specs.Marks.{AreWithin, Tells}
+use Rattle.cs_yacc.specs.Marks.{AreWithin, AreMarksOf}
 use Rattle.cs_yacc_items.specs.Items.{items_of}
 use Rattle.cs_yacc.specs.declared.name.TokenName.{TokenName}
 use Rattle.cs_yacc_items.specs.Views.{placed_all}
@@ -25,14 +25,14 @@ pub tokens-requires : goal.tokens-requires
 tokens-requires c =
     let words : List TokenName = c.args.meant.now.words in
     let those : List TokenName = used (rules_in words c.in_ok-rules.rules.items) in
-    let told : Tells c.deref-4.result.now words those = c.deref-4.ensures.value ∙ (c.in_ok-used.ensures ∙ ap (λ (xs : List held_rule.SpelledRule). map (has_spelling (used (rules_in words xs))) words) c.deref-3.ensures.value) in
+    let told : AreMarksOf c.deref-4.result.now words those = c.deref-4.ensures.value ∙ (c.in_ok-used.ensures ∙ ap (λ (xs : List held_rule.SpelledRule). map (has_spelling (used (rules_in words xs))) words) c.deref-3.ensures.value) in
     ap length told ∙ length-map words (has_spelling those)
 
 pub invariant_of-parts-clause-few_tokens : goal.invariant_of-parts-clause-few_tokens
 invariant_of-parts-clause-few_tokens c =
     let words : List TokenName = c.args.meant.now.words in
     let those : List TokenName = used (rules_in words c.in_ok-rules.rules.items) in
-    let told : Tells c.deref-4.result.now words those = c.deref-4.ensures.value ∙ (c.in_ok-used.ensures ∙ ap (λ (xs : List held_rule.SpelledRule). map (has_spelling (used (rules_in words xs))) words) c.deref-3.ensures.value) in
+    let told : AreMarksOf c.deref-4.result.now words those = c.deref-4.ensures.value ∙ (c.in_ok-used.ensures ∙ ap (λ (xs : List held_rule.SpelledRule). map (has_spelling (used (rules_in words xs))) words) c.deref-3.ensures.value) in
     omega (arith, ap length (c.in_ok-tokens.ensures those told), few_in_use (is_in_use those c.args.lefts) words, c.requires.few_words)
 
 pub invariant_of-parts-clause-few_lefts : goal.invariant_of-parts-clause-few_lefts
@@ -59,7 +59,7 @@ file_or_limit-requires c =
     let items : List held.Placed = c.args.meant.now.items.items in
     let kept_is : rules_in words c.in_ok-rules.rules.items ≡ kept (items_of (placed_all items)) = c.in_ok-rules.ensures.rules ∙ ap (λ (xs : List held.Placed). kept (items_of (placed_all xs))) c.deref.ensures.value in
     let those : List TokenName = used (rules_in words c.in_ok-rules.rules.items) in
-    let told : Tells c.deref-4.result.now words those = c.deref-4.ensures.value ∙ (c.in_ok-used.ensures ∙ ap (λ (xs : List held_rule.SpelledRule). map (has_spelling (used (rules_in words xs))) words) c.deref-3.ensures.value) in
+    let told : AreMarksOf c.deref-4.result.now words those = c.deref-4.ensures.value ∙ (c.in_ok-used.ensures ∙ ap (λ (xs : List held_rule.SpelledRule). map (has_spelling (used (rules_in words xs))) words) c.deref-3.ensures.value) in
     subst (λ p. limit_passed p ≡ None → IsFile (file_with p))
     (sym (left_same words (placed_of_some c.args.start) (placed_all items) (record { tokens = c.in_ok-tokens.tokens; nonterminals = c.args.lefts; start = placed_of_some c.args.start; rules = rules_in words c.in_ok-rules.rules.items })
     those kept_is refl c.requires.lefts (c.in_ok-tokens.ensures those told) refl))
@@ -71,7 +71,7 @@ returns c =
     let items : List held.Placed = c.args.meant.now.items.items in
     let kept_is : rules_in words c.in_ok-rules.rules.items ≡ kept (items_of (placed_all items)) = c.in_ok-rules.ensures.rules ∙ ap (λ (xs : List held.Placed). kept (items_of (placed_all xs))) c.deref.ensures.value in
     let those : List TokenName = used (rules_in words c.in_ok-rules.rules.items) in
-    let told : Tells c.deref-4.result.now words those = c.deref-4.ensures.value ∙ (c.in_ok-used.ensures ∙ ap (λ (xs : List held_rule.SpelledRule). map (has_spelling (used (rules_in words xs))) words) c.deref-3.ensures.value) in
+    let told : AreMarksOf c.deref-4.result.now words those = c.deref-4.ensures.value ∙ (c.in_ok-used.ensures ∙ ap (λ (xs : List held_rule.SpelledRule). map (has_spelling (used (rules_in words xs))) words) c.deref-3.ensures.value) in
     subst (λ p. IsGiven c.file_or_limit.result (file_or_limit p))
     (left_same words (placed_of_some c.args.start) (placed_all items) (record { tokens = c.in_ok-tokens.tokens; nonterminals = c.args.lefts; start = placed_of_some c.args.start; rules = rules_in words c.in_ok-rules.rules.items })
     those kept_is refl c.requires.lefts (c.in_ok-tokens.ensures those told) refl)

@@ -6,11 +6,16 @@ use Rattle.cs_pattern_items.proofs.Picked.{picked_by_itself, range_none, range_m
 use Rattle.cs_pattern_items.proofs.byte_set.ByteSet.insert_range.Goals as goal
 
 pub loop-index-init : goal.loop-index-init
-loop-index-init c = range_none c.args.first c.args.self.now (picked_by_itself (has_bit c.self.inside.words) 256 _ c.self.view_is)
+loop-index-init c = record {
+  added = range_none c.args.first c.args.self.now (picked_by_itself (has_bit c.self.inside.words) 256 _ c.self.view_is);
+  none = λ lt. omega arith;
+}
 
 pub loop-index-preserved : goal.loop-index-preserved
-loop-index-preserved c =
-    range_more c.args.first c.loop-index.index (has c.args.self.now) c.loop-index.self _ (le-leb c.args.first c.loop-index.index (omega arith)) c.loop-index.invariant c.insert.ensures
+loop-index-preserved c = record {
+  added = range_more c.args.first c.loop-index.index (has c.args.self.now) c.loop-index.self _ (le-leb c.args.first c.loop-index.index (omega arith)) c.loop-index.invariant.added c.insert.ensures;
+  none = λ lt. omega arith;
+}
 
 pub returns : goal.returns
-returns c = range_all c.args.first c.args.last c.loop-index.index (has c.args.self.now) c.loop-index.self (omega arith) c.loop-index.invariant
+returns c = range_all c.args.first c.args.last c.loop-index.index (has c.args.self.now) c.loop-index.self (λ le. omega arith) c.loop-index.invariant.none c.loop-index.invariant.added

@@ -1,26 +1,22 @@
--- The operations of a text measure the tree with the definitions put in.
+-- The operations of a tree measure it, with trees of the known measures put in.
 use Rattle.std.proofs.Common.{◌≡◌, ℕ, zero, suc, ◌+◌, ◌-◌, ◌*◌, ◌^◌, List, [], ◌∷◌, ◌++◌, length, map, replicate, refl, sym, ap, ◌∙◌, subst, inl, inr, arith}
-use Rattle.std.specs.Prelude.{Some, max, sum_by, slice_get, slice_index_or}
+use Rattle.std.specs.Prelude.{max, sum_by, slice_index_or}
 use Rattle.std.proofs.lemmas.Bool.{cases_lt}
 use Rattle.std.proofs.lemmas.List.Sums.{sum_by-cons}
 use Rattle.cs_pattern_items.specs.declared.item.Repetition.{Repetition}
 use Rattle.cs_pattern_items.specs.declared.item.Repetition.TheVariants.{Optional, Exactly, AtLeast, Between}
-use Rattle.cs_pattern_items.specs.Items.{Item, repetition, named, opening, closing, bar}
 use Rattle.cs_pattern_postfix.specs.declared.measure.Measure.{Measure}
-use Rattle.cs_pattern_postfix.specs.Definitions.{Definition}
-use Rattle.cs_pattern_postfix.specs.Grammar.{Tree, LastBranch, Or, Branch, LastPiece, Beside, Piece, Repeated, Atom, Bytes, Quote, Name, Group, tree_items, branch_items, piece_items, atom_items, all_repeated, branch_parts, piece_parts, piece_regex, atom_regex}
+use Rattle.cs_pattern_postfix.specs.Grammar.{Tree, LastBranch, Or, Branch, LastPiece, Beside, Piece, Repeated, Atom, Bytes, Quote, Name, Group, all_repeated, branch_parts, piece_parts, piece_regex, atom_regex}
 use Rattle.cs_pattern_tree.specs.Pattern.{alone_or}
-use Rattle.cs_pattern_postfix.specs.Measures.{in_32_bits, measure, measure_of, leaf, repeated_leaves, greatest_depth, together, measures}
-use Rattle.cs_pattern_postfix.specs.Operations.{number_of, tree_ops}
+use Rattle.cs_pattern_postfix.specs.Measures.{repeated_leaves, greatest_depth, together, measures}
+use Rattle.cs_pattern_postfix.specs.Operations.{Op}
 use Rattle.cs_pattern_tree.specs.Pattern.{Regex, Empty, Join, Either, Many, Parts, Nothing, Then, parts_of, leaves, all_leaves}
 use Rattle.cs_pattern_tree.specs.Repeated as repeats
-use Rattle.cs_pattern.specs.Substitution.{SpellsTree, Defines, PutIn, BranchPutIn, PiecePutIn, AtomPutIn, IsTreeOf}
-use Rattle.cs_pattern_postfix.specs.Depth.{depth, branch_depth, piece_depth, atom_depth, pattern_of}
-use Rattle.cs_pattern.specs.Uses.{Uses}
+use Rattle.cs_pattern_postfix.specs.Depth.{depth, branch_depth, piece_depth, atom_depth, pattern_of, in_32_bits, measure, measure_of, leaf}
 use Rattle.cs_pattern_postfix.specs.Values.{repeated_value, branch_values, piece_values, piece_value, atom_value}
 use Rattle.cs_pattern_postfix.specs.Evaluation.{value_of}
 use Rattle.cs_pattern_postfix.proofs.Evaluating.{evaluated}
-use Rattle.cs_pattern.proofs.Using.{uses_left, uses_right, number_is}
+use Rattle.cs_pattern_postfix.specs.Trees.{PutIn, BranchPutIn, PiecePutIn, AtomPutIn, HasMeasure, GiveTree}
 
 -- ---- leaves of what is repeated
 
@@ -129,78 +125,51 @@ repeats_measured known r d m (n ∷ rs) e =
     repeats_measured known (repeats.repeated r n) (d + 1) (measure (m.depth + 1) (repeated_leaves m.leaves n)) rs one
     ∙ ap (λ k. measure k (leaves (all_repeated (repeats.repeated r n) rs))) (let f : (d + 1) + length rs ≡ d + suc (length rs) = omega arith in f)
 
-module _ (ds : List Definition) (known : List Measure) where
-  -- the definitions that these items use have the known measures
-  abbrev pub AreMeasured : List Item → Type 0
-  AreMeasured xs = (i : ℕ) → Uses ds xs i → (d : Definition) (tree : Tree) → slice_get ds i ≡ Some d → IsTreeOf ds d.text tree → slice_index_or known i leaf ≡ measure_of tree
-
-  left : (xs ys : List Item) → AreMeasured (xs ++ ys) → AreMeasured xs
-  left xs ys k i h = k i (uses_left ds xs ys i h)
-
-  right : (xs ys : List Item) → AreMeasured (xs ++ ys) → AreMeasured ys
-  right xs ys k i h = k i (uses_right ds xs ys i h)
-
-  name_measured : (name : List ℕ) (d : Definition) (u t : Tree) → Defines ds name d → SpellsTree d.text t → PutIn ds u t → AreMeasured (named name ∷ [])
-      → atom_value (measures known) (number_of ds) (Name name) ≡ measure (depth u + 1) (leaves (pattern_of u))
-  name_measured name d u t def spells put k =
-      let m : slice_index_or known def.index leaf ≡ measure_of u = k def.index (inl def.found) d u def.is (record { spelled = t; is_spelled = spells; put_in = put }) in
-      grouped (slice_index_or known (number_of ds name) leaf) (depth u) (leaves (pattern_of u)) (ap (λ n. slice_index_or known n leaf) (number_is ds name d def) ∙ m)
+module _ (known : List Measure) (number : List ℕ → ℕ) where
+  abbrev IsFor : List ℕ → Tree → Type 0
+  IsFor name = HasMeasure known (number name)
 
   mutual
-    branches_add : (u t : Tree) → PutIn ds u t → AreMeasured (tree_items t) → Adds (branch_values (measures known) (number_of ds) t) (depth u) (all_leaves (branch_parts no_names u))
-    branches_add (LastBranch b) t p k =
-        let e = p.1 in
-        let h = pieces_add b p.0 p.2 (subst (λ (x : Tree). AreMeasured (tree_items x)) e k) in
-        subst (λ (x : Tree). Adds (branch_values (measures known) (number_of ds) x) (branch_depth b) (all_leaves (branch_parts no_names (LastBranch b)))) (sym e)
+    branches_add : (u t : Tree) → PutIn IsFor u t → Adds (branch_values (measures known) number t) (depth u) (all_leaves (branch_parts no_names u))
+    branches_add (LastBranch b) t p =
+        let h = pieces_add b p.0 p.2 in
+        subst (λ (x : Tree). Adds (branch_values (measures known) number x) (branch_depth b) (all_leaves (branch_parts no_names (LastBranch b)))) (sym p.1)
         (adds_one _ (branch_depth b) (all_leaves (piece_parts no_names b)) _ (together_is _ _ _ h) (ap (λ n. n + 0) (leaves_join (piece_parts no_names b))))
-    branches_add (Or b u) t p k =
-        let e = p.2 in
-        let j = subst (λ (x : Tree). AreMeasured (tree_items x)) e k in
-        let h = pieces_add b p.0 p.3 (left (branch_items p.0) (bar ∷ tree_items p.1) j) in
-        let more = branches_add u p.1 p.4 (right (bar ∷ []) (tree_items p.1) (right (branch_items p.0) (bar ∷ tree_items p.1) j)) in
-        subst (λ (x : Tree). Adds (branch_values (measures known) (number_of ds) x) (max (branch_depth b) (depth u)) (all_leaves (branch_parts no_names (Or b u)))) (sym e)
+    branches_add (Or b u) t p =
+        let h = pieces_add b p.0 p.3 in
+        let more = branches_add u p.1 p.4 in
+        subst (λ (x : Tree). Adds (branch_values (measures known) number x) (max (branch_depth b) (depth u)) (all_leaves (branch_parts no_names (Or b u)))) (sym p.2)
         (adds_leaves _ _ _ _ (ap (λ n. n + all_leaves (branch_parts no_names u)) (sym (leaves_join (piece_parts no_names b))))
         (adds_more _ _ (branch_depth b) (all_leaves (piece_parts no_names b)) (depth u) (all_leaves (branch_parts no_names u)) (together_is _ _ _ h) more))
 
-    pieces_add : (b c : Branch) → BranchPutIn ds b c → AreMeasured (branch_items c) → Adds (piece_values (measures known) (number_of ds) c) (branch_depth b) (all_leaves (piece_parts no_names b))
-    pieces_add (LastPiece q) c p k =
-        let e = p.1 in
-        let h = piece_measured q p.0 p.2 (subst (λ (x : Branch). AreMeasured (branch_items x)) e k) in
-        subst (λ (x : Branch). Adds (piece_values (measures known) (number_of ds) x) (piece_depth q) (all_leaves (piece_parts no_names (LastPiece q)))) (sym e)
-        (adds_one _ (piece_depth q) (leaves (piece_regex no_names q)) _ h refl)
-    pieces_add (Beside q b) c p k =
-        let e = p.2 in
-        let j = subst (λ (x : Branch). AreMeasured (branch_items x)) e k in
-        let h = piece_measured q p.0 p.3 (left (piece_items p.0) (branch_items p.1) j) in
-        let more = pieces_add b p.1 p.4 (right (piece_items p.0) (branch_items p.1) j) in
-        subst (λ (x : Branch). Adds (piece_values (measures known) (number_of ds) x) (max (piece_depth q) (branch_depth b)) (all_leaves (piece_parts no_names (Beside q b)))) (sym e)
-        (adds_more _ _ (piece_depth q) (leaves (piece_regex no_names q)) (branch_depth b) (all_leaves (piece_parts no_names b)) h more)
+    pieces_add : (b c : Branch) → BranchPutIn IsFor b c → Adds (piece_values (measures known) number c) (branch_depth b) (all_leaves (piece_parts no_names b))
+    pieces_add (LastPiece q) c p =
+        subst (λ (x : Branch). Adds (piece_values (measures known) number x) (piece_depth q) (all_leaves (piece_parts no_names (LastPiece q)))) (sym p.1)
+        (adds_one _ (piece_depth q) (leaves (piece_regex no_names q)) _ (piece_measured q p.0 p.2) refl)
+    pieces_add (Beside q b) c p =
+        subst (λ (x : Branch). Adds (piece_values (measures known) number x) (max (piece_depth q) (branch_depth b)) (all_leaves (piece_parts no_names (Beside q b)))) (sym p.2)
+        (adds_more _ _ (piece_depth q) (leaves (piece_regex no_names q)) (branch_depth b) (all_leaves (piece_parts no_names b)) (piece_measured q p.0 p.3) (pieces_add b p.1 p.4))
 
-    piece_measured : (q w : Piece) → PiecePutIn ds q w → AreMeasured (piece_items w) → piece_value (measures known) (number_of ds) w ≡ measure (piece_depth q) (leaves (piece_regex no_names q))
-    piece_measured (Repeated a rs) w p k =
-        let e = p.1 in
-        let j = subst (λ (x : Piece). AreMeasured (piece_items x)) e k in
-        let h = atom_measured a p.0 p.2 (left (atom_items p.0) (map repetition rs) j) in
-        ap (piece_value (measures known) (number_of ds)) e
-        ∙ repeats_measured known (atom_regex no_names a) (atom_depth a) (atom_value (measures known) (number_of ds) p.0) rs h
+    piece_measured : (q w : Piece) → PiecePutIn IsFor q w → piece_value (measures known) number w ≡ measure (piece_depth q) (leaves (piece_regex no_names q))
+    piece_measured (Repeated a rs) w p =
+        ap (piece_value (measures known) number) p.1
+        ∙ repeats_measured known (atom_regex no_names a) (atom_depth a) (atom_value (measures known) number p.0) rs (atom_measured a p.0 p.2)
 
-    atom_measured : (a w : Atom) → AtomPutIn ds a w → AreMeasured (atom_items w) → atom_value (measures known) (number_of ds) w ≡ measure (atom_depth a) (leaves (atom_regex no_names a))
-    atom_measured (Bytes set) w p k = ap (atom_value (measures known) (number_of ds)) p
-    atom_measured (Quote bytes) w p k = ap (atom_value (measures known) (number_of ds)) p ∙ ap (measure 0) (sym (leaves_quoted bytes))
-    atom_measured (Name name) w p k = absurd p
-    atom_measured (Group u) w (inl p) k =
-        let e = p.1 in
-        let j = subst (λ (x : Atom). AreMeasured (atom_items x)) e k in
-        let h = branches_add u p.0 p.2 (left (tree_items p.0) (closing ∷ []) (right (opening ∷ []) (tree_items p.0 ++ closing ∷ []) j)) in
-        ap (atom_value (measures known) (number_of ds)) e
+    atom_measured : (a w : Atom) → AtomPutIn IsFor a w → atom_value (measures known) number w ≡ measure (atom_depth a) (leaves (atom_regex no_names a))
+    atom_measured (Bytes set) w p = ap (atom_value (measures known) number) p
+    atom_measured (Quote bytes) w p = ap (atom_value (measures known) number) p ∙ ap (measure 0) (sym (leaves_quoted bytes))
+    atom_measured (Name name) w p = absurd p
+    atom_measured (Group u) w (inl p) =
+        let h = branches_add u p.0 p.2 in
+        ap (atom_value (measures known) number) p.1
         ∙ grouped _ (depth u) (leaves (pattern_of u)) (together_is _ _ _ h ∙ ap (measure (depth u)) (sym (leaves_either (branch_parts no_names u))))
-    atom_measured (Group u) w (inr p) k =
-        let e = p.3 in
-        let j = subst (λ (x : Atom). AreMeasured (atom_items x)) e k in
-        ap (atom_value (measures known) (number_of ds)) e ∙ name_measured p.0 p.1 u p.2 p.4 p.5 p.6 j
+    atom_measured (Group u) w (inr p) =
+        ap (atom_value (measures known) number) p.1
+        ∙ grouped (slice_index_or known (number p.0) leaf) (depth u) (leaves (pattern_of u)) p.2
 
-  pub measured : (tree spelled : Tree) → PutIn ds tree spelled → AreMeasured (tree_items spelled) → value_of (measures known) (tree_ops (number_of ds) spelled) ≡ measure_of tree
-  measured tree spelled put k =
-      evaluated (measures known) (number_of ds) spelled
-      ∙ together_is _ _ _ (branches_add tree spelled put k)
-      ∙ ap (measure (depth tree)) (sym (leaves_either (branch_parts no_names tree)))
+pub measured : (known : List Measure) (ops : List Op) (tree : Tree) → GiveTree (HasMeasure known) ops tree → value_of (measures known) ops ≡ measure_of tree
+measured known ops tree g =
+    ap (value_of (measures known)) g.are
+    ∙ evaluated (measures known) g.number g.spelled
+    ∙ together_is _ _ _ (branches_add known g.number tree g.spelled g.put_in)
+    ∙ ap (measure (depth tree)) (sym (leaves_either (branch_parts no_names tree)))
