@@ -85,13 +85,16 @@ refused_there files (ForRules name) refusal is = file_more files name is (λ byt
 refused_there files (ForSuite name other options) refusal is = files_more files name other is (λ bytes more a. tt)
 refused_there files (ForGen seed) refusal is = absurd is
 
+a_read_failed : (P : List ℕ → Type 0) (files : Files) (name : List ℕ) (faults : Change ℕ) → IsSomeAnd (file_named files name) P → HasFailed faults ⊎ IsMissing (Some files) name → HasFailed faults
+a_read_failed P files name faults there (inl failed) = failed
+a_read_failed P files name faults there (inr missing) = absurd (found_there P (file_named files name) there missing)
+
 no_file : (files : Option Files) (request : Request) (faults : Change ℕ) (role : Role) → IsSome files → AreThere files request → HasNoFileFor files request faults role → HasFailed faults
 no_file None request faults role some there none = absurd cc
-no_file (Some files) (ForRules name) faults role some there (inl failed) = failed
-no_file (Some files) (ForRules name) faults role some there (inr missing) = absurd (found_there (λ bytes. Unit {0}) (file_named files name) there missing)
+no_file (Some files) (ForRules name) faults role some there none = a_read_failed (λ bytes. Unit {0}) files name faults there none.1
 no_file (Some files) (ForGen seed) faults role some there none = absurd none
-no_file (Some files) (ForSuite name other options) faults Yacc some there (inl failed) = failed
-no_file (Some files) (ForSuite name other options) faults Yacc some there (inr missing) = absurd (found_there (λ bytes. IsSomeAnd (file_named files other) (λ more. Unit {0})) (file_named files name) there missing)
+no_file (Some files) (ForSuite name other options) faults Yacc some there none =
+    a_read_failed (λ bytes. IsSomeAnd (file_named files other) (λ more. Unit {0})) files name faults there none
 no_file (Some files) (ForSuite name other options) faults Lex some there none = second none.1
   where
     second : HasFailed faults ⊎ IsMissing (Some files) other → HasFailed faults

@@ -1,5 +1,5 @@
 -- Which files are accepted and refused, and the manifests of accepted ones. Where the desk tells no files, any files count.
-use Rattle.std.specs.Prelude.{ℕ, List, Option, Some}
+use Rattle.std.specs.Prelude.{◌≡◌, ℕ, List, Option, Some}
 use Rattle.cs_io.specs.Desk.{Files}
 use Rattle.cs_io.specs.Uses.{Change}
 use Rattle.cs_yacc.specs.File as yacc
@@ -38,9 +38,9 @@ AreRefusedSo files (ForGen seed) refusal = ⊥
 abbrev pub AreRefused : Option Files → Request → Type 0
 AreRefused files request = (refusal : Refusal) × AreRefusedSo files request refusal
 
--- one of them can't be read
+-- the file of that role can't be read
 abbrev pub HasNoFileFor : Option Files → Request → Change ℕ → Role → Type 0
-HasNoFileFor files (ForRules name) faults role = HasNoFile Yacc files name name faults
+HasNoFileFor files (ForRules name) faults role = (role ≡ Yacc) × HasNoFile Yacc files name name faults
 HasNoFileFor files (ForSuite name other options) faults role = HasNoFile role files name other faults
 HasNoFileFor files (ForGen seed) faults role = ⊥
 

@@ -35,8 +35,8 @@ IsGrammarOf file bytes = IsShort bytes × IsYaccFile bytes file
 abbrev pub IsPairOf : yacc.File → lex.File → List ℕ → List ℕ → Type 0
 IsPairOf file scanner bytes more = IsShort bytes × IsShort more × IsYaccFile bytes file × IsLexFile more file scanner
 
--- A read of the file failed, or the desk tells its files and has none of that name. A lex file is asked for behind the
--- yacc file, which is there.
+-- A read failed, or the desk tells its files and has none of that name. A lex file is asked for behind the yacc file,
+-- which is there.
 abbrev pub HasNoFile : Role → Option Files → List ℕ → List ℕ → Change ℕ → Type 0
 HasNoFile Yacc files one other faults = HasFailed faults ⊎ IsMissing files one
 HasNoFile Lex files one other faults = FileIs files one (λ bytes. Unit {0}) × (HasFailed faults ⊎ IsMissing files other)

@@ -1,5 +1,6 @@
 -- The lines that say why files are refused.
 use Rattle.std.specs.Prelude.{ℕ, List, [], ◌++◌, codes, decimal}
+use Rattle.cs_bytes.specs.Limits.{most_bytes}
 use Rattle.cs_pattern.specs.declared.fault.PatternFault.{PatternFault}
 use Rattle.cs_pattern.specs.declared.fault.PatternFault.TheVariants.{Anchor, Trailing, Condition, Collation, Syntax, UndefinedName, DefinitionCycle, TooDeep, TooManyPositions}
 use Rattle.cs_yacc.specs.declared.error.YaccError.{YaccError}
@@ -77,7 +78,7 @@ lex_words (lex.Pattern at fault) = codes "Pattern at " ++ (decimal at ++ (codes 
 lex_words lex.Memory = []
 
 abbrev pub refusal_words : Refusal → List ℕ
-refusal_words (TooLong role) = role_word role ++ codes ": Length above 1048576\n"
+refusal_words (TooLong role) = role_word role ++ at_word (codes ": Length above ") most_bytes
 refusal_words (OfYacc error) = codes "yacc: " ++ yacc_words error
 refusal_words (OfLex error) = codes "lex: " ++ lex_words error
 refusal_words States = codes "lex: States above 16384\n"

@@ -46,7 +46,7 @@ RefusesPair States bytes more =
 
 -- why a yacc file isn't given
 abbrev pub StopsGrammar : Option Files → List ℕ → Change ℕ → Stop → Type 0
-StopsGrammar files name faults (NoFile role) = HasNoFile Yacc files name name faults
+StopsGrammar files name faults (NoFile role) = (role ≡ Yacc) × HasNoFile Yacc files name name faults
 StopsGrammar files name faults (Refused refusal) = FileIs files name (RefusesGrammar refusal)
 StopsGrammar files name faults Memory = Unit {0}
 

@@ -30,7 +30,7 @@ pub(crate) fn judge_grammar(alloc: Global, bytes: &[u8]) -> Result<YaccFile, Sto
     grammar(alloc, bytes)
 }
 
-/// What the bytes of a yacc file and of a lex file mean.
+/// What the bytes of a yacc file and of a lex file mean, or the first cause why they are refused, or want of memory.
 pub fn judge_pair(alloc: Global, bytes: &[u8], more: &[u8]) -> Result<Pair, Stop>
     ensures read { IfOk result (λ pair. IsPairOf pair.yacc pair.lex bytes.now more.now) }
     ensures tokens { IfOk result (λ pair. HasTokensOf (length pair.yacc.token_names) pair.lex) }

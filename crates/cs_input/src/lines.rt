@@ -9,7 +9,7 @@ ghost use Rattle.cs_lex.specs.declared.error.LexError.TheVariants as lex_error;
 use crate::refusal::{Refusal, Role};
 use cs_lex::{LexError, LexLimit};
 use cs_pattern::PatternFault;
-use cs_yacc::{YaccError, YaccLimit};
+use cs_yacc::{MOST_BYTES, YaccError, YaccLimit};
 use std::alloc::{AllocError, Global};
 
 /// The line of a refusal, with its newline.
@@ -20,7 +20,7 @@ pub fn line(alloc: Global, refusal: Refusal) -> Result<String, AllocError>
     match refusal {
         Refusal::TooLong(role) => {
             let role = role_word(role);
-            Ok(format!(in alloc; "conform: {role}: Length above 1048576\n")?)
+            Ok(format!(in alloc; "conform: {role}: Length above {MOST_BYTES}\n")?)
         }
         Refusal::OfYacc(error) => {
             let words = yacc_words(alloc, error)?;

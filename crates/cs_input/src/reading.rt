@@ -13,7 +13,7 @@ use cs_io::{Desk, DeskError};
 use cs_yacc::{MOST_BYTES, YaccFile};
 use std::alloc::Global;
 
-/// The yacc file of that name.
+/// The yacc file of that name, or why it isn't given: it can't be read, it is refused, or want of memory.
 pub fn read_grammar<D: Desk>(alloc: Global, name: &str, desk: &mut D) -> Result<YaccFile, Stop>
     ensures read { IfOk result (λ file. FileIs (D.files desk.old) name.now (IsGrammarOf file)) }
     ensures stops { IfErr result (GrammarStops D.files D.faults desk.old desk.new name.now) }
@@ -27,7 +27,8 @@ pub fn read_grammar<D: Desk>(alloc: Global, name: &str, desk: &mut D) -> Result<
     judge_grammar(alloc, &bytes)
 }
 
-/// The yacc file and the lex file of these names. Both are read before either is judged.
+/// The yacc file and the lex file of these names, or why they aren't given: one can't be read, the two are refused, or want of
+/// memory. Both are read before either is judged, and where the yacc file can't be read the lex file isn't asked for.
 pub fn read_pair<D: Desk>(alloc: Global, yacc: &str, lex: &str, desk: &mut D) -> Result<Pair, Stop>
     ensures read { IfOk result (IsPairRead (D.files desk.old) yacc.now lex.now) }
     ensures tokens { IfOk result (λ pair. HasTokensOf (length pair.yacc.token_names) pair.lex) }

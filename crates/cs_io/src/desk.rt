@@ -1,4 +1,4 @@
-ghost use Rattle.std.specs.Prelude.{◌≡◌, ◌≤◌, Bool, IfOk, IsErrOf, IsTrue, Option, ℕ};
+ghost use Rattle.std.specs.Prelude.{◌≡◌, ◌≤◌, Bool, IfOk, IsErrOf, IsTrue, Option, ℕ, length};
 ghost use Rattle.cs_io.specs.Desk.{Files, IsBeginning, IsMissing};
 ghost use Rattle.cs_io.specs.Faults.{Rose};
 
@@ -40,6 +40,7 @@ pub trait Desk {
     fn read(&mut self, alloc: Global, name: &str, most: usize) -> Result<Vec<u8>, DeskError>
         ensures bytes { IfOk result (λ read.
             IsBeginning (files self.old) name.now most read.items) }
+        ensures within { IfOk result (λ read. length read.items ≤ most) }
         ensures missing { IsErrOf result DeskError.Missing → IsMissing (files self.old) name.now }
 
         // Which answers are faults: `Failed` alone.

@@ -1,4 +1,4 @@
-ghost use Rattle.std.specs.Prelude.{◌≡◌, ◌≤◌, false, IsErrOf, None};
+ghost use Rattle.std.specs.Prelude.{◌≡◌, ◌≤◌, false, IfOk, IsErrOf, None, length};
 ghost use Rattle.cs_io.specs.Faults.{next_count};
 
 use crate::{Desk, DeskError};
@@ -41,10 +41,14 @@ impl<'r, R: Files> FolderDesk<'r, R> {
 }
 
 // Opens the file and reads at most that many bytes of it.
-fn read_file<R: Files>(rt: &R, alloc: Global, name: &str, most: usize) -> io::Result<Vec<u8>> {
+fn read_file<R: Files>(rt: &R, alloc: Global, name: &str, most: usize) -> io::Result<Vec<u8>>
+    ensures { IfOk result (λ read. length read.items ≤ most) }
+{
     let mut bytes = Vec::new(alloc);
     let file = fs::File::open(rt, name)?;
     file.take(most as u64).read_to_end(&mut bytes)?;
+    // For the proof alone: `take` has cut already, but no clause of it says so of a file.
+    bytes.truncate(most);
     Ok(bytes)
 }
 
@@ -56,6 +60,7 @@ impl<'r, R: Files> Desk for FolderDesk<'r, R> {
     ghost steady = { λ _. false };
 
     fn read(&mut self, alloc: Global, name: &str, most: usize) -> Result<Vec<u8>, DeskError>
+        ensures within { IfOk result (λ read. length read.items ≤ most) }
         ensures never_missing { ¬ IsErrOf result DeskError.Missing }
         ensures fault { IsErrOf result DeskError.Failed → self.new ≡ next_count self.old }
         ensures no_fault { ¬ IsErrOf result DeskError.Failed → self.new ≡ self.old }

@@ -4,7 +4,8 @@
 //! [`write_all`]. They may use what these promise of every desk and sink, and nothing of one
 //! implementation:
 //!
-//! - a read answers the first bytes of the named file, where the desk tells its files;
+//! - a read answers at most as many bytes as were asked for, and where the desk tells its files the
+//!   first ones of the named file;
 //! - after [`write_all`] the sink has taken the whole piece, or a prefix of it, and then its faults
 //!   rose;
 //! - a desk that is steady counts no fault, and a sink with room for the piece takes it.

@@ -33,11 +33,13 @@ impl Model for MemoryDesk {
 }
 
 impl MemoryDesk {
-    /// A desk with these files, names and bytes. Of the files of one name the first counts.
+    /// A desk with these files, names and bytes. Of the files of one name the first counts. It takes
+    /// no memory.
     ///
     /// `failing` has the numbers, from 0, of the calls of `read` that are to fail.
     pub fn new(files: Vec<(String, Vec<u8>)>, failing: Vec<u32>) -> Result<MemoryDesk, AllocError>
-        ensures { IfOk result (λ desk. desk ≡ new_desk (stored files.items) failing.items) }
+        ensures ok { IsOk result }
+        ensures desk { IfOk result (λ desk. desk ≡ new_desk (stored files.items) failing.items) }
     {
         Ok(MemoryDesk {
             files,
@@ -71,6 +73,7 @@ impl Desk for MemoryDesk {
     fn read(&mut self, alloc: Global, name: &str, most: usize) -> Result<Vec<u8>, DeskError>
         ensures bytes { IfOk result (λ read.
             IsBeginning (Some self.old.files) name.now most read.items) }
+        ensures within { IfOk result (λ read. length read.items ≤ most) }
 
         // Each answer comes exactly where it is due, but for want of memory.
         ensures failed { IsErrOf result DeskError.Failed ↔ IsTrue (fails_next self.old) }

@@ -16,8 +16,9 @@ pub enum SinkError {
 
 /// A place that takes bytes, one piece after another.
 ///
-/// Contracts know three things of a sink: the bytes that were `written` to it, where it tells them;
-/// how many `faults` it has met; and for how many bytes it is sure to have `room`.
+/// Contracts know five things of a sink: the bytes that were `written` to it, where it tells them;
+/// how many `faults` it has met; for how many bytes it is sure to have `room`; and of a sink over a
+/// lent one, which sink was `lent` and how many bytes it is known to have `passed` on.
 pub trait Sink {
     /// The bytes that it has taken, in order, or `None` for a sink that doesn't tell them.
     ghost written: { Self → Option (List ℕ) };

@@ -4,6 +4,7 @@ use Rattle.cs_io.proofs.folder_desk.FolderDeskDesk.TheImpl.Goals as goal
 pub read-tells : goal.read-tells
 read-tells g c = record {
   bytes = search rules;
+  within = c.ensures.within;
   missing = c.ensures.never_missing;
   fault = λ failed. let counted = c.ensures.fault failed in omega arith;
   no_fault = c.ensures.no_fault;
