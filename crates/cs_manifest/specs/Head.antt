@@ -35,18 +35,18 @@ abbrev pub sharing_of : Head → Option Sharing
 sharing_of head = sharing_in head.form
 
 -- the lines of a head with these
-abbrev pub lines_with : File → Option (List (Option (List ℕ))) → Option Sharing → List ℕ
-lines_with file lexemes None = head_lines file lexemes
-lines_with file lexemes (Some sharing) = shared_head_lines file sharing.weigh lexemes sharing.closed
+abbrev pub head_with : File → Option (List (Option (List ℕ))) → Option Sharing → List ℕ
+head_with file lexemes None = head_lines file lexemes
+head_with file lexemes (Some sharing) = shared_head_lines file sharing.weigh lexemes sharing.closed
 
 -- the lines of the head
 abbrev pub head_of : Head → List ℕ
-head_of head = lines_with (yacc_of head) (lexemes_of head) (sharing_of head)
+head_of head = head_with (yacc_of head) (lexemes_of head) (sharing_of head)
 
--- how many cases stand behind it, where it is of the second format
-abbrev pub no_cases : Option Sharing → Option ℕ
-no_cases None = None
-no_cases (Some sharing) = Some 0
+-- how many cases there are at first, where it is of the second format
+abbrev pub first_cases : Option Sharing → Option ℕ
+first_cases None = None
+first_cases (Some sharing) = Some 0
 
 -- lexemes are of as many tokens as the file has
 abbrev pub AreLexemesOf : File → Option (List (Option (List ℕ))) → Type 0

@@ -39,20 +39,20 @@ abbrev pub list_words : File → OpenNegative → List ℕ
 list_words file negatives =
     right_words file negatives.pair (place_of negatives.edit) ++ tokens_below file negatives.front.now
 
-abbrev pub text_words : File → OpenNegative → List ℕ
-text_words file negatives =
+abbrev pub text_hole_words : File → OpenNegative → List ℕ
+text_hole_words file negatives =
     token_words file negatives.back.now ++ codes "\n  text \"" ++ between_quotes negatives.text_front.now
 
-abbrev pub end_words : OpenNegative → List ℕ
-end_words negatives = between_quotes negatives.text_back.now ++ double_quote ∷ newline ∷ []
+abbrev pub end_hole_words : OpenNegative → List ℕ
+end_hole_words negatives = between_quotes negatives.text_back.now ++ double_quote ∷ newline ∷ []
 
 -- each part
 abbrev pub part_words : File → OpenNegative → OpenPart → List ℕ
 part_words file negatives parts.Head = head_words negatives
 part_words file negatives parts.Pair = left_words file negatives.pair
 part_words file negatives parts.List = list_words file negatives
-part_words file negatives parts.Text = text_words file negatives
-part_words file negatives parts.End = end_words negatives
+part_words file negatives parts.Text = text_hole_words file negatives
+part_words file negatives parts.End = end_hole_words negatives
 
 -- all of them, by the edit and the pair
 abbrev pub parts_by : File → OpenNegative → OpenEdit → OpenPair → LineParts
@@ -60,8 +60,8 @@ parts_by file negatives edit pair = record {
   head = base_edit_words negatives.base edit;
   pair = left_words file pair;
   list = right_words file pair (place_of edit) ++ tokens_below file negatives.front.now;
-  text = text_words file negatives;
-  end = end_words negatives;
+  text = text_hole_words file negatives;
+  end = end_hole_words negatives;
 }
 
 abbrev pub parts_of : File → OpenNegative → LineParts

@@ -6,7 +6,7 @@ use Rattle.cs_manifest.specs.declared.entry.Entry.{Entry}
 use Rattle.cs_manifest.specs.declared.head.Head.{Head}
 use Rattle.cs_manifest.specs.Counts.{behind_entry, counts_of_head}
 use Rattle.cs_manifest.specs.Entry.{lines_of}
-use Rattle.cs_manifest.specs.Head.{yacc_of, head_of, lexemes_of, no_cases, sharing_of}
+use Rattle.cs_manifest.specs.Head.{yacc_of, head_of, lexemes_of, first_cases, sharing_of}
 
 -- its head, and the counts of what was written so far
 pub record Progress : Type 0 where
@@ -19,7 +19,7 @@ abbrev pub begun : Head → Progress
 begun head = record {
   file = yacc_of head;
   lexemes = lexemes_of head;
-  counts = record (counts_of_head (head_of head)) { cases = no_cases (sharing_of head) };
+  counts = record (counts_of_head (head_of head)) { cases = first_cases (sharing_of head) };
 }
 
 -- the lines of an entry

@@ -6,7 +6,7 @@ ghost use Rattle.cs_output.specs.Sinks.{HasRoom, IsCalm, LeavesRoom, Took, TookP
 ghost use Rattle.cs_manifest.specs.Counts as spec;
 ghost use Rattle.cs_manifest.specs.Counts.{behind_end, end_of, with_entry as counted, with_shared_verdict, with_verdict};
 ghost use Rattle.cs_manifest.specs.Entry.{IsNamedEntry};
-ghost use Rattle.cs_manifest.specs.Head.{IsNamedHead, head_of, no_cases, sharing_in};
+ghost use Rattle.cs_manifest.specs.Head.{IsNamedHead, first_cases, head_of, sharing_in};
 ghost use Rattle.cs_manifest.specs.Progress.{begun, behind, lines_in};
 
 use crate::put_entry::{put_end, put_entry};
@@ -156,7 +156,7 @@ fn first_counts(bytes: u128, cases: Option<u64>) -> Counts
 
 // How many cases stand behind the head of a form that has cases.
 fn first_cases(form: Form<'_>) -> Option<u64>
-    ensures { result ≡ no_cases (sharing_in form.entry) }
+    ensures { result ≡ first_cases (sharing_in form.entry) }
 {
     match form {
         Form::Rules | Form::Suite { .. } => None,

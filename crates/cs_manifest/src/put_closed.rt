@@ -21,6 +21,7 @@ pub(crate) fn put_closed<S: Sink>(output: &mut Output<'_, S>, file: &YaccFile, c
     requires { AreClosedSets file.now.grammar closed.now }
     ensures { Puts S.Sink (lines.closed_lines file.now closed.now) output.old output.new }
 {
+    // Read for what it promises of the file, which has names for as many tokens and nonterminals as its grammar.
     let _named = file.token_names();
     put_sets(output, file, closed);
     put_edges(output, file, b"closed first ", closed.first());

@@ -8,7 +8,6 @@ use Rattle.cs_grammar.specs.Sentence.{framed}
 use Rattle.cs_grammar.specs.declared.symbol.Mark.TheVariants.{Begin, Token, End}
 use Rattle.cs_output.specs.Names.{AreNamedTokens, IsNamedMark, IsNamedToken}
 use Rattle.cs_manifest.specs.Named.{IsNamedEdit, IsNamedNegative, IsNamedRendering}
-use Rattle.cs_manifest.specs.declared.open.OpenEdit.TheVariants as puts
 use Rattle.cs_mutate.specs.Edit.{Fits, HasToken, edited}
 use Rattle.cs_mutate.specs.Negatives.{IsNegative}
 use Rattle.cs_mutate.specs.declared.edit.Edit.{Edit}

@@ -18,4 +18,4 @@ mod tools;
 
 pub use made::MadeNegative;
 pub use maker::Maker;
-pub use tools::{ToldToken, Tools};
+pub use tools::Tools;

@@ -1,6 +1,6 @@
 // The negatives of a base, made one after another, and written.
 
-ghost use Rattle.std.specs.Prelude.{◌≡◌, IfOk, IfSome, IsSome, OnOk, Some, length};
+ghost use Rattle.std.specs.Prelude.{◌≡◌, IfOk, IfSome, IsSome, None, OnErr, OnOk, Some, length};
 ghost use Rattle.cs_manifest.specs.Named.{IsNamedNegative};
 ghost use Rattle.cs_mutate.specs.Edit.{IsPlaced};
 ghost use Rattle.cs_mutants.specs.Makers.{TakesEdited};
@@ -25,7 +25,7 @@ pub struct MadeNegative<'m> {
     alloc: Global,
     maker: &'m Maker<'m>,
     rows: Rows,
-    // What is made, where it is one that fills a row; else it is what was rendered.
+    // What is made: one that fills a row, or what was rendered. Never both, and neither where nothing is made.
     filling: Option<Filling<'m>>,
     rendering: Option<Rendering<'m>>,
     tokens: Vec<u16>,
@@ -83,18 +83,19 @@ impl<'m> MadeNegative<'m> {
         }
     }
 
-    /// Makes a negative of the base in place of what was made. Want of memory alone is an error.
+    /// Makes a negative of the base in place of what was made. Want of memory alone is an error, and then nothing is made.
     pub fn make(&mut self, negative: &Negative) -> Result<(), AllocError>
         requires placed { IsPlaced (length self.old.making.base) negative.now.edit }
         requires taken { TakesEdited self.old.making negative.now.edit }
         requires named { IsNamedNegative self.old.making.tools.file negative.now }
         ensures making { self.new.making ≡ self.old.making }
         ensures made { OnOk result (self.new.negative ≡ Some negative.now) }
+        ensures refused { OnErr result (self.new.negative ≡ None) }
     {
         self.filling = None;
+        self.rendering.take();
         self.filling = fill(self.alloc, self.maker, &mut self.rows, negative)?;
         if self.filling.is_none() {
-            self.rendering.take();
             let rendering = render(self.maker, &mut self.tokens, &mut self.middle, negative)?;
             self.rendering.replace(rendering);
         }

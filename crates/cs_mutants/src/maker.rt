@@ -37,7 +37,7 @@ impl<'a> Model for Maker<'a> {
 }
 
 impl<'a> Maker<'a> {
-    /// What makes the negatives of a base with its number. It renders the base.
+    /// What makes the negatives of a base of at most 1,000,000 tokens, with its number. It renders the base.
     pub fn new(
         alloc: Global,
         tools: &'a Tools<'a>,

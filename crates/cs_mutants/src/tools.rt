@@ -41,7 +41,7 @@ impl<'a> Model for Tools<'a> {
 /// A token whose lexeme stands apart in texts, as the lines of negatives have it: its name behind a space, and its lexeme as it
 /// stands between quotes.
 #[derive(Clone, Copy)]
-pub struct ToldToken<'t> {
+pub(crate) struct ToldToken<'t> {
     pub name: &'t Piece,
     pub lexeme: &'t Piece,
 }

@@ -25,7 +25,8 @@ use Rattle.cs_yacc.specs.File.{File, IsFile}
 use Rattle.cs_plan.specs.declared.placing.Placed.{Placed}
 use Rattle.cs_plan.specs.declared.plan.Plan.{Plan}
 use Rattle.cs_plan.specs.Batches.{AreNextShared, entries_in}
-use Rattle.cs_plan.specs.Made.{IsNamedGoalEntry, IsNamedSharedEntry, TakesFirst}
+use Rattle.cs_plan.specs.Joined.{TakesFirst}
+use Rattle.cs_plan.specs.Made.{IsNamedGoalEntry, IsNamedSharedEntry}
 use Rattle.cs_plan.specs.Placing.{ArePlaced, ArePlacedNext, CanFinish, Finishes, FinishesIf, HasBothIf, HasTokens, IsPlacedGoal, positives_in, shared_with}
 use Rattle.cs_plan.specs.Plans.{lexemes_in, texts_in, texts_of}
 use Rattle.cs_plan.specs.Waiting.{AreRenderingsOf, IsJudged, goals_of}

@@ -18,6 +18,7 @@ use Rattle.cs_positive.specs.Positives.{GivesNext, IsNext, ToJudge}
 use Rattle.cs_render_work.specs.declared.work.RenderWork.{RenderWork}
 use Rattle.cs_render_work.specs.Renders.{TakesTokens}
 use Rattle.cs_yacc.specs.File.{File, IsFile}
+use Rattle.cs_plan.specs.Batches.{AreStillLeft}
 use Rattle.cs_plan.specs.Plans.{CanRender}
 use Rattle.cs_plan.specs.Waiting.{AddsList, AreGathered, AreListsOf, IsJudged, IsListOf, TakesLists, feasible_of, goals_of}
 use Rattle.cs_plan.proofs.Making.{few_of, named_tokens}
@@ -84,6 +85,16 @@ module _ (old : ToJudge) (positives : List Positive) (lists : List (Vec ℕ)) (n
   pub gathered_none_left : (found : Option Positive) → ((p : Positive) → found ≡ Some p → ⊥) → GivesNext now found new → positives ≡ [] → old.goals ≡ []
   gathered_none_left found not_some gives empty =
       so_far.split ∙ ap (λ (l : List Positive). goals_of l ++ now.goals) empty ∙ (gives_none found not_some gives).0
+
+-- ---- goals that are still left
+
+pub same_left : (old now new : ToJudge) → AreStillLeft old now → new.goals ≡ now.goals → AreStillLeft old new
+same_left old now new left same = (left.0, left.1 ∙ ap (λ (l : List Goal). left.0 ++ l) (sym same))
+
+pub next_left : (old now new : ToJudge) (found : Option Positive) → AreStillLeft old now → GivesNext now found new → AreStillLeft old new
+next_left old now new None left gives = same_left old now new left (gives.1 ∙ sym gives.0)
+next_left old now new (Some p) left gives =
+    (left.0 ++ p.goal ∷ [], left.1 ∙ ap (λ (l : List Goal). left.0 ++ l) gives.goals ∙ sym (append_assoc left.0 (p.goal ∷ []) new.goals))
 
 -- the lists of judged goals can be rendered
 module _ (file : File) (is : IsFile file) (of : Weighed) (same : of.grammar ≡ file.grammar) (measure : IsMeasure of.weights) where

@@ -25,7 +25,8 @@ use Rattle.cs_render_work.specs.Renders.{IsRenderedBy as IsAnswerOf}
 use Rattle.cs_yacc.specs.File.{IsFile}
 use Rattle.cs_plan.specs.declared.plan.Plan.{Plan}
 use Rattle.cs_plan.specs.Batches.{AreNext}
-use Rattle.cs_plan.specs.Made.{HasListIn, IsNamedGoalEntry, Joins, TakesFirst, TakesNone, entry_with}
+use Rattle.cs_plan.specs.Joined.{HasListIn, Joins, TakesFirst, TakesNone, entry_with}
+use Rattle.cs_plan.specs.Made.{IsNamedGoalEntry}
 use Rattle.cs_plan.specs.Plans.{IsEntryIn, choice_in, format_by, lexemes_in, texts_in, texts_of}
 use Rattle.cs_plan.specs.Waiting.{AreListsOf, AreRenderingsOf, IsJudged, IsListOf, feasible_of, goals_of}
 use Rattle.cs_plan.proofs.Making.{named_entry}

@@ -23,7 +23,7 @@ use Rattle.cs_render_work.specs.Renders.{TakesTokens}
 use Rattle.cs_yacc.specs.File.{File, IsFile}
 use Rattle.cs_plan.specs.declared.placing.Placed.{Placed}
 use Rattle.cs_plan.specs.declared.placing.Placing.{Placing}
-use Rattle.cs_plan.specs.Made.{AreOfOneKind}
+use Rattle.cs_plan.specs.Joined.{AreOfOneKind}
 use Rattle.cs_plan.specs.Placing.{AddsGoal, ArePlaced, ArePlacedNext, HasTokens, IsMetBy, IsPlacedGoal, Keeps, positives_in}
 use Rattle.cs_plan.specs.Plans.{CanRender}
 use Rattle.cs_plan.specs.Waiting.{IsJudged, IsListOf, TakesLists, goals_of}

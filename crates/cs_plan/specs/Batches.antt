@@ -20,6 +20,10 @@ pub record AreNext (plan : Plan) (old : ToJudge) (entries : List GoalEntry) (new
 abbrev pub AreGivenNext : Plan → ToJudge → ToJudge → Vec GoalEntry → Type 0
 AreGivenNext plan old new made = AreNext plan old made.items new
 
+-- goals behind the first ones are left, whatever came of those
+abbrev pub AreStillLeft : ToJudge → ToJudge → Type 0
+AreStillLeft old new = (gone : List Goal) × (old.goals ≡ gone ++ new.goals)
+
 -- the entries of goals of the second format, as of any
 abbrev pub entries_in : List SharedEntry → List GoalEntry
 entries_in list = map (λ s. s.entry) list

@@ -17,7 +17,7 @@ use Rattle.cs_render.specs.declared.rendered.Rendered.{Rendered}
 use Rattle.cs_render.specs.Rendering.{rendering}
 use Rattle.cs_plan.specs.declared.placing.Placed.{Placed}
 use Rattle.cs_plan.specs.declared.placing.Placing.{Placing}
-use Rattle.cs_plan.specs.Made.{AreOfOneKind, entry_with}
+use Rattle.cs_plan.specs.Joined.{AreOfOneKind, entry_with}
 use Rattle.cs_plan.specs.Waiting.{IsJudged, goals_of}
 
 -- a feasible goal is met by its derivation

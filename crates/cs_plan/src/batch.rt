@@ -1,7 +1,7 @@
 // The entries of goals, batch by batch.
 
-ghost use Rattle.std.specs.Prelude.{◌≡◌, ◌≤◌, All, IfOk, length};
-ghost use Rattle.cs_plan.specs.Batches.{AreGivenNext};
+ghost use Rattle.std.specs.Prelude.{◌≡◌, ◌≤◌, All, IfOk, OnErr, length};
+ghost use Rattle.cs_plan.specs.Batches.{AreGivenNext, AreStillLeft};
 ghost use Rattle.cs_plan.specs.Made.{IsNamedGoalEntry};
 ghost use Rattle.cs_plan.specs.Plans.{IsOfPlan, IsPlan};
 
@@ -15,7 +15,7 @@ use std::alloc::{AllocError, Global};
 use std::thread::Threads;
 
 /// The entries of the next goals in the first format: at most 1,024 of them. None where no goal is left. Four workers render
-/// their tokens.
+/// their tokens. After a refusal, which is want of memory, goals may be lost: no later call is of use.
 pub fn next_entries<R: Threads + Sync, G: Gate + Sync>(
     rt: &R,
     alloc: Global,
@@ -30,6 +30,7 @@ pub fn next_entries<R: Threads + Sync, G: Gate + Sync>(
     ensures named { IfOk result (λ made. All (IsNamedGoalEntry plan.now.yacc.now) made.items) }
     ensures few { IfOk result (λ made. length made.items ≤ 1024) }
     ensures tables { positives.new.tables ≡ positives.old.tables }
+    ensures refused { OnErr result (AreStillLeft positives.old positives.new) }
 {
     let Waiting { goals, lists } = gather(alloc, plan.yacc.grammar(), positives)?;
     let rendered = render_lists(rt, alloc, plan.texts, &lists, gate)?;

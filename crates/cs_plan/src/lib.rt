@@ -8,8 +8,9 @@
 //! the entry of a manifest, a [`MadeShared`] as that of its case, where that is new, and as that of its goal; and both lend
 //! their tokens as those of a base.
 //!
-//! Meaning: `specs/Plans` (what a plan chooses, and which text is its manifest), `Batches` (which entries come next). Working
-//! words of proofs: `Waiting`, `Placing`, `Made`. The lemmas of `proofs/Sharing` are for the layer above.
+//! Meaning: `specs/Plans` (what a plan chooses, and which text is its manifest), `Batches` (which entries come next), `Made` (what
+//! an entry says of its goal). Working words of proofs: `Waiting`, `Placing`, `Joined`. The lemmas of `proofs/Sharing` are for the
+//! layer above.
 #![tactic(auto)]
 
 mod batch;

@@ -3,7 +3,8 @@
 ghost use Rattle.std.specs.Prelude.{◌≡◌, IfNone, IfSome, false, true};
 ghost use Rattle.std.specs.Vec.Iter.{into_iter_items};
 ghost use Rattle.cs_manifest.specs.Lines.{is_feasible};
-ghost use Rattle.cs_plan.specs.Made.{CountsByVerdict, HasGoalLines, HasGoalNames, HasListIn, IsJoined, TakesFirst};
+ghost use Rattle.cs_plan.specs.Joined.{HasListIn, IsJoined, TakesFirst};
+ghost use Rattle.cs_plan.specs.Made.{CountsByVerdict, HasGoalLines, HasGoalNames};
 
 use cs_goals::Goal;
 use cs_manifest::Entry;

@@ -2,6 +2,7 @@
 
 ghost use Rattle.std.specs.Prelude.{◌≡◌, ◌≤◌, [], length, IfOk, OnOk};
 ghost use Rattle.cs_manifest.specs.Manifest.{AreTokensOf, is_new};
+ghost use Rattle.cs_plan.specs.Batches.{AreStillLeft};
 ghost use Rattle.cs_plan.specs.Placing.{AddsGoal, IsMetBy, IsSharedVerdictOf, Keeps, PlacesNext};
 ghost use Rattle.cs_plan.specs.Waiting.{HasDerivation};
 
@@ -42,6 +43,7 @@ pub(crate) fn place_next(
     ensures few { IfOk result (λ p. length p.lists.items ≤ 1024) }
     ensures few_goals { IfOk result (λ p. length p.goals.items ≤ 1024) }
     ensures tables { positives.new.tables ≡ positives.old.tables }
+    ensures left { AreStillLeft positives.old positives.new }
     ensures grammar { cases.new.grammar ≡ cases.old.grammar }
 {
     let mut placing = Placing {

@@ -1,11 +1,12 @@
 // The entries of goals in the second format, batch by batch.
 
 ghost use Rattle.std.specs.Vec.Iter.{into_iter_items};
-ghost use Rattle.std.specs.Prelude.{◌≡◌, ◌≤◌, All, IfNone, IfOk, IfSome, IsSome, [], false, length, true};
+ghost use Rattle.std.specs.Prelude.{◌≡◌, ◌≤◌, All, IfNone, IfOk, IfSome, IsSome, OnErr, [], false, length, true};
 ghost use Rattle.cs_manifest.specs.Lines.{is_feasible};
 ghost use Rattle.cs_manifest.specs.Manifest.{is_new, new_case_lines};
-ghost use Rattle.cs_plan.specs.Batches.{AreGiven};
-ghost use Rattle.cs_plan.specs.Made.{CountsByShared, CountsCase, HasCaseLines, HasGoalLine, HasItsCase, HasItsNames};
+ghost use Rattle.cs_plan.specs.Batches.{AreGiven, AreStillLeft};
+ghost use Rattle.cs_plan.specs.Joined.{HasItsCase};
+ghost use Rattle.cs_plan.specs.Made.{CountsByShared, CountsCase, HasCaseLines, HasGoalLine, HasItsNames};
 ghost use Rattle.cs_plan.specs.Made.{IsNamedSharedEntry};
 ghost use Rattle.cs_plan.specs.Placing.{CanFinish, IsFinished, shared_with};
 ghost use Rattle.cs_plan.specs.Plans.{IsOfPlan, IsPlan};
@@ -38,7 +39,7 @@ impl Model for MadeShared {
     ghost use Rattle.std.specs.Prelude.{option_map};
     ghost use Rattle.cs_manifest.specs.Manifest.{SharedEntry};
     ghost use Rattle.cs_render.specs.Rendering.{rendering};
-    ghost use Rattle.cs_plan.specs.Made.{HasItsCase};
+    ghost use Rattle.cs_plan.specs.Joined.{HasItsCase};
 
     ghost Value = { SharedEntry };
 
@@ -101,7 +102,8 @@ impl MadeShared {
 }
 
 /// The entries of the next goals in the second format: at most 1,024 of them. None where no goal is left. The derivations of
-/// feasible goals are placed among the cases, and four workers render the tokens of the new ones.
+/// feasible goals are placed among the cases, and four workers render the tokens of the new ones. After a refusal, which is want
+/// of memory, goals may be lost that were placed: no later call is of use.
 pub fn next_shared<R: Threads + Sync, G: Gate + Sync>(
     rt: &R,
     alloc: Global,
@@ -120,6 +122,7 @@ pub fn next_shared<R: Threads + Sync, G: Gate + Sync>(
     ensures few { IfOk result (λ made. length made.items ≤ 1024) }
     ensures tables { positives.new.tables ≡ positives.old.tables }
     ensures grammar { cases.new.grammar ≡ cases.old.grammar }
+    ensures refused { OnErr result (AreStillLeft positives.old positives.new) }
 {
     let Placing { goals, lists } = place_next(alloc, plan.yacc.grammar(), positives, cases)?;
     let rendered = render_lists(rt, alloc, plan.texts, &lists, gate)?;

@@ -1,6 +1,7 @@
 // Goals that wait for the texts of their tokens.
 
 ghost use Rattle.std.specs.Prelude.{◌≡◌, ◌≤◌, [], length, IfOk, OnOk};
+ghost use Rattle.cs_plan.specs.Batches.{AreStillLeft};
 ghost use Rattle.cs_plan.specs.Waiting.{AddsList, Gathers, HasDerivation};
 
 use cs_grammar::{Grammar, yield_of};
@@ -29,6 +30,7 @@ pub(crate) fn gather(
     ensures few { IfOk result (λ w. length w.lists.items ≤ 1024) }
     ensures few_goals { IfOk result (λ w. length w.goals.items ≤ 1024) }
     ensures tables { positives.new.tables ≡ positives.old.tables }
+    ensures left { AreStillLeft positives.old positives.new }
 {
     let goals = Vec::with_capacity(alloc, MOST)?;
     let lists = Vec::with_capacity(alloc, MOST)?;

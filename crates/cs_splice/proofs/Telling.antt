@@ -14,7 +14,7 @@ use Rattle.cs_splice.specs.Marks.{IsMark}
 use Rattle.cs_splice.specs.Middle.{IsMiddle}
 use Rattle.cs_splice.specs.Settled.{IsPassed, IsSettledBy}
 use Rattle.cs_splice.specs.Marked.{IsBack, IsFrontFor, IsMarkAt, IsMarkedList, near_of}
-use Rattle.cs_splice.specs.Spliced.{Tells}
+use Rattle.cs_splice.specs.Spliced.{IsTextNear}
 use Rattle.cs_splice.proofs.Aligning.{nil_rule}
 use Rattle.cs_splice.proofs.Marking.{settled_at}
 
@@ -103,7 +103,7 @@ module _ (p : Marked) where
       subst B (sym back_is) (record { rule = is.aligned.back; scans = subst (λ ts. Runs s (drop mark.start p.text.items) ts true) rest later.2 })
 
   -- the three parts make the text
-  pub told : (tokens front middle back : List ℕ) (stays behind from to : ℕ) → IsSameFront p.tokens.now tokens stays → IsSameBack p.tokens.now tokens stays behind → from ≤ stays → to ≡ length tokens - behind → IsMiddle p.lexemes.now p.separator.now tokens from to middle → IsFrontFor p from middle front → IsBack p behind back → IsBegunBy (scanning p.scanner.now) (middle ++ back) (take (to - from) (drop from tokens)) back → Tells (near_of p) tokens ((front ++ middle) ++ back)
+  pub told : (tokens front middle back : List ℕ) (stays behind from to : ℕ) → IsSameFront p.tokens.now tokens stays → IsSameBack p.tokens.now tokens stays behind → from ≤ stays → to ≡ length tokens - behind → IsMiddle p.lexemes.now p.separator.now tokens from to middle → IsFrontFor p from middle front → IsBack p behind back → IsBegunBy (scanning p.scanner.now) (middle ++ back) (take (to - from) (drop from tokens)) back → IsTextNear (near_of p) tokens ((front ++ middle) ++ back)
   told tokens front middle back stays behind from to same_front same_back le to_is is_middle is_front is_back arrives =
       let s = scanning p.scanner.now in
       let base = p.tokens.now in

@@ -1,10 +1,10 @@
 -- Tokens whose lexemes scan back to them, whichever of them stand side by side.
-use Rattle.std.specs.Prelude.{◌≡◌, ℕ, ◌-◌, ◌<◌, List, Bool, [], ◌∷◌, ◌++◌, All, Some, true, length, slice_get}
+use Rattle.std.specs.Prelude.{◌≡◌, ℕ, ◌-◌, ◌<◌, List, Bool, [], ◌∷◌, ◌++◌, All, Option, Some, true, length, slice_get}
 use Rattle.cs_lexeme.specs.Lexeme.{lexeme_in}
 use Rattle.cs_scan.specs.Compared.{scanning}
 use Rattle.cs_scan.specs.Going.{IsBegunBy}
 use Rattle.cs_scan.specs.Scan.{Scanning, Gives, Scans}
-use Rattle.cs_render.specs.Rendering.{IsRuleText}
+use Rattle.cs_render.specs.Rendering.{HasLexeme, IsRuleText}
 use Rattle.cs_splice.specs.Near.{Near}
 
 -- the token, which counts from 1, is one of those that are marked
@@ -13,6 +13,10 @@ IsApart marks token = (0 < token) × (slice_get marks (token - 1) ≡ Some true)
 
 abbrev pub AreApart : List Bool → List ℕ → Type 0
 AreApart marks tokens = All (IsApart marks) tokens
+
+-- each marked token has a lexeme, so that each list of them has a rule's text
+abbrev pub HaveLexemes : List (Option (List ℕ)) → List Bool → Type 0
+HaveLexemes lexemes marks = (token : ℕ) → IsApart marks token → HasLexeme lexemes token
 
 -- the rule's text of each list of marked tokens scans to the list
 abbrev pub ScanBack : Near → List Bool → Type 0

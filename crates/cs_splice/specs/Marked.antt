@@ -9,7 +9,7 @@ use Rattle.cs_splice.specs.declared.marks.Mark.{Mark}
 use Rattle.cs_splice.specs.declared.marked.Marked.{Marked}
 use Rattle.cs_splice.specs.Marks.{AreAligned, AreAllMarks, IsAligned, IsMark}
 use Rattle.cs_splice.specs.Near.{Near}
-use Rattle.cs_splice.specs.Spliced.{Tells, near_by}
+use Rattle.cs_splice.specs.Spliced.{IsTextNear, near_by}
 
 -- what it was rendered by
 abbrev pub near_of : Marked → Near
@@ -18,7 +18,7 @@ near_of p = near_by p.scanner.now p.lexemes.now p.separator.now
 -- its text is that of its tokens, and its marks are those of its matches
 pub record IsMarkedList (p : Marked) : Type 0 where
   pub tokens : AreTokens p.lexemes.now p.tokens.now
-  pub rendered : Tells (near_of p) p.tokens.now p.text.items
+  pub rendered : IsTextNear (near_of p) p.tokens.now p.text.items
   pub marks : AreAllMarks (scanning p.scanner.now) p.text.items p.tokens.now p.marks.items
   pub aligned : AreAligned p.lexemes.now p.separator.now p.tokens.now p.text.items p.marks.items
 

@@ -28,9 +28,9 @@ RendersNear near tokens middle spliced = IsRenderedNear near tokens (rendering_a
 -- ---- working words of proofs
 
 -- the text is that of the tokens
-abbrev pub Tells : Near → List ℕ → List ℕ → Type 0
-Tells near tokens text = IsRenderedNear near tokens (Text text)
+abbrev pub IsTextNear : Near → List ℕ → List ℕ → Type 0
+IsTextNear near tokens text = IsRenderedNear near tokens (Text text)
 
 -- what is said of a front and a back that were told: around the middle they make the text
 abbrev pub IfTold : Near → List ℕ → List ℕ → Option Splice → Type 0
-IfTold near tokens middle told = IfSome told (λ parts. Tells near tokens (parts.front.now ++ middle ++ parts.back.now))
+IfTold near tokens middle told = IfSome told (λ parts. IsTextNear near tokens (parts.front.now ++ middle ++ parts.back.now))

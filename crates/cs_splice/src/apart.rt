@@ -2,7 +2,7 @@
 
 ghost use Rattle.std.specs.Prelude.{◌≡◌, ◌<◌, ◌≤◌, ◌↔◌, IfOk, IsTrue, length};
 ghost use Rattle.cs_scan.specs.Compared.{scanning};
-ghost use Rattle.cs_splice.specs.Apart.{IsApart, IsPassedBefore, IsTakenFirst, ScanBack, StandsApart};
+ghost use Rattle.cs_splice.specs.Apart.{HaveLexemes, IsApart, IsPassedBefore, IsTakenFirst, ScanBack, StandsApart};
 ghost use Rattle.cs_splice.specs.Spliced.{near_by};
 
 use crate::step::{Given, step_over};
@@ -11,7 +11,7 @@ use cs_scan::Scanner;
 use std::alloc::{AllocError, Global};
 use std::marker::Model;
 
-/// The tokens whose lexemes stand apart in texts: each list of such tokens has a text, without a scan of it.
+/// Tokens whose lexemes stand apart in texts: each list of such tokens has a text, without a scan of it.
 #[derive(Drop)]
 pub struct Apart {
     marks: Vec<bool>,
@@ -78,8 +78,9 @@ fn stands_apart(scanner: &Scanner<'_>, lexemes: &Lexemes, separator: &[u8], toke
 }
 
 impl Apart {
-    /// Finds them among the tokens from 1 to so many. A token stands apart where the separator behind its lexeme settles the
-    /// match of that, and where the first byte of its lexeme settles the matches of the separator, which give nothing.
+    /// Finds such tokens among those from 1 to so many. It is enough that the separator behind a token's lexeme settles the match
+    /// of that, and that the first byte of the lexeme settles the matches of the separator, which give nothing. Others that
+    /// stand apart may be missed.
     pub fn new(
         alloc: Global,
         scanner: &Scanner<'_>,
@@ -88,7 +89,8 @@ impl Apart {
         tokens: u16,
     ) -> Result<Apart, AllocError>
         requires tokens { tokens ≤ length lexemes.now }
-        ensures { IfOk result (ScanBack (near_by scanner.now lexemes.now separator.now)) }
+        ensures lexemes { IfOk result (HaveLexemes lexemes.now) }
+        ensures scan { IfOk result (ScanBack (near_by scanner.now lexemes.now separator.now)) }
     {
         let mut marks = Vec::new(alloc);
         for place in 0..tokens {

@@ -3,7 +3,7 @@
 ghost use Rattle.std.specs.Prelude.{◌≤◌, length};
 ghost use Rattle.cs_splice.specs.Lists.{IsSameBack, IsSameFront};
 
-/// How many tokens two lists have in common at their fronts.
+/// So many tokens that two lists have in common at their fronts: the most, which spares scans, though no clause says so.
 pub(crate) fn same_front(tokens: &[u16], other: &[u16]) -> usize
     ensures { IsSameFront tokens.now other.now result }
 {
@@ -16,7 +16,7 @@ pub(crate) fn same_front(tokens: &[u16], other: &[u16]) -> usize
     most
 }
 
-/// How many tokens two lists have in common at their backs, behind so many others.
+/// So many tokens that two lists have in common at their backs, behind so many others: the most, as at their fronts.
 pub(crate) fn same_back(tokens: &[u16], other: &[u16], others: usize) -> usize
     requires first { others ≤ length tokens.now }
     requires second { others ≤ length other.now }

@@ -1,14 +1,15 @@
-//! The renderings of lists of tokens that are near a list whose text is known, with a scan around what differs alone; and the
-//! tokens whose lists have a text without any scan.
+//! The renderings of lists of tokens that are near a list whose text is known, with a scan around what differs alone; and tokens
+//! whose lists have a text without any scan.
 //!
 //! The layers above prepare a list of tokens by `Prepared::new`, and render those that are near it by `render`, which answers what
 //! `cs_render::render` does: the text in three parts, whose middle is in a buffer of the caller. They ask `Apart`, made of what
-//! lists are rendered by, whether a token stands apart: where each token of a list does, the rule's text of the list scans to it.
+//! lists are rendered by, whether a token is known to stand apart: where each token of a list is, the list has a text.
 //!
-//! Meaning: `specs/Spliced.antt` (what an answer says), `specs/Near.antt` (what lists are rendered by), `specs/Apart.antt` (which
-//! tokens stand apart, and that their lists scan back). Working words of proofs: `specs/Settled.antt` (what the first bytes of a
-//! text settle of its scan), `specs/Marks.antt`, `specs/Marked.antt`, `specs/Middle.antt`, `specs/Lists.antt`, `Tells` and
-//! `IfTold` of `specs/Spliced.antt`, and `IsTakenFirst`, `IsPassedBefore`, `StandsApart` and `MarkApart` of `specs/Apart.antt`.
+//! Meaning: `specs/Spliced.antt` (what an answer says), `specs/Near.antt` (what lists are rendered by), `specs/Apart.antt` (that
+//! tokens that stand apart have lexemes, and that their lists scan back). Working words of proofs: `specs/Settled.antt` (what the
+//! first bytes of a text settle of its scan), `specs/Marks.antt`, `specs/Marked.antt`, `specs/Middle.antt`, `specs/Lists.antt`,
+//! `IsTextNear` and `IfTold` of `specs/Spliced.antt`, and `IsTakenFirst`, `IsPassedBefore`, `StandsApart` and `MarkApart` of
+//! `specs/Apart.antt`.
 #![tactic(auto)]
 
 mod apart;

@@ -12,7 +12,7 @@ use Rattle.cs_goals.specs.Goals.{goals}
 use Rattle.cs_output.specs.Sinks.{IsCutShort, IsWritten}
 use Rattle.cs_output.proofs.Written.{written_none, written_then, written_cut, cut_longer}
 use Rattle.cs_manifest.specs.declared.counts.Counts.{Counts}
-use Rattle.cs_manifest.specs.Head.{Sharing, no_cases as cases_at_first}
+use Rattle.cs_manifest.specs.Head.{Sharing, first_cases}
 use Rattle.cs_manifest.specs.Manifest.{GoalEntry, HasOneText, Texts, most_bases}
 use Rattle.cs_manifest.specs.Progress.{Progress}
 use Rattle.cs_positive.specs.Positives.{ToJudge}
@@ -89,7 +89,7 @@ module _ {S : Type 0} (g : Sink.Ghosts S) (plan : Plan) (of : Weighed) where
     pub kept_are : kept ≡ bases_of (most_bases (choice_in plan)) entries
 
 -- behind the head no count is above 0
-cases_few : (sharing : Option Sharing) → IfSome (cases_at_first sharing) (λ n. n ≤ 0)
+cases_few : (sharing : Option Sharing) → IfSome (first_cases sharing) (λ n. n ≤ 0)
 cases_few None = tt
 cases_few (Some sharing) = omega arith
 

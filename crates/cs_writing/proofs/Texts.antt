@@ -17,7 +17,7 @@ use Rattle.cs_output.proofs.Written.{written_then, written_cut, cut_longer}
 use Rattle.cs_manifest.specs.declared.counts.Counts.{Counts}
 use Rattle.cs_manifest.specs.Counts.{behind_end, counts_of_head, end_of}
 use Rattle.cs_manifest.specs.declared.head.Head.{Head}
-use Rattle.cs_manifest.specs.Head.{Sharing, yacc_of, head_of, lexemes_of, lines_with, no_cases as cases_at_first, sharing_of}
+use Rattle.cs_manifest.specs.Head.{Sharing, yacc_of, head_of, lexemes_of, head_with, first_cases, sharing_of}
 use Rattle.cs_manifest.specs.Lines.{end_words, is_feasible, is_infeasible, is_large}
 use Rattle.cs_manifest.specs.Manifest.{AreLexemesBy, BaseEntry, BasesOf, EntriesOf, GoalEntry, HasOneText, IsTextIn, Texts, base_entry_lines, bases, end_line_with, goal_texts, most_bases, shared_text, weighed_by}
 use Rattle.cs_manifest.specs.Progress.{begun}
@@ -38,7 +38,7 @@ use Rattle.cs_writing.proofs.Told.{one_goals}
 -- nothing was counted behind the head but its bytes
 pub fresh_behind : (plan : Plan) (h : Head) → sharing_of h ≡ sharing_in plan → IsFresh plan (begun h).counts
 fresh_behind plan h sharing =
-    ap (λ (s : Option Sharing). record (counts_of_head (head_of h)) { cases = cases_at_first s }) sharing
+    ap (λ (s : Option Sharing). record (counts_of_head (head_of h)) { cases = first_cases s }) sharing
 
 -- goals of the plan's grammar, measured as it says
 pub weighed_so : (plan : Plan) (of : Weighed) → of.grammar ≡ plan.yacc.now.grammar → of.weights ≡ measure_in plan → of ≡ weighed_by (choice_in plan) plan.yacc.now (lexemes_in plan)
@@ -55,7 +55,7 @@ cases_by None cases = None
 cases_by (Some closed) cases = Some (length cases.codes)
 
 -- so many were counted
-cases_counted : (plan : Plan) (closed : Option (Bor Closed)) (cases : PlainCases) → option_map (λ n. n + length cases.codes) (cases_at_first (sharing_by plan.weigh closed)) ≡ cases_by closed cases
+cases_counted : (plan : Plan) (closed : Option (Bor Closed)) (cases : PlainCases) → option_map (λ n. n + length cases.codes) (first_cases (sharing_by plan.weigh closed)) ≡ cases_by closed cases
 cases_counted plan None cases = refl
 cases_counted plan (Some closed) cases = let e : 0 + length cases.codes ≡ length cases.codes = omega arith in ap (λ (n : ℕ). Some n) e
 
@@ -70,7 +70,7 @@ module _ (plan : Plan) where
 
   -- the lines of the head, by the closed sets
   abbrev pub head_by : Option (Bor Closed) → List ℕ
-  head_by closed = lines_with file (lexemes_in plan) (sharing_by plan.weigh closed)
+  head_by closed = head_with file (lexemes_in plan) (sharing_by plan.weigh closed)
 
   abbrev body_of : List BaseEntry → List ℕ
   body_of mutants = base_entry_lines file 0 0 mutants
@@ -131,8 +131,8 @@ module _ (plan : Plan) (of : Weighed) (one : (texts : Option Texts) → HasOneTe
 
   head_is : (h : Head) → yacc_of h ≡ plan.yacc.now → lexemes_of h ≡ lexemes_in plan → sharing_of h ≡ sharing_in plan → head_of h ≡ head
   head_is h same lexemes sharing =
-      ap (λ (s : Option Sharing). lines_with (yacc_of h) (lexemes_of h) s) sharing ∙ ap (λ (f : File). lines_with f (lexemes_of h) (sharing_in plan)) same
-      ∙ ap (λ (l : Option (List (Option (List ℕ)))). lines_with plan.yacc.now l (sharing_in plan)) lexemes
+      ap (λ (s : Option Sharing). head_with (yacc_of h) (lexemes_of h) s) sharing ∙ ap (λ (f : File). head_with f (lexemes_of h) (sharing_in plan)) same
+      ∙ ap (λ (l : Option (List (Option (List ℕ)))). head_with plan.yacc.now l (sharing_in plan)) lexemes
 
   -- the bytes of the head are counted
   pub head_counted : (h : Head) → yacc_of h ≡ plan.yacc.now → lexemes_of h ≡ lexemes_in plan → sharing_of h ≡ sharing_in plan → (begun h).counts.bytes ≡ shown (length head)

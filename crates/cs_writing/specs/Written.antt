@@ -14,7 +14,7 @@ use Rattle.cs_manifest.specs.declared.counts.Counts.{Counts}
 use Rattle.cs_manifest.specs.declared.format.Format.{Format}
 use Rattle.cs_manifest.specs.declared.format.Format.TheVariants.{One, Two}
 use Rattle.cs_manifest.specs.Counts.{first_counts, with_case, with_lines, with_shared_verdict, with_verdict}
-use Rattle.cs_manifest.specs.Head.{no_cases as cases_at_first}
+use Rattle.cs_manifest.specs.Head.{first_cases}
 use Rattle.cs_manifest.specs.Lines.{is_feasible, is_infeasible, is_large}
 use Rattle.cs_manifest.specs.Manifest.{AreShared, EntriesOf, GoalEntry, SharedEntry, goal_entry_lines, goal_texts, is_new, most_bases, new_case_lines, shared_entry_lines}
 use Rattle.cs_manifest.specs.SharedLines.{shared_goal_line}
@@ -76,7 +76,7 @@ AreBasesOf plan left kept =
 
 -- nothing was counted but the bytes of the head
 abbrev pub IsFresh : Plan → Counts → Type 0
-IsFresh plan counts = counts ≡ record (first_counts counts.bytes) { cases = cases_at_first (sharing_in plan) }
+IsFresh plan counts = counts ≡ record (first_counts counts.bytes) { cases = first_cases (sharing_in plan) }
 
 -- The entries of all goals can be written: these are the goals of the plan, and nothing but the head was written.
 pub record IsReady (plan : Plan) (left : ToJudge) (manifest : Progress) : Type 0 where

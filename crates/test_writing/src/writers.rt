@@ -24,7 +24,7 @@ goal 1 rule 1 size 2
 end goals 1 feasible 1 infeasible 0 large 0 negatives 0
 ";
 
-// The summary of 1 in `docs/FORMATS.md`.
+// The summary of 1 in `docs/FORMATS.md`; crates/test_command says where its numbers come from.
 const SUMMARY: &[u8] =
     b"gen 1 yacc 1240 lex 378 goals 968 feasible 862 infeasible 106 large 0 negatives 1442 bytes 315463\n";
 

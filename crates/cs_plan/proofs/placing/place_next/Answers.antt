@@ -4,7 +4,9 @@ use Rattle.cs_grammar.specs.Weights.{Weighed}
 use Rattle.cs_positive.specs.declared.positive.Positive.{Positive}
 use Rattle.cs_positive.specs.Positives.{GivesGoalOf, GivesNext, IsNext}
 use Rattle.cs_plan.specs.declared.placing.Placed.{Placed}
-use Rattle.cs_plan.specs.Placing.{IsMetBy, IsPlacedGoal}
+use Rattle.cs_plan.specs.Placing.{IsMetBy, IsPlacedGoal, positives_in}
+use Rattle.cs_plan.specs.Waiting.{goals_of}
+use Rattle.cs_plan.proofs.Gathering.{next_left, same_left}
 use Rattle.cs_plan.proofs.Placings.{longer, met_by, placed_all, placed_next, placed_none, placed_none_left}
 use Rattle.cs_plan.proofs.placing.place_next.Goals as goal
 
@@ -86,3 +88,15 @@ returns-in_default-clause-few_goals c = omega (arith, c.loop.invariant.4, c.loop
 
 pub returns-clause-few_goals : goal.returns-clause-few_goals
 returns-clause-few_goals c = omega (arith, c.loop.invariant.4, c.loop.auto.counter-end)
+
+pub returns-in_err-positive-clause-left : goal.returns-in_err-positive-clause-left
+returns-in_err-positive-clause-left c = same_left c.args.positives.now c.loop.positives c.next.new.self (goals_of (positives_in c.loop.placing.goals.items), c.loop.invariant.0.split) c.in_err-positive.ensures.refused
+
+pub returns-in_default-clause-left : goal.returns-in_default-clause-left
+returns-in_default-clause-left c = next_left c.args.positives.now c.loop.positives c.next.new.self c.in_ok-positive.field-0 (goals_of (positives_in c.loop.placing.goals.items), c.loop.invariant.0.split) c.in_ok-positive.ensures.found
+
+pub returns-in_err-place-clause-left : goal.returns-in_err-place-clause-left
+returns-in_err-place-clause-left c = next_left c.args.positives.now c.loop.positives c.next.new.self c.in_ok-positive.field-0 (goals_of (positives_in c.loop.placing.goals.items), c.loop.invariant.0.split) c.in_ok-positive.ensures.found
+
+pub returns-clause-left : goal.returns-clause-left
+returns-clause-left c = (goals_of (positives_in c.loop.placing.goals.items), c.loop.invariant.0.split)

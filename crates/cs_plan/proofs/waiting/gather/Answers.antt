@@ -3,8 +3,8 @@ use Rattle.cs_grammar.specs.Grammar.{PlainGrammar}
 use Rattle.cs_grammar.specs.Weights.{Weighed}
 use Rattle.cs_positive.specs.declared.positive.Positive.{Positive}
 use Rattle.cs_positive.specs.Positives.{GivesGoalOf, GivesNext, IsNext}
-use Rattle.cs_plan.specs.Waiting.{AddsList, HasDerivation}
-use Rattle.cs_plan.proofs.Gathering.{gathered_all, gathered_more, gathered_none, gathered_none_left, lists_longer}
+use Rattle.cs_plan.specs.Waiting.{AddsList, HasDerivation, goals_of}
+use Rattle.cs_plan.proofs.Gathering.{gathered_all, gathered_more, gathered_none, gathered_none_left, lists_longer, next_left, same_left}
 use Rattle.cs_plan.proofs.Making.{derived}
 use Rattle.cs_plan.proofs.waiting.gather.Goals as goal
 
@@ -76,3 +76,18 @@ returns-in_default-clause-few_goals c = omega (arith, c.loop.invariant.3, c.loop
 
 pub returns-clause-few_goals : goal.returns-clause-few_goals
 returns-clause-few_goals c = omega (arith, c.loop.invariant.3, c.loop.auto.counter-end)
+
+pub returns-in_err-positive-clause-left : goal.returns-in_err-positive-clause-left
+returns-in_err-positive-clause-left c = same_left c.args.positives.now c.loop.positives c.next.new.self (goals_of c.loop.waiting.goals.items, c.loop.invariant.0.split) c.in_err-positive.ensures.refused
+
+pub returns-in_default-clause-left : goal.returns-in_default-clause-left
+returns-in_default-clause-left c = next_left c.args.positives.now c.loop.positives c.next.new.self c.in_ok-positive.field-0 (goals_of c.loop.waiting.goals.items, c.loop.invariant.0.split) c.in_ok-positive.ensures.found
+
+pub returns-in_err-add_list-clause-left : goal.returns-in_err-add_list-clause-left
+returns-in_err-add_list-clause-left c = next_left c.args.positives.now c.loop.positives c.next.new.self c.in_ok-positive.field-0 (goals_of c.loop.waiting.goals.items, c.loop.invariant.0.split) c.in_ok-positive.ensures.found
+
+pub returns-in_err-push-clause-left : goal.returns-in_err-push-clause-left
+returns-in_err-push-clause-left c = next_left c.args.positives.now c.loop.positives c.next.new.self c.in_ok-positive.field-0 (goals_of c.loop.waiting.goals.items, c.loop.invariant.0.split) c.in_ok-positive.ensures.found
+
+pub returns-clause-left : goal.returns-clause-left
+returns-clause-left c = (goals_of c.loop.waiting.goals.items, c.loop.invariant.0.split)

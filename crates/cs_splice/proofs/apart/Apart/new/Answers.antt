@@ -1,5 +1,5 @@
 -- One mark more; what is marked stands apart.
-use Rattle.std.proofs.Common.{◌≡◌, ◌+◌, sym, ap, ◌∙◌, subst, true, length}
+use Rattle.std.proofs.Common.{◌≡◌, ◌+◌, ◌∷◌, sym, ap, ◌∙◌, subst, true, length}
 use Rattle.std.proofs.lemmas.List.{length_push}
 use Rattle.cs_splice.specs.Apart.{MarkApart, StandsApart}
 use Rattle.cs_splice.specs.Spliced.{near_by}
@@ -18,5 +18,8 @@ loop-place-preserved c =
       apart = subst (λ ms. MarkApart near ms) (sym c.in_ok-push.ensures.items) (mark_more near marks mark c.loop-place.invariant.apart here);
     }
 
-pub returns : goal.returns
-returns c = scan_back (near_by c.args.scanner.now c.args.lexemes.now c.args.separator.now) c.loop-place.marks.items c.loop-place.invariant.apart
+pub returns-clause-lexemes : goal.returns-clause-lexemes
+returns-clause-lexemes c token is = let apart = c.loop-place.invariant.apart token is in (apart.first ∷ apart.rest, apart.has)
+
+pub returns-clause-scan : goal.returns-clause-scan
+returns-clause-scan c = scan_back (near_by c.args.scanner.now c.args.lexemes.now c.args.separator.now) c.loop-place.marks.items c.loop-place.invariant.apart
