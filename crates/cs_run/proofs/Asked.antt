@@ -13,7 +13,7 @@ use Rattle.cs_words.specs.declared.options.Options.{Options}
 use Rattle.cs_ending.specs.Files.{IsRulesText, IsSuiteText, choice_of}
 
 -- what holds of bytes that were found holds with what else holds of them
-found_with : {A : Type 0} {P Q : A → Type 0} {R : Type 0} (found : Option A) → IsSomeAnd found P → IsSomeAnd found Q → ((a : A) → P a → Q a → R) → R
+pub found_with : {A : Type 0} {P Q : A → Type 0} {R : Type 0} (found : Option A) → IsSomeAnd found P → IsSomeAnd found Q → ((a : A) → P a → Q a → R) → R
 found_with None is other both = absurd is
 found_with (Some a) is other both = both a is other
 

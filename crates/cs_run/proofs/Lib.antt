@@ -1,3 +1,5 @@
 mod Asked
+mod OneRequest
+mod OneText
 mod Others
 mod Performing

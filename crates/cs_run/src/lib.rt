@@ -8,4 +8,4 @@ mod command;
 mod laws;
 
 pub use command::run;
-pub use laws::{one_manifest_by_choice, some_manifest_by_choice};
+pub use laws::{one_asked_text, one_request};

@@ -169,7 +169,7 @@ module _ (words : List (List ℕ)) (given : Given) (are : AreGiven words given) 
 
 -- ---- words that are no options
 
-behind_mark : (mark v w : List ℕ) → mark ++ v ≡ mark ++ w → v ≡ w
+pub behind_mark : (mark v w : List ℕ) → mark ++ v ≡ mark ++ w → v ≡ w
 behind_mark [] v w same = same
 behind_mark (b ∷ mark) v w same = behind_mark mark v w (cc)
 

@@ -3,3 +3,4 @@ pub mod Spellings
 pub mod GivenLemmas
 pub mod Standing
 pub mod OneBad
+pub mod OneOptions

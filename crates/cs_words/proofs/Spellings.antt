@@ -1,7 +1,12 @@
 -- Spelled bytes that are read one by one.
-use Rattle.std.proofs.Common.{◌≡◌, ℕ, ◌+◌, ◌<◌, ◌≤◌, List, [], ◌∷◌, ◌++◌, length, sym, ap, ◌∙◌, subst, inl, inr, arith, append_assoc, append-nil, take, drop}
+use Rattle.std.proofs.Common.{◌≡◌, ℕ, ◌+◌, ◌<◌, ◌≤◌, List, [], ◌∷◌, ◌++◌, length, refl, sym, ap, ◌∙◌, subst, inl, inr, arith, append_assoc, append-nil, take, drop}
 use Rattle.std.proofs.lemmas.List.{take-append-drop, drop-drop}
 use Rattle.cs_words.specs.Values.{Spells, SpellsByte, IsSeparator}
+
+-- no byte is spelled in front of nothing
+no_front : (text behind : List ℕ) (byte : ℕ) → text ++ behind ≡ [] → SpellsByte text byte → ⊥
+no_front text behind byte e (inl x) = let f : byte ∷ behind ≡ [] = ap (λ v. v ++ behind) (sym x.0) ∙ e in cc
+no_front text behind byte e (inr x) = let f : 92 ∷ 120 ∷ x.high ∷ x.low ∷ behind ≡ [] = ap (λ v. v ++ behind) (sym x.text) ∙ e in cc
 
 -- two spellings in front of one text are one
 one_front : (s t r u : List ℕ) (b c : ℕ) → s ++ r ≡ t ++ u → SpellsByte s b → SpellsByte t c → (b ≡ c) × (r ≡ u)
@@ -33,11 +38,7 @@ module _ (value done rest : List ℕ) (reads : Reads value done rest) where
   }
     where
       one_more : (bytes tail : List ℕ) → bytes ≡ done ++ tail → Spells rest tail → (more : List ℕ) × (bytes ≡ (done ++ byte ∷ []) ++ more) × Spells behind more
-      one_more bytes [] same is = absurd (nothing (sym split ∙ is) spelled)
-        where
-          nothing : text ++ behind ≡ [] → SpellsByte text byte → ⊥
-          nothing e (inl x) = let f : byte ∷ behind ≡ [] = ap (λ v. v ++ behind) (sym x.0) ∙ e in cc
-          nothing e (inr x) = let f : 92 ∷ 120 ∷ x.high ∷ x.low ∷ behind ≡ [] = ap (λ v. v ++ behind) (sym x.text) ∙ e in cc
+      one_more bytes [] same is = absurd (no_front text behind byte (sym split ∙ is) spelled)
       one_more bytes (c ∷ tail) same (s, r, e, sp, is) =
           let one = one_front text s behind r byte c (sym split ∙ e) spelled sp in
           (tail, same ∙ ap (λ x. done ++ x ∷ tail) (sym one.0) ∙ sym (append_assoc done (byte ∷ []) tail), subst (λ v. Spells v tail) (sym one.1) is)
@@ -58,3 +59,12 @@ reads_at value done new at len byte reads spelled is =
     let split : drop at value ≡ take len (drop at value) ++ drop len (drop at value) = sym (take-append-drop len (drop at value)) in
     let more = reads_more value done (drop at value) reads (take len (drop at value)) (drop len (drop at value)) byte split spelled in
     subst (λ d. Reads value d (drop (at + len) value)) (sym is) (subst (λ r. Reads value (done ++ byte ∷ []) r) (drop-drop len at value) more)
+
+-- a value spells one list of bytes
+pub one_spelling : (xs ys value : List ℕ) → Spells value xs → Spells value ys → xs ≡ ys
+one_spelling [] [] value one other = refl
+one_spelling [] (y ∷ ys) value one (text, rest, split, spelled, more) = absurd (no_front text rest y (sym split ∙ one) spelled)
+one_spelling (x ∷ xs) [] value (text, rest, split, spelled, more) other = absurd (no_front text rest x (sym split ∙ other) spelled)
+one_spelling (x ∷ xs) (y ∷ ys) value (text, rest, split, spelled, more) (t, r, s, sp, m) =
+    let one = one_front text t rest r x y (sym split ∙ s) spelled sp in
+    ap (λ b. b ∷ xs) one.0 ∙ ap (λ bs. y ∷ bs) (one_spelling xs ys r (subst (λ v. Spells v xs) one.1 more) m)

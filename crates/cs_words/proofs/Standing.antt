@@ -25,10 +25,10 @@ behind_names yacc lex before (word ∷ words) stand = ((refl, stand.0), behind_n
 
 -- ---- one command is not another
 
-letters : (a b : ℕ) (xs ys : List ℕ) → a ∷ xs ≡ b ∷ ys → a ≢ b → ⊥
+pub letters : (a b : ℕ) (xs ys : List ℕ) → a ∷ xs ≡ b ∷ ys → a ≢ b → ⊥
 letters a b xs ys same apart = let e : a ≡ b = cc in apart e
 
-rules_not_suite : codes "rules" ≡ codes "suite" → ⊥
+pub rules_not_suite : codes "rules" ≡ codes "suite" → ⊥
 rules_not_suite same = letters 114 115 _ _ same (λ e. omega (arith, e))
 
 pub rules_not_gen : codes "rules" ≡ codes "gen" → ⊥

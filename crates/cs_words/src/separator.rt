@@ -26,7 +26,7 @@ impl Model for Separator {
 
 impl Separator {
     /// No bytes.
-    pub fn new() -> Separator
+    pub(crate) fn new() -> Separator
         ensures { result ≡ [] }
     {
         Separator {
@@ -44,10 +44,11 @@ impl Separator {
     }
 
     /// Adds a byte, or gives false where there are 64.
-    pub fn push(&mut self, byte: u8) -> bool
+    pub(crate) fn push(&mut self, byte: u8) -> bool
         ensures pushed { OnTrue result (self.new ≡ self.old ++ byte ∷ []) }
         ensures few { OnTrue result (length self.new ≤ 64) }
         ensures full { OnFalse result (64 ≤ length self.old) }
+        ensures kept { OnFalse result (self.new ≡ self.old) }
     {
         self.bytes.try_push(byte).is_ok()
     }
