@@ -1,5 +1,6 @@
-// The summaries of numbers, by `run`. The line of 1 is that of "The generated files" in docs/FORMATS.md, and the lengths of files
-// come from a reckoning of the generator in Python.
+// The summaries of numbers, by `run`. The line of 1 is that of "The generated files" in docs/FORMATS.md. The lengths of files, the
+// goals and how many are feasible come from a reckoning in Python; of the negatives and the bytes only that they stay is looked at:
+// they are the program's own.
 
 use cs_fan::OpenGate;
 use cs_io::{Desk, DeskError, MemoryDesk, MemorySink};

@@ -1,5 +1,5 @@
-// The summary of the number 1, as "The generated files" in docs/FORMATS.md gives it: a run asks for no file, and its output is
-// one line.
+// The summary of the number 1, as "The generated files" in docs/FORMATS.md gives it (crates/test_command says where its numbers
+// come from): a run asks for no file, and its output is one line.
 
 use crate::failing::{desk, ends, has_room, wrong_call, wrong_room};
 use cs_io::MemorySink;

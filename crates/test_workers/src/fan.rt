@@ -47,6 +47,33 @@ impl Gate for Last {
     }
 }
 
+// A gate that counts who enters, and work whose answer is how many had entered by then.
+#[derive(Drop)]
+struct Entering<'a> {
+    entered: &'a AtomicU64,
+}
+
+impl Gate for Entering<'_> {
+    fn enter(&self, _index: u32) {
+        self.entered.fetch_add(1, Ordering::SeqCst);
+    }
+}
+
+#[derive(Drop)]
+struct Looking<'a> {
+    entered: &'a AtomicU64,
+}
+
+impl Work<u32, u64> for Looking<'_> {
+    ghost takes = { λ _ _. Unit {0} };
+
+    ghost answers = { λ _ _ _. Unit {0} };
+
+    fn one(&self, _alloc: Global, _item: &u32) -> Result<u64, AllocError> {
+        Ok(self.entered.load(Ordering::SeqCst))
+    }
+}
+
 // What comes of doubling the items at a gate, by so many workers.
 fn doubled<R: Threads + Sync, G: Gate + Sync>(
     rt: &R,
@@ -82,7 +109,7 @@ fn no_items_have_no_answers(rt: HostRuntime) -> Result<(), Fail> {
     Ok(())
 }
 
-// The two workers' draws and ends were written out by hand.
+// The two workers' draws and the end were written out by hand.
 #[test]
 fn seats_are_split_drawn_from_and_joined(rt: HostRuntime) -> Result<(), Fail> {
     let (counter, mut mine) = Counter::new(rt.alloc(), 2, 2)?;
@@ -92,6 +119,19 @@ fn seats_are_split_drawn_from_and_joined(rt: HostRuntime) -> Result<(), Fail> {
     let second = counter.draw(&mut mine);
     assert_eq!(rt; second, Some(1));
     counter.join(&mut mine, theirs);
+    assert_eq!(rt; counter.draw(&mut mine), None);
+    Ok(())
+}
+
+// One worker enters the gate, works, and only then enters it again.
+#[test]
+fn the_gate_is_entered_before_the_work(rt: HostRuntime) -> Result<(), Fail> {
+    let entered = AtomicU64::new(0);
+    let work = Looking { entered: &entered };
+    let gate = Entering { entered: &entered };
+    let (counter, mut seat) = Counter::new(rt.alloc(), 4, 1)?;
+    let answers = fan(&rt, rt.alloc(), &[7, 7, 7, 7], &work, &gate, &counter, &mut seat)?;
+    assert!(rt; answers.as_slice() == [1, 2, 3, 4].as_slice());
     Ok(())
 }
 
