@@ -1,20 +1,23 @@
 #!/usr/bin/env python3
 """Compares the verdicts of all goals, with the codes of their derivations, with those of the program before its tables were
-made by worklists: bench/answers.py. Each row is a grammar and a checksum for each kind of goals; it ends with status 1 where
-one differs. The checksums were made by that program, at the commit 3173a07.
+made by worklists: bench/answers.py [PROGRAM].
 
-A program that judges all goals is made in a copy of this repository, proved and run there. Nothing here is part of the gate.
+Each row is a grammar, and whether its checksums, one for each kind of goals, are those of that program; it ends with status 1
+where one differs. The checksums in answers.txt were made at the commit 3173a07. The wide grammar has billions of context goals,
+which are left out.
+
+A program that judges all goals is proved in a copy of this repository, and stays as bench/out/answers. Nothing here is part of the
+gate.
 """
 
 import os
-import subprocess
 import sys
 import tempfile
 
 from generated import yacc_file
 from grammars import ROWS
 from judging import LIBRARIES, program_text
-from measure import TOP, build
+from measure import program_of, ran
 
 HERE = os.path.dirname(os.path.abspath(__file__))
 
@@ -102,15 +105,14 @@ def rows():
 def main():
     with open(os.path.join(HERE, "answers.txt")) as file:
         wanted = dict(line.rstrip("\n").split(" ", 1) for line in file)
+    path, names = program_of("answers", program_text(MAIN), LIBRARIES), []
     with tempfile.TemporaryDirectory() as folder:
-        names = []
         for name, text in rows():
             names.append(name)
             with open(os.path.join(folder, name), "w") as file:
                 file.write(text)
-        program = build(folder, TOP, program_text(MAIN), LIBRARIES)
-        done = subprocess.run([program, *names], cwd=folder, capture_output=True, text=True, check=True)
-    found = dict(line.split(" ", 1) for line in done.stdout.splitlines())
+        told, _, _ = ran(path, folder, names)
+    found = dict(line.split(" ", 1) for line in told.splitlines())
     differ = [name for name in names if found.get(name) != wanted.get(name)]
     for name in names:
         print(f"{name}: {'differs' if name in differ else 'the same'}")

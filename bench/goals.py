@@ -1,20 +1,20 @@
 #!/usr/bin/env python3
-"""Times the verdicts of all goals on grammars at the limits: bench/goals.py.
+"""Times the verdicts of all goals on grammars at the limits: bench/goals.py [PROGRAM].
 
 Each row is a grammar: the milliseconds for all its tables, and those for the tables and the verdicts of all context goals, or
 of all pair goals, with their derivations, beside their bounds; then the tables and the pair goals for four sizes, which shows how
 time grows: the bounds are those of the greatest. It ends with status 1 where a bound is passed. No command does this alone, so a
-program that does is made in a copy of this repository, proved and run there. The wide grammar is left out: it has billions of
-context goals. Nothing here is part of the gate.
+program that does is proved in a copy of this repository, and stays as bench/out/goals. Two grammars
+of limits.py are left out: the wide one, which has billions of context goals, and the one that is mostly comments. Nothing here is
+part of the gate.
 """
 
 import os
-import subprocess
 import tempfile
 
 from grammars import ROWS, random_rules
 from judging import LIBRARIES, program_text
-from measure import TOP, Bounds, build
+from measure import Bounds, program_of, ran
 
 MAIN = """\
 //! Judges the goals of a kind of the grammar in each file, and counts their verdicts.
@@ -76,7 +76,12 @@ fn main(rt: HostRuntime) -> io::Result<()> {
 
 # the milliseconds that the tables, and all context goals or all pair goals with them, may take
 RANDOM = (800, 2000)
-BOUNDS = {"8,192 rules of up to 12 symbols": RANDOM}
+BOUNDS = {
+    "1,024 nonterminals in a chain": (1000, 3000),
+    "the same, the last one first": (1000, 3000),
+    "8,192 rules of up to 12 symbols": RANDOM,
+    "8,192 rules of up to 4 symbols": (1000, 3000),
+}
 MEGABYTES = 40
 
 
@@ -84,14 +89,9 @@ def measured(path, folder, text):
     """Milliseconds for the tables, for contexts and for pairs, how many are feasible, and the greatest memory in MB."""
     with open(os.path.join(folder, "g.y"), "w") as file:
         file.write(text)
-    with open(os.path.join(folder, "told"), "w") as out:
-        child = subprocess.Popen([path, "g.y"], cwd=folder, stdout=out)
-        _, _, used = os.wait4(child.pid, 0)
-        child.returncode = 0
-    with open(os.path.join(folder, "told")) as file:
-        _, made, judged, all_judged, contexts, pairs = file.read().split()
-    made, judged, all_judged = int(made) / 1000, int(judged) / 1000, int(all_judged) / 1000
-    return made, judged - made, all_judged - judged, int(contexts), int(pairs), used.ru_maxrss / 1024
+    told, _, used = ran(path, folder, ["g.y"])
+    made, judged, all_judged, contexts, pairs = (int(figure) for figure in told.split()[1:])
+    return made / 1000, (judged - made) / 1000, (all_judged - judged) / 1000, contexts, pairs, used
 
 
 def best(path, folder, text):
@@ -100,12 +100,10 @@ def best(path, folder, text):
 
 
 def main():
-    bounds = Bounds()
+    path, bounds = program_of("goals", program_text(MAIN), LIBRARIES), Bounds()
     with tempfile.TemporaryDirectory() as folder:
-        path = build(folder, TOP, program_text(MAIN), LIBRARIES)
-        for name, make in ROWS[1:5]:
-            made, context, pair, contexts, pairs, used = best(path, folder, make())
-            tables_most, goals_most = BOUNDS.get(name, (1000, 3000))
+        for name, (tables_most, goals_most) in BOUNDS.items():
+            made, context, pair, contexts, pairs, used = best(path, folder, dict(ROWS)[name]())
             print(f"{name}: {contexts} context goals and {pairs} pair goals are feasible")
             bounds.row("  tables", made, tables_most, "ms")
             bounds.row("  tables and contexts", made + context, goals_most, "ms")

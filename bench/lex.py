@@ -1,34 +1,33 @@
 #!/usr/bin/env python3
-"""Times the reading of lex files of 1 MiB: bench/lex.py.
+"""Times the reading of lex files of up to 1 MiB: bench/lex.py [PROGRAM].
 
-No command reads a lex file alone, so a program that does is made in a copy of this repository, proved and run there. Each row is
-a file, how it is answered, and the milliseconds that `read_lex` takes beside their bound. Ends with status 1 where one is passed.
-Nothing here is part of the gate.
+Each row is a file, how it is answered, and the milliseconds that `read_lex` takes beside their bound. Ends with status 1 where one
+is passed. No command reads a lex file alone, so a program that does is proved in a copy of this repository, and stays as
+bench/out/lex. Nothing here is part of the gate.
 """
 
 import os
 import random
 import string
-import subprocess
-import sys
 import tempfile
 
-from measure import TOP, Bounds, build
+from measure import Bounds, program_of, ran
 
+LIBRARIES = "cs_lex cs_yacc cs_io"
 MOST_BYTES = 1_048_576
 BOUND = 1000
 LETTERS = string.ascii_letters + string.digits
 
 MAIN = """\
-//! Reads lex files beside a yacc file, and tells how long each takes.
+//! Reads the lex files in its arguments beside a yacc file, and tells how long each takes.
 #![tactic(auto)]
 
 use cs_io::{Desk, FolderDesk};
 use cs_lex::{MOST_BYTES, read_lex};
 use cs_yacc::{YaccFile, read_yacc};
 use std::alloc::Global;
-use std::io;
 use std::time::Instant;
+use std::{env, io};
 
 fn yacc(alloc: Global) -> Option<YaccFile> {
     let text = b"%token NUM\\n%%\\ns : NUM ;\\n";
@@ -46,7 +45,9 @@ fn reads(alloc: Global, bytes: &[u8], yacc: &YaccFile) -> bool {
 fn main(rt: HostRuntime) -> io::Result<()> {
     let alloc = rt.alloc();
     let mut desk = FolderDesk::new(&rt);
-    for name in [@NAMES@] {
+    let words: Vec<String> = env::args(&rt)?.collect(alloc)?;
+    for i in 1..words.len() {
+        let name = words[i].as_str();
         if let (Some(yacc), Ok(bytes)) = (yacc(alloc), desk.read(alloc, name, MOST_BYTES)) {
             let begin = Instant::now(&rt)?;
             let accepted = reads(alloc, &bytes, &yacc);
@@ -129,7 +130,7 @@ ROWS = {
     "small cycles with long ways between them": cycles_and_ways(),
     "a definition that names itself last": names_before_itself(),
     "2,048 rules beside 80,000 definitions": rules_beside_definitions(),
-    "2,048 bars": "%%\n" + "a |\n" * 2047 + "a return NUM;\n",
+    "2,047 bars": "%%\n" + "a |\n" * 2047 + "a return NUM;\n",
     "a million bytes of comment": filled("%%\na ; /*", "x", "*/\n"),
     "quote marks that aren't closed": filled("%%\na ", "\\'", "\n"),
     "named parts that aren't closed": filled("%%\n[", "[:", "\n"),
@@ -142,22 +143,19 @@ ROWS = {
 
 
 def main():
-    bounds = Bounds()
+    path, bounds = program_of("lex", MAIN, LIBRARIES), Bounds()
+    names = {f"{number}.l": title for number, title in enumerate(ROWS)}
     with tempfile.TemporaryDirectory() as folder:
-        names = {f"{number}.l": title for number, title in enumerate(ROWS)}
         for name, title in names.items():
             with open(os.path.join(folder, name), "w") as file:
                 file.write(ROWS[title])
-        text = MAIN.replace("@NAMES@", ", ".join(f'"{name}"' for name in names))
-        program = build(folder, TOP, text, "cs_lex cs_yacc cs_io")
-        done = subprocess.run([program], cwd=folder, capture_output=True, text=True)
-        for line in done.stdout.splitlines():
-            name, took, accepted = line.split()
-            size = os.path.getsize(os.path.join(folder, name))
-            answer = "accepted" if accepted == "true" else "refused"
-            bounds.row(f"{names[name]}, {size} bytes, {answer}", int(took), BOUND, "ms")
-        if done.returncode or len(done.stdout.splitlines()) != len(names):
-            sys.exit(done.stdout + done.stderr + "the program didn't read all files")
+        told, _, _ = ran(path, folder, list(names))
+    rows = [line.split() for line in told.splitlines()]
+    if [name for name, _, _ in rows] != list(names):
+        raise SystemExit(f"{len(rows)} of {len(names)} files were read")
+    for name, took, accepted in rows:
+        answer = "accepted" if accepted == "true" else "refused"
+        bounds.row(f"{names[name]}, {len(ROWS[names[name]])} bytes, {answer}", int(took), BOUND, "ms")
     bounds.end()
 
 

@@ -1,18 +1,16 @@
 #!/usr/bin/env python3
-"""Times the lexemes of all tokens at the limits: bench/lexemes.py.
+"""Times the lexemes of all tokens at the limits: bench/lexemes.py [PROGRAM].
 
-Each row is a yacc file and a lex file whose automaton has 16,384 states, for 512 tokens: the processor seconds for all their
+Each row is a yacc file and a lex file with 16,384 sets of positions, for 512 tokens: the processor seconds for all their
 lexemes, without the automaton, and the greatest memory while they are made, beside their bounds. It ends with status 1 where a
-bound is passed. No command makes lexemes alone, so a program that does is made in a copy of this repository, proved and run
-there; where the first word names that program, as an earlier run built it, that one is timed. Nothing here is part of the gate.
+bound is passed. No command makes lexemes alone, so a program that does is proved in a copy of this repository, and stays as
+bench/out/lexemes. Nothing here is part of the gate.
 """
 
 import os
-import subprocess
-import sys
 import tempfile
 
-from measure import TOP, Bounds, build
+from measure import Bounds, least, program_of
 
 LIBRARIES = "cs_lexeme cs_scan cs_automaton cs_lex cs_yacc cs_io cs_grammar cs_pattern_tree"
 
@@ -182,30 +180,15 @@ ROWS = [
 ]
 
 
-def ran(path, folder, times):
-    """What the program writes, its processor seconds and its greatest memory in MB."""
-    with open(os.path.join(folder, "told"), "w") as out:
-        child = subprocess.Popen([path, "g.y", "g.l", *["make"] * times], cwd=folder, stdout=out)
-        _, _, used = os.wait4(child.pid, 0)
-        child.returncode = 0
-    with open(os.path.join(folder, "told")) as file:
-        return file.read().splitlines(), used.ru_utime + used.ru_stime, used.ru_maxrss / 1024
-
-
-def least(path, folder, times):
-    """The same, with the least seconds of some runs."""
-    runs = [ran(path, folder, times) for _ in range(RUNS)]
-    return runs[0][0], min(seconds for _, seconds, _ in runs), runs[0][2]
-
-
 def measured(path, folder, row, times):
     """Seconds for all lexemes, made so many times in one run, and the greatest memory in MB without them and with them."""
     yacc, lex, lexemes, size = row
     for name, text in (("g.y", yacc), ("g.l", lex)):
         with open(os.path.join(folder, name), "w") as file:
             file.write(text)
-    _, without, used = least(path, folder, 0)
-    told, made, used_made = least(path, folder, times)
+    _, without, used = least(path, folder, ["g.y", "g.l"], RUNS)
+    told, made, used_made = least(path, folder, ["g.y", "g.l"] + ["make"] * times, RUNS)
+    told = told.splitlines()
     if told != [f"{TOKENS} {STATES}"] + [f"{lexemes} {size}"] * times:
         raise SystemExit(f"{told[:2]} in place of {TOKENS} tokens, {STATES} states, {lexemes} lexemes of {size} bytes")
     if made <= without:
@@ -214,9 +197,8 @@ def measured(path, folder, row, times):
 
 
 def main():
-    bounds = Bounds()
+    path, bounds = program_of("lexemes", MAIN, LIBRARIES), Bounds()
     with tempfile.TemporaryDirectory() as folder:
-        path = os.path.abspath(sys.argv[1]) if len(sys.argv) > 1 else build(folder, TOP, MAIN, LIBRARIES)
         for name, make, times, most in ROWS:
             seconds, used, used_made = measured(path, folder, make(), times)
             bounds.row(f"{name}, lexemes", seconds, most, "s")

@@ -1,4 +1,7 @@
-"""Runs of a program beside their bounds: what the scripts beside this one share."""
+"""Runs of a program beside their bounds: what the scripts beside this one share.
+
+The greatest memory of a run is what the system tells of it, and that is never less than this script's own, some 15 MB.
+"""
 
 import os
 import shutil
@@ -11,10 +14,29 @@ TOP = os.path.dirname(os.path.dirname(os.path.abspath(__file__)))
 
 def program():
     """The program that is named by the first word, or the one that `./conform` builds."""
-    path = sys.argv[1] if len(sys.argv) > 1 else os.path.join(TOP, "crates", "cs_cli", "out", "cs_cli")
+    return named() or found(os.path.join(TOP, "crates", "cs_cli", "out", "cs_cli"), ": ./conform builds it")
+
+
+def named():
+    """The program that is named by the first word, if there is one."""
+    return found(sys.argv[1]) if len(sys.argv) > 1 else None
+
+
+def found(path, hint=""):
     if not os.path.exists(path):
-        sys.exit(f"{path} isn't there: ./conform builds it")
+        sys.exit(f"{path} isn't there{hint}")
     return os.path.abspath(path)
+
+
+def program_of(name, text, libraries, proofs=None):
+    """The program that is named by the first word, or one of this text, which stays in bench/out/ under this name."""
+    if path := named():
+        return path
+    kept = os.path.join(TOP, "bench", "out", name)
+    os.makedirs(os.path.dirname(kept), exist_ok=True)
+    with tempfile.TemporaryDirectory() as folder:
+        shutil.copy(build(os.path.join(folder, "copy"), text, libraries, proofs or {}), kept)
+    return kept
 
 
 class Run:
@@ -69,20 +91,22 @@ class Bounds:
         sys.exit(1 if self.passed else 0)
 
 
-def build(folder, top, text, libraries, proofs=None):
-    """The program of this text, with these files of proofs, proved and built in a copy of the repository at `top`; its path."""
-    copy = os.path.join(folder, "copy")
-    shutil.copytree(top, copy, ignore=shutil.ignore_patterns("out", ".git"))
+def left_out(folder, names):
+    """What a copy goes without: the history and what was built, but for the libraries, so that these aren't proved again."""
+    return [name for name in names if name == ".git" or os.path.basename(folder) == "out" and name != "rlib"]
+
+
+def build(copy, text, libraries, proofs):
+    """The program of this text, with these files of proofs, proved and built in a copy of the repository; its path."""
+    shutil.copytree(TOP, copy, ignore=left_out)
     subprocess.run(["rt", "new", "crates/bench_program", "start_io"], cwd=copy, check=True, stdout=subprocess.DEVNULL)
     crate = os.path.join(copy, "crates", "bench_program")
-    for name in os.listdir(os.path.join(crate, "src")):
-        os.remove(os.path.join(crate, "src", name))
-    with open(os.path.join(crate, "src", "main.rt"), "w") as file:
-        file.write(text)
-    for name, proof in (proofs or {}).items():
-        os.makedirs(os.path.dirname(os.path.join(crate, name)), exist_ok=True)
-        with open(os.path.join(crate, name), "w") as file:
-            file.write(proof)
+    shutil.rmtree(os.path.join(crate, "src"))
+    for name, part in {"src/main.rt": text, **proofs}.items():
+        path = os.path.join(crate, name)
+        os.makedirs(os.path.dirname(path), exist_ok=True)
+        with open(path, "w") as file:
+            file.write(part)
     with open(os.path.join(copy, "crates.txt"), "a") as file:
         file.write(f"bench_program: {libraries}\n")
     built = subprocess.run(["rt", "run"], cwd=crate, capture_output=True, text=True)
@@ -90,3 +114,21 @@ def build(folder, top, text, libraries, proofs=None):
     if not os.path.exists(path):
         sys.exit(built.stdout + built.stderr)
     return path
+
+
+def ran(path, folder, words):
+    """What the program writes on these words in the folder, its processor seconds and its greatest memory in MB."""
+    with open(os.path.join(folder, "told"), "w") as out:
+        child = subprocess.Popen([path, *words], cwd=folder, stdout=out)
+        _, status, used = os.wait4(child.pid, 0)
+        child.returncode = os.waitstatus_to_exitcode(status)
+    if child.returncode:
+        sys.exit(f"{path} ended with status {child.returncode}")
+    with open(os.path.join(folder, "told")) as file:
+        return file.read(), used.ru_utime + used.ru_stime, used.ru_maxrss / 1024
+
+
+def least(path, folder, words, runs):
+    """The same, with the least seconds of so many runs."""
+    made = [ran(path, folder, words) for _ in range(runs)]
+    return made[0][0], min(seconds for _, seconds, _ in made), made[0][2]

@@ -1,17 +1,16 @@
 #!/usr/bin/env python3
-"""Times automata at the limits, and the scan of a text: bench/scanning.py.
+"""Times automata at the limits, and the scan of a text: bench/scanning.py [PROGRAM].
 
 Each row is two patterns: the processor seconds for their automaton, and the greatest memory while it is made, beside their
-bounds; then the processor seconds for the scan of a text of 1 MiB. It ends with status 1 where a bound is passed. No command
-does this alone, so a program that does is made in a copy of this repository, proved and run there. Nothing here is part of the
-gate.
+bounds; then the processor seconds in which a text of 1 MiB is read and scanned. It ends with status 1 where a bound is passed. No command
+does this alone, so a program that does is proved in a copy of this repository, and stays as bench/out/scanning. Nothing here is
+part of the gate.
 """
 
 import os
-import subprocess
 import tempfile
 
-from measure import TOP, Bounds, build
+from measure import Bounds, least, program_of
 
 LIBRARIES = "cs_scan cs_automaton cs_pattern cs_pattern_tree cs_io"
 
@@ -104,56 +103,41 @@ SCAN_SECONDS = 0.02
 RUNS = 3
 SCANS = 10
 
-# two patterns, the most seconds for their automaton, and what the text that is scanned repeats; the two patterns of the first
-# row are one, so each set of the one is a set of the other too, and there are 16,384
+# two patterns, the most seconds for their automaton, what the text that is scanned repeats, and how many matches it has; the two
+# patterns of the first row are one, so each set of the one is a set of the other too, and there are 16,384
 ROWS = [
-    ("16,384 sets", "(a|b)*a(a|b){13}", "(a|b)*a(a|b){13}", 0.1, b""),
-    ("16,000 leaves", "(a?){1000}{4}", "(b?){1000}{4}", 1, b""),
-    ("words", "if", "[a-z]+|[ ]", 0.1, b"if iffy "),
-    ("one word", "if", "[a-z]+|[ ]", 0.1, b"abcdefgh"),
+    ("16,384 sets", "(a|b)*a(a|b){13}", "(a|b)*a(a|b){13}", 0.1, b"", 0),
+    ("16,000 leaves", "(a?){1000}{4}", "(b?){1000}{4}", 1, b"", 0),
+    ("words", "if", "[a-z]+|[ ]", 0.1, b"if iffy ", TEXT_BYTES // 2),
+    ("one word", "if", "[a-z]+|[ ]", 0.1, b"abcdefgh", 1),
 ]
-
-
-def ran(path, folder, words):
-    """What the program writes on these words, its processor seconds and its greatest memory in MB."""
-    with open(os.path.join(folder, "told"), "w") as out:
-        child = subprocess.Popen([path, *words], cwd=folder, stdout=out)
-        _, _, used = os.wait4(child.pid, 0)
-        child.returncode = 0
-    with open(os.path.join(folder, "told")) as file:
-        return file.read().split(), used.ru_utime + used.ru_stime, used.ru_maxrss / 1024
-
-
-def least(path, folder, words):
-    """The same, with the least seconds of some runs."""
-    runs = [ran(path, folder, words) for _ in range(RUNS)]
-    return runs[0][0], min(seconds for _, seconds, _ in runs), runs[0][2]
 
 
 def measured(path, folder, first, second, text):
     """Seconds for the automaton and for one scan of the text, how many matches it has, and the greatest memory in MB."""
     with open(os.path.join(folder, "text"), "wb") as file:
         file.write(text)
-    _, read, _ = least(path, folder, [first, second])
-    told, made, used = least(path, folder, [first, second, "make"])
-    if told != ["read", "made"]:
+    _, read, _ = least(path, folder, [first, second], RUNS)
+    told, made, used = least(path, folder, [first, second, "make"], RUNS)
+    if told.split() != ["read", "made"]:
         raise SystemExit(f"no automaton of {first} and {second}")
-    told, scanned, _ = least(path, folder, [first, second, "make"] + ["text"] * SCANS)
-    return max(made - read, 0), (scanned - made) / SCANS, told[2], used
+    told, scanned, _ = least(path, folder, [first, second, "make"] + ["text"] * SCANS, RUNS)
+    return max(made - read, 0), (scanned - made) / SCANS, told.split()[2:], used
 
 
 def main():
-    bounds = Bounds()
+    path, bounds = program_of("scanning", MAIN, LIBRARIES), Bounds()
     with tempfile.TemporaryDirectory() as folder:
-        path = build(folder, TOP, MAIN, LIBRARIES)
-        for name, first, second, most, piece in ROWS:
+        for name, first, second, most, piece, count in ROWS:
             text = piece * (TEXT_BYTES // len(piece)) if piece else b""
             made, scanned, matches, used = measured(path, folder, first, second, text)
-            print(f"{name}: {matches} matches")
+            if matches != [str(count)] * SCANS or text and scanned <= 0:
+                raise SystemExit(f"{name}: {matches} in place of {count} matches, or no figure: {scanned:.3g} s")
+            print(f"{name}: {count} matches")
             bounds.row("  automaton", made, most, "s")
             bounds.row("  memory", used, MEGABYTES, "MB")
             if text:
-                bounds.row("  1 MiB scanned", scanned, SCAN_SECONDS, "s")
+                bounds.row("  1 MiB read and scanned", scanned, SCAN_SECONDS, "s")
     bounds.end()
 
 

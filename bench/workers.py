@@ -1,18 +1,16 @@
 #!/usr/bin/env python3
-"""Times the rendering of 10,000 lists of 1,000 tokens by 1, 2 and 4 workers: bench/workers.py.
+"""Times the rendering of 10,000 lists of 1,000 tokens by 1, 2 and 4 workers: bench/workers.py [PROGRAM].
 
 Each row is two or four workers: which part of the wall time of one theirs is, beside its bound, and in its words both times. The
 bounds are for four free processors, so the load average stands below. It ends with status 1 where one is passed. No command takes
-a number of workers, so a program that does is made in a copy of this repository, proved and run there; where the first word names
-that program, as an earlier run built it, that one is timed. Nothing here is part of the gate.
+a number of workers, so a program that does is proved in a copy of this repository, and stays as bench/out/workers. Nothing here is
+part of the gate.
 """
 
 import os
 import subprocess
-import sys
-import tempfile
 
-from measure import TOP, Bounds, build
+from measure import Bounds, program_of
 
 LIBRARIES = "cs_render_work cs_fan cs_render cs_lexeme cs_scan cs_automaton cs_lex cs_yacc cs_grammar cs_pattern_tree"
 
@@ -242,13 +240,11 @@ def rendered(path, workers):
 
 
 def main():
-    bounds = Bounds()
-    with tempfile.TemporaryDirectory() as folder:
-        path = os.path.abspath(sys.argv[1]) if len(sys.argv) > 1 else build(folder, TOP, MAIN, LIBRARIES, PROOFS)
-        one = rendered(path, 1)
-        for workers, most in PARTS:
-            several = rendered(path, workers)
-            bounds.row(f"{workers} workers, {several:.3g} s of {one:.3g} s", several / one, most, "parts")
+    path, bounds = program_of("workers", MAIN, LIBRARIES, PROOFS), Bounds()
+    one = rendered(path, 1)
+    for workers, most in PARTS:
+        several = rendered(path, workers)
+        bounds.row(f"{workers} workers, {several:.3g} s of {one:.3g} s", several / one, most, "parts")
     print(f"{os.cpu_count()} processors, load average {os.getloadavg()[0]:.3g}")
     bounds.end()
 
