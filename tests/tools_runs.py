@@ -203,6 +203,7 @@ PATTERNS = "Anchor Trailing Condition Collation Syntax UndefinedName DefinitionC
 LEX = "Unended Layout UnknownDirective UnknownOption StartCondition NoRules DanglingBar".split()
 ERROR_RULES = "%%\ns : 'a' | error | 'b' error 'c' ;\n"
 END = "end goals 1 feasible 1 infeasible 0 large 0 negatives 0\n"
+SCANNER = "%%\na return 'a';\n"
 
 
 def call(command, folder, **environment):
@@ -384,9 +385,12 @@ def others(folder):
 
 def good_runs(folder):
     written(folder, "g.y", ERROR_RULES)
-    fault, told = explained(folder, ["rules", "g.y"], None, 0, END)
-    if fault or told != "g.y: 2 rules left out for `error`; of 1 goal 0 infeasible and 0 large\n":
-        yield fault or f"a good run: {told!r}"
+    written(folder, "l.l", SCANNER)
+    shared = END.replace("\n", " cases 1\n")
+    for words, end in (["rules", "g.y"], END), (["suite", "g.y", "l.l", "--criteria=rule", "--mutate=none"], shared):
+        fault, told = explained(folder, words, None, 0, end)
+        if fault or told != "g.y: 2 rules left out for `error`; of 1 goal 0 infeasible and 0 large\n":
+            yield fault or f"a good run of {words}: {told!r}"
 
 
 def lines_of_formats():

@@ -3,7 +3,8 @@
 the error output. It prints the rows that fail, and ends with status 1 where one did.
 
 The contracts say all of this of `run`; here it is shown that the program does what `run` says. The expected texts were
-worked by hand from the rules of docs/FORMATS.md; those of the runs that README.md and docs/GUIDE.md show are read there.
+worked by hand from the rules of docs/FORMATS.md, but for the negatives and the bytes of a summary, which are the program's own;
+those of the runs that README.md and docs/GUIDE.md show are read there.
 """
 
 import os
@@ -302,6 +303,22 @@ def page_failures():
     last = written.decode().splitlines(keepends=True)[-1:]
     if (status, said) != (0, b"") or last != blocks("docs/GUIDE.md")[3:4]:
         yield f"docs/GUIDE.md: status {status}, {last!r}, {said!r}"
+    yield from shown_failures(written)
+
+
+def shown_failures(manifest):
+    """What docs/GUIDE.md shows of this manifest and isn't so: a goal, by tools/show, and the line of a negative."""
+    _, wanted, *others = [block for block in blocks("docs/GUIDE.md") if block.startswith(("end ", "goal ", "negative "))]
+    lines = manifest.decode().splitlines()
+    yield from (f"docs/GUIDE.md: no {block}" for block in others if block.splitlines()[0] not in lines)
+    with tempfile.TemporaryDirectory() as folder:
+        path = os.path.join(folder, "suite")
+        with open(path, "wb") as file:
+            file.write(manifest)
+        show = [sys.executable, os.path.join(TOP, "tools", "show"), path, wanted.split()[1]]
+        told = subprocess.run(show, capture_output=True, text=True, timeout=60)
+    if (told.returncode, told.stdout) != (0, wanted):
+        yield f"docs/GUIDE.md: tools/show: status {told.returncode}, {told.stdout!r}, {told.stderr!r}"
 
 
 def run(words, folder, **streams):
