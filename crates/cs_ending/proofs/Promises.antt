@@ -14,14 +14,6 @@ use Rattle.cs_ending.specs.Files.{AreAccepted, AreRefused, HasNoFileFor}
 use Rattle.cs_ending.specs.Headline.{KeepsPromises}
 use Rattle.cs_ending.proofs.Apart.{asked_accepted, asked_apart, asked_more, asked_no_file, asked_refused_there, asked_there}
 
-known_none : (known : Option (List ℕ)) → append_known known [] ≡ known
-known_none None = refl
-known_none (Some bytes) = grind (arith, common_steps)
-
-first_of_nothing : (known : Option (List ℕ)) (count : ℕ) → append_known known (take count []) ≡ known
-first_of_nothing None count = refl
-first_of_nothing (Some bytes) count = grind (arith, common_steps)
-
 good_words : (asked : Result Request ℕ) (P : Request → Type 0) → IsOkAnd asked P → IsErr asked → ⊥
 good_words (Ok request) P is bad = absurd cc
 good_words (Err at) P is bad = is
@@ -42,24 +34,26 @@ module _ (asked : Result Request ℕ) (desk : DeskUse) (out err : SinkUse) where
     bad_words : status_of ending ≡ 2 → IsErr asked
     read_fault : status_of ending ≡ 3 → IsOkAnd asked (λ request. (role : Role) × HasNoFileFor desk.files request desk.faults role)
     write_fault : status_of ending ≡ 4 → HasFailed out.faults
+    no_write_fault : status_of ending < 4 → out.faults.after ≡ out.faults.before
     write_fault_of_accepted : status_of ending ≡ 4 → IsOkAnd asked (AreAccepted desk.files)
     unused : (0 < status_of ending) × (status_of ending < 4) → IsUnused out
     bad_words_end_so : IsErr asked → (status_of ending ≡ 2) ⊎ (status_of ending ≡ 5)
     refused_ends_so : IsSome desk.files → IsOkAnd asked (AreRefused desk.files) → ¬ HasFailed desk.faults → (status_of ending ≡ 1) ⊎ (status_of ending ≡ 5)
     complete : IsSome desk.files → IsOkAnd asked (AreAccepted desk.files) → ¬ HasFailed desk.faults → ¬ HasFailed out.faults → (status_of ending ≡ 0) ⊎ (status_of ending ≡ 5)
-    silent : status_of ending ≡ 0 → line_of ending ≡ []
+    silent : status_of ending ≡ 0 → ending ≡ Written
 
   rest : (ending : Ending) → Ends ending asked desk out → Rest ending
   rest Written ends = record {
-    whole = λ is. ends;
+    whole = λ is. ends.0;
     files_refused = λ is. absurd (omega (arith, is));
     bad_words = λ is. absurd (omega (arith, is));
     read_fault = λ is. absurd (omega (arith, is));
     write_fault = λ is. absurd (omega (arith, is));
+    no_write_fault = λ below. ends.1;
     write_fault_of_accepted = λ is. absurd (omega (arith, is));
     unused = λ is. absurd (omega (arith, is.0, is.1));
-    bad_words_end_so = λ bad. absurd (good_words asked _ ends.1 bad);
-    refused_ends_so = λ some refused fine. absurd (asked_apart asked desk.files some (asked_accepted asked desk.files ends.0 ends.1) refused);
+    bad_words_end_so = λ bad. absurd (good_words asked _ ends.0.1 bad);
+    refused_ends_so = λ some refused fine. absurd (asked_apart asked desk.files some (asked_accepted asked desk.files ends.0.0 ends.0.1) refused);
     complete = λ some accepted fine good. inl refl;
     silent = λ is. refl;
   }
@@ -69,6 +63,7 @@ module _ (asked : Result Request ℕ) (desk : DeskUse) (out err : SinkUse) where
     bad_words = λ is. absurd (omega (arith, is));
     read_fault = λ is. absurd (omega (arith, is));
     write_fault = λ is. absurd (omega (arith, is));
+    no_write_fault = λ below. ends.1.1;
     write_fault_of_accepted = λ is. absurd (omega (arith, is));
     unused = λ is. ends.1;
     bad_words_end_so = λ bad. absurd (good_words asked _ ends.0 bad);
@@ -82,6 +77,7 @@ module _ (asked : Result Request ℕ) (desk : DeskUse) (out err : SinkUse) where
     bad_words = λ is. bad_word_err asked at ends.0;
     read_fault = λ is. absurd (omega (arith, is));
     write_fault = λ is. absurd (omega (arith, is));
+    no_write_fault = λ below. ends.1.1;
     write_fault_of_accepted = λ is. absurd (omega (arith, is));
     unused = λ is. ends.1;
     bad_words_end_so = λ bad. inl refl;
@@ -95,6 +91,7 @@ module _ (asked : Result Request ℕ) (desk : DeskUse) (out err : SinkUse) where
     bad_words = λ is. absurd (omega (arith, is));
     read_fault = λ is. asked_more asked ends.0 (λ request n. (role, n));
     write_fault = λ is. absurd (omega (arith, is));
+    no_write_fault = λ below. ends.1.1;
     write_fault_of_accepted = λ is. absurd (omega (arith, is));
     unused = λ is. ends.1;
     bad_words_end_so = λ bad. absurd (good_words asked _ ends.0 bad);
@@ -108,6 +105,7 @@ module _ (asked : Result Request ℕ) (desk : DeskUse) (out err : SinkUse) where
     bad_words = λ is. absurd (omega (arith, is));
     read_fault = λ is. absurd (omega (arith, is));
     write_fault = λ is. ends.1;
+    no_write_fault = λ below. absurd (omega (arith, below));
     write_fault_of_accepted = λ is. ends.0.0;
     unused = λ is. absurd (omega (arith, is.0, is.1));
     bad_words_end_so = λ bad. absurd (good_words asked _ ends.0.0 bad);
@@ -121,6 +119,7 @@ module _ (asked : Result Request ℕ) (desk : DeskUse) (out err : SinkUse) where
     bad_words = λ is. absurd (omega (arith, is));
     read_fault = λ is. absurd (omega (arith, is));
     write_fault = λ is. absurd (omega (arith, is));
+    no_write_fault = λ below. absurd (omega (arith, below));
     write_fault_of_accepted = λ is. absurd (omega (arith, is));
     unused = λ is. absurd (omega (arith, is.0, is.1));
     bad_words_end_so = λ bad. inr refl;
@@ -151,10 +150,6 @@ module _ (asked : Result Request ℕ) (desk : DeskUse) (out err : SinkUse) where
   prefix NoMemory (inl unused) above = inl unused
   prefix NoMemory (inr part) above = inr part.1
 
-  said_nothing : Says [] err → err.written.after ≡ err.written.before
-  said_nothing (inl whole) = whole ∙ known_none err.written.before
-  said_nothing (inr part) = part.1.grew ∙ first_of_nothing err.written.before part.1.count
-
   within : (e : Ending) → status_of e ≤ 5
   within Written = omega arith
   within (Refused refusal) = omega arith
@@ -169,21 +164,22 @@ module _ (asked : Result Request ℕ) (desk : DeskUse) (out err : SinkUse) where
 
   -- An ending is reported, and the status is that of what was reported.
   pub keeps : (ending reported : Ending) (status : ℕ) → Performs ending asked desk out → IsReported ending reported
-      → Says (line_of reported) err → status ≡ status_of reported → KeepsPromises asked desk out err status
-  keeps ending reported status performs is said status_is =
+      → Says (line_of reported) err → (reported ≡ Written → IsUnused err) → status ≡ status_of reported → KeepsPromises asked desk out err status
+  keeps ending reported status performs is said silent status_is =
       subst (λ (n : ℕ). KeepsPromises asked desk out err n) (sym status_is) (kept (reported_ends ending reported performs.ends is))
     where
       kept : Ends reported asked desk out → KeepsPromises asked desk out err (status_of reported)
       kept ends =
           let all = rest reported ends in record {
             whole = all.whole;
-            silent = λ zero. said_nothing (subst (λ (line : List ℕ). Says line err) (all.silent zero) said);
+            silent = λ zero. silent (all.silent zero);
             ends = (reported, refl, ends, said);
             range = within reported;
             files_refused = all.files_refused;
             bad_words = all.bad_words;
             read_fault = all.read_fault;
             write_fault = all.write_fault;
+            no_write_fault = all.no_write_fault;
             write_fault_of_accepted = all.write_fault_of_accepted;
             unused = all.unused;
             prefix = prefix reported ends;

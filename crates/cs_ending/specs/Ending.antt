@@ -30,7 +30,7 @@ WrotePartOfAccepted asked desk out = IsOkAnd asked (AreAccepted desk.files) × W
 
 -- What caused an ending, and what the output holds then, by what the words ask for and how desk and output were used.
 abbrev pub Ends : Ending → Result Request ℕ → DeskUse → SinkUse → Type 0
-Ends Written asked desk out = WroteText asked desk out
+Ends Written asked desk out = WroteText asked desk out × (out.faults.after ≡ out.faults.before)
 Ends (Refused refusal) asked desk out = IsOkAnd asked (λ request. AreRefusedSo desk.files request refusal) × IsUnused out
 Ends (BadWord at) asked desk out = (asked ≡ Err at) × IsUnused out
 Ends (NoFile role) asked desk out = IsOkAnd asked (λ request. HasNoFileFor desk.files request desk.faults role) × IsUnused out

@@ -14,15 +14,16 @@ pub record KeepsPromises (asked : Result Request ℕ) (desk : DeskUse) (out err 
   -- The headline: on status 0 the output grew by the manifest that the words ask for, or for `gen` by the summary of the
   -- number, and by nothing else. `gen` asks for no files: none of it is refused, and none can't be read.
   pub whole : status ≡ 0 → WroteText asked desk out
-  pub silent : status ≡ 0 → err.written.after ≡ err.written.before
+  pub silent : status ≡ 0 → IsUnused err
   -- The status is that of an ending that has its cause, and the error output grew by that ending's line.
   pub ends : (ending : Ending) × (status ≡ status_of ending) × Ends ending asked desk out × Says (line_of ending) err
-  -- When each other status comes.
+  -- When each other status comes; below 4 no write to the output failed.
   pub range : status ≤ 5
   pub files_refused : status ≡ 1 → IsOkAnd asked (AreRefused desk.files)
   pub bad_words : status ≡ 2 → IsErr asked
   pub read_fault : status ≡ 3 → IsOkAnd asked (λ request. (role : Role) × HasNoFileFor desk.files request desk.faults role)
   pub write_fault : status ≡ 4 → HasFailed out.faults
+  pub no_write_fault : status < 4 → out.faults.after ≡ out.faults.before
   pub write_fault_of_accepted : status ≡ 4 → IsOkAnd asked (AreAccepted desk.files)
   -- What the output holds on these.
   pub unused : (0 < status) × (status < 4) → IsUnused out

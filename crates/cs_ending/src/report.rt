@@ -1,7 +1,8 @@
 // What a run says at its end.
 
 ghost use Rattle.std.specs.Prelude.{◌≡◌, ◌⊎◌, ℕ, IfOk, Result, string_bytes};
-ghost use Rattle.cs_io.specs.Uses.{DeskUse, SinkUse, sink_use};
+ghost use Rattle.cs_io.specs.Uses.{DeskUse, IsUnused, SinkUse, sink_use};
+ghost use Rattle.cs_ending.specs.declared.ending.Ending.TheVariants.{Written};
 ghost use Rattle.cs_ending.specs.Ending.{HasLine, IsReported, Performs, Says, line_of, status_of};
 ghost use Rattle.cs_ending.specs.Headline.{KeepsPromises, KeepsWhatPerforms};
 ghost use Rattle.cs_ending.specs.Requests.{Request};
@@ -28,6 +29,8 @@ fn report<E: Sink>(alloc: Global, ending: Ending, err: &mut E) -> Ending
     requires { HasLine ending }
     ensures ending { IsReported ending result }
     ensures line { Says (line_of result) (sink_use E.written E.faults E.room err.old err.new) }
+    ensures silent { result ≡ Written
+        → IsUnused (sink_use E.written E.faults E.room err.old err.new) }
 {
     if ending == Ending::Written {
         return ending;

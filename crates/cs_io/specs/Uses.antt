@@ -35,6 +35,6 @@ sink_use written faults room before after = record {
 abbrev pub HasFailed : Change ℕ → Type 0
 HasFailed faults = Rose faults.before faults.after
 
--- the sink has taken nothing
+-- the sink has taken nothing, and no write to it failed
 abbrev pub IsUnused : SinkUse → Type 0
-IsUnused sink = sink.written.after ≡ sink.written.before
+IsUnused sink = (sink.written.after ≡ sink.written.before) × (sink.faults.after ≡ sink.faults.before)

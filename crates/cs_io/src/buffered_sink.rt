@@ -40,12 +40,11 @@ impl<'s, 'w, S: Sink> BufferedSink<'s, 'w, S> {
         ensures written { buffered_written S.written self.new
             ≡ buffered_written S.written self.old }
         ensures passed { lent_taken S.written self.old ≤ lent_taken S.written self.new }
+        ensures no_fault { OnOk result (LentMetNone S.faults self.old self.new) }
         ensures fault { OnErr result (LentRose S.faults self.old self.new) }
         ensures faults_never_fall { lent_faults S.faults self.old
             ≤ lent_faults S.faults self.new }
         ensures ok_with_room { HasRoomForWaiting S.room self.old → IsOk result }
-        ensures no_fault { HasRoomForWaiting S.room self.old
-            → LentMetNone S.faults self.old self.new }
         ensures room_left { OnOk result
             (buffered_room S.room self.old ≤ buffered_room S.room self.new) }
     {
@@ -101,11 +100,10 @@ fn pass_on<S: Sink>(sink: &mut S, bytes: &[u8]) -> (usize, Result<(), SinkError>
     ensures count { result.0 ≤ length bytes.now }
     ensures all { OnOk result.1 (result.0 ≡ length bytes.now) }
     ensures written { GrewByFirst (S.written sink.old) (S.written sink.new) bytes.now result.0 }
+    ensures no_fault { OnOk result.1 (S.faults sink.new ≡ S.faults sink.old) }
     ensures fault { OnErr result.1 (Rose (S.faults sink.old) (S.faults sink.new)) }
     ensures faults_never_fall { S.faults sink.old ≤ S.faults sink.new }
     ensures ok_with_room { length bytes.now ≤ S.room sink.old → IsOk result.1 }
-    ensures no_fault { length bytes.now ≤ S.room sink.old
-        → S.faults sink.new ≡ S.faults sink.old }
     ensures room_left { S.room sink.old ≤ S.room sink.new + result.0 }
 {
     let mut count = 0usize;

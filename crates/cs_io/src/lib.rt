@@ -6,8 +6,8 @@
 //!
 //! - a read answers at most as many bytes as were asked for, and where the desk tells its files the
 //!   first ones of the named file;
-//! - after [`write_all`] the sink has taken the whole piece, or a prefix of it, and then its faults
-//!   rose;
+//! - after [`write_all`] the sink has taken the whole piece and met no fault, or it has taken a prefix
+//!   of it and its faults rose;
 //! - a desk that is steady counts no fault, and a sink with room for the piece takes it.
 //!
 //! [`BufferedSink`] gathers small pieces in front of a lent sink. It is a sink whose bytes are those

@@ -48,12 +48,12 @@ pub trait Sink {
         ensures err { OnErr result (written self.new ≡ written self.old) }
 
         // The faults.
+        ensures no_fault { OnOk result (faults self.new ≡ faults self.old) }
         ensures fault { OnErr result (Rose (faults self.old) (faults self.new)) }
         ensures faults_never_fall { faults self.old ≤ faults self.new }
 
         // What room is for.
         ensures ok_with_room { 0 < room self.old → IsOk result }
-        ensures no_fault { 0 < room self.old → faults self.new ≡ faults self.old }
         ensures room_left { IfOk result (λ count. room self.old ≤ room self.new + count) }
 
         // The lent sink.
@@ -71,13 +71,12 @@ pub fn write_all<S: Sink>(sink: &mut S, piece: &[u8]) -> Result<(), SinkError>
     ensures err { OnErr result (GrewByPrefix (S.written sink.old) (S.written sink.new) piece.now) }
 
     // The faults.
+    ensures no_fault { OnOk result (S.faults sink.new ≡ S.faults sink.old) }
     ensures fault { OnErr result (Rose (S.faults sink.old) (S.faults sink.new)) }
     ensures faults_never_fall { S.faults sink.old ≤ S.faults sink.new }
 
     // A sink with room for the piece takes it.
     ensures ok_with_room { length piece.now ≤ S.room sink.old → IsOk result }
-    ensures no_fault { length piece.now ≤ S.room sink.old
-        → S.faults sink.new ≡ S.faults sink.old }
     ensures room_left { OnOk result (S.room sink.old ≤ S.room sink.new + length piece.now) }
 
     // The lent sink.

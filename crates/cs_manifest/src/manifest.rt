@@ -2,7 +2,7 @@
 
 ghost use Rattle.std.specs.Prelude.{◌≡◌, ◌≤◌, IfOk, IsOk, OnErr, OnOk, option_map};
 ghost use Rattle.cs_io.specs.Faults.{Rose, next_count};
-ghost use Rattle.cs_output.specs.Sinks.{HasRoom, IsCalm, LeavesRoom, Took, TookPart};
+ghost use Rattle.cs_output.specs.Sinks.{HasRoom, LeavesRoom, Took, TookPart};
 ghost use Rattle.cs_manifest.specs.Counts as spec;
 ghost use Rattle.cs_manifest.specs.Counts.{behind_end, end_of, with_entry as counted, with_shared_verdict, with_verdict};
 ghost use Rattle.cs_manifest.specs.Entry.{IsNamedEntry};
@@ -51,12 +51,12 @@ impl<'a> Manifest<'a> {
         ensures err { OnErr result (TookPart S.written sink.old sink.new (head_of head.now)) }
 
         // The faults.
+        ensures no_fault { OnOk result (S.faults sink.new ≡ S.faults sink.old) }
         ensures fault { OnErr result (Rose (S.faults sink.old) (S.faults sink.new)) }
         ensures faults_never_fall { S.faults sink.old ≤ S.faults sink.new }
 
         // A sink with room for the lines takes them.
         ensures ok_with_room { HasRoom S.room sink.old (head_of head.now) → IsOk result }
-        ensures no_fault { IsCalm S.room S.faults sink.old sink.new (head_of head.now) }
         ensures room { OnOk result (LeavesRoom S.room sink.old sink.new (head_of head.now)) }
 
         // The lent sink.
@@ -87,13 +87,13 @@ impl<'a> Manifest<'a> {
             TookPart S.written sink.old sink.new (lines_in self.old entry.now)) }
 
         // The faults.
+        ensures no_fault { OnOk result (S.faults sink.new ≡ S.faults sink.old) }
         ensures fault { OnErr result (Rose (S.faults sink.old) (S.faults sink.new)) }
         ensures faults_never_fall { S.faults sink.old ≤ S.faults sink.new }
 
         // A sink with room for the lines takes them.
         ensures ok_with_room { HasRoom S.room sink.old (lines_in self.old entry.now)
             → IsOk result }
-        ensures no_fault { IsCalm S.room S.faults sink.old sink.new (lines_in self.old entry.now) }
         ensures room { OnOk result (
             LeavesRoom S.room sink.old sink.new (lines_in self.old entry.now)) }
 
@@ -118,12 +118,12 @@ impl<'a> Manifest<'a> {
             TookPart S.written sink.old sink.new (end_of self.entry.counts)) }
 
         // The faults.
+        ensures no_fault { OnOk result (S.faults sink.new ≡ S.faults sink.old) }
         ensures fault { OnErr result (Rose (S.faults sink.old) (S.faults sink.new)) }
         ensures faults_never_fall { S.faults sink.old ≤ S.faults sink.new }
 
         // A sink with room for the lines takes them.
         ensures ok_with_room { HasRoom S.room sink.old (end_of self.entry.counts) → IsOk result }
-        ensures no_fault { IsCalm S.room S.faults sink.old sink.new (end_of self.entry.counts) }
         ensures room { OnOk result (
             LeavesRoom S.room sink.old sink.new (end_of self.entry.counts)) }
 

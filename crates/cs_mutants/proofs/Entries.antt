@@ -5,7 +5,7 @@ use Rattle.std.specs.Borrow.{Bor}
 use Rattle.cs_io.specs.Faults.{Rose}
 use Rattle.cs_io.specs.declared.sink.Sink as Sink
 use Rattle.cs_io.specs.declared.sink.SinkError.{SinkError}
-use Rattle.cs_output.specs.Sinks.{HasRoom, IsCalm, IsCutShort, IsWritten, LeavesRoom, Took, TookPart}
+use Rattle.cs_output.specs.Sinks.{HasRoom, IsCutShort, IsWritten, LeavesRoom, Took, TookPart}
 use Rattle.cs_output.proofs.Called.{is_cut, is_written}
 use Rattle.cs_manifest.specs.Counts.{with_lines}
 use Rattle.cs_manifest.specs.Entry.{lines_of}
@@ -62,16 +62,16 @@ module _ {S : Type 0} (g : Sink.Ghosts S) (making : Making) (n : Negative) (numb
       → (result : Result Unit SinkError) → OnOk result (new ≡ behind_negative old lines) → OnErr result (new ≡ old)
       → OnOk result (Took g.written before after lines) → OnErr result (TookPart g.written before after lines)
       → OnErr result (Rose (g.faults before) (g.faults after)) → g.faults before ≤ g.faults after
-      → (HasRoom g.room before lines → IsOk result) → IsCalm g.room g.faults before after lines → OnOk result (LeavesRoom g.room before after lines)
+      → (HasRoom g.room before lines → IsOk result) → OnOk result (g.faults after ≡ g.faults before) → OnOk result (LeavesRoom g.room before after lines)
       → g.lent after ≡ g.lent before → g.passed before ≤ g.passed after
       → WritesNegative g making n number old before new after result
-  writes_lines told lines of is (Ok x) value unchanged ok err fault faults fits calm room lent passed = record {
+  writes_lines told lines of is (Ok x) value unchanged ok err fault faults fits no_fault room lent passed = record {
     told = told;
     of = of;
-    lines = subst (λ (l : List ℕ). IsWritten g l before after) is (is_written g lines before after ok faults calm room lent passed);
+    lines = subst (λ (l : List ℕ). IsWritten g l before after) is (is_written g lines before after ok no_fault room lent passed);
     counts = value ∙ ap (behind_negative old) is;
   }
-  writes_lines told lines of is (Err e) value unchanged ok err fault faults fits calm room lent passed = record {
+  writes_lines told lines of is (Err e) value unchanged ok err fault faults fits no_fault room lent passed = record {
     told = told;
     of = of;
     lines = subst (λ (l : List ℕ). IsCutShort g l before after) is (is_cut g lines before after err fault faults (λ has. let no = fits has in cc) lent passed);

@@ -76,8 +76,7 @@ module _ {S : Type 0} {g : Sink.Ghosts S} where
     sent = a.sent ++ b.sent;
     split = sent_twice a.sent b.sent (waiting old) (waiting mid) (waiting new) first second a.split b.split;
     written = b.written ∙ ap (λ (known : Option (List ℕ)). append_known known b.sent) a.written ∙ known_twice (g.written old.sink.now) a.sent b.sent;
-    faults = omega (arith, a.faults, b.faults);
-    no_fault = λ fits. b.no_fault (omega (arith, fits, a.room, length-append first second)) ∙ a.no_fault (omega (arith, fits, length-append first second));
+    no_fault = b.no_fault ∙ a.no_fault;
     room = omega (arith, a.room, b.room, length-append first second);
     lent = b.lent ∙ a.lent;
     passed = omega (arith, a.passed, b.passed);
@@ -92,8 +91,8 @@ module _ {S : Type 0} {g : Sink.Ghosts S} where
         subst (λ (text : List ℕ). GrewByPrefix (g.written old.sink.now) (g.written new.sink.now) text)
         (sent_then a.sent (waiting old) (waiting mid) first second a.split)
         (known_then_part (g.written old.sink.now) (g.written mid.sink.now) (g.written new.sink.now) a.sent (waiting mid ++ second) a.written b.written);
-    fault = omega (arith, a.faults, b.fault);
-    faults = omega (arith, a.faults, b.faults);
+    fault = omega (arith, a.no_fault, b.fault);
+    faults = omega (arith, a.no_fault, b.faults);
     room = omega (arith, a.room, b.room, length-append first second);
     lent = b.lent ∙ a.lent;
     passed = omega (arith, a.passed, b.passed);
@@ -147,8 +146,7 @@ module _ {S : Type 0} {g : Sink.Ghosts S} where
           sent = [];
           split = sym (append-nil (waiting out));
           written = sym (known_none (g.written out.sink.now));
-          faults = omega arith;
-          no_fault = λ fits. refl;
+          no_fault = refl;
           room = omega arith;
           lent = refl;
           passed = omega arith;
@@ -176,8 +174,7 @@ module _ {S : Type 0} {g : Sink.Ghosts S} where
           sent = [];
           split = waits;
           written = ap g.written sink ∙ sym (known_none (g.written old.sink.now));
-          faults = omega (arith, ap g.faults sink);
-          no_fault = λ fits. ap g.faults sink;
+          no_fault = ap g.faults sink;
           room = omega (arith, ap g.room sink, ap length waits, length-append (waiting old) text);
           lent = ap g.lent sink;
           passed = omega (arith, ap g.passed sink);

@@ -7,13 +7,12 @@ use Rattle.cs_output.specs.Sinks.{IsCutShort, IsWritten}
 
 module _ {S : Type 0} {g : Sink.Ghosts S} where
   pub written_none : (s : S) → IsWritten g [] s s
-  written_none s = record { written = sym (known_none (g.written s)); faults = omega arith; no_fault = λ fits. refl; room = omega arith; lent = refl; passed = omega arith }
+  written_none s = record { written = sym (known_none (g.written s)); no_fault = refl; room = omega arith; lent = refl; passed = omega arith }
 
   pub written_then : {old mid new : S} {first second : List ℕ} → IsWritten g first old mid → IsWritten g second mid new → IsWritten g (first ++ second) old new
   written_then {old} {mid} {new} {first} {second} a b = record {
     written = b.written ∙ ap (λ (known : Option (List ℕ)). append_known known second) a.written ∙ known_twice (g.written old) first second;
-    faults = omega (arith, a.faults, b.faults);
-    no_fault = λ fits. b.no_fault (omega (arith, fits, a.room, length-append first second)) ∙ a.no_fault (omega (arith, fits, length-append first second));
+    no_fault = b.no_fault ∙ a.no_fault;
     room = omega (arith, a.room, b.room, length-append first second);
     lent = b.lent ∙ a.lent;
     passed = omega (arith, a.passed, b.passed);
@@ -22,8 +21,8 @@ module _ {S : Type 0} {g : Sink.Ghosts S} where
   pub written_cut : {old mid new : S} {first second : List ℕ} → IsWritten g first old mid → IsCutShort g second mid new → IsCutShort g (first ++ second) old new
   written_cut {old} {mid} {new} {first} {second} a b = record {
     written = known_then_part (g.written old) (g.written mid) (g.written new) first second a.written b.written;
-    fault = omega (arith, a.faults, b.fault);
-    faults = omega (arith, a.faults, b.faults);
+    fault = omega (arith, a.no_fault, b.fault);
+    faults = omega (arith, a.no_fault, b.faults);
     room = omega (arith, a.room, b.room, length-append first second);
     lent = b.lent ∙ a.lent;
     passed = omega (arith, a.passed, b.passed);

@@ -28,8 +28,7 @@ module _ {S : Type 0} (g : Sink.Ghosts S) where
     pub sent : List ℕ
     pub split : sent ++ waiting new ≡ waiting old ++ text
     pub written : g.written new.sink.now ≡ append_known (g.written old.sink.now) sent
-    pub faults : g.faults old.sink.now ≤ g.faults new.sink.now
-    pub no_fault : left old + length text ≤ g.room old.sink.now → g.faults new.sink.now ≡ g.faults old.sink.now
+    pub no_fault : g.faults new.sink.now ≡ g.faults old.sink.now
     pub room : g.room old.sink.now + left new ≤ g.room new.sink.now + left old + length text
     pub lent : g.lent new.sink.now ≡ g.lent old.sink.now
     pub passed : g.passed old.sink.now ≤ g.passed new.sink.now

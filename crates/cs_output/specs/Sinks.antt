@@ -19,10 +19,6 @@ module _ {S : Type 0} where
   abbrev pub HasRoom : (S → ℕ) → S → List ℕ → Type 0
   HasRoom room old lines = length lines ≤ room old
 
-  -- where it had room, it met no fault
-  abbrev pub IsCalm : (S → ℕ) → (S → ℕ) → S → S → List ℕ → Type 0
-  IsCalm room faults old new lines = HasRoom room old lines → faults new ≡ faults old
-
   -- its room fell by no more than their length
   abbrev pub LeavesRoom : (S → ℕ) → S → S → List ℕ → Type 0
   LeavesRoom room old new lines = room old ≤ room new + length lines
@@ -32,8 +28,7 @@ module _ {S : Type 0} (g : Sink.Ghosts S) where
   -- the lines were taken whole
   pub record IsWritten (lines : List ℕ) (old new : S) : Type 0 where
     pub written : Took g.written old new lines
-    pub faults : g.faults old ≤ g.faults new
-    pub no_fault : IsCalm g.room g.faults old new lines
+    pub no_fault : g.faults new ≡ g.faults old
     pub room : LeavesRoom g.room old new lines
     pub lent : g.lent new ≡ g.lent old
     pub passed : g.passed old ≤ g.passed new

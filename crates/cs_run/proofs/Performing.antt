@@ -62,8 +62,9 @@ module _ (A : Type 0) (value : A) (file : File) (name : List ℕ) (desk : DeskUs
   rules_ended : (ending : Ending) → Ends ending (Ok (ForRules name)) desk out → Performs ending (Ok (ForRules name)) desk out
   rules_ended ending ends = record { ends = ends; failed = no_failure A value desk calm ending; steady = steady; room = rules_room }
 
-  pub rules_written : GrewByOne (IsManifest rules_form file) out.written.before out.written.after → Performs Written (Ok (ForRules name)) desk out
-  rules_written grew = rules_ended Written (grew.0, asked_rules grew.0 grew.1, grew.2)
+  pub rules_written : GrewByOne (IsManifest rules_form file) out.written.before out.written.after → out.faults.after ≡ out.faults.before
+      → Performs Written (Ok (ForRules name)) desk out
+  rules_written grew no_fault = rules_ended Written ((grew.0, asked_rules grew.0 grew.1, grew.2), no_fault)
 
   rules_failed : GrewByPart (IsManifest rules_form file) out.written.before out.written.after → HasFailed out.faults → Performs NotWritten (Ok (ForRules name)) desk out
   rules_failed part rose = rules_ended NotWritten ((file_more desk.files name read (λ bytes of. (file, of)), rules_part part), rose)
@@ -86,8 +87,8 @@ module _ (seed : ℕ) (out : SinkUse) (room : HasRoomForAll (IsSummary seed) out
   summary_ended ending desk still ends =
       record { ends = ends; failed = λ changed. absurd (changed still); steady = λ is. still; room = λ fits. room (λ text is. fits text is) }
 
-  pub summary_written : GrewByOne (IsSummary seed) out.written.before out.written.after → PerformsGen seed Written out
-  summary_written grew desk still = summary_ended Written desk still (grew.0, grew.1, grew.2)
+  pub summary_written : GrewByOne (IsSummary seed) out.written.before out.written.after → out.faults.after ≡ out.faults.before → PerformsGen seed Written out
+  summary_written grew no_fault desk still = summary_ended Written desk still ((grew.0, grew.1, grew.2), no_fault)
 
   pub summary_halted : (ending : Ending) (why : Halt) → ending ≡ ending_at why → GrewByPart (IsSummary seed) out.written.before out.written.after
       → (why ≡ halt.Failed → HasFailed out.faults) → PerformsGen seed ending out
@@ -113,15 +114,13 @@ module _ (A : Type 0) (value : A) (pair : Pair) (name other : List ℕ) (options
       → Performs ending (Ok (ForSuite name other options)) desk out
   suite_ended ending ends room = record { ends = ends; failed = no_failure A value desk calm ending; steady = steady; room = room }
 
-  pub suite_states : HasManyStates pair.lex → IsFile pair.yacc → IsUnused out → out.faults.after ≡ out.faults.before
-      → Performs (Refused States) (Ok (ForSuite name other options)) desk out
-  suite_states many named unused same =
+  pub suite_states : HasManyStates pair.lex → IsFile pair.yacc → IsUnused out → Performs (Refused States) (Ok (ForSuite name other options)) desk out
+  suite_states many named unused =
       suite_ended (Refused States)
-      (files_more desk.files name other read (λ bytes more of. (pair.yacc, pair.lex, of, named, many)), unused) (λ fits. same)
+      (files_more desk.files name other read (λ bytes more of. (pair.yacc, pair.lex, of, named, many)), unused) (λ fits. unused.1)
 
-  pub suite_no_memory : IsUnused out → out.faults.after ≡ out.faults.before
-      → Performs NoMemory (Ok (ForSuite name other options)) desk out
-  suite_no_memory unused same = suite_ended NoMemory (inl unused) (λ fits. same)
+  suite_no_memory : IsUnused out → Performs NoMemory (Ok (ForSuite name other options)) desk out
+  suite_no_memory unused = suite_ended NoMemory (inl unused) (λ fits. unused.1)
 
   module _ (fits : IsFile pair.yacc) (few : ¬ HasManyStates pair.lex)
       (room : HasRoomForAll (IsManifest (choice_of pair.lex options) pair.yacc) out.room → out.faults.after ≡ out.faults.before) where
@@ -131,9 +130,9 @@ module _ (A : Type 0) (value : A) (pair : Pair) (name other : List ℕ) (options
     suite_room : HasRoomFor out.room (Ok (ForSuite name other options)) desk.files → out.faults.after ≡ out.faults.before
     suite_room holds = room (λ text is. holds text (asked_suite few text is))
 
-    pub suite_written : GrewByOne (IsManifest (choice_of pair.lex options) pair.yacc) out.written.before out.written.after
+    pub suite_written : GrewByOne (IsManifest (choice_of pair.lex options) pair.yacc) out.written.before out.written.after → out.faults.after ≡ out.faults.before
         → Performs Written (Ok (ForSuite name other options)) desk out
-    suite_written grew = suite_ended Written (grew.0, asked_suite few grew.0 grew.1, grew.2) suite_room
+    suite_written grew no_fault = suite_ended Written ((grew.0, asked_suite few grew.0 grew.1, grew.2), no_fault) suite_room
 
     pub suite_failed : GrewByPart (IsManifest (choice_of pair.lex options) pair.yacc) out.written.before out.written.after → HasFailed out.faults
         → Performs NotWritten (Ok (ForSuite name other options)) desk out
@@ -146,8 +145,8 @@ module _ (A : Type 0) (value : A) (pair : Pair) (name other : List ℕ) (options
   -- memory ran out before anything was written, or behind a part of it
   pub suite_out_of_memory : IsFile pair.yacc → (HasRoomForAll (IsManifest (choice_of pair.lex options) pair.yacc) out.room → out.faults.after ≡ out.faults.before)
       → GrewByPart (IsManifest (choice_of pair.lex options) pair.yacc) out.written.before out.written.after
-      → (IsUnused out × (out.faults.after ≡ out.faults.before)) ⊎ (¬ HasManyStates pair.lex) → Performs NoMemory (Ok (ForSuite name other options)) desk out
-  suite_out_of_memory named room part (inl same) = suite_no_memory same.0 same.1
+      → IsUnused out ⊎ (¬ HasManyStates pair.lex) → Performs NoMemory (Ok (ForSuite name other options)) desk out
+  suite_out_of_memory named room part (inl unused) = suite_no_memory unused
   suite_out_of_memory named room part (inr few) = suite_memory named few room part
 
 -- what is equal before and after a call is so by each meaning of a sink

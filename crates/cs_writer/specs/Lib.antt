@@ -1,4 +1,3 @@
 pub mod Suite
-pub mod Outputs
 pub mod Refusals
 pub mod Summary

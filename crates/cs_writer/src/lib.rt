@@ -6,8 +6,8 @@
 //! [`SuiteHalt`] that it took a prefix of it. [`write_summary`] makes the files of a number and their manifest, and writes one
 //! line that tells of both.
 //!
-//! Meaning: `specs/Suite` (the manifest of a pair of files), `Outputs` (what a writer did to its output), `Refusals` (why the
-//! writing stopped). Working words: `Summary`.
+//! Meaning: `specs/Suite` (the manifest of a pair of files), `Refusals` (why the writing stopped); what a writer did to its
+//! output is said in the words of `Writing` of `cs_writing`. Working words: `Summary`.
 #![tactic(auto)]
 
 mod halt;

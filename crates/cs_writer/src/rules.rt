@@ -2,11 +2,9 @@
 
 ghost use Rattle.std.specs.Prelude.{◌≡◌, OnErr, OnOk};
 ghost use Rattle.cs_grammar.specs.Weights.{nodes};
-ghost use Rattle.cs_io.specs.Faults.{Rose};
-ghost use Rattle.cs_writer.specs.Outputs.{IsCalm, TookOne, TookPart};
 ghost use Rattle.cs_writer.specs.Suite.{IsRules};
 ghost use Rattle.cs_writing.specs.declared.halt.Halt.TheVariants.{Failed};
-ghost use Rattle.cs_writing.specs.Writing.{Stopped};
+ghost use Rattle.cs_writing.specs.Writing.{IsCalmForAll, MetFault, MetNone, Stopped, TookFront, TookOne};
 
 use cs_cost::Costs;
 use cs_embed::Embeds;
@@ -37,10 +35,11 @@ pub fn write_rules<R: Threads + Sync, O: Sink, G: Gate + Sync>(
     out: &mut O,
     gate: &G,
 ) -> Result<(), Halt>
-    ensures ok { OnOk result (TookOne O.Sink out.old out.new (IsRules file.now)) }
-    ensures part { OnErr result (TookPart O.Sink out.old out.new (IsRules file.now)) }
-    ensures failed { Stopped Failed result → Rose (O.faults out.old) (O.faults out.new) }
-    ensures room { IsCalm O.Sink out.old out.new (IsRules file.now) }
+    ensures ok { OnOk result (TookOne O.Sink (IsRules file.now) out.old out.new) }
+    ensures part { OnErr result (TookFront O.Sink (IsRules file.now) out.old out.new) }
+    ensures no_fault { OnOk result (MetNone O.Sink out.old out.new) }
+    ensures failed { Stopped Failed result → MetFault O.Sink out.old out.new }
+    ensures room { IsCalmForAll O.Sink (IsRules file.now) out.old out.new }
 {
     let weights = Weights::nodes(alloc, file.grammar().tokens())?;
     write_rule_goals(rt, alloc, file, &weights, out, gate)
@@ -56,10 +55,11 @@ fn write_rule_goals<'f, R: Threads + Sync, O: Sink, G: Gate + Sync>(
     gate: &G,
 ) -> Result<(), Halt>
     requires { weights.now ≡ nodes file.now.grammar.tokens }
-    ensures ok { OnOk result (TookOne O.Sink out.old out.new (IsRules file.now)) }
-    ensures part { OnErr result (TookPart O.Sink out.old out.new (IsRules file.now)) }
-    ensures failed { Stopped Failed result → Rose (O.faults out.old) (O.faults out.new) }
-    ensures room { IsCalm O.Sink out.old out.new (IsRules file.now) }
+    ensures ok { OnOk result (TookOne O.Sink (IsRules file.now) out.old out.new) }
+    ensures part { OnErr result (TookFront O.Sink (IsRules file.now) out.old out.new) }
+    ensures no_fault { OnOk result (MetNone O.Sink out.old out.new) }
+    ensures failed { Stopped Failed result → MetFault O.Sink out.old out.new }
+    ensures room { IsCalmForAll O.Sink (IsRules file.now) out.old out.new }
 {
     let costs = Costs::new(alloc, file.grammar(), weights)?;
     let embeds = Embeds::new(alloc, &costs)?;

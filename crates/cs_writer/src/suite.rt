@@ -2,16 +2,14 @@
 
 ghost use Rattle.std.specs.Prelude.{◌≡◌, ◌⊎◌, IfOk, OnErr, OnOk, Some};
 ghost use Rattle.cs_input.specs.Refusal.{HasManyStates};
-ghost use Rattle.cs_io.specs.Faults.{Rose};
 ghost use Rattle.cs_manifest.specs.declared.format.Format.TheVariants.{One};
 ghost use Rattle.cs_plan.specs.Plans.{CanRender};
 ghost use Rattle.cs_writer.specs.declared.halt.SuiteHalt.TheVariants.{Failed, Memory, States};
-ghost use Rattle.cs_writer.specs.Outputs.{IsCalm, TookOne, TookPart};
 ghost use Rattle.cs_writer.specs.Refusals.{Stopped};
 ghost use Rattle.cs_writer.specs.Suite.{HasSetsBy, IsBy, IsSuite, measure_by};
 ghost use Rattle.cs_writing.specs.declared.halt.Halt.TheVariants as halt;
 ghost use Rattle.cs_writing.specs.Writing as writing;
-ghost use Rattle.cs_writing.specs.Writing.{CountsOfAll, HasNoCases, MetFault};
+ghost use Rattle.cs_writing.specs.Writing.{CountsOfAll, HasNoCases, IsCalmForAll, MetFault, MetNone, TookFront, TookOne};
 ghost use Rattle.cs_yacc.specs.File.{IsFile};
 
 use crate::halt::SuiteHalt;
@@ -44,11 +42,12 @@ pub fn write_suite<R: Threads + Sync, O: Sink, G: Gate + Sync>(
     out: &mut O,
     gate: &G,
 ) -> Result<Counts, SuiteHalt>
-    ensures ok { OnOk result (TookOne O.Sink out.old out.new (IsSuite pair options)) }
+    ensures ok { OnOk result (TookOne O.Sink (IsSuite pair options) out.old out.new) }
     ensures counts { IfOk result (CountsOfAll (IsSuite pair options)) }
     ensures first { options.format ≡ One → IfOk result HasNoCases }
-    ensures part { OnErr result (TookPart O.Sink out.old out.new (IsSuite pair options)) }
-    ensures failed { Stopped Failed result → Rose (O.faults out.old) (O.faults out.new) }
+    ensures part { OnErr result (TookFront O.Sink (IsSuite pair options) out.old out.new) }
+    ensures no_fault { OnOk result (MetNone O.Sink out.old out.new) }
+    ensures failed { Stopped Failed result → MetFault O.Sink out.old out.new }
 
     // Too many states.
     ensures states { Stopped States result → HasManyStates pair.lex }
@@ -59,7 +58,7 @@ pub fn write_suite<R: Threads + Sync, O: Sink, G: Gate + Sync>(
         → (out.new ≡ out.old) ⊎ ¬ HasManyStates pair.lex }
     ensures named { IsFile pair.yacc }
 
-    ensures room { IsCalm O.Sink out.old out.new (IsSuite pair options) }
+    ensures room { IsCalmForAll O.Sink (IsSuite pair options) out.old out.new }
 {
     let Pair { yacc, lex } = pair;
     let automaton = Automaton::new(alloc, lex.patterns())?;
@@ -93,13 +92,14 @@ fn write_goals<'f, R: Threads + Sync, O: Sink, G: Gate + Sync>(
     requires weights { weights.now ≡ measure_by options.now file.now work.now }
     requires work { CanRender file.now (Some work) }
     ensures ok { OnOk result
-        (TookOne O.Sink out.old out.new (IsBy work.now file.now options.now)) }
+        (TookOne O.Sink (IsBy work.now file.now options.now) out.old out.new) }
     ensures counts { IfOk result (CountsOfAll (IsBy work.now file.now options.now)) }
     ensures first { options.now.format ≡ One → IfOk result HasNoCases }
     ensures part { OnErr result
-        (TookPart O.Sink out.old out.new (IsBy work.now file.now options.now)) }
+        (TookFront O.Sink (IsBy work.now file.now options.now) out.old out.new) }
+    ensures no_fault { OnOk result (MetNone O.Sink out.old out.new) }
     ensures failed { writing.Stopped halt.Failed result → MetFault O.Sink out.old out.new }
-    ensures room { IsCalm O.Sink out.old out.new (IsBy work.now file.now options.now) }
+    ensures room { IsCalmForAll O.Sink (IsBy work.now file.now options.now) out.old out.new }
 {
     let tables = Tables::new(alloc, file.grammar(), weights)?;
     let closed = closed_sets(alloc, options.format, &tables)?;

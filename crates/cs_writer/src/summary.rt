@@ -3,12 +3,11 @@
 ghost use Rattle.std.specs.Prelude.{IfOk, OnErr, OnOk, string_bytes};
 ghost use Rattle.cs_ending.specs.Summary.{IsSummary, summary_options};
 ghost use Rattle.cs_input.specs.Refusal.{HasManyStates};
-ghost use Rattle.cs_io.specs.Faults.{Rose};
-ghost use Rattle.cs_writer.specs.Outputs.{IsCalm, TookOne, TookPart};
 ghost use Rattle.cs_writer.specs.Suite.{IsSuite};
 ghost use Rattle.cs_writer.specs.Summary.{AreShort, HasSuite, HasNumberMore, IsLineOf, IsOnlySummary};
 ghost use Rattle.cs_writing.specs.declared.halt.Halt.TheVariants.{Failed};
-ghost use Rattle.cs_writing.specs.Writing.{CountsOfAll, HasNoCases, Stopped};
+ghost use Rattle.cs_writing.specs.Writing.{CountsOfAll, HasNoCases, IsCalmForAll, MetFault, MetNone};
+ghost use Rattle.cs_writing.specs.Writing.{Stopped, TookFront, TookOne};
 
 use crate::halt::SuiteHalt;
 use crate::suite::write_suite;
@@ -31,10 +30,11 @@ pub fn write_summary<R: Threads + Sync, O: Sink, G: Gate + Sync>(
     out: &mut O,
     gate: &G,
 ) -> Result<(), Halt>
-    ensures ok { OnOk result (TookOne O.Sink out.old out.new (IsSummary seed)) }
-    ensures part { OnErr result (TookPart O.Sink out.old out.new (IsSummary seed)) }
-    ensures failed { Stopped Failed result → Rose (O.faults out.old) (O.faults out.new) }
-    ensures room { IsCalm O.Sink out.old out.new (IsSummary seed) }
+    ensures ok { OnOk result (TookOne O.Sink (IsSummary seed) out.old out.new) }
+    ensures part { OnErr result (TookFront O.Sink (IsSummary seed) out.old out.new) }
+    ensures no_fault { OnOk result (MetNone O.Sink out.old out.new) }
+    ensures failed { Stopped Failed result → MetFault O.Sink out.old out.new }
+    ensures room { IsCalmForAll O.Sink (IsSummary seed) out.old out.new }
 {
     let line = summary(rt, alloc, seed, gate)?;
     write_all(out, line.as_bytes())?;

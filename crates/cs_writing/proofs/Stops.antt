@@ -15,8 +15,8 @@ module _ {S : Type 0} {g : Sink.Ghosts S} where
     written = known_part (g.written old) (g.written new) lines more
         (record { count = length lines; grew = a.written ∙ ap (λ (l : List ℕ). append_known (g.written old) l) (sym (take-length lines)) });
     failed = λ e. absurd cc;
-    faults = a.faults;
-    no_fault = λ fits. a.no_fault (omega (arith, fits, length-append lines more));
+    faults = omega (arith, a.no_fault);
+    no_fault = λ fits. a.no_fault;
     lent = a.lent;
     passed = a.passed;
   }
@@ -46,9 +46,9 @@ module _ {S : Type 0} {g : Sink.Ghosts S} where
   pub stopped_behind : {old mid new : S} {first second : List ℕ} {halt : Halt} → IsWritten g first old mid → IsStopped g second mid new halt → IsStopped g (first ++ second) old new halt
   stopped_behind {old} {mid} {new} {first} {second} a b = record {
     written = known_then_part (g.written old) (g.written mid) (g.written new) first second a.written b.written;
-    failed = λ e. omega (arith, a.faults, b.failed e);
-    faults = omega (arith, a.faults, b.faults);
-    no_fault = λ fits. b.no_fault (omega (arith, fits, a.room, length-append first second)) ∙ a.no_fault (omega (arith, fits, length-append first second));
+    failed = λ e. omega (arith, a.no_fault, b.failed e);
+    faults = omega (arith, a.no_fault, b.faults);
+    no_fault = λ fits. b.no_fault (omega (arith, fits, a.room, length-append first second)) ∙ a.no_fault;
     lent = b.lent ∙ a.lent;
     passed = omega (arith, a.passed, b.passed);
   }

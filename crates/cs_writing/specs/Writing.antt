@@ -33,9 +33,13 @@ module _ {S : Type 0} (g : Sink.Ghosts S) where
   abbrev pub TookFront : (List ℕ → Type 0) → S → S → Type 0
   TookFront Is old new = GrewByPart Is (g.written old) (g.written new)
 
+  -- it met no fault
+  abbrev pub MetNone : S → S → Type 0
+  MetNone old new = g.faults new ≡ g.faults old
+
   -- where it had room for each such text, it met no fault
   abbrev pub IsCalmForAll : (List ℕ → Type 0) → S → S → Type 0
-  IsCalmForAll Is old new = HasRoomForAll Is (g.room old) → g.faults new ≡ g.faults old
+  IsCalmForAll Is old new = HasRoomForAll Is (g.room old) → MetNone old new
 
   -- its faults rose
   abbrev pub MetFault : S → S → Type 0

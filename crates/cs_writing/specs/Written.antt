@@ -8,7 +8,7 @@ use Rattle.cs_io.specs.Faults.{Rose, greatest}
 use Rattle.cs_io.specs.declared.sink.Sink as Sink
 use Rattle.cs_io.specs.declared.sink.SinkError.{SinkError}
 use Rattle.cs_output.specs.Putting.{shown}
-use Rattle.cs_output.specs.Sinks.{IsCalm, IsWritten, TookPart, Writes}
+use Rattle.cs_output.specs.Sinks.{HasRoom, IsWritten, TookPart, Writes}
 use Rattle.cs_output.specs.Words.{numbered_from}
 use Rattle.cs_manifest.specs.declared.counts.Counts.{Counts}
 use Rattle.cs_manifest.specs.declared.format.Format.{Format}
@@ -168,7 +168,7 @@ module _ {S : Type 0} (g : Sink.Ghosts S) where
     pub written : TookPart g.written old new lines
     pub failed : halt ≡ Failed → Rose (g.faults old) (g.faults new)
     pub faults : g.faults old ≤ g.faults new
-    pub no_fault : IsCalm g.room g.faults old new lines
+    pub no_fault : HasRoom g.room old lines → g.faults new ≡ g.faults old
     pub lent : g.lent new ≡ g.lent old
     pub passed : g.passed old ≤ g.passed new
 

@@ -7,7 +7,7 @@ ghost use Rattle.cs_writing.specs.declared.halt.Halt.TheVariants.{Failed};
 ghost use Rattle.cs_plan.specs.Plans.{IsOfPlan, IsPlan, IsPlanned};
 ghost use Rattle.cs_plan.specs.Made.{IsNamedGoalEntry};
 ghost use Rattle.cs_writing.specs.Writing.{CountsOfAll, HasNoCases, IsCalmForAll, LentCalm, LentOne, LentPart};
-ghost use Rattle.cs_writing.specs.Writing.{MetFault, Stopped, TookFront, TookOne};
+ghost use Rattle.cs_writing.specs.Writing.{MetFault, MetNone, Stopped, TookFront, TookOne};
 ghost use Rattle.cs_writing.specs.Written.{HasNumbers, IsGoalsText, IsReady, PutsBatch, PutsOne, TellsBatch};
 ghost use Rattle.cs_writing.specs.Written.{TellsGoals};
 
@@ -46,6 +46,7 @@ pub fn write_out<R: Threads + Sync, O: Sink, G: Gate + Sync>(
     ensures first { plan.now.closed ≡ None → IfOk result HasNoCases }
     ensures part { OnErr result
         (TookFront O.Sink (IsPlanned plan.now) out.old out.new) }
+    ensures no_fault { OnOk result (MetNone O.Sink out.old out.new) }
     ensures failed { Stopped Failed result → MetFault O.Sink out.old out.new }
     ensures room { IsCalmForAll O.Sink (IsPlanned plan.now) out.old out.new }
 {
@@ -75,6 +76,8 @@ fn write_through<R: Threads + Sync, O: Sink, G: Gate + Sync>(
     ensures first { plan.now.closed ≡ None → IfOk result HasNoCases }
     ensures part { OnErr result
         (LentPart O.Sink (IsPlanned plan.now) sink.old sink.new) }
+    ensures no_fault { OnOk result
+        (MetNone O.Sink (lent_sink sink.old) (lent_sink sink.new)) }
     ensures failed { Stopped Failed result
         → MetFault O.Sink (lent_sink sink.old) (lent_sink sink.new) }
     ensures room { LentCalm O.Sink (IsPlanned plan.now) sink.old sink.new }

@@ -42,7 +42,7 @@ editable g c =
 first : (g : Over) (c : In_ok-entry g) → IsWritten g.S.Sink (base_line (c.loop-index.index + 1) c.get-goal.result.0) c.loop-index.sink c.entry.new.sink
 first g c =
     let e = c.in_ok-entry.ensures in
-    is_written g.S.Sink (base_line (c.loop-index.index + 1) c.get-goal.result.0) c.loop-index.sink c.entry.new.sink e.ok e.faults_never_fall e.no_fault e.room e.same_lent e.passed_never_falls
+    is_written g.S.Sink (base_line (c.loop-index.index + 1) c.get-goal.result.0) c.loop-index.sink c.entry.new.sink e.ok e.no_fault e.room e.same_lent e.passed_never_falls
 
 file_is : (g : Over) (c : In_ok-entry g) → c.entry.new.self.file ≡ c.args.plan.now.yacc.now
 file_is g c = ap (λ (q : Progress). q.file) c.in_ok-entry.ensures.value ∙ c.loop-index.invariant.file ∙ c.requires.file

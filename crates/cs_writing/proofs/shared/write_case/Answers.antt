@@ -48,5 +48,5 @@ returns-in_ok-entry-in-Some-clause-lines g c =
     let e = c.in_ok-entry-in-Some.ensures in
     let file = c.args.manifest.now.file in
     let lines = lines_of file c.in-Some.case in
-    let written = is_written g.S.Sink lines c.args.sink.now c.entry.new.sink e.ok e.faults_never_fall e.no_fault e.room e.same_lent e.passed_never_falls in
+    let written = is_written g.S.Sink lines c.args.sink.now c.entry.new.sink e.ok e.no_fault e.room e.same_lent e.passed_never_falls in
     subst (λ (l : List ℕ). IsWritten g.S.Sink l c.args.sink.now c.entry.new.sink) (c.in-Some.ensures.lines file) written

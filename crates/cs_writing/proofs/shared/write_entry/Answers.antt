@@ -55,5 +55,5 @@ returns-clause-lines g c =
     let made = c.args.made.now in
     let line = lines_of now c.goal.result in
     let is = line_is now c.args.manifest.now.file (λ (f : File). shared_goal_line f c.args.number made.entry.goal made.verdict) line c.in_ok-write_case.ensures.file (c.goal.ensures.lines now) in
-    let written = is_written g.S.Sink line c.write_case.new.sink c.entry.new.sink e.ok e.faults_never_fall e.no_fault e.room e.same_lent e.passed_never_falls in
+    let written = is_written g.S.Sink line c.write_case.new.sink c.entry.new.sink e.ok e.no_fault e.room e.same_lent e.passed_never_falls in
     written_then c.in_ok-write_case.ensures.lines (subst (λ (l : List ℕ). IsWritten g.S.Sink l c.write_case.new.sink c.entry.new.sink) is written)

@@ -60,7 +60,7 @@ loop-made-preserved g c =
     let counts = c.loop-made.manifest.counts in
     let old = c.loop-made.sink in
     let new = c.entry-in-loop-made.new.sink in
-    let written = is_written g.S.Sink lines old new e.ok e.faults_never_fall e.no_fault e.room e.same_lent e.passed_never_falls in
+    let written = is_written g.S.Sink lines old new e.ok e.no_fault e.room e.same_lent e.passed_never_falls in
     let one = ap (λ (p : Progress). p.counts) e.value ∙ ap (λ (k : Counts). with_lines k lines) (c.entry.ensures.counts counts) ∙ ap (λ (l : List ℕ). with_lines (with_verdict counts made.verdict) l) is in
     record {
       file = ap (λ (p : Progress). p.file) e.value ∙ c.loop-made.invariant.file;

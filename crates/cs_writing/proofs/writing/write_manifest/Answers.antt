@@ -33,7 +33,7 @@ first g c =
     let is = c.head.ensures in
     let e = c.in_ok-manifest.ensures in
     head_written plan c.args.positives.tables c.one_text.ensures c.requires.plan weighs h is.file is.lexemes is.sharing c.args.sink.now c.begin.new.sink
-    (is_written g.S.Sink (head_of h) c.args.sink.now c.begin.new.sink e.ok e.faults_never_fall e.no_fault e.room e.same_lent e.passed_never_falls)
+    (is_written g.S.Sink (head_of h) c.args.sink.now c.begin.new.sink e.ok e.no_fault e.room e.same_lent e.passed_never_falls)
 
 -- nothing else was counted
 fresh : (g : Over) (c : In_ok-manifest g) → IsFresh c.args.plan.now c.in_ok-manifest.manifest.counts
@@ -134,7 +134,7 @@ returns-clause-text g c =
     let of = c.args.positives.tables in
     let one = c.one_text.ensures in
     let weighs = weighed_as plan c.args.positives c.requires.grammar in
-    let end = is_written g.S.Sink (end_of c.write_bases.new.manifest.counts) c.write_bases.new.sink c.finish.new.sink f.ok f.faults_never_fall f.no_fault f.room f.same_lent f.passed_never_falls in
+    let end = is_written g.S.Sink (end_of c.write_bases.new.manifest.counts) c.write_bases.new.sink c.finish.new.sink f.ok f.no_fault f.room f.same_lent f.passed_never_falls in
     whole_text plan of one c.requires.plan weighs c.in_ok-manifest.manifest.counts c.write_goals.new.manifest.counts c.write_bases.new.manifest.counts c.begin.new.sink c.write_goals.new.sink c.write_bases.new.sink
     c.in_ok-bases.bases (fresh g at.In_ok-manifest) (bytes g at.In_ok-manifest) (goals_of g at.In_ok-bases) (mutants g at.In_ok-write_bases) c.args.sink.now c.finish.new.sink (first g at.In_ok-manifest) end
 
