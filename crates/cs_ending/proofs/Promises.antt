@@ -1,7 +1,5 @@
 -- From how the words were done to what a run promises.
-use Rattle.std.specs.Io.KnownBytes.{append_known}
-use Rattle.std.proofs.lemmas.Grind.{common_steps}
-use Rattle.std.proofs.Common.{[], take, ◌≡◌, ◌⊎◌, ◌<◌, ◌≤◌, ℕ, List, None, Some, Ok, Err, IsErr, IsOkAnd, Option, Result, ap, sym, ◌∙◌, subst, inl, inr, refl, arith, rules}
+use Rattle.std.proofs.Common.{◌≡◌, ◌⊎◌, ◌<◌, ◌≤◌, ℕ, Ok, Err, IsErr, IsOkAnd, Result, ap, sym, ◌∙◌, subst, inl, inr, refl, arith, rules}
 use Rattle.std.specs.Prelude.{IsSome}
 use Rattle.cs_io.specs.Faults.{greatest}
 use Rattle.cs_io.specs.Uses.{DeskUse, SinkUse, HasFailed, IsUnused}
