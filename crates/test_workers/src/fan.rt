@@ -130,7 +130,15 @@ fn the_gate_is_entered_before_the_work(rt: HostRuntime) -> Result<(), Fail> {
     let work = Looking { entered: &entered };
     let gate = Entering { entered: &entered };
     let (counter, mut seat) = Counter::new(rt.alloc(), 4, 1)?;
-    let answers = fan(&rt, rt.alloc(), &[7, 7, 7, 7], &work, &gate, &counter, &mut seat)?;
+    let answers = fan(
+        &rt,
+        rt.alloc(),
+        &[7, 7, 7, 7],
+        &work,
+        &gate,
+        &counter,
+        &mut seat,
+    )?;
     assert!(rt; answers.as_slice() == [1, 2, 3, 4].as_slice());
     Ok(())
 }
