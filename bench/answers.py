@@ -14,10 +14,14 @@ import os
 import sys
 import tempfile
 
-from generated import yacc_file
 from grammars import ROWS
 from judging import LIBRARIES, program_text
-from measure import program_of, ran
+from measure import TOP, program_of, ran
+
+sys.dont_write_bytecode = True
+sys.path.insert(0, os.path.join(TOP, "tests"))
+
+from model.generated import yacc_file
 
 HERE = os.path.dirname(os.path.abspath(__file__))
 

@@ -1,0 +1,248 @@
+"""Random small yacc files and lex files, each text with what it means by docs/FORMATS.md."""
+
+from model.manifest import Choice
+from model.scanner import BLANKS, EMPTY, FOREIGN, OWN_BYTE, SKIP, Either, Join, Many, joined, literal, one_of
+from model.trees import Grammar
+
+NAMES = ["NUM", "ID", "X_1", "a.b", "IF"]
+LITERALS = b"+-*()x;,~'\\"
+NONTERMINALS = ["s", "t", "u", "v_2", "w.w", "z"]
+BETWEEN = [" ", " ", " ", "\n", " /* c ; */ ", " // c |\n"]
+SPECIAL = b" \t\r\n\"\\.[()|*+?{^$/<"
+CLASSES = {"digit": range(0x30, 0x3A), "lower": range(0x61, 0x7B), "blank": b" \t", "cntrl": [*range(32), 127]}
+SIGNS = {"*": (0, None), "+": (1, None), "?": (0, 1)}
+REPETITIONS = {**SIGNS, "{2}": (2, 2), "{1,2}": (1, 2), "{0,2}": (0, 2), "{2,}": (2, None)}
+SKIPPING = [";", "", "{ count++; }", "/*@skip*/ return 1;", 'puts("return 1;");']
+ALL = set(range(256))
+OUTSIDE = ["REJECT;", "return 300;", "return UNKNOWN;", "return f(x);", "return 1; return 2;", "/*@token NONE*/"]
+
+
+def in_hexadecimal(some):
+    return "".join(f"\\x{byte:02x}" for byte in some)
+
+
+def escaped(random, byte):
+    """A byte as an escape of C, or as itself where it may stand."""
+    forms = [in_hexadecimal([byte]), f"\\{byte:03o}"]
+    return random.choice(forms if chr(byte) in "'\\" else [*forms, *[chr(byte)] * 4])
+
+
+class YaccFile:
+    """A yacc file that is written item by item; the tokens are noted as they are spelled."""
+
+    def __init__(self, random):
+        self.random, self.parts, self.spelled, self.rules = random, [], [], []
+        names = random.sample(NAMES, random.randint(0, 3))
+        literals = random.sample(LITERALS, random.randint(0 if names else 1, 3))
+        self.tokens = [*names, *map(literal, literals)]
+        self.nonterminals = random.sample(NONTERMINALS, random.randint(1, len(NONTERMINALS)))
+        self.start = self.nonterminals[0]
+        # all bodies of a steep file are three times the next nonterminal, but for the last one's: so trees are large
+        self.steep = random.random() < 0.1
+        self.declarations(names)
+        self.put("%%")
+        self.bodies()
+        if random.random() < 0.3:
+            self.put("%% 'q' NONE")
+
+    def put(self, *items):
+        self.parts += [item + self.random.choice(BETWEEN) for item in items]
+
+    def put_symbol(self, symbol):
+        if symbol in self.tokens and symbol not in self.spelled:
+            self.spelled.append(symbol)
+        self.put(f"'{escaped(self.random, ord(symbol[1]))}'" if symbol[0] == "'" else symbol)
+
+    def declarations(self, names):
+        begins = ["%{ int x; %}", "%union { int n; }", "%expect 2", "%type <n> s"]
+        for item in self.random.sample(begins, self.random.randint(0, len(begins))):
+            self.put(item)
+        for name in names:
+            self.put(self.random.choice(["%token", "%token <n>", "%nonassoc", "%precedence"]))
+            self.put_symbol(name)
+        for token in self.random.sample(self.tokens, self.random.randint(0, len(self.tokens))):
+            self.put(self.random.choice(["%left", "%right"]))
+            self.put_symbol(token)
+        if self.random.random() < 0.3:
+            self.start = self.random.choice(self.nonterminals)
+            self.put("%start", self.start)
+
+    def bodies(self):
+        lefts = self.nonterminals + self.random.sample(self.nonterminals, self.random.randint(0, 1))
+        for left in lefts:
+            self.put(left, ":")
+            for place in range(1 if self.steep else self.random.randint(1, 4)):
+                self.put(*["|"] * (place > 0))
+                self.body(left)
+            self.put(*[";"] * self.random.choice([0, 1, 1, 1]))
+
+    def body(self, left):
+        symbols = self.symbols(left)
+        self.put(*["%empty"] * (not symbols and self.random.random() < 0.3))
+        for symbol in symbols:
+            self.put_symbol(symbol)
+            self.put(*["{ if (x) { y = '}'; } }"] * (self.random.random() < 0.1))
+        if self.random.random() < 0.1:
+            self.put("%prec")
+            self.put_symbol(self.random.choice(self.tokens))
+        if self.random.random() < 0.05:
+            self.put("error")
+        else:
+            self.rules.append((left, symbols))
+
+    def symbols(self, left):
+        below = self.nonterminals[self.nonterminals.index(left) + 1 :]
+        if self.steep:
+            return below[:1] * 3 or self.random.choices(self.tokens, k=2)
+        length = self.random.choice([0, 1, 1, 2, 2, 3, 4])
+        return [self.random.choice(self.nonterminals if self.random.random() < 0.45 else self.tokens) for _ in range(length)]
+
+    def text(self):
+        return "".join(self.parts)
+
+    def grammar(self):
+        used = {symbol for _, body in self.rules for symbol in body}
+        return Grammar([token for token in self.spelled if token in used], self.nonterminals, self.rules, self.start)
+
+
+class Patterns:
+    """Random patterns: each call answers a text and the pattern that it spells."""
+
+    def __init__(self, random, bytes_):
+        self.random, self.bytes, self.definitions = random, bytes_, {}
+        for name in ("d", "D_1", "x-y")[: random.randint(0, 3)]:
+            self.definitions[name] = self.pattern(0)
+
+    def pattern(self, depth):
+        return self.several(self.branch, "|", Either, 2, depth)
+
+    def branch(self, depth):
+        return self.several(self.piece, "", Join, 3, depth)
+
+    def several(self, one, between, kind, most, depth):
+        texts, patterns = zip(*(one(depth) for _ in range(self.random.randint(1, most))))
+        return between.join(texts), patterns[0] if len(patterns) == 1 else kind(patterns)
+
+    def piece(self, depth):
+        text, pattern = self.atom(depth)
+        if self.random.random() < 0.75:
+            return text, pattern
+        # within groups nothing is counted: automata stay small
+        sign, (least, most) = self.random.choice([*(REPETITIONS if depth else SIGNS).items()])
+        more = (Many(pattern),) if most is None else (Either((pattern, EMPTY)),) * (most - least)
+        return text + sign, Join((pattern,) * least + more)
+
+    def atom(self, depth):
+        if depth and self.random.random() < 0.3:
+            text, pattern = self.pattern(depth - 1)
+            return f"({text})", pattern
+        if self.definitions and self.random.random() < 0.2:
+            name = self.random.choice([*self.definitions])
+            return f"{{{name}}}", self.definitions[name][1]
+        return self.random.choice([self.byte] * 4 + [self.bracket, self.bracket, self.quoted, self.dot])()
+
+    def byte(self):
+        byte = self.random.choice(self.bytes)
+        return f"\\{byte:03o}" if byte in SPECIAL else escaped(self.random, byte), one_of([byte])
+
+    def quoted(self):
+        some = self.random.choices(self.bytes, k=self.random.randint(0, 2))
+        return f'"{in_hexadecimal(some)}"', joined(some)
+
+    def dot(self):
+        return ".", one_of(ALL - {10})
+
+    def bracket(self):
+        texts, found = [], set()
+        for _ in range(self.random.randint(1, 3)):
+            text, some = self.random.choice([self.member] * 3 + [self.range, self.named])()
+            texts.append(text)
+            found |= set(some)
+        if self.random.random() < 0.2 and len(found) < 256:
+            return f"[^{''.join(texts)}]", one_of(ALL - found)
+        return f"[{''.join(texts)}]", one_of(found)
+
+    def member(self):
+        byte = self.random.choice(self.bytes)
+        return in_hexadecimal([byte]), [byte]
+
+    def range(self):
+        first, last = sorted(self.random.choices(self.bytes, k=2))
+        return f"{in_hexadecimal([first])}-\\{last:03o}", range(first, last + 1)
+
+    def named(self):
+        name = self.random.choice([*CLASSES])
+        return f"[:{name}:]", CLASSES[name]
+
+
+class LexFile:
+    """A lex file beside a yacc file: its text, and its rules as patterns with what they give."""
+
+    def __init__(self, random, tokens):
+        self.random, self.tokens = random, tokens
+        self.literals = [ord(token[1]) for token in tokens if token[0] == "'"]
+        self.patterns = Patterns(random, sorted({*b"ab0+-( \xe9", *self.literals}))
+        definitions = [f"{name} \t{text}\n" for name, (text, _) in self.patterns.definitions.items()]
+        random.shuffle(definitions)
+        self.lines, self.rules = [random.choice(["", "%option noyywrap\n", "%{\nint n;\n%}\n"]), *definitions, "%%\n"], []
+        for token in random.sample(tokens, random.randint(0, len(tokens))):
+            self.own_rule(token)
+        for _ in range(random.randint(1, 4)):
+            self.rule(*self.patterns.pattern(1), *self.action())
+        if random.random() < 0.8:
+            self.rule("[ \\n]+", BLANKS, "", SKIP)
+        if random.random() < 0.5 and self.literals:
+            self.rule(f"[{in_hexadecimal(self.literals)}]", one_of(self.literals), "return yytext[0];", OWN_BYTE)
+
+    def rule(self, text, pattern, action, given):
+        if self.random.random() < 0.1:
+            # another pattern that does the same
+            other, second = self.patterns.pattern(1)
+            self.lines.append(f"{other} |\n")
+            self.rules.append((second, given))
+        self.lines.append(f"{text} {action}\n")
+        self.rules.append((pattern, given))
+
+    def own_rule(self, token):
+        """The token's own word, or its byte, gives it."""
+        word = (token[1] if token[0] == "'" else token).encode()
+        self.rule(f'"{in_hexadecimal(word)}"', joined(word), self.returning(token), token)
+
+    def action(self):
+        kind = self.random.choice(["token"] * 5 + ["own", "skip", "foreign"])
+        if kind == "own":
+            return self.random.choice(["return yytext[0];", "return ( *yytext ) ;"]), OWN_BYTE
+        if kind == "skip":
+            return self.random.choice(SKIPPING), SKIP
+        if kind == "foreign":
+            return self.random.choice(OUTSIDE), FOREIGN
+        token = self.random.choice(self.tokens)
+        return self.returning(token), token
+
+    def returning(self, token):
+        """An action that gives the token."""
+        spelled = f"'{escaped(self.random, ord(token[1]))}'" if token[0] == "'" else token
+        # a name with a dot is no word of C
+        returned = [f"return {spelled};", f"{{ n = 0; return (/* it */ {spelled}); }}"] if "." not in token else []
+        return self.random.choice([*returned, f"/*@token {spelled}*/ yymore();"])
+
+    def text(self):
+        return "".join(self.lines)
+
+
+def options(random):
+    """The words of random options, and the choice that they make."""
+    criteria = random.sample(["rule", "cdrc", "pair"], random.randint(1, 3))
+    operators = random.sample(["delete", "insert", "replace", "swap"], random.randint(0, 4))
+    separator = random.choice([b" ", b" ", b"", b"\n", b"a", b"--", b"\xe9"])
+    bases, weigh, version = random.choice([0, 1, 2, 5, 16]), random.choice(["nodes", "bytes"]), random.choice([1, 2])
+    choice = Choice(criteria, operators, bases, separator, weigh, version)
+    words = [
+        f"--criteria={','.join(criteria)}",
+        f"--mutate={','.join(operators) or 'none'}",
+        f"--bases={bases}",
+        f"--separator={in_hexadecimal(separator)}",
+        f"--weigh={weigh}",
+        f"--format={version}",
+    ]
+    return random.sample(words, len(words)), choice
