@@ -1,6 +1,6 @@
 // Bytes that no class tells apart are one column.
 
-ghost use Rattle.std.specs.Prelude.{◌≡◌, ℕ, ◌*◌, ◌<◌, ◌≤◌, IfOk, length};
+ghost use Rattle.std.specs.Prelude.{◌≡◌, ◌*◌, ◌<◌, ◌≤◌, IfOk, length};
 ghost use Rattle.cs_automaton.specs.Bits.{Puts};
 ghost use Rattle.cs_automaton.specs.Built.{AreColumnsOf};
 ghost use Rattle.cs_automaton.specs.Programs.{values};

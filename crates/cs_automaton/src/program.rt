@@ -1,6 +1,6 @@
 // The steps of each pattern, and the classes of all.
 
-ghost use Rattle.std.specs.Prelude.{◌≡◌, ◌↔◌, ℕ, ◌+◌, ◌≤◌, ◌++◌, ◌∷◌, [], IfOk, map, length};
+ghost use Rattle.std.specs.Prelude.{◌≡◌, ◌+◌, ◌≤◌, IfOk, map, length};
 ghost use Rattle.cs_pattern_tree.specs.Pattern.{regex};
 ghost use Rattle.cs_automaton.specs.Flat.{has_loop};
 ghost use Rattle.cs_automaton.specs.Meaning.{res_of, all_classes};

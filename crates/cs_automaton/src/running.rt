@@ -1,6 +1,6 @@
 // What may come behind a set of places in a rule: a walk to the front of its steps, and one to their end.
 
-ghost use Rattle.std.specs.Prelude.{◌≡◌, ◌≢◌, ◌⊎◌, ℕ, ◌+◌, ◌<◌, ◌≤◌, false, true, ◌++◌, ◌∷◌, [], OnOk, IfOk, length};
+ghost use Rattle.std.specs.Prelude.{◌≡◌, ℕ, ◌+◌, ◌<◌, ◌≤◌, false, true, ◌++◌, ◌∷◌, [], OnOk, IfOk};
 ghost use Rattle.cs_automaton.specs.Bits.{bit, Puts};
 ghost use Rattle.cs_automaton.specs.Runs.{backward_of, ends_in, forward_of, live_on, put_on, FindsEnds, IsWalked};
 ghost use Rattle.cs_automaton.specs.Walks as spec;

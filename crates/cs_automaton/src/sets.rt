@@ -1,6 +1,6 @@
 // Different sets of numbers, found by their words.
 
-ghost use Rattle.std.specs.Prelude.{◌≡◌, ◌⊎◌, ℕ, ◌++◌, ◌∷◌, [], IfOk, Some, slice_get};
+ghost use Rattle.std.specs.Prelude.{◌≡◌, IfOk, Some, slice_get};
 ghost use Rattle.cs_automaton.specs.Sets.{lists, AddsOnce};
 
 use indexmap::IndexSet;

@@ -1,6 +1,6 @@
 // In which rules each nonterminal stands.
 
-ghost use Rattle.std.specs.Prelude.{◌≡◌, OnOk, IfOk, All, length};
+ghost use Rattle.std.specs.Prelude.{OnOk, IfOk, All, length};
 ghost use Rattle.cs_grammar.specs.Grammar.{IsSymbol};
 ghost use Rattle.cs_cost.specs.Users.{HasNoUsers, AddsUser, IsUserTable};
 

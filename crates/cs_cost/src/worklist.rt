@@ -2,7 +2,6 @@
 // generalization of Dijkstra's algorithm").
 
 ghost use Rattle.std.specs.Prelude.{◌≡◌, ◌≤◌, OnOk, IfOk, All, length};
-ghost use Rattle.std.specs.BinaryHeap.{heap_items};
 ghost use Rattle.cs_grammar.specs.Grammar.{IsSymbol};
 ghost use Rattle.cs_cost.specs.declared.cost.Cost.TheVariants.{Never};
 ghost use Rattle.cs_cost.specs.Rank.{IsCapped, entry};

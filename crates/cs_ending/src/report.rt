@@ -1,11 +1,10 @@
 // What a run says at its end.
 
-ghost use Rattle.std.specs.Prelude.{◌≡◌, ◌⊎◌, ℕ, IfOk, Result, string_bytes};
-ghost use Rattle.cs_io.specs.Uses.{DeskUse, IsUnused, SinkUse, sink_use};
+ghost use Rattle.std.specs.Prelude.{◌≡◌, IfOk, Result, string_bytes};
+ghost use Rattle.cs_io.specs.Uses.{IsUnused, sink_use};
 ghost use Rattle.cs_ending.specs.declared.ending.Ending.TheVariants.{Written};
-ghost use Rattle.cs_ending.specs.Ending.{HasLine, IsReported, Performs, Says, line_of, status_of};
-ghost use Rattle.cs_ending.specs.Headline.{KeepsPromises, KeepsWhatPerforms};
-ghost use Rattle.cs_ending.specs.Requests.{Request};
+ghost use Rattle.cs_ending.specs.Ending.{HasLine, IsReported, Says, line_of, status_of};
+ghost use Rattle.cs_ending.specs.Headline.{KeepsWhatPerforms};
 
 use crate::ending::Ending;
 use cs_input::{Role, line as refusal_line};

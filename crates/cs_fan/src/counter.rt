@@ -1,6 +1,5 @@
 //! The counter that workers draw from, and their seats at it.
-ghost use Rattle.std.specs.Prelude.{◌≡◌, ℕ, ◌+◌, ◌-◌, ◌^◌, ◌<◌, ◌≤◌, [], ◌∷◌, ◌++◌, ◌||◌, false, IfOk, IfErr, IfSome, IfNone};
-ghost use Rattle.cs_fan.specs.Rule.{first_view, IsSoundView};
+ghost use Rattle.std.specs.Prelude.{◌≡◌, ◌+◌, ◌-◌, ◌<◌, ◌≤◌, [], ◌∷◌, ◌++◌, ◌||◌, false, IfOk, IfErr, IfSome, IfNone};
 ghost use Rattle.cs_fan.specs.Seats.{IsOf, HasSeenEnd, IsFresh, DrawsEachOnce};
 
 use crate::rule::{Draw, Draws, Look, Part};

@@ -1,8 +1,8 @@
 //! Work on a list of items by several workers, who draw the items' numbers from one counter.
-ghost use Rattle.std.specs.Prelude.{◌≡◌, ℕ, ◌+◌, ◌^◌, ◌<◌, ◌≤◌, [], ◌∷◌, ◌++◌, false, length, map, slice_index, All, IfOk};
+ghost use Rattle.std.specs.Prelude.{◌≡◌, ◌+◌, ◌<◌, length, map, All, IfOk};
 ghost use Rattle.std.specs.List.{AllZip};
 ghost use Rattle.cs_fan.specs.Numbers.{IsEachOnceBelow};
-ghost use Rattle.cs_fan.specs.Seats.{IsOf, HasSeenEnd, IsFresh, DrawsEachOnce};
+ghost use Rattle.cs_fan.specs.Seats.{IsOf, HasSeenEnd, IsFresh};
 ghost use Rattle.cs_fan.specs.Answers.{answer_of, IsReady, Works, ListsInOrder};
 
 use crate::counter::{Counter, Seat};

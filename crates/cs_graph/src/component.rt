@@ -1,7 +1,7 @@
 // The strongly connected components of a graph, by one search over it (the path-based search: Gabow 2000, "Path-based
 // depth-first search for strong and biconnected components").
 
-ghost use Rattle.std.specs.Prelude.{◌≡◌, ◌<◌, ◌≤◌, ◌++◌, ◌∷◌, ℕ, [], All, Some, IfOk, OnOk, Contains, length, map, slice_get};
+ghost use Rattle.std.specs.Prelude.{◌≡◌, ◌<◌, ◌≤◌, [], All, Some, IfOk, OnOk, length, map};
 ghost use Rattle.cs_graph.specs.Graph.{IsGraph, AreComponents};
 ghost use Rattle.cs_graph.specs.Groups as groups;
 ghost use Rattle.cs_graph.specs.Groups.{IsSearchOf, IsSearchAt, IsSearchWith, IsNew, IsOpened, IsStep, IsLook, IsClosed, IsDone, IsJoined, IsRising, AreNumbered, AllLead};

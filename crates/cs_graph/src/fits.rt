@@ -1,6 +1,6 @@
 // Whether a list of successors is a graph.
 
-ghost use Rattle.std.specs.Prelude.{◌<◌, ◌↔◌, IsTrue, All, length};
+ghost use Rattle.std.specs.Prelude.{◌<◌, ◌↔◌, IsTrue, All};
 ghost use Rattle.cs_graph.specs.Graph.{IsGraph};
 
 fn are_below(nodes: &[usize], count: usize) -> bool

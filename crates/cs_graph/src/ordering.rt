@@ -1,8 +1,8 @@
 // An order of the nodes in which each stands behind its successors, by a walk that goes on from each node to its successors
 // first.
 
-ghost use Rattle.std.specs.Prelude.{◌≡◌, ◌<◌, ◌≤◌, ℕ, [], IsTrue, false, IfOk, OnOk, MatchOption, length};
-ghost use Rattle.cs_graph.specs.Graph.{IsGraph, HasCycle, IsOrder, IsOrderOrCycle};
+ghost use Rattle.std.specs.Prelude.{◌≡◌, ◌<◌, [], IsTrue, false, IfOk, length};
+ghost use Rattle.cs_graph.specs.Graph.{IsGraph, HasCycle, IsOrderOrCycle};
 ghost use Rattle.cs_graph.specs.Marks.{IsMarked};
 ghost use Rattle.cs_graph.specs.Walk.{IsWalkOf, IsWalkWith, IsStep, IsEnd};
 

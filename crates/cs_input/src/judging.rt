@@ -1,6 +1,6 @@
 // What bytes mean that were read.
 
-ghost use Rattle.std.specs.Prelude.{◌≡◌, ◌≤◌, ◌<◌, IfErr, IfOk, Ok, length, Err};
+ghost use Rattle.std.specs.Prelude.{◌≡◌, ◌<◌, IfErr, IfOk, Ok, length, Err};
 ghost use Rattle.cs_bytes.specs.Limits.{most_bytes};
 ghost use Rattle.cs_lex.specs.File.{HasTokensOf};
 ghost use Rattle.cs_input.specs.Files.{IsGrammarOf, IsPairOf, IsShort};

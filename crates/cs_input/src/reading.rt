@@ -1,7 +1,6 @@
 // Reads the files that a command names.
 
 ghost use Rattle.std.specs.Prelude.{◌≡◌, ◌+◌, IfErr, IfOk, IsTrue, length};
-ghost use Rattle.cs_io.specs.Uses.{desk_use};
 ghost use Rattle.cs_lex.specs.File.{HasTokensOf};
 ghost use Rattle.cs_input.specs.Files.{FileIs, IsGrammarOf, IsNoFile};
 ghost use Rattle.cs_input.specs.Refusal.{CanBeTold, FileStops, GrammarStops, PairStops};

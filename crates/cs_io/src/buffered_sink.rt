@@ -1,7 +1,6 @@
-ghost use Rattle.std.specs.Prelude.{◌≡◌, ◌+◌, ◌<◌, ◌≤◌, ◌++◌, [], IfOk, IsOk, OnErr, OnOk, Some, List, ℕ, Option, drop, length, take, vec_len, vec_capacity};
-ghost use Rattle.std.specs.Io.KnownBytes.{append_known};
+ghost use Rattle.std.specs.Prelude.{◌≡◌, ◌+◌, ◌<◌, ◌≤◌, ◌++◌, [], IsOk, OnErr, OnOk, Some, drop, length, vec_len, vec_capacity};
 ghost use Rattle.cs_io.specs.Faults.{Rose};
-ghost use Rattle.cs_io.specs.Sink.{GrewByFirst, known_length};
+ghost use Rattle.cs_io.specs.Sink.{GrewByFirst};
 
 use crate::{Sink, SinkError};
 

@@ -3,7 +3,6 @@
 ghost use Rattle.std.specs.Prelude.{◌≡◌, ◌↔◌, IsTrue, IfOk};
 ghost use Rattle.cs_grammar.specs.Grammar.{IsNumberOf, IsSymbolOf};
 ghost use Rattle.cs_grammar.specs.Weights.{Weighs, weighed};
-ghost use Rattle.cs_grammar.specs.Tree.{size};
 ghost use Rattle.cs_cost.specs.Rank.{IsCapped, cost_of, plus};
 ghost use Rattle.cs_kinds.specs.ListCost.{IsAtMost, lesser};
 ghost use Rattle.cs_kinds.specs.Kinds.{IsKind};

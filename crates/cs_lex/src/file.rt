@@ -1,6 +1,6 @@
 // What a lex file says.
 
-ghost use Rattle.std.specs.Prelude.{◌≡◌, ℕ, length};
+ghost use Rattle.std.specs.Prelude.{◌≡◌};
 ghost use Rattle.cs_lex.specs.File.{IsFile, file_of};
 ghost use Rattle.cs_pattern_tree.specs.Pattern.{regexes};
 

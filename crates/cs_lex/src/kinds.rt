@@ -1,6 +1,6 @@
 // The kinds of the rules.
 
-ghost use Rattle.std.specs.Prelude.{◌≡◌, ◌≤◌, length, IfOk, List};
+ghost use Rattle.std.specs.Prelude.{length, IfOk};
 ghost use Rattle.cs_lex.specs.Found.{GivesNamed, GivesOver};
 ghost use Rattle.cs_lex.specs.Kinds as spec;
 ghost use Rattle.cs_lex.specs.Reading.{EndsWithKind};

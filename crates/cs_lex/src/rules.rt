@@ -1,6 +1,6 @@
 // Whether the rules are well made, before their patterns are read.
 
-ghost use Rattle.std.specs.Prelude.{◌≡◌, ◌≤◌, ◌<◌, ◌^◌, false, length, OnOk, IfErr, IsTrue};
+ghost use Rattle.std.specs.Prelude.{◌≡◌, ◌≤◌, ◌<◌, false, length, OnOk, IfErr, IsTrue};
 ghost use Rattle.cs_bytes.specs.Limits.{most_bytes};
 ghost use Rattle.cs_lex.specs.Found.{RulesRefused};
 ghost use Rattle.cs_lex.specs.Kinds as kinds;

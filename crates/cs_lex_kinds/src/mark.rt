@@ -1,12 +1,7 @@
 // Comments that say what an action gives.
 
-ghost use Rattle.std.specs.Prelude.{◌≡◌, ◌≤◌, ◌<◌, ℕ, false, length, IfSome, IfNone};
-ghost use Rattle.std.specs.List.{prefix_len};
-ghost use Rattle.cs_ctext.specs.Blocks.{IsPart};
-ghost use Rattle.cs_ctext.specs.Marks as kinds;
-ghost use Rattle.cs_ctext.specs.Comments.{IsOpenComment};
+ghost use Rattle.std.specs.Prelude.{◌≡◌, ◌<◌, ℕ, false, length, IfSome, IfNone};
 ghost use Rattle.cs_ctext.specs.Literals.{IsLiteral};
-ghost use Rattle.cs_bytes.specs.Places as places;
 ghost use Rattle.cs_yacc_items.specs.Bytes as yacc;
 ghost use Rattle.cs_lex_kinds.specs.Marks as spec;
 ghost use Rattle.cs_lex_kinds.specs.MarkViews.{FindsSpelled, FindsIn, FindsFront, FindsMark};

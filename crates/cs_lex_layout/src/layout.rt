@@ -1,6 +1,6 @@
 // The layout of a lex file.
 
-ghost use Rattle.std.specs.Prelude.{◌≡◌, ◌≤◌, ◌<◌, ◌+◌, ◌-◌, ℕ, false, length, drop, IfOk, IfErr};
+ghost use Rattle.std.specs.Prelude.{◌≡◌, ◌≤◌, ◌<◌, ◌+◌, ◌-◌, length, drop, IfOk, IfErr};
 ghost use Rattle.cs_bytes.specs.Limits.{most_bytes};
 ghost use Rattle.cs_lex_layout.specs.declared.line.LineKind.TheVariants as kinds;
 ghost use Rattle.cs_lex_layout.specs.Answers.{AnswersLayout};

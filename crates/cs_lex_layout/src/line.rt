@@ -1,6 +1,6 @@
 // What a line is, by what it begins with.
 
-ghost use Rattle.std.specs.Prelude.{◌≡◌, ◌≤◌, length};
+ghost use Rattle.std.specs.Prelude.{◌≡◌};
 ghost use Rattle.cs_bytes.specs.Places.{front};
 ghost use Rattle.cs_lex_layout.specs.Lines as spec;
 

@@ -1,6 +1,6 @@
 // Units of a pattern's text.
 
-ghost use Rattle.std.specs.Prelude.{◌≡◌, ◌≤◌, length};
+ghost use Rattle.std.specs.Prelude.{◌≡◌};
 ghost use Rattle.cs_bytes.specs.Classes.{is_space};
 ghost use Rattle.cs_bytes.specs.Places as places;
 ghost use Rattle.cs_lex_layout.specs.Patterns as spec;

@@ -1,6 +1,6 @@
 // The lines of goals, of bases and negatives, and the end.
 
-ghost use Rattle.std.specs.Prelude.{◌≡◌, ◌∷◌, decimal};
+ghost use Rattle.std.specs.Prelude.{◌∷◌, decimal};
 ghost use Rattle.cs_bytes.specs.Names.{space};
 ghost use Rattle.cs_output.specs.Names as names;
 ghost use Rattle.cs_output.specs.Putting.{Puts};

@@ -1,6 +1,6 @@
 // The rows that negatives are filled in.
 
-ghost use Rattle.std.specs.Prelude.{◌≡◌, IfOk, IfSome, IsTrue, OnOk, length};
+ghost use Rattle.std.specs.Prelude.{IfOk, IsTrue, length};
 ghost use Rattle.cs_output.specs.Names.{IsNamedMark};
 ghost use Rattle.cs_manifest.specs.Open.{mark_in};
 ghost use Rattle.cs_mutants.specs.Rows.{AreNoRows, AreRows, HasRow, IsLentRow, IsOpenPlaced, IsPutIn, row_for};

@@ -1,6 +1,6 @@
 // What the negatives of all bases of a file are made by.
 
-ghost use Rattle.std.specs.Prelude.{◌≡◌, ◌↔◌, IfOk, IfSome, IsTrue, length};
+ghost use Rattle.std.specs.Prelude.{◌↔◌, IfOk, IfSome, IsTrue, length};
 ghost use Rattle.cs_output.specs.Names.{IsNamedToken};
 ghost use Rattle.cs_splice.specs.Apart.{IsApart};
 ghost use Rattle.cs_mutants.specs.Makers.{AreToolsOf, CanRender};

@@ -1,6 +1,6 @@
 // Edits of a list of tokens, and their results.
 
-ghost use Rattle.std.specs.Prelude.{◌≡◌, ◌↔◌, ◌+◌, ◌≤◌, ◌++◌, IsTrue, IfOk, OnOk, length, take, drop};
+ghost use Rattle.std.specs.Prelude.{◌≡◌, ◌↔◌, ◌+◌, ◌≤◌, IsTrue, IfOk, OnOk, length};
 ghost use Rattle.cs_mutate.specs.Edit.{IsPlaced, Fits, patched, edited};
 
 use std::alloc::{AllocError, Global};

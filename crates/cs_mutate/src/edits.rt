@@ -1,6 +1,6 @@
 // The edits of a list, one after another.
 
-ghost use Rattle.std.specs.Prelude.{◌≡◌, ◌↔◌, ◌≤◌, [], ◌∷◌, length, IsTrue, IfSome, IfNone};
+ghost use Rattle.std.specs.Prelude.{◌≡◌, ◌≤◌, [], ◌∷◌, length, IfSome, IfNone};
 ghost use Rattle.cs_mutate.specs.Edit.{IsPlaced};
 ghost use Rattle.cs_mutate.specs.Edits.{is_fresh, is_listed, edits};
 

@@ -1,7 +1,6 @@
 // An output: a lent sink behind a lent line of bytes that wait for it, with a count of the bytes that it got.
 
-ghost use Rattle.std.specs.Prelude.{◌≡◌, ◌+◌, ◌++◌, ◌∷◌, ◌<◌, ◌≤◌, IfOk, OnErr, OnOk, false, true, [], codes, decimal, length, take};
-ghost use Rattle.std.specs.List.{flat_map};
+ghost use Rattle.std.specs.Prelude.{◌≡◌, ◌+◌, ◌++◌, ◌∷◌, ◌<◌, ◌≤◌, IfOk, OnErr, OnOk, false, true, [], decimal, length, take};
 ghost use Rattle.cs_bytes.specs.Names.{space};
 ghost use Rattle.cs_output.specs.Sinks.{Writes};
 

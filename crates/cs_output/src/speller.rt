@@ -1,6 +1,6 @@
 // Pieces, spelled in memory.
 
-ghost use Rattle.std.specs.Prelude.{◌≡◌, ◌<◌, IfOk, Some, length};
+ghost use Rattle.std.specs.Prelude.{◌<◌, IfOk, Some};
 ghost use Rattle.cs_output.specs.Spelled.{IsBlank, IsSpelled};
 
 use crate::output::{LINE_LENGTH, Output};

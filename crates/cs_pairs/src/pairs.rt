@@ -2,7 +2,6 @@
 
 ghost use Rattle.std.specs.Prelude.{◌≡◌, ◌↔◌, IsTrue, IfOk};
 ghost use Rattle.cs_grammar.specs.Grammar.{IsNumberOf};
-ghost use Rattle.cs_grammar.specs.Tree.{size};
 ghost use Rattle.cs_goals.specs.Goal.{IsLeft, IsRight};
 ghost use Rattle.cs_kinds.specs.Kinds.{IsKind};
 ghost use Rattle.cs_kinds.specs.Laws.{HasTreeIn};

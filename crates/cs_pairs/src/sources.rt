@@ -1,6 +1,6 @@
 // The nodes at which a token may directly follow a child: where the ways inwards begin, to the token that the child ends with.
 
-ghost use Rattle.std.specs.Prelude.{◌≡◌, ◌+◌, IfOk, OnOk, length};
+ghost use Rattle.std.specs.Prelude.{◌+◌, IfOk, OnOk, length};
 ghost use Rattle.cs_grammar.specs.Grammar.{IsNumberOf};
 ghost use Rattle.cs_pairs.specs.Fronts.{AreFrontsOf, AreBehindsOf, IsAround};
 ghost use Rattle.cs_pairs.specs.Sources.{AreSourcesBack, AreAllSources};

@@ -1,8 +1,8 @@
 // Brackets (POSIX, bracket expressions in the POSIX locale).
 
-ghost use Rattle.std.specs.Prelude.{◌≡◌, ◌==◌, ◌||◌, ◌&&◌, ◌<◌, ◌+◌, IsTrue, ℕ, Bool, IfOk, MatchOption, MatchBool, option_map, nat_lt, length, drop, Some, None, ◌≤◌};
+ghost use Rattle.std.specs.Prelude.{◌≡◌, ◌==◌, ◌&&◌, ◌<◌, ◌+◌, IsTrue, IfOk, length, drop, Some, None, ◌≤◌};
 ghost use Rattle.std.specs.List.{list_any};
-ghost use Rattle.cs_pattern_items.specs.Members.{has, bytes_where};
+ghost use Rattle.cs_pattern_items.specs.Members.{bytes_where};
 ghost use Rattle.cs_pattern_items.specs.Bracket as spec;
 ghost use Rattle.cs_pattern_items.specs.Brackets as brackets;
 ghost use Rattle.cs_pattern_items.specs.NamedClasses as classes;

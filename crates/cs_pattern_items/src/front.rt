@@ -6,7 +6,6 @@ ghost use Rattle.cs_pattern_items.specs.Front as spec;
 ghost use Rattle.cs_pattern_items.specs.Character as characters;
 ghost use Rattle.cs_pattern_items.specs.Quoted as quotes;
 ghost use Rattle.cs_pattern_items.specs.Bracket as brackets;
-ghost use Rattle.cs_pattern_items.specs.Members.{bytes_where};
 ghost use Rattle.cs_pattern_items.specs.Views.{item_of, IsFront, FrontWithin, front_of as seen};
 
 use crate::bracket::{Bracket, read_bracket};

@@ -1,6 +1,6 @@
 // The text of a list of tokens.
 
-ghost use Rattle.std.specs.Prelude.{◌≡◌, ◌<◌, ◌≤◌, All, IfErr, IfOk, length};
+ghost use Rattle.std.specs.Prelude.{◌<◌, ◌≤◌, All, IfErr, IfOk, length};
 ghost use Rattle.cs_render.specs.Rendering.{AreTokens, HasLexeme, IsFirstWithout, IsRuleText, Renders};
 ghost use Rattle.cs_render.specs.Parts.{PutsLexeme};
 

@@ -1,6 +1,6 @@
 // Laws of matches.
 
-ghost use Rattle.std.specs.Prelude.{◌≡◌, ℕ, List};
+ghost use Rattle.std.specs.Prelude.{ℕ, List};
 ghost use Rattle.cs_pattern_tree.specs.Pattern.{Regex};
 ghost use Rattle.cs_scan.specs.Scan.{AreOneMatch, AreOneScan, HasScan, Scanning};
 

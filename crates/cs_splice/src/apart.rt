@@ -1,6 +1,6 @@
 // Tokens whose lexemes scan back to them, whichever of them stand side by side.
 
-ghost use Rattle.std.specs.Prelude.{◌≡◌, ◌<◌, ◌≤◌, ◌↔◌, IfOk, IsTrue, length};
+ghost use Rattle.std.specs.Prelude.{◌<◌, ◌≤◌, ◌↔◌, IfOk, IsTrue, length};
 ghost use Rattle.cs_scan.specs.Compared.{scanning};
 ghost use Rattle.cs_splice.specs.Apart.{HaveLexemes, IsApart, IsPassedBefore, IsTakenFirst, ScanBack, StandsApart};
 ghost use Rattle.cs_splice.specs.Spliced.{near_by};

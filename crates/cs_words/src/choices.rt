@@ -1,6 +1,6 @@
 // The values that choose criteria, operators, what is weighed, and the format.
 
-ghost use Rattle.std.specs.Prelude.{◌≡◌, IfNone, IfSome};
+ghost use Rattle.std.specs.Prelude.{IfNone, IfSome};
 ghost use Rattle.cs_words.specs.Choices.{IsCriteria, IsFormat, IsOperators, IsWeigh, MeansNothing};
 ghost use Rattle.cs_words.specs.Choices.{has_criterion, has_operator};
 ghost use Rattle.cs_words.specs.Steps.{Adds, CannotAdd};

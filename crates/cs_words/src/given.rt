@@ -1,6 +1,5 @@
 // What the options so far say.
 
-ghost use Rattle.std.specs.Prelude.{◌≡◌};
 ghost use Rattle.std.specs.Bool.{OnTrue, OnFalse};
 ghost use Rattle.cs_words.specs.Steps.{AreDefaulted, HasKind, IsNothing, Sets};
 

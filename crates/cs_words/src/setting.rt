@@ -1,6 +1,6 @@
 // One option of `suite`: a mark and a value.
 
-ghost use Rattle.std.specs.Prelude.{◌≡◌, ◌++◌, IfNone, IfSome, List, ℕ};
+ghost use Rattle.std.specs.Prelude.{◌≡◌, ◌++◌, IfNone, IfSome};
 ghost use Rattle.cs_words.specs.Options.{IsOption, IsMarked};
 ghost use Rattle.cs_words.specs.declared.setting.Setting.{Setting};
 

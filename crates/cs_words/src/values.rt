@@ -1,6 +1,6 @@
 // The values of the number of bases and of the separator; and a seed.
 
-ghost use Rattle.std.specs.Prelude.{◌≡◌, ◌≤◌, ◌++◌, ◌↔◌, IsTrue, IfNone, IfSome, List, ℕ, drop, length, min, take};
+ghost use Rattle.std.specs.Prelude.{◌≡◌, ◌≤◌, ◌↔◌, IsTrue, IfNone, IfSome, List, ℕ, length, min, take};
 ghost use Rattle.std.specs.List.{list_all};
 ghost use Rattle.cs_bytes.specs.Classes.{is_digit};
 ghost use Rattle.cs_bytes.specs.Digits.{number_of};

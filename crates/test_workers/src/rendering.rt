@@ -1,7 +1,6 @@
 // Lists of tokens of the grammar of sums, rendered by workers.
 
-ghost use Rattle.std.specs.Prelude.{◌≡◌, ◌<◌, ◌≤◌, length, All};
-ghost use Rattle.cs_render.specs.Rendering.{AreTokens};
+ghost use Rattle.std.specs.Prelude.{◌≡◌, ◌<◌, ◌≤◌, length};
 
 use cs_automaton::Automaton;
 use cs_fan::{Counter, OpenGate, fan};
