@@ -11,6 +11,7 @@ VISIBLE = [*LETTERS, *b"0123456789", *LETTERS.upper()]
 VISIBLE += [byte for byte in range(0x21, 0x7F) if byte not in VISIBLE]
 RANKED = [*VISIBLE, *b" \n\t"]
 RANKED += [byte for byte in range(256) if byte not in RANKED]
+MOST_SETS = 16384
 
 
 @dataclass(frozen=True)
@@ -66,7 +67,10 @@ class Automaton:
     def lay(self, pattern, begin, end):
         """Adds ways from one node to another over what the pattern matches, and no others."""
         if isinstance(pattern, Class):
-            self.steps[begin].append((pattern.bytes, end))
+            # a node of its own: so sets of nodes differ where sets of places do
+            place = self.node()
+            self.steps[begin].append((pattern.bytes, place))
+            self.free[place].append(end)
         elif isinstance(pattern, Either):
             for part in pattern.parts:
                 self.lay(part, begin, end)
@@ -154,6 +158,15 @@ class Scanner:
         for byte in RANKED:
             found.setdefault((self.own(byte), *(byte in some for some in sets)), byte)
         return found.values()
+
+    def has_many_sets(self):
+        """Whether texts that aren't empty have more than 16,384 sets of places; the empty set isn't counted."""
+        found, waiting, bytes_ = set(), [self.begin], self.different()
+        while waiting and len(found) <= MOST_SETS:
+            behind = {self.behind(waiting[-1], byte) for byte in bytes_} - found - {frozenset()}
+            waiting[-1:] = behind
+            found |= behind
+        return len(found) > MOST_SETS
 
     def lexemes(self):
         """The least text of each token that has one: texts come in order, and of those that lead to one place the first goes on."""
