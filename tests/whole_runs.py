@@ -3,12 +3,11 @@
 the error output. It prints the rows that fail, and ends with status 1 where one did.
 
 The contracts say all of this of `run`; here it is shown that the program does what `run` says. The expected texts were
-worked by hand from the rules of docs/FORMATS.md, but for the negatives and the bytes of a summary, which are the program's own;
-those of the runs that README.md and docs/GUIDE.md show are read there.
+worked by hand from the rules of docs/FORMATS.md, but for the negatives and the bytes of a summary, which are the program's own.
+tests/page_runs.py has the runs that the documents show.
 """
 
 import os
-import shlex
 import subprocess
 import sys
 import tempfile
@@ -228,7 +227,6 @@ end goals 5 feasible 3 infeasible 2 large 0 negatives 2 cases 1
 SUMMARY = b"gen 1 yacc 1240 lex 378 goals 968 feasible 862 infeasible 106 large 0 negatives 1442 bytes 315463\n"
 EXAMPLES = os.path.join(TOP, "examples")
 G1 = [os.path.join(EXAMPLES, "g1.y"), os.path.join(EXAMPLES, "l1.l")]
-LISTS = [os.path.join(EXAMPLES, "lists.y"), os.path.join(EXAMPLES, "lists.l")]
 C_EXPRESSIONS = [os.path.join(EXAMPLES, "cexpr.y"), os.path.join(EXAMPLES, "cexpr.l")]
 
 # words, status, output, error output
@@ -264,61 +262,6 @@ ROWS = [
     (["gen", "0001"], 0, SUMMARY, b""),
     (["gen", "18446744073709551616"], 2, b"", b"conform: usage: word 1\n"),
 ]
-
-
-def blocks(page):
-    """The texts between the fences of a page, in order."""
-    with open(os.path.join(TOP, page), encoding="utf-8") as file:
-        lines = file.read().split("\n")
-    fences = [place for place, line in enumerate(lines) if line.startswith("```")]
-    return ["".join(line + "\n" for line in lines[begin + 1 : end]) for begin, end in zip(fences[::2], fences[1::2])]
-
-
-def columns(block):
-    """The texts of two columns, the second of which begins where it does in the block's first line."""
-    lines = block.splitlines()
-    split = lines[0].rindex(" ") + 1
-    return ["".join(line[part].rstrip() + "\n" for line in lines) for part in (slice(split), slice(split, None))]
-
-
-def read(path):
-    with open(path, encoding="utf-8") as file:
-        return file.read()
-
-
-def page_failures():
-    """What differs between the pages and the example files that they show, or the runs of them."""
-    files, session, *_ = blocks("README.md")
-    if columns(files) != [read(path) for path in G1]:
-        yield "README.md: the first block isn't examples/g1.y beside examples/l1.l"
-    command, output = session.split("\n", 1)
-    _, program, *words = shlex.split(command)
-    found = run(words, TOP, stdout=subprocess.PIPE, stderr=subprocess.PIPE)
-    if program != "./conform" or found != (0, output.encode(), b""):
-        yield f"README.md: {command}: {found!r}"
-    grammar = blocks("docs/GUIDE.md")[0]
-    if grammar not in read(LISTS[0]):
-        yield "docs/GUIDE.md: the first block isn't in examples/lists.y"
-    status, written, said = run(["suite", *LISTS], TOP, stdout=subprocess.PIPE, stderr=subprocess.PIPE)
-    last = written.decode().splitlines(keepends=True)[-1:]
-    if (status, said) != (0, b"") or last != blocks("docs/GUIDE.md")[3:4]:
-        yield f"docs/GUIDE.md: status {status}, {last!r}, {said!r}"
-    yield from shown_failures(written)
-
-
-def shown_failures(manifest):
-    """What docs/GUIDE.md shows of this manifest and isn't so: a goal, by tools/show, and the line of a negative."""
-    _, wanted, *others = [block for block in blocks("docs/GUIDE.md") if block.startswith(("end ", "goal ", "negative "))]
-    lines = manifest.decode().splitlines()
-    yield from (f"docs/GUIDE.md: no {block}" for block in others if block.splitlines()[0] not in lines)
-    with tempfile.TemporaryDirectory() as folder:
-        path = os.path.join(folder, "suite")
-        with open(path, "wb") as file:
-            file.write(manifest)
-        show = [sys.executable, os.path.join(TOP, "tools", "show"), path, wanted.split()[1]]
-        told = subprocess.run(show, capture_output=True, text=True, timeout=60)
-    if (told.returncode, told.stdout) != (0, wanted):
-        yield f"docs/GUIDE.md: tools/show: status {told.returncode}, {told.stdout!r}, {told.stderr!r}"
 
 
 def run(words, folder, **streams):
@@ -366,7 +309,7 @@ def main():
         for name, text in FILES.items():
             with open(os.path.join(folder, name), "wb") as file:
                 file.write(text)
-        failed = [*failures(folder), *page_failures()]
+        failed = [*failures(folder)]
     print("\n".join(failed), file=sys.stderr, end="\n" if failed else "")
     sys.exit(1 if failed else 0)
 
