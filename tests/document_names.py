@@ -1,0 +1,130 @@
+"""The names that documents have of the code: contracts and their clauses, definitions, crates in their order."""
+
+import glob
+import os
+import re
+
+from pages import CODE, TOP, codes, read, tables
+
+SAMPLES = ("cs_samples", "cs_sample_files", "cs_cli")  # of which there are no claims
+DEFINED = r"\b(?:fn|struct|enum|trait|const|type|pub|record|data)\s+"
+NAME = re.compile(r"[A-Za-z_]\w*(?:::[A-Za-z_]\w*)*$")
+PIECE = re.compile(r"`(?P<code>[^`]+)`|\((?P<clauses>clauses? )?|(?P<closed>\))")
+
+
+def texts(*patterns):
+    """The texts of all files that match, one behind the other."""
+    paths = sorted(path for pattern in patterns for path in glob.glob(os.path.join(TOP, pattern), recursive=True))
+    return "\n".join(read(path) for path in paths if os.path.isfile(path))
+
+
+def crate_text(crate):
+    return texts(f"crates/{crate}/src/**/*.rt", f"crates/{crate}/specs/**/*.antt")
+
+
+def all_words():
+    """Each word of the code, of definitions, and of the scripts beside them."""
+    folders = ("crates/*/src/**/*.rt", "crates/*/specs/**/*.antt", "tests/**/*.py", "tools/*", "bench/*.py", "conform", "crates.txt")
+    return set(re.findall(r"\w+", texts(*folders)))
+
+
+def unknown_names(page, words):
+    """The names between backquotes that nothing in the repository has."""
+    for code in codes(read(page)):
+        if NAME.match(code) and not os.path.exists(os.path.join(TOP, code)) and any(part not in words for part in code.split("::")):
+            yield f"{page}: nothing is called {code}"
+
+
+def is_defined(text, name):
+    return all(re.search(rf"{DEFINED}{part}\b", text) for part in name.split("::"))
+
+
+def has_clause(text, function, clause):
+    """Whether some function of that name promises it, between the name and the line that begins the body."""
+    contracts = re.findall(rf"\bfn {function.split('::')[-1]}\b.*?(?:^\s*\{{|;$)", text, re.M | re.S)
+    return any(re.search(rf"\bensures {clause} ", contract) for contract in contracts)
+
+
+def missing_in(crate, cell):
+    """The contracts, clauses and definitions of a table's cell that the crate doesn't have."""
+    text, function, clauses = crate_text(crate), None, False
+    for piece in PIECE.finditer(cell):
+        name = piece["code"]
+        if name is None:
+            clauses = piece["clauses"] is not None
+        elif clauses:
+            if not has_clause(text, function, name):
+                yield f"no clause {name} of {function}"
+        elif is_defined(text, name):
+            function = name
+        else:
+            yield f"no {name}"
+
+
+def claims(page):
+    """The rows of claims: a crate, and the cell of its contracts."""
+    crate = None
+    for row in tables(read(page)):
+        crate = row[0].strip("`") if row[0].startswith("`") else crate
+        if crate and len(row) == 3 and not row[0].startswith("-"):
+            yield crate, row[2]
+
+
+def claim_failures(page):
+    for crate, cell in claims(page):
+        yield from (f"{page}: {crate} has {missing}" for missing in missing_in(crate, cell))
+
+
+def index_failures(page):
+    """The rows of an index whose last cell is a file, and the one before it what that defines, that aren't so."""
+    for row in tables(read(page)):
+        path = row[-1].strip("`")
+        if path.startswith("crates/"):
+            text = read(path) if os.path.exists(os.path.join(TOP, path)) else ""
+            yield from (f"{page}: {path} doesn't define {name}" for name in CODE.findall(row[-2]) if not is_defined(text, name))
+
+
+def indexed(page):
+    """The names that the rows of an index have."""
+    return {name for row in tables(read(page)) if row[-1].strip("`").startswith("crates/") for name in CODE.findall(row[-2])}
+
+
+def unindexed(page):
+    """The definitions that a page names, by their capital letter, and its index doesn't have."""
+    defined = set(re.findall(r"\bpub (?:data |record )?([A-Z]\w*)", texts("crates/*/specs/**/*.antt")))
+    yield from (f"{page}: {name} isn't in the index" for name in sorted((defined & set(codes(read(page)))) - indexed(page)))
+
+
+def citing(module):
+    """The crates, but for those of tests, whose code, definitions or proofs cite a module of definitions."""
+    folders = glob.glob(os.path.join(TOP, "crates", "cs_*"))
+    crates = [os.path.basename(folder) for folder in folders]
+    return {crate for crate in crates if f"Rattle.{module}." in texts(*(f"crates/{crate}/{part}/**/*.*t*" for part in ("src", "specs", "proofs")))}
+
+
+def citing_failures(page):
+    """The rows of modules of definitions, with the crates that cite them, that aren't so."""
+    for row in tables(read(page)):
+        for module in re.findall(r"`(\w+\.specs\.\w+)`", row[0]):
+            listed, found = set(CODE.findall(row[1])), citing(module)
+            yield from (f"{page}: {crate} cites {module}, or is said to" for crate in sorted(listed ^ found))
+
+
+def needs():
+    """Of each crate those that it stands on."""
+    lines = [line for line in read("crates.txt").splitlines() if not line.startswith("#")]
+    return {crate: after.split() for crate, after in (line.split(":", 1) for line in lines)}
+
+
+def crates_of(page):
+    """The crates in the first cells of a page's tables, in order."""
+    return [code for row in tables(read(page)) for code in CODE.findall(row[0]) if code in needs()]
+
+
+def order_failures(page, left_out):
+    """Whether a page has each crate once, but for some, behind those that it stands on."""
+    below, listed = needs(), crates_of(page)
+    wanted = [crate for crate in below if not crate.startswith(left_out)]
+    yield from (f"{page}: {crate} stands there {listed.count(crate)} times" for crate in wanted if listed.count(crate) != 1)
+    for place, crate in enumerate(listed):
+        yield from (f"{page}: {need} stands behind {crate}" for need in below[crate] if need in listed[place:])
