@@ -23,7 +23,7 @@ NAMING = ["CONTRIBUTING.md", "docs/CLAIMS.md", "docs/DECISIONS.md", "docs/DEFINI
 PAGES = [*NAMING, "README.md", "bench/README.md", "docs/FORMATS.md", "docs/GUIDE.md"]
 INDICES = ["docs/DEFINITIONS.md", "docs/DESIGN.md", "docs/FORMATS.md"]
 PATH = re.compile(r"\w[\w.-]*(?:/[\w.-]+)+/?$|[\w-]+\.(?:md|py|rt|antt|txt|html|y|l|suite)$")
-NO_PATH = re.compile(r"(?:.*/)?(?:NAME|MODULE|FUNCTION|FILE)\b|out\b|(?:.*/)?lists\.tab\.")  # what a reader makes or puts in
+NO_PATH = re.compile(r"(?:.*/)?(?:NAME|MODULE|FUNCTION|FILE|out)\b|(?:.*/)?lists\.tab\.")  # what a reader makes or puts in
 
 
 def paths():
