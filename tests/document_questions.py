@@ -23,7 +23,7 @@ QUESTIONS = [
     }),
     ("Where is a command added?", {CONTRIBUTING: ["## To add a command", "`crates/cs_words/specs/Commands.antt`"]}),
     ("Where is a directive added?", {CONTRIBUTING: ["## To add a directive of the yacc file", "`crates/cs_yacc_items/specs/Directives.antt`"]}),
-    ("What is proved again then?", {CONTRIBUTING: ["Proved again are `cs_words`,", "Proved again are `cs_yacc_items`,"]}),
+    ("What is proved again then?", {CONTRIBUTING: ["Proved again are `cs_words`,", "Proved again are these two crates"]}),
     ("What does the error output hold after a failing write?", {
         FORMATS: ["the error output then holds a beginning of the line, perhaps none of it"],
         DESIGN: ["| what the error output holds, after a failing write too | `finish` |"],

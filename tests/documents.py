@@ -15,7 +15,7 @@ sys.dont_write_bytecode = True
 
 from document_names import SAMPLES, all_words, citing_failures, claim_failures, index_failures, order_failures, unindexed, unknown_names
 from document_questions import QUESTIONS
-from pages import TOP, codes, links, read, sentences, words
+from pages import TOP, codes, links, parts, read, sentences, words
 
 MOST_BYTES = 8000
 MOST_WORDS = 30
@@ -58,6 +58,15 @@ def lost_paths(page, known):
             yield f"{page}: no {code}"
 
 
+def changed_files(page):
+    """The files that a page shows in the block behind `PATH` is, and that are otherwise."""
+    pieces = parts(read(page))
+    for prose, block in zip(pieces[::2], pieces[1::2]):
+        shown = re.search(r"`([^`]+)` is\s*$", prose)
+        if shown and read(shown[1]) != block:
+            yield f"{page}: {shown[1]} is otherwise"
+
+
 def open_questions():
     """The questions to which the words of an answer are missing."""
     for question, answers in QUESTIONS:
@@ -70,7 +79,7 @@ def failures():
     known, named = [*paths()], all_words()
     yield from size_failures()
     for page in PAGES:
-        yield from (*long_sentences(page), *lost_links(page), *lost_paths(page, known))
+        yield from (*long_sentences(page), *lost_links(page), *lost_paths(page, known), *changed_files(page))
     for page in NAMING:
         yield from unknown_names(page, named)
     yield from (*claim_failures("docs/CLAIMS.md"), *citing_failures("CONTRIBUTING.md"), *unindexed("docs/DEFINITIONS.md"))
