@@ -1,8 +1,8 @@
 #!/usr/bin/env python3
-"""Writes the figures of scripts beside this one into README.md, with the machine: bench/report.py [--program PROGRAM] [SCRIPT..].
+"""Writes figures and the machine that they are of into README.md: bench/report.py [--program PROGRAM] [SCRIPT..].
 
-Without names it runs those that need the built program alone. The figures of a script take the place of its own older ones; those of
-the scripts that aren't run stay. Nothing here is part of the gate.
+Without names it runs the scripts that need the built program alone. The figures of a script take the place of its own older
+ones; those of the scripts that aren't run stay. Nothing here is part of the gate.
 """
 
 import argparse
@@ -34,7 +34,7 @@ def machine():
 
 
 def rows(output):
-    """The rows of a table: what is measured, the figure, and its bound. An indented row is of the last one above that isn't."""
+    """The rows of a table: what is measured, the figure, its bound. An indented line is of the last that isn't."""
     about = ""
     for line in output.splitlines():
         row, name = ROW.match(line), line.split(": ")[0]
@@ -52,7 +52,8 @@ def section(script, program):
     table = [*rows(done.stdout)]
     if not table:
         sys.exit(f"{script}: no figures; status {done.returncode}, {done.stderr}")
-    return "\n".join([f"### {script}", "", machine() + ".", "", "| What | Figure | Bound | |", "|---|---|---|---|", *table, ""])
+    head = ["| What | Figure | Bound | |", "|---|---|---|---|"]
+    return "\n".join([f"### {script}", "", machine() + ".", "", *head, *table, ""])
 
 
 def sections(page):
@@ -63,7 +64,7 @@ def sections(page):
 
 def main():
     parser = argparse.ArgumentParser(prog="report.py", description=__doc__.split("\n\n")[0])
-    parser.add_argument("--program", nargs=1, default=[], help="the program that is measured, in place of the one that was built")
+    parser.add_argument("--program", nargs=1, default=[], help="what is measured, in place of the built program")
     parser.add_argument("scripts", nargs="*", default=SCRIPTS)
     asked = parser.parse_args()
     for script in asked.scripts:

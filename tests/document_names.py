@@ -24,14 +24,15 @@ def crate_text(crate):
 
 def all_words():
     """Each word of the code, of definitions, and of the scripts beside them."""
-    folders = ("crates/*/src/**/*.rt", "crates/*/specs/**/*.antt", "tests/**/*.py", "tools/*", "bench/*.py", "conform", "crates.txt")
-    return set(re.findall(r"\w+", texts(*folders)))
+    code = ("crates/*/src/**/*.rt", "crates/*/specs/**/*.antt", "crates.txt")
+    return set(re.findall(r"\w+", texts(*code, "tests/**/*.py", "tools/*", "bench/*.py", "conform")))
 
 
 def unknown_names(page, words):
     """The names between backquotes that nothing in the repository has."""
     for code in codes(read(page)):
-        if NAME.match(code) and not os.path.exists(os.path.join(TOP, code)) and any(part not in words for part in code.split("::")):
+        known = os.path.exists(os.path.join(TOP, code)) or all(part in words for part in code.split("::"))
+        if NAME.match(code) and not known:
             yield f"{page}: nothing is called {code}"
 
 
@@ -81,25 +82,45 @@ def index_failures(page):
         path = row[-1].strip("`")
         if path.startswith("crates/"):
             text = read(path) if os.path.exists(os.path.join(TOP, path)) else ""
-            yield from (f"{page}: {path} doesn't define {name}" for name in CODE.findall(row[-2]) if not is_defined(text, name))
+            missing = [name for name in CODE.findall(row[-2]) if not is_defined(text, name)]
+            yield from (f"{page}: {path} doesn't define {name}" for name in missing)
+
+
+def rule_failures(page):
+    """The rows of rules whose function nothing defines, or doesn't have the clauses named behind "its clause"."""
+    text = texts("crates/*/src/**/*.rt")
+    for row in tables(read(page)):
+        if len(row) == 5 and row[-1].startswith("`crates/"):
+            function, *_ = CODE.findall(row[1])
+            clauses = CODE.findall(row[2].split("; ")[0]) if row[2].startswith("its clause") else []
+            missing = [clause for clause in clauses if not has_clause(text, function, clause)]
+            yield from (f"{page}: no clause {clause} of {function}" for clause in missing)
+            if not is_defined(text, function):
+                yield f"{page}: no {function}"
 
 
 def indexed(page):
     """The names that the rows of an index have."""
-    return {name for row in tables(read(page)) if row[-1].strip("`").startswith("crates/") for name in CODE.findall(row[-2])}
+    rows = [row for row in tables(read(page)) if row[-1].startswith("`crates/")]
+    return {name for row in rows for name in CODE.findall(row[-2])}
 
 
 def unindexed(page):
     """The definitions that a page names, by their capital letter, and its index doesn't have."""
     defined = set(re.findall(r"\bpub (?:data |record )?([A-Z]\w*)", texts("crates/*/specs/**/*.antt")))
-    yield from (f"{page}: {name} isn't in the index" for name in sorted((defined & set(codes(read(page)))) - indexed(page)))
+    named = defined & set(codes(read(page)))
+    yield from (f"{page}: {name} isn't in the index" for name in sorted(named - indexed(page)))
 
 
 def citing(module):
     """The crates, but for those of tests, whose code, definitions or proofs cite a module of definitions."""
     folders = glob.glob(os.path.join(TOP, "crates", "cs_*"))
-    crates = [os.path.basename(folder) for folder in folders]
-    return {crate for crate in crates if f"Rattle.{module}." in texts(*(f"crates/{crate}/{part}/**/*.*t*" for part in ("src", "specs", "proofs")))}
+    return {os.path.basename(folder) for folder in folders if f"Rattle.{module}." in cited_text(folder)}
+
+
+def cited_text(folder):
+    """The code, definitions and proofs of a crate's folder."""
+    return texts(*(os.path.join(folder, part, "**", "*.*t*") for part in ("src", "specs", "proofs")))
 
 
 def citing_failures(page):
@@ -125,6 +146,7 @@ def order_failures(page, left_out):
     """Whether a page has each crate once, but for some, behind those that it stands on."""
     below, listed = needs(), crates_of(page)
     wanted = [crate for crate in below if not crate.startswith(left_out)]
-    yield from (f"{page}: {crate} stands there {listed.count(crate)} times" for crate in wanted if listed.count(crate) != 1)
+    counts = {crate: listed.count(crate) for crate in wanted}
+    yield from (f"{page}: {crate} stands there {count} times" for crate, count in counts.items() if count != 1)
     for place, crate in enumerate(listed):
         yield from (f"{page}: {need} stands behind {crate}" for need in below[crate] if need in listed[place:])

@@ -1,19 +1,22 @@
 #!/usr/bin/env python3
 """Tests the documents against the repository: documents.py. It needs no program.
 
-README.md is a first page of at most 8,000 bytes. A sentence has at most 30 words: headings and blocks don't count, an item of a list
-ends a sentence, in a table's cell a semicolon does too, and code between backquotes is one word. Each link leads to a file; each path,
-crate, contract, clause and definition that is named is there; crates stand in tables behind those that they stand on; and each of
-twenty questions has its answer in at most two files. It prints what isn't so, and ends with status 1 where something isn't.
+README.md is a first page of at most 8,000 bytes, and names the kit. A sentence has at most 30 words: headings and
+blocks don't count, an item of a list ends a sentence, in a table's cell a semicolon does too, and code between
+backquotes is one word. Each link leads to a file; each path, crate, contract, clause and definition that is named is
+there; crates stand in tables behind those that they stand on; and each of twenty questions has its answer in at most
+two files. It prints what isn't so, and ends with status 1 where something isn't.
 """
 
 import os
 import re
+import shutil
+import subprocess
 import sys
 
 sys.dont_write_bytecode = True
 
-from document_names import SAMPLES, all_words, citing_failures, claim_failures, index_failures, order_failures, unindexed, unknown_names
+import document_names as names
 from document_questions import QUESTIONS
 from pages import TOP, codes, links, parts, read, sentences, words
 
@@ -23,7 +26,8 @@ NAMING = ["CONTRIBUTING.md", "docs/CLAIMS.md", "docs/DECISIONS.md", "docs/DEFINI
 PAGES = [*NAMING, "README.md", "bench/README.md", "docs/FORMATS.md", "docs/GUIDE.md"]
 INDICES = ["docs/DEFINITIONS.md", "docs/DESIGN.md", "docs/FORMATS.md"]
 PATH = re.compile(r"\w[\w.-]*(?:/[\w.-]+)+/?$|[\w-]+\.(?:md|py|rt|antt|txt|html|y|l|suite)$")
-NO_PATH = re.compile(r"(?:.*/)?(?:NAME|MODULE|FUNCTION|FILE|out)\b|(?:.*/)?lists\.tab\.")  # what a reader makes or puts in
+# what is made, or put in
+NO_PATH = re.compile(r"(?:.*/)?(?:NAME|MODULE|FUNCTION|FILE|out|release)\b|(?:.*/)?lists\.tab\.")
 
 
 def paths():
@@ -39,6 +43,14 @@ def size_failures():
         yield f"README.md: {size} bytes, above {MOST_BYTES}"
 
 
+def kit_failures():
+    """Whether README.md names the kit that rt is of, where that is there."""
+    if shutil.which("rt"):
+        kit = subprocess.run(["rt", "version"], capture_output=True, text=True).stdout.strip()
+        if f"`{kit}`" not in read("README.md"):
+            yield f"README.md doesn't name the kit {kit}"
+
+
 def long_sentences(page):
     for sentence in sentences(read(page)):
         if words(sentence) > MOST_WORDS:
@@ -47,7 +59,8 @@ def long_sentences(page):
 
 def lost_links(page):
     folder = os.path.dirname(os.path.join(TOP, page))
-    yield from (f"{page}: the link {link} leads nowhere" for link in links(read(page)) if not os.path.exists(os.path.join(folder, link)))
+    lost = [link for link in links(read(page)) if not os.path.exists(os.path.join(folder, link))]
+    yield from (f"{page}: the link {link} leads nowhere" for link in lost)
 
 
 def lost_paths(page, known):
@@ -75,18 +88,30 @@ def open_questions():
             yield from (f"{question} {page} doesn't say: {part}" for part in wanted if part not in text)
 
 
-def failures():
-    known, named = [*paths()], all_words()
-    yield from size_failures()
-    for page in PAGES:
-        yield from (*long_sentences(page), *lost_links(page), *lost_paths(page, known), *changed_files(page))
+def page_failures(page, known):
+    yield from (*long_sentences(page), *lost_links(page), *lost_paths(page, known), *changed_files(page))
+
+
+def name_failures():
+    words_of_code = names.all_words()
     for page in NAMING:
-        yield from unknown_names(page, named)
-    yield from (*claim_failures("docs/CLAIMS.md"), *citing_failures("CONTRIBUTING.md"), *unindexed("docs/DEFINITIONS.md"))
+        yield from names.unknown_names(page, words_of_code)
     for page in INDICES:
-        yield from index_failures(page)
-    yield from (*order_failures("docs/CLAIMS.md", ("test_", *SAMPLES)), *order_failures("docs/DESIGN.md", ()))
-    yield from open_questions()
+        yield from names.index_failures(page)
+    yield from names.claim_failures("docs/CLAIMS.md")
+    yield from names.rule_failures("docs/DESIGN.md")
+    yield from names.unindexed("docs/DEFINITIONS.md")
+    yield from names.citing_failures("CONTRIBUTING.md")
+    yield from names.order_failures("docs/CLAIMS.md", ("test_", *names.SAMPLES))
+    yield from names.order_failures("docs/DESIGN.md", ())
+
+
+def failures():
+    known = [*paths()]
+    yield from (*size_failures(), *kit_failures())
+    for page in PAGES:
+        yield from page_failures(page, known)
+    yield from (*name_failures(), *open_questions())
 
 
 def main():

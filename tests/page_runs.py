@@ -1,10 +1,10 @@
 #!/usr/bin/env python3
-"""Runs the commands that README.md, docs/GUIDE.md and docs/FORMATS.md show, and compares what they write: page_runs.py [PROGRAM].
+"""Runs the commands that the documents show, and compares what they write: page_runs.py [PROGRAM].
 
-The commands of a page run one after another in a folder of their own, where ./conform is the program. A block that begins with `$ `
-has commands, each with its output below it. A block that begins with the name of a command is a script, and the next block is its
-output, where that is none. A block that is neither may also have its command between backquotes, in the paragraph above it. It prints
-what differs, and ends with status 1 where something does.
+The commands of a page run one after another in a folder of their own, where ./conform is the program. A block that
+begins with `$ ` has commands, each with its output below it. A block that begins with the name of a command is a
+script, and the next block is its output, where that is none. A block that is neither may also have its command between
+backquotes, in the paragraph above it. It prints what differs, and ends with status 1 where something does.
 """
 
 import os
@@ -18,8 +18,9 @@ sys.dont_write_bytecode = True
 
 from pages import CODE, TOP, blocks, parts, read
 
-PROGRAM = os.path.abspath(sys.argv[1]) if len(sys.argv) > 1 else os.path.join(TOP, "crates", "cs_cli", "out", "cs_cli")
-PAGES = {"README.md": [], "docs/FORMATS.md": [], "docs/GUIDE.md": ["bison", "flex", "cc"]}  # each with the commands that it needs
+BUILT = os.path.join(TOP, "crates", "cs_cli", "out", "cs_cli")
+PROGRAM = os.path.abspath(sys.argv[1]) if len(sys.argv) > 1 else BUILT
+PAGES = {"README.md": [], "docs/FORMATS.md": [], "docs/GUIDE.md": ["bison", "flex", "cc"]}  # what each of them needs
 SECONDS = 120
 SCRIPT = re.compile(r"(\./conform|tools/\w+|mkdir|sed|cp|cat|tail|head|\(cd) ")
 LISTS = ["examples/lists.y", "examples/lists.l"]
@@ -53,7 +54,8 @@ def steps(page):
     """The scripts of a page in order, each with the output that the page shows, or None where it shows none."""
     waiting, pieces = None, parts(page)
     for prose, block in zip(pieces[::2], pieces[1::2]):
-        named = [code for code in CODE.findall(prose.rstrip().rsplit("\n\n", 1)[-1]) if SCRIPT.match(code)]
+        above = prose.rstrip().rsplit("\n\n", 1)[-1]
+        named = [code for code in CODE.findall(above) if SCRIPT.match(code)]
         if block.startswith("$ "):
             yield from session(block)
         elif SCRIPT.match(block):
@@ -94,13 +96,13 @@ def folder_failures(name):
 
 
 def stored_failures():
-    """Whether examples/lists.suite is what the program writes, and the lines that README.md explains are in it, in order."""
+    """Whether examples/lists.suite is what the program writes, and has the lines that README.md explains, in order."""
     stored = read("examples/lists.suite")
     done = subprocess.run([PROGRAM, "suite", *LISTS], cwd=TOP, capture_output=True, text=True, timeout=SECONDS)
     if done.stdout != stored:
         yield f"examples/lists.suite isn't what suite writes: status {done.returncode}, {done.stderr}"
-    lines = iter(stored.split("\n"))
-    yield from (f"README.md: {line} doesn't stand there in the suite" for line in blocks(read("README.md"))[1].splitlines() if line not in lines)
+    lines, explained = iter(stored.split("\n")), blocks(read("README.md"))[1].splitlines()
+    yield from (f"README.md: {line} doesn't stand there in the suite" for line in explained if line not in lines)
 
 
 def main():

@@ -64,4 +64,5 @@ def codes(text):
 
 def links(text):
     """The places to which links lead, without those of the web."""
-    return [place.split("#")[0] for _, place in LINK.findall(without_blocks(text)) if "://" not in place and not place.startswith("#")]
+    places = [place.split("#")[0] for _, place in LINK.findall(without_blocks(text))]
+    return [place for place in places if place and "://" not in place]
