@@ -1,8 +1,8 @@
 #!/usr/bin/env python3
 """Writes figures and the machine that they are of into README.md: bench/report.py [--program PROGRAM] [SCRIPT..].
 
-Without names it runs the scripts that need the built program alone. The figures of a script take the place of its own older
-ones; those of the scripts that aren't run stay. Nothing here is part of the gate.
+Without names it runs the scripts that need the built program alone. The figures of a script take the place of its
+older ones; those of the scripts that aren't run stay. Nothing here is part of the gate.
 """
 
 import argparse

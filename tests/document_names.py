@@ -9,6 +9,7 @@ from pages import CODE, TOP, codes, read, tables
 SAMPLES = ("cs_samples", "cs_sample_files", "cs_cli")  # of which there are no claims
 DEFINED = r"\b(?:fn|struct|enum|trait|const|type|pub|record|data)\s+"
 NAME = re.compile(r"[A-Za-z_]\w*(?:::[A-Za-z_]\w*)*$")
+BODY = re.compile(r"^\s*\{\}?$|^(?!.*\b(?:ensures|requires)\b).*[{;]$", re.M)
 PIECE = re.compile(r"`(?P<code>[^`]+)`|\((?P<clauses>clauses? )?|(?P<closed>\))")
 
 
@@ -40,10 +41,14 @@ def is_defined(text, name):
     return all(re.search(rf"{DEFINED}{part}\b", text) for part in name.split("::"))
 
 
+def contracts(text, function):
+    """The texts between the name of each function that is called so and its body."""
+    for begin in re.finditer(rf"\bfn {function.split('::')[-1]}\b", text):
+        yield BODY.split(text[begin.end() :], 1)[0]
+
+
 def has_clause(text, function, clause):
-    """Whether some function of that name promises it, between the name and the line that begins the body."""
-    contracts = re.findall(rf"\bfn {function.split('::')[-1]}\b.*?(?:^\s*\{{|;$)", text, re.M | re.S)
-    return any(re.search(rf"\bensures {clause} ", contract) for contract in contracts)
+    return any(re.search(rf"\bensures {clause} ", contract) for contract in contracts(text, function))
 
 
 def missing_in(crate, cell):
