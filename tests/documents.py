@@ -18,7 +18,7 @@ sys.dont_write_bytecode = True
 
 import document_names as names
 from document_questions import QUESTIONS
-from pages import TOP, codes, links, parts, read, sentences, words
+from pages import TOP, blocks, codes, links, proses, read, sentences, words
 
 MOST_BYTES = 8000
 MOST_WORDS = 30
@@ -73,8 +73,8 @@ def lost_paths(page, known):
 
 def changed_files(page):
     """The files that a page shows in the block behind `PATH` is, and that are otherwise."""
-    pieces = parts(read(page))
-    for prose, block in zip(pieces[::2], pieces[1::2]):
+    text = read(page)
+    for prose, block in zip(proses(text), blocks(text)):
         shown = re.search(r"`([^`]+)` is\s*$", prose)
         if shown and read(shown[1]) != block:
             yield f"{page}: {shown[1]} is otherwise"

@@ -4,7 +4,7 @@ import os
 import re
 
 TOP = os.path.dirname(os.path.dirname(os.path.abspath(__file__)))
-FENCE = re.compile(r"^```.*\n((?:.*\n)*?)```$", re.M)
+FENCE = re.compile(r"^```(.*)\n((?:.*\n)*?)```$", re.M)
 ITEM = re.compile(r"^\s*(?:- |\d+\. )", re.M)
 CODE = re.compile(r"`([^`\n]+)`")
 LINK = re.compile(r"\[([^][]+)\]\(([^()\s]+)\)")
@@ -16,18 +16,22 @@ def read(path):
         return file.read()
 
 
-def parts(text):
-    """The page's prose and blocks by turns, prose first and last."""
-    return FENCE.split(text)
+def marked_blocks(text):
+    """The words behind opening fences, with the texts between fences, in order."""
+    return FENCE.findall(text)
 
 
 def blocks(text):
-    """The texts between fences, in order."""
-    return parts(text)[1::2]
+    return [block for _, block in marked_blocks(text)]
+
+
+def proses(text):
+    """The texts before, between and behind blocks."""
+    return FENCE.split(text)[::3]
 
 
 def without_blocks(text):
-    return "\n".join(parts(text)[::2])
+    return "\n".join(proses(text))
 
 
 def tables(text):
