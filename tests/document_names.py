@@ -111,6 +111,13 @@ def indexed(page):
     return {name for row in rows for name in CODE.findall(row[-2])}
 
 
+def unsorted(page):
+    """The notions of an index that stand behind one that comes later in the alphabet."""
+    notions = [row[0].replace(",", "").lower() for row in tables(read(page)) if row[-1].startswith("`crates/")]
+    pairs = [pair for pair in zip(notions, notions[1:]) if pair[0] > pair[1]]
+    yield from (f"{page}: {later} stands behind {notion}" for notion, later in pairs)
+
+
 def unindexed(page):
     """The definitions that a page names, by their capital letter, and its index doesn't have."""
     defined = set(re.findall(r"\bpub (?:data |record )?([A-Z]\w*)", texts("crates/*/specs/**/*.antt")))

@@ -100,7 +100,7 @@ def name_failures():
         yield from names.index_failures(page)
     yield from names.claim_failures("docs/CLAIMS.md")
     yield from names.rule_failures("docs/DESIGN.md")
-    yield from names.unindexed("docs/DEFINITIONS.md")
+    yield from (*names.unindexed("docs/DEFINITIONS.md"), *names.unsorted("docs/DEFINITIONS.md"))
     yield from names.citing_failures("CONTRIBUTING.md")
     yield from names.order_failures("docs/CLAIMS.md", ("test_", *names.SAMPLES))
     yield from names.order_failures("docs/DESIGN.md", ())
