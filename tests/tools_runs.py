@@ -1,5 +1,5 @@
 #!/usr/bin/env python3
-"""Runs what stands beside the program, tools/from_bison and tools/explain and the script conform: tools_runs.py [PROGRAM].
+"""Runs what stands beside the program, tools/from_bison and tools/explain: tools_runs.py [PROGRAM].
 
 It prints the rows that fail, and ends with status 1 where one did. Where the program isn't built, a made-up one stands in
 for it, which says what the row has as its line; where bison isn't there, its reports aren't compared. A text's place is
@@ -7,7 +7,6 @@ where its mark « stands, which is taken out. The expected texts were worked by 
 """
 
 import os
-import pty
 import re
 import shutil
 import subprocess
@@ -29,14 +28,6 @@ printf '%s' "$SAID" >&2
 exit "$STATUS"
 """
 MARK = "«".encode()
-
-# Stands for the command rt in the build of a program.
-MADE_UP_RT = """#!/bin/sh
-case "$1" in
-all) printf '== low\\n== high\\nrt: more\\n== cs_cli\\n== summary\\n' ;;
-run) cp "$BUILDS" out/cs_cli && echo 'conform: usage: word 0' ;;
-esac
-"""
 
 # Bison's text, and the plain one.
 PLAIN = [
@@ -415,84 +406,9 @@ def sentences(_):
         yield f"lines without a sentence: {wanted - SENTENCES.keys()}; sentences without a line: {SENTENCES.keys() - wanted}"
 
 
-def on_terminal(command, folder, environment):
-    """What a command writes on a terminal that is its error output."""
-    ours, theirs = pty.openpty()
-    child = subprocess.Popen(command, cwd=folder, stdout=subprocess.DEVNULL, stderr=theirs, env=environment)
-    child.wait(timeout=60)
-    os.close(theirs)
-    told = os.read(ours, 65536)
-    os.close(ours)
-    return child.returncode, told.replace(b"\r\n", b"\n")
-
-
-def copied(folder):
-    """The script in a tree of its own, with the made-up program built of its sources."""
-    top = os.path.join(folder, "top")
-    out = os.path.join(top, "crates", "cs_cli", "out")
-    os.makedirs(out)
-    shutil.copy(os.path.join(TOP, "conform"), top)
-    shutil.copytree(TOOLS, os.path.join(top, "tools"))
-    written(top, "crates.txt", "")
-    shutil.copy(os.path.join(folder, "program"), os.path.join(out, "cs_cli"))
-    written(out, "conform.built", os.path.join(top, "crates.txt") + "\n")
-    return os.path.join(top, "conform")
-
-
-def without_python(folder):
-    """A folder with the commands that the script calls, and no python3."""
-    commands = os.path.join(folder, "commands")
-    os.makedirs(commands)
-    for name in ("bash", "sh", "dirname", "readlink", "find", "sort", "cat"):
-        os.symlink(shutil.which(name), os.path.join(commands, name))
-    return commands
-
-
-def scripts(folder):
-    script, line = copied(folder), b"conform: usage: word 0\n"
-    told = {"SAID": line.decode(), "STATUS": "2", "WROTE": "out"}
-    no_python = {**told, "PATH": without_python(folder)}
-    rows = ([], told, line), (["--explain"], told, b"by itself\n"), (["--explain"], no_python, line)
-    for words, environment, ends in rows:
-        found = call([script, *words], folder, **environment)
-        if found[:2] != (2, b"out") or not (found[2].startswith(line) and found[2].endswith(ends)):
-            yield f"conform {words}: {found}"
-    for environment, ends in ((told, b"by itself\n"), (no_python, line)):
-        status, said = on_terminal([script, "--help"], folder, {**os.environ, **environment})
-        if status != 2 or not (said.startswith(line) and said.endswith(ends)):
-            yield f"conform on a terminal: {status}, {said}"
-
-
-def builds(folder):
-    """The program is built of what it stands on, and anew where that is newer, which a test or an edit is not."""
-    top, tools, line = os.path.join(folder, "built"), os.path.join(folder, "with_rt"), b"conform: usage: word 0\n"
-    for part in ("cs_cli/src", "low/src", "low/must-fail", "test_low/src"):
-        os.makedirs(os.path.join(top, "crates", part))
-    os.makedirs(tools)
-    os.chmod(written(tools, "rt", MADE_UP_RT), 0o755)
-    script = shutil.copy(os.path.join(TOP, "conform"), top)
-    written(top, "crates.txt", "# kit is no crate\ncs_cli: high low\ntest_low: low\nhigh: low kit\nlow: kit")
-    told = {"SAID": line.decode(), "STATUS": "2", "WROTE": "out", "BUILDS": os.path.join(folder, "program")}
-    told["PATH"] = tools + os.pathsep + os.environ["PATH"]
-    turns = [b"conform: proving %s (%d of 3)" % (name, at) for at, name in enumerate((b"low", b"high", b"cs_cli"), 1)]
-    rows = (None, True), ("low/must-fail/a.edit", False), ("test_low/src/lib.rt", False), ("low/src/lib.rt", True)
-    for name, is_built in rows:
-        if name:
-            written(os.path.join(top, "crates"), name, "")
-        status, out, said = call([script], folder, **told)
-        found = [it for it in said.splitlines() if not it.startswith(b"conform: building; ")]
-        if (status, out, found) != (2, b"out", [*turns, *line.splitlines()] if is_built else line.splitlines()):
-            yield f"conform beside a new {name}: {status}, {out}, {said}"
-    shutil.rmtree(os.path.join(top, "crates", "cs_cli", "out"))
-    out = written(os.path.join(top, "crates", "cs_cli"), "out", "")
-    status, _, said = call([script], folder, **told)
-    if status != 73 or said != f"conform: the folder {out} can't be written: File exists\n".encode():
-        yield f"conform without a folder: {status}, {said}"
-
-
 def main():
     failed = []
-    for rows in (plain_rows, not_plain_rows, calls, reports, places, long_lines, others, good_runs, sentences, scripts, builds):
+    for rows in (plain_rows, not_plain_rows, calls, reports, places, long_lines, others, good_runs, sentences):
         with tempfile.TemporaryDirectory() as folder:
             os.chmod(written(folder, "program", MADE_UP), 0o755)
             failed += rows(folder)
