@@ -189,12 +189,15 @@ def tries(tree):
     found = tree.run("try", "g.y")
     if found != (70, "", "conform: try needs the command python3, and it isn't there\n"):
         yield f"try without Python: {found}"
-    tree.command("python3", "#!/bin/sh\n")
-    tree.write("tools/try_grammar", '#!/bin/sh\necho tried "$@"\nexit 5\n')
+    tree.command("python3", '#!/bin/sh\necho "$@"\nexit 5\n')
     for words in (["try", "a b", "--", "c"], ["--explain", "try", "a b", "--", "c"]):
         found = tree.run(*words)
-        if found != (5, f"tried {tree.path(RELEASED)} a b -- c\n", ""):
+        if found != (5, f"{tree.path('tools/try_grammar')} {tree.path(RELEASED)} a b -- c\n", ""):
             yield f"{words}: {found}"
+    tree.write(LIB, "new")
+    found = tree.run("try", "--help")
+    if found != (5, f"{tree.path('tools/try_grammar')} {tree.path('')} --help\n", ""):
+        yield f"try --help: {found}"
 
 
 run_groups((steps, places, own_words, no_words, explained, tries))

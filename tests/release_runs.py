@@ -6,6 +6,7 @@ Where the sources of this tree aren't the released ones, no copy of it is run.
 """
 
 import os
+import re
 import resource
 import shutil
 import sys
@@ -137,6 +138,44 @@ def releases(tree):
             yield f"tests/release {words}, {name}: {tree.read(SOURCES)}"
 
 
+GATE_KIT = KIT.replace("case $1 in", '''case $1 in
+ci)
+  [ "$*" = ci ] && mkdir -p crates/cs_cli/out && cp "$BUILDS" crates/cs_cli/out/cs_cli
+  exit "${CI_ENDS-0}"
+  ;;''')
+STUB = """#!/bin/sh
+echo "$0 gets $1"
+[ "$0" != "${FAILS-none}" ]
+"""
+# What becomes of a tree, what else the environment has; the status of .ci/run, parts of its output, and whether all scripts ran.
+GATES = [
+    ("a failed gate", same, {"CI_ENDS": "3"}, 3, ["ci: rt ci: "], False),
+    ("another program", same, {}, 70, ["ci: tests/release --check: ", IS_ANOTHER], False),
+    ("the released program", lambda tree: tree.release("built"), {}, 0, [IS_RELEASED, "ci: tests/run: ", "0 failed, "], True),
+    ("a failing script", same, {"FAILS": "tests/whole_runs.py"}, 1, ["tests/whole_runs.py: FAILED, ", "1 failed, "], True),
+    ("a changed source", source("new"), {}, 0, [IS_OF_OTHERS, "0 failed, "], True),
+]
+
+
+def gate(tree):
+    """The order of .ci/run: the gate, the release, and each script of tests/run."""
+    for name in (".ci/run", "tests/run"):
+        with open(os.path.join(TOP, name)) as file:
+            tree.write(name, file.read())
+    scripts = re.findall(r"^  (tests/\S+)$", tree.read("tests/run"), re.M)
+    for name in scripts:
+        tree.write(name, STUB)
+    tree.command("rt", GATE_KIT)
+    system("realpath")(tree)
+    calls = [f"{name} gets {tree.path(BUILT)}\n" for name in scripts]
+    for name, change, environment, status, out, are_run in GATES:
+        change(tree)
+        found = tree.run(tree.path(".ci/run"), folder=tree.commands, **environment)
+        wanted = [call for call in calls if call in found[1]] == (calls if are_run else [])
+        if found[0] != status or not in_order(out, found[1]) or not calls or not wanted:
+            yield f".ci/run, {name}: {found}, not {(status, out, are_run)}"
+
+
 def seconds():
     used = resource.getrusage(resource.RUSAGE_CHILDREN)
     return used.ru_utime + used.ru_stime
@@ -158,4 +197,4 @@ def copies(tree):
         yield f"a copy: {status}, {out[-80:]!r}, {said!r}, {used} s"
 
 
-run_groups((progress, builds, changed_meanwhile, releases, copies))
+run_groups((progress, builds, changed_meanwhile, releases, gate, copies))

@@ -93,7 +93,7 @@ build() {
     return 70
   fi
   rm -f "$log.run"
-  look
+  look || return
   if [ "$sources_digest" != "$before" ]; then
     echo "conform: the sources were changed while they were built: run this again" >&2
     return 70
@@ -117,9 +117,9 @@ compare() {
 }
 
 build_anew() {
-  look
-  build && compare
-  local status=$?
+  local status
+  look && build && compare
+  status=$?
   rm -f "$top/$mark"
   return "$status"
 }

@@ -29,11 +29,11 @@ add_crate() {
 
 # What the program is built of, no tests and no edits: names with a byte 0 behind each. Words are as find has them.
 sources() {
-  local folder folders=()
-  for folder in "${crates[@]/#/crates/}"; do
-    folders+=("$folder"/{src,specs,proofs})
+  local folder folders=() own=("${crates[@]/#/crates/}")
+  for folder in "${own[@]/%//src}" "${own[@]/%//specs}" "${own[@]/%//proofs}"; do
+    [ ! -d "$folder" ] || folders+=("$folder")
   done
-  find "${folders[@]}" "$@" -print0 2>/dev/null
+  find "${folders[@]}" "$@" -print0
 }
 
 # What each crate of the program stands on, and the SHA-256 and the name of each file.
@@ -53,8 +53,12 @@ digest_of() {
   [ ! -r "$top/$1" ] || digest <"$top/$1"
 }
 
-# The SHA-256 of the sources as they stand, and a mark that is as old as this look at them.
+# Sets the SHA-256 of the sources as they stand, and leaves a mark that is as old as this look at them.
 look() {
+  if ! command -v sha256sum >/dev/null; then
+    echo "conform: the command sha256sum isn't there" >&2
+    return 70
+  fi
   { mkdir -p "$top/${mark%/*}" && : >"$top/$mark"; } 2>/dev/null
   sources_digest=$(cd "$top" && source_lines | LC_ALL=C sort | digest)
 }
@@ -125,22 +129,18 @@ find_or_build() {
 keep_choice() {
   local new=$chosen.$$
   (
-    cd "$top" || exit
-    printf '%s\0' "$program" conform crates.txt "${crates[@]/#/crates/}" >"$new" || exit
-    find release tools/program.bash -print0 >>"$new"
-    sources >>"$new"
-    touch -r "$mark" "$new" && mv -f "$new" "$chosen"
+    cd "$top" &&
+      printf '%s\0' "$program" conform crates.txt tools/program.bash "${crates[@]/#/crates/}" >"$new" &&
+      { [ ! -d release ] || find release -print0 >>"$new"; } &&
+      sources >>"$new" &&
+      touch -r "$mark" "$new" &&
+      mv -f "$new" "$chosen"
   ) 2>/dev/null
 }
 
 choose() {
   local status
-  if ! command -v sha256sum >/dev/null; then
-    echo "conform: the command sha256sum isn't there" >&2
-    return 70
-  fi
-  look
-  find_or_build
+  look && find_or_build
   status=$?
   [ "$status" -ne 0 ] || keep_choice
   rm -f "$top/$mark"
@@ -155,7 +155,7 @@ say_release() {
 
 # The release, and which program runs.
 say_version() {
-  look
+  look || return
   rm -f "$top/$mark"
   find_program || return
   say_release
