@@ -13,7 +13,7 @@ import sys
 import tempfile
 
 TOP = os.path.dirname(os.path.dirname(os.path.abspath(__file__)))
-SCRIPTS = "conform", "tools/program.bash", "tools/build.bash", "tools/refusals.py", "tests/release"
+SCRIPTS = "conform", "tools/program.bash", "tools/build.bash", "tools/usage.txt", "tests/release"
 COMMANDS = "bash sh find sort xargs sha256sum cut uname mkdir rm mv cp cat touch readlink sed grep nproc dirname chmod"
 PROGRAM = """#!/bin/sh
 [ "${1-bad}" != bad ] || { echo 'conform: usage: word 0' >&2; exit 2; }

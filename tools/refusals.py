@@ -1,17 +1,9 @@
 """One sentence for each line that the program writes on its error output: what is meant, and what to do."""
 
-USAGE = """usage: conform suite YACC LEX [--criteria=LIST] [--mutate=LIST] [--bases=NUMBER] [--separator=BYTES]
-                     [--weigh=WHAT] [--format=NUMBER]
-  writes the goals of a yacc file, each with a least derivation, the tokens that it yields and, by the lex file, a text,
-  and mutants that are no sentences; --criteria= takes rule, cdrc and pair, --mutate= takes delete, insert, replace and swap,
-  or none, with commas between them; --weigh= takes nodes or bytes, --format= takes 1 or 2
-       conform rules YACC
-  writes the rule goals of a yacc file alone, without texts
-       conform gen NUMBER
-  makes two files from a number below 2^64, and writes one line that tells of their suite;
-  YACC and LEX are names of files, not empty and not beginning with `-` (./-x.y will do for -x.y)
-  ./conform --explain WORDS says where a refusal is and what to do; on a terminal it does so by itself
-"""
+import os
+
+with open(os.path.join(os.path.dirname(__file__), "usage.txt"), encoding="utf-8") as file:
+    USAGE = file.read()
 
 # By the line without its numbers. Names of refusals are those of docs/FORMATS.md.
 SENTENCES = {
