@@ -52,6 +52,7 @@ STATES = [
     "conform: 1 of 3 crates are done; under way: high\n",
     "conform: 2 of 3 crates are done; under way: cs_cli\n",
     "conform: 3 of 3 crates are done\n",
+    "conform: compiling the program\n",
 ]
 
 

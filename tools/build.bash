@@ -72,6 +72,7 @@ prove() {
   jobs=$(nproc)
   echo "conform: building; the first time takes minutes, gigabytes of disk and each processor (log: $log)" >&2
   (cd "$top/crates/cs_cli" && rt all check --jobs "$jobs") 2>&1 | say_progress >"$log"
+  echo "conform: compiling the program" >&2
   # It is run once without words, and has been built where it answers with its line of usage.
   (cd "$top/crates/cs_cli" && rt run) >"$log.run" 2>&1
   cat "$log.run" >>"$log"
