@@ -13,8 +13,9 @@ import sys
 sys.dont_write_bytecode = True
 
 from made_tree import BUILDING, BUILT, FILES, KIT, LIB, NO_KIT, OTHER, OUT, RELEASED, STATES, TOP, Tree
-from made_tree import all_of, command, damage, file, fits, in_order, lines, no_command, none, program, run_groups, same
+from made_tree import all_of, command, damage, file, fits, lines, no_command, none, program, run_groups, same
 from made_tree import source, system
+from rows import in_order
 
 LEMMA = "crates/low/proofs/more/Lemma.antt"
 ARM = "#!/bin/sh\necho Linux aarch64\n"
@@ -200,4 +201,4 @@ def tries(tree):
         yield f"try --help: {found}"
 
 
-run_groups((steps, places, own_words, no_words, explained, tries))
+run_groups(steps, places, own_words, no_words, explained, tries)

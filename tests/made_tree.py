@@ -9,8 +9,9 @@ import os
 import re
 import shutil
 import subprocess
-import sys
 import tempfile
+
+from rows import end, in_order
 
 TOP = os.path.dirname(os.path.dirname(os.path.abspath(__file__)))
 SCRIPTS = "conform", "tools/program.bash", "tools/build.bash", "tools/usage.txt", "tests/release"
@@ -169,26 +170,15 @@ def damage(tree):
         file.write(b"4")
 
 
-def in_order(parts, text):
-    at = 0
-    for part in parts:
-        at = text.find(part, at)
-        if at < 0:
-            return False
-        at += len(part)
-    return True
-
-
 def fits(found, status, out, said):
     """Whether a run has this status and output, and says these parts in order, or nothing where there are none."""
     return found[:2] == (status, out) and (in_order(said, found[2]) if said else not found[2])
 
 
-def run_groups(groups):
-    """Runs each group of rows on a tree of its own, prints the rows that fail, and ends with status 1 where one did."""
+def run_groups(*groups):
+    """Runs each group of rows on a tree of its own."""
     failed = []
     for rows in groups:
         with tempfile.TemporaryDirectory() as folder:
             failed += rows(Tree(os.path.realpath(folder)))
-    print("\n".join(failed), file=sys.stderr, end="\n" if failed else "")
-    sys.exit(1 if failed else 0)
+    end(failed)

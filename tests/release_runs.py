@@ -14,8 +14,9 @@ import sys
 sys.dont_write_bytecode = True
 
 from made_tree import BUILDING, BUILT, KIT, LIB, NO_KIT, OTHER, OUT, RELEASED, SOURCES, STATES, TOP, Tree
-from made_tree import all_of, command, damage, digest, fits, in_order, lines, none, program, run_groups, same, source
+from made_tree import all_of, command, damage, digest, fits, lines, none, program, run_groups, same, source
 from made_tree import system
+from rows import in_order
 
 # Crates that are taken up in turn b a c d cs_cli, two at a time: which is done next, and which are under way then.
 TURNS = "cs_cli: d\nd: b c\na:\nc: a\nb: kit\n"
@@ -197,4 +198,4 @@ def copies(tree):
         yield f"a copy: {status}, {out[-80:]!r}, {said!r}, {used} s"
 
 
-run_groups((progress, builds, changed_meanwhile, releases, gate, copies))
+run_groups(progress, builds, changed_meanwhile, releases, gate, copies)

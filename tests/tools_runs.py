@@ -21,6 +21,7 @@ sys.path.insert(0, TOOLS)
 
 import plain
 from refusals import SENTENCES
+from rows import end, in_order
 
 MADE_UP = """#!/bin/sh
 printf '%s' "$WROTE"
@@ -324,16 +325,6 @@ def explained(folder, words, line, status, out=""):
     return None, told[len(said) :]
 
 
-def in_order(parts, text):
-    at = 0
-    for part in parts:
-        at = text.find(part, at)
-        if at < 0:
-            return False
-        at += len(part)
-    return True
-
-
 def places(folder):
     for text, name, hint in PLACES:
         raw, at, (line, column) = marked(text)
@@ -416,8 +407,7 @@ def main():
         print("tools_runs: the program isn't built: a made-up one stood in for it", file=sys.stderr)
     if not has_bison():
         print("tools_runs: bison 3.8 isn't there: its reports weren't compared", file=sys.stderr)
-    print("\n".join(failed), file=sys.stderr, end="\n" if failed else "")
-    sys.exit(1 if failed else 0)
+    end(failed)
 
 
 BUILT = os.path.exists(PROGRAM)
