@@ -152,9 +152,9 @@ echo "$0 gets $1"
 GATES = [
     ("a failed gate", same, {"CI_ENDS": "3"}, 3, ["ci: rt ci: "], False),
     ("another program", same, {}, 70, ["ci: tests/release --check: ", IS_ANOTHER], False),
-    ("the released program", lambda tree: tree.release("built"), {}, 0, [IS_RELEASED, "ci: tests/run: ", "0 failed, "], True),
-    ("a failing script", same, {"FAILS": "tests/whole_runs.py"}, 1, ["tests/whole_runs.py: FAILED, ", "1 failed, "], True),
-    ("a changed source", source("new"), {}, 0, [IS_OF_OTHERS, "0 failed, "], True),
+    ("the released program", lambda tree: tree.release("built"), {}, 0, [IS_RELEASED, "ci: tests/run: ", "tests/run: passed, "], True),
+    ("a failing script", same, {"FAILS": "tests/whole_runs.py"}, 1, ["tests/whole_runs.py: FAILED, ", "tests/run: FAILED, "], True),
+    ("a changed source", source("new"), {}, 0, [IS_OF_OTHERS, "tests/run: passed, "], True),
 ]
 
 
