@@ -2,7 +2,7 @@
 """Times the script `conform` beside the program that it runs: bench/starts.py.
 
 Both run `rules` on examples/g1.y, and so does the script once after its choice was forgotten, as in a new clone. The
-figures are processor time, of many runs their mean, beside their bounds. It ends with status 1 where one is passed.
+figures are processor time, of many runs the least, beside their bounds. It ends with status 1 where one is passed.
 Nothing here is part of the gate.
 """
 
@@ -12,7 +12,7 @@ import subprocess
 import sys
 import tempfile
 
-from measure import TOP, Bounds, ran
+from measure import TOP, Bounds, least, ran
 
 SCRIPT = os.path.join(TOP, "conform")
 WORDS = ["rules", os.path.join(TOP, "examples", "g1.y")]
@@ -27,17 +27,13 @@ def chosen():
     return os.path.join(TOP, told[-1].split(" ")[1].rstrip(","))
 
 
-def mean(path, folder):
-    return sum(ran(path, folder, WORDS)[1] for _ in range(RUNS)) / RUNS
-
-
 def main():
     program, bounds = chosen(), Bounds()
     for path in glob.glob(os.path.join(TOP, "crates", "cs_cli", "out", "conform.*-*")):
         os.remove(path)
     with tempfile.TemporaryDirectory() as folder:
         bounds.row("the first run", ran(SCRIPT, folder, WORDS)[1], 1, "s")
-        more = mean(SCRIPT, folder) - mean(program, folder)
+        more = least(SCRIPT, folder, WORDS, RUNS)[1] - least(program, folder, WORDS, RUNS)[1]
         bounds.row("each other run, above the program's own", 1000 * more, 10, "ms")
     bounds.end()
 

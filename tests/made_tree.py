@@ -45,7 +45,7 @@ RELEASED, SOURCES = "release/conform-x86_64-linux", "release/SOURCES"
 OUT, BUILT, LIB = "crates/cs_cli/out", "crates/cs_cli/out/cs_cli", "crates/low/src/lib.rt"
 
 # What the script says before it builds, while it does, and where it can't.
-OTHER = "conform: the sources aren't those of release/SOURCES\n"
+OTHER = f"conform: the sources aren't those of {SOURCES}, which the commit has that git log -1 release names\n"
 NO_KIT = "conform: the command rt isn't there"
 BUILDING = "conform: building; "
 STATES = [

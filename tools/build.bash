@@ -106,7 +106,9 @@ build() {
 compare() {
   local ours theirs
   ours=$(told program "$built_of") theirs=$(told program "$released_of")
-  if [ "$(told sources "$built_of")" != "$(told sources "$released_of")" ]; then
+  if [ ! -e "$top/$released_of" ]; then
+    echo "conform: $built isn't compared: there is no $released_of"
+  elif [ "$(told sources "$built_of")" != "$(told sources "$released_of")" ]; then
     echo "conform: $built isn't compared: the sources aren't those of $released_of"
   elif [ "$ours" = "$theirs" ]; then
     echo "conform: $built is the released program, byte for byte: its SHA-256 is $ours"

@@ -93,7 +93,7 @@ find_released() {
   if [ ! -e "$top/$released" ]; then
     why="there is no $released"
   elif [ "$sources_digest" != "$(told sources "$released_of")" ]; then
-    why="the sources aren't those of $released_of"
+    why="the sources aren't those of $released_of, which the commit has that git log -1 release names"
   elif [ "$(uname -sm)" != 'Linux x86_64' ]; then
     why="$released is for Linux on x86-64"
   elif ! is_whole; then
