@@ -175,6 +175,11 @@ def gate(tree):
         wanted = [call for call in calls if call in found[1]] == (calls if are_run else [])
         if found[0] != status or not in_order(out, found[1]) or not calls or not wanted:
             yield f".ci/run, {name}: {found}, not {(status, out, are_run)}"
+    tree.write(LIB, "low")
+    tree.command("rt")
+    found = tree.run(tree.path("tests/run"), folder=tree.commands)
+    if found[0] != 0 or any(f"{name} gets {RELEASED}\n" not in found[1] for name in scripts):
+        yield f"tests/run without the kit: {found}"
 
 
 def seconds():
