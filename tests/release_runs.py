@@ -148,13 +148,14 @@ STUB = """#!/bin/sh
 echo "$0 gets $1"
 [ "$0" != "${FAILS-none}" ]
 """
-# What becomes of a tree, what else the environment has; the status of .ci/run, parts of its output, and whether all scripts ran.
+PASSED, FAILED = "tests/run: passed, ", "tests/whole_runs.py: FAILED, "
+# What becomes of a tree, more of the environment; the status of .ci/run, parts of its output, whether all scripts ran.
 GATES = [
     ("a failed gate", same, {"CI_ENDS": "3"}, 3, ["ci: rt ci: "], False),
     ("another program", same, {}, 70, ["ci: tests/release --check: ", IS_ANOTHER], False),
-    ("the released program", lambda tree: tree.release("built"), {}, 0, [IS_RELEASED, "ci: tests/run: ", "tests/run: passed, "], True),
-    ("a failing script", same, {"FAILS": "tests/whole_runs.py"}, 1, ["tests/whole_runs.py: FAILED, ", "tests/run: FAILED, "], True),
-    ("a changed source", source("new"), {}, 0, [IS_OF_OTHERS, "tests/run: passed, "], True),
+    ("the released program", lambda tree: tree.release("built"), {}, 0, [IS_RELEASED, PASSED], True),
+    ("a failing script", same, {"FAILS": "tests/whole_runs.py"}, 1, [FAILED, "tests/run: FAILED, "], True),
+    ("a changed source", source("new"), {}, 0, [IS_OF_OTHERS, PASSED], True),
 ]
 
 
