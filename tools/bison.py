@@ -2,7 +2,7 @@
 
 import re
 
-from plain import GAP, LETTERS, Code, Fault, item_end
+from plain import GAP, LETTERS, SYMBOLS, Code, Fault, item_end
 
 # What stands behind each directive that changes no sentence. `?` is perhaps one, `+` one or more.
 IDLE = {
@@ -182,3 +182,37 @@ def literal_value(token):
     if not 0 < value < 256:
         raise Refusal(token.at, "a literal stands for one byte, from 1 to 255: declare a token with a name for this one")
     return value
+
+
+def aliases(all_tokens):
+    """The token of each string in the lists of `%token`."""
+    found, word, behind = {}, None, None
+    for token in all_tokens:
+        if token.kind == "directive":
+            word, behind = token.word, None
+        elif token.kind in ("string", "translated") and LISTS.get(word) == "%token" and behind:
+            if found.setdefault(spelling(token), behind).text != behind.text:
+                raise Refusal(token.at, "this string stands for two tokens: keep one of them")
+        elif token.kind in SYMBOLS:
+            behind = token
+        elif token.word in ("mark", ";", ":", "|"):
+            word = None
+    return found
+
+
+def spelling(token):
+    """A string without its quotes."""
+    return token.text[token.text.index(b'"') + 1 : token.text.rindex(b'"')]
+
+
+def declared(all_tokens):
+    """The names in the lists of tokens that stand before the first mark."""
+    found, word = {b"error", b"YYerror"}, None
+    for token in all_tokens:
+        if token.kind == "mark":
+            break
+        if token.kind == "directive":
+            word = LISTS.get(token.word)
+        elif token.kind == "name" and word not in (None, "%type"):
+            found.add(token.text)
+    return found
