@@ -125,7 +125,15 @@ BAD = {
 }
 
 
+# A line that chooses between parts of the file, or brings others in, before a parser generator sees them.
+PREPROCESSOR = re.compile(rb"#[ \t]*(?:if|ifdef|ifndef|elif|else|endif|define|undef|include)\b")
+
+
 def no_token(text, at):
+    line = PREPROCESSOR.match(text, at)
+    if line:
+        word = line[0].decode()
+        return Refusal(at, f"{word} is a preprocessor's line, which Bison doesn't read: keep one branch, and take these lines out")
     for opening, message in BAD.items():
         if text.startswith(opening, at):
             return Refusal(at, message)

@@ -4,7 +4,7 @@ import difflib
 import re
 
 import plain
-from bison import WORDS
+from bison import PREPROCESSOR, WORDS
 from places import place
 
 CONVERT = "this is GNU Bison's, and tools/from_bison FILE > plain.y takes it out or says what to do"
@@ -87,6 +87,7 @@ BAD_ITEMS = (
     (rb"->", "a left side is followed by `:` alone"),
     (rb"-", "names have no `-`: write `_` for it everywhere"),
     (rb"#line", "a line for the C compiler: " + CONVERT),
+    (PREPROCESSOR.pattern, "a line for a preprocessor: keep one branch of the file, and take these lines out"),
     (rb"%\?", "a semantic predicate, which may change what is a sentence: take it out"),
     (rb"%", "a directive is % and a word, and %% parts declarations from rules"),
     (rb"[<>]", "a tag goes from < to > on one line and holds no other: tools/from_bison takes others out"),
