@@ -1,0 +1,60 @@
+"""Gives each text of this folder to a parser, by index.tsv: `pytest FOLDER`, or `python3 -m unittest discover FOLDER`.
+
+In the command {} stands for the file with a text, which without that comes on standard input.
+"""
+
+import csv
+import os
+import signal
+import subprocess
+import unittest
+
+COMMAND = []
+# Statuses: what takes a text, and what says that it can't be tried; every other one up to the last of a program refuses it.
+TAKEN, SKIPPED, LAST = 0, 77, 125
+SECONDS = 10
+FOLDER = os.path.dirname(os.path.abspath(__file__))
+
+
+def status_of(path):
+    """The status of the parser on a text; None where it took too long, and then all that it started is ended."""
+    words = [path if word == "{}" else word for word in COMMAND]
+    with open(os.devnull if "{}" in COMMAND else path, "rb") as given:
+        child = subprocess.Popen(words, stdin=given, stdout=subprocess.DEVNULL, stderr=subprocess.DEVNULL, start_new_session=True)
+    try:
+        return child.wait(SECONDS)
+    except subprocess.TimeoutExpired:
+        os.killpg(child.pid, signal.SIGKILL)
+        child.wait()
+        return None
+
+
+def outcome_of(status):
+    if status == TAKEN:
+        return "taken"
+    return "refused" if status is not None and 0 < status <= LAST else f"neither, by its status {status}"
+
+
+def test_of(path, cases):
+    def test(self):
+        status = status_of(path)
+        if status == SKIPPED:
+            self.skipTest("the parser can't try it")
+        told = "\n".join(f"{case['name']}\n  tokens: {case['tokens']}" for case in cases)
+        self.assertEqual(outcome_of(status), cases[0]["wanted"], told)
+
+    return test
+
+
+def tests_by_file():
+    found = {}
+    with open(os.path.join(FOLDER, "index.tsv"), encoding="utf-8", newline="") as file:
+        for case in csv.DictReader(file, delimiter="\t", quoting=csv.QUOTE_NONE):
+            found.setdefault(case["file"], []).append(case)
+    return {f"test_{os.path.splitext(name)[0]}": test_of(os.path.join(FOLDER, name), cases) for name, cases in found.items()}
+
+
+TestTexts = type("TestTexts", (unittest.TestCase,), tests_by_file())
+
+if __name__ == "__main__":
+    unittest.main()
