@@ -35,26 +35,32 @@ def outcome_of(status):
     return "refused" if status is not None and 0 < status <= LAST else f"neither, by its status {status}"
 
 
-def test_of(path, cases):
-    def test(self):
+def trial_of(path, cases):
+    """A test's method. Its failure tells what stands in the text, and pytest leaves these lines out of it."""
+    wanted = cases[0]["wanted"]
+    told = "".join(f"\n{case['name']}\n  tokens: {case['tokens']}" for case in cases)
+
+    def trial(self):
+        __tracebackhide__ = True
         status = status_of(path)
         if status == SKIPPED:
             self.skipTest("the parser can't try it")
-        told = "\n".join(f"{case['name']}\n  tokens: {case['tokens']}" for case in cases)
-        self.assertEqual(outcome_of(status), cases[0]["wanted"], told)
+        outcome = outcome_of(status)
+        if outcome != wanted:
+            self.fail(f"wanted: {wanted}; the parser: {outcome}{told}")
 
-    return test
+    return trial
 
 
-def tests_by_file():
+def trials_by_file():
     found = {}
     with open(os.path.join(FOLDER, "index.tsv"), encoding="utf-8", newline="") as file:
         for case in csv.DictReader(file, delimiter="\t", quoting=csv.QUOTE_NONE):
             found.setdefault(case["file"], []).append(case)
-    return {f"test_{os.path.splitext(name)[0]}": test_of(os.path.join(FOLDER, name), cases) for name, cases in found.items()}
+    return {f"test_{os.path.splitext(name)[0]}": trial_of(os.path.join(FOLDER, name), cases) for name, cases in found.items()}
 
 
-TestTexts = type("TestTexts", (unittest.TestCase,), tests_by_file())
+TestTexts = type("TestTexts", (unittest.TestCase,), trials_by_file())
 
 if __name__ == "__main__":
     unittest.main()
