@@ -181,6 +181,26 @@ OTHERS = [
     (["rules", "a", "bc"], "usage: word 2", 2, ["  conform rules a bc\n                  ^^\n", USAGE]),
     (["rules", BAD_NAME], None, 7, ["write the file's name in UTF-8"]),
 ]
+# A lex file with its place, and where the place is in a pattern the pattern's begin », the refusal, and how the hint begins.
+LEX_PLACES = [
+    ("%%\n»[a-z]«{-}[b] return A;\n", "Syntax", "[a-z]{-}[b] is flex's"),
+    ("B »[a]«{+}[b]\n%%\n{B} return A;\n", "Syntax", "[a-z]{+}[b] is flex's"),
+    ("%%\n»(«?i:x) return A;\n", "Syntax", "(?i:x) and its like are flex's"),
+    ("%%\n»a(«?#b)c return A;\n", "Syntax", "(?#..) is flex's"),
+    ("%%\n»a«[[:^digit:]] return A;\n", "Syntax", "[:^alpha:] and its like are flex's"),
+    ("%%\n»a«/b return A;\n", "Trailing", "r/s is an r with an s behind it: tools/from_flex l.l > plain.l leaves such rules out"),
+    ("END »a«/b\n%%\na return A;\n", "Trailing", "r/s is an r with an s behind it, here in the part that END names"),
+    ("%%\n»«^a return A;\n", "Anchor", "tools/from_flex l.l > plain.l leaves such rules out"),
+    ("%%\n»a«$ return A;\n", "Anchor", "tools/from_flex l.l > plain.l leaves such rules out"),
+    ("%%\n»a«$b return A;\n", "Anchor", "within a pattern flex takes it for the byte itself"),
+    ("%%\n»«<<EOF>> return A;\n", "Condition", "<<EOF>> is flex's"),
+    ("%%\n»«<INITIAL>a return A;\n", "Condition", "tools/from_flex l.l > plain.l writes the rules of INITIAL"),
+    ("%%\n»«<S>a return A;\n", "Condition", "tools/from_flex l.l > plain.l leaves such rules out"),
+    ("«%x S\n%%\na return A;\n", "StartCondition", "tools/from_flex l.l > plain.l keeps the rules of INITIAL"),
+    ("%option «case-insensitive\n%%\na return A;\n", "UnknownOption", "tools/from_flex l.l > plain.l writes each letter in both"),
+    ("%option «stack\n%%\na return A;\n", "UnknownOption", "tools/from_flex l.l > plain.l takes out what changes nothing"),
+    ("«%top{\n}\n%%\na return A;\n", "UnknownDirective", "this is flex's"),
+]
 # Lines that no command writes today, or that no file brings about: those on the lex file, and want of memory and room.
 MADE_UP_LINES = [
     ("lex: Pattern at 4: Anchor at 1", 1, ["l.l:2:3: The anchors", "a ^b x\n  ^\n"]),
@@ -346,6 +366,21 @@ def places(folder):
             yield f"{text!r}: tools/plain.py has {early}"
 
 
+def lex_places(folder):
+    """On lex files too a hint says which form of flex's stands there."""
+    written(folder, "g.y", "%token A\n%%\ns : A ;\n")
+    for text, name, hint in LEX_PLACES:
+        begin = text.replace("«", "").encode().find("»".encode())
+        raw, at, (line, column) = marked(text.replace("»", ""))
+        written(folder, "l.l", raw)
+        said = f"lex: {name} at {at}" if begin < 0 else f"lex: Pattern at {begin}: {name} at {at - begin}"
+        fault, told = explained(folder, ["suite", "g.y", "l.l"], said, 1)
+        sentence = SENTENCES[f"lex: {name}" if begin < 0 else f"lex: Pattern {name}"]
+        wanted = [f"l.l:{line}:{column}: {sentence}\n", "^\n", f"  {hint}"]
+        if fault or not in_order(wanted, told):
+            yield fault or f"{text!r}: {told!r}, not {wanted}"
+
+
 def long_lines(folder):
     """A long line is shown in part, without what a terminal would take as a command."""
     raw, at, _ = marked(LONG)
@@ -404,7 +439,8 @@ def sentences(_):
 
 def main():
     failed = []
-    for rows in (plain_rows, not_plain_rows, calls, reports, places, long_lines, others, good_runs, sentences):
+    on_files = (plain_rows, not_plain_rows, calls, reports, places, lex_places, long_lines, others, good_runs)
+    for rows in (*on_files, sentences):
         with tempfile.TemporaryDirectory() as folder:
             os.chmod(written(folder, "program", MADE_UP), 0o755)
             failed += rows(folder)

@@ -47,7 +47,7 @@ def trial_of(path, cases):
             self.skipTest("the parser can't try it")
         outcome = outcome_of(status)
         if outcome != wanted:
-            self.fail(f"wanted: {wanted}; the parser: {outcome}{told}")
+            raise self.failureException(f"wanted: {wanted}; the parser: {outcome}{told}")
 
     return trial
 

@@ -1,8 +1,9 @@
-"""What can be said of a refused yacc file beside the sentence on its refusal."""
+"""What can be said of a refused file beside the sentence on its refusal."""
 
 import difflib
 import re
 
+import lex_hints
 import plain
 from bison import PREPROCESSOR, WORDS
 from places import place
@@ -178,6 +179,8 @@ HINTS = {
 
 
 def hint(key, text, at):
+    if key.startswith("lex: "):
+        return lex_hints.hint(key, text, at)
     return HINTS[key](text, at, plain.read_items(text)[0]) if key in HINTS else None
 
 

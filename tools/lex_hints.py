@@ -1,0 +1,51 @@
+"""What can be said of a refused lex file beside the sentence on its refusal: which form of flex's it is."""
+
+import re
+
+from flex import NAME
+
+WRITTEN_OUT = "tools/from_flex FILE > plain.l writes it out"
+LEFT_OUT = "tools/from_flex FILE > plain.l leaves such rules out, and says which"
+# By the refusal: what stands at the place, and what it is; the first that fits.
+FORMS = {
+    "lex: Pattern Syntax": (
+        (r"\{-\}", "[a-z]{-}[b] is flex's, one class without the bytes of another: " + WRITTEN_OUT),
+        (r"\{\+\}", "[a-z]{+}[b] is flex's, two classes together: " + WRITTEN_OUT),
+        (r"(?<=\()\?#", "(?#..) is flex's, a remark within a pattern: " + WRITTEN_OUT),
+        (r"(?<=\()\?[isx-]*:", "(?i:x) and its like are flex's, options for a part of a pattern: " + WRITTEN_OUT),
+        (r"\[[^\n]*\[:\^", "[:^alpha:] and its like are flex's, the bytes that a class has not: " + WRITTEN_OUT),
+    ),
+    "lex: Pattern Anchor": (
+        (r"\^(?<=[\n>]\^)|\$(?=[ \t\r\n]|\Z)", LEFT_OUT),
+        (r"[\^$]", "within a pattern flex takes it for the byte itself: put a backslash before it, or " + WRITTEN_OUT),
+    ),
+    "lex: Pattern Condition": (
+        (r"<<EOF>>", "<<EOF>> is flex's, the end of the text: " + LEFT_OUT),
+        (r"<(?:INITIAL|\*)[>,]", "tools/from_flex FILE > plain.l writes the rules of INITIAL without their start conditions"),
+        (r"<", LEFT_OUT),
+    ),
+    "lex: StartCondition": ((r"%", "tools/from_flex FILE > plain.l keeps the rules of INITIAL, and says which it leaves out"),),
+    "lex: UnknownOption": (
+        (r"case-insensitive|caseless", "tools/from_flex FILE > plain.l writes each letter in both cases"),
+        (r"lex-compat|posix-compat", "with it patterns mean something else: look at the intervals and at the names in braces"),
+        (r"", "tools/from_flex FILE > plain.l takes out what changes nothing"),
+    ),
+    "lex: UnknownDirective": ((r"%top|%[cr]\b", "this is flex's: tools/from_flex FILE > plain.l takes it out"),),
+}
+
+
+def trailing(text, at):
+    """Of r/s, which stands in a rule or in the part that a definition names."""
+    line = text[text.rfind(b"\n", 0, at) + 1 : at]
+    is_definition = not re.search(rb"^%%", text[:at], re.M)
+    name = NAME.match(line) if is_definition else None
+    where = f", here in the part that {name[0].decode()} names" if name else ""
+    return f"r/s is an r with an s behind it{where}: {LEFT_OUT}"
+
+
+def hint(key, text, at):
+    """The hint for a refusal at an offset, or None."""
+    if key == "lex: Pattern Trailing":
+        return trailing(text, at)
+    read = text.decode("latin-1")
+    return next((told for form, told in FORMS.get(key, ()) if re.compile(form).match(read, at)), None)
