@@ -14,9 +14,9 @@ import sys
 import tempfile
 
 sys.dont_write_bytecode = True
-TOP = os.path.dirname(os.path.dirname(os.path.abspath(__file__)))
-TOOLS = os.path.join(TOP, "tools")
-PROGRAM = os.path.abspath(sys.argv[1]) if len(sys.argv) > 1 else os.path.join(TOP, "crates", "cs_cli", "out", "cs_cli")
+
+from calls import BUILT, PROGRAM, TOOLS, TOP, call, end, marked, written
+
 sys.path.insert(0, TOOLS)
 
 import plain
@@ -28,7 +28,6 @@ printf '%s' "$WROTE"
 printf '%s' "$SAID" >&2
 exit "$STATUS"
 """
-MARK = "«".encode()
 
 # Bison's text, and the plain one.
 PLAIN = [
@@ -223,26 +222,6 @@ END = "end goals 1 feasible 1 infeasible 0 large 0 negatives 0\n"
 SCANNER = "%%\na return 'a';\n"
 
 
-def call(command, folder, **environment):
-    done = subprocess.run(command, cwd=folder, capture_output=True, env={**os.environ, **environment}, timeout=60)
-    return done.returncode, done.stdout, done.stderr
-
-
-def written(folder, name, text):
-    path = os.path.join(folder, name)
-    with open(path, "wb") as file:
-        file.write(text if isinstance(text, bytes) else text.encode())
-    return path
-
-
-def marked(text):
-    """The text without its mark, and the mark's offset and its line and column from 1."""
-    raw = text.encode()
-    at = raw.index(MARK)
-    before = raw[:at].decode()
-    return raw.replace(MARK, b"", 1), at, (before.count("\n") + 1, len(before) - (before.rfind("\n") + 1) + 1)
-
-
 def from_bison(folder, name):
     return call([sys.executable, os.path.join(TOOLS, "from_bison"), name], folder)
 
@@ -409,8 +388,8 @@ def good_runs(folder):
     written(folder, "g.y", ERROR_RULES)
     written(folder, "l.l", SCANNER)
     shared = END.replace("\n", " cases 1\n")
-    for words, end in (["rules", "g.y"], END), (["suite", "g.y", "l.l", "--criteria=rule", "--mutate=none"], shared):
-        fault, told = explained(folder, words, None, 0, end)
+    for words, wrote in (["rules", "g.y"], END), (["suite", "g.y", "l.l", "--criteria=rule", "--mutate=none"], shared):
+        fault, told = explained(folder, words, None, 0, wrote)
         if fault or told != "g.y: 2 rules left out for `error`; of 1 goal 0 infeasible and 0 large\n":
             yield fault or f"a good run of {words}: {told!r}"
 
@@ -451,5 +430,4 @@ def main():
     end(failed)
 
 
-BUILT = os.path.exists(PROGRAM)
 main()
