@@ -65,6 +65,7 @@ class Part(NamedTuple):
 
 def parts(text, at, flags):
     """The parts of the pattern that begins there, up to the first blank that ends it. The last one is `over`."""
+    # Where the groups begin that are open, and the flags around them.
     outer = []
     while True:
         blanks = BLANKS.match(text, at) if flags.x else None
@@ -73,6 +74,8 @@ def parts(text, at, flags):
             at = blanks.end()
             continue
         if at == len(text) or text[at : at + 1] in b" \t\r\n":
+            if outer:
+                raise Refusal(outer[-1][0], "this group is never closed: close it")
             yield Part("over", at, b"", flags)
             return
         found = PART.match(text, at)
@@ -80,12 +83,12 @@ def parts(text, at, flags):
             raise Refusal(at, "no part of a pattern begins so: close it, or quote the byte")
         kind = found.lastgroup
         if kind in ("open", "options"):
-            outer.append(flags)
+            outer.append((at, flags))
             flags = flags.changed(found[0]) if kind == "options" else flags
         if kind == "close":
             if not outer:
                 raise Refusal(at, "this closes a group that was never opened")
-            flags = outer.pop()
+            flags = outer.pop()[1]
         yield Part(kind, at, found[0], flags)
         at = found.end()
 

@@ -77,7 +77,8 @@ class Names:
         self.prefixes = {first for first in firsts if first in PREFIXES or firsts.count(first) >= enough}
         letters = {name[0] for name in names}
         self.has_common_letter = len(letters) == 1 and len(self.parts) >= LEAST_NAMES
-        self.has_types = any(simple(name) in TYPES_ALONE for name in names)
+        types = {"".join(self.cores(name)[-1]) for name in names} & (TYPES | TYPES_ALONE)
+        self.has_types = len(types) > 1 and not types.isdisjoint(TYPES_ALONE)
 
     def cores(self, name):
         """The name's parts, then those without a common prefix, then without suffixes too."""
@@ -141,25 +142,31 @@ def of_name(names, name):
     is_keyword = {whole[0], whole[-1]} & KEYWORD and len(whole) > 1
     kind = None if is_keyword else next(filter(None, (class_of(core, names.has_types) for core in cores)), None)
     found += [Guess(kind, CLASSES[kind][0], "its name")] if kind else []
-    return found if kind and "".join(bare) not in WEAK else [*found, of_word(whole, parts, bare)]
+    return found if kind and "".join(bare) not in WEAK else [*found, of_word(name, parts, bare)]
 
 
-def of_word(whole, parts, bare):
-    """What a name tells that is neither a mark's nor a class's."""
+def of_word(name, parts, bare):
+    """What a name tells that is neither a mark's nor a class's: a keyword, behind the mark that it begins with."""
     if "".join(bare) in UNTOLD or (len(parts) > 1 and parts[-1] in UNTOLD_ENDS):
         return Guess("unknown", None, "its name tells no text")
-    first = BY_NAME.get(whole[0], "") if parts != whole else ""
-    word = first + "_".join(bare)
-    source = "its name" if word == "_".join(whole) else "its name, without what others have too"
-    return Guess("keyword", quoted(word.encode()), source)
+    word = "_".join(bare)
+    before, _, behind = name.lower().partition(word) if word in name.lower() else ("", word, "")
+    first = BY_NAME.get(before.strip("_"), "")
+    source = "its name" + (f" behind {name[: len(before)]}" if before else "") + (f" before {name[-len(behind) :]}" if behind else "")
+    return Guess("keyword", quoted((first + word).encode()), source)
 
 
-def of_string(text):
-    """What a string tells that stands for a token, or None where it describes the token."""
+def of_string(text, has_types):
+    """What a string tells that stands for a token, or None where there is none: its text, or a description of its texts."""
     inner = text[1:-1] if len(text) > 2 and text[:1] + text[-1:] in (b"''", b'""', b"``") else text
-    is_class = inner == text and simple(text.decode("latin-1")) in BY_CLASS_NAME
-    is_description = is_class or re.search(rb"\S\s+\S|<.*[a-z].*>|.\.\.\.|\.\.\..", inner)
-    return None if not inner or is_description else Guess("alias", quoted(inner), "its string")
+    words = re.findall(r"[a-z0-9]+", inner.decode("latin-1").lower())
+    is_class = inner == text and "".join(words) in BY_CLASS_NAME
+    if not inner or not (is_class or re.search(rb"\S\s+\S|<.*[a-z].*>|.\.\.\.|\.\.\..", inner)):
+        return Guess("alias", quoted(inner), "its string") if inner else None
+    if END_OF_TEXT.fullmatch("".join(words)):
+        return Guess("unknown", None, "its string tells the end of the text, which no pattern matches")
+    kind = class_of(words, has_types) if words else None
+    return Guess(kind, CLASSES[kind][0], "its string") if kind else Guess("unknown", None, "its string tells no text")
 
 
 def of_comment(text, name):

@@ -1,0 +1,251 @@
+#!/usr/bin/env python3
+"""Runs tools/from_flex: flex_runs.py [PROGRAM]. It prints the rows that fail, and ends with status 1 where one did.
+
+What patterns match was worked by hand from flex's manual; where flex and a C compiler are there, a scanner of flex's is asked
+too. Where the program is built, it reads what is written.
+"""
+
+import os
+import re
+import shutil
+import subprocess
+import sys
+import tempfile
+
+sys.dont_write_bytecode = True
+
+from calls import BUILT, PROGRAM, call, end, marked, tool, written
+
+# Definitions that the patterns below may use.
+NAMES = 'LETTER [a-c]\nIF "if"\nLESS <\nMIDDLE a$b\nSPACED (?x: a  b )\n'
+# A pattern of flex, what is written for it, and texts that it matches and doesn't match.
+PATTERNS = [
+    ("[a-e]{-}[ae]", "[b-d]", "bcd", "ae"),
+    ("[a-z]{-}[d-y]{+}[0-9]{-}[3-9]", "[0-2a-cz]", "0az", "d39"),
+    ("[^a]{-}[^a-c]", "[bc]", "bc", "ad"),
+    ("(?i:ab)c", "([Aa][Bb])c", ["abc", "ABc", "aBc"], ["abC", "ab"]),
+    ('(?i:"a b")+', '([Aa]" "[Bb])+', ["a b", "A Ba b"], ["ab", "a b "]),
+    ('(?i:"ab"{2})', "(([Aa][Bb]){2})", ["abAB"], ["ab", "abb"]),
+    ('(?i:"a\\"1\\"b")', '([Aa]"\\"1\\""[Bb])', ['A"1"b'], ['a\\"1"b']),
+    ("(?i:[a-c])", "([A-Ca-c])", "aC", "dD"),
+    ("(?i:[Z-a])", "([Z-a])", "Z[a", "zA"),
+    ("(?i:[^a-y])", "([^A-Ya-y])", "zZ1", "aY"),
+    ("(?i:[[:upper:]])", "([A-Za-z])", "aZ", "1"),
+    ("(?i:\\x61\\142)", "([Aa][Bb])", ["aB"], ["a", "61"]),
+    ("(?i:a(?-i:b)c)", "([Aa](b)[Cc])", ["AbC"], ["aBc"]),
+    ("(?i:1+-)", "(1+-)", ["1-", "11-"], ["1"]),
+    ("(?s:a.)", "(a[\\x00-\\xff])", ["ab", "a\n"], ["a"]),
+    ("(?s:a(?-s:.))", "(a(.))", ["ab"], ["a\n"]),
+    ("(?x: a | b\\ c /* d */ | \" \" )", "(a|b\\ c|\" \")", ["a", "b c", " "], ["bc", " a"]),
+    ("(?x:[ ]b \\1 2)", "([ ]b\\1\"2\")", [" b\x012"], [" b\n"]),
+    ("a(?# b )c", "ac", ["ac"], ["abc"]),
+    ("[[:^digit:][:^alpha:]]", "[\\x00-\\xff]", "a1!", []),
+    ("[[:^alnum:]]", "[^0-9A-Za-z]", "_!", "a0"),
+    ("[[.a]", "[.\\[a]", "[.a", "b]"),
+    ("a^b$c", "a\\^b\\$c", ["a^b$c"], ["abc"]),
+    ("x|(y$)", "x|(y\\$)", ["x", "y$"], ["y"]),
+    ("{LETTER}{LESS}=", "{LETTER}{LESS}=", ["a<="], ["d<="]),
+    ("(?i:{LETTER}1{IF})", "(([A-Ca-c])1([Ii][Ff]))", ["C1iF"], ["d1if"]),
+    ("{MIDDLE}", "{MIDDLE}", ["a$b"], ["ab"]),
+    ("{SPACED}c", "{SPACED}c", ["abc"], ["a bc"]),
+    ("\\401", "[\\x01]", "\x01", "!"),
+    # what is plain already
+    ('"a*"|[]^-]+\\n{2,3}', '"a*"|[]^-]+\\n{2,3}', ["a*", "]-^\n\n"], ["aa", "]\n"]),
+    ("[a-c-][^]a]", "[a-c-][^]a]", ["-b", "cc"], ["d]", "ba"]),
+    ("([[:alpha:]_]|\\.)*<>", "([[:alpha:]_]|\\.)*<>", ["a._<>", "<>"], ["1<>"]),
+]
+# What is written for a whole file, behind its first comment, and what is said of it, by lines.
+FILES = [
+    (
+        "%top{\n#include <x>\n}\n%option case-insensitive prefix=\"y y\" noyywrap\n%x STR\n%s INC\nD [0-9a]\nA ^x\n%%\n"
+        "  int code;\nif return IF;\n  {D} return D;\n{A} return A;\n",
+        "\n\n\n%option noyywrap\n\n\nD [0-9Aa]\n\n%%\n  int code;\n[Ii][Ff] return IF;\n{D} return D;\n\n",
+        ["8:1: left out: the anchor ^, in {A}: A ^x", "13:1: left out: the anchor ^, in {A}: {A} return A;"],
+    ),
+    (
+        "%x S\n%%\n<S>{\n  a return A;\n  <INITIAL>b return B;\n  /* c */\n}\n<*>\n{\nd return D;\n}\n<S,INITIAL>\n  e return E;\n<<EOF>> return END;\n"
+        "%%\n<S>f\n",
+        "\n%%\n\n\nb return B;\n  /* c */\n\n\n\nd return D;\n\n\ne return E;\n\n%%\n<S>f\n",
+        ["4:3: left out: the start condition <S>: a return A;", "14:1: left out: the end <<EOF>>: <<EOF>> return END;"],
+    ),
+    (
+        "%%\na |\nb/c |\nd$ {\n  return A;\n}\ne |\n^f return B;\ng |\nh return C;\n",
+        "%%\na {\n  return A;\n}\n\n\ne return B;\n\ng |\nh return C;\n",
+        [
+            "3:1: left out: trailing context: b/c |",
+            "4:1: left out: the anchor $: d$ {",
+            "8:1: left out: the anchor ^: ^f return B;",
+        ],
+    ),
+    (
+        "W [ \\t]+ /* blanks */\r\n%%\r\n{W} ;\r\n \"x\" { yy_push_state(S); }\r\n[a]{-}[a] ;\r\n%%\r\n",
+        "W [ \\t]+ /* blanks */\r\n%%\r\n{W} ;\r\n\"x\" /*@token not.a.token*/ { yy_push_state(S); }\r\n\n%%\r\n",
+        [
+            "4:2: kept, but its action isn't understood: a comment has to say what it gives: \"x\" { yy_push_state(S); }",
+            "5:1: left out: a class without a byte: [a]{-}[a] ;",
+        ],
+    ),
+    ("%%\n  %{\ncode\n  %}\na ;\n%{\ncode\n%}\n", "%%\n\n\n\na ;\n%{\ncode\n%}\n", []),
+    ("C (a\n%%\n{C} ;\na ;\n", "\n%%\n\na ;\n", ["1:1: left out: what is no pattern, in {C}: C (a", "3:1: left out: what is no pattern, in {C}: {C} ;"]),
+    ("A {B}\nB {A}\n%%\n{A} ;\na ;\n", "\n\n%%\n\na ;\n", ["1:1: left out: names that lead too deep", "2:1:", "4:1:"]),
+]
+# Files with the place where flex wouldn't take them so, and how the message begins.
+REFUSED = [
+    ("%%\n«\"b ;\n", "no part of a pattern begins so"),
+    ("%%\na«) ;\n", "this closes a group that was never opened"),
+    ("%%\na «{ b\n", "this is never closed"),
+    ("«%{\n", "this block is never closed"),
+    ("«%y\n%%\na ;\n", "flex has no such % line"),
+    ("A a\n«", "the file ends without %%"),
+    ("%option «lex-compat\n%%\na ;\n", "with this option patterns mean something else"),
+    ("%%\n<A>\n«", "a pattern is missing here"),
+    ("%%\na«(b ;\n", "this group is never closed"),
+    ("%%\na ;\n«}\n", "this closes a brace that was never opened"),
+    ("%%\n<A>{« b ;\n}\n", "a rule stands behind this brace"),
+    ("%%\n[a]b«{-}[a] ;\n", "{-} and {+} stand between two brackets"),
+]
+# Actions, and what they give: a token A, nothing, or what isn't understood; by "The kind of an action" of docs/FORMATS.md.
+ACTIONS = [
+    ("return A;", "token"),
+    ("{ count(); return ( (A) ); } // return", "token"),
+    ("{ return/* x */A ; }", "token"),
+    ("{ return check(); /*@token A*/ }", "token"),
+    ('{ say("return"); return A; }', "token"),
+    ("return B; /* return */", "other"),
+    ("", "nothing"),
+    ("{ BEGIN_LINE = 1; }", "nothing"),
+    ("BEGIN(X); /*@skip*/", "nothing"),
+    ("{ char c = ';'; }", "nothing"),
+    ("{ return check(); }", "foreign"),
+    ("{ if (x) return A; return B; }", "foreign"),
+    ("return (A;", "foreign"),
+    ("return A", "foreign"),
+    ("BEGIN(X); return A;", "foreign"),
+    ("{ yyless(1); }", "foreign"),
+    ("{ yy_push_state(X); return A; }", "foreign"),
+    ("return -1;", "foreign"),
+]
+
+
+def rule_lines(folder, text):
+    """What from_flex writes of a file, without its first comment."""
+    written(folder, "l.l", text)
+    status, out, said = tool(folder, "from_flex", "l.l")
+    return status, out.partition(" */\n")[2], said.replace("from_flex: l.l:", "").splitlines()
+
+
+def pattern_rows(folder):
+    rules = "".join(f"{pattern} return A;\n" for pattern, *_ in PATTERNS)
+    status, out, said = rule_lines(folder, f"{NAMES}%%\n{rules}")
+    found = out.partition("%%\n")[2].splitlines()
+    if status or said or len(found) != len(PATTERNS):
+        yield f"the patterns: status {status}, {said}"
+    for line, (pattern, wanted, *_) in zip(found, PATTERNS):
+        if line != f"{wanted} return A;":
+            yield f"{pattern}: {line}, not {wanted}"
+
+
+PIECE = re.compile(r'\[\^?\]?(?:\[:\w+:\]|\\.|[^\]\\])*\]|\\([0-7]+|.)|"((?:\\.|[^"\\])*)"|\{([A-Za-z]\w*)\}', re.S)
+WRITTEN_NAMES = {"LETTER": "[a-c]", "IF": "if", "LESS": "<", "MIDDLE": "a\\$b", "SPACED": "(ab)"}
+
+
+def as_python(pattern):
+    """A pattern of the profile as Python's regular expressions have it."""
+
+    def piece(found):
+        if found[1]:
+            return "\\x%02x" % int(found[1], 8) if found[1].isdigit() else found[0]
+        if found[2] is not None:
+            return "(?:%s)" % re.escape(found[2].replace('\\"', '"'))
+        return f"(?:{WRITTEN_NAMES[found[3]]})" if found[3] else found[0].replace("[:alpha:]", "A-Za-z")
+
+    return re.compile(PIECE.sub(piece, pattern))
+
+
+def match_rows(_):
+    for pattern, plain, *texts in PATTERNS:
+        for is_match, listed in zip((True, False), texts):
+            wrong = [text for text in listed if bool(as_python(plain).fullmatch(text)) != is_match]
+            if wrong:
+                yield f"{plain} for {pattern}: {wrong} {'not matched' if is_match else 'matched'}"
+
+
+MAIN = """%%
+int main(int count, char **words) {
+  char text[99]; size_t length = fread(text, 1, sizeof text, stdin);
+  yy_scan_bytes(text, length); BEGIN(atoi(words[1])); return yylex() && yyleng == length ? 0 : 1;
+}
+"""
+
+
+def flex_scanner(folder):
+    """A scanner of flex's with a start condition for each of the patterns, or none where flex or a C compiler isn't there."""
+    if not (shutil.which("flex") and shutil.which("cc")):
+        return None
+    names = " ".join(f"P{number}" for number in range(1, len(PATTERNS) + 1))
+    rules = "".join(f"<P{number}>{pattern} return 1;\n<P{number}>(?s:.) return 0;\n" for number, (pattern, *_) in enumerate(PATTERNS, 1))
+    written(folder, "s.l", f"%option noyywrap 8bit\n%x {names}\n{NAMES}%%\n{rules}{MAIN}")
+    for command in (["flex", "-o", "s.c", "s.l"], ["cc", "-w", "-o", "s", "s.c"]):
+        subprocess.run(command, cwd=folder, check=True, stderr=subprocess.DEVNULL)
+    return os.path.join(folder, "s")
+
+
+def flex_rows(folder):
+    scanner = flex_scanner(folder)
+    if not scanner:
+        print("flex_runs: flex or a C compiler isn't there: its scanner wasn't asked", file=sys.stderr)
+    for number, (pattern, _, *texts) in enumerate(PATTERNS if scanner else [], 1):
+        rows = [(text, is_match) for is_match, listed in zip((True, False), texts) for text in listed]
+        asked = [subprocess.run([scanner, str(number)], input=text.encode("latin-1")).returncode == 0 for text, _ in rows]
+        if asked != [is_match for _, is_match in rows]:
+            yield f"flex's scanner of {pattern}: {[*zip(rows, asked)]}"
+
+
+def file_rows(folder):
+    for text, wanted, told in FILES:
+        status, out, said = rule_lines(folder, text)
+        if (status, out) != (0, wanted) or len(said) != len(told) or not all(map(str.startswith, said, told)):
+            yield f"{text!r}: {status}, {out!r}, {said}"
+    for text, wanted in REFUSED:
+        raw, _, (line, column) = marked(text)
+        status, out, said = rule_lines(folder, raw)
+        if (status, out) != (1, "") or not said[0].startswith(f"{line}:{column}: {wanted}"):
+            yield f"{text!r}: {status}, {said}, not {line}:{column}: {wanted}"
+
+
+def action_rows(folder):
+    """Actions that aren't understood are told; where the program is built, the others give their token a lexeme there."""
+    written(folder, "g.y", "%token A\n%%\ns : A ;\n")
+    for action, gives in ACTIONS:
+        status, out, said = rule_lines(folder, f"%%\na {action}\n")
+        if status or bool(said) != (gives == "foreign"):
+            yield f"{action}: {status}, {said}"
+        written(folder, "plain.l", out)
+        words = [PROGRAM, "suite", "g.y", "plain.l", "--criteria=rule", "--mutate=none"]
+        lexeme = 'lexeme A "a"' if gives == "token" else "lexeme A none"
+        if BUILT and lexeme not in call(words, folder)[1].decode().splitlines():
+            yield f"{action}: the program has another lexeme than {lexeme}"
+
+
+def bad_calls(folder):
+    written(folder, "l.l", "%%\na ;\n")
+    for words, wanted in (([], 2), (["-i"], 2), (["a", "b"], 2), (["no.l"], 3)):
+        status, out, said = tool(folder, "from_flex", *words)
+        if (status, out) != (wanted, "") or not said.startswith("from_flex: "):
+            yield f"from_flex {words}: {status}, {said}"
+    status, out, _ = tool(folder, "from_flex", "-i", "l.l")
+    if status or not out.endswith("%%\n[Aa] ;\n"):
+        yield f"from_flex -i: {status}, {out}"
+
+
+def main():
+    failed = []
+    for rows in (pattern_rows, match_rows, flex_rows, file_rows, action_rows, bad_calls):
+        with tempfile.TemporaryDirectory() as folder:
+            failed += rows(folder)
+    if not BUILT:
+        print("flex_runs: the program isn't built: it read nothing of what was written", file=sys.stderr)
+    end(failed)
+
+
+main()
