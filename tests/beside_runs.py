@@ -1,6 +1,6 @@
 #!/usr/bin/env python3
-"""Runs tools/start_lex and tools/export: beside_runs.py [PROGRAM]. It prints the rows that fail, and ends with status 1 where
-one did.
+"""Runs tools/start_lex and tools/export: beside_runs.py [PROGRAM]. It prints the rows that fail, and ends with status 1
+where one did.
 
 The lines and the manifest were worked by hand. Where the program is built, it reads the lex files that are written.
 """
@@ -38,7 +38,8 @@ GRAMMARS = [
         "2 keywords of their names, 2 to fill in",
     ),
     (
-        "%token AND LAND BEGIN INT CHAR STRING_LITERAL REAL_CONST ID FUNC_ID NL\n%%\ns : AND LAND BEGIN INT CHAR STRING_LITERAL REAL_CONST ID FUNC_ID NL ;",
+        "%token AND LAND BEGIN INT CHAR STRING_LITERAL REAL_CONST ID FUNC_ID NL\n%%\n"
+        "s : AND LAND BEGIN INT CHAR STRING_LITERAL REAL_CONST ID FUNC_ID NL ;",
         [
             '"&" return AND; /* of its name: mark */',
             '"&&" return LAND; /* of its name: mark */',
@@ -98,7 +99,19 @@ INDEX = [
     "n_negative_1_insert.txt\trefused\treplace\tnegative 3 base 1 replace 0 '\\x27' pair '+' '+' at 1\t'+' '+'",
     "n_negative_2_delete.txt\trefused\tdelete\tnegative 2 base 1 delete 0 pair <begin> <end> at 0\t",
 ]
-# A parser as a Python expression over its text t for its status; whether it gets a file; tests that fail, and parts of what is said.
+# Calls of export that write nothing, and a part of what is said.
+BAD_EXPORTS = [
+    ([], "required"),
+    (["suite", "."], "isn't empty"),
+    (["suite", "suite"], "File exists"),
+    (["rules", "texts"], "it has no texts"),
+    (["cut", "texts"], "ended early"),
+    (["none", "texts"], "No such file"),
+    (["suite", "texts", "--pytest"], "come together"),
+    (["suite", "texts", "--", "cat"], "come together"),
+    (["--suffix=/", "suite", "texts"], "--suffix is of letters"),
+]
+# A parser as a Python expression over its text t for its status, whether it gets a file, how many tests fail, what is said.
 PARSERS = [
     ("t.strip() != '+'", True, 0, "OK"),
     ("t.strip() != '+'", False, 0, "OK"),
@@ -140,22 +153,22 @@ def export_rows(folder):
     status, out, said = tool(folder, "export", "suite", "texts")
     found = exported(os.path.join(folder, "texts")) if not status else {}
     index = found.pop("index.tsv", b"").decode().splitlines()
-    if (status, said, found, index) != (0, "", EXPORTED, INDEX) or out != "3 texts of 5 goals and negatives; 1 has no text\n":
+    told = "3 texts of 5 goals and negatives; 1 has no text\n"
+    if (status, out, said, found, index) != (0, told, "", EXPORTED, INDEX):
         yield f"export: {status}, {out}, {said}, {found}, {index}"
     status = tool(folder, "export", "--suffix=.c", "suite", "texts.c")[0]
-    if status or sorted(exported(os.path.join(folder, "texts.c")))[:-1] != ["index.tsv", "n_negative_1_insert.c", "n_negative_2_delete.c"]:
-        yield f"export with another suffix: {status}"
+    names = sorted(os.listdir(os.path.join(folder, "texts.c")))
+    if status or names != sorted(["index.tsv", *(name.replace(".txt", ".c") for name in EXPORTED)]):
+        yield f"export with another suffix: {status}, {names}"
 
 
 def bad_exports(folder):
     written(folder, "suite", MANIFEST)
     written(folder, "rules", "conform 1 rules\nend goals 0 feasible 0 infeasible 0 large 0 negatives 0\n")
     written(folder, "cut", MANIFEST[:-9])
-    rows = (["suite", "."], "isn't empty"), (["rules", "a"], "has no texts"), (["cut", "b"], "ended early"), (["none", "c"], "No such file")
-    calls = ([], "required"), (["suite", "d", "--pytest"], "come together"), (["suite", "e", "--", "cat"], "come together")
-    for words, wanted in (*rows, (["--suffix=/", "suite", "f"], "--suffix"), (["suite", "suite"], "File exists"), *calls):
+    for words, wanted in BAD_EXPORTS:
         status, out, said = tool(folder, "export", *words)
-        if (status, out) != (2, "") or wanted not in said or any(os.path.exists(os.path.join(folder, name)) for name in "abcdef"):
+        if (status, out) != (2, "") or wanted not in said or len(os.listdir(folder)) != 3:
             yield f"export {words}: {status}, {out}, {said}"
 
 
@@ -164,7 +177,8 @@ def parser_rows(folder):
     written(folder, "suite", MANIFEST)
     for number, (expression, has_file, failures, told) in enumerate(PARSERS):
         reads = "open(sys.argv[1]).read()" if has_file else "sys.stdin.read()"
-        command = [sys.executable, "-c", f"import os, sys; t = {reads}; sys.exit({expression})", *(["{}"] if has_file else [])]
+        code = f"import os, sys; t = {reads}; sys.exit({expression})"
+        command = [sys.executable, "-c", code, *(["{}"] if has_file else [])]
         tool(folder, "export", "suite", f"t{number}", "--pytest", "--", *command)
         status, _, said = call([sys.executable, "-m", "unittest", "discover", f"t{number}"], folder)
         said = said.decode()

@@ -1,8 +1,8 @@
 #!/usr/bin/env python3
 """Runs tools/from_flex: flex_runs.py [PROGRAM]. It prints the rows that fail, and ends with status 1 where one did.
 
-What patterns match was worked by hand from flex's manual; where flex and a C compiler are there, a scanner of flex's is asked
-too. Where the program is built, it reads what is written.
+What patterns match was worked by hand from flex's manual; where flex and a C compiler are there, a scanner of flex's is
+asked too. Where the program is built, it reads what is written.
 """
 
 import os
@@ -63,8 +63,8 @@ FILES = [
         ["8:1: left out: the anchor ^, in {A}: A ^x", "13:1: left out: the anchor ^, in {A}: {A} return A;"],
     ),
     (
-        "%x S\n%%\n<S>{\n  a return A;\n  <INITIAL>b return B;\n  /* c */\n}\n<*>\n{\nd return D;\n}\n<S,INITIAL>\n  e return E;\n<<EOF>> return END;\n"
-        "%%\n<S>f\n",
+        "%x S\n%%\n<S>{\n  a return A;\n  <INITIAL>b return B;\n  /* c */\n}\n<*>\n{\nd return D;\n}\n"
+        "<S,INITIAL>\n  e return E;\n<<EOF>> return END;\n%%\n<S>f\n",
         "\n%%\n\n\nb return B;\n  /* c */\n\n\n\nd return D;\n\n\ne return E;\n\n%%\n<S>f\n",
         ["4:3: left out: the start condition <S>: a return A;", "14:1: left out: the end <<EOF>>: <<EOF>> return END;"],
     ),
@@ -86,7 +86,11 @@ FILES = [
         ],
     ),
     ("%%\n  %{\ncode\n  %}\na ;\n%{\ncode\n%}\n", "%%\n\n\n\na ;\n%{\ncode\n%}\n", []),
-    ("C (a\n%%\n{C} ;\na ;\n", "\n%%\n\na ;\n", ["1:1: left out: what is no pattern, in {C}: C (a", "3:1: left out: what is no pattern, in {C}: {C} ;"]),
+    (
+        "C (a\n%%\n{C} ;\na ;\n",
+        "\n%%\n\na ;\n",
+        ["1:1: left out: what is no pattern, in {C}: C (a", "3:1: left out: what is no pattern, in {C}: {C} ;"],
+    ),
     ("A {B}\nB {A}\n%%\n{A} ;\na ;\n", "\n\n%%\n\na ;\n", ["1:1: left out: names that lead too deep", "2:1:", "4:1:"]),
 ]
 # Files with the place where flex wouldn't take them so, and how the message begins.
@@ -179,12 +183,13 @@ int main(int count, char **words) {
 
 
 def flex_scanner(folder):
-    """A scanner of flex's with a start condition for each of the patterns, or none where flex or a C compiler isn't there."""
+    """A scanner of flex's with a start condition for each of the patterns; none where flex or a C compiler isn't there."""
     if not (shutil.which("flex") and shutil.which("cc")):
         return None
-    names = " ".join(f"P{number}" for number in range(1, len(PATTERNS) + 1))
-    rules = "".join(f"<P{number}>{pattern} return 1;\n<P{number}>(?s:.) return 0;\n" for number, (pattern, *_) in enumerate(PATTERNS, 1))
-    written(folder, "s.l", f"%option noyywrap 8bit\n%x {names}\n{NAMES}%%\n{rules}{MAIN}")
+    conditions = [f"P{number}" for number in range(1, len(PATTERNS) + 1)]
+    pairs = zip(conditions, PATTERNS)
+    rules = "".join(f"<{name}>{pattern} return 1;\n<{name}>(?s:.) return 0;\n" for name, (pattern, *_) in pairs)
+    written(folder, "s.l", f"%option noyywrap 8bit\n%x {' '.join(conditions)}\n{NAMES}%%\n{rules}{MAIN}")
     for command in (["flex", "-o", "s.c", "s.l"], ["cc", "-w", "-o", "s", "s.c"]):
         subprocess.run(command, cwd=folder, check=True, stderr=subprocess.DEVNULL)
     return os.path.join(folder, "s")

@@ -193,7 +193,7 @@ LEX_PLACES = [
     ("%%\n»a«$ return A;\n", "Anchor", "tools/from_flex l.l > plain.l leaves such rules out"),
     ("%%\n»a«$b return A;\n", "Anchor", "within a pattern flex takes it for the byte itself"),
     ("%%\n»«<<EOF>> return A;\n", "Condition", "<<EOF>> is flex's"),
-    ("%%\n»«<INITIAL>a return A;\n", "Condition", "tools/from_flex l.l > plain.l writes the rules of INITIAL"),
+    ("%%\n»«<INITIAL>a return A;\n", "Condition", "tools/from_flex l.l > plain.l writes such rules without <..>"),
     ("%%\n»«<S>a return A;\n", "Condition", "tools/from_flex l.l > plain.l leaves such rules out"),
     ("«%x S\n%%\na return A;\n", "StartCondition", "tools/from_flex l.l > plain.l keeps the rules of INITIAL"),
     ("%option «case-insensitive\n%%\na return A;\n", "UnknownOption", "tools/from_flex l.l > plain.l writes each letter in both"),

@@ -20,7 +20,8 @@ def status_of(path):
     """The status of the parser on a text; None where it took too long, and then all that it started is ended."""
     words = [path if word == "{}" else word for word in COMMAND]
     with open(os.devnull if "{}" in COMMAND else path, "rb") as given:
-        child = subprocess.Popen(words, stdin=given, stdout=subprocess.DEVNULL, stderr=subprocess.DEVNULL, start_new_session=True)
+        quiet = {"stdout": subprocess.DEVNULL, "stderr": subprocess.DEVNULL}
+        child = subprocess.Popen(words, stdin=given, **quiet, start_new_session=True)
     try:
         return child.wait(SECONDS)
     except subprocess.TimeoutExpired:
@@ -57,7 +58,8 @@ def trials_by_file():
     with open(os.path.join(FOLDER, "index.tsv"), encoding="utf-8", newline="") as file:
         for case in csv.DictReader(file, delimiter="\t", quoting=csv.QUOTE_NONE):
             found.setdefault(case["file"], []).append(case)
-    return {f"test_{os.path.splitext(name)[0]}": trial_of(os.path.join(FOLDER, name), cases) for name, cases in found.items()}
+    names = {name: f"test_{os.path.splitext(name)[0]}" for name in found}
+    return {names[name]: trial_of(os.path.join(FOLDER, name), cases) for name, cases in found.items()}
 
 
 TestTexts = type("TestTexts", (unittest.TestCase,), trials_by_file())

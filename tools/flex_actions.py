@@ -14,7 +14,8 @@ MARK = re.compile(rb"/\*@(?:skip|token[ \t]+\S+)\*/")
 NO_CODE = re.compile(rb"/\*.*?\*/|//[^\n]*|\"(?:\\.|[^\"\\\n])*\"", re.S)
 LITERAL = re.compile(rb"'(?:\\.|[^'\\\n])*'")
 WORD = re.compile(rb"[A-Za-z0-9_]+")
-RETURN = re.compile(rb"\breturn\b\s*((?:\(\s*)*)(?:yytext\[0\]|\*yytext|[A-Za-z_][A-Za-z0-9_]*|'(?:\\.|[^'\\\n])+')\s*((?:\)\s*)*);")
+GIVEN = rb"yytext\[0\]|\*yytext|[A-Za-z_][A-Za-z0-9_]*|'(?:\\.|[^'\\\n])+'"
+RETURN = re.compile(rb"\breturn\b\s*((?:\(\s*)*)(?:" + GIVEN + rb")\s*((?:\)\s*)*);")
 
 
 def mark_for(token):

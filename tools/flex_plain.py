@@ -32,7 +32,7 @@ def groups(listed):
 
 
 def joined_set(group, flags):
-    """The bytes of brackets behind each other; the flags are those to read them by, or the parts' own where there are none."""
+    """The bytes of brackets behind each other, read by these flags, or by the parts' own where there are none."""
     found = bracket_set(group[0].text, flags or group[0].flags)
     for operation, part in zip(group[1::2], group[2::2]):
         other = bracket_set(part.text, flags or part.flags)

@@ -152,8 +152,9 @@ def of_word(name, parts, bare):
     word = "_".join(bare)
     before, _, behind = name.lower().partition(word) if word in name.lower() else ("", word, "")
     first = BY_NAME.get(before.strip("_"), "")
-    source = "its name" + (f" behind {name[: len(before)]}" if before else "") + (f" before {name[-len(behind) :]}" if behind else "")
-    return Guess("keyword", quoted((first + word).encode()), source)
+    behind_what = f" behind {name[: len(before)]}" if before else ""
+    before_what = f" before {name[-len(behind) :]}" if behind else ""
+    return Guess("keyword", quoted((first + word).encode()), f"its name{behind_what}{before_what}")
 
 
 def of_string(text, has_types):

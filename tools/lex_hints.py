@@ -21,13 +21,13 @@ FORMS = {
     ),
     "lex: Pattern Condition": (
         (r"<<EOF>>", "<<EOF>> is flex's, the end of the text: " + LEFT_OUT),
-        (r"<(?:INITIAL|\*)[>,]", "tools/from_flex FILE > plain.l writes the rules of INITIAL without their start conditions"),
+        (r"<(?:INITIAL|\*)[>,]", "tools/from_flex FILE > plain.l writes such rules without <..>"),
         (r"<", LEFT_OUT),
     ),
-    "lex: StartCondition": ((r"%", "tools/from_flex FILE > plain.l keeps the rules of INITIAL, and says which it leaves out"),),
+    "lex: StartCondition": ((r"%", "tools/from_flex FILE > plain.l keeps the rules of INITIAL alone"),),
     "lex: UnknownOption": (
         (r"case-insensitive|caseless", "tools/from_flex FILE > plain.l writes each letter in both cases"),
-        (r"lex-compat|posix-compat", "with it patterns mean something else: look at the intervals and at the names in braces"),
+        (r"lex-compat|posix-compat", "with it intervals and names in braces mean something else"),
         (r"", "tools/from_flex FILE > plain.l takes out what changes nothing"),
     ),
     "lex: UnknownDirective": ((r"%top|%[cr]\b", "this is flex's: tools/from_flex FILE > plain.l takes it out"),),

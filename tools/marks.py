@@ -43,7 +43,7 @@ NAMES = {
     "!=": "ne neq notequal noteq notequalto isnotequal notequals unequal inequality",
     "!==": "notidentical strictnotequal isnotidentical",
     "<=": "le leq lte lesseq lessequal lessorequal lessthanequal lessthanorequal lessthanorequalto issmallerorequal",
-    ">=": "ge geq gte greatereq greaterequal greaterorequal greaterthanequal greaterthanorequal greaterthanorequalto isgreaterorequal",
+    ">=": "ge geq gte greatereq greaterequal greaterorequal greaterthanequal greaterthanorequal greaterthanorequalto",
     "<=>": "spaceship lessequalgreater threeway",
     "&&": "and andand land logicaland booleanand",
     "||": "or oror lor logicalor booleanor",
