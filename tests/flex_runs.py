@@ -91,6 +91,11 @@ FILES = [
         "\n%%\n\na ;\n",
         ["1:1: left out: what is no pattern, in {C}: C (a", "3:1: left out: what is no pattern, in {C}: {C} ;"],
     ),
+    (
+        "%%\na[b]{+}[^c] ;\n[^b]{-}[c]{+}[d] ;\n[^b]{+}[c] ;\n",
+        "%%\n\n[^bc] ;\n\n",
+        ["2:1: left out: {+} beside a class with ^", "4:1: left out: {+} beside a class with ^"],
+    ),
     ("A {B}\nB {A}\n%%\n{A} ;\na ;\n", "\n\n%%\n\na ;\n", ["1:1: left out: names that lead too deep", "2:1:", "4:1:"]),
 ]
 # Files with the place where flex wouldn't take them so, and how the message begins.

@@ -40,6 +40,13 @@ def joined_set(group, flags):
     return found
 
 
+def is_negated_union(group):
+    """Whether `{+}` joins a bracket with `^`: flex 2.6.4 takes the bytes that stand in it, and not the others."""
+    unions = [place for place, part in enumerate(group) if part.text == b"{+}"]
+    joined = [group[place + 1] for place in unions] + (group[:1] if 1 in unions else [])
+    return any(part.text.startswith(b"[^") for part in joined)
+
+
 class Pattern:
     """A pattern on its way into the profile. What is plain already stays as it is spelled."""
 
@@ -85,6 +92,8 @@ class Pattern:
         return bracket_text(frozenset(range(256))) if group[0].flags.s else b"."
 
     def of_bracket(self, group, _):
+        if is_negated_union(group):
+            raise LeftOut("{+} beside a class with ^, which flex takes otherwise than its manual says")
         found = joined_set(group, None)
         is_plain = len(group) == 1 and not FLEX_ALONE.search(group[0].text) and found == joined_set(group, Flags())
         return group[0].text if is_plain else bracket_text(found)
