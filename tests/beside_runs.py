@@ -24,7 +24,7 @@ GRAMMARS = [
             '"{" return LBRACE; /* of its name: mark */',
             '"+=" return PLUS_ASSIGN; /* of its name: mark */',
             '"<=" return LE; /* of its string */',
-            ' /* LAST: its string tells the end of the text, which no pattern matches; fill in: "..." return LAST; */',
+            ' /* LAST: its number tells the end of the text, which no pattern matches; fill in: "..." return LAST; */',
             '"<<" return SHL; /* of the comment beside it */',
             '"while" return WHILE; /* of the comment beside it */',
             ' /* OTHER: its name tells no text; fill in: "..." return OTHER; */',
@@ -55,6 +55,24 @@ GRAMMARS = [
         ],
         "10 tokens: 3 marks of their names, 3 classes of their names, 3 keywords of their names, 1 to fill in",
     ),
+]
+# A grammar, and a line of its lex file.
+GUESSES = [
+    ("%token IF_KW T_KW_OR\n%%\ns : IF_KW | T_KW_OR ;", '"if" return IF_KW; /* of its name before _KW: keyword */'),
+    ("%token KW_OR\n%%\ns : KW_OR ;", '"or" return KW_OR; /* of its name behind KW_: keyword */'),
+    ("%token K_STRING\n%%\ns : K_STRING ;", '"string" return K_STRING; /* of its name behind K_: keyword */'),
+    ("%token TDO TIF TON TOR TAT\n%%\ns : TDO TIF TON TOR TAT ;", '"do" return TDO; /* of its name behind T: keyword */'),
+    ("%token tDO\n%%\ns : tDO ;", '"do" return tDO; /* of its name behind t: keyword */'),
+    ("%token LESS_LESS_MINUS\n%%\ns : LESS_LESS_MINUS ;", '"<<-" return LESS_LESS_MINUS; /* of its name: mark */'),
+    ("%token SHL_ASSIGN '='\n%%\ns : SHL_ASSIGN '=' ;", '"<<=" return SHL_ASSIGN; /* of its name: mark */'),
+    ("%token ASSIGN\n%%\ns : ASSIGN '=' ;", '":=" return ASSIGN; /* of its name: mark */'),
+    ("%token RULE /* --- */\n%%\ns : RULE ;", '"rule" return RULE; /* of its name: keyword */'),
+    ("%token A \"\\\"\\n\"\n%%\ns : A ;", '"\\"\\n" return A; /* of its string */'),
+    ("%token A \"'use'\"\n%%\ns : \"'use'\" ;", '"use" return A; /* of its string */'),
+    ("%token A _(\"integer literal\")\n%%\ns : A ;", "[0-9]+ return A; /* of its string: number */"),
+    ("%token A \"open tag\"\n%%\ns : A ;", ' /* A: its string tells no text; fill in: "..." return A; */'),
+    ("%%\ns : 'a' error | 'b' 'c' %prec 'x' | 'd' ;", "[b-d] return yytext[0]; /* the literals of the grammar */"),
+    ("%token A.B\n%%\ns : A.B ;", '"a_b" return A.B; /*@token A.B*/ /* of its name: keyword */'),
 ]
 # A manifest with marks in its names, and a goal without a text; its files and the lines of its index; worked by hand.
 MANIFEST = """conform 2 suite
@@ -133,6 +151,10 @@ def grammar_rows(folder):
         written(folder, "l.l", out)
         if BUILT and call([PROGRAM, "suite", "plain.y", "l.l", "--criteria=rule", "--mutate=none"], folder)[0]:
             yield f"the program refuses what start_lex wrote of {text!r}"
+    for text, wanted in GUESSES:
+        written(folder, "g.y", text)
+        if wanted not in tool(folder, "start_lex", "g.y")[1]:
+            yield f"start_lex on {text!r}: no {wanted}"
     raw, _, (line, column) = marked("%token A\n%%\ns : «? ;\n")
     written(folder, "g.y", raw)
     if tool(folder, "start_lex", "g.y")[2].startswith(f"start_lex: g.y:{line}:{column}: ") is False:

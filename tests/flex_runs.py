@@ -81,7 +81,7 @@ FILES = [
         "W [ \\t]+ /* blanks */\r\n%%\r\n{W} ;\r\n \"x\" { yy_push_state(S); }\r\n[a]{-}[a] ;\r\n%%\r\n",
         "W [ \\t]+ /* blanks */\r\n%%\r\n{W} ;\r\n\"x\" /*@token not.a.token*/ { yy_push_state(S); }\r\n\n%%\r\n",
         [
-            "4:2: kept, but its action isn't understood: a comment has to say what it gives: \"x\" { yy_push_state(S); }",
+            "4:2: kept, but in no text: a comment can say what its action gives: \"x\" { yy_push_state(S); }",
             "5:1: left out: a class without a byte: [a]{-}[a] ;",
         ],
     ),

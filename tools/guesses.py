@@ -4,7 +4,7 @@ import re
 from typing import NamedTuple
 
 from flex_patterns import member_text
-from marks import BY_NAME, SECOND
+from marks import BY_NAME, NAMES, SECOND
 
 # Parts of names that say that it is a token, and nothing of which.
 PREFIXES = {"t", "tk", "tok", "token", "kw", "k", "key", "keyword", "lex", "sym", "y", "yy"}
@@ -28,8 +28,8 @@ BY_BASE = {**BY_CLASS_NAME, "char": "character", **dict.fromkeys(("long", "short
 # Names of classes that keywords have too, and ends of names that tell a class.
 WEAK = {"name", "symbol", "word", "variable", "atom", "text", "quoted", "constant", "re", "ere", "character"}
 CLASS_ENDS = re.compile(r".*(identifier|ident|number|string)")
-# A prefix or suffix that says that it is a keyword.
-KEYWORD = {"kw", "k", "keyword"}
+# Prefixes and suffixes that say that it is no class, and those that say that it is no mark either.
+NO_CLASS, NO_MARK = {"kw", "k", "keyword"}, {"kw", "keyword"}
 # Names of types: where one is there that names no class of texts, those that may be either are keywords.
 TYPES = {"int", "integer", "char", "float", "double", "real", "string"}
 TYPES_ALONE = {"char", "long", "short", "void", "bool", "boolean", "byte"}
@@ -136,13 +136,12 @@ def of_name(names, name):
     whole, parts, bare = cores = names.cores(name)
     if any(map(END_OF_TEXT.fullmatch, ["".join(whole), "".join(parts), *whole])):
         return [Guess("unknown", None, "its name tells the end of the text, which no pattern matches")]
-    found = []
-    for mark in filter(None, map(mark_of, cores)):
-        found += [Guess("mark", quoted(text.encode()), "its name") for text in (mark, SECOND.get(mark)) if text]
-    is_keyword = {whole[0], whole[-1]} & KEYWORD and len(whole) > 1
-    kind = None if is_keyword else next(filter(None, (class_of(core, names.has_types) for core in cores)), None)
-    found += [Guess(kind, CLASSES[kind][0], "its name")] if kind else []
-    return found if kind and "".join(bare) not in WEAK else [*found, of_word(name, parts, bare)]
+    around = {whole[0], whole[-1]} if len(whole) > 1 else set()
+    marks = [] if around & NO_MARK else [mark for mark in map(mark_of, cores) if mark]
+    found = [Guess("mark", quoted(text.encode()), "its name") for mark in marks for text in (mark, SECOND.get(mark)) if text]
+    kinds = [] if around & NO_CLASS else [kind for core in cores if (kind := class_of(core, names.has_types))]
+    found += [Guess(kind, CLASSES[kind][0], "its name") for kind in kinds[:1]]
+    return found if kinds and "".join(bare) not in WEAK else [*found, of_word(name, parts, bare)]
 
 
 def of_word(name, parts, bare):
@@ -173,8 +172,12 @@ def of_string(text, has_types):
 def of_comment(text, name):
     """What a comment beside a token tells that is a mark, or the token's name in quotes; else None."""
     found = re.fullmatch(rb"(['\"`]?)(\S+?)['\"`]?", text.strip())
-    is_mark = found and not re.search(rb"[A-Za-z0-9]|\.\.\..|.\.\.\.", found[2])
-    is_word = found and found[1] and simple(found[2].decode("latin-1")) in simple(name)
+    if not found:
+        return None
+    beside = found[2].decode("latin-1")
+    # A line of one sign is an ornament.
+    is_mark = beside in NAMES or (len(beside) < 4 and not beside.isalnum() and (len(beside) < 3 or len(set(beside)) > 1))
+    is_word = found[1] and simple(beside) in simple(name)
     return Guess("comment", quoted(found[2]), "the comment beside it") if is_mark or is_word else None
 
 
