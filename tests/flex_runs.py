@@ -86,6 +86,12 @@ FILES = [
         ],
     ),
     ("%%\n  %{\ncode\n  %}\na ;\n%{\ncode\n%}\n", "%%\n\n\n\na ;\n%{\ncode\n%}\n", []),
+    ("%%\na %{\n  if (x) { }\n%}\n  /* c */ code\n", "%%\na %{\n  if (x) { }\n%}\n  /* c */ code\n", []),
+    (
+        "%x A B\n%%\n<A>{\n<B>b ;\n<INITIAL>{ // x\nc ;\n<B>d ;\n}\n<*>e ;\n}\nf\n",
+        "\n%%\n\n\n\nc ;\nd ;\n\ne ;\n\nf\n",
+        ["4:4: left out: the start condition <A,B>: b ;"],
+    ),
     (
         "C (a\n%%\n{C} ;\na ;\n",
         "\n%%\n\na ;\n",
@@ -106,6 +112,7 @@ REFUSED = [
     ("«%{\n", "this block is never closed"),
     ("«%y\n%%\na ;\n", "flex has no such % line"),
     ("A a\n«", "the file ends without %%"),
+    ("A a\n«A bcd\n%%\n{A} ;\n", "this name was defined before"),
     ("%option «lex-compat\n%%\na ;\n", "with this option patterns mean something else"),
     ("%%\n<A>\n«", "a pattern is missing here"),
     ("%%\na«(b ;\n", "this group is never closed"),

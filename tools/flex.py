@@ -166,5 +166,5 @@ class Layout:
         if end == pattern:
             raise Refusal(pattern, "a pattern is missing here: write it")
         action = BLANKS.match(self.text, end).end()
-        conditions = sum(self.scopes, own)
+        conditions = sum(self.scopes, ()) + own
         return Rule(at, conditions, pattern, end, action, self.code_end(action, True))
