@@ -69,6 +69,8 @@ GUESSES = [
     ("%token RULE /* --- */\n%%\ns : RULE ;", '"rule" return RULE; /* of its name: keyword */'),
     ("%token A \"\\\"\\n\"\n%%\ns : A ;", '"\\"\\n" return A; /* of its string */'),
     ("%token A \"'use'\"\n%%\ns : \"'use'\" ;", '"use" return A; /* of its string */'),
+    ("%token A \"'end if'\"\n%%\ns : A ;", '"end if" return A; /* of its string */'),
+    ("%token A \"floating-point number\"\n%%\ns : A ;", "[0-9]+\\.[0-9]+ return A; /* of its string: real number */"),
     ("%token A _(\"integer literal\")\n%%\ns : A ;", "[0-9]+ return A; /* of its string: number */"),
     ("%token A \"open tag\"\n%%\ns : A ;", ' /* A: its string tells no text; fill in: "..." return A; */'),
     ("%%\ns : 'a' error | 'b' 'c' %prec 'x' | 'd' ;", "[b-d] return yytext[0]; /* the literals of the grammar */"),

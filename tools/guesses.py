@@ -15,7 +15,7 @@ ASSIGNMENT = ("assign", "asgn", "asg", "equals", "equal", "eq", "set")
 # The patterns of classes of texts, and what names tell them, in small letters and without `_`.
 CLASSES = {
     "number": (rb"[0-9]+", "number num integer int digits unumber uint inum constant"),
-    "real number": (rb"[0-9]+\.[0-9]+", "real float double floating fnum realnumber floatnumber dnumber"),
+    "real number": (rb"[0-9]+\.[0-9]+", "real float double floating floatingpoint fnum realnumber dnumber"),
     "word": (rb"[A-Za-z_][A-Za-z0-9_]*", "identifier ident id name symbol word variable atom varname idname lname"),
     "string": (rb"\"([^\\\"\n]|\\.)*\"", "string str text quoted dquoted qstring tstring quotedstring cstring"),
     "character": (rb"'([^\\'\n]|\\.)'", "character charconst cconst charcon"),
@@ -160,8 +160,9 @@ def of_string(text, has_types):
     """What a string tells that stands for a token, or None where there is none: its text, or a description of its texts."""
     inner = text[1:-1] if len(text) > 2 and text[:1] + text[-1:] in (b"''", b'""', b"``") else text
     words = re.findall(r"[a-z0-9]+", inner.decode("latin-1").lower())
-    is_class = inner == text and "".join(words) in BY_CLASS_NAME
-    if not inner or not (is_class or re.search(rb"\S\s+\S|<.*[a-z].*>|.\.\.\.|\.\.\..", inner)):
+    is_description = "".join(words) in BY_CLASS_NAME or re.search(rb"\S\s+\S|<.*[a-z].*>|.\.\.\.|\.\.\..", inner)
+    # Quotes within the string say that it is the text itself.
+    if not is_description or inner != text:
         return Guess("alias", quoted(inner), "its string") if inner else None
     if END_OF_TEXT.fullmatch("".join(words)):
         return Guess("unknown", None, "its string tells the end of the text, which no pattern matches")
