@@ -86,6 +86,16 @@ FILES = [
         ],
     ),
     ("%%\n  %{\ncode\n  %}\na ;\n%{\ncode\n%}\n", "%%\n\n\n\na ;\n%{\ncode\n%}\n", []),
+    (
+        "%option posix-compat\nA a|b\n%%\n{A}c ;\nab{2} ;\na|b*c{2}d{1,3}(ef{2}) ;\n(?i:a) ;\n",
+        "\nA a|b\n%%\n{A}c ;\n(ab){2} ;\na|((b*c){2}d){1,3}((ef){2}) ;\n\n",
+        ["7:1: left out: (? under an option"],
+    ),
+    (
+        "%option lex-compat\nA a|{B}\nB b\n%%\n{A}c ;\n{A}{2}[{A}]\"{A}\" ;\n(b)(c){2}d* ;\n",
+        "\nA a|b\nB b\n%%\na|bc ;\na|b{2}[{A}]\"{A}\" ;\n((b)(c)){2}d* ;\n",
+        [],
+    ),
     ("%%\na %{\n  if (x) { }\n%}\n  /* c */ code\n", "%%\na %{\n  if (x) { }\n%}\n  /* c */ code\n", []),
     (
         "%x A B\n%%\n<A>{\n<B>b ;\n<INITIAL>{ // x\nc ;\n<B>d ;\n}\n<*>e ;\n}\nf\n",
@@ -113,7 +123,6 @@ REFUSED = [
     ("«%y\n%%\na ;\n", "flex has no such % line"),
     ("A a\n«", "the file ends without %%"),
     ("A a\n«A bcd\n%%\n{A} ;\n", "this name was defined before"),
-    ("%option «lex-compat\n%%\na ;\n", "with this option patterns mean something else"),
     ("%%\n<A>\n«", "a pattern is missing here"),
     ("%%\na«(b ;\n", "this group is never closed"),
     ("%%\na ;\n«}\n", "this closes a brace that was never opened"),

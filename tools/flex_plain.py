@@ -52,10 +52,14 @@ class Pattern:
 
     def __init__(self, definitions, flags, names=()):
         self.definitions, self.flags, self.names = definitions, flags, names
-        # The pieces and their length, where the last one ends in the source, and whether it is several atoms.
-        self.pieces, self.length, self.end, self.is_many = [], 0, 0, False
+        # What is written, a piece for each part that a repetition may take, and where the open branches begin among them.
+        self.pieces, self.branches = [], [0]
+        # How much that is, where the last piece ends in the source, and whether it is several atoms.
+        self.length, self.end, self.is_many = 0, 0, False
 
     def written(self, text):
+        if self.definitions.names_are_texts:
+            text = self.definitions.spelled_out(text, self.flags)
         listed = groups(parts(text, 0, self.flags))
         if listed[-1][0].at < len(text):
             raise LeftOut("a blank within it")
@@ -69,11 +73,25 @@ class Pattern:
         before = self.pieces[-1] if self.pieces else b""
         if part.at > self.end and OPEN_ESCAPE.search(before) and DIGIT.match(piece):
             piece = b'"%s"' % piece
-        self.pieces.append(piece)
+        if part.kind == "repetition":
+            self.pieces[-1:] = [before + piece]
+        else:
+            self.pieces.append(piece)
         self.length += len(piece)
+        self.close_branch(part.kind)
         self.is_many = part.kind == "quoted" and piece != part.text
         if self.length > MOST_WRITTEN:
             raise LeftOut("names that are too long once put in")
+
+    def close_branch(self, kind):
+        """Notes where a branch begins; a group that is closed is one piece."""
+        if kind in ("open", "options"):
+            self.branches.append(len(self.pieces))
+        elif kind == "bar":
+            self.branches[-1] = len(self.pieces)
+        elif kind == "close":
+            begin = self.branches.pop() - 1
+            self.pieces[begin:] = [b"".join(self.pieces[begin:])]
 
     def as_it_is(self, group, _):
         return group[0].text
@@ -81,11 +99,16 @@ class Pattern:
     of_open = of_close = of_bar = as_it_is
 
     def of_options(self, *_):
+        if self.definitions.has_low_intervals:
+            raise LeftOut("(? under an option that knows no such groups")
         return b"("
 
     def of_repetition(self, group, _):
-        if self.is_many:
-            self.pieces[-1] = b"(%s)" % self.pieces[-1]
+        # By lex an interval takes all of the branch before it.
+        is_low = self.definitions.has_low_intervals and group[0].text.startswith(b"{")
+        begin = self.branches[-1] if is_low else len(self.pieces) - 1
+        if self.is_many or len(self.pieces) - begin > 1:
+            self.pieces[begin:] = [b"(%s)" % b"".join(self.pieces[begin:])]
         return group[0].text
 
     def of_any(self, group, _):
@@ -152,6 +175,8 @@ class Definitions:
 
     def __init__(self):
         self.texts, self.flags, self.found = {}, Flags(), {}
+        # Whether patterns are read as lex does: a name stands for its text, without parentheses, and an interval binds weakly.
+        self.names_are_texts = self.has_low_intervals = False
 
     def add(self, name, rest):
         """Adds the definition whose line goes on so behind the name; gives its text, without a comment behind it."""
@@ -162,6 +187,24 @@ class Definitions:
         is_comment = COMMENT.fullmatch(rest[end:].strip())
         self.texts[name] = rest[:end] if is_comment else rest.rstrip()
         return self.texts[name]
+
+    def spelled_out(self, text, flags):
+        """The pattern with each name's text in its place."""
+        for _ in range(MOST_DEEP):
+            names = [part for part in parts(text, 0, flags) if part.kind == "name" and part.text[1:-1] in self.texts]
+            if not names:
+                return text
+            text = self.with_texts(text, names)
+        raise LeftOut("names that lead too deep")
+
+    def with_texts(self, text, names):
+        pieces, end = [], 0
+        for part in names:
+            pieces += [text[end : part.at], self.texts[part.text[1:-1]]]
+            end = part.at + len(part.text)
+        if sum(map(len, pieces)) > MOST_WRITTEN:
+            raise LeftOut("names that are too long once put in")
+        return b"".join(pieces) + text[end:]
 
     def plain(self, name, names=()):
         if name not in self.found:

@@ -27,7 +27,7 @@ FORMS = {
     "lex: StartCondition": ((r"%", "tools/from_flex FILE > plain.l keeps the rules of INITIAL alone"),),
     "lex: UnknownOption": (
         (r"case-insensitive|caseless", "tools/from_flex FILE > plain.l writes each letter in both cases"),
-        (r"lex-compat|posix-compat", "with it intervals and names in braces mean something else"),
+        (r"lex-compat|posix-compat", "with it patterns mean something else: " + WRITTEN_OUT),
         (r"", "tools/from_flex FILE > plain.l takes out what changes nothing"),
     ),
     "lex: UnknownDirective": ((r"%top|%[cr]\b", "this is flex's: tools/from_flex FILE > plain.l takes it out"),),
