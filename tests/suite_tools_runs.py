@@ -34,8 +34,8 @@ SECOND = (
 # A parser as a Python expression over its text t, whether it gets a file, and its runs: status, taken and refused of each kind.
 PARSERS = [
     ("t.strip() != b'x'", 0, {"rule": (1, 0), "pair": (2, 0), "delete": (0, 1), "insert": (0, 1)}),
-    ("False", 1, {"rule": (1, 0), "pair": (2, 0), "delete": (1, 0), "insert": (1, 0)}),
-    ("True", 1, {"rule": (0, 1), "pair": (0, 2), "delete": (0, 1), "insert": (0, 1)}),
+    ("False", 2, {"rule": (1, 0), "pair": (2, 0), "delete": (1, 0), "insert": (1, 0)}),
+    ("True", 2, {"rule": (0, 1), "pair": (0, 2), "delete": (0, 1), "insert": (0, 1)}),
     ("b'x' not in t", 1, {"rule": (1, 0), "pair": (2, 0), "delete": (0, 1), "insert": (1, 0)}),
 ]
 
@@ -82,21 +82,21 @@ def parsers(first, second):
 
 
 def failures(first, _):
-    told = call("try_parser", first, "--", *parser_of("b'x' not in t", "sys.stdin.buffer"))[1]
+    told = call("try_parser", "--all", first, "--", *parser_of("b'x' not in t", "sys.stdin.buffer"))[1]
     if not told.startswith("negative 2 base 1 insert 0 'x' pair 'x' 'x' at 1\n  wanted: refused; the parser: taken\n  text: \"x x\"\n  tokens: 'x' 'x'\n"):
         yield f"a failure: {told}"
-    dying = call("try_parser", first, "--", sys.executable, "-c", "import os; os.kill(os.getpid(), 9)")
-    if dying[0] != 1 or dying[1].count("died of signal 9") != 5:
+    dying = call("try_parser", "--all", first, "--", sys.executable, "-c", "import os; os.kill(os.getpid(), 9)")
+    if dying[0] != 2 or dying[1].count("died of signal 9") != 5:
         yield f"a parser that dies: {dying}"
-    slow = call("try_parser", "--seconds", "0.3", "--stop-after", "1", "--jobs", "1", first, "--", "sleep", "5")
-    if slow[0] != 1 or "too slow" not in slow[1] or "3 of 5 cases run, 3 failed" not in slow[1]:
+    slow = call("try_parser", "--all", "--seconds", "0.3", "--stop-after", "1", "--jobs", "1", first, "--", "sleep", "5")
+    if slow[0] != 1 or "too slow" not in slow[1] or "; 1 of them run; 3 failed" not in slow[1]:
         yield f"a parser that is slow, once: {slow}"
 
 
 def machines(first, _):
     report = first + ".xml"
     told = call("try_parser", "--tap", "--junit", report, first, "--", *parser_of("False", "sys.stdin.buffer"))
-    if told[0] != 1 or not told[1].startswith("TAP version 13\n1..5\nok 1 - goal 1 rule 1\n") or told[1].count("\nnot ok") != 2:
+    if told[0] != 2 or not told[1].startswith("TAP version 13\n1..5\nok 1 - goal 1 rule 1\n") or told[1].count("\nnot ok") != 2:
         yield f"the protocol of tests: {told}"
     suite = xml.etree.ElementTree.parse(report).getroot()
     if (suite.get("tests"), suite.get("failures"), len(suite.findall("testcase/failure"))) != ("5", "2", 2):

@@ -77,6 +77,8 @@ class Manifest:
     goals: list = field(default_factory=list)
     bases: list = field(default_factory=list)
     negatives: list = field(default_factory=list)
+    # of the second format: the marks that may stand behind each mark
+    behind: dict = field(default_factory=dict)
 
 
 def unquoted(word):
@@ -108,7 +110,12 @@ class Lines:
 def read(path):
     """The manifest in a file. A manifest without its last line is cut short, and not read in part."""
     with open(path, encoding="latin-1", newline="") as file:
-        lines = Lines(file.read())
+        return of_text(file.read())
+
+
+def of_text(text):
+    """The manifest that these characters are, one for each byte."""
+    lines = Lines(text)
     found = lines.need(r"conform ([12]) (suite|rules)")
     if not lines.whole:
         raise CutShort("the manifest has no last line: the run that wrote it ended early")
@@ -129,8 +136,9 @@ def read_head(lines, manifest):
         manifest.rules.append((found[2], found[3].split()))
     while found := lines.next(r'lexeme (\S+) (none|"(.*)")'):
         manifest.lexemes[found[1]] = None if found[2] == "none" else unquoted(found[3])
-    while lines.next(r"closed .*"):
-        pass
+    while found := lines.next(r"closed (?:next (\S+) :)?(.*)"):
+        if found[1]:
+            manifest.behind[found[1]] = set(found[2].split())
 
 
 def read_goals(lines, manifest):

@@ -1,0 +1,120 @@
+"""What the program writes, read as trials: manifests, and the outputs of its other commands that have lists of tokens with texts."""
+
+import re
+from dataclasses import dataclass, field
+
+import manifest
+from trials import Trial
+
+PAIR = r"pair (\S+) (\S+) at \d+"
+# By the first line's word: the line before an entry's indented ones, its kind, and the line at the end.
+ENTRIES = {
+    "wrong": (rf"(wrong \d+) (empty|rule \d+ (?:drop|double|swap) \d+) (?:{PAIR}|outside)", "wrong", r"end slips .* wrong (\d+)"),
+    "deep": (rf"(deep \d+) base \d+ {manifest.EDIT}", "deep", r"end bases .* deep (\d+) .*"),
+    "spell": (r"(spelling \d+) (token \S+|skip) goal \d+ size \d+(?: at \d+)?", "spelling", r"end rules \d+ spelled (\d+) .*"),
+    "chains": (r"(goal \d+) (chain \d+ \d+ \d+ \d+ \d+) size \d+", "chain", r"end goals \d+ feasible (\d+) .*"),
+}
+# Lines that stand alone: they have no list.
+ALONE = {
+    "wrong": r"(?!)",
+    "deep": r"base \d+ goal \d+",
+    "spell": r"spelling \d+ (?:shadowed|foreign|literal|infeasible|large)",
+    "chains": r"(?:token|rule|goal) .*",
+}
+
+
+@dataclass
+class Output:
+    """An output of the program: its form, its trials, how many of its lists have no text, and its grammar where it has one."""
+
+    path: str
+    form: str
+    trials: list = field(default_factory=list)
+    without_text: int = 0
+    tokens: list = field(default_factory=list)
+    rules: list = field(default_factory=list)
+    lexemes: dict = field(default_factory=dict)
+
+    def add(self, trial):
+        if trial.text is None:
+            self.without_text += 1
+        else:
+            self.trials.append(trial)
+
+
+def read(path):
+    """The output in a file. Damaged where it is none, or isn't whole."""
+    with open(path, encoding="latin-1", newline="") as file:
+        text = file.read()
+    form = text.partition("\n")[0].removeprefix("conform ")
+    return read_entries(path, form, text) if form in ENTRIES else of_manifest(path, manifest.of_text(text))
+
+
+def of_manifest(path, read):
+    output = Output(path, read.form, tokens=read.tokens, rules=read.rules, lexemes=read.lexemes)
+    for goal in read.goals:
+        if goal.case:
+            name = f"goal {goal.number} {' '.join(goal.words)}"
+            sentence = goal.case.sentence
+            output.add(Trial(name, goal.kind, sentence.tokens, sentence.text, derivation=goal.case.derivation))
+    is_forbidden = forbidding(read)
+    for negative in read.negatives:
+        output.add(of_negative(negative, is_forbidden))
+    return output
+
+
+def of_negative(negative, is_forbidden):
+    edit, tokens = " ".join(negative.edit), negative.sentence.tokens
+    name = f"negative {negative.number} base {negative.base} {edit} pair {' '.join(negative.pair)} at {negative.at}"
+    forbidden = sum(map(is_forbidden, zip(["<begin>", *tokens], [*tokens, "<end>"])))
+    return Trial(name, negative.kind, tokens, negative.sentence.text, pair=negative.pair, edit=negative.edit, forbidden=forbidden)
+
+
+def forbidding(read):
+    """A function that tells whether a pair stands side by side in no sentence, as far as the manifest knows."""
+    if read.behind:
+        return lambda pair: pair[1] not in read.behind.get(pair[0], ())
+    named = {negative.pair for negative in read.negatives}
+    named.update(tuple(goal.words[1:]) for goal in read.goals if goal.kind == "pair" and goal.verdict == "infeasible")
+    return named.__contains__
+
+
+def read_entries(path, form, text):
+    lines = manifest.Lines(text)
+    lines.need(f"conform {form}")
+    if not lines.whole:
+        raise manifest.CutShort("the output has no last line: the run that wrote it ended early")
+    output = Output(path, form)
+    pattern, kind, last = ENTRIES[form]
+    while True:
+        if found := lines.next(pattern):
+            output.add(entry(lines, kind, found))
+        elif found := lines.next(last):
+            return output if found else None
+        else:
+            note_alone(output, lines.need(ALONE[form])[0].split())
+
+
+def note_alone(output, words):
+    if words[0] == "token":
+        output.tokens.append(words[2])
+    elif words[0] == "rule":
+        output.rules.append((words[2], words[4:]))
+
+
+def entry(lines, kind, found):
+    """The trial of an entry: its line was found, and its indented ones come."""
+    derive = lines.next(r"  derive((?: \d+)*)")
+    tokens = lines.need(r"  tokens((?: \S+)*)")[1].split()
+    text = lines.next(r'  (?:text "(.*)"|no text .*)')
+    words = found[2].split()
+    name = re.sub(r" size \d+.*", "", found[0])
+    return Trial(
+        name,
+        kind,
+        tokens,
+        manifest.unquoted(text[1]) if text and text[1] is not None else None,
+        derivation=[int(number) for number in derive[1].split()] if derive else [],
+        pair=found.groups()[2:] if kind == "wrong" and found[3] else None,
+        edit=words,
+    )

@@ -1,0 +1,98 @@
+"""What is told of trials: the table, each failed case, the Test Anything Protocol, and JUnit's report."""
+
+from collections import Counter
+from xml.sax.saxutils import escape, quoteattr
+
+from trials import KINDS, by_text
+
+COLUMNS = ("taken", "refused", "other", "skipped", "known", "failed")
+# Columns that most runs don't need.
+RARE = ("skipped", "known")
+
+
+def printed(text):
+    """Bytes as a terminal may have them."""
+    return "".join(chr(byte) if 0x20 <= byte < 0x7F else f"\\x{byte:02x}" for byte in text)
+
+
+def story(trial):
+    told = f"wanted: {trial.wanted}; the parser: {trial.outcome.told}"
+    return f"{told}\ntext: \"{printed(trial.text)}\"\ntokens: {' '.join(trial.tokens)}"
+
+
+def indented(text, by="  "):
+    return by + text.replace("\n", "\n" + by)
+
+
+def case_lines(trials):
+    for trial in trials:
+        if trial.failed:
+            yield f"{trial.name}\n{indented(story(trial))}"
+
+
+def columns_of(trials):
+    """For each kind that was run how many cases each column counts."""
+    counts = {}
+    for trial in trials:
+        if trial.outcome:
+            row = counts.setdefault(trial.kind, Counter())
+            row[trial.outcome.kind] += 1
+            row["known"] += trial.departs and not trial.failed
+            row["failed"] += trial.failed
+    return counts
+
+
+def table_lines(trials):
+    counts = columns_of(trials)
+    shown = [column for column in COLUMNS if column not in RARE or any(row[column] for row in counts.values())]
+    yield f"{'kind':9}" + "".join(f"{column:>9}" for column in shown)
+    for kind in KINDS:
+        if kind in counts:
+            yield f"{kind:9}" + "".join(f"{counts[kind][column]:9}" for column in shown)
+
+
+def amount(number, word):
+    return f"{number} {word}" + ("" if number == 1 else "s")
+
+
+def end_line(trials, without_text):
+    """How many goals, negatives and the like there are in how many texts, and how it went."""
+    nouns = {"wrong": "wrong list", "deep": "deep edit", "spelling": "spelling", "chain": "chain"}
+    forms = Counter(nouns.get(trial.kind, "goal" if trial.positive else "negative") for trial in trials)
+    texts = by_text(trials)
+    ran = sum(found[0].outcome is not None for found in texts.values())
+    failed, known = sum(trial.failed for trial in trials), sum(trial.known is not None for trial in trials)
+    parts = [f"{', '.join(amount(*row[::-1]) for row in forms.items())} in {amount(len(texts), 'different text')}"]
+    parts.append("all run" if ran == len(texts) else f"{ran} of them run")
+    parts.append(f"{failed} failed" + (f", {known} known" if known else ""))
+    return "; ".join(parts) + f"; {without_text} without a text"
+
+
+def tap_lines(trials):
+    yield f"TAP version 13\n1..{len(trials)}"
+    for number, trial in enumerate(trials, 1):
+        passed = trial.outcome is not None and not trial.failed
+        skipped = "not run" if trial.outcome is None else "skipped by the parser" if trial.outcome.kind == "skipped" else ""
+        note = f" # SKIP {skipped}" if skipped else f" # TODO {trial.known}" if trial.known is not None else ""
+        yield f"{'ok' if passed and trial.known is None else 'not ok'} {number} - {trial.name.replace('#', chr(92) + '#')}{note}"
+        if trial.failed:
+            yield indented(story(trial), "  # ")
+
+
+def junit_result(trial):
+    if trial.outcome is None or trial.outcome.kind == "skipped":
+        return "<skipped/>"
+    if trial.known is not None:
+        return f"<skipped message={quoteattr('known: ' + trial.known)}/>"
+    return f"<failure>{escape(story(trial))}</failure>" if trial.failed else ""
+
+
+def write_junit(trials, path):
+    results = [(trial, junit_result(trial)) for trial in trials]
+    failed, skipped = (sum(result.startswith(word) for _, result in results) for word in ("<failure", "<skipped"))
+    with open(path, "w", encoding="utf-8") as file:
+        print('<?xml version="1.0" encoding="UTF-8"?>', file=file)
+        print(f'<testsuite name="conform" tests="{len(trials)}" failures="{failed}" skipped="{skipped}">', file=file)
+        for trial, result in results:
+            print(f"<testcase classname={quoteattr(trial.kind)} name={quoteattr(trial.name)}>{result}</testcase>", file=file)
+        print("</testsuite>", file=file)

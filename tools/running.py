@@ -1,0 +1,123 @@
+"""Parsers as commands: one is started for each text, in a process group of its own, with a time limit; and what its status means."""
+
+import os
+import signal
+import subprocess
+import tempfile
+from dataclasses import dataclass
+
+LAST_STATUS = 255
+# A shell's own statuses begin behind this one: 126 and 127 for a command that it can't run, 128 and a number for a signal.
+LAST_PLAIN_STATUS = 125
+SHELL_SIGNALS = 128
+
+
+@dataclass(frozen=True)
+class Outcome:
+    """What a parser did with a text: taken, refused, skipped or other. `told` says it in words, and `sort` without what may differ
+    from one text to the next, as the bytes of an answer do."""
+
+    kind: str
+    told: str
+    sort: str = ""
+
+    @property
+    def group(self):
+        return self.sort or self.told
+
+
+TAKEN, REFUSED, SKIPPED = (Outcome(word, word) for word in ("taken", "refused", "skipped"))
+
+
+def other(told, sort=""):
+    return Outcome("other", told, sort)
+
+
+def too_slow(seconds):
+    return other(f"too slow: above {seconds:g} seconds")
+
+
+def signal_name(number):
+    try:
+        return f"{number}, {signal.Signals(number).name}"
+    except ValueError:
+        return str(number)
+
+
+class Statuses:
+    """What the statuses of a parser mean. Each argument is a collection of statuses, or None for what is usual: 0 is taken, 77 is
+    skipped, and every other one up to 125 is refused. A status that is named stands before a usual one."""
+
+    def __init__(self, taken=None, refused=None, skipped=None):
+        named = [(TAKEN, taken), (REFUSED, refused), (SKIPPED, skipped)]
+        usual = [(TAKEN, [0]), (SKIPPED, [77]), (REFUSED, range(1, LAST_PLAIN_STATUS + 1))]
+        chosen = {outcome for outcome, statuses in named if statuses is not None}
+        self.meanings = {}
+        for outcome, statuses in named + [row for row in usual if row[0] not in chosen]:
+            for status in statuses or ():
+                if self.meanings.setdefault(status, outcome) != outcome and (outcome, statuses) in named:
+                    raise ValueError(f"status {status} is {self.meanings[status].told} and {outcome.told}")
+
+    def outcome(self, status):
+        """The outcome of a status; one below 0 is a signal's, as subprocess tells it."""
+        if status < 0:
+            return other(f"died of signal {signal_name(-status)}")
+        if status in self.meanings:
+            return self.meanings[status]
+        if status > SHELL_SIGNALS:
+            return other(f"ended with status {status}, as a shell tells signal {signal_name(status - SHELL_SIGNALS)}")
+        if status > LAST_PLAIN_STATUS:
+            return other(f"ended with status {status}, as a shell tells a command that it can't run")
+        return other(f"ended with status {status}")
+
+
+class Group:
+    """A process with all that it starts, which are ended together. It has no terminal, so that it can't ask there."""
+
+    running = set()
+
+    def __init__(self, words, **streams):
+        self.process = subprocess.Popen(words, start_new_session=True, **streams)
+        Group.running.add(self)
+
+    def wait(self, seconds):
+        """The status of the process, or None where it takes longer. Then, as afterwards, nothing of the group is left."""
+        try:
+            return self.process.wait(seconds)
+        except subprocess.TimeoutExpired:
+            return None
+        finally:
+            self.end()
+
+    def end(self):
+        try:
+            os.killpg(self.process.pid, signal.SIGKILL)
+        except (ProcessLookupError, PermissionError):
+            pass
+        self.process.wait()
+        Group.running.discard(self)
+
+    @classmethod
+    def end_all(cls):
+        for group in list(cls.running):
+            group.end()
+
+
+class Alone:
+    """A parser that is started for each text, which it gets on its standard input or in a file whose name stands for a word {}."""
+
+    def __init__(self, command, seconds, statuses):
+        self.command, self.seconds, self.statuses, self.notes = command, seconds, statuses, ()
+
+    def ask(self, text, errors=subprocess.DEVNULL):
+        """The outcome of a text. What the parser prints is thrown away, unless `errors` is a file for its error output."""
+        with tempfile.NamedTemporaryFile(prefix="text-") as file:
+            file.write(text)
+            file.seek(0)
+            words = [file.name if word == "{}" else word for word in self.command]
+            given = subprocess.DEVNULL if "{}" in self.command else file
+            status = Group(words, stdin=given, stdout=subprocess.DEVNULL, stderr=errors).wait(self.seconds)
+        return too_slow(self.seconds) if status is None else self.statuses.outcome(status)
+
+    def close(self):
+        """Nothing is left running behind a text."""
