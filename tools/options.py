@@ -57,7 +57,10 @@ def add_options(parser):
     which.add_argument("--seed", type=int, metavar="S", help="without it one is made up and told")
     which.add_argument("--limit", type=count, metavar="N", help="the N texts that tell most, by the order of trials in docs/GUIDE.md")
     told = parser.add_argument_group("what is told")
-    told.add_argument("--all", action="store_true", help="list each failed case")
+    told.add_argument("--all", action="store_true", help="list each failed case too")
+    told.add_argument("--known", metavar="FILE", help="known departures: lines `pos|neg PATTERN # REASON` for cases that may fail")
+    told.add_argument("--write-known", metavar="FILE", help="write such a line for each cause to a new file")
+    told.add_argument("--results", metavar="FILE", help="write what became of each case, for tools/page")
     told.add_argument("--tap", action="store_true", help="write the Test Anything Protocol in place of the table")
     told.add_argument("--junit", metavar="FILE", help="write a report in JUnit's XML to the file too")
 

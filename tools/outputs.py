@@ -6,7 +6,7 @@ from dataclasses import dataclass, field
 import manifest
 from trials import Trial
 
-PAIR = r"pair (\S+) (\S+) at \d+"
+PAIR = r"pair (\S+) (\S+) at (\d+)"
 # By the first line's word: the line before an entry's indented ones, its kind, and the line at the end.
 ENTRIES = {
     "wrong": (rf"(wrong \d+) (empty|rule \d+ (?:drop|double|swap) \d+) (?:{PAIR}|outside)", "wrong", r"end slips .* wrong (\d+)"),
@@ -67,7 +67,7 @@ def of_negative(negative, is_forbidden):
     edit, tokens = " ".join(negative.edit), negative.sentence.tokens
     name = f"negative {negative.number} base {negative.base} {edit} pair {' '.join(negative.pair)} at {negative.at}"
     forbidden = sum(map(is_forbidden, zip(["<begin>", *tokens], [*tokens, "<end>"])))
-    return Trial(name, negative.kind, tokens, negative.sentence.text, pair=negative.pair, edit=negative.edit, forbidden=forbidden)
+    return Trial(name, negative.kind, tokens, negative.sentence.text, pair=negative.pair, at=negative.at, edit=negative.edit, forbidden=forbidden)
 
 
 def forbidding(read):
@@ -107,7 +107,7 @@ def entry(lines, kind, found):
     derive = lines.next(r"  derive((?: \d+)*)")
     tokens = lines.need(r"  tokens((?: \S+)*)")[1].split()
     text = lines.next(r'  (?:text "(.*)"|no text .*)')
-    words = found[2].split()
+    has_pair = kind == "wrong" and found[3] is not None
     name = re.sub(r" size \d+.*", "", found[0])
     return Trial(
         name,
@@ -115,6 +115,7 @@ def entry(lines, kind, found):
         tokens,
         manifest.unquoted(text[1]) if text and text[1] is not None else None,
         derivation=[int(number) for number in derive[1].split()] if derive else [],
-        pair=found.groups()[2:] if kind == "wrong" and found[3] else None,
-        edit=words,
+        pair=found.group(3, 4) if has_pair else None,
+        at=int(found[5]) if has_pair else None,
+        edit=found[2].split(),
     )

@@ -51,11 +51,27 @@ def table_lines(trials):
             yield f"{kind:9}" + "".join(f"{counts[kind][column]:9}" for column in shown)
 
 
+def cause_lines(causes, told):
+    """Each cause with its shortest text; `told` says it in words."""
+    for number, cause in enumerate(causes, 1):
+        trial = cause.shortest
+        kinds = ", ".join(f"{kind} {count}" for kind, count in cause.kinds)
+        yield f"cause {number}: {told(cause)}"
+        yield f"  {amount(len(cause.trials), 'case')}: {kinds}; the shortest is {trial.name}"
+        yield f"  text: \"{printed(trial.text)}\"\n  tokens: {' '.join(trial.tokens)}".rstrip()
+
+
+def known_lines(trials):
+    """How many cases stand under each reason of a file of known departures."""
+    for reason, count in Counter(trial.known for trial in trials if trial.known is not None).items():
+        yield f"known: {amount(count, 'case')}: {reason}"
+
+
 def amount(number, word):
     return f"{number} {word}" + ("" if number == 1 else "s")
 
 
-def end_line(trials, without_text):
+def end_line(trials, without_text, causes):
     """How many goals, negatives and the like there are in how many texts, and how it went."""
     nouns = {"wrong": "wrong list", "deep": "deep edit", "spelling": "spelling", "chain": "chain"}
     forms = Counter(nouns.get(trial.kind, "goal" if trial.positive else "negative") for trial in trials)
@@ -64,7 +80,8 @@ def end_line(trials, without_text):
     failed, known = sum(trial.failed for trial in trials), sum(trial.known is not None for trial in trials)
     parts = [f"{', '.join(amount(*row[::-1]) for row in forms.items())} in {amount(len(texts), 'different text')}"]
     parts.append("all run" if ran == len(texts) else f"{ran} of them run")
-    parts.append(f"{failed} failed" + (f", {known} known" if known else ""))
+    of_causes = f" of {amount(causes, 'cause')}" if causes else ""
+    parts.append(f"{failed} failed{of_causes}" + (f", {known} known" if known else ""))
     return "; ".join(parts) + f"; {without_text} without a text"
 
 

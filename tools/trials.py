@@ -24,8 +24,9 @@ class Trial:
     output: int = 0
     # of a positive: its rules from the left, and where these stand
     derivation: list = field(default_factory=list)
-    # of a negative: the pair that no sentence has, and the words of the edit or of the slip
+    # of a negative: the pair that no sentence has, the place of its left one in the framed list, and the words of the edit or slip
     pair: tuple = None
+    at: int = None
     edit: list = None
     # how many of its pairs stand side by side in no sentence, where that is known
     forbidden: int = None

@@ -5,12 +5,16 @@ import random
 import signal
 import sys
 import tempfile
+from collections import Counter
 
+import known
 import options
 import reports
-import trials as trial
+import results
 from batch import NoAnswers, last_line
+from causes import Causes
 from options import BadCall
+from wording import cause_words
 from workers import Run
 
 PASSED, FAILED, NOT_TRIED = 0, 1, 2
@@ -35,56 +39,111 @@ def interrupt(*_):
     raise KeyboardInterrupt
 
 
-def ran(trials, asked):
-    """The run of the trials, and whether it was interrupted."""
-    run = Run(trials, options.parser_maker(asked), lambda _: None, asked)
-    signal.signal(signal.SIGTERM, interrupt)
+class Session:
+    """The outputs, what is asked for, and what is found: the trials with their outcomes, the causes, the lines that are stale."""
+
+    def __init__(self, outputs, asked):
+        self.outputs, self.asked = outputs, asked
+        self.known = read_known(asked)
+        self.make = options.parser_maker(asked)
+        self.rules = next((output.rules for output in outputs if output.rules), [])
+        self.tokens = next((output.tokens for output in outputs if output.tokens), [])
+        self.every = [found for output in outputs for found in output.trials]
+        self.trials = options.chosen(self.every, self.tokens, asked)
+        self.causes, self.warnings, self.interrupted = [], [], False
+
+    def told(self, cause):
+        return cause_words(cause, self.rules)
+
+    def run(self):
+        run = Run(self.trials, self.make, self.known.reason, self.asked)
+        signal.signal(signal.SIGTERM, interrupt)
+        try:
+            run.run()
+        except KeyboardInterrupt:
+            self.interrupted = True
+        except (OSError, NoAnswers) as error:
+            raise BadCall(f"{self.asked.command[0]}: {getattr(error, 'strerror', None) or error}") from None
+        self.warnings = [] if self.interrupted else [*sorted(run.notes), *self.told_nothing()]
+        self.causes = [] if self.warnings else Causes(self.trials, self.rules).found()
+
+    def told_nothing(self):
+        """The warning where texts were tried that have to be taken and such that have to be refused, and the parser did the same with
+        all of them."""
+        ran = [found for found in self.trials if found.outcome]
+        if len({found.outcome.kind for found in ran}) != 1 or len({found.positive for found in ran}) != 2:
+            return
+        outcome = ran[0].outcome
+        same = outcome.told if len({found.outcome for found in ran}) == 1 else "neither taken nor refused"
+        said = self.error_line()
+        yield f"each text, to be taken or not: {same}. Is the parser there, and does it say what it did?" + (f" It wrote: {said}" if said else "")
+
+    def error_line(self):
+        """The last line of the error output at a text, where a command that isn't a parser often says so."""
+        if self.asked.batch:
+            return ""
+        with tempfile.TemporaryFile() as errors:
+            self.make().ask(self.trials[0].text, errors)
+            errors.seek(0)
+            return last_line(errors.read())
+
+    def stale(self):
+        """The known departures that are none any more."""
+        return [] if self.interrupted else self.known.stale([found for found in self.every if found.outcome is None])
+
+    def status(self):
+        if self.interrupted:
+            return INTERRUPTED
+        if self.warnings:
+            return NOT_TRIED
+        passed = all(found.outcome is not None and not found.failed for found in self.trials)
+        return PASSED if passed and not self.stale() else FAILED
+
+    def lines(self):
+        yield from reports.case_lines(self.trials) if self.asked.all else ()
+        yield from reports.table_lines(self.trials)
+        yield from reports.cause_lines(self.causes, self.told)
+        yield from reports.known_lines(self.trials)
+        yield reports.end_line(self.trials, sum(output.without_text for output in self.outputs), len(self.causes))
+
+    def tell(self):
+        write_lines(reports.tap_lines(self.trials) if self.asked.tap else self.lines())
+        for warning in self.warnings:
+            warn(warning)
+        for line in self.stale():
+            warn(f"{self.asked.known}: line {line.number} matches no failed case any more: {line.text}")
+
+    def write(self):
+        """Writes the files that are asked for."""
+        if self.asked.junit:
+            reports.write_junit(self.trials, self.asked.junit)
+        if self.asked.write_known:
+            taken = [found for found in self.trials if found.positive and found.outcome and found.outcome.kind == "taken"]
+            with open(self.asked.write_known, "x", encoding="utf-8") as file:
+                file.writelines(line + "\n" for line in known.lines_of(self.causes, taken, self.told))
+        if self.asked.results:
+            results.write(self.asked.results, self.outputs, self.trials, self.causes, self.told, self.asked.command)
+
+
+def read_known(asked):
+    if asked.write_known and os.path.exists(asked.write_known):
+        raise BadCall(f"{asked.write_known} is there already, and may hold what people wrote")
+    if not asked.known:
+        return known.Known()
     try:
-        run.run()
-    except KeyboardInterrupt:
-        return run, True
-    except (OSError, NoAnswers) as error:
-        raise BadCall(f"{asked.command[0]}: {getattr(error, 'strerror', None) or error}") from None
-    return run, False
+        return known.read(asked.known)
+    except (OSError, known.BadLine) as error:
+        raise BadCall(f"{asked.known}: {error}") from None
 
 
-def error_line(trials, asked):
-    """The last line of the error output at a text, to which a parser that isn't there often says so."""
-    if asked.batch:
-        return ""
-    with tempfile.TemporaryFile() as errors:
-        options.parser_maker(asked)().ask(trials[0].text, errors)
-        errors.seek(0)
-        return last_line(errors.read())
-
-
-def same_outcome(trials):
-    """The one outcome of all texts, where such were tried that have to be taken and such that have to be refused; else None."""
-    outcomes = {found.outcome.kind for found in trials if found.outcome}
-    return outcomes.pop() if len(outcomes) == 1 and len({found.positive for found in trials if found.outcome}) == 2 else None
-
-
-def tells_nothing(trials, run, asked):
-    """What is wrong with a run that says nothing of the parser."""
-    yield from sorted(run.notes)
-    outcome = same_outcome(trials)
-    if outcome:
-        said = error_line(trials, asked)
-        told = f"each text, to be taken or not, was {outcome}" if outcome != "other" else "no text was taken or refused"
-        yield f"{told}: is the parser there, and does it say by its status what it did?" + (f" It said: {said}" if said else "")
-
-
-def status_of(trials):
-    return PASSED if all(found.outcome is not None and not found.failed for found in trials) else FAILED
-
-
-def tell(trials, without_text, asked):
-    if asked.junit:
-        reports.write_junit(trials, asked.junit)
-    if asked.tap:
-        return write_lines(reports.tap_lines(trials))
-    lines = [*(reports.case_lines(trials) if asked.all else ()), *reports.table_lines(trials)]
-    write_lines([*lines, reports.end_line(trials, without_text)])
+def name_apart(outputs):
+    """Gives each trial its output, and a name with the output's path where another output has the form too."""
+    forms = Counter(output.form for output in outputs)
+    for number, output in enumerate(outputs):
+        for found in output.trials:
+            found.output = number
+            if forms[output.form] > 1:
+                found.name = f"{output.path}: {found.name}"
 
 
 def try_outputs(outputs, asked):
@@ -92,13 +151,14 @@ def try_outputs(outputs, asked):
     if asked.sample and asked.seed is None:
         asked.seed = random.randrange(1_000_000)
         warn(f"the sample is that of --seed {asked.seed}")
-    tokens = next((output.tokens for output in outputs if output.tokens), [])
-    trials = options.chosen([found for output in outputs for found in output.trials], tokens, asked)
-    if not trials:
+    name_apart(outputs)
+    session = Session(outputs, asked)
+    if not session.trials:
         raise BadCall("there is no case with a text to try")
-    run, interrupted = ran(trials, asked)
-    tell(trials, sum(output.without_text for output in outputs), asked)
-    warnings = [] if interrupted else list(tells_nothing(trials, run, asked))
-    for warning in warnings:
-        warn(warning)
-    return INTERRUPTED if interrupted else NOT_TRIED if warnings else status_of(trials)
+    session.run()
+    session.tell()
+    try:
+        session.write()
+    except OSError as error:
+        raise BadCall(error) from None
+    return session.status()

@@ -1,0 +1,58 @@
+"""What is said of causes, in the words of a grammar."""
+
+SLIPS = {"drop": "left out", "double": "doubled"}
+
+
+def rule_words(rules, number):
+    if not rules:
+        return f"rule {number}"
+    left, right = rules[number - 1]
+    return f"rule {number} ({left} : {' '.join(right) or '%empty'})"
+
+
+def slip_words(rules, words):
+    if words == ["empty"]:
+        return "the empty text"
+    number, slip, place = int(words[1]), words[2], int(words[3])
+    what = f"symbols {place} and {place + 1} swapped" if slip == "swap" else f"symbol {place} {SLIPS[slip]}"
+    return f"{rule_words(rules, number)} with {what}"
+
+
+def context_words(rules, outer, place, inner):
+    return f"{rule_words(rules, inner)} as symbol {place} of {rule_words(rules, outer)}"
+
+
+def pair_words(left, right):
+    if (left, right) == ("<begin>", "<end>"):
+        return "the empty text"
+    if left == "<begin>":
+        return f"{right} at the beginning"
+    return f"{left} at the end" if right == "<end>" else f"{left} before {right}"
+
+
+def place_words(rules, words):
+    """What a cause is about: a rule, a rule in context, two neighbours, a slip, an edit, or a case of its own."""
+    first, *rest = words
+    says = {
+        "rule": lambda number: rule_words(rules, number),
+        "context": lambda outer, place, inner: context_words(rules, outer, place, inner),
+        "pair": pair_words,
+        "sides": pair_words,
+        "slip": lambda *slip: slip_words(rules, list(slip)),
+        "insert": lambda token: f"{token} put in",
+        "replace": lambda token: f"{token} in place of another token",
+        "delete": lambda left, right: f"a token left out between {left} and {right}",
+        "swap": lambda left, right: f"{left} and {right} swapped",
+        "more": lambda: "a whole sentence, and then more tokens",
+    }
+    return says[first](*rest) if first in says else " ".join(words)
+
+
+def departure(cause):
+    """How the parser departed from what is wanted."""
+    return f"wrongly {cause.outcome}" if cause.outcome in ("taken", "refused") else cause.outcome
+
+
+def cause_words(cause, rules):
+    return f"{departure(cause)}: {place_words(rules, cause.words)}"
+
