@@ -25,21 +25,18 @@ ALONE = {
 
 @dataclass
 class Output:
-    """An output of the program: its form, its trials, how many of its lists have no text, and its grammar where it has one."""
+    """An output of the program: its form, its trials, those that have no text, and its grammar where it has one."""
 
     path: str
     form: str
     trials: list = field(default_factory=list)
-    without_text: int = 0
+    without_text: list = field(default_factory=list)
     tokens: list = field(default_factory=list)
     rules: list = field(default_factory=list)
     lexemes: dict = field(default_factory=dict)
 
     def add(self, trial):
-        if trial.text is None:
-            self.without_text += 1
-        else:
-            self.trials.append(trial)
+        (self.without_text if trial.text is None else self.trials).append(trial)
 
 
 def read(path):
@@ -119,3 +116,26 @@ def entry(lines, kind, found):
         at=int(found[5]) if has_pair else None,
         edit=found[2].split(),
     )
+
+
+def separator_of(output):
+    """What stands between two lexemes of a manifest's texts, or None where no text tells."""
+    for trial in output.trials:
+        lexemes = [output.lexemes[token] for token in trial.tokens]
+        if len(lexemes) > 1:
+            length = (len(trial.text) - sum(map(len, lexemes))) // (len(lexemes) - 1)
+            return trial.text[len(lexemes[0]) :][:length]
+    return None
+
+
+def lend_texts(outputs):
+    """Gives chains, which are written without texts, the joined lexemes of a manifest beside them."""
+    lender = next((output for output in outputs if output.lexemes), None)
+    separator = separator_of(lender) if lender else None
+    for output in outputs if separator is not None else ():
+        if output.form == "chains":
+            bare, output.without_text = output.without_text, []
+            for trial in bare:
+                lexemes = [lender.lexemes.get(token) for token in trial.tokens]
+                trial.text = None if None in lexemes else separator.join(lexemes)
+                output.add(trial)

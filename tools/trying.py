@@ -9,6 +9,7 @@ from collections import Counter
 
 import known
 import options
+import outputs as written
 import reports
 import results
 from batch import NoAnswers, last_line
@@ -104,7 +105,7 @@ class Session:
         yield from reports.table_lines(self.trials)
         yield from reports.cause_lines(self.causes, self.told)
         yield from reports.known_lines(self.trials)
-        yield reports.end_line(self.trials, sum(output.without_text for output in self.outputs), len(self.causes))
+        yield reports.end_line(self.trials, sum(len(output.without_text) for output in self.outputs), len(self.causes))
 
     def tell(self):
         write_lines(reports.tap_lines(self.trials) if self.asked.tap else self.lines())
@@ -151,6 +152,7 @@ def try_outputs(outputs, asked):
     if asked.sample and asked.seed is None:
         asked.seed = random.randrange(1_000_000)
         warn(f"the sample is that of --seed {asked.seed}")
+    written.lend_texts(outputs)
     name_apart(outputs)
     session = Session(outputs, asked)
     if not session.trials:
