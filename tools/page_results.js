@@ -3,7 +3,7 @@ const results = data.results;
 const worst = ["failed", "other", "known", "skipped", "untried", "passed"];
 const toldStates = {
   failed: "wrongly taken or refused", other: "neither taken nor refused", known: "a known departure", skipped: "skipped by the parser",
-  untried: "not run", passed: "as it has to be", infeasible: "in no sentence, and refused in each negative",
+  untried: "not run", passed: "as it has to be", infeasible: "in no sentence, and none of its negatives failed",
 };
 
 function stateOfCase(row, wanted) {

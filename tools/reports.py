@@ -8,6 +8,7 @@ from trials import KINDS, by_text
 COLUMNS = ("taken", "refused", "other", "skipped", "known", "failed")
 # Columns that most runs don't need.
 RARE = ("skipped", "known")
+NOUNS = {"wrong": "wrong list", "deep": "deep edit", "spelling": "spelling", "chain": "chain"}
 
 
 def printed(text):
@@ -71,18 +72,19 @@ def amount(number, word):
     return f"{number} {word}" + ("" if number == 1 else "s")
 
 
-def end_line(trials, without_text, causes):
-    """How many goals, negatives and the like there are in how many texts, and how it went."""
-    nouns = {"wrong": "wrong list", "deep": "deep edit", "spelling": "spelling", "chain": "chain"}
-    forms = Counter(nouns.get(trial.kind, "goal" if trial.positive else "negative") for trial in trials)
-    texts = by_text(trials)
-    ran = sum(found[0].outcome is not None for found in texts.values())
+def forms_of(trials):
+    """How many goals, negatives and the like there are."""
+    forms = Counter(NOUNS.get(trial.kind, "goal" if trial.positive else "negative") for trial in trials)
+    return ", ".join(amount(count, noun) for noun, count in forms.items())
+
+
+def end_line(trials, every, without_text, causes):
+    """What was tried of all that there is, and how it went."""
+    texts, ran = by_text(every), by_text(trial for trial in trials if trial.outcome)
     failed, known = sum(trial.failed for trial in trials), sum(trial.known is not None for trial in trials)
-    parts = [f"{', '.join(amount(*row[::-1]) for row in forms.items())} in {amount(len(texts), 'different text')}"]
-    parts.append("all run" if ran == len(texts) else f"{ran} of them run")
-    of_causes = f" of {amount(causes, 'cause')}" if causes else ""
-    parts.append(f"{failed} failed{of_causes}" + (f", {known} known" if known else ""))
-    return "; ".join(parts) + f"; {without_text} without a text"
+    tried = f"all {len(texts)} different texts run" if len(ran) == len(texts) else f"{len(ran)} of {len(texts)} different texts run"
+    told = f"{failed} failed" + (f" of {amount(causes, 'cause')}" if causes else "") + (f", {known} known" if known else "")
+    return f"{forms_of(every)}; {tried}; {told}; {without_text} without a text"
 
 
 def tap_lines(trials):

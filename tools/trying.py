@@ -50,14 +50,17 @@ class Session:
         self.rules = next((output.rules for output in outputs if output.rules), [])
         self.tokens = next((output.tokens for output in outputs if output.tokens), [])
         self.every = [found for output in outputs for found in output.trials]
-        self.trials = options.chosen(self.every, self.tokens, asked)
+        # those that are tried, in the order in which they are, and in that of the outputs
+        self.ordered = options.chosen(self.every, self.tokens, asked)
+        chosen = set(self.ordered)
+        self.trials = [found for found in self.every if found in chosen]
         self.causes, self.warnings, self.interrupted = [], [], False
 
     def told(self, cause):
         return cause_words(cause, self.rules)
 
     def run(self):
-        run = Run(self.trials, self.make, self.known.reason, self.asked)
+        run = Run(self.ordered, self.make, self.known.reason, self.asked)
         signal.signal(signal.SIGTERM, interrupt)
         try:
             run.run()
@@ -105,7 +108,7 @@ class Session:
         yield from reports.table_lines(self.trials)
         yield from reports.cause_lines(self.causes, self.told)
         yield from reports.known_lines(self.trials)
-        yield reports.end_line(self.trials, sum(len(output.without_text) for output in self.outputs), len(self.causes))
+        yield reports.end_line(self.trials, self.every, sum(len(output.without_text) for output in self.outputs), len(self.causes))
 
     def tell(self):
         write_lines(reports.tap_lines(self.trials) if self.asked.tap else self.lines())
