@@ -144,15 +144,16 @@ class Pairs:
         """The failed ones that begin with a sentence, where the parser takes each one that was tried and has a sentence up to its
         pair."""
         tried = [trial for trial in self.trials if trial.pair and self.is_sentence(trial.tokens[: trial.at])]
-        if len(tried) < LEAST_WITH_MORE or len({trial.pair for trial in tried}) == 1 or not all(trial.failed for trial in tried):
+        is_many = len(tried) >= LEAST_WITH_MORE and len({trial.pair for trial in tried}) > 1
+        if not is_many or any(trial.outcome.kind != "taken" for trial in tried):
             return set()
         return {root for root in roots if any(self.is_sentence(root.tokens[:end]) for end in range(1, len(root.tokens)))}
 
     def words(self, roots):
         more = self.with_more(roots)
         failed = {root.pair for root in roots if root.pair and root not in more}
-        tried = {trial.pair for trial in self.trials if trial.pair}
-        words = {pair: feature for feature, pairs in cover(products(self.rules, failed, tried)) for pair in pairs}
+        passed = {trial.pair for trial in self.trials if trial.pair and trial.outcome.kind == "refused"}
+        words = {pair: feature for feature, pairs in cover(products(self.rules, failed, passed)) for pair in pairs}
         return [("more",) if root in more else words[root.pair] if root.pair else place_of_edit(root) for root in roots]
 
 

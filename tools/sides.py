@@ -64,14 +64,14 @@ def distinct(sets, names, marks):
     return {name: kept for kept, name in found.items()}
 
 
-def products(rules, failed, tried):
-    """For each two symbols the failed pairs of an end of the first and a beginning of the second, where each pair of these that was
-    tried has failed; and each failed pair alone. `failed` and `tried` are sets of pairs."""
+def products(rules, failed, passed):
+    """For each two symbols the failed pairs of an end of the first and a beginning of the second, where no pair of these has passed;
+    and each failed pair alone. `failed` and `passed` are sets of pairs."""
     found = {("pair", *pair): {pair} for pair in sorted(failed)}
     names = from_above(rules)
+    tried, passed = failed | passed, passed - failed
     rows = distinct(lasts(rules), names, {left for left, _ in tried})
     columns = distinct(firsts(rules), names, {right for _, right in tried})
-    passed = tried - failed
     for name, lefts in rows.items():
         bad = {right for left, right in passed if left in lefts}
         good = {pair for pair in failed if pair[0] in lefts}

@@ -1,0 +1,83 @@
+"""What the runs of the tools stand on: manifests, calls of tools, and the end of a script of runs.
+
+The manifests of `s : 'x' ;` are worked by hand from docs/FORMATS.md, by both formats. That of examples/lists.y and lists.l is the
+model's, which was made from the documents alone.
+"""
+
+import os
+import subprocess
+import sys
+import tempfile
+
+sys.dont_write_bytecode = True
+
+from model.manifest import Choice, Manifest
+from model.scanner import BLANKS, OWN_BYTE, SKIP, Join, Many, Scanner, one_of
+from model.trees import Grammar
+
+TOP = os.path.dirname(os.path.dirname(os.path.abspath(__file__)))
+PARSERS = os.path.join(TOP, "tests", "parsers")
+HEAD = "token 1 'x'\nrule 1 s : 'x'\nlexeme 'x' \"x\"\n"
+CASE = "  derive 1\n  tokens 'x'\n  text \"x\"\n"
+MUTANTS = (
+    "base 1 goal 1\nnegative 1 base 1 delete 0 pair <begin> <end> at 0\n  tokens\n  text \"\"\n"
+    "negative 2 base 1 insert 0 'x' pair 'x' 'x' at 1\n  tokens 'x' 'x'\n  text \"x x\"\n"
+)
+END = "end goals 5 feasible 3 infeasible 2 large 0 negatives 2"
+FIRST = (
+    f"conform 1 suite\n{HEAD}goal 1 rule 1 size 2\n{CASE}goal 2 pair <begin> 'x' size 2\n{CASE}goal 3 pair <begin> <end> infeasible\n"
+    f"goal 4 pair 'x' 'x' infeasible\ngoal 5 pair 'x' <end> size 2\n{CASE}{MUTANTS}{END}\n"
+)
+SECOND = (
+    f"conform 2 suite\nweigh nodes\n{HEAD}closed productive s\nclosed reachable s\nclosed empty\nclosed first s : 'x'\n"
+    f"closed last s : 'x'\nclosed next <begin> : 'x'\nclosed next 'x' : <end>\ncase 1 size 2\n{CASE}goal 1 rule 1 size 2 case 1 first 1\n"
+    "goal 2 pair <begin> 'x' size 2 case 1 first 1\ngoal 3 pair <begin> <end> infeasible\ngoal 4 pair 'x' 'x' infeasible\n"
+    f"goal 5 pair 'x' <end> size 2 case 1 first 1\n{MUTANTS}{END} cases 1\n"
+)
+LISTS_RULES = [
+    ("value", ["NUMBER"]), ("value", ["NAME"]), ("value", ["'['", "items", "']'"]), ("items", []), ("items", ["members"]),
+    ("members", ["value"]), ("members", ["members", "','", "value"]),
+]
+EDITS = ["delete", "insert", "replace", "swap"]
+
+
+def many(some):
+    return Join((one_of(some), Many(one_of(some))))
+
+
+def lists_suite(**choice):
+    """The text of the suite of examples/lists.y."""
+    grammar = Grammar(["NAME", "NUMBER", "'['", "']'", "','"], ["value", "items", "members"], LISTS_RULES, "value")
+    letters, digits = range(0x61, 0x7B), range(0x30, 0x3A)
+    rules = [(many(digits), "NUMBER"), (many(letters), "NAME"), (one_of(b"[],"), OWN_BYTE), (BLANKS, SKIP)]
+    chosen = {"criteria": ["rule", "cdrc", "pair"], "operators": EDITS, "version": 2, **choice}
+    return Manifest(grammar, Scanner(rules, grammar.tokens), Choice(**chosen)).text().decode()
+
+
+def call(tool, *words, **more):
+    """The status, the output and the error output of a tool."""
+    ran = subprocess.run([os.path.join(TOP, "tools", tool), *words], capture_output=True, timeout=120, **more)
+    return ran.returncode, ran.stdout.decode(), ran.stderr.decode()
+
+
+def written(folder, name, text):
+    """The path of a new file."""
+    path = os.path.join(folder, name)
+    with open(path, "w") as file:
+        file.write(text)
+    return path
+
+
+def frame(name, *words):
+    """The words of a call with --batch, behind the outputs."""
+    return ["--batch", "--", sys.executable, os.path.join(PARSERS, name), *words]
+
+
+def end(*tables):
+    """Runs tables of runs in a folder of their own, prints the failures that they give, and ends the script."""
+    failed = []
+    with tempfile.TemporaryDirectory() as folder:
+        for table in tables:
+            failed += table(folder)
+    print("\n".join(failed), file=sys.stderr, end="\n" if failed else "")
+    sys.exit(1 if failed else 0)

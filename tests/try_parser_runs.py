@@ -1,0 +1,180 @@
+#!/usr/bin/env python3
+"""Runs tools/try_parser on parsers that take too much, take too little, die, hang, leave children, close their input, print much, and
+answer nonsense: try_parser_runs.py. It prints the rows that fail, and ends with status 1 where one did.
+
+The counts are those of the manifest of `s : 'x' ;`, three goals of one text and two negatives, and of examples/lists.y.
+"""
+
+import os
+import re
+import signal
+import subprocess
+import sys
+import time
+
+from suites import FIRST, SECOND, TOP, call, end, frame, lists_suite, written
+
+PYTHON = [sys.executable, "-c"]
+READ = "import sys, os, time; t = sys.stdin.buffer.read(); "
+# Two kinds of texts, of `s : 'x' ;`: the goals' three cases, and the negatives' two.
+ALL_TAKEN, ALL_REFUSED, GOOD = (3, 0, 0, 2, 0, 0), (0, 3, 0, 0, 2, 0), (3, 0, 0, 0, 2, 0)
+NEITHER = (0, 0, 3, 0, 0, 2)
+
+# A parser's words, options, the status, how many positives and negatives it took, refused, and did neither with, and what is said.
+ALONE = [
+    ([*PYTHON, READ + "sys.exit(t.strip() != b'x')"], [], 0, GOOD, ""),
+    ([*PYTHON, READ + "sys.exit(b'x' not in t)"], [], 1, (3, 0, 0, 1, 1, 0), "wrongly taken: 'x' before 'x'"),
+    ([*PYTHON, READ + "sys.exit(t != b'')"], [], 1, (0, 3, 0, 1, 1, 0), "wrongly refused: rule 1 (s : 'x')"),
+    (["/bin/true"], [], 2, ALL_TAKEN, "each text, to be taken or not: taken"),
+    (["/bin/false"], [], 2, ALL_REFUSED, "each text, to be taken or not: refused"),
+    ([*PYTHON, "import nosuch"], [], 2, ALL_REFUSED, "It wrote: ModuleNotFoundError: No module named 'nosuch'"),
+    ([*PYTHON, "import os; os.kill(os.getpid(), 9)"], [], 2, NEITHER, "died of signal 9, SIGKILL"),
+    (["sh", "-c", "kill -9 $$"], [], 2, NEITHER, "died of signal 9, SIGKILL"),
+    (["sh", "-c", "(kill -11 $BASHPID 2>/dev/null; exit 139)"], [], 2, NEITHER, "ended with status 139, as a shell tells signal 11, SIGSEGV"),
+    (["sh", "-c", "no_such_command_anywhere 2>/dev/null"], [], 2, NEITHER, "ended with status 127"),
+    ([*PYTHON, READ + "os.write(1, b'y' * 3_000_000); os.write(2, b'y' * 3_000_000); sys.exit(t.strip() != b'x')"], [], 0, GOOD, ""),
+    ([*PYTHON, "import os, sys; os.close(0); sys.exit(1)"], [], 2, ALL_REFUSED, "refused"),
+    ([*PYTHON, READ + "sys.exit(t.strip() == b'x')"], ["--taken-status", "1", "--refused-status", "0"], 0, GOOD, ""),
+    ([*PYTHON, READ + "sys.exit(0 if t.strip() == b'x' else 4)"], ["--refused-status", "3-5"], 0, GOOD, ""),
+    ([*PYTHON, READ + "sys.exit(0 if t.strip() == b'x' else 4)"], ["--refused-status", "1,5"], 1, (3, 0, 0, 0, 0, 2), "ended with status 4"),
+    ([*PYTHON, READ + "sys.exit(0 if t.strip() == b'x' else 77)"], [], 0, (3, 0, 0, 0, 0, 0), "skipped"),
+    ([*PYTHON, READ + "sys.exit(0 if t.strip() == b'x' else 77)"], ["--skip-status", "3"], 0, GOOD, ""),
+    ([*PYTHON, "import sys; t = open(sys.argv[1], 'rb').read(); sys.exit(t.strip() != b'x')", "{}"], [], 0, GOOD, ""),
+]
+
+# What a frame does with a text that has a name, the status of the run on lists, whether all negatives with names are refused, and how
+# the cases with a name are told.
+FRAMES = [
+    ("refuses", "wrongly refused: rule 2 (value : NAME)"),
+    ("dies", "died of signal 11, SIGSEGV: rule 2 (value : NAME)"),
+    ("ends", "ended with status 1 without an answer: rule 2 (value : NAME)"),
+    ("hangs", "too slow: above 0.3 seconds: rule 2 (value : NAME)"),
+    ("answers nonsense", "another answer: rule 2 (value : NAME)"),
+    ("answers twice", "answered more than one line: rule 2 (value : NAME)"),
+    ("answers for ever", "answered more than 65536 bytes without a line's end: rule 2 (value : NAME)"),
+    ("closes its output", "closed its input or its output: rule 2 (value : NAME)"),
+    ("complains much", "wrongly refused: rule 2 (value : NAME)"),
+    ("leaves a child", "ended with status 0 without an answer: rule 2 (value : NAME)"),
+    ("answers with a carriage return", "wrongly refused: rule 2 (value : NAME)"),
+    ("ends well", "wrongly refused: rule 2 (value : NAME)"),
+]
+
+BAD_CALLS = [
+    [], ["{}"], ["{}", "--"], ["no such file", "--", "cat"], ["{}", "--", "./no such parser"], ["--jobs", "0", "{}", "--", "cat"],
+    ["--seconds", "-1", "{}", "--", "cat"], ["--taken-status", "256", "{}", "--", "cat"], ["--taken-status", "x", "{}", "--", "cat"],
+    ["--taken-status", "1", "--refused-status", "1", "{}", "--", "cat"], ["--kinds", "rules", "{}", "--", "cat"],
+    ["--batch", "{}", "--", "cat", "{}"], ["--batch", "{}", "--", "/bin/false"], ["--batch", "{}", "--", "./no such parser"],
+    ["--kinds", "swap", "{}", "--", "cat"], ["--known", "no such file", "{}", "--", "cat"], ["--write-known", "{}", "{}", "--", "cat"],
+    ["--junit", "no/such/folder", "{}", "--", "cat"],
+]
+
+
+def counts_of(table):
+    """How many positives and negatives were taken, refused, and neither; skipped ones count nowhere."""
+    counts = [0] * 6
+    for kind, *numbers in re.findall(r"^(\w+) +(\d+) +(\d+) +(\d+)", table, re.M):
+        begin = 0 if kind in ("rule", "context", "pair") else 3
+        for place, number in enumerate(numbers):
+            counts[begin + place] += int(number)
+    return tuple(counts)
+
+
+def alone(folder):
+    paths = [written(folder, "first", FIRST), written(folder, "second", SECOND)]
+    for place, (words, options, status, counts, said) in enumerate(ALONE):
+        found = call("try_parser", *options, paths[place % 2], "--", *words)
+        if (found[0], counts_of(found[1])) != (status, counts) or said not in found[1] + found[2]:
+            yield f"a parser {words} with {options}: {found}"
+
+
+def left_over(command):
+    """Whether a process of this command runs."""
+    return subprocess.run(["pgrep", "-x", "-f", command], capture_output=True).returncode == 0
+
+
+def slow(folder):
+    """What takes too long is ended with all that it started, and so is what is left behind a text."""
+    path = written(folder, "slow", FIRST)
+    rows = [("sleep 4323 | cat", 2, "too slow: above 0.3 seconds"), ("sleep 4323 & exit 0", 2, "taken"), ("sleep 4323 & sleep 4323", 2, "too slow")]
+    for script, status, said in rows:
+        began = time.monotonic()
+        found = call("try_parser", "--seconds", "0.3", path, "--", "sh", "-c", script)
+        if found[0] != status or said not in found[2] or time.monotonic() - began > 20 or left_over("sleep 4323"):
+            yield f"a parser {script}: {found}"
+    once = call("try_parser", "--all", "--seconds", "0.3", "--stop-after", "1", "--jobs", "1", path, "--", "sleep", "5")
+    if once[0] != 1 or once[1].count("the parser: too slow") != 3 or "; 1 of 3 different texts run; 3 failed" not in once[1]:
+        yield f"a parser that is slow, once: {once}"
+
+
+def interrupted(folder):
+    """An interrupt ends what runs, and what was seen so far is told."""
+    path = written(folder, "interrupted", FIRST)
+    words = [os.path.join(TOP, "tools", "try_parser"), "--jobs", "1", path, "--", "sleep", "4322"]
+    for number in (signal.SIGINT, signal.SIGTERM):
+        run = subprocess.Popen(words, stdout=subprocess.PIPE, stderr=subprocess.PIPE)
+        until = time.monotonic() + 20
+        while not left_over("sleep 4322") and time.monotonic() < until:
+            time.sleep(0.05)
+        run.send_signal(number)
+        output = run.communicate(timeout=20)[0].decode()
+        if run.returncode != 130 or "; 0 of 3 different texts run" not in output or left_over("sleep 4322"):
+            yield f"an interrupt {number}: {run.returncode}, {output}"
+
+
+def frames(folder):
+    path = written(folder, "lists", lists_suite(operators=["delete"], bases=4))
+    for deed, said in FRAMES:
+        found = call("try_parser", path, "--seconds", "0.3", "--kinds", "rule,context", *frame("frame.py", deed))
+        if found[0] != 1 or f"cause 1: {said}\n" not in found[1] or " of 1 cause;" not in found[1] or left_over("sleep 4321"):
+            yield f"a frame that {deed}: {found}"
+    good = call("try_parser", path, "--only", "positive", *frame("frame.py", "takes"))
+    deaf = call("try_parser", path, "--seconds", "5", "--only", "positive", *frame("frame.py", "closes its input"))
+    for found in (good, deaf):
+        if found[0] != 0 or "; 0 failed; 0 without a text" not in found[1]:
+            yield f"a good frame: {found}"
+
+
+def starts(folder):
+    """A frame is started once, as often as there are jobs, and once more behind each text at which it dies."""
+    path, log = written(folder, "lists", lists_suite(operators=[])), os.path.join(folder, "starts")
+    with_names = {line for line in lists_suite(operators=[]).split("\n") if line.startswith("  text") and "a" in line[6:]}
+    rows = [("takes", "1", 1), ("takes", "3", 3), ("dies", "1", 1 + len(with_names))]
+    for deed, jobs, wanted in rows:
+        written(folder, "starts", "")
+        call("try_parser", path, "--jobs", jobs, *frame("frame.py", deed, log))
+        with open(log) as file:
+            found = file.read().count("started")
+        if found not in (wanted, wanted - 1):
+            yield f"a frame that {deed}, {jobs} at once: {found} starts, not {wanted}"
+
+
+def many(folder):
+    """10,000 texts, to a frame that does nothing."""
+    lists = "".join(f'wrong {number} rule 1 drop 1 outside\n  tokens\n  text "{number}"\n' for number in range(1, 10_001))
+    path = written(folder, "many", f"conform wrong\n{lists}end slips 10000 none 0 large 0 again 0 long 0 sentences 0 wrong 10000\n")
+    began = time.monotonic()
+    found = call("try_parser", path, "--batch", "--", *PYTHON, "import sys\nfor line in sys.stdin: print('refused', flush=True)")
+    if found[0] != 0 or "all 10000 different texts run; 0 failed" not in found[1]:
+        yield f"many texts: {found}"
+    if time.monotonic() - began > 10:
+        yield f"many texts take {time.monotonic() - began:.1f} seconds"
+
+
+def readers(folder):
+    """A reader that stops reading isn't told of as an error."""
+    path = written(folder, "lists", lists_suite())
+    words = " ".join([os.path.join(TOP, "tools", "try_parser"), path, *frame("lists.py", "more"), "| head -n 1"])
+    found = subprocess.run(["bash", "-c", f"{words}; exit ${{PIPESTATUS[0]}}"], capture_output=True, timeout=60)
+    if (found.returncode, found.stderr) != (1, b""):
+        yield f"a reader that stops: {found}"
+
+
+def bad_calls(folder):
+    path = written(folder, "first", FIRST)
+    for words in BAD_CALLS:
+        found = call("try_parser", *(path if word == "{}" and place < len(words) - 1 or word == "{}" and len(words) < 3 else word for place, word in enumerate(words)))
+        if found[0] != 2 or not found[2] or "Traceback" in found[2]:
+            yield f"try_parser {words}: {found}"
+
+
+end(alone, slow, interrupted, frames, starts, many, readers, bad_calls)
