@@ -9,6 +9,9 @@ written by hand from docs/FORMATS.md's forms.
 import json
 import os
 import re
+import sys
+
+sys.dont_write_bytecode = True
 
 from suites import LISTS_RULES, call, end, frame, lists_suite, written
 

@@ -9,7 +9,12 @@ import os
 import sys
 import xml.etree.ElementTree
 
+sys.dont_write_bytecode = True
+
 from suites import FIRST, SECOND, call, end, written
+
+# A parser that takes what has an x.
+TAKING_X = [sys.executable, "-c", "import sys; sys.exit(b'x' not in sys.stdin.buffer.read())"]
 
 # Manifests that aren't read, and what is said of them.
 DAMAGED = [
@@ -24,13 +29,9 @@ DAMAGED = [
 ]
 
 
-def parser_of(expression, reads):
-    return [sys.executable, "-c", f"import sys; t = {reads}.read(); sys.exit({expression})"]
-
-
 def failures(folder):
     for text in (FIRST, SECOND):
-        told = call("try_parser", "--all", written(folder, "suite", text), "--", *parser_of("b'x' not in t", "sys.stdin.buffer"))[1]
+        told = call("try_parser", "--all", written(folder, "suite", text), "--", *TAKING_X)[1]
         if not told.startswith(
             "negative 2 base 1 insert 0 'x' pair 'x' 'x' at 1\n  wanted: refused; the parser: taken\n  text: \"x x\"\n  tokens: 'x' 'x'\nkind "
         ):
@@ -39,7 +40,7 @@ def failures(folder):
 
 def machines(folder):
     first, report = written(folder, "suite", FIRST), os.path.join(folder, "report.xml")
-    told = call("try_parser", "--tap", "--junit", report, first, "--", *parser_of("b'x' not in t", "sys.stdin.buffer"))
+    told = call("try_parser", "--tap", "--junit", report, first, "--", *TAKING_X)
     if told[0] != 1 or not told[1].startswith("TAP version 13\n1..5\nok 1 - goal 1 rule 1\n") or told[1].count("\nnot ok") != 1:
         yield f"the protocol of tests: {told}"
     suite = xml.etree.ElementTree.parse(report).getroot()

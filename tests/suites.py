@@ -9,8 +9,6 @@ import subprocess
 import sys
 import tempfile
 
-sys.dont_write_bytecode = True
-
 from model.manifest import Choice, Manifest
 from model.scanner import BLANKS, OWN_BYTE, SKIP, Join, Many, Scanner, one_of
 from model.trees import Grammar

@@ -12,6 +12,8 @@ import subprocess
 import sys
 import time
 
+sys.dont_write_bytecode = True
+
 from suites import FIRST, SECOND, TOP, call, end, frame, lists_suite, written
 
 PYTHON = [sys.executable, "-c"]
