@@ -73,7 +73,7 @@ spelling 1 token NUMBER goal 1 size 2 at 0
 spelling 2 token NAME goal 2 size 2 at 0
   derive 2
   tokens NAME
-  text "a"
+  text "ab"
 spelling 3 literal
 spelling 4 skip goal 3 size 4
   derive 3 4
@@ -173,6 +173,9 @@ def several(folder):
     wanted = "38 goals, 405 negatives, 4 wrong lists, 2 deep edits, 3 spellings, 1 chain; all "
     if found[0] != 1 or wanted not in found[1] or "; 1 without a text" not in found[1] or sorted(causes_of(found[1])) != [COMMA, MORE]:
         yield f"several outputs: {found}"
+    spelled = sorted(causes_of(call("try_parser", *paths, *frame("lists.py", "letters,name"))[1]))
+    if spelled != [NAME, "wrongly refused: spelling 2 token NAME goal 2"]:
+        yield f"a spelling that is refused: {spelled}"
     for path in paths[1:4]:
         alone = call("try_parser", path, *frame("lists.py", "none"))
         if alone[0] != 0 or "; 0 failed;" not in alone[1]:

@@ -12,8 +12,9 @@ ANSWERS = {b"taken": TAKEN, b"refused": REFUSED}
 MOST_ANSWER_BYTES = 65_536
 KEPT_ERROR_BYTES = 4_096
 PIECE = 65_536
-# A command that was started so many times and never answered isn't a frame.
-MOST_VAIN_STARTS = 20
+# A command that failed so many times and never answered isn't a frame. One that was too slow takes time, and counts more.
+MOST_IN_VAIN = 20
+SLOW_IN_VAIN = 7
 SECONDS_TO_END = 1
 OUT_OF_STEP = "the frame said more than a line for a text, so that answers may belong to other texts"
 
@@ -24,7 +25,7 @@ class NoAnswers(Exception):
 
 def printed(line):
     """A line as a terminal may have it, cut where it is long."""
-    return "".join(letter if letter.isprintable() else "?" for letter in line.decode("utf-8", "replace").strip())[:200]
+    return "".join(chr(byte) if 0x20 <= byte < 0x7F else "?" for byte in line.strip())[:200]
 
 
 def last_line(errors):
@@ -123,7 +124,8 @@ class Batch:
 
     def __init__(self, command, seconds, statuses):
         self.command, self.seconds, self.statuses = command, seconds, statuses
-        self.frame, self.starts, self.has_answered, self.last_death, self.notes = None, 0, False, "was too slow", set()
+        self.frame, self.starts, self.has_answered, self.notes = None, 0, False, set()
+        self.in_vain, self.last_death = 0, ""
 
     def ask(self, text):
         if self.frame and not self.frame.is_waiting():
@@ -137,7 +139,7 @@ class Batch:
         return ANSWERS.get(line.strip()) or other(f"answered {printed(line)!r}", "another answer")
 
     def start(self):
-        if self.starts >= MOST_VAIN_STARTS and not self.has_answered:
+        if self.in_vain >= MOST_IN_VAIN and not self.has_answered:
             raise NoAnswers(f"it was started {self.starts} times and never answered; the last time it {self.last_death}")
         self.frame, self.starts = Frame(self.command), self.starts + 1
 
@@ -148,29 +150,35 @@ class Batch:
         self.close()
 
     def without_answer(self, text, line, end):
-        """The outcome where there was no answer, or more than one. A frame that goes by itself behind an answer isn't dead of the
-        next text, which is asked again."""
+        """The outcome where there was no answer, or more than one. The frame is ended."""
         frame, self.frame = self.frame, None
-        if not frame.ended and not frame.is_deaf:
-            frame.end(0)
-            if end:
-                return other("answered more than one line")
-            is_long = len(line) > MOST_ANSWER_BYTES
-            return other(f"answered more than {MOST_ANSWER_BYTES} bytes without a line's end") if is_long else too_slow(self.seconds)
-        status = frame.end()
+        if not end and (frame.ended or frame.is_deaf):
+            return self.without_frame(text, frame)
+        frame.end(0)
+        if end:
+            return other("answered more than one line")
+        if len(line) > MOST_ANSWER_BYTES:
+            return other(f"answered more than {MOST_ANSWER_BYTES} bytes without a line's end")
+        self.fail(SLOW_IN_VAIN, "was too slow: does it flush each line?")
+        return too_slow(self.seconds)
+
+    def without_frame(self, text, frame):
+        """The outcome where the frame went. One that goes well behind an answer didn't die of the next text, which is asked again."""
+        status, said = frame.end(), last_line(frame.said)
         if frame.has_answered and (status == 0 or frame.is_deaf):
             return self.ask(text)
-        return self.death(status, last_line(frame.said))
-
-    def death(self, status, said):
         if status is None:
             how = "closed its input or its output"
         elif status < 0:
             how = self.statuses.outcome(status).told
         else:
             how = f"ended with status {status} without an answer"
-        self.last_death = f"{how}: {said}" if said else how
-        return other(self.last_death, how)
+        told = f"{how}: {said}" if said else how
+        self.fail(1, told)
+        return other(told, how)
+
+    def fail(self, weight, told):
+        self.in_vain, self.last_death = self.in_vain + weight, told
 
     def close(self):
         if self.frame:

@@ -38,18 +38,21 @@ def framed(trial):
     return (BEGIN, *trial.tokens, END)
 
 
-def part_of(trial):
-    """What another list has to hold to belong to this one: its tokens, with the ends of the text where its pair has them."""
-    if not trial.tokens:
-        return framed(trial)
+def part_and_whole(trial):
+    """What another list has to hold to belong to this one, and what this one holds. The part has the ends of the text where the pair
+    has them. No other list has a text with the spelling that is tried."""
+    whole = framed(trial)
+    if trial.kind == "spelling":
+        return (*whole, trial.name), (*whole, trial.name)
     first, last = trial.pair or (None, None)
-    return (BEGIN,) * (first == BEGIN) + tuple(trial.tokens) + (END,) * (last == END)
+    part = (BEGIN,) * (first == BEGIN) + tuple(trial.tokens) + (END,) * (last == END)
+    return part if trial.tokens else whole, whole
 
 
 def by_root(trials):
     """The trials that come down to each of the lists that hold no other one."""
     found = defaultdict(list)
-    for trial, root in zip(trials, parts.roots([(part_of(trial), framed(trial)) for trial in trials])):
+    for trial, root in zip(trials, parts.roots(list(map(part_and_whole, trials)))):
         found[trials[root]].append(trial)
     return found
 

@@ -4,6 +4,8 @@ import trials as trial
 from batch import Batch
 from running import Alone, Statuses
 
+LAST_STATUS = 255
+
 
 class BadCall(Exception):
     """Options or a command that can't be followed."""
@@ -14,7 +16,7 @@ def statuses(word):
     found = set()
     for part in word.split(","):
         first, _, last = part.partition("-")
-        if not (first.isdigit() and (last or first).isdigit() and int(first) <= int(last or first) <= 255):
+        if not (first.isdigit() and (last or first).isdigit() and int(first) <= int(last or first) <= LAST_STATUS):
             raise ValueError(word)
         found.update(range(int(first), int(last or first) + 1))
     return found
@@ -58,7 +60,7 @@ def add_options(parser):
     which.add_argument("--limit", type=count, metavar="N", help="the N texts that tell most, by the order of trials in docs/GUIDE.md")
     told = parser.add_argument_group("what is told")
     told.add_argument("--all", action="store_true", help="list each failed case too")
-    told.add_argument("--known", metavar="FILE", help="known departures: lines `pos|neg PATTERN # REASON` for cases that may fail")
+    told.add_argument("--known", metavar="FILE", help="known departures: lines `pos|neg|other PATTERN # REASON` of cases that may fail")
     told.add_argument("--write-known", metavar="FILE", help="write such a line for each cause to a new file")
     told.add_argument("--results", metavar="FILE", help="write what became of each case, for tools/page")
     told.add_argument("--tap", action="store_true", help="write the Test Anything Protocol in place of the table")

@@ -63,8 +63,8 @@ def of_manifest(path, read):
 def of_negative(negative, is_forbidden):
     edit, tokens = " ".join(negative.edit), negative.sentence.tokens
     name = f"negative {negative.number} base {negative.base} {edit} pair {' '.join(negative.pair)} at {negative.at}"
-    forbidden = sum(map(is_forbidden, zip(["<begin>", *tokens], [*tokens, "<end>"])))
-    return Trial(name, negative.kind, tokens, negative.sentence.text, pair=negative.pair, at=negative.at, edit=negative.edit, forbidden=forbidden)
+    text, pair = negative.sentence.text, negative.pair
+    return Trial(name, negative.kind, tokens, text, pair=pair, at=negative.at, edit=negative.edit, is_forbidden=is_forbidden)
 
 
 def forbidding(read):

@@ -6,9 +6,9 @@ import subprocess
 import tempfile
 from dataclasses import dataclass
 
-LAST_STATUS = 255
 # A shell's own statuses begin behind this one: 126 and 127 for a command that it can't run, 128 and a number for a signal.
 LAST_PLAIN_STATUS = 125
+CANT_RUN = (126, 127)
 SHELL_SIGNALS = 128
 
 
@@ -38,10 +38,8 @@ def too_slow(seconds):
 
 
 def signal_name(number):
-    try:
-        return f"{number}, {signal.Signals(number).name}"
-    except ValueError:
-        return str(number)
+    """The signal's number and name, or nothing where no signal has it."""
+    return f"{number}, {signal.Signals(number).name}" if number in set(signal.Signals) else ""
 
 
 class Statuses:
@@ -50,7 +48,7 @@ class Statuses:
 
     def __init__(self, taken=None, refused=None, skipped=None):
         named = [(TAKEN, taken), (REFUSED, refused), (SKIPPED, skipped)]
-        usual = [(TAKEN, [0]), (SKIPPED, [77]), (REFUSED, range(1, LAST_PLAIN_STATUS + 1))]
+        usual = [(TAKEN, [0]), (SKIPPED, [77]), (REFUSED, range(LAST_PLAIN_STATUS + 1))]
         chosen = {outcome for outcome, statuses in named if statuses is not None}
         self.meanings = {}
         for outcome, statuses in named + [row for row in usual if row[0] not in chosen]:
@@ -61,24 +59,24 @@ class Statuses:
     def outcome(self, status):
         """The outcome of a status; one below 0 is a signal's, as subprocess tells it."""
         if status < 0:
-            return other(f"died of signal {signal_name(-status)}")
+            return other(f"died of signal {signal_name(-status) or -status}")
         if status in self.meanings:
             return self.meanings[status]
-        if status > SHELL_SIGNALS:
-            return other(f"ended with status {status}, as a shell tells signal {signal_name(status - SHELL_SIGNALS)}")
-        if status > LAST_PLAIN_STATUS:
-            return other(f"ended with status {status}, as a shell tells a command that it can't run")
-        return other(f"ended with status {status}")
+        died = signal_name(status - SHELL_SIGNALS)
+        told = "a command that it can't run" if status in CANT_RUN else died and f"signal {died}"
+        return other(f"ended with status {status}" + (f", as a shell tells {told}" if told else ""))
 
 
 class Group:
     """A process with all that it starts, which are ended together. It has no terminal, so that it can't ask there."""
 
-    running = set()
+    running, is_over = set(), False
 
     def __init__(self, words, **streams):
         self.process = subprocess.Popen(words, start_new_session=True, **streams)
         Group.running.add(self)
+        if Group.is_over:
+            self.end()
 
     def wait(self, seconds):
         """The status of the process, or None where it takes longer. Then, as afterwards, nothing of the group is left."""
@@ -99,6 +97,8 @@ class Group:
 
     @classmethod
     def end_all(cls):
+        """Ends all groups, and those that begin from now on."""
+        cls.is_over = True
         for group in list(cls.running):
             group.end()
 
@@ -111,12 +111,14 @@ class Alone:
 
     def ask(self, text, errors=subprocess.DEVNULL):
         """The outcome of a text. What the parser prints is thrown away, unless `errors` is a file for its error output."""
-        with tempfile.NamedTemporaryFile(prefix="text-") as file:
-            file.write(text)
-            file.seek(0)
-            words = [file.name if word == "{}" else word for word in self.command]
-            given = subprocess.DEVNULL if "{}" in self.command else file
-            status = Group(words, stdin=given, stdout=subprocess.DEVNULL, stderr=errors).wait(self.seconds)
+        with tempfile.TemporaryDirectory(ignore_cleanup_errors=True) as folder:
+            path = os.path.join(folder, "text")
+            with open(path, "wb") as file:
+                file.write(text)
+            words = [path if word == "{}" else word for word in self.command]
+            with open(os.devnull if "{}" in self.command else path, "rb") as given:
+                group = Group(words, stdin=given, stdout=subprocess.DEVNULL, stderr=errors)
+            status = group.wait(self.seconds)
         return too_slow(self.seconds) if status is None else self.statuses.outcome(status)
 
     def close(self):

@@ -1,6 +1,7 @@
 """Trials: texts for a parser, each with what it comes from; which of them are tried, and in which order."""
 
 from collections import defaultdict
+from collections.abc import Callable
 from dataclasses import dataclass, field
 from random import Random
 
@@ -28,8 +29,8 @@ class Trial:
     pair: tuple = None
     at: int = None
     edit: list = None
-    # how many of its pairs stand side by side in no sentence, where that is known
-    forbidden: int = None
+    # a function that says of a pair whether it stands side by side in no sentence
+    is_forbidden: Callable = None
     outcome: Outcome = None
     # the reason in a file of known departures
     known: str = None
@@ -46,6 +47,10 @@ class Trial:
     def departs(self):
         """Whether the parser did something else with it than is wanted."""
         return self.outcome is not None and self.outcome.kind not in (self.wanted, "skipped")
+
+    @property
+    def has_one_forbidden_pair(self):
+        return sum(map(self.is_forbidden, zip(["<begin>", *self.tokens], [*self.tokens, "<end>"]))) == 1
 
     @property
     def failed(self):
@@ -68,7 +73,7 @@ def rank(trial):
         return 6 if trial.edit[0] == "delete" else 9
     if trial.kind in POSITIVE_KINDS:
         return {"rule": 0, "context": 2, "spelling": 4, "pair": 7, "chain": 8}[trial.kind]
-    return 5 if trial.forbidden == 1 else 10
+    return 5 if trial.has_one_forbidden_pair else 10
 
 
 def in_rounds(trials, marks):

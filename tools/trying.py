@@ -28,6 +28,7 @@ def warn(told):
 
 def write_lines(lines):
     """Writes lines for a reader that may stop reading."""
+    sys.stdout.reconfigure(errors="backslashreplace")
     try:
         for line in lines:
             print(line)
@@ -73,9 +74,10 @@ class Session:
 
     def told_nothing(self):
         """The warning where texts were tried that have to be taken and such that have to be refused, and the parser did the same with
-        all of them."""
+        all of them; or where it skipped all."""
         ran = [found for found in self.trials if found.outcome]
-        if len({found.outcome.kind for found in ran}) != 1 or len({found.positive for found in ran}) != 2:
+        kinds = {found.outcome.kind for found in ran}
+        if kinds != {"skipped"} and (len(kinds) != 1 or len({found.positive for found in ran}) != 2):
             return
         outcome = ran[0].outcome
         same = outcome.told if len({found.outcome for found in ran}) == 1 else "neither taken nor refused"

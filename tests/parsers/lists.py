@@ -1,7 +1,8 @@
 """Frames around a parser of examples/lists.y with planted faults: lists.py FAULT,.. It takes lines of base64 and answers them.
 
-comma: a comma may stand behind the last member. name: no name behind a comma. space: a number may follow the members without a comma.
-empty: no empty list. crash: it dies of a list behind a comma. more: what stands behind a value isn't looked at. long: no third member.
+comma: a comma may stand behind the last member. name: no name behind a comma. letters: no name of two letters. space: a number may
+follow the members without a comma. empty: no empty list. long: no third member. crash: it dies of a list behind a comma. more: what
+stands behind a value isn't looked at.
 """
 
 import base64
@@ -41,7 +42,7 @@ class Parser:
 
     def value(self):
         if self.next != "[":
-            return self.take(self.next.isalnum())
+            return self.take(self.next.isalnum() and not ("letters" in FAULTS and self.next.isalpha() and len(self.next) > 1))
         self.take(True)
         if self.next != "]" or "empty" in FAULTS:
             self.members()
