@@ -22,12 +22,14 @@ EMPTY = "wrongly refused: rule 4 (items : %empty)"
 CRASH = "died of signal 11, SIGSEGV: ',' before '['"
 MORE = "wrongly taken: a whole sentence, and then more tokens"
 LONG = "wrongly refused: rule 7 (members : members ',' value) as symbol 1 of rule 7 (members : members ',' value)"
+VALUE = "wrongly refused: rules 2 and 3 (value) as symbol 3 of rule 7 (members : members ',' value)"
 # Planted faults, and the causes.
 PLANTED = [
     ("none", []),
     ("comma", [COMMA]),
     ("name", [NAME]),
     ("empty", [EMPTY]),
+    ("value", [VALUE]),
     ("long", [LONG]),
     ("more", [MORE]),
     ("comma,name,space", [COMMA, NAME, SPACE]),

@@ -6,7 +6,7 @@ from dataclasses import dataclass
 from itertools import chain
 
 import parts
-from sides import BEGIN, END, products
+from sides import BEGIN, END, merged_contexts, products
 
 # A rule tells more than a rule in context, this more than two neighbours, and these more than the ends of two symbols.
 FEATURES = ("rule", "context", "pair", "sides")
@@ -120,16 +120,13 @@ def cover(places):
 
 
 def explained(trials, taken, features):
-    """The words of trials by the features that stand in no taken positive; None for those that none explains."""
-    words = [None] * len(trials)
+    """The words of trials by the features that stand in no taken positive, or else by their own names."""
+    words = [tuple(trial.name.split()) for trial in trials]
     for feature, places in cover(telling(trials, taken, features)):
         for place in places:
             words[place] = feature
-    return words
-
-
-def names(trials):
-    return [tuple(trial.name.split()) for trial in trials]
+    merged = merged_contexts([found[1:] for found in words if found[0] == "context"])
+    return [("context", *merged[found[1:]]) if found[0] == "context" else found for found in words]
 
 
 class Pairs:
@@ -189,7 +186,4 @@ class Causes:
 
     def words(self, outcome, roots):
         """What each root's failure is laid to. Where a parser neither takes nor refuses, any part of a text may be why."""
-        if outcome == "taken":
-            return self.pairs.words(roots)
-        words = explained(roots, self.taken, self.features)
-        return [found or name for found, name in zip(words, names(roots))]
+        return self.pairs.words(roots) if outcome == "taken" else explained(roots, self.taken, self.features)

@@ -1,4 +1,5 @@
-"""Failed pairs of neighbours told as few: what stands side by side may be any end of one symbol before any beginning of another."""
+"""Failed pairs and rules in context told as few: a pair may be any end of one symbol before any beginning of another, and what is
+wrong with a place of a rule may be so with several rules there, and at that place of several rules."""
 
 from collections import defaultdict, deque
 
@@ -85,3 +86,17 @@ def products_of_row(name, columns, bad, good):
             pairs = {pair for pair in good if pair[1] in rights}
             if len(pairs) > 1:
                 yield ("sides", name, column), pairs
+
+
+def merged_contexts(contexts):
+    """For each rule in context, as outer rule, place and inner rule, the one or more that it is told with: the place, the outer rules
+    that have there the same inner rules, and these."""
+    inner = defaultdict(set)
+    for outer, place, rule in contexts:
+        inner[outer, place].add(rule)
+    outer_rules = defaultdict(list)
+    for outer, place in sorted(inner):
+        outer_rules[place, frozenset(inner[outer, place])].append(outer)
+    return {
+        (outer, place, rule): (place, tuple(outers), tuple(sorted(rules))) for (place, rules), outers in outer_rules.items() for outer in outers for rule in rules
+    }

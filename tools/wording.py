@@ -18,8 +18,16 @@ def slip_words(rules, words):
     return f"{rule_words(rules, number)} with {what}"
 
 
-def context_words(rules, outer, place, inner):
-    return f"{rule_words(rules, inner)} as symbol {place} of {rule_words(rules, outer)}"
+def rules_words(rules, numbers):
+    """Some rules: one whole, of several their numbers and left sides."""
+    if len(numbers) == 1:
+        return rule_words(rules, numbers[0])
+    lefts = ", ".join(dict.fromkeys(rules[number - 1][0] for number in numbers)) if rules else ""
+    return f"rules {', '.join(map(str, numbers[:-1]))} and {numbers[-1]}" + (f" ({lefts})" if lefts else "")
+
+
+def context_words(rules, place, outer, inner):
+    return f"{rules_words(rules, inner)} as symbol {place} of {rules_words(rules, outer)}"
 
 
 def pair_words(left, right):
@@ -35,7 +43,7 @@ def place_words(rules, words):
     first, *rest = words
     says = {
         "rule": lambda number: rule_words(rules, number),
-        "context": lambda outer, place, inner: context_words(rules, outer, place, inner),
+        "context": lambda place, outer, inner: context_words(rules, place, outer, inner),
         "pair": pair_words,
         "sides": pair_words,
         "slip": lambda *slip: slip_words(rules, list(slip)),

@@ -1,7 +1,7 @@
 """Frames around a parser of examples/lists.y with planted faults: lists.py FAULT,.. It takes lines of base64 and answers them.
 
-comma: a comma may stand behind the last member. name: no name behind a comma. letters: no name of two letters. space: a number may
-follow the members without a comma. empty: no empty list. long: no third member. crash: it dies of a list behind a comma. more: what
+comma: a comma may stand behind the last member. name: no name behind a comma. value: numbers alone behind a comma. letters: no name
+of two letters. space: a number may follow the members without a comma. empty: no empty list. long: no third member. crash: it dies of a list behind a comma. more: what
 stands behind a value isn't looked at.
 """
 
@@ -61,6 +61,8 @@ class Parser:
     def member(self, count):
         if "crash" in FAULTS and self.next == "[":
             os.kill(os.getpid(), signal.SIGSEGV)
+        if "value" in FAULTS and not self.next.isdigit():
+            raise Refused
         if "name" in FAULTS and self.next.isalpha() or "long" in FAULTS and count == 3:
             raise Refused
         if "comma" not in FAULTS or self.next != "]":
