@@ -1,9 +1,9 @@
 #!/usr/bin/env python3
 """Times the tools that try parsers, with frames in one process: bench/trying.py [PROGRAM].
 
-Each row is seconds by the clock beside their bound: 10,000 texts to a frame that answers each with one word; and the C expressions
-from the files to the causes, by a frame that takes all but texts with a bracket. It ends with status 1 where a bound is passed. Nothing
-here is part of the gate.
+Each row is seconds by the clock beside their bound: 10,000 texts to a frame that answers each with one word; and the C
+expressions from the files to the causes, by a frame that takes all but texts with a bracket. It ends with status 1
+where a bound is passed. Nothing here is part of the gate.
 """
 
 import os
@@ -14,16 +14,20 @@ import time
 
 from measure import TOP, Bounds, program
 
-TOOLS, EXAMPLES = os.path.join(TOP, "tools"), os.path.join(TOP, "examples")
 TEXTS = 10_000
-REFUSING = [sys.executable, "-c", "import sys\nfor line in sys.stdin: print('refused', flush=True)"]
-NO_BRACKETS = [
-    sys.executable, "-c", "import base64, sys\nfor line in sys.stdin: print('refused' if b'[' in base64.b64decode(line) else 'taken', flush=True)"
-]
+REFUSING = """import sys
+for line in sys.stdin:
+    print("refused", flush=True)
+"""
+NO_BRACKETS = """import base64, sys
+for line in sys.stdin:
+    print("refused" if b"[" in base64.b64decode(line) else "taken", flush=True)
+"""
 
 
-def seconds(words, status):
+def seconds(tool, words, frame, status):
     began = time.monotonic()
+    words = [os.path.join(TOP, "tools", tool), *words, "--batch", "--", sys.executable, "-c", frame]
     done = subprocess.run(words, stdout=subprocess.PIPE)
     if done.returncode != status:
         sys.exit(f"{words} ended with status {done.returncode}: {done.stdout.decode()}")
@@ -43,15 +47,14 @@ def many(folder):
 
 def main():
     bounds, built = Bounds(), program()
-    files = [os.path.join(EXAMPLES, name) for name in ("cexpr.y", "cexpr.l")]
+    files = [os.path.join(TOP, "examples", name) for name in ("cexpr.y", "cexpr.l")]
     with tempfile.TemporaryDirectory() as folder:
         suite = os.path.join(folder, "suite")
         with open(suite, "wb") as file:
             subprocess.run([built, "suite", *files], stdout=file, check=True)
-        try_parser, try_grammar = (os.path.join(TOOLS, name) for name in ("try_parser", "try_grammar"))
-        bounds.row(f"{TEXTS} texts", seconds([try_parser, many(folder), "--batch", "--", *REFUSING], 0), 2, "s")
-        bounds.row("the C expressions, 2,000 texts", seconds([try_grammar, built, "--batch", *files, "--", *NO_BRACKETS], 1), 3, "s")
-        bounds.row("the C expressions, the whole suite", seconds([try_parser, suite, "--batch", "--", *NO_BRACKETS], 1), 3, "s")
+        bounds.row(f"{TEXTS} texts", seconds("try_parser", [many(folder)], REFUSING, 0), 2, "s")
+        bounds.row("the C expressions, the suite", seconds("try_parser", [suite], NO_BRACKETS, 1), 3, "s")
+        bounds.row("the C expressions, all of it", seconds("try_grammar", [built, *files], NO_BRACKETS, 1), 3, "s")
     bounds.end()
 
 

@@ -1,6 +1,7 @@
 #!/usr/bin/env python3
-"""Follows docs/GUIDE.md: guide_runs.py [PROGRAM]. It runs each block of commands in order, with files that blocks of other languages
-write, and compares what they print with the block behind them. It prints the blocks that fail, and ends with status 1 where one did.
+"""Follows docs/GUIDE.md: guide_runs.py [PROGRAM]. It runs each block of commands in order, with files that blocks of
+other languages write, and compares what they print with the block behind them. It prints the blocks that fail, and ends
+with status 1 where one did.
 
 The blocks run in a folder of their own, where `conform` runs the built program.
 """
@@ -27,6 +28,12 @@ int takes(const char *text, size_t length);
 static char text[65536];
 int main(void) { return !takes(text, fread(text, 1, sizeof text, stdin)); }
 """
+# A grammar with a token that stands in a rule that nothing reaches alone, and its suite.
+UNREACHED = """
+sed 's/^members .*/&\\nnone : NAN ;/; s/^%token /%token NAN /' examples/lists.y > out/nan.y
+sed 's/^\\[0-9\\]/nan return NAN;\\n&/' examples/lists.l > out/nan.l
+./conform suite out/nan.y out/nan.l > out/nan
+"""
 
 
 def blocks():
@@ -43,7 +50,7 @@ def fresh(folder):
 
 
 def ran(folder, script):
-    done = subprocess.run(["bash", "-c", script], cwd=folder, stdout=subprocess.PIPE, stderr=subprocess.PIPE, timeout=300)
+    done = subprocess.run(["bash", "-c", script], cwd=folder, capture_output=True, timeout=300)
     return done.stdout.decode(), done.stderr.decode()
 
 
@@ -67,17 +74,17 @@ def frame_in_c(folder):
     written(folder, "out/takes.c", TAKES)
     written(folder, "out/alone.c", ALONE)
     _, errors = ran(folder, "for name in frame alone; do cc -Wall -o out/$name out/$name.c out/takes.c; done")
-    tables = [ran(folder, f"tools/try_parser {words}")[0] for words in ("--batch out/suite -- out/frame", "out/suite -- out/alone")]
+    calls = ("--batch -- out/frame", "-- out/alone")
+    tables = [ran(folder, f"tools/try_parser out/suite {words}")[0] for words in calls]
     if errors or tables[0] != tables[1] or "wrongly taken" not in tables[0] or "wrongly refused" not in tables[0]:
         yield f"the frame in C: {tables}{errors}"
 
 
 def unreached(folder):
     """A rule that nothing reaches brings tokens of which each edit that puts one in is a negative."""
-    ran(folder, "sed 's/^members .*/&\\nnone : NAN ;/; s/^%token /%token NAN /' examples/lists.y > out/nan.y")
-    ran(folder, "sed 's/^\\[0-9\\]/nan return NAN;\\n&/' examples/lists.l > out/nan.l; ./conform suite out/nan.y out/nan.l > out/nan")
-    found = ran(folder, "grep -c '^negative .* insert . NAN' out/nan; grep -c '^lexeme NAN \"nan\"' out/nan; grep '^goal . rule 8' out/nan")[0]
-    if not re.fullmatch(r"[1-9]\d+\n1\ngoal 8 rule 8 infeasible\n", found):
+    ran(folder, UNREACHED)
+    found = ran(folder, "grep -c '^negative .* insert . NAN' out/nan; grep -c '^goal 8 rule 8 infeasible' out/nan")[0]
+    if not re.fullmatch(r"[1-9]\d+\n1\n", found):
         yield f"a token that nothing reaches: {found}"
 
 

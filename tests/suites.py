@@ -1,7 +1,7 @@
 """What the runs of the tools stand on: manifests, calls of tools, and the end of a script of runs.
 
-The manifests of `s : 'x' ;` are worked by hand from docs/FORMATS.md, by both formats. That of examples/lists.y and lists.l is the
-model's, which was made from the documents alone.
+The manifests of `s : 'x' ;` are worked by hand from docs/FORMATS.md, by both formats. That of examples/lists.y and
+lists.l is the model's, which was made from the documents alone.
 """
 
 import os
@@ -22,19 +22,28 @@ MUTANTS = (
     "negative 2 base 1 insert 0 'x' pair 'x' 'x' at 1\n  tokens 'x' 'x'\n  text \"x x\"\n"
 )
 END = "end goals 5 feasible 3 infeasible 2 large 0 negatives 2"
+INFEASIBLE = "goal 3 pair <begin> <end> infeasible\ngoal 4 pair 'x' 'x' infeasible\n"
 FIRST = (
-    f"conform 1 suite\n{HEAD}goal 1 rule 1 size 2\n{CASE}goal 2 pair <begin> 'x' size 2\n{CASE}goal 3 pair <begin> <end> infeasible\n"
-    f"goal 4 pair 'x' 'x' infeasible\ngoal 5 pair 'x' <end> size 2\n{CASE}{MUTANTS}{END}\n"
+    f"conform 1 suite\n{HEAD}goal 1 rule 1 size 2\n{CASE}goal 2 pair <begin> 'x' size 2\n{CASE}"
+    f"{INFEASIBLE}goal 5 pair 'x' <end> size 2\n{CASE}{MUTANTS}{END}\n"
+)
+CLOSED = (
+    "closed productive s\nclosed reachable s\nclosed empty\nclosed first s : 'x'\nclosed last s : 'x'\n"
+    "closed next <begin> : 'x'\nclosed next 'x' : <end>\n"
 )
 SECOND = (
-    f"conform 2 suite\nweigh nodes\n{HEAD}closed productive s\nclosed reachable s\nclosed empty\nclosed first s : 'x'\n"
-    f"closed last s : 'x'\nclosed next <begin> : 'x'\nclosed next 'x' : <end>\ncase 1 size 2\n{CASE}goal 1 rule 1 size 2 case 1 first 1\n"
-    "goal 2 pair <begin> 'x' size 2 case 1 first 1\ngoal 3 pair <begin> <end> infeasible\ngoal 4 pair 'x' 'x' infeasible\n"
-    f"goal 5 pair 'x' <end> size 2 case 1 first 1\n{MUTANTS}{END} cases 1\n"
+    f"conform 2 suite\nweigh nodes\n{HEAD}{CLOSED}case 1 size 2\n{CASE}goal 1 rule 1 size 2 case 1 first 1\n"
+    f"goal 2 pair <begin> 'x' size 2 case 1 first 1\n{INFEASIBLE}goal 5 pair 'x' <end> size 2 case 1 first 1\n"
+    f"{MUTANTS}{END} cases 1\n"
 )
 LISTS_RULES = [
-    ("value", ["NUMBER"]), ("value", ["NAME"]), ("value", ["'['", "items", "']'"]), ("items", []), ("items", ["members"]),
-    ("members", ["value"]), ("members", ["members", "','", "value"]),
+    ("value", ["NUMBER"]),
+    ("value", ["NAME"]),
+    ("value", ["'['", "items", "']'"]),
+    ("items", []),
+    ("items", ["members"]),
+    ("members", ["value"]),
+    ("members", ["members", "','", "value"]),
 ]
 EDITS = ["delete", "insert", "replace", "swap"]
 

@@ -1,8 +1,9 @@
 #!/usr/bin/env python3
-"""Runs tools/try_grammar around made-up programs: try_grammar_runs.py. It prints the rows that fail, and ends with status 1 where one
-did.
+"""Runs tools/try_grammar around made-up programs: try_grammar_runs.py. It prints the rows that fail, and ends with
+status 1 where one did.
 
-The programs write the suite of examples/lists.y for any files, and say of some commands and options that they don't know them.
+The programs write the suite of examples/lists.y for any files, and say of some commands and options that they don't
+know them.
 """
 
 import os
@@ -42,6 +43,7 @@ spell) exec sleep 4324 ;;
 esac
 """
 COMMA = "wrongly taken: ',' before ']'"
+NAME = "wrongly refused: rule 2 (value : NAME) as symbol 3 of rule 7 (members : members ',' value)"
 
 
 def program(folder, name, body):
@@ -64,10 +66,9 @@ def verdicts(folder):
     """The parser of the guide and its two broken ones, as faults of one parser."""
     written(folder, "lists", lists_suite())
     old = program(folder, "old", OLD)
-    for faults, status, causes in (("none", 0, []), ("comma", 1, [COMMA]), ("name", 1, ["wrongly refused: rule 2 (value : NAME) as symbol 3 of"])):
+    for faults, status, causes in (("none", 0, []), ("comma", 1, [COMMA]), ("name", 1, [NAME])):
         found = tried(old, faults=faults)
-        told = re.findall(r"^cause \d+: (.*)", found[1], re.M)
-        if found[0] != status or len(told) != len(causes) or any(not line.startswith(cause) for line, cause in zip(told, causes)) or found[2]:
+        if (found[0], re.findall(r"^cause \d+: (.*)", found[1], re.M), found[2]) != (status, causes, ""):
             yield f"try with {faults}: {found}"
     made = [line.split()[0] for line in calls(folder)]
     if sorted(set(made)) != ["deep", "rules", "spell", "suite", "wrong"] or made.count("suite") != 2:
@@ -82,7 +83,8 @@ def others(folder):
     written(folder, "lists", lists_suite())
     written(folder, "wrong", WRONG)
     found = tried(program(folder, "new", NEW), "--separator=\\x0a", "--weigh=bytes", faults="more")
-    if found[0] != 1 or ", 1 wrong list; all 374 different texts run" not in found[1] or "which takes more than 10 seconds" not in found[2]:
+    tried_all = ", 1 wrong list; all 374 different texts run" in found[1]
+    if found[0] != 1 or not tried_all or "which takes more than 10 seconds" not in found[2]:
         yield f"try with other outputs: {found}"
     suites = [line for line in calls(folder) if line.startswith("suite")]
     if len(suites) != 1 or not suites[0].endswith(" --separator=\\x0a --weigh=bytes") or "--first=10" not in suites[0]:
@@ -109,13 +111,20 @@ def grammars(folder):
         text = file.read()
     bison = written(folder, "bison.y", text.replace("%{", "%code {", 1).replace("%}", "}", 1))
     found = tried(old, files=(bison, SCANNER))
-    if found[0] != 0 or "tools/from_bison" not in found[2] or f"isn't read as it is (conform: yacc: UnknownDirective at 0)" not in found[2]:
+    said = "isn't read as it is (conform: yacc: UnknownDirective at 0)"
+    if found[0] != 0 or "tools/from_bison" not in found[2] or said not in found[2]:
         yield f"a grammar of Bison: {found}"
     refused = tried(old, files=(written(folder, "refused.y", "%%\nrefused : name"), SCANNER))
     if refused[0] != 2 or "conform: yacc: Undefined at 3" not in refused[2] or refused[1] or "Traceback" in refused[2]:
         yield f"a grammar that is refused: {refused}"
-    rows = [([old, GRAMMAR, "--", "cat"], "tools/start_lex"), ([old, GRAMMAR, SCANNER], "behind --"), ([old, "--"], "FILE"), ([], "program"),
-            (["./no such program", GRAMMAR, SCANNER, "--", "cat"], "No such file"), ([old, GRAMMAR, SCANNER, "--", "./no such parser"], "No such file")]
+    rows = [
+        ([old, GRAMMAR, "--", "cat"], "tools/start_lex"),
+        ([old, GRAMMAR, SCANNER], "behind --"),
+        ([old, "--"], "FILE"),
+        ([], "program"),
+        (["./no such program", GRAMMAR, SCANNER, "--", "cat"], "No such file"),
+        ([old, GRAMMAR, SCANNER, "--", "./no such parser"], "No such file"),
+    ]
     for words, said in rows:
         found = call("try_grammar", *words)
         if found[0] != 2 or said not in found[2] or "Traceback" in found[2]:

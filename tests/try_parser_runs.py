@@ -1,6 +1,6 @@
 #!/usr/bin/env python3
-"""Runs tools/try_parser on parsers that take too much, take too little, die, hang, leave children, close their input, print much, and
-answer nonsense: try_parser_runs.py. It prints the rows that fail, and ends with status 1 where one did.
+"""Runs tools/try_parser on parsers that take too much, take too little, die, hang, leave children, close their input,
+print much, and answer nonsense: try_parser_runs.py. It prints the rows that fail, and ends with status 1 where one did.
 
 The counts are those of the manifest of `s : 'x' ;`, three goals of one text and two negatives, and of examples/lists.y.
 """
@@ -22,7 +22,8 @@ READ = "import sys, os, time; t = sys.stdin.buffer.read(); "
 ALL_TAKEN, ALL_REFUSED, GOOD = (3, 0, 0, 2, 0, 0), (0, 3, 0, 0, 2, 0), (3, 0, 0, 0, 2, 0)
 NEITHER = (0, 0, 3, 0, 0, 2)
 
-# A parser's words, options, the status, how many positives and negatives it took, refused, and did neither with, and what is said.
+# A parser's words, options, the status, how many positives and negatives it took, refused, and did neither with, and
+# what is said.
 ALONE = [
     ([*PYTHON, READ + "sys.exit(t.strip() != b'x')"], [], 0, GOOD, ""),
     ([*PYTHON, READ + "sys.exit(b'x' not in t)"], [], 1, (3, 0, 0, 1, 1, 0), "wrongly taken: 'x' before 'x'"),
@@ -32,20 +33,20 @@ ALONE = [
     ([*PYTHON, "import nosuch"], [], 2, ALL_REFUSED, "It wrote: ModuleNotFoundError: No module named 'nosuch'"),
     ([*PYTHON, "import os; os.kill(os.getpid(), 9)"], [], 2, NEITHER, "died of signal 9, SIGKILL"),
     (["sh", "-c", "kill -9 $$"], [], 2, NEITHER, "died of signal 9, SIGKILL"),
-    (["sh", "-c", "(kill -11 $BASHPID 2>/dev/null; exit 139)"], [], 2, NEITHER, "ended with status 139, as a shell tells signal 11, SIGSEGV"),
+    (["sh", "-c", "exit 139"], [], 2, NEITHER, "ended with status 139, as a shell tells signal 11, SIGSEGV"),
     (["sh", "-c", "no_such_command_anywhere 2>/dev/null"], [], 2, NEITHER, "ended with status 127"),
-    ([*PYTHON, READ + "os.write(1, b'y' * 3_000_000); os.write(2, b'y' * 3_000_000); sys.exit(t.strip() != b'x')"], [], 0, GOOD, ""),
+    ([*PYTHON, READ + "[os.write(o, b'y' * 3_000_000) for o in (1, 2)]; sys.exit(t.strip() != b'x')"], [], 0, GOOD, ""),
     ([*PYTHON, "import os, sys; os.close(0); sys.exit(1)"], [], 2, ALL_REFUSED, "refused"),
     ([*PYTHON, READ + "sys.exit(t.strip() == b'x')"], ["--taken-status", "1", "--refused-status", "0"], 0, GOOD, ""),
     ([*PYTHON, READ + "sys.exit(0 if t.strip() == b'x' else 4)"], ["--refused-status", "3-5"], 0, GOOD, ""),
-    ([*PYTHON, READ + "sys.exit(0 if t.strip() == b'x' else 4)"], ["--refused-status", "1,5"], 1, (3, 0, 0, 0, 0, 2), "ended with status 4"),
+    ([*PYTHON, READ + "sys.exit(4 * (t.strip() != b'x'))"], ["--refused-status", "1"], 1, (3, 0, 0, 0, 0, 2), "status 4"),
     ([*PYTHON, READ + "sys.exit(0 if t.strip() == b'x' else 77)"], [], 0, (3, 0, 0, 0, 0, 0), "skipped"),
     ([*PYTHON, READ + "sys.exit(0 if t.strip() == b'x' else 77)"], ["--skip-status", "3"], 0, GOOD, ""),
     ([*PYTHON, "import sys; t = open(sys.argv[1], 'rb').read(); sys.exit(t.strip() != b'x')", "{}"], [], 0, GOOD, ""),
 ]
 
-# What a frame does with a text that has a name, the status of the run on lists, whether all negatives with names are refused, and how
-# the cases with a name are told.
+# What a frame does with a text that has a name, the status of the run on lists, whether all negatives with names are
+# refused, and how the cases with a name are told.
 FRAMES = [
     ("refuses", "wrongly refused: rule 2 (value : NAME)"),
     ("dies", "died of signal 11, SIGSEGV: rule 2 (value : NAME)"),
@@ -61,13 +62,26 @@ FRAMES = [
     ("ends well", "wrongly refused: rule 2 (value : NAME)"),
 ]
 
+# Words in which SUITE stands for a manifest.
 BAD_CALLS = [
-    [], ["{}"], ["{}", "--"], ["no such file", "--", "cat"], ["{}", "--", "./no such parser"], ["--jobs", "0", "{}", "--", "cat"],
-    ["--seconds", "-1", "{}", "--", "cat"], ["--taken-status", "256", "{}", "--", "cat"], ["--taken-status", "x", "{}", "--", "cat"],
-    ["--taken-status", "1", "--refused-status", "1", "{}", "--", "cat"], ["--kinds", "rules", "{}", "--", "cat"],
-    ["--batch", "{}", "--", "cat", "{}"], ["--batch", "{}", "--", "/bin/false"], ["--batch", "{}", "--", "./no such parser"],
-    ["--kinds", "swap", "{}", "--", "cat"], ["--known", "no such file", "{}", "--", "cat"], ["--write-known", "{}", "{}", "--", "cat"],
-    ["--junit", "no/such/folder", "{}", "--", "cat"],
+    "",
+    "SUITE",
+    "SUITE --",
+    "nothing -- cat",
+    "SUITE -- ./nothing",
+    "--jobs 0 SUITE -- cat",
+    "--seconds -1 SUITE -- cat",
+    "--taken-status 256 SUITE -- cat",
+    "--taken-status x SUITE -- cat",
+    "--taken-status 1 --refused-status 1 SUITE -- cat",
+    "--kinds rules SUITE -- cat",
+    "--kinds swap SUITE -- cat",
+    "--batch SUITE -- cat {}",
+    "--batch SUITE -- /bin/false",
+    "--batch SUITE -- ./nothing",
+    "--known nothing SUITE -- cat",
+    "--write-known SUITE SUITE -- cat",
+    "--junit no/such/folder SUITE -- cat",
 ]
 
 
@@ -97,14 +111,15 @@ def left_over(command):
 def slow(folder):
     """What takes too long is ended with all that it started, and so is what is left behind a text."""
     path = written(folder, "slow", FIRST)
-    rows = [("sleep 4323 | cat", 2, "too slow: above 0.3 seconds"), ("sleep 4323 & exit 0", 2, "taken"), ("sleep 4323 & sleep 4323", 2, "too slow")]
-    for script, status, said in rows:
+    rows = [("sleep 4323 | cat", "too slow"), ("sleep 4323 & exit 0", "taken"), ("sleep 4323 & sleep 4323", "too slow")]
+    for script, said in rows:
         began = time.monotonic()
         found = call("try_parser", "--seconds", "0.3", path, "--", "sh", "-c", script)
-        if found[0] != status or said not in found[2] or time.monotonic() - began > 20 or left_over("sleep 4323"):
+        if found[0] != 2 or said not in found[2] or time.monotonic() - began > 20 or left_over("sleep 4323"):
             yield f"a parser {script}: {found}"
     once = call("try_parser", "--all", "--seconds", "0.3", "--stop-after", "1", "--jobs", "1", path, "--", "sleep", "5")
-    if once[0] != 1 or once[1].count("the parser: too slow") != 3 or "; 1 of 3 different texts run; 3 failed" not in once[1]:
+    has_stopped = "; 1 of 3 different texts run; 3 failed" in once[1]
+    if once[0] != 1 or once[1].count("the parser: too slow") != 3 or not has_stopped:
         yield f"a parser that is slow, once: {once}"
 
 
@@ -127,7 +142,8 @@ def frames(folder):
     path = written(folder, "lists", lists_suite(operators=["delete"], bases=4))
     for deed, said in FRAMES:
         found = call("try_parser", path, "--seconds", "0.3", "--kinds", "rule,context", *frame("frame.py", deed))
-        if found[0] != 1 or f"cause 1: {said}\n" not in found[1] or " of 1 cause;" not in found[1] or left_over("sleep 4321"):
+        is_told = f"cause 1: {said}\n" in found[1] and " of 1 cause;" in found[1]
+        if found[0] != 1 or not is_told or left_over("sleep 4321"):
             yield f"a frame that {deed}: {found}"
     good = call("try_parser", path, "--only", "positive", *frame("frame.py", "takes"))
     deaf = call("try_parser", path, "--seconds", "5", "--only", "positive", *frame("frame.py", "closes its input"))
@@ -138,8 +154,8 @@ def frames(folder):
 
 def starts(folder):
     """A frame is started once, as often as there are jobs, and once more behind each text at which it dies."""
-    path, log = written(folder, "lists", lists_suite(operators=[])), os.path.join(folder, "starts")
-    with_names = {line for line in lists_suite(operators=[]).split("\n") if line.startswith("  text") and "a" in line[6:]}
+    suite, log = lists_suite(operators=[]), os.path.join(folder, "starts")
+    path, with_names = written(folder, "lists", suite), set(re.findall(r"^  text .*a.*", suite, re.M))
     rows = [("takes", "1", 1), ("takes", "3", 3), ("dies", "1", 1 + len(with_names))]
     for deed, jobs, wanted in rows:
         written(folder, "starts", "")
@@ -152,10 +168,12 @@ def starts(folder):
 
 def many(folder):
     """10,000 texts, to a frame that does nothing."""
-    lists = "".join(f'wrong {number} rule 1 drop 1 outside\n  tokens\n  text "{number}"\n' for number in range(1, 10_001))
-    path = written(folder, "many", f"conform wrong\n{lists}end slips 10000 none 0 large 0 again 0 long 0 sentences 0 wrong 10000\n")
+    lists = [f'wrong {number} rule 1 drop 1 outside\n  tokens\n  text "{number}"\n' for number in range(1, 10_001)]
+    end_line = "end slips 10000 none 0 large 0 again 0 long 0 sentences 0 wrong 10000\n"
+    path = written(folder, "many", "conform wrong\n" + "".join(lists) + end_line)
     began = time.monotonic()
-    found = call("try_parser", path, "--batch", "--", *PYTHON, "import sys\nfor line in sys.stdin: print('refused', flush=True)")
+    refusing = "import sys\nfor line in sys.stdin: print('refused', flush=True)"
+    found = call("try_parser", path, "--batch", "--", *PYTHON, refusing)
     if found[0] != 0 or "all 10000 different texts run; 0 failed" not in found[1]:
         yield f"many texts: {found}"
     if time.monotonic() - began > 10:
@@ -174,7 +192,7 @@ def readers(folder):
 def bad_calls(folder):
     path = written(folder, "first", FIRST)
     for words in BAD_CALLS:
-        found = call("try_parser", *(path if word == "{}" and place < len(words) - 1 or word == "{}" and len(words) < 3 else word for place, word in enumerate(words)))
+        found = call("try_parser", *(path if word == "SUITE" else word for word in words.split()))
         if found[0] != 2 or not found[2] or "Traceback" in found[2]:
             yield f"try_parser {words}: {found}"
 

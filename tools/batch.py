@@ -1,4 +1,5 @@
-"""Parsers as one process for many texts: it gets a line of base64 for each text and answers with a line, taken or refused."""
+"""Parsers as one process for many texts: it gets a line of base64 for each text and answers with a line, taken or
+refused."""
 
 import base64
 import os
@@ -12,7 +13,8 @@ ANSWERS = {b"taken": TAKEN, b"refused": REFUSED}
 MOST_ANSWER_BYTES = 65_536
 KEPT_ERROR_BYTES = 4_096
 PIECE = 65_536
-# A command that failed so many times and never answered isn't a frame. One that was too slow takes time, and counts more.
+# A command that failed so many times and never answered isn't a frame. One that was too slow takes time, and counts
+# more.
 MOST_IN_VAIN = 20
 SLOW_IN_VAIN = 7
 SECONDS_TO_END = 1
@@ -91,7 +93,8 @@ class Frame:
         return not self.ended and not self.answered
 
     def answer(self, text, seconds):
-        """The bytes that it answers: a line, or what there is where it ended, took too long or went on without a line's end."""
+        """The bytes that it answers: a line, or what there is where it ended, took too long or went on without a line's
+        end."""
         until = time.monotonic() + seconds
         self.unsent = base64.b64encode(text) + b"\n"
         self.send()
@@ -120,7 +123,8 @@ class Frame:
 
 
 class Batch:
-    """A parser that is started once for many texts, and anew behind a text at which it died, took too long or lost its step."""
+    """A parser that is started once for many texts, and anew behind a text at which it died, took too long or lost its
+    step."""
 
     def __init__(self, command, seconds, statuses):
         self.command, self.seconds, self.statuses = command, seconds, statuses
@@ -140,7 +144,8 @@ class Batch:
 
     def start(self):
         if self.in_vain >= MOST_IN_VAIN and not self.has_answered:
-            raise NoAnswers(f"it was started {self.starts} times and never answered; the last time it {self.last_death}")
+            told = f"it was started {self.starts} times and never answered; the last time it {self.last_death}"
+            raise NoAnswers(told)
         self.frame, self.starts = Frame(self.command), self.starts + 1
 
     def lose_step(self):
@@ -163,7 +168,8 @@ class Batch:
         return too_slow(self.seconds)
 
     def without_frame(self, text, frame):
-        """The outcome where the frame went. One that goes well behind an answer didn't die of the next text, which is asked again."""
+        """The outcome where the frame went. One that goes well behind an answer didn't die of the next text, which is
+        asked again."""
         status, said = frame.end(), last_line(frame.said)
         if frame.has_answered and (status == 0 or frame.is_deaf):
             return self.ask(text)

@@ -1,8 +1,10 @@
 #!/usr/bin/env python3
-"""A frame for `tools/try_parser --batch`, around Python's json: it gets a line of base64 for each text, and answers with a line.
+"""A frame for `tools/try_parser --batch`, around Python's json: it gets a line of base64 for each text, and answers
+with a line.
 
-To try another parser, write `takes` anew: it says whether the parser takes a text. What it raises, other than the parser's own
-refusal, is told on the line, and counts as neither taken nor refused. Whatever a parser prints must not go to standard output.
+To try another parser, write `takes` anew: it says whether the parser takes a text. What it raises, other than the
+parser's own refusal, is told on the line, and counts as neither taken nor refused. Whatever a parser prints must not go
+to standard output.
 """
 
 import base64

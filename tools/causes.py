@@ -10,14 +10,15 @@ from sides import BEGIN, END, merged_contexts, products
 
 # A rule tells more than a rule in context, this more than two neighbours, and these more than the ends of two symbols.
 FEATURES = ("rule", "context", "pair", "sides")
-# So many negatives that begin with a sentence, all of them taken, say that what stands behind a sentence isn't looked at.
+# So many negatives that begin with a sentence, all of them taken, say that what stands behind a sentence isn't looked
+# at.
 LEAST_WITH_MORE = 3
 
 
 @dataclass
 class Cause:
-    """What failed cases have in common: how the parser departed, the words of what it departs at, the cases, and those of them
-    that hold no other one's list."""
+    """What failed cases have in common: how the parser departed, the words of what it departs at, the cases, and those
+    of them that hold no other one's list."""
 
     outcome: str
     words: tuple
@@ -39,8 +40,8 @@ def framed(trial):
 
 
 def part_and_whole(trial):
-    """What another list has to hold to belong to this one, and what this one holds. The part has the ends of the text where the pair
-    has them. No other list has a text with the spelling that is tried."""
+    """What another list has to hold to belong to this one, and what this one holds. The part has the ends of the text
+    where the pair has them. No other list has a text with the spelling that is tried."""
     whole = framed(trial)
     if trial.kind == "spelling":
         return (*whole, trial.name), (*whole, trial.name)
@@ -58,7 +59,8 @@ def by_root(trials):
 
 
 def place_of_edit(trial):
-    """What a negative without a pair has in common with others: its slip, or the token put in, or the tokens at its place."""
+    """What a negative without a pair has in common with others: its slip, or the token put in, or the tokens at its
+    place."""
     if trial.kind == "wrong":
         return ("slip", *trial.edit)
     edit, place, *token = trial.edit
@@ -80,7 +82,8 @@ class Features:
         return dict.fromkeys(chain(self.of_derivation(trial.derivation) if self.rules else (), pairs))
 
     def of_derivation(self, derivation):
-        """Rules and rules in context, from the left. What waits is each symbol's place: the rule around it, and its number there."""
+        """Rules and rules in context, from the left. What waits is each symbol's place: the rule around it, and its
+        number there."""
         waiting = [(0, 0)]
         for rule in derivation:
             outer, place = waiting.pop()
@@ -104,7 +107,8 @@ def telling(failed, taken, features):
 
 
 def cover(places):
-    """Features and the places that each of them explains, the one with most first, then with most of the rest: a greedy choice."""
+    """Features and the places that each of them explains, the one with most first, then with most of the rest: a greedy
+    choice."""
     order = {feature: number for number, feature in enumerate(places)}
     heap = [(-len(found), FEATURES.index(feature[0]), order[feature], feature) for feature, found in places.items()]
     heapq.heapify(heap)
@@ -141,13 +145,16 @@ class Pairs:
         return tuple(tokens) in self.sentences
 
     def with_more(self, roots):
-        """The failed ones that begin with a sentence, where the parser takes each one that was tried and has a sentence up to its
-        pair."""
+        """The failed ones that begin with a sentence, where the parser takes each one that was tried and has a sentence
+        up to its pair."""
         tried = [trial for trial in self.trials if trial.pair and self.is_sentence(trial.tokens[: trial.at])]
         is_many = len(tried) >= LEAST_WITH_MORE and len({trial.pair for trial in tried}) > 1
         if not is_many or any(trial.outcome.kind != "taken" for trial in tried):
             return set()
-        return {root for root in roots if any(self.is_sentence(root.tokens[:end]) for end in range(1, len(root.tokens)))}
+        return {root for root in roots if self.begins_with_sentence(root)}
+
+    def begins_with_sentence(self, trial):
+        return any(self.is_sentence(trial.tokens[:end]) for end in range(1, len(trial.tokens)))
 
     def words(self, roots):
         more = self.with_more(roots)
@@ -163,7 +170,7 @@ class Causes:
     def __init__(self, trials, rules):
         self.trials = trials
         self.features = Features(rules)
-        self.taken = [trial for trial in trials if trial.positive and trial.outcome and trial.outcome.kind == "taken"]
+        self.taken = [trial for trial in trials if trial.is_taken_positive]
         self.pairs = Pairs(trials, self.taken, rules)
 
     def found(self):
@@ -185,5 +192,6 @@ class Causes:
         return list(groups.values())
 
     def words(self, outcome, roots):
-        """What each root's failure is laid to. Where a parser neither takes nor refuses, any part of a text may be why."""
+        """What each root's failure is laid to. Where a parser neither takes nor refuses, any part of a text may be
+        why."""
         return self.pairs.words(roots) if outcome == "taken" else explained(roots, self.taken, self.features)

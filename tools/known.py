@@ -1,8 +1,9 @@
-"""Files of known departures: each line names failed cases by a regular expression over their tokens, and says why they are so.
+"""Files of known departures: each line names failed cases by a regular expression over their tokens, and says why they
+are so.
 
 A line is `pos PATTERN # REASON` for positives that are refused, `neg PATTERN # REASON` for negatives that are taken, or
-`other PATTERN # REASON` for cases of both kinds with which a parser does neither. The pattern is searched in the names of the tokens
-with one space between them. Empty lines and those that begin with # say nothing.
+`other PATTERN # REASON` for cases of both kinds with which a parser does neither. The pattern is searched in the names
+of the tokens with one space between them. Empty lines and those that begin with # say nothing.
 """
 
 import re

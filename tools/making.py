@@ -1,4 +1,5 @@
-"""Makes the outputs that are tried, by the program's commands: those that the program has, with the options that it knows."""
+"""Makes the outputs that are tried, by the program's commands: those that the program has, with the options that it
+knows."""
 
 import os
 import re
@@ -30,7 +31,8 @@ def commands(limit):
 
 
 def ran(words, path=os.devnull, seconds=None):
-    """The status and the error output of a command whose output goes to a file. The status is None where it takes too long."""
+    """The status and the error output of a command whose output goes to a file. The status is None where it takes too
+    long."""
     with open(path, "wb") as file:
         try:
             done = subprocess.run(words, stdin=subprocess.DEVNULL, stdout=file, stderr=subprocess.PIPE, timeout=seconds)
@@ -49,7 +51,8 @@ class Maker:
         return os.path.join(self.folder, name)
 
     def make_plain(self):
-        """Writes a grammar that isn't in the profile anew, where tools/from_bison can; a refused scanner is told later."""
+        """Writes a grammar that isn't in the profile anew, where tools/from_bison can; a refused scanner is told
+        later."""
         status, said = ran([self.program, "rules", self.grammar])
         if status != 1:
             return
@@ -66,7 +69,8 @@ class Maker:
         raise NotMade("\n".join(filter(None, [said, more])) or f"{self.program} {words[0]} ended with status {status}")
 
     def make(self, name, choices, more):
-        """The path of an output; None where the program hasn't the command, or takes too long for one that can be missed."""
+        """The path of an output; None where the program hasn't the command, or takes too long for one that can be
+        missed."""
         path, seconds = self.path(name), None if name == "suite" else SECONDS_BESIDE
         for options in choices:
             words = [name, self.grammar, self.scanner, *options, *more]

@@ -1,4 +1,7 @@
-"""The options that try_parser and try_grammar share: how a parser is run, which cases are tried, and what is told of them."""
+"""The options that try_parser and try_grammar share: how a parser is run, which cases are tried, and what is told of
+them."""
+
+import argparse
 
 import trials as trial
 from batch import Batch
@@ -42,29 +45,51 @@ def kinds(word):
     return found
 
 
-def add_options(parser):
-    """The options of how a parser is run, and of which trials are."""
-    run = parser.add_argument_group("how the parser is run")
-    run.add_argument("--batch", action="store_true", help="start it once: it gets a line of base64 for each text and answers taken or refused")
-    run.add_argument("--seconds", type=above_zero, default=10, metavar="S", help="the time that a text may take (10)")
-    run.add_argument("--jobs", type=count, metavar="N", help="how many run at once (one a processor; with --batch 1)")
-    run.add_argument("--stop-after", type=count, metavar="N", help="stop once N cases have failed")
-    run.add_argument("--taken-status", type=statuses, metavar="LIST", help="the statuses by which it takes a text, as 0,3-5 (0)")
-    run.add_argument("--refused-status", type=statuses, metavar="LIST", help="those by which it refuses one (every other up to 125)")
-    run.add_argument("--skip-status", type=statuses, metavar="LIST", help="those by which it says that it can't tell (77)")
-    which = parser.add_argument_group("which cases are tried")
-    which.add_argument("--only", choices=("positive", "negative"), help="those that have to be taken, or refused")
-    which.add_argument("--kinds", type=kinds, metavar="LIST", help=f"those of some kinds: {','.join(trial.KINDS)}")
-    which.add_argument("--sample", type=count, metavar="N", help="the cases of N texts, drawn by the number --seed")
-    which.add_argument("--seed", type=int, metavar="S", help="without it one is made up and told")
-    which.add_argument("--limit", type=count, metavar="N", help="the N texts that tell most, by the order of trials in docs/GUIDE.md")
-    told = parser.add_argument_group("what is told")
-    told.add_argument("--all", action="store_true", help="list each failed case too")
-    told.add_argument("--known", metavar="FILE", help="known departures: lines `pos|neg|other PATTERN # REASON` of cases that may fail")
-    told.add_argument("--write-known", metavar="FILE", help="write such a line for each cause to a new file")
-    told.add_argument("--results", metavar="FILE", help="write what became of each case, for tools/page")
-    told.add_argument("--tap", action="store_true", help="write the Test Anything Protocol in place of the table")
-    told.add_argument("--junit", metavar="FILE", help="write a report in JUnit's XML to the file too")
+# In groups: the options, and the arguments of argparse that each of them has.
+OPTIONS = {
+    "how the parser is run": {
+        "--batch": {"action": "store_true", "help": "start it once: it answers a line of base64 by taken or refused"},
+        "--seconds": {"type": above_zero, "default": 10, "metavar": "S", "help": "the time that a text may take (10)"},
+        "--jobs": {"type": count, "metavar": "N", "help": "how many run at once (one a processor; with --batch 1)"},
+        "--stop-after": {"type": count, "metavar": "N", "help": "stop once N cases have failed"},
+        "--taken-status": {"type": statuses, "metavar": "LIST", "help": "by which it takes a text, as 0,3-5 (0)"},
+        "--refused-status": {"type": statuses, "metavar": "LIST", "help": "by which it refuses one (others to 125)"},
+        "--skip-status": {"type": statuses, "metavar": "LIST", "help": "by which it says that it can't tell (77)"},
+    },
+    "which cases are tried": {
+        "--only": {"choices": ("positive", "negative"), "help": "those that have to be taken, or refused"},
+        "--kinds": {"type": kinds, "metavar": "LIST", "help": f"those of some kinds: {','.join(trial.KINDS)}"},
+        "--sample": {"type": count, "metavar": "N", "help": "those of N texts, drawn by the number --seed"},
+        "--seed": {"type": int, "metavar": "S", "help": "without it one is made up and told"},
+        "--limit": {"type": count, "metavar": "N", "help": "the N texts that tell most, by docs/GUIDE.md"},
+    },
+    "what is told": {
+        "--all": {"action": "store_true", "help": "list each failed case too"},
+        "--known": {"metavar": "FILE", "help": "cases that may fail: lines `pos|neg|other PATTERN # REASON`"},
+        "--write-known": {"metavar": "FILE", "help": "write such a line for each cause to a new file"},
+        "--results": {"metavar": "FILE", "help": "write what became of each case, for tools/page"},
+        "--tap": {"action": "store_true", "help": "write the Test Anything Protocol in place of the table"},
+        "--junit": {"metavar": "FILE", "help": "write a report in JUnit's XML to the file too"},
+    },
+}
+
+
+def parser_of(**about):
+    """A parser of words with these options; `about` has what argparse is told of it."""
+    parser = argparse.ArgumentParser(formatter_class=argparse.RawDescriptionHelpFormatter, **about)
+    for title, group in OPTIONS.items():
+        part = parser.add_argument_group(title)
+        for name, words in group.items():
+            part.add_argument(name, **words)
+    return parser
+
+
+def parsed(parser, words):
+    """What the words before the first -- ask for, and as `command` those behind it."""
+    before, command = (words[: words.index("--")], words[words.index("--") + 1 :]) if "--" in words else (words, [])
+    asked = parser.parse_args(before)
+    asked.command = command
+    return asked
 
 
 def parser_maker(asked):

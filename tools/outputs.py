@@ -1,4 +1,5 @@
-"""What the program writes, read as trials: manifests, and the outputs of its other commands that have lists of tokens with texts."""
+"""What the program writes, read as trials: manifests, and the outputs of its other commands that have lists of tokens
+with texts."""
 
 import re
 from dataclasses import dataclass, field
@@ -7,11 +8,13 @@ import manifest
 from trials import Trial
 
 PAIR = r"pair (\S+) (\S+) at (\d+)"
+SLIP = r"(empty|rule \d+ (?:drop|double|swap) \d+)"
+SPELLED = r"(token \S+|skip) goal \d+ size \d+(?: at \d+)?"
 # By the first line's word: the line before an entry's indented ones, its kind, and the line at the end.
 ENTRIES = {
-    "wrong": (rf"(wrong \d+) (empty|rule \d+ (?:drop|double|swap) \d+) (?:{PAIR}|outside)", "wrong", r"end slips .* wrong (\d+)"),
+    "wrong": (rf"(wrong \d+) {SLIP} (?:{PAIR}|outside)", "wrong", r"end slips .* wrong (\d+)"),
     "deep": (rf"(deep \d+) base \d+ {manifest.EDIT}", "deep", r"end bases .* deep (\d+) .*"),
-    "spell": (r"(spelling \d+) (token \S+|skip) goal \d+ size \d+(?: at \d+)?", "spelling", r"end rules \d+ spelled (\d+) .*"),
+    "spell": (rf"(spelling \d+) {SPELLED}", "spelling", r"end rules \d+ spelled (\d+) .*"),
     "chains": (r"(goal \d+) (chain \d+ \d+ \d+ \d+ \d+) size \d+", "chain", r"end goals \d+ feasible (\d+) .*"),
 }
 # Lines that stand alone: they have no list.
@@ -63,8 +66,8 @@ def of_manifest(path, read):
 def of_negative(negative, is_forbidden):
     edit, tokens = " ".join(negative.edit), negative.sentence.tokens
     name = f"negative {negative.number} base {negative.base} {edit} pair {' '.join(negative.pair)} at {negative.at}"
-    text, pair = negative.sentence.text, negative.pair
-    return Trial(name, negative.kind, tokens, text, pair=pair, at=negative.at, edit=negative.edit, is_forbidden=is_forbidden)
+    more = {"pair": negative.pair, "at": negative.at, "edit": negative.edit, "is_forbidden": is_forbidden}
+    return Trial(name, negative.kind, tokens, negative.sentence.text, **more)
 
 
 def forbidding(read):

@@ -4,7 +4,8 @@ from collections import deque
 
 
 class Automaton:
-    """A tree of lists; each node leads, where the next token doesn't fit, to the longest end of its own list that begins another."""
+    """A tree of lists; each node leads, where the next token doesn't fit, to the longest end of its own list that
+    begins another."""
 
     def __init__(self, lists):
         self.steps, self.back = [{}], [0]
@@ -45,7 +46,8 @@ class Automaton:
         return self.steps[node].get(token, 0)
 
     def shortest_in(self, tokens):
-        """The length and place of the shortest of the lists that stands within this one, the first that ends; or None."""
+        """The length and place of the shortest of the lists that stands within this one, the first that ends; or
+        None."""
         node, found = 0, None
         for token in tokens:
             node = self.step(node, token)
@@ -56,8 +58,8 @@ class Automaton:
 
 
 def roots(lists):
-    """For each list, which is a pair of a part and the whole that holds it, the place of the first one whose part it comes down to:
-    its whole holds a shorter part, or that one's does, and so on. A part has at least one token."""
+    """For each list, which is a pair of a part and the whole that holds it, the place of the first one whose part it
+    comes down to: its whole holds a shorter part, or that one's does, and so on. A part has at least one token."""
     automaton = Automaton([part for part, _ in lists])
     found = []
     for place, (part, whole) in enumerate(lists):

@@ -82,18 +82,26 @@ def end_line(trials, every, without_text, causes):
     """What was tried of all that there is, and how it went."""
     texts, ran = by_text(every), by_text(trial for trial in trials if trial.outcome)
     failed, known = sum(trial.failed for trial in trials), sum(trial.known is not None for trial in trials)
-    tried = f"all {len(texts)} different texts run" if len(ran) == len(texts) else f"{len(ran)} of {len(texts)} different texts run"
-    told = f"{failed} failed" + (f" of {amount(causes, 'cause')}" if causes else "") + (f", {known} known" if known else "")
-    return f"{forms_of(every)}; {tried}; {told}; {without_text} without a text"
+    tried = f"all {len(texts)}" if len(ran) == len(texts) else f"{len(ran)} of {len(texts)}"
+    told = f"{failed} failed" + (f" of {amount(causes, 'cause')}" if causes else "")
+    told += f", {known} known" if known else ""
+    return f"{forms_of(every)}; {tried} different texts run; {told}; {without_text} without a text"
+
+
+def tap_note(trial):
+    if trial.outcome is None:
+        return " # SKIP not run"
+    if trial.outcome.kind == "skipped":
+        return " # SKIP by the parser"
+    return "" if trial.known is None else f" # TODO {trial.known}"
 
 
 def tap_lines(trials):
     yield f"TAP version 13\n1..{len(trials)}"
     for number, trial in enumerate(trials, 1):
-        passed = trial.outcome is not None and not trial.failed
-        skipped = "not run" if trial.outcome is None else "skipped by the parser" if trial.outcome.kind == "skipped" else ""
-        note = f" # SKIP {skipped}" if skipped else f" # TODO {trial.known}" if trial.known is not None else ""
-        yield f"{'ok' if passed and trial.known is None else 'not ok'} {number} - {trial.name.replace('#', chr(92) + '#')}{note}"
+        passed = trial.outcome is not None and not trial.departs
+        name = trial.name.replace("#", "\\#")
+        yield f"{'ok' if passed else 'not ok'} {number} - {name}{tap_note(trial)}"
         if trial.failed:
             yield indented(story(trial), "  # ")
 
@@ -113,5 +121,6 @@ def write_junit(trials, path):
         print('<?xml version="1.0" encoding="UTF-8"?>', file=file)
         print(f'<testsuite name="conform" tests="{len(trials)}" failures="{failed}" skipped="{skipped}">', file=file)
         for trial, result in results:
-            print(f"<testcase classname={quoteattr(trial.kind)} name={quoteattr(trial.name)}>{result}</testcase>", file=file)
+            names = f"classname={quoteattr(trial.kind)} name={quoteattr(trial.name)}"
+            print(f"<testcase {names}>{result}</testcase>", file=file)
         print("</testsuite>", file=file)

@@ -1,6 +1,7 @@
 """Files of results: what a parser did with each case, and the causes, as JSON with one case on a line.
 
-Texts stand as characters, one for each byte. The outputs stand with their checksums, by which a reader knows them again.
+Texts stand as characters, one for each byte. The outputs stand with their checksums, by which a reader knows them
+again.
 """
 
 import hashlib
@@ -27,8 +28,9 @@ def case_row(trial, causes):
 
 def cause_row(cause, told):
     shortest = cause.shortest
-    text = shortest.text.decode("latin-1")
-    return {"told": told, "cases": len(cause.trials), "kinds": dict(cause.kinds), "name": shortest.name, "output": shortest.output, "text": text, "tokens": shortest.tokens}
+    row = {"told": told, "cases": len(cause.trials), "kinds": dict(cause.kinds)}
+    row.update(name=shortest.name, output=shortest.output, text=shortest.text.decode("latin-1"), tokens=shortest.tokens)
+    return row
 
 
 def write(path, outputs, trials, causes, told, command):

@@ -1,4 +1,5 @@
-"""Parsers as commands: one is started for each text, in a process group of its own, with a time limit; and what its status means."""
+"""Parsers as commands: one is started for each text, in a process group of its own, with a time limit; and what its
+status means."""
 
 import os
 import signal
@@ -6,7 +7,8 @@ import subprocess
 import tempfile
 from dataclasses import dataclass
 
-# A shell's own statuses begin behind this one: 126 and 127 for a command that it can't run, 128 and a number for a signal.
+# A shell's own statuses begin behind this one: 126 and 127 for a command that it can't run, 128 and a number for a
+# signal.
 LAST_PLAIN_STATUS = 125
 CANT_RUN = (126, 127)
 SHELL_SIGNALS = 128
@@ -14,8 +16,8 @@ SHELL_SIGNALS = 128
 
 @dataclass(frozen=True)
 class Outcome:
-    """What a parser did with a text: taken, refused, skipped or other. `told` says it in words, and `sort` without what may differ
-    from one text to the next, as the bytes of an answer do."""
+    """What a parser did with a text: taken, refused, skipped or other. `told` says it in words, and `sort` without what
+    may differ from one text to the next, as the bytes of an answer do."""
 
     kind: str
     told: str
@@ -43,8 +45,8 @@ def signal_name(number):
 
 
 class Statuses:
-    """What the statuses of a parser mean. Each argument is a collection of statuses, or None for what is usual: 0 is taken, 77 is
-    skipped, and every other one up to 125 is refused. A status that is named stands before a usual one."""
+    """What the statuses of a parser mean. Each argument is a collection of statuses, or None for what is usual: 0 is
+    taken, 77 is skipped, and every other one up to 125 is refused. A status that is named stands before a usual one."""
 
     def __init__(self, taken=None, refused=None, skipped=None):
         named = [(TAKEN, taken), (REFUSED, refused), (SKIPPED, skipped)]
@@ -79,7 +81,8 @@ class Group:
             self.end()
 
     def wait(self, seconds):
-        """The status of the process, or None where it takes longer. Then, as afterwards, nothing of the group is left."""
+        """The status of the process, or None where it takes longer. Then, as afterwards, nothing of the group is
+        left."""
         try:
             return self.process.wait(seconds)
         except subprocess.TimeoutExpired:
@@ -104,13 +107,15 @@ class Group:
 
 
 class Alone:
-    """A parser that is started for each text, which it gets on its standard input or in a file whose name stands for a word {}."""
+    """A parser that is started for each text, which it gets on its standard input or in a file whose name stands for a
+    word {}."""
 
     def __init__(self, command, seconds, statuses):
         self.command, self.seconds, self.statuses, self.notes = command, seconds, statuses, ()
 
     def ask(self, text, errors=subprocess.DEVNULL):
-        """The outcome of a text. What the parser prints is thrown away, unless `errors` is a file for its error output."""
+        """The outcome of a text. What the parser prints is thrown away, unless `errors` is a file for its error
+        output."""
         with tempfile.TemporaryDirectory(ignore_cleanup_errors=True) as folder:
             path = os.path.join(folder, "text")
             with open(path, "wb") as file:

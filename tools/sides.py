@@ -1,5 +1,5 @@
-"""Failed pairs and rules in context told as few: a pair may be any end of one symbol before any beginning of another, and what is
-wrong with a place of a rule may be so with several rules there, and at that place of several rules."""
+"""Failed pairs and rules in context told as few: a pair may be any end of one symbol before any beginning of another,
+and what is wrong with a place of a rule may be so with several rules there, and at that place of several rules."""
 
 from collections import defaultdict, deque
 
@@ -66,8 +66,8 @@ def distinct(sets, names, marks):
 
 
 def products(rules, failed, passed):
-    """For each two symbols the failed pairs of an end of the first and a beginning of the second, where no pair of these has passed;
-    and each failed pair alone. `failed` and `passed` are sets of pairs."""
+    """For each two symbols the failed pairs of an end of the first and a beginning of the second, where no pair of
+    these has passed; and each failed pair alone. `failed` and `passed` are sets of pairs."""
     found = {("pair", *pair): {pair} for pair in sorted(failed)}
     names = from_above(rules)
     tried, passed = failed | passed, passed - failed
@@ -89,14 +89,16 @@ def products_of_row(name, columns, bad, good):
 
 
 def merged_contexts(contexts):
-    """For each rule in context, as outer rule, place and inner rule, the one or more that it is told with: the place, the outer rules
-    that have there the same inner rules, and these."""
+    """For each rule in context, as outer rule, place and inner rule, the one or more that it is told with: the place,
+    the outer rules that have there the same inner rules, and these."""
     inner = defaultdict(set)
     for outer, place, rule in contexts:
         inner[outer, place].add(rule)
     outer_rules = defaultdict(list)
     for outer, place in sorted(inner):
         outer_rules[place, frozenset(inner[outer, place])].append(outer)
-    return {
-        (outer, place, rule): (place, tuple(outers), tuple(sorted(rules))) for (place, rules), outers in outer_rules.items() for outer in outers for rule in rules
-    }
+    merged = {}
+    for (place, rules), outers in outer_rules.items():
+        told = place, tuple(outers), tuple(sorted(rules))
+        merged.update({(outer, place, rule): told for outer in outers for rule in rules})
+    return merged

@@ -25,7 +25,8 @@ class Trial:
     output: int = 0
     # of a positive: its rules from the left, and where these stand
     derivation: list = field(default_factory=list)
-    # of a negative: the pair that no sentence has, the place of its left one in the framed list, and the words of the edit or slip
+    # of a negative: the pair that no sentence has, the place of its left one in the framed list, and the words of the
+    # edit or slip
     pair: tuple = None
     at: int = None
     edit: list = None
@@ -49,12 +50,16 @@ class Trial:
         return self.outcome is not None and self.outcome.kind not in (self.wanted, "skipped")
 
     @property
-    def has_one_forbidden_pair(self):
-        return sum(map(self.is_forbidden, zip(["<begin>", *self.tokens], [*self.tokens, "<end>"]))) == 1
-
-    @property
     def failed(self):
         return self.departs and self.known is None
+
+    @property
+    def is_taken_positive(self):
+        return self.positive and self.outcome is not None and self.outcome.kind == "taken"
+
+    @property
+    def has_one_forbidden_pair(self):
+        return sum(map(self.is_forbidden, zip(["<begin>", *self.tokens], [*self.tokens, "<end>"]))) == 1
 
 
 def by_text(trials):

@@ -42,7 +42,8 @@ def interrupt(*_):
 
 
 class Session:
-    """The outputs, what is asked for, and what is found: the trials with their outcomes, the causes, the lines that are stale."""
+    """The outputs, what is asked for, and what is found: the trials with their outcomes, the causes, the lines that are
+    stale."""
 
     def __init__(self, outputs, asked):
         self.outputs, self.asked = outputs, asked
@@ -73,8 +74,8 @@ class Session:
         self.causes = [] if self.warnings else Causes(self.trials, self.rules).found()
 
     def told_nothing(self):
-        """The warning where texts were tried that have to be taken and such that have to be refused, and the parser did the same with
-        all of them; or where it skipped all."""
+        """The warning where texts were tried that have to be taken and such that have to be refused, and the parser did
+        the same with all of them; or where it skipped all."""
         ran = [found for found in self.trials if found.outcome]
         kinds = {found.outcome.kind for found in ran}
         if kinds != {"skipped"} and (len(kinds) != 1 or len({found.positive for found in ran}) != 2):
@@ -82,7 +83,8 @@ class Session:
         outcome = ran[0].outcome
         same = outcome.told if len({found.outcome for found in ran}) == 1 else "neither taken nor refused"
         said = self.error_line()
-        yield f"each text, to be taken or not: {same}. Is the parser there, and does it say what it did?" + (f" It wrote: {said}" if said else "")
+        wrote = f" It wrote: {said}" if said else ""
+        yield f"each text, to be taken or not: {same}. Is the parser there, and does it say what it did?{wrote}"
 
     def error_line(self):
         """The last line of the error output at a text, where a command that isn't a parser often says so."""
@@ -110,7 +112,8 @@ class Session:
         yield from reports.table_lines(self.trials)
         yield from reports.cause_lines(self.causes, self.told)
         yield from reports.known_lines(self.trials)
-        yield reports.end_line(self.trials, self.every, sum(len(output.without_text) for output in self.outputs), len(self.causes))
+        without_text = sum(len(output.without_text) for output in self.outputs)
+        yield reports.end_line(self.trials, self.every, without_text, len(self.causes))
 
     def tell(self):
         write_lines(reports.tap_lines(self.trials) if self.asked.tap else self.lines())
@@ -124,7 +127,7 @@ class Session:
         if self.asked.junit:
             reports.write_junit(self.trials, self.asked.junit)
         if self.asked.write_known:
-            taken = [found for found in self.trials if found.positive and found.outcome and found.outcome.kind == "taken"]
+            taken = [found for found in self.trials if found.is_taken_positive]
             with open(self.asked.write_known, "x", encoding="utf-8") as file:
                 file.writelines(line + "\n" for line in known.lines_of(self.causes, taken, self.told))
         if self.asked.results:

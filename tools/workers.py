@@ -24,7 +24,8 @@ class Progress:
         self.failed += failed
         if self.shown and time.monotonic() >= self.next:
             self.next = time.monotonic() + SECONDS_BETWEEN_LINES
-            print(f"\r{self.done} of {self.total} texts, {self.failed} cases failed", end="", file=sys.stderr, flush=True)
+            told = f"{self.done} of {self.total} texts, {self.failed} cases failed"
+            print(f"\r{told}", end="", file=sys.stderr, flush=True)
 
     def end(self):
         if self.shown:

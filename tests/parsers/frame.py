@@ -1,5 +1,5 @@
-"""A frame that takes each text without an `a`, and does as its first word says with one that has it; the second word is a file to
-which it writes a line at each start."""
+"""A frame that takes each text without an `a`, and does as its first word says with one that has it; the second word is
+a file to which it writes a line at each start."""
 
 import base64
 import os

@@ -1,8 +1,9 @@
-"""Frames around a parser of examples/lists.y with planted faults: lists.py FAULT,.. It takes lines of base64 and answers them.
+"""Frames around a parser of examples/lists.y with planted faults: lists.py FAULT,.. It takes lines of base64 and
+answers them.
 
-comma: a comma may stand behind the last member. name: no name behind a comma. value: numbers alone behind a comma. letters: no name
-of two letters. space: a number may follow the members without a comma. empty: no empty list. long: no third member. crash: it dies of a list behind a comma. more: what
-stands behind a value isn't looked at.
+comma: a comma may stand behind the last member. name: no name behind a comma. value: numbers alone behind a comma.
+letters: no name of two letters. space: a number may follow the members without a comma. empty: no empty list. long: no
+third member. crash: it dies of a list behind a comma. more: what stands behind a value isn't looked at.
 """
 
 import base64
@@ -42,7 +43,8 @@ class Parser:
 
     def value(self):
         if self.next != "[":
-            return self.take(self.next.isalnum() and not ("letters" in FAULTS and self.next.isalpha() and len(self.next) > 1))
+            is_long_name = self.next.isalpha() and len(self.next) > 1
+            return self.take(self.next.isalnum() and not ("letters" in FAULTS and is_long_name))
         self.take(True)
         if self.next != "]" or "empty" in FAULTS:
             self.members()
