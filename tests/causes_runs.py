@@ -192,10 +192,13 @@ def several(folder):
         yield f"chains alone: {bare}"
     for path in paths[1:]:
         with open(path) as file:
-            cut = file.read().rsplit("end ", 1)[0]
-        found = call("try_parser", written(folder, "cut", cut), *frame("lists.py", "none"))
-        if found[0] != 2 or "ended early" not in found[2]:
-            yield f"{path} cut short: {found}"
+            text = file.read()
+        last = text.splitlines(True)[-1]
+        cut = text.removesuffix(last)
+        for text, said in ((cut, "ended early"), (cut + cut[cut.index("\n") + 1 :] + last, "doesn't count")):
+            found = call("try_parser", written(folder, "cut", text), *frame("lists.py", "none"))
+            if found[0] != 2 or said not in found[2]:
+                yield f"{path} cut short: {found}"
 
 
 def order(folder):

@@ -90,9 +90,15 @@ def read_entries(path, form, text):
         if found := lines.next(pattern):
             output.add(entry(lines, kind, found))
         elif found := lines.next(last):
-            return output if found else None
+            return checked(output, int(found[1]), lines)
         else:
             note_alone(output, lines.need(ALONE[form])[0].split())
+
+
+def checked(output, count, lines):
+    if count != len(output.trials) + len(output.without_text):
+        raise manifest.Damaged("the last line doesn't count what stands before it")
+    return output if lines.at == len(lines.lines) else lines.refuse()
 
 
 def note_alone(output, words):

@@ -82,10 +82,10 @@ def end_line(trials, every, without_text, causes):
     """What was tried of all that there is, and how it went."""
     texts, ran = by_text(every), by_text(trial for trial in trials if trial.outcome)
     failed, known = sum(trial.failed for trial in trials), sum(trial.known is not None for trial in trials)
-    tried = f"all {len(texts)}" if len(ran) == len(texts) else f"{len(ran)} of {len(texts)}"
+    tried = "all" if len(ran) == len(texts) else f"{len(ran)} of"
     told = f"{failed} failed" + (f" of {amount(causes, 'cause')}" if causes else "")
     told += f", {known} known" if known else ""
-    return f"{forms_of(every)}; {tried} different texts run; {told}; {without_text} without a text"
+    return f"{forms_of(every)}; {tried} {amount(len(texts), 'different text')} run; {told}; {without_text} without a text"
 
 
 def tap_note(trial):
