@@ -145,6 +145,9 @@ def frames(folder):
         is_told = f"cause 1: {said}\n" in found[1] and " of 1 cause;" in found[1]
         if found[0] != 1 or not is_told or left_over("sleep 4321"):
             yield f"a frame that {deed}: {found}"
+    shown = call("try_parser", path, "--batch", "--", os.path.join(TOP, "tools", "batch_frame.py"))
+    if shown[0] != 1 or re.findall(r"^cause .*", shown[1], re.M) != ["cause 1: wrongly refused: rule 2 (value : NAME)"]:
+        yield f"the frame around Python's json: {shown}"
     good = call("try_parser", path, "--only", "positive", *frame("frame.py", "takes"))
     deaf = call("try_parser", path, "--seconds", "5", "--only", "positive", *frame("frame.py", "closes its input"))
     for found in (good, deaf):

@@ -45,9 +45,9 @@ class Frame:
         # A child of the command may hold the pipes open when the command itself has ended.
         self.life = os.pidfd_open(self.group.process.pid) if hasattr(os, "pidfd_open") else None
         self.ready = select.poll()
-        for number in (self.texts, self.answers, self.errors):
-            os.set_blocking(number, False)
+        os.set_blocking(self.texts, False)
         for number in filter(None, (self.answers, self.errors, self.life)):
+            os.set_blocking(number, False)
             self.ready.register(number, select.POLLIN)
         self.unsent = self.answered = self.said = b""
         self.ended = self.is_deaf = self.has_answered = False
@@ -106,15 +106,19 @@ class Frame:
         found, self.answered = self.answered, b""
         return found
 
-    def end(self, seconds=SECONDS_TO_END):
-        """The status that it ended with, or None where it hadn't in this time; then nothing of it is left."""
-        self.streams[0].close()
-        status = self.group.wait(seconds)
+    def take_errors(self):
+        """Takes what is left of the error output."""
         try:
             while piece := os.read(self.errors, PIECE):
                 self.said = (self.said + piece)[-KEPT_ERROR_BYTES:]
         except BlockingIOError:
             pass
+
+    def end(self, seconds=SECONDS_TO_END):
+        """The status that it ended with, or None where it hadn't in this time; then nothing of it is left."""
+        self.streams[0].close()
+        status = self.group.wait(seconds)
+        self.take_errors()
         for stream in self.streams:
             stream.close()
         if self.life is not None:

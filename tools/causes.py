@@ -94,16 +94,19 @@ class Features:
             waiting += [(rule, place) for place in range(len(right), 0, -1) if right[place - 1] in self.lefts]
 
 
-def telling(failed, taken, features):
-    """For each feature that stands in failed trials and in no taken one the places of these failed trials."""
+def places_of(trials, features):
+    """For each feature of some trials the places of those that have it."""
     found = defaultdict(set)
-    for place, trial in enumerate(failed):
+    for place, trial in enumerate(trials):
         for feature in features.of(trial):
             found[feature].add(place)
-    for trial in taken:
-        for feature in features.of(trial):
-            found.pop(feature, None)
     return found
+
+
+def telling(failed, taken, features):
+    """For each feature that stands in failed trials and in no taken one the places of these failed trials."""
+    usual = set(chain.from_iterable(map(features.of, taken)))
+    return {feature: places for feature, places in places_of(failed, features).items() if feature not in usual}
 
 
 def cover(places):
@@ -125,10 +128,8 @@ def cover(places):
 
 def explained(trials, taken, features):
     """The words of trials by the features that stand in no taken positive, or else by their own names."""
-    words = [tuple(trial.name.split()) for trial in trials]
-    for feature, places in cover(telling(trials, taken, features)):
-        for place in places:
-            words[place] = feature
+    features_of = {place: found for found, places in cover(telling(trials, taken, features)) for place in places}
+    words = [features_of.get(place) or tuple(trial.name.split()) for place, trial in enumerate(trials)]
     merged = merged_contexts([found[1:] for found in words if found[0] == "context"])
     return [("context", *merged[found[1:]]) if found[0] == "context" else found for found in words]
 

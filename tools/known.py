@@ -101,8 +101,7 @@ def shared_part(trials, taken):
     """A token or two neighbours that all of some cases have and none of those that were taken, or None."""
     for size in (1, 2):
         shared = set.intersection(*(parts_of(trial, size) for trial in trials))
-        for trial in taken if shared else ():
-            shared -= parts_of(trial, size)
+        shared.difference_update(*(parts_of(trial, size) for trial in taken))
         if shared:
             return min(shared)
     return None

@@ -78,10 +78,13 @@ def parser_of(**about):
     """A parser of words with these options; `about` has what argparse is told of it."""
     parser = argparse.ArgumentParser(formatter_class=argparse.RawDescriptionHelpFormatter, **about)
     for title, group in OPTIONS.items():
-        part = parser.add_argument_group(title)
-        for name, words in group.items():
-            part.add_argument(name, **words)
+        add_group(parser.add_argument_group(title), group)
     return parser
+
+
+def add_group(part, group):
+    for name, words in group.items():
+        part.add_argument(name, **words)
 
 
 def parsed(parser, words):

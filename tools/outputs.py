@@ -3,6 +3,7 @@ with texts."""
 
 import re
 from dataclasses import dataclass, field
+from itertools import chain
 
 import manifest
 from trials import Trial
@@ -52,22 +53,23 @@ def read(path):
 
 def of_manifest(path, read):
     output = Output(path, read.form, tokens=read.tokens, rules=read.rules, lexemes=read.lexemes)
-    for goal in read.goals:
-        if goal.case:
-            name = f"goal {goal.number} {' '.join(goal.words)}"
-            sentence = goal.case.sentence
-            output.add(Trial(name, goal.kind, sentence.tokens, sentence.text, derivation=goal.case.derivation))
     is_forbidden = forbidding(read)
-    for negative in read.negatives:
-        output.add(of_negative(negative, is_forbidden))
+    positives = (of_goal(goal) for goal in read.goals if goal.case)
+    for trial in chain(positives, (of_negative(negative, is_forbidden) for negative in read.negatives)):
+        output.add(trial)
     return output
 
 
+def of_goal(goal):
+    name, sentence = f"goal {goal.number} {' '.join(goal.words)}", goal.case.sentence
+    return Trial(name, goal.kind, sentence.tokens, sentence.text, sentence.why, derivation=goal.case.derivation)
+
+
 def of_negative(negative, is_forbidden):
-    edit, tokens = " ".join(negative.edit), negative.sentence.tokens
+    edit, sentence = " ".join(negative.edit), negative.sentence
     name = f"negative {negative.number} base {negative.base} {edit} pair {' '.join(negative.pair)} at {negative.at}"
     more = {"pair": negative.pair, "at": negative.at, "edit": negative.edit, "is_forbidden": is_forbidden}
-    return Trial(name, negative.kind, tokens, negative.sentence.text, **more)
+    return Trial(name, negative.kind, sentence.tokens, sentence.text, sentence.why, **more)
 
 
 def forbidding(read):
@@ -112,7 +114,7 @@ def entry(lines, kind, found):
     """The trial of an entry: its line was found, and its indented ones come."""
     derive = lines.next(r"  derive((?: \d+)*)")
     tokens = lines.need(r"  tokens((?: \S+)*)")[1].split()
-    text = lines.next(r'  (?:text "(.*)"|no text .*)')
+    text = lines.next(r'  (?:text "(.*)"|no text (.*))')
     has_pair = kind == "wrong" and found[3] is not None
     name = re.sub(r" size \d+.*", "", found[0])
     return Trial(
@@ -120,6 +122,7 @@ def entry(lines, kind, found):
         kind,
         tokens,
         manifest.unquoted(text[1]) if text and text[1] is not None else None,
+        text and text[2],
         derivation=[int(number) for number in derive[1].split()] if derive else [],
         pair=found.group(3, 4) if has_pair else None,
         at=int(found[5]) if has_pair else None,
@@ -143,8 +146,12 @@ def lend_texts(outputs):
     separator = separator_of(lender) if lender else None
     for output in outputs if separator is not None else ():
         if output.form == "chains":
-            bare, output.without_text = output.without_text, []
-            for trial in bare:
-                lexemes = [lender.lexemes.get(token) for token in trial.tokens]
-                trial.text = None if None in lexemes else separator.join(lexemes)
-                output.add(trial)
+            lend(output, lender.lexemes, separator)
+
+
+def lend(output, lexemes, separator):
+    bare, output.without_text = output.without_text, []
+    for trial in bare:
+        found = [lexemes.get(token) for token in trial.tokens]
+        trial.text = None if None in found else separator.join(found)
+        output.add(trial)

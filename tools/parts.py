@@ -61,10 +61,14 @@ def roots(lists):
     """For each list, which is a pair of a part and the whole that holds it, the place of the first one whose part it
     comes down to: its whole holds a shorter part, or that one's does, and so on. A part has at least one token."""
     automaton = Automaton([part for part, _ in lists])
-    found = []
-    for place, (part, whole) in enumerate(lists):
-        length, first = automaton.shortest_in(whole)
-        found.append(first if length < len(part) else automaton.shortest_in(part)[1])
+    found = [held(automaton, part, whole) for part, whole in lists]
     for place in sorted(range(len(lists)), key=lambda place: len(lists[place][0])):
-        found[place] = found[found[place]] if found[place] != place else place
+        found[place] = found[found[place]]
     return found
+
+
+def held(automaton, part, whole):
+    """The place of the shortest part in a whole, where it is shorter than the whole's own, or else of the first one
+    that is like its own."""
+    length, first = automaton.shortest_in(whole)
+    return first if length < len(part) else automaton.shortest_in(part)[1]

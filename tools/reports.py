@@ -78,6 +78,12 @@ def forms_of(trials):
     return ", ".join(amount(count, noun) for noun, count in forms.items())
 
 
+def textless(trials):
+    """How many cases have no text, and of most of them why."""
+    reasons = Counter(trial.why for trial in trials if trial.why).most_common(1)
+    return f"{len(trials)} without a text" + (f", most for `no text {reasons[0][0]}`" if reasons else "")
+
+
 def end_line(trials, every, without_text, causes):
     """What was tried of all that there is, and how it went."""
     texts, ran = by_text(every), by_text(trial for trial in trials if trial.outcome)
@@ -85,7 +91,7 @@ def end_line(trials, every, without_text, causes):
     tried = "all" if len(ran) == len(texts) else f"{len(ran)} of"
     told = f"{failed} failed" + (f" of {amount(causes, 'cause')}" if causes else "")
     told += f", {known} known" if known else ""
-    return f"{forms_of(every)}; {tried} {amount(len(texts), 'different text')} run; {told}; {without_text} without a text"
+    return f"{forms_of(every)}; {tried} {amount(len(texts), 'different text')} run; {told}; {textless(without_text)}"
 
 
 def tap_note(trial):

@@ -44,19 +44,23 @@ def signal_name(number):
     return f"{number}, {signal.Signals(number).name}" if number in set(signal.Signals) else ""
 
 
+def meanings(statuses):
+    """The outcome of each status, by the statuses of each outcome; the last one counts."""
+    return {status: outcome for outcome, found in statuses.items() for status in found}
+
+
 class Statuses:
     """What the statuses of a parser mean. Each argument is a collection of statuses, or None for what is usual: 0 is
     taken, 77 is skipped, and every other one up to 125 is refused. A status that is named stands before a usual one."""
 
     def __init__(self, taken=None, refused=None, skipped=None):
-        named = [(TAKEN, taken), (REFUSED, refused), (SKIPPED, skipped)]
-        usual = [(TAKEN, [0]), (SKIPPED, [77]), (REFUSED, range(LAST_PLAIN_STATUS + 1))]
-        chosen = {outcome for outcome, statuses in named if statuses is not None}
-        self.meanings = {}
-        for outcome, statuses in named + [row for row in usual if row[0] not in chosen]:
-            for status in statuses or ():
-                if self.meanings.setdefault(status, outcome) != outcome and (outcome, statuses) in named:
-                    raise ValueError(f"status {status} is {self.meanings[status].told} and {outcome.told}")
+        named = {REFUSED: refused, SKIPPED: skipped, TAKEN: taken}
+        usual = {REFUSED: range(LAST_PLAIN_STATUS + 1), SKIPPED: [77], TAKEN: [0]}
+        self.meanings = meanings({outcome: usual[outcome] for outcome in usual if named[outcome] is None})
+        chosen = meanings({outcome: statuses for outcome, statuses in named.items() if statuses is not None})
+        if len(chosen) < sum(len(statuses or ()) for statuses in named.values()):
+            raise ValueError("a status has two meanings")
+        self.meanings.update(chosen)
 
     def outcome(self, status):
         """The outcome of a status; one below 0 is a signal's, as subprocess tells it."""

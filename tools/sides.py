@@ -20,10 +20,8 @@ def links(rules, empty):
     """For each nonterminal the symbols with which one of its rules may begin."""
     found = defaultdict(dict)
     for left, right in rules:
-        for symbol in right:
-            found[left][symbol] = None
-            if symbol not in empty:
-                break
+        behind = (place for place, symbol in enumerate(right, 1) if symbol not in empty)
+        found[left].update(dict.fromkeys(right[: next(behind, len(right))]))
     return found
 
 
@@ -91,14 +89,17 @@ def products_of_row(name, columns, bad, good):
 def merged_contexts(contexts):
     """For each rule in context, as outer rule, place and inner rule, the one or more that it is told with: the place,
     the outer rules that have there the same inner rules, and these."""
-    inner = defaultdict(set)
-    for outer, place, rule in contexts:
-        inner[outer, place].add(rule)
-    outer_rules = defaultdict(list)
-    for outer, place in sorted(inner):
-        outer_rules[place, frozenset(inner[outer, place])].append(outer)
+    inner = grouped(((outer, place), rule) for outer, place, rule in sorted(set(contexts)))
+    outers = grouped(((place, tuple(rules)), outer) for (outer, place), rules in inner.items())
     merged = {}
-    for (place, rules), outers in outer_rules.items():
-        told = place, tuple(outers), tuple(sorted(rules))
-        merged.update({(outer, place, rule): told for outer in outers for rule in rules})
+    for (place, rules), found in outers.items():
+        merged.update({(outer, place, rule): (place, tuple(found), rules) for outer in found for rule in rules})
     return merged
+
+
+def grouped(rows):
+    """The second parts of rows, by the first ones."""
+    found = defaultdict(list)
+    for key, value in rows:
+        found[key].append(value)
+    return found

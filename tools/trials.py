@@ -21,6 +21,8 @@ class Trial:
     kind: str
     tokens: list
     text: bytes
+    # why there is no text: the words of the output behind `no text`
+    why: str = None
     # the output that it stands in, from 0
     output: int = 0
     # of a positive: its rules from the left, and where these stand

@@ -6,6 +6,7 @@ import signal
 import sys
 import tempfile
 from collections import Counter
+from itertools import chain
 
 import known
 import options
@@ -52,6 +53,7 @@ class Session:
         self.rules = next((output.rules for output in outputs if output.rules), [])
         self.tokens = next((output.tokens for output in outputs if output.tokens), [])
         self.every = [found for output in outputs for found in output.trials]
+        self.without_text = [found for output in outputs for found in output.without_text]
         # those that are tried, in the order in which they are, and in that of the outputs
         self.ordered = options.chosen(self.every, self.tokens, asked)
         chosen = set(self.ordered)
@@ -112,15 +114,14 @@ class Session:
         yield from reports.table_lines(self.trials)
         yield from reports.cause_lines(self.causes, self.told)
         yield from reports.known_lines(self.trials)
-        without_text = sum(len(output.without_text) for output in self.outputs)
-        yield reports.end_line(self.trials, self.every, without_text, len(self.causes))
+        yield reports.end_line(self.trials, self.every, self.without_text, len(self.causes))
 
     def tell(self):
         write_lines(reports.tap_lines(self.trials) if self.asked.tap else self.lines())
-        for warning in self.warnings:
+        told = "matches no failed case any more"
+        stale = (f"{self.asked.known}: line {line.number} {told}: {line.text}" for line in self.stale())
+        for warning in chain(self.warnings, stale):
             warn(warning)
-        for line in self.stale():
-            warn(f"{self.asked.known}: line {line.number} matches no failed case any more: {line.text}")
 
     def write(self):
         """Writes the files that are asked for."""
@@ -148,11 +149,10 @@ def read_known(asked):
 def name_apart(outputs):
     """Gives each trial its output, and a name with the output's path where another output has the form too."""
     forms = Counter(output.form for output in outputs)
-    for number, output in enumerate(outputs):
-        for found in output.trials:
-            found.output = number
-            if forms[output.form] > 1:
-                found.name = f"{output.path}: {found.name}"
+    for number, found in ((number, found) for number, output in enumerate(outputs) for found in output.trials):
+        found.output, output = number, outputs[number]
+        if forms[output.form] > 1:
+            found.name = f"{output.path}: {found.name}"
 
 
 def try_outputs(outputs, asked):
@@ -164,7 +164,7 @@ def try_outputs(outputs, asked):
     name_apart(outputs)
     session = Session(outputs, asked)
     if not session.trials:
-        raise BadCall("there is no case with a text to try")
+        raise BadCall(f"there is no case to try; {reports.textless(session.without_text)}")
     session.run()
     session.tell()
     try:
