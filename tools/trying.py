@@ -142,7 +142,7 @@ def read_known(asked):
         return known.Known()
     try:
         return known.read(asked.known)
-    except (OSError, known.BadLine) as error:
+    except (OSError, UnicodeDecodeError, known.BadLine) as error:
         raise BadCall(f"{asked.known}: {error}") from None
 
 
