@@ -214,6 +214,18 @@ def order(folder):
             yield f"the first {limit} texts: {found}"
 
 
+def rounds(folder):
+    """The first round has a delete for each left neighbour: behind ten texts of rules and contexts come those of six
+    deletes, two of which stand twice."""
+    path, kept = written(folder, "lists", lists_suite()), os.path.join(folder, "results")
+    call("try_parser", path, "--limit", "16", "--results", kept, *frame("lists.py", "none"))
+    with open(kept) as file:
+        cases = json.load(file)["cases"]
+    found = [case["name"].split()[1] for case in cases if case["kind"] == "delete"]
+    if found != ["1", "12", "24", "66", "67", "226", "316", "360"]:
+        yield f"the first round: {found}"
+
+
 def chosen(folder):
     path = written(folder, "lists", lists_suite())
     rows = [("--only positive", 12), ("--sample 20 --seed 7", 20), ("--limit 30", 30), ("--kinds rule,context", 10)]
@@ -251,4 +263,4 @@ def results(folder):
             yield f"page {words}: {refused}"
 
 
-end(planted, cases_of_causes, known, written_known, several, order, chosen, results)
+end(planted, cases_of_causes, known, written_known, several, order, rounds, chosen, results)
