@@ -24,6 +24,8 @@ class Cause:
     words: tuple
     trials: list
     roots: list
+    # what the parser wrote of the shortest text, where it is known
+    wrote: str = ""
 
     @property
     def shortest(self):

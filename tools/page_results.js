@@ -72,6 +72,7 @@ function negativesOfPair(words) {
 function showCause(cause, number) {
   const box = find("shown"), lines = make("p");
   box.replaceChildren(closeButton(), make("h2", `cause ${number}: ${cause.told}`), make("p", `text "${printed(cause.text)}"`, "mono"), make("p", `tokens: ${cause.tokens.join(" ")}`, "mono"));
+  if (cause.wrote) box.append(make("p", `the parser: ${cause.wrote}`, "mono"));
   box.append(make("p", `${cause.cases} cases, the shortest is ${cause.name}. Those of this suite:`), lines);
   for (const goal of data.goals) if ((results.goals[goal.number] || {}).cause === number) lines.append(goalButton(goal, `goal ${goal.words.join(" ")}`));
   for (const negative of data.negatives) {

@@ -60,6 +60,8 @@ def cause_lines(causes, told):
         yield f"cause {number}: {told(cause)}"
         yield f"  {amount(len(cause.trials), 'case')}: {kinds}; the shortest is {trial.name}"
         yield f"  text: \"{printed(trial.text)}\"\n  tokens: {' '.join(trial.tokens)}".rstrip()
+        if cause.wrote:
+            yield f"  the parser: {cause.wrote}"
 
 
 def known_lines(trials):

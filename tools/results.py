@@ -28,7 +28,7 @@ def case_row(trial, causes):
 
 def cause_row(cause, told):
     shortest = cause.shortest
-    row = {"told": told, "cases": len(cause.trials), "kinds": dict(cause.kinds)}
+    row = {"told": told, "wrote": cause.wrote, "cases": len(cause.trials), "kinds": dict(cause.kinds)}
     row.update(name=shortest.name, output=shortest.output, text=shortest.text.decode("latin-1"), tokens=shortest.tokens)
     return row
 

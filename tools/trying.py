@@ -21,6 +21,7 @@ from workers import Run
 
 PASSED, FAILED, NOT_TRIED = 0, 1, 2
 INTERRUPTED = 130
+MOST_ASKED_AGAIN = 20
 
 
 def warn(told):
@@ -74,6 +75,8 @@ class Session:
             raise BadCall(f"{self.asked.command[0]}: {getattr(error, 'strerror', None) or error}") from None
         self.warnings = [] if self.interrupted else [*sorted(run.notes), *self.told_nothing()]
         self.causes = [] if self.warnings else Causes(self.trials, self.rules).found()
+        for cause in [] if self.interrupted else self.causes[:MOST_ASKED_AGAIN]:
+            cause.wrote = self.wrote(cause)
 
     def told_nothing(self):
         """The warning where texts were tried that have to be taken and such that have to be refused, and the parser did
@@ -84,18 +87,25 @@ class Session:
             return
         outcome = ran[0].outcome
         same = outcome.told if len({found.outcome for found in ran}) == 1 else "neither taken nor refused"
-        said = self.error_line()
+        said = self.error_line(self.trials[0])
         wrote = f" It wrote: {said}" if said else ""
         yield f"each text, to be taken or not: {same}. Is the parser there, and does it say what it did?{wrote}"
 
-    def error_line(self):
-        """The last line of the error output at a text, where a command that isn't a parser often says so."""
+    def error_line(self, trial):
+        """The last line of the error output of a parser that is started for the text again."""
         if self.asked.batch:
             return ""
         with tempfile.TemporaryFile() as errors:
-            self.make().ask(self.trials[0].text, errors)
+            self.make().ask(trial.text, errors)
             errors.seek(0)
             return last_line(errors.read())
+
+    def wrote(self, cause):
+        """What the parser wrote of the shortest text of a cause, where that tells more than the cause does."""
+        trial = cause.shortest
+        if trial.outcome.told != cause.outcome:
+            return trial.outcome.told
+        return "" if cause.outcome == "taken" else self.error_line(trial)
 
     def stale(self):
         """The known departures that are none any more."""
