@@ -28,7 +28,7 @@ ALONE = [
     ([*PYTHON, READ + "sys.exit(t.strip() != b'x')"], [], 0, GOOD, ""),
     ([*PYTHON, READ + "sys.exit(b'x' not in t)"], [], 1, (3, 0, 0, 1, 1, 0), "wrongly taken: 'x' before 'x'"),
     ([*PYTHON, READ + "sys.exit(t != b'')"], [], 1, (0, 3, 0, 1, 1, 0), "wrongly refused: rule 1 (s : 'x')"),
-    ([*PYTHON, READ + "sys.exit(t and 'no x')"], [], 1, (0, 3, 0, 1, 1, 0), "\n  the parser: no x\n"),
+    ([*PYTHON, READ + "sys.exit('no x' if t else 0)"], [], 1, (0, 3, 0, 1, 1, 0), "\n  the parser: no x\n"),
     (["/bin/true"], [], 2, ALL_TAKEN, "each text, to be taken or not: taken"),
     (["/bin/false"], [], 2, ALL_REFUSED, "each text, to be taken or not: refused"),
     ([*PYTHON, "import nosuch"], [], 2, ALL_REFUSED, "It wrote: ModuleNotFoundError: No module named 'nosuch'"),

@@ -69,14 +69,20 @@ class Session:
         signal.signal(signal.SIGTERM, interrupt)
         try:
             run.run()
+            self.warnings = [*sorted(run.notes), *self.told_nothing()]
         except KeyboardInterrupt:
             self.interrupted = True
         except (OSError, NoAnswers) as error:
             raise BadCall(f"{self.asked.command[0]}: {getattr(error, 'strerror', None) or error}") from None
-        self.warnings = [] if self.interrupted else [*sorted(run.notes), *self.told_nothing()]
         self.causes = [] if self.warnings else Causes(self.trials, self.rules).found()
-        for cause in [] if self.interrupted else self.causes[:MOST_ASKED_AGAIN]:
-            cause.wrote = self.wrote(cause)
+
+    def ask_again(self):
+        """Adds to the first causes what the parser wrote of their shortest texts."""
+        try:
+            for cause in [] if self.interrupted else self.causes[:MOST_ASKED_AGAIN]:
+                cause.wrote = self.wrote(cause)
+        except KeyboardInterrupt:
+            self.interrupted = True
 
     def told_nothing(self):
         """The warning where texts were tried that have to be taken and such that have to be refused, and the parser did
@@ -176,6 +182,7 @@ def try_outputs(outputs, asked):
     if not session.trials:
         raise BadCall(f"there is no case to try; {reports.textless(session.without_text)}")
     session.run()
+    session.ask_again()
     session.tell()
     try:
         session.write()
