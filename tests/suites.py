@@ -63,7 +63,7 @@ def lists_suite(**choice):
 
 def call(tool, *words, **more):
     """The status, the output and the error output of a tool."""
-    ran = subprocess.run([os.path.join(TOP, "tools", tool), *words], capture_output=True, timeout=120, **more)
+    ran = subprocess.run([os.path.join(TOP, "tools", tool), *words], capture_output=True, timeout=300, **more)
     return ran.returncode, ran.stdout.decode(), ran.stderr.decode()
 
 

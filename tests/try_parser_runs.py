@@ -52,7 +52,7 @@ FRAMES = [
     ("refuses", "wrongly refused: rule 2 (value : NAME)"),
     ("dies", "died of signal 11, SIGSEGV: rule 2 (value : NAME)"),
     ("ends", "ended with status 1 without an answer: rule 2 (value : NAME)"),
-    ("hangs", "too slow: above 0.3 seconds: rule 2 (value : NAME)"),
+    ("hangs", "too slow: above 5 seconds: rule 2 (value : NAME)"),
     ("answers nonsense", "another answer: rule 2 (value : NAME)"),
     ("answers twice", "answered more than one line: rule 2 (value : NAME)"),
     ("answers for ever", "answered more than 65536 bytes without a line's end: rule 2 (value : NAME)"),
@@ -115,8 +115,8 @@ def slow(folder):
     rows = [("sleep 4323 | cat", "too slow"), ("sleep 4323 & exit 0", "taken"), ("sleep 4323 & sleep 4323", "too slow")]
     for script, said in rows:
         began = time.monotonic()
-        found = call("try_parser", "--seconds", "0.3", path, "--", "sh", "-c", script)
-        if found[0] != 2 or said not in found[2] or time.monotonic() - began > 20 or left_over("sleep 4323"):
+        found = call("try_parser", "--seconds", "3", path, "--", "sh", "-c", script)
+        if found[0] != 2 or said not in found[2] or time.monotonic() - began > 60 or left_over("sleep 4323"):
             yield f"a parser {script}: {found}"
     once = call("try_parser", "--all", "--seconds", "0.3", "--stop-after", "1", "--jobs", "1", path, "--", "sleep", "5")
     has_stopped = "; 1 of 3 different texts run; 3 failed" in once[1]
@@ -130,11 +130,11 @@ def interrupted(folder):
     words = [os.path.join(TOP, "tools", "try_parser"), "--jobs", "1", path, "--", "sleep", "4322"]
     for number in (signal.SIGINT, signal.SIGTERM):
         run = subprocess.Popen(words, stdout=subprocess.PIPE, stderr=subprocess.PIPE)
-        until = time.monotonic() + 20
+        until = time.monotonic() + 60
         while not left_over("sleep 4322") and time.monotonic() < until:
             time.sleep(0.05)
         run.send_signal(number)
-        output = run.communicate(timeout=20)[0].decode()
+        output = run.communicate(timeout=60)[0].decode()
         if run.returncode != 130 or "; 0 of 3 different texts run" not in output or left_over("sleep 4322"):
             yield f"an interrupt {number}: {run.returncode}, {output}"
 
@@ -142,15 +142,15 @@ def interrupted(folder):
 def frames(folder):
     path = written(folder, "lists", lists_suite(operators=["delete"], bases=4))
     for deed, said in FRAMES:
-        found = call("try_parser", path, "--seconds", "0.3", "--kinds", "rule,context", *frame("frame.py", deed))
+        found = call("try_parser", path, "--seconds", "5", "--kinds", "rule", *frame("frame.py", deed))
         is_told = f"cause 1: {said}\n" in found[1] and " of 1 cause;" in found[1]
         if found[0] != 1 or not is_told or left_over("sleep 4321"):
             yield f"a frame that {deed}: {found}"
     shown = call("try_parser", path, "--batch", "--", os.path.join(TOP, "tools", "batch_frame.py"))
     if shown[0] != 1 or re.findall(r"^cause .*", shown[1], re.M) != ["cause 1: wrongly refused: rule 2 (value : NAME)"]:
         yield f"the frame around Python's json: {shown}"
-    good = call("try_parser", path, "--only", "positive", *frame("frame.py", "takes"))
-    deaf = call("try_parser", path, "--seconds", "5", "--only", "positive", *frame("frame.py", "closes its input"))
+    good = call("try_parser", path, "--kinds", "rule", *frame("frame.py", "takes"))
+    deaf = call("try_parser", path, "--seconds", "20", "--kinds", "rule", *frame("frame.py", "closes its input"))
     for found in (good, deaf):
         if found[0] != 0 or "; 0 failed; 0 without a text" not in found[1]:
             yield f"a good frame: {found}"
@@ -180,7 +180,7 @@ def many(folder):
     found = call("try_parser", path, "--batch", "--", *PYTHON, refusing)
     if found[0] != 0 or "all 10000 different texts run; 0 failed" not in found[1]:
         yield f"many texts: {found}"
-    if time.monotonic() - began > 10:
+    if time.monotonic() - began > 60:
         yield f"many texts take {time.monotonic() - began:.1f} seconds"
 
 
