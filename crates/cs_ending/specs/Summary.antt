@@ -6,7 +6,7 @@ use Rattle.cs_output.specs.Words.{line}
 use Rattle.cs_manifest.specs.declared.counts.Counts.{Counts}
 use Rattle.cs_manifest.specs.Counts.{end_of}
 use Rattle.cs_manifest.specs.Lines.{numbered_word}
-use Rattle.cs_manifest.specs.declared.format.Format.TheVariants.{One}
+use Rattle.cs_choices.specs.declared.format.Format.TheVariants.{One}
 use Rattle.cs_words.specs.declared.options.Options.{Options}
 use Rattle.cs_words.specs.Options.{default_options}
 use Rattle.cs_ending.specs.Files.{IsSuiteText}

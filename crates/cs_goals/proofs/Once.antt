@@ -11,7 +11,7 @@ use Rattle.cs_grammar.specs.declared.symbol.Mark.TheVariants.{Begin, Token, End}
 use Rattle.cs_grammar.specs.Grammar.{Production, PlainGrammar, IsRule, IsNumberOf}
 use Rattle.cs_goals.specs.declared.goal.Goal.{Goal}
 use Rattle.cs_goals.specs.declared.goal.Goal.TheVariants.{Rule, Context, Pair}
-use Rattle.cs_goals.specs.declared.goal.Criteria.{Criteria}
+use Rattle.cs_choices.specs.declared.criteria.Criteria.{Criteria}
 use Rattle.cs_goals.specs.Goal.{IsOccurrence, IsLeft, IsRight, IsGoal, IsWanted}
 use Rattle.cs_goals.specs.Goals.{rule_goals, numbered_rules, rules_of, goals_at, goals_in, context_goals, token_marks, left_marks, right_marks, goals_after, pair_goals, goals}
 use Rattle.cs_goals.proofs.Members.{Among, Apart, Contains-from_Among, Among-from_Contains, AllPairs-from_Apart, Among-left, Among-right, Among-cases, Apart-append, Among-cond, Among-chosen, Apart-cond, Among-filter, Among-passes, Among-map, Among-mapped, Apart-map, Apart-map-filter, Among-flat_map, Among-joined, Apart-flat_map, Among-range, Among-in_range, Apart-range, Among-enumerate_from, Among-enumerated, Apart-numbers}

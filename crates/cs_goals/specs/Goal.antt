@@ -7,7 +7,7 @@ use Rattle.cs_grammar.specs.declared.symbol.Mark.TheVariants.{Begin, Token, End}
 use Rattle.cs_grammar.specs.Grammar.{Production, PlainGrammar, IsRule, IsNumberOf}
 use Rattle.cs_goals.specs.declared.goal.Goal.{Goal}
 use Rattle.cs_goals.specs.declared.goal.Goal.TheVariants.{Rule, Context, Pair}
-use Rattle.cs_goals.specs.declared.goal.Criteria.{Criteria}
+use Rattle.cs_choices.specs.declared.criteria.Criteria.{Criteria}
 
 -- place i of rule p, counted from 1, is a nonterminal that rule q has on its left side
 pub record IsOccurrence (g : PlainGrammar) (p i q : ℕ) : Type 0 where

@@ -8,7 +8,7 @@ use Rattle.cs_grammar.specs.declared.symbol.Mark.TheVariants.{Begin, Token, End}
 use Rattle.cs_grammar.specs.Grammar.{Production, PlainGrammar}
 use Rattle.cs_goals.specs.declared.goal.Goal.{Goal}
 use Rattle.cs_goals.specs.declared.goal.Goal.TheVariants.{Rule, Context, Pair}
-use Rattle.cs_goals.specs.declared.goal.Criteria.{Criteria}
+use Rattle.cs_choices.specs.declared.criteria.Criteria.{Criteria}
 
 -- the rule goals: the numbers of the rules
 abbrev pub rule_goals : PlainGrammar → List Goal

@@ -17,14 +17,6 @@ pub enum Goal {
     Pair { left: Mark, right: Mark },
 }
 
-/// The criteria of which goals are wanted: rule coverage, context-dependent rule coverage, pairs of neighbours.
-#[derive(Clone, Copy, Debug, PartialEq, Eq)]
-pub struct Criteria {
-    pub rule: bool,
-    pub cdrc: bool,
-    pub pair: bool,
-}
-
 /// Whether the goal is one of the grammar's: a rule goal of one of its rules, a context goal of a nonterminal at a place
 /// of one of its rules and a rule of that nonterminal, a pair goal of the begin mark or a token, and a token or the end
 /// mark.

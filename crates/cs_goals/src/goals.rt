@@ -4,7 +4,8 @@ ghost use Rattle.std.specs.Prelude.{◌≡◌, ◌≤◌, [], ◌∷◌, IfSome,
 ghost use Rattle.cs_goals.specs.Goals.{goals};
 ghost use Rattle.cs_goals.specs.Rest.{left_mark, rules_left, contexts_at, pairs_at, Gives};
 
-use crate::goal::{Criteria, Goal};
+use crate::goal::Goal;
+use cs_choices::Criteria;
 use crate::occurrence::{Occurrence, next_occurrence};
 use cs_grammar::{Grammar, Mark};
 use cs_numbers::number_of;

@@ -3,7 +3,7 @@
 ghost use Rattle.std.specs.Prelude.{◌≢◌};
 ghost use Rattle.std.specs.List.{AllPairs};
 ghost use Rattle.cs_grammar.specs.Grammar.{PlainGrammar};
-ghost use Rattle.cs_goals.specs.declared.goal.Criteria.{Criteria};
+ghost use Rattle.cs_choices.specs.declared.criteria.Criteria.{Criteria};
 ghost use Rattle.cs_goals.specs.Goal.{IsWantedGoal};
 ghost use Rattle.cs_goals.specs.Goals.{goals, HasExactly};
 

@@ -14,7 +14,7 @@ mod meeting;
 mod neighbours;
 mod occurrence;
 
-pub use goal::{Criteria, Goal, fits_goal};
+pub use goal::{Goal, fits_goal};
 pub use goals::Goals;
 pub use laws::each_goal_once;
 pub use meeting::meets;

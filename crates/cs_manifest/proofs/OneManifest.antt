@@ -15,8 +15,8 @@ use Rattle.cs_positive.specs.declared.verdict.Verdict.TheVariants.{Feasible, Inf
 use Rattle.cs_positive.proofs.Verdicts.{one_verdict_of}
 use Rattle.cs_render.specs.Rendering.{Rendering}
 use Rattle.cs_yacc.specs.File.{File}
-use Rattle.cs_manifest.specs.declared.format.Format.{Format}
-use Rattle.cs_manifest.specs.declared.format.Format.TheVariants.{One, Two}
+use Rattle.cs_choices.specs.declared.format.Format.{Format}
+use Rattle.cs_choices.specs.declared.format.Format.TheVariants.{One, Two}
 use Rattle.cs_cases.specs.Cases.{PlainCases, no_cases}
 use Rattle.cs_closed.specs.Closed.{ClosedSets}
 use Rattle.cs_manifest.specs.Manifest.{AreNegativesOf, AreTokensOf, BaseEntry, Choice, GoalEntry, HasOneText, IsBaseOf, IsEntryOf, IsManifest, IsNegativeOf, IsRenderedIf, IsTextIn, IsTextOf, NegativeEntry, SharedEntry, Texts, bases, goal_texts, most_bases, shared_text, weighed_by}

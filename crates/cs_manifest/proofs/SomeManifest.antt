@@ -28,8 +28,8 @@ use Rattle.cs_positive.specs.declared.verdict.Verdict.TheVariants.{Feasible, Inf
 use Rattle.cs_positive.specs.Verdict.{IsVerdict, IsChosenOf, IsMet}
 use Rattle.cs_positive.proofs.Verdicts.{chosen_exists_of, chosen_least_of, chosen_met}
 use Rattle.cs_yacc.specs.File.{File}
-use Rattle.cs_manifest.specs.declared.format.Format.{Format}
-use Rattle.cs_manifest.specs.declared.format.Format.TheVariants.{One, Two}
+use Rattle.cs_choices.specs.declared.format.Format.{Format}
+use Rattle.cs_choices.specs.declared.format.Format.TheVariants.{One, Two}
 use Rattle.cs_manifest.specs.Manifest.{AreLexemesBy, BaseEntry, Choice, GoalEntry, IsBaseOf, IsEntryOf, IsManifest, IsNegativeOf, IsNotWithout, IsRenderedBy, IsTextIn, Texts, bases, goal_texts, manifest_text, most_bases, shared_text, weighed_by}
 use Rattle.cs_cases.specs.Cases.{no_cases}
 use Rattle.cs_manifest.proofs.SomeShared.{some_closed, some_shared}

@@ -1,7 +1,7 @@
 -- What a clause reads of a head.
 use Rattle.std.specs.Prelude.{◌≡◌, ℕ, List, Option, None, Some, IfSome, length}
 use Rattle.cs_yacc.specs.File.{File}
-use Rattle.cs_manifest.specs.declared.format.Weigh.{Weigh}
+use Rattle.cs_choices.specs.declared.weigh.Weigh.{Weigh}
 use Rattle.cs_manifest.specs.declared.head.Form.{Form}
 use Rattle.cs_manifest.specs.declared.head.Form.TheVariants.{Rules, Suite, Shared}
 use Rattle.cs_manifest.specs.declared.head.Head.{Head}

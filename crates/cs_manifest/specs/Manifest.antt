@@ -8,7 +8,7 @@ use Rattle.cs_grammar.specs.Leftmost.{IsYield}
 use Rattle.cs_grammar.specs.Laws.{AtMostOne}
 use Rattle.cs_grammar.specs.Weights.{Measure, Weighed, byte_weight, nodes, weighed}
 use Rattle.cs_yacc.specs.File.{File}
-use Rattle.cs_goals.specs.declared.goal.Criteria.{Criteria}
+use Rattle.cs_choices.specs.declared.criteria.Criteria.{Criteria}
 use Rattle.cs_goals.specs.declared.goal.Goal.{Goal}
 use Rattle.cs_goals.specs.Goals.{goals}
 use Rattle.cs_positive.specs.declared.verdict.Verdict.{Verdict}
@@ -19,17 +19,17 @@ use Rattle.cs_lexeme.specs.Lexeme.{AreLexemes}
 use Rattle.cs_cases.specs.declared.cases.Named.{Named}
 use Rattle.cs_cases.specs.Cases.{IsPlaced, PlainCases, no_cases}
 use Rattle.cs_render.specs.Rendering.{Rendering, IsRendered}
-use Rattle.cs_mutate.specs.declared.edit.Operators.{Operators}
+use Rattle.cs_choices.specs.declared.operators.Operators.{Operators}
 use Rattle.cs_mutate.specs.declared.negative.Negative.{Negative}
 use Rattle.cs_mutate.specs.Edit.{edited}
 use Rattle.cs_mutate.specs.Edits.{edits}
 use Rattle.cs_mutate.specs.Negatives.{AreNegatives}
 use Rattle.cs_manifest.specs.declared.entry.SharedVerdict.{SharedVerdict}
 use Rattle.cs_manifest.specs.declared.entry.SharedVerdict.TheVariants as shared
-use Rattle.cs_manifest.specs.declared.format.Format.{Format}
-use Rattle.cs_manifest.specs.declared.format.Format.TheVariants.{One, Two}
-use Rattle.cs_manifest.specs.declared.format.Weigh.{Weigh}
-use Rattle.cs_manifest.specs.declared.format.Weigh.TheVariants.{Nodes, Bytes}
+use Rattle.cs_choices.specs.declared.format.Format.{Format}
+use Rattle.cs_choices.specs.declared.format.Format.TheVariants.{One, Two}
+use Rattle.cs_choices.specs.declared.weigh.Weigh.{Weigh}
+use Rattle.cs_choices.specs.declared.weigh.Weigh.TheVariants.{Nodes, Bytes}
 use Rattle.cs_closed.specs.Closed.{AreClosedSets, ClosedSets}
 use Rattle.cs_output.specs.Words.{with_numbers, numbered_from}
 use Rattle.cs_manifest.specs.SharedLines.{case_lines, shared_goal_line, shared_head_lines}

@@ -9,8 +9,8 @@ use Rattle.cs_output.specs.Words.{line, spaced, with_numbers}
 use Rattle.cs_output.specs.Names.{nonterminal_of, mark_text}
 use Rattle.cs_manifest.specs.declared.entry.SharedVerdict.{SharedVerdict}
 use Rattle.cs_manifest.specs.declared.entry.SharedVerdict.TheVariants.{Feasible, Infeasible, Large}
-use Rattle.cs_manifest.specs.declared.format.Weigh.{Weigh}
-use Rattle.cs_manifest.specs.declared.format.Weigh.TheVariants.{Nodes, Bytes}
+use Rattle.cs_choices.specs.declared.weigh.Weigh.{Weigh}
+use Rattle.cs_choices.specs.declared.weigh.Weigh.TheVariants.{Nodes, Bytes}
 use Rattle.cs_closed.specs.Closed.{ClosedSets}
 use Rattle.cs_manifest.specs.Lines.{numbered_word, token_words, table_lines, tree_lines, text_lines, goal_words}
 

@@ -1,4 +1,4 @@
-use crate::format::Weigh;
+use cs_choices::Weigh;
 use cs_closed::Closed;
 use cs_lexeme::Lexemes;
 use cs_yacc::YaccFile;

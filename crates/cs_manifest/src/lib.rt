@@ -17,7 +17,6 @@
 
 mod counts;
 mod entry;
-mod format;
 mod head;
 mod laws;
 mod manifest;
@@ -29,7 +28,6 @@ mod token_pieces;
 
 pub use counts::Counts;
 pub use entry::{Entry, FilledNegative, NumberedNegative, SharedVerdict};
-pub use format::{Format, Weigh};
 pub use head::{Form, Head};
 pub use laws::{one_manifest, one_text, some_manifest};
 pub use manifest::Manifest;

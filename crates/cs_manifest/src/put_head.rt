@@ -11,7 +11,8 @@ ghost use Rattle.cs_manifest.specs.Named.{IsNamedRule};
 ghost use Rattle.cs_manifest.specs.SharedLines as shared;
 
 use crate::put_closed::put_closed;
-use crate::{Form, Head, Weigh};
+use crate::{Form, Head};
+use cs_choices::Weigh;
 use cs_grammar::{Rule, Symbol};
 use cs_io::Sink;
 use cs_lexeme::Lexemes;

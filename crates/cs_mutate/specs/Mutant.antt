@@ -5,7 +5,7 @@ use Rattle.std.specs.List.{AllPairs}
 use Rattle.cs_grammar.specs.Grammar.{IsNumberOf}
 use Rattle.cs_goals.specs.Goals.{HasExactly}
 use Rattle.cs_mutate.specs.declared.edit.Edit.{Edit}
-use Rattle.cs_mutate.specs.declared.edit.Operators.{Operators}
+use Rattle.cs_choices.specs.declared.operators.Operators.{Operators}
 use Rattle.cs_mutate.specs.Edit.{Fits, edited}
 use Rattle.cs_mutate.specs.Edits.{is_listed, edits, IsOfChosen}
 

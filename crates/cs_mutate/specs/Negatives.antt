@@ -7,7 +7,7 @@ use Rattle.cs_grammar.specs.Sentence.{framed, IsSentence}
 use Rattle.cs_goals.specs.Goals.{HasExactly}
 use Rattle.cs_mutate.specs.declared.edit.Edit.{Edit}
 use Rattle.cs_mutate.specs.declared.negative.Negative.{Negative}
-use Rattle.cs_mutate.specs.declared.edit.Operators.{Operators}
+use Rattle.cs_choices.specs.declared.operators.Operators.{Operators}
 use Rattle.cs_mutate.specs.Edit.{Fits, edited}
 use Rattle.cs_mutate.specs.Edits.{edits}
 use Rattle.cs_mutate.specs.Poison.{HasNoPoison, IsFirstPoisoned}

@@ -4,7 +4,8 @@ ghost use Rattle.std.specs.Prelude.{◌≡◌, ◌≤◌, [], ◌∷◌, IfSome,
 ghost use Rattle.std.specs.List.{range_with_len};
 ghost use Rattle.cs_mutate.specs.Edits.{cells, fitting_edits};
 
-use crate::edit::{Edit, Operators};
+use crate::edit::Edit;
+use cs_choices::Operators;
 use std::marker::Model;
 
 // Places that are still to be given.

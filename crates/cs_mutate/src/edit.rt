@@ -18,19 +18,6 @@ pub enum Edit {
     Swap(u32),
 }
 
-/// The operators of which edits are wanted.
-#[derive(Clone, Copy, Debug, PartialEq, Eq)]
-pub struct Operators {
-    /// Whether a token may go.
-    pub delete: bool,
-    /// Whether a token may come in.
-    pub insert: bool,
-    /// Whether a token may come in place of another.
-    pub replace: bool,
-    /// Whether two neighbours may change places.
-    pub swap: bool,
-}
-
 /// Whether an edit's place is one of a list of that length, and its token one of so many.
 pub fn edit_fits(length: u32, tokens: u16, edit: &Edit) -> bool
     ensures { IsTrue result ↔ Fits length tokens edit.now }

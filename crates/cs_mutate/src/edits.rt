@@ -5,7 +5,8 @@ ghost use Rattle.cs_mutate.specs.Edit.{IsPlaced};
 ghost use Rattle.cs_mutate.specs.Edits.{is_fresh, is_listed, edits};
 
 use crate::candidates::Candidates;
-use crate::edit::{Edit, Operators};
+use crate::edit::Edit;
+use cs_choices::Operators;
 use std::marker::Model;
 
 /// The edits of a list of tokens that are still to be given: by operator in the order of `Edit`, then place, then token.

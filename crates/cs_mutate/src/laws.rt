@@ -3,7 +3,7 @@
 ghost use Rattle.std.specs.Prelude.{ℕ, List};
 ghost use Rattle.cs_grammar.specs.Grammar.{PlainGrammar};
 ghost use Rattle.cs_mutate.specs.declared.edit.Edit.{Edit};
-ghost use Rattle.cs_mutate.specs.declared.edit.Operators.{Operators};
+ghost use Rattle.cs_choices.specs.declared.operators.Operators.{Operators};
 ghost use Rattle.cs_mutate.specs.declared.negative.Negative.{Negative};
 ghost use Rattle.cs_mutate.specs.Mutant.{ResultsDiffer, HasEachMutant, HasEachEdit};
 ghost use Rattle.cs_mutate.specs.Negatives.{ComesFirst, HasNone, HasOneList, HasEachNegative, IsOutside};

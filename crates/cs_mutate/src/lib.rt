@@ -20,7 +20,7 @@ mod negative;
 mod poisoning;
 mod touched;
 
-pub use edit::{Edit, Operators, apply, apply_into, edit_fits};
+pub use edit::{Edit, apply, apply_into, edit_fits};
 pub use edits::Edits;
 pub use laws::{each_mutant_once, one_list_of_negatives};
 pub use negative::{Negative, Negatives};

@@ -8,12 +8,12 @@ use Rattle.cs_goals.specs.declared.goal.Goal.{Goal}
 use Rattle.cs_lexeme.specs.Lexeme.{AreLexemes}
 use Rattle.cs_closed.specs.Closed.{AreClosedSets}
 use Rattle.cs_closed.specs.declared.closed.Closed.{Closed}
-use Rattle.cs_manifest.specs.declared.format.Format.{Format}
-use Rattle.cs_manifest.specs.declared.format.Format.TheVariants.{One, Two}
-use Rattle.cs_manifest.specs.declared.format.Weigh.{Weigh}
+use Rattle.cs_choices.specs.declared.format.Format.{Format}
+use Rattle.cs_choices.specs.declared.format.Format.TheVariants.{One, Two}
+use Rattle.cs_choices.specs.declared.weigh.Weigh.{Weigh}
 use Rattle.cs_manifest.specs.Head.{Sharing}
 use Rattle.cs_manifest.specs.Manifest.{Choice, GoalEntry, IsEntryOf, IsManifest, Texts, goal_texts, measure_of}
-use Rattle.cs_mutate.specs.declared.edit.Operators.{Operators}
+use Rattle.cs_choices.specs.declared.operators.Operators.{Operators}
 use Rattle.cs_positive.specs.Positives.{ToJudge}
 use Rattle.cs_render_work.specs.declared.work.RenderWork.{RenderWork}
 use Rattle.cs_scan.specs.Compared.{scanning}

@@ -5,10 +5,9 @@ ghost use Rattle.cs_manifest.specs.Head.{yacc_of, lexemes_in as lexemes_by, lexe
 ghost use Rattle.cs_manifest.specs.Manifest.{has_operator as is_some_chosen, most_bases};
 ghost use Rattle.cs_plan.specs.Plans.{IsPlan, choice_in, lexemes_in, sharing_in};
 
+use cs_choices::{Criteria, Operators, Weigh};
 use cs_closed::Closed;
-use cs_goals::Criteria;
-use cs_manifest::{Form, Head, Weigh};
-use cs_mutate::Operators;
+use cs_manifest::{Form, Head};
 use cs_pairs::Pairs;
 use cs_render_work::RenderWork;
 use cs_yacc::YaccFile;

@@ -7,7 +7,7 @@ use Rattle.std.specs.Prelude.{All}
 use Rattle.cs_grammar.specs.Grammar.{PlainGrammar}
 use Rattle.cs_grammar.specs.Weights.{Weighed}
 use Rattle.cs_goals.specs.declared.goal.Goal.{Goal}
-use Rattle.cs_goals.specs.declared.goal.Criteria.{Criteria}
+use Rattle.cs_choices.specs.declared.criteria.Criteria.{Criteria}
 use Rattle.cs_goals.specs.Goal.{IsGoal, IsWanted}
 use Rattle.cs_goals.specs.Goals.{goals}
 use Rattle.cs_goals.proofs.Once.{all}

@@ -3,7 +3,7 @@ use Rattle.std.specs.Prelude.{◌≡◌, List, [], ◌∷◌, Option, IfSome, Ma
 use Rattle.cs_grammar.specs.Grammar.{PlainGrammar}
 use Rattle.cs_grammar.specs.Weights.{Weighed}
 use Rattle.cs_goals.specs.declared.goal.Goal.{Goal}
-use Rattle.cs_goals.specs.declared.goal.Criteria.{Criteria}
+use Rattle.cs_choices.specs.declared.criteria.Criteria.{Criteria}
 use Rattle.cs_goals.specs.Goal.{IsGoal}
 use Rattle.cs_goals.specs.Goals.{goals}
 use Rattle.cs_positive.specs.declared.positive.Positive.{Positive}

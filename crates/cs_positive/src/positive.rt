@@ -3,13 +3,14 @@
 ghost use Rattle.std.specs.Prelude.{◌≡◌, false, IfOk, OnErr};
 ghost use Rattle.cs_positive.specs.Positives.{positives_of, GivesGoalOf, GivesNext};
 
+use cs_choices::Criteria;
 use crate::judges::Judge;
 use crate::kept::Kept;
 use crate::tables::Tables;
 use crate::verdict::Verdict;
 use cs_cost::Costs;
 use cs_embed::Embeds;
-use cs_goals::{Criteria, Goal, Goals};
+use cs_goals::{Goal, Goals};
 use std::alloc::{AllocError, Global};
 use std::marker::Model;
 

@@ -8,8 +8,8 @@ use Rattle.cs_words.specs.declared.setting.Setting.{Setting}
 use Rattle.cs_words.specs.declared.setting.Setting.TheVariants.{Cover, Mutate, Bases, Separate, Weigh, Format}
 use Rattle.cs_words.specs.Options.{Give, HasMarked, IsMarked, IsNewOption, IsOption, LacksMark, mark_of}
 use Rattle.cs_words.specs.Choices.{IsCriteria, IsOperators}
-use Rattle.cs_goals.specs.declared.goal.Criteria.{Criteria}
-use Rattle.cs_mutate.specs.declared.edit.Operators.{Operators}
+use Rattle.cs_choices.specs.declared.criteria.Criteria.{Criteria}
+use Rattle.cs_choices.specs.declared.operators.Operators.{Operators}
 use Rattle.cs_words.specs.Steps.{HasKind, Sets}
 
 -- the words so far say this

@@ -8,7 +8,7 @@ use Rattle.std.proofs.lemmas.Bool.{cases_lt}
 use Rattle.std.proofs.lemmas.List.{take_more, length-append}
 use Rattle.std.proofs.lemmas.List.Elements.{Contains-append_left, Contains-append_right, Contains-append_cases}
 use Rattle.std.proofs.lemmas.Slice.Eq.{bytes_eq-Decides}
-use Rattle.cs_mutate.specs.declared.edit.Operators.{Operators}
+use Rattle.cs_choices.specs.declared.operators.Operators.{Operators}
 use Rattle.cs_words.specs.Choices.{Chooses, IsOperators, has_operator, parts}
 use Rattle.cs_words.specs.Steps.{Adds, CannotAdd}
 

@@ -3,12 +3,12 @@ use Rattle.std.proofs.Common.{◌≡◌, ℕ, zero, suc, Bool, true, false, ◌|
 use Rattle.std.specs.Prelude.{codes, unwrap_or}
 use Rattle.std.specs.List.{Contains}
 use Rattle.std.proofs.lemmas.List.Elements.{Contains-append_left, Contains-append_right}
-use Rattle.cs_goals.specs.declared.goal.Criteria.{Criteria}
-use Rattle.cs_manifest.specs.declared.format.Format.{Format}
-use Rattle.cs_manifest.specs.declared.format.Format.TheVariants.{One, Two}
-use Rattle.cs_manifest.specs.declared.format.Weigh.{Weigh}
-use Rattle.cs_manifest.specs.declared.format.Weigh.TheVariants.{Nodes, Bytes}
-use Rattle.cs_mutate.specs.declared.edit.Operators.{Operators}
+use Rattle.cs_choices.specs.declared.criteria.Criteria.{Criteria}
+use Rattle.cs_choices.specs.declared.format.Format.{Format}
+use Rattle.cs_choices.specs.declared.format.Format.TheVariants.{One, Two}
+use Rattle.cs_choices.specs.declared.weigh.Weigh.{Weigh}
+use Rattle.cs_choices.specs.declared.weigh.Weigh.TheVariants.{Nodes, Bytes}
+use Rattle.cs_choices.specs.declared.operators.Operators.{Operators}
 use Rattle.cs_words.specs.declared.options.Options.{Options}
 use Rattle.cs_words.specs.declared.setting.Setting.{Setting}
 use Rattle.cs_words.specs.declared.setting.Setting.TheVariants as kind

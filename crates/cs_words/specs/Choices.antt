@@ -2,12 +2,12 @@
 -- what is weighed and the format, as one word.
 use Rattle.std.specs.Prelude.{◌≡◌, ◌≢◌, ◌⊎◌, ◌↔◌, ℕ, Bool, false, ◌==◌, ◌&&◌, ◌||◌, List, IsTrue, AllPairs, Contains, bytes_eq, codes}
 use Rattle.std.specs.List.{slice_split}
-use Rattle.cs_manifest.specs.declared.format.Format.{Format}
-use Rattle.cs_manifest.specs.declared.format.Format.TheVariants.{One, Two}
-use Rattle.cs_manifest.specs.declared.format.Weigh.{Weigh}
-use Rattle.cs_manifest.specs.declared.format.Weigh.TheVariants.{Nodes, Bytes}
-use Rattle.cs_goals.specs.declared.goal.Criteria.{Criteria}
-use Rattle.cs_mutate.specs.declared.edit.Operators.{Operators}
+use Rattle.cs_choices.specs.declared.format.Format.{Format}
+use Rattle.cs_choices.specs.declared.format.Format.TheVariants.{One, Two}
+use Rattle.cs_choices.specs.declared.weigh.Weigh.{Weigh}
+use Rattle.cs_choices.specs.declared.weigh.Weigh.TheVariants.{Nodes, Bytes}
+use Rattle.cs_choices.specs.declared.criteria.Criteria.{Criteria}
+use Rattle.cs_choices.specs.declared.operators.Operators.{Operators}
 use Rattle.cs_bytes.specs.Names.{comma_sign}
 
 -- the parts of a value between its commas

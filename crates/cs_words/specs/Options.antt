@@ -1,8 +1,8 @@
 -- The options of `suite`: a mark and a value, in any order, each at most once.
 use Rattle.std.specs.Prelude.{◌≡◌, ℕ, Option, None, Some, List, [], ◌∷◌, ◌++◌, true, Contains, codes, unwrap_or}
 use Rattle.cs_words.specs.declared.setting.Setting.{Setting}
-use Rattle.cs_manifest.specs.declared.format.Format.TheVariants.{Two}
-use Rattle.cs_manifest.specs.declared.format.Weigh.TheVariants.{Nodes}
+use Rattle.cs_choices.specs.declared.format.Format.TheVariants.{Two}
+use Rattle.cs_choices.specs.declared.weigh.Weigh.TheVariants.{Nodes}
 use Rattle.cs_words.specs.declared.setting.Setting.TheVariants.{Cover, Mutate, Bases, Separate, Weigh, Format}
 use Rattle.cs_words.specs.declared.options.Options.{Options}
 use Rattle.cs_words.specs.Choices.{IsCriteria, IsFormat, IsOperators, IsWeigh}

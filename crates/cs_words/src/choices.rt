@@ -5,9 +5,8 @@ ghost use Rattle.cs_words.specs.Choices.{IsCriteria, IsFormat, IsOperators, IsWe
 ghost use Rattle.cs_words.specs.Choices.{has_criterion, has_operator};
 ghost use Rattle.cs_words.specs.Steps.{Adds, CannotAdd};
 
-use cs_goals::Criteria;
-use cs_manifest::{Format, Weigh};
-use cs_mutate::Operators;
+
+use cs_choices::{Criteria, Format, Operators, Weigh};
 
 /// The criteria that the value names.
 pub(crate) fn read_criteria(value: &str) -> Option<Criteria>

@@ -3,12 +3,10 @@
 ghost use Rattle.std.specs.Bool.{OnTrue, OnFalse};
 ghost use Rattle.cs_words.specs.Steps.{AreDefaulted, HasKind, IsNothing, Sets};
 
+use cs_choices::{Criteria, Format, Operators, Weigh};
 use crate::options::Options;
 use crate::separator::Separator;
 use crate::setting::Setting;
-use cs_goals::Criteria;
-use cs_manifest::{Format, Weigh};
-use cs_mutate::Operators;
 
 /// What the options so far say.
 #[derive(Drop)]

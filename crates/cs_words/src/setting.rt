@@ -4,12 +4,10 @@ ghost use Rattle.std.specs.Prelude.{◌≡◌, ◌++◌, IfNone, IfSome};
 ghost use Rattle.cs_words.specs.Options.{IsOption, IsMarked};
 ghost use Rattle.cs_words.specs.declared.setting.Setting.{Setting};
 
+use cs_choices::{Criteria, Format, Operators, Weigh};
 use crate::choices::{read_criteria, read_format, read_operators, read_weigh};
 use crate::separator::Separator;
 use crate::values::{read_bases, read_separator};
-use cs_goals::Criteria;
-use cs_manifest::{Format, Weigh};
-use cs_mutate::Operators;
 
 /// What an option sets.
 #[derive(Drop)]

@@ -5,8 +5,8 @@ use Rattle.std.specs.Option.{option_copied}
 use Rattle.cs_closed.specs.Closed.{ClosedSets}
 use Rattle.cs_closed.specs.declared.closed.Closed.{Closed}
 use Rattle.cs_grammar.specs.Grammar.{PlainGrammar}
-use Rattle.cs_manifest.specs.declared.format.Format.{Format}
-use Rattle.cs_manifest.specs.declared.format.Format.TheVariants.{One, Two}
+use Rattle.cs_choices.specs.declared.format.Format.{Format}
+use Rattle.cs_choices.specs.declared.format.Format.TheVariants.{One, Two}
 use Rattle.cs_manifest.specs.Manifest.{Choice}
 use Rattle.cs_plan.specs.Plans.{HasSetsOf, format_by}
 use Rattle.cs_render_work.specs.declared.work.RenderWork.{RenderWork}

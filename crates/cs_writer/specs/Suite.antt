@@ -5,8 +5,8 @@ use Rattle.cs_ending.specs.Files.{choice_of}
 use Rattle.cs_input.specs.declared.judging.Pair.{Pair}
 use Rattle.cs_grammar.specs.Grammar.{PlainGrammar}
 use Rattle.cs_grammar.specs.Weights.{Measure}
-use Rattle.cs_manifest.specs.declared.format.Format.{Format}
-use Rattle.cs_manifest.specs.declared.format.Format.TheVariants.{One, Two}
+use Rattle.cs_choices.specs.declared.format.Format.{Format}
+use Rattle.cs_choices.specs.declared.format.Format.TheVariants.{One, Two}
 use Rattle.cs_manifest.specs.Manifest.{Choice, IsManifest, measure_of, rules_form}
 use Rattle.cs_plan.specs.Plans.{texts_of}
 use Rattle.cs_render_work.specs.declared.work.RenderWork.{RenderWork}

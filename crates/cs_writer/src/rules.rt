@@ -6,13 +6,12 @@ ghost use Rattle.cs_writer.specs.Suite.{IsRules};
 ghost use Rattle.cs_writing.specs.declared.halt.Halt.TheVariants.{Failed};
 ghost use Rattle.cs_writing.specs.Writing.{IsCalmForAll, MetFault, MetNone, Stopped, TookFront, TookOne};
 
+use cs_choices::{Criteria, Weigh};
 use cs_cost::Costs;
 use cs_embed::Embeds;
 use cs_fan::Gate;
-use cs_goals::Criteria;
 use cs_grammar::Weights;
 use cs_io::Sink;
-use cs_manifest::Weigh;
 use cs_plan::Plan;
 use cs_positive::Positives;
 use cs_writing::{Halt, write_out};

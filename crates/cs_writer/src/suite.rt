@@ -2,7 +2,7 @@
 
 ghost use Rattle.std.specs.Prelude.{◌≡◌, ◌⊎◌, IfOk, OnErr, OnOk, Some};
 ghost use Rattle.cs_input.specs.Refusal.{HasManyStates};
-ghost use Rattle.cs_manifest.specs.declared.format.Format.TheVariants.{One};
+ghost use Rattle.cs_choices.specs.declared.format.Format.TheVariants.{One};
 ghost use Rattle.cs_plan.specs.Plans.{CanRender};
 ghost use Rattle.cs_writer.specs.declared.halt.SuiteHalt.TheVariants.{Failed, Memory, States};
 ghost use Rattle.cs_writer.specs.Refusals.{Stopped};
@@ -12,6 +12,7 @@ ghost use Rattle.cs_writing.specs.Writing as writing;
 ghost use Rattle.cs_writing.specs.Writing.{CountsOfAll, HasNoCases, IsCalmForAll, MetFault, MetNone, TookFront, TookOne};
 ghost use Rattle.cs_yacc.specs.File.{IsFile};
 
+use cs_choices::Format;
 use crate::halt::SuiteHalt;
 use crate::weights::weights_of;
 use cs_automaton::Automaton;
@@ -21,7 +22,7 @@ use cs_grammar::Weights;
 use cs_input::Pair;
 use cs_io::Sink;
 use cs_lexeme::Lexemes;
-use cs_manifest::{Counts, Format};
+use cs_manifest::Counts;
 use cs_plan::{Mutation, Plan};
 use cs_positive::{Positives, Tables};
 use cs_render_work::RenderWork;

@@ -9,13 +9,14 @@ ghost use Rattle.cs_writing.specs.declared.halt.Halt.TheVariants.{Failed};
 ghost use Rattle.cs_writing.specs.Writing.{CountsOfAll, HasNoCases, IsCalmForAll, MetFault, MetNone};
 ghost use Rattle.cs_writing.specs.Writing.{Stopped, TookFront, TookOne};
 
+use cs_choices::Format;
 use crate::halt::SuiteHalt;
 use crate::suite::write_suite;
 use cs_fan::Gate;
 use cs_gen::{Generated, make};
 use cs_input::{Pair, Stop, judge_pair};
 use cs_io::{NullSink, Sink, write_all};
-use cs_manifest::{Counts, Format};
+use cs_manifest::Counts;
 use cs_words::Options;
 use cs_writing::Halt;
 use std::alloc::{AllocError, Global};

@@ -5,9 +5,9 @@ ghost use Rattle.cs_grammar.specs.Weights.{byte_weight};
 ghost use Rattle.cs_lexeme.specs.Lexeme.{lexeme_in};
 ghost use Rattle.cs_manifest.specs.Manifest.{byte_measure, measure_of};
 
+use cs_choices::Weigh;
 use cs_grammar::{Weights, byte_weight};
 use cs_lexeme::Lexemes;
-use cs_manifest::Weigh;
 use std::alloc::{AllocError, Global};
 
 // The size above which a tree is only known to exist, where bytes are counted.

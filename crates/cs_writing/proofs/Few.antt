@@ -11,7 +11,7 @@ use Rattle.cs_grammar.specs.declared.symbol.Symbol.{Symbol}
 use Rattle.cs_grammar.specs.declared.symbol.Symbol.TheVariants.{Token, Nonterminal}
 use Rattle.cs_grammar.specs.declared.symbol.Mark.{Mark}
 use Rattle.cs_grammar.specs.declared.symbol.Mark.TheVariants as marks
-use Rattle.cs_goals.specs.declared.goal.Criteria.{Criteria}
+use Rattle.cs_choices.specs.declared.criteria.Criteria.{Criteria}
 use Rattle.cs_goals.specs.declared.goal.Goal.TheVariants.{Rule, Context, Pair}
 use Rattle.cs_goals.specs.Goals.{context_goals, goals, goals_after, goals_at, goals_in, left_marks, numbered_rules, pair_goals, right_marks, rule_goals, rules_of, token_marks}
 

@@ -7,8 +7,8 @@ use Rattle.cs_closed.specs.declared.closed.Closed.{Closed}
 use Rattle.cs_grammar.specs.Weights.{Weighed}
 use Rattle.cs_goals.specs.declared.goal.Goal.{Goal}
 use Rattle.cs_goals.specs.Goals.{goals}
-use Rattle.cs_manifest.specs.declared.format.Format.{Format}
-use Rattle.cs_manifest.specs.declared.format.Format.TheVariants.{One, Two}
+use Rattle.cs_choices.specs.declared.format.Format.{Format}
+use Rattle.cs_choices.specs.declared.format.Format.TheVariants.{One, Two}
 use Rattle.cs_manifest.specs.Manifest.{AreShared, GoalEntry, HasOneText, SharedEntry, Texts, goal_entry_lines, goal_texts, shared_entry_lines}
 use Rattle.cs_manifest.proofs.OneManifest.{one_entry, one_rendered_if, one_zip}
 use Rattle.cs_manifest.proofs.OneShared.{one_list_of_shared}

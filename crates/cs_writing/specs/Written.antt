@@ -11,8 +11,8 @@ use Rattle.cs_output.specs.Putting.{shown}
 use Rattle.cs_output.specs.Sinks.{HasRoom, IsWritten, TookPart, Writes}
 use Rattle.cs_output.specs.Words.{numbered_from}
 use Rattle.cs_manifest.specs.declared.counts.Counts.{Counts}
-use Rattle.cs_manifest.specs.declared.format.Format.{Format}
-use Rattle.cs_manifest.specs.declared.format.Format.TheVariants.{One, Two}
+use Rattle.cs_choices.specs.declared.format.Format.{Format}
+use Rattle.cs_choices.specs.declared.format.Format.TheVariants.{One, Two}
 use Rattle.cs_manifest.specs.Counts.{first_counts, with_case, with_lines, with_shared_verdict, with_verdict}
 use Rattle.cs_manifest.specs.Head.{first_cases}
 use Rattle.cs_manifest.specs.Lines.{is_feasible, is_infeasible, is_large}

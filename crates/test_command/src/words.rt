@@ -1,7 +1,7 @@
 // Words of the command line. What is expected was worked by hand from the grammar of words that docs/FORMATS.md gives:
 // which word may stand behind which, and the values of each option.
 
-use cs_manifest::{Format, Weigh};
+use cs_choices::{Format, Weigh};
 use cs_samples::words;
 use cs_words::{BadWord, Command, read_words};
 use std::alloc::{AllocError, Global};

@@ -6,13 +6,14 @@ ghost use Rattle.cs_output.specs.Names.{AreNamedTokens, IsNamedMark};
 ghost use Rattle.cs_manifest.specs.Head.{IsNamedHead};
 ghost use Rattle.cs_manifest.specs.Named.{IsNamedGoal};
 
+use cs_choices::Weigh;
 use crate::lines::DELETED;
 use cs_cases::Named;
 use cs_closed::Closed;
 use cs_goals::Goal;
 use cs_grammar::{Derivation, Mark, Weights};
 use cs_io::{MemorySink, SinkError};
-use cs_manifest::{Counts, Entry, Form, Head, Manifest, NumberedNegative, SharedVerdict, Weigh};
+use cs_manifest::{Counts, Entry, Form, Head, Manifest, NumberedNegative, SharedVerdict};
 use cs_mutate::{Edit, Negative};
 use cs_positive::Tables;
 use cs_render::{Rendered, RenderedParts};

@@ -1,10 +1,11 @@
 ghost use Rattle.std.specs.Prelude.{◌≡◌, ◌<◌};
 
+use cs_choices::Criteria;
 use crate::prepared::Want::{Code, Nowhere, OfSize, TooLarge};
 use crate::prepared::{A, FIRST, FOURTH, SECOND, THIRD, Want, X, Y, Z, is_wanted};
 use cs_cost::Costs;
 use cs_embed::Embeds;
-use cs_goals::{Criteria, Goal, fits_goal};
+use cs_goals::{Goal, fits_goal};
 use cs_grammar::Symbol::{Nonterminal, Token};
 use cs_grammar::{Mark, Rule, Symbol, Weights};
 use cs_numbers::number_of;

@@ -1,5 +1,6 @@
+use cs_choices::Criteria;
 use crate::prepared::derivation_of;
-use cs_goals::{Criteria, Goal, Goals, fits_goal, meets};
+use cs_goals::{Goal, Goals, fits_goal, meets};
 use cs_grammar::Mark::{Begin, End, Token};
 use cs_grammar::{Grammar, Mark, Symbol, expand};
 use cs_samples::{grammar_of, grammar_of_sums, rules};

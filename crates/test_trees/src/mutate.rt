@@ -3,14 +3,12 @@
 ghost use Rattle.std.specs.Prelude.{◌↔◌, IsTrue, All};
 ghost use Rattle.cs_grammar.specs.Grammar.{IsNumberOf};
 
+use cs_choices::Operators;
 use cs_cost::Costs;
 use cs_embed::Embeds;
 use cs_grammar::{Grammar, Mark, Symbol, Weights};
 use cs_mutate::Edit::{Delete, Insert, Replace, Swap};
-use cs_mutate::{
-    Edit, Edits, Negative, Negatives, Operators, apply, each_mutant_once, edit_fits,
-    one_list_of_negatives, poison,
-};
+use cs_mutate::{Edit, Edits, Negative, Negatives, apply, each_mutant_once, edit_fits, one_list_of_negatives, poison};
 use cs_pairs::Pairs;
 use cs_samples::{grammar_of, grammar_of_sums, rules};
 use std::alloc::{AllocError, Global};

@@ -1,9 +1,8 @@
 // The entries of goals, batch by batch.
 
+use cs_choices::{Criteria, Weigh};
 use cs_fan::OpenGate;
-use cs_goals::Criteria;
 use cs_grammar::Weights;
-use cs_manifest::Weigh;
 use cs_plan::{Made, Plan, next_entries};
 use cs_positive::{Positives, Tables};
 use cs_sample_files::{Trouble, sums};

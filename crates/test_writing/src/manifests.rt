@@ -4,16 +4,15 @@ ghost use Rattle.std.specs.Prelude.{◌≡◌, Some};
 ghost use Rattle.cs_grammar.specs.Weights.{nodes};
 ghost use Rattle.cs_plan.specs.Plans.{CanRender, HasSetsOf};
 
+use cs_choices::{Criteria, Format, Operators, Weigh};
 use crate::writers::letter_counts;
 use cs_automaton::Automaton;
 use cs_closed::Closed;
 use cs_fan::OpenGate;
-use cs_goals::Criteria;
 use cs_grammar::Weights;
 use cs_io::MemorySink;
 use cs_lexeme::Lexemes;
-use cs_manifest::{Counts, Format, Weigh};
-use cs_mutate::Operators;
+use cs_manifest::Counts;
 use cs_plan::{Mutation, Plan};
 use cs_positive::{Positives, Tables};
 use cs_render_work::RenderWork;

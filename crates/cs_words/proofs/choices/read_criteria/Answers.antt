@@ -2,7 +2,7 @@ use Rattle.std.proofs.Common.{length, take, lit<, rules, sym, subst}
 use Rattle.std.proofs.lemmas.List.{length_push}
 use Rattle.std.proofs.lemmas.Iterator.Splits.{YieldsList-from_str_split}
 use Rattle.std.proofs.lemmas.Iterator.Consumers.{YieldsList-turn, YieldsList-end}
-use Rattle.cs_goals.specs.declared.goal.Criteria.{Criteria}
+use Rattle.cs_choices.specs.declared.criteria.Criteria.{Criteria}
 use Rattle.cs_words.specs.Choices.{IsCriteria, Chooses, has_criterion, parts}
 use Rattle.cs_words.proofs.Names.{added, stuck, none_where, all_taken}
 use Rattle.cs_words.proofs.choices.read_criteria.Goals as goal

@@ -2,7 +2,7 @@ use Rattle.std.proofs.Common.{length, take, lit<, rules, sym, subst, inr}
 use Rattle.std.proofs.lemmas.List.{length_push}
 use Rattle.std.proofs.lemmas.Iterator.Splits.{YieldsList-from_str_split}
 use Rattle.std.proofs.lemmas.Iterator.Consumers.{YieldsList-turn, YieldsList-end}
-use Rattle.cs_mutate.specs.declared.edit.Operators.{Operators}
+use Rattle.cs_choices.specs.declared.operators.Operators.{Operators}
 use Rattle.cs_words.specs.Choices.{IsOperators, Chooses, has_operator, parts}
 use Rattle.cs_words.proofs.Names.{added, stuck, none_where, all_taken, no_operators_of}
 use Rattle.cs_words.proofs.choices.read_operators.Goals as goal

@@ -6,12 +6,3 @@ pub enum Format {
     /// Each once, as a case that goals name; closed sets of the grammar stand in the head.
     Two,
 }
-
-/// What sizes of derivations count.
-#[derive(Clone, Copy, Debug, PartialEq, Eq)]
-pub enum Weigh {
-    /// Nodes, leaves counted.
-    Nodes,
-    /// Nodes, and for each leaf the bytes of its token's lexeme.
-    Bytes,
-}
