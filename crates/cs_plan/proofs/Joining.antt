@@ -1,190 +1,184 @@
--- Goals that are joined with their lists and with what came of these.
-use Rattle.std.proofs.Common.{◌≡◌, ℕ, List, [], ◌∷◌, ◌++◌, Option, None, Some, length, arith, append-nil, refl, sym, ap, ◌∙◌, subst}
-use Rattle.std.specs.Prelude.{All, IsSome, option_map}
-use Rattle.std.proofs.lemmas.Bool.{false≢true}
-use Rattle.std.proofs.lemmas.List.{append_assoc, map-append}
-use Rattle.std.specs.Global.{Vec}
-use Rattle.std.specs.List.{AllZip}
-use Rattle.std.specs.Borrow.{Bor}
-use Rattle.std.proofs.lemmas.List.Elements.{All-head, All-map, All-tail, All-weaker}
-use Rattle.cs_grammar.specs.Grammar.{PlainGrammar}
+-- Goals that were placed, joined with what came of rendering their tokens.
+use Rattle.std.proofs.Common.{◌≡◌, ℕ, Bool, true, false, List, [], ◌∷◌, ◌++◌, Option, None, Some, length, arith, append-nil, refl, sym, ap, ◌∙◌, subst}
+use Rattle.std.specs.Prelude.{IsSomeAnd, map, option_map}
+use Rattle.std.proofs.lemmas.List.{append_assoc}
 use Rattle.cs_grammar.specs.Weights.{Weighed}
 use Rattle.cs_goals.specs.declared.goal.Goal.{Goal}
-use Rattle.cs_goals.specs.Goal.{IsGoal}
-use Rattle.cs_closed.specs.declared.closed.Closed.{Closed}
-use Rattle.cs_manifest.specs.Manifest.{GoalEntry, IsEntryOf, IsRenderedBy, Texts, goal_texts, texts_at}
-use Rattle.cs_positive.specs.declared.positive.Positive.{Positive}
+use Rattle.cs_cases.specs.Cases.{PlainCases}
+use Rattle.cs_manifest.specs.declared.entry.SharedVerdict.{SharedVerdict}
+use Rattle.cs_manifest.specs.Manifest.{IsRenderedIf as IsTextIf, IsSharedVerdict, is_new}
 use Rattle.cs_positive.specs.declared.verdict.Verdict.{Verdict}
 use Rattle.cs_positive.specs.declared.verdict.Verdict.TheVariants.{Feasible, Infeasible, Large}
 use Rattle.cs_positive.specs.Positives.{ToJudge}
-use Rattle.cs_positive.specs.Verdict.{IsVerdictIn}
 use Rattle.cs_render.specs.declared.rendered.Rendered.{Rendered}
 use Rattle.cs_render.specs.Rendering.{rendering}
 use Rattle.cs_render_work.specs.declared.work.RenderWork.{RenderWork}
-use Rattle.cs_render_work.specs.Renders.{IsRenderedBy as IsAnswerOf}
-use Rattle.cs_yacc.specs.File.{IsFile}
+use Rattle.cs_plan.specs.declared.placing.Placed.{Placed}
+use Rattle.cs_plan.specs.declared.plan.Means.{Means}
 use Rattle.cs_plan.specs.declared.plan.Plan.{Plan}
-use Rattle.cs_plan.specs.Batches.{AreNext}
-use Rattle.cs_plan.specs.Joined.{HasListIn, Joins, TakesFirst, TakesNone, entry_with}
-use Rattle.cs_plan.specs.Made.{IsNamedGoalEntry}
-use Rattle.cs_plan.specs.Plans.{IsEntryIn, choice_in, format_by, lexemes_in, texts_in, texts_of}
-use Rattle.cs_plan.specs.Waiting.{AreListsOf, AreRenderingsOf, IsJudged, IsListOf, feasible_of, goals_of}
-use Rattle.cs_plan.proofs.Making.{named_entry}
-use Rattle.cs_plan.proofs.Zips.{all_by_zip, none_mapped, none_zipped, zip_push}
+use Rattle.cs_plan.specs.declared.plan.PlanForm.{PlanForm}
+use Rattle.cs_plan.specs.declared.plan.PlanForm.TheVariants.{Rules, Suite, Shared}
+use Rattle.cs_plan.specs.Entries.{AreMade, AreNext, IsMadeIn, IsSharedIn}
+use Rattle.cs_plan.specs.Made.{AreOfOneKind, HasItsCase, IsThereIf, MadeEntry, is_asked, made_of}
+use Rattle.cs_plan.specs.Placing.{ArePlacedNext, AreRendered, IsPlacedGoal, IsRenderedIf, first_in, rest_of}
+use Rattle.cs_plan.specs.Plans.{format_by, means_in, texts_of}
+use Rattle.cs_plan.specs.Steps.{AllSteps}
+use Rattle.cs_plan.proofs.Steps.{first_step, no_step, steps_length, steps_push}
 
--- a feasible goal takes both
-pub joins_both : (goal : Goal) (verdict : Verdict) (n : ℕ) (d : List ℕ) → verdict ≡ Feasible n d → (lists left : List (Vec ℕ)) (rendered rendered_left : List Rendered) (list : Vec ℕ) (found : Option (Vec ℕ)) (answer : Option Rendered) → found ≡ Some list → TakesFirst lists found left → TakesFirst rendered answer rendered_left → Joins verdict (record { goal = goal; verdict = verdict }) lists rendered (record {
-  goal = goal;
-  verdict = Feasible n d;
-  tokens = list.items;
-  rendered = option_map rendering answer;
-}) left rendered_left
-joins_both goal verdict n d is lists left rendered rendered_left list found answer some first taken =
-    let entry : GoalEntry = record { goal = goal; verdict = Feasible n d; tokens = list.items; rendered = option_map rendering answer } in
-    subst (λ (v : Verdict). Joins v (record { goal = goal; verdict = v }) lists rendered entry left rendered_left) (sym is) (record {
-      list = list;
-      answer = answer;
-      first = subst (λ (f : Option (Vec ℕ)). TakesFirst lists f left) some first;
-      taken = taken;
-      made = refl;
-    })
+-- ---- what came of a goal's tokens
 
--- the first answer is that of the first list
-pub rendered_first : (texts : Option (Bor RenderWork)) (list : Vec ℕ) (lists : List (Vec ℕ)) (rendered left : List Rendered) (answer : Option Rendered) → AreRenderingsOf texts (list ∷ lists) rendered → TakesFirst rendered answer left → IsRenderedBy (option_map (λ work. texts_of work.now) texts) (option_map (λ work. work.now.lexemes.now) texts) list.items (option_map rendering answer) × AreRenderingsOf texts lists left
-rendered_first None list lists rendered left None are takes = (refl, takes.1)
-rendered_first None list lists rendered left (Some answer) are takes = let clash : [] ≡ answer ∷ left = sym are ∙ takes in absurd cc
-rendered_first (Some work) list lists rendered left None are takes =
-    absurd (subst (λ (l : List Rendered). AllZip (λ (v : Vec ℕ) r. IsAnswerOf work.now v.items (rendering r)) (list ∷ lists) l) takes.0 are)
-rendered_first (Some work) list lists rendered left (Some answer) are takes =
-    subst (λ (l : List Rendered). AllZip (λ (v : Vec ℕ) r. IsAnswerOf work.now v.items (rendering r)) (list ∷ lists) l) takes are
+-- this came of them; without means nothing
+abbrev IsAnswer : Option Means → Placed → Option Rendered → Type 0
+IsAnswer None p answer = answer ≡ None
+IsAnswer (Some means) p answer = IsRenderedIf (is_asked p.verdict p.shared) means.work.now p.tokens.items answer
 
--- what is known of an entry, and of what is left
-pub record IsOneJoined (of : Weighed) (texts : Option (Bor RenderWork)) (goal : Goal) (left : List Positive) (entry : GoalEntry) (lists_left : List (Vec ℕ)) (rendered_left : List Rendered) : Type 0 where
-  pub is_entry : IsEntryOf of (option_map (λ work. texts_of work.now) texts) (option_map (λ work. work.now.lexemes.now) texts) goal entry
-  pub are_lists : AreListsOf of.grammar left lists_left
-  pub are_rendered : AreRenderingsOf texts lists_left rendered_left
+-- what comes first is of the first goal
+first_answer : (means : Option Means) (p : Placed) (left : List Placed) (rendered : List (Option Rendered)) → AreRendered means (p ∷ left) rendered → IsAnswer means p (first_in rendered) × AreRendered means left (rest_of rendered)
+first_answer None p left rendered are = (ap first_in are, ap rest_of are)
+first_answer (Some means) p left [] are = absurd are
+first_answer (Some means) p left (answer ∷ rest) are = are
 
-module _ (of : Weighed) (texts : Option (Bor RenderWork)) (goal : Goal) (left : List Positive) (lists : List (Vec ℕ)) (rendered : List Rendered) (entry : GoalEntry) (lists_left : List (Vec ℕ)) (rendered_left : List Rendered) (are_rendered : AreRenderingsOf texts lists rendered) where
-  -- a goal without a list takes neither
-  none_joined : (p : Positive) → IsEntryOf of (option_map (λ work. texts_of work.now) texts) (option_map (λ work. work.now.lexemes.now) texts) goal (entry_with p [] None) → AreListsOf of.grammar left lists → TakesNone p lists rendered entry lists_left rendered_left → IsOneJoined of texts goal left entry lists_left rendered_left
-  none_joined p is are joins = record {
-    is_entry = subst (IsEntryOf of (option_map (λ work. texts_of work.now) texts) (option_map (λ work. work.now.lexemes.now) texts) goal) (sym joins.made) is;
-    are_lists = subst (AreListsOf of.grammar left) (sym joins.same_lists) are;
-    are_rendered =
-        subst (AreRenderingsOf texts lists_left) (sym joins.same_rendered) (subst (λ (l : List (Vec ℕ)). AreRenderingsOf texts l rendered) (sym joins.same_lists) are_rendered);
-  }
+text_by : (work : RenderWork) (so : Bool) (tokens : List ℕ) (answer : Option Rendered) → IsRenderedIf so work tokens answer → IsTextIf so (Some (texts_of work)) (Some work.lexemes.now) tokens (option_map rendering answer)
+text_by work true tokens (Some answer) is = is
+text_by work true tokens None is = absurd is
+text_by work false tokens answer is = ap (λ (a : Option Rendered). option_map rendering a) is
 
-  pub one_joined : (verdict : Verdict) → IsVerdictIn of goal verdict → AreListsOf of.grammar (record { goal = goal; verdict = verdict } ∷ left) lists → Joins verdict (record { goal = goal; verdict = verdict }) lists rendered entry lists_left rendered_left → IsOneJoined of texts goal left entry lists_left rendered_left
-  one_joined (Feasible n d) judged are joins =
-      let p : Positive = record { goal = goal; verdict = Feasible n d } in
-      let zipped = subst (λ (l : List (Vec ℕ)). AllZip (IsListOf of.grammar) (p ∷ feasible_of left) l) joins.first are in
-      let answered = rendered_first texts joins.list lists_left rendered rendered_left joins.answer (subst (λ (l : List (Vec ℕ)). AreRenderingsOf texts l rendered) joins.first are_rendered) joins.taken in
-      record {
-        is_entry =
-            subst (IsEntryOf of (option_map (λ work. texts_of work.now) texts) (option_map (λ work. work.now.lexemes.now) texts) goal) (sym joins.made) (record {
-              is_of = refl;
-              verdict = judged;
-              tokens = zipped.0;
-              text = answered.0;
-            });
-        are_lists = zipped.1;
-        are_rendered = answered.1;
-      }
-  one_joined Infeasible judged are joins =
-      none_joined (record { goal = goal; verdict = Infeasible }) (record { is_of = refl; verdict = judged; tokens = refl; text = refl }) are joins
-  one_joined Large judged are joins =
-      none_joined (record { goal = goal; verdict = Large }) (record { is_of = refl; verdict = judged; tokens = refl; text = refl }) are joins
+no_text : (so : Bool) (tokens : List ℕ) (answer : Option Rendered) → answer ≡ None → IsTextIf so None None tokens (option_map rendering answer)
+no_text true tokens answer is = ap (λ (a : Option Rendered). option_map rendering a) is
+no_text false tokens answer is = ap (λ (a : Option Rendered). option_map rendering a) is
 
--- a feasible goal has a list
-has_first : (g : PlainGrammar) (goal : Goal) (left : List Positive) (verdict : Verdict) (lists : List (Vec ℕ)) → AreListsOf g (record { goal = goal; verdict = verdict } ∷ left) lists → HasListIn verdict lists
-has_first g goal left (Feasible n d) [] are = absurd are
-has_first g goal left (Feasible n d) (first ∷ rest) are = (first, rest, refl)
-has_first g goal left Infeasible lists are = tt
-has_first g goal left Large lists are = tt
+-- it is the text that the manifest asks for
+text_in : (means : Option Means) (p : Placed) (answer : Option Rendered) → IsAnswer means p answer
+    → IsTextIf (is_asked p.verdict p.shared) (option_map (λ m. texts_of m.work.now) means) (option_map (λ m. m.work.now.lexemes.now) means) p.tokens.items (option_map rendering answer)
+text_in None p answer is = no_text (is_asked p.verdict p.shared) p.tokens.items answer is
+text_in (Some means) p answer is = text_by means.work.now (is_asked p.verdict p.shared) p.tokens.items answer is
 
--- an entry with its text: the first format has no other
-abbrev pub IsFullEntry : Plan → Weighed → Goal → GoalEntry → Type 0
-IsFullEntry plan of goal entry = IsEntryOf of (texts_in plan) (lexemes_in plan) goal entry
+-- ---- the case of a goal
 
--- of these goals some were joined, and these are left
-pub record AreJoining (plan : Plan) (of : Weighed) (positives left : List Positive) (lists : List (Vec ℕ)) (rendered : List Rendered) (entries : List GoalEntry) : Type 0 where
-  pub done : List Positive
-  pub split : positives ≡ done ++ left
-  pub each : AllZip (IsFullEntry plan of) (goals_of done) entries
-  pub judged : All (IsJudged of) left
-  pub are_lists : AreListsOf of.grammar left lists
-  pub are_rendered : AreRenderingsOf plan.texts lists rendered
+-- the verdicts of both formats are of one kind
+one_kind : (old new : PlainCases) (goal : Goal) (verdict : Verdict) (s : SharedVerdict) → IsSharedVerdict old goal verdict new s → AreOfOneKind verdict s
+one_kind old new goal (Feasible n derivation) s is = subst (AreOfOneKind (Feasible n derivation)) (sym is.1) tt
+one_kind old new goal Infeasible s is = subst (AreOfOneKind Infeasible) (sym is.0) tt
+one_kind old new goal Large s is = subst (AreOfOneKind Large) (sym is.0) tt
 
-module _ (plan : Plan) (of : Weighed) where
-  pub joining_none : (positives all : List Positive) (lists yields : List (Vec ℕ)) (rendered answers : List Rendered) (entries : List GoalEntry) → positives ≡ all → lists ≡ yields → rendered ≡ answers → entries ≡ [] → All (IsJudged of) all → AreListsOf of.grammar all yields → AreRenderingsOf plan.texts yields answers → AreJoining plan of positives positives lists rendered entries
-  joining_none positives all lists yields rendered answers entries is_all is_yields is_answers none judged are are_rendered = record {
-    done = [];
-    split = refl;
-    each = subst (AllZip (IsFullEntry plan of) []) (sym none) tt;
-    judged = subst (All (IsJudged of)) (sym is_all) judged;
-    are_lists =
-        subst (λ (l : List Positive). AreListsOf of.grammar l lists) (sym is_all) (subst (AreListsOf of.grammar all) (sym is_yields) are);
-    are_rendered =
-        subst (λ (l : List (Vec ℕ)). AreRenderingsOf plan.texts l rendered) (sym is_yields) (subst (AreRenderingsOf plan.texts yields) (sym is_answers) are_rendered);
-  }
+there_if : (work : RenderWork) (so : Bool) (tokens : List ℕ) (answer : Option Rendered) → IsRenderedIf so work tokens answer → IsThereIf so answer
+there_if work true tokens (Some answer) is = refl
+there_if work true tokens None is = absurd is
+there_if work false tokens answer is = is
 
-  module _ (positives left : List Positive) (lists : List (Vec ℕ)) (rendered : List Rendered) (entries : List GoalEntry) (so_far : AreJoining plan of positives left lists rendered entries) where
-    pub joining_has : (p : Positive) (rest : List Positive) → left ≡ p ∷ rest → HasListIn p.verdict lists
-    joining_has p rest is =
-        has_first of.grammar p.goal rest p.verdict lists (subst (λ (l : List Positive). AreListsOf of.grammar l lists) is so_far.are_lists)
+shared_case : (work : RenderWork) (old new : PlainCases) (goal : Goal) (verdict : Verdict) (shared : Option SharedVerdict) (tokens : List ℕ) (answer : Option Rendered) → IsSomeAnd shared (IsSharedVerdict old goal verdict new) → IsRenderedIf (is_asked verdict shared) work tokens answer → HasItsCase verdict shared answer
+shared_case work old new goal verdict None tokens answer is rendered = absurd is
+shared_case work old new goal verdict (Some s) tokens answer is rendered = (one_kind old new goal verdict s is, there_if work (is_new s) tokens answer rendered)
 
-    pub joining_more : (p : Positive) (rest : List Positive) (entry : GoalEntry) (lists_left : List (Vec ℕ)) (rendered_left : List Rendered) (more : List GoalEntry) → left ≡ p ∷ rest → Joins p.verdict p lists rendered entry lists_left rendered_left → more ≡ entries ++ entry ∷ [] → AreJoining plan of positives rest lists_left rendered_left more
-    joining_more p rest entry lists_left rendered_left more is joins grown =
-        let judged = subst (All (IsJudged of)) is so_far.judged in
-        let one =
-        one_joined of plan.texts p.goal rest lists rendered entry lists_left rendered_left so_far.are_rendered p.verdict (All-head (IsJudged of) p rest judged).1 (subst (λ (l : List Positive). AreListsOf of.grammar l lists) is so_far.are_lists) joins in
-        record {
-          done = so_far.done ++ p ∷ [];
-          split = so_far.split ∙ ap (λ (l : List Positive). so_far.done ++ l) is ∙ sym (append_assoc so_far.done (p ∷ []) rest);
-          each =
-              subst (AllZip (IsFullEntry plan of) (goals_of (so_far.done ++ p ∷ []))) (sym grown) (subst (λ (l : List Goal). AllZip (IsFullEntry plan of) l (entries ++ entry ∷ [])) (sym (map-append (λ (q : Positive). q.goal) so_far.done (p ∷ []))) (zip_push (IsFullEntry plan of) (goals_of so_far.done) entries p.goal entry so_far.each one.is_entry));
-          judged = All-tail (IsJudged of) p rest judged;
-          are_lists = one.are_lists;
-          are_rendered = one.are_rendered;
-        }
+case_in : (form : PlanForm) (old new : PlainCases) (goal : Goal) (p : Placed) (answer : Option Rendered) → IsSharedIn (format_by form) old goal p.verdict new p.shared → IsAnswer (means_in form) p answer → HasItsCase p.verdict p.shared answer
+case_in Rules old new goal p answer shared is = subst (λ (s : Option SharedVerdict). HasItsCase p.verdict s answer) (sym shared.0) tt
+case_in (Suite means) old new goal p answer shared is = subst (λ (s : Option SharedVerdict). HasItsCase p.verdict s answer) (sym shared.0) tt
+case_in (Shared means closed) old new goal p answer shared is = shared_case means.work.now old new goal p.verdict p.shared p.tokens.items answer shared is
 
-    pub joining_all : left ≡ [] → AllZip (IsFullEntry plan of) (goals_of positives) entries
-    joining_all none =
-        let all : positives ≡ so_far.done = so_far.split ∙ ap (λ (l : List Positive). so_far.done ++ l) none ∙ append-nil so_far.done in
-        subst (λ (l : List Positive). AllZip (IsFullEntry plan of) (goals_of l) entries) (sym all) so_far.each
+-- ---- goals one by one
 
 -- a list of no length
 pub empty : {A : Type 0} (xs : List A) (count : ℕ) → count ≡ length xs → count ≡ 0 → xs ≡ []
 empty [] count is none = refl
 empty (x ∷ xs) count is none = absurd (omega (arith, is, none))
 
--- entries whose texts are those of the plan's goals are entries of the plan
-pub in_plan : (plan : Plan) (of : Weighed) (texts : Option Texts) → goal_texts (choice_in plan) ≡ texts → (goals : List Goal) (entries : List GoalEntry) → AllZip (IsEntryOf of texts (lexemes_in plan)) goals entries → AllZip (IsEntryIn plan of) goals entries
-in_plan plan of texts same goals entries each =
-    subst (λ (t : Option Texts). AllZip (IsEntryOf of t (lexemes_in plan)) goals entries) (sym same) each
+-- the goals that were placed
+abbrev goals_of : List Placed → List Goal
+goals_of placed = map (λ p. p.goal) placed
 
--- in the first format goals have the plan's texts, and in the second none
-pub texts_of_goals : (plan : Plan) → plan.closed ≡ None → goal_texts (choice_in plan) ≡ texts_in plan
-texts_of_goals plan none = ap (λ (c : Option (Bor Closed)). texts_at (format_by c) (texts_in plan)) none
+module _ (plan : Plan) (of : Weighed) where
+  abbrev Is : PlainCases → Goal → PlainCases → Placed → Type 0
+  Is old goal new p = IsPlacedGoal (format_by plan.form) of old goal new p
 
-no_texts_by : (closed : Option (Bor Closed)) (texts : Option Texts) → IsSome closed → texts_at (format_by closed) texts ≡ None
-no_texts_by None texts some = absurd (false≢true some)
-no_texts_by (Some closed) texts some = refl
+  goals_are : (old new : PlainCases) (goals : List Goal) (placed : List Placed) → AllSteps Is old goals new placed → goals ≡ goals_of placed
+  goals_are old new [] placed are = ap goals_of (sym are.0)
+  goals_are old new (goal ∷ goals) placed are =
+      ap (λ (l : List Goal). goal ∷ l) (goals_are are.0 new goals are.2 are.5) ∙ ap (λ (x : Goal). x ∷ goals_of are.2) (sym are.4.is_of) ∙ ap goals_of (sym are.3)
 
-pub no_texts_of_goals : (plan : Plan) → IsSome plan.closed → goal_texts (choice_in plan) ≡ None
-no_texts_of_goals plan some = no_texts_by plan.closed (texts_in plan) some
+module _ (plan : Plan) (of : Weighed) (before after : PlainCases) (all : List Placed) where
+  -- of all these goals some are joined, and these are left
+  pub record AreJoining (left : List Placed) (rendered : List (Option Rendered)) (entries : List MadeEntry) : Type 0 where
+    pub done : List Goal
+    pub rest : List Goal
+    pub mid : PlainCases
+    pub split : goals_of all ≡ done ++ rest
+    pub made : AreMade plan of before done mid entries
+    pub are : AllSteps (Is plan of) mid rest after left
+    pub are_rendered : AreRendered (means_in plan.form) left rendered
 
--- the entries of all that were taken are the next
-pub are_next : (plan : Plan) (old new : ToJudge) (positives : List Positive) (entries : List GoalEntry) → old.goals ≡ goals_of positives ++ new.goals → (positives ≡ [] → old.goals ≡ []) → AllZip (IsEntryIn plan old.tables) (goals_of positives) entries → AreNext plan old entries new
-are_next plan old new positives entries split some each = record {
-  goals = goals_of positives;
-  split = split;
-  each = each;
-  some = λ none. some (none_mapped (λ (p : Positive). p.goal) positives (none_zipped (IsEntryIn plan old.tables) (goals_of positives) entries each none));
-}
+  module _ (goals : List Goal) (placed : List Placed) (is_all : all ≡ placed) (are : AllSteps (Is plan of) before goals after placed) where
+    same_goals : goals ≡ goals_of all
+    same_goals = goals_are plan of before after goals placed are ∙ ap goals_of (sym is_all)
 
--- and their tokens have names
-pub are_named : (plan : Plan) → IsFile plan.yacc.now → (of : Weighed) → of.grammar ≡ plan.yacc.now.grammar → (positives : List Positive) (entries : List GoalEntry) → All (IsJudged of) positives → AllZip (IsEntryIn plan of) (goals_of positives) entries → All (IsNamedGoalEntry plan.yacc.now) entries
-are_named plan is of same positives entries judged each =
-    let of_grammar = All-weaker (IsJudged of) (λ (p : Positive). IsGoal of.grammar p.goal) (λ p j. j.0) positives judged in
-    all_by_zip (IsEntryIn plan of) (IsGoal of.grammar) (IsNamedGoalEntry plan.yacc.now) (λ goal entry is_goal is_entry. named_entry plan.yacc.now is of same (goal_texts (choice_in plan)) (lexemes_in plan) goal entry is_goal is_entry) (goals_of positives) entries (All-map (IsGoal of.grammar) (λ (p : Positive). p.goal) positives of_grammar) each
+    pub joining_none : (rendered answers : List (Option Rendered)) (entries : List MadeEntry) → rendered ≡ answers → entries ≡ [] → AreRendered (means_in plan.form) placed answers → AreJoining all rendered entries
+    joining_none rendered answers entries is_answers none are_rendered = record {
+      done = [];
+      rest = goals;
+      mid = before;
+      split = sym same_goals;
+      made = (none, refl);
+      are = subst (AllSteps (Is plan of) before goals after) (sym is_all) are;
+      are_rendered =
+          subst (λ (l : List Placed). AreRendered (means_in plan.form) l rendered) (sym is_all) (subst (AreRendered (means_in plan.form) placed) (sym is_answers) are_rendered);
+    }
+
+    pub joining_all : (left : List Placed) (rendered : List (Option Rendered)) (entries : List MadeEntry) → AreJoining left rendered entries → left ≡ [] → AreMade plan of before goals after entries
+    joining_all left rendered entries so_far none =
+        let last = no_step (Is plan of) so_far.mid after so_far.rest (subst (AllSteps (Is plan of) so_far.mid so_far.rest after) none so_far.are) in
+        let all_done : goals ≡ so_far.done = same_goals ∙ so_far.split ∙ ap (λ (l : List Goal). so_far.done ++ l) last.0 ∙ append-nil so_far.done in
+        subst (λ (l : List Goal). AreMade plan of before l after entries) (sym all_done) (subst (λ (c : PlainCases). AreMade plan of before so_far.done c entries) (sym last.1) so_far.made)
+
+  module _ (left : List Placed) (rendered : List (Option Rendered)) (entries : List MadeEntry) (so_far : AreJoining left rendered entries) where
+    pub joining_has : (p : Placed) (others : List Placed) → left ≡ p ∷ others → HasItsCase p.verdict p.shared (first_in rendered)
+    joining_has p others is =
+        let first = first_step (Is plan of) so_far.mid after so_far.rest p others (subst (AllSteps (Is plan of) so_far.mid so_far.rest after) is so_far.are) in
+        let answer = first_answer (means_in plan.form) p others rendered (subst (λ (l : List Placed). AreRendered (means_in plan.form) l rendered) is so_far.are_rendered) in
+        case_in plan.form so_far.mid first.mid first.x p (first_in rendered) first.step.shared answer.0
+
+    pub joining_more : (p : Placed) (others : List Placed) (m : MadeEntry) (rendered_left : List (Option Rendered)) (more : List MadeEntry) → left ≡ p ∷ others → m ≡ made_of p (first_in rendered) → rendered_left ≡ rest_of rendered → more ≡ entries ++ m ∷ [] → AreJoining others rendered_left more
+    joining_more p others m rendered_left more is made_is left_is grown =
+        let first = first_step (Is plan of) so_far.mid after so_far.rest p others (subst (AllSteps (Is plan of) so_far.mid so_far.rest after) is so_far.are) in
+        let answer = first_answer (means_in plan.form) p others rendered (subst (λ (l : List Placed). AreRendered (means_in plan.form) l rendered) is so_far.are_rendered) in
+        let one : IsMadeIn plan of so_far.mid first.x first.mid (made_of p (first_in rendered)) = record {
+          of_grammar = first.step.of_grammar;
+          is_of = first.step.is_of;
+          verdict = first.step.verdict;
+          shared = first.step.shared;
+          tokens = first.step.tokens;
+          text = text_in (means_in plan.form) p (first_in rendered) answer.0;
+        } in
+        let made = steps_push (IsMadeIn plan of) before so_far.mid first.mid so_far.done first.x entries m so_far.made (subst (IsMadeIn plan of so_far.mid first.x first.mid) (sym made_is) one) in
+        record {
+          done = so_far.done ++ first.x ∷ [];
+          rest = first.others;
+          mid = first.mid;
+          split = so_far.split ∙ ap (λ (l : List Goal). so_far.done ++ l) first.split ∙ sym (append_assoc so_far.done (first.x ∷ []) first.others);
+          made = subst (AreMade plan of before (so_far.done ++ first.x ∷ []) first.mid) (sym grown) made;
+          are = first.more;
+          are_rendered = subst (AreRendered (means_in plan.form) others) (sym left_is) answer.1;
+        }
+
+-- ---- all of them
+
+-- something is made of all that were placed
+pub record AreAllMade (plan : Plan) (old new : ToJudge) (before after : PlainCases) (placed : List Placed) (entries : List MadeEntry) : Type 0 where
+  pub next : ArePlacedNext (format_by plan.form) old before new after placed
+  pub made : AreMade plan old.tables before next.goals after entries
+
+module _ (plan : Plan) (old new : ToJudge) (before after : PlainCases) (placed : List Placed) (entries : List MadeEntry) (all : AreAllMade plan old new before after placed entries) where
+  -- of each one thing
+  pub as_many_made : length entries ≡ length placed
+  as_many_made =
+      steps_length (IsMadeIn plan old.tables) before after all.next.goals entries all.made
+      ∙ sym (steps_length (IsPlacedGoal (format_by plan.form) old.tables) before after all.next.goals placed all.next.are)
+
+  -- that is next
+  pub are_next : (placed ≡ [] → old.goals ≡ []) → AreNext plan old before entries new after
+  are_next some = record {
+    goals = all.next.goals;
+    split = all.next.split;
+    each = all.made;
+    some = λ none.
+        let nothing : length entries ≡ 0 = ap length none in
+        some (empty placed (length placed) refl (omega (arith, as_many_made, nothing)));
+  }

@@ -1,7 +1,5 @@
-pub mod Zips
+pub mod Steps
 pub mod Making
-pub mod Gathering
-pub mod Joining
-pub mod Sharing
 pub mod Placings
-pub mod Finishing
+pub mod Joining
+pub mod Telling

@@ -1,5 +1,5 @@
 -- What is made of a goal: its tokens have names and are few.
-use Rattle.std.proofs.Common.{◌≡◌, ℕ, ◌≤◌, List, [], ◌∷◌, ◌++◌, length, length-append, refl, sym, ap, ◌∙◌, subst, Option, None, Some, arith}
+use Rattle.std.proofs.Common.{◌≡◌, ℕ, ◌≤◌, Bool, true, false, List, [], ◌∷◌, ◌++◌, length, length-append, refl, sym, ap, ◌∙◌, subst, Option, None, Some, arith}
 use Rattle.std.specs.Prelude.{All}
 use Rattle.std.specs.List.{Contains}
 use Rattle.std.proofs.lemmas.List.Elements.{All-contains, All-nil, Contains-append_left, Contains-append_right, Contains-push}
@@ -16,7 +16,9 @@ use Rattle.cs_goals.specs.declared.goal.Goal.{Goal}
 use Rattle.cs_goals.specs.declared.goal.Goal.TheVariants.{Rule, Context, Pair}
 use Rattle.cs_goals.specs.Goal.{IsGoal, IsLeft, IsRight}
 use Rattle.cs_output.specs.Names.{AreNamedTokens, IsNamedMark, IsNamedToken}
-use Rattle.cs_manifest.specs.Manifest.{AreTokensOf, GoalEntry, IsEntryOf, IsRenderedBy, IsTextOf, Texts}
+use Rattle.cs_cases.specs.Cases.{PlainCases}
+use Rattle.cs_choices.specs.declared.format.Format.{Format}
+use Rattle.cs_manifest.specs.Manifest.{AreTokensOf, IsRenderedBy, IsRenderedIf, Texts}
 use Rattle.cs_manifest.specs.Named.{AreNamedRenderings, IsNamedGoal, IsNamedRendering}
 use Rattle.cs_positive.specs.declared.verdict.Verdict.{Verdict}
 use Rattle.cs_positive.specs.declared.verdict.Verdict.TheVariants.{Feasible, Infeasible, Large}
@@ -25,8 +27,9 @@ use Rattle.cs_positive.proofs.Verdicts.{chosen_met, chosen_least_of}
 use Rattle.cs_render.specs.Rendering.{IsRendered, Rendering, Text, NoLexeme, Differs}
 use Rattle.cs_scan.specs.Scan.{Scanning}
 use Rattle.cs_yacc.specs.File.{File, IsFile}
-use Rattle.cs_plan.specs.Made.{IsNamedGoalEntry}
-use Rattle.cs_plan.specs.Waiting.{HasDerivation}
+use Rattle.cs_plan.specs.Entries.{IsMade}
+use Rattle.cs_plan.specs.Made.{IsNamedMade, MadeEntry, is_asked}
+use Rattle.cs_plan.specs.Placing.{HasDerivation, IsMetBy}
 
 -- a verdict's derivation is one of the start symbol
 pub verdict_derivation : (w : Measure) (g : PlainGrammar) (goal : Goal) (verdict : Verdict) (n : ℕ) (derivation : List ℕ) → verdict ≡ Feasible n derivation → IsVerdict w g goal verdict → IsDerivationOf g derivation
@@ -95,28 +98,27 @@ module _ (file : File) (tokens : List ℕ) (are : AreNamedTokens file tokens) wh
       All-contains (IsNamedToken file) (h.front ++ token ∷ h.behind) token (subst (All (IsNamedToken file)) h.list are) (Contains-append_right h.front (token ∷ h.behind) token here)
   named_rendering s lexemes separator (Differs after) h = tt
 
-  pub none_named : (rendered : Option Rendering) → rendered ≡ None → AreNamedRenderings file rendered
+  none_named : (rendered : Option Rendering) → rendered ≡ None → AreNamedRenderings file rendered
   none_named rendered h = subst (AreNamedRenderings file) (sym h) tt
 
-  pub named_rendered : (texts : Option Texts) (lexemes : Option (List (Option (List ℕ)))) (rendered : Option Rendering) → IsRenderedBy texts lexemes tokens rendered → AreNamedRenderings file rendered
+  named_rendered : (texts : Option Texts) (lexemes : Option (List (Option (List ℕ)))) (rendered : Option Rendering) → IsRenderedBy texts lexemes tokens rendered → AreNamedRenderings file rendered
   named_rendered (Some texts) (Some lexemes) (Some r) h = named_rendering texts.scanning lexemes texts.separator r h
   named_rendered (Some texts) (Some lexemes) None h = absurd h
   named_rendered (Some texts) None rendered h = none_named rendered h
   named_rendered None lexemes rendered h = none_named rendered h
 
-  named_text : (texts : Option Texts) (lexemes : Option (List (Option (List ℕ)))) (verdict : Verdict) (rendered : Option Rendering) → IsTextOf texts lexemes verdict tokens rendered → AreNamedRenderings file rendered
-  named_text texts lexemes (Feasible size derivation) rendered h = named_rendered texts lexemes rendered h
-  named_text texts lexemes Infeasible rendered h = none_named rendered h
-  named_text texts lexemes Large rendered h = none_named rendered h
+  pub named_if : (texts : Option Texts) (lexemes : Option (List (Option (List ℕ)))) (so : Bool) (rendered : Option Rendering) → IsRenderedIf so texts lexemes tokens rendered → AreNamedRenderings file rendered
+  named_if texts lexemes true rendered h = named_rendered texts lexemes rendered h
+  named_if texts lexemes false rendered h = none_named rendered h
 
--- so has an entry
-pub named_entry : (file : File) → IsFile file → (of : Weighed) → of.grammar ≡ file.grammar → (texts : Option Texts) (lexemes : Option (List (Option (List ℕ)))) (goal : Goal) (entry : GoalEntry) → IsGoal of.grammar goal → IsEntryOf of texts lexemes goal entry → IsNamedGoalEntry file entry
-named_entry file is of same texts lexemes goal entry of_grammar h =
-    let tokens = named_tokens file is of.grammar entry.verdict entry.tokens same h.tokens in
+-- so has what is made of a goal
+pub named_made : (file : File) → IsFile file → (format : Format) (texts : Option Texts) (lexemes : Option (List (Option (List ℕ)))) (of : Weighed) → of.grammar ≡ file.grammar → (old : PlainCases) (goal : Goal) (new : PlainCases) (m : MadeEntry) → IsMade format texts lexemes of old goal new m → IsNamedMade file m
+named_made file is format texts lexemes of same old goal new m h =
+    let tokens = named_tokens file is of.grammar m.verdict m.tokens same h.tokens in
     record {
-      goal = subst (IsNamedGoal file) (sym h.is_of) (named_goal file is of.grammar goal same of_grammar);
+      goal = subst (IsNamedGoal file) (sym h.is_of) (named_goal file is of.grammar goal same h.of_grammar);
       tokens = tokens;
-      text = named_text file entry.tokens tokens texts lexemes entry.verdict entry.rendered h.text;
+      text = named_if file m.tokens tokens texts lexemes (is_asked m.verdict m.shared) m.rendered h.text;
     }
 
 -- the tokens of a verdict are few
@@ -130,3 +132,11 @@ pub derived : (w : Measure) (g : PlainGrammar) (goal : Goal) (verdict : Verdict)
 derived w g goal (Feasible n derivation) h = verdict_derivation w g goal (Feasible n derivation) n derivation refl h
 derived w g goal Infeasible h = tt
 derived w g goal Large h = tt
+
+-- a feasible goal is met by the derivation of its verdict
+pub met_by : (w : Measure) (g : PlainGrammar) (goal : Goal) (verdict : Verdict) → IsVerdict w g goal verdict → IsMetBy g goal verdict
+met_by w g goal (Feasible n derivation) h =
+    let met = chosen_met w g goal h.2.0 h.2.1 in
+    record { tree = h.2.0; is_tree = met.0; code = h.2.2; meets = met.1 }
+met_by w g goal Infeasible h = tt
+met_by w g goal Large h = tt

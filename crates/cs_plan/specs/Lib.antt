@@ -1,6 +1,5 @@
 pub mod Plans
-pub mod Waiting
+pub mod Steps
 pub mod Made
-pub mod Joined
+pub mod Entries
 pub mod Placing
-pub mod Batches

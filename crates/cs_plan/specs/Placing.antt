@@ -1,24 +1,30 @@
--- Goals that are placed among cases, the token lists of the new ones, and what came of these. Working words of proofs.
-use Rattle.std.specs.Prelude.{◌≡◌, ℕ, Bool, true, false, List, [], ◌∷◌, ◌++◌, map, All, Option, None, Some, option_map}
-use Rattle.std.specs.Global.{Global, Vec}
-use Rattle.std.specs.Vec.Iter.{into_iter_items}
-use Rattle.std.specs.declared.vec.IntoIter.{IntoIter}
+-- Goals that are placed among cases, and what came of rendering their tokens. Working words of proofs.
+use Rattle.std.specs.Prelude.{◌≡◌, ℕ, Bool, true, false, List, [], ◌∷◌, ◌++◌, All, Option, None, Some, IfSome, IsSomeAnd}
+use Rattle.std.specs.Global.{Vec}
+use Rattle.std.specs.List.{AllZip}
 use Rattle.cs_grammar.specs.Grammar.{PlainGrammar}
+use Rattle.cs_grammar.specs.Tree.{IsDerivationOf}
+use Rattle.cs_grammar.specs.Weights.{Weighed}
 use Rattle.cs_goals.specs.declared.goal.Goal.{Goal}
+use Rattle.cs_goals.specs.Goal.{IsGoal}
 use Rattle.cs_goals.specs.Meets.{IsMeeting}
 use Rattle.cs_cases.specs.Cases.{PlainCases}
-use Rattle.cs_manifest.specs.declared.entry.SharedVerdict.{SharedVerdict}
-use Rattle.cs_manifest.specs.Manifest.{AreTokensOf, IsSharedVerdict, SharedEntry, is_new}
+use Rattle.cs_choices.specs.declared.format.Format.{Format}
+use Rattle.cs_manifest.specs.Manifest.{AreTokensOf}
 use Rattle.cs_positive.specs.declared.positive.Positive.{Positive}
 use Rattle.cs_positive.specs.declared.verdict.Verdict.{Verdict}
 use Rattle.cs_positive.specs.declared.verdict.Verdict.TheVariants.{Feasible, Infeasible, Large}
 use Rattle.cs_positive.specs.Positives.{ToJudge}
+use Rattle.cs_positive.specs.Verdict.{IsVerdictIn}
 use Rattle.cs_render.specs.declared.rendered.Rendered.{Rendered}
 use Rattle.cs_render.specs.Rendering.{rendering}
+use Rattle.cs_render_work.specs.declared.work.RenderWork.{RenderWork}
+use Rattle.cs_render_work.specs.Renders.{IsRenderedBy, TakesTokens}
 use Rattle.cs_plan.specs.declared.placing.Placed.{Placed}
-use Rattle.cs_plan.specs.declared.placing.Placing.{Placing}
-use Rattle.cs_plan.specs.Joined.{AreOfOneKind, entry_with}
-use Rattle.cs_plan.specs.Waiting.{IsJudged, goals_of}
+use Rattle.cs_plan.specs.declared.plan.Means.{Means}
+use Rattle.cs_plan.specs.Entries.{IsSharedIn}
+use Rattle.cs_plan.specs.Made.{is_asked}
+use Rattle.cs_plan.specs.Steps.{AllSteps}
 
 -- a feasible goal is met by its derivation
 abbrev pub IsMetBy : PlainGrammar → Goal → Verdict → Type 0
@@ -26,92 +32,58 @@ IsMetBy g goal (Feasible size derivation) = IsMeeting g goal derivation
 IsMetBy g goal Infeasible = Unit {0}
 IsMetBy g goal Large = Unit {0}
 
--- the verdict of a goal in the second format, from the cases before it to those behind it
-abbrev pub IsSharedVerdictOf : Positive → PlainCases → PlainCases → SharedVerdict → Type 0
-IsSharedVerdictOf p old new verdict = IsSharedVerdict old p.goal p.verdict new verdict
+-- a feasible goal's derivation is one of the grammar
+abbrev pub HasDerivation : PlainGrammar → Verdict → Type 0
+HasDerivation g (Feasible size derivation) = IsDerivationOf g derivation
+HasDerivation g Infeasible = Unit {0}
+HasDerivation g Large = Unit {0}
 
--- the tokens of a new case are a list of their own, those of other goals are kept
-abbrev pub HasTokens : PlainGrammar → Bool → Verdict → List ℕ → List (Vec ℕ) → Type 0
-HasTokens g true verdict kept own = (list : Vec ℕ) × (own ≡ list ∷ []) × AreTokensOf g verdict list.items
-HasTokens g false verdict kept own = (own ≡ []) × AreTokensOf g verdict kept
+-- the goal was placed so, from the cases before it to those behind it
+pub record IsPlacedAs (g : PlainGrammar) (format : Format) (old : PlainCases) (positive : Positive) (new : PlainCases) (p : Placed) : Type 0 where
+  pub goal : p.goal ≡ positive.goal
+  pub verdict : p.verdict ≡ positive.verdict
+  pub shared : IsSharedIn format old positive.goal positive.verdict new p.shared
+  pub tokens : AreTokensOf g positive.verdict p.tokens.items
 
--- the goal has its verdict in the second format, from the cases before it to those behind it, and its tokens
-pub record IsPlacedGoal (g : PlainGrammar) (old : PlainCases) (p : Placed) (new : PlainCases) (own : List (Vec ℕ)) : Type 0 where
-  pub verdict : IsSharedVerdictOf p.positive old new p.verdict
-  pub tokens : HasTokens g (is_new p.verdict) p.positive.verdict p.tokens.items own
+-- a goal of the grammar with its verdict was placed so
+pub record IsPlacedGoal (format : Format) (of : Weighed) (old : PlainCases) (goal : Goal) (new : PlainCases) (p : Placed) : Type 0 where
+  pub of_grammar : IsGoal of.grammar goal
+  pub is_of : p.goal ≡ goal
+  pub verdict : IsVerdictIn of goal p.verdict
+  pub shared : IsSharedIn format old goal p.verdict new p.shared
+  pub tokens : AreTokensOf of.grammar p.verdict p.tokens.items
 
--- goals in order, from the cases before them to those behind them; the lists are those of the new cases
-abbrev pub ArePlaced : PlainGrammar → PlainCases → List Placed → PlainCases → List (Vec ℕ) → Type 0
-ArePlaced g old [] new lists = (new ≡ old) × (lists ≡ [])
-ArePlaced g old (p ∷ rest) new lists =
-    (mid : PlainCases) × (own : List (Vec ℕ)) × (others : List (Vec ℕ)) × (lists ≡ own ++ others) × IsPlacedGoal g old p mid own
-    × ArePlaced g mid rest new others
+-- these are the first goals that were left, placed so, and those behind them are left
+pub record ArePlacedNext (format : Format) (old : ToJudge) (before : PlainCases) (new : ToJudge) (after : PlainCases) (placed : List Placed) : Type 0 where
+  pub goals : List Goal
+  pub split : old.goals ≡ goals ++ new.goals
+  pub are : AllSteps (IsPlacedGoal format old.tables) before goals after placed
 
--- tokens are kept, unless they are those of a new case, which become the last list
-abbrev pub Keeps : Bool → Vec ℕ → List (Vec ℕ) → Vec ℕ → List (Vec ℕ) → Type 0
-Keeps true tokens old kept new = new ≡ old ++ tokens ∷ []
-Keeps false tokens old kept new = (new ≡ old) × (kept ≡ tokens)
+abbrev pub PlacesNext : Format → ToJudge → PlainCases → ToJudge → PlainCases → Vec Placed → Type 0
+PlacesNext format old before new after placed = ArePlacedNext format old before new after placed.items
 
--- one goal more at the end, with its list, where its case is new
-pub record AddsGoal (positive : Positive) (old : PlainCases) (before : Placing) (new : PlainCases) (after : Placing) : Type 0 where
-  pub placed : Placed
-  pub own : List (Vec ℕ)
-  pub is_of : placed.positive ≡ positive
-  pub is_placed : IsPlacedGoal old.grammar old placed new own
-  pub goals : after.goals.items ≡ before.goals.items ++ placed ∷ []
-  pub lists : after.lists.items ≡ before.lists.items ++ own
+-- ---- what came of the tokens
 
-abbrev pub positives_in : List Placed → List Positive
-positives_in placed = map (λ p. p.positive) placed
+-- where lists are rendered, these can be
+abbrev pub AreTaken : Option Means → List Placed → Type 0
+AreTaken means placed = IfSome means (λ m. All (λ p. TakesTokens m.work.now p.tokens.items) placed)
 
--- these were the first goals and have these verdicts and lists, and those behind them are left
-pub record ArePlacedNext (old : ToJudge) (before : PlainCases) (placed : List Placed) (lists : List (Vec ℕ)) (new : ToJudge) (after : PlainCases) : Type 0 where
-  pub split : old.goals ≡ goals_of (positives_in placed) ++ new.goals
-  pub judged : All (IsJudged old.tables) (positives_in placed)
-  pub are_placed : ArePlaced old.tables.grammar before placed after lists
+-- this came of the tokens, where their rendering is asked for
+abbrev pub IsRenderedIf : Bool → RenderWork → List ℕ → Option Rendered → Type 0
+IsRenderedIf true work tokens rendered = IsSomeAnd rendered (λ r. IsRenderedBy work tokens (rendering r))
+IsRenderedIf false work tokens rendered = rendered ≡ None
 
-abbrev pub PlacesNext : ToJudge → PlainCases → Placing → ToJudge → PlainCases → Type 0
-PlacesNext old before placing new after = ArePlacedNext old before placing.goals.items placing.lists.items new after
+-- this came of each goal's tokens; without means nothing
+abbrev pub AreRendered : Option Means → List Placed → List (Option Rendered) → Type 0
+AreRendered None placed rendered = rendered ≡ []
+AreRendered (Some means) placed rendered =
+    AllZip (λ p r. IsRenderedIf (is_asked p.verdict p.shared) means.work.now p.tokens.items r) placed rendered
 
--- a new case has a list, and a rendering of it
-abbrev pub HasBothIf : Bool → List (Vec ℕ) → List Rendered → Type 0
-HasBothIf true lists rendered =
-    ((first : Vec ℕ) × (rest : List (Vec ℕ)) × (lists ≡ first ∷ rest)) × ((first : Rendered) × (rest : List Rendered) × (rendered ≡ first ∷ rest))
-HasBothIf false lists rendered = Unit {0}
+-- what comes first, and what is left then
+abbrev pub first_in : List (Option Rendered) → Option Rendered
+first_in [] = None
+first_in (first ∷ rest) = first
 
-abbrev pub CanFinish : Placed → List (Vec ℕ) → List Rendered → Type 0
-CanFinish p lists rendered = AreOfOneKind p.positive.verdict p.verdict × HasBothIf (is_new p.verdict) lists rendered
-
--- the goal with these tokens, and what came of them
-abbrev pub shared_with : Positive → SharedVerdict → List ℕ → Option Rendered → SharedEntry
-shared_with positive verdict tokens rendered = record {
-  entry = entry_with positive tokens None;
-  verdict = verdict;
-  rendered = option_map rendering rendered;
-}
-
--- the first list, and what came first
-pub record FinishesNew (p : Placed) (lists : List (Vec ℕ)) (rendered : List Rendered) (s : SharedEntry) (lists_left : List (Vec ℕ)) (rendered_left : List Rendered) : Type 0 where
-  pub list : Vec ℕ
-  pub answer : Rendered
-  pub first : lists ≡ list ∷ lists_left
-  pub taken : rendered ≡ answer ∷ rendered_left
-  pub made : s ≡ shared_with p.positive p.verdict list.items (Some answer)
-
--- what was kept
-pub record FinishesOld (p : Placed) (lists : List (Vec ℕ)) (rendered : List Rendered) (s : SharedEntry) (lists_left : List (Vec ℕ)) (rendered_left : List Rendered) : Type 0 where
-  pub same_lists : lists_left ≡ lists
-  pub same_rendered : rendered_left ≡ rendered
-  pub made : s ≡ shared_with p.positive p.verdict p.tokens.items None
-
-abbrev pub FinishesIf : Bool → Placed → List (Vec ℕ) → List Rendered → SharedEntry → List (Vec ℕ) → List Rendered → Type 0
-FinishesIf true p lists rendered s lists_left rendered_left = FinishesNew p lists rendered s lists_left rendered_left
-FinishesIf false p lists rendered s lists_left rendered_left = FinishesOld p lists rendered s lists_left rendered_left
-
--- a new case takes the first list and what came of it, another goal takes none
-abbrev pub Finishes : Placed → List (Vec ℕ) → List Rendered → SharedEntry → List (Vec ℕ) → List Rendered → Type 0
-Finishes p lists rendered s lists_left rendered_left = FinishesIf (is_new p.verdict) p lists rendered s lists_left rendered_left
-
-abbrev pub IsFinished : Placed → IntoIter (Vec ℕ) Global → IntoIter Rendered Global → SharedEntry → IntoIter (Vec ℕ) Global → IntoIter Rendered Global → Type 0
-IsFinished p lists rendered s lists_left rendered_left =
-    Finishes p (into_iter_items lists) (into_iter_items rendered) s (into_iter_items lists_left) (into_iter_items rendered_left)
+abbrev pub rest_of : List (Option Rendered) → List (Option Rendered)
+rest_of [] = []
+rest_of (first ∷ rest) = rest

@@ -1,27 +1,24 @@
-//! The entries of a manifest, made batch by batch: each goal's verdict, the tokens of its derivation, and what came of their
-//! rendering, which several workers share.
+//! The entries of a manifest, made batch by batch: each goal's verdict, the tokens of its derivation, and what came of
+//! their rendering, which several workers share.
 //!
-//! The layer above makes a [`Plan`] of a yacc file, the criteria, what texts are rendered with, the [`Mutation`] that negatives
-//! are made by, what sizes count, and in the second format the closed sets of the grammar. Its `head` begins the manifest. In
-//! the first format [`next_entries`] gives the entries of the next goals until none comes. In the second [`next_shared`] does,
-//! which places their derivations among the cases; only the tokens of new cases are rendered then. A [`Made`] lends itself as
-//! the entry of a manifest, a [`MadeShared`] as that of its case, where that is new, and as that of its goal; and both lend
-//! their tokens as those of a base.
+//! The layer above makes a [`Plan`] of a yacc file, the criteria and the form of the manifest: a suite has [`Means`], what
+//! texts are rendered with, the [`Mutation`] that negatives are made by, and what sizes count; and in the second format
+//! the closed sets of the grammar. The plan's `head` begins the manifest. [`next_entries`] gives what is [`Made`] of the
+//! next goals, until nothing comes. In the second format it places their derivations among the cases, and only the tokens
+//! of new cases are rendered. A [`Made`] lends itself as the entry of its case, where that is new, and as that of its
+//! goal, and its tokens as those of a base.
 //!
-//! Meaning: `specs/Plans` (what a plan chooses, and which text is its manifest), `Batches` (which entries come next), `Made` (what
-//! an entry says of its goal). Working words of proofs: `Waiting`, `Placing`, `Joined`. The lemmas of `proofs/Sharing` are for the
-//! layer above.
+//! Meaning: `specs/Plans` (what a plan chooses, and which text is its manifest), `Made` (what is made of a goal, and what
+//! its entries say), `Entries` (which of these come next). Working words of proofs: `Steps`, `Placing`. The lemmas of
+//! `proofs/Telling` are for the layer above.
 #![tactic(auto)]
 
-mod batch;
+mod entries;
 mod made;
 mod placing;
 mod plan;
-mod shared;
 mod texts;
-mod waiting;
 
-pub use batch::next_entries;
+pub use entries::next_entries;
 pub use made::Made;
-pub use plan::{Mutation, Plan};
-pub use shared::{MadeShared, next_shared};
+pub use plan::{Means, Mutation, Plan, PlanForm};

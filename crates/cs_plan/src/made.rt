@@ -1,56 +1,79 @@
-// The entries of goals.
+// What is made of a goal.
 
 ghost use Rattle.std.specs.Prelude.{◌≡◌, IfNone, IfSome, false, true};
-ghost use Rattle.std.specs.Vec.Iter.{into_iter_items};
 ghost use Rattle.cs_manifest.specs.Lines.{is_feasible};
-ghost use Rattle.cs_plan.specs.Joined.{HasListIn, IsJoined, TakesFirst};
-ghost use Rattle.cs_plan.specs.Made.{CountsByVerdict, HasGoalLines, HasGoalNames};
+ghost use Rattle.cs_plan.specs.Made.{CountsByVerdict, CountsCase, HasCaseLines, HasGoalLines, HasItsNames};
+ghost use Rattle.cs_plan.specs.Made.{HasNoCaseLines, has_new_case};
 
-use cs_goals::Goal;
-use cs_manifest::Entry;
-use cs_positive::{Positive, Verdict};
+use crate::placing::Placed;
+use cs_manifest::{Entry, SharedVerdict};
+use cs_positive::Verdict;
 use cs_render::Rendered;
-use std::alloc::Global;
 use std::marker::Model;
-use std::vec::IntoIter;
 
-/// A goal with its verdict, the tokens of its derivation, where it has one, and what came of their rendering.
+/// A goal with its verdict, in the second format also its verdict there, and the tokens of its derivation, where it has
+/// one; and what came of their rendering: in the first format of those of a feasible goal, in the second of a new case.
 #[derive(Drop)]
 pub struct Made {
-    pub(crate) goal: Goal,
-    pub(crate) verdict: Verdict,
-    pub(crate) tokens: Vec<u16>,
+    pub(crate) placed: Placed,
     pub(crate) rendered: Option<Rendered>,
 }
 
 impl Model for Made {
-    ghost use Rattle.std.specs.Prelude.{option_map};
-    ghost use Rattle.cs_manifest.specs.Manifest.{GoalEntry};
-    ghost use Rattle.cs_render.specs.Rendering.{rendering};
+    ghost use Rattle.cs_plan.specs.Made.{HasItsCase, MadeEntry, made_of};
 
-    ghost Value = { GoalEntry };
+    ghost Value = { MadeEntry };
 
-    ghost view = { λ m. record {
-      goal = m.goal;
-      verdict = m.verdict;
-      tokens = m.tokens.items;
-      rendered = option_map rendering m.rendered;
-    } };
+    ghost view = { λ m. made_of m.placed m.rendered };
+
+    ghost invariant = { λ m. HasItsCase m.placed.verdict m.placed.shared m.rendered };
 }
 
 impl Made {
-    /// Its entry in a manifest, with its number from 1.
-    pub fn entry(&self, number: u64) -> Entry<'_>
+    /// The entry of its case, where that is new. The first format has no cases.
+    pub fn case(&self) -> Option<Entry<'_>>
+        ensures lines { IfSome result (HasCaseLines self.now) }
+        ensures counts { IfSome result CountsCase }
+        ensures named { IfSome result (HasItsNames self.now) }
+        ensures is_new { IfSome result (λ _. has_new_case self.now.shared ≡ true) }
+        ensures none { IfNone result (has_new_case self.now.shared ≡ false) }
+        ensures no_lines { IfNone result (HasNoCaseLines self.now) }
+    {
+        match (&self.placed.verdict, &self.placed.shared, &self.rendered) {
+            (
+                Verdict::Feasible { derivation, .. },
+                Some(SharedVerdict::Feasible { size, named }),
+                Some(rendered),
+            ) => Some(Entry::Case {
+                number: named.case,
+                size: *size,
+                derivation,
+                tokens: &self.placed.tokens,
+                rendered,
+            }),
+            _ => None,
+        }
+    }
+
+    /// The entry of the goal, with its number from 1.
+    pub fn goal(&self, number: u64) -> Entry<'_>
         ensures lines { HasGoalLines self.now number result }
         ensures counts { CountsByVerdict self.now.verdict result }
-        ensures named { HasGoalNames self.now result }
+        ensures named { HasItsNames self.now result }
     {
-        Entry::Goal {
-            number,
-            goal: &self.goal,
-            verdict: &self.verdict,
-            tokens: &self.tokens,
-            rendered: self.rendered.as_ref(),
+        match self.placed.shared {
+            None => Entry::Goal {
+                number,
+                goal: &self.placed.goal,
+                verdict: &self.placed.verdict,
+                tokens: &self.placed.tokens,
+                rendered: self.rendered.as_ref(),
+            },
+            Some(verdict) => Entry::Shared {
+                number,
+                goal: &self.placed.goal,
+                verdict,
+            },
         }
     }
 
@@ -60,42 +83,9 @@ impl Made {
         ensures tokens { IfSome result (λ tokens. tokens.now ≡ self.now.tokens) }
         ensures none { IfNone result (is_feasible self.now.verdict ≡ false) }
     {
-        match &self.verdict {
-            Verdict::Feasible { .. } => Some(&self.tokens),
+        match &self.placed.verdict {
+            Verdict::Feasible { .. } => Some(&self.placed.tokens),
             Verdict::Infeasible | Verdict::Large => None,
         }
     }
-}
-
-/// A goal with the first of the lists and the first of what came of them, where it is feasible.
-pub(crate) fn join(
-    alloc: Global,
-    positive: Positive,
-    lists: &mut IntoIter<Vec<u16>, Global>,
-    rendered: &mut IntoIter<Rendered, Global>,
-) -> Made
-    requires { HasListIn positive.verdict (into_iter_items lists.old) }
-    ensures { IsJoined positive lists.old rendered.old result lists.new rendered.new }
-{
-    let Positive { goal, verdict } = positive;
-    match verdict {
-        Verdict::Feasible { size, derivation } => Made {
-            goal,
-            verdict: Verdict::Feasible { size, derivation },
-            tokens: take_first(lists).unwrap(),
-            rendered: take_first(rendered),
-        },
-        verdict => Made {
-            goal,
-            verdict,
-            tokens: Vec::new(alloc),
-            rendered: None,
-        },
-    }
-}
-
-pub(crate) fn take_first<T>(left: &mut IntoIter<T, Global>) -> Option<T>
-    ensures { TakesFirst (into_iter_items left.old) result (into_iter_items left.new) }
-{
-    left.next()
 }

@@ -1,10 +1,12 @@
-// The texts of token lists.
+// The texts of goals that were placed.
 
 ghost use Rattle.std.specs.Prelude.{◌≤◌, length, IfOk};
-ghost use Rattle.cs_plan.specs.Waiting.{AreRenderingsOf, TakesLists};
+ghost use Rattle.cs_plan.specs.Placing.{AreRendered, AreTaken};
 
-use cs_fan::{Counter, Gate, fan};
-use cs_render::Rendered;
+use crate::placing::Placed;
+use crate::plan::Means;
+use cs_fan::{Counter, Gate, Work, fan};
+use cs_render::{Rendered, render};
 use cs_render_work::RenderWork;
 use std::alloc::{AllocError, Global};
 use std::thread::Threads;
@@ -12,23 +14,48 @@ use std::thread::Threads;
 // So many workers share a batch.
 const WORKERS: u16 = 4;
 
-/// What comes of rendering each list, in order. None where nothing is rendered.
-pub(crate) fn render_lists<R: Threads + Sync, G: Gate + Sync>(
+/// The work takes goals whose tokens can be rendered, and renders these where that is asked for.
+impl<'a> Work<Placed, Option<Rendered>> for RenderWork<'a> {
+    ghost use Rattle.cs_render_work.specs.Renders.{TakesTokens};
+    ghost use Rattle.cs_plan.specs.Made.{is_asked};
+    ghost use Rattle.cs_plan.specs.Placing.{IsRenderedIf};
+
+    ghost takes = { λ work p. TakesTokens work p.tokens.items };
+
+    ghost answers = { λ work p r. IsRenderedIf (is_asked p.verdict p.shared) work p.tokens.items r };
+
+    fn one(&self, alloc: Global, item: &Placed) -> Result<Option<Rendered>, AllocError> {
+        if !item.is_asked() {
+            return Ok(None);
+        }
+        let rendered = render(
+            alloc,
+            self.scanner,
+            self.lexemes,
+            self.separator,
+            &item.tokens,
+        )?;
+        Ok(Some(rendered))
+    }
+}
+
+/// What comes of the rendering of each goal's tokens, in order. Without means nothing is rendered, and nothing comes.
+pub(crate) fn render_placed<R: Threads + Sync, G: Gate + Sync>(
     rt: &R,
     alloc: Global,
-    texts: Option<&RenderWork<'_>>,
-    lists: &[Vec<u16>],
+    means: Option<Means<'_>>,
+    placed: &[Placed],
     gate: &G,
-) -> Result<Vec<Rendered>, AllocError>
-    requires takes { TakesLists texts lists.now }
-    requires few { length lists.now ≤ 1024 }
-    ensures { IfOk result (λ rendered. AreRenderingsOf texts.entry lists.now rendered.items) }
+) -> Result<Vec<Option<Rendered>>, AllocError>
+    requires takes { AreTaken means placed.now }
+    requires few { length placed.now ≤ 1024 }
+    ensures { IfOk result (λ rendered. AreRendered means.entry placed.now rendered.items) }
 {
-    match texts {
+    match means {
         None => Ok(Vec::new(alloc)),
-        Some(work) => {
-            let (counter, mut seat) = Counter::new(alloc, lists.len() as u32, WORKERS)?;
-            fan(rt, alloc, lists, work, gate, &counter, &mut seat)
+        Some(means) => {
+            let (counter, mut seat) = Counter::new(alloc, placed.len() as u32, WORKERS)?;
+            fan(rt, alloc, placed, means.work, gate, &counter, &mut seat)
         }
     }
 }

@@ -1,6 +1,6 @@
 pub mod Choices
+pub mod Formats
 pub mod Halts
 pub mod Numbers
 pub mod Parts
-pub mod Sets
 pub mod Summaries

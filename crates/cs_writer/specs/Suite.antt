@@ -1,13 +1,11 @@
 -- The manifests that `rules` and `suite` write.
-use Rattle.std.specs.Prelude.{◌≡◌, ℕ, List, Option, None, Some, IsSomeAnd}
-use Rattle.cs_closed.specs.Closed.{AreClosedSets, ClosedSets}
+use Rattle.std.specs.Prelude.{ℕ, List, Some}
+use Rattle.std.specs.Borrow.{Bor}
 use Rattle.cs_ending.specs.Files.{choice_of}
 use Rattle.cs_input.specs.declared.judging.Pair.{Pair}
-use Rattle.cs_grammar.specs.Grammar.{PlainGrammar}
-use Rattle.cs_grammar.specs.Weights.{Measure}
-use Rattle.cs_choices.specs.declared.format.Format.{Format}
-use Rattle.cs_choices.specs.declared.format.Format.TheVariants.{One, Two}
+use Rattle.cs_grammar.specs.Weights.{Measure, Weighed}
 use Rattle.cs_manifest.specs.Manifest.{Choice, IsManifest, measure_of, rules_form}
+use Rattle.cs_plan.specs.declared.plan.Means.{Means}
 use Rattle.cs_plan.specs.Plans.{texts_of}
 use Rattle.cs_render_work.specs.declared.work.RenderWork.{RenderWork}
 use Rattle.cs_words.specs.declared.options.Options.{Options}
@@ -40,7 +38,10 @@ IsBy work file options text = IsManifest (choice_with options work) file text
 abbrev pub measure_by : Options → File → RenderWork → Measure
 measure_by options file work = measure_of options.weigh file.grammar.tokens (Some work.lexemes.now)
 
--- in the second format there are closed sets of the grammar, and else none
-abbrev pub HasSetsBy : Format → PlainGrammar → Option ClosedSets → Type 0
-HasSetsBy One g closed = closed ≡ None
-HasSetsBy Two g closed = IsSomeAnd closed (AreClosedSets g)
+-- what the options' suite is made by, with these texts and pairs
+abbrev pub means_by : Options → Bor RenderWork → Bor Weighed → Means
+means_by options work pairs = record {
+  work = work;
+  mutation = record { pairs = pairs; operators = options.operators; most = options.bases };
+  weigh = options.weigh;
+}

@@ -6,13 +6,13 @@ ghost use Rattle.cs_writer.specs.Suite.{IsRules};
 ghost use Rattle.cs_writing.specs.declared.halt.Halt.TheVariants.{Failed};
 ghost use Rattle.cs_writing.specs.Writing.{IsCalmForAll, MetFault, MetNone, Stopped, TookFront, TookOne};
 
-use cs_choices::{Criteria, Weigh};
+use cs_choices::Criteria;
 use cs_cost::Costs;
 use cs_embed::Embeds;
 use cs_fan::Gate;
 use cs_grammar::Weights;
 use cs_io::Sink;
-use cs_plan::Plan;
+use cs_plan::{Plan, PlanForm};
 use cs_positive::Positives;
 use cs_writing::{Halt, write_out};
 use cs_yacc::YaccFile;
@@ -65,10 +65,7 @@ fn write_rule_goals<'f, R: Threads + Sync, O: Sink, G: Gate + Sync>(
     let plan = Plan {
         yacc: file,
         criteria: RULE_GOALS,
-        texts: None,
-        mutation: None,
-        weigh: Weigh::Nodes,
-        closed: None,
+        form: PlanForm::Rules,
     };
     let positives = Positives::of_trees(&costs, &embeds, RULE_GOALS);
     write_out(rt, alloc, &plan, positives, out, gate)?;

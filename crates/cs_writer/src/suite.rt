@@ -1,21 +1,21 @@
 // The writer of `suite`.
 
-ghost use Rattle.std.specs.Prelude.{◌≡◌, ◌⊎◌, IfOk, OnErr, OnOk, Some};
+ghost use Rattle.std.specs.Prelude.{◌≡◌, ◌⊎◌, IfOk, OnErr, OnOk};
 ghost use Rattle.cs_input.specs.Refusal.{HasManyStates};
 ghost use Rattle.cs_choices.specs.declared.format.Format.TheVariants.{One};
 ghost use Rattle.cs_plan.specs.Plans.{CanRender};
 ghost use Rattle.cs_writer.specs.declared.halt.SuiteHalt.TheVariants.{Failed, Memory, States};
 ghost use Rattle.cs_writer.specs.Refusals.{Stopped};
-ghost use Rattle.cs_writer.specs.Suite.{HasSetsBy, IsBy, IsSuite, measure_by};
+ghost use Rattle.cs_writer.specs.Suite.{IsBy, IsSuite, means_by, measure_by};
 ghost use Rattle.cs_writing.specs.declared.halt.Halt.TheVariants as halt;
 ghost use Rattle.cs_writing.specs.Writing as writing;
 ghost use Rattle.cs_writing.specs.Writing.{CountsOfAll, HasNoCases, IsCalmForAll, MetFault, MetNone, TookFront, TookOne};
 ghost use Rattle.cs_yacc.specs.File.{IsFile};
 
-use cs_choices::Format;
 use crate::halt::SuiteHalt;
 use crate::weights::weights_of;
 use cs_automaton::Automaton;
+use cs_choices::Format;
 use cs_closed::Closed;
 use cs_fan::Gate;
 use cs_grammar::Weights;
@@ -23,14 +23,15 @@ use cs_input::Pair;
 use cs_io::Sink;
 use cs_lexeme::Lexemes;
 use cs_manifest::Counts;
-use cs_plan::{Mutation, Plan};
+use cs_pairs::Pairs;
+use cs_plan::{Means, Mutation, Plan, PlanForm};
 use cs_positive::{Positives, Tables};
 use cs_render_work::RenderWork;
 use cs_scan::Scanner;
 use cs_words::Options;
 use cs_writing::{Halt, write_out};
 use cs_yacc::YaccFile;
-use std::alloc::{AllocError, Global};
+use std::alloc::Global;
 use std::thread::Threads;
 
 /// Writes the manifest of a yacc file and a lex file by what the options choose, and answers the
@@ -91,7 +92,7 @@ fn write_goals<'f, R: Threads + Sync, O: Sink, G: Gate + Sync>(
     gate: &G,
 ) -> Result<Counts, Halt>
     requires weights { weights.now ≡ measure_by options.now file.now work.now }
-    requires work { CanRender file.now (Some work) }
+    requires work { CanRender file.now work.now }
     ensures ok { OnOk result
         (TookOne O.Sink (IsBy work.now file.now options.now) out.old out.new) }
     ensures counts { IfOk result (CountsOfAll (IsBy work.now file.now options.now)) }
@@ -103,33 +104,39 @@ fn write_goals<'f, R: Threads + Sync, O: Sink, G: Gate + Sync>(
     ensures room { IsCalmForAll O.Sink (IsBy work.now file.now options.now) out.old out.new }
 {
     let tables = Tables::new(alloc, file.grammar(), weights)?;
-    let closed = closed_sets(alloc, options.format, &tables)?;
-    let plan = Plan {
-        yacc: file,
-        criteria: options.criteria,
-        texts: Some(work),
-        mutation: Some(Mutation {
-            pairs: tables.pairs(),
-            operators: options.operators,
-            most: options.bases as u32,
-        }),
-        weigh: options.weigh,
-        closed: closed.as_ref(),
-    };
     let positives = Positives::new(&tables, options.criteria);
-    write_out(rt, alloc, &plan, positives, out, gate)
+    match options.format {
+        Format::One => {
+            let plan = Plan {
+                yacc: file,
+                criteria: options.criteria,
+                form: PlanForm::Suite(means_of(options, work, tables.pairs())),
+            };
+            write_out(rt, alloc, &plan, positives, out, gate)
+        }
+        Format::Two => {
+            let closed = Closed::new(alloc, &tables)?;
+            let plan = Plan {
+                yacc: file,
+                criteria: options.criteria,
+                form: PlanForm::Shared(means_of(options, work, tables.pairs()), &closed),
+            };
+            write_out(rt, alloc, &plan, positives, out, gate)
+        }
+    }
 }
 
-// The closed sets of the grammar, where the format has them.
-fn closed_sets(
-    alloc: Global,
-    format: Format,
-    tables: &Tables<'_>,
-) -> Result<Option<Closed>, AllocError>
-    ensures { IfOk result (HasSetsBy format tables.now.grammar) }
+// What the options' suite is made by, with these texts and pairs.
+fn means_of<'a>(options: &Options, work: &'a RenderWork<'a>, pairs: &'a Pairs<'a>) -> Means<'a>
+    ensures { result ≡ means_by options.now work.entry pairs.entry }
 {
-    match format {
-        Format::One => Ok(None),
-        Format::Two => Ok(Some(Closed::new(alloc, tables)?)),
+    Means {
+        work,
+        mutation: Mutation {
+            pairs,
+            operators: options.operators,
+            most: options.bases as u32,
+        },
+        weigh: options.weigh,
     }
 }

@@ -1,29 +1,17 @@
--- Entries in the second format: how they are counted, and those of two lists.
-use Rattle.std.proofs.Common.{◌≡◌, ◌≤◌, ℕ, ◌+◌, Bool, false, List, [], ◌∷◌, ◌++◌, length, refl, sym, ap, ◌∙◌, subst, Option, arith}
-use Rattle.std.specs.Prelude.{All, if◌then◌else◌}
-use Rattle.std.proofs.lemmas.List.Sums.{count_by-le-length}
+-- Entries in the second format, and those of two lists; the lines of cases.
+use Rattle.std.proofs.Common.{◌≡◌, ℕ, Bool, false, List, [], ◌∷◌, ◌++◌, length, refl, sym, ap, ◌∙◌, subst, Option, None, Some}
+use Rattle.std.specs.Prelude.{if◌then◌else◌, map}
 use Rattle.std.proofs.lemmas.List.{length-map}
-use Rattle.std.proofs.lemmas.List.Elements.{All-nil, All-cons}
 use Rattle.cs_cases.specs.Cases.{PlainCases}
-use Rattle.cs_goals.specs.declared.goal.Goal.{Goal}
 use Rattle.cs_manifest.specs.declared.counts.Counts.{Counts}
 use Rattle.cs_manifest.specs.declared.entry.SharedVerdict.{SharedVerdict}
 use Rattle.cs_manifest.specs.declared.entry.SharedVerdict.TheVariants as shared
-use Rattle.cs_manifest.specs.Counts.{with_shared_verdict, with_verdict}
-use Rattle.cs_manifest.specs.Manifest.{AreShared, GoalEntry, IsShared, IsSharedVerdict, SharedEntry, Texts, case_lines_by, derivation_in, is_new, new_case_lines}
+use Rattle.cs_manifest.specs.Manifest.{AreShared, GoalEntry, SharedEntry, Texts, case_lines_by, derivation_in, is_new}
 use Rattle.cs_manifest.specs.SharedLines.{case_lines}
 use Rattle.cs_render.specs.Rendering.{Rendering}
-use Rattle.cs_plan.proofs.Sharing.{shared_codes, shared_entries}
+use Rattle.cs_plan.specs.Made.{MadeEntry, case_lines_in, entry_of, has_new_case}
 use Rattle.cs_yacc.specs.File.{File}
-use Rattle.cs_positive.specs.declared.verdict.Verdict.{Verdict}
-use Rattle.cs_positive.specs.declared.verdict.Verdict.TheVariants.{Feasible, Infeasible, Large}
-use Rattle.cs_writing.specs.Written.{IsCountedAlike, behind_shared}
-
--- both verdicts are counted alike
-alike : (old new : PlainCases) (goal : Goal) (verdict : Verdict) (s : SharedVerdict) → IsSharedVerdict old goal verdict new s → (c : Counts) → with_shared_verdict c s ≡ with_verdict c verdict
-alike old new goal (Feasible size code) s is c = ap (λ (v : SharedVerdict). with_shared_verdict c v) is.1
-alike old new goal Infeasible s is c = ap (λ (v : SharedVerdict). with_shared_verdict c v) is.0
-alike old new goal Large s is c = ap (λ (v : SharedVerdict). with_shared_verdict c v) is.0
+use Rattle.cs_writing.specs.Written.{behind_made}
 
 -- an old case has no lines
 old_lines_by : (file : File) (entry : GoalEntry) (rendered : Option Rendering) (verdict : SharedVerdict) → is_new verdict ≡ false → case_lines_by file entry rendered verdict ≡ []
@@ -32,38 +20,39 @@ old_lines_by file entry rendered (shared.Feasible size named) old =
 old_lines_by file entry rendered shared.Infeasible old = refl
 old_lines_by file entry rendered shared.Large old = refl
 
-pub old_case_lines : (file : File) (s : SharedEntry) → is_new s.verdict ≡ false → new_case_lines file s ≡ []
-old_case_lines file s old = old_lines_by file s.entry s.rendered s.verdict old
+old_lines_in : (file : File) (m : MadeEntry) (verdict : Option SharedVerdict) → has_new_case verdict ≡ false → case_lines_in file m verdict ≡ []
+old_lines_in file m None old = refl
+old_lines_in file m (Some verdict) old = old_lines_by file (entry_of m) m.rendered verdict old
+
+pub old_case_lines : (file : File) (m : MadeEntry) → has_new_case m.shared ≡ false → case_lines_in file m m.shared ≡ []
+old_case_lines file m old = old_lines_in file m m.shared old
 
 -- the counts behind an entry, by the file and the number as they are told
-pub behind_at : {now file : File} {number told : ℕ} {after : Counts} (counts : Counts) (s : SharedEntry) → now ≡ file → number ≡ told → after ≡ behind_shared now number counts s
-    → after ≡ behind_shared file told counts s
-behind_at {now} {file} {number} counts s same at is = is ∙ ap (λ (f : File). behind_shared f number counts s) same ∙ ap (λ (n : ℕ). behind_shared file n counts s) at
+pub behind_at : {now file : File} {number told : ℕ} {after : Counts} (counts : Counts) (m : MadeEntry) → now ≡ file → number ≡ told → after ≡ behind_made now number counts m
+    → after ≡ behind_made file told counts m
+behind_at {now} {file} {number} counts m same at is = is ∙ ap (λ (f : File). behind_made f number counts m) same ∙ ap (λ (n : ℕ). behind_made file n counts m) at
+
+-- ---- entries in the second format
 
 module _ (texts : Option Texts) (lexemes : Option (List (Option (List ℕ)))) where
-  counted_alike : (old new : PlainCases) (entry : GoalEntry) (s : SharedEntry) → IsShared texts lexemes old entry new s → IsCountedAlike s
-  counted_alike old new entry s is c =
-      alike old new entry.goal entry.verdict s.verdict is.verdict c ∙ ap (λ (e : GoalEntry). with_verdict c e.verdict) (sym is.is_of)
+  -- one list behind another
+  pub shared_append : (old mid new : PlainCases) (entries others : List GoalEntry) (list more : List SharedEntry) → AreShared texts lexemes old entries mid list → AreShared texts lexemes mid others new more
+      → AreShared texts lexemes old (entries ++ others) new (list ++ more)
+  shared_append old mid new [] others list more first second =
+      subst (λ (l : List SharedEntry). AreShared texts lexemes old others new (l ++ more)) (sym first.0) (subst (λ (c : PlainCases). AreShared texts lexemes c others new more) first.1 second)
+  shared_append old mid new (e ∷ rest) others list more first second =
+      (first.0, first.1, first.2 ++ more, ap (λ (l : List SharedEntry). l ++ more) first.3, first.4, shared_append first.0 mid new rest others first.2 more first.5 second)
 
-  pub all_alike : (old new : PlainCases) (entries : List GoalEntry) (list : List SharedEntry) → AreShared texts lexemes old entries new list → All IsCountedAlike list
-  all_alike old new [] list are = subst (All IsCountedAlike) (sym are.0) (All-nil IsCountedAlike)
-  all_alike old new (entry ∷ entries) list are =
-      subst (All IsCountedAlike) (sym are.3)
-      (All-cons IsCountedAlike are.1 are.2 (counted_alike old are.0 entry are.1 are.4) (all_alike are.0 new entries are.2 are.5))
+  -- the list is of these entries
+  shared_entries : (old new : PlainCases) (entries : List GoalEntry) (list : List SharedEntry) → AreShared texts lexemes old entries new list → map (λ s. s.entry) list ≡ entries
+  shared_entries old new [] list are = ap (map (λ (s : SharedEntry). s.entry)) are.0
+  shared_entries old new (e ∷ rest) list are =
+      ap (map (λ (s : SharedEntry). s.entry)) are.3 ∙ ap (λ (x : GoalEntry). x ∷ map (λ (s : SharedEntry). s.entry) are.2) are.4.is_of
+      ∙ ap (λ (l : List GoalEntry). e ∷ l) (shared_entries are.0 new rest are.2 are.5)
 
   -- as many as entries
   pub as_many : (old new : PlainCases) (entries : List GoalEntry) (list : List SharedEntry) → AreShared texts lexemes old entries new list → length list ≡ length entries
-  as_many old new entries list are = sym (length-map list (λ (s : SharedEntry). s.entry)) ∙ ap length (shared_entries texts lexemes old new entries list are)
-
-  -- and no more cases
-  pub few_cases : (old new : PlainCases) (entries : List GoalEntry) (list : List SharedEntry) → AreShared texts lexemes old entries new list → length new.codes ≤ length old.codes + length entries
-  few_cases old new entries list are =
-      omega (
-        arith,
-        as_many old new entries list are,
-        shared_codes texts lexemes old new entries list are,
-        count_by-le-length (λ (s : SharedEntry). is_new s.verdict) list,
-      )
+  as_many old new entries list are = sym (length-map list (λ (s : SharedEntry). s.entry)) ∙ ap length (shared_entries old new entries list are)
 
   -- entries of two lists, taken apart
   pub record IsSplit (old : PlainCases) (xs ys : List GoalEntry) (new : PlainCases) (list : List SharedEntry) : Type 0 where

@@ -6,6 +6,7 @@ pub mod Parts
 pub mod Kept
 pub mod Cases
 pub mod Told
+pub mod Made
 pub mod SoFar
 pub mod Texts
 pub mod Batch

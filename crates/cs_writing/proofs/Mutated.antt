@@ -15,9 +15,9 @@ use Rattle.cs_manifest.specs.Manifest.{AreNegativesOf, BaseEntry, BasesOf, HasOn
 use Rattle.cs_manifest.specs.Progress.{Progress}
 use Rattle.cs_manifest.proofs.OneManifest.{one_base, one_zip}
 use Rattle.cs_yacc.specs.File.{File}
-use Rattle.cs_plan.specs.declared.plan.Mutation.{Mutation}
+use Rattle.cs_plan.specs.declared.plan.Means.{Means}
 use Rattle.cs_plan.specs.declared.plan.Plan.{Plan}
-use Rattle.cs_plan.specs.Plans.{choice_in, lexemes_in, no_operator, texts_in}
+use Rattle.cs_plan.specs.Plans.{choice_in, lexemes_in, means_in, no_operator, texts_in}
 use Rattle.cs_writing.specs.declared.halt.Halt.{Halt}
 use Rattle.cs_writing.specs.declared.halt.Halt.TheVariants.{Failed, Memory}
 use Rattle.cs_writing.specs.Mutants.{CountsBases, IsBasesText, IsCounted, negatives_from, negatives_in}
@@ -213,17 +213,17 @@ bases_counted plan one bases before after has mutants are =
 -- ---- where nothing is mutated
 
 -- at most so many bases, by what is mutated
-abbrev most_by : Option Mutation → ℕ
-most_by mutation = if has_operator (option_map_or (λ m. m.operators) mutation no_operator) then option_map_or (λ m. m.most) mutation 0 else 0
+abbrev most_by : Option Means → ℕ
+most_by means = if has_operator (option_map_or (λ m. m.mutation.operators) means no_operator) then option_map_or (λ m. m.mutation.most) means 0 else 0
 
-nothing_is : (mutation : Option Mutation) → ((m : Mutation) → mutation ≡ Some m → ⊥) → most_by mutation ≡ 0
+nothing_is : (means : Option Means) → ((m : Means) → means ≡ Some m → ⊥) → most_by means ≡ 0
 nothing_is None none = refl
 nothing_is (Some m) none = absurd (none m refl)
 
 -- there are no bases
-pub without_bases : {S : Type 0} {g : Sink.Ghosts S} (plan : Plan) (bases : PlainBases) (s : S) → ((m : Mutation) → plan.mutation ≡ Some m → ⊥) → length bases.list ≤ most_bases (choice_in plan) → HasText g (IsBasesText plan bases) s s
+pub without_bases : {S : Type 0} {g : Sink.Ghosts S} (plan : Plan) (bases : PlainBases) (s : S) → ((m : Means) → means_in plan.form ≡ Some m → ⊥) → length bases.list ≤ most_bases (choice_in plan) → HasText g (IsBasesText plan bases) s s
 without_bases plan bases s none few =
-    let most : most_bases (choice_in plan) ≡ 0 = nothing_is plan.mutation none in
+    let most : most_bases (choice_in plan) ≡ 0 = nothing_is (means_in plan.form) none in
     let empty = nothing_in bases.list (omega (arith, few, most)) in
     record {
       text = [];

@@ -1,6 +1,5 @@
 -- The negatives of one base: as a maker and a search give them, and as the text of the bases has them.
 use Rattle.std.proofs.Common.{◌≡◌, ◌≤◌, ℕ, List, length, ap, ◌∙◌, subst, Some}
-use Rattle.std.specs.Borrow.{Bor}
 use Rattle.cs_io.specs.declared.sink.Sink as Sink
 use Rattle.cs_output.specs.Sinks.{IsWritten}
 use Rattle.cs_manifest.specs.declared.counts.Counts.{Counts}
@@ -10,9 +9,9 @@ use Rattle.cs_mutants.specs.Makers.{AreToolsOf, IsMakerOf, Making, PlainTools}
 use Rattle.cs_mutate.specs.Negatives.{Search, search_of}
 use Rattle.cs_render_work.specs.declared.work.RenderWork.{RenderWork}
 use Rattle.cs_yacc.specs.File.{File}
-use Rattle.cs_plan.specs.declared.plan.Mutation.{Mutation}
+use Rattle.cs_plan.specs.declared.plan.Means.{Means}
 use Rattle.cs_plan.specs.declared.plan.Plan.{Plan}
-use Rattle.cs_plan.specs.Plans.{IsPlan, choice_in, lexemes_in}
+use Rattle.cs_plan.specs.Plans.{IsPlan, choice_in, lexemes_in, means_in}
 use Rattle.cs_writing.specs.declared.halt.Halt.{Halt}
 use Rattle.cs_writing.specs.Mutants.{CountsMade, IsCounted, IsEditable, IsMade, negatives_from}
 use Rattle.cs_writing.specs.Written.{HasSomeText, HasText, IsStopped}
@@ -28,12 +27,12 @@ pub record HasOneBase {S : Type 0} (g : Sink.Ghosts S) (plan : Plan) (number : �
   pub counted : IsCounted (length negatives) (negatives_from plan.yacc.now number tokens many negatives) before after
   pub few : length negatives ≤ 1100000000
 
-module _ (plan : Plan) (is_plan : IsPlan plan) (mutation : Mutation) (work : Bor RenderWork) (is : plan.mutation ≡ Some mutation) (texts : plan.texts ≡ Some work)
-    (number : ℕ) (base : ℕ × List ℕ) (search : Search) (search_is : search ≡ search_of mutation.pairs.now.grammar base.1 mutation.operators)
-    (tools : PlainTools) (are : AreToolsOf plan.yacc.now work.now tools) (making : Making) (making_is : IsMakerOf tools number base.1 making)
+module _ (plan : Plan) (is_plan : IsPlan plan) (means : Means) (is : means_in plan.form ≡ Some means)
+    (number : ℕ) (base : ℕ × List ℕ) (search : Search) (search_is : search ≡ search_of means.mutation.pairs.now.grammar base.1 means.mutation.operators)
+    (tools : PlainTools) (are : AreToolsOf plan.yacc.now means.work.now tools) (making : Making) (making_is : IsMakerOf tools number base.1 making)
     (at : Progress) (many : ℕ) (file_is : at.file ≡ plan.yacc.now) (many_is : at.counts.negatives ≡ many) where
   abbrev told : Making
-  told = record { tools = record { file = plan.yacc.now; work = work.now; apart = tools.apart }; number = number; base = base.1 }
+  told = record { tools = record { file = plan.yacc.now; work = means.work.now; apart = tools.apart }; number = number; base = base.1 }
 
   same : making ≡ told
   same =
@@ -42,7 +41,7 @@ module _ (plan : Plan) (is_plan : IsPlan plan) (mutation : Mutation) (work : Bor
 
   lines_are : (entries : List NegativeEntry) → negatives_from at.file number search.base at.counts.negatives entries ≡ negatives_from plan.yacc.now number base.1 many entries
   lines_are entries =
-      negatives_at at.file plan.yacc.now number search.base base.1 at.counts.negatives many entries file_is (base_is plan is_plan mutation work is texts base search search_is) many_is
+      negatives_at at.file plan.yacc.now number search.base base.1 at.counts.negatives many entries file_is (base_is plan is_plan means is base search search_is) many_is
 
   -- whichever they are, their writing stopped
   pub one_base_stops : {S : Type 0} {g : Sink.Ghosts S} (old new : S) (halt : Halt) → HasSomeText g (IsMade at making search) old new halt
@@ -51,7 +50,7 @@ module _ (plan : Plan) (is_plan : IsPlan plan) (mutation : Mutation) (work : Bor
   one_base_stops {S} {g} old new halt stops negatives of =
       let stopped = subst (λ (m : Making). HasSomeText g (IsMade at m search) old new halt) same stops in
       subst (λ (l : List ℕ). IsStopped g l old new halt) (lines_are negatives)
-      (some_negatives at told search old new halt stopped negatives (to_made plan is_plan mutation work is texts base search search_is negatives of))
+      (some_negatives at told search old new halt stopped negatives (to_made plan is_plan means is base search search_is negatives of))
 
   -- they were written
   pub one_base_written : {S : Type 0} {g : Sink.Ghosts S} (old new : S) (after : Progress) → IsEditable plan.yacc.now.grammar.tokens base → HasText g (IsMade at making search) old new
@@ -61,8 +60,8 @@ module _ (plan : Plan) (is_plan : IsPlan plan) (mutation : Mutation) (work : Bor
       let has = has_negatives at told search after written (subst (λ (m : Making). CountsMade m search at after) same counted) in
       record {
         negatives = has.entries;
-        of = from_made plan is_plan mutation work is texts base search search_is has.entries has.all;
+        of = from_made plan is_plan means is base search search_is has.entries has.all;
         written = subst (λ (l : List ℕ). IsWritten g l old new) (lines_are has.entries) has.written;
         counted = subst (λ (l : List ℕ). IsCounted (length has.entries) l at.counts after.counts) (lines_are has.entries) has.counted;
-        few = few_made plan is_plan mutation work is texts base search search_is editable has.entries has.all;
+        few = few_made plan is_plan means is base search search_is editable has.entries has.all;
       }

@@ -2,6 +2,7 @@
 use Rattle.std.proofs.Common.{◌≡◌, ℕ, ◌+◌, ◌<◌, ◌≤◌, List, [], ◌++◌, length, length-append, refl, sym, ap, ◌∙◌, subst, Option, None, Some, arith, append_assoc, append-nil}
 use Rattle.std.specs.Prelude.{IfSome}
 use Rattle.std.specs.List.{AllZip}
+use Rattle.std.proofs.lemmas.List.{length-map}
 use Rattle.cs_bases.specs.Bases.{PlainBases, bases_of}
 use Rattle.cs_cases.specs.Cases.{PlainCases, no_cases}
 use Rattle.cs_io.specs.declared.sink.Sink as Sink
@@ -17,8 +18,10 @@ use Rattle.cs_manifest.specs.Manifest.{GoalEntry, HasOneText, Texts, most_bases}
 use Rattle.cs_manifest.specs.Progress.{Progress}
 use Rattle.cs_positive.specs.Positives.{ToJudge}
 use Rattle.cs_plan.specs.declared.plan.Plan.{Plan}
-use Rattle.cs_plan.specs.Batches.{AreNext}
+use Rattle.cs_plan.specs.Entries.{AreNext}
+use Rattle.cs_plan.specs.Made.{MadeEntry, entries_of, entry_of}
 use Rattle.cs_plan.specs.Plans.{IsEntryIn, choice_in, format_by, sharing_in}
+use Rattle.cs_plan.proofs.Telling.{are_entries}
 use Rattle.cs_writing.specs.declared.halt.Halt.TheVariants.{Failed, Memory}
 use Rattle.cs_writing.specs.Mutants.{Keeps}
 use Rattle.cs_writing.specs.Written.{AreCounted, AreEntriesIn, AreGoals, AreLinesIn, AreWithin, CountsGoals, HasNumbers, IsFresh, IsReady, IsStopped, TellsGoals}
@@ -28,7 +31,7 @@ use Rattle.cs_writing.proofs.Kept.{kept_more}
 use Rattle.cs_writing.proofs.Ones.{nothing_in, zip_both, zip_front, zip_length}
 use Rattle.cs_writing.proofs.Parts.{HasEntries, HasSomeEntries}
 use Rattle.cs_writing.proofs.Stops.{stopped_by_memory, stopped_by_cut}
-use Rattle.cs_writing.proofs.Told.{few_told, lines_both, lines_none, one_goals, one_in, one_list, told_front}
+use Rattle.cs_writing.proofs.Told.{lines_both, lines_none, one_goals, one_in, one_list, told_front}
 
 -- the entries of the first goals, where these are left
 pub record FirstEntries (plan : Plan) (of : Weighed) (left : List Goal) (entries : List GoalEntry) : Type 0 where
@@ -36,18 +39,38 @@ pub record FirstEntries (plan : Plan) (of : Weighed) (left : List Goal) (entries
   pub each : AllZip (IsEntryIn plan of) done entries
   pub whole : goals of.grammar plan.criteria ≡ done ++ left
 
+-- These are the entries of the first goals that were left, and those behind them are left; there are some, unless none was left.
+pub record ComeNext (plan : Plan) (old : ToJudge) (entries : List GoalEntry) (new : ToJudge) : Type 0 where
+  pub goals : List Goal
+  pub split : old.goals ≡ goals ++ new.goals
+  pub each : AllZip (IsEntryIn plan old.tables) goals entries
+  pub some : entries ≡ [] → old.goals ≡ []
+
+-- as many entries
+pub entries_length : (list : List MadeEntry) → length (entries_of list) ≡ length list
+entries_length list = length-map list entry_of
+
+-- those of what is made come so
+pub come_next : {plan : Plan} {old new : ToJudge} {before after : PlainCases} {list : List MadeEntry} → AreNext plan old before list new after → ComeNext plan old (entries_of list) new
+come_next {plan} {old} {new} {before} {after} {list} next = record {
+  goals = next.goals;
+  split = next.split;
+  each = are_entries plan old.tables before after next.goals list next.each;
+  some = λ none. next.some (nothing_in list (let nothing : length (entries_of list) ≡ 0 = ap length none in omega (arith, nothing, entries_length list)));
+}
+
 -- These entries come next, behind so many and behind these cases, and have these lines.
 pub record IsBatch (plan : Plan) (number : ℕ) (left : ToJudge) (cases : PlainCases) (made : List GoalEntry) (new : ToJudge) (more : PlainCases) (lines : List ℕ) : Type 0 where
-  pub next : AreNext plan left made new
+  pub next : ComeNext plan left made new
   pub told : AreLinesIn plan (number + 1) cases made more lines
 
 -- where something came, fewer are left
-pub fewer_left : {plan : Plan} {old new : ToJudge} {made : List GoalEntry} → AreNext plan old made new → 0 < length made → length new.goals < length old.goals
+pub fewer_left : {plan : Plan} {old new : ToJudge} {made : List GoalEntry} → ComeNext plan old made new → 0 < length made → length new.goals < length old.goals
 fewer_left {plan} {old} {new} {made} next some =
     omega (arith, some, zip_length (IsEntryIn plan old.tables) next.goals made next.each, ap length next.split, length-append next.goals new.goals)
 
 module _ (plan : Plan) (of : Weighed) where
-  first_more : (old new : ToJudge) (entries made : List GoalEntry) → old.tables ≡ of → AreNext plan old made new → FirstEntries plan of old.goals entries → FirstEntries plan of new.goals (entries ++ made)
+  first_more : (old new : ToJudge) (entries made : List GoalEntry) → old.tables ≡ of → ComeNext plan old made new → FirstEntries plan of old.goals entries → FirstEntries plan of new.goals (entries ++ made)
   first_more old new entries made tables next first = record {
     done = first.done ++ next.goals;
     each = zip_both (IsEntryIn plan of) first.done next.goals entries made first.each (subst (λ (t : Weighed). AllZip (IsEntryIn plan t) next.goals made) tables next.each);
@@ -72,7 +95,7 @@ module _ (plan : Plan) (of : Weighed) where
   first_lines one left entries others cases other lines whole first told are =
       let none = no_cases plan.yacc.now.grammar in
       let found = zip_front (one_in plan one of) first.done left entries others first.each (subst (λ (gs : List Goal). AllZip (IsEntryIn plan of) gs others) first.whole are.all) in
-      told_front plan one (format_by plan.closed) 1 none cases other entries found.0 lines whole told (subst (λ (es : List GoalEntry). AreLinesIn plan 1 none es other whole) found.1 are.told)
+      told_front plan one (format_by plan.form) 1 none cases other entries found.0 lines whole told (subst (λ (es : List GoalEntry). AreLinesIn plan 1 none es other whole) found.1 are.told)
 
 -- ---- what was written
 
@@ -83,6 +106,7 @@ module _ {S : Type 0} (g : Sink.Ghosts S) (plan : Plan) (of : Weighed) where
     pub lines : List ℕ
     pub first : FirstEntries plan of left entries
     pub many : length entries ≡ number
+    pub few : length cases.codes ≤ length entries
     pub told : AreLinesIn plan 1 (no_cases plan.yacc.now.grammar) entries cases lines
     pub counted : AreCounted entries (length cases.codes) lines before after
     pub written : IsWritten g lines old now
@@ -110,14 +134,15 @@ module _ {S : Type 0} {g : Sink.Ghosts S} {plan : Plan} {of : Weighed} where
     lines = [];
     first = record { done = []; each = tt; whole = sym all };
     many = refl;
-    told = lines_none plan (format_by plan.closed) 1 (no_cases plan.yacc.now.grammar);
+    few = omega arith;
+    told = lines_none plan (format_by plan.form) 1 (no_cases plan.yacc.now.grammar);
     counted = goals_none counts;
     written = written_none s;
     kept_are = none;
   }
 
   -- nothing came
-  pub so_far_all : {left new : ToJudge} {made : List GoalEntry} {number : ℕ} {cases : PlainCases} {kept : PlainBases} {before after : Counts} {old now : S} → length made ≡ 0 → AreNext plan left made new
+  pub so_far_all : {left new : ToJudge} {made : List GoalEntry} {number : ℕ} {cases : PlainCases} {kept : PlainBases} {before after : Counts} {old now : S} → length made ≡ 0 → ComeNext plan left made new
       → SoFar g plan of left.goals number cases kept before after old now → HasEntries g plan of old now before after kept
   so_far_all {left} {new} {made} {number} {cases} empty next so_far = record {
     entries = so_far.entries;
@@ -134,8 +159,7 @@ module _ {S : Type 0} {g : Sink.Ghosts S} {plan : Plan} {of : Weighed} where
     -- no count is above the number of goals
     pub so_far_within : IsFresh plan before → AreWithin number counts
     so_far_within fresh =
-        let few = few_told plan (format_by plan.closed) 1 (no_cases plan.yacc.now.grammar) cases so_far.entries so_far.lines so_far.told in
-        within_more 0 number (length cases.codes) so_far.entries so_far.lines before counts (omega (arith, so_far.many)) (omega (arith, few)) (fresh_few plan before fresh) so_far.counted
+        within_more 0 number (length cases.codes) so_far.entries so_far.lines before counts (omega (arith, so_far.many)) so_far.few (fresh_few plan before fresh) so_far.counted
 
     -- memory ran out behind the first entries
     pub memory_behind : (one : (texts : Option Texts) → HasOneText texts) → HasSomeEntries g plan of old mid Memory
@@ -147,7 +171,7 @@ module _ {S : Type 0} {g : Sink.Ghosts S} {plan : Plan} {of : Weighed} where
   module _ {left : ToJudge} {number : ℕ} {cases : PlainCases} {kept : PlainBases} {before counts : Counts} {old mid : S}
       (tables : left.tables ≡ of) (so_far : SoFar g plan of left.goals number cases kept before counts old mid) where
     -- numbers don't end
-    so_far_few : {made : List GoalEntry} {new : ToJudge} → IsGrammar of.grammar → AreNext plan left made new → number + length made ≤ 10000000000
+    so_far_few : {made : List GoalEntry} {new : ToJudge} → IsGrammar of.grammar → ComeNext plan left made new → number + length made ≤ 10000000000
     so_far_few {made} {new} is next =
         omega (
           arith,
@@ -160,18 +184,19 @@ module _ {S : Type 0} {g : Sink.Ghosts S} {plan : Plan} {of : Weighed} where
       told_more : AreLinesIn plan 1 (no_cases plan.yacc.now.grammar) (so_far.entries ++ made) more (so_far.lines ++ lines)
       told_more =
           let e : number + 1 ≡ 1 + length so_far.entries = omega (arith, so_far.many) in
-          lines_both plan (format_by plan.closed) 1 (no_cases plan.yacc.now.grammar) cases more so_far.entries made so_far.lines lines so_far.told
+          lines_both plan (format_by plan.form) 1 (no_cases plan.yacc.now.grammar) cases more so_far.entries made so_far.lines lines so_far.told
           (subst (λ (n : ℕ). AreLinesIn plan n cases made more lines) e batch.told)
 
-      pub so_far_more : {new_cases next : ℕ} {after : Counts} {next_kept : PlainBases} {now : S} → length more.codes ≡ length cases.codes + new_cases → next ≡ number + length made → IsWritten g lines mid now
-          → AreCounted made new_cases lines counts after → Keeps number made kept next_kept → SoFar g plan of new.goals next more next_kept before after old now
-      so_far_more {new_cases} {next} {after} {next_kept} {now} grown next_is written counted keeps = record {
+      pub so_far_more : {fresh next : ℕ} {after : Counts} {next_kept : PlainBases} {now : S} → length more.codes ≡ length cases.codes + fresh → fresh ≤ length made → next ≡ number + length made → IsWritten g lines mid now
+          → AreCounted made fresh lines counts after → Keeps number made kept next_kept → SoFar g plan of new.goals next more next_kept before after old now
+      so_far_more {fresh} {next} {after} {next_kept} {now} grown few next_is written counted keeps = record {
         entries = so_far.entries ++ made;
         lines = so_far.lines ++ lines;
         first = first_more plan of left new so_far.entries made tables batch.next so_far.first;
         many = omega (arith, next_is, so_far.many, length-append so_far.entries made);
+        few = omega (arith, grown, few, so_far.few, length-append so_far.entries made);
         told = told_more;
-        counted = goals_then so_far.entries made (length more.codes) (length cases.codes) new_cases so_far.lines lines before counts after grown so_far.counted counted;
+        counted = goals_then so_far.entries made (length more.codes) (length cases.codes) fresh so_far.lines lines before counts after grown so_far.counted counted;
         written = written_then so_far.written written;
         kept_are = kept_more (most_bases (choice_in plan)) number so_far.entries made kept next_kept so_far.many so_far.kept_are keeps;
       }
@@ -186,7 +211,7 @@ module _ {S : Type 0} {g : Sink.Ghosts S} {plan : Plan} {of : Weighed} where
 -- numbers and counts don't end
 pub numbers_left : {S : Type 0} {g : Sink.Ghosts S} {plan : Plan} {given left new : ToJudge} {manifest : Progress} {made : List GoalEntry} {number many : ℕ} {cases : PlainCases} {kept : PlainBases}
     {counts : Counts} {old mid : S} → IsReady plan given manifest → left.tables ≡ given.tables → SoFar g plan given.tables left.goals number cases kept manifest.counts counts old mid
-    → AreNext plan left made new → many ≡ length made → HasNumbers number many counts
+    → ComeNext plan left made new → many ≡ length made → HasNumbers number many counts
 numbers_left ready tables so_far next same =
     let grammar = subst IsGrammar (sym ready.grammar.grammar) ready.plan_is.file.grammar in
     record { within = so_far_within so_far ready.fresh; few = omega (arith, so_far_few tables so_far grammar next, same) }

@@ -1,20 +1,19 @@
 -- From the entries and bases of a plan to its manifest, and back; the manifest written part by part.
 use Rattle.std.proofs.Common.{◌≡◌, ℕ, ◌+◌, ◌-◌, ◌^◌, List, ◌++◌, length, length-append, min, refl, sym, ap, ◌∙◌, subst, Option, None, Some, arith}
 use Rattle.std.specs.Prelude.{count_by, option_map}
-use Rattle.std.specs.Borrow.{Bor}
 use Rattle.cs_grammar.specs.Grammar.{PlainGrammar}
 use Rattle.cs_grammar.specs.Weights.{Measure, Weighed, weighed}
 use Rattle.cs_goals.specs.Goals.{goals}
 use Rattle.cs_bases.specs.Bases.{PlainBases}
 use Rattle.cs_cases.specs.Cases.{PlainCases, no_cases}
 use Rattle.cs_closed.specs.Closed.{ClosedSets}
-use Rattle.cs_closed.specs.declared.closed.Closed.{Closed}
 use Rattle.cs_closed.proofs.OneClosed.{one_closed}
 use Rattle.cs_io.specs.declared.sink.Sink as Sink
 use Rattle.cs_output.specs.Putting.{shown}
 use Rattle.cs_output.specs.Sinks.{IsCutShort, IsWritten}
 use Rattle.cs_output.proofs.Written.{written_then, written_cut, cut_longer}
 use Rattle.cs_manifest.specs.declared.counts.Counts.{Counts}
+use Rattle.cs_choices.specs.declared.format.Format.TheVariants.{One}
 use Rattle.cs_manifest.specs.Counts.{behind_end, counts_of_head, end_of}
 use Rattle.cs_manifest.specs.declared.head.Head.{Head}
 use Rattle.cs_manifest.specs.Head.{Sharing, yacc_of, head_of, lexemes_of, head_with, first_cases, sharing_of}
@@ -22,10 +21,11 @@ use Rattle.cs_manifest.specs.Lines.{end_words, is_feasible, is_infeasible, is_la
 use Rattle.cs_manifest.specs.Manifest.{AreLexemesBy, BaseEntry, BasesOf, EntriesOf, GoalEntry, HasOneText, IsTextIn, Texts, base_entry_lines, bases, end_line_with, goal_texts, most_bases, shared_text, weighed_by}
 use Rattle.cs_manifest.specs.Progress.{begun}
 use Rattle.cs_manifest.proofs.OneManifest.{one_manifest_by}
-use Rattle.cs_render_work.specs.declared.work.RenderWork.{RenderWork}
 use Rattle.cs_yacc.specs.File.{File}
 use Rattle.cs_plan.specs.declared.plan.Plan.{Plan}
-use Rattle.cs_plan.specs.Plans.{CanRender, HasSetsOf, IsPlan, IsPlanned, choice_in, format_by, lexemes_in, measure_in, sharing_by, sharing_in, texts_in, texts_of}
+use Rattle.cs_plan.specs.declared.plan.PlanForm.{PlanForm}
+use Rattle.cs_plan.specs.declared.plan.PlanForm.TheVariants.{Rules, Suite, Shared}
+use Rattle.cs_plan.specs.Plans.{IsFormOf, IsPlan, IsPlanned, choice_in, format_by, lexemes_in, means_in, measure_in, sharing_by, sharing_in, texts_in, texts_of}
 use Rattle.cs_writing.specs.declared.halt.Halt.{Halt}
 use Rattle.cs_writing.specs.declared.halt.Halt.TheVariants.{Failed}
 use Rattle.cs_writing.specs.Mutants.{negatives_in}
@@ -44,20 +44,29 @@ fresh_behind plan h sharing =
 pub weighed_so : (plan : Plan) (of : Weighed) → of.grammar ≡ plan.yacc.now.grammar → of.weights ≡ measure_in plan → of ≡ weighed_by (choice_in plan) plan.yacc.now (lexemes_in plan)
 weighed_so plan of grammar weights = ap (λ (g : PlainGrammar). weighed g of.weights) grammar ∙ ap (λ (w : Measure). weighed plan.yacc.now.grammar w) weights
 
-lexemes_by : (file : File) (texts : Option (Bor RenderWork)) → CanRender file texts
-    → AreLexemesBy (option_map (λ work. texts_of work.now) texts) file.grammar.tokens (option_map (λ work. work.now.lexemes.now) texts)
-lexemes_by file None can = refl
-lexemes_by file (Some work) can = can
+lexemes_by : (file : File) (form : PlanForm) → IsFormOf file form
+    → AreLexemesBy (option_map (λ m. texts_of m.work.now) (means_in form)) file.grammar.tokens (option_map (λ m. m.work.now.lexemes.now) (means_in form))
+lexemes_by file Rules is = refl
+lexemes_by file (Suite means) is = is.texts
+lexemes_by file (Shared means closed) is = is.0.texts
 
 -- how many cases the end tells of
-abbrev cases_by : Option (Bor Closed) → PlainCases → Option ℕ
-cases_by None cases = None
-cases_by (Some closed) cases = Some (length cases.codes)
+abbrev cases_by : PlanForm → PlainCases → Option ℕ
+cases_by Rules cases = None
+cases_by (Suite means) cases = None
+cases_by (Shared means closed) cases = Some (length cases.codes)
 
 -- so many were counted
-cases_counted : (plan : Plan) (closed : Option (Bor Closed)) (cases : PlainCases) → option_map (λ n. n + length cases.codes) (first_cases (sharing_by plan.weigh closed)) ≡ cases_by closed cases
-cases_counted plan None cases = refl
-cases_counted plan (Some closed) cases = let e : 0 + length cases.codes ≡ length cases.codes = omega arith in ap (λ (n : ℕ). Some n) e
+cases_counted : (form : PlanForm) (cases : PlainCases) → option_map (λ n. n + length cases.codes) (first_cases (sharing_by form)) ≡ cases_by form cases
+cases_counted Rules cases = refl
+cases_counted (Suite means) cases = refl
+cases_counted (Shared means closed) cases = let e : 0 + length cases.codes ≡ length cases.codes = omega arith in ap (λ (n : ℕ). Some n) e
+
+-- the first format tells of none
+no_cases_by : (form : PlanForm) (cases : PlainCases) → format_by form ≡ One → cases_by form cases ≡ None
+no_cases_by Rules cases first = refl
+no_cases_by (Suite means) cases first = refl
+no_cases_by (Shared means closed) cases first = absurd cc
 
 -- ---- the text in a format
 
@@ -68,52 +77,63 @@ module _ (plan : Plan) where
   abbrev none : PlainCases
   none = no_cases file.grammar
 
-  -- the lines of the head, by the closed sets
-  abbrev pub head_by : Option (Bor Closed) → List ℕ
-  head_by closed = head_with file (lexemes_in plan) (sharing_by plan.weigh closed)
-
   abbrev body_of : List BaseEntry → List ℕ
   body_of mutants = base_entry_lines file 0 0 mutants
 
+  -- the lines of the head
+  abbrev pub head_in : List ℕ
+  head_in = head_with file (lexemes_in plan) (sharing_in plan)
+
   -- the text of these entries and bases, part by part
-  abbrev text_by : Option (Bor Closed) → List GoalEntry → PlainCases → List ℕ → List BaseEntry → List ℕ
-  text_by closed entries cases lines mutants = ((head_by closed ++ lines) ++ body_of mutants) ++ end_line_with (cases_by closed cases) entries mutants
+  abbrev text_by : List GoalEntry → PlainCases → List ℕ → List BaseEntry → List ℕ
+  text_by entries cases lines mutants = ((head_in ++ lines) ++ body_of mutants) ++ end_line_with (cases_by plan.form cases) entries mutants
 
-  module _ (entries : List GoalEntry) (mutants : List BaseEntry) where
-    text_in : (closed : Option (Bor Closed)) → HasSetsOf file.grammar closed → (cases : PlainCases) (lines : List ℕ) → AreLinesOf (format_by closed) plan 1 none entries cases lines
-        → IsTextIn (format_by closed) (choice_in plan) file (lexemes_in plan) entries mutants (text_by closed entries cases lines mutants)
-    text_in None sets cases lines told = ap (λ (l : List ℕ). ((head_by None ++ l) ++ body_of mutants) ++ end_line_with None entries mutants) told.0
-    text_in (Some closed) sets cases lines told = record {
-      closed = closed.now;
-      cases = cases;
-      list = told.list;
-      are_closed = sets;
-      are_shared = told.are;
-      lines = ap (λ (l : List ℕ). ((head_by (Some closed) ++ l) ++ body_of mutants) ++ end_line_with (Some (length cases.codes)) entries mutants) told.whole;
-    }
+-- the text of entries and bases in the plan's form, and back
+module _ (plan : Plan) (entries : List GoalEntry) (mutants : List BaseEntry) where
+  -- the same plan in another form
+  abbrev in_form : PlanForm → Plan
+  in_form form = record plan { form = form }
 
-    -- and back
-    record IsTextBy (closed : Option (Bor Closed)) (text : List ℕ) : Type 0 where
-      pub cases : PlainCases
-      pub lines : List ℕ
-      pub told : AreLinesOf (format_by closed) plan 1 none entries cases lines
-      pub whole : text ≡ text_by closed entries cases lines mutants
+  abbrev IsText : PlanForm → List ℕ → Type 0
+  IsText form text = IsTextIn (format_by form) (choice_in (in_form form)) plan.yacc.now (lexemes_in (in_form form)) entries mutants text
 
-    text_from : (closed : Option (Bor Closed)) → HasSetsOf file.grammar closed → (text : List ℕ) → IsTextIn (format_by closed) (choice_in plan) file (lexemes_in plan) entries mutants text → IsTextBy closed text
-    text_from None sets text is = record { cases = none; lines = lines_from file 1 entries; told = (refl, refl); whole = is }
-    text_from (Some closed) sets text is = record {
-      cases = is.cases;
-      lines = shared_lines_from file 1 is.list;
-      told = record { list = is.list; are = is.are_shared; whole = refl };
-      whole = is.lines ∙ ap (λ (c : ClosedSets). shared_text file plan.weigh (lexemes_in plan) c entries is.list (length is.cases.codes) mutants)
-          (one_closed file.grammar is.closed closed.now is.are_closed sets);
-    }
+  text_in : (form : PlanForm) → IsFormOf plan.yacc.now form → (cases : PlainCases) (lines : List ℕ) → AreLinesOf (format_by form) (in_form form) 1 (none plan) entries cases lines
+      → IsText form (text_by (in_form form) entries cases lines mutants)
+  text_in Rules sets cases lines told = ap (λ (l : List ℕ). text_by (in_form Rules) entries cases l mutants) told.0
+  text_in (Suite means) sets cases lines told = ap (λ (l : List ℕ). text_by (in_form (Suite means)) entries cases l mutants) told.0
+  text_in (Shared means closed) sets cases lines told = record {
+    closed = closed.now;
+    cases = cases;
+    list = told.list;
+    are_closed = sets.1;
+    are_shared = told.are;
+    lines = ap (λ (l : List ℕ). text_by (in_form (Shared means closed)) entries cases l mutants) told.whole;
+  }
+
+  record IsTextBy (form : PlanForm) (text : List ℕ) : Type 0 where
+    pub cases : PlainCases
+    pub lines : List ℕ
+    pub told : AreLinesOf (format_by form) (in_form form) 1 (none plan) entries cases lines
+    pub whole : text ≡ text_by (in_form form) entries cases lines mutants
+
+  text_from : (form : PlanForm) → IsFormOf plan.yacc.now form → (text : List ℕ) → IsText form text → IsTextBy form text
+  text_from Rules sets text is = record { cases = none plan; lines = lines_from plan.yacc.now 1 entries; told = (refl, refl); whole = is }
+  text_from (Suite means) sets text is = record { cases = none plan; lines = lines_from plan.yacc.now 1 entries; told = (refl, refl); whole = is }
+  text_from (Shared means closed) sets text is =
+      let plan_in = in_form (Shared means closed) in
+      record {
+        cases = is.cases;
+        lines = shared_lines_from plan.yacc.now 1 is.list;
+        told = record { list = is.list; are = is.are_shared; whole = refl };
+        whole = is.lines ∙ ap (λ (c : ClosedSets). shared_text plan.yacc.now means.weigh (lexemes_in plan_in) c entries is.list (length is.cases.codes) mutants)
+            (one_closed plan.yacc.now.grammar is.closed closed.now is.are_closed sets.1);
+      }
 
 -- ---- the manifest of a plan
 
 module _ (plan : Plan) (of : Weighed) (one : (texts : Option Texts) → HasOneText texts) (is : IsPlan plan) (weighs : of ≡ weighed_by (choice_in plan) plan.yacc.now (lexemes_in plan)) where
   abbrev head : List ℕ
-  head = head_by plan plan.closed
+  head = head_in plan
 
   -- the entries of these bases
   abbrev AreOf : List (ℕ × List ℕ) → List BaseEntry → Type 0
@@ -124,10 +144,10 @@ module _ (plan : Plan) (of : Weighed) (one : (texts : Option Texts) → HasOneTe
 
   -- its last line
   abbrev last_of : List GoalEntry → PlainCases → List BaseEntry → List ℕ
-  last_of entries cases mutants = end_line_with (cases_by plan.closed cases) entries mutants
+  last_of entries cases mutants = end_line_with (cases_by plan.form cases) entries mutants
 
   abbrev text_of : List GoalEntry → PlainCases → List ℕ → List BaseEntry → List ℕ
-  text_of entries cases lines mutants = text_by plan plan.closed entries cases lines mutants
+  text_of entries cases lines mutants = text_by plan entries cases lines mutants
 
   head_is : (h : Head) → yacc_of h ≡ plan.yacc.now → lexemes_of h ≡ lexemes_in plan → sharing_of h ≡ sharing_in plan → head_of h ≡ head
   head_is h same lexemes sharing =
@@ -139,7 +159,7 @@ module _ (plan : Plan) (of : Weighed) (one : (texts : Option Texts) → HasOneTe
   head_counted h same lexemes sharing = ap (λ (l : List ℕ). shown (length l)) (head_is h same lexemes sharing)
 
   lexemes_are : AreLexemesBy (texts_in plan) plan.yacc.now.grammar.tokens (lexemes_in plan)
-  lexemes_are = lexemes_by plan.yacc.now plan.texts is.texts
+  lexemes_are = lexemes_by plan.yacc.now plan.form is.form
 
   abbrev By : Weighed → Option (List (Option (List ℕ))) → List GoalEntry → Type 0
   By v lexemes entries = EntriesOf v (goal_texts (choice_in plan)) lexemes (goals v.grammar plan.criteria) entries
@@ -153,7 +173,7 @@ module _ (plan : Plan) (of : Weighed) (one : (texts : Option Texts) → HasOneTe
     are_lexemes = lexemes_are;
     verdicts = subst (λ (v : Weighed). By v (lexemes_in plan) entries) weighs are.all;
     negatives = of_bases;
-    lines = text_in plan entries mutants plan.closed is.closed cases lines are.told;
+    lines = text_in plan entries mutants plan.form is.form cases lines are.told;
   }
 
   -- each manifest of the plan is one of its entries and bases
@@ -171,8 +191,8 @@ module _ (plan : Plan) (of : Weighed) (one : (texts : Option Texts) → HasOneTe
       let choice = choice_in plan in
       let lexemes = (one (texts_in plan)).lexemes plan.yacc.now.grammar.tokens a.lexemes (lexemes_in plan) a.are_lexemes lexemes_are in
       let moved = subst (λ (l : Option (List (Option (List ℕ)))). By (weighed_by choice plan.yacc.now l) l a.entries) lexemes a.verdicts in
-      let lines = subst (λ (l : Option (List (Option (List ℕ)))). IsTextIn (format_by plan.closed) choice plan.yacc.now l a.entries a.mutants text) lexemes a.lines in
-      let found = text_from plan a.entries a.mutants plan.closed is.closed text lines in
+      let lines = subst (λ (l : Option (List (Option (List ℕ)))). IsTextIn (format_by plan.form) choice plan.yacc.now l a.entries a.mutants text) lexemes a.lines in
+      let found = text_from plan a.entries a.mutants plan.form is.form text lines in
       record {
         entries = a.entries;
         cases = found.cases;
@@ -205,10 +225,10 @@ module _ (plan : Plan) (of : Weighed) (one : (texts : Option Texts) → HasOneTe
     text_is text is_text = one_manifest_by (choice_in plan) plan.yacc.now one text whole is_text is_whole
 
     -- the end of the counts
-    pub cases_are : mid.cases ≡ cases_by plan.closed goals_of.cases
+    pub cases_are : mid.cases ≡ cases_by plan.form goals_of.cases
     cases_are =
         goals_of.counted.cases ∙ ap (λ (c : Counts). option_map (λ n. n + length goals_of.cases.codes) c.cases) fresh
-        ∙ cases_counted plan plan.closed goals_of.cases
+        ∙ cases_counted plan.form goals_of.cases
 
     end_is : end_of after ≡ last_of entries goals_of.cases mutants.mutants
     end_is =
@@ -249,10 +269,9 @@ module _ (plan : Plan) (of : Weighed) (one : (texts : Option Texts) → HasOneTe
         four : (m h b x e p q r : ℕ) → p ≡ min h m → min q m ≡ min (p + b) m → min r m ≡ min (q + x) m → min (r + e) m ≡ min (((h + b) + x) + e) m
         four m h b x e p q r first second third = omega (arith, first, second, third)
 
-    -- no cases are counted where the plan has no closed sets
-    pub no_cases_are : plan.closed ≡ None → (behind_end after).cases ≡ None
-    no_cases_are none_closed =
-        ap (λ (c : Counts). c.cases) mutants.counted.same ∙ cases_are ∙ ap (λ (closed : Option (Bor Closed)). cases_by closed goals_of.cases) none_closed
+    -- no cases are counted in the first format
+    pub no_cases_are : format_by plan.form ≡ One → (behind_end after).cases ≡ None
+    no_cases_are first = ap (λ (c : Counts). c.cases) mutants.counted.same ∙ cases_are ∙ no_cases_by plan.form goals_of.cases first
 
     -- the head, the entries, the bases and the end
     pub whole_text : (old last : S) → IsWritten g head old begun → IsWritten g (end_of after) new last → HasText g (IsPlanned plan) old last

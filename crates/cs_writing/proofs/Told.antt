@@ -1,23 +1,18 @@
 -- The lines of entries in a plan's format.
-use Rattle.std.proofs.Common.{◌≡◌, ◌≤◌, ℕ, ◌+◌, List, [], ◌++◌, length, refl, sym, ap, ◌∙◌, subst, Option, None, Some, arith}
-use Rattle.std.specs.Prelude.{IsSome}
-use Rattle.std.specs.Borrow.{Bor}
+use Rattle.std.proofs.Common.{◌≡◌, ℕ, ◌+◌, List, [], ◌++◌, length, refl, sym, ap, ◌∙◌, subst, Option, arith}
 use Rattle.cs_cases.specs.Cases.{PlainCases, no_cases}
-use Rattle.cs_closed.specs.declared.closed.Closed.{Closed}
 use Rattle.cs_grammar.specs.Weights.{Weighed}
 use Rattle.cs_goals.specs.declared.goal.Goal.{Goal}
 use Rattle.cs_goals.specs.Goals.{goals}
 use Rattle.cs_choices.specs.declared.format.Format.{Format}
 use Rattle.cs_choices.specs.declared.format.Format.TheVariants.{One, Two}
-use Rattle.cs_manifest.specs.Manifest.{AreShared, GoalEntry, HasOneText, SharedEntry, Texts, goal_entry_lines, goal_texts, shared_entry_lines}
+use Rattle.cs_manifest.specs.Manifest.{GoalEntry, HasOneText, Texts, goal_entry_lines, goal_texts, shared_entry_lines}
 use Rattle.cs_manifest.proofs.OneManifest.{one_entry, one_rendered_if, one_zip}
 use Rattle.cs_manifest.proofs.OneShared.{one_list_of_shared}
 use Rattle.cs_plan.specs.declared.plan.Plan.{Plan}
-use Rattle.cs_plan.specs.Batches.{entries_in}
 use Rattle.cs_plan.specs.Plans.{IsEntryIn, choice_in, format_by, lexemes_in, texts_in}
-use Rattle.cs_plan.proofs.Sharing.{shared_append}
-use Rattle.cs_writing.specs.Written.{AreEntriesIn, AreGoals, AreLinesIn, AreLinesOf, lines_from, shared_lines_from}
-use Rattle.cs_writing.proofs.Cases.{as_many, few_cases, shared_split}
+use Rattle.cs_writing.specs.Written.{AreEntriesIn, AreGoals, AreLinesOf, lines_from, shared_lines_from}
+use Rattle.cs_writing.proofs.Cases.{as_many, shared_append, shared_split}
 use Rattle.cs_writing.proofs.Ones.{numbered_both}
 
 module _ (plan : Plan) where
@@ -43,12 +38,6 @@ module _ (plan : Plan) where
   pub lines_none : (format : Format) (number : ℕ) (cases : PlainCases) → AreLinesOf format plan number cases [] cases []
   lines_none One number cases = (refl, refl)
   lines_none Two number cases = record { list = []; are = (refl, refl); whole = refl }
-
-  -- there are no more cases than entries
-  pub few_told : (format : Format) (number : ℕ) (before after : PlainCases) (entries : List GoalEntry) (lines : List ℕ) → AreLinesOf format plan number before entries after lines
-      → length after.codes ≤ length before.codes + length entries
-  few_told One number before after entries lines a = omega (arith, ap (λ (c : PlainCases). length c.codes) a.1)
-  few_told Two number before after entries lines a = few_cases (texts_in plan) (lexemes_in plan) before after entries a.list a.are
 
   module _ (one : (texts : Option Texts) → HasOneText texts) where
     -- entries have one text of lines
@@ -95,24 +84,6 @@ module _ (plan : Plan) where
       one_goals entries others cases other lines more a b =
           let same = one_list entries others a.all b.all in
           let none = no_cases plan.yacc.now.grammar in
-          let moved = subst (λ (es : List GoalEntry). AreLinesOf (format_by plan.closed) plan 1 none es other more) (sym same) b.told in
-          let told = one_told (format_by plan.closed) 1 none cases other entries lines more a.told moved in
+          let moved = subst (λ (es : List GoalEntry). AreLinesOf (format_by plan.form) plan 1 none es other more) (sym same) b.told in
+          let told = one_told (format_by plan.form) 1 none cases other entries lines more a.told moved in
           record { entries_are = same; cases_are = told.0; lines_are = told.1 }
-
--- ---- by the plan
-
--- in the first format
-pub first_told : (plan : Plan) (number : ℕ) (cases : PlainCases) (entries : List GoalEntry) → plan.closed ≡ None → AreLinesIn plan number cases entries cases (lines_from plan.yacc.now number entries)
-first_told plan number cases entries first =
-    subst (λ (f : Format). AreLinesOf f plan number cases entries cases (lines_from plan.yacc.now number entries)) (sym (ap format_by first)) (refl, refl)
-
-two_by : (closed : Option (Bor Closed)) → IsSome closed → format_by closed ≡ Two
-two_by None some = absurd cc
-two_by (Some closed) some = refl
-
--- in the second
-pub second_told : (plan : Plan) (number : ℕ) (before after : PlainCases) (list : List SharedEntry) → IsSome plan.closed → AreShared (texts_in plan) (lexemes_in plan) before (entries_in list) after list
-    → AreLinesIn plan number before (entries_in list) after (shared_lines_from plan.yacc.now number list)
-second_told plan number before after list second are =
-    subst (λ (f : Format). AreLinesOf f plan number before (entries_in list) after (shared_lines_from plan.yacc.now number list)) (sym (two_by plan.closed second))
-    (record { list = list; are = are; whole = refl })

@@ -13,16 +13,15 @@ use Rattle.cs_output.specs.Words.{numbered_from}
 use Rattle.cs_manifest.specs.declared.counts.Counts.{Counts}
 use Rattle.cs_choices.specs.declared.format.Format.{Format}
 use Rattle.cs_choices.specs.declared.format.Format.TheVariants.{One, Two}
-use Rattle.cs_manifest.specs.Counts.{first_counts, with_case, with_lines, with_shared_verdict, with_verdict}
+use Rattle.cs_manifest.specs.Counts.{first_counts, with_case, with_lines, with_verdict}
 use Rattle.cs_manifest.specs.Head.{first_cases}
 use Rattle.cs_manifest.specs.Lines.{is_feasible, is_infeasible, is_large}
-use Rattle.cs_manifest.specs.Manifest.{AreShared, EntriesOf, GoalEntry, SharedEntry, goal_entry_lines, goal_texts, is_new, most_bases, new_case_lines, shared_entry_lines}
-use Rattle.cs_manifest.specs.SharedLines.{shared_goal_line}
+use Rattle.cs_manifest.specs.Manifest.{AreShared, EntriesOf, GoalEntry, SharedEntry, goal_entry_lines, goal_texts, most_bases, shared_entry_lines}
 use Rattle.cs_manifest.specs.Progress.{Progress}
 use Rattle.cs_positive.specs.Positives.{ToJudge}
 use Rattle.cs_yacc.specs.File.{File}
 use Rattle.cs_plan.specs.declared.plan.Plan.{Plan}
-use Rattle.cs_plan.specs.Batches.{entries_in}
+use Rattle.cs_plan.specs.Made.{MadeEntry, case_lines_in, entries_of, goal_lines_in, has_new_case, made_lines, new_cases}
 use Rattle.cs_plan.specs.Plans.{IsOfPlan, IsPlan, choice_in, format_by, lexemes_in, sharing_in, texts_in}
 use Rattle.cs_writing.specs.declared.halt.Halt.{Halt}
 use Rattle.cs_writing.specs.declared.halt.Halt.TheVariants.{Failed}
@@ -41,6 +40,10 @@ lines_from file number entries = numbered_from number (goal_entry_lines file) en
 abbrev pub shared_lines_from : File → ℕ → List SharedEntry → List ℕ
 shared_lines_from file number list = numbered_from number (shared_entry_lines file) list
 
+-- those of what is made of goals, in either
+abbrev pub made_lines_from : File → ℕ → List MadeEntry → List ℕ
+made_lines_from file number list = numbered_from number (made_lines file) list
+
 -- these are the lines of entries in the second format, from the cases before them to those behind them
 pub record AreSharedLines (plan : Plan) (number : ℕ) (before : PlainCases) (entries : List GoalEntry) (after : PlainCases) (lines : List ℕ) : Type 0 where
   pub list : List SharedEntry
@@ -54,7 +57,7 @@ AreLinesOf Two plan number before entries after lines = AreSharedLines plan numb
 
 -- in the plan's format
 abbrev pub AreLinesIn : Plan → ℕ → PlainCases → List GoalEntry → PlainCases → List ℕ → Type 0
-AreLinesIn plan number before entries after lines = AreLinesOf (format_by plan.closed) plan number before entries after lines
+AreLinesIn plan number before entries after lines = AreLinesOf (format_by plan.form) plan number before entries after lines
 
 -- the entries of all goals of a plan, the cases behind them, and their lines
 pub record AreGoals (plan : Plan) (of : Weighed) (entries : List GoalEntry) (cases : PlainCases) (lines : List ℕ) : Type 0 where
@@ -128,37 +131,25 @@ pub record TellsMore (many : ℕ) (entries : List GoalEntry) (new : ℕ) (lines 
   pub counted : AreCounted entries new lines before.counts after.counts
 
 -- a batch of entries was counted
-abbrev pub TellsBatch : ℕ → List GoalEntry → ℕ → Progress → Progress → Type 0
-TellsBatch number batch next old new = TellsMore number batch 0 (lines_from old.file (number + 1) batch) next old new
-
--- how many of these entries have new cases
-abbrev pub new_cases : List SharedEntry → ℕ
-new_cases list = count_by (λ s. is_new s.verdict) list
-
--- the same in the second format
-abbrev pub TellsShared : ℕ → List SharedEntry → ℕ → Progress → Progress → Type 0
-TellsShared number batch next old new =
-    TellsMore number (entries_in batch) (new_cases batch) (shared_lines_from old.file (number + 1) batch) next old new
-
--- it is counted as its goal is in the first format
-abbrev pub IsCountedAlike : SharedEntry → Type 0
-IsCountedAlike s = (c : Counts) → with_shared_verdict c s.verdict ≡ with_verdict c s.entry.verdict
+abbrev pub TellsBatch : ℕ → List MadeEntry → ℕ → Progress → Progress → Type 0
+TellsBatch number batch next old new =
+    TellsMore number (entries_of batch) (new_cases batch) (made_lines_from old.file (number + 1) batch) next old new
 
 -- behind the case of an entry, where that is new
-abbrev pub behind_case : File → Counts → SharedEntry → Counts
-behind_case file counts s = if is_new s.verdict then with_lines (with_case counts) (new_case_lines file s) else counts
+abbrev pub behind_case : File → Counts → MadeEntry → Counts
+behind_case file counts m = if has_new_case m.shared then with_lines (with_case counts) (case_lines_in file m m.shared) else counts
 
 -- behind the entry
-abbrev pub behind_shared : File → ℕ → Counts → SharedEntry → Counts
-behind_shared file number counts s =
-    with_lines (with_shared_verdict (behind_case file counts s) s.verdict) (shared_goal_line file number s.entry.goal s.verdict)
+abbrev pub behind_made : File → ℕ → Counts → MadeEntry → Counts
+behind_made file number counts m =
+    with_lines (with_verdict (behind_case file counts m) m.verdict) (goal_lines_in file number m m.shared)
 
 -- an entry with its number was counted, and the case of an entry, where that is new
-abbrev pub CountsEntry : ℕ → SharedEntry → Progress → Progress → Type 0
-CountsEntry number s old new = new.counts ≡ behind_shared old.file number old.counts s
+abbrev pub CountsEntry : ℕ → MadeEntry → Progress → Progress → Type 0
+CountsEntry number m old new = new.counts ≡ behind_made old.file number old.counts m
 
-abbrev pub CountsCase : SharedEntry → Progress → Progress → Type 0
-CountsCase s old new = new.counts ≡ behind_case old.file old.counts s
+abbrev pub CountsCase : MadeEntry → Progress → Progress → Type 0
+CountsCase m old new = new.counts ≡ behind_case old.file old.counts m
 
 -- ---- what a writing did to the sink
 
@@ -187,16 +178,12 @@ module _ {S : Type 0} (g : Sink.Ghosts S) where
   PutsOne Is old new result = MatchResult result (λ _. HasText Is old new) (λ halt. HasSomeText Is old new halt)
 
   -- the lines of a batch of entries were written behind so many, or cut short
-  abbrev pub PutsBatch : Progress → ℕ → List GoalEntry → S → S → Result Unit SinkError → Type 0
-  PutsBatch manifest number batch old new result = Writes g result (lines_from manifest.file (number + 1) batch) old new
-
-  -- the same in the second format
-  abbrev pub PutsShared : Progress → ℕ → List SharedEntry → S → S → Result Unit SinkError → Type 0
-  PutsShared manifest number batch old new result = Writes g result (shared_lines_from manifest.file (number + 1) batch) old new
+  abbrev pub PutsBatch : Progress → ℕ → List MadeEntry → S → S → Result Unit SinkError → Type 0
+  PutsBatch manifest number batch old new result = Writes g result (made_lines_from manifest.file (number + 1) batch) old new
 
   -- the lines of one entry, and those of its case
-  abbrev pub PutsEntry : Progress → ℕ → SharedEntry → S → S → Result Unit SinkError → Type 0
-  PutsEntry manifest number s old new result = Writes g result (shared_entry_lines manifest.file number s) old new
+  abbrev pub PutsEntry : Progress → ℕ → MadeEntry → S → S → Result Unit SinkError → Type 0
+  PutsEntry manifest number m old new result = Writes g result (made_lines manifest.file number m) old new
 
-  abbrev pub PutsCase : Progress → SharedEntry → S → S → Result Unit SinkError → Type 0
-  PutsCase manifest s old new result = Writes g result (new_case_lines manifest.file s) old new
+  abbrev pub PutsCase : Progress → MadeEntry → S → S → Result Unit SinkError → Type 0
+  PutsCase manifest m old new result = Writes g result (case_lines_in manifest.file m m.shared) old new

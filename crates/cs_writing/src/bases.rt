@@ -2,34 +2,17 @@
 
 ghost use Rattle.std.specs.Prelude.{◌+◌, ◌≤◌, OnOk, length};
 ghost use Rattle.cs_io.specs.Faults.{greatest};
-ghost use Rattle.cs_plan.specs.Batches.{entries_in};
+ghost use Rattle.cs_plan.specs.Made.{entries_of};
 ghost use Rattle.cs_writing.specs.Mutants.{Keeps, KeepsOne};
 
 use cs_bases::Bases;
-use cs_plan::{Made, MadeShared};
+use cs_plan::Made;
 use std::alloc::AllocError;
 
 /// Keeps what are bases of these entries. `number` is that of the last entry before them.
 pub(crate) fn keep_bases(bases: &mut Bases, number: u64, batch: &[Made]) -> Result<(), AllocError>
     requires { number + length batch.now ≤ greatest }
-    ensures { OnOk result (Keeps number batch.now bases.old bases.new) }
-{
-    let mut before = number;
-    for made in batch {
-        keep_base(bases, before, made.sentence())?;
-        before += 1;
-    }
-    Ok(())
-}
-
-/// The same in the second format.
-pub(crate) fn keep_shared(
-    bases: &mut Bases,
-    number: u64,
-    batch: &[MadeShared],
-) -> Result<(), AllocError>
-    requires { number + length batch.now ≤ greatest }
-    ensures { OnOk result (Keeps number (entries_in batch.now) bases.old bases.new) }
+    ensures { OnOk result (Keeps number (entries_of batch.now) bases.old bases.new) }
 {
     let mut before = number;
     for made in batch {

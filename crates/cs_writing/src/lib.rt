@@ -10,9 +10,9 @@
 #![tactic(auto)]
 
 mod bases;
+mod goals;
 mod halt;
 mod mutants;
-mod shared;
 mod writing;
 
 pub use halt::Halt;

@@ -38,11 +38,11 @@ pub(crate) fn write_bases<S: Sink>(
     ensures counted { OnOk result (CountsBases plan.now bases.now manifest.old manifest.new) }
 {
     one_text();
-    let Some(mutation) = plan.mutation else {
+    let Some(means) = plan.form.means() else {
         return Ok(());
     };
-    let work = plan.texts.unwrap();
-    let tools = Tools::new(alloc, plan.yacc, work)?;
+    let tools = Tools::new(alloc, plan.yacc, means.work)?;
+    let mutation = means.mutation;
     let mut number = Numeral::new(0);
     for index in 0..bases.len() {
         let (goal, tokens) = bases.get(index);

@@ -1,25 +1,22 @@
 // The manifest of a plan, entry by entry.
 
-ghost use Rattle.std.specs.Prelude.{◌≡◌, ◌+◌, [], All, IfOk, None, OnErr, OnOk, length};
+ghost use Rattle.std.specs.Prelude.{◌≡◌, ◌+◌, [], IfOk, OnErr, OnOk};
 ghost use Rattle.cs_goals.specs.Goals.{goals};
 ghost use Rattle.cs_io.specs.BufferedSink.{buffered_room, lent_name, lent_sink, waiting_bytes};
+ghost use Rattle.cs_choices.specs.declared.format.Format.TheVariants.{One};
 ghost use Rattle.cs_writing.specs.declared.halt.Halt.TheVariants.{Failed};
-ghost use Rattle.cs_plan.specs.Plans.{IsOfPlan, IsPlan, IsPlanned};
-ghost use Rattle.cs_plan.specs.Made.{IsNamedGoalEntry};
+ghost use Rattle.cs_plan.specs.Plans.{IsOfPlan, IsPlan, IsPlanned, format_by};
 ghost use Rattle.cs_writing.specs.Writing.{CountsOfAll, HasNoCases, IsCalmForAll, LentCalm, LentOne, LentPart};
 ghost use Rattle.cs_writing.specs.Writing.{MetFault, MetNone, Stopped, TookFront, TookOne};
-ghost use Rattle.cs_writing.specs.Written.{HasNumbers, IsGoalsText, IsReady, PutsBatch, PutsOne, TellsBatch};
-ghost use Rattle.cs_writing.specs.Written.{TellsGoals};
+ghost use Rattle.cs_writing.specs.Written.{PutsOne};
 
-use crate::bases::keep_bases;
+use crate::goals::write_goals;
 use crate::halt::Halt;
 use crate::mutants::write_bases;
-use crate::shared::write_shared;
-use cs_bases::Bases;
 use cs_fan::Gate;
-use cs_io::{BufferedSink, Sink, SinkError};
+use cs_io::{BufferedSink, Sink};
 use cs_manifest::{Counts, Manifest, one_manifest, one_text, some_manifest};
-use cs_plan::{Made, Plan, next_entries};
+use cs_plan::Plan;
 use cs_positive::Positives;
 use std::alloc::Global;
 use std::thread::Threads;
@@ -43,7 +40,7 @@ pub fn write_out<R: Threads + Sync, O: Sink, G: Gate + Sync>(
     requires all { positives.goals ≡ goals positives.tables.grammar plan.now.criteria }
     ensures ok { OnOk result (TookOne O.Sink (IsPlanned plan.now) out.old out.new) }
     ensures counts { IfOk result (CountsOfAll (IsPlanned plan.now)) }
-    ensures first { plan.now.closed ≡ None → IfOk result HasNoCases }
+    ensures first { format_by plan.now.form ≡ One → IfOk result HasNoCases }
     ensures part { OnErr result
         (TookFront O.Sink (IsPlanned plan.now) out.old out.new) }
     ensures no_fault { OnOk result (MetNone O.Sink out.old out.new) }
@@ -73,7 +70,7 @@ fn write_through<R: Threads + Sync, O: Sink, G: Gate + Sync>(
     ensures ok { OnOk result
         (LentOne O.Sink (IsPlanned plan.now) sink.old sink.new) }
     ensures counts { IfOk result (CountsOfAll (IsPlanned plan.now)) }
-    ensures first { plan.now.closed ≡ None → IfOk result HasNoCases }
+    ensures first { format_by plan.now.form ≡ One → IfOk result HasNoCases }
     ensures part { OnErr result
         (LentPart O.Sink (IsPlanned plan.now) sink.old sink.new) }
     ensures no_fault { OnOk result
@@ -102,7 +99,7 @@ fn write_manifest<R: Threads + Sync, S: Sink, G: Gate + Sync>(
     requires all { positives.goals ≡ goals positives.tables.grammar plan.now.criteria }
     ensures text { PutsOne S.Sink (IsPlanned plan.now) sink.old sink.new result }
     ensures counts { IfOk result (CountsOfAll (IsPlanned plan.now)) }
-    ensures first { plan.now.closed ≡ None → IfOk result HasNoCases }
+    ensures first { format_by plan.now.form ≡ One → IfOk result HasNoCases }
     ensures lent { S.lent sink.new ≡ S.lent sink.old }
 {
     one_text();
@@ -110,74 +107,4 @@ fn write_manifest<R: Threads + Sync, S: Sink, G: Gate + Sync>(
     let bases = write_goals(rt, alloc, plan, &mut positives, &mut manifest, sink, gate)?;
     write_bases(alloc, plan, &bases, &mut manifest, sink)?;
     Ok(manifest.finish(sink)?)
-}
-
-// Writes the entries of all goals in the plan's format, numbered from 1, and answers their bases.
-fn write_goals<R: Threads + Sync, S: Sink, G: Gate + Sync>(
-    rt: &R,
-    alloc: Global,
-    plan: &Plan<'_>,
-    positives: &mut Positives<'_>,
-    manifest: &mut Manifest<'_>,
-    sink: &mut S,
-    gate: &G,
-) -> Result<Bases, Halt>
-    requires ready { IsReady plan.now positives.old manifest.old }
-    ensures text { PutsOne S.Sink (IsGoalsText plan.now positives.old) sink.old sink.new result }
-    ensures told { IfOk result (TellsGoals plan.now positives.old manifest.old manifest.new) }
-    ensures lent { S.lent sink.new ≡ S.lent sink.old }
-{
-    match plan.closed {
-        None => write_entries(rt, alloc, plan, positives, manifest, sink, gate),
-        Some(_) => write_shared(rt, alloc, plan, positives, manifest, sink, gate),
-    }
-}
-
-// Writes the entries of all goals in the first format, numbered from 1, and answers their bases.
-fn write_entries<R: Threads + Sync, S: Sink, G: Gate + Sync>(
-    rt: &R,
-    alloc: Global,
-    plan: &Plan<'_>,
-    positives: &mut Positives<'_>,
-    manifest: &mut Manifest<'_>,
-    sink: &mut S,
-    gate: &G,
-) -> Result<Bases, Halt>
-    requires ready { IsReady plan.now positives.old manifest.old }
-    requires first { plan.now.closed ≡ None }
-    ensures text { PutsOne S.Sink (IsGoalsText plan.now positives.old) sink.old sink.new result }
-    ensures told { IfOk result (TellsGoals plan.now positives.old manifest.old manifest.new) }
-    ensures lent { S.lent sink.new ≡ S.lent sink.old }
-{
-    one_text();
-    let mut bases = Bases::new(alloc, plan.most_bases());
-    let mut number = 0u64;
-    'batches: loop {
-        let batch = next_entries(rt, alloc, plan, positives, gate)?;
-        if batch.is_empty() {
-            return Ok(bases);
-        }
-        keep_bases(&mut bases, number, &batch)?;
-        write_batch(manifest, sink, &mut number, &batch)?;
-    }
-}
-
-// Writes these entries. `number` is the number of the last entry, before and then.
-fn write_batch<S: Sink>(
-    manifest: &mut Manifest<'_>,
-    sink: &mut S,
-    number: &mut u64,
-    batch: &[Made],
-) -> Result<(), SinkError>
-    requires named { All (IsNamedGoalEntry manifest.old.file) batch.now }
-    requires numbers { HasNumbers number.old (length batch.now) manifest.old.counts }
-    ensures told { OnOk result
-        (TellsBatch number.old batch.now number.new manifest.old manifest.new) }
-    ensures lines { PutsBatch S.Sink manifest.old number.old batch.now sink.old sink.new result }
-{
-    for made in batch {
-        *number += 1;
-        manifest.entry(sink, &made.entry(*number))?;
-    }
-    Ok(())
 }

@@ -1,9 +1,10 @@
 // The entries of goals, batch by batch.
 
-use cs_choices::{Criteria, Weigh};
+use cs_cases::Cases;
+use cs_choices::Criteria;
 use cs_fan::OpenGate;
 use cs_grammar::Weights;
-use cs_plan::{Made, Plan, next_entries};
+use cs_plan::{Made, Plan, PlanForm, next_entries};
 use cs_positive::{Positives, Tables};
 use cs_sample_files::{Trouble, sums};
 use std::alloc::Global;
@@ -38,14 +39,12 @@ fn two_batches<R: Threads + Sync>(
     let plan = Plan {
         yacc: &yacc,
         criteria: RULE_GOALS,
-        texts: None,
-        mutation: None,
-        weigh: Weigh::Nodes,
-        closed: None,
+        form: PlanForm::Rules,
     };
     let mut positives = Positives::new(&tables, RULE_GOALS);
-    let first = next_entries(rt, alloc, &plan, &mut positives, &OpenGate)?;
-    let second = next_entries(rt, alloc, &plan, &mut positives, &OpenGate)?;
+    let mut cases = Cases::new(alloc, yacc.grammar());
+    let first = next_entries(rt, alloc, &plan, &mut positives, &mut cases, &OpenGate)?;
+    let second = next_entries(rt, alloc, &plan, &mut positives, &mut cases, &OpenGate)?;
     Ok((first, second))
 }
 

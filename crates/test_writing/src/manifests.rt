@@ -1,19 +1,18 @@
 // The whole manifests of `docs/FORMATS.md`, one in each format, by `write_out`.
 
-ghost use Rattle.std.specs.Prelude.{◌≡◌, Some};
-ghost use Rattle.cs_grammar.specs.Weights.{nodes};
-ghost use Rattle.cs_plan.specs.Plans.{CanRender, HasSetsOf};
+ghost use Rattle.std.specs.Prelude.{◌≡◌};
+ghost use Rattle.cs_plan.specs.Plans.{CanRender, IsFormOf, measure_in};
 
-use cs_choices::{Criteria, Format, Operators, Weigh};
 use crate::writers::letter_counts;
 use cs_automaton::Automaton;
+use cs_choices::{Criteria, Format, Operators, Weigh};
 use cs_closed::Closed;
 use cs_fan::OpenGate;
 use cs_grammar::Weights;
 use cs_io::MemorySink;
 use cs_lexeme::Lexemes;
 use cs_manifest::Counts;
-use cs_plan::{Mutation, Plan};
+use cs_plan::{Means, Mutation, Plan, PlanForm};
 use cs_positive::{Positives, Tables};
 use cs_render_work::RenderWork;
 use cs_sample_files::{Trouble, read_files};
@@ -105,48 +104,47 @@ fn write_goals<'f, R: Threads + Sync>(
     options: &Options,
     out: &mut MemorySink,
 ) -> Result<Result<Counts, Halt>, AllocError>
-    requires { CanRender yacc.now (Some work) }
+    requires { CanRender yacc.now work.now }
 {
     let weights = Weights::nodes(alloc, yacc.grammar().tokens())?;
     let tables = Tables::new(alloc, yacc.grammar(), &weights)?;
-    if options.format == Format::One {
-        return Ok(write_plan(rt, alloc, yacc, work, &tables, None, options, out));
-    }
-    let closed = Closed::new(alloc, &tables)?;
-    Ok(write_plan(rt, alloc, yacc, work, &tables, Some(&closed), options, out))
-}
-
-// The same by these tables, and in the second format by closed sets.
-fn write_plan<'f, R: Threads + Sync>(
-    rt: &R,
-    alloc: Global,
-    yacc: &'f YaccFile,
-    work: &'f RenderWork<'f>,
-    tables: &'f Tables<'f>,
-    closed: Option<&'f Closed>,
-    options: &Options,
-    out: &mut MemorySink,
-) -> Result<Counts, Halt>
-    requires work { CanRender yacc.now (Some work) }
-    requires grammar { tables.now.grammar ≡ yacc.now.grammar }
-    requires weights { tables.now.weights ≡ nodes yacc.now.grammar.tokens }
-    requires closed { HasSetsOf yacc.now.grammar closed }
-{
-    let _named = yacc.grammar();
-    let plan = Plan {
-        yacc,
-        criteria: options.criteria,
-        texts: Some(work),
-        mutation: Some(Mutation {
+    let means = Means {
+        work,
+        mutation: Mutation {
             pairs: tables.pairs(),
             operators: options.operators,
             most: options.bases as u32,
-        }),
+        },
         weigh: Weigh::Nodes,
-        closed,
     };
-    let positives = Positives::new(tables, options.criteria);
-    write_out(rt, alloc, &plan, positives, out, &OpenGate)
+    let mut plan = Plan {
+        yacc,
+        criteria: options.criteria,
+        form: PlanForm::Suite(means),
+    };
+    if options.format == Format::One {
+        return Ok(write_plan(rt, alloc, &plan, &tables, out));
+    }
+    let closed = Closed::new(alloc, &tables)?;
+    plan.form = PlanForm::Shared(means, &closed);
+    Ok(write_plan(rt, alloc, &plan, &tables, out))
+}
+
+// The same by this plan and these tables.
+fn write_plan<'f, R: Threads + Sync>(
+    rt: &R,
+    alloc: Global,
+    plan: &Plan<'f>,
+    tables: &'f Tables<'f>,
+    out: &mut MemorySink,
+) -> Result<Counts, Halt>
+    requires form { IsFormOf plan.now.yacc.now plan.now.form }
+    requires grammar { tables.now.grammar ≡ plan.now.yacc.now.grammar }
+    requires weights { tables.now.weights ≡ measure_in plan.now }
+{
+    let _named = plan.yacc.grammar();
+    let positives = Positives::new(tables, plan.criteria);
+    write_out(rt, alloc, plan, positives, out, &OpenGate)
 }
 
 #[test]

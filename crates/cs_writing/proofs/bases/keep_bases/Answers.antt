@@ -1,5 +1,7 @@
-use Rattle.std.proofs.Common.{◌+◌, arith, take}
-use Rattle.cs_writing.proofs.Batch.{before, one_more}
+use Rattle.std.proofs.Common.{◌+◌, ◌∙◌, arith, take}
+use Rattle.std.proofs.lemmas.List.{length-map}
+use Rattle.cs_plan.specs.Made.{entries_of, entry_of}
+use Rattle.cs_writing.proofs.Batch.{before, one_made_more}
 use Rattle.cs_writing.proofs.Kept.{its_tokens, keeps_none, keeps_step}
 use Rattle.cs_writing.proofs.bases.keep_bases.Goals as goal
 
@@ -8,12 +10,13 @@ loop-made-init c = record { before = omega arith; kept = keeps_none c.args.numbe
 
 pub loop-made-preserved : goal.loop-made-preserved
 loop-made-preserved c =
+    let i = c.loop-made.made-index in
+    let batch = c.args.batch.now in
+    let made = c.made-item.result in
     let s = c.sentence.ensures in
-    let at = c.loop-made.made-index in
-    let kept = c.in_ok-keep_base.ensures c.made-item.result (its_tokens c.made-item.result c.sentence.result s.feasible s.tokens s.none) in
     record {
       before = omega (arith, c.loop-made.invariant.before);
-      kept = keeps_step c.args.number c.loop-made.before at (take at c.args.batch.now) (take (at + 1) c.args.batch.now) c.made-item.result c.args.bases.now c.loop-made.bases c.keep_base.new.bases
-          (one_more c.args.batch.now at c.made-item.result c.loop-made-test.true c.made-item.is) (before c.args.batch.now at c.made-item.result c.loop-made-test.true c.made-item.is)
-          c.loop-made.invariant.before c.loop-made.invariant.kept kept;
+      kept = keeps_step c.args.number c.loop-made.before i (entries_of (take i batch)) (entries_of (take (i + 1) batch)) (entry_of made) c.args.bases.now c.loop-made.bases c.keep_base.new.bases
+          (one_made_more entry_of batch i made c.loop-made-test.true c.made-item.is) (length-map (take i batch) entry_of ∙ before batch i made c.loop-made-test.true c.made-item.is) c.loop-made.invariant.before c.loop-made.invariant.kept
+          (c.in_ok-keep_base.ensures (entry_of made) (its_tokens (entry_of made) c.sentence.result s.feasible s.tokens s.none));
     }

@@ -1,9 +1,10 @@
 use Rattle.std.proofs.Common.{◌≡◌, ◌+◌, take}
+use Rattle.cs_plan.specs.Made.{entries_of}
 use Rattle.cs_writing.specs.Mutants.{Keeps}
 use Rattle.cs_writing.proofs.bases.keep_bases.Given as goal
 
 abbrev pub invariant-loop-made : goal.invariant-loop-made
 invariant-loop-made l = record {
   before : l.before ≡ l.fn.number + l.made-index;
-  kept : Keeps l.fn.number (take l.made-index l.batch) l.fn.bases l.bases;
+  kept : Keeps l.fn.number (entries_of (take l.made-index l.batch)) l.fn.bases l.bases;
 }

@@ -80,7 +80,7 @@ returns-in_err-maker-clause-text g c =
     rw (p.1, p.2) (bases_text_stop plan c.args.bases.now c.args.sink.now c.loop-index.sink Memory stopped)
 
 pub new-requires : goal.new-requires
-new-requires g c = can_render c.args.plan.now c.requires.plan c.unwrap-work.result c.unwrap-work.ensures
+new-requires g c = can_render c.args.plan.now c.requires.plan c.in-Some.means (sym c.means.ensures ∙ c.in-Some.is)
 
 pub new-requires-in-loop-index-clause-base : goal.new-requires-in-loop-index-clause-base
 new-requires-in-loop-index-clause-base g c =
@@ -88,9 +88,9 @@ new-requires-in-loop-index-clause-base g c =
     let plan = c.args.plan.now in
     let base = base_of g at in
     let editable = editable g at in
-    let can = can_render plan c.requires.plan c.unwrap-work.result c.unwrap-work.ensures in
+    let can = can_render plan c.requires.plan c.in-Some.means (sym c.means.ensures ∙ c.in-Some.is) in
     let names = c.requires.plan.file.tokens in
-    let takes = takes_base c.unwrap-work.result.now plan.yacc.now.grammar.tokens base.1 (subst (λ (n : ℕ). CanRender c.unwrap-work.result.now n) names can) editable.short editable.tokens_of in
+    let takes = takes_base c.in-Some.means.work.now plan.yacc.now.grammar.tokens base.1 (subst (λ (n : ℕ). CanRender c.in-Some.means.work.now n) names can) editable.short editable.tokens_of in
     subst (λ (w : RenderWork). TakesTokens w base.1) (sym c.in_ok-tools.ensures.work_is) takes
 
 pub new-requires-in-loop-index-clause-short : goal.new-requires-in-loop-index-clause-short
@@ -115,14 +115,14 @@ new-search-requires-clause-short g c = (editable g (goal.at.new-search-requires-
 pub new-search-requires-clause-tokens : goal.new-search-requires-clause-tokens
 new-search-requires-clause-tokens g c =
     let at = (goal.at.new-search-requires-clause-tokens g c).After-get-goal in
-    tokens_are c.args.plan.now c.requires.plan c.in-Some.mutation c.unwrap-work.result c.in-Some.is c.unwrap-work.ensures (base_of g at) (editable g at)
+    tokens_are c.args.plan.now c.requires.plan c.in-Some.means (sym c.means.ensures ∙ c.in-Some.is) (base_of g at) (editable g at)
 
 pub write_negatives-requires-clause-few : goal.write_negatives-requires-clause-few
 write_negatives-requires-clause-few g c =
     let at = goal.at.write_negatives-requires-clause-few g c in
     let so_far = c.loop-index.invariant.so_far in
     let base = base_of g at.After-get-goal in
-    let few = few_searched c.args.plan.now c.requires.plan c.in-Some.mutation c.unwrap-work.result c.in-Some.is c.unwrap-work.ensures base c.new-search.result c.new-search.ensures (editable g at.After-get-goal) in
+    let few = few_searched c.args.plan.now c.requires.plan c.in-Some.means (sym c.means.ensures ∙ c.in-Some.is) base c.new-search.result c.new-search.ensures (editable g at.After-get-goal) in
     let small : c.loop-index.index ≤ 4294967295 = search rules in
     omega (arith, few, many g at.In_ok-entry, c.loop-index.invariant.number, so_far.few, small, ap (λ (q : Progress). q.counts.negatives) c.in_ok-entry.ensures.value)
 
@@ -135,7 +135,7 @@ returns-in_err-write_negatives-clause-text g c =
     let base = base_of g at.After-get-goal in
     let so_far = c.loop-index.invariant.so_far in
     let halt = c.in_err-write_negatives.field-0.0 in
-    let stops = one_base_stops plan c.requires.plan c.in-Some.mutation c.unwrap-work.result c.in-Some.is c.unwrap-work.ensures (i + 1) base c.new-search.result c.new-search.ensures
+    let stops = one_base_stops plan c.requires.plan c.in-Some.means (sym c.means.ensures ∙ c.in-Some.is) (i + 1) base c.new-search.result c.new-search.ensures
     c.in_ok-tools.tools c.in_ok-tools.ensures c.in_ok-maker.maker c.in_ok-maker.ensures c.entry.new.self (negatives_in so_far.mutants) (file_is g at.In_ok-entry) (many g at.In_ok-entry)
     c.entry.new.sink c.write_negatives.new.sink halt c.in_err-write_negatives.ensures.text in
     let stopped = base_stops plan (c.one_text.ensures (texts_in plan)) c.args.bases.now.list i base (within g at.After-get-goal) (is_base g at.After-get-goal)
@@ -151,7 +151,7 @@ loop-index-preserved g c =
     let base = base_of g at.After-get-goal in
     let so_far = c.loop-index.invariant.so_far in
     let more = c.in_ok-write_negatives.ensures in
-    let has = one_base_written plan c.requires.plan c.in-Some.mutation c.unwrap-work.result c.in-Some.is c.unwrap-work.ensures (i + 1) base c.new-search.result c.new-search.ensures
+    let has = one_base_written plan c.requires.plan c.in-Some.means (sym c.means.ensures ∙ c.in-Some.is) (i + 1) base c.new-search.result c.new-search.ensures
     c.in_ok-tools.tools c.in_ok-tools.ensures c.in_ok-maker.maker c.in_ok-maker.ensures c.entry.new.self (negatives_in so_far.mutants) (file_is g at.In_ok-entry) (many g at.In_ok-entry)
     c.entry.new.sink c.write_negatives.new.sink c.write_negatives.new.manifest (editable g at.After-get-goal) more.text more.counted in
     let counted = counted_base c.loop-index.manifest.counts c.entry.new.self.counts (base_line (i + 1) c.get-goal.result.0) (ap (λ (q : Progress). q.counts) e.value) in
@@ -164,7 +164,7 @@ loop-index-preserved g c =
     }
 
 pub returns-in_default-clause-text : goal.returns-in_default-clause-text
-returns-in_default-clause-text g c = without_bases c.args.plan.now c.args.bases.now c.args.sink.now c.in_default.not-Some c.requires.few
+returns-in_default-clause-text g c = without_bases c.args.plan.now c.args.bases.now c.args.sink.now (λ m is. c.in_default.not-Some m (c.means.ensures ∙ is)) c.requires.few
 
 pub returns-clause-counted : goal.returns-clause-counted
 returns-clause-counted g c =

@@ -15,7 +15,7 @@ use Rattle.cs_writing.specs.Written.{IsFresh}
 use Rattle.cs_output.proofs.Called.{is_cut, is_written}
 use Rattle.cs_writing.proofs.Kept.{editable_bases, few_bases}
 use Rattle.cs_writing.proofs.Parts.{HasBases, HasEntries, has_bases, has_entries, some_bases, some_entries}
-use Rattle.cs_writing.proofs.Texts.{bases_stop, counts_are, end_cut, entries_stop, fresh_behind, head_by, head_counted, head_cut, head_written, no_cases_are, weighed_so, whole_text}
+use Rattle.cs_writing.proofs.Texts.{bases_stop, counts_are, end_cut, entries_stop, fresh_behind, head_counted, head_cut, head_in, head_written, no_cases_are, weighed_so, whole_text}
 use Rattle.cs_writing.proofs.writing.write_manifest.Given.{Over}
 use Rattle.cs_writing.proofs.writing.write_manifest.Goals as goal
 use Rattle.cs_writing.proofs.writing.write_manifest.Goals.{In_ok-bases, In_ok-manifest, In_ok-write_bases}
@@ -25,7 +25,7 @@ weighed_as : (plan : Plan) (left : ToJudge) → IsOfPlan plan left → left.tabl
 weighed_as plan left is = weighed_so plan left.tables is.grammar is.weights
 
 -- the head was written
-first : (g : Over) (c : In_ok-manifest g) → IsWritten g.S.Sink (head_by c.args.plan.now c.args.plan.now.closed) c.args.sink.now c.begin.new.sink
+first : (g : Over) (c : In_ok-manifest g) → IsWritten g.S.Sink (head_in c.args.plan.now) c.args.sink.now c.begin.new.sink
 first g c =
     let plan = c.args.plan.now in
     let weighs = weighed_as plan c.args.positives c.requires.grammar in
@@ -41,7 +41,7 @@ fresh g c =
     let plan = c.args.plan.now in
     subst (λ (k : Counts). IsFresh plan k) (sym (ap (λ (q : Progress). q.counts) c.in_ok-manifest.ensures.value)) (fresh_behind plan c.head.result c.head.ensures.sharing)
 
-bytes : (g : Over) (c : In_ok-manifest g) → c.in_ok-manifest.manifest.counts.bytes ≡ shown (length (head_by c.args.plan.now c.args.plan.now.closed))
+bytes : (g : Over) (c : In_ok-manifest g) → c.in_ok-manifest.manifest.counts.bytes ≡ shown (length (head_in c.args.plan.now))
 bytes g c =
     let plan = c.args.plan.now in
     let weighs = weighed_as plan c.args.positives c.requires.grammar in
