@@ -1,0 +1,61 @@
+use Rattle.std.proofs.Common.{[], List, sym, subst, arith}
+use Rattle.std.proofs.lemmas.List.{take_all}
+use Rattle.std.proofs.lemmas.Option.{slice_get_within}
+use Rattle.cs_member.specs.declared.now.Origins.{Origins}
+use Rattle.cs_member.specs.Now.{IsHere}
+use Rattle.cs_member.specs.Chart.{BucketOf}
+use Rattle.cs_member.specs.Expecting.{AreAwaited}
+use Rattle.cs_member.proofs.Bucketing.{bucket_next, bucket_within, here_item}
+use Rattle.cs_member.proofs.Marking.{marks_none, marks_then, awaited_more}
+use Rattle.cs_member.proofs.chart.expect_awaited.Goals as goal
+
+pub loop-origin-init : goal.loop-origin-init
+loop-origin-init c = record {
+  marked = c.requires.marked;
+  marks = marks_none c.args.expected.now.items c.args.pending.now.items;
+  awaited = λ k a o at w. absurd (let lt = slice_get_within [] k o at in omega arith);
+}
+
+pub next_of-requires : goal.next_of-requires
+next_of-requires c =
+    let g = c.args.question.now.grammar.now in
+    let origins = c.args.origins.now in
+    let k = c.loop-origin.origin-index in
+    let o = c.origin-item.result in
+    let here : IsHere g o.item = subst (λ (r : Origins). IsHere g r.item) (sym c.origin-item.is) (c.requires.here k o c.loop-origin-test.true) in
+    here_item g o.item here
+
+pub expect-requires-clause-nonterminal : goal.expect-requires-clause-nonterminal
+expect-requires-clause-nonterminal c =
+    let g = c.args.question.now.grammar.now in
+    let origins = c.args.origins.now in
+    let k = c.loop-origin.origin-index in
+    let o = c.origin-item.result in
+    let here : IsHere g o.item = subst (λ (r : Origins). IsHere g r.item) (sym c.origin-item.is) (c.requires.here k o c.loop-origin-test.true) in
+    let grammar = c.rules-well_formed.ensures.well_formed in
+    let bucket : BucketOf g c.awaited-nonterminal.result o.item = subst (λ n. BucketOf g n o.item) (sym c.awaited-nonterminal.ensures) (bucket_next g o.item c.next_of.result grammar c.next_of.ensures here) in
+    let low = bucket_within g c.awaited-nonterminal.result o.item grammar bucket in
+    let size = c.loop-origin.invariant.marks.size in
+    let many = c.requires.size in
+    omega arith
+
+pub loop-origin-preserved : goal.loop-origin-preserved
+loop-origin-preserved c =
+    let g = c.args.question.now.grammar.now in
+    let origins = c.args.origins.now in
+    let k = c.loop-origin.origin-index in
+    let o = c.origin-item.result in
+    let here : IsHere g o.item = subst (λ (r : Origins). IsHere g r.item) (sym c.origin-item.is) (c.requires.here k o c.loop-origin-test.true) in
+    let grammar = c.rules-well_formed.ensures.well_formed in
+    let bucket : BucketOf g c.awaited-nonterminal.result o.item = subst (λ n. BucketOf g n o.item) (sym c.awaited-nonterminal.ensures) (bucket_next g o.item c.next_of.result grammar c.next_of.ensures here) in
+    let said = c.in_ok-expect.ensures in
+    let inv = c.loop-origin.invariant in
+    record {
+      marked = said.marked;
+      marks = marks_then c.args.expected.now.items c.args.pending.now.items c.loop-origin.expected.items c.loop-origin.pending.items c.expect.new.expected.items c.expect.new.pending.items inv.marks said.marks;
+      awaited = awaited_more g origins k o c.awaited-nonterminal.result c.loop-origin.expected.items c.expect.new.expected.items c.loop-origin-test.true c.origin-item.is bucket said.marks.stays said.is_marked inv.awaited;
+    }
+
+pub returns-clause-awaited : goal.returns-clause-awaited
+returns-clause-awaited c =
+    subst (λ (l : List Origins). AreAwaited c.args.question.now.grammar.now l c.loop-origin.expected.items) (take_all c.loop-origin.origin-index c.args.origins.now c.loop-origin-test.false) c.loop-origin.invariant.awaited

@@ -1,0 +1,13 @@
+pub mod Item
+pub mod Sets
+pub mod Closed
+pub mod Now
+pub mod Tables
+pub mod Adding
+pub mod Fronts
+pub mod Chart
+pub mod Expecting
+pub mod Made
+pub mod Back
+pub mod Membership
+pub mod Writing

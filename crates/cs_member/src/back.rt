@@ -1,0 +1,314 @@
+// The way back: how an item was found.
+
+ghost use Rattle.std.specs.Prelude.{◌≡◌, ◌≤◌, ◌<◌, ◌+◌, ℕ, None, Some, All, MatchOption, length, slice_get, take};
+ghost use Rattle.cs_grammar.specs.Grammar.{IsNumberOf};
+ghost use Rattle.cs_member.specs.Item.{IsItem, over as item_over};
+ghost use Rattle.cs_member.specs.Tables.{IsQuestion};
+ghost use Rattle.cs_member.specs.declared.item.Item.{Item};
+ghost use Rattle.cs_member.specs.declared.back.Sought.TheVariants.{Exactly};
+ghost use Rattle.cs_member.specs.declared.chart.Position.{Position};
+ghost use Rattle.cs_member.specs.declared.now.Span.{Span};
+ghost use Rattle.cs_member.specs.Chart.{IsRow, IsPosition, OfRows, OfScan, OfSpan};
+ghost use Rattle.cs_member.specs.Made.{IsTables, IsChart};
+ghost use Rattle.cs_member.specs.Back.{IsBefore, IsBehind, IsChild, IsFound, IsInRows, IsOfFronts, IsPlaceSought, IsSought, LeadsTo, Meets, NoneLeads, OfChild, OfSymbol, StandsBefore};
+
+use crate::chart::{Position, Row};
+use crate::empties::have_empty;
+use crate::fronts::Front;
+use crate::item::{Item, over};
+use crate::now::Question;
+use crate::word::has;
+use cs_grammar::Grammar;
+
+// What is sought: this item, or one at the end of a rule of this left side.
+#[derive(Clone, Copy, Debug)]
+pub(crate) enum Sought {
+    Exactly(Item),
+    End(u16),
+}
+
+// An item that is found, and the one before its child, the last of its symbols whose tree isn't empty. The child begins at a
+// position.
+#[derive(Clone, Copy, Debug)]
+pub(crate) struct Back {
+    pub(crate) before: Item,
+    pub(crate) begin: u16,
+    pub(crate) found: Item,
+}
+
+// The place that is sought in a rule.
+fn place_sought(grammar: &Grammar, rule: u16, sought: Sought) -> Option<usize>
+    requires rule { IsNumberOf (length grammar.now.rules) rule }
+    requires sought { IsSought grammar.now sought }
+    ensures { MatchOption result ((x : Item) → x.rule ≡ rule → Meets grammar.now sought x → ⊥)
+        (IsPlaceSought grammar.now sought rule) }
+{
+    match sought {
+        Sought::Exactly(item) => {
+            if item.rule == rule {
+                return Some(item.place as usize);
+            }
+        }
+        Sought::End(left) => {
+            let production = grammar.rule(rule);
+            if production.left() == left {
+                return Some(production.right().len());
+            }
+        }
+    }
+    None
+}
+
+// What is sought, where the item or one behind it and symbols that have empty trees is that.
+fn lead(question: &Question, first: Item, sought: Sought) -> Option<Item>
+    requires question { IsQuestion question.now.grammar.now question.now.tables.now }
+    requires first { IsItem question.now.grammar.now first }
+    requires sought { IsSought question.now.grammar.now sought }
+    ensures { MatchOption result
+        (NoneLeads question.now.grammar.now sought (λ x. x ≡ first))
+        (LeadsTo question.now.grammar.now sought first) }
+{
+    let _well_formed = question.grammar.rules();
+    let place = place_sought(question.grammar, first.rule, sought)?;
+    let right = question.grammar.rule(first.rule).right();
+    let start = first.place as usize;
+    if place < start || !have_empty(&question.tables.empties, &right[start..place]) {
+        return None;
+    }
+    Some(Item {
+        rule: first.rule,
+        place: place as u16,
+    })
+}
+
+// The row with this origin whose item leads to what is sought, with the awaited symbol taken.
+fn find_row(
+    question: &Question,
+    rows: &[Row],
+    begin: u16,
+    from: u16,
+    sought: Sought,
+) -> Option<Back>
+    requires question { IsQuestion question.now.grammar.now question.now.tables.now }
+    requires rows { All (IsRow question.now.grammar.now) rows.now }
+    requires sought { IsSought question.now.grammar.now sought }
+    ensures { MatchOption result
+        (NoneLeads question.now.grammar.now sought (λ x. OfRows rows.now x from))
+        (λ back. IsInRows rows.now from back.before × (back.begin ≡ begin)
+        × IsBehind question.now.grammar.now sought back) }
+{
+    for row in rows {
+        if has(&row.words, from) {
+            if let Some(found) = lead(question, over(row.item), sought) {
+                return Some(Back {
+                    before: row.item,
+                    begin,
+                    found,
+                });
+            }
+        }
+    }
+    None
+}
+
+// The front that leads to what is sought.
+fn find_front(question: &Question, fronts: &[Front], begin: u16, sought: Sought) -> Option<Back>
+    requires question { IsQuestion question.now.grammar.now question.now.tables.now }
+    requires fronts { All (λ f. IsItem question.now.grammar.now f.item
+        × (0 < f.item.place)) fronts.now }
+    requires sought { IsSought question.now.grammar.now sought }
+    ensures { MatchOption result
+        (NoneLeads question.now.grammar.now sought (IsOfFronts fronts.now))
+        (λ back. IsOfFronts fronts.now (item_over back.before) × (back.begin ≡ begin)
+        × IsBehind question.now.grammar.now sought back) }
+{
+    for front in fronts {
+        if let Some(found) = lead(question, front.item, sought) {
+            let before = Item {
+                rule: front.item.rule,
+                place: front.item.place - 1,
+            };
+            return Some(Back {
+                before,
+                begin,
+                found,
+            });
+        }
+    }
+    None
+}
+
+// The item with this origin that leads to what is sought over a symbol that begins at a position: it stands there in the
+// symbol's bucket, or it begins its rule there.
+fn find_at(
+    question: &Question,
+    position: &Position,
+    bucket: u16,
+    fronts: &[Front],
+    begin: u16,
+    from: u16,
+    sought: Sought,
+) -> Option<Back>
+    requires question { IsQuestion question.now.grammar.now question.now.tables.now }
+    requires position { IsPosition question.now.grammar.now begin position.now }
+    requires bucket { bucket ≤ question.now.grammar.now.nonterminals }
+    requires fronts { All (λ f. IsItem question.now.grammar.now f.item
+        × (0 < f.item.place)) fronts.now }
+    requires sought { IsSought question.now.grammar.now sought }
+    ensures { MatchOption result
+        (NoneLeads question.now.grammar.now sought
+        (OfSymbol position.now bucket fronts.now begin from))
+        (λ back. IsBefore position.now bucket fronts.now begin from back.before
+        × (back.begin ≡ begin) × IsBehind question.now.grammar.now sought back) }
+{
+    if from == begin {
+        return find_front(question, fronts, begin, sought);
+    }
+    find_row(
+        question,
+        &position.rows[bucket as usize],
+        begin,
+        from,
+        sought,
+    )
+}
+
+// The way back over the token before a position.
+fn by_token(
+    question: &Question,
+    chart: &[Position],
+    at: u16,
+    from: u16,
+    sought: Sought,
+) -> Option<Back>
+    requires tables { IsTables question.now.grammar.now question.now.tables.now }
+    requires tokens { All (IsNumberOf question.now.grammar.now.tokens) question.now.tokens.now }
+    requires chart { IsChart question.now.grammar.now question.now.tables.now
+        question.now.tokens.now (length question.now.tokens.now + 1) chart.now }
+    requires first { 0 < at }
+    requires last { at ≤ length question.now.tokens.now }
+    requires sought { IsSought question.now.grammar.now sought }
+    ensures { MatchOption result
+        (NoneLeads question.now.grammar.now sought
+        (λ x. OfScan (take at chart.now) question.now.tables.now.tokens.items
+        question.now.tokens.now x from))
+        (IsFound question.now.grammar.now question.now.tokens.now chart.now sought at from None) }
+{
+    let _well_formed = question.grammar.rules();
+    let begin = at - 1;
+    let token = question.tokens[begin as usize];
+    let fronts = &question.tables.tokens[token as usize];
+    find_at(
+        question,
+        &chart[begin as usize],
+        0,
+        fronts,
+        begin,
+        from,
+        sought,
+    )
+}
+
+// The way back over a span up to a position.
+fn by_span(
+    question: &Question,
+    chart: &[Position],
+    at: u16,
+    number: usize,
+    from: u16,
+    sought: Sought,
+) -> Option<Back>
+    requires tables { IsTables question.now.grammar.now question.now.tables.now }
+    requires chart { IsChart question.now.grammar.now question.now.tables.now
+        question.now.tokens.now (length question.now.tokens.now + 1) chart.now }
+    requires child { IsChild chart.now at (Some number) }
+    requires sought { IsSought question.now.grammar.now sought }
+    ensures { (p : Position) (s : Span) → slice_get chart.now at ≡ Some p
+        → slice_get p.spans.items number ≡ Some s → MatchOption result
+        (NoneLeads question.now.grammar.now sought
+        (λ x. OfSpan (take at chart.now) question.now.tables.now.nonterminals.items s x from))
+        (IsFound question.now.grammar.now question.now.tokens.now chart.now sought at from
+        (Some number)) }
+{
+    let _well_formed = question.grammar.rules();
+    let span = chart[at as usize].spans[number];
+    let fronts = &question.tables.nonterminals[span.nonterminal as usize];
+    let position = &chart[span.from as usize];
+    find_at(
+        question,
+        position,
+        span.nonterminal,
+        fronts,
+        span.from,
+        from,
+        sought,
+    )
+}
+
+// The way back over a child up to a position: the token before it, or the span of a number.
+pub(crate) fn find_by(
+    question: &Question,
+    chart: &[Position],
+    at: u16,
+    child: Option<usize>,
+    from: u16,
+    sought: Sought,
+) -> Option<Back>
+    requires tables { IsTables question.now.grammar.now question.now.tables.now }
+    requires tokens { All (IsNumberOf question.now.grammar.now.tokens) question.now.tokens.now }
+    requires chart { IsChart question.now.grammar.now question.now.tables.now
+        question.now.tokens.now (length question.now.tokens.now + 1) chart.now }
+    requires first { 0 < at }
+    requires last { at ≤ length question.now.tokens.now }
+    requires child { IsChild chart.now at child }
+    requires sought { IsSought question.now.grammar.now sought }
+    ensures { (p : Position) → slice_get chart.now at ≡ Some p → MatchOption result
+        (NoneLeads question.now.grammar.now sought
+        (OfChild question.now.tables.now question.now.tokens.now (take at chart.now)
+        p.spans.items child from))
+        (IsFound question.now.grammar.now question.now.tokens.now chart.now sought at from child) }
+{
+    match child {
+        None => by_token(question, chart, at, from, sought),
+        Some(number) => by_span(question, chart, at, number, from, sought),
+    }
+}
+
+// How a child of an item that stands at a position was found.
+#[derive(Clone, Copy, Debug)]
+pub(crate) struct WayBack {
+    pub(crate) child: Option<usize>,
+    pub(crate) back: Back,
+}
+
+// The way back from an item that stands at a position.
+pub(crate) fn find_way(
+    question: &Question,
+    chart: &[Position],
+    at: u16,
+    from: u16,
+    item: Item,
+) -> WayBack
+    requires tables { IsTables question.now.grammar.now question.now.tables.now }
+    requires tokens { All (IsNumberOf question.now.grammar.now.tokens) question.now.tokens.now }
+    requires chart { IsChart question.now.grammar.now question.now.tables.now
+        question.now.tokens.now (length question.now.tokens.now + 1) chart.now }
+    requires last { at ≤ length question.now.tokens.now }
+    requires item { StandsBefore chart.now item from at }
+    ensures { IsFound question.now.grammar.now question.now.tokens.now chart.now (Exactly item)
+        at from result.child result.back }
+{
+    let sought = Sought::Exactly(item);
+    if let Some(back) = by_token(question, chart, at, from, sought) {
+        return WayBack { child: None, back };
+    }
+    for number in 0..chart[at as usize].spans.len() {
+        if let Some(back) = by_span(question, chart, at, number, from, sought) {
+            return WayBack {
+                child: Some(number),
+                back,
+            };
+        }
+    }
+    unreachable!()
+}

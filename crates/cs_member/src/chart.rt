@@ -1,0 +1,532 @@
+// The chart: what is found at each position.
+
+ghost use Rattle.std.specs.Prelude.{◌≡◌, ◌≤◌, ◌<◌, ◌+◌, ℕ, [], None, Some, true, All, IfOk, OnOk, length, slice_get};
+ghost use Rattle.cs_member.specs.Item.{IsItem, IsNext};
+ghost use Rattle.cs_grammar.specs.Grammar.{IsNumberOf};
+ghost use Rattle.cs_member.specs.declared.TheConstants.{MOST_LENGTH};
+ghost use Rattle.cs_member.specs.Tables.{IsQuestion};
+ghost use Rattle.std.specs.Global.{Vec};
+ghost use Rattle.cs_member.specs.declared.now.Span.{Span};
+ghost use Rattle.cs_member.specs.declared.chart.Row.{Row};
+ghost use Rattle.cs_member.specs.Now.{IsNow, AreHere, AreShort, ArePassed, ArePut};
+ghost use Rattle.cs_member.specs.Chart.{IsRow, OfRows, OfFronts, OfScan, OfSpan, AreBefore, AreCaused, ArePositions, Grows, IsFollowed, AreRows, bucket_of};
+ghost use Rattle.cs_member.specs.Made.{IsFrom, IsScanned, IsMade, IsChart};
+ghost use Rattle.cs_member.specs.Expecting.{AreMarked, Marks, AreCorners, AreAwaited, IsDescended};
+
+use crate::MOST_LENGTH;
+use crate::adding::{add_at, no_lists};
+use crate::fronts::Front;
+use crate::item::{Item, Next, next_of, over};
+use crate::now::{Now, Origins, Question, Span, Way, put};
+use crate::tables::Tables;
+use crate::word::{Word, pack, word_of};
+use cs_grammar::Symbol;
+use std::alloc::{AllocError, Global};
+
+// An item at a position, with its origins.
+#[derive(Debug, Drop)]
+pub(crate) struct Row {
+    pub(crate) item: Item,
+    pub(crate) words: Vec<Word>,
+}
+
+#[derive(Debug, Drop)]
+pub(crate) struct Position {
+    // By awaited nonterminal; at 0 those that await the token.
+    pub(crate) rows: Vec<Vec<Row>>,
+    // By nonterminal: whether rules of it may begin here.
+    pub(crate) expected: Vec<bool>,
+    pub(crate) spans: Vec<Span>,
+}
+
+// Puts the items of rows, with the awaited symbol taken.
+fn put_rows(
+    alloc: Global,
+    question: &Question,
+    now: &mut Now,
+    guesses: &mut [usize],
+    way: Way,
+    rows: &[Row],
+) -> Result<(), AllocError>
+    requires now { IsNow question.now.grammar.now now.old }
+    requires question { IsQuestion question.now.grammar.now question.now.tables.now }
+    requires guesses { length guesses.old ≡ question.now.tables.now.items }
+    requires rows { All (IsRow question.now.grammar.now) rows.now }
+    ensures now { OnOk result (IsNow question.now.grammar.now now.new) }
+    ensures guesses { OnOk result (length guesses.new ≡ question.now.tables.now.items) }
+    ensures put { OnOk result (ArePut question.now.grammar.now way.ahead way.cause
+        (OfRows rows.now) now.old now.new) }
+{
+    for row in rows {
+        put(
+            alloc,
+            question,
+            now,
+            guesses,
+            way,
+            over(row.item),
+            &row.words,
+        )?;
+    }
+    Ok(())
+}
+
+// The front of rules that may begin at a position.
+#[derive(Debug, Drop)]
+struct Begun<'b> {
+    expected: &'b [bool],
+    fronts: &'b [Front],
+    from: u16,
+}
+
+// Puts the items at the fronts of expected rules.
+fn put_fronts(
+    alloc: Global,
+    question: &Question,
+    now: &mut Now,
+    guesses: &mut [usize],
+    way: Way,
+    begun: &Begun,
+) -> Result<(), AllocError>
+    requires now { IsNow question.now.grammar.now now.old }
+    requires question { IsQuestion question.now.grammar.now question.now.tables.now }
+    requires guesses { length guesses.old ≡ question.now.tables.now.items }
+    requires expected { length begun.now.expected.now ≡ question.now.grammar.now.nonterminals + 1 }
+    requires fronts { All (λ f. IsItem question.now.grammar.now f.item
+        × (f.left ≤ question.now.grammar.now.nonterminals)) begun.now.fronts.now }
+    ensures now { OnOk result (IsNow question.now.grammar.now now.new) }
+    ensures guesses { OnOk result (length guesses.new ≡ question.now.tables.now.items) }
+    ensures put { OnOk result (ArePut question.now.grammar.now way.ahead way.cause
+        (OfFronts begun.now.expected.now begun.now.fronts.now begun.now.from) now.old now.new) }
+{
+    let words = [word_of(begun.from)];
+    for front in begun.fronts {
+        if begun.expected[front.left as usize] {
+            put(alloc, question, now, guesses, way, front.item, &words)?;
+        }
+    }
+    Ok(())
+}
+
+// Adds what follows from the token before the position.
+fn scan(
+    alloc: Global,
+    question: &Question,
+    chart: &[Position],
+    now: &mut Now,
+    guesses: &mut [usize],
+    ahead: Option<u16>,
+) -> Result<(), AllocError>
+    requires now { IsNow question.now.grammar.now now.old }
+    requires question { IsQuestion question.now.grammar.now question.now.tables.now }
+    requires tokens { All (IsNumberOf question.now.grammar.now.tokens) question.now.tokens.now }
+    requires length { length question.now.tokens.now ≤ MOST_LENGTH }
+    requires guesses { length guesses.old ≡ question.now.tables.now.items }
+    requires chart { ArePositions question.now.grammar.now chart.now }
+    requires first { 0 < length chart.now }
+    requires last { length chart.now ≤ length question.now.tokens.now }
+    requires before { AreBefore question.now.grammar.now (length chart.now) now.old }
+    ensures now { OnOk result (IsNow question.now.grammar.now now.new) }
+    ensures guesses { OnOk result (length guesses.new ≡ question.now.tables.now.items) }
+    ensures before { OnOk result (AreBefore question.now.grammar.now (length chart.now) now.new) }
+    ensures put { OnOk result (ArePut question.now.grammar.now ahead None
+        (OfScan chart.now question.now.tables.now.tokens.items question.now.tokens.now)
+        now.old now.new) }
+{
+    let _well_formed = question.grammar.rules();
+    let last = chart.len() - 1;
+    let token = question.tokens[last];
+    let position = &chart[last];
+    let way = Way { ahead, cause: None };
+    put_rows(alloc, question, now, guesses, way, &position.rows[0])?;
+    let begun = Begun {
+        expected: &position.expected,
+        fronts: &question.tables.tokens[token as usize],
+        from: last as u16,
+    };
+    put_fronts(alloc, question, now, guesses, way, &begun)?;
+    Ok(())
+}
+
+// Adds what follows from a span.
+fn follow(
+    alloc: Global,
+    question: &Question,
+    chart: &[Position],
+    now: &mut Now,
+    guesses: &mut [usize],
+    ahead: Option<u16>,
+    number: u32,
+) -> Result<(), AllocError>
+    requires now { IsNow question.now.grammar.now now.old }
+    requires question { IsQuestion question.now.grammar.now question.now.tables.now }
+    requires guesses { length guesses.old ≡ question.now.tables.now.items }
+    requires chart { ArePositions question.now.grammar.now chart.now }
+    requires number { number < length now.old.spans.items }
+    requires before { AreBefore question.now.grammar.now (length chart.now) now.old }
+    ensures now { OnOk result (IsNow question.now.grammar.now now.new) }
+    ensures guesses { OnOk result (length guesses.new ≡ question.now.tables.now.items) }
+    ensures before { OnOk result (AreBefore question.now.grammar.now (length chart.now) now.new) }
+    ensures put { OnOk result ((s : Span) → slice_get now.old.spans.items number ≡ Some s
+        → ArePut question.now.grammar.now ahead (Some number)
+        (OfSpan chart.now question.now.tables.now.nonterminals.items s) now.old now.new) }
+{
+    let _well_formed = question.grammar.rules();
+    let span = now.spans[number as usize];
+    let position = &chart[span.from as usize];
+    let way = Way {
+        ahead,
+        cause: Some(number),
+    };
+    put_rows(
+        alloc,
+        question,
+        now,
+        guesses,
+        way,
+        &position.rows[span.nonterminal as usize],
+    )?;
+    let begun = Begun {
+        expected: &position.expected,
+        fronts: &question.tables.nonterminals[span.nonterminal as usize],
+        from: span.from,
+    };
+    put_fronts(alloc, question, now, guesses, way, &begun)?;
+    Ok(())
+}
+
+// Adds what follows from the spans.
+fn complete(
+    alloc: Global,
+    question: &Question,
+    chart: &[Position],
+    now: &mut Now,
+    guesses: &mut [usize],
+    ahead: Option<u16>,
+) -> Result<(), AllocError>
+    requires now { IsNow question.now.grammar.now now.old }
+    requires question { IsQuestion question.now.grammar.now question.now.tables.now }
+    requires guesses { length guesses.old ≡ question.now.tables.now.items }
+    requires chart { ArePositions question.now.grammar.now chart.now }
+    requires before { AreBefore question.now.grammar.now (length chart.now) now.old }
+    ensures now { OnOk result (IsNow question.now.grammar.now now.new) }
+    ensures guesses { OnOk result (length guesses.new ≡ question.now.tables.now.items) }
+    ensures before { OnOk result (AreBefore question.now.grammar.now (length chart.now) now.new) }
+    ensures grows { OnOk result (Grows question.now.grammar.now ahead now.old now.new) }
+    ensures caused { OnOk result (AreCaused question.now.grammar.now chart.now
+        question.now.tables.now.nonterminals.items now.old now.new) }
+    ensures followed { OnOk result ((n : ℕ) → n < length now.new.spans.items
+        → IsFollowed question.now.grammar.now ahead chart.now
+        question.now.tables.now.nonterminals.items now.new n) }
+{
+    for number in 0..u32::MAX {
+        if number as usize >= now.spans.len() {
+            return Ok(());
+        }
+        follow(alloc, question, chart, now, guesses, ahead, number)?;
+    }
+    Err(AllocError)
+}
+
+// Expects a nonterminal.
+fn expect(
+    expected: &mut Vec<bool>,
+    pending: &mut Vec<u16>,
+    nonterminal: u16,
+) -> Result<(), AllocError>
+    requires marked { AreMarked expected.old.items pending.old.items }
+    requires nonterminal { nonterminal < length expected.old.items }
+    ensures marked { OnOk result (AreMarked expected.new.items pending.new.items) }
+    ensures marks { OnOk result (Marks expected.old.items pending.old.items
+        expected.new.items pending.new.items) }
+    ensures is_marked { OnOk result (slice_get expected.new.items nonterminal ≡ Some true) }
+{
+    if expected[nonterminal as usize] {
+        return Ok(());
+    }
+    expected[nonterminal as usize] = true;
+    pending.push(nonterminal)?;
+    Ok(())
+}
+
+// Expects each of these.
+fn expect_each(
+    expected: &mut Vec<bool>,
+    pending: &mut Vec<u16>,
+    nonterminals: &[u16],
+) -> Result<(), AllocError>
+    requires marked { AreMarked expected.old.items pending.old.items }
+    requires nonterminals { All (λ a. a < length expected.old.items) nonterminals.now }
+    ensures marked { OnOk result (AreMarked expected.new.items pending.new.items) }
+    ensures marks { OnOk result (Marks expected.old.items pending.old.items
+        expected.new.items pending.new.items) }
+    ensures are_marked { OnOk result (All
+        (λ a. slice_get expected.new.items a ≡ Some true) nonterminals.now) }
+{
+    for nonterminal in nonterminals {
+        expect(expected, pending, *nonterminal)?;
+    }
+    Ok(())
+}
+
+// Expects what the rules of expected nonterminals begin with.
+fn expect_corners(
+    tables: &Tables,
+    expected: &mut Vec<bool>,
+    pending: &mut Vec<u16>,
+) -> Result<(), AllocError>
+    requires marked { AreMarked expected.old.items pending.old.items }
+    requires corners { AreCorners (length expected.old.items) tables.now.corners.items }
+    ensures marks { OnOk result (Marks expected.old.items pending.old.items
+        expected.new.items pending.new.items) }
+    ensures closed { OnOk result (IsDescended tables.now.corners.items expected.new.items) }
+{
+    for number in 0..u32::MAX {
+        if number as usize >= pending.len() {
+            return Ok(());
+        }
+        let nonterminal = pending[number as usize];
+        expect_each(expected, pending, &tables.corners[nonterminal as usize])?;
+    }
+    Err(AllocError)
+}
+
+// The rows of what stands at a position.
+fn rows_of(
+    alloc: Global,
+    question: &Question,
+    origins: &[Origins],
+) -> Result<Vec<Vec<Row>>, AllocError>
+    requires here { AreHere question.now.grammar.now origins.now }
+    requires short { AreShort origins.now }
+    ensures { IfOk result (λ rows. AreRows question.now.grammar.now origins.now rows.items) }
+{
+    let _well_formed = question.grammar.rules();
+    let mut rows = no_lists(alloc, question.grammar.nonterminals())?;
+    for origin in origins {
+        let bucket = awaited(next_of(question.grammar, origin.item));
+        let words = pack(alloc, &origin.set)?;
+        let row = Row {
+            item: origin.item,
+            words,
+        };
+        add_at(&mut rows, bucket, row)?;
+    }
+    Ok(rows)
+}
+
+fn none_expected(alloc: Global, last: u16) -> Result<Vec<bool>, AllocError>
+    ensures size { IfOk result (λ expected. length expected.items ≡ last + 1) }
+    ensures none { IfOk result (λ expected. AreMarked expected.items []) }
+{
+    let many = last as usize + 1;
+    let mut expected = Vec::with_capacity(alloc, many)?;
+    for _ in 0..many {
+        expected.push(false)?;
+    }
+    Ok(expected)
+}
+
+// Expects the nonterminals that items await.
+fn expect_awaited(
+    question: &Question,
+    expected: &mut Vec<bool>,
+    pending: &mut Vec<u16>,
+    origins: &[Origins],
+) -> Result<(), AllocError>
+    requires marked { AreMarked expected.old.items pending.old.items }
+    requires size { length expected.old.items ≡ question.now.grammar.now.nonterminals + 1 }
+    requires here { AreHere question.now.grammar.now origins.now }
+    ensures marked { OnOk result (AreMarked expected.new.items pending.new.items) }
+    ensures marks { OnOk result (Marks expected.old.items pending.old.items
+        expected.new.items pending.new.items) }
+    ensures awaited { OnOk result (AreAwaited question.now.grammar.now
+        origins.now expected.new.items) }
+{
+    let _well_formed = question.grammar.rules();
+    for origin in origins {
+        let nonterminal = awaited(next_of(question.grammar, origin.item));
+        expect(expected, pending, nonterminal)?;
+    }
+    Ok(())
+}
+
+// Which nonterminals' rules may begin at a position where these items stand.
+fn expected_of(
+    alloc: Global,
+    question: &Question,
+    origins: &[Origins],
+    first: bool,
+) -> Result<Vec<bool>, AllocError>
+    requires here { AreHere question.now.grammar.now origins.now }
+    requires corners { AreCorners (question.now.grammar.now.nonterminals + 1)
+        question.now.tables.now.corners.items }
+    ensures size { IfOk result (λ expected. length expected.items
+        ≡ question.now.grammar.now.nonterminals + 1) }
+    ensures first { IfOk result (λ expected. first ≡ true
+        → slice_get expected.items question.now.grammar.now.start ≡ Some true) }
+    ensures awaited { IfOk result (λ expected. AreAwaited question.now.grammar.now
+        origins.now expected.items) }
+    ensures closed { IfOk result (λ expected. IsDescended
+        question.now.tables.now.corners.items expected.items) }
+{
+    let _well_formed = question.grammar.rules();
+    let mut expected = none_expected(alloc, question.grammar.nonterminals())?;
+    let mut pending = Vec::new(alloc);
+    if first {
+        expect(&mut expected, &mut pending, question.grammar.start())?;
+    }
+    expect_awaited(question, &mut expected, &mut pending, origins)?;
+    expect_corners(question.tables, &mut expected, &mut pending)?;
+    Ok(expected)
+}
+
+// The awaited nonterminal, or 0.
+fn awaited(next: Next) -> u16
+    ensures { result ≡ bucket_of next }
+{
+    match next {
+        Next::Awaited(Symbol::Nonterminal(nonterminal)) => nonterminal,
+        _ => 0,
+    }
+}
+
+// The position of what was found.
+fn settle(alloc: Global, question: &Question, now: Now, first: bool) -> Result<Position, AllocError>
+    requires now { IsNow question.now.grammar.now now }
+    requires corners { AreCorners (question.now.grammar.now.nonterminals + 1)
+        question.now.tables.now.corners.items }
+    ensures rows { IfOk result (λ position. AreRows question.now.grammar.now
+        now.origins.items position.rows.items) }
+    ensures size { IfOk result (λ position. length position.expected.items
+        ≡ question.now.grammar.now.nonterminals + 1) }
+    ensures first { IfOk result (λ position. first ≡ true
+        → slice_get position.expected.items question.now.grammar.now.start ≡ Some true) }
+    ensures awaited { IfOk result (λ position. AreAwaited question.now.grammar.now
+        now.origins.items position.expected.items) }
+    ensures closed { IfOk result (λ position. IsDescended
+        question.now.tables.now.corners.items position.expected.items) }
+    ensures spans { IfOk result (λ position. position.spans.items ≡ now.spans.items) }
+{
+    let Now {
+        origins,
+        ends: _,
+        spans,
+    } = now;
+    let rows = rows_of(alloc, question, &origins)?;
+    let expected = expected_of(alloc, question, &origins, first)?;
+    Ok(Position {
+        rows,
+        expected,
+        spans,
+    })
+}
+
+// The token behind a position.
+fn token_at(question: &Question, at: usize) -> Option<u16>
+    ensures { result ≡ slice_get question.now.tokens.now at }
+{
+    match question.tokens.get(at) {
+        Some(token) => Some(*token),
+        None => None,
+    }
+}
+
+// What is found at the next position by the token before it.
+fn begin(
+    alloc: Global,
+    question: &Question,
+    chart: &[Position],
+    guesses: &mut [usize],
+) -> Result<Now, AllocError>
+    requires question { IsQuestion question.now.grammar.now question.now.tables.now }
+    requires tokens { All (IsNumberOf question.now.grammar.now.tokens) question.now.tokens.now }
+    requires length { length question.now.tokens.now ≤ MOST_LENGTH }
+    requires guesses { length guesses.old ≡ question.now.tables.now.items }
+    requires chart { ArePositions question.now.grammar.now chart.now }
+    requires last { length chart.now ≤ length question.now.tokens.now }
+    ensures guesses { OnOk result (length guesses.new ≡ question.now.tables.now.items) }
+    ensures now { IfOk result (IsNow question.now.grammar.now) }
+    ensures before { IfOk result (AreBefore question.now.grammar.now (length chart.now)) }
+    ensures passed { IfOk result (ArePassed question.now.grammar.now
+        (slice_get question.now.tokens.now (length chart.now))) }
+    ensures scanned { IfOk result (IsScanned question.now.grammar.now question.now.tables.now
+        question.now.tokens.now chart.now) }
+    ensures from { IfOk result (IsFrom question.now.grammar.now question.now.tables.now
+        question.now.tokens.now chart.now) }
+{
+    let mut now = Now::new(alloc, question.grammar)?;
+    if chart.is_empty() {
+        return Ok(now);
+    }
+    let ahead = token_at(question, chart.len());
+    scan(alloc, question, chart, &mut now, guesses, ahead)?;
+    Ok(now)
+}
+
+// Makes the next position.
+fn make(
+    alloc: Global,
+    question: &Question,
+    chart: &[Position],
+    guesses: &mut [usize],
+) -> Result<Position, AllocError>
+    requires question { IsQuestion question.now.grammar.now question.now.tables.now }
+    requires corners { AreCorners (question.now.grammar.now.nonterminals + 1)
+        question.now.tables.now.corners.items }
+    requires tokens { All (IsNumberOf question.now.grammar.now.tokens) question.now.tokens.now }
+    requires length { length question.now.tokens.now ≤ MOST_LENGTH }
+    requires guesses { length guesses.old ≡ question.now.tables.now.items }
+    requires chart { ArePositions question.now.grammar.now chart.now }
+    requires last { length chart.now ≤ length question.now.tokens.now }
+    ensures guesses { OnOk result (length guesses.new ≡ question.now.tables.now.items) }
+    ensures made { IfOk result (IsMade question.now.grammar.now question.now.tables.now
+        question.now.tokens.now chart.now) }
+{
+    let mut now = begin(alloc, question, chart, guesses)?;
+    let ahead = token_at(question, chart.len());
+    complete(alloc, question, chart, &mut now, guesses, ahead)?;
+    let position = settle(alloc, question, now, chart.is_empty())?;
+    Ok(position)
+}
+
+// The positions before each token, and the last.
+fn positions_of(
+    alloc: Global,
+    question: &Question,
+    guesses: &mut [usize],
+) -> Result<Vec<Position>, AllocError>
+    requires question { IsQuestion question.now.grammar.now question.now.tables.now }
+    requires corners { AreCorners (question.now.grammar.now.nonterminals + 1)
+        question.now.tables.now.corners.items }
+    requires tokens { All (IsNumberOf question.now.grammar.now.tokens) question.now.tokens.now }
+    requires length { length question.now.tokens.now ≤ MOST_LENGTH }
+    requires guesses { length guesses.old ≡ question.now.tables.now.items }
+    ensures { IfOk result (λ chart. IsChart question.now.grammar.now question.now.tables.now
+        question.now.tokens.now (length question.now.tokens.now + 1) chart.items) }
+{
+    let mut chart: Vec<Position> = Vec::new(alloc);
+    for _ in 0..question.tokens.len() + 1 {
+        let position = make(alloc, question, &chart, guesses)?;
+        chart.push(position)?;
+    }
+    Ok(chart)
+}
+
+// The chart of a list of tokens.
+pub(crate) fn chart_of(alloc: Global, question: &Question) -> Result<Vec<Position>, AllocError>
+    requires question { IsQuestion question.now.grammar.now question.now.tables.now }
+    requires corners { AreCorners (question.now.grammar.now.nonterminals + 1)
+        question.now.tables.now.corners.items }
+    requires tokens { All (IsNumberOf question.now.grammar.now.tokens) question.now.tokens.now }
+    requires length { length question.now.tokens.now ≤ MOST_LENGTH }
+    ensures { IfOk result (λ chart. IsChart question.now.grammar.now question.now.tables.now
+        question.now.tokens.now (length question.now.tokens.now + 1) chart.items) }
+{
+    let mut guesses = Vec::new(alloc);
+    for _ in 0..question.tables.items {
+        guesses.push(0usize)?;
+    }
+    let chart = positions_of(alloc, question, &mut guesses)?;
+    Ok(chart)
+}

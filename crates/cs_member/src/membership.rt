@@ -1,0 +1,89 @@
+// Whether a list of tokens is a sentence.
+
+ghost use Rattle.std.specs.Prelude.{◌≡◌, ◌≤◌, ◌+◌, All, Some, IfOk, IfNone, IfSome, MatchOption, length, slice_get};
+ghost use Rattle.cs_grammar.specs.Sentence.{IsSentence};
+ghost use Rattle.cs_member.specs.declared.now.Span.{Span};
+ghost use Rattle.cs_member.specs.Now.{SpansIn};
+ghost use Rattle.cs_member.specs.Made.{IsTables, IsChart};
+ghost use Rattle.cs_grammar.specs.Grammar.{IsNumberOf};
+ghost use Rattle.cs_member.specs.Membership.{IsMembership};
+ghost use Rattle.cs_member.specs.Writing.{IsWhole};
+ghost use Rattle.cs_member.specs.declared.TheConstants.{MOST_LENGTH};
+
+use crate::MOST_LENGTH;
+use crate::chart::{Position, chart_of};
+use crate::now::{Question, Span};
+use crate::tables::Tables;
+use crate::writing::{Task, write};
+use cs_grammar::{Derivation, Grammar};
+use std::alloc::{AllocError, Global};
+
+/// A derivation of the list, or that there is none.
+#[derive(Debug, Drop)]
+pub enum Membership {
+    Inside(Derivation),
+    Outside,
+}
+
+// The number of a span of the nonterminal from the first position.
+fn find_span(spans: &[Span], nonterminal: u16) -> Option<usize>
+    ensures { MatchOption result (SpansIn spans.now nonterminal 0 → ⊥)
+        (λ n. (s : Span) × (slice_get spans.now n ≡ Some s)
+        × (s.nonterminal ≡ nonterminal) × (s.from ≡ 0)) }
+{
+    for (number, span) in spans.iter().enumerate() {
+        if span.nonterminal == nonterminal && span.from == 0 {
+            return Some(number);
+        }
+    }
+    None
+}
+
+// The tree of the whole list.
+fn whole(question: &Question, chart: &[Position]) -> Option<Task>
+    requires tables { IsTables question.now.grammar.now question.now.tables.now }
+    requires length { length question.now.tokens.now ≤ MOST_LENGTH }
+    requires chart { IsChart question.now.grammar.now question.now.tables.now
+        question.now.tokens.now (length question.now.tokens.now + 1) chart.now }
+    ensures none { IfNone result
+        (IsSentence question.now.grammar.now question.now.tokens.now → ⊥) }
+    ensures some { IfSome result (IsWhole question.now.grammar.now question.now.tokens.now
+        question.now.tables.now chart.now) }
+{
+    let _well_formed = question.grammar.rules();
+    let start = question.grammar.start();
+    let last = question.tokens.len();
+    if last == 0 {
+        if question.tables.empties[start as usize] == 0 {
+            return None;
+        }
+        return Some(Task::Empty(start));
+    }
+    match find_span(&chart[last].spans, start) {
+        None => None,
+        Some(number) => Some(Task::Tree {
+            number,
+            at: last as u16,
+        }),
+    }
+}
+
+/// Whether the list of tokens is a sentence of the grammar: `Inside` with the code of a tree of the start symbol whose yield
+/// is the list, or `Outside` exactly where no tree of the start symbol yields it.
+pub fn member(alloc: Global, grammar: &Grammar, tokens: &[u16]) -> Result<Membership, AllocError>
+    requires length { length tokens.now ≤ MOST_LENGTH }
+    requires tokens { All (IsNumberOf grammar.now.tokens) tokens.now }
+    ensures { IfOk result (IsMembership grammar.now tokens.now) }
+{
+    let tables = Tables::new(alloc, grammar)?;
+    let question = Question {
+        grammar,
+        tables: &tables,
+        tokens,
+    };
+    let chart = chart_of(alloc, &question)?;
+    match whole(&question, &chart) {
+        None => Ok(Membership::Outside),
+        Some(task) => Ok(Membership::Inside(write(alloc, &question, &chart, task)?)),
+    }
+}

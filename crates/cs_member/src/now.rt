@@ -1,0 +1,275 @@
+// The position that is being made.
+
+ghost use Rattle.std.specs.Prelude.{◌≡◌, ◌≤◌, ◌<◌, ◌+◌, ◌++◌, ◌∷◌, ◌⊎◌, ℕ, [], Some, All, IfOk, OnOk, length, slice_get};
+ghost use Rattle.cs_member.specs.declared.now.Origins.{Origins};
+ghost use Rattle.cs_grammar.specs.Grammar.{PlainGrammar};
+ghost use Rattle.cs_member.specs.Item.{IsItem};
+ghost use Rattle.cs_member.specs.Tables.{IsQuestion};
+ghost use Rattle.cs_member.specs.Sets.{Has, InWord, InWords};
+ghost use Rattle.cs_member.specs.Now.{IsNow, Ends, Stood, AreShort, IsHere, AreHere, IsPut};
+
+use crate::item::{Item, Next, next_of, same};
+use crate::tables::Tables;
+use crate::word::{Word, add, add_all, bits_at};
+use cs_grammar::{Grammar, Symbol};
+use cs_numbers::place_of;
+use std::alloc::{AllocError, Global};
+
+// A grammar with its tables, and a list of tokens.
+#[derive(Debug, Drop)]
+pub(crate) struct Question<'q> {
+    pub(crate) grammar: &'q Grammar,
+    pub(crate) tables: &'q Tables,
+    pub(crate) tokens: &'q [u16],
+}
+
+impl Question<'_> {
+    // The place of an item among all.
+    fn place(&self, item: Item) -> usize
+        requires tables { IsQuestion self.now.grammar.now self.now.tables.now }
+        requires item { IsItem self.now.grammar.now item }
+        ensures { result < self.now.tables.now.items }
+    {
+        self.tables.bases[place_of(item.rule)] + item.place as usize
+    }
+}
+
+// A tree of the nonterminal yields the tokens from a position to that at which the span is kept. Its last tokens are those
+// of the span of this number, found earlier at that position, or without one the last token.
+#[derive(Clone, Copy, Debug)]
+pub(crate) struct Span {
+    pub(crate) nonterminal: u16,
+    pub(crate) from: u16,
+    pub(crate) cause: Option<u32>,
+}
+
+// The origins of an item.
+#[derive(Debug, Drop)]
+pub(crate) struct Origins {
+    pub(crate) item: Item,
+    pub(crate) set: Vec<u64>,
+}
+
+// What is found at a position so far.
+#[derive(Debug, Drop)]
+pub(crate) struct Now {
+    pub(crate) origins: Vec<Origins>,
+    // By nonterminal: where its spans begin.
+    pub(crate) ends: Vec<Vec<u64>>,
+    pub(crate) spans: Vec<Span>,
+}
+
+impl Now {
+    pub(crate) fn new(alloc: Global, grammar: &Grammar) -> Result<Now, AllocError>
+        ensures now { IfOk result (IsNow grammar.now) }
+        ensures origins { IfOk result (λ now. now.origins.items ≡ []) }
+        ensures spans { IfOk result (λ now. now.spans.items ≡ []) }
+    {
+        let _well_formed = grammar.rules();
+        let many = grammar.nonterminals() as usize + 1;
+        let mut ends = Vec::with_capacity(alloc, many)?;
+        for _ in 0..many {
+            ends.push(Vec::new(alloc))?;
+        }
+        Ok(Now {
+            origins: Vec::new(alloc),
+            ends,
+            spans: Vec::new(alloc),
+        })
+    }
+}
+
+// Where the origins of the item are kept, by a table of guesses.
+fn find(
+    alloc: Global,
+    origins: &mut Vec<Origins>,
+    guesses: &mut [usize],
+    place: usize,
+    item: Item,
+) -> Result<usize, AllocError>
+    requires { place < length guesses.old }
+    ensures size { OnOk result (length guesses.new ≡ length guesses.old) }
+    ensures there { IfOk result (λ k. (o : Origins)
+        × (slice_get origins.new.items k ≡ Some o) × (o.item ≡ item)) }
+    ensures added { OnOk result ((origins.new.items ≡ origins.old.items)
+        ⊎ ((o : Origins) × (origins.new.items ≡ origins.old.items ++ o ∷ []) × (o.set.items ≡ []))) }
+    ensures items { OnOk result ((g : PlainGrammar) → IsHere g item
+        → AreHere g origins.old.items → AreHere g origins.new.items) }
+{
+    let guess = guesses[place];
+    if guess < origins.len() && same(origins[guess].item, item) {
+        return Ok(guess);
+    }
+    let last = origins.len();
+    guesses[place] = last;
+    origins.push(Origins {
+        item,
+        set: Vec::new(alloc),
+    })?;
+    Ok(last)
+}
+
+// Puts the words into the origins at a place.
+fn stand_at(origins: &mut Vec<Origins>, place: usize, words: &[Word]) -> Result<(), AllocError>
+    requires place { place < length origins.old.items }
+    requires short { AreShort origins.old.items }
+    requires words { All (λ word. word.at < 1024) words.now }
+    ensures short { OnOk result (AreShort origins.new.items) }
+    ensures items { OnOk result ((g : PlainGrammar)
+        → AreHere g origins.old.items → AreHere g origins.new.items) }
+    ensures stood { OnOk result ((o : Origins) → slice_get origins.old.items place ≡ Some o
+        → Stood o.item (InWords words.now) origins.old.items origins.new.items) }
+{
+    add_all(&mut origins[place].set, words)?;
+    Ok(())
+}
+
+// Puts the item with these origins.
+fn stand(
+    alloc: Global,
+    origins: &mut Vec<Origins>,
+    guesses: &mut [usize],
+    place: usize,
+    item: Item,
+    words: &[Word],
+) -> Result<(), AllocError>
+    requires place { place < length guesses.old }
+    requires short { AreShort origins.old.items }
+    requires words { All (λ word. word.at < 1024) words.now }
+    ensures size { OnOk result (length guesses.new ≡ length guesses.old) }
+    ensures short { OnOk result (AreShort origins.new.items) }
+    ensures items { OnOk result ((g : PlainGrammar) → IsHere g item
+        → AreHere g origins.old.items → AreHere g origins.new.items) }
+    ensures stood { OnOk result (Stood item (InWords words.now)
+        origins.old.items origins.new.items) }
+{
+    let found = find(alloc, origins, guesses, place, item)?;
+    stand_at(origins, found, words)?;
+    Ok(())
+}
+
+// Adds a span for each bit.
+fn end_bits(
+    spans: &mut Vec<Span>,
+    left: u16,
+    cause: Option<u32>,
+    word: Word,
+) -> Result<(), AllocError>
+    requires { word.at < 1024 }
+    ensures { OnOk result (Ends left cause (InWord word) spans.old.items spans.new.items) }
+{
+    let mut bits = word.bits;
+    while bits != 0 {
+        let bit = bits.trailing_zeros();
+        spans.push(Span {
+            nonterminal: left,
+            from: word.at * 64 + bit as u16,
+            cause,
+        })?;
+        bits &= !(1u64 << bit);
+    }
+    Ok(())
+}
+
+fn end_word(
+    now: &mut Now,
+    grammar: &Grammar,
+    left: u16,
+    cause: Option<u32>,
+    word: Word,
+) -> Result<(), AllocError>
+    requires now { IsNow grammar.now now.old }
+    requires left { left ≤ grammar.now.nonterminals }
+    requires word { word.at < 1024 }
+    ensures now { OnOk result (IsNow grammar.now now.new) }
+    ensures origins { OnOk result (now.new.origins.items ≡ now.old.origins.items) }
+    ensures ends { OnOk result (Ends left cause (InWord word)
+        now.old.spans.items now.new.spans.items) }
+{
+    let fresh = Word {
+        at: word.at,
+        bits: word.bits & !bits_at(&now.ends[left as usize], word.at),
+    };
+    end_bits(&mut now.spans, left, cause, fresh)?;
+    add(&mut now.ends[left as usize], word)?;
+    Ok(())
+}
+
+// Adds spans that aren't there yet.
+fn end(
+    now: &mut Now,
+    grammar: &Grammar,
+    left: u16,
+    cause: Option<u32>,
+    words: &[Word],
+) -> Result<(), AllocError>
+    requires now { IsNow grammar.now now.old }
+    requires left { left ≤ grammar.now.nonterminals }
+    requires words { All (λ word. word.at < 1024) words.now }
+    ensures now { OnOk result (IsNow grammar.now now.new) }
+    ensures origins { OnOk result (now.new.origins.items ≡ now.old.origins.items) }
+    ensures ends { OnOk result (Ends left cause (InWords words.now)
+        now.old.spans.items now.new.spans.items) }
+{
+    for word in words {
+        end_word(now, grammar, left, cause, *word)?;
+    }
+    Ok(())
+}
+
+// What comes at a position, and how it is found.
+#[derive(Clone, Copy, Debug)]
+pub(crate) struct Way {
+    pub(crate) ahead: Option<u16>,
+    pub(crate) cause: Option<u32>,
+}
+
+// Puts an item with origins, and also it behind further symbols that have empty trees.
+pub(crate) fn put(
+    alloc: Global,
+    question: &Question,
+    now: &mut Now,
+    guesses: &mut [usize],
+    way: Way,
+    first: Item,
+    words: &[Word],
+) -> Result<(), AllocError>
+    requires now { IsNow question.now.grammar.now now.old }
+    requires question { IsQuestion question.now.grammar.now question.now.tables.now }
+    requires guesses { length guesses.old ≡ question.now.tables.now.items }
+    requires first { IsItem question.now.grammar.now first }
+    requires words { All (λ word. word.at < 1024) words.now }
+    ensures now { OnOk result (IsNow question.now.grammar.now now.new) }
+    ensures guesses { OnOk result (length guesses.new ≡ question.now.tables.now.items) }
+    ensures put { OnOk result (IsPut question.now.grammar.now way.ahead way.cause first
+        (InWords words.now) now.old now.new) }
+{
+    let rule = question.grammar.rule(first.rule);
+    for place in first.place as usize..rule.right().len() + 1 {
+        let item = Item {
+            rule: first.rule,
+            place: place as u16,
+        };
+        match next_of(question.grammar, item) {
+            Next::Done(left) => {
+                end(now, question.grammar, left, way.cause, words)?;
+                return Ok(());
+            }
+            Next::Awaited(Symbol::Token(token)) => {
+                if way.ahead == Some(token) {
+                    let guess = question.place(item);
+                    stand(alloc, &mut now.origins, guesses, guess, item, words)?;
+                }
+                return Ok(());
+            }
+            Next::Awaited(Symbol::Nonterminal(nonterminal)) => {
+                let guess = question.place(item);
+                stand(alloc, &mut now.origins, guesses, guess, item, words)?;
+                if question.tables.empties[nonterminal as usize] == 0 {
+                    return Ok(());
+                }
+            }
+        }
+    }
+    Ok(())
+}
