@@ -123,10 +123,10 @@ module _ (g : PlainGrammar) (tables : Tables) (tokens : List ℕ) (chart : List 
       ]
 
   -- what the rows of a position's buckets await
-  rows_nonterminal : (i b : ℕ) (p : Position) (list : Vec Row) (row : Row) → slice_get chart i ≡ Some p → 0 < b → slice_get p.rows.items b ≡ Some list → Contains list.items row → Awaits g row.item (Nonterminal b)
+  pub rows_nonterminal : (i b : ℕ) (p : Position) (list : Vec Row) (row : Row) → slice_get chart i ≡ Some p → 0 < b → slice_get p.rows.items b ≡ Some list → Contains list.items row → Awaits g row.item (Nonterminal b)
   rows_nonterminal i b p list row at above at_list has = (position_at i p at).awaits b list row at_list has above
 
-  rows_token : (i t j : ℕ) (p : Position) (list : Vec Row) (row : Row) → slice_get chart i ≡ Some p → slice_get tokens i ≡ Some t → slice_get p.rows.items 0 ≡ Some list → Contains list.items row → InWords row.words.items j → Awaits g row.item (Token t)
+  pub rows_token : (i t j : ℕ) (p : Position) (list : Vec Row) (row : Row) → slice_get chart i ≡ Some p → slice_get tokens i ≡ Some t → slice_get p.rows.items 0 ≡ Some list → Contains list.items row → InWords row.words.items j → Awaits g row.item (Token t)
   rows_token i t j p list row at token at_list has in_it =
       let made = is.each i p at in
       let held = made.rows.held 0 list row at_list has in
@@ -214,7 +214,7 @@ module _ (g : PlainGrammar) (tables : Tables) (tokens : List ℕ) (chart : List 
 
 module _ (g : PlainGrammar) (tables : Tables) (tokens : List ℕ) (chart : List Position) (is_tables : IsTables g tables) (is : IsChart g tables tokens (length tokens + 1) chart) (x : Item) (from at : ℕ) where
   -- what stands at a position stood there when it was made
-  stood_in : (p : Position) → (at_p : slice_get chart at ≡ Some p) → StandsAt p x from → StandsIn (is.each at p at_p).now.origins.items x from
+  pub stood_in : (p : Position) → (at_p : slice_get chart at ≡ Some p) → StandsAt p x from → StandsIn (is.each at p at_p).now.origins.items x from
   stood_in p at_p h = subst (λ (y : Item). StandsIn (is.each at p at_p).now.origins.items y from) h.5 (((is.each at p at_p).rows.held h.0 h.1 h.2 h.3 h.4).back from h.6)
 
   pub stands_item : StandsBefore chart x from at → IsItem g x

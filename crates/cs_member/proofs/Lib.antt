@@ -17,3 +17,4 @@ pub mod Entering
 pub mod Leading
 pub mod Backing
 pub mod Spelling
+pub mod Soundness

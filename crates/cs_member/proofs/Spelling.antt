@@ -302,7 +302,7 @@ pub nothing_popped : (tasks : List Task) → length tasks ≡ 0 → tasks ≡ []
 nothing_popped [] none = refl
 nothing_popped (t ∷ ts) none = absurd (omega arith)
 
-no_tokens : (tokens : List ℕ) → length tokens ≡ 0 → tokens ≡ []
+pub no_tokens : (tokens : List ℕ) → length tokens ≡ 0 → tokens ≡ []
 no_tokens [] none = refl
 no_tokens (t ∷ ts) none = absurd (omega arith)
 

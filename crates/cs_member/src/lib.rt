@@ -1,9 +1,13 @@
 //! Membership: whether a list of tokens is a sentence of a grammar, with a derivation of it.
 //!
-//! The layer above hands in a grammar and a list of its tokens, and gets by `member` a derivation whose yield is the list,
-//! or learns that there is none. Any grammar will do: left recursion, empty rules, cycles, ambiguity. The way is Earley's
-//! (1970, "An efficient context-free parsing algorithm") with rows of origins: at each position each item, which is a rule
-//! and a place in it, has the set of positions from which its symbols so far have trees up to here.
+//! The layers above hand in a grammar and a list of its tokens, and get by `member` a derivation whose yield is the list, or
+//! learn that there is none. For many lists of one grammar they make a [`Recognizer`] once, and [`MemberWork`] judges lists as
+//! work that workers share. Any grammar will do: left recursion, empty rules, cycles, ambiguity.
+//!
+//! The way is Earley's (1970, "An efficient context-free parsing algorithm") with rows of origins: at each position each item,
+//! which is a rule and a place in it, has the set of positions from which its symbols so far have trees up to here.
+//!
+//! Meaning: `specs/Membership.antt`. The other files of `specs/` have working words of proofs.
 #![tactic(auto)]
 
 mod adding;
@@ -14,14 +18,15 @@ mod fronts;
 mod item;
 mod membership;
 mod now;
+mod sharing;
 mod tables;
 mod word;
+mod work;
 mod writing;
 
-pub use membership::{Membership, member};
+pub use membership::{Membership, Recognizer, member};
+pub use work::MemberWork;
 
 /// The most tokens of a list.
 pub const MOST_LENGTH: usize = 2_000;
 
-#[cfg(test)]
-mod tests;

@@ -6,6 +6,7 @@ use Rattle.cs_member.specs.declared.chart.Position.{Position}
 use Rattle.cs_member.specs.Now.{SpansIn}
 use Rattle.cs_member.proofs.Outside.{list_outside}
 use Rattle.cs_member.proofs.Spelling.{whole_tree}
+use Rattle.cs_member.proofs.Soundness.{spans_sentence, empty_sentence}
 use Rattle.cs_member.proofs.membership.whole.Goals as goal
 
 pub returns-in-None : goal.returns-in-None
@@ -23,6 +24,7 @@ returns-in-None c =
           (subst (λ (l : List Span). SpansIn l c.start-start.result 0) (sym (c.deref.ensures.value ∙ ap (λ (q : Position). q.spans.items) (sym c.index-chart-last.is)))
           (subst (λ a. SpansIn p.spans.items a 0) (sym c.start-start.ensures) h)));
       some = tt;
+      sentence = tt;
     }
 
 pub returns-in-Some-clause-some : goal.returns-in-Some-clause-some
@@ -37,3 +39,17 @@ returns-in-Some-clause-some c =
     let found = c.in-Some.ensures in
     whole_tree g tokens c.args.question.now.tables.now chart (length tokens) c.in-Some.number p found.0 refl at
     (ap (λ (l : List Span). slice_get l c.in-Some.number) (sym spans) ∙ found.1) (found.2 ∙ c.start-start.ensures) found.3
+
+pub returns-in-Some-clause-sentence : goal.returns-in-Some-clause-sentence
+returns-in-Some-clause-sentence c =
+    let g = c.args.question.now.grammar.now in
+    let tables = c.args.question.now.tables.now in
+    let tokens = c.args.question.now.tokens.now in
+    let chart = c.args.chart.now in
+    let p = c.index-chart-last.result in
+    let long = c.requires.chart.long in
+    let at : slice_get chart (length tokens) ≡ Some p = slice_get_read chart _ (length tokens) p refl (omega arith) c.index-chart-last.is in
+    let spans : c.deref.result.now ≡ p.spans.items = c.deref.ensures.value ∙ ap (λ (q : Position). q.spans.items) (sym c.index-chart-last.is) in
+    let found = c.in-Some.ensures in
+    spans_sentence g tables tokens chart c.rules-well_formed.ensures.well_formed c.requires.tables c.requires.chart (length tokens) p refl at
+    (c.in-Some.number, found.0, ap (λ (l : List Span). slice_get l c.in-Some.number) (sym spans) ∙ found.1, found.2 ∙ c.start-start.ensures, found.3)

@@ -1,0 +1,49 @@
+// Lists of 2,000 tokens, and derivations that were worked out by hand.
+
+use crate::judged::is_judged;
+use cs_grammar::Symbol;
+use cs_member::{Membership, Recognizer, member};
+use cs_samples::{Lines, grammar_of, grammar_of_sums, rules};
+use std::test::Fail;
+
+const X: Symbol = Symbol::Token(1);
+const S: Symbol = Symbol::Nonterminal(1);
+
+const ROWS: [(&str, Lines); 3] = [
+    ("s : x s | ;", &[(1, &[X, S]), (1, &[])]),
+    ("s : s x | ;", &[(1, &[S, X]), (1, &[])]),
+    ("s : s s | x ;", &[(1, &[S, S]), (1, &[X])]),
+];
+
+// Each has the list of 2,000 times x, and no list with a y behind it.
+#[test]
+fn two_thousand_tokens(rt: HostRuntime) -> Result<(), Fail> {
+    for (name, lines) in ROWS {
+        let grammar = grammar_of(2, 1, rules(rt.alloc(), lines)?)?;
+        let recognizer = Recognizer::new(rt.alloc(), &grammar)?;
+        let list = vec![in rt.alloc(); 1u16; 2000]?;
+        let judged = is_judged(rt.alloc(), &grammar, &recognizer, &list, true)?;
+        assert!(rt; judged, "{name}");
+    }
+    Ok(())
+}
+
+// A grammar without ambiguity has one derivation of a sentence.
+#[test]
+fn derivations_of_sums(rt: HostRuntime) -> Result<(), Fail> {
+    let grammar = grammar_of_sums(rt.alloc())?;
+    let rows: [(&[u16], &[u16]); 3] = [
+        (&[1], &[2, 3]),
+        (&[1, 2, 1], &[1, 2, 3, 3]),
+        (&[3, 1, 2, 1, 4], &[2, 4, 1, 2, 3, 3]),
+    ];
+    for (list, want) in rows {
+        let found = member(rt.alloc(), &grammar, list)?;
+        let same = match found {
+            Membership::Inside(derivation) => derivation.rules() == want,
+            Membership::Outside => false,
+        };
+        assert!(rt; same, "{list:?}");
+    }
+    Ok(())
+}
