@@ -156,8 +156,7 @@ module _ (g : PlainGrammar) (tables : Tables) (tokens : List ℕ) (chart : List 
   pub spans_sentence : (at : ℕ) (p : Position) → at ≡ length tokens → slice_get chart at ≡ Some p → SpansIn p.spans.items g.start 0 → IsSentence g tokens
   spans_sentence at p last at_p h =
       let s = h.1 in
-      let t = (all_sound (at + 1) at (omega arith)).spans h.0 p s at_p h.2 in
-      (
+      let t = (all_sound (at + 1) at (omega arith)).spans h.0 p s at_p h.2 in (
         t.0,
         subst (λ a. IsTree g (Nonterminal a) t.0) h.3 t.1.0,
         ap (λ k. drop k tokens) (sym h.4) ∙ (t.1.1 ∙ (ap (λ (l : List ℕ). yield t.0 ++ l) (drop_all at tokens (omega arith)) ∙ append-nil (yield t.0))),

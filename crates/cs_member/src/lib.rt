@@ -29,4 +29,3 @@ pub use work::MemberWork;
 
 /// The most tokens of a list.
 pub const MOST_LENGTH: usize = 2_000;
-

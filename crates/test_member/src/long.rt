@@ -1,12 +1,17 @@
 // Lists of 2,000 tokens, and derivations that were worked out by hand.
 
+ghost use Rattle.std.specs.Prelude.{◌≡◌, All, IfOk, length};
+ghost use Rattle.cs_grammar.specs.Grammar.{IsNumberOf};
+
 use crate::judged::is_judged;
 use cs_grammar::Symbol;
 use cs_member::{Membership, Recognizer, member};
 use cs_samples::{Lines, grammar_of, grammar_of_sums, rules};
+use std::alloc::{AllocError, Global};
 use std::test::Fail;
 
 const X: Symbol = Symbol::Token(1);
+
 const S: Symbol = Symbol::Nonterminal(1);
 
 const ROWS: [(&str, Lines); 3] = [
@@ -15,13 +20,25 @@ const ROWS: [(&str, Lines); 3] = [
     ("s : s s | x ;", &[(1, &[S, S]), (1, &[X])]),
 ];
 
-// Each has the list of 2,000 times x, and no list with a y behind it.
+// The list of 2,000 times x.
+fn longest(alloc: Global) -> Result<Vec<u16>, AllocError>
+    ensures length { IfOk result (λ list. length list.items ≡ 2000) }
+    ensures tokens { IfOk result (λ list. All (IsNumberOf 2) list.items) }
+{
+    let mut list = Vec::new(alloc);
+    for _ in 0..2000usize {
+        list.push(1u16)?;
+    }
+    Ok(list)
+}
+
+// By their rules: each has every list of x that is not empty.
 #[test]
 fn two_thousand_tokens(rt: HostRuntime) -> Result<(), Fail> {
     for (name, lines) in ROWS {
         let grammar = grammar_of(2, 1, rules(rt.alloc(), lines)?)?;
         let recognizer = Recognizer::new(rt.alloc(), &grammar)?;
-        let list = vec![in rt.alloc(); 1u16; 2000]?;
+        let list = longest(rt.alloc())?;
         let judged = is_judged(rt.alloc(), &grammar, &recognizer, &list, true)?;
         assert!(rt; judged, "{name}");
     }
