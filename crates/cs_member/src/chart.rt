@@ -523,10 +523,7 @@ pub(crate) fn chart_of(alloc: Global, question: &Question) -> Result<Vec<Positio
     ensures { IfOk result (λ chart. IsChart question.now.grammar.now question.now.tables.now
         question.now.tokens.now (length question.now.tokens.now + 1) chart.items) }
 {
-    let mut guesses = Vec::new(alloc);
-    for _ in 0..question.tables.items {
-        guesses.push(0usize)?;
-    }
+    let mut guesses = vec![in alloc; 0usize; question.tables.items]?;
     let chart = positions_of(alloc, question, &mut guesses)?;
     Ok(chart)
 }

@@ -221,6 +221,7 @@ fn write_backwards(
 {
     let mut backwards = Vec::new(alloc);
     let mut tasks = vec![in alloc; task]?;
+    // No list needs so many rounds: what a task leaves is smaller than it, though no proof counts that.
     'tasks: for _ in 0..u64::MAX {
         match tasks.pop() {
             None => return Ok(backwards),
