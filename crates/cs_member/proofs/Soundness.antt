@@ -1,16 +1,16 @@
 -- What is found has trees.
-use Rattle.std.proofs.Common.{◌≡◌, ℕ, zero, suc, ◌+◌, ◌-◌, ◌<◌, ◌≤◌, ◌⊎◌, inl, inr, List, [], ◌∷◌, ◌++◌, None, Some, length, take, drop, refl, sym, ap, ◌∙◌, subst, arith, append-nil}
+use Rattle.std.proofs.Common.{◌≡◌, ℕ, zero, suc, ◌+◌, ◌-◌, ◌<◌, inl, inr, List, [], ◌∷◌, ◌++◌, Some, length, take, drop, refl, sym, ap, ◌∙◌, subst, arith, append-nil}
 use Rattle.std.specs.Prelude.{All, Contains, slice_get}
 use Rattle.std.specs.List.{slice_range}
 use Rattle.std.specs.Global.{Vec}
 use Rattle.std.proofs.lemmas.Bool.{cases_eq}
 use Rattle.std.proofs.lemmas.List.{drop_all, take_all}
-use Rattle.std.proofs.lemmas.Option.{slice_get_within, same_Some}
+use Rattle.std.proofs.lemmas.Option.{slice_get_within}
 use Rattle.cs_grammar.specs.declared.symbol.Symbol.{Symbol}
 use Rattle.cs_grammar.specs.declared.symbol.Symbol.TheVariants.{Token, Nonterminal}
-use Rattle.cs_grammar.specs.Grammar.{Production, PlainGrammar, IsGrammar, IsRule}
+use Rattle.cs_grammar.specs.Grammar.{Production, PlainGrammar, IsGrammar}
 use Rattle.cs_grammar.specs.Sentence.{IsSentence}
-use Rattle.cs_grammar.specs.Tree.{Tree, Leaf, Node, Forest, Bare, Grown, IsTree, AreTrees, yield, yields}
+use Rattle.cs_grammar.specs.Tree.{Tree, Leaf, Node, Forest, Grown, IsTree, AreTrees, yield}
 use Rattle.cs_grammar.specs.Context.{join}
 use Rattle.cs_grammar.proofs.OneTree.{one_rule}
 use Rattle.cs_member.specs.declared.item.Item.{Item}
@@ -19,7 +19,7 @@ use Rattle.cs_member.specs.declared.chart.Row.{Row}
 use Rattle.cs_member.specs.declared.fronts.Front.{Front}
 use Rattle.cs_member.specs.declared.now.Span.{Span}
 use Rattle.cs_member.specs.declared.tables.Tables.{Tables}
-use Rattle.cs_member.specs.Item.{Awaits, IsDone, IsFront, IsEmpty, over}
+use Rattle.cs_member.specs.Item.{Awaits, IsDone, IsFront, over}
 use Rattle.cs_member.specs.Sets.{InWords}
 use Rattle.cs_member.specs.Fronts.{IsEntry}
 use Rattle.cs_member.specs.Now.{IsPast, SpansIn}

@@ -6,7 +6,7 @@ use Rattle.cs_member.specs.declared.chart.Position.{Position}
 use Rattle.cs_member.specs.Now.{SpansIn}
 use Rattle.cs_member.proofs.Outside.{list_outside}
 use Rattle.cs_member.proofs.Spelling.{whole_tree}
-use Rattle.cs_member.proofs.Soundness.{spans_sentence, empty_sentence}
+use Rattle.cs_member.proofs.Soundness.{spans_sentence}
 use Rattle.cs_member.proofs.membership.whole.Goals as goal
 
 pub returns-in-None : goal.returns-in-None
