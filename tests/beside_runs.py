@@ -11,7 +11,8 @@ import tempfile
 
 sys.dont_write_bytecode = True
 
-from calls import BUILT, PROGRAM, call, end, marked, tool, written
+from calls import BUILT, PROGRAM, call, marked, tool, written
+from rows import end
 
 # A grammar, the lines of its lex file behind the first %%, and what was guessed how often.
 GRAMMARS = [

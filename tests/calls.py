@@ -1,4 +1,4 @@
-"""What the runs of tools share: calls, files of a folder, texts with a mark at a place, and how a script of runs ends."""
+"""What the runs of tools share: calls, files of a folder, and texts with a mark at a place."""
 
 import os
 import subprocess
@@ -35,9 +35,3 @@ def marked(text):
     at = raw.index(MARK)
     before = raw[:at].decode()
     return raw.replace(MARK, b"", 1), at, (before.count("\n") + 1, len(before) - (before.rfind("\n") + 1) + 1)
-
-
-def end(failed):
-    """Prints the rows that failed, and ends with status 1 where one did."""
-    print("\n".join(failed), file=sys.stderr, end="\n" if failed else "")
-    sys.exit(1 if failed else 0)

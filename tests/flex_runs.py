@@ -14,7 +14,8 @@ import tempfile
 
 sys.dont_write_bytecode = True
 
-from calls import BUILT, PROGRAM, call, end, marked, tool, written
+from calls import BUILT, PROGRAM, call, marked, tool, written
+from rows import end
 
 # Definitions that the patterns below may use.
 NAMES = 'LETTER [a-c]\nIF "if"\nLESS <\nMIDDLE a$b\nSPACED (?x: a  b )\n'

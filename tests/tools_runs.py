@@ -15,7 +15,7 @@ import tempfile
 
 sys.dont_write_bytecode = True
 
-from calls import BUILT, PROGRAM, TOOLS, TOP, call, end, marked, written
+from calls import BUILT, PROGRAM, TOOLS, TOP, call, marked, written
 
 sys.path.insert(0, TOOLS)
 
