@@ -52,7 +52,6 @@ FRAMES = [
     ("refuses", "wrongly refused: rule 2 (value : NAME)"),
     ("dies", "died of signal 11, SIGSEGV: rule 2 (value : NAME)"),
     ("ends", "ended with status 1 without an answer: rule 2 (value : NAME)"),
-    ("hangs", "too slow: above 5 seconds: rule 2 (value : NAME)"),
     ("answers nonsense", "another answer: rule 2 (value : NAME)"),
     ("answers twice", "answered more than one line: rule 2 (value : NAME)"),
     ("answers for ever", "answered more than 65536 bytes without a line's end: rule 2 (value : NAME)"),
@@ -115,7 +114,7 @@ def slow(folder):
     rows = [("sleep 4323 | cat", "too slow"), ("sleep 4323 & exit 0", "taken"), ("sleep 4323 & sleep 4323", "too slow")]
     for script, said in rows:
         began = time.monotonic()
-        found = call("try_parser", "--seconds", "3", path, "--", "sh", "-c", script)
+        found = call("try_parser", "--seconds", "5", path, "--", "sh", "-c", script)
         if found[0] != 2 or said not in found[2] or time.monotonic() - began > 60 or left_over("sleep 4323"):
             yield f"a parser {script}: {found}"
     once = call("try_parser", "--all", "--seconds", "0.3", "--stop-after", "1", "--jobs", "1", path, "--", "sleep", "5")
@@ -142,15 +141,18 @@ def interrupted(folder):
 def frames(folder):
     path = written(folder, "lists", lists_suite(operators=["delete"], bases=4))
     for deed, said in FRAMES:
-        found = call("try_parser", path, "--seconds", "5", "--kinds", "rule", *frame("frame.py", deed))
+        found = call("try_parser", path, "--seconds", "60", "--kinds", "rule", *frame("frame.py", deed))
         is_told = f"cause 1: {said}\n" in found[1] and " of 1 cause;" in found[1]
         if found[0] != 1 or not is_told or left_over("sleep 4321"):
             yield f"a frame that {deed}: {found}"
-    shown = call("try_parser", path, "--batch", "--", os.path.join(TOP, "tools", "batch_frame.py"))
+    hanging = call("try_parser", path, "--all", "--seconds", "3", "--kinds", "rule", *frame("frame.py", "hangs"))
+    if hanging[0] != 1 or "the parser: too slow: above 3 seconds" not in hanging[1]:
+        yield f"a frame that hangs: {hanging}"
+    shown = call("try_parser", path, "--seconds", "60", "--batch", "--", os.path.join(TOP, "tools", "batch_frame.py"))
     if shown[0] != 1 or re.findall(r"^cause .*", shown[1], re.M) != ["cause 1: wrongly refused: rule 2 (value : NAME)"]:
         yield f"the frame around Python's json: {shown}"
-    good = call("try_parser", path, "--kinds", "rule", *frame("frame.py", "takes"))
-    deaf = call("try_parser", path, "--seconds", "20", "--kinds", "rule", *frame("frame.py", "closes its input"))
+    good = call("try_parser", path, "--seconds", "60", "--kinds", "rule", *frame("frame.py", "takes"))
+    deaf = call("try_parser", path, "--seconds", "60", "--kinds", "rule", *frame("frame.py", "closes its input"))
     for found in (good, deaf):
         if found[0] != 0 or "; 0 failed; 0 without a text" not in found[1]:
             yield f"a good frame: {found}"
@@ -163,7 +165,7 @@ def starts(folder):
     rows = [("takes", "1", 1), ("takes", "3", 3), ("dies", "1", 1 + len(with_names))]
     for deed, jobs, wanted in rows:
         written(folder, "starts", "")
-        call("try_parser", path, "--jobs", jobs, *frame("frame.py", deed, log))
+        call("try_parser", path, "--seconds", "60", "--jobs", jobs, *frame("frame.py", deed, log))
         with open(log) as file:
             found = file.read().count("started")
         if found not in (wanted, wanted - 1):

@@ -17,7 +17,9 @@ PIECE = 65_536
 # more.
 MOST_IN_VAIN = 20
 SLOW_IN_VAIN = 7
+# How long a frame may take to end: at the end of all texts, and where it has closed a pipe.
 SECONDS_TO_END = 1
+SECONDS_TO_DIE = 5
 OUT_OF_STEP = "the frame said more than a line for a text, so that answers may belong to other texts"
 
 
@@ -174,7 +176,7 @@ class Batch:
     def without_frame(self, text, frame):
         """The outcome where the frame went. One that goes well behind an answer didn't die of the next text, which is
         asked again."""
-        status, said = frame.end(), last_line(frame.said)
+        status, said = frame.end(SECONDS_TO_DIE), last_line(frame.said)
         if frame.has_answered and (status == 0 or frame.is_deaf):
             return self.ask(text)
         if status is None:
