@@ -74,9 +74,8 @@ def read(path):
 
 def escaped(tokens):
     """A pattern of these tokens side by side. Only a name may stand within another name."""
-    words = [re.sub(r"[.^$*+?{}\[\]\\|()]", r"\\\g<0>", token) for token in tokens]
-    ends = [r"\b" * (word[-1] != "'") for word in (words[0], words[-1])]
-    return ends[0] + " ".join(words) + ends[1]
+    words = " ".join(re.sub(r"[.^$*+?{}\[\]\\|()]", r"\\\g<0>", token) for token in tokens)
+    return r"\b" * bool(re.match(r"\w", words)) + words + r"\b" * bool(re.search(r"\w$", words))
 
 
 def pattern_of_pair(left, right):
