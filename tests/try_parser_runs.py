@@ -17,6 +17,9 @@ sys.dont_write_bytecode = True
 from suites import FIRST, SECOND, TOP, call, end, frame, lists_suite, written
 
 PYTHON = [sys.executable, "-c"]
+# A sleep that no other run of this script has begun; frame.py takes its seconds from here.
+os.environ["LONG_SLEEP"] = f"43{os.getpid()}"
+SLEEP = f"sleep {os.environ['LONG_SLEEP']}"
 READ = "import sys, os, time; t = sys.stdin.buffer.read(); "
 # Two kinds of texts, of `s : 'x' ;`: the goals' three cases, and the negatives' two.
 ALL_TAKEN, ALL_REFUSED, GOOD = (3, 0, 0, 2, 0, 0), (0, 3, 0, 0, 2, 0), (3, 0, 0, 0, 2, 0)
@@ -111,11 +114,11 @@ def left_over(command):
 def slow(folder):
     """What takes too long is ended with all that it started, and so is what is left behind a text."""
     path = written(folder, "slow", FIRST)
-    rows = [("sleep 4323 | cat", "too slow"), ("sleep 4323 & exit 0", "taken"), ("sleep 4323 & sleep 4323", "too slow")]
+    rows = [(f"{SLEEP} | cat", "too slow"), (f"{SLEEP} & exit 0", "taken"), (f"{SLEEP} & {SLEEP}", "too slow")]
     for script, said in rows:
         began = time.monotonic()
         found = call("try_parser", "--seconds", "5", path, "--", "sh", "-c", script)
-        if found[0] != 2 or said not in found[2] or time.monotonic() - began > 60 or left_over("sleep 4323"):
+        if found[0] != 2 or said not in found[2] or time.monotonic() - began > 60 or left_over(SLEEP):
             yield f"a parser {script}: {found}"
     once = call("try_parser", "--all", "--seconds", "0.3", "--stop-after", "1", "--jobs", "1", path, "--", "sleep", "5")
     has_stopped = "; 1 of 3 different texts run; 3 failed" in once[1]
@@ -126,15 +129,15 @@ def slow(folder):
 def interrupted(folder):
     """An interrupt ends what runs, and what was seen so far is told."""
     path = written(folder, "interrupted", FIRST)
-    words = [os.path.join(TOP, "tools", "try_parser"), "--jobs", "1", path, "--", "sleep", "4322"]
+    words = [os.path.join(TOP, "tools", "try_parser"), "--jobs", "1", path, "--", *SLEEP.split()]
     for number in (signal.SIGINT, signal.SIGTERM):
         run = subprocess.Popen(words, stdout=subprocess.PIPE, stderr=subprocess.PIPE)
         until = time.monotonic() + 60
-        while not left_over("sleep 4322") and time.monotonic() < until:
+        while not left_over(SLEEP) and time.monotonic() < until:
             time.sleep(0.05)
         run.send_signal(number)
         output = run.communicate(timeout=60)[0].decode()
-        if run.returncode != 130 or "; 0 of 3 different texts run" not in output or left_over("sleep 4322"):
+        if run.returncode != 130 or "; 0 of 3 different texts run" not in output or left_over(SLEEP):
             yield f"an interrupt {number}: {run.returncode}, {output}"
 
 
@@ -143,7 +146,7 @@ def frames(folder):
     for deed, said in FRAMES:
         found = call("try_parser", path, "--seconds", "60", "--kinds", "rule", *frame("frame.py", deed))
         is_told = f"cause 1: {said}\n" in found[1] and " of 1 cause;" in found[1]
-        if found[0] != 1 or not is_told or left_over("sleep 4321"):
+        if found[0] != 1 or not is_told or left_over(SLEEP):
             yield f"a frame that {deed}: {found}"
     hanging = call("try_parser", path, "--all", "--seconds", "3", "--kinds", "rule", *frame("frame.py", "hangs"))
     if hanging[0] != 1 or "the parser: too slow: above 3 seconds" not in hanging[1]:

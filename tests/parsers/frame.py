@@ -19,7 +19,7 @@ def print_for_ever():
 
 
 def leave_a_child():
-    subprocess.Popen(["sleep", "4321"])
+    subprocess.Popen(["sleep", os.environ["LONG_SLEEP"]])
     sys.exit(0)
 
 
