@@ -1,7 +1,9 @@
 // The whole manifests of `docs/FORMATS.md`, one in each format, by `write_out`.
 
-ghost use Rattle.std.specs.Prelude.{◌≡◌};
-ghost use Rattle.cs_plan.specs.Plans.{CanRender, IsFormOf, measure_in};
+ghost use Rattle.std.specs.Prelude.{◌≡◌, IfSome};
+ghost use Rattle.cs_closed.specs.Closed.{AreClosedSets};
+ghost use Rattle.cs_grammar.specs.Weights.{nodes};
+ghost use Rattle.cs_plan.specs.Plans.{CanRender};
 
 use crate::writers::letter_counts;
 use cs_automaton::Automaton;
@@ -108,6 +110,31 @@ fn write_goals<'f, R: Threads + Sync>(
 {
     let weights = Weights::nodes(alloc, yacc.grammar().tokens())?;
     let tables = Tables::new(alloc, yacc.grammar(), &weights)?;
+    if options.format == Format::One {
+        return Ok(write_plan(rt, alloc, yacc, work, &tables, None, options, out));
+    }
+    let closed = Closed::new(alloc, &tables)?;
+    Ok(write_plan(rt, alloc, yacc, work, &tables, Some(&closed), options, out))
+}
+
+// The same by these tables, and in the second format by closed sets.
+fn write_plan<'f, R: Threads + Sync>(
+    rt: &R,
+    alloc: Global,
+    yacc: &'f YaccFile,
+    work: &'f RenderWork<'f>,
+    tables: &'f Tables<'f>,
+    closed: Option<&'f Closed>,
+    options: &Options,
+    out: &mut MemorySink,
+) -> Result<Counts, Halt>
+    requires work { CanRender yacc.now work.now }
+    requires grammar { tables.now.grammar ≡ yacc.now.grammar }
+    requires weights { tables.now.weights ≡ nodes yacc.now.grammar.tokens }
+    requires closed { IfSome closed (λ sets. AreClosedSets yacc.now.grammar sets.now) }
+{
+    let _named = yacc.grammar();
+    let positives = Positives::new(tables, options.criteria);
     let means = Means {
         work,
         mutation: Mutation {
@@ -117,34 +144,24 @@ fn write_goals<'f, R: Threads + Sync>(
         },
         weigh: Weigh::Nodes,
     };
-    let mut plan = Plan {
-        yacc,
-        criteria: options.criteria,
-        form: PlanForm::Suite(means),
-    };
-    if options.format == Format::One {
-        return Ok(write_plan(rt, alloc, &plan, &tables, out));
+    match closed {
+        None => {
+            let plan = Plan {
+                yacc,
+                criteria: options.criteria,
+                form: PlanForm::Suite(means),
+            };
+            write_out(rt, alloc, &plan, positives, out, &OpenGate)
+        }
+        Some(closed) => {
+            let plan = Plan {
+                yacc,
+                criteria: options.criteria,
+                form: PlanForm::Shared(means, closed),
+            };
+            write_out(rt, alloc, &plan, positives, out, &OpenGate)
+        }
     }
-    let closed = Closed::new(alloc, &tables)?;
-    plan.form = PlanForm::Shared(means, &closed);
-    Ok(write_plan(rt, alloc, &plan, &tables, out))
-}
-
-// The same by this plan and these tables.
-fn write_plan<'f, R: Threads + Sync>(
-    rt: &R,
-    alloc: Global,
-    plan: &Plan<'f>,
-    tables: &'f Tables<'f>,
-    out: &mut MemorySink,
-) -> Result<Counts, Halt>
-    requires form { IsFormOf plan.now.yacc.now plan.now.form }
-    requires grammar { tables.now.grammar ≡ plan.now.yacc.now.grammar }
-    requires weights { tables.now.weights ≡ measure_in plan.now }
-{
-    let _named = plan.yacc.grammar();
-    let positives = Positives::new(tables, plan.criteria);
-    write_out(rt, alloc, plan, positives, out, &OpenGate)
 }
 
 #[test]
