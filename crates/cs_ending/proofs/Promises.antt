@@ -1,22 +1,22 @@
 -- From how the words were done to what a run promises.
 use Rattle.std.proofs.Common.{◌≡◌, ◌⊎◌, ◌<◌, ◌≤◌, ℕ, Ok, Err, IsErr, IsOkAnd, Result, ap, sym, ◌∙◌, subst, inl, inr, refl, arith, rules}
-use Rattle.std.specs.Prelude.{IsSome}
 use Rattle.cs_io.specs.Faults.{greatest}
 use Rattle.cs_io.specs.Uses.{DeskUse, SinkUse, HasFailed, IsUnused}
-use Rattle.cs_input.specs.declared.refusal.Role.{Role}
+use Rattle.cs_words.specs.declared.command.Role.{Role}
+use Rattle.cs_words.specs.Requests.{PlainRequest}
 use Rattle.cs_ending.specs.declared.ending.Ending.{Ending}
 use Rattle.cs_ending.specs.declared.ending.Ending.TheVariants.{Written, Refused, BadWord, NoFile, NotWritten, NoMemory}
-use Rattle.cs_ending.specs.Requests.{Request}
-use Rattle.cs_ending.specs.Ending.{Ends, IsReported, Performs, Says, WroteText, WrotePart, line_of, status_of}
+use Rattle.cs_ending.specs.Ending.{Ends, IsReported, Performs, Says, WroteText, WrotePart, WrotePartOfAccepted, line_of, status_of}
 use Rattle.cs_ending.specs.Files.{AreAccepted, AreRefused, HasNoFileFor}
 use Rattle.cs_ending.specs.Headline.{KeepsPromises}
+use Rattle.cs_ending.specs.Texts.{AreTold}
 use Rattle.cs_ending.proofs.Apart.{asked_accepted, asked_apart, asked_more, asked_no_file, asked_refused_there, asked_there}
 
-good_words : (asked : Result Request ℕ) (P : Request → Type 0) → IsOkAnd asked P → IsErr asked → ⊥
+good_words : (asked : Result PlainRequest ℕ) (P : PlainRequest → Type 0) → IsOkAnd asked P → IsErr asked → ⊥
 good_words (Ok request) P is bad = absurd cc
 good_words (Err at) P is bad = is
 
-bad_word_err : (asked : Result Request ℕ) (at : ℕ) → asked ≡ Err at → IsErr asked
+bad_word_err : (asked : Result PlainRequest ℕ) (at : ℕ) → asked ≡ Err at → IsErr asked
 bad_word_err asked at is = rw is (search rules)
 
 not_failed : (before after : ℕ) → after ≡ before → before < greatest → ¬ HasFailed (record { before = before; after = after })
@@ -24,7 +24,13 @@ not_failed before after same below failed = omega (arith, same, below, failed)
 
 -- ---- each ending's status
 
-module _ (asked : Result Request ℕ) (desk : DeskUse) (out err : SinkUse) where
+module _ (asked : Result PlainRequest ℕ) (desk : DeskUse) (out err : SinkUse) where
+  part_accepted : (words : Result PlainRequest ℕ) → WrotePartOfAccepted words desk out → IsOkAnd words (AreAccepted desk.files)
+  part_accepted words part = asked_more words part (λ request p. (p.0, p.1, p.2.0))
+
+  part_written : (words : Result PlainRequest ℕ) → WrotePartOfAccepted words desk out → WrotePart words desk out
+  part_written words part = asked_more words part (λ request p. (p.0, p.1, p.2.1))
+
   -- what is left to say of an ending, once its cause is known
   record Rest (ending : Ending) : Type 0 where
     whole : status_of ending ≡ 0 → WroteText asked desk out
@@ -36,8 +42,8 @@ module _ (asked : Result Request ℕ) (desk : DeskUse) (out err : SinkUse) where
     write_fault_of_accepted : status_of ending ≡ 4 → IsOkAnd asked (AreAccepted desk.files)
     unused : (0 < status_of ending) × (status_of ending < 4) → IsUnused out
     bad_words_end_so : IsErr asked → (status_of ending ≡ 2) ⊎ (status_of ending ≡ 5)
-    refused_ends_so : IsSome desk.files → IsOkAnd asked (AreRefused desk.files) → ¬ HasFailed desk.faults → (status_of ending ≡ 1) ⊎ (status_of ending ≡ 5)
-    complete : IsSome desk.files → IsOkAnd asked (AreAccepted desk.files) → ¬ HasFailed desk.faults → ¬ HasFailed out.faults → (status_of ending ≡ 0) ⊎ (status_of ending ≡ 5)
+    refused_ends_so : AreTold desk.files asked → IsOkAnd asked (AreRefused desk.files) → ¬ HasFailed desk.faults → (status_of ending ≡ 1) ⊎ (status_of ending ≡ 5)
+    complete : AreTold desk.files asked → IsOkAnd asked (AreAccepted desk.files) → ¬ HasFailed desk.faults → ¬ HasFailed out.faults → (status_of ending ≡ 0) ⊎ (status_of ending ≡ 5)
     silent : status_of ending ≡ 0 → ending ≡ Written
 
   rest : (ending : Ending) → Ends ending asked desk out → Rest ending
@@ -104,10 +110,10 @@ module _ (asked : Result Request ℕ) (desk : DeskUse) (out err : SinkUse) where
     read_fault = λ is. absurd (omega (arith, is));
     write_fault = λ is. ends.1;
     no_write_fault = λ below. absurd (omega (arith, below));
-    write_fault_of_accepted = λ is. ends.0.0;
+    write_fault_of_accepted = λ is. part_accepted asked ends.0;
     unused = λ is. absurd (omega (arith, is.0, is.1));
-    bad_words_end_so = λ bad. absurd (good_words asked _ ends.0.0 bad);
-    refused_ends_so = λ some refused fine. absurd (asked_apart asked desk.files some ends.0.0 refused);
+    bad_words_end_so = λ bad. absurd (good_words asked _ ends.0 bad);
+    refused_ends_so = λ some refused fine. absurd (asked_apart asked desk.files some (part_accepted asked ends.0) refused);
     complete = λ some accepted fine good. absurd (good ends.1);
     silent = λ is. absurd (omega (arith, is));
   }
@@ -144,9 +150,9 @@ module _ (asked : Result Request ℕ) (desk : DeskUse) (out err : SinkUse) where
   prefix (Refused refusal) ends above = absurd (omega (arith, above))
   prefix (BadWord at) ends above = absurd (omega (arith, above))
   prefix (NoFile role) ends above = absurd (omega (arith, above))
-  prefix NotWritten ends above = inr ends.0.1
+  prefix NotWritten ends above = inr (part_written asked ends.0)
   prefix NoMemory (inl unused) above = inl unused
-  prefix NoMemory (inr part) above = inr part.1
+  prefix NoMemory (inr part) above = inr (part_written asked part)
 
   within : (e : Ending) → status_of e ≤ 5
   within Written = omega arith

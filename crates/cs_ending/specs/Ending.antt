@@ -1,35 +1,41 @@
 -- How a run ends: its cause, and what the output holds then; the status and the line on the error output.
-use Rattle.std.specs.Prelude.{◌≡◌, ◌⊎◌, ℕ, List, [], ◌++◌, Result, Err, IsOkAnd, IsSome, IsTrue, codes, decimal}
+use Rattle.std.specs.Prelude.{◌≡◌, ◌⊎◌, ℕ, List, [], ◌++◌, Result, Err, IsOkAnd, IsTrue, codes, decimal}
 use Rattle.std.specs.Io.KnownBytes.{append_known}
 use Rattle.cs_io.specs.Sink.{GrewByPrefix}
 use Rattle.cs_io.specs.Uses.{DeskUse, SinkUse, HasFailed, IsUnused}
-use Rattle.cs_input.specs.declared.refusal.Role.{Role}
+use Rattle.cs_words.specs.declared.command.Role.{Role}
+use Rattle.cs_words.specs.Requests.{PlainRequest, files_of}
+use Rattle.cs_input.specs.Files.{Content, HaveContents}
 use Rattle.cs_input.specs.Lines.{refusal_line, role_word}
 use Rattle.cs_input.specs.Refusal.{IsTold}
 use Rattle.cs_ending.specs.declared.ending.Ending.{Ending}
 use Rattle.cs_ending.specs.declared.ending.Ending.TheVariants.{Written, Refused, BadWord, NoFile, NotWritten, NoMemory}
-use Rattle.cs_ending.specs.Requests.{Request}
-use Rattle.cs_ending.specs.Files.{AreAccepted, AreRefusedSo, HasNoFileFor}
-use Rattle.cs_ending.specs.Texts.{HasRoomFor, IsAskedText}
+use Rattle.cs_ending.specs.Files.{Accepted, AreRefusedSo, HasNoFileFor}
+use Rattle.cs_ending.specs.Texts.{HasRoomFor, IsAskedText, IsTextOf}
 
 -- ---- causes
 
 -- the output grew by the whole text that is asked for
-abbrev pub WroteText : Result Request ℕ → DeskUse → SinkUse → Type 0
+abbrev pub WroteText : Result PlainRequest ℕ → DeskUse → SinkUse → Type 0
 WroteText asked desk out =
     (text : List ℕ) × IsAskedText asked desk.files text × (out.written.after ≡ append_known out.written.before text)
 
--- where the desk tells its files: whatever text is asked for, the output grew by a prefix of it
-abbrev pub WrotePart : Result Request ℕ → DeskUse → SinkUse → Type 0
-WrotePart asked desk out =
-    IsSome desk.files → (text : List ℕ) → IsAskedText asked desk.files text → GrewByPrefix out.written.before out.written.after text
+-- the output grew by a prefix of each text that is asked for, by these contents of the files
+abbrev pub GrewByFront : PlainRequest → SinkUse → List Content → Type 0
+GrewByFront request out contents =
+    (text : List ℕ) → IsTextOf request contents text → GrewByPrefix out.written.before out.written.after text
 
--- the same, of files that are accepted
-abbrev pub WrotePartOfAccepted : Result Request ℕ → DeskUse → SinkUse → Type 0
-WrotePartOfAccepted asked desk out = IsOkAnd asked (AreAccepted desk.files) × WrotePart asked desk out
+-- the files have contents by which it grew so
+abbrev pub WrotePart : Result PlainRequest ℕ → DeskUse → SinkUse → Type 0
+WrotePart asked desk out = IsOkAnd asked (λ request. HaveContents desk.files (files_of request) (GrewByFront request out))
+
+-- the same, and these contents are accepted
+abbrev pub WrotePartOfAccepted : Result PlainRequest ℕ → DeskUse → SinkUse → Type 0
+WrotePartOfAccepted asked desk out =
+    IsOkAnd asked (λ request. HaveContents desk.files (files_of request) (λ contents. Accepted contents × GrewByFront request out contents))
 
 -- What caused an ending, and what the output holds then, by what the words ask for and how desk and output were used.
-abbrev pub Ends : Ending → Result Request ℕ → DeskUse → SinkUse → Type 0
+abbrev pub Ends : Ending → Result PlainRequest ℕ → DeskUse → SinkUse → Type 0
 Ends Written asked desk out = WroteText asked desk out × (out.faults.after ≡ out.faults.before)
 Ends (Refused refusal) asked desk out = IsOkAnd asked (λ request. AreRefusedSo desk.files request refusal) × IsUnused out
 Ends (BadWord at) asked desk out = (asked ≡ Err at) × IsUnused out
@@ -47,7 +53,7 @@ HasLine NotWritten = Unit {0}
 HasLine NoMemory = Unit {0}
 
 -- A run ended so. Where a read failed, it ended by that.
-pub record Performs (ending : Ending) (asked : Result Request ℕ) (desk : DeskUse) (out : SinkUse) : Type 0 where
+pub record Performs (ending : Ending) (asked : Result PlainRequest ℕ) (desk : DeskUse) (out : SinkUse) : Type 0 where
   pub ends : Ends ending asked desk out
   pub failed : ¬ (desk.faults.after ≡ desk.faults.before) → (role : Role) × (ending ≡ NoFile role)
   pub steady : IsTrue desk.steady → desk.faults.after ≡ desk.faults.before

@@ -1,48 +1,44 @@
--- Which files are accepted and refused, and the manifests of accepted ones. Where the desk tells no files, any files count.
+-- Which files are accepted and refused, and the manifests of accepted ones. Where the desk tells no files, any contents count.
 use Rattle.std.specs.Prelude.{◌≡◌, ℕ, List, Option, Some}
 use Rattle.cs_io.specs.Desk.{Files}
 use Rattle.cs_io.specs.Uses.{Change}
 use Rattle.cs_yacc.specs.File as yacc
 use Rattle.cs_lex.specs.File as lex
+use Rattle.cs_words.specs.declared.command.Role.{Role}
 use Rattle.cs_words.specs.declared.options.Options.{Options}
+use Rattle.cs_words.specs.Requests.{PlainRequest, files_of}
+use Rattle.cs_input.specs.declared.judging.Meant.{Meant}
+use Rattle.cs_input.specs.declared.judging.Meant.TheVariants.{Pair}
 use Rattle.cs_input.specs.declared.refusal.Refusal.{Refusal}
-use Rattle.cs_input.specs.declared.refusal.Role.{Role}
-use Rattle.cs_input.specs.declared.refusal.Role.TheVariants.{Yacc}
-use Rattle.cs_input.specs.Files.{FileIs, FilesAre, HasNoFile, IsGrammarOf, IsPairOf}
-use Rattle.cs_input.specs.Refusal.{HasManyStates, RefusesGrammar, RefusesPair}
+use Rattle.cs_input.specs.Files.{Content, HasNoFile, HaveContents, IsGrammarOf, IsPairOf, Mean}
+use Rattle.cs_input.specs.Refusal.{HasManyStates, Refuses}
 use Rattle.cs_manifest.specs.Manifest.{Choice, IsManifest, rules_form}
-use Rattle.cs_ending.specs.Requests.{Request, ForGen, ForRules, ForSuite}
 
 -- ---- accepted and refused
 
--- the bytes are a yacc file
-abbrev pub IsAcceptedGrammar : List ℕ → Type 0
-IsAcceptedGrammar bytes = (file : yacc.File) × IsGrammarOf file bytes
+-- the automaton of a lex file hasn't too many states
+abbrev pub HasFewStates : Meant → Type 0
+HasFewStates (Pair pair) = ¬ HasManyStates pair.lex
+HasFewStates meant = Unit {0}
 
--- the bytes are a yacc file, and a lex file beside it whose automaton hasn't too many states
-abbrev pub IsAcceptedPair : List ℕ → List ℕ → Type 0
-IsAcceptedPair bytes more = (file : yacc.File) × (scanner : lex.File) × IsPairOf file scanner bytes more × ¬ HasManyStates scanner
+-- the contents mean nothing, a yacc file, or a yacc file and a lex file beside it whose automaton hasn't too many states
+abbrev pub Accepted : List Content → Type 0
+Accepted contents = (meant : Meant) × Mean contents meant × HasFewStates meant
 
--- the files that are asked for are accepted; `gen` asks for none
-abbrev pub AreAccepted : Option Files → Request → Type 0
-AreAccepted files (ForRules name) = FileIs files name IsAcceptedGrammar
-AreAccepted files (ForSuite name other options) = FilesAre files name other IsAcceptedPair
-AreAccepted files (ForGen seed) = Unit {0}
+-- the files that are asked for are accepted
+abbrev pub AreAccepted : Option Files → PlainRequest → Type 0
+AreAccepted files request = HaveContents files (files_of request) Accepted
 
 -- they are refused so
-abbrev pub AreRefusedSo : Option Files → Request → Refusal → Type 0
-AreRefusedSo files (ForRules name) refusal = FileIs files name (RefusesGrammar refusal)
-AreRefusedSo files (ForSuite name other options) refusal = FilesAre files name other (RefusesPair refusal)
-AreRefusedSo files (ForGen seed) refusal = ⊥
+abbrev pub AreRefusedSo : Option Files → PlainRequest → Refusal → Type 0
+AreRefusedSo files request refusal = HaveContents files (files_of request) (Refuses refusal)
 
-abbrev pub AreRefused : Option Files → Request → Type 0
+abbrev pub AreRefused : Option Files → PlainRequest → Type 0
 AreRefused files request = (refusal : Refusal) × AreRefusedSo files request refusal
 
 -- the file of that role can't be read
-abbrev pub HasNoFileFor : Option Files → Request → Change ℕ → Role → Type 0
-HasNoFileFor files (ForRules name) faults role = (role ≡ Yacc) × HasNoFile Yacc files name name faults
-HasNoFileFor files (ForSuite name other options) faults role = HasNoFile role files name other faults
-HasNoFileFor files (ForGen seed) faults role = ⊥
+abbrev pub HasNoFileFor : Option Files → PlainRequest → Change ℕ → Role → Type 0
+HasNoFileFor files request faults role = HasNoFile files faults (files_of request) role
 
 -- ---- manifests
 

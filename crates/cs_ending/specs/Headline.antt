@@ -1,18 +1,17 @@
 -- What a run promises of its status, by what the words ask for and by how the desk and the two outputs were used. Where a desk
--- tells no files, or an output no bytes, as those of the system do, any files and any text count in what is said of them.
-use Rattle.std.specs.Prelude.{◌≡◌, ◌<◌, ◌≤◌, ◌⊎◌, ℕ, Result, IsErr, IsOkAnd, IsSome, IsTrue}
+-- tells no files, any contents count as theirs, and where an output tells no bytes, any text: so it is with those of the system.
+use Rattle.std.specs.Prelude.{◌≡◌, ◌<◌, ◌≤◌, ◌⊎◌, ℕ, Result, IsErr, IsOkAnd, IsTrue}
 use Rattle.cs_io.specs.Faults.{greatest}
 use Rattle.cs_io.specs.Uses.{DeskUse, SinkUse, HasFailed, IsUnused}
-use Rattle.cs_input.specs.declared.refusal.Role.{Role}
+use Rattle.cs_words.specs.declared.command.Role.{Role}
+use Rattle.cs_words.specs.Requests.{PlainRequest}
 use Rattle.cs_ending.specs.declared.ending.Ending.{Ending}
-use Rattle.cs_ending.specs.Requests.{Request}
 use Rattle.cs_ending.specs.Ending.{Ends, Performs, Says, WroteText, WrotePart, line_of, status_of}
 use Rattle.cs_ending.specs.Files.{AreAccepted, AreRefused, HasNoFileFor}
-use Rattle.cs_ending.specs.Texts.{HasRoomFor}
+use Rattle.cs_ending.specs.Texts.{AreTold, HasRoomFor}
 
-pub record KeepsPromises (asked : Result Request ℕ) (desk : DeskUse) (out err : SinkUse) (status : ℕ) : Type 0 where
-  -- The headline: on status 0 the output grew by the manifest that the words ask for, or for `gen` by the summary of the
-  -- number, and by nothing else. `gen` asks for no files: none of it is refused, and none can't be read.
+pub record KeepsPromises (asked : Result PlainRequest ℕ) (desk : DeskUse) (out err : SinkUse) (status : ℕ) : Type 0 where
+  -- The headline: on status 0 the output grew by the text that the words ask for, and by nothing else.
   pub whole : status ≡ 0 → WroteText asked desk out
   pub silent : status ≡ 0 → IsUnused err
   -- The status is that of an ending that has its cause, and the error output grew by that ending's line.
@@ -31,20 +30,20 @@ pub record KeepsPromises (asked : Result Request ℕ) (desk : DeskUse) (out err 
   -- Bad words, refused files, a failed read and accepted files end a run so, or want of memory does.
   pub bad_words_end_so : IsErr asked → (status ≡ 2) ⊎ (status ≡ 5)
   pub refused_ends_so :
-      IsSome desk.files → IsOkAnd asked (AreRefused desk.files) → ¬ HasFailed desk.faults → (status ≡ 1) ⊎ (status ≡ 5)
+      AreTold desk.files asked → IsOkAnd asked (AreRefused desk.files) → ¬ HasFailed desk.faults → (status ≡ 1) ⊎ (status ≡ 5)
   pub failed_ends_so : ¬ (desk.faults.after ≡ desk.faults.before) → (status ≡ 3) ⊎ (status ≡ 5)
   pub complete :
-      IsSome desk.files → IsOkAnd asked (AreAccepted desk.files) → ¬ HasFailed desk.faults → ¬ HasFailed out.faults
+      AreTold desk.files asked → IsOkAnd asked (AreAccepted desk.files) → ¬ HasFailed desk.faults → ¬ HasFailed out.faults
       → (status ≡ 0) ⊎ (status ≡ 5)
   -- A steady desk has no fault, nor has an output with room for the text.
   pub steady : IsTrue desk.steady → desk.faults.after ≡ desk.faults.before
   pub room : HasRoomFor out.room asked desk.files → out.faults.after ≡ out.faults.before
   pub sure :
-      IsTrue desk.steady → IsSome desk.files → IsOkAnd asked (AreAccepted desk.files) → HasRoomFor out.room asked desk.files
+      IsTrue desk.steady → AreTold desk.files asked → IsOkAnd asked (AreAccepted desk.files) → HasRoomFor out.room asked desk.files
       → desk.faults.before < greatest → out.faults.before < greatest → (status ≡ 0) ⊎ (status ≡ 5)
 
 -- whatever words asked for, and however desk and output were used: where that ended so, the promises are kept
 abbrev pub KeepsWhatPerforms : Ending → SinkUse → ℕ → Type 0
 KeepsWhatPerforms ending err status =
-    (asked : Result Request ℕ) (desk : DeskUse) (out : SinkUse) → Performs ending asked desk out
+    (asked : Result PlainRequest ℕ) (desk : DeskUse) (out : SinkUse) → Performs ending asked desk out
     → KeepsPromises asked desk out err status

@@ -1,4 +1,3 @@
-pub mod Requests
 pub mod Files
 pub mod Summary
 pub mod Texts

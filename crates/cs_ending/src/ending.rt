@@ -1,6 +1,7 @@
 // How a run ends.
 
-use cs_input::{Refusal, Role};
+use cs_input::Refusal;
+use cs_words::Role;
 
 /// How a run ends.
 #[derive(Clone, Copy, Debug, PartialEq, Eq)]

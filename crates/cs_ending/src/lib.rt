@@ -4,8 +4,7 @@
 //! says it on the error output and answers the status. What a run promises then is one page, `specs/Headline`.
 //!
 //! Meaning, from the top down: `specs/Headline` (the promises), `Ending` (causes, statuses, lines), `Texts` (which text is
-//! asked for), `Summary` (the summary of a number), `Files` (which files are accepted and refused, and their manifests),
-//! `Requests` (what words ask for).
+//! asked for), `Summary` (the summary of a number), `Files` (which files are accepted and refused, and their manifests).
 #![tactic(auto)]
 
 mod ending;

@@ -7,8 +7,9 @@ ghost use Rattle.cs_ending.specs.Ending.{HasLine, IsReported, Says, line_of, sta
 ghost use Rattle.cs_ending.specs.Headline.{KeepsWhatPerforms};
 
 use crate::ending::Ending;
-use cs_input::{Role, line as refusal_line};
+use cs_input::line as refusal_line;
 use cs_io::{Sink, write_all};
+use cs_words::Role;
 use std::alloc::{AllocError, Global};
 
 /// Says on `err` how a run ended, and gives the status: 0 where the whole output was written, 1 where the files are refused,

@@ -1,5 +1,5 @@
--- Files that a command names. Where the desk tells no files, any files count.
-use Rattle.std.specs.Prelude.{◌≡◌, ◌⊎◌, ◌≤◌, ℕ, length, List, Option, None, Some, Result, Err, IsSomeAnd}
+-- The contents of files that are asked for, and what they mean. Where the desk tells no files, any bytes count.
+use Rattle.std.specs.Prelude.{◌≡◌, ◌⊎◌, ◌≤◌, ℕ, length, List, [], ◌∷◌, Option, None, Some, Result, Err}
 use Rattle.cs_bytes.specs.Limits.{most_bytes}
 use Rattle.cs_io.specs.Desk.{Files, IsMissing, file_named}
 use Rattle.cs_io.specs.Uses.{Change, HasFailed}
@@ -7,25 +7,45 @@ use Rattle.cs_yacc.specs.File as yacc
 use Rattle.cs_yacc.specs.Reading.{IsYaccFile}
 use Rattle.cs_lex.specs.File as lex
 use Rattle.cs_lex.specs.Reading.{IsLexFile}
-use Rattle.cs_input.specs.declared.refusal.Role.{Role}
-use Rattle.cs_input.specs.declared.refusal.Role.TheVariants.{Yacc, Lex}
+use Rattle.cs_words.specs.declared.command.Role.{Role}
+use Rattle.cs_words.specs.Commands as taken
+use Rattle.cs_words.specs.Requests.{Named, Names, Number, PlainArguments}
+use Rattle.cs_input.specs.declared.judging.Meant.{Meant}
+use Rattle.cs_input.specs.declared.judging.Meant.TheVariants.{Grammar, Nothing, Pair}
 use Rattle.cs_input.specs.declared.refusal.Stop.{Stop}
 use Rattle.cs_input.specs.declared.refusal.Stop.TheVariants.{NoFile}
+
+-- ---- contents
+
+-- a file's bytes, and what it is to the command
+pub record Content : Type 0 where
+  pub role : Role
+  pub bytes : List ℕ
+
+-- where the desk tells its files, the file of that name has these bytes
+abbrev pub HasBytes : Option Files → List ℕ → List ℕ → Type 0
+HasBytes None name bytes = Unit {0}
+HasBytes (Some files) name bytes = file_named files name ≡ Some bytes
+
+abbrev pub IsContentOf : Option Files → Named → Content → Type 0
+IsContentOf files named content = (content.role ≡ named.role) × HasBytes files named.name content.bytes
+
+-- the contents of the files, in their order
+abbrev pub AreContents : Option Files → List Named → List Content → Type 0
+AreContents files [] [] = Unit {0}
+AreContents files [] (content ∷ contents) = ⊥
+AreContents files (named ∷ more) [] = ⊥
+AreContents files (named ∷ more) (content ∷ contents) = IsContentOf files named content × AreContents files more contents
+
+-- the files are there, and their contents have P
+abbrev pub HaveContents : Option Files → List Named → (List Content → Type 0) → Type 0
+HaveContents files named P = (contents : List Content) × AreContents files named contents × P contents
+
+-- ---- what they mean
 
 -- a file has at most so many bytes
 abbrev pub IsShort : List ℕ → Type 0
 IsShort bytes = length bytes ≤ most_bytes
-
--- where the files are told, the file is there and has P
-abbrev pub FileIs : Option Files → List ℕ → (List ℕ → Type 0) → Type 0
-FileIs None name P = Unit {0}
-FileIs (Some files) name P = IsSomeAnd (file_named files name) P
-
--- where the files are told, both files are there and have P
-abbrev pub FilesAre : Option Files → List ℕ → List ℕ → (List ℕ → List ℕ → Type 0) → Type 0
-FilesAre None one other P = Unit {0}
-FilesAre (Some files) one other P =
-    IsSomeAnd (file_named files one) (λ bytes. IsSomeAnd (file_named files other) (λ more. P bytes more))
 
 -- the bytes are not too many, and mean the yacc file
 abbrev pub IsGrammarOf : yacc.File → List ℕ → Type 0
@@ -35,11 +55,32 @@ IsGrammarOf file bytes = IsShort bytes × IsYaccFile bytes file
 abbrev pub IsPairOf : yacc.File → lex.File → List ℕ → List ℕ → Type 0
 IsPairOf file scanner bytes more = IsShort bytes × IsShort more × IsYaccFile bytes file × IsLexFile more file scanner
 
--- A read failed, or the desk tells its files and has none of that name. A lex file is asked for behind the yacc file,
--- which is there.
-abbrev pub HasNoFile : Role → Option Files → List ℕ → List ℕ → Change ℕ → Type 0
-HasNoFile Yacc files one other faults = HasFailed faults ⊎ IsMissing files one
-HasNoFile Lex files one other faults = FileIs files one (λ bytes. Unit {0}) × (HasFailed faults ⊎ IsMissing files other)
+-- the contents mean nothing, a yacc file, or a yacc file and a lex file beside it
+abbrev pub Mean : List Content → Meant → Type 0
+Mean [] Nothing = Unit {0}
+Mean (one ∷ []) (Grammar file) = IsGrammarOf file one.bytes
+Mean (one ∷ other ∷ []) (Pair pair) = IsPairOf pair.yacc pair.lex one.bytes other.bytes
+Mean contents meant = ⊥
+
+-- a command that takes one file is given a yacc file, one that takes two a pair, and one that takes a seed nothing
+abbrev pub IsMeantFor : taken.Taken → PlainArguments → Meant → Type 0
+IsMeantFor (taken.Files (one ∷ [])) (Names names) (Grammar file) = Unit {0}
+IsMeantFor (taken.Files (one ∷ other ∷ [])) (Names names) (Pair pair) = Unit {0}
+IsMeantFor taken.Seed (Number number) Nothing = Unit {0}
+IsMeantFor takes arguments meant = ⊥
+
+-- ---- files that can't be read
+
+-- some bytes count as the file's
+abbrev pub IsThere : Option Files → List ℕ → Type 0
+IsThere files name = (bytes : List ℕ) × HasBytes files name bytes
+
+-- The first file that can't be read is of that role: a read failed, or the desk tells its files and has none of that name.
+abbrev pub HasNoFile : Option Files → Change ℕ → List Named → Role → Type 0
+HasNoFile files faults [] role = ⊥
+HasNoFile files faults (named ∷ more) role =
+    ((named.role ≡ role) × (HasFailed faults ⊎ IsMissing files named.name))
+    ⊎ (IsThere files named.name × HasNoFile files faults more role)
 
 -- the answer is that a file can't be read
 abbrev pub IsNoFile : {A : Type 0} → Result A Stop → Type 0

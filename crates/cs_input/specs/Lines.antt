@@ -13,8 +13,8 @@ use Rattle.cs_lex.specs.declared.error.LexLimit.{LexLimit}
 use Rattle.cs_lex.specs.declared.error.LexLimit.TheVariants as counted_lex
 use Rattle.cs_input.specs.declared.refusal.Refusal.{Refusal}
 use Rattle.cs_input.specs.declared.refusal.Refusal.TheVariants.{TooLong, OfYacc, OfLex, States}
-use Rattle.cs_input.specs.declared.refusal.Role.{Role}
-use Rattle.cs_input.specs.declared.refusal.Role.TheVariants.{Yacc, Lex}
+use Rattle.cs_words.specs.declared.command.Role.{Role}
+use Rattle.cs_words.specs.declared.command.Role.TheVariants.{Yacc, Lex}
 
 -- ---- words
 

@@ -1,5 +1,5 @@
 -- Why files are refused, the first cause that applies.
-use Rattle.std.specs.Prelude.{◌≡◌, ◌⊎◌, ◌<◌, ℕ, length, List, Option}
+use Rattle.std.specs.Prelude.{◌≡◌, ◌⊎◌, ◌<◌, ℕ, length, List, [], ◌∷◌, Option}
 use Rattle.cs_bytes.specs.Limits.{most_bytes}
 use Rattle.cs_automaton.specs.Counted.{IsAbove}
 use Rattle.cs_automaton.specs.Meaning.{res}
@@ -9,14 +9,17 @@ use Rattle.cs_io.specs.Uses.{Change, HasFailed}
 use Rattle.cs_lex.specs.File as lex
 use Rattle.cs_lex.specs.Reading as lex_reading
 use Rattle.cs_yacc.specs.File as yacc
-use Rattle.cs_yacc.specs.Reading.{IsYaccFile, Refuses}
+use Rattle.cs_yacc.specs.Reading as yacc_reading
+use Rattle.cs_yacc.specs.Reading.{IsYaccFile}
+use Rattle.cs_lex.specs.Reading.{IsLexFile}
+use Rattle.cs_words.specs.Requests.{Named}
 use Rattle.cs_input.specs.declared.refusal.Refusal.{Refusal}
 use Rattle.cs_input.specs.declared.refusal.Refusal.TheVariants.{TooLong, OfYacc, OfLex, States}
-use Rattle.cs_input.specs.declared.refusal.Role.{Role}
-use Rattle.cs_input.specs.declared.refusal.Role.TheVariants.{Yacc, Lex}
+use Rattle.cs_words.specs.declared.command.Role.{Role}
+use Rattle.cs_words.specs.declared.command.Role.TheVariants.{Yacc, Lex}
 use Rattle.cs_input.specs.declared.refusal.Stop.{Stop}
 use Rattle.cs_input.specs.declared.refusal.Stop.TheVariants.{NoFile, Refused, Memory}
-use Rattle.cs_input.specs.Files.{FileIs, FilesAre, HasNoFile, faults_of, IsPairOf, IsShort}
+use Rattle.cs_input.specs.Files.{Content, HasNoFile, HaveContents, IsShort, faults_of}
 use Rattle.cs_yacc.specs.declared.error.YaccError.TheVariants as yacc_error
 use Rattle.cs_lex.specs.declared.error.LexError.{LexError}
 use Rattle.cs_lex.specs.declared.error.LexError.TheVariants as lex_error
@@ -25,47 +28,50 @@ use Rattle.cs_lex.specs.declared.error.LexError.TheVariants as lex_error
 abbrev pub HasManyStates : lex.File → Type 0
 HasManyStates file = IsAbove (InSet (res file.patterns)) 16384
 
--- why a yacc file alone is refused
-abbrev pub RefusesGrammar : Refusal → List ℕ → Type 0
-RefusesGrammar (TooLong Yacc) bytes = most_bytes < length bytes
-RefusesGrammar (TooLong Lex) bytes = ⊥
-RefusesGrammar (OfYacc error) bytes = IsShort bytes × Refuses error bytes
-RefusesGrammar (OfLex error) bytes = ⊥
-RefusesGrammar States bytes = ⊥
+-- the first file that is too long is of that role
+abbrev pub IsFirstLong : List Content → Role → Type 0
+IsFirstLong [] role = ⊥
+IsFirstLong (content ∷ contents) role =
+    ((content.role ≡ role) × (most_bytes < length content.bytes)) ⊎ (IsShort content.bytes × IsFirstLong contents role)
 
--- Why a yacc file and a lex file are refused: the length of the one, of the other, the reading of the one, of the other, and
--- the states of the automaton.
-abbrev pub RefusesPair : Refusal → List ℕ → List ℕ → Type 0
-RefusesPair (TooLong Yacc) bytes more = most_bytes < length bytes
-RefusesPair (TooLong Lex) bytes more = IsShort bytes × (most_bytes < length more)
-RefusesPair (OfYacc error) bytes more = IsShort bytes × IsShort more × Refuses error bytes
-RefusesPair (OfLex error) bytes more =
-    IsShort bytes × IsShort more × ((file : yacc.File) × IsYaccFile bytes file) × lex_reading.Refuses error more
-RefusesPair States bytes more =
-    (file : yacc.File) × (scanner : lex.File) × IsPairOf file scanner bytes more × yacc.IsFile file × HasManyStates scanner
+-- none is too long
+abbrev pub AreShort : List Content → Type 0
+AreShort [] = Unit {0}
+AreShort (content ∷ contents) = IsShort content.bytes × AreShort contents
 
--- why a yacc file isn't given
-abbrev pub StopsGrammar : Option Files → List ℕ → Change ℕ → Stop → Type 0
-StopsGrammar files name faults (NoFile role) = (role ≡ Yacc) × HasNoFile Yacc files name name faults
-StopsGrammar files name faults (Refused refusal) = FileIs files name (RefusesGrammar refusal)
-StopsGrammar files name faults Memory = Unit {0}
+-- Why files are refused that are not too long: the reading of the yacc file, of the lex file, and the states of the automaton.
+abbrev pub RefusesShort : Refusal → List Content → Type 0
+RefusesShort (OfYacc error) (one ∷ contents) = yacc_reading.Refuses error one.bytes
+RefusesShort (OfLex error) (one ∷ other ∷ contents) =
+    ((file : yacc.File) × IsYaccFile one.bytes file) × lex_reading.Refuses error other.bytes
+RefusesShort States (one ∷ other ∷ contents) =
+    (file : yacc.File) × (scanner : lex.File) × IsYaccFile one.bytes file × IsLexFile other.bytes file scanner × yacc.IsFile file
+    × HasManyStates scanner
+RefusesShort refusal contents = ⊥
 
--- why a yacc file and a lex file aren't given
-abbrev pub StopsPair : Option Files → List ℕ → List ℕ → Change ℕ → Stop → Type 0
-StopsPair files name other faults (NoFile role) = HasNoFile role files name other faults
-StopsPair files name other faults (Refused refusal) = FilesAre files name other (RefusesPair refusal)
-StopsPair files name other faults Memory = Unit {0}
+-- Why files are refused: their lengths, in order, and then what they hold.
+abbrev pub Refuses : Refusal → List Content → Type 0
+Refuses (TooLong role) contents = IsFirstLong contents role
+Refuses refusal contents = AreShort contents × RefusesShort refusal contents
 
--- what bytes that were read are refused for
-abbrev pub RefusesRead : List ℕ → List ℕ → Stop → Type 0
-RefusesRead bytes more (NoFile role) = ⊥
-RefusesRead bytes more (Refused refusal) = RefusesPair refusal bytes more
-RefusesRead bytes more Memory = Unit {0}
+-- why files aren't given
+abbrev pub Stops : Option Files → Change ℕ → List Named → Stop → Type 0
+Stops files faults named (NoFile role) = HasNoFile files faults named role
+Stops files faults named (Refused refusal) = HaveContents files named (Refuses refusal)
+Stops files faults named Memory = Unit {0}
 
-abbrev pub RefusesReadGrammar : List ℕ → Stop → Type 0
-RefusesReadGrammar bytes (NoFile role) = ⊥
-RefusesReadGrammar bytes (Refused refusal) = RefusesGrammar refusal bytes
-RefusesReadGrammar bytes Memory = Unit {0}
+-- what contents that were read are refused for
+abbrev pub RefusesRead : List Content → Stop → Type 0
+RefusesRead contents (NoFile role) = ⊥
+RefusesRead contents (Refused refusal) = Refuses refusal contents
+RefusesRead contents Memory = Unit {0}
+
+-- the contents of a yacc file, and of a lex file beside it
+abbrev pub yacc_content : List ℕ → Content
+yacc_content bytes = record { role = Yacc; bytes = bytes }
+
+abbrev pub pair_contents : List ℕ → List ℕ → List Content
+pair_contents bytes more = yacc_content bytes ∷ record { role = Lex; bytes = more } ∷ []
 
 -- want of memory is no refusal
 abbrev pub IsTold : Refusal → Type 0
@@ -94,11 +100,8 @@ lex_stop error = Refused (OfLex error)
 -- ---- the same by the meanings of a desk
 
 module _ {D : Type 0} (files : D → Option Files) (faults : D → ℕ) (old new : D) where
-  abbrev pub GrammarStops : List ℕ → Stop → Type 0
-  GrammarStops name stop = StopsGrammar (files old) name (faults_of faults old new) stop
-
-  abbrev pub PairStops : List ℕ → List ℕ → Stop → Type 0
-  PairStops name other stop = StopsPair (files old) name other (faults_of faults old new) stop
+  abbrev pub FilesStop : List Named → Stop → Type 0
+  FilesStop named stop = Stops (files old) (faults_of faults old new) named stop
 
   abbrev pub FileStops : Role → List ℕ → Stop → Type 0
   FileStops role name stop = StopsFile role (files old) name (faults_of faults old new) stop

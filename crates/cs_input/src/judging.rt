@@ -1,15 +1,16 @@
 // What bytes mean that were read.
 
-ghost use Rattle.std.specs.Prelude.{◌≡◌, ◌<◌, IfErr, IfOk, Ok, length, Err};
+ghost use Rattle.std.specs.Prelude.{◌≡◌, ◌<◌, ◌∷◌, [], IfErr, IfOk, Ok, length, Err};
 ghost use Rattle.cs_bytes.specs.Limits.{most_bytes};
 ghost use Rattle.cs_lex.specs.File.{HasTokensOf};
 ghost use Rattle.cs_input.specs.Files.{IsGrammarOf, IsPairOf, IsShort};
-ghost use Rattle.cs_input.specs.Refusal.{CanBeTold, RefusesRead, RefusesReadGrammar, lex_stop};
+ghost use Rattle.cs_input.specs.Refusal.{CanBeTold, RefusesRead, lex_stop, pair_contents, yacc_content};
 ghost use Rattle.cs_input.specs.declared.refusal.Refusal.TheVariants.{TooLong};
 ghost use Rattle.cs_input.specs.declared.refusal.Stop.TheVariants.{Refused};
 
-use crate::refusal::{Refusal, Role, Stop};
+use crate::refusal::{Refusal, Stop};
 use cs_lex::{LexError, LexFile, read_lex};
+use cs_words::Role;
 use cs_yacc::{MOST_BYTES, YaccError, YaccFile, read_yacc};
 use std::alloc::Global;
 
@@ -20,10 +21,19 @@ pub struct Pair {
     pub lex: LexFile,
 }
 
+/// What the files of a request mean.
+#[derive(Drop)]
+pub enum Meant {
+    /// None is asked for.
+    Nothing,
+    Grammar(YaccFile),
+    Pair(Pair),
+}
+
 /// What the bytes of a yacc file mean.
 pub(crate) fn judge_grammar(alloc: Global, bytes: &[u8]) -> Result<YaccFile, Stop>
     ensures read { IfOk result (λ file. IsGrammarOf file bytes.now) }
-    ensures refused { IfErr result (RefusesReadGrammar bytes.now) }
+    ensures refused { IfErr result (RefusesRead (yacc_content bytes.now ∷ [])) }
     ensures told { IfErr result CanBeTold }
 {
     check_length(bytes, Role::Yacc)?;
@@ -34,7 +44,7 @@ pub(crate) fn judge_grammar(alloc: Global, bytes: &[u8]) -> Result<YaccFile, Sto
 pub fn judge_pair(alloc: Global, bytes: &[u8], more: &[u8]) -> Result<Pair, Stop>
     ensures read { IfOk result (λ pair. IsPairOf pair.yacc pair.lex bytes.now more.now) }
     ensures tokens { IfOk result (λ pair. HasTokensOf (length pair.yacc.token_names) pair.lex) }
-    ensures refused { IfErr result (RefusesRead bytes.now more.now) }
+    ensures refused { IfErr result (RefusesRead (pair_contents bytes.now more.now)) }
     ensures told { IfErr result CanBeTold }
 {
     check_length(bytes, Role::Yacc)?;
@@ -71,7 +81,7 @@ fn check_length(bytes: &[u8], role: Role) -> Result<(), Stop>
 fn grammar(alloc: Global, bytes: &[u8]) -> Result<YaccFile, Stop>
     requires { IsShort bytes.now }
     ensures read { IfOk result (λ file. IsGrammarOf file bytes.now) }
-    ensures refused { IfErr result (RefusesReadGrammar bytes.now) }
+    ensures refused { IfErr result (RefusesRead (yacc_content bytes.now ∷ [])) }
     ensures told { IfErr result CanBeTold }
 {
     match read_yacc(alloc, bytes) {

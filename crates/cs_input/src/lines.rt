@@ -6,9 +6,10 @@ ghost use Rattle.cs_input.specs.Refusal.{IsTold};
 ghost use Rattle.cs_yacc.specs.declared.error.YaccError.TheVariants as yacc_error;
 ghost use Rattle.cs_lex.specs.declared.error.LexError.TheVariants as lex_error;
 
-use crate::refusal::{Refusal, Role};
+use crate::refusal::Refusal;
 use cs_lex::{LexError, LexLimit};
 use cs_pattern::PatternFault;
+use cs_words::Role;
 use cs_yacc::{MOST_BYTES, YaccError, YaccLimit};
 use std::alloc::{AllocError, Global};
 

@@ -1,14 +1,8 @@
 // Why files aren't given.
 
 use cs_lex::LexError;
+use cs_words::Role;
 use cs_yacc::YaccError;
-
-/// What a file is to a command.
-#[derive(Clone, Copy, Debug, PartialEq, Eq)]
-pub enum Role {
-    Yacc,
-    Lex,
-}
 
 /// Why files are refused, the first cause that applies.
 #[derive(Clone, Copy, Debug, PartialEq, Eq)]

@@ -1,5 +1,3 @@
-mod Asked
-mod OneRequest
+mod Meanings
 mod OneText
-mod Others
 mod Performing

@@ -1,42 +1,25 @@
--- Where a desk tells its files, one text is asked for.
-use Rattle.std.proofs.Common.{◌≡◌, ℕ, List, Option, None, Some, Result, Ok, Err, refl, sym, ap, ◌∙◌, subst}
-use Rattle.cs_io.specs.Desk.{Files, file_named}
+-- Where a desk tells its files, or none are asked for, one text is asked for.
+use Rattle.std.proofs.Common.{◌≡◌, ℕ, List, [], ◌∷◌, Option, Result, Ok, Err, sym, ap, ◌∙◌, subst}
+use Rattle.cs_io.specs.Desk.{Files}
 use Rattle.cs_grammar.specs.Laws.{AtMostOne}
 use Rattle.cs_yacc.specs.File as yacc
-use Rattle.cs_yacc.specs.Meaning.{declared_tokens, file_or_limit, file_with, limit_passed, name_fault, nonterminals, parts_of, unless, with_meaning}
-use Rattle.cs_yacc.specs.Reading.{IsYaccFile}
 use Rattle.cs_yacc.proofs.OneFile as yacc_files
-use Rattle.cs_yacc.proofs.Whole.{parts_fit, started}
-use Rattle.cs_yacc_items.specs.Items.{items_of}
 use Rattle.cs_lex.specs.File as lex
 use Rattle.cs_lex.specs.Reading.{IsLexFile}
 use Rattle.cs_lex.proofs.OneFile as lex_files
 use Rattle.cs_manifest.specs.declared.counts.Counts.{Counts}
 use Rattle.cs_manifest.specs.Manifest.{Choice, IsManifest, rules_form}
+use Rattle.cs_words.specs.declared.command.Command.{Command}
+use Rattle.cs_words.specs.declared.command.Command.TheVariants.{Gen, Rules, Suite}
 use Rattle.cs_words.specs.declared.options.Options.{Options}
+use Rattle.cs_words.specs.Requests.{Names, Number, PlainArguments, PlainRequest}
+use Rattle.cs_input.specs.Files.{Content}
 use Rattle.cs_ending.specs.Files.{IsRulesText, IsSuiteText, choice_of}
-use Rattle.cs_ending.specs.Requests.{ForGen, ForRules, ForSuite, Request}
 use Rattle.cs_ending.specs.Summary.{HasCounts, IsSummary, lengths_of, summary_line, summary_options}
-use Rattle.cs_ending.specs.Texts.{IsAskedText, IsTextFor}
+use Rattle.cs_ending.specs.Texts.{AreTold, IsAskedText, IsText, IsTextOf}
+use Rattle.cs_ending.proofs.Apart.{contents_once}
 use Rattle.cs_ending.proofs.OneSummary.{one_counts}
-use Rattle.cs_run.proofs.Asked.{found_with}
-
--- ---- what bytes mean is well formed
-
-given_file : {A E : Type 0} (fault : Option E) (given : Result A E) (a : A) → unless fault given ≡ Ok a → (fault ≡ None) × (given ≡ Ok a)
-given_file None given a is = (refl, is)
-given_file (Some e) given a is = absurd cc
-
-named : (bytes : List ℕ) (file : yacc.File) → IsYaccFile bytes file → yacc.IsFile file
-unfolding IsYaccFile
-named bytes file is =
-    let meant = with_meaning is.items in
-    let lefts = nonterminals (items_of meant) in
-    let fine = given_file (name_fault is.items meant (declared_tokens (items_of meant)) lefts) (file_or_limit (parts_of is.items meant)) file is.is in
-    let within = given_file (limit_passed (parts_of is.items meant)) (Ok (file_with (parts_of is.items meant))) file fine.1 in
-    let made = within.1 in
-    let same : file_with (parts_of is.items meant) ≡ file = cc in
-    subst (λ (f : yacc.File). yacc.IsFile f) same (parts_fit is.items meant lefts refl refl is.taken (started is.items meant (declared_tokens (items_of meant)) lefts (sym fine.0)) within.0)
+use Rattle.cs_run.proofs.Meanings.{named}
 
 -- ---- texts
 
@@ -62,12 +45,22 @@ module _ (one : (choice : Choice) (file : yacc.File) → AtMostOne (IsManifest c
       let counts = one_counts x.manifest x.counts y.counts x.has (subst (λ (text : List ℕ). HasCounts y.counts text) manifests y.has) in
       x.said ∙ ap (λ (c : Counts). summary_line seed (lengths_of seed) c) counts ∙ sym y.said
 
-  one_text_for : (files : Files) (request : Request) (a b : List ℕ) → IsTextFor (Some files) request a → IsTextFor (Some files) request b → a ≡ b
-  one_text_for files (ForRules name) a b x y = found_with (file_named files name) x y (λ bytes t u. one_rules bytes a b t u)
-  one_text_for files (ForSuite name other options) a b x y =
-      found_with (file_named files name) x y (λ bytes s t. found_with (file_named files other) s t (λ more u v. one_suite options bytes more a b u v))
-  one_text_for files (ForGen seed) a b x y = one_summary seed a b x y
+  one_text_of : (command : Command) (arguments : PlainArguments) (options : Options) (contents : List Content) (a b : List ℕ)
+      → IsText command arguments options contents a → IsText command arguments options contents b → a ≡ b
+  one_text_of Rules arguments options [] a b x y = absurd x
+  one_text_of Rules arguments options (c ∷ []) a b x y = one_rules c.bytes a b x y
+  one_text_of Rules arguments options (c ∷ d ∷ contents) a b x y = absurd x
+  one_text_of Suite arguments options [] a b x y = absurd x
+  one_text_of Suite arguments options (c ∷ []) a b x y = absurd x
+  one_text_of Suite arguments options (c ∷ d ∷ []) a b x y = one_suite options c.bytes d.bytes a b x y
+  one_text_of Suite arguments options (c ∷ d ∷ e ∷ contents) a b x y = absurd x
+  one_text_of Gen (Names names) options [] a b x y = absurd x
+  one_text_of Gen (Number number) options [] a b x y = one_summary number a b x y
+  one_text_of Gen (Names names) options (c ∷ contents) a b x y = absurd x
+  one_text_of Gen (Number number) options (c ∷ contents) a b x y = absurd x
 
-  pub one_text : (asked : Result Request ℕ) (files : Files) (a b : List ℕ) → IsAskedText asked (Some files) a → IsAskedText asked (Some files) b → a ≡ b
-  one_text (Ok request) files a b x y = one_text_for files request a b x y
-  one_text (Err at) files a b x y = absurd x
+  pub one_text : (asked : Result PlainRequest ℕ) (files : Option Files) → AreTold files asked → (a b : List ℕ) → IsAskedText asked files a → IsAskedText asked files b → a ≡ b
+  one_text (Ok request) files told a b x y =
+      let same : y.0 ≡ x.0 = contents_once files request y.0 x.0 told y.1 x.1 in
+      one_text_of request.command request.arguments request.options x.0 a b x.2 (subst (λ (contents : List Content). IsTextOf request contents b) same y.2)
+  one_text (Err at) files told a b x y = absurd x

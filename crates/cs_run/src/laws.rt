@@ -1,22 +1,17 @@
-// The laws of what `run` promises: there is one thing at most that it speaks of.
+// The law of what `run` promises: there is one text at most that it speaks of.
 
-ghost use Rattle.std.specs.Prelude.{List, Result, Some, ℕ};
-ghost use Rattle.cs_ending.specs.Requests.{IsAsked, Request};
-ghost use Rattle.cs_ending.specs.Texts.{IsAskedText};
+ghost use Rattle.std.specs.Prelude.{Option, Result, ℕ};
+ghost use Rattle.cs_words.specs.Requests.{PlainRequest};
+ghost use Rattle.cs_ending.specs.Texts.{AreTold, IsAskedText};
 ghost use Rattle.cs_grammar.specs.Laws.{AtMostOne};
 ghost use Rattle.cs_io.specs.Desk.{Files};
 
 use cs_manifest::one_manifest;
 
-/// Words ask for at most one thing, or have one first bad place: `run` keeps its promises to that.
-pub fn one_request()
-    ensures { (words : List (List ℕ)) → AtMostOne (IsAsked words) }
-{}
-
-/// Where a desk tells its files, at most one text is asked for, of `gen` as of the other commands.
+/// Where a desk tells its files, or none are asked for, at most one text is asked for.
 pub fn one_asked_text()
-    ensures { (asked : Result Request ℕ) (files : Files)
-        → AtMostOne (IsAskedText asked (Some files)) }
+    ensures { (asked : Result PlainRequest ℕ) (files : Option Files)
+        → AreTold files asked → AtMostOne (IsAskedText asked files) }
 {
     one_manifest();
 }

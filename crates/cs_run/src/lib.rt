@@ -1,11 +1,11 @@
 //! The top call: `run` does what the words of the command line ask for, over a desk of files, an output and an error
 //! output. The program stands on it, and uses `run` alone.
 //!
-//! Meaning: `specs/Words` (what is kept by what words). What `run` promises stands in `specs/Headline` of `cs_ending`.
+//! Meaning: `specs/Words` (what is kept by what words), `Carrying` (how the writing of a text ended). What `run` promises stands in `specs/Headline` of `cs_ending`.
 #![tactic(auto)]
 
 mod command;
 mod laws;
 
 pub use command::run;
-pub use laws::{one_asked_text, one_request};
+pub use laws::one_asked_text;

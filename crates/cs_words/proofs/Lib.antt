@@ -4,3 +4,4 @@ pub mod GivenLemmas
 pub mod Standing
 pub mod OneBad
 pub mod OneOptions
+pub mod OneRequest

@@ -9,6 +9,7 @@ use Rattle.cs_choices.specs.declared.format.Format.TheVariants.{One, Two}
 use Rattle.cs_choices.specs.declared.weigh.Weigh.{Weigh}
 use Rattle.cs_choices.specs.declared.weigh.Weigh.TheVariants.{Nodes, Bytes}
 use Rattle.cs_choices.specs.declared.operators.Operators.{Operators}
+use Rattle.cs_words.specs.declared.command.Command.{Command}
 use Rattle.cs_words.specs.declared.options.Options.{Options}
 use Rattle.cs_words.specs.declared.setting.Setting.{Setting}
 use Rattle.cs_words.specs.declared.setting.Setting.TheVariants as kind
@@ -16,35 +17,33 @@ use Rattle.cs_words.specs.Choices.{Chooses, IsCriteria, IsFormat, IsOperators, I
 use Rattle.cs_words.specs.Options.{AreOptions, Give, GiveOr, IsMarked, IsOption, IsValueOf, default_options, mark_of}
 use Rattle.cs_words.specs.Steps.{AreNew}
 use Rattle.cs_words.specs.Values.{IsSeed}
-use Rattle.cs_words.specs.Words.{IsAccepted, StandBehind}
 use Rattle.cs_words.proofs.GivenLemmas.{behind_mark, marked, same_mark}
 use Rattle.cs_words.proofs.Names.{or_false}
 use Rattle.cs_words.proofs.Spellings.{one_spelling}
-use Rattle.cs_words.proofs.Standing.{letters}
 
 -- ---- one word of each kind
 
 -- behind a word no other of its kind is new
-again : (before words : List (List ℕ)) (v w : List ℕ) (setting : Setting) → AreNew before words → Contains before v → Contains words w → IsMarked (mark_of setting) v → IsMarked (mark_of setting) w → ⊥
-again before [] v w setting new there (k, within, same) one other = omega (arith, within)
-again before (x ∷ words) v w setting new there (zero, within, same) one other =
+again : (c : Command) (before words : List (List ℕ)) (v w : List ℕ) (setting : Setting) → AreNew c before words → Contains before v → Contains words w → IsMarked (mark_of setting) v → IsMarked (mark_of setting) w → ⊥
+again c before [] v w setting new there (k, within, same) one other = omega (arith, within)
+again c before (x ∷ words) v w setting new there (zero, within, same) one other =
     let is : IsMarked (mark_of setting) x = subst (λ u. IsMarked (mark_of setting) u) (sym same) other in
     let marks = same_mark x setting new.0.setting is (marked x new.0.setting new.0.is) in new.0.is_new v there (subst (λ m. IsMarked m v) marks one)
-again before (x ∷ words) v w setting new there (suc k, within, same) one other =
-    again (before ++ x ∷ []) words v w setting new.1 (Contains-append_left before (x ∷ []) v there) (k, omega (arith, within), same) one other
+again c before (x ∷ words) v w setting new there (suc k, within, same) one other =
+    again c (before ++ x ∷ []) words v w setting new.1 (Contains-append_left before (x ∷ []) v there) (k, omega (arith, within), same) one other
 
 at_end : (before : List (List ℕ)) (x v : List ℕ) → x ≡ v → Contains (before ++ x ∷ []) v
 at_end before x v same = Contains-append_right before (x ∷ []) v (0, omega arith, same)
 
-one_word : (before words : List (List ℕ)) (v w : List ℕ) (setting : Setting) → AreNew before words → Contains words v → Contains words w → IsMarked (mark_of setting) v → IsMarked (mark_of setting) w → v ≡ w
-one_word before [] v w setting new (k, within, same) there one other = absurd (omega (arith, within))
-one_word before (x ∷ words) v w setting new (zero, within, same) (zero, inside, equal) one other = sym same ∙ equal
-one_word before (x ∷ words) v w setting new (zero, within, same) (suc k, inside, equal) one other =
-    absurd (again (before ++ x ∷ []) words v w setting new.1 (at_end before x v same) (k, omega (arith, inside), equal) one other)
-one_word before (x ∷ words) v w setting new (suc k, within, same) (zero, inside, equal) one other =
-    absurd (again (before ++ x ∷ []) words w v setting new.1 (at_end before x w equal) (k, omega (arith, within), same) other one)
-one_word before (x ∷ words) v w setting new (suc k, within, same) (suc j, inside, equal) one other =
-    one_word (before ++ x ∷ []) words v w setting new.1 (k, omega (arith, within), same) (j, omega (arith, inside), equal) one other
+one_word : (c : Command) (before words : List (List ℕ)) (v w : List ℕ) (setting : Setting) → AreNew c before words → Contains words v → Contains words w → IsMarked (mark_of setting) v → IsMarked (mark_of setting) w → v ≡ w
+one_word c before [] v w setting new (k, within, same) there one other = absurd (omega (arith, within))
+one_word c before (x ∷ words) v w setting new (zero, within, same) (zero, inside, equal) one other = sym same ∙ equal
+one_word c before (x ∷ words) v w setting new (zero, within, same) (suc k, inside, equal) one other =
+    absurd (again c (before ++ x ∷ []) words v w setting new.1 (at_end before x v same) (k, omega (arith, inside), equal) one other)
+one_word c before (x ∷ words) v w setting new (suc k, within, same) (zero, inside, equal) one other =
+    absurd (again c (before ++ x ∷ []) words w v setting new.1 (at_end before x w equal) (k, omega (arith, within), same) other one)
+one_word c before (x ∷ words) v w setting new (suc k, within, same) (suc j, inside, equal) one other =
+    one_word c (before ++ x ∷ []) words v w setting new.1 (k, omega (arith, within), same) (j, omega (arith, inside), equal) one other
 
 -- ---- one value of each word
 
@@ -58,14 +57,14 @@ module _ {A : Type 0} (of : A → Setting) (mark : List ℕ) (marks : (a : A) �
       let values : is.value ≡ other.value = behind_mark mark _ _ (sym (begins v a is).1 ∙ same ∙ (begins w b other).1) in
       once other.value a b (subst (λ u. IsValueOf (of a) u) values is.gives) other.gives
 
-  module _ (words : List (List ℕ)) (new : AreNew [] words) where
+  module _ (c : Command) (words : List (List ℕ)) (new : AreNew c [] words) where
     one_given : (a b : Option A) → Give mark of words a → Give mark of words b → a ≡ b
     one_given None None one other = refl
     one_given None (Some b) one (w, there, is) = absurd (one w there (begins w b is))
     one_given (Some a) None (v, there, is) other = absurd (other v there (begins v a is))
     one_given (Some a) (Some b) (v, there, is) (w, inside, other) =
         let mine : IsMarked (mark_of (of a)) w = subst (λ m. IsMarked m w) (sym (marks a)) (begins w b other) in
-        ap Some (one_value v w a b (one_word [] words v w (of a) new there inside (marked v (of a) is) mine) is other)
+        ap Some (one_value v w a b (one_word c [] words v w (of a) new there inside (marked v (of a) is) mine) is other)
 
     one_or : (default a b : A) → GiveOr default mark of words a → GiveOr default mark of words b → a ≡ b
     one_or default a b one other = one.2 ∙ ap (λ g. unwrap_or g default) (one_given one.0 other.0 one.1 other.1) ∙ sym other.2
@@ -86,6 +85,9 @@ two a = or_false a ∙ or_false (a || false)
 
 three : (a : Bool) → a ≡ (((a || false) || false) || false)
 three a = two a ∙ or_false ((a || false) || false)
+
+letters : (a b : ℕ) (xs ys : List ℕ) → a ∷ xs ≡ b ∷ ys → (a ≡ b → ⊥) → ⊥
+letters a b xs ys same apart = let e : a ≡ b = cc in apart e
 
 abbrev criteria_of : Bool → Bool → Bool → Criteria
 criteria_of rule cdrc pair = record { rule = rule; cdrc = cdrc; pair = pair }
@@ -145,23 +147,15 @@ options_of criteria operators bases separator weigh format =
 by_fields : (c d : Criteria) (o p : Operators) (m n : ℕ) (s t : List ℕ) (w v : Weigh) (f g : Format) → c ≡ d → o ≡ p → m ≡ n → s ≡ t → w ≡ v → f ≡ g → options_of c o m s w f ≡ options_of d p n t v g
 by_fields c d o p m n s t w v f g e1 e2 e3 e4 e5 e6 = rw (e1, e2, e3, e4, e5, e6) refl
 
-pub one_options : (words : List (List ℕ)) → AreNew [] words → (a b : Options) → AreOptions words a → AreOptions words b → a ≡ b
-one_options words new a b one other =
+pub one_options : (c : Command) (words : List (List ℕ)) → AreNew c [] words → (a b : Options) → AreOptions words a → AreOptions words b → a ≡ b
+one_options c words new a b one other =
     by_fields a.criteria b.criteria a.operators b.operators a.bases b.bases a.separator b.separator a.weigh b.weigh a.format b.format
-    (one_or kind.Cover (codes "--criteria=") (λ x. refl) one_criteria words new default_options.criteria a.criteria b.criteria one.criteria other.criteria)
-    (one_or kind.Mutate (codes "--mutate=") (λ x. refl) one_operators words new default_options.operators a.operators b.operators one.operators other.operators)
-    (one_or kind.Bases (codes "--bases=") (λ x. refl) (λ value x y is also. is.number ∙ sym also.number) words new default_options.bases a.bases b.bases one.bases other.bases)
-    (one_or kind.Separate (codes "--separator=") (λ x. refl) (λ value x y is also. one_spelling x y value is.0 also.0) words new default_options.separator a.separator b.separator one.separator other.separator)
-    (one_or kind.Weigh (codes "--weigh=") (λ x. refl) one_weigh words new default_options.weigh a.weigh b.weigh one.weigh other.weigh)
-    (one_or kind.Format (codes "--format=") (λ x. refl) one_format words new default_options.format a.format b.format one.format other.format)
-
--- behind the names of `suite` each option is new
-new_behind : (yacc lex : List ℕ) (before words : List (List ℕ)) → StandBehind (codes "suite" ∷ yacc ∷ lex ∷ before) words → AreNew before words
-new_behind yacc lex before [] stand = tt
-new_behind yacc lex before (word ∷ words) stand = (stand.0.1, new_behind yacc lex (before ++ word ∷ []) words stand.1)
-
-pub suite_new : (yacc lex : List ℕ) (words : List (List ℕ)) → IsAccepted (codes "suite" ∷ yacc ∷ lex ∷ words) → AreNew [] words
-suite_new yacc lex words accepted = new_behind yacc lex [] words accepted.stand.1.1.1
+    (one_or kind.Cover (codes "--criteria=") (λ x. refl) one_criteria c words new default_options.criteria a.criteria b.criteria one.criteria other.criteria)
+    (one_or kind.Mutate (codes "--mutate=") (λ x. refl) one_operators c words new default_options.operators a.operators b.operators one.operators other.operators)
+    (one_or kind.Bases (codes "--bases=") (λ x. refl) (λ value x y is also. is.number ∙ sym also.number) c words new default_options.bases a.bases b.bases one.bases other.bases)
+    (one_or kind.Separate (codes "--separator=") (λ x. refl) (λ value x y is also. one_spelling x y value is.0 also.0) c words new default_options.separator a.separator b.separator one.separator other.separator)
+    (one_or kind.Weigh (codes "--weigh=") (λ x. refl) one_weigh c words new default_options.weigh a.weigh b.weigh one.weigh other.weigh)
+    (one_or kind.Format (codes "--format=") (λ x. refl) one_format c words new default_options.format a.format b.format one.format other.format)
 
 -- ---- seeds
 

@@ -1,171 +1,236 @@
 -- Words that stand where they stand, and the first that doesn't.
-use Rattle.std.proofs.Common.{◌≡◌, ◌≢◌, ◌+◌, ◌-◌, ◌<◌, ℕ, zero, suc, true, false, List, [], ◌∷◌, ◌++◌, length, refl, sym, ap, ◌∙◌, subst, inl, inr, arith, append_assoc, append-nil}
-use Rattle.std.specs.Prelude.{IsTrue, String, codes, string_bytes, drop, get_or}
+use Rattle.std.proofs.Common.{◌≡◌, ◌+◌, ◌<◌, ◌≤◌, ℕ, zero, suc, true, false, List, [], ◌∷◌, ◌++◌, length, Option, None, Some, refl, sym, ap, ◌∙◌, subst, arith, append_assoc, append-nil, add-one, take-append-drop}
+use Rattle.std.specs.Prelude.{IsTrue, String, bytes_eq, codes, drop, get_or, if◌then◌else◌, string_bytes, take}
 use Rattle.std.specs.declared.alloc.Global.{Global}
-use Rattle.std.specs.Prelude.{bytes_eq, take}
-use Rattle.std.proofs.Common.{add-one}
-use Rattle.std.proofs.lemmas.List.{length-take-le, take_rest}
-use Rattle.std.proofs.lemmas.Slice.Eq.{bytes_eq-Decides}
-use Rattle.cs_words.specs.Options.{IsNewOption}
-use Rattle.cs_words.specs.Steps.{AreNew, BeginsWithSeed, LacksName, LacksSeed, Stops, StopsAt}
-use Rattle.cs_words.specs.Values.{SpellsSeed}
-use Rattle.cs_words.specs.Words.{CannotGoOn, IsAccepted, IsFirstBad, MayBeArgument, StandBehind, is_name, texts}
-
--- ---- options alone
-
-pub new_more : (before words : List (List ℕ)) (word : List ℕ) → AreNew before words → IsNewOption (before ++ words) word → AreNew before (words ++ word ∷ [])
-new_more before [] word stand new = (subst (λ b. IsNewOption b word) (append-nil before) new, tt)
-new_more before (w ∷ words) word stand new =
-    (stand.0, new_more (before ++ w ∷ []) words word stand.1 (subst (λ b. IsNewOption b word) (sym (append_assoc before (w ∷ []) words)) new))
-
--- they stand behind the names of `suite`
-behind_names : (yacc lex : List ℕ) (before words : List (List ℕ)) → AreNew before words → StandBehind (codes "suite" ∷ yacc ∷ lex ∷ before) words
-behind_names yacc lex before [] stand = tt
-behind_names yacc lex before (word ∷ words) stand = ((refl, stand.0), behind_names yacc lex (before ++ word ∷ []) words stand.1)
+use Rattle.std.proofs.lemmas.List.{length-append, length-take-le}
+use Rattle.cs_words.specs.declared.command.Command.{Command}
+use Rattle.cs_words.specs.declared.command.Command.TheVariants.{Gen, Rules, Suite}
+use Rattle.cs_words.specs.declared.command.Role.{Role}
+use Rattle.cs_words.specs.declared.options.Options.{Options}
+use Rattle.cs_words.specs.Commands.{Files, Seed, Taken, command_word, taken_count, taken_of}
+use Rattle.cs_words.specs.Options.{AreOptions, IsNewOption}
+use Rattle.cs_words.specs.Requests.{AreArguments, AskFor, Fit, Names, Number, PlainArguments}
+use Rattle.cs_words.specs.Steps.{AreNames, AreNew, BeginsWith, BeginsWithSeed, LacksAt, LacksName, LacksSeed, LacksTaken, MayAllBeTaken, Stops, StopsAt}
+use Rattle.cs_words.specs.Words.{is_name, CannotGoOn, IsAccepted, IsFirstBad, MayBeTaken, MayFollow, MayStandBehind, StandBehind, texts}
 
 -- ---- one command is not another
 
-pub letters : (a b : ℕ) (xs ys : List ℕ) → a ∷ xs ≡ b ∷ ys → a ≢ b → ⊥
-letters a b xs ys same apart = let e : a ≡ b = cc in apart e
+abbrev command_named : List ℕ → Option Command
+command_named word =
+    if bytes_eq word (codes "rules")
+    then Some Rules
+    else (if bytes_eq word (codes "suite") then Some Suite else (if bytes_eq word (codes "gen") then Some Gen else None))
 
-pub rules_not_suite : codes "rules" ≡ codes "suite" → ⊥
-rules_not_suite same = letters 114 115 _ _ same (λ e. omega (arith, e))
+named : (command : Command) → command_named (command_word command) ≡ Some command
+named Rules = refl
+named Suite = refl
+named Gen = refl
 
-pub rules_not_gen : codes "rules" ≡ codes "gen" → ⊥
-rules_not_gen same = letters 114 103 _ _ same (λ e. omega (arith, e))
+pub one_command : (c d : Command) → command_word c ≡ command_word d → c ≡ d
+one_command c d same = let both : Some c ≡ Some d = sym (named c) ∙ ap command_named same ∙ named d in cc
 
-pub suite_not_gen : codes "suite" ≡ codes "gen" → ⊥
-suite_not_gen same = letters 115 103 _ _ same (λ e. omega (arith, e))
+-- ---- words one behind the other
 
-gen_not_suite : codes "gen" ≡ codes "suite" → ⊥
-gen_not_suite same = suite_not_gen (sym same)
+stand_join : (before xs ys : List (List ℕ)) → StandBehind before xs → StandBehind (before ++ xs) ys → StandBehind before (xs ++ ys)
+stand_join before [] ys one other = subst (λ b. StandBehind b ys) (append-nil before) other
+stand_join before (x ∷ xs) ys one other =
+    (one.0, stand_join (before ++ x ∷ []) xs ys one.1 (subst (λ b. StandBehind b ys) (sym (append_assoc before (x ∷ []) xs)) other))
 
--- what another command takes is a name
-no_name : (command word : List ℕ) → command ≢ codes "gen" → is_name word ≡ false → MayBeArgument command word → ⊥
-no_name command word apart lacks (inl seed) = apart seed.0
-no_name command word apart lacks (inr name) = let is : is_name word ≡ true = name.1 in cc
+pub stand_rest : (before xs ys : List (List ℕ)) → StandBehind before (xs ++ ys) → StandBehind (before ++ xs) ys
+stand_rest before [] ys stand = subst (λ b. StandBehind b ys) (sym (append-nil before)) stand
+stand_rest before (x ∷ xs) ys stand = subst (λ b. StandBehind b ys) (append_assoc before (x ∷ []) xs) (stand_rest (before ++ x ∷ []) xs ys stand.1)
 
--- ---- `rules`
+pub new_more : (c : Command) (before words : List (List ℕ)) (word : List ℕ) → AreNew c before words → IsNewOption c (before ++ words) word → AreNew c before (words ++ word ∷ [])
+new_more c before [] word stand new = (subst (λ b. IsNewOption c b word) (append-nil before) new, tt)
+new_more c before (w ∷ words) word stand new =
+    (stand.0, new_more c (before ++ w ∷ []) words word stand.1 (subst (λ b. IsNewOption c b word) (sym (append_assoc before (w ∷ []) words)) new))
 
-pub rules_no_name : (words : List (List ℕ)) → LacksName words → IsFirstBad (codes "rules" ∷ words) 1
-rules_no_name words none = record {
-  before = codes "rules" ∷ [];
-  after = words;
-  split = refl;
-  place = refl;
-  stand = (inl refl, tt);
-  bad = bad words none;
-}
-  where
-    bad : (words : List (List ℕ)) → LacksName words → CannotGoOn (codes "rules" ∷ []) words
-    bad [] none = λ complete. omega (arith, complete)
-    bad (word ∷ words) none = no_name (codes "rules") word rules_not_gen none
+-- ---- behind a command
 
-pub rules_more : (words : List (List ℕ)) (yacc : List ℕ) (rest : List (List ℕ)) → words ≡ yacc ∷ rest → IsTrue (is_name yacc) → 0 < length rest → IsFirstBad (codes "rules" ∷ words) 2
-rules_more words yacc rest split is more = subst (λ ws. IsFirstBad (codes "rules" ∷ ws) 2) (sym split) (record {
-  before = codes "rules" ∷ yacc ∷ [];
-  after = rest;
-  split = refl;
-  place = refl;
-  stand = (inl refl, (inr (rules_not_gen, is), tt));
-  bad = bad rest more;
-})
-  where
-    bad : (rest : List (List ℕ)) → 0 < length rest → CannotGoOn (codes "rules" ∷ yacc ∷ []) rest
-    bad [] some = absurd (omega arith)
-    bad (word ∷ rest) some = λ may. rules_not_suite may.0
+module _ (c : Command) where
+  follow_taken : (n : ℕ) (before : List (List ℕ)) (word : List ℕ) → length before < n → MayBeTaken (taken_of c) word → MayFollow c n before word
+  follow_taken zero before word short may = absurd (omega (arith, short))
+  follow_taken (suc n) [] word short may = may
+  follow_taken (suc n) (x ∷ before) word short may = follow_taken n before word (omega (arith, short)) may
 
--- ---- `suite`
+  taken_there : (n : ℕ) (before : List (List ℕ)) (word : List ℕ) → length before < n → MayFollow c n before word → MayBeTaken (taken_of c) word
+  taken_there zero before word short may = absurd (omega (arith, short))
+  taken_there (suc n) [] word short may = may
+  taken_there (suc n) (x ∷ before) word short may = taken_there n before word (omega (arith, short)) may
 
-pub suite_no_name : (words : List (List ℕ)) → LacksName words → IsFirstBad (codes "suite" ∷ words) 1
-suite_no_name words none = record {
-  before = codes "suite" ∷ [];
-  after = words;
-  split = refl;
-  place = refl;
-  stand = (inr (inl refl), tt);
-  bad = bad words none;
-}
-  where
-    bad : (words : List (List ℕ)) → LacksName words → CannotGoOn (codes "suite" ∷ []) words
-    bad [] none = λ complete. omega (arith, complete)
-    bad (word ∷ words) none = no_name (codes "suite") word suite_not_gen none
+  follow_option : (n : ℕ) (behind before : List (List ℕ)) (word : List ℕ) → length behind ≡ n → IsNewOption c before word → MayFollow c n (behind ++ before) word
+  follow_option zero [] before word all new = new
+  follow_option zero (x ∷ behind) before word all new = absurd (omega (arith, all))
+  follow_option (suc n) [] before word all new = absurd (omega (arith, all))
+  follow_option (suc n) (x ∷ behind) before word all new = follow_option n behind before word (omega (arith, all)) new
 
-module _ (words : List (List ℕ)) (yacc : List ℕ) (rest : List (List ℕ)) (split : words ≡ yacc ∷ rest) (is : IsTrue (is_name yacc)) where
-  pub lex_no_name : LacksName rest → IsFirstBad (codes "suite" ∷ words) 2
-  lex_no_name none = subst (λ ws. IsFirstBad (codes "suite" ∷ ws) 2) (sym split) (record {
-    before = codes "suite" ∷ yacc ∷ [];
-    after = rest;
+  option_there : (n : ℕ) (behind before : List (List ℕ)) (word : List ℕ) → length behind ≡ n → MayFollow c n (behind ++ before) word → IsNewOption c before word
+  option_there zero [] before word all may = may
+  option_there zero (x ∷ behind) before word all may = absurd (omega (arith, all))
+  option_there (suc n) [] before word all may = absurd (omega (arith, all))
+  option_there (suc n) (x ∷ behind) before word all may = option_there n behind before word (omega (arith, all)) may
+
+  abbrev count : ℕ
+  count = taken_count (taken_of c)
+
+  taken_stand : (before behind : List (List ℕ)) → length before + length behind ≤ count → MayAllBeTaken (taken_of c) behind → StandBehind (command_word c ∷ before) behind
+  taken_stand before [] fits may = tt
+  taken_stand before (word ∷ behind) fits may = (
+    (c, refl, follow_taken count before word (omega (arith, fits)) may.0),
+    taken_stand (before ++ word ∷ []) behind (omega (arith, fits, length-append before (word ∷ []))) may.1,
+  )
+
+  options_stand : (behind before words : List (List ℕ)) → length behind ≡ count → AreNew c before words → StandBehind (command_word c ∷ behind ++ before) words
+  options_stand behind before [] all stand = tt
+  options_stand behind before (word ∷ words) all stand = (
+    (c, refl, follow_option count behind before word all stand.0),
+    subst (λ b. StandBehind (command_word c ∷ b) words) (sym (append_assoc behind before (word ∷ []))) (options_stand behind (before ++ word ∷ []) words all stand.1),
+  )
+
+  all_stand : (behind options : List (List ℕ)) → length behind ≡ count → MayAllBeTaken (taken_of c) behind → AreNew c [] options → StandBehind [] (command_word c ∷ behind ++ options)
+  all_stand behind options all may stand = (
+    (c, refl),
+    stand_join (command_word c ∷ []) behind options (taken_stand [] behind (omega (arith, all)) may)
+        (subst (λ b. StandBehind (command_word c ∷ b) options) (append-nil behind) (options_stand behind [] options all stand)),
+  )
+
+  -- the same command stands in front
+  same_command : (before : List (List ℕ)) (word : List ℕ) (d : Command) → command_word c ≡ command_word d → MayStandBehind d before word → MayStandBehind c before word
+  same_command before word d same may = subst (λ (e : Command). MayStandBehind e before word) (one_command d c (sym same)) may
+
+  pub options_new : (behind before words : List (List ℕ)) → length behind ≡ count → StandBehind (command_word c ∷ behind ++ before) words → AreNew c before words
+  options_new behind before [] all stand = tt
+  options_new behind before (word ∷ words) all stand = (
+    option_there count behind before word all (same_command (behind ++ before) word stand.0.0 stand.0.1 stand.0.2),
+    options_new behind (before ++ word ∷ []) words all (subst (λ b. StandBehind (command_word c ∷ b) words) (append_assoc behind before (word ∷ [])) stand.1),
+  )
+
+  -- ---- what was read
+
+  pub lacks_bad : (words : List (List ℕ)) (at : ℕ) → LacksAt c words at → IsFirstBad (command_word c ∷ words) (1 + at)
+  lacks_bad words at l = record {
+    before = command_word c ∷ l.before;
+    after = l.after;
+    split = ap (λ ws. command_word c ∷ ws) l.split;
+    place = omega (arith, l.place);
+    stand = ((c, refl), taken_stand [] l.before (omega (arith, l.place, l.short)) l.taken);
+    bad = bad l.after l.lacks;
+  }
+    where
+      bad : (after : List (List ℕ)) → LacksTaken (taken_of c) after → CannotGoOn (command_word c ∷ l.before) after
+      bad [] none = λ complete.
+          let fits : count ≤ length l.before = subst (λ (d : Command). taken_count (taken_of d) ≤ length l.before) (one_command complete.0 c (sym complete.1)) complete.2 in
+          omega (arith, fits, l.place, l.short)
+      bad (word ∷ after) none = λ may. none (taken_there count l.before word (omega (arith, l.place, l.short)) (same_command l.before word may.0 may.1 may.2))
+
+  module _ (words : List (List ℕ)) (arguments : PlainArguments) (n : ℕ) (rest : List (List ℕ)) (begins : BeginsWith c words arguments n rest) where
+    all_behind : length begins.behind ≡ count
+    all_behind = begins.counted ∙ begins.all
+
+    pub words_accepted : AreNew c [] rest → IsAccepted (command_word c ∷ words)
+    words_accepted stand = record {
+      stand = subst (λ ws. StandBehind [] (command_word c ∷ ws)) (sym begins.split) (all_stand begins.behind rest all_behind begins.taken stand);
+      complete = (c, refl, omega (arith, ap length begins.split, length-append begins.behind rest, all_behind));
+    }
+
+    pub words_ask : (options : Options) → AreOptions rest options → AskFor (command_word c ∷ words) (record { command = c; arguments = arguments; options = options })
+    words_ask options are = record {
+      behind = begins.behind;
+      rest = rest;
+      split = ap (λ ws. command_word c ∷ ws) begins.split;
+      arguments = begins.are;
+      options = are;
+    }
+
+    pub option_bad : (at : ℕ) → StopsAt c rest at → IsFirstBad (command_word c ∷ words) (1 + n + at)
+    option_bad at stops = record {
+      before = command_word c ∷ begins.behind ++ stops.before;
+      after = stops.after;
+      split = ap (λ ws. command_word c ∷ ws) (begins.split ∙ ap (λ xs. begins.behind ++ xs) stops.split ∙ sym (append_assoc begins.behind stops.before stops.after));
+      place = omega (arith, length-append begins.behind stops.before, begins.counted, stops.place);
+      stand = all_stand begins.behind stops.before all_behind begins.taken stops.stand;
+      bad = goes_on stops.after stops.stops;
+    }
+      where
+        goes_on : (after : List (List ℕ)) → Stops c stops.before after → CannotGoOn (command_word c ∷ begins.behind ++ stops.before) after
+        goes_on [] none = absurd none
+        goes_on (word ∷ after) none = λ may.
+            none (option_there count begins.behind stops.before word all_behind (same_command (begins.behind ++ stops.before) word may.0 may.1 may.2))
+
+  -- ---- a seed
+
+  pub seed_begins : (words : List (List ℕ)) (seed : ℕ) (rest : List (List ℕ)) → taken_of c ≡ Seed → BeginsWithSeed words seed rest → BeginsWith c words (Number seed) 1 rest
+  seed_begins words seed rest takes begins = record {
+    behind = begins.0 ∷ [];
+    split = begins.1;
+    counted = refl;
+    all = sym (ap taken_count takes);
+    taken = subst (λ (t : Taken). MayAllBeTaken t (begins.0 ∷ [])) (sym takes) ((seed, begins.2), tt);
+    are = subst (λ (t : Taken). AreArguments t (begins.0 ∷ []) (Number seed)) (sym takes) (begins.0, refl, begins.2);
+  }
+
+  pub seed_lacks : (words : List (List ℕ)) → taken_of c ≡ Seed → LacksSeed words → LacksAt c words 0
+  seed_lacks words takes none = record {
+    before = [];
+    after = words;
     split = refl;
     place = refl;
-    stand = (inr (inl refl), (inr (suite_not_gen, is), tt));
-    bad = bad rest none;
-  })
+    short = omega (arith, ap taken_count takes);
+    taken = tt;
+    lacks = subst (λ (t : Taken). LacksTaken t words) (sym takes) (lacks words none);
+  }
     where
-      bad : (rest : List (List ℕ)) → LacksName rest → CannotGoOn (codes "suite" ∷ yacc ∷ []) rest
-      bad [] none = λ complete. omega (arith, complete)
-      bad (word ∷ rest) none = no_name (codes "suite") word suite_not_gen none
+      lacks : (words : List (List ℕ)) → LacksSeed words → LacksTaken Seed words
+      lacks [] none = tt
+      lacks (word ∷ words) none = none
 
-  module _ (lex : List ℕ) (options : List (List ℕ)) (split_rest : rest ≡ lex ∷ options) (is_lex : IsTrue (is_name lex)) where
-    pub whole : words ≡ yacc ∷ lex ∷ options
-    whole = split ∙ ap (λ r. yacc ∷ r) split_rest
+  -- ---- names
 
-    names_stand : (before : List (List ℕ)) → AreNew [] before → StandBehind [] (codes "suite" ∷ yacc ∷ lex ∷ before)
-    names_stand before stand = (inr (inl refl), (inr (suite_not_gen, is), (inr (suite_not_gen, is_lex), behind_names yacc lex [] before stand)))
+  names_taken : (roles : List Role) (names : List (List ℕ)) → AreNames names → MayAllBeTaken (Files roles) names
+  names_taken roles [] are = tt
+  names_taken roles (name ∷ names) are = (are.0, names_taken roles names are.1)
 
-    pub suite_accepted : AreNew [] options → IsAccepted (codes "suite" ∷ words)
-    suite_accepted stand = subst (λ ws. IsAccepted (codes "suite" ∷ ws)) (sym whole) (record {
-      stand = names_stand options stand;
-      complete = omega arith;
-    })
+  pub names_begin : (roles : List Role) (words : List (List ℕ)) (n : ℕ) → taken_of c ≡ Files roles → n ≤ length words → n ≡ length roles → AreNames (take n words)
+      → BeginsWith c words (Names (take n words)) n (drop n words)
+  names_begin roles words n takes within many are = record {
+    behind = take n words;
+    split = sym (take-append-drop n words);
+    counted = length-take-le n words within;
+    all = many ∙ sym (ap taken_count takes);
+    taken = subst (λ (t : Taken). MayAllBeTaken t (take n words)) (sym takes) (names_taken roles (take n words) are);
+    are = subst (λ (t : Taken). AreArguments t (take n words) (Names (take n words))) (sym takes) (refl, length-take-le n words within ∙ many);
+  }
 
-    pub option_bad : (at : ℕ) → StopsAt options at → IsFirstBad (codes "suite" ∷ words) (3 + at)
-    option_bad at stops = subst (λ ws. IsFirstBad (codes "suite" ∷ ws) (3 + at)) (sym whole) (record {
-      before = codes "suite" ∷ yacc ∷ lex ∷ stops.before;
-      after = stops.after;
-      split = ap (λ xs. codes "suite" ∷ yacc ∷ lex ∷ xs) stops.split;
-      place = omega (arith, stops.place);
-      stand = names_stand stops.before stops.stand;
-      bad = goes_on stops.before stops.after stops.stops;
-    })
-      where
-        goes_on : (before after : List (List ℕ)) → Stops before after → CannotGoOn (codes "suite" ∷ yacc ∷ lex ∷ before) after
-        goes_on before [] none = absurd none
-        goes_on before (word ∷ after) none = λ may. none may.1
+  pub names_lack : (roles : List Role) (words : List (List ℕ)) (n : ℕ) → taken_of c ≡ Files roles → n ≤ length words → n < length roles → AreNames (take n words) → LacksName (drop n words)
+      → LacksAt c words n
+  names_lack roles words n takes within few are none = record {
+    before = take n words;
+    after = drop n words;
+    split = sym (take-append-drop n words);
+    place = length-take-le n words within;
+    short = omega (arith, ap taken_count takes, few);
+    taken = subst (λ (t : Taken). MayAllBeTaken t (take n words)) (sym takes) (names_taken roles (take n words) are);
+    lacks = subst (λ (t : Taken). LacksTaken t (drop n words)) (sym takes) (lacks (drop n words) none);
+  }
+    where
+      lacks : (words : List (List ℕ)) → LacksName words → LacksTaken (Files roles) words
+      lacks [] none = tt
+      lacks (word ∷ words) none = λ is. (let yes : is_name word ≡ true = is in cc)
 
--- ---- `gen`
+pub arguments_fit : (taken : Taken) (words : List (List ℕ)) (arguments : PlainArguments) → AreArguments taken words arguments → Fit taken arguments
+arguments_fit (Files roles) words (Names names) are = are.1
+arguments_fit (Files roles) words (Number number) are = absurd are
+arguments_fit Seed words (Names names) are = absurd are
+arguments_fit Seed words (Number number) are = tt
 
-pub gen_no_seed : (words : List (List ℕ)) → LacksSeed words → IsFirstBad (codes "gen" ∷ words) 1
-gen_no_seed words none = record {
-  before = codes "gen" ∷ [];
-  after = words;
-  split = refl;
-  place = refl;
-  stand = (inr (inr refl), tt);
-  bad = bad words none;
-}
-  where
-    no_seed : (word : List ℕ) → ¬ SpellsSeed word → MayBeArgument (codes "gen") word → ⊥
-    no_seed word lacks (inl seed) = lacks seed.1
-    no_seed word lacks (inr name) = name.0 refl
+-- one more name
+pub names_more : (names : List (List ℕ)) (word : List ℕ) → AreNames names → IsTrue (is_name word) → AreNames (names ++ word ∷ [])
+names_more [] word are is = (is, tt)
+names_more (name ∷ names) word are is = (are.0, names_more names word are.1 is)
 
-    bad : (words : List (List ℕ)) → LacksSeed words → CannotGoOn (codes "gen" ∷ []) words
-    bad [] none = λ complete. omega (arith, complete)
-    bad (word ∷ words) none = no_seed word none
-
-pub gen_more : (words : List (List ℕ)) (seed : ℕ) (rest : List (List ℕ)) → BeginsWithSeed words seed rest → 0 < length rest → IsFirstBad (codes "gen" ∷ words) 2
-gen_more words seed rest begins more = subst (λ ws. IsFirstBad (codes "gen" ∷ ws) 2) (sym begins.1) (record {
-  before = codes "gen" ∷ begins.0 ∷ [];
-  after = rest;
-  split = refl;
-  place = refl;
-  stand = (inr (inr refl), (inl (refl, (seed, begins.2)), tt));
-  bad = bad rest more;
-})
-  where
-    bad : (rest : List (List ℕ)) → 0 < length rest → CannotGoOn (codes "gen" ∷ begins.0 ∷ []) rest
-    bad [] some = absurd (omega arith)
-    bad (word ∷ rest) some = λ may. gen_not_suite may.0
+-- no name in front of what begins with another word
+pub no_name_in : (xs : List (List ℕ)) (word : List ℕ) (rest : List (List ℕ)) → xs ≡ word ∷ rest → is_name word ≡ false → LacksName xs
+no_name_in xs word rest is none = subst (λ ws. LacksName ws) (sym is) none
 
 -- ---- all words
 
@@ -174,18 +239,32 @@ pub front_word : (words : List (String Global)) (first : String Global) → 0 < 
 front_word [] first some is = absurd (omega arith)
 front_word (word ∷ words) first some is = ap (λ w. string_bytes w ∷ texts words) (sym is)
 
-pub command_in_front : (words : List (String Global)) (first : String Global) (command : List ℕ) → 0 < length words → first ≡ get_or words 0 first → bytes_eq (string_bytes first) command ≡ true → texts words ≡ command ∷ texts (take (length words - 1) (drop 1 words))
-command_in_front words first command some is same =
-    front_word words first some is ∙ ap (λ w. w ∷ texts (drop 1 words)) ((bytes_eq-Decides (string_bytes first) command).0 same)
-    ∙ ap (λ ws. command ∷ texts ws) (sym (take_rest words 1))
-
 pub length-texts : (words : List (String Global)) → length (texts words) ≡ length words
 length-texts [] = refl
 length-texts (word ∷ words) = ap suc (length-texts words)
 
--- ---- options at a place
+pub texts-take : (n : ℕ) (words : List (String Global)) → texts (take n words) ≡ take n (texts words)
+texts-take zero words = refl
+texts-take (suc n) [] = refl
+texts-take (suc n) (word ∷ words) = ap (λ ws. string_bytes word ∷ ws) (texts-take n words)
+
+pub texts-drop : (n : ℕ) (words : List (String Global)) → texts (drop n words) ≡ drop n (texts words)
+texts-drop zero words = refl
+texts-drop (suc n) [] = refl
+texts-drop (suc n) (word ∷ words) = texts-drop n words
+
+-- ---- a word at a place
 
 module _ (words : List (String Global)) (place : ℕ) (word : String Global) (within : place < length words) (is : word ≡ get_or words place word) where
+  -- the texts from the place on
+  pub texts_there : drop place (texts words) ≡ string_bytes word ∷ texts (drop (suc place) words)
+  texts_there = go words place within is
+    where
+      go : (words : List (String Global)) (place : ℕ) → place < length words → word ≡ get_or words place word → drop place (texts words) ≡ string_bytes word ∷ texts (drop (suc place) words)
+      go [] place within is = absurd (omega arith)
+      go (first ∷ words) zero within is = ap (λ w. string_bytes w ∷ texts words) (sym is)
+      go (first ∷ words) (suc place) within is = go words place (omega arith) is
+
   -- the texts before the place, there and behind it
   texts_around : texts words ≡ take place (texts words) ++ string_bytes word ∷ texts (drop (suc place) words)
   texts_around = go words place within is
@@ -206,8 +285,8 @@ module _ (words : List (String Global)) (place : ℕ) (word : String Global) (wi
           subst (λ n. take n (texts words) ≡ take place (texts words) ++ string_bytes word ∷ []) (add-one place) (go words place (omega arith) is) in
           subst (λ n. take n (texts (first ∷ words)) ≡ take (suc place) (texts (first ∷ words)) ++ string_bytes word ∷ []) (sym (add-one (suc place))) (ap (λ ws. string_bytes first ∷ ws) shorter)
 
-  pub option_stops : AreNew [] (take place (texts words)) → (IsNewOption (take place (texts words)) (string_bytes word) → ⊥) → StopsAt (texts words) place
-  option_stops stand not = record {
+  pub option_stops : (c : Command) → AreNew c [] (take place (texts words)) → (IsNewOption c (take place (texts words)) (string_bytes word) → ⊥) → StopsAt c (texts words) place
+  option_stops c stand not = record {
     before = take place (texts words);
     after = string_bytes word ∷ texts (drop (suc place) words);
     split = texts_around;

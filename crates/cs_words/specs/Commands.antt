@@ -1,13 +1,33 @@
--- What accepted words ask for.
-use Rattle.std.specs.Prelude.{◌≡◌, ℕ, List, [], ◌∷◌, codes}
+-- The commands: a row for each in these tables.
+use Rattle.std.specs.Prelude.{ℕ, Bool, true, false, List, [], ◌∷◌, codes, length}
 use Rattle.cs_words.specs.declared.command.Command.{Command}
 use Rattle.cs_words.specs.declared.command.Command.TheVariants.{Gen, Rules, Suite}
-use Rattle.cs_words.specs.Options.{AreOptions}
-use Rattle.cs_words.specs.Values.{IsSeed}
+use Rattle.cs_words.specs.declared.command.Role.{Role}
+use Rattle.cs_words.specs.declared.command.Role.TheVariants.{Lex, Yacc}
+use Rattle.cs_words.specs.declared.setting.Kind.{Kind}
 
--- the words ask for the command
-abbrev pub Ask : List (List ℕ) → Command → Type 0
-Ask words (Rules yacc) = words ≡ codes "rules" ∷ yacc.now ∷ []
-Ask words (Suite yacc lex options) =
-    (rest : List (List ℕ)) × (words ≡ codes "suite" ∷ yacc.now ∷ lex.now ∷ rest) × AreOptions rest options
-Ask words (Gen seed) = (word : List ℕ) × (words ≡ codes "gen" ∷ word ∷ []) × IsSeed word seed
+-- the word of a command
+abbrev pub command_word : Command → List ℕ
+command_word Rules = codes "rules"
+command_word Suite = codes "suite"
+command_word Gen = codes "gen"
+
+-- what a command takes behind its word: names of files, each of a role, or a seed
+pub data Taken : Type 0 where
+  Files : List Role → Taken
+  Seed : Taken
+
+abbrev pub taken_of : Command → Taken
+taken_of Rules = Files (Yacc ∷ [])
+taken_of Suite = Files (Yacc ∷ Lex ∷ [])
+taken_of Gen = Seed
+
+-- how many words that are
+abbrev pub taken_count : Taken → ℕ
+taken_count (Files roles) = length roles
+taken_count Seed = 1
+
+-- whether it may have options of a kind
+abbrev pub may_have : Command → Kind → Bool
+may_have Suite kind = true
+may_have command kind = false

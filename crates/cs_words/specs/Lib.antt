@@ -1,6 +1,7 @@
 pub mod Choices
 pub mod Values
+pub mod Commands
 pub mod Options
 pub mod Words
-pub mod Commands
+pub mod Requests
 pub mod Steps

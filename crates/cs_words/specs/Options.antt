@@ -1,23 +1,39 @@
--- The options of `suite`: a mark and a value, in any order, each at most once.
-use Rattle.std.specs.Prelude.{◌≡◌, ℕ, Option, None, Some, List, [], ◌∷◌, ◌++◌, true, Contains, codes, unwrap_or}
+-- The options of commands: a mark and a value, in any order, each at most once.
+use Rattle.std.specs.Prelude.{◌≡◌, ℕ, Option, None, Some, List, [], ◌∷◌, ◌++◌, true, Contains, IsTrue, codes, unwrap_or}
+use Rattle.cs_words.specs.declared.command.Command.{Command}
+use Rattle.cs_words.specs.declared.setting.Kind.{Kind}
+use Rattle.cs_words.specs.declared.setting.Kind.TheVariants as kind
 use Rattle.cs_words.specs.declared.setting.Setting.{Setting}
 use Rattle.cs_choices.specs.declared.format.Format.TheVariants.{Two}
 use Rattle.cs_choices.specs.declared.weigh.Weigh.TheVariants.{Nodes}
 use Rattle.cs_words.specs.declared.setting.Setting.TheVariants.{Cover, Mutate, Bases, Separate, Weigh, Format}
 use Rattle.cs_words.specs.declared.options.Options.{Options}
+use Rattle.cs_words.specs.Commands.{may_have}
 use Rattle.cs_words.specs.Choices.{IsCriteria, IsFormat, IsOperators, IsWeigh}
 use Rattle.cs_words.specs.Values.{IsBases, IsSeparator}
 
 -- ---- one option
 
--- what stands in front of the value, for each kind of setting
+-- what a setting is about
+abbrev pub kind_of : Setting → Kind
+kind_of (Cover criteria) = kind.Criteria
+kind_of (Mutate operators) = kind.Mutate
+kind_of (Bases number) = kind.Bases
+kind_of (Separate separator) = kind.Separator
+kind_of (Weigh weigh) = kind.Weigh
+kind_of (Format format) = kind.Format
+
+-- what stands in front of the value, for each kind
+abbrev pub mark_for : Kind → List ℕ
+mark_for kind.Criteria = codes "--criteria="
+mark_for kind.Mutate = codes "--mutate="
+mark_for kind.Bases = codes "--bases="
+mark_for kind.Separator = codes "--separator="
+mark_for kind.Weigh = codes "--weigh="
+mark_for kind.Format = codes "--format="
+
 abbrev pub mark_of : Setting → List ℕ
-mark_of (Cover criteria) = codes "--criteria="
-mark_of (Mutate operators) = codes "--mutate="
-mark_of (Bases number) = codes "--bases="
-mark_of (Separate separator) = codes "--separator="
-mark_of (Weigh weigh) = codes "--weigh="
-mark_of (Format format) = codes "--format="
+mark_of setting = mark_for (kind_of setting)
 
 -- the value gives the setting
 abbrev pub IsValueOf : Setting → List ℕ → Type 0
@@ -40,18 +56,15 @@ pub record IsOption (word : List ℕ) (setting : Setting) : Type 0 where
 abbrev pub IsMarked : List ℕ → List ℕ → Type 0
 IsMarked mark word = (value : List ℕ) × (word ≡ mark ++ value)
 
--- some word begins with the mark
-abbrev pub HasMarked : List ℕ → List (List ℕ) → Type 0
-HasMarked mark words = (word : List ℕ) × Contains words word × IsMarked mark word
-
 -- no word begins with the mark
 abbrev pub LacksMark : List ℕ → List (List ℕ) → Type 0
 LacksMark mark words = (word : List ℕ) → Contains words word → ¬ IsMarked mark word
 
--- The word is an option that none of the words before it gives.
-pub record IsNewOption (before : List (List ℕ)) (word : List ℕ) : Type 0 where
+-- The word is an option that the command may have, and that none of the words before it gives.
+pub record IsNewOption (command : Command) (before : List (List ℕ)) (word : List ℕ) : Type 0 where
   pub setting : Setting
   pub is : IsOption word setting
+  pub had : IsTrue (may_have command (kind_of setting))
   pub is_new : LacksMark (mark_of setting) before
 
 -- what the words say of a kind of setting: Some where one of them is such an option, None where none has its mark

@@ -1,12 +1,15 @@
 -- Working words of the proofs: what is read step by step.
-use Rattle.std.specs.Prelude.{◌≡◌, ◌⊎◌, ◌||◌, ℕ, Bool, true, false, List, [], ◌∷◌, ◌++◌, None, Some, IsSome, bytes_eq, length, unwrap_or}
+use Rattle.std.specs.Prelude.{◌≡◌, ◌<◌, ◌⊎◌, ◌||◌, ℕ, Bool, true, false, List, [], ◌∷◌, ◌++◌, None, Some, IsSome, IsTrue, bytes_eq, length, unwrap_or}
 use Rattle.cs_words.specs.declared.options.Options.{Options}
 use Rattle.cs_words.specs.declared.given.Given.{Given}
 use Rattle.cs_words.specs.declared.setting.Setting.{Setting}
 use Rattle.cs_words.specs.declared.setting.Setting.TheVariants.{Cover, Mutate, Bases, Separate, Weigh, Format}
 use Rattle.cs_words.specs.Options.{IsNewOption, default_options}
 use Rattle.cs_words.specs.Values.{IsSeed, SpellsByte, SpellsSeed}
-use Rattle.cs_words.specs.Words.{is_name}
+use Rattle.cs_words.specs.Commands.{Taken, taken_count, taken_of}
+use Rattle.cs_words.specs.Requests.{AreArguments, PlainArguments}
+use Rattle.cs_words.specs.Words.{MayBeTaken, is_name}
+use Rattle.cs_words.specs.declared.command.Command.{Command}
 
 -- ---- lists of names
 
@@ -51,26 +54,63 @@ pub record AreDefaulted (given : Given) (options : Options) : Type 0 where
   pub weigh : options.weigh ≡ unwrap_or given.weigh default_options.weigh
   pub format : options.format ≡ unwrap_or given.format default_options.format
 
--- ---- options that stand behind the names of `suite`
+-- ---- options that stand behind what a command takes
 
--- each of the words is an option that none of those before it gives
-abbrev pub AreNew : List (List ℕ) → List (List ℕ) → Type 0
-AreNew before [] = Unit {0}
-AreNew before (word ∷ words) = IsNewOption before word × AreNew (before ++ word ∷ []) words
+module _ (command : Command) where
+  -- each of the words is an option of the command that none of those before it gives
+  abbrev pub AreNew : List (List ℕ) → List (List ℕ) → Type 0
+  AreNew before [] = Unit {0}
+  AreNew before (word ∷ words) = IsNewOption command before word × AreNew (before ++ word ∷ []) words
 
--- What stands behind these options can't go on so. Where nothing does, it can.
-abbrev pub Stops : List (List ℕ) → List (List ℕ) → Type 0
-Stops before [] = ⊥
-Stops before (word ∷ after) = IsNewOption before word → ⊥
+  -- What stands behind these options can't go on so. Where nothing does, it can.
+  abbrev pub Stops : List (List ℕ) → List (List ℕ) → Type 0
+  Stops before [] = ⊥
+  Stops before (word ∷ after) = IsNewOption command before word → ⊥
 
--- the options before the place are new, and what is behind them can't go on so
-pub record StopsAt (words : List (List ℕ)) (at : ℕ) : Type 0 where
+  -- the options before the place are new, and what is behind them can't go on so
+  pub record StopsAt (words : List (List ℕ)) (at : ℕ) : Type 0 where
+    pub before : List (List ℕ)
+    pub after : List (List ℕ)
+    pub split : words ≡ before ++ after
+    pub place : length before ≡ at
+    pub stand : AreNew [] before
+    pub stops : Stops before after
+
+-- ---- what a command takes
+
+-- the words may be names
+abbrev pub AreNames : List (List ℕ) → Type 0
+AreNames [] = Unit {0}
+AreNames (word ∷ words) = IsTrue (is_name word) × AreNames words
+
+-- the words may be taken
+abbrev pub MayAllBeTaken : Taken → List (List ℕ) → Type 0
+MayAllBeTaken taken [] = Unit {0}
+MayAllBeTaken taken (word ∷ words) = MayBeTaken taken word × MayAllBeTaken taken words
+
+-- nothing that may be taken stands in front
+abbrev pub LacksTaken : Taken → List (List ℕ) → Type 0
+LacksTaken taken [] = Unit {0}
+LacksTaken taken (word ∷ words) = MayBeTaken taken word → ⊥
+
+-- in front stand the words, so many, that the command takes
+pub record BeginsWith (command : Command) (words : List (List ℕ)) (arguments : PlainArguments) (count : ℕ) (rest : List (List ℕ)) : Type 0 where
+  pub behind : List (List ℕ)
+  pub split : words ≡ behind ++ rest
+  pub counted : length behind ≡ count
+  pub all : count ≡ taken_count (taken_of command)
+  pub taken : MayAllBeTaken (taken_of command) behind
+  pub are : AreArguments (taken_of command) behind arguments
+
+-- the words before the place are some of those that the command takes, and there it lacks one
+pub record LacksAt (command : Command) (words : List (List ℕ)) (at : ℕ) : Type 0 where
   pub before : List (List ℕ)
   pub after : List (List ℕ)
   pub split : words ≡ before ++ after
   pub place : length before ≡ at
-  pub stand : AreNew [] before
-  pub stops : Stops before after
+  pub short : at < taken_count (taken_of command)
+  pub taken : MayAllBeTaken (taken_of command) before
+  pub lacks : LacksTaken (taken_of command) after
 
 -- no name stands in front
 abbrev pub LacksName : List (List ℕ) → Type 0

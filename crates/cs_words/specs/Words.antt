@@ -1,7 +1,9 @@
 -- The grammar of words: which word may stand behind which.
-use Rattle.std.specs.Prelude.{◌≡◌, ◌≢◌, ◌⊎◌, ◌≤◌, ◌==◌, ℕ, zero, suc, Bool, false, not, List, [], ◌∷◌, ◌++◌, String, IsTrue, bytes_eq, codes, if◌then◌else◌, length, map, string_bytes}
+use Rattle.std.specs.Prelude.{◌≡◌, ◌≤◌, ◌==◌, ℕ, zero, suc, Bool, false, not, List, [], ◌∷◌, ◌++◌, String, IsTrue, length, map, string_bytes}
 use Rattle.std.specs.declared.alloc.Global.{Global}
 use Rattle.cs_bytes.specs.Names.{dash}
+use Rattle.cs_words.specs.declared.command.Command.{Command}
+use Rattle.cs_words.specs.Commands.{Files, Seed, Taken, command_word, taken_count, taken_of}
 use Rattle.cs_words.specs.Options.{IsNewOption}
 use Rattle.cs_words.specs.Values.{SpellsSeed}
 
@@ -11,37 +13,34 @@ texts words = map (λ word. string_bytes word) words
 
 -- ---- one word behind others
 
+-- some command's word
 abbrev pub IsCommand : List ℕ → Type 0
-IsCommand word = (word ≡ codes "rules") ⊎ (word ≡ codes "suite") ⊎ (word ≡ codes "gen")
-
--- how many words a command takes: names of files, or a seed
-abbrev pub argument_count : List ℕ → ℕ
-argument_count command = if bytes_eq command (codes "suite") then 2 else 1
+IsCommand word = (command : Command) × (word ≡ command_word command)
 
 -- a file's name isn't empty and doesn't begin with `-`
 abbrev pub is_name : List ℕ → Bool
 is_name [] = false
 is_name (first ∷ rest) = not (first == dash)
 
--- `gen` takes a seed, and the other commands take names of files
-abbrev pub MayBeArgument : List ℕ → List ℕ → Type 0
-MayBeArgument command word =
-    ((command ≡ codes "gen") × SpellsSeed word) ⊎ ((command ≢ codes "gen") × IsTrue (is_name word))
+-- a command that takes files takes names, and one that takes a seed takes digits
+abbrev pub MayBeTaken : Taken → List ℕ → Type 0
+MayBeTaken (Files roles) word = IsTrue (is_name word)
+MayBeTaken Seed word = SpellsSeed word
 
--- behind what it takes a command may have options: `suite` has
-abbrev pub MayBeOption : List ℕ → List (List ℕ) → List ℕ → Type 0
-MayBeOption command before word = (command ≡ codes "suite") × IsNewOption before word
+-- behind a command and these words, of which it takes so many: something that it takes, and then its options
+abbrev pub MayFollow : Command → ℕ → List (List ℕ) → List ℕ → Type 0
+MayFollow command zero before word = IsNewOption command before word
+MayFollow command (suc count) [] word = MayBeTaken (taken_of command) word
+MayFollow command (suc count) (taken ∷ before) word = MayFollow command count before word
 
--- behind a command and these words, of which it takes so many
-abbrev pub MayFollow : List ℕ → ℕ → List (List ℕ) → List ℕ → Type 0
-MayFollow command zero before word = MayBeOption command before word
-MayFollow command (suc count) [] word = MayBeArgument command word
-MayFollow command (suc count) (argument ∷ before) word = MayFollow command count before word
+-- behind a command's word and these words
+abbrev pub MayStandBehind : Command → List (List ℕ) → List ℕ → Type 0
+MayStandBehind command before word = MayFollow command (taken_count (taken_of command)) before word
 
 -- The word may stand directly behind these words: a command behind none, then what the command takes, then its options.
 abbrev pub MayStand : List (List ℕ) → List ℕ → Type 0
 MayStand [] word = IsCommand word
-MayStand (command ∷ before) word = MayFollow command (argument_count command) before word
+MayStand (first ∷ before) word = (command : Command) × (first ≡ command_word command) × MayStandBehind command before word
 
 -- ---- all words
 
@@ -50,10 +49,10 @@ abbrev pub StandBehind : List (List ℕ) → List (List ℕ) → Type 0
 StandBehind before [] = Unit {0}
 StandBehind before (word ∷ words) = MayStand before word × StandBehind (before ++ word ∷ []) words
 
--- no name and no seed is missing
+-- nothing that the command takes is missing
 abbrev pub IsComplete : List (List ℕ) → Type 0
 IsComplete [] = ⊥
-IsComplete (command ∷ words) = argument_count command ≤ length words
+IsComplete (first ∷ words) = (command : Command) × (first ≡ command_word command) × (taken_count (taken_of command) ≤ length words)
 
 -- Each word may stand where it stands, and none is missing.
 pub record IsAccepted (words : List (List ℕ)) : Type 0 where

@@ -5,7 +5,6 @@ ghost use Rattle.cs_words.specs.Choices.{IsCriteria, IsFormat, IsOperators, IsWe
 ghost use Rattle.cs_words.specs.Choices.{has_criterion, has_operator};
 ghost use Rattle.cs_words.specs.Steps.{Adds, CannotAdd};
 
-
 use cs_choices::{Criteria, Format, Operators, Weigh};
 
 /// The criteria that the value names.

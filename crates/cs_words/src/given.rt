@@ -3,10 +3,10 @@
 ghost use Rattle.std.specs.Bool.{OnTrue, OnFalse};
 ghost use Rattle.cs_words.specs.Steps.{AreDefaulted, HasKind, IsNothing, Sets};
 
-use cs_choices::{Criteria, Format, Operators, Weigh};
 use crate::options::Options;
 use crate::separator::Separator;
 use crate::setting::Setting;
+use cs_choices::{Criteria, Format, Operators, Weigh};
 
 /// What the options so far say.
 #[derive(Drop)]

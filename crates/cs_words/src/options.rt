@@ -3,8 +3,8 @@
 ghost use Rattle.std.specs.Prelude.{◌≡◌};
 ghost use Rattle.cs_words.specs.Options.{default_options};
 
-use cs_choices::{Criteria, Format, Operators, Weigh};
 use crate::separator::Separator;
+use cs_choices::{Criteria, Format, Operators, Weigh};
 
 /// What the options of `suite` say, with the defaults for those that no word gives.
 #[derive(Drop)]

@@ -1,13 +1,13 @@
-// One option of `suite`: a mark and a value.
+// One option: a mark and a value.
 
 ghost use Rattle.std.specs.Prelude.{◌≡◌, ◌++◌, IfNone, IfSome};
-ghost use Rattle.cs_words.specs.Options.{IsOption, IsMarked};
+ghost use Rattle.cs_words.specs.Options.{IsOption, IsMarked, kind_of};
 ghost use Rattle.cs_words.specs.declared.setting.Setting.{Setting};
 
-use cs_choices::{Criteria, Format, Operators, Weigh};
 use crate::choices::{read_criteria, read_format, read_operators, read_weigh};
 use crate::separator::Separator;
 use crate::values::{read_bases, read_separator};
+use cs_choices::{Criteria, Format, Operators, Weigh};
 
 /// What an option sets.
 #[derive(Drop)]
@@ -24,6 +24,33 @@ pub(crate) enum Setting {
     Weigh(Weigh),
     /// How the manifest tells of derivations.
     Format(Format),
+}
+
+/// What an option is about.
+#[derive(Clone, Copy, Debug, PartialEq, Eq)]
+pub enum Kind {
+    Criteria,
+    Mutate,
+    Bases,
+    Separator,
+    Weigh,
+    Format,
+}
+
+impl Setting {
+    /// What it is about.
+    pub fn kind(&self) -> Kind
+        ensures { result ≡ kind_of self.now }
+    {
+        match self {
+            Setting::Cover(_) => Kind::Criteria,
+            Setting::Mutate(_) => Kind::Mutate,
+            Setting::Bases(_) => Kind::Bases,
+            Setting::Separate(_) => Kind::Separator,
+            Setting::Weigh(_) => Kind::Weigh,
+            Setting::Format(_) => Kind::Format,
+        }
+    }
 }
 
 /// The setting of an option.

@@ -1,5 +1,5 @@
 -- The pair of files that a number stands for has one summary.
-use Rattle.std.proofs.Common.{◌≡◌, ℕ, ◌≤◌, List, length, sym, ap, ◌∙◌, subst, arith}
+use Rattle.std.proofs.Common.{◌≡◌, ℕ, ◌≤◌, List, length, sym, ap, ◌∙◌, subst, inl, inr, arith}
 use Rattle.cs_gen.specs.Boundary.{HasFewSets, IsAcceptedBesideAll}
 use Rattle.cs_gen.specs.declared.files.Generated.{Generated}
 use Rattle.cs_gen.specs.Texts.{lex_text, yacc_text}
@@ -10,10 +10,9 @@ use Rattle.cs_lex.specs.Reading.{IsLexFile}
 use Rattle.cs_lex.proofs.OneFile as lex_files
 use Rattle.cs_input.specs.declared.judging.Pair.{Pair}
 use Rattle.cs_input.specs.Files.{IsPairOf}
-use Rattle.cs_input.specs.Refusal.{HasManyStates, RefusesPair}
+use Rattle.cs_input.specs.Refusal.{HasManyStates, Refuses, pair_contents}
 use Rattle.cs_input.specs.declared.refusal.Refusal.{Refusal}
 use Rattle.cs_input.specs.declared.refusal.Refusal.TheVariants.{TooLong, OfYacc, OfLex, States}
-use Rattle.cs_input.specs.declared.refusal.Role.TheVariants.{Yacc, Lex}
 use Rattle.cs_lex.proofs.OneRefusal as lex_refusal
 use Rattle.cs_yacc.specs.Reading.{IsAccepted}
 use Rattle.cs_manifest.specs.declared.counts.Counts.{Counts}
@@ -26,13 +25,14 @@ use Rattle.cs_writer.specs.Suite.{IsSuite}
 use Rattle.cs_writer.specs.Summary.{AreShort, HasSuite, IsOnlySummary, lengths}
 
 -- accepted files aren't refused
-pub no_refusal : (bytes more : List ℕ) (refusal : Refusal) → length bytes ≤ 1048576 → length more ≤ 1048576 → IsAccepted bytes → IsAcceptedBesideAll more → HasFewSets more → RefusesPair refusal bytes more → ⊥
-no_refusal bytes more (TooLong Yacc) short short_lex accepted lex_accepted few r = omega (arith, short, r)
-no_refusal bytes more (TooLong Lex) short short_lex accepted lex_accepted few r = omega (arith, short_lex, r.1)
-no_refusal bytes more (OfYacc error) short short_lex accepted lex_accepted few r = yacc_files.refused_is_not_accepted bytes accepted.0 error r.2 accepted.1
+pub no_refusal : (bytes more : List ℕ) (refusal : Refusal) → length bytes ≤ 1048576 → length more ≤ 1048576 → IsAccepted bytes → IsAcceptedBesideAll more → HasFewSets more → Refuses refusal (pair_contents bytes more) → ⊥
+no_refusal bytes more (TooLong role) short short_lex accepted lex_accepted few (inl r) = omega (arith, short, r.1)
+no_refusal bytes more (TooLong role) short short_lex accepted lex_accepted few (inr (fits, inl r)) = omega (arith, short_lex, r.1)
+no_refusal bytes more (TooLong role) short short_lex accepted lex_accepted few (inr (fits, inr r)) = r.1
+no_refusal bytes more (OfYacc error) short short_lex accepted lex_accepted few r = yacc_files.refused_is_not_accepted bytes accepted.0 error r.1 accepted.1
 no_refusal bytes more (OfLex error) short short_lex accepted lex_accepted few r =
-    let other = lex_accepted accepted.0 in lex_refusal.refused_is_not_accepted more accepted.0 other.0 error r.3 other.1
-no_refusal bytes more States short short_lex accepted lex_accepted few r = few r.0 r.1 r.3 r.2.3 r.4
+    let other = lex_accepted accepted.0 in lex_refusal.refused_is_not_accepted more accepted.0 other.0 error r.1.1 other.1
+no_refusal bytes more States short short_lex accepted lex_accepted few r = few r.1.0 r.1.1 r.1.4 r.1.3 r.1.5
 
 -- the automaton of a generated pair hasn't too many states
 pub few_states : (pair : Pair) (bytes more : List ℕ) → IsPairOf pair.yacc pair.lex bytes more → yacc.IsFile pair.yacc → HasFewSets more → ¬ HasManyStates pair.lex

@@ -9,9 +9,9 @@ ghost use Rattle.cs_writing.specs.declared.halt.Halt.TheVariants.{Failed};
 ghost use Rattle.cs_writing.specs.Writing.{CountsOfAll, HasNoCases, IsCalmForAll, MetFault, MetNone};
 ghost use Rattle.cs_writing.specs.Writing.{Stopped, TookFront, TookOne};
 
-use cs_choices::Format;
 use crate::halt::SuiteHalt;
 use crate::suite::write_suite;
+use cs_choices::Format;
 use cs_fan::Gate;
 use cs_gen::{Generated, make};
 use cs_input::{Pair, Stop, judge_pair};

@@ -1,16 +1,21 @@
 // The files of a command. What is expected was worked by hand from the order of the causes and from the lines that
 // docs/FORMATS.md gives.
 
-use cs_input::{Refusal, Role, Stop, line, read_pair};
+use cs_input::{Refusal, Stop, line, read_files};
 use cs_sample_files::desk;
-use cs_samples::{SCANNER, SUMS};
+use cs_samples::{SCANNER, SUMS, words};
+use cs_words::{Role, read_words};
 use std::alloc::{AllocError, Global};
 use std::test::Fail;
 
 // What is said of a yacc file `y` and a lex file `l`, each where there is one.
 fn said(alloc: Global, yacc: Option<&[u8]>, lex: Option<&[u8]>) -> Result<String, AllocError> {
     let mut desk = desk(alloc, yacc, lex)?;
-    match read_pair(alloc, "y", "l", &mut desk) {
+    let words = words(alloc, &["suite", "y", "l"])?;
+    let Ok(request) = read_words(&words) else {
+        return String::from_str(alloc, "bad words");
+    };
+    match read_files(alloc, &request, &mut desk) {
         Ok(_) => String::from_str(alloc, "read"),
         Err(Stop::NoFile(Role::Yacc)) => String::from_str(alloc, "no yacc file"),
         Err(Stop::NoFile(Role::Lex)) => String::from_str(alloc, "no lex file"),

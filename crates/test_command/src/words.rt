@@ -3,7 +3,7 @@
 
 use cs_choices::{Format, Weigh};
 use cs_samples::words;
-use cs_words::{BadWord, Command, read_words};
+use cs_words::{Arguments, BadWord, Command, read_words};
 use std::alloc::{AllocError, Global};
 use std::test::Fail;
 
@@ -171,8 +171,15 @@ fn names_and_defaults(rt: HostRuntime) -> Result<(), Fail> {
     let alloc = rt.alloc();
     let words = words(alloc, &["suite", "g.y", "g.l"])?;
     match read_words(&words) {
-        Ok(Command::Suite { yacc, lex, options }) => {
-            assert!(rt; yacc == "g.y" && lex == "g.l");
+        Ok(request) => {
+            let options = request.options;
+            assert!(rt; request.command == Command::Suite);
+            match request.arguments {
+                Arguments::Files([yacc, lex]) => {
+                    assert!(rt; yacc.as_str() == "g.y" && lex.as_str() == "g.l");
+                }
+                _ => assert!(rt; false),
+            }
             assert!(rt; options.operators.delete && options.operators.insert);
             assert!(rt; options.operators.replace && options.operators.swap);
             assert!(rt; options.criteria.rule && options.criteria.cdrc && options.criteria.pair);
@@ -181,7 +188,7 @@ fn names_and_defaults(rt: HostRuntime) -> Result<(), Fail> {
             assert!(rt; options.weigh == Weigh::Nodes);
             assert!(rt; options.format == Format::Two);
         }
-        _ => assert!(rt; false),
+        Err(_) => assert!(rt; false),
     }
     Ok(())
 }
@@ -204,7 +211,8 @@ fn settings(rt: HostRuntime) -> Result<(), Fail> {
         ],
     )?;
     match read_words(&words) {
-        Ok(Command::Suite { options, .. }) => {
+        Ok(request) => {
+            let options = request.options;
             assert!(rt; options.criteria.rule && !options.criteria.cdrc && options.criteria.pair);
             assert!(rt; !options.operators.delete && !options.operators.insert);
             assert!(rt; !options.operators.replace && !options.operators.swap);
@@ -213,7 +221,7 @@ fn settings(rt: HostRuntime) -> Result<(), Fail> {
             assert!(rt; options.weigh == Weigh::Bytes);
             assert!(rt; options.format == Format::One);
         }
-        _ => assert!(rt; false),
+        Err(_) => assert!(rt; false),
     }
     Ok(())
 }
@@ -230,8 +238,11 @@ fn numbers_of_gen(rt: HostRuntime) -> Result<(), Fail> {
     for (text, want) in rows {
         let words = words(alloc, &["gen", text])?;
         match read_words(&words) {
-            Ok(Command::Gen { seed }) => assert!(rt; seed == want),
-            _ => assert!(rt; false),
+            Ok(request) => match request.arguments {
+                Arguments::Seed(seed) => assert!(rt; seed == want),
+                Arguments::Files(_) => assert!(rt; false),
+            },
+            Err(_) => assert!(rt; false),
         }
     }
     Ok(())

@@ -4,9 +4,10 @@ ghost use Rattle.std.specs.Prelude.{IsTrue};
 ghost use Rattle.cs_ending.specs.Ending.{HasLine};
 
 use cs_ending::{Ending, finish};
-use cs_input::{Refusal, Role};
+use cs_input::Refusal;
 use cs_io::MemorySink;
 use cs_lex::LexError;
+use cs_words::Role;
 use cs_yacc::{YaccError, YaccLimit};
 use std::alloc::{AllocError, Global};
 use std::test::Fail;

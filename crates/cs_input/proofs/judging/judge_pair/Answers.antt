@@ -1,5 +1,5 @@
 use Rattle.std.proofs.Common.{sym, subst}
-use Rattle.cs_input.specs.Refusal.{RefusesRead}
+use Rattle.cs_input.specs.Refusal.{RefusesRead, pair_contents}
 use Rattle.cs_input.proofs.Wholes.{lex_stops}
 use Rattle.cs_input.proofs.judging.judge_pair.Goals as goal
 
@@ -7,7 +7,7 @@ pub returns-in-Err : goal.returns-in-Err
 returns-in-Err c = record {
   read = tt;
   tokens = tt;
-  refused = subst (λ s. RefusesRead c.args.bytes.now c.args.more.now s) (sym c.stop_of.ensures.stop)
+  refused = subst (λ s. RefusesRead (pair_contents c.args.bytes.now c.args.more.now) s) (sym c.stop_of.ensures.stop)
       (lex_stops c.args.bytes.now c.args.more.now c.in_ok-yacc.yacc c.in_ok-check_length.ensures.short c.in_ok-check_length-2.ensures.short c.in_ok-yacc.ensures.read.1 c.in-Err.error c.in-Err.ensures.refused);
   told = c.stop_of.ensures.told;
 }

@@ -2,7 +2,7 @@ use Rattle.std.proofs.Common.{List, ℕ, subst, rules}
 use Rattle.std.specs.Prelude.{string_bytes}
 use Rattle.cs_input.specs.declared.refusal.Stop.{Stop}
 use Rattle.cs_input.specs.Files.{IsPairOf}
-use Rattle.cs_input.specs.Refusal.{RefusesPair, RefusesRead}
+use Rattle.cs_input.specs.Refusal.{Refuses, RefusesRead, pair_contents}
 use Rattle.cs_yacc.specs.File.{IsFile}
 use Rattle.cs_writer.proofs.Parts.{if_ok_more}
 use Rattle.cs_writer.proofs.Summaries.{files_summary, no_refusal}
@@ -12,10 +12,10 @@ pub unreachable-requires : goal.unreachable-requires
 unreachable-requires g c =
     let files = c.in_ok-files.files in
     let refusal = c.in-Err-Refused.field-0-0 in
-    let read : RefusesRead c.deref.result.now c.deref-2.result.now c.in-Err-Refused.field-0 = c.in-Err-Refused.ensures.refused in
-    let first : RefusesPair refusal c.deref.result.now c.deref-2.result.now = subst (λ (s : Stop). RefusesRead c.deref.result.now c.deref-2.result.now s) c.in-Err-Refused.field-0-is read in
-    let second : RefusesPair refusal files.yacc.items c.deref-2.result.now = subst (λ (b : List ℕ). RefusesPair refusal b c.deref-2.result.now) c.deref.ensures.value first in
-    let third : RefusesPair refusal files.yacc.items files.lex.items = subst (λ (b : List ℕ). RefusesPair refusal files.yacc.items b) c.deref-2.ensures.value second in
+    let read : RefusesRead (pair_contents c.deref.result.now c.deref-2.result.now) c.in-Err-Refused.field-0 = c.in-Err-Refused.ensures.refused in
+    let first : Refuses refusal (pair_contents c.deref.result.now c.deref-2.result.now) = subst (λ (s : Stop). RefusesRead (pair_contents c.deref.result.now c.deref-2.result.now) s) c.in-Err-Refused.field-0-is read in
+    let second : Refuses refusal (pair_contents files.yacc.items c.deref-2.result.now) = subst (λ (b : List ℕ). Refuses refusal (pair_contents b c.deref-2.result.now)) c.deref.ensures.value first in
+    let third : Refuses refusal (pair_contents files.yacc.items files.lex.items) = subst (λ (b : List ℕ). Refuses refusal (pair_contents files.yacc.items b)) c.deref-2.ensures.value second in
     no_refusal files.yacc.items files.lex.items refusal c.in_ok-files.ensures.short_yacc c.in_ok-files.ensures.short_lex c.in_ok-files.ensures.yacc_accepted
     c.in_ok-files.ensures.lex_accepted c.in_ok-files.ensures.few_sets third
 
