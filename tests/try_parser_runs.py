@@ -118,7 +118,7 @@ def slow(folder):
     for script, said in rows:
         began = time.monotonic()
         found = call("try_parser", "--seconds", "5", path, "--", "sh", "-c", script)
-        if found[0] != 2 or said not in found[2] or time.monotonic() - began > 60 or left_over(SLEEP):
+        if found[0] != 2 or said not in found[2] or time.monotonic() - began > 300 or left_over(SLEEP):
             yield f"a parser {script}: {found}"
     once = call("try_parser", "--all", "--seconds", "0.3", "--stop-after", "1", "--jobs", "1", path, "--", "sleep", "5")
     has_stopped = "; 1 of 3 different texts run; 3 failed" in once[1]
@@ -132,11 +132,11 @@ def interrupted(folder):
     words = [os.path.join(TOP, "tools", "try_parser"), "--jobs", "1", path, "--", *SLEEP.split()]
     for number in (signal.SIGINT, signal.SIGTERM):
         run = subprocess.Popen(words, stdout=subprocess.PIPE, stderr=subprocess.PIPE)
-        until = time.monotonic() + 60
+        until = time.monotonic() + 300
         while not left_over(SLEEP) and time.monotonic() < until:
             time.sleep(0.05)
         run.send_signal(number)
-        output = run.communicate(timeout=60)[0].decode()
+        output = run.communicate(timeout=300)[0].decode()
         if run.returncode != 130 or "; 0 of 3 different texts run" not in output or left_over(SLEEP):
             yield f"an interrupt {number}: {run.returncode}, {output}"
 
@@ -185,7 +185,7 @@ def many(folder):
     found = call("try_parser", path, "--batch", "--", *PYTHON, refusing)
     if found[0] != 0 or "all 10000 different texts run; 0 failed" not in found[1]:
         yield f"many texts: {found}"
-    if time.monotonic() - began > 60:
+    if time.monotonic() - began > 120:
         yield f"many texts take {time.monotonic() - began:.1f} seconds"
 
 
@@ -193,7 +193,7 @@ def readers(folder):
     """A reader that stops reading isn't told of as an error."""
     path = written(folder, "lists", lists_suite())
     words = " ".join([os.path.join(TOP, "tools", "try_parser"), path, *frame("lists.py", "more"), "| head -n 1"])
-    found = subprocess.run(["bash", "-c", f"{words}; exit ${{PIPESTATUS[0]}}"], capture_output=True, timeout=60)
+    found = subprocess.run(["bash", "-c", f"{words}; exit ${{PIPESTATUS[0]}}"], capture_output=True, timeout=300)
     if (found.returncode, found.stderr) != (1, b""):
         yield f"a reader that stops: {found}"
 
