@@ -1,0 +1,139 @@
+"""Languages of the gallery: what stands in a folder's language.ini, and the suites and frames that are made of it."""
+
+import configparser
+import os
+import re
+import shlex
+import shutil
+import subprocess
+from dataclasses import dataclass
+
+TOP = os.path.dirname(os.path.dirname(os.path.abspath(__file__)))
+GALLERY = os.path.join(TOP, "gallery")
+FRAMES = os.path.join(GALLERY, "frames")
+OUT = os.path.join(TOP, "out", "gallery")
+
+
+class Fault(Exception):
+    """What ends a run of the gallery, in words for whoever called it."""
+
+
+@dataclass
+class Suite:
+    """An output of the program that is tried: its name, and the program's words."""
+
+    name: str
+    words: list
+
+
+@dataclass
+class Parser:
+    """A parser: its name, the package that has it, commands for its version and its frame, and where its known departures stand.
+
+    A frame that is compiled has the command that does it, with {built} for the file that is made; so has the frame's own command.
+    """
+
+    key: str
+    name: str
+    package: str
+    version: list
+    frame: list
+    build: list
+    known: str
+
+    def known_of(self, suite):
+        """The file of known departures of a suite, which need not be there."""
+        return f"{self.known}.{suite.name}"
+
+    def command(self, words):
+        return [word.replace("{built}", os.path.join(OUT, self.key)) for word in words]
+
+
+@dataclass
+class Language:
+    key: str
+    title: str
+    standard: str
+    note: str
+    suites: list
+    parsers: list
+
+    @property
+    def folder(self):
+        return os.path.join(GALLERY, self.key)
+
+
+def keys():
+    return sorted(name for name in os.listdir(GALLERY) if os.path.exists(os.path.join(GALLERY, name, "language.ini")))
+
+
+def read(key):
+    """The language of a folder."""
+    path = os.path.join(GALLERY, key, "language.ini")
+    found = configparser.ConfigParser(interpolation=None)
+    if not found.read(path, encoding="utf-8"):
+        raise Fault(f"{key}: no language of the gallery has this name")
+    head = found["language"]
+    suites = [Suite(name, shlex.split(words)) for name, words in found["suites"].items()]
+    parsers = [parser_of(key, name, found[name]) for name in found.sections() if name not in ("language", "suites")]
+    return Language(key, head["title"], head["standard"], " ".join(head.get("note", "").split()), suites, parsers)
+
+
+def parser_of(language, key, section):
+    commands = {name: shlex.split(section.get(name, "")) for name in ("version", "frame", "build")}
+    known = os.path.join(GALLERY, language, "known", key)
+    return Parser(key, section["name"], section["package"], known=known, **commands)
+
+
+@dataclass
+class Output:
+    """A suite that was made, in a file below out/."""
+
+    language: str
+    suite: Suite
+
+    @property
+    def path(self):
+        return os.path.join(OUT, f"{self.language}.{self.suite.name}")
+
+    def results_of(self, parser):
+        return f"{self.path}.{parser.key}.results"
+
+
+def write_suite(program, language, suite):
+    """Makes an output by the program."""
+    output = Output(language.key, suite)
+    os.makedirs(OUT, exist_ok=True)
+    with open(output.path, "wb") as file:
+        ran = subprocess.run([program, *suite.words], cwd=language.folder, stdout=file, stderr=subprocess.PIPE)
+    if ran.returncode:
+        raise Fault(f"{language.key}: {' '.join(suite.words)}: {ran.stderr.decode().strip()}")
+    return output
+
+
+def is_installed(parser):
+    """Whether the first word of the frame and of the version's command are there, and the frame can be made."""
+    for words in (parser.version, parser.build or parser.frame):
+        if not shutil.which(words[0]):
+            return False
+    return True
+
+
+def prepare(parser):
+    """Makes a frame that is compiled, and says whether the parser answers. It's not installed where that fails."""
+    if not is_installed(parser):
+        return False
+    if parser.build and subprocess.run(parser.command(parser.build), cwd=FRAMES, capture_output=True).returncode:
+        return False
+    # a frame that gets no text ends with its input; one that lacks its library ends with a status
+    asked = subprocess.run(parser.command(parser.frame), cwd=FRAMES, input=b"", capture_output=True)
+    return asked.returncode == 0
+
+
+def version_of(parser):
+    """The first number with a point in it that the version's command writes, or else the first word that begins with a digit."""
+    words = parser.command(parser.version)
+    ran = subprocess.run(words, cwd=FRAMES, stdin=subprocess.DEVNULL, stdout=subprocess.PIPE, stderr=subprocess.STDOUT)
+    told = ran.stdout.decode("latin-1")
+    found = re.search(r"\d+(?:\.\d+)+\S*", told) or re.search(r"\b\d\S*", told)
+    return found[0].rstrip(",;)") if found else "?"

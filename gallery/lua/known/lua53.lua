@@ -1,0 +1,2 @@
+pos '<' (CONST|CLOSE) '>' # version; 3.3.7; has no attributes of local variables
+pos MARK NAME MARK (GOTO NAME )?MARK NAME MARK # narrowing; 3.3.4; refuses a label that has the name of another one
