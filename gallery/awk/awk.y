@@ -59,7 +59,7 @@ conditional : either | either '?' expr ':' expr ;
 either : both | either OR newlines both ;
 both : member | both AND newlines member ;
 member : match | member IN array | '(' several ')' IN array ;
-match : compared | match '~' compared | match NO_MATCH compared ;
+match : compared | compared '~' compared | compared NO_MATCH compared ;
 compared : joined | joined comparison joined ;
 comparison : '<' | '>' | EQUAL | NOT_EQUAL | AT_MOST | AT_LEAST ;
 joined : sum | joined joined_sum ;

@@ -1,6 +1,6 @@
 """each.py [--taken STATUSES] [--refused STATUSES] [--message PATTERN] -- COMMAND..: a command that is started for each text.
 
-The command gets the text on its standard input, or in a file whose name stands for a word {}. It refuses a text where what it
+The command gets the text on its standard input, or in a file whose name stands for a word {text}. It refuses a text where what it
 writes has the pattern, or by one of the statuses (1), and takes it by one of the others (0). What else it does is told.
 """
 
@@ -28,10 +28,10 @@ def run(asked, text, path):
     """The command's status, and what it wrote."""
     text = (asked.before + "\n").encode() + text if asked.before else text
     words, given = asked.command, text
-    if "{}" in words:
+    if "{text}" in words:
         with open(path, "wb") as file:
             file.write(text)
-        words, given = [path if word == "{}" else word for word in words], b""
+        words, given = [path if word == "{text}" else word for word in words], b""
     ran = subprocess.run(words, input=given, stdout=subprocess.PIPE, stderr=subprocess.STDOUT, timeout=asked.seconds)
     return ran.returncode, ran.stdout.decode("latin-1")
 
