@@ -1,12 +1,16 @@
 """What parsers did, as tables: the causes of known departures with their shortest texts, and a language's page of results."""
 
 import datetime
+import functools
 import html
+import os
 import platform
-from dataclasses import dataclass, field
+from dataclasses import dataclass, field, replace
 
+import known
 import outputs as written
 import results
+from running import Outcome
 
 KINDS = ("departure", "extension", "narrowing", "version", "unsure")
 
@@ -17,7 +21,7 @@ class Unread(Exception):
 
 @dataclass
 class Cause:
-    """Why some cases depart: its kind, the place in the standard, what the parser does, and the cases' trials with what was told."""
+    """Why some cases depart: its kind, the place in the standard, what the parser does, and the trials."""
 
     kind: str
     where: str
@@ -26,12 +30,13 @@ class Cause:
 
     @property
     def shortest(self):
-        return min(self.trials, key=lambda row: (len(row[0].text), len(row[0].tokens), row[0].text))
+        return min(self.trials, key=lambda trial: (len(trial.text), len(trial.tokens), trial.text))
 
 
 @dataclass
 class Row:
-    """A parser that was tried: its version, how many goals and negatives it got, its causes, and how many cases have none."""
+    """A parser that was tried: its version, how many goals and negatives it got, its causes, how many cases have none, and the
+    known departures that it hasn't."""
 
     name: str
     version: str
@@ -39,15 +44,16 @@ class Row:
     negatives: int
     causes: list
     strangers: int
+    stale: list
 
     def count(self, kind):
         return sum(cause.kind == kind for cause in self.causes)
 
     def told(self):
         parts = [f"{self.count(kind)} {kind}" for kind in KINDS if self.count(kind)]
-        return f"{self.name} {self.version}: {self.goals} goals, {self.negatives} negatives; causes: {', '.join(parts) or 'none'}" + (
-            f"; {self.strangers} cases without a cause" if self.strangers else ""
-        )
+        parts += [f"{self.strangers} cases without a cause"] if self.strangers else []
+        parts += [f"no case for `{line}`" for line in self.stale]
+        return f"{self.name} {self.version}: {self.goals} goals, {self.negatives} negatives; causes: {', '.join(parts) or 'none'}"
 
 
 def cause_of(reason):
@@ -57,24 +63,44 @@ def cause_of(reason):
     return Cause(*parts)
 
 
-def cases_of(parser, outputs):
-    """Each case of a parser's results with the trial that it is of."""
-    for output in outputs:
-        trials = {trial.name: trial for trial in written.read(output.path).trials}
-        for case in results.read(output.results_of(parser))["cases"]:
-            yield trials[case["name"]], case
+@functools.cache
+def trials_in(path):
+    return {trial.name: trial for trial in written.read(path).trials}
+
+
+def cases_of(parser, output):
+    """The trials of an output with a parser's outcomes and the reasons for which these are known, and the lines that are stale."""
+    path = parser.known_of(output.suite)
+    lines = known.read(path) if os.path.exists(path) else known.Known()
+    trials, cases = trials_in(output.path), []
+    for case in results.read(output.results_of(parser))["cases"]:
+        trial = replace(trials[case["name"]], outcome=Outcome(case["outcome"], case["told"]))
+        trial.known = lines.reason(trial)
+        cases.append(trial)
+    return cases, lines.stale([])
+
+
+def has_results(parser, outputs):
+    """Whether there are results of these very outputs."""
+    try:
+        return all(results.of_output(results.read(output.results_of(parser)), output.path) == 0 for output in outputs)
+    except (OSError, results.Strange):
+        return False
 
 
 def row_of(parser, version, outputs):
-    """The row of a parser, read from its files of results."""
-    cases, causes = list(cases_of(parser, outputs)), {}
-    for trial, case in cases:
-        if case["known"]:
-            causes.setdefault(case["known"], cause_of(case["known"])).trials.append((trial, case["told"]))
-    goals = sum(trial.positive for trial, _ in cases)
-    strangers = sum(not case["known"] and case["outcome"] not in (case["wanted"], "skipped") for _, case in cases)
-    ordered = sorted(causes.values(), key=lambda cause: (KINDS.index(cause.kind), len(cause.shortest[0].text), cause.shortest[0].text))
-    return Row(parser.name, version, goals, len(cases) - goals, ordered, strangers)
+    """The row of a parser, read from its files of results and of known departures."""
+    cases, stale, causes = [], [], {}
+    for output in outputs:
+        found, lines = cases_of(parser, output)
+        cases += found
+        stale += lines
+    for trial in cases:
+        if trial.known:
+            causes.setdefault(trial.known, cause_of(trial.known)).trials.append(trial)
+    ordered = sorted(causes.values(), key=lambda cause: (KINDS.index(cause.kind), len(cause.shortest.text), cause.shortest.text))
+    goals, strangers = (sum(map(is_one, cases)) for is_one in (lambda trial: trial.positive, lambda trial: trial.failed))
+    return Row(parser.name, version, goals, len(cases) - goals, ordered, strangers, [line.text for line in stale])
 
 
 def printed(text):
@@ -107,7 +133,7 @@ def parser_lines(row):
         yield ""
         return
     head = ("Kind", "Shortest text", "It was", "Standard", "What the parser does", "Cases")
-    yield from table(head, ((c.kind, printed(c.shortest[0].text), c.shortest[1], c.where, c.what, len(c.trials)) for c in row.causes))
+    yield from table(head, ((c.kind, printed(c.shortest.text), c.shortest.outcome.told, c.where, c.what, len(c.trials)) for c in row.causes))
 
 
 def page(language, outputs, rows):
