@@ -28,9 +28,9 @@ class Suite:
 
 @dataclass
 class Parser:
-    """A parser: its name, the package that has it, commands for its version and its frame, and where its known departures stand.
+    """A parser: its name, its package, commands for its version and its frame, and where its known departures stand.
 
-    A frame that is compiled has the command that does it, with {built} for the file that is made; so has the frame's own command.
+    A frame that is compiled has the command that does it. {built} stands for the file that is made, in both commands.
     """
 
     key: str
@@ -131,7 +131,7 @@ def prepare(parser):
 
 
 def version_of(parser):
-    """The first number with a point in it that the version's command writes, or else the first word that begins with a digit."""
+    """The first number with a point in it that the version's command writes, or else its first word with a digit."""
     words = parser.command(parser.version)
     ran = subprocess.run(words, cwd=FRAMES, stdin=subprocess.DEVNULL, stdout=subprocess.PIPE, stderr=subprocess.STDOUT)
     told = ran.stdout.decode("latin-1")

@@ -1,4 +1,4 @@
-"""What parsers did, as tables: the causes of known departures with their shortest texts, and a language's page of results."""
+"""What parsers did, as tables: known departures with their shortest texts, and a language's page of results."""
 
 import datetime
 import functools
@@ -12,6 +12,9 @@ import outputs as written
 import results
 from running import Outcome
 
+# How bytes are shown in a cell, and marks that mean something there.
+ESCAPES = {10: "\\n", 9: "\\t"}
+MARKS = {ord(mark): f"&#{ord(mark)};" for mark in "|*_`"}
 KINDS = ("departure", "extension", "narrowing", "version", "unsure")
 
 
@@ -32,11 +35,15 @@ class Cause:
     def shortest(self):
         return min(self.trials, key=lambda trial: (len(trial.text), len(trial.tokens), trial.text))
 
+    def rank(self):
+        return KINDS.index(self.kind), len(self.shortest.text), self.shortest.text
+
 
 @dataclass
 class Row:
-    """A parser that was tried: its version, how many goals and negatives it got, its causes, how many cases have none, and the
-    known departures that it hasn't."""
+    """A parser that was tried: its version, how many goals and negatives it got, its causes, how many cases have none,
+    and the known departures that it hasn't.
+    """
 
     name: str
     version: str
@@ -53,7 +60,8 @@ class Row:
         parts = [f"{self.count(kind)} {kind}" for kind in KINDS if self.count(kind)]
         parts += [f"{self.strangers} cases without a cause"] if self.strangers else []
         parts += [f"no case for `{line}`" for line in self.stale]
-        return f"{self.name} {self.version}: {self.goals} goals, {self.negatives} negatives; causes: {', '.join(parts) or 'none'}"
+        tried = f"{self.name} {self.version}: {self.goals} goals, {self.negatives} negatives"
+        return f"{tried}; causes: {', '.join(parts) or 'none'}"
 
 
 def cause_of(reason):
@@ -69,7 +77,7 @@ def trials_in(path):
 
 
 def cases_of(parser, output):
-    """The trials of an output with a parser's outcomes and the reasons for which these are known, and the lines that are stale."""
+    """The trials of an output with a parser's outcomes and why these are known, and the known lines that are stale."""
     path = parser.known_of(output.suite)
     lines = known.read(path) if os.path.exists(path) else known.Known()
     trials, cases = trials_in(output.path), []
@@ -98,15 +106,15 @@ def row_of(parser, version, outputs):
     for trial in cases:
         if trial.known:
             causes.setdefault(trial.known, cause_of(trial.known)).trials.append(trial)
-    ordered = sorted(causes.values(), key=lambda cause: (KINDS.index(cause.kind), len(cause.shortest.text), cause.shortest.text))
-    goals, strangers = (sum(map(is_one, cases)) for is_one in (lambda trial: trial.positive, lambda trial: trial.failed))
+    goals, strangers = sum(trial.positive for trial in cases), sum(trial.failed for trial in cases)
+    ordered = sorted(causes.values(), key=Cause.rank)
     return Row(parser.name, version, goals, len(cases) - goals, ordered, strangers, [line.text for line in stale])
 
 
 def printed(text):
     """A text as a cell of a table may have it."""
-    plain = "".join(chr(byte) if 0x20 <= byte < 0x7F else {10: "\\n", 9: "\\t"}.get(byte, f"\\x{byte:02x}") for byte in text)
-    return "<code>" + html.escape(plain, quote=False).replace("|", "&#124;").replace("*", "&#42;").replace("_", "&#95;").replace("`", "&#96;") + "</code>"
+    plain = "".join(chr(byte) if 0x20 <= byte < 0x7F else ESCAPES.get(byte, f"\\x{byte:02x}") for byte in text)
+    return f"<code>{html.escape(plain, quote=False).translate(MARKS)}</code>"
 
 
 def table(head, rows):
@@ -125,6 +133,11 @@ def suite_rows(outputs):
         yield output.suite.name, counts["goals"], counts["feasible"], counts["negatives"]
 
 
+def cells_of(cause):
+    told = cause.shortest.outcome.told
+    return cause.kind, printed(cause.shortest.text), told, cause.where, cause.what, len(cause.trials)
+
+
 def parser_lines(row):
     yield f"## {row.name}"
     yield ""
@@ -133,15 +146,15 @@ def parser_lines(row):
         yield ""
         return
     head = ("Kind", "Shortest text", "It was", "Standard", "What the parser does", "Cases")
-    yield from table(head, ((c.kind, printed(c.shortest.text), c.shortest.outcome.told, c.where, c.what, len(c.trials)) for c in row.causes))
+    yield from table(head, map(cells_of, row.causes))
 
 
 def page(language, outputs, rows):
     """A language's page of results."""
     day = datetime.date.today().isoformat()
     lines = [f"# {language.title}", ""]
-    lines += [f"The standard is {language.standard}. Written by `gallery/run` on {day}, of one run on one machine ({platform.machine()})."]
-    lines += ["`gallery/README.md` says what the kinds mean."] + ([language.note] if language.note else []) + [""]
+    lines += [f"The standard is {language.standard}. `gallery/README.md` says what the kinds mean.", language.note]
+    lines += [f"Written by `gallery/run` on {day}, of runs on one machine ({platform.machine()}).", ""]
     lines += table(("Suite", "Goals", "With a sentence", "Negatives"), suite_rows(outputs))
     head = ("Parser", "Version", "Goals", "Negatives", *(f"{kind.capitalize()}s" for kind in KINDS[:4]), "Unsure")
     lines += table(head, ((row.name, row.version, row.goals, row.negatives, *map(row.count, KINDS)) for row in rows))

@@ -1,9 +1,10 @@
 #!/usr/bin/env python3
-"""Runs the program on the gallery's files, and JSON's suites on Python's json: gallery_runs.py [PROGRAM]. It prints the rows that
-fail, and ends with status 1 where one did.
+"""Runs the program on the gallery's files, and JSON's suites on Python's json: gallery_runs.py [PROGRAM]. It prints the
+rows that fail, and ends with status 1 where one did.
 
-Each grammar and scanner of the gallery has to be accepted, and each token to have a text. Python's json has to take each sentence
-and to refuse each negative, but for what its manual and RFC 8259 (section 8.1) let it take: NaN, Infinity, a byte order mark.
+Each grammar and scanner of the gallery has to be accepted, and each token to have a text. Python's json has to take
+each sentence and to refuse each negative, but for what its manual and RFC 8259 (section 8.1) let it take: NaN, Infinity, a
+byte order mark.
 """
 
 import os
@@ -32,7 +33,8 @@ def made(language, suite, folder):
     """An output of the program in a file, and what it said where it failed."""
     path = os.path.join(folder, f"{language.key}.{suite.name}")
     with open(path, "wb") as file:
-        ran = subprocess.run([PROGRAM, *suite.words], cwd=language.folder, stdout=file, stderr=subprocess.PIPE, timeout=300)
+        words, folder = [PROGRAM, *suite.words], language.folder
+        ran = subprocess.run(words, cwd=folder, stdout=file, stderr=subprocess.PIPE, timeout=300)
     return path, ran.stderr.decode() if ran.returncode else None
 
 

@@ -1,9 +1,10 @@
 /* Programs of awk: POSIX.1-2017, XCU, awk, "Grammar" and "Lexical Conventions".
 
-   Levels of operators are nonterminals here, so that one text has one reading ("Expressions in awk", table of operators). What is
-   narrower than the grammar there: an assignment is no operand, what is printed has no comparison, break and continue stand in
-   loops and return in functions. What is wider: an action needs no terminator between it and the next item, as programs are
-   written. Of names there are three, so that an array, a function and a variable differ where they have to. */
+   Levels of operators are nonterminals here, so that one text has one reading ("Expressions in awk", table of
+   operators). What is narrower than the grammar there: an assignment is no operand, what is printed has no
+   comparison, break and continue stand in loops and return in functions. What is wider: an action needs no terminator
+   between it and the next item, as programs are written. Of names there are three, so that an array, a function and a
+   variable differ where they have to. */
 %token NEWLINE NAME ARRAY FUNCTION_NAME CALL NUMBER STRING ERE LENGTH SUBSTR
 %token BEGIN_NAME BREAK CONTINUE DELETE DO ELSE END EXIT FOR FUNCTION GETLINE IF IN NEXT PRINT PRINTF RETURN WHILE
 %token ADD_ASSIGN SUBTRACT_ASSIGN MULTIPLY_ASSIGN DIVIDE_ASSIGN REMAINDER_ASSIGN POWER_ASSIGN
@@ -41,8 +42,10 @@ open_statement : simple | if newlines open_statement | if newlines closed_statem
 if : IF '(' expr ')' ;
 loop : WHILE '(' expr ')' | FOR '(' part ';' condition ';' part ')' | FOR '(' name IN array ')' ;
 /* A statement in a loop. */
-repeated : closed_statement | jump ending | if newlines jump ending | if newlines closed_statement ELSE newlines jump ending
-         | '{' newlines jump '}' newlines | '{' newlines closed jump '}' newlines | '{' newlines jump ending '}' newlines ;
+repeated : closed_statement | jump ending | if newlines jump ending
+         | if newlines closed_statement ELSE newlines jump ending
+         | '{' newlines jump '}' newlines | '{' newlines closed jump '}' newlines
+         | '{' newlines jump ending '}' newlines ;
 jump : BREAK | CONTINUE ;
 part : | step ;
 condition : | expr ;
@@ -65,7 +68,8 @@ comparison : '<' | '>' | EQUAL | NOT_EQUAL | AT_MOST | AT_LEAST ;
 joined : sum | joined joined_sum ;
 sum : product | sum '+' product | sum '-' product ;
 product : unary | product factor ;
-/* Between two operands the scanner's ERE is a division by the name in it, and then a second one ("Lexical Conventions"). */
+/* Between two operands the scanner's ERE is a division by the name in it, and then a second one ("Lexical
+   Conventions"). */
 factor : '*' unary | '/' unary | '%' unary | ERE unary ;
 unary : power | sign unary ;
 sign : '+' | '-' | '!' ;
@@ -77,10 +81,12 @@ joined_unary : NUMBER | NUMBER '^' unary | operand | operand '^' unary | '!' una
 primary : NUMBER | operand | ERE ;
 operand : place | STRING | '(' expr ')' | INCREMENT place | DECREMENT place | place INCREMENT | place DECREMENT
         | CALL ')' | CALL list ')' | LENGTH | LENGTH '(' ')' | LENGTH '(' expr ')' | SUBSTR '(' several ')' | input ;
-input : GETLINE | GETLINE place | GETLINE '<' operand | GETLINE place '<' operand | operand '|' GETLINE | operand '|' GETLINE place ;
+input : GETLINE | GETLINE place | GETLINE '<' operand | GETLINE place '<' operand | operand '|' GETLINE
+      | operand '|' GETLINE place ;
 place : name | array '[' list ']' | '$' number ;
 /* What tells the number of a field: it binds first. */
-number : NUMBER | place | STRING | ERE | '(' expr ')' | INCREMENT place | DECREMENT place | sign number | CALL ')' | CALL list ')'
+number : NUMBER | place | STRING | ERE | '(' expr ')' | INCREMENT place | DECREMENT place | sign number | CALL ')'
+       | CALL list ')'
        | LENGTH | LENGTH '(' ')' | LENGTH '(' expr ')' | SUBSTR '(' several ')' ;
 /* Nothing leads here. */
 strange : SAME | PIPE_BOTH | ARROW | '@' | '&' | '.' | '`' ;

@@ -1,8 +1,8 @@
 /* Programs of bc: POSIX.1-2017, XCU, bc, "Grammar" and "Lexical Conventions in bc".
 
-   The operators stand one by one, where the standard has classes of them. An array may be any parameter and any argument, as the
-   section "Operations in bc" has it; by the grammar there it can't be the last one. The statement quit is left out: it
-   ends bc as it is read, so nothing behind it is looked at. */
+   The operators stand one by one, where the standard has classes of them. An array may be any parameter and any
+   argument, as the section "Operations in bc" has it; by the grammar there it can't be the last one. The statement
+   quit is left out: it ends bc as it is read, so nothing behind it is looked at. */
 %token NEWLINE LETTER NUMBER STRING
 %token BREAK DEFINE FOR IF RETURN WHILE AUTO LENGTH SQRT SCALE IBASE OBASE
 %token ADD_ASSIGN SUBTRACT_ASSIGN MULTIPLY_ASSIGN DIVIDE_ASSIGN REMAINDER_ASSIGN POWER_ASSIGN
@@ -14,7 +14,8 @@
 program : | program item ;
 item : line NEWLINE | function ;
 line : | statement | line ';' | line ';' statement ;
-statements : | statement | statements NEWLINE | statements NEWLINE statement | statements ';' | statements ';' statement ;
+statements : | statement | statements NEWLINE | statements NEWLINE statement | statements ';'
+           | statements ';' statement ;
 statement : expression | STRING | BREAK | RETURN | RETURN '(' ')' | RETURN '(' expression ')'
           | FOR '(' expression ';' relation ';' expression ')' statement
           | IF '(' relation ')' statement

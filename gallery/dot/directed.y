@@ -1,7 +1,8 @@
-/* Directed graphs of DOT: Graphviz, "DOT Language" (graphviz.org/doc/info/lang.html), its abstract grammar and what it says of
-   identifiers.
+/* Directed graphs of DOT: Graphviz, "DOT Language" (graphviz.org/doc/info/lang.html), its abstract grammar and what
+   it says of identifiers.
 
-   The operator of a digraph is ->, that of a graph is --. A compass point is any identifier, as the page says that the parser takes it. Comments and lines with # are left out. */
+   The operator of a digraph is ->, that of a graph is --. A compass point is any identifier, as the page says that
+   the parser takes it. Comments and lines with # are left out. */
 %token STRICT DIGRAPH GRAPH NODE EDGE SUBGRAPH NAME NUMERAL QUOTED HTML ARROW
 /* The operator of undirected graphs, which "digraph" excludes. */
 %token LINE

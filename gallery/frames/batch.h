@@ -1,4 +1,5 @@
-/* What the frames in C and C++ share: main answers a line for each line of base64. A frame has `taken`. The text has a 0 behind it. */
+/* What the frames in C and C++ share: main answers a line for each line of base64. A frame has `taken`, which
+   gets a text with a 0 behind it. */
 #include <stdio.h>
 #include <stdlib.h>
 #include <string.h>

@@ -5,7 +5,7 @@ import sys
 
 
 def serve(parse, refusals):
-    """Answers `taken` where `parse` returns, `refused` where it raises one of `refusals`, else the name of what it raised."""
+    """Answers `taken` where `parse` returns, `refused` where it raises one of `refusals`, else what it raised."""
     for line in sys.stdin.buffer:
         print(answer(parse, refusals, base64.b64decode(line)), flush=True)
 

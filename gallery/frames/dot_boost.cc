@@ -1,4 +1,4 @@
-/* read_graphviz of the Boost Graph Library, into a directed graph or, where the text is of one, into an undirected one. */
+/* read_graphviz of the Boost Graph Library, into a directed graph, or where the text asks for it, an undirected one. */
 #include "batch.h"
 #include <boost/graph/adjacency_list.hpp>
 #include <boost/graph/graphviz.hpp>
@@ -17,8 +17,7 @@ static int taken(const char *text, size_t length) {
         } catch (const boost::undirected_graph_error &) {
             return read_as<boost::undirectedS>(whole);
         }
-    } catch (const boost::graph_exception &error) {
-        if (getenv("TELL")) fprintf(stderr, "%s\n", error.what());
+    } catch (const boost::graph_exception &) {
         return 0;
     }
 }

@@ -1,4 +1,4 @@
-"""The lexer and the parser of xdot. Its packages begin a window as they are imported, so their modules are taken one by one."""
+"""The lexer and the parser of xdot. Its packages open a window when imported, so bare ones stand for them."""
 
 import importlib.util
 import os
@@ -7,7 +7,7 @@ from types import ModuleType
 
 from batch import serve
 
-TOP = os.path.dirname(importlib.util.find_spec("xdot").origin) if "xdot" not in sys.modules else None
+TOP = os.path.dirname(importlib.util.find_spec("xdot").origin)
 
 
 def bare(name, folder):

@@ -1,7 +1,8 @@
-"""each.py [--taken STATUSES] [--refused STATUSES] [--message PATTERN] -- COMMAND..: a command that is started for each text.
+"""each.py [OPTIONS] -- COMMAND..: a command that is started for each text.
 
-The command gets the text on its standard input, or in a file whose name stands for a word {text}. It refuses a text where what it
-writes has the pattern, or by one of the statuses (1), and takes it by one of the others (0). What else it does is told.
+The command gets the text on its standard input, or in a file whose name stands for a word {text}. It refuses a text
+where what it writes has the pattern, or by one of some statuses, and takes it by one of others. What else it does is
+told.
 """
 
 import argparse
@@ -14,12 +15,12 @@ import tempfile
 
 def arguments(words):
     parser = argparse.ArgumentParser(prog="each.py", description=__doc__.split("\n\n")[0])
-    parser.add_argument("--taken", default="0", metavar="STATUSES", help="statuses that take, with commas between them (0)")
-    parser.add_argument("--refused", default="1", metavar="STATUSES", help="statuses that refuse, with commas between them (1)")
+    parser.add_argument("--taken", default="0", metavar="LIST", help="statuses that take, with commas between them (0)")
+    parser.add_argument("--refused", default="1", metavar="LIST", help="statuses that refuse, as in --taken (1)")
     parser.add_argument("--message", metavar="PATTERN", help="a pattern of what is written where a text is refused")
     parser.add_argument("--before", default="", metavar="LINE", help="a line that stands in front of each text")
     parser.add_argument("--seconds", type=float, default=5, help="the time that a text may take (5)")
-    parser.add_argument("--slow", default="too slow", metavar="ANSWER", help="the answer on a text that takes longer (too slow)")
+    parser.add_argument("--slow", default="too slow", metavar="ANSWER", help="what is answered behind that (too slow)")
     parser.add_argument("command", nargs="+", help="behind --: the parser and its words")
     return parser.parse_args(words)
 

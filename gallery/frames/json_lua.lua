@@ -1,4 +1,4 @@
--- json_lua.lua MODULE: cjson, whose decode raises, or dkjson, whose decode gives a value, the place behind it and a message.
+-- json_lua.lua MODULE: cjson, whose decode raises, or dkjson, whose decode gives a value, a place and a message.
 local serve = require("batch")
 local module = require(arg[1])
 

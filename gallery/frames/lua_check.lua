@@ -1,4 +1,4 @@
--- Luacheck, for Lua 5.4: it refuses a text where it tells an error, which is a code that begins with 0, and not a warning.
+-- Luacheck, for Lua 5.4: it refuses a text where it tells an error, by a code that begins with 0, and not a warning.
 local serve = require("batch")
 local luacheck = require("luacheck")
 

@@ -14,5 +14,6 @@ member : STRING ':' value ;
 array : '[' ']' | '[' elements ']' ;
 elements : value | elements ',' value ;
 /* Nothing leads here: so each of these is a token that every text has to be refused for. */
-strange : NAN | INFINITY | TRUE_UPPER | NAME | SINGLE_QUOTED | HEXADECIMAL | LINE_COMMENT | BLOCK_COMMENT | HASH_COMMENT
+strange : NAN | INFINITY | TRUE_UPPER | NAME | SINGLE_QUOTED | HEXADECIMAL | LINE_COMMENT | BLOCK_COMMENT
+        | HASH_COMMENT
         | BYTE_ORDER_MARK | '(' | ')' | ';' | '=' ;

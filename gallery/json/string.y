@@ -1,7 +1,7 @@
 /* A JSON text that is a string, byte by byte: RFC 8259, section 7, in UTF-8 (section 8.1; RFC 3629, section 4).
 
-   Of the bytes that stand for themselves a few are here, and one code point of two, of three and of four bytes. Tab and newline
-   are blanks in front of a string and behind it (section 2), and nothing inside. */
+   Of the bytes that stand for themselves a few are here, and one code point of two, of three and of four bytes. Tab
+   and newline are blanks in front of a string and behind it (section 2), and nothing inside. */
 %start text
 %%
 text : blanks '"' characters '"' blanks ;

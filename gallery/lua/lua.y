@@ -1,8 +1,9 @@
 /* Chunks of Lua 5.4: "Lua 5.4 Reference Manual", sections 3 and 9.
 
-   What is refused beyond the syntax stands in rules where these can say it: break stands in loops alone (section 3.3.4), a goto
-   stands directly before its label (3.3.4), an attribute is const or close (3.3.7). No rule says that labels differ (3.3.4), that
-   a list closes one variable at most (3.3.8), and that a function with ... in it has ... as a parameter (3.4.11). */
+   What is refused beyond the syntax stands in rules where these can say it: break stands in loops alone (section
+   3.3.4), a goto stands directly before its label (3.3.4), an attribute is const or close (3.3.7). No rule says that
+   labels differ (3.3.4), that a list closes one variable at most (3.3.8), and that a function with ... in it has ...
+   as a parameter (3.4.11). */
 %token NAME CONST CLOSE NUMERAL STRING VARARG
 %token AND BREAK DO ELSE ELSEIF END FALSE FOR FUNCTION GOTO IF IN LOCAL NIL NOT OR REPEAT RETURN THEN TRUE UNTIL WHILE
 %token FLOOR SHIFT_LEFT SHIFT_RIGHT CONCATENATE AT_MOST AT_LEAST EQUAL NOT_EQUAL MARK
@@ -18,7 +19,8 @@ statement : plain | DO block END | IF exp THEN block otherwise END ;
 otherwise : | ELSE block | ELSEIF exp THEN block otherwise ;
 plain : ';' | variables '=' values | call | label | jump
       | WHILE exp DO loop END | REPEAT loop UNTIL exp
-      | FOR name '=' exp ',' exp DO loop END | FOR name '=' exp ',' exp ',' exp DO loop END | FOR names IN values DO loop END
+      | FOR name '=' exp ',' exp DO loop END | FOR name '=' exp ',' exp ',' exp DO loop END
+      | FOR names IN values DO loop END
       | FUNCTION path body | FUNCTION path ':' name body | LOCAL FUNCTION name body
       | LOCAL locals | LOCAL locals '=' values ;
 /* What stands in a loop: a block in which break may stand. */
