@@ -14,7 +14,7 @@ from running import Outcome
 
 # How bytes are shown in a cell, and marks that mean something there.
 ESCAPES = {10: "\\n", 9: "\\t"}
-MARKS = {ord(mark): f"&#{ord(mark)};" for mark in "|*_`"}
+MARKS = {ord(mark): f"&#{ord(mark)};" for mark in "|*`"}
 KINDS = ("departure", "extension", "narrowing", "version", "unsure")
 
 
@@ -114,7 +114,11 @@ def row_of(parser, version, outputs):
 def printed(text):
     """A text as a cell of a table may have it."""
     plain = "".join(chr(byte) if 0x20 <= byte < 0x7F else ESCAPES.get(byte, f"\\x{byte:02x}") for byte in text)
-    return f"<code>{html.escape(plain, quote=False).translate(MARKS)}</code>"
+    return f"<code>{escaped(plain)}</code>"
+
+
+def escaped(words):
+    return html.escape(words, quote=False).translate(MARKS)
 
 
 def table(head, rows):
@@ -134,8 +138,8 @@ def suite_rows(outputs):
 
 
 def cells_of(cause):
-    told = cause.shortest.outcome.told
-    return cause.kind, printed(cause.shortest.text), told, cause.where, cause.what, len(cause.trials)
+    text, told = cause.shortest.text, cause.shortest.outcome.told
+    return cause.kind, printed(text), *map(escaped, (told, cause.where, cause.what)), len(cause.trials)
 
 
 def parser_lines(row):
