@@ -111,29 +111,28 @@ def write_suite(program, language, suite):
     return output
 
 
-def is_installed(parser):
-    """Whether the first word of the frame and of the version's command are there, and the frame can be made."""
-    for words in (parser.version, parser.build or parser.frame):
-        if not shutil.which(words[0]):
-            return False
-    return True
-
-
 def prepare(parser):
-    """Makes a frame that is compiled, and says whether the parser answers. It's not installed where that fails."""
-    if not is_installed(parser):
+    """Makes a frame that is compiled, and says whether the parser is there and its frame answers."""
+    if version_of(parser) is None:
         return False
-    if parser.build and subprocess.run(parser.command(parser.build), cwd=FRAMES, capture_output=True).returncode:
+    if parser.build and run(parser.command(parser.build)).returncode:
         return False
     # a frame that gets no text ends with its input; one that lacks its library ends with a status
-    asked = subprocess.run(parser.command(parser.frame), cwd=FRAMES, input=b"", capture_output=True)
-    return asked.returncode == 0
+    return run(parser.command(parser.frame)).returncode == 0
+
+
+def run(words):
+    """What a command does in the frames' folder, without input; one that isn't there ends as a shell has it."""
+    if not shutil.which(words[0]):
+        return subprocess.CompletedProcess(words, 127, b"")
+    options = {"stdin": subprocess.DEVNULL, "stdout": subprocess.PIPE, "stderr": subprocess.STDOUT}
+    return subprocess.run(words, cwd=FRAMES, **options)
 
 
 def version_of(parser):
-    """The first number with a point in it that the version's command writes, or else its first word with a digit."""
-    words = parser.command(parser.version)
-    ran = subprocess.run(words, cwd=FRAMES, stdin=subprocess.DEVNULL, stdout=subprocess.PIPE, stderr=subprocess.STDOUT)
+    """The first number with a point in it that the version's command writes, or else its first word with a digit. None
+    where the command fails, as it does where the parser isn't installed."""
+    ran = run(parser.command(parser.version))
     told = ran.stdout.decode("latin-1")
     found = re.search(r"\d+(?:\.\d+)+\S*", told) or re.search(r"\b\d\S*", told)
-    return found[0].rstrip(",;)") if found else "?"
+    return found[0].rstrip(",;)") if found and ran.returncode == 0 else None
