@@ -19,7 +19,7 @@ def arguments(words):
     parser.add_argument("--refused", default="1", metavar="LIST", help="statuses that refuse, as in --taken (1)")
     parser.add_argument("--message", metavar="PATTERN", help="a pattern of what is written where a text is refused")
     parser.add_argument("--before", default="", metavar="LINE", help="a line that stands in front of each text")
-    parser.add_argument("--seconds", type=float, default=5, help="the time that a text may take (5)")
+    parser.add_argument("--seconds", type=float, default=30, help="the time that a text may take (30)")
     parser.add_argument("--slow", default="too slow", metavar="ANSWER", help="what is answered behind that (too slow)")
     parser.add_argument("command", nargs="+", help="behind --: the parser and its words")
     return parser.parse_args(words)
