@@ -64,3 +64,23 @@ fn derivations_of_sums(rt: HostRuntime) -> Result<(), Fail> {
     }
     Ok(())
 }
+
+// s : a ;  a : b b | c ;  b : ;  c : ;  by hand: the least tree of the empty list goes by c.
+#[test]
+fn empty_trees_are_least(rt: HostRuntime) -> Result<(), Fail> {
+    let [s, a, b, c] = [1, 2, 3, 4];
+    let lines: [(u16, &[Symbol]); 5] = [
+        (s, &[Symbol::Nonterminal(a)]),
+        (a, &[Symbol::Nonterminal(b), Symbol::Nonterminal(b)]),
+        (a, &[Symbol::Nonterminal(c)]),
+        (b, &[]),
+        (c, &[]),
+    ];
+    let grammar = grammar_of(1, 4, rules(rt.alloc(), &lines)?)?;
+    let least = match member(rt.alloc(), &grammar, &[])? {
+        Membership::Inside(derivation) => derivation.rules() == [1, 3, 5].as_slice(),
+        Membership::Outside => false,
+    };
+    assert!(rt; least);
+    Ok(())
+}
