@@ -108,6 +108,15 @@ module _ (g : PlainGrammar) (tables : Tables) (tokens : List ℕ) (chart : List 
             subst (λ (o : Option ℕ). IsChild chart i o) (sym span.4) (p, at, slice_get_within p.spans.items span.0 span.1 at_t)
       ]
 
+  pub cause_earlier : (i n m : ℕ) (p : Position) (s : Span) → slice_get chart i ≡ Some p → slice_get p.spans.items n ≡ Some s → s.cause ≡ Some m → m < n
+  cause_earlier i n m p s at at_s cause =
+      let made = is.each i p at in
+      let here : slice_get made.now.spans.items n ≡ Some s = ap (λ (l : List Span). slice_get l n) (sym made.spans) ∙ at_s in
+      elim (made.from.spans n s here) [
+        | inl token ↦ (let none = token.2 in absurd cc)
+        | inr span ↦ (let same = same_Some span.0 m (sym span.4 ∙ cause) in let less = span.5 in omega arith)
+      ]
+
   pub span_way : (i n : ℕ) (p : Position) (s : Span) → slice_get chart i ≡ Some p → slice_get p.spans.items n ≡ Some s → NoneLeads g (End s.nonterminal) (OfChild tables tokens (take i chart) p.spans.items s.cause s.from) → ⊥
   span_way i n p s at at_s none =
       let made = is.each i p at in
@@ -153,10 +162,11 @@ module _ (g : PlainGrammar) (tables : Tables) (tokens : List ℕ) (chart : List 
         (inr (stands.0, p, at, (bucket, stands.1, row, stands.2, stands.3.1, stands.3.2, stands.3.3)), subst (λ (y : Item). Awaits g y s) stands.3.2 (rows stands.1 row stands.2 stands.3.1 stands.3.3))
   ]
 
-  behind_found : (sought : Sought) (i at from : ℕ) (child : Option ℕ) (back : Back) → IsAt g chart back.before from i × HasChild g tokens chart back.before i at child → back.begin ≡ i → IsBehind g sought back → IsFound g tokens chart sought at from child back
-  behind_found sought i at from child back h begin behind = (
+  behind_found : (sought : Sought) (i at from : ℕ) (child : Option ℕ) (back : Back) → IsAt g chart back.before from i × HasChild g tokens chart back.before i at child → back.begin ≡ i → i < at → IsBehind g sought back → IsFound g tokens chart sought at from child back
+  behind_found sought i at from child back h begin earlier behind = (
     record {
       there = subst (λ n. IsAt g chart back.before from n) (sym begin) h.0;
+      earlier = subst (λ n. n < at) (sym begin) earlier;
       awaits = subst (λ n. HasChild g tokens chart back.before n at child) (sym begin) h.1;
       past = behind.past;
     },
@@ -170,7 +180,7 @@ module _ (g : PlainGrammar) (tables : Tables) (tokens : List ℕ) (chart : List 
     token_back i t next at_p at_t at_list back h =
         let b = before_symbol i from 0 p (Token t) list back.before at_p (λ f has. is_tables.question.tokens.entries t f (list, at_list, has))
         (λ l row at_l has in_it. rows_token i t from p l row at_p at_t at_l has in_it) h.0 in
-        behind_found sought i at from None back (b.0, (t, at_t, next, b.1)) h.1 h.2
+        behind_found sought i at from None back (b.0, (t, at_t, next, b.1)) h.1 (omega arith) h.2
 
     pub token_none : (i t : ℕ) → i + 1 ≡ at → slice_get chart i ≡ Some p → slice_get tokens i ≡ Some t → slice_get tables.tokens.items t ≡ Some list
         → NoneLeads g sought (OfSymbol p 0 list.items i from) → NoneLeads g sought (λ x. OfScan (take at chart) tables.tokens.items tokens x from)
@@ -197,7 +207,7 @@ module _ (g : PlainGrammar) (tables : Tables) (tokens : List ℕ) (chart : List 
         let above = span_above at n q s at_q at_s in
         let b = before_symbol s.from from s.nonterminal p (Nonterminal s.nonterminal) list back.before at_p (λ f has. is_tables.question.nonterminals.entries s.nonterminal f (list, at_list, has))
         (λ l row at_l has in_it. rows_nonterminal s.from s.nonterminal p l row at_p above at_l has) h.0 in
-        behind_found sought s.from at from (Some n) back (b.0, (q, s, at_q, at_s, refl, b.1)) h.1 h.2
+        behind_found sought s.from at from (Some n) back (b.0, (q, s, at_q, at_s, refl, b.1)) h.1 (span_at at n q s at_q at_s).from h.2
 
     pub span_none : (q : Position) (n : ℕ) (s : Span) → slice_get chart at ≡ Some q → slice_get q.spans.items n ≡ Some s → slice_get chart s.from ≡ Some p → slice_get tables.nonterminals.items s.nonterminal ≡ Some list
         → NoneLeads g sought (OfSymbol p s.nonterminal list.items s.from from) → NoneLeads g sought (λ x. OfSpan (take at chart) tables.nonterminals.items s x from)

@@ -3,6 +3,8 @@ use Rattle.std.proofs.Common.{◌≡◌, ℕ, zero, suc, ◌+◌, ◌<◌, ◌�
 use Rattle.std.specs.Prelude.{All, IfSome, IfNone, IsSome, slice_get}
 use Rattle.std.specs.List.{count_by}
 use Rattle.std.proofs.Math.ListN.{set, length-set}
+use Rattle.std.proofs.lemmas.List.{get_or-set_other, get_or-set_same}
+use Rattle.cs_grammar.proofs.OneTree.{one_rule}
 use Rattle.std.proofs.lemmas.Bool.{cases_eq, cond-true, cond-false, eq-eqb, ne_eqb}
 use Rattle.std.proofs.lemmas.List.Sums.{sum_by-set}
 use Rattle.std.proofs.lemmas.Option.{same_Some, slice_get_within, get_or_from_slice_get}
@@ -12,7 +14,7 @@ use Rattle.cs_grammar.specs.Grammar.{Production, PlainGrammar, IsRule}
 use Rattle.cs_grammar.specs.Tree.{Tree, Leaf, Node, Forest, Bare, Grown, IsTree, AreTrees, yield, yields}
 use Rattle.cs_member.specs.declared.empties.Found.{Found}
 use Rattle.cs_member.specs.Item.{IsEmpty}
-use Rattle.cs_member.specs.Tables.{HasEmpty, AreTrue, IsSaturated, IsFurther, IsKeptRule, AreEmpties}
+use Rattle.cs_member.specs.Tables.{HasEmpty, AreTrue, IsSaturated, IsFoundBefore, IsFurther, IsKeptRule, AreEmpties}
 use Rattle.std.proofs.lemmas.List.Elements.{All-weaker}
 use Rattle.cs_member.proofs.Places.{at_set, at_set_cases}
 use Rattle.cs_member.proofs.Rows.{at_set_other}
@@ -157,3 +159,54 @@ fewer empties a r at above =
     let was : one_if_zero (get_or empties a 0) ≡ 1 = cond-true (eqb (get_or empties a 0) 0) 1 0 (eq-eqb _ 0 (get_or_from_slice_get empties a 0 0 at)) in
     let now : one_if_zero r ≡ 0 = cond-false (eqb r 0) 1 0 (ne_eqb r 0 (λ e. omega arith)) in
     omega arith
+
+-- the rounds so far: each found nonterminal has one below this
+pub record AreRoundsTo (g : PlainGrammar) (empties rounds : List ℕ) (round : ℕ) : Type 0 where
+  pub size : length rounds ≡ length empties
+  pub below : (a : ℕ) → HasEmpty empties (Nonterminal a) → get_or rounds a 0 < round
+  pub earlier : (a r : ℕ) (p : Production) → slice_get empties a ≡ Some r → 0 < r → IsRule g r p → All (IsFoundBefore rounds (get_or rounds a 0)) p.right
+
+module _ (g : PlainGrammar) (empties rounds : List ℕ) (round : ℕ) (is_true : AreTrue g empties) (is : AreRoundsTo g empties rounds round) (left r : ℕ) (p : Production) (number : IsRule g r p) (is_left : p.left ≡ left)
+    (none : slice_get empties left ≡ Some 0) (all : All (HasEmpty empties) p.right) where
+  -- a symbol that was found before isn't the new one
+  other_left : (b : ℕ) → HasEmpty empties (Nonterminal b) → b ≡ left → ⊥
+  other_left b h same = (let zero = same_Some h.0 0 (sym h.1 ∙ (ap (λ n. slice_get empties n) same ∙ none)) in let above = h.2 in omega arith)
+
+  before_round : (n : ℕ) (s : Symbol) → HasEmpty empties s → IsFoundBefore rounds n s → IsFoundBefore (set rounds left round) n s
+  before_round n (Token t) h found = tt
+  before_round n (Nonterminal b) h found = subst (λ m. m < n) (sym (get_or-set_other rounds left b round 0 (other_left b h))) found
+
+  found_here : (s : Symbol) → HasEmpty empties s → IsFoundBefore (set rounds left round) round s
+  found_here (Token t) h = tt
+  found_here (Nonterminal b) h = before_round round (Nonterminal b) h (is.below b h)
+
+  pub rounds_more : AreRoundsTo g (set empties left r) (set rounds left round) (round + 1)
+  rounds_more =
+      let within = slice_get_within empties left 0 none in
+      let size = is.size in
+      let here : get_or (set rounds left round) left 0 ≡ round = get_or-set_same rounds left round 0 (omega arith) in
+      record {
+        size = length-set rounds left round ∙ (is.size ∙ sym (length-set empties left r));
+        below = λ a h. elim (at_set_cases empties left a r h.0 h.1) [
+          | inl same ↦ (let e = ap (λ n. get_or (set rounds left round) n 0) same.0 ∙ here in omega arith)
+          | inr was ↦
+              let old = is.below a (h.0, was, h.2) in
+              let e = get_or-set_other rounds left a round 0 (other_left a (h.0, was, h.2)) in
+              omega arith
+        ];
+        earlier = λ a q t at above rule. elim (at_set_cases empties left a r q at) [
+          | inl same ↦
+              let one : p ≡ t = one_rule g r q p t same.1 number rule in
+              let first : All (IsFoundBefore (set rounds left round) round) p.right = All-weaker (HasEmpty empties) (IsFoundBefore (set rounds left round) round) found_here p.right all in
+              let round_is : get_or (set rounds left round) a 0 ≡ round = ap (λ n. get_or (set rounds left round) n 0) same.0 ∙ here in
+              subst (λ n. All (IsFoundBefore (set rounds left round) n) t.right) (sym round_is) (subst (λ (u : Production). All (IsFoundBefore (set rounds left round) round) u.right) one first)
+          | inr was ↦
+              let kept = is_true.rules a q was above in
+              let one : kept.rule ≡ t = one_rule g q q kept.rule t refl kept.number rule in
+              let empty : All (HasEmpty empties) t.right = subst (λ (u : Production). All (HasEmpty empties) u.right) one kept.all in
+              let before = is.earlier a q t was above rule in
+              let e = get_or-set_other rounds left a round 0 (other_left a (q, was, above)) in
+              subst (λ n. All (IsFoundBefore (set rounds left round) n) t.right) (sym e)
+              (λ k d lt. before_round (get_or rounds a 0) (get_or t.right k d) (empty k d lt) (before k d lt))
+        ];
+      }

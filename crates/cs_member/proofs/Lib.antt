@@ -18,3 +18,4 @@ pub mod Leading
 pub mod Backing
 pub mod Spelling
 pub mod Soundness
+pub mod Weighing

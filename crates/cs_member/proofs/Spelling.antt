@@ -1,11 +1,11 @@
 -- What tasks write: rule numbers, one after another.
-use Rattle.std.proofs.Common.{◌≡◌, ℕ, ◌+◌, ◌-◌, ◌≤◌, inl, inr, List, [], ◌∷◌, ◌++◌, Option, None, Some, length, take, drop, reverse, refl, sym, ap, ◌∙◌, subst, arith, append_assoc, append-nil}
-use Rattle.std.specs.Prelude.{All, slice_get}
+use Rattle.std.proofs.Common.{◌≡◌, ℕ, ◌+◌, ◌-◌, ◌≤◌, inl, inr, List, [], ◌∷◌, ◌++◌, Option, None, Some, length, take, drop, reverse, refl, sym, ap, ◌∙◌, subst, arith, append_assoc, append-nil, ◌<◌, ◌^◌}
+use Rattle.std.specs.Prelude.{All, slice_get, slice_index}
 use Rattle.std.specs.List.{slice_range}
 use Rattle.std.specs.Option.{option_to_list}
 use Rattle.std.proofs.Math.Seq.{take-append-add}
-use Rattle.std.proofs.lemmas.List.{length-take, length-take-le, take-append-drop, reverse-append, take_all, drop_all}
-use Rattle.std.proofs.lemmas.List.Elements.{All-nil, All-cons, All-append, All-head, All-tail}
+use Rattle.std.proofs.lemmas.List.{length-append, length-drop, length-take, length-take-le, take-append-drop, reverse-append, take_all, drop_all}
+use Rattle.std.proofs.lemmas.List.Elements.{All-nil, All-cons, All-append, All-head, All-tail, All-weaker}
 use Rattle.std.proofs.lemmas.Option.{slice_get_within, same_Some}
 use Rattle.cs_grammar.specs.declared.symbol.Symbol.{Symbol}
 use Rattle.cs_grammar.specs.declared.symbol.Symbol.TheVariants.{Token, Nonterminal}
@@ -23,9 +23,9 @@ use Rattle.cs_member.specs.declared.tables.Tables.{Tables}
 use Rattle.cs_member.specs.declared.writing.Task.{Task}
 use Rattle.cs_member.specs.declared.writing.Task.TheVariants.{Rule, Empty, Trees, Tree as TreeOf}
 use Rattle.cs_member.specs.Item.{Awaits, IsDone, IsFront, over}
-use Rattle.cs_member.specs.Tables.{AreEmpties, HasEmpty, IsKeptRule}
+use Rattle.cs_member.specs.Tables.{AreEmpties, AreRounds, HasEmpty, IsFoundBefore, IsKeptRule}
 use Rattle.cs_member.specs.Back.{HasChild, IsBack}
-use Rattle.cs_member.specs.Writing.{Between, AreTreesTo, Writes, WritesAll, IsTask, IsTaken, IsWhole, LeavesFront, empty_tasks, child_tasks}
+use Rattle.cs_member.specs.Writing.{Between, AreTreesTo, Writes, WritesAll, IsTask, IsAbove, IsTaken, IsTakenBelow, IsWhole, rank_of, LeavesFront, empty_tasks, child_tasks}
 use Rattle.std.proofs.lemmas.Bool.{cases_eq}
 use Rattle.cs_member.proofs.Places.{at_from_take, take_step, drop_step}
 use Rattle.cs_member.proofs.Entering.{kept_empty}
@@ -39,6 +39,9 @@ empty_tasks_push (Nonterminal a ∷ xs) s = ap (λ (l : List Task). Empty a ∷ 
 pub no_empty_task : (s : Symbol) → ((n : ℕ) → s ≡ Nonterminal n → ⊥) → empty_tasks (s ∷ []) ≡ []
 no_empty_task (Token t) never = refl
 no_empty_task (Nonterminal n) never = absurd (never n refl)
+
+range_short_enough : (xs : List Symbol) (a b : ℕ) → length xs ≤ 128 → length (slice_range xs a b) ≤ 128
+range_short_enough xs a b short = (let long = length-take (b - a) (drop a xs) in let rest = length-drop a xs in omega arith)
 
 -- the front of a list up to one place, and from there to another
 pub take_split : {X : Type 0} (xs : List X) (a b : ℕ) → a ≤ b → a ≤ length xs → take b xs ≡ take a xs ++ slice_range xs a b
@@ -90,6 +93,37 @@ module _ (g : PlainGrammar) (tokens : List ℕ) (chart : List Position) where
       All-cons (IsTask g tables chart) (Empty a) (empty_tasks xs) (All-head (HasEmpty tables.empties.items) (Nonterminal a) xs all)
       (empties_there tables xs (All-tail (HasEmpty tables.empties.items) (Nonterminal a) xs all))
 
+  pub empties_few : (xs : List Symbol) → length (empty_tasks xs) ≤ length xs
+  empties_few [] = omega arith
+  empties_few (Token t ∷ xs) = (let h = empties_few xs in omega arith)
+  empties_few (Nonterminal a ∷ xs) = (let h = empties_few xs in omega arith)
+
+  -- and their ranks
+  pub empties_lower : (rounds : List ℕ) (n limit : ℕ) (xs : List Symbol) → n + 1 ≤ limit → All (IsFoundBefore rounds n) xs → All (λ t. rank_of rounds t < limit) (empty_tasks xs)
+  empties_lower rounds n limit [] le all = All-nil (λ t. rank_of rounds t < limit)
+  empties_lower rounds n limit (Token t ∷ xs) le all = empties_lower rounds n limit xs le (All-tail (IsFoundBefore rounds n) (Token t) xs all)
+  empties_lower rounds n limit (Nonterminal a ∷ xs) le all =
+      let first = All-head (IsFoundBefore rounds n) (Nonterminal a) xs all in
+      All-cons (λ t. rank_of rounds t < limit) (Empty a) (empty_tasks xs) (omega arith) (empties_lower rounds n limit xs le (All-tail (IsFoundBefore rounds n) (Nonterminal a) xs all))
+
+  found_within_rounds : (empties rounds : List ℕ) (n : ℕ) → AreRounds g empties rounds → length empties ≤ n → (s : Symbol) → HasEmpty empties s → IsFoundBefore rounds n s
+  found_within_rounds empties rounds n is le (Token t) h = tt
+  found_within_rounds empties rounds n is le (Nonterminal b) h = (let low = is.below b h in omega arith)
+
+  -- any empty trees
+  pub any_lower : (empties rounds : List ℕ) (limit : ℕ) (xs : List Symbol) → AreRounds g empties rounds → length empties + 1 ≤ limit → All (HasEmpty empties) xs → All (λ t. rank_of rounds t < limit) (empty_tasks xs)
+  any_lower empties rounds limit xs is le all =
+      empties_lower rounds (length empties) limit xs le
+      (All-weaker (HasEmpty empties) (IsFoundBefore rounds (length empties)) (found_within_rounds empties rounds (length empties) is (omega arith)) xs all)
+
+  child_few : (at : ℕ) (child : Option ℕ) → length (child_tasks at child) ≤ 1
+  child_few at None = omega arith
+  child_few at (Some m) = omega arith
+
+  child_lower : (rounds : List ℕ) (at limit : ℕ) (child : Option ℕ) → IsAbove at child limit → All (λ t. rank_of rounds t < limit) (child_tasks at child)
+  child_lower rounds at limit None above = All-nil (λ t. rank_of rounds t < limit)
+  child_lower rounds at limit (Some m) above = All-cons (λ t. rank_of rounds t < limit) (TreeOf m at) [] (above.children m refl) (All-nil (λ t. rank_of rounds t < limit))
+
   -- a child behind trees, and empty trees behind that
   pub trees_joined : (x y : Item) (p : Production) (s : Symbol) (from k at : ℕ) (f : Forest) (t : Tree) (e : Forest) → IsRule g x.rule p → y.rule ≡ x.rule → slice_get p.right x.place ≡ Some s → x.place + 1 ≤ y.place
       → AreTreesTo g tokens x from k f → IsTree g s t → Between tokens k at (yield t) → AreTrees g (slice_range p.right (x.place + 1) y.place) e → yields e ≡ [] → AreTreesTo g tokens y from at (join f (Grown t e))
@@ -127,11 +161,11 @@ module _ (g : PlainGrammar) (tokens : List ℕ) (chart : List Position) where
       All-cons (IsTask g tables chart) (TreeOf m at) [] (h.0, h.2, slice_get_within h.0.spans.items m h.1 h.3) (All-nil (IsTask g tables chart))
 
   -- the tasks on the way back write the trees of what is found
-  pub back_taken : (tables : Tables) (grammar : IsGrammar g) (empties : AreEmpties g tables.empties.items) (p : Production) (from at : ℕ) (child : Option ℕ) (back : Back) (old new : List Task)
-      → IsBack g tokens chart at from child back → IsRule g back.found.rule p
+  pub back_taken : (tables : Tables) (grammar : IsGrammar g) (empties : AreEmpties g tables.empties.items) (rounds : AreRounds g tables.empties.items tables.rounds.items) (limit : ℕ) (p : Production) (from at : ℕ) (child : Option ℕ) (back : Back) (old new : List Task)
+      → IsAbove at child limit → IsBack g tokens chart at from child back → IsRule g back.found.rule p
       → new ≡ old ++ (Trees back.before from back.begin ∷ (child_tasks at child ++ empty_tasks (slice_range p.right (back.before.place + 1) back.found.place)))
-      → IsTaken g tokens tables chart (Trees back.found from at) None old new
-  back_taken tables grammar empties p from at child back old new is number grown =
+      → IsTakenBelow g tokens tables chart limit (Trees back.found from at) None old new
+  back_taken tables grammar empties rounds limit p from at child back old new above is number grown =
       let x = back.before in
       let y = back.found in
       let range = slice_range p.right (x.place + 1) y.place in
@@ -142,6 +176,20 @@ module _ (g : PlainGrammar) (tokens : List ℕ) (chart : List Position) where
       record {
         more = front ∷ behind;
         grown = grown;
+        few =
+            let range_few = empties_few range in
+            let range_short : length range ≤ 128 = range_short_enough p.right (x.place + 1) y.place (IsRuleOf-rule g x.rule p grammar first).short in
+            let one_child = child_few at child in
+            let both = length-append (child_tasks at child) (empty_tasks range) in
+            omega arith;
+        lower =
+            let size = empties.size in
+            let most = grammar.nonterminals in
+            let position = above.positions in
+            let earlier = is.earlier in
+            All-cons (λ t. rank_of tables.rounds.items t < limit) front behind (omega arith)
+            (All-append (λ t. rank_of tables.rounds.items t < limit) (child_tasks at child) (empty_tasks range) (child_lower tables.rounds.items at limit child above)
+            (any_lower tables.empties.items tables.rounds.items limit range rounds (omega arith) all));
         tasks = All-cons (IsTask g tables chart) front behind is.there
             (All-append (IsTask g tables chart) (child_tasks at child) (empty_tasks range) (child_there tables x back.begin at child is.awaits) (empties_there tables range all));
         writes = λ rules w.
@@ -170,10 +218,20 @@ module _ (g : PlainGrammar) (tokens : List ℕ) (chart : List Position) where
   front_there : (tables : Tables) (x : Item) (p : Production) → All (HasEmpty tables.empties.items) (take x.place p.right) → All (IsTask g tables chart) (Rule x.rule ∷ empty_tasks (take x.place p.right))
   front_there tables x p all = All-cons (IsTask g tables chart) (Rule x.rule) (empty_tasks (take x.place p.right)) tt (empties_there tables (take x.place p.right) all)
 
-  pub front_taken : (tables : Tables) (x : Item) (from at : ℕ) (old new : List Task) → (left : LeavesFront g x old new) → from ≡ at → All (HasEmpty tables.empties.items) (take x.place left.rule.right) → IsTaken g tokens tables chart (Trees x from at) None old new
-  front_taken tables x from at old new left here all = record {
+  front_few : (x : Item) (p : Production) → length p.right ≤ 128 → length (Rule x.rule ∷ empty_tasks (take x.place p.right)) ≤ 130
+  front_few x p short = (let few = empties_few (take x.place p.right) in let long = length-take x.place p.right in omega arith)
+
+  pub front_taken : (tables : Tables) (grammar : IsGrammar g) (empties : AreEmpties g tables.empties.items) (rounds : AreRounds g tables.empties.items tables.rounds.items) (x : Item) (from at : ℕ) (old new : List Task) → (left : LeavesFront g x old new) → from ≡ at → All (HasEmpty tables.empties.items) (take x.place left.rule.right) → IsTaken g tokens tables chart (Trees x from at) None old new
+  front_taken tables grammar empties rounds x from at old new left here all = record {
     more = Rule x.rule ∷ empty_tasks (take x.place left.rule.right);
     grown = left.grown;
+    few = front_few x left.rule (IsRuleOf-rule g x.rule left.rule grammar left.number).short;
+    lower =
+        let limit = rank_of tables.rounds.items (Trees x from at) in
+        let size = empties.size in
+        let most = grammar.nonterminals in
+        All-cons (λ t. rank_of tables.rounds.items t < limit) (Rule x.rule) (empty_tasks (take x.place left.rule.right)) (omega arith)
+        (any_lower tables.empties.items tables.rounds.items limit (take x.place left.rule.right) rounds (omega arith) all);
     tasks = front_there tables x left.rule all;
     writes = λ rules w.
         let f = front_written tables x left.rule all rules w in (
@@ -188,8 +246,8 @@ module _ (g : PlainGrammar) (tokens : List ℕ) (chart : List Position) where
         );
   }
 
-  pub empty_taken : (tables : Tables) (a : ℕ) (x : Item) (old new : List Task) → (left : LeavesFront g x old new) → IsKeptRule g tables.empties.items a x.rule → x.place ≡ length left.rule.right → IsTaken g tokens tables chart (Empty a) None old new
-  empty_taken tables a x old new left kept end =
+  pub empty_taken : (tables : Tables) (grammar : IsGrammar g) (rounds : AreRounds g tables.empties.items tables.rounds.items) (a : ℕ) (x : Item) (old new : List Task) → (left : LeavesFront g x old new) → slice_get tables.empties.items a ≡ Some x.rule → IsKeptRule g tables.empties.items a x.rule → x.place ≡ length left.rule.right → IsTaken g tokens tables chart (Empty a) None old new
+  empty_taken tables grammar rounds a x old new left at kept end =
       let one : kept.rule ≡ left.rule = one_rule g x.rule x.rule kept.rule left.rule refl kept.number left.number in
       let whole : take x.place left.rule.right ≡ left.rule.right = take_all x.place left.rule.right (omega arith) in
       let right : All (HasEmpty tables.empties.items) left.rule.right = subst (λ (q : Production). All (HasEmpty tables.empties.items) q.right) one kept.all in
@@ -198,6 +256,14 @@ module _ (g : PlainGrammar) (tokens : List ℕ) (chart : List Position) where
       record {
         more = Rule x.rule ∷ empty_tasks (take x.place left.rule.right);
         grown = left.grown;
+        few = front_few x left.rule (IsRuleOf-rule g x.rule left.rule grammar left.number).short;
+        lower =
+            let limit = rank_of tables.rounds.items (Empty a) in
+            let round = slice_index tables.rounds.items a in
+            let before : All (IsFoundBefore tables.rounds.items round) left.rule.right = rounds.earlier a x.rule left.rule at kept.number.above_zero left.number in
+            let front : All (IsFoundBefore tables.rounds.items round) (take x.place left.rule.right) = subst (λ (l : List Symbol). All (IsFoundBefore tables.rounds.items round) l) (sym whole) before in
+            All-cons (λ t. rank_of tables.rounds.items t < limit) (Rule x.rule) (empty_tasks (take x.place left.rule.right)) (omega arith)
+            (empties_lower tables.rounds.items round limit (take x.place left.rule.right) (omega arith) front);
         tasks = front_there tables x left.rule all;
         writes = λ rules w.
             let f = front_written tables x left.rule all rules w in
@@ -205,11 +271,13 @@ module _ (g : PlainGrammar) (tokens : List ℕ) (chart : List Position) where
       }
 
   -- the trees of a whole rule are the tree of a span
-  pub tree_taken : (tables : Tables) (x : Item) (n at : ℕ) (p : Position) (s : Span) (old new : List Task) → slice_get chart at ≡ Some p → slice_get p.spans.items n ≡ Some s → IsDone g x s.nonterminal
-      → IsTaken g tokens tables chart (Trees x s.from at) None old new → IsTaken g tokens tables chart (TreeOf n at) None old new
-  tree_taken tables x n at p s old new at_p at_s done taken = record {
+  pub tree_taken : (tables : Tables) (limit : ℕ) (x : Item) (n at : ℕ) (p : Position) (s : Span) (old new : List Task) → slice_get chart at ≡ Some p → slice_get p.spans.items n ≡ Some s → IsDone g x s.nonterminal
+      → IsTakenBelow g tokens tables chart limit (Trees x s.from at) None old new → IsTakenBelow g tokens tables chart limit (TreeOf n at) None old new
+  tree_taken tables limit x n at p s old new at_p at_s done taken = record {
     more = taken.more;
     grown = taken.grown;
+    few = taken.few;
+    lower = taken.lower;
     tasks = taken.tasks;
     writes = λ rules w.
         let h = taken.writes rules w in
@@ -305,6 +373,16 @@ nothing_popped (t ∷ ts) none = absurd (omega arith)
 pub no_tokens : (tokens : List ℕ) → length tokens ≡ 0 → tokens ≡ []
 no_tokens [] none = refl
 no_tokens (t ∷ ts) none = absurd (omega arith)
+
+-- a child's number is small
+pub child_small : (g : PlainGrammar) (tokens : List ℕ) (chart : List Position) (x : Item) (begin at m : ℕ) (child : Option ℕ) → HasChild g tokens chart x begin at child → child ≡ Some m → m < 2 ^ 63
+child_small g tokens chart x begin at m None h is = absurd cc
+child_small g tokens chart x begin at m (Some n) h is =
+    let lt = slice_get_within h.0.spans.items n h.1 h.3 in
+    let ok = h.0.spans.ok in
+    let small = h.0.spans.small in
+    let same = same_Some n m is in
+    omega arith
 
 -- the tree of the whole list
 module _ (g : PlainGrammar) (tokens : List ℕ) (tables : Tables) (chart : List Position) where

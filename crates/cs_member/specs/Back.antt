@@ -82,6 +82,7 @@ HasChild g tokens chart x begin at (Some m) =
 -- the item before stands where the child begins, and what is found is behind both
 pub record IsBack (g : PlainGrammar) (tokens : List ℕ) (chart : List Position) (at from : ℕ) (child : Option ℕ) (back : Back) : Type 0 where
   pub there : IsAt g chart back.before from back.begin
+  pub earlier : back.begin < at
   pub awaits : HasChild g tokens chart back.before back.begin at child
   pub past : IsPast g (over back.before) back.found
 

@@ -1,5 +1,5 @@
 -- What a grammar's tables say of it.
-use Rattle.std.specs.Prelude.{◌≡◌, ◌≤◌, ◌<◌, ◌+◌, ◌-◌, ℕ, List, Some, length, slice_get, All}
+use Rattle.std.specs.Prelude.{◌≡◌, ◌≤◌, ◌<◌, ◌+◌, ◌-◌, ℕ, List, Some, length, slice_get, slice_index, All}
 use Rattle.std.specs.Global.{Vec}
 use Rattle.cs_grammar.specs.declared.symbol.Symbol.{Symbol}
 use Rattle.cs_grammar.specs.declared.symbol.Symbol.TheVariants.{Token, Nonterminal}
@@ -35,6 +35,17 @@ pub record AreEmpties (g : PlainGrammar) (empties : List ℕ) : Type 0 where
   pub some : (a r : ℕ) → slice_get empties a ≡ Some r → 0 < r → IsEmpty g a
   pub rules : (a r : ℕ) → slice_get empties a ≡ Some r → 0 < r → IsKeptRule g empties a r
 
+-- the symbol is a token, or it was found before the round
+abbrev pub IsFoundBefore : List ℕ → ℕ → Symbol → Type 0
+IsFoundBefore rounds n (Token t) = Unit {0}
+IsFoundBefore rounds n (Nonterminal b) = slice_index rounds b < n
+
+-- the symbols of each rule that is kept were found before it
+pub record AreRounds (g : PlainGrammar) (empties rounds : List ℕ) : Type 0 where
+  pub size : length rounds ≡ length empties
+  pub below : (a : ℕ) → HasEmpty empties (Nonterminal a) → slice_index rounds a < length empties
+  pub earlier : (a r : ℕ) (p : Production) → slice_get empties a ≡ Some r → 0 < r → IsRule g r p → All (IsFoundBefore rounds (slice_index rounds a)) p.right
+
 -- the list has a place for the symbol
 abbrev pub IsWithin : ℕ → Symbol → Type 0
 IsWithin many (Token t) = Unit {0}
@@ -60,6 +71,7 @@ pub record AreFronts (g : PlainGrammar) (symbol_of : ℕ → Symbol) (last : ℕ
 pub record IsQuestion (g : PlainGrammar) (tables : Tables) : Type 0 where
   pub places : HasPlaces g tables.bases.items tables.items
   pub empties : AreEmpties g tables.empties.items
+  pub rounds : AreRounds g tables.empties.items tables.rounds.items
   pub tokens : AreFronts g Token g.tokens tables.tokens.items
   pub nonterminals : AreFronts g Nonterminal g.nonterminals tables.nonterminals.items
 

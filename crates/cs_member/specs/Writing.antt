@@ -1,5 +1,5 @@
 -- What tasks write of a derivation.
-use Rattle.std.specs.Prelude.{◌≡◌, ℕ, List, [], ◌∷◌, ◌++◌, Option, None, Some, All, slice_get, take, drop}
+use Rattle.std.specs.Prelude.{◌≡◌, ℕ, List, [], ◌∷◌, ◌++◌, Option, None, Some, All, slice_get, slice_index, take, drop, ◌+◌, ◌*◌, ◌^◌, ◌≤◌, ◌<◌, length}
 use Rattle.std.specs.Option.{option_to_list}
 use Rattle.cs_grammar.specs.declared.symbol.Symbol.{Symbol}
 use Rattle.cs_grammar.specs.declared.symbol.Symbol.TheVariants.{Token, Nonterminal}
@@ -58,12 +58,30 @@ empty_tasks [] = []
 empty_tasks (Token t ∷ xs) = empty_tasks xs
 empty_tasks (Nonterminal a ∷ xs) = Empty a ∷ empty_tasks xs
 
--- other tasks are left in place of this one, and what is written behind what they write
-pub record IsTaken (g : PlainGrammar) (tokens : List ℕ) (tables : Tables) (chart : List Position) (task : Task) (written : Option ℕ) (old new : List Task) : Type 0 where
+-- what a task leaves has lower ranks: earlier positions, spans that were found before, earlier rounds
+abbrev pub rank_of : List ℕ → Task → ℕ
+rank_of rounds (Rule r) = 0
+rank_of rounds (Empty a) = 1 + slice_index rounds a
+rank_of rounds (Trees x from at) = 2000 + at * 2 ^ 66 + 2 ^ 65
+rank_of rounds (TreeOf n at) = 2000 + at * 2 ^ 66 + n
+
+-- other tasks are left in place of this one, few and of ranks below a limit, and what is written behind what they write
+pub record IsTakenBelow (g : PlainGrammar) (tokens : List ℕ) (tables : Tables) (chart : List Position) (limit : ℕ) (task : Task) (written : Option ℕ) (old new : List Task) : Type 0 where
   pub more : List Task
   pub grown : new ≡ old ++ more
+  pub few : length more ≤ 130
+  pub lower : All (λ t. rank_of tables.rounds.items t < limit) more
   pub tasks : All (IsTask g tables chart) more
   pub writes : (rules : List ℕ) → WritesAll g tokens chart more rules → Writes g tokens chart task (rules ++ option_to_list written)
+
+-- the same, with ranks below the task's
+abbrev pub IsTaken : PlainGrammar → List ℕ → Tables → List Position → Task → Option ℕ → List Task → List Task → Type 0
+IsTaken g tokens tables chart task written old new = IsTakenBelow g tokens tables chart (rank_of tables.rounds.items task) task written old new
+
+-- the limit is above the ranks of what stands at earlier positions, and of the child up to this one
+pub record IsAbove (at : ℕ) (child : Option ℕ) (limit : ℕ) : Type 0 where
+  pub positions : 2000 + at * 2 ^ 66 ≤ limit
+  pub children : (m : ℕ) → child ≡ Some m → 2000 + at * 2 ^ 66 + m < limit
 
 -- tasks for a child
 abbrev pub child_tasks : ℕ → Option ℕ → List Task

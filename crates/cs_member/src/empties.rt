@@ -1,7 +1,7 @@
 // Nonterminals that have empty trees, and a least such tree of each.
 
-ghost use Rattle.std.specs.Prelude.{◌≡◌, ◌⊎◌, ◌↔◌, ◌+◌, Some, All, IsTrue, IsSome, IfOk, IfSome, IfNone, length};
-ghost use Rattle.cs_member.specs.Tables.{AreEmpties, AreTrue, IsSaturated, IsFurther, HasEmpty, IsWithin};
+ghost use Rattle.std.specs.Prelude.{◌≡◌, ◌⊎◌, ◌↔◌, ◌+◌, ℕ, Some, All, IsTrue, IsSome, IfOk, IfSome, IfNone, length, slice_get};
+ghost use Rattle.cs_member.specs.Tables.{AreEmpties, AreRounds, IsSaturated, IsFurther, HasEmpty, IsWithin};
 
 use cs_grammar::{Grammar, Symbol};
 use cs_numbers::number_of;
@@ -78,19 +78,46 @@ fn find_least(grammar: &Grammar, empties: &[u16], sizes: &[u64]) -> Option<Found
     least
 }
 
-// By nonterminal: the rule of a least empty tree, or 0 where it has no empty tree. Each round takes the least of what can be
-// made of those that are known (Knuth 1977, "A generalization of Dijkstra's algorithm").
-pub(crate) fn empties_of(alloc: Global, grammar: &Grammar) -> Result<Vec<u16>, AllocError>
-    ensures { IfOk result (λ empties. AreEmpties grammar.now empties.items) }
+// No rule for each of so many nonterminals.
+fn no_rules(alloc: Global, many: usize) -> Result<Vec<u16>, AllocError>
+    ensures size { IfOk result (λ rules. length rules.items ≡ many) }
+    ensures none { IfOk result (λ rules. (a r : ℕ) → slice_get rules.items a ≡ Some r → r ≡ 0) }
+{
+    let mut rules = Vec::with_capacity(alloc, many)?;
+    for _ in 0..many {
+        rules.push(0u16)?;
+    }
+    Ok(rules)
+}
+
+// What is known of nonterminals that have empty trees.
+#[derive(Debug, Drop)]
+pub(crate) struct Empties {
+    // By nonterminal: the rule of a least empty tree, or 0 where it has no empty tree.
+    pub(crate) rules: Vec<u16>,
+    // By nonterminal: the round in which that was found, later than those of the rule's symbols.
+    pub(crate) rounds: Vec<u16>,
+}
+
+// The nonterminals that have empty trees. Each round takes the least of what can be made of those that are known (Knuth 1977,
+// "A generalization of Dijkstra's algorithm").
+pub(crate) fn empties_of(alloc: Global, grammar: &Grammar) -> Result<Empties, AllocError>
+    ensures empties { IfOk result (λ empties. AreEmpties grammar.now empties.rules.items) }
+    ensures rounds { IfOk result (λ empties.
+        AreRounds grammar.now empties.rules.items empties.rounds.items) }
 {
     let _well_formed = grammar.rules();
     let many = grammar.nonterminals() as usize + 1;
-    let mut empties = vec![in alloc; 0u16; many]?;
+    let mut rules = no_rules(alloc, many)?;
+    let mut rounds = no_rules(alloc, many)?;
     let mut sizes = vec![in alloc; 0u64; many]?;
-    while let Some(found) = find_least(grammar, &empties, &sizes) {
+    let mut round = 0u16;
+    while let Some(found) = find_least(grammar, &rules, &sizes) {
         let left = grammar.rule(found.rule).left() as usize;
-        empties[left] = found.rule;
+        rules[left] = found.rule;
+        rounds[left] = round;
         sizes[left] = found.size;
+        round += 1;
     }
-    Ok(empties)
+    Ok(Empties { rules, rounds })
 }

@@ -12,8 +12,9 @@ use std::alloc::{AllocError, Global};
 // What membership needs to know of a grammar.
 #[derive(Debug, Drop)]
 pub(crate) struct Tables {
-    // By nonterminal: a rule of an empty tree, or 0.
+    // By nonterminal: a rule of an empty tree, or 0; and the round in which it was found.
     pub(crate) empties: Vec<u16>,
+    pub(crate) rounds: Vec<u16>,
     // By token, by nonterminal: where rules begin with it behind symbols that have empty trees.
     pub(crate) tokens: Vec<Vec<Front>>,
     pub(crate) nonterminals: Vec<Vec<Front>>,
@@ -43,10 +44,11 @@ impl Tables {
     {
         let _well_formed = grammar.rules();
         let empties = empties_of(alloc, grammar)?;
-        let fronts = fronts_of(alloc, grammar, &empties)?;
+        let fronts = fronts_of(alloc, grammar, &empties.rules)?;
         let (bases, items) = bases_of(alloc, grammar)?;
         Ok(Tables {
-            empties,
+            empties: empties.rules,
+            rounds: empties.rounds,
             tokens: fronts.tokens,
             nonterminals: fronts.nonterminals,
             corners: fronts.corners,

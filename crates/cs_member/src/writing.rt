@@ -1,6 +1,6 @@
 // The derivation of a list, written from its end by the way back through the chart.
 
-ghost use Rattle.std.specs.Prelude.{◌≡◌, ◌+◌, ◌++◌, None, Some, All, IfOk, OnOk, length, reverse};
+ghost use Rattle.std.specs.Prelude.{◌≡◌, ◌+◌, ◌++◌, ℕ, None, Some, All, IfOk, OnOk, length, reverse};
 ghost use Rattle.std.specs.Option.{option_to_list};
 ghost use Rattle.cs_grammar.specs.Grammar.{IsNumberOf};
 ghost use Rattle.cs_grammar.specs.declared.symbol.Symbol.TheVariants.{Nonterminal};
@@ -9,7 +9,7 @@ ghost use Rattle.cs_member.specs.Item.{IsItem};
 ghost use Rattle.cs_member.specs.Made.{IsTables, IsChart};
 ghost use Rattle.cs_member.specs.Tables.{HasEmpty};
 ghost use Rattle.cs_member.specs.Back.{IsAt, IsBack, IsChild};
-ghost use Rattle.cs_member.specs.Writing.{IsTask, IsTaken, LeavesFront, Writes, empty_tasks};
+ghost use Rattle.cs_member.specs.Writing.{IsAbove, IsTask, IsTaken, IsTakenBelow, LeavesFront, Writes, empty_tasks};
 
 use crate::back::{Back, Sought, find_by, find_way};
 use crate::chart::Position;
@@ -68,8 +68,10 @@ fn leave_back(
     requires tables { IsTables question.now.grammar.now question.now.tables.now }
     requires back { IsBack question.now.grammar.now question.now.tokens.now chart.now
         at from child back }
-    ensures { OnOk result (IsTaken question.now.grammar.now question.now.tokens.now
-        question.now.tables.now chart.now (Trees back.found from at) None tasks.old.items tasks.new.items) }
+    ensures { OnOk result ((limit : ℕ) → IsAbove at child limit
+        → IsTakenBelow question.now.grammar.now question.now.tokens.now
+        question.now.tables.now chart.now limit (Trees back.found from at) None
+        tasks.old.items tasks.new.items) }
 {
     let _well_formed = question.grammar.rules();
     tasks.push(Task::Trees {
@@ -98,6 +100,7 @@ fn take_empty(
     ensures { OnOk result (IsTaken question.now.grammar.now question.now.tokens.now
         question.now.tables.now chart.now (Empty nonterminal) None tasks.old.items tasks.new.items) }
 {
+    let _well_formed = question.grammar.rules();
     let rule = question.tables.empties[nonterminal as usize];
     let place = question.grammar.rule(rule).right().len() as u16;
     leave_front(question, tasks, Item { rule, place })?;
@@ -221,17 +224,11 @@ fn write_backwards(
 {
     let mut backwards = Vec::new(alloc);
     let mut tasks = vec![in alloc; task]?;
-    // No list needs so many rounds: what a task leaves is smaller than it, though no proof counts that.
-    'tasks: for _ in 0..u64::MAX {
-        match tasks.pop() {
-            None => return Ok(backwards),
-            Some(task) => {
-                let written = take_on(question, chart, &mut tasks, task)?;
-                push_written(&mut backwards, written)?;
-            }
-        }
+    while let Some(task) = tasks.pop() {
+        let written = take_on(question, chart, &mut tasks, task)?;
+        push_written(&mut backwards, written)?;
     }
-    Err(AllocError)
+    Ok(backwards)
 }
 
 // The rule numbers of a task.

@@ -17,7 +17,7 @@ slice_bounds-leave_empties-end c =
     omega arith
 
 pub returns : goal.returns
-returns c =
+returns c = λ limit above.
     let q = c.args.question.now in
     let g = q.grammar.now in
     let back = c.args.back in
@@ -36,5 +36,5 @@ returns c =
     ] in
     let rest : c.leave_empties.new.tasks.items ≡ mid ++ empty_tasks range =
     c.in_ok-leave_empties.ensures ∙ ap (λ (l : List Symbol). mid ++ empty_tasks (slice_range l (back.before.place + 1) back.found.place)) c.right-right.ensures in
-    back_taken g q.tokens.now c.args.chart.now q.tables.now c.rules-well_formed.ensures.well_formed c.requires.tables.question.empties p c.args.from c.args.at c.args.child back old c.leave_empties.new.tasks.items c.requires.back c.rule.ensures.rule
+    back_taken g q.tokens.now c.args.chart.now q.tables.now c.rules-well_formed.ensures.well_formed c.requires.tables.question.empties c.requires.tables.question.rounds limit p c.args.from c.args.at c.args.child back old c.leave_empties.new.tasks.items above c.requires.back c.rule.ensures.rule
     (back_grown old mid c.leave_empties.new.tasks.items (child_tasks c.args.at c.args.child) (empty_tasks range) front child rest)

@@ -36,4 +36,4 @@ returns c =
     let one : c.rule.result.now ≡ left.rule = one_rule q.grammar.now r r c.rule.result.now left.rule refl c.rule.ensures.rule left.number in
     let long : length c.right.result.now ≡ length left.rule.right = ap (λ (l : List Symbol). length l) c.right.ensures ∙ ap (λ (p : Production). length p.right) one in
     let item : Item = record { rule = r; place = length c.right.result.now } in
-    empty_taken q.grammar.now q.tokens.now c.args.chart.now q.tables.now a item c.args.tasks.now.items c.leave_front.new.tasks.items left kept long
+    empty_taken q.grammar.now q.tokens.now c.args.chart.now q.tables.now c.rules-well_formed.ensures.well_formed c.requires.tables.question.rounds a item c.args.tasks.now.items c.leave_front.new.tasks.items left at kept long

@@ -1,11 +1,12 @@
-use Rattle.std.proofs.Common.{◌≡◌, ℕ, get_or, Option, Some, length, take, refl, sym, ap, ◌∙◌, subst, arith}
+use Rattle.std.proofs.Common.{◌≡◌, ℕ, get_or, Option, Some, length, take, refl, sym, ap, ◌∙◌, subst, arith, ◌+◌, ◌*◌, ◌^◌}
 use Rattle.std.specs.Prelude.{slice_get}
 use Rattle.std.proofs.lemmas.Option.{slice_get_read, slice_get_within, same_Some}
 use Rattle.cs_member.specs.declared.chart.Position.{Position}
 use Rattle.cs_member.specs.Chart.{IsSpan}
 use Rattle.cs_member.specs.Back.{IsChild, NoneLeads, OfChild}
 use Rattle.cs_member.specs.declared.back.Sought.TheVariants.{End}
-use Rattle.cs_member.proofs.Backing.{span_at, span_child, span_way}
+use Rattle.cs_member.proofs.Backing.{cause_earlier, span_at, span_child, span_way}
+use Rattle.cs_member.specs.Writing.{IsAbove}
 use Rattle.cs_member.proofs.Spelling.{tree_taken}
 use Rattle.cs_member.proofs.writing.take_tree.Goals as goal
 
@@ -90,4 +91,9 @@ returns c =
     let below = child.2 in
     let at_s : slice_get here.spans.items c.args.number ≡ Some s = slice_get_read here.spans.items _ c.args.number s refl (omega arith) (c.index-span.ensures ∙ ap (λ (p : Position). get_or p.spans.items c.args.number s) (sym c.index-chart-at.is)) in
     let found = c.in-Some.ensures here at_here in
-    tree_taken g q.tokens.now chart q.tables.now c.in-Some.back.found c.args.number at here s c.args.tasks.now.items c.leave_back.new.tasks.items at_here at_s found.1 c.in_ok-leave_back-in-Some.ensures
+    let limit : ℕ = 2000 + at * 2 ^ 66 + c.args.number in
+    let above : IsAbove at c.child_of-child.result limit = record {
+      positions = omega arith;
+      children = λ m is. (let less = cause_earlier g q.tables.now q.tokens.now chart grammar c.requires.tables c.requires.chart at c.args.number m here s at_here at_s (sym c.child_of-child.ensures ∙ is) in omega arith);
+    } in
+    tree_taken g q.tokens.now chart q.tables.now limit c.in-Some.back.found c.args.number at here s c.args.tasks.now.items c.leave_back.new.tasks.items at_here at_s found.1 (c.in_ok-leave_back-in-Some.ensures limit above)

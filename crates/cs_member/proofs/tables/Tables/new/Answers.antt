@@ -12,7 +12,8 @@ returns c =
     record {
       question = record {
         places = c.in_ok-bases.ensures;
-        empties = c.in_ok-empties.ensures;
+        empties = c.in_ok-empties.ensures.empties;
+        rounds = c.in_ok-empties.ensures.rounds;
         tokens = tokens_are g grammar fronts is;
         nonterminals = nonterminals_are g grammar fronts is;
       };
