@@ -11,3 +11,4 @@ pub mod Made
 pub mod Back
 pub mod Membership
 pub mod Writing
+pub mod Asked

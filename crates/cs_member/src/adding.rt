@@ -1,16 +1,16 @@
 // Lists by number.
 
-ghost use Rattle.std.specs.Prelude.{◌≡◌, ◌+◌, ◌<◌, ℕ, [], Some, IfOk, OnOk, length, slice_get};
+ghost use Rattle.std.specs.Prelude.{◌≡◌, ◌+◌, ◌<◌, IfOk, OnOk, length};
 ghost use Rattle.std.specs.Global.{Vec};
 ghost use Rattle.cs_member.specs.Adding.{IsAdded};
+ghost use Rattle.cs_member.specs.Asked.{AreEmptyLists};
 
 use std::alloc::{AllocError, Global};
 
 // Lists for the numbers up to the last.
 pub(crate) fn no_lists<X: Drop>(alloc: Global, last: u16) -> Result<Vec<Vec<X>>, AllocError>
     ensures size { IfOk result (λ lists. length lists.items ≡ last + 1) }
-    ensures empty { IfOk result (λ lists. (n : ℕ) (list : Vec X)
-        → slice_get lists.items n ≡ Some list → list.items ≡ []) }
+    ensures empty { IfOk result (λ lists. AreEmptyLists lists.items) }
 {
     let many = last as usize + 1;
     let mut lists = Vec::with_capacity(alloc, many)?;

@@ -1,16 +1,16 @@
 // The way back: how an item was found.
 
-ghost use Rattle.std.specs.Prelude.{◌≡◌, ◌≤◌, ◌<◌, ◌+◌, ℕ, None, Some, All, MatchOption, length, slice_get, take};
+ghost use Rattle.std.specs.Prelude.{◌≤◌, ◌<◌, None, Some, All, length};
 ghost use Rattle.cs_grammar.specs.Grammar.{IsNumberOf};
-ghost use Rattle.cs_member.specs.Item.{IsItem, over as item_over};
+ghost use Rattle.cs_member.specs.Item.{IsItem};
 ghost use Rattle.cs_member.specs.Tables.{IsQuestion};
 ghost use Rattle.cs_member.specs.declared.item.Item.{Item};
 ghost use Rattle.cs_member.specs.declared.back.Sought.TheVariants.{Exactly};
 ghost use Rattle.cs_member.specs.declared.chart.Position.{Position};
-ghost use Rattle.cs_member.specs.declared.now.Span.{Span};
-ghost use Rattle.cs_member.specs.Chart.{IsRow, IsPosition, OfRows, OfScan, OfSpan};
-ghost use Rattle.cs_member.specs.Made.{IsTables, IsChart};
-ghost use Rattle.cs_member.specs.Back.{IsBefore, IsBehind, IsChild, IsFound, IsInRows, IsOfFronts, IsPlaceSought, IsSought, LeadsTo, Meets, NoneLeads, OfChild, OfSymbol, StandsBefore};
+ghost use Rattle.cs_member.specs.Chart.{IsRow, IsPosition};
+ghost use Rattle.cs_member.specs.Made.{IsTables};
+ghost use Rattle.cs_member.specs.Back.{IsChild, IsSought, StandsBefore};
+ghost use Rattle.cs_member.specs.Asked.{IsChartOf, FindsPlace, FindsLead, FindsRow, AreOver, FindsFront, FindsAt, FindsByToken, FindsBySpan, FindsBy, FindsWay};
 
 use crate::chart::{Position, Row};
 use crate::empties::have_empty;
@@ -40,8 +40,7 @@ pub(crate) struct Back {
 fn place_sought(grammar: &Grammar, rule: u16, sought: Sought) -> Option<usize>
     requires rule { IsNumberOf (length grammar.now.rules) rule }
     requires sought { IsSought grammar.now sought }
-    ensures { MatchOption result ((x : Item) → x.rule ≡ rule → Meets grammar.now sought x → ⊥)
-        (IsPlaceSought grammar.now sought rule) }
+    ensures { FindsPlace grammar.now sought rule result }
 {
     match sought {
         Sought::Exactly(item) => {
@@ -64,9 +63,7 @@ fn lead(question: &Question, first: Item, sought: Sought) -> Option<Item>
     requires question { IsQuestion question.now.grammar.now question.now.tables.now }
     requires first { IsItem question.now.grammar.now first }
     requires sought { IsSought question.now.grammar.now sought }
-    ensures { MatchOption result
-        (NoneLeads question.now.grammar.now sought (λ x. x ≡ first))
-        (LeadsTo question.now.grammar.now sought first) }
+    ensures { FindsLead question.now sought first result }
 {
     let _well_formed = question.grammar.rules();
     let place = place_sought(question.grammar, first.rule, sought)?;
@@ -92,10 +89,7 @@ fn find_row(
     requires question { IsQuestion question.now.grammar.now question.now.tables.now }
     requires rows { All (IsRow question.now.grammar.now) rows.now }
     requires sought { IsSought question.now.grammar.now sought }
-    ensures { MatchOption result
-        (NoneLeads question.now.grammar.now sought (λ x. OfRows rows.now x from))
-        (λ back. IsInRows rows.now from back.before × (back.begin ≡ begin)
-        × IsBehind question.now.grammar.now sought back) }
+    ensures { FindsRow question.now sought rows.now begin from result }
 {
     for row in rows {
         if has(&row.words, from) {
@@ -114,13 +108,9 @@ fn find_row(
 // The front that leads to what is sought.
 fn find_front(question: &Question, fronts: &[Front], begin: u16, sought: Sought) -> Option<Back>
     requires question { IsQuestion question.now.grammar.now question.now.tables.now }
-    requires fronts { All (λ f. IsItem question.now.grammar.now f.item
-        × (0 < f.item.place)) fronts.now }
+    requires fronts { AreOver question.now fronts.now }
     requires sought { IsSought question.now.grammar.now sought }
-    ensures { MatchOption result
-        (NoneLeads question.now.grammar.now sought (IsOfFronts fronts.now))
-        (λ back. IsOfFronts fronts.now (item_over back.before) × (back.begin ≡ begin)
-        × IsBehind question.now.grammar.now sought back) }
+    ensures { FindsFront question.now sought fronts.now begin result }
 {
     for front in fronts {
         if let Some(found) = lead(question, front.item, sought) {
@@ -152,14 +142,9 @@ fn find_at(
     requires question { IsQuestion question.now.grammar.now question.now.tables.now }
     requires position { IsPosition question.now.grammar.now begin position.now }
     requires bucket { bucket ≤ question.now.grammar.now.nonterminals }
-    requires fronts { All (λ f. IsItem question.now.grammar.now f.item
-        × (0 < f.item.place)) fronts.now }
+    requires fronts { AreOver question.now fronts.now }
     requires sought { IsSought question.now.grammar.now sought }
-    ensures { MatchOption result
-        (NoneLeads question.now.grammar.now sought
-        (OfSymbol position.now bucket fronts.now begin from))
-        (λ back. IsBefore position.now bucket fronts.now begin from back.before
-        × (back.begin ≡ begin) × IsBehind question.now.grammar.now sought back) }
+    ensures { FindsAt question.now sought position.now bucket fronts.now begin from result }
 {
     if from == begin {
         return find_front(question, fronts, begin, sought);
@@ -183,16 +168,11 @@ fn by_token(
 ) -> Option<Back>
     requires tables { IsTables question.now.grammar.now question.now.tables.now }
     requires tokens { All (IsNumberOf question.now.grammar.now.tokens) question.now.tokens.now }
-    requires chart { IsChart question.now.grammar.now question.now.tables.now
-        question.now.tokens.now (length question.now.tokens.now + 1) chart.now }
+    requires chart { IsChartOf question.now chart.now }
     requires first { 0 < at }
     requires last { at ≤ length question.now.tokens.now }
     requires sought { IsSought question.now.grammar.now sought }
-    ensures { MatchOption result
-        (NoneLeads question.now.grammar.now sought
-        (λ x. OfScan (take at chart.now) question.now.tables.now.tokens.items
-        question.now.tokens.now x from))
-        (IsFound question.now.grammar.now question.now.tokens.now chart.now sought at from None) }
+    ensures { FindsByToken question.now chart.now sought at from result }
 {
     let _well_formed = question.grammar.rules();
     let begin = at - 1;
@@ -219,16 +199,10 @@ fn by_span(
     sought: Sought,
 ) -> Option<Back>
     requires tables { IsTables question.now.grammar.now question.now.tables.now }
-    requires chart { IsChart question.now.grammar.now question.now.tables.now
-        question.now.tokens.now (length question.now.tokens.now + 1) chart.now }
+    requires chart { IsChartOf question.now chart.now }
     requires child { IsChild chart.now at (Some number) }
     requires sought { IsSought question.now.grammar.now sought }
-    ensures { (p : Position) (s : Span) → slice_get chart.now at ≡ Some p
-        → slice_get p.spans.items number ≡ Some s → MatchOption result
-        (NoneLeads question.now.grammar.now sought
-        (λ x. OfSpan (take at chart.now) question.now.tables.now.nonterminals.items s x from))
-        (IsFound question.now.grammar.now question.now.tokens.now chart.now sought at from
-        (Some number)) }
+    ensures { FindsBySpan question.now chart.now sought at number from result }
 {
     let _well_formed = question.grammar.rules();
     let span = chart[at as usize].spans[number];
@@ -256,17 +230,12 @@ pub(crate) fn find_by(
 ) -> Option<Back>
     requires tables { IsTables question.now.grammar.now question.now.tables.now }
     requires tokens { All (IsNumberOf question.now.grammar.now.tokens) question.now.tokens.now }
-    requires chart { IsChart question.now.grammar.now question.now.tables.now
-        question.now.tokens.now (length question.now.tokens.now + 1) chart.now }
+    requires chart { IsChartOf question.now chart.now }
     requires first { 0 < at }
     requires last { at ≤ length question.now.tokens.now }
     requires child { IsChild chart.now at child }
     requires sought { IsSought question.now.grammar.now sought }
-    ensures { (p : Position) → slice_get chart.now at ≡ Some p → MatchOption result
-        (NoneLeads question.now.grammar.now sought
-        (OfChild question.now.tables.now question.now.tokens.now (take at chart.now)
-        p.spans.items child from))
-        (IsFound question.now.grammar.now question.now.tokens.now chart.now sought at from child) }
+    ensures { FindsBy question.now chart.now sought at child from result }
 {
     match child {
         None => by_token(question, chart, at, from, sought),
@@ -291,12 +260,10 @@ pub(crate) fn find_way(
 ) -> WayBack
     requires tables { IsTables question.now.grammar.now question.now.tables.now }
     requires tokens { All (IsNumberOf question.now.grammar.now.tokens) question.now.tokens.now }
-    requires chart { IsChart question.now.grammar.now question.now.tables.now
-        question.now.tokens.now (length question.now.tokens.now + 1) chart.now }
+    requires chart { IsChartOf question.now chart.now }
     requires last { at ≤ length question.now.tokens.now }
     requires item { StandsBefore chart.now item from at }
-    ensures { IsFound question.now.grammar.now question.now.tokens.now chart.now (Exactly item)
-        at from result.child result.back }
+    ensures { FindsWay question.now chart.now item at from result }
 {
     let sought = Sought::Exactly(item);
     if let Some(back) = by_token(question, chart, at, from, sought) {

@@ -1,17 +1,16 @@
 // The chart: what is found at each position.
 
-ghost use Rattle.std.specs.Prelude.{◌≡◌, ◌≤◌, ◌<◌, ◌+◌, ℕ, [], None, Some, true, All, IfOk, OnOk, length, slice_get};
-ghost use Rattle.cs_member.specs.Item.{IsItem, IsNext};
+ghost use Rattle.std.specs.Prelude.{◌≡◌, ◌≤◌, ◌<◌, ◌+◌, [], None, Some, true, All, IfOk, OnOk, length, slice_get};
 ghost use Rattle.cs_grammar.specs.Grammar.{IsNumberOf};
 ghost use Rattle.cs_member.specs.declared.TheConstants.{MOST_LENGTH};
 ghost use Rattle.cs_member.specs.Tables.{IsQuestion};
 ghost use Rattle.std.specs.Global.{Vec};
 ghost use Rattle.cs_member.specs.declared.now.Span.{Span};
 ghost use Rattle.cs_member.specs.declared.chart.Row.{Row};
-ghost use Rattle.cs_member.specs.Now.{IsNow, AreHere, AreShort, ArePassed, ArePut};
-ghost use Rattle.cs_member.specs.Chart.{IsRow, OfRows, OfFronts, OfScan, OfSpan, AreBefore, AreCaused, ArePositions, Grows, IsFollowed, AreRows, bucket_of};
-ghost use Rattle.cs_member.specs.Made.{IsFrom, IsScanned, IsMade, IsChart};
-ghost use Rattle.cs_member.specs.Expecting.{AreMarked, Marks, AreCorners, AreAwaited, IsDescended};
+ghost use Rattle.cs_member.specs.Now.{IsNow, AreHere, AreShort};
+ghost use Rattle.cs_member.specs.Chart.{IsRow, OfRows, AreBefore, ArePositions, Grows, AreRows, bucket_of};
+ghost use Rattle.cs_member.specs.Expecting.{AreMarked, AreCorners, AreAwaited, IsDescended};
+ghost use Rattle.cs_member.specs.Asked.{IsChartOf, HasCorners, HasEach, ArePutBy, FollowsBegun, AreFrontsOf, ScanPuts, FollowPuts, AreCausedIn, AllFollowed, MarksIn, HasMarked, ExpectsStart, AreAwaitedOf, IsDescendedOf, AreRowsAt, AreAwaitedAt, ArePassedAt, IsScannedAt, IsFromAt, IsMadeAt};
 
 use crate::MOST_LENGTH;
 use crate::adding::{add_at, no_lists};
@@ -54,8 +53,7 @@ fn put_rows(
     requires rows { All (IsRow question.now.grammar.now) rows.now }
     ensures now { OnOk result (IsNow question.now.grammar.now now.new) }
     ensures guesses { OnOk result (length guesses.new ≡ question.now.tables.now.items) }
-    ensures put { OnOk result (ArePut question.now.grammar.now way.ahead way.cause
-        (OfRows rows.now) now.old now.new) }
+    ensures put { OnOk result (ArePutBy question.now way (OfRows rows.now) now.old now.new) }
 {
     for row in rows {
         put(
@@ -92,12 +90,10 @@ fn put_fronts(
     requires question { IsQuestion question.now.grammar.now question.now.tables.now }
     requires guesses { length guesses.old ≡ question.now.tables.now.items }
     requires expected { length begun.now.expected.now ≡ question.now.grammar.now.nonterminals + 1 }
-    requires fronts { All (λ f. IsItem question.now.grammar.now f.item
-        × (f.left ≤ question.now.grammar.now.nonterminals)) begun.now.fronts.now }
+    requires fronts { AreFrontsOf question.now begun.now.fronts.now }
     ensures now { OnOk result (IsNow question.now.grammar.now now.new) }
     ensures guesses { OnOk result (length guesses.new ≡ question.now.tables.now.items) }
-    ensures put { OnOk result (ArePut question.now.grammar.now way.ahead way.cause
-        (OfFronts begun.now.expected.now begun.now.fronts.now begun.now.from) now.old now.new) }
+    ensures put { OnOk result (ArePutBy question.now way (FollowsBegun begun.now) now.old now.new) }
 {
     let words = [word_of(begun.from)];
     for front in begun.fronts {
@@ -129,9 +125,7 @@ fn scan(
     ensures now { OnOk result (IsNow question.now.grammar.now now.new) }
     ensures guesses { OnOk result (length guesses.new ≡ question.now.tables.now.items) }
     ensures before { OnOk result (AreBefore question.now.grammar.now (length chart.now) now.new) }
-    ensures put { OnOk result (ArePut question.now.grammar.now ahead None
-        (OfScan chart.now question.now.tables.now.tokens.items question.now.tokens.now)
-        now.old now.new) }
+    ensures put { OnOk result (ScanPuts question.now ahead chart.now now.old now.new) }
 {
     let _well_formed = question.grammar.rules();
     let last = chart.len() - 1;
@@ -167,9 +161,7 @@ fn follow(
     ensures now { OnOk result (IsNow question.now.grammar.now now.new) }
     ensures guesses { OnOk result (length guesses.new ≡ question.now.tables.now.items) }
     ensures before { OnOk result (AreBefore question.now.grammar.now (length chart.now) now.new) }
-    ensures put { OnOk result ((s : Span) → slice_get now.old.spans.items number ≡ Some s
-        → ArePut question.now.grammar.now ahead (Some number)
-        (OfSpan chart.now question.now.tables.now.nonterminals.items s) now.old now.new) }
+    ensures put { OnOk result (FollowPuts question.now ahead number chart.now now.old now.new) }
 {
     let _well_formed = question.grammar.rules();
     let span = now.spans[number as usize];
@@ -213,11 +205,8 @@ fn complete(
     ensures guesses { OnOk result (length guesses.new ≡ question.now.tables.now.items) }
     ensures before { OnOk result (AreBefore question.now.grammar.now (length chart.now) now.new) }
     ensures grows { OnOk result (Grows question.now.grammar.now ahead now.old now.new) }
-    ensures caused { OnOk result (AreCaused question.now.grammar.now chart.now
-        question.now.tables.now.nonterminals.items now.old now.new) }
-    ensures followed { OnOk result ((n : ℕ) → n < length now.new.spans.items
-        → IsFollowed question.now.grammar.now ahead chart.now
-        question.now.tables.now.nonterminals.items now.new n) }
+    ensures caused { OnOk result (AreCausedIn question.now chart.now now.old now.new) }
+    ensures followed { OnOk result (AllFollowed question.now ahead chart.now now.new) }
 {
     for number in 0..u32::MAX {
         if number as usize >= now.spans.len() {
@@ -237,8 +226,7 @@ fn expect(
     requires marked { AreMarked expected.old.items pending.old.items }
     requires nonterminal { nonterminal < length expected.old.items }
     ensures marked { OnOk result (AreMarked expected.new.items pending.new.items) }
-    ensures marks { OnOk result (Marks expected.old.items pending.old.items
-        expected.new.items pending.new.items) }
+    ensures marks { OnOk result (MarksIn expected.old pending.old expected.new pending.new) }
     ensures is_marked { OnOk result (slice_get expected.new.items nonterminal ≡ Some true) }
 {
     if expected[nonterminal as usize] {
@@ -258,10 +246,8 @@ fn expect_each(
     requires marked { AreMarked expected.old.items pending.old.items }
     requires nonterminals { All (λ a. a < length expected.old.items) nonterminals.now }
     ensures marked { OnOk result (AreMarked expected.new.items pending.new.items) }
-    ensures marks { OnOk result (Marks expected.old.items pending.old.items
-        expected.new.items pending.new.items) }
-    ensures are_marked { OnOk result (All
-        (λ a. slice_get expected.new.items a ≡ Some true) nonterminals.now) }
+    ensures marks { OnOk result (MarksIn expected.old pending.old expected.new pending.new) }
+    ensures are_marked { OnOk result (HasMarked expected.new nonterminals.now) }
 {
     for nonterminal in nonterminals {
         expect(expected, pending, *nonterminal)?;
@@ -277,8 +263,7 @@ fn expect_corners(
 ) -> Result<(), AllocError>
     requires marked { AreMarked expected.old.items pending.old.items }
     requires corners { AreCorners (length expected.old.items) tables.now.corners.items }
-    ensures marks { OnOk result (Marks expected.old.items pending.old.items
-        expected.new.items pending.new.items) }
+    ensures marks { OnOk result (MarksIn expected.old pending.old expected.new pending.new) }
     ensures closed { OnOk result (IsDescended tables.now.corners.items expected.new.items) }
 {
     for number in 0..u32::MAX {
@@ -338,8 +323,7 @@ fn expect_awaited(
     requires size { length expected.old.items ≡ question.now.grammar.now.nonterminals + 1 }
     requires here { AreHere question.now.grammar.now origins.now }
     ensures marked { OnOk result (AreMarked expected.new.items pending.new.items) }
-    ensures marks { OnOk result (Marks expected.old.items pending.old.items
-        expected.new.items pending.new.items) }
+    ensures marks { OnOk result (MarksIn expected.old pending.old expected.new pending.new) }
     ensures awaited { OnOk result (AreAwaited question.now.grammar.now
         origins.now expected.new.items) }
 {
@@ -359,16 +343,11 @@ fn expected_of(
     first: bool,
 ) -> Result<Vec<bool>, AllocError>
     requires here { AreHere question.now.grammar.now origins.now }
-    requires corners { AreCorners (question.now.grammar.now.nonterminals + 1)
-        question.now.tables.now.corners.items }
-    ensures size { IfOk result (λ expected. length expected.items
-        ≡ question.now.grammar.now.nonterminals + 1) }
-    ensures first { IfOk result (λ expected. first ≡ true
-        → slice_get expected.items question.now.grammar.now.start ≡ Some true) }
-    ensures awaited { IfOk result (λ expected. AreAwaited question.now.grammar.now
-        origins.now expected.items) }
-    ensures closed { IfOk result (λ expected. IsDescended
-        question.now.tables.now.corners.items expected.items) }
+    requires corners { HasCorners question.now }
+    ensures size { IfOk result (λ expected. HasEach question.now expected.items) }
+    ensures first { IfOk result (λ expected. ExpectsStart question.now first expected.items) }
+    ensures awaited { IfOk result (λ expected. AreAwaitedOf question.now origins.now expected.items) }
+    ensures closed { IfOk result (λ expected. IsDescendedOf question.now expected.items) }
 {
     let _well_formed = question.grammar.rules();
     let mut expected = none_expected(alloc, question.grammar.nonterminals())?;
@@ -394,18 +373,12 @@ fn awaited(next: Next) -> u16
 // The position of what was found.
 fn settle(alloc: Global, question: &Question, now: Now, first: bool) -> Result<Position, AllocError>
     requires now { IsNow question.now.grammar.now now }
-    requires corners { AreCorners (question.now.grammar.now.nonterminals + 1)
-        question.now.tables.now.corners.items }
-    ensures rows { IfOk result (λ position. AreRows question.now.grammar.now
-        now.origins.items position.rows.items) }
-    ensures size { IfOk result (λ position. length position.expected.items
-        ≡ question.now.grammar.now.nonterminals + 1) }
-    ensures first { IfOk result (λ position. first ≡ true
-        → slice_get position.expected.items question.now.grammar.now.start ≡ Some true) }
-    ensures awaited { IfOk result (λ position. AreAwaited question.now.grammar.now
-        now.origins.items position.expected.items) }
-    ensures closed { IfOk result (λ position. IsDescended
-        question.now.tables.now.corners.items position.expected.items) }
+    requires corners { HasCorners question.now }
+    ensures rows { IfOk result (AreRowsAt question.now now) }
+    ensures size { IfOk result (λ position. HasEach question.now position.expected.items) }
+    ensures first { IfOk result (λ position. ExpectsStart question.now first position.expected.items) }
+    ensures awaited { IfOk result (AreAwaitedAt question.now now) }
+    ensures closed { IfOk result (λ position. IsDescendedOf question.now position.expected.items) }
     ensures spans { IfOk result (λ position. position.spans.items ≡ now.spans.items) }
 {
     let Now {
@@ -448,12 +421,9 @@ fn begin(
     ensures guesses { OnOk result (length guesses.new ≡ question.now.tables.now.items) }
     ensures now { IfOk result (IsNow question.now.grammar.now) }
     ensures before { IfOk result (AreBefore question.now.grammar.now (length chart.now)) }
-    ensures passed { IfOk result (ArePassed question.now.grammar.now
-        (slice_get question.now.tokens.now (length chart.now))) }
-    ensures scanned { IfOk result (IsScanned question.now.grammar.now question.now.tables.now
-        question.now.tokens.now chart.now) }
-    ensures from { IfOk result (IsFrom question.now.grammar.now question.now.tables.now
-        question.now.tokens.now chart.now) }
+    ensures passed { IfOk result (ArePassedAt question.now chart.now) }
+    ensures scanned { IfOk result (IsScannedAt question.now chart.now) }
+    ensures from { IfOk result (IsFromAt question.now chart.now) }
 {
     let mut now = Now::new(alloc, question.grammar)?;
     if chart.is_empty() {
@@ -472,16 +442,14 @@ fn make(
     guesses: &mut [usize],
 ) -> Result<Position, AllocError>
     requires question { IsQuestion question.now.grammar.now question.now.tables.now }
-    requires corners { AreCorners (question.now.grammar.now.nonterminals + 1)
-        question.now.tables.now.corners.items }
+    requires corners { HasCorners question.now }
     requires tokens { All (IsNumberOf question.now.grammar.now.tokens) question.now.tokens.now }
     requires length { length question.now.tokens.now ≤ MOST_LENGTH }
     requires guesses { length guesses.old ≡ question.now.tables.now.items }
     requires chart { ArePositions question.now.grammar.now chart.now }
     requires last { length chart.now ≤ length question.now.tokens.now }
     ensures guesses { OnOk result (length guesses.new ≡ question.now.tables.now.items) }
-    ensures made { IfOk result (IsMade question.now.grammar.now question.now.tables.now
-        question.now.tokens.now chart.now) }
+    ensures made { IfOk result (IsMadeAt question.now chart.now) }
 {
     let mut now = begin(alloc, question, chart, guesses)?;
     let ahead = token_at(question, chart.len());
@@ -497,13 +465,11 @@ fn positions_of(
     guesses: &mut [usize],
 ) -> Result<Vec<Position>, AllocError>
     requires question { IsQuestion question.now.grammar.now question.now.tables.now }
-    requires corners { AreCorners (question.now.grammar.now.nonterminals + 1)
-        question.now.tables.now.corners.items }
+    requires corners { HasCorners question.now }
     requires tokens { All (IsNumberOf question.now.grammar.now.tokens) question.now.tokens.now }
     requires length { length question.now.tokens.now ≤ MOST_LENGTH }
     requires guesses { length guesses.old ≡ question.now.tables.now.items }
-    ensures { IfOk result (λ chart. IsChart question.now.grammar.now question.now.tables.now
-        question.now.tokens.now (length question.now.tokens.now + 1) chart.items) }
+    ensures { IfOk result (λ chart. IsChartOf question.now chart.items) }
 {
     let mut chart: Vec<Position> = Vec::new(alloc);
     for _ in 0..question.tokens.len() + 1 {
@@ -516,12 +482,10 @@ fn positions_of(
 // The chart of a list of tokens.
 pub(crate) fn chart_of(alloc: Global, question: &Question) -> Result<Vec<Position>, AllocError>
     requires question { IsQuestion question.now.grammar.now question.now.tables.now }
-    requires corners { AreCorners (question.now.grammar.now.nonterminals + 1)
-        question.now.tables.now.corners.items }
+    requires corners { HasCorners question.now }
     requires tokens { All (IsNumberOf question.now.grammar.now.tokens) question.now.tokens.now }
     requires length { length question.now.tokens.now ≤ MOST_LENGTH }
-    ensures { IfOk result (λ chart. IsChart question.now.grammar.now question.now.tables.now
-        question.now.tokens.now (length question.now.tokens.now + 1) chart.items) }
+    ensures { IfOk result (λ chart. IsChartOf question.now chart.items) }
 {
     let mut guesses = vec![in alloc; 0usize; question.tables.items]?;
     let chart = positions_of(alloc, question, &mut guesses)?;

@@ -1,7 +1,8 @@
 // Nonterminals that have empty trees, and a least such tree of each.
 
 ghost use Rattle.std.specs.Prelude.{◌≡◌, ◌⊎◌, ◌↔◌, ◌+◌, ℕ, Some, All, IsTrue, IsSome, IfOk, IfSome, IfNone, length, slice_get};
-ghost use Rattle.cs_member.specs.Tables.{AreEmpties, AreRounds, IsSaturated, IsFurther, HasEmpty, IsWithin};
+ghost use Rattle.cs_member.specs.Tables.{AreEmpties, IsSaturated, IsFurther, HasEmpty, IsWithin};
+ghost use Rattle.cs_member.specs.Asked.{HasRounds};
 
 use cs_grammar::{Grammar, Symbol};
 use cs_numbers::number_of;
@@ -103,8 +104,7 @@ pub(crate) struct Empties {
 // "A generalization of Dijkstra's algorithm").
 pub(crate) fn empties_of(alloc: Global, grammar: &Grammar) -> Result<Empties, AllocError>
     ensures empties { IfOk result (λ empties. AreEmpties grammar.now empties.rules.items) }
-    ensures rounds { IfOk result (λ empties.
-        AreRounds grammar.now empties.rules.items empties.rounds.items) }
+    ensures rounds { IfOk result (HasRounds grammar.now) }
 {
     let _well_formed = grammar.rules();
     let many = grammar.nonterminals() as usize + 1;

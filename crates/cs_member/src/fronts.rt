@@ -1,8 +1,7 @@
 // What rules begin with behind symbols that have empty trees.
 
-ghost use Rattle.std.specs.Prelude.{◌≡◌, ◌+◌, ◌<◌, IfOk, OnOk, length};
+ghost use Rattle.std.specs.Prelude.{◌+◌, ◌<◌, IfOk, OnOk, length};
 ghost use Rattle.cs_grammar.specs.Grammar.{IsNumberOf};
-ghost use Rattle.cs_member.specs.Item.{Awaits, IsFront};
 ghost use Rattle.cs_member.specs.Tables.{AreEmpties};
 ghost use Rattle.cs_member.specs.Fronts.{AreEntered, CanEnter, Enters};
 

@@ -1,14 +1,13 @@
 // Whether lists of tokens are sentences.
 
-ghost use Rattle.std.specs.Prelude.{◌≡◌, ◌≤◌, ◌+◌, All, Some, IfOk, IfNone, IfSome, MatchOption, length, slice_get};
+ghost use Rattle.std.specs.Prelude.{◌≡◌, ◌≤◌, All, Some, IfOk, IfNone, IfSome, length};
 ghost use Rattle.cs_grammar.specs.Grammar.{IsNumberOf};
 ghost use Rattle.cs_grammar.specs.Sentence.{IsSentence};
 ghost use Rattle.cs_member.specs.declared.TheConstants.{MOST_LENGTH};
 ghost use Rattle.cs_member.specs.declared.now.Span.{Span};
-ghost use Rattle.cs_member.specs.Made.{IsTables, IsChart};
+ghost use Rattle.cs_member.specs.Made.{IsTables};
 ghost use Rattle.cs_member.specs.Membership.{IsMembership, TellsMembership};
-ghost use Rattle.cs_member.specs.Now.{SpansIn};
-ghost use Rattle.cs_member.specs.Writing.{IsWhole};
+ghost use Rattle.cs_member.specs.Asked.{IsChartOf, AsksSentence, FindsSpan, IsWholeOf};
 
 use crate::MOST_LENGTH;
 use crate::chart::{Position, chart_of};
@@ -28,9 +27,7 @@ pub enum Membership {
 
 // The number of a span of the nonterminal from the first position.
 fn find_span(spans: &[Span], nonterminal: u16) -> Option<usize>
-    ensures { MatchOption result (SpansIn spans.now nonterminal 0 → ⊥)
-        (λ n. (s : Span) × (slice_get spans.now n ≡ Some s)
-        × (s.nonterminal ≡ nonterminal) × (s.from ≡ 0)) }
+    ensures { FindsSpan spans.now nonterminal result }
 {
     for (number, span) in spans.iter().enumerate() {
         if span.nonterminal == nonterminal && span.from == 0 {
@@ -44,14 +41,11 @@ fn find_span(spans: &[Span], nonterminal: u16) -> Option<usize>
 fn whole(question: &Question, chart: &[Position]) -> Option<Task>
     requires tables { IsTables question.now.grammar.now question.now.tables.now }
     requires length { length question.now.tokens.now ≤ MOST_LENGTH }
-    requires chart { IsChart question.now.grammar.now question.now.tables.now
-        question.now.tokens.now (length question.now.tokens.now + 1) chart.now }
+    requires chart { IsChartOf question.now chart.now }
     ensures none { IfNone result
         (IsSentence question.now.grammar.now question.now.tokens.now → ⊥) }
-    ensures some { IfSome result (IsWhole question.now.grammar.now question.now.tokens.now
-        question.now.tables.now chart.now) }
-    ensures sentence { IfSome result (λ _.
-        IsSentence question.now.grammar.now question.now.tokens.now) }
+    ensures some { IfSome result (IsWholeOf question.now chart.now) }
+    ensures sentence { IfSome result (λ _. AsksSentence question.now) }
 {
     let _well_formed = question.grammar.rules();
     let start = question.grammar.start();

@@ -1,12 +1,12 @@
 // The position that is being made.
 
-ghost use Rattle.std.specs.Prelude.{◌≡◌, ◌≤◌, ◌<◌, ◌+◌, ◌++◌, ◌∷◌, ◌⊎◌, ℕ, [], Some, All, IfOk, OnOk, length, slice_get};
+ghost use Rattle.std.specs.Prelude.{◌≡◌, ◌≤◌, ◌<◌, ◌+◌, [], Some, All, IfOk, OnOk, length};
 ghost use Rattle.cs_member.specs.declared.now.Origins.{Origins};
-ghost use Rattle.cs_grammar.specs.Grammar.{PlainGrammar};
 ghost use Rattle.cs_member.specs.Item.{IsItem};
 ghost use Rattle.cs_member.specs.Tables.{IsQuestion};
-ghost use Rattle.cs_member.specs.Sets.{Has, InWord, InWords};
-ghost use Rattle.cs_member.specs.Now.{IsNow, Ends, Stood, AreShort, IsHere, AreHere, IsPut};
+ghost use Rattle.cs_member.specs.Sets.{InWord, InWords};
+ghost use Rattle.cs_member.specs.Now.{IsNow, Ends, Stood, AreShort};
+ghost use Rattle.cs_member.specs.Asked.{HoldsItem, MayAdd, StaysHere, KeepsHere, StoodAt, EndsIn, IsPutBy};
 
 use crate::item::{Item, Next, next_of, same};
 use crate::tables::Tables;
@@ -89,12 +89,9 @@ fn find(
 ) -> Result<usize, AllocError>
     requires { place < length guesses.old }
     ensures size { OnOk result (length guesses.new ≡ length guesses.old) }
-    ensures there { IfOk result (λ k. (o : Origins)
-        × (slice_get origins.new.items k ≡ Some o) × (o.item ≡ item)) }
-    ensures added { OnOk result ((origins.new.items ≡ origins.old.items)
-        ⊎ ((o : Origins) × (origins.new.items ≡ origins.old.items ++ o ∷ []) × (o.set.items ≡ []))) }
-    ensures items { OnOk result ((g : PlainGrammar) → IsHere g item
-        → AreHere g origins.old.items → AreHere g origins.new.items) }
+    ensures there { IfOk result (HoldsItem origins.new.items item) }
+    ensures added { OnOk result (MayAdd origins.old.items origins.new.items) }
+    ensures items { OnOk result (KeepsHere item origins.old.items origins.new.items) }
 {
     let guess = guesses[place];
     if guess < origins.len() && same(origins[guess].item, item) {
@@ -115,10 +112,8 @@ fn stand_at(origins: &mut Vec<Origins>, place: usize, words: &[Word]) -> Result<
     requires short { AreShort origins.old.items }
     requires words { All (λ word. word.at < 1024) words.now }
     ensures short { OnOk result (AreShort origins.new.items) }
-    ensures items { OnOk result ((g : PlainGrammar)
-        → AreHere g origins.old.items → AreHere g origins.new.items) }
-    ensures stood { OnOk result ((o : Origins) → slice_get origins.old.items place ≡ Some o
-        → Stood o.item (InWords words.now) origins.old.items origins.new.items) }
+    ensures items { OnOk result (StaysHere origins.old.items origins.new.items) }
+    ensures stood { OnOk result (StoodAt place words.now origins.old.items origins.new.items) }
 {
     add_all(&mut origins[place].set, words)?;
     Ok(())
@@ -138,8 +133,7 @@ fn stand(
     requires words { All (λ word. word.at < 1024) words.now }
     ensures size { OnOk result (length guesses.new ≡ length guesses.old) }
     ensures short { OnOk result (AreShort origins.new.items) }
-    ensures items { OnOk result ((g : PlainGrammar) → IsHere g item
-        → AreHere g origins.old.items → AreHere g origins.new.items) }
+    ensures items { OnOk result (KeepsHere item origins.old.items origins.new.items) }
     ensures stood { OnOk result (Stood item (InWords words.now)
         origins.old.items origins.new.items) }
 {
@@ -208,8 +202,7 @@ fn end(
     requires words { All (λ word. word.at < 1024) words.now }
     ensures now { OnOk result (IsNow grammar.now now.new) }
     ensures origins { OnOk result (now.new.origins.items ≡ now.old.origins.items) }
-    ensures ends { OnOk result (Ends left cause (InWords words.now)
-        now.old.spans.items now.new.spans.items) }
+    ensures ends { OnOk result (EndsIn left cause (InWords words.now) now.old now.new) }
 {
     for word in words {
         end_word(now, grammar, left, cause, *word)?;
@@ -241,8 +234,7 @@ pub(crate) fn put(
     requires words { All (λ word. word.at < 1024) words.now }
     ensures now { OnOk result (IsNow question.now.grammar.now now.new) }
     ensures guesses { OnOk result (length guesses.new ≡ question.now.tables.now.items) }
-    ensures put { OnOk result (IsPut question.now.grammar.now way.ahead way.cause first
-        (InWords words.now) now.old now.new) }
+    ensures put { OnOk result (IsPutBy question.now way first (InWords words.now) now.old now.new) }
 {
     let rule = question.grammar.rule(first.rule);
     for place in first.place as usize..rule.right().len() + 1 {

@@ -1,15 +1,16 @@
 // The derivation of a list, written from its end by the way back through the chart.
 
-ghost use Rattle.std.specs.Prelude.{◌≡◌, ◌+◌, ◌++◌, ℕ, None, Some, All, IfOk, OnOk, length, reverse};
+ghost use Rattle.std.specs.Prelude.{◌≡◌, ◌+◌, ◌++◌, None, Some, All, IfOk, OnOk, reverse};
 ghost use Rattle.std.specs.Option.{option_to_list};
 ghost use Rattle.cs_grammar.specs.Grammar.{IsNumberOf};
 ghost use Rattle.cs_grammar.specs.declared.symbol.Symbol.TheVariants.{Nonterminal};
 ghost use Rattle.cs_member.specs.declared.writing.Task.TheVariants.{Empty, Trees, Tree as TreeOf};
 ghost use Rattle.cs_member.specs.Item.{IsItem};
-ghost use Rattle.cs_member.specs.Made.{IsTables, IsChart};
+ghost use Rattle.cs_member.specs.Made.{IsTables};
 ghost use Rattle.cs_member.specs.Tables.{HasEmpty};
-ghost use Rattle.cs_member.specs.Back.{IsAt, IsBack, IsChild};
-ghost use Rattle.cs_member.specs.Writing.{IsAbove, IsTask, IsTaken, IsTakenBelow, LeavesFront, Writes, empty_tasks};
+ghost use Rattle.cs_member.specs.Back.{IsAt, IsChild};
+ghost use Rattle.cs_member.specs.Writing.{IsTask, LeavesFront, empty_tasks};
+ghost use Rattle.cs_member.specs.Asked.{IsChartOf, IsBackOf, WritesOf, Takes, TakesBack};
 
 use crate::back::{Back, Sought, find_by, find_way};
 use crate::chart::Position;
@@ -66,12 +67,8 @@ fn leave_back(
     back: Back,
 ) -> Result<(), AllocError>
     requires tables { IsTables question.now.grammar.now question.now.tables.now }
-    requires back { IsBack question.now.grammar.now question.now.tokens.now chart.now
-        at from child back }
-    ensures { OnOk result ((limit : ℕ) → IsAbove at child limit
-        → IsTakenBelow question.now.grammar.now question.now.tokens.now
-        question.now.tables.now chart.now limit (Trees back.found from at) None
-        tasks.old.items tasks.new.items) }
+    requires back { IsBackOf question.now chart.now at from child back }
+    ensures { OnOk result (TakesBack question.now chart.now from at child back tasks.old tasks.new) }
 {
     let _well_formed = question.grammar.rules();
     tasks.push(Task::Trees {
@@ -97,8 +94,7 @@ fn take_empty(
 ) -> Result<(), AllocError>
     requires tables { IsTables question.now.grammar.now question.now.tables.now }
     requires empty { HasEmpty question.now.tables.now.empties.items (Nonterminal nonterminal) }
-    ensures { OnOk result (IsTaken question.now.grammar.now question.now.tokens.now
-        question.now.tables.now chart.now (Empty nonterminal) None tasks.old.items tasks.new.items) }
+    ensures { OnOk result (Takes question.now chart.now (Empty nonterminal) None tasks.old tasks.new) }
 {
     let _well_formed = question.grammar.rules();
     let rule = question.tables.empties[nonterminal as usize];
@@ -118,11 +114,9 @@ fn take_trees(
 ) -> Result<(), AllocError>
     requires tables { IsTables question.now.grammar.now question.now.tables.now }
     requires tokens { All (IsNumberOf question.now.grammar.now.tokens) question.now.tokens.now }
-    requires chart { IsChart question.now.grammar.now question.now.tables.now
-        question.now.tokens.now (length question.now.tokens.now + 1) chart.now }
+    requires chart { IsChartOf question.now chart.now }
     requires item { IsAt question.now.grammar.now chart.now item from at }
-    ensures { OnOk result (IsTaken question.now.grammar.now question.now.tokens.now
-        question.now.tables.now chart.now (Trees item from at) None tasks.old.items tasks.new.items) }
+    ensures { OnOk result (Takes question.now chart.now (Trees item from at) None tasks.old tasks.new) }
 {
     let _well_formed = question.grammar.rules();
     if from == at {
@@ -154,11 +148,9 @@ fn take_tree(
 ) -> Result<(), AllocError>
     requires tables { IsTables question.now.grammar.now question.now.tables.now }
     requires tokens { All (IsNumberOf question.now.grammar.now.tokens) question.now.tokens.now }
-    requires chart { IsChart question.now.grammar.now question.now.tables.now
-        question.now.tokens.now (length question.now.tokens.now + 1) chart.now }
+    requires chart { IsChartOf question.now chart.now }
     requires tree { IsChild chart.now at (Some number) }
-    ensures { OnOk result (IsTaken question.now.grammar.now question.now.tokens.now
-        question.now.tables.now chart.now (TreeOf number at) None tasks.old.items tasks.new.items) }
+    ensures { OnOk result (Takes question.now chart.now (TreeOf number at) None tasks.old tasks.new) }
 {
     let _well_formed = question.grammar.rules();
     let span = chart[at as usize].spans[number];
@@ -182,11 +174,9 @@ fn take_on(
 ) -> Result<Option<u16>, AllocError>
     requires tables { IsTables question.now.grammar.now question.now.tables.now }
     requires tokens { All (IsNumberOf question.now.grammar.now.tokens) question.now.tokens.now }
-    requires chart { IsChart question.now.grammar.now question.now.tables.now
-        question.now.tokens.now (length question.now.tokens.now + 1) chart.now }
+    requires chart { IsChartOf question.now chart.now }
     requires task { IsTask question.now.grammar.now question.now.tables.now chart.now task }
-    ensures { IfOk result (λ written. IsTaken question.now.grammar.now question.now.tokens.now
-        question.now.tables.now chart.now task written tasks.old.items tasks.new.items) }
+    ensures { IfOk result (λ written. Takes question.now chart.now task written tasks.old tasks.new) }
 {
     match task {
         Task::Rule(rule) => return Ok(Some(rule)),
@@ -216,11 +206,9 @@ fn write_backwards(
 ) -> Result<Vec<u16>, AllocError>
     requires tables { IsTables question.now.grammar.now question.now.tables.now }
     requires tokens { All (IsNumberOf question.now.grammar.now.tokens) question.now.tokens.now }
-    requires chart { IsChart question.now.grammar.now question.now.tables.now
-        question.now.tokens.now (length question.now.tokens.now + 1) chart.now }
+    requires chart { IsChartOf question.now chart.now }
     requires task { IsTask question.now.grammar.now question.now.tables.now chart.now task }
-    ensures { IfOk result (λ rules. Writes question.now.grammar.now question.now.tokens.now
-        chart.now task (reverse rules.items)) }
+    ensures { IfOk result (λ rules. WritesOf question.now chart.now task (reverse rules.items)) }
 {
     let mut backwards = Vec::new(alloc);
     let mut tasks = vec![in alloc; task]?;
@@ -240,11 +228,9 @@ pub(crate) fn write(
 ) -> Result<Derivation, AllocError>
     requires tables { IsTables question.now.grammar.now question.now.tables.now }
     requires tokens { All (IsNumberOf question.now.grammar.now.tokens) question.now.tokens.now }
-    requires chart { IsChart question.now.grammar.now question.now.tables.now
-        question.now.tokens.now (length question.now.tokens.now + 1) chart.now }
+    requires chart { IsChartOf question.now chart.now }
     requires task { IsTask question.now.grammar.now question.now.tables.now chart.now task }
-    ensures { IfOk result (λ rules. Writes question.now.grammar.now question.now.tokens.now
-        chart.now task rules) }
+    ensures { IfOk result (λ rules. WritesOf question.now chart.now task rules) }
 {
     let mut rules = write_backwards(alloc, question, chart, task)?;
     rules.reverse();
