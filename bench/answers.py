@@ -32,7 +32,7 @@ MAIN = """\
 use cs_goals::{Criteria, Goal, Goals, fits_goal};
 use cs_grammar::Weights;
 use cs_io::{Desk, DeskError, FolderDesk};
-use cs_positive::{Tables, Verdict, judge};
+use cs_verdicts::{Tables, Verdict, judge};
 use cs_yacc::{MOST_BYTES, YaccFile, read_yacc};
 use std::alloc::Global;
 use std::{env, io};

@@ -12,7 +12,7 @@ import tempfile
 
 from measure import Bounds, least, program_of
 
-LIBRARIES = "cs_lexeme cs_scan cs_automaton cs_lex cs_yacc cs_io cs_grammar cs_pattern_tree"
+LIBRARIES = "cs_scanner cs_lex cs_yacc cs_io cs_grammar cs_pattern_parts"
 
 MAIN = """\
 //! Makes the automaton of the yacc file and the lex file that its first two arguments name, and as often as there are words
@@ -21,11 +21,9 @@ MAIN = """\
 
 ghost use Rattle.std.specs.Prelude.{◌≡◌, length};
 
-use cs_automaton::{Automaton, AutomatonError};
 use cs_io::{Desk, FolderDesk};
 use cs_lex::{LexFile, read_lex};
-use cs_lexeme::Lexemes;
-use cs_scan::Scanner;
+use cs_scanner::{Automaton, AutomatonError, Lexemes, Scanner};
 use cs_yacc::{MOST_BYTES, YaccFile, read_yacc};
 use std::alloc::Global;
 use std::{env, io};

@@ -12,20 +12,19 @@ import tempfile
 
 from measure import Bounds, least, program_of
 
-LIBRARIES = "cs_scan cs_automaton cs_pattern cs_pattern_tree cs_io"
+LIBRARIES = "cs_scanner cs_pattern cs_pattern_parts cs_io"
 
 MAIN = """\
 //! Reads the two patterns in its arguments, makes their automaton, and scans the files that are named behind.
 #![tactic(auto)]
 
 ghost use Rattle.std.specs.Prelude.{◌≤◌, IfOk, map};
-ghost use Rattle.cs_pattern_tree.specs.Pattern.{leaves, regex};
-ghost use Rattle.cs_pattern_tree.specs.Scannable.{AreScannable, IsScannable};
+ghost use Rattle.cs_pattern_parts.specs.Tree.Pattern.{leaves, regex};
+ghost use Rattle.cs_pattern_parts.specs.Tree.Scannable.{AreScannable, IsScannable};
 
-use cs_automaton::Automaton;
 use cs_io::{Desk, FolderDesk};
 use cs_pattern::{Definitions, MOST_BYTES, Pattern, PatternError, read_pattern};
-use cs_scan::longest;
+use cs_scanner::{Automaton, longest};
 use std::alloc::Global;
 use std::{env, io};
 

@@ -12,22 +12,19 @@ import subprocess
 
 from measure import Bounds, program_of
 
-LIBRARIES = "cs_render_work cs_fan cs_render cs_lexeme cs_scan cs_automaton cs_lex cs_yacc cs_grammar cs_pattern_tree"
+LIBRARIES = "cs_texts cs_fan cs_scanner cs_lex cs_yacc cs_grammar cs_pattern_parts"
 
 MAIN = """\
 //! Renders 10,000 lists of 1,000 tokens by as many workers as its argument says, and times them.
 #![tactic(auto)]
 
 ghost use Rattle.std.specs.Prelude.{◌≡◌, ◌<◌, ◌≤◌, All, IfOk, IfSome, length, replicate};
-ghost use Rattle.cs_render_work.specs.Renders.{TakesTokens};
+ghost use Rattle.cs_texts.specs.Work.Renders.{TakesTokens};
 
-use cs_automaton::{Automaton, AutomatonError};
 use cs_fan::{Counter, OpenGate, fan};
 use cs_lex::{LexFile, MOST_BYTES, read_lex};
-use cs_lexeme::Lexemes;
-use cs_render::Rendered;
-use cs_render_work::RenderWork;
-use cs_scan::Scanner;
+use cs_scanner::{Automaton, AutomatonError, Lexemes, Scanner};
+use cs_texts::{RenderWork, Rendered};
 use cs_yacc::read_yacc;
 use std::alloc::{AllocError, Global};
 use std::thread::Threads;
@@ -189,8 +186,8 @@ mod Takes
 use Rattle.std.proofs.Common.{◌≡◌, ◌<◌, ◌≤◌, List, ℕ, length, replicate, arith, sym, subst}
 use Rattle.std.proofs.lemmas.List.{length-replicate}
 use Rattle.std.proofs.lemmas.List.Elements.{All-replicate}
-use Rattle.cs_render_work.specs.Renders.{TakesTokens}
-use Rattle.cs_render_work.specs.declared.work.RenderWork.{RenderWork}
+use Rattle.cs_texts.specs.Work.Renders.{TakesTokens}
+use Rattle.cs_texts.specs.declared.work.work.RenderWork.{RenderWork}
 
 pub takes : (work : RenderWork) (tokens : List ℕ) (count : ℕ) → length work.lexemes.now ≡ 4 → count ≤ 1000 → tokens ≡ replicate count 1 → TakesTokens work tokens
 takes work tokens count four few ones =
@@ -200,7 +197,7 @@ takes work tokens count four few ones =
 """,
     "proofs/lists/Answers.antt": """\
 use Rattle.std.proofs.lemmas.List.Elements.{All-push}
-use Rattle.cs_render_work.specs.Renders.{TakesTokens}
+use Rattle.cs_texts.specs.Work.Renders.{TakesTokens}
 use Rattle.bench_program.proofs.lists.Goals as goal
 
 pub loop-preserved : goal.loop-preserved
@@ -209,7 +206,7 @@ loop-preserved c =
 """,
     "proofs/lists/Invariants.antt": """\
 use Rattle.std.proofs.Common.{All}
-use Rattle.cs_render_work.specs.Renders.{TakesTokens}
+use Rattle.cs_texts.specs.Work.Renders.{TakesTokens}
 use Rattle.bench_program.proofs.lists.Given as goal
 
 abbrev pub invariant-loop : goal.invariant-loop

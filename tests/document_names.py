@@ -20,6 +20,7 @@ def texts(*patterns):
 
 
 def crate_text(crate):
+    crate = crate.partition("::")[0]
     return texts(f"crates/{crate}/src/**/*.rt", f"crates/{crate}/specs/**/*.antt")
 
 
@@ -139,8 +140,8 @@ def cited_text(folder):
 def citing_failures(page):
     """The rows of modules of definitions, with the crates that cite them, that aren't so."""
     for row in tables(read(page)):
-        for module in re.findall(r"`(\w+\.specs\.\w+)`", row[0]):
-            listed, found = set(CODE.findall(row[1])), citing(module)
+        for module in re.findall(r"`(\w+\.specs\.\w+(?:\.\w+)?)`", row[0]):
+            listed, found = {code.partition("::")[0] for code in CODE.findall(row[1])}, citing(module)
             yield from (f"{page}: {crate} cites {module}, or is said to" for crate in sorted(listed ^ found))
 
 
@@ -152,7 +153,8 @@ def needs():
 
 def crates_of(page):
     """The crates in the first cells of a page's tables, in order."""
-    return [code for row in tables(read(page)) for code in CODE.findall(row[0]) if code in needs()]
+    heads = [code.partition("::")[0] for row in tables(read(page)) for code in CODE.findall(row[0])]
+    return [crate for crate in reversed(dict.fromkeys(reversed(heads))) if crate in needs()]
 
 
 def order_failures(page, left_out):

@@ -7,7 +7,7 @@ QUESTIONS = [
     ("Where is the rule for the longest spelling of an item defined?", {
         DESIGN: [
             "| an item of a yacc file is the longest spelling |",
-            "`BeginsItem` | `crates/cs_yacc_items/specs/Items.antt`",
+            "`BeginsItem` | `crates/cs_yacc/specs/Items/Items.antt`",
         ],
     }),
     ("Where is that implemented?", {DESIGN: ["| an item of a yacc file is the longest spelling | `front_at` |"]}),
@@ -33,13 +33,13 @@ QUESTIONS = [
         DEFINITIONS: ["It is `Large` where one does and each that does is larger than the limit of the weights."],
     }),
     ("Where is a command added?", {
-        CONTRIBUTING: ["## To add a command", "`crates/cs_words/specs/Commands.antt`"],
+        CONTRIBUTING: ["## To add a command", "`crates/cs_run/specs/Words/Commands.antt`"],
     }),
     ("Where is a directive added?", {
-        CONTRIBUTING: ["## To add a directive of the yacc file", "`crates/cs_yacc_items/specs/Directives.antt`"],
+        CONTRIBUTING: ["## To add a directive of the yacc file", "`crates/cs_yacc/specs/Items/Directives.antt`"],
     }),
     ("What is proved again then?", {
-        CONTRIBUTING: ["Proved again are `cs_words`,", "Proved again are these two crates"],
+        CONTRIBUTING: ["Proved again are `cs_run::words`,", "Proved again are these two crates"],
     }),
     ("What does the error output hold after a failing write?", {
         FORMATS: ["the error output then holds a beginning of the line, perhaps none of it"],
@@ -58,7 +58,7 @@ QUESTIONS = [
         ],
     }),
     ("How is a bug planted?", {
-        CONTRIBUTING: ["## To plant a bug", "`rt must-fail cs_numbers` tries those of the crate"],
+        CONTRIBUTING: ["## To plant a bug", "`rt must-fail cs_grammar` tries those of the crate"],
     }),
     ("What is an edit?", {
         DEFINITIONS: ["An edit deletes a token, inserts one, replaces one or exchanges two neighbours"],
@@ -74,7 +74,7 @@ QUESTIONS = [
         CLAIMS: ["## Trusted", "- The Rattle toolchain, the C library and the operating system."],
     }),
     ("Where is a lexeme's leastness?", {
-        DESIGN: ["| a lexeme is the least text | `Lexemes::new` |", "`crates/cs_lexeme/specs/Lexeme.antt`"],
+        DESIGN: ["| a lexeme is the least text | `Lexemes::new` |", "`crates/cs_scanner/specs/Lexeme/Lexeme.antt`"],
     }),
     ("Where is its tie-break?", {
         DESIGN: [

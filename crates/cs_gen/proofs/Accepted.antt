@@ -3,10 +3,10 @@ use Rattle.std.proofs.Common.{◌≡◌, ℕ, ◌*◌, ◌≤◌, List, [], ◌�
 use Rattle.std.specs.Prelude.{codes}
 use Rattle.std.specs.List.{AllByRecursion, flat_map}
 use Rattle.std.proofs.lemmas.List.{length-map}
-use Rattle.cs_yacc_items.specs.Items.{items_of}
-use Rattle.cs_yacc_items.specs.Table.{IsTaken}
-use Rattle.cs_yacc.specs.Meaning.{file_with, parts_of}
-use Rattle.cs_yacc.specs.Reading.{IsYaccFile, IsAccepted}
+use Rattle.cs_yacc.specs.Items.Items.{items_of}
+use Rattle.cs_yacc.specs.Items.Table.{IsTaken}
+use Rattle.cs_yacc.specs.Reading.Meaning.{file_with, parts_of}
+use Rattle.cs_yacc.specs.Reading.Reading.{IsYaccFile, IsAccepted}
 use Rattle.cs_gen.specs.declared.symbol.Symbol.{Symbol}
 use Rattle.cs_gen.specs.declared.symbol.Symbol.TheVariants.{Token, Nonterminal}
 use Rattle.cs_gen.specs.Rules.{Line, lines}

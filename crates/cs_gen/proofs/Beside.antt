@@ -1,11 +1,11 @@
 -- The generated lex file is accepted beside each yacc file, and has few sets of positions.
 use Rattle.std.proofs.Common.{◌≡◌, List, sym, ap, subst, ◌∙◌}
-use Rattle.cs_automaton.specs.Counted.{IsAbove}
-use Rattle.cs_automaton.specs.Meaning.{res}
-use Rattle.cs_automaton.specs.Places.{InSet}
-use Rattle.cs_pattern_tree.specs.Pattern.{Regex}
-use Rattle.cs_lex.specs.File.{File}
-use Rattle.cs_lex.proofs.OneFile.{one_file}
+use Rattle.cs_scanner.specs.Automaton.Counted.{IsAbove}
+use Rattle.cs_scanner.specs.Automaton.Meaning.{res}
+use Rattle.cs_scanner.specs.Automaton.Places.{InSet}
+use Rattle.cs_pattern_parts.specs.Tree.Pattern.{Regex}
+use Rattle.cs_lex.specs.Reading.File.{File}
+use Rattle.cs_lex.proofs.OnReading.OneFile.{one_file}
 use Rattle.cs_gen.specs.Boundary.{IsAcceptedBesideAll, HasFewSets}
 use Rattle.cs_gen.specs.Texts.{up_to, lex_text}
 use Rattle.cs_gen.proofs.LexAccepted.{patterns_of, numbers_few, lex_accepted}

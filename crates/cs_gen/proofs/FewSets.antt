@@ -7,17 +7,17 @@ use Rattle.std.proofs.lemmas.Bool.Decides.{nat_tests}
 use Rattle.std.proofs.lemmas.List.{length-map}
 use Rattle.cs_bytes.specs.Classes.{is_digit}
 use Rattle.cs_bytes.proofs.Fronts.{and_true}
-use Rattle.cs_pattern_items.specs.Members.{picked}
-use Rattle.cs_pattern_items.specs.Spelling.{one_byte}
-use Rattle.cs_pattern_items.proofs.Picked.{has_picked, has_picked_above, contains-has, has-contains}
-use Rattle.cs_pattern_postfix.specs.Grammar.{piece_parts}
-use Rattle.cs_pattern_postfix.specs.Depth.{pattern_of}
-use Rattle.cs_pattern_tree.specs.Pattern.{Regex, Empty}
-use Rattle.cs_automaton.specs.Counted.{HaveOneSet, IsAbove}
-use Rattle.cs_automaton.specs.Meaning.{re, cat_of, res}
-use Rattle.cs_automaton.specs.Places.{Place, letters, with_places, any_of, whole, Itself, HasByte, ReadEach, InSet}
-use Rattle.cs_automaton.specs.Re.{Re, letter, Parts, no_parts, one_more, Spells}
-use Rattle.cs_automaton.proofs.Numbers.{few_numbers}
+use Rattle.cs_pattern_parts.specs.Items.Members.{picked}
+use Rattle.cs_pattern_parts.specs.Items.Spelling.{one_byte}
+use Rattle.cs_pattern_parts.proofs.OnItems.Picked.{has_picked, has_picked_above, contains-has, has-contains}
+use Rattle.cs_pattern.specs.Operations.Grammar.{piece_parts}
+use Rattle.cs_pattern.specs.Operations.Depth.{pattern_of}
+use Rattle.cs_pattern_parts.specs.Tree.Pattern.{Regex, Empty}
+use Rattle.cs_scanner.specs.Automaton.Counted.{HaveOneSet, IsAbove}
+use Rattle.cs_scanner.specs.Automaton.Meaning.{re, cat_of, res}
+use Rattle.cs_scanner.specs.Automaton.Places.{Place, letters, with_places, any_of, whole, Itself, HasByte, ReadEach, InSet}
+use Rattle.cs_scanner.specs.Automaton.Re.{Re, letter, Parts, no_parts, one_more, Spells}
+use Rattle.cs_scanner.proofs.OnAutomaton.Numbers.{few_numbers}
 use Rattle.cs_gen.proofs.TokenPatterns.{tree_of, branch_of, spacing, is_spacing, spacing_tree}
 use Rattle.cs_gen.proofs.LexAccepted.{patterns_of, AreFew}
 use Rattle.cs_gen.proofs.Digits.{decimal_passes, short_decimal}

@@ -2,8 +2,8 @@
 use Rattle.std.proofs.Common.{ℕ, zero, suc, ◌≤◌, List, [], ◌∷◌, map, sym, subst, arith}
 use Rattle.std.proofs.lemmas.List.{map_push}
 use Rattle.std.specs.List.{AllByRecursion}
-use Rattle.cs_yacc_items.specs.declared.directive.Directive.TheVariants as directives
-use Rattle.cs_yacc_items.specs.Items.{Item, mark, directive, name, colon, semicolon, bar}
+use Rattle.cs_yacc.specs.declared.items.directive.Directive.TheVariants as directives
+use Rattle.cs_yacc.specs.Items.Items.{Item, mark, directive, name, colon, semicolon, bar}
 use Rattle.cs_gen.specs.declared.symbol.Symbol.{Symbol}
 use Rattle.cs_gen.specs.declared.symbol.Symbol.TheVariants.{Token, Nonterminal}
 use Rattle.cs_gen.specs.Rules.{Line}

@@ -8,10 +8,10 @@ use Rattle.std.proofs.lemmas.List.{drop-drop, drop_at, take_at, length-drop}
 use Rattle.cs_bytes.specs.Classes.{is_white_space}
 use Rattle.cs_bytes.specs.Places.{front}
 use Rattle.cs_bytes.proofs.Runs.{run-stops}
-use Rattle.cs_yacc_items.specs.Bytes.{begins_name, is_name_byte}
-use Rattle.cs_yacc_items.specs.declared.directive.Directive.TheVariants as directives
-use Rattle.cs_yacc_items.specs.Items.{Item, mark, directive, name, colon, semicolon, bar, BeginsItem, IsKnown, IsGap, nothing, blank, Placed, items_of, Follows, Reached, marks_behind, ReadsTo, ReadingEnds, at_end, Reads}
-use Rattle.cs_yacc_items.proofs.Begin.{begins_colon, begins_semicolon, begins_bar, name_is, mark_is, directive_is}
+use Rattle.cs_yacc.specs.Items.Bytes.{begins_name, is_name_byte}
+use Rattle.cs_yacc.specs.declared.items.directive.Directive.TheVariants as directives
+use Rattle.cs_yacc.specs.Items.Items.{Item, mark, directive, name, colon, semicolon, bar, BeginsItem, IsKnown, IsGap, nothing, blank, Placed, items_of, Follows, Reached, marks_behind, ReadsTo, ReadingEnds, at_end, Reads}
+use Rattle.cs_yacc.proofs.OnItems.Begin.{begins_colon, begins_semicolon, begins_bar, name_is, mark_is, directive_is}
 use Rattle.cs_gen.specs.declared.symbol.Symbol.{Symbol}
 use Rattle.cs_gen.specs.declared.symbol.Symbol.TheVariants.{Token, Nonterminal}
 use Rattle.cs_gen.specs.Rules.{Line, lines}

@@ -9,31 +9,31 @@ use Rattle.std.proofs.lemmas.List.{get_or-append_right}
 use Rattle.cs_bytes.specs.Classes.{is_word_byte, is_space, is_newline}
 use Rattle.cs_bytes.specs.Places.{front_or_end}
 use Rattle.cs_bytes.proofs.Fronts.{and_true}
-use Rattle.cs_lex_layout.specs.Runs.{IsPiece}
-use Rattle.cs_pattern_tree.specs.declared.kind.Kind.{Kind}
-use Rattle.cs_pattern_tree.specs.declared.kind.Kind.TheVariants.{Token, Foreign, Skip}
-use Rattle.cs_pattern_tree.specs.Pattern.{Regex, leaves}
-use Rattle.cs_pattern.specs.Answers.{IsPatternOf}
-use Rattle.cs_pattern_items.specs.ByteKind.{is_plain}
-use Rattle.cs_pattern_postfix.specs.Depth.{pattern_of}
-use Rattle.cs_yacc.specs.declared.name.TokenName.{TokenName}
-use Rattle.cs_yacc.specs.declared.name.TokenName.TheVariants.{Word, Byte}
-use Rattle.cs_yacc.specs.Meaning.{same_spelling}
-use Rattle.cs_yacc.specs.File as tokens
-use Rattle.cs_yacc.specs.File.{IsNamed}
-use Rattle.cs_yacc.proofs.Gathering.{same_is, same_self}
-use Rattle.cs_lex_layout.specs.declared.parts.Rule.{Rule}
-use Rattle.cs_lex_layout.specs.declared.unit.UnitKind.TheVariants.{Plain}
-use Rattle.cs_lex_layout.specs.Steps.{here, step}
-use Rattle.cs_lex_layout.specs.Patterns.{unit_kind, UnitOf, IsUnit, IsBracket}
-use Rattle.cs_lex_layout.specs.Layout.{HasDefinitions, HasRules}
-use Rattle.cs_lex_kinds.specs.Kinds.{skip, word, bar, IsKind}
-use Rattle.cs_lex.specs.File.{File}
-use Rattle.cs_lex.specs.Kinds.{action_of, HasKind, HaveKinds}
-use Rattle.cs_lex.specs.Patterns.{HavePatterns, positions}
-use Rattle.cs_lex.specs.Reading.{IsLast, IsLexFile}
-use Rattle.cs_lex.specs.Tokens.{GivesName, in_use, not_in_use, IsEntry, AreLiterals}
-use Rattle.cs_lex.specs.Tokens as entries
+use Rattle.cs_lex.specs.Layout.Runs.{IsPiece}
+use Rattle.cs_pattern_parts.specs.declared.tree.kind.Kind.{Kind}
+use Rattle.cs_pattern_parts.specs.declared.tree.kind.Kind.TheVariants.{Token, Foreign, Skip}
+use Rattle.cs_pattern_parts.specs.Tree.Pattern.{Regex, leaves}
+use Rattle.cs_pattern.specs.Text.Answers.{IsPatternOf}
+use Rattle.cs_pattern_parts.specs.Items.ByteKind.{is_plain}
+use Rattle.cs_pattern.specs.Operations.Depth.{pattern_of}
+use Rattle.cs_yacc.specs.declared.reading.name.TokenName.{TokenName}
+use Rattle.cs_yacc.specs.declared.reading.name.TokenName.TheVariants.{Word, Byte}
+use Rattle.cs_yacc.specs.Reading.Meaning.{same_spelling}
+use Rattle.cs_yacc.specs.Reading.File as tokens
+use Rattle.cs_yacc.specs.Reading.File.{IsNamed}
+use Rattle.cs_yacc.proofs.OnReading.Gathering.{same_is, same_self}
+use Rattle.cs_lex.specs.declared.layout.parts.Rule.{Rule}
+use Rattle.cs_lex.specs.declared.layout.unit.UnitKind.TheVariants.{Plain}
+use Rattle.cs_lex.specs.Layout.Steps.{here, step}
+use Rattle.cs_lex.specs.Layout.Patterns.{unit_kind, UnitOf, IsUnit, IsBracket}
+use Rattle.cs_lex.specs.Layout.Layout.{HasDefinitions, HasRules}
+use Rattle.cs_lex.specs.Actions.Kinds.{skip, word, bar, IsKind}
+use Rattle.cs_lex.specs.Reading.File.{File}
+use Rattle.cs_lex.specs.Reading.Kinds.{action_of, HasKind, HaveKinds}
+use Rattle.cs_lex.specs.Reading.Patterns.{HavePatterns, positions}
+use Rattle.cs_lex.specs.Reading.Reading.{IsLast, IsLexFile}
+use Rattle.cs_lex.specs.Reading.Tokens.{GivesName, in_use, not_in_use, IsEntry, AreLiterals}
+use Rattle.cs_lex.specs.Reading.Tokens as entries
 use Rattle.cs_gen.specs.declared.symbol.Symbol.TheVariants as symbols
 use Rattle.cs_gen.specs.Texts.{up_to, name, token_rule, lex_text}
 use Rattle.cs_gen.proofs.Digits.{decimal_passes, short_decimal, numbers_below}

@@ -6,15 +6,15 @@ use Rattle.std.proofs.lemmas.Bool.{false≢true, cases_lt}
 use Rattle.std.proofs.lemmas.Bool.Decides.{nat_tests}
 use Rattle.std.proofs.lemmas.List.{map_push, length-map}
 use Rattle.std.proofs.lemmas.List.Elements.{All-nil, All-cons, All-head, All-tail, All-append, All-map, All-filter}
-use Rattle.cs_yacc.specs.declared.name.TokenName.{TokenName}
-use Rattle.cs_yacc.specs.declared.name.TokenName.TheVariants.{Word}
-use Rattle.cs_yacc.specs.declared.error.YaccLimit.{YaccLimit}
-use Rattle.cs_yacc.specs.declared.error.YaccLimit.TheVariants.{Tokens, Nonterminals, Rules, RightSide}
-use Rattle.cs_yacc_items.specs.declared.directive.Directive.TheVariants as directives
-use Rattle.cs_yacc_items.specs.Items.{Item, mark, directive, name, colon, semicolon, bar, Placed, items_of}
-use Rattle.cs_yacc.specs.Meaning.{same_spelling, has_spelling, distinct, from_each, first_at, begins_with_colon, is_mark, behind_mark, is_start, behind_start, is_prec, is_prec_before, is_idle, with_meaning_behind, with_meaning, listed, declared_at, declared, error_spelling, declared_tokens, left_sides, body, bodies, SpelledRule, rules_of, rules_at, rules, is_kept, kept, nonterminals, used, is_in_use, spelled, tokens, file_with, is_token_on_left, is_undefined, first_undefined, name_fault, above, long_right, limit_passed, parts_of, outcome}
-use Rattle.cs_yacc.proofs.Counts.{few_nonterminals, few_rules}
-use Rattle.cs_yacc.proofs.Gathering.{same_self, has_distinct}
+use Rattle.cs_yacc.specs.declared.reading.name.TokenName.{TokenName}
+use Rattle.cs_yacc.specs.declared.reading.name.TokenName.TheVariants.{Word}
+use Rattle.cs_yacc.specs.declared.reading.error.YaccLimit.{YaccLimit}
+use Rattle.cs_yacc.specs.declared.reading.error.YaccLimit.TheVariants.{Tokens, Nonterminals, Rules, RightSide}
+use Rattle.cs_yacc.specs.declared.items.directive.Directive.TheVariants as directives
+use Rattle.cs_yacc.specs.Items.Items.{Item, mark, directive, name, colon, semicolon, bar, Placed, items_of}
+use Rattle.cs_yacc.specs.Reading.Meaning.{same_spelling, has_spelling, distinct, from_each, first_at, begins_with_colon, is_mark, behind_mark, is_start, behind_start, is_prec, is_prec_before, is_idle, with_meaning_behind, with_meaning, listed, declared_at, declared, error_spelling, declared_tokens, left_sides, body, bodies, SpelledRule, rules_of, rules_at, rules, is_kept, kept, nonterminals, used, is_in_use, spelled, tokens, file_with, is_token_on_left, is_undefined, first_undefined, name_fault, above, long_right, limit_passed, parts_of, outcome}
+use Rattle.cs_yacc.proofs.OnReading.Counts.{few_nonterminals, few_rules}
+use Rattle.cs_yacc.proofs.OnReading.Gathering.{same_self, has_distinct}
 use Rattle.cs_gen.specs.declared.symbol.Symbol.{Symbol}
 use Rattle.cs_gen.specs.declared.symbol.Symbol.TheVariants.{Token, Nonterminal}
 use Rattle.cs_gen.specs.Rules.{Line}

@@ -4,16 +4,16 @@ use Rattle.std.specs.List.{AllByRecursion, list_all}
 use Rattle.std.proofs.lemmas.List.{drop-drop, drop_at, take_at}
 use Rattle.cs_bytes.specs.Places.{line_size}
 use Rattle.cs_bytes.proofs.Fronts.{and_true}
-use Rattle.cs_lex_layout.specs.declared.parts.Rule.{Rule}
-use Rattle.cs_lex_layout.specs.declared.line.LineKind.TheVariants as kinds
-use Rattle.cs_lex_layout.specs.Steps.{Walk, here, step, Spans, Covers}
-use Rattle.cs_lex_layout.specs.Lines.{rules_kind}
-use Rattle.cs_lex_layout.specs.Patterns.{IsPattern}
-use Rattle.cs_lex_layout.specs.Runs.{IsRun}
-use Rattle.cs_lex_layout.specs.Forms.{blanks, IsRule}
-use Rattle.cs_lex_layout.specs.Layout.{rule_at, HasRuleAt, RulesLine, rule}
-use Rattle.cs_lex.specs.Kinds.{action_of}
-use Rattle.cs_lex.specs.Patterns.{pattern_of}
+use Rattle.cs_lex.specs.declared.layout.parts.Rule.{Rule}
+use Rattle.cs_lex.specs.declared.layout.line.LineKind.TheVariants as kinds
+use Rattle.cs_lex.specs.Layout.Steps.{Walk, here, step, Spans, Covers}
+use Rattle.cs_lex.specs.Layout.Lines.{rules_kind}
+use Rattle.cs_lex.specs.Layout.Patterns.{IsPattern}
+use Rattle.cs_lex.specs.Layout.Runs.{IsRun}
+use Rattle.cs_lex.specs.Layout.Forms.{blanks, IsRule}
+use Rattle.cs_lex.specs.Layout.Layout.{rule_at, HasRuleAt, RulesLine, rule}
+use Rattle.cs_lex.specs.Reading.Kinds.{action_of}
+use Rattle.cs_lex.specs.Reading.Patterns.{pattern_of}
 
 -- the texts of a rule's pattern and action
 pub record RuleText : Type 0 where

@@ -1,7 +1,7 @@
 -- The table takes the items of the generated yacc file.
 use Rattle.std.proofs.Common.{List, [], ◌∷◌, refl, drop}
-use Rattle.cs_yacc_items.specs.Items.{Item, mark, semicolon}
-use Rattle.cs_yacc_items.specs.Table.{Place, list, entry, rules, left, body, named, closed, Row, TakesTo, IsTaken}
+use Rattle.cs_yacc.specs.Items.Items.{Item, mark, semicolon}
+use Rattle.cs_yacc.specs.Items.Table.{Place, list, entry, rules, left, body, named, closed, Row, TakesTo, IsTaken}
 use Rattle.cs_gen.specs.declared.symbol.Symbol.{Symbol}
 use Rattle.cs_gen.specs.declared.symbol.Symbol.TheVariants.{Nonterminal}
 use Rattle.cs_gen.specs.Rules.{Line}

@@ -17,17 +17,17 @@ use Rattle.cs_ctext.specs.Blocks.{IsPart, other}
 use Rattle.cs_ctext.specs.Words.{word_at, HasWords}
 use Rattle.cs_ctext.specs.Words as text_words
 use Rattle.cs_ctext.proofs.PartSizes.{opens-comment, opens-slash}
-use Rattle.cs_lex_layout.specs.Steps.{here, step}
-use Rattle.cs_lex_layout.specs.Runs as runs
-use Rattle.cs_lex_layout.specs.Runs.{ends_part, IsPiece}
-use Rattle.cs_lex_kinds.specs.Gaps.{byte, IsGap, IsSign}
-use Rattle.cs_lex_kinds.specs.Returns.{IsNamed, spelled, Returns}
-use Rattle.cs_lex_kinds.specs.Returns as named
-use Rattle.cs_lex_kinds.specs.Marks.{IsUnmarked, HasNoMark}
-use Rattle.cs_lex_kinds.specs.Kinds.{skip, word, bar, IsBar, text_of, has_foreign, returns_of, IsKindByWords, no_return, one_return, IsKind, by_words}
-use Rattle.cs_lex_kinds.proofs.BarsFound.{no_bar_sign}
-use Rattle.cs_lex_kinds.proofs.GapEnds.{no_sign, no_spacing_at}
-use Rattle.cs_lex_kinds.proofs.OneKind.{one_kind}
+use Rattle.cs_lex.specs.Layout.Steps.{here, step}
+use Rattle.cs_lex.specs.Layout.Runs as runs
+use Rattle.cs_lex.specs.Layout.Runs.{ends_part, IsPiece}
+use Rattle.cs_lex.specs.Actions.Gaps.{byte, IsGap, IsSign}
+use Rattle.cs_lex.specs.Actions.Returns.{IsNamed, spelled, Returns}
+use Rattle.cs_lex.specs.Actions.Returns as named
+use Rattle.cs_lex.specs.Actions.Marks.{IsUnmarked, HasNoMark}
+use Rattle.cs_lex.specs.Actions.Kinds.{skip, word, bar, IsBar, text_of, has_foreign, returns_of, IsKindByWords, no_return, one_return, IsKind, by_words}
+use Rattle.cs_lex.proofs.OnActions.BarsFound.{no_bar_sign}
+use Rattle.cs_lex.proofs.OnActions.GapEnds.{no_sign, no_spacing_at}
+use Rattle.cs_lex.proofs.OnActions.OneKind.{one_kind}
 use Rattle.cs_gen.proofs.Digits.{heads_apart}
 use Rattle.cs_gen.proofs.RuleLines.{walk_bytes, part_is}
 

@@ -6,23 +6,23 @@ use Rattle.std.proofs.lemmas.Bool.{false≢true, eqb-true}
 use Rattle.std.proofs.lemmas.Bool.Decides.{nat_tests}
 use Rattle.std.proofs.lemmas.List.{drop-drop}
 use Rattle.cs_bytes.proofs.Fronts.{and_true, false-eqb}
-use Rattle.cs_pattern_items.specs.declared.item.Repetition.TheVariants.{AtLeast}
-use Rattle.cs_pattern_items.specs.ByteKind.{is_plain}
-use Rattle.cs_pattern_items.specs.Items as items
-use Rattle.cs_pattern_items.specs.Items.{Placed, items_of}
-use Rattle.cs_pattern_items.specs.Members.{has, bytes_where}
-use Rattle.cs_pattern_items.specs.Parts.{Escapes, itself_or_control, InTurn}
-use Rattle.cs_pattern_items.specs.Parts as parts
-use Rattle.cs_pattern_items.specs.Brackets.{Mark, plain, escaped, Member, one, IsPart, of_class, of_symbol, of_equivalence, IsMark, itself, escape, others, IsClosed, upright, AreMembers, none, single, IsOf, IsBracket}
-use Rattle.cs_pattern_items.specs.Spelling.{one_byte, Spells, byte, bracket, plus_sign}
-use Rattle.cs_pattern_items.proofs.Picked.{has_picked, bytes_where-set}
-use Rattle.cs_pattern_postfix.specs.Grammar.{Tree, LastBranch, Branch, LastPiece, Beside, Piece, Repeated, Bytes, branch_items, piece_parts}
-use Rattle.cs_pattern_postfix.specs.Depth.{depth, branch_depth, pattern_of}
-use Rattle.cs_pattern_tree.specs.Pattern.{Empty, Join, Parts, Nothing, Then, alone_or, leaves, all_leaves}
-use Rattle.cs_pattern.specs.Table.{place, ReadsTo, Reads}
-use Rattle.cs_pattern.specs.Substitution.{BranchPutIn}
-use Rattle.cs_pattern.specs.Limits.{passed_limit}
-use Rattle.cs_pattern.specs.Answers.{IsPatternOf}
+use Rattle.cs_pattern_parts.specs.declared.items.item.Repetition.TheVariants.{AtLeast}
+use Rattle.cs_pattern_parts.specs.Items.ByteKind.{is_plain}
+use Rattle.cs_pattern_parts.specs.Items.Items as items
+use Rattle.cs_pattern_parts.specs.Items.Items.{Placed, items_of}
+use Rattle.cs_pattern_parts.specs.Items.Members.{has, bytes_where}
+use Rattle.cs_pattern_parts.specs.Items.Parts.{Escapes, itself_or_control, InTurn}
+use Rattle.cs_pattern_parts.specs.Items.Parts as parts
+use Rattle.cs_pattern_parts.specs.Items.Brackets.{Mark, plain, escaped, Member, one, IsPart, of_class, of_symbol, of_equivalence, IsMark, itself, escape, others, IsClosed, upright, AreMembers, none, single, IsOf, IsBracket}
+use Rattle.cs_pattern_parts.specs.Items.Spelling.{one_byte, Spells, byte, bracket, plus_sign}
+use Rattle.cs_pattern_parts.proofs.OnItems.Picked.{has_picked, bytes_where-set}
+use Rattle.cs_pattern.specs.Operations.Grammar.{Tree, LastBranch, Branch, LastPiece, Beside, Piece, Repeated, Bytes, branch_items, piece_parts}
+use Rattle.cs_pattern.specs.Operations.Depth.{depth, branch_depth, pattern_of}
+use Rattle.cs_pattern_parts.specs.Tree.Pattern.{Empty, Join, Parts, Nothing, Then, alone_or, leaves, all_leaves}
+use Rattle.cs_pattern.specs.Text.Table.{place, ReadsTo, Reads}
+use Rattle.cs_pattern.specs.Text.Substitution.{BranchPutIn}
+use Rattle.cs_pattern.specs.Text.Limits.{passed_limit}
+use Rattle.cs_pattern.specs.Text.Answers.{IsPatternOf}
 use Rattle.cs_gen.proofs.Digits.{some_apart}
 
 -- ---- bytes that stand for themselves

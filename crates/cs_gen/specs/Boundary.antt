@@ -1,11 +1,11 @@
 -- What the lex reader and the automaton take.
 use Rattle.std.specs.Prelude.{ℕ, List}
-use Rattle.cs_automaton.specs.Counted.{IsAbove}
-use Rattle.cs_automaton.specs.Meaning.{res}
-use Rattle.cs_automaton.specs.Places.{InSet}
-use Rattle.cs_lex.specs.File.{File}
-use Rattle.cs_lex.specs.Reading.{IsLexFile}
-use Rattle.cs_yacc.specs.File as tokens
+use Rattle.cs_scanner.specs.Automaton.Counted.{IsAbove}
+use Rattle.cs_scanner.specs.Automaton.Meaning.{res}
+use Rattle.cs_scanner.specs.Automaton.Places.{InSet}
+use Rattle.cs_lex.specs.Reading.File.{File}
+use Rattle.cs_lex.specs.Reading.Reading.{IsLexFile}
+use Rattle.cs_yacc.specs.Reading.File as tokens
 
 -- the bytes are accepted as a lex file beside each yacc file
 abbrev pub IsAcceptedBesideAll : List ℕ → Type 0

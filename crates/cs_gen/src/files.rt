@@ -1,7 +1,7 @@
 // Makes the two files of a number.
 
 ghost use Rattle.std.specs.Prelude.{◌≡◌, ◌≤◌, IfOk, length};
-ghost use Rattle.cs_yacc.specs.Reading.{IsAccepted};
+ghost use Rattle.cs_yacc.specs.Reading.Reading.{IsAccepted};
 ghost use Rattle.cs_bytes.specs.Limits.{most_bytes};
 ghost use Rattle.cs_gen.specs.Boundary.{IsAcceptedBesideAll, HasFewSets};
 ghost use Rattle.cs_gen.specs.Texts as texts;

@@ -3,8 +3,7 @@
 ghost use Rattle.std.specs.Prelude.{◌↔◌, IsTrue};
 ghost use Rattle.cs_goals.specs.Goal.{IsGoal, IsOccurrence, IsLeft, IsRight};
 
-use cs_grammar::{Grammar, Mark, Symbol};
-use cs_numbers::place_of;
+use cs_grammar::{Grammar, Mark, Symbol, place_of};
 
 /// What a derivation tree is to show. Rules and places are counted from 1.
 #[derive(Clone, Copy, Debug, PartialEq, Eq)]

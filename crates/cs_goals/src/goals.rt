@@ -5,10 +5,9 @@ ghost use Rattle.cs_goals.specs.Goals.{goals};
 ghost use Rattle.cs_goals.specs.Rest.{left_mark, rules_left, contexts_at, pairs_at, Gives};
 
 use crate::goal::Goal;
-use cs_choices::Criteria;
 use crate::occurrence::{Occurrence, next_occurrence};
-use cs_grammar::{Grammar, Mark};
-use cs_numbers::number_of;
+use cs_choices::Criteria;
+use cs_grammar::{Grammar, Mark, number_of};
 use std::marker::Model;
 
 /// The goals that are still to be given: rule goals by number, then context goals by outer rule, place and inner rule,

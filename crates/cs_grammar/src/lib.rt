@@ -3,7 +3,7 @@
 //! The layers above build a `Grammar` (which is well formed from then on) and read it by `rules`, `rule` and the counts;
 //! write the code of a tree into a `Derivation`, and get the tokens of a derivation by `expand` or `yield_of`. Symbols that
 //! they still have to take on they keep on a stack, by `put_on_top`. Trees are measured by `Weights`. Numbers count from 1
-//! and places from 0: see `cs_numbers`.
+//! and places from 0: see `cs_grammar::numbers`.
 //!
 //! Of the files of `specs/`, these say what is meant: `Grammar`, `Tree`, `Weights`, `Context`, `Places`, `Uses`,
 //! `Sentence`, `Leftmost`, `Fault`, `Stack`; `Laws` has the two halves of "exactly one". `Walk` and `Entries` have working
@@ -14,6 +14,7 @@ mod derivation;
 mod expansion;
 mod grammar;
 mod laws;
+mod numbers;
 mod rule;
 mod stack;
 mod symbol;
@@ -24,6 +25,7 @@ pub use derivation::Derivation;
 pub use expansion::{ExpandError, expand, yield_of};
 pub use grammar::Grammar;
 pub use laws::{one_outcome, one_tree};
+pub use numbers::{number_of, place_of};
 pub use rule::Rule;
 pub use stack::put_on_top;
 pub use symbol::{Mark, Symbol};

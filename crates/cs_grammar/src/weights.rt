@@ -4,8 +4,8 @@ ghost use Rattle.std.specs.Prelude.{◌≡◌, IfOk, All, length};
 ghost use Rattle.cs_grammar.specs.Grammar.{IsNumberOf};
 ghost use Rattle.cs_grammar.specs.Weights.{IsMeasure, number, nodes, byte_weight};
 
+use crate::numbers::place_of;
 use crate::{LIMIT, MOST_WEIGHT};
-use cs_numbers::place_of;
 use std::alloc::{AllocError, Global};
 use std::marker::Model;
 

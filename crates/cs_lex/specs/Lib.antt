@@ -1,10 +1,3 @@
-pub mod Errors
-pub mod RegexCode
-pub mod File
-pub mod Tokens
-pub mod Kinds
-pub mod Patterns
+pub mod Layout
+pub mod Actions
 pub mod Reading
-pub mod Laws
-pub mod Settled
-pub mod Found

@@ -1,36 +1,25 @@
-//! Lex files, read exactly beside a yacc file: the pattern and the kind of each rule, and the tokens of literals.
+//! Lex files beside yacc files, read exactly: patterns, kinds, literals, limits.
 //!
-//! The layers above call `read_lex` and go on with the `LexFile`: an automaton can be made of its patterns, it has as many kinds
-//! as patterns and a token or 0 for the literal of each byte. The laws say that bytes are accepted or refused and not both, and
-//! mean one file or have one error.
+//! The parts, from the bottom up; none stands on one behind it:
 //!
-//! Meaning, in `specs/`: `File`, `Tokens`, `Kinds`, `Patterns`, `Errors` and `Reading`; `Laws` has the statements of the laws.
-//! `Found`, `Settled` and `RegexCode` are working words of the proofs.
+//! - `layout`: the layout of a lex file: its bytes are cut into sections, lines, definitions and rules.
+//! - `actions`: the kind of an action of a lex rule: what the rule gives where it matches.
+//! - `reading`: what the layout and the actions mean beside a yacc file: patterns, kinds, and the tokens of literals.
+//!
+//! The file of each part says which files of its folder of `specs/` are meaning.
 #![tactic(auto)]
 
-mod definitions;
-mod error;
-mod file;
-mod kinds;
-mod laws;
-mod literals;
-mod patterns;
-mod read;
-mod rules;
-mod settled;
+mod actions;
+mod layout;
+mod reading;
 
-pub use cs_pattern::PatternFault;
-pub use cs_pattern_tree::{Kind, Pattern};
-pub use error::{LexError, LexLimit};
-pub use file::LexFile;
-pub use laws::{accepted_or_refused, limits, one_file, one_refusal, refused_is_not_accepted};
-pub use read::read_lex;
-
-/// The most bytes of a lex file.
-pub const MOST_BYTES: usize = cs_lex_layout::MOST_BYTES;
-
-/// The most rules of a lex file.
-pub const MOST_RULES: usize = 2048;
-
-/// The most leaves of the patterns of all rules together.
-pub const MOST_POSITIONS: u32 = 16_384;
+pub use actions::{ActionKind, action_kind, one_kind};
+pub use layout::{
+    Definition, LayoutError, MOST_BYTES, Part, Rule, definitions_end, layout_or_stop,
+    limits as layout_limits, new_names, one_end, one_layout, one_stop, read_layout,
+    stopped_has_no_layout,
+};
+pub use reading::{
+    Kind, LexError, LexFile, LexLimit, MOST_POSITIONS, MOST_RULES, Pattern, PatternFault,
+    accepted_or_refused, limits, one_file, one_refusal, read_lex, refused_is_not_accepted,
+};

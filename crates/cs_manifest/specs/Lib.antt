@@ -1,12 +1,2 @@
-pub mod Named
-pub mod Lines
-pub mod SharedLines
-pub mod Head
-pub mod Open
-pub mod Entry
-pub mod Counts
-pub mod Progress
+pub mod Output
 pub mod Manifest
-pub mod Below
-pub mod Holes
-pub mod ByToken

@@ -1,35 +1,20 @@
-//! The manifest: what stands in it, and its lines, written to a sink as they are made.
+//! Manifests: what stands in them, and their lines, written to a sink as they are made.
 //!
-//! The layers above begin a [`Manifest`] with a [`Head`], give it one [`Entry`] after another and finish it. Ok means that the
-//! sink took exactly the lines of that call, and a failure that it took a prefix of them; no such call takes memory. A manifest
-//! is seen as its head and the counts of what was written so far.
+//! The parts, from the bottom up; none stands on one behind it:
 //!
-//! Negatives that differ in the token that their edit puts alone have lines that differ in their number, that token and its
-//! lexeme alone. What stands around these is spelled once, as [`OpenLines`] of an [`OpenNegative`], and [`TokenPieces`] have the
-//! name and the lexeme of each token. An entry that is filled so has the lines of that negative, and is put by copying.
+//! - `output`: what lines are put with: an output in front of a sink, the names of symbols, and escaped texts.
+//! - `manifest`: what stands in a manifest, in both formats, and how its lines are put.
 //!
-//! Meaning, from the top down: `specs/Manifest` (the manifest of a file by a choice; closed sets are those of `cs_closed`),
-//! `Progress` (what contracts see of a manifest), `Counts`, `Head` and `Entry` (which lines stand for what), `Lines` and
-//! `SharedLines` (the lines of both formats and those of the second, in their order), `Open` (negatives without their token, and
-//! their lines), `Named` (what has names). Working words of proofs: `Below`, `Holes`, `ByToken`. The words of lines, the names
-//! of symbols and what a call did to a sink are those of `cs_output`.
+//! The file of each part says which files of its folder of `specs/` are meaning.
 #![tactic(auto)]
 
-mod counts;
-mod entry;
-mod head;
-mod laws;
 mod manifest;
-mod open;
-mod put_closed;
-mod put_entry;
-mod put_head;
-mod token_pieces;
+mod output;
 
-pub use counts::Counts;
-pub use entry::{Entry, FilledNegative, NumberedNegative, SharedVerdict};
-pub use head::{Form, Head};
-pub use laws::{one_manifest, one_text, some_manifest};
-pub use manifest::Manifest;
-pub use open::{OpenEdit, OpenLines, OpenNegative, OpenPair};
-pub use token_pieces::TokenPieces;
+pub use manifest::{
+    Counts, Entry, FilledNegative, Form, Head, Manifest, NumberedNegative, OpenEdit, OpenLines,
+    OpenNegative, OpenPair, SharedVerdict, TokenPieces, one_manifest, one_text, some_manifest,
+};
+pub use output::{
+    LINE_LENGTH, Numeral, Output, Piece, put_quoted, put_spaced_mark, put_symbol, spelled_piece,
+};

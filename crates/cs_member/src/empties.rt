@@ -4,8 +4,7 @@ ghost use Rattle.std.specs.Prelude.{◌≡◌, ◌⊎◌, ◌↔◌, ◌+◌, �
 ghost use Rattle.cs_member.specs.Tables.{AreEmpties, IsSaturated, IsFurther, HasEmpty, IsWithin};
 ghost use Rattle.cs_member.specs.Asked.{HasRounds};
 
-use cs_grammar::{Grammar, Symbol};
-use cs_numbers::number_of;
+use cs_grammar::{Grammar, Symbol, number_of};
 use std::alloc::{AllocError, Global};
 
 pub(crate) fn has_empty(empties: &[u16], symbol: Symbol) -> bool

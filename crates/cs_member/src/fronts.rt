@@ -8,8 +8,7 @@ ghost use Rattle.cs_member.specs.Fronts.{AreEntered, CanEnter, Enters};
 use crate::adding::{add_at, no_lists};
 use crate::empties::has_empty;
 use crate::item::{Item, over};
-use cs_grammar::{Grammar, Symbol};
-use cs_numbers::number_of;
+use cs_grammar::{Grammar, Symbol, number_of};
 use std::alloc::{AllocError, Global};
 
 // An item behind the first symbol of a rule that isn't taken by an empty tree.

@@ -11,8 +11,7 @@ ghost use Rattle.cs_member.specs.Asked.{HoldsItem, MayAdd, StaysHere, KeepsHere,
 use crate::item::{Item, Next, next_of, same};
 use crate::tables::Tables;
 use crate::word::{Word, add, add_all, bits_at};
-use cs_grammar::{Grammar, Symbol};
-use cs_numbers::place_of;
+use cs_grammar::{Grammar, Symbol, place_of};
 use std::alloc::{AllocError, Global};
 
 // A grammar with its tables, and a list of tokens.

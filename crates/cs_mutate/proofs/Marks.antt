@@ -8,7 +8,7 @@ use Rattle.cs_grammar.specs.declared.symbol.Mark.TheVariants.{Token}
 use Rattle.cs_grammar.specs.Grammar.{PlainGrammar, IsNumberOf}
 use Rattle.cs_grammar.specs.Sentence.{IsSentence, framed, IsFollowed}
 use Rattle.cs_goals.specs.Goal.{IsLeft}
-use Rattle.cs_pairs.specs.Pairs.{IsAdjacent}
+use Rattle.cs_pairs.specs.Pairs.Pairs.{IsAdjacent}
 use Rattle.cs_mutate.specs.Poison.{IsPair, HasNoPoison, IsFirstPoisoned, IsPoisonedAt, between}
 
 -- what stands where between two marks

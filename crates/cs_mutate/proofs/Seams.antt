@@ -10,7 +10,7 @@ use Rattle.cs_grammar.specs.declared.symbol.Mark.TheVariants.{Begin, Token, End}
 use Rattle.cs_grammar.specs.Grammar.{PlainGrammar, IsNumberOf}
 use Rattle.cs_grammar.specs.Sentence.{framed}
 use Rattle.cs_goals.specs.Goal.{IsLeft, IsRight}
-use Rattle.cs_pairs.specs.Pairs.{IsAdjacent}
+use Rattle.cs_pairs.specs.Pairs.Pairs.{IsAdjacent}
 use Rattle.cs_mutate.specs.Edit.{patched}
 use Rattle.cs_mutate.specs.Poison.{IsPair, HasNoPoison, IsFirstPoisoned, between}
 use Rattle.cs_mutate.proofs.Marks.{many, token_at, last_at}

@@ -4,7 +4,7 @@ use Rattle.std.specs.Prelude.{◌≡◌, ℕ, ◌+◌, ◌<◌, List, [], ◌∷
 use Rattle.cs_grammar.specs.declared.symbol.Mark.{Mark}
 use Rattle.cs_grammar.specs.declared.symbol.Mark.TheVariants.{Token}
 use Rattle.cs_grammar.specs.Grammar.{PlainGrammar}
-use Rattle.cs_pairs.specs.Pairs.{IsAdjacent}
+use Rattle.cs_pairs.specs.Pairs.Pairs.{IsAdjacent}
 use Rattle.cs_mutate.specs.declared.poisoning.PoisonedPair.{PoisonedPair}
 
 -- the pair at a place of a list of marks, counted from 0: a stands there, and b directly behind it

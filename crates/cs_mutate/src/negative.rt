@@ -8,10 +8,10 @@ ghost use Rattle.cs_mutate.specs.Poison.{HasNoPoison, TellsPair};
 ghost use Rattle.cs_mutate.specs.Negatives.{Finds, search_of, FindsNext, FitsBase};
 
 use crate::edit::{Edit, apply};
-use cs_choices::Operators;
 use crate::edits::Edits;
 use crate::poisoning::{PoisonedPair, poison, poison_between};
 use crate::touched::poison_touched;
+use cs_choices::Operators;
 use cs_grammar::Mark;
 use cs_pairs::Pairs;
 use std::alloc::{AllocError, Global};

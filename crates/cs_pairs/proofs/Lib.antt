@@ -1,11 +1,2 @@
-pub mod Fronting
-pub mod Framed
-pub mod Seams
-pub mod Adjacency
-pub mod ChosenSeams
-pub mod ChosenPairs
-pub mod SourceLists
-pub mod Inwards
-pub mod FollowLists
-pub mod Laying
-pub mod Derived
+pub mod OnKinds
+pub mod OnPairs

@@ -1,10 +1,2 @@
-pub mod Fronts
-pub mod Beside
+pub mod Kinds
 pub mod Pairs
-pub mod Closed
-pub mod ChosenPair
-pub mod SeamPlace
-pub mod Sources
-pub mod Meetings
-pub mod Clauses
-pub mod Laws

@@ -1,23 +1,20 @@
-//! Pairs of neighbours in framed sentences: which marks may stand side by side, over all trees, and what the least tree costs
-//! that shows it.
+//! Neighbours in sentences: which marks stand side by side, and the least trees that show it.
 //!
-//! The layers above make `Pairs` of `Costs` and `Embeds` of one grammar and equal weights, ask them by `adjacent` whether some
-//! sentence has one mark directly followed by another, by `cost` what the least tree with such a sentence costs, and get the
-//! code of the chosen one by `derive`. Whether a nonterminal yields nothing, and which tokens its yields begin and end with,
-//! they ask by `empty`, `first` and `last`. The laws are functions that do nothing.
+//! The parts, from the bottom up; none stands on one behind it:
 //!
-//! Of the files in `specs/` these say what is meant: `Beside` (seams), `Pairs`, `Closed` (what nonterminals yield), `ChosenPair`
-//! and `Laws`, and of `Clauses` `IsPairCost`; kinds of trees are the layer's below. The rest has working words of proofs: what
-//! sources and rows hold.
+//! - `kinds`: kinds of trees by what they yield: what the least tree of a kind and a symbol costs, and which one is
+//!   chosen.
+//! - `pairs`: pairs of neighbours in framed sentences: which marks may stand side by side, over all trees, and what the
+//!   least tree costs that shows it.
+//!
+//! The file of each part says which files of its folder of `specs/` are meaning.
 #![tactic(auto)]
 
-mod derive;
-mod follows;
-mod fronts;
-mod laws;
-mod meeting;
+mod kinds;
 mod pairs;
-mod sources;
 
-pub use laws::{chosen_pair_exists, one_chosen_pair};
-pub use pairs::Pairs;
+pub use kinds::{
+    Kinds, Row, Sweep, TreeKind, chosen_of_kind_exists, kind_into, one_chosen_of_kind, step_cost,
+    symbol_number,
+};
+pub use pairs::{Pairs, chosen_pair_exists, one_chosen_pair};

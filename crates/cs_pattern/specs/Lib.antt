@@ -1,14 +1,2 @@
-pub mod Table
-pub mod Laws
-pub mod ReadView
-pub mod Names
-pub mod Answers
-pub mod Limits
-pub mod Substitution
-pub mod Uses
-pub mod UseView
-pub mod Checking
-pub mod Checked
-pub mod Stages
-pub mod Needed
-pub mod Classes
+pub mod Operations
+pub mod Text

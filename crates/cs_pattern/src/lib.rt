@@ -1,41 +1,23 @@
-//! Patterns of a lex file: the definitions of a file, and the exact reading of a pattern's text, over the items that
-//! `cs_pattern_items` finds in it, the patterns of `cs_pattern_tree` and the operations of `cs_pattern_postfix`.
+//! The patterns of a lex file, read exactly: each text is a tree, within the limits, or has its fault.
 //!
-//! The layers above add the definitions of a file to a `Definitions`, `check` them once, and read each rule's pattern by
-//! `read_pattern`. Of each pattern an automaton can be made (`IsScannable`).
+//! The parts, from the bottom up; none stands on one behind it:
 //!
-//! Meaning: `specs/Table.antt` (which item may stand where, and where reading stops), `specs/Substitution.antt` (definitions put
-//! in for names), `specs/Names.antt`, `specs/Uses.antt` (which definitions use which), `specs/Limits.antt`, `specs/Answers.antt`
-//! (what reading a pattern answers), `specs/Checking.antt` (what checking definitions answers), `specs/Classes.antt`,
-//! `specs/Laws.antt`. Working words of proofs: `specs/ReadView.antt`, `specs/UseView.antt`, `specs/Checked.antt`,
-//! `specs/Stages.antt`, `specs/Needed.antt`.
+//! - `operations`: a pattern's items as operations, each behind what it works on, and what operations make on a stack:
+//!   how deep a pattern is and how many leaves it has, and the pattern itself.
+//! - `text`: patterns of a lex file: the definitions of a file, and the exact reading of a pattern's text, over the
+//!   items that `cs_pattern_parts::items` finds in it, the patterns of `cs_pattern_parts::tree` and the operations of
+//!   `cs_pattern::operations`.
+//!
+//! The file of each part says which files of its folder of `specs/` are meaning.
 #![tactic(auto)]
 
-mod checking;
-mod definitions;
-mod fault;
-mod laws;
-mod limits;
-mod needed;
-mod place;
-mod read;
-mod reading;
-mod uses;
+mod operations;
+mod text;
 
-pub use cs_pattern_tree::{ByteSet, Kind, Pattern};
-pub use definitions::{Checked, Definitions};
-pub use fault::{CheckError, DefinitionError, PatternError, PatternFault};
-pub use laws::{
-    byte_limit, definitions_accepted_or_refused, has_answer, has_derivation, no_tree_in_a_cycle,
-    one_answer, one_pattern, one_reading, one_refusal, reads_or_stops, scannable_pattern,
+pub use operations::{build, measure_of, postfix};
+pub use text::{
+    ByteSet, CheckError, Checked, DefinitionError, Definitions, Kind, MOST_BYTES, MOST_DEPTH,
+    MOST_LEAVES, Pattern, PatternError, PatternFault, byte_limit, definitions_accepted_or_refused,
+    has_answer, has_derivation, no_tree_in_a_cycle, one_answer, one_pattern, one_reading,
+    one_refusal, read_pattern, reads_or_stops, scannable_pattern,
 };
-pub use read::read_pattern;
-
-/// The most bytes of a pattern's text, and of the names and texts of all definitions together.
-pub const MOST_BYTES: usize = cs_bytes::MOST_BYTES;
-
-/// The most groups, substitutions and repetitions around one atom.
-pub const MOST_DEPTH: u32 = 200;
-
-/// The most leaves of a pattern after substitution.
-pub const MOST_LEAVES: u32 = 8192;

@@ -1,3 +1,5 @@
-mod Meanings
-mod OneText
-mod Performing
+pub mod OnWords
+pub mod OnInput
+pub mod OnEnding
+pub mod OnWriter
+pub mod OnCommand

@@ -1,2 +1,5 @@
-pub mod Carrying
 pub mod Words
+pub mod Input
+pub mod Ending
+pub mod Writer
+pub mod Command

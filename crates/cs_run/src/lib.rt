@@ -1,11 +1,31 @@
-//! The top call: `run` does what the words of the command line ask for, over a desk of files, an output and an error
-//! output. The program stands on it, and uses `run` alone.
+//! The top call: what the words of the command line ask for, done, and how that ends.
 //!
-//! Meaning: `specs/Words` (what is kept by what words), `Carrying` (how the writing of a text ended). What `run` promises stands in `specs/Headline` of `cs_ending`.
+//! The parts, from the bottom up; none stands on one behind it:
+//!
+//! - `words`: the words of the command line: which are accepted, what they ask for, and else the first word that can't
+//!   stand where it stands. The layer above uses `read_words`, and the `Request` that it gives: a `Command`, its
+//!   `Arguments` and `Options`. No call takes memory.
+//! - `input`: the files that a command names, or bytes in their place: what they mean, or the first cause why they are
+//!   not given.
+//! - `ending`: how a run ends: by which cause, with which status and which line; and what follows from that for whoever
+//!   ran it.
+//! - `writer`: the writers: they make what the manifest of accepted files is made by, and write it to an output.
+//! - `command`: the top call, over a desk of files, an output and an error output.
+//!
+//! The file of each part says which files of its folder of `specs/` are meaning.
 #![tactic(auto)]
 
 mod command;
-mod laws;
+mod ending;
+mod input;
+mod words;
+mod writer;
 
-pub use command::run;
-pub use laws::one_asked_text;
+pub use command::{one_asked_text, run};
+pub use ending::{Ending, finish};
+pub use input::{Pair, Refusal, Stop, judge_pair, line, read_files};
+pub use words::{
+    Arguments, BadWord, Command, Options, Role, accepted_or_bad, one_bad_word, one_request,
+    read_words,
+};
+pub use writer::{SuiteHalt, write_rules, write_suite, write_summary};

@@ -2,12 +2,10 @@
 
 ghost use Rattle.std.specs.Prelude.{◌≡◌, IfOk, length};
 
-use cs_automaton::{Automaton, AutomatonError};
 use cs_io::SinkError;
 use cs_lex::{LexError, LexFile, read_lex};
-use cs_lexeme::Lexemes;
 use cs_samples::SUMS;
-use cs_scan::Scanner;
+use cs_scanner::{Automaton, AutomatonError, Lexemes, Scanner};
 use cs_yacc::{YaccError, YaccFile, read_yacc};
 use std::alloc::{AllocError, Global};
 

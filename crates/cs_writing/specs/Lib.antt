@@ -1,3 +1,4 @@
-pub mod Writing
-pub mod Written
+pub mod Bases
 pub mod Mutants
+pub mod Plan
+pub mod Writing

@@ -1,37 +1,14 @@
-// The bases of the entries of goals.
+//! The bases of a manifest: lists of tokens, each once, in the order in which they came.
+//!
+//! The layer above offers the tokens of each feasible goal, in the order of the goals, to [`Bases`],
+//! which keeps those that come first with their tokens until it has as many as are wanted. It then
+//! lends each base with the number of its goal.
+//!
+//! Meaning: `specs/Bases/Bases` (when tokens are taken, and that the bases of entries come by offers). The
+//! law is a function that does nothing.
 
-ghost use Rattle.std.specs.Prelude.{◌+◌, ◌≤◌, OnOk, length};
-ghost use Rattle.cs_io.specs.Faults.{greatest};
-ghost use Rattle.cs_plan.specs.Made.{entries_of};
-ghost use Rattle.cs_writing.specs.Mutants.{Keeps, KeepsOne};
+mod bases;
+mod laws;
 
-use cs_bases::Bases;
-use cs_plan::Made;
-use std::alloc::AllocError;
-
-/// Keeps what are bases of these entries. `number` is that of the last entry before them.
-pub(crate) fn keep_bases(bases: &mut Bases, number: u64, batch: &[Made]) -> Result<(), AllocError>
-    requires { number + length batch.now ≤ greatest }
-    ensures { OnOk result (Keeps number (entries_of batch.now) bases.old bases.new) }
-{
-    let mut before = number;
-    for made in batch {
-        keep_base(bases, before, made.sentence())?;
-        before += 1;
-    }
-    Ok(())
-}
-
-// Keeps the tokens of an entry behind so many, where it has some and they are a base.
-fn keep_base(bases: &mut Bases, before: u64, sentence: Option<&[u16]>) -> Result<(), AllocError>
-    requires { before + 1 ≤ greatest }
-    ensures { OnOk result (KeepsOne before sentence.entry bases.old bases.new) }
-{
-    match sentence {
-        None => Ok(()),
-        Some(tokens) => {
-            bases.offer(before + 1, tokens)?;
-            Ok(())
-        }
-    }
-}
+pub use bases::Bases;
+pub use laws::bases_come_by_offers;

@@ -1,19 +1,22 @@
-//! The manifest of a plan, written to an output as its entries are made.
+//! The manifest of a plan, written to an output: goals batch by batch, then the negatives of each base.
 //!
-//! The layer above makes a plan and the positives of its goals, and gives both to [`write_out`]. Ok
-//! means that the output took the whole manifest; a [`Halt`] that it took a prefix of it. The entries
-//! of goals come first, in the second format each behind its case where that is new, and their bases are
-//! kept; then each base with its negatives.
+//! The parts, from the bottom up; none stands on one behind it:
 //!
-//! Meaning: `specs/Writing` (what a writer does to its output). Working words of proofs: `Written`
-//! (entries of goals), `Mutants` (bases and negatives).
+//! - `bases`: the bases of a manifest: lists of tokens, each once, in the order in which they came.
+//! - `mutants`: the negatives of a base, made one after another and written to a manifest.
+//! - `plan`: the entries of a manifest, made batch by batch: each goal's verdict, the tokens of its derivation, and
+//!   what came of their rendering, which several workers share.
+//! - `writing`: the manifest of a plan, written to an output as its entries are made.
+//!
+//! The file of each part says which files of its folder of `specs/` are meaning.
 #![tactic(auto)]
 
 mod bases;
-mod goals;
-mod halt;
 mod mutants;
+mod plan;
 mod writing;
 
-pub use halt::Halt;
-pub use writing::write_out;
+pub use bases::{Bases, bases_come_by_offers};
+pub use mutants::{MadeNegative, Maker, Tools};
+pub use plan::{Made, Means, Mutation, Plan, PlanForm, next_entries};
+pub use writing::{Halt, write_out};

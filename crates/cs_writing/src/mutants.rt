@@ -1,98 +1,20 @@
-// The bases and their negatives, line by line.
+//! The negatives of a base, made one after another and written to a manifest.
+//!
+//! The layer above makes [`Tools`] of a file and of what lists of tokens are rendered with, of each base a [`Maker`], and of that a
+//! [`MadeNegative`], in whose memory each negative of the base is made in its turn. It writes itself to a manifest. Of negatives
+//! that differ in the token that their edit puts alone the lines are spelled once, where texts need no scan; else the text of an
+//! edited list is told by that of the base where it can be.
+//!
+//! Meaning: `specs/Mutants/Makers` (what makes negatives), `specs/Mutants/Mutants` (what is made of a negative, and what its writing does). Working
+//! words of proofs: `near_of`, `AreSound` and `IsReady` of `Makers`, and `Rows`.
 
-ghost use Rattle.std.specs.Prelude.{◌≡◌, ◌+◌, ◌≤◌, All, OnOk, length};
-ghost use Rattle.cs_grammar.specs.Grammar.{IsNumberOf};
-ghost use Rattle.cs_io.specs.Faults.{greatest};
-ghost use Rattle.cs_manifest.specs.Manifest.{most_bases};
-ghost use Rattle.cs_mutants.specs.Makers.{CanRender};
-ghost use Rattle.cs_plan.specs.Plans.{IsPlan, choice_in};
-ghost use Rattle.cs_writing.specs.Mutants.{CountsBases, CountsMade, IsBasesText, IsEditable, IsMade};
-ghost use Rattle.cs_writing.specs.Written.{PutsOne};
+mod made;
+mod maker;
+mod opened;
+mod row;
+mod rows;
+mod tools;
 
-use crate::halt::Halt;
-use cs_bases::Bases;
-use cs_io::Sink;
-use cs_manifest::{Entry, Manifest, one_text};
-use cs_mutants::{MadeNegative, Maker, Tools};
-use cs_mutate::Negatives;
-use cs_output::Numeral;
-use cs_plan::Plan;
-use std::alloc::Global;
-
-/// Writes the bases, numbered from 1, and behind each its negatives, numbered from 1 through all
-/// bases. Where nothing is mutated there are no bases.
-pub(crate) fn write_bases<S: Sink>(
-    alloc: Global,
-    plan: &Plan<'_>,
-    bases: &Bases,
-    manifest: &mut Manifest<'_>,
-    sink: &mut S,
-) -> Result<(), Halt>
-    requires plan { IsPlan plan.now }
-    requires bases { All (IsEditable plan.now.yacc.now.grammar.tokens) bases.now.list }
-    requires few { length bases.now.list ≤ most_bases (choice_in plan.now) }
-    requires file { manifest.old.file ≡ plan.now.yacc.now }
-    requires fresh { manifest.old.counts.negatives ≡ 0 }
-    ensures lent { S.lent sink.new ≡ S.lent sink.old }
-    ensures text { PutsOne S.Sink (IsBasesText plan.now bases.now) sink.old sink.new result }
-    ensures counted { OnOk result (CountsBases plan.now bases.now manifest.old manifest.new) }
-{
-    one_text();
-    let Some(means) = plan.form.means() else {
-        return Ok(());
-    };
-    let tools = Tools::new(alloc, plan.yacc, means.work)?;
-    let mutation = means.mutation;
-    let mut number = Numeral::new(0);
-    for index in 0..bases.len() {
-        let (goal, tokens) = bases.get(index);
-        let maker = Maker::new(alloc, &tools, index + 1, tokens)?;
-        let line = Entry::Base {
-            number: index + 1,
-            goal,
-        };
-        manifest.entry(sink, &line)?;
-        let search = Negatives::new(alloc, mutation.pairs, tokens, mutation.operators);
-        write_negatives(alloc, &maker, search, &mut number, manifest, sink)?;
-    }
-    Ok(())
-}
-
-// Writes the negatives that a search gives of a base. `number` is that of the last negative, before and then.
-fn write_negatives<S: Sink>(
-    alloc: Global,
-    base: &Maker<'_>,
-    mut search: Negatives<'_>,
-    number: &mut Numeral,
-    manifest: &mut Manifest<'_>,
-    sink: &mut S,
-) -> Result<(), Halt>
-    requires work { CanRender base.now.tools.work search.grammar.tokens }
-    requires base { search.base ≡ base.now.base }
-    requires short { length base.now.base ≤ 1000000 }
-    requires tokens { All (IsNumberOf search.grammar.tokens) base.now.base }
-    requires file { manifest.old.file ≡ base.now.tools.file }
-    requires names { length manifest.old.file.token_names ≡ search.grammar.tokens }
-    requires number { number.old ≡ manifest.old.counts.negatives }
-    requires few { number.old + length search.edits ≤ greatest }
-    ensures file { manifest.new.file ≡ manifest.old.file }
-    ensures lent { S.lent sink.new ≡ S.lent sink.old }
-    ensures number { OnOk result (number.new ≡ manifest.new.counts.negatives) }
-    ensures text { PutsOne S.Sink
-        (IsMade manifest.old base.now search.entry) sink.old sink.new result }
-    ensures counted { OnOk result
-        (CountsMade base.now search.entry manifest.old manifest.new) }
-{
-    one_text();
-    let mut made = MadeNegative::new(alloc, base);
-    'negatives: loop {
-        match search.next()? {
-            None => return Ok(()),
-            Some(negative) => {
-                made.make(&negative)?;
-                number.advance();
-                made.write(&*number, manifest, sink)?;
-            }
-        }
-    }
-}
+pub use made::MadeNegative;
+pub use maker::Maker;
+pub use tools::Tools;

@@ -1,14 +1,2 @@
-pub mod Gathering
-pub mod TokenTables
-pub mod Loops
-pub mod RuleLoop
-pub mod Numbers
-pub mod OneFile
-pub mod Counts
-pub mod Places
-pub mod Names
-pub mod Marks
-pub mod Unknown
-pub mod Fits
-pub mod Whole
-pub mod Examples
+pub mod OnItems
+pub mod OnReading

@@ -1,14 +1,2 @@
-pub mod Errors
-pub mod File
-pub mod Meaning
+pub mod Items
 pub mod Reading
-pub mod SpellingView
-pub mod Places
-pub mod RuleView
-pub mod Finding
-pub mod Marks
-pub mod PartsView
-pub mod AcceptedView
-pub mod TokenNumbers
-pub mod SpellingHash
-pub mod SymbolTable

@@ -1,37 +1,22 @@
 //! Yacc files, read exactly: the grammar of a file, and the names of its tokens and nonterminals.
 //!
-//! The layers above call `read_yacc` and go on with the `YaccFile`: its grammar is well formed, each of its numbers has a
-//! name, and all names differ.
+//! The parts, from the bottom up; none stands on one behind it:
 //!
-//! Meaning, in `specs/`: `Reading` (which bytes are accepted, what file they mean, and why others are refused) over
-//! `Meaning` (what the items mean), `File` and the definitions of `cs_yacc_items`; the laws say that bytes are accepted or
-//! refused, mean one file or have one error, and not both. `Errors`, `SpellingView`, `Places`, `RuleView`, `PartsView` and
-//! `AcceptedView` say what the code's values are; `Finding`, `Marks`, `SpellingHash`, `SymbolTable` and `TokenNumbers` are
-//! working words of proofs.
+//! - `items`: the items of a yacc file: its bytes are cut into marks, directives, names, literals and signs, and a
+//!   table says which item may come where.
+//! - `reading`: what the items of a file mean together: its grammar, and the names of its tokens and nonterminals.
+//!
+//! The file of each part says which files of its folder of `specs/` are meaning.
 #![tactic(auto)]
 
-mod accepted;
-mod error;
-mod fault;
-mod file;
-mod gather;
-mod laws;
-mod limit;
-mod meaning;
-mod name;
-mod number;
-mod parts;
-mod read;
-mod spelled;
-mod spelling;
-mod token_names;
+mod items;
+mod reading;
 
-pub use cs_yacc_items::one_reading;
-pub use error::{YaccError, YaccLimit};
-pub use file::YaccFile;
-pub use laws::{accepted_or_refused, one_file, one_refusal, refused_is_not_accepted};
-pub use name::{Name, TokenName};
-pub use read::read_yacc;
-
-/// The most bytes of a yacc file.
-pub const MOST_BYTES: usize = cs_yacc_items::MOST_BYTES;
+pub use items::{
+    Item, ItemsError, MOST_BYTES, Placed, byte_limit, one_reading, one_stop, one_stuck, read_items,
+    stopped_is_not_read, stuck_is_not_taken, syntax_fault,
+};
+pub use reading::{
+    Name, TokenName, YaccError, YaccFile, YaccLimit, accepted_or_refused, one_file, one_refusal,
+    read_yacc, refused_is_not_accepted,
+};

@@ -4,7 +4,7 @@
 ghost use Rattle.std.specs.Prelude.{◌≤◌, length};
 
 use cs_pattern::{Checked, Definitions, MOST_BYTES, PatternError, PatternFault, read_pattern};
-use cs_pattern_tree::{copy, leaf_count};
+use cs_pattern_parts::{copy, leaf_count};
 use cs_samples::repeated;
 use std::alloc::{AllocError, Global};
 use std::test::Fail;

@@ -1,17 +1,10 @@
-//! Tests of the readers by their public calls alone: bytes, C text, yacc files and lex files.
+//! Tests of the readers and of generated files, by public calls alone.
+//!
+//! The parts, from the bottom up; none stands on one behind it:
+//!
+//! - `readers`: tests of the readers by their public calls alone: bytes, C text, yacc files and lex files.
+//! - `generated`: tests of generated files by public calls alone.
 #![tactic(auto)]
 
-#[cfg(test)]
-mod bytes;
-#[cfg(test)]
-mod c_text;
-#[cfg(test)]
-mod lex;
-#[cfg(test)]
-mod lex_kinds;
-#[cfg(test)]
-mod lex_layout;
-#[cfg(test)]
-mod yacc;
-#[cfg(test)]
-mod yacc_items;
+mod generated;
+mod readers;

@@ -1,5 +1,5 @@
 use Rattle.std.proofs.Common.{◌≤◌, ℕ, List, length, sym, subst}
-use Rattle.cs_yacc.specs.Reading.{IsAccepted}
+use Rattle.cs_yacc.specs.Reading.Reading.{IsAccepted}
 use Rattle.cs_gen.proofs.Accepted.{yacc_accepted, yacc_short, lex_short}
 use Rattle.cs_gen.proofs.Beside.{accepted_beside, few_beside}
 use Rattle.cs_gen.specs.Boundary.{IsAcceptedBesideAll, HasFewSets}

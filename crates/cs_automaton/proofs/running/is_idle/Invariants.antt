@@ -1,7 +1,0 @@
--- No class so far.
-use Rattle.std.proofs.Common.{◌≡◌, ℕ, ◌<◌, ◌≤◌, false}
-use Rattle.cs_automaton.specs.Bits.{bit}
-use Rattle.cs_automaton.proofs.running.is_idle.Given as goal
-
-abbrev pub invariant-loop-n : goal.invariant-loop-n
-invariant-loop-n l = (m : ℕ) → l.rule.from ≤ m → m < l.n → bit l.set m ≡ false

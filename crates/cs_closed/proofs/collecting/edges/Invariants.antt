@@ -1,7 +1,0 @@
-use Rattle.std.specs.List.{AllZip}
-use Rattle.cs_closed.specs.Closed.{AreThose, numbers}
-use Rattle.cs_closed.specs.Collecting.{IsAtEdge}
-use Rattle.cs_closed.proofs.collecting.edges.Given as goal
-
-abbrev pub invariant-loop-place : goal.invariant-loop-place
-invariant-loop-place l = AllZip (λ n. AreThose (IsAtEdge l.tables.grammar l.edge n) (numbers l.tables.grammar.tokens)) (numbers l.place) l.sets.items

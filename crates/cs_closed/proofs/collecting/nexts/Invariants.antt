@@ -1,7 +1,0 @@
-use Rattle.std.specs.List.{AllZip}
-use Rattle.cs_grammar.specs.declared.symbol.Mark.TheVariants.{Token}
-use Rattle.cs_closed.specs.Closed.{AreNext, numbers}
-use Rattle.cs_closed.proofs.collecting.nexts.Given as goal
-
-abbrev pub invariant-loop-place : goal.invariant-loop-place
-invariant-loop-place l = AllZip (λ t. AreNext l.tables.grammar (Token t)) (numbers l.place) l.sets.items

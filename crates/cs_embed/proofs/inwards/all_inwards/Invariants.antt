@@ -1,6 +1,0 @@
-use Rattle.std.proofs.Common.{◌+◌}
-use Rattle.cs_embed.specs.Ways.{AreInwardsTo}
-use Rattle.cs_embed.proofs.inwards.all_inwards.Given as goal
-
-abbrev pub invariant-loop-place : goal.invariant-loop-place
-invariant-loop-place l = AreInwardsTo l.costs.weights l.costs.grammar (l.place + 1) 0 l.inwards.places.items l.inwards.steps.items

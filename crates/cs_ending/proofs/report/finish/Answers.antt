@@ -1,6 +1,0 @@
-use Rattle.cs_ending.proofs.Promises.{keeps}
-use Rattle.cs_ending.proofs.report.finish.Goals as goal
-
-pub returns : goal.returns
-returns g c = λ asked desk out performs.
-    keeps asked desk out _ _ c.report.result c.status.result performs c.report.ensures.ending c.report.ensures.line c.report.ensures.silent c.status.ensures

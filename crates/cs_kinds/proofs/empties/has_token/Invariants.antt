@@ -1,6 +1,0 @@
-use Rattle.std.proofs.Common.{◌≡◌, drop}
-use Rattle.cs_kinds.specs.Bare.{has_token}
-use Rattle.cs_kinds.proofs.empties.has_token.Given as goal
-
-abbrev pub invariant-loop-symbol : goal.invariant-loop-symbol
-invariant-loop-symbol l = has_token l.symbols ≡ has_token (drop l.symbol-index l.symbols)

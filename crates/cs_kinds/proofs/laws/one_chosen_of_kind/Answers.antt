@@ -1,8 +1,0 @@
-use Rattle.cs_kinds.proofs.ChosenKinds.{one_of_kind, any_chosen, chosen_any}
-use Rattle.cs_kinds.proofs.laws.one_chosen_of_kind.Goals as goal
-
-pub returns-clause-one : goal.returns-clause-one
-returns-clause-one c = λ v k x t u ht hu. one_of_kind v.weights v.grammar t u k x ht hu
-
-pub returns-clause-any : goal.returns-clause-any
-returns-clause-any c = λ v x t. (any_chosen v.weights v.grammar t x, chosen_any v.weights v.grammar t x)

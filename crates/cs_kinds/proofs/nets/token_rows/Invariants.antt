@@ -1,6 +1,0 @@
-use Rattle.cs_kinds.specs.Sides.{kind_on}
-use Rattle.cs_kinds.specs.Tables.{AreCostRows}
-use Rattle.cs_kinds.proofs.nets.token_rows.Given as goal
-
-abbrev pub invariant-loop-place : goal.invariant-loop-place
-invariant-loop-place l = AreCostRows l.costs.weights l.costs.grammar (kind_on l.net.side) l.place l.rows.items

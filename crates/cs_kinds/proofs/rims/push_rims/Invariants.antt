@@ -1,5 +1,0 @@
-use Rattle.cs_kinds.specs.RimsOf.{AreStepsTo}
-use Rattle.cs_kinds.proofs.rims.push_rims.Given as goal
-
-abbrev pub invariant-loop-place : goal.invariant-loop-place
-invariant-loop-place l = AreStepsTo l.bases l.side l.number l.place l.steps

@@ -1,7 +1,0 @@
-use Rattle.std.proofs.Common.{◌≡◌, ◌++◌, reverse, drop}
-use Rattle.cs_kinds.specs.Parts.{parts_from}
-use Rattle.cs_kinds.proofs.writing.put_first.Given as goal
-
-abbrev pub invariant-loop-index : goal.invariant-loop-index
-invariant-loop-index l =
-    reverse l.pending.items ≡ parts_from l.kind l.place l.index (drop l.index l.symbols) ++ reverse l.initial.pending.items

@@ -1,0 +1,3 @@
+pub mod OnCost
+pub mod OnWays
+pub mod OnEmbed

@@ -1,0 +1,5 @@
+use Rattle.cs_lex.proofs.OnActions.OneKind as lemmas
+use Rattle.cs_lex.proofs.actions.laws.one_kind.Goals as goal
+
+pub returns : goal.returns
+returns c = lemmas.one_kind

@@ -1,6 +1,0 @@
-use Rattle.std.proofs.Common.{◌≡◌, take}
-use Rattle.cs_lex.specs.Patterns.{all_spelled}
-use Rattle.cs_lex.proofs.definitions.spelled.Given as goal
-
-abbrev pub invariant-loop-definition : goal.invariant-loop-definition
-invariant-loop-definition l = l.definitions ≡ all_spelled l.bytes (take l.definition-index l.all)

@@ -1,6 +1,0 @@
-use Rattle.cs_yacc.specs.declared.name.TokenName.TheVariants.{Byte}
-use Rattle.cs_lex.proofs.KindsFound.{given_name}
-use Rattle.cs_lex.proofs.kinds.of_literal.Goals as goal
-
-pub returns : goal.returns
-returns c = given_name c.args.yacc.now (Byte c.args.byte) c.literal.result c.of_token.result c.literal.ensures.found c.literal.ensures.none c.of_token.ensures

@@ -1,6 +1,0 @@
-use Rattle.cs_yacc.specs.declared.name.TokenName.TheVariants.{Word}
-use Rattle.cs_lex.proofs.KindsFound.{given_name}
-use Rattle.cs_lex.proofs.kinds.of_word.Goals as goal
-
-pub returns : goal.returns
-returns c = given_name c.args.yacc.now (Word c.args.word.now) c.token.result c.of_token.result c.token.ensures.found c.token.ensures.none c.of_token.ensures

@@ -1,8 +1,0 @@
-use Rattle.cs_lex.proofs.AcceptedOrRefused.{settled, stopped}
-use Rattle.cs_lex.proofs.laws.accepted_or_refused.Goals as goal
-
-pub returns-in-Some : goal.returns-in-Some
-returns-in-Some c = λ yacc. settled c.args.bytes.now yacc c.in-Some.from c.in-Some.ensures.end c.walk_kinds.ensures
-
-pub returns-in_default : goal.returns-in_default
-returns-in_default c = λ yacc. stopped c.args.bytes.now yacc c.in_default.ensures.stop

@@ -1,0 +1,5 @@
+use Rattle.cs_lex.proofs.OnLayout.NewNames as lemmas
+use Rattle.cs_lex.proofs.layout.laws.new_names.Goals as goal
+
+pub returns : goal.returns
+returns c = lemmas.new_names

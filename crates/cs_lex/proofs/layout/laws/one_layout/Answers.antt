@@ -1,0 +1,5 @@
+use Rattle.cs_lex.proofs.OnLayout.Uniqueness as lemmas
+use Rattle.cs_lex.proofs.layout.laws.one_layout.Goals as goal
+
+pub returns : goal.returns
+returns c = lemmas.one_layout

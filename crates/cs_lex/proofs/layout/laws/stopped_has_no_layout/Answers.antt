@@ -1,0 +1,5 @@
+use Rattle.cs_lex.proofs.OnLayout.Uniqueness as lemmas
+use Rattle.cs_lex.proofs.layout.laws.stopped_has_no_layout.Goals as goal
+
+pub returns : goal.returns
+returns c = lemmas.stopped_has_no_layout

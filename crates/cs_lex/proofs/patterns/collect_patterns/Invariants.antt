@@ -1,6 +1,0 @@
-use Rattle.std.proofs.Common.{take}
-use Rattle.cs_lex.specs.Found.{HaveFound}
-use Rattle.cs_lex.proofs.patterns.collect_patterns.Given as goal
-
-abbrev pub invariant-loop-rule : goal.invariant-loop-rule
-invariant-loop-rule l = HaveFound l.definitions l.bytes (take l.rule-index l.rules) l.patterns.items l.leaves

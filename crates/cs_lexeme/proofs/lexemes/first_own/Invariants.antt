@@ -1,7 +1,0 @@
-use Rattle.std.proofs.Common.{None}
-use Rattle.cs_scan.specs.Compared.{scanning}
-use Rattle.cs_lexeme.specs.Kinds.{IsFirstPlace, own_byte}
-use Rattle.cs_lexeme.proofs.lexemes.first_own.Given as goal
-
-abbrev pub invariant-loop-place : goal.invariant-loop-place
-invariant-loop-place l = IsFirstPlace (scanning l.table.scanner) l.table.scanner.automaton.now l.visits l.place own_byte None

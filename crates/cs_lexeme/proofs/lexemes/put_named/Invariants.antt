@@ -1,6 +1,0 @@
-use Rattle.cs_lexeme.specs.Kinds.{AreAllFound}
-use Rattle.cs_lexeme.specs.Texts.{texts_of}
-use Rattle.cs_lexeme.proofs.lexemes.put_named.Given as goal
-
-abbrev pub invariant-loop-place : goal.invariant-loop-place
-invariant-loop-place l = AreAllFound l.table.scanner l.visits l.place (texts_of l.fn.texts.items) (texts_of l.texts.items)

@@ -1,5 +1,0 @@
-use Rattle.cs_lexeme.specs.Visits.{IsMidRow}
-use Rattle.cs_lexeme.proofs.search.meet_behind.Given as goal
-
-abbrev pub invariant-loop-i : goal.invariant-loop-i
-invariant-loop-i l = IsMidRow l.table.scanner.automaton.now l.place l.row l.fn.visits.items l.visits.items l.met l.i

@@ -1,0 +1,9 @@
+pub mod Ends
+pub mod Texts
+pub mod Zips
+pub mod Naming
+pub mod OneShared
+pub mod SomeShared
+pub mod OneManifest
+pub mod SomeManifest
+pub mod Holes

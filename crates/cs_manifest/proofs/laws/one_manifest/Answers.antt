@@ -1,5 +1,0 @@
-use Rattle.cs_manifest.proofs.OneManifest.{one_manifest_by}
-use Rattle.cs_manifest.proofs.laws.one_manifest.Goals as goal
-
-pub returns : goal.returns
-returns c = λ choice file. one_manifest_by choice file c.one_text.ensures

@@ -1,5 +1,0 @@
-use Rattle.cs_manifest.proofs.Texts.{text_is_one}
-use Rattle.cs_manifest.proofs.laws.one_text.Goals as goal
-
-pub returns : goal.returns
-returns c = text_is_one c.one_list_of_lexemes.ensures c.one_rendering.ensures

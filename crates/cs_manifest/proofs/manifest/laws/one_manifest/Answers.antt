@@ -1,0 +1,5 @@
+use Rattle.cs_manifest.proofs.OnManifest.OneManifest.{one_manifest_by}
+use Rattle.cs_manifest.proofs.manifest.laws.one_manifest.Goals as goal
+
+pub returns : goal.returns
+returns c = λ choice file. one_manifest_by choice file c.one_text.ensures

@@ -1,0 +1,12 @@
+use Rattle.cs_manifest.proofs.OnManifest.Holes.{parts_fill}
+use Rattle.cs_manifest.proofs.manifest.open.OpenLines.new.Goals as goal
+
+pub returns : goal.returns
+returns c =
+    rw (
+      c.in_ok-part_piece.ensures,
+      c.in_ok-part_piece-2.ensures,
+      c.in_ok-part_piece-3.ensures,
+      c.in_ok-part_piece-4.ensures,
+      c.in_ok-part_piece-5.ensures,
+    ) (parts_fill c.args.file.now c.args.negatives.now)

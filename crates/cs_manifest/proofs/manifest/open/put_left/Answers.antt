@@ -1,0 +1,5 @@
+use Rattle.cs_manifest.proofs.OnOutput.Pieces.{then}
+use Rattle.cs_manifest.proofs.manifest.open.put_left.Goals as goal
+
+pub returns-in-Behind : goal.returns-in-Behind
+returns-in-Behind g c = rw c.in-Behind.is (then c.put.ensures c.put_spaced_mark.ensures)

@@ -1,0 +1,5 @@
+use Rattle.cs_manifest.proofs.OnOutput.Pieces.{then}
+use Rattle.cs_manifest.proofs.manifest.put_entry.put_pair.Goals as goal
+
+pub returns : goal.returns
+returns g c = then c.put_spaced_mark.ensures c.put_spaced_mark-2.ensures

@@ -1,5 +1,0 @@
-use Rattle.cs_output.proofs.Pieces.{then}
-use Rattle.cs_manifest.proofs.open.put_left.Goals as goal
-
-pub returns-in-Behind : goal.returns-in-Behind
-returns-in-Behind g c = rw c.in-Behind.is (then c.put.ensures c.put_spaced_mark.ensures)

@@ -1,5 +1,0 @@
-use Rattle.cs_output.proofs.Pieces.{then}
-use Rattle.cs_manifest.proofs.open.put_right.Goals as goal
-
-pub returns-in-Before : goal.returns-in-Before
-returns-in-Before g c = rw c.in-Before.is (then c.put_spaced_mark.ensures c.put_count-in-Before.ensures)

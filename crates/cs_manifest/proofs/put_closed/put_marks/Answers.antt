@@ -1,9 +1,0 @@
-use Rattle.cs_output.specs.Names.{mark_text}
-use Rattle.cs_output.proofs.Pieces.{nothing, spaced_next}
-use Rattle.cs_manifest.proofs.put_closed.put_marks.Goals as goal
-
-pub loop-mark-init : goal.loop-mark-init
-loop-mark-init g c = nothing _
-
-pub loop-mark-preserved : goal.loop-mark-preserved
-loop-mark-preserved g c = spaced_next (mark_text c.args.file.now) c.args.marks.now c.loop-mark.mark-index _ c.loop-mark-test.true c.loop-mark.invariant c.put_spaced_mark.ensures

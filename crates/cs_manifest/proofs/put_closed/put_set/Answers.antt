@@ -1,5 +1,0 @@
-use Rattle.cs_output.proofs.Pieces.{then}
-use Rattle.cs_manifest.proofs.put_closed.put_set.Goals as goal
-
-pub returns : goal.returns
-returns g c = then (then c.put.ensures c.put_nonterminals.ensures) c.put-2.ensures

@@ -1,5 +1,0 @@
-use Rattle.cs_output.proofs.Pieces.{then}
-use Rattle.cs_manifest.proofs.put_entry.put_base_words.Goals as goal
-
-pub returns : goal.returns
-returns g c = then c.put_count.ensures c.put_count-2.ensures

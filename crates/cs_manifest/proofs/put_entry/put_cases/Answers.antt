@@ -1,5 +1,0 @@
-use Rattle.cs_output.proofs.Pieces.{nothing}
-use Rattle.cs_manifest.proofs.put_entry.put_cases.Goals as goal
-
-pub returns-in-None : goal.returns-in-None
-returns-in-None g c = rw c.in-None.is (nothing _)

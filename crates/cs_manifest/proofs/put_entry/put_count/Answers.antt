@@ -1,5 +1,0 @@
-use Rattle.cs_output.proofs.Pieces.{then}
-use Rattle.cs_manifest.proofs.put_entry.put_count.Goals as goal
-
-pub returns : goal.returns
-returns g c = then c.put.ensures c.put_number.ensures

@@ -1,5 +1,0 @@
-use Rattle.cs_output.proofs.Pieces.{then}
-use Rattle.cs_manifest.proofs.put_entry.put_pair.Goals as goal
-
-pub returns : goal.returns
-returns g c = then c.put_spaced_mark.ensures c.put_spaced_mark-2.ensures

@@ -1,5 +1,0 @@
-use Rattle.cs_output.proofs.Pieces.{then}
-use Rattle.cs_manifest.proofs.put_head.put_token_line.Goals as goal
-
-pub returns : goal.returns
-returns g c = then (then (then c.put.ensures c.put_number.ensures) (then c.put-2.ensures c.put_token_name.ensures)) c.put-3.ensures

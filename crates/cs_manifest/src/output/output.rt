@@ -1,0 +1,281 @@
+// An output: a lent sink behind a lent line of bytes that wait for it, with a count of the bytes that it got.
+
+ghost use Rattle.std.specs.Prelude.{◌≡◌, ◌+◌, ◌++◌, ◌∷◌, ◌<◌, ◌≤◌, IfOk, OnErr, OnOk, false, true, [], decimal, length, take};
+ghost use Rattle.cs_bytes.specs.Names.{space};
+ghost use Rattle.cs_manifest.specs.Output.Sinks.{Writes};
+
+use crate::output::numeral::{NUMERAL_LENGTH, Numeral};
+use crate::output::piece::{Piece, SHORT_LENGTH, WORD_LENGTH};
+use cs_io::{Sink, SinkError, write_all};
+use itoa::Buffer;
+
+/// How many bytes may wait.
+pub const LINE_LENGTH: usize = 1024;
+
+/// A lent sink behind a lent line of bytes that wait for it.
+///
+/// Most pieces are a few bytes, so they gather in the line, and the sink gets them together. After a write that failed nothing
+/// more is passed on, and what is put into the line is lost. So the lines are written one piece after another, and the failure
+/// is asked for at their end.
+#[derive(Drop)]
+pub struct Output<'s, S: Sink> {
+    pub sink: &'s mut S,
+    pub line: &'s mut [u8; LINE_LENGTH],
+    pub used: usize,
+    pub bytes: u128,
+    pub failed: bool,
+}
+
+impl<'s, S: Sink> Output<'s, S> {
+    ghost use Rattle.cs_manifest.specs.Output.Putting.{Puts, shown, waiting};
+
+    /// An output to which nothing was put yet; so many bytes went to the sink before.
+    pub fn new(sink: &'s mut S, line: &'s mut [u8; LINE_LENGTH], bytes: u128) -> Output<'s, S>
+        ensures reference { result.sink.ghost_name ≡ sink.entry.ghost_name }
+        ensures line { result.line.ghost_name ≡ line.entry.ghost_name }
+        ensures sink { result.sink.now ≡ sink.old }
+        ensures waiting { waiting result ≡ [] }
+        ensures bytes { result.bytes ≡ bytes }
+        ensures fine { result.failed ≡ false }
+    {
+        Output {
+            sink,
+            line,
+            used: 0,
+            bytes,
+            failed: false,
+        }
+    }
+
+    /// Puts bytes behind what was put before.
+    #[inline(always)]
+    pub fn put(&mut self, piece: &[u8])
+        ensures { Puts S.Sink piece.now self.old self.new }
+    {
+        if piece.len() <= LINE_LENGTH && self.used <= LINE_LENGTH - piece.len() {
+            self.keep(piece);
+        } else {
+            self.put_behind(piece);
+        }
+    }
+
+    /// Puts a space and a word behind it.
+    #[inline(always)]
+    pub fn put_spaced(&mut self, word: &[u8])
+        ensures { Puts S.Sink (space ∷ word.now) self.old self.new }
+    {
+        if word.len() < LINE_LENGTH && self.used < LINE_LENGTH - word.len() {
+            self.keep_spaced(word);
+        } else {
+            self.put_spaced_behind(word);
+        }
+    }
+
+    /// Puts a piece that is put often.
+    #[inline(always)]
+    pub fn put_piece(&mut self, piece: &Piece)
+        ensures { Puts S.Sink piece.now self.old self.new }
+    {
+        if self.used > LINE_LENGTH - SHORT_LENGTH {
+            self.put_long(piece);
+        } else if piece.len() <= WORD_LENGTH {
+            self.keep_front::<WORD_LENGTH>(piece.padded(), piece.len());
+        } else if piece.len() <= SHORT_LENGTH {
+            self.keep_front::<SHORT_LENGTH>(piece.padded(), piece.len());
+        } else {
+            self.put_long(piece);
+        }
+    }
+
+    // Puts a piece that is long, or for which the line has little room.
+    #[inline(never)]
+    fn put_long(&mut self, piece: &Piece)
+        ensures { Puts S.Sink piece.now self.old self.new }
+    {
+        self.put(piece.bytes());
+    }
+
+    // Lets the first bytes of a text wait, by one copy of a fixed length, for which both have room.
+    #[inline(always)]
+    fn keep_front<const N: usize>(&mut self, padded: &[u8], len: usize)
+        requires short { len ≤ N }
+        requires padded { N ≤ length padded.now }
+        requires room { self.old.used + N ≤ 1024 }
+        ensures { Puts S.Sink (take len padded.now) self.old self.new }
+    {
+        put_front::<N>(&mut *self.line, self.used, padded);
+        self.used += len;
+    }
+
+    // Lets a piece wait, for which the line has room.
+    #[inline(always)]
+    fn keep(&mut self, piece: &[u8])
+        requires { self.old.used + length piece.now ≤ 1024 }
+        ensures puts { Puts S.Sink piece.now self.old self.new }
+        ensures used { self.new.used ≡ self.old.used + length piece.now }
+    {
+        put_at(&mut *self.line, self.used, piece);
+        self.used += piece.len();
+    }
+
+    // Lets a space and a word wait, for which the line has room.
+    #[inline(always)]
+    fn keep_spaced(&mut self, word: &[u8])
+        requires { self.old.used + length word.now < 1024 }
+        ensures { Puts S.Sink (space ∷ word.now) self.old self.new }
+    {
+        self.keep(b" ");
+        self.keep(word);
+    }
+
+    // Passes on what waits, and puts a space and a word behind it.
+    #[inline(never)]
+    fn put_spaced_behind(&mut self, word: &[u8])
+        ensures { Puts S.Sink (space ∷ word.now) self.old self.new }
+    {
+        self.put_behind(b" ");
+        self.put(word);
+    }
+
+    // Passes on what waits, and puts a piece behind it.
+    #[inline(never)]
+    fn put_behind(&mut self, piece: &[u8])
+        ensures { Puts S.Sink piece.now self.old self.new }
+    {
+        self.pass_on();
+        if self.failed {
+            return;
+        }
+        if piece.len() <= LINE_LENGTH {
+            self.keep(piece);
+        } else {
+            self.write(piece);
+        }
+    }
+
+    // Writes a piece, for which nothing waits.
+    fn write(&mut self, piece: &[u8])
+        requires fine { self.old.failed ≡ false }
+        requires waiting { waiting self.old ≡ [] }
+        ensures { Puts S.Sink piece.now self.old self.new }
+    {
+        let outcome = write_all(&mut *self.sink, piece);
+        self.note(outcome, piece.len());
+    }
+
+    // Passes on what waits.
+    fn pass_on(&mut self)
+        ensures puts { Puts S.Sink [] self.old self.new }
+        ensures waiting { waiting self.new ≡ [] }
+        ensures used { self.new.used ≡ 0 }
+    {
+        let used = self.used.min(LINE_LENGTH);
+        self.used = 0;
+        if self.failed {
+            return;
+        }
+        let outcome = write_front(&mut *self.sink, &*self.line, used);
+        self.note(outcome, used);
+    }
+
+    // Notes how a write of so many bytes ended.
+    fn note(&mut self, outcome: Result<(), SinkError>, count: usize)
+        ensures ok { OnOk outcome (self.new
+            ≡ record self.old { bytes = shown (self.old.bytes + count) }) }
+        ensures err { OnErr outcome (self.new ≡ record self.old { failed = true }) }
+    {
+        match outcome {
+            Ok(()) => self.bytes = self.bytes.saturating_add(count as u128),
+            Err(_) => self.failed = true,
+        }
+    }
+
+    /// Puts a number, decimal.
+    pub fn put_number(&mut self, number: u64)
+        ensures { Puts S.Sink (decimal number) self.old self.new }
+    {
+        let mut digits = Buffer::new();
+        self.put(digits.format(number).as_bytes());
+    }
+
+    /// Puts a number that counts up.
+    #[inline(always)]
+    pub fn put_numeral(&mut self, numeral: &Numeral)
+        ensures { Puts S.Sink (decimal numeral.now) self.old self.new }
+    {
+        if self.used <= LINE_LENGTH - NUMERAL_LENGTH {
+            self.keep_front::<NUMERAL_LENGTH>(numeral.padded(), numeral.len());
+        } else {
+            self.put_behind(numeral.bytes());
+        }
+    }
+
+    /// Passes on what waits, and answers the count of bytes.
+    pub fn end(&mut self) -> Result<u128, SinkError>
+        ensures puts { Puts S.Sink [] self.old self.new }
+        ensures waiting { waiting self.new ≡ [] }
+        ensures bytes { IfOk result (λ bytes. bytes ≡ self.new.bytes) }
+        ensures ok { OnOk result (self.new.failed ≡ false) }
+        ensures err { OnErr result (self.new.failed ≡ true) }
+    {
+        self.pass_on();
+        if self.failed {
+            return Err(SinkError::Failed);
+        }
+        Ok(self.bytes)
+    }
+}
+
+// Puts a piece into a line. Most are shorter than what a call to copy them takes.
+#[inline(always)]
+fn put_at(line: &mut [u8; LINE_LENGTH], at: usize, piece: &[u8])
+    requires { at + length piece.now ≤ 1024 }
+    ensures { take (at + length piece.now) line.new ≡ take at line.old ++ piece.now }
+{
+    match piece.len() {
+        1 => put_ends(line, at, piece, 1),
+        2..=3 => put_ends(line, at, piece, 2),
+        4..=7 => put_ends(line, at, piece, 4),
+        8..=16 => put_ends(line, at, piece, 8),
+        _ => line[at..at + piece.len()].copy_from_slice(piece),
+    }
+}
+
+// Puts a piece into a line by its first bytes and its last, so many of each; those between are put twice.
+#[inline(always)]
+fn put_ends(line: &mut [u8; LINE_LENGTH], at: usize, piece: &[u8], count: usize)
+    requires room { at + length piece.now ≤ 1024 }
+    requires some { count ≤ length piece.now }
+    requires all { length piece.now ≤ count + count }
+    ensures { take (at + length piece.now) line.new ≡ take at line.old ++ piece.now }
+{
+    let back = piece.len() - count;
+    line[at..at + count].copy_from_slice(&piece[..count]);
+    line[at + back..at + back + count].copy_from_slice(&piece[back..]);
+}
+
+// Puts the first bytes of a text into a line. By way of an array, which can't overlap the line, the copy is a few moves.
+#[inline(always)]
+fn put_front<const N: usize>(line: &mut [u8; LINE_LENGTH], at: usize, text: &[u8])
+    requires some { N ≤ length text.now }
+    requires room { at + N ≤ 1024 }
+    ensures length { length line.old ≡ 1024 }
+    ensures front { take (at + N) line.new ≡ take at line.old ++ take N text.now }
+{
+    let mut bytes = [0u8; N];
+    bytes.copy_from_slice(&text[..N]);
+    line[at..at + N].copy_from_slice(&bytes);
+}
+
+// Writes the first bytes of a line.
+fn write_front<S: Sink>(
+    sink: &mut S,
+    line: &[u8; LINE_LENGTH],
+    count: usize,
+) -> Result<(), SinkError>
+    requires { count ≤ 1024 }
+    ensures length { length line.now ≡ 1024 }
+    ensures writes { Writes S.Sink result (take count line.now) sink.old sink.new }
+{
+    write_all(sink, &line[..count])
+}

@@ -1,3 +1,0 @@
-pub mod Makers
-pub mod Mutants
-pub mod Rows

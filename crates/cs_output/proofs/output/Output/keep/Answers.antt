@@ -1,6 +1,0 @@
-use Rattle.std.proofs.Common.{refl}
-use Rattle.cs_output.proofs.Pieces.{kept}
-use Rattle.cs_output.proofs.output.Output.keep.Goals as goal
-
-pub returns-clause-puts : goal.returns-clause-puts
-returns-clause-puts g c = kept refl refl refl refl refl c.put_at.ensures

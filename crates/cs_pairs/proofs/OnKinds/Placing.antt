@@ -1,0 +1,144 @@
+-- Where the tree of a kind itself stands in the chosen trees of some symbols.
+use Rattle.std.proofs.Common.{◌≡◌, ℕ, ◌+◌, ◌<◌, ◌≤◌, Bool, true, false, List, [], ◌∷◌, ◌++◌, length, get_or, drop, refl, sym, ap, ◌∙◌, subst, ⊎_elim, arith}
+use Rattle.std.specs.Prelude.{◌↔◌, IsTrue, All, nat_lt, nat_eq, if◌then◌else◌}
+use Rattle.std.proofs.lemmas.Bool.{cases_lt}
+use Rattle.std.proofs.lemmas.Bool.Decides.{nat_tests}
+use Rattle.std.proofs.lemmas.List.{at_drop_more}
+use Rattle.std.proofs.lemmas.List.Elements.{All-nil, All-cons, All-head, All-tail}
+use Rattle.cs_grammar.specs.declared.symbol.Symbol.{Symbol}
+use Rattle.cs_grammar.specs.Grammar.{PlainGrammar, IsSymbol}
+use Rattle.cs_grammar.specs.Weights.{Measure}
+use Rattle.cs_grammar.specs.Tree.{Forest, Bare, Grown, sizes}
+use Rattle.cs_grammar.specs.Context.{join}
+use Rattle.cs_least.specs.declared.cost.cost.Cost.{Cost}
+use Rattle.cs_least.specs.Cost.Least.{IsCost}
+use Rattle.cs_least.specs.Cost.Rank.{rank}
+use Rattle.cs_least.proofs.OnCost.Ranks.{cost_low, cost_least}
+use Rattle.cs_pairs.specs.declared.kinds.kind.TreeKind.{TreeKind}
+use Rattle.cs_pairs.specs.declared.kinds.kind.TreeKind.TheVariants.{Any, Empty, Begins, Ends}
+use Rattle.cs_pairs.specs.declared.kinds.writing.Part.{Part}
+use Rattle.cs_pairs.specs.Kinds.Kinds.{before, behind, IsKind}
+use Rattle.cs_pairs.specs.Kinds.Ways.{AreHere, AreLater, joint_size}
+use Rattle.cs_pairs.specs.Kinds.ChosenKind.{IsChosenOfKind, AreChosenOfKind}
+use Rattle.cs_pairs.specs.Kinds.Parts.{kind_at, parts_from, AreChosenParts, IsPartOf}
+use Rattle.cs_pairs.proofs.OnKinds.ListCosts.{IsKind-before, IsKind-behind}
+use Rattle.cs_pairs.proofs.OnKinds.ChosenKinds.{IsTree-of_kind, AreTrees-of_kind}
+
+at_before : (k : TreeKind) (place i : ℕ) → i < place → kind_at k place i ≡ before k
+at_before k place i h = grind (arith, nat_tests)
+
+at_own : (k : TreeKind) (i : ℕ) → kind_at k i i ≡ k
+at_own k i = grind (arith, nat_tests)
+
+at_behind : (k : TreeKind) (place i : ℕ) → place < i → kind_at k place i ≡ behind k
+at_behind k place i h = grind (arith, nat_tests)
+
+-- what the answer says where it is no
+pub not_at_most : (answer : Bool) (m n : ℕ) → answer ≡ false → IsTrue answer ↔ (m ≤ n) → n < m
+not_at_most true m n is_no h = absurd cc
+not_at_most false m n is_no h = ⊎_elim (λ less. less) (λ no_less. let yes = h.1 (omega (arith, no_less)) in absurd cc) (cases_lt n m)
+
+-- what is left of a list from a place on
+pub left_from : (xs : List Symbol) (i next : ℕ) (d : Symbol) → i + 1 ≡ next → i < length xs → get_or xs i d ∷ drop next xs ≡ drop i xs
+left_from xs i next d is_next within = sym (at_drop_more (λ (l : List Symbol). l) xs i d within ∙ ap (λ n. get_or xs i d ∷ drop n xs) is_next)
+
+behind_twice : (k : TreeKind) → (before (behind k) ≡ behind k) × (behind (behind k) ≡ behind k)
+behind_twice Any = (refl, refl)
+behind_twice Empty = (refl, refl)
+behind_twice (Begins b) = (refl, refl)
+behind_twice (Ends a) = (refl, refl)
+
+module _ (w : Measure) (g : PlainGrammar) where
+  -- trees behind one of the kind
+  behind_parts : (f : Forest) (k : TreeKind) (place i : ℕ) (xs : List Symbol) → place < i → AreChosenOfKind w g (behind k) xs f → AreChosenParts w g (parts_from k place i xs) f
+  behind_parts Bare k place i [] lt h = tt
+  behind_parts Bare k place i (x ∷ xs) lt h = absurd h
+  behind_parts (Grown t f) k place i [] lt h = absurd h
+  behind_parts (Grown t f) k place i (x ∷ xs) lt h =
+      let at = at_behind k place i lt in
+      ⊎_elim
+      (λ v. (
+        subst (λ j. IsChosenOfKind w g j x t) (sym at) v.0,
+        behind_parts f k place (i + 1) xs (omega (arith, lt)) (subst (λ j. AreChosenOfKind w g j xs f) (behind_twice k).1 v.1),
+      ))
+      (λ v. (
+        subst (λ j. IsChosenOfKind w g j x t) (sym at) (subst (λ j. IsChosenOfKind w g j x t) (behind_twice k).0 v.0),
+        behind_parts f k place (i + 1) xs (omega (arith, lt)) v.1,
+      ))
+      h
+
+  module _ (k : TreeKind) (x : Symbol) (ys : List Symbol) (i : ℕ) (here later : Cost) (is_here : IsCost w.limit (AreHere g k x ys) (joint_size w) here) (is_later : IsCost w.limit (AreLater g k x ys) (joint_size w) later) where
+    -- the first tree of the chosen ones is of the kind itself where that costs no more
+    pub placed_here : rank w.limit here ≤ rank w.limit later → (f : Forest) → AreChosenOfKind w g k (x ∷ ys) f → sizes w f ≤ w.limit → AreChosenParts w g (parts_from k i i (x ∷ ys)) f
+    placed_here cheap Bare h small = absurd h
+    placed_here cheap (Grown t f) h small =
+        ⊎_elim
+        (λ v. (subst (λ j. IsChosenOfKind w g j x t) (sym (at_own k i)) v.0, behind_parts f k i (i + 1) ys (omega arith) v.1))
+        (λ v.
+        let there : AreLater g k x ys (t, f) = (IsTree-of_kind w g t (before k) x v.0, AreTrees-of_kind w g f k ys v.1) in
+        let low = cost_low w.limit (AreLater g k x ys) (joint_size w) later is_later (t, f) there in
+        let p = cost_least w.limit (AreHere g k x ys) (joint_size w) here is_here (omega (arith, cheap, low, small)) in
+        absurd (omega (arith, v.2 p.0 p.1, p.2, cheap, low, small)))
+        h
+
+    -- and else the others are
+    pub placed_later : (place : ℕ) → i < place → rank w.limit later < rank w.limit here → ((f : Forest) → AreChosenOfKind w g k ys f → sizes w f ≤ w.limit → AreChosenParts w g (parts_from k place (i + 1) ys) f) → (f : Forest) → AreChosenOfKind w g k (x ∷ ys) f → sizes w f ≤ w.limit → AreChosenParts w g (parts_from k place i (x ∷ ys)) f
+    placed_later place lt cheap so_far Bare h small = absurd h
+    placed_later place lt cheap so_far (Grown t f) h small =
+        ⊎_elim
+        (λ v.
+        let there : AreHere g k x ys (t, f) = (IsTree-of_kind w g t k x v.0, AreTrees-of_kind w g f (behind k) ys v.1) in
+        let low = cost_low w.limit (AreHere g k x ys) (joint_size w) here is_here (t, f) there in
+        let p = cost_least w.limit (AreLater g k x ys) (joint_size w) later is_later (omega (arith, cheap, low, small)) in
+        absurd (omega (arith, v.2 p.0 p.1, p.2, cheap, low, small)))
+        (λ v. (subst (λ j. IsChosenOfKind w g j x t) (sym (at_before k place i lt)) v.0, so_far f v.1 (omega (arith, small))))
+        h
+
+  -- the parts are of the grammar
+  pub parts_fit : (k : TreeKind) (place i : ℕ) (xs : List Symbol) → IsKind g.tokens k → All (IsSymbol g.tokens g.nonterminals) xs → All (IsPartOf g) (parts_from k place i xs)
+  parts_fit k place i [] fits each = All-nil (IsPartOf g)
+  parts_fit k place i (x ∷ xs) fits each =
+      All-cons (IsPartOf g) (record { kind = kind_at k place i; symbol = x }) (parts_from k place (i + 1) xs)
+      (at_fits, All-head (IsSymbol g.tokens g.nonterminals) x xs each)
+      (parts_fit k place (i + 1) xs fits (All-tail (IsSymbol g.tokens g.nonterminals) x xs each))
+    where
+      at_fits : IsKind g.tokens (kind_at k place i)
+      at_fits = cases (nat_lt i place) (nat_eq i place)
+        where
+          cases : (lower same : Bool) → IsKind g.tokens (if lower then before k else (if same then k else behind k))
+          cases true same = IsKind-before g.tokens k fits
+          cases false true = fits
+          cases false false = IsKind-behind g.tokens k fits
+
+  -- parts one after another
+  pub AreChosenParts-join : (f h : Forest) (ps qs : List Part) → AreChosenParts w g ps f → AreChosenParts w g qs h → AreChosenParts w g (ps ++ qs) (join f h)
+  AreChosenParts-join Bare h [] qs hf hh = hh
+  AreChosenParts-join Bare h (p ∷ ps) qs hf hh = absurd hf
+  AreChosenParts-join (Grown t f) h [] qs hf hh = absurd hf
+  AreChosenParts-join (Grown t f) h (p ∷ ps) qs hf hh = (hf.0, AreChosenParts-join f h ps qs hf.1 hh)
+
+-- in the names of the code
+module _ (w : Measure) (g : PlainGrammar) (k j : TreeKind) (xs : List Symbol) (i next : ℕ) (d : Symbol) (place : ℕ) (here later : Cost) (is_next : i + 1 ≡ next) (within : i < length xs) (is_kind : j ≡ k) (is_here : IsCost w.limit (AreHere g j (get_or xs i d) (drop next xs)) (joint_size w) here) (is_later : IsCost w.limit (AreLater g j (get_or xs i d) (drop next xs)) (joint_size w) later) where
+  front : drop i xs ≡ get_or xs i d ∷ drop next xs
+  front = sym (left_from xs i next d is_next within)
+
+  pub place_taken : rank w.limit here ≤ rank w.limit later → (f : Forest) → AreChosenOfKind w g k (drop i xs) f → sizes w f ≤ w.limit → AreChosenParts w g (parts_from k i i (drop i xs)) f
+  place_taken cheap =
+      let is_here' = subst (λ m. IsCost w.limit (AreHere g m (get_or xs i d) (drop next xs)) (joint_size w) here) is_kind is_here in
+      let is_later' = subst (λ m. IsCost w.limit (AreLater g m (get_or xs i d) (drop next xs)) (joint_size w) later) is_kind is_later in
+      subst (λ (l : List Symbol). (f : Forest) → AreChosenOfKind w g k l f → sizes w f ≤ w.limit → AreChosenParts w g (parts_from k i i l) f) (sym front)
+      (placed_here w g k (get_or xs i d) (drop next xs) i here later is_here' is_later' cheap)
+
+  pub place_passed : next ≤ place → rank w.limit later < rank w.limit here → ((f : Forest) → AreChosenOfKind w g k (drop next xs) f → sizes w f ≤ w.limit → AreChosenParts w g (parts_from k place next (drop next xs)) f) → (f : Forest) → AreChosenOfKind w g k (drop i xs) f → sizes w f ≤ w.limit → AreChosenParts w g (parts_from k place i (drop i xs)) f
+  place_passed above cheap so_far =
+      let is_here' = subst (λ m. IsCost w.limit (AreHere g m (get_or xs i d) (drop next xs)) (joint_size w) here) is_kind is_here in
+      let is_later' = subst (λ m. IsCost w.limit (AreLater g m (get_or xs i d) (drop next xs)) (joint_size w) later) is_kind is_later in
+      let so_far' = subst (λ n. (f : Forest) → AreChosenOfKind w g k (drop next xs) f → sizes w f ≤ w.limit → AreChosenParts w g (parts_from k place n (drop next xs)) f) (sym is_next) so_far in
+      subst (λ (l : List Symbol). (f : Forest) → AreChosenOfKind w g k l f → sizes w f ≤ w.limit → AreChosenParts w g (parts_from k place i l) f) (sym front)
+      (placed_later w g k (get_or xs i d) (drop next xs) i here later is_here' is_later' place (omega (arith, above, is_next)) cheap so_far')
+
+-- no symbol is swept
+pub place_none : (w : Measure) (g : PlainGrammar) (k : TreeKind) (place i : ℕ) (ys : List Symbol) → ys ≡ [] → (f : Forest) → AreChosenOfKind w g k ys f → sizes w f ≤ w.limit → AreChosenParts w g (parts_from k place i ys) f
+place_none w g k place i [] e Bare h small = tt
+place_none w g k place i [] e (Grown t f) h small = absurd h
+place_none w g k place i (y ∷ ys) e f h small = absurd cc

@@ -1,0 +1,11 @@
+pub mod Fronting
+pub mod Framed
+pub mod Seams
+pub mod Adjacency
+pub mod ChosenSeams
+pub mod ChosenPairs
+pub mod SourceLists
+pub mod Inwards
+pub mod FollowLists
+pub mod Laying
+pub mod Derived

@@ -1,8 +1,0 @@
-use Rattle.cs_pairs.proofs.Laying.{code_of_one, small_one}
-use Rattle.cs_pairs.proofs.derive.kind_code.Goals as goal
-
-pub kind_into-requires-clause-small : goal.kind_into-requires-clause-small
-kind_into-requires-clause-small c = small_one c.args.kinds.now.weights c.args.kinds.now.grammar c.args.kind c.args.symbol c.requires.small
-
-pub returns : goal.returns
-returns c = code_of_one c.args.kinds.now.weights c.args.kinds.now.grammar c.args.kind c.args.symbol _ _ c.requires.small c.new-derivation.ensures c.in_ok-kind_into.ensures.ok

@@ -1,9 +1,0 @@
-use Rattle.cs_pairs.specs.Pairs.{ArePairRows}
-use Rattle.cs_pairs.specs.Meetings.{AreMeetingRows}
-use Rattle.cs_pairs.proofs.follows.follow_rows.Given as goal
-
-abbrev pub invariant-loop-place : goal.invariant-loop-place
-invariant-loop-place l = record {
-  costs : ArePairRows l.kinds.weights l.kinds.grammar l.place l.rows.costs.items;
-  meetings : AreMeetingRows l.kinds.weights l.kinds.grammar l.place l.rows.meetings.items;
-}

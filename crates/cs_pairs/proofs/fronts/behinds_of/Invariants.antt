@@ -1,9 +1,0 @@
-use Rattle.std.proofs.Common.{drop}
-use Rattle.cs_grammar.specs.Tree.{sizes}
-use Rattle.cs_kinds.specs.declared.kind.TreeKind.TheVariants.{Any}
-use Rattle.cs_kinds.specs.Kinds.{AreTreesOfKind}
-use Rattle.cs_kinds.specs.Filled.{IsFilled}
-use Rattle.cs_pairs.proofs.fronts.behinds_of.Given as goal
-
-abbrev pub invariant-loop-place : goal.invariant-loop-place
-invariant-loop-place l = IsFilled l.costs.weights.limit (λ n. AreTreesOfKind l.costs.grammar Any (drop n l.rule.right)) (sizes l.costs.weights) l.place l.behinds.items

@@ -1,8 +1,0 @@
-use Rattle.cs_pairs.proofs.ChosenPairs.{pair_exists, pair_has, pair_least}
-use Rattle.cs_pairs.proofs.laws.chosen_pair_exists.Goals as goal
-
-pub returns-clause-exists : goal.returns-clause-exists
-returns-clause-exists c = λ v a b has. pair_exists v.weights v.grammar a b has.1.0 has.0.0 has.0.1 has.1.1
-
-pub returns-clause-least : goal.returns-clause-least
-returns-clause-least c = λ v a b u h. record { has_pair = pair_has v.weights v.grammar a b u h; least = λ t is. pair_least v.weights v.grammar a b t u is h }

@@ -1,5 +1,0 @@
-use Rattle.cs_pairs.proofs.ChosenPairs.{one_pair}
-use Rattle.cs_pairs.proofs.laws.one_chosen_pair.Goals as goal
-
-pub returns : goal.returns
-returns c = λ v a b t u ht hu. one_pair v.weights v.grammar a b t u ht hu

@@ -1,0 +1,5 @@
+use Rattle.cs_pairs.proofs.OnPairs.ChosenPairs.{one_pair}
+use Rattle.cs_pairs.proofs.pairs.laws.one_chosen_pair.Goals as goal
+
+pub returns : goal.returns
+returns c = λ v a b t u ht hu. one_pair v.weights v.grammar a b t u ht hu

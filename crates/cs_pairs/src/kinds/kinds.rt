@@ -1,0 +1,219 @@
+// What the least trees of each kind and symbol cost.
+
+ghost use Rattle.std.specs.Prelude.{◌≡◌, ◌↔◌, IsTrue, IfOk};
+ghost use Rattle.cs_grammar.specs.Grammar.{IsNumberOf, IsSymbolOf};
+ghost use Rattle.cs_grammar.specs.Weights.{Weighs, weighed};
+ghost use Rattle.cs_least.specs.Cost.Rank.{IsCapped, cost_of, plus};
+ghost use Rattle.cs_pairs.specs.Kinds.ListCost.{IsAtMost, lesser};
+ghost use Rattle.cs_pairs.specs.Kinds.Kinds.{IsKind};
+ghost use Rattle.cs_pairs.specs.Kinds.RowsOf.{AreTablesOf};
+ghost use Rattle.cs_pairs.specs.Kinds.Tables.{AreCosts};
+ghost use Rattle.cs_pairs.specs.Kinds.KindCost.{IsKindCost};
+ghost use Rattle.cs_pairs.specs.Kinds.Lefts.{AreLefts, AreRulesWith};
+ghost use Rattle.cs_pairs.specs.Kinds.Nets.{AreStepsToEnds};
+
+use crate::kinds::empties::empty_row;
+use crate::kinds::kind::TreeKind;
+use crate::kinds::lefts::lefts_of;
+use crate::kinds::nets::{net_of, token_rows};
+use crate::kinds::rims::Bases;
+use crate::kinds::row::Row;
+use crate::kinds::rows::leaf_cost;
+use crate::kinds::side::Side;
+use cs_grammar::{Grammar, Symbol, Weights, place_of};
+use cs_least::{Cost, Costs, Steps, cost_of, is_below, plus, turned};
+use std::alloc::{AllocError, Global};
+use std::marker::Model;
+
+/// What the least trees of each kind and symbol of a grammar cost, by some weights, and the rules of each nonterminal.
+#[derive(Debug, Drop)]
+pub struct Kinds<'g> {
+    grammar: &'g Grammar,
+    weights: &'g Weights,
+    rows: Rows,
+    lefts: Vec<Vec<u16>>,
+}
+
+// What they cost of any trees, of those of empty yield, and of those that begin or end with each token.
+#[derive(Debug, Drop)]
+struct Rows {
+    any: Row,
+    empty: Row,
+    begins: Vec<Row>,
+    ends: Vec<Row>,
+}
+
+impl<'g> Model for Kinds<'g> {
+    ghost use Rattle.cs_grammar.specs.Weights.{Weighed};
+    ghost use Rattle.cs_pairs.specs.Kinds.RowsOf.{AreKindsOf};
+
+    ghost Value = { Weighed };
+
+    ghost view = { λ k. record { grammar = k.grammar.now; weights = k.weights.now } };
+
+    ghost invariant = { λ k. AreKindsOf k.weights.now k.grammar.now k.rows k.lefts.items };
+}
+
+impl<'g> Kinds<'g> {
+    /// The kinds of trees of a grammar, whose trees cost this.
+    pub fn new(alloc: Global, costs: &Costs<'g>) -> Result<Kinds<'g>, AllocError>
+        ensures { IfOk result (λ kinds. kinds ≡ costs.now) }
+    {
+        let any = any_row(alloc, costs)?;
+        let empty = empty_row(alloc, costs)?;
+        let bases = Bases {
+            costs,
+            empty: empty.costs(),
+        };
+        let begins = token_rows(alloc, costs, &net_of(alloc, &bases, Side::First)?)?;
+        let ends = token_rows(alloc, costs, &net_of(alloc, &bases, Side::Last)?)?;
+        let rows = Rows {
+            any,
+            empty,
+            begins,
+            ends,
+        };
+        let grammar = costs.grammar();
+        let lefts = lefts_of(alloc, grammar)?;
+        Ok(kinds_of(grammar, costs.weights(), rows, lefts))
+    }
+
+    /// The grammar that these are the kinds of trees of.
+    pub fn grammar(&self) -> &'g Grammar
+        ensures { result.now ≡ self.now.grammar }
+    {
+        self.grammar
+    }
+
+    // The lower of two costs, the first where they are as low. Both are capped by the limit of the weights.
+    pub(crate) fn lesser(&self, a: Cost, b: Cost) -> Cost
+        requires a { IsCapped self.now.weights.limit a }
+        requires b { IsCapped self.now.weights.limit b }
+        ensures cost { result ≡ lesser self.now.weights.limit a b }
+        ensures capped { IsCapped self.now.weights.limit result }
+    {
+        if is_below(b, a) { b } else { a }
+    }
+
+    // Whether a cost is no higher than another.
+    pub(crate) fn at_most(&self, a: Cost, b: Cost) -> bool
+        requires a { IsCapped self.now.weights.limit a }
+        requires b { IsCapped self.now.weights.limit b }
+        ensures { IsTrue result ↔ IsAtMost self.now.weights.limit a b }
+    {
+        !is_below(b, a)
+    }
+
+    /// Costs together: `Large` where they are above the limit of the weights.
+    pub fn plus(&self, a: Cost, b: Cost) -> Cost
+        requires a { IsCapped self.now.weights.limit a }
+        requires b { IsCapped self.now.weights.limit b }
+        ensures { result ≡ plus self.now.weights.limit a b }
+    {
+        plus(a, b, self.weights.limit())
+    }
+
+    // The numbers of the rules of a nonterminal, in ascending order.
+    pub(crate) fn rules_with(&self, left: u16) -> &[u16]
+        requires { IsNumberOf self.now.grammar.nonterminals left }
+        ensures { AreRulesWith self.now.grammar left result.now }
+    {
+        &self.lefts[place_of(left)]
+    }
+
+    /// The weights by which trees are measured here.
+    pub fn weights(&self) -> &'g Weights
+        ensures weights { result.now ≡ self.now.weights }
+        ensures weighs { Weighs self.now.weights self.now.grammar }
+    {
+        self.weights
+    }
+
+    /// The steps inwards from each node of a tree that ends with a token to its child that does so too, between all symbols of
+    /// the grammar: a step leads from a rule's left side to a symbol of its right side behind which all can be empty, and costs
+    /// the node and the least trees beside the child.
+    pub fn steps_to_ends(&self, alloc: Global, costs: &Costs) -> Result<Steps, AllocError>
+        requires { costs.now ≡ self.now }
+        ensures { IfOk result (AreStepsToEnds self.now) }
+    {
+        let bases = Bases {
+            costs,
+            empty: self.row(TreeKind::Empty),
+        };
+        let net = net_of(alloc, &bases, Side::Last)?;
+        turned(alloc, &net.steps)
+    }
+
+    // What a node alone costs.
+    pub(crate) fn one(&self) -> Cost
+        ensures { result ≡ cost_of self.now.weights.limit 1 }
+    {
+        cost_of(1, self.weights.limit())
+    }
+
+    // Above this size no tree is written out.
+    pub(crate) fn limit(&self) -> u32
+        ensures limit { result ≡ self.now.weights.limit }
+        ensures weighs { Weighs self.now.weights self.now.grammar }
+    {
+        self.weights.limit()
+    }
+
+    /// What the least tree of a kind and a symbol costs: `Never` where there is none, `Large` where each is larger than the
+    /// limit of the weights, else the least size. The kind and the symbol are of the grammar.
+    #[inline(always)]
+    pub fn told(&self, kind: TreeKind, symbol: Symbol) -> Cost
+        requires kind { IsKind self.now.grammar.tokens kind }
+        requires symbol { IsSymbolOf self.now.grammar symbol }
+        ensures { IsKindCost self.now kind symbol result }
+    {
+        match symbol {
+            Symbol::Token(token) => leaf_cost(self.weights, kind, token),
+            Symbol::Nonterminal(number) => self.row(kind)[place_of(number)],
+        }
+    }
+
+    // The row of a kind.
+    #[inline(always)]
+    fn row(&self, kind: TreeKind) -> &[Cost]
+        requires { IsKind self.now.grammar.tokens kind }
+        ensures { AreCosts self.now.weights self.now.grammar kind result.now }
+    {
+        match kind {
+            TreeKind::Any => self.rows.any.costs(),
+            TreeKind::Empty => self.rows.empty.costs(),
+            TreeKind::Begins(token) => self.rows.begins[place_of(token)].costs(),
+            TreeKind::Ends(token) => self.rows.ends[place_of(token)].costs(),
+        }
+    }
+}
+
+fn kinds_of<'g>(
+    grammar: &'g Grammar,
+    weights: &'g Weights,
+    rows: Rows,
+    lefts: Vec<Vec<u16>>,
+) -> Kinds<'g>
+    requires rows { AreTablesOf weights.now grammar.now rows }
+    requires lefts { AreLefts grammar.now lefts.items }
+    ensures { result ≡ weighed grammar.now weights.now }
+{
+    Kinds {
+        grammar,
+        weights,
+        rows,
+        lefts,
+    }
+}
+
+// What any trees cost, as `Costs` says.
+pub(crate) fn any_row(alloc: Global, costs: &Costs) -> Result<Row, AllocError>
+    ensures { IfOk result (λ row. AreCosts costs.now.weights costs.now.grammar TreeKind.Any row) }
+{
+    let mut row = Vec::new(alloc);
+    let _rules = costs.grammar().rules();
+    for place in 0..costs.grammar().nonterminals() {
+        row.push(costs.cost(Symbol::Nonterminal(place + 1)))?;
+    }
+    Ok(Row::new(row))
+}

@@ -1,0 +1,223 @@
+// The codes of chosen trees of kinds, written from left to right.
+
+ghost use Rattle.std.specs.Prelude.{◌≡◌, reverse, OnOk, OnErr, All};
+ghost use Rattle.cs_grammar.specs.Grammar.{IsSymbolOf, IsNumberOf};
+ghost use Rattle.cs_grammar.specs.Weights.{IsMeasure};
+ghost use Rattle.cs_least.specs.Cost.Parts.{IsGrown};
+ghost use Rattle.cs_pairs.specs.Kinds.Kinds.{IsKind};
+ghost use Rattle.cs_pairs.specs.Kinds.Parts.{kind_at, IsPartOf, HaveSmallOfKind, IsRootOf};
+ghost use Rattle.cs_pairs.specs.Kinds.Clauses.{ArePutFirst, IsPlaceIn, IsNodeCost, OpensUp, HasSmallIn, TakesOnIn, HaveSmallParts, Writes, AppendsIn};
+
+use crate::kinds::kind::TreeKind;
+use crate::kinds::kinds::Kinds;
+use crate::kinds::sweep::Sweep;
+use cs_grammar::{Derivation, Symbol};
+use cs_least::{Cost, Costs};
+use std::alloc::{AllocError, Global};
+
+// Room for as many pending parts is made at once.
+const USUAL_PARTS: usize = 16;
+
+// What is still to be written: the code of the chosen tree of a kind and a symbol.
+#[derive(Clone, Copy, Debug)]
+pub(crate) struct Part {
+    kind: TreeKind,
+    symbol: Symbol,
+}
+
+// The kind of the tree at an index of a list that is of a kind, where the tree at `place` is of the kind itself.
+fn kind_at(kind: TreeKind, place: usize, index: usize) -> TreeKind
+    ensures { result ≡ kind_at kind place index }
+{
+    if index < place {
+        kind.before()
+    } else if index == place {
+        kind
+    } else {
+        kind.behind()
+    }
+}
+
+// Puts the parts of a list of trees in front of what is pending, which stands in reverse.
+fn put_first(
+    pending: &mut Vec<Part>,
+    kind: TreeKind,
+    place: usize,
+    symbols: &[Symbol],
+) -> Result<(), AllocError>
+    ensures { OnOk result (ArePutFirst kind place symbols.now pending.old pending.new) }
+{
+    for index in (0..symbols.len()).rev() {
+        pending.push(Part {
+            kind: kind_at(kind, place, index),
+            symbol: symbols[index],
+        })?;
+    }
+    Ok(())
+}
+
+// Where the tree of the kind itself stands in the chosen trees of symbols; behind all where there is none.
+fn place_of_kind(kinds: &Kinds, kind: TreeKind, symbols: &[Symbol]) -> usize
+    requires kind { IsKind kinds.now.grammar.tokens kind }
+    requires symbols { All (IsSymbolOf kinds.now.grammar) symbols.now }
+    ensures { IsPlaceIn kinds.now kind symbols.now result }
+{
+    let mut place = symbols.len();
+    let mut sweep = Sweep::new(kind);
+    for index in (0..symbols.len()).rev() {
+        let ways = sweep.ways(kinds, symbols[index]);
+        if kinds.at_most(ways.here, ways.later) {
+            place = index;
+        }
+        sweep = sweep.over(kinds, symbols[index]);
+    }
+    place
+}
+
+// What a node costs above trees of these symbols that are of a kind together.
+fn node_cost(kinds: &Kinds, kind: TreeKind, symbols: &[Symbol]) -> Cost
+    requires kind { IsKind kinds.now.grammar.tokens kind }
+    requires symbols { All (IsSymbolOf kinds.now.grammar) symbols.now }
+    ensures { IsNodeCost kinds.now kind symbols.now result }
+{
+    let mut sweep = Sweep::new(kind);
+    for index in (0..symbols.len()).rev() {
+        sweep = sweep.over(kinds, symbols[index]);
+    }
+    kinds.plus(kinds.one(), sweep.whole)
+}
+
+// The rule at the root of the chosen tree of a kind and a nonterminal.
+fn root_of(kinds: &Kinds, kind: TreeKind, left: u16) -> u16
+    requires kind { IsKind kinds.now.grammar.tokens kind }
+    requires left { IsNumberOf kinds.now.grammar.nonterminals left }
+    requires small { HasSmallIn kinds.now kind (Symbol.Nonterminal left) }
+    ensures { IsRootOf kinds.now.weights kinds.now.grammar kind left result }
+{
+    let cost = kinds.told(kind, Symbol::Nonterminal(left));
+    for number in kinds.rules_with(left) {
+        let rule = kinds.grammar().rule(*number);
+        if kinds.at_most(node_cost(kinds, kind, rule.right()), cost) {
+            return *number;
+        }
+    }
+    unreachable!()
+}
+
+// Writes the rule at the root, and puts its children in front of what is pending.
+fn open_part(
+    kinds: &Kinds,
+    kind: TreeKind,
+    left: u16,
+    pending: &mut Vec<Part>,
+    into: &mut Derivation,
+) -> Result<(), AllocError>
+    requires kind { IsKind kinds.now.grammar.tokens kind }
+    requires left { IsNumberOf kinds.now.grammar.nonterminals left }
+    requires small { HasSmallIn kinds.now kind (Symbol.Nonterminal left) }
+    ensures ok { OnOk result
+        (OpensUp kinds.now kind left pending.old pending.new into.old into.new) }
+    ensures grown { IsGrown into.old into.new }
+{
+    let number = root_of(kinds, kind, left);
+    into.push(number)?;
+    let right = kinds.grammar().rule(number).right();
+    put_first(pending, kind, place_of_kind(kinds, kind, right), right)
+}
+
+// Writes a part, or what stands at the root of its tree.
+fn take_on(
+    kinds: &Kinds,
+    costs: &Costs,
+    part: Part,
+    pending: &mut Vec<Part>,
+    into: &mut Derivation,
+) -> Result<(), AllocError>
+    requires costs { costs.now ≡ kinds.now }
+    requires measure { IsMeasure kinds.now.weights }
+    requires part { IsPartOf kinds.now.grammar part }
+    requires small { HasSmallIn kinds.now part.kind part.symbol }
+    ensures taken { OnOk result
+        (TakesOnIn kinds.now part pending.old pending.new into.old into.new) }
+    ensures grown { IsGrown into.old into.new }
+{
+    match part.symbol {
+        Symbol::Token(_) => Ok(()),
+        Symbol::Nonterminal(left) => match part.kind {
+            TreeKind::Any => costs.least_into(part.symbol, into),
+            _ => open_part(kinds, part.kind, left, pending, into),
+        },
+    }
+}
+
+// Writes what is pending, which stands in reverse. Each step writes a node or more, and they are within the limit. After a
+// refusal a part of it may be there.
+fn write_some(
+    kinds: &Kinds,
+    costs: &Costs,
+    pending: &mut Vec<Part>,
+    into: &mut Derivation,
+) -> Result<(), AllocError>
+    requires costs { costs.now ≡ kinds.now }
+    requires parts { All (IsPartOf kinds.now.grammar) (reverse pending.old.items) }
+    requires small { HaveSmallParts kinds.now pending.old }
+    ensures written { OnOk result (Writes kinds.now pending.old into.old into.new) }
+    ensures grown { IsGrown into.old into.new }
+{
+    let limit = kinds.limit();
+    for _ in 0..limit {
+        let Some(part) = pending.pop() else {
+            return Ok(());
+        };
+        take_on(kinds, costs, part, pending, into)?;
+    }
+    Ok(())
+}
+
+// Writes what is pending, which stands in reverse. A refusal takes back what was written.
+fn write(
+    kinds: &Kinds,
+    costs: &Costs,
+    pending: &mut Vec<Part>,
+    into: &mut Derivation,
+) -> Result<(), AllocError>
+    requires costs { costs.now ≡ kinds.now }
+    requires parts { All (IsPartOf kinds.now.grammar) (reverse pending.old.items) }
+    requires small { HaveSmallParts kinds.now pending.old }
+    ensures written { OnOk result (Writes kinds.now pending.old into.old into.new) }
+    ensures refused { OnErr result (into.new ≡ into.old) }
+{
+    let before = into.rules().len();
+    let written = write_some(kinds, costs, pending, into);
+    if written.is_err() {
+        into.truncate(before);
+    }
+    written
+}
+
+/// Appends the codes of the chosen trees of these symbols that are of the kind together, from left to right. Some such trees
+/// are within the limit of the weights. After a refusal `into` is unchanged.
+pub fn kind_into(
+    alloc: Global,
+    kinds: &Kinds,
+    costs: &Costs,
+    kind: TreeKind,
+    symbols: &[Symbol],
+    into: &mut Derivation,
+) -> Result<(), AllocError>
+    requires costs { costs.now ≡ kinds.now }
+    requires kind { IsKind kinds.now.grammar.tokens kind }
+    requires symbols { All (IsSymbolOf kinds.now.grammar) symbols.now }
+    requires small { HaveSmallOfKind kinds.now.weights kinds.now.grammar kind symbols.now }
+    ensures ok { OnOk result (AppendsIn kinds.now kind symbols.now into.old into.new) }
+    ensures err { OnErr result (into.new ≡ into.old) }
+{
+    let mut pending = Vec::with_capacity(alloc, USUAL_PARTS)?;
+    put_first(
+        &mut pending,
+        kind,
+        place_of_kind(kinds, kind, symbols),
+        symbols,
+    )?;
+    write(kinds, costs, &mut pending, into)
+}

@@ -1,5 +1,0 @@
-use Rattle.cs_pattern.proofs.DefinitionsSettled as settled
-use Rattle.cs_pattern.proofs.laws.definitions_accepted_or_refused.Goals as goal
-
-pub returns : goal.returns
-returns c = settled.accepted_or_refused

@@ -1,5 +1,0 @@
-use Rattle.cs_pattern.proofs.Cycles as cycles
-use Rattle.cs_pattern.proofs.laws.no_tree_in_a_cycle.Goals as goal
-
-pub returns : goal.returns
-returns c = λ ds i r d tree is t. cycles.no_tree_in_cycle ds i d tree is t r

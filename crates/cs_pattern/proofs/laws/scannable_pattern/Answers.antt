@@ -1,5 +1,0 @@
-use Rattle.cs_pattern.proofs.Within.{scannable}
-use Rattle.cs_pattern.proofs.laws.scannable_pattern.Goals as goal
-
-pub returns : goal.returns
-returns c = λ ds text bytes pattern is. scannable ds text pattern bytes.0 bytes.1 is

@@ -1,5 +1,0 @@
-use Rattle.cs_pattern.proofs.Pending.{used_more}
-use Rattle.cs_pattern.proofs.needed.add_used.Goals as goal
-
-pub loop-op-preserved : goal.loop-op-preserved
-loop-op-preserved c = used_more c.args.places.now _ _ _ c.args.ops.now c.loop-op.op-index c.op-item.result c.loop-op-test.true c.op-item.is c.loop-op.invariant c.in_ok-add_op.ensures

@@ -1,0 +1,5 @@
+use Rattle.cs_pattern.proofs.OnText.DefinitionsSettled as settled
+use Rattle.cs_pattern.proofs.text.laws.definitions_accepted_or_refused.Goals as goal
+
+pub returns : goal.returns
+returns c = settled.accepted_or_refused

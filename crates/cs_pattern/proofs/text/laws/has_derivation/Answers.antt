@@ -1,0 +1,5 @@
+use Rattle.cs_pattern.proofs.OnText.HasDerivation as derivations
+use Rattle.cs_pattern.proofs.text.laws.has_derivation.Goals as goal
+
+pub returns : goal.returns
+returns c = derivations.has_derivation

@@ -1,0 +1,5 @@
+use Rattle.cs_pattern.proofs.OnText.Cycles as cycles
+use Rattle.cs_pattern.proofs.text.laws.no_tree_in_a_cycle.Goals as goal
+
+pub returns : goal.returns
+returns c = λ ds i r d tree is t. cycles.no_tree_in_cycle ds i d tree is t r

@@ -1,0 +1,5 @@
+use Rattle.cs_pattern.proofs.OnText.Within.{scannable}
+use Rattle.cs_pattern.proofs.text.laws.scannable_pattern.Goals as goal
+
+pub returns : goal.returns
+returns c = λ ds text bytes pattern is. scannable ds text pattern bytes.0 bytes.1 is

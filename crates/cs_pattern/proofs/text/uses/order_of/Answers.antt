@@ -1,0 +1,15 @@
+use Rattle.cs_pattern.specs.Operations.Definitions.{definitions_of}
+use Rattle.cs_pattern.proofs.OnText.Linked.{is_graph, order_of_uses, no_cycle_of_uses, cycle_of_uses}
+use Rattle.cs_pattern.proofs.text.uses.order_of.Goals as goal
+
+pub order-requires : goal.order-requires
+order-requires c = is_graph (definitions_of c.args.names.now.entries) c.args.graph.now c.requires.graph
+
+pub returns-in-Some-clause-order : goal.returns-in-Some-clause-order
+returns-in-Some-clause-order c = let o = rw c.in-Some.is at c.in_ok-order.ensures in order_of_uses (definitions_of c.args.names.now.entries) c.args.graph.now c.requires.graph c.in-Some.order.items o
+
+pub returns-in-Some-clause-no_cycle : goal.returns-in-Some-clause-no_cycle
+returns-in-Some-clause-no_cycle c = let o = rw c.in-Some.is at c.in_ok-order.ensures in no_cycle_of_uses (definitions_of c.args.names.now.entries) c.args.graph.now c.requires.graph c.in-Some.order.items o
+
+pub unreachable-requires : goal.unreachable-requires
+unreachable-requires c = let h = rw c.in_default.is at c.in_ok-order.ensures in cycle_of_uses (definitions_of c.args.names.now.entries) c.args.graph.now c.requires.graph h c.in_ok-check_cycles.ensures.none

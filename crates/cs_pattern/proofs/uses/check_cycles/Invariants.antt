@@ -1,7 +1,0 @@
-use Rattle.std.proofs.Common.{◌<◌, ℕ}
-use Rattle.cs_pattern_postfix.specs.Definitions.{definitions_of}
-use Rattle.cs_pattern.specs.Uses.{Reaches}
-use Rattle.cs_pattern.proofs.uses.check_cycles.Given as goal
-
-abbrev pub invariant-loop-index : goal.invariant-loop-index
-invariant-loop-index l = (i : ℕ) → i < l.index → Reaches (definitions_of l.names.entries) i i → ⊥

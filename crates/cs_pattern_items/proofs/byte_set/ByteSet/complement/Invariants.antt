@@ -1,7 +1,0 @@
-use Rattle.std.proofs.Common.{◌≡◌}
-use Rattle.std.specs.Prelude.{◌&&◌, not, nat_lt}
-use Rattle.cs_pattern_items.specs.Members.{bytes_where, has}
-use Rattle.cs_pattern_items.proofs.byte_set.ByteSet.complement.Given as goal
-
-abbrev pub invariant-loop-index : goal.invariant-loop-index
-invariant-loop-index l = l.others ≡ bytes_where (λ b. not (has l.self b) && nat_lt b l.index)

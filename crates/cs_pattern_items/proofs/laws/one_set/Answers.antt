@@ -1,5 +1,0 @@
-use Rattle.cs_pattern_items.proofs.Picked.{same_set}
-use Rattle.cs_pattern_items.proofs.laws.one_set.Goals as goal
-
-pub returns : goal.returns
-returns c = λ s t p q h. same_set s t p q (λ b lt. h b lt)

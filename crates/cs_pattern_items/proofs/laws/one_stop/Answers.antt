@@ -1,5 +1,0 @@
-use Rattle.cs_pattern_items.proofs.Fronts.{one_stopped}
-use Rattle.cs_pattern_items.proofs.laws.one_stop.Goals as goal
-
-pub returns : goal.returns
-returns c = one_stopped

@@ -1,0 +1,2 @@
+pub mod OnItems
+pub mod OnTree

@@ -1,0 +1,5 @@
+use Rattle.cs_pattern_parts.proofs.OnItems.Fronts.{one_stopped}
+use Rattle.cs_pattern_parts.proofs.items.laws.one_stop.Goals as goal
+
+pub returns : goal.returns
+returns c = one_stopped

@@ -1,0 +1,5 @@
+use Rattle.cs_pattern_parts.proofs.OnItems.Fronts.{stopped_no_item}
+use Rattle.cs_pattern_parts.proofs.items.laws.stopped_spells_nothing.Goals as goal
+
+pub returns : goal.returns
+returns c = stopped_no_item

@@ -1,7 +1,0 @@
-use Rattle.std.proofs.Common.{◌≡◌, ◌∙◌, arith}
-use Rattle.cs_pattern_tree.specs.Pattern.{Either}
-use Rattle.cs_pattern_postfix.proofs.Stacks.{several_parts}
-use Rattle.cs_pattern_postfix.proofs.building.either.Goals as goal
-
-pub returns-else-len-eq1 : goal.returns-else-len-eq1
-returns-else-len-eq1 c = c.one_of_several.ensures ∙ several_parts Either c.args.parts.items (λ f. c.if-len-eq1.false (let e : c.len.result ≡ 1 = omega arith in e))

@@ -1,5 +1,0 @@
-use Rattle.cs_pattern_tree.proofs.Matching.{between_to, between_from}
-use Rattle.cs_pattern_tree.proofs.laws.between_counts.Goals as goal
-
-pub returns : goal.returns
-returns c = λ r n m le word. (between_to n m r word le, λ t. between_from n m r t.0 word t.1 t.2)

@@ -1,5 +1,0 @@
-use Rattle.cs_pattern_tree.proofs.Matching.{least_to, least_from}
-use Rattle.cs_pattern_tree.proofs.laws.least_counts.Goals as goal
-
-pub returns : goal.returns
-returns c = λ r n word. (least_to n r word, λ t. least_from n r t.0 word t.1 t.2)

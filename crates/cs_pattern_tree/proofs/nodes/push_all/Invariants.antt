@@ -1,7 +1,0 @@
-use Rattle.std.proofs.Common.{◌≡◌, ◌++◌, map, take}
-use Rattle.cs_pattern_tree.specs.Nodes.{values}
-use Rattle.cs_pattern_tree.specs.Pattern.{regex}
-use Rattle.cs_pattern_tree.proofs.nodes.push_all.Given as goal
-
-abbrev pub invariant-loop-part : goal.invariant-loop-part
-invariant-loop-part l = values l.pending.items ≡ values l.initial.pending.items ++ map regex (take l.part-index l.parts)

@@ -1,5 +1,0 @@
-use Rattle.cs_positive.proofs.Verdicts.{chosen_exists_of}
-use Rattle.cs_positive.proofs.laws.chosen_tree_exists_for_goal.Goals as goal
-
-pub returns : goal.returns
-returns c = λ v goal is has. chosen_exists_of v.weights v.grammar goal has.0 is has.1

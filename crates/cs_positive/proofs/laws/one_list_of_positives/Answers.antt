@@ -1,8 +1,0 @@
-use Rattle.cs_positive.proofs.Judged.{next, one_list}
-use Rattle.cs_positive.proofs.laws.one_list_of_positives.Goals as goal
-
-pub returns-clause-next : goal.returns-clause-next
-returns-clause-next c = λ old p new h rest are. next old.tables old.goals p new.goals h.goals h.verdict rest are
-
-pub returns-clause-one : goal.returns-clause-one
-returns-clause-one c = λ v left a b h k. one_list v left a b h k

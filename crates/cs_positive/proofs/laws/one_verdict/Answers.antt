@@ -1,5 +1,0 @@
-use Rattle.cs_positive.proofs.Verdicts.{one_verdict_of}
-use Rattle.cs_positive.proofs.laws.one_verdict.Goals as goal
-
-pub returns : goal.returns
-returns c = λ v goal a b h k. one_verdict_of v.weights v.grammar goal a b h k

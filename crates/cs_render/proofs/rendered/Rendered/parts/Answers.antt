@@ -1,7 +1,0 @@
-use Rattle.std.proofs.Common.{ap, ◌∙◌}
-use Rattle.std.proofs.lemmas.List.{append-nil}
-use Rattle.cs_render.specs.Rendering.{Text}
-use Rattle.cs_render.proofs.rendered.Rendered.parts.Goals as goal
-
-pub returns-in-Text : goal.returns-in-Text
-returns-in-Text c = rw c.in-Text.is (ap Text (append-nil _ ∙ append-nil _ ∙ c.as_slice.ensures.value))

@@ -1,9 +1,0 @@
-// What threads may share.
-
-use crate::work::RenderWork;
-use cs_pattern_tree::take_shared;
-
-/// Threads may share the rendering of lists.
-fn may_be_shared(work: &RenderWork<'_>) {
-    take_shared(work);
-}

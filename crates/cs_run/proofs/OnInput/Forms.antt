@@ -1,0 +1,82 @@
+-- Commands that take one file are given a yacc file, and those that take two a pair.
+use Rattle.std.proofs.Common.{◌≡◌, ◌<◌, ◌≤◌, ℕ, List, [], ◌∷◌, length, refl, sym, ap, ◌∙◌, subst, arith}
+use Rattle.std.specs.Prelude.{String, get_or, string_bytes}
+use Rattle.std.specs.declared.alloc.Global.{Global}
+use Rattle.cs_run.specs.declared.words.command.Command.{Command}
+use Rattle.cs_run.specs.declared.words.command.Command.TheVariants.{Gen, Rules, Suite}
+use Rattle.cs_run.specs.Words.Commands.{taken_of}
+use Rattle.cs_run.specs.Words.Requests.{Fit, Named, Names, PlainArguments, files_taken, lex_named, yacc_named}
+use Rattle.cs_run.specs.Words.Words.{texts}
+use Rattle.cs_run.specs.declared.input.judging.Meant.{Meant}
+use Rattle.cs_run.specs.declared.input.judging.Meant.TheVariants.{Grammar, Pair}
+use Rattle.cs_run.specs.declared.input.judging.Pair as pair
+use Rattle.cs_run.specs.Input.Files.{IsMeantFor}
+use Rattle.cs_yacc.specs.declared.reading.file.YaccFile.{YaccFile}
+
+-- ---- lists of one word and of two
+
+pub one_word : (words : List (String Global)) (word : String Global) → 1 ≤ length words → length words < 2 → word ≡ get_or words 0 word → texts words ≡ string_bytes word ∷ []
+one_word [] word some few is = absurd (omega (arith, some))
+one_word (w ∷ []) word some few is = ap (λ x. string_bytes x ∷ []) (sym is)
+one_word (w ∷ v ∷ words) word some few is = absurd (omega (arith, few))
+
+pub two_words : (words : List (String Global)) (word other : String Global) → 2 ≤ length words → length words < 3 → word ≡ get_or words 0 word → other ≡ get_or words 1 other
+    → texts words ≡ string_bytes word ∷ string_bytes other ∷ []
+two_words [] word other some few is also = absurd (omega (arith, some))
+two_words (w ∷ []) word other some few is also = absurd (omega (arith, some))
+two_words (w ∷ v ∷ []) word other some few is also = ap (λ x. string_bytes x ∷ string_bytes v ∷ []) (sym is) ∙ ap (λ x. string_bytes word ∷ string_bytes x ∷ []) (sym also)
+two_words (w ∷ v ∷ u ∷ words) word other some few is also = absurd (omega (arith, few))
+
+-- ---- one file
+
+module _ (name : List ℕ) where
+  named_one : (c : Command) → Fit (taken_of c) (Names (name ∷ [])) → files_taken (taken_of c) (Names (name ∷ [])) ≡ yacc_named name ∷ []
+  named_one Rules fit = refl
+  named_one Suite fit = absurd (omega (arith, fit))
+  named_one Gen fit = absurd fit
+
+  meant_one : (c : Command) (file : YaccFile) → Fit (taken_of c) (Names (name ∷ [])) → IsMeantFor (taken_of c) (Names (name ∷ [])) (Grammar file)
+  meant_one Rules file fit = tt
+  meant_one Suite file fit = absurd (omega (arith, fit))
+  meant_one Gen file fit = absurd fit
+
+  pub one_file : (c : Command) (arguments : PlainArguments) → arguments ≡ Names (name ∷ []) → Fit (taken_of c) arguments → files_taken (taken_of c) arguments ≡ yacc_named name ∷ []
+  one_file c arguments same fit =
+      subst (λ (a : PlainArguments). files_taken (taken_of c) a ≡ yacc_named name ∷ []) (sym same) (named_one c (subst (λ (a : PlainArguments). Fit (taken_of c) a) same fit))
+
+  pub one_form : (c : Command) (arguments : PlainArguments) (file : YaccFile) → arguments ≡ Names (name ∷ []) → Fit (taken_of c) arguments → IsMeantFor (taken_of c) arguments (Grammar file)
+  one_form c arguments file same fit =
+      subst (λ (a : PlainArguments). IsMeantFor (taken_of c) a (Grammar file)) (sym same) (meant_one c file (subst (λ (a : PlainArguments). Fit (taken_of c) a) same fit))
+
+-- ---- two files
+
+module _ (name other : List ℕ) where
+  named_two : (c : Command) → Fit (taken_of c) (Names (name ∷ other ∷ [])) → files_taken (taken_of c) (Names (name ∷ other ∷ [])) ≡ yacc_named name ∷ lex_named other ∷ []
+  named_two Rules fit = absurd (omega (arith, fit))
+  named_two Suite fit = refl
+  named_two Gen fit = absurd fit
+
+  meant_two : (c : Command) (two : pair.Pair) → Fit (taken_of c) (Names (name ∷ other ∷ [])) → IsMeantFor (taken_of c) (Names (name ∷ other ∷ [])) (Pair two)
+  meant_two Rules two fit = absurd (omega (arith, fit))
+  meant_two Suite two fit = tt
+  meant_two Gen two fit = absurd fit
+
+  pub two_files : (c : Command) (arguments : PlainArguments) → arguments ≡ Names (name ∷ other ∷ []) → Fit (taken_of c) arguments → files_taken (taken_of c) arguments ≡ yacc_named name ∷ lex_named other ∷ []
+  two_files c arguments same fit =
+      subst (λ (a : PlainArguments). files_taken (taken_of c) a ≡ yacc_named name ∷ lex_named other ∷ []) (sym same) (named_two c (subst (λ (a : PlainArguments). Fit (taken_of c) a) same fit))
+
+  pub two_form : (c : Command) (arguments : PlainArguments) (two : pair.Pair) → arguments ≡ Names (name ∷ other ∷ []) → Fit (taken_of c) arguments → IsMeantFor (taken_of c) arguments (Pair two)
+  two_form c arguments two same fit =
+      subst (λ (a : PlainArguments). IsMeantFor (taken_of c) a (Pair two)) (sym same) (meant_two c two (subst (λ (a : PlainArguments). Fit (taken_of c) a) same fit))
+
+pub two_not_none : (name other : List ℕ) (named : List Named) → named ≡ yacc_named name ∷ lex_named other ∷ [] → named ≡ [] → ⊥
+two_not_none name other named two none = let both : yacc_named name ∷ lex_named other ∷ [] ≡ [] = sym two ∙ none in cc
+
+pub one_not_none : (name : List ℕ) (named : List Named) → named ≡ yacc_named name ∷ [] → named ≡ [] → ⊥
+one_not_none name named one none = let both : yacc_named name ∷ [] ≡ [] = sym one ∙ none in cc
+
+-- no command takes another number of files
+pub not_other : (c : Command) (names : List (List ℕ)) → Fit (taken_of c) (Names names) → (length names ≡ 1 → ⊥) → (length names ≡ 2 → ⊥) → ⊥
+not_other Rules names fit one two = one fit
+not_other Suite names fit one two = two fit
+not_other Gen names fit one two = fit

@@ -1,0 +1,5 @@
+use Rattle.cs_run.proofs.OnCommand.OneText.{one_text}
+use Rattle.cs_run.proofs.command.laws.one_asked_text.Goals as goal
+
+pub returns : goal.returns
+returns c = one_text c.one_manifest.ensures

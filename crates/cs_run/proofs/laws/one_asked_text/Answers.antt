@@ -1,5 +1,0 @@
-use Rattle.cs_run.proofs.OneText.{one_text}
-use Rattle.cs_run.proofs.laws.one_asked_text.Goals as goal
-
-pub returns : goal.returns
-returns c = one_text c.one_manifest.ensures

@@ -1,0 +1,10 @@
+use Rattle.std.proofs.Common.{◌≡◌, List, [], ◌∷◌, ℕ, refl, sym, subst}
+use Rattle.cs_run.specs.Words.Commands.{Seed, Taken}
+use Rattle.cs_run.specs.Words.Requests.{Number}
+use Rattle.cs_run.specs.Words.Steps.{BeginsWith}
+use Rattle.cs_run.specs.Words.Words.{texts}
+use Rattle.cs_run.proofs.OnWords.Standing.{seed_begins}
+use Rattle.cs_run.proofs.words.request.read_number.Goals as goal
+
+pub returns-in-Some-clause-begins : goal.returns-in-Some-clause-begins
+returns-in-Some-clause-begins c = seed_begins c.args.command (texts c.args.words.now) c.in-Some.seed (texts c.in-Some.rest.now) c.requires c.in-Some.ensures.some

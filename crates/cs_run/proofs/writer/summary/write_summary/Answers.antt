@@ -1,0 +1,15 @@
+use Rattle.std.proofs.Common.{◌∙◌, List, ℕ, sym, subst}
+use Rattle.cs_run.specs.Ending.Summary.{IsSummary}
+use Rattle.cs_io.specs.Sink.{GrewByPrefix}
+use Rattle.cs_writing.specs.Writing.Writing.{GrewByPart}
+use Rattle.cs_writing.proofs.OnWriting.Out.{on_err}
+use Rattle.cs_run.proofs.writer.summary.write_summary.Goals as goal
+
+pub returns-in_err-write_all-clause-part : goal.returns-in_err-write_all-clause-part
+returns-in_err-write_all-clause-part g c =
+    let old = g.O.Sink.written c.args.out.now in
+    let new = g.O.Sink.written c.write_all.new.sink in
+    let part : GrewByPart (IsSummary c.args.seed) old new =
+    λ text is. subst (λ (t : List ℕ). GrewByPrefix old new t) (c.as_bytes.ensures.value ∙ sym (c.in_ok-line.ensures.no_other text is)) c.in_err-write_all.ensures.err
+    in
+    on_err _ _ part

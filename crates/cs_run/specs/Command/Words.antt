@@ -1,0 +1,40 @@
+-- What is kept by what words ask for.
+use Rattle.std.specs.Prelude.{◌≡◌, ℕ, List, [], Ok, Result}
+use Rattle.cs_io.specs.Uses.{DeskUse, SinkUse}
+use Rattle.cs_run.specs.declared.input.refusal.Stop.{Stop}
+use Rattle.cs_run.specs.declared.input.refusal.Stop.TheVariants as stop
+use Rattle.cs_run.specs.declared.ending.ending.Ending.{Ending}
+use Rattle.cs_run.specs.declared.ending.ending.Ending.TheVariants.{NoFile, NoMemory, NotWritten, Refused}
+use Rattle.cs_run.specs.Ending.Ending.{Performs}
+use Rattle.cs_run.specs.Ending.Headline.{KeepsPromises}
+use Rattle.cs_run.specs.Words.Requests.{IsAsked, PlainRequest, files_of}
+use Rattle.cs_run.specs.Words.Words.{IsFirstBad}
+use Rattle.cs_writing.specs.declared.writing.halt.Halt.{Halt}
+use Rattle.cs_writing.specs.declared.writing.halt.Halt.TheVariants as halt
+
+-- The promises are kept of what the words ask for, or of their first bad place.
+abbrev pub KeepsPromisesTo : List (List ℕ) → DeskUse → SinkUse → SinkUse → ℕ → Type 0
+KeepsPromisesTo words desk out err status = (asked : Result PlainRequest ℕ) × IsAsked words asked × KeepsPromises asked desk out err status
+
+-- some place is the first bad one
+abbrev pub AreBad : List (List ℕ) → Type 0
+AreBad words = (at : ℕ) × IsFirstBad words at
+
+-- they ask for something that names no files
+abbrev pub AskForNoFiles : List (List ℕ) → Type 0
+AskForNoFiles words = (request : PlainRequest) × IsAsked words (Ok request) × (files_of request ≡ [])
+
+-- a run of these words ended so
+abbrev pub PerformsFor : List (List ℕ) → Ending → DeskUse → SinkUse → Type 0
+PerformsFor words ending desk out = (asked : Result PlainRequest ℕ) × IsAsked words asked × Performs ending asked desk out
+
+-- how a run ends whose files aren't given
+abbrev pub ending_of : Stop → Ending
+ending_of (stop.NoFile role) = NoFile role
+ending_of (stop.Refused refusal) = Refused refusal
+ending_of stop.Memory = NoMemory
+
+-- how a run ends whose writing stopped
+abbrev pub ending_at : Halt → Ending
+ending_at halt.Failed = NotWritten
+ending_at halt.Memory = NoMemory

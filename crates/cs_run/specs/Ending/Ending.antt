@@ -1,0 +1,90 @@
+-- How a run ends: its cause, and what the output holds then; the status and the line on the error output.
+use Rattle.std.specs.Prelude.{◌≡◌, ◌⊎◌, ℕ, List, [], ◌++◌, Result, Err, IsOkAnd, IsTrue, codes, decimal}
+use Rattle.std.specs.Io.KnownBytes.{append_known}
+use Rattle.cs_io.specs.Sink.{GrewByPrefix}
+use Rattle.cs_io.specs.Uses.{DeskUse, SinkUse, HasFailed, IsUnused}
+use Rattle.cs_run.specs.declared.words.command.Role.{Role}
+use Rattle.cs_run.specs.Words.Requests.{PlainRequest, files_of}
+use Rattle.cs_run.specs.Input.Files.{Content, HaveContents}
+use Rattle.cs_run.specs.Input.Lines.{refusal_line, role_word}
+use Rattle.cs_run.specs.Input.Refusal.{IsTold}
+use Rattle.cs_run.specs.declared.ending.ending.Ending.{Ending}
+use Rattle.cs_run.specs.declared.ending.ending.Ending.TheVariants.{Written, Refused, BadWord, NoFile, NotWritten, NoMemory}
+use Rattle.cs_run.specs.Ending.Files.{Accepted, AreRefusedSo, HasNoFileFor}
+use Rattle.cs_run.specs.Ending.Texts.{HasRoomFor, IsAskedText, IsTextOf}
+
+-- ---- causes
+
+-- the output grew by the whole text that is asked for
+abbrev pub WroteText : Result PlainRequest ℕ → DeskUse → SinkUse → Type 0
+WroteText asked desk out =
+    (text : List ℕ) × IsAskedText asked desk.files text × (out.written.after ≡ append_known out.written.before text)
+
+-- the output grew by a prefix of each text that is asked for, by these contents of the files
+abbrev pub GrewByFront : PlainRequest → SinkUse → List Content → Type 0
+GrewByFront request out contents =
+    (text : List ℕ) → IsTextOf request contents text → GrewByPrefix out.written.before out.written.after text
+
+-- the files have contents by which it grew so
+abbrev pub WrotePart : Result PlainRequest ℕ → DeskUse → SinkUse → Type 0
+WrotePart asked desk out = IsOkAnd asked (λ request. HaveContents desk.files (files_of request) (GrewByFront request out))
+
+-- the same, and these contents are accepted
+abbrev pub WrotePartOfAccepted : Result PlainRequest ℕ → DeskUse → SinkUse → Type 0
+WrotePartOfAccepted asked desk out =
+    IsOkAnd asked (λ request. HaveContents desk.files (files_of request) (λ contents. Accepted contents × GrewByFront request out contents))
+
+-- What caused an ending, and what the output holds then, by what the words ask for and how desk and output were used.
+abbrev pub Ends : Ending → Result PlainRequest ℕ → DeskUse → SinkUse → Type 0
+Ends Written asked desk out = WroteText asked desk out × (out.faults.after ≡ out.faults.before)
+Ends (Refused refusal) asked desk out = IsOkAnd asked (λ request. AreRefusedSo desk.files request refusal) × IsUnused out
+Ends (BadWord at) asked desk out = (asked ≡ Err at) × IsUnused out
+Ends (NoFile role) asked desk out = IsOkAnd asked (λ request. HasNoFileFor desk.files request desk.faults role) × IsUnused out
+Ends NotWritten asked desk out = WrotePartOfAccepted asked desk out × HasFailed out.faults
+Ends NoMemory asked desk out = IsUnused out ⊎ WrotePartOfAccepted asked desk out
+
+-- want of memory is an ending of its own, and no refusal
+abbrev pub HasLine : Ending → Type 0
+HasLine (Refused refusal) = IsTold refusal
+HasLine Written = Unit {0}
+HasLine (BadWord at) = Unit {0}
+HasLine (NoFile role) = Unit {0}
+HasLine NotWritten = Unit {0}
+HasLine NoMemory = Unit {0}
+
+-- A run ended so. Where a read failed, it ended by that.
+pub record Performs (ending : Ending) (asked : Result PlainRequest ℕ) (desk : DeskUse) (out : SinkUse) : Type 0 where
+  pub ends : Ends ending asked desk out
+  pub failed : ¬ (desk.faults.after ≡ desk.faults.before) → (role : Role) × (ending ≡ NoFile role)
+  pub steady : IsTrue desk.steady → desk.faults.after ≡ desk.faults.before
+  pub room : HasRoomFor out.room asked desk.files → out.faults.after ≡ out.faults.before
+
+-- the ending that is reported: the same, or want of memory for the line, which an output that was written needs none of
+abbrev pub IsReported : Ending → Ending → Type 0
+IsReported ending reported = (reported ≡ ending) ⊎ ((reported ≡ NoMemory) × ¬ (ending ≡ Written))
+
+-- ---- statuses
+
+abbrev pub status_of : Ending → ℕ
+status_of Written = 0
+status_of (Refused refusal) = 1
+status_of (BadWord at) = 2
+status_of (NoFile role) = 3
+status_of NotWritten = 4
+status_of NoMemory = 5
+
+-- ---- lines on the error output
+
+abbrev pub line_of : Ending → List ℕ
+line_of Written = []
+line_of (Refused refusal) = refusal_line refusal
+line_of (BadWord at) = codes "conform: usage: word " ++ decimal at ++ codes "\n"
+line_of (NoFile role) = codes "conform: read fault: " ++ role_word role ++ codes "\n"
+line_of NotWritten = codes "conform: write fault\n"
+line_of NoMemory = codes "conform: out of memory\n"
+
+-- The error output grew by a line, or by a prefix of it where a write failed.
+abbrev pub Says : List ℕ → SinkUse → Type 0
+Says line err =
+    (err.written.after ≡ append_known err.written.before line)
+    ⊎ (HasFailed err.faults × GrewByPrefix err.written.before err.written.after line)

@@ -1,0 +1,47 @@
+-- The manifests that `rules` and `suite` write.
+use Rattle.std.specs.Prelude.{ℕ, List, Some}
+use Rattle.std.specs.Borrow.{Bor}
+use Rattle.cs_run.specs.Ending.Files.{choice_of}
+use Rattle.cs_run.specs.declared.input.judging.Pair.{Pair}
+use Rattle.cs_grammar.specs.Weights.{Measure, Weighed}
+use Rattle.cs_manifest.specs.Manifest.Manifest.{Choice, IsManifest, measure_of, rules_form}
+use Rattle.cs_writing.specs.declared.plan.plan.Means.{Means}
+use Rattle.cs_writing.specs.Plan.Plans.{texts_of}
+use Rattle.cs_texts.specs.declared.work.work.RenderWork.{RenderWork}
+use Rattle.cs_run.specs.declared.words.options.Options.{Options}
+use Rattle.cs_yacc.specs.Reading.File.{File}
+
+-- the text is the manifest of a yacc file in the form of `rules`
+abbrev pub IsRules : File → List ℕ → Type 0
+IsRules file text = IsManifest rules_form file text
+
+-- the text is the manifest of the pair by the options
+abbrev pub IsSuite : Pair → Options → List ℕ → Type 0
+IsSuite pair options text = IsManifest (choice_of pair.lex options) pair.yacc text
+
+-- what the options choose, with these texts
+abbrev pub choice_with : Options → RenderWork → Choice
+choice_with options work = record {
+  criteria = options.criteria;
+  texts = Some (texts_of work);
+  operators = options.operators;
+  most = options.bases;
+  format = options.format;
+  weigh = options.weigh;
+}
+
+-- the text is the manifest of a yacc file by the options and these texts
+abbrev pub IsBy : RenderWork → File → Options → List ℕ → Type 0
+IsBy work file options text = IsManifest (choice_with options work) file text
+
+-- how the options measure the trees of a yacc file, with the lexemes of these texts
+abbrev pub measure_by : Options → File → RenderWork → Measure
+measure_by options file work = measure_of options.weigh file.grammar.tokens (Some work.lexemes.now)
+
+-- what the options' suite is made by, with these texts and pairs
+abbrev pub means_by : Options → Bor RenderWork → Bor Weighed → Means
+means_by options work pairs = record {
+  work = work;
+  mutation = record { pairs = pairs; operators = options.operators; most = options.bases };
+  weigh = options.weigh;
+}

@@ -1,0 +1,170 @@
+// What the words ask for, done.
+
+ghost use Rattle.std.specs.Prelude.{◌≡◌};
+ghost use Rattle.cs_run.specs.Ending.Ending.{HasLine};
+ghost use Rattle.cs_run.specs.Ending.Summary.{IsSummary};
+ghost use Rattle.cs_run.specs.Input.Refusal.{CanBeTold, HasManyStates};
+ghost use Rattle.cs_io.specs.Uses.{desk_use, sink_use};
+ghost use Rattle.cs_run.specs.Command.Carrying.{IsRefusedSuite, Writes, WritesSure};
+ghost use Rattle.cs_run.specs.Command.Words.{AreBad, AskForNoFiles, KeepsPromisesTo, PerformsFor, ending_at, ending_of};
+ghost use Rattle.cs_run.specs.Words.Words.{texts};
+ghost use Rattle.cs_run.specs.Writer.Suite.{IsRules, IsSuite};
+
+use crate::ending::{Ending, finish};
+use crate::input::{Meant, Pair, Refusal, Stop, read_files};
+use crate::words::{Arguments, Command, Options, read_words};
+use crate::writer::{SuiteHalt, write_rules, write_suite, write_summary};
+use cs_fan::Gate;
+use cs_io::{Desk, Sink};
+use cs_writing::Halt;
+use cs_yacc::YaccFile;
+use std::alloc::Global;
+use std::thread::Threads;
+
+/// Does what the words ask for, says on `err` what went wrong, and gives the status: 0 where the whole output was written,
+/// 1 where the files are refused, 2 where the words aren't accepted, 3 where a file can't be read, 4 where the output can't
+/// be written, 5 for want of memory. The words are the program's arguments without its own name: a command, what it takes,
+/// and its options. Workers run by `rt`, and enter the gate with the place of an item in its batch.
+///
+/// What it promises stands on one page, in `specs/Headline.antt` of `cs_run::ending`.
+pub fn run<R: Threads + Sync, D: Desk, O: Sink, E: Sink, G: Gate + Sync>(
+    rt: &R,
+    alloc: Global,
+    words: &[String],
+    desk: &mut D,
+    out: &mut O,
+    err: &mut E,
+    gate: &G,
+) -> u8
+    ensures promises { KeepsPromisesTo (texts words.now)
+        (desk_use D.files D.steady D.faults desk.old desk.new)
+        (sink_use O.written O.faults O.room out.old out.new)
+        (sink_use E.written E.faults E.room err.old err.new)
+        result }
+    ensures bad_words_ask_nothing { AreBad (texts words.now) → desk.new ≡ desk.old }
+    ensures no_files_ask_nothing { AskForNoFiles (texts words.now) → desk.new ≡ desk.old }
+{
+    let ending = perform(rt, alloc, words, desk, out, gate);
+    finish(alloc, ending, err)
+}
+
+// Does what the words ask for.
+fn perform<R: Threads + Sync, D: Desk, O: Sink, G: Gate + Sync>(
+    rt: &R,
+    alloc: Global,
+    words: &[String],
+    desk: &mut D,
+    out: &mut O,
+    gate: &G,
+) -> Ending
+    ensures performs { PerformsFor (texts words.now) result
+        (desk_use D.files D.steady D.faults desk.old desk.new)
+        (sink_use O.written O.faults O.room out.old out.new) }
+    ensures told { HasLine result }
+    ensures bad_words_ask_nothing { AreBad (texts words.now) → desk.new ≡ desk.old }
+    ensures no_files_ask_nothing { AskForNoFiles (texts words.now) → desk.new ≡ desk.old }
+{
+    let request = match read_words(words) {
+        Ok(request) => request,
+        Err(bad) => return Ending::BadWord { at: bad.at },
+    };
+    let meant = match read_files(alloc, &request, desk) {
+        Ok(meant) => meant,
+        Err(stop) => return stopped(stop),
+    };
+    match request.command {
+        Command::Rules => match meant {
+            Meant::Grammar(file) => rules(rt, alloc, file, out, gate),
+            Meant::Nothing | Meant::Pair(_) => unreachable!(),
+        },
+        Command::Suite => match meant {
+            Meant::Pair(pair) => suite(rt, alloc, pair, request.options, out, gate),
+            Meant::Nothing | Meant::Grammar(_) => unreachable!(),
+        },
+        Command::Gen => match request.arguments {
+            Arguments::Seed(seed) => summary(rt, alloc, seed, out, gate),
+            Arguments::Files(_) => unreachable!(),
+        },
+    }
+}
+
+// Writes the rule goals of a yacc file.
+fn rules<R: Threads + Sync, O: Sink, G: Gate + Sync>(
+    rt: &R,
+    alloc: Global,
+    file: YaccFile,
+    out: &mut O,
+    gate: &G,
+) -> Ending
+    ensures writes { WritesSure (IsRules file) result
+        (sink_use O.written O.faults O.room out.old out.new) }
+    ensures told { HasLine result }
+{
+    match write_rules(rt, alloc, &file, out, gate) {
+        Ok(()) => Ending::Written,
+        Err(halt) => halted(halt),
+    }
+}
+
+// Writes the suite of a yacc file and a lex file.
+fn suite<R: Threads + Sync, O: Sink, G: Gate + Sync>(
+    rt: &R,
+    alloc: Global,
+    pair: Pair,
+    options: Options,
+    out: &mut O,
+    gate: &G,
+) -> Ending
+    ensures writes { Writes (¬ HasManyStates pair.lex) (IsRefusedSuite pair) (IsSuite pair options) result
+        (sink_use O.written O.faults O.room out.old out.new) }
+    ensures told { HasLine result }
+{
+    match write_suite(rt, alloc, pair, options, out, gate) {
+        Ok(_) => Ending::Written,
+        Err(SuiteHalt::States) => Ending::Refused(Refusal::States),
+        Err(SuiteHalt::Failed) => Ending::NotWritten,
+        Err(SuiteHalt::Memory) => Ending::NoMemory,
+    }
+}
+
+// Writes the summary of a number.
+fn summary<R: Threads + Sync, O: Sink, G: Gate + Sync>(
+    rt: &R,
+    alloc: Global,
+    seed: u64,
+    out: &mut O,
+    gate: &G,
+) -> Ending
+    ensures writes { WritesSure (IsSummary seed) result
+        (sink_use O.written O.faults O.room out.old out.new) }
+    ensures told { HasLine result }
+{
+    match write_summary(rt, alloc, seed, out, gate) {
+        Ok(()) => Ending::Written,
+        Err(halt) => halted(halt),
+    }
+}
+
+// How a run ends whose writing stopped.
+fn halted(halt: Halt) -> Ending
+    ensures ending { result ≡ ending_at halt }
+    ensures told { HasLine result }
+{
+    match halt {
+        Halt::Failed => Ending::NotWritten,
+        Halt::Memory => Ending::NoMemory,
+    }
+}
+
+// How a run ends whose files aren't given.
+fn stopped(stop: Stop) -> Ending
+    requires { CanBeTold stop }
+    ensures ending { result ≡ ending_of stop }
+    ensures told { HasLine result }
+{
+    match stop {
+        Stop::NoFile(role) => Ending::NoFile(role),
+        Stop::Refused(refusal) => Ending::Refused(refusal),
+        Stop::Memory => Ending::NoMemory,
+    }
+}

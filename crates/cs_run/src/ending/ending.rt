@@ -1,0 +1,20 @@
+// How a run ends.
+
+use crate::input::Refusal;
+use crate::words::Role;
+
+/// How a run ends.
+#[derive(Clone, Copy, Debug, PartialEq, Eq)]
+pub enum Ending {
+    /// The whole output was written.
+    Written,
+    /// The files are refused.
+    Refused(Refusal),
+    /// The words are not accepted; this one, from 0, can't stand where it stands.
+    BadWord { at: usize },
+    /// The file could not be read.
+    NoFile(Role),
+    /// The output could not be written.
+    NotWritten,
+    NoMemory,
+}

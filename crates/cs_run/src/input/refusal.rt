@@ -1,0 +1,27 @@
+// Why files aren't given.
+
+use crate::words::Role;
+use cs_lex::LexError;
+use cs_yacc::YaccError;
+
+/// Why files are refused, the first cause that applies.
+#[derive(Clone, Copy, Debug, PartialEq, Eq)]
+pub enum Refusal {
+    /// A file has more bytes than are read.
+    TooLong(Role),
+    /// The yacc file is none.
+    OfYacc(YaccError),
+    /// The lex file is none.
+    OfLex(LexError),
+    /// The automaton of the lex file has too many states.
+    States,
+}
+
+/// Why files aren't given.
+#[derive(Clone, Copy, Debug, PartialEq, Eq)]
+pub enum Stop {
+    /// The file can't be read.
+    NoFile(Role),
+    Refused(Refusal),
+    Memory,
+}

@@ -1,0 +1,114 @@
+// The writer of `gen`.
+
+ghost use Rattle.std.specs.Prelude.{IfOk, OnErr, OnOk, string_bytes};
+ghost use Rattle.cs_run.specs.Ending.Summary.{IsSummary, summary_options};
+ghost use Rattle.cs_run.specs.Input.Refusal.{HasManyStates};
+ghost use Rattle.cs_run.specs.Writer.Suite.{IsSuite};
+ghost use Rattle.cs_run.specs.Writer.Summary.{AreShort, HasSuite, HasNumberMore, IsLineOf, IsOnlySummary};
+ghost use Rattle.cs_writing.specs.declared.writing.halt.Halt.TheVariants.{Failed};
+ghost use Rattle.cs_writing.specs.Writing.Writing.{CountsOfAll, HasNoCases, IsCalmForAll, MetFault, MetNone};
+ghost use Rattle.cs_writing.specs.Writing.Writing.{Stopped, TookFront, TookOne};
+
+use crate::input::{Pair, Stop, judge_pair};
+use crate::words::Options;
+use crate::writer::halt::SuiteHalt;
+use crate::writer::suite::write_suite;
+use cs_choices::Format;
+use cs_fan::Gate;
+use cs_gen::{Generated, make};
+use cs_io::{NullSink, Sink, write_all};
+use cs_manifest::Counts;
+use cs_writing::Halt;
+use std::alloc::{AllocError, Global};
+use std::thread::Threads;
+
+/// Writes the summary of a number: the lengths of the two files that stand for it, and the counts
+/// and the length of their manifest by default options, in the first format.
+pub fn write_summary<R: Threads + Sync, O: Sink, G: Gate + Sync>(
+    rt: &R,
+    alloc: Global,
+    seed: u64,
+    out: &mut O,
+    gate: &G,
+) -> Result<(), Halt>
+    ensures ok { OnOk result (TookOne O.Sink (IsSummary seed) out.old out.new) }
+    ensures part { OnErr result (TookFront O.Sink (IsSummary seed) out.old out.new) }
+    ensures no_fault { OnOk result (MetNone O.Sink out.old out.new) }
+    ensures failed { Stopped Failed result → MetFault O.Sink out.old out.new }
+    ensures room { IsCalmForAll O.Sink (IsSummary seed) out.old out.new }
+{
+    let line = summary(rt, alloc, seed, gate)?;
+    write_all(out, line.as_bytes())?;
+    Ok(())
+}
+
+// The summary of a number. The readers refuse neither of its files.
+fn summary<R: Threads + Sync, G: Gate + Sync>(
+    rt: &R,
+    alloc: Global,
+    seed: u64,
+    gate: &G,
+) -> Result<String, AllocError>
+    ensures { IfOk result (λ line. IsOnlySummary seed (string_bytes line)) }
+{
+    let files = make(alloc, seed)?;
+    let pair = match judge_pair(alloc, &files.yacc, &files.lex) {
+        Ok(pair) => pair,
+        Err(Stop::Memory) => return Err(AllocError),
+        Err(Stop::Refused(_)) => unreachable!(),
+        Err(Stop::NoFile(_)) => unreachable!(),
+    };
+    let counts = count(rt, alloc, pair, gate)?;
+    line(alloc, seed, &files, counts)
+}
+
+// The counts of the manifest of a pair by default options, in the first format. Its lines are kept nowhere.
+fn count<R: Threads + Sync, G: Gate + Sync>(
+    rt: &R,
+    alloc: Global,
+    pair: Pair,
+    gate: &G,
+) -> Result<Counts, AllocError>
+    requires { ¬ HasManyStates pair.lex }
+    ensures some { OnOk result (HasSuite pair) }
+    ensures counts { IfOk result (CountsOfAll (IsSuite pair summary_options)) }
+    ensures first { IfOk result HasNoCases }
+{
+    let mut sink = NullSink::new();
+    let options = Options {
+        format: Format::One,
+        ..Options::defaults()
+    };
+    match write_suite(rt, alloc, pair, options, &mut sink, gate) {
+        Ok(counts) => Ok(counts),
+        Err(SuiteHalt::Memory) => Err(AllocError),
+        Err(SuiteHalt::States) => unreachable!(),
+        Err(SuiteHalt::Failed) => unreachable!(),
+    }
+}
+
+// The line of a number, of its two files, and of the counts of their manifest.
+fn line(alloc: Global, seed: u64, files: &Generated, counts: Counts) -> Result<String, AllocError>
+    ensures line { IfOk result (λ line. IsLineOf seed files.now counts (string_bytes line)) }
+    ensures short { AreShort counts }
+{
+    let mut line = String::new(alloc);
+    put(&mut line, "gen ", u128::from(seed))?;
+    put(&mut line, " yacc ", files.yacc.len() as u128)?;
+    put(&mut line, " lex ", files.lex.len() as u128)?;
+    put(&mut line, " goals ", u128::from(counts.goals))?;
+    put(&mut line, " feasible ", u128::from(counts.feasible))?;
+    put(&mut line, " infeasible ", u128::from(counts.infeasible))?;
+    put(&mut line, " large ", u128::from(counts.large))?;
+    put(&mut line, " negatives ", u128::from(counts.negatives))?;
+    put(&mut line, " bytes ", counts.bytes)?;
+    line.push_str("\n")?;
+    Ok(line)
+}
+
+// A number behind its word.
+fn put(line: &mut String, word: &str, number: u128) -> Result<(), AllocError>
+    ensures { OnOk result (HasNumberMore word.now number line.old line.new) }
+{
+    write!(line, "{word}{number}")
+}

@@ -1,0 +1,3 @@
+pub mod OnAutomaton
+pub mod OnScan
+pub mod OnLexeme

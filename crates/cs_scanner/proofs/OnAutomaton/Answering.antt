@@ -1,0 +1,141 @@
+-- What an automaton answers, from its tables.
+use Rattle.std.proofs.Common.{◌≡◌, ◌≢◌, ℕ, zero, suc, ◌*◌, ◌/◌, ◌<◌, Bool, true, List, [], ◌∷◌, ◌++◌, inl, inr, Some, None, refl, sym, ap, ◌∙◌, subst, arith, length, map, Contains, get_or}
+use Rattle.std.specs.Prelude.{slice_get, Option, IfSome}
+use Rattle.std.proofs.lemmas.Bool.{false≢true, cases_lt}
+use Rattle.std.proofs.lemmas.List.{length-map}
+use Rattle.std.proofs.lemmas.Option.{slice_get_within}
+use Rattle.cs_pattern_parts.specs.Items.Members.{picked}
+use Rattle.cs_pattern_parts.proofs.OnItems.Picked.{has_picked_above, has_picked, has-contains, contains-has}
+use Rattle.cs_pattern_parts.specs.declared.tree.pattern.Pattern.{Pattern}
+use Rattle.cs_pattern_parts.specs.Tree.Pattern.{regex}
+use Rattle.cs_scanner.specs.Automaton.Automata.{members, step_at, AreTables}
+use Rattle.cs_scanner.specs.Automaton.Bits.{bit}
+use Rattle.cs_scanner.specs.Automaton.Machine.{Machine, StateOf, IsNextState, IsFirstRule}
+use Rattle.cs_scanner.specs.Automaton.Meaning.{res, all_classes}
+use Rattle.cs_scanner.specs.Automaton.Places.{IsSet}
+use Rattle.cs_scanner.specs.Automaton.Re.{Re}
+use Rattle.cs_scanner.specs.Automaton.Rules.{IsFirstSpelled, IsBegunSpelled}
+use Rattle.cs_scanner.specs.Automaton.States.{StandsFor, IsStep, AreColumns, IsBuilt, AreFirstRules, AreFull, HasSome, IsColumn}
+use Rattle.cs_scanner.proofs.OnAutomaton.BitLemmas.{past_bit}
+use Rattle.cs_scanner.proofs.OnAutomaton.Counting.{full_all, byte_step, step_within}
+use Rattle.cs_scanner.proofs.OnAutomaton.Growing.{append_some}
+use Rattle.cs_scanner.proofs.OnAutomaton.Meanings.{first_matched, begun_spelled, begun_matched}
+use Rattle.cs_scanner.proofs.OnAutomaton.Reached.{in_set_reaches, reaches_in_set}
+use Rattle.cs_scanner.proofs.OnAutomaton.Rules.{begun_reaches, reaches_begun}
+
+-- ---- the numbers of a set
+
+pub picked_passes : (t : ℕ → Bool) (n m : ℕ) → Contains (picked t n) m → (m < n) × (t m ≡ true)
+picked_passes t n m h =
+    let there = contains-has (picked t n) m h in
+    elim (cases_lt m n) [
+      | inl lt ↦ (lt, sym (has_picked t n m lt) ∙ there)
+      | inr le ↦ absurd (false≢true (sym (has_picked_above t n m le) ∙ there))
+    ]
+
+pub passes_picked : (t : ℕ → Bool) (n m : ℕ) → m < n → t m ≡ true → Contains (picked t n) m
+passes_picked t n m lt h = has-contains (picked t n) m (has_picked t n m lt ∙ h)
+
+bit_within : (words : List ℕ) (n : ℕ) → bit words n ≡ true → n < 64 * length words
+bit_within words n h =
+    elim (cases_lt (n / 64) (length words)) [
+      | inl lt ↦ omega (arith, lt)
+      | inr le ↦ absurd (false≢true (sym (past_bit words n le) ∙ h))
+    ]
+
+mapped : (ws : List (List ℕ)) (k : ℕ) (ps : List ℕ) → slice_get (map members ws) k ≡ Some ps → (w : List ℕ) × (slice_get ws k ≡ Some w) × (members w ≡ ps)
+mapped [] k ps e = absurd cc
+mapped (w ∷ ws) zero ps e = (w, refl, cc)
+mapped (w ∷ ws) (suc k) ps e = mapped ws k ps e
+
+map_there : (ws : List (List ℕ)) (k : ℕ) (w : List ℕ) → slice_get ws k ≡ Some w → slice_get (map members ws) k ≡ Some (members w)
+map_there [] k w e = absurd cc
+map_there (v ∷ ws) zero w e = let same : v ≡ w = cc in ap (λ t. Some (members t)) same
+map_there (v ∷ ws) (suc k) w e = map_there ws k w e
+
+module _ (patterns : List Pattern) (ws : List (List ℕ)) where
+  abbrev rs : List (Re (List ℕ))
+  rs = res (map regex patterns)
+
+  abbrev pub machine : Machine
+  machine = record { patterns = patterns; sets = map members ws }
+
+  module _ (full : AreFull rs) where
+    pub viewed : (k : ℕ) (x : List ℕ) → StateOf machine k x → StandsFor rs ws k x
+    viewed zero x s = s
+    viewed (suc k) x s =
+        let w = mapped ws (suc k) s.0 s.1 in
+        let P : List ℕ → Type 0 = λ t. IsSet rs x t in
+        let is = subst P (sym w.2) s.3 in (
+          w.0,
+          w.1,
+          s.2,
+          record {
+            reached = λ p h. in_set_reaches rs x p ((is p).0 (passes_picked (bit w.0) (64 * length w.0) p (bit_within w.0 p h) h));
+            all = λ p r. (picked_passes (bit w.0) (64 * length w.0) p ((is p).1 (reaches_in_set rs HasSome (full_all rs full) x p r))).1;
+          },
+        )
+
+    pub shown : (k : ℕ) (x : List ℕ) → StandsFor rs ws k x → StateOf machine k x
+    shown zero x s = s
+    shown (suc k) x s = (
+      members s.0,
+      map_there ws (suc k) s.0 s.1,
+      s.2,
+      λ p. (
+        λ c. reaches_in_set rs HasSome (full_all rs full) x p (s.3.reached p (picked_passes (bit s.0) (64 * length s.0) p c).1),
+        λ i. let h = s.3.all p (in_set_reaches rs x p i) in passes_picked (bit s.0) (64 * length s.0) p (bit_within s.0 p h) h,
+      ),
+    )
+
+  module _ (steps : List (List (Option ℕ))) (column_of : List ℕ) (first_rules : List (Option ℕ)) (t : AreTables rs ws steps column_of first_rules) where
+    state_begun : (j : ℕ) (x : List ℕ) → x ≢ [] → StandsFor rs ws j x → IsBegunSpelled rs x
+    state_begun zero x ne s = absurd (ne s)
+    state_begun (suc j) x ne s =
+        let state = t.states.each j s.0 s.1 in
+        let r = s.3.reached state.number state.some in
+        reaches_begun rs HasSome (λ c k. k) (full_all rs t.full) x r.place r.next r.reaches
+
+    answer_by : (k byte : ℕ) (to : Option ℕ) → IsStep rs ws k byte to → (x : List ℕ) → StateOf machine k x → IsNextState machine x byte to
+    answer_by k byte None step x s = λ b.
+        let r = begun_reaches rs (x ++ byte ∷ []) (append_some rs x byte) (begun_spelled (map regex patterns) (x ++ byte ∷ []) b) in
+        step x (viewed t.full k x s) r.0 r.1 r.2
+    answer_by k byte (Some j) step x s =
+        let next = step x (viewed t.full k x s) in
+        (begun_matched (map regex patterns) (x ++ byte ∷ []) (state_begun j (x ++ byte ∷ []) (append_some rs x byte) next), shown t.full j (x ++ byte ∷ []) next)
+
+    pub answer : (k byte : ℕ) (to : Option ℕ) → k < length ws → byte < 256 → to ≡ step_at steps column_of k byte → (x : List ℕ) → StateOf machine k x → IsNextState machine x byte to
+    answer k byte to lt fits is = answer_by k byte to (subst (λ o. IsStep rs ws k byte o) (sym is) (t.step k byte lt fits))
+
+    pub answer_within : (k byte : ℕ) (to : Option ℕ) → k < length ws → byte < 256 → to ≡ step_at steps column_of k byte → IfSome to (λ j. j < length (map members ws))
+    answer_within k byte None lt fits is = tt
+    answer_within k byte (Some j) lt fits is = let below = t.within k byte j lt fits (sym is) in omega (arith, below, length-map ws members)
+
+    pub rule_answer : (k : ℕ) (answer : Option ℕ) → k < length ws → answer ≡ get_or first_rules k None → (x : List ℕ) → StateOf machine k x → IsFirstRule (map regex patterns) x answer
+    rule_answer k answer lt is x s =
+        first_matched (map regex patterns) x answer (subst (λ o. IsFirstSpelled rs x o) (sym is) (t.rules k x (omega (arith, lt, t.each)) (viewed t.full k x s)))
+
+-- ---- the tables of what was built
+
+pub tables_of : (qs : List (Re (List ℕ))) (rows : List (List ℕ)) (column_of : List ℕ) (width : ℕ) (sets : List (List ℕ)) (steps : List (List (Option ℕ))) (first_rules : List (Option ℕ)) → AreFull qs → AreColumns (all_classes qs) rows column_of width → IsBuilt qs rows width 16384 sets steps → AreFirstRules qs sets first_rules → length first_rules ≡ length sets → AreTables qs sets steps column_of first_rules
+tables_of qs rows column_of width sets steps first_rules full columns built rules each =
+    record {
+      full = full;
+      width = width;
+      few = built.few;
+      states = built.states;
+      columns = columns.many;
+      rows = built.all;
+      columns_within = λ k byte row at fits.
+          let c = columns.found byte fits in
+          omega (arith, (built.steps_are k row at).0, slice_get_within rows (get_or column_of byte 0) c.0 c.1);
+      step = λ k byte lt fits. byte_step qs full rows column_of width 16384 columns sets steps built k byte lt fits;
+      within = λ k byte j lt fits e. step_within qs full rows column_of width 16384 columns sets steps built k byte j lt (subst (λ o. IsStep qs sets k byte o) e (byte_step qs full rows column_of width 16384 columns sets steps built k byte lt fits));
+      rules = rules;
+      each = each;
+    }
+
+pub columns_are : (qs : List (Re (List ℕ))) (rows : List (List ℕ)) (column_of : List ℕ) (width : ℕ) → AreColumns (all_classes qs) rows column_of width → (k : ℕ) (row : List ℕ) → slice_get rows k ≡ Some row → IsColumn qs width row
+columns_are qs rows column_of width columns k row at =
+    let c = columns.some k row at in
+    record { long = c.0; byte = c.1.0; fits = c.1.1; is = c.1.2 }

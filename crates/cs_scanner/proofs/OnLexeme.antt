@@ -1,0 +1,10 @@
+pub mod Ranking
+pub mod Lists
+pub mod Numbers
+pub mod Differing
+pub mod Stepping
+pub mod Meeting
+pub mod Reaching
+pub mod Standing
+pub mod Winning
+pub mod LawProofs

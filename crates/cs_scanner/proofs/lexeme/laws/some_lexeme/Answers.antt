@@ -1,0 +1,5 @@
+use Rattle.cs_scanner.proofs.OnLexeme.LawProofs.{some_lexeme_lem}
+use Rattle.cs_scanner.proofs.lexeme.laws.some_lexeme.Goals as goal
+
+pub returns : goal.returns
+returns c = some_lexeme_lem

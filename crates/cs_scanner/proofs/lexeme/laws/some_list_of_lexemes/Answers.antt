@@ -1,0 +1,5 @@
+use Rattle.cs_scanner.proofs.OnLexeme.LawProofs.{some_list}
+use Rattle.cs_scanner.proofs.lexeme.laws.some_list_of_lexemes.Goals as goal
+
+pub returns : goal.returns
+returns c = some_list

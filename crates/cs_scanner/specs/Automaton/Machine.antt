@@ -1,0 +1,41 @@
+-- What contracts see of an automaton, what its states stand for, and which rule matches a text.
+use Rattle.std.specs.Prelude.{◌≡◌, ◌≢◌, ℕ, zero, suc, ◌≤◌, List, [], ◌∷◌, ◌++◌, Option, Some, None, slice_get, map}
+use Rattle.cs_pattern_parts.specs.declared.tree.pattern.Pattern.{Pattern}
+use Rattle.cs_pattern_parts.specs.Tree.Pattern.{Regex, regex, Matches}
+use Rattle.cs_scanner.specs.Automaton.Meaning.{res}
+use Rattle.cs_scanner.specs.Automaton.Places.{IsSet}
+
+-- the rule with this number, from 1, matches the text
+pub record MatchesRule (patterns : List Regex) (rule : ℕ) (x : List ℕ) : Type 0 where
+  pub index : ℕ
+  pub pattern : Regex
+  pub number : rule ≡ suc index
+  pub at : slice_get patterns index ≡ Some pattern
+  pub matched : Matches pattern x
+
+-- the lowest rule that matches the text, if one does
+abbrev pub IsFirstRule : List Regex → List ℕ → Option ℕ → Type 0
+IsFirstRule patterns x None = (rule : ℕ) → MatchesRule patterns rule x → ⊥
+IsFirstRule patterns x (Some rule) = MatchesRule patterns rule x × ((other : ℕ) → MatchesRule patterns other x → rule ≤ other)
+
+-- some rule matches a text that begins with x
+abbrev pub IsBegun : List Regex → List ℕ → Type 0
+IsBegun patterns x = (rule : ℕ) × (y : List ℕ) × MatchesRule patterns rule (x ++ y)
+
+-- the patterns, and for each state the ascending numbers of its set
+pub record Machine : Type 0 where
+  pub patterns : List Pattern
+  pub sets : List (List ℕ)
+
+abbrev pub patterns_of : Machine → List Regex
+patterns_of m = map regex m.patterns
+
+-- The start, state 0, stands for the empty text, and its set is empty; any other state for the texts of its set.
+abbrev pub StateOf : Machine → ℕ → List ℕ → Type 0
+StateOf m zero x = x ≡ []
+StateOf m (suc k) x = (ps : List ℕ) × (slice_get m.sets (suc k) ≡ Some ps) × (x ≢ []) × IsSet (res (patterns_of m)) x ps
+
+-- The answer of a step behind x: None exactly where no rule matches a text that begins with x and the byte.
+abbrev pub IsNextState : Machine → List ℕ → ℕ → Option ℕ → Type 0
+IsNextState m x byte None = IsBegun (patterns_of m) (x ++ byte ∷ []) → ⊥
+IsNextState m x byte (Some state) = IsBegun (patterns_of m) (x ++ byte ∷ []) × StateOf m state (x ++ byte ∷ [])

@@ -1,0 +1,25 @@
+//! Scanners: the automaton of a lex file's patterns, what it takes of a text, and the least text for each token.
+//!
+//! The parts, from the bottom up; none stands on one behind it:
+//!
+//! - `automaton`: the automaton of a list of patterns: what a scanner built from them knows after each text, decided
+//!   without walking patterns (the positions of patterns: McNaughton and Yamada 1960, Glushkov 1961; sets as states:
+//!   Rabin and Scott 1959).
+//! - `scan`: the longest match at a place of a text, the first rule that has it, and whether a text scans to a list of
+//!   tokens (POSIX.1-2017, lex).
+//! - `lexeme`: the least text that a scanner takes for each token.
+//!
+//! The file of each part says which files of its folder of `specs/` are meaning.
+#![tactic(auto)]
+
+mod automaton;
+mod lexeme;
+mod scan;
+
+pub use automaton::{Automaton, AutomatonError};
+pub use lexeme::{
+    Lexemes, one_lexeme, one_list_of_lexemes, some_lexeme, some_list_of_lexemes, total_order,
+};
+pub use scan::{
+    Agreement, Scanner, agrees, longest, one_match, one_scan, shared_scanner, some_scan,
+};

@@ -1,0 +1,28 @@
+// Laws of matches.
+
+ghost use Rattle.std.specs.Prelude.{ℕ, List};
+ghost use Rattle.cs_pattern_parts.specs.Tree.Pattern.{Regex};
+ghost use Rattle.cs_scanner.specs.Scan.Scan.{AreOneMatch, AreOneScan, HasScan, Scanning};
+
+use crate::scan::scanner::Scanner;
+use cs_pattern_parts::take_shared;
+
+/// A text has at most one match at its front.
+pub fn one_match()
+    ensures { (patterns : List Regex) (text : List ℕ) → AreOneMatch patterns text }
+{}
+
+/// A text has at most one scan.
+pub fn one_scan()
+    ensures { (s : Scanning) (text : List ℕ) → AreOneScan s text }
+{}
+
+/// A text has a scan: that it has none leads to a contradiction.
+pub fn some_scan()
+    ensures { (s : Scanning) (text : List ℕ) → HasScan s text }
+{}
+
+/// Threads may share a scanner, and so its automaton.
+pub fn shared_scanner(scanner: &Scanner<'_>) {
+    take_shared(scanner);
+}

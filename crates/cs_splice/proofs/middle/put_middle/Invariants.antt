@@ -1,6 +1,0 @@
--- The texts of the tokens so far.
-use Rattle.cs_splice.specs.Middle.{IsPut}
-use Rattle.cs_splice.proofs.middle.put_middle.Given as goal
-
-abbrev pub invariant-loop-i : goal.invariant-loop-i
-invariant-loop-i l = IsPut l.lexemes l.separator l.tokens l.from l.i l.out.items

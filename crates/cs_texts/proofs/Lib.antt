@@ -1,0 +1,2 @@
+pub mod OnRendering
+pub mod OnSplice

@@ -1,0 +1,3 @@
+pub mod Rendering
+pub mod Splice
+pub mod Work

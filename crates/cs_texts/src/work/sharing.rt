@@ -1,0 +1,9 @@
+// What threads may share.
+
+use crate::work::work::RenderWork;
+use cs_pattern_parts::take_shared;
+
+/// Threads may share the rendering of lists.
+fn may_be_shared(work: &RenderWork<'_>) {
+    take_shared(work);
+}

@@ -1,0 +1,3 @@
+pub mod OnPositive
+pub mod OnClosed
+pub mod OnCases

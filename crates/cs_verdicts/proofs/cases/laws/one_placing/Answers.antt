@@ -1,0 +1,5 @@
+use Rattle.cs_verdicts.proofs.OnCases.Lowest.{one_placing}
+use Rattle.cs_verdicts.proofs.cases.laws.one_placing.Goals as goal
+
+pub returns : goal.returns
+returns c = one_placing

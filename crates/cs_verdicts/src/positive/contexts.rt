@@ -1,0 +1,93 @@
+// The least trees of context goals.
+
+ghost use Rattle.std.specs.Prelude.{◌≡◌, IfOk, IfSome, All};
+ghost use Rattle.cs_grammar.specs.Grammar.{IsRuleOf, IsSymbolOf};
+ghost use Rattle.cs_goals.specs.Goal.{IsOccurrence};
+ghost use Rattle.cs_verdicts.specs.Positive.Kept.{IsKeptIn};
+ghost use Rattle.cs_verdicts.specs.Positive.Occurrences.{IsCutAt};
+ghost use Rattle.cs_verdicts.specs.Positive.Verdict.{IsGoalCost, HasLeastIn, IsCodeIn};
+
+use crate::positive::kept::{Kept, USUAL_RULES, take_around};
+use crate::positive::sums::node_cost;
+use cs_goals::Goal;
+use cs_grammar::{Derivation, Grammar, Rule, Symbol, place_of};
+use cs_least::{Cost, Costs, Embeds};
+use std::alloc::{AllocError, Global};
+
+// The rules of a context goal, and the symbols beside the inner one's left side in the outer one's right side.
+#[derive(Clone, Copy)]
+struct Occurrence<'g> {
+    outer: &'g Rule,
+    before: &'g [Symbol],
+    inner: &'g Rule,
+    behind: &'g [Symbol],
+}
+
+fn occurrence_of<'g>(grammar: &'g Grammar, outer: u16, place: u16, inner: u16) -> Occurrence<'g>
+    requires { IsOccurrence grammar.now outer place inner }
+    ensures cut { IsCutAt grammar.now outer place inner result }
+    ensures outer { IsRuleOf grammar.now.tokens grammar.now.nonterminals result.outer.now }
+    ensures before { All (IsSymbolOf grammar.now) result.before.now }
+    ensures inner { IsRuleOf grammar.now.tokens grammar.now.nonterminals result.inner.now }
+    ensures behind { All (IsSymbolOf grammar.now) result.behind.now }
+{
+    let outer_rule = grammar.rule(outer);
+    let right = outer_rule.right();
+    Occurrence {
+        outer: outer_rule,
+        before: &right[..place_of(place)],
+        inner: grammar.rule(inner),
+        behind: &right[place as usize..],
+    }
+}
+
+// What the least tree costs that meets a context goal.
+pub(crate) fn context_cost(
+    costs: &Costs,
+    embeds: &Embeds,
+    outer: u16,
+    place: u16,
+    inner: u16,
+) -> Cost
+    requires embeds { embeds.now ≡ costs.now }
+    requires goal { IsOccurrence costs.now.grammar outer place inner }
+    ensures { IsGoalCost costs.now (Goal.Context outer place inner) result }
+{
+    let parts = occurrence_of(costs.grammar(), outer, place, inner);
+    let siblings = costs.plus(costs.sum(parts.before), costs.sum(parts.behind));
+    let context = embeds.embed(parts.outer.left());
+    let around = costs.plus(context, node_cost(costs, siblings));
+    let node = node_cost(costs, costs.sum(parts.inner.right()));
+    costs.plus(around, node)
+}
+
+// The code of the chosen tree of a context goal.
+pub(crate) fn derive_context(
+    alloc: Global,
+    costs: &Costs,
+    embeds: &Embeds,
+    outer: u16,
+    place: u16,
+    inner: u16,
+    kept: &mut Option<Kept>,
+) -> Result<Derivation, AllocError>
+    requires embeds { embeds.now ≡ costs.now }
+    requires goal { IsOccurrence costs.now.grammar outer place inner }
+    requires feasible { HasLeastIn costs.now (Goal.Context outer place inner) }
+    requires kept { IfSome kept.old (IsKeptIn costs.now) }
+    ensures code { IfOk result (IsCodeIn costs.now (Goal.Context outer place inner)) }
+    ensures kept { IfSome kept.new (IsKeptIn costs.now) }
+{
+    let parts = occurrence_of(costs.grammar(), outer, place, inner);
+    let around = take_around(costs, embeds, parts.outer.left(), kept)?;
+    let mut derivation = Derivation::with_capacity(alloc, USUAL_RULES)?;
+    derivation.extend_from_slice(&around.context.before)?;
+    derivation.push(outer)?;
+    costs.all_into(parts.before, &mut derivation)?;
+    derivation.push(inner)?;
+    costs.all_into(parts.inner.right(), &mut derivation)?;
+    costs.all_into(parts.behind, &mut derivation)?;
+    derivation.extend_from_slice(&around.context.after)?;
+    *kept = Some(around);
+    Ok(derivation)
+}

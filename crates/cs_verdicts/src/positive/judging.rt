@@ -1,0 +1,132 @@
+// The verdict of a goal.
+
+ghost use Rattle.std.specs.Prelude.{◌≡◌, IfOk, IfSome};
+ghost use Rattle.cs_goals.specs.Goal.{IsGoal};
+ghost use Rattle.cs_verdicts.specs.Positive.Kept.{IsKeptIn};
+ghost use Rattle.cs_verdicts.specs.Positive.Verdict.{IsVerdictIn, IsTreeGoal, IsGoalCost, HasLeastIn, IsCodeIn};
+
+use crate::positive::contexts::{context_cost, derive_context};
+use crate::positive::kept::Kept;
+use crate::positive::pairs::judge_pair;
+use crate::positive::rules::{derive_rule, rule_cost};
+use crate::positive::tables::Tables;
+use crate::positive::verdict::Verdict;
+use cs_goals::Goal;
+use cs_grammar::Derivation;
+use cs_least::{Cost, Costs, Embeds};
+use std::alloc::{AllocError, Global};
+
+/// The verdict of a goal of the grammar, over all trees of the start symbol: `Infeasible` exactly where none meets the goal,
+/// `Large` exactly where one does and the least of them is larger than the limit, else the least size and the code of the
+/// chosen tree.
+pub fn judge(alloc: Global, tables: &Tables, goal: &Goal) -> Result<Verdict, AllocError>
+    requires { IsGoal tables.now.grammar goal.now }
+    ensures { IfOk result (IsVerdictIn tables.now goal.now) }
+{
+    let mut kept = None;
+    judge_keeping(alloc, tables, goal, &mut kept)
+}
+
+// The same, by a context that is kept from goal to goal.
+pub(crate) fn judge_keeping(
+    alloc: Global,
+    tables: &Tables,
+    goal: &Goal,
+    kept: &mut Option<Kept>,
+) -> Result<Verdict, AllocError>
+    requires goal { IsGoal tables.now.grammar goal.now }
+    requires kept { IfSome kept.old (IsKeptIn tables.now) }
+    ensures verdict { IfOk result (IsVerdictIn tables.now goal.now) }
+    ensures kept { IfSome kept.new (IsKeptIn tables.now) }
+{
+    match *goal {
+        Goal::Pair { left, right } => judge_pair(alloc, tables, left, right),
+        _ => judge_tree_keeping(alloc, &tables.costs, &tables.embeds, goal, kept),
+    }
+}
+
+/// The verdict of a rule goal or a context goal, as `judge` gives it, without the tables of pairs.
+pub fn judge_tree_goal(
+    alloc: Global,
+    costs: &Costs,
+    embeds: &Embeds,
+    goal: &Goal,
+) -> Result<Verdict, AllocError>
+    requires embeds { embeds.now ≡ costs.now }
+    requires goal { IsGoal costs.now.grammar goal.now }
+    requires kind { IsTreeGoal goal.now }
+    ensures { IfOk result (IsVerdictIn costs.now goal.now) }
+{
+    let mut kept = None;
+    judge_tree_keeping(alloc, costs, embeds, goal, &mut kept)
+}
+
+// The same, by a context that is kept from goal to goal.
+pub(crate) fn judge_tree_keeping(
+    alloc: Global,
+    costs: &Costs,
+    embeds: &Embeds,
+    goal: &Goal,
+    kept: &mut Option<Kept>,
+) -> Result<Verdict, AllocError>
+    requires embeds { embeds.now ≡ costs.now }
+    requires goal { IsGoal costs.now.grammar goal.now }
+    requires kind { IsTreeGoal goal.now }
+    requires kept { IfSome kept.old (IsKeptIn costs.now) }
+    ensures verdict { IfOk result (IsVerdictIn costs.now goal.now) }
+    ensures kept { IfSome kept.new (IsKeptIn costs.now) }
+{
+    match goal_cost(costs, embeds, goal) {
+        Cost::Never => Ok(Verdict::Infeasible),
+        Cost::Large => Ok(Verdict::Large),
+        Cost::Least(size) => {
+            let derivation = derive_goal(alloc, costs, embeds, goal, kept)?;
+            Ok(Verdict::Feasible { size, derivation })
+        }
+    }
+}
+
+// What the least tree costs that meets a rule goal or a context goal.
+fn goal_cost(costs: &Costs, embeds: &Embeds, goal: &Goal) -> Cost
+    requires embeds { embeds.now ≡ costs.now }
+    requires goal { IsGoal costs.now.grammar goal.now }
+    requires kind { IsTreeGoal goal.now }
+    ensures { IsGoalCost costs.now goal.now result }
+{
+    match *goal {
+        Goal::Rule(rule) => rule_cost(costs, embeds, rule),
+        Goal::Context {
+            outer,
+            place,
+            inner,
+        } => context_cost(costs, embeds, outer, place, inner),
+        Goal::Pair { .. } => unreachable!(),
+    }
+}
+
+// The code of the chosen tree of a rule goal or a context goal.
+fn derive_goal(
+    alloc: Global,
+    costs: &Costs,
+    embeds: &Embeds,
+    goal: &Goal,
+    kept: &mut Option<Kept>,
+) -> Result<Derivation, AllocError>
+    requires embeds { embeds.now ≡ costs.now }
+    requires goal { IsGoal costs.now.grammar goal.now }
+    requires kind { IsTreeGoal goal.now }
+    requires feasible { HasLeastIn costs.now goal.now }
+    requires kept { IfSome kept.old (IsKeptIn costs.now) }
+    ensures code { IfOk result (IsCodeIn costs.now goal.now) }
+    ensures kept { IfSome kept.new (IsKeptIn costs.now) }
+{
+    match *goal {
+        Goal::Rule(rule) => derive_rule(alloc, costs, embeds, rule, kept),
+        Goal::Context {
+            outer,
+            place,
+            inner,
+        } => derive_context(alloc, costs, embeds, outer, place, inner, kept),
+        Goal::Pair { .. } => unreachable!(),
+    }
+}

@@ -1,0 +1,92 @@
+// The goals of a grammar with their verdicts, one after another.
+
+ghost use Rattle.std.specs.Prelude.{◌≡◌, false, IfOk, OnErr};
+ghost use Rattle.cs_verdicts.specs.Positive.Positives.{positives_of, GivesGoalOf, GivesNext};
+
+use crate::positive::judges::Judge;
+use crate::positive::kept::Kept;
+use crate::positive::tables::Tables;
+use crate::positive::verdict::Verdict;
+use cs_choices::Criteria;
+use cs_goals::{Goal, Goals};
+use cs_least::{Costs, Embeds};
+use std::alloc::{AllocError, Global};
+use std::marker::Model;
+
+/// A goal with its verdict.
+#[derive(Debug, Drop)]
+pub struct Positive {
+    pub goal: Goal,
+    pub verdict: Verdict,
+}
+
+/// The goals whose verdicts are still to be given, by the tables of a grammar.
+#[derive(Debug, Drop)]
+pub struct Positives<'t> {
+    judge: Judge<'t>,
+    goals: Goals<'t>,
+    kept: Option<Kept>,
+}
+
+impl<'t> Model for Positives<'t> {
+    ghost use Rattle.std.specs.Prelude.{All, IfSome};
+    ghost use Rattle.cs_verdicts.specs.Positive.Judges.{judged_by, CanJudge, IsJudge};
+    ghost use Rattle.cs_verdicts.specs.Positive.Kept.{IsKeptIn};
+    ghost use Rattle.cs_verdicts.specs.Positive.Positives.{ToJudge, AreOfGrammar};
+
+    ghost Value = { ToJudge };
+
+    ghost view = { λ p. record { tables = judged_by p.judge; goals = p.goals } };
+
+    ghost invariant = { λ p. IsJudge p.judge
+        × AreOfGrammar (judged_by p.judge).grammar p.goals
+        × All (CanJudge p.judge) p.goals
+        × IfSome p.kept (IsKeptIn (judged_by p.judge)) };
+}
+
+impl<'t> Positives<'t> {
+    /// The goals of the chosen criteria, none of which was given yet.
+    pub fn new(tables: &'t Tables<'t>, criteria: Criteria) -> Positives<'t>
+        ensures { result ≡ positives_of tables.now criteria }
+    {
+        Positives {
+            judge: Judge::Tables(tables),
+            goals: Goals::new(tables.grammar(), criteria),
+            kept: None,
+        }
+    }
+
+    /// The same without the tables of pairs, where no pair goals are chosen.
+    pub fn of_trees(
+        costs: &'t Costs<'t>,
+        embeds: &'t Embeds<'t>,
+        criteria: Criteria,
+    ) -> Positives<'t>
+        requires embeds { embeds.now ≡ costs.now }
+        requires criteria { criteria.pair ≡ false }
+        ensures { result ≡ positives_of costs.now criteria }
+    {
+        Positives {
+            judge: Judge::Trees { costs, embeds },
+            goals: Goals::new(costs.grammar(), criteria),
+            kept: None,
+        }
+    }
+
+    /// Takes the first goal away and gives it with its verdict. None where no goal is left, and then there is none from then
+    /// on. After a refusal, which is want of memory, the same goal comes next.
+    pub fn next(&mut self, alloc: Global) -> Result<Option<Positive>, AllocError>
+        ensures found { IfOk result (λ found. GivesNext self.old found self.new) }
+        ensures goal { IfOk result (GivesGoalOf self.old.tables.grammar) }
+        ensures tables { self.new.tables ≡ self.old.tables }
+        ensures refused { OnErr result (self.new.goals ≡ self.old.goals) }
+    {
+        let mut goals = self.goals.copied();
+        let Some(goal) = goals.next() else {
+            return Ok(None);
+        };
+        let verdict = self.judge.verdict(alloc, &goal, &mut self.kept)?;
+        self.goals = goals;
+        Ok(Some(Positive { goal, verdict }))
+    }
+}

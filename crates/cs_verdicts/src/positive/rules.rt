@@ -1,0 +1,51 @@
+// The least trees of rule goals.
+
+ghost use Rattle.std.specs.Prelude.{◌≡◌, IfOk, IfSome, length};
+ghost use Rattle.cs_grammar.specs.Grammar.{IsNumberOf};
+ghost use Rattle.cs_verdicts.specs.Positive.Kept.{IsKeptIn};
+ghost use Rattle.cs_verdicts.specs.Positive.Verdict.{IsGoalCost, HasLeastIn, IsCodeIn};
+
+use crate::positive::kept::{Kept, USUAL_RULES, take_around};
+use crate::positive::sums::node_cost;
+use cs_goals::Goal;
+use cs_grammar::Derivation;
+use cs_least::{Cost, Costs, Embeds};
+use std::alloc::{AllocError, Global};
+
+// What the least tree costs that meets a rule goal.
+pub(crate) fn rule_cost(costs: &Costs, embeds: &Embeds, number: u16) -> Cost
+    requires embeds { embeds.now ≡ costs.now }
+    requires number { IsNumberOf (length costs.now.grammar.rules) number }
+    ensures { IsGoalCost costs.now (Goal.Rule number) result }
+{
+    let rule = costs.grammar().rule(number);
+    let around = embeds.embed(rule.left());
+    let node = node_cost(costs, costs.sum(rule.right()));
+    costs.plus(around, node)
+}
+
+// The code of the chosen tree of a rule goal.
+pub(crate) fn derive_rule(
+    alloc: Global,
+    costs: &Costs,
+    embeds: &Embeds,
+    number: u16,
+    kept: &mut Option<Kept>,
+) -> Result<Derivation, AllocError>
+    requires embeds { embeds.now ≡ costs.now }
+    requires number { IsNumberOf (length costs.now.grammar.rules) number }
+    requires feasible { HasLeastIn costs.now (Goal.Rule number) }
+    requires kept { IfSome kept.old (IsKeptIn costs.now) }
+    ensures code { IfOk result (IsCodeIn costs.now (Goal.Rule number)) }
+    ensures kept { IfSome kept.new (IsKeptIn costs.now) }
+{
+    let rule = costs.grammar().rule(number);
+    let around = take_around(costs, embeds, rule.left(), kept)?;
+    let mut derivation = Derivation::with_capacity(alloc, USUAL_RULES)?;
+    derivation.extend_from_slice(&around.context.before)?;
+    derivation.push(number)?;
+    costs.all_into(rule.right(), &mut derivation)?;
+    derivation.extend_from_slice(&around.context.after)?;
+    *kept = Some(around);
+    Ok(derivation)
+}

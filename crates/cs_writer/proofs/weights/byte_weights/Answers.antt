@@ -1,9 +1,0 @@
-use Rattle.std.proofs.Common.{ℕ, List, sym, subst, take}
-use Rattle.std.specs.Prelude.{All}
-use Rattle.cs_grammar.specs.Grammar.{IsNumberOf}
-use Rattle.cs_writer.proofs.Numbers.{are_weights}
-use Rattle.cs_writer.proofs.weights.byte_weights.Goals as goal
-
-pub new-requires-clause-numbers : goal.new-requires-clause-numbers
-new-requires-clause-numbers c =
-    subst (λ (numbers : List ℕ). All (IsNumberOf 1000000) numbers) (sym c.loop-place.invariant) (are_weights (take c.loop-place.place c.args.lexemes.now))

@@ -1,0 +1,92 @@
+-- A row filled with a token.
+use Rattle.std.proofs.Common.{◌≡◌, ℕ, ◌+◌, List, [], ◌∷◌, ◌++◌, Option, Some, refl, sym, ap, ◌∙◌, subst, arith, append_assoc, take, drop}
+use Rattle.std.specs.Prelude.{IfSome}
+use Rattle.std.specs.Borrow.{Bor}
+use Rattle.std.proofs.lemmas.List.Elements.{All-append, All-cons, All-drop, All-take}
+use Rattle.cs_bytes.specs.Names.{space}
+use Rattle.cs_manifest.specs.Output.Names.{token_of}
+use Rattle.cs_manifest.specs.Manifest.Lines.{negative_lines}
+use Rattle.cs_manifest.specs.Manifest.Open.{AreLinesOf, edit_with, filled, negative_by, place_of}
+use Rattle.cs_manifest.specs.declared.manifest.open.OpenEdit.{OpenEdit}
+use Rattle.cs_manifest.specs.declared.manifest.open.OpenEdit.TheVariants.{Insert, Replace}
+use Rattle.cs_manifest.specs.declared.manifest.open.OpenPair.{OpenPair}
+use Rattle.cs_manifest.specs.declared.manifest.open.OpenPair.TheVariants.{Behind, Before}
+use Rattle.cs_mutate.specs.Edit.{edited}
+use Rattle.cs_texts.specs.Rendering.Rendering.{IsRuleText, Text}
+use Rattle.cs_scanner.specs.Scan.Compared.{scanning}
+use Rattle.cs_scanner.specs.Scan.Scan.{Scans}
+use Rattle.cs_texts.specs.Splice.Apart.{AreApart, IsApart}
+use Rattle.cs_writing.specs.Mutants.Makers.{Making}
+use Rattle.cs_writing.specs.Mutants.Rows.{AreRows, IsFilled, IsRow, IsRowOf, IsTextBehind, IsTextInFront, IsTold, behind_place, row_for}
+use Rattle.cs_writing.specs.declared.mutants.row.Row.{Row}
+use Rattle.cs_writing.specs.declared.mutants.rows.Rows.{Rows}
+use Rattle.cs_writing.specs.declared.mutants.tools.ToldToken.{ToldToken}
+use Rattle.cs_writing.proofs.OnMutants.Texts.{whole_text}
+
+-- the edited list around the token
+pub edited_open : (w : List ℕ) (edit : OpenEdit) (token : ℕ) → edited w (edit_with edit token) ≡ take (place_of edit) w ++ token ∷ drop (behind_place edit) w
+edited_open w (Insert place) token = append_assoc (take place w) (token ∷ []) (drop (place + 0) w) ∙ ap (λ (n : ℕ). take place w ++ token ∷ drop n w) (omega arith)
+edited_open w (Replace place) token = append_assoc (take place w) (token ∷ []) (drop (place + 1) w)
+
+-- the edit is that of the negative
+pub edit_of : (edit : OpenEdit) (pair : OpenPair) (token : ℕ) → (negative_by edit pair token).edit ≡ edit_with edit token
+edit_of edit (Behind left) token = refl
+edit_of edit (Before right) token = refl
+
+module _ (making : Making) (edit : OpenEdit) (pair : OpenPair) (token : ℕ) (row : Row) (told : ToldToken) where
+  pub filled_row : AreApart making.tools.apart making.base → IsTold making.tools token told → IsRowOf making edit pair row → IsFilled making (negative_by edit pair token) row.lines told.name.now told.lexeme.now
+  filled_row apart is of =
+      let work = making.tools.work in
+      let file = making.tools.file in
+      let w = making.base in
+      let n = negative_by edit pair token in
+      let front = take (place_of edit) w in
+      let back = drop (behind_place edit) w in
+      let lexeme = is.lexeme.lexeme in
+      let text = (of.text_front ++ lexeme) ++ of.text_back in
+      let list : edited w n.edit ≡ front ++ token ∷ back = ap (λ e. edited w e) (edit_of edit pair token) ∙ edited_open w edit token in
+      let P = IsApart making.tools.apart in
+      let all : AreApart making.tools.apart (front ++ token ∷ back) = All-append P front (token ∷ back) (All-take P (place_of edit) w apart) (All-cons P token back is.apart (All-drop P (behind_place edit) w apart)) in
+      let rule : IsRuleText work.lexemes.now work.separator.now (front ++ token ∷ back) text = whole_text work.lexemes.now work.separator.now front back of.text_front of.text_back token lexeme of.in_front of.behind is.lexeme.has in
+      let scans : Scans (scanning work.scanner.now) text (front ++ token ∷ back) = is.scan (front ++ token ∷ back) text all rule in
+      record {
+        told = record { negative = n; rendered = Some (Text text) };
+        of = record {
+          is_of = refl;
+          text = subst (λ (l : List ℕ). IsRuleText work.lexemes.now work.separator.now l text × Scans (scanning work.scanner.now) text l) (sym list) (rule, scans);
+        };
+        lines = λ number.
+            ap (λ (name : List ℕ). filled row.lines number name told.lexeme.now) is.name
+            ∙ ap (λ (l : List ℕ). filled row.lines number (space ∷ token_of file token) l) is.lexeme.is
+            ∙ of.lines number token lexeme
+            ∙ ap (λ (l : List ℕ). negative_lines file number making.number n l (Some (Text text))) (sym list);
+      }
+
+-- the row of lines that were made of an open negative
+pub row_made : (making : Making) (row : Row) (front back text_front text_back : Bor (List ℕ)) → front.now ≡ take (place_of row.edit) making.base → back.now ≡ drop (behind_place row.edit) making.base
+    → IsTextInFront making.tools.work.lexemes.now making.tools.work.separator.now front.now text_front.now
+    → IsTextBehind making.tools.work.lexemes.now making.tools.work.separator.now back.now text_back.now
+    → AreLinesOf making.tools.file (record { base = making.number; edit = row.edit; pair = row.pair; front = front; back = back; text_front = text_front; text_back = text_back }) row.lines
+    → IsRow making row
+row_made making row front back text_front text_back front_is back_is in_front behind lines =
+    let lexemes = making.tools.work.lexemes.now in
+    let sep = making.tools.work.separator.now in
+    let tell = λ (number token : ℕ) (lexeme list : List ℕ).
+    negative_lines making.tools.file number making.number (negative_by row.edit row.pair token) list (Some (Text ((text_front.now ++ lexeme) ++ text_back.now))) in
+    record {
+      edit_is = refl;
+      pair_is = refl;
+      text_front = text_front.now;
+      text_back = text_back.now;
+      in_front = subst (λ (l : List ℕ). IsTextInFront lexemes sep l text_front.now) front_is in_front;
+      behind = subst (λ (l : List ℕ). IsTextBehind lexemes sep l text_back.now) back_is behind;
+      lines = λ number token lexeme.
+          lines number token lexeme
+          ∙ ap (λ (l : List ℕ). tell number token lexeme (l ++ token ∷ back.now)) front_is
+          ∙ ap (λ (l : List ℕ). tell number token lexeme (take (place_of row.edit) making.base ++ token ∷ l)) back_is;
+    }
+
+-- a row that is there is one of the base
+pub row_there : (making : Making) (rows : Rows) (pair : OpenPair) (row : Row) → AreRows making rows → row_for rows pair ≡ Some row → IsRow making row
+row_there making rows (Behind left) row are there = subst (λ (o : Option Row). IfSome o (IsRow making)) there are.behind
+row_there making rows (Before right) row are there = subst (λ (o : Option Row). IfSome o (IsRow making)) there are.before

@@ -1,0 +1,31 @@
+use Rattle.std.proofs.Common.{◌≡◌, Some, ◌+◌, ◌++◌, [], List, ℕ, ap, sym, ◌∙◌, subst, take, get_or, append_assoc}
+use Rattle.std.proofs.lemmas.List.{take_more}
+use Rattle.cs_scanner.specs.Lexeme.Lexeme.{lexeme_in}
+use Rattle.cs_writing.specs.Mutants.Rows.{IsTextBeside, with_separator}
+use Rattle.cs_writing.proofs.OnMutants.Texts.{beside_more, beside_none}
+use Rattle.cs_writing.proofs.mutants.row.put_text.Goals as goal
+
+pub loop-token-init : goal.loop-token-init
+loop-token-init c =
+    let beside = IsTextBeside c.args.work.now.lexemes.now c.args.work.now.separator.now c.args.side in
+    subst (λ (t : List ℕ). beside [] t) (sym c.requires.empty) (beside_none c.args.work.now.lexemes.now c.args.work.now.separator.now c.args.side)
+
+pub loop-token-preserved : goal.loop-token-preserved
+loop-token-preserved c =
+    let lexemes = c.args.work.now.lexemes.now in
+    let sep = c.args.work.now.separator.now in
+    let side = c.args.side in
+    let tokens = c.args.tokens.now in
+    let i = c.loop-token.token-index in
+    let token = get_or tokens i 0 in
+    let lexeme = c.in-Some.lexeme.now in
+    let so_far = c.loop-token.out.items in
+    let first = c.in_order.result.0.now in
+    let second = c.in_order.result.1.now in
+    let has : lexeme_in lexemes token ≡ Some lexeme = sym c.in-Some.ensures in
+    let put : c.extend_from_slice-in-loop-token.new.self.items ≡ so_far ++ with_separator sep side lexeme =
+    c.in_ok-extend_from_slice-2.ensures.items ∙ ap (λ (t : List ℕ). t ++ second) c.in_ok-extend_from_slice.ensures.items
+    ∙ append_assoc so_far first second ∙ ap (λ (t : List ℕ). so_far ++ t) c.in_order.ensures in
+    subst (λ (t : List ℕ). IsTextBeside lexemes sep side (take (i + 1) tokens) t) (sym put)
+    (subst (λ (l : List ℕ). IsTextBeside lexemes sep side l (so_far ++ with_separator sep side lexeme)) (sym (take_more tokens i 0 c.loop-token-test.true))
+    (beside_more lexemes sep side (take i tokens) so_far token lexeme c.loop-token.invariant has))

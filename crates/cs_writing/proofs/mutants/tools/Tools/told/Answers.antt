@@ -1,0 +1,21 @@
+use Rattle.std.proofs.Common.{◌∷◌, ap, ◌∙◌, subst}
+use Rattle.cs_bytes.specs.Names.{space}
+use Rattle.cs_manifest.specs.Output.Names.{token_of}
+use Rattle.cs_manifest.specs.Manifest.Open.{IsQuotedLexeme, TokenTable}
+use Rattle.cs_writing.specs.Mutants.Makers.{PlainTools}
+use Rattle.cs_writing.specs.Mutants.Rows.{IsTold}
+use Rattle.cs_writing.specs.declared.mutants.tools.ToldToken.{ToldToken}
+use Rattle.cs_writing.proofs.mutants.tools.Tools.told.Goals as goal
+
+pub returns : goal.returns
+returns c =
+    let h = c.self.invariant in
+    let token = c.args.token in
+    let lexeme = c.in_ok-lexeme.field-0 in
+    let told : ToldToken = record { name = c.name.result; lexeme = lexeme } in
+    subst (λ (t : PlainTools). IsTold t token told) c.self.view_is (record {
+      name = c.name.ensures ∙ ap (λ (p : TokenTable). space ∷ token_of p.file token) h.pieces_are;
+      lexeme = subst (λ (p : TokenTable). IsQuotedLexeme p.lexemes token lexeme) h.pieces_are c.in_ok-lexeme.ensures.some;
+      apart = c.has.ensures.0 c.if-not-has.false;
+      scan = h.scan;
+    })

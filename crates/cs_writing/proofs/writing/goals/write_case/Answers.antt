@@ -1,0 +1,52 @@
+use Rattle.std.proofs.Common.{Bool, List, ℕ, subst, sym, ap, ◌∙◌}
+use Rattle.std.specs.Prelude.{if◌then◌else◌}
+use Rattle.std.proofs.lemmas.Result.{err_from_is_err_and}
+use Rattle.cs_manifest.specs.Output.Sinks.{IsCutShort, IsWritten}
+use Rattle.cs_manifest.proofs.OnOutput.Written.{written_none}
+use Rattle.cs_manifest.specs.Manifest.Counts.{with_case, with_lines}
+use Rattle.cs_manifest.specs.Manifest.Entry.{lines_of}
+use Rattle.cs_writing.specs.Plan.Made.{case_lines_in}
+use Rattle.cs_manifest.specs.Manifest.Progress.{Progress}
+use Rattle.cs_manifest.specs.declared.manifest.counts.Counts.{Counts}
+use Rattle.cs_manifest.proofs.OnOutput.Called.{is_cut, is_written}
+use Rattle.cs_writing.proofs.writing.goals.write_case.Goals as goal
+
+pub returns-in-None-clause-counted : goal.returns-in-None-clause-counted
+returns-in-None-clause-counted g c =
+    let file = c.args.manifest.now.file in
+    let counts = c.args.manifest.now.counts in
+    ap (λ (b : Bool). if b then with_lines (with_case counts) (case_lines_in file c.args.made.now c.args.made.now.shared) else counts) (sym c.in-None.ensures.none)
+
+pub returns-in-None-clause-lines : goal.returns-in-None-clause-lines
+returns-in-None-clause-lines g c =
+    subst (λ (l : List ℕ). IsWritten g.S.Sink l c.args.sink.now c.args.sink.now) (sym (c.in-None.ensures.no_lines c.args.manifest.now.file)) (written_none c.args.sink.now)
+
+pub entry-requires : goal.entry-requires
+entry-requires g c = c.in-Some.ensures.named c.args.manifest.now.file c.requires.named
+
+pub returns-in_err-entry-in-Some-clause-lines : goal.returns-in_err-entry-in-Some-clause-lines
+returns-in_err-entry-in-Some-clause-lines g c =
+    let e = c.in_err-entry-in-Some.ensures in
+    let file = c.args.manifest.now.file in
+    let lines = lines_of file c.in-Some.case in
+    let cut = is_cut g.S.Sink lines c.args.sink.now c.entry.new.sink e.err e.fault e.faults_never_fall (λ fits. let no = e.ok_with_room fits in cc) e.same_lent e.passed_never_falls in
+    let p = err_from_is_err_and c.from_residual.result c.from_residual.ensures.1 in
+    rw p.1 (subst (λ (l : List ℕ). IsCutShort g.S.Sink l c.args.sink.now c.entry.new.sink) (c.in-Some.ensures.lines file) cut)
+
+pub returns-in_ok-entry-in-Some-clause-counted : goal.returns-in_ok-entry-in-Some-clause-counted
+returns-in_ok-entry-in-Some-clause-counted g c =
+    let file = c.args.manifest.now.file in
+    let counts = c.args.manifest.now.counts in
+    let made = c.args.made.now in
+    ap (λ (p : Progress). p.counts) c.in_ok-entry-in-Some.ensures.value
+    ∙ ap (λ (k : Counts). with_lines k (lines_of file c.in-Some.case)) (c.in-Some.ensures.counts counts)
+    ∙ ap (λ (l : List ℕ). with_lines (with_case counts) l) (c.in-Some.ensures.lines file)
+    ∙ ap (λ (b : Bool). if b then with_lines (with_case counts) (case_lines_in file made made.shared) else counts) (sym c.in-Some.ensures.is_new)
+
+pub returns-in_ok-entry-in-Some-clause-lines : goal.returns-in_ok-entry-in-Some-clause-lines
+returns-in_ok-entry-in-Some-clause-lines g c =
+    let e = c.in_ok-entry-in-Some.ensures in
+    let file = c.args.manifest.now.file in
+    let lines = lines_of file c.in-Some.case in
+    let written = is_written g.S.Sink lines c.args.sink.now c.entry.new.sink e.ok e.no_fault e.room e.same_lent e.passed_never_falls in
+    subst (λ (l : List ℕ). IsWritten g.S.Sink l c.args.sink.now c.entry.new.sink) (c.in-Some.ensures.lines file) written

@@ -1,0 +1,118 @@
+// The lines of negatives of a base that differ in the token that their edit puts alone.
+
+ghost use Rattle.std.specs.Prelude.{◌≡◌, ◌++◌, [], IfOk, IfSome, drop, length, take};
+ghost use Rattle.cs_manifest.specs.Output.Names.{IsNamedMark};
+ghost use Rattle.cs_manifest.specs.Manifest.Open.{mark_in, place_of};
+ghost use Rattle.cs_texts.specs.Rendering.Rendering.{AreTokens};
+ghost use Rattle.cs_writing.specs.Mutants.Rows.{IsOpenPlaced, IsRowOf, PutsText, behind_place, with_separator};
+
+use crate::mutants::maker::Maker;
+use cs_manifest::{OpenEdit, OpenLines, OpenNegative, OpenPair};
+use cs_texts::RenderWork;
+use std::alloc::{AllocError, Global};
+
+/// The lines of the negatives with this edit and this pair, whatever token stands apart there.
+#[derive(Drop)]
+pub(crate) struct Row {
+    pub edit: OpenEdit,
+    pub pair: OpenPair,
+    pub lines: OpenLines,
+}
+
+impl Row {
+    /// The row of these negatives of a base. None where a token of the base has no lexeme.
+    pub fn new(
+        alloc: Global,
+        maker: &Maker<'_>,
+        edit: OpenEdit,
+        pair: OpenPair,
+    ) -> Result<Option<Row>, AllocError>
+        requires placed { IsOpenPlaced (length maker.now.base) edit }
+        requires named { IsNamedMark maker.now.tools.file (mark_in pair) }
+        ensures { IfOk result (λ row. IfSome row (IsRowOf maker.now edit pair)) }
+    {
+        let tools = maker.tools;
+        let work = tools.work;
+        let front = tokens_in_front(maker.base, edit);
+        let back = tokens_behind(maker.base, edit);
+        let mut text_front = Vec::new(alloc);
+        let mut text_back = Vec::new(alloc);
+        if !put_text(&mut text_front, work, Side::Behind, front)?
+            || !put_text(&mut text_back, work, Side::Before, back)?
+        {
+            return Ok(None);
+        }
+        let open = OpenNegative {
+            base: maker.number,
+            edit,
+            pair,
+            front,
+            back,
+            text_front: &text_front,
+            text_back: &text_back,
+        };
+        let lines = OpenLines::new(alloc, tools.yacc, &open)?;
+        Ok(Some(Row { edit, pair, lines }))
+    }
+}
+
+// The tokens in front of the one that the edit puts.
+fn tokens_in_front(base: &[u16], edit: OpenEdit) -> &[u16]
+    requires { IsOpenPlaced (length base.now) edit }
+    ensures { result.now ≡ take (place_of edit) base.now }
+{
+    match edit {
+        OpenEdit::Insert(place) | OpenEdit::Replace(place) => &base[..place as usize],
+    }
+}
+
+// Those behind it.
+fn tokens_behind(base: &[u16], edit: OpenEdit) -> &[u16]
+    requires { IsOpenPlaced (length base.now) edit }
+    ensures { result.now ≡ drop (behind_place edit) base.now }
+{
+    match edit {
+        OpenEdit::Insert(place) => &base[place as usize..],
+        OpenEdit::Replace(place) => &base[place as usize + 1..],
+    }
+}
+
+// On which side of each lexeme its separator stands: behind those in front of the lexeme that the edit puts, and before those
+// behind it.
+#[derive(Clone, Copy)]
+enum Side {
+    Before,
+    Behind,
+}
+
+// Puts the lexemes of the tokens, each with a separator on this side of it. False where a token has none.
+fn put_text(
+    out: &mut Vec<u8>,
+    work: &RenderWork<'_>,
+    side: Side,
+    tokens: &[u16],
+) -> Result<bool, AllocError>
+    requires empty { out.old.items ≡ [] }
+    requires tokens { AreTokens work.now.lexemes.now tokens.now }
+    ensures { IfOk result (PutsText work.now side tokens.now out.new.items) }
+{
+    for token in tokens {
+        let Some(lexeme) = work.lexemes.get(*token) else {
+            return Ok(false);
+        };
+        let (first, second) = in_order(work.separator, side, lexeme);
+        out.extend_from_slice(first)?;
+        out.extend_from_slice(second)?;
+    }
+    Ok(true)
+}
+
+// A lexeme and the separator on this side of it, in the order of the text.
+fn in_order<'t>(separator: &'t [u8], side: Side, lexeme: &'t [u8]) -> (&'t [u8], &'t [u8])
+    ensures { result.0.now ++ result.1.now ≡ with_separator separator.now side lexeme.now }
+{
+    match side {
+        Side::Before => (separator, lexeme),
+        Side::Behind => (lexeme, separator),
+    }
+}

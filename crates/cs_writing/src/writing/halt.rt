@@ -1,0 +1,45 @@
+// Why the writing of a manifest stopped.
+
+use cs_io::SinkError;
+use std::alloc::{AllocError, AllocFailed};
+
+/// Why the writing of a manifest stopped.
+#[derive(Clone, Copy, Debug, PartialEq, Eq)]
+pub enum Halt {
+    /// A write failed.
+    Failed,
+    Memory,
+}
+
+impl From<AllocError> for Halt {
+    ghost use Rattle.std.specs.Prelude.{◌≡◌};
+    ghost use Rattle.cs_writing.specs.declared.writing.halt.Halt.TheVariants.{Memory};
+
+    ghost from_gives = { λ _ e. e ≡ Memory };
+
+    fn from(_: AllocError) -> Self {
+        Halt::Memory
+    }
+}
+
+impl<T: Drop> From<AllocFailed<T>> for Halt {
+    ghost use Rattle.std.specs.Prelude.{◌≡◌};
+    ghost use Rattle.cs_writing.specs.declared.writing.halt.Halt.TheVariants.{Memory};
+
+    ghost from_gives = { λ _ e. e ≡ Memory };
+
+    fn from(_: AllocFailed<T>) -> Self {
+        Halt::Memory
+    }
+}
+
+impl From<SinkError> for Halt {
+    ghost use Rattle.std.specs.Prelude.{◌≡◌};
+    ghost use Rattle.cs_writing.specs.declared.writing.halt.Halt.TheVariants.{Failed};
+
+    ghost from_gives = { λ _ e. e ≡ Failed };
+
+    fn from(_: SinkError) -> Self {
+        Halt::Failed
+    }
+}

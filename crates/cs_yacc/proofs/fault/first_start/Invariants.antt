@@ -1,7 +1,0 @@
-use Rattle.std.proofs.Common.{◌≡◌, drop}
-use Rattle.cs_yacc.specs.Meaning.{first_start}
-use Rattle.cs_yacc_items.specs.Views.{placed_all}
-use Rattle.cs_yacc.proofs.fault.first_start.Given as goal
-
-abbrev pub invariant-loop-placed : goal.invariant-loop-placed
-invariant-loop-placed l = first_start (placed_all (drop l.placed-index l.items)) ≡ first_start (placed_all l.items)

@@ -1,8 +1,0 @@
-use Rattle.std.proofs.Common.{◌≡◌, drop}
-use Rattle.cs_yacc.specs.Meaning.{first_undefined}
-use Rattle.cs_yacc_items.specs.Views.{placed_all}
-use Rattle.cs_yacc.proofs.fault.first_undefined.Given as goal
-
-abbrev pub invariant-loop-placed : goal.invariant-loop-placed
-invariant-loop-placed l =
-    first_undefined l.declared l.lefts (placed_all (drop l.placed-index l.items)) ≡ first_undefined l.declared l.lefts (placed_all l.items)

@@ -1,0 +1,5 @@
+use Rattle.cs_yacc.proofs.OnItems.Stuck as lemmas
+use Rattle.cs_yacc.proofs.items.laws.one_stuck.Goals as goal
+
+pub returns : goal.returns
+returns c = lemmas.one_stuck

@@ -1,5 +1,0 @@
-use Rattle.cs_yacc.proofs.OneFile as lemmas
-use Rattle.cs_yacc.proofs.laws.refused_is_not_accepted.Goals as goal
-
-pub returns : goal.returns
-returns c = lemmas.refused_is_not_accepted

@@ -1,9 +1,0 @@
-use Rattle.std.proofs.Common.{◌∙◌, ap}
-use Rattle.cs_yacc.specs.Places.{place_in}
-use Rattle.cs_yacc.specs.SpellingView.{spelling_of}
-use Rattle.cs_yacc.proofs.Numbers.{place_is}
-use Rattle.cs_yacc.proofs.spelling.Spellings.find.Goals as goal
-
-pub returns : goal.returns
-returns c =
-    place_is c.args.spelling c.self.inside.set.keys _ _ _ c.get_index_of.ensures.index c.unwrap_or.ensures c.len.ensures.len ∙ ap (λ ss. place_in ss (spelling_of c.args.spelling)) c.self.view_is

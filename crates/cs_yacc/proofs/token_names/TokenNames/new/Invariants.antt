@@ -1,6 +1,0 @@
-use Rattle.cs_yacc.specs.TokenNumbers.{FindsWords, FindsBytes}
-use Rattle.cs_yacc.proofs.token_names.TokenNames.new.Given as goal
-
--- the tables have the names before this turn's
-abbrev pub invariant-loop-index : goal.invariant-loop-index
-invariant-loop-index l = FindsWords l.words.entries l.index l.name-items × FindsBytes l.literals.entries l.index l.name-items

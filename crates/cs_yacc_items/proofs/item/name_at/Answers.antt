@@ -1,5 +1,0 @@
-use Rattle.cs_yacc_items.proofs.Begin.{name_is}
-use Rattle.cs_yacc_items.proofs.item.name_at.Goals as goal
-
-pub returns : goal.returns
-returns c = name_is _ _ c.requires c.name_len-size.ensures.len

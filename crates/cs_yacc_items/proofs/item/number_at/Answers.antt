@@ -1,5 +1,0 @@
-use Rattle.cs_yacc_items.proofs.Begin.{number_is}
-use Rattle.cs_yacc_items.proofs.item.number_at.Goals as goal
-
-pub returns : goal.returns
-returns c = number_is _ _ c.requires c.run_len-size.ensures.len

@@ -1,8 +1,0 @@
-use Rattle.cs_yacc_items.proofs.Begin.{slash_open, slash_nothing}
-use Rattle.cs_yacc_items.proofs.item.slash_at.Goals as goal
-
-pub returns-then-opens_comment : goal.returns-then-opens_comment
-returns-then-opens_comment c = slash_open _ c.requires.slash c.requires.no_comment (c.opens_comment.ensures.0 c.if-opens_comment.true)
-
-pub returns-else-opens_comment : goal.returns-else-opens_comment
-returns-else-opens_comment c = slash_nothing _ c.requires.slash (λ is. let t = c.opens_comment.ensures.1 is in cc)

@@ -1,5 +1,0 @@
-use Rattle.cs_yacc_items.proofs.Reading as lemmas
-use Rattle.cs_yacc_items.proofs.laws.one_stop.Goals as goal
-
-pub returns : goal.returns
-returns c = λ bytes a b x y. lemmas.one_stop bytes x.0 y.0 a b x.1 y.1

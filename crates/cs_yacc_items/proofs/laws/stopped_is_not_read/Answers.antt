@@ -1,5 +1,0 @@
-use Rattle.cs_yacc_items.proofs.Reading as lemmas
-use Rattle.cs_yacc_items.proofs.laws.stopped_is_not_read.Goals as goal
-
-pub returns : goal.returns
-returns c = λ bytes at ps s r. lemmas.stopped_not_read bytes s.0 ps at s.1 r

@@ -1,5 +1,0 @@
-use Rattle.cs_yacc_items.proofs.Stuck as lemmas
-use Rattle.cs_yacc_items.proofs.laws.stuck_is_not_taken.Goals as goal
-
-pub returns : goal.returns
-returns c = lemmas.stuck_not_taken

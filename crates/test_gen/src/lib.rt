@@ -1,5 +1,0 @@
-//! Tests of generated files by public calls alone.
-#![tactic(auto)]
-
-#[cfg(test)]
-mod files;

@@ -1,0 +1,4 @@
+//! Tests of generated files by public calls alone.
+
+#[cfg(test)]
+mod files;

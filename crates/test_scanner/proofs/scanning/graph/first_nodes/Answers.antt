@@ -1,0 +1,4 @@
+use Rattle.test_scanner.proofs.scanning.graph.first_nodes.Goals as goal
+
+pub components-requires : goal.components-requires
+components-requires c = c.is_graph.ensures.0 c.if-not-is_graph.false

@@ -1,4 +1,0 @@
-use Rattle.test_scanning.proofs.graph.first_nodes.Goals as goal
-
-pub components-requires : goal.components-requires
-components-requires c = c.is_graph.ensures.0 c.if-not-is_graph.false

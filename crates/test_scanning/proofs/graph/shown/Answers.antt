@@ -1,4 +1,0 @@
-use Rattle.test_scanning.proofs.graph.shown.Goals as goal
-
-pub order-requires : goal.order-requires
-order-requires c = c.is_graph.ensures.0 c.if-not-is_graph.false

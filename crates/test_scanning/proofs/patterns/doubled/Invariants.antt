@@ -1,6 +1,0 @@
-use Rattle.std.proofs.Common.{◌+◌, ◌≤◌}
-use Rattle.cs_pattern_postfix.specs.Definitions.{total_bytes}
-use Rattle.test_scanning.proofs.patterns.doubled.Given as goal
-
-abbrev pub invariant-loop-letter : goal.invariant-loop-letter
-invariant-loop-letter l = total_bytes l.definitions + l.free ≤ 1048576

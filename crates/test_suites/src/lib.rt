@@ -1,9 +1,0 @@
-//! Tests of suites of both formats, by the command alone. Nothing stands on this crate.
-#![tactic(auto)]
-
-#[cfg(test)]
-mod ending;
-#[cfg(test)]
-mod first;
-#[cfg(test)]
-mod second;
