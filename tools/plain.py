@@ -18,10 +18,7 @@ class Code:
     """C text: where its comments, quoted constructs and blocks end. None is where they don't."""
 
     MARK = re.compile(rb"/\*|//|[\"'{}]")
-    QUOTED = {
-        b'"': re.compile(rb'"(?:\\.|[^"\\\n])*"', re.S),
-        b"'": re.compile(rb"'(?:\\.|[^'\\\n])*'", re.S),
-    }
+    QUOTED = {b'"': re.compile(rb'"(?:\\.|[^"\\\n])*"', re.S), b"'": re.compile(rb"'(?:\\.|[^'\\\n])*'", re.S)}
 
     def __init__(self, text):
         self.text = text
