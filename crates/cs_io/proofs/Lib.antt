@@ -1,2 +1,5 @@
+pub mod Called
 mod Examples
 pub mod Known
+pub mod Out
+pub mod Stops

@@ -1,9 +1,12 @@
+pub mod Asked
 pub mod BufferedSink
 pub mod Desk
 pub mod Failing
 pub mod Faults
+pub mod Lines
 pub mod MemoryDesk
 pub mod MemorySink
 pub mod Sink
+pub mod Stops
 pub mod StreamSink
 pub mod Uses

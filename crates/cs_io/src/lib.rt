@@ -21,24 +21,30 @@
 //!
 //! All files of `specs/` are meaning: `Desk`, `Sink` and `Faults` of the traits; `MemoryDesk`,
 //! `MemorySink`, `StreamSink` and `BufferedSink` of the implementations of these names, `Failing` of
-//! both in memory; `Uses` (what a call did to a desk or a sink) is for the layers above.
+//! both in memory. For the layers above are `Uses` (what a call did to a desk or a sink), `Lines` (what
+//! a call that writes lines did to a sink), `Asked` (what a writer does to its output, by which texts
+//! it is asked for) and `Stops` (how a writing ends). [`Halt`] says why one stopped.
 #![tactic(auto)]
 
 mod buffered_sink;
 mod desk;
 mod failing;
 mod folder_desk;
+mod halt;
 mod memory_desk;
 mod memory_sink;
 mod null_sink;
 mod sink;
 mod stream_sink;
+mod writing;
 
 pub use buffered_sink::BufferedSink;
 pub use desk::{Desk, DeskError};
 pub use folder_desk::FolderDesk;
+pub use halt::Halt;
 pub use memory_desk::MemoryDesk;
 pub use memory_sink::MemorySink;
 pub use null_sink::NullSink;
 pub use sink::{Sink, SinkError, write_all};
 pub use stream_sink::StreamSink;
+pub use writing::{Text, write_text};

@@ -1,4 +1,3 @@
-pub mod Called
 pub mod Numerals
 pub mod Pieces
 pub mod Runs

@@ -13,8 +13,11 @@ mod output;
 
 pub use manifest::{
     Counts, Entry, FilledNegative, Form, Head, Manifest, NumberedNegative, OpenEdit, OpenLines,
-    OpenNegative, OpenPair, SharedVerdict, TokenPieces, one_manifest, one_text, some_manifest,
+    OpenNegative, OpenPair, SharedVerdict, TokenPieces, one_manifest, one_text, put_count,
+    put_derivation, put_edit, put_file, put_lexemes, put_names, put_rendered, put_yield,
+    some_manifest,
 };
 pub use output::{
-    LINE_LENGTH, Numeral, Output, Piece, put_quoted, put_spaced_mark, put_symbol, spelled_piece,
+    LINE_LENGTH, Numeral, Output, Piece, put_quoted, put_spaced_mark, put_spaced_token, put_symbol,
+    put_text_bytes, put_token_name, spelled_piece,
 };

@@ -31,4 +31,6 @@ pub use head::{Form, Head};
 pub use laws::{one_manifest, one_text, some_manifest};
 pub use manifest::Manifest;
 pub use open::{OpenEdit, OpenLines, OpenNegative, OpenPair};
+pub use put_entry::{put_count, put_derivation, put_edit, put_names, put_rendered, put_yield};
+pub use put_head::{put_file, put_lexemes};
 pub use token_pieces::TokenPieces;

@@ -10,7 +10,7 @@
 //!
 //! All files of `specs/Output/` are meaning: `Putting` (what a text that was put did to an output and its sink), `Words` (words, lines
 //! and escapes), `Names` (the names of symbols and marks, and which numbers have one), `Spelled` (pieces that are spelled in
-//! memory), and, for the layers above, `Sinks` (what a call that writes lines did to a sink).
+//! memory).
 
 mod names;
 mod numeral;

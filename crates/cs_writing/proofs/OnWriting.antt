@@ -1,7 +1,6 @@
 pub mod Few
 pub mod Ones
 pub mod Counted
-pub mod Stops
 pub mod Parts
 pub mod Kept
 pub mod Cases
@@ -11,7 +10,6 @@ pub mod SoFar
 pub mod Texts
 pub mod Batch
 pub mod Counting
-pub mod Out
 pub mod Tallies
 pub mod Edits
 pub mod Negatives

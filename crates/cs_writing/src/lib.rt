@@ -19,4 +19,4 @@ mod writing;
 pub use bases::{Bases, bases_come_by_offers};
 pub use mutants::{MadeNegative, Maker, Tools};
 pub use plan::{Made, Means, Mutation, Plan, PlanForm, next_entries};
-pub use writing::{Halt, write_out};
+pub use writing::write_out;

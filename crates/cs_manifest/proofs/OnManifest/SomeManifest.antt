@@ -30,7 +30,8 @@ use Rattle.cs_verdicts.proofs.OnPositive.Verdicts.{chosen_exists_of, chosen_leas
 use Rattle.cs_yacc.specs.Reading.File.{File}
 use Rattle.cs_choices.specs.declared.format.Format.{Format}
 use Rattle.cs_choices.specs.declared.format.Format.TheVariants.{One, Two}
-use Rattle.cs_manifest.specs.Manifest.Manifest.{AreLexemesBy, BaseEntry, Choice, GoalEntry, IsBaseOf, IsEntryOf, IsManifest, IsNegativeOf, IsNotWithout, IsRenderedBy, IsTextIn, Texts, bases, goal_texts, manifest_text, most_bases, shared_text, weighed_by}
+use Rattle.cs_manifest.specs.Manifest.Manifest.{AreLexemesBy, BaseEntry, Choice, GoalEntry, IsBaseOf, IsEntryOf, IsManifest, IsNegativeOf, IsRenderedBy, IsTextIn, Texts, bases, goal_texts, manifest_text, most_bases, shared_text, weighed_by}
+use Rattle.cs_io.specs.Asked.{IsNotWithout}
 use Rattle.cs_verdicts.specs.Cases.Cases.{no_cases}
 use Rattle.cs_manifest.proofs.OnManifest.SomeShared.{some_closed, some_shared}
 use Rattle.cs_manifest.proofs.OnManifest.Zips.{some_zip}

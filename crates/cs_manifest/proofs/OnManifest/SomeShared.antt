@@ -22,7 +22,8 @@ use Rattle.cs_verdicts.proofs.OnPositive.Verdicts.{chosen_met}
 use Rattle.cs_manifest.specs.declared.manifest.entry.SharedVerdict.{SharedVerdict}
 use Rattle.cs_manifest.specs.declared.manifest.entry.SharedVerdict.TheVariants as shared
 use Rattle.cs_verdicts.specs.Closed.Closed.{AreClosedSets, AreEdges, AreNext, AreThose, HasContext, HasTree, numbers}
-use Rattle.cs_manifest.specs.Manifest.Manifest.{AreShared, GoalEntry, IsEntryOf, IsNotWithout, IsRenderedBy, IsRenderedIf, IsShared, IsSharedVerdict, SharedEntry, Texts, is_new}
+use Rattle.cs_manifest.specs.Manifest.Manifest.{AreShared, GoalEntry, IsEntryOf, IsRenderedBy, IsRenderedIf, IsShared, IsSharedVerdict, SharedEntry, Texts, is_new}
+use Rattle.cs_io.specs.Asked.{IsNotWithout}
 use Rattle.cs_manifest.proofs.OnManifest.Zips.{some_zip}
 
 -- ---- closed sets

@@ -1,7 +1,8 @@
 -- By any texts tokens have one list of lexemes and one rendering.
 use Rattle.std.proofs.Common.{◌≡◌, ℕ, List, refl, sym, ap, ◌∙◌, Option, None, Some}
 use Rattle.cs_scanner.specs.Lexeme.Laws.{AreOneList, HaveSomeList}
-use Rattle.cs_manifest.specs.Manifest.Manifest.{AreLexemesBy, HasOneText, IsNotWithout, IsRenderedBy, Texts}
+use Rattle.cs_manifest.specs.Manifest.Manifest.{AreLexemesBy, HasOneText, IsRenderedBy, Texts}
+use Rattle.cs_io.specs.Asked.{IsNotWithout}
 use Rattle.cs_texts.specs.Rendering.Rendering.{Rendering}
 use Rattle.cs_texts.specs.Rendering.Laws.{HasOneRendering, HasSomeRendering}
 use Rattle.cs_scanner.specs.Scan.Scan.{Scanning}

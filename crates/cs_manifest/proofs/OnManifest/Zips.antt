@@ -2,7 +2,7 @@
 use Rattle.std.proofs.Common.{List, [], ◌∷◌, inl, inr, refl}
 use Rattle.std.specs.List.{AllZip}
 use Rattle.cs_goals.proofs.Members.{Among}
-use Rattle.cs_manifest.specs.Manifest.Manifest.{IsNotWithout}
+use Rattle.cs_io.specs.Asked.{IsNotWithout}
 
 -- where no member is without a partner, no list is without one
 pub some_zip : {A B : Type 0} {R : A → B → Type 0} (xs : List A) → ((x : A) → Among x xs → IsNotWithout (R x)) → IsNotWithout (AllZip R xs)

@@ -3,7 +3,7 @@ use Rattle.std.proofs.Common.{ℕ, List, [], ◌++◌, length-append, ap, sym, �
 use Rattle.std.specs.Io.KnownBytes.{append_known}
 use Rattle.cs_io.proofs.Known.{known_none, known_twice, known_then_part, known_part}
 use Rattle.cs_io.specs.declared.sink.Sink as Sink
-use Rattle.cs_manifest.specs.Output.Sinks.{IsCutShort, IsWritten}
+use Rattle.cs_io.specs.Lines.{IsCutShort, IsWritten}
 
 module _ {S : Type 0} {g : Sink.Ghosts S} where
   pub written_none : (s : S) → IsWritten g [] s s

@@ -313,10 +313,6 @@ pub record IsManifest (choice : Choice) (file : File) (text : List ℕ) : Type 0
   pub negatives : BasesOf file.grammar choice lexemes (bases (most_bases choice) entries) mutants
   pub lines : IsTextIn choice.format choice file lexemes entries mutants text
 
--- It isn't so that no value is of the kind.
-abbrev pub IsNotWithout : {A : Type 0} → (A → Type 0) → Type 0
-IsNotWithout {A} IsOne = ((a : A) → IsOne a → ⊥) → ⊥
-
 -- the lexemes and the renderings of tokens are one at most
 pub record HasOneText (texts : Option Texts) : Type 0 where
   pub lexemes : (tokens : ℕ) → AtMostOne (AreLexemesBy texts tokens)

@@ -3,7 +3,8 @@
 ghost use Rattle.std.specs.Prelude.{Option};
 ghost use Rattle.cs_grammar.specs.Laws.{AtMostOne};
 ghost use Rattle.cs_yacc.specs.Reading.File.{File};
-ghost use Rattle.cs_manifest.specs.Manifest.Manifest.{Choice, HasOneText, IsManifest, IsNotWithout, Texts};
+ghost use Rattle.cs_manifest.specs.Manifest.Manifest.{Choice, HasOneText, IsManifest, Texts};
+ghost use Rattle.cs_io.specs.Asked.{IsNotWithout};
 
 use cs_scanner::{one_list_of_lexemes, some_list_of_lexemes};
 use cs_texts::{one_rendering, some_rendering};

@@ -2,7 +2,7 @@
 
 ghost use Rattle.std.specs.Prelude.{◌≡◌, ◌≤◌, IfOk, IsOk, OnErr, OnOk, option_map};
 ghost use Rattle.cs_io.specs.Faults.{Rose, next_count};
-ghost use Rattle.cs_manifest.specs.Output.Sinks.{HasRoom, LeavesRoom, Took, TookPart};
+ghost use Rattle.cs_io.specs.Lines.{HasRoom, LeavesRoom, Took, TookPart};
 ghost use Rattle.cs_manifest.specs.Manifest.Counts as spec;
 ghost use Rattle.cs_manifest.specs.Manifest.Counts.{behind_end, end_of, with_entry as counted, with_shared_verdict, with_verdict};
 ghost use Rattle.cs_manifest.specs.Manifest.Entry.{IsNamedEntry};

@@ -101,9 +101,9 @@ fn put_goal<S: Sink>(output: &mut Output<'_, S>, file: &YaccFile, goal: &Goal)
     }
 }
 
-/// A number behind a word.
+/// Puts a number behind a word.
 #[inline(always)]
-pub(crate) fn put_count<S: Sink>(output: &mut Output<'_, S>, word: &[u8], count: u64)
+pub fn put_count<S: Sink>(output: &mut Output<'_, S>, word: &[u8], count: u64)
     ensures { Puts S.Sink (lines.numbered_word word.now count) output.old output.new }
 {
     output.put(word);
@@ -185,7 +185,8 @@ fn put_text_lines<S: Sink>(output: &mut Output<'_, S>, file: &YaccFile, rendered
     }
 }
 
-fn put_derivation<S: Sink>(output: &mut Output<'_, S>, rules: &[u16])
+/// Puts the line of a derivation behind the newline above, without its own: its rules by their numbers.
+pub fn put_derivation<S: Sink>(output: &mut Output<'_, S>, rules: &[u16])
     ensures { Puts S.Sink (below.derive_below rules.now) output.old output.new }
 {
     output.put(b"\n  derive");
@@ -201,8 +202,8 @@ fn put_numbers<S: Sink>(output: &mut Output<'_, S>, numbers: &[u16])
     }
 }
 
-/// The line of the tokens behind the newline above, without its own.
-pub(crate) fn put_yield<S: Sink>(output: &mut Output<'_, S>, file: &YaccFile, tokens: &[u16])
+/// Puts the line of the tokens behind the newline above, without its own.
+pub fn put_yield<S: Sink>(output: &mut Output<'_, S>, file: &YaccFile, tokens: &[u16])
     requires { names.AreNamedTokens file.now tokens.now }
     ensures { Puts S.Sink (below.tokens_below file.now tokens.now) output.old output.new }
 {
@@ -210,8 +211,8 @@ pub(crate) fn put_yield<S: Sink>(output: &mut Output<'_, S>, file: &YaccFile, to
     put_names(output, file, tokens);
 }
 
-/// The names of tokens, each behind a space.
-pub(crate) fn put_names<S: Sink>(output: &mut Output<'_, S>, file: &YaccFile, tokens: &[u16])
+/// Puts the names of tokens, each behind a space.
+pub fn put_names<S: Sink>(output: &mut Output<'_, S>, file: &YaccFile, tokens: &[u16])
     requires { names.AreNamedTokens file.now tokens.now }
     ensures { Puts S.Sink (lines.token_words file.now tokens.now) output.old output.new }
 {
@@ -220,9 +221,9 @@ pub(crate) fn put_names<S: Sink>(output: &mut Output<'_, S>, file: &YaccFile, to
     }
 }
 
-// The text line behind the newline above.
+/// Puts the text line behind the newline above: the text, or why there is none.
 #[inline(never)]
-fn put_rendered<S: Sink>(output: &mut Output<'_, S>, file: &YaccFile, rendered: RenderedParts<'_>)
+pub fn put_rendered<S: Sink>(output: &mut Output<'_, S>, file: &YaccFile, rendered: RenderedParts<'_>)
     requires { IsNamedRendering file.now (rendering_in rendered) }
     ensures { Puts S.Sink (text_below file.now (rendering_in rendered.entry))
         output.old output.new }
@@ -318,8 +319,8 @@ fn put_fault<S: Sink>(output: &mut Output<'_, S>, file: &YaccFile, negative: &Ne
     put_count(output, b" at ", negative.at as u64);
 }
 
-// ` EDIT`
-fn put_edit<S: Sink>(output: &mut Output<'_, S>, file: &YaccFile, edit: Edit)
+/// Puts an edit behind a space.
+pub fn put_edit<S: Sink>(output: &mut Output<'_, S>, file: &YaccFile, edit: Edit)
     requires { IsNamedEdit file.now edit }
     ensures { Puts S.Sink (space ∷ lines.edit_text file.now edit) output.old output.new }
 {

@@ -64,8 +64,8 @@ fn put_tables<S: Sink>(output: &mut Output<'_, S>, file: &YaccFile, lexemes: &Le
     put_lexemes(output, file.token_names(), lexemes);
 }
 
-// The lines of the tokens and of the rules.
-fn put_file<S: Sink>(output: &mut Output<'_, S>, file: &YaccFile)
+/// Puts the lines of the tokens and of the rules.
+pub fn put_file<S: Sink>(output: &mut Output<'_, S>, file: &YaccFile)
     ensures { Puts S.Sink (lines.file_lines file.now) output.old output.new }
 {
     put_tokens(output, file.token_names());
@@ -122,7 +122,8 @@ fn put_symbols<S: Sink>(output: &mut Output<'_, S>, file: &YaccFile, symbols: &[
     }
 }
 
-fn put_lexemes<S: Sink>(output: &mut Output<'_, S>, names: &[TokenName], lexemes: &Lexemes)
+/// Puts the lines of the lexemes of so many tokens.
+pub fn put_lexemes<S: Sink>(output: &mut Output<'_, S>, names: &[TokenName], lexemes: &Lexemes)
     requires all { length names.now ≤ length lexemes.now }
     requires few { length names.now < 65536 }
     ensures { Puts S.Sink (lines.lexeme_lines lexemes.now names.now) output.old output.new }

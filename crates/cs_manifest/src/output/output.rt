@@ -2,7 +2,7 @@
 
 ghost use Rattle.std.specs.Prelude.{◌≡◌, ◌+◌, ◌++◌, ◌∷◌, ◌<◌, ◌≤◌, IfOk, OnErr, OnOk, false, true, [], decimal, length, take};
 ghost use Rattle.cs_bytes.specs.Names.{space};
-ghost use Rattle.cs_manifest.specs.Output.Sinks.{Writes};
+ghost use Rattle.cs_io.specs.Lines.{Writes};
 
 use crate::output::numeral::{NUMERAL_LENGTH, Numeral};
 use crate::output::piece::{Piece, SHORT_LENGTH, WORD_LENGTH};

@@ -25,9 +25,9 @@ use Rattle.cs_run.specs.Ending.Files.{Accepted}
 use Rattle.cs_run.specs.Ending.Summary.{IsSummary}
 use Rattle.cs_run.specs.Ending.Texts.{IsTextOf}
 use Rattle.cs_run.specs.Writer.Suite.{IsRules, IsSuite}
-use Rattle.cs_writing.specs.Writing.Writing.{GrewByOne, GrewByPart, HasRoomForAll}
-use Rattle.cs_writing.specs.declared.writing.halt.Halt.{Halt}
-use Rattle.cs_writing.specs.declared.writing.halt.Halt.TheVariants as halt
+use Rattle.cs_io.specs.Asked.{GrewByOne, GrewByPart, HasRoomForAll}
+use Rattle.cs_io.specs.declared.halt.Halt.{Halt}
+use Rattle.cs_io.specs.declared.halt.Halt.TheVariants as halt
 use Rattle.cs_run.specs.Command.Carrying.{CarriesOut, IsRefusedSuite, Writes, WritesSure, WritingEnds}
 use Rattle.cs_run.specs.Command.Words.{AskForNoFiles, PerformsFor, ending_at, ending_of}
 use Rattle.cs_run.proofs.OnCommand.Meanings.{of_rules, of_suite, rules_of, suite_of}

@@ -3,8 +3,8 @@ use Rattle.std.proofs.Common.{◌≡◌, ℕ, Result, Ok, Err, refl, sym, ◌∙
 use Rattle.std.specs.Result.{IsErrAnd}
 use Rattle.cs_scanner.specs.declared.automaton.error.AutomatonError.{AutomatonError}
 use Rattle.cs_scanner.specs.declared.automaton.error.AutomatonError.TheVariants as automaton
-use Rattle.cs_writing.specs.declared.writing.halt.Halt.{Halt}
-use Rattle.cs_writing.specs.declared.writing.halt.Halt.TheVariants as writing
+use Rattle.cs_io.specs.declared.halt.Halt.{Halt}
+use Rattle.cs_io.specs.declared.halt.Halt.TheVariants as writing
 use Rattle.cs_run.specs.declared.writer.halt.SuiteHalt.{SuiteHalt}
 use Rattle.cs_run.specs.declared.writer.halt.SuiteHalt.TheVariants.{Failed, States}
 use Rattle.cs_run.specs.Writer.Refusals.{Stopped, halt_of, planned_halt}

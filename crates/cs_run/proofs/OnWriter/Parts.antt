@@ -2,7 +2,8 @@
 use Rattle.std.proofs.Common.{ℕ, List, Option, Result, Ok, Err}
 use Rattle.std.specs.Prelude.{IfOk}
 use Rattle.cs_manifest.specs.declared.manifest.counts.Counts.{Counts}
-use Rattle.cs_writing.specs.Writing.Writing.{CountsOfAll, GrewByOne, GrewByPart, HasRoomForAll}
+use Rattle.cs_writing.specs.Writing.Writing.{CountsOfAll}
+use Rattle.cs_io.specs.Asked.{GrewByOne, GrewByPart, HasRoomForAll}
 
 -- what is so on Ok, said of what follows from it
 pub if_ok_more : {A E : Type 0} {P Q : A → Type 0} (result : Result A E) → IfOk result P → ((a : A) → P a → Q a) → IfOk result Q

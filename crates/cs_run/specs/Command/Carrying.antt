@@ -12,7 +12,7 @@ use Rattle.cs_run.specs.declared.ending.ending.Ending.TheVariants.{BadWord, NoFi
 use Rattle.cs_run.specs.Ending.Files.{Accepted}
 use Rattle.cs_run.specs.Ending.Texts.{IsTextOf}
 use Rattle.cs_run.specs.Words.Requests.{PlainRequest}
-use Rattle.cs_writing.specs.Writing.Writing.{GrewByOne, GrewByPart, HasRoomForAll}
+use Rattle.cs_io.specs.Asked.{GrewByOne, GrewByPart, HasRoomForAll}
 use Rattle.cs_yacc.specs.Reading.File.{IsFile}
 
 -- `accepted` says when there is a text, `refused` why there is none, and `Is` which texts are asked for

@@ -9,8 +9,8 @@ use Rattle.cs_run.specs.Ending.Ending.{Performs}
 use Rattle.cs_run.specs.Ending.Headline.{KeepsPromises}
 use Rattle.cs_run.specs.Words.Requests.{IsAsked, PlainRequest, files_of}
 use Rattle.cs_run.specs.Words.Words.{IsFirstBad}
-use Rattle.cs_writing.specs.declared.writing.halt.Halt.{Halt}
-use Rattle.cs_writing.specs.declared.writing.halt.Halt.TheVariants as halt
+use Rattle.cs_io.specs.declared.halt.Halt.{Halt}
+use Rattle.cs_io.specs.declared.halt.Halt.TheVariants as halt
 
 -- The promises are kept of what the words ask for, or of their first bad place.
 abbrev pub KeepsPromisesTo : List (List ℕ) → DeskUse → SinkUse → SinkUse → ℕ → Type 0

@@ -1,7 +1,7 @@
 // Why the writing of a suite stopped.
 
 use cs_scanner::AutomatonError;
-use cs_writing::Halt;
+use cs_io::Halt;
 use std::alloc::{AllocError, AllocFailed};
 
 /// Why the writing of a suite stopped.

@@ -3,16 +3,16 @@
 ghost use Rattle.std.specs.Prelude.{◌≡◌, OnErr, OnOk};
 ghost use Rattle.cs_grammar.specs.Weights.{nodes};
 ghost use Rattle.cs_run.specs.Writer.Suite.{IsRules};
-ghost use Rattle.cs_writing.specs.declared.writing.halt.Halt.TheVariants.{Failed};
-ghost use Rattle.cs_writing.specs.Writing.Writing.{IsCalmForAll, MetFault, MetNone, Stopped, TookFront, TookOne};
+ghost use Rattle.cs_io.specs.declared.halt.Halt.TheVariants.{Failed};
+ghost use Rattle.cs_io.specs.Asked.{IsCalmForAll, MetFault, MetNone, Stopped, TookFront, TookOne};
 
 use cs_choices::Criteria;
 use cs_fan::Gate;
 use cs_grammar::Weights;
-use cs_io::Sink;
+use cs_io::{Halt, Sink};
 use cs_least::{Costs, Embeds};
 use cs_verdicts::Positives;
-use cs_writing::{Halt, Plan, PlanForm, write_out};
+use cs_writing::{Plan, PlanForm, write_out};
 use cs_yacc::YaccFile;
 use std::alloc::Global;
 use std::thread::Threads;

@@ -7,9 +7,10 @@ ghost use Rattle.cs_writing.specs.Plan.Plans.{CanRender};
 ghost use Rattle.cs_run.specs.declared.writer.halt.SuiteHalt.TheVariants.{Failed, Memory, States};
 ghost use Rattle.cs_run.specs.Writer.Refusals.{Stopped};
 ghost use Rattle.cs_run.specs.Writer.Suite.{IsBy, IsSuite, means_by, measure_by};
-ghost use Rattle.cs_writing.specs.declared.writing.halt.Halt.TheVariants as halt;
-ghost use Rattle.cs_writing.specs.Writing.Writing as writing;
-ghost use Rattle.cs_writing.specs.Writing.Writing.{CountsOfAll, HasNoCases, IsCalmForAll, MetFault, MetNone, TookFront, TookOne};
+ghost use Rattle.cs_io.specs.declared.halt.Halt.TheVariants as halt;
+ghost use Rattle.cs_io.specs.Asked as asked;
+ghost use Rattle.cs_writing.specs.Writing.Writing.{CountsOfAll, HasNoCases};
+ghost use Rattle.cs_io.specs.Asked.{IsCalmForAll, MetFault, MetNone, TookFront, TookOne};
 ghost use Rattle.cs_yacc.specs.Reading.File.{IsFile};
 
 use crate::input::Pair;
@@ -19,13 +20,13 @@ use crate::writer::weights::weights_of;
 use cs_choices::Format;
 use cs_fan::Gate;
 use cs_grammar::Weights;
-use cs_io::Sink;
+use cs_io::{Halt, Sink};
 use cs_manifest::Counts;
 use cs_pairs::Pairs;
 use cs_scanner::{Automaton, Lexemes, Scanner};
 use cs_texts::RenderWork;
 use cs_verdicts::{Closed, Positives, Tables};
-use cs_writing::{Halt, Means, Mutation, Plan, PlanForm, write_out};
+use cs_writing::{Means, Mutation, Plan, PlanForm, write_out};
 use cs_yacc::YaccFile;
 use std::alloc::Global;
 use std::thread::Threads;
@@ -96,7 +97,7 @@ fn write_goals<'f, R: Threads + Sync, O: Sink, G: Gate + Sync>(
     ensures part { OnErr result
         (TookFront O.Sink (IsBy work.now file.now options.now) out.old out.new) }
     ensures no_fault { OnOk result (MetNone O.Sink out.old out.new) }
-    ensures failed { writing.Stopped halt.Failed result → MetFault O.Sink out.old out.new }
+    ensures failed { asked.Stopped halt.Failed result → MetFault O.Sink out.old out.new }
     ensures room { IsCalmForAll O.Sink (IsBy work.now file.now options.now) out.old out.new }
 {
     let tables = Tables::new(alloc, file.grammar(), weights)?;

@@ -5,9 +5,10 @@ ghost use Rattle.cs_run.specs.Ending.Summary.{IsSummary, summary_options};
 ghost use Rattle.cs_run.specs.Input.Refusal.{HasManyStates};
 ghost use Rattle.cs_run.specs.Writer.Suite.{IsSuite};
 ghost use Rattle.cs_run.specs.Writer.Summary.{AreShort, HasSuite, HasNumberMore, IsLineOf, IsOnlySummary};
-ghost use Rattle.cs_writing.specs.declared.writing.halt.Halt.TheVariants.{Failed};
-ghost use Rattle.cs_writing.specs.Writing.Writing.{CountsOfAll, HasNoCases, IsCalmForAll, MetFault, MetNone};
-ghost use Rattle.cs_writing.specs.Writing.Writing.{Stopped, TookFront, TookOne};
+ghost use Rattle.cs_io.specs.declared.halt.Halt.TheVariants.{Failed};
+ghost use Rattle.cs_writing.specs.Writing.Writing.{CountsOfAll, HasNoCases};
+ghost use Rattle.cs_io.specs.Asked.{IsCalmForAll, MetFault, MetNone};
+ghost use Rattle.cs_io.specs.Asked.{Stopped, TookFront, TookOne};
 
 use crate::input::{Pair, Stop, judge_pair};
 use crate::words::Options;
@@ -16,9 +17,8 @@ use crate::writer::suite::write_suite;
 use cs_choices::Format;
 use cs_fan::Gate;
 use cs_gen::{Generated, make};
-use cs_io::{NullSink, Sink, write_all};
+use cs_io::{Halt, NullSink, Sink, write_all};
 use cs_manifest::Counts;
-use cs_writing::Halt;
 use std::alloc::{AllocError, Global};
 use std::thread::Threads;
 

@@ -5,8 +5,8 @@ use Rattle.std.specs.Borrow.{Bor}
 use Rattle.cs_io.specs.Faults.{Rose}
 use Rattle.cs_io.specs.declared.sink.Sink as Sink
 use Rattle.cs_io.specs.declared.sink.SinkError.{SinkError}
-use Rattle.cs_manifest.specs.Output.Sinks.{HasRoom, IsCutShort, IsWritten, LeavesRoom, Took, TookPart}
-use Rattle.cs_manifest.proofs.OnOutput.Called.{is_cut, is_written}
+use Rattle.cs_io.specs.Lines.{HasRoom, IsCutShort, IsWritten, LeavesRoom, Took, TookPart}
+use Rattle.cs_io.proofs.Called.{is_cut, is_written}
 use Rattle.cs_manifest.specs.Manifest.Counts.{with_lines}
 use Rattle.cs_manifest.specs.Manifest.Entry.{lines_of}
 use Rattle.cs_manifest.specs.Manifest.Lines.{negative_lines}

@@ -4,7 +4,7 @@ use Rattle.std.specs.Prelude.{All}
 use Rattle.std.proofs.lemmas.List.{map-append, take_more}
 use Rattle.std.proofs.lemmas.List.Elements.{All-get_or}
 use Rattle.cs_io.specs.declared.sink.Sink as Sink
-use Rattle.cs_manifest.specs.Output.Sinks.{IsCutShort, IsWritten}
+use Rattle.cs_io.specs.Lines.{IsCutShort, IsWritten}
 use Rattle.cs_manifest.proofs.OnOutput.Written.{written_then, written_cut, cut_longer}
 use Rattle.cs_manifest.specs.Output.Words.{numbered_from}
 use Rattle.cs_yacc.specs.Reading.File.{File}

@@ -7,7 +7,7 @@ use Rattle.std.proofs.lemmas.List.{drop_more, length-take-le, take_all, take_mor
 use Rattle.std.proofs.lemmas.List.Sums.{sum_by-append, sum_by-cons}
 use Rattle.cs_writing.specs.Bases.Bases.{PlainBases}
 use Rattle.cs_io.specs.declared.sink.Sink as Sink
-use Rattle.cs_manifest.specs.Output.Sinks.{IsCutShort, IsWritten}
+use Rattle.cs_io.specs.Lines.{IsCutShort, IsWritten}
 use Rattle.cs_manifest.proofs.OnOutput.Written.{written_none, written_then}
 use Rattle.cs_manifest.specs.declared.manifest.counts.Counts.{Counts}
 use Rattle.cs_manifest.specs.Manifest.Lines.{base_line}
@@ -18,13 +18,13 @@ use Rattle.cs_yacc.specs.Reading.File.{File}
 use Rattle.cs_writing.specs.declared.plan.plan.Means.{Means}
 use Rattle.cs_writing.specs.declared.plan.plan.Plan.{Plan}
 use Rattle.cs_writing.specs.Plan.Plans.{choice_in, lexemes_in, means_in, no_operator, texts_in}
-use Rattle.cs_writing.specs.declared.writing.halt.Halt.{Halt}
-use Rattle.cs_writing.specs.declared.writing.halt.Halt.TheVariants.{Failed, Memory}
+use Rattle.cs_io.specs.declared.halt.Halt.{Halt}
+use Rattle.cs_io.specs.declared.halt.Halt.TheVariants.{Failed, Memory}
 use Rattle.cs_writing.specs.Writing.Mutants.{CountsBases, IsBasesText, IsCounted, negatives_from, negatives_in}
-use Rattle.cs_writing.specs.Writing.Written.{HasText, IsStopped}
+use Rattle.cs_io.specs.Stops.{HasText, IsStopped}
 use Rattle.cs_writing.proofs.OnWriting.Ones.{nothing_in, zip_both, zip_length, zip_split}
 use Rattle.cs_writing.proofs.OnWriting.Parts.{HasBases, HasSomeBases}
-use Rattle.cs_writing.proofs.OnWriting.Stops.{stopped_by_cut, stopped_by_memory, stopped_longer, stopped_behind}
+use Rattle.cs_io.proofs.Stops.{stopped_by_cut, stopped_by_memory, stopped_longer, stopped_behind}
 use Rattle.cs_writing.proofs.OnWriting.Tallies.{counted_none, counted_then}
 
 -- lines of bases and of more

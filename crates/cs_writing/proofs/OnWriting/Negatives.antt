@@ -5,7 +5,7 @@ use Rattle.std.specs.List.{AllZip}
 use Rattle.cs_grammar.specs.Grammar.{PlainGrammar}
 use Rattle.cs_io.specs.Faults.{greatest}
 use Rattle.cs_io.specs.declared.sink.Sink as Sink
-use Rattle.cs_manifest.specs.Output.Sinks.{IsCutShort, IsWritten}
+use Rattle.cs_io.specs.Lines.{IsCutShort, IsWritten}
 use Rattle.cs_manifest.specs.Output.Words.{numbered_from}
 use Rattle.cs_manifest.proofs.OnOutput.Written.{written_none, written_then, written_cut, cut_longer}
 use Rattle.cs_manifest.specs.declared.manifest.counts.Counts.{Counts}
@@ -22,13 +22,13 @@ use Rattle.cs_mutate.proofs.Listed.{begins, done, one_list}
 use Rattle.cs_texts.specs.Rendering.Rendering.{Rendering}
 use Rattle.cs_texts.specs.declared.work.work.RenderWork.{RenderWork}
 use Rattle.cs_yacc.specs.Reading.File.{File}
-use Rattle.cs_writing.specs.declared.writing.halt.Halt.TheVariants.{Failed, Memory}
+use Rattle.cs_io.specs.declared.halt.Halt.TheVariants.{Failed, Memory}
 use Rattle.cs_writing.specs.Writing.Mutants.{AreMade, CountsMade, IsCounted, negatives_from}
-use Rattle.cs_writing.specs.Writing.Written.{IsStopped}
+use Rattle.cs_io.specs.Stops.{IsStopped}
 use Rattle.cs_writing.proofs.OnWriting.Edits.{few_negatives, negatives_both, negatives_split}
 use Rattle.cs_writing.proofs.OnWriting.Ones.{numbered_both, zip_both, zip_front, zip_length}
 use Rattle.cs_writing.proofs.OnWriting.Parts.{HasNegatives, HasSomeNegatives}
-use Rattle.cs_writing.proofs.OnWriting.Stops.{stopped_by_memory, stopped_by_cut}
+use Rattle.cs_io.proofs.Stops.{stopped_by_memory, stopped_by_cut}
 use Rattle.cs_writing.proofs.OnWriting.Tallies.{counted_none, counted_then}
 
 -- what is told of a negative and its lines, by the list of the search, the file and the count of the manifest

@@ -1,7 +1,7 @@
 -- The negatives of one base: as a maker and a search give them, and as the text of the bases has them.
 use Rattle.std.proofs.Common.{◌≡◌, ◌≤◌, ℕ, List, length, ap, ◌∙◌, subst, Some}
 use Rattle.cs_io.specs.declared.sink.Sink as Sink
-use Rattle.cs_manifest.specs.Output.Sinks.{IsWritten}
+use Rattle.cs_io.specs.Lines.{IsWritten}
 use Rattle.cs_manifest.specs.declared.manifest.counts.Counts.{Counts}
 use Rattle.cs_manifest.specs.Manifest.Manifest.{AreNegativesOf, NegativeEntry}
 use Rattle.cs_manifest.specs.Manifest.Progress.{Progress}
@@ -12,9 +12,9 @@ use Rattle.cs_yacc.specs.Reading.File.{File}
 use Rattle.cs_writing.specs.declared.plan.plan.Means.{Means}
 use Rattle.cs_writing.specs.declared.plan.plan.Plan.{Plan}
 use Rattle.cs_writing.specs.Plan.Plans.{IsPlan, choice_in, lexemes_in, means_in}
-use Rattle.cs_writing.specs.declared.writing.halt.Halt.{Halt}
+use Rattle.cs_io.specs.declared.halt.Halt.{Halt}
 use Rattle.cs_writing.specs.Writing.Mutants.{CountsMade, IsCounted, IsEditable, IsMade, negatives_from}
-use Rattle.cs_writing.specs.Writing.Written.{HasSomeText, HasText, IsStopped}
+use Rattle.cs_io.specs.Stops.{HasSomeText, HasText, IsStopped}
 use Rattle.cs_writing.proofs.OnWriting.Mutated.{negatives_at}
 use Rattle.cs_writing.proofs.OnWriting.Parts.{has_negatives, some_negatives}
 use Rattle.cs_writing.proofs.OnWriting.Searches.{base_is, few_made, from_made, to_made}

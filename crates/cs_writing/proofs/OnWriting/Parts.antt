@@ -4,7 +4,7 @@ use Rattle.cs_writing.specs.Bases.Bases.{PlainBases, bases_of}
 use Rattle.cs_verdicts.specs.Cases.Cases.{PlainCases}
 use Rattle.cs_grammar.specs.Weights.{Weighed}
 use Rattle.cs_io.specs.declared.sink.Sink as Sink
-use Rattle.cs_manifest.specs.Output.Sinks.{IsWritten}
+use Rattle.cs_io.specs.Lines.{IsWritten}
 use Rattle.cs_manifest.specs.declared.manifest.counts.Counts.{Counts}
 use Rattle.cs_manifest.specs.Manifest.Manifest.{BaseEntry, GoalEntry, NegativeEntry, base_entry_lines, most_bases}
 use Rattle.cs_manifest.specs.Manifest.Progress.{Progress}
@@ -15,9 +15,10 @@ use Rattle.cs_writing.specs.Plan.Plans.{choice_in}
 use Rattle.cs_verdicts.specs.Positive.Positives.{ToJudge}
 use Rattle.cs_texts.specs.declared.work.work.RenderWork.{RenderWork}
 use Rattle.cs_yacc.specs.Reading.File.{File}
-use Rattle.cs_writing.specs.declared.writing.halt.Halt.{Halt}
+use Rattle.cs_io.specs.declared.halt.Halt.{Halt}
 use Rattle.cs_writing.specs.Writing.Mutants.{AreBasesIn, AreMade, CountsBases, CountsMade, IsBasesText, IsCounted, IsMade, negatives_from, negatives_in}
-use Rattle.cs_writing.specs.Writing.Written.{AreBasesOf, AreCounted, AreGoals, CountsGoals, HasSomeText, HasText, IsGoalsText, IsStopped}
+use Rattle.cs_writing.specs.Writing.Written.{AreBasesOf, AreCounted, AreGoals, CountsGoals, IsGoalsText}
+use Rattle.cs_io.specs.Stops.{HasSomeText, HasText, IsStopped}
 
 -- ---- by their entries
 

@@ -10,7 +10,7 @@ use Rattle.cs_grammar.specs.Grammar.{IsGrammar}
 use Rattle.cs_grammar.specs.Weights.{Weighed}
 use Rattle.cs_goals.specs.declared.goal.Goal.{Goal}
 use Rattle.cs_goals.specs.Goals.{goals}
-use Rattle.cs_manifest.specs.Output.Sinks.{IsCutShort, IsWritten}
+use Rattle.cs_io.specs.Lines.{IsCutShort, IsWritten}
 use Rattle.cs_manifest.proofs.OnOutput.Written.{written_none, written_then, written_cut, cut_longer}
 use Rattle.cs_manifest.specs.declared.manifest.counts.Counts.{Counts}
 use Rattle.cs_manifest.specs.Manifest.Head.{Sharing, first_cases}
@@ -22,15 +22,16 @@ use Rattle.cs_writing.specs.Plan.Entries.{AreNext}
 use Rattle.cs_writing.specs.Plan.Made.{MadeEntry, entries_of, entry_of}
 use Rattle.cs_writing.specs.Plan.Plans.{IsEntryIn, choice_in, format_by, sharing_in}
 use Rattle.cs_writing.proofs.OnPlan.Telling.{are_entries}
-use Rattle.cs_writing.specs.declared.writing.halt.Halt.TheVariants.{Failed, Memory}
+use Rattle.cs_io.specs.declared.halt.Halt.TheVariants.{Failed, Memory}
 use Rattle.cs_writing.specs.Writing.Mutants.{Keeps}
-use Rattle.cs_writing.specs.Writing.Written.{AreCounted, AreEntriesIn, AreGoals, AreLinesIn, AreWithin, CountsGoals, HasNumbers, IsFresh, IsReady, IsStopped, TellsGoals}
+use Rattle.cs_writing.specs.Writing.Written.{AreCounted, AreEntriesIn, AreGoals, AreLinesIn, AreWithin, CountsGoals, HasNumbers, IsFresh, IsReady, TellsGoals}
+use Rattle.cs_io.specs.Stops.{IsStopped}
 use Rattle.cs_writing.proofs.OnWriting.Counted.{goals_none, goals_then, within_more}
 use Rattle.cs_writing.proofs.OnWriting.Few.{few_goals}
 use Rattle.cs_writing.proofs.OnWriting.Kept.{kept_more}
 use Rattle.cs_writing.proofs.OnWriting.Ones.{nothing_in, zip_both, zip_front, zip_length}
 use Rattle.cs_writing.proofs.OnWriting.Parts.{HasEntries, HasSomeEntries}
-use Rattle.cs_writing.proofs.OnWriting.Stops.{stopped_by_memory, stopped_by_cut}
+use Rattle.cs_io.proofs.Stops.{stopped_by_memory, stopped_by_cut}
 use Rattle.cs_writing.proofs.OnWriting.Told.{lines_both, lines_none, one_goals, one_in, one_list, told_front}
 
 -- the entries of the first goals, where these are left

@@ -10,7 +10,7 @@ use Rattle.cs_verdicts.specs.Closed.Closed.{ClosedSets}
 use Rattle.cs_verdicts.proofs.OnClosed.OneClosed.{one_closed}
 use Rattle.cs_io.specs.declared.sink.Sink as Sink
 use Rattle.cs_manifest.specs.Output.Putting.{shown}
-use Rattle.cs_manifest.specs.Output.Sinks.{IsCutShort, IsWritten}
+use Rattle.cs_io.specs.Lines.{IsCutShort, IsWritten}
 use Rattle.cs_manifest.proofs.OnOutput.Written.{written_then, written_cut, cut_longer}
 use Rattle.cs_manifest.specs.declared.manifest.counts.Counts.{Counts}
 use Rattle.cs_choices.specs.declared.format.Format.TheVariants.{One}
@@ -26,13 +26,14 @@ use Rattle.cs_writing.specs.declared.plan.plan.Plan.{Plan}
 use Rattle.cs_writing.specs.declared.plan.plan.PlanForm.{PlanForm}
 use Rattle.cs_writing.specs.declared.plan.plan.PlanForm.TheVariants.{Rules, Suite, Shared}
 use Rattle.cs_writing.specs.Plan.Plans.{IsFormOf, IsPlan, IsPlanned, choice_in, format_by, lexemes_in, means_in, measure_in, sharing_by, sharing_in, texts_in, texts_of}
-use Rattle.cs_writing.specs.declared.writing.halt.Halt.{Halt}
-use Rattle.cs_writing.specs.declared.writing.halt.Halt.TheVariants.{Failed}
+use Rattle.cs_io.specs.declared.halt.Halt.{Halt}
+use Rattle.cs_io.specs.declared.halt.Halt.TheVariants.{Failed}
 use Rattle.cs_writing.specs.Writing.Mutants.{negatives_in}
 use Rattle.cs_writing.specs.Writing.Writing.{CountsOfAll}
-use Rattle.cs_writing.specs.Writing.Written.{AreGoals, AreLinesOf, HasSomeText, HasText, IsFresh, IsStopped, lines_from, shared_lines_from}
+use Rattle.cs_writing.specs.Writing.Written.{AreGoals, AreLinesOf, IsFresh, lines_from, shared_lines_from}
+use Rattle.cs_io.specs.Stops.{HasSomeText, HasText, IsStopped}
 use Rattle.cs_writing.proofs.OnWriting.Parts.{HasBases, HasEntries, HasSomeBases, HasSomeEntries}
-use Rattle.cs_writing.proofs.OnWriting.Stops.{stopped_by_cut, stopped_longer, stopped_behind}
+use Rattle.cs_io.proofs.Stops.{stopped_by_cut, stopped_longer, stopped_behind}
 use Rattle.cs_writing.proofs.OnWriting.Told.{one_goals}
 
 -- nothing was counted behind the head but its bytes

@@ -3,7 +3,7 @@ use Rattle.std.specs.Prelude.{◌≡◌, ℕ, List, MatchResult, Option, Result,
 use Rattle.cs_io.specs.Faults.{next_count}
 use Rattle.cs_io.specs.declared.sink.Sink as Sink
 use Rattle.cs_io.specs.declared.sink.SinkError.{SinkError}
-use Rattle.cs_manifest.specs.Output.Sinks.{Writes}
+use Rattle.cs_io.specs.Lines.{Writes}
 use Rattle.cs_manifest.specs.Manifest.Counts.{with_lines}
 use Rattle.cs_manifest.specs.Manifest.Manifest.{IsNegativeOf, NegativeEntry, Texts, negative_entry_lines}
 use Rattle.cs_manifest.specs.Manifest.Progress.{Progress}

@@ -8,7 +8,7 @@ use Rattle.cs_io.specs.Faults.{Rose, greatest}
 use Rattle.cs_io.specs.declared.sink.Sink as Sink
 use Rattle.cs_io.specs.declared.sink.SinkError.{SinkError}
 use Rattle.cs_manifest.specs.Output.Putting.{shown}
-use Rattle.cs_manifest.specs.Output.Sinks.{HasRoom, IsWritten, TookPart, Writes}
+use Rattle.cs_io.specs.Lines.{HasRoom, IsWritten, TookPart, Writes}
 use Rattle.cs_manifest.specs.Output.Words.{numbered_from}
 use Rattle.cs_manifest.specs.declared.manifest.counts.Counts.{Counts}
 use Rattle.cs_choices.specs.declared.format.Format.{Format}
@@ -23,8 +23,8 @@ use Rattle.cs_yacc.specs.Reading.File.{File}
 use Rattle.cs_writing.specs.declared.plan.plan.Plan.{Plan}
 use Rattle.cs_writing.specs.Plan.Made.{MadeEntry, case_lines_in, entries_of, goal_lines_in, has_new_case, made_lines, new_cases}
 use Rattle.cs_writing.specs.Plan.Plans.{IsOfPlan, IsPlan, choice_in, format_by, lexemes_in, sharing_in, texts_in}
-use Rattle.cs_writing.specs.declared.writing.halt.Halt.{Halt}
-use Rattle.cs_writing.specs.declared.writing.halt.Halt.TheVariants.{Failed}
+use Rattle.cs_io.specs.declared.halt.Halt.{Halt}
+use Rattle.cs_io.specs.declared.halt.Halt.TheVariants.{Failed}
 
 -- ---- the lines of goals
 
@@ -151,32 +151,9 @@ CountsEntry number m old new = new.counts ≡ behind_made old.file number old.co
 abbrev pub CountsCase : MadeEntry → Progress → Progress → Type 0
 CountsCase m old new = new.counts ≡ behind_case old.file old.counts m
 
--- ---- what a writing did to the sink
+-- ---- lines that were written
 
 module _ {S : Type 0} (g : Sink.Ghosts S) where
-  -- The writing of these lines stopped so: a prefix was written.
-  pub record IsStopped (lines : List ℕ) (old new : S) (halt : Halt) : Type 0 where
-    pub written : TookPart g.written old new lines
-    pub failed : halt ≡ Failed → Rose (g.faults old) (g.faults new)
-    pub faults : g.faults old ≤ g.faults new
-    pub no_fault : HasRoom g.room old lines → g.faults new ≡ g.faults old
-    pub lent : g.lent new ≡ g.lent old
-    pub passed : g.passed old ≤ g.passed new
-
-  -- such a text was written
-  pub record HasText (Is : List ℕ → Type 0) (old new : S) : Type 0 where
-    pub text : List ℕ
-    pub is : Is text
-    pub written : IsWritten g text old new
-
-  -- whichever such a text is, its writing stopped so
-  abbrev pub HasSomeText : (List ℕ → Type 0) → S → S → Halt → Type 0
-  HasSomeText Is old new halt = (text : List ℕ) → Is text → IsStopped text old new halt
-
-  -- The answer says which of the two: such a text was written, or its writing stopped so.
-  abbrev pub PutsOne : {A : Type 0} → (List ℕ → Type 0) → S → S → Result A Halt → Type 0
-  PutsOne Is old new result = MatchResult result (λ _. HasText Is old new) (λ halt. HasSomeText Is old new halt)
-
   -- the lines of a batch of entries were written behind so many, or cut short
   abbrev pub PutsBatch : Progress → ℕ → List MadeEntry → S → S → Result Unit SinkError → Type 0
   PutsBatch manifest number batch old new result = Writes g result (made_lines_from manifest.file (number + 1) batch) old new

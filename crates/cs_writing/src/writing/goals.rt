@@ -3,14 +3,14 @@
 ghost use Rattle.std.specs.Prelude.{◌≡◌, All, IfOk, OnOk, length};
 ghost use Rattle.cs_writing.specs.Plan.Made.{IsNamedMade};
 ghost use Rattle.cs_writing.specs.Writing.Written.{CountsCase, CountsEntry, HasNumbers, IsGoalsText, IsReady};
-ghost use Rattle.cs_writing.specs.Writing.Written.{PutsBatch, PutsCase, PutsEntry, PutsOne, TellsBatch, TellsGoals};
+ghost use Rattle.cs_writing.specs.Writing.Written.{PutsBatch, PutsCase, PutsEntry, TellsBatch, TellsGoals};
+ghost use Rattle.cs_io.specs.Stops.{PutsOne};
 
 use crate::bases::Bases;
 use crate::plan::{Made, Plan, next_entries};
 use crate::writing::bases::keep_bases;
-use crate::writing::halt::Halt;
 use cs_fan::Gate;
-use cs_io::{Sink, SinkError};
+use cs_io::{Halt, Sink, SinkError};
 use cs_manifest::{Manifest, one_text};
 use cs_verdicts::{Cases, Positives};
 use std::alloc::Global;

@@ -7,13 +7,12 @@ ghost use Rattle.cs_manifest.specs.Manifest.Manifest.{most_bases};
 ghost use Rattle.cs_writing.specs.Mutants.Makers.{CanRender};
 ghost use Rattle.cs_writing.specs.Plan.Plans.{IsPlan, choice_in};
 ghost use Rattle.cs_writing.specs.Writing.Mutants.{CountsBases, CountsMade, IsBasesText, IsEditable, IsMade};
-ghost use Rattle.cs_writing.specs.Writing.Written.{PutsOne};
+ghost use Rattle.cs_io.specs.Stops.{PutsOne};
 
 use crate::bases::Bases;
 use crate::mutants::{MadeNegative, Maker, Tools};
 use crate::plan::Plan;
-use crate::writing::halt::Halt;
-use cs_io::Sink;
+use cs_io::{Halt, Sink};
 use cs_manifest::{Entry, Manifest, Numeral, one_text};
 use cs_mutate::Negatives;
 use std::alloc::Global;

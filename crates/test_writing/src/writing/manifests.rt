@@ -9,7 +9,7 @@ use crate::writing::writers::letter_counts;
 use cs_choices::{Criteria, Format, Operators, Weigh};
 use cs_fan::OpenGate;
 use cs_grammar::Weights;
-use cs_io::MemorySink;
+use cs_io::{Halt, MemorySink};
 use cs_manifest::Counts;
 use cs_run::Options;
 use cs_sample_files::{Trouble, read_files};
@@ -17,7 +17,7 @@ use cs_samples::{LETTER, LETTER_SCANNER, LETTER_SUITE_TWO, SCANNER, SUMS, SUMS_S
 use cs_scanner::{Automaton, Lexemes, Scanner};
 use cs_texts::RenderWork;
 use cs_verdicts::{Closed, Positives, Tables};
-use cs_writing::{Halt, Means, Mutation, Plan, PlanForm, write_out};
+use cs_writing::{Means, Mutation, Plan, PlanForm, write_out};
 use cs_yacc::YaccFile;
 use std::alloc::{AllocError, Global};
 use std::test::Fail;

@@ -1,12 +1,11 @@
 // The public calls of `cs_run::writer`, each by itself.
 
 use cs_fan::OpenGate;
-use cs_io::MemorySink;
+use cs_io::{Halt, MemorySink};
 use cs_manifest::Counts;
 use cs_run::{Options, Pair, SuiteHalt, write_rules, write_suite, write_summary};
 use cs_sample_files::{Trouble, read_files, yacc_of};
 use cs_samples::{LETTER, LETTER_SCANNER, LETTER_SUITE_TWO, NUMBER};
-use cs_writing::Halt;
 use std::alloc::{AllocError, Global};
 use std::test::Fail;
 use std::thread::Threads;

@@ -2,7 +2,8 @@ use Rattle.std.proofs.Common.{subst}
 use Rattle.std.specs.Prelude.{IfOk, OnErr, OnOk}
 use Rattle.cs_choices.specs.declared.format.Format.TheVariants.{One, Two}
 use Rattle.cs_manifest.specs.Manifest.Manifest.{Choice, IsManifest}
-use Rattle.cs_writing.specs.Writing.Writing.{CountsOfAll, GrewByOne, GrewByPart}
+use Rattle.cs_writing.specs.Writing.Writing.{CountsOfAll}
+use Rattle.cs_io.specs.Asked.{GrewByOne, GrewByPart}
 use Rattle.cs_run.proofs.OnWriter.Formats.{same_choice}
 use Rattle.cs_run.proofs.writer.suite.write_goals.Goals as goal
 

@@ -6,7 +6,7 @@ use Rattle.cs_pattern_parts.specs.Tree.Pattern.{Regex, regexes}
 use Rattle.cs_run.proofs.OnWriter.Choices.{of_suite, suite_of}
 use Rattle.cs_run.proofs.OnWriter.Halts.{stopped_failed, stopped_many, stopped_states}
 use Rattle.cs_run.proofs.OnWriter.Parts.{grew_by, grew_part, has_counts, has_room}
-use Rattle.cs_writing.proofs.OnWriting.Out.{no_part, on_err}
+use Rattle.cs_io.proofs.Out.{no_part, on_err}
 use Rattle.cs_run.proofs.writer.suite.write_suite.Goals as goal
 
 pub returns-in_err-automaton-clause-part : goal.returns-in_err-automaton-clause-part

@@ -1,8 +1,8 @@
 use Rattle.std.proofs.Common.{◌∙◌, List, ℕ, sym, subst}
 use Rattle.cs_run.specs.Ending.Summary.{IsSummary}
 use Rattle.cs_io.specs.Sink.{GrewByPrefix}
-use Rattle.cs_writing.specs.Writing.Writing.{GrewByPart}
-use Rattle.cs_writing.proofs.OnWriting.Out.{on_err}
+use Rattle.cs_io.specs.Asked.{GrewByPart}
+use Rattle.cs_io.proofs.Out.{on_err}
 use Rattle.cs_run.proofs.writer.summary.write_summary.Goals as goal
 
 pub returns-in_err-write_all-clause-part : goal.returns-in_err-write_all-clause-part

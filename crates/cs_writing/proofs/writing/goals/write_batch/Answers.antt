@@ -1,7 +1,7 @@
 use Rattle.std.proofs.Common.{rules, ◌≡◌, ◌+◌, List, ℕ, refl, subst, sym, ap, ◌∙◌, arith}
 use Rattle.std.proofs.lemmas.List.{length-map, take_all}
 use Rattle.std.proofs.lemmas.Result.{err_from_is_err_and}
-use Rattle.cs_manifest.specs.Output.Sinks.{IsCutShort, IsWritten}
+use Rattle.cs_io.specs.Lines.{IsCutShort, IsWritten}
 use Rattle.cs_manifest.proofs.OnOutput.Written.{written_none}
 use Rattle.cs_writing.specs.Plan.Made.{IsNamedMade, MadeEntry, entries_of, entry_of, made_lines, new_cases}
 use Rattle.cs_yacc.specs.Reading.File.{File}

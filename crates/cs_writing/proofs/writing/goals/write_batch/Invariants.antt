@@ -1,5 +1,5 @@
 use Rattle.std.proofs.Common.{◌≡◌, ◌+◌, take}
-use Rattle.cs_manifest.specs.Output.Sinks.{IsWritten}
+use Rattle.cs_io.specs.Lines.{IsWritten}
 use Rattle.cs_writing.specs.Plan.Made.{entries_of, new_cases}
 use Rattle.cs_writing.specs.Writing.Written.{AreCounted, made_lines_from}
 use Rattle.cs_writing.proofs.writing.goals.write_batch.Given as goal

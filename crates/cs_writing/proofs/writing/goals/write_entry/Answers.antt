@@ -1,6 +1,6 @@
 use Rattle.std.proofs.Common.{◌≡◌, List, ℕ, subst, sym, ap, ◌∙◌}
 use Rattle.std.proofs.lemmas.Result.{err_from_is_err_and}
-use Rattle.cs_manifest.specs.Output.Sinks.{IsCutShort, IsWritten}
+use Rattle.cs_io.specs.Lines.{IsCutShort, IsWritten}
 use Rattle.cs_manifest.proofs.OnOutput.Written.{cut_longer, written_cut, written_then}
 use Rattle.cs_manifest.specs.Manifest.Counts.{with_lines, with_verdict}
 use Rattle.cs_manifest.specs.Manifest.Entry.{lines_of}
@@ -8,7 +8,7 @@ use Rattle.cs_manifest.specs.Manifest.Progress.{Progress}
 use Rattle.cs_manifest.specs.declared.manifest.counts.Counts.{Counts}
 use Rattle.cs_writing.specs.Plan.Made.{IsNamedMade, goal_lines_in}
 use Rattle.cs_yacc.specs.Reading.File.{File}
-use Rattle.cs_manifest.proofs.OnOutput.Called.{is_cut, is_written}
+use Rattle.cs_io.proofs.Called.{is_cut, is_written}
 use Rattle.cs_writing.proofs.writing.goals.write_entry.Goals as goal
 
 pub returns-in_err-write_case-clause-lines : goal.returns-in_err-write_case-clause-lines

@@ -3,13 +3,13 @@ use Rattle.std.proofs.lemmas.List.Sums.{count_by-le-length}
 use Rattle.std.proofs.lemmas.Result.{err_from_is_err_and}
 use Rattle.cs_writing.specs.Bases.Bases.{no_bases}
 use Rattle.cs_verdicts.specs.Cases.Cases.{PlainCases, no_cases}
-use Rattle.cs_manifest.specs.Output.Sinks.{IsCutShort, IsWritten}
+use Rattle.cs_io.specs.Lines.{IsCutShort, IsWritten}
 use Rattle.cs_manifest.specs.Manifest.Manifest.{most_bases}
 use Rattle.cs_writing.specs.Plan.Made.{MadeEntry, entries_of, has_new_case, made_lines, new_cases}
 use Rattle.cs_writing.specs.Plan.Plans.{choice_in}
 use Rattle.cs_writing.proofs.OnPlan.Telling.{cases_grow}
 use Rattle.cs_yacc.specs.Reading.File.{File}
-use Rattle.cs_writing.specs.declared.writing.halt.Halt.TheVariants.{Failed, Memory}
+use Rattle.cs_io.specs.declared.halt.Halt.TheVariants.{Failed, Memory}
 use Rattle.cs_writing.specs.Writing.Mutants.{Keeps}
 use Rattle.cs_writing.specs.Writing.Written.{AreCounted, TellsBatch, made_lines_from}
 use Rattle.cs_writing.proofs.OnWriting.Batch.{batch_lines_are}

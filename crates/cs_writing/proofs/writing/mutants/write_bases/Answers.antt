@@ -1,7 +1,7 @@
 use Rattle.std.proofs.Common.{rules, ◌≡◌, ◌+◌, ◌<◌, ◌≤◌, List, ℕ, get_or, length, refl, subst, sym, ap, ◌∙◌, arith}
 use Rattle.std.proofs.lemmas.Option.{get_or_from_slice_get, slice_get_within}
 use Rattle.std.proofs.lemmas.Result.{err_from_is_err_and}
-use Rattle.cs_manifest.specs.Output.Sinks.{IsWritten}
+use Rattle.cs_io.specs.Lines.{IsWritten}
 use Rattle.cs_manifest.specs.Manifest.Lines.{base_line}
 use Rattle.cs_manifest.specs.Manifest.Progress.{Progress}
 use Rattle.cs_manifest.specs.declared.manifest.counts.Counts.{Counts}
@@ -10,10 +10,10 @@ use Rattle.cs_writing.proofs.OnMutants.Taking.{takes_base}
 use Rattle.cs_writing.specs.Plan.Plans.{texts_in}
 use Rattle.cs_texts.specs.Work.Renders.{TakesTokens}
 use Rattle.cs_texts.specs.declared.work.work.RenderWork.{RenderWork}
-use Rattle.cs_writing.specs.declared.writing.halt.Halt.TheVariants.{Failed, Memory}
+use Rattle.cs_io.specs.declared.halt.Halt.TheVariants.{Failed, Memory}
 use Rattle.cs_writing.specs.Writing.Mutants.{IsEditable, negatives_in}
 use Rattle.cs_writing.proofs.OnWriting.Batch.{at_place}
-use Rattle.cs_manifest.proofs.OnOutput.Called.{is_cut, is_written}
+use Rattle.cs_io.proofs.Called.{is_cut, is_written}
 use Rattle.cs_writing.proofs.OnWriting.Mutated.{base_cut, base_memory, base_stops, bases_all, bases_counted, bases_more, bases_none, bases_refused, without_bases}
 use Rattle.cs_writing.proofs.OnWriting.OneBase.{one_base_stops, one_base_written}
 use Rattle.cs_writing.proofs.OnWriting.Parts.{bases_text_stop}

@@ -3,7 +3,7 @@ use Rattle.std.specs.Prelude.{All, IfSome, Option, Some}
 use Rattle.std.proofs.lemmas.Result.{err_from_is_err_and}
 use Rattle.cs_grammar.specs.Grammar.{IsNumberOf}
 use Rattle.cs_io.specs.Faults.{greatest}
-use Rattle.cs_manifest.specs.Output.Sinks.{IsCutShort, IsWritten}
+use Rattle.cs_io.specs.Lines.{IsCutShort, IsWritten}
 use Rattle.cs_manifest.specs.Manifest.Manifest.{negative_entry_lines}
 use Rattle.cs_manifest.specs.Manifest.Named.{IsNamedNegative}
 use Rattle.cs_manifest.specs.Manifest.Progress.{Progress}
@@ -17,7 +17,7 @@ use Rattle.cs_mutate.specs.Negatives.{FindsNext, FitsBase}
 use Rattle.cs_mutate.specs.declared.negative.Negative.{Negative}
 use Rattle.cs_texts.specs.Work.Renders.{TakesTokens}
 use Rattle.cs_yacc.specs.Reading.File.{File}
-use Rattle.cs_writing.specs.declared.writing.halt.Halt.TheVariants.{Failed, Memory}
+use Rattle.cs_io.specs.declared.halt.Halt.TheVariants.{Failed, Memory}
 use Rattle.cs_writing.proofs.OnWriting.Negatives.{fewer_edits, fits_first, made_counted, negative_first, negatives_all, negatives_cut, negatives_few, negatives_memory, negatives_more, negatives_none, told_by}
 use Rattle.cs_writing.proofs.OnWriting.Parts.{made_stop, made_text}
 use Rattle.cs_writing.proofs.OnWriting.Tallies.{counted_negative}

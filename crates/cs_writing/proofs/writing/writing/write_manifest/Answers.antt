@@ -1,5 +1,5 @@
 use Rattle.std.proofs.Common.{◌≡◌, length, subst, sym, ap, ◌∙◌}
-use Rattle.cs_manifest.specs.Output.Sinks.{IsWritten}
+use Rattle.cs_io.specs.Lines.{IsWritten}
 use Rattle.std.proofs.lemmas.Result.{err_from_is_err_and}
 use Rattle.cs_manifest.specs.Output.Putting.{shown}
 use Rattle.cs_manifest.specs.declared.manifest.counts.Counts.{Counts}
@@ -12,7 +12,7 @@ use Rattle.cs_writing.specs.declared.plan.plan.Plan.{Plan}
 use Rattle.cs_verdicts.specs.Positive.Positives.{ToJudge}
 use Rattle.cs_writing.specs.Writing.Writing.{CountsOfAll}
 use Rattle.cs_writing.specs.Writing.Written.{IsFresh}
-use Rattle.cs_manifest.proofs.OnOutput.Called.{is_cut, is_written}
+use Rattle.cs_io.proofs.Called.{is_cut, is_written}
 use Rattle.cs_writing.proofs.OnWriting.Kept.{editable_bases, few_bases}
 use Rattle.cs_writing.proofs.OnWriting.Parts.{HasBases, HasEntries, has_bases, has_entries, some_bases, some_entries}
 use Rattle.cs_writing.proofs.OnWriting.Texts.{bases_stop, counts_are, end_cut, entries_stop, fresh_behind, head_counted, head_cut, head_in, head_written, no_cases_are, weighed_so, whole_text}

@@ -1,8 +1,8 @@
 use Rattle.std.proofs.Common.{◌≡◌, List, ℕ, ap, sym, subst, rules, Option, Result, arith}
 use Rattle.std.proofs.lemmas.Grind.{common_steps}
 use Rattle.std.specs.Prelude.{OnErr, OnOk}
-use Rattle.cs_writing.specs.Writing.Writing.{GrewByOne, GrewByPart}
-use Rattle.cs_writing.proofs.OnWriting.Out.{no_part, on_err}
+use Rattle.cs_io.specs.Asked.{GrewByOne, GrewByPart}
+use Rattle.cs_io.proofs.Out.{no_part, on_err}
 use Rattle.cs_writing.proofs.writing.writing.write_out.Goals as goal
 
 -- what is said of the sink's output is said of the output

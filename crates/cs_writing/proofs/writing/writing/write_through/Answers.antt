@@ -2,7 +2,7 @@ use Rattle.std.proofs.Common.{List, ℕ, ◌∙◌, subst, arith}
 use Rattle.std.proofs.lemmas.Result.{err_from_is_err_and}
 use Rattle.cs_io.specs.Sink.{GrewByPrefix}
 use Rattle.cs_writing.specs.Plan.Plans.{IsPlanned, choice_in}
-use Rattle.cs_writing.proofs.OnWriting.Out.{part_lent, rose_by_each, same_by_each, whole_lent}
+use Rattle.cs_io.proofs.Out.{part_lent, rose_by_each, same_by_each, whole_lent}
 use Rattle.cs_writing.proofs.writing.writing.write_through.Goals as goal
 
 pub returns-in_err-counts-clause-part : goal.returns-in_err-counts-clause-part

@@ -1,9 +1,9 @@
-// Why the writing of a manifest stopped.
+// Why the writing of a text stopped.
 
-use cs_io::SinkError;
+use crate::sink::SinkError;
 use std::alloc::{AllocError, AllocFailed};
 
-/// Why the writing of a manifest stopped.
+/// Why the writing of a text stopped.
 #[derive(Clone, Copy, Debug, PartialEq, Eq)]
 pub enum Halt {
     /// A write failed.
@@ -13,7 +13,7 @@ pub enum Halt {
 
 impl From<AllocError> for Halt {
     ghost use Rattle.std.specs.Prelude.{◌≡◌};
-    ghost use Rattle.cs_writing.specs.declared.writing.halt.Halt.TheVariants.{Memory};
+    ghost use Rattle.cs_io.specs.declared.halt.Halt.TheVariants.{Memory};
 
     ghost from_gives = { λ _ e. e ≡ Memory };
 
@@ -24,7 +24,7 @@ impl From<AllocError> for Halt {
 
 impl<T: Drop> From<AllocFailed<T>> for Halt {
     ghost use Rattle.std.specs.Prelude.{◌≡◌};
-    ghost use Rattle.cs_writing.specs.declared.writing.halt.Halt.TheVariants.{Memory};
+    ghost use Rattle.cs_io.specs.declared.halt.Halt.TheVariants.{Memory};
 
     ghost from_gives = { λ _ e. e ≡ Memory };
 
@@ -35,7 +35,7 @@ impl<T: Drop> From<AllocFailed<T>> for Halt {
 
 impl From<SinkError> for Halt {
     ghost use Rattle.std.specs.Prelude.{◌≡◌};
-    ghost use Rattle.cs_writing.specs.declared.writing.halt.Halt.TheVariants.{Failed};
+    ghost use Rattle.cs_io.specs.declared.halt.Halt.TheVariants.{Failed};
 
     ghost from_gives = { λ _ e. e ≡ Failed };
 

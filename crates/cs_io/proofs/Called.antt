@@ -3,7 +3,7 @@ use Rattle.std.proofs.Common.{◌≡◌, ◌≤◌, List, ℕ, length, inl, inr}
 use Rattle.std.proofs.lemmas.Bool.{cases_lt}
 use Rattle.cs_io.specs.Faults.{Rose}
 use Rattle.cs_io.specs.declared.sink.Sink as Sink
-use Rattle.cs_manifest.specs.Output.Sinks.{HasRoom, IsCutShort, IsWritten, LeavesRoom, Took, TookPart}
+use Rattle.cs_io.specs.Lines.{HasRoom, IsCutShort, IsWritten, LeavesRoom, Took, TookPart}
 
 module _ {S : Type 0} (g : Sink.Ghosts S) (lines : List ℕ) (old new : S) where
   pub is_written : Took g.written old new lines → g.faults new ≡ g.faults old → LeavesRoom g.room old new lines → g.lent new ≡ g.lent old → g.passed old ≤ g.passed new

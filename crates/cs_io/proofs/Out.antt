@@ -8,8 +8,8 @@ use Rattle.cs_io.specs.Faults.{Rose, next_count}
 use Rattle.cs_io.specs.Sink.{GrewByPrefix}
 use Rattle.cs_io.specs.declared.buffered_sink.BufferedSink.{BufferedSink}
 use Rattle.cs_io.proofs.Known.{known_none, lent_prefix}
-use Rattle.cs_manifest.specs.Manifest.Manifest.{IsNotWithout}
-use Rattle.cs_writing.specs.Writing.Writing.{GrewByPart}
+use Rattle.cs_io.specs.Asked.{IsNotWithout}
+use Rattle.cs_io.specs.Asked.{GrewByPart}
 
 -- nothing is a part of each text
 pub no_part : (Is : List ℕ → Type 0) (known : Option (List ℕ)) → GrewByPart Is known known

@@ -4,10 +4,10 @@ use Rattle.std.proofs.Math.Seq.{take-length}
 use Rattle.std.specs.Io.KnownBytes.{append_known}
 use Rattle.cs_io.specs.declared.sink.Sink as Sink
 use Rattle.cs_io.proofs.Known.{known_part, known_then_part}
-use Rattle.cs_manifest.specs.Output.Sinks.{IsCutShort, IsWritten}
-use Rattle.cs_writing.specs.declared.writing.halt.Halt.{Halt}
-use Rattle.cs_writing.specs.declared.writing.halt.Halt.TheVariants.{Failed, Memory}
-use Rattle.cs_writing.specs.Writing.Written.{IsStopped}
+use Rattle.cs_io.specs.Lines.{IsCutShort, IsWritten}
+use Rattle.cs_io.specs.declared.halt.Halt.{Halt}
+use Rattle.cs_io.specs.declared.halt.Halt.TheVariants.{Failed, Memory}
+use Rattle.cs_io.specs.Stops.{IsStopped}
 
 module _ {S : Type 0} {g : Sink.Ghosts S} where
   pub stopped_by_memory : {old new : S} {lines : List ℕ} → IsWritten g lines old new → (more : List ℕ) → IsStopped g (lines ++ more) old new Memory
