@@ -2,6 +2,8 @@
 use Rattle.std.specs.Prelude.{◌≡◌, ℕ, Bool, List, Option}
 use Rattle.cs_io.specs.Desk.{Files}
 use Rattle.cs_io.specs.Faults.{Rose}
+use Rattle.cs_io.specs.declared.desk.Desk as Desk
+use Rattle.cs_io.specs.declared.sink.Sink as Sink
 
 pub record Change (A : Type 0) : Type 0 where
   pub before : A
@@ -30,6 +32,13 @@ sink_use written faults room before after = record {
   faults = record { before = faults before; after = faults after };
   room = room before;
 }
+
+-- the same by all meanings at once
+abbrev pub desk_used : {D : Type 0} → Desk.Ghosts D → D → D → DeskUse
+desk_used g before after = desk_use g.files g.steady g.faults before after
+
+abbrev pub used : {S : Type 0} → Sink.Ghosts S → S → S → SinkUse
+used g before after = sink_use g.written g.faults g.room before after
 
 -- faults rose
 abbrev pub HasFailed : Change ℕ → Type 0
