@@ -223,7 +223,11 @@ pub fn put_names<S: Sink>(output: &mut Output<'_, S>, file: &YaccFile, tokens: &
 
 /// Puts the text line behind the newline above: the text, or why there is none.
 #[inline(never)]
-pub fn put_rendered<S: Sink>(output: &mut Output<'_, S>, file: &YaccFile, rendered: RenderedParts<'_>)
+pub fn put_rendered<S: Sink>(
+    output: &mut Output<'_, S>,
+    file: &YaccFile,
+    rendered: RenderedParts<'_>,
+)
     requires { IsNamedRendering file.now (rendering_in rendered) }
     ensures { Puts S.Sink (text_below file.now (rendering_in rendered.entry))
         output.old output.new }

@@ -1,7 +1,7 @@
 // Why the writing of a suite stopped.
 
-use cs_scanner::AutomatonError;
 use cs_io::Halt;
+use cs_scanner::AutomatonError;
 use std::alloc::{AllocError, AllocFailed};
 
 /// Why the writing of a suite stopped.

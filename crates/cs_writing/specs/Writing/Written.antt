@@ -1,14 +1,14 @@
 -- What was written of a manifest. Working words of proofs.
-use Rattle.std.specs.Prelude.{◌≡◌, ◌≤◌, ℕ, ◌+◌, List, IfSome, MatchResult, Result, count_by, if◌then◌else◌, length, option_map}
+use Rattle.std.specs.Prelude.{◌≡◌, ◌≤◌, ℕ, ◌+◌, List, IfSome, Result, count_by, if◌then◌else◌, length, option_map}
 use Rattle.cs_writing.specs.Bases.Bases.{PlainBases, bases_of}
 use Rattle.cs_verdicts.specs.Cases.Cases.{PlainCases, no_cases}
 use Rattle.cs_grammar.specs.Weights.{Weighed}
 use Rattle.cs_goals.specs.Goals.{goals}
-use Rattle.cs_io.specs.Faults.{Rose, greatest}
+use Rattle.cs_io.specs.Faults.{greatest}
 use Rattle.cs_io.specs.declared.sink.Sink as Sink
 use Rattle.cs_io.specs.declared.sink.SinkError.{SinkError}
 use Rattle.cs_manifest.specs.Output.Putting.{shown}
-use Rattle.cs_io.specs.Lines.{HasRoom, IsWritten, TookPart, Writes}
+use Rattle.cs_io.specs.Lines.{Writes}
 use Rattle.cs_manifest.specs.Output.Words.{numbered_from}
 use Rattle.cs_manifest.specs.declared.manifest.counts.Counts.{Counts}
 use Rattle.cs_choices.specs.declared.format.Format.{Format}
@@ -23,8 +23,6 @@ use Rattle.cs_yacc.specs.Reading.File.{File}
 use Rattle.cs_writing.specs.declared.plan.plan.Plan.{Plan}
 use Rattle.cs_writing.specs.Plan.Made.{MadeEntry, case_lines_in, entries_of, goal_lines_in, has_new_case, made_lines, new_cases}
 use Rattle.cs_writing.specs.Plan.Plans.{IsOfPlan, IsPlan, choice_in, format_by, lexemes_in, sharing_in, texts_in}
-use Rattle.cs_io.specs.declared.halt.Halt.{Halt}
-use Rattle.cs_io.specs.declared.halt.Halt.TheVariants.{Failed}
 
 -- ---- the lines of goals
 
