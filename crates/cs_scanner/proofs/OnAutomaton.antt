@@ -1,4 +1,5 @@
 pub mod Lists
+pub mod Listing
 pub mod Linear
 pub mod Places
 pub mod Full

@@ -5,6 +5,7 @@ pub mod Differing
 pub mod Stepping
 pub mod Meeting
 pub mod Reaching
+pub mod Seeing
 pub mod Standing
 pub mod Winning
 pub mod LawProofs

@@ -3,6 +3,7 @@ pub mod Linear
 pub mod Meaning
 pub mod Places
 pub mod Reached
+pub mod Listed
 pub mod Rules
 pub mod Exits
 pub mod Flat

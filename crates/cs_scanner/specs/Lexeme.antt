@@ -7,5 +7,7 @@ pub mod Steps
 pub mod Number
 pub mod Table
 pub mod Visits
+pub mod StateTexts
+pub mod Seen
 pub mod Kinds
 pub mod Laws

@@ -5,7 +5,7 @@
 //! - `automaton`: the automaton of a list of patterns: what a scanner built from them knows after each text, decided
 //!   without walking patterns (the positions of patterns: McNaughton and Yamada 1960, Glushkov 1961; sets as states:
 //!   Rabin and Scott 1959).
-//! - `scan`: the longest match at a place of a text, the first rule that has it, and whether a text scans to a list of
+//! - `scanning`: the longest match at a place of a text, the first rule that has it, and whether a text scans to a list of
 //!   tokens (POSIX.1-2017, lex).
 //! - `lexeme`: the least text that a scanner takes for each token.
 //!
@@ -14,12 +14,14 @@
 
 mod automaton;
 mod lexeme;
-mod scan;
+mod scanning;
 
-pub use automaton::{Automaton, AutomatonError};
+pub use automaton::{Automaton, AutomatonError, State};
 pub use lexeme::{
-    Lexemes, one_lexeme, one_list_of_lexemes, some_lexeme, some_list_of_lexemes, total_order,
+    Lexemes, StateTexts, one_lexeme, one_list_of_lexemes, some_lexeme, some_list_of_lexemes,
+    total_order,
 };
-pub use scan::{
-    Agreement, Scanner, agrees, longest, one_match, one_scan, shared_scanner, some_scan,
+pub use scanning::{
+    Agreement, Scanned, Scanner, agrees, longest, one_match, one_scan, one_stop, scan,
+    shared_scanner, some_scan, stop_or_whole,
 };

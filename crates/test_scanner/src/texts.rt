@@ -8,3 +8,5 @@ mod files;
 mod lexemes;
 #[cfg(test)]
 mod rendering;
+#[cfg(test)]
+mod scanned;

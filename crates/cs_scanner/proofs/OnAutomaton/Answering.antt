@@ -1,25 +1,31 @@
 -- What an automaton answers, from its tables.
-use Rattle.std.proofs.Common.{◌≡◌, ◌≢◌, ℕ, zero, suc, ◌*◌, ◌/◌, ◌<◌, Bool, true, List, [], ◌∷◌, ◌++◌, inl, inr, Some, None, refl, sym, ap, ◌∙◌, subst, arith, length, map, Contains, get_or}
-use Rattle.std.specs.Prelude.{slice_get, Option, IfSome}
+use Rattle.std.proofs.Common.{◌≡◌, ◌≢◌, ℕ, zero, suc, ◌*◌, ◌/◌, ◌<◌, ◌≤◌, Bool, true, List, [], ◌∷◌, ◌++◌, inl, inr, Some, None, refl, sym, ap, ◌∙◌, subst, arith, length, map, Contains, get_or}
+use Rattle.std.specs.Prelude.{slice_get, Option, IfSome, IsTrue, ◌↔◌, Result, Ok, Err, is_ok}
+use Rattle.std.specs.List.Sorted.{IsBinarySearchResult}
+use Rattle.std.specs.Ordering.{nat_cmp}
+use Rattle.std.specs.Result.{MatchResult}
+use Rattle.std.proofs.lemmas.List.Elements.{Contains-get_or}
+use Rattle.std.proofs.lemmas.List.Sorted.{searched}
+use Rattle.cs_pattern_parts.specs.Tree.Pattern.{Regex, regex}
+use Rattle.cs_scanner.proofs.OnAutomaton.Listing.{ascend_most}
 use Rattle.std.proofs.lemmas.Bool.{false≢true, cases_lt}
-use Rattle.std.proofs.lemmas.List.{length-map}
+use Rattle.std.proofs.lemmas.List.{length-map, get_or_default}
 use Rattle.std.proofs.lemmas.Option.{slice_get_within}
 use Rattle.cs_pattern_parts.specs.Items.Members.{picked}
 use Rattle.cs_pattern_parts.proofs.OnItems.Picked.{has_picked_above, has_picked, has-contains, contains-has}
 use Rattle.cs_pattern_parts.specs.declared.tree.pattern.Pattern.{Pattern}
-use Rattle.cs_pattern_parts.specs.Tree.Pattern.{regex}
 use Rattle.cs_scanner.specs.Automaton.Automata.{members, step_at, AreTables}
 use Rattle.cs_scanner.specs.Automaton.Bits.{bit}
-use Rattle.cs_scanner.specs.Automaton.Machine.{Machine, StateOf, IsNextState, IsFirstRule}
+use Rattle.cs_scanner.specs.Automaton.Machine.{Machine, StateOf, IsNextState, IsFirstRule, MatchesRule, AreMatching}
 use Rattle.cs_scanner.specs.Automaton.Meaning.{res, all_classes}
 use Rattle.cs_scanner.specs.Automaton.Places.{IsSet}
 use Rattle.cs_scanner.specs.Automaton.Re.{Re}
-use Rattle.cs_scanner.specs.Automaton.Rules.{IsFirstSpelled, IsBegunSpelled}
-use Rattle.cs_scanner.specs.Automaton.States.{StandsFor, IsStep, AreColumns, IsBuilt, AreFirstRules, AreFull, HasSome, IsColumn}
+use Rattle.cs_scanner.specs.Automaton.Rules.{AreSpelled, IsBegunSpelled}
+use Rattle.cs_scanner.specs.Automaton.States.{StandsFor, IsStep, AreColumns, IsBuilt, AreRulesOf, AreFull, HasSome, IsColumn}
 use Rattle.cs_scanner.proofs.OnAutomaton.BitLemmas.{past_bit}
 use Rattle.cs_scanner.proofs.OnAutomaton.Counting.{full_all, byte_step, step_within}
 use Rattle.cs_scanner.proofs.OnAutomaton.Growing.{append_some}
-use Rattle.cs_scanner.proofs.OnAutomaton.Meanings.{first_matched, begun_spelled, begun_matched}
+use Rattle.cs_scanner.proofs.OnAutomaton.Meanings.{all_matched, begun_spelled, begun_matched}
 use Rattle.cs_scanner.proofs.OnAutomaton.Reached.{in_set_reaches, reaches_in_set}
 use Rattle.cs_scanner.proofs.OnAutomaton.Rules.{begun_reaches, reaches_begun}
 
@@ -88,7 +94,7 @@ module _ (patterns : List Pattern) (ws : List (List ℕ)) where
       ),
     )
 
-  module _ (steps : List (List (Option ℕ))) (column_of : List ℕ) (first_rules : List (Option ℕ)) (t : AreTables rs ws steps column_of first_rules) where
+  module _ (steps : List (List (Option ℕ))) (column_of : List ℕ) (rules : List (List ℕ)) (t : AreTables rs ws steps column_of rules) where
     state_begun : (j : ℕ) (x : List ℕ) → x ≢ [] → StandsFor rs ws j x → IsBegunSpelled rs x
     state_begun zero x ne s = absurd (ne s)
     state_begun (suc j) x ne s =
@@ -111,14 +117,42 @@ module _ (patterns : List Pattern) (ws : List (List ℕ)) where
     answer_within k byte None lt fits is = tt
     answer_within k byte (Some j) lt fits is = let below = t.within k byte j lt fits (sym is) in omega (arith, below, length-map ws members)
 
-    pub rule_answer : (k : ℕ) (answer : Option ℕ) → k < length ws → answer ≡ get_or first_rules k None → (x : List ℕ) → StateOf machine k x → IsFirstRule (map regex patterns) x answer
-    rule_answer k answer lt is x s =
-        first_matched (map regex patterns) x answer (subst (λ o. IsFirstSpelled rs x o) (sym is) (t.rules k x (omega (arith, lt, t.each)) (viewed t.full k x s)))
+    pub rules_answer : (k : ℕ) (row : List ℕ) → k < length ws → row ≡ get_or rules k [] → (x : List ℕ) → StateOf machine k x → AreMatching (map regex patterns) x row
+    rules_answer k row lt is x s =
+        all_matched (map regex patterns) x row (subst (λ o. AreSpelled rs x o) (sym is) (t.rules_are k x (omega (arith, lt, t.each)) (viewed t.full k x s)))
+
+-- ---- from the rules that match
+
+-- the first of them is the lowest
+pub first_matches : (ps : List Regex) (x rules : List ℕ) (answer : Option ℕ) → AreMatching ps x rules → answer ≡ slice_get rules 0 → IsFirstRule ps x answer
+first_matches ps x [] None are is = λ rule m. let c = are.all rule m in omega (arith, c.1)
+first_matches ps x [] (Some rule) are is = absurd cc
+first_matches ps x (r ∷ rules) None are is = absurd cc
+first_matches ps x (r ∷ rules) (Some rule) are is =
+    let same : rule ≡ r = cc in
+    subst (λ n. IsFirstRule ps x (Some n)) (sym same) (
+      are.only r (Contains-get_or (r ∷ rules) 0 0 (omega arith)),
+      λ other m. let c = are.all other m in omega (arith, ascend_most (r ∷ rules) are.ascend 0 c.0 (omega arith) c.1, get_or_default (r ∷ rules) c.0 0 other c.1, c.2),
+    )
+
+-- what a search finds of a rule
+pub found_matches : (ps : List Regex) (x rules : List ℕ) (rule : ℕ) (r : Result ℕ ℕ) → AreMatching ps x rules → IsBinarySearchResult (λ y. nat_cmp y rule) rules r → IsTrue (is_ok r) ↔ MatchesRule ps rule x
+found_matches ps x rules rule r are h = by r (searched rules rule r h (ascend_most rules are.ascend))
+  where
+    by : (r : Result ℕ ℕ) → MatchResult r (λ i. (i < length rules) × (get_or rules i 0 ≡ rule)) (λ i. (i ≤ length rules) × ((k : ℕ) → k < i → get_or rules k 0 < rule) × ((k : ℕ) → i ≤ k → k < length rules → rule < get_or rules k 0)) → IsTrue (is_ok r) ↔ MatchesRule ps rule x
+    by (Ok i) found = (λ yes. are.only rule (subst (Contains rules) found.1 (Contains-get_or rules i 0 found.0)), λ m. refl)
+    by (Err i) lost = (
+      λ yes. absurd cc,
+      λ m.
+          let c = are.all rule m in
+          let here = get_or_default rules c.0 0 rule c.1 in
+          absurd (elim (cases_lt c.0 i) [ inl less ↦ omega (arith, lost.1 c.0 less, here, c.2) | inr most ↦ omega (arith, lost.2 c.0 most c.1, here, c.2) ]),
+    )
 
 -- ---- the tables of what was built
 
-pub tables_of : (qs : List (Re (List ℕ))) (rows : List (List ℕ)) (column_of : List ℕ) (width : ℕ) (sets : List (List ℕ)) (steps : List (List (Option ℕ))) (first_rules : List (Option ℕ)) → AreFull qs → AreColumns (all_classes qs) rows column_of width → IsBuilt qs rows width 16384 sets steps → AreFirstRules qs sets first_rules → length first_rules ≡ length sets → AreTables qs sets steps column_of first_rules
-tables_of qs rows column_of width sets steps first_rules full columns built rules each =
+pub tables_of : (qs : List (Re (List ℕ))) (rows : List (List ℕ)) (column_of : List ℕ) (width : ℕ) (sets : List (List ℕ)) (steps : List (List (Option ℕ))) (rules : List (List ℕ)) → AreFull qs → AreColumns (all_classes qs) rows column_of width → IsBuilt qs rows width 16384 sets steps → AreRulesOf qs sets rules → length rules ≡ length sets → AreTables qs sets steps column_of rules
+tables_of qs rows column_of width sets steps rules full columns built are each =
     record {
       full = full;
       width = width;
@@ -131,7 +165,7 @@ tables_of qs rows column_of width sets steps first_rules full columns built rule
           omega (arith, (built.steps_are k row at).0, slice_get_within rows (get_or column_of byte 0) c.0 c.1);
       step = λ k byte lt fits. byte_step qs full rows column_of width 16384 columns sets steps built k byte lt fits;
       within = λ k byte j lt fits e. step_within qs full rows column_of width 16384 columns sets steps built k byte j lt (subst (λ o. IsStep qs sets k byte o) e (byte_step qs full rows column_of width 16384 columns sets steps built k byte lt fits));
-      rules = rules;
+      rules_are = are;
       each = each;
     }
 

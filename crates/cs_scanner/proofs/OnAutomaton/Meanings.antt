@@ -1,12 +1,13 @@
 -- Matching, by the pattern's parts or by two parts at each join and either.
 use Rattle.std.proofs.Common.{◌≡◌, ℕ, zero, suc, List, [], ◌∷◌, ◌++◌, inl, inr, Some, refl, sym, ap, subst}
-use Rattle.std.specs.Prelude.{slice_get, Option, None}
+use Rattle.std.specs.Prelude.{slice_get}
 use Rattle.cs_pattern_parts.specs.Tree.Pattern.{Regex, Empty, Class, Join, Either, Many, Parts, Nothing, Then, Repeats, no_more, one_more, Matches, MatchInOrder, SomeMatches}
 use Rattle.cs_scanner.specs.Automaton.Re as tree
 use Rattle.cs_scanner.specs.Automaton.Re.{Re, Spells}
 use Rattle.cs_scanner.specs.Automaton.Meaning.{re, cat_of, alt_of, res, Has}
-use Rattle.cs_scanner.specs.Automaton.Rules.{SpellsRule, IsFirstSpelled, IsBegunSpelled}
-use Rattle.cs_scanner.specs.Automaton.Machine.{MatchesRule, IsFirstRule, IsBegun}
+use Rattle.cs_scanner.specs.Automaton.Rules.{SpellsRule, AreSpelled, IsBegunSpelled}
+use Rattle.cs_scanner.specs.Automaton.Machine.{MatchesRule, AreMatching, IsBegun}
+use Rattle.cs_scanner.proofs.OnAutomaton.Listing.{lists_same}
 
 to_parts : (P Q : List ℕ → Type 0) → ((x : List ℕ) → P x → Q x) → {x : List ℕ} → Repeats P x → tree.Parts Q x
 to_parts P Q f no_more = tree.no_parts
@@ -70,9 +71,8 @@ rule_matched ps rule x m =
     let b = back ps m.index m.pattern m.at in
     record { index = m.index; pattern = b.0; number = m.number; at = b.1; matched = matches b.0 x (subst (λ t. Spells Has t x) (sym b.2) m.spelled) }
 
-pub first_matched : (ps : List Regex) (x : List ℕ) (answer : Option ℕ) → IsFirstSpelled (res ps) x answer → IsFirstRule ps x answer
-first_matched ps x None h = λ rule m. h rule (rule_spelled ps rule x m)
-first_matched ps x (Some rule) h = (rule_matched ps rule x h.0, λ other m. h.1 other (rule_spelled ps other x m))
+pub all_matched : (ps : List Regex) (x rules : List ℕ) → AreSpelled (res ps) x rules → AreMatching ps x rules
+all_matched ps x rules h = lists_same (λ rule. SpellsRule (res ps) rule x) (λ rule. MatchesRule ps rule x) rules (λ rule m. rule_matched ps rule x m) (λ rule m. rule_spelled ps rule x m) h
 
 pub begun_spelled : (ps : List Regex) (x : List ℕ) → IsBegun ps x → IsBegunSpelled (res ps) x
 begun_spelled ps x b = (b.0, b.1, rule_spelled ps b.0 (x ++ b.1) b.2)

@@ -1,7 +1,7 @@
 -- The sets that walks give are the sets that texts reach.
-use Rattle.std.proofs.Common.{◌≡◌, ◌≢◌, ℕ, zero, suc, ◌+◌, ◌<◌, ◌≤◌, Bool, true, false, IsTrue, List, [], ◌∷◌, ◌++◌, inl, inr, Some, None, refl, sym, ap, ◌∙◌, subst, arith, length, take, Contains, length-append}
-use Rattle.std.specs.Prelude.{◌&&◌, ◌||◌, slice_get, Option}
-use Rattle.std.proofs.lemmas.Bool.{false≢true, and_parts, and_from, or_cases, cases_lt}
+use Rattle.std.proofs.Common.{◌≡◌, ◌≢◌, ℕ, zero, suc, ◌+◌, ◌<◌, ◌≤◌, Bool, true, false, IsTrue, List, [], ◌∷◌, ◌++◌, inl, inr, Some, refl, sym, ap, ◌∙◌, subst, arith, length, take, Contains, length-append}
+use Rattle.std.specs.Prelude.{◌&&◌, ◌||◌, slice_get}
+use Rattle.std.proofs.lemmas.Bool.{false≢true, and_parts, and_from, or_cases}
 use Rattle.std.proofs.lemmas.Option.{slice_get_within}
 use Rattle.cs_scanner.specs.Automaton.Re.{Re, empty, letter, nothing, cat, alt, many}
 use Rattle.cs_scanner.specs.Automaton.Bits.{bit}
@@ -10,9 +10,10 @@ use Rattle.cs_scanner.specs.Automaton.Linear.{nullable, all_nullable, Starts, St
 use Rattle.cs_scanner.specs.Automaton.Meaning.{Has, classes, all_classes}
 use Rattle.cs_scanner.specs.Automaton.Places.{Place, letters, with_places, any_of, whole, HasByte, all_letters}
 use Rattle.cs_scanner.specs.Automaton.Reached.{Reaches, begins, goes_on}
-use Rattle.cs_scanner.specs.Automaton.Rules.{SpellsRule, IsFirstSpelled}
-use Rattle.cs_scanner.specs.Automaton.States.{Follows, AreNext, IsReached, IsRow, EndsAt, IsLowest}
+use Rattle.cs_scanner.specs.Automaton.Rules.{SpellsRule, AreSpelled}
+use Rattle.cs_scanner.specs.Automaton.States.{Follows, AreNext, IsReached, IsRow, EndsAt, EndsBelow, AreEnding}
 use Rattle.cs_scanner.proofs.OnAutomaton.Exits.{final_stands, first_next, behind_next, ends_final, next_comes, Comes, entering, behind}
+use Rattle.cs_scanner.proofs.OnAutomaton.Listing.{lists_same}
 use Rattle.cs_scanner.proofs.OnAutomaton.Linear.{nullable_spells, spells_nullable}
 use Rattle.cs_scanner.proofs.OnAutomaton.Places.{within, one_of_any, start_stands, stands_more}
 use Rattle.cs_scanner.proofs.OnAutomaton.Reached.{reaches_stands}
@@ -221,7 +222,7 @@ module _ (rs : List (Re (List ℕ))) where
             | inr g ↦ absurd g.1
           ]
 
-  -- ---- the first rule
+  -- ---- the rules that match
 
   pub ends_rule : (x : List ℕ) (S : ℕ → Bool) (index : ℕ) → x ≢ [] → IsReached rs x S → EndsAt rs S false index → SpellsRule rs (suc index) x
   ends_rule x S index ne is e =
@@ -234,21 +235,16 @@ module _ (rs : List (Re (List ℕ))) where
       let same = one_of_any 1 0 rs [] r.place f.place r.next f.mid (reaches_stands rs r.reaches) stands r.number in
       reached_rule rs (suc index) x r.place r.next r.reaches (ap (λ t. t.rule) same.0 ∙ w.of_rule) (subst (λ t. IsTrue (all_nullable t)) (sym same.1) (f.leaves.ends refl))
 
-  -- the index of a rule that ends
   abbrev Ending : (ℕ → Bool) → Bool → ℕ → Type 0
-  Ending S entered rule = (index : ℕ) × (rule ≡ suc index) × (index < length rs) × EndsAt rs S entered index
+  Ending S entered rule = EndsBelow rs S entered (length rs) rule
 
   ending : (S : ℕ → Bool) (entered : Bool) (x : List ℕ) (rule : ℕ) (m : SpellsRule rs rule x) → ((number from : ℕ) → number ≡ suc m.index → from ≡ all_letters (take m.index rs) → exit S (with_places number from m.pattern) entered ≡ true) → Ending S entered rule
   ending S entered x rule m ends = (m.index, m.number, slice_get_within rs m.index m.pattern m.at, record { pattern = m.pattern; at = m.at; ends = ends })
 
   -- where the rules that end are those that spell the text
-  first_spelled : (S : ℕ → Bool) (entered : Bool) (x : List ℕ) (answer : Option ℕ) → ((index : ℕ) → EndsAt rs S entered index → SpellsRule rs (suc index) x) → ((rule : ℕ) → SpellsRule rs rule x → Ending S entered rule) → IsLowest rs S entered (length rs) answer → IsFirstSpelled rs x answer
-  first_spelled S entered x None spells ends low = λ rule m. let e = ends rule m in low e.0 e.2 e.3
-  first_spelled S entered x (Some rule) spells ends low =
-      (subst (λ n. SpellsRule rs n x) (sym low.1) (spells low.0 low.3), λ other m. let e = ends other m in least e.0 (omega (arith, e.1)) e.3)
-    where
-      least : (index : ℕ) {other : ℕ} → other ≡ suc index → EndsAt rs S entered index → rule ≤ other
-      least index {other} e h = elim (cases_lt index low.0) [ inl lt ↦ absurd (low.4 index lt h) | inr le ↦ omega (arith, e, le, low.1) ]
+  all_spelled : (S : ℕ → Bool) (entered : Bool) (x rules : List ℕ) → ((index : ℕ) → EndsAt rs S entered index → SpellsRule rs (suc index) x) → ((rule : ℕ) → SpellsRule rs rule x → Ending S entered rule) → AreEnding rs S entered (length rs) rules → AreSpelled rs x rules
+  all_spelled S entered x rules spells ends are =
+      lists_same (Ending S entered) (λ rule. SpellsRule rs rule x) rules (λ rule e. subst (λ n. SpellsRule rs n x) (sym e.1) (spells e.0 e.3)) ends are
 
   rule_ends : (x : List ℕ) (S : ℕ → Bool) (rule : ℕ) → x ≢ [] → IsReached rs x S → SpellsRule rs rule x → Ending S false rule
   rule_ends x S rule ne is m =
@@ -257,8 +253,8 @@ module _ (rs : List (Re (List ℕ))) where
       let marked = is.all r.0.number (record { place = r.0; next = r.1; reaches = r.2; number = refl }) in
       ending S false x rule m (λ number from n b. (ends_final S (with_places number from m.pattern) [] r.0 r.1 (at_stands 1 0 rs m.index number from m.pattern r.0 r.1 m.at (omega (arith, n)) (omega (arith, b)) (omega (arith, r.3, m.number, n)) stands) marked r.4).0)
 
-  pub lowest_first : (x : List ℕ) (S : ℕ → Bool) (answer : Option ℕ) → x ≢ [] → IsReached rs x S → IsLowest rs S false (length rs) answer → IsFirstSpelled rs x answer
-  lowest_first x S answer ne is = first_spelled S false x answer (λ index e. ends_rule x S index ne is e) (λ rule m. rule_ends x S rule ne is m)
+  pub ending_spelled : (x : List ℕ) (S : ℕ → Bool) (rules : List ℕ) → x ≢ [] → IsReached rs x S → AreEnding rs S false (length rs) rules → AreSpelled rs x rules
+  ending_spelled x S rules ne is = all_spelled S false x rules (λ index e. ends_rule x S index ne is e) (λ rule m. rule_ends x S rule ne is m)
 
   -- at the start
 
@@ -277,5 +273,5 @@ module _ (rs : List (Re (List ℕ))) where
   start_rule : (S : ℕ → Bool) (rule : ℕ) → SpellsRule rs rule [] → Ending S true rule
   start_rule S rule m = ending S true [] rule m (λ number from n b. ap (λ t. t || final S (with_places number from m.pattern)) (numbered_nullable number from m.pattern ∙ spells_nullable Has m.pattern [] refl m.spelled))
 
-  pub start_first : (S : ℕ → Bool) (answer : Option ℕ) → ((n : ℕ) → S n ≡ false) → IsLowest rs S true (length rs) answer → IsFirstSpelled rs [] answer
-  start_first S answer none = first_spelled S true [] answer (λ index e. start_ends S index none e) (λ rule m. start_rule S rule m)
+  pub start_spelled : (S : ℕ → Bool) (rules : List ℕ) → ((n : ℕ) → S n ≡ false) → AreEnding rs S true (length rs) rules → AreSpelled rs [] rules
+  start_spelled S rules none = all_spelled S true [] rules (λ index e. start_ends S index none e) (λ rule m. start_rule S rule m)

@@ -16,6 +16,22 @@ use Rattle.cs_scanner.proofs.OnLexeme.Lists.{has_at}
 use Rattle.cs_scanner.proofs.OnLexeme.Ranking.{rank_within}
 use Rattle.cs_scanner.proofs.OnLexeme.Numbers.{number_pushed, head_byte, tail_bytes}
 
+-- a place has at most one text
+pub spells_one : (visits : List Visit) (k : ℕ) (x y : List ℕ) → Spells visits k x → Spells visits k y → x ≡ y
+spells_one visits k x y (Spells.begins _ v _ at none e) (Spells.begins _ w _ also nothing f) = e ∙ sym f
+spells_one visits k x y (Spells.begins _ v _ at none e) (Spells.goes_on _ w o front _ also some s f) =
+    let same : v ≡ w = cc in
+    absurd (cc (ap (λ (t : Visit). t.origin) same))
+spells_one visits k x y (Spells.goes_on _ v o front _ at some s e) (Spells.begins _ w _ also nothing f) =
+    let same : v ≡ w = cc in
+    absurd (cc (ap (λ (t : Visit). t.origin) same))
+spells_one visits k x y (Spells.goes_on _ v o front _ at some s e) (Spells.goes_on _ w p fore _ also same t f) =
+    let one : v ≡ w = cc in
+    let origins : o ≡ p = cc (ap (λ (u : Visit). u.origin) one) in
+    let P : Origin → Type 0 = λ q. Spells visits q.place fore in
+    let fronts : front ≡ fore = spells_one visits o.place front fore s (subst P (sym origins) t) in
+    cc
+
 module _ (m : Machine) (visits : List Visit) (a : AreVisits m visits) where
   pub linked_by : (k : ℕ) (v : Visit) (origin : Option Origin) → slice_get visits k ≡ Some v → v.origin ≡ origin → IsLinked m visits k v.state origin
   linked_by k v origin at e = let P : Option Origin → Type 0 = λ o. IsLinked m visits k v.state o in subst P e (a.linked k v at)
@@ -38,19 +54,7 @@ module _ (m : Machine) (visits : List Visit) (a : AreVisits m visits) where
 
   -- and only one
   pub one_text : (k : ℕ) (x y : List ℕ) → Spells visits k x → Spells visits k y → x ≡ y
-  one_text k x y (Spells.begins _ v _ at none e) (Spells.begins _ w _ also nothing f) = e ∙ sym f
-  one_text k x y (Spells.begins _ v _ at none e) (Spells.goes_on _ w o front _ also some s f) =
-      let same : v ≡ w = cc in
-      absurd (cc (ap (λ (t : Visit). t.origin) same))
-  one_text k x y (Spells.goes_on _ v o front _ at some s e) (Spells.begins _ w _ also nothing f) =
-      let same : v ≡ w = cc in
-      absurd (cc (ap (λ (t : Visit). t.origin) same))
-  one_text k x y (Spells.goes_on _ v o front _ at some s e) (Spells.goes_on _ w p fore _ also same t f) =
-      let one : v ≡ w = cc in
-      let origins : o ≡ p = cc (ap (λ (u : Visit). u.origin) one) in
-      let P : Origin → Type 0 = λ q. Spells visits q.place fore in
-      let fronts : front ≡ fore = one_text o.place front fore s (subst P (sym origins) t) in
-      cc
+  one_text k x y s t = spells_one visits k x y s t
 
   -- the state stands for its text, which is bytes
   pub text_stands : (k : ℕ) (x : List ℕ) → Spells visits k x → (v : Visit) → slice_get visits k ≡ Some v → StateOf m v.state x × AreBytes x
@@ -103,6 +107,9 @@ module _ (m : Machine) (visits : List Visit) (a : AreVisits m visits) where
       let lighter : weight u.0 < weight_of o.place o.byte = subst P some rises in
       let low = soon_below n 1 o.place o.byte front (omega arith) (ordered_below n) (omega (arith, l.earlier)) l.byte t j u.0 x u.1 (omega (arith, lighter)) s in
       omega (arith, low, it)
+
+  pub ordered_more : (j k : ℕ) (x y : List ℕ) → j < k → Spells visits j x → Spells visits k y → number x < number y
+  ordered_more j k x y less s t = ordered_below (suc k) j k x y less (omega arith) s t
 
   -- the texts come in the order of their places
   pub ordered : (j k : ℕ) (x y : List ℕ) → j ≤ k → Spells visits j x → Spells visits k y → number x ≤ number y

@@ -3,9 +3,9 @@ use Rattle.std.proofs.Common.{◌≡◌, ◌≢◌, ℕ, zero, suc, ◌+◌, ◌
 use Rattle.std.proofs.lemmas.List.{append-nil, take_all, drop_all, length-take-le, take_more}
 use Rattle.std.proofs.lemmas.Option.{get_or_from_slice_get, slice_get_within}
 use Rattle.std.proofs.lemmas.Bool.Decides.{nat_tests}
-use Rattle.cs_scanner.specs.Scan.Scan.{Scanning, Gives, Runs, Scans, ends, stops, goes_on, in_common}
+use Rattle.cs_scanner.specs.Scan.Scan.{Scanning, Gives, GivesNone, Runs, Scans, ends, stops, goes_on, in_common}
 use Rattle.cs_scanner.specs.Scan.Compared.{IsInCommon}
-use Rattle.cs_scanner.specs.Scan.Going.{GivesNone, IsBegunBy}
+use Rattle.cs_scanner.specs.Scan.Going.{IsBegunBy}
 use Rattle.cs_scanner.proofs.OnScan.OneMatch.{gives_one, no_match, runs_one}
 
 in_common_nil : (xs : List ℕ) → in_common xs [] ≡ 0

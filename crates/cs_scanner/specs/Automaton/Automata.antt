@@ -3,7 +3,7 @@ use Rattle.std.specs.Prelude.{◌≡◌, ℕ, ◌*◌, ◌<◌, ◌≤◌, ◌+�
 use Rattle.cs_pattern_parts.specs.Items.Members.{picked}
 use Rattle.cs_scanner.specs.Automaton.Bits.{bit}
 use Rattle.cs_scanner.specs.Automaton.Re.{Re}
-use Rattle.cs_scanner.specs.Automaton.States.{AreFull, HasStates, IsStep, AreFirstRules}
+use Rattle.cs_scanner.specs.Automaton.States.{AreFull, AreRulesOf, HasStates, IsStep}
 
 -- the numbers of a set, ascending
 abbrev pub members : List ℕ → List ℕ
@@ -13,7 +13,7 @@ members words = picked (bit words) (64 * length words)
 abbrev pub step_at : List (List (Option ℕ)) → List ℕ → ℕ → ℕ → Option ℕ
 step_at steps column_of state byte = slice_index_or (slice_index_or steps state []) (slice_index column_of byte) None
 
-pub record AreTables (rs : List (Re (List ℕ))) (sets : List (List ℕ)) (steps : List (List (Option ℕ))) (column_of : List ℕ) (first_rules : List (Option ℕ)) : Type 0 where
+pub record AreTables (rs : List (Re (List ℕ))) (sets : List (List ℕ)) (steps : List (List (Option ℕ))) (column_of : List ℕ) (rules : List (List ℕ)) : Type 0 where
   pub full : AreFull rs
   pub width : ℕ
   pub states : HasStates rs width sets
@@ -23,5 +23,5 @@ pub record AreTables (rs : List (Re (List ℕ))) (sets : List (List ℕ)) (steps
   pub columns_within : (k byte : ℕ) (row : List (Option ℕ)) → slice_get steps k ≡ Some row → byte < 256 → slice_index column_of byte < length row
   pub step : (k byte : ℕ) → k < length sets → byte < 256 → IsStep rs sets k byte (step_at steps column_of k byte)
   pub within : (k byte j : ℕ) → k < length sets → byte < 256 → step_at steps column_of k byte ≡ Some j → j < length sets
-  pub rules : AreFirstRules rs sets first_rules
-  pub each : length first_rules ≡ length sets
+  pub rules_are : AreRulesOf rs sets rules
+  pub each : length rules ≡ length sets

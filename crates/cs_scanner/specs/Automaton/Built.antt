@@ -14,12 +14,12 @@ abbrev pub AreColumnsOf : List (List ℕ) → ℕ → Columns → Type 0
 AreColumnsOf classes width c = spec.AreColumns classes (lists c.rows.keys) c.column_of.items width
 
 -- all rules of the program were walked over a set
-abbrev pub WalksAll : Program → Bool → List ℕ → List ℕ → List ℕ → Option ℕ → Type 0
-WalksAll p entered set old new rule = spec.IsWalkedAll (rules_of p) entered set old new rule
+abbrev pub WalksAll : Program → Bool → List ℕ → List ℕ → List ℕ → List ℕ → Type 0
+WalksAll p entered set old new rules = spec.IsWalkedAll (rules_of p) entered set old new rules
 
--- what may come behind a set, entered or not, and the first rule that ends there
+-- what may come behind a set, entered or not, and the rules that end there
 abbrev pub IsBehind : Program → Bool → List ℕ → Behind → Type 0
-IsBehind p entered set b = spec.IsAfter (rules_of p) entered set b.next.items b.first_rule
+IsBehind p entered set b = spec.IsAfter (rules_of p) entered set b.next.items b.rules.items
 
 -- the lists are of that length
 abbrev pub AreLong : ℕ → List (List ℕ) → Type 0
@@ -37,6 +37,6 @@ AddsSteps old new next rows steps = spec.AddsSteps (lists old) (lists new) next 
 abbrev pub AreStates : Program → List (Vec ℕ Global) → ℕ → States → Type 0
 AreStates p rows width s = spec.IsBuilt (rules_of p) (lists rows) width 16384 (lists s.sets.keys) (spec.option_lists s.steps.items)
 
--- the first rule of each state
-abbrev pub HaveFirstRules : Program → States → Type 0
-HaveFirstRules p s = spec.AreFirstRules (rules_of p) (lists s.sets.keys) s.first_rules.items
+-- the rules that match the texts of each state
+abbrev pub HaveRules : Program → States → Type 0
+HaveRules p s = spec.AreRulesOf (rules_of p) (lists s.sets.keys) (lists s.rules.items)

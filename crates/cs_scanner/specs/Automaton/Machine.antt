@@ -2,6 +2,7 @@
 use Rattle.std.specs.Prelude.{◌≡◌, ◌≢◌, ℕ, zero, suc, ◌≤◌, List, [], ◌∷◌, ◌++◌, Option, Some, None, slice_get, map}
 use Rattle.cs_pattern_parts.specs.declared.tree.pattern.Pattern.{Pattern}
 use Rattle.cs_pattern_parts.specs.Tree.Pattern.{Regex, regex, Matches}
+use Rattle.cs_scanner.specs.Automaton.Listed.{ListsAll}
 use Rattle.cs_scanner.specs.Automaton.Meaning.{res}
 use Rattle.cs_scanner.specs.Automaton.Places.{IsSet}
 
@@ -17,6 +18,10 @@ pub record MatchesRule (patterns : List Regex) (rule : ℕ) (x : List ℕ) : Typ
 abbrev pub IsFirstRule : List Regex → List ℕ → Option ℕ → Type 0
 IsFirstRule patterns x None = (rule : ℕ) → MatchesRule patterns rule x → ⊥
 IsFirstRule patterns x (Some rule) = MatchesRule patterns rule x × ((other : ℕ) → MatchesRule patterns other x → rule ≤ other)
+
+-- all rules that match the text, ascending
+abbrev pub AreMatching : List Regex → List ℕ → List ℕ → Type 0
+AreMatching patterns x rules = ListsAll (λ rule. MatchesRule patterns rule x) rules
 
 -- some rule matches a text that begins with x
 abbrev pub IsBegun : List Regex → List ℕ → Type 0

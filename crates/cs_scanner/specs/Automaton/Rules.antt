@@ -1,5 +1,6 @@
 -- Which rule matches a text.
-use Rattle.std.specs.Prelude.{◌≡◌, ℕ, suc, ◌≤◌, List, ◌++◌, Option, Some, None, slice_get}
+use Rattle.std.specs.Prelude.{◌≡◌, ℕ, suc, List, ◌++◌, Some, slice_get}
+use Rattle.cs_scanner.specs.Automaton.Listed.{ListsAll}
 use Rattle.cs_scanner.specs.Automaton.Re.{Re, Spells}
 use Rattle.cs_scanner.specs.Automaton.Meaning.{Has}
 
@@ -11,10 +12,9 @@ pub record SpellsRule (rs : List (Re (List ℕ))) (rule : ℕ) (x : List ℕ) : 
   pub at : slice_get rs index ≡ Some pattern
   pub spelled : Spells Has pattern x
 
--- the lowest rule that matches the text, if one does
-abbrev pub IsFirstSpelled : List (Re (List ℕ)) → List ℕ → Option ℕ → Type 0
-IsFirstSpelled rs x None = (rule : ℕ) → SpellsRule rs rule x → ⊥
-IsFirstSpelled rs x (Some rule) = SpellsRule rs rule x × ((other : ℕ) → SpellsRule rs other x → rule ≤ other)
+-- all rules that match the text, ascending
+abbrev pub AreSpelled : List (Re (List ℕ)) → List ℕ → List ℕ → Type 0
+AreSpelled rs x rules = ListsAll (λ rule. SpellsRule rs rule x) rules
 
 -- some rule matches a text that begins with x
 abbrev pub IsBegunSpelled : List (Re (List ℕ)) → List ℕ → Type 0

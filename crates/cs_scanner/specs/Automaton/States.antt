@@ -5,11 +5,12 @@ use Rattle.std.proofs.Common.{Vec, Global, map}
 use Rattle.cs_scanner.specs.Automaton.Bits.{bit, Puts}
 use Rattle.cs_scanner.specs.Automaton.Exits.{exit, nexts}
 use Rattle.cs_scanner.specs.Automaton.Linear.{Starts}
+use Rattle.cs_scanner.specs.Automaton.Listed.{ListsAll}
 use Rattle.cs_scanner.specs.Automaton.Meaning.{all_classes}
 use Rattle.cs_scanner.specs.Automaton.Places.{Place, whole, with_places, all_letters, IsFull}
 use Rattle.cs_scanner.specs.Automaton.Re.{Re}
 use Rattle.cs_scanner.specs.Automaton.Reached.{Reaches, ReachesNumber}
-use Rattle.cs_scanner.specs.Automaton.Rules.{IsFirstSpelled}
+use Rattle.cs_scanner.specs.Automaton.Rules.{AreSpelled}
 
 -- what may come behind the text
 abbrev pub Follows : List (Re (List ℕ)) → List ℕ → Place → List (Re Place) → Type 0
@@ -137,13 +138,12 @@ AddsStep old new next row to = (rs : List (Re (List ℕ))) (width state : ℕ) �
 abbrev pub AddsSteps : List (List ℕ) → List (List ℕ) → List ℕ → List (List ℕ) → List (Option ℕ) → Type 0
 AddsSteps old new next rows steps = (rs : List (Re (List ℕ))) (width state : ℕ) → length next ≡ width → IsReady rs width old state next → ((k : ℕ) (row : List ℕ) → slice_get rows k ≡ Some row → IsColumn rs width row) → HasSteps rs width rows old new state next steps
 
--- ---- the first rule
+-- ---- the rules that match
 
--- the lowest so far, or the rule behind the index where it ends
-abbrev pub earlier : Option ℕ → Bool → ℕ → Option ℕ
-earlier (Some rule) ends index = Some rule
-earlier None true index = Some (index + 1)
-earlier None false index = None
+-- the rules so far, and the one at the index where it ends
+abbrev pub noted : List ℕ → Bool → ℕ → List ℕ
+noted rules true index = rules ++ (index + 1) ∷ []
+noted rules false index = rules
 
 -- a word of the rule at the index may end at a place of the set, or it is entered and may be empty
 pub record EndsAt (rs : List (Re (List ℕ))) (S : ℕ → Bool) (entered : Bool) (index : ℕ) : Type 0 where
@@ -151,17 +151,20 @@ pub record EndsAt (rs : List (Re (List ℕ))) (S : ℕ → Bool) (entered : Bool
   pub at : slice_get rs index ≡ Some pattern
   pub ends : (number from : ℕ) → number ≡ suc index → from ≡ all_letters (take index rs) → exit S (with_places number from pattern) entered ≡ true
 
--- the lowest rule that ends, among those below the index
-abbrev pub IsLowest : List (Re (List ℕ)) → (ℕ → Bool) → Bool → ℕ → Option ℕ → Type 0
-IsLowest rs S entered below None = (index : ℕ) → index < below → EndsAt rs S entered index → ⊥
-IsLowest rs S entered below (Some rule) = (index : ℕ) × (rule ≡ suc index) × (index < below) × EndsAt rs S entered index × ((other : ℕ) → other < index → EndsAt rs S entered other → ⊥)
+-- the rule is that of an index below the limit, and ends
+abbrev pub EndsBelow : List (Re (List ℕ)) → (ℕ → Bool) → Bool → ℕ → ℕ → Type 0
+EndsBelow rs S entered below rule = (index : ℕ) × (rule ≡ suc index) × (index < below) × EndsAt rs S entered index
 
--- What may come behind a set, entered or not, and the lowest rule that ends there.
-pub record IsAfter (rs : List (Re (List ℕ))) (entered : Bool) (set next : List ℕ) (first_rule : Option ℕ) : Type 0 where
+-- all rules that end, among those below the index
+abbrev pub AreEnding : List (Re (List ℕ)) → (ℕ → Bool) → Bool → ℕ → List ℕ → Type 0
+AreEnding rs S entered below rules = ListsAll (EndsBelow rs S entered below) rules
+
+-- What may come behind a set, entered or not, and the rules that end there.
+pub record IsAfter (rs : List (Re (List ℕ))) (entered : Bool) (set next rules : List ℕ) : Type 0 where
   pub long : length next ≡ length set
   pub nexts_only : (n : ℕ) → bit next n ≡ true → Contains (nexts (bit set) (whole rs) entered) n
   pub nexts_all : (n : ℕ) → n < 64 * length set → Contains (nexts (bit set) (whole rs) entered) n → bit next n ≡ true
-  pub lowest : IsLowest rs (bit set) entered (length rs) first_rule
+  pub ending : AreEnding rs (bit set) entered (length rs) rules
 
 -- ---- all states
 
@@ -181,9 +184,9 @@ pub record IsBuilt (rs : List (Re (List ℕ))) (rows : List (List ℕ)) (width l
   pub all : length steps ≡ length sets
   pub steps_are : IsStepped rs rows sets steps
 
--- the first rule of each state
-abbrev pub AreFirstRules : List (Re (List ℕ)) → List (List ℕ) → List (Option ℕ) → Type 0
-AreFirstRules rs sets first_rules = (k : ℕ) (x : List ℕ) → k < length first_rules → StandsFor rs sets k x → IsFirstSpelled rs x (slice_index_or first_rules k None)
+-- the rules that match the texts of each state
+abbrev pub AreRulesOf : List (Re (List ℕ)) → List (List ℕ) → List (List ℕ) → Type 0
+AreRulesOf rs sets rules = (k : ℕ) (x : List ℕ) → k < length rules → StandsFor rs sets k x → AreSpelled rs x (slice_index_or rules k [])
 
 abbrev pub option_lists : List (Vec (Option ℕ) Global) → List (List (Option ℕ))
 option_lists = map (λ v. v.items)
@@ -192,10 +195,10 @@ option_lists = map (λ v. v.items)
 abbrev pub AreRowsOf : List (Re (List ℕ)) → ℕ → List (List ℕ) → Type 0
 AreRowsOf rs width rows = (k : ℕ) (row : List ℕ) → slice_get rows k ≡ Some row → IsColumn rs width row
 
--- the rules were walked over a set: what may come behind was put, and the first rule that ends is this
-pub record IsWalkedAll (rs : List (Re (List ℕ))) (entered : Bool) (set old new : List ℕ) (first_rule : Option ℕ) : Type 0 where
+-- the rules were walked over a set: what may come behind was put, and these end
+pub record IsWalkedAll (rs : List (Re (List ℕ))) (entered : Bool) (set old new rules : List ℕ) : Type 0 where
   pub puts : Puts old new (nexts (bit set) (whole rs) entered)
-  pub lowest : IsLowest rs (bit set) entered (length rs) first_rule
+  pub ending : AreEnding rs (bit set) entered (length rs) rules
 
 -- the start alone, whatever the patterns are
 abbrev pub IsStart : ℕ → List (List ℕ) → Type 0

@@ -5,7 +5,7 @@ use Rattle.cs_pattern_parts.specs.Items.StandsFor.{AreBytes}
 use Rattle.cs_pattern_parts.specs.declared.tree.kind.Kind.{Kind}
 use Rattle.cs_pattern_parts.specs.declared.tree.kind.Kind.TheVariants.{Token, OwnByte}
 use Rattle.cs_scanner.specs.Automaton.Machine.{Machine, MatchesRule, StateOf}
-use Rattle.cs_scanner.specs.declared.scan.scanner.Scanner.{Scanner}
+use Rattle.cs_scanner.specs.declared.scanning.scanner.Scanner.{Scanner}
 use Rattle.cs_scanner.specs.Scan.Compared.{scanning}
 use Rattle.cs_scanner.specs.Scan.Scan.{Scanning, literal_token}
 use Rattle.cs_scanner.specs.declared.lexeme.search.Visit.{Visit}

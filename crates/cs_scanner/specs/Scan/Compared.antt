@@ -1,9 +1,9 @@
 -- What a comparison of a list of tokens with the scan of a text answers.
 use Rattle.std.specs.Prelude.{◌≡◌, ℕ, Bool, List}
 use Rattle.cs_scanner.specs.Automaton.Machine.{patterns_of}
-use Rattle.cs_scanner.specs.declared.scan.scanner.Scanner.{Scanner}
-use Rattle.cs_scanner.specs.declared.scan.comparing.Agreement.{Agreement}
-use Rattle.cs_scanner.specs.declared.scan.comparing.Agreement.TheVariants.{Whole, Differs}
+use Rattle.cs_scanner.specs.declared.scanning.scanner.Scanner.{Scanner}
+use Rattle.cs_scanner.specs.declared.scanning.comparing.Agreement.{Agreement}
+use Rattle.cs_scanner.specs.declared.scanning.comparing.Agreement.TheVariants.{Whole, Differs}
 use Rattle.cs_scanner.specs.Scan.Scan.{Scanning, Runs, in_common}
 
 -- what a scanner scans by

@@ -1,6 +1,6 @@
 -- The longest match, and the scan of a text (POSIX.1-2017, lex: of the patterns that match, the one that matches the most
 -- bytes is chosen, and of those that match as many, the rule given first).
-use Rattle.std.specs.Prelude.{◌≡◌, ◌≢◌, ℕ, suc, ◌-◌, ◌<◌, ◌≤◌, Bool, true, false, List, [], ◌∷◌, ◌++◌, Option, Some, None, length, take, drop, slice_get, slice_index, if◌then◌else◌, nat_lt, ◌==◌}
+use Rattle.std.specs.Prelude.{◌≡◌, ◌≢◌, ℕ, suc, ◌+◌, ◌-◌, ◌<◌, ◌≤◌, Bool, true, false, List, [], ◌∷◌, ◌++◌, Option, Some, None, length, take, drop, slice_get, slice_index, if◌then◌else◌, nat_lt, ◌==◌}
 use Rattle.cs_pattern_parts.specs.Tree.Pattern.{Regex}
 use Rattle.cs_pattern_parts.specs.declared.tree.kind.Kind.{Kind}
 use Rattle.cs_pattern_parts.specs.declared.tree.kind.Kind.TheVariants.{Token, OwnByte, Skip, Foreign}
@@ -70,6 +70,24 @@ HasScan s text = ((given : List ℕ) (whole : Bool) → Runs s text given whole 
 -- the text scans to the tokens: matches cover it, one behind the other, and give them
 abbrev pub Scans : Scanning → List ℕ → List ℕ → Type 0
 Scans s text tokens = Runs s text tokens true
+
+-- no match at the front of the text gives tokens
+abbrev pub GivesNone : Scanning → List ℕ → Type 0
+GivesNone s text = (size : ℕ) (tokens : List ℕ) → Gives s text size tokens → ⊥
+
+-- The scan of the text stops at the place: matches that give tokens cover the bytes in front of it, and there no match does.
+pub data StopsAt (s : Scanning) : List ℕ → ℕ → Type 0 where
+  at_front : (text : List ℕ) (at : ℕ) → text ≢ [] → GivesNone s text → at ≡ 0 → StopsAt s text at
+  behind : (text : List ℕ) (at size later : ℕ) (tokens : List ℕ) → Gives s text size tokens → StopsAt s (drop size text) later → at ≡ size + later → StopsAt s text at
+
+-- any two places where the scan stops are one
+abbrev pub AreOneStop : Scanning → List ℕ → Type 0
+AreOneStop s text = (at other : ℕ) → StopsAt s text at → StopsAt s text other → at ≡ other
+
+-- a scan that doesn't cover the text stops at a place, and one that covers it at none
+pub record IsStopOrWhole (s : Scanning) (text : List ℕ) : Type 0 where
+  pub stops : (given : List ℕ) → Runs s text given false → (at : ℕ) × StopsAt s text at
+  pub covers : (tokens : List ℕ) → Scans s text tokens → (at : ℕ) → StopsAt s text at → ⊥
 
 -- how many tokens two lists have in common at their fronts
 abbrev pub in_common : List ℕ → List ℕ → ℕ

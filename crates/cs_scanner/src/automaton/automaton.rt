@@ -1,10 +1,11 @@
 // The automaton.
 
-ghost use Rattle.std.specs.Prelude.{◌≡◌, ℕ, ◌+◌, ◌<◌, ◌≤◌, List, [], length, map, IfOk, IfSome, Err};
+ghost use Rattle.std.specs.Prelude.{◌≡◌, ◌↔◌, ℕ, ◌+◌, ◌<◌, ◌≤◌, List, [], length, map, IfOk, IfSome, IsTrue, Err};
+ghost use Rattle.cs_grammar.specs.Grammar.{IsNumberOf};
 ghost use Rattle.cs_pattern_parts.specs.Tree.Pattern.{regex};
 ghost use Rattle.cs_pattern_parts.specs.Tree.Scannable.{AreScannable};
 ghost use Rattle.cs_scanner.specs.Automaton.Counted.{IsAbove, TooMany, too_many};
-ghost use Rattle.cs_scanner.specs.Automaton.Machine.{StateOf, IsNextState, IsFirstRule, patterns_of};
+ghost use Rattle.cs_scanner.specs.Automaton.Machine.{AreMatching, IsFirstRule, IsNextState, MatchesRule, StateOf, patterns_of};
 ghost use Rattle.cs_scanner.specs.Automaton.Meaning.{res_of};
 ghost use Rattle.cs_scanner.specs.Automaton.Places.{InSet};
 ghost use Rattle.cs_scanner.specs.Automaton.States as spec;
@@ -25,7 +26,7 @@ pub struct Automaton<'p> {
     column_of: Vec<usize>,
     sets: IndexSet<Vec<u64>>,
     steps: Vec<Vec<Option<State>>>,
-    first_rules: Vec<Option<u16>>,
+    rules: Vec<Vec<u16>>,
 }
 
 impl<'p> Model for Automaton<'p> {
@@ -49,7 +50,7 @@ impl<'p> Model for Automaton<'p> {
     } };
 
     ghost invariant = { λ a. AreTables (res (map regex a.patterns.now)) (lists a.sets.keys)
-        (option_lists a.steps.items) a.column_of.items a.first_rules.items };
+        (option_lists a.steps.items) a.column_of.items (lists a.rules.items) };
 }
 
 impl<'p> Automaton<'p> {
@@ -64,17 +65,13 @@ impl<'p> Automaton<'p> {
         let program = make_program(alloc, patterns)?;
         let width = program.classes.len() / 64 + 1;
         let Columns { rows, column_of } = make_columns(alloc, &program.classes, width)?;
-        let States {
-            sets,
-            steps,
-            first_rules,
-        } = make_states(alloc, &program, rows.as_slice(), width)?;
+        let States { sets, steps, rules } = make_states(alloc, &program, rows.as_slice(), width)?;
         Ok(Automaton {
             patterns,
             column_of,
             sets,
             steps,
-            first_rules,
+            rules,
         })
     }
 }
@@ -122,6 +119,25 @@ impl Automaton<'_> {
         ensures { (x : List ℕ)
             → StateOf self.now state x → IsFirstRule (patterns_of self.now) x result }
     {
-        self.first_rules[state as usize]
+        self.rules_at(state).first().copied()
+    }
+
+    /// All rules that match what was read, ascending. They count from 1.
+    pub fn rules_at(&self, state: State) -> &[u16]
+        requires { state < length self.now.sets }
+        ensures { (x : List ℕ)
+            → StateOf self.now state x → AreMatching (patterns_of self.now) x result.now }
+    {
+        self.rules[state as usize].as_slice()
+    }
+
+    /// Whether the rule, which counts from 1, matches what was read. It takes no memory.
+    pub fn matches(&self, state: State, rule: u16) -> bool
+        requires state { state < length self.now.sets }
+        requires rule { IsNumberOf (length self.now.patterns) rule }
+        ensures { (x : List ℕ) → StateOf self.now state x
+            → IsTrue result ↔ MatchesRule (patterns_of self.now) rule x }
+    {
+        self.rules_at(state).binary_search(&rule).is_ok()
     }
 }

@@ -1,7 +1,7 @@
-// The states and the steps between them.
+// The states, the steps between them, and the rules that match.
 
 ghost use Rattle.std.specs.Prelude.{◌≡◌, ℕ, ◌+◌, ◌*◌, ◌<◌, ◌≤◌, IfOk, Err, length, slice_get, Some};
-ghost use Rattle.cs_scanner.specs.Automaton.Built.{AddsStep, AddsSteps, AreLong, AreStates, HaveFirstRules, IsBehind, WalksAll};
+ghost use Rattle.cs_scanner.specs.Automaton.Built.{AddsStep, AddsSteps, AreLong, AreStates, HaveRules, IsBehind, WalksAll};
 ghost use Rattle.cs_scanner.specs.Automaton.Counted.{TooMany, too_many};
 ghost use Rattle.cs_scanner.specs.Automaton.Places.{all_letters};
 ghost use Rattle.cs_scanner.specs.Automaton.Programs.{IsProgram, rules_of};
@@ -18,53 +18,53 @@ use cs_grammar::number_of;
 use indexmap::IndexSet;
 use std::alloc::{AllocError, Global};
 
-/// The sets of all states, the steps of each by column, and the first rule of each.
+/// The sets of all states, the steps of each by column, and the rules that match its texts.
 #[derive(Drop)]
 pub(crate) struct States {
     pub(crate) sets: IndexSet<Vec<u64>>,
     pub(crate) steps: Vec<Vec<Option<State>>>,
-    pub(crate) first_rules: Vec<Option<u16>>,
+    pub(crate) rules: Vec<Vec<u16>>,
 }
 
-/// What may come behind a set, and the first rule that ends there.
+/// What may come behind a set, and the rules that end there.
 #[derive(Drop)]
 struct Behind {
     next: Vec<u64>,
-    first_rule: Option<u16>,
+    rules: Vec<u16>,
 }
 
-/// The first rule so far, or the rule at the index where it ends.
-fn earlier(first_rule: Option<u16>, ends: bool, index: usize) -> Option<u16>
+/// Puts the rule at the index behind the others, where it ends.
+fn note(ending: &mut Vec<u16>, ends: bool, index: usize) -> Result<(), AllocError>
     requires { index < 2048 }
-    ensures { result ≡ spec.earlier first_rule ends index }
+    ensures { IfOk result (λ _. ending.new.items ≡ spec.noted ending.old.items ends index) }
 {
-    match first_rule {
-        Some(rule) => Some(rule),
-        None => if ends { Some(number_of(index)) } else { None },
+    if ends {
+        ending.push(number_of(index))?;
     }
+    Ok(())
 }
 
-/// Puts what may come behind the set, and finds the first rule that ends there.
+/// Puts what may come behind the set, and lists the rules that end there.
 fn walk_all(
     alloc: Global,
     program: &Program<'_>,
     entered: bool,
     set: &[u64],
     next: &mut [u64],
-) -> Result<Option<u16>, AllocError>
+) -> Result<Vec<u16>, AllocError>
     requires program { IsProgram program.now }
     requires few { length program.now.rules.items ≤ 2048 }
-    ensures { IfOk result (λ rule. WalksAll program.now entered set.now next.old next.new rule) }
+    ensures { IfOk result (λ v. WalksAll program.now entered set.now next.old next.new v.items) }
 {
-    let mut first_rule = None;
+    let mut ending = Vec::new(alloc);
     for i in 0..program.rules.len() {
         let ends = walk(alloc, &program.rules[i], entered, set, next)?;
-        first_rule = earlier(first_rule, ends, i);
+        note(&mut ending, ends, i)?;
     }
-    Ok(first_rule)
+    Ok(ending)
 }
 
-/// What may come behind the set, entered or not, and the first rule that ends there.
+/// What may come behind the set, entered or not, and the rules that end there.
 fn follow(
     alloc: Global,
     program: &Program<'_>,
@@ -76,8 +76,8 @@ fn follow(
     ensures { IfOk result (λ b. IsBehind program.now entered set.now b) }
 {
     let mut next = vec![in alloc; 0u64; set.len()]?;
-    let first_rule = walk_all(alloc, program, entered, set, &mut next)?;
-    Ok(Behind { next, first_rule })
+    let rules = walk_all(alloc, program, entered, set, &mut next)?;
+    Ok(Behind { next, rules })
 }
 
 /// The state behind any byte of the row, which is added where it is new.
@@ -156,27 +156,26 @@ pub(crate) fn make_states(
     requires rows { length rows.now ≤ 256 }
     requires columns { spec.AreRowsOf (rules_of program.now) width (lists rows.now) }
     ensures built { IfOk result (λ s. AreStates program.now rows.now width s) }
-    ensures rules { IfOk result (λ s. HaveFirstRules program.now s) }
-    ensures each { IfOk result (λ s. length s.first_rules.items ≡ length s.sets.keys) }
+    ensures rules { IfOk result (λ s. HaveRules program.now s) }
+    ensures each { IfOk result (λ s. length s.rules.items ≡ length s.sets.keys) }
     ensures too_many { (most : ℕ)
         → result ≡ Err (too_many most) → TooMany (rules_of program.now) most }
 {
     let mut sets = start_sets(alloc, width)?;
     let mut steps = Vec::new(alloc);
-    let mut first_rules = Vec::new(alloc);
+    let mut rules = Vec::new(alloc);
     'states: while steps.len() < sets.len() {
         if sets.len() > MOST_SETS as usize + 1 {
             return Err(AutomatonError::TooManyStates { most: MOST_SETS });
         }
         let state = steps.len();
-        let Behind { next, first_rule } = follow(alloc, program, state == 0, set_at(&sets, state))?;
+        let Behind {
+            next,
+            rules: ending,
+        } = follow(alloc, program, state == 0, set_at(&sets, state))?;
         let row = steps_of(alloc, &next, rows, &mut sets)?;
         steps.push(row)?;
-        first_rules.push(first_rule)?;
+        rules.push(ending)?;
     }
-    Ok(States {
-        sets,
-        steps,
-        first_rules,
-    })
+    Ok(States { sets, steps, rules })
 }

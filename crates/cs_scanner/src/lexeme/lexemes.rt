@@ -1,8 +1,8 @@
 // The lexemes of tokens.
 
-ghost use Rattle.std.specs.Prelude.{◌≡◌, ◌+◌, ◌<◌, ◌≤◌, ◌↔◌, [], ◌∷◌, IfNone, IfOk, IfSome, IsTrue, Some, length, option_map};
+ghost use Rattle.std.specs.Prelude.{◌≡◌, ◌+◌, ◌<◌, ◌≤◌, ◌↔◌, IfNone, IfOk, IfSome, IsTrue, Some, length, option_map};
 ghost use Rattle.cs_scanner.specs.Scan.Compared.{scanning};
-ghost use Rattle.cs_scanner.specs.Lexeme.Kinds.{AreEmpty, AreLeastTexts, AreNamedTexts, IsFirstOwn, IsFirstOwnText, IsKindAt, IsLeastOwn, IsReached, KeepsCount, KeepsLeast, KeepsText, NamesNoOpen, NamesOpen, PutsNamed, PutsText, first_visit, own_byte};
+ghost use Rattle.cs_scanner.specs.Lexeme.Kinds.{AreEmpty, AreLeastTexts, AreNamedTexts, IsFirstOwn, IsFirstOwnText, IsKindAt, IsLeastOwn, IsReached, KeepsCount, KeepsLeast, KeepsText, NamesNoOpen, NamesOpen, PutsNamed, PutsText, own_byte};
 ghost use Rattle.cs_scanner.specs.Lexeme.Lexeme.{AreLexemes, lexeme_in};
 ghost use Rattle.cs_scanner.specs.Lexeme.Table.{IsTable};
 ghost use Rattle.cs_scanner.specs.Lexeme.Texts.{text_of, texts_of};
@@ -10,9 +10,9 @@ ghost use Rattle.cs_scanner.specs.Lexeme.Visits.{AreVisits};
 
 use crate::automaton::State;
 use crate::lexeme::order::is_before;
-use crate::lexeme::search::{Origin, Visit, meet_all, text_at};
-use crate::lexeme::steps::{StepTable, with_steps};
-use crate::scan::Scanner;
+use crate::lexeme::search::{Origin, Visit, meet_all, start_visit, text_at};
+use crate::lexeme::steps::{StepTable, Steps, with_steps};
+use crate::scanning::Scanner;
 use cs_grammar::place_of;
 use cs_pattern_parts::Kind;
 use std::alloc::{AllocError, Global};
@@ -65,18 +65,6 @@ fn is_own(kind: Option<Kind>) -> bool
         Some(Kind::OwnByte) => true,
         _ => false,
     }
-}
-
-/// The start alone, met by the empty text.
-fn start_visit(alloc: Global, start: State) -> Result<Vec<Visit>, AllocError>
-    ensures { IfOk result (λ visits. visits.items ≡ first_visit start ∷ []) }
-{
-    let mut visits = Vec::new(alloc);
-    visits.push(Visit {
-        state: start,
-        origin: None,
-    })?;
-    Ok(visits)
 }
 
 /// No text for each of the tokens.
@@ -132,7 +120,11 @@ fn find_named(
     ensures all { IfOk result (λ texts. length (texts_of texts.items) ≡ tokens) }
 {
     let mut visits = start_visit(alloc, table.scanner.automaton.start())?;
-    meet_all(alloc, table, &mut visits, 0)?;
+    let steps = Steps {
+        automaton: table.scanner.automaton,
+        rows: &table.rows,
+    };
+    meet_all(alloc, &steps, &mut visits, 0)?;
     let mut texts = no_texts(alloc, tokens)?;
     put_named(alloc, table, &visits, &mut texts)?;
     Ok(texts)
@@ -178,7 +170,11 @@ fn find_own(alloc: Global, table: &StepTable<'_>, byte: u8) -> Result<Option<Vec
     let mut visits = start_visit(alloc, start)?;
     let origin = Some(Origin { place: 0, byte });
     visits.push(Visit { state: to, origin })?;
-    meet_all(alloc, table, &mut visits, 1)?;
+    let steps = Steps {
+        automaton: table.scanner.automaton,
+        rows: &table.rows,
+    };
+    meet_all(alloc, &steps, &mut visits, 1)?;
     first_text(alloc, table, &visits)
 }
 

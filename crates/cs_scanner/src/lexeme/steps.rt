@@ -7,7 +7,7 @@ ghost use Rattle.cs_scanner.specs.Lexeme.Steps.{AreNoted, AreRows, IsRow, LeadsT
 
 use crate::automaton::{Automaton, State};
 use crate::lexeme::rank::bytes_by_rank;
-use crate::scan::Scanner;
+use crate::scanning::Scanner;
 use std::alloc::{AllocError, Global};
 
 /// A step of a state, by the byte.
@@ -68,7 +68,10 @@ fn row_of(
 }
 
 /// The steps of each state.
-fn all_steps(alloc: Global, automaton: &Automaton<'_>) -> Result<Vec<Vec<Step>>, AllocError>
+pub(crate) fn all_steps(
+    alloc: Global,
+    automaton: &Automaton<'_>,
+) -> Result<Vec<Vec<Step>>, AllocError>
     ensures { IfOk result (λ rows. AreRows automaton.now (rows_of rows.items)) }
 {
     let bytes = bytes_by_rank(alloc)?;
@@ -79,6 +82,13 @@ fn all_steps(alloc: Global, automaton: &Automaton<'_>) -> Result<Vec<Vec<Step>>,
         rows.push(row)?;
     }
     Ok(rows)
+}
+
+/// An automaton and the steps of its states.
+#[derive(Clone, Copy)]
+pub(crate) struct Steps<'t> {
+    pub(crate) automaton: &'t Automaton<'t>,
+    pub(crate) rows: &'t [Vec<Step>],
 }
 
 /// A scanner with the steps of its automaton's states.

@@ -2,7 +2,7 @@
 use Rattle.std.specs.Prelude.{◌≡◌, ℕ, ◌<◌, ◌≤◌, length, List, ◌++◌, ◌∷◌, All, Option, Some, None}
 use Rattle.std.specs.List.{AllZip}
 use Rattle.cs_scanner.specs.Scan.Scan.{Scanning, Scans}
-use Rattle.cs_scanner.specs.declared.scan.scanner.Scanner.{Scanner}
+use Rattle.cs_scanner.specs.declared.scanning.scanner.Scanner.{Scanner}
 use Rattle.cs_scanner.specs.Scan.Compared.{IsInCommon, scanning}
 use Rattle.cs_scanner.specs.Lexeme.Lexeme.{lexeme_in}
 use Rattle.cs_texts.specs.declared.rendering.rendered.Rendered.{Rendered}

@@ -1,6 +1,6 @@
 -- A list of tokens with its text and the marks of its matches. Working words of proofs.
 use Rattle.std.specs.Prelude.{◌≡◌, ℕ, ◌-◌, List, ◌++◌, Option, IfSome, length, take, drop}
-use Rattle.cs_scanner.specs.declared.scan.scanner.Scanner.{Scanner}
+use Rattle.cs_scanner.specs.declared.scanning.scanner.Scanner.{Scanner}
 use Rattle.cs_scanner.specs.Scan.Compared.{scanning}
 use Rattle.cs_scanner.specs.Scan.Scan.{Scans}
 use Rattle.cs_scanner.specs.Scan.Going.{IsBegunBy}

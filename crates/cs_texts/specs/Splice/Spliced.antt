@@ -1,6 +1,6 @@
 -- What comes of a list of tokens that is rendered by one that is near it.
 use Rattle.std.specs.Prelude.{ℕ, List, ◌++◌, Option, IfSome}
-use Rattle.cs_scanner.specs.declared.scan.scanner.Scanner.{Scanner}
+use Rattle.cs_scanner.specs.declared.scanning.scanner.Scanner.{Scanner}
 use Rattle.cs_scanner.specs.Scan.Compared.{scanning}
 use Rattle.cs_texts.specs.Rendering.Rendering.{IsRendered, Rendering, Text, rendering}
 use Rattle.cs_texts.specs.declared.splice.marked.Splice.{Splice}

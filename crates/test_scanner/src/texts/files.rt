@@ -5,7 +5,7 @@ ghost use Rattle.std.specs.Prelude.{◌<◌, ◌≡◌, ◌≤◌, ◌↔◌, Al
 use cs_grammar::place_of;
 use cs_lex::LexFile;
 use cs_sample_files::{Trouble, lexemes_of, read_files};
-use cs_scanner::{Automaton, Lexemes, Scanner};
+use cs_scanner::{Automaton, Lexemes, Scanner, scan};
 use cs_texts::{Rendered, render};
 use cs_yacc::{TokenName, YaccFile};
 use std::alloc::{AllocError, Global};
@@ -103,4 +103,30 @@ pub(crate) fn rendered(
     let (yacc, lex) = read_files(alloc, yacc, lex)?;
     let rendered = rendering(alloc, &lex, yacc.grammar().tokens(), separator, tokens)?;
     Ok(shown(alloc, &rendered)?)
+}
+
+// What the scan of a text answers, by a lex file that was read.
+fn scan_of(alloc: Global, lex: &LexFile, text: &[u8]) -> Result<String, Trouble> {
+    if text.len() > 1_000 {
+        return Err(Trouble::TooLong);
+    }
+    let automaton = Automaton::new(alloc, lex.patterns())?;
+    let scanner = Scanner {
+        automaton: &automaton,
+        kinds: lex.kinds(),
+        literals: lex.literals(),
+    };
+    let scanned = scan(alloc, &scanner, text)?;
+    Ok(format!(in alloc; "{scanned:?}")?)
+}
+
+/// What the scan of a text answers, as text.
+pub(crate) fn scanned(
+    alloc: Global,
+    yacc: &[u8],
+    lex: &[u8],
+    text: &[u8],
+) -> Result<String, Trouble> {
+    let (_, lex) = read_files(alloc, yacc, lex)?;
+    scan_of(alloc, &lex, text)
 }

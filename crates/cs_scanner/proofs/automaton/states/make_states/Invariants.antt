@@ -1,8 +1,8 @@
--- The states so far, and the steps and first rules of the first of them.
+-- The states so far, and the steps and rules of the first of them.
 use Rattle.std.proofs.Common.{◌≡◌, ◌-◌, ◌≤◌, length}
 use Rattle.cs_scanner.specs.Automaton.Programs.{rules_of}
 use Rattle.cs_scanner.specs.Automaton.Sets.{lists}
-use Rattle.cs_scanner.specs.Automaton.States.{HasStates, IsStepped, AreFirstRules, option_lists}
+use Rattle.cs_scanner.specs.Automaton.States.{HasStates, IsStepped, AreRulesOf, option_lists}
 use Rattle.cs_scanner.proofs.automaton.states.make_states.Given as goal
 
 abbrev pub invariant-states : goal.invariant-states
@@ -12,8 +12,8 @@ invariant-states l = record {
   some : length l.steps.items ≤ length l.sets.keys;
   bounded : length l.sets.keys ≤ 20000;
   steps : IsStepped (rules_of l.program) (lists l.rows) (lists l.sets.keys) (option_lists l.steps.items);
-  rules : AreFirstRules (rules_of l.program) (lists l.sets.keys) l.first_rules.items;
-  each : length l.first_rules.items ≡ length l.steps.items;
+  rules : AreRulesOf (rules_of l.program) (lists l.sets.keys) (lists l.rules.items);
+  each : length l.rules.items ≡ length l.steps.items;
 }
 
 abbrev pub decreases-states : goal.decreases-states

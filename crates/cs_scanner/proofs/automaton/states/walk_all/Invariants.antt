@@ -4,11 +4,11 @@ use Rattle.cs_scanner.specs.Automaton.Bits.{bit, Puts}
 use Rattle.cs_scanner.specs.Automaton.Exits.{nexts}
 use Rattle.cs_scanner.specs.Automaton.Places.{whole}
 use Rattle.cs_scanner.specs.Automaton.Programs.{rules_of}
-use Rattle.cs_scanner.specs.Automaton.States.{IsLowest}
+use Rattle.cs_scanner.specs.Automaton.States.{AreEnding}
 use Rattle.cs_scanner.proofs.automaton.states.walk_all.Given as goal
 
 abbrev pub invariant-loop-i : goal.invariant-loop-i
 invariant-loop-i l = record {
   puts : Puts l.initial.next l.next (nexts (bit l.set) (whole (take l.i (rules_of l.program))) l.entered);
-  lowest : IsLowest (rules_of l.program) (bit l.set) l.entered l.i l.first_rule;
+  are_ending : AreEnding (rules_of l.program) (bit l.set) l.entered l.i l.ending.items;
 }

@@ -7,7 +7,7 @@ use Rattle.cs_scanner.specs.Automaton.Places.{all_letters}
 use Rattle.cs_scanner.specs.Automaton.Programs.{rules_of, values}
 use Rattle.cs_scanner.specs.Automaton.Re.{Re}
 use Rattle.cs_scanner.specs.Automaton.Sets.{lists}
-use Rattle.cs_scanner.specs.Automaton.States.{AreColumns, AreFull, AreFirstRules, AreRowsOf, IsBuilt, option_lists}
+use Rattle.cs_scanner.specs.Automaton.States.{AreColumns, AreFull, AreRulesOf, AreRowsOf, IsBuilt, option_lists}
 use Rattle.cs_scanner.proofs.OnAutomaton.Answering.{tables_of, columns_are}
 use Rattle.cs_scanner.proofs.OnAutomaton.Counting.{not_above}
 use Rattle.cs_scanner.proofs.OnAutomaton.Scanning.{full, few_letters}
@@ -68,12 +68,12 @@ invariant_of-result c =
     let at = goal.at.invariant_of-result c in
     let rs = res (map regex c.args.patterns.now) in
     let sets = lists c.in_ok-sets.field-0.sets.keys in
-    let rules = c.in_ok-sets.field-0.first_rules.items in
+    let rules = lists c.in_ok-sets.field-0.rules.items in
     let same : rules_of c.in_ok-program.program ≡ rs = ap (λ t. res (map regex t)) c.in_ok-program.ensures.patterns in
-    let F : List (Re (List ℕ)) → Type 0 = λ t. AreFirstRules t sets rules in
+    let F : List (Re (List ℕ)) → Type 0 = λ t. AreRulesOf t sets rules in
     tables_of rs (lists c.in_ok-rows.field-0.rows.keys) c.in_ok-rows.field-0.column_of.items (c.len.result / 64 + 1) sets (option_lists c.in_ok-sets.field-0.steps.items) rules
     (full (map regex c.args.patterns.now) c.requires.scannable) (columns at.In_ok-rows) (built at.In_ok-sets) (subst F same c.in_ok-sets.ensures.rules)
-    (c.in_ok-sets.ensures.each ∙ sym (length-map c.in_ok-sets.field-0.sets.keys (λ v. v.items)))
+    (length-map c.in_ok-sets.field-0.rules.items (λ v. v.items) ∙ c.in_ok-sets.ensures.each ∙ sym (length-map c.in_ok-sets.field-0.sets.keys (λ v. v.items)))
 
 pub returns-clause-few : goal.returns-clause-few
 returns-clause-few c =

@@ -28,7 +28,7 @@ returns-clause-next c =
     let inside = c.self.inside in
     let S : Machine → Type 0 = λ m. (x : List ℕ) → StateOf m c.args.state x → IsNextState m x c.args.byte c.step_in.result in
     subst S c.self.view_is
-    (answer inside.patterns.now (lists inside.sets.keys) (option_lists inside.steps.items) inside.column_of.items inside.first_rules.items c.self.invariant c.args.state c.args.byte c.step_in.result (within at) (omega (arith, c.ranges.byte.fits)) (step_is at))
+    (answer inside.patterns.now (lists inside.sets.keys) (option_lists inside.steps.items) inside.column_of.items (lists inside.rules.items) c.self.invariant c.args.state c.args.byte c.step_in.result (within at) (omega (arith, c.ranges.byte.fits)) (step_is at))
 
 pub returns-clause-within : goal.returns-clause-within
 returns-clause-within c =
@@ -36,4 +36,4 @@ returns-clause-within c =
     let inside = c.self.inside in
     let S : Machine → Type 0 = λ m. IfSome c.step_in.result (λ to. to < length m.sets) in
     subst S c.self.view_is
-    (answer_within inside.patterns.now (lists inside.sets.keys) (option_lists inside.steps.items) inside.column_of.items inside.first_rules.items c.self.invariant c.args.state c.args.byte c.step_in.result (within at) (omega (arith, c.ranges.byte.fits)) (step_is at))
+    (answer_within inside.patterns.now (lists inside.sets.keys) (option_lists inside.steps.items) inside.column_of.items (lists inside.rules.items) c.self.invariant c.args.state c.args.byte c.step_in.result (within at) (omega (arith, c.ranges.byte.fits)) (step_is at))

@@ -1,5 +1,5 @@
 use Rattle.std.proofs.Common.{arith, ℕ, subst}
-use Rattle.cs_scanner.specs.declared.scan.scanner.Scanner.{Scanner}
+use Rattle.cs_scanner.specs.declared.scanning.scanner.Scanner.{Scanner}
 use Rattle.cs_scanner.specs.Scan.Compared.{scanning}
 use Rattle.cs_scanner.specs.Lexeme.Kinds.{AreLeast}
 use Rattle.cs_scanner.specs.Lexeme.Lexeme.{AreLexemes}

@@ -1,0 +1,38 @@
+// Laws of matches.
+
+ghost use Rattle.std.specs.Prelude.{ℕ, List};
+ghost use Rattle.cs_pattern_parts.specs.Tree.Pattern.{Regex};
+ghost use Rattle.cs_scanner.specs.Scan.Scan.{AreOneMatch, AreOneScan, AreOneStop, HasScan, IsStopOrWhole, Scanning};
+
+use crate::scanning::scanner::Scanner;
+use cs_pattern_parts::take_shared;
+
+/// A text has at most one match at its front.
+pub fn one_match()
+    ensures { (patterns : List Regex) (text : List ℕ) → AreOneMatch patterns text }
+{}
+
+/// A text has at most one scan.
+pub fn one_scan()
+    ensures { (s : Scanning) (text : List ℕ) → AreOneScan s text }
+{}
+
+/// A text has a scan: that it has none leads to a contradiction.
+pub fn some_scan()
+    ensures { (s : Scanning) (text : List ℕ) → HasScan s text }
+{}
+
+/// A scan stops at no more than one place.
+pub fn one_stop()
+    ensures { (s : Scanning) (text : List ℕ) → AreOneStop s text }
+{}
+
+/// A scan that doesn't cover its text stops at a place, and one that covers it stops at none.
+pub fn stop_or_whole()
+    ensures { (s : Scanning) (text : List ℕ) → IsStopOrWhole s text }
+{}
+
+/// Threads may share a scanner, and so its automaton.
+pub fn shared_scanner(scanner: &Scanner<'_>) {
+    take_shared(scanner);
+}
