@@ -138,7 +138,8 @@ fn texts_of(alloc: Global, automaton: &Automaton<'_>) -> Result<String, AllocErr
     Ok(shown)
 }
 
-// Worked by hand: behind `i` an `f` makes the keyword, and behind any other letter none does.
+// Worked by hand: behind `i` an `f` makes the keyword. `x+` is `x` and `x*`, so a second letter or digit leads to another set
+// than the first.
 #[test]
 fn least_texts_of_states(rt: HostRuntime) -> Result<(), Fail> {
     let alloc = rt.alloc();
@@ -149,6 +150,6 @@ fn least_texts_of_states(rt: HostRuntime) -> Result<(), Fail> {
     ];
     let automaton = Automaton::new(alloc, &rules)?;
     let found = texts_of(alloc, &automaton)?;
-    assert_eq!(rt; found.as_str(), "a 2\ni 2\n0 0\nif 1\n0. 0\n0.0 3\n");
+    assert_eq!(rt; found.as_str(), "a 2\ni 2\n0 0\naa 2\nif 1\n00 0\n0. 0\n0.0 3\n");
     Ok(())
 }
