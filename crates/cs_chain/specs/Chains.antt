@@ -1,0 +1,4 @@
+pub mod Chain
+pub mod Chains
+pub mod Rest
+pub mod Counts
