@@ -1,1 +1,2 @@
 pub mod OnChains
+pub mod OnJudging

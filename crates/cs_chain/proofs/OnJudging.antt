@@ -1,0 +1,7 @@
+pub mod Cut
+pub mod Found
+pub mod Placed
+pub mod Chosen
+pub mod Given
+pub mod Written
+pub mod Verdicts

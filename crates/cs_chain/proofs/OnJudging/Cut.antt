@@ -1,0 +1,71 @@
+-- Trees and right sides, cut at one of their symbols.
+use Rattle.std.proofs.Common.{◌≡◌, ℕ, zero, suc, ◌+◌, ◌-◌, ◌≤◌, List, [], ◌∷◌, ◌++◌, Some, length, take, drop, refl, sym, ap, ◌∙◌, subst, arith}
+use Rattle.std.specs.Prelude.{slice_get}
+use Rattle.std.proofs.lemmas.List.{length-take-le}
+use Rattle.std.proofs.lemmas.Option.{slice_get_within}
+use Rattle.cs_grammar.specs.declared.symbol.Symbol.{Symbol}
+use Rattle.cs_grammar.specs.declared.symbol.Symbol.TheVariants.{Nonterminal}
+use Rattle.cs_grammar.specs.Grammar.{Production, PlainGrammar, IsRule}
+use Rattle.cs_grammar.specs.Weights.{Measure}
+use Rattle.cs_grammar.specs.Tree.{Tree, Forest, Bare, Grown, IsTree, AreTrees, size, sizes}
+use Rattle.cs_grammar.specs.Context.{Context as TreeContext, context_size}
+use Rattle.cs_grammar.proofs.OneTree.{one_rule}
+use Rattle.cs_least.specs.Embed.Around.{IsContextOf, HasLeastContext}
+use Rattle.cs_least.proofs.OnEmbed.ChosenContexts.{chosen_context_exists, IsContext-chosen}
+use Rattle.cs_least.proofs.OnEmbed.Steps.{split_at}
+use Rattle.cs_goals.specs.Goal.{IsOccurrence}
+use Rattle.cs_goals.specs.Meets.{trees}
+
+-- trees of some symbols, cut at one of them
+pub record Cut (w : Measure) (g : PlainGrammar) (xs : List Symbol) (k : ℕ) (t : Tree) (n : ℕ) : Type 0 where
+  pub before : List Symbol
+  pub behind : List Symbol
+  pub here : Symbol
+  pub left : Forest
+  pub right : Forest
+  pub symbols : xs ≡ before ++ here ∷ behind
+  pub at : length before ≡ k
+  pub left_trees : AreTrees g before left
+  pub is_tree : IsTree g here t
+  pub right_trees : AreTrees g behind right
+  pub measure : n ≡ sizes w left + size w t + sizes w right
+
+pub cut_at : (w : Measure) (g : PlainGrammar) (f : Forest) (xs : List Symbol) (k : ℕ) (t : Tree) → AreTrees g xs f → slice_get (trees f) k ≡ Some t → Cut w g xs k t (sizes w f)
+cut_at w g Bare xs k t h at = absurd cc
+cut_at w g (Grown u f) [] k t h at = absurd h
+cut_at w g (Grown u f) (x ∷ xs) zero t h at =
+    let same : u ≡ t = cc in
+    record { before = []; behind = xs; here = x; left = Bare; right = f; symbols = refl; at = refl; left_trees = tt; is_tree = subst (IsTree g x) same h.0; right_trees = h.1; measure = omega (arith, ap (size w) same) }
+cut_at w g (Grown u f) (x ∷ xs) (suc k) t h at =
+    let rest = cut_at w g f xs k t h.1 at in
+    record {
+      before = x ∷ rest.before;
+      behind = rest.behind;
+      here = rest.here;
+      left = Grown u rest.left;
+      right = rest.right;
+      symbols = ap (λ (l : List Symbol). x ∷ l) rest.symbols;
+      at = omega (arith, rest.at);
+      left_trees = (h.0, rest.left_trees);
+      is_tree = rest.is_tree;
+      right_trees = rest.right_trees;
+      measure = omega (arith, rest.measure);
+    }
+
+-- the inner nonterminal stands at its place of the outer rule
+pub placed_in : (g : PlainGrammar) (p i q : ℕ) (outer inner : Production) → IsOccurrence g p i q → IsRule g p outer → IsRule g q inner → (outer.right ≡ take (i - 1) outer.right ++ Nonterminal inner.left ∷ drop i outer.right) × (length (take (i - 1) outer.right) + 1 ≡ i)
+placed_in g p i q outer inner o is_outer is_inner =
+    let outers = one_rule g p p o.outer outer refl o.is_outer is_outer in
+    let inners = one_rule g q q o.inner inner refl o.is_inner is_inner in
+    let at : slice_get outer.right (i - 1) ≡ Some (Nonterminal inner.left) =
+    ap (λ (v : Production). slice_get v.right (i - 1)) (sym outers) ∙ o.at ∙ ap (λ (v : Production). Some (Nonterminal v.left)) inners in
+    let next : i - 1 + 1 ≡ i = omega (arith, o.above_zero) in
+    let short : length (take (i - 1) outer.right) ≡ i - 1 = length-take-le (i - 1) outer.right (omega (arith, slice_get_within outer.right (i - 1) (Nonterminal inner.left) at)) in
+    (split_at outer.right (i - 1) (Nonterminal inner.left) at ∙ ap (λ k. take (i - 1) outer.right ++ Nonterminal inner.left ∷ drop k outer.right) next, omega (arith, short, o.above_zero))
+
+-- a nonterminal with a context within the limit has a least one
+pub least_context : (w : Measure) (g : PlainGrammar) (n : ℕ) (c : TreeContext) → IsContextOf g n c → context_size w c ≤ w.limit → HasLeastContext w g n
+least_context w g n c is small =
+    let d = chosen_context_exists w g n c is in
+    let d_is = IsContext-chosen w g d.context (Nonterminal n) d.chosen in
+    (context_size w d.context, (omega (arith, d.least c is, small), record { reached = (d.context, d_is, refl); least = d.least }))

@@ -1,0 +1,5 @@
+use Rattle.cs_chain.proofs.OnJudging.Verdicts.{one_verdict}
+use Rattle.cs_chain.proofs.judging.laws.one_chain_verdict.Goals as goal
+
+pub returns : goal.returns
+returns c = λ v chain a b h k. one_verdict v.weights v.grammar chain a b h k
