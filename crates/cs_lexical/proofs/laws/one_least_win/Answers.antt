@@ -1,0 +1,5 @@
+use Rattle.cs_lexical.proofs.LawProofs.{least_win}
+use Rattle.cs_lexical.proofs.laws.one_least_win.Goals as goal
+
+pub returns : goal.returns
+returns c = least_win

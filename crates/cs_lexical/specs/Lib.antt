@@ -1,0 +1,4 @@
+pub mod Winning
+pub mod Least
+pub mod Noting
+pub mod Laws
