@@ -100,7 +100,8 @@ fn check(rt: &impl Abort, alloc: Global, row: Row) -> Result<(), SampleError> {
     let weights = weights_of(alloc, &[1, 1], row.limit)?;
     let costs = Costs::new(alloc, &grammar, &weights)?;
     let embeds = Embeds::new(alloc, &costs)?;
-    for ([outer, place, middle, spot, inner], want) in row.wants {
+    let wants = row.wants;
+    for ([outer, place, middle, spot, inner], want) in wants {
         let chain = Chain {
             outer: *outer,
             place: *place,
@@ -159,7 +160,8 @@ fn workers_judge_chains(rt: HostRuntime) -> Result<(), Fail> {
     let mut chains = Chains::new(&grammar);
     let first = chains.next().ok_or("none")?;
     let second = chains.next().ok_or("one")?;
-    assert!(rt; fits_chain(&grammar, &first) && fits_chain(&grammar, &second));
+    assert!(rt; fits_chain(&grammar, &first));
+    assert!(rt; fits_chain(&grammar, &second));
     for workers in 1..4 {
         let verdicts = judged(&rt, alloc, &work, first, second, workers)?;
         assert_eq!(rt; verdicts.len(), 2);
