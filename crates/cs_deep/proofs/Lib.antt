@@ -1,0 +1,4 @@
+pub mod Put
+pub mod Classing
+pub mod OneDeep
+pub mod SomeDeep

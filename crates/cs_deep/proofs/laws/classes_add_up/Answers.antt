@@ -1,0 +1,5 @@
+use Rattle.cs_deep.proofs.Classing.{add_up}
+use Rattle.cs_deep.proofs.laws.classes_add_up.Goals as goal
+
+pub returns : goal.returns
+returns c = add_up

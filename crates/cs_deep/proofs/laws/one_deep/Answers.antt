@@ -1,0 +1,5 @@
+use Rattle.cs_deep.proofs.OneDeep.{one_text_of}
+use Rattle.cs_deep.proofs.laws.one_deep.Goals as goal
+
+pub returns : goal.returns
+returns c = λ choice file. one_text_of choice file c.one_text.ensures
