@@ -4,3 +4,6 @@ pub mod Rows
 pub mod Reading
 pub mod LawProofs
 pub mod Tables
+pub mod Counting
+pub mod Putting
+pub mod TextProofs

@@ -3,8 +3,9 @@ use Rattle.std.specs.Prelude.{◌≡◌, ℕ, zero, suc, ◌+◌, ◌-◌, ◌<�
 use Rattle.cs_grammar.specs.Grammar.{IsNumberOf}
 use Rattle.cs_scanner.specs.Automaton.Machine.{Machine, StateOf, patterns_of}
 use Rattle.std.proofs.Common.{Vec, Global}
-use Rattle.cs_scanner.specs.Lexeme.Texts.{text_of}
+use Rattle.cs_scanner.specs.Lexeme.Texts.{text_of, texts_of}
 use Rattle.cs_scanner.specs.Lexeme.StateTexts.{StateText, entry_in}
+use Rattle.cs_lexical.specs.Least.{lists}
 use Rattle.cs_lexical.specs.Winning.{Overlap, Wins}
 
 -- an entry that is 0 becomes the number
@@ -75,3 +76,7 @@ pub record AreNoted (m : Machine) (met : List StateText) (limit : ℕ) (wins : L
   pub are_rows : AreRows (length m.patterns) rows
   pub wins_are : (rule : ℕ) → IsNumberOf (length m.patterns) rule → IsFirst m met (Wins (patterns_of m) rule) texts limit (slice_index wins (rule - 1))
   pub both_are : (rule other : ℕ) → 0 < rule → rule < other → other ≤ length m.patterns → IsFirst m met (Overlap (patterns_of m) rule other) texts limit (number_in rows rule other)
+
+-- all places were noted
+abbrev pub NotesAll : Machine → List StateText → List ℕ → List (Vec ℕ Global) → List (Option (Vec ℕ Global)) → Type 0
+NotesAll m met wins rows texts = AreNoted m met (length met) wins (lists rows) (texts_of texts)

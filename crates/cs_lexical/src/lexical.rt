@@ -1,11 +1,12 @@
 // The least texts of rules.
 
-ghost use Rattle.std.specs.Prelude.{◌≡◌, ◌+◌, ◌-◌, ◌<◌, ◌≤◌, [], ◌∷◌, IfOk, IsTrue, None, Some, length, option_map, slice_index_or};
+ghost use Rattle.std.specs.Prelude.{◌≡◌, ◌+◌, ◌-◌, ◌<◌, ◌≤◌, [], ◌∷◌, IfOk, IsTrue, None, Some, count_by, is_none, is_some, length, map, sum_by, option_map, slice_index_or};
 ghost use Rattle.cs_scanner.specs.Lexeme.Texts.{texts_of};
 ghost use Rattle.cs_scanner.specs.Lexeme.StateTexts.{AreStateTexts};
 ghost use Rattle.cs_scanner.specs.Automaton.Machine.{patterns_of};
-ghost use Rattle.cs_lexical.specs.Least.{AreLeastTexts, both_in, lists, rules_of, win_in};
-ghost use Rattle.cs_lexical.specs.Noting.{AreNoted, IsTextAt};
+ghost use Rattle.cs_lexical.specs.Least.{AreLeastTexts, all_none, all_some, both_in, lists, named, row_in, rules_of, seen, win_in};
+ghost use Rattle.cs_lexical.specs.Lines.{disjoint, overlaps, shadowed};
+ghost use Rattle.cs_lexical.specs.Noting.{AreNoted, AreRows, IsTextAt, NotesAll};
 
 use crate::noting::{no_rows, note_rows, note_win};
 use cs_grammar::place_of;
@@ -66,8 +67,7 @@ fn note_all(
     requires met { AreStateTexts automaton.now met.now }
     requires few { length met.now ≤ 16384 }
     requires none { AreNoted automaton.now met.now 0 wins.old (lists rows.old) (None ∷ []) }
-    ensures { IfOk result (λ texts. AreNoted automaton.now met.now (length met.now)
-        wins.new (lists rows.new) (texts_of texts.items)) }
+    ensures { IfOk result (λ texts. NotesAll automaton.now met.now wins.new rows.new texts.items) }
 {
     let mut texts = Vec::new(alloc);
     texts.push(None)?;
@@ -83,7 +83,7 @@ fn note_all(
 
 // The text with the number, if there is one.
 fn text_with(texts: &[Option<Vec<u8>>], number: u16) -> Option<&[u8]>
-    ensures { option_map (λ text. text.now) result ≡ slice_index_or (texts_of texts.now) number None }
+    ensures { seen result ≡ slice_index_or (texts_of texts.now) number None }
 {
     if number as usize >= texts.len() {
         return None;
@@ -92,6 +92,38 @@ fn text_with(texts: &[Option<Vec<u8>>], number: u16) -> Option<&[u8]>
         Some(text) => Some(text.as_slice()),
         None => None,
     }
+}
+
+// How many of the numbers have a text, and how many don't.
+fn count_texts(texts: &[Option<Vec<u8>>], numbers: &[u16]) -> (usize, usize)
+    ensures texts { result.0 ≡ count_by is_some (named (texts_of texts.now) numbers.now) }
+    ensures none { result.1 ≡ count_by is_none (named (texts_of texts.now) numbers.now) }
+    ensures all { result.0 + result.1 ≡ length numbers.now }
+{
+    let mut count = 0usize;
+    for number in numbers {
+        if text_with(texts, *number).is_some() {
+            count += 1;
+        }
+    }
+    (count, numbers.len() - count)
+}
+
+// The same of all rows.
+fn count_pairs(texts: &[Option<Vec<u8>>], rows: &[Vec<u16>]) -> (u64, u64)
+    requires few { length rows.now ≤ 2048 }
+    requires rows { AreRows (length rows.now) (lists rows.now) }
+    ensures overlaps { result.0 ≡ all_some texts.now rows.now }
+    ensures disjoint { result.1 ≡ all_none texts.now rows.now }
+{
+    let mut overlaps = 0u64;
+    let mut disjoint = 0u64;
+    for row in rows {
+        let (both, apart) = count_texts(texts, row);
+        overlaps += both as u64;
+        disjoint += apart as u64;
+    }
+    (overlaps, disjoint)
 }
 
 impl Lexical {
@@ -109,7 +141,8 @@ impl Lexical {
 
     /// How many rules there are.
     pub fn rules(&self) -> usize
-        ensures { result ≡ rules_of self.now }
+        ensures count { result ≡ rules_of self.now }
+        ensures rows { result ≡ length self.now.rows }
     {
         self.wins.len()
     }
@@ -118,7 +151,7 @@ impl Lexical {
     pub fn wins(&self, rule: u16) -> Option<&[u8]>
         requires from_1 { 0 < rule }
         requires within { rule ≤ rules_of self.now }
-        ensures { option_map (λ text. text.now) result ≡ win_in self.now rule }
+        ensures { seen result ≡ win_in self.now rule }
     {
         text_with(&self.texts, self.wins[place_of(rule)])
     }
@@ -129,7 +162,7 @@ impl Lexical {
         requires from_1 { 0 < rule }
         requires ascending { rule < other }
         requires within { other ≤ rules_of self.now }
-        ensures { option_map (λ text. text.now) result ≡ both_in self.now rule other }
+        ensures { seen result ≡ both_in self.now rule other }
     {
         let row = &self.rows[place_of(rule)];
         text_with(&self.texts, row[(other - rule) as usize - 1])
@@ -139,9 +172,26 @@ impl Lexical {
     pub(crate) fn behind(&self, rule: u16) -> usize
         requires from_1 { 0 < rule }
         requires within { rule ≤ rules_of self.now }
-        ensures row { result ≡ length (slice_index_or self.now.rows (rule - 1) []) }
+        ensures row { result ≡ length (row_in self.now rule) }
         ensures count { rule + result ≡ rules_of self.now }
     {
         self.rows[place_of(rule)].len()
+    }
+
+    /// How many rules win nothing.
+    pub(crate) fn shadowed(&self) -> usize
+        ensures { result ≡ shadowed self.now }
+    {
+        let (_, apart) = count_texts(&self.texts, &self.wins);
+        apart
+    }
+
+    /// How many pairs of rules overlap, and how many don't.
+    pub(crate) fn pairs(&self) -> (u64, u64)
+        requires { rules_of self.now ≤ 2048 }
+        ensures overlaps { result.0 ≡ overlaps self.now }
+        ensures disjoint { result.1 ≡ disjoint self.now }
+    {
+        count_pairs(&self.texts, &self.rows)
     }
 }

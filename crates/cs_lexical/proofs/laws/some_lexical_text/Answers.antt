@@ -1,0 +1,5 @@
+use Rattle.cs_lexical.proofs.TextProofs.{some_text}
+use Rattle.cs_lexical.proofs.laws.some_lexical_text.Goals as goal
+
+pub returns : goal.returns
+returns c = some_text
