@@ -96,11 +96,15 @@ const SIBLINGS: Row = Row {
 };
 
 fn check(rt: &impl Abort, alloc: Global, row: Row) -> Result<(), SampleError> {
-    let grammar = grammar_of(2, 2, rules(alloc, row.lines)?)?;
-    let weights = weights_of(alloc, &[1, 1], row.limit)?;
+    let Row {
+        lines,
+        limit,
+        wants,
+    } = row;
+    let grammar = grammar_of(2, 2, rules(alloc, lines)?)?;
+    let weights = weights_of(alloc, &[1, 1], limit)?;
     let costs = Costs::new(alloc, &grammar, &weights)?;
     let embeds = Embeds::new(alloc, &costs)?;
-    let wants = row.wants;
     for ([outer, place, middle, spot, inner], want) in wants {
         let chain = Chain {
             outer: *outer,

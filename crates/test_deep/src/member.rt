@@ -38,7 +38,10 @@ fn full_outputs(rt: HostRuntime) -> Result<(), Fail> {
         let mut out = output(rt.alloc(), 5)?;
         let answer = write_member(rt.alloc(), &grammar, list, &mut out);
         assert!(rt; answer == Err(Halt::Failed), "{list:?}");
-        assert!(rt; out.written().len() == 5 && text.starts_with(out.written()), "{list:?}");
+        assert!(rt;
+            out.written().len() == 5 && text.starts_with(out.written()),
+            "{list:?}"
+        );
     }
     Ok(())
 }

@@ -150,6 +150,9 @@ fn least_texts_of_states(rt: HostRuntime) -> Result<(), Fail> {
     ];
     let automaton = Automaton::new(alloc, &rules)?;
     let found = texts_of(alloc, &automaton)?;
-    assert_eq!(rt; found.as_str(), "a 2\ni 2\n0 0\naa 2\nif 1\n00 0\n0. 0\n0.0 3\n");
+    assert_eq!(rt;
+        found.as_str(),
+        "a 2\ni 2\n0 0\naa 2\nif 1\n00 0\n0. 0\n0.0 3\n"
+    );
     Ok(())
 }
