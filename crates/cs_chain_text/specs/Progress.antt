@@ -1,0 +1,147 @@
+-- What was made and written of the text of chains. Working words of proofs.
+use Rattle.std.specs.Prelude.{◌≡◌, ◌≤◌, ◌<◌, ℕ, ◌+◌, ◌-◌, ◌^◌, List, [], ◌++◌, Option, IfSome, codes, length, option_map}
+use Rattle.std.specs.Borrow.{Bor}
+use Rattle.std.specs.List.{AllZip}
+use Rattle.cs_grammar.specs.Grammar.{PlainGrammar}
+use Rattle.cs_grammar.specs.Tree.{IsDerivationOf}
+use Rattle.cs_grammar.specs.Weights.{IsMeasure, Weighed, weighed}
+use Rattle.cs_scanner.specs.Lexeme.Lexeme.{AreLexemes}
+use Rattle.cs_scanner.specs.Scan.Compared.{scanning}
+use Rattle.cs_texts.specs.declared.work.work.RenderWork.{RenderWork}
+use Rattle.cs_yacc.specs.Reading.File.{File}
+use Rattle.cs_manifest.specs.Output.Names.{AreNamedTokens}
+use Rattle.cs_manifest.specs.Output.Words.{line, numbered_from}
+use Rattle.cs_manifest.specs.Manifest.Lines.{is_feasible, is_infeasible, is_large, numbered_word}
+use Rattle.cs_manifest.specs.Manifest.Manifest.{Texts, measure_of}
+use Rattle.cs_manifest.specs.Manifest.Named.{AreNamedRenderings}
+use Rattle.cs_chain.specs.declared.chains.chain.Chain.{Chain}
+use Rattle.cs_chain.specs.declared.judging.verdict.ChainVerdict.{ChainVerdict}
+use Rattle.cs_chain.specs.declared.judging.verdict.ChainVerdict.TheVariants.{Feasible, Infeasible, Large}
+use Rattle.cs_chain.specs.Chains.Chains.{chains}
+use Rattle.cs_chain_text.specs.declared.entry.TellWork.{TellWork}
+use Rattle.cs_chain_text.specs.declared.tally.Tally.{Tally}
+use Rattle.cs_chain_text.specs.declared.writing.Chained.{Chained}
+use Rattle.cs_chain_text.specs.Text.{ChainEntry, IsChainsText, IsEntryOf, entry_lines, many_with}
+
+-- ---- what is told of a chain
+
+-- what texts are made by
+abbrev pub texts_of : RenderWork → Texts
+texts_of work = record { scanning = scanning work.scanner.now; separator = work.separator.now }
+
+-- these, and the lexemes, where texts are rendered
+abbrev pub texts_by : Option (Bor RenderWork) → Option Texts
+texts_by work = option_map (λ r. texts_of r.now) work
+
+abbrev pub lexemes_by : Option (Bor RenderWork) → Option (List (Option (List ℕ)))
+lexemes_by work = option_map (λ r. r.now.lexemes.now) work
+
+-- the lexemes are those of the file's tokens
+abbrev pub HaveLexemes : File → Option (Bor RenderWork) → Type 0
+HaveLexemes file work = IfSome work (λ r. AreLexemes (scanning r.now.scanner.now) file.grammar.tokens r.now.lexemes.now)
+
+-- where the verdict has a derivation, it is one of the grammar
+abbrev pub HasDerivation : PlainGrammar → ChainVerdict → Type 0
+HasDerivation g (Feasible size derivation) = IsDerivationOf g derivation
+HasDerivation g Infeasible = Unit {0}
+HasDerivation g Large = Unit {0}
+
+-- the parts of the work are of one grammar
+pub record CanTell (tell : TellWork) : Type 0 where
+  pub embeds : tell.embeds.now ≡ tell.costs.now
+  pub measure : IsMeasure tell.costs.now.weights
+  pub lexemes : IfSome tell.work (λ r. length r.now.lexemes.now ≡ tell.costs.now.grammar.tokens)
+
+-- the entry of the chain by the work
+abbrev pub IsToldBy : TellWork → Chain → ChainEntry → Type 0
+IsToldBy tell chain entry = IsEntryOf tell.costs.now (texts_by tell.work) (lexemes_by tell.work) chain entry
+
+-- all numbers of tokens in it are of the file
+pub record IsNamedEntry (file : File) (entry : ChainEntry) : Type 0 where
+  pub tokens : AreNamedTokens file entry.tokens
+  pub text : AreNamedRenderings file entry.rendered
+
+-- the first of what was left were taken: none only where none was left
+pub record TakesBatch (old batch new : List Chain) : Type 0 where
+  pub split : old ≡ batch ++ new
+  pub some : batch ≡ [] → old ≡ []
+  pub few : length batch ≤ 1024
+
+-- ---- how chains are counted
+
+abbrev pub no_chains : Tally
+no_chains = record { goals = 0; feasible = 0; infeasible = 0; large = 0 }
+
+-- one chain more
+abbrev pub with_verdict : Tally → ChainVerdict → Tally
+with_verdict t (Feasible size derivation) = record t { goals = t.goals + 1; feasible = t.feasible + 1 }
+with_verdict t Infeasible = record t { goals = t.goals + 1; infeasible = t.infeasible + 1 }
+with_verdict t Large = record t { goals = t.goals + 1; large = t.large + 1 }
+
+-- one more can be counted
+pub record HasRoom (t : Tally) : Type 0 where
+  pub goals : t.goals < 2 ^ 64 - 1
+  pub feasible : t.feasible < 2 ^ 64 - 1
+  pub infeasible : t.infeasible < 2 ^ 64 - 1
+  pub large : t.large < 2 ^ 64 - 1
+
+-- these chains were counted
+pub record IsCounted (entries : List ChainEntry) (old new : Tally) : Type 0 where
+  pub goals : new.goals ≡ old.goals + length entries
+  pub feasible : new.feasible ≡ old.feasible + many_with is_feasible entries
+  pub infeasible : new.infeasible ≡ old.infeasible + many_with is_infeasible entries
+  pub large : new.large ≡ old.large + many_with is_large entries
+
+-- so many chains more can be counted: no verdict has more than there are
+pub record CanCount (t : Tally) (many : ℕ) : Type 0 where
+  pub feasible : t.feasible ≤ t.goals
+  pub infeasible : t.infeasible ≤ t.goals
+  pub large : t.large ≤ t.goals
+  pub few : t.goals + many ≤ 1000000
+
+-- the end, by a tally
+abbrev pub end_with : Tally → List ℕ
+end_with t =
+    line
+    (numbered_word (codes "end goals ") t.goals ++ numbered_word (codes " feasible ") t.feasible
+    ++ numbered_word (codes " infeasible ") t.infeasible ++ numbered_word (codes " large ") t.large)
+
+-- the lines of entries behind so many
+abbrev pub lines_from : File → ℕ → List ChainEntry → List ℕ
+lines_from file many entries = numbered_from (many + 1) (entry_lines file) entries
+
+-- ---- the text
+
+-- The text can be written: trees are measured as is asked, the lexemes are those of the file's tokens, and there are few chains.
+pub record IsReady (d : Chained) : Type 0 where
+  pub weights : d.weights.now ≡ measure_of d.weigh d.yacc.now.grammar.tokens (lexemes_by d.work)
+  pub lexemes : HaveLexemes d.yacc.now d.work
+  pub few : length (chains d.yacc.now.grammar) ≤ 1000000
+
+-- the grammar and how its trees are measured
+abbrev pub weighed_in : Chained → Weighed
+weighed_in d = weighed d.yacc.now.grammar d.weights.now
+
+-- the work is of these
+pub record IsWorkOf (d : Chained) (tell : TellWork) : Type 0 where
+  pub can : CanTell tell
+  pub costs : tell.costs.now ≡ weighed_in d
+  pub work : tell.work ≡ d.work
+
+-- the text that is asked for
+abbrev pub IsAsked : Chained → List ℕ → Type 0
+IsAsked d text = IsChainsText d.yacc.now (texts_by d.work) d.weigh text
+
+-- one entry for each of these chains, in order
+abbrev pub AreEntries : Chained → List Chain → List ChainEntry → Type 0
+AreEntries d list entries = AllZip (IsEntryOf (weighed_in d) (texts_by d.work) (lexemes_by d.work)) list entries
+
+-- the text is the lines of all chains
+pub record IsBodyText (d : Chained) (text : List ℕ) : Type 0 where
+  pub entries : List ChainEntry
+  pub are : AreEntries d (chains d.yacc.now.grammar) entries
+  pub lines : text ≡ lines_from d.yacc.now 0 entries
+
+-- whichever the entries are, they were counted
+abbrev pub CountsAll : Chained → Tally → Type 0
+CountsAll d tally = (entries : List ChainEntry) → AreEntries d (chains d.yacc.now.grammar) entries → IsCounted entries no_chains tally

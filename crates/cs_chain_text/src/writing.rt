@@ -1,0 +1,212 @@
+// The text of chains, written as it is made.
+
+ghost use Rattle.std.specs.Prelude.{◌≡◌, ◌≤◌, ◌+◌, [], All, IfOk, OnErr, OnOk, length};
+ghost use Rattle.std.specs.List.{AllZip};
+ghost use Rattle.cs_chain.specs.Chains.Chain.{IsChain};
+ghost use Rattle.cs_chain.specs.Chains.Chains.{chains};
+ghost use Rattle.cs_io.specs.Asked.{IsCalmForAll, LentCalm, LentOne, LentPart, MetFault, MetNone, Stopped, TookFront, TookOne};
+ghost use Rattle.cs_io.specs.BufferedSink.{buffered_room, lent_name, lent_sink, waiting_bytes};
+ghost use Rattle.cs_io.specs.Stops.{PutsOne};
+ghost use Rattle.cs_io.specs.declared.halt.Halt.TheVariants.{Failed};
+ghost use Rattle.cs_manifest.specs.Manifest.Manifest.{measure_of};
+ghost use Rattle.cs_chain_text.specs.Text.{IsChainsText};
+ghost use Rattle.cs_chain_text.specs.Progress.{CanTell, CountsAll, HaveLexemes, IsAsked, IsBodyText, IsReady, IsToldBy, IsWorkOf};
+ghost use Rattle.cs_chain_text.specs.Progress.{TakesBatch, lexemes_by, no_chains, texts_by};
+
+use crate::entry::{TellWork, Told};
+use crate::laws::{one_chains_text, some_chains_text};
+use crate::lines::{write_end, write_entries, write_head};
+use crate::tally::Tally;
+use cs_chain::{Chain, Chains, each_chain_once};
+use cs_choices::Weigh;
+use cs_fan::{Counter, Gate, Work, fan};
+use cs_grammar::Weights;
+use cs_io::{BufferedSink, Halt, Sink};
+use cs_least::{Costs, Embeds};
+use cs_manifest::one_text;
+use cs_texts::RenderWork;
+use cs_yacc::YaccFile;
+use std::alloc::{AllocError, Global};
+use std::thread::Threads;
+
+// So many bytes go to the output in one piece.
+const PIECE: usize = 524_288;
+
+// So many chains are a full batch, and so many workers share it.
+const FULL: usize = 1_024;
+
+const WORKERS: u16 = 4;
+
+// What the text of chains is made by.
+#[derive(Clone, Copy)]
+struct Chained<'a> {
+    yacc: &'a YaccFile,
+    weights: &'a Weights,
+    weigh: Weigh,
+    work: Option<&'a RenderWork<'a>>,
+}
+
+/// Writes the text of the chains of a file to the output, each batch as it is judged. The weights are those of what sizes count;
+/// where there is a lex file, texts are rendered by the work.
+pub fn write_chains<R: Threads + Sync, O: Sink, G: Gate + Sync>(
+    rt: &R,
+    alloc: Global,
+    file: &YaccFile,
+    weights: &Weights,
+    weigh: Weigh,
+    work: Option<&RenderWork<'_>>,
+    out: &mut O,
+    gate: &G,
+) -> Result<(), Halt>
+    requires weights { weights.now
+        ≡ measure_of weigh file.now.grammar.tokens (lexemes_by work) }
+    requires lexemes { HaveLexemes file.now work }
+    requires few { length (chains file.now.grammar) ≤ 1000000 }
+    ensures ok { OnOk result (TookOne O.Sink
+        (IsChainsText file.now (texts_by work.entry) weigh) out.old out.new) }
+    ensures part { OnErr result (TookFront O.Sink
+        (IsChainsText file.now (texts_by work.entry) weigh) out.old out.new) }
+    ensures no_fault { OnOk result (MetNone O.Sink out.old out.new) }
+    ensures failed { Stopped Failed result → MetFault O.Sink out.old out.new }
+    ensures room { IsCalmForAll O.Sink
+        (IsChainsText file.now (texts_by work.entry) weigh) out.old out.new }
+{
+    let chained = Chained {
+        yacc: file,
+        weights,
+        weigh,
+        work,
+    };
+    let mut buffer = Vec::with_capacity(alloc, PIECE)?;
+    let mut sink = BufferedSink::new(out, &mut buffer);
+    write_through(rt, alloc, &chained, &mut sink, gate)
+}
+
+// Writes the text, and then what waits.
+fn write_through<R: Threads + Sync, O: Sink, G: Gate + Sync>(
+    rt: &R,
+    alloc: Global,
+    chained: &Chained<'_>,
+    sink: &mut BufferedSink<'_, '_, O>,
+    gate: &G,
+) -> Result<(), Halt>
+    requires ready { IsReady chained.now }
+    requires waiting { waiting_bytes sink.old ≡ [] }
+    requires spare { buffered_room O.room sink.old ≡ O.room (lent_sink sink.old) + 1 }
+    ensures lent { lent_name sink.new ≡ lent_name sink.old }
+    ensures ok { OnOk result (LentOne O.Sink (IsAsked chained.now) sink.old sink.new) }
+    ensures part { OnErr result (LentPart O.Sink (IsAsked chained.now) sink.old sink.new) }
+    ensures no_fault { OnOk result (MetNone O.Sink (lent_sink sink.old) (lent_sink sink.new)) }
+    ensures failed { Stopped Failed result
+        → MetFault O.Sink (lent_sink sink.old) (lent_sink sink.new) }
+    ensures room { LentCalm O.Sink (IsAsked chained.now) sink.old sink.new }
+{
+    one_chains_text();
+    some_chains_text();
+    tell(rt, alloc, chained, sink, gate)?;
+    sink.flush()?;
+    Ok(())
+}
+
+fn tell<R: Threads + Sync, S: Sink, G: Gate + Sync>(
+    rt: &R,
+    alloc: Global,
+    chained: &Chained<'_>,
+    sink: &mut S,
+    gate: &G,
+) -> Result<(), Halt>
+    requires { IsReady chained.now }
+    ensures text { PutsOne S.Sink (IsAsked chained.now) sink.old sink.new result }
+    ensures lent { S.lent sink.new ≡ S.lent sink.old }
+{
+    one_text();
+    let costs = Costs::new(alloc, chained.yacc.grammar(), chained.weights)?;
+    let _weighs = costs.weights();
+    let embeds = Embeds::new(alloc, &costs)?;
+    let work = TellWork {
+        costs: &costs,
+        embeds: &embeds,
+        work: chained.work,
+    };
+    write_head(sink, chained.yacc, chained.work)?;
+    let mut tally = Tally::new();
+    write_goals(rt, alloc, chained, &work, &mut tally, sink, gate)?;
+    write_end(sink, &tally)?;
+    Ok(())
+}
+
+// Writes the chains, numbered from 1, and counts them.
+fn write_goals<R: Threads + Sync, S: Sink, G: Gate + Sync>(
+    rt: &R,
+    alloc: Global,
+    chained: &Chained<'_>,
+    work: &TellWork<'_>,
+    tally: &mut Tally,
+    sink: &mut S,
+    gate: &G,
+) -> Result<(), Halt>
+    requires ready { IsReady chained.now }
+    requires work { IsWorkOf chained.now work.now }
+    requires tally { tally.old ≡ no_chains }
+    ensures text { PutsOne S.Sink (IsBodyText chained.now) sink.old sink.new result }
+    ensures counted { OnOk result (CountsAll chained.now tally.new) }
+    ensures lent { S.lent sink.new ≡ S.lent sink.old }
+{
+    one_text();
+    each_chain_once();
+    let mut chains = Chains::new(chained.yacc.grammar());
+    'batches: loop {
+        let batch = next_batch(alloc, &mut chains)?;
+        if batch.is_empty() {
+            return Ok(());
+        }
+        let entries = tell_batch(rt, alloc, work, &batch, gate)?;
+        write_entries(sink, chained.yacc, tally, &entries)?;
+    }
+}
+
+// Takes the next chains: at most as many as are a full batch. None where no chain is left.
+fn next_batch(alloc: Global, chains: &mut Chains<'_>) -> Result<Vec<Chain>, AllocError>
+    ensures { IfOk result (λ batch. TakesBatch chains.old batch.items chains.new) }
+{
+    let mut batch = Vec::with_capacity(alloc, FULL)?;
+    for _ in 0..FULL {
+        let Some(chain) = chains.next() else {
+            return Ok(batch);
+        };
+        batch.push(chain)?;
+    }
+    Ok(batch)
+}
+
+// What is told of the chains of a batch, in order.
+fn tell_batch<R: Threads + Sync, G: Gate + Sync>(
+    rt: &R,
+    alloc: Global,
+    work: &TellWork<'_>,
+    batch: &[Chain],
+    gate: &G,
+) -> Result<Vec<Told>, AllocError>
+    requires can { CanTell work.now }
+    requires chains { All (IsChain work.now.costs.now.grammar) batch.now }
+    requires few { length batch.now ≤ 1024 }
+    ensures { IfOk result (λ entries. AllZip (IsToldBy work.now) batch.now entries.items) }
+{
+    share(rt, alloc, work, batch, gate)
+}
+
+// What the work makes of the chains of a batch, by workers.
+fn share<R: Threads + Sync, W: Work<Chain, Told> + Sync, G: Gate + Sync>(
+    rt: &R,
+    alloc: Global,
+    work: &W,
+    batch: &[Chain],
+    gate: &G,
+) -> Result<Vec<Told>, AllocError>
+    requires takes { All (W.takes work.now) batch.now }
+    requires few { length batch.now ≤ 1024 }
+    ensures { IfOk result (λ entries. AllZip (W.answers work.now) batch.now entries.items) }
+{
+    let (counter, mut seat) = Counter::new(alloc, batch.len() as u32, WORKERS)?;
+    fan(rt, alloc, batch, work, gate, &counter, &mut seat)
+}
