@@ -105,17 +105,17 @@ fn check(rt: &impl Abort, alloc: Global, row: Row) -> Result<(), SampleError> {
     let weights = weights_of(alloc, &[1, 1], limit)?;
     let costs = Costs::new(alloc, &grammar, &weights)?;
     let embeds = Embeds::new(alloc, &costs)?;
-    for ([outer, place, middle, spot, inner], want) in wants {
+    for &([outer, place, middle, spot, inner], want) in wants {
         let chain = Chain {
-            outer: *outer,
-            place: *place,
-            middle: *middle,
-            spot: *spot,
-            inner: *inner,
+            outer,
+            place,
+            middle,
+            spot,
+            inner,
         };
         assert!(rt; fits_chain(&grammar, &chain));
         let verdict = judge_chain(alloc, &costs, &embeds, &chain)?;
-        assert!(rt; is_wanted(&verdict, *want), "{chain:?}");
+        assert!(rt; is_wanted(&verdict, want), "{chain:?}");
     }
     Ok(())
 }

@@ -15,6 +15,13 @@ fn lexical_of(alloc: Global, lex: &[u8]) -> Result<Lexical, Trouble> {
     Ok(Lexical::new(alloc, &automaton, lex.patterns().len() as u16)?)
 }
 
+fn is_text(found: Option<&[u8]>, want: &[u8]) -> bool {
+    match found {
+        Some(text) => text == want,
+        None => false,
+    }
+}
+
 #[test]
 fn least_by_rank_among_the_shortest(rt: HostRuntime) -> Result<(), Fail> {
     let alloc = rt.alloc();
@@ -22,8 +29,8 @@ fn least_by_rank_among_the_shortest(rt: HostRuntime) -> Result<(), Fail> {
         alloc,
         b"%%\n[ab]x return IF;\n[A-Za-z0-9][!-~] return ID;\n",
     )?;
-    assert_eq!(rt; lexical.wins(1), Some(b"ax".as_slice()));
-    assert_eq!(rt; lexical.wins(2), Some(b"aa".as_slice()));
-    assert_eq!(rt; lexical.both(1, 2), Some(b"ax".as_slice()));
+    assert!(rt; is_text(lexical.wins(1), b"ax"));
+    assert!(rt; is_text(lexical.wins(2), b"aa"));
+    assert!(rt; is_text(lexical.both(1, 2), b"ax"));
     Ok(())
 }

@@ -1,19 +1,27 @@
 // The states of automata, and how many sets of positions there may be.
 
-ghost use Rattle.std.specs.Prelude.{◌≤◌, length};
+ghost use Rattle.std.specs.Prelude.{◌<◌, ◌≤◌, IfSome, length};
 
 use crate::scanning::rules::rule;
 use cs_pattern::PatternError;
-use cs_scanner::{Automaton, StateTexts};
+use cs_scanner::{Automaton, State, StateTexts};
 use std::alloc::{AllocError, Global};
 use std::test::Fail;
 
-// The first rule after the text, or 0 where no rule matches it; None where none matches a text that begins with it.
-pub(crate) fn rule_after(automaton: &Automaton<'_>, text: &[u8]) -> Option<u16> {
+// The state after the text. None where no rule matches a text that begins with it.
+fn state_after(automaton: &Automaton<'_>, text: &[u8]) -> Option<State>
+    ensures { IfSome result (λ state. state < length automaton.now.sets) }
+{
     let mut state = automaton.start();
     for i in 0..text.len() {
         state = automaton.step(state, text[i])?;
     }
+    Some(state)
+}
+
+// The first rule after the text, or 0 where no rule matches it; None where none matches a text that begins with it.
+pub(crate) fn rule_after(automaton: &Automaton<'_>, text: &[u8]) -> Option<u16> {
+    let state = state_after(automaton, text)?;
     Some(automaton.first_rule(state).unwrap_or(0))
 }
 
@@ -81,13 +89,9 @@ fn rules_after(
 ) -> Result<Option<String>, AllocError>
     requires { rules ≤ length automaton.now.patterns }
 {
-    let mut state = automaton.start();
-    for i in 0..text.len() {
-        let Some(next) = automaton.step(state, text[i]) else {
-            return Ok(None);
-        };
-        state = next;
-    }
+    let Some(state) = state_after(automaton, text) else {
+        return Ok(None);
+    };
     let mut shown = format!(in alloc; "{:?}", automaton.rules_at(state))?;
     for rule in 1..=rules {
         let mark = if automaton.matches(state, rule) {
@@ -132,7 +136,7 @@ fn texts_of(alloc: Global, automaton: &Automaton<'_>) -> Result<String, AllocErr
     let mut shown = String::new(alloc);
     for place in 0..texts.count() {
         let text = texts.text(alloc, place)?;
-        let first = automaton.first_rule(texts.state(place)).unwrap_or(0);
+        let first = rule_after(automaton, &text).unwrap_or(0);
         write!(shown, "{} {first}\n", text.escape_ascii())?;
     }
     Ok(shown)
