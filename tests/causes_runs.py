@@ -13,7 +13,7 @@ import sys
 
 sys.dont_write_bytecode = True
 
-from suites import LISTS_RULES, call, end, frame, lists_suite, written
+from suites import LISTS_RULES, call, end, frame, lists_chains, lists_suite, written
 
 COMMA = "wrongly taken: ',' before ']'"
 SPACE = "wrongly taken: value before NUMBER"
@@ -173,6 +173,16 @@ def written_known(folder):
         yield f"known departures written over: {over}"
 
 
+def chains_of_the_model(folder):
+    """Chains that the model wrote, beside a suite that lends them texts: a parser without faults passes all of them."""
+    paths = [written(folder, "lists", lists_suite()), written(folder, "model_chains", lists_chains())]
+    for faults, status, causes in ("none", 0, []), ("long", 1, [LONG]):
+        found = call("try_parser", *paths, *frame("lists.py", faults))
+        all_have_texts = re.search(r", 22 chains; all \d+ different texts run; .*; 0 without a text$", found[1], re.M)
+        if found[0] != status or not all_have_texts or causes_of(found[1]) != causes:
+            yield f"chains of the model, with {faults}: {found}"
+
+
 def several(folder):
     """All forms of outputs at once."""
     paths = [written(folder, "lists", lists_suite())] + [written(folder, name, text) for name, text in OUTPUTS.items()]
@@ -263,4 +273,4 @@ def results(folder):
             yield f"page {words}: {refused}"
 
 
-end(planted, cases_of_causes, known, written_known, several, order, rounds, chosen, results)
+end(planted, cases_of_causes, known, written_known, several, chains_of_the_model, order, rounds, chosen, results)

@@ -1,7 +1,7 @@
 """What the runs of the tools stand on: manifests, calls of tools, and the end of a script of runs.
 
 The manifests of `s : 'x' ;` are worked by hand from docs/FORMATS.md, by both formats. That of examples/lists.y and
-lists.l is the model's, which was made from the documents alone.
+lists.l is the model's, which was made from the documents alone, and so are the chains of that grammar.
 """
 
 import os
@@ -9,8 +9,10 @@ import subprocess
 import sys
 import tempfile
 
-from model.manifest import Choice, Manifest
+from model.chains import Chains
+from model.manifest import Manifest
 from model.scanner import BLANKS, OWN_BYTE, SKIP, Join, Many, Scanner, one_of
+from model.texts import Choice
 from model.trees import Grammar
 
 TOP = os.path.dirname(os.path.dirname(os.path.abspath(__file__)))
@@ -52,13 +54,23 @@ def many(some):
     return Join((one_of(some), Many(one_of(some))))
 
 
-def lists_suite(**choice):
-    """The text of the suite of examples/lists.y."""
+def lists():
+    """What examples/lists.y and lists.l mean."""
     grammar = Grammar(["NAME", "NUMBER", "'['", "']'", "','"], ["value", "items", "members"], LISTS_RULES, "value")
     letters, digits = range(0x61, 0x7B), range(0x30, 0x3A)
     rules = [(many(digits), "NUMBER"), (many(letters), "NAME"), (one_of(b"[],"), OWN_BYTE), (BLANKS, SKIP)]
+    return grammar, Scanner(rules, grammar.tokens)
+
+
+def lists_suite(**choice):
+    """The text of the suite of examples/lists.y."""
     chosen = {"criteria": ["rule", "cdrc", "pair"], "operators": EDITS, "version": 2, **choice}
-    return Manifest(grammar, Scanner(rules, grammar.tokens), Choice(**chosen)).text().decode()
+    return Manifest(*lists(), Choice(**chosen)).text().decode()
+
+
+def lists_chains():
+    """The chains of examples/lists.y."""
+    return Chains(lists()[0], None, Choice()).text().decode()
 
 
 def call(tool, *words, **more):

@@ -27,7 +27,31 @@ FILES = {
     "trailing.l": b"%%\nab/cd return NUM;\n",
     "states.y": b"%token NUM\n%%\ns : NUM ;\n",
     "states.l": b"%%\n(a|b)*a(a|b){14} return NUM;\n",
+    # each of 100 rules has one place for any of 101: 100 * 100 * 101 chains
+    "many.y": b"%%\ns : 'x'" + b" | s 'x'" * 100 + b" ;\n",
+    "inside": b"( 0 + 0 )",
+    "outside": b"( 0",
+    "stops": b"0 x",
+    "long": b" " * 65537,
+    "most": b"(" * 2001,
 }
+CHAINS = b"""conform chains
+token 1 'x'
+rule 1 a : a
+rule 2 a : 'x'
+goal 1 chain 1 1 1 1 1 size 5
+  derive 1 1 1 2
+  tokens 'x'
+goal 2 chain 1 1 1 1 2 size 4
+  derive 1 1 2
+  tokens 'x'
+end goals 2 feasible 2 infeasible 0 large 0
+"""
+LEXICAL = b"""conform lexical
+rule 1 token 'x' wins "x"
+rule 2 skip wins " "
+end rules 2 shadowed 0 overlaps 0 disjoint 1
+"""
 CHOICE = b"""conform 1 rules
 token 1 'x'
 rule 1 a : a
@@ -258,6 +282,21 @@ ROWS = [
     (["suite", "g1.y", "g1.l", "--format=3"], 2, b"", b"conform: usage: word 3\n"),
     (["suite", "g1.y", "g1.l", "--mutate=all"], 2, b"", b"conform: usage: word 3\n"),
     (["suite", "g1.y", "g1.l", "--bases=1", "--bases=1"], 2, b"", b"conform: usage: word 4\n"),
+    (["member", *G1, "inside"], 0, b"inside\n  derive 2 4 1 2 3 3\n", b""),
+    (["member", *G1, "outside"], 0, b"outside\n", b""),
+    (["member", *G1, "stops"], 1, b"", b"conform: text: Stops at 2\n"),
+    (["member", *G1, "long"], 1, b"", b"conform: text: Length above 65536\n"),
+    (["member", *G1, "most"], 1, b"", b"conform: text: Tokens 2001 of 2000\n"),
+    (["member", *G1, "missing"], 3, b"", b"conform: read fault: text\n"),
+    (["member", *G1], 2, b"", b"conform: usage: word 3\n"),
+    (["member", "states.y", "states.l", "stops"], 1, b"", b"conform: lex: States above 16384\n"),
+    (["lexical", "one.y", "one.l"], 0, LEXICAL, b""),
+    (["lexical", "states.y", "states.l"], 1, b"", b"conform: lex: States above 16384\n"),
+    (["lexical", "g1.y", "g1.l", "--weigh=bytes"], 2, b"", b"conform: usage: word 3\n"),
+    (["chains", "choice.y"], 0, CHAINS, b""),
+    (["chains", "empty.y"], 1, b"", b"conform: yacc: Syntax at 0\n"),
+    (["chains", "many.y"], 1, b"", b"conform: chains: Limit Goals 1010000 of 1000000\n"),
+    (["chains", "g1.y", "g1.l"], 2, b"", b"conform: usage: word 2\n"),
     (["gen", "1"], 0, SUMMARY, b""),
     (["gen", "0001"], 0, SUMMARY, b""),
     (["gen", "18446744073709551616"], 2, b"", b"conform: usage: word 1\n"),

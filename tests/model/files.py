@@ -1,8 +1,11 @@
-"""Random small yacc files and lex files, each text with what it means by docs/FORMATS.md."""
+"""Random small yacc files and lex files, each text with what it means by docs/FORMATS.md; and texts to scan by them."""
 
-from model.manifest import Choice
+from math import inf
+
+from model.manifest import edits
 from model.scanner import BLANKS, EMPTY, FOREIGN, OWN_BYTE, SKIP, Either, Join, Many, joined, literal, one_of
-from model.trees import Grammar
+from model.texts import Choice
+from model.trees import ANY, Grammar
 
 NAMES = ["NUM", "ID", "X_1", "a.b", "IF"]
 LITERALS = b"+-*()x;,~'\\"
@@ -246,3 +249,32 @@ def options(random):
         f"--format={version}",
     ]
     return random.sample(words, len(words)), choice
+
+
+def sentence(random, trees):
+    """The tokens of a random tree of the start symbol: from some node on the rules are those of chosen trees."""
+    grammar, symbols, tokens, freely = trees.grammar, [trees.grammar.start], [], random.randint(0, 12)
+    while symbols:
+        symbol = symbols.pop()
+        if symbol in grammar.tokens:
+            tokens.append(symbol)
+            continue
+        rules = [rule for rule in grammar.rules_of(symbol) if trees.list_cost(ANY, grammar.rules[rule][1]) < inf]
+        rule = random.choice(rules) if freely > 0 else trees.chosen(ANY, symbol).rule
+        freely -= 1
+        symbols += reversed(grammar.rules[rule][1])
+    return tokens
+
+
+def text_of(random, texts):
+    """A text for `member`: that of a sentence or of tokens near one, with something else at its end now and then."""
+    trees, all_tokens = texts.trees, texts.grammar.tokens
+    tokens = random.choices(all_tokens, k=random.randint(0, 4)) if all_tokens else []
+    if trees.cost(ANY, texts.grammar.start) < inf:
+        tokens = sentence(random, trees)
+    if random.random() < 0.5:
+        some = [edited for _, edited in edits(tokens, ["delete", "insert", "replace", "swap"], all_tokens)]
+        tokens = random.choice(some) if some else tokens
+    between = random.choice([b" ", b" ", b" ", b"", b"\n", b"  "])
+    text = between.join(texts.lexemes.get(token, b"?") for token in tokens)
+    return text + random.choice([b""] * 6 + [b" ", b"\xff", b"ab", b"0"])

@@ -4,6 +4,7 @@ A pattern is a value of one of the four classes below. What a rule gives is a to
 """
 
 from dataclasses import dataclass
+from functools import cached_property
 
 SKIP, FOREIGN, OWN_BYTE = "<skip>", "<foreign>", "<own byte>"
 LETTERS = b"abcdefghijklmnopqrstuvwxyz"
@@ -142,14 +143,18 @@ class Scanner:
             found = found if rule is None else (place, rule)
         return found
 
-    def scan(self, text):
-        """The tokens of the text up to where a scan ends or stops, and whether it ends."""
-        place, tokens = 0, []
-        while place < len(text) and (match := self.longest(text, place)):
-            token = self.given(match[1], text[place])
-            tokens += [] if token == SKIP else [token]
+    def matches(self, text):
+        """The matches of a scan in order: where each begins and ends, and the rule that wins it."""
+        place = 0
+        while place < len(text) and (match := self.longest(text, place)) and self.given(match[1], text[place]) != FOREIGN:
+            yield place, *match
             place = match[0]
-        return tokens, place == len(text)
+
+    def scan(self, text):
+        """The tokens of the text up to where a scan ends or stops, and that place."""
+        matches = [*self.matches(text)]
+        given = [self.given(rule, text[begin]) for begin, _, rule in matches]
+        return [token for token in given if token != SKIP], matches[-1][1] if matches else 0
 
     def different(self):
         """Of the bytes that are alike to all patterns, and by themselves, the first in the order of ranks."""
@@ -159,6 +164,7 @@ class Scanner:
             found.setdefault((self.own(byte), *(byte in some for some in sets)), byte)
         return found.values()
 
+    @cached_property
     def has_many_sets(self):
         """Whether texts that aren't empty have more than 16,384 sets of places; the empty set isn't counted."""
         found, waiting, bytes_ = set(), [self.begin], self.different()
@@ -168,24 +174,29 @@ class Scanner:
             found |= behind
         return len(found) > MOST_SETS
 
-    def lexemes(self):
-        """The least text of each token that has one: texts come in order, and of those that lead to one place the first goes on."""
-        found, seen, texts, bytes_ = {}, set(), [(b"", self.begin)], self.different()
+    def least_texts(self, kept=lambda first: None):
+        """Least texts in order, with the nodes that they lead to: of those with equal nodes, and of whose first bytes the
+        same is kept, the first one."""
+        seen, texts, bytes_ = set(), [(b"", self.begin)], self.different()
         while texts:
             longer = []
             for text, nodes in texts:
                 for byte in bytes_:
                     longer_text, behind = text + bytes([byte]), self.behind(nodes, byte)
-                    place = behind, self.own(longer_text[0])
+                    place = behind, kept(longer_text[0])
                     if behind and place not in seen:
                         seen.add(place)
                         longer.append((longer_text, behind))
-                        self.note(found, longer_text, behind)
+                        yield longer_text, behind
             texts = longer
-        return found
 
-    def note(self, found, text, nodes):
-        rule = self.winner(nodes)
-        token = SKIP if rule is None else self.given(rule, text[0])
-        if token in self.tokens:
-            found.setdefault(token, text)
+    @cached_property
+    def lexemes(self):
+        """The least text of each token that has one."""
+        found = {}
+        for text, nodes in self.least_texts(self.own):
+            rule = self.winner(nodes)
+            token = SKIP if rule is None else self.given(rule, text[0])
+            if token in self.tokens:
+                found.setdefault(token, text)
+        return found

@@ -61,6 +61,12 @@ def picks(symbols, kind=ANY):
     return [Pick(kind, symbol) for symbol in symbols]
 
 
+def node_around(grammar, rule, place, child):
+    """A node of the rule with this child at the place, from 0, and any other children."""
+    body = grammar.rules[rule][1]
+    return Node(rule, [*picks(body[:place]), child, *picks(body[place + 1 :])])
+
+
 def yield_of(tree):
     return [token for child in tree.children for token in yield_of(child)] if isinstance(tree, Node) else [tree]
 
@@ -185,9 +191,8 @@ class ContextGoal:
         return ["context", self.rule + 1, self.place + 1, self.inner + 1]
 
     def parts(self, grammar):
-        left, body = grammar.rules[self.rule]
         inner = Node(self.inner, picks(grammar.rules[self.inner][1]))
-        yield left, Node(self.rule, [*picks(body[: self.place]), inner, *picks(body[self.place + 1 :])])
+        yield grammar.rules[self.rule][0], node_around(grammar, self.rule, self.place, inner)
 
     def is_met(self, tree):
         return any(node.rule == self.rule and node.children[self.place].rule == self.inner for node in tree.nodes())
