@@ -211,6 +211,11 @@ MADE_UP_LINES = [
     ("lex: States above 16384", 1, ["l.l: The patterns together need"]),
     ("lex: Length above 1048576", 1, ["l.l: The lex file is too long"]),
     ("read fault: lex", 3, ["l.l: The lex file can't be read"]),
+    ("chains: Limit Goals 1000001 of 1000000", 1, ["g.y: The grammar has too many goals", "1,000,001, and at most 1,000,000"]),
+    ("text: Length above 65536", 1, ["t: The text is too long", "it has 3 bytes"]),
+    ("text: Stops at 2", 1, ["t:1:3: The scanner takes nothing here", "0 x\n  ^\n"]),
+    ("text: Tokens 2001 of 2000", 1, ["t: The text has too many tokens", "2,001, and at most 2,000"]),
+    ("read fault: text", 3, ["t: The text can't be read"]),
     ("write fault", 4, ["The output can't be written"]),
     ("out of memory", 5, ["The system gave no more memory"]),
 ]
@@ -220,6 +225,15 @@ LEX = "Unended Layout UnknownDirective UnknownOption StartCondition NoRules Dang
 ERROR_RULES = "%%\ns : 'a' | error | 'b' error 'c' ;\n"
 END = "end goals 1 feasible 1 infeasible 0 large 0 negatives 0\n"
 SCANNER = "%%\na return 'a';\n"
+# Other commands on these files: a last line, and what is said of it.
+ENDINGS = [
+    (["chains", "g.y"], "end goals 0 feasible 0 infeasible 0 large 0\n", "of 0 goals 0 infeasible and 0 large"),
+    (
+        ["lexical", "g.y", "l.l"],
+        "end rules 1 shadowed 0 overlaps 0 disjoint 0\n",
+        "of 1 scanner rule 0 shadowed, and 0 overlaps",
+    ),
+]
 
 
 def from_bison(folder, name):
@@ -378,8 +392,9 @@ def others(folder):
         if fault or not in_order(wanted, told):
             yield fault or f"{words}: {told!r}, not {wanted}"
     written(folder, "l.l", "%%\na ^b x\n")
+    written(folder, "t", "0 x")
     for line, status, wanted in MADE_UP_LINES:
-        fault, told = explained(folder, ["suite", "g.y", "l.l"], line, status)
+        fault, told = explained(folder, ["suite", "g.y", "l.l", "t"], line, status)
         if fault or not in_order(wanted, told):
             yield fault or f"{line}: {told!r}, not {wanted}"
 
@@ -392,6 +407,10 @@ def good_runs(folder):
         fault, told = explained(folder, words, None, 0, wrote)
         if fault or told != "g.y: 2 rules left out for `error`; of 1 goal 0 infeasible and 0 large\n":
             yield fault or f"a good run of {words}: {told!r}"
+    for words, wrote, ending in ENDINGS:
+        fault, told = explained(folder, words, None, 0, wrote)
+        if fault or told != f"g.y: 2 rules left out for `error`; {ending}\n":
+            yield fault or f"a good run of {words}: {told!r}"
 
 
 def lines_of_formats():
@@ -400,6 +419,8 @@ def lines_of_formats():
         text = file.read()
     part = text.split("## Statuses and lines", 1)[1].split("## C text", 1)[0]
     yield from re.findall(r"`conform: ((?:yacc: Length|read fault: yacc|usage|write fault|out of memory))", part)
+    # those of the commands that read a text or count goals before they are made
+    yield from re.findall(r"`conform: ((?:text: [A-Z]\w+|read fault: text|chains: Limit \w+))", part)
     for name in re.findall(r"NAME is (.*?) \|", part)[0].replace(" or ", ", ").split(", "):
         yield f"yacc: {name}"
     for name in re.findall(r"WHICH is one of (.*?) \|", part)[0].split(", "):

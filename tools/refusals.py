@@ -86,9 +86,19 @@ SENTENCES = {
     "lex: States": (
         "The patterns together need too large an automaton: make repetitions of large sets smaller."
     ),
+    "text: Length": "The text is too long: a text has at most 65,536 bytes.",
+    "text: Stops": (
+        "The scanner takes nothing here, or what it takes gives a token that isn't known: `conform lexical` says what "
+        "each of its rules takes."
+    ),
+    "text: Tokens": "The text has too many tokens: try a shorter one.",
+    "chains: Limit Goals": (
+        "The grammar has too many goals of three rules: leave rules out, or write those with many alternatives shorter."
+    ),
     "usage": "This word may not stand here.",
     "read fault: yacc": "The yacc file can't be read.",
     "read fault: lex": "The lex file can't be read.",
+    "read fault: text": "The text can't be read.",
     "write fault": (
         "The output can't be written: look whether the disk is full, or whether who reads it has ended."
     ),
