@@ -58,6 +58,32 @@ def wide(rules, symbols):
     return "%%\ns : n ;\nn : 'x' " + f"| {side} " * rules + ";\n"
 
 
+def layered(nonterminals, bodies, tokens, seed):
+    """As many bodies for each nonterminal, the first of them the next nonterminal, the others of up to four symbols."""
+    draw = random.Random(seed)
+    names = [f"t{i}" for i in range(1, tokens + 1)]
+    lines = ["%token " + " ".join(names), "%%"]
+    for i in range(1, nonterminals + 1):
+        parts = [f"n{i + 1}" if i < nonterminals else "t1"]
+        for _ in range(bodies - 1):
+            length = draw.randint(1, 4)
+            symbols = [draw.choice(names) if draw.random() < 0.5 else f"n{draw.randint(1, nonterminals)}" for _ in range(length)]
+            parts.append(" ".join(symbols))
+        lines.append(f"n{i} : " + " | ".join(parts) + " ;")
+    return "\n".join(lines) + "\n"
+
+
+def beside_itself(rules):
+    """One nonterminal, of whose rules each but the first has it once: so many rules have (rules - 1)^2 * rules chains."""
+    names = [f"t{i}" for i in range(1, rules)]
+    return f"%token {' '.join(names)}\n%%\ns : 'x'" + "".join(f" | s {name}" for name in names) + " ;\n"
+
+
+def scanner(tokens=512):
+    """A lex file in which each token of the grammars made here is its own name."""
+    return "%%\n" + "".join(f"t{i} return t{i};\n" for i in range(1, tokens + 1)) + "[ ]+ ;\n"
+
+
 def one_mebibyte():
     """A file of just the most bytes: comments, actions and rules."""
     text = "%token NUM\n%%\ns : NUM ;\n"

@@ -10,6 +10,8 @@ import sys
 import tempfile
 
 TOP = os.path.dirname(os.path.dirname(os.path.abspath(__file__)))
+# Starts a program and leaves the greatest memory of it alone in a file.
+TIMED = ["/usr/bin/time", "-q", "-f", "%M", "-o", "memory"]
 
 
 def program():
@@ -55,10 +57,28 @@ class Run:
                 _, status, used = os.wait4(child.pid, 0)
                 child.returncode = self.status = os.waitstatus_to_exitcode(status)
             self.seconds = used.ru_utime + used.ru_stime
-            self.megabytes = used.ru_maxrss / 1024
+            self.megabytes = told_memory(folder, used.ru_maxrss) / 1024
             self.written = os.path.getsize(os.path.join(folder, "out"))
             with open(os.path.join(folder, "err"), "rb") as file:
                 self.said = file.read().decode().strip()
+            self.begin, self.last_line = ends_of(os.path.join(folder, "out"))
+
+
+def told_memory(folder, kilobytes):
+    """What GNU time left in the folder; else what the system tells."""
+    path = os.path.join(folder, "memory")
+    if not os.path.exists(path):
+        return kilobytes
+    with open(path) as file:
+        return int(file.read())
+
+
+def ends_of(path):
+    """The first bytes of a file, and its last line."""
+    with open(path, "rb") as file:
+        begin = file.read(20).decode("latin-1")
+        file.seek(max(os.path.getsize(path) - 200, 0))
+        return begin, file.read().decode("latin-1").rstrip("\n").rpartition("\n")[2]
 
 
 class SuiteRun(Run):
@@ -66,6 +86,13 @@ class SuiteRun(Run):
 
     def __init__(self, path, grammar, lex, options):
         self.measure([path, "suite", "g.y", "g.l", *options], {"g.y": grammar, "g.l": lex})
+
+
+class CommandRun(Run):
+    """One run of any words on files with these names. Its memory is the program's own where GNU time is there."""
+
+    def __init__(self, path, words, files):
+        self.measure([*(TIMED if os.path.exists(TIMED[0]) else ()), path, *words], files)
 
 
 class Bounds:
@@ -86,6 +113,12 @@ class Bounds:
             self.passed.append(name)
         wrong = f", not {wanted}  PASSED" if other else ", as wanted"
         print(f"{name}: status {run.status}{wrong}, {run.written} bytes out {run.said}".rstrip(), flush=True)
+
+    def last_line(self, name, run, wanted):
+        """Whether the output ends with this line."""
+        if run.last_line != wanted:
+            self.passed.append(name)
+            print(f"{name}: it ends with {run.last_line!r}, not {wanted!r}  PASSED", flush=True)
 
     def end(self):
         sys.exit(1 if self.passed else 0)

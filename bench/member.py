@@ -1,105 +1,18 @@
 #!/usr/bin/env python3
-"""Times membership of one list of tokens: bench/member.py [PROGRAM].
+"""Times `conform member`: bench/member.py [PROGRAM].
 
-Each row is a grammar whose tokens are literals, and a list of them: the processor seconds for its tables and its answer with
-a derivation, and the greatest memory, beside their bounds. It ends with status 1 where a bound is passed. No command judges a
-list yet, so a program that does is proved in a copy of this repository, and stays as bench/out/member. Nothing here is part
-of the gate.
+Each row is a grammar whose tokens are literals, and a text of them: what is said of it, and the processor seconds and the
+greatest memory of a run, files read and the text scanned, beside their bounds. It ends with status 1 where one is passed.
+Nothing here is part of the gate.
 """
 
 import os
 import random
-import tempfile
 
-from measure import TOP, Bounds, least, program_of
+from measure import TOP, Bounds, CommandRun, program
+from suite import least
 
-LIBRARIES = "cs_member cs_yacc cs_io cs_grammar"
-
-MAIN = """\
-//! Says whether the bytes of the second file are a sentence of the yacc file, each byte a literal, and how long its derivation is.
-#![tactic(auto)]
-
-ghost use Rattle.std.specs.Prelude.{◌≡◌, ◌≤◌, All, IfOk, IfSome, length};
-ghost use Rattle.cs_grammar.specs.Grammar.{IsNumberOf};
-
-use cs_grammar::Grammar;
-use cs_io::{Desk, FolderDesk};
-use cs_member::{Membership, member};
-use cs_yacc::{MOST_BYTES, YaccFile, read_yacc};
-use std::alloc::{AllocError, Global};
-use std::{env, io};
-
-fn yacc_file(alloc: Global, bytes: &[u8]) -> Option<YaccFile> {
-    if bytes.len() <= MOST_BYTES {
-        read_yacc(alloc, bytes).ok()
-    } else {
-        None
-    }
-}
-
-/// The tokens of the bytes that are literals.
-fn list_of(alloc: Global, yacc: &YaccFile, bytes: &[u8]) -> Result<Vec<u16>, AllocError>
-    ensures { IfOk result (λ list. All (IsNumberOf yacc.now.grammar.tokens) list.items) }
-{
-    let mut list = Vec::new(alloc);
-    for byte in bytes {
-        if let Some(token) = yacc.literal(*byte) {
-            if 0 < token && token <= yacc.grammar().tokens() {
-                list.push(token)?;
-            }
-        }
-    }
-    Ok(list)
-}
-
-fn judge(rt: &HostRuntime, grammar: &Grammar, list: &[u16]) -> io::Result<()>
-    requires { All (IsNumberOf grammar.now.tokens) list.now }
-{
-    if list.len() > 2000 {
-        return Ok(());
-    }
-    match member(rt.alloc(), grammar, list)? {
-        Membership::Outside => println!(rt; "outside")?,
-        Membership::Inside(derivation) => {
-            let rules = derivation.rules().len();
-            println!(rt; "inside {rules}")?;
-        }
-    }
-    Ok(())
-}
-
-fn main(rt: HostRuntime) -> io::Result<()> {
-    let alloc = rt.alloc();
-    let mut desk = FolderDesk::new(&rt);
-    let words: Vec<String> = env::args(&rt)?.collect(alloc)?;
-    if words.len() < 3 {
-        return Ok(());
-    }
-    let Ok(bytes) = desk.read(alloc, words[1].as_str(), MOST_BYTES) else {
-        return Ok(());
-    };
-    let Ok(more) = desk.read(alloc, words[2].as_str(), MOST_BYTES) else {
-        return Ok(());
-    };
-    let Some(yacc) = yacc_file(alloc, &bytes) else {
-        return Ok(());
-    };
-    let list = list_of(alloc, &yacc, &more)?;
-    judge(&rt, yacc.grammar(), &list)
-}
-"""
-
-PROOFS = {
-    "proofs/list_of/Invariants.antt": """\
-use Rattle.std.specs.Prelude.{All}
-use Rattle.cs_grammar.specs.Grammar.{IsNumberOf}
-use Rattle.bench_program.proofs.list_of.Given as goal
-
-abbrev pub invariant-loop-byte : goal.invariant-loop-byte
-invariant-loop-byte l = All (IsNumberOf l.yacc.grammar.tokens) l.list.items
-"""
-}
-
+LEX = "%%\n. return yytext[0];\n"
 # the least of so many runs counts
 RUNS = 3
 
@@ -125,11 +38,11 @@ def at_the_limits():
 
 
 def rows():
-    """The rows' names, their grammars and lists, what is said, and at most how many seconds and MB."""
+    """The rows' names, their grammars and texts, how the output begins, and at most how many seconds and MB."""
     xs = "x" * 2000
-    yield "two s, 2,000 tokens", "%%\ns : s s | 'x' ;\n", xs, "inside 3999", 0.3, 100
+    yield "two s, 2,000 tokens", "%%\ns : s s | 'x' ;\n", xs, "inside", 0.3, 100
     yield "two or three s or none, 2,000 tokens", "%%\ns : s s | s s s | | 'x' ;\n", xs, "inside", 1, 200
-    yield "right recursion, 2,000 tokens", "%%\ns : 'x' s | ;\n", xs, "inside 2001", 0.1, 100
+    yield "right recursion, 2,000 tokens", "%%\ns : 'x' s | ;\n", xs, "inside", 0.1, 100
     yield "C expressions, 1,999 tokens", c_expressions(), "i" + "+i" * 999, "inside", 0.02, 100
     draw = random.Random(49)
     limits = "".join(chr(draw.randint(0x30, 0x6F)) for _ in range(2000))
@@ -137,19 +50,16 @@ def rows():
 
 
 def main():
-    path = program_of("member", MAIN, LIBRARIES, PROOFS)
-    bounds = Bounds()
-    with tempfile.TemporaryDirectory() as folder:
-        for name, grammar, text, said, seconds, megabytes in rows():
-            for file, content in (("g.y", grammar), ("list", text)):
-                with open(os.path.join(folder, file), "w") as out:
-                    out.write(content)
-            told, took, memory = least(path, folder, ["g.y", "list"], RUNS)
-            if not told.startswith(said):
-                bounds.passed.append(name)
-                print(f"{name}: {told.strip()}, not {said}  PASSED")
-            bounds.row(name, took, seconds, "s")
-            bounds.row(name, memory, megabytes, "MB")
+    path, bounds = program(), Bounds()
+    for name, grammar, text, said, seconds, megabytes in rows():
+        files = {"g.y": grammar, "g.l": LEX, "text": text}
+        run = least(CommandRun(path, ["member", "g.y", "g.l", "text"], files) for _ in range(RUNS))
+        bounds.status(name, run)
+        if not run.begin.startswith(said):
+            bounds.passed.append(name)
+            print(f"{name}: {run.begin.strip()}, not {said}  PASSED")
+        bounds.row("  time", run.seconds, seconds, "s")
+        bounds.row("  memory", run.megabytes, megabytes, "MB")
     bounds.end()
 
 

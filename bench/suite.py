@@ -10,13 +10,8 @@ import resource
 import subprocess
 import tempfile
 
-from grammars import many_sentences, one_sentence, random_rules
+from grammars import many_sentences, one_sentence, random_rules, scanner
 from measure import TOP, Bounds, SuiteRun, program
-
-
-def scanner(tokens=512):
-    """A lex file in which each token of the grammars made here is its own name."""
-    return "%%\n" + "".join(f"t{i} return t{i};\n" for i in range(1, tokens + 1)) + "[ ]+ ;\n"
 
 
 def example(name):
@@ -87,4 +82,5 @@ def main():
     bounds.end()
 
 
-main()
+if __name__ == "__main__":
+    main()
