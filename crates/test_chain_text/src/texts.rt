@@ -3,6 +3,8 @@
 ghost use Rattle.std.specs.Prelude.{◌≤◌, length};
 ghost use Rattle.cs_chain.specs.Chains.Chains.{chains};
 ghost use Rattle.cs_chain_text.specs.Progress.{HaveLexemes};
+ghost use Rattle.cs_scanner.specs.Lexeme.Lexeme.{AreLexemes};
+ghost use Rattle.cs_scanner.specs.Scan.Compared.{scanning};
 
 use cs_chain::total;
 use cs_chain_text::write_chains;
@@ -78,11 +80,11 @@ fn sink(alloc: Global, room: usize) -> Result<MemorySink, AllocError> {
 }
 
 // Writes the chains of a yacc file, nodes counted.
-fn write<R: Threads + Sync>(
+fn write<'f, R: Threads + Sync>(
     rt: &R,
     alloc: Global,
     yacc: &YaccFile,
-    work: Option<&RenderWork<'_>>,
+    work: Option<&'f RenderWork<'f>>,
     out: &mut MemorySink,
 ) -> Result<Result<(), Halt>, AllocError>
     requires work { HaveLexemes yacc.now work }
@@ -118,6 +120,21 @@ fn chains_without_a_lex_file(rt: HostRuntime) -> Result<(), Fail> {
     Ok(())
 }
 
+// The same with texts.
+fn write_rendered<'f, R: Threads + Sync>(
+    rt: &R,
+    alloc: Global,
+    yacc: &YaccFile,
+    work: &'f RenderWork<'f>,
+    out: &mut MemorySink,
+) -> Result<Result<(), Halt>, AllocError>
+    requires work { AreLexemes (scanning work.now.scanner.now) yacc.now.grammar.tokens
+        work.now.lexemes.now }
+    requires few { length (chains yacc.now.grammar) ≤ 1000000 }
+{
+    write(rt, alloc, yacc, Some(work), out)
+}
+
 // Writes the chains of a yacc file with the texts of a lex file.
 fn write_texts<R: Threads + Sync>(
     rt: &R,
@@ -140,7 +157,7 @@ fn write_texts<R: Threads + Sync>(
         lexemes: &lexemes,
         separator: b" ",
     };
-    Ok(write(rt, alloc, yacc, Some(&work), out)?)
+    Ok(write_rendered(rt, alloc, yacc, &work, out)?)
 }
 
 #[test]
