@@ -1,3 +1,3 @@
-pub mod Meanings
 pub mod OneText
 pub mod Performing
+pub mod Scanned

@@ -1,2 +1,3 @@
 pub mod Wholes
 pub mod Forms
+pub mod Meanings

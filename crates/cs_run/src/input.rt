@@ -11,8 +11,10 @@ mod judging;
 mod lines;
 mod reading;
 mod refusal;
+mod text;
 
-pub use judging::{Meant, Pair, judge_pair};
+pub use judging::{Meant, Pair, PairAndText, judge_pair};
 pub use lines::line;
 pub use reading::read_files;
 pub use refusal::{Refusal, Stop};
+pub use text::TextBytes;

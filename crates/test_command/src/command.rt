@@ -4,6 +4,8 @@
 #[cfg(test)]
 mod inputs;
 #[cfg(test)]
+mod reports;
+#[cfg(test)]
 mod rules;
 #[cfg(test)]
 mod summary;

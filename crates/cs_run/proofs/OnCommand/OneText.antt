@@ -1,5 +1,5 @@
 -- Where a desk tells its files, or none are asked for, one text is asked for.
-use Rattle.std.proofs.Common.{◌≡◌, ℕ, List, [], ◌∷◌, Option, Result, Ok, Err, sym, ap, ◌∙◌, subst}
+use Rattle.std.proofs.Common.{◌≡◌, ℕ, List, Option, None, Result, Ok, Err, refl, sym, ap, ◌∙◌, subst}
 use Rattle.cs_io.specs.Desk.{Files}
 use Rattle.cs_grammar.specs.Laws.{AtMostOne}
 use Rattle.cs_yacc.specs.Reading.File as yacc
@@ -8,28 +8,32 @@ use Rattle.cs_lex.specs.Reading.File as lex
 use Rattle.cs_lex.specs.Reading.Reading.{IsLexFile}
 use Rattle.cs_lex.proofs.OnReading.OneFile as lex_files
 use Rattle.cs_manifest.specs.declared.manifest.counts.Counts.{Counts}
+use Rattle.cs_chain_text.specs.Text.{IsChainsText}
+use Rattle.cs_choices.specs.declared.weigh.Weigh.{Weigh}
+use Rattle.cs_choices.specs.declared.weigh.Weigh.TheVariants.{Nodes}
+use Rattle.cs_manifest.specs.Manifest.Manifest.{Texts}
+use Rattle.cs_lexical.specs.Lines.{IsLexical}
+use Rattle.cs_scanner.specs.Scan.Scan.{Scanning}
 use Rattle.cs_manifest.specs.Manifest.Manifest.{Choice, IsManifest, rules_form}
 use Rattle.cs_run.specs.declared.words.command.Command.{Command}
-use Rattle.cs_run.specs.declared.words.command.Command.TheVariants.{Gen, Rules, Suite}
+use Rattle.cs_run.specs.declared.words.command.Command.TheVariants.{Chains, Gen, Lexical, Member, Rules, Suite}
 use Rattle.cs_run.specs.declared.words.options.Options.{Options}
 use Rattle.cs_run.specs.Words.Requests.{Names, Number, PlainArguments, PlainRequest}
+use Rattle.cs_run.specs.declared.input.judging.Meant.{Meant}
+use Rattle.cs_run.specs.declared.input.judging.Meant.TheVariants.{Grammar, Nothing, Pair, Text}
 use Rattle.cs_run.specs.Input.Files.{Content}
-use Rattle.cs_run.specs.Ending.Files.{IsRulesText, IsSuiteText, choice_of}
+use Rattle.cs_run.specs.Ending.Files.{IsSuiteText, choice_of, scanning_of}
 use Rattle.cs_run.specs.Ending.Summary.{HasCounts, IsSummary, lengths_of, summary_line, summary_options}
-use Rattle.cs_run.specs.Ending.Texts.{AreTold, IsAskedText, IsText, IsTextOf}
+use Rattle.cs_run.specs.Ending.Texts.{AreTold, AskForOneText, IsAskedText, IsTextBy, IsTextOf}
 use Rattle.cs_run.proofs.OnEnding.Apart.{contents_once}
 use Rattle.cs_run.proofs.OnEnding.OneSummary.{one_counts}
-use Rattle.cs_run.proofs.OnCommand.Meanings.{named}
+use Rattle.cs_run.proofs.OnInput.Meanings.{named, one_meaning}
 
 -- ---- texts
 
-module _ (one : (choice : Choice) (file : yacc.File) → AtMostOne (IsManifest choice file)) where
-  one_rules : (bytes a b : List ℕ) → IsRulesText a bytes → IsRulesText b bytes → a ≡ b
-  unfolding IsRulesText
-  one_rules bytes a b x y =
-      let same = yacc_files.one_file bytes y.0 x.0 y.1.1 x.1.1 in
-      one rules_form x.0 a b x.2 (subst (λ (f : yacc.File). IsManifest rules_form f b) same y.2)
-
+module _ (one : (choice : Choice) (file : yacc.File) → AtMostOne (IsManifest choice file))
+    (one_lexical : (file : yacc.File) (s : Scanning) → AtMostOne (IsLexical file s))
+    (one_chains : (file : yacc.File) (texts : Option Texts) (weigh : Weigh) → AtMostOne (IsChainsText file texts weigh)) where
   one_suite : (options : Options) (bytes more a b : List ℕ) → IsSuiteText options a bytes more → IsSuiteText options b bytes more → a ≡ b
   unfolding IsSuiteText
   one_suite options bytes more a b x y =
@@ -45,22 +49,44 @@ module _ (one : (choice : Choice) (file : yacc.File) → AtMostOne (IsManifest c
       let counts = one_counts x.manifest x.counts y.counts x.has (subst (λ (text : List ℕ). HasCounts y.counts text) manifests y.has) in
       x.said ∙ ap (λ (c : Counts). summary_line seed (lengths_of seed) c) counts ∙ sym y.said
 
-  one_text_of : (command : Command) (arguments : PlainArguments) (options : Options) (contents : List Content) (a b : List ℕ)
-      → IsText command arguments options contents a → IsText command arguments options contents b → a ≡ b
-  one_text_of Rules arguments options [] a b x y = absurd x
-  one_text_of Rules arguments options (c ∷ []) a b x y = one_rules c.bytes a b x y
-  one_text_of Rules arguments options (c ∷ d ∷ contents) a b x y = absurd x
-  one_text_of Suite arguments options [] a b x y = absurd x
-  one_text_of Suite arguments options (c ∷ []) a b x y = absurd x
-  one_text_of Suite arguments options (c ∷ d ∷ []) a b x y = one_suite options c.bytes d.bytes a b x y
-  one_text_of Suite arguments options (c ∷ d ∷ e ∷ contents) a b x y = absurd x
-  one_text_of Gen (Names names) options [] a b x y = absurd x
-  one_text_of Gen (Number number) options [] a b x y = one_summary number a b x y
-  one_text_of Gen (Names names) options (c ∷ contents) a b x y = absurd x
-  one_text_of Gen (Number number) options (c ∷ contents) a b x y = absurd x
+  one_by : (command : Command) (arguments : PlainArguments) (options : Options) (meant : Meant) → ¬ (command ≡ Member) → (a b : List ℕ)
+      → IsTextBy command arguments options meant a → IsTextBy command arguments options meant b → a ≡ b
+  one_by Rules arguments options Nothing other a b x y = absurd x
+  one_by Rules arguments options (Grammar file) other a b x y = one rules_form file a b x y
+  one_by Rules arguments options (Pair two) other a b x y = absurd x
+  one_by Rules arguments options (Text beside) other a b x y = absurd x
+  one_by Suite arguments options Nothing other a b x y = absurd x
+  one_by Suite arguments options (Grammar file) other a b x y = absurd x
+  one_by Suite arguments options (Pair two) other a b x y = one (choice_of two.lex options) two.yacc a b x y
+  one_by Suite arguments options (Text beside) other a b x y = absurd x
+  one_by Gen (Names names) options Nothing other a b x y = absurd x
+  one_by Gen (Number number) options Nothing other a b x y = one_summary number a b x y
+  one_by Gen (Names names) options (Grammar file) other a b x y = absurd x
+  one_by Gen (Number number) options (Grammar file) other a b x y = absurd x
+  one_by Gen (Names names) options (Pair two) other a b x y = absurd x
+  one_by Gen (Number number) options (Pair two) other a b x y = absurd x
+  one_by Gen (Names names) options (Text beside) other a b x y = absurd x
+  one_by Gen (Number number) options (Text beside) other a b x y = absurd x
+  one_by Lexical arguments options Nothing other a b x y = absurd x
+  one_by Lexical arguments options (Grammar file) other a b x y = absurd x
+  one_by Lexical arguments options (Pair two) other a b x y = one_lexical two.yacc (scanning_of two.lex) a b x y
+  one_by Lexical arguments options (Text beside) other a b x y = absurd x
+  one_by Chains arguments options Nothing other a b x y = absurd x
+  one_by Chains arguments options (Grammar file) other a b x y = one_chains file None Nodes a b x y
+  one_by Chains arguments options (Pair two) other a b x y = absurd x
+  one_by Chains arguments options (Text beside) other a b x y = absurd x
+  one_by Member arguments options Nothing other a b x y = absurd x
+  one_by Member arguments options (Grammar file) other a b x y = absurd x
+  one_by Member arguments options (Pair two) other a b x y = absurd x
+  one_by Member arguments options (Text beside) other a b x y = absurd (other refl)
 
-  pub one_text : (asked : Result PlainRequest ℕ) (files : Option Files) → AreTold files asked → (a b : List ℕ) → IsAskedText asked files a → IsAskedText asked files b → a ≡ b
-  one_text (Ok request) files told a b x y =
+  one_text_of : (request : PlainRequest) (contents : List Content) → ¬ (request.command ≡ Member) → (a b : List ℕ) → IsTextOf request contents a → IsTextOf request contents b → a ≡ b
+  one_text_of request contents other a b x y =
+      let same = one_meaning contents y.0 x.0 y.1 x.1 in
+      one_by request.command request.arguments request.options x.0 other a b x.3 (subst (λ (m : Meant). IsTextBy request.command request.arguments request.options m b) same y.3)
+
+  pub one_text : (asked : Result PlainRequest ℕ) (files : Option Files) → AreTold files asked → AskForOneText asked → (a b : List ℕ) → IsAskedText asked files a → IsAskedText asked files b → a ≡ b
+  one_text (Ok request) files told other a b x y =
       let same : y.0 ≡ x.0 = contents_once files request y.0 x.0 told y.1 x.1 in
-      one_text_of request.command request.arguments request.options x.0 a b x.2 (subst (λ (contents : List Content). IsTextOf request contents b) same y.2)
-  one_text (Err at) files told a b x y = absurd x
+      one_text_of request x.0 other a b x.2 (subst (λ (contents : List Content). IsTextOf request contents b) same y.2)
+  one_text (Err at) files told other a b x y = absurd x

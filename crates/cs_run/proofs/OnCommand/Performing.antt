@@ -1,36 +1,43 @@
 -- How a run ends that writes what was asked for, from what its calls did.
-use Rattle.std.proofs.Common.{◌≡◌, ◌⊎◌, ℕ, List, [], ◌∷◌, IsTrue, Option, Ok, Err, refl, sym, ap, ◌∙◌, subst, inl, inr}
+use Rattle.std.proofs.Common.{◌≡◌, ◌⊎◌, ◌<◌, ◌≤◌, ◌^◌, ℕ, List, [], ◌∷◌, IsTrue, Option, Ok, Err, length, refl, sym, ap, ◌∙◌, subst, inl, inr, arith}
 use Rattle.cs_io.specs.Uses.{DeskUse, SinkUse, HasFailed, IsUnused}
 use Rattle.cs_run.specs.declared.input.judging.Meant.{Meant}
-use Rattle.cs_run.specs.declared.input.judging.Meant.TheVariants.{Grammar, Nothing, Pair}
+use Rattle.cs_run.specs.declared.input.judging.Meant.TheVariants.{Grammar, Nothing, Pair, Text}
+use Rattle.cs_run.specs.declared.input.judging.PairAndText.{PairAndText}
 use Rattle.cs_run.specs.declared.input.judging.Pair as pair
 use Rattle.cs_run.specs.declared.input.refusal.Refusal.{Refusal}
-use Rattle.cs_run.specs.declared.input.refusal.Refusal.TheVariants.{States}
+use Rattle.cs_run.specs.declared.input.refusal.Refusal.TheVariants.{States, TextTokens}
 use Rattle.cs_run.specs.declared.input.refusal.Stop.{Stop}
 use Rattle.cs_run.specs.declared.input.refusal.Stop.TheVariants as stop
-use Rattle.cs_run.specs.Input.Files.{AreContents, Content, HaveContents, IsMeantFor, IsNoFile, Mean}
-use Rattle.cs_run.specs.Input.Refusal.{HasManyStates, Refuses, Stops}
-use Rattle.cs_yacc.specs.Reading.File.{File, IsFile}
+use Rattle.cs_io.specs.Desk.{Files}
+use Rattle.cs_run.specs.Command.Scanned.{WritesMembership, WritesTokens}
+use Rattle.cs_run.specs.Input.Files.{AreContents, Content, HaveContents, IsMeantFor, IsNoFile, Mean, most_for}
+use Rattle.cs_run.specs.Input.Read.{AreMeant}
+use Rattle.cs_run.specs.Input.Refusal.{HasManyStates, Stops}
+use Rattle.cs_yacc.specs.Reading.File.{File}
 use Rattle.cs_run.specs.declared.words.command.Command.{Command}
-use Rattle.cs_run.specs.declared.words.command.Command.TheVariants.{Gen, Rules, Suite}
+use Rattle.cs_run.specs.declared.words.command.Command.TheVariants.{Chains, Gen, Lexical, Member, Rules, Suite}
 use Rattle.cs_run.specs.declared.words.command.Role.{Role}
+use Rattle.cs_run.specs.declared.words.command.Role.TheVariants.{Lex, Text as TextRole, Yacc}
 use Rattle.cs_run.specs.declared.words.options.Options.{Options}
-use Rattle.cs_run.specs.Words.Commands.{Seed, taken_of}
-use Rattle.cs_run.specs.Words.Requests.{IsAsked, Names, Number, PlainArguments, PlainRequest, files_of, request_with}
+use Rattle.cs_run.specs.Words.Commands.{taken_of}
+use Rattle.cs_run.specs.Words.Requests.{IsAsked, Named, Names, Number, PlainArguments, PlainRequest, files_of}
 use Rattle.cs_run.proofs.OnWords.OneRequest.{one_asked}
 use Rattle.cs_run.specs.declared.ending.ending.Ending.{Ending}
 use Rattle.cs_run.specs.declared.ending.ending.Ending.TheVariants.{BadWord, Written, Refused, NoFile, NotWritten, NoMemory}
-use Rattle.cs_run.specs.Ending.Ending.{Ends, Performs}
-use Rattle.cs_run.specs.Ending.Files.{Accepted}
+use Rattle.cs_run.specs.Ending.Ending.{Ends, GrewAsAsked, Performs}
+use Rattle.cs_run.specs.Ending.Files.{Accepted, IsBeyond, IsWithin, RefusesFor, scanning_of}
+use Rattle.cs_scanner.specs.Scan.Scan.{Scans}
+use Rattle.cs_deep.specs.Membership.{GrewByFront, IsMemberText}
 use Rattle.cs_run.specs.Ending.Summary.{IsSummary}
-use Rattle.cs_run.specs.Ending.Texts.{IsTextOf}
+use Rattle.cs_run.specs.Ending.Texts.{IsTextBy, IsTextOf}
 use Rattle.cs_run.specs.Writer.Suite.{IsRules, IsSuite}
-use Rattle.cs_io.specs.Asked.{GrewByOne, GrewByPart, HasRoomForAll}
+use Rattle.cs_io.specs.Asked.{GrewByPart, HasRoomForAll}
 use Rattle.cs_io.specs.declared.halt.Halt.{Halt}
 use Rattle.cs_io.specs.declared.halt.Halt.TheVariants as halt
-use Rattle.cs_run.specs.Command.Carrying.{CarriesOut, IsRefusedSuite, Writes, WritesSure, WritingEnds}
+use Rattle.cs_run.specs.Command.Carrying.{CarriesOut, GrewByEach, HasTooManyStates, TakesGrammar, TakesPair, Writes, WritesBy, WritesOfPair, WritesSure, WritingEnds}
 use Rattle.cs_run.specs.Command.Words.{AskForNoFiles, PerformsFor, ending_at, ending_of}
-use Rattle.cs_run.proofs.OnCommand.Meanings.{of_rules, of_suite, rules_of, suite_of}
+use Rattle.cs_run.proofs.OnInput.Meanings.{one_meaning}
 
 -- a read of the desk failed
 abbrev Changed : DeskUse → Type 0
@@ -42,7 +49,7 @@ IsSteady desk = IsTrue desk.steady → desk.faults.after ≡ desk.faults.before
 -- ---- files that are given
 
 module _ (request : PlainRequest) (contents : List Content) (desk : DeskUse) (out : SinkUse) (are : AreContents desk.files (files_of request) contents) where
-  ends_so : (ending : Ending) → WritingEnds (Accepted contents) (λ refusal. Refuses refusal contents) (IsTextOf request contents) ending out → Ends ending (Ok request) desk out
+  ends_so : (ending : Ending) → WritingEnds (Accepted request.command contents) (λ refusal. RefusesFor request.command refusal contents) (IsTextOf request contents) (GrewAsAsked request.command (IsTextOf request contents)) ending out → Ends ending (Ok request) desk out
   ends_so Written ends = ((ends.1.0, (contents, are, ends.1.1), ends.1.2), ends.2)
   ends_so (Refused refusal) ends = ((contents, are, ends.0), ends.1)
   ends_so NotWritten ends = ((contents, are, (ends.0, ends.1)), ends.2)
@@ -67,7 +74,7 @@ performed request meant desk out ending read calm steady carries =
 
 stops_so : (request : PlainRequest) (why : Stop) (desk : DeskUse) (out : SinkUse) → Stops desk.files desk.faults (files_of request) why → IsUnused out → Ends (ending_of why) (Ok request) desk out
 stops_so request (stop.NoFile role) desk out stops unused = (stops, unused)
-stops_so request (stop.Refused refusal) desk out stops unused = (stops, unused)
+stops_so request (stop.Refused refusal) desk out stops unused = ((stops.0, stops.1, inl stops.2), unused)
 stops_so request stop.Memory desk out stops unused = inl unused
 
 pub stopped_so : (request : PlainRequest) (why : Stop) (desk : DeskUse) (out : SinkUse) (ending : Ending) → ending ≡ ending_of why
@@ -86,21 +93,18 @@ stopped_so request why desk out ending same stops failed steady unused = record 
 
 -- ---- one text for another
 
-module _ (accepted also : Type 0) (refused refuses : Refusal → Type 0) (Is Are : List ℕ → Type 0) (out : SinkUse)
-    (to : accepted → also) (so : (refusal : Refusal) → refused refusal → refuses refusal) (there : accepted → (text : List ℕ) → Is text → Are text) (back : (text : List ℕ) → Are text → Is text) where
-  part_more : GrewByPart Is out.written.before out.written.after → GrewByPart Are out.written.before out.written.after
-  part_more part text is = part text (back text is)
-
-  ends_more : (e : Ending) → WritingEnds accepted refused Is e out → WritingEnds also refuses Are e out
+module _ (accepted also : Type 0) (refused refuses : Refusal → Type 0) (Is Are : List ℕ → Type 0) (Part Parts : SinkUse → Type 0) (out : SinkUse)
+    (to : accepted → also) (so : (refusal : Refusal) → refused refusal → refuses refusal) (there : accepted → (text : List ℕ) → Is text → Are text) (parts : accepted → Part out → Parts out) where
+  ends_more : (e : Ending) → WritingEnds accepted refused Is Part e out → WritingEnds also refuses Are Parts e out
   ends_more Written ends = (to ends.0, (ends.1.0, there ends.0 ends.1.0 ends.1.1, ends.1.2), ends.2)
   ends_more (Refused refusal) ends = (so refusal ends.0, ends.1)
-  ends_more NotWritten ends = (to ends.0, part_more ends.1, ends.2)
+  ends_more NotWritten ends = (to ends.0, parts ends.0 ends.1, ends.2)
   ends_more NoMemory (inl unused) = inl unused
-  ends_more NoMemory (inr part) = inr (to part.0, part_more part.1)
+  ends_more NoMemory (inr part) = inr (to part.0, parts part.0 part.1)
   ends_more (BadWord at) ends = ends
   ends_more (NoFile role) ends = ends
 
-  room_more : (e : Ending) → WritingEnds accepted refused Is e out → (HasRoomForAll Is out.room → out.faults.after ≡ out.faults.before) → HasRoomForAll Are out.room → out.faults.after ≡ out.faults.before
+  room_more : (e : Ending) → WritingEnds accepted refused Is Part e out → (HasRoomForAll Is out.room → out.faults.after ≡ out.faults.before) → HasRoomForAll Are out.room → out.faults.after ≡ out.faults.before
   room_more Written ends room fits = ends.2
   room_more (Refused refusal) ends room fits = ends.1.1
   room_more NotWritten ends room fits = room (λ text is. fits text (there ends.0 text is))
@@ -109,44 +113,115 @@ module _ (accepted also : Type 0) (refused refuses : Refusal → Type 0) (Is Are
   room_more (BadWord at) ends room fits = absurd ends
   room_more (NoFile role) ends room fits = absurd ends
 
-  writes_more : (e : Ending) → Writes accepted refused Is e out → Writes also refuses Are e out
+  writes_more : (e : Ending) → Writes accepted refused Is Part e out → Writes also refuses Are Parts e out
   writes_more e writes = record { ends = ends_more e writes.ends; room = room_more e writes.ends writes.room }
 
--- ---- each command
+-- a part of one text is a part of the other
+part_more : (c : Command) (Is Are : List ℕ → Type 0) (out : SinkUse) → ((text : List ℕ) → Is text → Are text) → ((text : List ℕ) → Are text → Is text) → GrewAsAsked c Is out → GrewAsAsked c Are out
+part_more Member Is Are out there back (inl same) = inl same
+part_more Member Is Are out there back (inr (text, is, part)) = inr (text, there text is, part)
+part_more Rules Is Are out there back part = λ text is. part text (back text is)
+part_more Suite Is Are out there back part = λ text is. part text (back text is)
+part_more Gen Is Are out there back part = λ text is. part text (back text is)
+part_more Lexical Is Are out there back part = λ text is. part text (back text is)
+part_more Chains Is Are out there back part = λ text is. part text (back text is)
 
-module _ (arguments : PlainArguments) (options : Options) (ending : Ending) (out : SinkUse) where
-  pub rules_carried : (file : File) → WritesSure (IsRules file) ending out → CarriesOut (request_with Rules arguments options) (Grammar file) ending out
-  rules_carried file writes [] mean = absurd mean
-  rules_carried file writes (one ∷ []) mean =
-      writes_more (Unit {0}) (Accepted (one ∷ [])) (λ refusal. ⊥) (λ refusal. Refuses refusal (one ∷ [])) (IsRules file) (IsTextOf (request_with Rules arguments options) (one ∷ [])) out
-      (λ yes. (Grammar file, mean, tt)) (λ refusal none. absurd none) (λ yes text is. rules_of one.bytes file text mean is) (λ text is. of_rules one.bytes file text mean is) ending writes
-  rules_carried file writes (one ∷ other ∷ []) mean = absurd mean
-  rules_carried file writes (one ∷ other ∷ more ∷ contents) mean = absurd mean
+-- ---- by what contents mean
 
-  pub suite_carried : (two : pair.Pair) → Writes (¬ HasManyStates two.lex) (IsRefusedSuite two) (IsSuite two options) ending out → CarriesOut (request_with Suite arguments options) (Pair two) ending out
-  suite_carried two writes [] mean = absurd mean
-  suite_carried two writes (one ∷ []) mean = absurd mean
-  suite_carried two writes (one ∷ other ∷ []) mean =
-      writes_more (¬ HasManyStates two.lex) (Accepted (one ∷ other ∷ [])) (IsRefusedSuite two) (λ refusal. Refuses refusal (one ∷ other ∷ [])) (IsSuite two options)
-      (IsTextOf (request_with Suite arguments options) (one ∷ other ∷ [])) out
-      (λ few. (Pair two, mean, few)) refuses (λ few text is. suite_of one.bytes other.bytes two options text mean few is) (λ text is. of_suite one.bytes other.bytes two options text mean is) ending writes
-    where
-      refuses : (refusal : Refusal) → IsRefusedSuite two refusal → Refuses refusal (one ∷ other ∷ [])
-      refuses refusal why =
-          subst (λ (r : Refusal). Refuses r (one ∷ other ∷ [])) (sym why.0) ((mean.0, (mean.1, tt)), (two.yacc, two.lex, mean.2, mean.3, why.2, why.1))
-  suite_carried two writes (one ∷ other ∷ more ∷ contents) mean = absurd mean
+-- what is written by a meaning is written by the contents that mean it
+pub carried : (request : PlainRequest) (meant : Meant) (ending : Ending) (out : SinkUse) → WritesBy request.command request.arguments request.options meant ending out → CarriesOut request meant ending out
+carried request meant ending out writes contents mean =
+    writes_more (IsWithin meant request.command) (Accepted request.command contents) (λ refusal. IsBeyond meant refusal request.command) (λ refusal. RefusesFor request.command refusal contents)
+    Is Are (GrewAsAsked request.command Is) (GrewAsAsked request.command Are) out
+    (λ within. (meant, mean, within)) (λ refusal beyond. inr (meant, mean, beyond)) there (λ within part. part_more request.command Is Are out (there within) back part) ending writes
+  where
+    Is : List ℕ → Type 0
+    Is text = IsTextBy request.command request.arguments request.options meant text
 
-  pub gen_carried : (seed : ℕ) (meant : Meant) → meant ≡ Nothing → WritesSure (IsSummary seed) ending out → CarriesOut (request_with Gen (Number seed) options) meant ending out
-  gen_carried seed meant none writes contents mean = by_contents contents (subst (λ (m : Meant). Mean contents m) none mean)
-    where
-      by_contents : (contents : List Content) → Mean contents Nothing
-          → Writes (Accepted contents) (λ refusal. Refuses refusal contents) (IsTextOf (request_with Gen (Number seed) options) contents) ending out
-      by_contents [] mean =
-          writes_more (Unit {0}) (Accepted []) (λ refusal. ⊥) (λ refusal. Refuses refusal []) (IsSummary seed) (IsTextOf (request_with Gen (Number seed) options) []) out
-          (λ yes. (Nothing, tt, tt)) (λ refusal none. absurd none) (λ yes text is. is) (λ text is. is) ending writes
-      by_contents (one ∷ []) mean = absurd mean
-      by_contents (one ∷ other ∷ []) mean = absurd mean
-      by_contents (one ∷ other ∷ more ∷ contents) mean = absurd mean
+    Are : List ℕ → Type 0
+    Are text = IsTextOf request contents text
+
+    there : IsWithin meant request.command → (text : List ℕ) → Is text → Are text
+    there within text is = (meant, mean, within, is)
+
+    back : (text : List ℕ) → Are text → Is text
+    back text is = subst (λ (m : Meant). IsTextBy request.command request.arguments request.options m text) (one_meaning contents is.0 meant is.1 mean) is.3
+
+-- ---- each row
+
+module _ (ending : Ending) (out : SinkUse) where
+  -- where there is a text in any case
+  sure_row : (within : Type 0) (beyond : Refusal → Type 0) (Is : List ℕ → Type 0) → within → WritesSure Is ending out → Writes within beyond Is (GrewByEach Is) ending out
+  sure_row within beyond Is is writes =
+      writes_more (Unit {0}) within (λ refusal. ⊥) beyond Is Is (GrewByEach Is) (GrewByEach Is) out (λ yes. is) (λ refusal none. absurd none) (λ yes text has. has) (λ yes part. part) ending writes
+
+  -- where there is one unless the automaton has too many states
+  pair_row : (within : Type 0) (beyond : Refusal → Type 0) (Is : List ℕ → Type 0) (two : pair.Pair) → ((¬ HasManyStates two.lex) → within) → (HasManyStates two.lex → beyond States)
+      → WritesOfPair two Is ending out → Writes within beyond Is (GrewByEach Is) ending out
+  pair_row within beyond Is two few many writes =
+      writes_more (¬ HasManyStates two.lex) within (HasTooManyStates two) beyond Is Is (GrewByEach Is) (GrewByEach Is) out
+      few (λ refusal why. subst beyond (sym why.0) (many why.1)) (λ yes text has. has) (λ yes part. part) ending writes
+
+  pub rules_so : (c : Command) (arguments : PlainArguments) (options : Options) (file : File) → c ≡ Rules → WritesSure (IsRules file) ending out → WritesBy c arguments options (Grammar file) ending out
+  rules_so c arguments options file is writes =
+      subst (λ (d : Command). WritesBy d arguments options (Grammar file) ending out) (sym is)
+      (sure_row (IsWithin (Grammar file) Rules) (λ refusal. IsBeyond (Grammar file) refusal Rules) (IsTextBy Rules arguments options (Grammar file)) tt writes)
+
+  pub gen_so : (c : Command) (arguments : PlainArguments) (options : Options) (seed : ℕ) → c ≡ Gen → arguments ≡ Number seed → WritesSure (IsSummary seed) ending out → WritesBy c arguments options Nothing ending out
+  gen_so c arguments options seed is given writes =
+      subst (λ (d : Command). WritesBy d arguments options Nothing ending out) (sym is)
+      (subst (λ (a : PlainArguments). WritesBy Gen a options Nothing ending out) (sym given)
+      (sure_row (IsWithin Nothing Gen) (λ refusal. IsBeyond Nothing refusal Gen) (IsTextBy Gen (Number seed) options Nothing) tt writes))
+
+  pub suite_so : (c : Command) (arguments : PlainArguments) (options : Options) (two : pair.Pair) → c ≡ Suite → WritesOfPair two (IsSuite two options) ending out → WritesBy c arguments options (Pair two) ending out
+  suite_so c arguments options two is writes =
+      subst (λ (d : Command). WritesBy d arguments options (Pair two) ending out) (sym is)
+      (pair_row (IsWithin (Pair two) Suite) (λ refusal. IsBeyond (Pair two) refusal Suite) (IsTextBy Suite arguments options (Pair two)) two (λ few. few) (λ many. many) writes)
+
+  pub lexical_so : (c : Command) (arguments : PlainArguments) (options : Options) (two : pair.Pair) → c ≡ Lexical → WritesOfPair two (IsTextBy Lexical arguments options (Pair two)) ending out → WritesBy c arguments options (Pair two) ending out
+  lexical_so c arguments options two is writes =
+      subst (λ (d : Command). WritesBy d arguments options (Pair two) ending out) (sym is)
+      (pair_row (IsWithin (Pair two) Lexical) (λ refusal. IsBeyond (Pair two) refusal Lexical) (IsTextBy Lexical arguments options (Pair two)) two (λ few. few) (λ many. many) writes)
+
+module _ (ending : Ending) (out : SinkUse) where
+  pub text_so : (c : Command) (arguments : PlainArguments) (options : Options) (beside : PairAndText) → c ≡ Member → WritesMembership beside ending out → WritesBy c arguments options (Text beside) ending out
+  text_so c arguments options beside is writes = subst (λ (d : Command). WritesBy d arguments options (Text beside) ending out) (sym is) (writes arguments options)
+
+-- what is written of the tokens that a text scans to is written of the text
+pub tokens_so : (beside : PairAndText) (tokens : List ℕ) (ending : Ending) (out : SinkUse) → ¬ HasManyStates beside.pair.lex → Scans (scanning_of beside.pair.lex) beside.text tokens
+    → WritesTokens beside.pair.yacc.grammar tokens ending out → WritesMembership beside ending out
+tokens_so beside tokens ending out few scans writes arguments options =
+    writes_more (length tokens ≤ 2000) (IsWithin (Text beside) Member) (λ refusal. (refusal ≡ TextTokens (length tokens)) × (2000 < length tokens)) (λ refusal. IsBeyond (Text beside) refusal Member)
+    Is Are (λ sink. GrewByFront Is sink.written.before sink.written.after) (GrewAsAsked Member Are) out
+    (λ short. (few, (length tokens, (tokens, scans, refl), short)))
+    (λ refusal why. subst (λ (r : Refusal). IsBeyond (Text beside) r Member) (sym why.0) (few, (tokens, scans, refl), why.1))
+    (λ short text is. (tokens, scans, is)) (λ short part. fronts part) ending writes
+  where
+    Is : List ℕ → Type 0
+    Is text = IsMemberText beside.pair.yacc.grammar tokens text
+
+    Are : List ℕ → Type 0
+    Are text = IsTextBy Member arguments options (Text beside) text
+
+    fronts : GrewByFront Is out.written.before out.written.after → GrewByFront Are out.written.before out.written.after
+    fronts (inl same) = inl same
+    fronts (inr (text, is, part)) = inr (text, (tokens, scans, is), part)
+
+-- a text that was read is no longer than it may be
+pub text_short : (files : Option Files) (named : List Named) (meant : Meant) → AreMeant files named meant → (beside : PairAndText) → meant ≡ Text beside → length beside.text < 2 ^ 32
+text_short files named meant read beside is = by_contents read.0 (subst (λ (m : Meant). Mean read.0 m) is read.2)
+  where
+    at_most : (role : Role) → most_for role ≤ 1048576
+    at_most Yacc = omega arith
+    at_most Lex = omega arith
+    at_most TextRole = omega arith
+
+    by_contents : (contents : List Content) → Mean contents (Text beside) → length beside.text < 2 ^ 32
+    by_contents [] mean = absurd mean
+    by_contents (one ∷ []) mean = absurd mean
+    by_contents (one ∷ other ∷ []) mean = absurd mean
+    by_contents (one ∷ other ∷ third ∷ []) mean = omega (arith, mean.2, at_most third.role, ap length mean.5)
+    by_contents (one ∷ other ∷ third ∷ more ∷ contents) mean = absurd mean
 
 -- what is equal before and after a call is so by each meaning of a sink
 pub unused_or : {S : Type 0} {A : Type 0} (written : S → Option (List ℕ)) (faults : S → ℕ) (old new : S) → (new ≡ old) ⊎ A → ((written new ≡ written old) × (faults new ≡ faults old)) ⊎ A
@@ -154,11 +229,11 @@ unused_or written faults old new (inl same) = inl (ap written same, ap faults sa
 unused_or written faults old new (inr other) = inr other
 
 -- a writer that halted
-pub halted_so : (Is : List ℕ → Type 0) (ending : Ending) (why : Halt) (out : SinkUse) → ending ≡ ending_at why → GrewByPart Is out.written.before out.written.after
+pub halted_so : (Is : List ℕ → Type 0) (ending : Ending) (why : Halt) (out : SinkUse) → ending ≡ ending_at why → GrewByEach Is out
     → (why ≡ halt.Failed → HasFailed out.faults) → (HasRoomForAll Is out.room → out.faults.after ≡ out.faults.before) → WritesSure Is ending out
-halted_so Is ending why out same part rose room = record { ends = subst (λ (e : Ending). WritingEnds (Unit {0}) (λ refusal. ⊥) Is e out) (sym same) (by_cause why rose); room = room }
+halted_so Is ending why out same part rose room = record { ends = subst (λ (e : Ending). WritingEnds (Unit {0}) (λ refusal. ⊥) Is (GrewByEach Is) e out) (sym same) (by_cause why rose); room = room }
   where
-    by_cause : (why : Halt) → (why ≡ halt.Failed → HasFailed out.faults) → WritingEnds (Unit {0}) (λ refusal. ⊥) Is (ending_at why) out
+    by_cause : (why : Halt) → (why ≡ halt.Failed → HasFailed out.faults) → WritingEnds (Unit {0}) (λ refusal. ⊥) Is (GrewByEach Is) (ending_at why) out
     by_cause halt.Failed rose = (tt, part, rose refl)
     by_cause halt.Memory rose = inr (tt, part)
 
@@ -166,32 +241,13 @@ halted_so Is ending why out same part rose room = record { ends = subst (λ (e :
 
 module _ (words : List (List ℕ)) (request : PlainRequest) (asked : IsAsked words (Ok request)) (meant : Meant) (desk : DeskUse) (out : SinkUse) (ending : Ending)
     (read : HaveContents desk.files (files_of request) (λ contents. Mean contents meant)) (calm : Changed desk → IsNoFile {A = Meant} (Ok meant)) (steady : IsSteady desk) where
-  performs : CarriesOut request meant ending out → PerformsFor words ending desk out
-  performs carries = (Ok request, asked, performed request meant desk out ending read calm steady carries)
-
-  pub rules_performed : (file : File) → request.command ≡ Rules → meant ≡ Grammar file → WritesSure (IsRules file) ending out → PerformsFor words ending desk out
-  rules_performed file command is writes =
-      performs
-      (subst (λ (c : Command). CarriesOut (request_with c request.arguments request.options) meant ending out) (sym command)
-      (subst (λ (m : Meant). CarriesOut (request_with Rules request.arguments request.options) m ending out) (sym is) (rules_carried request.arguments request.options ending out file writes)))
-
-  pub suite_performed : (two : pair.Pair) → request.command ≡ Suite → meant ≡ Pair two → Writes (¬ HasManyStates two.lex) (IsRefusedSuite two) (IsSuite two request.options) ending out → PerformsFor words ending desk out
-  suite_performed two command is writes =
-      performs
-      (subst (λ (c : Command). CarriesOut (request_with c request.arguments request.options) meant ending out) (sym command)
-      (subst (λ (m : Meant). CarriesOut (request_with Suite request.arguments request.options) m ending out) (sym is) (suite_carried request.arguments request.options ending out two writes)))
-
-  pub gen_performed : (seed : ℕ) → request.command ≡ Gen → request.arguments ≡ Number seed → IsMeantFor (taken_of request.command) request.arguments meant → WritesSure (IsSummary seed) ending out → PerformsFor words ending desk out
-  gen_performed seed command given form writes =
-      let none : meant ≡ Nothing = nothing meant (subst (λ (a : PlainArguments). IsMeantFor Seed a meant) given (subst (λ (c : Command). IsMeantFor (taken_of c) request.arguments meant) command form)) in
-      performs
-      (subst (λ (c : Command). CarriesOut (request_with c request.arguments request.options) meant ending out) (sym command)
-      (subst (λ (a : PlainArguments). CarriesOut (request_with Gen a request.options) meant ending out) (sym given) (gen_carried request.arguments request.options ending out seed meant none writes)))
-    where
-      nothing : (m : Meant) → IsMeantFor Seed (Number seed) m → m ≡ Nothing
-      nothing Nothing form = refl
-      nothing (Grammar file) form = absurd form
-      nothing (Pair two) form = absurd form
+  pub performs_as : (m : Meant) → meant ≡ m → WritesBy request.command request.arguments request.options m ending out → PerformsFor words ending desk out
+  performs_as m is writes = (
+    Ok request,
+    asked,
+    performed request meant desk out ending read calm steady
+        (carried request meant ending out (subst (λ (n : Meant). WritesBy request.command request.arguments request.options n ending out) (sym is) writes)),
+  )
 
 pub no_files_so : {D : Type 0} (words : List (List ℕ)) (request : PlainRequest) (old new : D) → IsAsked words (Ok request) → (files_of request ≡ [] → new ≡ old) → AskForNoFiles words → new ≡ old
 no_files_so words request old new asked still asks =
@@ -205,19 +261,76 @@ pub memory_so : (accepted : Type 0) (Is : List ℕ → Type 0) (out : SinkUse) �
 memory_so accepted Is out (inl unused) part = inl unused
 memory_so accepted Is out (inr few) part = inr (few, part)
 
--- the files of `rules` mean a yacc file
-only_grammar : (arguments : PlainArguments) (meant : Meant) → IsMeantFor (taken_of Rules) arguments meant → (file : File) × (meant ≡ Grammar file)
-only_grammar (Names names) Nothing form = absurd form
-only_grammar (Names names) (Grammar file) form = (file, refl)
-only_grammar (Names names) (Pair two) form = absurd form
-only_grammar (Number number) Nothing form = absurd form
-only_grammar (Number number) (Grammar file) form = absurd form
-only_grammar (Number number) (Pair two) form = absurd form
+-- ---- which commands are given what
 
-pub no_other_form : (c : Command) (arguments : PlainArguments) (meant : Meant) → c ≡ Rules → IsMeantFor (taken_of c) arguments meant → (meant ≡ Nothing) ⊎ ((two : pair.Pair) × (meant ≡ Pair two)) → ⊥
-no_other_form c arguments meant rules form (inl none) =
-    let found = only_grammar arguments meant (subst (λ (d : Command). IsMeantFor (taken_of d) arguments meant) rules form) in
-    let both : Grammar found.0 ≡ Nothing = sym found.1 ∙ none in cc
-no_other_form c arguments meant rules form (inr other) =
-    let found = only_grammar arguments meant (subst (λ (d : Command). IsMeantFor (taken_of d) arguments meant) rules form) in
-    let both : Grammar found.0 ≡ Pair other.0 = sym found.1 ∙ other.1 in cc
+-- a yacc file is given to a command that takes one
+pub takes_grammar : (c : Command) (arguments : PlainArguments) (meant : Meant) (file : File) → meant ≡ Grammar file → IsMeantFor (taken_of c) arguments meant → TakesGrammar c
+takes_grammar c arguments meant file is form = by_row c arguments (subst (λ (m : Meant). IsMeantFor (taken_of c) arguments m) is form)
+  where
+    by_row : (c : Command) (arguments : PlainArguments) → IsMeantFor (taken_of c) arguments (Grammar file) → TakesGrammar c
+    by_row Rules arguments form = refl
+    by_row Suite (Names names) form = absurd form
+    by_row Suite (Number number) form = absurd form
+    by_row Gen (Names names) form = absurd form
+    by_row Gen (Number number) form = absurd form
+    by_row Lexical (Names names) form = absurd form
+    by_row Lexical (Number number) form = absurd form
+    by_row Chains arguments form = refl
+    by_row Member (Names names) form = absurd form
+    by_row Member (Number number) form = absurd form
+
+-- a pair of files is given to a command that takes two
+pub takes_pair : (c : Command) (arguments : PlainArguments) (meant : Meant) (two : pair.Pair) → meant ≡ Pair two → IsMeantFor (taken_of c) arguments meant → TakesPair c
+takes_pair c arguments meant two is form = by_row c arguments (subst (λ (m : Meant). IsMeantFor (taken_of c) arguments m) is form)
+  where
+    by_row : (c : Command) (arguments : PlainArguments) → IsMeantFor (taken_of c) arguments (Pair two) → TakesPair c
+    by_row Rules (Names names) form = absurd form
+    by_row Rules (Number number) form = absurd form
+    by_row Suite arguments form = refl
+    by_row Gen (Names names) form = absurd form
+    by_row Gen (Number number) form = absurd form
+    by_row Lexical arguments form = refl
+    by_row Chains (Names names) form = absurd form
+    by_row Chains (Number number) form = absurd form
+    by_row Member (Names names) form = absurd form
+    by_row Member (Number number) form = absurd form
+
+-- and both and a text to one that takes three
+pub takes_text : (c : Command) (arguments : PlainArguments) (meant : Meant) (beside : PairAndText) → meant ≡ Text beside → IsMeantFor (taken_of c) arguments meant → c ≡ Member
+takes_text c arguments meant beside is form = by_row c arguments (subst (λ (m : Meant). IsMeantFor (taken_of c) arguments m) is form)
+  where
+    by_row : (c : Command) (arguments : PlainArguments) → IsMeantFor (taken_of c) arguments (Text beside) → c ≡ Member
+    by_row Rules (Names names) form = absurd form
+    by_row Rules (Number number) form = absurd form
+    by_row Suite (Names names) form = absurd form
+    by_row Suite (Number number) form = absurd form
+    by_row Gen (Names names) form = absurd form
+    by_row Gen (Number number) form = absurd form
+    by_row Lexical (Names names) form = absurd form
+    by_row Lexical (Number number) form = absurd form
+    by_row Chains (Names names) form = absurd form
+    by_row Chains (Number number) form = absurd form
+    by_row Member arguments form = refl
+
+-- nothing is given to `gen` alone, with its number
+pub takes_seed : (c : Command) (arguments : PlainArguments) (meant : Meant) → meant ≡ Nothing → IsMeantFor (taken_of c) arguments meant → (c ≡ Gen) × ((seed : ℕ) × (arguments ≡ Number seed))
+takes_seed c arguments meant is form = by_row c arguments (subst (λ (m : Meant). IsMeantFor (taken_of c) arguments m) is form)
+  where
+    by_row : (c : Command) (arguments : PlainArguments) → IsMeantFor (taken_of c) arguments Nothing → (c ≡ Gen) × ((seed : ℕ) × (arguments ≡ Number seed))
+    by_row Rules (Names names) form = absurd form
+    by_row Rules (Number number) form = absurd form
+    by_row Suite (Names names) form = absurd form
+    by_row Suite (Number number) form = absurd form
+    by_row Gen (Names names) form = absurd form
+    by_row Gen (Number number) form = (refl, (number, refl))
+    by_row Lexical (Names names) form = absurd form
+    by_row Lexical (Number number) form = absurd form
+    by_row Chains (Names names) form = absurd form
+    by_row Chains (Number number) form = absurd form
+    by_row Member (Names names) form = absurd form
+    by_row Member (Number number) form = absurd form
+
+pub names_no_seed : (c : Command) (arguments : PlainArguments) (names : List (List ℕ)) (meant : Meant) → meant ≡ Nothing → IsMeantFor (taken_of c) arguments meant → arguments ≡ Names names → ⊥
+names_no_seed c arguments names meant is form given =
+    let seed = (takes_seed c arguments meant is form).1 in
+    let both : Number seed.0 ≡ Names names = sym seed.1 ∙ given in cc

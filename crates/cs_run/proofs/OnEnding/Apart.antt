@@ -1,28 +1,29 @@
 -- Files that are asked for are accepted or refused, not both; and they are there.
-use Rattle.std.proofs.Common.{◌≡◌, ◌⊎◌, ℕ, List, [], ◌∷◌, Option, None, Some, Result, Ok, Err, IsOkAnd, refl, sym, ap, ◌∙◌, subst, inl, inr, arith}
+use Rattle.std.proofs.Common.{◌≡◌, ◌⊎◌, ◌<◌, ℕ, List, [], ◌∷◌, Option, None, Some, Result, Ok, Err, IsOkAnd, length, true, refl, sym, ap, ◌∙◌, subst, inl, inr, arith}
 use Rattle.std.specs.Prelude.{IsSome}
-use Rattle.cs_io.specs.Desk.{Files, IsMissing, file_named}
+use Rattle.cs_io.specs.Desk.{Files}
 use Rattle.cs_io.specs.Uses.{Change, HasFailed}
 use Rattle.cs_yacc.specs.Reading.File as yacc_file
 use Rattle.cs_yacc.proofs.OnReading.OneFile as yacc
-use Rattle.cs_lex.proofs.OnReading.OneFile as lex
 use Rattle.cs_lex.proofs.OnReading.OneRefusal as lex_refusal
-use Rattle.cs_lex.specs.Reading.File.{File}
-use Rattle.cs_lex.specs.Reading.Reading.{IsLexFile}
 use Rattle.cs_run.specs.declared.words.command.Command.{Command}
-use Rattle.cs_run.specs.declared.words.command.Command.TheVariants.{Gen, Rules, Suite}
 use Rattle.cs_run.specs.declared.words.command.Role.{Role}
-use Rattle.cs_run.specs.declared.words.options.Options.{Options}
-use Rattle.cs_run.specs.Words.Requests.{Named, Names, Number, PlainArguments, PlainRequest, files_of}
+use Rattle.cs_run.specs.Words.Requests.{Named, PlainRequest, files_of}
 use Rattle.cs_run.specs.declared.input.judging.Meant.{Meant}
-use Rattle.cs_run.specs.declared.input.judging.Meant.TheVariants.{Grammar, Nothing, Pair}
+use Rattle.cs_run.specs.declared.input.judging.Meant.TheVariants.{Grammar, Nothing, Pair, Text}
+use Rattle.cs_run.specs.declared.input.judging.PairAndText.{PairAndText}
+use Rattle.cs_run.specs.declared.words.command.Command.TheVariants.{Chains, Gen, Lexical, Member, Rules, Suite}
 use Rattle.cs_run.specs.declared.input.judging.Pair as pair
 use Rattle.cs_run.specs.declared.input.refusal.Refusal.{Refusal}
-use Rattle.cs_run.specs.declared.input.refusal.Refusal.TheVariants.{TooLong, OfYacc, OfLex, States}
-use Rattle.cs_run.specs.Input.Files.{AreContents, Content, HasBytes, HasNoFile, HaveContents, Mean}
-use Rattle.cs_run.specs.Input.Refusal.{AreShort, HasManyStates, IsFirstLong, Refuses}
-use Rattle.cs_run.specs.Ending.Files.{Accepted, AreAccepted, AreRefused, HasFewStates, HasNoFileFor, IsRulesText, IsSuiteText}
-use Rattle.cs_run.specs.Ending.Texts.{AreTold, IsAskedText, IsText, IsTextFor, IsTextOf}
+use Rattle.cs_run.specs.declared.input.refusal.Refusal.TheVariants.{ManyChains, OfLex, OfYacc, States, TextStops, TextTokens, TooLong}
+use Rattle.cs_run.specs.Input.Files.{AreContents, Content, HasNoFile, HaveContents, Mean}
+use Rattle.cs_run.specs.Input.Refusal.{AreShort, IsFirstLong, Refuses}
+use Rattle.cs_run.specs.Ending.Files.{Accepted, AreAccepted, AreRefused, HasFewTokens, HasNoFileFor, HasTokens, IsBeyond, IsWithin, RefusesFor, scanning_of}
+use Rattle.cs_run.specs.Ending.Texts.{AreTold, IsAskedText, IsTextOf}
+use Rattle.cs_run.proofs.OnInput.Meanings.{one_meaning}
+use Rattle.cs_scanner.specs.Scan.Scan.{StopsAt}
+use Rattle.cs_scanner.proofs.OnScan.OneMatch.{runs_one}
+use Rattle.cs_scanner.proofs.OnScan.Stopping.{stopped}
 
 -- ---- contents
 
@@ -60,69 +61,128 @@ contents_once files request a b (inr none) one other = none_once files (files_of
 
 -- ---- bytes
 
-pub mean_short : (contents : List Content) (meant : Meant) → Mean contents meant → AreShort contents
-mean_short [] Nothing mean = tt
-mean_short [] (Grammar file) mean = absurd mean
-mean_short [] (Pair two) mean = absurd mean
-mean_short (one ∷ []) Nothing mean = absurd mean
-mean_short (one ∷ []) (Grammar file) mean = (mean.0, tt)
-mean_short (one ∷ []) (Pair two) mean = absurd mean
-mean_short (one ∷ other ∷ []) Nothing mean = absurd mean
-mean_short (one ∷ other ∷ []) (Grammar file) mean = absurd mean
-mean_short (one ∷ other ∷ []) (Pair two) mean = (mean.0, (mean.1, tt))
-mean_short (one ∷ other ∷ more ∷ contents) Nothing mean = absurd mean
-mean_short (one ∷ other ∷ more ∷ contents) (Grammar file) mean = absurd mean
-mean_short (one ∷ other ∷ more ∷ contents) (Pair two) mean = absurd mean
-
 none_long : (contents : List Content) (role : Role) → AreShort contents → IsFirstLong contents role → ⊥
 none_long [] role short long = long
 none_long (content ∷ contents) role short (inl is) = omega (arith, short.0, is.1)
 none_long (content ∷ contents) role short (inr is) = none_long contents role short.1 is.1
 
--- what a pair of files means is not refused
-pair_apart : (one other : Content) (two : pair.Pair) (refusal : Refusal) → Mean (one ∷ other ∷ []) (Pair two) → (¬ HasManyStates two.lex) → Refuses refusal (one ∷ other ∷ []) → ⊥
-pair_apart one other two (TooLong role) mean few refused = none_long (one ∷ other ∷ []) role (mean.0, (mean.1, tt)) refused
-pair_apart one other two (OfYacc error) mean few refused = yacc.refused_is_not_accepted one.bytes two.yacc error refused.1 mean.2
-pair_apart one other two (OfLex error) mean few refused = lex_refusal.refused_is_not_accepted other.bytes two.yacc two.lex error refused.1.1 mean.3
-pair_apart one other two States mean few refused =
-    let r = refused.1 in
-    let same = yacc.one_file one.bytes two.yacc r.0 mean.2 r.2 in
-    let beside : IsLexFile other.bytes r.0 two.lex = subst (λ (f : yacc_file.File). IsLexFile other.bytes f two.lex) same mean.3 in
-    let scanners : two.lex ≡ r.1 = lex.one_file other.bytes r.0 two.lex r.1 r.4 beside r.3 in
-    few (subst (λ (s : File). HasManyStates s) (sym scanners) r.5)
+-- what contents mean is not refused as they are read
+text_read : (one other third : Content) (beside : PairAndText) (refusal : Refusal) → Mean (one ∷ other ∷ third ∷ []) (Text beside) → Refuses refusal (one ∷ other ∷ third ∷ []) → ⊥
+text_read one other third beside (TooLong role) mean refused = none_long (one ∷ other ∷ third ∷ []) role (mean.0, (mean.1, (mean.2, tt))) refused
+text_read one other third beside (OfYacc error) mean refused = yacc.refused_is_not_accepted one.bytes beside.pair.yacc error refused.1 mean.3
+text_read one other third beside (OfLex error) mean refused = lex_refusal.refused_is_not_accepted other.bytes beside.pair.yacc beside.pair.lex error refused.1.1 mean.4
+text_read one other third beside States mean refused = refused.1
+text_read one other third beside (ManyChains found) mean refused = refused.1
+text_read one other third beside (TextStops at) mean refused = refused.1
+text_read one other third beside (TextTokens found) mean refused = refused.1
 
-grammar_apart : (one : Content) (file : yacc_file.File) (refusal : Refusal) → Mean (one ∷ []) (Grammar file) → Refuses refusal (one ∷ []) → ⊥
-grammar_apart one file (TooLong role) mean refused = none_long (one ∷ []) role (mean.0, tt) refused
-grammar_apart one file (OfYacc error) mean refused = yacc.refused_is_not_accepted one.bytes file error refused.1 mean.1
-grammar_apart one file (OfLex error) mean refused = refused.1
-grammar_apart one file States mean refused = refused.1
+pair_read : (one other : Content) (two : pair.Pair) (refusal : Refusal) → Mean (one ∷ other ∷ []) (Pair two) → Refuses refusal (one ∷ other ∷ []) → ⊥
+pair_read one other two (TooLong role) mean refused = none_long (one ∷ other ∷ []) role (mean.0, (mean.1, tt)) refused
+pair_read one other two (OfYacc error) mean refused = yacc.refused_is_not_accepted one.bytes two.yacc error refused.1 mean.2
+pair_read one other two (OfLex error) mean refused = lex_refusal.refused_is_not_accepted other.bytes two.yacc two.lex error refused.1.1 mean.3
+pair_read one other two States mean refused = refused.1
+pair_read one other two (ManyChains found) mean refused = refused.1
+pair_read one other two (TextStops at) mean refused = refused.1
+pair_read one other two (TextTokens found) mean refused = refused.1
 
-nothing_apart : (refusal : Refusal) → Refuses refusal [] → ⊥
-nothing_apart (TooLong role) refused = refused
-nothing_apart (OfYacc error) refused = refused.1
-nothing_apart (OfLex error) refused = refused.1
-nothing_apart States refused = refused.1
+grammar_read : (one : Content) (file : yacc_file.File) (refusal : Refusal) → Mean (one ∷ []) (Grammar file) → Refuses refusal (one ∷ []) → ⊥
+grammar_read one file (TooLong role) mean refused = none_long (one ∷ []) role (mean.0, tt) refused
+grammar_read one file (OfYacc error) mean refused = yacc.refused_is_not_accepted one.bytes file error refused.1 mean.1
+grammar_read one file (OfLex error) mean refused = refused.1
+grammar_read one file States mean refused = refused.1
+grammar_read one file (ManyChains found) mean refused = refused.1
+grammar_read one file (TextStops at) mean refused = refused.1
+grammar_read one file (TextTokens found) mean refused = refused.1
 
-pub contents_apart : (contents : List Content) (meant : Meant) (refusal : Refusal) → Mean contents meant → HasFewStates meant → Refuses refusal contents → ⊥
-contents_apart [] Nothing refusal mean few refused = nothing_apart refusal refused
-contents_apart [] (Grammar file) refusal mean few refused = mean
-contents_apart [] (Pair two) refusal mean few refused = mean
-contents_apart (one ∷ []) Nothing refusal mean few refused = mean
-contents_apart (one ∷ []) (Grammar file) refusal mean few refused = grammar_apart one file refusal mean refused
-contents_apart (one ∷ []) (Pair two) refusal mean few refused = mean
-contents_apart (one ∷ other ∷ []) Nothing refusal mean few refused = mean
-contents_apart (one ∷ other ∷ []) (Grammar file) refusal mean few refused = mean
-contents_apart (one ∷ other ∷ []) (Pair two) refusal mean few refused = pair_apart one other two refusal mean few refused
-contents_apart (one ∷ other ∷ more ∷ contents) Nothing refusal mean few refused = mean
-contents_apart (one ∷ other ∷ more ∷ contents) (Grammar file) refusal mean few refused = mean
-contents_apart (one ∷ other ∷ more ∷ contents) (Pair two) refusal mean few refused = mean
+nothing_read : (refusal : Refusal) → Refuses refusal [] → ⊥
+nothing_read (TooLong role) refused = refused
+nothing_read (OfYacc error) refused = refused.1
+nothing_read (OfLex error) refused = refused.1
+nothing_read States refused = refused.1
+nothing_read (ManyChains found) refused = refused.1
+nothing_read (TextStops at) refused = refused.1
+nothing_read (TextTokens found) refused = refused.1
+
+meaning_read : (contents : List Content) (meant : Meant) (refusal : Refusal) → Mean contents meant → Refuses refusal contents → ⊥
+meaning_read [] Nothing refusal mean refused = nothing_read refusal refused
+meaning_read [] (Grammar file) refusal mean refused = mean
+meaning_read [] (Pair two) refusal mean refused = mean
+meaning_read [] (Text beside) refusal mean refused = mean
+meaning_read (one ∷ []) Nothing refusal mean refused = mean
+meaning_read (one ∷ []) (Grammar file) refusal mean refused = grammar_read one file refusal mean refused
+meaning_read (one ∷ []) (Pair two) refusal mean refused = mean
+meaning_read (one ∷ []) (Text beside) refusal mean refused = mean
+meaning_read (one ∷ other ∷ []) Nothing refusal mean refused = mean
+meaning_read (one ∷ other ∷ []) (Grammar file) refusal mean refused = mean
+meaning_read (one ∷ other ∷ []) (Pair two) refusal mean refused = pair_read one other two refusal mean refused
+meaning_read (one ∷ other ∷ []) (Text beside) refusal mean refused = mean
+meaning_read (one ∷ other ∷ third ∷ []) Nothing refusal mean refused = mean
+meaning_read (one ∷ other ∷ third ∷ []) (Grammar file) refusal mean refused = mean
+meaning_read (one ∷ other ∷ third ∷ []) (Pair two) refusal mean refused = mean
+meaning_read (one ∷ other ∷ third ∷ []) (Text beside) refusal mean refused = text_read one other third beside refusal mean refused
+meaning_read (one ∷ other ∷ third ∷ more ∷ contents) Nothing refusal mean refused = mean
+meaning_read (one ∷ other ∷ third ∷ more ∷ contents) (Grammar file) refusal mean refused = mean
+meaning_read (one ∷ other ∷ third ∷ more ∷ contents) (Pair two) refusal mean refused = mean
+meaning_read (one ∷ other ∷ third ∷ more ∷ contents) (Text beside) refusal mean refused = mean
+
+-- what is within the limits is beyond none
+within_chains : (c : Command) (file : yacc_file.File) (found : ℕ) → IsWithin (Grammar file) c → IsBeyond (Grammar file) (ManyChains found) c → ⊥
+within_chains Rules file found within beyond = beyond
+within_chains Suite file found within beyond = beyond
+within_chains Gen file found within beyond = beyond
+within_chains Lexical file found within beyond = beyond
+within_chains Chains file found within beyond = omega (arith, within, beyond.0, beyond.1)
+within_chains Member file found within beyond = beyond
+
+within_tokens : (beside : PairAndText) (found : ℕ) → HasFewTokens beside → HasTokens beside found → 2000 < found → ⊥
+within_tokens beside found few has many =
+    let same = runs_one (scanning_of beside.pair.lex) few.1.1 has.0 true has.1 in
+    omega (arith, few.1.2, few.2, has.2, many, ap length same.0)
+
+within_stops : (beside : PairAndText) (at : ℕ) → HasFewTokens beside → StopsAt (scanning_of beside.pair.lex) beside.text at → ⊥
+within_stops beside at few stops = (stopped (scanning_of beside.pair.lex) beside.text).covers few.1.0 few.1.1 at stops
+
+within_limits : (c : Command) (meant : Meant) (refusal : Refusal) → IsWithin meant c → IsBeyond meant refusal c → ⊥
+within_limits c Nothing (TooLong role) within beyond = beyond
+within_limits c Nothing (OfYacc error) within beyond = beyond
+within_limits c Nothing (OfLex error) within beyond = beyond
+within_limits c Nothing States within beyond = beyond
+within_limits c Nothing (ManyChains found) within beyond = beyond
+within_limits c Nothing (TextStops at) within beyond = beyond
+within_limits c Nothing (TextTokens found) within beyond = beyond
+within_limits c (Grammar file) (TooLong role) within beyond = beyond
+within_limits c (Grammar file) (OfYacc error) within beyond = beyond
+within_limits c (Grammar file) (OfLex error) within beyond = beyond
+within_limits c (Grammar file) States within beyond = beyond
+within_limits c (Grammar file) (ManyChains found) within beyond = within_chains c file found within beyond
+within_limits c (Grammar file) (TextStops at) within beyond = beyond
+within_limits c (Grammar file) (TextTokens found) within beyond = beyond
+within_limits c (Pair two) (TooLong role) within beyond = beyond
+within_limits c (Pair two) (OfYacc error) within beyond = beyond
+within_limits c (Pair two) (OfLex error) within beyond = beyond
+within_limits c (Pair two) States within beyond = within beyond
+within_limits c (Pair two) (ManyChains found) within beyond = beyond
+within_limits c (Pair two) (TextStops at) within beyond = beyond
+within_limits c (Pair two) (TextTokens found) within beyond = beyond
+within_limits c (Text beside) (TooLong role) within beyond = beyond
+within_limits c (Text beside) (OfYacc error) within beyond = beyond
+within_limits c (Text beside) (OfLex error) within beyond = beyond
+within_limits c (Text beside) States within beyond = within.0 beyond
+within_limits c (Text beside) (ManyChains found) within beyond = beyond
+within_limits c (Text beside) (TextStops at) within beyond = within_stops beside at within.1 beyond.1
+within_limits c (Text beside) (TextTokens found) within beyond = within_tokens beside found within.1 beyond.1 beyond.2
+
+contents_apart : (c : Command) (contents : List Content) (meant : Meant) (refusal : Refusal) → Mean contents meant → IsWithin meant c → RefusesFor c refusal contents → ⊥
+contents_apart c contents meant refusal mean within (inl read) = meaning_read contents meant refusal mean read
+contents_apart c contents meant refusal mean within (inr (other, means, beyond)) =
+    within_limits c meant refusal within (subst (λ (m : Meant). IsBeyond m refusal c) (one_meaning contents other meant means mean) beyond)
 
 -- ---- what is asked for
 
 apart : (files : Option Files) (request : PlainRequest) → AreTold files (Ok request) → AreAccepted files request → AreRefused files request → ⊥
 apart files request told accepted refused =
     let same : refused.1.0 ≡ accepted.0 = contents_once files request refused.1.0 accepted.0 told refused.1.1 accepted.1 in
-    contents_apart accepted.0 accepted.2.0 refused.0 accepted.2.1 accepted.2.2 (subst (λ (xs : List Content). Refuses refused.0 xs) same refused.1.2)
+    contents_apart request.command accepted.0 accepted.2.0 refused.0 accepted.2.1 accepted.2.2 (subst (λ (xs : List Content). RefusesFor request.command refused.0 xs) same refused.1.2)
 
 -- all files that are asked for are there
 abbrev pub AreThere : Option Files → PlainRequest → Type 0
@@ -142,19 +202,8 @@ no_file (Some files) named faults role (inl some) there none = read_failed files
 no_file files [] faults role (inr empty) there none = absurd none
 no_file files (named ∷ more) faults role (inr empty) there none = absurd cc
 
-text_accepted : (command : Command) (arguments : PlainArguments) (options : Options) (contents : List Content) (text : List ℕ) → IsText command arguments options contents text → Accepted contents
-unfolding IsRulesText IsSuiteText
-text_accepted Rules arguments options [] text is = absurd is
-text_accepted Rules arguments options (one ∷ []) text is = (Grammar is.0, is.1, tt)
-text_accepted Rules arguments options (one ∷ other ∷ contents) text is = absurd is
-text_accepted Suite arguments options [] text is = absurd is
-text_accepted Suite arguments options (one ∷ []) text is = absurd is
-text_accepted Suite arguments options (one ∷ other ∷ []) text is = (Pair (record { yacc = is.0; lex = is.1 }), is.2, is.3)
-text_accepted Suite arguments options (one ∷ other ∷ more ∷ contents) text is = absurd is
-text_accepted Gen (Names names) options [] text is = absurd is
-text_accepted Gen (Number number) options [] text is = (Nothing, tt, tt)
-text_accepted Gen (Names names) options (one ∷ contents) text is = absurd is
-text_accepted Gen (Number number) options (one ∷ contents) text is = absurd is
+text_accepted : (request : PlainRequest) (contents : List Content) (text : List ℕ) → IsTextOf request contents text → Accepted request.command contents
+text_accepted request contents text is = (is.0, is.1, is.2)
 
 -- ---- the same of words that ask for something
 
@@ -172,7 +221,7 @@ asked_more (Err at) is more = is
 
 pub asked_accepted : (asked : Result PlainRequest ℕ) (files : Option Files) (text : List ℕ) → IsAskedText asked files text → IsOkAnd asked (AreAccepted files)
 asked_accepted asked files text is =
-    asked_more asked is (λ request t. (t.0, t.1, text_accepted request.command request.arguments request.options t.0 text t.2))
+    asked_more asked is (λ request t. (t.0, t.1, text_accepted request t.0 text t.2))
 
 pub asked_there : (asked : Result PlainRequest ℕ) (files : Option Files) → IsOkAnd asked (AreAccepted files) → IsOkAnd asked (AreThere files)
 asked_there asked files is = asked_more asked is (λ request a. (a.0, a.1, tt))

@@ -1,14 +1,14 @@
--- Commands that take one file are given a yacc file, and those that take two a pair.
+-- Commands that take one file are given a yacc file, those that take two a pair, and those that take three a text besides.
 use Rattle.std.proofs.Common.{◌≡◌, ◌<◌, ◌≤◌, ℕ, List, [], ◌∷◌, length, refl, sym, ap, ◌∙◌, subst, arith}
 use Rattle.std.specs.Prelude.{String, get_or, string_bytes}
 use Rattle.std.specs.declared.alloc.Global.{Global}
 use Rattle.cs_run.specs.declared.words.command.Command.{Command}
-use Rattle.cs_run.specs.declared.words.command.Command.TheVariants.{Gen, Rules, Suite}
+use Rattle.cs_run.specs.declared.words.command.Command.TheVariants.{Chains, Gen, Lexical, Member, Rules, Suite}
 use Rattle.cs_run.specs.Words.Commands.{taken_of}
-use Rattle.cs_run.specs.Words.Requests.{Fit, Named, Names, PlainArguments, files_taken, lex_named, yacc_named}
+use Rattle.cs_run.specs.Words.Requests.{Fit, Named, Names, PlainArguments, files_taken, lex_named, three_named, yacc_named}
 use Rattle.cs_run.specs.Words.Words.{texts}
-use Rattle.cs_run.specs.declared.input.judging.Meant.{Meant}
-use Rattle.cs_run.specs.declared.input.judging.Meant.TheVariants.{Grammar, Pair}
+use Rattle.cs_run.specs.declared.input.judging.Meant.TheVariants.{Grammar, Pair, Text}
+use Rattle.cs_run.specs.declared.input.judging.PairAndText.{PairAndText}
 use Rattle.cs_run.specs.declared.input.judging.Pair as pair
 use Rattle.cs_run.specs.Input.Files.{IsMeantFor}
 use Rattle.cs_yacc.specs.declared.reading.file.YaccFile.{YaccFile}
@@ -34,11 +34,17 @@ module _ (name : List ℕ) where
   named_one Rules fit = refl
   named_one Suite fit = absurd (omega (arith, fit))
   named_one Gen fit = absurd fit
+  named_one Lexical fit = absurd (omega (arith, fit))
+  named_one Chains fit = refl
+  named_one Member fit = absurd (omega (arith, fit))
 
   meant_one : (c : Command) (file : YaccFile) → Fit (taken_of c) (Names (name ∷ [])) → IsMeantFor (taken_of c) (Names (name ∷ [])) (Grammar file)
   meant_one Rules file fit = tt
   meant_one Suite file fit = absurd (omega (arith, fit))
   meant_one Gen file fit = absurd fit
+  meant_one Lexical file fit = absurd (omega (arith, fit))
+  meant_one Chains file fit = tt
+  meant_one Member file fit = absurd (omega (arith, fit))
 
   pub one_file : (c : Command) (arguments : PlainArguments) → arguments ≡ Names (name ∷ []) → Fit (taken_of c) arguments → files_taken (taken_of c) arguments ≡ yacc_named name ∷ []
   one_file c arguments same fit =
@@ -55,11 +61,17 @@ module _ (name other : List ℕ) where
   named_two Rules fit = absurd (omega (arith, fit))
   named_two Suite fit = refl
   named_two Gen fit = absurd fit
+  named_two Lexical fit = refl
+  named_two Chains fit = absurd (omega (arith, fit))
+  named_two Member fit = absurd (omega (arith, fit))
 
   meant_two : (c : Command) (two : pair.Pair) → Fit (taken_of c) (Names (name ∷ other ∷ [])) → IsMeantFor (taken_of c) (Names (name ∷ other ∷ [])) (Pair two)
   meant_two Rules two fit = absurd (omega (arith, fit))
   meant_two Suite two fit = tt
   meant_two Gen two fit = absurd fit
+  meant_two Lexical two fit = tt
+  meant_two Chains two fit = absurd (omega (arith, fit))
+  meant_two Member two fit = absurd (omega (arith, fit))
 
   pub two_files : (c : Command) (arguments : PlainArguments) → arguments ≡ Names (name ∷ other ∷ []) → Fit (taken_of c) arguments → files_taken (taken_of c) arguments ≡ yacc_named name ∷ lex_named other ∷ []
   two_files c arguments same fit =
@@ -75,8 +87,51 @@ two_not_none name other named two none = let both : yacc_named name ∷ lex_name
 pub one_not_none : (name : List ℕ) (named : List Named) → named ≡ yacc_named name ∷ [] → named ≡ [] → ⊥
 one_not_none name named one none = let both : yacc_named name ∷ [] ≡ [] = sym one ∙ none in cc
 
+-- ---- three files
+
+pub three_words : (words : List (String Global)) (word other more : String Global) → 3 ≤ length words → length words < 4 → word ≡ get_or words 0 word → other ≡ get_or words 1 other → more ≡ get_or words 2 more
+    → texts words ≡ string_bytes word ∷ string_bytes other ∷ string_bytes more ∷ []
+three_words [] word other more some few is also last = absurd (omega (arith, some))
+three_words (w ∷ []) word other more some few is also last = absurd (omega (arith, some))
+three_words (w ∷ v ∷ []) word other more some few is also last = absurd (omega (arith, some))
+three_words (w ∷ v ∷ u ∷ []) word other more some few is also last =
+    ap (λ x. string_bytes x ∷ string_bytes v ∷ string_bytes u ∷ []) (sym is) ∙ ap (λ x. string_bytes word ∷ string_bytes x ∷ string_bytes u ∷ []) (sym also)
+    ∙ ap (λ x. string_bytes word ∷ string_bytes other ∷ string_bytes x ∷ []) (sym last)
+three_words (w ∷ v ∷ u ∷ t ∷ words) word other more some few is also last = absurd (omega (arith, few))
+
+module _ (name other third : List ℕ) where
+  named_three : (c : Command) → Fit (taken_of c) (Names (name ∷ other ∷ third ∷ [])) → files_taken (taken_of c) (Names (name ∷ other ∷ third ∷ [])) ≡ three_named name other third
+  named_three Rules fit = absurd (omega (arith, fit))
+  named_three Suite fit = absurd (omega (arith, fit))
+  named_three Gen fit = absurd fit
+  named_three Lexical fit = absurd (omega (arith, fit))
+  named_three Chains fit = absurd (omega (arith, fit))
+  named_three Member fit = refl
+
+  meant_three : (c : Command) (beside : PairAndText) → Fit (taken_of c) (Names (name ∷ other ∷ third ∷ [])) → IsMeantFor (taken_of c) (Names (name ∷ other ∷ third ∷ [])) (Text beside)
+  meant_three Rules beside fit = absurd (omega (arith, fit))
+  meant_three Suite beside fit = absurd (omega (arith, fit))
+  meant_three Gen beside fit = absurd fit
+  meant_three Lexical beside fit = absurd (omega (arith, fit))
+  meant_three Chains beside fit = absurd (omega (arith, fit))
+  meant_three Member beside fit = tt
+
+  pub three_files : (c : Command) (arguments : PlainArguments) → arguments ≡ Names (name ∷ other ∷ third ∷ []) → Fit (taken_of c) arguments → files_taken (taken_of c) arguments ≡ three_named name other third
+  three_files c arguments same fit =
+      subst (λ (a : PlainArguments). files_taken (taken_of c) a ≡ three_named name other third) (sym same) (named_three c (subst (λ (a : PlainArguments). Fit (taken_of c) a) same fit))
+
+  pub three_form : (c : Command) (arguments : PlainArguments) (beside : PairAndText) → arguments ≡ Names (name ∷ other ∷ third ∷ []) → Fit (taken_of c) arguments → IsMeantFor (taken_of c) arguments (Text beside)
+  three_form c arguments beside same fit =
+      subst (λ (a : PlainArguments). IsMeantFor (taken_of c) a (Text beside)) (sym same) (meant_three c beside (subst (λ (a : PlainArguments). Fit (taken_of c) a) same fit))
+
+  pub three_not_none : (named : List Named) → named ≡ three_named name other third → named ≡ [] → ⊥
+  three_not_none named three none = let both : three_named name other third ≡ [] = sym three ∙ none in cc
+
 -- no command takes another number of files
-pub not_other : (c : Command) (names : List (List ℕ)) → Fit (taken_of c) (Names names) → (length names ≡ 1 → ⊥) → (length names ≡ 2 → ⊥) → ⊥
-not_other Rules names fit one two = one fit
-not_other Suite names fit one two = two fit
-not_other Gen names fit one two = fit
+pub not_other : (c : Command) (names : List (List ℕ)) → Fit (taken_of c) (Names names) → (length names ≡ 1 → ⊥) → (length names ≡ 2 → ⊥) → (length names ≡ 3 → ⊥) → ⊥
+not_other Rules names fit one two three = one fit
+not_other Suite names fit one two three = two fit
+not_other Gen names fit one two three = fit
+not_other Lexical names fit one two three = two fit
+not_other Chains names fit one two three = one fit
+not_other Member names fit one two three = three fit

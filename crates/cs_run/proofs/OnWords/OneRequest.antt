@@ -1,11 +1,10 @@
 -- Words ask for one request, or have one first bad place.
-use Rattle.std.proofs.Common.{◌≡◌, ℕ, suc, List, [], ◌∷◌, ◌++◌, length, Result, Ok, Err, refl, sym, ap, ◌∙◌, subst, arith, append-nil}
+use Rattle.std.proofs.Common.{◌≡◌, ℕ, List, [], ◌∷◌, ◌++◌, length, Result, Ok, Err, refl, sym, ap, ◌∙◌, subst, arith, append-nil}
 use Rattle.cs_run.specs.declared.words.command.Command.{Command}
 use Rattle.cs_run.specs.declared.words.options.Options.{Options}
 use Rattle.cs_run.specs.Words.Commands.{Files, Seed, Taken, command_word, taken_count, taken_of}
 use Rattle.cs_run.specs.Words.Options.{AreOptions}
 use Rattle.cs_run.specs.Words.Requests.{AreArguments, AskFor, IsAsked, Names, Number, PlainArguments, PlainRequest, request_with}
-use Rattle.cs_run.specs.Words.Steps.{AreNew}
 use Rattle.cs_run.specs.Words.Values.{IsSeed}
 use Rattle.cs_run.specs.Words.Words.{IsAccepted, StandBehind}
 use Rattle.cs_run.proofs.OnWords.OneBad.{bad_not_accepted, one_bad}

@@ -4,7 +4,7 @@ use Rattle.std.specs.Prelude.{IsTrue, String, bytes_eq, codes, drop, get_or, if�
 use Rattle.std.specs.declared.alloc.Global.{Global}
 use Rattle.std.proofs.lemmas.List.{length-append, length-take-le}
 use Rattle.cs_run.specs.declared.words.command.Command.{Command}
-use Rattle.cs_run.specs.declared.words.command.Command.TheVariants.{Gen, Rules, Suite}
+use Rattle.cs_run.specs.declared.words.command.Command.TheVariants.{Chains, Gen, Lexical, Member, Rules, Suite}
 use Rattle.cs_run.specs.declared.words.command.Role.{Role}
 use Rattle.cs_run.specs.declared.words.options.Options.{Options}
 use Rattle.cs_run.specs.Words.Commands.{Files, Seed, Taken, command_word, taken_count, taken_of}
@@ -17,14 +17,15 @@ use Rattle.cs_run.specs.Words.Words.{is_name, CannotGoOn, IsAccepted, IsFirstBad
 
 abbrev command_named : List ℕ → Option Command
 command_named word =
-    if bytes_eq word (codes "rules")
-    then Some Rules
-    else (if bytes_eq word (codes "suite") then Some Suite else (if bytes_eq word (codes "gen") then Some Gen else None))
+    if bytes_eq word (codes "rules") then Some Rules else (if bytes_eq word (codes "suite") then Some Suite else (if bytes_eq word (codes "gen") then Some Gen else (if bytes_eq word (codes "lexical") then Some Lexical else (if bytes_eq word (codes "chains") then Some Chains else (if bytes_eq word (codes "member") then Some Member else None)))))
 
 named : (command : Command) → command_named (command_word command) ≡ Some command
 named Rules = refl
 named Suite = refl
 named Gen = refl
+named Lexical = refl
+named Chains = refl
+named Member = refl
 
 pub one_command : (c d : Command) → command_word c ≡ command_word d → c ≡ d
 one_command c d same = let both : Some c ≡ Some d = sym (named c) ∙ ap command_named same ∙ named d in cc

@@ -12,7 +12,7 @@ use Rattle.cs_run.specs.declared.input.judging.Pair.{Pair}
 use Rattle.cs_run.specs.Input.Files.{IsPairOf}
 use Rattle.cs_run.specs.Input.Refusal.{HasManyStates, Refuses, pair_contents}
 use Rattle.cs_run.specs.declared.input.refusal.Refusal.{Refusal}
-use Rattle.cs_run.specs.declared.input.refusal.Refusal.TheVariants.{TooLong, OfYacc, OfLex, States}
+use Rattle.cs_run.specs.declared.input.refusal.Refusal.TheVariants.{ManyChains, OfLex, OfYacc, States, TextStops, TextTokens, TooLong}
 use Rattle.cs_lex.proofs.OnReading.OneRefusal as lex_refusal
 use Rattle.cs_yacc.specs.Reading.Reading.{IsAccepted}
 use Rattle.cs_manifest.specs.declared.manifest.counts.Counts.{Counts}
@@ -25,14 +25,17 @@ use Rattle.cs_run.specs.Writer.Suite.{IsSuite}
 use Rattle.cs_run.specs.Writer.Summary.{AreShort, HasSuite, IsOnlySummary, lengths}
 
 -- accepted files aren't refused
-pub no_refusal : (bytes more : List ℕ) (refusal : Refusal) → length bytes ≤ 1048576 → length more ≤ 1048576 → IsAccepted bytes → IsAcceptedBesideAll more → HasFewSets more → Refuses refusal (pair_contents bytes more) → ⊥
-no_refusal bytes more (TooLong role) short short_lex accepted lex_accepted few (inl r) = omega (arith, short, r.1)
-no_refusal bytes more (TooLong role) short short_lex accepted lex_accepted few (inr (fits, inl r)) = omega (arith, short_lex, r.1)
-no_refusal bytes more (TooLong role) short short_lex accepted lex_accepted few (inr (fits, inr r)) = r.1
-no_refusal bytes more (OfYacc error) short short_lex accepted lex_accepted few r = yacc_files.refused_is_not_accepted bytes accepted.0 error r.1 accepted.1
-no_refusal bytes more (OfLex error) short short_lex accepted lex_accepted few r =
+pub no_refusal : (bytes more : List ℕ) (refusal : Refusal) → length bytes ≤ 1048576 → length more ≤ 1048576 → IsAccepted bytes → IsAcceptedBesideAll more → Refuses refusal (pair_contents bytes more) → ⊥
+no_refusal bytes more (TooLong role) short short_lex accepted lex_accepted (inl r) = omega (arith, short, r.1)
+no_refusal bytes more (TooLong role) short short_lex accepted lex_accepted (inr (fits, inl r)) = omega (arith, short_lex, r.1)
+no_refusal bytes more (TooLong role) short short_lex accepted lex_accepted (inr (fits, inr r)) = r.1
+no_refusal bytes more (OfYacc error) short short_lex accepted lex_accepted r = yacc_files.refused_is_not_accepted bytes accepted.0 error r.1 accepted.1
+no_refusal bytes more (OfLex error) short short_lex accepted lex_accepted r =
     let other = lex_accepted accepted.0 in lex_refusal.refused_is_not_accepted more accepted.0 other.0 error r.1.1 other.1
-no_refusal bytes more States short short_lex accepted lex_accepted few r = few r.1.0 r.1.1 r.1.4 r.1.3 r.1.5
+no_refusal bytes more States short short_lex accepted lex_accepted r = r.1
+no_refusal bytes more (ManyChains found) short short_lex accepted lex_accepted r = r.1
+no_refusal bytes more (TextStops at) short short_lex accepted lex_accepted r = r.1
+no_refusal bytes more (TextTokens found) short short_lex accepted lex_accepted r = r.1
 
 -- the automaton of a generated pair hasn't too many states
 pub few_states : (pair : Pair) (bytes more : List ℕ) → IsPairOf pair.yacc pair.lex bytes more → yacc.IsFile pair.yacc → HasFewSets more → ¬ HasManyStates pair.lex

@@ -1,27 +1,35 @@
 -- How the writing of a text ended, and what that is of a request's files.
-use Rattle.std.specs.Prelude.{◌≡◌, ◌⊎◌, ℕ, List}
+use Rattle.std.specs.Prelude.{◌≡◌, ◌⊎◌, ◌∷◌, [], ℕ, List}
 use Rattle.cs_io.specs.Uses.{HasFailed, IsUnused, SinkUse}
 use Rattle.cs_run.specs.declared.input.judging.Meant.{Meant}
+use Rattle.cs_run.specs.declared.input.judging.Meant.TheVariants.{Grammar, Pair as PairOf, Text}
 use Rattle.cs_run.specs.declared.input.judging.Pair.{Pair}
+use Rattle.cs_run.specs.declared.input.judging.PairAndText.{PairAndText}
 use Rattle.cs_run.specs.declared.input.refusal.Refusal.{Refusal}
 use Rattle.cs_run.specs.declared.input.refusal.Refusal.TheVariants.{States}
 use Rattle.cs_run.specs.Input.Files.{Content, Mean}
-use Rattle.cs_run.specs.Input.Refusal.{HasManyStates, Refuses}
+use Rattle.cs_run.specs.Input.Refusal.{HasManyStates}
 use Rattle.cs_run.specs.declared.ending.ending.Ending.{Ending}
 use Rattle.cs_run.specs.declared.ending.ending.Ending.TheVariants.{BadWord, NoFile, NoMemory, NotWritten, Refused, Written}
-use Rattle.cs_run.specs.Ending.Files.{Accepted}
-use Rattle.cs_run.specs.Ending.Texts.{IsTextOf}
-use Rattle.cs_run.specs.Words.Requests.{PlainRequest}
+use Rattle.cs_run.specs.Ending.Ending.{GrewAsAsked}
+use Rattle.cs_run.specs.Ending.Files.{Accepted, IsBeyond, IsWithin, RefusesFor}
+use Rattle.cs_run.specs.Ending.Texts.{IsTextBy, IsTextOf}
+use Rattle.cs_run.specs.declared.words.command.Command.{Command}
+use Rattle.cs_run.specs.declared.words.command.Role.TheVariants.{Lex, Text as TextOf, Yacc}
+use Rattle.cs_run.specs.declared.words.options.Options.{Options}
+use Rattle.cs_run.specs.Words.Commands.{Files, taken_of}
+use Rattle.cs_run.specs.Words.Requests.{PlainArguments, PlainRequest}
+use Rattle.cs_yacc.specs.declared.reading.file.YaccFile.{YaccFile}
 use Rattle.cs_io.specs.Asked.{GrewByOne, GrewByPart, HasRoomForAll}
-use Rattle.cs_yacc.specs.Reading.File.{IsFile}
 
--- `accepted` says when there is a text, `refused` why there is none, and `Is` which texts are asked for
-module _ (accepted : Type 0) (refused : Refusal → Type 0) (Is : List ℕ → Type 0) where
+-- `accepted` says when there is a text, `refused` why there is none, `Is` which texts are asked for, and `Part` how the output grew
+-- where the writing stopped
+module _ (accepted : Type 0) (refused : Refusal → Type 0) (Is : List ℕ → Type 0) (Part : SinkUse → Type 0) where
   abbrev pub WritingEnds : Ending → SinkUse → Type 0
   WritingEnds Written out = accepted × GrewByOne Is out.written.before out.written.after × (out.faults.after ≡ out.faults.before)
   WritingEnds (Refused refusal) out = refused refusal × IsUnused out
-  WritingEnds NotWritten out = accepted × GrewByPart Is out.written.before out.written.after × HasFailed out.faults
-  WritingEnds NoMemory out = IsUnused out ⊎ (accepted × GrewByPart Is out.written.before out.written.after)
+  WritingEnds NotWritten out = accepted × Part out × HasFailed out.faults
+  WritingEnds NoMemory out = IsUnused out ⊎ (accepted × Part out)
   WritingEnds (BadWord at) out = ⊥
   WritingEnds (NoFile role) out = ⊥
 
@@ -30,16 +38,55 @@ module _ (accepted : Type 0) (refused : Refusal → Type 0) (Is : List ℕ → T
     pub ends : WritingEnds ending out
     pub room : HasRoomForAll Is out.room → out.faults.after ≡ out.faults.before
 
--- the same where there is a text in any case
-abbrev pub WritesSure : (List ℕ → Type 0) → Ending → SinkUse → Type 0
-WritesSure Is ending out = Writes (Unit {0}) (λ refusal. ⊥) Is ending out
+-- a prefix of each such text
+abbrev pub GrewByEach : (List ℕ → Type 0) → SinkUse → Type 0
+GrewByEach Is out = GrewByPart Is out.written.before out.written.after
 
--- why a pair of files that were read has no suite
-abbrev pub IsRefusedSuite : Pair → Refusal → Type 0
-IsRefusedSuite pair refusal = (refusal ≡ States) × HasManyStates pair.lex × IsFile pair.yacc
+-- there is a text in any case
+abbrev pub WritesSure : (List ℕ → Type 0) → Ending → SinkUse → Type 0
+WritesSure Is ending out = Writes (Unit {0}) (λ refusal. ⊥) Is (GrewByEach Is) ending out
+
+-- the automaton of a pair's lex file has too many states, and the refusal tells that
+abbrev pub HasTooManyStates : Pair → Refusal → Type 0
+HasTooManyStates pair refusal = (refusal ≡ States) × HasManyStates pair.lex
+
+-- a text that is asked for by a pair of files was written, and that ended so
+abbrev pub WritesOfPair : Pair → (List ℕ → Type 0) → Ending → SinkUse → Type 0
+WritesOfPair pair Is ending out = Writes (¬ HasManyStates pair.lex) (HasTooManyStates pair) Is (GrewByEach Is) ending out
+
+-- the text that a command asks for by what its files mean was written, and that ended so
+abbrev pub WritesBy : Command → PlainArguments → Options → Meant → Ending → SinkUse → Type 0
+WritesBy command arguments options meant ending out =
+    Writes (IsWithin meant command) (λ refusal. IsBeyond meant refusal command) (IsTextBy command arguments options meant)
+    (GrewAsAsked command (IsTextBy command arguments options meant)) ending out
 
 -- whatever contents mean this: the text that the request asks for by them was written, and that ended so
 abbrev pub CarriesOut : PlainRequest → Meant → Ending → SinkUse → Type 0
 CarriesOut request meant ending out =
     (contents : List Content) → Mean contents meant
-    → Writes (Accepted contents) (λ refusal. Refuses refusal contents) (IsTextOf request contents) ending out
+    → Writes (Accepted request.command contents) (λ refusal. RefusesFor request.command refusal contents) (IsTextOf request contents)
+    (GrewAsAsked request.command (IsTextOf request contents)) ending out
+
+-- a command takes a yacc file; a command takes a yacc file and a lex file
+abbrev pub TakesGrammar : Command → Type 0
+TakesGrammar command = taken_of command ≡ Files (Yacc ∷ [])
+
+abbrev pub TakesPair : Command → Type 0
+TakesPair command = taken_of command ≡ Files (Yacc ∷ Lex ∷ [])
+
+-- and a text
+abbrev pub TakesText : Command → Type 0
+TakesText command = taken_of command ≡ Files (Yacc ∷ Lex ∷ TextOf ∷ [])
+
+-- whatever the command was given besides
+abbrev pub WritesByGrammar : Command → YaccFile → Ending → SinkUse → Type 0
+WritesByGrammar command file ending out =
+    (arguments : PlainArguments) (options : Options) → WritesBy command arguments options (Grammar file) ending out
+
+abbrev pub WritesByPair : Command → Options → Pair → Ending → SinkUse → Type 0
+WritesByPair command options pair ending out =
+    (arguments : PlainArguments) → WritesBy command arguments options (PairOf pair) ending out
+
+abbrev pub WritesByText : Command → PairAndText → Ending → SinkUse → Type 0
+WritesByText command beside ending out =
+    (arguments : PlainArguments) (options : Options) → WritesBy command arguments options (Text beside) ending out

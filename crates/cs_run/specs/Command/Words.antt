@@ -1,10 +1,13 @@
 -- What is kept by what words ask for.
-use Rattle.std.specs.Prelude.{◌≡◌, ℕ, List, [], Ok, Result}
+use Rattle.std.specs.Prelude.{◌≡◌, ℕ, List, [], Err, Ok, Result}
 use Rattle.cs_io.specs.Uses.{DeskUse, SinkUse}
+use Rattle.cs_run.specs.declared.input.refusal.Refusal.TheVariants.{States}
 use Rattle.cs_run.specs.declared.input.refusal.Stop.{Stop}
+use Rattle.cs_scanner.specs.declared.automaton.error.AutomatonError.{AutomatonError}
+use Rattle.cs_scanner.specs.declared.automaton.error.AutomatonError.TheVariants as automaton
 use Rattle.cs_run.specs.declared.input.refusal.Stop.TheVariants as stop
 use Rattle.cs_run.specs.declared.ending.ending.Ending.{Ending}
-use Rattle.cs_run.specs.declared.ending.ending.Ending.TheVariants.{NoFile, NoMemory, NotWritten, Refused}
+use Rattle.cs_run.specs.declared.ending.ending.Ending.TheVariants.{NoFile, NoMemory, NotWritten, Refused, Written}
 use Rattle.cs_run.specs.Ending.Ending.{Performs}
 use Rattle.cs_run.specs.Ending.Headline.{KeepsPromises}
 use Rattle.cs_run.specs.Words.Requests.{IsAsked, PlainRequest, files_of}
@@ -38,3 +41,13 @@ ending_of stop.Memory = NoMemory
 abbrev pub ending_at : Halt → Ending
 ending_at halt.Failed = NotWritten
 ending_at halt.Memory = NoMemory
+
+-- how a run ends whose text was written, or whose writing stopped
+abbrev pub ending_after : Result Unit Halt → Ending
+ending_after (Ok done) = Written
+ending_after (Err halt) = ending_at halt
+
+-- how a run ends where a lex file has no automaton
+abbrev pub ending_by : AutomatonError → Ending
+ending_by (automaton.TooManyStates most) = Refused States
+ending_by automaton.Memory = NoMemory

@@ -1,8 +1,12 @@
 -- How a run ends: its cause, and what the output holds then; the status and the line on the error output.
 use Rattle.std.specs.Prelude.{◌≡◌, ◌⊎◌, ℕ, List, [], ◌++◌, Result, Err, IsOkAnd, IsTrue, codes, decimal}
 use Rattle.std.specs.Io.KnownBytes.{append_known}
+use Rattle.cs_deep.specs.Membership.{GrewByFront}
 use Rattle.cs_io.specs.Sink.{GrewByPrefix}
+use Rattle.cs_io.specs.Asked.{GrewByPart}
 use Rattle.cs_io.specs.Uses.{DeskUse, SinkUse, HasFailed, IsUnused}
+use Rattle.cs_run.specs.declared.words.command.Command.{Command}
+use Rattle.cs_run.specs.declared.words.command.Command.TheVariants.{Member}
 use Rattle.cs_run.specs.declared.words.command.Role.{Role}
 use Rattle.cs_run.specs.Words.Requests.{PlainRequest, files_of}
 use Rattle.cs_run.specs.Input.Files.{Content, HaveContents}
@@ -20,19 +24,24 @@ abbrev pub WroteText : Result PlainRequest ℕ → DeskUse → SinkUse → Type 
 WroteText asked desk out =
     (text : List ℕ) × IsAskedText asked desk.files text × (out.written.after ≡ append_known out.written.before text)
 
--- the output grew by a prefix of each text that is asked for, by these contents of the files
-abbrev pub GrewByFront : PlainRequest → SinkUse → List Content → Type 0
-GrewByFront request out contents =
-    (text : List ℕ) → IsTextOf request contents text → GrewByPrefix out.written.before out.written.after text
+-- The output grew by a prefix of each such text. Of a list with several derivations `member` may write each, and the output grew
+-- by nothing, or by a prefix of one that it may write.
+abbrev pub GrewAsAsked : Command → (List ℕ → Type 0) → SinkUse → Type 0
+GrewAsAsked Member Is out = GrewByFront Is out.written.before out.written.after
+GrewAsAsked command Is out = GrewByPart Is out.written.before out.written.after
+
+-- by the texts that are asked for by these contents of the files
+abbrev pub GrewByFrontOf : PlainRequest → SinkUse → List Content → Type 0
+GrewByFrontOf request out contents = GrewAsAsked request.command (IsTextOf request contents) out
 
 -- the files have contents by which it grew so
 abbrev pub WrotePart : Result PlainRequest ℕ → DeskUse → SinkUse → Type 0
-WrotePart asked desk out = IsOkAnd asked (λ request. HaveContents desk.files (files_of request) (GrewByFront request out))
+WrotePart asked desk out = IsOkAnd asked (λ request. HaveContents desk.files (files_of request) (GrewByFrontOf request out))
 
 -- the same, and these contents are accepted
 abbrev pub WrotePartOfAccepted : Result PlainRequest ℕ → DeskUse → SinkUse → Type 0
 WrotePartOfAccepted asked desk out =
-    IsOkAnd asked (λ request. HaveContents desk.files (files_of request) (λ contents. Accepted contents × GrewByFront request out contents))
+    IsOkAnd asked (λ request. HaveContents desk.files (files_of request) (λ contents. Accepted request.command contents × GrewByFrontOf request out contents))
 
 -- What caused an ending, and what the output holds then, by what the words ask for and how desk and output were used.
 abbrev pub Ends : Ending → Result PlainRequest ℕ → DeskUse → SinkUse → Type 0

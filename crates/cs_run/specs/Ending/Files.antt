@@ -1,37 +1,79 @@
 -- Which files are accepted and refused, and the manifests of accepted ones. Where the desk tells no files, any contents count.
-use Rattle.std.specs.Prelude.{◌≡◌, ℕ, List, Option, Some}
+use Rattle.std.specs.Prelude.{◌≡◌, ◌⊎◌, ◌<◌, ◌≤◌, ℕ, List, Option, Some, length}
+use Rattle.cs_chain.specs.Chains.Chains.{chains}
+use Rattle.cs_grammar.specs.Grammar.{PlainGrammar}
 use Rattle.cs_io.specs.Desk.{Files}
+use Rattle.cs_scanner.specs.Scan.Scan.{Scanning, Scans, StopsAt}
 use Rattle.cs_io.specs.Uses.{Change}
 use Rattle.cs_yacc.specs.Reading.File as yacc
 use Rattle.cs_lex.specs.Reading.File as lex
+use Rattle.cs_run.specs.declared.words.command.Command.{Command}
+use Rattle.cs_run.specs.declared.words.command.Command.TheVariants.{Chains}
 use Rattle.cs_run.specs.declared.words.command.Role.{Role}
 use Rattle.cs_run.specs.declared.words.options.Options.{Options}
 use Rattle.cs_run.specs.Words.Requests.{PlainRequest, files_of}
 use Rattle.cs_run.specs.declared.input.judging.Meant.{Meant}
-use Rattle.cs_run.specs.declared.input.judging.Meant.TheVariants.{Pair}
+use Rattle.cs_run.specs.declared.input.judging.Meant.TheVariants.{Grammar, Nothing, Pair, Text}
+use Rattle.cs_run.specs.declared.input.judging.PairAndText.{PairAndText}
 use Rattle.cs_run.specs.declared.input.refusal.Refusal.{Refusal}
-use Rattle.cs_run.specs.Input.Files.{Content, HasNoFile, HaveContents, IsGrammarOf, IsPairOf, Mean}
+use Rattle.cs_run.specs.declared.input.refusal.Refusal.TheVariants.{ManyChains, States, TextStops, TextTokens}
+use Rattle.cs_run.specs.Input.Files.{Content, HasNoFile, HaveContents, IsPairOf, Mean}
 use Rattle.cs_run.specs.Input.Refusal.{HasManyStates, Refuses}
-use Rattle.cs_manifest.specs.Manifest.Manifest.{Choice, IsManifest, rules_form}
+use Rattle.cs_manifest.specs.Manifest.Manifest.{Choice, IsManifest}
 
 -- ---- accepted and refused
 
--- the automaton of a lex file hasn't too many states
-abbrev pub HasFewStates : Meant → Type 0
-HasFewStates (Pair pair) = ¬ HasManyStates pair.lex
-HasFewStates meant = Unit {0}
+-- what a scanner of the lex file scans by
+abbrev pub scanning_of : lex.File → Scanning
+scanning_of scanner = record { patterns = scanner.patterns; kinds = scanner.kinds; literals = scanner.literals }
 
--- the contents mean nothing, a yacc file, or a yacc file and a lex file beside it whose automaton hasn't too many states
-abbrev pub Accepted : List Content → Type 0
-Accepted contents = (meant : Meant) × Mean contents meant × HasFewStates meant
+-- the grammar has at most 1,000,000 chains
+abbrev pub HasFewChains : PlainGrammar → Type 0
+HasFewChains g = length (chains g) ≤ 1000000
+
+-- the text scans to so many tokens, one list of them
+abbrev pub HasTokens : PairAndText → ℕ → Type 0
+HasTokens beside count =
+    (tokens : List ℕ) × Scans (scanning_of beside.pair.lex) beside.text tokens × (length tokens ≡ count)
+
+-- it scans to at most 2,000 tokens
+abbrev pub HasFewTokens : PairAndText → Type 0
+HasFewTokens beside = (count : ℕ) × HasTokens beside count × (count ≤ 2000)
+
+-- What the files mean is within the command's limits.
+abbrev pub IsWithin : Meant → Command → Type 0
+IsWithin Nothing command = Unit {0}
+IsWithin (Grammar file) Chains = HasFewChains file.grammar
+IsWithin (Grammar file) command = Unit {0}
+IsWithin (Pair pair) command = ¬ HasManyStates pair.lex
+IsWithin (Text beside) command = (¬ HasManyStates beside.pair.lex) × HasFewTokens beside
+
+-- It is beyond the limit that the refusal tells, and within those before it.
+abbrev pub IsBeyond : Meant → Refusal → Command → Type 0
+IsBeyond (Grammar file) (ManyChains found) Chains = (found ≡ length (chains file.grammar)) × (1000000 < found)
+IsBeyond (Pair pair) States command = HasManyStates pair.lex
+IsBeyond (Text beside) States command = HasManyStates beside.pair.lex
+IsBeyond (Text beside) (TextStops at) command =
+    (¬ HasManyStates beside.pair.lex) × StopsAt (scanning_of beside.pair.lex) beside.text at
+IsBeyond (Text beside) (TextTokens found) command = (¬ HasManyStates beside.pair.lex) × HasTokens beside found × (2000 < found)
+IsBeyond meant refusal command = ⊥
+
+-- the contents mean something that is within the command's limits
+abbrev pub Accepted : Command → List Content → Type 0
+Accepted command contents = (meant : Meant) × Mean contents meant × IsWithin meant command
+
+-- they are refused as they are read, or mean something that is beyond a limit
+abbrev pub RefusesFor : Command → Refusal → List Content → Type 0
+RefusesFor command refusal contents =
+    Refuses refusal contents ⊎ ((meant : Meant) × Mean contents meant × IsBeyond meant refusal command)
 
 -- the files that are asked for are accepted
 abbrev pub AreAccepted : Option Files → PlainRequest → Type 0
-AreAccepted files request = HaveContents files (files_of request) Accepted
+AreAccepted files request = HaveContents files (files_of request) (Accepted request.command)
 
 -- they are refused so
 abbrev pub AreRefusedSo : Option Files → PlainRequest → Refusal → Type 0
-AreRefusedSo files request refusal = HaveContents files (files_of request) (Refuses refusal)
+AreRefusedSo files request refusal = HaveContents files (files_of request) (RefusesFor request.command refusal)
 
 abbrev pub AreRefused : Option Files → PlainRequest → Type 0
 AreRefused files request = (refusal : Refusal) × AreRefusedSo files request refusal
@@ -42,23 +84,19 @@ HasNoFileFor files request faults role = HasNoFile files faults (files_of reques
 
 -- ---- manifests
 
--- what the options choose, by the scanner
-abbrev pub choice_of : lex.File → Options → Choice
-choice_of scanner options = record {
+-- what the options choose, by what is scanned by, and by the scanner of a lex file
+abbrev pub choice_by : Options → Scanning → Choice
+choice_by options s = record {
   criteria = options.criteria;
-  texts = Some (record {
-    scanning = record { patterns = scanner.patterns; kinds = scanner.kinds; literals = scanner.literals };
-    separator = options.separator;
-  });
+  texts = Some (record { scanning = s; separator = options.separator });
   operators = options.operators;
   most = options.bases;
   format = options.format;
   weigh = options.weigh;
 }
 
--- the text is the `rules` form of the yacc file that the bytes mean
-unfoldable pub IsRulesText : List ℕ → List ℕ → Type 0
-IsRulesText text bytes = (file : yacc.File) × IsGrammarOf file bytes × IsManifest rules_form file text
+abbrev pub choice_of : lex.File → Options → Choice
+choice_of scanner options = choice_by options (scanning_of scanner)
 
 -- the text is the manifest of the pair of files that the bytes mean, by the options
 unfoldable pub IsSuiteText : Options → List ℕ → List ℕ → List ℕ → Type 0

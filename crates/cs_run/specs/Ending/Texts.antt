@@ -1,35 +1,40 @@
 -- Which text is asked for: a row for each command. Where the desk tells no files, any contents count.
-use Rattle.std.specs.Prelude.{◌≡◌, ◌⊎◌, ◌≤◌, ℕ, length, List, [], ◌∷◌, Option, Result, IsOkAnd, IsSome}
+use Rattle.std.specs.Prelude.{◌≡◌, ◌⊎◌, ◌≤◌, ℕ, length, List, [], Option, None, Result, IsOkAnd, IsSome}
+use Rattle.cs_grammar.specs.Laws.{AtMostOne}
 use Rattle.cs_io.specs.Desk.{Files}
 use Rattle.cs_run.specs.declared.words.command.Command.{Command}
-use Rattle.cs_run.specs.declared.words.command.Command.TheVariants.{Gen, Rules, Suite}
+use Rattle.cs_run.specs.declared.words.command.Command.TheVariants.{Chains, Gen, Lexical, Member, Rules, Suite}
 use Rattle.cs_run.specs.declared.words.options.Options.{Options}
-use Rattle.cs_run.specs.Words.Requests.{Names, Number, PlainArguments, PlainRequest, files_of}
-use Rattle.cs_run.specs.Input.Files.{Content, HaveContents}
-use Rattle.cs_run.specs.Ending.Files.{IsRulesText, IsSuiteText}
+use Rattle.cs_run.specs.Words.Requests.{Number, PlainArguments, PlainRequest, files_of}
+use Rattle.cs_chain_text.specs.Text.{IsChainsText}
+use Rattle.cs_choices.specs.declared.weigh.Weigh.TheVariants.{Nodes}
+use Rattle.cs_deep.specs.Membership.{IsMemberText}
+use Rattle.cs_lexical.specs.Lines.{IsLexical}
+use Rattle.cs_manifest.specs.Manifest.Manifest.{IsManifest, rules_form}
+use Rattle.cs_scanner.specs.Scan.Scan.{Scans}
+use Rattle.cs_run.specs.declared.input.judging.Meant.{Meant}
+use Rattle.cs_run.specs.declared.input.judging.Meant.TheVariants.{Grammar, Nothing, Pair, Text}
+use Rattle.cs_run.specs.Input.Files.{Content, HaveContents, Mean}
+use Rattle.cs_run.specs.Ending.Files.{IsWithin, choice_of, scanning_of}
 use Rattle.cs_run.specs.Ending.Summary.{IsSummary}
 
--- one file was read, and its bytes have P; two were; none was, and the number has P
-abbrev pub OfOne : List Content → (List ℕ → Type 0) → Type 0
-OfOne (one ∷ []) P = P one.bytes
-OfOne contents P = ⊥
+-- the text is what a command asks for, by what it was given, its options and what its files mean
+abbrev pub IsTextBy : Command → PlainArguments → Options → Meant → List ℕ → Type 0
+IsTextBy Rules arguments options (Grammar file) text = IsManifest rules_form file text
+IsTextBy Suite arguments options (Pair pair) text = IsManifest (choice_of pair.lex options) pair.yacc text
+IsTextBy Gen (Number seed) options Nothing text = IsSummary seed text
+IsTextBy Lexical arguments options (Pair pair) text = IsLexical pair.yacc (scanning_of pair.lex) text
+IsTextBy Chains arguments options (Grammar file) text = IsChainsText file None Nodes text
+IsTextBy Member arguments options (Text beside) text =
+    (tokens : List ℕ) × Scans (scanning_of beside.pair.lex) beside.text tokens
+    × IsMemberText beside.pair.yacc.grammar tokens text
+IsTextBy command arguments options meant text = ⊥
 
-abbrev pub OfTwo : List Content → (List ℕ → List ℕ → Type 0) → Type 0
-OfTwo (one ∷ other ∷ []) P = P one.bytes other.bytes
-OfTwo contents P = ⊥
-
-abbrev pub OfNumber : List Content → PlainArguments → (ℕ → Type 0) → Type 0
-OfNumber [] (Number number) P = P number
-OfNumber contents arguments P = ⊥
-
--- the text is what a command asks for, by what it was given, its options and the contents of its files
-abbrev pub IsText : Command → PlainArguments → Options → List Content → List ℕ → Type 0
-IsText Rules arguments options contents text = OfOne contents (IsRulesText text)
-IsText Suite arguments options contents text = OfTwo contents (IsSuiteText options text)
-IsText Gen arguments options contents text = OfNumber contents arguments (λ seed. IsSummary seed text)
-
+-- the contents of the files mean something within the command's limits, by which the text is asked for
 abbrev pub IsTextOf : PlainRequest → List Content → List ℕ → Type 0
-IsTextOf request contents text = IsText request.command request.arguments request.options contents text
+IsTextOf request contents text =
+    (meant : Meant) × Mean contents meant × IsWithin meant request.command
+    × IsTextBy request.command request.arguments request.options meant text
 
 -- the text is what is asked for
 abbrev pub IsTextFor : Option Files → PlainRequest → List ℕ → Type 0
@@ -45,3 +50,11 @@ HasRoomFor room asked files = (text : List ℕ) → IsAskedText asked files text
 -- the desk tells its files, or none are asked for
 abbrev pub AreTold : Option Files → Result PlainRequest ℕ → Type 0
 AreTold files asked = IsSome files ⊎ IsOkAnd asked (λ request. files_of request ≡ [])
+
+-- one text at most is asked for by given contents: `member` may tell of a list by each of its derivations
+abbrev pub AskForOneText : Result PlainRequest ℕ → Type 0
+AskForOneText asked = IsOkAnd asked (λ request. ¬ (request.command ≡ Member))
+
+-- where the desk tells its files, or none are asked for, one text at most is asked for by such words
+abbrev pub HasOneText : Result PlainRequest ℕ → Option Files → Type 0
+HasOneText asked files = AreTold files asked → AskForOneText asked → AtMostOne (IsAskedText asked files)

@@ -8,10 +8,11 @@ use Rattle.cs_yacc.specs.Reading.Reading.{IsYaccFile}
 use Rattle.cs_lex.specs.Reading.File as lex
 use Rattle.cs_lex.specs.Reading.Reading.{IsLexFile}
 use Rattle.cs_run.specs.declared.words.command.Role.{Role}
+use Rattle.cs_run.specs.declared.words.command.Role.TheVariants as roles
 use Rattle.cs_run.specs.Words.Commands as taken
 use Rattle.cs_run.specs.Words.Requests.{Named, Names, Number, PlainArguments}
 use Rattle.cs_run.specs.declared.input.judging.Meant.{Meant}
-use Rattle.cs_run.specs.declared.input.judging.Meant.TheVariants.{Grammar, Nothing, Pair}
+use Rattle.cs_run.specs.declared.input.judging.Meant.TheVariants.{Grammar, Nothing, Pair, Text}
 use Rattle.cs_run.specs.declared.input.refusal.Stop.{Stop}
 use Rattle.cs_run.specs.declared.input.refusal.Stop.TheVariants.{NoFile}
 
@@ -43,9 +44,19 @@ HaveContents files named P = (contents : List Content) × AreContents files name
 
 -- ---- what they mean
 
--- a file has at most so many bytes
+-- at most how many bytes a file may have, by what it is to the command
+abbrev pub most_for : Role → ℕ
+most_for roles.Yacc = most_bytes
+most_for roles.Lex = most_bytes
+most_for roles.Text = 65536
+
+-- a yacc file or a lex file has no more
 abbrev pub IsShort : List ℕ → Type 0
 IsShort bytes = length bytes ≤ most_bytes
+
+-- a file of any role has no more
+abbrev pub IsWithinLength : Content → Type 0
+IsWithinLength content = length content.bytes ≤ most_for content.role
 
 -- the bytes are not too many, and mean the yacc file
 abbrev pub IsGrammarOf : yacc.File → List ℕ → Type 0
@@ -55,17 +66,22 @@ IsGrammarOf file bytes = IsShort bytes × IsYaccFile bytes file
 abbrev pub IsPairOf : yacc.File → lex.File → List ℕ → List ℕ → Type 0
 IsPairOf file scanner bytes more = IsShort bytes × IsShort more × IsYaccFile bytes file × IsLexFile more file scanner
 
--- the contents mean nothing, a yacc file, or a yacc file and a lex file beside it
+-- The contents mean nothing, a yacc file, a yacc file and a lex file beside it, or both and a text. None is too long.
 abbrev pub Mean : List Content → Meant → Type 0
 Mean [] Nothing = Unit {0}
-Mean (one ∷ []) (Grammar file) = IsGrammarOf file one.bytes
-Mean (one ∷ other ∷ []) (Pair pair) = IsPairOf pair.yacc pair.lex one.bytes other.bytes
+Mean (one ∷ []) (Grammar file) = IsWithinLength one × IsYaccFile one.bytes file
+Mean (one ∷ other ∷ []) (Pair pair) =
+    IsWithinLength one × IsWithinLength other × IsYaccFile one.bytes pair.yacc × IsLexFile other.bytes pair.yacc pair.lex
+Mean (one ∷ other ∷ third ∷ []) (Text beside) =
+    IsWithinLength one × IsWithinLength other × IsWithinLength third × IsYaccFile one.bytes beside.pair.yacc
+    × IsLexFile other.bytes beside.pair.yacc beside.pair.lex × (beside.text ≡ third.bytes)
 Mean contents meant = ⊥
 
--- a command that takes one file is given a yacc file, one that takes two a pair, and one that takes a seed nothing
+-- a command is given a yacc file, a pair, or a pair and a text, by how many files it takes; one that takes a seed nothing
 abbrev pub IsMeantFor : taken.Taken → PlainArguments → Meant → Type 0
 IsMeantFor (taken.Files (one ∷ [])) (Names names) (Grammar file) = Unit {0}
 IsMeantFor (taken.Files (one ∷ other ∷ [])) (Names names) (Pair pair) = Unit {0}
+IsMeantFor (taken.Files (one ∷ other ∷ third ∷ [])) (Names names) (Text beside) = Unit {0}
 IsMeantFor taken.Seed (Number number) Nothing = Unit {0}
 IsMeantFor takes arguments meant = ⊥
 

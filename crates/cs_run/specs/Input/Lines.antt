@@ -1,6 +1,6 @@
 -- The lines that say why files are refused.
 use Rattle.std.specs.Prelude.{ℕ, List, [], ◌++◌, codes, decimal}
-use Rattle.cs_bytes.specs.Limits.{most_bytes}
+use Rattle.cs_run.specs.Input.Files.{most_for}
 use Rattle.cs_pattern.specs.declared.text.fault.PatternFault.{PatternFault}
 use Rattle.cs_pattern.specs.declared.text.fault.PatternFault.TheVariants.{Anchor, Trailing, Condition, Collation, Syntax, UndefinedName, DefinitionCycle, TooDeep, TooManyPositions}
 use Rattle.cs_yacc.specs.declared.reading.error.YaccError.{YaccError}
@@ -12,15 +12,16 @@ use Rattle.cs_lex.specs.declared.reading.error.LexError.TheVariants as lex
 use Rattle.cs_lex.specs.declared.reading.error.LexLimit.{LexLimit}
 use Rattle.cs_lex.specs.declared.reading.error.LexLimit.TheVariants as counted_lex
 use Rattle.cs_run.specs.declared.input.refusal.Refusal.{Refusal}
-use Rattle.cs_run.specs.declared.input.refusal.Refusal.TheVariants.{TooLong, OfYacc, OfLex, States}
+use Rattle.cs_run.specs.declared.input.refusal.Refusal.TheVariants.{ManyChains, OfLex, OfYacc, States, TextStops, TextTokens, TooLong}
 use Rattle.cs_run.specs.declared.words.command.Role.{Role}
-use Rattle.cs_run.specs.declared.words.command.Role.TheVariants.{Yacc, Lex}
+use Rattle.cs_run.specs.declared.words.command.Role.TheVariants.{Lex, Text, Yacc}
 
 -- ---- words
 
 abbrev pub role_word : Role → List ℕ
 role_word Yacc = codes "yacc"
 role_word Lex = codes "lex"
+role_word Text = codes "text"
 
 -- a word, and a number behind it
 abbrev pub at_word : List ℕ → ℕ → List ℕ
@@ -78,10 +79,13 @@ lex_words (lex.Pattern at fault) = codes "Pattern at " ++ (decimal at ++ (codes 
 lex_words lex.Memory = []
 
 abbrev pub refusal_words : Refusal → List ℕ
-refusal_words (TooLong role) = role_word role ++ at_word (codes ": Length above ") most_bytes
+refusal_words (TooLong role) = role_word role ++ at_word (codes ": Length above ") (most_for role)
 refusal_words (OfYacc error) = codes "yacc: " ++ yacc_words error
 refusal_words (OfLex error) = codes "lex: " ++ lex_words error
 refusal_words States = codes "lex: States above 16384\n"
+refusal_words (TextStops at) = codes "text: " ++ at_word (codes "Stops at ") at
+refusal_words (TextTokens found) = codes "text: Tokens " ++ (decimal found ++ codes " of 2000\n")
+refusal_words (ManyChains found) = codes "chains: Limit Goals " ++ (decimal found ++ codes " of 1000000\n")
 
 -- the whole line
 abbrev pub refusal_line : Refusal → List ℕ

@@ -1,25 +1,24 @@
 -- Why files are refused, the first cause that applies.
 use Rattle.std.specs.Prelude.{◌≡◌, ◌⊎◌, ◌<◌, ℕ, length, List, [], ◌∷◌, Option}
-use Rattle.cs_bytes.specs.Limits.{most_bytes}
 use Rattle.cs_scanner.specs.Automaton.Counted.{IsAbove}
 use Rattle.cs_scanner.specs.Automaton.Meaning.{res}
 use Rattle.cs_scanner.specs.Automaton.Places.{InSet}
 use Rattle.cs_io.specs.Desk.{Files, IsMissing}
+use Rattle.cs_io.specs.declared.desk.Desk as Desk
 use Rattle.cs_io.specs.Uses.{Change, HasFailed}
 use Rattle.cs_lex.specs.Reading.File as lex
 use Rattle.cs_lex.specs.Reading.Reading as lex_reading
 use Rattle.cs_yacc.specs.Reading.File as yacc
 use Rattle.cs_yacc.specs.Reading.Reading as yacc_reading
 use Rattle.cs_yacc.specs.Reading.Reading.{IsYaccFile}
-use Rattle.cs_lex.specs.Reading.Reading.{IsLexFile}
 use Rattle.cs_run.specs.Words.Requests.{Named}
 use Rattle.cs_run.specs.declared.input.refusal.Refusal.{Refusal}
-use Rattle.cs_run.specs.declared.input.refusal.Refusal.TheVariants.{TooLong, OfYacc, OfLex, States}
+use Rattle.cs_run.specs.declared.input.refusal.Refusal.TheVariants.{ManyChains, OfLex, OfYacc, States, TextStops, TextTokens, TooLong}
 use Rattle.cs_run.specs.declared.words.command.Role.{Role}
-use Rattle.cs_run.specs.declared.words.command.Role.TheVariants.{Yacc, Lex}
+use Rattle.cs_run.specs.declared.words.command.Role.TheVariants.{Lex, Text, Yacc}
 use Rattle.cs_run.specs.declared.input.refusal.Stop.{Stop}
 use Rattle.cs_run.specs.declared.input.refusal.Stop.TheVariants.{NoFile, Refused, Memory}
-use Rattle.cs_run.specs.Input.Files.{Content, HasNoFile, HaveContents, IsShort, faults_of}
+use Rattle.cs_run.specs.Input.Files.{Content, HasNoFile, HaveContents, IsWithinLength, faults_of, most_for}
 use Rattle.cs_yacc.specs.declared.reading.error.YaccError.TheVariants as yacc_error
 use Rattle.cs_lex.specs.declared.reading.error.LexError.{LexError}
 use Rattle.cs_lex.specs.declared.reading.error.LexError.TheVariants as lex_error
@@ -32,24 +31,22 @@ HasManyStates file = IsAbove (InSet (res file.patterns)) 16384
 abbrev pub IsFirstLong : List Content → Role → Type 0
 IsFirstLong [] role = ⊥
 IsFirstLong (content ∷ contents) role =
-    ((content.role ≡ role) × (most_bytes < length content.bytes)) ⊎ (IsShort content.bytes × IsFirstLong contents role)
+    ((content.role ≡ role) × (most_for content.role < length content.bytes))
+    ⊎ (IsWithinLength content × IsFirstLong contents role)
 
 -- none is too long
 abbrev pub AreShort : List Content → Type 0
 AreShort [] = Unit {0}
-AreShort (content ∷ contents) = IsShort content.bytes × AreShort contents
+AreShort (content ∷ contents) = IsWithinLength content × AreShort contents
 
--- Why files are refused that are not too long: the reading of the yacc file, of the lex file, and the states of the automaton.
+-- Why files are refused that are not too long: the reading of the yacc file and of the lex file.
 abbrev pub RefusesShort : Refusal → List Content → Type 0
 RefusesShort (OfYacc error) (one ∷ contents) = yacc_reading.Refuses error one.bytes
 RefusesShort (OfLex error) (one ∷ other ∷ contents) =
     ((file : yacc.File) × IsYaccFile one.bytes file) × lex_reading.Refuses error other.bytes
-RefusesShort States (one ∷ other ∷ contents) =
-    (file : yacc.File) × (scanner : lex.File) × IsYaccFile one.bytes file × IsLexFile other.bytes file scanner × yacc.IsFile file
-    × HasManyStates scanner
 RefusesShort refusal contents = ⊥
 
--- Why files are refused: their lengths, in order, and then what they hold.
+-- Why files are refused as they are read: their lengths, in order, and then what they hold.
 abbrev pub Refuses : Refusal → List Content → Type 0
 Refuses (TooLong role) contents = IsFirstLong contents role
 Refuses refusal contents = AreShort contents × RefusesShort refusal contents
@@ -73,12 +70,20 @@ yacc_content bytes = record { role = Yacc; bytes = bytes }
 abbrev pub pair_contents : List ℕ → List ℕ → List Content
 pair_contents bytes more = yacc_content bytes ∷ record { role = Lex; bytes = more } ∷ []
 
+-- and of a text
+abbrev pub text_contents : List ℕ → List ℕ → List ℕ → List Content
+text_contents bytes more text =
+    yacc_content bytes ∷ record { role = Lex; bytes = more } ∷ record { role = Text; bytes = text } ∷ []
+
 -- want of memory is no refusal
 abbrev pub IsTold : Refusal → Type 0
 IsTold (TooLong role) = Unit {0}
 IsTold (OfYacc error) = ¬ (error ≡ yacc_error.Memory)
 IsTold (OfLex error) = ¬ (error ≡ lex_error.Memory)
 IsTold States = Unit {0}
+IsTold (ManyChains found) = Unit {0}
+IsTold (TextStops at) = Unit {0}
+IsTold (TextTokens found) = Unit {0}
 
 -- why a file's bytes aren't given
 abbrev pub StopsFile : Role → Option Files → List ℕ → Change ℕ → Stop → Type 0
@@ -99,9 +104,9 @@ lex_stop error = Refused (OfLex error)
 
 -- ---- the same by the meanings of a desk
 
-module _ {D : Type 0} (files : D → Option Files) (faults : D → ℕ) (old new : D) where
+module _ {D : Type 0} (g : Desk.Ghosts D) (old new : D) where
   abbrev pub FilesStop : List Named → Stop → Type 0
-  FilesStop named stop = Stops (files old) (faults_of faults old new) named stop
+  FilesStop named stop = Stops (g.files old) (faults_of g.faults old new) named stop
 
   abbrev pub FileStops : Role → List ℕ → Stop → Type 0
-  FileStops role name stop = StopsFile role (files old) name (faults_of faults old new) stop
+  FileStops role name stop = StopsFile role (g.files old) name (faults_of g.faults old new) stop

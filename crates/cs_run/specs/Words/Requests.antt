@@ -1,8 +1,9 @@
 -- What accepted words ask for.
-use Rattle.std.specs.Prelude.{◌≡◌, ℕ, List, [], ◌∷◌, ◌++◌, Result, Ok, Err, length}
+use Rattle.std.specs.Prelude.{◌≡◌, ℕ, List, [], ◌∷◌, ◌++◌, Result, Ok, Err, String, length}
+use Rattle.std.specs.declared.alloc.Global.{Global}
 use Rattle.cs_run.specs.declared.words.command.Command.{Command}
 use Rattle.cs_run.specs.declared.words.command.Role.{Role}
-use Rattle.cs_run.specs.declared.words.command.Role.TheVariants.{Lex, Yacc}
+use Rattle.cs_run.specs.declared.words.command.Role.TheVariants.{Lex, Text, Yacc}
 use Rattle.cs_run.specs.declared.words.options.Options.{Options}
 use Rattle.cs_run.specs.declared.words.request.Arguments.{Arguments}
 use Rattle.cs_run.specs.declared.words.request.Arguments.TheVariants as given
@@ -78,6 +79,20 @@ files_taken taken arguments = []
 abbrev pub files_of : PlainRequest → List Named
 files_of request = files_taken (taken_of request.command) request.arguments
 
+-- a yacc file; a yacc file and a lex file
+abbrev pub one_named : List ℕ → List Named
+one_named yacc = yacc_named yacc ∷ []
+
+abbrev pub two_named : List ℕ → List ℕ → List Named
+two_named yacc lex = yacc_named yacc ∷ lex_named lex ∷ []
+
+-- and a text
+abbrev pub text_named : List ℕ → Named
+text_named name = record { role = Text; name = name }
+
+abbrev pub three_named : List ℕ → List ℕ → List ℕ → List Named
+three_named yacc lex text = yacc_named yacc ∷ lex_named lex ∷ text_named text ∷ []
+
 -- ---- the same of what was read
 
 abbrev pub plain_arguments : Arguments → PlainArguments
@@ -89,3 +104,18 @@ request_with command arguments options = record { command = command; arguments =
 
 abbrev pub plain_request : Request → PlainRequest
 plain_request request = request_with request.command (plain_arguments request.arguments) request.options
+
+abbrev pub files_in : Request → List Named
+files_in request = files_of (plain_request request)
+
+-- a command's word, and the words behind it
+abbrev pub all_words : Command → List (String Global) → List (List ℕ)
+all_words command words = command_word command ∷ texts words
+
+-- the files of a command by their names
+abbrev pub files_named : Command → List (String Global) → List Named
+files_named command names = files_taken (taken_of command) (Names (texts names))
+
+-- the words ask for what was read
+abbrev pub AskForIt : List (List ℕ) → Request → Type 0
+AskForIt words request = AskFor words (plain_request request)

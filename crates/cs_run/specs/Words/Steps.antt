@@ -1,5 +1,6 @@
 -- Working words of the proofs: what is read step by step.
-use Rattle.std.specs.Prelude.{◌≡◌, ◌<◌, ◌⊎◌, ◌||◌, ℕ, Bool, true, false, List, [], ◌∷◌, ◌++◌, None, Some, IsSome, IsTrue, bytes_eq, length, unwrap_or}
+use Rattle.std.specs.Prelude.{◌≡◌, ◌<◌, ◌⊎◌, ◌||◌, ℕ, Bool, true, false, List, [], ◌∷◌, ◌++◌, None, Some, IsSome, IsTrue, String, bytes_eq, length, unwrap_or}
+use Rattle.std.specs.declared.alloc.Global.{Global}
 use Rattle.cs_run.specs.declared.words.options.Options.{Options}
 use Rattle.cs_run.specs.declared.words.given.Given.{Given}
 use Rattle.cs_run.specs.declared.words.setting.Setting.{Setting}
@@ -7,8 +8,9 @@ use Rattle.cs_run.specs.declared.words.setting.Setting.TheVariants.{Cover, Mutat
 use Rattle.cs_run.specs.Words.Options.{IsNewOption, default_options}
 use Rattle.cs_run.specs.Words.Values.{IsSeed, SpellsByte, SpellsSeed}
 use Rattle.cs_run.specs.Words.Commands.{Taken, taken_count, taken_of}
-use Rattle.cs_run.specs.Words.Requests.{AreArguments, PlainArguments}
-use Rattle.cs_run.specs.Words.Words.{MayBeTaken, is_name}
+use Rattle.cs_run.specs.declared.words.request.Taken as request
+use Rattle.cs_run.specs.Words.Requests.{AreArguments, PlainArguments, plain_arguments}
+use Rattle.cs_run.specs.Words.Words.{MayBeTaken, is_name, texts}
 use Rattle.cs_run.specs.declared.words.command.Command.{Command}
 
 -- ---- lists of names
@@ -101,6 +103,11 @@ pub record BeginsWith (command : Command) (words : List (List ℕ)) (arguments :
   pub all : count ≡ taken_count (taken_of command)
   pub taken : MayAllBeTaken (taken_of command) behind
   pub are : AreArguments (taken_of command) behind arguments
+
+-- what was taken stands in front of the words
+abbrev pub IsTakenFrom : Command → List (String Global) → request.Taken → Type 0
+IsTakenFrom command words taken =
+    BeginsWith command (texts words) (plain_arguments taken.arguments) taken.count (texts taken.rest.now)
 
 -- the words before the place are some of those that the command takes, and there it lacks one
 pub record LacksAt (command : Command) (words : List (List ℕ)) (at : ℕ) : Type 0 where

@@ -3,13 +3,16 @@
 ghost use Rattle.std.specs.Prelude.{◌≡◌};
 ghost use Rattle.cs_run.specs.Ending.Ending.{HasLine};
 ghost use Rattle.cs_run.specs.Ending.Summary.{IsSummary};
-ghost use Rattle.cs_run.specs.Input.Refusal.{CanBeTold, HasManyStates};
-ghost use Rattle.cs_io.specs.Uses.{desk_use, sink_use};
-ghost use Rattle.cs_run.specs.Command.Carrying.{IsRefusedSuite, Writes, WritesSure};
-ghost use Rattle.cs_run.specs.Command.Words.{AreBad, AskForNoFiles, KeepsPromisesTo, PerformsFor, ending_at, ending_of};
+ghost use Rattle.cs_io.specs.Uses.{desk_used, used};
+ghost use Rattle.cs_run.specs.Command.Carrying.{TakesGrammar, TakesPair, WritesByGrammar, WritesByPair, WritesOfPair, WritesSure};
+ghost use Rattle.cs_run.specs.Command.Words.{AreBad, AskForNoFiles, KeepsPromisesTo, PerformsFor};
 ghost use Rattle.cs_run.specs.Words.Words.{texts};
 ghost use Rattle.cs_run.specs.Writer.Suite.{IsRules, IsSuite};
 
+use crate::command::chains::chains;
+use crate::command::endings::{halted, stopped};
+use crate::command::lexical::lexical;
+use crate::command::text::of_text;
 use crate::ending::{Ending, finish};
 use crate::input::{Meant, Pair, Refusal, Stop, read_files};
 use crate::words::{Arguments, Command, Options, read_words};
@@ -35,11 +38,8 @@ pub fn run<R: Threads + Sync, D: Desk, O: Sink, E: Sink, G: Gate + Sync>(
     err: &mut E,
     gate: &G,
 ) -> u8
-    ensures promises { KeepsPromisesTo (texts words.now)
-        (desk_use D.files D.steady D.faults desk.old desk.new)
-        (sink_use O.written O.faults O.room out.old out.new)
-        (sink_use E.written E.faults E.room err.old err.new)
-        result }
+    ensures promises { KeepsPromisesTo (texts words.now) (desk_used D.Desk desk.old desk.new)
+        (used O.Sink out.old out.new) (used E.Sink err.old err.new) result }
     ensures bad_words_ask_nothing { AreBad (texts words.now) → desk.new ≡ desk.old }
     ensures no_files_ask_nothing { AskForNoFiles (texts words.now) → desk.new ≡ desk.old }
 {
@@ -57,8 +57,8 @@ fn perform<R: Threads + Sync, D: Desk, O: Sink, G: Gate + Sync>(
     gate: &G,
 ) -> Ending
     ensures performs { PerformsFor (texts words.now) result
-        (desk_use D.files D.steady D.faults desk.old desk.new)
-        (sink_use O.written O.faults O.room out.old out.new) }
+        (desk_used D.Desk desk.old desk.new)
+        (used O.Sink out.old out.new) }
     ensures told { HasLine result }
     ensures bad_words_ask_nothing { AreBad (texts words.now) → desk.new ≡ desk.old }
     ensures no_files_ask_nothing { AskForNoFiles (texts words.now) → desk.new ≡ desk.old }
@@ -71,19 +71,59 @@ fn perform<R: Threads + Sync, D: Desk, O: Sink, G: Gate + Sync>(
         Ok(meant) => meant,
         Err(stop) => return stopped(stop),
     };
-    match request.command {
-        Command::Rules => match meant {
-            Meant::Grammar(file) => rules(rt, alloc, file, out, gate),
-            Meant::Nothing | Meant::Pair(_) => unreachable!(),
-        },
-        Command::Suite => match meant {
-            Meant::Pair(pair) => suite(rt, alloc, pair, request.options, out, gate),
-            Meant::Nothing | Meant::Grammar(_) => unreachable!(),
-        },
-        Command::Gen => match request.arguments {
+    match meant {
+        Meant::Nothing => match request.arguments {
             Arguments::Seed(seed) => summary(rt, alloc, seed, out, gate),
             Arguments::Files(_) => unreachable!(),
         },
+        Meant::Grammar(file) => of_grammar(rt, alloc, request.command, file, out, gate),
+        Meant::Pair(pair) => of_pair(rt, alloc, request.command, request.options, pair, out, gate),
+        Meant::Text(beside) => of_text(alloc, &beside, out),
+    }
+}
+
+// Writes the text that a command asks for by a yacc file.
+fn of_grammar<R: Threads + Sync, O: Sink, G: Gate + Sync>(
+    rt: &R,
+    alloc: Global,
+    command: Command,
+    file: YaccFile,
+    out: &mut O,
+    gate: &G,
+) -> Ending
+    requires takes { TakesGrammar command }
+    ensures writes { WritesByGrammar command file result
+        (used O.Sink out.old out.new) }
+    ensures told { HasLine result }
+{
+    match command {
+        Command::Rules => rules(rt, alloc, file, out, gate),
+        Command::Chains => chains(rt, alloc, &file, out, gate),
+        Command::Suite | Command::Lexical => unreachable!(),
+        Command::Gen | Command::Member => unreachable!(),
+    }
+}
+
+// Writes the text that a command asks for by a yacc file and a lex file.
+fn of_pair<R: Threads + Sync, O: Sink, G: Gate + Sync>(
+    rt: &R,
+    alloc: Global,
+    command: Command,
+    options: Options,
+    pair: Pair,
+    out: &mut O,
+    gate: &G,
+) -> Ending
+    requires takes { TakesPair command }
+    ensures writes { WritesByPair command options pair result
+        (used O.Sink out.old out.new) }
+    ensures told { HasLine result }
+{
+    match command {
+        Command::Suite => suite(rt, alloc, pair, options, out, gate),
+        Command::Lexical => lexical(alloc, &pair, out),
+        Command::Rules | Command::Chains => unreachable!(),
+        Command::Gen | Command::Member => unreachable!(),
     }
 }
 
@@ -96,7 +136,7 @@ fn rules<R: Threads + Sync, O: Sink, G: Gate + Sync>(
     gate: &G,
 ) -> Ending
     ensures writes { WritesSure (IsRules file) result
-        (sink_use O.written O.faults O.room out.old out.new) }
+        (used O.Sink out.old out.new) }
     ensures told { HasLine result }
 {
     match write_rules(rt, alloc, &file, out, gate) {
@@ -114,8 +154,8 @@ fn suite<R: Threads + Sync, O: Sink, G: Gate + Sync>(
     out: &mut O,
     gate: &G,
 ) -> Ending
-    ensures writes { Writes (¬ HasManyStates pair.lex) (IsRefusedSuite pair) (IsSuite pair options) result
-        (sink_use O.written O.faults O.room out.old out.new) }
+    ensures writes { WritesOfPair pair (IsSuite pair options) result
+        (used O.Sink out.old out.new) }
     ensures told { HasLine result }
 {
     match write_suite(rt, alloc, pair, options, out, gate) {
@@ -135,35 +175,11 @@ fn summary<R: Threads + Sync, O: Sink, G: Gate + Sync>(
     gate: &G,
 ) -> Ending
     ensures writes { WritesSure (IsSummary seed) result
-        (sink_use O.written O.faults O.room out.old out.new) }
+        (used O.Sink out.old out.new) }
     ensures told { HasLine result }
 {
     match write_summary(rt, alloc, seed, out, gate) {
         Ok(()) => Ending::Written,
         Err(halt) => halted(halt),
-    }
-}
-
-// How a run ends whose writing stopped.
-fn halted(halt: Halt) -> Ending
-    ensures ending { result ≡ ending_at halt }
-    ensures told { HasLine result }
-{
-    match halt {
-        Halt::Failed => Ending::NotWritten,
-        Halt::Memory => Ending::NoMemory,
-    }
-}
-
-// How a run ends whose files aren't given.
-fn stopped(stop: Stop) -> Ending
-    requires { CanBeTold stop }
-    ensures ending { result ≡ ending_of stop }
-    ensures told { HasLine result }
-{
-    match stop {
-        Stop::NoFile(role) => Ending::NoFile(role),
-        Stop::Refused(refusal) => Ending::Refused(refusal),
-        Stop::Memory => Ending::NoMemory,
     }
 }

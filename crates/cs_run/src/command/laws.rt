@@ -2,16 +2,19 @@
 
 ghost use Rattle.std.specs.Prelude.{Option, Result, ℕ};
 ghost use Rattle.cs_run.specs.Words.Requests.{PlainRequest};
-ghost use Rattle.cs_run.specs.Ending.Texts.{AreTold, IsAskedText};
-ghost use Rattle.cs_grammar.specs.Laws.{AtMostOne};
+ghost use Rattle.cs_run.specs.Ending.Texts.{HasOneText};
 ghost use Rattle.cs_io.specs.Desk.{Files};
 
+use cs_chain_text::one_chains_text;
+use cs_lexical::one_lexical_text;
 use cs_manifest::one_manifest;
 
-/// Where a desk tells its files, or none are asked for, at most one text is asked for.
+/// Where a desk tells its files, or none are asked for, at most one text is asked for; but for `member`, which may tell of a
+/// sentence by each of its derivations.
 pub fn one_asked_text()
-    ensures { (asked : Result PlainRequest ℕ) (files : Option Files)
-        → AreTold files asked → AtMostOne (IsAskedText asked files) }
+    ensures { (asked : Result PlainRequest ℕ) (files : Option Files) → HasOneText asked files }
 {
     one_manifest();
+    one_lexical_text();
+    one_chains_text();
 }

@@ -1,7 +1,7 @@
 // What a run says at its end.
 
 ghost use Rattle.std.specs.Prelude.{◌≡◌, IfOk, Result, string_bytes};
-ghost use Rattle.cs_io.specs.Uses.{IsUnused, sink_use};
+ghost use Rattle.cs_io.specs.Uses.{IsUnused, used};
 ghost use Rattle.cs_run.specs.declared.ending.ending.Ending.TheVariants.{Written};
 ghost use Rattle.cs_run.specs.Ending.Ending.{HasLine, IsReported, Says, line_of, status_of};
 ghost use Rattle.cs_run.specs.Ending.Headline.{KeepsWhatPerforms};
@@ -19,7 +19,7 @@ use std::alloc::{AllocError, Global};
 /// promises of `specs/Headline`.
 pub fn finish<E: Sink>(alloc: Global, ending: Ending, err: &mut E) -> u8
     requires { HasLine ending }
-    ensures { KeepsWhatPerforms ending (sink_use E.written E.faults E.room err.old err.new) result }
+    ensures { KeepsWhatPerforms ending (used E.Sink err.old err.new) result }
 {
     status(report(alloc, ending, err))
 }
@@ -28,9 +28,9 @@ pub fn finish<E: Sink>(alloc: Global, ending: Ending, err: &mut E) -> u8
 fn report<E: Sink>(alloc: Global, ending: Ending, err: &mut E) -> Ending
     requires { HasLine ending }
     ensures ending { IsReported ending result }
-    ensures line { Says (line_of result) (sink_use E.written E.faults E.room err.old err.new) }
+    ensures line { Says (line_of result) (used E.Sink err.old err.new) }
     ensures silent { result ≡ Written
-        → IsUnused (sink_use E.written E.faults E.room err.old err.new) }
+        → IsUnused (used E.Sink err.old err.new) }
 {
     if ending == Ending::Written {
         return ending;
@@ -71,6 +71,7 @@ fn line(alloc: Global, ending: Ending) -> Result<String, AllocError>
         Ending::BadWord { at } => format!(in alloc; "conform: usage: word {at}\n"),
         Ending::NoFile(Role::Yacc) => String::from_str(alloc, "conform: read fault: yacc\n"),
         Ending::NoFile(Role::Lex) => String::from_str(alloc, "conform: read fault: lex\n"),
+        Ending::NoFile(Role::Text) => String::from_str(alloc, "conform: read fault: text\n"),
         Ending::NotWritten => String::from_str(alloc, "conform: write fault\n"),
         Ending::NoMemory => String::from_str(alloc, "conform: out of memory\n"),
     }

@@ -1,24 +1,35 @@
 // What bytes mean that were read.
 
-ghost use Rattle.std.specs.Prelude.{◌≡◌, ◌<◌, ◌∷◌, [], IfErr, IfOk, Ok, length, Err};
-ghost use Rattle.cs_bytes.specs.Limits.{most_bytes};
+ghost use Rattle.std.specs.Prelude.{◌≡◌, ◌<◌, ◌≤◌, ◌∷◌, [], IfErr, IfOk, Ok, length, Err};
 ghost use Rattle.cs_lex.specs.Reading.File.{HasTokensOf};
-ghost use Rattle.cs_run.specs.Input.Files.{IsGrammarOf, IsPairOf, IsShort};
-ghost use Rattle.cs_run.specs.Input.Refusal.{CanBeTold, RefusesRead, lex_stop, pair_contents, yacc_content};
+ghost use Rattle.cs_run.specs.Input.Files.{IsGrammarOf, IsPairOf, IsShort, most_for};
+ghost use Rattle.cs_run.specs.Input.Read.{HasTokensOfItsFile, IsTextOfAll};
+ghost use Rattle.cs_run.specs.Input.Refusal.{CanBeTold, RefusesRead, lex_stop, pair_contents, text_contents, yacc_content};
 ghost use Rattle.cs_run.specs.declared.input.refusal.Refusal.TheVariants.{TooLong};
 ghost use Rattle.cs_run.specs.declared.input.refusal.Stop.TheVariants.{Refused};
 
 use crate::input::refusal::{Refusal, Stop};
+use crate::input::text::TextBytes;
 use crate::words::Role;
 use cs_lex::{LexError, LexFile, read_lex};
 use cs_yacc::{MOST_BYTES, YaccError, YaccFile, read_yacc};
 use std::alloc::Global;
+
+// A text has no more bytes.
+const MOST_TEXT: usize = 65_536;
 
 /// A yacc file, and a lex file beside it.
 #[derive(Drop)]
 pub struct Pair {
     pub yacc: YaccFile,
     pub lex: LexFile,
+}
+
+/// A pair, and a text.
+#[derive(Drop)]
+pub struct PairAndText {
+    pub pair: Pair,
+    pub text: TextBytes,
 }
 
 /// What the files of a request mean.
@@ -28,6 +39,17 @@ pub enum Meant {
     Nothing,
     Grammar(YaccFile),
     Pair(Pair),
+    Text(PairAndText),
+}
+
+/// At most how many bytes a file may have.
+pub(crate) fn most_of(role: Role) -> usize
+    ensures { result ≡ most_for role }
+{
+    match role {
+        Role::Yacc | Role::Lex => MOST_BYTES,
+        Role::Text => MOST_TEXT,
+    }
 }
 
 /// What the bytes of a yacc file mean.
@@ -56,6 +78,30 @@ pub fn judge_pair(alloc: Global, bytes: &[u8], more: &[u8]) -> Result<Pair, Stop
     }
 }
 
+/// The same with a text, which is judged by its length alone.
+pub(crate) fn judge_text(
+    alloc: Global,
+    bytes: &[u8],
+    more: &[u8],
+    text: Vec<u8>,
+) -> Result<PairAndText, Stop>
+    ensures read { IfOk result (IsTextOfAll bytes.now more.now text) }
+    ensures tokens { IfOk result HasTokensOfItsFile }
+    ensures refused { IfErr result (RefusesRead (text_contents bytes.now more.now text.items)) }
+    ensures told { IfErr result CanBeTold }
+{
+    check_length(bytes, Role::Yacc)?;
+    check_length(more, Role::Lex)?;
+    check_length(&text, Role::Text)?;
+    match judge_pair(alloc, bytes, more) {
+        Ok(pair) => Ok(PairAndText {
+            pair,
+            text: TextBytes::new(text),
+        }),
+        Err(stop) => Err(stop),
+    }
+}
+
 // The answer where the reading of a lex file ends so.
 fn stop_of(error: LexError) -> Stop
     ensures stop { result ≡ lex_stop error }
@@ -68,11 +114,11 @@ fn stop_of(error: LexError) -> Stop
 }
 
 fn check_length(bytes: &[u8], role: Role) -> Result<(), Stop>
-    ensures short { IfOk result (λ _. IsShort bytes.now) }
-    ensures long { IfErr result (λ _. most_bytes < length bytes.now) }
+    ensures short { IfOk result (λ _. length bytes.now ≤ most_for role) }
+    ensures long { IfErr result (λ _. most_for role < length bytes.now) }
     ensures error { IfErr result (λ stop. stop ≡ Refused (TooLong role)) }
 {
-    if bytes.len() > MOST_BYTES {
+    if bytes.len() > most_of(role) {
         return Err(Stop::Refused(Refusal::TooLong(role)));
     }
     Ok(())

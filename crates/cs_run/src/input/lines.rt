@@ -6,11 +6,12 @@ ghost use Rattle.cs_run.specs.Input.Refusal.{IsTold};
 ghost use Rattle.cs_yacc.specs.declared.reading.error.YaccError.TheVariants as yacc_error;
 ghost use Rattle.cs_lex.specs.declared.reading.error.LexError.TheVariants as lex_error;
 
+use crate::input::judging::most_of;
 use crate::input::refusal::Refusal;
 use crate::words::Role;
 use cs_lex::{LexError, LexLimit};
 use cs_pattern::PatternFault;
-use cs_yacc::{MOST_BYTES, YaccError, YaccLimit};
+use cs_yacc::{YaccError, YaccLimit};
 use std::alloc::{AllocError, Global};
 
 /// The line of a refusal, with its newline.
@@ -20,8 +21,9 @@ pub fn line(alloc: Global, refusal: Refusal) -> Result<String, AllocError>
 {
     match refusal {
         Refusal::TooLong(role) => {
+            let most = most_of(role);
             let role = role_word(role);
-            Ok(format!(in alloc; "conform: {role}: Length above {MOST_BYTES}\n")?)
+            Ok(format!(in alloc; "conform: {role}: Length above {most}\n")?)
         }
         Refusal::OfYacc(error) => {
             let words = yacc_words(alloc, error)?;
@@ -32,6 +34,13 @@ pub fn line(alloc: Global, refusal: Refusal) -> Result<String, AllocError>
             Ok(format!(in alloc; "conform: lex: {words}")?)
         }
         Refusal::States => String::from_str(alloc, "conform: lex: States above 16384\n"),
+        Refusal::TextStops { at } => format!(in alloc; "conform: text: Stops at {at}\n"),
+        Refusal::TextTokens { found } => {
+            format!(in alloc; "conform: text: Tokens {found} of 2000\n")
+        }
+        Refusal::ManyChains { found } => {
+            format!(in alloc; "conform: chains: Limit Goals {found} of 1000000\n")
+        }
     }
 }
 
@@ -41,6 +50,7 @@ fn role_word(role: Role) -> &'static str
     match role {
         Role::Yacc => "yacc",
         Role::Lex => "lex",
+        Role::Text => "text",
     }
 }
 

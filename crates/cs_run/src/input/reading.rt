@@ -1,20 +1,21 @@
 // Reads the files that a command names.
 
-ghost use Rattle.std.specs.Prelude.{◌≡◌, ◌≤◌, ◌+◌, ◌∷◌, [], IfErr, IfOk, IsTrue, length};
+ghost use Rattle.std.specs.Prelude.{◌≡◌, ◌≤◌, [], IfErr, IfOk, IsTrue, length};
 ghost use Rattle.cs_lex.specs.Reading.File.{HasTokensOf};
-ghost use Rattle.cs_run.specs.declared.input.judging.Meant.TheVariants.{Grammar, Pair as PairOf};
-ghost use Rattle.cs_run.specs.Input.Files.{HaveContents, IsMeantFor, IsNoFile, Mean};
+ghost use Rattle.cs_run.specs.Input.Files.{IsMeantFor, IsNoFile};
 ghost use Rattle.cs_run.specs.Input.Refusal.{CanBeTold, FileStops, FilesStop};
-ghost use Rattle.cs_run.specs.Input.Read.{HasItsTokens, ReadsFile};
+ghost use Rattle.cs_run.specs.Input.Read.{AreMeant, HasItsTokens, HasTokensOfItsFile, IsFormOf, IsGrammarIn, IsPairIn, IsTextIn, ReadsFile};
 ghost use Rattle.cs_run.specs.Words.Commands.{taken_of};
 ghost use Rattle.cs_run.specs.Words.Words.{texts};
-ghost use Rattle.cs_run.specs.Words.Requests.{Fit, IsFitting, Names, files_of, files_taken, lex_named, plain_arguments, plain_request, yacc_named};
+ghost use Rattle.cs_run.specs.Words.Requests.{Fit, IsFitting, Names, files_in, files_named, one_named, plain_request, three_named, two_named};
 
-use crate::input::judging::{Meant, Pair, judge_grammar, judge_pair};
+use crate::input::judging::{
+    Meant, Pair, PairAndText, judge_grammar, judge_pair, judge_text, most_of,
+};
 use crate::input::refusal::Stop;
 use crate::words::{Arguments, Command, Request, Role};
 use cs_io::{Desk, DeskError};
-use cs_yacc::{MOST_BYTES, YaccFile};
+use cs_yacc::YaccFile;
 use std::alloc::Global;
 
 /// What the files of a request mean, or why they aren't given: one can't be read, they are refused, or want of memory. All
@@ -25,19 +26,16 @@ pub fn read_files<D: Desk>(
     desk: &mut D,
 ) -> Result<Meant, Stop>
     requires { IsFitting (plain_request request.now) }
-    ensures read { IfOk result (λ meant. HaveContents (D.files desk.old)
-        (files_of (plain_request request.now)) (λ contents. Mean contents meant)) }
-    ensures form { IfOk result (IsMeantFor (taken_of request.now.command)
-        (plain_arguments request.now.arguments)) }
+    ensures read { IfOk result (AreMeant (D.files desk.old) (files_in request.now)) }
+    ensures form { IfOk result (IsFormOf request.now) }
     ensures tokens { IfOk result HasItsTokens }
-    ensures stops { IfErr result (FilesStop D.files D.faults desk.old desk.new
-        (files_of (plain_request request.now))) }
+    ensures stops { IfErr result (FilesStop D.Desk desk.old desk.new (files_in request.now)) }
     ensures told { IfErr result CanBeTold }
     ensures failed { ¬ (D.faults desk.new ≡ D.faults desk.old) → IsNoFile result }
     ensures steady { IsTrue (D.steady desk.old) → D.faults desk.new ≡ D.faults desk.old }
     ensures same_files { D.files desk.new ≡ D.files desk.old }
     ensures same_steady { D.steady desk.new ≡ D.steady desk.old }
-    ensures no_files { files_of (plain_request request.now) ≡ [] → desk.new ≡ desk.old }
+    ensures no_files { files_in request.now ≡ [] → desk.new ≡ desk.old }
 {
     match request.arguments {
         Arguments::Seed(_) => Ok(Meant::Nothing),
@@ -53,19 +51,17 @@ fn read_named<D: Desk>(
     desk: &mut D,
 ) -> Result<Meant, Stop>
     requires { Fit (taken_of command) (Names (texts names.now)) }
-    ensures read { IfOk result (λ meant. HaveContents (D.files desk.old)
-        (files_taken (taken_of command) (Names (texts names.now)))
-        (λ contents. Mean contents meant)) }
+    ensures read { IfOk result (AreMeant (D.files desk.old) (files_named command names.now)) }
     ensures form { IfOk result (IsMeantFor (taken_of command) (Names (texts names.now))) }
     ensures tokens { IfOk result HasItsTokens }
-    ensures stops { IfErr result (FilesStop D.files D.faults desk.old desk.new
-        (files_taken (taken_of command) (Names (texts names.now)))) }
+    ensures stops { IfErr result
+        (FilesStop D.Desk desk.old desk.new (files_named command names.now)) }
     ensures told { IfErr result CanBeTold }
     ensures failed { ¬ (D.faults desk.new ≡ D.faults desk.old) → IsNoFile result }
     ensures steady { IsTrue (D.steady desk.old) → D.faults desk.new ≡ D.faults desk.old }
     ensures same_files { D.files desk.new ≡ D.files desk.old }
     ensures same_steady { D.steady desk.new ≡ D.steady desk.old }
-    ensures some { ¬ (files_taken (taken_of command) (Names (texts names.now)) ≡ []) }
+    ensures some { ¬ (files_named command names.now ≡ []) }
 {
     match names {
         [yacc] => match read_grammar(alloc, yacc.as_str(), desk) {
@@ -76,16 +72,20 @@ fn read_named<D: Desk>(
             Ok(pair) => Ok(Meant::Pair(pair)),
             Err(stop) => Err(stop),
         },
+        [yacc, lex, text] => {
+            match read_text(alloc, yacc.as_str(), lex.as_str(), text.as_str(), desk) {
+                Ok(beside) => Ok(Meant::Text(beside)),
+                Err(stop) => Err(stop),
+            }
+        }
         _ => unreachable!(),
     }
 }
 
 // The yacc file of that name.
 fn read_grammar<D: Desk>(alloc: Global, name: &str, desk: &mut D) -> Result<YaccFile, Stop>
-    ensures read { IfOk result (λ file. HaveContents (D.files desk.old)
-        (yacc_named name.now ∷ []) (λ contents. Mean contents (Grammar file))) }
-    ensures stops { IfErr result (FilesStop D.files D.faults desk.old desk.new
-        (yacc_named name.now ∷ [])) }
+    ensures read { IfOk result (IsGrammarIn (D.files desk.old) name.now) }
+    ensures stops { IfErr result (FilesStop D.Desk desk.old desk.new (one_named name.now)) }
     ensures told { IfErr result CanBeTold }
     ensures failed { ¬ (D.faults desk.new ≡ D.faults desk.old) → IsNoFile result }
     ensures steady { IsTrue (D.steady desk.old) → D.faults desk.new ≡ D.faults desk.old }
@@ -98,11 +98,10 @@ fn read_grammar<D: Desk>(alloc: Global, name: &str, desk: &mut D) -> Result<Yacc
 
 // The yacc file and the lex file of these names. Both are read before either is judged.
 fn read_pair<D: Desk>(alloc: Global, yacc: &str, lex: &str, desk: &mut D) -> Result<Pair, Stop>
-    ensures read { IfOk result (λ pair. HaveContents (D.files desk.old)
-        (yacc_named yacc.now ∷ lex_named lex.now ∷ []) (λ contents. Mean contents (PairOf pair))) }
+    ensures read { IfOk result (IsPairIn (D.files desk.old) yacc.now lex.now) }
     ensures tokens { IfOk result (λ pair. HasTokensOf (length pair.yacc.token_names) pair.lex) }
-    ensures stops { IfErr result (FilesStop D.files D.faults desk.old desk.new
-        (yacc_named yacc.now ∷ lex_named lex.now ∷ [])) }
+    ensures stops { IfErr result
+        (FilesStop D.Desk desk.old desk.new (two_named yacc.now lex.now)) }
     ensures told { IfErr result CanBeTold }
     ensures failed { ¬ (D.faults desk.new ≡ D.faults desk.old) → IsNoFile result }
     ensures steady { IsTrue (D.steady desk.old) → D.faults desk.new ≡ D.faults desk.old }
@@ -116,18 +115,44 @@ fn read_pair<D: Desk>(alloc: Global, yacc: &str, lex: &str, desk: &mut D) -> Res
     }
 }
 
+// The yacc file, the lex file and the text of these names. All are read before any is judged.
+fn read_text<D: Desk>(
+    alloc: Global,
+    yacc: &str,
+    lex: &str,
+    text: &str,
+    desk: &mut D,
+) -> Result<PairAndText, Stop>
+    ensures read { IfOk result (IsTextIn (D.files desk.old) yacc.now lex.now text.now) }
+    ensures tokens { IfOk result HasTokensOfItsFile }
+    ensures stops { IfErr result
+        (FilesStop D.Desk desk.old desk.new (three_named yacc.now lex.now text.now)) }
+    ensures told { IfErr result CanBeTold }
+    ensures failed { ¬ (D.faults desk.new ≡ D.faults desk.old) → IsNoFile result }
+    ensures steady { IsTrue (D.steady desk.old) → D.faults desk.new ≡ D.faults desk.old }
+    ensures same_files { D.files desk.new ≡ D.files desk.old }
+    ensures same_steady { D.steady desk.new ≡ D.steady desk.old }
+{
+    let bytes = read_file(alloc, yacc, Role::Yacc, desk)?;
+    let more = read_file(alloc, lex, Role::Lex, desk)?;
+    match read_file(alloc, text, Role::Text, desk) {
+        Ok(text) => judge_text(alloc, &bytes, &more, text),
+        Err(stop) => Err(stop),
+    }
+}
+
 // The first bytes of a file, one more than it may have.
 fn read_file<D: Desk>(alloc: Global, name: &str, role: Role, desk: &mut D) -> Result<Vec<u8>, Stop>
-    ensures read { IfOk result (ReadsFile (D.files desk.old) name.now) }
+    ensures read { IfOk result (ReadsFile role (D.files desk.old) name.now) }
     ensures calm { IfOk result (λ _. D.faults desk.new ≡ D.faults desk.old) }
-    ensures stops { IfErr result (FileStops D.files D.faults desk.old desk.new role name.now) }
+    ensures stops { IfErr result (FileStops D.Desk desk.old desk.new role name.now) }
     ensures told { IfErr result CanBeTold }
     ensures faults_never_fall { D.faults desk.old ≤ D.faults desk.new }
     ensures steady { IsTrue (D.steady desk.old) → D.faults desk.new ≡ D.faults desk.old }
     ensures same_files { D.files desk.new ≡ D.files desk.old }
     ensures same_steady { D.steady desk.new ≡ D.steady desk.old }
 {
-    match desk.read(alloc, name, MOST_BYTES + 1) {
+    match desk.read(alloc, name, most_of(role) + 1) {
         Ok(bytes) => Ok(bytes),
         Err(DeskError::Memory) => Err(Stop::Memory),
         Err(_) => Err(Stop::NoFile(role)),

@@ -15,6 +15,12 @@ pub enum Refusal {
     OfLex(LexError),
     /// The automaton of the lex file has too many states.
     States,
+    /// The grammar has too many chains, so many.
+    ManyChains { found: u64 },
+    /// The scan of the text stops at this byte.
+    TextStops { at: u32 },
+    /// The text has too many tokens, so many.
+    TextTokens { found: usize },
 }
 
 /// Why files aren't given.

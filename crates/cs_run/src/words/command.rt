@@ -15,6 +15,12 @@ pub enum Command {
     Suite,
     /// The summary of the two files that a number stands for.
     Gen,
+    /// What each rule of a lex file takes, and in what each two of them overlap.
+    Lexical,
+    /// The rules under rules under rules of a yacc file.
+    Chains,
+    /// Whether a text is a sentence, with a derivation.
+    Member,
 }
 
 /// What a file is to a command.
@@ -22,6 +28,8 @@ pub enum Command {
 pub enum Role {
     Yacc,
     Lex,
+    /// A text that is to be scanned.
+    Text,
 }
 
 impl Command {
@@ -39,6 +47,15 @@ impl Command {
         if word == "gen" {
             return Some(Command::Gen);
         }
+        if word == "lexical" {
+            return Some(Command::Lexical);
+        }
+        if word == "chains" {
+            return Some(Command::Chains);
+        }
+        if word == "member" {
+            return Some(Command::Member);
+        }
         None
     }
 
@@ -48,8 +65,9 @@ impl Command {
         ensures seed { IfNone result (taken_of self ≡ Seed) }
     {
         match self {
-            Command::Rules => Some(&[Role::Yacc]),
-            Command::Suite => Some(&[Role::Yacc, Role::Lex]),
+            Command::Rules | Command::Chains => Some(&[Role::Yacc]),
+            Command::Suite | Command::Lexical => Some(&[Role::Yacc, Role::Lex]),
+            Command::Member => Some(&[Role::Yacc, Role::Lex, Role::Text]),
             Command::Gen => None,
         }
     }
@@ -60,7 +78,8 @@ impl Command {
     {
         match (self, kind) {
             (Command::Suite, _) => true,
-            (Command::Rules | Command::Gen, _) => false,
+            (Command::Rules | Command::Gen | Command::Lexical, _) => false,
+            (Command::Chains | Command::Member, _) => false,
         }
     }
 }

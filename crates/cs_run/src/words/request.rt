@@ -1,11 +1,11 @@
 // What words ask for.
 
-ghost use Rattle.std.specs.Prelude.{◌≡◌, ◌≤◌, ◌<◌, ◌∷◌, [], IfErr, IfNone, IfOk, IfSome, drop, length, take};
+ghost use Rattle.std.specs.Prelude.{◌≡◌, ◌≤◌, ◌<◌, [], IfErr, IfNone, IfOk, IfSome, drop, length, take};
 ghost use Rattle.cs_run.specs.Words.Words.{IsAccepted, IsFirstBad, is_name, texts};
-ghost use Rattle.cs_run.specs.Words.Commands.{Files, Seed, command_word, taken_of};
-ghost use Rattle.cs_run.specs.Words.Requests.{AskFor, IsFitting, plain_arguments, plain_request};
+ghost use Rattle.cs_run.specs.Words.Commands.{Files, Seed, taken_of};
+ghost use Rattle.cs_run.specs.Words.Requests.{AskForIt, IsFitting, all_words, plain_request};
 ghost use Rattle.cs_run.specs.Words.Options.{AreOptions};
-ghost use Rattle.cs_run.specs.Words.Steps.{AreNames, AreNew, BeginsWith, BeginsWithSeed, LacksAt, LacksName, LacksSeed, StopsAt};
+ghost use Rattle.cs_run.specs.Words.Steps.{AreNames, AreNew, BeginsWithSeed, IsTakenFrom, LacksAt, LacksName, LacksSeed, StopsAt};
 
 use crate::words::command::{Command, Role};
 use crate::words::given::Given;
@@ -41,7 +41,7 @@ pub struct BadWord {
 /// its own name.
 pub fn read_words(words: &[String]) -> Result<Request<'_>, BadWord>
     ensures accepted { IfOk result (λ _. IsAccepted (texts words.now)) }
-    ensures asked { IfOk result (λ request. AskFor (texts words.now) (plain_request request)) }
+    ensures asked { IfOk result (AskForIt (texts words.now)) }
     ensures fitting { IfOk result (λ request. IsFitting (plain_request request)) }
     ensures bad { IfErr result (λ bad. IsFirstBad (texts words.now) bad.at) }
 {
@@ -56,13 +56,10 @@ pub fn read_words(words: &[String]) -> Result<Request<'_>, BadWord>
 
 // What a command and the words behind it ask for.
 fn read_behind<'w>(command: Command, words: &'w [String]) -> Result<Request<'w>, BadWord>
-    ensures accepted { IfOk result
-        (λ _. IsAccepted (command_word command ∷ texts words.now)) }
-    ensures asked { IfOk result
-        (λ request. AskFor (command_word command ∷ texts words.now) (plain_request request)) }
+    ensures accepted { IfOk result (λ _. IsAccepted (all_words command words.now)) }
+    ensures asked { IfOk result (AskForIt (all_words command words.now)) }
     ensures fitting { IfOk result (λ request. IsFitting (plain_request request)) }
-    ensures bad { IfErr result
-        (λ bad. IsFirstBad (command_word command ∷ texts words.now) bad.at) }
+    ensures bad { IfErr result (λ bad. IsFirstBad (all_words command words.now) bad.at) }
 {
     let taken = match read_arguments(command, words) {
         Ok(taken) => taken,
@@ -90,8 +87,7 @@ struct Taken<'w> {
 
 // What the command takes in front of the words, or the place of the first word that it doesn't.
 fn read_arguments<'w>(command: Command, words: &'w [String]) -> Result<Taken<'w>, usize>
-    ensures begins { IfOk result (λ taken. BeginsWith command (texts words.now)
-        (plain_arguments taken.arguments) taken.count (texts taken.rest.now)) }
+    ensures begins { IfOk result (IsTakenFrom command words.now) }
     ensures lacks { IfErr result (LacksAt command (texts words.now)) }
 {
     match command.roles() {
@@ -103,8 +99,7 @@ fn read_arguments<'w>(command: Command, words: &'w [String]) -> Result<Taken<'w>
 // The names of files in front, one for each role.
 fn read_names<'w>(command: Command, roles: &[Role], words: &'w [String]) -> Result<Taken<'w>, usize>
     requires { taken_of command ≡ Files roles.now }
-    ensures begins { IfOk result (λ taken. BeginsWith command (texts words.now)
-        (plain_arguments taken.arguments) taken.count (texts taken.rest.now)) }
+    ensures begins { IfOk result (IsTakenFrom command words.now) }
     ensures lacks { IfErr result (LacksAt command (texts words.now)) }
 {
     let count = count_names(words, roles.len());
@@ -137,8 +132,7 @@ fn count_names(words: &[String], most: usize) -> usize
 // The seed in front.
 fn read_number<'w>(command: Command, words: &'w [String]) -> Result<Taken<'w>, usize>
     requires { taken_of command ≡ Seed }
-    ensures begins { IfOk result (λ taken. BeginsWith command (texts words.now)
-        (plain_arguments taken.arguments) taken.count (texts taken.rest.now)) }
+    ensures begins { IfOk result (IsTakenFrom command words.now) }
     ensures lacks { IfErr result (LacksAt command (texts words.now)) }
 {
     match front_seed(words) {

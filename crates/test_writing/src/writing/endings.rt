@@ -61,6 +61,19 @@ const REFUSALS: &[(Refusal, &[u8])] = &[
         b"conform: lex: NoRules\n",
     ),
     (Refusal::States, b"conform: lex: States above 16384\n"),
+    (
+        Refusal::TooLong(Role::Text),
+        b"conform: text: Length above 65536\n",
+    ),
+    (Refusal::TextStops { at: 2 }, b"conform: text: Stops at 2\n"),
+    (
+        Refusal::TextTokens { found: 2_001 },
+        b"conform: text: Tokens 2001 of 2000\n",
+    ),
+    (
+        Refusal::ManyChains { found: 1_000_001 },
+        b"conform: chains: Limit Goals 1000001 of 1000000\n",
+    ),
 ];
 
 #[test]

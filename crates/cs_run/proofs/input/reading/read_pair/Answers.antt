@@ -1,4 +1,4 @@
-use Rattle.std.proofs.Common.{◌+◌, ℕ, Option, sym, subst}
+use Rattle.std.proofs.Common.{◌+◌, [], ℕ, Option, sym, subst}
 use Rattle.cs_io.specs.Desk.{Files, IsBeginning}
 use Rattle.cs_yacc.specs.declared.reading.TheConstants.{MOST_BYTES}
 use Rattle.cs_run.specs.declared.words.command.Role.TheVariants.{Lex}
@@ -31,5 +31,5 @@ returns-clause-stops g c =
     let why : StopsFile Lex files c.args.lex.now (faults_of g.D.Desk.faults c.args.desk.now c.read_file-2.new.desk) c.in-Err.stop =
     subst (λ (n : ℕ). StopsFile Lex files c.args.lex.now (record { before = n; after = g.D.Desk.faults c.read_file-2.new.desk }) c.in-Err.stop) c.in_ok-bytes.ensures.calm
     (subst (λ (f : Option Files). StopsFile Lex f c.args.lex.now (faults_of g.D.Desk.faults c.read_file.new.desk c.read_file-2.new.desk) c.in-Err.stop) c.in_ok-bytes.ensures.same_files c.in-Err.ensures.stops) in
-    second_stops files (faults_of g.D.Desk.faults c.args.desk.now c.read_file-2.new.desk) (yacc_named c.args.yacc.now) (lex_named c.args.lex.now) c.in-Err.stop
+    second_stops files (faults_of g.D.Desk.faults c.args.desk.now c.read_file-2.new.desk) (yacc_named c.args.yacc.now) (lex_named c.args.lex.now) [] c.in-Err.stop
     (there_by_read files c.args.yacc.now _ c.in_ok-bytes.ensures.read) why

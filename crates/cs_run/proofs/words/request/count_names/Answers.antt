@@ -1,4 +1,4 @@
-use Rattle.std.proofs.Common.{◌≡◌, ◌+◌, ◌≤◌, false, take, sym, ap, ◌∙◌, subst, arith}
+use Rattle.std.proofs.Common.{◌≡◌, ◌+◌, false, take, sym, ap, ◌∙◌, subst, arith}
 use Rattle.std.specs.Prelude.{IsTrue, string_bytes}
 use Rattle.cs_run.specs.Words.Steps.{AreNames}
 use Rattle.cs_run.specs.Words.Words.{is_name, texts}

@@ -1,4 +1,3 @@
-use Rattle.std.proofs.Common.{arith}
 use Rattle.cs_run.specs.Words.Words.{texts}
 use Rattle.cs_run.proofs.OnWords.Standing.{names_lack}
 use Rattle.cs_run.proofs.words.request.read_names.Goals as goal

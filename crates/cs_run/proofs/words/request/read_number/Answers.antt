@@ -1,7 +1,3 @@
-use Rattle.std.proofs.Common.{◌≡◌, List, [], ◌∷◌, ℕ, refl, sym, subst}
-use Rattle.cs_run.specs.Words.Commands.{Seed, Taken}
-use Rattle.cs_run.specs.Words.Requests.{Number}
-use Rattle.cs_run.specs.Words.Steps.{BeginsWith}
 use Rattle.cs_run.specs.Words.Words.{texts}
 use Rattle.cs_run.proofs.OnWords.Standing.{seed_begins}
 use Rattle.cs_run.proofs.words.request.read_number.Goals as goal

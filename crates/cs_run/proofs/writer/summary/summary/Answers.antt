@@ -17,7 +17,7 @@ unreachable-requires g c =
     let second : Refuses refusal (pair_contents files.yacc.items c.deref-2.result.now) = subst (λ (b : List ℕ). Refuses refusal (pair_contents b c.deref-2.result.now)) c.deref.ensures.value first in
     let third : Refuses refusal (pair_contents files.yacc.items files.lex.items) = subst (λ (b : List ℕ). Refuses refusal (pair_contents files.yacc.items b)) c.deref-2.ensures.value second in
     no_refusal files.yacc.items files.lex.items refusal c.in_ok-files.ensures.short_yacc c.in_ok-files.ensures.short_lex c.in_ok-files.ensures.yacc_accepted
-    c.in_ok-files.ensures.lex_accepted c.in_ok-files.ensures.few_sets third
+    c.in_ok-files.ensures.lex_accepted third
 
 pub returns : goal.returns
 returns g c =

@@ -1,0 +1,54 @@
+// The text of `chains`.
+
+ghost use Rattle.cs_io.specs.Uses.{used};
+ghost use Rattle.cs_run.specs.Command.Scanned.{WritesChains};
+ghost use Rattle.cs_run.specs.Ending.Ending.{HasLine};
+
+use crate::command::endings::ended;
+use crate::ending::Ending;
+use crate::input::Refusal;
+use cs_chain::total;
+use cs_chain_text::write_chains;
+use cs_choices::Weigh;
+use cs_fan::Gate;
+use cs_grammar::Weights;
+use cs_io::Sink;
+use cs_yacc::YaccFile;
+use std::alloc::Global;
+use std::thread::Threads;
+
+// A grammar has no more chains.
+const MOST_CHAINS: u64 = 1_000_000;
+
+/// Writes the chains of a yacc file's grammar.
+pub(crate) fn chains<R: Threads + Sync, O: Sink, G: Gate + Sync>(
+    rt: &R,
+    alloc: Global,
+    file: &YaccFile,
+    out: &mut O,
+    gate: &G,
+) -> Ending
+    ensures writes { WritesChains file.now result (used O.Sink out.old out.new) }
+    ensures told { HasLine result }
+{
+    let found = match total(alloc, file.grammar()) {
+        Ok(found) => found,
+        Err(_) => return Ending::NoMemory,
+    };
+    if found > MOST_CHAINS {
+        return Ending::Refused(Refusal::ManyChains { found });
+    }
+    match Weights::nodes(alloc, file.grammar().tokens()) {
+        Ok(weights) => ended(write_chains(
+            rt,
+            alloc,
+            file,
+            &weights,
+            Weigh::Nodes,
+            None,
+            out,
+            gate,
+        )),
+        Err(_) => Ending::NoMemory,
+    }
+}
