@@ -29,6 +29,7 @@ fn least_by_rank_among_the_shortest(rt: HostRuntime) -> Result<(), Fail> {
         alloc,
         b"%%\n[ab]x return IF;\n[A-Za-z0-9][!-~] return ID;\n",
     )?;
+    assert_eq!(rt; lexical.rules(), 2);
     assert!(rt; is_text(lexical.wins(1), b"ax"));
     assert!(rt; is_text(lexical.wins(2), b"aa"));
     assert!(rt; is_text(lexical.both(1, 2), b"ax"));
