@@ -70,12 +70,17 @@ def example(name):
     return os.path.join(TOP, "examples", name)
 
 
+# a text for `member`, in a folder that each script has
+TEXT = os.path.join(TOP, "bench", "out", "text")
 COMMANDS = [
     ["rules", example("g1.y")],
     ["rules", example("calculator.y")],
     ["suite", example("g1.y"), example("l1.l"), "--bases=2", "--format=1"],
     ["suite", example("g1.y"), example("l1.l"), "--bases=2", "--weigh=bytes"],
     ["suite", example("lists.y"), example("lists.l"), "--criteria=rule", "--bases=1"],
+    ["lexical", example("lists.y"), example("lists.l")],
+    ["member", example("g1.y"), example("l1.l"), TEXT],
+    ["chains", example("g1.y")],
     ["gen", "1"],
 ]
 
@@ -110,6 +115,9 @@ def main():
         with open(source, "w") as file:
             file.write(SHIM)
         subprocess.run(["cc", "-O1", "-shared", "-fPIC", "-o", library, source, "-ldl"], check=True)
+        os.makedirs(os.path.dirname(TEXT), exist_ok=True)
+        with open(TEXT, "w") as file:
+            file.write("( 0 + 0 )")
         for words in COMMANDS:
             number, wanting, wrong = tried(path, library, words, os.path.join(folder, "count"))
             names = " ".join(os.path.basename(word) for word in words)
