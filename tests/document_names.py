@@ -62,10 +62,10 @@ def missing_in(crate, cell):
         elif clauses:
             if not has_clause(text, function, name):
                 yield f"no clause {name} of {function}"
-        elif is_defined(text, name):
-            function = name
         else:
-            yield f"no {name}"
+            function = name
+            if not is_defined(text, name):
+                yield f"no {name}"
 
 
 def claims(page):
