@@ -15,7 +15,7 @@ import tempfile
 from grammars import layered, scanner
 from measure import TOP, Bounds, program
 
-COUNTED = ["valgrind", "--tool=callgrind", "--callgrind-out-file=/dev/null"]
+COUNTED = ["valgrind", "--tool=callgrind", "--callgrind-out-file=counts"]
 EXAMPLES = os.path.join(TOP, "examples")
 EXPRESSIONS = [os.path.join(EXAMPLES, name) for name in ("cexpr.y", "cexpr.l")]
 # Words, and the most millions of instructions.

@@ -41,7 +41,7 @@ def rows(output):
         if row:
             title = f"{about}: {row['name'].strip()}" if line.startswith(" ") else row["name"]
             figure, most, unit = (row[part] for part in ("figure", "most", "unit"))
-            yield f"| {title} | {figure} {unit} | {most} {unit} | {'passed' if row['passed'] else 'within'} |"
+            yield f"| {title} | {figure} {unit} | {most} {unit} | {'above it' if row['passed'] else 'within'} |"
         if not line.startswith(" "):
             about = name
 
