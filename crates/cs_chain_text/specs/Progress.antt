@@ -7,12 +7,16 @@ use Rattle.cs_grammar.specs.Tree.{IsDerivationOf}
 use Rattle.cs_grammar.specs.Weights.{IsMeasure, Weighed, weighed}
 use Rattle.cs_scanner.specs.Lexeme.Lexeme.{AreLexemes}
 use Rattle.cs_scanner.specs.Scan.Compared.{scanning}
+use Rattle.cs_texts.specs.Rendering.Rendering.{rendering}
+use Rattle.cs_texts.specs.declared.rendering.rendered.Rendered.{Rendered}
 use Rattle.cs_texts.specs.declared.work.work.RenderWork.{RenderWork}
+use Rattle.cs_choices.specs.declared.weigh.Weigh.{Weigh}
+use Rattle.cs_manifest.specs.Manifest.Below as below
 use Rattle.cs_yacc.specs.Reading.File.{File}
 use Rattle.cs_manifest.specs.Output.Names.{AreNamedTokens}
 use Rattle.cs_manifest.specs.Output.Words.{line, numbered_from}
 use Rattle.cs_manifest.specs.Manifest.Lines.{is_feasible, is_infeasible, is_large, numbered_word}
-use Rattle.cs_manifest.specs.Manifest.Manifest.{Texts, measure_of}
+use Rattle.cs_manifest.specs.Manifest.Manifest.{IsTextOf, Texts, measure_of}
 use Rattle.cs_manifest.specs.Manifest.Named.{AreNamedRenderings}
 use Rattle.cs_chain.specs.declared.chains.chain.Chain.{Chain}
 use Rattle.cs_chain.specs.declared.judging.verdict.ChainVerdict.{ChainVerdict}
@@ -21,7 +25,7 @@ use Rattle.cs_chain.specs.Chains.Chains.{chains}
 use Rattle.cs_chain_text.specs.declared.entry.TellWork.{TellWork}
 use Rattle.cs_chain_text.specs.declared.tally.Tally.{Tally}
 use Rattle.cs_chain_text.specs.declared.writing.Chained.{Chained}
-use Rattle.cs_chain_text.specs.Text.{ChainEntry, IsChainsText, IsEntryOf, entry_lines, many_with}
+use Rattle.cs_chain_text.specs.Text.{ChainEntry, IsChainsText, IsEntryOf, as_goal, entry_lines, many_with}
 
 -- ---- what is told of a chain
 
@@ -35,6 +39,11 @@ texts_by work = option_map (λ r. texts_of r.now) work
 
 abbrev pub lexemes_by : Option (Bor RenderWork) → Option (List (Option (List ℕ)))
 lexemes_by work = option_map (λ r. r.now.lexemes.now) work
+
+-- what came of the rendering of a chain's tokens
+abbrev pub IsTextBy : Option (Bor RenderWork) → ChainVerdict → List ℕ → Option Rendered → Type 0
+IsTextBy work verdict tokens rendered =
+    IsTextOf (texts_by work) (lexemes_by work) (as_goal verdict) tokens (option_map rendering rendered)
 
 -- the lexemes are those of the file's tokens
 abbrev pub HaveLexemes : File → Option (Bor RenderWork) → Type 0
@@ -110,7 +119,19 @@ end_with t =
 abbrev pub lines_from : File → ℕ → List ChainEntry → List ℕ
 lines_from file many entries = numbered_from (many + 1) (entry_lines file) entries
 
+-- the same behind those that were counted
+abbrev pub lines_of : File → Tally → List ChainEntry → List ℕ
+lines_of file tally entries = lines_from file tally.goals entries
+
+-- a verdict's words and the lines below, without the last newline
+abbrev pub verdict_words : File → ChainVerdict → List ℕ → List ℕ
+verdict_words file verdict tokens = below.verdict_words file (as_goal verdict) tokens
+
 -- ---- the text
+
+-- the text of the chains of a file, where texts are rendered by this
+abbrev pub IsText : File → Option (Bor RenderWork) → Weigh → List ℕ → Type 0
+IsText file work weigh text = IsChainsText file (texts_by work) weigh text
 
 -- The text can be written: trees are measured as is asked, the lexemes are those of the file's tokens, and there are few chains.
 pub record IsReady (d : Chained) : Type 0 where
@@ -130,7 +151,7 @@ pub record IsWorkOf (d : Chained) (tell : TellWork) : Type 0 where
 
 -- the text that is asked for
 abbrev pub IsAsked : Chained → List ℕ → Type 0
-IsAsked d text = IsChainsText d.yacc.now (texts_by d.work) d.weigh text
+IsAsked d text = IsText d.yacc.now d.work d.weigh text
 
 -- one entry for each of these chains, in order
 abbrev pub AreEntries : Chained → List Chain → List ChainEntry → Type 0

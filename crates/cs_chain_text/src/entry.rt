@@ -1,11 +1,10 @@
 // What is told of a chain, and the work that makes it.
 
-ghost use Rattle.std.specs.Prelude.{IfOk, IfSome, option_map};
-ghost use Rattle.cs_manifest.specs.Manifest.Manifest.{AreTokensOf, IsTextOf};
-ghost use Rattle.cs_texts.specs.Rendering.Rendering.{rendering};
+ghost use Rattle.std.specs.Prelude.{IfOk, IfSome};
+ghost use Rattle.cs_manifest.specs.Manifest.Manifest.{AreTokensOf};
 ghost use Rattle.cs_texts.specs.Work.Renders.{TakesTokens};
 ghost use Rattle.cs_chain_text.specs.Text.{as_goal};
-ghost use Rattle.cs_chain_text.specs.Progress.{HasDerivation, lexemes_by, texts_by};
+ghost use Rattle.cs_chain_text.specs.Progress.{HasDerivation, IsTextBy};
 
 use cs_chain::{Chain, ChainVerdict, judge_chain};
 use cs_fan::Work;
@@ -63,9 +62,7 @@ fn text_of(
     tokens: &[u16],
 ) -> Result<Option<Rendered>, AllocError>
     requires { IfSome work (λ work. TakesTokens work.now tokens.now) }
-    ensures { IfOk result (λ rendered.
-        IsTextOf (texts_by work.entry) (lexemes_by work.entry) (as_goal verdict.now)
-        tokens.now (option_map rendering rendered)) }
+    ensures { IfOk result (IsTextBy work.entry verdict.now tokens.now) }
 {
     let Some(work) = work else {
         return Ok(None);

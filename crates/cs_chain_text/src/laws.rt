@@ -13,16 +13,14 @@ use cs_texts::some_rendering;
 
 /// A file has at most one text of its chains.
 pub fn one_chains_text()
-    ensures { (file : File) (texts : Option Texts) (weigh : Weigh)
-        → IsOne (IsChainsText file texts weigh) }
+    ensures { (f : File) (texts : Option Texts) (w : Weigh) → IsOne (IsChainsText f texts w) }
 {
     one_text();
 }
 
 /// No file is without a text of its chains.
 pub fn some_chains_text()
-    ensures { (file : File) (texts : Option Texts) (weigh : Weigh)
-        → IsNotWithout (IsChainsText file texts weigh) }
+    ensures { (f : File) (texts : Option Texts) (w : Weigh) → IsNotWithout (IsChainsText f texts w) }
 {
     some_list_of_lexemes();
     some_rendering();

@@ -2,7 +2,6 @@
 
 ghost use Rattle.std.specs.Prelude.{All, length, option_map};
 ghost use Rattle.cs_io.specs.Lines.{Writes};
-ghost use Rattle.cs_manifest.specs.Manifest.Below as below;
 ghost use Rattle.cs_manifest.specs.Manifest.Below.{texts_below};
 ghost use Rattle.cs_manifest.specs.Manifest.Entry.{rendering_of};
 ghost use Rattle.cs_manifest.specs.Manifest.Lines.{table_lines};
@@ -10,8 +9,8 @@ ghost use Rattle.cs_manifest.specs.Manifest.Named.{AreNamedRenderings};
 ghost use Rattle.cs_manifest.specs.Output.Names.{AreNamedTokens};
 ghost use Rattle.cs_manifest.specs.Output.Putting.{Puts};
 ghost use Rattle.cs_yacc.specs.Reading.File.{File};
-ghost use Rattle.cs_chain_text.specs.Text.{as_goal, chain_words, entry_lines, head_lines};
-ghost use Rattle.cs_chain_text.specs.Progress.{CanCount, HaveLexemes, IsCounted, IsNamedEntry, end_with, lexemes_by, lines_from};
+ghost use Rattle.cs_chain_text.specs.Text.{chain_words, entry_lines, head_lines};
+ghost use Rattle.cs_chain_text.specs.Progress.{CanCount, HaveLexemes, IsCounted, IsNamedEntry, end_with, lexemes_by, lines_of, verdict_words};
 
 use crate::entry::Told;
 use crate::tally::Tally;
@@ -59,8 +58,8 @@ pub(crate) fn write_entries<S: Sink>(
 ) -> Result<(), SinkError>
     requires named { All (IsNamedEntry file.now) entries.now }
     requires few { CanCount tally.old (length entries.now) }
-    ensures lines { Writes S.Sink result
-        (lines_from file.now tally.old.goals entries.now) sink.old sink.new }
+    ensures text { Writes S.Sink result
+        (lines_of file.now tally.old entries.now) sink.old sink.new }
     ensures counted { IsCounted entries.now tally.old tally.new }
 {
     let mut line = [0u8; LINE_LENGTH];
@@ -79,7 +78,7 @@ fn put_entries<S: Sink>(
     requires named { All (IsNamedEntry file.now) entries.now }
     requires few { CanCount tally.old (length entries.now) }
     ensures lines { Puts S.Sink
-        (lines_from file.now tally.old.goals entries.now) output.old output.new }
+        (lines_of file.now tally.old entries.now) output.old output.new }
     ensures counted { IsCounted entries.now tally.old tally.new }
 {
     for told in entries {
@@ -117,7 +116,7 @@ fn put_verdict<S: Sink>(
     tokens: &[u16],
 )
     requires { AreNamedTokens file.now tokens.now }
-    ensures { Puts S.Sink (below.verdict_words file.now (as_goal verdict.now) tokens.now)
+    ensures { Puts S.Sink (verdict_words file.now verdict.now tokens.now)
         output.old output.new }
 {
     match verdict {

@@ -9,9 +9,8 @@ ghost use Rattle.cs_io.specs.BufferedSink.{buffered_room, lent_name, lent_sink, 
 ghost use Rattle.cs_io.specs.Stops.{PutsOne};
 ghost use Rattle.cs_io.specs.declared.halt.Halt.TheVariants.{Failed};
 ghost use Rattle.cs_manifest.specs.Manifest.Manifest.{measure_of};
-ghost use Rattle.cs_chain_text.specs.Text.{IsChainsText};
-ghost use Rattle.cs_chain_text.specs.Progress.{CanTell, CountsAll, HaveLexemes, IsAsked, IsBodyText, IsReady, IsToldBy, IsWorkOf};
-ghost use Rattle.cs_chain_text.specs.Progress.{TakesBatch, lexemes_by, no_chains, texts_by};
+ghost use Rattle.cs_chain_text.specs.Progress.{CanTell, CountsAll, HaveLexemes, IsAsked, IsBodyText, IsReady, IsText, IsToldBy, IsWorkOf};
+ghost use Rattle.cs_chain_text.specs.Progress.{TakesBatch, lexemes_by, no_chains};
 
 use crate::entry::{TellWork, Told};
 use crate::laws::{one_chains_text, some_chains_text};
@@ -63,13 +62,13 @@ pub fn write_chains<R: Threads + Sync, O: Sink, G: Gate + Sync>(
     requires lexemes { HaveLexemes file.now work }
     requires few { length (chains file.now.grammar) ≤ 1000000 }
     ensures ok { OnOk result (TookOne O.Sink
-        (IsChainsText file.now (texts_by work.entry) weigh) out.old out.new) }
+        (IsText file.now work.entry weigh) out.old out.new) }
     ensures part { OnErr result (TookFront O.Sink
-        (IsChainsText file.now (texts_by work.entry) weigh) out.old out.new) }
+        (IsText file.now work.entry weigh) out.old out.new) }
     ensures no_fault { OnOk result (MetNone O.Sink out.old out.new) }
     ensures failed { Stopped Failed result → MetFault O.Sink out.old out.new }
     ensures room { IsCalmForAll O.Sink
-        (IsChainsText file.now (texts_by work.entry) weigh) out.old out.new }
+        (IsText file.now work.entry weigh) out.old out.new }
 {
     let chained = Chained {
         yacc: file,

@@ -37,6 +37,10 @@ chains_left g opened contexts = open_left g opened ++ flat_map (chains_from g) c
 abbrev pub Gives : List Chain → List Chain → Option Chain → Type 0
 Gives old new given = MatchOption given ((old ≡ []) × (new ≡ [])) (λ chain. old ≡ chain ∷ new)
 
+-- the same of what was open and left, and of what is then
+abbrev pub GivesNext : PlainGrammar → Option Open → List Goal → Option Open → List Goal → Option Chain → Type 0
+GivesNext g opened contexts next rest given = Gives (chains_left g opened contexts) (chains_left g next rest) given
+
 -- the first chain of an open context goal, and what is open behind it
 abbrev pub GivesUnder : PlainGrammar → Open → Option (Chain × Open) → Type 0
 GivesUnder g o found = MatchOption found (under_left g o ≡ []) (λ next. under_left g o ≡ next.0 ∷ under_left g next.1)

@@ -2,7 +2,7 @@
 
 ghost use Rattle.std.specs.Prelude.{◌≡◌, [], ◌∷◌, IfSome, IfNone};
 ghost use Rattle.cs_chain.specs.Chains.Chains.{chains};
-ghost use Rattle.cs_chain.specs.Chains.Rest.{chains_left, Gives, GivesUnder, IsKept, IsOpen, Opens};
+ghost use Rattle.cs_chain.specs.Chains.Rest.{GivesNext, GivesUnder, IsKept, IsOpen, Opens};
 
 use crate::chains::chain::Chain;
 use crate::chains::links::next_link;
@@ -132,8 +132,7 @@ fn next_chain<'g>(
     opened: &mut Option<Open<'g>>,
 ) -> Option<Chain>
     requires { IsKept grammar.now opened.old contexts.old }
-    ensures chain { Gives (chains_left grammar.now opened.old contexts.old)
-        (chains_left grammar.now opened.new contexts.new) result }
+    ensures chain { GivesNext grammar.now opened.old contexts.old opened.new contexts.new result }
     ensures kept { IsKept grammar.now opened.new contexts.new }
 {
     while let Some(last) = *opened {

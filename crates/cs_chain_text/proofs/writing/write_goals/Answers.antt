@@ -88,7 +88,7 @@ batches-preserved g c =
     let d = c.args.chained.now in
     let e = c.in_ok-write_entries.ensures in
     let entries = c.in_ok-entries.entries.items in
-    let written = subst (λ (l : List ChainEntry). IsWritten g.S.Sink (lines_from d.yacc.now c.batches.tally.goals l) c.batches.sink c.write_entries.new.sink) c.deref-in-batches.ensures.value e.lines in
+    let written = subst (λ (l : List ChainEntry). IsWritten g.S.Sink (lines_from d.yacc.now c.batches.tally.goals l) c.batches.sink c.write_entries.new.sink) c.deref-in-batches.ensures.value e.text in
     let counted = subst (λ (l : List ChainEntry). IsCounted l c.batches.tally c.write_entries.new.tally) c.deref-in-batches.ensures.value e.counted in
     goals_more g.S.Sink d c.args.sink.now c.one_text.ensures c.batches.chains c.in_ok-batch.batch.items c.next_batch.new.chains c.batches.sink c.write_entries.new.sink c.batches.tally c.write_entries.new.tally
     entries c.batches.invariant c.in_ok-batch.ensures.split (told g at) written counted
@@ -117,6 +117,6 @@ returns-in_err-write_entries-clause-text g c =
     let p = err_from_is_err_and c.from_residual-in_err-write_entries.result c.from_residual-in_err-write_entries.ensures.1 in
     let at = (goal.at.returns-in_err-write_entries-clause-text g c).In_ok-entries in
     let d = c.args.chained.now in
-    let cut = subst (λ (l : List ChainEntry). IsCutShort g.S.Sink (lines_from d.yacc.now c.batches.tally.goals l) c.batches.sink c.write_entries.new.sink) c.deref-in-batches.ensures.value c.in_err-write_entries.ensures.lines in
+    let cut = subst (λ (l : List ChainEntry). IsCutShort g.S.Sink (lines_from d.yacc.now c.batches.tally.goals l) c.batches.sink c.write_entries.new.sink) c.deref-in-batches.ensures.value c.in_err-write_entries.ensures.text in
     rw (p.1, p.2) (goals_cut g.S.Sink d c.args.sink.now c.one_text.ensures c.batches.chains c.in_ok-batch.batch.items c.next_batch.new.chains c.batches.sink c.write_entries.new.sink c.batches.tally
     c.in_ok-entries.entries.items c.batches.invariant c.in_ok-batch.ensures.split (told g at) cut)
