@@ -1,0 +1,9 @@
+use Rattle.std.proofs.Common.{arith}
+use Rattle.cs_spell.proofs.OnChoosing.{best_all, best_none}
+use Rattle.cs_spell.proofs.choosing.choose.Goals as goal
+
+pub loop-place-init : goal.loop-place-init
+loop-place-init c = best_none c.args.grammar.now c.args.judged.now c.args.wanted
+
+pub returns : goal.returns
+returns c = best_all c.args.grammar.now c.args.judged.now c.args.wanted c.loop-place.place c.loop-place.best (omega arith) (omega arith) c.loop-place.invariant

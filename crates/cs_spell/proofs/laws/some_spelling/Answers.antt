@@ -1,0 +1,6 @@
+use Rattle.cs_spell.proofs.SomeSpelling.{some_spelling_by}
+use Rattle.cs_spell.proofs.laws.some_spelling.Goals as goal
+
+-- some text, since lexemes, verdicts and what is told of each rule aren't without one
+pub returns : goal.returns
+returns c = some_spelling_by

@@ -1,0 +1,9 @@
+use Rattle.std.proofs.Common.{arith}
+use Rattle.cs_spell.proofs.OnPieces.{values_past, values_set}
+use Rattle.cs_spell.proofs.pieces.exchange.Goals as goal
+
+pub returns-then-place-len : goal.returns-then-place-len
+returns-then-place-len c = values_past c.args.pieces.now.items c.args.place c.args.spelling.now (omega arith)
+
+pub returns : goal.returns
+returns c = values_set c.args.pieces.now.items c.args.place c.args.spelling

@@ -1,0 +1,13 @@
+use Rattle.std.proofs.Common.{◌≡◌, ℕ, suc, Some, length}
+use Rattle.std.specs.Prelude.{slice_get}
+use Rattle.cs_pattern_parts.specs.declared.tree.kind.Kind.{Kind}
+use Rattle.cs_spell.specs.Seen.{all_told, making_of}
+use Rattle.cs_spell.specs.Spelling.{IsTold}
+use Rattle.cs_spell.specs.Told as spec
+use Rattle.cs_spell.proofs.telling.tell_all.Given as goal
+
+abbrev pub invariant-loop-place : goal.invariant-loop-place
+invariant-loop-place l = record {
+  all : length l.told.items ≡ l.place;
+  each : (k : ℕ) (kind : Kind) (t : spec.Told) → slice_get l.tools.scanner.now.kinds.now k ≡ Some kind → slice_get (all_told l.told.items) k ≡ Some t → IsTold (making_of l.tools) (suc k) kind t;
+}

@@ -1,0 +1,8 @@
+use Rattle.cs_spell.specs.Writing.{texts_of}
+use Rattle.cs_spell.proofs.writing.write_spell.Goals as goal
+
+pub write_text-requires-clause-one : goal.write_text-requires-clause-one
+write_text-requires-clause-one g c = c.one_spelling.ensures c.args.file.now (texts_of c.args.work.now) c.args.weigh
+
+pub write_text-requires-clause-some : goal.write_text-requires-clause-some
+write_text-requires-clause-some g c = c.some_spelling.ensures c.args.file.now (texts_of c.args.work.now) c.args.weigh
