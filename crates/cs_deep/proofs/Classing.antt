@@ -1,6 +1,5 @@
 -- An edited list has exactly one class, and the counts of the classes add up.
 use Rattle.std.proofs.Common.{◌≡◌, ◌≤◌, ◌<◌, ◌⊎◌, ℕ, ◌+◌, List, [], ◌∷◌, length, inl, inr, refl, arith, Option, cond, suc}
-use Rattle.std.specs.Prelude.{count_by}
 use Rattle.std.proofs.lemmas.Bool.{cases_lt}
 use Rattle.std.proofs.lemmas.List.Sums.{sum_by-cons}
 use Rattle.cs_deep.specs.Classes.{IsJudged, IsListClass, IsPoisoned, is_long, is_negative, is_outside, is_sentence}
@@ -8,7 +7,7 @@ use Rattle.cs_deep.specs.Deep.{AddsUp, EditEntry}
 use Rattle.cs_deep.specs.declared.class.EditClass.{EditClass}
 use Rattle.cs_deep.specs.declared.class.EditClass.TheVariants.{Negative, Long, Sentence, Outside}
 use Rattle.cs_grammar.specs.Grammar.{PlainGrammar}
-use Rattle.cs_grammar.specs.Sentence.{IsSentence, framed}
+use Rattle.cs_grammar.specs.Sentence.{framed}
 use Rattle.cs_grammar.specs.declared.symbol.Mark.{Mark}
 use Rattle.cs_io.specs.Asked.{IsNotWithout}
 use Rattle.cs_manifest.proofs.OnManifest.SomeManifest.{poisoned_or_not}

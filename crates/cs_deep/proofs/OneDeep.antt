@@ -1,5 +1,5 @@
 -- A file has at most one text of `deep` by a choice, where the lexemes and the rendering of tokens are one.
-use Rattle.std.proofs.Common.{◌≡◌, ℕ, Bool, List, [], sym, ap, ◌∙◌, subst, Option, None}
+use Rattle.std.proofs.Common.{◌≡◌, ℕ, List, [], sym, ap, ◌∙◌, subst, Option, None}
 use Rattle.std.specs.Prelude.{if◌then◌else◌}
 use Rattle.std.specs.List.{AllZip}
 use Rattle.cs_deep.proofs.Classing.{one_class_of}

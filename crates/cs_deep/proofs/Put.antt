@@ -1,9 +1,8 @@
 -- Lines that were put to an output over a sink, and then passed on.
-use Rattle.std.proofs.Common.{◌≡◌, ◌≤◌, ◌⊎◌, inl, inr, ℕ, ◌+◌, List, [], ◌++◌, length, length-append, ap, sym, ◌∙◌, subst, arith, true, false, Option}
+use Rattle.std.proofs.Common.{◌≡◌, ◌⊎◌, inl, inr, ℕ, List, [], ◌++◌, length, ap, sym, ◌∙◌, subst, arith, true, false}
 use Rattle.std.specs.Io.KnownBytes.{append_known}
 use Rattle.std.proofs.lemmas.List.{append-nil}
 use Rattle.cs_io.specs.Lines.{IsCutShort, IsWritten}
-use Rattle.cs_io.specs.Sink.{GrewByPrefix}
 use Rattle.cs_io.specs.declared.sink.Sink as Sink
 use Rattle.cs_manifest.proofs.OnOutput.Pieces.{failed_part, then}
 use Rattle.cs_manifest.specs.Output.Putting.{IsCut, IsLeft, IsPut, Puts, left, waiting}

@@ -1,11 +1,9 @@
 -- No file is without a text of `deep` by a choice, where it isn't so that tokens have no lexemes and no rendering.
-use Rattle.std.proofs.Common.{◌≡◌, ℕ, Bool, true, false, List, [], refl, Option, None, Some}
+use Rattle.std.proofs.Common.{ℕ, Bool, true, false, List, [], refl, Option, None}
 use Rattle.std.specs.Prelude.{if◌then◌else◌}
-use Rattle.std.specs.List.{AllZip}
 use Rattle.cs_deep.proofs.Classing.{some_class_of}
-use Rattle.cs_deep.specs.Classes.{IsClass, is_outside}
+use Rattle.cs_deep.specs.Classes.{is_outside}
 use Rattle.cs_deep.specs.Deep.{IsDeepBaseOf, IsDeepText, IsEditOf, bases_by, deep_text}
-use Rattle.cs_deep.specs.declared.class.EditClass.{EditClass}
 use Rattle.cs_grammar.specs.Grammar.{PlainGrammar}
 use Rattle.cs_io.specs.Asked.{IsNotWithout}
 use Rattle.cs_manifest.proofs.OnManifest.SomeManifest.{some_entries}
@@ -14,7 +12,6 @@ use Rattle.cs_manifest.specs.Manifest.Manifest.{AreLexemesBy, Choice, IsRendered
 use Rattle.cs_mutate.specs.Edit.{edited}
 use Rattle.cs_mutate.specs.Edits.{edits}
 use Rattle.cs_mutate.specs.declared.edit.Edit.{Edit}
-use Rattle.cs_texts.specs.Rendering.Rendering.{Rendering}
 use Rattle.cs_yacc.specs.Reading.File.{File}
 
 module _ (g : PlainGrammar) (choice : Choice) (lexemes : Option (List (Option (List ℕ)))) (some : (tokens : List ℕ) → IsNotWithout (IsRenderedBy choice.texts lexemes tokens)) where

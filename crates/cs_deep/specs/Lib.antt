@@ -1,3 +1,9 @@
+pub mod Bases
+pub mod Candidates
 pub mod Classes
 pub mod Deep
+pub mod Judging
+pub mod Lines
 pub mod Membership
+pub mod Progress
+pub mod Tally

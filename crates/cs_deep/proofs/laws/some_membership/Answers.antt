@@ -1,5 +1,5 @@
-use Rattle.std.proofs.Common.{◌≡◌, ◌↔◌, ℕ, List, refl, sym, ◌∙◌, ap, arith}
-use Rattle.cs_deep.specs.Membership.{IsMemberText, membership_lines, outside_line}
+use Rattle.std.proofs.Common.{◌≡◌, ◌↔◌, ℕ, List, refl, sym, ◌∙◌}
+use Rattle.cs_deep.specs.Membership.{membership_lines, outside_line}
 use Rattle.cs_grammar.specs.Grammar.{PlainGrammar}
 use Rattle.cs_grammar.specs.Sentence.{IsSentence}
 use Rattle.cs_grammar.specs.Tree.{code}
