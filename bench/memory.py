@@ -79,8 +79,11 @@ COMMANDS = [
     ["suite", example("g1.y"), example("l1.l"), "--bases=2", "--weigh=bytes"],
     ["suite", example("lists.y"), example("lists.l"), "--criteria=rule", "--bases=1"],
     ["lexical", example("lists.y"), example("lists.l")],
+    ["spell", example("lists.y"), example("lists.l"), "--weigh=bytes"],
     ["member", example("g1.y"), example("l1.l"), TEXT],
+    ["deep", example("g1.y"), example("l1.l"), "--criteria=rule", "--bases=2"],
     ["chains", example("g1.y")],
+    ["chains", example("g1.y"), example("l1.l")],
     ["gen", "1"],
 ]
 

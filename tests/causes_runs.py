@@ -10,6 +10,7 @@ import json
 import os
 import re
 import sys
+from itertools import product
 
 sys.dont_write_bytecode = True
 
@@ -174,11 +175,14 @@ def written_known(folder):
 
 
 def chains_of_the_model(folder):
-    """Chains that the model wrote, beside a suite that lends them texts: a parser without faults passes all of them."""
-    paths = [written(folder, "lists", lists_suite()), written(folder, "model_chains", lists_chains())]
-    for faults, status, causes in ("none", 0, []), ("long", 1, [LONG]):
+    """Chains that the model wrote, with texts of their own, or beside a suite that lends them texts: a parser without
+    faults passes all of them."""
+    suite = written(folder, "lists", lists_suite())
+    bare, own = (written(folder, f"chains_{texts}", lists_chains(texts)) for texts in (False, True))
+    rows = product(([suite, bare], [suite, own], [own]), (("none", 0, []), ("long", 1, [LONG])))
+    for paths, (faults, status, causes) in rows:
         found = call("try_parser", *paths, *frame("lists.py", faults))
-        all_have_texts = re.search(r", 22 chains; all \d+ different texts run; .*; 0 without a text$", found[1], re.M)
+        all_have_texts = re.search(r"\b22 chains; all \d+ different texts run; .*; 0 without a text$", found[1], re.M)
         if found[0] != status or not all_have_texts or causes_of(found[1]) != causes:
             yield f"chains of the model, with {faults}: {found}"
 

@@ -2,8 +2,8 @@
 """Names what crates.txt has too much of, and ends with status 1 where there is something to name. No words are read.
 
 The kit walks each path from a crate down through crates.txt, whole, so that a check of a crate with many paths takes long
-before the prover starts. No crate may have more than MOST of them, and no line may have a crate that no file of its own
-crate cites.
+before the prover starts. No crate but those of tests may have more than MOST of them, and no line may have a crate that no
+file of its own crate cites.
 """
 
 import functools
@@ -42,7 +42,7 @@ def cited(crate):
     return {name for pair in found for name in pair}
 
 
-wrong = [f"{crate}: {paths(crate)} paths, at most {MOST}" for crate in NEEDS if paths(crate) > MOST]
+wrong = [f"{crate}: {paths(crate)} paths, at most {MOST}" for crate in NEEDS if not crate.startswith("test_") and paths(crate) > MOST]
 for crate, below in NEEDS.items():
     names = cited(crate)
     wrong += [f"{crate}: {name} is cited nowhere" for name in below if name not in names]

@@ -68,9 +68,10 @@ def lists_suite(**choice):
     return Manifest(*lists(), Choice(**chosen)).text().decode()
 
 
-def lists_chains():
-    """The chains of examples/lists.y."""
-    return Chains(lists()[0], None, Choice()).text().decode()
+def lists_chains(with_texts):
+    """The chains of examples/lists.y, beside lists.l or without it."""
+    grammar, scanner = lists()
+    return Chains(grammar, scanner if with_texts else None, Choice()).text().decode()
 
 
 def call(tool, *words, **more):

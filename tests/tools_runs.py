@@ -227,11 +227,22 @@ END = "end goals 1 feasible 1 infeasible 0 large 0 negatives 0\n"
 SCANNER = "%%\na return 'a';\n"
 # Other commands on these files: a last line, and what is said of it.
 ENDINGS = [
+    (
+        ["deep", "g.y", "l.l"],
+        "end bases 1 edits 2 negatives 2 deep 0 sentences 0 long 0\n",
+        "of 2 edits 2 left to suite, 0 deep, 0 sentences and 0 long",
+    ),
     (["chains", "g.y"], "end goals 0 feasible 0 infeasible 0 large 0\n", "of 0 goals 0 infeasible and 0 large"),
+    (["chains", "g.y", "l.l"], "end goals 0 feasible 0 infeasible 0 large 0\n", "of 0 goals 0 infeasible and 0 large"),
     (
         ["lexical", "g.y", "l.l"],
         "end rules 1 shadowed 0 overlaps 0 disjoint 0\n",
         "of 1 scanner rule 0 shadowed, and 0 overlaps",
+    ),
+    (
+        ["spell", "g.y", "l.l"],
+        "end rules 1 spelled 1 shadowed 0 foreign 0 literal 0 infeasible 0 large 0\n",
+        "of 1 scanner rule 1 spelled; 0 shadowed, 0 foreign, 0 of literals, 0 infeasible and 0 large",
     ),
 ]
 

@@ -47,10 +47,41 @@ goal 2 chain 1 1 1 1 2 size 4
   tokens 'x'
 end goals 2 feasible 2 infeasible 0 large 0
 """
+# One base, `x`: of its two edits one is empty, and both hold a pair that no sentence has.
+DEEP = b"""conform deep
+base 1 goal 1
+end bases 1 edits 2 negatives 2 deep 0 sentences 0 long 0
+"""
+CHAINS_WITH_TEXTS = b"""conform chains
+token 1 'x'
+rule 1 a : a
+rule 2 a : 'x'
+lexeme 'x' "x"
+goal 1 chain 1 1 1 1 1 size 21
+  derive 1 1 1 2
+  tokens 'x'
+  text "x"
+goal 2 chain 1 1 1 1 2 size 20
+  derive 1 1 2
+  tokens 'x'
+  text "x"
+end goals 2 feasible 2 infeasible 0 large 0
+"""
 LEXICAL = b"""conform lexical
 rule 1 token 'x' wins "x"
 rule 2 skip wins " "
 end rules 2 shadowed 0 overlaps 0 disjoint 1
+"""
+SPELL = b"""conform spell
+spelling 1 token 'x' goal 1 size 2 at 0
+  derive 1
+  tokens 'x'
+  text "x"
+spelling 2 skip goal 1 size 2
+  derive 1
+  tokens 'x'
+  text " x "
+end rules 2 spelled 2 shadowed 0 foreign 0 literal 0 infeasible 0 large 0
 """
 CHOICE = b"""conform 1 rules
 token 1 'x'
@@ -293,10 +324,19 @@ ROWS = [
     (["lexical", "one.y", "one.l"], 0, LEXICAL, b""),
     (["lexical", "states.y", "states.l"], 1, b"", b"conform: lex: States above 16384\n"),
     (["lexical", "g1.y", "g1.l", "--weigh=bytes"], 2, b"", b"conform: usage: word 3\n"),
+    (["deep", "one.y", "one.l"], 0, DEEP, b""),
+    (["deep", "states.y", "states.l"], 1, b"", b"conform: lex: States above 16384\n"),
+    (["deep", "g1.y", "g1.l", "--format=1"], 2, b"", b"conform: usage: word 3\n"),
+    (["spell", "one.y", "one.l"], 0, SPELL, b""),
+    (["spell", "states.y", "states.l"], 1, b"", b"conform: lex: States above 16384\n"),
+    (["spell", "g1.y", "g1.l", "--bases=1"], 2, b"", b"conform: usage: word 3\n"),
     (["chains", "choice.y"], 0, CHAINS, b""),
     (["chains", "empty.y"], 1, b"", b"conform: yacc: Syntax at 0\n"),
     (["chains", "many.y"], 1, b"", b"conform: chains: Limit Goals 1010000 of 1000000\n"),
-    (["chains", "g1.y", "g1.l"], 2, b"", b"conform: usage: word 2\n"),
+    (["chains", "choice.y", "one.l", "--weigh=bytes"], 0, CHAINS_WITH_TEXTS, b""),
+    (["chains", "choice.y", "--weigh=bytes"], 2, b"", b"conform: usage: word 2\n"),
+    (["chains", "g1.y", "g1.l", "--bases=1"], 2, b"", b"conform: usage: word 3\n"),
+    (["chains", "states.y", "states.l"], 1, b"", b"conform: lex: States above 16384\n"),
     (["gen", "1"], 0, SUMMARY, b""),
     (["gen", "0001"], 0, SUMMARY, b""),
     (["gen", "18446744073709551616"], 2, b"", b"conform: usage: word 1\n"),

@@ -23,7 +23,7 @@ ALONE = {
     "wrong": r"(?!)",
     "deep": r"base \d+ goal \d+",
     "spell": r"spelling \d+ (?:shadowed|foreign|literal|infeasible|large)",
-    "chains": r"(?:token|rule|goal) .*",
+    "chains": r"(?:token|rule|lexeme|goal) .*",
 }
 
 
@@ -94,7 +94,7 @@ def read_entries(path, form, text):
         elif found := lines.next(last):
             return checked(output, int(found[1]), lines)
         else:
-            note_alone(output, lines.need(ALONE[form])[0].split())
+            note_alone(output, lines.need(ALONE[form])[0])
 
 
 def checked(output, count, lines):
@@ -103,8 +103,12 @@ def checked(output, count, lines):
     return output if lines.at == len(lines.lines) else lines.refuse()
 
 
-def note_alone(output, words):
-    if words[0] == "token":
+def note_alone(output, line):
+    words = line.split()
+    if words[0] == "lexeme":
+        text = line.partition(" ")[2].partition(" ")[2]
+        output.lexemes[words[1]] = None if text == "none" else manifest.unquoted(text[1:-1])
+    elif words[0] == "token":
         output.tokens.append(words[2])
     elif words[0] == "rule":
         output.rules.append((words[2], words[4:]))
@@ -141,11 +145,11 @@ def separator_of(output):
 
 
 def lend_texts(outputs):
-    """Gives chains, which are written without texts, the joined lexemes of a manifest beside them."""
+    """Gives chains that are written without texts the joined lexemes of an output beside them."""
     lender = next((output for output in outputs if output.lexemes), None)
     separator = separator_of(lender) if lender else None
     for output in outputs if separator is not None else ():
-        if output.form == "chains":
+        if output.form == "chains" and not output.lexemes:
             lend(output, lender.lexemes, separator)
 
 

@@ -32,7 +32,7 @@ def chains(grammar):
 
 
 class Chains(Texts):
-    """What `chains` writes of a grammar; with texts where there is a scanner, which the program doesn't take."""
+    """What `chains` writes of a grammar; with texts where there is a scanner."""
 
     def text(self):
         counts = dict.fromkeys(("goals", "feasible", "infeasible", "large"), 0)

@@ -1,5 +1,4 @@
-"""What each rule of a scanner takes: the output of `lexical`, as docs/FORMATS.md has it, and that of `spell`, which the program
-hasn't."""
+"""What each rule of a scanner takes: the outputs of `lexical` and `spell`, as docs/FORMATS.md has them."""
 
 from itertools import combinations
 

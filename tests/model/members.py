@@ -1,5 +1,4 @@
-"""Which lists of tokens are sentences: the output of `member`, as docs/FORMATS.md has it, and that of `deep`, which the program
-hasn't."""
+"""Which lists of tokens are sentences: the outputs of `member` and `deep`, as docs/FORMATS.md has them."""
 
 from model.manifest import Manifest, edits
 from model.texts import bytes_of, end_line, line

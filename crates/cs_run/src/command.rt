@@ -6,8 +6,10 @@
 
 mod chains;
 mod command;
+mod deep;
 mod endings;
 mod laws;
+mod lexemes;
 mod lexical;
 mod scanner;
 mod text;

@@ -25,7 +25,7 @@ pub use command::{one_asked_text, run};
 pub use ending::{Ending, finish};
 pub use input::{Pair, Refusal, Stop, judge_pair, line, read_files};
 pub use words::{
-    Arguments, BadWord, Command, Options, Role, accepted_or_bad, one_bad_word, one_request,
-    read_words,
+    Arguments, BadWord, Command, GrammarCommand, Options, PairCommand, Role, accepted_or_bad,
+    one_bad_word, one_request, read_words,
 };
 pub use writer::{SuiteHalt, write_rules, write_suite, write_summary};

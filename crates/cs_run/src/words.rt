@@ -16,7 +16,7 @@ mod separator;
 mod setting;
 mod values;
 
-pub use command::{Command, Role};
+pub use command::{Command, GrammarCommand, PairCommand, Role};
 pub use laws::{accepted_or_bad, one_bad_word, one_request};
 pub use options::Options;
 pub use request::{Arguments, BadWord, Request, read_words};

@@ -17,5 +17,7 @@ mod weights;
 
 pub use halt::SuiteHalt;
 pub use rules::write_rules;
+pub(crate) use suite::means_of;
 pub use suite::write_suite;
 pub use summary::write_summary;
+pub(crate) use weights::weights_of;

@@ -1,5 +1,5 @@
 -- Where a desk tells its files, or none are asked for, one text is asked for.
-use Rattle.std.proofs.Common.{◌≡◌, ℕ, List, Option, None, Result, Ok, Err, refl, sym, ap, ◌∙◌, subst}
+use Rattle.std.proofs.Common.{◌≡◌, ℕ, List, Option, None, Some, Result, Ok, Err, refl, sym, ap, ◌∙◌, subst}
 use Rattle.cs_io.specs.Desk.{Files}
 use Rattle.cs_grammar.specs.Laws.{AtMostOne}
 use Rattle.cs_yacc.specs.Reading.File as yacc
@@ -12,19 +12,25 @@ use Rattle.cs_chain_text.specs.Text.{IsChainsText}
 use Rattle.cs_choices.specs.declared.weigh.Weigh.{Weigh}
 use Rattle.cs_choices.specs.declared.weigh.Weigh.TheVariants.{Nodes}
 use Rattle.cs_manifest.specs.Manifest.Manifest.{Texts}
+use Rattle.cs_spell.specs.Spelling.{IsSpelling}
+use Rattle.cs_deep.specs.Deep.{IsDeepText}
 use Rattle.cs_lexical.specs.Lines.{IsLexical}
 use Rattle.cs_scanner.specs.Scan.Scan.{Scanning}
 use Rattle.cs_manifest.specs.Manifest.Manifest.{Choice, IsManifest, rules_form}
 use Rattle.cs_run.specs.declared.words.command.Command.{Command}
-use Rattle.cs_run.specs.declared.words.command.Command.TheVariants.{Chains, Gen, Lexical, Member, Rules, Suite}
+use Rattle.cs_run.specs.declared.words.command.Command.TheVariants.{Gen, Member, OfGrammar, OfPair}
+use Rattle.cs_run.specs.declared.words.command.GrammarCommand.{GrammarCommand}
+use Rattle.cs_run.specs.declared.words.command.GrammarCommand.TheVariants as of_grammar
+use Rattle.cs_run.specs.declared.words.command.PairCommand.{PairCommand}
+use Rattle.cs_run.specs.declared.words.command.PairCommand.TheVariants as of_pair
 use Rattle.cs_run.specs.declared.words.options.Options.{Options}
 use Rattle.cs_run.specs.Words.Requests.{Names, Number, PlainArguments, PlainRequest}
 use Rattle.cs_run.specs.declared.input.judging.Meant.{Meant}
 use Rattle.cs_run.specs.declared.input.judging.Meant.TheVariants.{Grammar, Nothing, Pair, Text}
 use Rattle.cs_run.specs.Input.Files.{Content}
-use Rattle.cs_run.specs.Ending.Files.{IsSuiteText, choice_of, scanning_of}
+use Rattle.cs_run.specs.Ending.Files.{IsSuiteText, choice_by, choice_of, deep_choice, scanning_of, texts_by}
 use Rattle.cs_run.specs.Ending.Summary.{HasCounts, IsSummary, lengths_of, summary_line, summary_options}
-use Rattle.cs_run.specs.Ending.Texts.{AreTold, AskForOneText, IsAskedText, IsTextBy, IsTextOf}
+use Rattle.cs_run.specs.Ending.Texts.{AreTold, AskForOneText, IsAskedText, IsTextBy, IsTextOf, IsTextOfGrammar, IsTextOfPair}
 use Rattle.cs_run.proofs.OnEnding.Apart.{contents_once}
 use Rattle.cs_run.proofs.OnEnding.OneSummary.{one_counts}
 use Rattle.cs_run.proofs.OnInput.Meanings.{named, one_meaning}
@@ -33,6 +39,8 @@ use Rattle.cs_run.proofs.OnInput.Meanings.{named, one_meaning}
 
 module _ (one : (choice : Choice) (file : yacc.File) → AtMostOne (IsManifest choice file))
     (one_lexical : (file : yacc.File) (s : Scanning) → AtMostOne (IsLexical file s))
+    (one_spelled : (file : yacc.File) (texts : Texts) (weigh : Weigh) → AtMostOne (IsSpelling file texts weigh))
+    (one_deep_text : (choice : Choice) (file : yacc.File) → AtMostOne (IsDeepText choice file))
     (one_chains : (file : yacc.File) (texts : Option Texts) (weigh : Weigh) → AtMostOne (IsChainsText file texts weigh)) where
   one_suite : (options : Options) (bytes more a b : List ℕ) → IsSuiteText options a bytes more → IsSuiteText options b bytes more → a ≡ b
   unfolding IsSuiteText
@@ -49,16 +57,31 @@ module _ (one : (choice : Choice) (file : yacc.File) → AtMostOne (IsManifest c
       let counts = one_counts x.manifest x.counts y.counts x.has (subst (λ (text : List ℕ). HasCounts y.counts text) manifests y.has) in
       x.said ∙ ap (λ (c : Counts). summary_line seed (lengths_of seed) c) counts ∙ sym y.said
 
+  one_of_grammar : (command : GrammarCommand) (file : yacc.File) → AtMostOne (IsTextOfGrammar command file)
+  one_of_grammar of_grammar.Rules file = one rules_form file
+  one_of_grammar of_grammar.Chains file = one_chains file None Nodes
+
+  one_of_pair : (command : PairCommand) (options : Options) (file : yacc.File) (s : Scanning) → AtMostOne (IsTextOfPair command options file s)
+  one_of_pair of_pair.Suite options file s = one (choice_by options s) file
+  one_of_pair of_pair.Lexical options file s = one_lexical file s
+  one_of_pair of_pair.Spell options file s = one_spelled file (texts_by options s) options.weigh
+  one_of_pair of_pair.Deep options file s = one_deep_text (deep_choice options s) file
+  one_of_pair of_pair.Chains options file s = one_chains file (Some (texts_by options s)) options.weigh
+
   one_by : (command : Command) (arguments : PlainArguments) (options : Options) (meant : Meant) → ¬ (command ≡ Member) → (a b : List ℕ)
       → IsTextBy command arguments options meant a → IsTextBy command arguments options meant b → a ≡ b
-  one_by Rules arguments options Nothing other a b x y = absurd x
-  one_by Rules arguments options (Grammar file) other a b x y = one rules_form file a b x y
-  one_by Rules arguments options (Pair two) other a b x y = absurd x
-  one_by Rules arguments options (Text beside) other a b x y = absurd x
-  one_by Suite arguments options Nothing other a b x y = absurd x
-  one_by Suite arguments options (Grammar file) other a b x y = absurd x
-  one_by Suite arguments options (Pair two) other a b x y = one (choice_of two.lex options) two.yacc a b x y
-  one_by Suite arguments options (Text beside) other a b x y = absurd x
+  one_by (OfGrammar command) arguments options Nothing other a b x y = absurd x
+  one_by (OfGrammar command) arguments options (Grammar file) other a b x y = one_of_grammar command file a b x y
+  one_by (OfGrammar command) arguments options (Pair two) other a b x y = absurd x
+  one_by (OfGrammar command) arguments options (Text beside) other a b x y = absurd x
+  one_by (OfPair command) arguments options Nothing other a b x y = absurd x
+  one_by (OfPair command) arguments options (Grammar file) other a b x y = absurd x
+  one_by (OfPair command) arguments options (Pair two) other a b x y = one_of_pair command options two.yacc (scanning_of two.lex) a b x y
+  one_by (OfPair command) arguments options (Text beside) other a b x y = absurd x
+  one_by Member arguments options Nothing other a b x y = absurd x
+  one_by Member arguments options (Grammar file) other a b x y = absurd x
+  one_by Member arguments options (Pair two) other a b x y = absurd x
+  one_by Member arguments options (Text beside) other a b x y = absurd (other refl)
   one_by Gen (Names names) options Nothing other a b x y = absurd x
   one_by Gen (Number number) options Nothing other a b x y = one_summary number a b x y
   one_by Gen (Names names) options (Grammar file) other a b x y = absurd x
@@ -67,18 +90,6 @@ module _ (one : (choice : Choice) (file : yacc.File) → AtMostOne (IsManifest c
   one_by Gen (Number number) options (Pair two) other a b x y = absurd x
   one_by Gen (Names names) options (Text beside) other a b x y = absurd x
   one_by Gen (Number number) options (Text beside) other a b x y = absurd x
-  one_by Lexical arguments options Nothing other a b x y = absurd x
-  one_by Lexical arguments options (Grammar file) other a b x y = absurd x
-  one_by Lexical arguments options (Pair two) other a b x y = one_lexical two.yacc (scanning_of two.lex) a b x y
-  one_by Lexical arguments options (Text beside) other a b x y = absurd x
-  one_by Chains arguments options Nothing other a b x y = absurd x
-  one_by Chains arguments options (Grammar file) other a b x y = one_chains file None Nodes a b x y
-  one_by Chains arguments options (Pair two) other a b x y = absurd x
-  one_by Chains arguments options (Text beside) other a b x y = absurd x
-  one_by Member arguments options Nothing other a b x y = absurd x
-  one_by Member arguments options (Grammar file) other a b x y = absurd x
-  one_by Member arguments options (Pair two) other a b x y = absurd x
-  one_by Member arguments options (Text beside) other a b x y = absurd (other refl)
 
   one_text_of : (request : PlainRequest) (contents : List Content) → ¬ (request.command ≡ Member) → (a b : List ℕ) → IsTextOf request contents a → IsTextOf request contents b → a ≡ b
   one_text_of request contents other a b x y =

@@ -1,41 +1,49 @@
 -- How a run ends that writes what was asked for, from what its calls did.
-use Rattle.std.proofs.Common.{◌≡◌, ◌⊎◌, ◌<◌, ◌≤◌, ◌^◌, ℕ, List, [], ◌∷◌, IsTrue, Option, Ok, Err, length, refl, sym, ap, ◌∙◌, subst, inl, inr, arith}
+use Rattle.std.proofs.Common.{◌≡◌, ◌⊎◌, ◌<◌, ◌≤◌, ◌^◌, ℕ, List, [], ◌∷◌, IsTrue, true, false, Option, None, Ok, Err, length, refl, sym, ap, ◌∙◌, subst, inl, inr, arith}
 use Rattle.cs_io.specs.Uses.{DeskUse, SinkUse, HasFailed, IsUnused}
 use Rattle.cs_run.specs.declared.input.judging.Meant.{Meant}
 use Rattle.cs_run.specs.declared.input.judging.Meant.TheVariants.{Grammar, Nothing, Pair, Text}
 use Rattle.cs_run.specs.declared.input.judging.PairAndText.{PairAndText}
 use Rattle.cs_run.specs.declared.input.judging.Pair as pair
 use Rattle.cs_run.specs.declared.input.refusal.Refusal.{Refusal}
-use Rattle.cs_run.specs.declared.input.refusal.Refusal.TheVariants.{States, TextTokens}
+use Rattle.cs_run.specs.declared.input.refusal.Refusal.TheVariants.{ManyChains, States, TextTokens}
 use Rattle.cs_run.specs.declared.input.refusal.Stop.{Stop}
 use Rattle.cs_run.specs.declared.input.refusal.Stop.TheVariants as stop
 use Rattle.cs_io.specs.Desk.{Files}
-use Rattle.cs_run.specs.Command.Scanned.{WritesMembership, WritesTokens}
+use Rattle.cs_run.specs.Command.Scanned.{WritesByScanner, WritesChains, WritesLexical, WritesMembership, WritesTokens}
 use Rattle.cs_run.specs.Input.Files.{AreContents, Content, HaveContents, IsMeantFor, IsNoFile, Mean, most_for}
 use Rattle.cs_run.specs.Input.Read.{AreMeant}
 use Rattle.cs_run.specs.Input.Refusal.{HasManyStates, Stops}
 use Rattle.cs_yacc.specs.Reading.File.{File}
 use Rattle.cs_run.specs.declared.words.command.Command.{Command}
-use Rattle.cs_run.specs.declared.words.command.Command.TheVariants.{Chains, Gen, Lexical, Member, Rules, Suite}
+use Rattle.cs_run.specs.declared.words.command.Command.TheVariants.{Gen, Member, OfGrammar, OfPair}
+use Rattle.cs_run.specs.declared.words.command.GrammarCommand.{GrammarCommand}
+use Rattle.cs_run.specs.declared.words.command.GrammarCommand.TheVariants as of_grammar
+use Rattle.cs_run.specs.declared.words.command.PairCommand.{PairCommand}
+use Rattle.cs_run.specs.declared.words.command.PairCommand.TheVariants as of_pair
 use Rattle.cs_run.specs.declared.words.command.Role.{Role}
 use Rattle.cs_run.specs.declared.words.command.Role.TheVariants.{Lex, Text as TextRole, Yacc}
 use Rattle.cs_run.specs.declared.words.options.Options.{Options}
-use Rattle.cs_run.specs.Words.Commands.{taken_of}
+use Rattle.cs_run.specs.Words.Commands.{lists_chains, taken_of}
 use Rattle.cs_run.specs.Words.Requests.{IsAsked, Named, Names, Number, PlainArguments, PlainRequest, files_of}
 use Rattle.cs_run.proofs.OnWords.OneRequest.{one_asked}
 use Rattle.cs_run.specs.declared.ending.ending.Ending.{Ending}
 use Rattle.cs_run.specs.declared.ending.ending.Ending.TheVariants.{BadWord, Written, Refused, NoFile, NotWritten, NoMemory}
 use Rattle.cs_run.specs.Ending.Ending.{Ends, GrewAsAsked, Performs}
-use Rattle.cs_run.specs.Ending.Files.{Accepted, IsBeyond, IsWithin, RefusesFor, scanning_of}
+use Rattle.cs_run.specs.Ending.Files.{Accepted, HasFewChains, IsBeyond, IsWithin, RefusesFor, scanning_of}
+use Rattle.cs_chain.specs.Chains.Chains.{chains}
+use Rattle.cs_chain_text.specs.Text.{IsChainsText}
+use Rattle.cs_choices.specs.declared.weigh.Weigh.TheVariants.{Nodes}
+use Rattle.cs_grammar.specs.Grammar.{PlainGrammar}
 use Rattle.cs_scanner.specs.Scan.Scan.{Scans}
 use Rattle.cs_deep.specs.Membership.{GrewByFront, IsMemberText}
 use Rattle.cs_run.specs.Ending.Summary.{IsSummary}
-use Rattle.cs_run.specs.Ending.Texts.{IsTextBy, IsTextOf}
+use Rattle.cs_run.specs.Ending.Texts.{IsTextBy, IsTextOf, IsTextOfPair}
 use Rattle.cs_run.specs.Writer.Suite.{IsRules, IsSuite}
 use Rattle.cs_io.specs.Asked.{GrewByPart, HasRoomForAll}
 use Rattle.cs_io.specs.declared.halt.Halt.{Halt}
 use Rattle.cs_io.specs.declared.halt.Halt.TheVariants as halt
-use Rattle.cs_run.specs.Command.Carrying.{CarriesOut, GrewByEach, HasTooManyStates, TakesGrammar, TakesPair, Writes, WritesBy, WritesOfPair, WritesSure, WritingEnds}
+use Rattle.cs_run.specs.Command.Carrying.{CarriesOut, GrewByEach, HasTooManyChains, HasTooManyStates, TakesGrammar, TakesPair, Writes, WritesBy, WritesByPair, WritesOfGrammar, WritesOfPair, WritesSure, WritingEnds}
 use Rattle.cs_run.specs.Command.Words.{AskForNoFiles, PerformsFor, ending_at, ending_of}
 use Rattle.cs_run.proofs.OnInput.Meanings.{one_meaning}
 
@@ -120,11 +128,9 @@ module _ (accepted also : Type 0) (refused refuses : Refusal → Type 0) (Is Are
 part_more : (c : Command) (Is Are : List ℕ → Type 0) (out : SinkUse) → ((text : List ℕ) → Is text → Are text) → ((text : List ℕ) → Are text → Is text) → GrewAsAsked c Is out → GrewAsAsked c Are out
 part_more Member Is Are out there back (inl same) = inl same
 part_more Member Is Are out there back (inr (text, is, part)) = inr (text, there text is, part)
-part_more Rules Is Are out there back part = λ text is. part text (back text is)
-part_more Suite Is Are out there back part = λ text is. part text (back text is)
+part_more (OfGrammar c) Is Are out there back part = λ text is. part text (back text is)
+part_more (OfPair c) Is Are out there back part = λ text is. part text (back text is)
 part_more Gen Is Are out there back part = λ text is. part text (back text is)
-part_more Lexical Is Are out there back part = λ text is. part text (back text is)
-part_more Chains Is Are out there back part = λ text is. part text (back text is)
 
 -- ---- by what contents mean
 
@@ -162,10 +168,19 @@ module _ (ending : Ending) (out : SinkUse) where
       writes_more (¬ HasManyStates two.lex) within (HasTooManyStates two) beyond Is Is (GrewByEach Is) (GrewByEach Is) out
       few (λ refusal why. subst beyond (sym why.0) (many why.1)) (λ yes text has. has) (λ yes part. part) ending writes
 
-  pub rules_so : (c : Command) (arguments : PlainArguments) (options : Options) (file : File) → c ≡ Rules → WritesSure (IsRules file) ending out → WritesBy c arguments options (Grammar file) ending out
+  -- a command that doesn't list chains is beyond no limit of them
+  abbrev HasNoLimit : Command → Type 0
+  HasNoLimit c = lists_chains c ≡ false
+
+  none_listed : (c : Command) (g : PlainGrammar) → HasNoLimit c → HasFewChains c g
+  none_listed c g none = λ lists. absurd (let both : true ≡ false = sym lists ∙ none in cc)
+
+  pub rules_so : (c : Command) (arguments : PlainArguments) (options : Options) (file : File) → c ≡ OfGrammar of_grammar.Rules → WritesSure (IsRules file) ending out
+      → WritesBy c arguments options (Grammar file) ending out
   rules_so c arguments options file is writes =
       subst (λ (d : Command). WritesBy d arguments options (Grammar file) ending out) (sym is)
-      (sure_row (IsWithin (Grammar file) Rules) (λ refusal. IsBeyond (Grammar file) refusal Rules) (IsTextBy Rules arguments options (Grammar file)) tt writes)
+      (sure_row (IsWithin (Grammar file) (OfGrammar of_grammar.Rules)) (λ refusal. IsBeyond (Grammar file) refusal (OfGrammar of_grammar.Rules))
+      (IsTextBy (OfGrammar of_grammar.Rules) arguments options (Grammar file)) (none_listed (OfGrammar of_grammar.Rules) file.grammar refl) writes)
 
   pub gen_so : (c : Command) (arguments : PlainArguments) (options : Options) (seed : ℕ) → c ≡ Gen → arguments ≡ Number seed → WritesSure (IsSummary seed) ending out → WritesBy c arguments options Nothing ending out
   gen_so c arguments options seed is given writes =
@@ -173,15 +188,59 @@ module _ (ending : Ending) (out : SinkUse) where
       (subst (λ (a : PlainArguments). WritesBy Gen a options Nothing ending out) (sym given)
       (sure_row (IsWithin Nothing Gen) (λ refusal. IsBeyond Nothing refusal Gen) (IsTextBy Gen (Number seed) options Nothing) tt writes))
 
-  pub suite_so : (c : Command) (arguments : PlainArguments) (options : Options) (two : pair.Pair) → c ≡ Suite → WritesOfPair two (IsSuite two options) ending out → WritesBy c arguments options (Pair two) ending out
-  suite_so c arguments options two is writes =
+  -- the text that a command asks for by a pair was written, which lists no chains
+  pair_so : (command : PairCommand) (c : Command) (arguments : PlainArguments) (options : Options) (two : pair.Pair) → HasNoLimit (OfPair command) → c ≡ OfPair command
+      → WritesOfPair two (IsTextOfPair command options two.yacc (scanning_of two.lex)) ending out → WritesBy c arguments options (Pair two) ending out
+  pair_so command c arguments options two none is writes =
       subst (λ (d : Command). WritesBy d arguments options (Pair two) ending out) (sym is)
-      (pair_row (IsWithin (Pair two) Suite) (λ refusal. IsBeyond (Pair two) refusal Suite) (IsTextBy Suite arguments options (Pair two)) two (λ few. few) (λ many. many) writes)
+      (pair_row (IsWithin (Pair two) (OfPair command)) (λ refusal. IsBeyond (Pair two) refusal (OfPair command)) (IsTextBy (OfPair command) arguments options (Pair two)) two
+      (λ few. (few, none_listed (OfPair command) two.yacc.grammar none)) (λ many. many) writes)
 
-  pub lexical_so : (c : Command) (arguments : PlainArguments) (options : Options) (two : pair.Pair) → c ≡ Lexical → WritesOfPair two (IsTextBy Lexical arguments options (Pair two)) ending out → WritesBy c arguments options (Pair two) ending out
-  lexical_so c arguments options two is writes =
-      subst (λ (d : Command). WritesBy d arguments options (Pair two) ending out) (sym is)
-      (pair_row (IsWithin (Pair two) Lexical) (λ refusal. IsBeyond (Pair two) refusal Lexical) (IsTextBy Lexical arguments options (Pair two)) two (λ few. few) (λ many. many) writes)
+  pub suite_so : (c : Command) (arguments : PlainArguments) (options : Options) (two : pair.Pair) → c ≡ OfPair of_pair.Suite → WritesOfPair two (IsSuite two options) ending out → WritesBy c arguments options (Pair two) ending out
+  suite_so c arguments options two is writes = pair_so of_pair.Suite c arguments options two refl is writes
+
+  pub lexical_so : (c : Command) (arguments : PlainArguments) (options : Options) (two : pair.Pair) → c ≡ OfPair of_pair.Lexical → WritesLexical two ending out → WritesBy c arguments options (Pair two) ending out
+  lexical_so c arguments options two is writes = pair_so of_pair.Lexical c arguments options two refl is writes
+
+  -- ---- chains
+
+  module _ (c : Command) (g : PlainGrammar) (lists : IsTrue (lists_chains c)) where
+    few_chains : length (chains g) ≤ 1000000 → HasFewChains c g
+    few_chains few = λ listed. few
+
+    many_chains : (refusal : Refusal) → (refusal ≡ ManyChains (length (chains g))) × (1000000 < length (chains g)) → HasTooManyChains c g refusal
+    many_chains refusal why = (length (chains g), why.0, (lists, refl, why.1))
+
+    -- a text of chains was written for a command that lists them
+    pub listed_so : (Is : List ℕ → Type 0) → WritesChains g Is ending out → WritesOfGrammar c g Is ending out
+    listed_so Is writes =
+        writes_more (length (chains g) ≤ 1000000) (HasFewChains c g) (λ refusal. (refusal ≡ ManyChains (length (chains g))) × (1000000 < length (chains g))) (HasTooManyChains c g) Is Is
+        (GrewByEach Is) (GrewByEach Is) out few_chains many_chains (λ few text has. has) (λ few part. part) ending writes
+
+  pub chains_so : (c : Command) (arguments : PlainArguments) (options : Options) (file : File) → c ≡ OfGrammar of_grammar.Chains → WritesChains file.grammar (IsChainsText file None Nodes) ending out
+      → WritesBy c arguments options (Grammar file) ending out
+  chains_so c arguments options file is writes =
+      subst (λ (d : Command). WritesBy d arguments options (Grammar file) ending out) (sym is)
+      (writes_more (HasFewChains listing file.grammar) (IsWithin (Grammar file) listing) (HasTooManyChains listing file.grammar) (λ refusal. IsBeyond (Grammar file) refusal listing)
+      (IsChainsText file None Nodes) (IsTextBy listing arguments options (Grammar file)) (GrewByEach (IsChainsText file None Nodes)) (GrewByEach (IsChainsText file None Nodes)) out
+      (λ few. few) (λ refusal why. subst (λ (r : Refusal). IsBeyond (Grammar file) r listing) (sym why.1) why.2) (λ few text has. has) (λ few part. part) ending
+      (listed_so listing file.grammar refl (IsChainsText file None Nodes) writes))
+    where
+      listing : Command
+      listing = OfGrammar of_grammar.Chains
+
+  -- ---- by a scanner
+
+  -- what was written by a scanner of few states was written by the pair
+  pub scanned_so : (command : PairCommand) (options : Options) (two : pair.Pair) → ¬ HasManyStates two.lex → WritesByScanner command options two.yacc (scanning_of two.lex) ending out
+      → WritesByPair (OfPair command) options two ending out
+  scanned_so command options two few writes = λ arguments.
+      writes_more (HasFewChains (OfPair command) two.yacc.grammar) (IsWithin (Pair two) (OfPair command)) (HasTooManyChains (OfPair command) two.yacc.grammar)
+      (λ refusal. IsBeyond (Pair two) refusal (OfPair command)) Is Is (GrewByEach Is) (GrewByEach Is) out (λ listed. (few, listed))
+      (λ refusal why. subst (λ (r : Refusal). IsBeyond (Pair two) r (OfPair command)) (sym why.1) (few, why.2)) (λ listed text has. has) (λ listed part. part) ending writes
+    where
+      Is : List ℕ → Type 0
+      Is text = IsTextOfPair command options two.yacc (scanning_of two.lex) text
 
 module _ (ending : Ending) (out : SinkUse) where
   pub text_so : (c : Command) (arguments : PlainArguments) (options : Options) (beside : PairAndText) → c ≡ Member → WritesMembership beside ending out → WritesBy c arguments options (Text beside) ending out
@@ -268,67 +327,53 @@ pub takes_grammar : (c : Command) (arguments : PlainArguments) (meant : Meant) (
 takes_grammar c arguments meant file is form = by_row c arguments (subst (λ (m : Meant). IsMeantFor (taken_of c) arguments m) is form)
   where
     by_row : (c : Command) (arguments : PlainArguments) → IsMeantFor (taken_of c) arguments (Grammar file) → TakesGrammar c
-    by_row Rules arguments form = refl
-    by_row Suite (Names names) form = absurd form
-    by_row Suite (Number number) form = absurd form
-    by_row Gen (Names names) form = absurd form
-    by_row Gen (Number number) form = absurd form
-    by_row Lexical (Names names) form = absurd form
-    by_row Lexical (Number number) form = absurd form
-    by_row Chains arguments form = refl
+    by_row (OfGrammar command) arguments form = refl
+    by_row (OfPair command) (Names names) form = absurd form
+    by_row (OfPair command) (Number number) form = absurd form
     by_row Member (Names names) form = absurd form
     by_row Member (Number number) form = absurd form
+    by_row Gen (Names names) form = absurd form
+    by_row Gen (Number number) form = absurd form
 
 -- a pair of files is given to a command that takes two
 pub takes_pair : (c : Command) (arguments : PlainArguments) (meant : Meant) (two : pair.Pair) → meant ≡ Pair two → IsMeantFor (taken_of c) arguments meant → TakesPair c
 takes_pair c arguments meant two is form = by_row c arguments (subst (λ (m : Meant). IsMeantFor (taken_of c) arguments m) is form)
   where
     by_row : (c : Command) (arguments : PlainArguments) → IsMeantFor (taken_of c) arguments (Pair two) → TakesPair c
-    by_row Rules (Names names) form = absurd form
-    by_row Rules (Number number) form = absurd form
-    by_row Suite arguments form = refl
-    by_row Gen (Names names) form = absurd form
-    by_row Gen (Number number) form = absurd form
-    by_row Lexical arguments form = refl
-    by_row Chains (Names names) form = absurd form
-    by_row Chains (Number number) form = absurd form
+    by_row (OfGrammar command) (Names names) form = absurd form
+    by_row (OfGrammar command) (Number number) form = absurd form
+    by_row (OfPair command) arguments form = refl
     by_row Member (Names names) form = absurd form
     by_row Member (Number number) form = absurd form
+    by_row Gen (Names names) form = absurd form
+    by_row Gen (Number number) form = absurd form
 
 -- and both and a text to one that takes three
 pub takes_text : (c : Command) (arguments : PlainArguments) (meant : Meant) (beside : PairAndText) → meant ≡ Text beside → IsMeantFor (taken_of c) arguments meant → c ≡ Member
 takes_text c arguments meant beside is form = by_row c arguments (subst (λ (m : Meant). IsMeantFor (taken_of c) arguments m) is form)
   where
     by_row : (c : Command) (arguments : PlainArguments) → IsMeantFor (taken_of c) arguments (Text beside) → c ≡ Member
-    by_row Rules (Names names) form = absurd form
-    by_row Rules (Number number) form = absurd form
-    by_row Suite (Names names) form = absurd form
-    by_row Suite (Number number) form = absurd form
+    by_row (OfGrammar command) (Names names) form = absurd form
+    by_row (OfGrammar command) (Number number) form = absurd form
+    by_row (OfPair command) (Names names) form = absurd form
+    by_row (OfPair command) (Number number) form = absurd form
+    by_row Member arguments form = refl
     by_row Gen (Names names) form = absurd form
     by_row Gen (Number number) form = absurd form
-    by_row Lexical (Names names) form = absurd form
-    by_row Lexical (Number number) form = absurd form
-    by_row Chains (Names names) form = absurd form
-    by_row Chains (Number number) form = absurd form
-    by_row Member arguments form = refl
 
 -- nothing is given to `gen` alone, with its number
 pub takes_seed : (c : Command) (arguments : PlainArguments) (meant : Meant) → meant ≡ Nothing → IsMeantFor (taken_of c) arguments meant → (c ≡ Gen) × ((seed : ℕ) × (arguments ≡ Number seed))
 takes_seed c arguments meant is form = by_row c arguments (subst (λ (m : Meant). IsMeantFor (taken_of c) arguments m) is form)
   where
     by_row : (c : Command) (arguments : PlainArguments) → IsMeantFor (taken_of c) arguments Nothing → (c ≡ Gen) × ((seed : ℕ) × (arguments ≡ Number seed))
-    by_row Rules (Names names) form = absurd form
-    by_row Rules (Number number) form = absurd form
-    by_row Suite (Names names) form = absurd form
-    by_row Suite (Number number) form = absurd form
-    by_row Gen (Names names) form = absurd form
-    by_row Gen (Number number) form = (refl, (number, refl))
-    by_row Lexical (Names names) form = absurd form
-    by_row Lexical (Number number) form = absurd form
-    by_row Chains (Names names) form = absurd form
-    by_row Chains (Number number) form = absurd form
+    by_row (OfGrammar command) (Names names) form = absurd form
+    by_row (OfGrammar command) (Number number) form = absurd form
+    by_row (OfPair command) (Names names) form = absurd form
+    by_row (OfPair command) (Number number) form = absurd form
     by_row Member (Names names) form = absurd form
     by_row Member (Number number) form = absurd form
+    by_row Gen (Names names) form = absurd form
+    by_row Gen (Number number) form = (refl, (number, refl))
 
 pub names_no_seed : (c : Command) (arguments : PlainArguments) (names : List (List ℕ)) (meant : Meant) → meant ≡ Nothing → IsMeantFor (taken_of c) arguments meant → arguments ≡ Names names → ⊥
 names_no_seed c arguments names meant is form given =

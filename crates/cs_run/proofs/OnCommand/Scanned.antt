@@ -2,7 +2,7 @@
 use Rattle.std.proofs.Common.{◌≡◌, ◌<◌, ◌≤◌, ◌-◌, ℕ, zero, suc, List, [], ◌∷◌, ◌++◌, Bool, true, false, None, Some, Result, Ok, Err, refl, sym, ap, ◌∙◌, subst, inl, inr, arith}
 use Rattle.std.specs.Prelude.{All, OnErr, OnOk, if◌then◌else◌, nat_lt, slice_get, slice_index}
 use Rattle.std.proofs.lemmas.List.Elements.{All-append, All-cons, All-head, All-nil, All-same, All-tail}
-use Rattle.cs_grammar.specs.Grammar.{IsNumberOf}
+use Rattle.cs_grammar.specs.Grammar.{IsNumberOf, PlainGrammar}
 use Rattle.cs_io.specs.Asked.{GrewByOne, HasRoomForAll, Stopped}
 use Rattle.cs_io.specs.Uses.{HasFailed, IsUnused, SinkUse}
 use Rattle.cs_io.specs.declared.halt.Halt.{Halt}
@@ -15,9 +15,11 @@ use Rattle.cs_run.specs.declared.ending.ending.Ending.{Ending}
 use Rattle.cs_run.specs.declared.input.judging.Pair as pair
 use Rattle.cs_run.specs.declared.input.refusal.Refusal.{Refusal}
 use Rattle.cs_run.specs.declared.input.refusal.Refusal.TheVariants.{States}
-use Rattle.cs_run.specs.Command.Carrying.{Writes}
+use Rattle.cs_run.specs.declared.words.command.Command.{Command}
+use Rattle.cs_run.specs.Command.Carrying.{GrewByEach, HasTooManyChains, Writes, WritesOfGrammar}
+use Rattle.cs_run.specs.Words.Commands.{lists_chains}
 use Rattle.cs_run.specs.Command.Words.{ending_after, ending_by}
-use Rattle.cs_run.specs.Ending.Files.{scanning_of}
+use Rattle.cs_run.specs.Ending.Files.{HasFewChains, scanning_of}
 use Rattle.cs_scanner.specs.Scan.Scan.{Gives, Runs, Scanning, ends, given, goes_on, stops}
 use Rattle.cs_scanner.specs.declared.automaton.error.AutomatonError.{AutomatonError}
 use Rattle.cs_scanner.specs.declared.automaton.error.AutomatonError.TheVariants as automaton
@@ -45,6 +47,14 @@ ended_so accepted refused Is Part (Err Failed) ending out within same whole part
     subst (λ (e : Ending). Writes accepted refused Is Part e out) (sym same) (record { ends = (within, part, failed refl); room = room })
 ended_so accepted refused Is Part (Err Memory) ending out within same whole part calm failed room =
     subst (λ (e : Ending). Writes accepted refused Is Part e out) (sym same) (record { ends = inr (within, part); room = room })
+
+-- the text of a command that lists no chains was written, or its writing stopped
+pub ended_of : (c : Command) (g : PlainGrammar) (none : lists_chains c ≡ false) (Is : List ℕ → Type 0) (outcome : Result Unit Halt) (ending : Ending) (out : SinkUse)
+    → ending ≡ ending_after outcome → OnOk outcome (GrewByOne Is out.written.before out.written.after) → OnErr outcome (GrewByEach Is out)
+    → OnOk outcome (out.faults.after ≡ out.faults.before) → (Stopped Failed outcome → HasFailed out.faults) → (HasRoomForAll Is out.room → out.faults.after ≡ out.faults.before)
+    → WritesOfGrammar c g Is ending out
+ended_of c g none Is outcome ending out same whole part calm failed room =
+    ended_so (HasFewChains c g) (HasTooManyChains c g) Is (GrewByEach Is) outcome ending out (λ lists. absurd (let both : true ≡ false = sym lists ∙ none in cc)) same whole part calm failed room
 
 -- there is no automaton
 pub unmade_so : (accepted : Type 0) (refused : Refusal → Type 0) (Is : List ℕ → Type 0) (Part : SinkUse → Type 0) (error : AutomatonError) (ending : Ending) (out : SinkUse)

@@ -12,13 +12,13 @@ use Rattle.cs_run.specs.Words.Requests.{Named, PlainRequest, files_of}
 use Rattle.cs_run.specs.declared.input.judging.Meant.{Meant}
 use Rattle.cs_run.specs.declared.input.judging.Meant.TheVariants.{Grammar, Nothing, Pair, Text}
 use Rattle.cs_run.specs.declared.input.judging.PairAndText.{PairAndText}
-use Rattle.cs_run.specs.declared.words.command.Command.TheVariants.{Chains, Gen, Lexical, Member, Rules, Suite}
 use Rattle.cs_run.specs.declared.input.judging.Pair as pair
 use Rattle.cs_run.specs.declared.input.refusal.Refusal.{Refusal}
 use Rattle.cs_run.specs.declared.input.refusal.Refusal.TheVariants.{ManyChains, OfLex, OfYacc, States, TextStops, TextTokens, TooLong}
 use Rattle.cs_run.specs.Input.Files.{AreContents, Content, HasNoFile, HaveContents, Mean}
 use Rattle.cs_run.specs.Input.Refusal.{AreShort, IsFirstLong, Refuses}
-use Rattle.cs_run.specs.Ending.Files.{Accepted, AreAccepted, AreRefused, HasFewTokens, HasNoFileFor, HasTokens, IsBeyond, IsWithin, RefusesFor, scanning_of}
+use Rattle.cs_grammar.specs.Grammar.{PlainGrammar}
+use Rattle.cs_run.specs.Ending.Files.{Accepted, AreAccepted, AreRefused, HasFewChains, HasFewTokens, HasManyChains, HasNoFileFor, HasTokens, IsBeyond, IsWithin, RefusesFor, scanning_of}
 use Rattle.cs_run.specs.Ending.Texts.{AreTold, IsAskedText, IsTextOf}
 use Rattle.cs_run.proofs.OnInput.Meanings.{one_meaning}
 use Rattle.cs_scanner.specs.Scan.Scan.{StopsAt}
@@ -126,13 +126,8 @@ meaning_read (one ∷ other ∷ third ∷ more ∷ contents) (Pair two) refusal 
 meaning_read (one ∷ other ∷ third ∷ more ∷ contents) (Text beside) refusal mean refused = mean
 
 -- what is within the limits is beyond none
-within_chains : (c : Command) (file : yacc_file.File) (found : ℕ) → IsWithin (Grammar file) c → IsBeyond (Grammar file) (ManyChains found) c → ⊥
-within_chains Rules file found within beyond = beyond
-within_chains Suite file found within beyond = beyond
-within_chains Gen file found within beyond = beyond
-within_chains Lexical file found within beyond = beyond
-within_chains Chains file found within beyond = omega (arith, within, beyond.0, beyond.1)
-within_chains Member file found within beyond = beyond
+within_chains : (c : Command) (g : PlainGrammar) (found : ℕ) → HasFewChains c g → HasManyChains c g found → ⊥
+within_chains c g found few many = omega (arith, few many.0, many.1, many.2)
 
 within_tokens : (beside : PairAndText) (found : ℕ) → HasFewTokens beside → HasTokens beside found → 2000 < found → ⊥
 within_tokens beside found few has many =
@@ -154,14 +149,14 @@ within_limits c (Grammar file) (TooLong role) within beyond = beyond
 within_limits c (Grammar file) (OfYacc error) within beyond = beyond
 within_limits c (Grammar file) (OfLex error) within beyond = beyond
 within_limits c (Grammar file) States within beyond = beyond
-within_limits c (Grammar file) (ManyChains found) within beyond = within_chains c file found within beyond
+within_limits c (Grammar file) (ManyChains found) within beyond = within_chains c file.grammar found within beyond
 within_limits c (Grammar file) (TextStops at) within beyond = beyond
 within_limits c (Grammar file) (TextTokens found) within beyond = beyond
 within_limits c (Pair two) (TooLong role) within beyond = beyond
 within_limits c (Pair two) (OfYacc error) within beyond = beyond
 within_limits c (Pair two) (OfLex error) within beyond = beyond
-within_limits c (Pair two) States within beyond = within beyond
-within_limits c (Pair two) (ManyChains found) within beyond = beyond
+within_limits c (Pair two) States within beyond = within.0 beyond
+within_limits c (Pair two) (ManyChains found) within beyond = within_chains c two.yacc.grammar found within.1 beyond.1
 within_limits c (Pair two) (TextStops at) within beyond = beyond
 within_limits c (Pair two) (TextTokens found) within beyond = beyond
 within_limits c (Text beside) (TooLong role) within beyond = beyond

@@ -3,7 +3,7 @@ use Rattle.std.proofs.Common.{◌≡◌, ◌<◌, ◌≤◌, ℕ, List, [], ◌�
 use Rattle.std.specs.Prelude.{String, get_or, string_bytes}
 use Rattle.std.specs.declared.alloc.Global.{Global}
 use Rattle.cs_run.specs.declared.words.command.Command.{Command}
-use Rattle.cs_run.specs.declared.words.command.Command.TheVariants.{Chains, Gen, Lexical, Member, Rules, Suite}
+use Rattle.cs_run.specs.declared.words.command.Command.TheVariants.{Gen, Member, OfGrammar, OfPair}
 use Rattle.cs_run.specs.Words.Commands.{taken_of}
 use Rattle.cs_run.specs.Words.Requests.{Fit, Named, Names, PlainArguments, files_taken, lex_named, three_named, yacc_named}
 use Rattle.cs_run.specs.Words.Words.{texts}
@@ -31,20 +31,16 @@ two_words (w ∷ v ∷ u ∷ words) word other some few is also = absurd (omega 
 
 module _ (name : List ℕ) where
   named_one : (c : Command) → Fit (taken_of c) (Names (name ∷ [])) → files_taken (taken_of c) (Names (name ∷ [])) ≡ yacc_named name ∷ []
-  named_one Rules fit = refl
-  named_one Suite fit = absurd (omega (arith, fit))
-  named_one Gen fit = absurd fit
-  named_one Lexical fit = absurd (omega (arith, fit))
-  named_one Chains fit = refl
+  named_one (OfGrammar command) fit = refl
+  named_one (OfPair command) fit = absurd (omega (arith, fit))
   named_one Member fit = absurd (omega (arith, fit))
+  named_one Gen fit = absurd fit
 
   meant_one : (c : Command) (file : YaccFile) → Fit (taken_of c) (Names (name ∷ [])) → IsMeantFor (taken_of c) (Names (name ∷ [])) (Grammar file)
-  meant_one Rules file fit = tt
-  meant_one Suite file fit = absurd (omega (arith, fit))
-  meant_one Gen file fit = absurd fit
-  meant_one Lexical file fit = absurd (omega (arith, fit))
-  meant_one Chains file fit = tt
+  meant_one (OfGrammar command) file fit = tt
+  meant_one (OfPair command) file fit = absurd (omega (arith, fit))
   meant_one Member file fit = absurd (omega (arith, fit))
+  meant_one Gen file fit = absurd fit
 
   pub one_file : (c : Command) (arguments : PlainArguments) → arguments ≡ Names (name ∷ []) → Fit (taken_of c) arguments → files_taken (taken_of c) arguments ≡ yacc_named name ∷ []
   one_file c arguments same fit =
@@ -58,20 +54,16 @@ module _ (name : List ℕ) where
 
 module _ (name other : List ℕ) where
   named_two : (c : Command) → Fit (taken_of c) (Names (name ∷ other ∷ [])) → files_taken (taken_of c) (Names (name ∷ other ∷ [])) ≡ yacc_named name ∷ lex_named other ∷ []
-  named_two Rules fit = absurd (omega (arith, fit))
-  named_two Suite fit = refl
-  named_two Gen fit = absurd fit
-  named_two Lexical fit = refl
-  named_two Chains fit = absurd (omega (arith, fit))
+  named_two (OfGrammar command) fit = absurd (omega (arith, fit))
+  named_two (OfPair command) fit = refl
   named_two Member fit = absurd (omega (arith, fit))
+  named_two Gen fit = absurd fit
 
   meant_two : (c : Command) (two : pair.Pair) → Fit (taken_of c) (Names (name ∷ other ∷ [])) → IsMeantFor (taken_of c) (Names (name ∷ other ∷ [])) (Pair two)
-  meant_two Rules two fit = absurd (omega (arith, fit))
-  meant_two Suite two fit = tt
-  meant_two Gen two fit = absurd fit
-  meant_two Lexical two fit = tt
-  meant_two Chains two fit = absurd (omega (arith, fit))
+  meant_two (OfGrammar command) two fit = absurd (omega (arith, fit))
+  meant_two (OfPair command) two fit = tt
   meant_two Member two fit = absurd (omega (arith, fit))
+  meant_two Gen two fit = absurd fit
 
   pub two_files : (c : Command) (arguments : PlainArguments) → arguments ≡ Names (name ∷ other ∷ []) → Fit (taken_of c) arguments → files_taken (taken_of c) arguments ≡ yacc_named name ∷ lex_named other ∷ []
   two_files c arguments same fit =
@@ -101,20 +93,16 @@ three_words (w ∷ v ∷ u ∷ t ∷ words) word other more some few is also las
 
 module _ (name other third : List ℕ) where
   named_three : (c : Command) → Fit (taken_of c) (Names (name ∷ other ∷ third ∷ [])) → files_taken (taken_of c) (Names (name ∷ other ∷ third ∷ [])) ≡ three_named name other third
-  named_three Rules fit = absurd (omega (arith, fit))
-  named_three Suite fit = absurd (omega (arith, fit))
-  named_three Gen fit = absurd fit
-  named_three Lexical fit = absurd (omega (arith, fit))
-  named_three Chains fit = absurd (omega (arith, fit))
+  named_three (OfGrammar command) fit = absurd (omega (arith, fit))
+  named_three (OfPair command) fit = absurd (omega (arith, fit))
   named_three Member fit = refl
+  named_three Gen fit = absurd fit
 
   meant_three : (c : Command) (beside : PairAndText) → Fit (taken_of c) (Names (name ∷ other ∷ third ∷ [])) → IsMeantFor (taken_of c) (Names (name ∷ other ∷ third ∷ [])) (Text beside)
-  meant_three Rules beside fit = absurd (omega (arith, fit))
-  meant_three Suite beside fit = absurd (omega (arith, fit))
-  meant_three Gen beside fit = absurd fit
-  meant_three Lexical beside fit = absurd (omega (arith, fit))
-  meant_three Chains beside fit = absurd (omega (arith, fit))
+  meant_three (OfGrammar command) beside fit = absurd (omega (arith, fit))
+  meant_three (OfPair command) beside fit = absurd (omega (arith, fit))
   meant_three Member beside fit = tt
+  meant_three Gen beside fit = absurd fit
 
   pub three_files : (c : Command) (arguments : PlainArguments) → arguments ≡ Names (name ∷ other ∷ third ∷ []) → Fit (taken_of c) arguments → files_taken (taken_of c) arguments ≡ three_named name other third
   three_files c arguments same fit =
@@ -129,9 +117,7 @@ module _ (name other third : List ℕ) where
 
 -- no command takes another number of files
 pub not_other : (c : Command) (names : List (List ℕ)) → Fit (taken_of c) (Names names) → (length names ≡ 1 → ⊥) → (length names ≡ 2 → ⊥) → (length names ≡ 3 → ⊥) → ⊥
-not_other Rules names fit one two three = one fit
-not_other Suite names fit one two three = two fit
-not_other Gen names fit one two three = fit
-not_other Lexical names fit one two three = two fit
-not_other Chains names fit one two three = one fit
+not_other (OfGrammar command) names fit one two three = one fit
+not_other (OfPair command) names fit one two three = two fit
 not_other Member names fit one two three = three fit
+not_other Gen names fit one two three = fit

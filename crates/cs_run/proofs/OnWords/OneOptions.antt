@@ -14,8 +14,7 @@ use Rattle.cs_run.specs.declared.words.options.Options.{Options}
 use Rattle.cs_run.specs.declared.words.setting.Setting.{Setting}
 use Rattle.cs_run.specs.declared.words.setting.Setting.TheVariants as kind
 use Rattle.cs_run.specs.Words.Choices.{Chooses, IsCriteria, IsFormat, IsOperators, IsWeigh, has_criterion, has_operator, parts}
-use Rattle.cs_run.specs.Words.Options.{AreOptions, Give, GiveOr, IsMarked, IsOption, IsValueOf, default_options, mark_of}
-use Rattle.cs_run.specs.Words.Steps.{AreNew}
+use Rattle.cs_run.specs.Words.Options.{AreNew, AreOptions, Give, GiveOr, IsMarked, IsOption, IsValueOf, default_options, mark_of}
 use Rattle.cs_run.specs.Words.Values.{IsSeed}
 use Rattle.cs_run.proofs.OnWords.GivenLemmas.{behind_mark, marked, same_mark}
 use Rattle.cs_run.proofs.OnWords.Names.{or_false}

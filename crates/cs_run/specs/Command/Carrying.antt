@@ -1,18 +1,19 @@
 -- How the writing of a text ended, and what that is of a request's files.
 use Rattle.std.specs.Prelude.{◌≡◌, ◌⊎◌, ◌∷◌, [], ℕ, List}
+use Rattle.cs_grammar.specs.Grammar.{PlainGrammar}
 use Rattle.cs_io.specs.Uses.{HasFailed, IsUnused, SinkUse}
 use Rattle.cs_run.specs.declared.input.judging.Meant.{Meant}
 use Rattle.cs_run.specs.declared.input.judging.Meant.TheVariants.{Grammar, Pair as PairOf, Text}
 use Rattle.cs_run.specs.declared.input.judging.Pair.{Pair}
 use Rattle.cs_run.specs.declared.input.judging.PairAndText.{PairAndText}
 use Rattle.cs_run.specs.declared.input.refusal.Refusal.{Refusal}
-use Rattle.cs_run.specs.declared.input.refusal.Refusal.TheVariants.{States}
+use Rattle.cs_run.specs.declared.input.refusal.Refusal.TheVariants.{ManyChains, States}
 use Rattle.cs_run.specs.Input.Files.{Content, Mean}
 use Rattle.cs_run.specs.Input.Refusal.{HasManyStates}
 use Rattle.cs_run.specs.declared.ending.ending.Ending.{Ending}
 use Rattle.cs_run.specs.declared.ending.ending.Ending.TheVariants.{BadWord, NoFile, NoMemory, NotWritten, Refused, Written}
 use Rattle.cs_run.specs.Ending.Ending.{GrewAsAsked}
-use Rattle.cs_run.specs.Ending.Files.{Accepted, IsBeyond, IsWithin, RefusesFor}
+use Rattle.cs_run.specs.Ending.Files.{Accepted, HasFewChains, HasManyChains, IsBeyond, IsWithin, RefusesFor}
 use Rattle.cs_run.specs.Ending.Texts.{IsTextBy, IsTextOf}
 use Rattle.cs_run.specs.declared.words.command.Command.{Command}
 use Rattle.cs_run.specs.declared.words.command.Role.TheVariants.{Lex, Text as TextOf, Yacc}
@@ -53,6 +54,14 @@ HasTooManyStates pair refusal = (refusal ≡ States) × HasManyStates pair.lex
 -- a text that is asked for by a pair of files was written, and that ended so
 abbrev pub WritesOfPair : Pair → (List ℕ → Type 0) → Ending → SinkUse → Type 0
 WritesOfPair pair Is ending out = Writes (¬ HasManyStates pair.lex) (HasTooManyStates pair) Is (GrewByEach Is) ending out
+
+-- the grammar has too many chains for the command, and the refusal tells how many
+abbrev pub HasTooManyChains : Command → PlainGrammar → Refusal → Type 0
+HasTooManyChains command g refusal = (found : ℕ) × (refusal ≡ ManyChains found) × HasManyChains command g found
+
+-- a text that a command asks for by a grammar was written, and that ended so
+abbrev pub WritesOfGrammar : Command → PlainGrammar → (List ℕ → Type 0) → Ending → SinkUse → Type 0
+WritesOfGrammar command g Is ending out = Writes (HasFewChains command g) (HasTooManyChains command g) Is (GrewByEach Is) ending out
 
 -- the text that a command asks for by what its files mean was written, and that ended so
 abbrev pub WritesBy : Command → PlainArguments → Options → Meant → Ending → SinkUse → Type 0

@@ -1,30 +1,48 @@
--- Which text is asked for: a row for each command. Where the desk tells no files, any contents count.
-use Rattle.std.specs.Prelude.{◌≡◌, ◌⊎◌, ◌≤◌, ℕ, length, List, [], Option, None, Result, IsOkAnd, IsSome}
+-- Which text is asked for: a row for each command, by what it takes. Where the desk tells no files, any contents count.
+use Rattle.std.specs.Prelude.{◌≡◌, ◌⊎◌, ◌≤◌, ℕ, length, List, [], Option, None, Some, Result, IsOkAnd, IsSome}
 use Rattle.cs_grammar.specs.Laws.{AtMostOne}
 use Rattle.cs_io.specs.Desk.{Files}
 use Rattle.cs_run.specs.declared.words.command.Command.{Command}
-use Rattle.cs_run.specs.declared.words.command.Command.TheVariants.{Chains, Gen, Lexical, Member, Rules, Suite}
+use Rattle.cs_run.specs.declared.words.command.Command.TheVariants.{Gen, Member, OfGrammar, OfPair}
+use Rattle.cs_run.specs.declared.words.command.GrammarCommand.{GrammarCommand}
+use Rattle.cs_run.specs.declared.words.command.GrammarCommand.TheVariants as of_grammar
+use Rattle.cs_run.specs.declared.words.command.PairCommand.{PairCommand}
+use Rattle.cs_run.specs.declared.words.command.PairCommand.TheVariants as of_pair
 use Rattle.cs_run.specs.declared.words.options.Options.{Options}
 use Rattle.cs_run.specs.Words.Requests.{Number, PlainArguments, PlainRequest, files_of}
 use Rattle.cs_chain_text.specs.Text.{IsChainsText}
 use Rattle.cs_choices.specs.declared.weigh.Weigh.TheVariants.{Nodes}
 use Rattle.cs_deep.specs.Membership.{IsMemberText}
+use Rattle.cs_spell.specs.Spelling.{IsSpelling}
+use Rattle.cs_deep.specs.Deep.{IsDeepText}
 use Rattle.cs_lexical.specs.Lines.{IsLexical}
 use Rattle.cs_manifest.specs.Manifest.Manifest.{IsManifest, rules_form}
-use Rattle.cs_scanner.specs.Scan.Scan.{Scans}
+use Rattle.cs_scanner.specs.Scan.Scan.{Scanning, Scans}
+use Rattle.cs_yacc.specs.Reading.File.{File}
 use Rattle.cs_run.specs.declared.input.judging.Meant.{Meant}
 use Rattle.cs_run.specs.declared.input.judging.Meant.TheVariants.{Grammar, Nothing, Pair, Text}
 use Rattle.cs_run.specs.Input.Files.{Content, HaveContents, Mean}
-use Rattle.cs_run.specs.Ending.Files.{IsWithin, choice_of, scanning_of}
+use Rattle.cs_run.specs.Ending.Files.{IsWithin, choice_by, deep_choice, scanning_of, texts_by}
 use Rattle.cs_run.specs.Ending.Summary.{IsSummary}
+
+-- by a yacc file
+abbrev pub IsTextOfGrammar : GrammarCommand → File → List ℕ → Type 0
+IsTextOfGrammar of_grammar.Rules file text = IsManifest rules_form file text
+IsTextOfGrammar of_grammar.Chains file text = IsChainsText file None Nodes text
+
+-- by a yacc file and what a lex file's texts are scanned by
+abbrev pub IsTextOfPair : PairCommand → Options → File → Scanning → List ℕ → Type 0
+IsTextOfPair of_pair.Suite options file s text = IsManifest (choice_by options s) file text
+IsTextOfPair of_pair.Lexical options file s text = IsLexical file s text
+IsTextOfPair of_pair.Spell options file s text = IsSpelling file (texts_by options s) options.weigh text
+IsTextOfPair of_pair.Deep options file s text = IsDeepText (deep_choice options s) file text
+IsTextOfPair of_pair.Chains options file s text = IsChainsText file (Some (texts_by options s)) options.weigh text
 
 -- the text is what a command asks for, by what it was given, its options and what its files mean
 abbrev pub IsTextBy : Command → PlainArguments → Options → Meant → List ℕ → Type 0
-IsTextBy Rules arguments options (Grammar file) text = IsManifest rules_form file text
-IsTextBy Suite arguments options (Pair pair) text = IsManifest (choice_of pair.lex options) pair.yacc text
+IsTextBy (OfGrammar command) arguments options (Grammar file) text = IsTextOfGrammar command file text
+IsTextBy (OfPair command) arguments options (Pair pair) text = IsTextOfPair command options pair.yacc (scanning_of pair.lex) text
 IsTextBy Gen (Number seed) options Nothing text = IsSummary seed text
-IsTextBy Lexical arguments options (Pair pair) text = IsLexical pair.yacc (scanning_of pair.lex) text
-IsTextBy Chains arguments options (Grammar file) text = IsChainsText file None Nodes text
 IsTextBy Member arguments options (Text beside) text =
     (tokens : List ℕ) × Scans (scanning_of beside.pair.lex) beside.text tokens
     × IsMemberText beside.pair.yacc.grammar tokens text

@@ -67,6 +67,11 @@ pub record IsNewOption (command : Command) (before : List (List ℕ)) (word : Li
   pub had : IsTrue (may_have command (kind_of setting))
   pub is_new : LacksMark (mark_of setting) before
 
+-- behind these options each of the words is one that the command may have, and that none before it gives
+abbrev pub AreNew : Command → List (List ℕ) → List (List ℕ) → Type 0
+AreNew command before [] = Unit {0}
+AreNew command before (word ∷ words) = IsNewOption command before word × AreNew command (before ++ word ∷ []) words
+
 -- what the words say of a kind of setting: Some where one of them is such an option, None where none has its mark
 abbrev pub Give : {A : Type 0} → List ℕ → (A → Setting) → List (List ℕ) → Option A → Type 0
 Give mark setting words None = LacksMark mark words

@@ -9,7 +9,7 @@ use Rattle.cs_run.specs.declared.words.request.Arguments.{Arguments}
 use Rattle.cs_run.specs.declared.words.request.Arguments.TheVariants as given
 use Rattle.cs_run.specs.declared.words.request.Request.{Request}
 use Rattle.cs_run.specs.Words.Commands.{Files, Seed, Taken, command_word, taken_of}
-use Rattle.cs_run.specs.Words.Options.{AreOptions}
+use Rattle.cs_run.specs.Words.Options.{AreNew, AreOptions}
 use Rattle.cs_run.specs.Words.Values.{IsSeed}
 use Rattle.cs_run.specs.Words.Words.{IsAccepted, IsFirstBad, texts}
 
@@ -39,12 +39,13 @@ Fit taken arguments = ⊥
 abbrev pub IsFitting : PlainRequest → Type 0
 IsFitting request = Fit (taken_of request.command) request.arguments
 
--- The words ask for it: the command's word, then what it takes, then its options.
+-- The words ask for it: the command's word, then what it takes, then its options, each of them new.
 pub record AskFor (words : List (List ℕ)) (request : PlainRequest) : Type 0 where
   pub behind : List (List ℕ)
   pub rest : List (List ℕ)
   pub split : words ≡ command_word request.command ∷ behind ++ rest
   pub arguments : AreArguments (taken_of request.command) behind request.arguments
+  pub stand : AreNew request.command [] rest
   pub options : AreOptions rest request.options
 
 -- the words are accepted and ask for it, or this is the place of the first bad one

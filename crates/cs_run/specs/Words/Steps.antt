@@ -5,9 +5,12 @@ use Rattle.cs_run.specs.declared.words.options.Options.{Options}
 use Rattle.cs_run.specs.declared.words.given.Given.{Given}
 use Rattle.cs_run.specs.declared.words.setting.Setting.{Setting}
 use Rattle.cs_run.specs.declared.words.setting.Setting.TheVariants.{Cover, Mutate, Bases, Separate, Weigh, Format}
-use Rattle.cs_run.specs.Words.Options.{IsNewOption, default_options}
+use Rattle.cs_run.specs.Words.Options.{AreNew, IsNewOption, default_options}
 use Rattle.cs_run.specs.Words.Values.{IsSeed, SpellsByte, SpellsSeed}
-use Rattle.cs_run.specs.Words.Commands.{Taken, taken_count, taken_of}
+use Rattle.cs_run.specs.declared.words.command.Command.TheVariants.{Gen, Member, OfGrammar, OfPair}
+use Rattle.cs_run.specs.declared.words.command.GrammarCommand.{GrammarCommand}
+use Rattle.cs_run.specs.declared.words.command.PairCommand.{PairCommand}
+use Rattle.cs_run.specs.Words.Commands.{Taken, grammar_word, pair_word, taken_count, taken_of}
 use Rattle.cs_run.specs.declared.words.request.Taken as request
 use Rattle.cs_run.specs.Words.Requests.{AreArguments, PlainArguments, plain_arguments}
 use Rattle.cs_run.specs.Words.Words.{MayBeTaken, is_name, texts}
@@ -56,14 +59,28 @@ pub record AreDefaulted (given : Given) (options : Options) : Type 0 where
   pub weigh : options.weigh ≡ unwrap_or given.weigh default_options.weigh
   pub format : options.format ≡ unwrap_or given.format default_options.format
 
+-- ---- which of two commands with one word is chosen
+
+-- whether a second name stands there
+abbrev pub has_second_name : List (List ℕ) → Bool
+has_second_name [] = false
+has_second_name (first ∷ []) = false
+has_second_name (first ∷ second ∷ words) = is_name second
+
+-- Where a second name stands, of two commands with one word it is the one that takes a lex file, and else the other.
+abbrev pub IsChosenBy : Bool → Command → Type 0
+IsChosenBy long (OfGrammar command) = (other : PairCommand) → grammar_word command ≡ pair_word other → long ≡ false
+IsChosenBy long (OfPair command) = (other : GrammarCommand) → grammar_word other ≡ pair_word command → long ≡ true
+IsChosenBy long Member = Unit {0}
+IsChosenBy long Gen = Unit {0}
+
+-- by the words behind its own
+abbrev pub IsChosenFor : Command → List (List ℕ) → Type 0
+IsChosenFor command words = IsChosenBy (has_second_name words) command
+
 -- ---- options that stand behind what a command takes
 
 module _ (command : Command) where
-  -- each of the words is an option of the command that none of those before it gives
-  abbrev pub AreNew : List (List ℕ) → List (List ℕ) → Type 0
-  AreNew before [] = Unit {0}
-  AreNew before (word ∷ words) = IsNewOption command before word × AreNew (before ++ word ∷ []) words
-
   -- What stands behind these options can't go on so. Where nothing does, it can.
   abbrev pub Stops : List (List ℕ) → List (List ℕ) → Type 0
   Stops before [] = ⊥
@@ -75,7 +92,7 @@ module _ (command : Command) where
     pub after : List (List ℕ)
     pub split : words ≡ before ++ after
     pub place : length before ≡ at
-    pub stand : AreNew [] before
+    pub stand : AreNew command [] before
     pub stops : Stops before after
 
 -- ---- what a command takes

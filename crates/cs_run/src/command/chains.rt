@@ -1,7 +1,10 @@
-// The text of `chains`.
+// The texts of `chains`.
 
+ghost use Rattle.std.specs.Prelude.{◌≡◌};
+ghost use Rattle.cs_chain_text.specs.Progress.{HaveLexemes, lexemes_by};
 ghost use Rattle.cs_io.specs.Uses.{used};
-ghost use Rattle.cs_run.specs.Command.Scanned.{WritesChains};
+ghost use Rattle.cs_manifest.specs.Manifest.Manifest.{measure_of};
+ghost use Rattle.cs_run.specs.Command.Scanned.{WritesChainsBy, WritesChainsOf};
 ghost use Rattle.cs_run.specs.Ending.Ending.{HasLine};
 
 use crate::command::endings::ended;
@@ -13,6 +16,7 @@ use cs_choices::Weigh;
 use cs_fan::Gate;
 use cs_grammar::Weights;
 use cs_io::Sink;
+use cs_texts::RenderWork;
 use cs_yacc::YaccFile;
 use std::alloc::Global;
 use std::thread::Threads;
@@ -20,7 +24,7 @@ use std::thread::Threads;
 // A grammar has no more chains.
 const MOST_CHAINS: u64 = 1_000_000;
 
-/// Writes the chains of a yacc file's grammar.
+/// Writes the chains of a yacc file's grammar, without texts.
 pub(crate) fn chains<R: Threads + Sync, O: Sink, G: Gate + Sync>(
     rt: &R,
     alloc: Global,
@@ -28,7 +32,31 @@ pub(crate) fn chains<R: Threads + Sync, O: Sink, G: Gate + Sync>(
     out: &mut O,
     gate: &G,
 ) -> Ending
-    ensures writes { WritesChains file.now result (used O.Sink out.old out.new) }
+    ensures writes { WritesChainsOf file.now result (used O.Sink out.old out.new) }
+    ensures told { HasLine result }
+{
+    match Weights::nodes(alloc, file.grammar().tokens()) {
+        Ok(weights) => chains_by(rt, alloc, file, &weights, Weigh::Nodes, None, out, gate),
+        Err(_) => Ending::NoMemory,
+    }
+}
+
+/// The same by these weights; with texts, where there is a lex file.
+pub(crate) fn chains_by<R: Threads + Sync, O: Sink, G: Gate + Sync>(
+    rt: &R,
+    alloc: Global,
+    file: &YaccFile,
+    weights: &Weights,
+    weigh: Weigh,
+    work: Option<&RenderWork<'_>>,
+    out: &mut O,
+    gate: &G,
+) -> Ending
+    requires weights { weights.now
+        ≡ measure_of weigh file.now.grammar.tokens (lexemes_by work) }
+    requires lexemes { HaveLexemes file.now work }
+    ensures writes { WritesChainsBy file.now work.entry weigh result
+        (used O.Sink out.old out.new) }
     ensures told { HasLine result }
 {
     let found = match total(alloc, file.grammar()) {
@@ -38,17 +66,5 @@ pub(crate) fn chains<R: Threads + Sync, O: Sink, G: Gate + Sync>(
     if found > MOST_CHAINS {
         return Ending::Refused(Refusal::ManyChains { found });
     }
-    match Weights::nodes(alloc, file.grammar().tokens()) {
-        Ok(weights) => ended(write_chains(
-            rt,
-            alloc,
-            file,
-            &weights,
-            Weigh::Nodes,
-            None,
-            out,
-            gate,
-        )),
-        Err(_) => Ending::NoMemory,
-    }
+    ended(write_chains(rt, alloc, file, weights, weigh, work, out, gate))
 }

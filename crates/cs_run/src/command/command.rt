@@ -11,11 +11,12 @@ ghost use Rattle.cs_run.specs.Writer.Suite.{IsRules, IsSuite};
 
 use crate::command::chains::chains;
 use crate::command::endings::{halted, stopped};
+use crate::command::lexemes::of_lexemes;
 use crate::command::lexical::lexical;
 use crate::command::text::of_text;
 use crate::ending::{Ending, finish};
 use crate::input::{Meant, Pair, Refusal, Stop, read_files};
-use crate::words::{Arguments, Command, Options, read_words};
+use crate::words::{Arguments, Command, GrammarCommand, Options, PairCommand, read_words};
 use crate::writer::{SuiteHalt, write_rules, write_suite, write_summary};
 use cs_fan::Gate;
 use cs_io::{Desk, Halt, Sink};
@@ -97,10 +98,9 @@ fn of_grammar<R: Threads + Sync, O: Sink, G: Gate + Sync>(
     ensures told { HasLine result }
 {
     match command {
-        Command::Rules => rules(rt, alloc, file, out, gate),
-        Command::Chains => chains(rt, alloc, &file, out, gate),
-        Command::Suite | Command::Lexical => unreachable!(),
-        Command::Gen | Command::Member => unreachable!(),
+        Command::OfGrammar(GrammarCommand::Rules) => rules(rt, alloc, file, out, gate),
+        Command::OfGrammar(GrammarCommand::Chains) => chains(rt, alloc, &file, out, gate),
+        Command::OfPair(_) | Command::Member | Command::Gen => unreachable!(),
     }
 }
 
@@ -120,10 +120,18 @@ fn of_pair<R: Threads + Sync, O: Sink, G: Gate + Sync>(
     ensures told { HasLine result }
 {
     match command {
-        Command::Suite => suite(rt, alloc, pair, options, out, gate),
-        Command::Lexical => lexical(alloc, &pair, out),
-        Command::Rules | Command::Chains => unreachable!(),
-        Command::Gen | Command::Member => unreachable!(),
+        Command::OfPair(PairCommand::Suite) => suite(rt, alloc, pair, options, out, gate),
+        Command::OfPair(PairCommand::Lexical) => lexical(alloc, &pair, out),
+        Command::OfPair(PairCommand::Chains) => {
+            of_lexemes(rt, alloc, PairCommand::Chains, &options, &pair, out, gate)
+        }
+        Command::OfPair(PairCommand::Spell) => {
+            of_lexemes(rt, alloc, PairCommand::Spell, &options, &pair, out, gate)
+        }
+        Command::OfPair(PairCommand::Deep) => {
+            of_lexemes(rt, alloc, PairCommand::Deep, &options, &pair, out, gate)
+        }
+        Command::OfGrammar(_) | Command::Member | Command::Gen => unreachable!(),
     }
 }
 

@@ -6,8 +6,10 @@ ghost use Rattle.cs_run.specs.Ending.Texts.{HasOneText};
 ghost use Rattle.cs_io.specs.Desk.{Files};
 
 use cs_chain_text::one_chains_text;
+use cs_deep::one_deep;
 use cs_lexical::one_lexical_text;
 use cs_manifest::one_manifest;
+use cs_spell::one_spelling;
 
 /// Where a desk tells its files, or none are asked for, at most one text is asked for; but for `member`, which may tell of a
 /// sentence by each of its derivations.
@@ -16,5 +18,7 @@ pub fn one_asked_text()
 {
     one_manifest();
     one_lexical_text();
+    one_spelling();
+    one_deep();
     one_chains_text();
 }

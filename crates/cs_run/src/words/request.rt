@@ -4,8 +4,8 @@ ghost use Rattle.std.specs.Prelude.{◌≡◌, ◌≤◌, ◌<◌, [], IfErr, If
 ghost use Rattle.cs_run.specs.Words.Words.{IsAccepted, IsFirstBad, is_name, texts};
 ghost use Rattle.cs_run.specs.Words.Commands.{Files, Seed, taken_of};
 ghost use Rattle.cs_run.specs.Words.Requests.{AskForIt, IsFitting, all_words, plain_request};
-ghost use Rattle.cs_run.specs.Words.Options.{AreOptions};
-ghost use Rattle.cs_run.specs.Words.Steps.{AreNames, AreNew, BeginsWithSeed, IsTakenFrom, LacksAt, LacksName, LacksSeed, StopsAt};
+ghost use Rattle.cs_run.specs.Words.Options.{AreNew, AreOptions};
+ghost use Rattle.cs_run.specs.Words.Steps.{AreNames, BeginsWithSeed, IsChosenFor, IsTakenFrom, LacksAt, LacksName, LacksSeed, StopsAt, has_second_name};
 
 use crate::words::command::{Command, Role};
 use crate::words::given::Given;
@@ -47,15 +47,26 @@ pub fn read_words(words: &[String]) -> Result<Request<'_>, BadWord>
 {
     match words {
         [] => Err(BadWord { at: 0 }),
-        [first, rest @ ..] => match Command::named(first.as_str()) {
+        [first, rest @ ..] => match Command::named(first.as_str(), has_second_name(rest)) {
             Some(command) => read_behind(command, rest),
             None => Err(BadWord { at: 0 }),
         },
     }
 }
 
+// Whether a second name stands there.
+fn has_second_name(words: &[String]) -> bool
+    ensures { result ≡ has_second_name (texts words.now) }
+{
+    match words {
+        [_, second, ..] => may_be_name(second.as_str()),
+        _ => false,
+    }
+}
+
 // What a command and the words behind it ask for.
 fn read_behind<'w>(command: Command, words: &'w [String]) -> Result<Request<'w>, BadWord>
+    requires chosen { IsChosenFor command (texts words.now) }
     ensures accepted { IfOk result (λ _. IsAccepted (all_words command words.now)) }
     ensures asked { IfOk result (AskForIt (all_words command words.now)) }
     ensures fitting { IfOk result (λ request. IsFitting (plain_request request)) }

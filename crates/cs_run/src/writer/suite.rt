@@ -123,8 +123,12 @@ fn write_goals<'f, R: Threads + Sync, O: Sink, G: Gate + Sync>(
     }
 }
 
-// What the options' suite is made by, with these texts and pairs.
-fn means_of<'a>(options: &Options, work: &'a RenderWork<'a>, pairs: &'a Pairs<'a>) -> Means<'a>
+/// What the options' suite is made by, with these texts and pairs.
+pub(crate) fn means_of<'a>(
+    options: &Options,
+    work: &'a RenderWork<'a>,
+    pairs: &'a Pairs<'a>,
+) -> Means<'a>
     ensures { result ≡ means_by options.now work.entry pairs.entry }
 {
     Means {

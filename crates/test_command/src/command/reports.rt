@@ -50,7 +50,7 @@ rule 3 skip wins \" \"
 end rules 3 shadowed 0 overlaps 0 disjoint 3
 ";
 
-const ON_SUMS: [Row; 11] = [
+const ON_SUMS: [Row; 12] = [
     (&["lexical", "y", "l"], b"", 0, LEXICAL, b""),
     (
         &["member", "y", "l", "t"],
@@ -91,11 +91,18 @@ const ON_SUMS: [Row; 11] = [
     ),
     (&["chains"], b"", 2, b"", b"conform: usage: word 1\n"),
     (
-        &["chains", "y", "l"],
+        &["chains", "y", "--weigh=bytes"],
         b"",
         2,
         b"",
         b"conform: usage: word 2\n",
+    ),
+    (
+        &["chains", "y", "u"],
+        b"",
+        3,
+        b"",
+        b"conform: read fault: lex\n",
     ),
     (
         &["chains", "u"],
@@ -143,6 +150,28 @@ fn texts_about_the_limits(rt: HostRuntime) -> Result<(), Fail> {
     Ok(())
 }
 
+const TEXTS_OF_CHAINS: Row = (
+    &["chains", "y", "l", "--weigh=bytes"],
+    b"",
+    0,
+    b"conform chains
+token 1 'x'
+rule 1 a : a
+rule 2 a : 'x'
+lexeme 'x' \"x\"
+goal 1 chain 1 1 1 1 1 size 21
+  derive 1 1 1 2
+  tokens 'x'
+  text \"x\"
+goal 2 chain 1 1 1 1 2 size 20
+  derive 1 1 2
+  tokens 'x'
+  text \"x\"
+end goals 2 feasible 2 infeasible 0 large 0
+",
+    b"",
+);
+
 const CHAINS: Row = (
     &["chains", "y"],
     b"",
@@ -164,6 +193,9 @@ end goals 2 feasible 2 infeasible 0 large 0
 
 #[test]
 fn chains_of_a_cycle(rt: HostRuntime) -> Result<(), Fail> {
-    assert!(rt; is_ended(&rt, rt.alloc(), b"%%\na : a | 'x' ;\n", b"", &CHAINS)?);
+    let cycle = b"%%\na : a | 'x' ;\n";
+    let scanner = b"%%\nx return 'x';\n";
+    assert!(rt; is_ended(&rt, rt.alloc(), cycle, scanner, &CHAINS)?);
+    assert!(rt; is_ended(&rt, rt.alloc(), cycle, scanner, &TEXTS_OF_CHAINS)?);
     Ok(())
 }

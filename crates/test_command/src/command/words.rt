@@ -2,7 +2,7 @@
 // which word may stand behind which, and the values of each option.
 
 use cs_choices::{Format, Weigh};
-use cs_run::{Arguments, BadWord, Command, read_words};
+use cs_run::{Arguments, BadWord, Command, PairCommand, read_words};
 use cs_samples::words;
 use std::alloc::{AllocError, Global};
 use std::test::Fail;
@@ -31,7 +31,7 @@ fn bad_option(alloc: Global, texts: &[&str]) -> Result<Option<usize>, AllocError
     }
 }
 
-const COMMANDS: [Row; 47] = [
+const COMMANDS: [Row; 64] = [
     (&[], Some(0)),
     (&[""], Some(0)),
     (&["--help"], Some(0)),
@@ -65,6 +65,26 @@ const COMMANDS: [Row; 47] = [
     (&["suite", "y", "l", "--format=3"], Some(3)),
     (&["suite", "y", "l", "--format="], Some(3)),
     (&["suite", "y", "l", "--weigh=bits"], Some(3)),
+    (&["lexical", "y"], Some(2)),
+    (&["lexical", "y", "l", "--weigh=nodes"], Some(3)),
+    (&["member", "y", "l", "--weigh=nodes"], Some(3)),
+    (&["spell", "y", "l", "--separator=", "--weigh=bytes"], None),
+    (&["spell", "y", "l", "--bases=1"], Some(3)),
+    (&["spell", "y"], Some(2)),
+    (&["deep", "y", "l", "--mutate=none", "--bases=1"], None),
+    (&["deep", "y", "l", "--format=1"], Some(3)),
+    (&["deep", "y", "-"], Some(2)),
+    (&["chains", "y"], None),
+    (&["chains", "--weigh=nodes", "l"], Some(1)),
+    (&["chains", "y", "--weigh=nodes"], Some(2)),
+    (&["chains", "y", "l"], None),
+    (&["chains", "y", "l", "t"], Some(3)),
+    (&["chains", "y", "l", "--weigh=bytes", "--separator="], None),
+    (
+        &["chains", "y", "l", "--separator=", "--separator="],
+        Some(4),
+    ),
+    (&["chains", "y", "l", "--bases=1"], Some(3)),
     (&["gen"], Some(1)),
     (&["gen", ""], Some(1)),
     (&["gen", "g.y"], Some(1)),
@@ -173,7 +193,7 @@ fn names_and_defaults(rt: HostRuntime) -> Result<(), Fail> {
     match read_words(&words) {
         Ok(request) => {
             let options = request.options;
-            assert!(rt; request.command == Command::Suite);
+            assert!(rt; request.command == Command::OfPair(PairCommand::Suite));
             match request.arguments {
                 Arguments::Files([yacc, lex]) => {
                     assert!(rt; yacc.as_str() == "g.y" && lex.as_str() == "g.l");

@@ -1,12 +1,18 @@
-use Rattle.std.proofs.Common.{sym, subst}
-use Rattle.cs_io.specs.Uses.{used}
-use Rattle.cs_run.specs.declared.words.command.Command.{Command}
-use Rattle.cs_run.specs.Command.Carrying.{WritesByGrammar}
-use Rattle.cs_run.proofs.OnCommand.Performing.{rules_so}
+-- Each command's writer says what was written by its own text.
+use Rattle.std.proofs.Common.{◌≡◌, ◌∙◌, ap}
+use Rattle.cs_run.specs.declared.words.command.Command.TheVariants.{OfGrammar}
+use Rattle.cs_run.specs.declared.words.command.GrammarCommand.TheVariants as of_grammar
+use Rattle.cs_run.proofs.OnCommand.Performing.{chains_so, rules_so}
 use Rattle.cs_run.proofs.command.command.of_grammar.Goals as goal
 
-pub returns-in-Rules-clause-writes : goal.returns-in-Rules-clause-writes
-returns-in-Rules-clause-writes g c = λ arguments options. rules_so c.rules.result _ c.args.command arguments options c.args.file c.in-Rules.is c.rules.ensures.writes
+pub returns-in-OfGrammar-Rules-clause-writes : goal.returns-in-OfGrammar-Rules-clause-writes
+returns-in-OfGrammar-Rules-clause-writes g c =
+    let asked : c.in-OfGrammar-Rules.field-0 ≡ of_grammar.Rules = rw c.in-OfGrammar-Rules.is at c.in-OfGrammar-Rules.field-0-is in
+    let is : c.args.command ≡ OfGrammar of_grammar.Rules = c.in-OfGrammar-Rules.is ∙ ap OfGrammar asked in
+    λ arguments options. rules_so c.rules.result _ c.args.command arguments options c.args.file is c.rules.ensures.writes
 
-pub returns-in-Chains-clause-writes : goal.returns-in-Chains-clause-writes
-returns-in-Chains-clause-writes g c = subst (λ (d : Command). WritesByGrammar d c.args.file c.chains.result (used g.O.Sink c.args.out.now c.chains.new.out)) (sym c.in-Chains.is) c.chains.ensures.writes
+pub returns-in-OfGrammar-Chains-clause-writes : goal.returns-in-OfGrammar-Chains-clause-writes
+returns-in-OfGrammar-Chains-clause-writes g c =
+    let asked : c.in-OfGrammar-Chains.field-0 ≡ of_grammar.Chains = rw c.in-OfGrammar-Chains.is at c.in-OfGrammar-Chains.field-0-is in
+    let is : c.args.command ≡ OfGrammar of_grammar.Chains = c.in-OfGrammar-Chains.is ∙ ap OfGrammar asked in
+    λ arguments options. chains_so c.chains.result _ c.args.command arguments options c.args.file is c.chains.ensures.writes

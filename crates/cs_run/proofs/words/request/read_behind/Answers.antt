@@ -4,7 +4,7 @@ use Rattle.cs_run.proofs.OnWords.Standing.{arguments_fit, lacks_bad, option_bad,
 use Rattle.cs_run.proofs.words.request.read_behind.Goals as goal
 
 pub returns-in-Err-clause-bad : goal.returns-in-Err-clause-bad
-returns-in-Err-clause-bad c = lacks_bad c.args.command (texts c.args.words.now) c.in-Err.at c.in-Err.ensures.lacks
+returns-in-Err-clause-bad c = lacks_bad c.args.command (texts c.args.words.now) c.in-Err.at c.requires.chosen c.in-Err.ensures.lacks
 
 pub returns-in-Ok-read_options-clause-accepted : goal.returns-in-Ok-read_options-clause-accepted
 returns-in-Ok-read_options-clause-accepted c =
@@ -12,7 +12,7 @@ returns-in-Ok-read_options-clause-accepted c =
 
 pub returns-in-Err-read_options-clause-bad : goal.returns-in-Err-read_options-clause-bad
 returns-in-Err-read_options-clause-bad c =
-    option_bad c.args.command (texts c.args.words.now) _ _ (texts c.in-Ok.taken.rest.now) c.in-Ok.ensures.begins c.in-Err-read_options.at c.in-Err-read_options.ensures.stops
+    option_bad c.args.command (texts c.args.words.now) _ _ (texts c.in-Ok.taken.rest.now) c.in-Ok.ensures.begins c.in-Err-read_options.at c.requires.chosen c.in-Err-read_options.ensures.stops
 
 pub returns-in-Ok-read_options-clause-fitting : goal.returns-in-Ok-read_options-clause-fitting
 returns-in-Ok-read_options-clause-fitting c = arguments_fit (taken_of c.args.command) _ _ c.in-Ok.ensures.begins.are

@@ -1,8 +1,7 @@
 use Rattle.std.proofs.Common.{◌≡◌, false, [], take, sym, ap, ◌∙◌, subst, arith}
 use Rattle.std.specs.Prelude.{string_bytes}
-use Rattle.cs_run.specs.Words.Options.{IsNewOption, IsOption, kind_of}
+use Rattle.cs_run.specs.Words.Options.{AreNew, IsNewOption, IsOption, kind_of}
 use Rattle.cs_run.specs.Words.Commands.{may_have}
-use Rattle.cs_run.specs.Words.Steps.{AreNew}
 use Rattle.cs_run.specs.Words.Words.{texts}
 use Rattle.cs_run.proofs.OnWords.Standing.{new_more, option_stops, texts_more}
 use Rattle.cs_run.proofs.OnWords.GivenLemmas.{AreGiven, lacks, given_more, not_had, twice}

@@ -1,5 +1,5 @@
 use Rattle.std.proofs.Common.{take, []}
-use Rattle.cs_run.specs.Words.Steps.{AreNew}
+use Rattle.cs_run.specs.Words.Options.{AreNew}
 use Rattle.cs_run.specs.Words.Words.{texts}
 use Rattle.cs_run.proofs.OnWords.GivenLemmas.{AreGiven}
 use Rattle.cs_run.proofs.words.request.read_options.Given as goal
