@@ -1,0 +1,10 @@
+use Rattle.std.proofs.Common.{ap}
+use Rattle.cs_manifest.proofs.OnOutput.Pieces.{spelled}
+use Rattle.cs_manifest.specs.Manifest.Below.{text_below}
+use Rattle.cs_wrong.proofs.lines.put_text.Goals as goal
+
+pub returns-in-None : goal.returns-in-None
+returns-in-None g c = rw c.in-None.is c.put.ensures
+
+pub returns-in-Some : goal.returns-in-Some
+returns-in-Some g c = rw c.in-Some.is (spelled _ (ap (text_below c.args.file.now) c.parts.ensures) c.put_rendered.ensures)

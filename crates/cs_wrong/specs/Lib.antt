@@ -1,0 +1,13 @@
+pub mod Classes
+pub mod Coming
+pub mod Entries
+pub mod Found
+pub mod Judging
+pub mod Lists
+pub mod Met
+pub mod Progress
+pub mod Put
+pub mod Slips
+pub mod Tally
+pub mod Text
+pub mod Walk
