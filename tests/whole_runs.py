@@ -8,6 +8,8 @@ tests/page_runs.py has the runs that the documents show.
 """
 
 import os
+import resource
+import signal
 import subprocess
 import sys
 import tempfile
@@ -24,6 +26,9 @@ FILES = {
     "g1.l": b"%%\n[0-9]+ return NUM;\n[-+*/()] return yytext[0];\n[ \\t\\n]+ ;\n",
     "one.y": b"%%\ns : 'x' ;\n",
     "one.l": b"%%\nx return 'x';\n[ ]+ ;\n",
+    # A keyword in two cases, two forms of strings, and comments.
+    "forms.y": b"%token SET STR\n%%\ns : SET STR ;\n",
+    "forms.l": b"%%\nset return SET;\nSET return SET;\n'[^']*' return STR;\n`[^`]*` return STR;\n[ ]+ ;\n\"/*\"[^*]*\"*/\" ;\n",
     "trailing.l": b"%%\nab/cd return NUM;\n",
     "states.y": b"%token NUM\n%%\ns : NUM ;\n",
     "states.l": b"%%\n(a|b)*a(a|b){14} return NUM;\n",
@@ -285,6 +290,41 @@ G1 = [os.path.join(EXAMPLES, "g1.y"), os.path.join(EXAMPLES, "l1.l")]
 C_EXPRESSIONS = [os.path.join(EXAMPLES, "cexpr.y"), os.path.join(EXAMPLES, "cexpr.l")]
 
 # words, status, output, error output
+SPELL_FORMS = b"""conform spell
+spelling 1 token SET goal 1 size 3 at 0
+  derive 1
+  tokens SET STR
+  text "set ''"
+spelling 2 token SET goal 1 size 3 at 0
+  derive 1
+  tokens SET STR
+  text "SET ''"
+spelling 3 token STR goal 1 size 3 at 1
+  derive 1
+  tokens SET STR
+  text "set ''"
+spelling 4 token STR goal 1 size 3 at 1
+  derive 1
+  tokens SET STR
+  text "set ``"
+spelling 5 skip goal 1 size 3
+  derive 1
+  tokens SET STR
+  text " set '' "
+spelling 6 skip goal 1 size 3
+  derive 1
+  tokens SET STR
+  text "/**/set/**/''/**/"
+end rules 6 spelled 6 shadowed 0 foreign 0 literal 0 infeasible 0 large 0
+"""
+# Rows whose output is cut at each of its bytes.
+CUT = [
+    (["lexical", "one.y", "one.l"], LEXICAL),
+    (["spell", "forms.y", "forms.l"], SPELL_FORMS),
+    (["deep", "one.y", "one.l"], DEEP),
+    (["chains", "choice.y"], CHAINS),
+    (["chains", "choice.y", "one.l", "--weigh=bytes"], CHAINS_WITH_TEXTS),
+]
 ROWS = [
     (["rules", "g1.y"], 0, SUMS, b""),
     (["rules", "./g1.y"], 0, SUMS, b""),
@@ -328,6 +368,7 @@ ROWS = [
     (["deep", "states.y", "states.l"], 1, b"", b"conform: lex: States above 16384\n"),
     (["deep", "g1.y", "g1.l", "--format=1"], 2, b"", b"conform: usage: word 3\n"),
     (["spell", "one.y", "one.l"], 0, SPELL, b""),
+    (["spell", "forms.y", "forms.l"], 0, SPELL_FORMS, b""),
     (["spell", "states.y", "states.l"], 1, b"", b"conform: lex: States above 16384\n"),
     (["spell", "g1.y", "g1.l", "--bases=1"], 2, b"", b"conform: usage: word 3\n"),
     (["chains", "choice.y"], 0, CHAINS, b""),
@@ -348,7 +389,27 @@ def run(words, folder, **streams):
     return done.returncode, done.stdout, done.stderr
 
 
+def cut_at(size):
+    """Lets a file take so many bytes; a write beyond fails, and nothing ends the program."""
+    signal.signal(signal.SIGXFSZ, signal.SIG_IGN)
+    resource.setrlimit(resource.RLIMIT_FSIZE, (size, size))
+
+
+def cut_failures(folder):
+    """An output that fails at any byte holds what came before it."""
+    path = os.path.join(folder, "cut")
+    for words, whole in CUT:
+        for size in range(len(whole)):
+            with open(path, "wb") as out:
+                status, _, said = run(words, folder, stdout=out, stderr=subprocess.PIPE, preexec_fn=lambda: cut_at(size))
+            with open(path, "rb") as out:
+                written = out.read()
+            if (status, written, said) != (4, whole[:size], b"conform: write fault\n"):
+                yield f"{words}, cut at byte {size}: status {status}, {len(written)} bytes, {said!r}"
+
+
 def failures(folder):
+    yield from cut_failures(folder)
     pipes = {"stdout": subprocess.PIPE, "stderr": subprocess.PIPE}
     for words, *wanted in ROWS:
         found = run(words, folder, **pipes)
