@@ -33,13 +33,13 @@ QUESTIONS = [
         DEFINITIONS: ["It is `Large` where one does and each that does is larger than the limit of the weights."],
     }),
     ("Where is a command added?", {
-        CONTRIBUTING: ["## To add a command", "`crates/cs_run/specs/Words/Commands.antt`"],
+        CONTRIBUTING: ["## To add a command", "`crates/cs_words/specs/Commands.antt`"],
     }),
     ("Where is a directive added?", {
         CONTRIBUTING: ["## To add a directive of the yacc file", "`crates/cs_yacc/specs/Items/Directives.antt`"],
     }),
     ("What is proved again then?", {
-        CONTRIBUTING: ["Proved again are `cs_run::words`,", "Proved again are these two crates"],
+        CONTRIBUTING: ["Proved again are `cs_words`,", "Proved again are these two crates"],
     }),
     ("What does the error output hold after a failing write?", {
         FORMATS: ["the error output then holds a beginning of the line, perhaps none of it"],

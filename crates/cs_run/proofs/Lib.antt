@@ -1,4 +1,3 @@
-pub mod OnWords
 pub mod OnInput
 pub mod OnEnding
 pub mod OnWriter

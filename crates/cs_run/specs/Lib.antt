@@ -1,4 +1,3 @@
-pub mod Words
 pub mod Input
 pub mod Ending
 pub mod Writer

@@ -13,6 +13,7 @@ mod lexemes;
 mod lexical;
 mod scanner;
 mod text;
+mod wrong;
 
 pub use command::run;
 pub use laws::one_asked_text;

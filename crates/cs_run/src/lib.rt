@@ -2,9 +2,6 @@
 //!
 //! The parts, from the bottom up; none stands on one behind it:
 //!
-//! - `words`: the words of the command line: which are accepted, what they ask for, and else the first word that can't
-//!   stand where it stands. The layer above uses `read_words`, and the `Request` that it gives: a `Command`, its
-//!   `Arguments` and `Options`. No call takes memory.
 //! - `input`: the files that a command names, or bytes in their place: what they mean, or the first cause why they are
 //!   not given.
 //! - `ending`: how a run ends: by which cause, with which status and which line; and what follows from that for whoever
@@ -18,14 +15,9 @@
 mod command;
 mod ending;
 mod input;
-mod words;
 mod writer;
 
 pub use command::{one_asked_text, run};
 pub use ending::{Ending, finish};
 pub use input::{Pair, Refusal, Stop, judge_pair, line, read_files};
-pub use words::{
-    Arguments, BadWord, Command, GrammarCommand, Options, PairCommand, Role, accepted_or_bad,
-    one_bad_word, one_request, read_words,
-};
 pub use writer::{SuiteHalt, write_rules, write_suite, write_summary};

@@ -16,7 +16,7 @@ use Rattle.cs_wrong.specs.Slips.{slips}
 use Rattle.cs_wrong.specs.Text.{AreEachOnce, IsEntryOf, SlipEntry, wrong_ones}
 use Rattle.cs_wrong.specs.declared.class.SlipClass.{SlipClass}
 use Rattle.cs_wrong.specs.declared.class.SlipClass.TheVariants.{Nothing, Large, Again, Pair, Long, Sentence, Outside}
-use Rattle.cs_wrong.specs.declared.slip.Chosen.{Chosen}
+use Rattle.cs_choices.specs.declared.slips.Slips.{Slips}
 use Rattle.cs_wrong.specs.declared.slip.Slip.{Slip}
 
 module _ (v : Weighed) where
@@ -137,7 +137,7 @@ module _ (v : Weighed) where
         let f = Among-filter (λ (y : SlipEntry). is_wrong y.class) m.0 es m.1 in
         not_again (before ++ x ∷ []) xs es x e.tokens zip.1 (Contains-push before x) (own_list before x e.class e.tokens zip.0.told wrong) m.0 f.0 f.1 (sym m.2))
 
-    pub each_once : (chosen : Chosen) (entries : List SlipEntry) → AllZip Of (behind [] (slips v.grammar chosen)) entries → AreEachOnce v chosen entries
+    pub each_once : (chosen : Slips) (entries : List SlipEntry) → AllZip Of (behind [] (slips v.grammar chosen)) entries → AreEachOnce v chosen entries
     each_once chosen entries zip = record {
       once = AllPairs-from_Apart (map tokens_of (wrong_ones entries)) (apart [] (slips v.grammar chosen) entries zip);
       all = λ slip list is_slip is sure.

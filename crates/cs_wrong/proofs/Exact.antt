@@ -10,7 +10,7 @@ use Rattle.cs_grammar.specs.declared.symbol.Symbol.TheVariants.{Token, Nontermin
 use Rattle.cs_wrong.specs.Slips.{HasEachSlip, HasNoSlipTwice, IsChangeOf, IsOfChosen, IsSlip, changes_of, differ_at, doubles_of, drops_of, same_symbol, slips, slips_in, swaps_of}
 use Rattle.cs_wrong.specs.declared.slip.Change.{Change}
 use Rattle.cs_wrong.specs.declared.slip.Change.TheVariants.{Drop, Double, Swap}
-use Rattle.cs_wrong.specs.declared.slip.Chosen.{Chosen}
+use Rattle.cs_choices.specs.declared.slips.Slips.{Slips}
 use Rattle.cs_wrong.specs.declared.slip.Slip.{Slip}
 use Rattle.cs_wrong.specs.declared.slip.Slip.TheVariants.{Empty, Of}
 
@@ -66,7 +66,7 @@ module _ (xs : List Symbol) (i : ℕ) (is : IsNumberOf (length xs - 1) i) where
       symbols_differ (get_or xs (i - 1) (Token 0)) (get_or xs i (Token 0)) (λ same. other (here ∙ ap Some same ∙ sym there)) in
       ap not told
 
-module _ (c : Chosen) (xs : List Symbol) where
+module _ (c : Slips) (xs : List Symbol) where
   abbrev first : List Change
   first = cond c.drops (drops_of xs) []
 
@@ -159,7 +159,7 @@ rule_in : Slip → ℕ
 rule_in Empty = 0
 rule_in (Of r change) = r
 
-module _ (g : PlainGrammar) (c : Chosen) where
+module _ (g : PlainGrammar) (c : Slips) where
   in_rule : (e : ℕ × Production) (s : Slip) → Among s (slips_in c e) → (change : Change) × (s ≡ Of e.0 change) × Among change (changes_of c e.1.right)
   in_rule e s h = let m = Among-map (Of e.0) s (changes_of c e.1.right) h in (m.0, m.2, m.1)
 

@@ -12,7 +12,7 @@ use Rattle.cs_io.specs.Faults.{greatest}
 use Rattle.cs_wrong.specs.Slips.{changes_of, differ_at, doubles_of, drops_of, slips, slips_in, swaps_of}
 use Rattle.cs_wrong.specs.declared.slip.Change.{Change}
 use Rattle.cs_wrong.specs.declared.slip.Change.TheVariants.{Drop, Double, Swap}
-use Rattle.cs_wrong.specs.declared.slip.Chosen.{Chosen}
+use Rattle.cs_choices.specs.declared.slips.Slips.{Slips}
 use Rattle.cs_wrong.specs.declared.slip.Slip.TheVariants.{Of}
 
 few_if : (b : Bool) (l : List Change) → length (cond b l []) ≤ length l
@@ -20,7 +20,7 @@ few_if true l = omega arith
 few_if false l = omega arith
 
 -- three for each symbol at most
-few_changes : (c : Chosen) (xs : List Symbol) → length (changes_of c xs) ≤ 3 * length xs
+few_changes : (c : Slips) (xs : List Symbol) → length (changes_of c xs) ≤ 3 * length xs
 few_changes c xs =
     let first = cond c.drops (drops_of xs) [] in
     let second = cond c.doubles (doubles_of xs) [] in
@@ -42,14 +42,14 @@ few_changes c xs =
       count_by-le-length (differ_at xs) (range_with_len 1 (length xs - 1)),
     )
 
-few_rules : (c : Chosen) (tokens nonterminals n : ℕ) (rules : List Production) → All (IsRuleOf tokens nonterminals) rules → length (flat_map (slips_in c) (enumerate_from n rules)) ≤ 384 * length rules
+few_rules : (c : Slips) (tokens nonterminals n : ℕ) (rules : List Production) → All (IsRuleOf tokens nonterminals) rules → length (flat_map (slips_in c) (enumerate_from n rules)) ≤ 384 * length rules
 few_rules c tokens nonterminals n [] all = omega arith
 few_rules c tokens nonterminals n (p ∷ rules) all =
     let rest = few_rules c tokens nonterminals (n + 1) rules (All-tail (IsRuleOf tokens nonterminals) p rules all) in
     let short = (All-head (IsRuleOf tokens nonterminals) p rules all).short in
     omega (arith, rest, short, few_changes c p.right, length-map (changes_of c p.right) (λ (x : Change). Of n x), length-append (slips_in c (n, p)) (flat_map (slips_in c) (enumerate_from (n + 1) rules)))
 
-pub few_slips : (g : PlainGrammar) → IsGrammar g → (c : Chosen) → length (slips g c) ≤ greatest
+pub few_slips : (g : PlainGrammar) → IsGrammar g → (c : Slips) → length (slips g c) ≤ greatest
 few_slips g is c =
     let rules = few_rules c g.tokens g.nonterminals 1 g.rules is.rules in
     let few = is.few in

@@ -16,7 +16,7 @@ use Rattle.cs_wrong.specs.Slips.{slips}
 use Rattle.cs_wrong.specs.Text.{AddsUp, AreEntriesOf, IsEntryOf, IsWrongText, SlipEntry, weighed_by, wrong_ones, wrong_text}
 use Rattle.cs_wrong.specs.declared.class.SlipClass.{SlipClass}
 use Rattle.cs_wrong.specs.declared.class.SlipClass.TheVariants.{Nothing, Large, Again, Pair, Long, Sentence, Outside}
-use Rattle.cs_wrong.specs.declared.slip.Chosen.{Chosen}
+use Rattle.cs_choices.specs.declared.slips.Slips.{Slips}
 use Rattle.cs_wrong.specs.declared.slip.Slip.{Slip}
 use Rattle.cs_yacc.specs.Reading.File.{File}
 
@@ -36,7 +36,7 @@ module _ (texts : Option Texts) (one : HasOneText texts) (lexemes : Option (List
   pub one_entries : (list : List (List Slip × Slip)) (a b : List SlipEntry) → AllZip (IsEntryOf of texts lexemes) list a → AllZip (IsEntryOf of texts lexemes) list b → a ≡ b
   one_entries list a b ha hb = one_zip one_entry list a b ha hb
 
-pub one_text_of : ((texts : Option Texts) → HasOneText texts) → (file : File) (texts : Option Texts) (weigh : Weigh) (chosen : Chosen) (text other : List ℕ) → IsWrongText file texts weigh chosen text → IsWrongText file texts weigh chosen other → text ≡ other
+pub one_text_of : ((texts : Option Texts) → HasOneText texts) → (file : File) (texts : Option Texts) (weigh : Weigh) (chosen : Slips) (text other : List ℕ) → IsWrongText file texts weigh chosen text → IsWrongText file texts weigh chosen other → text ≡ other
 one_text_of one file texts weigh chosen text other a b =
     let lexemes : a.lexemes ≡ b.lexemes = (one texts).lexemes file.grammar.tokens a.lexemes b.lexemes a.are_lexemes b.are_lexemes in
     let moved = subst (λ (l : Option (List (Option (List ℕ)))). AreEntriesOf (weighed_by weigh file l) texts l (slips file.grammar chosen) b.entries) (sym lexemes) b.slips in

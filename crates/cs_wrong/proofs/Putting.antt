@@ -9,7 +9,7 @@ use Rattle.std.proofs.lemmas.List.Elements.{filter-append}
 use Rattle.cs_grammar.specs.declared.symbol.Symbol.{Symbol}
 use Rattle.cs_grammar.specs.Grammar.{Production}
 use Rattle.cs_wrong.specs.Slips.{changes_of, differ_at, slips_in}
-use Rattle.cs_wrong.specs.declared.slip.Chosen.{Chosen}
+use Rattle.cs_choices.specs.declared.slips.Slips.{Slips}
 use Rattle.cs_wrong.specs.declared.slip.Change.{Change}
 use Rattle.cs_wrong.specs.declared.slip.Change.TheVariants.{Swap}
 use Rattle.cs_wrong.specs.declared.slip.Slip.{Slip}
@@ -67,7 +67,7 @@ enumerated_more {X = X} n (y ∷ xs) x =
     let e : n + 1 + length xs ≡ n + length (y ∷ xs) = omega arith in
     ap (λ (l : List (ℕ × X)). (n, y) ∷ l) (enumerated_more (n + 1) xs x ∙ ap (λ (k : ℕ). enumerate_from (n + 1) xs ++ (k, x) ∷ []) e)
 
-pub rules_more : (c : Chosen) (rules : List Production) (i r : ℕ) (p : Production) (right : List Symbol) (mid new : List Slip) → slice_get rules i ≡ Some p → i + 1 ≡ r → right ≡ p.right
+pub rules_more : (c : Slips) (rules : List Production) (i r : ℕ) (p : Production) (right : List Symbol) (mid new : List Slip) → slice_get rules i ≡ Some p → i + 1 ≡ r → right ≡ p.right
     → mid ≡ Empty ∷ flat_map (slips_in c) (enumerate_from 1 (take i rules)) → new ≡ mid ++ slips_in c (r, record { left = 0; right = right })
     → new ≡ Empty ∷ flat_map (slips_in c) (enumerate_from 1 (take (i + 1) rules))
 rules_more c rules i r p right mid new at number side far more =

@@ -13,7 +13,7 @@ use Rattle.cs_wrong.specs.Classes.{IsTold, behind, is_wrong}
 use Rattle.cs_wrong.specs.Slips.{IsSlip, slips}
 use Rattle.cs_wrong.specs.Text.{IsEntryOf, IsWrongText, weighed_by, wrong_text}
 use Rattle.cs_wrong.specs.declared.class.SlipClass.{SlipClass}
-use Rattle.cs_wrong.specs.declared.slip.Chosen.{Chosen}
+use Rattle.cs_choices.specs.declared.slips.Slips.{Slips}
 use Rattle.cs_wrong.specs.declared.slip.Slip.{Slip}
 use Rattle.cs_wrong.specs.declared.slip.Slip.TheVariants.{Empty, Of}
 use Rattle.cs_yacc.specs.Reading.File.{File}
@@ -29,22 +29,22 @@ module _ (of : Weighed) (texts : Option Texts) (lexemes : Option (List (Option (
   rendered_if false tokens none = none None refl
 
   -- a slip has a class
-  class_of : (earlier : List Slip) (slip : Slip) (c : Chosen) → IsSlip of.grammar c slip → ((class : SlipClass) (list : List ℕ) → IsTold of earlier slip class list → ⊥) → ⊥
+  class_of : (earlier : List Slip) (slip : Slip) (c : Slips) → IsSlip of.grammar c slip → ((class : SlipClass) (list : List ℕ) → IsTold of earlier slip class list → ⊥) → ⊥
   class_of earlier Empty c is none = with_list of earlier Empty none [] refl
   class_of earlier (Of r change) c is none = some_told of earlier r change is.0 is.1 none
 
-  some_entry : (placed : List Slip × Slip) (c : Chosen) → IsSlip of.grammar c placed.1 → IsNotWithout (IsEntryOf of texts lexemes placed)
+  some_entry : (placed : List Slip × Slip) (c : Slips) → IsSlip of.grammar c placed.1 → IsNotWithout (IsEntryOf of texts lexemes placed)
   some_entry placed c is none =
       class_of placed.0 placed.1 c is
       (λ class list told. rendered_if (is_wrong class) list
       (λ rendered text. none (record { slip = placed.1; class = class; tokens = list; rendered = rendered }) (record { is_of = refl; told = told; text = text })))
 
-  pub some_entries : (c : Chosen) → IsNotWithout (AllZip (IsEntryOf of texts lexemes) (behind [] (slips of.grammar c)))
+  pub some_entries : (c : Slips) → IsNotWithout (AllZip (IsEntryOf of texts lexemes) (behind [] (slips of.grammar c)))
   some_entries c =
       some_zip (behind [] (slips of.grammar c))
       (λ placed among. some_entry placed c ((all of.grammar c placed.1).0 (Contains-from_Among placed.1 (slips of.grammar c) (among_behind [] (slips of.grammar c) placed among))))
 
-pub some_text_of : (file : File) (texts : Option Texts) (weigh : Weigh) (chosen : Chosen)
+pub some_text_of : (file : File) (texts : Option Texts) (weigh : Weigh) (chosen : Slips)
     → ((texts : Option Texts) (lexemes : Option (List (Option (List ℕ)))) (tokens : List ℕ) → IsNotWithout (IsRenderedBy texts lexemes tokens))
     → IsNotWithout (AreLexemesBy texts file.grammar.tokens) → IsNotWithout (IsWrongText file texts weigh chosen)
 some_text_of file texts weigh chosen some_rendering some_lexemes none =

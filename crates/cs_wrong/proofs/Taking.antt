@@ -15,7 +15,7 @@ use Rattle.cs_wrong.specs.Coming.{CanTake, IsCandidate, Meets, PlainComing, Take
 use Rattle.cs_wrong.specs.Found.{AreTokensOf, IsFitting, TellsList, tokens_in}
 use Rattle.cs_wrong.specs.declared.coming.Candidate.{Candidate}
 use Rattle.cs_wrong.specs.Slips.{IsSlip, slips}
-use Rattle.cs_wrong.specs.declared.slip.Chosen.{Chosen}
+use Rattle.cs_choices.specs.declared.slips.Slips.{Slips}
 use Rattle.cs_wrong.specs.declared.slip.Slip.{Slip}
 use Rattle.cs_wrong.specs.declared.slip.Slip.TheVariants.{Empty, Of}
 
@@ -87,12 +87,12 @@ module _ (v : Weighed) where
 
 -- ---- all slips of a grammar
 
-slip_fits : (g : PlainGrammar) (c : Chosen) (s : Slip) → IsSlip g c s → IsFitting g s
+slip_fits : (g : PlainGrammar) (c : Slips) (s : Slip) → IsSlip g c s → IsFitting g s
 slip_fits g c Empty is = tt
 slip_fits g c (Of r change) is = (is.0, is.1, is.2)
 
 -- none was taken
-pub can_all : (v : Weighed) (c : Chosen) → HasExactly (slips v.grammar c) (IsSlip v.grammar c) → CanTake v (all_coming (slips v.grammar c))
+pub can_all : (v : Weighed) (c : Slips) → HasExactly (slips v.grammar c) (IsSlip v.grammar c) → CanTake v (all_coming (slips v.grammar c))
 can_all v c exact = record {
   knows = λ list. ((λ there. absurd (let w = there.1 in omega arith)), (λ is. absurd (let w = is.2 in omega arith)));
   fitting = λ k d within. slip_fits v.grammar c (get_or (slips v.grammar c) k d) ((exact (get_or (slips v.grammar c) k d)).0 (Contains-get_or (slips v.grammar c) k d within));

@@ -3,7 +3,7 @@ use Rattle.std.specs.Prelude.{◌≡◌, Bool, ℕ, List, [], ◌++◌, if◌the
 use Rattle.cs_grammar.specs.declared.symbol.Symbol.{Symbol}
 use Rattle.cs_wrong.specs.Slips.{slips_in}
 use Rattle.cs_wrong.specs.declared.slip.Change.{Change}
-use Rattle.cs_wrong.specs.declared.slip.Chosen.{Chosen}
+use Rattle.cs_choices.specs.declared.slips.Slips.{Slips}
 use Rattle.cs_wrong.specs.declared.slip.Slip.{Slip}
 use Rattle.cs_wrong.specs.declared.slip.Slip.TheVariants.{Of}
 
@@ -12,5 +12,5 @@ abbrev pub PutsIf : ℕ → Bool → List Change → List Slip → List Slip →
 PutsIf r chosen changes old new = new ≡ old ++ map (Of r) (if chosen then changes else [])
 
 -- those of a rule with this right side were
-abbrev pub PutsRule : ℕ → Chosen → List Symbol → List Slip → List Slip → Type 0
+abbrev pub PutsRule : ℕ → Slips → List Symbol → List Slip → List Slip → Type 0
 PutsRule r chosen right old new = new ≡ old ++ slips_in chosen (r, record { left = 0; right = right })

@@ -8,7 +8,7 @@ use Rattle.cs_grammar.specs.declared.symbol.Symbol.{Symbol}
 use Rattle.cs_grammar.specs.declared.symbol.Symbol.TheVariants.{Token, Nonterminal}
 use Rattle.cs_wrong.specs.declared.slip.Change.{Change}
 use Rattle.cs_wrong.specs.declared.slip.Change.TheVariants.{Drop, Double, Swap}
-use Rattle.cs_wrong.specs.declared.slip.Chosen.{Chosen}
+use Rattle.cs_choices.specs.declared.slips.Slips.{Slips}
 use Rattle.cs_wrong.specs.declared.slip.Slip.{Slip}
 use Rattle.cs_wrong.specs.declared.slip.Slip.TheVariants.{Empty, Of}
 
@@ -33,13 +33,13 @@ IsChangeOf xs (Double i) = IsNumberOf (length xs) i
 IsChangeOf xs (Swap i) = IsNumberOf (length xs - 1) i × (slice_get xs (i - 1) ≢ slice_get xs i)
 
 -- the change is of a chosen kind
-abbrev pub IsOfChosen : Chosen → Change → Type 0
+abbrev pub IsOfChosen : Slips → Change → Type 0
 IsOfChosen c (Drop i) = IsTrue c.drops
 IsOfChosen c (Double i) = IsTrue c.doubles
 IsOfChosen c (Swap i) = IsTrue c.swaps
 
 -- a slip of the grammar by the chosen kinds: the empty one, whatever they are, or a change of a rule
-abbrev pub IsSlip : PlainGrammar → Chosen → Slip → Type 0
+abbrev pub IsSlip : PlainGrammar → Slips → Slip → Type 0
 IsSlip g c Empty = Unit {0}
 IsSlip g c (Of r change) = (p : Production) × IsRule g r p × IsChangeOf p.right change × IsOfChosen c change
 
@@ -65,23 +65,23 @@ doubles_of xs = map Double (range_with_len 1 (length xs))
 abbrev pub swaps_of : List Symbol → List Change
 swaps_of xs = map Swap (filter (differ_at xs) (range_with_len 1 (length xs - 1)))
 
-abbrev pub changes_of : Chosen → List Symbol → List Change
+abbrev pub changes_of : Slips → List Symbol → List Change
 changes_of c xs =
     (if c.drops then drops_of xs else []) ++ (if c.doubles then doubles_of xs else []) ++ (if c.swaps then swaps_of xs else [])
 
 -- those of a rule
-abbrev pub slips_in : Chosen → ℕ × Production → List Slip
+abbrev pub slips_in : Slips → ℕ × Production → List Slip
 slips_in c (r, p) = map (Of r) (changes_of c p.right)
 
 -- the empty one, and then those of each rule
-abbrev pub slips : PlainGrammar → Chosen → List Slip
+abbrev pub slips : PlainGrammar → Slips → List Slip
 slips g c = Empty ∷ flat_map (slips_in c) (enumerate_from 1 g.rules)
 
 -- ---- laws
 
 -- each slip stands in the list once, and nothing else stands there
-abbrev pub HasEachSlip : PlainGrammar → Chosen → Type 0
+abbrev pub HasEachSlip : PlainGrammar → Slips → Type 0
 HasEachSlip g c = HasExactly (slips g c) (IsSlip g c)
 
-abbrev pub HasNoSlipTwice : PlainGrammar → Chosen → Type 0
+abbrev pub HasNoSlipTwice : PlainGrammar → Slips → Type 0
 HasNoSlipTwice g c = AllPairs (λ a b. a ≢ b) (slips g c)

@@ -22,7 +22,7 @@ use Rattle.cs_wrong.specs.declared.class.SlipClass.{SlipClass}
 use Rattle.cs_wrong.specs.declared.class.SlipClass.TheVariants.{Nothing, Large, Again, Pair, Long, Sentence, Outside}
 use Rattle.cs_wrong.specs.declared.slip.Change.{Change}
 use Rattle.cs_wrong.specs.declared.slip.Change.TheVariants.{Drop, Double, Swap}
-use Rattle.cs_wrong.specs.declared.slip.Chosen.{Chosen}
+use Rattle.cs_choices.specs.declared.slips.Slips.{Slips}
 use Rattle.cs_wrong.specs.declared.slip.Slip.{Slip}
 use Rattle.cs_wrong.specs.declared.slip.Slip.TheVariants.{Empty, Of}
 
@@ -107,7 +107,7 @@ abbrev pub weighed_by : Weigh → File → Option (List (Option (List ℕ))) →
 weighed_by weigh file lexemes = weighed file.grammar (measure_of weigh file.grammar.tokens lexemes)
 
 -- The text is that of `wrong` for the file, with the chosen kinds of slips.
-pub record IsWrongText (file : File) (texts : Option Texts) (weigh : Weigh) (chosen : Chosen) (text : List ℕ) : Type 0 where
+pub record IsWrongText (file : File) (texts : Option Texts) (weigh : Weigh) (chosen : Slips) (text : List ℕ) : Type 0 where
   pub lexemes : Option (List (Option (List ℕ)))
   pub entries : List SlipEntry
   pub are_lexemes : AreLexemesBy texts file.grammar.tokens lexemes
@@ -128,7 +128,7 @@ HaveLexemes file work = AreLexemes (scanning work.scanner.now) file.grammar.toke
 abbrev pub IsWeighedBy : Weigh → File → RenderWork → Measure → Type 0
 IsWeighedBy weigh file work weights = weights ≡ measure_of weigh file.grammar.tokens (Some work.lexemes.now)
 
-abbrev pub IsWrongOf : File → RenderWork → Weigh → Chosen → List ℕ → Type 0
+abbrev pub IsWrongOf : File → RenderWork → Weigh → Slips → List ℕ → Type 0
 IsWrongOf file work weigh chosen text = IsWrongText file (Some (texts_of work)) weigh chosen text
 
 -- ---- laws
@@ -138,7 +138,7 @@ abbrev pub AreNoSentences : File → List SlipEntry → Type 0
 AreNoSentences file entries = All (λ e. IsSentence file.grammar e.tokens → ⊥) (wrong_ones entries)
 
 -- in none of the file's texts
-abbrev pub WritesNoSentence : File → Chosen → Type 0
+abbrev pub WritesNoSentence : File → Slips → Type 0
 WritesNoSentence file chosen =
     (texts : Option Texts) (weigh : Weigh) (text : List ℕ) → (is : IsWrongText file texts weigh chosen text) → AreNoSentences file is.entries
 
@@ -147,16 +147,16 @@ abbrev pub IsAmong : List SlipEntry → List ℕ → Type 0
 IsAmong entries list = Any (λ e. e.tokens ≡ list) (wrong_ones entries)
 
 -- each list of a slip that is outside the language for sure is written, and none is written twice
-pub record AreEachOnce (of : Weighed) (chosen : Chosen) (entries : List SlipEntry) : Type 0 where
+pub record AreEachOnce (of : Weighed) (chosen : Slips) (entries : List SlipEntry) : Type 0 where
   pub once : AllPairs (λ a b. a ≢ b) (map (λ e. e.tokens) (wrong_ones entries))
   pub all : (slip : Slip) (list : List ℕ) → IsSlip of.grammar chosen slip → IsListOf of slip list → IsOutsideForSure of.grammar list → IsAmong entries list
 
-abbrev pub WritesEachOnce : File → Chosen → Type 0
+abbrev pub WritesEachOnce : File → Slips → Type 0
 WritesEachOnce file chosen =
     (texts : Option Texts) (weigh : Weigh) (text : List ℕ) → (is : IsWrongText file texts weigh chosen text) → AreEachOnce (weighed_by weigh file is.lexemes) chosen is.entries
 
-abbrev pub HasOneWrongText : File → Chosen → Type 0
+abbrev pub HasOneWrongText : File → Slips → Type 0
 HasOneWrongText file chosen = (texts : Option Texts) (weigh : Weigh) → IsOne (IsWrongText file texts weigh chosen)
 
-abbrev pub HasSomeWrongText : File → Chosen → Type 0
+abbrev pub HasSomeWrongText : File → Slips → Type 0
 HasSomeWrongText file chosen = (texts : Option Texts) (weigh : Weigh) → IsNotWithout (IsWrongText file texts weigh chosen)

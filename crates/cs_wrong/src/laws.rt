@@ -8,7 +8,7 @@ ghost use Rattle.cs_wrong.specs.Lists.{HasOneList};
 ghost use Rattle.cs_wrong.specs.Slips.{HasEachSlip, HasNoSlipTwice};
 ghost use Rattle.cs_wrong.specs.Text.{AddsUp, HasOneWrongText, HasSomeWrongText, SlipEntry};
 ghost use Rattle.cs_wrong.specs.Text.{WritesEachOnce, WritesNoSentence};
-ghost use Rattle.cs_wrong.specs.declared.slip.Chosen.{Chosen};
+ghost use Rattle.cs_choices.specs.declared.slips.Slips.{Slips};
 ghost use Rattle.cs_wrong.specs.declared.slip.Slip.{Slip};
 ghost use Rattle.cs_yacc.specs.Reading.File.{File};
 
@@ -18,8 +18,8 @@ use cs_texts::some_rendering;
 
 /// Each slip of a grammar stands in the list of its slips once, and nothing else stands there.
 pub fn each_slip_once()
-    ensures once { (g : PlainGrammar) (chosen : Chosen) → HasNoSlipTwice g chosen }
-    ensures all { (g : PlainGrammar) (chosen : Chosen) → HasEachSlip g chosen }
+    ensures once { (g : PlainGrammar) (chosen : Slips) → HasNoSlipTwice g chosen }
+    ensures all { (g : PlainGrammar) (chosen : Slips) → HasEachSlip g chosen }
 {}
 
 /// A slip has at most one list.
@@ -31,13 +31,13 @@ pub fn one_list_of_slip()
 pub fn wrong_lists_are_no_sentences()
     ensures slips { (v : Weighed) (earlier : List Slip) (slip : Slip)
         → IsNoSentence v earlier slip }
-    ensures texts { (file : File) (chosen : Chosen) → WritesNoSentence file chosen }
+    ensures texts { (file : File) (chosen : Slips) → WritesNoSentence file chosen }
 {}
 
 /// Each list of a slip that has a poisoned pair, or has at most 2,000 tokens and is no sentence, is written, and none is
 /// written twice.
 pub fn each_wrong_list_once()
-    ensures { (file : File) (chosen : Chosen) → WritesEachOnce file chosen }
+    ensures { (file : File) (chosen : Slips) → WritesEachOnce file chosen }
 {}
 
 /// The counts of the six classes add up to that of the slips.
@@ -47,14 +47,14 @@ pub fn slips_add_up()
 
 /// A file has at most one text of `wrong` with the chosen kinds of slips.
 pub fn one_wrong_text()
-    ensures { (file : File) (chosen : Chosen) → HasOneWrongText file chosen }
+    ensures { (file : File) (chosen : Slips) → HasOneWrongText file chosen }
 {
     one_text();
 }
 
 /// No file is without a text of `wrong`.
 pub fn some_wrong_text()
-    ensures { (file : File) (chosen : Chosen) → HasSomeWrongText file chosen }
+    ensures { (file : File) (chosen : Slips) → HasSomeWrongText file chosen }
 {
     some_list_of_lexemes();
     some_rendering();

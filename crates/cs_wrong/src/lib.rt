@@ -43,6 +43,6 @@ pub use laws::{
     some_wrong_text, wrong_lists_are_no_sentences,
 };
 pub use lists::{SlipList, list_of};
-pub use slip::{Change, Chosen, Slip};
+pub use slip::{Change, Slip};
 pub use slips::slips_of;
 pub use writing::{Wrong, write_wrong};

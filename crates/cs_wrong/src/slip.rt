@@ -19,11 +19,3 @@ pub enum Slip {
     /// The rule of this number, counted from 1, is changed.
     Of { rule: u16, change: Change },
 }
-
-/// Which kinds of changes are wanted.
-#[derive(Clone, Copy, Debug, PartialEq, Eq)]
-pub struct Chosen {
-    pub drops: bool,
-    pub doubles: bool,
-    pub swaps: bool,
-}

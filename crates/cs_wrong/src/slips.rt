@@ -4,13 +4,14 @@ ghost use Rattle.std.specs.Prelude.{◌≡◌, ◌≤◌, IfOk, OnOk, length, no
 ghost use Rattle.cs_wrong.specs.Put.{PutsIf, PutsRule};
 ghost use Rattle.cs_wrong.specs.Slips.{doubles_of, drops_of, same_symbol, slips, swaps_of};
 
-use crate::slip::{Change, Chosen, Slip};
+use crate::slip::{Change, Slip};
+use cs_choices::Slips;
 use cs_grammar::{Grammar, Symbol, number_of};
 use std::alloc::{AllocError, Global};
 
 /// The slips of a grammar by the chosen kinds: the empty one first, then rule by rule those of each kind, in the order of
 /// `Change`, by ascending places.
-pub fn slips_of(alloc: Global, grammar: &Grammar, chosen: Chosen) -> Result<Vec<Slip>, AllocError>
+pub fn slips_of(alloc: Global, grammar: &Grammar, chosen: Slips) -> Result<Vec<Slip>, AllocError>
     ensures { IfOk result (λ list. list.items ≡ slips grammar.now chosen) }
 {
     let mut list = Vec::new(alloc);
@@ -25,7 +26,7 @@ pub fn slips_of(alloc: Global, grammar: &Grammar, chosen: Chosen) -> Result<Vec<
 fn put_slips(
     rule: u16,
     right: &[Symbol],
-    chosen: Chosen,
+    chosen: Slips,
     list: &mut Vec<Slip>,
 ) -> Result<(), AllocError>
     requires { length right.now ≤ 128 }

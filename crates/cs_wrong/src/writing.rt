@@ -13,10 +13,10 @@ use crate::coming::{Coming, next_batch};
 use crate::judging::{WrongWork, judge_batch};
 use crate::laws::{each_slip_once, one_wrong_text, some_wrong_text};
 use crate::lines::{write_end, write_entries, write_head};
-use crate::slip::{Chosen, Slip};
+use crate::slip::Slip;
 use crate::slips::slips_of;
 use crate::tally::Tally;
-use cs_choices::Weigh;
+use cs_choices::{Slips, Weigh};
 use cs_fan::Gate;
 use cs_grammar::Weights;
 use cs_io::{BufferedSink, Halt, Sink};
@@ -39,7 +39,7 @@ pub struct Wrong<'a> {
     pub yacc: &'a YaccFile,
     pub weights: &'a Weights,
     pub weigh: Weigh,
-    pub chosen: Chosen,
+    pub chosen: Slips,
     pub work: &'a RenderWork<'a>,
 }
 

@@ -2,7 +2,7 @@
 
 ghost use Rattle.cs_wrong.specs.Text.{HaveLexemes};
 
-use cs_choices::Weigh;
+use cs_choices::{Slips, Weigh};
 use cs_fan::OpenGate;
 use cs_grammar::Weights;
 use cs_io::{Halt, MemorySink};
@@ -11,7 +11,7 @@ use cs_sample_files::{Trouble, read_files};
 use cs_samples::{SCANNER, SUMS};
 use cs_scanner::{Automaton, Lexemes, Scanner};
 use cs_texts::RenderWork;
-use cs_wrong::{Chosen, Wrong, write_wrong};
+use cs_wrong::{Wrong, write_wrong};
 use cs_yacc::YaccFile;
 use std::alloc::{AllocError, Global};
 use std::test::Fail;
@@ -197,13 +197,13 @@ wrong 11 rule 4 swap 2 pair '(' ')' at 1
 end slips 13 none 0 large 0 again 2 long 0 sentences 0 wrong 11
 ";
 
-const ALL: Chosen = Chosen {
+const ALL: Slips = Slips {
     drops: true,
     doubles: true,
     swaps: true,
 };
 
-const SOME: Chosen = Chosen {
+const SOME: Slips = Slips {
     drops: true,
     doubles: false,
     swaps: true,
@@ -218,7 +218,7 @@ fn write<'f, R: Threads + Sync>(
     rt: &R,
     alloc: Global,
     yacc: &YaccFile,
-    chosen: Chosen,
+    chosen: Slips,
     work: &'f RenderWork<'f>,
     out: &mut MemorySink,
 ) -> Result<Result<(), Halt>, AllocError>
@@ -242,7 +242,7 @@ fn write_texts<R: Threads + Sync>(
     yacc: &YaccFile,
     lex: &LexFile,
     separator: &[u8],
-    chosen: Chosen,
+    chosen: Slips,
     out: &mut MemorySink,
 ) -> Result<Result<(), Halt>, Trouble> {
     let automaton = Automaton::new(alloc, lex.patterns())?;

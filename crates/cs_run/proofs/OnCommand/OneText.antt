@@ -11,20 +11,22 @@ use Rattle.cs_manifest.specs.declared.manifest.counts.Counts.{Counts}
 use Rattle.cs_chain_text.specs.Text.{IsChainsText}
 use Rattle.cs_choices.specs.declared.weigh.Weigh.{Weigh}
 use Rattle.cs_choices.specs.declared.weigh.Weigh.TheVariants.{Nodes}
+use Rattle.cs_choices.specs.declared.slips.Slips.{Slips}
 use Rattle.cs_manifest.specs.Manifest.Manifest.{Texts}
 use Rattle.cs_spell.specs.Spelling.{IsSpelling}
 use Rattle.cs_deep.specs.Deep.{IsDeepText}
 use Rattle.cs_lexical.specs.Lines.{IsLexical}
+use Rattle.cs_wrong.specs.Text.{IsWrongText}
 use Rattle.cs_scanner.specs.Scan.Scan.{Scanning}
 use Rattle.cs_manifest.specs.Manifest.Manifest.{Choice, IsManifest, rules_form}
-use Rattle.cs_run.specs.declared.words.command.Command.{Command}
-use Rattle.cs_run.specs.declared.words.command.Command.TheVariants.{Gen, Member, OfGrammar, OfPair}
-use Rattle.cs_run.specs.declared.words.command.GrammarCommand.{GrammarCommand}
-use Rattle.cs_run.specs.declared.words.command.GrammarCommand.TheVariants as of_grammar
-use Rattle.cs_run.specs.declared.words.command.PairCommand.{PairCommand}
-use Rattle.cs_run.specs.declared.words.command.PairCommand.TheVariants as of_pair
-use Rattle.cs_run.specs.declared.words.options.Options.{Options}
-use Rattle.cs_run.specs.Words.Requests.{Names, Number, PlainArguments, PlainRequest}
+use Rattle.cs_words.specs.declared.command.Command.{Command}
+use Rattle.cs_words.specs.declared.command.Command.TheVariants.{Gen, Member, OfGrammar, OfPair}
+use Rattle.cs_words.specs.declared.command.GrammarCommand.{GrammarCommand}
+use Rattle.cs_words.specs.declared.command.GrammarCommand.TheVariants as of_grammar
+use Rattle.cs_words.specs.declared.command.PairCommand.{PairCommand}
+use Rattle.cs_words.specs.declared.command.PairCommand.TheVariants as of_pair
+use Rattle.cs_words.specs.declared.options.Options.{Options}
+use Rattle.cs_words.specs.Requests.{Names, Number, PlainArguments, PlainRequest}
 use Rattle.cs_run.specs.declared.input.judging.Meant.{Meant}
 use Rattle.cs_run.specs.declared.input.judging.Meant.TheVariants.{Grammar, Nothing, Pair, Text}
 use Rattle.cs_run.specs.Input.Files.{Content}
@@ -41,7 +43,8 @@ module _ (one : (choice : Choice) (file : yacc.File) → AtMostOne (IsManifest c
     (one_lexical : (file : yacc.File) (s : Scanning) → AtMostOne (IsLexical file s))
     (one_spelled : (file : yacc.File) (texts : Texts) (weigh : Weigh) → AtMostOne (IsSpelling file texts weigh))
     (one_deep_text : (choice : Choice) (file : yacc.File) → AtMostOne (IsDeepText choice file))
-    (one_chains : (file : yacc.File) (texts : Option Texts) (weigh : Weigh) → AtMostOne (IsChainsText file texts weigh)) where
+    (one_chains : (file : yacc.File) (texts : Option Texts) (weigh : Weigh) → AtMostOne (IsChainsText file texts weigh))
+    (one_wrong : (file : yacc.File) (chosen : Slips) (texts : Option Texts) (weigh : Weigh) → AtMostOne (IsWrongText file texts weigh chosen)) where
   one_suite : (options : Options) (bytes more a b : List ℕ) → IsSuiteText options a bytes more → IsSuiteText options b bytes more → a ≡ b
   unfolding IsSuiteText
   one_suite options bytes more a b x y =
@@ -67,6 +70,7 @@ module _ (one : (choice : Choice) (file : yacc.File) → AtMostOne (IsManifest c
   one_of_pair of_pair.Spell options file s = one_spelled file (texts_by options s) options.weigh
   one_of_pair of_pair.Deep options file s = one_deep_text (deep_choice options s) file
   one_of_pair of_pair.Chains options file s = one_chains file (Some (texts_by options s)) options.weigh
+  one_of_pair of_pair.Wrong options file s = one_wrong file options.slips (Some (texts_by options s)) options.weigh
 
   one_by : (command : Command) (arguments : PlainArguments) (options : Options) (meant : Meant) → ¬ (command ≡ Member) → (a b : List ℕ)
       → IsTextBy command arguments options meant a → IsTextBy command arguments options meant b → a ≡ b

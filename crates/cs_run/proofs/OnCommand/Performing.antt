@@ -15,18 +15,18 @@ use Rattle.cs_run.specs.Input.Files.{AreContents, Content, HaveContents, IsMeant
 use Rattle.cs_run.specs.Input.Read.{AreMeant}
 use Rattle.cs_run.specs.Input.Refusal.{HasManyStates, Stops}
 use Rattle.cs_yacc.specs.Reading.File.{File}
-use Rattle.cs_run.specs.declared.words.command.Command.{Command}
-use Rattle.cs_run.specs.declared.words.command.Command.TheVariants.{Gen, Member, OfGrammar, OfPair}
-use Rattle.cs_run.specs.declared.words.command.GrammarCommand.{GrammarCommand}
-use Rattle.cs_run.specs.declared.words.command.GrammarCommand.TheVariants as of_grammar
-use Rattle.cs_run.specs.declared.words.command.PairCommand.{PairCommand}
-use Rattle.cs_run.specs.declared.words.command.PairCommand.TheVariants as of_pair
-use Rattle.cs_run.specs.declared.words.command.Role.{Role}
-use Rattle.cs_run.specs.declared.words.command.Role.TheVariants.{Lex, Text as TextRole, Yacc}
-use Rattle.cs_run.specs.declared.words.options.Options.{Options}
-use Rattle.cs_run.specs.Words.Commands.{lists_chains, taken_of}
-use Rattle.cs_run.specs.Words.Requests.{IsAsked, Named, Names, Number, PlainArguments, PlainRequest, files_of}
-use Rattle.cs_run.proofs.OnWords.OneRequest.{one_asked}
+use Rattle.cs_words.specs.declared.command.Command.{Command}
+use Rattle.cs_words.specs.declared.command.Command.TheVariants.{Gen, Member, OfGrammar, OfPair}
+use Rattle.cs_words.specs.declared.command.GrammarCommand.{GrammarCommand}
+use Rattle.cs_words.specs.declared.command.GrammarCommand.TheVariants as of_grammar
+use Rattle.cs_words.specs.declared.command.PairCommand.{PairCommand}
+use Rattle.cs_words.specs.declared.command.PairCommand.TheVariants as of_pair
+use Rattle.cs_words.specs.declared.command.Role.{Role}
+use Rattle.cs_words.specs.declared.command.Role.TheVariants.{Lex, Text as TextRole, Yacc}
+use Rattle.cs_words.specs.declared.options.Options.{Options}
+use Rattle.cs_words.specs.Commands.{lists_chains, taken_of}
+use Rattle.cs_words.specs.Requests.{IsAsked, Named, Names, Number, PlainArguments, PlainRequest, files_of}
+use Rattle.cs_words.proofs.OneRequest.{one_asked}
 use Rattle.cs_run.specs.declared.ending.ending.Ending.{Ending}
 use Rattle.cs_run.specs.declared.ending.ending.Ending.TheVariants.{BadWord, Written, Refused, NoFile, NotWritten, NoMemory}
 use Rattle.cs_run.specs.Ending.Ending.{Ends, GrewAsAsked, Performs}

@@ -15,9 +15,9 @@ use Rattle.cs_run.specs.declared.ending.ending.Ending.{Ending}
 use Rattle.cs_run.specs.declared.input.judging.Pair as pair
 use Rattle.cs_run.specs.declared.input.refusal.Refusal.{Refusal}
 use Rattle.cs_run.specs.declared.input.refusal.Refusal.TheVariants.{States}
-use Rattle.cs_run.specs.declared.words.command.Command.{Command}
+use Rattle.cs_words.specs.declared.command.Command.{Command}
 use Rattle.cs_run.specs.Command.Carrying.{GrewByEach, HasTooManyChains, Writes, WritesOfGrammar}
-use Rattle.cs_run.specs.Words.Commands.{lists_chains}
+use Rattle.cs_words.specs.Commands.{lists_chains}
 use Rattle.cs_run.specs.Command.Words.{ending_after, ending_by}
 use Rattle.cs_run.specs.Ending.Files.{HasFewChains, scanning_of}
 use Rattle.cs_scanner.specs.Scan.Scan.{Gives, Runs, Scanning, ends, given, goes_on, stops}

@@ -6,9 +6,9 @@ use Rattle.cs_io.specs.Uses.{Change, HasFailed}
 use Rattle.cs_yacc.specs.Reading.File as yacc_file
 use Rattle.cs_yacc.proofs.OnReading.OneFile as yacc
 use Rattle.cs_lex.proofs.OnReading.OneRefusal as lex_refusal
-use Rattle.cs_run.specs.declared.words.command.Command.{Command}
-use Rattle.cs_run.specs.declared.words.command.Role.{Role}
-use Rattle.cs_run.specs.Words.Requests.{Named, PlainRequest, files_of}
+use Rattle.cs_words.specs.declared.command.Command.{Command}
+use Rattle.cs_words.specs.declared.command.Role.{Role}
+use Rattle.cs_words.specs.Requests.{Named, PlainRequest, files_of}
 use Rattle.cs_run.specs.declared.input.judging.Meant.{Meant}
 use Rattle.cs_run.specs.declared.input.judging.Meant.TheVariants.{Grammar, Nothing, Pair, Text}
 use Rattle.cs_run.specs.declared.input.judging.PairAndText.{PairAndText}

@@ -2,8 +2,8 @@
 use Rattle.std.proofs.Common.{◌≡◌, ◌⊎◌, ◌<◌, ◌≤◌, ℕ, Ok, Err, IsErr, IsOkAnd, Result, ap, sym, ◌∙◌, subst, inl, inr, refl, arith, rules}
 use Rattle.cs_io.specs.Faults.{greatest}
 use Rattle.cs_io.specs.Uses.{DeskUse, SinkUse, HasFailed, IsUnused}
-use Rattle.cs_run.specs.declared.words.command.Role.{Role}
-use Rattle.cs_run.specs.Words.Requests.{PlainRequest}
+use Rattle.cs_words.specs.declared.command.Role.{Role}
+use Rattle.cs_words.specs.Requests.{PlainRequest}
 use Rattle.cs_run.specs.declared.ending.ending.Ending.{Ending}
 use Rattle.cs_run.specs.declared.ending.ending.Ending.TheVariants.{Written, Refused, BadWord, NoFile, NotWritten, NoMemory}
 use Rattle.cs_run.specs.Ending.Ending.{Ends, IsReported, Performs, Says, WroteText, WrotePart, WrotePartOfAccepted, line_of, status_of}

@@ -2,11 +2,11 @@
 use Rattle.std.proofs.Common.{◌≡◌, ◌<◌, ◌≤◌, ℕ, List, [], ◌∷◌, length, refl, sym, ap, ◌∙◌, subst, arith}
 use Rattle.std.specs.Prelude.{String, get_or, string_bytes}
 use Rattle.std.specs.declared.alloc.Global.{Global}
-use Rattle.cs_run.specs.declared.words.command.Command.{Command}
-use Rattle.cs_run.specs.declared.words.command.Command.TheVariants.{Gen, Member, OfGrammar, OfPair}
-use Rattle.cs_run.specs.Words.Commands.{taken_of}
-use Rattle.cs_run.specs.Words.Requests.{Fit, Named, Names, PlainArguments, files_taken, lex_named, three_named, yacc_named}
-use Rattle.cs_run.specs.Words.Words.{texts}
+use Rattle.cs_words.specs.declared.command.Command.{Command}
+use Rattle.cs_words.specs.declared.command.Command.TheVariants.{Gen, Member, OfGrammar, OfPair}
+use Rattle.cs_words.specs.Commands.{taken_of}
+use Rattle.cs_words.specs.Requests.{Fit, Named, Names, PlainArguments, files_taken, lex_named, three_named, yacc_named}
+use Rattle.cs_words.specs.Words.{texts}
 use Rattle.cs_run.specs.declared.input.judging.Meant.TheVariants.{Grammar, Pair, Text}
 use Rattle.cs_run.specs.declared.input.judging.PairAndText.{PairAndText}
 use Rattle.cs_run.specs.declared.input.judging.Pair as pair

@@ -11,7 +11,7 @@ use Rattle.cs_lex.specs.Reading.File as lex
 use Rattle.cs_lex.specs.declared.reading.error.LexError.{LexError}
 use Rattle.cs_lex.specs.declared.reading.error.LexError.TheVariants.{Memory as LexMemory}
 use Rattle.cs_lex.specs.Reading.Reading.{RefusesOrMemory}
-use Rattle.cs_run.specs.Words.Requests.{Named, lex_named, three_named, yacc_named}
+use Rattle.cs_words.specs.Requests.{Named, lex_named, three_named, yacc_named}
 use Rattle.cs_run.specs.declared.input.judging.Meant.{Meant}
 use Rattle.cs_run.specs.declared.input.judging.Meant.TheVariants.{Pair as PairOf, Text}
 use Rattle.cs_run.specs.declared.input.judging.PairAndText.{PairAndText}

@@ -5,7 +5,7 @@ use Rattle.cs_yacc.specs.Reading.File.{File}
 use Rattle.cs_lex.specs.Reading.File as lex
 use Rattle.cs_pattern_parts.specs.declared.tree.kind.Kind.{Kind}
 use Rattle.cs_pattern_parts.specs.Tree.Pattern.{Regex}
-use Rattle.cs_run.specs.declared.words.options.Options.{Options}
+use Rattle.cs_words.specs.declared.options.Options.{Options}
 use Rattle.cs_run.specs.Ending.Files.{choice_of}
 
 -- what texts are made by

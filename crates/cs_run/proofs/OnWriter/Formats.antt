@@ -8,7 +8,7 @@ use Rattle.cs_manifest.specs.Manifest.Manifest.{Choice}
 use Rattle.cs_writing.specs.declared.plan.plan.Means.{Means}
 use Rattle.cs_writing.specs.Plan.Plans.{texts_of}
 use Rattle.cs_texts.specs.declared.work.work.RenderWork.{RenderWork}
-use Rattle.cs_run.specs.declared.words.options.Options.{Options}
+use Rattle.cs_words.specs.declared.options.Options.{Options}
 use Rattle.cs_run.specs.Writer.Suite.{choice_with, means_by}
 
 -- what a plan by these means chooses

@@ -15,11 +15,11 @@ use Rattle.cs_run.specs.declared.ending.ending.Ending.TheVariants.{BadWord, NoFi
 use Rattle.cs_run.specs.Ending.Ending.{GrewAsAsked}
 use Rattle.cs_run.specs.Ending.Files.{Accepted, HasFewChains, HasManyChains, IsBeyond, IsWithin, RefusesFor}
 use Rattle.cs_run.specs.Ending.Texts.{IsTextBy, IsTextOf}
-use Rattle.cs_run.specs.declared.words.command.Command.{Command}
-use Rattle.cs_run.specs.declared.words.command.Role.TheVariants.{Lex, Text as TextOf, Yacc}
-use Rattle.cs_run.specs.declared.words.options.Options.{Options}
-use Rattle.cs_run.specs.Words.Commands.{Files, taken_of}
-use Rattle.cs_run.specs.Words.Requests.{PlainArguments, PlainRequest}
+use Rattle.cs_words.specs.declared.command.Command.{Command}
+use Rattle.cs_words.specs.declared.command.Role.TheVariants.{Lex, Text as TextOf, Yacc}
+use Rattle.cs_words.specs.declared.options.Options.{Options}
+use Rattle.cs_words.specs.Commands.{Files, taken_of}
+use Rattle.cs_words.specs.Requests.{PlainArguments, PlainRequest}
 use Rattle.cs_yacc.specs.declared.reading.file.YaccFile.{YaccFile}
 use Rattle.cs_io.specs.Asked.{GrewByOne, GrewByPart, HasRoomForAll}
 

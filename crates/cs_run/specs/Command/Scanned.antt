@@ -23,14 +23,15 @@ use Rattle.cs_run.specs.declared.ending.ending.Ending.{Ending}
 use Rattle.cs_run.specs.declared.input.judging.Pair.{Pair}
 use Rattle.cs_run.specs.declared.input.judging.PairAndText.{PairAndText}
 use Rattle.cs_run.specs.declared.input.refusal.Refusal.TheVariants.{ManyChains, TextTokens}
-use Rattle.cs_run.specs.declared.words.command.Command.TheVariants.{Member, OfPair}
-use Rattle.cs_run.specs.declared.words.command.PairCommand.{PairCommand}
-use Rattle.cs_run.specs.declared.words.command.PairCommand.TheVariants as of_pair
-use Rattle.cs_run.specs.declared.words.options.Options.{Options}
+use Rattle.cs_words.specs.declared.command.Command.TheVariants.{Member, OfPair}
+use Rattle.cs_words.specs.declared.command.PairCommand.{PairCommand}
+use Rattle.cs_words.specs.declared.command.PairCommand.TheVariants as of_pair
+use Rattle.cs_words.specs.declared.options.Options.{Options}
 use Rattle.cs_run.specs.Command.Carrying.{GrewByEach, Writes, WritesByPair, WritesByText, WritesOfGrammar, WritesOfPair}
 use Rattle.cs_run.specs.Ending.Files.{scanning_of}
 use Rattle.cs_run.specs.Ending.Texts.{IsTextOfPair}
 use Rattle.cs_scanner.specs.Scan.Scan.{Scanning}
+use Rattle.cs_wrong.specs.Text.{IsWrongOf}
 use Rattle.cs_yacc.specs.Reading.File.{File}
 
 -- the report on the rules of the pair's lex file was written, and that ended so
@@ -69,6 +70,10 @@ WritesByScanner command options file s ending out =
 abbrev pub IsDeepBy : Asked → RenderWork → List ℕ → Type 0
 IsDeepBy a work text = IsDeepText (record (choice_with a.options.now work) { format = One }) a.yacc.now text
 
+-- the text is that of `wrong` by the options and these texts
+abbrev pub IsWrongBy : Asked → RenderWork → List ℕ → Type 0
+IsWrongBy a work text = IsWrongOf a.yacc.now work a.options.now.weigh a.options.now.slips text
+
 -- the same of a command that needs the lexemes of tokens, by a scanner, and by what renders texts
 abbrev pub WritesScanned : Asked → Scanner → Ending → SinkUse → Type 0
 WritesScanned a scanner ending out = WritesByScanner a.command a.options.now a.yacc.now (scanning scanner) ending out
@@ -94,4 +99,5 @@ abbrev pub NeedsLexemes : PairCommand → Type 0
 NeedsLexemes of_pair.Chains = Unit {0}
 NeedsLexemes of_pair.Spell = Unit {0}
 NeedsLexemes of_pair.Deep = Unit {0}
+NeedsLexemes of_pair.Wrong = Unit {0}
 NeedsLexemes command = ⊥

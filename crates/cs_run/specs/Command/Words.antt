@@ -10,8 +10,8 @@ use Rattle.cs_run.specs.declared.ending.ending.Ending.{Ending}
 use Rattle.cs_run.specs.declared.ending.ending.Ending.TheVariants.{NoFile, NoMemory, NotWritten, Refused, Written}
 use Rattle.cs_run.specs.Ending.Ending.{Performs}
 use Rattle.cs_run.specs.Ending.Headline.{KeepsPromises}
-use Rattle.cs_run.specs.Words.Requests.{IsAsked, PlainRequest, files_of}
-use Rattle.cs_run.specs.Words.Words.{IsFirstBad}
+use Rattle.cs_words.specs.Requests.{IsAsked, PlainRequest, files_of}
+use Rattle.cs_words.specs.Words.{IsFirstBad}
 use Rattle.cs_io.specs.declared.halt.Halt.{Halt}
 use Rattle.cs_io.specs.declared.halt.Halt.TheVariants as halt
 

@@ -5,10 +5,10 @@ use Rattle.cs_deep.specs.Membership.{GrewByFront}
 use Rattle.cs_io.specs.Sink.{GrewByPrefix}
 use Rattle.cs_io.specs.Asked.{GrewByPart}
 use Rattle.cs_io.specs.Uses.{DeskUse, SinkUse, HasFailed, IsUnused}
-use Rattle.cs_run.specs.declared.words.command.Command.{Command}
-use Rattle.cs_run.specs.declared.words.command.Command.TheVariants.{Member}
-use Rattle.cs_run.specs.declared.words.command.Role.{Role}
-use Rattle.cs_run.specs.Words.Requests.{PlainRequest, files_of}
+use Rattle.cs_words.specs.declared.command.Command.{Command}
+use Rattle.cs_words.specs.declared.command.Command.TheVariants.{Member}
+use Rattle.cs_words.specs.declared.command.Role.{Role}
+use Rattle.cs_words.specs.Requests.{PlainRequest, files_of}
 use Rattle.cs_run.specs.Input.Files.{Content, HaveContents}
 use Rattle.cs_run.specs.Input.Lines.{refusal_line, role_word}
 use Rattle.cs_run.specs.Input.Refusal.{IsTold}

@@ -7,11 +7,11 @@ use Rattle.cs_scanner.specs.Scan.Scan.{Scanning, Scans, StopsAt}
 use Rattle.cs_io.specs.Uses.{Change}
 use Rattle.cs_yacc.specs.Reading.File as yacc
 use Rattle.cs_lex.specs.Reading.File as lex
-use Rattle.cs_run.specs.declared.words.command.Command.{Command}
-use Rattle.cs_run.specs.declared.words.command.Role.{Role}
-use Rattle.cs_run.specs.declared.words.options.Options.{Options}
-use Rattle.cs_run.specs.Words.Commands.{lists_chains}
-use Rattle.cs_run.specs.Words.Requests.{PlainRequest, files_of}
+use Rattle.cs_words.specs.declared.command.Command.{Command}
+use Rattle.cs_words.specs.declared.command.Role.{Role}
+use Rattle.cs_words.specs.declared.options.Options.{Options}
+use Rattle.cs_words.specs.Commands.{lists_chains}
+use Rattle.cs_words.specs.Requests.{PlainRequest, files_of}
 use Rattle.cs_run.specs.declared.input.judging.Meant.{Meant}
 use Rattle.cs_run.specs.declared.input.judging.Meant.TheVariants.{Grammar, Nothing, Pair, Text}
 use Rattle.cs_run.specs.declared.input.judging.PairAndText.{PairAndText}

@@ -7,8 +7,8 @@ use Rattle.cs_manifest.specs.declared.manifest.counts.Counts.{Counts}
 use Rattle.cs_manifest.specs.Manifest.Counts.{end_of}
 use Rattle.cs_manifest.specs.Manifest.Lines.{numbered_word}
 use Rattle.cs_choices.specs.declared.format.Format.TheVariants.{One}
-use Rattle.cs_run.specs.declared.words.options.Options.{Options}
-use Rattle.cs_run.specs.Words.Options.{default_options}
+use Rattle.cs_words.specs.declared.options.Options.{Options}
+use Rattle.cs_words.specs.Options.{default_options}
 use Rattle.cs_run.specs.Ending.Files.{IsSuiteText}
 
 -- the lengths of the two files

@@ -2,20 +2,21 @@
 use Rattle.std.specs.Prelude.{◌≡◌, ◌⊎◌, ◌≤◌, ℕ, length, List, [], Option, None, Some, Result, IsOkAnd, IsSome}
 use Rattle.cs_grammar.specs.Laws.{AtMostOne}
 use Rattle.cs_io.specs.Desk.{Files}
-use Rattle.cs_run.specs.declared.words.command.Command.{Command}
-use Rattle.cs_run.specs.declared.words.command.Command.TheVariants.{Gen, Member, OfGrammar, OfPair}
-use Rattle.cs_run.specs.declared.words.command.GrammarCommand.{GrammarCommand}
-use Rattle.cs_run.specs.declared.words.command.GrammarCommand.TheVariants as of_grammar
-use Rattle.cs_run.specs.declared.words.command.PairCommand.{PairCommand}
-use Rattle.cs_run.specs.declared.words.command.PairCommand.TheVariants as of_pair
-use Rattle.cs_run.specs.declared.words.options.Options.{Options}
-use Rattle.cs_run.specs.Words.Requests.{Number, PlainArguments, PlainRequest, files_of}
+use Rattle.cs_words.specs.declared.command.Command.{Command}
+use Rattle.cs_words.specs.declared.command.Command.TheVariants.{Gen, Member, OfGrammar, OfPair}
+use Rattle.cs_words.specs.declared.command.GrammarCommand.{GrammarCommand}
+use Rattle.cs_words.specs.declared.command.GrammarCommand.TheVariants as of_grammar
+use Rattle.cs_words.specs.declared.command.PairCommand.{PairCommand}
+use Rattle.cs_words.specs.declared.command.PairCommand.TheVariants as of_pair
+use Rattle.cs_words.specs.declared.options.Options.{Options}
+use Rattle.cs_words.specs.Requests.{Number, PlainArguments, PlainRequest, files_of}
 use Rattle.cs_chain_text.specs.Text.{IsChainsText}
 use Rattle.cs_choices.specs.declared.weigh.Weigh.TheVariants.{Nodes}
 use Rattle.cs_deep.specs.Membership.{IsMemberText}
 use Rattle.cs_spell.specs.Spelling.{IsSpelling}
 use Rattle.cs_deep.specs.Deep.{IsDeepText}
 use Rattle.cs_lexical.specs.Lines.{IsLexical}
+use Rattle.cs_wrong.specs.Text.{IsWrongText}
 use Rattle.cs_manifest.specs.Manifest.Manifest.{IsManifest, rules_form}
 use Rattle.cs_scanner.specs.Scan.Scan.{Scanning, Scans}
 use Rattle.cs_yacc.specs.Reading.File.{File}
@@ -37,6 +38,7 @@ IsTextOfPair of_pair.Lexical options file s text = IsLexical file s text
 IsTextOfPair of_pair.Spell options file s text = IsSpelling file (texts_by options s) options.weigh text
 IsTextOfPair of_pair.Deep options file s text = IsDeepText (deep_choice options s) file text
 IsTextOfPair of_pair.Chains options file s text = IsChainsText file (Some (texts_by options s)) options.weigh text
+IsTextOfPair of_pair.Wrong options file s text = IsWrongText file (Some (texts_by options s)) options.weigh options.slips text
 
 -- the text is what a command asks for, by what it was given, its options and what its files mean
 abbrev pub IsTextBy : Command → PlainArguments → Options → Meant → List ℕ → Type 0

@@ -7,10 +7,10 @@ use Rattle.cs_yacc.specs.Reading.File as yacc
 use Rattle.cs_yacc.specs.Reading.Reading.{IsYaccFile}
 use Rattle.cs_lex.specs.Reading.File as lex
 use Rattle.cs_lex.specs.Reading.Reading.{IsLexFile}
-use Rattle.cs_run.specs.declared.words.command.Role.{Role}
-use Rattle.cs_run.specs.declared.words.command.Role.TheVariants as roles
-use Rattle.cs_run.specs.Words.Commands as taken
-use Rattle.cs_run.specs.Words.Requests.{Named, Names, Number, PlainArguments}
+use Rattle.cs_words.specs.declared.command.Role.{Role}
+use Rattle.cs_words.specs.declared.command.Role.TheVariants as roles
+use Rattle.cs_words.specs.Commands as taken
+use Rattle.cs_words.specs.Requests.{Named, Names, Number, PlainArguments}
 use Rattle.cs_run.specs.declared.input.judging.Meant.{Meant}
 use Rattle.cs_run.specs.declared.input.judging.Meant.TheVariants.{Grammar, Nothing, Pair, Text}
 use Rattle.cs_run.specs.declared.input.refusal.Stop.{Stop}

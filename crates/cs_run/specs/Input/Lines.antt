@@ -13,8 +13,8 @@ use Rattle.cs_lex.specs.declared.reading.error.LexLimit.{LexLimit}
 use Rattle.cs_lex.specs.declared.reading.error.LexLimit.TheVariants as counted_lex
 use Rattle.cs_run.specs.declared.input.refusal.Refusal.{Refusal}
 use Rattle.cs_run.specs.declared.input.refusal.Refusal.TheVariants.{ManyChains, OfLex, OfYacc, States, TextStops, TextTokens, TooLong}
-use Rattle.cs_run.specs.declared.words.command.Role.{Role}
-use Rattle.cs_run.specs.declared.words.command.Role.TheVariants.{Lex, Text, Yacc}
+use Rattle.cs_words.specs.declared.command.Role.{Role}
+use Rattle.cs_words.specs.declared.command.Role.TheVariants.{Lex, Text, Yacc}
 
 -- ---- words
 

@@ -8,12 +8,12 @@ use Rattle.cs_lex.specs.Reading.File.{HasTokensOf}
 use Rattle.cs_yacc.specs.declared.reading.file.YaccFile.{YaccFile}
 use Rattle.cs_run.specs.declared.input.judging.Pair.{Pair}
 use Rattle.cs_run.specs.declared.input.judging.PairAndText.{PairAndText}
-use Rattle.cs_run.specs.declared.words.command.Role.{Role}
-use Rattle.cs_run.specs.declared.words.request.Request.{Request}
+use Rattle.cs_words.specs.declared.command.Role.{Role}
+use Rattle.cs_words.specs.declared.request.Request.{Request}
 use Rattle.cs_run.specs.Input.Refusal.{text_contents}
 use Rattle.cs_run.specs.Input.Files.{HaveContents, IsMeantFor, Mean, most_for}
-use Rattle.cs_run.specs.Words.Commands.{taken_of}
-use Rattle.cs_run.specs.Words.Requests.{Named, one_named, plain_arguments, three_named, two_named}
+use Rattle.cs_words.specs.Commands.{taken_of}
+use Rattle.cs_words.specs.Requests.{Named, one_named, plain_arguments, three_named, two_named}
 
 -- the first bytes of the file, at most one more than a file may have
 abbrev pub ReadsFile : Role → Option Files → List ℕ → Vec ℕ Global → Type 0

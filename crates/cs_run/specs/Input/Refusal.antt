@@ -11,11 +11,11 @@ use Rattle.cs_lex.specs.Reading.Reading as lex_reading
 use Rattle.cs_yacc.specs.Reading.File as yacc
 use Rattle.cs_yacc.specs.Reading.Reading as yacc_reading
 use Rattle.cs_yacc.specs.Reading.Reading.{IsYaccFile}
-use Rattle.cs_run.specs.Words.Requests.{Named}
+use Rattle.cs_words.specs.Requests.{Named}
 use Rattle.cs_run.specs.declared.input.refusal.Refusal.{Refusal}
 use Rattle.cs_run.specs.declared.input.refusal.Refusal.TheVariants.{ManyChains, OfLex, OfYacc, States, TextStops, TextTokens, TooLong}
-use Rattle.cs_run.specs.declared.words.command.Role.{Role}
-use Rattle.cs_run.specs.declared.words.command.Role.TheVariants.{Lex, Text, Yacc}
+use Rattle.cs_words.specs.declared.command.Role.{Role}
+use Rattle.cs_words.specs.declared.command.Role.TheVariants.{Lex, Text, Yacc}
 use Rattle.cs_run.specs.declared.input.refusal.Stop.{Stop}
 use Rattle.cs_run.specs.declared.input.refusal.Stop.TheVariants.{NoFile, Refused, Memory}
 use Rattle.cs_run.specs.Input.Files.{Content, HasNoFile, HaveContents, IsWithinLength, faults_of, most_for}

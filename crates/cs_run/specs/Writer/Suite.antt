@@ -8,7 +8,7 @@ use Rattle.cs_manifest.specs.Manifest.Manifest.{Choice, IsManifest, measure_of, 
 use Rattle.cs_writing.specs.declared.plan.plan.Means.{Means}
 use Rattle.cs_writing.specs.Plan.Plans.{texts_of}
 use Rattle.cs_texts.specs.declared.work.work.RenderWork.{RenderWork}
-use Rattle.cs_run.specs.declared.words.options.Options.{Options}
+use Rattle.cs_words.specs.declared.options.Options.{Options}
 use Rattle.cs_yacc.specs.Reading.File.{File}
 
 -- the text is the manifest of a yacc file in the form of `rules`

@@ -6,7 +6,7 @@ ghost use Rattle.cs_run.specs.Ending.Summary.{IsSummary};
 ghost use Rattle.cs_io.specs.Uses.{desk_used, used};
 ghost use Rattle.cs_run.specs.Command.Carrying.{TakesGrammar, TakesPair, WritesByGrammar, WritesByPair, WritesOfPair, WritesSure};
 ghost use Rattle.cs_run.specs.Command.Words.{AreBad, AskForNoFiles, KeepsPromisesTo, PerformsFor};
-ghost use Rattle.cs_run.specs.Words.Words.{texts};
+ghost use Rattle.cs_words.specs.Words.{texts};
 ghost use Rattle.cs_run.specs.Writer.Suite.{IsRules, IsSuite};
 
 use crate::command::chains::chains;
@@ -16,10 +16,10 @@ use crate::command::lexical::lexical;
 use crate::command::text::of_text;
 use crate::ending::{Ending, finish};
 use crate::input::{Meant, Pair, Refusal, Stop, read_files};
-use crate::words::{Arguments, Command, GrammarCommand, Options, PairCommand, read_words};
 use crate::writer::{SuiteHalt, write_rules, write_suite, write_summary};
 use cs_fan::Gate;
 use cs_io::{Desk, Halt, Sink};
+use cs_words::{Arguments, Command, GrammarCommand, Options, PairCommand, read_words};
 use cs_yacc::YaccFile;
 use std::alloc::Global;
 use std::thread::Threads;
@@ -130,6 +130,9 @@ fn of_pair<R: Threads + Sync, O: Sink, G: Gate + Sync>(
         }
         Command::OfPair(PairCommand::Deep) => {
             of_lexemes(rt, alloc, PairCommand::Deep, &options, &pair, out, gate)
+        }
+        Command::OfPair(PairCommand::Wrong) => {
+            of_lexemes(rt, alloc, PairCommand::Wrong, &options, &pair, out, gate)
         }
         Command::OfGrammar(_) | Command::Member | Command::Gen => unreachable!(),
     }

@@ -1,7 +1,7 @@
 // The law of what `run` promises: there is one text at most that it speaks of.
 
 ghost use Rattle.std.specs.Prelude.{Option, Result, ℕ};
-ghost use Rattle.cs_run.specs.Words.Requests.{PlainRequest};
+ghost use Rattle.cs_words.specs.Requests.{PlainRequest};
 ghost use Rattle.cs_run.specs.Ending.Texts.{HasOneText};
 ghost use Rattle.cs_io.specs.Desk.{Files};
 
@@ -10,6 +10,7 @@ use cs_deep::one_deep;
 use cs_lexical::one_lexical_text;
 use cs_manifest::one_manifest;
 use cs_spell::one_spelling;
+use cs_wrong::one_wrong_text;
 
 /// Where a desk tells its files, or none are asked for, at most one text is asked for; but for `member`, which may tell of a
 /// sentence by each of its derivations.
@@ -21,4 +22,5 @@ pub fn one_asked_text()
     one_spelling();
     one_deep();
     one_chains_text();
+    one_wrong_text();
 }

@@ -1,7 +1,7 @@
 // How a run ends.
 
 use crate::input::Refusal;
-use crate::words::Role;
+use cs_words::Role;
 
 /// How a run ends.
 #[derive(Clone, Copy, Debug, PartialEq, Eq)]

@@ -8,8 +8,8 @@ ghost use Rattle.cs_run.specs.Ending.Headline.{KeepsWhatPerforms};
 
 use crate::ending::ending::Ending;
 use crate::input::line as refusal_line;
-use crate::words::Role;
 use cs_io::{Sink, write_all};
+use cs_words::Role;
 use std::alloc::{AllocError, Global};
 
 /// Says on `err` how a run ended, and gives the status: 0 where the whole output was written, 1 where the files are refused,

@@ -10,8 +10,8 @@ ghost use Rattle.cs_run.specs.declared.input.refusal.Stop.TheVariants.{Refused};
 
 use crate::input::refusal::{Refusal, Stop};
 use crate::input::text::TextBytes;
-use crate::words::Role;
 use cs_lex::{LexError, LexFile, read_lex};
+use cs_words::Role;
 use cs_yacc::{MOST_BYTES, YaccError, YaccFile, read_yacc};
 use std::alloc::Global;
 

@@ -8,9 +8,9 @@ ghost use Rattle.cs_lex.specs.declared.reading.error.LexError.TheVariants as lex
 
 use crate::input::judging::most_of;
 use crate::input::refusal::Refusal;
-use crate::words::Role;
 use cs_lex::{LexError, LexLimit};
 use cs_pattern::PatternFault;
+use cs_words::Role;
 use cs_yacc::{YaccError, YaccLimit};
 use std::alloc::{AllocError, Global};
 

@@ -5,16 +5,16 @@ ghost use Rattle.cs_lex.specs.Reading.File.{HasTokensOf};
 ghost use Rattle.cs_run.specs.Input.Files.{IsMeantFor, IsNoFile};
 ghost use Rattle.cs_run.specs.Input.Refusal.{CanBeTold, FileStops, FilesStop};
 ghost use Rattle.cs_run.specs.Input.Read.{AreMeant, HasItsTokens, HasTokensOfItsFile, IsFormOf, IsGrammarIn, IsPairIn, IsTextIn, ReadsFile};
-ghost use Rattle.cs_run.specs.Words.Commands.{taken_of};
-ghost use Rattle.cs_run.specs.Words.Words.{texts};
-ghost use Rattle.cs_run.specs.Words.Requests.{Fit, IsFitting, Names, files_in, files_named, one_named, plain_request, three_named, two_named};
+ghost use Rattle.cs_words.specs.Commands.{taken_of};
+ghost use Rattle.cs_words.specs.Words.{texts};
+ghost use Rattle.cs_words.specs.Requests.{Fit, IsFitting, Names, files_in, files_named, one_named, plain_request, three_named, two_named};
 
 use crate::input::judging::{
     Meant, Pair, PairAndText, judge_grammar, judge_pair, judge_text, most_of,
 };
 use crate::input::refusal::Stop;
-use crate::words::{Arguments, Command, Request, Role};
 use cs_io::{Desk, DeskError};
+use cs_words::{Arguments, Command, Request, Role};
 use cs_yacc::YaccFile;
 use std::alloc::Global;
 

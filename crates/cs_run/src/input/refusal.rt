@@ -1,7 +1,7 @@
 // Why files aren't given.
 
-use crate::words::Role;
 use cs_lex::LexError;
+use cs_words::Role;
 use cs_yacc::YaccError;
 
 /// Why files are refused, the first cause that applies.

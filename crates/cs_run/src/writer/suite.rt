@@ -14,7 +14,6 @@ ghost use Rattle.cs_io.specs.Asked.{IsCalmForAll, MetFault, MetNone, TookFront, 
 ghost use Rattle.cs_yacc.specs.Reading.File.{IsFile};
 
 use crate::input::Pair;
-use crate::words::Options;
 use crate::writer::halt::SuiteHalt;
 use crate::writer::weights::weights_of;
 use cs_choices::Format;
@@ -26,6 +25,7 @@ use cs_pairs::Pairs;
 use cs_scanner::{Automaton, Lexemes, Scanner};
 use cs_texts::RenderWork;
 use cs_verdicts::{Closed, Positives, Tables};
+use cs_words::Options;
 use cs_writing::{Means, Mutation, Plan, PlanForm, write_out};
 use cs_yacc::YaccFile;
 use std::alloc::Global;

@@ -11,7 +11,6 @@ ghost use Rattle.cs_io.specs.Asked.{IsCalmForAll, MetFault, MetNone};
 ghost use Rattle.cs_io.specs.Asked.{Stopped, TookFront, TookOne};
 
 use crate::input::{Pair, Stop, judge_pair};
-use crate::words::Options;
 use crate::writer::halt::SuiteHalt;
 use crate::writer::suite::write_suite;
 use cs_choices::Format;
@@ -19,6 +18,7 @@ use cs_fan::Gate;
 use cs_gen::{Generated, make};
 use cs_io::{Halt, NullSink, Sink, write_all};
 use cs_manifest::Counts;
+use cs_words::Options;
 use std::alloc::{AllocError, Global};
 use std::thread::Threads;
 

@@ -1,9 +1,10 @@
 // The files of a command. What is expected was worked by hand from the order of the causes and from the lines that
 // docs/FORMATS.md gives.
 
-use cs_run::{Refusal, Role, Stop, line, read_files, read_words};
+use cs_run::{Refusal, Stop, line, read_files};
 use cs_sample_files::desk;
 use cs_samples::{SCANNER, SUMS, words};
+use cs_words::{Role, read_words};
 use std::alloc::{AllocError, Global};
 use std::test::Fail;
 

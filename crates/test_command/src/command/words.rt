@@ -2,8 +2,8 @@
 // which word may stand behind which, and the values of each option.
 
 use cs_choices::{Format, Weigh};
-use cs_run::{Arguments, BadWord, Command, PairCommand, read_words};
 use cs_samples::words;
+use cs_words::{Arguments, BadWord, Command, PairCommand, read_words};
 use std::alloc::{AllocError, Global};
 use std::test::Fail;
 
@@ -31,7 +31,7 @@ fn bad_option(alloc: Global, texts: &[&str]) -> Result<Option<usize>, AllocError
     }
 }
 
-const COMMANDS: [Row; 64] = [
+const COMMANDS: [Row; 77] = [
     (&[], Some(0)),
     (&[""], Some(0)),
     (&["--help"], Some(0)),
@@ -85,6 +85,22 @@ const COMMANDS: [Row; 64] = [
         Some(4),
     ),
     (&["chains", "y", "l", "--bases=1"], Some(3)),
+    (&["wrong", "y", "l"], None),
+    (&["wrong", "y"], Some(2)),
+    (&["wrong", "y", "l", "--slips=drop"], None),
+    (&["wrong", "y", "l", "--slips=swap,drop,double"], None),
+    (&["wrong", "y", "l", "--slips="], Some(3)),
+    (&["wrong", "y", "l", "--slips=drop,drop"], Some(3)),
+    (&["wrong", "y", "l", "--slips=all"], Some(3)),
+    (
+        &["wrong", "y", "l", "--slips=drop", "--slips=drop"],
+        Some(4),
+    ),
+    (&["wrong", "y", "l", "--separator=", "--weigh=bytes"], None),
+    (&["wrong", "y", "l", "--bases=1"], Some(3)),
+    (&["wrong", "y", "l", "--format=1"], Some(3)),
+    (&["suite", "y", "l", "--slips=drop"], Some(3)),
+    (&["deep", "y", "l", "--slips=drop"], Some(3)),
     (&["gen"], Some(1)),
     (&["gen", ""], Some(1)),
     (&["gen", "g.y"], Some(1)),
@@ -207,6 +223,7 @@ fn names_and_defaults(rt: HostRuntime) -> Result<(), Fail> {
             assert!(rt; options.separator.bytes() == b" ".as_slice());
             assert!(rt; options.weigh == Weigh::Nodes);
             assert!(rt; options.format == Format::Two);
+            assert!(rt; options.slips.drops && options.slips.doubles && options.slips.swaps);
         }
         Err(_) => assert!(rt; false),
     }
@@ -240,6 +257,20 @@ fn settings(rt: HostRuntime) -> Result<(), Fail> {
             assert!(rt; options.separator.bytes() == b"Ab\n".as_slice());
             assert!(rt; options.weigh == Weigh::Bytes);
             assert!(rt; options.format == Format::One);
+        }
+        Err(_) => assert!(rt; false),
+    }
+    Ok(())
+}
+
+#[test]
+fn slips_that_are_wanted(rt: HostRuntime) -> Result<(), Fail> {
+    let alloc = rt.alloc();
+    let words = words(alloc, &["wrong", "g.y", "g.l", "--slips=swap,drop"])?;
+    match read_words(&words) {
+        Ok(request) => {
+            let slips = request.options.slips;
+            assert!(rt; slips.drops && slips.swaps && !slips.doubles);
         }
         Err(_) => assert!(rt; false),
     }

@@ -5,7 +5,8 @@ ghost use Rattle.cs_run.specs.Ending.Ending.{HasLine};
 
 use cs_io::MemorySink;
 use cs_lex::LexError;
-use cs_run::{Ending, Refusal, Role, finish};
+use cs_run::{Ending, Refusal, finish};
+use cs_words::Role;
 use cs_yacc::{YaccError, YaccLimit};
 use std::alloc::{AllocError, Global};
 use std::test::Fail;

@@ -3,9 +3,10 @@
 use cs_fan::OpenGate;
 use cs_io::{Halt, MemorySink};
 use cs_manifest::Counts;
-use cs_run::{Options, Pair, SuiteHalt, write_rules, write_suite, write_summary};
+use cs_run::{Pair, SuiteHalt, write_rules, write_suite, write_summary};
 use cs_sample_files::{Trouble, read_files, yacc_of};
 use cs_samples::{LETTER, LETTER_SCANNER, LETTER_SUITE_TWO, NUMBER};
+use cs_words::Options;
 use std::alloc::{AllocError, Global};
 use std::test::Fail;
 use std::thread::Threads;

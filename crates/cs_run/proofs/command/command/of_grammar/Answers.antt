@@ -1,7 +1,7 @@
 -- Each command's writer says what was written by its own text.
 use Rattle.std.proofs.Common.{◌≡◌, ◌∙◌, ap}
-use Rattle.cs_run.specs.declared.words.command.Command.TheVariants.{OfGrammar}
-use Rattle.cs_run.specs.declared.words.command.GrammarCommand.TheVariants as of_grammar
+use Rattle.cs_words.specs.declared.command.Command.TheVariants.{OfGrammar}
+use Rattle.cs_words.specs.declared.command.GrammarCommand.TheVariants as of_grammar
 use Rattle.cs_run.proofs.OnCommand.Performing.{chains_so, rules_so}
 use Rattle.cs_run.proofs.command.command.of_grammar.Goals as goal
 

@@ -1,9 +1,9 @@
 -- Each command's writer says what was written by its own text.
 use Rattle.std.proofs.Common.{◌≡◌, ◌∙◌, ap, sym, subst}
 use Rattle.cs_io.specs.Uses.{used}
-use Rattle.cs_run.specs.declared.words.command.Command.{Command}
-use Rattle.cs_run.specs.declared.words.command.Command.TheVariants.{OfPair}
-use Rattle.cs_run.specs.declared.words.command.PairCommand.TheVariants as of_pair
+use Rattle.cs_words.specs.declared.command.Command.{Command}
+use Rattle.cs_words.specs.declared.command.Command.TheVariants.{OfPair}
+use Rattle.cs_words.specs.declared.command.PairCommand.TheVariants as of_pair
 use Rattle.cs_run.specs.Command.Carrying.{WritesByPair}
 use Rattle.cs_run.proofs.OnCommand.Performing.{lexical_so, suite_so}
 use Rattle.cs_run.proofs.command.command.of_pair.Goals as goal
@@ -37,3 +37,9 @@ returns-in-OfPair-Deep-clause-writes g c =
     let asked : c.in-OfPair-Deep.field-0 ≡ of_pair.Deep = rw c.in-OfPair-Deep.is at c.in-OfPair-Deep.field-0-is in
     let is : c.args.command ≡ OfPair of_pair.Deep = c.in-OfPair-Deep.is ∙ ap OfPair asked in
     subst (λ (d : Command). WritesByPair d c.args.options c.args.pair c.of_lexemes-in-OfPair-Deep.result (used g.O.Sink c.args.out.now c.of_lexemes-in-OfPair-Deep.new.out)) (sym is) c.of_lexemes-in-OfPair-Deep.ensures.writes
+
+pub returns-in-OfPair-Wrong-clause-writes : goal.returns-in-OfPair-Wrong-clause-writes
+returns-in-OfPair-Wrong-clause-writes g c =
+    let asked : c.in-OfPair-Wrong.field-0 ≡ of_pair.Wrong = rw c.in-OfPair-Wrong.is at c.in-OfPair-Wrong.field-0-is in
+    let is : c.args.command ≡ OfPair of_pair.Wrong = c.in-OfPair-Wrong.is ∙ ap OfPair asked in
+    subst (λ (d : Command). WritesByPair d c.args.options c.args.pair c.of_lexemes-in-OfPair-Wrong.result (used g.O.Sink c.args.out.now c.of_lexemes-in-OfPair-Wrong.new.out)) (sym is) c.of_lexemes-in-OfPair-Wrong.ensures.writes

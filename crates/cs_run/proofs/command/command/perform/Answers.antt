@@ -1,9 +1,9 @@
 use Rattle.std.proofs.Common.{Ok, ap, refl, subst}
-use Rattle.cs_run.specs.Words.Requests.{files_in, plain_arguments, plain_request}
-use Rattle.cs_run.specs.Words.Words.{texts}
+use Rattle.cs_words.specs.Requests.{files_in, plain_arguments, plain_request}
+use Rattle.cs_words.specs.Words.{texts}
 use Rattle.cs_run.specs.declared.input.judging.Meant.TheVariants.{Grammar, Nothing, Pair, Text}
 use Rattle.cs_run.specs.Input.Read.{HasItsTokens}
-use Rattle.cs_run.proofs.OnWords.OneBad.{bad_not_accepted}
+use Rattle.cs_words.proofs.OneBad.{bad_not_accepted}
 use Rattle.cs_run.proofs.OnCommand.Performing.{gen_so, names_no_seed, no_files_so, performs_as, stopped_so, takes_grammar, takes_pair, takes_seed, takes_text, text_short, text_so}
 use Rattle.cs_run.proofs.command.command.perform.Goals as goal
 

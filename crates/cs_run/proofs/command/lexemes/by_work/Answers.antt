@@ -6,12 +6,13 @@ use Rattle.cs_choices.specs.declared.format.Format.TheVariants.{One}
 use Rattle.cs_deep.specs.Deep.{IsDeepText}
 use Rattle.cs_manifest.specs.Manifest.Manifest.{Texts}
 use Rattle.cs_run.specs.Command.Scanned.{WritesByScanner, WritesChains}
-use Rattle.cs_run.specs.declared.words.command.Command.TheVariants.{OfPair}
-use Rattle.cs_run.specs.declared.words.command.PairCommand.{PairCommand}
-use Rattle.cs_run.specs.declared.words.command.PairCommand.TheVariants as of_pair
+use Rattle.cs_words.specs.declared.command.Command.TheVariants.{OfPair}
+use Rattle.cs_words.specs.declared.command.PairCommand.{PairCommand}
+use Rattle.cs_words.specs.declared.command.PairCommand.TheVariants as of_pair
 use Rattle.cs_run.specs.Ending.Files.{choice_by, texts_by}
 use Rattle.cs_scanner.specs.Scan.Compared.{scanning}
 use Rattle.cs_spell.specs.Spelling.{IsSpelling}
+use Rattle.cs_wrong.specs.Text.{IsWrongText}
 use Rattle.cs_run.specs.Command.Carrying.{WritesOfGrammar}
 use Rattle.cs_run.proofs.OnCommand.Performing.{listed_so}
 use Rattle.cs_run.proofs.OnCommand.Scanned.{ended_of}
@@ -54,3 +55,15 @@ returns-in-Deep-clause-writes g c =
     c.deep.ensures.no_fault c.deep.ensures.failed c.deep.ensures.room in
     subst (λ (command : PairCommand). WritesByScanner command options file s c.ended-in-Deep.result out) (sym c.in-Deep.is)
     (subst (λ (separator : List ℕ). WritesOfGrammar (OfPair of_pair.Deep) file.grammar (Is separator) c.ended-in-Deep.result out) c.requires.work.separator writes)
+
+pub returns-in-Wrong-clause-writes : goal.returns-in-Wrong-clause-writes
+returns-in-Wrong-clause-writes g c =
+    let file = c.args.asked.yacc.now in
+    let options = c.args.asked.options.now in
+    let s = scanning c.args.work.now.scanner.now in
+    let out = used g.O.Sink c.args.out.now c.wrong.new.out in
+    let Is : List ℕ → List ℕ → Type 0 = λ separator text. IsWrongText file (Some (record { scanning = s; separator = separator })) options.weigh options.slips text in
+    let writes = ended_of (OfPair of_pair.Wrong) file.grammar refl (Is c.args.work.now.separator.now) c.wrong.result c.ended-in-Wrong.result out c.ended-in-Wrong.ensures.ending c.wrong.ensures.ok c.wrong.ensures.part
+    c.wrong.ensures.no_fault c.wrong.ensures.failed c.wrong.ensures.room in
+    subst (λ (command : PairCommand). WritesByScanner command options file s c.ended-in-Wrong.result out) (sym c.in-Wrong.is)
+    (subst (λ (separator : List ℕ). WritesOfGrammar (OfPair of_pair.Wrong) file.grammar (Is separator) c.ended-in-Wrong.result out) c.requires.work.separator writes)

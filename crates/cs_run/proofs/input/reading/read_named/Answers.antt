@@ -2,8 +2,8 @@ use Rattle.std.proofs.Common.{◌≡◌, List, [], ◌∷◌, sym, ap, ◌∙◌
 use Rattle.std.specs.Prelude.{string_bytes}
 use Rattle.cs_run.specs.declared.input.judging.Meant.TheVariants.{Pair, Text}
 use Rattle.cs_run.specs.Input.Files.{HaveContents, Mean}
-use Rattle.cs_run.specs.Words.Requests.{Named, Names}
-use Rattle.cs_run.specs.Words.Words.{texts}
+use Rattle.cs_words.specs.Requests.{Named, Names}
+use Rattle.cs_words.specs.Words.{texts}
 use Rattle.cs_run.proofs.OnInput.Forms.{three_files, three_form, three_not_none, three_words, two_files, two_form, two_not_none, two_words}
 use Rattle.cs_run.proofs.input.reading.read_named.Goals as goal
 

@@ -1,8 +1,8 @@
 use Rattle.std.proofs.Common.{◌+◌, ◌∷◌, ◌∙◌, [], ℕ, Option, sym, subst}
 use Rattle.cs_io.specs.Desk.{Files, IsBeginning}
 use Rattle.cs_yacc.specs.declared.reading.TheConstants.{MOST_BYTES}
-use Rattle.cs_run.specs.declared.words.command.Role.TheVariants.{Lex, Text}
-use Rattle.cs_run.specs.Words.Requests.{lex_named, text_named, three_named, yacc_named}
+use Rattle.cs_words.specs.declared.command.Role.TheVariants.{Lex, Text}
+use Rattle.cs_words.specs.Requests.{lex_named, text_named, three_named, yacc_named}
 use Rattle.cs_run.specs.Input.Files.{faults_of}
 use Rattle.cs_run.specs.Input.Refusal.{Stops, StopsFile}
 use Rattle.cs_run.proofs.OnInput.Wholes.{if_err, if_ok, if_residual, second_stops, text_read, text_stops, there_by_read, third_stops}

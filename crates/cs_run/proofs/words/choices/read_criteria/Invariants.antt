@@ -1,9 +1,0 @@
-use Rattle.std.proofs.Common.{length, take}
-use Rattle.cs_run.specs.Words.Choices.{Chooses, has_criterion, parts}
-use Rattle.cs_run.proofs.words.choices.read_criteria.Given as goal
-
-abbrev pub invariant-loop-name : goal.invariant-loop-name
-invariant-loop-name l =
-    Chooses (has_criterion l.criteria) (take (length l.yielded) (parts l.value)) ×
-    (goal.iterator-loop-name).can_next l.name-iterator ×
-    (goal.iterator-loop-name).is_finite l.name-iterator

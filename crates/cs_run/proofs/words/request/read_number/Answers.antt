@@ -1,6 +1,0 @@
-use Rattle.cs_run.specs.Words.Words.{texts}
-use Rattle.cs_run.proofs.OnWords.Standing.{seed_begins}
-use Rattle.cs_run.proofs.words.request.read_number.Goals as goal
-
-pub returns-in-Some-clause-begins : goal.returns-in-Some-clause-begins
-returns-in-Some-clause-begins c = seed_begins c.args.command (texts c.args.words.now) c.in-Some.seed (texts c.in-Some.rest.now) c.requires c.in-Some.ensures.some
