@@ -1,6 +1,7 @@
 """The names that documents have of the code: contracts and their clauses, definitions, crates in their order."""
 
 import glob
+import html
 import os
 import re
 
@@ -143,6 +144,17 @@ def citing_failures(page):
         for module in re.findall(r"`(\w+\.specs\.\w+(?:\.\w+)?)`", row[0]):
             listed, found = {code.partition("::")[0] for code in CODE.findall(row[1])}, citing(module)
             yield from (f"{page}: {crate} cites {module}, or is said to" for crate in sorted(listed ^ found))
+
+
+def found_failures(page):
+    """The rows of languages whose counts of parsers and of departures, or whose texts, their results don't have."""
+    results = map(read, glob.glob(os.path.join(TOP, "gallery", "*", "RESULTS.md")))
+    found = {text.split("\n", 1)[0].removeprefix("# "): text for text in results}
+    for language, *cells in (row for row in tables(read(page)) if row[0] in found):
+        text, wanted = found[language], CODE.findall(cells[-1])
+        if cells[:-1] != [str(text.count(mark)) for mark in ("\n## ", "\n| departure |")]:
+            yield f"{page}: the counts of {language} are others"
+        yield from (f"{page}: {language} has no {code}" for code in wanted if html.escape(code, False) not in text)
 
 
 def needs():

@@ -4,8 +4,9 @@
 README.md is a first page of at most 8,000 bytes, and names the kit. A sentence has at most 30 words: headings and
 blocks don't count, an item of a list ends a sentence, in a table's cell a semicolon does too, and code between
 backquotes is one word. Each link leads to a file; each path, crate, contract, clause and definition that is named is
-there; crates stand in tables behind those that they stand on; and each of twenty questions has its answer in at most
-two files. It prints what isn't so, and ends with status 1 where something isn't.
+there; crates stand in tables behind those that they stand on; what README.md has of the gallery's languages their
+results have too; and each of twenty questions has its answer in at most two files. It prints what isn't so, and ends
+with status 1 where something isn't.
 """
 
 import os
@@ -104,6 +105,7 @@ def name_failures():
     yield from names.citing_failures("CONTRIBUTING.md")
     yield from names.order_failures("docs/CLAIMS.md", ("test_", *names.SAMPLES))
     yield from names.order_failures("docs/DESIGN.md", ())
+    yield from names.found_failures("README.md")
 
 
 def failures():
