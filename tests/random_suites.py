@@ -27,12 +27,13 @@ from model.manifest import Manifest
 from model.members import Deep, member
 from model.scanner import Scanner
 from model.texts import Choice, Texts
+from model.wrong import SLIPS, Wrong
 
 TOP = os.path.dirname(os.path.dirname(os.path.abspath(__file__)))
 PROGRAM = os.path.abspath(sys.argv[1]) if len(sys.argv) > 1 else os.path.join(TOP, "crates", "cs_cli", "out", "cs_cli")
 COUNT = int(sys.argv[2]) if len(sys.argv) > 2 else 200
 # The model also has commands that the program hasn't. One that the program gets is put in here.
-COMPARED = ["rules", "suite", "gen", "lexical", "spell", "member", "deep", "chains"]
+COMPARED = ["rules", "suite", "gen", "lexical", "spell", "member", "deep", "chains", "wrong"]
 COMMANDS = sys.argv[3].split(",") if len(sys.argv) > 3 else COMPARED
 SUMMARIES = 2
 TEXT_OPTIONS = ("separator", "weigh")
@@ -54,6 +55,7 @@ class Pair:
         self.grammar = yacc.grammar()
         self.scanner = Scanner(lex.rules, self.grammar.tokens)
         self.files = {"y": yacc.text().encode("latin-1"), "l": lex.text().encode("latin-1")}
+        self.slips = random.sample(SLIPS, random.randint(1, len(SLIPS)))
         self.random = random
 
     def some_texts(self, count):
@@ -116,6 +118,12 @@ def chains(pair):
     yield fixed(["chains", "y", "l", *pair.of(*TEXT_OPTIONS)], pair.files, made.text, pair.scanner)
 
 
+def wrong(pair):
+    made = Wrong(pair.grammar, pair.scanner, pair.choice, pair.slips)
+    words = [f"--slips={','.join(pair.slips)}", *pair.of(*TEXT_OPTIONS)]
+    yield fixed(["wrong", "y", "l", *words], pair.files, made.text, pair.scanner)
+
+
 ROWS = {
     "rules": rules,
     "suite": suite,
@@ -125,6 +133,7 @@ ROWS = {
     "member": members,
     "deep": deep,
     "chains": chains,
+    "wrong": wrong,
 }
 
 

@@ -4,7 +4,7 @@ from itertools import islice
 from math import inf
 
 from model.texts import Choice, Texts, bytes_of, end_line, line, name_of
-from model.trees import ANY, BEGIN, EMPTY, END, goals, neighbours, yield_of
+from model.trees import ANY, BEGIN, EMPTY, END, goals, yield_of
 
 __all__ = ["Choice", "Manifest", "edits"]
 
@@ -36,7 +36,6 @@ class Manifest(Texts):
 
     def __init__(self, grammar, scanner, choice):
         super().__init__(grammar, scanner, choice)
-        self.adjacent = self.adjacent_pairs()
         self.judged_goals = [*self.judged(goals(grammar, choice.criteria))]
         self.counts = dict.fromkeys(("goals", "feasible", "infeasible", "large", "negatives"), 0)
         # the trees of derivations, each once
@@ -103,10 +102,6 @@ class Manifest(Texts):
             yield line("base", number, "goal", goal)
             for words, tokens in edits(list(base), self.choice.operators, self.grammar.tokens):
                 yield from self.edit_lines(number, words, tokens)
-
-    def poison(self, tokens):
-        """The first pair that no sentence has, and its place, or None."""
-        return next(((pair, place) for place, pair in enumerate(neighbours(tokens)) if pair not in self.adjacent), None)
 
     def edit_lines(self, base, words, tokens):
         if poison := self.poison(tokens):

@@ -1,10 +1,11 @@
 """Lines of docs/FORMATS.md that several outputs have: names, derivations, lists of tokens and their texts."""
 
 from dataclasses import dataclass
+from functools import cached_property
 from itertools import takewhile
 from math import inf
 
-from model.trees import BEGIN, END, PairGoal, Trees, verdict, yield_of
+from model.trees import BEGIN, END, PairGoal, Trees, neighbours, verdict, yield_of
 
 
 @dataclass
@@ -71,10 +72,16 @@ class Texts:
     def is_adjacent(self, pair):
         return verdict(self.trees, PairGoal(*pair))[0] < inf
 
-    def adjacent_pairs(self):
+    @cached_property
+    def adjacent(self):
+        """The pairs of marks that stand side by side in some framed sentence."""
         tokens = self.grammar.tokens
         pairs = ((left, right) for left in (BEGIN, *tokens) for right in (*tokens, END))
         return {pair for pair in pairs if self.is_adjacent(pair)}
+
+    def poison(self, tokens):
+        """The first pair that no sentence has, and its place, or None."""
+        return next(((pair, place) for place, pair in enumerate(neighbours(tokens)) if pair not in self.adjacent), None)
 
     def symbols(self):
         """The lines of tokens, of rules and of lexemes."""
