@@ -235,6 +235,11 @@ ENDINGS = [
     (["chains", "g.y"], "end goals 0 feasible 0 infeasible 0 large 0\n", "of 0 goals 0 infeasible and 0 large"),
     (["chains", "g.y", "l.l"], "end goals 0 feasible 0 infeasible 0 large 0\n", "of 0 goals 0 infeasible and 0 large"),
     (
+        ["wrong", "g.y", "l.l"],
+        "end slips 3 none 0 large 0 again 1 long 0 sentences 0 wrong 2\n",
+        "of 3 slips 0 without a list, 0 large, 1 with an earlier one's, 0 long, 0 sentences and 2 wrong",
+    ),
+    (
         ["lexical", "g.y", "l.l"],
         "end rules 1 shadowed 0 overlaps 0 disjoint 0\n",
         "of 1 scanner rule 0 shadowed, and 0 overlaps",

@@ -88,6 +88,16 @@ spelling 2 skip goal 1 size 2
   text " x "
 end rules 2 spelled 2 shadowed 0 foreign 0 literal 0 infeasible 0 large 0
 """
+# Slips: the empty list; no symbol, so the empty list again; the symbol twice.
+WRONG = b"""conform wrong
+wrong 1 empty pair <begin> <end> at 0
+  tokens
+  text ""
+wrong 2 rule 1 double 1 pair 'x' 'x' at 1
+  tokens 'x' 'x'
+  text "x x"
+end slips 3 none 0 large 0 again 1 long 0 sentences 0 wrong 2
+"""
 CHOICE = b"""conform 1 rules
 token 1 'x'
 rule 1 a : a
@@ -371,6 +381,13 @@ ROWS = [
     (["spell", "forms.y", "forms.l"], 0, SPELL_FORMS, b""),
     (["spell", "states.y", "states.l"], 1, b"", b"conform: lex: States above 16384\n"),
     (["spell", "g1.y", "g1.l", "--bases=1"], 2, b"", b"conform: usage: word 3\n"),
+    (["wrong", "one.y", "one.l"], 0, WRONG, b""),
+    (["wrong", "one.y", "one.l", "--weigh=bytes", "--slips=swap,double,drop"], 0, WRONG, b""),
+    (["wrong", "states.y", "states.l"], 1, b"", b"conform: lex: States above 16384\n"),
+    (["wrong", "g1.y", "g1.l", "--slips="], 2, b"", b"conform: usage: word 3\n"),
+    (["wrong", "g1.y", "g1.l", "--slips=drop,drop"], 2, b"", b"conform: usage: word 3\n"),
+    (["wrong", "g1.y", "g1.l", "--bases=1"], 2, b"", b"conform: usage: word 3\n"),
+    (["suite", "g1.y", "g1.l", "--slips=drop"], 2, b"", b"conform: usage: word 3\n"),
     (["chains", "choice.y"], 0, CHAINS, b""),
     (["chains", "empty.y"], 1, b"", b"conform: yacc: Syntax at 0\n"),
     (["chains", "many.y"], 1, b"", b"conform: chains: Limit Goals 1010000 of 1000000\n"),
