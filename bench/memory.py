@@ -82,6 +82,7 @@ COMMANDS = [
     ["spell", example("lists.y"), example("lists.l"), "--weigh=bytes"],
     ["member", example("g1.y"), example("l1.l"), TEXT],
     ["deep", example("g1.y"), example("l1.l"), "--criteria=rule", "--bases=2"],
+    ["wrong", example("g1.y"), example("l1.l")],
     ["chains", example("g1.y")],
     ["chains", example("g1.y"), example("l1.l")],
     ["gen", "1"],
