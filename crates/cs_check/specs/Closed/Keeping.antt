@@ -3,7 +3,7 @@ use Rattle.std.specs.Prelude.{◌↔◌, ◌⊎◌, ℕ, Bool, IsTrue, List, All
 use Rattle.cs_grammar.specs.declared.symbol.Symbol.{Symbol}
 use Rattle.cs_grammar.specs.declared.symbol.Mark.TheVariants.{Token}
 use Rattle.cs_grammar.specs.Grammar.{Production, PlainGrammar}
-use Rattle.cs_check.specs.Closed.Sets.{PlainSets, IsIn, IsProductive, IsReachable, IsEmpty, IsFirst, IsLast, IsLastOf, IsNext, IsEmptySymbol, IsReachableSymbol}
+use Rattle.cs_check.specs.Closed.Sets.{PlainSets, IsIn, IsProductive, IsReachable, IsEmpty, IsFirst, IsLast, IsFirstOf, IsLastOf, IsNext, IsEmptySymbol, IsReachableSymbol}
 use Rattle.cs_check.specs.Closed.Closed.{IsLive, IsUsed, IsFirstAmong, IsLastAmong, MayMeet}
 
 -- the nonterminals of the rule
@@ -11,6 +11,10 @@ pub record KeepsNonterminals (s : PlainSets) (p : Production) : Type 0 where
   pub productive : IsLive s p → IsProductive s p.left
   pub empty : All (IsEmptySymbol s) p.right → IsEmpty s p.left
   pub reachable : IsUsed s p → All (IsReachableSymbol s) p.right
+
+-- b may stand first from the symbol on, where it may behind it or not
+abbrev pub MayBegin : PlainSets → Symbol → ℕ → Bool → Type 0
+MayBegin s x b behind = IsFirstOf s x b ⊎ (IsEmptySymbol s x × IsTrue behind)
 
 -- each last token before a place at which b may stand first has b in its line
 abbrev pub KeepsMeetings : PlainSets → ℕ → List Symbol → Type 0

@@ -1,9 +1,9 @@
 // Whether sets are closed under the rules of a grammar.
 
-ghost use Rattle.std.specs.Prelude.{◌≤◌, ◌↔◌, ◌⊎◌, IsTrue, All, length};
-ghost use Rattle.cs_check.specs.Closed.Sets.{AreSetsOf, IsFirstOf, IsEmptySymbol};
+ghost use Rattle.std.specs.Prelude.{◌≤◌, ◌↔◌, IsTrue, All, length};
+ghost use Rattle.cs_check.specs.Closed.Sets.{AreSetsOf};
 ghost use Rattle.cs_check.specs.Closed.Closed.{AreClosed};
-ghost use Rattle.cs_check.specs.Closed.Keeping.{KeepsNonterminals, KeepsMeetings, KeepsToken, AreParted, IsPartedSymbol, AreJoined, KeepsEnds, KeepsTokenIn, KeepsNonterminalsIn};
+ghost use Rattle.cs_check.specs.Closed.Keeping.{MayBegin, KeepsNonterminals, KeepsMeetings, KeepsToken, AreParted, IsPartedSymbol, AreJoined, KeepsEnds, KeepsTokenIn, KeepsNonterminalsIn};
 
 use crate::closed::sets::{Sets, has, has_pair};
 use cs_grammar::{Grammar, MOST_NONTERMINALS, Rule, Symbol, number_of};
@@ -42,7 +42,7 @@ impl Sets {
 
     // Whether the token may stand first from this symbol on, where it may or may not behind it.
     fn begins_or_empty(&self, symbol: Symbol, token: u16, behind: bool) -> bool
-        ensures { IsTrue result ↔ (IsFirstOf self.now symbol token ⊎ (IsEmptySymbol self.now symbol × IsTrue behind)) }
+        ensures { IsTrue result ↔ MayBegin self.now symbol token behind }
     {
         self.begins(symbol, token) || self.is_empty(symbol) && behind
     }
