@@ -16,19 +16,19 @@ get_or-pad [] (suc n) = refl
 get_or-pad (x ∷ xs) zero = refl
 get_or-pad (x ∷ xs) (suc n) = get_or-pad xs n
 
--- a word is or-ed into a set that has room for it
-pub or_has : (old wide : List ℕ) (word : Word) → word.at < length wide → ((n : ℕ) → get_or wide n 0 ≡ get_or old n 0) → (n : ℕ) → Has (set wide word.at (bit_or (get_or wide word.at 0) word.bits)) n ↔ (Has old n ⊎ InWord word n)
-or_has old wide word within same n =
-    let new : List ℕ = set wide word.at (bit_or (get_or wide word.at 0) word.bits) in
-    elim (cases_eq (n / 64) word.at) [
+-- bits are or-ed into a set that has room for them
+pub or_bits : (old wide : List ℕ) (at bits : ℕ) → at < length wide → ((n : ℕ) → get_or wide n 0 ≡ get_or old n 0) → (n i : ℕ) → (bit_at (get_or (set wide at (bit_or (get_or wide at 0) bits)) n 0) i ≡ 1) ↔ ((bit_at (get_or old n 0) i ≡ 1) ⊎ ((at ≡ n) × (bit_at bits i ≡ 1)))
+or_bits old wide at bits within same n i =
+    let new : List ℕ = set wide at (bit_or (get_or wide at 0) bits) in
+    elim (cases_eq n at) [
       | inl here ↦
-          let value : get_or new (n / 64) 0 ≡ bit_or (get_or wide word.at 0) word.bits = ap (λ k. get_or new k 0) here ∙ get_or-set_same wide word.at (bit_or (get_or wide word.at 0) word.bits) 0 within in
-          let was : get_or wide word.at 0 ≡ get_or old (n / 64) 0 = ap (λ k. get_or wide k 0) (sym here) ∙ same (n / 64) in
-          let b : bit_at (get_or new (n / 64) 0) (n % 64) ≡ bit_at (bit_or (get_or old (n / 64) 0) word.bits) (n % 64) = ap (λ v. bit_at v (n % 64)) (value ∙ ap (λ v. bit_or v word.bits) was) in
-          let max = bit_at_or (get_or old (n / 64) 0) word.bits (n % 64) in
-          let low = bit_at-lt (get_or old (n / 64) 0) (n % 64) in
-          let high = bit_at-lt word.bits (n % 64) in (
-            (λ has. elim (cases_eq (bit_at word.bits (n % 64)) 1) [
+          let value : get_or new n 0 ≡ bit_or (get_or wide at 0) bits = ap (λ k. get_or new k 0) here ∙ get_or-set_same wide at (bit_or (get_or wide at 0) bits) 0 within in
+          let was : get_or wide at 0 ≡ get_or old n 0 = ap (λ k. get_or wide k 0) (sym here) ∙ same n in
+          let b : bit_at (get_or new n 0) i ≡ bit_at (bit_or (get_or old n 0) bits) i = ap (λ v. bit_at v i) (value ∙ ap (λ v. bit_or v bits) was) in
+          let max = bit_at_or (get_or old n 0) bits i in
+          let low = bit_at-lt (get_or old n 0) i in
+          let high = bit_at-lt bits i in (
+            (λ has. elim (cases_eq (bit_at bits i) 1) [
               | inl set ↦ inr (sym here, set)
               | inr clear ↦ inl (omega arith)
             ]),
@@ -38,8 +38,8 @@ or_has old wide word within same n =
             ]),
           )
       | inr other ↦
-          let value : get_or new (n / 64) 0 ≡ get_or old (n / 64) 0 = get_or-set_other wide word.at (n / 64) (bit_or (get_or wide word.at 0) word.bits) 0 other ∙ same (n / 64) in
-          let b : bit_at (get_or new (n / 64) 0) (n % 64) ≡ bit_at (get_or old (n / 64) 0) (n % 64) = ap (λ v. bit_at v (n % 64)) value in (
+          let value : get_or new n 0 ≡ get_or old n 0 = get_or-set_other wide at n (bit_or (get_or wide at 0) bits) 0 other ∙ same n in
+          let b : bit_at (get_or new n 0) i ≡ bit_at (get_or old n 0) i = ap (λ v. bit_at v i) value in (
             (λ has. inl (sym b ∙ has)),
             (λ either. elim either [
               | inl before ↦ b ∙ before
@@ -65,10 +65,10 @@ get_or-other_default [] n d e lt = absurd (omega arith)
 get_or-other_default (x ∷ xs) zero d e lt = refl
 get_or-other_default (x ∷ xs) (suc n) d e lt = get_or-other_default xs n d e (omega arith)
 
-pub or_has_read : (old wide : List ℕ) (word : Word) (cell : ℕ) → word.at < length wide → cell ≡ get_or wide word.at cell → ((n : ℕ) → get_or wide n 0 ≡ get_or old n 0) → (n : ℕ) → Has (set wide word.at (bit_or cell word.bits)) n ↔ (Has old n ⊎ InWord word n)
-or_has_read old wide word cell within read same n =
-    let is : get_or wide word.at 0 ≡ cell = get_or-other_default wide word.at 0 cell within ∙ sym read in
-    subst (λ v. Has (set wide word.at (bit_or v word.bits)) n ↔ (Has old n ⊎ InWord word n)) is (or_has old wide word within same n)
+pub or_bits_read : (old wide : List ℕ) (at bits cell : ℕ) → at < length wide → cell ≡ get_or wide at cell → ((n : ℕ) → get_or wide n 0 ≡ get_or old n 0) → (n i : ℕ) → (bit_at (get_or (set wide at (bit_or cell bits)) n 0) i ≡ 1) ↔ ((bit_at (get_or old n 0) i ≡ 1) ⊎ ((at ≡ n) × (bit_at bits i ≡ 1)))
+or_bits_read old wide at bits cell within read same n i =
+    let is : get_or wide at 0 ≡ cell = get_or-other_default wide at 0 cell within ∙ sym read in
+    subst (λ v. (bit_at (get_or (set wide at (bit_or v bits)) n 0) i ≡ 1) ↔ ((bit_at (get_or old n 0) i ≡ 1) ⊎ ((at ≡ n) × (bit_at bits i ≡ 1)))) is (or_bits old wide at bits within same n i)
 
 pub one_bit : (k i : ℕ) → k < 64 → (bit_at (1 * 2 ^ k % 2 ^ 64) i ≡ 1) ↔ (i ≡ k)
 one_bit k i lt =

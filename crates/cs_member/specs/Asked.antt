@@ -1,5 +1,6 @@
 -- What contracts say of a question, a grammar with its tables and a list of tokens, and of what is found for it.
-use Rattle.std.specs.Prelude.{◌≡◌, ◌≤◌, ◌<◌, ◌+◌, ◌⊎◌, ◌++◌, ◌∷◌, [], ◌↔◌, ℕ, List, Option, Bool, None, Some, true, All, MatchOption, length, slice_get, take}
+use Rattle.std.specs.Prelude.{◌≡◌, ◌≤◌, ◌<◌, ◌+◌, ◌⊎◌, ◌++◌, ◌∷◌, [], ◌↔◌, ℕ, List, Option, Bool, None, Some, true, All, MatchOption, length, slice_get, slice_index, take}
+use Rattle.std.specs.Int.{bit_at}
 use Rattle.std.specs.Global.{Vec}
 use Rattle.cs_grammar.specs.Grammar.{PlainGrammar}
 use Rattle.cs_grammar.specs.Sentence.{IsSentence}
@@ -57,6 +58,11 @@ AreSmall words = All (λ word. word.at < 1024) words
 -- the set has these numbers too
 abbrev pub HasAlso : (ℕ → Type 0) → List ℕ → List ℕ → Type 0
 HasAlso These old new = (n : ℕ) → Has new n ↔ (Has old n ⊎ These n)
+
+-- these bits stand at the place too
+abbrev pub HasBitsAlso : ℕ → ℕ → List ℕ → List ℕ → Type 0
+HasBitsAlso at bits old new =
+    (n i : ℕ) → (bit_at (slice_index new n) i ≡ 1) ↔ ((bit_at (slice_index old n) i ≡ 1) ⊎ ((at ≡ n) × (bit_at bits i ≡ 1)))
 
 abbrev pub AreEmptyLists : {X : Type 0} → List (Vec X) → Type 0
 AreEmptyLists {X} lists = (n : ℕ) (list : Vec X) → slice_get lists n ≡ Some list → list.items ≡ []

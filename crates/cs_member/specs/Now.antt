@@ -1,6 +1,6 @@
 -- The position that is being made, as sets.
-use Rattle.std.specs.Prelude.{◌≡◌, ◌≤◌, ◌<◌, ◌+◌, ◌⊎◌, ◌++◌, ℕ, List, Option, Some, All, length, slice_get}
-use Rattle.std.specs.Global.{Vec}
+use Rattle.std.specs.Prelude.{◌≡◌, ◌≤◌, ◌<◌, ◌+◌, ◌*◌, ◌/◌, ◌%◌, ◌⊎◌, ◌++◌, ℕ, List, Option, Some, All, length, slice_get, slice_index}
+use Rattle.std.specs.Int.{bit_at}
 use Rattle.cs_grammar.specs.declared.symbol.Symbol.{Symbol}
 use Rattle.cs_grammar.specs.declared.symbol.Symbol.TheVariants.{Token, Nonterminal}
 use Rattle.cs_grammar.specs.Grammar.{PlainGrammar}
@@ -19,9 +19,13 @@ StandsIn rows x j = (k : ℕ) × (o : Origins) × (slice_get rows k ≡ Some o) 
 abbrev pub SpansIn : List Span → ℕ → ℕ → Type 0
 SpansIn spans a j = (n : ℕ) × (s : Span) × (slice_get spans n ≡ Some s) × (s.nonterminal ≡ a) × (s.from ≡ j)
 
+-- the bit of a nonterminal and a position; each 64 positions have words for so many nonterminals
+abbrev pub HasEnd : ℕ → List ℕ → ℕ → ℕ → Type 0
+HasEnd many ends a j = bit_at (slice_index ends (j / 64 * many + a)) (j % 64) ≡ 1
+
 -- the bits of a nonterminal are spans of it
-abbrev pub AreEnds : List (Vec ℕ) → List Span → Type 0
-AreEnds ends spans = (a j : ℕ) (set : Vec ℕ) → slice_get ends a ≡ Some set → Has set.items j → SpansIn spans a j
+abbrev pub AreEnds : ℕ → List ℕ → List Span → Type 0
+AreEnds many ends spans = (a j : ℕ) → a < many → HasEnd many ends a j → SpansIn spans a j
 
 -- rows have room for positions alone
 abbrev pub AreShort : List Origins → Type 0
@@ -37,8 +41,7 @@ AreHere g rows = All (λ o. IsHere g o.item) rows
 
 -- a position that is being made
 pub record IsNow (g : PlainGrammar) (now : Now) : Type 0 where
-  pub size : length now.ends.items ≡ g.nonterminals + 1
-  pub ends : AreEnds now.ends.items now.spans.items
+  pub ends : AreEnds (g.nonterminals + 1) now.ends.items now.spans.items
   pub short : AreShort now.origins.items
   pub here : AreHere g now.origins.items
 

@@ -351,7 +351,7 @@ fn expected_of(
 {
     let _well_formed = question.grammar.rules();
     let mut expected = none_expected(alloc, question.grammar.nonterminals())?;
-    let mut pending = Vec::new(alloc);
+    let mut pending = Vec::with_capacity(alloc, question.grammar.nonterminals() as usize)?;
     if first {
         expect(&mut expected, &mut pending, question.grammar.start())?;
     }
@@ -371,23 +371,24 @@ fn awaited(next: Next) -> u16
 }
 
 // The position of what was found.
-fn settle(alloc: Global, question: &Question, now: Now, first: bool) -> Result<Position, AllocError>
-    requires now { IsNow question.now.grammar.now now }
+fn settle(
+    alloc: Global,
+    question: &Question,
+    now: &Now,
+    first: bool,
+) -> Result<Position, AllocError>
+    requires now { IsNow question.now.grammar.now now.now }
     requires corners { HasCorners question.now }
-    ensures rows { IfOk result (AreRowsAt question.now now) }
+    ensures rows { IfOk result (AreRowsAt question.now now.now) }
     ensures size { IfOk result (λ position. HasEach question.now position.expected.items) }
     ensures first { IfOk result (λ position. ExpectsStart question.now first position.expected.items) }
-    ensures awaited { IfOk result (AreAwaitedAt question.now now) }
+    ensures awaited { IfOk result (AreAwaitedAt question.now now.now) }
     ensures closed { IfOk result (λ position. IsDescendedOf question.now position.expected.items) }
-    ensures spans { IfOk result (λ position. position.spans.items ≡ now.spans.items) }
+    ensures spans { IfOk result (λ position. position.spans.items ≡ now.now.spans.items) }
 {
-    let Now {
-        origins,
-        ends: _,
-        spans,
-    } = now;
-    let rows = rows_of(alloc, question, &origins)?;
-    let expected = expected_of(alloc, question, &origins, first)?;
+    let rows = rows_of(alloc, question, &now.origins)?;
+    let expected = expected_of(alloc, question, &now.origins, first)?;
+    let spans = now.spans.to_vec(alloc)?;
     Ok(Position {
         rows,
         expected,
@@ -405,13 +406,15 @@ fn token_at(question: &Question, at: usize) -> Option<u16>
     }
 }
 
-// What is found at the next position by the token before it.
+// What is found at the next position by the token before it, in place of what was found at another.
 fn begin(
     alloc: Global,
     question: &Question,
     chart: &[Position],
+    now: &mut Now,
     guesses: &mut [usize],
-) -> Result<Now, AllocError>
+) -> Result<(), AllocError>
+    requires now { IsNow question.now.grammar.now now.old }
     requires question { IsQuestion question.now.grammar.now question.now.tables.now }
     requires tokens { All (IsNumberOf question.now.grammar.now.tokens) question.now.tokens.now }
     requires length { length question.now.tokens.now ≤ MOST_LENGTH }
@@ -419,19 +422,19 @@ fn begin(
     requires chart { ArePositions question.now.grammar.now chart.now }
     requires last { length chart.now ≤ length question.now.tokens.now }
     ensures guesses { OnOk result (length guesses.new ≡ question.now.tables.now.items) }
-    ensures now { IfOk result (IsNow question.now.grammar.now) }
-    ensures before { IfOk result (AreBefore question.now.grammar.now (length chart.now)) }
-    ensures passed { IfOk result (ArePassedAt question.now chart.now) }
-    ensures scanned { IfOk result (IsScannedAt question.now chart.now) }
-    ensures from { IfOk result (IsFromAt question.now chart.now) }
+    ensures now { OnOk result (IsNow question.now.grammar.now now.new) }
+    ensures before { OnOk result (AreBefore question.now.grammar.now (length chart.now) now.new) }
+    ensures passed { OnOk result (ArePassedAt question.now chart.now now.new) }
+    ensures scanned { OnOk result (IsScannedAt question.now chart.now now.new) }
+    ensures from { OnOk result (IsFromAt question.now chart.now now.new) }
 {
-    let mut now = Now::new(alloc, question.grammar)?;
+    now.clear(question.grammar);
     if chart.is_empty() {
-        return Ok(now);
+        return Ok(());
     }
     let ahead = token_at(question, chart.len());
-    scan(alloc, question, chart, &mut now, guesses, ahead)?;
-    Ok(now)
+    scan(alloc, question, chart, now, guesses, ahead)?;
+    Ok(())
 }
 
 // Makes the next position.
@@ -439,8 +442,10 @@ fn make(
     alloc: Global,
     question: &Question,
     chart: &[Position],
+    now: &mut Now,
     guesses: &mut [usize],
 ) -> Result<Position, AllocError>
+    requires now { IsNow question.now.grammar.now now.old }
     requires question { IsQuestion question.now.grammar.now question.now.tables.now }
     requires corners { HasCorners question.now }
     requires tokens { All (IsNumberOf question.now.grammar.now.tokens) question.now.tokens.now }
@@ -448,12 +453,13 @@ fn make(
     requires guesses { length guesses.old ≡ question.now.tables.now.items }
     requires chart { ArePositions question.now.grammar.now chart.now }
     requires last { length chart.now ≤ length question.now.tokens.now }
+    ensures now { OnOk result (IsNow question.now.grammar.now now.new) }
     ensures guesses { OnOk result (length guesses.new ≡ question.now.tables.now.items) }
     ensures made { IfOk result (IsMadeAt question.now chart.now) }
 {
-    let mut now = begin(alloc, question, chart, guesses)?;
+    begin(alloc, question, chart, now, guesses)?;
     let ahead = token_at(question, chart.len());
-    complete(alloc, question, chart, &mut now, guesses, ahead)?;
+    complete(alloc, question, chart, now, guesses, ahead)?;
     let position = settle(alloc, question, now, chart.is_empty())?;
     Ok(position)
 }
@@ -471,9 +477,11 @@ fn positions_of(
     requires guesses { length guesses.old ≡ question.now.tables.now.items }
     ensures { IfOk result (λ chart. IsChartOf question.now chart.items) }
 {
-    let mut chart: Vec<Position> = Vec::new(alloc);
-    for _ in 0..question.tokens.len() + 1 {
-        let position = make(alloc, question, &chart, guesses)?;
+    let many = question.tokens.len() + 1;
+    let mut chart: Vec<Position> = Vec::with_capacity(alloc, many)?;
+    let mut now = Now::new(alloc, question.grammar)?;
+    for _ in 0..many {
+        let position = make(alloc, question, &chart, &mut now, guesses)?;
         chart.push(position)?;
     }
     Ok(chart)

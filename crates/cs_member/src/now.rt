@@ -1,16 +1,16 @@
 // The position that is being made.
 
-ghost use Rattle.std.specs.Prelude.{◌≡◌, ◌≤◌, ◌<◌, ◌+◌, [], Some, All, IfOk, OnOk, length};
+ghost use Rattle.std.specs.Prelude.{◌≡◌, ◌≤◌, ◌<◌, ◌+◌, ◌*◌, [], Some, All, IfOk, OnOk, length};
 ghost use Rattle.cs_member.specs.declared.now.Origins.{Origins};
 ghost use Rattle.cs_member.specs.Item.{IsItem};
 ghost use Rattle.cs_member.specs.Tables.{IsQuestion};
 ghost use Rattle.cs_member.specs.Sets.{InWord, InWords};
-ghost use Rattle.cs_member.specs.Now.{IsNow, Ends, Stood, AreShort};
+ghost use Rattle.cs_member.specs.Now.{IsNow, AreEnds, Ends, Stood, AreShort};
 ghost use Rattle.cs_member.specs.Asked.{HoldsItem, MayAdd, StaysHere, KeepsHere, StoodAt, EndsIn, IsPutBy};
 
 use crate::item::{Item, Next, next_of, same};
 use crate::tables::Tables;
-use crate::word::{Word, add, add_all, bits_at};
+use crate::word::{Word, add_all, add_bits, bits_at, clear_bits};
 use cs_grammar::{Grammar, Symbol, place_of};
 use std::alloc::{AllocError, Global};
 
@@ -53,8 +53,8 @@ pub(crate) struct Origins {
 #[derive(Debug, Drop)]
 pub(crate) struct Now {
     pub(crate) origins: Vec<Origins>,
-    // By nonterminal: where its spans begin.
-    pub(crate) ends: Vec<Vec<u64>>,
+    // Where spans begin, in words of 64 positions: those of each nonterminal for the first word, and so on.
+    pub(crate) ends: Vec<u64>,
     pub(crate) spans: Vec<Span>,
 }
 
@@ -64,17 +64,42 @@ impl Now {
         ensures origins { IfOk result (λ now. now.origins.items ≡ []) }
         ensures spans { IfOk result (λ now. now.spans.items ≡ []) }
     {
-        let _well_formed = grammar.rules();
         let many = grammar.nonterminals() as usize + 1;
-        let mut ends = Vec::with_capacity(alloc, many)?;
-        for _ in 0..many {
-            ends.push(Vec::new(alloc))?;
-        }
         Ok(Now {
             origins: Vec::new(alloc),
-            ends,
-            spans: Vec::new(alloc),
+            ends: Vec::with_capacity(alloc, many)?,
+            spans: Vec::with_capacity(alloc, many)?,
         })
+    }
+
+    // Forgets what was found, and keeps the memory for what is found at the next position.
+    pub(crate) fn clear(&mut self, grammar: &Grammar)
+        requires { IsNow grammar.now self.old }
+        ensures now { IsNow grammar.now self.new }
+        ensures origins { self.new.origins.items ≡ [] }
+        ensures spans { self.new.spans.items ≡ [] }
+    {
+        forget_ends(grammar, &mut self.ends, &self.spans);
+        self.origins.clear();
+        self.spans.clear();
+    }
+}
+
+// Where a nonterminal's bits for a word of positions are kept.
+fn end_place(grammar: &Grammar, left: u16, at: u16) -> u32
+    ensures { result ≡ at * (grammar.now.nonterminals + 1) + left }
+{
+    at as u32 * (grammar.nonterminals() as u32 + 1) + left as u32
+}
+
+// Takes the bits of the spans away.
+fn forget_ends(grammar: &Grammar, ends: &mut Vec<u64>, spans: &[Span])
+    requires { AreEnds (grammar.now.nonterminals + 1) ends.old.items spans.now }
+    ensures { AreEnds (grammar.now.nonterminals + 1) ends.new.items [] }
+{
+    for span in spans {
+        let place = end_place(grammar, span.nonterminal, span.from / 64);
+        clear_bits(ends, place);
     }
 }
 
@@ -179,12 +204,13 @@ fn end_word(
     ensures ends { OnOk result (Ends left cause (InWord word)
         now.old.spans.items now.new.spans.items) }
 {
+    let place = end_place(grammar, left, word.at);
     let fresh = Word {
         at: word.at,
-        bits: word.bits & !bits_at(&now.ends[left as usize], word.at),
+        bits: word.bits & !bits_at(&now.ends, place),
     };
     end_bits(&mut now.spans, left, cause, fresh)?;
-    add(&mut now.ends[left as usize], word)?;
+    add_bits(&mut now.ends, place, word.bits)?;
     Ok(())
 }
 

@@ -19,8 +19,9 @@ make-requires-clause-last c =
 
 pub loop-init : goal.loop-init
 loop-init c = record {
+  now = c.in_ok-now.ensures.now;
   guesses = c.requires.guesses;
-  chart = subst (λ (l : List Position). IsChart c.args.question.now.grammar.now c.args.question.now.tables.now c.args.question.now.tokens.now 0 l) (sym c.new-chart.ensures.items) (chart_none c.args.question.now.grammar.now c.args.question.now.tables.now c.args.question.now.tokens.now);
+  chart = subst (λ (l : List Position). IsChart c.args.question.now.grammar.now c.args.question.now.tables.now c.args.question.now.tokens.now 0 l) (sym c.in_ok-chart.ensures.items) (chart_none c.args.question.now.grammar.now c.args.question.now.tables.now c.args.question.now.tokens.now);
 }
 
 pub loop-preserved : goal.loop-preserved
@@ -30,6 +31,7 @@ loop-preserved c =
     let tokens = c.args.question.now.tokens.now in
     let made = subst (λ (l : List Position). IsMade g tables tokens l c.in_ok-position.position) c.deref.ensures.value c.in_ok-position.ensures.made in
     record {
+      now = c.in_ok-position.ensures.now;
       guesses = c.in_ok-position.ensures.guesses;
       chart = subst (λ (l : List Position). IsChart g tables tokens (c.loop.counter + 1) l) (sym c.in_ok-push.ensures.items) (chart_push g tables tokens c.loop.counter c.loop.chart.items c.in_ok-position.position c.loop.invariant.chart made);
     }

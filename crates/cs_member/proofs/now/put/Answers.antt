@@ -88,7 +88,7 @@ loop-place-preserved c =
     let new : Now = record { origins = c.stand-in-Awaited-Nonterminal.new.origins; ends = c.loop-place.now.ends; spans = c.loop-place.now.spans } in
     let inv = c.loop-place.invariant in
     record {
-      now = record { size = inv.now.size; ends = inv.now.ends; short = said.short; here = said.items g (Nonterminal n, subst (λ (s : Symbol). Awaits g item s) c.in-Awaited-Nonterminal.field-0-is c.in-Awaited-Nonterminal.ensures) inv.now.here };
+      now = record { ends = inv.now.ends; short = said.short; here = said.items g (Nonterminal n, subst (λ (s : Symbol). Awaits g item s) c.in-Awaited-Nonterminal.field-0-is c.in-Awaited-Nonterminal.ensures) inv.now.here };
       guesses = said.size ∙ inv.guesses;
       put = put_step g c.args.way.ahead c.args.way.cause c.args.first (InWords c.args.words.now) k c.args.now.now c.loop-place.now new inv.put
           (step_stand g c.args.way.ahead c.args.way.cause item (InWords c.args.words.now) c.loop-place.now new (Nonterminal n) (subst (λ (s : Symbol). Awaits g item s) c.in-Awaited-Nonterminal.field-0-is c.in-Awaited-Nonterminal.ensures) (λ u is. absurd cc) refl said.stood)
@@ -114,7 +114,6 @@ returns-in_ok-stand-in-Awaited-Token-clause-now c =
     let said = c.in_ok-stand-in-Awaited-Token.ensures in
     let inv = c.loop-place.invariant.now in
     record {
-      size = inv.size;
       ends = inv.ends;
       short = said.short;
       here = said.items g (Token c.in-Awaited-Token.token, subst (λ (s : Symbol). Awaits g item s) c.in-Awaited-Token.field-0-is c.in-Awaited-Token.ensures) inv.here;
@@ -127,7 +126,6 @@ returns-then-index-eq0-clause-now c =
     let said = c.in_ok-stand-in-Awaited-Nonterminal.ensures in
     let inv = c.loop-place.invariant.now in
     record {
-      size = inv.size;
       ends = inv.ends;
       short = said.short;
       here = said.items g (Nonterminal c.in-Awaited-Nonterminal.nonterminal, subst (λ (s : Symbol). Awaits g item s) c.in-Awaited-Nonterminal.field-0-is c.in-Awaited-Nonterminal.ensures) inv.here;
