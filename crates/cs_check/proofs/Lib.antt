@@ -1,1 +1,2 @@
 pub mod OnClosed
+pub mod OnPassing

@@ -1,1 +1,4 @@
 pub mod Closed
+pub mod Words
+pub mod Lines
+pub mod Passing

@@ -3,6 +3,7 @@
 //! The parts, from the bottom up; none stands on one behind it:
 //!
 //! - `closed`: sets of which a test tells that they are closed under the rules of a grammar, and which goals they exclude.
+//! - `passing`: what a manifest has to say to pass, line by line. No call decides it yet.
 //!
 //! # What it is for
 //!
@@ -13,13 +14,14 @@
 //! # What a contract sees
 //!
 //! `Sets` are seen as tables that tell for each number whether it is in a set. `specs/Closed/Closed` says when sets are closed
-//! and which goals they exclude, `specs/Closed/Laws` what follows from that.
+//! and which goals they exclude, `specs/Closed/Laws` what follows from that. `specs/Passing/Passing` says which line of a text
+//! is the first with a fault.
 //!
 //! # What is proved
 //!
 //! What closed sets exclude no tree of the start symbol meets, and marks that they keep apart are adjacent in no sentence: for
 //! any grammar and any sets, by an induction over trees. The exact sets of a grammar are closed, and exclude each goal of the
-//! grammar that no tree meets.
+//! grammar that no tree meets. A text fails at one line at most with one lowest fault, and doesn't pass then.
 //!
 //! # What is only tested
 //!
@@ -27,5 +29,7 @@
 #![tactic(auto)]
 
 mod closed;
+mod passing;
 
 pub use closed::{Set, Sets, closed_sets_exclude, closed_sets_part, exact_sets_pass};
+pub use passing::{ClaimFault, one_failure};

@@ -1,0 +1,9 @@
+pub mod Pieces
+pub mod First
+pub mod Above
+pub mod Head
+pub mod Places
+pub mod Goals
+pub mod Entries
+pub mod Faults
+pub mod Passing
