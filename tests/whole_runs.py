@@ -334,6 +334,7 @@ CUT = [
     (["deep", "one.y", "one.l"], DEEP),
     (["chains", "choice.y"], CHAINS),
     (["chains", "choice.y", "one.l", "--weigh=bytes"], CHAINS_WITH_TEXTS),
+    (["wrong", "one.y", "one.l"], WRONG),
 ]
 ROWS = [
     (["rules", "g1.y"], 0, SUMS, b""),
