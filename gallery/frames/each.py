@@ -7,10 +7,16 @@ told.
 
 import argparse
 import base64
+import os
 import re
-import subprocess
+import select
+import signal
 import sys
 import tempfile
+
+TICKS = os.sysconf("SC_CLK_TCK")
+# How often it is looked at what a running command has used.
+SECONDS_BETWEEN_LOOKS = 0.05
 
 
 def arguments(words):
@@ -19,41 +25,72 @@ def arguments(words):
     parser.add_argument("--refused", default="1", metavar="LIST", help="statuses that refuse, as in --taken (1)")
     parser.add_argument("--message", metavar="PATTERN", help="a pattern of what is written where a text is refused")
     parser.add_argument("--before", default="", metavar="LINE", help="a line that stands in front of each text")
-    parser.add_argument("--seconds", type=float, default=30, help="the time that a text may take (30)")
+    parser.add_argument("--seconds", type=float, default=30, help="the processor time that a text may take (30)")
     parser.add_argument("--slow", default="too slow", metavar="ANSWER", help="what is answered behind that (too slow)")
     parser.add_argument("command", nargs="+", help="behind --: the parser and its words")
     return parser.parse_args(words)
 
 
-def run(asked, text, path):
-    """The command's status, and what it wrote."""
-    text = (asked.before + "\n").encode() + text if asked.before else text
-    words, given = asked.command, text
-    if "{text}" in words:
-        with open(path, "wb") as file:
-            file.write(text)
-        words, given = [path if word == "{text}" else word for word in words], b""
-    ran = subprocess.run(words, input=given, stdout=subprocess.PIPE, stderr=subprocess.STDOUT, timeout=asked.seconds)
-    return ran.returncode, ran.stdout.decode("latin-1")
+def seconds_of(process):
+    """The processor time of a running process."""
+    with open(f"/proc/{process}/stat") as file:
+        user, system = file.read().rpartition(")")[2].split()[11:13]
+    return (int(user) + int(system)) / TICKS
 
 
-def answer(asked, text, path):
-    try:
-        status, written = run(asked, text, path)
-    except subprocess.TimeoutExpired:
-        return asked.slow
-    if asked.message and re.search(asked.message, written):
-        return "refused"
-    if str(status) in asked.taken.split(","):
-        return "taken"
-    return "refused" if str(status) in asked.refused.split(",") else f"status {status}"
+def status_of(process, seconds):
+    """The status of a process, as subprocess tells it, or None where it takes more processor time, and is ended."""
+    life, slow = os.pidfd_open(process), False
+    ready = select.poll()
+    ready.register(life, select.POLLIN)
+    while not ready.poll(SECONDS_BETWEEN_LOOKS * 1000):
+        if seconds_of(process) > seconds:
+            os.kill(process, signal.SIGKILL)
+            slow = True
+    os.close(life)
+    status = os.waitstatus_to_exitcode(os.waitpid(process, 0)[1])
+    return None if slow else status
 
 
-def main(words):
-    asked = arguments(words)
-    with tempfile.NamedTemporaryFile() as file:
+class Each:
+    """A command with files for its text and for what it writes."""
+
+    def __init__(self, asked, folder):
+        self.asked = asked
+        self.text, self.written = os.path.join(folder, "text"), os.path.join(folder, "written")
+        self.words = [self.text if word == "{text}" else word for word in asked.command]
+        given = os.devnull if "{text}" in asked.command else self.text
+        kept = os.O_WRONLY | os.O_CREAT | os.O_TRUNC
+        self.files = [(os.POSIX_SPAWN_OPEN, 0, given, os.O_RDONLY, 0), (os.POSIX_SPAWN_OPEN, 1, self.written, kept, 0o600)]
+        self.files += [(os.POSIX_SPAWN_DUP2, 1, 2)]
+
+    def run(self, text):
+        """The command's status and what it wrote."""
+        with open(self.text, "wb") as file:
+            file.write((self.asked.before + "\n").encode() + text if self.asked.before else text)
+        process = os.posix_spawnp(self.words[0], self.words, os.environ, file_actions=self.files)
+        status = status_of(process, self.asked.seconds)
+        with open(self.written, encoding="latin-1") as file:
+            return status, file.read()
+
+    def answer(self, text):
+        status, written = self.run(text)
+        if status is None:
+            return self.asked.slow
+        if self.asked.message and re.search(self.asked.message, written):
+            return "refused"
+        if str(status) in self.asked.taken.split(","):
+            return "taken"
+        return "refused" if str(status) in self.asked.refused.split(",") else f"status {status}"
+
+
+def serve(words, make):
+    """Answers a line for each text, by what is made of the words and a folder."""
+    with tempfile.TemporaryDirectory() as folder:
+        each = make(arguments(words), folder)
         for line in sys.stdin.buffer:
-            print(answer(asked, base64.b64decode(line), file.name), flush=True)
+            print(each.answer(base64.b64decode(line)), flush=True)
 
 
-main(sys.argv[1:])
+if __name__ == "__main__":
+    serve(sys.argv[1:], Each)
