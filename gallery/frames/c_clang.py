@@ -1,5 +1,5 @@
-"""c_clang.py, with the words of each.py: clang's own parser by its library, in one process. A text at which that dies is
-given to the command."""
+"""c_clang.py, with the words of each.py: clang's own parser by its library, in one process. A text at which that dies
+is given to the command."""
 
 import re
 import sys

@@ -61,8 +61,8 @@ class Each:
         self.words = [self.text if word == "{text}" else word for word in asked.command]
         given = os.devnull if "{text}" in asked.command else self.text
         kept = os.O_WRONLY | os.O_CREAT | os.O_TRUNC
-        self.files = [(os.POSIX_SPAWN_OPEN, 0, given, os.O_RDONLY, 0), (os.POSIX_SPAWN_OPEN, 1, self.written, kept, 0o600)]
-        self.files += [(os.POSIX_SPAWN_DUP2, 1, 2)]
+        self.files = [(os.POSIX_SPAWN_OPEN, 0, given, os.O_RDONLY, 0)]
+        self.files += [(os.POSIX_SPAWN_OPEN, 1, self.written, kept, 0o600), (os.POSIX_SPAWN_DUP2, 1, 2)]
 
     def run(self, text):
         """The command's status and what it wrote."""
