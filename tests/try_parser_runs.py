@@ -129,7 +129,7 @@ def slow(folder):
 def interrupted(folder):
     """An interrupt ends what runs, and what was seen so far is told."""
     path = written(folder, "interrupted", FIRST)
-    words = [os.path.join(TOP, "tools", "try_parser"), "--jobs", "1", path, "--", *SLEEP.split()]
+    words = [os.path.join(TOP, "tools", "try_parser"), "--jobs", "1", "--seconds", "300", path, "--", *SLEEP.split()]
     for number in (signal.SIGINT, signal.SIGTERM):
         run = subprocess.Popen(words, stdout=subprocess.PIPE, stderr=subprocess.PIPE)
         until = time.monotonic() + 300
