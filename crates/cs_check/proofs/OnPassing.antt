@@ -1,1 +1,4 @@
 pub mod First
+pub mod Words
+pub mod Quotes
+pub mod OneLine

@@ -22,6 +22,7 @@
 //! What closed sets exclude no tree of the start symbol meets, and marks that they keep apart are adjacent in no sentence: for
 //! any grammar and any sets, by an induction over trees. The exact sets of a grammar are closed, and exclude each goal of the
 //! grammar that no tree meets. A text fails at one line at most with one lowest fault, and doesn't pass then.
+//! Bytes say one line at most.
 //!
 //! # What is only tested
 //!
@@ -32,4 +33,4 @@ mod closed;
 mod passing;
 
 pub use closed::{Set, Sets, closed_sets_exclude, closed_sets_part, exact_sets_pass};
-pub use passing::{ClaimFault, one_failure};
+pub use passing::{ClaimFault, one_failure, one_line};

@@ -106,3 +106,7 @@ pub record Says (bytes : List ℕ) (l : Line) : Type 0 where
   pub text : bytes ≡ line (joined (words l))
   pub are_words : All IsWord (names l)
   pub are_bytes : AreBytes (text_in l)
+
+-- the law: bytes are one line at most
+abbrev pub SaysOne : List ℕ → Type 0
+SaysOne bytes = (l k : Line) → Says bytes l → Says bytes k → l ≡ k
