@@ -7,3 +7,7 @@ pub mod Marks
 pub mod Seams
 pub mod Searching
 pub mod Listed
+pub mod Behind
+pub mod KeptLists
+pub mod Alike
+pub mod Looking

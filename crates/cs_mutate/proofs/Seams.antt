@@ -1,5 +1,5 @@
 -- The pairs that an edit touches.
-use Rattle.std.proofs.Common.{◌≡◌, ℕ, zero, suc, ◌+◌, ◌-◌, ◌<◌, ◌≤◌, List, [], ◌∷◌, ◌++◌, map, take, drop, length, get_or, Some, refl, sym, ap, ◌∙◌, subst, ⊎_elim, ◌⊎◌, inl, inr, add-one, append_assoc, length-append, arith}
+use Rattle.std.proofs.Common.{◌≡◌, ℕ, zero, suc, ◌+◌, ◌-◌, ◌<◌, ◌≤◌, List, [], ◌∷◌, ◌++◌, map, take, drop, length, get_or, Some, refl, sym, ap, ◌∙◌, subst, ⊎_elim, ◌⊎◌, inl, inr, add-one, append_assoc, length-append, arith, ◌↔◌}
 use Rattle.std.specs.Prelude.{slice_get}
 use Rattle.std.specs.List.{All}
 use Rattle.std.proofs.lemmas.Bool.{cases_lt}
@@ -12,7 +12,9 @@ use Rattle.cs_grammar.specs.Sentence.{framed}
 use Rattle.cs_goals.specs.Goal.{IsLeft, IsRight}
 use Rattle.cs_pairs.specs.Pairs.Pairs.{IsAdjacent}
 use Rattle.cs_mutate.specs.Edit.{patched}
-use Rattle.cs_mutate.specs.Poison.{IsPair, HasNoPoison, IsFirstPoisoned, between}
+use Rattle.cs_mutate.specs.Poison.{IsPair, HasNoPoison, IsFirstPoisoned, IsPoisonedAt, between}
+use Rattle.cs_mutate.specs.Kept.{IsOnlyAt}
+use Rattle.cs_mutate.specs.Keeping.{IsSoundBehind}
 use Rattle.cs_mutate.proofs.Marks.{many, token_at, last_at}
 
 module _ {A : Type 0} where
@@ -47,11 +49,11 @@ module _ (l r : List Mark) where
   left_pair k a b within p =
       record { left = sym (get_left l r k (omega arith)) ∙ p.left; right = sym (get_left l r (k + 1) within) ∙ p.right }
 
-  pair_right : (k j : ℕ) (a b : Mark) → k ≡ length l + j → IsPair r j a b → IsPair (l ++ r) k a b
+  pub pair_right : (k j : ℕ) (a b : Mark) → k ≡ length l + j → IsPair r j a b → IsPair (l ++ r) k a b
   pair_right k j a b is p =
       record { left = get_right l r k j is ∙ p.left; right = get_right l r (k + 1) (j + 1) (omega arith) ∙ p.right }
 
-  right_pair : (k j : ℕ) (a b : Mark) → k ≡ length l + j → IsPair (l ++ r) k a b → IsPair r j a b
+  pub right_pair : (k j : ℕ) (a b : Mark) → k ≡ length l + j → IsPair (l ++ r) k a b → IsPair r j a b
   right_pair k j a b is p =
       record { left = sym (get_right l r k j is) ∙ p.left; right = sym (get_right l r (k + 1) (j + 1) (omega arith)) ∙ p.right }
 
@@ -191,6 +193,37 @@ module _ (w : List ℕ) (i gone : ℕ) (left right : Mark) (h : Around w i gone 
           earlier = λ m x y early p.
               ⊎_elim (λ adjacent. adjacent) (λ here. let at = here.1 in first.earlier here.0 x y (omega arith) here.2) (pair_cases m x y p);
         }
+
+    -- where the first poisoned pair of the edited list stands in the seam
+    pub seam_at : (at : ℕ) → IsPoisonedAt g (framed (patched w i put gone)) at → (j : ℕ) × (at ≡ i + j) × (j ≤ length put)
+    seam_at at p =
+        let wide = seam_long in
+        ⊎_elim (λ adjacent. absurd (p.2.poisoned adjacent))
+        (λ here. (here.0, here.1, let within = slice_get_within (between left put right) (here.0 + 1) p.1 here.2.right in omega arith))
+        (pair_cases at p.0 p.1 p.2.pair)
+
+    -- it is the only one where none stands behind it in the seam
+    pub only_in_seam : (at j : ℕ) → at ≡ i + j → IsPoisonedAt g (framed (patched w i put gone)) at → IsSoundBehind g (between left put right) j ↔ IsOnlyAt g (framed (patched w i put gone)) at
+    only_in_seam at j is first = (forth, back)
+      where
+        forth : IsSoundBehind g (between left put right) j → IsOnlyAt g (framed (patched w i put gone)) at
+        forth sound_seam k a b differs p =
+            ⊎_elim (λ adjacent. adjacent)
+            (λ here.
+            ⊎_elim (λ before. first.2.earlier k a b (let there = here.1 in omega arith) p)
+            (λ not_before.
+            ⊎_elim (λ behind. sound_seam here.0 a b behind here.2)
+            (λ not_behind. absurd (differs (let there = here.1 in omega arith)))
+            (cases_lt j here.0))
+            (cases_lt here.0 j))
+            (pair_cases k a b p)
+
+        back : IsOnlyAt g (framed (patched w i put gone)) at → IsSoundBehind g (between left put right) j
+        back only m a b behind p =
+            let long = h.long in
+            let there = pair_right h.front (between left put right ++ h.back) (m + i) m a b (omega arith) (pair_left (between left put right) h.back m a b p) in
+            only (m + i) a b (λ same. absurd (omega (arith, same, is, behind)))
+            (subst (λ (l : List Mark). IsPair l (m + i) a b) (sym (framed_patched put ∙ seam put ∙ append_assoc h.front (between left put right) h.back)) there)
 
 pub mark_token : (w : List ℕ) (at k : ℕ) → at ≡ k + 1 → k < length w → slice_get (framed w) at ≡ Some (Token (get_or w k 0))
 mark_token w at k is within = ap (slice_get (framed w)) (is ∙ add-one k) ∙ token_at End w k 0 within

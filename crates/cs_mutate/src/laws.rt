@@ -1,12 +1,14 @@
 // The laws of the lists of edits and negatives.
 
-ghost use Rattle.std.specs.Prelude.{ℕ, List};
+ghost use Rattle.std.specs.Prelude.{ℕ, List, Option};
 ghost use Rattle.cs_grammar.specs.Grammar.{PlainGrammar};
 ghost use Rattle.cs_mutate.specs.declared.edit.Edit.{Edit};
 ghost use Rattle.cs_choices.specs.declared.operators.Operators.{Operators};
 ghost use Rattle.cs_mutate.specs.declared.negative.Negative.{Negative};
 ghost use Rattle.cs_mutate.specs.Mutant.{ResultsDiffer, HasEachMutant, HasEachEdit};
 ghost use Rattle.cs_mutate.specs.Negatives.{ComesFirst, HasNone, HasOneList, HasEachNegative, IsOutside};
+ghost use Rattle.cs_mutate.specs.Kept.{AreOfThose, AreOutside, HaveOneList, HaveSomeList};
+ghost use Rattle.cs_mutate.specs.Kept.{IsBounded, KeepsAll, StaysFew};
 
 /// The results of a list's edits all differ, and they are the lists other than itself that come from
 /// it by a chosen operator: by the deletion of one token, the insertion of one, the replacement of
@@ -28,4 +30,22 @@ pub fn one_list_of_negatives()
     ensures one { (g : PlainGrammar) (w : List ℕ) (es : List Edit) → HasOneList g w es }
     ensures all { (g : PlainGrammar) (w : List ℕ) (es : List Edit) → HasEachNegative g w es }
     ensures outside { (g : PlainGrammar) (w : List ℕ) (n : Negative) → IsOutside g w n }
+{}
+
+/// The kept negatives of a list, behind those of lists before it, are one list: there is at most one, and it isn't so that there
+/// is none. Each of them is one of the list's negatives, so that none is a sentence, and its poisoned pair is the only one.
+/// Where no number is chosen all negatives are kept.
+pub fn one_list_of_kept()
+    ensures one { (g : PlainGrammar) (w : List ℕ) → HaveOneList g w }
+    ensures some { (g : PlainGrammar) (w : List ℕ) → HaveSomeList g w }
+    ensures each { (g : PlainGrammar) (w : List ℕ) (first : Option ℕ) → AreOfThose g w first }
+    ensures outside { (g : PlainGrammar) (w : List ℕ) (first : Option ℕ) → AreOutside g w first }
+    ensures all { (g : PlainGrammar) (w : List ℕ) → KeepsAll g w }
+{}
+
+/// Of any negative at most so many kept ones are alike, through all lists. So they are at most that number for each operator and
+/// each left mark.
+pub fn few_kept()
+    ensures alike { (g : PlainGrammar) (w : List ℕ) (most : ℕ) → StaysFew g w most }
+    ensures few { (tokens most : ℕ) (ns : List Negative) → IsBounded tokens most ns }
 {}

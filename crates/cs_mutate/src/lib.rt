@@ -4,17 +4,20 @@
 //! The layers above get the edits of a list one after another from [`Edits`], test one by
 //! [`edit_fits`], make the edited list by [`apply`] or [`apply_into`], and ask [`poison`] for the
 //! first pair of a framed list that stands side by side in no sentence. [`Negatives`] gives the
-//! edits whose results have such a pair, one after another.
+//! edits whose results have such a pair, one after another. Of these a [`Keeper`] gives those that are
+//! kept: of the ones with one such pair the first so many of each operator and left mark.
 //!
 //! Of the files of `specs/`, these say what is meant: `Edit` (what an edit makes of a list), `Edits`
 //! (the list of a list's edits), `Mutant` (which lists come from a list by a mutation), `Poison`
-//! (poisoned pairs), `Negatives` (the edits that give one). `Rest` has working words of proofs: what
-//! is left of the list of edits. The laws are functions that do nothing.
+//! (poisoned pairs), `Negatives` (the edits that give one), `Kept` (which of them are kept) and `Tells` of
+//! `Keeping` (what a keeper knows of those before). `Rest` and the others of `Keeping` are working words of
+//! proofs: what is left of the list of edits, what comes next. The laws are functions that do nothing.
 #![tactic(auto)]
 
 mod candidates;
 mod edit;
 mod edits;
+mod kept;
 mod laws;
 mod negative;
 mod poisoning;
@@ -22,6 +25,7 @@ mod touched;
 
 pub use edit::{Edit, apply, apply_into, edit_fits};
 pub use edits::Edits;
-pub use laws::{each_mutant_once, one_list_of_negatives};
+pub use kept::Keeper;
+pub use laws::{each_mutant_once, few_kept, one_list_of_kept, one_list_of_negatives};
 pub use negative::{Negative, Negatives};
 pub use poisoning::poison;

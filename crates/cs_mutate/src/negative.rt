@@ -1,16 +1,18 @@
 // The negatives of a list, one after another.
 
-ghost use Rattle.std.specs.Prelude.{◌≡◌, ◌≤◌, length, All, IfSome, IfOk, OnErr};
+ghost use Rattle.std.specs.Prelude.{◌≡◌, ◌↔◌, ◌≤◌, length, All, IfSome, IfOk, IsTrue, OnErr};
 ghost use Rattle.cs_grammar.specs.Grammar.{IsNumberOf};
 ghost use Rattle.cs_grammar.specs.Sentence.{framed};
+ghost use Rattle.cs_goals.specs.Goal.{IsLeft};
 ghost use Rattle.cs_mutate.specs.Edit.{Fits, edited};
 ghost use Rattle.cs_mutate.specs.Poison.{HasNoPoison, TellsPair};
-ghost use Rattle.cs_mutate.specs.Negatives.{Finds, search_of, FindsNext, FitsBase};
+ghost use Rattle.cs_mutate.specs.Negatives.{Finds, search_of, FindsNext, FitsBase, IsNegative};
+ghost use Rattle.cs_mutate.specs.Kept.{IsOnly};
 
 use crate::edit::{Edit, apply};
 use crate::edits::Edits;
-use crate::poisoning::{PoisonedPair, poison, poison_between};
-use crate::touched::poison_touched;
+use crate::poisoning::{PoisonedPair, poison, poison_between, sound_behind};
+use crate::touched::{only_touched, poison_touched};
 use cs_choices::Operators;
 use cs_grammar::Mark;
 use cs_pairs::Pairs;
@@ -79,6 +81,8 @@ impl<'p> Negatives<'p> {
     pub fn next(&mut self) -> Result<Option<Negative>, AllocError>
         ensures found { IfOk result (λ found. FindsNext self.old found self.new) }
         ensures fits { IfOk result (λ found. IfSome found (λ n. FitsBase self.old n.edit)) }
+        ensures left { IfOk result (λ found.
+            IfSome found (λ n. IsLeft self.old.grammar.tokens n.left)) }
         ensures grammar { self.new.grammar ≡ self.old.grammar }
         ensures base { self.new.base ≡ self.old.base }
         ensures refused { OnErr result (self.new.edits ≡ self.old.edits) }
@@ -90,6 +94,19 @@ impl<'p> Negatives<'p> {
         let found = next_whole(self.alloc, self.pairs, self.base, &mut edits)?;
         self.edits = edits;
         Ok(found)
+    }
+
+    /// Whether a negative's poisoned pair is the only one of its framed result.
+    pub fn is_only(&self, negative: &Negative) -> Result<bool, AllocError>
+        requires negative { IsNegative self.now.grammar self.now.base negative.now }
+        requires fits { FitsBase self.now negative.now.edit }
+        ensures { IfOk result (λ only.
+            IsTrue only ↔ IsOnly self.now.grammar self.now.base negative.now) }
+    {
+        if self.sound {
+            return Ok(only_touched(self.pairs, self.base, negative));
+        }
+        only_edited(self.alloc, self.pairs, self.base, negative)
     }
 }
 
@@ -161,4 +178,21 @@ fn poison_edited(
 {
     let list = apply(alloc, base, edit)?;
     Ok(poison_between(pairs, Mark::Begin, &list, Mark::End))
+}
+
+// Whether the poisoned pair is the only one of the framed result, which is read behind it.
+fn only_edited(
+    alloc: Global,
+    pairs: &Pairs,
+    base: &[u16],
+    negative: &Negative,
+) -> Result<bool, AllocError>
+    requires short { length base.now ≤ 1000000 }
+    requires tokens { All (IsNumberOf pairs.now.grammar.tokens) base.now }
+    requires fits { Fits (length base.now) pairs.now.grammar.tokens negative.now.edit }
+    requires negative { IsNegative pairs.now.grammar base.now negative.now }
+    ensures { IfOk result (λ only. IsTrue only ↔ IsOnly pairs.now.grammar base.now negative.now) }
+{
+    let list = apply(alloc, base, &negative.edit)?;
+    Ok(sound_behind(pairs, &list, negative.at as usize, Mark::End))
 }

@@ -5,6 +5,7 @@ ghost use Rattle.cs_grammar.specs.Grammar.{IsNumberOf};
 ghost use Rattle.cs_grammar.specs.Sentence.{IsSentence, framed};
 ghost use Rattle.cs_goals.specs.Goal.{IsLeft, IsRight};
 ghost use Rattle.cs_mutate.specs.Poison.{TellsPlace, TellsPair, between};
+ghost use Rattle.cs_mutate.specs.Keeping.{TellsBehind};
 
 use cs_grammar::Mark;
 use cs_pairs::Pairs;
@@ -66,4 +67,19 @@ pub(crate) fn poison_between(
             right,
         })
     }
+}
+
+// Whether each pair behind the one at a place is adjacent, of a mark, some tokens and a mark. The first of these marks stands in
+// no such pair.
+pub(crate) fn sound_behind(pairs: &Pairs, list: &[u16], at: usize, right: Mark) -> bool
+    requires right { IsRight pairs.now.grammar.tokens right }
+    requires tokens { All (IsNumberOf pairs.now.grammar.tokens) list.now }
+    requires short { length list.now ≤ 1000001 }
+    requires inside { at ≤ length list.now }
+    ensures { TellsBehind pairs.now.grammar list.now right at result }
+{
+    if at == list.len() {
+        return true;
+    }
+    poison_between(pairs, Mark::Token(list[at]), &list[at + 1..], right).is_none()
 }

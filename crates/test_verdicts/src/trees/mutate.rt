@@ -1,6 +1,6 @@
 // Edits, poisoned pairs and negatives. The lists of edits, their results and their counts were worked
 // out by hand from what an edit is; which pairs stand in sentences of the two grammars too.
-ghost use Rattle.std.specs.Prelude.{◌↔◌, IsTrue, All};
+ghost use Rattle.std.specs.Prelude.{◌≡◌, ◌↔◌, IsTrue, All};
 ghost use Rattle.cs_grammar.specs.Grammar.{IsNumberOf};
 
 use cs_choices::Operators;
@@ -8,8 +8,8 @@ use cs_grammar::{Grammar, Mark, Symbol, Weights};
 use cs_least::{Costs, Embeds};
 use cs_mutate::Edit::{Delete, Insert, Replace, Swap};
 use cs_mutate::{
-    Edit, Edits, Negative, Negatives, apply, each_mutant_once, edit_fits, one_list_of_negatives,
-    poison,
+    Edit, Edits, Keeper, Negative, Negatives, apply, each_mutant_once, edit_fits, few_kept,
+    one_list_of_kept, one_list_of_negatives, poison,
 };
 use cs_pairs::Pairs;
 use cs_samples::{grammar_of, grammar_of_sums, rules};
@@ -271,5 +271,74 @@ fn a_sentence_of_two_has_no_negative(rt: HostRuntime) -> Result<(), Fail> {
     check_cases(&rt, rt.alloc(), &twice, &[case])?;
     each_mutant_once();
     one_list_of_negatives();
+    Ok(())
+}
+
+// What a keeper keeps of a list's negatives, at most 100.
+fn keep(
+    rt: &impl Abort,
+    alloc: Global,
+    pairs: &Pairs,
+    base: &[u16],
+    keeper: &mut Keeper,
+) -> Result<Vec<Edit>, AllocError>
+    requires { keeper.old.tokens ≡ pairs.now.grammar.tokens }
+    ensures { keeper.new.tokens ≡ keeper.old.tokens }
+{
+    assert!(rt; base.len() < 100 && are_tokens(pairs.grammar().tokens(), base));
+    let mut negatives = Negatives::new(alloc, pairs, base, ALL);
+    let mut kept = Vec::new(alloc);
+    for _ in 0..100 {
+        if let Some(negative) = keeper.next(&mut negatives)? {
+            kept.push(negative.edit)?;
+        }
+    }
+    Ok(kept)
+}
+
+// With one of each operator and left mark. Of the others two pairs are poisoned, as `NUM NUM` at two places of a replacement, or
+// the operator and the left mark are those of one before.
+const KEPT: [Edit; 11] = [
+    Delete(0),
+    Delete(1),
+    Delete(2),
+    Insert(0, 1),
+    Insert(0, 2),
+    Insert(1, 2),
+    Replace(0, 3),
+    Replace(0, 4),
+    Replace(1, 3),
+    Replace(1, 4),
+    Replace(2, 4),
+];
+
+// How many are kept of each operator and left mark, how many so of a list, and how many of the same list behind it.
+const COUNTS: [(Option<u16>, usize, usize); 4] = [
+    (Some(1), 11, 0),
+    (Some(2), 14, 8),
+    (Some(3), 14, 11),
+    (None, 23, 23),
+];
+
+#[test]
+fn kept_negatives_of_sums(rt: HostRuntime) -> Result<(), Fail> {
+    let alloc = rt.alloc();
+    let sums = grammar_of_sums(alloc)?;
+    let weights = Weights::nodes(alloc, 4)?;
+    let costs = Costs::new(alloc, &sums, &weights)?;
+    let embeds = Embeds::new(alloc, &costs)?;
+    let pairs = Pairs::new(alloc, &costs, &embeds)?;
+    for (first, once, again) in COUNTS {
+        let mut keeper = Keeper::new(alloc, first, pairs.grammar().tokens())?;
+        let kept = keep(&rt, alloc, &pairs, THREE.base, &mut keeper)?;
+        assert!(rt; kept.len() == once, "{first:?}");
+        assert!(rt; first != Some(1) || kept.as_slice() == KEPT.as_slice());
+        assert!(rt;
+            keep(&rt, alloc, &pairs, THREE.base, &mut keeper)?.len() == again,
+            "{first:?}"
+        );
+    }
+    one_list_of_kept();
+    few_kept();
     Ok(())
 }

@@ -1,7 +1,9 @@
 use Rattle.std.proofs.Common.{List, subst}
 use Rattle.std.specs.Prelude.{IfSome}
+use Rattle.cs_goals.specs.Goal.{IsLeft}
 use Rattle.cs_mutate.specs.declared.edit.Edit.{Edit}
 use Rattle.cs_mutate.specs.Negatives.{Finds, FitsBase, Search}
+use Rattle.cs_mutate.proofs.Behind.{left_found}
 use Rattle.cs_mutate.proofs.Searching.{fits_left, fits_found}
 use Rattle.cs_mutate.proofs.negative.Negatives.next.Goals as goal
 
@@ -59,3 +61,18 @@ returns-clause-fits c =
     let found = subst (λ (l : List Edit). Finds g w l c.in_ok-found.found c.next_whole.new.edits) c.copied-edits.ensures c.in_ok-found.ensures in
     subst (λ (t : Search). IfSome c.in_ok-found.found (λ n. FitsBase t n.edit)) c.self.view_is
     (fits_found g w s.edits c.in_ok-found.found c.next_whole.new.edits c.self.invariant.fits found)
+
+pub returns-then-self-clause-left : goal.returns-then-self-clause-left
+returns-then-self-clause-left c =
+    let s = c.self.inside in
+    subst (λ (t : Search). IfSome c.next_touched.result (λ n. IsLeft t.grammar.tokens n.left)) c.self.view_is
+    (left_found s.pairs.now.grammar s.base.now s.edits c.next_touched.result c.next_touched.new.edits c.self.invariant.tokens c.self.invariant.fits c.next_touched.ensures)
+
+pub returns-clause-left : goal.returns-clause-left
+returns-clause-left c =
+    let s = c.self.inside in
+    let g = s.pairs.now.grammar in
+    let w = s.base.now in
+    let found = subst (λ (l : List Edit). Finds g w l c.in_ok-found.found c.next_whole.new.edits) c.copied-edits.ensures c.in_ok-found.ensures in
+    subst (λ (t : Search). IfSome c.in_ok-found.found (λ n. IsLeft t.grammar.tokens n.left)) c.self.view_is
+    (left_found g w s.edits c.in_ok-found.found c.next_whole.new.edits c.self.invariant.tokens c.self.invariant.fits found)
