@@ -5,5 +5,6 @@ pub mod Naming
 pub mod OneShared
 pub mod SomeShared
 pub mod OneManifest
+pub mod Bases
 pub mod SomeManifest
 pub mod Holes

@@ -13,8 +13,8 @@ mod output;
 
 pub use manifest::{
     Counts, Entry, FilledNegative, Form, Head, Manifest, NumberedNegative, OpenEdit, OpenLines,
-    OpenNegative, OpenPair, SharedVerdict, TokenPieces, one_manifest, one_text, put_count,
-    put_derivation, put_edit, put_file, put_lexemes, put_names, put_rendered, put_yield,
+    OpenNegative, OpenPair, SharedVerdict, TokenPieces, few_negatives, one_manifest, one_text,
+    put_count, put_derivation, put_edit, put_file, put_lexemes, put_names, put_rendered, put_yield,
     some_manifest,
 };
 pub use output::{

@@ -28,7 +28,7 @@ mod token_pieces;
 pub use counts::Counts;
 pub use entry::{Entry, FilledNegative, NumberedNegative, SharedVerdict};
 pub use head::{Form, Head};
-pub use laws::{one_manifest, one_text, some_manifest};
+pub use laws::{few_negatives, one_manifest, one_text, some_manifest};
 pub use manifest::Manifest;
 pub use open::{OpenEdit, OpenLines, OpenNegative, OpenPair};
 pub use put_entry::{put_count, put_derivation, put_edit, put_names, put_rendered, put_yield};

@@ -128,6 +128,7 @@ fn write<'f, R: Threads + Sync>(
                 pairs: tables.pairs(),
                 operators: row.2,
                 most: row.3,
+                first: None,
             },
             weigh: Weigh::Nodes,
         },

@@ -1,5 +1,5 @@
 -- No file is without a manifest by a choice, where it isn't so that tokens have no lexemes and no rendering.
-use Rattle.std.proofs.Common.{◌≡◌, ◌<◌, ◌≤◌, ◌⊎◌, ℕ, zero, suc, ◌+◌, List, [], ◌∷◌, length, inl, inr, refl, sym, ◌∙◌, subst, arith, Option, None, Some}
+use Rattle.std.proofs.Common.{◌≡◌, ◌<◌, ◌≤◌, ◌⊎◌, ℕ, zero, suc, ◌+◌, List, [], ◌∷◌, ◌++◌, length, inl, inr, refl, sym, ◌∙◌, subst, arith, Option, None, Some}
 use Rattle.std.specs.Prelude.{slice_get}
 use Rattle.std.specs.List.{AllZip}
 use Rattle.std.proofs.lemmas.Bool.{cases_lt}
@@ -22,6 +22,7 @@ use Rattle.cs_mutate.specs.Edits.{edits}
 use Rattle.cs_mutate.specs.Negatives.{AreNegatives}
 use Rattle.cs_mutate.specs.Poison.{HasNoPoison, IsFirstPoisoned, IsPair}
 use Rattle.cs_mutate.proofs.Marks.{one_pair}
+use Rattle.cs_mutate.proofs.KeptLists.{some_kept}
 use Rattle.cs_pairs.specs.Pairs.Pairs.{IsAdjacent}
 use Rattle.cs_verdicts.specs.declared.positive.verdict.Verdict.{Verdict}
 use Rattle.cs_verdicts.specs.declared.positive.verdict.Verdict.TheVariants.{Feasible, Infeasible, Large}
@@ -30,7 +31,7 @@ use Rattle.cs_verdicts.proofs.OnPositive.Verdicts.{chosen_exists_of, chosen_leas
 use Rattle.cs_yacc.specs.Reading.File.{File}
 use Rattle.cs_choices.specs.declared.format.Format.{Format}
 use Rattle.cs_choices.specs.declared.format.Format.TheVariants.{One, Two}
-use Rattle.cs_manifest.specs.Manifest.Manifest.{AreLexemesBy, BaseEntry, Choice, GoalEntry, IsBaseOf, IsEntryOf, IsManifest, IsNegativeOf, IsRenderedBy, IsTextIn, Texts, bases, goal_texts, manifest_text, most_bases, shared_text, weighed_by}
+use Rattle.cs_manifest.specs.Manifest.Manifest.{AreLexemesBy, BaseEntry, BasesOf, Choice, GoalEntry, IsBaseOf, IsEntryOf, IsManifest, IsNegativeOf, IsRenderedBy, IsTextIn, Texts, bases, goal_texts, manifest_text, most_bases, negatives_of, shared_text, weighed_by}
 use Rattle.cs_io.specs.Asked.{IsNotWithout}
 use Rattle.cs_verdicts.specs.Cases.Cases.{no_cases}
 use Rattle.cs_manifest.proofs.OnManifest.SomeShared.{some_closed, some_shared}
@@ -148,15 +149,20 @@ module _ (g : PlainGrammar) (choice : Choice) (lexemes : Option (List (Option (L
   some_negative base negative none =
       some_rendering (edited base negative.edit) (λ rendered is. none (record { negative = negative; rendered = rendered }) (record { is_of = refl; text = is }))
 
-  some_base : (base : ℕ × List ℕ) → IsNotWithout (IsBaseOf g choice lexemes base)
-  some_base base none =
+  some_base : (before : List Negative) (base : ℕ × List ℕ) → IsNotWithout (IsBaseOf g choice lexemes before base)
+  some_base before base none =
       some_negatives base.1 (edits g.tokens base.1 choice.operators)
-      (λ ns are. some_zip ns (λ n among. some_negative base.1 n)
+      (λ ns are. some_kept g base.1 choice.first before ns
+      (λ kept are_kept. some_zip kept (λ n among. some_negative base.1 n)
       (λ entries each. none (record { goal = base.0; tokens = base.1; negatives = entries })
-      (record { goal = refl; tokens = refl; negatives = record { negatives = ns; all = are; each = each } })))
+      (record { goal = refl; tokens = refl; negatives = record { negatives = ns; kept = kept; all = are; are_kept = are_kept; each = each } }))))
 
-  pub some_bases : (list : List (ℕ × List ℕ)) → IsNotWithout (AllZip (IsBaseOf g choice lexemes) list)
-  some_bases list = some_zip list (λ base among. some_base base)
+  pub some_bases : (before : List Negative) (list : List (ℕ × List ℕ)) → IsNotWithout (BasesOf g choice lexemes before list)
+  some_bases before [] none = none [] refl
+  some_bases before (base ∷ list) none =
+      some_base before base
+      (λ first is. some_bases (before ++ negatives_of first.negatives) list
+      (λ rest others. none (first ∷ rest) (first, rest, refl, is, others)))
 
 -- no format is without a text of these
 module _ (of : Weighed) (choice : Choice) (file : File) (lexemes : Option (List (Option (List ℕ)))) (entries : List GoalEntry) (mutants : List BaseEntry)
@@ -176,7 +182,7 @@ module _ (choice : Choice) (file : File)
   some_manifest_by none =
       some_lexemes
       (λ lexemes are. some_entries (weighed_by choice file lexemes) (goal_texts choice) lexemes (some_rendering (goal_texts choice) lexemes) choice
-      (λ entries each. some_bases file.grammar choice lexemes (some_rendering choice.texts lexemes) (bases (most_bases choice) entries)
+      (λ entries each. some_bases file.grammar choice lexemes (some_rendering choice.texts lexemes) [] (bases (most_bases choice) entries)
       (λ mutants of. some_text_in (weighed_by choice file lexemes) choice file lexemes entries mutants (some_rendering choice.texts lexemes) (goals file.grammar choice.criteria) refl each choice.format
       (λ text lines. none text
       (record { lexemes = lexemes; entries = entries; mutants = mutants; are_lexemes = are; verdicts = each; negatives = of; lines = lines })))))

@@ -1,9 +1,9 @@
 -- The manifest of a yacc file: which goals with which verdicts, tokens and texts, which bases and negatives, and the text of all
 -- that (rule coverage by Purdom 1972, context-dependent rule coverage by Lämmel 2001, pairs, and token mutations by Raselimo,
 -- Taljaard and Fischer 2019).
-use Rattle.std.specs.Prelude.{◌≡◌, ℕ, ◌+◌, ◌||◌, Bool, if◌then◌else◌, List, [], ◌∷◌, ◌++◌, length, map, take, not, bytes_eq, count_by, sum_by, true, false, Option, None, Some, IsSomeAnd, option_map}
-use Rattle.std.specs.List.{AllZip, filter, enumerate_from}
-use Rattle.cs_grammar.specs.Grammar.{PlainGrammar}
+use Rattle.std.specs.Prelude.{◌≡◌, ℕ, ◌+◌, ◌*◌, ◌≤◌, ◌||◌, Bool, if◌then◌else◌, List, [], ◌∷◌, ◌++◌, length, map, take, not, bytes_eq, count_by, sum_by, true, false, Option, None, Some, IsSomeAnd, option_map}
+use Rattle.std.specs.List.{All, AllZip, filter, flat_map, enumerate_from}
+use Rattle.cs_grammar.specs.Grammar.{PlainGrammar, IsNumberOf}
 use Rattle.cs_grammar.specs.Leftmost.{IsYield}
 use Rattle.cs_grammar.specs.Laws.{AtMostOne}
 use Rattle.cs_grammar.specs.Weights.{Measure, Weighed, byte_weight, nodes, weighed}
@@ -24,6 +24,7 @@ use Rattle.cs_mutate.specs.declared.negative.Negative.{Negative}
 use Rattle.cs_mutate.specs.Edit.{edited}
 use Rattle.cs_mutate.specs.Edits.{edits}
 use Rattle.cs_mutate.specs.Negatives.{AreNegatives}
+use Rattle.cs_mutate.specs.Kept.{AreKept}
 use Rattle.cs_manifest.specs.declared.manifest.entry.SharedVerdict.{SharedVerdict}
 use Rattle.cs_manifest.specs.declared.manifest.entry.SharedVerdict.TheVariants as shared
 use Rattle.cs_choices.specs.declared.format.Format.{Format}
@@ -42,13 +43,14 @@ pub record Texts : Type 0 where
   pub scanning : Scanning
   pub separator : List ℕ
 
--- The criteria, the texts (the form of `rules` has none), the operators, how many bases there are at most, the format, and what was
--- weighed, which the second format tells.
+-- The criteria, the texts (the form of `rules` has none), the operators, how many bases there are at most, how many negatives are
+-- kept of each operator and left mark (without a number, all), the format, and what was weighed, which the second format tells.
 pub record Choice : Type 0 where
   pub criteria : Criteria
   pub texts : Option Texts
   pub operators : Operators
   pub most : ℕ
+  pub first : Option ℕ
   pub format : Format
   pub weigh : Weigh
 
@@ -59,6 +61,7 @@ rules_form = record {
   texts = None;
   operators = record { delete = false; insert = false; replace = false; swap = false };
   most = 0;
+  first = None;
   format = One;
   weigh = Nodes;
 }
@@ -157,7 +160,7 @@ pub record NegativeEntry : Type 0 where
   pub negative : Negative
   pub rendered : Option Rendering
 
--- a base, the number of its first goal, and its negatives
+-- a base, the number of its first goal, and its negatives that are kept
 pub record BaseEntry : Type 0 where
   pub goal : ℕ
   pub tokens : List ℕ
@@ -168,21 +171,34 @@ pub record IsNegativeOf (texts : Option Texts) (lexemes : Option (List (Option (
   pub is_of : entry.negative ≡ negative
   pub text : IsRenderedBy texts lexemes (edited base negative.edit) entry.rendered
 
--- one entry for each of the negatives of a base by these operators, in order
-pub record AreNegativesOf (g : PlainGrammar) (choice : Choice) (lexemes : Option (List (Option (List ℕ)))) (base : List ℕ) (entries : List NegativeEntry) : Type 0 where
+-- the negatives of entries
+abbrev pub negatives_of : List NegativeEntry → List Negative
+negatives_of entries = map (λ e. e.negative) entries
+
+-- those of all bases
+abbrev pub kept_in : List BaseEntry → List Negative
+kept_in bases = flat_map (λ b. negatives_of b.negatives) bases
+
+-- one entry for each of the negatives of a base by these operators that are kept, in order, behind these of the bases before it
+pub record AreNegativesOf (g : PlainGrammar) (choice : Choice) (lexemes : Option (List (Option (List ℕ)))) (before : List Negative) (base : List ℕ) (entries : List NegativeEntry) : Type 0 where
   pub negatives : List Negative
+  pub kept : List Negative
   pub all : AreNegatives g base (edits g.tokens base choice.operators) negatives
-  pub each : AllZip (IsNegativeOf choice.texts lexemes base) negatives entries
+  pub are_kept : AreKept g base choice.first before negatives kept
+  pub each : AllZip (IsNegativeOf choice.texts lexemes base) kept entries
 
 -- the entry of a base
-pub record IsBaseOf (g : PlainGrammar) (choice : Choice) (lexemes : Option (List (Option (List ℕ)))) (base : ℕ × List ℕ) (entry : BaseEntry) : Type 0 where
+pub record IsBaseOf (g : PlainGrammar) (choice : Choice) (lexemes : Option (List (Option (List ℕ)))) (before : List Negative) (base : ℕ × List ℕ) (entry : BaseEntry) : Type 0 where
   pub goal : entry.goal ≡ base.0
   pub tokens : entry.tokens ≡ base.1
-  pub negatives : AreNegativesOf g choice lexemes base.1 entry.negatives
+  pub negatives : AreNegativesOf g choice lexemes before base.1 entry.negatives
 
--- one entry for each of these bases, in order
-abbrev pub BasesOf : PlainGrammar → Choice → Option (List (Option (List ℕ))) → List (ℕ × List ℕ) → List BaseEntry → Type 0
-BasesOf g choice lexemes bases entries = AllZip (IsBaseOf g choice lexemes) bases entries
+-- one entry for each of these bases, in order, where these negatives are kept of the bases before them
+abbrev pub BasesOf : PlainGrammar → Choice → Option (List (Option (List ℕ))) → List Negative → List (ℕ × List ℕ) → List BaseEntry → Type 0
+BasesOf g choice lexemes before [] entries = entries ≡ []
+BasesOf g choice lexemes before (base ∷ bases) entries =
+    (first : BaseEntry) × (rest : List BaseEntry) × (entries ≡ first ∷ rest) × IsBaseOf g choice lexemes before base first
+    × BasesOf g choice lexemes (before ++ negatives_of first.negatives) bases rest
 
 -- ---- cases
 
@@ -310,10 +326,19 @@ pub record IsManifest (choice : Choice) (file : File) (text : List ℕ) : Type 0
   pub mutants : List BaseEntry
   pub are_lexemes : AreLexemesBy choice.texts file.grammar.tokens lexemes
   pub verdicts : EntriesOf (weighed_by choice file lexemes) (goal_texts choice) lexemes (goals file.grammar choice.criteria) entries
-  pub negatives : BasesOf file.grammar choice lexemes (bases (most_bases choice) entries) mutants
+  pub negatives : BasesOf file.grammar choice lexemes [] (bases (most_bases choice) entries) mutants
   pub lines : IsTextIn choice.format choice file lexemes entries mutants text
 
 -- the lexemes and the renderings of tokens are one at most
 pub record HasOneText (texts : Option Texts) : Type 0 where
   pub lexemes : (tokens : ℕ) → AtMostOne (AreLexemesBy texts tokens)
   pub rendered : (lexemes : Option (List (Option (List ℕ)))) (tokens : List ℕ) → AtMostOne (IsRenderedBy texts lexemes tokens)
+
+-- where so many negatives are kept of each operator and left mark, all bases have at most so many for each of the four operators
+-- and each left mark
+abbrev pub HasFewNegatives : PlainGrammar → Choice → Type 0
+HasFewNegatives g choice =
+    (lexemes : Option (List (Option (List ℕ)))) (bases : List (ℕ × List ℕ)) (most : ℕ)
+    → choice.first ≡ Some most → All (λ b. All (IsNumberOf g.tokens) b.1) bases
+    → (entries : List BaseEntry) → BasesOf g choice lexemes [] bases entries
+    → sum_by (λ b. length b.negatives) entries ≤ most * (4 * (g.tokens + 1))

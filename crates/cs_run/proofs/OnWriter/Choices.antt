@@ -1,5 +1,5 @@
 -- What a suite's texts are made by is what the lex file says: so are the manifests.
-use Rattle.std.proofs.Common.{◌≡◌, ℕ, List, sym, ap, ◌∙◌, subst, Some}
+use Rattle.std.proofs.Common.{◌≡◌, ℕ, List, sym, ap, ◌∙◌, subst, None, Some}
 use Rattle.cs_manifest.specs.Manifest.Manifest.{Choice, IsManifest, Texts}
 use Rattle.cs_yacc.specs.Reading.File.{File}
 use Rattle.cs_lex.specs.Reading.File as lex
@@ -15,7 +15,7 @@ texts patterns kinds literals separator =
 
 -- what the options choose, with these texts
 abbrev chosen : Options → Texts → Choice
-chosen options t = record { criteria = options.criteria; texts = Some t; operators = options.operators; most = options.bases; format = options.format; weigh = options.weigh }
+chosen options t = record { criteria = options.criteria; texts = Some t; operators = options.operators; most = options.bases; first = None; format = options.format; weigh = options.weigh }
 
 module _ (file : File) (scanner : lex.File) (options : Options) (p : List Regex) (k : List Kind) (l s : List ℕ)
     (patterns : p ≡ scanner.patterns) (kinds : k ≡ scanner.kinds) (literals : l ≡ scanner.literals) (separator : s ≡ options.separator) where

@@ -18,6 +18,7 @@ choice_of options m format = record {
   texts = Some (texts_of m.work.now);
   operators = m.mutation.operators;
   most = m.mutation.most;
+  first = m.mutation.first;
   format = format;
   weigh = m.weigh;
 }

@@ -1,7 +1,6 @@
 -- Bases written one after another, each with its negatives.
 use Rattle.std.proofs.Common.{◌≡◌, ℕ, ◌+◌, ◌*◌, ◌<◌, ◌≤◌, List, [], ◌∷◌, ◌++◌, length, get_or, take, drop, refl, sym, ap, ◌∙◌, subst, arith, append_assoc, append-nil, take-append-drop, Option, None, Some}
 use Rattle.std.specs.Prelude.{if◌then◌else◌}
-use Rattle.std.specs.List.{AllZip}
 use Rattle.std.specs.Option.{option_map_or}
 use Rattle.std.proofs.lemmas.List.{drop_more, length-take-le, take_all, take_more}
 use Rattle.std.proofs.lemmas.List.Sums.{sum_by-append, sum_by-cons}
@@ -11,9 +10,12 @@ use Rattle.cs_io.specs.Lines.{IsCutShort, IsWritten}
 use Rattle.cs_manifest.proofs.OnOutput.Written.{written_none, written_then}
 use Rattle.cs_manifest.specs.declared.manifest.counts.Counts.{Counts}
 use Rattle.cs_manifest.specs.Manifest.Lines.{base_line}
-use Rattle.cs_manifest.specs.Manifest.Manifest.{AreNegativesOf, BaseEntry, BasesOf, HasOneText, IsBaseOf, NegativeEntry, base_entry_lines, has_operator, most_bases}
+use Rattle.cs_manifest.specs.Manifest.Manifest.{AreNegativesOf, BaseEntry, BasesOf, HasOneText, NegativeEntry, base_entry_lines, has_operator, kept_in, most_bases, negatives_of}
+use Rattle.cs_mutate.specs.Keeping.{Counters, Tells}
+use Rattle.cs_mutate.specs.declared.negative.Negative.{Negative}
 use Rattle.cs_manifest.specs.Manifest.Progress.{Progress}
-use Rattle.cs_manifest.proofs.OnManifest.OneManifest.{one_base, one_zip}
+use Rattle.cs_manifest.proofs.OnManifest.Bases.{bases_both, bases_length, bases_split, kept_in_both}
+use Rattle.cs_manifest.proofs.OnManifest.OneManifest.{one_list_of_bases}
 use Rattle.cs_yacc.specs.Reading.File.{File}
 use Rattle.cs_writing.specs.declared.plan.plan.Means.{Means}
 use Rattle.cs_writing.specs.declared.plan.plan.Plan.{Plan}
@@ -22,7 +24,7 @@ use Rattle.cs_io.specs.declared.halt.Halt.{Halt}
 use Rattle.cs_io.specs.declared.halt.Halt.TheVariants.{Failed, Memory}
 use Rattle.cs_writing.specs.Writing.Mutants.{CountsBases, IsBasesText, IsCounted, negatives_from, negatives_in}
 use Rattle.cs_io.specs.Stops.{HasText, IsStopped}
-use Rattle.cs_writing.proofs.OnWriting.Ones.{nothing_in, zip_both, zip_length, zip_split}
+use Rattle.cs_writing.proofs.OnWriting.Ones.{nothing_in}
 use Rattle.cs_writing.proofs.OnWriting.Parts.{HasBases, HasSomeBases}
 use Rattle.cs_io.proofs.Stops.{stopped_by_cut, stopped_by_memory, stopped_longer, stopped_behind}
 use Rattle.cs_writing.proofs.OnWriting.Tallies.{counted_none, counted_then}
@@ -56,19 +58,9 @@ module _ (plan : Plan) where
   abbrev pub file : File
   file = plan.yacc.now
 
-  abbrev pub Of : ℕ × List ℕ → BaseEntry → Type 0
-  Of = IsBaseOf file.grammar (choice_in plan) (lexemes_in plan)
-
-  -- the partner of the first, and those of the others
-  pub record HasFirst (base : ℕ × List ℕ) (mutants : List BaseEntry) : Type 0 where
-    pub next : BaseEntry
-    pub rest : List BaseEntry
-    pub whole : mutants ≡ next ∷ rest
-    pub of : Of base next
-
-  has_first : (base : ℕ × List ℕ) (bases : List (ℕ × List ℕ)) (mutants : List BaseEntry) → AllZip Of (base ∷ bases) mutants → HasFirst base mutants
-  has_first base bases [] each = absurd each
-  has_first base bases (m ∷ ms) each = record { next = m; rest = ms; whole = refl; of = each.0 }
+  -- the entries of bases, where these negatives are kept before them
+  abbrev pub Of : List Negative → List (ℕ × List ℕ) → List BaseEntry → Type 0
+  Of earlier list entries = BasesOf file.grammar (choice_in plan) (lexemes_in plan) earlier list entries
 
   -- the lines of a base, and of its negatives where so many stand before them
   abbrev lines_of_base : ℕ → ℕ × List ℕ → ℕ → List NegativeEntry → List ℕ
@@ -77,7 +69,7 @@ module _ (plan : Plan) where
   -- whichever all bases' entries are, their lines begin with the lines of the first bases and of the next one
   pub record HasNext (base : ℕ × List ℕ) (i : ℕ) (mutants others : List BaseEntry) : Type 0 where
     pub negatives : List NegativeEntry
-    pub of : AreNegativesOf file.grammar (choice_in plan) (lexemes_in plan) base.1 negatives
+    pub of : AreNegativesOf file.grammar (choice_in plan) (lexemes_in plan) (kept_in mutants) base.1 negatives
     pub more : List ℕ
     pub lines : base_entry_lines file 0 0 others ≡ base_entry_lines file 0 0 mutants ++ (lines_of_base (i + 1) base (negatives_in mutants) negatives ++ more)
 
@@ -99,39 +91,43 @@ module _ (plan : Plan) where
     split : list ≡ take i list ++ (base ∷ drop (i + 1) list)
     split = sym (take-append-drop i list) ∙ ap (λ (l : List (ℕ × List ℕ)). take i list ++ l) (drop_more list i base within ∙ ap (λ (b : ℕ × List ℕ). b ∷ drop (i + 1) list) (sym is))
 
-    pub bases_next : (mutants others : List BaseEntry) → length mutants ≡ i → AllZip Of (take i list) mutants → AllZip Of list others → HasNext base i mutants others
+    pub bases_next : (mutants others : List BaseEntry) → length mutants ≡ i → Of [] (take i list) mutants → Of [] list others → HasNext base i mutants others
     bases_next mutants others many first all =
-        let parts = zip_split Of (take i list) (base ∷ drop (i + 1) list) others (subst (λ (l : List (ℕ × List ℕ)). AllZip Of l others) split all) in
-        let same : parts.0 ≡ mutants = one_zip (one_base (choice_in plan) one (lexemes_in plan) file.grammar) (take i list) parts.0 mutants parts.3 first in
-        let next = has_first base (drop (i + 1) list) parts.1 parts.4 in
+        let g = file.grammar in
+        let choice = choice_in plan in
+        let lexemes = lexemes_in plan in
+        let parts = bases_split g choice lexemes [] (take i list) (base ∷ drop (i + 1) list) others (subst (λ (l : List (ℕ × List ℕ)). Of [] l others) split all) in
+        let same : parts.0 ≡ mutants = one_list_of_bases choice one lexemes g [] (take i list) parts.0 mutants parts.3 first in
+        let next = subst (λ (l : List BaseEntry). Of (kept_in l) (base ∷ drop (i + 1) list) parts.1) same parts.4 in
         record {
-          negatives = next.next.negatives;
-          of = next.of.negatives;
-          more = base_entry_lines file (negatives_in mutants + length next.next.negatives) (i + 1) next.rest;
-          lines = ap (base_entry_lines file 0 0) (parts.2 ∙ ap (λ (l : List BaseEntry). l ++ parts.1) same ∙ ap (λ (l : List BaseEntry). mutants ++ l) next.whole)
-              ∙ one_base_more base i mutants next.rest next.next many next.of.goal next.of.tokens;
+          negatives = next.0.negatives;
+          of = next.3.negatives;
+          more = base_entry_lines file (negatives_in mutants + length next.0.negatives) (i + 1) next.1;
+          lines = ap (base_entry_lines file 0 0) (parts.2 ∙ ap (λ (l : List BaseEntry). l ++ parts.1) same ∙ ap (λ (l : List BaseEntry). mutants ++ l) next.2)
+              ∙ one_base_more base i mutants next.1 next.0 many next.3.goal next.3.tokens;
         }
 
 -- ---- what was written
 
 module _ {S : Type 0} (g : Sink.Ghosts S) (plan : Plan) (list : List (ℕ × List ℕ)) where
-  -- The lines of the first bases were written, so many, and counted; there are few negatives in them.
-  pub record BasesSoFar (i : ℕ) (old now : S) (before after : Counts) : Type 0 where
+  -- The lines of the first bases were written, so many, and counted; there are few negatives in them, and the counters tell of them.
+  pub record BasesSoFar (i : ℕ) (counters : Counters) (old now : S) (before after : Counts) : Type 0 where
     pub mutants : List BaseEntry
-    pub all : BasesOf plan.yacc.now.grammar (choice_in plan) (lexemes_in plan) (take i list) mutants
+    pub all : BasesOf plan.yacc.now.grammar (choice_in plan) (lexemes_in plan) [] (take i list) mutants
+    pub told : Tells counters (kept_in mutants)
     pub written : IsWritten g (base_entry_lines plan.yacc.now 0 0 mutants) old now
     pub counted : IsCounted (negatives_in mutants) (base_entry_lines plan.yacc.now 0 0 mutants) before after
     pub few : negatives_in mutants ≤ 1100000000 * i
 
-  pub bases_none : (counts : Counts) (s : S) → BasesSoFar 0 s s counts counts
-  bases_none counts s = record { mutants = []; all = tt; written = written_none s; counted = counted_none counts; few = omega arith }
+  pub bases_none : (counters : Counters) (counts : Counts) (s : S) → Tells counters [] → BasesSoFar 0 counters s s counts counts
+  bases_none counters counts s told = record { mutants = []; all = refl; told = told; written = written_none s; counted = counted_none counts; few = omega arith }
 
 -- memory ran out before the first of them
 pub bases_refused : {S : Type 0} {g : Sink.Ghosts S} (plan : Plan) (list : List (ℕ × List ℕ)) (s : S) → HasSomeBases g plan list s s Memory
 bases_refused plan list s others are = stopped_by_memory (written_none s) (base_entry_lines plan.yacc.now 0 0 others)
 
 module _ {S : Type 0} {g : Sink.Ghosts S} (plan : Plan) (one : HasOneText (texts_in plan)) (list : List (ℕ × List ℕ)) (i : ℕ) (base : ℕ × List ℕ)
-    (within : i < length list) (is : base ≡ get_or list i base) (old mid : S) (before counts : Counts) (so_far : BasesSoFar g plan list i old mid before counts) where
+    (within : i < length list) (is : base ≡ get_or list i base) (counters : Counters) (old mid : S) (before counts : Counts) (so_far : BasesSoFar g plan list i counters old mid before counts) where
   abbrev mutants : List BaseEntry
   mutants = so_far.mutants
 
@@ -139,7 +135,7 @@ module _ {S : Type 0} {g : Sink.Ghosts S} (plan : Plan) (one : HasOneText (texts
   lines = base_entry_lines (file plan) 0 0 mutants
 
   many : length mutants ≡ i
-  many = zip_length (Of plan) (take i list) mutants so_far.all ∙ length-take-le i list (omega (arith, within))
+  many = bases_length (file plan).grammar (choice_in plan) (lexemes_in plan) [] (take i list) mutants so_far.all ∙ length-take-le i list (omega (arith, within))
 
   -- memory ran out before the line of the next base
   pub base_memory : HasSomeBases g plan list old mid Memory
@@ -157,7 +153,7 @@ module _ {S : Type 0} {g : Sink.Ghosts S} (plan : Plan) (one : HasOneText (texts
 
   -- the writing of its negatives stopped
   pub base_stops : (begun now : S) (halt : Halt) → IsWritten g (base_line (i + 1) base.0) mid begun
-      → ((negatives : List NegativeEntry) → AreNegativesOf (file plan).grammar (choice_in plan) (lexemes_in plan) base.1 negatives
+      → ((negatives : List NegativeEntry) → AreNegativesOf (file plan).grammar (choice_in plan) (lexemes_in plan) (kept_in mutants) base.1 negatives
       → IsStopped g (negatives_from (file plan) (i + 1) base.1 (negatives_in mutants) negatives) begun now halt)
       → HasSomeBases g plan list old now halt
   base_stops begun now halt first stops others are =
@@ -166,13 +162,14 @@ module _ {S : Type 0} {g : Sink.Ghosts S} (plan : Plan) (one : HasOneText (texts
       subst (λ (l : List ℕ). IsStopped g l old now halt) (sym next.lines) (stopped_behind so_far.written stopped)
 
   -- all its negatives were written
-  pub bases_more : (begun now : S) (mid_counts after : Counts) (negatives : List NegativeEntry) → IsWritten g (base_line (i + 1) base.0) mid begun
+  pub bases_more : (then_counters : Counters) (begun now : S) (mid_counts after : Counts) (negatives : List NegativeEntry) → IsWritten g (base_line (i + 1) base.0) mid begun
       → IsCounted 0 (base_line (i + 1) base.0) counts mid_counts
-      → AreNegativesOf (file plan).grammar (choice_in plan) (lexemes_in plan) base.1 negatives
+      → AreNegativesOf (file plan).grammar (choice_in plan) (lexemes_in plan) (kept_in mutants) base.1 negatives
+      → Tells then_counters (kept_in mutants ++ negatives_of negatives)
       → IsWritten g (negatives_from (file plan) (i + 1) base.1 (negatives_in mutants) negatives) begun now
       → IsCounted (length negatives) (negatives_from (file plan) (i + 1) base.1 (negatives_in mutants) negatives) mid_counts after
-      → length negatives ≤ 1100000000 → BasesSoFar g plan list (i + 1) old now before after
-  bases_more begun now mid_counts after negatives first counted_first of second counted_second few =
+      → length negatives ≤ 1100000000 → BasesSoFar g plan list (i + 1) then_counters old now before after
+  bases_more then_counters begun now mid_counts after negatives first counted_first of told second counted_second few =
       let entry : BaseEntry = record { goal = base.0; tokens = base.1; negatives = negatives } in
       let here = base_line (i + 1) base.0 in
       let behind = negatives_from (file plan) (i + 1) base.1 (negatives_in mutants) negatives in
@@ -185,8 +182,11 @@ module _ {S : Type 0} {g : Sink.Ghosts S} (plan : Plan) (one : HasOneText (texts
       (counted_then 0 (length negatives) here behind counts mid_counts after counted_first counted_second) in
       record {
         mutants = mutants ++ entry ∷ [];
-        all = subst (λ (l : List (ℕ × List ℕ)). AllZip (Of plan) l (mutants ++ entry ∷ [])) (sym taken)
-            (zip_both (Of plan) (take i list) (base ∷ []) mutants (entry ∷ []) so_far.all (record { goal = refl; tokens = refl; negatives = of }, tt));
+        all = subst (λ (l : List (ℕ × List ℕ)). Of plan [] l (mutants ++ entry ∷ [])) (sym taken)
+            (bases_both (file plan).grammar (choice_in plan) (lexemes_in plan) [] (take i list) (base ∷ []) mutants (entry ∷ []) so_far.all
+            (entry, [], refl, record { goal = refl; tokens = refl; negatives = of }, refl));
+        told = subst (λ (l : List Negative). Tells then_counters l)
+            (sym (kept_in_both mutants (entry ∷ []) ∙ ap (λ (l : List Negative). kept_in mutants ++ l) (append-nil (negatives_of negatives)))) told;
         written = subst (λ (l : List ℕ). IsWritten g l old now) (sym whole) (written_then so_far.written (written_then first second));
         counted = subst (λ (l : List ℕ). IsCounted (negatives_in (mutants ++ entry ∷ [])) l before after) (sym whole)
             (subst (λ (n : ℕ). IsCounted n (lines ++ (here ++ behind)) before after) (sym all) counted);
@@ -194,11 +194,11 @@ module _ {S : Type 0} {g : Sink.Ghosts S} (plan : Plan) (one : HasOneText (texts
       }
 
 -- all bases were written
-pub bases_all : {S : Type 0} {g : Sink.Ghosts S} (plan : Plan) (list : List (ℕ × List ℕ)) (i : ℕ) (old now : S) (before after : Counts) → length list ≤ i → BasesSoFar g plan list i old now before after
+pub bases_all : {S : Type 0} {g : Sink.Ghosts S} (plan : Plan) (list : List (ℕ × List ℕ)) (i : ℕ) (counters : Counters) (old now : S) (before after : Counts) → length list ≤ i → BasesSoFar g plan list i counters old now before after
     → HasBases g plan list old now before after
-bases_all plan list i old now before after last so_far = record {
+bases_all plan list i counters old now before after last so_far = record {
   mutants = so_far.mutants;
-  all = subst (λ (l : List (ℕ × List ℕ)). AllZip (Of plan) l so_far.mutants) (take_all i list last) so_far.all;
+  all = subst (λ (l : List (ℕ × List ℕ)). Of plan [] l so_far.mutants) (take_all i list last) so_far.all;
   written = so_far.written;
   counted = so_far.counted;
 }
@@ -208,7 +208,7 @@ pub bases_counted : {S : Type 0} {g : Sink.Ghosts S} {old new : S} (plan : Plan)
     → HasBases g plan bases.list old new before.counts after.counts → CountsBases plan bases before after
 bases_counted plan one bases before after has mutants are =
     subst (λ (ms : List BaseEntry). IsCounted (negatives_in ms) (base_entry_lines plan.yacc.now 0 0 ms) before.counts after.counts)
-    (one_zip (one_base (choice_in plan) one (lexemes_in plan) plan.yacc.now.grammar) bases.list has.mutants mutants has.all are) has.counted
+    (one_list_of_bases (choice_in plan) one (lexemes_in plan) plan.yacc.now.grammar [] bases.list has.mutants mutants has.all are) has.counted
 
 -- ---- where nothing is mutated
 
@@ -227,6 +227,6 @@ without_bases plan bases s none few =
     let empty = nothing_in bases.list (omega (arith, few, most)) in
     record {
       text = [];
-      is = record { mutants = []; all = subst (λ (l : List (ℕ × List ℕ)). AllZip (Of plan) l []) (sym empty) tt; lines = refl };
+      is = record { mutants = []; all = subst (λ (l : List (ℕ × List ℕ)). Of plan [] l []) (sym empty) refl; lines = refl };
       written = written_none s;
     }

@@ -1,5 +1,5 @@
 -- Parts of a manifest that were written: by their entries, and by their texts.
-use Rattle.std.proofs.Common.{◌≡◌, ℕ, List, length, refl, sym, subst}
+use Rattle.std.proofs.Common.{◌≡◌, ℕ, List, length, Option, refl, sym, subst}
 use Rattle.cs_writing.specs.Bases.Bases.{PlainBases, bases_of}
 use Rattle.cs_verdicts.specs.Cases.Cases.{PlainCases}
 use Rattle.cs_grammar.specs.Weights.{Weighed}
@@ -10,13 +10,14 @@ use Rattle.cs_manifest.specs.Manifest.Manifest.{BaseEntry, GoalEntry, NegativeEn
 use Rattle.cs_manifest.specs.Manifest.Progress.{Progress}
 use Rattle.cs_writing.specs.Mutants.Makers.{Making}
 use Rattle.cs_mutate.specs.Negatives.{Search}
+use Rattle.cs_mutate.specs.declared.negative.Negative.{Negative}
 use Rattle.cs_writing.specs.declared.plan.plan.Plan.{Plan}
 use Rattle.cs_writing.specs.Plan.Plans.{choice_in}
 use Rattle.cs_verdicts.specs.Positive.Positives.{ToJudge}
 use Rattle.cs_texts.specs.declared.work.work.RenderWork.{RenderWork}
 use Rattle.cs_yacc.specs.Reading.File.{File}
 use Rattle.cs_io.specs.declared.halt.Halt.{Halt}
-use Rattle.cs_writing.specs.Writing.Mutants.{AreBasesIn, AreMade, CountsBases, CountsMade, IsBasesText, IsCounted, IsMade, negatives_from, negatives_in}
+use Rattle.cs_writing.specs.Writing.Mutants.{AreBasesIn, AreMade, CountsBases, IsBasesText, IsCounted, IsMade, negatives_from, negatives_in}
 use Rattle.cs_writing.specs.Writing.Written.{AreBasesOf, AreCounted, AreGoals, CountsGoals, IsGoalsText}
 use Rattle.cs_io.specs.Stops.{HasSomeText, HasText, IsStopped}
 
@@ -38,17 +39,17 @@ module _ {S : Type 0} (g : Sink.Ghosts S) where
   HasSomeEntries plan of old new halt =
       (entries : List GoalEntry) (cases : PlainCases) (lines : List ℕ) → AreGoals plan of entries cases lines → IsStopped g lines old new halt
 
-  -- the lines of all negatives of a search were written behind those that are counted, and counted
-  pub record HasNegatives (file : File) (base : ℕ) (work : RenderWork) (search : Search) (old new : S) (before after : Counts) : Type 0 where
+  -- the lines of the kept negatives of a search were written behind those that are counted, and counted
+  pub record HasNegatives (file : File) (base : ℕ) (work : RenderWork) (most : Option ℕ) (earlier : List Negative) (search : Search) (old new : S) (before after : Counts) : Type 0 where
     pub entries : List NegativeEntry
-    pub all : AreMade work search entries
+    pub all : AreMade work most earlier search entries
     pub written : IsWritten g (negatives_from file base search.base before.negatives entries) old new
     pub counted : IsCounted (length entries) (negatives_from file base search.base before.negatives entries) before after
 
   -- whichever the negatives are, the writing of their lines behind so many negatives stopped so
-  abbrev pub HasSomeNegatives : File → ℕ → RenderWork → Search → ℕ → S → S → Halt → Type 0
-  HasSomeNegatives file base work search many old new halt =
-      (entries : List NegativeEntry) → AreMade work search entries → IsStopped g (negatives_from file base search.base many entries) old new halt
+  abbrev pub HasSomeNegatives : File → ℕ → RenderWork → Option ℕ → List Negative → Search → ℕ → S → S → Halt → Type 0
+  HasSomeNegatives file base work most earlier search many old new halt =
+      (entries : List NegativeEntry) → AreMade work most earlier search entries → IsStopped g (negatives_from file base search.base many entries) old new halt
 
   -- the lines of these bases and their negatives were written, and counted
   pub record HasBases (plan : Plan) (list : List (ℕ × List ℕ)) (old new : S) (before after : Counts) : Type 0 where
@@ -91,20 +92,21 @@ module _ {S : Type 0} {g : Sink.Ghosts S} where
     pub some_entries : (old new : S) (halt : Halt) → HasSomeText g (IsGoalsText plan left) old new halt → HasSomeEntries g plan left.tables old new halt
     some_entries old new halt stops entries cases lines are = stops lines (record { entries = entries; cases = cases; are = are })
 
-  module _ (before : Progress) (making : Making) (search : Search) where
-    pub made_text : {old new : S} {after : Counts} → HasNegatives g before.file making.number making.tools.work search old new before.counts after → HasText g (IsMade before making search) old new
+  module _ (before : Progress) (making : Making) (most : Option ℕ) (earlier : List Negative) (search : Search) where
+    pub made_text : {old new : S} {after : Counts} → HasNegatives g before.file making.number making.tools.work most earlier search old new before.counts after → HasText g (IsMade most earlier before making search) old new
     made_text has = record {
       text = negatives_from before.file making.number search.base before.counts.negatives has.entries;
       is = record { entries = has.entries; all = has.all; lines = refl };
       written = has.written;
     }
 
-    pub made_stop : (old new : S) (halt : Halt) → HasSomeNegatives g before.file making.number making.tools.work search before.counts.negatives old new halt
-        → HasSomeText g (IsMade before making search) old new halt
+    pub made_stop : (old new : S) (halt : Halt) → HasSomeNegatives g before.file making.number making.tools.work most earlier search before.counts.negatives old new halt
+        → HasSomeText g (IsMade most earlier before making search) old new halt
     made_stop old new halt stops text is = subst (λ (l : List ℕ). IsStopped g l old new halt) (sym is.lines) (stops is.entries is.all)
 
-    pub has_negatives : {old new : S} (after : Progress) → HasText g (IsMade before making search) old new → CountsMade making search before after
-        → HasNegatives g before.file making.number making.tools.work search old new before.counts after.counts
+    pub has_negatives : {old new : S} (after : Progress) → HasText g (IsMade most earlier before making search) old new
+        → ((entries : List NegativeEntry) → AreMade making.tools.work most earlier search entries → IsCounted (length entries) (negatives_from before.file making.number search.base before.counts.negatives entries) before.counts after.counts)
+        → HasNegatives g before.file making.number making.tools.work most earlier search old new before.counts after.counts
     has_negatives {old} {new} after put counted = record {
       entries = put.is.entries;
       all = put.is.all;
@@ -112,8 +114,8 @@ module _ {S : Type 0} {g : Sink.Ghosts S} where
       counted = counted put.is.entries put.is.all;
     }
 
-    pub some_negatives : (old new : S) (halt : Halt) → HasSomeText g (IsMade before making search) old new halt
-        → HasSomeNegatives g before.file making.number making.tools.work search before.counts.negatives old new halt
+    pub some_negatives : (old new : S) (halt : Halt) → HasSomeText g (IsMade most earlier before making search) old new halt
+        → HasSomeNegatives g before.file making.number making.tools.work most earlier search before.counts.negatives old new halt
     some_negatives old new halt stops entries are =
         stops (negatives_from before.file making.number search.base before.counts.negatives entries) (record { entries = entries; all = are; lines = refl })
 

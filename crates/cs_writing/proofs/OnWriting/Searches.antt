@@ -12,10 +12,12 @@ use Rattle.cs_writing.specs.declared.plan.plan.Plan.{Plan}
 use Rattle.cs_writing.specs.declared.plan.plan.PlanForm.{PlanForm}
 use Rattle.cs_writing.specs.declared.plan.plan.PlanForm.TheVariants.{Rules, Suite, Shared}
 use Rattle.cs_writing.specs.Mutants.Makers.{CanRender}
-use Rattle.cs_writing.specs.Plan.Plans.{AreMeansOf, IsFormOf, IsPlan, choice_in, lexemes_in, means_in, no_operator, texts_in, texts_of}
+use Rattle.cs_writing.specs.Plan.Plans.{AreMeansOf, IsFormOf, IsPlan, choice_in, first_by, lexemes_in, means_in, no_operator, texts_in, texts_of}
 use Rattle.cs_yacc.specs.Reading.File.{File}
 use Rattle.cs_writing.specs.Writing.Mutants.{AreMade, IsEditable}
-use Rattle.cs_writing.proofs.OnWriting.Edits.{few_edits, few_negatives}
+use Rattle.cs_mutate.specs.declared.negative.Negative.{Negative}
+use Rattle.cs_mutate.proofs.KeptLists.{few_kept_of}
+use Rattle.cs_writing.proofs.OnWriting.Edits.{few_edits}
 use Rattle.cs_writing.proofs.OnWriting.Ones.{zip_length}
 
 -- the means of a form are of its file
@@ -57,23 +59,29 @@ module _ (plan : Plan) (is_plan : IsPlan plan) (means : Means) (is : means_in pl
     pub base_is : search.base ≡ base.1
     base_is = ap (λ (s : Search). s.base) search_is
 
-    pub to_made : (entries : List NegativeEntry) → AreNegativesOf g (choice_in plan) (lexemes_in plan) base.1 entries → AreMade work search entries
-    to_made entries a =
-        subst (λ (s : Search). AreMade work s entries) (sym searched) (record {
-          negatives = a.negatives;
-          all = a.all;
-          each = subst (λ (t : Option Texts). AllZip (IsNegativeOf t (Some work.lexemes.now) base.1) a.negatives entries) texts_are
-              (subst (λ (l : Option (List (Option (List ℕ)))). AllZip (IsNegativeOf (texts_in plan) l base.1) a.negatives entries) lexemes_are a.each);
-        })
+    first_is : means.mutation.first ≡ (choice_in plan).first
+    first_is = sym (ap first_by is)
 
-    pub from_made : (entries : List NegativeEntry) → AreMade work search entries → AreNegativesOf g (choice_in plan) (lexemes_in plan) base.1 entries
-    from_made entries made =
-        let a = subst (λ (s : Search). AreMade work s entries) searched made in
+    pub to_made : (before : List Negative) (entries : List NegativeEntry) → AreNegativesOf g (choice_in plan) (lexemes_in plan) before base.1 entries → AreMade work means.mutation.first before search entries
+    to_made before entries a =
+        subst (λ (f : Option ℕ). AreMade work f before search entries) (sym first_is)
+        (subst (λ (s : Search). AreMade work (choice_in plan).first before s entries) (sym searched) (record {
+          kept = a.kept;
+          all = record { negatives = a.negatives; all = a.all; are_kept = a.are_kept };
+          each = subst (λ (t : Option Texts). AllZip (IsNegativeOf t (Some work.lexemes.now) base.1) a.kept entries) texts_are
+              (subst (λ (l : Option (List (Option (List ℕ)))). AllZip (IsNegativeOf (texts_in plan) l base.1) a.kept entries) lexemes_are a.each);
+        }))
+
+    pub from_made : (before : List Negative) (entries : List NegativeEntry) → AreMade work means.mutation.first before search entries → AreNegativesOf g (choice_in plan) (lexemes_in plan) before base.1 entries
+    from_made before entries made =
+        let a = subst (λ (s : Search). AreMade work (choice_in plan).first before s entries) searched (subst (λ (f : Option ℕ). AreMade work f before search entries) first_is made) in
         record {
-          negatives = a.negatives;
-          all = a.all;
-          each = subst (λ (l : Option (List (Option (List ℕ)))). AllZip (IsNegativeOf (texts_in plan) l base.1) a.negatives entries) (sym lexemes_are)
-              (subst (λ (t : Option Texts). AllZip (IsNegativeOf t (Some work.lexemes.now) base.1) a.negatives entries) (sym texts_are) a.each);
+          negatives = a.all.negatives;
+          kept = a.kept;
+          all = a.all.all;
+          are_kept = a.all.are_kept;
+          each = subst (λ (l : Option (List (Option (List ℕ)))). AllZip (IsNegativeOf (texts_in plan) l base.1) a.kept entries) (sym lexemes_are)
+              (subst (λ (t : Option Texts). AllZip (IsNegativeOf t (Some work.lexemes.now) base.1) a.kept entries) (sym texts_are) a.each);
         }
 
     -- it is short
@@ -82,13 +90,13 @@ module _ (plan : Plan) (is_plan : IsPlan plan) (means : Means) (is : means_in pl
         let few = few_edits g.tokens base.1 (choice_in plan).operators is_plan.file.grammar.tokens editable.short in
         omega (arith, few, ap (λ (s : Search). length s.edits) searched)
 
-    pub few_made : IsEditable g.tokens base → (entries : List NegativeEntry) → AreMade work search entries → length entries ≤ 1100000000
-    few_made editable entries made =
+    pub few_made : IsEditable g.tokens base → (before : List Negative) (entries : List NegativeEntry) → AreMade work means.mutation.first before search entries → length entries ≤ 1100000000
+    few_made editable before entries made =
         omega (
           arith,
           few_searched editable,
-          zip_length (IsNegativeOf (Some (texts_of work)) (Some work.lexemes.now) search.base) made.negatives entries made.each,
-          few_negatives search.grammar search.base search.edits made.negatives made.all,
+          zip_length (IsNegativeOf (Some (texts_of work)) (Some work.lexemes.now) search.base) made.kept entries made.each,
+          few_kept_of search.grammar search.base means.mutation.first before search.edits made.kept made.all,
         )
 
   pub tokens_are : (base : ℕ × List ℕ) → IsEditable g.tokens base → All (IsNumberOf means.mutation.pairs.now.grammar.tokens) base.1

@@ -1,5 +1,5 @@
 -- From the entries and bases of a plan to its manifest, and back; the manifest written part by part.
-use Rattle.std.proofs.Common.{◌≡◌, ℕ, ◌+◌, ◌-◌, ◌^◌, List, ◌++◌, length, length-append, min, refl, sym, ap, ◌∙◌, subst, Option, None, Some, arith}
+use Rattle.std.proofs.Common.{◌≡◌, ℕ, ◌+◌, ◌-◌, ◌^◌, List, [], ◌++◌, length, length-append, min, refl, sym, ap, ◌∙◌, subst, Option, None, Some, arith}
 use Rattle.std.specs.Prelude.{count_by, option_map}
 use Rattle.cs_grammar.specs.Grammar.{PlainGrammar}
 use Rattle.cs_grammar.specs.Weights.{Measure, Weighed, weighed}
@@ -138,7 +138,7 @@ module _ (plan : Plan) (of : Weighed) (one : (texts : Option Texts) → HasOneTe
 
   -- the entries of these bases
   abbrev AreOf : List (ℕ × List ℕ) → List BaseEntry → Type 0
-  AreOf list mutants = BasesOf plan.yacc.now.grammar (choice_in plan) (lexemes_in plan) list mutants
+  AreOf list mutants = BasesOf plan.yacc.now.grammar (choice_in plan) (lexemes_in plan) [] list mutants
 
   abbrev bases_in : List GoalEntry → List (ℕ × List ℕ)
   bases_in entries = bases (most_bases (choice_in plan)) entries
@@ -200,7 +200,7 @@ module _ (plan : Plan) (of : Weighed) (one : (texts : Option Texts) → HasOneTe
         lines = found.lines;
         mutants = a.mutants;
         are = record { all = subst (λ (v : Weighed). By v (lexemes_in plan) a.entries) (sym weighs) moved; told = found.told };
-        of_bases = subst (λ (l : Option (List (Option (List ℕ)))). BasesOf plan.yacc.now.grammar choice l (bases_in a.entries) a.mutants) lexemes a.negatives;
+        of_bases = subst (λ (l : Option (List (Option (List ℕ)))). BasesOf plan.yacc.now.grammar choice l [] (bases_in a.entries) a.mutants) lexemes a.negatives;
         whole = found.whole;
       }
 

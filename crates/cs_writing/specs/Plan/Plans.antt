@@ -92,6 +92,11 @@ pub record IsOfPlan (plan : Plan) (left : ToJudge) : Type 0 where
 abbrev pub no_operator : Operators
 no_operator = record { delete = false; insert = false; replace = false; swap = false }
 
+-- so many negatives are kept of each operator and left mark; without a number, all
+abbrev pub first_by : Option Means → Option ℕ
+first_by None = None
+first_by (Some means) = means.mutation.first
+
 -- what the plan chooses; in the form of `rules` no operator and no bases
 abbrev pub choice_in : Plan → Choice
 choice_in plan = record {
@@ -99,6 +104,7 @@ choice_in plan = record {
   texts = texts_in plan;
   operators = option_map_or (λ m. m.mutation.operators) (means_in plan.form) no_operator;
   most = option_map_or (λ m. m.mutation.most) (means_in plan.form) 0;
+  first = first_by (means_in plan.form);
   format = format_by plan.form;
   weigh = weigh_by plan.form;
 }

@@ -1,6 +1,9 @@
 -- What was written of bases and their negatives. Working words of proofs.
-use Rattle.std.specs.Prelude.{◌≡◌, ◌≤◌, ℕ, ◌+◌, List, [], ◌∷◌, ◌++◌, length, sum_by, All, None, Option, Some, false, true}
+use Rattle.std.specs.Prelude.{◌≡◌, ◌≤◌, ℕ, ◌+◌, List, [], ◌∷◌, ◌++◌, length, sum_by, All, None, Option, Result, Some, false, true}
 use Rattle.std.specs.Borrow.{Bor}
+use Rattle.cs_io.specs.Stops.{PutsOne}
+use Rattle.cs_io.specs.declared.halt.Halt.{Halt}
+use Rattle.cs_io.specs.declared.sink.Sink as Sink
 use Rattle.std.specs.List.{AllZip}
 use Rattle.cs_grammar.specs.Grammar.{IsNumberOf}
 use Rattle.cs_writing.specs.Bases.Bases.{PlainBases, bases_of}
@@ -8,11 +11,12 @@ use Rattle.cs_manifest.specs.Output.Putting.{shown}
 use Rattle.cs_manifest.specs.Output.Words.{numbered_from}
 use Rattle.cs_manifest.specs.declared.manifest.counts.Counts.{Counts}
 use Rattle.cs_manifest.specs.Manifest.Lines.{is_feasible}
-use Rattle.cs_manifest.specs.Manifest.Manifest.{BaseEntry, BasesOf, GoalEntry, NegativeEntry, base_entry_lines, negative_entry_lines}
+use Rattle.cs_manifest.specs.Manifest.Manifest.{BaseEntry, BasesOf, GoalEntry, NegativeEntry, base_entry_lines, negative_entry_lines, negatives_of}
 use Rattle.cs_manifest.specs.Manifest.Progress.{Progress}
 use Rattle.cs_writing.specs.Mutants.Makers.{Making}
 use Rattle.cs_writing.specs.Mutants.Mutants.{IsOfNegative}
-use Rattle.cs_mutate.specs.Negatives.{AreNegatives, Search}
+use Rattle.cs_mutate.specs.Negatives.{Search}
+use Rattle.cs_mutate.specs.Keeping.{AreKeptOf, Counters, Tells}
 use Rattle.cs_mutate.specs.declared.negative.Negative.{Negative}
 use Rattle.cs_writing.specs.declared.plan.plan.Plan.{Plan}
 use Rattle.cs_writing.specs.Plan.Plans.{choice_in, lexemes_in}
@@ -45,11 +49,11 @@ pub record IsEditable (tokens : ℕ) (base : ℕ × List ℕ) : Type 0 where
 abbrev pub negatives_from : File → ℕ → List ℕ → ℕ → List NegativeEntry → List ℕ
 negatives_from file base tokens many entries = numbered_from (many + 1) (negative_entry_lines file base tokens) entries
 
--- the entries of all negatives that a search gives
-pub record AreMade (work : RenderWork) (search : Search) (entries : List NegativeEntry) : Type 0 where
-  pub negatives : List Negative
-  pub all : AreNegatives search.grammar search.base search.edits negatives
-  pub each : AllZip (IsOfNegative work search.base) negatives entries
+-- the entries of the negatives that a search gives and that are kept, behind these of the bases before
+pub record AreMade (work : RenderWork) (first : Option ℕ) (before : List Negative) (search : Search) (entries : List NegativeEntry) : Type 0 where
+  pub kept : List Negative
+  pub all : AreKeptOf search.grammar search.base first before search.edits kept
+  pub each : AllZip (IsOfNegative work search.base) kept entries
 
 -- lines with so many negatives, and else no entry of a goal, were counted
 pub record IsCounted (many : ℕ) (lines : List ℕ) (before after : Counts) : Type 0 where
@@ -60,23 +64,37 @@ pub record IsCounted (many : ℕ) (lines : List ℕ) (before after : Counts) : T
 abbrev pub negatives_in : List BaseEntry → ℕ
 negatives_in mutants = sum_by (λ b. length b.negatives) mutants
 
--- The text is the lines of all negatives that a search gives of a base, where the manifest stands so.
-pub record IsMade (manifest : Progress) (making : Making) (search : Search) (text : List ℕ) : Type 0 where
+-- The text is the lines of the kept negatives that a search gives of a base, where the manifest stands so.
+pub record IsMade (first : Option ℕ) (before : List Negative) (manifest : Progress) (making : Making) (search : Search) (text : List ℕ) : Type 0 where
   pub entries : List NegativeEntry
-  pub all : AreMade making.tools.work search entries
+  pub all : AreMade making.tools.work first before search entries
   pub lines : text ≡ negatives_from manifest.file making.number search.base manifest.counts.negatives entries
 
--- whichever the negatives are, they were counted
-abbrev pub CountsMade : Making → Search → Progress → Progress → Type 0
-CountsMade making search old new =
-    (entries : List NegativeEntry) → AreMade making.tools.work search entries
+-- whichever the kept negatives are, they were counted
+abbrev pub CountsMade : Counters → Making → Search → Progress → Progress → Type 0
+CountsMade counters making search old new =
+    (before : List Negative) → Tells counters before
+    → (entries : List NegativeEntry) → AreMade making.tools.work counters.first before search entries
     → IsCounted (length entries) (negatives_from old.file making.number search.base old.counts.negatives entries) old.counts new.counts
+
+-- and the new counters tell of them too
+abbrev pub TellsMade : Making → Search → Counters → Counters → Type 0
+TellsMade making search old new =
+    (before : List Negative) → Tells old before
+    → (entries : List NegativeEntry) → AreMade making.tools.work old.first before search entries
+    → Tells new (before ++ negatives_of entries)
+
+module _ {S : Type 0} (g : Sink.Ghosts S) where
+  -- the text of the kept negatives was put, whichever negatives were kept before
+  abbrev pub IsPut : Counters → Progress → Making → Search → S → S → Result Unit Halt → Type 0
+  IsPut counters manifest making search old new result =
+      (before : List Negative) → Tells counters before → PutsOne g (IsMade counters.first before manifest making search) old new result
 
 -- ---- bases and their negatives
 
 -- the entries of these bases
 abbrev pub AreBasesIn : Plan → List (ℕ × List ℕ) → List BaseEntry → Type 0
-AreBasesIn plan list mutants = BasesOf plan.yacc.now.grammar (choice_in plan) (lexemes_in plan) list mutants
+AreBasesIn plan list mutants = BasesOf plan.yacc.now.grammar (choice_in plan) (lexemes_in plan) [] list mutants
 
 -- the text is the lines of these bases and their negatives
 pub record IsBasesText (plan : Plan) (bases : PlainBases) (text : List ℕ) : Type 0 where

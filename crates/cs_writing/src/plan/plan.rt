@@ -13,12 +13,14 @@ use cs_texts::RenderWork;
 use cs_verdicts::Closed;
 use cs_yacc::YaccFile;
 
-/// What mutants are made by: the pairs of the grammar, the operators, and how many bases there are at most.
+/// What mutants are made by: the pairs of the grammar, the operators, how many bases there are at most, and how many negatives with
+/// one poisoned pair are kept of each operator and left mark. Without that number all negatives are kept.
 #[derive(Clone, Copy)]
 pub struct Mutation<'a> {
     pub pairs: &'a Pairs<'a>,
     pub operators: Operators,
     pub most: u32,
+    pub first: Option<u16>,
 }
 
 /// What a suite is made by: what token lists are rendered with, what mutants are made by, and what sizes count.

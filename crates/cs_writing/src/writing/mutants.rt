@@ -6,7 +6,7 @@ ghost use Rattle.cs_io.specs.Faults.{greatest};
 ghost use Rattle.cs_manifest.specs.Manifest.Manifest.{most_bases};
 ghost use Rattle.cs_writing.specs.Mutants.Makers.{CanRender};
 ghost use Rattle.cs_writing.specs.Plan.Plans.{IsPlan, choice_in};
-ghost use Rattle.cs_writing.specs.Writing.Mutants.{CountsBases, CountsMade, IsBasesText, IsEditable, IsMade};
+ghost use Rattle.cs_writing.specs.Writing.Mutants.{CountsBases, CountsMade, IsBasesText, IsEditable, IsPut, TellsMade};
 ghost use Rattle.cs_io.specs.Stops.{PutsOne};
 
 use crate::bases::Bases;
@@ -14,7 +14,7 @@ use crate::mutants::{MadeNegative, Maker, Tools};
 use crate::plan::Plan;
 use cs_io::{Halt, Sink};
 use cs_manifest::{Entry, Manifest, Numeral, one_text};
-use cs_mutate::Negatives;
+use cs_mutate::{Keeper, Negatives};
 use std::alloc::Global;
 
 /// Writes the bases, numbered from 1, and behind each its negatives, numbered from 1 through all
@@ -41,6 +41,7 @@ pub(crate) fn write_bases<S: Sink>(
     };
     let tools = Tools::new(alloc, plan.yacc, means.work)?;
     let mutation = means.mutation;
+    let mut keeper = Keeper::new(alloc, mutation.first, mutation.pairs.grammar().tokens())?;
     let mut number = Numeral::new(0);
     for index in 0..bases.len() {
         let (goal, tokens) = bases.get(index);
@@ -51,16 +52,25 @@ pub(crate) fn write_bases<S: Sink>(
         };
         manifest.entry(sink, &line)?;
         let search = Negatives::new(alloc, mutation.pairs, tokens, mutation.operators);
-        write_negatives(alloc, &maker, search, &mut number, manifest, sink)?;
+        write_negatives(
+            alloc,
+            &maker,
+            search,
+            &mut keeper,
+            &mut number,
+            manifest,
+            sink,
+        )?;
     }
     Ok(())
 }
 
-// Writes the negatives that a search gives of a base. `number` is that of the last negative, before and then.
+// Writes the negatives that a search gives of a base and that are kept. `number` is that of the last negative, before and then.
 fn write_negatives<S: Sink>(
     alloc: Global,
     base: &Maker<'_>,
     mut search: Negatives<'_>,
+    keeper: &mut Keeper,
     number: &mut Numeral,
     manifest: &mut Manifest<'_>,
     sink: &mut S,
@@ -69,6 +79,7 @@ fn write_negatives<S: Sink>(
     requires base { search.base ≡ base.now.base }
     requires short { length base.now.base ≤ 1000000 }
     requires tokens { All (IsNumberOf search.grammar.tokens) base.now.base }
+    requires keeper { keeper.old.tokens ≡ search.grammar.tokens }
     requires file { manifest.old.file ≡ base.now.tools.file }
     requires names { length manifest.old.file.token_names ≡ search.grammar.tokens }
     requires number { number.old ≡ manifest.old.counts.negatives }
@@ -76,15 +87,20 @@ fn write_negatives<S: Sink>(
     ensures file { manifest.new.file ≡ manifest.old.file }
     ensures lent { S.lent sink.new ≡ S.lent sink.old }
     ensures number { OnOk result (number.new ≡ manifest.new.counts.negatives) }
-    ensures text { PutsOne S.Sink
-        (IsMade manifest.old base.now search.entry) sink.old sink.new result }
-    ensures counted { OnOk result
-        (CountsMade base.now search.entry manifest.old manifest.new) }
+    ensures first { keeper.new.first ≡ keeper.old.first }
+    ensures tokens { keeper.new.tokens ≡ keeper.old.tokens }
+
+    // Whichever negatives were kept before.
+    ensures text { IsPut S.Sink keeper.old
+        manifest.old base.now search.entry sink.old sink.new result }
+    ensures adds { OnOk result
+        (CountsMade keeper.old base.now search.entry manifest.old manifest.new) }
+    ensures told { OnOk result (TellsMade base.now search.entry keeper.old keeper.new) }
 {
     one_text();
     let mut made = MadeNegative::new(alloc, base);
     'negatives: loop {
-        match search.next()? {
+        match keeper.next(&mut search)? {
             None => return Ok(()),
             Some(negative) => {
                 made.make(&negative)?;

@@ -137,6 +137,7 @@ fn write_plan<'f, R: Threads + Sync>(
             pairs: tables.pairs(),
             operators: options.operators,
             most: options.bases as u32,
+            first: None,
         },
         weigh: Weigh::Nodes,
     };

@@ -2,7 +2,9 @@ use Rattle.std.proofs.Common.{rules, ◌≡◌, ◌+◌, ◌<◌, ◌≤◌, Lis
 use Rattle.std.proofs.lemmas.Option.{get_or_from_slice_get, slice_get_within}
 use Rattle.std.proofs.lemmas.Result.{err_from_is_err_and}
 use Rattle.cs_io.specs.Lines.{IsWritten}
+use Rattle.cs_grammar.specs.Grammar.{PlainGrammar}
 use Rattle.cs_manifest.specs.Manifest.Lines.{base_line}
+use Rattle.cs_manifest.specs.Manifest.Manifest.{kept_in}
 use Rattle.cs_manifest.specs.Manifest.Progress.{Progress}
 use Rattle.cs_manifest.specs.declared.manifest.counts.Counts.{Counts}
 use Rattle.cs_writing.specs.Mutants.Makers.{CanRender}
@@ -11,6 +13,7 @@ use Rattle.cs_writing.specs.Plan.Plans.{texts_in}
 use Rattle.cs_texts.specs.Work.Renders.{TakesTokens}
 use Rattle.cs_texts.specs.declared.work.work.RenderWork.{RenderWork}
 use Rattle.cs_io.specs.declared.halt.Halt.TheVariants.{Failed, Memory}
+use Rattle.cs_mutate.specs.Negatives.{Search}
 use Rattle.cs_writing.specs.Writing.Mutants.{IsEditable, negatives_in}
 use Rattle.cs_writing.proofs.OnWriting.Batch.{at_place}
 use Rattle.cs_io.proofs.Called.{is_cut, is_written}
@@ -58,7 +61,9 @@ pub loop-index-init : goal.loop-index-init
 loop-index-init g c = record {
   file = refl;
   number = c.new-number.ensures ∙ sym c.requires.fresh;
-  so_far = bases_none g.S.Sink c.args.plan.now c.args.bases.now.list c.args.manifest.now.counts c.args.sink.now;
+  first = c.in_ok-keeper.ensures.first;
+  tokens = c.in_ok-keeper.ensures.tokens ∙ c.tokens.ensures ∙ ap (λ (h : PlainGrammar). h.tokens) c.grammar.ensures;
+  so_far = bases_none g.S.Sink c.args.plan.now c.args.bases.now.list c.in_ok-keeper.keeper c.args.manifest.now.counts c.args.sink.now c.in_ok-keeper.ensures.told;
 }
 
 -- memory ran out before the first base, or before the next
@@ -70,13 +75,21 @@ returns-in_err-tools-clause-text g c =
     let sink = c.args.sink.now in
     rw (p.1, p.2) (bases_text_stop plan bases sink sink Memory (bases_refused plan bases.list sink))
 
+pub returns-in_err-keeper-clause-text : goal.returns-in_err-keeper-clause-text
+returns-in_err-keeper-clause-text g c =
+    let p = err_from_is_err_and c.from_residual-in_err-keeper.result c.from_residual-in_err-keeper.ensures.1 in
+    let plan = c.args.plan.now in
+    let bases = c.args.bases.now in
+    let sink = c.args.sink.now in
+    rw (p.1, p.2) (bases_text_stop plan bases sink sink Memory (bases_refused plan bases.list sink))
+
 pub returns-in_err-maker-clause-text : goal.returns-in_err-maker-clause-text
 returns-in_err-maker-clause-text g c =
     let p = err_from_is_err_and c.from_residual-in_err-maker.result c.from_residual-in_err-maker.ensures.1 in
     let at = (goal.at.returns-in_err-maker-clause-text g c).After-get-goal in
     let plan = c.args.plan.now in
     let stopped = base_memory plan (c.one_text.ensures (texts_in plan)) c.args.bases.now.list c.loop-index.index (base_of g at) (within g at) (is_base g at)
-    c.args.sink.now c.loop-index.sink c.args.manifest.now.counts c.loop-index.manifest.counts c.loop-index.invariant.so_far in
+    c.loop-index.keeper c.args.sink.now c.loop-index.sink c.args.manifest.now.counts c.loop-index.manifest.counts c.loop-index.invariant.so_far in
     rw (p.1, p.2) (bases_text_stop plan c.args.bases.now c.args.sink.now c.loop-index.sink Memory stopped)
 
 pub new-requires : goal.new-requires
@@ -106,7 +119,7 @@ returns-in_err-entry-clause-text g c =
     let line = base_line (i + 1) c.get-goal.result.0 in
     let cut = is_cut g.S.Sink line c.loop-index.sink c.entry.new.sink e.err e.fault e.faults_never_fall (λ fits. let no = e.ok_with_room fits in cc) e.same_lent e.passed_never_falls in
     let stopped = base_cut plan (c.one_text.ensures (texts_in plan)) c.args.bases.now.list i (base_of g at) (within g at) (is_base g at)
-    c.args.sink.now c.loop-index.sink c.args.manifest.now.counts c.loop-index.manifest.counts c.loop-index.invariant.so_far c.entry.new.sink cut in
+    c.loop-index.keeper c.args.sink.now c.loop-index.sink c.args.manifest.now.counts c.loop-index.manifest.counts c.loop-index.invariant.so_far c.entry.new.sink cut in
     rw (p.1, p.2) (bases_text_stop plan c.args.bases.now c.args.sink.now c.entry.new.sink Failed stopped)
 
 pub new-search-requires-clause-short : goal.new-search-requires-clause-short
@@ -116,6 +129,10 @@ pub new-search-requires-clause-tokens : goal.new-search-requires-clause-tokens
 new-search-requires-clause-tokens g c =
     let at = (goal.at.new-search-requires-clause-tokens g c).After-get-goal in
     tokens_are c.args.plan.now c.requires.plan c.in-Some.means (sym c.means.ensures ∙ c.in-Some.is) (base_of g at) (editable g at)
+
+pub write_negatives-requires-clause-keeper : goal.write_negatives-requires-clause-keeper
+write_negatives-requires-clause-keeper g c =
+    c.loop-index.invariant.tokens ∙ sym (ap (λ (s : Search). s.grammar.tokens) c.new-search.ensures)
 
 pub write_negatives-requires-clause-few : goal.write_negatives-requires-clause-few
 write_negatives-requires-clause-few g c =
@@ -137,9 +154,10 @@ returns-in_err-write_negatives-clause-text g c =
     let halt = c.in_err-write_negatives.field-0.0 in
     let stops = one_base_stops plan c.requires.plan c.in-Some.means (sym c.means.ensures ∙ c.in-Some.is) (i + 1) base c.new-search.result c.new-search.ensures
     c.in_ok-tools.tools c.in_ok-tools.ensures c.in_ok-maker.maker c.in_ok-maker.ensures c.entry.new.self (negatives_in so_far.mutants) (file_is g at.In_ok-entry) (many g at.In_ok-entry)
-    c.entry.new.sink c.write_negatives.new.sink halt c.in_err-write_negatives.ensures.text in
+    c.loop-index.keeper c.loop-index.invariant.first (kept_in so_far.mutants) so_far.told
+    c.entry.new.sink c.write_negatives.new.sink halt (c.in_err-write_negatives.ensures.text (kept_in so_far.mutants) so_far.told) in
     let stopped = base_stops plan (c.one_text.ensures (texts_in plan)) c.args.bases.now.list i base (within g at.After-get-goal) (is_base g at.After-get-goal)
-    c.args.sink.now c.loop-index.sink c.args.manifest.now.counts c.loop-index.manifest.counts so_far c.entry.new.sink c.write_negatives.new.sink halt (first g at.In_ok-entry) stops in
+    c.loop-index.keeper c.args.sink.now c.loop-index.sink c.args.manifest.now.counts c.loop-index.manifest.counts so_far c.entry.new.sink c.write_negatives.new.sink halt (first g at.In_ok-entry) stops in
     rw (p.1, p.2) (bases_text_stop plan c.args.bases.now c.args.sink.now c.write_negatives.new.sink halt stopped)
 
 pub loop-index-preserved : goal.loop-index-preserved
@@ -153,14 +171,17 @@ loop-index-preserved g c =
     let more = c.in_ok-write_negatives.ensures in
     let has = one_base_written plan c.requires.plan c.in-Some.means (sym c.means.ensures ∙ c.in-Some.is) (i + 1) base c.new-search.result c.new-search.ensures
     c.in_ok-tools.tools c.in_ok-tools.ensures c.in_ok-maker.maker c.in_ok-maker.ensures c.entry.new.self (negatives_in so_far.mutants) (file_is g at.In_ok-entry) (many g at.In_ok-entry)
-    c.entry.new.sink c.write_negatives.new.sink c.write_negatives.new.manifest (editable g at.After-get-goal) more.text more.counted in
+    c.loop-index.keeper c.loop-index.invariant.first (kept_in so_far.mutants) so_far.told
+    c.entry.new.sink c.write_negatives.new.sink c.write_negatives.new.manifest c.write_negatives.new.keeper (editable g at.After-get-goal) (more.text (kept_in so_far.mutants) so_far.told) more.adds more.told in
     let counted = counted_base c.loop-index.manifest.counts c.entry.new.self.counts (base_line (i + 1) c.get-goal.result.0) (ap (λ (q : Progress). q.counts) e.value) in
     record {
       file = more.file ∙ ap (λ (q : Progress). q.file) e.value ∙ c.loop-index.invariant.file;
       number = more.number;
+      first = c.write_negatives.ensures.first ∙ c.loop-index.invariant.first;
+      tokens = c.write_negatives.ensures.tokens ∙ c.loop-index.invariant.tokens;
       so_far = bases_more plan (c.one_text.ensures (texts_in plan)) c.args.bases.now.list i base (within g at.After-get-goal) (is_base g at.After-get-goal)
-          c.args.sink.now c.loop-index.sink c.args.manifest.now.counts c.loop-index.manifest.counts so_far c.entry.new.sink c.write_negatives.new.sink
-          c.entry.new.self.counts c.write_negatives.new.manifest.counts has.negatives (first g at.In_ok-entry) counted has.of has.written has.counted has.few;
+          c.loop-index.keeper c.args.sink.now c.loop-index.sink c.args.manifest.now.counts c.loop-index.manifest.counts so_far c.write_negatives.new.keeper c.entry.new.sink c.write_negatives.new.sink
+          c.entry.new.self.counts c.write_negatives.new.manifest.counts has.negatives (first g at.In_ok-entry) counted has.of has.told has.written has.counted has.few;
     }
 
 pub returns-in_default-clause-text : goal.returns-in_default-clause-text
@@ -170,6 +191,6 @@ pub returns-clause-counted : goal.returns-clause-counted
 returns-clause-counted g c =
     let plan = c.args.plan.now in
     let bases = c.args.bases.now in
-    let has = bases_all plan bases.list c.loop-index.index c.args.sink.now c.loop-index.sink c.args.manifest.now.counts c.loop-index.manifest.counts
+    let has = bases_all plan bases.list c.loop-index.index c.loop-index.keeper c.args.sink.now c.loop-index.sink c.args.manifest.now.counts c.loop-index.manifest.counts
     (omega (arith, c.loop-index-test.false, c.len-index-end.ensures)) c.loop-index.invariant.so_far in
     bases_counted plan (c.one_text.ensures (texts_in plan)) bases c.args.manifest.now c.loop-index.manifest has

@@ -6,5 +6,7 @@ abbrev pub invariant-loop-index : goal.invariant-loop-index
 invariant-loop-index g l = record {
   file : l.manifest.file ≡ l.fn.manifest.file;
   number : l.number ≡ l.manifest.counts.negatives;
-  so_far : BasesSoFar g.S.Sink l.plan l.bases.list l.index l.fn.sink l.sink l.fn.manifest.counts l.manifest.counts;
+  first : l.keeper.first ≡ l.mutation.first;
+  tokens : l.keeper.tokens ≡ l.mutation.pairs.now.grammar.tokens;
+  so_far : BasesSoFar g.S.Sink l.plan l.bases.list l.index l.keeper l.fn.sink l.sink l.fn.manifest.counts l.manifest.counts;
 }

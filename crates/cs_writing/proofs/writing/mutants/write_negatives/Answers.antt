@@ -1,7 +1,7 @@
 use Rattle.std.proofs.Common.{◌+◌, ◌≤◌, List, ℕ, length, refl, subst, sym, ap, ◌∙◌, arith}
 use Rattle.std.specs.Prelude.{All, IfSome, Option, Some}
 use Rattle.std.proofs.lemmas.Result.{err_from_is_err_and}
-use Rattle.cs_grammar.specs.Grammar.{IsNumberOf}
+use Rattle.cs_grammar.specs.Grammar.{IsNumberOf, PlainGrammar}
 use Rattle.cs_io.specs.Faults.{greatest}
 use Rattle.cs_io.specs.Lines.{IsCutShort, IsWritten}
 use Rattle.cs_manifest.specs.Manifest.Manifest.{negative_entry_lines}
@@ -13,12 +13,13 @@ use Rattle.cs_writing.specs.Mutants.Mutants.{behind_negative, texts_of}
 use Rattle.cs_writing.proofs.OnMutants.Naming.{named_negative}
 use Rattle.cs_writing.proofs.OnMutants.Taking.{takes_edited}
 use Rattle.cs_mutate.specs.Edit.{Fits, IsPlaced, edited}
-use Rattle.cs_mutate.specs.Negatives.{FindsNext, FitsBase}
+use Rattle.cs_mutate.specs.Negatives.{FitsBase, IsNegative}
+use Rattle.cs_mutate.specs.Keeping.{FindsNextKept, TellsFound}
 use Rattle.cs_mutate.specs.declared.negative.Negative.{Negative}
 use Rattle.cs_texts.specs.Work.Renders.{TakesTokens}
 use Rattle.cs_yacc.specs.Reading.File.{File}
 use Rattle.cs_io.specs.declared.halt.Halt.TheVariants.{Failed, Memory}
-use Rattle.cs_writing.proofs.OnWriting.Negatives.{fewer_edits, fits_first, made_counted, negative_first, negatives_all, negatives_cut, negatives_few, negatives_memory, negatives_more, negatives_none, told_by}
+use Rattle.cs_writing.proofs.OnWriting.Negatives.{fits_first, made_counted, negative_first, negatives_all, negatives_cut, negatives_memory, negatives_more, negatives_none, negatives_told, told_by}
 use Rattle.cs_writing.proofs.OnWriting.Parts.{made_stop, made_text}
 use Rattle.cs_writing.proofs.OnWriting.Tallies.{counted_negative}
 use Rattle.cs_writing.proofs.writing.mutants.write_negatives.Given.{Over}
@@ -27,22 +28,24 @@ use Rattle.cs_writing.proofs.writing.mutants.write_negatives.Goals.{In-Some}
 
 -- ---- the negative that was found
 
-next_is : (g : Over) (c : In-Some g) → FindsNext c.negatives.search (Some c.in-Some.negative) c.next.new.self
-next_is g c = subst (λ (f : Option Negative). FindsNext c.negatives.search f c.next.new.self) c.in-Some.is c.in_ok-next.ensures.found
+next_is : (g : Over) (c : In-Some g) → FindsNextKept c.negatives.keeper c.negatives.search (Some c.in-Some.negative) c.next.new.search
+next_is g c = subst (λ (f : Option Negative). FindsNextKept c.negatives.keeper c.negatives.search f c.next.new.search) c.in-Some.is c.in_ok-next.ensures.found
+
+told_is : (g : Over) (c : In-Some g) → TellsFound c.negatives.keeper (Some c.in-Some.negative) c.next.new.self
+told_is g c = subst (λ (f : Option Negative). TellsFound c.negatives.keeper f c.next.new.self) c.in-Some.is c.in_ok-next.ensures.told
 
 fits : (g : Over) (c : In-Some g) → FitsBase c.args.search c.in-Some.negative.edit
 fits g c =
     let left = c.negatives.search in
-    let so_far = c.negatives.invariant.so_far in
     let here = subst (λ (f : Option Negative). IfSome f (λ x. FitsBase left x.edit)) c.in-Some.is c.in_ok-next.ensures.fits in
-    fits_first c.args.base.now.tools.work c.args.search left so_far.entries so_far.first c.in-Some.negative here
+    fits_first c.args.search left c.in-Some.negative c.negatives.invariant.grammar c.negatives.invariant.base here
+
+fewer : (g : Over) (c : In-Some g) → length c.next.new.search.edits + 1 ≤ length c.negatives.search.edits
+fewer g c = subst (λ (f : Option Negative). IfSome f (λ _. length c.next.new.search.edits + 1 ≤ length c.negatives.search.edits)) c.in-Some.is c.in_ok-next.ensures.fewer
 
 -- so that numbers don't end
 few : (g : Over) (c : In-Some g) → c.negatives.manifest.counts.negatives + 1 ≤ greatest
-few g c =
-    let making = c.args.base.now in
-    negatives_few c.args.manifest.now.file making.number making.tools.work c.args.search c.negatives.search c.args.sink.now c.negatives.sink c.args.manifest.now.counts c.negatives.manifest.counts
-    c.negatives.invariant.so_far c.in-Some.negative c.next.new.self (next_is g c) (omega (arith, c.requires.few, c.requires.number))
+few g c = omega (arith, fewer g c, c.negatives.invariant.few, c.requires.few, c.requires.number)
 
 -- ---- answers
 
@@ -51,45 +54,68 @@ negatives-init g c = record {
   file = refl;
   making = ap (λ m. m.making) c.new-made.ensures;
   number = c.requires.number;
-  so_far = negatives_none c.args.manifest.now.file c.args.base.now.number c.args.base.now.tools.work c.args.search c.args.manifest.now.counts c.args.sink.now;
+  first = refl;
+  tokens = refl;
+  grammar = refl;
+  base = refl;
+  few = omega arith;
+  lent = refl;
+  so_far = λ before told.
+      negatives_none c.args.manifest.now.file c.args.base.now.number c.args.base.now.tools.work c.args.keeper.now.first before c.args.search c.args.keeper.now c.args.manifest.now.counts c.args.sink.now refl told;
+}
+
+pub next-requires : goal.next-requires
+next-requires g c = record {
+  tokens = ap (λ (h : PlainGrammar). h.tokens) c.negatives.invariant.grammar ∙ sym c.requires.keeper ∙ sym c.negatives.invariant.tokens;
 }
 
 pub negatives-smaller : goal.negatives-smaller
-negatives-smaller g c =
-    fewer_edits c.negatives.search c.next.new.self c.in-Some.negative (next_is g (goal.at.negatives-smaller g c).In-Some)
+negatives-smaller g c = omega (arith, fewer g (goal.at.negatives-smaller g c).In-Some)
 
 -- memory ran out before the next negative was found, or made
 pub returns-in_err-next-clause-text : goal.returns-in_err-next-clause-text
-returns-in_err-next-clause-text g c =
+returns-in_err-next-clause-text g c = λ before told.
     let p = err_from_is_err_and c.from_residual.result c.from_residual.ensures.1 in
     let making = c.args.base.now in
-    let stopped = negatives_memory c.args.manifest.now.file making.number making.tools.work c.args.search c.negatives.search c.args.sink.now c.negatives.sink c.args.manifest.now.counts c.negatives.manifest.counts
-    c.negatives.invariant.so_far (c.one_text.ensures (Some (texts_of making.tools.work))) in
-    rw (p.1, p.2) (made_stop c.args.manifest.now making c.args.search c.args.sink.now c.negatives.sink Memory stopped)
+    let most = c.args.keeper.now.first in
+    let stopped = negatives_memory c.args.manifest.now.file making.number making.tools.work most before c.args.search c.negatives.search c.negatives.keeper c.args.sink.now c.negatives.sink c.args.manifest.now.counts c.negatives.manifest.counts
+    (c.negatives.invariant.so_far before told) (c.one_text.ensures (Some (texts_of making.tools.work))) in
+    rw (p.1, p.2) (made_stop c.args.manifest.now making most before c.args.search c.args.sink.now c.negatives.sink Memory stopped)
 
 pub returns-in_err-make-in-Some-clause-text : goal.returns-in_err-make-in-Some-clause-text
-returns-in_err-make-in-Some-clause-text g c =
+returns-in_err-make-in-Some-clause-text g c = λ before told.
     let p = err_from_is_err_and c.from_residual-in_err-make-in-Some.result c.from_residual-in_err-make-in-Some.ensures.1 in
     let making = c.args.base.now in
-    let stopped = negatives_memory c.args.manifest.now.file making.number making.tools.work c.args.search c.negatives.search c.args.sink.now c.negatives.sink c.args.manifest.now.counts c.negatives.manifest.counts
-    c.negatives.invariant.so_far (c.one_text.ensures (Some (texts_of making.tools.work))) in
-    rw (p.1, p.2) (made_stop c.args.manifest.now making c.args.search c.args.sink.now c.negatives.sink Memory stopped)
+    let most = c.args.keeper.now.first in
+    let stopped = negatives_memory c.args.manifest.now.file making.number making.tools.work most before c.args.search c.negatives.search c.negatives.keeper c.args.sink.now c.negatives.sink c.args.manifest.now.counts c.negatives.manifest.counts
+    (c.negatives.invariant.so_far before told) (c.one_text.ensures (Some (texts_of making.tools.work))) in
+    rw (p.1, p.2) (made_stop c.args.manifest.now making most before c.args.search c.args.sink.now c.negatives.sink Memory stopped)
 
 pub returns-in-None-clause-text : goal.returns-in-None-clause-text
-returns-in-None-clause-text g c =
-    let is = subst (λ (f : Option Negative). FindsNext c.negatives.search f c.next.new.self) c.in-None.is c.in_ok-next.ensures.found in
+returns-in-None-clause-text g c = λ before told.
+    let is = subst (λ (f : Option Negative). FindsNextKept c.negatives.keeper c.negatives.search f c.next.new.search) c.in-None.is c.in_ok-next.ensures.found in
     let making = c.args.base.now in
-    made_text c.args.manifest.now making c.args.search
-    (negatives_all c.args.manifest.now.file making.number making.tools.work c.args.search c.negatives.search c.args.sink.now c.negatives.sink c.args.manifest.now.counts c.negatives.manifest.counts
-    c.negatives.invariant.so_far c.next.new.self is)
+    let most = c.args.keeper.now.first in
+    made_text c.args.manifest.now making most before c.args.search
+    (negatives_all c.args.manifest.now.file making.number making.tools.work most before c.args.search c.negatives.search c.negatives.keeper c.args.sink.now c.negatives.sink c.args.manifest.now.counts c.negatives.manifest.counts
+    (c.negatives.invariant.so_far before told) c.next.new.search is)
 
-pub returns-in-None-clause-counted : goal.returns-in-None-clause-counted
-returns-in-None-clause-counted g c =
-    let is = subst (λ (f : Option Negative). FindsNext c.negatives.search f c.next.new.self) c.in-None.is c.in_ok-next.ensures.found in
+pub returns-in-None-clause-adds : goal.returns-in-None-clause-adds
+returns-in-None-clause-adds g c = λ before told.
+    let is = subst (λ (f : Option Negative). FindsNextKept c.negatives.keeper c.negatives.search f c.next.new.search) c.in-None.is c.in_ok-next.ensures.found in
     let making = c.args.base.now in
-    made_counted c.args.manifest.now c.negatives.manifest making c.args.search (c.one_text.ensures (Some (texts_of making.tools.work)))
-    (negatives_all c.args.manifest.now.file making.number making.tools.work c.args.search c.negatives.search c.args.sink.now c.negatives.sink c.args.manifest.now.counts c.negatives.manifest.counts
-    c.negatives.invariant.so_far c.next.new.self is)
+    let most = c.args.keeper.now.first in
+    made_counted c.args.manifest.now c.negatives.manifest making most before c.args.search (c.one_text.ensures (Some (texts_of making.tools.work)))
+    (negatives_all c.args.manifest.now.file making.number making.tools.work most before c.args.search c.negatives.search c.negatives.keeper c.args.sink.now c.negatives.sink c.args.manifest.now.counts c.negatives.manifest.counts
+    (c.negatives.invariant.so_far before told) c.next.new.search is)
+
+pub returns-in-None-clause-told : goal.returns-in-None-clause-told
+returns-in-None-clause-told g c = λ before told.
+    let is = subst (λ (f : Option Negative). FindsNextKept c.negatives.keeper c.negatives.search f c.next.new.search) c.in-None.is c.in_ok-next.ensures.found in
+    let tells = subst (λ (f : Option Negative). TellsFound c.negatives.keeper f c.next.new.self) c.in-None.is c.in_ok-next.ensures.told in
+    let making = c.args.base.now in
+    negatives_told c.args.manifest.now.file making.number making.tools.work c.args.keeper.now.first before c.args.search c.negatives.search c.negatives.keeper c.args.sink.now c.negatives.sink c.args.manifest.now.counts c.negatives.manifest.counts
+    (c.negatives.invariant.so_far before told) (c.one_text.ensures (Some (texts_of making.tools.work))) c.next.new.search c.next.new.self is tells
 
 pub make-requires-clause-placed : goal.make-requires-clause-placed
 make-requires-clause-placed g c =
@@ -110,10 +136,11 @@ pub make-requires-clause-named : goal.make-requires-clause-named
 make-requires-clause-named g c =
     let at = (goal.at.make-requires-clause-named g c).In-Some in
     let n = c.in-Some.negative in
-    let so_far = c.negatives.invariant.so_far in
+    let left = c.negatives.search in
     let search = c.args.search in
     let tokens = subst (λ (w : List ℕ). All (IsNumberOf search.grammar.tokens) w) (sym c.requires.base) c.requires.tokens in
-    let negative = negative_first c.args.base.now.tools.work search c.negatives.search so_far.entries so_far.first n c.next.new.self (next_is g at) in
+    let here = subst (λ (f : Option Negative). IfSome f (IsNegative left.grammar left.base)) c.in-Some.is c.in_ok-next.ensures.negative in
+    let negative = negative_first search left n c.negatives.invariant.grammar c.negatives.invariant.base here in
     let named = named_negative c.args.manifest.now.file search.grammar search.base c.requires.names tokens n (fits g at) negative in
     subst (λ (k : Making). IsNamedNegative k.tools.file n) (sym c.negatives.invariant.making) (subst (λ (f : File). IsNamedNegative f n) c.requires.file named)
 
@@ -128,21 +155,22 @@ write-requires-clause-file g c =
     c.negatives.invariant.file ∙ c.requires.file ∙ sym (ap (λ (m : Making). m.tools.file) (c.make.ensures.making ∙ c.negatives.invariant.making))
 
 pub returns-in_err-write-in-Some-clause-text : goal.returns-in_err-write-in-Some-clause-text
-returns-in_err-write-in-Some-clause-text g c =
+returns-in_err-write-in-Some-clause-text g c = λ before tells.
     let p = err_from_is_err_and c.from_residual-in_err-write-in-Some.result c.from_residual-in_err-write-in-Some.ensures.1 in
     let at = (goal.at.returns-in_err-write-in-Some-clause-text g c).In-Some in
     let n = c.in-Some.negative in
     let search = c.args.search in
     let making = c.args.base.now in
+    let most = c.args.keeper.now.first in
     let file = c.args.manifest.now.file in
     let counts = c.negatives.manifest.counts in
     let w = c.in_err-write-in-Some.ensures n c.in_ok-make-in-Some.ensures.made in
     let told = told_by c.make.new.self.making making file search n w.told c.advance.new.self counts.negatives (c.make.ensures.making ∙ c.negatives.invariant.making) c.requires.file c.requires.base
     (c.advance.ensures ∙ ap (λ (k : ℕ). k + 1) c.negatives.invariant.number) w.of in
-    let stopped = negatives_cut file making.number making.tools.work search c.negatives.search c.args.sink.now c.negatives.sink c.args.manifest.now.counts counts c.negatives.invariant.so_far
-    n w.told c.next.new.self c.write.new.sink (next_is g at) told.0 c.in_ok-next.ensures.grammar c.in_ok-next.ensures.base (c.one_text.ensures (Some (texts_of making.tools.work)))
+    let stopped = negatives_cut file making.number making.tools.work most before search c.negatives.search c.negatives.keeper c.args.sink.now c.negatives.sink c.args.manifest.now.counts counts (c.negatives.invariant.so_far before tells)
+    n w.told c.next.new.search c.next.new.self c.write.new.sink (next_is g at) told.0 c.next.ensures.grammar c.next.ensures.base c.next.ensures.first (told_is g at) (c.one_text.ensures (Some (texts_of making.tools.work)))
     (subst (λ (l : List ℕ). IsCutShort g.S.Sink l c.negatives.sink c.write.new.sink) told.1 w.lines) in
-    rw (p.1, p.2) (made_stop c.args.manifest.now making search c.args.sink.now c.write.new.sink Failed stopped)
+    rw (p.1, p.2) (made_stop c.args.manifest.now making most before search c.args.sink.now c.write.new.sink Failed stopped)
 
 pub negatives-preserved : goal.negatives-preserved
 negatives-preserved g c =
@@ -150,6 +178,7 @@ negatives-preserved g c =
     let n = c.in-Some.negative in
     let search = c.args.search in
     let making = c.args.base.now in
+    let most = c.args.keeper.now.first in
     let file = c.args.manifest.now.file in
     let counts = c.negatives.manifest.counts in
     let after = c.write.new.manifest.counts in
@@ -163,8 +192,15 @@ negatives-preserved g c =
       file = ap (λ (q : Progress). q.file) w.counts ∙ c.negatives.invariant.file;
       making = same;
       number = number ∙ sym (ap (λ (k : Counts). k.negatives) counted.same);
-      so_far = negatives_more file making.number making.tools.work search c.negatives.search c.args.sink.now c.negatives.sink c.args.manifest.now.counts counts c.negatives.invariant.so_far n w.told
-          c.next.new.self c.write.new.sink (next_is g at) told.0 c.in_ok-next.ensures.grammar c.in_ok-next.ensures.base after
+      first = c.next.ensures.first ∙ c.negatives.invariant.first;
+      tokens = c.next.ensures.tokens ∙ c.negatives.invariant.tokens;
+      grammar = c.next.ensures.grammar ∙ c.negatives.invariant.grammar;
+      base = c.next.ensures.base ∙ c.negatives.invariant.base;
+      few = omega (arith, fewer g at, c.negatives.invariant.few, ap (λ (k : Counts). k.negatives) counted.same);
+      lent = w.lines.lent ∙ c.negatives.invariant.lent;
+      so_far = λ before tells.
+          negatives_more file making.number making.tools.work most before search c.negatives.search c.negatives.keeper c.args.sink.now c.negatives.sink c.args.manifest.now.counts counts (c.negatives.invariant.so_far before tells) n w.told
+          c.next.new.search c.next.new.self c.write.new.sink (next_is g at) told.0 c.next.ensures.grammar c.next.ensures.base c.next.ensures.first (told_is g at) after
           (subst (λ (l : List ℕ). IsWritten g.S.Sink l c.negatives.sink c.write.new.sink) told.1 w.lines) counted;
     }
 
@@ -176,4 +212,4 @@ returns-in_err-write-in-Some-clause-file g c =
 pub returns-in_err-write-in-Some-clause-lent : goal.returns-in_err-write-in-Some-clause-lent
 returns-in_err-write-in-Some-clause-lent g c =
     let w = c.in_err-write-in-Some.ensures c.in-Some.negative c.in_ok-make-in-Some.ensures.made in
-    w.lines.lent ∙ c.negatives.invariant.so_far.written.lent
+    w.lines.lent ∙ c.negatives.invariant.lent
