@@ -9,13 +9,14 @@ use Rattle.cs_words.specs.Commands.{may_have}
 use Rattle.cs_words.specs.declared.setting.Kind.{Kind}
 use Rattle.cs_words.specs.declared.setting.Kind.TheVariants as kinds
 use Rattle.cs_words.specs.declared.setting.Setting.{Setting}
-use Rattle.cs_words.specs.declared.setting.Setting.TheVariants.{Cover, Mutate, Bases, Separate, Weigh, Format, Slip}
+use Rattle.cs_words.specs.declared.setting.Setting.TheVariants.{Cover, Mutate, Bases, Separate, Weigh, Format, Slip, First}
 use Rattle.cs_words.specs.Options.{Give, IsMarked, IsNewOption, IsOption, IsValueOf, LacksMark, kind_of, mark_of}
 use Rattle.cs_words.specs.Choices.{IsCriteria, IsOperators, IsSlips}
 use Rattle.cs_choices.specs.declared.criteria.Criteria.{Criteria}
 use Rattle.cs_choices.specs.declared.operators.Operators.{Operators}
 use Rattle.cs_choices.specs.declared.slips.Slips.{Slips}
 use Rattle.cs_words.specs.Steps.{HasKind, Sets}
+use Rattle.cs_words.specs.Values.{IsFirst}
 
 -- the words so far say this
 pub record AreGiven (words : List (List ℕ)) (given : Given) : Type 0 where
@@ -26,6 +27,7 @@ pub record AreGiven (words : List (List ℕ)) (given : Given) : Type 0 where
   pub weigh : Give (codes "--weigh=") Weigh words given.weigh
   pub format : Give (codes "--format=") Format words given.format
   pub slips : Give (codes "--slips=") Slip words given.slips
+  pub first : Give (codes "--first=") First words given.first
 
 -- ---- marks
 
@@ -42,6 +44,7 @@ in_front (Separate x) value = refl
 in_front (Weigh x) value = refl
 in_front (Format x) value = refl
 in_front (Slip x) value = refl
+in_front (First x) value = refl
 
 -- a number for each kind, and for its mark
 abbrev number_of : Kind → ℕ
@@ -52,6 +55,7 @@ number_of kinds.Separator = 3
 number_of kinds.Weigh = 4
 number_of kinds.Format = 5
 number_of kinds.Slips = 6
+number_of kinds.First = 7
 
 abbrev kind_at : ℕ → Kind
 kind_at n =
@@ -63,7 +67,7 @@ kind_at n =
     then kinds.Bases
     else (if n == 3
     then kinds.Separator
-    else (if n == 4 then kinds.Weigh else (if n == 5 then kinds.Format else kinds.Slips)))))
+    else (if n == 4 then kinds.Weigh else (if n == 5 then kinds.Format else (if n == 6 then kinds.Slips else kinds.First))))))
 
 kind_numbered : (k : Kind) → kind_at (number_of k) ≡ k
 kind_numbered kinds.Criteria = refl
@@ -73,12 +77,13 @@ kind_numbered kinds.Separator = refl
 kind_numbered kinds.Weigh = refl
 kind_numbered kinds.Format = refl
 kind_numbered kinds.Slips = refl
+kind_numbered kinds.First = refl
 
 abbrev kind : Setting → ℕ
 kind setting = number_of (kind_of setting)
 
 abbrev marks : List (List ℕ)
-marks = codes "--criteria=" ∷ codes "--mutate=" ∷ codes "--bases=" ∷ codes "--separator=" ∷ codes "--weigh=" ∷ codes "--format=" ∷ codes "--slips=" ∷ []
+marks = codes "--criteria=" ∷ codes "--mutate=" ∷ codes "--bases=" ∷ codes "--separator=" ∷ codes "--weigh=" ∷ codes "--format=" ∷ codes "--slips=" ∷ codes "--first=" ∷ []
 
 abbrev place_in : List (List ℕ) → List ℕ → ℕ
 place_in [] mark = 0
@@ -92,6 +97,7 @@ kind_marked_so (Separate x) = refl
 kind_marked_so (Weigh x) = refl
 kind_marked_so (Format x) = refl
 kind_marked_so (Slip x) = refl
+kind_marked_so (First x) = refl
 
 pub marked : (word : List ℕ) (setting : Setting) → IsOption word setting → IsMarked (mark_of setting) word
 marked word setting is = (is.value, is.spelled)
@@ -179,6 +185,12 @@ module _ (words : List (List ℕ)) (word : List ℕ) (given more : Given) (are :
       subst (λ g. Give (codes "--slips=") Slip (words ++ word ∷ []) g.slips) (sym sets.1)
       (kept (codes "--slips=") Slip words word given.slips are.slips (λ m. omega (arith, kind_by_mark (codes "--slips=") word setting (λ value. refl) is m)))
 
+  first_more : (setting : Setting) → Sets given setting more → IsOption word setting → Give (codes "--first=") First (words ++ word ∷ []) more.first
+  first_more (First x) sets is = subst (λ g. Give (codes "--first=") First (words ++ word ∷ []) g.first) (sym sets.1) (said (codes "--first=") First words word x is)
+  first_more setting sets is =
+      subst (λ g. Give (codes "--first=") First (words ++ word ∷ []) g.first) (sym sets.1)
+      (kept (codes "--first=") First words word given.first are.first (λ m. omega (arith, kind_by_mark (codes "--first=") word setting (λ value. refl) is m)))
+
   pub given_more : (setting : Setting) → Sets given setting more → IsOption word setting → AreGiven (words ++ word ∷ []) more
   given_more setting sets is = record {
     criteria = criteria_more setting sets is;
@@ -188,6 +200,7 @@ module _ (words : List (List ℕ)) (word : List ℕ) (given more : Given) (are :
     weigh = weigh_more setting sets is;
     format = format_more setting sets is;
     slips = slips_more setting sets is;
+    first = first_more setting sets is;
   }
 
   -- what is set is new
@@ -199,6 +212,7 @@ module _ (words : List (List ℕ)) (word : List ℕ) (given more : Given) (are :
   lacks (Weigh x) sets = subst (λ field. Give (codes "--weigh=") Weigh words field) sets.0 are.weigh
   lacks (Format x) sets = subst (λ field. Give (codes "--format=") Format words field) sets.0 are.format
   lacks (Slip x) sets = subst (λ field. Give (codes "--slips=") Slip words field) sets.0 are.slips
+  lacks (First x) sets = subst (λ field. Give (codes "--first=") First words field) sets.0 are.first
 
 -- some word begins with the mark
 abbrev HasMarked : List ℕ → List (List ℕ) → Type 0
@@ -218,6 +232,7 @@ module _ (words : List (List ℕ)) (given : Given) (are : AreGiven words given) 
   kind_marked (Weigh x) has = some_marked (codes "--weigh=") Weigh words given.weigh (λ v. refl) are.weigh has
   kind_marked (Format x) has = some_marked (codes "--format=") Format words given.format (λ v. refl) are.format has
   kind_marked (Slip x) has = some_marked (codes "--slips=") Slip words given.slips (λ v. refl) are.slips has
+  kind_marked (First x) has = some_marked (codes "--first=") First words given.first (λ v. refl) are.first has
 
   -- an option of a kind that is there isn't new
   pub twice : (c : Command) (word : List ℕ) (setting : Setting) → HasKind given setting → IsOption word setting → IsNewOption c words word → ⊥
@@ -262,11 +277,19 @@ module _ (word value : List ℕ) where
       by_kind (Slip x) same gives = none x gives
       by_kind setting same gives = omega (arith, same)
 
-pub no_mark : (word : List ℕ) → (IsMarked (codes "--criteria=") word → ⊥) → (IsMarked (codes "--mutate=") word → ⊥) → (IsMarked (codes "--bases=") word → ⊥) → (IsMarked (codes "--separator=") word → ⊥) → (IsMarked (codes "--weigh=") word → ⊥) → (IsMarked (codes "--format=") word → ⊥) → (IsMarked (codes "--slips=") word → ⊥) → (setting : Setting) → IsOption word setting → ⊥
-no_mark word c m b s w f l (Cover x) option = c (marked word (Cover x) option)
-no_mark word c m b s w f l (Mutate x) option = m (marked word (Mutate x) option)
-no_mark word c m b s w f l (Bases x) option = b (marked word (Bases x) option)
-no_mark word c m b s w f l (Separate x) option = s (marked word (Separate x) option)
-no_mark word c m b s w f l (Weigh x) option = w (marked word (Weigh x) option)
-no_mark word c m b s w f l (Format x) option = f (marked word (Format x) option)
-no_mark word c m b s w f l (Slip x) option = l (marked word (Slip x) option)
+  pub not_first : word ≡ codes "--first=" ++ value → ((x : ℕ) → IsFirst value x → ⊥) → (setting : Setting) → IsOption word setting → ⊥
+  not_first is none = no_value (codes "--first=") word value (λ v. refl) is by_kind
+    where
+      by_kind : (setting : Setting) → kind setting ≡ 7 → IsValueOf setting value → ⊥
+      by_kind (First x) same gives = none x gives
+      by_kind setting same gives = omega (arith, same)
+
+pub no_mark : (word : List ℕ) → (IsMarked (codes "--criteria=") word → ⊥) → (IsMarked (codes "--mutate=") word → ⊥) → (IsMarked (codes "--bases=") word → ⊥) → (IsMarked (codes "--separator=") word → ⊥) → (IsMarked (codes "--weigh=") word → ⊥) → (IsMarked (codes "--format=") word → ⊥) → (IsMarked (codes "--slips=") word → ⊥) → (IsMarked (codes "--first=") word → ⊥) → (setting : Setting) → IsOption word setting → ⊥
+no_mark word c m b s w f l n (Cover x) option = c (marked word (Cover x) option)
+no_mark word c m b s w f l n (Mutate x) option = m (marked word (Mutate x) option)
+no_mark word c m b s w f l n (Bases x) option = b (marked word (Bases x) option)
+no_mark word c m b s w f l n (Separate x) option = s (marked word (Separate x) option)
+no_mark word c m b s w f l n (Weigh x) option = w (marked word (Weigh x) option)
+no_mark word c m b s w f l n (Format x) option = f (marked word (Format x) option)
+no_mark word c m b s w f l n (Slip x) option = l (marked word (Slip x) option)
+no_mark word c m b s w f l n (First x) option = n (marked word (First x) option)

@@ -55,6 +55,7 @@ pair_may_have of_pair.Spell kinds.Separator = true
 pair_may_have of_pair.Spell kinds.Weigh = true
 pair_may_have of_pair.Deep kinds.Format = false
 pair_may_have of_pair.Deep kinds.Slips = false
+pair_may_have of_pair.Deep kinds.First = false
 pair_may_have of_pair.Deep kind = true
 pair_may_have of_pair.Chains kinds.Separator = true
 pair_may_have of_pair.Chains kinds.Weigh = true

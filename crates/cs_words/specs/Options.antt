@@ -6,11 +6,11 @@ use Rattle.cs_words.specs.declared.setting.Kind.TheVariants as kind
 use Rattle.cs_words.specs.declared.setting.Setting.{Setting}
 use Rattle.cs_choices.specs.declared.format.Format.TheVariants.{Two}
 use Rattle.cs_choices.specs.declared.weigh.Weigh.TheVariants.{Nodes}
-use Rattle.cs_words.specs.declared.setting.Setting.TheVariants.{Cover, Mutate, Bases, Separate, Weigh, Format, Slip}
+use Rattle.cs_words.specs.declared.setting.Setting.TheVariants.{Cover, Mutate, Bases, Separate, Weigh, Format, Slip, First}
 use Rattle.cs_words.specs.declared.options.Options.{Options}
 use Rattle.cs_words.specs.Commands.{may_have}
 use Rattle.cs_words.specs.Choices.{IsCriteria, IsFormat, IsOperators, IsSlips, IsWeigh}
-use Rattle.cs_words.specs.Values.{IsBases, IsSeparator}
+use Rattle.cs_words.specs.Values.{IsBases, IsFirst, IsSeparator}
 
 -- ---- one option
 
@@ -23,6 +23,7 @@ kind_of (Separate separator) = kind.Separator
 kind_of (Weigh weigh) = kind.Weigh
 kind_of (Format format) = kind.Format
 kind_of (Slip slips) = kind.Slips
+kind_of (First number) = kind.First
 
 -- what stands in front of the value, for each kind
 abbrev pub mark_for : Kind → List ℕ
@@ -33,6 +34,7 @@ mark_for kind.Separator = codes "--separator="
 mark_for kind.Weigh = codes "--weigh="
 mark_for kind.Format = codes "--format="
 mark_for kind.Slips = codes "--slips="
+mark_for kind.First = codes "--first="
 
 abbrev pub mark_of : Setting → List ℕ
 mark_of setting = mark_for (kind_of setting)
@@ -46,6 +48,7 @@ IsValueOf (Separate separator) value = IsSeparator value separator
 IsValueOf (Weigh weigh) value = IsWeigh value weigh
 IsValueOf (Format format) value = IsFormat value format
 IsValueOf (Slip slips) value = IsSlips value slips
+IsValueOf (First number) value = IsFirst value number
 
 -- the word is an option with this setting
 pub record IsOption (word : List ℕ) (setting : Setting) : Type 0 where
@@ -85,7 +88,7 @@ abbrev pub GiveOr : {A : Type 0} → A → List ℕ → (A → Setting) → List
 GiveOr {A} default mark setting words value =
     (given : Option A) × Give mark setting words given × (value ≡ unwrap_or given default)
 
--- the defaults: all criteria, all operators, 16 bases, one space, nodes, the second format, and all slips
+-- the defaults: all criteria, all operators, 16 bases, one space, nodes, the second format, all slips, and all negatives
 abbrev pub default_options : Options
 default_options = record {
   criteria = record { rule = true; cdrc = true; pair = true };
@@ -95,6 +98,7 @@ default_options = record {
   weigh = Nodes;
   format = Two;
   slips = record { drops = true; doubles = true; swaps = true };
+  first = None;
 }
 
 -- Words stand for these options; those that they don't give have their defaults.
@@ -106,3 +110,4 @@ pub record AreOptions (words : List (List ℕ)) (options : Options) : Type 0 whe
   pub weigh : GiveOr default_options.weigh (codes "--weigh=") Weigh words options.weigh
   pub format : GiveOr default_options.format (codes "--format=") Format words options.format
   pub slips : GiveOr default_options.slips (codes "--slips=") Slip words options.slips
+  pub first : Give (codes "--first=") First words options.first

@@ -4,7 +4,7 @@ use Rattle.std.specs.declared.alloc.Global.{Global}
 use Rattle.cs_words.specs.declared.options.Options.{Options}
 use Rattle.cs_words.specs.declared.given.Given.{Given}
 use Rattle.cs_words.specs.declared.setting.Setting.{Setting}
-use Rattle.cs_words.specs.declared.setting.Setting.TheVariants.{Cover, Mutate, Bases, Separate, Weigh, Format, Slip}
+use Rattle.cs_words.specs.declared.setting.Setting.TheVariants.{Cover, Mutate, Bases, Separate, Weigh, Format, Slip, First}
 use Rattle.cs_words.specs.Options.{AreNew, IsNewOption, default_options}
 use Rattle.cs_words.specs.Values.{IsSeed, SpellsByte, SpellsSeed}
 use Rattle.cs_words.specs.declared.command.Command.TheVariants.{Gen, Member, OfGrammar, OfPair}
@@ -38,6 +38,7 @@ HasKind given (Separate separator) = IsSome given.separator
 HasKind given (Weigh weigh) = IsSome given.weigh
 HasKind given (Format format) = IsSome given.format
 HasKind given (Slip slips) = IsSome given.slips
+HasKind given (First number) = IsSome given.first
 
 -- the setting is new, and said now
 abbrev pub Sets : Given → Setting → Given → Type 0
@@ -48,9 +49,10 @@ Sets old (Separate separator) new = (old.separator ≡ None) × (new ≡ record 
 Sets old (Weigh weigh) new = (old.weigh ≡ None) × (new ≡ record old { weigh = Some weigh })
 Sets old (Format format) new = (old.format ≡ None) × (new ≡ record old { format = Some format })
 Sets old (Slip slips) new = (old.slips ≡ None) × (new ≡ record old { slips = Some slips })
+Sets old (First number) new = (old.first ≡ None) × (new ≡ record old { first = Some number })
 
 abbrev pub IsNothing : Given → Type 0
-IsNothing given = given ≡ record { criteria = None; operators = None; bases = None; separator = None; weigh = None; format = None; slips = None }
+IsNothing given = given ≡ record { criteria = None; operators = None; bases = None; separator = None; weigh = None; format = None; slips = None; first = None }
 
 -- the options are what is said, and defaults for the rest
 pub record AreDefaulted (given : Given) (options : Options) : Type 0 where
@@ -61,6 +63,7 @@ pub record AreDefaulted (given : Given) (options : Options) : Type 0 where
   pub weigh : options.weigh ≡ unwrap_or given.weigh default_options.weigh
   pub format : options.format ≡ unwrap_or given.format default_options.format
   pub slips : options.slips ≡ unwrap_or given.slips default_options.slips
+  pub first : options.first ≡ given.first
 
 -- ---- which of two commands with one word is chosen
 

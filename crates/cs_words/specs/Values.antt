@@ -1,4 +1,4 @@
--- The values of the other options, the number of bases and the separator; and the seed of `gen`.
+-- The values of the other options, the number of bases, how many negatives are kept, and the separator; and the seed of `gen`.
 use Rattle.std.specs.Prelude.{◌≡◌, ◌≢◌, ◌⊎◌, ◌+◌, ◌*◌, ◌^◌, ◌≤◌, ◌<◌, ℕ, List, [], ◌∷◌, ◌++◌, length, IsTrue}
 use Rattle.std.specs.List.{list_all}
 use Rattle.cs_bytes.specs.Classes.{is_digit, is_hexadecimal_digit}
@@ -14,6 +14,11 @@ pub record IsBases (value : List ℕ) (bases : ℕ) : Type 0 where
   pub digits : AreDigits 4 value
   pub number : bases ≡ number_of 10 value
   pub most : bases ≤ 1000
+
+-- the same of a number from 1 on
+pub record IsFirst (value : List ℕ) (first : ℕ) : Type 0 where
+  pub spelled : IsBases value first
+  pub least : 1 ≤ first
 
 -- one to twenty decimal digits that spell a number below 2^64
 pub record IsSeed (value : List ℕ) (seed : ℕ) : Type 0 where

@@ -109,7 +109,7 @@ impl PairCommand {
         match (self, kind) {
             (PairCommand::Suite, Kind::Slips) => false,
             (PairCommand::Suite, _) => true,
-            (PairCommand::Deep, Kind::Format | Kind::Slips) => false,
+            (PairCommand::Deep, Kind::Format | Kind::Slips | Kind::First) => false,
             (PairCommand::Deep, _) => true,
             (PairCommand::Wrong, Kind::Slips | Kind::Separator | Kind::Weigh) => true,
             (PairCommand::Spell | PairCommand::Chains, Kind::Separator | Kind::Weigh) => true,

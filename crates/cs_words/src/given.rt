@@ -18,6 +18,7 @@ pub(crate) struct Given {
     pub(crate) weigh: Option<Weigh>,
     pub(crate) format: Option<Format>,
     pub(crate) slips: Option<Slips>,
+    pub(crate) first: Option<u16>,
 }
 
 impl Given {
@@ -33,6 +34,7 @@ impl Given {
             weigh: None,
             format: None,
             slips: None,
+            first: None,
         }
     }
 
@@ -49,6 +51,7 @@ impl Given {
             Setting::Weigh(weigh) => self.weigh.replace(weigh).is_none(),
             Setting::Format(format) => self.format.replace(format).is_none(),
             Setting::Slip(slips) => self.slips.replace(slips).is_none(),
+            Setting::First(first) => self.first.replace(first).is_none(),
         }
     }
 
@@ -65,6 +68,7 @@ impl Given {
             weigh: self.weigh.unwrap_or(defaults.weigh),
             format: self.format.unwrap_or(defaults.format),
             slips: self.slips.unwrap_or(defaults.slips),
+            first: self.first,
         }
     }
 }

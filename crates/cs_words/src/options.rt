@@ -23,11 +23,14 @@ pub struct Options {
     pub format: Format,
     /// Which slips of rules are made.
     pub slips: Slips,
+    /// How many negatives with one forbidden pair are kept of each operator and left mark, from 1 to 1,000; all of them and those
+    /// with more such pairs where no word says so.
+    pub first: Option<u16>,
 }
 
 impl Options {
-    /// The options where no word gives one: all criteria, all operators, 16 bases, one space, nodes, the second format, and
-    /// all slips.
+    /// The options where no word gives one: all criteria, all operators, 16 bases, one space, nodes, the second format, all
+    /// slips, and all negatives.
     pub fn defaults() -> Options
         ensures { result ≡ default_options }
     {
@@ -52,6 +55,7 @@ impl Options {
                 doubles: true,
                 swaps: true,
             },
+            first: None,
         }
     }
 }

@@ -6,7 +6,7 @@ ghost use Rattle.cs_words.specs.declared.setting.Setting.{Setting};
 
 use crate::choices::{read_criteria, read_format, read_operators, read_slips, read_weigh};
 use crate::separator::Separator;
-use crate::values::{read_bases, read_separator};
+use crate::values::{read_bases, read_first, read_separator};
 use cs_choices::{Criteria, Format, Operators, Slips, Weigh};
 
 /// What an option sets.
@@ -26,6 +26,8 @@ pub(crate) enum Setting {
     Format(Format),
     /// The slips of rules.
     Slip(Slips),
+    /// How many negatives are kept of each operator and left mark.
+    First(u16),
 }
 
 /// What an option is about.
@@ -38,6 +40,7 @@ pub enum Kind {
     Weigh,
     Format,
     Slips,
+    First,
 }
 
 impl Setting {
@@ -53,6 +56,7 @@ impl Setting {
             Setting::Weigh(_) => Kind::Weigh,
             Setting::Format(_) => Kind::Format,
             Setting::Slip(_) => Kind::Slips,
+            Setting::First(_) => Kind::First,
         }
     }
 }
@@ -80,8 +84,11 @@ pub(crate) fn read_option(word: &str) -> Option<Setting>
     if let Some(value) = behind(word, "--format=") {
         return Some(Setting::Format(read_format(value)?));
     }
-    let value = behind(word, "--slips=")?;
-    Some(Setting::Slip(read_slips(value)?))
+    if let Some(value) = behind(word, "--slips=") {
+        return Some(Setting::Slip(read_slips(value)?));
+    }
+    let value = behind(word, "--first=")?;
+    Some(Setting::First(read_first(value.as_bytes())?))
 }
 
 // What stands behind the mark.

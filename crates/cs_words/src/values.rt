@@ -1,11 +1,11 @@
-// The values of the number of bases and of the separator; and a seed.
+// The values of the number of bases, of how many negatives are kept, and of the separator; and a seed.
 
 ghost use Rattle.std.specs.Prelude.{◌≡◌, ◌≤◌, ◌↔◌, IsTrue, IfNone, IfSome, List, ℕ, length, min, take};
 ghost use Rattle.std.specs.List.{list_all};
 ghost use Rattle.cs_bytes.specs.Classes.{is_digit};
 ghost use Rattle.cs_bytes.specs.Digits.{number_of};
 ghost use Rattle.cs_words.specs.Steps.{LacksSpelling};
-ghost use Rattle.cs_words.specs.Values.{AreDigits, IsBases, IsSeed, IsSeparator, SpellsByte};
+ghost use Rattle.cs_words.specs.Values.{AreDigits, IsBases, IsFirst, IsSeed, IsSeparator, SpellsByte};
 
 use crate::separator::Separator;
 use cs_bytes::{ByteClass, digit_of, from_offset, number};
@@ -23,6 +23,18 @@ pub(crate) fn read_bases(value: &[u8]) -> Option<u16>
         return None;
     }
     Some(bases as u16)
+}
+
+/// How many negatives are kept of each operator and left mark, as the value spells it.
+pub(crate) fn read_first(value: &[u8]) -> Option<u16>
+    ensures some { IfSome result (IsFirst value.now) }
+    ensures none { IfNone result ((first : ℕ) → IsFirst value.now first → ⊥) }
+{
+    let first = read_bases(value)?;
+    if first == 0 {
+        return None;
+    }
+    Some(first)
 }
 
 /// The seed that the value spells.

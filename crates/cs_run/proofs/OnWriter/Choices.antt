@@ -15,7 +15,7 @@ texts patterns kinds literals separator =
 
 -- what the options choose, with these texts
 abbrev chosen : Options → Texts → Choice
-chosen options t = record { criteria = options.criteria; texts = Some t; operators = options.operators; most = options.bases; first = None; format = options.format; weigh = options.weigh }
+chosen options t = record { criteria = options.criteria; texts = Some t; operators = options.operators; most = options.bases; first = options.first; format = options.format; weigh = options.weigh }
 
 module _ (file : File) (scanner : lex.File) (options : Options) (p : List Regex) (k : List Kind) (l s : List ℕ)
     (patterns : p ≡ scanner.patterns) (kinds : k ≡ scanner.kinds) (literals : l ≡ scanner.literals) (separator : s ≡ options.separator) where

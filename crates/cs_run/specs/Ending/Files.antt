@@ -100,7 +100,7 @@ choice_by options s = record {
   texts = Some (texts_by options s);
   operators = options.operators;
   most = options.bases;
-  first = None;
+  first = options.first;
   format = options.format;
   weigh = options.weigh;
 }

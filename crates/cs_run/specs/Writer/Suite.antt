@@ -1,5 +1,5 @@
 -- The manifests that `rules` and `suite` write.
-use Rattle.std.specs.Prelude.{ℕ, List, None, Some}
+use Rattle.std.specs.Prelude.{ℕ, List, Some}
 use Rattle.std.specs.Borrow.{Bor}
 use Rattle.cs_run.specs.Ending.Files.{choice_of}
 use Rattle.cs_run.specs.declared.input.judging.Pair.{Pair}
@@ -26,7 +26,7 @@ choice_with options work = record {
   texts = Some (texts_of work);
   operators = options.operators;
   most = options.bases;
-  first = None;
+  first = options.first;
   format = options.format;
   weigh = options.weigh;
 }
@@ -43,6 +43,6 @@ measure_by options file work = measure_of options.weigh file.grammar.tokens (Som
 abbrev pub means_by : Options → Bor RenderWork → Bor Weighed → Means
 means_by options work pairs = record {
   work = work;
-  mutation = record { pairs = pairs; operators = options.operators; most = options.bases; first = None };
+  mutation = record { pairs = pairs; operators = options.operators; most = options.bases; first = options.first };
   weigh = options.weigh;
 }

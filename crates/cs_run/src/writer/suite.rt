@@ -137,7 +137,7 @@ pub(crate) fn means_of<'a>(
             pairs,
             operators: options.operators,
             most: options.bases as u32,
-            first: None,
+            first: options.first,
         },
         weigh: options.weigh,
     }
