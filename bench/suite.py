@@ -61,13 +61,16 @@ def least(runs):
 
 
 def many_bases(path, bounds):
-    """Negatives of 1,000 bases over 150 tokens, beside copying the output."""
+    """Negatives of 1,000 bases over 150 tokens, beside copying the output, and the kept ones beside all."""
     words = ["--criteria=rule", "--bases=1000", "--format=1"]
-    run = least(SuiteRun(path, many_sentences(150, 1000), scanner(150), words) for _ in range(5))
+    run, kept = (least(SuiteRun(path, many_sentences(150, 1000), scanner(150), chosen) for _ in range(5)) for chosen in (words, [*words, "--first=10"]))
     copied = min(copying(run.written) for _ in range(5))
     bounds.status("1,000 bases over 150 tokens", run)
     bounds.row("  time, against copying the output", run.seconds / max(copied, 0.001), 3, "times")
     bounds.row("  memory", run.megabytes, 60, "MB")
+    bounds.status("1,000 bases over 150 tokens, ten negatives of each operator and left mark", kept)
+    bounds.row("  time, against all negatives", kept.seconds / max(run.seconds, 0.001), 0.2, "times")
+    bounds.row("  memory", kept.megabytes, 60, "MB")
 
 
 def main():

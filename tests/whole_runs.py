@@ -236,6 +236,25 @@ goal 4 rule 4 size 7
   text "( 0 )"
 end goals 4 feasible 4 infeasible 0 large 0 negatives 0
 """
+# The deletes of the first base have the left marks <begin>, NUM and '+'; that of the second, of NUM alone, has <begin> again.
+SUITE_GOALS = SUITE[: SUITE.index(b"end goals")]
+KEPT = SUITE_GOALS + b"""base 1 goal 1
+negative 1 base 1 delete 0 pair <begin> '+' at 0
+  tokens '+' NUM
+  text "+ 0"
+negative 2 base 1 delete 1 pair NUM NUM at 1
+  tokens NUM NUM
+  text "0 0"
+negative 3 base 1 delete 2 pair '+' <end> at 2
+  tokens NUM '+'
+  text "0 +"
+base 2 goal 2
+end goals 4 feasible 4 infeasible 0 large 0 negatives 3
+"""
+# The swaps of NUM '+' NUM have two poisoned pairs each.
+NONE_KEPT = SUITE_GOALS + b"""base 1 goal 1
+end goals 4 feasible 4 infeasible 0 large 0 negatives 0
+"""
 ONE = b"""conform 1 suite
 token 1 'x'
 rule 1 s : 'x'
@@ -361,6 +380,17 @@ ROWS = [
     (["suite", "empty.y", "missing.l", "--mutate=none"], 3, b"", b"conform: read fault: lex\n"),
     (["suite", "one.y", "one.l", "--format=1"], 0, ONE, b""),
     (["suite", "one.y", "one.l"], 0, ONE_SHARED, b""),
+    (["suite", "one.y", "one.l", "--format=1", "--first=1"], 0, ONE, b""),
+    (["suite", "one.y", "one.l", "--first=01"], 0, ONE_SHARED, b""),
+    (["suite", "one.y", "one.l", "--first=1000"], 0, ONE_SHARED, b""),
+    (["suite", "g1.y", "g1.l", "--criteria=rule", "--mutate=delete", "--bases=2", "--first=1", "--format=1"], 0, KEPT, b""),
+    (["suite", "g1.y", "g1.l", "--criteria=rule", "--mutate=swap", "--bases=1", "--first=1", "--format=1"], 0, NONE_KEPT, b""),
+    (["suite", "g1.y", "g1.l", "--first=7", "--mutate=none", "--criteria=rule", "--format=1"], 0, SUITE, b""),
+    (["suite", "g1.y", "g1.l", "--first=0"], 2, b"", b"conform: usage: word 3\n"),
+    (["suite", "g1.y", "g1.l", "--first=1001"], 2, b"", b"conform: usage: word 3\n"),
+    (["suite", "g1.y", "g1.l", "--first="], 2, b"", b"conform: usage: word 3\n"),
+    (["suite", "g1.y", "g1.l", "--first=1", "--first=1"], 2, b"", b"conform: usage: word 4\n"),
+    (["deep", "g1.y", "g1.l", "--first=1"], 2, b"", b"conform: usage: word 3\n"),
     (["suite", "g1.y", "g1.l", "--format=3"], 2, b"", b"conform: usage: word 3\n"),
     (["suite", "g1.y", "g1.l", "--mutate=all"], 2, b"", b"conform: usage: word 3\n"),
     (["suite", "g1.y", "g1.l", "--bases=1", "--bases=1"], 2, b"", b"conform: usage: word 4\n"),

@@ -239,7 +239,8 @@ def options(random):
     operators = random.sample(["delete", "insert", "replace", "swap"], random.randint(0, 4))
     separator = random.choice([b" ", b" ", b"", b"\n", b"a", b"--", b"\xe9"])
     bases, weigh, version = random.choice([0, 1, 2, 5, 16]), random.choice(["nodes", "bytes"]), random.choice([1, 2])
-    choice = Choice(criteria, operators, bases, separator, weigh, version)
+    first = random.choice([None, None, 1, 2, 3, 10, 1000])
+    choice = Choice(criteria, operators, bases, separator, weigh, version, first)
     words = [
         f"--criteria={','.join(criteria)}",
         f"--mutate={','.join(operators) or 'none'}",
@@ -247,6 +248,7 @@ def options(random):
         f"--separator={in_hexadecimal(separator)}",
         f"--weigh={weigh}",
         f"--format={version}",
+        *([f"--first={first}"] if first else []),
     ]
     return random.sample(words, len(words)), choice
 

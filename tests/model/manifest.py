@@ -1,5 +1,6 @@
 """The lines of a manifest, as docs/FORMATS.md has them, made from trees and a scanner alone."""
 
+from collections import Counter
 from itertools import islice
 from math import inf
 
@@ -40,6 +41,8 @@ class Manifest(Texts):
         self.counts = dict.fromkeys(("goals", "feasible", "infeasible", "large", "negatives"), 0)
         # the trees of derivations, each once
         self.cases = []
+        # how many negatives with one poisoned pair were kept, by operator and left mark
+        self.kept = Counter()
 
     def text(self):
         """The whole manifest as bytes."""
@@ -103,9 +106,20 @@ class Manifest(Texts):
             for words, tokens in edits(list(base), self.choice.operators, self.grammar.tokens):
                 yield from self.edit_lines(number, words, tokens)
 
+    def is_kept(self, operator, poisons):
+        """Whether a negative is kept: all are, or of those with one such pair the first of each operator and left mark."""
+        if self.choice.first is None:
+            return True
+        if len(poisons) > 1:
+            return False
+        kind = operator, poisons[0][0][0]
+        self.kept[kind] += 1
+        return self.kept[kind] <= self.choice.first
+
     def edit_lines(self, base, words, tokens):
-        if poison := self.poison(tokens):
+        poisons = self.poisons(tokens)
+        if poisons and self.is_kept(words[0], poisons):
             self.counts["negatives"] += 1
-            pair, place = poison
+            pair, place = poisons[0]
             yield line("negative", self.counts["negatives"], "base", base, *words, "pair", *map(name_of, pair), "at", place)
             yield from self.sentence(tokens)

@@ -18,6 +18,7 @@ class Choice:
     separator: bytes = b" "
     weigh: str = "nodes"
     version: int = 1
+    first: int | None = None
 
 
 def name_of(mark):
@@ -79,9 +80,13 @@ class Texts:
         pairs = ((left, right) for left in (BEGIN, *tokens) for right in (*tokens, END))
         return {pair for pair in pairs if self.is_adjacent(pair)}
 
+    def poisons(self, tokens):
+        """The pairs that no sentence has, with their places."""
+        return [(pair, place) for place, pair in enumerate(neighbours(tokens)) if pair not in self.adjacent]
+
     def poison(self, tokens):
-        """The first pair that no sentence has, and its place, or None."""
-        return next(((pair, place) for place, pair in enumerate(neighbours(tokens)) if pair not in self.adjacent), None)
+        """The first of them, or None."""
+        return next(iter(self.poisons(tokens)), None)
 
     def symbols(self):
         """The lines of tokens, of rules and of lexemes."""
