@@ -1,12 +1,26 @@
 //! Bytes and text: the ground on which all readers stand.
 //!
-//! What stands at a place of a text, the longest run of a class of bytes, lines, pairs of bytes, and the value of digits.
-//! No call takes memory, and each looks at a byte at most twice. The layers above find most of their constructs by these
-//! calls.
+//! # What it is for
 //!
-//! All files of `specs/` are meaning: `Names` (the names of bytes), `Classes` (which bytes are of a class), `Places` (what
-//! stands at a place, a longest run, a line), `Digits` (the number that digits spell) and `Limits` (how large a text may
-//! be).
+//! The layers above find most of their constructs by these calls: what stands at a place of a text, the longest run of
+//! a class of bytes, lines, pairs of bytes, and the value of digits. No call takes memory, and each looks at a byte at
+//! most twice.
+//!
+//! # What a contract sees
+//!
+//! All files of `specs/` are meaning: `Names` (the names of bytes), `Classes` (which bytes are of a class), `Places`
+//! (what stands at a place, a longest run, a line), `Digits` (the number that digits spell) and `Limits` (how large a
+//! text may be).
+//!
+//! # What is proved
+//!
+//! Each answer is exact. A text has one longest run of a class, the names are those of ASCII, and the most bytes of a
+//! text are those of the definitions.
+//!
+//! # What is only tested
+//!
+//! What the calls answer to worked rows: by `test_reading::readers`. How often a byte is looked at is neither proved
+//! nor tested.
 #![tactic(auto)]
 
 mod class;

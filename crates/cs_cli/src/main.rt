@@ -1,5 +1,23 @@
-//! The program `conform`: it gives `run` the words of the command line, the current folder, the standard streams and threads,
-//! and ends with its status. Nothing stands on it.
+//! The program `conform`: it gives `run` the words of the command line, the current folder, the standard streams and
+//! threads, and ends with its status.
+//!
+//! # What it is for
+//!
+//! `rt build` makes the program of it. Nothing stands on it.
+//!
+//! # What a contract sees
+//!
+//! That of `run`: a desk, an output, an error output and words. The system's own are a `FolderDesk` and two
+//! `StreamSink`s.
+//!
+//! # What is proved
+//!
+//! That it returns, without a panic; all else is `run`'s.
+//!
+//! # What is only tested
+//!
+//! What it does around `run`: by the stored run and by `tests/whole_runs.py`. That it gives `run` the system's words
+//! and streams, and ends with its status, is neither proved nor tested by itself.
 #![tactic(auto)]
 
 ghost use Rattle.std.specs.Prelude.{◌≡◌, drop};

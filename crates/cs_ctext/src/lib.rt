@@ -1,13 +1,27 @@
 //! C text inside other files: comments, quoted constructs, blocks, words and character literals.
 //!
-//! Both readers meet C inside their files. Each call here reads one construct at a place of a slice of bytes, and
-//! answers the offset behind it, or `None` where it isn't closed. `words` gives the C words of a part of the bytes.
-//! A reader that meets many constructs in one text walks over it as `CText`, and takes time linear in the text.
-//! No call takes memory, and none recurs, however deep braces nest.
+//! # What it is for
 //!
-//! Meaning, in `specs/`: `Marks`, `Comments`, `Quotes`, `Blocks`, `Literals` and `Words`; the laws `one_comment`,
-//! `one_quoted`, `one_block`, `one_literal` and `one_list_of_words` say that each has one answer. `Scans` and `Unclosed` are
-//! working words of the proofs.
+//! Both readers meet C inside their files. Each call here reads one construct at a place of a slice of bytes, and
+//! answers the offset behind it, or `None` where it isn't closed. `words` gives the C words of a part of the bytes. A
+//! reader that meets many constructs in one text walks over it as `CText`, and takes time linear in the text. No call
+//! takes memory, and none recurs, however deep braces nest.
+//!
+//! # What a contract sees
+//!
+//! Bytes and offsets. Meaning, in `specs/`: `Marks`, `Comments`, `Quotes`, `Blocks`, `Literals` and `Words`. `Scans`
+//! and `Unclosed` are working words of the proofs.
+//!
+//! # What is proved
+//!
+//! The end of a construct is exact, or that it isn't closed; a literal has exactly its byte, and a part exactly its
+//! words, in order. The laws `one_comment`, `one_quoted`, `one_block`, `one_literal` and `one_list_of_words` say that
+//! each has one answer.
+//!
+//! # What is only tested
+//!
+//! What the calls answer to worked rows: by `test_reading::readers`. That the time is linear is neither proved nor
+//! tested.
 #![tactic(auto)]
 
 mod block;

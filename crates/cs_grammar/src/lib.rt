@@ -1,13 +1,27 @@
 //! Context-free grammars: symbols, rules, grammars within their limits, derivations and what they yield.
 //!
-//! The layers above build a `Grammar` (which is well formed from then on) and read it by `rules`, `rule` and the counts;
-//! write the code of a tree into a `Derivation`, and get the tokens of a derivation by `expand` or `yield_of`. Symbols that
-//! they still have to take on they keep on a stack, by `put_on_top`. Trees are measured by `Weights`. Numbers count from 1
-//! and places from 0: see `cs_grammar::numbers`.
+//! # What it is for
+//!
+//! The layers above build a `Grammar` (which is well formed from then on) and read it by `rules`, `rule` and the
+//! counts; write the code of a tree into a `Derivation`, and get the tokens of a derivation by `expand` or `yield_of`.
+//! Symbols that they still have to take on they keep on a stack, by `put_on_top`. Trees are measured by `Weights`.
+//! Numbers count from 1 and places from 0: see `cs_grammar::numbers`.
+//!
+//! # What a contract sees
 //!
 //! Of the files of `specs/`, these say what is meant: `Grammar`, `Tree`, `Weights`, `Context`, `Places`, `Uses`,
-//! `Sentence`, `Leftmost`, `Fault`, `Stack`; `Laws` has the two halves of "exactly one". `Walk` and `Entries` have working
-//! words of proofs. The lemmas on trees, contexts and tables that the layers above share stand in `proofs/`.
+//! `Sentence`, `Leftmost`, `Fault`, `Stack`; `Laws` has the two halves of "exactly one". `Walk` and `Entries` have
+//! working words of proofs. The lemmas on trees, contexts and tables that the layers above share stand in `proofs/`.
+//!
+//! # What is proved
+//!
+//! Exactly the well-formed grammars are built. `expand` gives the yield of the one tree of a derivation of the start
+//! symbol, and else names the first fault of the list. The laws are functions that do nothing.
+//!
+//! # What is only tested
+//!
+//! That the calls answer where memory is ample, and what they answer to worked rows: by `test_verdicts::trees` and, for
+//! long lists, `test_hostile`.
 #![tactic(auto)]
 
 mod derivation;

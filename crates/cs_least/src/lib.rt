@@ -9,7 +9,24 @@
 //! - `embed`: least contexts: what the least context of each nonterminal of a grammar costs by some weights, and which
 //!   context is chosen.
 //!
-//! The file of each part says which files of its folder of `specs/` are meaning.
+//! # What it is for
+//!
+//! By `cost` the layers above learn what the least tree of a symbol costs, and get the chosen one; by `embed` the same
+//! of contexts of a nonterminal. What has least ways of its own asks `ways`.
+//!
+//! # What a contract sees
+//!
+//! Costs: the least size, or that there is none, or that each is above the limit. The file of each part says which
+//! files of its folder of `specs/` are meaning.
+//!
+//! # What is proved
+//!
+//! Each cost is exact, over all trees, contexts and ways. A chosen tree or context exists exactly where there is any,
+//! however large; it is of least size, and there is one. The laws are functions that do nothing.
+//!
+//! # What is only tested
+//!
+//! That the calls answer where memory is ample, and what they answer to worked rows: by `test_verdicts::trees`.
 #![tactic(auto)]
 
 mod cost;

@@ -6,7 +6,24 @@
 //! - `actions`: the kind of an action of a lex rule: what the rule gives where it matches.
 //! - `reading`: what the layout and the actions mean beside a yacc file: patterns, kinds, and the tokens of literals.
 //!
-//! The file of each part says which files of its folder of `specs/` are meaning.
+//! # What it is for
+//!
+//! The layers above call `read_lex` and go on with the `LexFile`: the patterns and kinds of its rules, and the tokens
+//! of literals.
+//!
+//! # What a contract sees
+//!
+//! The bytes, and the file that they mean. The file of each part says which files of its folder of `specs/` are
+//! meaning.
+//!
+//! # What is proved
+//!
+//! Ok exactly where the bytes are accepted, with the file that they mean; each refusal exactly where it is the bytes'
+//! refusal, at its place. Bytes are accepted or refused, and not both. An automaton can be made of the patterns.
+//!
+//! # What is only tested
+//!
+//! That files are read where memory is ample, and what is read of worked files: by `test_reading::readers`.
 #![tactic(auto)]
 
 mod actions;

@@ -105,10 +105,10 @@ module _ (n : ℕ) (rules : List ℕ) (old : List (List ℕ)) where
             let mid_at = slice_get-get_or new k [] (omega (arith, here, notes.same, within)) in
             let e : rule - 1 ≡ k = omega (arith, here) in
             let R : ℕ → ℕ → List ℕ → Type 0 = λ q p l. NotesRow q n rules (slice_index_or new p []) l in
-            let R1 : ℕ → Type 0 = λ q. R q (rule - 1) row in
-            let R2 : ℕ → Type 0 = λ p. R (k + 1) p row in
-            let R3 : List ℕ → Type 0 = λ l. R (k + 1) k l in
-            let added = subst R3 after_is (subst R2 e (subst R1 (sym here) more)) in
+            let AtRule : ℕ → Type 0 = λ q. R q (rule - 1) row in
+            let AtNumber : ℕ → Type 0 = λ p. R (k + 1) p row in
+            let AtRow : List ℕ → Type 0 = λ l. R (k + 1) k l in
+            let added = subst AtRow after_is (subst AtNumber e (subst AtRule (sym here) more)) in
             ⊎_elim
             (λ (d : Contains done (k + 1)). row_twice (k + 1) n rules before mid after (notes.listed k before mid d is mid_at) added)
             (λ (not : Contains done (k + 1) → ⊥).

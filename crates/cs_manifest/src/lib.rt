@@ -5,7 +5,24 @@
 //! - `output`: what lines are put with: an output in front of a sink, the names of symbols, and escaped texts.
 //! - `manifest`: what stands in a manifest, in both formats, and how its lines are put.
 //!
-//! The file of each part says which files of its folder of `specs/` are meaning.
+//! # What it is for
+//!
+//! The layers above begin a `Manifest`, give it one entry after another and finish it. Other texts they put by an
+//! `Output`.
+//!
+//! # What a contract sees
+//!
+//! Of a manifest its head and the counts of what was written, and of a sink what it took, its faults and its room. The
+//! file of each part says which files of its folder of `specs/` are meaning.
+//!
+//! # What is proved
+//!
+//! Ok means that the sink took exactly the lines, and a failure that it took a prefix of them and that faults rose. A
+//! file has one manifest by a choice. The laws are functions that do nothing.
+//!
+//! # What is only tested
+//!
+//! That the calls answer where memory is ample, and the lines of worked rows: by `test_manifest`.
 #![tactic(auto)]
 
 mod manifest;

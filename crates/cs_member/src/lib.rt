@@ -1,13 +1,29 @@
 //! Membership: whether a list of tokens is a sentence of a grammar, with a derivation of it.
 //!
-//! The layers above hand in a grammar and a list of its tokens, and get by `member` a derivation whose yield is the list, or
-//! learn that there is none. For many lists of one grammar they make a [`Recognizer`] once, and [`MemberWork`] judges lists as
-//! work that workers share. Any grammar will do: left recursion, empty rules, cycles, ambiguity.
+//! # What it is for
 //!
-//! The way is Earley's (1970, "An efficient context-free parsing algorithm") with rows of origins: at each position each item,
-//! which is a rule and a place in it, has the set of positions from which its symbols so far have trees up to here.
+//! The layers above hand in a grammar and a list of its tokens, and get by `member` a derivation whose yield is the
+//! list, or learn that there is none. For many lists of one grammar they make a [`Recognizer`] once, and [`MemberWork`]
+//! judges lists as work that workers share. Any grammar will do: left recursion, empty rules, cycles, ambiguity.
 //!
-//! Meaning: `specs/Membership.antt`. The other files of `specs/` have working words of proofs.
+//! The way is Earley's (1970, "An efficient context-free parsing algorithm") with rows of origins: at each position
+//! each item, which is a rule and a place in it, has the set of positions from which its symbols so far have trees up
+//! to here.
+//!
+//! # What a contract sees
+//!
+//! A grammar, a list and an answer. Meaning: `specs/Membership.antt`. The other files of `specs/` have working words of
+//! proofs.
+//!
+//! # What is proved
+//!
+//! A list is inside with a derivation that yields it, or outside, exactly where no tree of the start symbol yields it.
+//! That is so of a [`Recognizer`] too, and of workers.
+//!
+//! # What is only tested
+//!
+//! That the calls answer where memory is ample; all lists up to a length against all sentences of small grammars, long
+//! lists, and workers: by `test_member`. Which of several derivations is given isn't said.
 #![tactic(auto)]
 
 mod adding;

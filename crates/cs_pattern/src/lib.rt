@@ -8,7 +8,25 @@
 //!   items that `cs_pattern_parts::items` finds in it, the patterns of `cs_pattern_parts::tree` and the operations of
 //!   `cs_pattern::operations`.
 //!
-//! The file of each part says which files of its folder of `specs/` are meaning.
+//! # What it is for
+//!
+//! The layers above add the definitions of a file to a `Definitions`, `check` them once, and read each rule's pattern
+//! by `read_pattern`.
+//!
+//! # What a contract sees
+//!
+//! Texts, patterns and faults. The file of each part says which files of its folder of `specs/` are meaning.
+//!
+//! # What is proved
+//!
+//! Ok exactly where a text is a pattern within the limits, with the pattern of its one derivation; each fault is the
+//! text's one fault. The same of definitions, with the one that is at fault. An automaton can be made of each pattern.
+//! The laws are functions that do nothing.
+//!
+//! # What is only tested
+//!
+//! That patterns are read where memory is ample, and what is read of worked ones: by `test_scanner::scanning`, and of
+//! those that were made to do harm by `test_hostile`.
 #![tactic(auto)]
 
 mod operations;

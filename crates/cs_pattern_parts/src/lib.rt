@@ -7,7 +7,26 @@
 //! - `tree`: patterns as trees over sets of bytes (POSIX.1-2017, lex, "Regular expressions in lex"): what each matches,
 //!   what a repetition makes of one, how many leaves it has and how deep it is.
 //!
-//! The file of each part says which files of its folder of `specs/` are meaning.
+//! # What it is for
+//!
+//! The layers above ask `front_of` for the item in front of a text, and build a `Pattern` by its variants, of
+//! `ByteSet`s.
+//!
+//! # What a contract sees
+//!
+//! A set of bytes as one ascending list, a pattern as its value. The file of each part says which files of its folder
+//! of `specs/` are meaning.
+//!
+//! # What is proved
+//!
+//! A text spells at most one item, of one size, or is stopped for one cause, and not both. Which bytes a set has is
+//! exact after each call. Repetitions match as many parts as they say; leaves are counted exactly, and a copy is the
+//! same. The laws are functions that do nothing.
+//!
+//! # What is only tested
+//!
+//! That the calls answer where memory is ample, and what they answer to worked rows: by `test_scanner::scanning`, and
+//! for the deepest patterns `test_hostile`.
 #![tactic(auto)]
 
 mod items;

@@ -1,5 +1,21 @@
-//! Samples for tests: grammars as tables of their rules' sides, weights, texts of files, suites that were written by hand, and
-//! texts that repeat a piece.
+//! Samples for tests: grammars as tables of their rules' sides, weights, texts of files, suites that were written by
+//! hand, and texts that repeat a piece.
+//!
+//! # What it is for
+//!
+//! The crates of tests take their rows from here.
+//!
+//! # What a contract sees
+//!
+//! Little: what these calls make is seen by the tests that use them.
+//!
+//! # What is proved
+//!
+//! That the calls return, as all calls do. No claim stands on them.
+//!
+//! # What is only tested
+//!
+//! All else, by the tests that use it.
 #![tactic(auto)]
 
 mod error;

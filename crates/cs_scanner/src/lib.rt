@@ -9,7 +9,25 @@
 //!   tokens (POSIX.1-2017, lex).
 //! - `lexeme`: the least text that a scanner takes for each token.
 //!
-//! The file of each part says which files of its folder of `specs/` are meaning.
+//! # What it is for
+//!
+//! The layers above make a `Scanner`, compare texts with lists of tokens by `agrees`, get the tokens of a text by
+//! `scan`, and its lexemes by `Lexemes`. Those that walk over texts themselves step by the `Automaton`.
+//!
+//! # What a contract sees
+//!
+//! An automaton as its patterns and the sets of its states, lexemes as the list of their texts. The file of each part
+//! says which files of its folder of `specs/` are meaning.
+//!
+//! # What is proved
+//!
+//! What a state tells is exact, for each text that leads there. A match is the longest, by the first rule that has it;
+//! a text has one scan. A lexeme is the least of all texts whose scan is one match that gives the token. The laws are
+//! functions that do nothing.
+//!
+//! # What is only tested
+//!
+//! That the calls answer where memory is ample, and what they answer to worked rows: by `test_scanner`.
 #![tactic(auto)]
 
 mod automaton;

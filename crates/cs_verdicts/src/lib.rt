@@ -9,7 +9,25 @@
 //!   program can check that no sentence meets a goal, without trusting this one.
 //! - `cases`: cases: derivations that are shared by goals, each once, and the first of them that meets a goal.
 //!
-//! The file of each part says which files of its folder of `specs/` are meaning.
+//! # What it is for
+//!
+//! The layers above make the `Tables` of a grammar, get the verdict of each goal, place derivations among `Cases`, and
+//! read the `Closed` sets.
+//!
+//! # What a contract sees
+//!
+//! Verdicts, derivations and lists of numbers. The file of each part says which files of its folder of `specs/` are
+//! meaning.
+//!
+//! # What is proved
+//!
+//! A verdict is exact, over all trees of the start symbol, with the code of the chosen tree, of which there is one. The
+//! first case that meets a goal is the lowest. Closed sets have exactly what the definitions say, over all trees,
+//! contexts and sentences. The laws are functions that do nothing.
+//!
+//! # What is only tested
+//!
+//! That the calls answer where memory is ample, and what they answer to worked rows: by `test_verdicts::pairs`.
 #![tactic(auto)]
 
 mod cases;

@@ -8,7 +8,24 @@
 //!   what came of their rendering, which several workers share.
 //! - `writing`: the manifest of a plan, written to an output as its entries are made.
 //!
-//! The file of each part says which files of its folder of `specs/` are meaning.
+//! # What it is for
+//!
+//! The layer above makes a `Plan` of files and choices, and gives it with an output to `write_out`.
+//!
+//! # What a contract sees
+//!
+//! Of an output, what it took, its faults and its room. The file of each part says which files of its folder of
+//! `specs/` are meaning.
+//!
+//! # What is proved
+//!
+//! Ok means that the output took exactly the manifest of the plan in its format, and a failure that it took a prefix of
+//! it and that faults rose; an output with room for it takes it without a fault. So it is for each number of workers.
+//!
+//! # What is only tested
+//!
+//! That the calls answer where memory is ample, and worked manifests: by `test_writing` and `test_manifest`. How many
+//! workers share a batch isn't said.
 #![tactic(auto)]
 
 mod bases;

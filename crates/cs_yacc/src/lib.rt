@@ -6,7 +6,25 @@
 //!   table says which item may come where.
 //! - `reading`: what the items of a file mean together: its grammar, and the names of its tokens and nonterminals.
 //!
-//! The file of each part says which files of its folder of `specs/` are meaning.
+//! # What it is for
+//!
+//! The layers above call `read_yacc` and go on with the `YaccFile`: its grammar is well formed, each of its numbers has
+//! a name, and all names differ.
+//!
+//! # What a contract sees
+//!
+//! The bytes, and the file that they mean. The file of each part says which files of its folder of `specs/` are
+//! meaning.
+//!
+//! # What is proved
+//!
+//! Ok exactly where the bytes are accepted, with the file that they mean; each refusal exactly where it is the bytes'
+//! refusal, at its place. Bytes are accepted or refused, and not both. The laws are functions that do nothing.
+//!
+//! # What is only tested
+//!
+//! That files are read where memory is ample, and what is read of worked files: by `test_reading::readers`, and of
+//! files that were made to do harm by `test_hostile`.
 #![tactic(auto)]
 
 mod items;
