@@ -1,4 +1,3 @@
-pub mod Put
 pub mod Classing
 pub mod Zips
 pub mod OneDeep

@@ -2,3 +2,4 @@ pub mod Numerals
 pub mod Pieces
 pub mod Runs
 pub mod Written
+pub mod Lines

@@ -12,7 +12,7 @@ use Rattle.cs_manifest.specs.Manifest.Manifest.{HasOneText, Texts}
 use Rattle.cs_wrong.proofs.Behind.{behind_both, length-behind}
 use Rattle.cs_wrong.proofs.Counting.{counted_none, counted_then, lines_both, many_wrong, none_within, within_counted}
 use Rattle.cs_wrong.proofs.OneWrong.{one_entries}
-use Rattle.cs_wrong.proofs.Zips.{length_zip, zip_both, zip_split}
+use Rattle.cs_manifest.proofs.OnManifest.Zips.{length_zip, zip_both, zip_split}
 use Rattle.cs_wrong.specs.Classes.{behind}
 use Rattle.cs_wrong.specs.Coming.{slips_in}
 use Rattle.cs_wrong.specs.Entries.{lines_from}

@@ -11,11 +11,9 @@ mod Judged
 mod Meeting
 mod OneWrong
 mod Placing
-mod Put
 mod Putting
 mod SomeWrong
 mod Table
 mod Taking
 mod Told
 mod Walking
-mod Zips

@@ -9,7 +9,7 @@ use Rattle.cs_grammar.specs.Grammar.{PlainGrammar}
 use Rattle.cs_grammar.specs.Weights.{Weighed}
 use Rattle.cs_wrong.proofs.Behind.{behind_both}
 use Rattle.cs_wrong.proofs.Meeting.{knows_more, tells_again}
-use Rattle.cs_wrong.proofs.Zips.{zip_both}
+use Rattle.cs_manifest.proofs.OnManifest.Zips.{zip_both}
 use Rattle.cs_wrong.specs.Classes.{IsMet, behind}
 use Rattle.cs_wrong.specs.Coming.{CanTake, IsCandidate, Meets, PlainComing, Takes, TakesNext, TakesOne, TellsAt, all_coming, slips_in}
 use Rattle.cs_wrong.specs.Found.{AreTokensOf, IsFitting, TellsList, tokens_in}

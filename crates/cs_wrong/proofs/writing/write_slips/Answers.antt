@@ -12,7 +12,7 @@ use Rattle.cs_wrong.proofs.Behind.{length-behind}
 use Rattle.cs_wrong.proofs.Few.{few_slips}
 use Rattle.cs_wrong.proofs.Judged.{can_judge, entries_of, named_entries}
 use Rattle.cs_wrong.proofs.Taking.{can_all}
-use Rattle.cs_wrong.proofs.Zips.{length_zip}
+use Rattle.cs_manifest.proofs.OnManifest.Zips.{length_zip}
 use Rattle.cs_wrong.specs.Classes.{behind}
 use Rattle.cs_wrong.specs.Coming.{CanTake, PlainComing, Takes, all_coming, slips_in}
 use Rattle.cs_wrong.specs.Entries.{IsNamedEntry, lines_from}
