@@ -3,5 +3,5 @@ pub mod Found
 pub mod Placed
 pub mod Chosen
 pub mod Given
-pub mod Written
+pub mod Framed
 pub mod Verdicts

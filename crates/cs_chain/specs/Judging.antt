@@ -1,3 +1,4 @@
 pub mod Meets
 pub mod Verdict
 pub mod Cuts
+pub mod Frame

@@ -31,8 +31,8 @@
 mod chains;
 mod judging;
 
-pub use chains::{Chain, Chains, each_chain_once, fits_chain, total};
+pub use chains::{Chain, Chains, each_chain_once, fits_chain, is_beside, total};
 pub use judging::{
-    ChainVerdict, ChainWork, chosen_tree_exists_for_chain, chosen_tree_meets_chain, judge_chain,
-    one_chain_verdict,
+    ChainVerdict, ChainWork, Core, Frame, chosen_tree_exists_for_chain, chosen_tree_meets_chain,
+    judge_chain, one_chain_verdict,
 };

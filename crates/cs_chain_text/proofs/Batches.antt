@@ -1,5 +1,5 @@
 -- Chains that were written one batch after another, and where that stopped.
-use Rattle.std.proofs.Common.{◌≡◌, ◌≤◌, ◌<◌, ℕ, ◌+◌, List, [], ◌∷◌, ◌++◌, append_assoc, get_or, length, length-append, refl, sym, ap, ◌∙◌, subst, arith, Option}
+use Rattle.std.proofs.Common.{◌≡◌, ◌≤◌, ◌<◌, ℕ, ◌+◌, List, [], ◌∷◌, ◌++◌, append_assoc, get_or, length, length-append, refl, sym, ap, ◌∙◌, subst, arith, Option, None}
 use Rattle.std.specs.Prelude.{All}
 use Rattle.std.specs.List.{AllZip, Contains}
 use Rattle.std.proofs.lemmas.List.Elements.{Contains-append_left, Contains-append_right, Contains-get_or}
@@ -14,6 +14,7 @@ use Rattle.std.proofs.lemmas.List.{append-nil}
 use Rattle.cs_io.proofs.Stops.{stopped_behind, stopped_by_cut, stopped_by_memory, stopped_longer}
 use Rattle.cs_io.specs.Lines.{IsCutShort, IsWritten}
 use Rattle.cs_io.specs.Stops.{HasSomeText, HasText, IsStopped}
+use Rattle.cs_io.specs.declared.halt.Halt.{Halt}
 use Rattle.cs_io.specs.declared.halt.Halt.TheVariants.{Failed, Memory}
 use Rattle.cs_io.specs.declared.sink.Sink as Sink
 use Rattle.cs_manifest.proofs.OnOutput.Written.{written_none, written_then}
@@ -23,10 +24,13 @@ use Rattle.cs_chain.specs.Chains.Chains.{chains}
 use Rattle.cs_chain_text.specs.declared.tally.Tally.{Tally}
 use Rattle.cs_chain_text.specs.declared.writing.Chained.{Chained}
 use Rattle.cs_chain_text.specs.Text.{ChainEntry, IsEntryOf}
-use Rattle.cs_chain_text.specs.Progress.{AreEntries, CanCount, CountsAll, IsBodyText, IsCounted, IsToldBy, IsWorkOf, lexemes_by, lines_from, no_chains, texts_by, weighed_in}
+use Rattle.cs_chain_text.specs.Progress.{AreEntries, CanCount, CountsAll, IsBodyText, IsCounted, IsToldBy, IsWorkOf, StopsBatch, lexemes_by, lines_from, no_chains, texts_by, told_in, weighed_in}
+use Rattle.cs_chain_text.specs.declared.rows.Row.{Row}
+use Rattle.cs_chain_text.specs.Rows.{AreRowsOf, Told, row_entries}
+use Rattle.cs_chain_text.proofs.OnRows.{rows_are}
 use Rattle.cs_chain_text.proofs.Counting.{counted_none, counted_then, can_behind, lines_both}
 use Rattle.cs_chain_text.proofs.OneText.{one_list}
-use Rattle.cs_chain_text.proofs.Zips.{length_zip, zip_both, zip_split}
+use Rattle.cs_manifest.proofs.OnManifest.Zips.{length_zip, zip_both, zip_split}
 
 module _ {S : Type 0} (g : Sink.Ghosts S) (d : Chained) (old : S) where
   -- The first chains were written and counted, and these are left.
@@ -115,6 +119,11 @@ module _ {S : Type 0} (g : Sink.Ghosts S) (d : Chained) (old : S) where
         (stopped_longer (lines_from d.yacc.now (at + length told) parts.behind) (stopped_by_cut cut_behind)) in
         subst (λ (l : List ℕ). IsStopped g l old now Failed) (sym follows.whole) (stopped_behind far.written stopped)
 
+    -- memory ran out before some more were written, or their writing was cut short
+    pub goals_halted : (left more rest : List Chain) (mid now : S) (tally after : Tally) (halt : Halt) → GoalsSoFar left mid tally → left ≡ more ++ rest → StopsBatch g d more tally after mid now halt → HasSomeText g (IsBodyText d) old now halt
+    goals_halted left more rest mid now tally after Memory far split stops = subst (λ (s : S). HasSomeText g (IsBodyText d) old s Memory) (sym stops) (goals_memory left mid tally far)
+    goals_halted left more rest mid now tally after Failed far split stops = goals_cut left more rest mid now tally stops.entries far split stops.are stops.cut
+
     -- all were written and counted
     all_done : (left : List Chain) (now : S) (tally : Tally) → (far : GoalsSoFar left now tally) → left ≡ [] → AreEntries d (chains d.yacc.now.grammar) far.entries
     all_done left now tally far none =
@@ -152,3 +161,9 @@ nothing_in (x ∷ xs) e = absurd (omega (arith, e))
 -- some were taken, so that fewer are left
 pub fewer_left : (old batch new : List Chain) → old ≡ batch ++ new → 0 < length batch → length new < length old
 fewer_left old batch new split some = omega (arith, ap (λ (l : List Chain). length l) split, length-append batch new, some)
+
+-- rows are the entries of their chains, where no texts are rendered
+pub rows_entries : (d : Chained) (batch : List Chain) (rows : List Row) (told : Told) → told ≡ told_in d → d.work ≡ None → All (IsChain d.yacc.now.grammar) batch → AreRowsOf told batch rows → AreEntries d batch (row_entries rows)
+rows_entries d batch rows told same none chains are =
+    subst (λ (w : Option (Bor RenderWork)). AllZip (IsEntryOf (weighed_in d) (texts_by w) (lexemes_by w)) batch (row_entries rows)) (sym none)
+    (rows_are (told_in d) None batch rows chains (subst (λ (t : Told). AreRowsOf t batch rows) same are))

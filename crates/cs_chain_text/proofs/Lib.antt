@@ -2,7 +2,8 @@ pub mod OneText
 pub mod SomeText
 pub mod Telling
 pub mod Counting
-pub mod Zips
-pub mod Put
 pub mod Batches
 pub mod Ending
+pub mod OnAround
+pub mod OnRows
+pub mod OnParts

@@ -1,2 +1,5 @@
 pub mod Text
+pub mod Around
+pub mod Parts
+pub mod Rows
 pub mod Progress

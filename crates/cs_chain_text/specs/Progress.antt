@@ -1,5 +1,5 @@
 -- What was made and written of the text of chains. Working words of proofs.
-use Rattle.std.specs.Prelude.{◌≡◌, ◌≤◌, ◌<◌, ℕ, ◌+◌, ◌-◌, ◌^◌, List, [], ◌++◌, Option, IfSome, codes, length, option_map}
+use Rattle.std.specs.Prelude.{◌≡◌, ◌≤◌, ◌<◌, ℕ, ◌+◌, ◌-◌, ◌^◌, List, [], ◌++◌, MatchResult, Option, None, Result, IfSome, codes, length, option_map}
 use Rattle.std.specs.Borrow.{Bor}
 use Rattle.std.specs.List.{AllZip}
 use Rattle.cs_grammar.specs.Grammar.{PlainGrammar}
@@ -23,8 +23,15 @@ use Rattle.cs_chain.specs.declared.judging.verdict.ChainVerdict.{ChainVerdict}
 use Rattle.cs_chain.specs.declared.judging.verdict.ChainVerdict.TheVariants.{Feasible, Infeasible, Large}
 use Rattle.cs_chain.specs.Chains.Chains.{chains}
 use Rattle.cs_chain_text.specs.declared.entry.TellWork.{TellWork}
+use Rattle.cs_chain_text.specs.declared.rows.Row.{Row}
 use Rattle.cs_chain_text.specs.declared.tally.Tally.{Tally}
 use Rattle.cs_chain_text.specs.declared.writing.Chained.{Chained}
+use Rattle.cs_io.specs.Lines.{IsCutShort, IsWritten}
+use Rattle.cs_io.specs.declared.halt.Halt.{Halt}
+use Rattle.cs_io.specs.declared.halt.Halt.TheVariants.{Failed, Memory}
+use Rattle.cs_io.specs.declared.sink.Sink as Sink
+use Rattle.cs_chain_text.specs.declared.frames.FrameLines.{FrameLines}
+use Rattle.cs_chain_text.specs.Rows.{AreFrameLines, Told, row_entries, told_by}
 use Rattle.cs_chain_text.specs.Text.{ChainEntry, IsChainsText, IsEntryOf, as_goal, entry_lines, many_with}
 
 -- ---- what is told of a chain
@@ -166,3 +173,41 @@ pub record IsBodyText (d : Chained) (text : List ℕ) : Type 0 where
 -- whichever the entries are, they were counted
 abbrev pub CountsAll : Chained → Tally → Type 0
 CountsAll d tally = (entries : List ChainEntry) → AreEntries d (chains d.yacc.now.grammar) entries → IsCounted entries no_chains tally
+
+-- ---- batches
+
+-- the lines of rows behind those that were counted
+abbrev pub rows_lines : Told → Tally → List Row → List ℕ
+rows_lines told tally rows = lines_of told.file tally (row_entries rows)
+
+-- of which file and which costs the lines are told
+abbrev pub told_in : Chained → Told
+told_in d = told_by d.yacc.now (weighed_in d)
+
+-- no texts are rendered, and the lines are of the file
+pub record AreFrameLinesIn (d : Chained) (lines : FrameLines) : Type 0 where
+  pub none : d.work ≡ None
+  pub are : AreFrameLines d.yacc.now (weighed_in d) lines
+
+module _ {S : Type 0} (g : Sink.Ghosts S) (d : Chained) (batch : List Chain) (tally after : Tally) (old new : S) where
+  -- the entries of the chains were written and counted
+  pub record WroteBatch : Type 0 where
+    pub entries : List ChainEntry
+    pub are : AreEntries d batch entries
+    pub written : IsWritten g (lines_of d.yacc.now tally entries) old new
+    pub counted : IsCounted entries tally after
+
+  -- their writing was cut short
+  pub record CutBatch : Type 0 where
+    pub entries : List ChainEntry
+    pub are : AreEntries d batch entries
+    pub cut : IsCutShort g (lines_of d.yacc.now tally entries) old new
+
+  -- memory ran out before that, or a write failed
+  abbrev pub StopsBatch : Halt → Type 0
+  StopsBatch Memory = new ≡ old
+  StopsBatch Failed = CutBatch
+
+  -- the answer says which
+  abbrev pub PutsBatch : Result Unit Halt → Type 0
+  PutsBatch result = MatchResult result (λ _. WroteBatch) StopsBatch

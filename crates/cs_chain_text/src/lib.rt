@@ -19,9 +19,14 @@
 //! That the call answers where memory is ample, and what it writes of worked rows: by `test_chain`.
 #![tactic(auto)]
 
+mod around;
+mod cores;
 mod entry;
+mod frames;
 mod laws;
 mod lines;
+mod parts;
+mod rows;
 mod tally;
 mod writing;
 

@@ -1,6 +1,6 @@
 // The text of chains, written as it is made.
 
-ghost use Rattle.std.specs.Prelude.{◌≡◌, ◌≤◌, ◌+◌, [], All, IfOk, OnErr, OnOk, length};
+ghost use Rattle.std.specs.Prelude.{◌≡◌, ◌<◌, ◌≤◌, ◌+◌, ◌∷◌, [], All, IfNone, IfOk, IfSome, None, OnErr, OnOk, length};
 ghost use Rattle.std.specs.List.{AllZip};
 ghost use Rattle.cs_chain.specs.Chains.Chain.{IsChain};
 ghost use Rattle.cs_chain.specs.Chains.Chains.{chains};
@@ -9,12 +9,17 @@ ghost use Rattle.cs_io.specs.BufferedSink.{buffered_room, lent_name, lent_sink, 
 ghost use Rattle.cs_io.specs.Stops.{PutsOne};
 ghost use Rattle.cs_io.specs.declared.halt.Halt.TheVariants.{Failed};
 ghost use Rattle.cs_manifest.specs.Manifest.Manifest.{measure_of};
-ghost use Rattle.cs_chain_text.specs.Progress.{CanTell, CountsAll, HaveLexemes, IsAsked, IsBodyText, IsReady, IsText, IsToldBy, IsWorkOf};
-ghost use Rattle.cs_chain_text.specs.Progress.{TakesBatch, lexemes_by, no_chains};
+ghost use Rattle.cs_chain_text.specs.Progress.{CanCount, CanTell, CountsAll, HaveLexemes, IsAsked, IsBodyText, IsReady, IsText, IsToldBy, IsWorkOf};
+ghost use Rattle.cs_chain_text.specs.Progress.{AreFrameLinesIn, PutsBatch, TakesBatch, lexemes_by, no_chains, told_in};
+ghost use Rattle.cs_chain_text.specs.Around.{Finds};
+ghost use Rattle.cs_chain_text.specs.Rows.{AreRowsOf};
 
+use crate::cores::Cores;
 use crate::entry::{TellWork, Told};
+use crate::frames::FrameLines;
 use crate::laws::{one_chains_text, some_chains_text};
 use crate::lines::{write_end, write_entries, write_head};
+use crate::rows::{Row, rows_of, write_rows};
 use crate::tally::Tally;
 use cs_chain::{Chain, Chains, each_chain_once};
 use cs_choices::Weigh;
@@ -35,6 +40,9 @@ const PIECE: usize = 524_288;
 const FULL: usize = 1_024;
 
 const WORKERS: u16 = 4;
+
+// One worker tells fewer.
+const FEW: usize = 64;
 
 // What the text of chains is made by.
 #[derive(Clone, Copy)]
@@ -127,9 +135,12 @@ fn tell<R: Threads + Sync, S: Sink, G: Gate + Sync>(
         embeds: &embeds,
         work: chained.work,
     };
+    let mut cores = Cores::new(alloc, chained.yacc, &costs)?;
     write_head(sink, chained.yacc, chained.work)?;
     let mut tally = Tally::new();
-    write_goals(rt, alloc, chained, &work, &mut tally, sink, gate)?;
+    write_goals(
+        rt, alloc, chained, &work, &mut cores, &mut tally, sink, gate,
+    )?;
     write_end(sink, &tally)?;
     Ok(())
 }
@@ -140,12 +151,14 @@ fn write_goals<R: Threads + Sync, S: Sink, G: Gate + Sync>(
     alloc: Global,
     chained: &Chained<'_>,
     work: &TellWork<'_>,
+    cores: &mut Cores<'_>,
     tally: &mut Tally,
     sink: &mut S,
     gate: &G,
 ) -> Result<(), Halt>
     requires ready { IsReady chained.now }
     requires work { IsWorkOf chained.now work.now }
+    requires cores { cores.old ≡ told_in chained.now }
     requires tally { tally.old ≡ no_chains }
     ensures text { PutsOne S.Sink (IsBodyText chained.now) sink.old sink.new result }
     ensures counted { OnOk result (CountsAll chained.now tally.new) }
@@ -155,27 +168,173 @@ fn write_goals<R: Threads + Sync, S: Sink, G: Gate + Sync>(
     each_chain_once();
     let mut chains = Chains::new(chained.yacc.grammar());
     'batches: loop {
-        let batch = next_batch(alloc, &mut chains)?;
+        let batch = next_batch(alloc, &mut chains, chained.work.is_none())?;
         if batch.is_empty() {
             return Ok(());
         }
-        let entries = tell_batch(rt, alloc, work, &batch, gate)?;
-        write_entries(sink, chained.yacc, tally, &entries)?;
+        write_batch(rt, alloc, chained, work, cores, tally, &batch, sink, gate)?;
     }
 }
 
-// Takes the next chains: at most as many as are a full batch. None where no chain is left.
-fn next_batch(alloc: Global, chains: &mut Chains<'_>) -> Result<Vec<Chain>, AllocError>
+// Takes the next chains, at most as many as are a full batch; of these that differ in the inner rule alone, where that is asked
+// for. None where no chain is left.
+fn next_batch(
+    alloc: Global,
+    chains: &mut Chains<'_>,
+    beside: bool,
+) -> Result<Vec<Chain>, AllocError>
     ensures { IfOk result (λ batch. TakesBatch chains.old batch.items chains.new) }
 {
     let mut batch = Vec::with_capacity(alloc, FULL)?;
-    for _ in 0..FULL {
-        let Some(chain) = chains.next() else {
+    let Some(first) = chains.next() else {
+        return Ok(batch);
+    };
+    batch.push(first)?;
+    for _ in 0..FULL - 1 {
+        let Some(chain) = next_with(chains, &first, beside) else {
             return Ok(batch);
         };
         batch.push(chain)?;
     }
     Ok(batch)
+}
+
+// The next chain that may stand in a batch with the first.
+fn next_with(chains: &mut Chains<'_>, first: &Chain, beside: bool) -> Option<Chain>
+    ensures some { IfSome result (λ chain. chains.old ≡ chain ∷ chains.new) }
+    ensures none { IfNone result (chains.new ≡ chains.old) }
+{
+    if beside {
+        chains.next_beside(first)
+    } else {
+        chains.next()
+    }
+}
+
+// Writes the chains of a batch, and counts them: by the parts of their lines, where these are kept.
+fn write_batch<R: Threads + Sync, S: Sink, G: Gate + Sync>(
+    rt: &R,
+    alloc: Global,
+    chained: &Chained<'_>,
+    work: &TellWork<'_>,
+    cores: &mut Cores<'_>,
+    tally: &mut Tally,
+    batch: &[Chain],
+    sink: &mut S,
+    gate: &G,
+) -> Result<(), Halt>
+    requires ready { IsReady chained.now }
+    requires work { IsWorkOf chained.now work.now }
+    requires cores { cores.old ≡ told_in chained.now }
+    requires chains { All (IsChain work.now.costs.now.grammar) batch.now }
+    requires few { length batch.now ≤ 1024 }
+    requires count { CanCount tally.old (length batch.now) }
+    ensures cores { cores.new ≡ cores.old }
+    ensures put { PutsBatch S.Sink chained.now batch.now tally.old tally.new sink.old sink.new result }
+    ensures lent { S.lent sink.new ≡ S.lent sink.old }
+{
+    if let Some(frame) = frame_of(alloc, chained, work, cores, batch)? {
+        if let Some(rows) = rows_of(alloc, &*cores, &frame, batch)? {
+            return write_kept(chained, cores, tally, batch, &rows, sink);
+        }
+    }
+    write_told(rt, alloc, chained, work, tally, batch, sink, gate)
+}
+
+// What the chains of a batch have in common, where no texts are rendered. Their inner nodes are kept.
+fn frame_of(
+    alloc: Global,
+    chained: &Chained<'_>,
+    work: &TellWork<'_>,
+    cores: &mut Cores<'_>,
+    batch: &[Chain],
+) -> Result<Option<FrameLines>, AllocError>
+    requires work { IsWorkOf chained.now work.now }
+    requires chains { All (IsChain work.now.costs.now.grammar) batch.now }
+    ensures cores { cores.new ≡ cores.old }
+    ensures frame { Finds (AreFrameLinesIn chained.now) result }
+{
+    if batch.is_empty() {
+        return Ok(None);
+    }
+    match chained.work {
+        Some(_) => Ok(None),
+        None => frame_with(alloc, chained, work, cores, batch),
+    }
+}
+
+// The same of a batch that has chains.
+fn frame_with(
+    alloc: Global,
+    chained: &Chained<'_>,
+    work: &TellWork<'_>,
+    cores: &mut Cores<'_>,
+    batch: &[Chain],
+) -> Result<Option<FrameLines>, AllocError>
+    requires none { chained.now.work ≡ None }
+    requires some { 0 < length batch.now }
+    requires work { IsWorkOf chained.now work.now }
+    requires chains { All (IsChain work.now.costs.now.grammar) batch.now }
+    ensures cores { cores.new ≡ cores.old }
+    ensures frame { Finds (AreFrameLinesIn chained.now) result }
+{
+    keep_all(alloc, cores, batch)?;
+    FrameLines::new(alloc, chained.yacc, work.costs, work.embeds, &batch[0])
+}
+
+// Keeps the inner nodes of chains.
+fn keep_all(alloc: Global, cores: &mut Cores<'_>, batch: &[Chain]) -> Result<(), AllocError>
+    ensures { cores.new ≡ cores.old }
+{
+    for chain in batch {
+        cores.keep(alloc, chain.inner)?;
+    }
+    Ok(())
+}
+
+// Writes the rows of a batch.
+fn write_kept<S: Sink>(
+    chained: &Chained<'_>,
+    cores: &Cores<'_>,
+    tally: &mut Tally,
+    batch: &[Chain],
+    rows: &[Row<'_>],
+    sink: &mut S,
+) -> Result<(), Halt>
+    requires cores { cores.now ≡ told_in chained.now }
+    requires chains { All (IsChain chained.now.yacc.now.grammar) batch.now }
+    requires none { chained.now.work ≡ None }
+    requires rows { AreRowsOf cores.now batch.now rows.now }
+    requires count { CanCount tally.old (length batch.now) }
+    ensures put { PutsBatch S.Sink chained.now batch.now tally.old tally.new sink.old sink.new result }
+    ensures lent { S.lent sink.new ≡ S.lent sink.old }
+{
+    write_rows(sink, cores, tally, rows)?;
+    Ok(())
+}
+
+// Writes what the workers tell of a batch.
+fn write_told<R: Threads + Sync, S: Sink, G: Gate + Sync>(
+    rt: &R,
+    alloc: Global,
+    chained: &Chained<'_>,
+    work: &TellWork<'_>,
+    tally: &mut Tally,
+    batch: &[Chain],
+    sink: &mut S,
+    gate: &G,
+) -> Result<(), Halt>
+    requires work { IsWorkOf chained.now work.now }
+    requires chains { All (IsChain work.now.costs.now.grammar) batch.now }
+    requires few { length batch.now ≤ 1024 }
+    requires count { CanCount tally.old (length batch.now) }
+    ensures put { PutsBatch S.Sink chained.now batch.now tally.old tally.new sink.old sink.new result }
+    ensures lent { S.lent sink.new ≡ S.lent sink.old }
+{
+    let _named = chained.yacc.grammar();
+    let entries = tell_batch(rt, alloc, work, batch, gate)?;
+    write_entries(sink, chained.yacc, tally, &entries)?;
+    Ok(())
 }
 
 // What is told of the chains of a batch, in order.
@@ -206,6 +365,15 @@ fn share<R: Threads + Sync, W: Work<Chain, Told> + Sync, G: Gate + Sync>(
     requires few { length batch.now ≤ 1024 }
     ensures { IfOk result (λ entries. AllZip (W.answers work.now) batch.now entries.items) }
 {
-    let (counter, mut seat) = Counter::new(alloc, batch.len() as u32, WORKERS)?;
+    let workers = workers_for(batch.len());
+    let (counter, mut seat) = Counter::new(alloc, batch.len() as u32, workers)?;
     fan(rt, alloc, batch, work, gate, &counter, &mut seat)
+}
+
+// How many workers share so many chains: to start one takes longer than to tell a few.
+fn workers_for(chains: usize) -> u16
+    ensures some { 0 < result }
+    ensures few { result ≤ 64 }
+{
+    if chains < FEW { 1 } else { WORKERS }
 }

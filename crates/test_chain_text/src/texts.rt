@@ -66,6 +66,56 @@ goal 2 chain 2 1 2 1 3 infeasible
 end goals 2 feasible 0 infeasible 2 large 0
 ";
 
+// Siblings before and behind, and a context. Goals that follow one another differ in the inner rule alone, or don't.
+const NESTED: &[u8] = b"%%\ns : '(' e ')' ;\ne : e '+' e | 'x' ;\n";
+
+const NESTED_CHAINS: &[u8] = b"conform chains
+token 1 '('
+token 2 ')'
+token 3 '+'
+token 4 'x'
+rule 1 s : '(' e ')'
+rule 2 e : e '+' e
+rule 3 e : 'x'
+goal 1 chain 1 2 2 1 2 size 13
+  derive 1 2 2 3 3 3
+  tokens '(' 'x' '+' 'x' '+' 'x' ')'
+goal 2 chain 1 2 2 1 3 size 9
+  derive 1 2 3 3
+  tokens '(' 'x' '+' 'x' ')'
+goal 3 chain 1 2 2 3 2 size 13
+  derive 1 2 3 2 3 3
+  tokens '(' 'x' '+' 'x' '+' 'x' ')'
+goal 4 chain 1 2 2 3 3 size 9
+  derive 1 2 3 3
+  tokens '(' 'x' '+' 'x' ')'
+goal 5 chain 2 1 2 1 2 size 17
+  derive 1 2 2 2 3 3 3 3
+  tokens '(' 'x' '+' 'x' '+' 'x' '+' 'x' ')'
+goal 6 chain 2 1 2 1 3 size 13
+  derive 1 2 2 3 3 3
+  tokens '(' 'x' '+' 'x' '+' 'x' ')'
+goal 7 chain 2 1 2 3 2 size 17
+  derive 1 2 2 3 2 3 3 3
+  tokens '(' 'x' '+' 'x' '+' 'x' '+' 'x' ')'
+goal 8 chain 2 1 2 3 3 size 13
+  derive 1 2 2 3 3 3
+  tokens '(' 'x' '+' 'x' '+' 'x' ')'
+goal 9 chain 2 3 2 1 2 size 17
+  derive 1 2 3 2 2 3 3 3
+  tokens '(' 'x' '+' 'x' '+' 'x' '+' 'x' ')'
+goal 10 chain 2 3 2 1 3 size 13
+  derive 1 2 3 2 3 3
+  tokens '(' 'x' '+' 'x' '+' 'x' ')'
+goal 11 chain 2 3 2 3 2 size 17
+  derive 1 2 3 2 3 2 3 3
+  tokens '(' 'x' '+' 'x' '+' 'x' '+' 'x' ')'
+goal 12 chain 2 3 2 3 3 size 13
+  derive 1 2 3 2 3 3
+  tokens '(' 'x' '+' 'x' '+' 'x' ')'
+end goals 12 feasible 12 infeasible 0 large 0
+";
+
 // Nothing under anything.
 const ALONE: &[u8] = b"%%\ns : 'x' ;\n";
 
@@ -105,8 +155,9 @@ fn write<'f, R: Threads + Sync>(
 
 #[test]
 fn chains_without_a_lex_file(rt: HostRuntime) -> Result<(), Fail> {
-    let rows: [(&[u8], &[u8]); 3] = [
+    let rows: [(&[u8], &[u8]); 4] = [
         (RECURSION, RECURSION_CHAINS),
+        (NESTED, NESTED_CHAINS),
         (APART, APART_CHAINS),
         (ALONE, ALONE_CHAINS),
     ];

@@ -1,7 +1,7 @@
 // Chains of three rules, and which of them a grammar has.
 
 ghost use Rattle.std.specs.Prelude.{◌↔◌, IsTrue};
-ghost use Rattle.cs_chain.specs.Chains.Chain.{IsChain};
+ghost use Rattle.cs_chain.specs.Chains.Chain.{IsBeside, IsChain};
 
 use cs_goals::{Goal, fits_goal};
 use cs_grammar::Grammar;
@@ -33,4 +33,14 @@ pub fn fits_chain(grammar: &Grammar, chain: &Chain) -> bool
         inner: chain.inner,
     };
     fits_goal(grammar, &upper) && fits_goal(grammar, &lower)
+}
+
+/// Whether the second chain differs from the first in the inner rule alone, if at all.
+pub fn is_beside(chain: &Chain, other: &Chain) -> bool
+    ensures { IsTrue result ↔ IsBeside chain.now other.now }
+{
+    chain.outer == other.outer
+        && chain.place == other.place
+        && chain.middle == other.middle
+        && chain.spot == other.spot
 }

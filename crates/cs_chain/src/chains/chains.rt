@@ -1,10 +1,11 @@
 // The chains of a grammar, one after another.
 
 ghost use Rattle.std.specs.Prelude.{◌≡◌, [], ◌∷◌, IfSome, IfNone};
+ghost use Rattle.cs_chain.specs.Chains.Chain.{IsBeside};
 ghost use Rattle.cs_chain.specs.Chains.Chains.{chains};
 ghost use Rattle.cs_chain.specs.Chains.Rest.{GivesNext, GivesUnder, IsKept, IsOpen, Opens};
 
-use crate::chains::chain::Chain;
+use crate::chains::chain::{Chain, is_beside};
 use crate::chains::links::next_link;
 use cs_choices::Criteria;
 use cs_goals::{Goal, Goals};
@@ -70,6 +71,22 @@ impl<'g> Chains<'g> {
         ensures none { IfNone result ((self.old ≡ []) × (self.new ≡ [])) }
     {
         next_chain(self.grammar, &mut self.contexts, &mut self.opened)
+    }
+
+    /// Takes the first chain away where it differs from this one in the inner rule alone, and begins with the context goal that
+    /// the last chain taken began with. None where it doesn't, and then it is left.
+    pub fn next_beside(&mut self, chain: &Chain) -> Option<Chain>
+        ensures some { IfSome result (λ next. self.old ≡ next ∷ self.new) }
+        ensures beside { IfSome result (IsBeside chain.now) }
+        ensures none { IfNone result (self.new ≡ self.old) }
+    {
+        let last = self.opened?;
+        let (next, behind) = next_under(self.grammar, last)?;
+        if !is_beside(chain, &next) {
+            return None;
+        }
+        self.opened = Some(behind);
+        Some(next)
     }
 }
 

@@ -1,23 +1,23 @@
-// What the least tree of a chain costs, and its code.
+// What the parts of a chain's least tree cost, and their codes.
 
 ghost use Rattle.std.specs.Prelude.{◌≡◌, IfOk};
-ghost use Rattle.cs_least.specs.Cost.Rank.{IsCapped, plus};
+ghost use Rattle.cs_grammar.specs.Grammar.{IsRuleOf};
+ghost use Rattle.cs_least.specs.Cost.Rank.{IsCapped};
 ghost use Rattle.cs_least.specs.Cost.Trees.{AreTreesCost};
-ghost use Rattle.cs_chain.specs.Chains.Chain.{IsChain};
-ghost use Rattle.cs_chain.specs.Judging.Cuts.{node_cost};
-ghost use Rattle.cs_chain.specs.Judging.Verdict.{IsChainCost, HasLeastIn, IsCodeIn};
+ghost use Rattle.cs_chain.specs.Judging.Cuts.{FitsRules, node_cost};
+ghost use Rattle.cs_chain.specs.Judging.Frame.{AreCodesAround, IsFrameCost, IsSmallFrame, symbols_of};
 
 use crate::chains::Chain;
-use crate::judging::cuts::rules_of;
+use crate::judging::cuts::Rules;
 use cs_grammar::Derivation;
 use cs_least::{Cost, Costs, Embeds};
 use std::alloc::{AllocError, Global};
 
 // Room for as many rule numbers of a derivation is made at once.
-const USUAL_RULES: usize = 32;
+pub(crate) const USUAL_RULES: usize = 32;
 
 // A node above its children.
-fn node_cost(costs: &Costs, children: Cost) -> Cost
+pub(crate) fn node_cost(costs: &Costs, children: Cost) -> Cost
     requires { IsCapped costs.now.weights.limit children }
     ensures cost { result ≡ node_cost costs.now.weights.limit children }
     ensures capped { IsCapped costs.now.weights.limit result }
@@ -25,12 +25,13 @@ fn node_cost(costs: &Costs, children: Cost) -> Cost
     costs.plus(costs.node(), children)
 }
 
-pub(crate) fn chain_cost(costs: &Costs, embeds: &Embeds, chain: &Chain) -> Cost
+// What all but the inner node costs.
+pub(crate) fn frame_cost(costs: &Costs, embeds: &Embeds, rules: &Rules<'_>) -> Cost
     requires embeds { embeds.now ≡ costs.now }
-    requires chain { IsChain costs.now.grammar chain.now }
-    ensures { IsChainCost costs.now chain.now result }
+    requires fits { FitsRules costs.now.grammar rules.now }
+    ensures cost { IsFrameCost costs.now (symbols_of rules.now) result }
+    ensures capped { IsCapped costs.now.weights.limit result }
 {
-    let rules = rules_of(costs.grammar(), chain);
     let high = costs.plus(costs.sum(rules.outer.before), costs.sum(rules.outer.behind));
     let low = costs.plus(
         costs.sum(rules.middle.before),
@@ -38,35 +39,32 @@ pub(crate) fn chain_cost(costs: &Costs, embeds: &Embeds, chain: &Chain) -> Cost
     );
     let context = embeds.embed(rules.outer.rule.left());
     let outer = costs.plus(context, node_cost(costs, high));
-    let middle = costs.plus(outer, node_cost(costs, low));
-    let inner = node_cost(costs, costs.sum(rules.inner.right()));
-    costs.plus(middle, inner)
+    costs.plus(outer, node_cost(costs, low))
 }
 
-// The code of the chosen tree of a chain.
-pub(crate) fn derive_chain(
+// The rule numbers of the chosen tree of a chain before its inner node and behind it.
+pub(crate) fn frame_codes(
     alloc: Global,
     costs: &Costs,
     embeds: &Embeds,
     chain: &Chain,
-) -> Result<Derivation, AllocError>
+    rules: &Rules<'_>,
+) -> Result<(Derivation, Derivation), AllocError>
     requires embeds { embeds.now ≡ costs.now }
-    requires chain { IsChain costs.now.grammar chain.now }
-    requires feasible { HasLeastIn costs.now chain.now }
-    ensures { IfOk result (IsCodeIn costs.now chain.now) }
+    requires fits { FitsRules costs.now.grammar rules.now }
+    requires small { IsSmallFrame costs.now (symbols_of rules.now) }
+    ensures { IfOk result (AreCodesAround costs.now chain.now rules.now) }
 {
-    let rules = rules_of(costs.grammar(), chain);
     let around = embeds.around(costs, rules.outer.rule.left())?;
-    let mut derivation = Derivation::with_capacity(alloc, USUAL_RULES)?;
-    derivation.extend_from_slice(&around.before)?;
-    derivation.push(chain.outer)?;
-    costs.all_into(rules.outer.before, &mut derivation)?;
-    derivation.push(chain.middle)?;
-    costs.all_into(rules.middle.before, &mut derivation)?;
-    derivation.push(chain.inner)?;
-    costs.all_into(rules.inner.right(), &mut derivation)?;
-    costs.all_into(rules.middle.behind, &mut derivation)?;
-    costs.all_into(rules.outer.behind, &mut derivation)?;
-    derivation.extend_from_slice(&around.after)?;
-    Ok(derivation)
+    let mut before = Derivation::with_capacity(alloc, USUAL_RULES)?;
+    before.extend_from_slice(&around.before)?;
+    before.push(chain.outer)?;
+    costs.all_into(rules.outer.before, &mut before)?;
+    before.push(chain.middle)?;
+    costs.all_into(rules.middle.before, &mut before)?;
+    let mut behind = Derivation::with_capacity(alloc, USUAL_RULES)?;
+    costs.all_into(rules.middle.behind, &mut behind)?;
+    costs.all_into(rules.outer.behind, &mut behind)?;
+    behind.extend_from_slice(&around.after)?;
+    Ok((before, behind))
 }

@@ -1,12 +1,13 @@
 // The verdict of a chain.
 
-ghost use Rattle.std.specs.Prelude.{◌≡◌, IfOk};
+ghost use Rattle.std.specs.Prelude.{◌≡◌, ◌++◌, IfOk};
 ghost use Rattle.cs_chain.specs.Chains.Chain.{IsChain};
 ghost use Rattle.cs_chain.specs.Judging.Verdict.{IsVerdictIn};
 
 use crate::chains::Chain;
-use crate::judging::costs::{chain_cost, derive_chain};
+use crate::judging::frame::{Core, Frame};
 use crate::judging::verdict::ChainVerdict;
+use cs_grammar::Derivation;
 use cs_least::{Cost, Costs, Embeds};
 use std::alloc::{AllocError, Global};
 
@@ -23,12 +24,29 @@ pub fn judge_chain(
     requires chain { IsChain costs.now.grammar chain.now }
     ensures { IfOk result (IsVerdictIn costs.now chain.now) }
 {
-    match chain_cost(costs, embeds, chain) {
+    let frame = Frame::new(alloc, costs, embeds, chain)?;
+    let core = Core::new(alloc, costs, chain.inner)?;
+    match costs.plus(frame.cost, core.cost) {
         Cost::Never => Ok(ChainVerdict::Infeasible),
         Cost::Large => Ok(ChainVerdict::Large),
-        Cost::Least(size) => {
-            let derivation = derive_chain(alloc, costs, embeds, chain)?;
-            Ok(ChainVerdict::Feasible { size, derivation })
-        }
+        Cost::Least(size) => Ok(ChainVerdict::Feasible {
+            size,
+            derivation: joined(frame, &core)?,
+        }),
     }
+}
+
+// The rule numbers of both parts.
+fn joined(frame: Frame, core: &Core) -> Result<Derivation, AllocError>
+    ensures { IfOk result (λ derivation.
+        derivation ≡ frame.before ++ core.now.code ++ frame.behind) }
+{
+    let Frame {
+        mut before,
+        behind,
+        ..
+    } = frame;
+    before.extend_from_slice(core.code.rules())?;
+    before.extend_from_slice(behind.rules())?;
+    Ok(before)
 }

@@ -1,7 +1,7 @@
 use Rattle.std.proofs.Common.{rules, arith}
 use Rattle.std.proofs.lemmas.Grind.{common_steps}
 use Rattle.std.proofs.lemmas.Result.{err_from_is_err_and}
-use Rattle.cs_chain_text.proofs.Put.{cut_at, lines_cut, lines_written, written_at}
+use Rattle.cs_manifest.proofs.OnOutput.Lines.{cut_at, lines_cut, lines_written, written_at}
 use Rattle.cs_manifest.proofs.OnOutput.Pieces.{then}
 use Rattle.cs_chain_text.proofs.lines.write_end.Goals as goal
 

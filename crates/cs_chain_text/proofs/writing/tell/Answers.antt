@@ -3,6 +3,7 @@ use Rattle.std.proofs.lemmas.Result.{err_from_is_err_and}
 use Rattle.cs_grammar.specs.Grammar.{PlainGrammar}
 use Rattle.cs_grammar.specs.Weights.{weighed}
 use Rattle.cs_chain_text.specs.Progress.{IsAsked}
+use Rattle.cs_chain_text.specs.Rows.{told_by}
 use Rattle.cs_chain_text.proofs.Ending.{all_written, end_cut, goals_stopped, head_cut, memory_first, weights_many, work_of}
 use Rattle.cs_chain_text.proofs.writing.tell.Goals as goal
 
@@ -19,6 +20,11 @@ returns-in_err-embeds-clause-text g c =
     let p = err_from_is_err_and c.from_residual-in_err-embeds.result c.from_residual-in_err-embeds.ensures.1 in
     rw (p.1, p.2) (memory_first g.S.Sink (IsAsked c.args.chained.now) c.args.sink.now)
 
+pub returns-in_err-cores-clause-text : goal.returns-in_err-cores-clause-text
+returns-in_err-cores-clause-text g c =
+    let p = err_from_is_err_and c.from_residual-in_err-cores.result c.from_residual-in_err-cores.ensures.1 in
+    rw (p.1, p.2) (memory_first g.S.Sink (IsAsked c.args.chained.now) c.args.sink.now)
+
 pub returns-in_err-write_head-clause-text : goal.returns-in_err-write_head-clause-text
 returns-in_err-write_head-clause-text g c =
     let p = err_from_is_err_and c.from_residual-in_err-write_head.result c.from_residual-in_err-write_head.ensures.1 in
@@ -28,6 +34,11 @@ pub write_goals-requires-clause-work : goal.write_goals-requires-clause-work
 write_goals-requires-clause-work g c = λ κs met.
     let d = c.args.chained.now in
     work_of d c.requires _ c.in_ok-embeds.ensures (c.in_ok-costs.ensures ∙ ap (λ (h : PlainGrammar). weighed h d.weights.now) c.grammar.ensures.grammar) c.weights-weighs.ensures.weighs.weights refl
+
+pub write_goals-requires-clause-cores : goal.write_goals-requires-clause-cores
+write_goals-requires-clause-cores g c = λ κs met.
+    let d = c.args.chained.now in
+    c.in_ok-cores.ensures ∙ ap (told_by d.yacc.now) (c.in_ok-costs.ensures ∙ ap (λ (h : PlainGrammar). weighed h d.weights.now) c.grammar.ensures.grammar)
 
 pub returns-in_err-write_goals-clause-text : goal.returns-in_err-write_goals-clause-text
 returns-in_err-write_goals-clause-text g c =

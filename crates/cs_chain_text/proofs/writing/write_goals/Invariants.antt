@@ -1,9 +1,13 @@
-use Rattle.std.proofs.Common.{length}
+use Rattle.std.proofs.Common.{◌≡◌, length}
+use Rattle.cs_chain_text.specs.Progress.{told_in}
 use Rattle.cs_chain_text.proofs.Batches.{GoalsSoFar}
 use Rattle.cs_chain_text.proofs.writing.write_goals.Given as goal
 
 abbrev pub invariant-batches : goal.invariant-batches
-invariant-batches g l = GoalsSoFar g.S.Sink l.chained l.fn.sink l.chains l.sink l.tally
+invariant-batches g l = record {
+  far : GoalsSoFar g.S.Sink l.chained l.fn.sink l.chains l.sink l.tally;
+  cores : l.cores ≡ told_in l.chained;
+}
 
 abbrev pub decreases-batches : goal.decreases-batches
 decreases-batches g l = length l.chains

@@ -1,0 +1,39 @@
+use Rattle.std.proofs.Common.{List, ℕ, ◌++◌, sym, ◌∙◌, subst}
+use Rattle.cs_least.specs.declared.cost.cost.Cost.{Cost}
+use Rattle.cs_chain.specs.declared.judging.verdict.ChainVerdict.TheVariants.{Feasible}
+use Rattle.cs_chain.specs.Judging.Frame.{verdict_by, verdict_with}
+use Rattle.cs_chain.specs.Judging.Verdict.{IsVerdictIn}
+use Rattle.cs_chain.proofs.OnJudging.Framed.{own_verdict}
+use Rattle.cs_chain.proofs.judging.judge.judge_chain.Goals as goal
+use Rattle.cs_chain.proofs.judging.judge.judge_chain.Goals.{After-plus}
+
+-- the rule numbers of both parts
+abbrev codes : After-plus → List ℕ
+codes c = c.in_ok-frame.frame.before ++ c.in_ok-core.core.code ++ c.in_ok-frame.frame.behind
+
+told : (c : After-plus) → IsVerdictIn c.args.costs.now c.args.chain.now (verdict_by c.plus.result (codes c))
+told c =
+    let v = c.args.costs.now in
+    let chain = c.args.chain.now in
+    let frame = c.in_ok-frame.frame in
+    let core = c.in_ok-core.core in
+    subst (λ (k : Cost). IsVerdictIn v chain (verdict_by k (codes c))) (sym c.plus.ensures.cost)
+    (own_verdict v chain frame core c.in_ok-frame.ensures.frame c.requires.chain c.in_ok-core.ensures.core)
+
+pub returns-in-Never : goal.returns-in-Never
+returns-in-Never c =
+    let at = (goal.at.returns-in-Never c).After-plus in
+    subst (λ (k : Cost). IsVerdictIn c.args.costs.now c.args.chain.now (verdict_by k (codes at))) c.in-Never.is (told at)
+
+pub returns-in-Large : goal.returns-in-Large
+returns-in-Large c =
+    let at = (goal.at.returns-in-Large c).After-plus in
+    subst (λ (k : Cost). IsVerdictIn c.args.costs.now c.args.chain.now (verdict_by k (codes at))) c.in-Large.is (told at)
+
+pub returns-in_ok-joined-in-Least : goal.returns-in_ok-joined-in-Least
+returns-in_ok-joined-in-Least c =
+    let at = (goal.at.returns-in_ok-joined-in-Least c).After-plus in
+    let v = c.args.costs.now in
+    let chain = c.args.chain.now in
+    subst (λ (l : List ℕ). IsVerdictIn v chain (Feasible c.in-Least.size l)) (sym c.in_ok-joined-in-Least.ensures)
+    (subst (λ (k : Cost). IsVerdictIn v chain (verdict_by k (codes at))) c.in-Least.is (told at))

@@ -1,0 +1,17 @@
+use Rattle.std.proofs.Common.{List, ℕ, subst}
+use Rattle.cs_grammar.specs.Grammar.{PlainGrammar}
+use Rattle.cs_chain_text.specs.Around.{AreTokensIn}
+use Rattle.cs_chain_text.proofs.OnParts.{found_as}
+use Rattle.cs_chain_text.proofs.cores.inside.Goals as goal
+
+pub returns-in-Least : goal.returns-in-Least
+returns-in-Least c =
+    let left = c.args.left in
+    found_as _ _
+    (λ a h n e.
+    subst (λ (l : List ℕ). AreTokensIn c.args.costs.now.grammar left l a.items) c.rules.ensures
+    (subst (λ (x : PlainGrammar). AreTokensIn x left c.rules.result.now a.items) c.grammar.ensures h))
+    c.tokens_in.result c.tokens_in.ensures
+
+pub returns-in_default : goal.returns-in_default
+returns-in_default c = λ n e. absurd (c.in_default.not-Least n e)

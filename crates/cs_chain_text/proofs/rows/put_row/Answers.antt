@@ -1,0 +1,29 @@
+use Rattle.std.proofs.Common.{refl}
+use Rattle.cs_least.specs.declared.cost.cost.Cost.TheVariants.{Never, Large, Least}
+use Rattle.cs_manifest.proofs.OnOutput.Pieces.{spelled, then}
+use Rattle.cs_chain_text.proofs.OnRows.{head_is, row_told, tree_is}
+use Rattle.cs_chain_text.proofs.rows.put_row.Goals as goal
+
+pub returns-in-Never : goal.returns-in-Never
+returns-in-Never g c =
+    let told = c.args.cores.now in
+    let row = c.args.row.now in
+    let front = then (then (then c.put.ensures c.put_numeral.ensures) c.put_piece.ensures) c.put_piece-2.ensures in
+    let words = spelled _ (head_is told row c.args.number.now c.requires) front in
+    spelled _ (row_told told row c.args.number.now Never _ c.in-Never.is refl) (then words c.put-in-Never.ensures)
+
+pub returns-in-Large : goal.returns-in-Large
+returns-in-Large g c =
+    let told = c.args.cores.now in
+    let row = c.args.row.now in
+    let front = then (then (then c.put.ensures c.put_numeral.ensures) c.put_piece.ensures) c.put_piece-2.ensures in
+    let words = spelled _ (head_is told row c.args.number.now c.requires) front in
+    spelled _ (row_told told row c.args.number.now Large _ c.in-Large.is refl) (then words c.put-in-Large.ensures)
+
+pub returns-in-Least : goal.returns-in-Least
+returns-in-Least g c =
+    let told = c.args.cores.now in
+    let row = c.args.row.now in
+    let front = then (then (then c.put.ensures c.put_numeral.ensures) c.put_piece.ensures) c.put_piece-2.ensures in
+    let words = spelled _ (head_is told row c.args.number.now c.requires) front in
+    spelled _ (row_told told row c.args.number.now (Least c.in-Least.size) _ c.in-Least.is (tree_is told row c.in-Least.size c.requires)) (then words c.put_tree.ensures)
