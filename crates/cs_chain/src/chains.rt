@@ -11,7 +11,6 @@ mod chain;
 mod chains;
 mod counting;
 mod laws;
-mod links;
 
 pub use chain::{Chain, fits_chain, is_beside};
 pub use chains::Chains;

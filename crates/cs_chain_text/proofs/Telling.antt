@@ -1,26 +1,26 @@
 -- What is told of a chain: its derivation is one of the grammar, its tokens are few, and all of them have names.
-use Rattle.std.proofs.Common.{◌≡◌, ◌≤◌, ℕ, List, [], ◌∷◌, ◌++◌, length, length-append, refl, sym, ap, ◌∙◌, subst, arith, Option, None, Some}
+use Rattle.std.proofs.Common.{◌≡◌, ◌≤◌, ℕ, List, [], ◌∷◌, ◌++◌, length, refl, sym, ap, ◌∙◌, subst, arith, Option, None, Some}
 use Rattle.std.specs.Prelude.{All}
 use Rattle.std.specs.Borrow.{Bor}
 use Rattle.std.specs.Prelude.{IfSome}
-use Rattle.std.specs.List.{AllZip, Contains}
-use Rattle.std.proofs.lemmas.List.Elements.{All-cons, All-contains, All-nil, Contains-append_left, Contains-append_right, Contains-push}
+use Rattle.std.specs.List.{AllZip}
+use Rattle.std.proofs.lemmas.List.Elements.{All-cons, All-nil}
 use Rattle.cs_grammar.specs.declared.symbol.Symbol.TheVariants.{Nonterminal}
 use Rattle.cs_grammar.specs.Grammar.{IsGrammar, IsNumberOf, PlainGrammar}
-use Rattle.cs_grammar.specs.Tree.{Tree, Leaf, Node, Forest, Bare, Grown, size, sizes, yield, yields}
+use Rattle.cs_grammar.specs.Tree.{Tree, size, yield}
 use Rattle.cs_grammar.specs.Weights.{IsMeasure, Measure, Weighed}
-use Rattle.cs_grammar.proofs.Measures.{number_above, IsNumberOf-IsYield}
+use Rattle.cs_grammar.proofs.Measures.{length-yield, IsNumberOf-IsYield}
 use Rattle.cs_grammar.proofs.OneTree.{one_tree}
-use Rattle.cs_texts.specs.Rendering.Rendering.{IsRendered, Rendering, Text, NoLexeme, Differs}
+use Rattle.cs_texts.specs.Rendering.Rendering.{Rendering}
 use Rattle.cs_texts.specs.Work.Renders.{TakesTokens}
 use Rattle.cs_texts.specs.declared.work.work.RenderWork.{RenderWork}
-use Rattle.cs_scanner.specs.Scan.Scan.{Scanning}
 use Rattle.cs_yacc.specs.Reading.File.{File, IsFile}
 use Rattle.cs_verdicts.specs.declared.positive.verdict.Verdict.{Verdict}
 use Rattle.cs_verdicts.specs.declared.positive.verdict.Verdict.TheVariants as goals
-use Rattle.cs_manifest.specs.Manifest.Manifest.{AreTokensOf, IsRenderedBy, IsTextOf, Texts}
-use Rattle.cs_manifest.specs.Manifest.Named.{AreNamedRenderings, IsNamedRendering}
-use Rattle.cs_manifest.specs.Output.Names.{AreNamedTokens, IsNamedToken}
+use Rattle.cs_manifest.proofs.OnManifest.Rendered.{named_rendered}
+use Rattle.cs_manifest.specs.Manifest.Manifest.{AreTokensOf, IsTextOf, Texts}
+use Rattle.cs_manifest.specs.Manifest.Named.{AreNamedRenderings}
+use Rattle.cs_manifest.specs.Output.Names.{AreNamedTokens}
 use Rattle.cs_chain.specs.declared.chains.chain.Chain.{Chain}
 use Rattle.cs_chain.specs.declared.judging.verdict.ChainVerdict.{ChainVerdict}
 use Rattle.cs_chain.specs.declared.judging.verdict.ChainVerdict.TheVariants.{Feasible, Infeasible, Large}
@@ -35,18 +35,8 @@ derived w g chain (Feasible n derivation) h = (h.2.0, (chosen_met w g chain h.2.
 derived w g chain Infeasible h = tt
 derived w g chain Large h = tt
 
--- a tree has no more tokens than its size
+-- the tokens of a verdict are few
 module _ (w : Measure) (is : IsMeasure w) where
-  mutual
-    length-yield : (t : Tree) → length (yield t) ≤ size w t
-    length-yield (Leaf t) = omega (arith, number_above w t is)
-    length-yield (Node r children) = omega (arith, length-yields children)
-
-    length-yields : (f : Forest) → length (yields f) ≤ sizes w f
-    length-yields Bare = omega arith
-    length-yields (Grown t f) = omega (arith, length-yield t, length-yields f, length-append (yield t) (yields f))
-
-  -- so a verdict's tokens are few
   pub few_tokens : (g : PlainGrammar) (chain : Chain) (verdict : ChainVerdict) (tokens : List ℕ) → IsVerdict w g chain verdict → AreTokensOf g (as_goal verdict) tokens → length tokens ≤ 1000000
   few_tokens g chain (Feasible n derivation) tokens h y =
       let chosen = h.2.0 in
@@ -56,7 +46,7 @@ module _ (w : Measure) (is : IsMeasure w) where
       let same = (one_tree g y.tree chosen start start [] [] refl y.is_tree (chosen_met w g chain chosen h.2.1).0 codes).0 in
       let long : length tokens ≡ length (yield chosen) = ap length y.yield ∙ ap (λ (t : Tree). length (yield t)) same in
       let met = least.reached in
-      omega (arith, long, length-yield chosen, chosen_least w g chain met.0 chosen met.1 h.2.1, met.2, h.0, is.limit.1)
+      omega (arith, long, length-yield w is chosen, chosen_least w g chain met.0 chosen met.1 h.2.1, met.2, h.0, is.limit.1)
   few_tokens g chain Infeasible tokens h y = let none : length tokens ≡ 0 = ap length y in omega (arith, none)
   few_tokens g chain Large tokens h y = let none : length tokens ≡ 0 = ap length y in omega (arith, none)
 
@@ -79,24 +69,6 @@ can_render g is (Some work) verdict tokens lexemes are few = record {
 named_tokens : (file : File) → IsFile file → (g : PlainGrammar) (verdict : Verdict) (tokens : List ℕ) → g ≡ file.grammar → AreTokensOf g verdict tokens → AreNamedTokens file tokens
 named_tokens file is g verdict tokens same h =
     subst (λ (n : ℕ). All (IsNumberOf n) tokens) (sym is.tokens) (numbered file.grammar is.grammar verdict tokens (subst (λ (x : PlainGrammar). AreTokensOf x verdict tokens) same h))
-
--- what comes of named tokens has a name, where it is one of them
-module _ (file : File) (tokens : List ℕ) (are : AreNamedTokens file tokens) where
-  named_rendering : (s : Scanning) (lexemes : List (Option (List ℕ))) (separator : List ℕ) (r : Rendering) → IsRendered s lexemes separator tokens r → IsNamedRendering file r
-  named_rendering s lexemes separator (Text text) h = tt
-  named_rendering s lexemes separator (NoLexeme token) h =
-      let here : Contains (token ∷ h.behind) token = Contains-append_left (token ∷ []) h.behind token (Contains-push [] token) in
-      All-contains (IsNamedToken file) (h.front ++ token ∷ h.behind) token (subst (All (IsNamedToken file)) h.list are) (Contains-append_right h.front (token ∷ h.behind) token here)
-  named_rendering s lexemes separator (Differs after) h = tt
-
-  none_named : (rendered : Option Rendering) → rendered ≡ None → AreNamedRenderings file rendered
-  none_named rendered h = subst (AreNamedRenderings file) (sym h) tt
-
-  named_rendered : (texts : Option Texts) (lexemes : Option (List (Option (List ℕ)))) (rendered : Option Rendering) → IsRenderedBy texts lexemes tokens rendered → AreNamedRenderings file rendered
-  named_rendered (Some texts) (Some lexemes) (Some r) h = named_rendering texts.scanning lexemes texts.separator r h
-  named_rendered (Some texts) (Some lexemes) None h = absurd h
-  named_rendered (Some texts) None rendered h = none_named rendered h
-  named_rendered None lexemes rendered h = none_named rendered h
 
 -- the numbers of an entry's tokens are of the file
 module _ (file : File) (is : IsFile file) (texts : Option Texts) (lexemes : Option (List (Option (List ℕ)))) (of : Weighed) (same : of.grammar ≡ file.grammar) where

@@ -31,7 +31,7 @@ use Rattle.cs_texts.specs.declared.work.work.RenderWork.{RenderWork}
 use Rattle.std.proofs.lemmas.List.{length-map}
 use Rattle.cs_mutate.specs.declared.edit.Edit.{Edit}
 use Rattle.cs_mutate.specs.declared.edit.Edit.TheVariants.{Delete, Insert, Replace, Swap}
-use Rattle.cs_writing.proofs.OnPlan.Making.{named_if}
+use Rattle.cs_manifest.proofs.OnManifest.Rendered.{named_if}
 use Rattle.cs_writing.specs.Plan.Plans.{texts_of}
 use Rattle.cs_yacc.specs.Reading.File.{File, IsFile}
 

@@ -6,3 +6,4 @@ pub mod Awaiting
 pub mod Decided
 pub mod Members
 pub mod Once
+pub mod Cut

@@ -32,3 +32,4 @@ pub use goal::{Goal, fits_goal};
 pub use goals::Goals;
 pub use laws::each_goal_once;
 pub use meeting::meets;
+pub use occurrence::next_in;

@@ -31,7 +31,18 @@ number_above w t is =
     (λ past. omega (arith, get_or_past w.numbers (t - 1) 1 past))
     (cases_lt (t - 1) (length w.numbers))
 
--- and no tree does
+-- a tree has no more tokens than its size
+module _ (w : Measure) (is : IsMeasure w) where
+  mutual
+    pub length-yield : (t : Tree) → length (yield t) ≤ size w t
+    length-yield (Leaf t) = omega (arith, number_above w t is)
+    length-yield (Node r children) = omega (arith, length-yields children)
+
+    pub length-yields : (f : Forest) → length (yields f) ≤ sizes w f
+    length-yields Bare = omega arith
+    length-yields (Grown t f) = omega (arith, length-yield t, length-yields f, length-append (yield t) (yields f))
+
+-- and no tree weighs nothing
 pub size_above : (w : Measure) (t : Tree) → IsMeasure w → 0 < size w t
 size_above w (Leaf t) is = number_above w t is
 size_above w (Node r f) is = omega arith

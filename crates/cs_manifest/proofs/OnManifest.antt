@@ -8,3 +8,4 @@ pub mod OneManifest
 pub mod Bases
 pub mod SomeManifest
 pub mod Holes
+pub mod Rendered

@@ -1,16 +1,14 @@
 -- What is told has names in the file, and tokens of derivations are few.
-use Rattle.std.proofs.Common.{◌≡◌, ℕ, zero, suc, ◌<◌, ◌≤◌, List, [], ◌∷◌, ◌++◌, length, length-append, Option, None, Some, refl, sym, ap, ◌∙◌, subst, arith, get_or}
+use Rattle.std.proofs.Common.{◌≡◌, ℕ, zero, suc, ◌<◌, ◌≤◌, List, [], ◌∷◌, ◌++◌, length, Option, None, Some, refl, sym, ap, subst, arith, get_or}
 use Rattle.std.specs.Prelude.{All, Contains, slice_get}
 use Rattle.std.proofs.lemmas.List.{length-map}
 use Rattle.std.proofs.lemmas.List.Elements.{All-contains, All-nil, Contains-append_left, Contains-append_right, Contains-push}
 use Rattle.std.proofs.lemmas.Option.{get_or_from_slice_get, slice_get-get_or, slice_get_within}
 use Rattle.cs_grammar.specs.Grammar.{IsGrammar, IsNumberOf, IsRuleOf, IsSymbol, PlainGrammar, Production}
-use Rattle.cs_grammar.specs.Leftmost.{IsYield}
-use Rattle.cs_grammar.specs.Tree.{Tree, Leaf, Node, Forest, Bare, Grown, size, sizes, yield, yields}
+use Rattle.cs_grammar.specs.Tree.{size}
 use Rattle.cs_grammar.specs.Weights.{IsMeasure, Measure, Weighed}
-use Rattle.cs_grammar.specs.declared.symbol.Symbol.TheVariants.{Nonterminal, Token}
-use Rattle.cs_grammar.proofs.Measures.{number_above, IsNumberOf-IsYield}
-use Rattle.cs_grammar.proofs.OneTree.{one_tree}
+use Rattle.cs_grammar.specs.declared.symbol.Symbol.TheVariants.{Token}
+use Rattle.cs_grammar.proofs.Measures.{IsNumberOf-IsYield}
 use Rattle.cs_goals.specs.declared.goal.Goal.{Goal}
 use Rattle.cs_goals.specs.declared.goal.Goal.TheVariants.{Rule}
 use Rattle.cs_manifest.specs.Manifest.Manifest.{AreTokensOf}
@@ -28,39 +26,18 @@ use Rattle.cs_spell.specs.Texts.{IsRenderedWith, IsWayOf}
 use Rattle.cs_spell.specs.Told as spec
 use Rattle.cs_spell.specs.declared.told.Told.{Told}
 use Rattle.cs_spell.specs.declared.way.Way.{Way}
+use Rattle.cs_manifest.proofs.OnManifest.Rendered.{few_tokens}
 use Rattle.cs_texts.specs.Rendering.Rendering.{Rendering, Text, NoLexeme, Differs}
 use Rattle.cs_verdicts.specs.declared.positive.verdict.Verdict.{Verdict}
 use Rattle.cs_verdicts.specs.declared.positive.verdict.Verdict.TheVariants.{Feasible, Infeasible, Large}
 use Rattle.cs_verdicts.specs.Positive.Verdict.{IsVerdict}
-use Rattle.cs_verdicts.proofs.OnPositive.Verdicts.{chosen_met, chosen_least_of}
 use Rattle.cs_yacc.specs.Reading.File.{File}
 
 -- ---- the tokens of derivations
 
--- a tree has no more tokens than its size
 module _ (w : Measure) (is : IsMeasure w) where
-  mutual
-    length-yield : (t : Tree) → length (yield t) ≤ size w t
-    length-yield (Leaf t) = omega (arith, number_above w t is)
-    length-yield (Node r children) = omega (arith, length-yields children)
-
-    length-yields : (f : Forest) → length (yields f) ≤ sizes w f
-    length-yields Bare = omega arith
-    length-yields (Grown t f) = omega (arith, length-yield t, length-yields f, length-append (yield t) (yields f))
-
-  few_tokens : (g : PlainGrammar) (goal : Goal) (n : ℕ) (derivation tokens : List ℕ) → IsVerdict w g goal (Feasible n derivation) → IsYield g derivation tokens → length tokens ≤ 1000000
-  few_tokens g goal n derivation tokens h y =
-      let chosen = h.2.0 in
-      let least = h.1 in
-      let start = Nonterminal g.start in
-      let codes = ap (λ (l : List ℕ). l ++ []) (sym y.code ∙ h.2.2) in
-      let same = (one_tree g y.tree chosen start start [] [] refl y.is_tree (chosen_met w g goal chosen h.2.1).0 codes).0 in
-      let long : length tokens ≡ length (yield chosen) = ap length y.yield ∙ ap (λ (t : Tree). length (yield t)) same in
-      let met = least.reached in
-      omega (arith, long, length-yield chosen, chosen_least_of w g goal met.0 chosen met.1 h.2.1, met.2, h.0, is.limit.1)
-
   few_of : (g : PlainGrammar) → IsGrammar g → (goal : Goal) (verdict : Verdict) (tokens : List ℕ) → IsVerdict w g goal verdict → AreTokensOf g verdict tokens → All (IsNumberOf g.tokens) tokens × (length tokens ≤ 1000000)
-  few_of g well goal (Feasible n derivation) tokens h y = (IsNumberOf-IsYield g well derivation tokens y, few_tokens g goal n derivation tokens h y)
+  few_of g well goal (Feasible n derivation) tokens h y = (IsNumberOf-IsYield g well derivation tokens y, few_tokens w is g goal n derivation tokens h y)
   few_of g well goal Infeasible tokens h y = (subst (All (IsNumberOf g.tokens)) (sym y) (All-nil (IsNumberOf g.tokens)), omega (arith, ap length y))
   few_of g well goal Large tokens h y = (subst (All (IsNumberOf g.tokens)) (sym y) (All-nil (IsNumberOf g.tokens)), omega (arith, ap length y))
 

@@ -1,19 +1,17 @@
 -- What is judged of candidates are the entries of their slips, and these have names.
-use Rattle.std.proofs.Common.{◌≡◌, ℕ, ◌+◌, Bool, true, false, List, [], ◌∷◌, ◌++◌, length, map, refl, sym, ap, ◌∙◌, subst, Option, Some, None}
+use Rattle.std.proofs.Common.{◌≡◌, ℕ, ◌+◌, Bool, true, false, List, [], ◌∷◌, ◌++◌, length, map, refl, sym, ap, ◌∙◌, subst, Option, Some}
 use Rattle.std.specs.Prelude.{All, IsTrue}
-use Rattle.std.specs.List.{AllZip, Contains}
+use Rattle.std.specs.List.{AllZip}
 use Rattle.std.proofs.lemmas.Bool.{false≢true}
-use Rattle.std.proofs.lemmas.List.Elements.{All-append, All-cons, All-contains, All-map, All-nil, Contains-append_left, Contains-append_right, Contains-push}
+use Rattle.std.proofs.lemmas.List.Elements.{All-append, All-cons, All-map, All-nil}
 use Rattle.cs_grammar.proofs.Measures.{All-at}
 use Rattle.cs_grammar.specs.Grammar.{IsNumberOf, PlainGrammar}
 use Rattle.cs_grammar.specs.Sentence.{framed}
 use Rattle.cs_grammar.specs.Weights.{Weighed}
 use Rattle.cs_grammar.specs.declared.symbol.Mark.TheVariants as marks
-use Rattle.cs_manifest.specs.Manifest.Manifest.{IsRenderedBy, IsRenderedIf, Texts}
-use Rattle.cs_manifest.specs.Manifest.Named.{AreNamedRenderings, IsNamedRendering}
-use Rattle.cs_manifest.specs.Output.Names.{AreNamedTokens, IsNamedMark, IsNamedToken}
-use Rattle.cs_scanner.specs.Scan.Scan.{Scanning}
-use Rattle.cs_texts.specs.Rendering.Rendering.{IsRendered, Rendering, Text, NoLexeme, Differs}
+use Rattle.cs_manifest.proofs.OnManifest.Rendered.{named_if}
+use Rattle.cs_manifest.specs.Manifest.Manifest.{IsRenderedIf, Texts}
+use Rattle.cs_manifest.specs.Output.Names.{AreNamedTokens, IsNamedMark}
 use Rattle.cs_texts.specs.declared.work.work.RenderWork.{RenderWork}
 use Rattle.cs_wrong.specs.Classes.{IsListClass, IsMet, IsTold, is_wrong}
 use Rattle.cs_wrong.specs.Coming.{IsCandidate, TellsAgain, TellsAt}
@@ -88,28 +86,6 @@ can_judge v work grammar lexemes (x ∷ xs) (c ∷ cs) zip =
     (can_judge v work grammar lexemes xs cs zip.1)
 
 -- ---- names
-
--- what comes of named tokens has a name, where it is one of them
-module _ (file : File) (tokens : List ℕ) (are : AreNamedTokens file tokens) where
-  named_rendering : (s : Scanning) (lexemes : List (Option (List ℕ))) (separator : List ℕ) (r : Rendering) → IsRendered s lexemes separator tokens r → IsNamedRendering file r
-  named_rendering s lexemes separator (Text text) h = tt
-  named_rendering s lexemes separator (NoLexeme token) h =
-      let here : Contains (token ∷ h.behind) token = Contains-append_left (token ∷ []) h.behind token (Contains-push [] token) in
-      All-contains (IsNamedToken file) (h.front ++ token ∷ h.behind) token (subst (All (IsNamedToken file)) h.list are) (Contains-append_right h.front (token ∷ h.behind) token here)
-  named_rendering s lexemes separator (Differs after) h = tt
-
-  none_named : (rendered : Option Rendering) → rendered ≡ None → AreNamedRenderings file rendered
-  none_named rendered h = subst (AreNamedRenderings file) (sym h) tt
-
-  named_rendered : (texts : Option Texts) (lexemes : Option (List (Option (List ℕ)))) (rendered : Option Rendering) → IsRenderedBy texts lexemes tokens rendered → AreNamedRenderings file rendered
-  named_rendered (Some texts) (Some lexemes) (Some r) h = named_rendering texts.scanning lexemes texts.separator r h
-  named_rendered (Some texts) (Some lexemes) None h = absurd h
-  named_rendered (Some texts) None rendered h = none_named rendered h
-  named_rendered None lexemes rendered h = none_named rendered h
-
-  named_if : (texts : Option Texts) (lexemes : Option (List (Option (List ℕ)))) (so : Bool) (rendered : Option Rendering) → IsRenderedIf so texts lexemes tokens rendered → AreNamedRenderings file rendered
-  named_if texts lexemes true rendered h = named_rendered texts lexemes rendered h
-  named_if texts lexemes false rendered h = none_named rendered h
 
 -- the framed list has named marks
 module _ (file : File) (tokens : List ℕ) (are : AreNamedTokens file tokens) where

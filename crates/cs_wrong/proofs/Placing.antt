@@ -1,13 +1,13 @@
 -- Contexts with trees in the hole: what they cost together, and the chosen ones.
-use Rattle.std.proofs.Common.{◌≡◌, ℕ, ◌+◌, ◌-◌, ◌≤◌, List, [], ◌++◌, drop, length, length-append, take, refl, sym, ap, ◌∙◌, subst, arith}
+use Rattle.std.proofs.Common.{◌≡◌, ℕ, ◌+◌, ◌-◌, ◌≤◌, List, [], ◌++◌, drop, length, take, refl, sym, ap, ◌∙◌, subst, arith}
 use Rattle.std.specs.Prelude.{All}
 use Rattle.std.proofs.lemmas.List.Elements.{All-append, All-drop, All-take}
 use Rattle.cs_grammar.proofs.Holes.{size-plug}
-use Rattle.cs_grammar.proofs.Measures.{number_above}
+use Rattle.cs_grammar.proofs.Measures.{length-yield}
 use Rattle.cs_grammar.proofs.OneTree.{one_rule}
 use Rattle.cs_grammar.specs.Context.{Context, code_after, code_before, context_size, plug}
 use Rattle.cs_grammar.specs.Grammar.{PlainGrammar, Production}
-use Rattle.cs_grammar.specs.Tree.{AreTrees, Bare, Forest, Grown, Leaf, Node, Tree, codes_of, size, sizes, yield, yields}
+use Rattle.cs_grammar.specs.Tree.{AreTrees, Forest, Node, codes_of, size, sizes, yield}
 use Rattle.cs_grammar.specs.Weights.{IsMeasure, Measure, Weighed}
 use Rattle.cs_grammar.specs.declared.symbol.Symbol.{Symbol}
 use Rattle.cs_grammar.specs.declared.symbol.Symbol.TheVariants.{Nonterminal}
@@ -121,16 +121,6 @@ changed_within P (Swap i) xs h =
     (All-drop P (i + 1) xs h)
 
 -- ---- how long a list is
-
-module _ (w : Measure) (is : IsMeasure w) where
-  mutual
-    length-yield : (t : Tree) → length (yield t) ≤ size w t
-    length-yield (Leaf t) = omega (arith, number_above w t is)
-    length-yield (Node r children) = omega (arith, length-yields children)
-
-    length-yields : (f : Forest) → length (yields f) ≤ sizes w f
-    length-yields Bare = omega arith
-    length-yields (Grown t f) = omega (arith, length-yield t, length-yields f, length-append (yield t) (yields f))
 
 -- a list is no longer than its size
 pub few_placed : (v : Weighed) → IsMeasure v.weights → (r left : ℕ) (symbols : List Symbol) (list : List ℕ) → IsPlacedList v r left symbols list → length list ≤ 1000000

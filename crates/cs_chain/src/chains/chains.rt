@@ -6,9 +6,8 @@ ghost use Rattle.cs_chain.specs.Chains.Chains.{chains};
 ghost use Rattle.cs_chain.specs.Chains.Rest.{GivesNext, GivesUnder, IsKept, IsOpen, Opens};
 
 use crate::chains::chain::{Chain, is_beside};
-use crate::chains::links::next_link;
 use cs_choices::Criteria;
-use cs_goals::{Goal, Goals};
+use cs_goals::{Goal, Goals, next_in};
 use cs_grammar::{Grammar, Rule, number_of};
 use std::marker::Model;
 
@@ -124,7 +123,7 @@ fn next_under<'g>(grammar: &'g Grammar, opened: Open<'g>) -> Option<(Chain, Open
     ensures kept { IfSome result (λ found. IsOpen grammar.now found.1) }
 {
     let _well_formed = grammar.rules();
-    let (at, found) = next_link(grammar, opened.rule, opened.spot, opened.inner)?;
+    let (at, found) = next_in(grammar, opened.rule, opened.spot, opened.inner)?;
     let chain = Chain {
         outer: opened.outer,
         place: opened.place,

@@ -1,32 +1,27 @@
 -- What is made of a goal: its tokens have names and are few.
-use Rattle.std.proofs.Common.{◌≡◌, ℕ, ◌≤◌, Bool, true, false, List, [], ◌∷◌, ◌++◌, length, length-append, refl, sym, ap, ◌∙◌, subst, Option, None, Some, arith}
+use Rattle.std.proofs.Common.{◌≡◌, ℕ, ◌≤◌, List, length, refl, sym, ap, subst, Option, arith}
 use Rattle.std.specs.Prelude.{All}
-use Rattle.std.specs.List.{Contains}
-use Rattle.std.proofs.lemmas.List.Elements.{All-contains, All-nil, Contains-append_left, Contains-append_right, Contains-push}
+use Rattle.std.proofs.lemmas.List.Elements.{All-nil}
 use Rattle.cs_grammar.specs.Grammar.{IsNumberOf, PlainGrammar}
-use Rattle.cs_grammar.specs.Leftmost.{IsYield}
-use Rattle.cs_grammar.specs.Tree.{Tree, Leaf, Node, Forest, Bare, Grown, IsDerivationOf, size, sizes, yield, yields}
+use Rattle.cs_grammar.specs.Tree.{IsDerivationOf, size}
 use Rattle.cs_grammar.specs.Weights.{IsMeasure, Measure, Weighed}
-use Rattle.cs_grammar.specs.declared.symbol.Symbol.TheVariants.{Nonterminal}
 use Rattle.cs_grammar.specs.declared.symbol.Mark.{Mark}
 use Rattle.cs_grammar.specs.declared.symbol.Mark.TheVariants as marks
-use Rattle.cs_grammar.proofs.Measures.{number_above, IsNumberOf-IsYield}
-use Rattle.cs_grammar.proofs.OneTree.{one_tree}
+use Rattle.cs_grammar.proofs.Measures.{IsNumberOf-IsYield}
 use Rattle.cs_goals.specs.declared.goal.Goal.{Goal}
 use Rattle.cs_goals.specs.declared.goal.Goal.TheVariants.{Rule, Context, Pair}
 use Rattle.cs_goals.specs.Goal.{IsGoal, IsLeft, IsRight}
-use Rattle.cs_manifest.specs.Output.Names.{AreNamedTokens, IsNamedMark, IsNamedToken}
+use Rattle.cs_manifest.specs.Output.Names.{AreNamedTokens, IsNamedMark}
 use Rattle.cs_verdicts.specs.Cases.Cases.{PlainCases}
 use Rattle.cs_choices.specs.declared.format.Format.{Format}
-use Rattle.cs_manifest.specs.Manifest.Manifest.{AreTokensOf, IsRenderedBy, IsRenderedIf, Texts}
-use Rattle.cs_manifest.specs.Manifest.Named.{AreNamedRenderings, IsNamedGoal, IsNamedRendering}
+use Rattle.cs_manifest.specs.Manifest.Manifest.{AreTokensOf, Texts}
+use Rattle.cs_manifest.specs.Manifest.Named.{IsNamedGoal}
 use Rattle.cs_verdicts.specs.declared.positive.verdict.Verdict.{Verdict}
 use Rattle.cs_verdicts.specs.declared.positive.verdict.Verdict.TheVariants.{Feasible, Infeasible, Large}
 use Rattle.cs_verdicts.specs.Positive.Verdict.{IsVerdict}
-use Rattle.cs_verdicts.proofs.OnPositive.Verdicts.{chosen_met, chosen_least_of}
-use Rattle.cs_texts.specs.Rendering.Rendering.{IsRendered, Rendering, Text, NoLexeme, Differs}
-use Rattle.cs_scanner.specs.Scan.Scan.{Scanning}
+use Rattle.cs_verdicts.proofs.OnPositive.Verdicts.{chosen_met}
 use Rattle.cs_yacc.specs.Reading.File.{File, IsFile}
+use Rattle.cs_manifest.proofs.OnManifest.Rendered.{few_tokens, named_if}
 use Rattle.cs_writing.specs.Plan.Entries.{IsMade}
 use Rattle.cs_writing.specs.Plan.Made.{IsNamedMade, MadeEntry, is_asked}
 use Rattle.cs_writing.specs.Plan.Placing.{HasDerivation, IsMetBy}
@@ -36,29 +31,6 @@ pub verdict_derivation : (w : Measure) (g : PlainGrammar) (goal : Goal) (verdict
 verdict_derivation w g goal verdict n derivation e h =
     let is : IsVerdict w g goal (Feasible n derivation) = subst (IsVerdict w g goal) e h in
     (is.2.0, (chosen_met w g goal is.2.0 is.2.1).0, is.2.2)
-
--- a tree has no more tokens than its size
-module _ (w : Measure) (is : IsMeasure w) where
-  mutual
-    length-yield : (t : Tree) → length (yield t) ≤ size w t
-    length-yield (Leaf t) = omega (arith, number_above w t is)
-    length-yield (Node r children) = omega (arith, length-yields children)
-
-    length-yields : (f : Forest) → length (yields f) ≤ sizes w f
-    length-yields Bare = omega arith
-    length-yields (Grown t f) = omega (arith, length-yield t, length-yields f, length-append (yield t) (yields f))
-
-  -- so a verdict's tokens are few
-  pub few_tokens : (g : PlainGrammar) (goal : Goal) (n : ℕ) (derivation tokens : List ℕ) → IsVerdict w g goal (Feasible n derivation) → IsYield g derivation tokens → length tokens ≤ 1000000
-  few_tokens g goal n derivation tokens h y =
-      let chosen = h.2.0 in
-      let least = h.1 in
-      let start = Nonterminal g.start in
-      let codes = ap (λ (l : List ℕ). l ++ []) (sym y.code ∙ h.2.2) in
-      let same = (one_tree g y.tree chosen start start [] [] refl y.is_tree (chosen_met w g goal chosen h.2.1).0 codes).0 in
-      let long : length tokens ≡ length (yield chosen) = ap length y.yield ∙ ap (λ (t : Tree). length (yield t)) same in
-      let met = least.reached in
-      omega (arith, long, length-yield chosen, chosen_least_of w g goal met.0 chosen met.1 h.2.1, met.2, h.0, is.limit.1)
 
 -- the tokens of a verdict have names, and so has its goal
 module _ (file : File) (is : IsFile file) where
@@ -89,29 +61,7 @@ module _ (file : File) (is : IsFile file) where
   pub named_goal : (g : PlainGrammar) (goal : Goal) → g ≡ file.grammar → IsGoal g goal → IsNamedGoal file goal
   named_goal g goal same h = named_in goal (subst (λ (x : PlainGrammar). IsGoal x goal) same h)
 
--- what comes of named tokens has a name, where it is one of them
-module _ (file : File) (tokens : List ℕ) (are : AreNamedTokens file tokens) where
-  named_rendering : (s : Scanning) (lexemes : List (Option (List ℕ))) (separator : List ℕ) (r : Rendering) → IsRendered s lexemes separator tokens r → IsNamedRendering file r
-  named_rendering s lexemes separator (Text text) h = tt
-  named_rendering s lexemes separator (NoLexeme token) h =
-      let here : Contains (token ∷ h.behind) token = Contains-append_left (token ∷ []) h.behind token (Contains-push [] token) in
-      All-contains (IsNamedToken file) (h.front ++ token ∷ h.behind) token (subst (All (IsNamedToken file)) h.list are) (Contains-append_right h.front (token ∷ h.behind) token here)
-  named_rendering s lexemes separator (Differs after) h = tt
-
-  none_named : (rendered : Option Rendering) → rendered ≡ None → AreNamedRenderings file rendered
-  none_named rendered h = subst (AreNamedRenderings file) (sym h) tt
-
-  named_rendered : (texts : Option Texts) (lexemes : Option (List (Option (List ℕ)))) (rendered : Option Rendering) → IsRenderedBy texts lexemes tokens rendered → AreNamedRenderings file rendered
-  named_rendered (Some texts) (Some lexemes) (Some r) h = named_rendering texts.scanning lexemes texts.separator r h
-  named_rendered (Some texts) (Some lexemes) None h = absurd h
-  named_rendered (Some texts) None rendered h = none_named rendered h
-  named_rendered None lexemes rendered h = none_named rendered h
-
-  pub named_if : (texts : Option Texts) (lexemes : Option (List (Option (List ℕ)))) (so : Bool) (rendered : Option Rendering) → IsRenderedIf so texts lexemes tokens rendered → AreNamedRenderings file rendered
-  named_if texts lexemes true rendered h = named_rendered texts lexemes rendered h
-  named_if texts lexemes false rendered h = none_named rendered h
-
--- so has what is made of a goal
+-- what is made of a goal has names
 pub named_made : (file : File) → IsFile file → (format : Format) (texts : Option Texts) (lexemes : Option (List (Option (List ℕ)))) (of : Weighed) → of.grammar ≡ file.grammar → (old : PlainCases) (goal : Goal) (new : PlainCases) (m : MadeEntry) → IsMade format texts lexemes of old goal new m → IsNamedMade file m
 named_made file is format texts lexemes of same old goal new m h =
     let tokens = named_tokens file is of.grammar m.verdict m.tokens same h.tokens in
