@@ -3,3 +3,4 @@ pub mod Classes
 pub mod Places
 pub mod Digits
 pub mod Limits
+pub mod Escapes

@@ -10,7 +10,7 @@
 //!
 //! All files of `specs/` are meaning: `Names` (the names of bytes), `Classes` (which bytes are of a class), `Places`
 //! (what stands at a place, a longest run, a line), `Digits` (the number that digits spell) and `Limits` (how large a
-//! text may be).
+//! text may be). `Escapes` says how a byte and a text stand between quotes; no call here writes them.
 //!
 //! # What is proved
 //!

@@ -1,5 +1,6 @@
 pub mod Errors
 pub mod File
+pub mod Names
 pub mod Meaning
 pub mod Reading
 pub mod SpellingView
