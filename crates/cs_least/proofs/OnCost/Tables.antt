@@ -10,8 +10,12 @@ use Rattle.cs_least.specs.declared.cost.cost.Cost.{Cost}
 use Rattle.cs_least.specs.declared.cost.cost.Cost.TheVariants.{Never}
 use Rattle.cs_least.specs.Cost.Least.{IsCost}
 use Rattle.cs_least.specs.Cost.Rank.{capped, rank, IsCapped, entry}
-use Rattle.cs_least.specs.Cost.Holds.{Holds, IsLow}
+use Rattle.cs_least.specs.Cost.Holds.{Holds}
 use Rattle.cs_least.proofs.OnCost.Ranks.{IsCost-from}
+
+-- no thing of a number's kind costs less than the table says of the number
+pub record IsLow {A : Type 0} (limit : ℕ) (Kind : ℕ → A → Type 0) (measure : A → ℕ) (table : List Cost) : Type 0 where
+  pub low : (n : ℕ) → (a : A) → Kind n a → rank limit (entry table n) ≤ capped limit (measure a)
 
 module _ (limit : ℕ) where
   pub IsCapped-entry : (table : List Cost) (n : ℕ) → All (IsCapped limit) table → IsCapped limit (entry table n)

@@ -7,7 +7,3 @@ use Rattle.cs_least.specs.Cost.Rank.{capped, rank, IsCapped, entry}
 pub record Holds {A : Type 0} (limit : ℕ) (Kind : ℕ → A → Type 0) (measure : A → ℕ) (table : List Cost) : Type 0 where
   pub each : All (IsCapped limit) table
   pub reached : (n : ℕ) → rank limit (entry table n) ≤ limit + 1 → (a : A) × Kind n a × (capped limit (measure a) ≤ rank limit (entry table n))
-
--- no thing of a number's kind costs less than the table says of the number
-pub record IsLow {A : Type 0} (limit : ℕ) (Kind : ℕ → A → Type 0) (measure : A → ℕ) (table : List Cost) : Type 0 where
-  pub low : (n : ℕ) → (a : A) → Kind n a → rank limit (entry table n) ≤ capped limit (measure a)

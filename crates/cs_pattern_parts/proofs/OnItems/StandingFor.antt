@@ -21,9 +21,9 @@ use Rattle.cs_pattern_parts.specs.Items.Quoted as quotes
 use Rattle.cs_pattern_parts.specs.Items.Marks.{marks}
 use Rattle.cs_pattern_parts.specs.Items.Bracket.{Bracket, collation, nothing, is_refused, is_yes, any_test, members, member_bytes, unless_empty, turned, is_collating, set_or_nothing, closed, bracket_in, bracket}
 use Rattle.cs_pattern_parts.specs.Items.Interval.{interval, name}
-use Rattle.cs_pattern_parts.specs.Items.Items.{Item, opening, closing, bar, repetition}
+use Rattle.cs_pattern_parts.specs.Items.Items.{Item, class, quoted, named, opening, closing, bar, repetition}
 use Rattle.cs_pattern_parts.specs.Items.Front.{Front, item, stop, one_byte_item, any_byte, escape_front, quoted_front, bracket_front, brace_front, sign_front, front}
-use Rattle.cs_pattern_parts.specs.Items.StandsFor.{AreBytes, HasByte, StandsForBytes}
+use Rattle.cs_pattern_parts.specs.Items.StandsFor.{AreBytes, HasByte}
 use Rattle.cs_pattern_parts.proofs.OnItems.Picked.{has_picked, some_is_no_none, picked_below}
 
 either_way : {A : Type 0} (P : A → Type 0) (v : Bool) (x y : A) → P x → P y → P (if v then x else y)
@@ -47,6 +47,16 @@ pub one_byte-has_byte : (b : ℕ) → b < 256 → HasByte (bytes_where (λ c. c 
 one_byte-has_byte b lt = bytes_where-has_byte (λ c. c == b) b lt (eq-eqb b b refl)
 
 -- ---- fronts
+
+-- a class has a byte, and what is quoted are bytes
+abbrev pub StandsForBytes : Item → Type 0
+StandsForBytes (class set) = HasByte set
+StandsForBytes (quoted bytes) = AreBytes bytes
+StandsForBytes (named name) = Unit {0}
+StandsForBytes opening = Unit {0}
+StandsForBytes closing = Unit {0}
+StandsForBytes bar = Unit {0}
+StandsForBytes (repetition r) = Unit {0}
 
 abbrev StandsWell : Front → Type 0
 StandsWell (item i n) = StandsForBytes i

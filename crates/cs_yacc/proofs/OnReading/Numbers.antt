@@ -14,7 +14,7 @@ use Rattle.cs_yacc.specs.declared.reading.name.TokenName.TheVariants.{Byte}
 use Rattle.cs_grammar.specs.declared.symbol.Symbol.{Symbol}
 use Rattle.cs_grammar.specs.declared.symbol.Symbol.TheVariants.{Token}
 use Rattle.cs_yacc.specs.Reading.Meaning.{Parts, same_spelling, symbol_in, symbols_in}
-use Rattle.cs_yacc.specs.Reading.AcceptedView.{parts_at, words_at, symbols_at}
+use Rattle.cs_yacc.specs.Reading.AcceptedView.{parts_at, words_at}
 use Rattle.cs_yacc.specs.Reading.Places.{names_at, place_in}
 use Rattle.cs_yacc.specs.declared.reading.spelled.SpelledRule as held
 use Rattle.cs_yacc.specs.Reading.Marks.{AreWithin}
@@ -44,6 +44,10 @@ table_at : (p : Parts) (words : List TokenName) (places : List ℕ) → All (λ 
 table_at p words [] within = refl
 table_at p words (k ∷ places) within =
     rw (get_or-map (symbol_in p) words k (Byte 0) (Token 0) (All-head (λ k. k < length words) k places within), table_at p words places (All-tail (λ k. k < length words) k places within)) refl
+
+-- the symbols of the spellings at these places
+abbrev pub symbols_at : accepted.Accepted → List ℕ → List Symbol
+symbols_at f places = symbols_in (parts_at f) (names_at (words_at f) places)
 
 -- the symbols at the places of one of the rules
 pub rule_symbols : (f : accepted.Accepted) (table right : List Symbol) (rules items : List held.SpelledRule) (k : ℕ) (r : held.SpelledRule) → IsTable table f → AreWithin (words_at f) rules → items ≡ rules → k < length items

@@ -225,10 +225,6 @@ is_in_use used lefts w = has_spelling used w && not (has_spelling lefts w)
 abbrev pub spelled : List Item → List TokenName
 spelled = from_each (λ i items. spelling_at i)
 
--- the token in use that an item spells, if it does
-abbrev pub token_at : List TokenName → List TokenName → Item → List TokenName
-token_at used lefts i = filter (is_in_use used lefts) (spelling_at i)
-
 -- the tokens in use, in the order of the first items that spell them
 abbrev pub tokens : List TokenName → List TokenName → List Item → List TokenName
 tokens used lefts items = distinct (filter (is_in_use used lefts) (spelled items))
