@@ -1,6 +1,6 @@
 -- Kinds of trees by what they yield, and how a kind falls on the trees of a list: the sets of empty, first and last symbols of a
 -- grammar (Aho, Lam, Sethi and Ullman 2006, "Compilers"), as kinds of trees.
-use Rattle.std.specs.Prelude.{◌≡◌, ℕ, ◌⊎◌, List, [], ◌∷◌, ◌++◌}
+use Rattle.std.specs.Prelude.{◌≡◌, ℕ, List, [], ◌∷◌, ◌++◌}
 use Rattle.cs_grammar.specs.declared.symbol.Symbol.{Symbol}
 use Rattle.cs_grammar.specs.Grammar.{PlainGrammar, IsNumberOf}
 use Rattle.cs_grammar.specs.Tree.{Tree, Forest, IsTree, AreTrees, yield, yields}
@@ -35,10 +35,6 @@ before Any = Any
 before Empty = Empty
 before (Begins b) = Empty
 before (Ends a) = Any
-
--- the kinds that make up a kind
-abbrev pub IsPart : TreeKind → TreeKind → Type 0
-IsPart k j = (j ≡ k) ⊎ ((j ≡ before k) ⊎ (j ≡ behind k))
 
 -- a kind whose token, if it names one, is one of so many
 abbrev pub IsKind : ℕ → TreeKind → Type 0

@@ -16,18 +16,32 @@ use Rattle.cs_least.specs.Embed.ChosenContext.{count, IsChosenContext}
 use Rattle.cs_pairs.specs.declared.kinds.kind.TreeKind.{TreeKind}
 use Rattle.cs_pairs.specs.declared.kinds.kind.TreeKind.TheVariants.{Empty, Begins, Ends}
 use Rattle.cs_pairs.specs.Kinds.ChosenKind.{IsChosenOfKind, AreChosenOfKind}
+use Rattle.cs_pairs.specs.declared.pairs.meeting.Meeting.{Meeting}
 use Rattle.cs_pairs.specs.Pairs.Beside.{IsSeam, seam_size}
 use Rattle.cs_pairs.specs.Pairs.Pairs.{HasPair}
 
--- No seam of a and b is smaller than n. Of those of size n none has a lower rule than r around its hole, or rule r and its hole at
--- a lower place than k.
-pub record IsFirstSeam (w : Measure) (g : PlainGrammar) (a b r k n : ℕ) : Type 0 where
-  pub least : (x : Symbol) → (s : Context × Tree) → IsSeam g a b x s → n ≤ seam_size w s
-  pub lowest : (x : Symbol) → (outer : Context) → (q : ℕ) → (left right : Forest) → (u : Tree) → IsSeam g a b x (Under outer q left right, u) → seam_size w (Under outer q left right, u) ≡ n → IsAtMost r k q (count left)
+-- No seam of these two tokens is smaller than so much. Of those of that size none has a lower rule around its hole than that of
+-- the meeting, or the same rule and its hole at a lower place.
+pub record IsFirstSeam (w : Measure) (g : PlainGrammar) (a b : ℕ) (at : Meeting) (least_size : ℕ) : Type 0 where
+  pub least : (x : Symbol) → (s : Context × Tree) → IsSeam g a b x s → least_size ≤ seam_size w s
+  pub lowest : (x : Symbol) → (outer : Context) → (q : ℕ) → (left right : Forest) → (u : Tree) → IsSeam g a b x (Under outer q left right, u) → seam_size w (Under outer q left right, u) ≡ least_size → IsAtMost at.rule at.place q (count left)
 
 -- The chosen tree of two tokens: a least one, where the rule of the node at which they meet is the lowest, and then the place of
 -- the child that ends with the first; this child is chosen to end with it, those behind it are chosen to begin with the second,
 -- those before it are chosen trees, and the node stands in the chosen context of its rule's left side.
+--
+-- Of the rules 1 `e : e '*' f`, 2 `e : f`, 3 `f : NUMBER`, 4 `f : '(' e ')'` the tokens `*` and `(` have the chosen tree of
+-- `NUMBER * ( NUMBER )`. They meet at the node of rule 1, and the place is 1, that of the leaf `*`.
+--
+--        e                    the node of rule 1: its outer context is a bare hole
+--      / | \
+--     e  *  f                 left: the tree of `e`; last: the leaf `*`; right: the tree of `f`
+--     |    /|\
+--     f   ( e )
+--     |     |
+--   NUMBER  f
+--           |
+--         NUMBER
 pub record IsChosenSeam (w : Measure) (g : PlainGrammar) (a b : ℕ) (t : Tree) : Type 0 where
   pub number : ℕ
   pub rule : Production
@@ -44,7 +58,7 @@ pub record IsChosenSeam (w : Measure) (g : PlainGrammar) (a b : ℕ) (t : Tree) 
   pub left_chosen : AreChosen w g before left
   pub last_chosen : IsChosenOfKind w g (Ends a) symbol last
   pub right_chosen : AreChosenOfKind w g (Begins b) behind right
-  pub first : IsFirstSeam w g a b number (count left) (size w t)
+  pub first : IsFirstSeam w g a b (record { rule = number; place = count left }) (size w t)
   pub whole : t ≡ plug (Under outer number left right) last
 
 -- A pair with a mark has the start symbol's chosen tree of the kind: that begins with the token, ends with it, is empty.
