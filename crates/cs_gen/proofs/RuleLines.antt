@@ -9,7 +9,7 @@ use Rattle.cs_lex.specs.declared.layout.line.LineKind.TheVariants as kinds
 use Rattle.cs_lex.specs.Layout.Steps.{Walk, here, step, Spans, Covers}
 use Rattle.cs_lex.specs.Layout.Lines.{rules_kind}
 use Rattle.cs_lex.specs.Layout.Patterns.{IsPattern}
-use Rattle.cs_lex.specs.Layout.Runs.{IsRun}
+use Rattle.cs_lex.specs.Layout.Runs.{IsCodeRun}
 use Rattle.cs_lex.specs.Layout.Forms.{blanks, IsRule}
 use Rattle.cs_lex.specs.Layout.Layout.{rule_at, HasRuleAt, RulesLine, rule}
 use Rattle.cs_lex.specs.Reading.Kinds.{action_of}
@@ -30,7 +30,7 @@ pub record IsLine (x : RuleText) : Type 0 where
   pub begins : (rest : List ℕ) → rules_kind (x.pattern ++ rest) ≡ kinds.Rule
   pub covers : (rest : List ℕ) → IsPattern (x.pattern ++ 32 ∷ rest) (length x.pattern)
   pub no_blank : (rest : List ℕ) → blanks (x.action ++ 10 ∷ rest) ≡ 0
-  pub run : (rest : List ℕ) → IsRun true (x.action ++ 10 ∷ rest) (length x.action)
+  pub run : (rest : List ℕ) → IsCodeRun true (x.action ++ 10 ∷ rest) (length x.action)
 
 -- the rules have these texts
 abbrev pub HaveTexts : List ℕ → List RuleText → List Rule → Type 0
@@ -98,7 +98,7 @@ module _ (bytes : List ℕ) (at : ℕ) (x : RuleText) (rest : List ℕ) (e : dro
   form = record {
     pattern = subst (λ (t : List ℕ). IsPattern t (length x.pattern)) (sym e) (is.covers (x.action ++ (10 ∷ rest)));
     blank = ap (λ (n : ℕ). length x.pattern + n) (sym one_blank ∙ ap blanks (sym behind_pattern));
-    extent = (length x.action, subst (λ (t : List ℕ). IsRun true t (length x.action)) (sym behind_blank) (is.run rest), refl);
+    extent = (length x.action, subst (λ (t : List ℕ). IsCodeRun true t (length x.action)) (sym behind_blank) (is.run rest), refl);
     ends = ap (λ (n : ℕ). length x.pattern + 1 + length x.action + n) (sym (newline_line rest) ∙ ap line_size (sym behind_action));
   }
 

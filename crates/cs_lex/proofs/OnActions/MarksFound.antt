@@ -14,8 +14,8 @@ use Rattle.cs_ctext.proofs.LiteralValues.{same_literal}
 use Rattle.cs_bytes.specs.Places.{front}
 use Rattle.cs_lex.specs.Layout.Steps.{Walk, Spans}
 use Rattle.cs_lex.proofs.OnLayout.Walks.{units_to}
-use Rattle.cs_lex.specs.declared.actions.mark.Mark as code
-use Rattle.cs_lex.specs.Actions.Marks.{Mark, skip, literal, is_name, IsSpelled, named, IsMark, skips, gives, mark_blanks, mark_text, BeginsMark, IsUnmarked, HasMark, HasNoMark}
+use Rattle.cs_lex.specs.declared.actions.mark.ActionMark as code
+use Rattle.cs_lex.specs.Actions.Marks.{ActionMark, skip, literal, is_name, IsSpelled, named, IsMark, skips, gives, mark_blanks, mark_text, BeginsMark, IsUnmarked, HasMark, HasNoMark}
 use Rattle.cs_lex.specs.Actions.Marks as spec
 use Rattle.cs_lex.specs.Actions.MarkViews.{FindsSpelled, FindsIn, FindsFront}
 
@@ -27,7 +27,7 @@ minus_zero n = omega arith
 pub other_size : (text : List ℕ) (b size : ℕ) → IsLiteral text b size → size ≢ length text → (c : ℕ) → ¬ IsLiteral text c (length text)
 other_size text b size is ne c it = ne ((same_literal text b c size (length text) is it).1)
 
-pub not_spelled : (text : List ℕ) → is_name text ≡ false → ((b : ℕ) → ¬ IsLiteral text b (length text)) → (m : Mark) → ¬ IsSpelled text m
+pub not_spelled : (text : List ℕ) → is_name text ≡ false → ((b : ℕ) → ¬ IsLiteral text b (length text)) → (m : ActionMark) → ¬ IsSpelled text m
 not_spelled text e none m (named h f) = false≢true (sym e ∙ h)
 not_spelled text e none m (spec.IsSpelled.quoted b is f) = none b is
 
@@ -37,7 +37,7 @@ literal_spelled text b is = spec.IsSpelled.quoted b is refl
 same_bytes : (xs ys : List ℕ) → bytes_eq xs ys ≡ true → xs ≡ ys
 same_bytes xs ys e = (bytes_eq-Decides xs ys).0 e
 
-pub given_found : (comment inside rest text : List ℕ) (blanks : ℕ) (found : Option code.Mark) → bytes_eq comment (codes "/*@skip*/") ≡ false → bytes_eq (take 8 comment) (codes "/*@token") ≡ true → inside ≡ drop 8 comment → blanks ≡ mark_blanks comment → blanks ≢ 0
+pub given_found : (comment inside rest text : List ℕ) (blanks : ℕ) (found : Option code.ActionMark) → bytes_eq comment (codes "/*@skip*/") ≡ false → bytes_eq (take 8 comment) (codes "/*@token") ≡ true → inside ≡ drop 8 comment → blanks ≡ mark_blanks comment → blanks ≢ 0
     → rest ≡ drop blanks inside → text ≡ take (length rest - 2) rest → FindsSpelled text found → FindsIn comment found
 given_found whole inside rest text blanks found no_skip token i b some r t h = by_found found (subst (λ (x : List ℕ). FindsSpelled x found) is_text h)
   where
@@ -47,11 +47,11 @@ given_found whole inside rest text blanks found no_skip token i b some r t h = b
     is_text : text ≡ mark_text whole
     is_text = t ∙ ap (λ (x : List ℕ). take (length x - 2) x) is_rest
 
-    by_found : (f : Option code.Mark) → FindsSpelled (mark_text whole) f → FindsIn whole f
+    by_found : (f : Option code.ActionMark) → FindsSpelled (mark_text whole) f → FindsIn whole f
     by_found (Some m) g = gives (same_bytes (take 8 whole) (codes "/*@token") token) (omega (arith, b)) g
     by_found None g = none
       where
-        none : (m : Mark) → ¬ IsMark whole m
+        none : (m : ActionMark) → ¬ IsMark whole m
         none m (skips e f) = false≢true (sym no_skip ∙ (bytes_eq-Decides whole (codes "/*@skip*/")).1 e)
         none m (gives e lt s) = g m s
 
@@ -61,22 +61,22 @@ same_comment text n m c d =
     let f : comment_size text ≡ Some m = comment_size-comment text m d in
     cc
 
-pub no_mark_open : (text : List ℕ) → ((n : ℕ) → ¬ IsComment text n) → (m : Mark) → ¬ BeginsMark text m
+pub no_mark_open : (text : List ℕ) → ((n : ℕ) → ¬ IsComment text n) → (m : ActionMark) → ¬ BeginsMark text m
 no_mark_open text none m h = none h.0 h.1
 
-pub front_found : (text comment : List ℕ) (size : ℕ) (found : Option code.Mark) → IsComment text (size - 0) → comment ≡ take size text → FindsIn comment found → FindsFront text found
+pub front_found : (text comment : List ℕ) (size : ℕ) (found : Option code.ActionMark) → IsComment text (size - 0) → comment ≡ take size text → FindsIn comment found → FindsFront text found
 front_found text whole size found c e h = by_found found (subst (λ (x : List ℕ). FindsIn x found) e h)
   where
     here : IsComment text size
     here = rw (minus_zero size) at c
 
-    by_found : (f : Option code.Mark) → FindsIn (take size text) f → FindsFront text f
+    by_found : (f : Option code.ActionMark) → FindsIn (take size text) f → FindsFront text f
     by_found (Some m) g = (size, here, g)
     by_found None g = λ m b. g m (subst (λ (k : ℕ). IsMark (take k text) m) (same_comment text b.0 size b.1 here) b.2)
 
 -- ---- the first mark
 
-pub first_is : (text rest : List ℕ) (at : ℕ) (m : Mark) → Walk (Spans IsUnmarked text) 0 at → rest ≡ drop at text → BeginsMark rest m → HasMark text m
+pub first_is : (text rest : List ℕ) (at : ℕ) (m : ActionMark) → Walk (Spans IsUnmarked text) 0 at → rest ≡ drop at text → BeginsMark rest m → HasMark text m
 first_is text rest at m units e h = (at, record { units = units; rest = subst (λ (t : List ℕ). BeginsMark t m) e h })
 
 pub none_open : (text rest : List ℕ) (at : ℕ) → Walk (Spans IsUnmarked text) 0 at → rest ≡ drop at text → IsOpenComment rest → HasNoMark text
@@ -89,6 +89,6 @@ no_special : (text : List ℕ) → front (λ b. false) text ≡ false
 no_special [] = refl
 no_special (b ∷ text) = refl
 
-pub unmarked_to : (text again : List ℕ) (at to : ℕ) → Walk (Spans IsUnmarked text) 0 at → again ≡ drop at text → ((m : Mark) → ¬ BeginsMark again m) → at < to → BeginsPart (drop at text) (to - at) → Walk (Spans IsUnmarked text) 0 to
+pub unmarked_to : (text again : List ℕ) (at to : ℕ) → Walk (Spans IsUnmarked text) 0 at → again ≡ drop at text → ((m : ActionMark) → ¬ BeginsMark again m) → at < to → BeginsPart (drop at text) (to - at) → Walk (Spans IsUnmarked text) 0 to
 unmarked_to text again at to units e none lt p =
-    units_to IsUnmarked text at to units lt (p (λ b. false) (no_special (drop at text)), subst (λ (t : List ℕ). (m : Mark) → ¬ BeginsMark t m) e none)
+    units_to IsUnmarked text at to units lt (p (λ b. false) (no_special (drop at text)), subst (λ (t : List ℕ). (m : ActionMark) → ¬ BeginsMark t m) e none)

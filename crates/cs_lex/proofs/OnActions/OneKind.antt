@@ -12,7 +12,7 @@ use Rattle.cs_ctext.proofs.PartSizes.{part_size-part, part_size-open, opens-comm
 use Rattle.cs_ctext.proofs.WordLists.{words_of-words}
 use Rattle.cs_lex.proofs.OnLayout.Extents.{nothing_opens, part_of_nothing}
 use Rattle.cs_lex.proofs.OnLayout.Walks.{AreUnique, covers_same, covers_apart}
-use Rattle.cs_lex.specs.Actions.Marks.{Mark, is_name, IsSpelled, named, quoted, IsMark, skips, gives, mark_text, BeginsMark, IsUnmarked, HasMark, HasNoMark}
+use Rattle.cs_lex.specs.Actions.Marks.{ActionMark, is_name, IsSpelled, named, quoted, IsMark, skips, gives, mark_text, BeginsMark, IsUnmarked, HasMark, HasNoMark}
 use Rattle.cs_lex.specs.Actions.Marks as marks
 use Rattle.cs_lex.specs.Actions.Returns.{Returns}
 use Rattle.cs_lex.specs.Actions.Laws.{HasOneKind}
@@ -28,7 +28,7 @@ name_no_literal (c ∷ text) b n e is =
     let first : c ≡ 39 = ap (λ (t : List ℕ). get_or t 0 0) is.spelled in
     false≢true (subst (λ (x : ℕ). is_name (x ∷ text) ≡ true) first e)
 
-spelled_same : (text : List ℕ) (m n : Mark) → IsSpelled text m → IsSpelled text n → m ≡ n
+spelled_same : (text : List ℕ) (m n : ActionMark) → IsSpelled text m → IsSpelled text n → m ≡ n
 spelled_same text m n (named e p) (named f q) = p ∙ sym q
 spelled_same text m n (named e p) (quoted b is q) = absurd (name_no_literal text b (length text) e is)
 spelled_same text m n (quoted b is p) (named f q) = absurd (name_no_literal text b (length text) f is)
@@ -40,13 +40,13 @@ skip_gives_none comment e f =
     let second : get_or (take 8 comment) 3 0 ≡ 116 = ap (λ (t : List ℕ). get_or t 3 0) f in
     omega (arith, first, second)
 
-mark_same : (comment : List ℕ) (m n : Mark) → IsMark comment m → IsMark comment n → m ≡ n
+mark_same : (comment : List ℕ) (m n : ActionMark) → IsMark comment m → IsMark comment n → m ≡ n
 mark_same comment m n (skips e p) (skips f q) = p ∙ sym q
 mark_same comment m n (skips e p) (gives f lt s) = absurd (skip_gives_none comment e f)
 mark_same comment m n (gives e lt s) (skips f q) = absurd (skip_gives_none comment f e)
 mark_same comment m n (gives e lt s) (gives f gt t) = spelled_same (mark_text comment) m n s t
 
-begins_same : (text : List ℕ) (m n : Mark) → BeginsMark text m → BeginsMark text n → m ≡ n
+begins_same : (text : List ℕ) (m n : ActionMark) → BeginsMark text m → BeginsMark text n → m ≡ n
 begins_same text m n x y =
     mark_same (take x.0 text) m n x.2 (subst (λ (k : ℕ). IsMark (take k text) n) (same_comment text y.0 x.0 y.1 x.1) y.2)
 
@@ -56,7 +56,7 @@ unmarked_unique text n m x y =
     let f : part_size text ≡ Some m = part_size-part (λ b. false) y.0 in
     cc
 
-first_mark_same : (text : List ℕ) (m n : Mark) → HasMark text m → HasMark text n → m ≡ n
+first_mark_same : (text : List ℕ) (m n : ActionMark) → HasMark text m → HasMark text n → m ≡ n
 first_mark_same text m n x y =
     let same : y.0 ≡ x.0 = covers_same IsUnmarked (λ rest. BeginsMark rest n) (λ rest. BeginsMark rest m) unmarked_unique (λ t k b u. u.1 n b) (λ t k b u. u.1 m b) text y.0 x.0 y.1 x.1 in
     begins_same (drop x.0 text) m n x.1.rest (subst (λ (k : ℕ). BeginsMark (drop k text) n) same y.1.rest)
@@ -76,11 +76,11 @@ ends_unmarked : (rest : List ℕ) (n : ℕ) → (rest ≡ []) ⊎ IsOpenComment 
 ends_unmarked rest n (inl e) u = nothing_unmarked rest n e u
 ends_unmarked rest n (inr o) u = open_unmarked rest n o u
 
-mark_apart : (m : Mark) (rest : List ℕ) → BeginsMark rest m → (rest ≡ []) ⊎ IsOpenComment rest → ⊥
+mark_apart : (m : ActionMark) (rest : List ℕ) → BeginsMark rest m → (rest ≡ []) ⊎ IsOpenComment rest → ⊥
 mark_apart m rest b (inl e) = nothing_opens (subst OpensComment e (opens-comment rest b.0 b.1))
 mark_apart m rest b (inr o) = o.1 b.0 b.1
 
-marked_or_not : (text : List ℕ) (m : Mark) → HasMark text m → HasNoMark text → ⊥
+marked_or_not : (text : List ℕ) (m : ActionMark) → HasMark text m → HasNoMark text → ⊥
 marked_or_not text m x y =
     covers_apart IsUnmarked (λ rest. BeginsMark rest m) (λ rest. (rest ≡ []) ⊎ IsOpenComment rest) unmarked_unique (λ t k b u. u.1 m b) ends_unmarked (mark_apart m) text x.0 y.0 x.1 y.1
 

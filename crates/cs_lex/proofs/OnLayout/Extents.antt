@@ -15,7 +15,7 @@ use Rattle.cs_lex.specs.declared.layout.unit.UnitKind.TheVariants.{Escape, Quote
 use Rattle.cs_bytes.specs.Places.{front_or_end}
 use Rattle.cs_bytes.specs.Classes.{is_space, is_newline, is_dashed_word_byte}
 use Rattle.cs_lex.specs.Layout.Patterns.{IsQuotedText, IsBracket, unit_kind, ClosedOrLine, UnitOf, IsUnit, IsPattern}
-use Rattle.cs_lex.specs.Layout.Runs.{ends_part, IsPiece, part, block, IsOpen, open_comment, open_brace, IsRun, IsOpenRun}
+use Rattle.cs_lex.specs.Layout.Runs.{ends_part, IsPiece, part, block, IsOpen, open_comment, open_brace, IsCodeRun, IsOpenRun}
 use Rattle.cs_lex.specs.Layout.Forms.{blanks, IsTail, IsNoDefinition}
 use Rattle.cs_lex.proofs.OnLayout.Walks.{AreUnique, StopsBefore, covers_same, covers_apart}
 use Rattle.cs_lex.proofs.OnLayout.Units.{quoted_same, bracket_same}
@@ -121,13 +121,13 @@ closed_apart : (braces : Bool) (text : List ℕ) → IsTrue (front_or_end is_new
 closed_apart braces text e (open_comment h) = newline_no_slash text e h.0
 closed_apart braces text e (open_brace t b none) = newline_no_brace text e b
 
-pub run_same : (braces : Bool) (text : List ℕ) (n m : ℕ) → IsRun braces text n → IsRun braces text m → n ≡ m
+pub run_same : (braces : Bool) (text : List ℕ) (n m : ℕ) → IsCodeRun braces text n → IsCodeRun braces text m → n ≡ m
 run_same braces = covers_same (IsPiece braces) (λ rest. IsTrue (front_or_end is_newline rest)) (λ rest. IsTrue (front_or_end is_newline rest)) (piece_unique braces) (newline_ends braces) (newline_ends braces)
 
 pub open_run_same : (braces : Bool) (text : List ℕ) (n m : ℕ) → IsOpenRun braces text n → IsOpenRun braces text m → n ≡ m
 open_run_same braces = covers_same (IsPiece braces) (IsOpen braces) (IsOpen braces) (piece_unique braces) (open_ends braces) (open_ends braces)
 
-pub run_not_open : (braces : Bool) (text : List ℕ) (n m : ℕ) → IsRun braces text n → IsOpenRun braces text m → ⊥
+pub run_not_open : (braces : Bool) (text : List ℕ) (n m : ℕ) → IsCodeRun braces text n → IsOpenRun braces text m → ⊥
 run_not_open braces = covers_apart (IsPiece braces) (λ rest. IsTrue (front_or_end is_newline rest)) (IsOpen braces) (piece_unique braces) (newline_ends braces) (open_ends braces) (closed_apart braces)
 
 -- ---- definitions

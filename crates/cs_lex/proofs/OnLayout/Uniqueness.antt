@@ -11,7 +11,7 @@ use Rattle.cs_lex.specs.Layout.Steps.{Walk}
 use Rattle.cs_bytes.specs.Places.{line_size}
 use Rattle.cs_lex.specs.Layout.Lines.{rules_kind}
 use Rattle.cs_lex.specs.Layout.Patterns.{IsPattern}
-use Rattle.cs_lex.specs.Layout.Runs.{IsRun, IsOpenRun}
+use Rattle.cs_lex.specs.Layout.Runs.{IsCodeRun, IsOpenRun}
 use Rattle.cs_lex.specs.Layout.Forms.{blanks, IsCodeBlock, IsLoose, IsRule, IsOpenRule}
 use Rattle.cs_lex.specs.Layout.Layout as spec
 use Rattle.cs_lex.specs.Layout.Layout.{DefinitionsPlace, DefinitionsLine, no_definitions, HasDefinitions, RulesPlace, HasRuleAt, IsPassedRule, RulesLine, no_rules, HasRules, HasLayout, DefinitionsFault, RulesFault, StopsWith, in_definitions, in_rules}
@@ -25,7 +25,7 @@ rules_same : (bytes : List ℕ) (at : ℕ) (r q : Rule) (b d : ℕ) → HasRuleA
 rules_same bytes at r q b d x y =
     let p : x.pattern_to ≡ y.pattern_to = pattern_same (drop at bytes) x.pattern_to y.pattern_to x.form.pattern y.form.pattern in
     let f : x.from ≡ y.from = x.form.blank ∙ (ap (λ (k : ℕ). k + blanks (drop k (drop at bytes))) p ∙ sym y.form.blank) in
-    let size : x.form.extent.0 ≡ y.form.extent.0 = run_same true (drop y.from (drop at bytes)) x.form.extent.0 y.form.extent.0 (subst (λ (k : ℕ). IsRun true (drop k (drop at bytes)) x.form.extent.0) f x.form.extent.1) y.form.extent.1 in
+    let size : x.form.extent.0 ≡ y.form.extent.0 = run_same true (drop y.from (drop at bytes)) x.form.extent.0 y.form.extent.0 (subst (λ (k : ℕ). IsCodeRun true (drop k (drop at bytes)) x.form.extent.0) f x.form.extent.1) y.form.extent.1 in
     let t : x.to ≡ y.to = omega (arith, x.form.extent.2, y.form.extent.2, f, size) in
     let s : x.size ≡ y.size = x.form.ends ∙ (ap (λ (k : ℕ). k + line_size (drop k (drop at bytes))) t ∙ sym y.form.ends) in
     (x.is ∙ (rw (p, f, t) refl ∙ sym y.is), omega (arith, x.behind_is, y.behind_is, s))

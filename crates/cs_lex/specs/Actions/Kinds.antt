@@ -9,7 +9,7 @@ use Rattle.cs_ctext.specs.Words.{HasWords}
 use Rattle.cs_lex.specs.Actions.Gaps.{IsSign, IsGap}
 use Rattle.cs_lex.specs.Actions.Returns.{Named, Returns}
 use Rattle.cs_lex.specs.Actions.Returns as named
-use Rattle.cs_lex.specs.Actions.Marks.{Mark, HasMark, HasNoMark}
+use Rattle.cs_lex.specs.Actions.Marks.{ActionMark, HasMark, HasNoMark}
 use Rattle.cs_lex.specs.Actions.Marks as marks
 
 -- What an action gives: the kind of the next rule, nothing, the token of a word or of a byte where it is in use, the token of
@@ -27,7 +27,7 @@ of_named (named.word w) = word w
 of_named (named.literal b) = literal b
 of_named named.own_byte = own_byte
 
-abbrev pub of_mark : Mark → ActionKind
+abbrev pub of_mark : ActionMark → ActionKind
 of_mark marks.skip = skip
 of_mark (marks.word w) = word w
 of_mark (marks.literal b) = literal b
@@ -64,5 +64,5 @@ pub data IsKindByWords (text : List ℕ) (ws : List Word) (k : ActionKind) : Typ
 -- The kind of an action: the first row that applies.
 pub data IsKind (text : List ℕ) (k : ActionKind) : Type 0 where
   is_bar : IsBar text → k ≡ bar → IsKind text k
-  is_marked : (m : Mark) → ¬ IsBar text → HasMark text m → k ≡ of_mark m → IsKind text k
+  is_marked : (m : ActionMark) → ¬ IsBar text → HasMark text m → k ≡ of_mark m → IsKind text k
   by_words : (ws : List Word) → ¬ IsBar text → HasNoMark text → HasWords 0 text ws → IsKindByWords text ws k → IsKind text k

@@ -8,7 +8,7 @@ use Rattle.cs_lex.specs.Layout.Steps.{Covers, HasSize}
 use Rattle.cs_bytes.specs.Classes.{is_blank, is_dashed_word_byte}
 use Rattle.cs_bytes.specs.Places.{front, line_len, line_size}
 use Rattle.cs_lex.specs.Layout.Patterns.{IsPattern}
-use Rattle.cs_lex.specs.Layout.Runs.{IsRun, IsOpenRun}
+use Rattle.cs_lex.specs.Layout.Runs.{IsCodeRun, IsOpenRun}
 use Rattle.cs_lex.specs.Layout.Lines.{option_size, is_option_byte}
 
 -- how many blanks begin the text
@@ -45,7 +45,7 @@ IsFirstUnknown text n = Covers (HasSize option_size) (λ rest. IsTrue (front is_
 -- loose text goes to the end of its last line
 pub record IsLoose (text : List ℕ) (size : ℕ) : Type 0 where
   pub inside : ℕ
-  pub run : IsRun false text inside
+  pub run : IsCodeRun false text inside
   pub ends : size ≡ inside + line_size (drop inside text)
 
 -- nothing is left of a line, or one comment that is closed on it, with blanks behind
@@ -72,7 +72,7 @@ IsNoDefinition line = (name_to from to : ℕ) → ¬ IsDefinition line name_to f
 pub record IsRule (text : List ℕ) (pattern_to from to size : ℕ) : Type 0 where
   pub pattern : IsPattern text pattern_to
   pub blank : from ≡ pattern_to + blanks (drop pattern_to text)
-  pub extent : (n : ℕ) × IsRun true (drop from text) n × (to ≡ from + n)
+  pub extent : (n : ℕ) × IsCodeRun true (drop from text) n × (to ≡ from + n)
   pub ends : size ≡ to + line_size (drop to text)
 
 -- A rule begins the text, and a comment or brace of its action that isn't closed stands behind n bytes.

@@ -7,7 +7,7 @@ use Rattle.cs_lex.specs.declared.layout.run.Run.TheVariants.{To, Open}
 use Rattle.cs_lex.specs.declared.layout.forms.RuleLine.{RuleLine}
 use Rattle.cs_lex.specs.declared.layout.forms.RuleLine.TheVariants as lines
 use Rattle.cs_bytes.specs.Places.{line_len}
-use Rattle.cs_lex.specs.Layout.Runs.{IsRun, IsOpenRun}
+use Rattle.cs_lex.specs.Layout.Runs.{IsCodeRun, IsOpenRun}
 use Rattle.cs_lex.specs.Layout.Forms.{IsLoose, IsRule, IsOpenRule}
 
 abbrev pub closed_or_line : Option ℕ → List ℕ → ℕ
@@ -15,7 +15,7 @@ closed_or_line (Some size) text = size
 closed_or_line None text = line_len text
 
 abbrev pub FindsRun : Bool → List ℕ → Run → Type 0
-FindsRun braces text (To n) = IsRun braces text n × (n ≤ length text)
+FindsRun braces text (To n) = IsCodeRun braces text n × (n ≤ length text)
 FindsRun braces text (Open n) = IsOpenRun braces text n × (n < length text)
 
 abbrev pub FindsLoose : List ℕ → Run → Type 0

@@ -19,8 +19,8 @@ pub data IsPiece (braces : Bool) (text : List ℕ) (size : ℕ) : Type 0 where
   block : IsTrue braces → IsBlock text size → IsPiece braces text size
 
 -- The run goes to the first newline outside comments, closed quoted constructs and blocks, or to the end.
-abbrev pub IsRun : Bool → List ℕ → ℕ → Type 0
-IsRun braces text n = Covers (IsPiece braces) (λ rest. IsTrue (front_or_end is_newline rest)) text n
+abbrev pub IsCodeRun : Bool → List ℕ → ℕ → Type 0
+IsCodeRun braces text n = Covers (IsPiece braces) (λ rest. IsTrue (front_or_end is_newline rest)) text n
 
 -- A comment or, where braces count, a brace opens there and isn't closed.
 pub data IsOpen (braces : Bool) (text : List ℕ) : Type 0 where

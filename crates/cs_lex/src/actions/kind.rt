@@ -6,7 +6,7 @@ ghost use Rattle.cs_lex.specs.Actions.Views.{named_of, kind_of, HasKindByWords};
 ghost use Rattle.cs_lex.specs.Actions.MarkViews.{mark_of};
 
 use crate::actions::gap::gap_size;
-use crate::actions::mark::{Mark, first_mark};
+use crate::actions::mark::{ActionMark, first_mark};
 use crate::actions::named::Named;
 use crate::actions::returns::returned;
 use crate::actions::sign::sign_size;
@@ -52,13 +52,13 @@ fn of_named(named: Named<'_>) -> ActionKind<'_>
     }
 }
 
-fn of_mark(mark: Mark<'_>) -> ActionKind<'_>
+fn of_mark(mark: ActionMark<'_>) -> ActionKind<'_>
     ensures { kind_of result ≡ spec.of_mark (mark_of mark.entry) }
 {
     match mark {
-        Mark::Skip => ActionKind::Skip,
-        Mark::Word(word) => ActionKind::Word(word),
-        Mark::Literal(byte) => ActionKind::Literal(byte),
+        ActionMark::Skip => ActionKind::Skip,
+        ActionMark::Word(word) => ActionKind::Word(word),
+        ActionMark::Literal(byte) => ActionKind::Literal(byte),
     }
 }
 

@@ -12,7 +12,7 @@ use cs_ctext::{CText, skip_comment};
 
 /// What a mark says.
 #[derive(Clone, Copy, Debug)]
-pub(crate) enum Mark<'a> {
+pub(crate) enum ActionMark<'a> {
     Skip,
     Word(&'a [u8]),
     Literal(u8),
@@ -44,22 +44,22 @@ fn literal_of(text: &[u8]) -> Option<u8>
 }
 
 /// The name or literal that fills the text.
-fn spelled(text: &[u8]) -> Option<Mark<'_>>
+fn spelled(text: &[u8]) -> Option<ActionMark<'_>>
     ensures { FindsSpelled text.now result }
 {
     if is_name(text) {
-        return Some(Mark::Word(text));
+        return Some(ActionMark::Word(text));
     }
     let byte = literal_of(text)?;
-    Some(Mark::Literal(byte))
+    Some(ActionMark::Literal(byte))
 }
 
 /// What the comment says, where it is a mark.
-fn mark_of(comment: &[u8]) -> Option<Mark<'_>>
+fn mark_of(comment: &[u8]) -> Option<ActionMark<'_>>
     ensures { FindsIn comment.now result }
 {
     if same_bytes(comment, b"/*@skip*/") {
-        return Some(Mark::Skip);
+        return Some(ActionMark::Skip);
     }
     if !begins_with(comment, b"/*@token") {
         return None;
@@ -74,7 +74,7 @@ fn mark_of(comment: &[u8]) -> Option<Mark<'_>>
 }
 
 /// The mark in front of the text.
-fn mark_at(text: &[u8]) -> Option<Mark<'_>>
+fn mark_at(text: &[u8]) -> Option<ActionMark<'_>>
     ensures { FindsFront text.now result }
 {
     let size = skip_comment(text, 0)?;
@@ -82,7 +82,7 @@ fn mark_at(text: &[u8]) -> Option<Mark<'_>>
 }
 
 /// The first mark of the text. A comment that isn't closed takes the rest.
-pub(crate) fn first_mark(text: &[u8]) -> Option<Mark<'_>>
+pub(crate) fn first_mark(text: &[u8]) -> Option<ActionMark<'_>>
     ensures { FindsMark text.now result }
 {
     let mut walk = CText::new(text);
