@@ -7,7 +7,7 @@ use Rattle.std.proofs.lemmas.List.{append-nil, drop-drop, drop_at, drop_more, dr
 use Rattle.cs_scanner.specs.Lexeme.Lexeme.{lexeme_in}
 use Rattle.cs_texts.specs.Rendering.Joined.{joined}
 use Rattle.cs_texts.specs.Rendering.Rendering.{IsRuleText}
-use Rattle.cs_texts.specs.declared.splice.marks.Mark.{Mark}
+use Rattle.cs_texts.specs.declared.splice.marks.TextMark.{TextMark}
 use Rattle.cs_texts.specs.Splice.Marks.{AreAlignedUpTo, IsAligned, IsDue}
 use Rattle.cs_texts.proofs.OnRendering.Pieces.{at_first, at_next}
 
@@ -114,7 +114,7 @@ module _ (lexemes : List (Option (List ℕ))) (sep : List ℕ) where
   split : (tokens text : List ℕ) (i at : ℕ) → i < length tokens → Rule (drop i tokens) (drop at text) → Rule (slice_index tokens i ∷ drop (i + 1) tokens) (drop at text)
   split tokens text i at within rule = subst (λ t. Rule t (drop at text)) (drop_more tokens i 0 within) rule
 
-  pub aligned_here : (tokens text lexeme : List ℕ) (i at : ℕ) (mark : Mark) → i < length tokens → IsDue lexemes sep tokens text i at → Has (slice_index tokens i) lexeme → mark.start ≡ at → mark.end ≡ at + length lexeme → IsAligned lexemes sep tokens text i mark
+  pub aligned_here : (tokens text lexeme : List ℕ) (i at : ℕ) (mark : TextMark) → i < length tokens → IsDue lexemes sep tokens text i at → Has (slice_index tokens i) lexeme → mark.start ≡ at → mark.end ≡ at + length lexeme → IsAligned lexemes sep tokens text i mark
   aligned_here tokens text lexeme i at mark within due has start end =
       let later = begins (slice_index tokens i) (drop (i + 1) tokens) (drop at text) lexeme has (split tokens text i at within due.back) in
       let cut = taken text lexeme later.0 at due.within later.1 in
@@ -136,7 +136,7 @@ module _ (lexemes : List (Option (List ℕ))) (sep : List ℕ) where
         back = subst (λ t. Rule (drop (i + 1) tokens) t) (sym cut.1) later.2;
       })
 
-  pub aligned_more : (tokens text : List ℕ) (marks : List Mark) (i : ℕ) (mark : Mark) → AreAlignedUpTo lexemes sep tokens text marks i → slice_get marks i ≡ Some mark → IsAligned lexemes sep tokens text i mark → AreAlignedUpTo lexemes sep tokens text marks (i + 1)
+  pub aligned_more : (tokens text : List ℕ) (marks : List TextMark) (i : ℕ) (mark : TextMark) → AreAlignedUpTo lexemes sep tokens text marks i → slice_get marks i ≡ Some mark → IsAligned lexemes sep tokens text i mark → AreAlignedUpTo lexemes sep tokens text marks (i + 1)
   aligned_more tokens text marks i mark all at here k other lt there =
       elim (cases_lt k i) [
         | inl below ↦ all k other below there

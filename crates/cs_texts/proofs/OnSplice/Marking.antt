@@ -5,7 +5,7 @@ use Rattle.std.proofs.lemmas.List.{append-nil, drop-drop, drop-take, take-append
 use Rattle.cs_scanner.specs.Scan.Scan.{Scanning, Gives}
 use Rattle.cs_scanner.specs.Scan.Going.{IsBegunBy}
 use Rattle.cs_scanner.proofs.OnScan.Together.{begun_more, tail_is}
-use Rattle.cs_texts.specs.declared.splice.marks.Mark.{Mark}
+use Rattle.cs_texts.specs.declared.splice.marks.TextMark.{TextMark}
 use Rattle.cs_texts.specs.declared.splice.step.Step.{Step}
 use Rattle.cs_texts.specs.Splice.Settled.{IsFurther, IsPassed, IsSettledBy, IsStep, tokens_of}
 use Rattle.cs_texts.specs.Splice.Marks.{AreMarks, IsFront, IsMark}
@@ -66,6 +66,6 @@ module _ (s : Scanning) (text : List ℕ) where
   front_still first at read more step front taken further none =
       subst (λ (ts : List ℕ). IsFront s text ts (at + step.size) more) (ap (λ (ts : List ℕ). first ++ ts) none ∙ append-nil first) (front_next first at read more step front taken further)
 
-  pub marks_more : (tokens : List ℕ) (marks : List Mark) (mark : Mark) → AreMarks s text tokens marks → IsMark s text tokens (length marks) mark → AreMarks s text tokens (marks ++ mark ∷ [])
+  pub marks_more : (tokens : List ℕ) (marks : List TextMark) (mark : TextMark) → AreMarks s text tokens marks → IsMark s text tokens (length marks) mark → AreMarks s text tokens (marks ++ mark ∷ [])
   marks_more tokens marks mark all here k other e =
       elim (pushed marks mark other k e) [ inl there ↦ all k other there | inr last ↦ subst (λ m. IsMark s text tokens k m) last.1 (subst (λ i. IsMark s text tokens i mark) (sym last.0) here) ]

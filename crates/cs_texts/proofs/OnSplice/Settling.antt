@@ -8,7 +8,7 @@ use Rattle.cs_scanner.specs.Automaton.Machine.{MatchesRule, IsBegun}
 use Rattle.cs_scanner.specs.Scan.Scan.{Scanning, IsLongest, IsMatch, Gives, given}
 use Rattle.cs_scanner.specs.Scan.Best.{IsBest}
 use Rattle.cs_scanner.proofs.OnScan.Matching.{best_stops}
-use Rattle.cs_texts.specs.declared.splice.step.Given.{Given}
+use Rattle.cs_texts.specs.declared.splice.step.GivenToken.{GivenToken}
 use Rattle.cs_texts.specs.declared.splice.step.Look.{Look}
 use Rattle.cs_texts.specs.Splice.Settled.{IsLook, IsSettledBy, IsStep, tokens_of}
 
@@ -73,7 +73,7 @@ gives_settled s text rule size n kind tokens at gives settled = (
 )
 
 -- the match that an automaton found, and what its kind gives
-pub step_made : (s : Scanning) (text : List ℕ) (look : Look) (rule size : ℕ) (kind : Kind) (g : Given) → look.found ≡ Some (rule, size) → IsLook s.patterns text look → slice_get s.kinds (rule - 1) ≡ Some kind → ((t : List ℕ) → get_or t 0 0 ≡ get_or text 0 0 → given s.literals kind t ≡ Some (tokens_of g)) → IsStep s text (record { size = size; given = g; read = look.read })
+pub step_made : (s : Scanning) (text : List ℕ) (look : Look) (rule size : ℕ) (kind : Kind) (g : GivenToken) → look.found ≡ Some (rule, size) → IsLook s.patterns text look → slice_get s.kinds (rule - 1) ≡ Some kind → ((t : List ℕ) → get_or t 0 0 ≡ get_or text 0 0 → given s.literals kind t ≡ Some (tokens_of g)) → IsStep s text (record { size = size; given = g; read = look.read })
 step_made s text look rule size kind g found made at gives =
     record {
       gives = record { rule = rule; kind = kind; is_match = subst (λ o. IsLongest s.patterns text o) found made.longest; at = at; gives = gives text refl };

@@ -13,7 +13,7 @@ use Rattle.cs_scanner.proofs.OnScan.Together.{begun_more, tail_is}
 use Rattle.cs_scanner.specs.Lexeme.Lexeme.{lexeme_in}
 use Rattle.cs_texts.specs.Rendering.Rendering.{IsRuleText}
 use Rattle.cs_texts.specs.Splice.Apart.{IsApart, IsPassedBefore, IsTakenFirst, MarkApart, ScanBack, StandsApart}
-use Rattle.cs_texts.specs.declared.splice.step.Given.TheVariants as variants
+use Rattle.cs_texts.specs.declared.splice.step.GivenToken.TheVariants as variants
 use Rattle.cs_texts.specs.declared.splice.step.Step.{Step}
 use Rattle.cs_texts.specs.Splice.Near.{Near}
 use Rattle.cs_texts.specs.Splice.Settled.{IsSettledBy, IsStep, tokens_of}

@@ -7,7 +7,7 @@ use Rattle.cs_scanner.specs.Scan.Scan.{Scanning, Runs, ends}
 use Rattle.cs_scanner.specs.Scan.Going.{IsBegunBy}
 use Rattle.cs_scanner.proofs.OnScan.Together.{begun_none}
 use Rattle.cs_texts.specs.Rendering.Rendering.{IsRuleText}
-use Rattle.cs_texts.specs.declared.splice.marks.Mark.{Mark}
+use Rattle.cs_texts.specs.declared.splice.marks.TextMark.{TextMark}
 use Rattle.cs_texts.specs.declared.splice.marked.Marked.{Marked}
 use Rattle.cs_texts.specs.Splice.Lists.{IsSameBack, IsSameFront}
 use Rattle.cs_texts.specs.Splice.Marks.{IsMark}
@@ -50,7 +50,7 @@ module _ (text put rest : List ℕ) (e m : ℕ) (within : e + m ≤ length text)
       take_two t e m ∙ ap (λ f. f ++ take m (drop e t)) first ∙ ap (λ f. take e text ++ f) second ∙ sym (take_two text e m)
 
 -- what a mark's number of bytes is within
-pub read_within : (s : Scanning) (text tokens : List ℕ) (k n : ℕ) (mark : Mark) → IsMark s text tokens k mark → mark.read ≡ Some n → (mark.end ≤ n) × IsSettledBy text (IsPassed s (take (k + 1) tokens) mark.end) n
+pub read_within : (s : Scanning) (text tokens : List ℕ) (k n : ℕ) (mark : TextMark) → IsMark s text tokens k mark → mark.read ≡ Some n → (mark.end ≤ n) × IsSettledBy text (IsPassed s (take (k + 1) tokens) mark.end) n
 read_within s text tokens k n mark is read =
     let P : Option ℕ → Type 0 = λ o. IfSome o (λ i. (mark.end ≤ i) × IsSettledBy text (IsPassed s (take (k + 1) tokens) mark.end) i) in
     subst P read is.ends.settled
@@ -62,7 +62,7 @@ module _ (p : Marked) where
       let made : F 0 [] = record { rule = nil_rule p.lexemes.now p.separator.now; passes = λ rest. begun_none (scanning p.scanner.now) (put ++ rest) } in
       subst (λ n. F n front) (sym none) (subst (λ f. F 0 f) (sym is) made)
 
-  pub front_some : (count n : ℕ) (put front : List ℕ) (mark : Mark) → 0 < count → IsMarkAt p (count - 1) mark → mark.read ≡ Some n → take (n - mark.end) put ≡ take (n - mark.end) (drop mark.end p.text.items) → front ≡ take mark.end p.text.items → IsFrontFor p count put front
+  pub front_some : (count n : ℕ) (put front : List ℕ) (mark : TextMark) → 0 < count → IsMarkAt p (count - 1) mark → mark.read ≡ Some n → take (n - mark.end) put ≡ take (n - mark.end) (drop mark.end p.text.items) → front ≡ take mark.end p.text.items → IsFrontFor p count put front
   front_some count n put front mark some is read same front_is =
       let s = scanning p.scanner.now in
       let text = p.text.items in
@@ -92,7 +92,7 @@ module _ (p : Marked) where
       }
 
   -- behind a match, the rest of the text scans to the rest of the tokens
-  pub back_some : (count : ℕ) (back : List ℕ) (mark : Mark) → IsMarkedList p → IsMarkAt p (length p.tokens.now - count) mark → back ≡ drop mark.start p.text.items → IsBack p count back
+  pub back_some : (count : ℕ) (back : List ℕ) (mark : TextMark) → IsMarkedList p → IsMarkAt p (length p.tokens.now - count) mark → back ≡ drop mark.start p.text.items → IsBack p count back
   back_some count back mark marked is back_is =
       let s = scanning p.scanner.now in
       let tokens = p.tokens.now in

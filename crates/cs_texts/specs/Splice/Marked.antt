@@ -5,7 +5,7 @@ use Rattle.cs_scanner.specs.Scan.Compared.{scanning}
 use Rattle.cs_scanner.specs.Scan.Scan.{Scans}
 use Rattle.cs_scanner.specs.Scan.Going.{IsBegunBy}
 use Rattle.cs_texts.specs.Rendering.Rendering.{AreTokens, IsRuleText}
-use Rattle.cs_texts.specs.declared.splice.marks.Mark.{Mark}
+use Rattle.cs_texts.specs.declared.splice.marks.TextMark.{TextMark}
 use Rattle.cs_texts.specs.declared.splice.marked.Marked.{Marked}
 use Rattle.cs_texts.specs.Splice.Marks.{AreAligned, AreAllMarks, IsAligned, IsMark}
 use Rattle.cs_texts.specs.Splice.Near.{Near}
@@ -27,7 +27,7 @@ abbrev pub IfMarkedList : Scanner → List (Option (List ℕ)) → List ℕ → 
 IfMarkedList scanner lexemes separator found = IfSome found (λ p. IsMarkedList p × (near_of p ≡ near_by scanner lexemes separator))
 
 -- the mark of the match that gives the token at the place
-pub record IsMarkAt (p : Marked) (place : ℕ) (mark : Mark) : Type 0 where
+pub record IsMarkAt (p : Marked) (place : ℕ) (mark : TextMark) : Type 0 where
   pub is_mark : IsMark (scanning p.scanner.now) p.text.items p.tokens.now place mark
   pub aligned : IsAligned p.lexemes.now p.separator.now p.tokens.now p.text.items place mark
 

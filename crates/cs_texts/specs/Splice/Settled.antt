@@ -4,8 +4,8 @@ use Rattle.cs_pattern_parts.specs.Tree.Pattern.{Regex}
 use Rattle.cs_pattern_parts.specs.declared.tree.kind.Kind.{Kind}
 use Rattle.cs_scanner.specs.Scan.Scan.{Scanning, IsLongest, Gives, given}
 use Rattle.cs_scanner.specs.Scan.Going.{IsBegunBy}
-use Rattle.cs_texts.specs.declared.splice.step.Given.{Given}
-use Rattle.cs_texts.specs.declared.splice.step.Given.TheVariants.{Nothing, Token}
+use Rattle.cs_texts.specs.declared.splice.step.GivenToken.{GivenToken}
+use Rattle.cs_texts.specs.declared.splice.step.GivenToken.TheVariants.{Nothing, Token}
 use Rattle.cs_texts.specs.declared.splice.step.Look.{Look}
 use Rattle.cs_texts.specs.declared.splice.step.Step.{Step}
 
@@ -14,12 +14,12 @@ abbrev pub IsSettledBy : List ℕ → (List ℕ → Type 0) → ℕ → Type 0
 IsSettledBy text P n = (n ≤ length text) × ((rest : List ℕ) → P (take n text ++ rest))
 
 -- the tokens that a match gives
-abbrev pub tokens_of : Given → List ℕ
+abbrev pub tokens_of : GivenToken → List ℕ
 tokens_of Nothing = []
 tokens_of (Token token) = token ∷ []
 
 -- what a match of the kind gives at the front of each text that begins with the byte
-abbrev pub IsGivenBy : Kind → List ℕ → ℕ → Given → Type 0
+abbrev pub IsGivenBy : Kind → List ℕ → ℕ → GivenToken → Type 0
 IsGivenBy kind literals first g = (text : List ℕ) → slice_index text 0 ≡ first → given literals kind text ≡ Some (tokens_of g)
 
 -- the longest match at the front of the text, and how many bytes settle it

@@ -5,7 +5,7 @@ ghost use Rattle.cs_scanner.specs.Scan.Compared.{scanning};
 ghost use Rattle.cs_texts.specs.Splice.Apart.{HaveLexemes, IsApart, IsPassedBefore, IsTakenFirst, ScanBack, StandsApart};
 ghost use Rattle.cs_texts.specs.Splice.Spliced.{near_by};
 
-use crate::splice::step::{Given, step_over};
+use crate::splice::step::{GivenToken, step_over};
 use cs_scanner::{Lexemes, Scanner};
 use std::alloc::{AllocError, Global};
 use std::marker::Model;
@@ -34,7 +34,7 @@ fn is_taken_first(scanner: &Scanner<'_>, lexeme: &[u8], separator: &[u8], token:
         return false;
     };
     match (step.given, step.read) {
-        (Given::Token(given), Some(_)) => given == token && step.size == lexeme.len(),
+        (GivenToken::Token(given), Some(_)) => given == token && step.size == lexeme.len(),
         _ => false,
     }
 }
@@ -48,7 +48,7 @@ fn is_passed_before(scanner: &Scanner<'_>, separator: &[u8], first: u8) -> bool
         let Some(step) = step_over(scanner, rest, &[first]) else {
             return false;
         };
-        let (Given::Nothing, Some(_)) = (step.given, step.read) else {
+        let (GivenToken::Nothing, Some(_)) = (step.given, step.read) else {
             return false;
         };
         if step.size > rest.len() {

@@ -7,7 +7,7 @@ ghost use Rattle.cs_texts.specs.Splice.Spliced.{IfTold};
 
 use crate::rendering::{Rendered, render};
 use crate::splice::common::{same_back, same_front};
-use crate::splice::marks::{Mark, are_lexemes, marks_of};
+use crate::splice::marks::{TextMark, are_lexemes, marks_of};
 use crate::splice::middle::put_middle;
 use crate::splice::parts::{begins_with_part, from_place, up_to};
 use crate::splice::step::arrives;
@@ -22,7 +22,7 @@ pub(crate) struct Marked<'a> {
     separator: &'a [u8],
     tokens: &'a [u16],
     text: Vec<u8>,
-    marks: Vec<Mark>,
+    marks: Vec<TextMark>,
 }
 
 /// What a text has of the text of a list near its own, in front of what was put for it and behind that.
@@ -65,7 +65,7 @@ impl<'a> Marked<'a> {
     }
 
     // The mark of the token at the place.
-    fn mark(&self, place: usize) -> Mark
+    fn mark(&self, place: usize) -> TextMark
         requires marked { IsMarkedList self.now }
         requires place { place < length self.now.tokens.now }
         ensures { IsMarkAt self.now place result }
@@ -104,7 +104,7 @@ impl<'a> Marked<'a> {
         if count == 0 {
             return Some(up_to(self.text.as_slice(), 0));
         }
-        let Mark { end, read, .. } = self.mark(count - 1);
+        let TextMark { end, read, .. } = self.mark(count - 1);
         let read = read?;
         let text = self.text.as_slice();
         if begins_with_part(put, text, end, read) {

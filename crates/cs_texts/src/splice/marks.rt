@@ -6,14 +6,14 @@ ghost use Rattle.cs_texts.specs.Rendering.Rendering.{AreTokens, IsRuleText};
 ghost use Rattle.cs_texts.specs.Splice.Marks.{AreAligned, IfMarked};
 ghost use Rattle.cs_texts.specs.Splice.Settled.{IsFurther};
 
-use crate::splice::step::{Given, counted, step_over};
+use crate::splice::step::{GivenToken, counted, step_over};
 use cs_scanner::{Lexemes, Scanner};
 use std::alloc::{AllocError, Global};
 
 /// A match that gives a token: where it starts and ends in the text, and how many bytes of the text settle the scan up to its
 /// end. None where nothing but the end of the text does.
 #[derive(Clone, Copy)]
-pub(crate) struct Mark {
+pub(crate) struct TextMark {
     pub(crate) start: usize,
     pub(crate) end: usize,
     pub(crate) read: Option<usize>,
@@ -36,7 +36,7 @@ pub(crate) fn marks_of(
     scanner: &Scanner<'_>,
     text: &[u8],
     tokens: &[u16],
-) -> Result<Option<Vec<Mark>>, AllocError>
+) -> Result<Option<Vec<TextMark>>, AllocError>
     ensures { IfOk result (IfMarked (scanning scanner.now) text.now tokens.now) }
 {
     let mut marks = Vec::new(alloc);
@@ -51,8 +51,8 @@ pub(crate) fn marks_of(
         };
         read = further(read, at, step.read);
         let end = at + step.size;
-        if let Given::Token(_) = step.given {
-            marks.push(Mark {
+        if let GivenToken::Token(_) = step.given {
+            marks.push(TextMark {
                 start: at,
                 end,
                 read,
@@ -73,7 +73,7 @@ pub(crate) fn are_lexemes(
     separator: &[u8],
     tokens: &[u16],
     text: &[u8],
-    marks: &[Mark],
+    marks: &[TextMark],
 ) -> bool
     requires tokens { AreTokens lexemes.now tokens.now }
     requires rule { IsRuleText lexemes.now separator.now tokens.now text.now }

@@ -18,7 +18,7 @@ pub(crate) struct Look {
 
 /// What a match gives.
 #[derive(Clone, Copy)]
-pub(crate) enum Given {
+pub(crate) enum GivenToken {
     Nothing,
     Token(u16),
 }
@@ -27,7 +27,7 @@ pub(crate) enum Given {
 #[derive(Clone, Copy)]
 pub(crate) struct Step {
     pub(crate) size: usize,
-    pub(crate) given: Given,
+    pub(crate) given: GivenToken,
     pub(crate) read: Option<usize>,
 }
 
@@ -66,18 +66,18 @@ fn look_over(automaton: &Automaton<'_>, near: &[u8], far: &[u8]) -> Look
 }
 
 // What a match of the kind gives at the front of a text that begins with the byte. None where the scan stops.
-fn give(kind: Kind, literals: &[u16], first: u8) -> Option<Given>
+fn give(kind: Kind, literals: &[u16], first: u8) -> Option<GivenToken>
     requires literals { length literals.now ≡ 256 }
     ensures { IfSome result (IsGivenBy kind literals.now first) }
 {
     match kind {
-        Kind::Skip => Some(Given::Nothing),
-        Kind::Token(token) => Some(Given::Token(token)),
+        Kind::Skip => Some(GivenToken::Nothing),
+        Kind::Token(token) => Some(GivenToken::Token(token)),
         Kind::Foreign => None,
         Kind::OwnByte => {
             let token = literals[first as usize];
             if token > 0 {
-                Some(Given::Token(token))
+                Some(GivenToken::Token(token))
             } else {
                 None
             }
@@ -97,13 +97,13 @@ pub(crate) fn step_over(scanner: &Scanner<'_>, near: &[u8], far: &[u8]) -> Optio
 }
 
 /// How many tokens were given, of those that are wanted, where the match gives the next of them or none.
-pub(crate) fn counted(wanted: &[u16], count: usize, given: Given) -> Option<usize>
+pub(crate) fn counted(wanted: &[u16], count: usize, given: GivenToken) -> Option<usize>
     requires { count ≤ length wanted.now }
     ensures { IfSome result (IsCounted wanted.now count (tokens_of given)) }
 {
     match given {
-        Given::Nothing => Some(count),
-        Given::Token(token) => {
+        GivenToken::Nothing => Some(count),
+        GivenToken::Token(token) => {
             if count < wanted.len() && wanted[count] == token {
                 Some(count + 1)
             } else {

@@ -2,7 +2,7 @@
 use Rattle.std.proofs.Common.{◌∙◌, ap, length}
 use Rattle.std.proofs.lemmas.Bool.{eqb-true}
 use Rattle.cs_scanner.specs.Scan.Compared.{scanning}
-use Rattle.cs_texts.specs.declared.splice.step.Given.TheVariants as variants
+use Rattle.cs_texts.specs.declared.splice.step.GivenToken.TheVariants as variants
 use Rattle.cs_texts.proofs.OnSplice.Standing.{taken_first}
 use Rattle.cs_texts.proofs.splice.apart.is_taken_first.Goals as goal
 

@@ -3,7 +3,7 @@ use Rattle.std.proofs.Common.{◌≡◌, ◌+◌, Some, None, sym, subst, arith,
 use Rattle.std.specs.Prelude.{slice_get}
 use Rattle.std.proofs.lemmas.Option.{slice_get-get_or}
 use Rattle.cs_scanner.specs.Lexeme.Lexeme.{lexeme_in}
-use Rattle.cs_texts.specs.declared.splice.marks.Mark.{Mark}
+use Rattle.cs_texts.specs.declared.splice.marks.TextMark.{TextMark}
 use Rattle.cs_texts.specs.Splice.Marks.{IsDue}
 use Rattle.cs_texts.proofs.OnSplice.Aligning.{due_start, due_next, aligned_here, aligned_more}
 use Rattle.cs_texts.proofs.splice.marks.are_lexemes.Goals as goal
@@ -23,8 +23,8 @@ loop-i-preserved c =
     let i = c.loop-i.i in
     let at = c.loop-i.at in
     let lexeme = c.in-Some.lexeme.now in
-    let none : Mark = record { start = 0; end = 0; read = None } in
-    let mark : Mark = get_or c.args.marks.now i none in
+    let none : TextMark = record { start = 0; end = 0; read = None } in
+    let mark : TextMark = get_or c.args.marks.now i none in
     let here : slice_get c.args.marks.now i ≡ Some mark = slice_get-get_or c.args.marks.now i none (omega (arith, c.requires.all, c.loop-i-test.true)) in
     let has : lexeme_in lexemes (get_or tokens i 0) ≡ Some lexeme = sym c.in-Some.ensures in
     let due : IsDue lexemes sep tokens text i at = c.loop-i.invariant.due c.loop-i-test.true in

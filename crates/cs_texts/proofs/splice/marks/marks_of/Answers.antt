@@ -2,7 +2,7 @@
 use Rattle.std.proofs.Common.{◌≡◌, ◌+◌, ◌≤◌, [], ◌∷◌, ◌++◌, sym, ap, ◌∙◌, subst, arith, length, take}
 use Rattle.std.proofs.lemmas.List.{length_push}
 use Rattle.cs_scanner.specs.Scan.Compared.{scanning}
-use Rattle.cs_texts.specs.declared.splice.marks.Mark.{Mark}
+use Rattle.cs_texts.specs.declared.splice.marks.TextMark.{TextMark}
 use Rattle.cs_texts.specs.Splice.Marks.{AreMarks, IsFront, IsMark}
 use Rattle.cs_texts.specs.Splice.Settled.{IsCounted, tokens_of}
 use Rattle.cs_texts.proofs.OnSplice.Marking.{front_next, front_still, marks_more}
@@ -23,7 +23,7 @@ matches-preserved-in_ok-push c =
     let one : length (tokens_of step.given) ≡ 1 = ap (λ g. length (tokens_of g)) c.in-Token.is in
     let next : count ≡ length marks + 1 = omega (arith, counted.all, one) in
     let front : IsFront s text (take count tokens) (at + step.size) more = subst (λ ts. IsFront s text ts (at + step.size) more) (sym counted.front) (front_next s text (take (length marks) tokens) at c.matches.read more step c.matches.invariant.front c.in-Some.ensures c.further-read.ensures) in
-    let mark : Mark = record { start = at; end = at + step.size; read = more } in
+    let mark : TextMark = record { start = at; end = at + step.size; read = more } in
     let is_mark : IsMark s text tokens (length marks) mark = record { starts = c.matches.invariant.front.passed; ends = subst (λ n. IsFront s text (take n tokens) (at + step.size) more) next front; order = omega arith } in
     let longer : length (marks ++ mark ∷ []) ≡ length marks + 1 = length_push marks mark in
     subst (λ ms. record { few : length ms ≤ length tokens; front : IsFront s text (take (length ms) tokens) (at + step.size) more; marks : AreMarks s text tokens ms }) (sym c.in_ok-push.ensures.items)

@@ -4,7 +4,7 @@ use Rattle.std.specs.Prelude.{Option}
 use Rattle.cs_scanner.specs.Scan.Compared.{scanning}
 use Rattle.cs_texts.specs.declared.rendering.rendered.Rendered.{Rendered}
 use Rattle.cs_texts.specs.Rendering.Rendering.{IsRendered, rendering}
-use Rattle.cs_texts.specs.declared.splice.marks.Mark.{Mark}
+use Rattle.cs_texts.specs.declared.splice.marks.TextMark.{TextMark}
 use Rattle.cs_texts.specs.Splice.Marks.{AreAligned, AreAllMarks, IfMarked}
 use Rattle.cs_texts.proofs.splice.marked.Marked.new.Goals as goal
 
@@ -15,8 +15,8 @@ returns c =
     let sep = c.args.separator.now in
     let tokens = c.args.tokens.now in
     let R : Rendered → Type 0 = λ r. IsRendered s lexemes sep tokens (rendering r) in
-    let M : Option (Vec Mark Global) → Type 0 = λ o. IfMarked s c.deref.result.now tokens o in
-    let L : List ℕ → List Mark → Type 0 = λ text marks. AreAligned lexemes sep tokens text marks in (
+    let M : Option (Vec TextMark Global) → Type 0 = λ o. IfMarked s c.deref.result.now tokens o in
+    let L : List ℕ → List TextMark → Type 0 = λ text marks. AreAligned lexemes sep tokens text marks in (
       record {
         tokens = c.requires.tokens;
         rendered = subst R c.in-Text.is c.in_ok-text.ensures;
