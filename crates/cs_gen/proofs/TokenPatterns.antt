@@ -13,7 +13,7 @@ use Rattle.cs_pattern_parts.specs.Items.Items.{Placed, items_of}
 use Rattle.cs_pattern_parts.specs.Items.Members.{has, bytes_where}
 use Rattle.cs_pattern_parts.specs.Items.Parts.{Escapes, itself_or_control, InTurn}
 use Rattle.cs_pattern_parts.specs.Items.Parts as parts
-use Rattle.cs_pattern_parts.specs.Items.Brackets.{Mark, plain, escaped, Member, one, IsPart, of_class, of_symbol, of_equivalence, IsMark, itself, escape, others, IsClosed, upright, AreMembers, none, single, IsOf, IsBracket}
+use Rattle.cs_pattern_parts.specs.Items.Brackets.{BracketMark, plain, escaped, Member, one, IsBracketPart, of_class, of_symbol, of_equivalence, IsMark, itself, escape, others, IsClosed, upright, AreMembers, none, single, IsOf, IsBracket}
 use Rattle.cs_pattern_parts.specs.Items.Spelling.{one_byte, Spells, byte, bracket, plus_sign}
 use Rattle.cs_pattern_parts.proofs.OnItems.Picked.{has_picked, bytes_where-set}
 use Rattle.cs_pattern.specs.Operations.Grammar.{Tree, LastBranch, Branch, LastPiece, Beside, Piece, Repeated, Bytes, branch_items, piece_parts}
@@ -106,12 +106,12 @@ spacing = bytes_where is_spacing
 abbrev pub spacing_text : List ℕ
 spacing_text = codes "[ \\n]+"
 
-no_part : (b : ℕ) (rest : List ℕ) → b ≢ 91 → (n : ℕ) (m : Mark) → IsPart (b ∷ rest) n m → ⊥
+no_part : (b : ℕ) (rest : List ℕ) → b ≢ 91 → (n : ℕ) (m : BracketMark) → IsBracketPart (b ∷ rest) n m → ⊥
 no_part b rest ne n m (of_class name all s) = let e = s.is in ne cc
 no_part b rest ne n m (of_symbol name all s) = let e = s.is in ne cc
 no_part b rest ne n m (of_equivalence name all s) = let e = s.is in ne cc
 
-abbrev marks_list : List Mark
+abbrev marks_list : List BracketMark
 marks_list = plain 32 ∷ escaped (Some 10) ∷ []
 
 abbrev members_list : List Member
@@ -133,7 +133,7 @@ grouped_there =
     single (plain 32) (escaped (Some 10) ∷ []) (one (escaped (Some 10)) ∷ []) (λ y more e. let f : escaped (Some 10) ≡ plain 45 = heads e in absurd cc)
     (single (escaped (Some 10)) [] [] (λ y more e. absurd cc) none)
   where
-    heads : {x y : Mark} {xs ys : List Mark} → x ∷ xs ≡ y ∷ ys → x ≡ y
+    heads : {x y : BracketMark} {xs ys : List BracketMark} → x ∷ xs ≡ y ∷ ys → x ≡ y
     heads e = cc
 
 spacing_each : (b : ℕ) → b < 256 → (has spacing b ≡ true) ↔ IsOf false members_list b

@@ -6,7 +6,7 @@ use Rattle.std.proofs.lemmas.Option.{slice_get_within}
 use Rattle.cs_bytes.specs.Classes.{is_octal_digit, is_hexadecimal_digit}
 use Rattle.cs_bytes.specs.Names.{double_quote, closing_bracket}
 use Rattle.cs_pattern_parts.specs.declared.items.item.Repetition.{Repetition}
-use Rattle.cs_pattern_parts.specs.Items.Brackets.{Mark, IsClosed, upright, inverted}
+use Rattle.cs_pattern_parts.specs.Items.Brackets.{BracketMark, IsClosed, upright, inverted}
 use Rattle.cs_pattern_parts.specs.Items.Items.{Item, class, quoted, named, opening, closing, bar, repetition}
 use Rattle.cs_pattern_parts.specs.Items.Parts.{Shows, Escapes, octal_digits, hexadecimal_digits, itself_or_control}
 use Rattle.cs_pattern_parts.specs.Items.Spelling as spelling
@@ -26,7 +26,7 @@ escape_size text n o (itself_or_control b t byte k l m is) = omega arith
 quoted_size : (text : List ℕ) (n : ℕ) (bytes : List ℕ) → IsQuoted text n bytes → IsSizeOf text n
 quoted_size text n bytes (spelling.closed t m bs inside ends) = let lt = slice_get_within t m double_quote ends in (omega arith, omega arith)
 
-bracket_size : (text : List ℕ) (n : ℕ) (i : _) (ms : List Mark) → IsClosed text n i ms → IsSizeOf text n
+bracket_size : (text : List ℕ) (n : ℕ) (i : _) (ms : List BracketMark) → IsClosed text n i ms → IsSizeOf text n
 bracket_size text n i ms (upright t m marks none are ends) = let lt = slice_get_within t m closing_bracket ends in (omega arith, omega arith)
 bracket_size text n i ms (inverted t m marks are ends) = let lt = slice_get_within t m closing_bracket ends in (omega arith, omega arith)
 

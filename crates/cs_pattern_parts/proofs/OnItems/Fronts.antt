@@ -12,7 +12,7 @@ use Rattle.cs_pattern_parts.specs.Items.ByteKind.{is_plain}
 use Rattle.cs_pattern_parts.specs.Items.Character.{escape}
 use Rattle.cs_pattern_parts.specs.Items.Quoted as quotes
 use Rattle.cs_pattern_parts.specs.Items.Bracket.{Bracket, set, collation, nothing, set_or_nothing, closed, bracket, is_collating, turned, member_bytes, members}
-use Rattle.cs_pattern_parts.specs.Items.Brackets.{Mark, Member, IsBracket, BeginsCollation}
+use Rattle.cs_pattern_parts.specs.Items.Brackets.{BracketMark, Member, IsBracket, BeginsCollation}
 use Rattle.cs_pattern_parts.specs.Items.Interval.{interval, name}
 use Rattle.cs_pattern_parts.specs.Items.Items.{Item, class, quoted, named, opening, closing, bar, repetition}
 use Rattle.cs_pattern_parts.specs.Items.Parts.{Shows, BeginsWithByte}
@@ -110,7 +110,7 @@ braced_text text bytes n s = s.is ∙ ap (λ (xs : List ℕ). 123 ∷ xs) (appen
 braced_size : (text bytes : List ℕ) (n : ℕ) → Shows text (braced bytes) n → length bytes + 1 + 1 ≡ n
 braced_size text bytes n s = omega (arith, s.size, length-append bytes (125 ∷ []))
 
-closed_by : (inverted : Bool) (marks : List Mark) (size : ℕ) (v : Bool) → list_any is_collating marks ≡ v → closed inverted marks size ≡ (if v then collation else set_or_nothing (turned inverted (member_bytes marks)) size)
+closed_by : (inverted : Bool) (marks : List BracketMark) (size : ℕ) (v : Bool) → list_any is_collating marks ≡ v → closed inverted marks size ≡ (if v then collation else set_or_nothing (turned inverted (member_bytes marks)) size)
 closed_by inverted marks size v e = ap (λ w. if w then collation else set_or_nothing (turned inverted (member_bytes marks)) size) e
 
 complete_bracket : (text : List ℕ) (n : ℕ) (s : List ℕ) → IsBracket text n s → front text ≡ item (class s) n

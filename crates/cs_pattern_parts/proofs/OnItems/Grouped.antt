@@ -8,7 +8,7 @@ use Rattle.cs_bytes.proofs.Fronts.{and_true}
 use Rattle.cs_pattern_parts.specs.declared.items.bracket.Class.{Class}
 use Rattle.cs_pattern_parts.specs.Items.Members.{has, bytes_where, IsByteSet}
 use Rattle.cs_pattern_parts.specs.Items.NamedClasses.{class_of, is_in_class}
-use Rattle.cs_pattern_parts.specs.Items.Brackets.{Mark, plain, escaped, class, collating, Member, one, range, AreMembers, IsByteOf, IsAllowed, IsIn, IsInAny, IsOf}
+use Rattle.cs_pattern_parts.specs.Items.Brackets.{BracketMark, plain, escaped, class, collating, Member, one, range, AreMembers, IsByteOf, IsAllowed, IsIn, IsInAny, IsOf}
 use Rattle.cs_pattern_parts.specs.Items.Bracket.{is_dash, begins_range, members, byte_of_mark, within, same, class_by, member_test, or_both, any_test, is_yes, is_refused, member_bytes, unless_empty, turned, is_collating}
 use Rattle.cs_pattern_parts.proofs.OnItems.Picked.{has_picked, same_picked, same_set, bytes_where-set}
 use Rattle.cs_pattern_parts.proofs.OnItems.Moving.{chosen}
@@ -17,42 +17,42 @@ use Rattle.cs_pattern_parts.proofs.OnItems.Spelled.{unsome, no_some}
 
 -- ---- which marks are which members
 
-dash_is : (d : Mark) → is_dash d ≡ true → d ≡ plain 45
+dash_is : (d : BracketMark) → is_dash d ≡ true → d ≡ plain 45
 dash_is (plain b) e = ap plain (eqb-true b 45 e)
 dash_is (escaped byte) e = absurd (false≢true e)
 dash_is (class name) e = absurd (false≢true e)
 dash_is collating e = absurd (false≢true e)
 
-no_range : (x : Mark) (rest : List Mark) → ((y : Mark) (more : List Mark) → rest ≡ plain 45 ∷ y ∷ more → ⊥) → begins_range (x ∷ rest) ≡ false
+no_range : (x : BracketMark) (rest : List BracketMark) → ((y : BracketMark) (more : List BracketMark) → rest ≡ plain 45 ∷ y ∷ more → ⊥) → begins_range (x ∷ rest) ≡ false
 no_range x [] never = refl
 no_range x (d ∷ []) never = refl
 no_range x (d ∷ y ∷ more) never = by_test (is_dash d) refl
   where
     by_test : (v : Bool) → is_dash d ≡ v → v ≡ false
-    by_test true e = absurd (never y more (ap (λ (z : Mark). z ∷ y ∷ more) (dash_is d e)))
+    by_test true e = absurd (never y more (ap (λ (z : BracketMark). z ∷ y ∷ more) (dash_is d e)))
     by_test false e = refl
 
-members_range : (x y : Mark) (rest : List Mark) → members (x ∷ plain 45 ∷ y ∷ rest) ≡ range x y ∷ members rest
+members_range : (x y : BracketMark) (rest : List BracketMark) → members (x ∷ plain 45 ∷ y ∷ rest) ≡ range x y ∷ members rest
 members_range x y rest = refl
 
-pub complete_members : (marks : List Mark) (ms : List Member) → AreMembers marks ms → members marks ≡ ms
+pub complete_members : (marks : List BracketMark) (ms : List Member) → AreMembers marks ms → members marks ≡ ms
 complete_members _ _ AreMembers.none = refl
 complete_members _ _ (AreMembers.ranging x y rest ms t) = members_range x y rest ∙ ap (λ (zs : List Member). range x y ∷ zs) (complete_members rest ms t)
 complete_members _ _ (AreMembers.single x rest ms never t) = one_first x rest (no_range x rest never) ∙ ap (λ (zs : List Member). one x ∷ zs) (complete_members rest ms t)
 
-by_dash : (x d y : Mark) (rest : List Mark) → AreMembers rest (members rest) → AreMembers (d ∷ y ∷ rest) (members (d ∷ y ∷ rest)) → (v : Bool) → is_dash d ≡ v → AreMembers (x ∷ d ∷ y ∷ rest) (members (x ∷ d ∷ y ∷ rest))
-by_dash x d y rest t u true e = subst (λ (z : Mark). AreMembers (x ∷ z ∷ y ∷ rest) (members (x ∷ z ∷ y ∷ rest))) (sym (dash_is d e)) (AreMembers.ranging x y rest (members rest) t)
+by_dash : (x d y : BracketMark) (rest : List BracketMark) → AreMembers rest (members rest) → AreMembers (d ∷ y ∷ rest) (members (d ∷ y ∷ rest)) → (v : Bool) → is_dash d ≡ v → AreMembers (x ∷ d ∷ y ∷ rest) (members (x ∷ d ∷ y ∷ rest))
+by_dash x d y rest t u true e = subst (λ (z : BracketMark). AreMembers (x ∷ z ∷ y ∷ rest) (members (x ∷ z ∷ y ∷ rest))) (sym (dash_is d e)) (AreMembers.ranging x y rest (members rest) t)
 by_dash x d y rest t u false e =
     subst (AreMembers (x ∷ d ∷ y ∷ rest)) (sym (one_first x (d ∷ y ∷ rest) e))
     (AreMembers.single x (d ∷ y ∷ rest) (members (d ∷ y ∷ rest)) (λ z more is. false≢true (sym e ∙ dash_test z more is)) u)
   where
-    dash_test : (z : Mark) (more : List Mark) → d ∷ y ∷ rest ≡ plain 45 ∷ z ∷ more → is_dash d ≡ true
+    dash_test : (z : BracketMark) (more : List BracketMark) → d ∷ y ∷ rest ≡ plain 45 ∷ z ∷ more → is_dash d ≡ true
     dash_test z more is = let f : d ≡ plain 45 = cc in ap is_dash f
 
-two_marks : (x d : Mark) → AreMembers (d ∷ []) (members (d ∷ [])) → AreMembers (x ∷ d ∷ []) (members (x ∷ d ∷ []))
+two_marks : (x d : BracketMark) → AreMembers (d ∷ []) (members (d ∷ [])) → AreMembers (x ∷ d ∷ []) (members (x ∷ d ∷ []))
 two_marks x d t = subst (AreMembers (x ∷ d ∷ [])) (sym (one_first x (d ∷ []) refl)) (AreMembers.single x (d ∷ []) (members (d ∷ [])) (λ y more is. absurd cc) t)
 
-pub sound_members : (marks : List Mark) → AreMembers marks (members marks)
+pub sound_members : (marks : List BracketMark) → AreMembers marks (members marks)
 sound_members [] = AreMembers.none
 sound_members (x ∷ []) = AreMembers.single x [] [] (λ y more is. absurd cc) AreMembers.none
 sound_members (x ∷ d ∷ []) = two_marks x d (sound_members (d ∷ []))
@@ -63,13 +63,13 @@ sound_members (x ∷ d ∷ y ∷ rest) = by_dash x d y rest (sound_members rest)
 tested : (c b : ℕ) (v : Bool) → (b == c) ≡ v → (v ≡ true) ↔ (c ≡ b)
 tested c b v e = (λ t. sym (eqb-true b c (e ∙ t)), λ is. sym e ∙ eq-eqb b c (sym is))
 
-byte_is : (x : Mark) (b : ℕ) → byte_of_mark x ≡ Some b → IsByteOf x b
+byte_is : (x : BracketMark) (b : ℕ) → byte_of_mark x ≡ Some b → IsByteOf x b
 byte_is (plain c) b e = unsome c b e
 byte_is (escaped byte) b e = e
 byte_is (class name) b e = absurd (no_some b e)
 byte_is collating b e = absurd (no_some b e)
 
-is_byte_of : (x : Mark) (b : ℕ) → IsByteOf x b → byte_of_mark x ≡ Some b
+is_byte_of : (x : BracketMark) (b : ℕ) → IsByteOf x b → byte_of_mark x ≡ Some b
 is_byte_of (plain c) b h = ap Some h
 is_byte_of (escaped byte) b h = h
 is_byte_of (class name) b h = absurd h
@@ -91,7 +91,7 @@ range_test first last b le = ap (λ v. if v then Some (nat_le first b && nat_le 
 both_true : (p q : Bool) → p ≡ true → q ≡ true → (p && q) ≡ true
 both_true p q e f = rw (e, f) refl
 
-tells_range : (x y : Mark) (b : ℕ) (v : Bool) (o p : Option ℕ) → byte_of_mark x ≡ o → byte_of_mark y ≡ p → within o p b ≡ Some v → Decides (range x y) b v
+tells_range : (x y : BracketMark) (b : ℕ) (v : Bool) (o p : Option ℕ) → byte_of_mark x ≡ o → byte_of_mark y ≡ p → within o p b ≡ Some v → Decides (range x y) b v
 tells_range x y b v None p e f g = absurd (no_some v g)
 tells_range x y b v (Some first) None e f g = absurd (no_some v g)
 tells_range x y b v (Some first) (Some last) e f g =
@@ -176,15 +176,15 @@ refused_or None e = absurd (false≢true (sym e))
 refused_or (Some v) e = (v, refl)
 
 -- the bytes that the members tell
-pub record TellsSet (marks : List Mark) (bytes : List ℕ) : Type 0 where
+pub record TellsSet (marks : List BracketMark) (bytes : List ℕ) : Type 0 where
   pub allowed : AllByRecursion IsAllowed (members marks)
   pub is : bytes ≡ bytes_where (λ b. is_yes (any_test (members marks) b))
 
-member_bytes_by : (marks : List Mark) → member_bytes marks ≡ (if is_refused (any_test (members marks) 0) then None else Some (bytes_where (λ b. is_yes (any_test (members marks) b))))
+member_bytes_by : (marks : List BracketMark) → member_bytes marks ≡ (if is_refused (any_test (members marks) 0) then None else Some (bytes_where (λ b. is_yes (any_test (members marks) b))))
 unfolding member_bytes
 member_bytes_by marks = refl
 
-sound_bytes : (marks : List Mark) (bytes : List ℕ) → member_bytes marks ≡ Some bytes → TellsSet marks bytes
+sound_bytes : (marks : List BracketMark) (bytes : List ℕ) → member_bytes marks ≡ Some bytes → TellsSet marks bytes
 sound_bytes marks bytes e =
     elim (chosen (is_refused (any_test (members marks) 0)) _ _ _ (sym (member_bytes_by marks) ∙ e)) [
       | inl refused ↦ absurd (no_some bytes refused.1)
@@ -193,7 +193,7 @@ sound_bytes marks bytes e =
           record { allowed = (tell_all (members marks) 0 v.0 v.1).0; is = sym (unsome (bytes_where (λ b. is_yes (any_test (members marks) b))) bytes taken.1) }
     ]
 
-complete_bytes : (marks : List Mark) → AllByRecursion IsAllowed (members marks) → member_bytes marks ≡ Some (bytes_where (λ b. is_yes (any_test (members marks) b)))
+complete_bytes : (marks : List BracketMark) → AllByRecursion IsAllowed (members marks) → member_bytes marks ≡ Some (bytes_where (λ b. is_yes (any_test (members marks) b)))
 complete_bytes marks h =
     let t = all_test (members marks) 0 h in
     member_bytes_by marks ∙ ap (λ v. if v then None else Some (bytes_where (λ b. is_yes (any_test (members marks) b)))) (ap is_refused t.1)
@@ -233,7 +233,7 @@ set_some : (xs : List ℕ) → xs ≢ [] → unless_empty xs ≡ Some xs
 set_some [] ne = absurd (ne refl)
 set_some (x ∷ xs) ne = refl
 
-same_turned : (marks : List Mark) (xs : List ℕ) → xs ≡ bytes_where (λ b. is_yes (any_test (members marks) b)) → bytes_where (λ b. not (has xs b)) ≡ bytes_where (λ b. not (is_yes (any_test (members marks) b)))
+same_turned : (marks : List BracketMark) (xs : List ℕ) → xs ≡ bytes_where (λ b. is_yes (any_test (members marks) b)) → bytes_where (λ b. not (has xs b)) ≡ bytes_where (λ b. not (is_yes (any_test (members marks) b)))
 same_turned marks xs is =
     same_picked (λ b. not (has xs b)) (λ b. not (is_yes (any_test (members marks) b))) 256 (λ b lt.
     ap not (ap (λ s. has s b) is ∙ has_picked (λ c. is_yes (any_test (members marks) c)) 256 b lt))
@@ -256,7 +256,7 @@ makes inverted ms set h is ne = record {
   some = ne;
 }
 
-sound_turned : (inverted : Bool) (marks : List Mark) (set : List ℕ) (o : Option (List ℕ)) → member_bytes marks ≡ o → turned inverted o ≡ Some set → MakesSet inverted (members marks) set
+sound_turned : (inverted : Bool) (marks : List BracketMark) (set : List ℕ) (o : Option (List ℕ)) → member_bytes marks ≡ o → turned inverted o ≡ Some set → MakesSet inverted (members marks) set
 sound_turned inverted marks set None e f = absurd (no_some set f)
 sound_turned false marks set (Some xs) e f =
     let t = sound_bytes marks xs e in
@@ -267,7 +267,7 @@ sound_turned true marks set (Some xs) e f =
     let s = some_set (bytes_where (λ b. not (has xs b))) set f in
     makes true (members marks) set t.allowed (sym (same_turned marks xs t.is) ∙ s.0) s.1
 
-pub sound_set : (inverted : Bool) (marks : List Mark) (set : List ℕ) → turned inverted (member_bytes marks) ≡ Some set → MakesSet inverted (members marks) set
+pub sound_set : (inverted : Bool) (marks : List BracketMark) (set : List ℕ) → turned inverted (member_bytes marks) ≡ Some set → MakesSet inverted (members marks) set
 sound_set inverted marks set e = sound_turned inverted marks set (member_bytes marks) refl e
 
 set_is : (inverted : Bool) (ms : List Member) (set : List ℕ) → MakesSet inverted ms set → bytes_where (test_of inverted ms) ≡ set
@@ -281,7 +281,7 @@ set_is inverted ms set m =
     same_truth false true f g = g refl
     same_truth false false f g = refl
 
-pub complete_set : (inverted : Bool) (marks : List Mark) (set : List ℕ) → MakesSet inverted (members marks) set → turned inverted (member_bytes marks) ≡ Some set
+pub complete_set : (inverted : Bool) (marks : List BracketMark) (set : List ℕ) → MakesSet inverted (members marks) set → turned inverted (member_bytes marks) ≡ Some set
 complete_set false marks set m =
     ap (turned false) (complete_bytes marks m.allowed) ∙ ap unless_empty (set_is false (members marks) set m) ∙ set_some set m.some
 complete_set true marks set m =
@@ -291,7 +291,7 @@ complete_set true marks set m =
 
 -- ---- collating parts
 
-any_collating : (marks : List Mark) → list_any is_collating marks ≡ true → Contains marks collating
+any_collating : (marks : List BracketMark) → list_any is_collating marks ≡ true → Contains marks collating
 any_collating [] e = absurd (false≢true e)
 any_collating (x ∷ marks) e =
     elim (or_cases (is_collating x) (list_any is_collating marks) e) [
@@ -299,20 +299,20 @@ any_collating (x ∷ marks) e =
       | inr there ↦ Contains-append_right (x ∷ []) marks collating (any_collating marks there)
     ]
   where
-    collates : (m : Mark) → is_collating m ≡ true → m ≡ collating
+    collates : (m : BracketMark) → is_collating m ≡ true → m ≡ collating
     collates (plain b) f = absurd (false≢true f)
     collates (escaped byte) f = absurd (false≢true f)
     collates (class name) f = absurd (false≢true f)
     collates collating f = refl
 
-pub sound_collating : (marks : List Mark) → list_any is_collating marks ≡ true → Contains marks collating
+pub sound_collating : (marks : List BracketMark) → list_any is_collating marks ≡ true → Contains marks collating
 sound_collating = any_collating
 
-alone : (x : Mark) → Contains (x ∷ []) collating → is_collating x ≡ true
+alone : (x : BracketMark) → Contains (x ∷ []) collating → is_collating x ≡ true
 alone x (zero, lt, e) = ap is_collating e
 alone x (suc k, lt, e) = absurd (omega (arith, lt))
 
-pub complete_collating : (marks : List Mark) → Contains marks collating → list_any is_collating marks ≡ true
+pub complete_collating : (marks : List BracketMark) → Contains marks collating → list_any is_collating marks ≡ true
 complete_collating [] h = absurd (omega (arith, h.1))
 complete_collating (x ∷ marks) h =
     elim (Contains-append_cases (x ∷ []) marks collating h) [
@@ -320,20 +320,20 @@ complete_collating (x ∷ marks) h =
       | inr there ↦ or_last (is_collating x) (list_any is_collating marks) (complete_collating marks there)
     ]
 
-byte_collates_not : (x : Mark) (b : ℕ) → IsByteOf x b → is_collating x ≡ false
+byte_collates_not : (x : BracketMark) (b : ℕ) → IsByteOf x b → is_collating x ≡ false
 byte_collates_not (plain c) b h = refl
 byte_collates_not (escaped byte) b h = refl
 byte_collates_not (class name) b h = absurd h
 byte_collates_not collating b h = absurd h
 
-one_collates_not : (x : Mark) → IsAllowed (one x) → is_collating x ≡ false
+one_collates_not : (x : BracketMark) → IsAllowed (one x) → is_collating x ≡ false
 one_collates_not (plain c) h = refl
 one_collates_not (escaped byte) h = refl
 one_collates_not (class name) h = refl
 one_collates_not collating h = absurd h
 
 -- members that are allowed are of no collating mark
-pub allowed_collates_not : (marks : List Mark) (ms : List Member) → AreMembers marks ms → AllByRecursion IsAllowed ms → list_any is_collating marks ≡ false
+pub allowed_collates_not : (marks : List BracketMark) (ms : List Member) → AreMembers marks ms → AllByRecursion IsAllowed ms → list_any is_collating marks ≡ false
 allowed_collates_not _ _ AreMembers.none h = refl
 allowed_collates_not _ _ (AreMembers.ranging x y rest ms t) h =
     let e = byte_collates_not x h.0.0 h.0.2 in

@@ -4,13 +4,13 @@ use Rattle.std.specs.Prelude.{Option, Some, None, ◌||◌, not, if◌then◌els
 use Rattle.std.proofs.lemmas.List.{drop_more, drop_all, length-drop}
 use Rattle.std.proofs.lemmas.Bool.{false≢true}
 use Rattle.cs_pattern_parts.specs.Items.Members.{has, bytes_where}
-use Rattle.cs_pattern_parts.specs.Items.Brackets.{Mark, collating, one, range}
+use Rattle.cs_pattern_parts.specs.Items.Brackets.{BracketMark, collating, one, range}
 use Rattle.cs_pattern_parts.specs.Items.Bracket.{members, member_test, any_test, or_both, is_yes, is_refused, begins_range, is_dash, member_bytes, turned, unless_empty}
 use Rattle.cs_pattern_parts.specs.Items.Inserting.{Inserts, AreBytesOfMembers, AddsMember, RefusesMember}
 use Rattle.cs_pattern_parts.proofs.OnItems.Picked.{has_picked, same_picked, picked_none, picked_by_itself}
 
 -- The set has what was gathered, and with the marks from the index on it is what all marks give.
-pub record Gathers (ms : List Mark) (set : List ℕ) (index : ℕ) : Type 0 where
+pub record Gathers (ms : List BracketMark) (set : List ℕ) (index : ℕ) : Type 0 where
   pub within : index ≤ length ms
   pub is : set ≡ bytes_where (has set)
   pub tests : (b : ℕ) → b < 256 → or_both (Some (has set b)) (any_test (members (drop index ms)) b) ≡ any_test (members ms) b
@@ -22,7 +22,7 @@ none_yet (Some v) = refl
 none_is : (set : List ℕ) → set ≡ [] → set ≡ bytes_where (has set)
 none_is set e = e ∙ sym (picked_none (has set) 256 (λ m lt. ap (λ s. has s m) e))
 
-pub gathers_none : (ms : List Mark) (set : List ℕ) → set ≡ [] → Gathers ms set 0
+pub gathers_none : (ms : List BracketMark) (set : List ℕ) → set ≡ [] → Gathers ms set 0
 gathers_none ms set e = record { within = omega arith; is = none_is set e; tests = λ b lt. ap (λ s. or_both (Some (has s b)) (any_test (members ms) b)) e ∙ none_yet (any_test (members ms) b) }
 
 regroup : (v o q : Bool) → ((v || o) || q) ≡ (o || (v || q))
@@ -37,7 +37,7 @@ added (Some v) o n None r e = refl
 added (Some v) o n (Some q) r e = ap (λ w. Some (w || q)) e ∙ ap Some (regroup v o q)
 
 -- a member more
-pub gathers_member : (ms : List Mark) (old new : List ℕ) (index next : ℕ) → Gathers ms old index → AddsMember ms index old new next → Gathers ms new next
+pub gathers_member : (ms : List BracketMark) (old new : List ℕ) (index next : ℕ) → Gathers ms old index → AddsMember ms index old new next → Gathers ms new next
 gathers_member ms old new index next g a = record {
   within = a.within;
   is = picked_by_itself (λ b. is_yes (member_test a.member b) || has old b) 256 new (sym a.adds.1);
@@ -48,7 +48,7 @@ gathers_member ms old new index next g a = record {
       ∙ g.tests b lt;
 }
 
-pub refuses_member : (ms : List Mark) (old : List ℕ) (index : ℕ) → Gathers ms old index → RefusesMember ms index → member_bytes ms ≡ None
+pub refuses_member : (ms : List BracketMark) (old : List ℕ) (index : ℕ) → Gathers ms old index → RefusesMember ms index → member_bytes ms ≡ None
 unfolding member_bytes
 refuses_member ms old index g r =
     let e : any_test (members ms) 0 ≡ None = sym (g.tests 0 (omega arith)) ∙ ap (λ x. or_both (Some (has old 0)) (any_test x 0)) r.is ∙ ap (λ t. or_both (Some (has old 0)) (or_both t (any_test r.more 0))) (r.refused 0) in
@@ -58,7 +58,7 @@ some_yes : (o : Bool) (t : Option Bool) → or_both (Some o) (Some false) ≡ t 
 some_yes true t e = (ap is_refused (sym e), ap is_yes e)
 some_yes false t e = (ap is_refused (sym e), ap is_yes e)
 
-pub gathers_all : (ms : List Mark) (set : List ℕ) (index : ℕ) → length ms ≤ index → Gathers ms set index → AreBytesOfMembers ms set
+pub gathers_all : (ms : List BracketMark) (set : List ℕ) (index : ℕ) → length ms ≤ index → Gathers ms set index → AreBytesOfMembers ms set
 gathers_all ms set index le g =
     let rest : drop index ms ≡ [] = drop_all index ms le in
     let each : (b : ℕ) → b < 256 → or_both (Some (has set b)) (Some false) ≡ any_test (members ms) b = λ b lt. sym (ap (λ x. or_both (Some (has set b)) (any_test (members x) b)) rest) ∙ g.tests b lt in
@@ -69,7 +69,7 @@ gathers_all ms set index le g =
 
 -- ---- what stands at an index
 
-pub one_first : (x : Mark) (more : List Mark) → begins_range (x ∷ more) ≡ false → members (x ∷ more) ≡ one x ∷ members more
+pub one_first : (x : BracketMark) (more : List BracketMark) → begins_range (x ∷ more) ≡ false → members (x ∷ more) ≡ one x ∷ members more
 one_first x [] e = refl
 one_first x (d ∷ []) e = by_dash (is_dash d)
   where
@@ -78,11 +78,11 @@ one_first x (d ∷ []) e = by_dash (is_dash d)
     by_dash false = refl
 one_first x (d ∷ y ∷ rest) e = rw e refl
 
-module _ (ms : List Mark) (index : ℕ) where
+module _ (ms : List BracketMark) (index : ℕ) where
   pub begins_short : length ms ≤ index + 2 → begins_range (drop index ms) ≡ false
   begins_short le = short (drop index ms) (omega (arith, length-drop index ms))
     where
-      short : (xs : List Mark) → length xs ≤ 2 → begins_range xs ≡ false
+      short : (xs : List BracketMark) → length xs ≤ 2 → begins_range xs ≡ false
       short [] p = refl
       short (x ∷ []) p = refl
       short (x ∷ d ∷ []) p = refl
@@ -109,12 +109,12 @@ module _ (ms : List Mark) (index : ℕ) where
 
 -- ---- the set of a bracket
 
-pub turned_no : (ms : List Mark) (set : List ℕ) → AreBytesOfMembers ms set → unless_empty set ≡ turned false (member_bytes ms)
+pub turned_no : (ms : List BracketMark) (set : List ℕ) → AreBytesOfMembers ms set → unless_empty set ≡ turned false (member_bytes ms)
 unfolding member_bytes
 turned_no ms set a =
     ap unless_empty a.is ∙ sym (ap (λ v. turned false (if v then None else Some (bytes_where (λ b. is_yes (any_test (members ms) b))))) a.accepted)
 
-pub turned_yes : (ms : List Mark) (set others : List ℕ) → AreBytesOfMembers ms set → others ≡ bytes_where (λ b. not (has set b)) → unless_empty others ≡ turned true (member_bytes ms)
+pub turned_yes : (ms : List BracketMark) (set others : List ℕ) → AreBytesOfMembers ms set → others ≡ bytes_where (λ b. not (has set b)) → unless_empty others ≡ turned true (member_bytes ms)
 unfolding member_bytes
 turned_yes ms set others a is =
     ap unless_empty (is ∙ ap (λ s. bytes_where (λ b. not (has s b))) a.is)
@@ -122,17 +122,17 @@ turned_yes ms set others a is =
 
 -- ---- the member at an index
 
-module _ (ms : List Mark) (index : ℕ) (x : Mark) (at : get_or ms index collating ≡ x) where
-  range_is : (y : Mark) → index + 2 < length ms → begins_range (drop index ms) ≡ true → get_or ms (index + 2) collating ≡ y → members (drop index ms) ≡ range x y ∷ members (drop (index + 3) ms)
+module _ (ms : List BracketMark) (index : ℕ) (x : BracketMark) (at : get_or ms index collating ≡ x) where
+  range_is : (y : BracketMark) → index + 2 < length ms → begins_range (drop index ms) ≡ true → get_or ms (index + 2) collating ≡ y → members (drop index ms) ≡ range x y ∷ members (drop (index + 3) ms)
   range_is y lt e last = range_at ms index lt e ∙ rw (at, last) refl
 
   one_is : index < length ms → begins_range (drop index ms) ≡ false → members (drop index ms) ≡ one x ∷ members (drop (index + 1) ms)
   one_is lt e = one_at ms index lt e ∙ rw at refl
 
-  pub adds_range : (y : Mark) (old new : List ℕ) → index + 2 < length ms → begins_range (drop index ms) ≡ true → get_or ms (index + 2) collating ≡ y → Inserts old new (member_test (range x y)) true → AddsMember ms index old new (index + 3)
+  pub adds_range : (y : BracketMark) (old new : List ℕ) → index + 2 < length ms → begins_range (drop index ms) ≡ true → get_or ms (index + 2) collating ≡ y → Inserts old new (member_test (range x y)) true → AddsMember ms index old new (index + 3)
   adds_range y old new lt e last i = record { member = range x y; forward = omega arith; within = omega arith; is = range_is y lt e last; adds = i }
 
-  pub refuses_range : (y : Mark) → index + 2 < length ms → begins_range (drop index ms) ≡ true → get_or ms (index + 2) collating ≡ y → ((b : ℕ) → member_test (range x y) b ≡ None) → RefusesMember ms index
+  pub refuses_range : (y : BracketMark) → index + 2 < length ms → begins_range (drop index ms) ≡ true → get_or ms (index + 2) collating ≡ y → ((b : ℕ) → member_test (range x y) b ≡ None) → RefusesMember ms index
   refuses_range y lt e last r = record { member = range x y; more = members (drop (index + 3) ms); is = range_is y lt e last; refused = r }
 
   pub adds_one : (old new : List ℕ) → index < length ms → begins_range (drop index ms) ≡ false → Inserts old new (member_test (one x)) true → AddsMember ms index old new (index + 1)

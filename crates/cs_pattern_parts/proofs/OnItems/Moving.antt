@@ -7,7 +7,7 @@ use Rattle.cs_bytes.specs.Classes.{is_octal_digit, is_hexadecimal_digit, is_inne
 use Rattle.cs_bytes.specs.Places.{has_at}
 use Rattle.cs_pattern_parts.specs.Items.Character.{octal, hexadecimal, escape}
 use Rattle.cs_pattern_parts.specs.Items.Parts.{letter, byte_of}
-use Rattle.cs_pattern_parts.specs.Items.Brackets.{Mark, plain}
+use Rattle.cs_pattern_parts.specs.Items.Brackets.{BracketMark, plain}
 use Rattle.cs_bytes.specs.Digits.{number_of}
 use Rattle.cs_pattern_parts.specs.Items.Quoted as quotes
 use Rattle.cs_pattern_parts.specs.Items.Marks.{mark, named_part, part_of, or_itself, escape_mark}
@@ -97,21 +97,21 @@ quoted_moves (b ∷ rest) c n e =
 
 -- ---- marks
 
-escape_mark_moves : (rest : List ℕ) (r : Option (Option ℕ × ℕ)) (x : Mark) (n : ℕ) → escape rest ≡ r → escape_mark r ≡ Some (x, n) → (0 < n) × (n ≤ suc (length rest))
+escape_mark_moves : (rest : List ℕ) (r : Option (Option ℕ × ℕ)) (x : BracketMark) (n : ℕ) → escape rest ≡ r → escape_mark r ≡ Some (x, n) → (0 < n) × (n ≤ suc (length rest))
 escape_mark_moves rest None x n is e = absurd cc
 escape_mark_moves rest (Some (o, k)) x n is e =
     let m = escape_moves rest o k is in
     let y : (marked.escaped o, k + 1) ≡ (x, n) = cc in
-    let z : k + 1 ≡ n = ap (λ (r : Mark × ℕ). r.1) y in
+    let z : k + 1 ≡ n = ap (λ (r : BracketMark × ℕ). r.1) y in
     (omega arith, omega (arith, m.1))
 
-part_size : (kind : ℕ) (name : List ℕ) (size : ℕ) (x : Mark) (n : ℕ) → part_of kind name size ≡ Some (x, n) → n ≡ size
+part_size : (kind : ℕ) (name : List ℕ) (size : ℕ) (x : BracketMark) (n : ℕ) → part_of kind name size ≡ Some (x, n) → n ≡ size
 part_size kind name size x n e =
     elim (chosen (kind == 58) _ _ _ e) [
-      | inl h ↦ let g : Some (marked.class name, size) ≡ Some (x, n) = h.1 in let y : (marked.class name, size) ≡ (x, n) = cc in sym (ap (λ (r : Mark × ℕ). r.1) y)
+      | inl h ↦ let g : Some (marked.class name, size) ≡ Some (x, n) = h.1 in let y : (marked.class name, size) ≡ (x, n) = cc in sym (ap (λ (r : BracketMark × ℕ). r.1) y)
       | inr h ↦
           elim (chosen ((kind == 46) || (kind == 61)) _ _ _ h.1) [
-            | inl f ↦ let g : Some (marked.collating, size) ≡ Some (x, n) = f.1 in let y : (marked.collating, size) ≡ (x, n) = cc in sym (ap (λ (r : Mark × ℕ). r.1) y)
+            | inl f ↦ let g : Some (marked.collating, size) ≡ Some (x, n) = f.1 in let y : (marked.collating, size) ≡ (x, n) = cc in sym (ap (λ (r : BracketMark × ℕ). r.1) y)
             | inr f ↦ let g = f.1 in absurd cc
           ]
     ]
@@ -120,7 +120,7 @@ pub and_true : (p q : Bool) → (p && q) ≡ true → (p ≡ true) × (q ≡ tru
 and_true true q e = (refl, e)
 and_true false q e = absurd cc
 
-named_within : (text : List ℕ) (x : Mark) (n : ℕ) → named_part text ≡ Some (x, n) → n ≤ length text
+named_within : (text : List ℕ) (x : BracketMark) (n : ℕ) → named_part text ≡ Some (x, n) → n ≤ length text
 unfolding named_part
 named_within [] x n e = absurd cc
 named_within (kind ∷ rest) x n e =
@@ -132,15 +132,15 @@ named_within (kind ∷ rest) x n e =
       | inr h ↦ let g = h.1 in absurd cc
     ]
 
-itself_moves : (rest : List ℕ) (r : Option (Mark × ℕ)) (x : Mark) (n : ℕ) → named_part rest ≡ r → or_itself r ≡ Some (x, n) → (0 < n) × (n ≤ suc (length rest))
+itself_moves : (rest : List ℕ) (r : Option (BracketMark × ℕ)) (x : BracketMark) (n : ℕ) → named_part rest ≡ r → or_itself r ≡ Some (x, n) → (0 < n) × (n ≤ suc (length rest))
 itself_moves rest None x n is e =
     let y : (plain 91, 1) ≡ (x, n) = cc in
-    let z : 1 ≡ n = ap (λ (r : Mark × ℕ). r.1) y in
+    let z : 1 ≡ n = ap (λ (r : BracketMark × ℕ). r.1) y in
     (omega arith, omega arith)
 itself_moves rest (Some (part, k)) x n is e =
     let m = named_within rest part k is in
     let y : (part, k + 1) ≡ (x, n) = cc in
-    let z : k + 1 ≡ n = ap (λ (r : Mark × ℕ). r.1) y in
+    let z : k + 1 ≡ n = ap (λ (r : BracketMark × ℕ). r.1) y in
     (omega arith, omega (arith, m))
 
 pub mark_moves : Moves mark
@@ -158,7 +158,7 @@ mark_moves (b ∷ rest) x n e =
                   | inr f ↦
                       let w : Some (plain b, 1) ≡ Some (x, n) = f.1 in
                       let y : (plain b, 1) ≡ (x, n) = cc in
-                      let z : 1 ≡ n = ap (λ (r : Mark × ℕ). r.1) y in
+                      let z : 1 ≡ n = ap (λ (r : BracketMark × ℕ). r.1) y in
                       (omega arith, omega arith)
                 ]
           ]

@@ -13,7 +13,7 @@ use Rattle.cs_bytes.specs.Places.{has_at}
 use Rattle.cs_pattern_parts.specs.Items.ByteKind.{is_plain}
 use Rattle.cs_pattern_parts.specs.Items.Character.{octal, hexadecimal, escape}
 use Rattle.cs_pattern_parts.specs.Items.Parts.{byte_of, letter}
-use Rattle.cs_pattern_parts.specs.Items.Brackets.{Mark}
+use Rattle.cs_pattern_parts.specs.Items.Brackets.{BracketMark}
 use Rattle.cs_bytes.specs.Digits.{number_of}
 use Rattle.cs_pattern_parts.specs.Items.Steps.{and_more, up_to, steps}
 use Rattle.cs_pattern_parts.specs.Items.Quoted.{escaped, quoted_byte}
@@ -23,7 +23,7 @@ use Rattle.cs_pattern_parts.specs.Items.Bracket.{Bracket, collation, nothing, is
 use Rattle.cs_pattern_parts.specs.Items.Interval.{interval, name}
 use Rattle.cs_pattern_parts.specs.Items.Items.{Item, class, quoted, named, opening, closing, bar, repetition}
 use Rattle.cs_pattern_parts.specs.Items.Front.{Front, item, stop, one_byte_item, any_byte, escape_front, quoted_front, bracket_front, brace_front, sign_front, front}
-use Rattle.cs_pattern_parts.specs.Items.StandsFor.{AreBytes, HasByte}
+use Rattle.cs_pattern_parts.specs.Items.StandsFor.{AreBytes, HasSomeByte}
 use Rattle.cs_pattern_parts.proofs.OnItems.Picked.{has_picked, some_is_no_none, picked_below}
 
 either_way : {A : Type 0} (P : A → Type 0) (v : Bool) (x y : A) → P x → P y → P (if v then x else y)
@@ -32,7 +32,7 @@ either_way P false x y p q = q
 
 -- ---- sets
 
-some_byte : (xs : List ℕ) → AreBytes xs → (xs ≡ [] → ⊥) → HasByte xs
+some_byte : (xs : List ℕ) → AreBytes xs → (xs ≡ [] → ⊥) → HasSomeByte xs
 some_byte [] h e = absurd (e refl)
 some_byte (x ∷ xs) h e = (x, All-head (λ b. b < 256) x xs h, (0, omega arith, refl))
 
@@ -40,17 +40,17 @@ pub bytes_where-bytes : (t : ℕ → Bool) → AreBytes (bytes_where t)
 bytes_where-bytes t = picked_below t 256
 
 -- a set has a byte where one passes its test
-pub bytes_where-has_byte : (t : ℕ → Bool) (b : ℕ) → b < 256 → t b ≡ true → HasByte (bytes_where t)
+pub bytes_where-has_byte : (t : ℕ → Bool) (b : ℕ) → b < 256 → t b ≡ true → HasSomeByte (bytes_where t)
 bytes_where-has_byte t b lt e = some_byte (picked t 256) (picked_below t 256) (some_is_no_none (picked t 256) b (has_picked t 256 b lt ∙ e))
 
-pub one_byte-has_byte : (b : ℕ) → b < 256 → HasByte (bytes_where (λ c. c == b))
+pub one_byte-has_byte : (b : ℕ) → b < 256 → HasSomeByte (bytes_where (λ c. c == b))
 one_byte-has_byte b lt = bytes_where-has_byte (λ c. c == b) b lt (eq-eqb b b refl)
 
 -- ---- fronts
 
 -- a class has a byte, and what is quoted are bytes
 abbrev pub StandsForBytes : Item → Type 0
-StandsForBytes (class set) = HasByte set
+StandsForBytes (class set) = HasSomeByte set
 StandsForBytes (quoted bytes) = AreBytes bytes
 StandsForBytes (named name) = Unit {0}
 StandsForBytes opening = Unit {0}
@@ -160,9 +160,9 @@ AreBytesIfAny (Some xs) = AreBytes xs
 
 abbrev HasByteIfAny : Option (List ℕ) → Type 0
 HasByteIfAny None = Unit {0}
-HasByteIfAny (Some xs) = HasByte xs
+HasByteIfAny (Some xs) = HasSomeByte xs
 
-member_bytes_are : (ms : List Mark) → AreBytesIfAny (member_bytes ms)
+member_bytes_are : (ms : List BracketMark) → AreBytesIfAny (member_bytes ms)
 unfolding member_bytes
 member_bytes_are ms =
     either_way AreBytesIfAny (is_refused (any_test (members ms) 0)) None (Some (bytes_where (λ b. is_yes (any_test (members ms) b)))) tt
@@ -184,7 +184,7 @@ set_stands : (o : Option (List ℕ)) (size : ℕ) → HasByteIfAny o → Bracket
 set_stands None size h = tt
 set_stands (Some xs) size h = h
 
-closed_stands : (inverted : Bool) (ms : List Mark) (size : ℕ) → BracketWell (closed inverted ms size)
+closed_stands : (inverted : Bool) (ms : List BracketMark) (size : ℕ) → BracketWell (closed inverted ms size)
 closed_stands inverted ms size =
     either_way BracketWell (list_any is_collating ms) collation (set_or_nothing (turned inverted (member_bytes ms)) size) tt
     (set_stands (turned inverted (member_bytes ms)) size (turned_has inverted (member_bytes ms) (member_bytes_are ms)))

@@ -1,7 +1,7 @@
 -- What repetitions, joins and eithers match.
 use Rattle.std.proofs.Common.{◌≡◌, ℕ, zero, suc, ◌+◌, ◌-◌, ◌≤◌, ◌<◌, List, [], ◌∷◌, ◌++◌, replicate, refl, sym, ap, ◌∙◌, subst, inl, inr, arith, append_assoc, append-nil}
 use Rattle.std.proofs.lemmas.List.Elements.{All-append, All-nil, All-cons, All-contains}
-use Rattle.cs_pattern_parts.specs.Items.StandsFor.{AreBytes, HasByte}
+use Rattle.cs_pattern_parts.specs.Items.StandsFor.{AreBytes, HasSomeByte}
 use Rattle.cs_pattern_parts.specs.Tree.Pattern.{Regex, Empty, Class, Join, Either, Many, Parts, Nothing, Then, parts_of, alone_or, Repeats, no_more, one_more, Matches, MatchInOrder, SomeMatches}
 use Rattle.cs_pattern_parts.specs.Tree.Counting.{Times, SomeTimes, HasBytes, IsBetween}
 use Rattle.cs_pattern_parts.specs.Tree.Repeated.{optional, at_least}
@@ -171,14 +171,14 @@ mutual
   matches_some (Either parts) c e = one_matches parts c e.0 e.1
   matches_some (Many part) c e = ([], All-nil (λ b. b < 256), no_more)
 
-  match_some : (rs : Parts) → EachClassOf HasByte rs → HaveNoEmptyEither rs → (word : List ℕ) × AreBytes word × MatchInOrder rs word
+  match_some : (rs : Parts) → EachClassOf HasSomeByte rs → HaveNoEmptyEither rs → (word : List ℕ) × AreBytes word × MatchInOrder rs word
   match_some Nothing c e = ([], All-nil (λ b. b < 256), refl)
   match_some (Then r rs) c e =
       let h = matches_some r c.0 e.0 in
       let more = match_some rs c.1 e.1 in
       (h.0 ++ more.0, All-append (λ b. b < 256) h.0 more.0 h.1 more.1, (h.0, more.0, refl, h.2, more.2))
 
-  one_matches : (rs : Parts) → EachClassOf HasByte rs → HasPart rs → HaveNoEmptyEither rs → (word : List ℕ) × AreBytes word × SomeMatches rs word
+  one_matches : (rs : Parts) → EachClassOf HasSomeByte rs → HasPart rs → HaveNoEmptyEither rs → (word : List ℕ) × AreBytes word × SomeMatches rs word
   one_matches Nothing c has e = absurd has
   one_matches (Then r rs) c has e = let h = matches_some r c.0 e.0 in (h.0, h.1, inl h.2)
 

@@ -6,7 +6,7 @@ use Rattle.cs_pattern_parts.specs.declared.items.bracket.Class.{Class}
 use Rattle.cs_bytes.specs.Places.{has_at}
 use Rattle.cs_pattern_parts.specs.Items.Members.{bytes_where, has}
 use Rattle.cs_pattern_parts.specs.Items.NamedClasses.{class_of, is_in_class}
-use Rattle.cs_pattern_parts.specs.Items.Brackets.{Mark, plain, escaped, class, collating, Member, one, range}
+use Rattle.cs_pattern_parts.specs.Items.Brackets.{BracketMark, plain, escaped, class, collating, Member, one, range}
 use Rattle.cs_pattern_parts.specs.Items.Marks.{marks}
 
 abbrev pub class_by : Option Class → ℕ → Option Bool
@@ -17,14 +17,14 @@ class_by (Some k) b = Some (is_in_class k b)
 abbrev pub class_test : List ℕ → ℕ → Option Bool
 class_test name = class_by (class_of name)
 
-abbrev pub is_dash : Mark → Bool
+abbrev pub is_dash : BracketMark → Bool
 is_dash (plain b) = b == dash
 is_dash (escaped b) = false
 is_dash (class name) = false
 is_dash collating = false
 
 -- a range begins here: a `-` stands second, and a mark behind it
-abbrev pub begins_range : List Mark → Bool
+abbrev pub begins_range : List BracketMark → Bool
 begins_range [] = false
 begins_range (x ∷ []) = false
 begins_range (x ∷ d ∷ []) = false
@@ -32,20 +32,20 @@ begins_range (x ∷ d ∷ y ∷ rest) = is_dash d
 
 -- the members of these marks: a `-` between two marks makes a range of them, unless it ends or begins one before
 abbrev mutual
-  pub members : List Mark → List Member
+  pub members : List BracketMark → List Member
   members [] = []
   members (x ∷ more) = members_at x more
 
-  pub members_at : Mark → List Mark → List Member
+  pub members_at : BracketMark → List BracketMark → List Member
   members_at x [] = one x ∷ []
   members_at x (d ∷ more) = if is_dash d then behind_dash x d more else one x ∷ members_at d more
 
-  pub behind_dash : Mark → Mark → List Mark → List Member
+  pub behind_dash : BracketMark → BracketMark → List BracketMark → List Member
   behind_dash x d [] = one x ∷ one d ∷ []
   behind_dash x d (y ∷ rest) = range x y ∷ members rest
 
 -- the byte for which a mark stands
-abbrev pub byte_of_mark : Mark → Option ℕ
+abbrev pub byte_of_mark : BracketMark → Option ℕ
 byte_of_mark (plain b) = Some b
 byte_of_mark (escaped b) = b
 byte_of_mark (class name) = None
@@ -87,7 +87,7 @@ is_refused None = true
 is_refused (Some b) = false
 
 -- The bytes of the members. None where a member is refused, which no byte decides.
-unfoldable pub member_bytes : List Mark → Option (List ℕ)
+unfoldable pub member_bytes : List BracketMark → Option (List ℕ)
 member_bytes ms = if is_refused (any_test (members ms) 0) then None else Some (bytes_where (λ b. is_yes (any_test (members ms) b)))
 
 abbrev pub unless_empty : List ℕ → Option (List ℕ)
@@ -100,7 +100,7 @@ turned inverted None = None
 turned false (Some bytes) = unless_empty bytes
 turned true (Some bytes) = unless_empty (bytes_where (λ b. not (has bytes b)))
 
-abbrev pub is_collating : Mark → Bool
+abbrev pub is_collating : BracketMark → Bool
 is_collating (plain b) = false
 is_collating (escaped b) = false
 is_collating (class name) = false
@@ -118,7 +118,7 @@ set_or_nothing None size = nothing
 set_or_nothing (Some bytes) size = set bytes size
 
 -- a `[`, its marks and its `]`: a collating part is told, whatever else is wrong
-abbrev pub closed : Bool → List Mark → ℕ → Bracket
+abbrev pub closed : Bool → List BracketMark → ℕ → Bracket
 closed inverted ms size = if list_any is_collating ms then collation else set_or_nothing (turned inverted (member_bytes ms)) size
 
 abbrev pub bracket_in : Bool → ℕ → List ℕ → Bracket

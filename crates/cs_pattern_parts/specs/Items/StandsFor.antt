@@ -6,5 +6,5 @@ abbrev pub AreBytes : List ℕ → Type 0
 AreBytes xs = All (λ b. b < 256) xs
 
 -- some byte is in the set
-abbrev pub HasByte : List ℕ → Type 0
-HasByte set = (b : ℕ) × (b < 256) × Contains set b
+abbrev pub HasSomeByte : List ℕ → Type 0
+HasSomeByte set = (b : ℕ) × (b < 256) × Contains set b

@@ -3,14 +3,14 @@ use Rattle.std.specs.Prelude.{◌≡◌, ℕ, ◌<◌, ◌≤◌, ◌++◌, List
 use Rattle.cs_pattern_parts.specs.declared.items.item.Item as code
 use Rattle.cs_pattern_parts.specs.declared.items.item.Item.TheVariants as items
 use Rattle.cs_pattern_parts.specs.declared.items.item.Placed as held
-use Rattle.cs_pattern_parts.specs.declared.items.mark.Mark as code_marks
-use Rattle.cs_pattern_parts.specs.declared.items.mark.Mark.TheVariants as mark_kinds
+use Rattle.cs_pattern_parts.specs.declared.items.mark.BracketMark as code_marks
+use Rattle.cs_pattern_parts.specs.declared.items.mark.BracketMark.TheVariants as mark_kinds
 use Rattle.cs_pattern_parts.specs.declared.items.bracket.Bracket as code_brackets
 use Rattle.cs_pattern_parts.specs.declared.items.bracket.Bracket.TheVariants as bracket_kinds
 use Rattle.cs_pattern_parts.specs.declared.items.front.Front as code_fronts
 use Rattle.cs_pattern_parts.specs.declared.items.front.Front.TheVariants as front_kinds
 use Rattle.cs_pattern_parts.specs.Items.Items.{Item, class, quoted, named, opening, closing, bar, repetition, Placed}
-use Rattle.cs_pattern_parts.specs.Items.Brackets.{Mark, plain, escaped, collating}
+use Rattle.cs_pattern_parts.specs.Items.Brackets.{BracketMark, plain, escaped, collating}
 use Rattle.cs_pattern_parts.specs.Items.Brackets as spelled
 use Rattle.cs_pattern_parts.specs.Items.Marks as marks
 use Rattle.cs_pattern_parts.specs.Items.Steps.{steps}
@@ -33,21 +33,21 @@ placed_of p = record { at = p.at; item = item_of p.item }
 abbrev pub placed_all : List held.Placed → List Placed
 placed_all = map placed_of
 
-abbrev pub mark_of : code_marks.Mark → Mark
+abbrev pub mark_of : code_marks.BracketMark → BracketMark
 mark_of (mark_kinds.Plain b) = plain b
 mark_of (mark_kinds.Escape b) = escaped b
 mark_of (mark_kinds.Class name) = spelled.class name.now
 mark_of mark_kinds.Collating = collating
 
-abbrev pub marks_of : List code_marks.Mark → List Mark
+abbrev pub marks_of : List code_marks.BracketMark → List BracketMark
 marks_of = map mark_of
 
 -- the marks from the front of the text on are added
-abbrev pub AddsMarks : List ℕ → List code_marks.Mark → List code_marks.Mark → Type 0
+abbrev pub AddsMarks : List ℕ → List code_marks.BracketMark → List code_marks.BracketMark → Type 0
 AddsMarks text old new = marks_of new ≡ marks_of old ++ (steps marks.mark text).0
 
 -- a mark and its size
-abbrev pub sized_mark : Option (code_marks.Mark × ℕ) → Option (Mark × ℕ)
+abbrev pub sized_mark : Option (code_marks.BracketMark × ℕ) → Option (BracketMark × ℕ)
 sized_mark = option_map (λ p. (mark_of p.0, p.1))
 
 abbrev pub bracket_of : code_brackets.Bracket → brackets.Bracket

@@ -1,6 +1,6 @@
 -- Patterns of which an automaton can be made.
 use Rattle.std.specs.Prelude.{ℕ, ◌≤◌, List, All, length, sum_by}
-use Rattle.cs_pattern_parts.specs.Items.StandsFor.{AreBytes, HasByte}
+use Rattle.cs_pattern_parts.specs.Items.StandsFor.{AreBytes, HasSomeByte}
 use Rattle.cs_pattern_parts.specs.Tree.Pattern.{Regex, Empty, Class, Join, Either, Many, Parts, Nothing, Then, Matches, leaves, nesting}
 
 -- the set of each class of the pattern is P
@@ -18,7 +18,7 @@ abbrev mutual
 
 -- each class has a byte
 abbrev pub HasNoEmptyClass : Regex → Type 0
-HasNoEmptyClass = EachClass HasByte
+HasNoEmptyClass = EachClass HasSomeByte
 
 -- each class has bytes alone
 abbrev pub HasByteClasses : Regex → Type 0

@@ -10,7 +10,7 @@ ghost use Rattle.cs_pattern_parts.specs.Items.Inserting.{Inserts, InsertsRange, 
 ghost use Rattle.cs_pattern_parts.specs.Items.Views.{mark_of, marks_of, bracket_of, IsWithin};
 
 use crate::items::byte_set::ByteSet;
-use crate::items::mark::{Mark, marks};
+use crate::items::mark::{BracketMark, marks};
 use cs_bytes::{from_offset, has_at};
 use std::alloc::{AllocError, Global};
 
@@ -137,13 +137,13 @@ fn class_bytes(class: Class) -> ByteSet
 }
 
 /// The byte for which a mark stands, if it stands for one.
-fn byte_of_mark(mark: Mark<'_>) -> Option<u8>
+fn byte_of_mark(mark: BracketMark<'_>) -> Option<u8>
     ensures { result ≡ spec.byte_of_mark (mark_of mark.entry) }
 {
     match mark {
-        Mark::Plain(byte) => Some(byte),
-        Mark::Escape(byte) => byte,
-        Mark::Class(_) | Mark::Collating => None,
+        BracketMark::Plain(byte) => Some(byte),
+        BracketMark::Escape(byte) => byte,
+        BracketMark::Class(_) | BracketMark::Collating => None,
     }
 }
 
@@ -172,19 +172,19 @@ fn insert_named(set: &mut ByteSet, name: &[u8]) -> bool
 }
 
 /// Adds the bytes of a mark that stands alone. Whether it stands for some.
-fn insert_mark(set: &mut ByteSet, mark: Mark<'_>) -> bool
+fn insert_mark(set: &mut ByteSet, mark: BracketMark<'_>) -> bool
     ensures { Inserts set.old set.new (spec.member_test (brackets.one (mark_of mark.entry))) result }
 {
     match mark {
-        Mark::Class(name) => insert_named(set, name),
-        Mark::Plain(byte) => insert_byte(set, Some(byte)),
-        Mark::Escape(byte) => insert_byte(set, byte),
-        Mark::Collating => false,
+        BracketMark::Class(name) => insert_named(set, name),
+        BracketMark::Plain(byte) => insert_byte(set, Some(byte)),
+        BracketMark::Escape(byte) => insert_byte(set, byte),
+        BracketMark::Collating => false,
     }
 }
 
 /// Adds the bytes from the one mark through the other. Whether they are a range.
-fn insert_range(set: &mut ByteSet, first: Mark<'_>, last: Mark<'_>) -> bool
+fn insert_range(set: &mut ByteSet, first: BracketMark<'_>, last: BracketMark<'_>) -> bool
     ensures { InsertsRange set.old set.new (mark_of first.entry) (mark_of last.entry) result }
 {
     match (byte_of_mark(first), byte_of_mark(last)) {
@@ -196,14 +196,14 @@ fn insert_range(set: &mut ByteSet, first: Mark<'_>, last: Mark<'_>) -> bool
     }
 }
 
-fn is_dash(mark: Mark<'_>) -> bool
+fn is_dash(mark: BracketMark<'_>) -> bool
     ensures { result ≡ spec.is_dash (mark_of mark.entry) }
 {
-    matches!(mark, Mark::Plain(b'-'))
+    matches!(mark, BracketMark::Plain(b'-'))
 }
 
 /// Whether a range begins at the index: a `-` stands behind it, and a mark behind that.
-fn begins_range(marks: &[Mark<'_>], index: usize) -> bool
+fn begins_range(marks: &[BracketMark<'_>], index: usize) -> bool
     requires { index < length marks.now }
     ensures value { result ≡ spec.begins_range (drop index (marks_of marks.now)) }
     ensures within { IsTrue result → index + 2 < length marks.now }
@@ -216,7 +216,7 @@ fn begins_range(marks: &[Mark<'_>], index: usize) -> bool
 }
 
 /// Adds the bytes of the member that begins at the index. Where it ends, or `None` where it is refused.
-fn insert_member(set: &mut ByteSet, marks: &[Mark<'_>], index: usize) -> Option<usize>
+fn insert_member(set: &mut ByteSet, marks: &[BracketMark<'_>], index: usize) -> Option<usize>
     requires { index < length marks.now }
     ensures { AddsOrRefuses (marks_of marks.now) index set.old set.new result }
 {
@@ -240,7 +240,7 @@ fn unless_empty(set: ByteSet) -> Option<ByteSet>
 }
 
 /// The bytes of the marks. `None` where some marks are no member.
-fn members(marks: &[Mark<'_>]) -> Option<ByteSet>
+fn members(marks: &[BracketMark<'_>]) -> Option<ByteSet>
     ensures { IsSetOrNone (marks_of marks.now) result }
 {
     let mut set = ByteSet::new();
@@ -251,13 +251,13 @@ fn members(marks: &[Mark<'_>]) -> Option<ByteSet>
     Some(set)
 }
 
-fn is_collating(mark: &Mark<'_>) -> bool
+fn is_collating(mark: &BracketMark<'_>) -> bool
     ensures { result ≡ spec.is_collating (mark_of mark.now) }
 {
-    matches!(*mark, Mark::Collating)
+    matches!(*mark, BracketMark::Collating)
 }
 
-fn has_collating(marks: &[Mark<'_>]) -> bool
+fn has_collating(marks: &[BracketMark<'_>]) -> bool
     ensures { result ≡ list_any spec.is_collating (marks_of marks.now) }
 {
     for mark in marks {
@@ -269,7 +269,7 @@ fn has_collating(marks: &[Mark<'_>]) -> bool
 }
 
 /// The set of these marks, or its complement. `None` where the marks are refused or the set is empty.
-fn set_of(marks: &[Mark<'_>], inverted: bool) -> Option<ByteSet>
+fn set_of(marks: &[BracketMark<'_>], inverted: bool) -> Option<ByteSet>
     ensures { result ≡ spec.turned inverted (spec.member_bytes (marks_of marks.now)) }
 {
     let set = members(marks)?;
@@ -281,7 +281,7 @@ fn set_of(marks: &[Mark<'_>], inverted: bool) -> Option<ByteSet>
 }
 
 /// What a closed bracket is, of these marks and this size.
-fn closed(inverted: bool, marks: &[Mark<'_>], size: usize) -> Bracket
+fn closed(inverted: bool, marks: &[BracketMark<'_>], size: usize) -> Bracket
     ensures value { bracket_of result ≡ spec.closed inverted (marks_of marks.now) size }
     ensures size { IsWithin size result }
 {

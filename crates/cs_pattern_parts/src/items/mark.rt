@@ -17,7 +17,7 @@ const INNER: ByteClass = ByteClass::Neither(b']', b'\n');
 
 /// What stands inside a bracket.
 #[derive(Clone, Copy, Debug)]
-pub(crate) enum Mark<'a> {
+pub(crate) enum BracketMark<'a> {
     /// A byte that stands for itself.
     Plain(u8),
     /// An escape; no byte where an octal number is above 255.
@@ -31,7 +31,7 @@ pub(crate) enum Mark<'a> {
 /// The named part behind a `[`, and its size without that: it goes through the next `]`, which stands directly behind a
 /// second byte of its kind. So many bytes stand behind its kind before the next `]` or newline.
 #[tactic(auto, unfolding(crate::specs::Items::Marks::named_part))]
-fn named_part(text: &[u8], size: usize) -> Option<(Mark<'_>, usize)>
+fn named_part(text: &[u8], size: usize) -> Option<(BracketMark<'_>, usize)>
     requires { size ≡ prefix_len is_inner (drop 1 text.now) }
     ensures value { sized_mark result ≡ spec.named_part text.now }
     ensures size { IfSome result (λ r. r.1 ≤ length text.now) }
@@ -43,15 +43,15 @@ fn named_part(text: &[u8], size: usize) -> Option<(Mark<'_>, usize)>
         return None;
     }
     match *kind {
-        b':' => Some((Mark::Class(&rest[..size - 1]), size + 2)),
-        b'.' | b'=' => Some((Mark::Collating, size + 2)),
+        b':' => Some((BracketMark::Class(&rest[..size - 1]), size + 2)),
+        b'.' | b'=' => Some((BracketMark::Collating, size + 2)),
         _ => None,
     }
 }
 
 /// The mark at the front of the text, and its size. So many bytes stand behind the first two before the next `]` or newline.
 #[tactic(auto, unfolding(crate::specs::Items::Marks::mark))]
-fn mark_of(text: &[u8], inner: usize) -> Option<(Mark<'_>, usize)>
+fn mark_of(text: &[u8], inner: usize) -> Option<(BracketMark<'_>, usize)>
     requires { inner ≡ prefix_len is_inner (drop 2 text.now) }
     ensures value { sized_mark result ≡ spec.mark text.now }
     ensures size { IfSome result (λ r. (0 < r.1) × (r.1 ≤ length text.now)) }
@@ -63,18 +63,18 @@ fn mark_of(text: &[u8], inner: usize) -> Option<(Mark<'_>, usize)>
         b'\n' | b']' => None,
         b'\\' => {
             let (byte, size) = escape(rest)?;
-            Some((Mark::Escape(byte), size + 1))
+            Some((BracketMark::Escape(byte), size + 1))
         }
         b'[' => match named_part(rest, inner) {
             Some((part, size)) => Some((part, size + 1)),
-            None => Some((Mark::Plain(b'['), 1)),
+            None => Some((BracketMark::Plain(b'['), 1)),
         },
-        other => Some((Mark::Plain(other), 1)),
+        other => Some((BracketMark::Plain(other), 1)),
     }
 }
 
 /// The mark at the offset, and its size. The end of what may stand in a named part moves on with the offset.
-fn mark_at<'a>(text: &'a [u8], at: usize, end: &mut usize) -> Option<(Mark<'a>, usize)>
+fn mark_at<'a>(text: &'a [u8], at: usize, end: &mut usize) -> Option<(BracketMark<'a>, usize)>
     requires within { at ≤ length text.now }
     requires end { places.EndsRun is_inner text.now (at + 2) end.old }
     ensures value { sized_mark result ≡ spec.mark (drop at text.now) }
@@ -86,7 +86,7 @@ fn mark_at<'a>(text: &'a [u8], at: usize, end: &mut usize) -> Option<(Mark<'a>, 
 }
 
 /// Adds the marks from the front of the text on, and how many bytes they take.
-fn push_marks<'a>(marks: &mut Vec<Mark<'a>>, text: &'a [u8]) -> Result<usize, AllocError>
+fn push_marks<'a>(marks: &mut Vec<BracketMark<'a>>, text: &'a [u8]) -> Result<usize, AllocError>
     ensures list { OnOk result (AddsMarks text.now marks.old.items marks.new.items) }
     ensures size { IfOk result (λ n. n ≡ (steps spec.mark text.now).1) }
     ensures within { IfOk result (λ n. n ≤ length text.now) }
@@ -102,13 +102,13 @@ fn push_marks<'a>(marks: &mut Vec<Mark<'a>>, text: &'a [u8]) -> Result<usize, Al
 
 /// The marks up to the closing `]`, and their size without it. A `]` stands for itself where it is the first.
 #[tactic(auto, unfolding(crate::specs::Items::Marks::marks))]
-pub(crate) fn marks(alloc: Global, text: &[u8]) -> Result<(Vec<Mark<'_>>, usize), AllocError>
+pub(crate) fn marks(alloc: Global, text: &[u8]) -> Result<(Vec<BracketMark<'_>>, usize), AllocError>
     ensures value { IfOk result (λ r. (marks_of r.0.items, r.1) ≡ spec.marks text.now) }
     ensures size { IfOk result (λ r. r.1 ≤ length text.now) }
 {
     let mut marks = Vec::new(alloc);
     if has_at(text, 0, b']') {
-        marks.push(Mark::Plain(b']'))?;
+        marks.push(BracketMark::Plain(b']'))?;
         let size = push_marks(&mut marks, from_offset(text, 1))?;
         Ok((marks, 1 + size))
     } else {

@@ -4,7 +4,7 @@ use Rattle.std.specs.Prelude.{sum_by}
 use Rattle.std.proofs.lemmas.List.Sums.{sum_by-cons}
 use Rattle.cs_pattern_parts.specs.Tree.Pattern.{Regex, Empty, Class, Join, Either, Many, Parts, Nothing, Then, leaves, all_leaves}
 use Rattle.cs_pattern_parts.specs.Tree.Scannable.{HasNoEmptyClass, EachClassOf, HasNoEmptyEither, HaveNoEmptyEither, HasPart, IsScannable, AreScannable}
-use Rattle.cs_pattern_parts.specs.Items.StandsFor.{HasByte}
+use Rattle.cs_pattern_parts.specs.Items.StandsFor.{HasSomeByte}
 use Rattle.cs_scanner.specs.Automaton.Meaning.{re, cat_of, alt_of, res}
 use Rattle.cs_scanner.specs.Automaton.Places.{letters, all_letters, IsFull}
 use Rattle.cs_scanner.specs.Automaton.States.{HasSome, AreFull}
@@ -17,11 +17,11 @@ mutual
   full_of (Either ps) c e = full_either ps c e.0 e.1
   full_of (Many r) c e = full_of r c e
 
-  full_join : (ps : Parts) → EachClassOf HasByte ps → HaveNoEmptyEither ps → IsFull HasSome (cat_of ps)
+  full_join : (ps : Parts) → EachClassOf HasSomeByte ps → HaveNoEmptyEither ps → IsFull HasSome (cat_of ps)
   full_join Nothing c e = tt
   full_join (Then r ps) c e = (full_of r c.0 e.0, full_join ps c.1 e.1)
 
-  full_either : (ps : Parts) → EachClassOf HasByte ps → HasPart ps → HaveNoEmptyEither ps → IsFull HasSome (alt_of ps)
+  full_either : (ps : Parts) → EachClassOf HasSomeByte ps → HasPart ps → HaveNoEmptyEither ps → IsFull HasSome (alt_of ps)
   full_either Nothing c some e = absurd some
   full_either (Then r Nothing) c some e = full_of r c.0 e.0
   full_either (Then r (Then s ps)) c some e = (full_of r c.0 e.0, full_either (Then s ps) c.1 tt e.1)

@@ -3,7 +3,7 @@ use Rattle.std.proofs.lemmas.List.{map_push}
 use Rattle.cs_bytes.specs.Classes.{is_inner}
 use Rattle.cs_bytes.proofs.RunEnds.{end_behind}
 use Rattle.cs_pattern_parts.specs.Items.Marks.{mark}
-use Rattle.cs_pattern_parts.specs.Items.Brackets.{Mark}
+use Rattle.cs_pattern_parts.specs.Items.Brackets.{BracketMark}
 use Rattle.cs_pattern_parts.specs.Items.Views.{mark_of, marks_of}
 use Rattle.cs_pattern_parts.proofs.OnItems.Walking.{walks_more, walks_all}
 use Rattle.cs_pattern_parts.proofs.OnItems.Moving.{mark_moves}
@@ -22,10 +22,10 @@ pub returns-clause-list : goal.returns-clause-list
 returns-clause-list c =
     let so_far = c.loop-mark.invariant in
     let all = walks_all mark mark_moves _ _ c.loop-mark.at _ refl (sym c.in_default.ensures.value) so_far.2 in
-    so_far.1 ∙ ap (λ (xs : List Mark). marks_of c.args.marks.now.items ++ xs) (sym (ap (λ (r : List Mark × ℕ). r.0) all))
+    so_far.1 ∙ ap (λ (xs : List BracketMark). marks_of c.args.marks.now.items ++ xs) (sym (ap (λ (r : List BracketMark × ℕ). r.0) all))
 
 pub returns-clause-size : goal.returns-clause-size
 returns-clause-size c =
     let so_far = c.loop-mark.invariant in
     let all = walks_all mark mark_moves _ _ c.loop-mark.at _ refl (sym c.in_default.ensures.value) so_far.2 in
-    sym (ap (λ (r : List Mark × ℕ). r.1) all)
+    sym (ap (λ (r : List BracketMark × ℕ). r.1) all)
