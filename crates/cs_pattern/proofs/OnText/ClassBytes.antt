@@ -9,9 +9,9 @@ use Rattle.cs_pattern_parts.specs.Items.Members.{bytes_where}
 use Rattle.cs_pattern_parts.specs.Items.Spelling as spelling
 use Rattle.cs_pattern_parts.specs.Items.Spelling.{SpellsClass}
 use Rattle.cs_pattern_parts.proofs.OnItems.Fronts.{complete}
-use Rattle.cs_pattern_parts.specs.Items.StandsFor.{AreBytes, HasByte}
+use Rattle.cs_pattern_parts.specs.Items.StandsFor.{AreBytes, HasSomeByte}
 use Rattle.cs_pattern_parts.proofs.OnItems.StandingFor.{bytes_where-bytes, one_byte-has_byte, front-stands_for_bytes}
-use Rattle.cs_pattern.specs.declared.text.place.Place.{Place}
+use Rattle.cs_pattern.specs.declared.text.place.PatternPlace.{PatternPlace}
 use Rattle.cs_pattern.specs.Text.Classes.{HaveByteTexts}
 use Rattle.cs_pattern_parts.specs.Tree.Scannable.{EachClass, EachClassOf, HasNoEmptyClass, HasByteClasses}
 use Rattle.cs_pattern.specs.Operations.Definitions.{Definition}
@@ -99,7 +99,7 @@ module _ (P : List ℕ → Type 0) (one : (b : ℕ) → b < 256 → P (bytes_whe
   right [] ys h = h
   right (x ∷ xs) ys h = right xs ys h.1
 
-  items_stand : (text : List ℕ) (at : ℕ) (p : Place) (xs : List Placed) (to : ℕ) (last : Place) → AreBytes text → ReadsTo text at p xs to last → StandForBytes (items_of xs)
+  items_stand : (text : List ℕ) (at : ℕ) (p : PatternPlace) (xs : List Placed) (to : ℕ) (last : PatternPlace) → AreBytes text → ReadsTo text at p xs to last → StandForBytes (items_of xs)
   items_stand text at p [] to last h r = tt
   items_stand text at p (x ∷ xs) to last h r =
       (stands_well (drop at text) r.0 x.item (All-drop (λ b. b < 256) at text h) r.3, items_stand text (at + r.0) r.1 xs to last h r.5)
@@ -164,7 +164,7 @@ class_bytes text n set (spelling.full_stop s) = bytes_where-bytes (λ c. not (c 
 class_bytes text n set (spelling.bracket s b) = b.is_set.bytes
 
 pub no_empty_class : (ds : List Definition) (text : List ℕ) (pattern : Regex) → AreBytes text → HaveByteTexts ds → IsPatternOf ds text pattern → HasNoEmptyClass pattern
-no_empty_class = each_class HasByte one_byte-has_byte (λ text n set h s. front-stands_for_bytes text (class set) n h (complete text n (class set) s))
+no_empty_class = each_class HasSomeByte one_byte-has_byte (λ text n set h s. front-stands_for_bytes text (class set) n h (complete text n (class set) s))
 
 pub byte_classes_alone : (ds : List Definition) (text : List ℕ) (pattern : Regex) → AreBytes text → HaveByteTexts ds → IsPatternOf ds text pattern → HasByteClasses pattern
 byte_classes_alone = each_class AreBytes (λ b lt. bytes_where-bytes (λ c. c == b)) (λ text n set h s. class_bytes text n set s)

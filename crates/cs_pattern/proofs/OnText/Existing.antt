@@ -2,7 +2,7 @@
 use Rattle.std.proofs.Common.{◌≡◌, ◌⊎◌, ℕ, zero, suc, ◌+◌, ◌≤◌, ◌<◌, Bool, true, false, List, [], ◌∷◌, ◌++◌, length, drop, refl, sym, ap, subst, inl, inr, arith, length-drop}
 use Rattle.std.specs.Prelude.{Option, Some, None}
 use Rattle.std.proofs.lemmas.Bool.{cases_lt, false≢true}
-use Rattle.cs_pattern.specs.declared.text.place.Place.{Place}
+use Rattle.cs_pattern.specs.declared.text.place.PatternPlace.{PatternPlace}
 use Rattle.cs_pattern.specs.declared.text.fault.PatternFault.{PatternFault}
 use Rattle.cs_pattern.specs.declared.text.fault.PatternFault.TheVariants as faults
 use Rattle.cs_pattern_parts.specs.declared.items.front.Stop.{Stop}
@@ -30,19 +30,19 @@ use Rattle.cs_pattern.proofs.OnText.Trees.{have_trees}
 
 -- ---- reading
 
-groups_of : (p q : Place) (n : ℕ) → Some p ≡ Some q → p.groups ≤ n → q.groups ≤ n
-groups_of p q n e le = let f : p ≡ q = cc in subst (λ (r : Place). r.groups ≤ n) f le
+groups_of : (p q : PatternPlace) (n : ℕ) → Some p ≡ Some q → p.groups ≤ n → q.groups ≤ n
+groups_of p q n e le = let f : p ≡ q = cc in subst (λ (r : PatternPlace). r.groups ≤ n) f le
 
-closed_groups : (b : Bool) (g : ℕ) (q : Place) (n : ℕ) → closed b g ≡ Some q → g ≤ n → q.groups ≤ n
+closed_groups : (b : Bool) (g : ℕ) (q : PatternPlace) (n : ℕ) → closed b g ≡ Some q → g ≤ n → q.groups ≤ n
 closed_groups true (suc g) q n e le = groups_of (place true g) q n e (omega arith)
 closed_groups true zero q n e le = absurd cc
 closed_groups false g q n e le = absurd cc
 
-behind_groups : (b : Bool) (p q : Place) (n : ℕ) → if_behind b p ≡ Some q → p.groups ≤ n → q.groups ≤ n
+behind_groups : (b : Bool) (p q : PatternPlace) (n : ℕ) → if_behind b p ≡ Some q → p.groups ≤ n → q.groups ≤ n
 behind_groups true p q n e le = groups_of p q n e le
 behind_groups false p q n e le = absurd cc
 
-row_groups : (p : Place) (i : Item) (q : Place) → next_place p i ≡ Some q → q.groups ≤ p.groups + 1
+row_groups : (p : PatternPlace) (i : Item) (q : PatternPlace) → next_place p i ≡ Some q → q.groups ≤ p.groups + 1
 row_groups p (class s) q e = groups_of (place true p.groups) q (p.groups + 1) e (omega arith)
 row_groups p (quoted s) q e = groups_of (place true p.groups) q (p.groups + 1) e (omega arith)
 row_groups p (named s) q e = groups_of (place true p.groups) q (p.groups + 1) e (omega arith)
@@ -52,19 +52,19 @@ row_groups p bar q e = behind_groups p.behind_atom (place false p.groups) q (p.g
 row_groups p (repetition r) q e = behind_groups p.behind_atom p q (p.groups + 1) e (omega arith)
 
 -- a place is one at which a text may end, or not
-may_end_or_not : (p : Place) → MayEnd p ⊎ (MayEnd p → ⊥)
+may_end_or_not : (p : PatternPlace) → MayEnd p ⊎ (MayEnd p → ⊥)
 may_end_or_not p = by_parts p.behind_atom p.groups
   where
     by_parts : (b : Bool) (g : ℕ) → MayEnd (place b g) ⊎ (MayEnd (place b g) → ⊥)
     by_parts true zero = inl refl
-    by_parts true (suc g) = inr (λ e. let f : suc g ≡ 0 = ap (λ (q : Place). q.groups) e in omega arith)
-    by_parts false g = inr (λ e. false≢true (ap (λ (q : Place). q.behind_atom) e))
+    by_parts true (suc g) = inr (λ e. let f : suc g ≡ 0 = ap (λ (q : PatternPlace). q.groups) e in omega arith)
+    by_parts false g = inr (λ e. false≢true (ap (λ (q : PatternPlace). q.behind_atom) e))
 
 module _ (bytes : List ℕ) (plain : IsPlainText bytes) where
   abbrev EndsOrStops : Type 0
   EndsOrStops = ((items : List Placed) × Reads bytes items) ⊎ ((at : ℕ) × (why : Stop) × StopsAt bytes at why)
 
-  at_end : (items : List Placed) (at : ℕ) (p : Place) → HasRead bytes items at p → length bytes ≤ at → EndsOrStops
+  at_end : (items : List Placed) (at : ℕ) (p : PatternPlace) → HasRead bytes items at p → length bytes ≤ at → EndsOrStops
   at_end items at p h le =
       elim (may_end_or_not p) [
         | inl ends ↦ inl (items, reads_all bytes items at p plain h le ends)
@@ -72,15 +72,15 @@ module _ (bytes : List ℕ) (plain : IsPlainText bytes) where
       ]
 
   -- one item more, or a stop
-  next_item : (items : List Placed) (at : ℕ) (p : Place) → HasRead bytes items at p → at < length bytes
-      → ((more : List Placed) (then : ℕ) (q : Place) → HasRead bytes more then q → at < then → EndsOrStops) → EndsOrStops
+  next_item : (items : List Placed) (at : ℕ) (p : PatternPlace) → HasRead bytes items at p → at < length bytes
+      → ((more : List Placed) (then : ℕ) (q : PatternPlace) → HasRead bytes more then q → at < then → EndsOrStops) → EndsOrStops
   next_item items at p h lt go_on =
       elim (spelled_or_stopped (drop at bytes)) [
         | inl s ↦ by_row s.1 s.0 (next_place p s.1) s.2 refl
         | inr s ↦ inr (at, s.0, stops_here bytes items at p s.0 (drop at bytes) plain h refl lt (inl s.1))
       ]
     where
-      by_row : (i : Item) (n : ℕ) (row : Option Place) → Spells (drop at bytes) n i → next_place p i ≡ row → EndsOrStops
+      by_row : (i : Item) (n : ℕ) (row : Option PatternPlace) → Spells (drop at bytes) n i → next_place p i ≡ row → EndsOrStops
       by_row i n None e r = inr (at, stops.Syntax, stops_here bytes items at p stops.Syntax (drop at bytes) plain h refl lt (inr ((i, n, e, r), refl)))
       by_row i n (Some q) e r =
           let size = item_size (drop at bytes) n i e in
@@ -89,7 +89,7 @@ module _ (bytes : List ℕ) (plain : IsPlainText bytes) where
           go_on (items ++ record { at = at; item = i } ∷ []) (at + n) q
           (has_read_more bytes items at p i n q (drop at bytes) h refl e r some (omega (arith, within, length-drop at bytes)) (row_groups p i q r)) (omega arith)
 
-  walk : (fuel : ℕ) (items : List Placed) (at : ℕ) (p : Place) → HasRead bytes items at p → length bytes ≤ at + fuel → EndsOrStops
+  walk : (fuel : ℕ) (items : List Placed) (at : ℕ) (p : PatternPlace) → HasRead bytes items at p → length bytes ≤ at + fuel → EndsOrStops
   walk zero items at p h le = at_end items at p h (omega arith)
   walk (suc fuel) items at p h le =
       elim (cases_lt at (length bytes)) [

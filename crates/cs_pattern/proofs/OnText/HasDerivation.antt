@@ -4,7 +4,7 @@ use Rattle.std.specs.Prelude.{Some}
 use Rattle.std.proofs.lemmas.List.{append-nil}
 use Rattle.std.proofs.lemmas.Bool.{false≢true}
 use Rattle.cs_pattern_parts.specs.declared.items.item.Repetition.{Repetition}
-use Rattle.cs_pattern.specs.declared.text.place.Place.{Place}
+use Rattle.cs_pattern.specs.declared.text.place.PatternPlace.{PatternPlace}
 use Rattle.cs_pattern_parts.specs.Items.Items.{Item, class, quoted, named, opening, closing, bar, repetition, Placed, items_of}
 use Rattle.cs_pattern.specs.Text.Table.{place, beginning, next_place, MayEnd, ReadsTo, Reads}
 use Rattle.cs_pattern.specs.Operations.Grammar.{Tree, LastBranch, Or, LastPiece, Beside, Piece, Repeated, Atom, Bytes, Quote, Name, Group, tree_items, branch_items, piece_items, atom_items}
@@ -12,9 +12,9 @@ use Rattle.cs_pattern.specs.Operations.Grammar.{Tree, LastBranch, Or, LastPiece,
 -- from the place these items lead to the end
 abbrev GoesOn : Bool → ℕ → List Item → Type 0
 GoesOn b k [] = place b k ≡ place true 0
-GoesOn b k (x ∷ xs) = (next : Place) × (next_place (place b k) x ≡ Some next) × GoesOn next.behind_atom next.groups xs
+GoesOn b k (x ∷ xs) = (next : PatternPlace) × (next_place (place b k) x ≡ Some next) × GoesOn next.behind_atom next.groups xs
 
-leads_from : (bytes : List ℕ) (at : ℕ) (p : Place) (xs : List Placed) (to : ℕ) (last : Place) → ReadsTo bytes at p xs to last → MayEnd last → GoesOn p.behind_atom p.groups (items_of xs)
+leads_from : (bytes : List ℕ) (at : ℕ) (p : PatternPlace) (xs : List Placed) (to : ℕ) (last : PatternPlace) → ReadsTo bytes at p xs to last → MayEnd last → GoesOn p.behind_atom p.groups (items_of xs)
 leads_from bytes at p [] to last r e = r.1 ∙ e
 leads_from bytes at p (x ∷ xs) to last r e = (r.1, r.4, leads_from bytes (at + r.0) r.1 xs to last r.5 e)
 
@@ -87,11 +87,11 @@ atom_first k a ys h = record {
 tree_beside : (k : ℕ) (xs : List Item) → HasTree k xs → HasTail k xs
 tree_beside k xs h = record { tail = beside [] h.tree; rest = h.rest; is = h.is; after = h.after }
 
-led : (b c : Bool) (k j : ℕ) (xs : List Item) (next : Place) → Some (place c j) ≡ Some next → GoesOn next.behind_atom next.groups xs → GoesOn c j xs
-led b c k j xs next e l = let f : next ≡ place c j = cc in subst (λ (q : Place). GoesOn q.behind_atom q.groups xs) f l
+led : (b c : Bool) (k j : ℕ) (xs : List Item) (next : PatternPlace) → Some (place c j) ≡ Some next → GoesOn next.behind_atom next.groups xs → GoesOn c j xs
+led b c k j xs next e l = let f : next ≡ place c j = cc in subst (λ (q : PatternPlace). GoesOn q.behind_atom q.groups xs) f l
 
 not_behind : (k : ℕ) → place false k ≡ place true 0 → ⊥
-not_behind k e = false≢true (ap (λ (q : Place). q.behind_atom) e)
+not_behind k e = false≢true (ap (λ (q : PatternPlace). q.behind_atom) e)
 
 closed_group : (t : Tree) (zs ys : List Item) → ys ≡ closing ∷ zs → opening ∷ (tree_items t ++ ys) ≡ atom_items (Group t) ++ zs
 closed_group t zs ys e = ap (λ (w : List Item). opening ∷ (tree_items t ++ w)) e ∙ ap (λ (w : List Item). opening ∷ w) (sym (append_assoc (tree_items t) (closing ∷ []) zs))
@@ -104,14 +104,14 @@ group_first k xs h t =
 shorter : (n k : ℕ) (xs : List Item) (h : HasTree (suc k) xs) → length xs ≤ n → length h.after.0 ≤ n
 shorter n k xs h le = omega (arith, ap length h.is, ap length h.after.1, length-append (tree_items h.tree) h.rest)
 
-opened : (b : Bool) (k : ℕ) (xs : List Item) (next : Place) → Some (place false (k + 1)) ≡ Some next → GoesOn next.behind_atom next.groups xs → GoesOn false (suc k) xs
+opened : (b : Bool) (k : ℕ) (xs : List Item) (next : PatternPlace) → Some (place false (k + 1)) ≡ Some next → GoesOn next.behind_atom next.groups xs → GoesOn false (suc k) xs
 opened b k xs next e l = subst (λ m. GoesOn false m xs) (add-one k) (led b false k (k + 1) xs next e l)
 
 mutual
   -- behind an atom
   tail_at : (n k : ℕ) (xs : List Item) → length xs ≤ n → GoesOn true k xs → HasTail k xs
   tail_at n zero [] le l = record { tail = done []; rest = []; is = refl; after = refl }
-  tail_at n (suc k) [] le l = let f : suc k ≡ 0 = ap (λ (q : Place). q.groups) l in absurd (omega arith)
+  tail_at n (suc k) [] le l = let f : suc k ≡ 0 = ap (λ (q : PatternPlace). q.groups) l in absurd (omega arith)
   tail_at zero k (x ∷ xs) le l = absurd (omega arith)
   tail_at (suc n) k (repetition r ∷ xs) le l =
       let h = tail_at n k xs (omega arith) (led true true k k xs l.0 l.1 l.2) in

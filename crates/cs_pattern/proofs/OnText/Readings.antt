@@ -1,7 +1,7 @@
 -- Reading the items of a text.
 use Rattle.std.proofs.Common.{◌≡◌, ℕ, ◌+◌, ◌≤◌, ◌<◌, List, [], ◌∷◌, ◌++◌, length, drop, refl, sym, ap, ◌∙◌, subst, arith, inl, inr, ◌⊎◌, length-drop}
 use Rattle.std.specs.Prelude.{Some, None}
-use Rattle.cs_pattern.specs.declared.text.place.Place.{Place}
+use Rattle.cs_pattern.specs.declared.text.place.PatternPlace.{PatternPlace}
 use Rattle.cs_pattern_parts.specs.declared.items.front.Stop.{Stop}
 use Rattle.cs_pattern_parts.specs.declared.items.front.Stop.TheVariants.{Syntax}
 use Rattle.cs_pattern_parts.specs.Items.Items.{Item, Placed}
@@ -10,7 +10,7 @@ use Rattle.cs_pattern_parts.proofs.OnItems.Fronts.{one_spelled, one_stopped, sto
 use Rattle.cs_pattern.proofs.OnText.Sizes.{item_size}
 use Rattle.cs_pattern.specs.Text.Table.{next_place, beginning, MayEnd, ReadsTo, IsPlainText, Reads, StopsWith, SpellsMisplaced, StopsAtEnd, StopsAt}
 
-pub ReadsTo-push : (bytes : List ℕ) (at : ℕ) (p : Place) (xs : List Placed) (mid : ℕ) (q : Place) (x : Placed) (size : ℕ) (next : Place) → ReadsTo bytes at p xs mid q
+pub ReadsTo-push : (bytes : List ℕ) (at : ℕ) (p : PatternPlace) (xs : List Placed) (mid : ℕ) (q : PatternPlace) (x : Placed) (size : ℕ) (next : PatternPlace) → ReadsTo bytes at p xs mid q
     → x.at ≡ mid → Spells (drop mid bytes) size x.item → next_place q x.item ≡ Some next → ReadsTo bytes at p (xs ++ x ∷ []) (mid + size) next
 ReadsTo-push bytes at p [] mid q x size next r here is row =
     (size, next, here ∙ sym r.0, subst (λ n. Spells (drop n bytes) size x.item) (sym r.0) is, ap (λ s. next_place s x.item) r.1 ∙ row, (ap (λ n. n + size) r.0, refl))
@@ -18,15 +18,15 @@ ReadsTo-push bytes at p (y ∷ xs) mid q x size next r here is row =
     (r.0, r.1, r.2, r.3, r.4, ReadsTo-push bytes (at + r.0) r.1 xs mid q x size next r.5 here is row)
 
 -- What is read so far: these items, up to the offset and the place.
-pub record HasRead (bytes : List ℕ) (items : List Placed) (at : ℕ) (p : Place) : Type 0 where
+pub record HasRead (bytes : List ℕ) (items : List Placed) (at : ℕ) (p : PatternPlace) : Type 0 where
   pub within : at ≤ length bytes
   pub groups : p.groups ≤ at
   pub read : ReadsTo bytes 0 beginning items at p
 
-pub has_read_none : (bytes : List ℕ) (p : Place) → p ≡ beginning → HasRead bytes [] 0 p
-has_read_none bytes p e = record { within = omega arith; groups = (let f : p.groups ≡ 0 = ap (λ (q : Place). q.groups) e in omega arith); read = (refl, sym e) }
+pub has_read_none : (bytes : List ℕ) (p : PatternPlace) → p ≡ beginning → HasRead bytes [] 0 p
+has_read_none bytes p e = record { within = omega arith; groups = (let f : p.groups ≡ 0 = ap (λ (q : PatternPlace). q.groups) e in omega arith); read = (refl, sym e) }
 
-pub has_read_more : (bytes : List ℕ) (items : List Placed) (at : ℕ) (p : Place) (i : Item) (size : ℕ) (next : Place) (text : List ℕ) → HasRead bytes items at p → text ≡ drop at bytes
+pub has_read_more : (bytes : List ℕ) (items : List Placed) (at : ℕ) (p : PatternPlace) (i : Item) (size : ℕ) (next : PatternPlace) (text : List ℕ) → HasRead bytes items at p → text ≡ drop at bytes
     → Spells text size i → next_place p i ≡ Some next → 0 < size → at + size ≤ length bytes → next.groups ≤ p.groups + 1 → HasRead bytes (items ++ record { at = at; item = i } ∷ []) (at + size) next
 has_read_more bytes items at p i size next text h here is row pos le few = record {
   within = le;
@@ -34,23 +34,23 @@ has_read_more bytes items at p i size next text h here is row pos le few = recor
   read = ReadsTo-push bytes 0 beginning items at p (record { at = at; item = i }) size next h.read refl (subst (λ (t : List ℕ). Spells t size i) here is) row;
 }
 
-pub reads_all : (bytes : List ℕ) (items : List Placed) (at : ℕ) (p : Place) → IsPlainText bytes → HasRead bytes items at p → length bytes ≤ at → MayEnd p → Reads bytes items
+pub reads_all : (bytes : List ℕ) (items : List Placed) (at : ℕ) (p : PatternPlace) → IsPlainText bytes → HasRead bytes items at p → length bytes ≤ at → MayEnd p → Reads bytes items
 reads_all bytes items at p plain h le ends =
     let e : at ≡ length bytes = (let w = h.within in omega arith) in
     record { plain = plain; last = p; read = subst (λ n. ReadsTo bytes 0 beginning items n p) e h.read; ends = ends }
 
-pub stops_here : (bytes : List ℕ) (items : List Placed) (at : ℕ) (p : Place) (why : Stop) (text : List ℕ) → IsPlainText bytes → HasRead bytes items at p → text ≡ drop at bytes → at < length bytes → StopsWith p text why → StopsAt bytes at why
+pub stops_here : (bytes : List ℕ) (items : List Placed) (at : ℕ) (p : PatternPlace) (why : Stop) (text : List ℕ) → IsPlainText bytes → HasRead bytes items at p → text ≡ drop at bytes → at < length bytes → StopsWith p text why → StopsAt bytes at why
 stops_here bytes items at p why text plain h here lt s =
     record { plain = plain; items = items; last = p; read = h.read; stops = inl (lt, subst (λ (t : List ℕ). StopsWith p t why) here s) }
 
-pub stops_at_end : (bytes : List ℕ) (items : List Placed) (at : ℕ) (p : Place) → IsPlainText bytes → HasRead bytes items at p → length bytes ≤ at → (MayEnd p → ⊥) → StopsAt bytes at Syntax
+pub stops_at_end : (bytes : List ℕ) (items : List Placed) (at : ℕ) (p : PatternPlace) → IsPlainText bytes → HasRead bytes items at p → length bytes ≤ at → (MayEnd p → ⊥) → StopsAt bytes at Syntax
 stops_at_end bytes items at p plain h le no_end =
     let e : at ≡ length bytes = (let w = h.within in omega arith) in
     record { plain = plain; items = items; last = p; read = h.read; stops = inr (e, (no_end, refl)) }
 
 -- ---- one reading
 
-one_place : (p q : Place) → Some p ≡ Some q → p ≡ q
+one_place : (p q : PatternPlace) → Some p ≡ Some q → p ≡ q
 one_place p q e = cc
 
 placed_same : (x y : Placed) → x.at ≡ y.at → x.item ≡ y.item → x ≡ y
@@ -59,10 +59,10 @@ placed_same x y e f = ap (λ (n : ℕ). record { at = n; item = x.item }) e ∙ 
 -- two readings from one place to a place where both stop are one
 module _ (bytes : List ℕ) where
   -- nothing that may stand there stands at the offset
-  abbrev NoneGoesOn : ℕ → Place → Type 0
-  NoneGoesOn at p = (i : Item) (n : ℕ) (next : Place) → Spells (drop at bytes) n i → next_place p i ≡ Some next → ⊥
+  abbrev NoneGoesOn : ℕ → PatternPlace → Type 0
+  NoneGoesOn at p = (i : Item) (n : ℕ) (next : PatternPlace) → Spells (drop at bytes) n i → next_place p i ≡ Some next → ⊥
 
-  one_read : (at bt : ℕ) (p q : Place) (xs ys : List Placed) (to un : ℕ) (last other : Place) → at ≡ bt → p ≡ q → ReadsTo bytes at p xs to last → ReadsTo bytes bt q ys un other → NoneGoesOn to last → NoneGoesOn un other → (xs ≡ ys) × (to ≡ un) × (last ≡ other)
+  one_read : (at bt : ℕ) (p q : PatternPlace) (xs ys : List Placed) (to un : ℕ) (last other : PatternPlace) → at ≡ bt → p ≡ q → ReadsTo bytes at p xs to last → ReadsTo bytes bt q ys un other → NoneGoesOn to last → NoneGoesOn un other → (xs ≡ ys) × (to ≡ un) × (last ≡ other)
   one_read at bt p q [] [] to un last other e f r s v w = (refl, sym r.0 ∙ e ∙ s.0, sym r.1 ∙ f ∙ s.1)
   one_read at bt p q [] (y ∷ ys) to un last other e f r s v w =
       absurd (v y.item s.0 s.1 (subst (λ n. Spells (drop n bytes) s.0 y.item) (sym e ∙ r.0) s.3) (ap (λ k. next_place k y.item) (sym r.1 ∙ f) ∙ s.4))
@@ -84,13 +84,13 @@ pub ends_read : (bytes : List ℕ) (items : List Placed) (r : Reads bytes items)
 ends_read bytes items r i n next e row = none_at_end bytes (length bytes) n i (omega arith) e
 
 -- the item that the text spells may not stand there
-no_row : (text : List ℕ) (p : Place) (n : ℕ) (i : Item) (next : Place) → SpellsMisplaced p text → Spells text n i → next_place p i ≡ Some next → ⊥
+no_row : (text : List ℕ) (p : PatternPlace) (n : ℕ) (i : Item) (next : PatternPlace) → SpellsMisplaced p text → Spells text n i → next_place p i ≡ Some next → ⊥
 no_row text p n i next m e row =
     let same = one_spelled text m.1 n m.0 i m.2 e in
     let f : None ≡ Some next = sym m.3 ∙ ap (next_place p) same.1 ∙ row in
     absurd cc
 
-stop_ends : (bytes : List ℕ) (at : ℕ) (last : Place) (why : Stop) → ((at < length bytes) × StopsWith last (drop at bytes) why) ⊎ ((at ≡ length bytes) × StopsAtEnd last why) → NoneGoesOn bytes at last
+stop_ends : (bytes : List ℕ) (at : ℕ) (last : PatternPlace) (why : Stop) → ((at < length bytes) × StopsWith last (drop at bytes) why) ⊎ ((at ≡ length bytes) × StopsAtEnd last why) → NoneGoesOn bytes at last
 stop_ends bytes at last why (inl s) i n next e row =
     elim (s.1) [
       | inl stop ↦ stopped_no_item (drop at bytes) why n i stop e
@@ -112,7 +112,7 @@ no_stop bytes xs at why r s =
     by_case (inl h) e f = omega (arith, h.0)
     by_case (inr h) e f = h.1.0 (sym f ∙ r.ends)
 
-one_why : (text : List ℕ) (p : Place) (w v : Stop) → StopsWith p text w → StopsWith p text v → w ≡ v
+one_why : (text : List ℕ) (p : PatternPlace) (w v : Stop) → StopsWith p text w → StopsWith p text v → w ≡ v
 one_why text p w v (inl a) (inl b) = one_stopped text w v a b
 one_why text p w v (inl a) (inr b) = absurd (stopped_no_item text w b.0.1 b.0.0 a b.0.2)
 one_why text p w v (inr a) (inl b) = absurd (stopped_no_item text v a.0.1 a.0.0 b a.0.2)

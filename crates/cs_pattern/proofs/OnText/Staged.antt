@@ -12,7 +12,7 @@ use Rattle.std.proofs.lemmas.Option.{slice_get_within, get_or_from_slice_get, sl
 use Rattle.cs_graph.proofs.Pushing.{below_next}
 use Rattle.cs_graph.proofs.Single.{contained_alone}
 use Rattle.cs_pattern_parts.specs.declared.items.item.Placed as held
-use Rattle.cs_pattern.specs.declared.text.place.Place.{Place}
+use Rattle.cs_pattern.specs.declared.text.place.PatternPlace.{PatternPlace}
 use Rattle.cs_pattern_parts.specs.Items.Items.{Item, Placed, items_of}
 use Rattle.cs_pattern_parts.specs.Items.Views.{placed_all}
 use Rattle.cs_pattern.specs.declared.text.fault.CheckError as errors
@@ -61,7 +61,7 @@ get_last (x ∷ xs) y (suc i) e = get_last xs y i (omega arith)
 -- a text that is read to its end has a byte
 pub not_empty : (text : List ℕ) (items : List Placed) → Reads text items → 0 < length text
 not_empty (b ∷ text) items r = omega arith
-not_empty [] [] r = absurd (false≢true (ap (λ (p : Place). p.behind_atom) (r.read.1 ∙ r.ends)))
+not_empty [] [] r = absurd (false≢true (ap (λ (p : PatternPlace). p.behind_atom) (r.read.1 ∙ r.ends)))
 not_empty [] (x ∷ xs) r = absurd (none_at_end [] 0 r.read.0 x.item (omega arith) r.read.3)
 
 -- so many texts that are read have so many bytes

@@ -1,6 +1,6 @@
 -- What the reader answers.
 use Rattle.std.specs.Prelude.{◌≡◌, ℕ, ◌+◌, ◌<◌, ◌≤◌, List, Some, length}
-use Rattle.cs_pattern.specs.declared.text.place.Place.{Place}
+use Rattle.cs_pattern.specs.declared.text.place.PatternPlace.{PatternPlace}
 use Rattle.cs_pattern.specs.declared.text.reading.Next as nexts
 use Rattle.cs_pattern.specs.declared.text.reading.Next.TheVariants as next_kinds
 use Rattle.cs_pattern.specs.declared.text.fault.PatternError as errors
@@ -19,7 +19,7 @@ use Rattle.cs_pattern.specs.Text.Answers.{IsNamed, IsPatternOf, RefusesText}
 use Rattle.cs_pattern.specs.Text.Substitution.{PutIn}
 
 -- what comes next in the text at the place
-abbrev pub IsNext : List ℕ → Place → nexts.Next → Type 0
+abbrev pub IsNext : List ℕ → PatternPlace → nexts.Next → Type 0
 IsNext text p (next_kinds.Item i size next) = Spells text size (item_of i) × (next_place p (item_of i) ≡ Some next) × (0 < size) × (size ≤ length text) × (next.groups ≤ p.groups + 1)
 IsNext text p (next_kinds.Stop why) = StopsWith p text why
 

@@ -9,28 +9,28 @@ use cs_pattern_parts::Item;
 /// A place between two items: whether it is directly behind an atom's last item or a repetition, and how many more `(` than
 /// `)` stand before it.
 #[derive(Clone, Copy, Debug, PartialEq, Eq)]
-pub(crate) struct Place {
+pub(crate) struct PatternPlace {
     pub(crate) behind_atom: bool,
     pub(crate) groups: usize,
 }
 
 /// The place before the first item.
-pub(crate) fn beginning() -> Place
+pub(crate) fn beginning() -> PatternPlace
     ensures { result ≡ spec.beginning }
 {
-    Place {
+    PatternPlace {
         behind_atom: false,
         groups: 0,
     }
 }
 
 /// The place behind a `)`, where it may stand.
-fn closed(place: Place) -> Option<Place>
+fn closed(place: PatternPlace) -> Option<PatternPlace>
     ensures value { result ≡ spec.closed place.behind_atom place.groups }
     ensures groups { IfSome result (λ next. next.groups ≤ place.groups) }
 {
     if place.behind_atom && place.groups > 0 {
-        Some(Place {
+        Some(PatternPlace {
             behind_atom: true,
             groups: place.groups - 1,
         })
@@ -40,23 +40,23 @@ fn closed(place: Place) -> Option<Place>
 }
 
 /// The place behind the item, where the item may stand at the place.
-pub(crate) fn behind(place: Place, item: &Item) -> Option<Place>
+pub(crate) fn behind(place: PatternPlace, item: &Item) -> Option<PatternPlace>
     requires { place.groups < 2 ^ 32 }
     ensures value { result ≡ spec.next_place place (item_of item.now) }
     ensures groups { IfSome result (λ next. next.groups ≤ place.groups + 1) }
 {
     match item {
-        Item::Class(_) | Item::Quoted(_) | Item::Name(_) => Some(Place {
+        Item::Class(_) | Item::Quoted(_) | Item::Name(_) => Some(PatternPlace {
             behind_atom: true,
             groups: place.groups,
         }),
-        Item::Open => Some(Place {
+        Item::Open => Some(PatternPlace {
             behind_atom: false,
             groups: place.groups + 1,
         }),
         Item::Close => closed(place),
         Item::Bar => if place.behind_atom {
-            Some(Place {
+            Some(PatternPlace {
                 behind_atom: false,
                 groups: place.groups,
             })
@@ -68,7 +68,7 @@ pub(crate) fn behind(place: Place, item: &Item) -> Option<Place>
 }
 
 /// Whether a text may end at the place.
-pub(crate) fn may_end(place: Place) -> bool
+pub(crate) fn may_end(place: PatternPlace) -> bool
     ensures { IsTrue result ↔ spec.MayEnd place }
 {
     place.behind_atom && place.groups == 0

@@ -7,18 +7,18 @@ ghost use Rattle.cs_pattern_parts.specs.Items.Views.{placed_all};
 ghost use Rattle.cs_pattern.specs.Text.ReadView.{IsNext, StopsReading};
 
 use crate::text::fault::{PatternError, PatternFault};
-use crate::text::place::{Place, beginning, behind, may_end};
+use crate::text::place::{PatternPlace, beginning, behind, may_end};
 use cs_bytes::{from_offset, has_at};
 use cs_pattern_parts::{Front, Item, Placed, Stop, front_of};
 use std::alloc::{AllocError, Global};
 
 /// What comes next in a text: an item with its size and the place behind it, or where reading stops.
 enum Next {
-    Item(Item, usize, Place),
+    Item(Item, usize, PatternPlace),
     Stop(Stop),
 }
 
-fn next_of(alloc: Global, text: &[u8], place: Place) -> Result<Next, AllocError>
+fn next_of(alloc: Global, text: &[u8], place: PatternPlace) -> Result<Next, AllocError>
     requires { place.groups < 2 ^ 32 }
     ensures { IfOk result (IsNext text.now place) }
 {
