@@ -15,7 +15,7 @@ use Rattle.cs_pattern.specs.Operations.Depth.{pattern_of}
 use Rattle.cs_pattern_parts.specs.Tree.Pattern.{Regex, Empty}
 use Rattle.cs_scanner.specs.Automaton.Counted.{HaveOneSet, IsAbove}
 use Rattle.cs_scanner.specs.Automaton.Meaning.{re, cat_of, res}
-use Rattle.cs_scanner.specs.Automaton.Places.{Place, letters, with_places, any_of, whole, Itself, HasByte, ReadEach, InSet}
+use Rattle.cs_scanner.specs.Automaton.Places.{NumberedClass, letters, with_places, any_of, whole, Itself, HasByte, ReadEach, InSet}
 use Rattle.cs_scanner.specs.Automaton.Re.{Re, letter, Parts, no_parts, one_more, Spells}
 use Rattle.cs_scanner.proofs.OnAutomaton.Numbers.{few_numbers}
 use Rattle.cs_gen.proofs.TokenPatterns.{tree_of, branch_of, spacing, is_spacing, spacing_tree}
@@ -33,7 +33,7 @@ picked_passes t b c =
 
 -- ---- the words of places of a name
 
-abbrev AreClassesOf : List Place → List ℕ → Type 0
+abbrev AreClassesOf : List NumberedClass → List ℕ → Type 0
 AreClassesOf [] [] = Unit {0}
 AreClassesOf [] (b ∷ bs) = ⊥
 AreClassesOf (a ∷ w) [] = ⊥
@@ -42,38 +42,38 @@ AreClassesOf (a ∷ w) (b ∷ bs) = (a.class ≡ one_byte b) × AreClassesOf w b
 abbrev no_names : List ℕ → Regex
 no_names name = Empty
 
-letter_word : (rule from b : ℕ) (w : List Place) → Spells Itself (with_places rule from (letter (one_byte b))) w → (a : Place) × (a.class ≡ one_byte b) × (w ≡ a ∷ [])
-letter_word rule from b w h = (h.0, ap (λ (p : Place). p.class) h.1, h.2)
+letter_word : (rule from b : ℕ) (w : List NumberedClass) → Spells Itself (with_places rule from (letter (one_byte b))) w → (a : NumberedClass) × (a.class ≡ one_byte b) × (w ≡ a ∷ [])
+letter_word rule from b w h = (h.0, ap (λ (p : NumberedClass). p.class) h.1, h.2)
 
-joined_end : (x y w : List Place) (a : Place) → w ≡ x ++ y → x ≡ a ∷ [] → y ≡ [] → w ≡ a ∷ []
+joined_end : (x y w : List NumberedClass) (a : NumberedClass) → w ≡ x ++ y → x ≡ a ∷ [] → y ≡ [] → w ≡ a ∷ []
 joined_end x y w a e f g = e ∙ rw (f, g) refl
 
-joined_more : (x y w : List Place) (a : Place) → w ≡ x ++ y → x ≡ a ∷ [] → w ≡ a ∷ y
+joined_more : (x y w : List NumberedClass) (a : NumberedClass) → w ≡ x ++ y → x ≡ a ∷ [] → w ≡ a ∷ y
 joined_more x y w a e f = e ∙ rw f refl
 
-joined_word : (rule from b : ℕ) (cs : List ℕ) (w : List Place) → Spells Itself (with_places rule from (cat_of (piece_parts no_names (branch_of b cs)))) w → AreClassesOf w (b ∷ cs)
+joined_word : (rule from b : ℕ) (cs : List ℕ) (w : List NumberedClass) → Spells Itself (with_places rule from (cat_of (piece_parts no_names (branch_of b cs)))) w → AreClassesOf w (b ∷ cs)
 joined_word rule from b [] w h =
     let one = letter_word rule from b h.0 h.2 in
     let is = joined_end h.0 h.1 w one.0 h.4 one.2 h.3 in
-    subst (λ (v : List Place). AreClassesOf v (b ∷ [])) (sym is) (one.1, tt)
+    subst (λ (v : List NumberedClass). AreClassesOf v (b ∷ [])) (sym is) (one.1, tt)
 joined_word rule from b (c ∷ cs) w h =
     let one = letter_word rule from b h.0 h.2 in
     let rest = joined_word rule (from + 1) c cs h.1 h.3 in
     let is = joined_more h.0 h.1 w one.0 h.4 one.2 in
-    subst (λ (v : List Place). AreClassesOf v (b ∷ c ∷ cs)) (sym is) (one.1, rest)
+    subst (λ (v : List NumberedClass). AreClassesOf v (b ∷ c ∷ cs)) (sym is) (one.1, rest)
 
 abbrev token_re : ℕ → List ℕ → Re (List ℕ)
 token_re b cs = re (pattern_of (tree_of b cs))
 
-token_word : (rule from b : ℕ) (cs : List ℕ) (w : List Place) → Spells Itself (with_places rule from (token_re b cs)) w → AreClassesOf w (b ∷ cs)
+token_word : (rule from b : ℕ) (cs : List ℕ) (w : List NumberedClass) → Spells Itself (with_places rule from (token_re b cs)) w → AreClassesOf w (b ∷ cs)
 token_word rule from b [] w h =
     let one = letter_word rule from b w h in
-    subst (λ (v : List Place). AreClassesOf v (b ∷ [])) (sym one.2) (one.1, tt)
+    subst (λ (v : List NumberedClass). AreClassesOf v (b ∷ [])) (sym one.2) (one.1, tt)
 token_word rule from b (c ∷ []) w h = joined_word rule from b (c ∷ []) w h
 token_word rule from b (c ∷ d ∷ ds) w h = joined_word rule from b (c ∷ d ∷ ds) w h
 
 -- what its front reads
-reads_front : (u rest : List Place) (bs x : List ℕ) → AreClassesOf (u ++ rest) bs → ReadEach HasByte u x → x ≡ take (length u) bs
+reads_front : (u rest : List NumberedClass) (bs x : List ℕ) → AreClassesOf (u ++ rest) bs → ReadEach HasByte u x → x ≡ take (length u) bs
 reads_front [] rest bs x is h = h
 reads_front (a ∷ u) rest [] x is h = absurd is
 reads_front (a ∷ u) rest (b ∷ bs) [] is h = absurd h
@@ -87,39 +87,39 @@ reads_front (a ∷ u) rest (b ∷ bs) (c ∷ x) is h =
 abbrev spacing_re : Re (List ℕ)
 spacing_re = re (pattern_of spacing_tree)
 
-abbrev place_at : ℕ → ℕ → Place
+abbrev place_at : ℕ → ℕ → NumberedClass
 place_at rule from = record { number = from; rule = rule; class = spacing }
 
-abbrev AreAll : Place → List Place → Type 0
+abbrev AreAll : NumberedClass → List NumberedClass → Type 0
 AreAll p = AllByRecursion (λ a. a ≡ p)
 
-parts_same : (p : Place) (ws : List Place) → Parts (λ (x : List Place). (b : Place) × (b ≡ p) × (x ≡ b ∷ [])) ws → AreAll p ws
+parts_same : (p : NumberedClass) (ws : List NumberedClass) → Parts (λ (x : List NumberedClass). (b : NumberedClass) × (b ≡ p) × (x ≡ b ∷ [])) ws → AreAll p ws
 parts_same p ws no_parts = tt
 parts_same p ws (one_more x y xs h more e) =
     let is : ws ≡ p ∷ y = e ∙ rw (h.2, h.1) refl in
     subst (AreAll p) (sym is) (refl, parts_same p y more)
 
 -- one place, and then the next any number of times
-spacing_word : (rule from : ℕ) (w : List Place) → Spells Itself (with_places rule from spacing_re) w → (ws : List Place) × (w ≡ place_at rule from ∷ ws) × AreAll (place_at rule (from + 1)) ws
+spacing_word : (rule from : ℕ) (w : List NumberedClass) → Spells Itself (with_places rule from spacing_re) w → (ws : List NumberedClass) × (w ≡ place_at rule from ∷ ws) × AreAll (place_at rule (from + 1)) ws
 spacing_word rule from w h =
-    let first : h.0 ≡ place_at rule from ∷ [] = h.2.2 ∙ ap (λ (a : Place). a ∷ []) h.2.1 in
+    let first : h.0 ≡ place_at rule from ∷ [] = h.2.2 ∙ ap (λ (a : NumberedClass). a ∷ []) h.2.1 in
     let many = h.3.2 in
     let rest : h.1 ≡ h.3.0 = h.3.4 ∙ rw h.3.3 (append-nil h.3.0) in
     (h.1, h.4 ∙ rw first refl, subst (AreAll (place_at rule (from + 1))) (sym rest) (parts_same (place_at rule (from + 1)) h.3.0 many))
 
-front_same : (p : Place) (u rest ws : List Place) → u ++ rest ≡ ws → AreAll p ws → AreAll p u
+front_same : (p : NumberedClass) (u rest ws : List NumberedClass) → u ++ rest ≡ ws → AreAll p ws → AreAll p u
 front_same p [] rest ws e h = tt
 front_same p (a ∷ u) rest ws e h = let g : AreAll p (a ∷ (u ++ rest)) = subst (AreAll p) (sym e) h in (g.0, front_same p u rest (u ++ rest) refl g.1)
 
-last_same : (p : Place) (u : List Place) (last : Place) → AreAll p (u ++ last ∷ []) → last ≡ p
+last_same : (p : NumberedClass) (u : List NumberedClass) (last : NumberedClass) → AreAll p (u ++ last ∷ []) → last ≡ p
 last_same p [] last h = h.0
 last_same p (a ∷ u) last h = last_same p u last h.1
 
-reads_spacing : (p : Place) (u : List Place) (x : List ℕ) → p.class ≡ spacing → AreAll p u → ReadEach HasByte u x → (list_all is_spacing x ≡ true) × (length x ≡ length u)
+reads_spacing : (p : NumberedClass) (u : List NumberedClass) (x : List ℕ) → p.class ≡ spacing → AreAll p u → ReadEach HasByte u x → (list_all is_spacing x ≡ true) × (length x ≡ length u)
 reads_spacing p [] x e h r = rw r (refl, refl)
 reads_spacing p (a ∷ u) [] e h r = absurd r
 reads_spacing p (a ∷ u) (c ∷ x) e h r =
-    let there : Contains spacing c = subst (λ (s : List ℕ). Contains s c) (ap (λ (q : Place). q.class) h.0 ∙ e) r.0 in
+    let there : Contains spacing c = subst (λ (s : List ℕ). Contains s c) (ap (λ (q : NumberedClass). q.class) h.0 ∙ e) r.0 in
     let rest = reads_spacing p u x e h.1 r.1 in
     (rw (picked_passes is_spacing c there) rest.0, ap suc rest.1)
 
@@ -145,35 +145,35 @@ few_taken zero xs = omega arith
 few_taken (suc k) [] = omega arith
 few_taken (suc k) (x ∷ xs) = omega (arith, few_taken k xs)
 
-some_read : (front : List Place) (last : Place) → length (front ++ last ∷ []) ≡ suc (length front)
+some_read : (front : List NumberedClass) (last : NumberedClass) → length (front ++ last ∷ []) ≡ suc (length front)
 some_read [] last = refl
 some_read (a ∷ front) last = ap suc (some_read front last)
 
 digit_byte : (d : ℕ) → d < 10 → is_digit (48 + d) ≡ true
 digit_byte d lt = grind (arith, nat_tests)
 
-token_shape : (at from rule number : ℕ) (x : List ℕ) (p : ℕ) (front : List Place) (last : Place) (rest : List Place) → number ≤ 24 → Spells Itself (with_places rule from (token_re 116 (decimal number))) ((front ++ last ∷ []) ++ rest)
+token_shape : (at from rule number : ℕ) (x : List ℕ) (p : ℕ) (front : List NumberedClass) (last : NumberedClass) (rest : List NumberedClass) → number ≤ 24 → Spells Itself (with_places rule from (token_re 116 (decimal number))) ((front ++ last ∷ []) ++ rest)
     → ReadEach HasByte (front ++ last ∷ []) x → Shape at x p
 token_shape at from rule number x p front last rest le h r =
     let is = reads_front (front ++ last ∷ []) rest (116 ∷ decimal number) x (token_word rule from 116 (decimal number) ((front ++ last ∷ []) ++ rest) h) r in
     let e : x ≡ 116 ∷ take (length front) (decimal number) = is ∙ ap (λ (k : ℕ). take k (116 ∷ decimal number)) (some_read front last) in
     of_token (take (length front) (decimal number)) e (all_taken is_digit (length front) (decimal number) (decimal_passes is_digit digit_byte number (omega arith))) (omega (arith, few_taken (length front) (decimal number), short_decimal number 24 le (omega arith)))
 
-spacing_shape : (rule from : ℕ) (x : List ℕ) (p : ℕ) (front : List Place) (last : Place) (rest : List Place) → Spells Itself (with_places rule from spacing_re) ((front ++ last ∷ []) ++ rest) → ReadEach HasByte (front ++ last ∷ []) x → last.number ≡ p → Shape from x p
+spacing_shape : (rule from : ℕ) (x : List ℕ) (p : ℕ) (front : List NumberedClass) (last : NumberedClass) (rest : List NumberedClass) → Spells Itself (with_places rule from spacing_re) ((front ++ last ∷ []) ++ rest) → ReadEach HasByte (front ++ last ∷ []) x → last.number ≡ p → Shape from x p
 spacing_shape rule from x p [] last rest h r n =
     let w = spacing_word rule from (last ∷ rest) h in
     let is : last ≡ place_at rule from = heads last (place_at rule from) rest w.0 w.1 in
     one x r is
   where
-    heads : (a b : Place) (us ws : List Place) → a ∷ us ≡ b ∷ ws → a ≡ b
+    heads : (a b : NumberedClass) (us ws : List NumberedClass) → a ∷ us ≡ b ∷ ws → a ≡ b
     heads a b us ws e = cc
 
     one : (x : List ℕ) → ReadEach HasByte (last ∷ []) x → last ≡ place_at rule from → Shape from x p
     one [] r is = absurd r
     one (c ∷ d ∷ y) r is = let none : d ∷ y ≡ [] = r.1 in absurd cc
     one (c ∷ []) r is =
-        let there : Contains spacing c = subst (λ (s : List ℕ). Contains s c) (ap (λ (q : Place). q.class) is) r.0 in
-        of_spacing c [] refl (rw (picked_passes is_spacing c there) refl) (sym n ∙ ap (λ (q : Place). q.number) is)
+        let there : Contains spacing c = subst (λ (s : List ℕ). Contains s c) (ap (λ (q : NumberedClass). q.class) is) r.0 in
+        of_spacing c [] refl (rw (picked_passes is_spacing c there) refl) (sym n ∙ ap (λ (q : NumberedClass). q.number) is)
 spacing_shape rule from [] p (a ∷ front) last rest h r n = absurd r
 spacing_shape rule from (c ∷ x) p (a ∷ front) last rest h r n =
     let w = spacing_word rule from ((a ∷ (front ++ last ∷ [])) ++ rest) h in
@@ -181,15 +181,15 @@ spacing_shape rule from (c ∷ x) p (a ∷ front) last rest h r n =
     let tails : (front ++ last ∷ []) ++ rest ≡ w.0 = tail a (place_at rule from) ((front ++ last ∷ []) ++ rest) w.0 w.1 in
     let next = place_at rule (from + 1) in
     let all = front_same next (front ++ last ∷ []) rest w.0 tails w.2 in
-    let there : Contains spacing c = subst (λ (s : List ℕ). Contains s c) (ap (λ (q : Place). q.class) is) r.0 in
+    let there : Contains spacing c = subst (λ (s : List ℕ). Contains s c) (ap (λ (q : NumberedClass). q.class) is) r.0 in
     let behind = reads_spacing next (front ++ last ∷ []) x refl all r.1 in
     let end : last ≡ next = last_same next front last all in
-    more x (rw (picked_passes is_spacing c there) behind.0) (omega (arith, behind.1, some_read front last)) (sym n ∙ ap (λ (q : Place). q.number) end)
+    more x (rw (picked_passes is_spacing c there) behind.0) (omega (arith, behind.1, some_read front last)) (sym n ∙ ap (λ (q : NumberedClass). q.number) end)
   where
-    heads : (a b : Place) (us ws : List Place) → a ∷ us ≡ b ∷ ws → a ≡ b
+    heads : (a b : NumberedClass) (us ws : List NumberedClass) → a ∷ us ≡ b ∷ ws → a ≡ b
     heads a b us ws e = cc
 
-    tail : (a b : Place) (us ws : List Place) → a ∷ us ≡ b ∷ ws → us ≡ ws
+    tail : (a b : NumberedClass) (us ws : List NumberedClass) → a ∷ us ≡ b ∷ ws → us ≡ ws
     tail a b us ws e = cc
 
     more : (x : List ℕ) → list_all is_spacing (c ∷ x) ≡ true → 0 < length x → p ≡ from + 1 → Shape from (c ∷ x) p
@@ -201,7 +201,7 @@ abbrev last_from : ℕ → List ℕ → ℕ
 last_from from [] = from
 last_from from (number ∷ numbers) = last_from (from + letters (token_re 116 (decimal number))) numbers
 
-shape_of : (numbers : List ℕ) → AreFew numbers → (rule from : ℕ) (x : List ℕ) (p : ℕ) (front : List Place) (last : Place) (rest : List Place) → Spells Itself (any_of rule from (res (patterns_of numbers))) ((front ++ last ∷ []) ++ rest)
+shape_of : (numbers : List ℕ) → AreFew numbers → (rule from : ℕ) (x : List ℕ) (p : ℕ) (front : List NumberedClass) (last : NumberedClass) (rest : List NumberedClass) → Spells Itself (any_of rule from (res (patterns_of numbers))) ((front ++ last ∷ []) ++ rest)
     → ReadEach HasByte (front ++ last ∷ []) x → last.number ≡ p → Shape (last_from from numbers) x p
 shape_of [] few rule from x p front last rest (inl h) r n = spacing_shape rule from x p front last rest h r n
 shape_of [] few rule from x p front last rest (inr h) r n = absurd h
@@ -210,32 +210,32 @@ shape_of (number ∷ numbers) few rule from x p front last rest (inr h) r n = sh
 
 -- ---- each text of spaces and newlines has such a number
 
-copies : ℕ → Place → List Place
+copies : ℕ → NumberedClass → List NumberedClass
 copies zero p = []
 copies (suc n) p = p ∷ copies n p
 
-copies_parts : (n : ℕ) (p : Place) → Parts (λ (x : List Place). (b : Place) × (b ≡ p) × (x ≡ b ∷ [])) (copies n p)
+copies_parts : (n : ℕ) (p : NumberedClass) → Parts (λ (x : List NumberedClass). (b : NumberedClass) × (b ≡ p) × (x ≡ b ∷ [])) (copies n p)
 unfolding copies
 copies_parts zero p = no_parts
 copies_parts (suc n) p = one_more (p ∷ []) (copies n p) (p ∷ copies n p) (p, refl, refl) (copies_parts n p) refl
 
-copies_push : (n : ℕ) (p : Place) → copies n p ++ p ∷ [] ≡ copies (suc n) p
+copies_push : (n : ℕ) (p : NumberedClass) → copies n p ++ p ∷ [] ≡ copies (suc n) p
 unfolding copies
 copies_push zero p = refl
-copies_push (suc n) p = ap (λ (x : List Place). p ∷ x) (copies_push n p)
+copies_push (suc n) p = ap (λ (x : List NumberedClass). p ∷ x) (copies_push n p)
 
 has_spacing : (c : ℕ) → is_spacing c ≡ true → Contains spacing c
 has_spacing c h = let lt : c < 256 = grind (arith, nat_tests) in has-contains spacing c (has_picked is_spacing 256 c lt ∙ h)
 
-reads_copies : (p : Place) (x : List ℕ) → p.class ≡ spacing → list_all is_spacing x ≡ true → ReadEach HasByte (copies (length x) p) x
+reads_copies : (p : NumberedClass) (x : List ℕ) → p.class ≡ spacing → list_all is_spacing x ≡ true → ReadEach HasByte (copies (length x) p) x
 unfolding copies
 reads_copies p [] e h = refl
 reads_copies p (c ∷ x) e h = let both = and_true (is_spacing c) (list_all is_spacing x) h in (subst (λ (s : List ℕ). Contains s c) (sym e) (has_spacing c both.0), reads_copies p x e both.1)
 
 -- a word of places that reads the text
-record Read (rule from : ℕ) (r : Re Place) (x : List ℕ) (p : ℕ) : Type 0 where
-  front : List Place
-  last : Place
+record Read (rule from : ℕ) (r : Re NumberedClass) (x : List ℕ) (p : ℕ) : Type 0 where
+  front : List NumberedClass
+  last : NumberedClass
   word : Spells Itself r (front ++ last ∷ [])
   read : ReadEach HasByte (front ++ last ∷ []) x
   number : last.number ≡ p
@@ -256,7 +256,7 @@ spacing_read rule from c (d ∷ x) h =
       front = p ∷ copies (length x) next;
       last = next;
       word = (p ∷ [], copies (length x) next ++ next ∷ [], (p, refl, refl), (many, [], copies_parts (length (d ∷ x)) next, refl, pushed ∙ sym (append-nil many)), refl);
-      read = (has_spacing c both.0, subst (λ (u : List Place). ReadEach HasByte u (d ∷ x)) (sym pushed) (reads_copies next (d ∷ x) refl both.1));
+      read = (has_spacing c both.0, subst (λ (u : List NumberedClass). ReadEach HasByte u (d ∷ x)) (sym pushed) (reads_copies next (d ∷ x) refl both.1));
       number = refl;
     }
 
@@ -363,7 +363,7 @@ module _ (numbers : List ℕ) (small_numbers : AreFew numbers) where
   spacing_in : (c : ℕ) (x : List ℕ) → list_all is_spacing (c ∷ x) ≡ true → InSet all_res (c ∷ x) (number_in from_last (c ∷ x))
   spacing_in c x h =
       let r = any_read numbers 1 0 c x h in
-      record { front = r.front; last = r.last; rest = []; word = subst (λ (w : List Place). Spells Itself (whole all_res) w) (sym (append-nil (r.front ++ r.last ∷ []))) r.word; read = r.read; number = r.number }
+      record { front = r.front; last = r.last; rest = []; word = subst (λ (w : List NumberedClass). Spells Itself (whole all_res) w) (sym (append-nil (r.front ++ r.last ∷ []))) r.word; read = r.read; number = r.number }
 
   code_small : (x : List ℕ) (p : ℕ) → Shape from_last x p → code x < 113
   code_small x p (of_token ds e all few) = rw e (token_small ds all).1

@@ -41,5 +41,5 @@ pub use lexeme::{
 };
 pub use scanning::{
     Agreement, Scanned, Scanner, agrees, longest, one_match, one_scan, one_stop, scan,
-    shared_scanner, some_scan, stop_or_whole,
+    shared_scanner, some_scan, stop_or_whole, three_stops,
 };

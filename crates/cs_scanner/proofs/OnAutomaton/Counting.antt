@@ -7,7 +7,7 @@ use Rattle.std.proofs.lemmas.Option.{slice_get_within, slice_get-get_or}
 use Rattle.cs_scanner.specs.Automaton.Bits.{bit}
 use Rattle.cs_scanner.specs.Automaton.Counted.{HaveOneSet, IsAbove}
 use Rattle.cs_scanner.specs.Automaton.Meaning.{all_classes}
-use Rattle.cs_scanner.specs.Automaton.Places.{Place, InSet}
+use Rattle.cs_scanner.specs.Automaton.Places.{NumberedClass, InSet}
 use Rattle.cs_scanner.specs.Automaton.Re.{Re}
 use Rattle.cs_scanner.specs.Automaton.Reached.{Reaches}
 use Rattle.cs_scanner.specs.Automaton.Rules.{SpellsRule, IsBegunSpelled}
@@ -24,7 +24,7 @@ full_all (r ∷ rs) h = (h.0, full_all rs h.1)
 
 module _ (rs : List (Re (List ℕ))) (full : AreFull rs) where
   abbrev ReachesNothing : List ℕ → Type 0
-  ReachesNothing x = (a : Place) (next : List (Re Place)) → Reaches rs x a next → ⊥
+  ReachesNothing x = (a : NumberedClass) (next : List (Re NumberedClass)) → Reaches rs x a next → ⊥
 
   -- where x reaches nothing, no longer text does
   no_longer : (x z : List ℕ) → x ≢ [] → ReachesNothing x → ReachesNothing (x ++ z)

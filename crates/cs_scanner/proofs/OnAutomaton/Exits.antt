@@ -5,24 +5,24 @@ use Rattle.std.proofs.lemmas.Bool.{false≢true, and_parts, and_from, or_cases, 
 use Rattle.std.proofs.lemmas.List.Elements.{Contains-append_left, Contains-append_right, Contains-append_cases}
 use Rattle.cs_scanner.specs.Automaton.Re.{Re, empty, letter, nothing, cat, alt, many}
 use Rattle.cs_scanner.specs.Automaton.Linear.{nullable, all_nullable, First, Starts, Stands}
-use Rattle.cs_scanner.specs.Automaton.Places.{Place}
+use Rattle.cs_scanner.specs.Automaton.Places.{NumberedClass}
 use Rattle.cs_scanner.specs.Automaton.Exits.{final, exit, nexts}
 use Rattle.cs_scanner.proofs.OnAutomaton.Lists.{in_one, none_of}
 
 module _ (S : ℕ → Bool) where
   -- what starts behind the pattern starts behind the place, and what ends behind it ends there
-  pub record Leaves (rs mid : List (Re Place)) : Type 0 where
-    pub starts : (b : Place) (last : List (Re Place)) → Starts rs b last → Starts mid b last
+  pub record Leaves (rs mid : List (Re NumberedClass)) : Type 0 where
+    pub starts : (b : NumberedClass) (last : List (Re NumberedClass)) → Starts rs b last → Starts mid b last
     pub ends : all_nullable rs ≡ true → all_nullable mid ≡ true
 
-  pub record Final (r : Re Place) (rs : List (Re Place)) : Type 0 where
-    pub place : Place
-    pub mid : List (Re Place)
+  pub record Final (r : Re NumberedClass) (rs : List (Re NumberedClass)) : Type 0 where
+    pub place : NumberedClass
+    pub mid : List (Re NumberedClass)
     pub stands : Stands r rs place mid
     pub marked : S place.number ≡ true
     pub leaves : Leaves rs mid
 
-  pub final_stands : (r : Re Place) (rs : List (Re Place)) → final S r ≡ true → Final r rs
+  pub final_stands : (r : Re NumberedClass) (rs : List (Re NumberedClass)) → final S r ≡ true → Final r rs
   final_stands empty rs h = absurd (false≢true h)
   final_stands (letter a) rs h =
       record { place = a; mid = rs; stands = (refl, refl); marked = h; leaves = record { starts = λ b last s. s; ends = λ e. e } }
@@ -70,7 +70,7 @@ module _ (S : ℕ → Bool) where
 
   -- ---- what comes next is found
 
-  pub first_next : (r : Re Place) (rs : List (Re Place)) (entered : Bool) (b : Place) (last : List (Re Place)) → entered ≡ true → First r rs b last → Contains (nexts S r entered) b.number
+  pub first_next : (r : Re NumberedClass) (rs : List (Re NumberedClass)) (entered : Bool) (b : NumberedClass) (last : List (Re NumberedClass)) → entered ≡ true → First r rs b last → Contains (nexts S r entered) b.number
   first_next empty rs entered b last e f = absurd f
   first_next (letter a) rs entered b last e f =
       let P : Bool → Type 0 = λ t. Contains (if t then a.number ∷ [] else []) b.number in
@@ -84,7 +84,7 @@ module _ (S : ℕ → Bool) where
   first_next (alt r s) rs entered b last e (inr f) = Contains-append_right (nexts S r entered) (nexts S s entered) b.number (first_next s rs entered b last e f)
   first_next (many r) rs entered b last e f = first_next r (many r ∷ rs) (entered || final S r) b last (or_left entered (final S r) e) f
 
-  pub behind_next : (r : Re Place) (rs : List (Re Place)) (entered : Bool) (k : Place) (mid : List (Re Place)) (b : Place) (last : List (Re Place)) → Stands r rs k mid → S k.number ≡ true → Starts mid b last → Contains (nexts S r entered) b.number ⊎ ((final S r ≡ true) × Starts rs b last)
+  pub behind_next : (r : Re NumberedClass) (rs : List (Re NumberedClass)) (entered : Bool) (k : NumberedClass) (mid : List (Re NumberedClass)) (b : NumberedClass) (last : List (Re NumberedClass)) → Stands r rs k mid → S k.number ≡ true → Starts mid b last → Contains (nexts S r entered) b.number ⊎ ((final S r ≡ true) × Starts rs b last)
   behind_next empty rs entered k mid b last f m s = absurd f
   behind_next (letter a) rs entered k mid b last f m s = inr (ap (λ t. S t.number) (sym f.0) ∙ m, subst (λ t. Starts t b last) f.1 s)
   behind_next nothing rs entered k mid b last f m s = absurd f
@@ -117,7 +117,7 @@ module _ (S : ℕ → Bool) where
       ]
 
   -- where a word may end at a marked place
-  pub ends_final : (r : Re Place) (rs : List (Re Place)) (k : Place) (mid : List (Re Place)) → Stands r rs k mid → S k.number ≡ true → all_nullable mid ≡ true → (final S r ≡ true) × (all_nullable rs ≡ true)
+  pub ends_final : (r : Re NumberedClass) (rs : List (Re NumberedClass)) (k : NumberedClass) (mid : List (Re NumberedClass)) → Stands r rs k mid → S k.number ≡ true → all_nullable mid ≡ true → (final S r ≡ true) × (all_nullable rs ≡ true)
   ends_final empty rs k mid f m h = absurd f
   ends_final (letter a) rs k mid f m h = (ap (λ t. S t.number) (sym f.0) ∙ m, ap (λ t. all_nullable t) (sym f.1) ∙ h)
   ends_final nothing rs k mid f m h = absurd f
@@ -141,40 +141,40 @@ module _ (S : ℕ → Bool) where
   -- ---- and nothing else is
 
   -- the pattern is entered and starts with the place, or it comes behind a marked one
-  pub data Comes (r : Re Place) (rs : List (Re Place)) (entered : Bool) (b : Place) (last : List (Re Place)) : Type 0 where
+  pub data Comes (r : Re NumberedClass) (rs : List (Re NumberedClass)) (entered : Bool) (b : NumberedClass) (last : List (Re NumberedClass)) : Type 0 where
     entering : entered ≡ true → First r rs b last → Comes r rs entered b last
-    behind : (k : Place) (mid : List (Re Place)) → Stands r rs k mid → S k.number ≡ true → Starts mid b last → Comes r rs entered b last
+    behind : (k : NumberedClass) (mid : List (Re NumberedClass)) → Stands r rs k mid → S k.number ≡ true → Starts mid b last → Comes r rs entered b last
 
-  pub record ComesAs (r : Re Place) (rs : List (Re Place)) (entered : Bool) (n : ℕ) : Type 0 where
-    pub place : Place
-    pub last : List (Re Place)
+  pub record ComesAs (r : Re NumberedClass) (rs : List (Re NumberedClass)) (entered : Bool) (n : ℕ) : Type 0 where
+    pub place : NumberedClass
+    pub last : List (Re NumberedClass)
     pub number : place.number ≡ n
     pub comes : Comes r rs entered place last
 
-  cat_left : (r t : Re Place) (rs : List (Re Place)) (entered : Bool) {b : Place} {last : List (Re Place)} → Comes r (t ∷ rs) entered b last → Comes (cat r t) rs entered b last
+  cat_left : (r t : Re NumberedClass) (rs : List (Re NumberedClass)) (entered : Bool) {b : NumberedClass} {last : List (Re NumberedClass)} → Comes r (t ∷ rs) entered b last → Comes (cat r t) rs entered b last
   cat_left r t rs entered (entering e f) = entering e (inl f)
   cat_left r t rs entered (behind k mid f m s) = behind k mid (inl f) m s
 
-  through : (r t : Re Place) (rs : List (Re Place)) (entered : Bool) (b : Place) (last : List (Re Place)) → exit S r entered ≡ true → First t rs b last → Comes (cat r t) rs entered b last
+  through : (r t : Re NumberedClass) (rs : List (Re NumberedClass)) (entered : Bool) (b : NumberedClass) (last : List (Re NumberedClass)) → exit S r entered ≡ true → First t rs b last → Comes (cat r t) rs entered b last
   through r t rs entered b last e f =
       elim (or_cases (entered && nullable r) (final S r) e) [
         | inl both ↦ let two = and_parts entered (nullable r) both in entering two.0 (inr (two.1, f))
         | inr g ↦ let p = final_stands r (t ∷ rs) g in behind p.place p.mid (inl p.stands) p.marked (p.leaves.starts b last (inl f))
       ]
 
-  cat_right : (r t : Re Place) (rs : List (Re Place)) (entered : Bool) {b : Place} {last : List (Re Place)} → Comes t rs (exit S r entered) b last → Comes (cat r t) rs entered b last
+  cat_right : (r t : Re NumberedClass) (rs : List (Re NumberedClass)) (entered : Bool) {b : NumberedClass} {last : List (Re NumberedClass)} → Comes t rs (exit S r entered) b last → Comes (cat r t) rs entered b last
   cat_right r t rs entered {b} {last} (entering e f) = through r t rs entered b last e f
   cat_right r t rs entered (behind k mid f m s) = behind k mid (inr f) m s
 
-  alt_left : (r t : Re Place) (rs : List (Re Place)) (entered : Bool) {b : Place} {last : List (Re Place)} → Comes r rs entered b last → Comes (alt r t) rs entered b last
+  alt_left : (r t : Re NumberedClass) (rs : List (Re NumberedClass)) (entered : Bool) {b : NumberedClass} {last : List (Re NumberedClass)} → Comes r rs entered b last → Comes (alt r t) rs entered b last
   alt_left r t rs entered (entering e f) = entering e (inl f)
   alt_left r t rs entered (behind k mid f m s) = behind k mid (inl f) m s
 
-  alt_right : (r t : Re Place) (rs : List (Re Place)) (entered : Bool) {b : Place} {last : List (Re Place)} → Comes t rs entered b last → Comes (alt r t) rs entered b last
+  alt_right : (r t : Re NumberedClass) (rs : List (Re NumberedClass)) (entered : Bool) {b : NumberedClass} {last : List (Re NumberedClass)} → Comes t rs entered b last → Comes (alt r t) rs entered b last
   alt_right r t rs entered (entering e f) = entering e (inr f)
   alt_right r t rs entered (behind k mid f m s) = behind k mid (inr f) m s
 
-  around : (r : Re Place) (rs : List (Re Place)) (entered : Bool) {b : Place} {last : List (Re Place)} → Comes r (many r ∷ rs) (entered || final S r) b last → Comes (many r) rs entered b last
+  around : (r : Re NumberedClass) (rs : List (Re NumberedClass)) (entered : Bool) {b : NumberedClass} {last : List (Re NumberedClass)} → Comes r (many r ∷ rs) (entered || final S r) b last → Comes (many r) rs entered b last
   around r rs entered {b} {last} (entering e f) =
       elim (or_cases entered (final S r) e) [
         | inl g ↦ entering g f
@@ -182,7 +182,7 @@ module _ (S : ℕ → Bool) where
       ]
   around r rs entered (behind k mid f m s) = behind k mid f m s
 
-  pub next_comes : (r : Re Place) (rs : List (Re Place)) (entered : Bool) (n : ℕ) → Contains (nexts S r entered) n → ComesAs r rs entered n
+  pub next_comes : (r : Re NumberedClass) (rs : List (Re NumberedClass)) (entered : Bool) (n : ℕ) → Contains (nexts S r entered) n → ComesAs r rs entered n
   next_comes empty rs entered n h = absurd (none_of n h)
   next_comes (letter a) rs entered n h =
       let p = in_one entered a.number n h in

@@ -2,7 +2,7 @@
 use Rattle.std.proofs.Common.{◌≡◌, ℕ, suc, ◌+◌, List, [], ◌∷◌, ◌++◌, ◌⊎◌, inl, inr, refl, sym, subst}
 use Rattle.cs_scanner.specs.Automaton.Re.{Re, empty, letter, nothing, cat, alt, many, no_parts, Spells, SpellAll}
 use Rattle.cs_scanner.specs.Automaton.Linear.{First, Starts}
-use Rattle.cs_scanner.specs.Automaton.Places.{Place, letters, with_places, any_of, IsFull}
+use Rattle.cs_scanner.specs.Automaton.Places.{NumberedClass, letters, with_places, any_of, IsFull}
 
 module _ {A : Type 0} (Kind : A → Type 0) where
   abbrev pub AllFull : List (Re A) → Type 0
@@ -74,7 +74,7 @@ module _ {A B : Type 0} (Kind : A → Type 0) (Reads : A → B → Type 0) (some
 -- ---- numbered patterns
 
 module _ (Kind : List ℕ → Type 0) where
-  abbrev pub KindOf : Place → Type 0
+  abbrev pub KindOf : NumberedClass → Type 0
   KindOf a = Kind a.class
 
   pub numbered_full : (rule from : ℕ) (r : Re (List ℕ)) → IsFull Kind r → IsFull KindOf (with_places rule from r)
@@ -90,7 +90,7 @@ module _ (Kind : List ℕ → Type 0) where
       ]
   numbered_full rule from (many r) h = numbered_full rule from r h
 
-  pub any_first_full : (rule from : ℕ) (ps : List (Re (List ℕ))) (a : Place) (next : List (Re Place)) → AllFull Kind ps → First (any_of rule from ps) [] a next → AllFull KindOf next
+  pub any_first_full : (rule from : ℕ) (ps : List (Re (List ℕ))) (a : NumberedClass) (next : List (Re NumberedClass)) → AllFull Kind ps → First (any_of rule from ps) [] a next → AllFull KindOf next
   any_first_full rule from [] a next h f = absurd f
   any_first_full rule from (p ∷ ps) a next h (inl f) = first_full KindOf (with_places rule from p) [] a next (numbered_full rule from p h.0) tt f
   any_first_full rule from (p ∷ ps) a next h (inr f) = any_first_full (suc rule) (from + letters p) ps a next h.1 f

@@ -2,7 +2,7 @@
 use Rattle.std.proofs.Common.{◌≡◌, ℕ, suc, ◌+◌, ◌<◌, ◌≤◌, List, [], ◌∷◌, ◌++◌, ◌⊎◌, inl, inr, sym, ap, ◌∙◌, subst, arith}
 use Rattle.cs_scanner.specs.Automaton.Re.{Re, empty, letter, nothing, cat, alt, many}
 use Rattle.cs_scanner.specs.Automaton.Linear.{First, Starts, GoesBy, Stands}
-use Rattle.cs_scanner.specs.Automaton.Places.{Place, letters, with_places, any_of}
+use Rattle.cs_scanner.specs.Automaton.Places.{NumberedClass, letters, with_places, any_of}
 
 module _ {A : Type 0} where
   -- what may come first stands in the pattern
@@ -64,12 +64,12 @@ module _ {A : Type 0} where
 -- ---- numbers
 
 -- the place is of the rule, and its number is in the range
-pub record Within (rule from many_of : ℕ) (a : Place) : Type 0 where
+pub record Within (rule from many_of : ℕ) (a : NumberedClass) : Type 0 where
   pub of_rule : a.rule ≡ rule
   pub low : from ≤ a.number
   pub high : a.number < from + many_of
 
-pub within : (rule from : ℕ) (r : Re (List ℕ)) (rs : List (Re Place)) (a : Place) (next : List (Re Place)) → Stands (with_places rule from r) rs a next → Within rule from (letters r) a
+pub within : (rule from : ℕ) (r : Re (List ℕ)) (rs : List (Re NumberedClass)) (a : NumberedClass) (next : List (Re NumberedClass)) → Stands (with_places rule from r) rs a next → Within rule from (letters r) a
 within rule from empty rs a next f = absurd f
 within rule from (letter c) rs a next f =
     let e : a.number ≡ from = ap (λ t. t.number) f.0 in
@@ -90,7 +90,7 @@ within rule from (alt r s) rs a next (inr f) =
 within rule from (many r) rs a next f = within rule from r (many (with_places rule from r) ∷ rs) a next f
 
 -- a number has one place, with the same behind it
-pub one_place : (rule from : ℕ) (r : Re (List ℕ)) (rs : List (Re Place)) (a b : Place) (next last : List (Re Place)) → Stands (with_places rule from r) rs a next → Stands (with_places rule from r) rs b last → a.number ≡ b.number → (a ≡ b) × (next ≡ last)
+pub one_place : (rule from : ℕ) (r : Re (List ℕ)) (rs : List (Re NumberedClass)) (a b : NumberedClass) (next last : List (Re NumberedClass)) → Stands (with_places rule from r) rs a next → Stands (with_places rule from r) rs b last → a.number ≡ b.number → (a ≡ b) × (next ≡ last)
 one_place rule from empty rs a b next last f g e = absurd f
 one_place rule from (letter c) rs a b next last f g e = (f.0 ∙ sym g.0, f.1 ∙ sym g.1)
 one_place rule from nothing rs a b next last f g e = absurd f
@@ -117,12 +117,12 @@ one_place rule from (alt r s) rs a b next last (inr f) (inr g) e = one_place rul
 one_place rule from (many r) rs a b next last f g e = one_place rule from r (many (with_places rule from r) ∷ rs) a b next last f g e
 
 -- the same of all patterns
-pub any_low : (rule from : ℕ) (ps : List (Re (List ℕ))) (rs : List (Re Place)) (a : Place) (next : List (Re Place)) → Stands (any_of rule from ps) rs a next → from ≤ a.number
+pub any_low : (rule from : ℕ) (ps : List (Re (List ℕ))) (rs : List (Re NumberedClass)) (a : NumberedClass) (next : List (Re NumberedClass)) → Stands (any_of rule from ps) rs a next → from ≤ a.number
 any_low rule from [] rs a next f = absurd f
 any_low rule from (p ∷ ps) rs a next (inl f) = (within rule from p rs a next f).low
 any_low rule from (p ∷ ps) rs a next (inr f) = omega (arith, any_low (suc rule) (from + letters p) ps rs a next f)
 
-pub one_of_any : (rule from : ℕ) (ps : List (Re (List ℕ))) (rs : List (Re Place)) (a b : Place) (next last : List (Re Place)) → Stands (any_of rule from ps) rs a next → Stands (any_of rule from ps) rs b last → a.number ≡ b.number → (a ≡ b) × (next ≡ last)
+pub one_of_any : (rule from : ℕ) (ps : List (Re (List ℕ))) (rs : List (Re NumberedClass)) (a b : NumberedClass) (next last : List (Re NumberedClass)) → Stands (any_of rule from ps) rs a next → Stands (any_of rule from ps) rs b last → a.number ≡ b.number → (a ≡ b) × (next ≡ last)
 one_of_any rule from [] rs a b next last f g e = absurd f
 one_of_any rule from (p ∷ ps) rs a b next last (inl f) (inl g) e = one_place rule from p rs a b next last f g e
 one_of_any rule from (p ∷ ps) rs a b next last (inl f) (inr g) e =

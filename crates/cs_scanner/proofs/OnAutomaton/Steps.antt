@@ -8,7 +8,7 @@ use Rattle.cs_scanner.specs.Automaton.Bits.{bit}
 use Rattle.cs_scanner.specs.Automaton.Exits.{exit, final, nexts}
 use Rattle.cs_scanner.specs.Automaton.Linear.{nullable, all_nullable, Starts, Stands}
 use Rattle.cs_scanner.specs.Automaton.Meaning.{Has, classes, all_classes}
-use Rattle.cs_scanner.specs.Automaton.Places.{Place, letters, with_places, any_of, whole, HasByte, all_letters}
+use Rattle.cs_scanner.specs.Automaton.Places.{NumberedClass, letters, with_places, any_of, whole, HasByte, all_letters}
 use Rattle.cs_scanner.specs.Automaton.Reached.{Reaches, begins, goes_on}
 use Rattle.cs_scanner.specs.Automaton.Rules.{SpellsRule, AreSpelled}
 use Rattle.cs_scanner.specs.Automaton.States.{Follows, AreNext, IsReached, IsRow, EndsAt, EndsBelow, AreEnding}
@@ -58,12 +58,12 @@ length-all_classes [] = refl
 length-all_classes (r ∷ rs) = omega (arith, length-append (classes r) (all_classes rs), length-classes r, length-all_classes rs)
 
 -- the class at the place's number, counted from there on
-pub record ClassAt (from : ℕ) (all : List (List ℕ)) (a : Place) : Type 0 where
+pub record ClassAt (from : ℕ) (all : List (List ℕ)) (a : NumberedClass) : Type 0 where
   pub index : ℕ
   pub number : a.number ≡ from + index
   pub at : slice_get all index ≡ Some a.class
 
-class_at : (rule from : ℕ) (r : Re (List ℕ)) (rs : List (Re Place)) (a : Place) (next : List (Re Place)) → Stands (with_places rule from r) rs a next → ClassAt from (classes r) a
+class_at : (rule from : ℕ) (r : Re (List ℕ)) (rs : List (Re NumberedClass)) (a : NumberedClass) (next : List (Re NumberedClass)) → Stands (with_places rule from r) rs a next → ClassAt from (classes r) a
 class_at rule from empty rs a next f = absurd f
 class_at rule from (letter c) rs a next f =
     let n : a.number ≡ from = ap (λ t. t.number) f.0 in
@@ -83,7 +83,7 @@ class_at rule from (alt r s) rs a next (inr f) =
     record { index = letters r + c.index; number = omega (arith, c.number); at = get_right (classes r) (classes s) c.index (letters r + c.index) a.class (omega (arith, length-classes r)) c.at }
 class_at rule from (many r) rs a next f = class_at rule from r (many (with_places rule from r) ∷ rs) a next f
 
-any_class : (rule from : ℕ) (ps : List (Re (List ℕ))) (rs : List (Re Place)) (a : Place) (next : List (Re Place)) → Stands (any_of rule from ps) rs a next → ClassAt from (all_classes ps) a
+any_class : (rule from : ℕ) (ps : List (Re (List ℕ))) (rs : List (Re NumberedClass)) (a : NumberedClass) (next : List (Re NumberedClass)) → Stands (any_of rule from ps) rs a next → ClassAt from (all_classes ps) a
 any_class rule from [] rs a next f = absurd f
 any_class rule from (p ∷ ps) rs a next (inl f) =
     let c = class_at rule from p rs a next f in
@@ -94,12 +94,12 @@ any_class rule from (p ∷ ps) rs a next (inr f) =
 
 -- ---- the rule of a place
 
-any_rule : (rule from : ℕ) (ps : List (Re (List ℕ))) (rs : List (Re Place)) (a : Place) (next : List (Re Place)) → Stands (any_of rule from ps) rs a next → rule ≤ a.rule
+any_rule : (rule from : ℕ) (ps : List (Re (List ℕ))) (rs : List (Re NumberedClass)) (a : NumberedClass) (next : List (Re NumberedClass)) → Stands (any_of rule from ps) rs a next → rule ≤ a.rule
 any_rule rule from [] rs a next f = absurd f
 any_rule rule from (p ∷ ps) rs a next (inl f) = omega (arith, (within rule from p rs a next f).of_rule)
 any_rule rule from (p ∷ ps) rs a next (inr f) = omega (arith, any_rule (suc rule) (from + letters p) ps rs a next f)
 
-stands_at : (rule from : ℕ) (ps : List (Re (List ℕ))) (j number base : ℕ) (r : Re (List ℕ)) (a : Place) (next : List (Re Place)) → slice_get ps j ≡ Some r → number ≡ rule + j → base ≡ from + all_letters (take j ps) → Stands (with_places number base r) [] a next → Stands (any_of rule from ps) [] a next
+stands_at : (rule from : ℕ) (ps : List (Re (List ℕ))) (j number base : ℕ) (r : Re (List ℕ)) (a : NumberedClass) (next : List (Re NumberedClass)) → slice_get ps j ≡ Some r → number ≡ rule + j → base ≡ from + all_letters (take j ps) → Stands (with_places number base r) [] a next → Stands (any_of rule from ps) [] a next
 stands_at rule from [] j number base r a next e n b f = absurd cc
 stands_at rule from (p ∷ ps) zero number base r a next e n b f =
     let same : r ≡ p = cc in
@@ -109,7 +109,7 @@ stands_at rule from (p ∷ ps) zero number base r a next e n b f =
 stands_at rule from (p ∷ ps) (suc j) number base r a next e n b f =
     inr (stands_at (suc rule) (from + letters p) ps j number base r a next e (omega (arith, n)) (omega (arith, b)) f)
 
-at_stands : (rule from : ℕ) (ps : List (Re (List ℕ))) (j number base : ℕ) (r : Re (List ℕ)) (a : Place) (next : List (Re Place)) → slice_get ps j ≡ Some r → number ≡ rule + j → base ≡ from + all_letters (take j ps) → a.rule ≡ number → Stands (any_of rule from ps) [] a next → Stands (with_places number base r) [] a next
+at_stands : (rule from : ℕ) (ps : List (Re (List ℕ))) (j number base : ℕ) (r : Re (List ℕ)) (a : NumberedClass) (next : List (Re NumberedClass)) → slice_get ps j ≡ Some r → number ≡ rule + j → base ≡ from + all_letters (take j ps) → a.rule ≡ number → Stands (any_of rule from ps) [] a next → Stands (with_places number base r) [] a next
 at_stands rule from [] j number base r a next e n b is f = absurd f
 at_stands rule from (p ∷ ps) zero number base r a next e n b is (inl f) =
     let same : p ≡ r = cc in
@@ -130,26 +130,26 @@ numbered_nullable rule from (alt r s) = let p = numbered_nullable rule from r in
 numbered_nullable rule from (many r) = refl
 
 module _ (rs : List (Re (List ℕ))) where
-  pub follows_stands : (x : List ℕ) (b : Place) (last : List (Re Place)) → Follows rs x b last → Stands (whole rs) [] b last
+  pub follows_stands : (x : List ℕ) (b : NumberedClass) (last : List (Re NumberedClass)) → Follows rs x b last → Stands (whole rs) [] b last
   follows_stands x b last (inl f) = start_stands (whole rs) b last f.1
   follows_stands x b last (inr f) = elim (stands_more (whole rs) [] f.0 f.1 b last (reaches_stands rs f.2) f.3) [ inl g ↦ g | inr g ↦ absurd g ]
 
-  pub place_class : (a : Place) (next : List (Re Place)) → Stands (whole rs) [] a next → slice_get (all_classes rs) a.number ≡ Some a.class
+  pub place_class : (a : NumberedClass) (next : List (Re NumberedClass)) → Stands (whole rs) [] a next → slice_get (all_classes rs) a.number ≡ Some a.class
   place_class a next s =
       let c = any_class 1 0 rs [] a next s in
       let same : c.index ≡ a.number = omega (arith, c.number) in
       subst (λ n. slice_get (all_classes rs) n ≡ Some a.class) same c.at
 
-  pub place_below : (a : Place) (next : List (Re Place)) → Stands (whole rs) [] a next → a.number < all_letters rs
+  pub place_below : (a : NumberedClass) (next : List (Re NumberedClass)) → Stands (whole rs) [] a next → a.number < all_letters rs
   place_below a next s = omega (arith, slice_get_within (all_classes rs) a.number a.class (place_class a next s), length-all_classes rs)
 
   -- ---- one byte more
 
-  follows_reaches : (x : List ℕ) (b : ℕ) (a : Place) (last : List (Re Place)) → Follows rs x a last → HasByte a b → Reaches rs (x ++ b ∷ []) a last
+  follows_reaches : (x : List ℕ) (b : ℕ) (a : NumberedClass) (last : List (Re NumberedClass)) → Follows rs x a last → HasByte a b → Reaches rs (x ++ b ∷ []) a last
   follows_reaches x b a last (inl f) h = begins b (x ++ b ∷ []) a last f.1 h (ap (λ t. t ++ b ∷ []) f.0)
   follows_reaches x b a last (inr f) h = goes_on b (x ++ b ∷ []) x f.0 a f.1 last f.2 f.3 h refl
 
-  reaches_follows : (x : List ℕ) (b : ℕ) {z : List ℕ} {a : Place} {last : List (Re Place)} → z ≡ x ++ b ∷ [] → Reaches rs z a last → Follows rs x a last × HasByte a b
+  reaches_follows : (x : List ℕ) (b : ℕ) {z : List ℕ} {a : NumberedClass} {last : List (Re NumberedClass)} → z ≡ x ++ b ∷ [] → Reaches rs z a last → Follows rs x a last × HasByte a b
   reaches_follows x b {z} {a} {last} is (begins c _ _ _ s h e) =
       let same = snoc_same x [] b c (sym is ∙ e) in
       (inl (same.0, s), subst (λ t. HasByte a t) (sym same.1) h)
@@ -181,22 +181,22 @@ module _ (rs : List (Re (List ℕ))) where
 
   -- ---- what may come next
 
-  reaches_some : {x : List ℕ} {a : Place} {next : List (Re Place)} → x ≡ [] → Reaches rs x a next → ⊥
+  reaches_some : {x : List ℕ} {a : NumberedClass} {next : List (Re NumberedClass)} → x ≡ [] → Reaches rs x a next → ⊥
   reaches_some e (begins c _ _ _ s h is) = absurd cc
   reaches_some e (goes_on c _ [] k _ mid _ r s h is) = absurd cc
   reaches_some e (goes_on c _ (d ∷ y) k _ mid _ r s h is) = absurd cc
 
   abbrev NextPlace : List ℕ → ℕ → Type 0
-  NextPlace x n = (b : Place) × (last : List (Re Place)) × Follows rs x b last × (b.number ≡ n)
+  NextPlace x n = (b : NumberedClass) × (last : List (Re NumberedClass)) × Follows rs x b last × (b.number ≡ n)
 
   pub start_next : (S : ℕ → Bool) (N : ℕ → Bool) (zero_words : (n : ℕ) → S n ≡ false) → ((n : ℕ) → N n ≡ true → Contains (nexts S (whole rs) true) n) → ((n : ℕ) → n < all_letters rs → Contains (nexts S (whole rs) true) n → N n ≡ true) → AreNext rs [] N
   start_next S N none forth back = record { follow = λ n h. let c = next_comes S (whole rs) [] true n (forth n h) in came c.place c.last n c.number c.comes; all = came_back }
     where
-      came : (b : Place) (last : List (Re Place)) (n : ℕ) → b.number ≡ n → Comes S (whole rs) [] true b last → NextPlace [] n
+      came : (b : NumberedClass) (last : List (Re NumberedClass)) (n : ℕ) → b.number ≡ n → Comes S (whole rs) [] true b last → NextPlace [] n
       came b last n e (entering i f) = (b, last, inl (refl, inl f), e)
       came b last n e (behind k mid f m s) = absurd (false≢true (sym (none k.number) ∙ m))
 
-      came_back : (b : Place) (last : List (Re Place)) → Follows rs [] b last → N b.number ≡ true
+      came_back : (b : NumberedClass) (last : List (Re NumberedClass)) → Follows rs [] b last → N b.number ≡ true
       came_back b last (inl (e, inl f)) = back b.number (place_below b last (start_stands (whole rs) b last (inl f))) (first_next S (whole rs) [] true b last refl f)
       came_back b last (inl (e, inr f)) = absurd f.1
       came_back b last (inr f) = absurd (reaches_some refl f.2)
@@ -204,14 +204,14 @@ module _ (rs : List (Re (List ℕ))) where
   pub state_next : (x : List ℕ) (S : ℕ → Bool) (N : ℕ → Bool) → x ≢ [] → IsReached rs x S → ((n : ℕ) → N n ≡ true → Contains (nexts S (whole rs) false) n) → ((n : ℕ) → n < all_letters rs → Contains (nexts S (whole rs) false) n → N n ≡ true) → AreNext rs x N
   state_next x S N ne is forth back = record { follow = λ n h. let c = next_comes S (whole rs) [] false n (forth n h) in came c.place c.last n c.number c.comes; all = came_back }
     where
-      came : (b : Place) (last : List (Re Place)) (n : ℕ) → b.number ≡ n → Comes S (whole rs) [] false b last → NextPlace x n
+      came : (b : NumberedClass) (last : List (Re NumberedClass)) (n : ℕ) → b.number ≡ n → Comes S (whole rs) [] false b last → NextPlace x n
       came b last n e (entering i f) = absurd (false≢true i)
       came b last n e (behind k mid f m s) =
           let r = is.reached k.number m in
           let same = one_of_any 1 0 rs [] r.place k r.next mid (reaches_stands rs r.reaches) f r.number in
           (b, last, inr (r.place, r.next, r.reaches, subst (λ t. Starts t b last) (sym same.1) s), e)
 
-      came_back : (b : Place) (last : List (Re Place)) → Follows rs x b last → N b.number ≡ true
+      came_back : (b : NumberedClass) (last : List (Re NumberedClass)) → Follows rs x b last → N b.number ≡ true
       came_back b last (inl f) = absurd (ne f.0)
       came_back b last (inr f) =
           let stands = reaches_stands rs f.2 in

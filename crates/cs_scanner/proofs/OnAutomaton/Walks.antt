@@ -10,7 +10,7 @@ use Rattle.cs_scanner.specs.declared.automaton.op.Frame.{Frame}
 use Rattle.cs_scanner.specs.Automaton.Re.{Re}
 use Rattle.cs_scanner.specs.Automaton.Meaning.{re, cat_of, alt_of}
 use Rattle.cs_scanner.specs.Automaton.Linear.{nullable}
-use Rattle.cs_scanner.specs.Automaton.Places.{Place, letters, with_places}
+use Rattle.cs_scanner.specs.Automaton.Places.{NumberedClass, letters, with_places}
 use Rattle.cs_scanner.specs.Automaton.Exits.{final, exit, nexts, finals}
 use Rattle.cs_scanner.specs.Automaton.Flat.{flat, flat_join, flat_either}
 use Rattle.cs_scanner.specs.Automaton.Walks.{Going, Backing, frame, below, before_last, go, go_all, put, put_all, back, back_all}
@@ -107,13 +107,13 @@ module _ (S : ℕ → Bool) where
       ∙ ap (λ t. going acc t bs) (rest_push fs (frame e acc))
 
 module _ (S : ℕ → Bool) (rule : ℕ) where
-  abbrev num : ℕ → Regex → Re Place
+  abbrev num : ℕ → Regex → Re NumberedClass
   num from r = with_places rule from (re r)
 
-  abbrev nj : ℕ → Parts → Re Place
+  abbrev nj : ℕ → Parts → Re NumberedClass
   nj from ps = with_places rule from (cat_of ps)
 
-  abbrev ne : ℕ → Parts → Re Place
+  abbrev ne : ℕ → Parts → Re NumberedClass
   ne from ps = with_places rule from (alt_of ps)
 
   mutual

@@ -7,19 +7,19 @@ use Rattle.cs_scanner.specs.Automaton.Exits.{exit, nexts}
 use Rattle.cs_scanner.specs.Automaton.Linear.{Starts}
 use Rattle.cs_scanner.specs.Automaton.Listed.{ListsAll}
 use Rattle.cs_scanner.specs.Automaton.Meaning.{all_classes}
-use Rattle.cs_scanner.specs.Automaton.Places.{Place, whole, with_places, all_letters, IsFull}
+use Rattle.cs_scanner.specs.Automaton.Places.{NumberedClass, whole, with_places, all_letters, IsFull}
 use Rattle.cs_scanner.specs.Automaton.Re.{Re}
 use Rattle.cs_scanner.specs.Automaton.Reached.{Reaches, ReachesNumber}
 use Rattle.cs_scanner.specs.Automaton.Rules.{AreSpelled}
 
 -- what may come behind the text
-abbrev pub Follows : List (Re (List ℕ)) → List ℕ → Place → List (Re Place) → Type 0
-Follows rs x b last = ((x ≡ []) × Starts (whole rs ∷ []) b last) ⊎ ((k : Place) × (mid : List (Re Place)) × Reaches rs x k mid × Starts mid b last)
+abbrev pub Follows : List (Re (List ℕ)) → List ℕ → NumberedClass → List (Re NumberedClass) → Type 0
+Follows rs x b last = ((x ≡ []) × Starts (whole rs ∷ []) b last) ⊎ ((k : NumberedClass) × (mid : List (Re NumberedClass)) × Reaches rs x k mid × Starts mid b last)
 
 -- the numbers of what may come behind the text pass the test, and no others
 pub record AreNext (rs : List (Re (List ℕ))) (x : List ℕ) (N : ℕ → Bool) : Type 0 where
-  pub follow : (n : ℕ) → N n ≡ true → (b : Place) × (last : List (Re Place)) × Follows rs x b last × (b.number ≡ n)
-  pub all : (b : Place) (last : List (Re Place)) → Follows rs x b last → N b.number ≡ true
+  pub follow : (n : ℕ) → N n ≡ true → (b : NumberedClass) × (last : List (Re NumberedClass)) × Follows rs x b last × (b.number ≡ n)
+  pub all : (b : NumberedClass) (last : List (Re NumberedClass)) → Follows rs x b last → N b.number ≡ true
 
 -- the numbers that the text reaches pass the test, and no others
 pub record IsReached (rs : List (Re (List ℕ))) (x : List ℕ) (S : ℕ → Bool) : Type 0 where
@@ -90,7 +90,7 @@ Grows old new = (k : ℕ) (words : List ℕ) → slice_get old k ≡ Some words 
 
 -- From the state the byte leads to that state, or nowhere.
 abbrev pub IsStep : List (Re (List ℕ)) → List (List ℕ) → ℕ → ℕ → Option ℕ → Type 0
-IsStep rs sets k byte None = (x : List ℕ) → StandsFor rs sets k x → (a : Place) (next : List (Re Place)) → Reaches rs (x ++ byte ∷ []) a next → ⊥
+IsStep rs sets k byte None = (x : List ℕ) → StandsFor rs sets k x → (a : NumberedClass) (next : List (Re NumberedClass)) → Reaches rs (x ++ byte ∷ []) a next → ⊥
 IsStep rs sets k byte (Some j) = (x : List ℕ) → StandsFor rs sets k x → StandsFor rs sets j (x ++ byte ∷ [])
 
 -- The state is one of these, and the bits say what may come behind its texts.

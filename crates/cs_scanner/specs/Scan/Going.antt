@@ -1,13 +1,13 @@
 -- How the scan of a text goes on, match by match.
 use Rattle.std.specs.Prelude.{◌≡◌, ℕ, ◌+◌, ◌-◌, ◌≤◌, Bool, List, [], ◌∷◌, ◌++◌, Option, Some, None, length}
-use Rattle.cs_scanner.specs.declared.scanning.comparing.Given.{Given}
-use Rattle.cs_scanner.specs.declared.scanning.comparing.Given.TheVariants as gives
+use Rattle.cs_scanner.specs.declared.scanning.comparing.GivenOrStop.{GivenOrStop}
+use Rattle.cs_scanner.specs.declared.scanning.comparing.GivenOrStop.TheVariants as gives
 use Rattle.cs_scanner.specs.declared.scanning.comparing.Next.{Next}
 use Rattle.cs_scanner.specs.declared.scanning.comparing.Next.TheVariants as nexts
 use Rattle.cs_scanner.specs.Scan.Scan.{Scanning, Gives, GivesNone, Runs, StopsAt}
 
 -- the tokens that a match gives
-abbrev pub tokens_of : Given → Option (List ℕ)
+abbrev pub tokens_of : GivenOrStop → Option (List ℕ)
 tokens_of gives.Nothing = Some []
 tokens_of (gives.Token token) = Some (token ∷ [])
 tokens_of gives.Stop = None

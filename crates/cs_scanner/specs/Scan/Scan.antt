@@ -49,6 +49,25 @@ pub record Gives (s : Scanning) (text : List ℕ) (size : ℕ) (tokens : List �
   pub at : slice_get s.kinds (rule - 1) ≡ Some kind
   pub gives : given s.literals kind text ≡ Some tokens
 
+-- no match at the front of the text gives tokens
+abbrev pub GivesNone : Scanning → List ℕ → Type 0
+GivesNone s text = (size : ℕ) (tokens : List ℕ) → Gives s text size tokens → ⊥
+
+-- A scan stops at the front of a text for one of three reasons: nothing matches a byte there; the match is of a rule whose action
+-- only C knows; it is by its own byte, and no literal of that byte is in use.
+pub data IsStop (s : Scanning) (text : List ℕ) : Type 0 where
+  nothing_matches : HasNoMatch s.patterns text → IsStop s text
+  is_foreign : (rule size : ℕ) → IsMatch s.patterns text rule size → slice_get s.kinds (rule - 1) ≡ Some Foreign → IsStop s text
+  has_no_literal : (rule size : ℕ) → IsMatch s.patterns text rule size → slice_get s.kinds (rule - 1) ≡ Some OwnByte → literal_token s.literals (slice_index text 0) ≡ None → IsStop s text
+
+-- at such a front no match gives tokens
+abbrev pub StopsThere : Scanning → List ℕ → Type 0
+StopsThere s text = IsStop s text → GivesNone s text
+
+-- where each pattern has a kind, and no match gives tokens, that it is no such front cannot be
+abbrev pub StopsThereAlone : Scanning → List ℕ → Type 0
+StopsThereAlone s text = length s.kinds ≡ length s.patterns → GivesNone s text → (IsStop s text → ⊥) → ⊥
+
 -- any two matches at the front of the text are one
 abbrev pub AreOneMatch : List Regex → List ℕ → Type 0
 AreOneMatch patterns text = (rule size other n : ℕ) → IsMatch patterns text rule size → IsMatch patterns text other n → (rule ≡ other) × (size ≡ n)
@@ -56,7 +75,7 @@ AreOneMatch patterns text = (rule size other n : ℕ) → IsMatch patterns text 
 -- The scan of the text gives these tokens. It covers the text, or stops where no match gives tokens.
 pub data Runs (s : Scanning) : List ℕ → List ℕ → Bool → Type 0 where
   ends : (text given : List ℕ) (whole : Bool) → text ≡ [] → given ≡ [] → whole ≡ true → Runs s text given whole
-  stops : (text given : List ℕ) (whole : Bool) → text ≢ [] → ((size : ℕ) (tokens : List ℕ) → Gives s text size tokens → ⊥) → given ≡ [] → whole ≡ false → Runs s text given whole
+  stops : (text given : List ℕ) (whole : Bool) → text ≢ [] → GivesNone s text → given ≡ [] → whole ≡ false → Runs s text given whole
   goes_on : (text given : List ℕ) (whole : Bool) (size : ℕ) (now later : List ℕ) → Gives s text size now → Runs s (drop size text) later whole → given ≡ now ++ later → Runs s text given whole
 
 -- any two scans of the text are one
@@ -70,10 +89,6 @@ HasScan s text = ((given : List ℕ) (whole : Bool) → Runs s text given whole 
 -- the text scans to the tokens: matches cover it, one behind the other, and give them
 abbrev pub Scans : Scanning → List ℕ → List ℕ → Type 0
 Scans s text tokens = Runs s text tokens true
-
--- no match at the front of the text gives tokens
-abbrev pub GivesNone : Scanning → List ℕ → Type 0
-GivesNone s text = (size : ℕ) (tokens : List ℕ) → Gives s text size tokens → ⊥
 
 -- The scan of the text stops at the place: matches that give tokens cover the bytes in front of it, and there no match does.
 pub data StopsAt (s : Scanning) : List ℕ → ℕ → Type 0 where

@@ -19,7 +19,7 @@ pub enum Agreement {
 
 /// What a match gives.
 #[derive(Clone, Copy, Debug, PartialEq, Eq)]
-enum Given {
+enum GivenOrStop {
     Nothing,
     Token(u16),
     Stop,
@@ -34,21 +34,21 @@ pub(crate) enum Next {
 }
 
 /// What a match of the kind at the front of the text gives.
-fn give(kind: Kind, literals: &[u16], text: &[u8]) -> Given
+fn give(kind: Kind, literals: &[u16], text: &[u8]) -> GivenOrStop
     requires literals { length literals.now ≡ 256 }
     requires some { 0 < length text.now }
     ensures { tokens_of result ≡ given literals.now kind text.now }
 {
     match kind {
-        Kind::Skip => Given::Nothing,
-        Kind::Token(token) => Given::Token(token),
-        Kind::Foreign => Given::Stop,
+        Kind::Skip => GivenOrStop::Nothing,
+        Kind::Token(token) => GivenOrStop::Token(token),
+        Kind::Foreign => GivenOrStop::Stop,
         Kind::OwnByte => {
             let token = literals[text[0] as usize];
             if token > 0 {
-                Given::Token(token)
+                GivenOrStop::Token(token)
             } else {
-                Given::Stop
+                GivenOrStop::Stop
             }
         }
     }
@@ -63,9 +63,9 @@ pub(crate) fn advance(scanner: &Scanner<'_>, text: &[u8]) -> Next
         return Next::Stop;
     };
     match give(scanner.kinds[place_of(rule)], scanner.literals, text) {
-        Given::Nothing => Next::Pass(size),
-        Given::Token(token) => Next::Give(size, token),
-        Given::Stop => Next::Stop,
+        GivenOrStop::Nothing => Next::Pass(size),
+        GivenOrStop::Token(token) => Next::Give(size, token),
+        GivenOrStop::Stop => Next::Stop,
     }
 }
 

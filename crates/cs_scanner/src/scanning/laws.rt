@@ -2,7 +2,7 @@
 
 ghost use Rattle.std.specs.Prelude.{ℕ, List};
 ghost use Rattle.cs_pattern_parts.specs.Tree.Pattern.{Regex};
-ghost use Rattle.cs_scanner.specs.Scan.Scan.{AreOneMatch, AreOneScan, AreOneStop, HasScan, IsStopOrWhole, Scanning};
+ghost use Rattle.cs_scanner.specs.Scan.Scan.{AreOneMatch, AreOneScan, AreOneStop, HasScan, IsStopOrWhole, Scanning, StopsThere, StopsThereAlone};
 
 use crate::scanning::scanner::Scanner;
 use cs_pattern_parts::take_shared;
@@ -30,6 +30,13 @@ pub fn one_stop()
 /// A scan that doesn't cover its text stops at a place, and one that covers it stops at none.
 pub fn stop_or_whole()
     ensures { (s : Scanning) (text : List ℕ) → IsStopOrWhole s text }
+{}
+
+/// A scan stops where nothing matches, at a match that is C's alone, and at one by a byte whose literal isn't in use. Where each
+/// pattern has a kind it stops nowhere else: that it does leads to a contradiction.
+pub fn three_stops()
+    ensures there { (s : Scanning) (text : List ℕ) → StopsThere s text }
+    ensures alone { (s : Scanning) (text : List ℕ) → StopsThereAlone s text }
 {}
 
 /// Threads may share a scanner, and so its automaton.

@@ -3,14 +3,14 @@ use Rattle.std.proofs.Common.{◌≡◌, ℕ, ◌-◌, List, Some, None, slice_g
 use Rattle.std.proofs.lemmas.Option.{get_or_from_slice_get}
 use Rattle.cs_pattern_parts.specs.declared.tree.kind.Kind.{Kind}
 use Rattle.cs_pattern_parts.specs.declared.tree.kind.Kind.TheVariants.{Token}
-use Rattle.cs_scanner.specs.declared.scanning.comparing.Given.{Given}
-use Rattle.cs_scanner.specs.declared.scanning.comparing.Given.TheVariants.{Stop}
+use Rattle.cs_scanner.specs.declared.scanning.comparing.GivenOrStop.{GivenOrStop}
+use Rattle.cs_scanner.specs.declared.scanning.comparing.GivenOrStop.TheVariants.{Stop}
 use Rattle.cs_scanner.specs.Scan.Going.{tokens_of}
 use Rattle.cs_scanner.specs.Scan.Scan.{given}
 use Rattle.cs_scanner.proofs.OnScan.OneMatch.{match_one}
 use Rattle.cs_scanner.proofs.scanning.comparing.advance.Goals as goal
 
-none_given : (literals text tokens : List ℕ) (kind other : Kind) (g : Given) → kind ≡ other → tokens_of g ≡ given literals kind text → g ≡ Stop → given literals other text ≡ Some tokens → ⊥
+none_given : (literals text tokens : List ℕ) (kind other : Kind) (g : GivenOrStop) → kind ≡ other → tokens_of g ≡ given literals kind text → g ≡ Stop → given literals other text ≡ Some tokens → ⊥
 none_given literals text tokens kind other g same answer stop gives =
     let none : None ≡ Some tokens = ap tokens_of (sym stop) ∙ answer ∙ ap (λ k. given literals k text) same ∙ gives in
     cc
