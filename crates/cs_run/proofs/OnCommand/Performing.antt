@@ -41,10 +41,10 @@ use Rattle.cs_run.specs.Ending.Summary.{IsSummary}
 use Rattle.cs_run.specs.Ending.Texts.{IsTextBy, IsTextOf, IsTextOfPair}
 use Rattle.cs_run.specs.Writer.Suite.{IsRules, IsSuite}
 use Rattle.cs_io.specs.Asked.{GrewByPart, HasRoomForAll}
-use Rattle.cs_io.specs.declared.halt.Halt.{Halt}
-use Rattle.cs_io.specs.declared.halt.Halt.TheVariants as halt
 use Rattle.cs_run.specs.Command.Carrying.{CarriesOut, GrewByEach, HasTooManyChains, HasTooManyStates, TakesGrammar, TakesPair, Writes, WritesBy, WritesByPair, WritesOfGrammar, WritesOfPair, WritesSure, WritingEnds}
-use Rattle.cs_run.specs.Command.Words.{AskForNoFiles, PerformsFor, ending_at, ending_of}
+use Rattle.cs_run.specs.Command.Words.{AskForNoFiles, PerformsFor, ending_of, ending_of_suite}
+use Rattle.cs_run.specs.declared.writer.halt.SuiteHalt.{SuiteHalt}
+use Rattle.cs_run.specs.declared.writer.halt.SuiteHalt.TheVariants as suite
 use Rattle.cs_run.proofs.OnInput.Meanings.{one_meaning}
 
 -- a read of the desk failed
@@ -287,14 +287,21 @@ pub unused_or : {S : Type 0} {A : Type 0} (written : S → Option (List ℕ)) (f
 unused_or written faults old new (inl same) = inl (ap written same, ap faults same)
 unused_or written faults old new (inr other) = inr other
 
--- a writer that halted
-pub halted_so : (Is : List ℕ → Type 0) (ending : Ending) (why : Halt) (out : SinkUse) → ending ≡ ending_at why → GrewByEach Is out
-    → (why ≡ halt.Failed → HasFailed out.faults) → (HasRoomForAll Is out.room → out.faults.after ≡ out.faults.before) → WritesSure Is ending out
-halted_so Is ending why out same part rose room = record { ends = subst (λ (e : Ending). WritingEnds (Unit {0}) (λ refusal. ⊥) Is (GrewByEach Is) e out) (sym same) (by_cause why rose); room = room }
+-- how the writing of a suite ended
+abbrev SuiteEnds : pair.Pair → (List ℕ → Type 0) → SinkUse → Ending → Type 0
+SuiteEnds p Is out ending = WritingEnds (¬ HasManyStates p.lex) (HasTooManyStates p) Is (GrewByEach Is) ending out
+
+-- a writer of a suite that halted
+pub unsuited_so : (p : pair.Pair) (Is : List ℕ → Type 0) (ending : Ending) (why : SuiteHalt) (out : SinkUse) → ending ≡ ending_of_suite why → GrewByEach Is out
+    → (why ≡ suite.States → HasManyStates p.lex × IsUnused out) → (why ≡ suite.Failed → (¬ HasManyStates p.lex) × HasFailed out.faults)
+    → (why ≡ suite.Memory → IsUnused out ⊎ (¬ HasManyStates p.lex)) → (HasRoomForAll Is out.room → out.faults.after ≡ out.faults.before) → WritesOfPair p Is ending out
+unsuited_so p Is ending why out same part many rose few room = record { ends = subst (λ (e : Ending). SuiteEnds p Is out e) (sym same) (by_cause why many rose few); room = room }
   where
-    by_cause : (why : Halt) → (why ≡ halt.Failed → HasFailed out.faults) → WritingEnds (Unit {0}) (λ refusal. ⊥) Is (GrewByEach Is) (ending_at why) out
-    by_cause halt.Failed rose = (tt, part, rose refl)
-    by_cause halt.Memory rose = inr (tt, part)
+    by_cause : (why : SuiteHalt) → (why ≡ suite.States → HasManyStates p.lex × IsUnused out) → (why ≡ suite.Failed → (¬ HasManyStates p.lex) × HasFailed out.faults)
+        → (why ≡ suite.Memory → IsUnused out ⊎ (¬ HasManyStates p.lex)) → SuiteEnds p Is out (ending_of_suite why)
+    by_cause suite.States many rose few = let h = many refl in ((refl, h.0), h.1)
+    by_cause suite.Failed many rose few = let h = rose refl in (h.0, part, h.1)
+    by_cause suite.Memory many rose few = elim (few refl) [ inl unused ↦ inl unused | inr fits ↦ inr (fits, part) ]
 
 -- ---- by what was read
 
@@ -313,12 +320,6 @@ no_files_so words request old new asked still asks =
     let both : Ok asks.0 ≡ Ok request = one_asked words (Ok asks.0) (Ok request) asks.1 asked in
     let same : asks.0 ≡ request = cc in
     still (subst (λ (r : PlainRequest). files_of r ≡ []) same asks.2)
-
--- memory ran out before anything was written, or behind a part of it
-pub memory_so : (accepted : Type 0) (Is : List ℕ → Type 0) (out : SinkUse) → IsUnused out ⊎ accepted → GrewByPart Is out.written.before out.written.after
-    → IsUnused out ⊎ (accepted × GrewByPart Is out.written.before out.written.after)
-memory_so accepted Is out (inl unused) part = inl unused
-memory_so accepted Is out (inr few) part = inr (few, part)
 
 -- ---- which commands are given what
 

@@ -16,7 +16,7 @@ use Rattle.cs_run.specs.declared.input.judging.Pair as pair
 use Rattle.cs_run.specs.declared.input.refusal.Refusal.{Refusal}
 use Rattle.cs_run.specs.declared.input.refusal.Refusal.TheVariants.{States}
 use Rattle.cs_words.specs.declared.command.Command.{Command}
-use Rattle.cs_run.specs.Command.Carrying.{GrewByEach, HasTooManyChains, Writes, WritesOfGrammar}
+use Rattle.cs_run.specs.Command.Carrying.{GrewByEach, HasTooManyChains, Writes, WritesOfGrammar, WritesSure}
 use Rattle.cs_words.specs.Commands.{lists_chains}
 use Rattle.cs_run.specs.Command.Words.{ending_after, ending_by}
 use Rattle.cs_run.specs.Ending.Files.{HasFewChains, scanning_of}
@@ -47,6 +47,13 @@ ended_so accepted refused Is Part (Err Failed) ending out within same whole part
     subst (λ (e : Ending). Writes accepted refused Is Part e out) (sym same) (record { ends = (within, part, failed refl); room = room })
 ended_so accepted refused Is Part (Err Memory) ending out within same whole part calm failed room =
     subst (λ (e : Ending). Writes accepted refused Is Part e out) (sym same) (record { ends = inr (within, part); room = room })
+
+-- the text that there is in any case was written, or its writing stopped
+pub ended_sure : (Is : List ℕ → Type 0) (outcome : Result Unit Halt) (ending : Ending) (out : SinkUse)
+    → ending ≡ ending_after outcome → OnOk outcome (GrewByOne Is out.written.before out.written.after) → OnErr outcome (GrewByEach Is out)
+    → OnOk outcome (out.faults.after ≡ out.faults.before) → (Stopped Failed outcome → HasFailed out.faults) → (HasRoomForAll Is out.room → out.faults.after ≡ out.faults.before)
+    → WritesSure Is ending out
+ended_sure Is outcome ending out same whole part calm failed room = ended_so (Unit {0}) (λ refusal. ⊥) Is (GrewByEach Is) outcome ending out tt same whole part calm failed room
 
 -- the text of a command that lists no chains was written, or its writing stopped
 pub ended_of : (c : Command) (g : PlainGrammar) (none : lists_chains c ≡ false) (Is : List ℕ → Type 0) (outcome : Result Unit Halt) (ending : Ending) (out : SinkUse)

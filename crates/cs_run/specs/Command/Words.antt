@@ -12,6 +12,8 @@ use Rattle.cs_run.specs.Ending.Ending.{Performs}
 use Rattle.cs_run.specs.Ending.Headline.{KeepsPromises}
 use Rattle.cs_words.specs.Requests.{IsAsked, PlainRequest, files_of}
 use Rattle.cs_words.specs.Words.{IsFirstBad}
+use Rattle.cs_run.specs.declared.writer.halt.SuiteHalt.{SuiteHalt}
+use Rattle.cs_run.specs.declared.writer.halt.SuiteHalt.TheVariants as suite
 use Rattle.cs_io.specs.declared.halt.Halt.{Halt}
 use Rattle.cs_io.specs.declared.halt.Halt.TheVariants as halt
 
@@ -46,6 +48,12 @@ ending_at halt.Memory = NoMemory
 abbrev pub ending_after : Result Unit Halt → Ending
 ending_after (Ok done) = Written
 ending_after (Err halt) = ending_at halt
+
+-- how a run ends whose suite isn't written whole
+abbrev pub ending_of_suite : SuiteHalt → Ending
+ending_of_suite suite.States = Refused States
+ending_of_suite suite.Failed = NotWritten
+ending_of_suite suite.Memory = NoMemory
 
 -- how a run ends where a lex file has no automaton
 abbrev pub ending_by : AutomatonError → Ending

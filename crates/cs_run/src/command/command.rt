@@ -10,15 +10,15 @@ ghost use Rattle.cs_words.specs.Words.{texts};
 ghost use Rattle.cs_run.specs.Writer.Suite.{IsRules, IsSuite};
 
 use crate::command::chains::chains;
-use crate::command::endings::{halted, stopped};
+use crate::command::endings::{ended, stopped, unsuited};
 use crate::command::lexemes::of_lexemes;
 use crate::command::lexical::lexical;
 use crate::command::text::of_text;
 use crate::ending::{Ending, finish};
-use crate::input::{Meant, Pair, Refusal, Stop, read_files};
-use crate::writer::{SuiteHalt, write_rules, write_suite, write_summary};
+use crate::input::{Meant, Pair, read_files};
+use crate::writer::{write_rules, write_suite, write_summary};
 use cs_fan::Gate;
-use cs_io::{Desk, Halt, Sink};
+use cs_io::{Desk, Sink};
 use cs_words::{Arguments, Command, GrammarCommand, Options, PairCommand, read_words};
 use cs_yacc::YaccFile;
 use std::alloc::Global;
@@ -150,10 +150,7 @@ fn rules<R: Threads + Sync, O: Sink, G: Gate + Sync>(
         (used O.Sink out.old out.new) }
     ensures told { HasLine result }
 {
-    match write_rules(rt, alloc, &file, out, gate) {
-        Ok(()) => Ending::Written,
-        Err(halt) => halted(halt),
-    }
+    ended(write_rules(rt, alloc, &file, out, gate))
 }
 
 // Writes the suite of a yacc file and a lex file.
@@ -171,9 +168,7 @@ fn suite<R: Threads + Sync, O: Sink, G: Gate + Sync>(
 {
     match write_suite(rt, alloc, pair, options, out, gate) {
         Ok(_) => Ending::Written,
-        Err(SuiteHalt::States) => Ending::Refused(Refusal::States),
-        Err(SuiteHalt::Failed) => Ending::NotWritten,
-        Err(SuiteHalt::Memory) => Ending::NoMemory,
+        Err(halt) => unsuited(halt),
     }
 }
 
@@ -189,8 +184,5 @@ fn summary<R: Threads + Sync, O: Sink, G: Gate + Sync>(
         (used O.Sink out.old out.new) }
     ensures told { HasLine result }
 {
-    match write_summary(rt, alloc, seed, out, gate) {
-        Ok(()) => Ending::Written,
-        Err(halt) => halted(halt),
-    }
+    ended(write_summary(rt, alloc, seed, out, gate))
 }

@@ -1,12 +1,13 @@
 // How a run ends, by how its calls ended.
 
 ghost use Rattle.std.specs.Prelude.{◌≡◌};
-ghost use Rattle.cs_run.specs.Command.Words.{ending_after, ending_at, ending_by, ending_of};
+ghost use Rattle.cs_run.specs.Command.Words.{ending_after, ending_at, ending_by, ending_of, ending_of_suite};
 ghost use Rattle.cs_run.specs.Ending.Ending.{HasLine};
 ghost use Rattle.cs_run.specs.Input.Refusal.{CanBeTold};
 
 use crate::ending::Ending;
 use crate::input::{Refusal, Stop};
+use crate::writer::SuiteHalt;
 use cs_io::Halt;
 use cs_scanner::AutomatonError;
 
@@ -42,6 +43,18 @@ pub(crate) fn stopped(stop: Stop) -> Ending
         Stop::NoFile(role) => Ending::NoFile(role),
         Stop::Refused(refusal) => Ending::Refused(refusal),
         Stop::Memory => Ending::NoMemory,
+    }
+}
+
+/// How a run ends whose suite isn't written whole.
+pub(crate) fn unsuited(halt: SuiteHalt) -> Ending
+    ensures ending { result ≡ ending_of_suite halt }
+    ensures told { HasLine result }
+{
+    match halt {
+        SuiteHalt::States => Ending::Refused(Refusal::States),
+        SuiteHalt::Failed => Ending::NotWritten,
+        SuiteHalt::Memory => Ending::NoMemory,
     }
 }
 

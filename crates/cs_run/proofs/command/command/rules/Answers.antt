@@ -1,8 +1,9 @@
-use Rattle.std.proofs.Common.{Err, ap}
+use Rattle.cs_io.specs.Uses.{used}
 use Rattle.cs_run.specs.Writer.Suite.{IsRules}
-use Rattle.cs_run.proofs.OnCommand.Performing.{halted_so}
+use Rattle.cs_run.proofs.OnCommand.Scanned.{ended_sure}
 use Rattle.cs_run.proofs.command.command.rules.Goals as goal
 
 pub returns-clause-writes : goal.returns-clause-writes
 returns-clause-writes g c =
-    halted_so (IsRules c.args.file) c.halted.result c.in-Err.halt _ c.halted.ensures.ending c.in-Err.ensures.part (λ same. c.in-Err.ensures.failed (ap Err same)) c.write_rules.ensures.room
+    ended_sure (IsRules c.args.file) c.write_rules.result c.ended.result (used g.O.Sink c.args.out.now c.write_rules.new.out) c.ended.ensures.ending c.write_rules.ensures.ok c.write_rules.ensures.part
+    c.write_rules.ensures.no_fault c.write_rules.ensures.failed c.write_rules.ensures.room
