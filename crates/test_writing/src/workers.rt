@@ -4,6 +4,8 @@
 #[cfg(test)]
 mod fan;
 #[cfg(test)]
+mod meeting;
+#[cfg(test)]
 mod rendering;
 #[cfg(test)]
 mod suites;

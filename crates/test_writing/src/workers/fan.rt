@@ -74,6 +74,19 @@ impl Work<u32, u64> for Looking<'_> {
     }
 }
 
+// Work that finds no memory for any item.
+struct Refusing;
+
+impl Work<u32, u32> for Refusing {
+    ghost takes = { λ _ _. Unit {0} };
+
+    ghost answers = { λ _ _ _. Unit {0} };
+
+    fn one(&self, _alloc: Global, _item: &u32) -> Result<u32, AllocError> {
+        Err(AllocError)
+    }
+}
+
 // What comes of doubling the items at a gate, by so many workers.
 fn doubled<R: Threads + Sync, G: Gate + Sync>(
     rt: &R,
@@ -140,6 +153,26 @@ fn the_gate_is_entered_before_the_work(rt: HostRuntime) -> Result<(), Fail> {
         &mut seat,
     )?;
     assert!(rt; answers.as_slice() == [1, 2, 3, 4].as_slice());
+    Ok(())
+}
+
+// One worker enters the gate once: behind a refusal it works on no other item.
+#[test]
+fn a_refusal_ends_the_work(rt: HostRuntime) -> Result<(), Fail> {
+    let entered = AtomicU64::new(0);
+    let gate = Entering { entered: &entered };
+    let (counter, mut seat) = Counter::new(rt.alloc(), 4, 1)?;
+    let answers = fan(
+        &rt,
+        rt.alloc(),
+        &[7, 7, 7, 7],
+        &Refusing,
+        &gate,
+        &counter,
+        &mut seat,
+    );
+    assert!(rt; answers.is_err());
+    assert!(rt; entered.load(Ordering::SeqCst) == 1);
     Ok(())
 }
 

@@ -1,10 +1,11 @@
-// Suites whose goals, or cases, wait for each other: worked by hand from the definitions, as docs/FORMATS.md lays them out.
+// Suites whose goals, or cases, and chains that wait for each other: worked by hand from the definitions, as docs/FORMATS.md lays them out.
 
+use crate::workers::meeting::Meeting;
 use crate::workers::two_flags::TwoFlags;
 use cs_io::MemorySink;
 use cs_run::run;
 use cs_sample_files::{desk, suite_words};
-use cs_samples::LETTER_SCANNER;
+use cs_samples::{LETTER_SCANNER, SCANNER, SUMS, SUMS_SUITE_ONE, words};
 use std::alloc::{AllocError, Global};
 use std::test::Fail;
 use std::thread::Threads;
@@ -77,5 +78,35 @@ fn two_goals_meet(rt: HostRuntime) -> Result<(), Fail> {
     let alloc = rt.alloc();
     assert!(rt; two_meet(&rt, alloc, "--format=1", CHOICE_RULES)?);
     assert!(rt; two_meet(&rt, alloc, "--format=2", CHOICE_CASES)?);
+    Ok(())
+}
+
+// The four goals of sums are one batch, and each has a worker.
+#[test]
+fn four_goals_meet(rt: HostRuntime) -> Result<(), Fail> {
+    let alloc = rt.alloc();
+    let gate = Meeting::of(4);
+    let options = ["--mutate=none", "--criteria=rule", "--format=1"];
+    let words = suite_words(alloc, &options)?;
+    let mut desk = desk(alloc, Some(SUMS), Some(SCANNER))?;
+    let whole = SUMS_SUITE_ONE.as_bytes();
+    let mut out = MemorySink::new(alloc, whole.len(), 1_000, Vec::new(alloc))?;
+    let mut err = MemorySink::new(alloc, 99, 99, Vec::new(alloc))?;
+    let status = run(&rt, alloc, &words, &mut desk, &mut out, &mut err, &gate);
+    assert!(rt; status == 0 && gate.have_met() && out.written() == whole);
+    Ok(())
+}
+
+// The two chains of `CHOICE` are one batch.
+#[test]
+fn two_chains_meet(rt: HostRuntime) -> Result<(), Fail> {
+    let alloc = rt.alloc();
+    let gate = TwoFlags::new();
+    let words = words(alloc, &["chains", "y"])?;
+    let mut desk = desk(alloc, Some(CHOICE), None)?;
+    let mut out = MemorySink::new(alloc, 1_000, 1_000, Vec::new(alloc))?;
+    let mut err = MemorySink::new(alloc, 99, 99, Vec::new(alloc))?;
+    let status = run(&rt, alloc, &words, &mut desk, &mut out, &mut err, &gate);
+    assert!(rt; status == 0 && gate.have_met());
     Ok(())
 }
