@@ -28,6 +28,7 @@ use Rattle.cs_lex.specs.Actions.Kinds.{skip, word, bar, IsBar, text_of, has_fore
 use Rattle.cs_lex.proofs.OnActions.BarsFound.{no_bar_sign}
 use Rattle.cs_lex.proofs.OnActions.GapEnds.{no_sign, no_spacing_at}
 use Rattle.cs_lex.proofs.OnActions.OneKind.{one_kind}
+use Rattle.cs_lex.proofs.OnActions.ReturnsFound.{of_laid}
 use Rattle.cs_gen.proofs.Digits.{heads_apart}
 use Rattle.cs_gen.proofs.RuleLines.{walk_bytes, part_is}
 
@@ -183,7 +184,7 @@ module _ (ds : List ℕ) (all : list_all is_word_byte ds ≡ true) where
   semicolon_sign = record { gap = 0; is_gap = no_gap is_space 59 [] refl (opens_none 59 [] refl); signed = refl; ends = refl }
 
   returned : Returns rest (named.word (116 ∷ ds))
-  returned = record {
+  returned = of_laid rest (named.word (116 ∷ ds)) (record {
     count = 0;
     opened = 0;
     gap = 1;
@@ -196,7 +197,7 @@ module _ (ds : List ℕ) (all : list_all is_word_byte ds ≡ true) where
     named = is_name;
     closes = here;
     ends = subst (λ (t : List ℕ). IsSign is_space 59 t 1) (sym last_there) semicolon_sign;
-  }
+  })
 
   by_return : IsKindByWords action (return_word ∷ name_word ∷ []) (word (116 ∷ ds))
   by_return =
