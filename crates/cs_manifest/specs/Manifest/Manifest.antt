@@ -66,12 +66,16 @@ rules_form = record {
   weigh = Nodes;
 }
 
+-- the lexeme of each token, where it has one; in the form of `rules` there is no such list
+abbrev pub LexemeList : Type 0
+LexemeList = List (Option (List ℕ))
+
 -- bytes are counted: each token has the number of its lexeme's length
-abbrev pub byte_measure : List (Option (List ℕ)) → Measure
+abbrev pub byte_measure : LexemeList → Measure
 byte_measure lexemes = record { numbers = map (λ text. byte_weight (option_map length text)) lexemes; limit = 100000 }
 
 -- how trees are measured where there are so many tokens: by their nodes, or by the bytes of these lexemes, where there are some
-abbrev pub measure_of : Weigh → ℕ → Option (List (Option (List ℕ))) → Measure
+abbrev pub measure_of : Weigh → ℕ → Option LexemeList → Measure
 measure_of Nodes tokens lexemes = nodes tokens
 measure_of Bytes tokens None = nodes tokens
 measure_of Bytes tokens (Some lexemes) = byte_measure lexemes
@@ -87,12 +91,12 @@ goal_texts choice = texts_at choice.format choice.texts
 -- ---- lexemes and texts
 
 -- the lexemes of the tokens
-abbrev pub AreLexemesBy : Option Texts → ℕ → Option (List (Option (List ℕ))) → Type 0
+abbrev pub AreLexemesBy : Option Texts → ℕ → Option LexemeList → Type 0
 AreLexemesBy None tokens lexemes = lexemes ≡ None
 AreLexemesBy (Some texts) tokens lexemes = IsSomeAnd lexemes (AreLexemes texts.scanning tokens)
 
 -- what comes of rendering these tokens
-abbrev pub IsRenderedBy : Option Texts → Option (List (Option (List ℕ))) → List ℕ → Option Rendering → Type 0
+abbrev pub IsRenderedBy : Option Texts → Option LexemeList → List ℕ → Option Rendering → Type 0
 IsRenderedBy (Some texts) (Some lexemes) tokens rendered =
     IsSomeAnd rendered (IsRendered texts.scanning lexemes texts.separator tokens)
 IsRenderedBy (Some texts) None tokens rendered = rendered ≡ None
@@ -114,20 +118,20 @@ AreTokensOf g Infeasible tokens = tokens ≡ []
 AreTokensOf g Large tokens = tokens ≡ []
 
 -- only a feasible goal's tokens are rendered
-abbrev pub IsTextOf : Option Texts → Option (List (Option (List ℕ))) → Verdict → List ℕ → Option Rendering → Type 0
+abbrev pub IsTextOf : Option Texts → Option LexemeList → Verdict → List ℕ → Option Rendering → Type 0
 IsTextOf texts lexemes (Feasible size derivation) tokens rendered = IsRenderedBy texts lexemes tokens rendered
 IsTextOf texts lexemes Infeasible tokens rendered = rendered ≡ None
 IsTextOf texts lexemes Large tokens rendered = rendered ≡ None
 
 -- the verdict of the goal over all trees, with its tokens and their text
-pub record IsEntryOf (of : Weighed) (texts : Option Texts) (lexemes : Option (List (Option (List ℕ)))) (goal : Goal) (entry : GoalEntry) : Type 0 where
+pub record IsEntryOf (of : Weighed) (texts : Option Texts) (lexemes : Option LexemeList) (goal : Goal) (entry : GoalEntry) : Type 0 where
   pub is_of : entry.goal ≡ goal
   pub verdict : IsVerdict of.weights of.grammar goal entry.verdict
   pub tokens : AreTokensOf of.grammar entry.verdict entry.tokens
   pub text : IsTextOf texts lexemes entry.verdict entry.tokens entry.rendered
 
 -- one entry for each of these goals, in order
-abbrev pub EntriesOf : Weighed → Option Texts → Option (List (Option (List ℕ))) → List Goal → List GoalEntry → Type 0
+abbrev pub EntriesOf : Weighed → Option Texts → Option LexemeList → List Goal → List GoalEntry → Type 0
 EntriesOf of texts lexemes goals entries = AllZip (IsEntryOf of texts lexemes) goals entries
 
 -- ---- bases
@@ -167,7 +171,7 @@ pub record BaseEntry : Type 0 where
   pub negatives : List NegativeEntry
 
 -- the entry of a negative of a base: its edited list was rendered
-pub record IsNegativeOf (texts : Option Texts) (lexemes : Option (List (Option (List ℕ)))) (base : List ℕ) (negative : Negative) (entry : NegativeEntry) : Type 0 where
+pub record IsNegativeOf (texts : Option Texts) (lexemes : Option LexemeList) (base : List ℕ) (negative : Negative) (entry : NegativeEntry) : Type 0 where
   pub is_of : entry.negative ≡ negative
   pub text : IsRenderedBy texts lexemes (edited base negative.edit) entry.rendered
 
@@ -180,7 +184,7 @@ abbrev pub kept_in : List BaseEntry → List Negative
 kept_in bases = flat_map (λ b. negatives_of b.negatives) bases
 
 -- one entry for each of the negatives of a base by these operators that are kept, in order, behind these of the bases before it
-pub record AreNegativesOf (g : PlainGrammar) (choice : Choice) (lexemes : Option (List (Option (List ℕ)))) (before : List Negative) (base : List ℕ) (entries : List NegativeEntry) : Type 0 where
+pub record AreNegativesOf (g : PlainGrammar) (choice : Choice) (lexemes : Option LexemeList) (before : List Negative) (base : List ℕ) (entries : List NegativeEntry) : Type 0 where
   pub negatives : List Negative
   pub kept : List Negative
   pub all : AreNegatives g base (edits g.tokens base choice.operators) negatives
@@ -188,13 +192,13 @@ pub record AreNegativesOf (g : PlainGrammar) (choice : Choice) (lexemes : Option
   pub each : AllZip (IsNegativeOf choice.texts lexemes base) kept entries
 
 -- the entry of a base
-pub record IsBaseOf (g : PlainGrammar) (choice : Choice) (lexemes : Option (List (Option (List ℕ)))) (before : List Negative) (base : ℕ × List ℕ) (entry : BaseEntry) : Type 0 where
+pub record IsBaseOf (g : PlainGrammar) (choice : Choice) (lexemes : Option LexemeList) (before : List Negative) (base : ℕ × List ℕ) (entry : BaseEntry) : Type 0 where
   pub goal : entry.goal ≡ base.0
   pub tokens : entry.tokens ≡ base.1
   pub negatives : AreNegativesOf g choice lexemes before base.1 entry.negatives
 
 -- one entry for each of these bases, in order, where these negatives are kept of the bases before them
-abbrev pub BasesOf : PlainGrammar → Choice → Option (List (Option (List ℕ))) → List Negative → List (ℕ × List ℕ) → List BaseEntry → Type 0
+abbrev pub BasesOf : PlainGrammar → Choice → Option LexemeList → List Negative → List (ℕ × List ℕ) → List BaseEntry → Type 0
 BasesOf g choice lexemes before [] entries = entries ≡ []
 BasesOf g choice lexemes before (base ∷ bases) entries =
     (first : BaseEntry) × (rest : List BaseEntry) × (entries ≡ first ∷ rest) × IsBaseOf g choice lexemes before base first
@@ -217,7 +221,7 @@ is_new shared.Infeasible = false
 is_new shared.Large = false
 
 -- what comes of rendering these tokens, where that is asked for
-abbrev pub IsRenderedIf : Bool → Option Texts → Option (List (Option (List ℕ))) → List ℕ → Option Rendering → Type 0
+abbrev pub IsRenderedIf : Bool → Option Texts → Option LexemeList → List ℕ → Option Rendering → Type 0
 IsRenderedIf true texts lexemes tokens rendered = IsRenderedBy texts lexemes tokens rendered
 IsRenderedIf false texts lexemes tokens rendered = rendered ≡ None
 
@@ -227,13 +231,13 @@ pub record SharedEntry : Type 0 where
   pub verdict : SharedVerdict
   pub rendered : Option Rendering
 
-pub record IsShared (texts : Option Texts) (lexemes : Option (List (Option (List ℕ)))) (old : PlainCases) (entry : GoalEntry) (new : PlainCases) (s : SharedEntry) : Type 0 where
+pub record IsShared (texts : Option Texts) (lexemes : Option LexemeList) (old : PlainCases) (entry : GoalEntry) (new : PlainCases) (s : SharedEntry) : Type 0 where
   pub is_of : s.entry ≡ entry
   pub verdict : IsSharedVerdict old entry.goal entry.verdict new s.verdict
   pub text : IsRenderedIf (is_new s.verdict) texts lexemes entry.tokens s.rendered
 
 -- one for each of these entries, in order, from the cases before them to those behind them
-abbrev pub AreShared : Option Texts → Option (List (Option (List ℕ))) → PlainCases → List GoalEntry → PlainCases → List SharedEntry → Type 0
+abbrev pub AreShared : Option Texts → Option LexemeList → PlainCases → List GoalEntry → PlainCases → List SharedEntry → Type 0
 AreShared texts lexemes old [] new list = (list ≡ []) × (new ≡ old)
 AreShared texts lexemes old (entry ∷ rest) new list =
     (mid : PlainCases) × (first : SharedEntry) × (others : List SharedEntry) × (list ≡ first ∷ others)
@@ -289,18 +293,18 @@ abbrev pub end_line : List GoalEntry → List BaseEntry → List ℕ
 end_line entries bases = end_line_with None entries bases
 
 -- the text in the first format
-abbrev pub manifest_text : File → Option (List (Option (List ℕ))) → List GoalEntry → List BaseEntry → List ℕ
+abbrev pub manifest_text : File → Option LexemeList → List GoalEntry → List BaseEntry → List ℕ
 manifest_text file lexemes entries bases =
     head_lines file lexemes ++ with_numbers (goal_entry_lines file) entries ++ base_entry_lines file 0 0 bases ++ end_line entries bases
 
 -- the text in the second format, with so many cases
-abbrev pub shared_text : File → Weigh → Option (List (Option (List ℕ))) → ClosedSets → List GoalEntry → List SharedEntry → ℕ → List BaseEntry → List ℕ
+abbrev pub shared_text : File → Weigh → Option LexemeList → ClosedSets → List GoalEntry → List SharedEntry → ℕ → List BaseEntry → List ℕ
 shared_text file weigh lexemes closed entries list many bases =
     shared_head_lines file weigh lexemes closed ++ with_numbers (shared_entry_lines file) list ++ base_entry_lines file 0 0 bases
     ++ end_line_with (Some many) entries bases
 
 -- it is the text in the second format
-pub record IsSharedText (choice : Choice) (file : File) (lexemes : Option (List (Option (List ℕ)))) (entries : List GoalEntry) (bases : List BaseEntry) (text : List ℕ) : Type 0 where
+pub record IsSharedText (choice : Choice) (file : File) (lexemes : Option LexemeList) (entries : List GoalEntry) (bases : List BaseEntry) (text : List ℕ) : Type 0 where
   pub closed : ClosedSets
   pub cases : PlainCases
   pub list : List SharedEntry
@@ -309,19 +313,19 @@ pub record IsSharedText (choice : Choice) (file : File) (lexemes : Option (List 
   pub lines : text ≡ shared_text file choice.weigh lexemes closed entries list (length cases.codes) bases
 
 -- it is the text in the format
-abbrev pub IsTextIn : Format → Choice → File → Option (List (Option (List ℕ))) → List GoalEntry → List BaseEntry → List ℕ → Type 0
+abbrev pub IsTextIn : Format → Choice → File → Option LexemeList → List GoalEntry → List BaseEntry → List ℕ → Type 0
 IsTextIn One choice file lexemes entries bases text = text ≡ manifest_text file lexemes entries bases
 IsTextIn Two choice file lexemes entries bases text = IsSharedText choice file lexemes entries bases text
 
 -- ---- the manifest
 
 -- the grammar of the file, and how the choice measures its trees, with these lexemes
-abbrev pub weighed_by : Choice → File → Option (List (Option (List ℕ))) → Weighed
+abbrev pub weighed_by : Choice → File → Option LexemeList → Weighed
 weighed_by choice file lexemes = weighed file.grammar (measure_of choice.weigh file.grammar.tokens lexemes)
 
 -- The text is the manifest of the file by the choice.
 pub record IsManifest (choice : Choice) (file : File) (text : List ℕ) : Type 0 where
-  pub lexemes : Option (List (Option (List ℕ)))
+  pub lexemes : Option LexemeList
   pub entries : List GoalEntry
   pub mutants : List BaseEntry
   pub are_lexemes : AreLexemesBy choice.texts file.grammar.tokens lexemes
@@ -332,13 +336,13 @@ pub record IsManifest (choice : Choice) (file : File) (text : List ℕ) : Type 0
 -- the lexemes and the renderings of tokens are one at most
 pub record HasOneText (texts : Option Texts) : Type 0 where
   pub lexemes : (tokens : ℕ) → AtMostOne (AreLexemesBy texts tokens)
-  pub rendered : (lexemes : Option (List (Option (List ℕ)))) (tokens : List ℕ) → AtMostOne (IsRenderedBy texts lexemes tokens)
+  pub rendered : (lexemes : Option LexemeList) (tokens : List ℕ) → AtMostOne (IsRenderedBy texts lexemes tokens)
 
 -- where so many negatives are kept of each operator and left mark, all bases have at most so many for each of the four operators
 -- and each left mark
 abbrev pub HasFewNegatives : PlainGrammar → Choice → Type 0
 HasFewNegatives g choice =
-    (lexemes : Option (List (Option (List ℕ)))) (bases : List (ℕ × List ℕ)) (most : ℕ)
+    (lexemes : Option LexemeList) (bases : List (ℕ × List ℕ)) (most : ℕ)
     → choice.first ≡ Some most → All (λ b. All (IsNumberOf g.tokens) b.1) bases
     → (entries : List BaseEntry) → BasesOf g choice lexemes [] bases entries
     → sum_by (λ b. length b.negatives) entries ≤ most * (4 * (g.tokens + 1))
