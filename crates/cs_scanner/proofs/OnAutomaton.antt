@@ -2,6 +2,7 @@ pub mod Lists
 pub mod Listing
 pub mod Linear
 pub mod Places
+pub mod NumberedWords
 pub mod Full
 pub mod Reached
 pub mod Rules

@@ -2,6 +2,7 @@ pub mod Re
 pub mod Linear
 pub mod Meaning
 pub mod Places
+pub mod Numbered
 pub mod Reached
 pub mod Listed
 pub mod Rules

@@ -6,7 +6,7 @@
 //! as its patterns and, for each state, the ascending numbers of its set.
 //!
 //! Meaning: `specs/Automaton/Machine.antt` (which rules match, what a state stands for, what a step answers), `specs/Automaton/Listed.antt`
-//! (ascending lists of all numbers of a kind), `specs/Automaton/Places.antt` (the numbers of classes, the set of a text), `specs/Automaton/Counted.antt` (how many sets there are), `specs/Automaton/Re.antt` and
+//! (ascending lists of all numbers of a kind), `specs/Automaton/Places.antt` (the numbers of classes, the set of a text), `specs/Automaton/Numbered.antt` (words of numbers as texts), `specs/Automaton/Counted.antt` (how many sets there are), `specs/Automaton/Re.antt` and
 //! `specs/Automaton/Meaning.antt` (patterns with two parts at each join and either). The other files are working words of proofs.
 
 mod automaton;
@@ -14,6 +14,7 @@ mod bits;
 mod columns;
 mod error;
 mod flat;
+mod laws;
 mod op;
 mod program;
 mod running;
@@ -23,3 +24,4 @@ mod states;
 
 pub use automaton::Automaton;
 pub use error::{AutomatonError, State};
+pub use laws::numbered_words;

@@ -34,7 +34,7 @@ mod automaton;
 mod lexeme;
 mod scanning;
 
-pub use automaton::{Automaton, AutomatonError, State};
+pub use automaton::{Automaton, AutomatonError, State, numbered_words};
 pub use lexeme::{
     Lexemes, StateTexts, one_lexeme, one_list_of_lexemes, some_lexeme, some_list_of_lexemes,
     total_order,

@@ -1,5 +1,5 @@
 -- What an automaton answers, from its tables.
-use Rattle.std.proofs.Common.{◌≡◌, ◌≢◌, ℕ, zero, suc, ◌*◌, ◌/◌, ◌<◌, ◌≤◌, Bool, true, List, [], ◌∷◌, ◌++◌, inl, inr, Some, None, refl, sym, ap, ◌∙◌, subst, arith, length, map, Contains, get_or}
+use Rattle.std.proofs.Common.{◌≡◌, ◌≢◌, ℕ, zero, suc, ◌*◌, ◌/◌, ◌<◌, ◌≤◌, Bool, true, false, List, [], ◌∷◌, ◌++◌, inl, inr, Some, None, refl, sym, ap, ◌∙◌, subst, arith, length, map, Contains, get_or}
 use Rattle.std.specs.Prelude.{slice_get, Option, IfSome, IsTrue, ◌↔◌, Result, Ok, Err, is_ok}
 use Rattle.std.specs.List.Sorted.{IsBinarySearchResult}
 use Rattle.std.specs.Ordering.{nat_cmp}
@@ -16,7 +16,7 @@ use Rattle.cs_pattern_parts.proofs.OnItems.Picked.{has_picked_above, has_picked,
 use Rattle.cs_pattern_parts.specs.declared.tree.pattern.Pattern.{Pattern}
 use Rattle.cs_scanner.specs.Automaton.Automata.{members, step_at, AreTables}
 use Rattle.cs_scanner.specs.Automaton.Bits.{bit}
-use Rattle.cs_scanner.specs.Automaton.Machine.{Machine, StateOf, IsNextState, IsFirstRule, MatchesRule, AreMatching}
+use Rattle.cs_scanner.specs.Automaton.Machine.{Machine, StateOf, StandsForSome, HasOwnSets, IsNextState, IsFirstRule, MatchesRule, AreMatching}
 use Rattle.cs_scanner.specs.Automaton.Meaning.{res, all_classes}
 use Rattle.cs_scanner.specs.Automaton.Places.{IsSet}
 use Rattle.cs_scanner.specs.Automaton.Re.{Re}
@@ -24,7 +24,7 @@ use Rattle.cs_scanner.specs.Automaton.Rules.{AreSpelled, IsBegunSpelled}
 use Rattle.cs_scanner.specs.Automaton.States.{StandsFor, IsStep, AreColumns, IsBuilt, AreRulesOf, AreFull, HasSome, IsColumn}
 use Rattle.cs_scanner.proofs.OnAutomaton.BitLemmas.{past_bit}
 use Rattle.cs_scanner.proofs.OnAutomaton.Counting.{full_all, byte_step, step_within}
-use Rattle.cs_scanner.proofs.OnAutomaton.Growing.{append_some}
+use Rattle.cs_scanner.proofs.OnAutomaton.Growing.{append_some, same_words}
 use Rattle.cs_scanner.proofs.OnAutomaton.Meanings.{all_matched, begun_spelled, begun_matched}
 use Rattle.cs_scanner.proofs.OnAutomaton.Reached.{in_set_reaches, reaches_in_set}
 use Rattle.cs_scanner.proofs.OnAutomaton.Rules.{begun_reaches, reaches_begun}
@@ -58,6 +58,24 @@ map_there : (ws : List (List ℕ)) (k : ℕ) (w : List ℕ) → slice_get ws k �
 map_there [] k w e = absurd cc
 map_there (v ∷ ws) zero w e = let same : v ≡ w = cc in ap (λ t. Some (members t)) same
 map_there (v ∷ ws) (suc k) w e = map_there ws k w e
+
+nothing_picked : (t : ℕ → Bool) (n : ℕ) → ((m : ℕ) → t m ≡ false) → picked t n ≡ []
+unfolding picked
+nothing_picked t zero none = refl
+nothing_picked t (suc n) none = rw (nothing_picked t n none, none n) refl
+
+-- words with the same numbers have the same bits
+member_bit : (v w : List ℕ) → members v ≡ members w → (n : ℕ) → bit v n ≡ true → bit w n ≡ true
+member_bit v w e n h =
+    (picked_passes (bit w) (64 * length w) n (subst (λ (l : List ℕ). Contains l n) e (passes_picked (bit v) (64 * length v) n (bit_within v n h) h))).1
+
+one_bit : (v w : List ℕ) → members v ≡ members w → (n : ℕ) → bit v n ≡ bit w n
+one_bit v w e n = by_bit (bit v n) (bit w n) refl refl
+  where
+    by_bit : (a b : Bool) → a ≡ bit v n → b ≡ bit w n → bit v n ≡ bit w n
+    by_bit true b p q = sym p ∙ sym (member_bit v w e n (sym p))
+    by_bit false true p q = absurd (false≢true (p ∙ member_bit w v (sym e) n (sym q)))
+    by_bit false false p q = sym p ∙ q
 
 module _ (patterns : List Pattern) (ws : List (List ℕ)) where
   abbrev rs : List (Re (List ℕ))
@@ -120,6 +138,35 @@ module _ (patterns : List Pattern) (ws : List (List ℕ)) where
     pub rules_answer : (k : ℕ) (row : List ℕ) → k < length ws → row ≡ get_or rules k [] → (x : List ℕ) → StateOf machine k x → AreMatching (map regex patterns) x row
     rules_answer k row lt is x s =
         all_matched (map regex patterns) x row (subst (λ o. AreSpelled rs x o) (sym is) (t.rules_are k x (omega (arith, lt, t.each)) (viewed t.full k x s)))
+
+    pub own_sets : HasOwnSets machine
+    own_sets = record { start = start_empty; each = each; apart = apart }
+      where
+        start_empty : slice_get (map members ws) 0 ≡ Some []
+        start_empty =
+            let s = t.states.start in
+            map_there ws 0 s.0 s.1 ∙ ap (λ (ps : List ℕ). Some ps) (nothing_picked (bit s.0) (64 * length s.0) s.2)
+
+        each : (k : ℕ) (ps : List ℕ) → slice_get (map members ws) (suc k) ≡ Some ps → StandsForSome machine k ps
+        each k ps e =
+            let w = mapped ws (suc k) ps e in
+            let s = t.states.each k w.0 w.1 in
+            record {
+              text = s.text;
+              bytes = s.bytes;
+              stands = shown t.full (suc k) s.text (w.0, w.1, s.not_empty, s.reached);
+              number = s.number;
+              has = subst (λ (l : List ℕ). Contains l s.number) w.2 (passes_picked (bit w.0) (64 * length w.0) s.number (bit_within w.0 s.number s.some) s.some);
+            }
+
+        apart : (j k : ℕ) (ps : List ℕ) → slice_get (map members ws) j ≡ Some ps → slice_get (map members ws) k ≡ Some ps → j ≡ k
+        apart j k ps d e =
+            let v = mapped ws j ps d in
+            let w = mapped ws k ps e in
+            let wide = t.states.wide j v.0 v.1 in
+            let broad = t.states.wide k w.0 w.1 in
+            let same : v.0 ≡ w.0 = same_words v.0 w.0 (wide.0 ∙ sym broad.0) wide.1 broad.1 (one_bit v.0 w.0 (v.2 ∙ sym w.2)) in
+            t.states.apart j k v.0 v.1 (subst (λ (l : List ℕ). slice_get ws k ≡ Some l) (sym same) w.1)
 
 -- ---- from the rules that match
 

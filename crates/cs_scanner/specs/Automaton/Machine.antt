@@ -1,5 +1,5 @@
 -- What contracts see of an automaton, what its states stand for, and which rule matches a text.
-use Rattle.std.specs.Prelude.{◌≡◌, ◌≢◌, ℕ, zero, suc, ◌≤◌, List, [], ◌∷◌, ◌++◌, Option, Some, None, slice_get, map}
+use Rattle.std.specs.Prelude.{◌≡◌, ◌≢◌, ℕ, zero, suc, ◌<◌, ◌≤◌, List, [], ◌∷◌, ◌++◌, All, Contains, Option, Some, None, slice_get, map}
 use Rattle.cs_pattern_parts.specs.declared.tree.pattern.Pattern.{Pattern}
 use Rattle.cs_pattern_parts.specs.Tree.Pattern.{Regex, regex, Matches}
 use Rattle.cs_scanner.specs.Automaton.Listed.{ListsAll}
@@ -39,6 +39,20 @@ patterns_of m = map regex m.patterns
 abbrev pub StateOf : Machine → ℕ → List ℕ → Type 0
 StateOf m zero x = x ≡ []
 StateOf m (suc k) x = (ps : List ℕ) × (slice_get m.sets (suc k) ≡ Some ps) × (x ≢ []) × IsSet (res (patterns_of m)) x ps
+
+-- the state behind the start with this number stands for some text of bytes, and this is its set, which has a number
+pub record StandsForSome (m : Machine) (k : ℕ) (ps : List ℕ) : Type 0 where
+  pub text : List ℕ
+  pub bytes : All (λ b. b < 256) text
+  pub stands : StateOf m (suc k) text
+  pub number : ℕ
+  pub has : Contains ps number
+
+-- The start's set is empty; each other state stands for some text, and has a set that isn't; and no two have one set.
+pub record HasOwnSets (m : Machine) : Type 0 where
+  pub start : slice_get m.sets 0 ≡ Some []
+  pub each : (k : ℕ) (ps : List ℕ) → slice_get m.sets (suc k) ≡ Some ps → StandsForSome m k ps
+  pub apart : (j k : ℕ) (ps : List ℕ) → slice_get m.sets j ≡ Some ps → slice_get m.sets k ≡ Some ps → j ≡ k
 
 -- The answer of a step behind x: None exactly where no rule matches a text that begins with x and the byte.
 abbrev pub IsNextState : Machine → List ℕ → ℕ → Option ℕ → Type 0

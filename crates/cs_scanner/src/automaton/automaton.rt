@@ -5,7 +5,7 @@ ghost use Rattle.cs_grammar.specs.Grammar.{IsNumberOf};
 ghost use Rattle.cs_pattern_parts.specs.Tree.Pattern.{regex};
 ghost use Rattle.cs_pattern_parts.specs.Tree.Scannable.{AreScannable};
 ghost use Rattle.cs_scanner.specs.Automaton.Counted.{IsAbove, TooMany, too_many};
-ghost use Rattle.cs_scanner.specs.Automaton.Machine.{AreMatching, IsFirstRule, IsNextState, MatchesRule, StateOf, patterns_of};
+ghost use Rattle.cs_scanner.specs.Automaton.Machine.{AreMatching, HasOwnSets, IsFirstRule, IsNextState, MatchesRule, StateOf, patterns_of};
 ghost use Rattle.cs_scanner.specs.Automaton.Meaning.{res_of};
 ghost use Rattle.cs_scanner.specs.Automaton.Places.{InSet};
 ghost use Rattle.cs_scanner.specs.Automaton.States as spec;
@@ -99,6 +99,7 @@ impl Automaton<'_> {
     pub fn state_count(&self) -> usize
         ensures count { result ≡ length self.now.sets }
         ensures few { result ≤ 16384 + 1 }
+        ensures sets { HasOwnSets self.now }
     {
         self.sets.len()
     }
