@@ -5,6 +5,7 @@ pub mod Filling
 pub mod KindCosts
 pub mod Sweeping
 pub mod ChosenKinds
+pub mod Flattened
 pub mod FirstLeast
 pub mod KindsSettled
 pub mod Placing

@@ -14,6 +14,7 @@ pub mod RowsOf
 pub mod Lefts
 pub mod Sweep
 pub mod ChosenKind
+pub mod Flat
 pub mod Parts
 pub mod Clauses
 pub mod Laws

@@ -8,7 +8,7 @@
 //! For ways of their own they have `Kinds::steps_to_ends`, the steps inwards to the last token of a yield; `symbol_number`, the
 //! node of a symbol there; and `step_cost`, which turns a cost into that of a step or a source.
 //!
-//! Of the files in `specs/Kinds/` these say what is meant: `Kinds`, `KindCost`, `ChosenKind`, `Numbers` and `Laws`; and of others
+//! Of the files in `specs/Kinds/` these say what is meant: `Kinds`, `KindCost`, `ChosenKind`, `Flat`, `Numbers` and `Laws`; and of others
 //! `IsSwept` (`Sweep`), `HasSwept`, `IsSweptOver` and `AppendsIn` (`Clauses`), `HasSmallOfKind` and `HaveSmallOfKind` (`Parts`),
 //! `AreStepsToEnds` (`Nets`) and `IsStepCost` (`RimsOf`). The rest has working words of proofs: what rows, rims, sweeps and
 //! pending parts hold.
@@ -28,7 +28,7 @@ mod writing;
 
 pub use kind::TreeKind;
 pub use kinds::Kinds;
-pub use laws::{chosen_of_kind_exists, one_chosen_of_kind};
+pub use laws::{chosen_of_kind_exists, flat_of_kind, one_chosen_of_kind};
 pub use rims::{step_cost, symbol_number};
 pub use row::Row;
 pub use sweep::Sweep;

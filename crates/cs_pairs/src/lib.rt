@@ -32,7 +32,7 @@ mod kinds;
 mod pairs;
 
 pub use kinds::{
-    Kinds, Row, Sweep, TreeKind, chosen_of_kind_exists, kind_into, one_chosen_of_kind, step_cost,
-    symbol_number,
+    Kinds, Row, Sweep, TreeKind, chosen_of_kind_exists, flat_of_kind, kind_into,
+    one_chosen_of_kind, step_cost, symbol_number,
 };
 pub use pairs::{Pairs, chosen_pair_exists, one_chosen_pair};

@@ -21,6 +21,7 @@ abbrev mutual
 abbrev pub numbers : List NumberedClass → List ℕ
 numbers = map (λ class. class.number)
 
--- the numbers of a word of the pattern's numbered classes are a list that the pattern matches, read so
-abbrev pub IsMatchedByNumbers : ℕ → ℕ → Regex → List NumberedClass → Type 0
-IsMatchedByNumbers rule from r word = Spells Itself (with_places rule from (re r)) word → Matches (numbered from r) (numbers word)
+-- the numbers of each word of the pattern's numbered classes are a list that the pattern matches, read so
+abbrev pub AreMatchedByNumbers : ℕ → ℕ → Regex → Type 0
+AreMatchedByNumbers rule from r =
+    (word : List NumberedClass) → Spells Itself (with_places rule from (re r)) word → Matches (numbered from r) (numbers word)
