@@ -9,7 +9,7 @@ use Rattle.cs_pairs.specs.declared.kinds.kind.TreeKind.TheVariants.{Any, Empty, 
 use Rattle.cs_pairs.specs.Kinds.Kinds.{IsOfKind, IsTreeOfKind, AreTreesOfKind, before, behind}
 use Rattle.cs_pairs.specs.Kinds.Ways.{AreHere}
 use Rattle.cs_pairs.specs.Kinds.ChosenKind.{IsChosenOfKind, AreChosenOfKind, NoneHere}
-use Rattle.cs_pairs.specs.Kinds.Flat.{IsOfKindAt, IsChosenAt, IsFlat}
+use Rattle.cs_pairs.specs.Kinds.Flat.{IsOfKindAt, IsFlat}
 use Rattle.cs_pairs.proofs.OnKinds.Joined.{joined_here, joined_later}
 use Rattle.cs_pairs.proofs.OnKinds.ChosenKinds.{IsTree-of_kind, of_kind_least, list_least}
 
