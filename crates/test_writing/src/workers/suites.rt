@@ -1,11 +1,11 @@
-// Suites whose goals, or cases, and chains that wait for each other: worked by hand from the definitions, as docs/FORMATS.md lays them out.
+// Suites whose goals, or cases, wait for each other: worked by hand from the definitions, as docs/FORMATS.md lays them out.
 
 use crate::workers::meeting::Meeting;
 use crate::workers::two_flags::TwoFlags;
 use cs_io::MemorySink;
 use cs_run::run;
 use cs_sample_files::{desk, suite_words};
-use cs_samples::{LETTER_SCANNER, SCANNER, SUMS, SUMS_SUITE_ONE, words};
+use cs_samples::{LETTER_SCANNER, SCANNER, SUMS, SUMS_SUITE_ONE};
 use std::alloc::{AllocError, Global};
 use std::test::Fail;
 use std::thread::Threads;
@@ -94,19 +94,5 @@ fn four_goals_meet(rt: HostRuntime) -> Result<(), Fail> {
     let mut err = MemorySink::new(alloc, 99, 99, Vec::new(alloc))?;
     let status = run(&rt, alloc, &words, &mut desk, &mut out, &mut err, &gate);
     assert!(rt; status == 0 && gate.have_met() && out.written() == whole);
-    Ok(())
-}
-
-// The two chains of `CHOICE` are one batch.
-#[test]
-fn two_chains_meet(rt: HostRuntime) -> Result<(), Fail> {
-    let alloc = rt.alloc();
-    let gate = TwoFlags::new();
-    let words = words(alloc, &["chains", "y"])?;
-    let mut desk = desk(alloc, Some(CHOICE), None)?;
-    let mut out = MemorySink::new(alloc, 1_000, 1_000, Vec::new(alloc))?;
-    let mut err = MemorySink::new(alloc, 99, 99, Vec::new(alloc))?;
-    let status = run(&rt, alloc, &words, &mut desk, &mut out, &mut err, &gate);
-    assert!(rt; status == 0 && gate.have_met());
     Ok(())
 }
