@@ -1,5 +1,6 @@
 pub mod Walks
 pub mod Units
+pub mod NamedParts
 pub mod Pieces
 pub mod NameTables
 pub mod Tails

@@ -26,7 +26,9 @@ mod settled;
 mod unit;
 
 pub use error::LayoutError;
-pub use laws::{limits, new_names, one_end, one_layout, one_stop, stopped_has_no_layout};
+pub use laws::{
+    limits, named_parts, new_names, one_end, one_layout, one_stop, stopped_has_no_layout,
+};
 pub use layout::{Layout, RulesLine, read_layout, rules_line};
 pub use parts::{Definition, Part, Rule};
 pub use settled::{definitions_end, layout_or_stop};

@@ -1,8 +1,10 @@
 -- The extent of a pattern: to the first blank or newline outside escapes, quoted texts and brackets (POSIX lex).
-use Rattle.std.specs.Prelude.{◌≡◌, ℕ, ◌+◌, Bool, ◌==◌, nat_lt, ◌&&◌, ◌||◌, not, if◌then◌else◌, List, drop, slice_index_or, IsTrue, ◌⊎◌}
-use Rattle.std.specs.List.{prefix_len}
+use Rattle.std.specs.Prelude.{◌≡◌, ℕ, ◌+◌, ◌<◌, Bool, true, ◌==◌, nat_lt, ◌&&◌, ◌||◌, not, if◌then◌else◌, List, drop, slice_index_or, IsTrue, ◌⊎◌}
+use Rattle.std.specs.List.{list_all, prefix_len}
 use Rattle.cs_bytes.specs.Names.{double_quote, full_stop, colon_sign, equals_sign, opening_bracket, backslash, closing_bracket, caret}
 use Rattle.cs_bytes.specs.Places.{begins_with}
+use Rattle.cs_pattern_parts.specs.Items.Brackets.{part}
+use Rattle.cs_pattern_parts.specs.Items.Parts.{Shows}
 use Rattle.cs_lex.specs.declared.layout.unit.UnitKind.{UnitKind}
 use Rattle.cs_lex.specs.declared.layout.unit.UnitKind.TheVariants.{Escape, Quoted, Bracket, Plain, Nothing}
 use Rattle.cs_lex.specs.Layout.Steps.{Covers, HasSize}
@@ -52,6 +54,14 @@ closes_part len text = begins_with closing_bracket (drop (len + 2) text) && nat_
 abbrev pub is_named_part : List ℕ → Bool
 is_named_part text = opens_part text && closes_part (part_len text) text
 
+-- It is `[`, a mark, a name on the line without `]`, the mark again and `]`, as in patterns (law `named_parts`).
+pub record HasNamedPart (text : List ℕ) (size : ℕ) : Type 0 where
+  pub mark : ℕ
+  pub name : List ℕ
+  pub is_mark : is_part_mark mark ≡ true
+  pub inner : list_all is_inner name ≡ true
+  pub shown : Shows text (part mark name) size
+
 -- neither `]`, backslash nor newline
 abbrev pub is_bracket_byte : ℕ → Bool
 is_bracket_byte b = not ((b == closing_bracket) || (b == backslash) || is_newline b)
@@ -59,6 +69,11 @@ is_bracket_byte b = not ((b == closing_bracket) || (b == backslash) || is_newlin
 -- of the named part in front; 0 where none stands there
 abbrev pub named_size : List ℕ → ℕ
 named_size text = if is_named_part text then part_len text + 3 else 0
+
+-- the size of a named part in front is that of its text, and there is none else
+pub record IsNamedByText (text : List ℕ) : Type 0 where
+  pub told : (size : ℕ) → HasNamedPart text size → named_size text ≡ size
+  pub only : 0 < named_size text → HasNamedPart text (named_size text)
 
 -- of the escape, named part or byte in front, inside a bracket; 0 where none stands there
 abbrev pub member_size : List ℕ → ℕ

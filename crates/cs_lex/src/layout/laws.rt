@@ -3,6 +3,7 @@
 ghost use Rattle.std.specs.Prelude.{◌≡◌, ℕ, List};
 ghost use Rattle.cs_bytes.specs.Limits.{most_bytes};
 ghost use Rattle.cs_lex.specs.Layout.Laws as spec;
+ghost use Rattle.cs_lex.specs.Layout.Patterns.{IsNamedByText};
 
 use crate::layout::MOST_BYTES;
 
@@ -30,6 +31,11 @@ pub fn new_names()
 pub fn one_end()
     ensures one { (bytes : List ℕ) → spec.HasOneEnd bytes }
     ensures new_names { (bytes : List ℕ) → spec.EndsWithNewNames bytes }
+{}
+
+/// A named part of a bracket, whose size is counted, is `[`, a mark, a name, the mark again and `]`, as patterns take it.
+pub fn named_parts()
+    ensures { (text : List ℕ) → IsNamedByText text }
 {}
 
 /// The limit of the definitions is the code's.
