@@ -27,12 +27,7 @@ fn next_rule_of(rules: &[Rule], left: u16, from: usize) -> Option<usize>
 
 /// The first context goal of a rule from a place of its right side on, there from a place of the rules on: both places, each
 /// counted from 0.
-pub fn next_in(
-    grammar: &Grammar,
-    rule: &Rule,
-    place: usize,
-    inner: usize,
-) -> Option<(usize, usize)>
+pub fn next_in(grammar: &Grammar, rule: &Rule, place: usize, inner: usize) -> Option<(usize, usize)>
     ensures { (p : ℕ) → IsNextPlace grammar.now p rule.now place inner result }
 {
     let mut from = inner;
