@@ -10,7 +10,6 @@ use Rattle.cs_bytes.proofs.Fronts.{and_true, got_at, get_or-got}
 use Rattle.cs_bytes.proofs.Runs.{run-passes}
 use Rattle.cs_bytes.specs.Classes.{is_inner}
 use Rattle.cs_bytes.specs.Places.{begins_with, has_at}
-use Rattle.cs_pattern_parts.specs.Items.Brackets.{part}
 use Rattle.cs_pattern_parts.proofs.OnItems.Braces.{has_at_end, run_then, split_run}
 use Rattle.cs_lex.specs.Layout.Patterns.{is_part_mark, part_len, opens_part, closes_part, is_named_part, named_size, HasNamedPart, IsNamedByText}
 
