@@ -36,7 +36,8 @@ fn put_in(
     done: &mut Vec<u16>,
     pending: &mut Vec<Symbol>,
 ) -> Result<bool, AllocError>
-    ensures { IfOk result (PutsIn grammar.now (number ∷ []) done.old pending.old done.new pending.new) }
+    ensures { IfOk result (PutsIn grammar.now (number ∷ [])
+        done.old pending.old done.new pending.new) }
 {
     let Some(left) = settle(done, pending)? else {
         return Ok(false);

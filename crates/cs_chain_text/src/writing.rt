@@ -230,7 +230,8 @@ fn write_batch<R: Threads + Sync, S: Sink, G: Gate + Sync>(
     requires few { length batch.now ≤ 1024 }
     requires count { CanCount tally.old (length batch.now) }
     ensures cores { cores.new ≡ cores.old }
-    ensures put { PutsBatch S.Sink chained.now batch.now tally.old tally.new sink.old sink.new result }
+    ensures put { PutsBatch S.Sink chained.now batch.now
+        tally.old tally.new sink.old sink.new result }
     ensures lent { S.lent sink.new ≡ S.lent sink.old }
 {
     if let Some(frame) = frame_of(alloc, chained, work, cores, batch)? {
@@ -306,7 +307,8 @@ fn write_kept<S: Sink>(
     requires none { chained.now.work ≡ None }
     requires rows { AreRowsOf cores.now batch.now rows.now }
     requires count { CanCount tally.old (length batch.now) }
-    ensures put { PutsBatch S.Sink chained.now batch.now tally.old tally.new sink.old sink.new result }
+    ensures put { PutsBatch S.Sink chained.now batch.now
+        tally.old tally.new sink.old sink.new result }
     ensures lent { S.lent sink.new ≡ S.lent sink.old }
 {
     write_rows(sink, cores, tally, rows)?;
@@ -328,7 +330,8 @@ fn write_told<R: Threads + Sync, S: Sink, G: Gate + Sync>(
     requires chains { All (IsChain work.now.costs.now.grammar) batch.now }
     requires few { length batch.now ≤ 1024 }
     requires count { CanCount tally.old (length batch.now) }
-    ensures put { PutsBatch S.Sink chained.now batch.now tally.old tally.new sink.old sink.new result }
+    ensures put { PutsBatch S.Sink chained.now batch.now
+        tally.old tally.new sink.old sink.new result }
     ensures lent { S.lent sink.new ≡ S.lent sink.old }
 {
     let _named = chained.yacc.grammar();
