@@ -28,7 +28,7 @@ use Rattle.cs_chain.proofs.OnJudging.Cut.{placed_in}
 use Rattle.cs_chain.proofs.OnJudging.Placed.{chain_cost}
 
 -- the place of the inner node has one left side
-same_left : (g : PlainGrammar) (c : Chain) (given : ChainRules g c) (r : ℕ) → (h : IsChain g (with_inner c r)) → given.inner.left ≡ h.1.inner.left
+pub same_left : (g : PlainGrammar) (c : Chain) (given : ChainRules g c) (r : ℕ) → (h : IsChain g (with_inner c r)) → given.inner.left ≡ h.1.inner.left
 same_left g c given r h =
     let o = h.1 in
     let here = placed_in g c.middle c.spot r given.middle o.inner o given.is_middle.number o.is_inner in
