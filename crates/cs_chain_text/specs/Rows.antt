@@ -75,10 +75,12 @@ pub record AreCoreLines (file : File) (v : Weighed) (lines : CoreLines) : Type 0
   pub inside : AreInside v.grammar lines.left lines.core lines.tokens.items
   pub parts : HasCoreParts file lines.rule lines.left lines.core lines.tokens.items lines
 
-abbrev pub AreCores : File → Weighed → List (Option CoreLines) → Type 0
-AreCores file v lines = All (λ o. IfSome o (AreCoreLines file v)) lines
+-- those that are kept are of the file and the costs
+abbrev pub AreCores : File → Weighed → List (Option (Option CoreLines)) → Type 0
+AreCores file v lines = All (λ o. IfSome o (λ kept. IfSome kept (AreCoreLines file v))) lines
 
-abbrev pub AreNone : List (Option CoreLines) → Type 0
+-- none was asked for
+abbrev pub AreNone : List (Option (Option CoreLines)) → Type 0
 AreNone lines = All (λ o. o ≡ None) lines
 
 -- ---- both together

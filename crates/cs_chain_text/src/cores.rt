@@ -1,13 +1,13 @@
 // The inner nodes of chains, by their rules, as the lines of chains have them.
 
-ghost use Rattle.std.specs.Prelude.{◌≡◌, ◌≤◌, IfOk, IfSome, length};
+ghost use Rattle.std.specs.Prelude.{◌≡◌, ◌≤◌, IfOk, IfSome, IsTrue, length};
 ghost use Rattle.cs_grammar.specs.Grammar.{IsNumberOf};
 ghost use Rattle.cs_least.specs.Cost.Rank.{IsCapped, plus};
 ghost use Rattle.cs_chain_text.specs.Around.{Finds};
 ghost use Rattle.cs_chain_text.specs.Rows.{AreCoreLines, AreInside, AreNone, HasCoreParts, told_by};
 
 use crate::around::tokens_in;
-use crate::parts::{are_named, code_piece, names_piece, number_piece};
+use crate::parts::{are_named, code_piece, is_number_of, names_piece, number_piece};
 use cs_chain::Core;
 use cs_least::{Cost, Costs};
 use cs_manifest::Piece;
@@ -103,7 +103,8 @@ fn with_parts(
 pub(crate) struct Cores<'a> {
     file: &'a YaccFile,
     costs: &'a Costs<'a>,
-    lines: Vec<Option<CoreLines>>,
+    // By the numbers of rules: none where the rule wasn't asked for, and then none where a part is long.
+    lines: Vec<Option<Option<CoreLines>>>,
 }
 
 impl<'a> Model for Cores<'a> {
@@ -129,25 +130,44 @@ impl<'a> Cores<'a> {
         Ok(Cores { file, costs, lines })
     }
 
-    /// Makes those of a rule, where they aren't there yet and aren't long.
+    /// Makes those of a rule that wasn't asked for.
     pub(crate) fn keep(&mut self, alloc: Global, rule: u16) -> Result<(), AllocError>
         ensures { self.new ≡ self.old }
     {
-        if self.get(rule).is_some() || self.costs.grammar().get_rule(rule).is_none() {
+        if !self.is_new(rule) {
             return Ok(());
         }
         let lines = core_lines(alloc, self.file, self.costs, rule)?;
-        if let Some(kept) = self.lines.get_mut(rule as usize) {
-            *kept = lines;
-        }
+        self.put(rule, lines);
         Ok(())
+    }
+
+    // Whether it is a rule that wasn't asked for.
+    fn is_new(&self, rule: u16) -> bool
+        ensures { IsTrue result → IsNumberOf (length self.now.of.grammar.rules) rule }
+    {
+        let rules = self.costs.grammar().rules().len();
+        is_number_of(rules, rule) && matches!(self.lines.get(rule as usize), Some(None))
+    }
+
+    // From now on the rule has these.
+    fn put(&mut self, rule: u16, lines: Option<CoreLines>)
+        requires { IfSome lines (AreCoreLines self.old.file self.old.of) }
+        ensures { self.new ≡ self.old }
+    {
+        if let Some(kept) = self.lines.get_mut(rule as usize) {
+            *kept = Some(lines);
+        }
     }
 
     /// Those of a rule, where they are kept.
     pub(crate) fn get(&self, rule: u16) -> Option<&CoreLines>
         ensures { IfSome result (λ lines. AreCoreLines self.now.file self.now.of lines.now) }
     {
-        self.lines.get(rule as usize)?.as_ref()
+        match self.lines.get(rule as usize) {
+            Some(Some(Some(lines))) => Some(lines),
+            _ => None,
+        }
     }
 
     /// What a frame and a node in it cost together.
@@ -161,7 +181,7 @@ impl<'a> Cores<'a> {
 }
 
 // None for each number of a rule, and for 0.
-fn no_lines(alloc: Global, rules: usize) -> Result<Vec<Option<CoreLines>>, AllocError>
+fn no_lines(alloc: Global, rules: usize) -> Result<Vec<Option<Option<CoreLines>>>, AllocError>
     requires { rules ≤ 8192 }
     ensures { IfOk result (λ lines. AreNone lines.items) }
 {

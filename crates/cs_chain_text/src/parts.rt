@@ -44,7 +44,8 @@ pub(crate) fn are_named(file: &YaccFile, tokens: &[u16]) -> bool
     tokens.iter().all(|token| is_number_of(most, *token))
 }
 
-fn is_number_of(most: usize, number: u16) -> bool
+// Whether it is a number from 1 to the last.
+pub(crate) fn is_number_of(most: usize, number: u16) -> bool
     ensures { IsTrue result ↔ IsNumberOf most number }
 {
     0 < number && number as usize <= most

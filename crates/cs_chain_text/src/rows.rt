@@ -14,7 +14,7 @@ use crate::tally::Tally;
 use cs_chain::{Chain, is_beside};
 use cs_io::{Sink, SinkError};
 use cs_least::Cost;
-use cs_manifest::{LINE_LENGTH, Numeral, Output, put_count};
+use cs_manifest::{LINE_LENGTH, Numeral, Output};
 use std::alloc::{AllocError, Global};
 
 // A chain: what it has in common with others, its inner node, and what both cost together.
@@ -113,16 +113,23 @@ fn put_rows<S: Sink>(
     ensures counted { IsCounted (row_entries rows.now) tally.old tally.new }
 {
     let mut number = Numeral::new(tally.goals);
+    let mut size = Numeral::new(0);
     for row in rows {
         tally.count_cost(row.cost);
         number.advance();
-        put_row(output, cores, &number, row);
+        put_row(output, cores, &number, &mut size, row);
     }
 }
 
-// Puts the lines of a row, with this number.
+// Puts the lines of a row, with this number. The numeral has the size that was put last, which most rows have too.
 #[inline(always)]
-fn put_row<S: Sink>(output: &mut Output<'_, S>, cores: &Cores<'_>, number: &Numeral, row: &Row<'_>)
+fn put_row<S: Sink>(
+    output: &mut Output<'_, S>,
+    cores: &Cores<'_>,
+    number: &Numeral,
+    last: &mut Numeral,
+    row: &Row<'_>,
+)
     requires { IsRow cores.now row.now }
     ensures { Puts S.Sink (row_lines cores.now number.now row.now) output.old output.new }
 {
@@ -133,16 +140,30 @@ fn put_row<S: Sink>(output: &mut Output<'_, S>, cores: &Cores<'_>, number: &Nume
     match row.cost {
         Cost::Never => output.put(b" infeasible\n"),
         Cost::Large => output.put(b" large\n"),
-        Cost::Least(size) => put_tree(output, row, size),
+        Cost::Least(size) => {
+            set_numeral(last, size as u64);
+            put_tree(output, row, &*last);
+        }
+    }
+}
+
+// Makes a numeral this number.
+#[inline(always)]
+fn set_numeral(numeral: &mut Numeral, number: u64)
+    ensures { numeral.new ≡ number }
+{
+    if numeral.number() != number {
+        *numeral = Numeral::new(number);
     }
 }
 
 // Puts the size, and the lines of the derivation and its tokens.
 #[inline(always)]
-fn put_tree<S: Sink>(output: &mut Output<'_, S>, row: &Row<'_>, size: u32)
-    ensures { Puts S.Sink (tree_parts row.now size) output.old output.new }
+fn put_tree<S: Sink>(output: &mut Output<'_, S>, row: &Row<'_>, size: &Numeral)
+    ensures { Puts S.Sink (tree_parts row.now size.now) output.old output.new }
 {
-    put_count(output, b" size ", size as u64);
+    output.put(b" size ");
+    output.put_numeral(size);
     output.put_piece(&row.frame.before);
     output.put_piece(&row.core.code);
     output.put_piece(&row.frame.middle);
