@@ -13,6 +13,7 @@ import os
 import subprocess
 import sys
 import tempfile
+from dataclasses import replace
 from functools import partial
 from itertools import zip_longest
 from random import Random
@@ -20,7 +21,8 @@ from random import Random
 sys.dont_write_bytecode = True
 
 from model.chains import Chains
-from model.files import LexFile, YaccFile, options, text_of
+from model.check import checked
+from model.files import LexFile, YaccFile, damaged, options, text_of
 from model.generated import summary
 from model.lexical import Spellings, lexical
 from model.manifest import Manifest
@@ -124,6 +126,14 @@ def wrong(pair):
     yield fixed(["wrong", "y", "l", *words], pair.files, made.text, pair.scanner)
 
 
+def check(pair):
+    """The manifest of a pair passes; of four like it, each with another change, the model says what is wrong."""
+    text = b"" if pair.scanner.has_many_sets else Manifest(pair.grammar, pair.scanner, replace(pair.choice, version=2)).text()
+    for manifest in [text, *(damaged(pair.random, text) for _ in range(4))] if text else ():
+        right = checked(pair.grammar, pair.scanner, manifest)
+        yield ["check", "y", "l", "m"], {**pair.files, "m": manifest}, lambda _, right=right: right
+
+
 ROWS = {
     "rules": rules,
     "suite": suite,
@@ -134,6 +144,7 @@ ROWS = {
     "deep": deep,
     "chains": chains,
     "wrong": wrong,
+    "check": check,
 }
 
 

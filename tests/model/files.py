@@ -280,3 +280,42 @@ def text_of(random, texts):
     between = random.choice([b" ", b" ", b" ", b"", b"\n", b"  "])
     text = between.join(texts.lexemes.get(token, b"?") for token in tokens)
     return text + random.choice([b""] * 6 + [b" ", b"\xff", b"ab", b"0"])
+
+
+def damaged(random, text):
+    """A manifest with one line otherwise: with another word, as of a line like it, with another byte, out, doubled or exchanged."""
+    lines = text.splitlines(keepends=True)
+    kinds = sorted({first_word(line) for line in lines})
+    kind = random.choice(kinds)
+    like = [place for place, line in enumerate(lines) if first_word(line) == kind]
+    place, other = random.choice(like), lines[random.choice(like)]
+    line, behind = lines[place], lines[place + 1 : place + 2]
+    kind = random.choice(["word"] * 6 + ["byte", "out", "twice", "exchanged"])
+    if kind == "word":
+        some = [with_word(random, line, other), *behind]
+    elif kind == "byte":
+        at = random.randrange(len(line))
+        some = [line[:at] + bytes([random.choice(b"0123 'x\n\"<abnst")]) + line[at + 1 :], *behind]
+    else:
+        some = {"out": behind, "twice": [line, line, *behind], "exchanged": [*behind, line]}[kind]
+    return b"".join([*lines[:place], *some, *lines[place + 2 :]])
+
+
+def first_word(line):
+    return line.strip().partition(b" ")[0]
+
+
+def with_word(random, line, other):
+    """The line with a word of the other in its place, with a number that is one more or less, or with one more word."""
+    words, others = line[:-1].split(b" "), other[:-1].split(b" ")
+    apart = [at for at, (word, another) in enumerate(zip(words, others)) if word != another]
+    numbers = [at for at, word in enumerate(words) if word.isdigit()]
+    if apart and random.random() < 0.5:
+        at = random.choice(apart)
+        words[at] = others[at]
+    elif numbers:
+        at = random.choice(numbers)
+        words[at] = b"%d" % max(int(words[at]) + random.choice([-1, 1]), 0)
+    else:
+        words.append(others[-1])
+    return b" ".join(words) + b"\n"

@@ -104,7 +104,7 @@ class Scanner:
 
     def __init__(self, rules, tokens):
         self.rules, self.tokens = rules, tokens
-        self.automaton, self.known = Automaton(), {}
+        self.automaton, self.known, self.winners = Automaton(), {}, {}
         begin, self.ends = self.automaton.node(), []
         for pattern, _ in rules:
             # a pattern has a node of its own to begin at: a loop there leads to no other pattern
@@ -121,7 +121,9 @@ class Scanner:
 
     def winner(self, nodes):
         """The lowest rule whose pattern matches what led to these nodes, or None."""
-        return next((rule for rule, end in enumerate(self.ends) if end in nodes), None)
+        if nodes not in self.winners:
+            self.winners[nodes] = next((rule for rule, end in enumerate(self.ends) if end in nodes), None)
+        return self.winners[nodes]
 
     def own(self, byte):
         """What a rule gives that goes by the first byte of its match."""
