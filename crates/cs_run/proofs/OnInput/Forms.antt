@@ -20,12 +20,18 @@ one_word [] word some few is = absurd (omega (arith, some))
 one_word (w ∷ []) word some few is = ap (λ x. string_bytes x ∷ []) (sym is)
 one_word (w ∷ v ∷ words) word some few is = absurd (omega (arith, few))
 
-pub two_words : (words : List (String Global)) (word other : String Global) → 2 ≤ length words → length words < 3 → word ≡ get_or words 0 word → other ≡ get_or words 1 other
+two_words : (words : List (String Global)) (word other : String Global) → 2 ≤ length words → length words < 3 → word ≡ get_or words 0 word → other ≡ get_or words 1 other
     → texts words ≡ string_bytes word ∷ string_bytes other ∷ []
 two_words [] word other some few is also = absurd (omega (arith, some))
 two_words (w ∷ []) word other some few is also = absurd (omega (arith, some))
 two_words (w ∷ v ∷ []) word other some few is also = ap (λ x. string_bytes x ∷ string_bytes v ∷ []) (sym is) ∙ ap (λ x. string_bytes word ∷ string_bytes x ∷ []) (sym also)
 two_words (w ∷ v ∷ u ∷ words) word other some few is also = absurd (omega (arith, few))
+
+-- the names that are given in them
+pub two_named : (words : List (String Global)) (word other : String Global) (name second : List ℕ) → 2 ≤ length words → length words < 3 → word ≡ get_or words 0 word → other ≡ get_or words 1 other
+    → name ≡ string_bytes word → second ≡ string_bytes other → Names (texts words) ≡ Names (name ∷ second ∷ [])
+two_named words word other name second some few is also front behind =
+    ap Names (two_words words word other some few is also ∙ ap (λ b. b ∷ string_bytes other ∷ []) (sym front) ∙ ap (λ b. name ∷ b ∷ []) (sym behind))
 
 -- ---- one file
 
@@ -81,7 +87,7 @@ one_not_none name named one none = let both : yacc_named name ∷ [] ≡ [] = sy
 
 -- ---- three files
 
-pub three_words : (words : List (String Global)) (word other more : String Global) → 3 ≤ length words → length words < 4 → word ≡ get_or words 0 word → other ≡ get_or words 1 other → more ≡ get_or words 2 more
+three_words : (words : List (String Global)) (word other more : String Global) → 3 ≤ length words → length words < 4 → word ≡ get_or words 0 word → other ≡ get_or words 1 other → more ≡ get_or words 2 more
     → texts words ≡ string_bytes word ∷ string_bytes other ∷ string_bytes more ∷ []
 three_words [] word other more some few is also last = absurd (omega (arith, some))
 three_words (w ∷ []) word other more some few is also last = absurd (omega (arith, some))
@@ -90,6 +96,12 @@ three_words (w ∷ v ∷ u ∷ []) word other more some few is also last =
     ap (λ x. string_bytes x ∷ string_bytes v ∷ string_bytes u ∷ []) (sym is) ∙ ap (λ x. string_bytes word ∷ string_bytes x ∷ string_bytes u ∷ []) (sym also)
     ∙ ap (λ x. string_bytes word ∷ string_bytes other ∷ string_bytes x ∷ []) (sym last)
 three_words (w ∷ v ∷ u ∷ t ∷ words) word other more some few is also last = absurd (omega (arith, few))
+
+pub three_named_in : (words : List (String Global)) (word other more : String Global) (name second third : List ℕ) → 3 ≤ length words → length words < 4 → word ≡ get_or words 0 word → other ≡ get_or words 1 other → more ≡ get_or words 2 more
+    → name ≡ string_bytes word → second ≡ string_bytes other → third ≡ string_bytes more → Names (texts words) ≡ Names (name ∷ second ∷ third ∷ [])
+three_named_in words word other more name second third some few is also last front middle behind =
+    ap Names (three_words words word other more some few is also last ∙ ap (λ b. b ∷ string_bytes other ∷ string_bytes more ∷ []) (sym front)
+    ∙ ap (λ b. name ∷ b ∷ string_bytes more ∷ []) (sym middle) ∙ ap (λ b. name ∷ second ∷ b ∷ []) (sym behind))
 
 module _ (name other third : List ℕ) where
   named_three : (c : Command) → Fit (taken_of c) (Names (name ∷ other ∷ third ∷ [])) → files_taken (taken_of c) (Names (name ∷ other ∷ third ∷ [])) ≡ three_named name other third
