@@ -62,9 +62,9 @@ module _ (g : PlainGrammar) where
       (p, done, rest, rule, e ∙ ap (λ n. form done n rest) (sym is_left), ap (λ (l : List Symbol). map Token done ++ l) (sym behind))
 
   -- one step more
-  pub put_more : (rules : List ℕ) (i r : ℕ) (xs ys zs : List Symbol) → i < length rules → r ≡ get_or rules i r → Derives g xs (take i rules) ys → Derives g ys (r ∷ []) zs → Derives g xs (take (i + 1) rules) zs
-  put_more rules i r xs ys zs within is so_far more =
-      subst (λ (l : List ℕ). Derives g xs l zs) (ap (λ n. take i rules ++ n ∷ []) is ∙ sym (take_more rules i r within)) (derives_then (take i rules) (r ∷ []) xs ys zs so_far more)
+  pub put_more : (rules : List ℕ) (i d : ℕ) (xs ys zs : List Symbol) → i < length rules → Derives g xs (take i rules) ys → Derives g ys (get_or rules i d ∷ []) zs → Derives g xs (take (i + 1) rules) zs
+  put_more rules i d xs ys zs within so_far more =
+      subst (λ (l : List ℕ). Derives g xs l zs) (sym (take_more rules i d within)) (derives_then (take i rules) (get_or rules i d ∷ []) xs ys zs so_far more)
 
   -- what the rule numbers before the node and behind it led to
   pub around_is : (before behind : List ℕ) (left : ℕ) (first last : List ℕ) (start mid rest again end : List Symbol) → start ≡ from_start g → Derives g start before mid → mid ≡ form first left rest

@@ -1,6 +1,7 @@
 -- The lines of a frame and of a node have their parts.
-use Rattle.std.proofs.Common.{◌≡◌, ℕ, List, refl, sym, ap, ◌∙◌, subst, Option, None, Some, Result, Ok, Err}
+use Rattle.std.proofs.Common.{◌≡◌, ℕ, List, [], ◌∷◌, ◌++◌, refl, sym, ap, ◌∙◌, subst, Option, None, Some, Result, Ok, Err}
 use Rattle.std.specs.Prelude.{IfOk, IfSome, codes, decimal}
+use Rattle.std.proofs.lemmas.List.Elements.{All-push}
 use Rattle.cs_grammar.specs.Weights.{Weighed}
 use Rattle.cs_least.specs.Cost.Rank.{IsCapped}
 use Rattle.cs_yacc.specs.Reading.File.{File}
@@ -15,7 +16,7 @@ use Rattle.cs_chain_text.specs.declared.around.Around.{Around}
 use Rattle.cs_chain_text.specs.declared.cores.CoreLines.{CoreLines}
 use Rattle.cs_chain_text.specs.declared.frames.FrameLines.{FrameLines}
 use Rattle.cs_chain_text.specs.Parts.{head_words, middle_words}
-use Rattle.cs_chain_text.specs.Rows.{AreAround, AreCoreLines, AreFrameLines, AreInside, HasCoreParts, HasFrameParts}
+use Rattle.cs_chain_text.specs.Rows.{AreAround, AreCoreLines, AreCores, AreFrameLines, AreInside, HasCoreParts, HasFrameParts}
 
 -- what is found is of another kind too
 pub found_as : {A E : Type 0} (P Q : A → Type 0) → ((a : A) → P a → Q a) → (r : Result (Option A) E) → IfOk r (λ o. IfSome o P) → IfOk r (λ o. IfSome o Q)
@@ -59,3 +60,8 @@ core_lines file v rule left core tokens fits capped are lines h = record {
     names = h.names ∙ ap (λ (ts : List ℕ). token_words file ts) (sym h.tokens_are);
   };
 }
+
+-- those of one rule more
+pub cores_more : (file : File) (v : Weighed) (old new : List CoreLines) (found : Option CoreLines) (lines : CoreLines) → AreCores file v old → IfSome found (AreCoreLines file v) → found ≡ Some lines → new ≡ old ++ lines ∷ [] → AreCores file v new
+cores_more file v old new found lines are one is pushed =
+    subst (AreCores file v) (sym pushed) (All-push (AreCoreLines file v) old lines are (subst (λ (o : Option CoreLines). IfSome o (AreCoreLines file v)) is one))

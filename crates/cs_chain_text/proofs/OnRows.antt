@@ -1,18 +1,15 @@
 -- Rows are the entries of their chains, and their parts are the entries' lines.
-use Rattle.std.proofs.Common.{◌≡◌, ◌<◌, ℕ, ◌+◌, List, [], ◌∷◌, ◌++◌, length, map, get_or, take, refl, sym, ap, ◌∙◌, subst, append_assoc, append-nil, arith, Option, None}
+use Rattle.std.proofs.Common.{◌≡◌, ◌<◌, ℕ, ◌+◌, List, [], ◌∷◌, ◌++◌, length, get_or, take, refl, sym, ap, ◌∙◌, subst, append_assoc, append-nil, Option, None}
 use Rattle.std.specs.Prelude.{All, codes, decimal}
 use Rattle.std.specs.List.{AllZip}
 use Rattle.std.proofs.lemmas.Grind.{flat_map-append}
 use Rattle.std.proofs.lemmas.List.{get_or-map, length-map, take_more}
 use Rattle.std.proofs.lemmas.List.Elements.{All-cons, All-head, All-nil, All-tail}
-use Rattle.cs_grammar.specs.Grammar.{PlainGrammar}
 use Rattle.cs_least.specs.declared.cost.cost.Cost.{Cost}
 use Rattle.cs_least.specs.declared.cost.cost.Cost.TheVariants.{Never, Large, Least}
-use Rattle.cs_least.specs.Cost.Rank.{plus}
-use Rattle.cs_yacc.specs.Reading.File.{File}
 use Rattle.cs_manifest.specs.Manifest.Below.{derive_below, tokens_below}
 use Rattle.cs_manifest.specs.Manifest.Lines.{numbered_word, token_words, verdict_lines}
-use Rattle.cs_manifest.specs.Manifest.Manifest.{AreTokensOf, IsTextOf, Texts}
+use Rattle.cs_manifest.specs.Manifest.Manifest.{AreTokensOf, IsTextOf}
 use Rattle.cs_manifest.specs.Output.Names.{token_of}
 use Rattle.cs_manifest.specs.Output.Words.{line, spaced}
 use Rattle.cs_chain.specs.declared.chains.chain.Chain.{Chain}
@@ -26,7 +23,7 @@ use Rattle.cs_chain_text.specs.Around.{AreTokensIn}
 use Rattle.cs_chain_text.specs.Parts.{head_words}
 use Rattle.cs_chain_text.specs.Progress.{CanCount, HasRoom, IsCounted, with_verdict}
 use Rattle.cs_chain_text.specs.Rows.{AreRowsOf, IsRow, IsRowOf, Told, entry_by, row_chain, row_entries, row_entry, tokens_by, tree_parts}
-use Rattle.cs_chain_text.specs.Text.{ChainEntry, IsEntryOf, as_goal, chain_words, entry_lines}
+use Rattle.cs_chain_text.specs.Text.{IsEntryOf, as_goal, chain_words, entry_lines}
 use Rattle.cs_chain_text.proofs.Counting.{room_within}
 use Rattle.cs_chain_text.proofs.OnAround.{yield_around}
 use Rattle.cs_manifest.proofs.OnManifest.Zips.{zip_both}
@@ -154,9 +151,8 @@ pub room : (rows : List Row) (i : ℕ) (a b : Tally) → i < length rows → Can
 room rows i a b h can counted = room_within (row_entries rows) i a b (within rows i h) (subst (λ (n : ℕ). CanCount a n) (sym (length-map rows row_entry)) can) counted
 
 -- one row more
-pub rows_more : (told : Told) (chains : List Chain) (i : ℕ) (chain : Chain) (rows new : List Row) (row : Row) → i < length chains → chain ≡ get_or chains i chain → AreRowsOf told (take i chains) rows → IsRowOf told chain row
-    → new ≡ rows ++ row ∷ [] → AreRowsOf told (take (i + 1) chains) new
-rows_more told chains i chain rows new row within is so_far one pushed =
-    let both = zip_both (IsRowOf told) (take i chains) (chain ∷ []) rows (row ∷ []) so_far (one, tt) in
-    subst (λ (l : List Chain). AreRowsOf told l new) (ap (λ (x : Chain). take i chains ++ x ∷ []) is ∙ sym (take_more chains i chain within))
-    (subst (λ (l : List Row). AreRowsOf told (take i chains ++ chain ∷ []) l) (sym pushed) both)
+pub rows_more : (told : Told) (chains : List Chain) (i : ℕ) (d : Chain) (rows new : List Row) (row : Row) → i < length chains → AreRowsOf told (take i chains) rows → IsRowOf told (get_or chains i d) row → new ≡ rows ++ row ∷ []
+    → AreRowsOf told (take (i + 1) chains) new
+rows_more told chains i d rows new row within so_far one pushed =
+    let both = zip_both (IsRowOf told) (take i chains) (get_or chains i d ∷ []) rows (row ∷ []) so_far (one, tt) in
+    subst (λ (l : List Chain). AreRowsOf told l new) (sym (take_more chains i d within)) (subst (λ (l : List Row). AreRowsOf told (take i chains ++ get_or chains i d ∷ []) l) (sym pushed) both)

@@ -1,6 +1,6 @@
 -- The tokens of a chain's tree in three parts: those before the node with the inner rule, its own, and those behind it. Working
 -- words of proofs.
-use Rattle.std.specs.Prelude.{◌≡◌, ℕ, List, [], ◌∷◌, ◌++◌, map, reverse, Bool, IsTrue, Option, Result, IfOk, IfSome}
+use Rattle.std.specs.Prelude.{ℕ, List, [], ◌∷◌, map, Bool, IsTrue, Option, Result, IfOk, IfSome}
 use Rattle.std.specs.Global.{Vec}
 use Rattle.cs_grammar.specs.declared.symbol.Symbol.{Symbol}
 use Rattle.cs_grammar.specs.declared.symbol.Symbol.TheVariants.{Token, Nonterminal}

@@ -1,5 +1,5 @@
 -- Chains whose lines are put together of parts, and what the parts are. Working words of proofs.
-use Rattle.std.specs.Prelude.{◌≡◌, ℕ, List, [], ◌++◌, All, IfSome, codes, decimal, map, Option, None}
+use Rattle.std.specs.Prelude.{◌≡◌, ℕ, List, [], ◌++◌, All, codes, decimal, map, None}
 use Rattle.std.specs.List.{AllZip}
 use Rattle.cs_grammar.specs.Grammar.{PlainGrammar}
 use Rattle.cs_grammar.specs.Weights.{Weighed}
@@ -76,12 +76,8 @@ pub record AreCoreLines (file : File) (v : Weighed) (lines : CoreLines) : Type 0
   pub parts : HasCoreParts file lines.rule lines.left lines.core lines.tokens.items lines
 
 -- those that are kept are of the file and the costs
-abbrev pub AreCores : File → Weighed → List (Option (Option CoreLines)) → Type 0
-AreCores file v lines = All (λ o. IfSome o (λ kept. IfSome kept (AreCoreLines file v))) lines
-
--- none was asked for
-abbrev pub AreNone : List (Option (Option CoreLines)) → Type 0
-AreNone lines = All (λ o. o ≡ None) lines
+abbrev pub AreCores : File → Weighed → List CoreLines → Type 0
+AreCores file v lines = All (AreCoreLines file v) lines
 
 -- ---- both together
 

@@ -1,10 +1,10 @@
 // The inner nodes of chains, by their rules, as the lines of chains have them.
 
-ghost use Rattle.std.specs.Prelude.{◌≡◌, ◌≤◌, IfOk, IfSome, IsTrue, length};
+ghost use Rattle.std.specs.Prelude.{◌≡◌, IfOk, IfSome, IsTrue, length};
 ghost use Rattle.cs_grammar.specs.Grammar.{IsNumberOf};
 ghost use Rattle.cs_least.specs.Cost.Rank.{IsCapped, plus};
 ghost use Rattle.cs_chain_text.specs.Around.{Finds};
-ghost use Rattle.cs_chain_text.specs.Rows.{AreCoreLines, AreInside, AreNone, HasCoreParts, told_by};
+ghost use Rattle.cs_chain_text.specs.Rows.{AreCoreLines, AreInside, HasCoreParts, told_by};
 
 use crate::around::tokens_in;
 use crate::parts::{are_named, code_piece, is_number_of, names_piece, number_piece};
@@ -17,6 +17,12 @@ use std::marker::Model;
 
 // A part of these lines has at most so many bytes.
 const MOST: usize = 256;
+
+// The place of lines that weren't asked for.
+const NEW: usize = usize::MAX;
+
+// The place of lines that aren't kept, since a part is long.
+const LONG: usize = usize::MAX - 1;
 
 // A node of a rule, and what the lines of chains have of it.
 #[derive(Drop)]
@@ -103,8 +109,9 @@ fn with_parts(
 pub(crate) struct Cores<'a> {
     file: &'a YaccFile,
     costs: &'a Costs<'a>,
-    // By the numbers of rules: none where the rule wasn't asked for, and then none where a part is long.
-    lines: Vec<Option<Option<CoreLines>>>,
+    // By the numbers of rules, where their lines stand.
+    places: Vec<usize>,
+    lines: Vec<CoreLines>,
 }
 
 impl<'a> Model for Cores<'a> {
@@ -126,8 +133,15 @@ impl<'a> Cores<'a> {
     ) -> Result<Cores<'a>, AllocError>
         ensures { IfOk result (λ cores. cores ≡ told_by file.now costs.now) }
     {
-        let lines = no_lines(alloc, costs.grammar().rules().len())?;
-        Ok(Cores { file, costs, lines })
+        let rules = costs.grammar().rules().len();
+        let mut places = Vec::new(alloc);
+        places.resize(rules + 1, NEW)?;
+        Ok(Cores {
+            file,
+            costs,
+            places,
+            lines: Vec::new(alloc),
+        })
     }
 
     /// Makes those of a rule that wasn't asked for.
@@ -137,8 +151,12 @@ impl<'a> Cores<'a> {
         if !self.is_new(rule) {
             return Ok(());
         }
-        let lines = core_lines(alloc, self.file, self.costs, rule)?;
-        self.put(rule, lines);
+        self.note(rule, LONG);
+        if let Some(lines) = core_lines(alloc, self.file, self.costs, rule)? {
+            let place = self.lines.len();
+            self.lines.push(lines)?;
+            self.note(rule, place);
+        }
         Ok(())
     }
 
@@ -147,16 +165,24 @@ impl<'a> Cores<'a> {
         ensures { IsTrue result → IsNumberOf (length self.now.of.grammar.rules) rule }
     {
         let rules = self.costs.grammar().rules().len();
-        is_number_of(rules, rule) && matches!(self.lines.get(rule as usize), Some(None))
+        is_number_of(rules, rule) && self.place_of(rule) == NEW
     }
 
-    // From now on the rule has these.
-    fn put(&mut self, rule: u16, lines: Option<CoreLines>)
-        requires { IfSome lines (AreCoreLines self.old.file self.old.of) }
+    // Where the lines of a rule stand.
+    #[inline(always)]
+    fn place_of(&self, rule: u16) -> usize {
+        match self.places.get(rule as usize) {
+            Some(place) => *place,
+            None => LONG,
+        }
+    }
+
+    // Notes where the lines of a rule stand.
+    fn note(&mut self, rule: u16, place: usize)
         ensures { self.new ≡ self.old }
     {
-        if let Some(kept) = self.lines.get_mut(rule as usize) {
-            *kept = Some(lines);
+        if let Some(noted) = self.places.get_mut(rule as usize) {
+            *noted = place;
         }
     }
 
@@ -164,10 +190,7 @@ impl<'a> Cores<'a> {
     pub(crate) fn get(&self, rule: u16) -> Option<&CoreLines>
         ensures { IfSome result (λ lines. AreCoreLines self.now.file self.now.of lines.now) }
     {
-        match self.lines.get(rule as usize) {
-            Some(Some(Some(lines))) => Some(lines),
-            _ => None,
-        }
+        self.lines.get(self.place_of(rule))
     }
 
     /// What a frame and a node in it cost together.
@@ -178,16 +201,4 @@ impl<'a> Cores<'a> {
     {
         self.costs.plus(frame, node)
     }
-}
-
-// None for each number of a rule, and for 0.
-fn no_lines(alloc: Global, rules: usize) -> Result<Vec<Option<Option<CoreLines>>>, AllocError>
-    requires { rules ≤ 8192 }
-    ensures { IfOk result (λ lines. AreNone lines.items) }
-{
-    let mut lines = Vec::with_capacity(alloc, rules + 1)?;
-    for _ in 0..=rules {
-        lines.push(None)?;
-    }
-    Ok(lines)
 }

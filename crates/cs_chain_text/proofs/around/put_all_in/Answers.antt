@@ -7,8 +7,8 @@ use Rattle.cs_chain_text.proofs.around.put_all_in.Goals as goal
 
 pub loop-number-preserved : goal.loop-number-preserved
 loop-number-preserved c =
-    put_more c.args.grammar.now c.args.rules.now c.loop-number.number-index c.number-item.result (in_hand c.args.done.now c.args.pending.now) (in_hand c.loop-number.done c.loop-number.pending) (in_hand c.put_in.new.done c.put_in.new.pending)
-    c.loop-number-test.true c.number-item.is c.loop-number.invariant (c.in_ok-put_in.ensures c.if-not-branch.false)
+    put_more c.args.grammar.now c.args.rules.now c.loop-number.number-index _ (in_hand c.args.done.now c.args.pending.now) (in_hand c.loop-number.done c.loop-number.pending) (in_hand c.put_in.new.done c.put_in.new.pending)
+    c.loop-number-test.true c.loop-number.invariant (c.in_ok-put_in.ensures c.if-not-branch.false)
 
 pub returns : goal.returns
 returns c = λ _.

@@ -1,4 +1,4 @@
-use Rattle.std.proofs.Common.{List, ℕ, Option, subst}
+use Rattle.std.proofs.Common.{ℕ, Option, subst}
 use Rattle.std.specs.Prelude.{IfSome}
 use Rattle.std.specs.Global.{Vec}
 use Rattle.cs_chain_text.specs.Rows.{AreInside}

@@ -10,9 +10,9 @@ returns-in-Least c =
     let g = c.args.costs.now.grammar in
     found_as _ _
     (λ a h n e.
-    subst (λ (l : List ℕ). AreTokensAround g frame.before l a.left a.first.items a.last.items) c.rules-2.ensures
-    (subst (λ (l : List ℕ). AreTokensAround g l c.rules-2.result.now a.left a.first.items a.last.items) c.rules.ensures
-    (subst (λ (x : PlainGrammar). AreTokensAround x c.rules.result.now c.rules-2.result.now a.left a.first.items a.last.items) c.grammar.ensures h)))
+    subst (λ (l : List ℕ). AreTokensAround g frame.before l a.left a.first.items a.last.items) c.rules-in-Least.ensures
+    (subst (λ (l : List ℕ). AreTokensAround g l c.rules-in-Least.result.now a.left a.first.items a.last.items) c.rules.ensures
+    (subst (λ (x : PlainGrammar). AreTokensAround x c.rules.result.now c.rules-in-Least.result.now a.left a.first.items a.last.items) c.grammar.ensures h)))
     c.tokens_around.result c.tokens_around.ensures
 
 pub returns-in_default : goal.returns-in_default

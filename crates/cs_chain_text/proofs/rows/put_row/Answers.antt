@@ -28,5 +28,5 @@ returns-in-Least g c =
     let row = c.args.row.now in
     let front = then (then (then c.put.ensures c.put_numeral.ensures) c.put_piece.ensures) c.put_piece-2.ensures in
     let words = spelled _ (head_is told row c.args.number.now c.requires) front in
-    let tree = subst (λ (n : ℕ). Puts g.S.Sink (tree_parts row n) c.put_piece-2.new.output c.put_tree.new.output) c.set_numeral.ensures c.put_tree.ensures in
+    let tree = subst (λ (n : ℕ). Puts g.S.Sink (tree_parts row n) c.put_piece-2.new.self c.put_tree.new.output) c.set_numeral.ensures c.put_tree.ensures in
     spelled _ (row_told told row c.args.number.now (Least c.in-Least.size) _ c.in-Least.is (tree_is told row c.in-Least.size c.requires)) (then words tree)

@@ -1,7 +1,8 @@
-use Rattle.std.proofs.Common.{◌≡◌, ◌+◌, ap, ◌∙◌, arith}
+use Rattle.std.proofs.Common.{◌≡◌, ◌+◌, ap, ◌∙◌, arith, take}
 use Rattle.cs_manifest.proofs.OnOutput.Pieces.{nothing, spelled, then}
 use Rattle.cs_chain_text.specs.declared.tally.Tally.{Tally}
-use Rattle.cs_chain_text.specs.Rows.{IsRow, row_entries, row_entry}
+use Rattle.cs_chain_text.specs.Progress.{lines_from}
+use Rattle.cs_chain_text.specs.Rows.{IsRow, row_entries, row_entry, row_lines}
 use Rattle.cs_chain_text.proofs.Counting.{at_place, counted_more, counted_none, lines_more}
 use Rattle.cs_chain_text.proofs.OnRows.{counts_one, counts_same, entry_at, room, within}
 use Rattle.cs_chain_text.proofs.rows.put_rows.Goals as goal
@@ -34,4 +35,4 @@ loop-row-preserved g c =
     let one : c.count_cost.new.self.goals ≡ c.loop-row.tally.goals + 1 = ap (λ (t : Tally). t.goals) c.count_cost.ensures ∙ counts_one c.loop-row.tally row.cost in
     let number : c.advance.new.self ≡ c.count_cost.new.self.goals = omega (arith, c.advance.ensures, c.loop-row.invariant.number, one) in
     let lines = lines_more c.args.cores.now.file c.args.tally.now.goals es i e c.advance.new.self inside here (number ∙ counted.goals) in
-    record { lines = spelled _ lines (then c.loop-row.invariant.lines c.put_row.ensures); counted = counted; number = number }
+    record { lines = spelled _ lines (then {first = lines_from c.args.cores.now.file c.args.tally.now.goals (take i es)} {second = row_lines c.args.cores.now c.advance.new.self row} c.loop-row.invariant.lines c.put_row.ensures); counted = counted; number = number }

@@ -11,8 +11,7 @@ loop-chain-init c = subst (λ (l : List Row). AreRowsOf c.args.cores.now [] l) (
 
 pub loop-chain-preserved : goal.loop-chain-preserved
 loop-chain-preserved c =
-    rows_more c.args.cores.now c.args.chains.now c.loop-chain.chain-index c.chain-item.result c.loop-chain.rows.items c.push.new.self.items c.in-Some.row c.loop-chain-test.true c.chain-item.is c.loop-chain.invariant
-    c.in-Some.ensures c.in_ok-push.ensures.items
+    rows_more c.args.cores.now c.args.chains.now c.loop-chain.chain-index _ c.loop-chain.rows.items c.push.new.self.items c.in-Some.row c.loop-chain-test.true c.loop-chain.invariant c.in-Some.ensures c.in_ok-push.ensures.items
 
 pub returns : goal.returns
 returns c = subst (λ (l : List Chain). AreRowsOf c.args.cores.now l c.loop-chain.rows.items) (take_all c.loop-chain.chain-index c.args.chains.now c.loop-chain-test.false) c.loop-chain.invariant

@@ -1,7 +1,7 @@
-use Rattle.std.proofs.Common.{List, ℕ, ◌++◌, sym, ◌∙◌, subst}
+use Rattle.std.proofs.Common.{List, ℕ, ◌++◌, sym, subst}
 use Rattle.cs_least.specs.declared.cost.cost.Cost.{Cost}
 use Rattle.cs_chain.specs.declared.judging.verdict.ChainVerdict.TheVariants.{Feasible}
-use Rattle.cs_chain.specs.Judging.Frame.{verdict_by, verdict_with}
+use Rattle.cs_chain.specs.Judging.Frame.{verdict_by}
 use Rattle.cs_chain.specs.Judging.Verdict.{IsVerdictIn}
 use Rattle.cs_chain.proofs.OnJudging.Framed.{own_verdict}
 use Rattle.cs_chain.proofs.judging.judge.judge_chain.Goals as goal

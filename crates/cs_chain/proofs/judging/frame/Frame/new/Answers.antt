@@ -1,4 +1,4 @@
-use Rattle.std.proofs.Common.{◌≡◌, ℕ, List, sym, subst}
+use Rattle.std.proofs.Common.{ℕ, List, sym, subst}
 use Rattle.cs_grammar.specs.Grammar.{PlainGrammar}
 use Rattle.cs_chain.specs.Judging.Cuts.{AreRulesOf}
 use Rattle.cs_chain.specs.Judging.Frame.{AreFrameCodes, symbols_of}
