@@ -36,7 +36,7 @@ write_entries-requires-clause-few g c =
 -- memory ran out
 pub returns-in_err-entries-clause-put : goal.returns-in_err-entries-clause-put
 returns-in_err-entries-clause-put g c =
-    let p = err_from_is_err_and c.from_residual.result c.from_residual.ensures.1 in rw (p.1, p.2) refl
+    let p = err_from_is_err_and c.from_residual.result c.from_residual.ensures.1 in rw (p.1, p.2) (refl {a = c.args.sink.now})
 
 -- a write failed
 pub returns-in_err-write_entries-clause-put : goal.returns-in_err-write_entries-clause-put
