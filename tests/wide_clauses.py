@@ -1,5 +1,6 @@
 #!/usr/bin/env python3
-"""Counts the clauses of the crates that are wider than 100 columns with their line breaks taken out, and names them."""
+"""Counts the clauses of the crates that are wider than 100 columns, and names them: with their line breaks taken out, or a line as
+it stands in the file, indentation included."""
 import pathlib
 import re
 import sys
@@ -14,7 +15,8 @@ def clauses(text):
         while depth and at < len(text):
             depth += {"{": 1, "}": -1}.get(text[at], 0)
             at += 1
-        yield text.count("\n", 0, start.start()) + 1, " ".join(text[start.start() : at].split())
+        lines = text[start.start() : at].split("\n")
+        yield text.count("\n", 0, start.start()) + 1, max([" ".join(" ".join(lines).split()), *lines], key=len)
 
 
 wide = [
@@ -24,5 +26,5 @@ wide = [
     if len(clause) > MOST
 ]
 for path, line, clause in wide:
-    print(f"{path}:{line}: {len(clause)} columns: {clause}")
+    print(f"{path}:{line}: {len(clause)} columns: {clause.strip()}")
 print(f"{len(wide)} clauses above {MOST} columns")

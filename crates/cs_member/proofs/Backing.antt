@@ -9,6 +9,7 @@ use Rattle.cs_grammar.specs.declared.symbol.Symbol.{Symbol}
 use Rattle.cs_grammar.specs.declared.symbol.Symbol.TheVariants.{Token, Nonterminal}
 use Rattle.cs_grammar.specs.Grammar.{PlainGrammar, IsGrammar}
 use Rattle.cs_grammar.proofs.Measures.{All-at, IsRuleOf-rule}
+use Rattle.cs_member.specs.Buckets.{rows_in}
 use Rattle.cs_member.specs.declared.item.Item.{Item}
 use Rattle.cs_member.specs.declared.back.Back.{Back}
 use Rattle.cs_member.specs.declared.back.Sought.{Sought}
@@ -132,10 +133,10 @@ module _ (g : PlainGrammar) (tables : Tables) (tokens : List ℕ) (chart : List 
       ]
 
   -- what the rows of a position's buckets await
-  pub rows_nonterminal : (i b : ℕ) (p : Position) (list : Vec Row) (row : Row) → slice_get chart i ≡ Some p → 0 < b → slice_get p.rows.items b ≡ Some list → Contains list.items row → Awaits g row.item (Nonterminal b)
+  pub rows_nonterminal : (i b : ℕ) (p : Position) (list : Vec Row) (row : Row) → slice_get chart i ≡ Some p → 0 < b → slice_get (rows_in p.rows) b ≡ Some list → Contains list.items row → Awaits g row.item (Nonterminal b)
   rows_nonterminal i b p list row at above at_list has = (position_at i p at).awaits b list row at_list has above
 
-  pub rows_token : (i t j : ℕ) (p : Position) (list : Vec Row) (row : Row) → slice_get chart i ≡ Some p → slice_get tokens i ≡ Some t → slice_get p.rows.items 0 ≡ Some list → Contains list.items row → InWords row.words.items j → Awaits g row.item (Token t)
+  pub rows_token : (i t j : ℕ) (p : Position) (list : Vec Row) (row : Row) → slice_get chart i ≡ Some p → slice_get tokens i ≡ Some t → slice_get (rows_in p.rows) 0 ≡ Some list → Contains list.items row → InWords row.words.items j → Awaits g row.item (Token t)
   rows_token i t j p list row at token at_list has in_it =
       let made = is.each i p at in
       let held = made.rows.held 0 list row at_list has in
@@ -149,7 +150,7 @@ module _ (g : PlainGrammar) (tables : Tables) (tokens : List ℕ) (chart : List 
 
   -- what comes before a symbol stands there, and awaits it
   before_symbol : (i from bucket : ℕ) (p : Position) (s : Symbol) (fronts : Vec Front) (x : Item) → slice_get chart i ≡ Some p → ((f : Front) → Contains fronts.items f → IsEntry g s f)
-      → ((list : Vec Row) (row : Row) → slice_get p.rows.items bucket ≡ Some list → Contains list.items row → InWords row.words.items from → Awaits g row.item s)
+      → ((list : Vec Row) (row : Row) → slice_get (rows_in p.rows) bucket ≡ Some list → Contains list.items row → InWords row.words.items from → Awaits g row.item s)
       → IsBefore p bucket fronts.items i from x → IsAt g chart x from i × Awaits g x s
   before_symbol i from bucket p s fronts x at entries rows before = elim before [
     | inl begins ↦

@@ -6,6 +6,7 @@ use Rattle.std.proofs.lemmas.Option.{slice_get_within}
 use Rattle.cs_grammar.specs.declared.symbol.Symbol.TheVariants.{Token, Nonterminal}
 use Rattle.cs_grammar.specs.Grammar.{PlainGrammar, IsGrammar, IsSymbol}
 use Rattle.cs_grammar.proofs.Measures.{IsRuleOf-rule, All-at}
+use Rattle.cs_member.specs.Buckets.{rows_in}
 use Rattle.cs_member.specs.declared.item.Item.{Item}
 use Rattle.cs_member.specs.declared.now.Span.{Span}
 use Rattle.cs_member.specs.declared.chart.Position.{Position}
@@ -15,6 +16,7 @@ use Rattle.cs_member.specs.Closed.{IsMet, IsClosed}
 use Rattle.cs_member.specs.Now.{StandsIn, SpansIn, IsKept}
 use Rattle.cs_member.specs.Tables.{IsQuestion}
 use Rattle.cs_member.specs.Expecting.{AreCorners}
+use Rattle.cs_member.specs.Sets.{Has}
 use Rattle.cs_member.specs.Chart.{StandsAt, OfBucket, OfBegun, OfScan, IsSpan}
 use Rattle.cs_member.specs.Made.{IsChart, sets_of, AreWhole}
 use Rattle.cs_member.proofs.Places.{there_at, at_take}
@@ -50,7 +52,7 @@ module _ (g : PlainGrammar) (tables : Tables) (tokens : List ℕ) (chart : List 
         | inl some ↦
             let same = one_awaited g h.2.item (Nonterminal h.0) (Nonterminal a) some.1 here in
             let one : h.0 ≡ a = cc in
-            (h.1, ap (λ n. slice_get p.rows.items n) (sym one) ∙ h.3, (h.2, h.4, ap over (sym h.5), h.6))
+            (h.1, ap (λ n. slice_get (rows_in p.rows) n) (sym one) ∙ h.3, (h.2, h.4, ap over (sym h.5), h.6))
         | inr none ↦ absurd (let same = one_awaited g h.2.item (Token none.1) (Nonterminal a) none.2 here in cc)
       ]
 
@@ -60,7 +62,7 @@ module _ (g : PlainGrammar) (tables : Tables) (tokens : List ℕ) (chart : List 
       let here : Awaits g h.2.item (Token t) = subst (λ (y : Item). Awaits g y (Token t)) (sym h.5) w in
       elim held.bucket [
         | inl some ↦ absurd (let same = one_awaited g h.2.item (Nonterminal h.0) (Token t) some.1 here in cc)
-        | inr none ↦ (h.1, ap (λ n. slice_get p.rows.items n) (sym none.0) ∙ h.3, (h.2, h.4, ap over (sym h.5), h.6))
+        | inr none ↦ (h.1, ap (λ n. slice_get (rows_in p.rows) n) (sym none.0) ∙ h.3, (h.2, h.4, ap over (sym h.5), h.6))
       ]
 
   -- one position further, behind a token
@@ -115,13 +117,13 @@ module _ (g : PlainGrammar) (tables : Tables) (tokens : List ℕ) (chart : List 
         let low = token_within x t w in
         let list = there_at tables.tokens.items t (omega arith) in
         let here = whole.tokens a t x list.0 f w list.1 in
-        scan_step k t e.0 (over x) k e.1 next (inr (list.0, list.1, (here.0, here.1, ap (λ n. slice_get e.0.expected.items n) here.2 ∙ e.2, sym here.3, refl)));
+        scan_step k t e.0 (over x) k e.1 next (inr (list.0, list.1, (here.0, here.1, subst (λ n. Has e.0.expected.items n) (sym here.2) e.2, sym here.3, refl)));
     completed_first = λ i k a b x e f w s.
         let size = question.nonterminals.size in
         let low = nonterminal_within x b w in
         let list = there_at tables.nonterminals.items b (omega arith) in
         let here = whole.nonterminals a b x list.0 f w list.1 in
-        span_step i b k e.0 (over x) k e.1 s.0 s.1 s.2 (inr (list.0, list.1, (here.0, here.1, ap (λ n. slice_get e.0.expected.items n) here.2 ∙ e.2, sym here.3, refl)));
+        span_step i b k e.0 (over x) k e.1 s.0 s.1 s.2 (inr (list.0, list.1, (here.0, here.1, subst (λ n. Has e.0.expected.items n) (sym here.2) e.2, sym here.3, refl)));
     started = (let long = is.long in let p = there_at chart 0 (omega arith) in (p.0, p.1, (is.each 0 p.0 p.1).first (front 0 p.0 p.1)));
     expected = λ i j a x h w.
         let made = is.each i h.0 h.1 in

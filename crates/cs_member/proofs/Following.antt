@@ -8,6 +8,7 @@ use Rattle.std.proofs.lemmas.List.{length-append}
 use Rattle.std.proofs.lemmas.List.Elements.{All-append}
 use Rattle.cs_grammar.specs.Grammar.{PlainGrammar, IsGrammar}
 use Rattle.cs_grammar.proofs.Measures.{IsRuleOf-rule}
+use Rattle.cs_member.specs.Buckets.{rows_in}
 use Rattle.cs_member.specs.declared.item.Item.{Item}
 use Rattle.cs_member.specs.declared.now.Now.{Now}
 use Rattle.cs_member.specs.declared.now.Span.{Span}
@@ -22,7 +23,7 @@ use Rattle.cs_member.proofs.Putting.{kept_more}
 use Rattle.cs_member.proofs.Puts.{Of, puts_then}
 
 module _ (g : PlainGrammar) (ahead cause : Option ℕ) (chart : List Position) (fronts : List (Vec Front)) (s : Span) (position : Position) (bucket : Vec Row) (list : Vec Front)
-    (at : slice_get chart s.from ≡ Some position) (at_bucket : slice_get position.rows.items s.nonterminal ≡ Some bucket) (at_list : slice_get fronts s.nonterminal ≡ Some list) where
+    (at : slice_get chart s.from ≡ Some position) (at_bucket : slice_get (rows_in position.rows) s.nonterminal ≡ Some bucket) (at_list : slice_get fronts s.nonterminal ≡ Some list) where
   pub follow_puts : (old mid new : Now) → ArePut g ahead cause (OfRows bucket.items) old mid → ArePut g ahead cause (OfFronts position.expected.items list.items s.from) mid new → ArePut g ahead cause (OfSpan chart fronts s) old new
   follow_puts old mid new first second =
       puts_then g ahead cause (OfRows bucket.items) (OfFronts position.expected.items list.items s.from) (OfSpan chart fronts s) old mid new first second
@@ -105,7 +106,7 @@ followed_now g ahead cause chart fronts old new i s at put before n below =
     ]
 
 module _ (g : PlainGrammar) (ahead cause : Option ℕ) (chart : List Position) (fronts : List (Vec Front)) (tokens : List ℕ) (t : ℕ) (position : Position) (bucket : Vec Row) (list : Vec Front)
-    (at : slice_get chart (length chart - 1) ≡ Some position) (at_token : slice_get tokens (length chart - 1) ≡ Some t) (at_bucket : slice_get position.rows.items 0 ≡ Some bucket) (at_list : slice_get fronts t ≡ Some list) where
+    (at : slice_get chart (length chart - 1) ≡ Some position) (at_token : slice_get tokens (length chart - 1) ≡ Some t) (at_bucket : slice_get (rows_in position.rows) 0 ≡ Some bucket) (at_list : slice_get fronts t ≡ Some list) where
   pub scan_puts : (old mid new : Now) → ArePut g ahead cause (OfRows bucket.items) old mid → ArePut g ahead cause (OfFronts position.expected.items list.items (length chart - 1)) mid new → ArePut g ahead cause (OfScan chart fronts tokens) old new
   scan_puts old mid new first second =
       puts_then g ahead cause (OfRows bucket.items) (OfFronts position.expected.items list.items (length chart - 1)) (OfScan chart fronts tokens) old mid new first second

@@ -7,7 +7,9 @@ pub mod Putting
 pub mod Puts
 pub mod Following
 pub mod Bucketing
+pub mod Placing
 pub mod Marking
+pub mod Descending
 pub mod Making
 pub mod Closing
 pub mod Outside

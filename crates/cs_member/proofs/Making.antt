@@ -36,8 +36,8 @@ none_before g many now none spans = record {
 -- a position that is made is one
 pub made_position : (g : PlainGrammar) (tables : Tables) (tokens : List ℕ) (before : List Position) (position : Position) → IsMade g tables tokens before position → IsPosition g (length before) position
 made_position g tables tokens before position made = record {
+  buckets = made.buckets;
   size = made.rows.size;
-  each = made.size;
   rows = λ b bucket at k d lt. (made.rows.held b bucket (get_or bucket.items k d) at (k, lt, get_or_default bucket.items k (get_or bucket.items k d) d lt)).fits;
   early = λ b j bucket row at has in_it. made.before_here.stands row.item j ((made.rows.held b bucket row at has).back j in_it);
   awaits = λ b bucket row at has above. elim (made.rows.held b bucket row at has).bucket [

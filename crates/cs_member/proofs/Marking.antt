@@ -12,6 +12,7 @@ use Rattle.cs_grammar.specs.declared.symbol.Symbol.TheVariants.{Token, Nontermin
 use Rattle.cs_grammar.specs.Grammar.{PlainGrammar}
 use Rattle.cs_member.specs.declared.now.Origins.{Origins}
 use Rattle.cs_member.specs.Item.{Awaits}
+use Rattle.cs_member.specs.Sets.{Has}
 use Rattle.cs_member.specs.Chart.{BucketOf}
 use Rattle.cs_member.proofs.Putting.{one_awaited}
 use Rattle.cs_member.proofs.Places.{at_left, at_push_cases, at_set, at_set_cases, at_contains, all_contains, there_at}
@@ -69,7 +70,7 @@ followed_one corners e f p q i a list marks lt at at_list all before n c b other
           marks.stays b (before n c b other (omega arith) (was.1 ∙ ap Some one) at_other has)
     ]
 
-pub descended : (corners : List (Vec ℕ)) (expected : List Bool) (pending : List ℕ) (i : ℕ) → length pending ≤ i → AreMarked expected pending → AreFollowed corners expected pending i → IsDescended corners expected
+pub descended : (corners : List (Vec ℕ)) (expected : List Bool) (pending : List ℕ) (i : ℕ) → length pending ≤ i → AreMarked expected pending → AreFollowed corners expected pending i → IsDescended corners (IsMarked expected)
 descended corners expected pending i whole marked followed a b list m at has =
     let place = at_contains pending a (marked.listed a m) in
     let lt = slice_get_within pending place.0 a place.1 in
@@ -87,7 +88,7 @@ none_marked expected none = record {
 }
 
 -- one item more
-pub awaited_more : (g : PlainGrammar) (origins : List Origins) (i : ℕ) (o : Origins) (b : ℕ) (e f : List Bool) → i < length origins → o ≡ get_or origins i o → BucketOf g b o.item → ((a : ℕ) → IsMarked e a → IsMarked f a) → IsMarked f b → AreAwaited g (take i origins) e → AreAwaited g (take (i + 1) origins) f
+pub awaited_more : (g : PlainGrammar) (origins : List Origins) (i : ℕ) (o : Origins) (b : ℕ) (e f : List ℕ) → i < length origins → o ≡ get_or origins i o → BucketOf g b o.item → ((a : ℕ) → Has e a → Has f a) → Has f b → AreAwaited g (take i origins) e → AreAwaited g (take (i + 1) origins) f
 awaited_more g origins i o b e f lt read bucket stays now before =
     let more : take (i + 1) origins ≡ take i origins ++ o ∷ [] = take_more origins i o lt ∙ ap (λ (r : Origins). take i origins ++ r ∷ []) (sym read) in
     subst (λ (l : List Origins). AreAwaited g l f) (sym more)
@@ -96,7 +97,7 @@ awaited_more g origins i o b e f lt read bucket stays now before =
       | inr last ↦
           let here : Awaits g o.item (Nonterminal a) = subst (λ (r : Origins). Awaits g r.item (Nonterminal a)) (sym last.1) w in
           elim bucket [
-            | inl some ↦ (let same = one_awaited g o.item (Nonterminal b) (Nonterminal a) some.1 here in let one : b ≡ a = cc in subst (λ n. IsMarked f n) one now)
+            | inl some ↦ (let same = one_awaited g o.item (Nonterminal b) (Nonterminal a) some.1 here in let one : b ≡ a = cc in subst (λ n. Has f n) one now)
             | inr none ↦ absurd (let same = one_awaited g o.item (Token none.1) (Nonterminal a) none.2 here in cc)
           ]
     ])

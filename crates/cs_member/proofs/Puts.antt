@@ -11,7 +11,7 @@ use Rattle.cs_member.specs.declared.now.Span.{Span}
 use Rattle.cs_member.specs.declared.chart.Row.{Row}
 use Rattle.cs_member.specs.declared.fronts.Front.{Front}
 use Rattle.cs_member.specs.Item.{IsDone, over}
-use Rattle.cs_member.specs.Sets.{InWord, InWords}
+use Rattle.cs_member.specs.Sets.{Has, InWord, InWords}
 use Rattle.cs_member.specs.Now.{IsKept, IsPast, IsPut, ArePut}
 use Rattle.cs_member.specs.Chart.{OfRows, OfFronts}
 use Rattle.cs_member.proofs.Rows.{all_more}
@@ -88,7 +88,7 @@ module _ (g : PlainGrammar) (ahead cause : Option ℕ) where
         )
       ]))
 
-  pub fronts_put : (expected : List Bool) (fronts : List Front) (from k : ℕ) (d : Front) (old mid new : Now) (From : ℕ → Type 0) → k < length fronts → ((j : ℕ) → From j → j ≡ from) → ((j : ℕ) → j ≡ from → From j) → slice_get expected (get_or fronts k d).left ≡ Some true → ArePut g ahead cause (OfFronts expected (take k fronts) from) old mid → IsPut g ahead cause (get_or fronts k d).item From mid new → ArePut g ahead cause (OfFronts expected (take (k + 1) fronts) from) old new
+  pub fronts_put : (expected : List ℕ) (fronts : List Front) (from k : ℕ) (d : Front) (old mid new : Now) (From : ℕ → Type 0) → k < length fronts → ((j : ℕ) → From j → j ≡ from) → ((j : ℕ) → j ≡ from → From j) → Has expected (get_or fronts k d).left → ArePut g ahead cause (OfFronts expected (take k fronts) from) old mid → IsPut g ahead cause (get_or fronts k d).item From mid new → ArePut g ahead cause (OfFronts expected (take (k + 1) fronts) from) old new
   fronts_put expected fronts from k d old mid new From lt one two there before put =
       let front : Front = get_or fronts k d in
       let is : take (k + 1) fronts ≡ take k fronts ++ front ∷ [] = take_more fronts k d lt in
@@ -101,7 +101,7 @@ module _ (g : PlainGrammar) (ahead cause : Option ℕ) where
         | inr now ↦ inr (subst (λ (f : Front). x ≡ f.item) (sym now) h.3, two j h.4)
       ]))
 
-  pub fronts_skipped : (expected : List Bool) (fronts : List Front) (from k : ℕ) (d : Front) (old mid : Now) → k < length fronts → (slice_get expected (get_or fronts k d).left ≡ Some true → ⊥) → ArePut g ahead cause (OfFronts expected (take k fronts) from) old mid → ArePut g ahead cause (OfFronts expected (take (k + 1) fronts) from) old mid
+  pub fronts_skipped : (expected : List ℕ) (fronts : List Front) (from k : ℕ) (d : Front) (old mid : Now) → k < length fronts → (Has expected (get_or fronts k d).left → ⊥) → ArePut g ahead cause (OfFronts expected (take k fronts) from) old mid → ArePut g ahead cause (OfFronts expected (take (k + 1) fronts) from) old mid
   fronts_skipped expected fronts from k d old mid lt never before =
       let front : Front = get_or fronts k d in
       let is : take (k + 1) fronts ≡ take k fronts ++ front ∷ [] = take_more fronts k d lt in
@@ -111,7 +111,7 @@ module _ (g : PlainGrammar) (ahead cause : Option ℕ) where
       (λ x j h. absurd h)
       (λ x j h. elim (Contains-push_cases (take k fronts) front h.0 h.1) [
         | inl old ↦ inl (h.0, old, h.2, h.3, h.4)
-        | inr now ↦ inr (never (subst (λ (f : Front). slice_get expected f.left ≡ Some true) (sym now) h.2))
+        | inr now ↦ inr (never (subst (λ (f : Front). Has expected f.left) (sym now) h.2))
       ]))
 
 -- the one number of a word

@@ -13,6 +13,7 @@ use Rattle.cs_grammar.specs.Sentence.{IsSentence}
 use Rattle.cs_grammar.specs.Tree.{Tree, Leaf, Node, Forest, Grown, IsTree, AreTrees, yield}
 use Rattle.cs_grammar.specs.Context.{join}
 use Rattle.cs_grammar.proofs.OneTree.{one_rule}
+use Rattle.cs_member.specs.Buckets.{rows_in}
 use Rattle.cs_member.specs.declared.item.Item.{Item}
 use Rattle.cs_member.specs.declared.chart.Position.{Position}
 use Rattle.cs_member.specs.declared.chart.Row.{Row}
@@ -78,7 +79,7 @@ module _ (g : PlainGrammar) (tables : Tables) (tokens : List ℕ) (chart : List 
   module _ (i : ℕ) (before : (k : ℕ) → k < i → IsSound k) where
     -- behind an item of a position's bucket
     row_trees : (p : Position) (bucket : ℕ) (s : Symbol) (t : Tree) (k j : ℕ) (first y : Item) → k < i → slice_get chart k ≡ Some p
-        → ((list : Vec Row) (row : Row) → slice_get p.rows.items bucket ≡ Some list → Contains list.items row → InWords row.words.items j → Awaits g row.item s)
+        → ((list : Vec Row) (row : Row) → slice_get (rows_in p.rows) bucket ≡ Some list → Contains list.items row → InWords row.words.items j → Awaits g row.item s)
         → IsTree g s t → Between tokens k i (yield t) → OfBucket p bucket first j → IsPast g first y → HasTrees y j i
     row_trees p bucket s t k j first y lt at rows tree between of past =
         let row = of.2.0 in

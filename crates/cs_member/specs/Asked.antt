@@ -23,10 +23,11 @@ use Rattle.cs_member.specs.declared.back.WayBack.{WayBack}
 use Rattle.cs_member.specs.declared.writing.Task.{Task}
 use Rattle.cs_member.specs.declared.writing.Task.TheVariants.{Trees}
 use Rattle.cs_member.specs.Item.{IsItem, over}
+use Rattle.cs_member.specs.Buckets.{rows_in}
 use Rattle.cs_member.specs.Sets.{Has, InWords}
 use Rattle.cs_member.specs.Now.{SpansIn, Ends, Stood, IsHere, AreHere, ArePassed, IsPut, ArePut}
 use Rattle.cs_member.specs.Tables.{AreRounds}
-use Rattle.cs_member.specs.Expecting.{Marks, AreCorners, AreAwaited, IsDescended}
+use Rattle.cs_member.specs.Expecting.{Marks, AreDescents, AreAwaited, IsDescended}
 use Rattle.cs_member.specs.Chart.{OfRows, OfFronts, OfScan, OfSpan, AreCaused, IsFollowed, AreRows}
 use Rattle.cs_member.specs.Made.{IsScanned, IsFrom, IsMade, IsChart}
 use Rattle.cs_member.specs.Back.{Meets, IsPlaceSought, LeadsTo, NoneLeads, IsBehind, IsInRows, IsOfFronts, OfSymbol, IsBefore, OfChild, IsBack, IsFound}
@@ -36,12 +37,8 @@ use Rattle.cs_member.specs.Writing.{Writes, IsTaken, IsTakenBelow, IsAbove, IsWh
 abbrev pub IsChartOf : Question → List Position → Type 0
 IsChartOf q chart = IsChart q.grammar.now q.tables.now q.tokens.now (length q.tokens.now + 1) chart
 
-abbrev pub HasCorners : Question → Type 0
-HasCorners q = AreCorners (q.grammar.now.nonterminals + 1) q.tables.now.corners.items
-
--- one for each nonterminal, and for 0
-abbrev pub HasEach : {X : Type 0} → Question → List X → Type 0
-HasEach {X} q list = length list ≡ q.grammar.now.nonterminals + 1
+abbrev pub HasDescents : Question → Type 0
+HasDescents q = AreDescents (q.grammar.now.nonterminals + 1) q.tables.now.corners.items q.tables.now.descents.items
 
 abbrev pub AsksSentence : Question → Type 0
 AsksSentence q = IsSentence q.grammar.now q.tokens.now
@@ -127,19 +124,19 @@ abbrev pub HasMarked : Vec Bool → List ℕ → Type 0
 HasMarked expected nonterminals = All (λ a. slice_get expected.items a ≡ Some true) nonterminals
 
 -- the start symbol is expected at the first position
-abbrev pub ExpectsStart : Question → Bool → List Bool → Type 0
-ExpectsStart q first expected = first ≡ true → slice_get expected q.grammar.now.start ≡ Some true
+abbrev pub ExpectsStart : Question → Bool → List ℕ → Type 0
+ExpectsStart q first expected = first ≡ true → Has expected q.grammar.now.start
 
-abbrev pub AreAwaitedOf : Question → List Origins → List Bool → Type 0
+abbrev pub AreAwaitedOf : Question → List Origins → List ℕ → Type 0
 AreAwaitedOf q origins expected = AreAwaited q.grammar.now origins expected
 
-abbrev pub IsDescendedOf : Question → List Bool → Type 0
-IsDescendedOf q expected = IsDescended q.tables.now.corners.items expected
+abbrev pub IsDescendedOf : Question → List ℕ → Type 0
+IsDescendedOf q expected = IsDescended q.tables.now.corners.items (Has expected)
 
 -- positions
 
 abbrev pub AreRowsAt : Question → Now → Position → Type 0
-AreRowsAt q now position = AreRows q.grammar.now now.origins.items position.rows.items
+AreRowsAt q now position = AreRows q.grammar.now now.origins.items (rows_in position.rows)
 
 abbrev pub AreAwaitedAt : Question → Now → Position → Type 0
 AreAwaitedAt q now position = AreAwaited q.grammar.now now.origins.items position.expected.items

@@ -13,6 +13,7 @@ use Rattle.cs_member.specs.declared.fronts.Front.{Front}
 use Rattle.cs_member.specs.declared.now.Span.{Span}
 use Rattle.cs_member.specs.declared.tables.Tables.{Tables}
 use Rattle.cs_member.specs.Item.{Awaits, IsDone, IsFront, IsItem, over}
+use Rattle.cs_member.specs.Buckets.{rows_in}
 use Rattle.cs_member.specs.Sets.{InWords}
 use Rattle.cs_member.specs.Now.{IsPast}
 use Rattle.cs_member.specs.Chart.{OfScan, OfSpan, OfBucket, StandsAt}
@@ -62,7 +63,7 @@ OfSymbol position bucket fronts begin from x = OfBucket position bucket x from �
 abbrev pub IsBefore : Position → ℕ → List Front → ℕ → ℕ → Item → Type 0
 IsBefore position bucket fronts begin from x =
     ((from ≡ begin) × IsOfFronts fronts (over x))
-    ⊎ ((from < begin) × (list : Vec Row) × (slice_get position.rows.items bucket ≡ Some list) × IsInRows list.items from x)
+    ⊎ ((from < begin) × (list : Vec Row) × (slice_get (rows_in position.rows) bucket ≡ Some list) × IsInRows list.items from x)
 
 -- the item stands at a position with an origin before it
 abbrev pub StandsBefore : List Position → Item → ℕ → ℕ → Type 0

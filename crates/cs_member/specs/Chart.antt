@@ -1,5 +1,5 @@
 -- The chart: its positions as sets.
-use Rattle.std.specs.Prelude.{◌≡◌, ◌≤◌, ◌<◌, ◌+◌, ◌-◌, ◌⊎◌, ◌++◌, ℕ, List, Option, Some, Bool, true, All, Contains, length, slice_get}
+use Rattle.std.specs.Prelude.{◌≡◌, ◌≤◌, ◌<◌, ◌+◌, ◌-◌, ◌⊎◌, ◌++◌, ℕ, List, Option, Some, All, Contains, length, slice_get}
 use Rattle.std.specs.Global.{Vec}
 use Rattle.cs_grammar.specs.declared.symbol.Symbol.TheVariants.{Token, Nonterminal}
 use Rattle.cs_grammar.specs.Grammar.{PlainGrammar}
@@ -13,7 +13,8 @@ use Rattle.cs_member.specs.declared.now.Origins.{Origins}
 use Rattle.cs_member.specs.declared.item.Next.{Next}
 use Rattle.cs_member.specs.declared.item.Next.TheVariants.{Awaited, Done}
 use Rattle.cs_member.specs.Item.{Awaits, IsDone, IsItem, over}
-use Rattle.cs_member.specs.Sets.{InWords}
+use Rattle.cs_member.specs.Buckets.{AreBuckets, rows_in}
+use Rattle.cs_member.specs.Sets.{Has, InWords}
 use Rattle.cs_member.specs.Now.{StandsIn, ArePassed, IsKept, IsPast}
 
 -- a row whose item can be moved
@@ -27,32 +28,32 @@ abbrev pub OfRows : List Row → Item → ℕ → Type 0
 OfRows rows x j = (row : Row) × Contains rows row × (x ≡ over row.item) × InWords row.words.items j
 
 -- the fronts of rules of expected nonterminals
-abbrev pub OfFronts : List Bool → List Front → ℕ → Item → ℕ → Type 0
-OfFronts expected fronts from x j = (front : Front) × Contains fronts front × (slice_get expected front.left ≡ Some true) × (x ≡ front.item) × (j ≡ from)
+abbrev pub OfFronts : List ℕ → List Front → ℕ → Item → ℕ → Type 0
+OfFronts expected fronts from x j = (front : Front) × Contains fronts front × Has expected front.left × (x ≡ front.item) × (j ≡ from)
 
 -- the item stands at the position with this origin
 abbrev pub StandsAt : Position → Item → ℕ → Type 0
-StandsAt position x j = (b : ℕ) × (bucket : Vec Row) × (row : Row) × (slice_get position.rows.items b ≡ Some bucket)
+StandsAt position x j = (b : ℕ) × (bucket : Vec Row) × (row : Row) × (slice_get (rows_in position.rows) b ≡ Some bucket)
     × Contains bucket.items row × (row.item ≡ x) × InWords row.words.items j
 
 -- rules of the nonterminal may begin at the position
 abbrev pub ExpectedAt : Position → ℕ → Type 0
-ExpectedAt position a = slice_get position.expected.items a ≡ Some true
+ExpectedAt position a = Has position.expected.items a
 
 -- the position number i, with rows for each nonterminal
 pub record IsPosition (g : PlainGrammar) (i : ℕ) (position : Position) : Type 0 where
-  pub size : length position.rows.items ≡ g.nonterminals + 1
-  pub each : length position.expected.items ≡ g.nonterminals + 1
-  pub rows : (b : ℕ) (bucket : Vec Row) → slice_get position.rows.items b ≡ Some bucket → All (IsRow g) bucket.items
-  pub early : (b j : ℕ) (bucket : Vec Row) (row : Row) → slice_get position.rows.items b ≡ Some bucket → Contains bucket.items row → InWords row.words.items j → j < i
-  pub awaits : (b : ℕ) (bucket : Vec Row) (row : Row) → slice_get position.rows.items b ≡ Some bucket → Contains bucket.items row → 0 < b → Awaits g row.item (Nonterminal b)
+  pub buckets : AreBuckets position.rows
+  pub size : length (rows_in position.rows) ≡ g.nonterminals + 1
+  pub rows : (b : ℕ) (bucket : Vec Row) → slice_get (rows_in position.rows) b ≡ Some bucket → All (IsRow g) bucket.items
+  pub early : (b j : ℕ) (bucket : Vec Row) (row : Row) → slice_get (rows_in position.rows) b ≡ Some bucket → Contains bucket.items row → InWords row.words.items j → j < i
+  pub awaits : (b : ℕ) (bucket : Vec Row) (row : Row) → slice_get (rows_in position.rows) b ≡ Some bucket → Contains bucket.items row → 0 < b → Awaits g row.item (Nonterminal b)
 
 abbrev pub ArePositions : PlainGrammar → List Position → Type 0
 ArePositions g chart = (i : ℕ) (position : Position) → slice_get chart i ≡ Some position → IsPosition g i position
 
 -- the items that await the symbol of a bucket at a position, with that taken
 abbrev pub OfBucket : Position → ℕ → Item → ℕ → Type 0
-OfBucket position b x j = (bucket : Vec Row) × (slice_get position.rows.items b ≡ Some bucket) × OfRows bucket.items x j
+OfBucket position b x j = (bucket : Vec Row) × (slice_get (rows_in position.rows) b ≡ Some bucket) × OfRows bucket.items x j
 
 -- the fronts that begin with the symbol, of rules that may begin at the position with this number
 abbrev pub OfBegun : Position → List (Vec Front) → ℕ → ℕ → Item → ℕ → Type 0

@@ -4,7 +4,9 @@ use Rattle.std.specs.Global.{Vec}
 use Rattle.cs_grammar.specs.declared.symbol.Symbol.TheVariants.{Nonterminal}
 use Rattle.cs_grammar.specs.Grammar.{PlainGrammar}
 use Rattle.cs_member.specs.declared.now.Origins.{Origins}
+use Rattle.cs_member.specs.declared.word.Word.{Word}
 use Rattle.cs_member.specs.Item.{Awaits}
+use Rattle.cs_member.specs.Sets.{Has, InWords}
 
 abbrev pub IsMarked : List Bool → ℕ → Type 0
 IsMarked expected a = slice_get expected a ≡ Some true
@@ -26,10 +28,24 @@ pub record AreCorners (many : ℕ) (corners : List (Vec ℕ)) : Type 0 where
   pub size : length corners ≡ many
   pub within : (a : ℕ) (list : Vec ℕ) → slice_get corners a ≡ Some list → All (λ b. b < many) list.items
 
--- the corners of what is marked are marked
-abbrev pub IsDescended : List (Vec ℕ) → List Bool → Type 0
-IsDescended corners expected = (a b : ℕ) (list : Vec ℕ) → IsMarked expected a → slice_get corners a ≡ Some list → Contains list.items b → IsMarked expected b
+-- where such nonterminals are there, those with which their rules begin are there too
+abbrev pub IsDescended : List (Vec ℕ) → (ℕ → Type 0) → Type 0
+IsDescended corners These = (a b : ℕ) (list : Vec ℕ) → These a → slice_get corners a ≡ Some list → Contains list.items b → These b
 
--- what the items await is marked
-abbrev pub AreAwaited : PlainGrammar → List Origins → List Bool → Type 0
-AreAwaited g origins expected = (k a : ℕ) (o : Origins) → slice_get origins k ≡ Some o → Awaits g o.item (Nonterminal a) → IsMarked expected a
+-- the nonterminal, those with which its rules begin, and so on
+pub record IsDescent (corners : List (Vec ℕ)) (a : ℕ) (words : List Word) : Type 0 where
+  pub itself : InWords words a
+  pub closed : IsDescended corners (InWords words)
+
+-- by nonterminal: those with which its rules may begin
+pub record AreDescents (many : ℕ) (corners : List (Vec ℕ)) (descents : List (Vec Word)) : Type 0 where
+  pub size : length descents ≡ many
+  pub each : (a : ℕ) (words : Vec Word) → slice_get descents a ≡ Some words → IsDescent corners a words.items
+
+-- what is expected stays so
+abbrev pub Stays : List ℕ → List ℕ → Type 0
+Stays old new = (a : ℕ) → Has old a → Has new a
+
+-- what the items await is expected
+abbrev pub AreAwaited : PlainGrammar → List Origins → List ℕ → Type 0
+AreAwaited g origins expected = (k a : ℕ) (o : Origins) → slice_get origins k ≡ Some o → Awaits g o.item (Nonterminal a) → Has expected a

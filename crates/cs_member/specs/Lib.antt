@@ -5,6 +5,7 @@ pub mod Now
 pub mod Tables
 pub mod Adding
 pub mod Fronts
+pub mod Buckets
 pub mod Chart
 pub mod Expecting
 pub mod Made

@@ -13,7 +13,9 @@ use Rattle.cs_member.specs.declared.chart.Position.{Position}
 use Rattle.cs_member.specs.declared.tables.Tables.{Tables}
 use Rattle.cs_member.specs.Now.{IsNow, ArePassed, IsKept, IsPast, StandsIn, SpansIn}
 use Rattle.cs_member.specs.Chart.{AreRows, AreBefore, OfScan, OfSpan, IsFollowed, ExpectedAt, StandsAt}
-use Rattle.cs_member.specs.Expecting.{AreAwaited, AreCorners, IsDescended}
+use Rattle.cs_member.specs.Buckets.{AreBuckets, rows_in}
+use Rattle.cs_member.specs.Expecting.{AreAwaited, AreCorners, AreDescents, IsDescended}
+use Rattle.cs_member.specs.Sets.{Has}
 use Rattle.cs_member.specs.Tables.{IsQuestion}
 
 -- what follows from the token before the position is kept, where there is one
@@ -40,11 +42,11 @@ pub record IsMade (g : PlainGrammar) (tables : Tables) (tokens : List ℕ) (befo
   pub scanned : IsScanned g tables tokens before now
   pub followed : (n : ℕ) → n < length now.spans.items → IsFollowed g (slice_get tokens (length before)) before tables.nonterminals.items now n
   pub from : IsFrom g tables tokens before now
-  pub rows : AreRows g now.origins.items position.rows.items
-  pub size : length position.expected.items ≡ g.nonterminals + 1
+  pub buckets : AreBuckets position.rows
+  pub rows : AreRows g now.origins.items (rows_in position.rows)
   pub first : length before ≡ 0 → ExpectedAt position g.start
   pub awaited : AreAwaited g now.origins.items position.expected.items
-  pub closed : IsDescended tables.corners.items position.expected.items
+  pub closed : IsDescended tables.corners.items (Has position.expected.items)
   pub spans : position.spans.items ≡ now.spans.items
 
 -- each position is made of those before it
@@ -72,4 +74,5 @@ pub record AreWhole (g : PlainGrammar) (tables : Tables) : Type 0 where
 pub record IsTables (g : PlainGrammar) (tables : Tables) : Type 0 where
   pub question : IsQuestion g tables
   pub corners : AreCorners (g.nonterminals + 1) tables.corners.items
+  pub descents : AreDescents (g.nonterminals + 1) tables.corners.items tables.descents.items
   pub whole : AreWhole g tables

@@ -149,13 +149,7 @@ fn find_at(
     if from == begin {
         return find_front(question, fronts, begin, sought);
     }
-    find_row(
-        question,
-        &position.rows[bucket as usize],
-        begin,
-        from,
-        sought,
-    )
+    find_row(question, position.rows.rows(bucket), begin, from, sought)
 }
 
 // The way back over the token before a position.

@@ -1,6 +1,6 @@
 // The chart: what is found at each position.
 
-ghost use Rattle.std.specs.Prelude.{◌≡◌, ◌≤◌, ◌<◌, ◌+◌, [], None, Some, true, All, IfOk, OnOk, length, slice_get};
+ghost use Rattle.std.specs.Prelude.{◌≡◌, ◌≤◌, ◌<◌, [], None, All, IfOk, OnOk, length, slice_get};
 ghost use Rattle.cs_grammar.specs.Grammar.{IsNumberOf};
 ghost use Rattle.cs_member.specs.declared.TheConstants.{MOST_LENGTH};
 ghost use Rattle.cs_member.specs.Tables.{IsQuestion};
@@ -8,17 +8,18 @@ ghost use Rattle.std.specs.Global.{Vec};
 ghost use Rattle.cs_member.specs.declared.now.Span.{Span};
 ghost use Rattle.cs_member.specs.declared.chart.Row.{Row};
 ghost use Rattle.cs_member.specs.Now.{IsNow, AreHere, AreShort};
+ghost use Rattle.cs_member.specs.Buckets.{AreBuckets, rows_in};
 ghost use Rattle.cs_member.specs.Chart.{IsRow, OfRows, AreBefore, ArePositions, Grows, AreRows, bucket_of};
-ghost use Rattle.cs_member.specs.Expecting.{AreMarked, AreCorners, AreAwaited, IsDescended};
-ghost use Rattle.cs_member.specs.Asked.{IsChartOf, HasCorners, HasEach, ArePutBy, FollowsBegun, AreFrontsOf, ScanPuts, FollowPuts, AreCausedIn, AllFollowed, MarksIn, HasMarked, ExpectsStart, AreAwaitedOf, IsDescendedOf, AreRowsAt, AreAwaitedAt, ArePassedAt, IsScannedAt, IsFromAt, IsMadeAt};
+ghost use Rattle.cs_member.specs.Sets.{Has};
+ghost use Rattle.cs_member.specs.Expecting.{Stays};
+ghost use Rattle.cs_member.specs.Asked.{IsChartOf, HasDescents, ArePutBy, FollowsBegun, AreFrontsOf, ScanPuts, FollowPuts, AreCausedIn, AllFollowed, ExpectsStart, AreAwaitedOf, IsDescendedOf, AreRowsAt, AreAwaitedAt, ArePassedAt, IsScannedAt, IsFromAt, IsMadeAt};
 
 use crate::MOST_LENGTH;
-use crate::adding::{add_at, no_lists};
+use crate::buckets::Buckets;
 use crate::fronts::Front;
 use crate::item::{Item, Next, next_of, over};
 use crate::now::{Now, Origins, Question, Span, Way, put};
-use crate::tables::Tables;
-use crate::word::{Word, pack, word_of};
+use crate::word::{Word, add_all, pack, stands, word_of};
 use cs_grammar::Symbol;
 use std::alloc::{AllocError, Global};
 
@@ -32,9 +33,9 @@ pub(crate) struct Row {
 #[derive(Debug, Drop)]
 pub(crate) struct Position {
     // By awaited nonterminal; at 0 those that await the token.
-    pub(crate) rows: Vec<Vec<Row>>,
-    // By nonterminal: whether rules of it may begin here.
-    pub(crate) expected: Vec<bool>,
+    pub(crate) rows: Buckets,
+    // The nonterminals of which rules may begin here, as bits.
+    pub(crate) expected: Vec<u64>,
     pub(crate) spans: Vec<Span>,
 }
 
@@ -72,7 +73,7 @@ fn put_rows(
 // The front of rules that may begin at a position.
 #[derive(Debug, Drop)]
 struct Begun<'b> {
-    expected: &'b [bool],
+    expected: &'b [u64],
     fronts: &'b [Front],
     from: u16,
 }
@@ -89,7 +90,6 @@ fn put_fronts(
     requires now { IsNow question.now.grammar.now now.old }
     requires question { IsQuestion question.now.grammar.now question.now.tables.now }
     requires guesses { length guesses.old ≡ question.now.tables.now.items }
-    requires expected { length begun.now.expected.now ≡ question.now.grammar.now.nonterminals + 1 }
     requires fronts { AreFrontsOf question.now begun.now.fronts.now }
     ensures now { OnOk result (IsNow question.now.grammar.now now.new) }
     ensures guesses { OnOk result (length guesses.new ≡ question.now.tables.now.items) }
@@ -97,7 +97,7 @@ fn put_fronts(
 {
     let words = [word_of(begun.from)];
     for front in begun.fronts {
-        if begun.expected[front.left as usize] {
+        if stands(begun.expected, front.left) {
             put(alloc, question, now, guesses, way, front.item, &words)?;
         }
     }
@@ -132,7 +132,7 @@ fn scan(
     let token = question.tokens[last];
     let position = &chart[last];
     let way = Way { ahead, cause: None };
-    put_rows(alloc, question, now, guesses, way, &position.rows[0])?;
+    put_rows(alloc, question, now, guesses, way, position.rows.rows(0))?;
     let begun = Begun {
         expected: &position.expected,
         fronts: &question.tables.tokens[token as usize],
@@ -176,7 +176,7 @@ fn follow(
         now,
         guesses,
         way,
-        &position.rows[span.nonterminal as usize],
+        position.rows.rows(span.nonterminal),
     )?;
     let begun = Begun {
         expected: &position.expected,
@@ -217,77 +217,15 @@ fn complete(
     Err(AllocError)
 }
 
-// Expects a nonterminal.
-fn expect(
-    expected: &mut Vec<bool>,
-    pending: &mut Vec<u16>,
-    nonterminal: u16,
-) -> Result<(), AllocError>
-    requires marked { AreMarked expected.old.items pending.old.items }
-    requires nonterminal { nonterminal < length expected.old.items }
-    ensures marked { OnOk result (AreMarked expected.new.items pending.new.items) }
-    ensures marks { OnOk result (MarksIn expected.old pending.old expected.new pending.new) }
-    ensures is_marked { OnOk result (slice_get expected.new.items nonterminal ≡ Some true) }
-{
-    if expected[nonterminal as usize] {
-        return Ok(());
-    }
-    expected[nonterminal as usize] = true;
-    pending.push(nonterminal)?;
-    Ok(())
-}
-
-// Expects each of these.
-fn expect_each(
-    expected: &mut Vec<bool>,
-    pending: &mut Vec<u16>,
-    nonterminals: &[u16],
-) -> Result<(), AllocError>
-    requires marked { AreMarked expected.old.items pending.old.items }
-    requires nonterminals { All (λ a. a < length expected.old.items) nonterminals.now }
-    ensures marked { OnOk result (AreMarked expected.new.items pending.new.items) }
-    ensures marks { OnOk result (MarksIn expected.old pending.old expected.new pending.new) }
-    ensures are_marked { OnOk result (HasMarked expected.new nonterminals.now) }
-{
-    for nonterminal in nonterminals {
-        expect(expected, pending, *nonterminal)?;
-    }
-    Ok(())
-}
-
-// Expects what the rules of expected nonterminals begin with.
-fn expect_corners(
-    tables: &Tables,
-    expected: &mut Vec<bool>,
-    pending: &mut Vec<u16>,
-) -> Result<(), AllocError>
-    requires marked { AreMarked expected.old.items pending.old.items }
-    requires corners { AreCorners (length expected.old.items) tables.now.corners.items }
-    ensures marks { OnOk result (MarksIn expected.old pending.old expected.new pending.new) }
-    ensures closed { OnOk result (IsDescended tables.now.corners.items expected.new.items) }
-{
-    for number in 0..u32::MAX {
-        if number as usize >= pending.len() {
-            return Ok(());
-        }
-        let nonterminal = pending[number as usize];
-        expect_each(expected, pending, &tables.corners[nonterminal as usize])?;
-    }
-    Err(AllocError)
-}
-
 // The rows of what stands at a position.
-fn rows_of(
-    alloc: Global,
-    question: &Question,
-    origins: &[Origins],
-) -> Result<Vec<Vec<Row>>, AllocError>
+fn rows_of(alloc: Global, question: &Question, origins: &[Origins]) -> Result<Buckets, AllocError>
     requires here { AreHere question.now.grammar.now origins.now }
     requires short { AreShort origins.now }
-    ensures { IfOk result (λ rows. AreRows question.now.grammar.now origins.now rows.items) }
+    ensures buckets { IfOk result AreBuckets }
+    ensures rows { IfOk result (λ rows. AreRows question.now.grammar.now origins.now (rows_in rows)) }
 {
     let _well_formed = question.grammar.rules();
-    let mut rows = no_lists(alloc, question.grammar.nonterminals())?;
+    let mut rows = Buckets::new(alloc, question.grammar.nonterminals())?;
     for origin in origins {
         let bucket = awaited(next_of(question.grammar, origin.item));
         let words = pack(alloc, &origin.set)?;
@@ -295,42 +233,44 @@ fn rows_of(
             item: origin.item,
             words,
         };
-        add_at(&mut rows, bucket, row)?;
+        rows.add(alloc, bucket, row)?;
     }
     Ok(rows)
 }
 
-fn none_expected(alloc: Global, last: u16) -> Result<Vec<bool>, AllocError>
-    ensures size { IfOk result (λ expected. length expected.items ≡ last + 1) }
-    ensures none { IfOk result (λ expected. AreMarked expected.items []) }
+// Expects a nonterminal, and those with which its rules begin.
+fn expect(question: &Question, expected: &mut Vec<u64>, nonterminal: u16) -> Result<(), AllocError>
+    requires descents { HasDescents question.now }
+    requires nonterminal { nonterminal ≤ question.now.grammar.now.nonterminals }
+    requires closed { IsDescendedOf question.now expected.old.items }
+    ensures stays { OnOk result (Stays expected.old.items expected.new.items) }
+    ensures there { OnOk result (Has expected.new.items nonterminal) }
+    ensures closed { OnOk result (IsDescendedOf question.now expected.new.items) }
 {
-    let many = last as usize + 1;
-    let mut expected = Vec::with_capacity(alloc, many)?;
-    for _ in 0..many {
-        expected.push(false)?;
+    if stands(expected, nonterminal) {
+        return Ok(());
     }
-    Ok(expected)
+    add_all(expected, &question.tables.descents[nonterminal as usize])?;
+    Ok(())
 }
 
 // Expects the nonterminals that items await.
 fn expect_awaited(
     question: &Question,
-    expected: &mut Vec<bool>,
-    pending: &mut Vec<u16>,
+    expected: &mut Vec<u64>,
     origins: &[Origins],
 ) -> Result<(), AllocError>
-    requires marked { AreMarked expected.old.items pending.old.items }
-    requires size { length expected.old.items ≡ question.now.grammar.now.nonterminals + 1 }
+    requires descents { HasDescents question.now }
     requires here { AreHere question.now.grammar.now origins.now }
-    ensures marked { OnOk result (AreMarked expected.new.items pending.new.items) }
-    ensures marks { OnOk result (MarksIn expected.old pending.old expected.new pending.new) }
-    ensures awaited { OnOk result (AreAwaited question.now.grammar.now
-        origins.now expected.new.items) }
+    requires closed { IsDescendedOf question.now expected.old.items }
+    ensures stays { OnOk result (Stays expected.old.items expected.new.items) }
+    ensures awaited { OnOk result (AreAwaitedOf question.now origins.now expected.new.items) }
+    ensures closed { OnOk result (IsDescendedOf question.now expected.new.items) }
 {
     let _well_formed = question.grammar.rules();
     for origin in origins {
         let nonterminal = awaited(next_of(question.grammar, origin.item));
-        expect(expected, pending, nonterminal)?;
+        expect(question, expected, nonterminal)?;
     }
     Ok(())
 }
@@ -341,22 +281,19 @@ fn expected_of(
     question: &Question,
     origins: &[Origins],
     first: bool,
-) -> Result<Vec<bool>, AllocError>
+) -> Result<Vec<u64>, AllocError>
     requires here { AreHere question.now.grammar.now origins.now }
-    requires corners { HasCorners question.now }
-    ensures size { IfOk result (λ expected. HasEach question.now expected.items) }
+    requires descents { HasDescents question.now }
     ensures first { IfOk result (λ expected. ExpectsStart question.now first expected.items) }
     ensures awaited { IfOk result (λ expected. AreAwaitedOf question.now origins.now expected.items) }
     ensures closed { IfOk result (λ expected. IsDescendedOf question.now expected.items) }
 {
     let _well_formed = question.grammar.rules();
-    let mut expected = none_expected(alloc, question.grammar.nonterminals())?;
-    let mut pending = Vec::with_capacity(alloc, question.grammar.nonterminals() as usize)?;
+    let mut expected = Vec::new(alloc);
     if first {
-        expect(&mut expected, &mut pending, question.grammar.start())?;
+        expect(question, &mut expected, question.grammar.start())?;
     }
-    expect_awaited(question, &mut expected, &mut pending, origins)?;
-    expect_corners(question.tables, &mut expected, &mut pending)?;
+    expect_awaited(question, &mut expected, origins)?;
     Ok(expected)
 }
 
@@ -378,9 +315,9 @@ fn settle(
     first: bool,
 ) -> Result<Position, AllocError>
     requires now { IsNow question.now.grammar.now now.now }
-    requires corners { HasCorners question.now }
+    requires descents { HasDescents question.now }
+    ensures buckets { IfOk result (λ position. AreBuckets position.rows) }
     ensures rows { IfOk result (AreRowsAt question.now now.now) }
-    ensures size { IfOk result (λ position. HasEach question.now position.expected.items) }
     ensures first { IfOk result (λ position. ExpectsStart question.now first position.expected.items) }
     ensures awaited { IfOk result (AreAwaitedAt question.now now.now) }
     ensures closed { IfOk result (λ position. IsDescendedOf question.now position.expected.items) }
@@ -447,7 +384,7 @@ fn make(
 ) -> Result<Position, AllocError>
     requires now { IsNow question.now.grammar.now now.old }
     requires question { IsQuestion question.now.grammar.now question.now.tables.now }
-    requires corners { HasCorners question.now }
+    requires descents { HasDescents question.now }
     requires tokens { All (IsNumberOf question.now.grammar.now.tokens) question.now.tokens.now }
     requires length { length question.now.tokens.now ≤ MOST_LENGTH }
     requires guesses { length guesses.old ≡ question.now.tables.now.items }
@@ -471,7 +408,7 @@ fn positions_of(
     guesses: &mut [usize],
 ) -> Result<Vec<Position>, AllocError>
     requires question { IsQuestion question.now.grammar.now question.now.tables.now }
-    requires corners { HasCorners question.now }
+    requires descents { HasDescents question.now }
     requires tokens { All (IsNumberOf question.now.grammar.now.tokens) question.now.tokens.now }
     requires length { length question.now.tokens.now ≤ MOST_LENGTH }
     requires guesses { length guesses.old ≡ question.now.tables.now.items }
@@ -490,7 +427,7 @@ fn positions_of(
 // The chart of a list of tokens.
 pub(crate) fn chart_of(alloc: Global, question: &Question) -> Result<Vec<Position>, AllocError>
     requires question { IsQuestion question.now.grammar.now question.now.tables.now }
-    requires corners { HasCorners question.now }
+    requires descents { HasDescents question.now }
     requires tokens { All (IsNumberOf question.now.grammar.now.tokens) question.now.tokens.now }
     requires length { length question.now.tokens.now ≤ MOST_LENGTH }
     ensures { IfOk result (λ chart. IsChartOf question.now chart.items) }

@@ -28,7 +28,9 @@
 
 mod adding;
 mod back;
+mod buckets;
 mod chart;
+mod descents;
 mod empties;
 mod fronts;
 mod item;

@@ -4,8 +4,10 @@ ghost use Rattle.std.specs.Prelude.{IfOk};
 ghost use Rattle.cs_member.specs.Tables.{HasPlaces};
 ghost use Rattle.cs_member.specs.Made.{IsTables};
 
+use crate::descents::descents_of;
 use crate::empties::empties_of;
 use crate::fronts::{Front, fronts_of};
+use crate::word::Word;
 use cs_grammar::Grammar;
 use std::alloc::{AllocError, Global};
 
@@ -20,6 +22,8 @@ pub(crate) struct Tables {
     pub(crate) nonterminals: Vec<Vec<Front>>,
     // By nonterminal: what its rules begin with behind symbols that have empty trees.
     pub(crate) corners: Vec<Vec<u16>>,
+    // By nonterminal: those with which its rules may begin, itself among them.
+    pub(crate) descents: Vec<Vec<Word>>,
     // By rule: how many items are before its own.
     pub(crate) bases: Vec<usize>,
     pub(crate) items: usize,
@@ -45,6 +49,7 @@ impl Tables {
         let _well_formed = grammar.rules();
         let empties = empties_of(alloc, grammar)?;
         let fronts = fronts_of(alloc, grammar, &empties.rules)?;
+        let descents = descents_of(alloc, &fronts.corners, grammar.nonterminals())?;
         let (bases, items) = bases_of(alloc, grammar)?;
         Ok(Tables {
             empties: empties.rules,
@@ -52,6 +57,7 @@ impl Tables {
             tokens: fronts.tokens,
             nonterminals: fronts.nonterminals,
             corners: fronts.corners,
+            descents,
             bases,
             items,
         })

@@ -1,20 +1,48 @@
-use Rattle.std.proofs.Common.{ap, ◌∙◌, Some, true, refl}
+use Rattle.std.proofs.Common.{◌≡◌, ◌+◌, ◌⊎◌, ℕ, List, Some, inl, inr, length, refl, sym, subst, arith}
+use Rattle.std.specs.Prelude.{◌↔◌, slice_get}
 use Rattle.std.proofs.lemmas.Option.{slice_get_read}
-use Rattle.cs_member.proofs.Places.{at_set}
-use Rattle.cs_member.proofs.Marking.{marks_none, marks_one, marked_one}
+use Rattle.cs_member.specs.declared.word.Word.{Word}
+use Rattle.cs_member.specs.Sets.{Has, InWords}
+use Rattle.cs_member.specs.Expecting.{IsDescent}
+use Rattle.cs_member.proofs.Descending.{descended_with}
 use Rattle.cs_member.proofs.chart.expect.Goals as goal
 
-pub returns-then-index-clause-marks : goal.returns-then-index-clause-marks
-returns-then-index-clause-marks c = marks_none c.args.expected.now.items c.args.pending.now.items
+pub index-requires : goal.index-requires
+index-requires c =
+    let low = c.requires.nonterminal in
+    let size = c.requires.descents.size in
+    omega arith
 
-pub returns-then-index-clause-is_marked : goal.returns-then-index-clause-is_marked
-returns-then-index-clause-is_marked c = slice_get_read c.args.expected.now.items _ c.args.nonterminal c.index.result.now refl c.requires.nonterminal c.index.ensures ∙ ap Some c.if-index.true
+pub returns-then-stands-clause-there : goal.returns-then-stands-clause-there
+returns-then-stands-clause-there c = subst (λ (l : List ℕ). Has l c.args.nonterminal) c.deref.ensures.value (c.if-stands.ensures.0 refl)
 
-pub returns-clause-marked : goal.returns-clause-marked
-returns-clause-marked c = marked_one c.args.expected.now.items c.args.pending.now.items c.push.new.self.items c.args.nonterminal c.requires.nonterminal c.in_ok-push.ensures.items c.requires.marked
+pub returns-clause-stays : goal.returns-clause-stays
+returns-clause-stays c = λ a h. (c.in_ok-add_all.ensures.has a).1 (inl h)
 
-pub returns-clause-marks : goal.returns-clause-marks
-returns-clause-marks c = marks_one c.args.expected.now.items c.args.pending.now.items c.push.new.self.items c.args.nonterminal c.requires.nonterminal c.in_ok-push.ensures.items
+pub returns-clause-there : goal.returns-clause-there
+returns-clause-there c =
+    let q = c.args.question.now in
+    let a = c.args.nonterminal in
+    let corners = q.tables.now.corners.items in
+    let descents = q.tables.now.descents.items in
+    let list = c.index.result.now in
+    let low = c.requires.nonterminal in
+    let size = c.requires.descents.size in
+    let at : slice_get descents a ≡ Some list = slice_get_read descents _ a list refl (omega arith) c.index.ensures in
+    let one : IsDescent corners a list.items = c.requires.descents.each a list at in
+    (c.in_ok-add_all.ensures.has a).1 (inr (subst (λ (l : List Word). InWords l a) (sym c.deref-2.ensures.value) one.itself))
 
-pub returns-clause-is_marked : goal.returns-clause-is_marked
-returns-clause-is_marked c = at_set c.args.expected.now.items c.args.nonterminal true c.requires.nonterminal
+pub returns-clause-closed : goal.returns-clause-closed
+returns-clause-closed c =
+    let q = c.args.question.now in
+    let a = c.args.nonterminal in
+    let corners = q.tables.now.corners.items in
+    let descents = q.tables.now.descents.items in
+    let list = c.index.result.now in
+    let low = c.requires.nonterminal in
+    let size = c.requires.descents.size in
+    let at : slice_get descents a ≡ Some list = slice_get_read descents _ a list refl (omega arith) c.index.ensures in
+    let one : IsDescent corners a list.items = c.requires.descents.each a list at in
+    descended_with corners a list.items c.args.expected.now.items c.add_all.new.set.items one
+    (subst (λ (l : List Word). (n : ℕ) → Has c.add_all.new.set.items n ↔ (Has c.args.expected.now.items n ⊎ InWords l n)) c.deref-2.ensures.value c.in_ok-add_all.ensures.has)
+    c.requires.closed

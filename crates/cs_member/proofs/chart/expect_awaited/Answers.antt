@@ -6,13 +6,13 @@ use Rattle.cs_member.specs.Now.{IsHere}
 use Rattle.cs_member.specs.Chart.{BucketOf}
 use Rattle.cs_member.specs.Expecting.{AreAwaited}
 use Rattle.cs_member.proofs.Bucketing.{bucket_next, bucket_within, here_item}
-use Rattle.cs_member.proofs.Marking.{marks_none, marks_then, awaited_more}
+use Rattle.cs_member.proofs.Marking.{awaited_more}
 use Rattle.cs_member.proofs.chart.expect_awaited.Goals as goal
 
 pub loop-origin-init : goal.loop-origin-init
 loop-origin-init c = record {
-  marked = c.requires.marked;
-  marks = marks_none c.args.expected.now.items c.args.pending.now.items;
+  stays = λ a h. h;
+  closed = c.requires.closed;
   awaited = λ k a o at w. absurd (let lt = slice_get_within [] k o at in omega arith);
 }
 
@@ -35,9 +35,7 @@ expect-requires-clause-nonterminal c =
     let grammar = c.rules-well_formed.ensures.well_formed in
     let bucket : BucketOf g c.awaited-nonterminal.result o.item = subst (λ n. BucketOf g n o.item) (sym c.awaited-nonterminal.ensures) (bucket_next g o.item c.next_of.result grammar c.next_of.ensures here) in
     let low = bucket_within g c.awaited-nonterminal.result o.item grammar bucket in
-    let size = c.loop-origin.invariant.marks.size in
-    let many = c.requires.size in
-    omega arith
+    low
 
 pub loop-origin-preserved : goal.loop-origin-preserved
 loop-origin-preserved c =
@@ -51,9 +49,9 @@ loop-origin-preserved c =
     let said = c.in_ok-expect.ensures in
     let inv = c.loop-origin.invariant in
     record {
-      marked = said.marked;
-      marks = marks_then c.args.expected.now.items c.args.pending.now.items c.loop-origin.expected.items c.loop-origin.pending.items c.expect.new.expected.items c.expect.new.pending.items inv.marks said.marks;
-      awaited = awaited_more g origins k o c.awaited-nonterminal.result c.loop-origin.expected.items c.expect.new.expected.items c.loop-origin-test.true c.origin-item.is bucket said.marks.stays said.is_marked inv.awaited;
+      stays = λ a h. said.stays a (inv.stays a h);
+      closed = said.closed;
+      awaited = awaited_more g origins k o c.awaited-nonterminal.result c.loop-origin.expected.items c.expect.new.expected.items c.loop-origin-test.true c.origin-item.is bucket said.stays said.there inv.awaited;
     }
 
 pub returns-clause-awaited : goal.returns-clause-awaited

@@ -1,6 +1,6 @@
-use Rattle.std.proofs.Common.{[], ◌+◌, ◌<◌, take, length, List, ◌∷◌, Some, true, false, sym, ap, ◌∙◌, subst, arith}
+use Rattle.std.proofs.Common.{[], ◌+◌, ◌<◌, take, length, List, ◌∷◌, refl, sym, ap, ◌∙◌, subst, arith}
 use Rattle.std.proofs.lemmas.List.{take_all}
-use Rattle.std.proofs.lemmas.Option.{slice_get-get_or, get_or_from_slice_get}
+use Rattle.std.proofs.lemmas.Bool.{false≢true}
 use Rattle.std.proofs.lemmas.List.Elements.{All-push, All-nil}
 use Rattle.cs_member.specs.declared.fronts.Front.{Front}
 use Rattle.cs_member.specs.declared.word.Word.{Word}
@@ -9,7 +9,7 @@ use Rattle.cs_member.specs.Sets.{InWords}
 use Rattle.cs_member.specs.Chart.{OfFronts}
 use Rattle.cs_member.proofs.Puts.{puts_none, fronts_put, fronts_skipped, only_from}
 use Rattle.cs_member.proofs.chart.put_fronts.Goals as goal
-use Rattle.cs_member.proofs.chart.put_fronts.Goals.{then-begun-front+in_ok-put, else-begun-front}
+use Rattle.cs_member.proofs.chart.put_fronts.Goals.{then-stands+in_ok-put, else-stands}
 
 pub put-requires-clause-words : goal.put-requires-clause-words
 put-requires-clause-words c = All-push (λ (w : Word). w.at < 1024) [] c.word_of.result (All-nil (λ (w : Word). w.at < 1024)) c.word_of.ensures.small
@@ -28,21 +28,21 @@ loop-front-preserved c =
     let fronts = c.args.begun.now.fronts.now in
     let from = c.args.begun.now.from in
     let k = c.loop-front.front-index in
-    elim c.if-begun-front.branch [
-      | then-begun-front+in_ok-put w ↦ record {
+    elim c.if-stands.branch [
+      | then-stands+in_ok-put w ↦ record {
         now = subst (λ n. IsNow g n) (sym w.now-is) w.in_ok-put.ensures.now;
         guesses = ap (λ l. length l) w.guesses-is ∙ w.in_ok-put.ensures.guesses;
         put = subst (λ n. ArePut g c.args.way.ahead c.args.way.cause (OfFronts expected (take (k + 1) fronts) from) c.args.now.now n) (sym w.now-is)
             (fronts_put g c.args.way.ahead c.args.way.cause expected fronts from k _ c.args.now.now c.loop-front.now w.put.new.now (InWords (c.word_of.result ∷ [])) c.loop-front-test.true
             (λ j h. (only_from c.word_of.result from c.word_of.ensures.has j).0 h) (λ j e. (only_from c.word_of.result from c.word_of.ensures.has j).1 e)
-            (slice_get-get_or expected _ _ (let left = (c.requires.fronts k (record { left = 0; item = record { rule = 0; place = 0 } }) c.loop-front-test.true).1 in let size = c.requires.expected in omega arith) ∙ ap Some w.if-begun-front.true) c.loop-front.invariant.put w.in_ok-put.ensures.put);
+            (w.if-stands.ensures.0 refl) c.loop-front.invariant.put w.in_ok-put.ensures.put);
       }
-      | else-begun-front w ↦ record {
+      | else-stands w ↦ record {
         now = subst (λ n. IsNow g n) (sym w.now-is) c.loop-front.invariant.now;
         guesses = ap (λ l. length l) w.guesses-is ∙ c.loop-front.invariant.guesses;
         put = subst (λ n. ArePut g c.args.way.ahead c.args.way.cause (OfFronts expected (take (k + 1) fronts) from) c.args.now.now n) (sym w.now-is)
             (fronts_skipped g c.args.way.ahead c.args.way.cause expected fronts from k (record { left = 0; item = record { rule = 0; place = 0 } }) c.args.now.now c.loop-front.now c.loop-front-test.true
-            (λ e. let read = get_or_from_slice_get expected _ true false e in let other = w.if-begun-front.false in absurd cc) c.loop-front.invariant.put);
+            (λ e. false≢true (w.if-stands.ensures.1 e)) c.loop-front.invariant.put);
       }
     ]
 

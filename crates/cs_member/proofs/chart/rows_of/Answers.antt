@@ -1,6 +1,7 @@
 use Rattle.std.proofs.Common.{◌≡◌, ℕ, ◌+◌, ◌++◌, ◌∷◌, [], List, take, refl, sym, ap, ◌∙◌, subst, arith}
 use Rattle.std.specs.Prelude.{◌↔◌}
 use Rattle.std.proofs.lemmas.List.{take_more}
+use Rattle.cs_member.specs.Buckets.{rows_in}
 use Rattle.cs_member.specs.declared.now.Origins.{Origins}
 use Rattle.cs_member.specs.declared.chart.Row.{Row}
 use Rattle.cs_member.specs.Sets.{Has, InWords}
@@ -10,7 +11,10 @@ use Rattle.cs_member.proofs.Bucketing.{bucket_next, bucket_within, here_item, mo
 use Rattle.cs_member.proofs.chart.rows_of.Goals as goal
 
 pub loop-origin-init : goal.loop-origin-init
-loop-origin-init c = rows_none c.args.question.now.grammar.now c.in_ok-rows.rows.items (c.in_ok-rows.ensures.size ∙ ap (λ n. n + 1) c.nonterminals.ensures) c.in_ok-rows.ensures.empty
+loop-origin-init c = record {
+  buckets = c.in_ok-rows.ensures.buckets;
+  rows = rows_none c.args.question.now.grammar.now (rows_in c.in_ok-rows.rows) (c.in_ok-rows.ensures.size ∙ ap (λ n. n + 1) c.nonterminals.ensures) c.in_ok-rows.ensures.empty;
+}
 
 pub next_of-requires : goal.next_of-requires
 next_of-requires c =
@@ -21,8 +25,8 @@ next_of-requires c =
     let here : IsHere g o.item = subst (λ (r : Origins). IsHere g r.item) (sym c.origin-item.is) (c.requires.here k o c.loop-origin-test.true) in
     here_item g o.item here
 
-pub add_at-requires : goal.add_at-requires
-add_at-requires c =
+pub add-requires-clause-number : goal.add-requires-clause-number
+add-requires-clause-number c =
     let g = c.args.question.now.grammar.now in
     let origins = c.args.origins.now in
     let k = c.loop-origin.origin-index in
@@ -31,7 +35,7 @@ add_at-requires c =
     let grammar = c.rules-well_formed.ensures.well_formed in
     let bucket : BucketOf g c.awaited-bucket.result o.item = subst (λ n. BucketOf g n o.item) (sym c.awaited-bucket.ensures) (bucket_next g o.item c.next_of.result grammar c.next_of.ensures here) in
     let low = bucket_within g c.awaited-bucket.result o.item grammar bucket in
-    let size = c.loop-origin.invariant.size in
+    let size = c.loop-origin.invariant.rows.size in
     omega arith
 
 pub loop-origin-preserved : goal.loop-origin-preserved
@@ -46,7 +50,8 @@ loop-origin-preserved c =
     let row : Row = record { item = o.item; words = c.in_ok-words.words } in
     let can = moved g o.item grammar here in
     let more : take (k + 1) origins ≡ take k origins ++ o ∷ [] = take_more origins k o c.loop-origin-test.true ∙ ap (λ (r : Origins). take k origins ++ r ∷ []) (sym c.origin-item.is) in
-    subst (λ (l : List Origins). AreRows g l c.add_at.new.lists.items) (sym more)
-    (rows_push g (take k origins) o c.loop-origin.rows.items c.add_at.new.lists.items c.awaited-bucket.result row c.loop-origin.invariant c.in_ok-add_at.ensures refl
+    let rows = subst (λ (l : List Origins). AreRows g l (rows_in c.add.new.self)) (sym more)
+    (rows_push g (take k origins) o (rows_in c.loop-origin.rows) (rows_in c.add.new.self) c.awaited-bucket.result row c.loop-origin.invariant.rows c.in_ok-add.ensures.added refl
     (record { item = can.0; small = can.1; words = c.in_ok-words.ensures.short }) bucket
-    (subst (λ (l : List ℕ). (j : ℕ) → InWords row.words.items j ↔ Has l j) c.deref.ensures.value c.in_ok-words.ensures.has))
+    (subst (λ (l : List ℕ). (j : ℕ) → InWords row.words.items j ↔ Has l j) c.deref.ensures.value c.in_ok-words.ensures.has)) in
+    record { buckets = c.in_ok-add.ensures.buckets; rows = rows }

@@ -4,7 +4,7 @@ use Rattle.std.proofs.lemmas.Option.{slice_get_read}
 use Rattle.cs_grammar.proofs.Measures.{All-at}
 use Rattle.cs_member.specs.Expecting.{IsMarked}
 use Rattle.cs_member.proofs.Marking.{marks_none, marks_then, followed_one, descended}
-use Rattle.cs_member.proofs.chart.expect_corners.Goals as goal
+use Rattle.cs_member.proofs.descents.expect_corners.Goals as goal
 
 pub loop-number-init : goal.loop-number-init
 loop-number-init c = record {
@@ -13,19 +13,18 @@ loop-number-init c = record {
   followed = λ n a b list lt at at_list has. absurd (omega arith);
 }
 
-pub index-requires : goal.index-requires
-index-requires c =
+pub bounds-corners-nonterminal : goal.bounds-corners-nonterminal
+bounds-corners-nonterminal c =
     let pending = c.loop-number.pending.items in
     let i = c.loop-number.number in
     let a = c.index-nonterminal.result.now in
-    let corners = c.args.tables.now.corners.items in
+    let corners = c.args.corners.now in
     let inv = c.loop-number.invariant in
     let lt : i < length pending = (let low = c.if-number-len.false in let size = c.len.ensures in omega arith) in
     let at : slice_get pending i ≡ Some a = slice_get_read pending _ i a refl lt c.index-nonterminal.ensures in
     let inside = All-at (λ n. n < length c.loop-number.expected.items) pending i a inv.marked.within at in
     let size = inv.marks.size in
     let many = c.requires.corners.size in
-    let long = c.args.tables.now.corners.ok.0 in
     omega arith
 
 pub expect_each-requires-clause-nonterminals : goal.expect_each-requires-clause-nonterminals
@@ -33,15 +32,15 @@ expect_each-requires-clause-nonterminals c =
     let pending = c.loop-number.pending.items in
     let i = c.loop-number.number in
     let a = c.index-nonterminal.result.now in
-    let corners = c.args.tables.now.corners.items in
-    let list = c.index.result.now in
+    let corners = c.args.corners.now in
+    let list = c.index-corners-nonterminal.result in
     let inv = c.loop-number.invariant in
     let lt : i < length pending = (let low = c.if-number-len.false in let size = c.len.ensures in omega arith) in
     let at : slice_get pending i ≡ Some a = slice_get_read pending _ i a refl lt c.index-nonterminal.ensures in
     let inside = All-at (λ n. n < length c.loop-number.expected.items) pending i a inv.marked.within at in
     let size = inv.marks.size in
     let many = c.requires.corners.size in
-    let at_list : slice_get corners a ≡ Some list = slice_get_read corners _ a list refl (omega arith) c.index.ensures in
+    let at_list : slice_get corners a ≡ Some list = slice_get_read corners _ a list refl (omega arith) c.index-corners-nonterminal.is in
     subst (λ n. All (λ b. b < n) c.deref.result.now) (sym size) (subst (λ (l : List ℕ). All (λ b. b < length c.args.expected.now.items) l) (sym c.deref.ensures.value) (c.requires.corners.within a list at_list))
 
 pub loop-number-preserved : goal.loop-number-preserved
@@ -49,15 +48,15 @@ loop-number-preserved c =
     let pending = c.loop-number.pending.items in
     let i = c.loop-number.number in
     let a = c.index-nonterminal.result.now in
-    let corners = c.args.tables.now.corners.items in
-    let list = c.index.result.now in
+    let corners = c.args.corners.now in
+    let list = c.index-corners-nonterminal.result in
     let inv = c.loop-number.invariant in
     let lt : i < length pending = (let low = c.if-number-len.false in let size = c.len.ensures in omega arith) in
     let at : slice_get pending i ≡ Some a = slice_get_read pending _ i a refl lt c.index-nonterminal.ensures in
     let inside = All-at (λ n. n < length c.loop-number.expected.items) pending i a inv.marked.within at in
     let size = inv.marks.size in
     let many = c.requires.corners.size in
-    let at_list : slice_get corners a ≡ Some list = slice_get_read corners _ a list refl (omega arith) c.index.ensures in
+    let at_list : slice_get corners a ≡ Some list = slice_get_read corners _ a list refl (omega arith) c.index-corners-nonterminal.is in
     let said = c.in_ok-expect_each.ensures in
     record {
       marked = said.marked;
@@ -68,5 +67,5 @@ loop-number-preserved c =
 
 pub returns-then-number-len-clause-closed : goal.returns-then-number-len-clause-closed
 returns-then-number-len-clause-closed c =
-    descended c.args.tables.now.corners.items c.loop-number.expected.items c.loop-number.pending.items c.loop-number.number
+    descended c.args.corners.now c.loop-number.expected.items c.loop-number.pending.items c.loop-number.number
     (let ge = c.if-number-len.true in let size = c.len.ensures in let long = c.loop-number.pending.ok.0 in omega arith) c.loop-number.invariant.marked c.loop-number.invariant.followed

@@ -4,7 +4,7 @@ use Rattle.std.proofs.lemmas.List.{take_all}
 use Rattle.std.proofs.lemmas.List.Elements.{All-nil}
 use Rattle.cs_member.specs.Expecting.{IsMarked}
 use Rattle.cs_member.proofs.Marking.{marks_none, marks_then, all_marked_more}
-use Rattle.cs_member.proofs.chart.expect_each.Goals as goal
+use Rattle.cs_member.proofs.descents.expect_each.Goals as goal
 
 pub loop-nonterminal-init : goal.loop-nonterminal-init
 loop-nonterminal-init c = record {
