@@ -222,7 +222,8 @@ fn rows_of(alloc: Global, question: &Question, origins: &[Origins]) -> Result<Bu
     requires here { AreHere question.now.grammar.now origins.now }
     requires short { AreShort origins.now }
     ensures buckets { IfOk result AreBuckets }
-    ensures rows { IfOk result (λ rows. AreRows question.now.grammar.now origins.now (rows_in rows)) }
+    ensures rows { IfOk result (λ rows.
+        AreRows question.now.grammar.now origins.now (rows_in rows)) }
 {
     let _well_formed = question.grammar.rules();
     let mut rows = Buckets::new(alloc, question.grammar.nonterminals())?;
@@ -285,7 +286,8 @@ fn expected_of(
     requires here { AreHere question.now.grammar.now origins.now }
     requires descents { HasDescents question.now }
     ensures first { IfOk result (λ expected. ExpectsStart question.now first expected.items) }
-    ensures awaited { IfOk result (λ expected. AreAwaitedOf question.now origins.now expected.items) }
+    ensures awaited { IfOk result (λ expected.
+        AreAwaitedOf question.now origins.now expected.items) }
     ensures closed { IfOk result (λ expected. IsDescendedOf question.now expected.items) }
 {
     let _well_formed = question.grammar.rules();
@@ -318,7 +320,8 @@ fn settle(
     requires descents { HasDescents question.now }
     ensures buckets { IfOk result (λ position. AreBuckets position.rows) }
     ensures rows { IfOk result (AreRowsAt question.now now.now) }
-    ensures first { IfOk result (λ position. ExpectsStart question.now first position.expected.items) }
+    ensures first { IfOk result (λ position.
+        ExpectsStart question.now first position.expected.items) }
     ensures awaited { IfOk result (AreAwaitedAt question.now now.now) }
     ensures closed { IfOk result (λ position. IsDescendedOf question.now position.expected.items) }
     ensures spans { IfOk result (λ position. position.spans.items ≡ now.now.spans.items) }

@@ -68,7 +68,8 @@ fn leave_back(
 ) -> Result<(), AllocError>
     requires tables { IsTables question.now.grammar.now question.now.tables.now }
     requires back { IsBackOf question.now chart.now at from child back }
-    ensures { OnOk result (TakesBack question.now chart.now from at child back tasks.old tasks.new) }
+    ensures { OnOk result (TakesBack question.now chart.now from at child back
+        tasks.old tasks.new) }
 {
     let _well_formed = question.grammar.rules();
     tasks.push(Task::Trees {
@@ -94,7 +95,8 @@ fn take_empty(
 ) -> Result<(), AllocError>
     requires tables { IsTables question.now.grammar.now question.now.tables.now }
     requires empty { HasEmpty question.now.tables.now.empties.items (Nonterminal nonterminal) }
-    ensures { OnOk result (Takes question.now chart.now (Empty nonterminal) None tasks.old tasks.new) }
+    ensures { OnOk result (Takes question.now chart.now (Empty nonterminal) None
+        tasks.old tasks.new) }
 {
     let _well_formed = question.grammar.rules();
     let rule = question.tables.empties[nonterminal as usize];
@@ -116,7 +118,8 @@ fn take_trees(
     requires tokens { All (IsNumberOf question.now.grammar.now.tokens) question.now.tokens.now }
     requires chart { IsChartOf question.now chart.now }
     requires item { IsAt question.now.grammar.now chart.now item from at }
-    ensures { OnOk result (Takes question.now chart.now (Trees item from at) None tasks.old tasks.new) }
+    ensures { OnOk result (Takes question.now chart.now (Trees item from at) None
+        tasks.old tasks.new) }
 {
     let _well_formed = question.grammar.rules();
     if from == at {
@@ -150,7 +153,8 @@ fn take_tree(
     requires tokens { All (IsNumberOf question.now.grammar.now.tokens) question.now.tokens.now }
     requires chart { IsChartOf question.now chart.now }
     requires tree { IsChild chart.now at (Some number) }
-    ensures { OnOk result (Takes question.now chart.now (TreeOf number at) None tasks.old tasks.new) }
+    ensures { OnOk result (Takes question.now chart.now (TreeOf number at) None
+        tasks.old tasks.new) }
 {
     let _well_formed = question.grammar.rules();
     let span = chart[at as usize].spans[number];
@@ -176,7 +180,8 @@ fn take_on(
     requires tokens { All (IsNumberOf question.now.grammar.now.tokens) question.now.tokens.now }
     requires chart { IsChartOf question.now chart.now }
     requires task { IsTask question.now.grammar.now question.now.tables.now chart.now task }
-    ensures { IfOk result (λ written. Takes question.now chart.now task written tasks.old tasks.new) }
+    ensures { IfOk result (λ written.
+        Takes question.now chart.now task written tasks.old tasks.new) }
 {
     match task {
         Task::Rule(rule) => return Ok(Some(rule)),

@@ -125,7 +125,8 @@ fn tokens_of(
     requires left { IsNumberOf costs.now.grammar.nonterminals left }
     requires symbols { All (IsSymbolOf costs.now.grammar) symbols.now }
     requires least { HasLeastPlaced costs.now left symbols.now }
-    ensures placed { IfOk result (λ tokens. ArePlacedTokens costs.now left symbols.now tokens.items) }
+    ensures placed { IfOk result (λ tokens.
+        ArePlacedTokens costs.now left symbols.now tokens.items) }
     ensures tokens { IfOk result (λ tokens.
         All (IsNumberOf costs.now.grammar.tokens) tokens.items) }
     ensures few { IfOk result (λ tokens. length tokens.items ≤ 1000000) }
@@ -155,7 +156,8 @@ fn tokens_by(
 ) -> Result<Vec<u16>, AllocError>
     requires fill { CanFill grammar.now before.now symbols.now behind.now }
     requires symbols { All (IsSymbolOf grammar.now) symbols.now }
-    ensures filled { IfOk result (λ t. Fills grammar.now before.now symbols.now behind.now t.items) }
+    ensures filled { IfOk result (λ t.
+        Fills grammar.now before.now symbols.now behind.now t.items) }
     ensures tokens { IfOk result (λ tokens.
         All (IsNumberOf grammar.now.tokens) tokens.items) }
 {

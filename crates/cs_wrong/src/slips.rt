@@ -63,7 +63,8 @@ fn put_doubles(
     list: &mut Vec<Slip>,
 ) -> Result<(), AllocError>
     requires { length right.now ≤ 128 }
-    ensures { OnOk result (PutsIf rule chosen (doubles_of right.now) list.old.items list.new.items) }
+    ensures { OnOk result (PutsIf rule chosen (doubles_of right.now)
+        list.old.items list.new.items) }
 {
     if !chosen {
         return Ok(());
