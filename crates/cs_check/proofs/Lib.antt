@@ -1,2 +1,3 @@
 pub mod OnClosed
 pub mod OnPassing
+pub mod OnLines

@@ -30,7 +30,12 @@
 #![tactic(auto)]
 
 mod closed;
+mod lines;
 mod passing;
 
 pub use closed::{Set, Sets, closed_sets_exclude, closed_sets_part, exact_sets_pass};
+pub use lines::{
+    Counts, EditWords, GoalWords, Line, Names, Numbers, Quoted, RowKind, SetKind, Verdict,
+    read_line,
+};
 pub use passing::{ClaimFault, one_failure, one_line};

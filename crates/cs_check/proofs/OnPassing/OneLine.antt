@@ -15,10 +15,10 @@ use Rattle.cs_check.proofs.OnPassing.Quotes.{same_text}
 
 -- ---- the kind of a line, which its first bytes tell
 
-abbrev at : List ℕ → ℕ → ℕ
+abbrev pub at : List ℕ → ℕ → ℕ
 at text k = slice_index_or text k 0
 
-abbrev rank : Line → ℕ
+abbrev pub rank : Line → ℕ
 rank Opening = 0
 rank (Weighing weigh) = 1
 rank (TokenLine n name) = 2
@@ -38,19 +38,19 @@ rank (NegativeLine n base edit left right at) = 15
 rank (EndLine counts) = 16
 
 -- by the third, fourth and eleventh byte
-abbrev indented_rank : List ℕ → ℕ
+abbrev pub indented_rank : List ℕ → ℕ
 indented_rank text =
     cond (at text 2 == 100) 8 (cond (at text 2 == 110) (cond (at text 10 == 108) 11 12) (cond (at text 3 == 111) 9 10))
 
 -- the eighth byte of a line of a set
-abbrev is_set_byte : ℕ → Bool
+abbrev pub is_set_byte : ℕ → Bool
 is_set_byte b = cond (b == 112) true (cond (b == 114) true (b == 101))
 
 -- by the second and the eighth byte, behind a `c`
-abbrev closed_rank : List ℕ → ℕ
+abbrev pub closed_rank : List ℕ → ℕ
 closed_rank text = cond (at text 1 == 111) 0 (cond (at text 1 == 97) 7 (cond (is_set_byte (at text 7)) 5 6))
 
-abbrev tag : List ℕ → ℕ
+abbrev pub tag : List ℕ → ℕ
 tag text =
     cond (at text 0 == 32) (indented_rank text)
     (cond (at text 0 == 99) (closed_rank text)
@@ -62,7 +62,7 @@ tag text =
     (cond (at text 0 == 98) 14
     (cond (at text 0 == 110) 15 16))))))))
 
-tagged : (l : Line) → tag (joined (words l)) ≡ rank l
+pub tagged : (l : Line) → tag (joined (words l)) ≡ rank l
 tagged Opening = refl
 tagged (Weighing weigh) = refl
 tagged (TokenLine n name) = refl
@@ -94,13 +94,13 @@ tagged (EndLine counts) = refl
 -- ---- parts of lines
 
 -- words that begin otherwise are apart
-apart : (w v : List ℕ) → (at w 0 == at v 0) ≡ false → w ≡ v → ⊥
+pub apart : (w v : List ℕ) → (at w 0 == at v 0) ≡ false → w ≡ v → ⊥
 apart w v ne e = both_ways (at w 0 == at v 0) ne (eq-eqb (at w 0) (at v 0) (ap (λ (x : List ℕ). at x 0) e))
 
-abbrev head : List (List ℕ) → List ℕ
+abbrev pub head : List (List ℕ) → List ℕ
 head ws = slice_index_or ws 0 []
 
-lists_apart : (ws vs : List (List ℕ)) → (at (head ws) 0 == at (head vs) 0) ≡ false → ws ≡ vs → ⊥
+pub lists_apart : (ws vs : List (List ℕ)) → (at (head ws) 0 == at (head vs) 0) ≡ false → ws ≡ vs → ⊥
 lists_apart ws vs ne e = apart (head ws) (head vs) ne (ap head e)
 
 same_weigh : (a b : Weigh) → weigh_word a ≡ weigh_word b → a ≡ b
@@ -108,7 +108,7 @@ same_weigh Nodes Nodes e = refl
 same_weigh Bytes Bytes e = refl
 same_weigh a b e = absurd (apart (weigh_word a) (weigh_word b) refl e)
 
-weigh_free : (a : Weigh) → AreFree (weigh_word a ∷ [])
+pub weigh_free : (a : Weigh) → AreFree (weigh_word a ∷ [])
 weigh_free Nodes = (refl, tt)
 weigh_free Bytes = (refl, tt)
 
@@ -118,7 +118,7 @@ same_set Reachable Reachable e = refl
 same_set Empty Empty e = refl
 same_set a b e = absurd (apart (set_word a) (set_word b) refl e)
 
-set_free : (a : SetKind) (others : List (List ℕ)) → AreFree others → AreFree (set_word a ∷ others)
+pub set_free : (a : SetKind) (others : List (List ℕ)) → AreFree others → AreFree (set_word a ∷ others)
 set_free Productive others f = (refl, f)
 set_free Reachable others f = (refl, f)
 set_free Empty others f = (refl, f)
@@ -129,13 +129,13 @@ same_row Last Last e = refl
 same_row Next Next e = refl
 same_row a b e = absurd (apart (row_word a) (row_word b) refl e)
 
-row_free : (a : RowKind) (others : List (List ℕ)) → AreFree others → AreFree (row_word a ∷ others)
+pub row_free : (a : RowKind) (others : List (List ℕ)) → AreFree others → AreFree (row_word a ∷ others)
 row_free First others f = (refl, f)
 row_free Last others f = (refl, f)
 row_free Next others f = (refl, f)
 
 -- a goal and what stands behind it
-same_goal : (a b : GoalWords) (r s : List (List ℕ)) → goal_words a r ≡ goal_words b s → (a ≡ b) × (r ≡ s)
+pub same_goal : (a b : GoalWords) (r s : List (List ℕ)) → goal_words a r ≡ goal_words b s → (a ≡ b) × (r ≡ s)
 same_goal (OfRule r) (OfRule q) x y e =
     let n : numeral r ≡ numeral q = cc in
     let rest : x ≡ y = cc in
@@ -153,7 +153,7 @@ same_goal (OfPair a b) (OfPair c d) x y e =
     (ap (λ (w : List ℕ). OfPair w b) left ∙ ap (λ (w : List ℕ). OfPair c w) right, rest)
 same_goal a b x y e = absurd (lists_apart (goal_words a x) (goal_words b y) refl e)
 
-goal_free : (a : GoalWords) (others : List (List ℕ)) → All IsWord (goal_names a) → AreFree others → AreFree (goal_words a others)
+pub goal_free : (a : GoalWords) (others : List (List ℕ)) → All IsWord (goal_names a) → AreFree others → AreFree (goal_words a others)
 goal_free (OfRule r) others h f = (refl, (numeral_free r, f))
 goal_free (OfContext p i q) others h f = (refl, (numeral_free p, (numeral_free i, (numeral_free q, f))))
 goal_free (OfPair a b) others h f =
@@ -169,13 +169,13 @@ same_verdict Infeasible Infeasible e = refl
 same_verdict Large Large e = refl
 same_verdict a b e = absurd (lists_apart (verdict_words a) (verdict_words b) refl e)
 
-verdict_free : (a : VerdictWords) → AreFree (verdict_words a)
+pub verdict_free : (a : VerdictWords) → AreFree (verdict_words a)
 verdict_free (Feasible s c f) = (refl, (numeral_free s, (refl, (numeral_free c, (refl, (numeral_free f, tt))))))
 verdict_free Infeasible = (refl, tt)
 verdict_free Large = (refl, tt)
 
 -- an edit and what stands behind it
-same_edit : (a b : EditWords) (r s : List (List ℕ)) → edit_words a r ≡ edit_words b s → (a ≡ b) × (r ≡ s)
+pub same_edit : (a b : EditWords) (r s : List (List ℕ)) → edit_words a r ≡ edit_words b s → (a ≡ b) × (r ≡ s)
 same_edit (Deletes i) (Deletes j) x y e =
     let rest : x ≡ y = cc in
     (ap Deletes (same_numeral i j (cc)), rest)
@@ -194,7 +194,7 @@ same_edit (Swaps i) (Swaps j) x y e =
     (ap Swaps (same_numeral i j (cc)), rest)
 same_edit a b x y e = absurd (lists_apart (edit_words a x) (edit_words b y) refl e)
 
-edit_free : (a : EditWords) (others : List (List ℕ)) → All IsWord (edit_names a) → AreFree others → AreFree (edit_words a others)
+pub edit_free : (a : EditWords) (others : List (List ℕ)) → All IsWord (edit_names a) → AreFree others → AreFree (edit_words a others)
 edit_free (Deletes i) others h f = (refl, (numeral_free i, f))
 edit_free (Inserts i a) others h f = (refl, (numeral_free i, (word_free a (All-head IsWord a [] h), f)))
 edit_free (Replaces i a) others h f = (refl, (numeral_free i, (word_free a (All-head IsWord a [] h), f)))
@@ -202,7 +202,7 @@ edit_free (Swaps i) others h f = (refl, (numeral_free i, f))
 
 -- ---- lines of one kind
 
-one_name : (a : List ℕ) → All IsWord (a ∷ []) → AreFree (a ∷ [])
+pub one_name : (a : List ℕ) → All IsWord (a ∷ []) → AreFree (a ∷ [])
 one_name a h = words_free (a ∷ []) h
 
 same_token : (n m : ℕ) (a b : List ℕ) → All IsWord (a ∷ []) → All IsWord (b ∷ []) → joined (words (TokenLine n a)) ≡ joined (words (TokenLine m b)) → TokenLine n a ≡ TokenLine m b
@@ -223,16 +223,16 @@ same_rule n m a b r s h k e =
     ap (λ x. RuleLine x a r) number ∙ ap (λ (w : List ℕ). RuleLine m w r) left ∙ ap (λ (ws : List (List ℕ)). RuleLine m b ws) right
 
 -- a lexeme's text, or none
-abbrev lexeme_tail : Option (List ℕ) → List ℕ
+abbrev pub lexeme_tail : Option (List ℕ) → List ℕ
 lexeme_tail None = codes "none"
 lexeme_tail (Some text) = quoted text
 
-same_tail : (t u : Option (List ℕ)) → lexeme_tail t ≡ lexeme_tail u → t ≡ u
+pub same_tail : (t u : Option (List ℕ)) → lexeme_tail t ≡ lexeme_tail u → t ≡ u
 same_tail None None e = refl
 same_tail (Some t) (Some u) e = ap Some (same_text t u e)
 same_tail t u e = absurd (apart (lexeme_tail t) (lexeme_tail u) refl e)
 
-lexeme_text : (a : List ℕ) (t : Option (List ℕ)) → joined (words (LexemeLine a t)) ≡ codes "lexeme" ++ 32 ∷ (a ++ 32 ∷ lexeme_tail t)
+pub lexeme_text : (a : List ℕ) (t : Option (List ℕ)) → joined (words (LexemeLine a t)) ≡ codes "lexeme" ++ 32 ∷ (a ++ 32 ∷ lexeme_tail t)
 lexeme_text a None = refl
 lexeme_text a (Some t) = refl
 
@@ -306,14 +306,14 @@ same_base n m x y e =
     ap (λ k. BaseLine k x) number ∙ ap (λ k. BaseLine m k) goal
 
 -- the words of a pair and its place
-abbrev pair_words : List ℕ → List ℕ → ℕ → List (List ℕ)
+abbrev pub pair_words : List ℕ → List ℕ → ℕ → List (List ℕ)
 pair_words left right place = codes "pair" ∷ left ∷ right ∷ codes "at" ∷ numeral place ∷ []
 
-pair_free : (a b : List ℕ) (more : List (List ℕ)) (place : ℕ) → All IsWord (a ∷ b ∷ more) → AreFree (pair_words a b place)
+pub pair_free : (a b : List ℕ) (more : List (List ℕ)) (place : ℕ) → All IsWord (a ∷ b ∷ more) → AreFree (pair_words a b place)
 pair_free a b more place h =
     (refl, (word_free a (All-head IsWord a (b ∷ more) h), (word_free b (All-head IsWord b more (All-tail IsWord a (b ∷ more) h)), (refl, (numeral_free place, tt)))))
 
-negative_free : (n x : ℕ) (edit : EditWords) (a b : List ℕ) (place : ℕ) → All IsWord (a ∷ b ∷ edit_names edit) → AreFree (words (NegativeLine n x edit a b place))
+pub negative_free : (n x : ℕ) (edit : EditWords) (a b : List ℕ) (place : ℕ) → All IsWord (a ∷ b ∷ edit_names edit) → AreFree (words (NegativeLine n x edit a b place))
 negative_free n x edit a b place h =
     (refl, (numeral_free n, (refl, (numeral_free x, edit_free edit (pair_words a b place) (All-tail IsWord b (edit_names edit) (All-tail IsWord a (b ∷ edit_names edit) h)) (pair_free a b (edit_names edit) place h)))))
 
@@ -331,14 +331,14 @@ same_negative n m x y p q a b c d i j h k e =
     ap (λ z. NegativeLine z x p a b i) number ∙ ap (λ z. NegativeLine m z p a b i) base ∙ ap (λ (z : EditWords). NegativeLine m y z a b i) parts.0
     ∙ ap (λ (z : List ℕ). NegativeLine m y q z b i) left ∙ ap (λ (z : List ℕ). NegativeLine m y q c z i) right ∙ ap (λ z. NegativeLine m y q c d z) place
 
-counts_free : (c : Counts) → AreFree (words (EndLine c))
+pub counts_free : (c : Counts) → AreFree (words (EndLine c))
 counts_free c =
     (refl, (refl, (numeral_free c.goals, (refl, (numeral_free c.feasible, (refl, (numeral_free c.infeasible, (refl, (numeral_free c.large, (refl, (numeral_free c.negatives, (refl, (numeral_free c.cases, tt)))))))))))))
 
-abbrev counts_of : ℕ → ℕ → ℕ → ℕ → ℕ → ℕ → Counts
+abbrev pub counts_of : ℕ → ℕ → ℕ → ℕ → ℕ → ℕ → Counts
 counts_of g f i l n c = record { goals = g; feasible = f; infeasible = i; large = l; negatives = n; cases = c }
 
-abbrev tail_of : Counts → List (List ℕ)
+abbrev pub tail_of : Counts → List (List ℕ)
 tail_of c =
     codes "goals" ∷ numeral c.goals ∷ codes "feasible" ∷ numeral c.feasible ∷ codes "infeasible" ∷ numeral c.infeasible
     ∷ codes "large" ∷ numeral c.large ∷ codes "negatives" ∷ numeral c.negatives ∷ codes "cases" ∷ numeral c.cases ∷ []

@@ -7,13 +7,13 @@ use Rattle.std.proofs.lemmas.List.{same_from_push}
 use Rattle.std.proofs.lemmas.Nat.{div-add-mod'}
 use Rattle.cs_check.specs.Words.Words.{hexadecimal_digit, escaped, is_plain_text, text_byte, quoted}
 
-low_digit : (n : ℕ) → nat_le n 9 ≡ true → hexadecimal_digit n ≡ 48 + n
+pub low_digit : (n : ℕ) → nat_le n 9 ≡ true → hexadecimal_digit n ≡ 48 + n
 low_digit n p = cond-true (nat_le n 9) (48 + n) (87 + n) p
 
-high_digit : (n : ℕ) → nat_le n 9 ≡ false → hexadecimal_digit n ≡ 87 + n
+pub high_digit : (n : ℕ) → nat_le n 9 ≡ false → hexadecimal_digit n ≡ 87 + n
 high_digit n p = cond-false (nat_le n 9) (48 + n) (87 + n) p
 
-hex_same : (m n : ℕ) → hexadecimal_digit m ≡ hexadecimal_digit n → m ≡ n
+pub hex_same : (m n : ℕ) → hexadecimal_digit m ≡ hexadecimal_digit n → m ≡ n
 hex_same m n e =
     elim (cases_Bool (nat_le m 9)) [
       | inl p ↦
@@ -30,16 +30,16 @@ hex_same m n e =
           ])
     ]
 
-no_backslash : (b : ℕ) → is_plain_text b ≡ true → b ≡ 92 → ⊥
+pub no_backslash : (b : ℕ) → is_plain_text b ≡ true → b ≡ 92 → ⊥
 no_backslash b p e = false≢true (sym (ap is_plain_text e) ∙ p)
 
-plain : (b : ℕ) → is_plain_text b ≡ true → text_byte b ≡ b ∷ []
+pub plain : (b : ℕ) → is_plain_text b ≡ true → text_byte b ≡ b ∷ []
 plain b p = cond-true (is_plain_text b) (b ∷ []) (escaped b) p
 
-hidden : (b : ℕ) → is_plain_text b ≡ false → text_byte b ≡ escaped b
+pub hidden : (b : ℕ) → is_plain_text b ≡ false → text_byte b ≡ escaped b
 hidden b p = cond-false (is_plain_text b) (b ∷ []) (escaped b) p
 
-escaped_same : (b c : ℕ) (r s : List ℕ) → escaped b ++ r ≡ escaped c ++ s → (b ≡ c) × (r ≡ s)
+pub escaped_same : (b c : ℕ) (r s : List ℕ) → escaped b ++ r ≡ escaped c ++ s → (b ≡ c) × (r ≡ s)
 escaped_same b c r s e =
     let high : hexadecimal_digit (b / 16) ≡ hexadecimal_digit (c / 16) = cc in
     let low : hexadecimal_digit (b % 16) ≡ hexadecimal_digit (c % 16) = cc in
@@ -51,7 +51,7 @@ escaped_same b c r s e =
       rest,
     )
 
-byte_same : (b c : ℕ) (r s : List ℕ) → text_byte b ++ r ≡ text_byte c ++ s → (b ≡ c) × (r ≡ s)
+pub byte_same : (b c : ℕ) (r s : List ℕ) → text_byte b ++ r ≡ text_byte c ++ s → (b ≡ c) × (r ≡ s)
 byte_same b c r s e =
     elim (cases_Bool (is_plain_text b)) [
       | inl p ↦
@@ -75,7 +75,7 @@ byte_same b c r s e =
           ])
     ]
 
-some_bytes : (b : ℕ) (r : List ℕ) → [] ≡ text_byte b ++ r → ⊥
+pub some_bytes : (b : ℕ) (r : List ℕ) → [] ≡ text_byte b ++ r → ⊥
 some_bytes b r e =
     elim (cases_Bool (is_plain_text b)) [
       | inl p ↦ (let both : [] ≡ b ∷ r = e ∙ ap (λ (l : List ℕ). l ++ r) (plain b p) in absurd cc)

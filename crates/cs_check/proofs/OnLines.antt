@@ -1,0 +1,6 @@
+pub mod Splits
+pub mod Numerals
+pub mod Spelled
+pub mod Forms
+pub mod Indented
+pub mod First

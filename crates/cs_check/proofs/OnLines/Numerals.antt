@@ -1,0 +1,167 @@
+-- Digits without a leading zero are the numeral of the number that they spell.
+use Rattle.std.proofs.Common.{◌≡◌, ℕ, zero, suc, ◌+◌, ◌-◌, ◌*◌, ◌/◌, ◌%◌, ◌<◌, ◌≤◌, List, [], ◌∷◌, ◌++◌, map, inl, inr, refl, sym, ap, ◌∙◌, subst, arith, append_assoc}
+use Rattle.std.specs.Prelude.{nat_le, nat_lt, All}
+use Rattle.std.specs.List.{fold}
+use Rattle.std.proofs.lemmas.Bool.{cond-true, cond-false, and_from, cases_lt, cases_eq, lt-ltb, le-ltb, le-leb}
+use Rattle.std.proofs.lemmas.List.Elements.{All-head, All-tail, All-cons, All-nil, All-push, All-same}
+use Rattle.std.proofs.lemmas.Nat.{div-mul-add, mod-mul-add}
+use Rattle.cs_bytes.specs.Classes.{is_digit}
+use Rattle.cs_bytes.specs.Digits.{digit_of, number_of}
+use Rattle.cs_check.specs.Words.Words.{digits_within, numeral}
+use Rattle.cs_check.specs.Lines.Numbers.{IsDigit}
+use Rattle.cs_check.proofs.OnPassing.Words.{same_numeral}
+
+-- ---- digits of a number, one more or one fewer
+
+small_digits : (s n : ℕ) → n < 10 → digits_within (suc s) n ≡ (48 + n) ∷ []
+small_digits s n small = cond-true (nat_lt n 10) ((48 + n) ∷ []) (digits_within s (n / 10) ++ (48 + n % 10) ∷ []) (lt-ltb n 10 small)
+
+large_digits : (s n : ℕ) → 10 ≤ n → digits_within (suc s) n ≡ digits_within s (n / 10) ++ (48 + n % 10) ∷ []
+large_digits s n large = cond-false (nat_lt n 10) ((48 + n) ∷ []) (digits_within s (n / 10) ++ (48 + n % 10) ∷ []) (le-ltb n 10 large)
+
+-- more steps than enough change nothing
+same_digits : (s t n : ℕ) → n < s → n < t → digits_within s n ≡ digits_within t n
+same_digits zero t n low lower = absurd (omega (arith, low))
+same_digits (suc s) zero n low lower = absurd (omega (arith, lower))
+same_digits (suc s) (suc t) n low lower =
+    elim (cases_lt n 10) [
+      | inl small ↦ small_digits s n small ∙ sym (small_digits t n small)
+      | inr large ↦
+          (let less : n / 10 < s = omega (arith, low, large) in
+          let lesser : n / 10 < t = omega (arith, lower, large) in
+          large_digits s n large
+          ∙ ap (λ (ds : List ℕ). ds ++ (48 + n % 10) ∷ []) (same_digits s t (n / 10) less lesser)
+          ∙ sym (large_digits t n large))
+    ]
+
+-- a digit behind those of a number
+numeral_more : (v k : ℕ) → 1 ≤ v → k < 10 → numeral (v * 10 + k) ≡ numeral v ++ (48 + k) ∷ []
+numeral_more v k some low =
+    let n = v * 10 + k in
+    let whole : n / 10 ≡ v = div-mul-add v 10 k low in
+    let rest : n % 10 ≡ k = mod-mul-add v 10 k low in
+    large_digits n n (omega arith)
+    ∙ ap (λ q. digits_within n q ++ (48 + n % 10) ∷ []) whole
+    ∙ ap (λ r. digits_within n v ++ (48 + r) ∷ []) rest
+    ∙ ap (λ (ds : List ℕ). ds ++ (48 + k) ∷ []) (same_digits n (suc v) v (omega arith) (omega arith))
+
+-- ---- the number that digits spell
+
+abbrev step : ℕ → ℕ → ℕ
+step n b = n * 10 + digit_of b
+
+digit_value : (b : ℕ) → IsDigit b → digit_of b ≡ b - 48
+digit_value b d = cond-true (is_digit b) (b - 48) _ (and_from (nat_le 48 b) (nat_le b 57) (le-leb 48 b d.0) (le-leb b 57 d.1))
+
+append_none : (w : List ℕ) → w ≡ w ++ []
+append_none [] = refl
+append_none (b ∷ w) = ap (λ (l : List ℕ). b ∷ l) (append_none w)
+
+step_numeral : (v d : ℕ) (front : List ℕ) → 1 ≤ v → numeral v ≡ front → IsDigit d → numeral (step v d) ≡ front ++ d ∷ []
+step_numeral v d front some is digit =
+    let low : d - 48 < 10 = omega (arith, digit.1) in
+    let back : 48 + (d - 48) ≡ d = omega (arith, digit.0) in
+    ap (λ k. numeral (v * 10 + k)) (digit_value d digit)
+    ∙ numeral_more v (d - 48) some low
+    ∙ ap (λ b. numeral v ++ b ∷ []) back
+    ∙ ap (λ (l : List ℕ). l ++ d ∷ []) is
+
+more_numeral : (ds front : List ℕ) (v : ℕ) → 1 ≤ v → numeral v ≡ front → All IsDigit ds → numeral (fold step v ds) ≡ front ++ ds
+more_numeral [] front v some is h = is ∙ append_none front
+more_numeral (d ∷ ds) front v some is h =
+    let next : 1 ≤ step v d = omega (arith, some) in
+    more_numeral ds (front ++ d ∷ []) (step v d) next (step_numeral v d front some is (All-head IsDigit d ds h)) (All-tail IsDigit d ds h)
+    ∙ append_assoc front (d ∷ []) ds
+
+first_numeral : (d : ℕ) → IsDigit d → numeral (step 0 d) ≡ d ∷ []
+first_numeral d digit =
+    let low : d - 48 < 10 = omega (arith, digit.1) in
+    let value : step 0 d ≡ d - 48 = omega (arith, digit_value d digit) in
+    let back : 48 + (d - 48) ≡ d = omega (arith, digit.0) in
+    ap numeral value ∙ small_digits (d - 48) (d - 48) low ∙ ap (λ b. b ∷ []) back
+
+pub spelled : (d : ℕ) (ds : List ℕ) → (d ≡ 48 → ⊥) → All IsDigit (d ∷ ds) → numeral (number_of 10 (d ∷ ds)) ≡ d ∷ ds
+spelled d ds leading h =
+    let digit = All-head IsDigit d ds h in
+    let some : 1 ≤ step 0 d =
+    (let value = digit_value d digit in
+    elim (cases_eq d 48) [ inl is ↦ absurd (leading is) | inr other ↦ omega (arith, value, digit.0, other) ]) in
+    more_numeral ds (d ∷ []) (step 0 d) some (first_numeral d digit) (All-tail IsDigit d ds h)
+
+-- ---- the digits of a numeral
+
+-- the digits of n
+record Shape (n : ℕ) (ds : List ℕ) : Type 0 where
+  pub digit : ℕ
+  pub others : List ℕ
+  pub is : ds ≡ digit ∷ others
+  pub digits : All IsDigit (digit ∷ others)
+  pub leading : digit ≡ 48 → n ≡ 0
+  pub alone : n < 10 → others ≡ []
+
+small_shape : (n : ℕ) → n < 10 → Shape n ((48 + n) ∷ [])
+small_shape n small = record {
+  digit = 48 + n;
+  others = [];
+  is = refl;
+  digits = All-cons IsDigit (48 + n) [] (omega arith, omega arith) (All-nil IsDigit);
+  leading = λ zero. omega (arith, zero);
+  alone = λ low. refl;
+}
+
+large_shape : (n : ℕ) (front : List ℕ) → 10 ≤ n → Shape (n / 10) front → Shape n (front ++ (48 + n % 10) ∷ [])
+large_shape n front large s = record {
+  digit = s.digit;
+  others = s.others ++ (48 + n % 10) ∷ [];
+  is = ap (λ (l : List ℕ). l ++ (48 + n % 10) ∷ []) s.is;
+  digits = All-push IsDigit (s.digit ∷ s.others) (48 + n % 10) s.digits (omega arith, omega arith);
+  leading = λ zero. let none = s.leading zero in absurd (omega (arith, none, large));
+  alone = λ low. absurd (omega (arith, low, large));
+}
+
+shape_within : (s n : ℕ) → n < s → Shape n (digits_within s n)
+shape_within zero n low = absurd (omega (arith, low))
+shape_within (suc s) n low =
+    elim (cases_lt n 10) [
+      | inl small ↦ subst (λ (ds : List ℕ). Shape n ds) (sym (small_digits s n small)) (small_shape n small)
+      | inr large ↦
+          (let less : n / 10 < s = omega (arith, low, large) in
+          subst (λ (ds : List ℕ). Shape n ds) (sym (large_digits s n large)) (large_shape n (digits_within s (n / 10)) large (shape_within s (n / 10) less)))
+    ]
+
+shape : (n : ℕ) → Shape n (numeral n)
+shape n = shape_within (suc n) n (omega arith)
+
+pub no_numeral : (n : ℕ) → [] ≡ numeral n → ⊥
+no_numeral n e = let s = shape n in let both : [] ≡ s.digit ∷ s.others = e ∙ s.is in absurd cc
+
+pub numeral_digits : (d : ℕ) (ds : List ℕ) (n : ℕ) → d ∷ ds ≡ numeral n → All IsDigit (d ∷ ds)
+numeral_digits d ds n e = let s = shape n in All-same IsDigit (d ∷ ds) (s.digit ∷ s.others) (e ∙ s.is) s.digits
+
+pub numeral_leading : (d : ℕ) (ds : List ℕ) (n : ℕ) → d ∷ ds ≡ numeral n → d ≡ 48 → ds ≡ []
+numeral_leading d ds n e zero =
+    let s = shape n in
+    let both : d ∷ ds ≡ s.digit ∷ s.others = e ∙ s.is in
+    let first : s.digit ≡ 48 = cc in
+    let none = s.leading first in
+    let low : n < 10 = omega (arith, none) in
+    let alone = s.alone low in
+    cc
+
+-- the number that a numeral spells
+pub number_numeral : (n : ℕ) → number_of 10 (numeral n) ≡ n
+number_numeral n =
+    let s = shape n in
+    elim (cases_eq s.digit 48) [
+      | inl zero ↦
+          (let none = s.leading zero in
+          let same : numeral n ≡ numeral 0 = ap numeral none in
+          ap (number_of 10) same ∙ sym none)
+      | inr leading ↦
+          (let whole = spelled s.digit s.others leading s.digits in
+          ap (number_of 10) s.is ∙ same_numeral (number_of 10 (s.digit ∷ s.others)) n (whole ∙ sym s.is))
+    ]
+
+pub numbers_numerals : (ns : List ℕ) → map (number_of 10) (map numeral ns) ≡ ns
+numbers_numerals [] = refl
+numbers_numerals (n ∷ ns) = ap (λ k. k ∷ map (number_of 10) (map numeral ns)) (number_numeral n) ∙ ap (λ (l : List ℕ). n ∷ l) (numbers_numerals ns)

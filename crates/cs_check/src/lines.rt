@@ -1,0 +1,28 @@
+//! The lines of a manifest of the second format, looked at in place: what each says, with names as they stand there.
+//!
+//! A line is taken word by word: `words` has what stands between its spaces, `word` tells which words are names and numbers,
+//! and each form is read by a function of its own. No call takes memory but `Quoted::bytes`.
+//!
+//! Meaning: `specs/Lines/`. `Texts` says which bytes are which line, `Read` what the code's lines tell of them. `Splits` has
+//! the words of a text.
+
+mod entries;
+mod head;
+mod indented;
+mod keyword;
+mod line;
+mod names;
+mod numbers;
+mod parts;
+mod quoted;
+mod reading;
+mod spelled;
+mod steps;
+mod word;
+mod words;
+
+pub use line::{Counts, EditWords, GoalWords, Line, RowKind, SetKind, Verdict};
+pub use names::Names;
+pub use numbers::Numbers;
+pub use quoted::Quoted;
+pub use reading::read_line;

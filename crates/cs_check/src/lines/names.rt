@@ -1,0 +1,40 @@
+// Names behind a space each, up to the end of a line.
+
+use crate::lines::word::is_name;
+use crate::lines::words::Words;
+
+/// Names that are still to be given, one by one.
+#[derive(Clone, Copy)]
+pub struct Names<'m> {
+    words: Words<'m>,
+}
+
+impl<'m> Names<'m> {
+    ghost use Rattle.std.specs.Prelude.{◌≡◌, [], ◌∷◌, MatchOption, All};
+    ghost use Rattle.cs_check.specs.Words.Words.{IsWord};
+    ghost use Rattle.cs_check.specs.Lines.Splits.{words_behind};
+    ghost use Rattle.cs_check.specs.Lines.Read.{names_in};
+
+    // The names of which the rest of a line is made, if it is.
+    pub(crate) fn new(words: Words<'m>) -> Option<Names<'m>>
+        ensures { MatchOption
+            result
+            (All IsWord (words_behind words.entry.rest.now) → ⊥)
+            (λ names. All IsWord (names_in names) × (names_in names ≡ words_behind words.entry.rest.now)) }
+    {
+        let mut rest = words;
+        while let Some(word) = rest.next() {
+            if !is_name(word) {
+                return None;
+            }
+        }
+        Some(Names { words })
+    }
+
+    /// Takes the next name away.
+    pub fn next(&mut self) -> Option<&'m [u8]>
+        ensures { MatchOption result (names_in self.old ≡ []) (λ name. names_in self.old ≡ name.now ∷ names_in self.new) }
+    {
+        self.words.next()
+    }
+}

@@ -1,0 +1,43 @@
+// Numbers behind a space each, up to the end of a line.
+
+use crate::lines::word::{number_in, number_of};
+use crate::lines::words::Words;
+
+/// Numbers that are still to be given, one by one. The greatest of `u64` stands for all above, too.
+#[derive(Clone, Copy)]
+pub struct Numbers<'m> {
+    words: Words<'m>,
+}
+
+impl<'m> Numbers<'m> {
+    ghost use Rattle.std.specs.Prelude.{◌≡◌, ℕ, List, [], ◌∷◌, map, MatchOption};
+    ghost use Rattle.cs_check.specs.Words.Words.{numeral};
+    ghost use Rattle.cs_check.specs.Lines.Splits.{words_behind};
+    ghost use Rattle.cs_check.specs.Lines.Numbers.{IsRead};
+    ghost use Rattle.cs_check.specs.Lines.Read.{numbers_in};
+
+    // The numbers of which the rest of a line is made, if it is.
+    pub(crate) fn new(words: Words<'m>) -> Option<Numbers<'m>>
+        ensures { MatchOption
+            result
+            ((ns : List ℕ) → words_behind words.entry.rest.now ≡ map numeral ns → ⊥)
+            (λ numbers. map numeral (numbers_in numbers) ≡ words_behind words.entry.rest.now) }
+    {
+        let mut rest = words;
+        while let Some(word) = rest.next() {
+            let _number = number_of(word)?;
+        }
+        Some(Numbers { words })
+    }
+
+    /// Takes the next number away.
+    pub fn next(&mut self) -> Option<u64>
+        ensures { MatchOption
+            result
+            (numbers_in self.old ≡ [])
+            (λ read. (n : ℕ) × IsRead n read × (numbers_in self.old ≡ n ∷ numbers_in self.new)) }
+    {
+        let word = self.words.next()?;
+        Some(number_in(word))
+    }
+}

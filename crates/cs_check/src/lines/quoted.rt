@@ -1,0 +1,56 @@
+// A text between double quotes.
+
+use crate::lines::spelled::{are_spelled, front_byte};
+use std::alloc::{AllocError, Global};
+
+/// A text as it stands between double quotes.
+#[derive(Clone, Copy)]
+pub struct Quoted<'m> {
+    spelled: &'m [u8],
+}
+
+impl<'m> Quoted<'m> {
+    ghost use Rattle.std.specs.Prelude.{◌≡◌, ℕ, List, length, MatchOption, IfOk};
+    ghost use Rattle.cs_pattern_parts.specs.Items.StandsFor.{AreBytes};
+    ghost use Rattle.cs_check.specs.Words.Words.{quoted};
+    ghost use Rattle.cs_check.specs.Lines.Read.{IsText};
+
+    // The text that these bytes are with its quotes.
+    pub(crate) fn new(bytes: &'m [u8]) -> Option<Quoted<'m>>
+        ensures { MatchOption
+            result
+            ((text : List ℕ) → AreBytes text → bytes.entry.now ≡ quoted text → ⊥)
+            (λ q. (text : List ℕ) × IsText q text × (bytes.entry.now ≡ quoted text)) }
+    {
+        match bytes {
+            [b'"', spelled @ .., b'"'] if are_spelled(spelled) => Some(Quoted { spelled }),
+            _ => None,
+        }
+    }
+
+    /// How many bytes the text has.
+    pub fn len(self) -> usize
+        ensures { (text : List ℕ) → IsText self.entry text → result ≡ length text }
+    {
+        let mut len = 0;
+        let mut rest = self.spelled;
+        while let Some(front) = front_byte(rest) {
+            len += 1;
+            rest = &rest[front.size..];
+        }
+        len
+    }
+
+    /// The bytes of the text.
+    pub fn bytes(self, alloc: Global) -> Result<Vec<u8>, AllocError>
+        ensures { IfOk result (λ bytes. (text : List ℕ) → IsText self.entry text → bytes.items ≡ text) }
+    {
+        let mut bytes = Vec::with_capacity(alloc, self.spelled.len())?;
+        let mut rest = self.spelled;
+        while let Some(front) = front_byte(rest) {
+            bytes.push(front.byte)?;
+            rest = &rest[front.size..];
+        }
+        Ok(bytes)
+    }
+}

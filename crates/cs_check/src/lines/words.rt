@@ -1,0 +1,49 @@
+// What is left of a line, taken word by word.
+
+ghost use Rattle.std.specs.Prelude.{◌≡◌, [], ◌∷◌, MatchOption};
+ghost use Rattle.cs_check.specs.Lines.Splits.{split, words_behind};
+
+use cs_bytes::{ByteClass, run_len};
+
+/// The rest of a line: nothing, or a space and what stands behind it.
+#[derive(Clone, Copy)]
+pub(crate) struct Words<'m> {
+    pub(crate) rest: &'m [u8],
+}
+
+/// The first word of a text, and what stands behind it.
+#[derive(Clone, Copy)]
+pub(crate) struct FirstWord<'m> {
+    pub(crate) word: &'m [u8],
+    pub(crate) behind: Words<'m>,
+}
+
+/// The first word of a text.
+pub(crate) fn first_word(text: &[u8]) -> FirstWord<'_>
+    ensures { split text.now ≡ result.word.now ∷ words_behind result.behind.rest.now }
+{
+    let size = run_len(text, ByteClass::Not(b' '));
+    FirstWord {
+        word: &text[..size],
+        behind: Words {
+            rest: &text[size..],
+        },
+    }
+}
+
+impl<'m> Words<'m> {
+    /// Takes the next word away.
+    pub(crate) fn next(&mut self) -> Option<&'m [u8]>
+        ensures { MatchOption
+            result
+            (words_behind self.old.rest.now ≡ [])
+            (λ word. words_behind self.old.rest.now ≡ word.now ∷ words_behind self.new.rest.now) }
+    {
+        let [b' ', text @ ..] = self.rest else {
+            return None;
+        };
+        let first = first_word(text);
+        *self = first.behind;
+        Some(first.word)
+    }
+}
