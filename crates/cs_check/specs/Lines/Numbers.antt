@@ -1,5 +1,5 @@
 -- Which words are numbers, and which number the code tells of one that a line says.
-use Rattle.std.specs.Prelude.{◌≡◌, ◌≤◌, ℕ, min, List}
+use Rattle.std.specs.Prelude.{◌≡◌, ◌≤◌, ℕ, min, List, map}
 use Rattle.cs_check.specs.Words.Words.{numeral}
 
 -- `0` to `9`
@@ -9,6 +9,10 @@ IsDigit b = (48 ≤ b) × (b ≤ 57)
 -- the word is the numeral of some number
 abbrev pub IsNumeral : List ℕ → Type 0
 IsNumeral word = (n : ℕ) × (word ≡ numeral n)
+
+-- the words are numerals
+abbrev pub AreNumerals : List (List ℕ) → Type 0
+AreNumerals words = (ns : List ℕ) × (words ≡ map numeral ns)
 
 -- the greatest number that is told; it stands for all above, too
 abbrev pub greatest : ℕ

@@ -10,17 +10,17 @@ pub struct Numbers<'m> {
 }
 
 impl<'m> Numbers<'m> {
-    ghost use Rattle.std.specs.Prelude.{◌≡◌, ℕ, List, [], ◌∷◌, map, MatchOption};
+    ghost use Rattle.std.specs.Prelude.{◌≡◌, ℕ, [], ◌∷◌, map, MatchOption};
     ghost use Rattle.cs_check.specs.Words.Words.{numeral};
     ghost use Rattle.cs_check.specs.Lines.Splits.{words_behind};
-    ghost use Rattle.cs_check.specs.Lines.Numbers.{IsRead};
+    ghost use Rattle.cs_check.specs.Lines.Numbers.{AreNumerals, IsRead};
     ghost use Rattle.cs_check.specs.Lines.Read.{numbers_in};
 
     // The numbers of which the rest of a line is made, if it is.
     pub(crate) fn new(words: Words<'m>) -> Option<Numbers<'m>>
         ensures { MatchOption
             result
-            ((ns : List ℕ) → words_behind words.entry.rest.now ≡ map numeral ns → ⊥)
+            (AreNumerals (words_behind words.entry.rest.now) → ⊥)
             (λ numbers. map numeral (numbers_in numbers) ≡ words_behind words.entry.rest.now) }
     {
         let mut rest = words;
