@@ -4,3 +4,4 @@ pub mod Spelled
 pub mod Forms
 pub mod Indented
 pub mod First
+pub mod Parts

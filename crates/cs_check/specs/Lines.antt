@@ -5,3 +5,4 @@ pub mod Keywords
 pub mod Numbers
 pub mod Spelled
 pub mod Read
+pub mod Taken

@@ -3,8 +3,9 @@
 //! A line is taken word by word: `words` has what stands between its spaces, `word` tells which words are names and numbers,
 //! and each form is read by a function of its own. No call takes memory but `Quoted::bytes`.
 //!
-//! Meaning: `specs/Lines/`. `Texts` says which bytes are which line, `Read` what the code's lines tell of them. `Splits` has
-//! the words of a text.
+//! Meaning, in `specs/Lines/`: `Line` and `Texts` say which bytes are which line, `Read` what the code's lines tell of them,
+//! `Numbers` how numbers are told. Working words: `Splits` has the words of a text, `Keywords` those in front, `Spelled` texts
+//! between quotes, `Taken` what is taken of a line.
 
 mod entries;
 mod head;

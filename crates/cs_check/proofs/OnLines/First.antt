@@ -1,13 +1,12 @@
 -- The first word of a line is one of twelve.
-use Rattle.std.proofs.Common.{◌≡◌, ℕ, true, false, List, [], ◌∷◌, ◌++◌, Option, None, Some, refl, sym, ap, ◌∙◌, subst}
+use Rattle.std.proofs.Common.{◌≡◌, ℕ, true, List, [], ◌∷◌, ◌++◌, Option, None, Some, refl, sym, ap, ◌∙◌, subst}
 use Rattle.std.specs.Prelude.{MatchOption}
 use Rattle.cs_check.specs.declared.lines.keyword.Keyword.{Keyword}
 use Rattle.cs_check.specs.declared.lines.keyword.Keyword.TheVariants as first
 use Rattle.cs_check.specs.declared.lines.line.Line as held
-use Rattle.cs_check.specs.Words.Words.{line}
 use Rattle.cs_check.specs.Lines.Line.{Line, Opening, Weighing, TokenLine, RuleLine, LexemeLine, SetLine, RowLine, CaseLine, DeriveLine, TokensLine, TextLine, NoLexemeLine, NoScanLine, GoalLine, BaseLine, NegativeLine, EndLine}
 use Rattle.cs_check.specs.Lines.Splits.{split}
-use Rattle.cs_check.specs.Lines.Texts.{joined, words, Says}
+use Rattle.cs_check.specs.Lines.Texts.{joined, words}
 use Rattle.cs_check.specs.Lines.Keywords.{keyword}
 use Rattle.cs_check.specs.Lines.Read.{IsReadAs, SaysNone, Answers}
 use Rattle.cs_check.proofs.OnPassing.Words.{free, AreFree}

@@ -1,18 +1,20 @@
 -- What words a line of each form has, and that such words are the line.
-use Rattle.std.proofs.Common.{◌≡◌, ℕ, cond, ◌⊎◌, inl, inr, List, [], ◌∷◌, ◌++◌, Option, None, Some, refl, sym, ap, ◌∙◌, arith}
+use Rattle.std.proofs.Common.{◌≡◌, ℕ, cond, ◌⊎◌, inl, inr, List, [], ◌∷◌, ◌++◌, Option, None, Some, refl, sym, ap, ◌∙◌, subst, arith}
 use Rattle.std.specs.Prelude.{codes, All}
 use Rattle.std.proofs.lemmas.Bool.{cases_cond}
 use Rattle.std.proofs.lemmas.List.{same_from_push}
-use Rattle.std.proofs.lemmas.List.Elements.{All-head, All-tail}
+use Rattle.std.proofs.lemmas.List.Elements.{All-nil, All-cons, All-head, All-tail}
 use Rattle.cs_choices.specs.declared.weigh.Weigh.{Weigh}
 use Rattle.cs_pattern_parts.specs.Items.StandsFor.{AreBytes}
 use Rattle.cs_check.specs.Words.Words.{line, numeral, IsWord}
 use Rattle.cs_check.specs.Words.Edits.{EditWords}
 use Rattle.cs_check.specs.Lines.Line.{SetKind, RowKind, GoalWords, VerdictWords, Counts, Line, Opening, Weighing, TokenLine, RuleLine, LexemeLine, SetLine, RowLine, CaseLine, GoalLine, BaseLine, NegativeLine, EndLine}
 use Rattle.cs_check.specs.Lines.Texts.{joined, weigh_word, set_word, row_word, goal_words, verdict_words, edit_words, words, edit_names, goal_names, names, text_in, Says}
+use Rattle.cs_check.specs.Lines.Spelled.{spelled_or_none, bytes_in}
 use Rattle.cs_check.proofs.OnPassing.Words.{AreFree, joined_same, word_free, words_free, numeral_free}
-use Rattle.cs_check.proofs.OnPassing.OneLine.{at, is_set_byte, rank, tag, tagged, weigh_free, set_free, row_free, goal_free, verdict_free, edit_free, negative_free, pair_words, counts_free, one_name, lexeme_tail, lexeme_text, tail_of}
+use Rattle.cs_check.proofs.OnPassing.OneLine.{at, is_set_byte, rank, tag, tagged, weigh_free, set_free, row_free, goal_free, verdict_free, negative_free, pair_words, counts_free, one_name, lexeme_text, tail_of}
 use Rattle.cs_check.proofs.OnLines.Splits.{tail, joined_tail, next_word}
+use Rattle.cs_check.proofs.OnLines.Parts.{same_front, same_behind, set_not_row}
 
 -- ---- words that are a line
 
@@ -96,15 +98,15 @@ pub record OfLexeme (ws : List (List ℕ)) : Type 0 where
   pub text : Option (List ℕ)
   pub others : List (List ℕ)
   pub is_word : IsWord name
-  pub are_bytes : AreBytes (text_in (LexemeLine name text))
+  pub are_bytes : AreBytes (bytes_in text)
   pub is : ws ≡ name ∷ others
   pub some : others ≡ [] → ⊥
-  pub behind : joined others ≡ lexeme_tail text
+  pub behind : joined others ≡ spelled_or_none text
 
-lexeme_parts : (ws : List (List ℕ)) (name : List ℕ) (text : Option (List ℕ)) → AreFree ws → IsWord name → AreBytes (text_in (LexemeLine name text)) → joined ws ≡ name ++ 32 ∷ lexeme_tail text → (ws ≡ [] → ⊥) → OfLexeme ws
+lexeme_parts : (ws : List (List ℕ)) (name : List ℕ) (text : Option (List ℕ)) → AreFree ws → IsWord name → AreBytes (bytes_in text) → joined ws ≡ name ++ 32 ∷ spelled_or_none text → (ws ≡ [] → ⊥) → OfLexeme ws
 lexeme_parts [] name text f is_word are_bytes e some = absurd (some refl)
 lexeme_parts (w ∷ ws) name text f is_word are_bytes e some =
-    let parts = next_word name (lexeme_tail text) w ws f (word_free name is_word) e in
+    let parts = next_word name (spelled_or_none text) w ws f (word_free name is_word) e in
     record {
       name = name;
       text = text;
@@ -116,14 +118,34 @@ lexeme_parts (w ∷ ws) name text f is_word are_bytes e some =
       behind = parts.behind;
     }
 
+lexeme_bytes : (name : List ℕ) (text : Option (List ℕ)) → AreBytes (text_in (LexemeLine name text)) → AreBytes (bytes_in text)
+lexeme_bytes name None b = b
+lexeme_bytes name (Some text) b = b
+
 lexeme_from : (ws : List (List ℕ)) (l : Line) → rank l ≡ 4 → AreFree ws → All IsWord (names l) → AreBytes (text_in l) → joined (codes "lexeme" ∷ ws) ≡ joined (words l) → OfLexeme ws
 lexeme_from ws (LexemeLine name text) r f h b e =
-    let parts = next_word (codes "lexeme") (name ++ 32 ∷ lexeme_tail text) (codes "lexeme") ws (refl, f) refl (e ∙ lexeme_text name text) in
-    lexeme_parts ws name text f (All-head IsWord name [] h) b parts.behind parts.some
+    let parts = next_word (codes "lexeme") (name ++ 32 ∷ spelled_or_none text) (codes "lexeme") ws (refl, f) refl (e ∙ lexeme_text name text) in
+    lexeme_parts ws name text f (All-head IsWord name [] h) (lexeme_bytes name text b) parts.behind parts.some
 lexeme_from ws l r f h b e = absurd (omega (arith, r))
 
 pub lexeme_words : (ws : List (List ℕ)) (l : Line) → AreFree ws → Says (line (joined (codes "lexeme" ∷ ws))) l → OfLexeme ws
 lexeme_words ws l f h = lexeme_from ws l (ranked (codes "lexeme") ws l 4 refl h) f h.are_words h.are_bytes (says_text (joined (codes "lexeme" ∷ ws)) l h)
+
+bytes_lexeme : (name : List ℕ) (text : Option (List ℕ)) → AreBytes (bytes_in text) → AreBytes (text_in (LexemeLine name text))
+bytes_lexeme name None b = b
+bytes_lexeme name (Some text) b = b
+
+lexeme_joined : (ws behind : List (List ℕ)) (name text : List ℕ) → ws ≡ name ∷ behind → (behind ≡ [] → ⊥) → joined behind ≡ text → joined (codes "lexeme" ∷ ws) ≡ codes "lexeme" ++ 32 ∷ (name ++ 32 ∷ text)
+lexeme_joined ws [] name text is some e = absurd (some refl)
+lexeme_joined ws (v ∷ vs) name text is some e =
+    ap (λ (us : List (List ℕ)). joined (codes "lexeme" ∷ us)) is ∙ ap (λ (t : List ℕ). codes "lexeme" ++ 32 ∷ (name ++ 32 ∷ t)) e
+
+pub says_lexeme : (ws behind : List (List ℕ)) (name : List ℕ) (text : Option (List ℕ)) → IsWord name → AreBytes (bytes_in text) → ws ≡ name ∷ behind → (behind ≡ [] → ⊥) → joined behind ≡ spelled_or_none text → Says (line (joined (codes "lexeme" ∷ ws))) (LexemeLine name text)
+says_lexeme ws behind name text is_word are_bytes is some e = record {
+  text = ap line (lexeme_joined ws behind name (spelled_or_none text) is some e ∙ sym (lexeme_text name text));
+  are_words = All-cons IsWord name [] is_word (All-nil IsWord);
+  are_bytes = bytes_lexeme name text are_bytes;
+}
 
 pub record OfSet (ws : List (List ℕ)) : Type 0 where
   pub kind : SetKind
@@ -159,6 +181,28 @@ closed_words ws l f h =
     let is_set = is_set_byte (at (codes "closed" ++ tail ws) 7) in
     let either = cases_cond is_set 5 6 (rank l) (ranked (codes "closed") ws l (cond is_set 5 6) refl h) in
     closed_from ws l either f h.are_words (says_text (joined (codes "closed" ∷ ws)) l h)
+
+pub set_words : (kind : SetKind) (ws : List (List ℕ)) (l : Line) → AreFree ws → Says (line (joined (codes "closed" ∷ set_word kind ∷ ws))) l → All IsWord ws
+set_words kind ws l f h =
+    elim (closed_words (set_word kind ∷ ws) l (set_free kind ws f) h) [
+      | inl set ↦ subst (All IsWord) (sym (same_behind refl set.is)) set.are_words
+      | inr row ↦ absurd (set_not_row kind row.kind (same_front refl row.is))
+    ]
+
+-- a name, `:` and names
+pub record OfNamed (ws : List (List ℕ)) : Type 0 where
+  pub name : List ℕ
+  pub named : List (List ℕ)
+  pub is_word : IsWord name
+  pub are_words : All IsWord named
+  pub is : ws ≡ name ∷ codes ":" ∷ named
+
+pub row_words : (kind : RowKind) (ws : List (List ℕ)) (l : Line) → AreFree ws → Says (line (joined (codes "closed" ∷ row_word kind ∷ ws))) l → OfNamed ws
+row_words kind ws l f h =
+    elim (closed_words (row_word kind ∷ ws) l (row_free kind ws f) h) [
+      | inl set ↦ absurd (set_not_row set.kind kind (same_front set.is refl))
+      | inr row ↦ record { name = row.name; named = row.named; is_word = row.is_word; are_words = row.are_words; is = same_behind refl row.is }
+    ]
 
 -- ---- lines behind the head
 

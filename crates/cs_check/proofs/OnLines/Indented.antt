@@ -1,16 +1,17 @@
 -- What words an indented line has.
-use Rattle.std.proofs.Common.{◌≡◌, ℕ, cond, ◌⊎◌, inl, inr, List, [], ◌∷◌, ◌++◌, None, Some, map, refl, sym, ap, ◌∙◌, subst, arith}
+use Rattle.std.proofs.Common.{◌≡◌, ℕ, false, cond, ◌⊎◌, inl, inr, List, [], ◌∷◌, ◌++◌, None, Some, map, refl, sym, ap, ◌∙◌, arith}
 use Rattle.std.specs.Prelude.{◌==◌, codes, All}
 use Rattle.std.proofs.lemmas.Bool.{both_ways, eq-eqb, cases_cond}
-use Rattle.std.proofs.lemmas.List.Elements.{All-head}
+use Rattle.std.proofs.lemmas.List.Elements.{All-nil, All-head}
 use Rattle.cs_pattern_parts.specs.Items.StandsFor.{AreBytes}
 use Rattle.cs_check.specs.Words.Words.{line, numeral, quoted, IsWord}
 use Rattle.cs_check.specs.Lines.Line.{Line, LexemeLine, DeriveLine, TokensLine, TextLine, NoLexemeLine, NoScanLine}
 use Rattle.cs_check.specs.Lines.Texts.{joined, words, names, text_in, Says}
 use Rattle.cs_check.proofs.OnPassing.Words.{free, AreFree, joined_same, words_free, numeral_free, numerals_free}
-use Rattle.cs_check.proofs.OnPassing.OneLine.{at, rank, tag, tagged, one_name}
+use Rattle.cs_check.proofs.OnPassing.OneLine.{at, rank, tag, tagged, apart, one_name}
 use Rattle.cs_check.proofs.OnLines.Splits.{tail, joined_tail, next_word}
 use Rattle.cs_check.proofs.OnLines.Forms.{says_text}
+use Rattle.cs_check.proofs.OnLines.Parts.{same_front, same_behind, same_behind_two}
 
 indented_ranked : (w : List ℕ) (ws : List (List ℕ)) (l : Line) (r : ℕ) → tag (32 ∷ 32 ∷ (w ++ tail ws)) ≡ r → Says (line (joined ([] ∷ [] ∷ w ∷ ws))) l → rank l ≡ r
 indented_ranked w ws l r is h =
@@ -69,6 +70,17 @@ pub text_words : (ws : List (List ℕ)) (l : Line) → AreFree ws → Says (line
 text_words ws l f h =
     text_from ws l (indented_ranked (codes "text") ws l 10 refl h) f h.are_bytes (says_text (joined ([] ∷ [] ∷ codes "text" ∷ ws)) l h)
 
+text_joined : (ws : List (List ℕ)) (text : List ℕ) → (ws ≡ [] → ⊥) → joined ws ≡ text → joined ([] ∷ [] ∷ codes "text" ∷ ws) ≡ 32 ∷ 32 ∷ (codes "text" ++ 32 ∷ text)
+text_joined [] text some e = absurd (some refl)
+text_joined (v ∷ vs) text some e = ap (λ (t : List ℕ). 32 ∷ 32 ∷ (codes "text" ++ 32 ∷ t)) e
+
+pub says_text_line : (ws : List (List ℕ)) (text : List ℕ) → AreBytes text → (ws ≡ [] → ⊥) → joined ws ≡ quoted text → Says (line (joined ([] ∷ [] ∷ codes "text" ∷ ws))) (TextLine text)
+says_text_line ws text are_bytes some e = record {
+  text = ap line (text_joined ws (quoted text) some e);
+  are_words = All-nil IsWord;
+  are_bytes = are_bytes;
+}
+
 -- ---- why there is no text
 
 pub record OfNoLexeme (ws : List (List ℕ)) : Type 0 where
@@ -100,6 +112,53 @@ no_text_words ws l f h =
     let is_lexeme = at (32 ∷ 32 ∷ (codes "no" ++ tail ws)) 10 == 108 in
     let either = cases_cond is_lexeme 11 12 (rank l) (indented_ranked (codes "no") ws l (cond is_lexeme 11 12) refl h) in
     no_text_from ws l either f h.are_words (says_text (joined ([] ∷ [] ∷ codes "no" ∷ ws)) l h)
+
+pub record OfName (ws : List (List ℕ)) : Type 0 where
+  pub name : List ℕ
+  pub is_word : IsWord name
+  pub is : ws ≡ name ∷ []
+
+pub record OfNumber (ws : List (List ℕ)) : Type 0 where
+  pub number : ℕ
+  pub is : ws ≡ numeral number ∷ []
+
+pub no_lexeme_words : (ws : List (List ℕ)) (l : Line) → AreFree ws → Says (line (joined ([] ∷ [] ∷ codes "no" ∷ codes "text" ∷ codes "lexeme" ∷ ws))) l → OfName ws
+no_lexeme_words ws l f h =
+    elim (no_text_words (codes "text" ∷ codes "lexeme" ∷ ws) l (refl, (refl, f)) h) [
+      | inl lexeme ↦ record { name = lexeme.name; is_word = lexeme.is_word; is = same_behind_two refl lexeme.is }
+      | inr scan ↦ absurd (apart (codes "lexeme") (codes "scan") refl (same_front refl (same_behind refl scan.is)))
+    ]
+
+pub no_scan_words : (ws : List (List ℕ)) (l : Line) → AreFree ws → Says (line (joined ([] ∷ [] ∷ codes "no" ∷ codes "text" ∷ codes "scan" ∷ ws))) l → OfNumber ws
+no_scan_words ws l f h =
+    elim (no_text_words (codes "text" ∷ codes "scan" ∷ ws) l (refl, (refl, f)) h) [
+      | inl lexeme ↦ absurd (apart (codes "scan") (codes "lexeme") refl (same_front refl (same_behind refl lexeme.is)))
+      | inr scan ↦ record { number = scan.after; is = same_behind_two refl scan.is }
+    ]
+
+-- the word behind `text` is one of two
+pub no_reason : (word : List ℕ) (behind all : List (List ℕ)) → all ≡ codes "text" ∷ word ∷ behind → (word ≡ codes "lexeme" → ⊥) → (word ≡ codes "scan" → ⊥) → OfNoText all → ⊥
+no_reason word behind all p n m either =
+    elim either [
+      | inl lexeme ↦ n (same_front refl (same_behind p lexeme.is))
+      | inr scan ↦ m (same_front refl (same_behind p scan.is))
+    ]
+
+-- there is a word behind `text`
+pub some_reason : (behind all : List (List ℕ)) → all ≡ codes "text" ∷ behind → behind ≡ [] → OfNoText all → ⊥
+some_reason behind all p none either =
+    elim either [
+      | inl lexeme ↦ (let both : [] ≡ codes "lexeme" ∷ lexeme.name ∷ [] = sym none ∙ same_behind p lexeme.is in absurd cc)
+      | inr scan ↦ (let both : [] ≡ codes "scan" ∷ numeral scan.after ∷ [] = sym none ∙ same_behind p scan.is in absurd cc)
+    ]
+
+-- it is `text`
+pub text_word : (all : List (List ℕ)) → OfNoText all → (others : List (List ℕ)) × (all ≡ codes "text" ∷ others)
+text_word all either =
+    elim either [
+      | inl lexeme ↦ (codes "lexeme" ∷ lexeme.name ∷ [], lexeme.is)
+      | inr scan ↦ (codes "scan" ∷ numeral scan.after ∷ [], scan.is)
+    ]
 
 -- ---- an indented line begins with two empty words, and with a word that tells its form
 
@@ -152,26 +211,27 @@ same_first w vs ws f two = let same = joined_same two.word two.others w vs two.a
 indented_from : (ws : List (List ℕ)) (l : Line) → AreFree ws → All IsWord (names l) → joined ([] ∷ ws) ≡ joined (words l) → OfIndented ws
 indented_from ws (DeriveLine rules) f h e =
     let two = two_empty (joined (codes "derive" ∷ map numeral rules)) ws f e in
-    let known = Derivation {word = two.word} (same_first (codes "derive") (map numeral rules) ws (refl, numerals_free rules) two) in
+    let known : IsKnown two.word = Derivation (same_first (codes "derive") (map numeral rules) ws (refl, numerals_free rules) two) in
     record { word = two.word; others = two.others; is = two.is; known = known }
 indented_from ws (TokensLine named) f h e =
     let two = two_empty (joined (codes "tokens" ∷ named)) ws f e in
-    let known = Tokens {word = two.word} (same_first (codes "tokens") named ws (refl, words_free named h) two) in
+    let known : IsKnown two.word = Tokens (same_first (codes "tokens") named ws (refl, words_free named h) two) in
     record { word = two.word; others = two.others; is = two.is; known = known }
 indented_from ws (TextLine text) f h e =
     let two = two_empty (codes "text" ++ 32 ∷ quoted text) ws f e in
     let parts = next_word (codes "text") (quoted text) two.word two.others two.are_free refl two.behind in
-    record { word = two.word; others = two.others; is = two.is; known = Text {word = two.word} parts.same }
+    let known : IsKnown two.word = Text parts.same in
+    record { word = two.word; others = two.others; is = two.is; known = known }
 indented_from ws (NoLexemeLine name) f h e =
     let others = codes "text" ∷ codes "lexeme" ∷ name ∷ [] in
     let two = two_empty (joined (codes "no" ∷ others)) ws f e in
     let free = one_name name h in
-    let known = NoText {word = two.word} (same_first (codes "no") others ws (refl, (refl, (refl, free))) two) in
+    let known : IsKnown two.word = NoText (same_first (codes "no") others ws (refl, (refl, (refl, free))) two) in
     record { word = two.word; others = two.others; is = two.is; known = known }
 indented_from ws (NoScanLine after) f h e =
     let others = codes "text" ∷ codes "scan" ∷ numeral after ∷ [] in
     let two = two_empty (joined (codes "no" ∷ others)) ws f e in
-    let known = NoText {word = two.word} (same_first (codes "no") others ws (refl, (refl, (refl, (numeral_free after, tt)))) two) in
+    let known : IsKnown two.word = NoText (same_first (codes "no") others ws (refl, (refl, (refl, (numeral_free after, tt)))) two) in
     record { word = two.word; others = two.others; is = two.is; known = known }
 indented_from ws (LexemeLine name None) f h e = absurd (not_indented ws (joined (words (LexemeLine name None))) refl refl e)
 indented_from ws (LexemeLine name (Some text)) f h e = absurd (not_indented ws (joined (words (LexemeLine name (Some text)))) refl refl e)
@@ -179,3 +239,9 @@ indented_from ws l f h e = absurd (not_indented ws (joined (words l)) refl refl 
 
 pub indented_words : (ws : List (List ℕ)) (l : Line) → AreFree ws → Says (line (joined ([] ∷ ws))) l → OfIndented ws
 indented_words ws l f h = indented_from ws l f h.are_words (says_text (joined ([] ∷ ws)) l h)
+
+pub not_known : (word : List ℕ) → (word ≡ codes "tokens" → ⊥) → (word ≡ codes "text" → ⊥) → (word ≡ codes "derive" → ⊥) → (word ≡ codes "no" → ⊥) → IsKnown word → ⊥
+not_known word k t d n (Tokens e) = k e
+not_known word k t d n (Text e) = t e
+not_known word k t d n (Derivation e) = d e
+not_known word k t d n (NoText e) = n e

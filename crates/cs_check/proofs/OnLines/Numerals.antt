@@ -1,5 +1,5 @@
 -- Digits without a leading zero are the numeral of the number that they spell.
-use Rattle.std.proofs.Common.{◌≡◌, ℕ, zero, suc, ◌+◌, ◌-◌, ◌*◌, ◌/◌, ◌%◌, ◌<◌, ◌≤◌, List, [], ◌∷◌, ◌++◌, map, inl, inr, refl, sym, ap, ◌∙◌, subst, arith, append_assoc}
+use Rattle.std.proofs.Common.{◌≡◌, ℕ, zero, suc, ◌+◌, ◌-◌, ◌*◌, ◌/◌, ◌%◌, ◌<◌, ◌≤◌, List, [], ◌∷◌, ◌++◌, ◌⊎◌, map, length, get_or, inl, inr, refl, sym, ap, ◌∙◌, subst, arith, append_assoc}
 use Rattle.std.specs.Prelude.{nat_le, nat_lt, All}
 use Rattle.std.specs.List.{fold}
 use Rattle.std.proofs.lemmas.Bool.{cond-true, cond-false, and_from, cases_lt, cases_eq, lt-ltb, le-ltb, le-leb}
@@ -8,7 +8,7 @@ use Rattle.std.proofs.lemmas.Nat.{div-mul-add, mod-mul-add}
 use Rattle.cs_bytes.specs.Classes.{is_digit}
 use Rattle.cs_bytes.specs.Digits.{digit_of, number_of}
 use Rattle.cs_check.specs.Words.Words.{digits_within, numeral}
-use Rattle.cs_check.specs.Lines.Numbers.{IsDigit}
+use Rattle.cs_check.specs.Lines.Numbers.{IsDigit, IsNumeral, AreNumerals}
 use Rattle.cs_check.proofs.OnPassing.Words.{same_numeral}
 
 -- ---- digits of a number, one more or one fewer
@@ -105,7 +105,7 @@ small_shape n small = record {
   others = [];
   is = refl;
   digits = All-cons IsDigit (48 + n) [] (omega arith, omega arith) (All-nil IsDigit);
-  leading = λ zero. omega (arith, zero);
+  leading = λ nought. omega (arith, nought);
   alone = λ low. refl;
 }
 
@@ -115,7 +115,7 @@ large_shape n front large s = record {
   others = s.others ++ (48 + n % 10) ∷ [];
   is = ap (λ (l : List ℕ). l ++ (48 + n % 10) ∷ []) s.is;
   digits = All-push IsDigit (s.digit ∷ s.others) (48 + n % 10) s.digits (omega arith, omega arith);
-  leading = λ zero. let none = s.leading zero in absurd (omega (arith, none, large));
+  leading = λ nought. let none = s.leading nought in absurd (omega (arith, none, large));
   alone = λ low. absurd (omega (arith, low, large));
 }
 
@@ -139,7 +139,7 @@ pub numeral_digits : (d : ℕ) (ds : List ℕ) (n : ℕ) → d ∷ ds ≡ numera
 numeral_digits d ds n e = let s = shape n in All-same IsDigit (d ∷ ds) (s.digit ∷ s.others) (e ∙ s.is) s.digits
 
 pub numeral_leading : (d : ℕ) (ds : List ℕ) (n : ℕ) → d ∷ ds ≡ numeral n → d ≡ 48 → ds ≡ []
-numeral_leading d ds n e zero =
+numeral_leading d ds n e nought =
     let s = shape n in
     let both : d ∷ ds ≡ s.digit ∷ s.others = e ∙ s.is in
     let first : s.digit ≡ 48 = cc in
@@ -153,8 +153,8 @@ pub number_numeral : (n : ℕ) → number_of 10 (numeral n) ≡ n
 number_numeral n =
     let s = shape n in
     elim (cases_eq s.digit 48) [
-      | inl zero ↦
-          (let none = s.leading zero in
+      | inl nought ↦
+          (let none = s.leading nought in
           let same : numeral n ≡ numeral 0 = ap numeral none in
           ap (number_of 10) same ∙ sym none)
       | inr leading ↦
@@ -165,3 +165,51 @@ number_numeral n =
 pub numbers_numerals : (ns : List ℕ) → map (number_of 10) (map numeral ns) ≡ ns
 numbers_numerals [] = refl
 numbers_numerals (n ∷ ns) = ap (λ k. k ∷ map (number_of 10) (map numeral ns)) (number_numeral n) ∙ ap (λ (l : List ℕ). n ∷ l) (numbers_numerals ns)
+
+-- ---- which words are numerals
+
+pub not_digits : (word : List ℕ) → (All IsDigit word → ⊥) → IsNumeral word → ⊥
+not_digits [] other n = no_numeral n.0 n.1
+not_digits (d ∷ ds) other n = other (numeral_digits d ds n.0 n.1)
+
+pub not_leading : (word : List ℕ) → (length word ≡ 1 → ⊥) → get_or word 0 0 ≡ 48 → IsNumeral word → ⊥
+not_leading [] other nought n = no_numeral n.0 n.1
+not_leading (d ∷ ds) other nought n =
+    let none = numeral_leading d ds n.0 n.1 nought in
+    other (ap (λ (l : List ℕ). length (d ∷ l)) none)
+
+digits_numeral : (d : ℕ) (ds : List ℕ) → All IsDigit (d ∷ ds) → (length (d ∷ ds) ≡ 1) ⊎ (d ≡ 48 → ⊥) → IsNumeral (d ∷ ds)
+digits_numeral d [] h either = (step 0 d, sym (first_numeral d (All-head IsDigit d [] h)))
+digits_numeral d (e ∷ ds) h (inl one) = absurd (omega (arith, one))
+digits_numeral d (e ∷ ds) h (inr other) = (number_of 10 (d ∷ e ∷ ds), sym (spelled d (e ∷ ds) other h))
+
+pub are_numeral : (word : List ℕ) → (length word ≡ 0 → ⊥) → All IsDigit word → (length word ≡ 1) ⊎ (get_or word 0 0 ≡ 48 → ⊥) → IsNumeral word
+are_numeral [] some h either = absurd (some refl)
+are_numeral (d ∷ ds) some h either = digits_numeral d ds h either
+
+pub numeral_all : (word : List ℕ) → IsNumeral word → All IsDigit word
+numeral_all [] n = absurd (no_numeral n.0 n.1)
+numeral_all (d ∷ ds) n = numeral_digits d ds n.0 n.1
+
+-- ---- lists of them
+
+pub numerals_more : (all : List (List ℕ)) (word : List ℕ) (behind : List (List ℕ)) (n : ℕ) → all ≡ word ∷ behind → word ≡ numeral n → AreNumerals behind → AreNumerals all
+numerals_more all word behind n p e s =
+    (n ∷ s.0, p ∙ ap (λ (w : List ℕ). w ∷ behind) e ∙ ap (λ (ws : List (List ℕ)). numeral n ∷ ws) s.1)
+
+numerals_parts : (ns : List ℕ) (word : List ℕ) (behind : List (List ℕ)) → word ∷ behind ≡ map numeral ns → IsNumeral word × AreNumerals behind
+numerals_parts [] word behind e = absurd cc
+numerals_parts (n ∷ ns) word behind e =
+    let first : word ≡ numeral n = cc in
+    let rest : behind ≡ map numeral ns = cc in
+    ((n, first), (ns, rest))
+
+pub numerals_front : (all : List (List ℕ)) (word : List ℕ) (behind : List (List ℕ)) → all ≡ word ∷ behind → AreNumerals all → IsNumeral word
+numerals_front all word behind p s = (numerals_parts s.0 word behind (sym p ∙ s.1)).0
+
+pub numerals_less : (all : List (List ℕ)) (word : List ℕ) (behind : List (List ℕ)) → all ≡ word ∷ behind → AreNumerals all → AreNumerals behind
+numerals_less all word behind p s = (numerals_parts s.0 word behind (sym p ∙ s.1)).1
+
+pub numerals_back : (all : List (List ℕ)) → AreNumerals all → map numeral (map (number_of 10) all) ≡ all
+numerals_back all s =
+    ap (λ (ws : List (List ℕ)). map numeral (map (number_of 10) ws)) s.1 ∙ ap (map numeral) (numbers_numerals s.0) ∙ sym s.1

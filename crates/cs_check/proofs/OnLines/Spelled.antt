@@ -1,13 +1,13 @@
 -- Texts between double quotes, byte by byte.
-use Rattle.std.proofs.Common.{◌≡◌, ℕ, ◌+◌, ◌*◌, ◌/◌, ◌%◌, ◌<◌, ◌≤◌, true, false, inl, inr, List, [], ◌∷◌, ◌++◌, length, take, drop, refl, sym, ap, ◌∙◌, subst, arith}
-use Rattle.std.specs.Prelude.{nat_le, All}
+use Rattle.std.proofs.Common.{◌≡◌, ◌↔◌, ℕ, ◌+◌, ◌<◌, ◌≤◌, Bool, false, inl, inr, Option, None, Some, List, [], ◌∷◌, ◌++◌, length, drop, refl, sym, ap, ◌∙◌, arith}
+use Rattle.std.specs.Prelude.{nat_le, ◌==◌, IsTrue, codes}
 use Rattle.std.specs.List.{flat_map}
-use Rattle.std.proofs.lemmas.Bool.{cases_Bool, leb-true, leb-false}
+use Rattle.std.proofs.lemmas.Bool.{false≢true, ne_eqb, cases_Bool, leb-true, leb-false}
 use Rattle.std.proofs.lemmas.List.Elements.{All-head, All-tail, All-cons, All-nil}
 use Rattle.cs_pattern_parts.specs.Items.StandsFor.{AreBytes}
-use Rattle.cs_check.specs.Words.Words.{hexadecimal_digit, escaped, is_plain_text, text_byte}
-use Rattle.cs_check.specs.Lines.Spelled.{Spells, AreSpelled, BeginsSpelled, BeginsUnspelled, IsDigitOf}
-use Rattle.cs_check.proofs.OnPassing.Quotes.{plain, hidden, byte_same, some_bytes, low_digit, high_digit}
+use Rattle.cs_check.specs.Words.Words.{hexadecimal_digit, text_byte, quoted}
+use Rattle.cs_check.specs.Lines.Spelled.{Spells, AreSpelled, BeginsSpelled, BeginsUnspelled, spelled_or_none, bytes_in}
+use Rattle.cs_check.proofs.OnPassing.Quotes.{byte_same, some_bytes, low_digit, high_digit}
 
 abbrev pub IsByte : ℕ → Type 0
 IsByte b = b < 256
@@ -76,3 +76,15 @@ pub spelled_less : (spelled : List ℕ) (b size : ℕ) → BeginsSpelled spelled
 spelled_less spelled b size front s =
     let less = spells_less b spelled (drop size spelled) s.0 front.is s.1 in
     (less.left, less.spells)
+
+-- where no byte is spelled in front, a text is spelled exactly where nothing is left
+pub spelled_at_end : (rest : List ℕ) (result : Bool) → result ≡ (length rest == 0) → BeginsUnspelled rest → IsTrue result ↔ AreSpelled rest
+spelled_at_end [] result is none = (λ t. ([], spells_none), λ s. is)
+spelled_at_end (b ∷ rest) result is none =
+    let some : (length (b ∷ rest) == 0) ≡ false = ne_eqb (length (b ∷ rest)) 0 (λ e. omega (arith, e)) in
+    (λ t. absurd (false≢true (sym some ∙ sym is ∙ t)), λ s. absurd (let empty = spelled_none (b ∷ rest) none s in absurd cc))
+
+-- what is spelled is neither the word for none nor a text
+pub no_text : (behind : List ℕ) → (behind ≡ codes "none" → ⊥) → ((text : List ℕ) → AreBytes text → behind ≡ quoted text → ⊥) → (text : Option (List ℕ)) → AreBytes (bytes_in text) → behind ≡ spelled_or_none text → ⊥
+no_text behind n q None b e = n e
+no_text behind n q (Some text) b e = q text b e

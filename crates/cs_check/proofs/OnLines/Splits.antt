@@ -1,7 +1,8 @@
 -- The words of a text, and the text that has them.
-use Rattle.std.proofs.Common.{◌≡◌, ℕ, ◌+◌, Bool, true, false, not, cond, List, [], ◌∷◌, ◌++◌, take, drop, refl, sym, ap, ◌∙◌, subst, one-add}
+use Rattle.std.proofs.Common.{◌≡◌, ℕ, ◌+◌, ◌-◌, Bool, true, false, not, cond, List, [], ◌∷◌, ◌++◌, length, take, drop, refl, sym, ap, ◌∙◌, subst, one-add}
 use Rattle.std.specs.Prelude.{◌==◌}
 use Rattle.std.specs.List.{prefix_len}
+use Rattle.std.proofs.lemmas.List.{take_rest}
 use Rattle.std.proofs.lemmas.Bool.{cond_both, eqb-true, and_from, not_from_false}
 use Rattle.cs_check.specs.Passing.Pieces.{onto}
 use Rattle.cs_check.specs.Lines.Splits.{split, words_behind}
@@ -87,10 +88,15 @@ pub split_first : (text : List ℕ) → split text ≡ take (prefix_len in_word 
 split_first [] = refl
 split_first (b ∷ text) = first_at b text (b == 32) refl (split_first text)
 
+pub split_at : (text : List ℕ) (size : ℕ) → size ≡ prefix_len in_word text → split text ≡ take size text ∷ words_behind (take (length text - size) (drop size text))
+split_at text size is =
+    subst (λ n. split text ≡ take n text ∷ words_behind (drop n text)) (sym is) (split_first text)
+    ∙ ap (λ (rest : List ℕ). take size text ∷ words_behind rest) (sym (take_rest text size))
+
 -- ---- words that begin as others do
 
 -- a first word, and others behind it
-record Behind (word : List ℕ) (rest : List ℕ) (v : List ℕ) (ws : List (List ℕ)) : Type 0 where
+pub record Behind (word : List ℕ) (rest : List ℕ) (v : List ℕ) (ws : List (List ℕ)) : Type 0 where
   pub same : v ≡ word
   pub some : ws ≡ [] → ⊥
   pub behind : joined ws ≡ rest

@@ -10,6 +10,7 @@ use Rattle.cs_check.specs.Words.Words.{numeral, quoted, IsWord}
 use Rattle.cs_check.specs.Words.Edits.{EditWords, Deletes, Inserts, Replaces, Swaps}
 use Rattle.cs_check.specs.Lines.Line.{SetKind, Productive, Reachable, Empty, RowKind, First, Last, Next, GoalWords, OfRule, OfContext, OfPair, VerdictWords, Feasible, Infeasible, Large, Counts, Line, Opening, Weighing, TokenLine, RuleLine, LexemeLine, SetLine, RowLine, CaseLine, DeriveLine, TokensLine, TextLine, NoLexemeLine, NoScanLine, GoalLine, BaseLine, NegativeLine, EndLine}
 use Rattle.cs_check.specs.Lines.Texts.{joined, weigh_word, set_word, row_word, goal_words, verdict_words, edit_words, words, edit_names, goal_names, names, Says}
+use Rattle.cs_check.specs.Lines.Spelled.{spelled_or_none}
 use Rattle.cs_check.proofs.OnPassing.Words.{AreFree, joined_same, first_word, word_free, words_free, same_numeral, same_numerals, numeral_free, numerals_free}
 use Rattle.cs_check.proofs.OnPassing.Quotes.{same_text}
 
@@ -222,25 +223,20 @@ same_rule n m a b r s h k e =
     let right : r ≡ s = cc in
     ap (λ x. RuleLine x a r) number ∙ ap (λ (w : List ℕ). RuleLine m w r) left ∙ ap (λ (ws : List (List ℕ)). RuleLine m b ws) right
 
--- a lexeme's text, or none
-abbrev pub lexeme_tail : Option (List ℕ) → List ℕ
-lexeme_tail None = codes "none"
-lexeme_tail (Some text) = quoted text
-
-pub same_tail : (t u : Option (List ℕ)) → lexeme_tail t ≡ lexeme_tail u → t ≡ u
+pub same_tail : (t u : Option (List ℕ)) → spelled_or_none t ≡ spelled_or_none u → t ≡ u
 same_tail None None e = refl
 same_tail (Some t) (Some u) e = ap Some (same_text t u e)
-same_tail t u e = absurd (apart (lexeme_tail t) (lexeme_tail u) refl e)
+same_tail t u e = absurd (apart (spelled_or_none t) (spelled_or_none u) refl e)
 
-pub lexeme_text : (a : List ℕ) (t : Option (List ℕ)) → joined (words (LexemeLine a t)) ≡ codes "lexeme" ++ 32 ∷ (a ++ 32 ∷ lexeme_tail t)
+pub lexeme_text : (a : List ℕ) (t : Option (List ℕ)) → joined (words (LexemeLine a t)) ≡ codes "lexeme" ++ 32 ∷ (a ++ 32 ∷ spelled_or_none t)
 lexeme_text a None = refl
 lexeme_text a (Some t) = refl
 
 same_lexeme : (a b : List ℕ) (t u : Option (List ℕ)) → All IsWord (a ∷ []) → All IsWord (b ∷ []) → joined (words (LexemeLine a t)) ≡ joined (words (LexemeLine b u)) → LexemeLine a t ≡ LexemeLine b u
 same_lexeme a b t u h k e =
     let whole = sym (lexeme_text a t) ∙ e ∙ lexeme_text b u in
-    let front = first_word (codes "lexeme") (codes "lexeme") (a ++ 32 ∷ lexeme_tail t) (b ++ 32 ∷ lexeme_tail u) refl refl whole in
-    let parts = first_word a b (lexeme_tail t) (lexeme_tail u) (word_free a (All-head IsWord a [] h)) (word_free b (All-head IsWord b [] k)) front.1 in
+    let front = first_word (codes "lexeme") (codes "lexeme") (a ++ 32 ∷ spelled_or_none t) (b ++ 32 ∷ spelled_or_none u) refl refl whole in
+    let parts = first_word a b (spelled_or_none t) (spelled_or_none u) (word_free a (All-head IsWord a [] h)) (word_free b (All-head IsWord b [] k)) front.1 in
     ap (λ (w : List ℕ). LexemeLine w t) parts.0 ∙ ap (λ (o : Option (List ℕ)). LexemeLine b o) (same_tail t u parts.1)
 
 same_claims : (a b : SetKind) (r s : List (List ℕ)) → All IsWord r → All IsWord s → joined (words (SetLine a r)) ≡ joined (words (SetLine b s)) → SetLine a r ≡ SetLine b s

@@ -1,5 +1,5 @@
 -- What the code's lines tell of the lines that are said.
-use Rattle.std.specs.Prelude.{◌≡◌, ℕ, List, map, Option, Some, None, MatchOption}
+use Rattle.std.specs.Prelude.{◌≡◌, ℕ, List, ◌∷◌, map, Option, Some, None, MatchOption}
 use Rattle.cs_bytes.specs.Digits.{number_of}
 use Rattle.cs_check.specs.declared.lines.names.Names.{Names}
 use Rattle.cs_check.specs.declared.lines.numbers.Numbers.{Numbers}
@@ -31,6 +31,13 @@ names_in names = words_behind names.words.rest.now
 
 abbrev pub numbers_in : Numbers → List ℕ
 numbers_in numbers = map (number_of 10) (words_behind numbers.words.rest.now)
+
+-- one is given
+abbrev pub GivesName : Names → Names → List ℕ → Type 0
+GivesName before after name = names_in before ≡ name ∷ names_in after
+
+abbrev pub GivesNumber : Numbers → Numbers → ℕ → Type 0
+GivesNumber before after read = (n : ℕ) × IsRead n read × (numbers_in before ≡ n ∷ numbers_in after)
 
 -- this text is spelled
 abbrev pub IsText : Quoted → List ℕ → Type 0

@@ -1,8 +1,8 @@
 -- Texts as they are spelled between double quotes.
-use Rattle.std.specs.Prelude.{◌≡◌, ◌<◌, ◌≤◌, ℕ, List, ◌++◌, length, drop}
+use Rattle.std.specs.Prelude.{◌≡◌, ◌<◌, ◌≤◌, ℕ, List, [], ◌++◌, length, drop, codes, Option, None, Some}
 use Rattle.std.specs.List.{flat_map}
 use Rattle.cs_pattern_parts.specs.Items.StandsFor.{AreBytes}
-use Rattle.cs_check.specs.Words.Words.{text_byte, hexadecimal_digit}
+use Rattle.cs_check.specs.Words.Words.{text_byte, hexadecimal_digit, quoted}
 
 -- the bytes spell the text
 pub record Spells (spelled text : List ℕ) : Type 0 where
@@ -27,3 +27,13 @@ BeginsUnspelled spelled = (byte : ℕ) (rest : List ℕ) → byte < 256 → spel
 -- the byte is the digit of a number
 abbrev pub IsDigitOf : ℕ → ℕ → Type 0
 IsDigitOf n byte = (n < 16) × (byte ≡ hexadecimal_digit n)
+
+-- a lexeme's text as it is spelled, or the word for none
+abbrev pub spelled_or_none : Option (List ℕ) → List ℕ
+spelled_or_none None = codes "none"
+spelled_or_none (Some text) = quoted text
+
+-- its bytes
+abbrev pub bytes_in : Option (List ℕ) → List ℕ
+bytes_in None = []
+bytes_in (Some text) = text

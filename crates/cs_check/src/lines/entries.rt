@@ -1,7 +1,7 @@
 // Lines behind the head that aren't indented.
 
 ghost use Rattle.std.specs.Prelude.{◌∷◌, codes};
-ghost use Rattle.cs_check.specs.Lines.Splits.{words_behind};
+ghost use Rattle.cs_check.specs.Lines.Taken.{words_in};
 ghost use Rattle.cs_check.specs.Lines.Read.{Answers};
 
 use crate::lines::line::{Counts, Line};
@@ -9,7 +9,7 @@ use crate::lines::parts::{take_edit, take_goal, take_verdict};
 use crate::lines::words::Words;
 
 pub(crate) fn read_case(line: Words<'_>) -> Option<Line<'_>>
-    ensures { Answers (codes "case" ∷ words_behind line.entry.rest.now) result }
+    ensures { Answers (codes "case" ∷ words_in line.entry) result }
 {
     let mut words = line;
     let number = words.number()?;
@@ -22,21 +22,25 @@ pub(crate) fn read_case(line: Words<'_>) -> Option<Line<'_>>
 }
 
 pub(crate) fn read_goal(line: Words<'_>) -> Option<Line<'_>>
-    ensures { Answers (codes "goal" ∷ words_behind line.entry.rest.now) result }
+    ensures { Answers (codes "goal" ∷ words_in line.entry) result }
 {
     let mut words = line;
     let number = words.number()?;
     let goal = take_goal(&mut words)?;
     let verdict = take_verdict(&mut words)?;
-    Some(Line::Goal {
-        number,
-        goal,
-        verdict,
-    })
+    if words.is_done() {
+        Some(Line::Goal {
+            number,
+            goal,
+            verdict,
+        })
+    } else {
+        None
+    }
 }
 
 pub(crate) fn read_base(line: Words<'_>) -> Option<Line<'_>>
-    ensures { Answers (codes "base" ∷ words_behind line.entry.rest.now) result }
+    ensures { Answers (codes "base" ∷ words_in line.entry) result }
 {
     let mut words = line;
     let number = words.number()?;
@@ -49,7 +53,7 @@ pub(crate) fn read_base(line: Words<'_>) -> Option<Line<'_>>
 }
 
 pub(crate) fn read_negative(line: Words<'_>) -> Option<Line<'_>>
-    ensures { Answers (codes "negative" ∷ words_behind line.entry.rest.now) result }
+    ensures { Answers (codes "negative" ∷ words_in line.entry) result }
 {
     let mut words = line;
     let number = words.number()?;
@@ -73,7 +77,7 @@ pub(crate) fn read_negative(line: Words<'_>) -> Option<Line<'_>>
 }
 
 pub(crate) fn read_end(line: Words<'_>) -> Option<Line<'_>>
-    ensures { Answers (codes "end" ∷ words_behind line.entry.rest.now) result }
+    ensures { Answers (codes "end" ∷ words_in line.entry) result }
 {
     let mut words = line;
     let goals = words.counted(b"goals")?;

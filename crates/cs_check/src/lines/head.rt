@@ -1,19 +1,19 @@
 // Lines of the head.
 
-ghost use Rattle.std.specs.Prelude.{◌∷◌, codes};
-ghost use Rattle.cs_check.specs.Lines.Splits.{words_behind};
-ghost use Rattle.cs_check.specs.Lines.Read.{Answers};
+ghost use Rattle.std.specs.Prelude.{◌∷◌, MatchOption, codes};
+ghost use Rattle.cs_check.specs.Lines.Texts.{set_word, row_word};
+ghost use Rattle.cs_check.specs.Lines.Taken.{words_in, IsLexemeText, IsNoLexemeText};
+ghost use Rattle.cs_check.specs.Lines.Read.{set_kind, row_kind, Answers};
 
-use crate::lines::line::Line;
+use crate::lines::line::{Line, RowKind, SetKind};
 use crate::lines::names::Names;
-use crate::lines::parts::{row_of, set_of};
+use crate::lines::parts::{row_of, set_of, weigh_of};
 use crate::lines::quoted::Quoted;
+use crate::lines::word::same_word;
 use crate::lines::words::Words;
-use cs_bytes::same_bytes;
-use cs_choices::Weigh;
 
 pub(crate) fn read_opening(line: Words<'_>) -> Option<Line<'_>>
-    ensures { Answers (codes "conform" ∷ words_behind line.entry.rest.now) result }
+    ensures { Answers (codes "conform" ∷ words_in line.entry) result }
 {
     let mut words = line;
     words.keyword(b"2")?;
@@ -25,19 +25,8 @@ pub(crate) fn read_opening(line: Words<'_>) -> Option<Line<'_>>
     }
 }
 
-// What sizes count, by its word.
-fn weigh_of(word: &[u8]) -> Option<Weigh> {
-    if same_bytes(word, b"nodes") {
-        Some(Weigh::Nodes)
-    } else if same_bytes(word, b"bytes") {
-        Some(Weigh::Bytes)
-    } else {
-        None
-    }
-}
-
 pub(crate) fn read_weighing(line: Words<'_>) -> Option<Line<'_>>
-    ensures { Answers (codes "weigh" ∷ words_behind line.entry.rest.now) result }
+    ensures { Answers (codes "weigh" ∷ words_in line.entry) result }
 {
     let mut words = line;
     let word = words.next()?;
@@ -50,7 +39,7 @@ pub(crate) fn read_weighing(line: Words<'_>) -> Option<Line<'_>>
 }
 
 pub(crate) fn read_token(line: Words<'_>) -> Option<Line<'_>>
-    ensures { Answers (codes "token" ∷ words_behind line.entry.rest.now) result }
+    ensures { Answers (codes "token" ∷ words_in line.entry) result }
 {
     let mut words = line;
     let number = words.number()?;
@@ -63,7 +52,7 @@ pub(crate) fn read_token(line: Words<'_>) -> Option<Line<'_>>
 }
 
 pub(crate) fn read_rule(line: Words<'_>) -> Option<Line<'_>>
-    ensures { Answers (codes "rule" ∷ words_behind line.entry.rest.now) result }
+    ensures { Answers (codes "rule" ∷ words_in line.entry) result }
 {
     let mut words = line;
     let number = words.number()?;
@@ -77,26 +66,40 @@ pub(crate) fn read_rule(line: Words<'_>) -> Option<Line<'_>>
     })
 }
 
+// The text of a lexeme, or that there is none.
+fn text_of(behind: &[u8]) -> Option<Option<Quoted<'_>>>
+    ensures { MatchOption result (IsNoLexemeText behind.now) (IsLexemeText behind.now) }
+{
+    if same_word(behind, b"none") {
+        return Some(None);
+    }
+    let text = Quoted::new(behind)?;
+    Some(Some(text))
+}
+
 pub(crate) fn read_lexeme(line: Words<'_>) -> Option<Line<'_>>
-    ensures { Answers (codes "lexeme" ∷ words_behind line.entry.rest.now) result }
+    ensures { Answers (codes "lexeme" ∷ words_in line.entry) result }
 {
     let mut words = line;
     let name = words.name()?;
     let behind = words.text()?;
-    let text = if same_bytes(behind, b"none") {
-        None
-    } else {
-        Some(Quoted::new(behind)?)
-    };
+    let text = text_of(behind)?;
     Some(Line::Lexeme { name, text })
 }
 
+// The line of a set of nonterminals, behind the word for it.
+fn read_set<'m>(kind: SetKind, line: Words<'m>) -> Option<Line<'m>>
+    ensures { Answers (codes "closed" ∷ set_word (set_kind kind) ∷ words_in line.entry) result }
+{
+    let names = Names::new(line)?;
+    Some(Line::Set { kind, names })
+}
+
 // The line of what stands first, last or next, behind the word for it.
-fn read_row<'m>(word: &[u8], line: Words<'m>) -> Option<Line<'m>>
-    ensures { Answers (codes "closed" ∷ word.now ∷ words_behind line.entry.rest.now) result }
+fn read_row<'m>(kind: RowKind, line: Words<'m>) -> Option<Line<'m>>
+    ensures { Answers (codes "closed" ∷ row_word (row_kind kind) ∷ words_in line.entry) result }
 {
     let mut words = line;
-    let kind = row_of(word)?;
     let name = words.name()?;
     words.keyword(b":")?;
     let names = Names::new(words)?;
@@ -104,15 +107,13 @@ fn read_row<'m>(word: &[u8], line: Words<'m>) -> Option<Line<'m>>
 }
 
 pub(crate) fn read_closed(line: Words<'_>) -> Option<Line<'_>>
-    ensures { Answers (codes "closed" ∷ words_behind line.entry.rest.now) result }
+    ensures { Answers (codes "closed" ∷ words_in line.entry) result }
 {
     let mut words = line;
     let word = words.next()?;
-    match set_of(word) {
-        Some(kind) => {
-            let names = Names::new(words)?;
-            Some(Line::Set { kind, names })
-        }
-        None => read_row(word, words),
+    if let Some(set) = set_of(word) {
+        return read_set(set, words);
     }
+    let row = row_of(word)?;
+    read_row(row, words)
 }

@@ -10,17 +10,14 @@ pub struct Names<'m> {
 }
 
 impl<'m> Names<'m> {
-    ghost use Rattle.std.specs.Prelude.{◌≡◌, [], ◌∷◌, MatchOption, All};
+    ghost use Rattle.std.specs.Prelude.{◌≡◌, [], MatchOption, All};
     ghost use Rattle.cs_check.specs.Words.Words.{IsWord};
-    ghost use Rattle.cs_check.specs.Lines.Splits.{words_behind};
-    ghost use Rattle.cs_check.specs.Lines.Read.{names_in};
+    ghost use Rattle.cs_check.specs.Lines.Read.{names_in, GivesName};
+    ghost use Rattle.cs_check.specs.Lines.Taken.{words_in, AreNamesOf};
 
     // The names of which the rest of a line is made, if it is.
     pub(crate) fn new(words: Words<'m>) -> Option<Names<'m>>
-        ensures { MatchOption
-            result
-            (All IsWord (words_behind words.entry.rest.now) → ⊥)
-            (λ names. All IsWord (names_in names) × (names_in names ≡ words_behind words.entry.rest.now)) }
+        ensures { MatchOption result (All IsWord (words_in words.entry) → ⊥) (AreNamesOf words.entry) }
     {
         let mut rest = words;
         while let Some(word) = rest.next() {
@@ -33,7 +30,7 @@ impl<'m> Names<'m> {
 
     /// Takes the next name away.
     pub fn next(&mut self) -> Option<&'m [u8]>
-        ensures { MatchOption result (names_in self.old ≡ []) (λ name. names_in self.old ≡ name.now ∷ names_in self.new) }
+        ensures { MatchOption result (names_in self.old ≡ []) (λ n. GivesName self.old self.new n.now) }
     {
         self.words.next()
     }

@@ -10,18 +10,14 @@ pub struct Numbers<'m> {
 }
 
 impl<'m> Numbers<'m> {
-    ghost use Rattle.std.specs.Prelude.{◌≡◌, ℕ, [], ◌∷◌, map, MatchOption};
-    ghost use Rattle.cs_check.specs.Words.Words.{numeral};
-    ghost use Rattle.cs_check.specs.Lines.Splits.{words_behind};
-    ghost use Rattle.cs_check.specs.Lines.Numbers.{AreNumerals, IsRead};
-    ghost use Rattle.cs_check.specs.Lines.Read.{numbers_in};
+    ghost use Rattle.std.specs.Prelude.{◌≡◌, [], MatchOption};
+    ghost use Rattle.cs_check.specs.Lines.Numbers.{AreNumerals};
+    ghost use Rattle.cs_check.specs.Lines.Read.{numbers_in, GivesNumber};
+    ghost use Rattle.cs_check.specs.Lines.Taken.{words_in, AreNumbersOf};
 
     // The numbers of which the rest of a line is made, if it is.
     pub(crate) fn new(words: Words<'m>) -> Option<Numbers<'m>>
-        ensures { MatchOption
-            result
-            (AreNumerals (words_behind words.entry.rest.now) → ⊥)
-            (λ numbers. map numeral (numbers_in numbers) ≡ words_behind words.entry.rest.now) }
+        ensures { MatchOption result (AreNumerals (words_in words.entry) → ⊥) (AreNumbersOf words.entry) }
     {
         let mut rest = words;
         while let Some(word) = rest.next() {
@@ -32,10 +28,7 @@ impl<'m> Numbers<'m> {
 
     /// Takes the next number away.
     pub fn next(&mut self) -> Option<u64>
-        ensures { MatchOption
-            result
-            (numbers_in self.old ≡ [])
-            (λ read. (n : ℕ) × IsRead n read × (numbers_in self.old ≡ n ∷ numbers_in self.new)) }
+        ensures { MatchOption result (numbers_in self.old ≡ []) (GivesNumber self.old self.new) }
     {
         let word = self.words.next()?;
         Some(number_in(word))

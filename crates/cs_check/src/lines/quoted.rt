@@ -1,6 +1,7 @@
 // A text between double quotes.
 
 use crate::lines::spelled::{are_spelled, front_byte};
+use cs_bytes::from_offset;
 use std::alloc::{AllocError, Global};
 
 /// A text as it stands between double quotes.
@@ -11,16 +12,12 @@ pub struct Quoted<'m> {
 
 impl<'m> Quoted<'m> {
     ghost use Rattle.std.specs.Prelude.{◌≡◌, ℕ, List, length, MatchOption, IfOk};
-    ghost use Rattle.cs_pattern_parts.specs.Items.StandsFor.{AreBytes};
-    ghost use Rattle.cs_check.specs.Words.Words.{quoted};
     ghost use Rattle.cs_check.specs.Lines.Read.{IsText};
+    ghost use Rattle.cs_check.specs.Lines.Taken.{IsQuotedAs, IsNotQuoted};
 
     // The text that these bytes are with its quotes.
     pub(crate) fn new(bytes: &'m [u8]) -> Option<Quoted<'m>>
-        ensures { MatchOption
-            result
-            ((text : List ℕ) → AreBytes text → bytes.entry.now ≡ quoted text → ⊥)
-            (λ q. (text : List ℕ) × IsText q text × (bytes.entry.now ≡ quoted text)) }
+        ensures { MatchOption result (IsNotQuoted bytes.entry.now) (IsQuotedAs bytes.entry.now) }
     {
         match bytes {
             [b'"', spelled @ .., b'"'] if are_spelled(spelled) => Some(Quoted { spelled }),
@@ -36,20 +33,20 @@ impl<'m> Quoted<'m> {
         let mut rest = self.spelled;
         while let Some(front) = front_byte(rest) {
             len += 1;
-            rest = &rest[front.size..];
+            rest = from_offset(rest, front.size);
         }
         len
     }
 
     /// The bytes of the text.
     pub fn bytes(self, alloc: Global) -> Result<Vec<u8>, AllocError>
-        ensures { IfOk result (λ bytes. (text : List ℕ) → IsText self.entry text → bytes.items ≡ text) }
+        ensures { IfOk result (λ bytes. (t : List ℕ) → IsText self.entry t → bytes.items ≡ t) }
     {
         let mut bytes = Vec::with_capacity(alloc, self.spelled.len())?;
         let mut rest = self.spelled;
         while let Some(front) = front_byte(rest) {
             bytes.push(front.byte)?;
-            rest = &rest[front.size..];
+            rest = from_offset(rest, front.size);
         }
         Ok(bytes)
     }

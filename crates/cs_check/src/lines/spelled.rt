@@ -1,8 +1,11 @@
 // How the bytes of a text are spelled between double quotes: each in one way.
 
-ghost use Rattle.std.specs.Prelude.{◌≡◌, ◌<◌, ◌↔◌, ◌/◌, ◌%◌, ℕ, List, ◌++◌, drop, IsTrue, MatchOption};
-ghost use Rattle.cs_check.specs.Words.Words.{escaped, is_plain_text};
-ghost use Rattle.cs_check.specs.Lines.Spelled.{AreSpelled, BeginsSpelled, BeginsUnspelled, IsDigitOf};
+ghost use Rattle.std.specs.Prelude.{◌≡◌, ◌↔◌, ℕ, IsTrue, MatchOption};
+ghost use Rattle.cs_check.specs.Words.Words.{is_plain_text};
+ghost use Rattle.cs_check.specs.Lines.Spelled.{AreSpelled, BeginsUnspelled, IsDigitOf};
+ghost use Rattle.cs_check.specs.Lines.Taken.{IsFront, AreDigitsOf, AreNoDigits, BeginsEscaped, BeginsUnescaped};
+
+use cs_bytes::from_offset;
 
 /// A byte of a text, and how many bytes spell it.
 #[derive(Clone, Copy)]
@@ -30,10 +33,7 @@ fn digit_value(byte: u8) -> Option<u8>
 
 // The byte that two digits spell.
 fn value_of(high: u8, low: u8) -> Option<u8>
-    ensures { MatchOption
-        result
-        ((high_digit low_digit : ℕ) → IsDigitOf high_digit high → IsDigitOf low_digit low → ⊥)
-        (λ byte. IsDigitOf (byte / 16) high × IsDigitOf (byte % 16) low) }
+    ensures { MatchOption result (AreNoDigits high low) (AreDigitsOf high low) }
 {
     let high = digit_value(high)?;
     let low = digit_value(low)?;
@@ -42,10 +42,7 @@ fn value_of(high: u8, low: u8) -> Option<u8>
 
 // The byte whose escape stands in front.
 fn escaped_byte(text: &[u8]) -> Option<u8>
-    ensures { MatchOption
-        result
-        ((byte : ℕ) (rest : List ℕ) → byte < 256 → text.now ≡ escaped byte ++ rest → ⊥)
-        (λ byte. text.now ≡ escaped byte ++ drop 4 text.now) }
+    ensures { MatchOption result (BeginsUnescaped text.now) (BeginsEscaped text.now) }
 {
     match text {
         [b'\\', b'x', high, low, ..] => value_of(*high, *low),
@@ -55,7 +52,7 @@ fn escaped_byte(text: &[u8]) -> Option<u8>
 
 /// The byte that is spelled in front.
 pub(crate) fn front_byte(text: &[u8]) -> Option<SpelledByte>
-    ensures { MatchOption result (BeginsUnspelled text.now) (λ front. BeginsSpelled text.now front.byte front.size) }
+    ensures { MatchOption result (BeginsUnspelled text.now) (IsFront text.now) }
 {
     let [first, ..] = text else {
         return None;
@@ -80,7 +77,7 @@ pub(crate) fn are_spelled(spelled: &[u8]) -> bool
 {
     let mut rest = spelled;
     while let Some(front) = front_byte(rest) {
-        rest = &rest[front.size..];
+        rest = from_offset(rest, front.size);
     }
     rest.is_empty()
 }

@@ -1,13 +1,11 @@
 // Words of a line that are due.
 
-ghost use Rattle.std.specs.Prelude.{◌≡◌, ℕ, List, [], ◌∷◌, ◌↔◌, IsTrue, MatchOption, codes};
-ghost use Rattle.cs_check.specs.Words.Words.{numeral, IsWord};
-ghost use Rattle.cs_check.specs.Lines.Numbers.{IsRead};
-ghost use Rattle.cs_check.specs.Lines.Splits.{split, words_behind};
+ghost use Rattle.std.specs.Prelude.{◌≡◌, [], ◌↔◌, IsTrue, MatchOption};
+ghost use Rattle.cs_check.specs.Lines.Splits.{split};
+ghost use Rattle.cs_check.specs.Lines.Taken.{words_in, Takes, IsNotNext, TakesName, HasNoName, TakesNames, HasNoNames, TakesNumber, HasNoNumber, Counted, HasNoCount};
 
-use crate::lines::word::{is_name, number_of};
+use crate::lines::word::{is_name, number_of, same_word};
 use crate::lines::words::Words;
-use cs_bytes::same_bytes;
 
 /// Two names.
 #[derive(Clone, Copy)]
@@ -19,7 +17,7 @@ pub(crate) struct TwoNames<'m> {
 impl<'m> Words<'m> {
     /// Whether nothing is left.
     pub(crate) fn is_done(self) -> bool
-        ensures { IsTrue result ↔ (words_behind self.entry.rest.now ≡ []) }
+        ensures { IsTrue result ↔ (words_in self.entry ≡ []) }
     {
         let mut rest = self;
         rest.next().is_none()
@@ -27,10 +25,7 @@ impl<'m> Words<'m> {
 
     /// What stands behind the next space.
     pub(crate) fn text(self) -> Option<&'m [u8]>
-        ensures { MatchOption
-            result
-            (words_behind self.entry.rest.now ≡ [])
-            (λ text. words_behind self.entry.rest.now ≡ split text.now) }
+        ensures { MatchOption result (words_in self.entry ≡ []) (λ t. words_in self.entry ≡ split t.now) }
     {
         match self.rest {
             [b' ', text @ ..] => Some(text),
@@ -40,13 +35,10 @@ impl<'m> Words<'m> {
 
     /// Takes the word away, where it is the next one.
     pub(crate) fn keyword(&mut self, word: &[u8]) -> Option<()>
-        ensures { MatchOption
-            result
-            ((others : List (List ℕ)) → words_behind self.old.rest.now ≡ word.now ∷ others → ⊥)
-            (λ _. words_behind self.old.rest.now ≡ word.now ∷ words_behind self.new.rest.now) }
+        ensures { MatchOption result (IsNotNext self.old word.now) (λ _. Takes self.old self.new word.now) }
     {
         let next = self.next()?;
-        if same_bytes(next, word) {
+        if same_word(next, word) {
             Some(())
         } else {
             None
@@ -55,10 +47,7 @@ impl<'m> Words<'m> {
 
     /// Takes the next word away, where it is a name.
     pub(crate) fn name(&mut self) -> Option<&'m [u8]>
-        ensures { MatchOption
-            result
-            ((name : List ℕ) (others : List (List ℕ)) → IsWord name → words_behind self.old.rest.now ≡ name ∷ others → ⊥)
-            (λ name. IsWord name.now × (words_behind self.old.rest.now ≡ name.now ∷ words_behind self.new.rest.now)) }
+        ensures { MatchOption result (HasNoName self.old) (λ name. TakesName self.old self.new name.now) }
     {
         let next = self.next()?;
         if is_name(next) { Some(next) } else { None }
@@ -66,32 +55,25 @@ impl<'m> Words<'m> {
 
     /// Takes the next word away, where it is a number.
     pub(crate) fn number(&mut self) -> Option<u64>
-        ensures { MatchOption
-            result
-            ((n : ℕ) (others : List (List ℕ)) → words_behind self.old.rest.now ≡ numeral n ∷ others → ⊥)
-            (λ read. (n : ℕ) × IsRead n read × (words_behind self.old.rest.now ≡ numeral n ∷ words_behind self.new.rest.now)) }
+        ensures { MatchOption result (HasNoNumber self.old) (TakesNumber self.old self.new) }
     {
         let next = self.next()?;
-        number_of(next)
+        let number = number_of(next)?;
+        Some(number)
     }
 
     /// Takes the word and a number behind it away, where they are the next ones.
     pub(crate) fn counted(&mut self, word: &[u8]) -> Option<u64>
-        ensures { MatchOption
-            result
-            ((n : ℕ) (others : List (List ℕ)) → words_behind self.old.rest.now ≡ word.now ∷ numeral n ∷ others → ⊥)
-            (λ read. (n : ℕ) × IsRead n read × (words_behind self.old.rest.now ≡ word.now ∷ numeral n ∷ words_behind self.new.rest.now)) }
+        ensures { MatchOption result (HasNoCount word.now self.old) (Counted word.now self.old self.new) }
     {
         self.keyword(word)?;
-        self.number()
+        let number = self.number()?;
+        Some(number)
     }
 
     /// Takes the next two words away, where they are names.
     pub(crate) fn two_names(&mut self) -> Option<TwoNames<'m>>
-        ensures { MatchOption
-            result
-            ((left right : List ℕ) (others : List (List ℕ)) → IsWord left → IsWord right → words_behind self.old.rest.now ≡ left ∷ right ∷ others → ⊥)
-            (λ names. IsWord names.left.now × IsWord names.right.now × (words_behind self.old.rest.now ≡ names.left.now ∷ names.right.now ∷ words_behind self.new.rest.now)) }
+        ensures { MatchOption result (HasNoNames self.old) (TakesNames self.old self.new) }
     {
         let left = self.name()?;
         let right = self.name()?;

@@ -1,11 +1,19 @@
 // Which words are names and numbers.
 
-ghost use Rattle.std.specs.Prelude.{◌≡◌, ℕ, ◌↔◌, IsTrue, All, MatchOption, min};
+ghost use Rattle.std.specs.Prelude.{◌≡◌, ◌↔◌, IsTrue, All, MatchOption, min};
 ghost use Rattle.cs_bytes.specs.Digits as spec;
-ghost use Rattle.cs_check.specs.Words.Words.{numeral, IsVisible, IsWord};
-ghost use Rattle.cs_check.specs.Lines.Numbers.{IsDigit, IsNumeral, IsRead, greatest};
+ghost use Rattle.cs_check.specs.Words.Words.{IsVisible, IsWord};
+ghost use Rattle.cs_check.specs.Lines.Numbers.{IsDigit, IsNumeral, greatest};
+ghost use Rattle.cs_check.specs.Lines.Taken.{IsNumberRead, IsNoNumber};
 
-use cs_bytes::digit_of;
+use cs_bytes::{digit_of, same_bytes};
+
+/// Whether both words are the same.
+pub(crate) fn same_word(word: &[u8], other: &[u8]) -> bool
+    ensures { IsTrue result ↔ (word.now ≡ other.now) }
+{
+    same_bytes(word, other)
+}
 
 // `!` to `~`
 fn is_visible(byte: u8) -> bool
@@ -50,20 +58,19 @@ fn are_digits(word: &[u8]) -> bool
 fn is_numeral(word: &[u8]) -> bool
     ensures { IsTrue result ↔ IsNumeral word.now }
 {
-    match word {
-        [] => false,
-        [b'0'] => true,
-        [b'0', ..] => false,
-        _ => are_digits(word),
+    if word.is_empty() {
+        return false;
     }
+    let are_digits = are_digits(word);
+    if word.len() == 1 {
+        return are_digits;
+    }
+    are_digits && word[0] != b'0'
 }
 
 /// The number that the word is.
 pub(crate) fn number_of(word: &[u8]) -> Option<u64>
-    ensures { MatchOption
-        result
-        ((n : ℕ) → word.now ≡ numeral n → ⊥)
-        (λ read. (n : ℕ) × (word.now ≡ numeral n) × IsRead n read) }
+    ensures { MatchOption result (IsNoNumber word.now) (IsNumberRead word.now) }
 {
     if is_numeral(word) {
         Some(number_in(word))

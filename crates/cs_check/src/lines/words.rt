@@ -1,7 +1,8 @@
 // What is left of a line, taken word by word.
 
 ghost use Rattle.std.specs.Prelude.{◌≡◌, [], ◌∷◌, MatchOption};
-ghost use Rattle.cs_check.specs.Lines.Splits.{split, words_behind};
+ghost use Rattle.cs_check.specs.Lines.Splits.{split};
+ghost use Rattle.cs_check.specs.Lines.Taken.{words_in, Takes};
 
 use cs_bytes::{ByteClass, run_len};
 
@@ -20,7 +21,7 @@ pub(crate) struct FirstWord<'m> {
 
 /// The first word of a text.
 pub(crate) fn first_word(text: &[u8]) -> FirstWord<'_>
-    ensures { split text.now ≡ result.word.now ∷ words_behind result.behind.rest.now }
+    ensures { split text.now ≡ result.word.now ∷ words_in result.behind }
 {
     let size = run_len(text, ByteClass::Not(b' '));
     FirstWord {
@@ -34,10 +35,7 @@ pub(crate) fn first_word(text: &[u8]) -> FirstWord<'_>
 impl<'m> Words<'m> {
     /// Takes the next word away.
     pub(crate) fn next(&mut self) -> Option<&'m [u8]>
-        ensures { MatchOption
-            result
-            (words_behind self.old.rest.now ≡ [])
-            (λ word. words_behind self.old.rest.now ≡ word.now ∷ words_behind self.new.rest.now) }
+        ensures { MatchOption result (words_in self.old ≡ []) (λ word. Takes self.old self.new word.now) }
     {
         let [b' ', text @ ..] = self.rest else {
             return None;
