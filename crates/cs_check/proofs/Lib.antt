@@ -1,3 +1,5 @@
 pub mod OnClosed
 pub mod OnPassing
 pub mod OnLines
+pub mod OnDues
+pub mod OnDueGoals

@@ -2,8 +2,11 @@ pub mod Pieces
 pub mod First
 pub mod Above
 pub mod Head
+pub mod Dues
 pub mod Places
+pub mod Told
 pub mod Goals
+pub mod DueGoals
 pub mod Entries
 pub mod Faults
 pub mod Passing

@@ -31,6 +31,7 @@
 //! That the calls answer where memory is ample: by `test_check`.
 #![tactic(auto)]
 
+mod checking;
 mod closed;
 mod lines;
 mod passing;

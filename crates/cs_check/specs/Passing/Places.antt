@@ -2,23 +2,11 @@
 use Rattle.std.specs.Prelude.{◌≡◌, ◌⊎◌, ◌≤◌, ◌+◌, List, [], ◌∷◌, length, Some, slice_get}
 use Rattle.std.specs.List.{Contains, fold}
 use Rattle.cs_grammar.specs.Grammar.{PlainGrammar}
+pub use Rattle.cs_check.specs.declared.checking.part.Part.{Part}
+pub use Rattle.cs_check.specs.declared.checking.part.Part.TheVariants.{InHead, OfCase, OfDerivation, OfCaseTokens, OfCaseText, OfGoal, OfBase, OfNegative, OfNegativeTokens, OfNegativeText, OfEnd}
 use Rattle.cs_check.specs.Lines.Line.{Line, CaseLine, DeriveLine, TokensLine, TextLine, NoLexemeLine, NoScanLine, GoalLine, BaseLine, NegativeLine, EndLine}
 use Rattle.cs_check.specs.Passing.Above.{case_sizes, goals_in, base_goals, edits}
 use Rattle.cs_check.specs.Passing.Head.{Due, Takes, whole_head, head_size}
-
--- what a line behind the head is a part of
-pub data Part : Type 0 where
-  InHead : Part
-  OfCase : Part
-  OfDerivation : Part
-  OfCaseTokens : Part
-  OfCaseText : Part
-  OfGoal : Part
-  OfBase : Part
-  OfNegative : Part
-  OfNegativeTokens : Part
-  OfNegativeText : Part
-  OfEnd : Part
 
 -- the tokens of a negative stand behind it, and all others are those of a case
 abbrev pub tokens_part : Part → Part
