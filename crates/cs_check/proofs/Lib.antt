@@ -3,3 +3,4 @@ pub mod OnPassing
 pub mod OnLines
 pub mod OnDues
 pub mod OnDueGoals
+pub mod OnDueWords

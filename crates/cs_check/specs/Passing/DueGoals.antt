@@ -1,5 +1,5 @@
 -- What the code knows of the goals above, and what is due by that. Working words of the code's contracts.
-use Rattle.std.specs.Prelude.{◌≡◌, ◌<◌, ◌≤◌, ◌↔◌, ℕ, nat_lt, ◌==◌, Bool, true, false, List, [], ◌∷◌, ◌++◌, drop, length, Option, None, Some, IsTrue, slice_get}
+use Rattle.std.specs.Prelude.{◌≡◌, ◌<◌, ◌≤◌, ◌↔◌, ℕ, nat_lt, ◌==◌, Bool, true, false, List, [], ◌∷◌, ◌++◌, drop, length, Option, None, Some, All, IsTrue, slice_get}
 use Rattle.cs_choices.specs.declared.criteria.Criteria.{Criteria}
 use Rattle.cs_grammar.specs.Grammar.{PlainGrammar}
 use Rattle.cs_goals.specs.declared.goal.Goal.{Goal}
@@ -8,8 +8,11 @@ use Rattle.cs_check.specs.declared.checking.goals.Criterion.TheVariants as crite
 use Rattle.cs_check.specs.declared.checking.goals.DueGoals.{DueGoals}
 use Rattle.cs_check.specs.declared.lines.line.GoalWords as held
 use Rattle.cs_check.specs.declared.lines.line.GoalWords.TheVariants as goals
+use Rattle.cs_goals.specs.Goal.{IsGoal}
+use Rattle.cs_yacc.specs.Reading.File.{File}
 use Rattle.cs_check.specs.Lines.Line.{GoalWords}
-use Rattle.cs_check.specs.Passing.Goals.{criterion, list_of, told, last_goal, AreFinished, MayFollow}
+use Rattle.cs_check.specs.Lines.Read.{TellsGoal}
+use Rattle.cs_check.specs.Passing.Goals.{criterion, list_of, told, last_goal, words_of, AreFinished, IsDue, MayFollow}
 
 -- the number of a criterion, in their order
 abbrev pub number : Criterion → ℕ
@@ -85,3 +88,23 @@ abbrev pub GivesNoneOf : DueGoals → Criterion → Type 0
 GivesNoneOf old c =
     (g : PlainGrammar) (above : List GoalWords) (words : GoalWords) → KnowsGoals g above old → number c ≡ criterion words
     → (goal : Goal) → IsNextOf g above words goal → ⊥
+
+-- what is left is of the grammar
+abbrev pub AreGoals : DueGoals → Type 0
+AreGoals d = All (IsGoal d.grammar.now) d.left
+
+-- the answer tells whether the words are those of the goal
+abbrev pub TellsWords : File → held.GoalWords → Goal → Bool → Type 0
+TellsWords file told goal so = (words : GoalWords) → TellsGoal told words → IsTrue so ↔ (words ≡ words_of file goal)
+
+-- the goal is due, and known then
+abbrev pub TakesDue : File → DueGoals → held.GoalWords → DueGoals → Goal → Type 0
+TakesDue file old told new goal =
+    (above : List GoalWords) (words : GoalWords) → KnowsGoals file.grammar above old → TellsGoal told words
+    → IsDue file above words goal × KnowsGoals file.grammar (above ++ words ∷ []) new
+
+-- none is due with these words
+abbrev pub HasNoneDue : File → DueGoals → held.GoalWords → Type 0
+HasNoneDue file old told =
+    (above : List GoalWords) (words : GoalWords) (goal : Goal) → KnowsGoals file.grammar above old → TellsGoal told words
+    → IsDue file above words goal → ⊥

@@ -2,12 +2,16 @@
 
 ghost use Rattle.std.specs.Prelude.{◌≡◌, [], IfNone, IfSome};
 ghost use Rattle.cs_check.specs.Passing.DueGoals.{number, is_last, is_later, criteria_of, criterion_of};
-ghost use Rattle.cs_check.specs.Passing.DueGoals.{GivesNextOf, GivesNoneOf, KnowsGoals, TellsFinished};
+ghost use Rattle.cs_check.specs.Passing.DueGoals.{AreGoals, GivesNextOf, GivesNoneOf, KnowsGoals};
+ghost use Rattle.cs_check.specs.Passing.DueGoals.{HasNoneDue, TakesDue, TellsFinished, TellsWords};
+ghost use Rattle.cs_goals.specs.Goal.{IsGoal};
 
 use crate::lines::GoalWords;
+use crate::naming::is_mark;
 use cs_choices::Criteria;
 use cs_goals::{Goal, Goals};
 use cs_grammar::Grammar;
+use cs_yacc::YaccFile;
 
 /// A criterion, in the order of their lists.
 #[derive(Clone, Copy, Debug, PartialEq, Eq)]
@@ -57,10 +61,38 @@ fn criteria_of(criterion: Criterion) -> Criteria
     }
 }
 
+// Whether the words are those of the goal.
+fn are_words_of(file: &YaccFile, words: &GoalWords<'_>, goal: &Goal) -> bool
+    requires { IsGoal file.now.grammar goal.now }
+    ensures { TellsWords file.now words.now goal.now result }
+{
+    match (*words, *goal) {
+        (GoalWords::Rule(number), Goal::Rule(rule)) => number == rule as u64,
+        (
+            GoalWords::Context {
+                outer: p,
+                place: i,
+                inner: q,
+            },
+            Goal::Context {
+                outer,
+                place,
+                inner,
+            },
+        ) => p == outer as u64 && i == place as u64 && q == inner as u64,
+        (GoalWords::Pair { left: a, right: b }, Goal::Pair { left, right }) => {
+            is_mark(file, left, a) && is_mark(file, right, b)
+        }
+        _ => false,
+    }
+}
+
 impl<'a> DueGoals<'a> {
     /// What is due where no goal is above.
     pub(crate) fn new(grammar: &'a Grammar) -> DueGoals<'a>
-        ensures { KnowsGoals grammar.now [] result }
+        ensures knows { KnowsGoals grammar.now [] result }
+        ensures goals { AreGoals result }
+        ensures grammar { result.grammar.now ≡ grammar.now }
     {
         let none = Criteria {
             rule: false,
@@ -104,6 +136,10 @@ impl<'a> DueGoals<'a> {
 
     /// Takes the next goal of the criterion, where one of it may come.
     pub(crate) fn next_of(&mut self, criterion: Criterion) -> Option<Goal>
+        requires goals { AreGoals self.old }
+        ensures goals { AreGoals self.new }
+        ensures goal { IfSome result (IsGoal self.old.grammar.now) }
+        ensures grammar { self.new.grammar.now ≡ self.old.grammar.now }
         ensures some { IfSome result (GivesNextOf self.old criterion self.new) }
         ensures none { IfNone result (GivesNoneOf self.old criterion) }
     {
@@ -116,5 +152,22 @@ impl<'a> DueGoals<'a> {
         self.last = Some(criterion);
         self.left = Goals::new(self.grammar, criteria_of(criterion));
         self.left.next()
+    }
+
+    /// The goal of these words, where it is due; then it is told.
+    pub(crate) fn take(&mut self, file: &YaccFile, words: &GoalWords<'_>) -> Option<Goal>
+        requires goals { AreGoals self.old }
+        requires grammar { self.old.grammar.now ≡ file.now.grammar }
+        ensures goals { AreGoals self.new }
+        ensures grammar { self.new.grammar.now ≡ self.old.grammar.now }
+        ensures some { IfSome result (TakesDue file.now self.old words.now self.new) }
+        ensures none { IfNone result (HasNoneDue file.now self.old words.now) }
+    {
+        let goal = self.next_of(criterion_of(words))?;
+        if are_words_of(file, words, &goal) {
+            Some(goal)
+        } else {
+            None
+        }
     }
 }

@@ -1,0 +1,79 @@
+-- The words of a goal that is due: which goals are left, and whose words are whose.
+use Rattle.std.proofs.Common.{◌≡◌, ◌<◌, ℕ, Bool, true, false, List, [], ◌∷◌, ◌++◌, length, get_or, refl, sym, ap, ◌∙◌, subst, Option, None, Some, arith}
+use Rattle.std.specs.Prelude.{All, IfNone, IfSome, IsTrue, min, slice_get}
+use Rattle.std.proofs.lemmas.List.Elements.{All-head, All-rest, Contains-get_or}
+use Rattle.cs_choices.specs.declared.criteria.Criteria.{Criteria}
+use Rattle.cs_grammar.specs.Grammar.{IsNumberOf, PlainGrammar}
+use Rattle.cs_grammar.specs.declared.symbol.Mark.{Mark}
+use Rattle.cs_grammar.specs.declared.symbol.Mark.TheVariants as marks
+use Rattle.cs_goals.specs.declared.goal.Goal.{Goal}
+use Rattle.cs_goals.specs.Goal.{IsGoal, IsLeft, IsRight}
+use Rattle.cs_goals.specs.Goals.{goals}
+use Rattle.cs_goals.proofs.Once.{all}
+use Rattle.cs_yacc.specs.Reading.File.{File}
+use Rattle.cs_check.specs.declared.checking.goals.DueGoals.{DueGoals}
+use Rattle.cs_check.specs.declared.lines.line.GoalWords as held
+use Rattle.cs_check.specs.declared.lines.line.GoalWords.TheVariants as told_goals
+use Rattle.cs_check.specs.Words.Names.{IsMarkOf}
+use Rattle.cs_check.specs.Lines.Line.{GoalWords, OfRule, OfContext, OfPair}
+use Rattle.cs_check.specs.Lines.Read.{TellsGoal}
+use Rattle.cs_check.specs.Passing.Goals.{criterion, list_of, told, words_of, IsDue}
+use Rattle.cs_check.specs.Passing.DueGoals.{number, criterion_of, GivesNextOf, GivesNoneOf, HasNoneDue, IsNextOf, KnowsGoals, TakesDue, TellsWords}
+
+-- the goals of some criteria are the grammar's
+pub all_goals : (g : PlainGrammar) (c : Criteria) → All (IsGoal g) (goals g c)
+all_goals g c = λ k d within. let goal = get_or (goals g c) k d in ((all g c goal).0 (Contains-get_or (goals g c) k d within)).1
+
+-- of those that are left the first is one, and the others are
+pub given_goal : (g : PlainGrammar) (left : List Goal) (next : Option Goal) (new : List Goal) → All (IsGoal g) left → IfSome next (λ goal. left ≡ goal ∷ new) → IfSome next (IsGoal g)
+given_goal g left None new are is = tt
+given_goal g left (Some goal) new are is = All-head (IsGoal g) goal new (subst (All (IsGoal g)) is are)
+
+pub others_goals : (g : PlainGrammar) (left : List Goal) (next : Option Goal) (new : List Goal) → All (IsGoal g) left → IfSome next (λ goal. left ≡ goal ∷ new) → IfNone next ((left ≡ []) × (new ≡ [])) → All (IsGoal g) new
+others_goals g left None new are some none = subst (All (IsGoal g)) (none.0 ∙ sym none.1) are
+others_goals g left (Some goal) new are some none = All-rest (IsGoal g) goal new left some are
+
+-- the marks of a pair are the grammar's
+pub left_mark : (g : PlainGrammar) (a : Mark) → IsLeft g.tokens a → IsMarkOf g a
+left_mark g marks.Begin is = tt
+left_mark g (marks.Token t) is = is
+left_mark g marks.End is = absurd is
+
+pub right_mark : (g : PlainGrammar) (a : Mark) → IsRight g.tokens a → IsMarkOf g a
+right_mark g marks.Begin is = absurd is
+right_mark g (marks.Token t) is = is
+right_mark g marks.End is = tt
+
+-- the criterion of the words that are told
+pub criterion_told : (t : held.GoalWords) (w : GoalWords) → TellsGoal t w → number (criterion_of t) ≡ criterion w
+criterion_told (told_goals.Rule r) (OfRule s) h = refl
+criterion_told (told_goals.Rule r) (OfContext p i q) h = absurd h
+criterion_told (told_goals.Rule r) (OfPair a b) h = absurd h
+criterion_told (told_goals.Context p i q) (OfRule s) h = absurd h
+criterion_told (told_goals.Context p i q) (OfContext u j v) h = refl
+criterion_told (told_goals.Context p i q) (OfPair a b) h = absurd h
+criterion_told (told_goals.Pair c d) (OfRule s) h = absurd h
+criterion_told (told_goals.Pair c d) (OfContext p i q) h = absurd h
+criterion_told (told_goals.Pair c d) (OfPair a b) h = refl
+
+-- ---- the goal that is taken
+
+pub taken : (file : File) (old : DueGoals) (t : held.GoalWords) (new : DueGoals) (goal : Goal) (so : Bool) → GivesNextOf old (criterion_of t) new goal → TellsWords file t goal so → so ≡ true → TakesDue file old t new goal
+taken file old t new goal so given words yes' = λ above w knows tells.
+    let next = given file.grammar above w knows (criterion_told t w tells) in
+    (record { follows = next.0.follows; next = next.0.next; are_words = (words w tells).0 yes' }, next.1)
+
+-- the goal that comes next is the only one that is due
+one_next : (l : List Goal) (k : ℕ) (x y : Goal) → slice_get l k ≡ Some x → slice_get l k ≡ Some y → x ≡ y
+one_next l k x y first second = let e : Some x ≡ Some y = sym first ∙ second in cc
+
+pub other_words : (file : File) (old : DueGoals) (t : held.GoalWords) (new : DueGoals) (goal : Goal) (so : Bool) → GivesNextOf old (criterion_of t) new goal → TellsWords file t goal so → so ≡ false → HasNoneDue file old t
+other_words file old t new goal so given words other = λ above w due knows tells is.
+    let next = given file.grammar above w knows (criterion_told t w tells) in
+    let same = one_next (list_of file.grammar w) (told above w) due goal is.next next.0.next in
+    let so_true = (words w tells).1 (is.are_words ∙ ap (words_of file) same) in
+    absurd (let e = sym other ∙ so_true in cc)
+
+pub none_left : (file : File) (old : DueGoals) (t : held.GoalWords) → GivesNoneOf old (criterion_of t) → HasNoneDue file old t
+none_left file old t none = λ above w due knows tells is.
+    none file.grammar above w knows (criterion_told t w tells) due (record { follows = is.follows; next = is.next })
