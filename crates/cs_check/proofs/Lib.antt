@@ -4,3 +4,4 @@ pub mod OnLines
 pub mod OnDues
 pub mod OnDueGoals
 pub mod OnDueWords
+pub mod OnChecking

@@ -1,4 +1,6 @@
-// The pass over the lines of a manifest.
+//! The check of a manifest: one pass over its bytes, in which each line is looked at in place.
+//!
+//! Meaning: `specs/Passing/`. The files of `specs/Checking/` have working words of proofs.
 
 pub(crate) mod due;
 pub(crate) mod goals;

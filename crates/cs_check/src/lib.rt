@@ -34,6 +34,7 @@
 mod checking;
 mod closed;
 mod lines;
+mod naming;
 mod passing;
 
 pub use closed::{Set, Sets, closed_sets_exclude, closed_sets_part, exact_sets_pass};

@@ -25,3 +25,10 @@ abbrev pub IsBehindNamed : File → List ℕ → Mark → Type 0
 IsBehindNamed file name marks.Begin = ⊥
 IsBehindNamed file name (marks.Token t) = IsTokenNamed file name t
 IsBehindNamed file name marks.End = name ≡ codes "<end>"
+
+-- no token has the name, and no nonterminal
+abbrev pub HasNoToken : File → List ℕ → Type 0
+HasNoToken file name = (t : ℕ) → IsTokenNamed file name t → ⊥
+
+abbrev pub HasNoNonterminal : File → List ℕ → Type 0
+HasNoNonterminal file name = (n : ℕ) → IsNonterminalNamed file name n → ⊥
