@@ -272,8 +272,8 @@ next_here g above c w d new goal knows n is given grammar last =
         next = first_dropped (list_of g w) (told above w) goal new.left rest;
       },
       knows_then g above w new.left new (is_taken g above w goal new.left rest) (grammar ∙ knows.grammar) refl
-      (subst (λ (l : Option Criterion). TellsLast (Some w) l) (sym last) s.tells)
-      (λ v less. knows.later v (subst (λ (o : Option GoalWords). IsBehind o v) (sym s.is) (let same = s.same in omega (arith, same, less)))),
+          (subst (λ (l : Option Criterion). TellsLast (Some w) l) (sym last) s.tells)
+          (λ v less. knows.later v (subst (λ (o : Option GoalWords). IsBehind o v) (sym s.is) (let same = s.same in omega (arith, same, less)))),
     )
 
 pub none_here : (g : PlainGrammar) (above : List GoalWords) (c : Criterion) (w : GoalWords) (d : DueGoals) (goal : Goal) → KnowsGoals g above d → number c ≡ criterion w → is_last d.last c ≡ true → d.left ≡ [] → IsNextOf g above w goal → ⊥
@@ -295,8 +295,8 @@ next_later g above c w d new goal knows n is at_end given grammar last =
         next = first_dropped (list_of g w) (told above w) goal new.left rest;
       },
       knows_then g above w new.left new (is_taken g above w goal new.left rest) (grammar ∙ knows.grammar) refl
-      (subst (λ (l : Option Criterion). TellsLast (Some w) l) (sym last) n)
-      (λ v less. knows.later v (behind_more (last_goal above) w v behind less)),
+          (subst (λ (l : Option Criterion). TellsLast (Some w) l) (sym last) n)
+          (λ v less. knows.later v (behind_more (last_goal above) w v behind less)),
     )
 
 pub none_later : (g : PlainGrammar) (above : List GoalWords) (c : Criterion) (w : GoalWords) (d : DueGoals) (goal : Goal) → KnowsGoals g above d → number c ≡ criterion w → is_later d.last c ≡ true → goals g (criteria_of c) ≡ [] → IsNextOf g above w goal → ⊥

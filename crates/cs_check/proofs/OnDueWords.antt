@@ -3,46 +3,19 @@ use Rattle.std.proofs.Common.{◌≡◌, ◌<◌, ℕ, Bool, true, false, List, 
 use Rattle.std.specs.Prelude.{All, IfNone, IfSome, IsTrue, min, slice_get}
 use Rattle.std.proofs.lemmas.List.Elements.{All-head, All-rest, Contains-get_or}
 use Rattle.cs_choices.specs.declared.criteria.Criteria.{Criteria}
-use Rattle.cs_grammar.specs.Grammar.{IsNumberOf, PlainGrammar}
-use Rattle.cs_grammar.specs.declared.symbol.Mark.{Mark}
-use Rattle.cs_grammar.specs.declared.symbol.Mark.TheVariants as marks
+use Rattle.cs_grammar.specs.Grammar.{PlainGrammar}
 use Rattle.cs_goals.specs.declared.goal.Goal.{Goal}
-use Rattle.cs_goals.specs.Goal.{IsGoal, IsLeft, IsRight}
+use Rattle.cs_goals.specs.Goal.{IsGoal}
 use Rattle.cs_goals.specs.Goals.{goals}
 use Rattle.cs_goals.proofs.Once.{all}
 use Rattle.cs_yacc.specs.Reading.File.{File}
 use Rattle.cs_check.specs.declared.checking.goals.DueGoals.{DueGoals}
 use Rattle.cs_check.specs.declared.lines.line.GoalWords as held
 use Rattle.cs_check.specs.declared.lines.line.GoalWords.TheVariants as told_goals
-use Rattle.cs_check.specs.Words.Names.{IsMarkOf}
 use Rattle.cs_check.specs.Lines.Line.{GoalWords, OfRule, OfContext, OfPair}
 use Rattle.cs_check.specs.Lines.Read.{TellsGoal}
 use Rattle.cs_check.specs.Passing.Goals.{criterion, list_of, told, words_of, IsDue}
 use Rattle.cs_check.specs.Passing.DueGoals.{number, criterion_of, GivesNextOf, GivesNoneOf, HasNoneDue, IsNextOf, KnowsGoals, TakesDue, TellsWords}
-
--- the goals of some criteria are the grammar's
-pub all_goals : (g : PlainGrammar) (c : Criteria) → All (IsGoal g) (goals g c)
-all_goals g c = λ k d within. let goal = get_or (goals g c) k d in ((all g c goal).0 (Contains-get_or (goals g c) k d within)).1
-
--- of those that are left the first is one, and the others are
-pub given_goal : (g : PlainGrammar) (left : List Goal) (next : Option Goal) (new : List Goal) → All (IsGoal g) left → IfSome next (λ goal. left ≡ goal ∷ new) → IfSome next (IsGoal g)
-given_goal g left None new are is = tt
-given_goal g left (Some goal) new are is = All-head (IsGoal g) goal new (subst (All (IsGoal g)) is are)
-
-pub others_goals : (g : PlainGrammar) (left : List Goal) (next : Option Goal) (new : List Goal) → All (IsGoal g) left → IfSome next (λ goal. left ≡ goal ∷ new) → IfNone next ((left ≡ []) × (new ≡ [])) → All (IsGoal g) new
-others_goals g left None new are some none = subst (All (IsGoal g)) (none.0 ∙ sym none.1) are
-others_goals g left (Some goal) new are some none = All-rest (IsGoal g) goal new left some are
-
--- the marks of a pair are the grammar's
-pub left_mark : (g : PlainGrammar) (a : Mark) → IsLeft g.tokens a → IsMarkOf g a
-left_mark g marks.Begin is = tt
-left_mark g (marks.Token t) is = is
-left_mark g marks.End is = absurd is
-
-pub right_mark : (g : PlainGrammar) (a : Mark) → IsRight g.tokens a → IsMarkOf g a
-right_mark g marks.Begin is = absurd is
-right_mark g (marks.Token t) is = is
-right_mark g marks.End is = tt
 
 -- the criterion of the words that are told
 pub criterion_told : (t : held.GoalWords) (w : GoalWords) → TellsGoal t w → number (criterion_of t) ≡ criterion w

@@ -8,7 +8,6 @@ use Rattle.cs_check.specs.declared.checking.goals.Criterion.TheVariants as crite
 use Rattle.cs_check.specs.declared.checking.goals.DueGoals.{DueGoals}
 use Rattle.cs_check.specs.declared.lines.line.GoalWords as held
 use Rattle.cs_check.specs.declared.lines.line.GoalWords.TheVariants as goals
-use Rattle.cs_goals.specs.Goal.{IsGoal}
 use Rattle.cs_yacc.specs.Reading.File.{File}
 use Rattle.cs_check.specs.Lines.Line.{GoalWords}
 use Rattle.cs_check.specs.Lines.Read.{TellsGoal}
@@ -88,10 +87,6 @@ abbrev pub GivesNoneOf : DueGoals → Criterion → Type 0
 GivesNoneOf old c =
     (g : PlainGrammar) (above : List GoalWords) (words : GoalWords) → KnowsGoals g above old → number c ≡ criterion words
     → (goal : Goal) → IsNextOf g above words goal → ⊥
-
--- what is left is of the grammar
-abbrev pub AreGoals : DueGoals → Type 0
-AreGoals d = All (IsGoal d.grammar.now) d.left
 
 -- the answer tells whether the words are those of the goal
 abbrev pub TellsWords : File → held.GoalWords → Goal → Bool → Type 0

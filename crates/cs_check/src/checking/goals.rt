@@ -2,9 +2,8 @@
 
 ghost use Rattle.std.specs.Prelude.{◌≡◌, [], IfNone, IfSome};
 ghost use Rattle.cs_check.specs.Passing.DueGoals.{number, is_last, is_later, criteria_of, criterion_of};
-ghost use Rattle.cs_check.specs.Passing.DueGoals.{AreGoals, GivesNextOf, GivesNoneOf, KnowsGoals};
+ghost use Rattle.cs_check.specs.Passing.DueGoals.{GivesNextOf, GivesNoneOf, KnowsGoals};
 ghost use Rattle.cs_check.specs.Passing.DueGoals.{HasNoneDue, TakesDue, TellsFinished, TellsWords};
-ghost use Rattle.cs_goals.specs.Goal.{IsGoal};
 
 use crate::lines::GoalWords;
 use crate::naming::is_mark;
@@ -55,15 +54,26 @@ fn criteria_of(criterion: Criterion) -> Criteria
     ensures { result ≡ criteria_of criterion }
 {
     match criterion {
-        Criterion::Rule => Criteria { rule: true, cdrc: false, pair: false },
-        Criterion::Cdrc => Criteria { rule: false, cdrc: true, pair: false },
-        Criterion::Pair => Criteria { rule: false, cdrc: false, pair: true },
+        Criterion::Rule => Criteria {
+            rule: true,
+            cdrc: false,
+            pair: false,
+        },
+        Criterion::Cdrc => Criteria {
+            rule: false,
+            cdrc: true,
+            pair: false,
+        },
+        Criterion::Pair => Criteria {
+            rule: false,
+            cdrc: false,
+            pair: true,
+        },
     }
 }
 
 // Whether the words are those of the goal.
 fn are_words_of(file: &YaccFile, words: &GoalWords<'_>, goal: &Goal) -> bool
-    requires { IsGoal file.now.grammar goal.now }
     ensures { TellsWords file.now words.now goal.now result }
 {
     match (*words, *goal) {
@@ -90,9 +100,7 @@ fn are_words_of(file: &YaccFile, words: &GoalWords<'_>, goal: &Goal) -> bool
 impl<'a> DueGoals<'a> {
     /// What is due where no goal is above.
     pub(crate) fn new(grammar: &'a Grammar) -> DueGoals<'a>
-        ensures knows { KnowsGoals grammar.now [] result }
-        ensures goals { AreGoals result }
-        ensures grammar { result.grammar.now ≡ grammar.now }
+        ensures { KnowsGoals grammar.now [] result }
     {
         let none = Criteria {
             rule: false,
@@ -136,10 +144,6 @@ impl<'a> DueGoals<'a> {
 
     /// Takes the next goal of the criterion, where one of it may come.
     pub(crate) fn next_of(&mut self, criterion: Criterion) -> Option<Goal>
-        requires goals { AreGoals self.old }
-        ensures goals { AreGoals self.new }
-        ensures goal { IfSome result (IsGoal self.old.grammar.now) }
-        ensures grammar { self.new.grammar.now ≡ self.old.grammar.now }
         ensures some { IfSome result (GivesNextOf self.old criterion self.new) }
         ensures none { IfNone result (GivesNoneOf self.old criterion) }
     {
@@ -156,10 +160,6 @@ impl<'a> DueGoals<'a> {
 
     /// The goal of these words, where it is due; then it is told.
     pub(crate) fn take(&mut self, file: &YaccFile, words: &GoalWords<'_>) -> Option<Goal>
-        requires goals { AreGoals self.old }
-        requires grammar { self.old.grammar.now ≡ file.now.grammar }
-        ensures goals { AreGoals self.new }
-        ensures grammar { self.new.grammar.now ≡ self.old.grammar.now }
         ensures some { IfSome result (TakesDue file.now self.old words.now self.new) }
         ensures none { IfNone result (HasNoneDue file.now self.old words.now) }
     {

@@ -1,6 +1,6 @@
 -- The next goal of the last goal's list, or the first of a later criterion's.
 use Rattle.std.proofs.Common.{◌≡◌, ◌∷◌, [], ◌++◌, List, Option, None, Some, true, refl, sym, ap, ◌∙◌, subst}
-use Rattle.std.specs.Prelude.{All, IfNone, IfSome}
+use Rattle.std.specs.Prelude.{IfNone, IfSome}
 use Rattle.cs_grammar.specs.Grammar.{PlainGrammar}
 use Rattle.cs_goals.specs.declared.goal.Goal.{Goal}
 use Rattle.cs_goals.specs.Goals.{goals}
@@ -8,8 +8,6 @@ use Rattle.cs_check.specs.declared.checking.goals.Criterion.{Criterion}
 use Rattle.cs_check.specs.declared.checking.goals.DueGoals.{DueGoals}
 use Rattle.cs_check.specs.Passing.DueGoals.{is_last, is_later, criteria_of, GivesNextOf, GivesNoneOf, TellsFinished}
 use Rattle.cs_check.proofs.OnDueGoals.{next_here, none_here, next_later, none_later, none_may}
-use Rattle.cs_goals.specs.Goal.{IsGoal}
-use Rattle.cs_check.proofs.OnDueWords.{all_goals, given_goal, others_goals}
 use Rattle.cs_check.proofs.checking.goals.DueGoals.next_of.Goals as goal
 
 given_here : (c : Criterion) (d new : DueGoals) (next : Option Goal) → is_last d.last c ≡ true → new.grammar.now ≡ d.grammar.now → new.last ≡ d.last → IfSome next (λ x. d.left ≡ x ∷ new.left) → IfSome next (GivesNextOf d c new)
@@ -51,25 +49,3 @@ returns-clause-none c =
     let d = c.args.self.now in
     let of = c.new-self.ensures ∙ ap (goals d.grammar.now) c.criteria_of.ensures in
     ended_later c.args.criterion d c.new-self.result c.next-2.result c.next-2.new.self (sym c.is_later.ensures ∙ c.if-not-is_later.false) of c.next-2.ensures.none
-
--- the goals that are left stay goals of the grammar
-pub returns-then-is_last-clause-goals : goal.returns-then-is_last-clause-goals
-returns-then-is_last-clause-goals c = others_goals c.args.self.now.grammar.now c.args.self.now.left c.next.result c.next.new.self c.requires.goals c.next.ensures.some c.next.ensures.none
-
-pub returns-then-is_last-clause-goal : goal.returns-then-is_last-clause-goal
-returns-then-is_last-clause-goal c = given_goal c.args.self.now.grammar.now c.args.self.now.left c.next.result c.next.new.self c.requires.goals c.next.ensures.some
-
-later_goals : (g : PlainGrammar) (c : Criterion) (list : List Goal) → list ≡ goals g (criteria_of c) → All (IsGoal g) list
-later_goals g c list is = subst (All (IsGoal g)) (sym is) (all_goals g (criteria_of c))
-
-pub returns-clause-goals : goal.returns-clause-goals
-returns-clause-goals c =
-    let g = c.args.self.now.grammar.now in
-    let are = later_goals g c.args.criterion c.new-self.result (c.new-self.ensures ∙ ap (goals g) c.criteria_of.ensures) in
-    others_goals g c.new-self.result c.next-2.result c.next-2.new.self are c.next-2.ensures.some c.next-2.ensures.none
-
-pub returns-clause-goal : goal.returns-clause-goal
-returns-clause-goal c =
-    let g = c.args.self.now.grammar.now in
-    let are = later_goals g c.args.criterion c.new-self.result (c.new-self.ensures ∙ ap (goals g) c.criteria_of.ensures) in
-    given_goal g c.new-self.result c.next-2.result c.next-2.new.self are c.next-2.ensures.some
