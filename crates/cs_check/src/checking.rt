@@ -3,5 +3,6 @@
 //! Meaning: `specs/Passing/`. The files of `specs/Checking/` have working words of proofs.
 
 pub(crate) mod due;
+mod excluded;
 pub(crate) mod goals;
 pub(crate) mod part;
