@@ -2,7 +2,9 @@
 //!
 //! Meaning: `specs/Passing/`. The files of `specs/Checking/` have working words of proofs.
 
+mod claims;
 pub(crate) mod due;
 mod excluded;
 pub(crate) mod goals;
+mod marks;
 pub(crate) mod part;
