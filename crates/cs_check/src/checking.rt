@@ -4,6 +4,7 @@
 
 mod claims;
 pub(crate) mod due;
+mod edits;
 mod excluded;
 pub(crate) mod goals;
 mod marks;
