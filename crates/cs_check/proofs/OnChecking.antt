@@ -3,5 +3,7 @@ pub mod Named
 pub mod Claimed
 pub mod Claims
 pub mod Taking
+pub mod Trees
+pub mod Sizes
 pub mod Texts
 pub mod Agreeing

@@ -1,3 +1,4 @@
 pub mod Claims
 pub mod Edits
 pub mod Excluded
+pub mod Derivations

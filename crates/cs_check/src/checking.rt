@@ -3,9 +3,11 @@
 //! Meaning: `specs/Passing/`. The files of `specs/Checking/` have working words of proofs.
 
 mod claims;
+mod derivations;
 pub(crate) mod due;
 mod edits;
 mod excluded;
 pub(crate) mod goals;
 mod marks;
 pub(crate) mod part;
+mod sizes;

@@ -1,0 +1,66 @@
+// Derivations of cases.
+
+ghost use Rattle.std.specs.Prelude.{◌≡◌, ◌↔◌, ◌<◌, ◌≤◌, ◌^◌, ℕ, IfOk, length, All};
+ghost use Rattle.cs_grammar.specs.Leftmost.{IsYield};
+ghost use Rattle.cs_grammar.specs.Weights.{Measure};
+ghost use Rattle.cs_check.specs.Lines.Numbers.{greatest};
+ghost use Rattle.cs_check.specs.Lines.Read.{numbers_in};
+ghost use Rattle.cs_check.specs.Passing.Entries.{HasSize};
+ghost use Rattle.cs_check.specs.Checking.Derivations.{AreRules, IsExpanded};
+
+use crate::checking::sizes::size_of;
+use crate::lines::Numbers;
+use cs_grammar::{Derivation, ExpandError, Grammar, expand, one_tree};
+use std::alloc::{AllocError, Global};
+
+/// The rule numbers as a list; None where one of them is above all numbers of rules.
+pub(crate) fn read_rules(
+    alloc: Global,
+    numbers: Numbers<'_>,
+) -> Result<Option<Derivation>, AllocError>
+    ensures { IfOk result (AreRules (numbers_in numbers.entry)) }
+{
+    let mut derivation = Derivation::new(alloc);
+    let mut rest = numbers;
+    while let Some(number) = rest.next() {
+        if number > 65_535 {
+            return Ok(None);
+        }
+        derivation.push(number as u16)?;
+    }
+    Ok(Some(derivation))
+}
+
+/// The tokens that the rule numbers yield; None where they are no derivation.
+pub(crate) fn expanded(
+    alloc: Global,
+    grammar: &Grammar,
+    derivation: &Derivation,
+) -> Result<Option<Vec<u16>>, AllocError>
+    requires { length derivation.now < 2 ^ 32 }
+    ensures { IfOk result (IsExpanded grammar.now derivation.now) }
+{
+    match expand(alloc, grammar, derivation) {
+        Ok(tokens) => Ok(Some(tokens)),
+        Err(ExpandError::Memory) => Err(AllocError),
+        Err(_) => Ok(None),
+    }
+}
+
+/// The size of the tree of a derivation with this yield, by the tokens' numbers.
+pub(crate) fn tree_size(
+    grammar: &Grammar,
+    derivation: &Derivation,
+    tokens: &[u16],
+    numbers: &[u32],
+) -> u64
+    requires few { length derivation.now < 2 ^ 32 }
+    requires yields { IsYield grammar.now derivation.now tokens.now }
+    ensures size { (w : Measure) → w.numbers ≡ numbers.now → All (λ n. n ≤ 1000000) w.numbers
+        → (n : ℕ) → HasSize grammar.now w derivation.now n ↔ (n ≡ result) }
+    ensures below { All (λ n. n ≤ 1000000) numbers.now → result < greatest }
+{
+    one_tree();
+    let _well_formed = grammar.rules();
+    size_of(derivation.rules().len(), tokens, numbers)
+}
