@@ -5,5 +5,6 @@ pub mod Claims
 pub mod Taking
 pub mod Trees
 pub mod Sizes
+pub mod Cases
 pub mod Texts
 pub mod Agreeing

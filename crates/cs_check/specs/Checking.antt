@@ -1,4 +1,5 @@
 pub mod Claims
 pub mod Edits
+pub mod Cases
 pub mod Excluded
 pub mod Derivations

@@ -2,6 +2,7 @@
 //!
 //! Meaning: `specs/Passing/`. The files of `specs/Checking/` have working words of proofs.
 
+mod cases;
 mod claims;
 mod derivations;
 pub(crate) mod due;
