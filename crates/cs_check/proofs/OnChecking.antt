@@ -7,4 +7,5 @@ pub mod Trees
 pub mod Sizes
 pub mod Cases
 pub mod Texts
+pub mod Comparing
 pub mod Agreeing

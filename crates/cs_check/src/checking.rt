@@ -11,4 +11,6 @@ mod excluded;
 pub(crate) mod goals;
 mod marks;
 pub(crate) mod part;
+mod scans;
 mod sizes;
+mod texts;
