@@ -8,4 +8,6 @@ pub mod Sizes
 pub mod Cases
 pub mod Texts
 pub mod Comparing
+pub mod Framed
+pub mod Apart
 pub mod Agreeing

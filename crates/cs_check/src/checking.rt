@@ -2,12 +2,14 @@
 //!
 //! Meaning: `specs/Passing/`. The files of `specs/Checking/` have working words of proofs.
 
+mod apart;
 mod cases;
 mod claims;
 mod derivations;
 pub(crate) mod due;
 mod edits;
 mod excluded;
+mod framed;
 pub(crate) mod goals;
 mod marks;
 pub(crate) mod part;
