@@ -10,4 +10,7 @@ pub mod Texts
 pub mod Comparing
 pub mod Framed
 pub mod Apart
+pub mod Once
 pub mod Agreeing
+pub mod Told
+pub mod Deriving

@@ -3,3 +3,4 @@ pub mod Edits
 pub mod Cases
 pub mod Excluded
 pub mod Derivations
+pub mod Told

@@ -8,6 +8,7 @@ mod claims;
 mod derivations;
 pub(crate) mod due;
 mod edits;
+mod entries;
 mod excluded;
 mod framed;
 pub(crate) mod goals;

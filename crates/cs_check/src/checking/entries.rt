@@ -1,0 +1,100 @@
+// What the lines behind the head have told.
+
+ghost use Rattle.std.specs.Prelude.{◌≡◌, ◌↔◌, ◌<◌, ◌≤◌, ◌+◌, ◌^◌, ◌++◌, ◌∷◌, [], ℕ, List, All, IsTrue, IfOk, length};
+ghost use Rattle.std.specs.List.{Contains};
+ghost use Rattle.cs_check.specs.Lines.Line.{Line, CaseLine, TokensLine};
+ghost use Rattle.cs_check.specs.Lines.Numbers.{IsRead};
+ghost use Rattle.cs_check.specs.Lines.Read.{names_in, numbers_in};
+
+use crate::checking::cases::Cases;
+use crate::checking::derivations::{expanded, read_rules, tree_size};
+use crate::checking::goals::DueGoals;
+use crate::checking::texts::are_tokens;
+use crate::lines::{Counts, Names, Numbers};
+use crate::passing::ClaimFault;
+use cs_grammar::one_tree;
+use cs_yacc::YaccFile;
+use std::alloc::{AllocError, Global};
+
+/// What the lines behind the head have told.
+#[derive(Debug, Drop)]
+pub(crate) struct Entries<'a> {
+    cases: Cases<'a>,
+    // Of each goal the number of its case, or 0.
+    goal_cases: Vec<u64>,
+    due: DueGoals<'a>,
+    // How many bases there were, and the tokens of the last.
+    bases: u64,
+    base: Vec<u16>,
+    // The size of the last case, and the tokens of the last case or negative.
+    size: u64,
+    tokens: Vec<u16>,
+    counts: Counts,
+}
+
+// One more.
+fn more(count: u64) -> u64
+    ensures { count < 2 ^ 32 → result ≡ count + 1 }
+{
+    count.saturating_add(1)
+}
+
+impl<'a> Entries<'a> {
+    ghost use Rattle.cs_yacc.specs.Reading.File.{File};
+    ghost use Rattle.cs_check.specs.Passing.Places.{OfCase, OfDerivation, tokens_part, last_part, next_parts};
+    ghost use Rattle.cs_check.specs.Passing.Faults.{HasTokens};
+    ghost use Rattle.cs_check.specs.Checking.Told.{AreEntries, IsDerivationJudged};
+    ghost use Rattle.cs_grammar.specs.Weights.{Measure};
+    ghost use Rattle.cs_check.specs.Passing.Entries.{IsMeasured};
+
+    /// Takes a case line, which may come here.
+    pub(crate) fn take_case(&mut self, size: u64)
+        ensures { (file : File) (lines : List Line) (n s : ℕ) → AreEntries file lines self.old
+            → Contains (next_parts (last_part lines)) OfCase → IsRead s size
+            → length lines + 1 < 2 ^ 32 → AreEntries file (lines ++ CaseLine n s ∷ []) self.new }
+    {
+        self.counts.cases = more(self.counts.cases);
+        self.size = size;
+    }
+
+    /// Whether the names are those of the tokens that were told last.
+    pub(crate) fn tells(&self, file: &YaccFile, names: Names<'_>) -> bool
+        ensures { (lines : List Line) → AreEntries file.now lines self.now
+            → Contains (next_parts (last_part lines)) (tokens_part (last_part lines))
+            → IsTrue result ↔ HasTokens file.now lines (TokensLine (names_in names.entry)) }
+    {
+        one_tree();
+        are_tokens(file, names, &self.tokens)
+    }
+
+    /// Takes a derive line, which may come here: what is wrong with it, if anything.
+    pub(crate) fn take_derivation(
+        &mut self,
+        alloc: Global,
+        numbers: &[u32],
+        rules: Numbers<'_>,
+    ) -> Result<Option<ClaimFault>, AllocError>
+        requires { length (numbers_in rules) < 2 ^ 32 }
+        ensures { (file : File) (lines : List Line) (w : Measure) → AreEntries file lines self.old
+            → Contains (next_parts (last_part lines)) OfDerivation → length lines + 1 < 2 ^ 32
+            → IsMeasured lines w → w.numbers ≡ numbers.now → All (λ n. n ≤ 1000000) w.numbers
+            → IfOk result (IsDerivationJudged file lines (numbers_in rules.entry) self.new) }
+    {
+        one_tree();
+        let grammar = self.cases.grammar();
+        let _well_formed = grammar.rules();
+        let Some(derivation) = read_rules(alloc, rules)? else {
+            return Ok(Some(ClaimFault::Derive));
+        };
+        let Some(tokens) = expanded(alloc, grammar, &derivation)? else {
+            return Ok(Some(ClaimFault::Derive));
+        };
+        let size = tree_size(grammar, &derivation, &tokens, numbers);
+        if size != self.size {
+            return Ok(Some(ClaimFault::Size));
+        }
+        self.cases.push(size, derivation)?;
+        self.tokens = tokens;
+        Ok(None)
+    }
+}
