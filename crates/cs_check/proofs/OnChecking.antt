@@ -2,6 +2,7 @@ pub mod Inserts
 pub mod Named
 pub mod Claimed
 pub mod Claims
+pub mod NoClaims
 pub mod Taking
 pub mod Trees
 pub mod Sizes
@@ -12,5 +13,10 @@ pub mod Framed
 pub mod Apart
 pub mod Once
 pub mod Agreeing
+pub mod Judging
+pub mod Kinds
+pub mod Pieces
+pub mod Reading
 pub mod Told
 pub mod Deriving
+pub mod Quiet

@@ -3,4 +3,5 @@ pub mod Edits
 pub mod Cases
 pub mod Excluded
 pub mod Derivations
+pub mod Judging
 pub mod Told
