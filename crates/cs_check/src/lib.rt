@@ -5,6 +5,8 @@
 //! - `closed`: sets of which a test tells that they are closed under the rules of a grammar, and which goals they exclude.
 //! - `lines`: what a line of a manifest says, read in place.
 //! - `passing`: what a manifest has to say to pass, line by line. No call decides it yet.
+//! - `naming`: the names of a file's symbols and marks, as lines have them.
+//! - `checking`: the steps of the pass over the lines of a manifest. No call takes them all yet.
 //!
 //! # What it is for
 //!
