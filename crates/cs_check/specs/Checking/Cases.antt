@@ -1,8 +1,11 @@
 -- The cases that were told. Working words of proofs.
-use Rattle.std.specs.Prelude.{◌≡◌, ◌<◌, ◌≤◌, ◌+◌, ℕ, List, Option, Some, None}
+use Rattle.std.specs.Global.{Vec}
+use Rattle.std.specs.Prelude.{◌≡◌, ◌↔◌, ◌<◌, ◌≤◌, ◌+◌, ◌++◌, ◌∷◌, [], All, Bool, IfOk, IsTrue, Result, slice_get, ℕ, List, Option, Some, None}
 use Rattle.cs_grammar.specs.Grammar.{PlainGrammar}
 use Rattle.cs_goals.specs.declared.goal.Goal.{Goal}
+use Rattle.cs_grammar.specs.Leftmost.{IsYield}
 use Rattle.cs_goals.specs.Meets.{IsMeeting}
+use Rattle.cs_check.specs.Lines.Numbers.{IsRead, greatest}
 use Rattle.cs_check.specs.Passing.Entries.{IsNumbered}
 
 -- a case: its size and its rule numbers
@@ -37,3 +40,24 @@ pub record PlainCases : Type 0 where
 
 abbrev pub cases_of : PlainGrammar → List PlainCase → PlainCases
 cases_of g list = record { grammar = g; list = list }
+
+-- with a case more
+abbrev pub IsPushed : PlainCases → ℕ → List ℕ → PlainCases → Type 0
+IsPushed old size rules new = new ≡ cases_of old.grammar (old.list ++ case_of size rules ∷ [])
+
+-- the case stands at the place, and yields the tokens
+abbrev pub IsAt : PlainCases → ℕ → PlainCase → Type 0
+IsAt cases place case = slice_get cases.list place ≡ Some case
+
+abbrev pub Yields : PlainCases → PlainCase → Vec ℕ → Type 0
+Yields cases case tokens = IsYield cases.grammar case.rules tokens.items
+
+-- the answer tells whether the case of this number meets the goal
+abbrev pub TellsMet : PlainCases → Goal → ℕ → Bool → Type 0
+TellsMet cases goal number met = IsTrue met ↔ Meets cases.grammar cases.list goal number
+
+-- and whether what is told of cases is so, where none has the greatest size
+abbrev pub TellsShown : {E : Type 0} → PlainCases → Goal → ℕ → ℕ → ℕ → Result Bool E → Type 0
+TellsShown cases goal size case first result =
+    (s n f : ℕ) → IsRead s size → IsRead n case → IsRead f first → All (λ told. told.size < greatest) cases.list
+    → IfOk result (λ so. IsTrue so ↔ Shows cases.grammar cases.list goal s n f)

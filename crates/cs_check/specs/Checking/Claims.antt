@@ -5,6 +5,10 @@ use Rattle.cs_grammar.specs.declared.symbol.Mark.{Mark}
 use Rattle.cs_grammar.specs.Grammar.{PlainGrammar, IsNumberOf}
 use Rattle.cs_yacc.specs.Reading.File.{File}
 use Rattle.cs_check.specs.Words.Names.{IsTokenNamed, IsNonterminalNamed, IsBehindNamed}
+use Rattle.cs_check.specs.declared.lines.names.Names.{Names}
+use Rattle.cs_check.specs.declared.lines.line.SetKind as held_sets
+use Rattle.cs_check.specs.declared.lines.line.RowKind as held_rows
+use Rattle.cs_check.specs.Lines.Read.{names_in, set_kind, row_kind}
 use Rattle.cs_check.specs.Lines.Line.{SetKind, RowKind, First, Last, Next, Line, SetLine, RowLine}
 use Rattle.cs_check.specs.Closed.Sets.{PlainSets, IsIn, IsPair, IsNext}
 use Rattle.cs_check.specs.Passing.Above.{sets, rows}
@@ -86,3 +90,16 @@ abbrev pub ClaimsRow : File → RowKind → ℕ → List (List ℕ) → PlainSet
 ClaimsRow file kind number names old new =
     (lines : List Line) (name : List ℕ) → AreClaimed file lines old → IsNextRow lines kind number
     → AreClaimed file (lines ++ RowLine kind name names ∷ []) new
+
+-- by the names of a line
+abbrev pub HasTokens : File → Names → ℕ → List (List Bool) → List (List Bool) → Type 0
+HasTokens file names number old new = IsWithTokens file (names_in names) number old new
+
+abbrev pub HasBehind : File → Names → Mark → PlainSets → PlainSets → Type 0
+HasBehind file names a old new = IsWithBehind file (names_in names) a old new
+
+abbrev pub ClaimsSetLine : File → held_sets.SetKind → Names → PlainSets → PlainSets → Type 0
+ClaimsSetLine file kind names old new = ClaimsSet file (set_kind kind) (names_in names) old new
+
+abbrev pub ClaimsRowLine : File → held_rows.RowKind → ℕ → Names → PlainSets → PlainSets → Type 0
+ClaimsRowLine file kind number names old new = ClaimsRow file (row_kind kind) number (names_in names) old new

@@ -1,20 +1,21 @@
 -- What the lines behind the head have told. Working words of the code's contracts.
-use Rattle.std.specs.Prelude.{◌≡◌, ◌<◌, ◌^◌, ℕ, List, [], ◌∷◌, ◌++◌, Option, Some, None, length, map, count_by, All}
-use Rattle.std.specs.List.{AllZip}
+use Rattle.std.specs.Prelude.{◌≡◌, ◌↔◌, ◌<◌, ◌≤◌, ◌+◌, ◌^◌, Bool, IfOk, IsTrue, Result, ℕ, List, [], ◌∷◌, ◌++◌, Option, Some, None, length, map, count_by, All}
+use Rattle.std.specs.List.{AllZip, Contains}
 use Rattle.cs_grammar.specs.Grammar.{PlainGrammar}
+use Rattle.cs_grammar.specs.Weights.{Measure}
 use Rattle.cs_yacc.specs.Reading.File.{File}
 use Rattle.cs_check.specs.declared.checking.entries.Entries.{Entries}
 use Rattle.cs_check.specs.declared.passing.fault.ClaimFault.{ClaimFault}
 use Rattle.cs_check.specs.declared.passing.fault.ClaimFault.TheVariants.{Derive, Size}
 use Rattle.cs_check.specs.declared.lines.line.Counts as held
-use Rattle.cs_check.specs.Lines.Line.{VerdictWords, Feasible, Infeasible, Large, Line, DeriveLine}
+use Rattle.cs_check.specs.Lines.Line.{VerdictWords, Feasible, Infeasible, Large, Line, CaseLine, DeriveLine, TokensLine}
 use Rattle.cs_check.specs.Lines.Numbers.{IsRead, greatest}
 use Rattle.cs_check.specs.Passing.Above.{case_sizes, derivations, goals_in, verdicts, base_goals, edits, is_feasible, is_infeasible, is_large}
-use Rattle.cs_check.specs.Passing.Places.{Part, OfCase, OfDerivation, OfCaseTokens, OfBase, OfNegative, OfNegativeTokens, OfNegativeText, last_part}
-use Rattle.cs_check.specs.Passing.Entries.{IsCase, IsNegative, IsBase}
+use Rattle.cs_check.specs.Passing.Places.{Part, OfCase, OfDerivation, OfCaseTokens, OfBase, OfNegative, OfNegativeTokens, OfNegativeText, last_part, next_parts, tokens_part}
+use Rattle.cs_check.specs.Passing.Entries.{IsCase, IsNegative, IsBase, IsMeasured}
 use Rattle.cs_check.specs.Passing.DueGoals.{KnowsGoals}
 use Rattle.cs_scanner.specs.Scan.Scan.{Scanning}
-use Rattle.cs_check.specs.Passing.Faults.{Checked, HasDerivation, HasCaseSize}
+use Rattle.cs_check.specs.Passing.Faults.{Checked, HasDerivation, HasCaseSize, HasTokens}
 use Rattle.cs_check.specs.Checking.Cases.{PlainCase}
 
 abbrev pub sizes_of : List PlainCase → List ℕ
@@ -84,3 +85,23 @@ IsDerivationJudged file lines rules new (Some Derive) = HasDerivation file.gramm
 IsDerivationJudged file lines rules new (Some Size) =
     HasDerivation file.grammar (DeriveLine rules) × (HasCaseSize file.grammar lines (DeriveLine rules) → ⊥)
 IsDerivationJudged file lines rules new (Some f) = ⊥
+
+-- a case line is taken, where it may come
+abbrev pub TakesCase : Entries → ℕ → Entries → Type 0
+TakesCase old size new =
+    (file : File) (lines : List Line) (n s : ℕ) → AreEntries file lines old → Contains (next_parts (last_part lines)) OfCase
+    → IsRead s size → length lines + 1 < 2 ^ 32 → AreEntries file (lines ++ CaseLine n s ∷ []) new
+
+-- the answer tells whether names are those of a tokens line, where it may come
+abbrev pub TellsTokens : File → Entries → List (List ℕ) → Bool → Type 0
+TellsTokens file e names so =
+    (lines : List Line) → AreEntries file lines e → Contains (next_parts (last_part lines)) (tokens_part (last_part lines))
+    → IsTrue so ↔ HasTokens file lines (TokensLine names)
+
+-- a derive line is judged, where it may come, by these numbers of tokens
+abbrev pub JudgesDerivation : {E : Type 0} → Entries → List ℕ → List ℕ → Entries → Result (Option ClaimFault) E → Type 0
+JudgesDerivation old numbers rules new result =
+    (file : File) (lines : List Line) (w : Measure) → AreEntries file lines old
+    → Contains (next_parts (last_part lines)) OfDerivation → length lines + 1 < 2 ^ 32
+    → IsMeasured lines w → w.numbers ≡ numbers → All (λ n. n ≤ 1000000) w.numbers
+    → IfOk result (IsDerivationJudged file lines rules new)

@@ -1,11 +1,6 @@
 // Pairs of a negative.
 
-ghost use Rattle.std.specs.Prelude.{◌↔◌, ℕ, IsTrue, List};
-ghost use Rattle.cs_grammar.specs.Sentence.{framed};
-ghost use Rattle.cs_check.specs.Lines.Line.{Line};
-ghost use Rattle.cs_check.specs.Lines.Numbers.{IsRead};
-ghost use Rattle.cs_check.specs.Passing.Entries.{IsKeptApart};
-ghost use Rattle.cs_check.specs.Checking.Excluded.{AreSetsIn};
+ghost use Rattle.cs_check.specs.Checking.Excluded.{TellsApart};
 
 use crate::checking::excluded::exclude;
 use crate::checking::framed::framed_at;
@@ -23,9 +18,7 @@ pub(crate) fn is_kept_apart(
     left: &[u8],
     right: &[u8],
 ) -> bool
-    ensures { (lines : List Line) (n : ℕ) → AreSetsIn file.now lines sets.now → IsRead n at
-        → IsTrue result
-        ↔ IsKeptApart file.now lines (framed tokens.now) n left.now right.now }
+    ensures { TellsApart file.now sets.now tokens.now at left.now right.now result }
 {
     let Some(first) = framed_at(tokens, at) else {
         return false;

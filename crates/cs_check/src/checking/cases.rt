@@ -1,10 +1,10 @@
 // The cases that were told.
 
-ghost use Rattle.std.specs.Prelude.{◌≡◌, ◌↔◌, ℕ, ◌<◌, ◌^◌, ◌∷◌, ◌++◌, [], All, IsTrue, IfOk, OnOk, length, slice_get, Some};
+ghost use Rattle.std.specs.Prelude.{◌≡◌, ◌<◌, ◌^◌, ℕ, [], IfOk, OnOk, length};
 ghost use Rattle.cs_grammar.specs.Tree.{IsDerivationOf};
-ghost use Rattle.cs_grammar.specs.Leftmost.{IsYield};
-ghost use Rattle.cs_check.specs.Lines.Numbers.{IsRead, greatest};
-ghost use Rattle.cs_check.specs.Checking.Cases.{PlainCase, case_of, cases_of, IsPlaceOf, Meets, Shows};
+ghost use Rattle.cs_check.specs.Lines.Numbers.{IsRead};
+ghost use Rattle.cs_check.specs.Checking.Cases.{PlainCase, cases_of, IsPlaceOf, IsPushed, IsAt, Yields};
+ghost use Rattle.cs_check.specs.Checking.Cases.{TellsMet, TellsShown};
 
 use cs_goals::{Goal, meets};
 use cs_grammar::{Derivation, Grammar, yield_of};
@@ -86,8 +86,7 @@ impl<'g> Cases<'g> {
     /// Adds a case.
     pub(crate) fn push(&mut self, size: u64, derivation: Derivation) -> Result<(), AllocError>
         requires { IsDerivationOf self.old.grammar derivation }
-        ensures { OnOk result
-            (self.new ≡ cases_of self.old.grammar (self.old.list ++ case_of size derivation ∷ [])) }
+        ensures { OnOk result (IsPushed self.old size derivation self.new) }
     {
         self.list.push(Case { size, derivation })?;
         Ok(())
@@ -96,7 +95,7 @@ impl<'g> Cases<'g> {
     /// The size of the case at this place.
     pub(crate) fn size(&self, place: usize) -> u64
         requires { place < length self.now.list }
-        ensures { (case : PlainCase) → slice_get self.now.list place ≡ Some case → result ≡ case.size }
+        ensures { (case : PlainCase) → IsAt self.now place case → result ≡ case.size }
     {
         self.list[place].size
     }
@@ -104,8 +103,8 @@ impl<'g> Cases<'g> {
     /// The tokens of the case at this place.
     pub(crate) fn tokens(&self, alloc: Global, place: usize) -> Result<Vec<u16>, AllocError>
         requires { place < length self.now.list }
-        ensures { (case : PlainCase) → slice_get self.now.list place ≡ Some case
-            → IfOk result (λ tokens. IsYield self.now.grammar case.rules tokens.items) }
+        ensures { (case : PlainCase) → IsAt self.now place case
+            → IfOk result (Yields self.now case) }
     {
         yield_of(alloc, self.grammar, &self.list[place].derivation)
     }
@@ -117,8 +116,7 @@ impl<'g> Cases<'g> {
         goal: &Goal,
         number: u64,
     ) -> Result<bool, AllocError>
-        ensures { (n : ℕ) → IsRead n number
-            → IfOk result (λ met. IsTrue met ↔ Meets self.now.grammar self.now.list goal.now n) }
+        ensures { (n : ℕ) → IsRead n number → IfOk result (TellsMet self.now goal.now n) }
     {
         match place_in(number, self.list.len()) {
             Some(place) => meets(alloc, self.grammar, goal, &self.list[place].derivation),
@@ -135,9 +133,7 @@ impl<'g> Cases<'g> {
         case: u64,
         first: u64,
     ) -> Result<bool, AllocError>
-        ensures { (s n f : ℕ) → IsRead s size → IsRead n case → IsRead f first
-            → All (λ told. told.size < greatest) self.now.list → IfOk result (λ so.
-            IsTrue so ↔ Shows self.now.grammar self.now.list goal.now s n f) }
+        ensures { TellsShown self.now goal.now size case first result }
     {
         let Some(place) = place_in(case, self.list.len()) else {
             return Ok(false);

@@ -3,9 +3,10 @@
 ghost use Rattle.std.specs.Prelude.{◌≡◌, ◌↔◌, IsTrue, All, length};
 ghost use Rattle.std.specs.Bool.{OnTrue};
 ghost use Rattle.cs_grammar.specs.Grammar.{IsNumberOf};
-ghost use Rattle.cs_check.specs.Lines.Read.{names_in, set_kind, row_kind};
+ghost use Rattle.cs_check.specs.Lines.Read.{names_in, row_kind};
 ghost use Rattle.cs_check.specs.Passing.Head.{IsTokenName, IsNonterminalName, IsRowName};
-ghost use Rattle.cs_check.specs.Checking.Claims.{IsWithNonterminals, IsWithTokens, IsTable, AreWholeSets, IsRowNumber, ClaimsSet, ClaimsRow};
+ghost use Rattle.cs_check.specs.Checking.Claims.{IsWithNonterminals, HasTokens, IsTable, AreWholeSets, IsRowNumber};
+ghost use Rattle.cs_check.specs.Checking.Claims.{ClaimsSetLine, ClaimsRowLine};
 
 use crate::checking::marks::put_next;
 use crate::closed::{Set, Sets};
@@ -38,7 +39,7 @@ fn put_in_each(file: &YaccFile, table: &mut [Set], nonterminal: u16, names: Name
     requires number { IsNumberOf file.now.grammar.nonterminals nonterminal }
     ensures known { IsTrue result ↔ All (IsTokenName file.now) (names_in names.entry) }
     ensures put { OnTrue result
-        (IsWithTokens file.now (names_in names.entry) nonterminal table.old table.new) }
+        (HasTokens file.now names.entry nonterminal table.old table.new) }
     ensures table { IsTable file.now.grammar.tokens file.now.grammar.nonterminals table.new }
 {
     let mut rest = names;
@@ -57,7 +58,7 @@ pub(crate) fn claim_set(file: &YaccFile, sets: &mut Sets, kind: SetKind, names: 
     ensures known { IsTrue result ↔ All (IsNonterminalName file.now) (names_in names.entry) }
     ensures whole { AreWholeSets file.now.grammar sets.new }
     ensures claimed { OnTrue result
-        (ClaimsSet file.now (set_kind kind) (names_in names.entry) sets.old sets.new) }
+        (ClaimsSetLine file.now kind names.entry sets.old sets.new) }
 {
     match kind {
         SetKind::Productive => put_nonterminals(file, &mut sets.productive, names),
@@ -80,7 +81,7 @@ pub(crate) fn claim_row(
         ↔ All (IsRowName file.now (row_kind kind)) (names_in names.entry) }
     ensures whole { AreWholeSets file.now.grammar sets.new }
     ensures claimed { OnTrue result
-        (ClaimsRow file.now (row_kind kind) number (names_in names.entry) sets.old sets.new) }
+        (ClaimsRowLine file.now kind number names.entry sets.old sets.new) }
 {
     match kind {
         RowKind::First => put_in_each(file, sets.first.as_mut_slice(), number, names),

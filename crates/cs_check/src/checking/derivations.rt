@@ -2,11 +2,9 @@
 
 ghost use Rattle.std.specs.Prelude.{◌≡◌, ◌↔◌, ◌<◌, ◌≤◌, ◌^◌, ℕ, IfOk, length, All};
 ghost use Rattle.cs_grammar.specs.Leftmost.{IsYield};
-ghost use Rattle.cs_grammar.specs.Weights.{Measure};
 ghost use Rattle.cs_check.specs.Lines.Numbers.{greatest};
 ghost use Rattle.cs_check.specs.Lines.Read.{numbers_in};
-ghost use Rattle.cs_check.specs.Passing.Entries.{HasSize};
-ghost use Rattle.cs_check.specs.Checking.Derivations.{AreRules, IsExpanded};
+ghost use Rattle.cs_check.specs.Checking.Derivations.{AreRules, IsExpanded, TellsSize};
 
 use crate::checking::sizes::size_of;
 use crate::lines::Numbers;
@@ -56,8 +54,7 @@ pub(crate) fn tree_size(
 ) -> u64
     requires few { length derivation.now < 2 ^ 32 }
     requires yields { IsYield grammar.now derivation.now tokens.now }
-    ensures size { (w : Measure) → w.numbers ≡ numbers.now → All (λ n. n ≤ 1000000) w.numbers
-        → (n : ℕ) → HasSize grammar.now w derivation.now n ↔ (n ≡ result) }
+    ensures size { TellsSize grammar.now derivation.now numbers.now result }
     ensures below { All (λ n. n ≤ 1000000) numbers.now → result < greatest }
 {
     one_tree();

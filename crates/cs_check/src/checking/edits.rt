@@ -1,11 +1,9 @@
 // What an edit makes of a list of tokens.
 
-ghost use Rattle.std.specs.Prelude.{◌≡◌, ◌+◌, ◌≤◌, ℕ, [], ◌∷◌, List, IfOk, OnOk, length};
-ghost use Rattle.cs_yacc.specs.Reading.File.{File};
-ghost use Rattle.cs_check.specs.Words.Edits.{EditWords, Deletes, Inserts, Replaces, Swaps, patched};
+ghost use Rattle.std.specs.Prelude.{◌≡◌, ◌+◌, ◌≤◌, ℕ, OnOk, length};
+ghost use Rattle.cs_check.specs.Words.Edits.{patched};
 ghost use Rattle.cs_check.specs.Lines.Numbers.{IsRead};
-ghost use Rattle.cs_check.specs.Lines.Read as read;
-ghost use Rattle.cs_check.specs.Checking.Edits.{IsEditedIf, IsBelow};
+ghost use Rattle.cs_check.specs.Checking.Edits.{IsBelow, DeletesAt, InsertsAt, ReplacesAt, SwapsAt, EditsTold};
 
 use crate::lines;
 use crate::naming::find_token;
@@ -42,8 +40,7 @@ pub(crate) fn below(place: u64, end: usize) -> Option<usize>
 }
 
 fn delete(base: &[u16], at: u64, edited: &mut Vec<u16>) -> Result<bool, AllocError>
-    ensures { (file : File) (n : ℕ) → IsRead n at
-        → IfOk result (λ fits. IsEditedIf fits file base.now (Deletes n) edited.new.items) }
+    ensures { DeletesAt at base.now edited.new.items result }
 {
     let Some(place) = below(at, base.len()) else {
         return Ok(false);
@@ -59,8 +56,7 @@ fn insert(
     name: &[u8],
     edited: &mut Vec<u16>,
 ) -> Result<bool, AllocError>
-    ensures { (n : ℕ) → IsRead n at → IfOk result (λ fits.
-        IsEditedIf fits file.now base.now (Inserts n name.now) edited.new.items) }
+    ensures { InsertsAt file.now at name.now base.now edited.new.items result }
 {
     let Some(place) = below(at, base.len() + 1) else {
         return Ok(false);
@@ -79,8 +75,7 @@ fn replace(
     name: &[u8],
     edited: &mut Vec<u16>,
 ) -> Result<bool, AllocError>
-    ensures { (n : ℕ) → IsRead n at → IfOk result (λ fits.
-        IsEditedIf fits file.now base.now (Replaces n name.now) edited.new.items) }
+    ensures { ReplacesAt file.now at name.now base.now edited.new.items result }
 {
     let Some(place) = below(at, base.len()) else {
         return Ok(false);
@@ -93,8 +88,7 @@ fn replace(
 }
 
 fn swap(base: &[u16], at: u64, edited: &mut Vec<u16>) -> Result<bool, AllocError>
-    ensures { (file : File) (n : ℕ) → IsRead n at
-        → IfOk result (λ fits. IsEditedIf fits file base.now (Swaps n) edited.new.items) }
+    ensures { SwapsAt at base.now edited.new.items result }
 {
     let Some(place) = below(at, base.len()) else {
         return Ok(false);
@@ -114,8 +108,7 @@ pub(crate) fn edit_into(
     edit: lines::EditWords<'_>,
     edited: &mut Vec<u16>,
 ) -> Result<bool, AllocError>
-    ensures { (words : EditWords) → read.TellsEdit edit.entry words → IfOk result (λ fits.
-        IsEditedIf fits file.now base.now words edited.new.items) }
+    ensures { EditsTold file.now edit.entry base.now edited.new.items result }
 {
     match edit {
         lines::EditWords::Delete(at) => delete(base, at, edited),

@@ -1,9 +1,6 @@
 // What the lines behind the head have told.
 
-ghost use Rattle.std.specs.Prelude.{◌≡◌, ◌↔◌, ◌<◌, ◌≤◌, ◌+◌, ◌^◌, ◌++◌, ◌∷◌, [], ℕ, List, All, IsTrue, IfOk, length};
-ghost use Rattle.std.specs.List.{Contains};
-ghost use Rattle.cs_check.specs.Lines.Line.{Line, CaseLine, TokensLine};
-ghost use Rattle.cs_check.specs.Lines.Numbers.{IsRead};
+ghost use Rattle.std.specs.Prelude.{◌≡◌, ◌<◌, ◌+◌, ◌^◌, length};
 ghost use Rattle.cs_check.specs.Lines.Read.{names_in, numbers_in};
 
 use crate::checking::cases::Cases;
@@ -40,18 +37,11 @@ fn more(count: u64) -> u64
 }
 
 impl<'a> Entries<'a> {
-    ghost use Rattle.cs_yacc.specs.Reading.File.{File};
-    ghost use Rattle.cs_check.specs.Passing.Places.{OfCase, OfDerivation, tokens_part, last_part, next_parts};
-    ghost use Rattle.cs_check.specs.Passing.Faults.{HasTokens};
-    ghost use Rattle.cs_check.specs.Checking.Told.{AreEntries, IsDerivationJudged};
-    ghost use Rattle.cs_grammar.specs.Weights.{Measure};
-    ghost use Rattle.cs_check.specs.Passing.Entries.{IsMeasured};
+    ghost use Rattle.cs_check.specs.Checking.Told.{TakesCase, TellsTokens, JudgesDerivation};
 
     /// Takes a case line, which may come here.
     pub(crate) fn take_case(&mut self, size: u64)
-        ensures { (file : File) (lines : List Line) (n s : ℕ) → AreEntries file lines self.old
-            → Contains (next_parts (last_part lines)) OfCase → IsRead s size
-            → length lines + 1 < 2 ^ 32 → AreEntries file (lines ++ CaseLine n s ∷ []) self.new }
+        ensures { TakesCase self.old size self.new }
     {
         self.counts.cases = more(self.counts.cases);
         self.size = size;
@@ -59,9 +49,7 @@ impl<'a> Entries<'a> {
 
     /// Whether the names are those of the tokens that were told last.
     pub(crate) fn tells(&self, file: &YaccFile, names: Names<'_>) -> bool
-        ensures { (lines : List Line) → AreEntries file.now lines self.now
-            → Contains (next_parts (last_part lines)) (tokens_part (last_part lines))
-            → IsTrue result ↔ HasTokens file.now lines (TokensLine (names_in names.entry)) }
+        ensures { TellsTokens file.now self.now (names_in names.entry) result }
     {
         one_tree();
         are_tokens(file, names, &self.tokens)
@@ -75,10 +63,7 @@ impl<'a> Entries<'a> {
         rules: Numbers<'_>,
     ) -> Result<Option<ClaimFault>, AllocError>
         requires { length (numbers_in rules) < 2 ^ 32 }
-        ensures { (file : File) (lines : List Line) (w : Measure) → AreEntries file lines self.old
-            → Contains (next_parts (last_part lines)) OfDerivation → length lines + 1 < 2 ^ 32
-            → IsMeasured lines w → w.numbers ≡ numbers.now → All (λ n. n ≤ 1000000) w.numbers
-            → IfOk result (IsDerivationJudged file lines (numbers_in rules.entry) self.new) }
+        ensures { JudgesDerivation self.old numbers.now (numbers_in rules.entry) self.new result }
     {
         one_tree();
         let grammar = self.cases.grammar();

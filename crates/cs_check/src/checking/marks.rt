@@ -6,7 +6,7 @@ ghost use Rattle.std.specs.Bool.{OnTrue};
 ghost use Rattle.cs_grammar.specs.Grammar.{IsNumberOf};
 ghost use Rattle.cs_check.specs.Lines.Read.{names_in};
 ghost use Rattle.cs_check.specs.Passing.Head.{mark_at, IsBehindName};
-ghost use Rattle.cs_check.specs.Checking.Claims.{AreWholeSets, AreSameButNext, IsWithNext, IsWithNamed, IsWithBehind};
+ghost use Rattle.cs_check.specs.Checking.Claims.{AreWholeSets, AreSameButNext, IsWithNext, IsWithNamed, HasBehind};
 
 use crate::closed::Sets;
 use crate::lines::Names;
@@ -74,7 +74,7 @@ pub(crate) fn put_next(file: &YaccFile, sets: &mut Sets, mark: u16, names: Names
     requires mark { mark ≤ file.now.grammar.tokens }
     ensures known { IsTrue result ↔ All (IsBehindName file.now) (names_in names.entry) }
     ensures put { OnTrue result
-        (IsWithBehind file.now (names_in names.entry) (mark_at mark) sets.old sets.new) }
+        (HasBehind file.now names.entry (mark_at mark) sets.old sets.new) }
     ensures whole { AreWholeSets file.now.grammar sets.new }
     ensures same { AreSameButNext sets.old sets.new }
 {

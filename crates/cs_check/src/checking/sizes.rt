@@ -1,8 +1,7 @@
 // The sizes of trees, by the numbers of tokens.
 
-ghost use Rattle.std.specs.Prelude.{◌≡◌, ◌+◌, ◌-◌, min, slice_index_or};
-ghost use Rattle.std.specs.List.{sum_by};
-ghost use Rattle.cs_check.specs.Lines.Numbers.{greatest};
+ghost use Rattle.std.specs.Prelude.{◌≡◌, ◌-◌, slice_index_or};
+ghost use Rattle.cs_check.specs.Checking.Derivations.{size_told};
 
 // The number of a token, which is 1 where there is none.
 fn number_at(numbers: &[u32], token: u16) -> u32
@@ -17,8 +16,7 @@ fn number_at(numbers: &[u32], token: u16) -> u32
 
 /// The size of a tree with so many nodes and these leaves, by the tokens' numbers; the greatest number stands for all above.
 pub(crate) fn size_of(nodes: usize, tokens: &[u16], numbers: &[u32]) -> u64
-    ensures { result
-        ≡ min (nodes + sum_by (λ t. slice_index_or numbers.now (t - 1) 1) tokens.now) greatest }
+    ensures { result ≡ size_told nodes tokens.now numbers.now }
 {
     let mut size = nodes as u64;
     for token in tokens {
