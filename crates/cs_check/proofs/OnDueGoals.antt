@@ -1,11 +1,10 @@
 -- What is known of the goals above when one more of them is told.
-use Rattle.std.proofs.Common.{◌≡◌, ℕ, zero, suc, ◌+◌, ◌<◌, ◌≤◌, ◌⊎◌, inl, inr, Bool, true, false, List, [], ◌∷◌, ◌++◌, drop, length, refl, sym, ap, ◌∙◌, subst, Option, None, Some, arith, ⊎_elim}
+use Rattle.std.proofs.Common.{◌≡◌, ℕ, zero, suc, ◌+◌, ◌<◌, ◌≤◌, inl, inr, Bool, true, false, List, [], ◌∷◌, ◌++◌, drop, length, refl, sym, ap, ◌∙◌, subst, Option, None, Some, arith, ⊎_elim}
 use Rattle.std.specs.Prelude.{slice_get, count_by, cond, nat_lt, ◌==◌, not, is_some, IsTrue, IfNone, IfSome}
 use Rattle.std.specs.List.{last_or}
-use Rattle.cs_choices.specs.declared.criteria.Criteria.{Criteria}
 use Rattle.cs_grammar.specs.Grammar.{PlainGrammar}
 use Rattle.cs_goals.specs.declared.goal.Goal.{Goal}
-use Rattle.cs_goals.specs.Goals.{goals, rule_goals, context_goals, pair_goals}
+use Rattle.cs_goals.specs.Goals.{goals, rule_goals, context_goals}
 use Rattle.std.proofs.lemmas.List.{append-nil}
 use Rattle.std.proofs.lemmas.List.Sums.{sum_by_push}
 use Rattle.cs_check.specs.declared.checking.goals.Criterion.{Criterion}

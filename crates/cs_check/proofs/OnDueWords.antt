@@ -1,21 +1,15 @@
 -- The words of a goal that is due: which goals are left, and whose words are whose.
-use Rattle.std.proofs.Common.{◌≡◌, ◌<◌, ℕ, Bool, true, false, List, [], ◌∷◌, ◌++◌, length, get_or, refl, sym, ap, ◌∙◌, subst, Option, None, Some, arith}
-use Rattle.std.specs.Prelude.{All, IfNone, IfSome, IsTrue, min, slice_get}
-use Rattle.std.proofs.lemmas.List.Elements.{All-head, All-rest, Contains-get_or}
-use Rattle.cs_choices.specs.declared.criteria.Criteria.{Criteria}
-use Rattle.cs_grammar.specs.Grammar.{PlainGrammar}
+use Rattle.std.proofs.Common.{◌≡◌, ℕ, Bool, true, false, List, refl, sym, ap, ◌∙◌, Some}
+use Rattle.std.specs.Prelude.{slice_get}
 use Rattle.cs_goals.specs.declared.goal.Goal.{Goal}
-use Rattle.cs_goals.specs.Goal.{IsGoal}
-use Rattle.cs_goals.specs.Goals.{goals}
-use Rattle.cs_goals.proofs.Once.{all}
 use Rattle.cs_yacc.specs.Reading.File.{File}
 use Rattle.cs_check.specs.declared.checking.goals.DueGoals.{DueGoals}
 use Rattle.cs_check.specs.declared.lines.line.GoalWords as held
 use Rattle.cs_check.specs.declared.lines.line.GoalWords.TheVariants as told_goals
 use Rattle.cs_check.specs.Lines.Line.{GoalWords, OfRule, OfContext, OfPair}
 use Rattle.cs_check.specs.Lines.Read.{TellsGoal}
-use Rattle.cs_check.specs.Passing.Goals.{criterion, list_of, told, words_of, IsDue}
-use Rattle.cs_check.specs.Passing.DueGoals.{number, criterion_of, GivesNextOf, GivesNoneOf, HasNoneDue, IsNextOf, KnowsGoals, TakesDue, TellsWords}
+use Rattle.cs_check.specs.Passing.Goals.{criterion, list_of, told, words_of}
+use Rattle.cs_check.specs.Passing.DueGoals.{number, criterion_of, GivesNextOf, GivesNoneOf, HasNoneDue, TakesDue, TellsWords}
 
 -- the criterion of the words that are told
 pub criterion_told : (t : held.GoalWords) (w : GoalWords) → TellsGoal t w → number (criterion_of t) ≡ criterion w

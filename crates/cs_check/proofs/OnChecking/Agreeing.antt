@@ -1,7 +1,6 @@
 -- Sets that the same lines claim have the same members.
-use Rattle.std.proofs.Common.{◌≡◌, ℕ, List, sym, ◌∙◌}
+use Rattle.std.proofs.Common.{List}
 use Rattle.cs_goals.specs.declared.goal.Goal.{Goal}
-use Rattle.cs_grammar.specs.declared.symbol.Mark.{Mark}
 use Rattle.cs_yacc.specs.Reading.File.{File}
 use Rattle.cs_check.specs.Lines.Line.{Line}
 use Rattle.cs_check.specs.Closed.Sets.{PlainSets}

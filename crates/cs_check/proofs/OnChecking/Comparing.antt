@@ -1,5 +1,5 @@
 -- Names that are compared with those of a list, one by one.
-use Rattle.std.proofs.Common.{◌≡◌, ℕ, ◌+◌, ◌<◌, ◌≤◌, List, [], ◌∷◌, map, length, get_or, drop, refl, sym, ap, ◌∙◌, subst, ◌↔◌, arith}
+use Rattle.std.proofs.Common.{◌≡◌, ℕ, ◌+◌, ◌<◌, ◌≤◌, List, [], ◌∷◌, map, length, get_or, drop, sym, ap, ◌∙◌, ◌↔◌}
 use Rattle.std.proofs.lemmas.List.{drop_more, drop_all}
 
 module _ {X : Type 0} (f : X → List ℕ) (xs : List X) (All : Type 0) where

@@ -22,7 +22,7 @@ use Rattle.cs_check.specs.Lines.Numbers.{IsRead, greatest}
 use Rattle.cs_check.specs.Lines.Line.{GoalWords, VerdictWords, Line, DeriveLine, TextLine}
 use Rattle.cs_check.specs.Passing.Above.{size_in, derivation_in, goal_in, verdict_in, base_in, edit_in, weighs, lexemes, case_sizes, derivations, is_feasible, is_infeasible, is_large}
 use Rattle.cs_check.specs.Passing.Places.{Part, InHead, OfCase, OfDerivation, OfCaseTokens, OfCaseText, OfGoal, OfBase, OfNegative, OfNegativeTokens, OfNegativeText, OfEnd, last_part, next_parts}
-use Rattle.cs_check.specs.Passing.Entries.{IsNumbered, IsLast, IsMeasured, HasSize, AreTold, measured as measured_by}
+use Rattle.cs_check.specs.Passing.Entries.{IsLast, IsMeasured, HasSize, AreTold, measured as measured_by}
 use Rattle.cs_check.specs.Passing.DueGoals.{KnowsGoals}
 use Rattle.cs_check.specs.Passing.Faults.{Checked, HasCaseSize, HasScan}
 use Rattle.cs_check.specs.Checking.Cases.{PlainCase, case_of, cases_of}

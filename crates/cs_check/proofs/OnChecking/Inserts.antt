@@ -1,12 +1,10 @@
 -- One number more in a set, in a table of sets, and in the sets of marks.
-use Rattle.std.proofs.Common.{◌≡◌, ◌≢◌, ℕ, zero, suc, ◌+◌, ◌-◌, ◌<◌, ◌≤◌, Bool, false, List, [], length, get_or, set, sym, ap, ◌∙◌, subst, ⊎_elim, inl, inr, ◌⊎◌, ◌↔◌, arith, get_or-set_other, get_or-set_same}
-use Rattle.std.specs.Prelude.{All}
+use Rattle.std.proofs.Common.{◌≡◌, ◌≢◌, ℕ, zero, suc, ◌+◌, ◌<◌, Bool, false, List, [], length, get_or, set, sym, ap, ◌∙◌, ⊎_elim, inl, inr, ◌⊎◌, ◌↔◌, arith, get_or-set_other, get_or-set_same}
 use Rattle.std.proofs.lemmas.Bool.{cases_eq}
 use Rattle.std.proofs.lemmas.List.{length-set}
 use Rattle.std.proofs.lemmas.List.Elements.{All-set}
 use Rattle.cs_grammar.specs.Entries.{entry_or}
-use Rattle.cs_grammar.specs.Grammar.{IsNumberOf}
-use Rattle.cs_check.specs.Closed.Sets.{IsIn, IsWith, IsPair}
+use Rattle.cs_check.specs.Closed.Sets.{IsWith, IsPair}
 use Rattle.cs_check.specs.Checking.Claims.{IsTable}
 
 -- the table has the pair of a number and a second one, too

@@ -1,6 +1,5 @@
 -- What lines tell of tokens they tell once.
 use Rattle.std.proofs.Common.{◌≡◌, ℕ, List, [], ◌∷◌, ◌++◌, Some, length, sym, ap, ◌∙◌, subst, append-nil}
-use Rattle.std.specs.Prelude.{slice_get}
 use Rattle.cs_grammar.specs.declared.symbol.Symbol.{Symbol}
 use Rattle.cs_grammar.specs.declared.symbol.Symbol.TheVariants.{Nonterminal}
 use Rattle.cs_grammar.specs.Grammar.{PlainGrammar}
@@ -9,10 +8,10 @@ use Rattle.cs_grammar.specs.Leftmost.{IsYield}
 use Rattle.cs_yacc.specs.Reading.File.{File}
 use Rattle.cs_check.specs.Words.Names.{token_of}
 use Rattle.cs_check.specs.Words.Edits.{EditWords, Deletes, Inserts, Replaces, Swaps, patched, IsEdited}
-use Rattle.cs_check.specs.Lines.Line.{VerdictWords, Feasible, Line}
+use Rattle.cs_check.specs.Lines.Line.{Feasible, Line}
 use Rattle.cs_check.specs.Passing.Above.{derivations, verdicts, base_goals, edits}
 use Rattle.cs_check.specs.Passing.Places.{Part, InHead, OfCase, OfDerivation, OfCaseTokens, OfCaseText, OfGoal, OfBase, OfNegative, OfNegativeTokens, OfNegativeText, OfEnd, last_part}
-use Rattle.cs_check.specs.Passing.Entries.{IsNumbered, IsLast, IsCase, HasCase, IsBase, IsMade, IsNegative, IsTold, AreTold}
+use Rattle.cs_check.specs.Passing.Entries.{IsNumbered, IsCase, HasCase, IsBase, IsMade, IsNegative, IsTold, AreTold}
 use Rattle.cs_check.proofs.OnChecking.Named.{one_named}
 
 pub one_numbered : {A : Type 0} (list : List A) (number : ℕ) (a b : A) → IsNumbered list number a → IsNumbered list number b → a ≡ b

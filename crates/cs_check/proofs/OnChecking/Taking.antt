@@ -1,7 +1,5 @@
 -- What one more name adds to sets, tables and marks.
-use Rattle.std.proofs.Common.{◌≡◌, ℕ, Bool, List, [], ◌∷◌, ◌++◌, refl, sym, ap, ◌∙◌, subst, ⊎_elim, inl, inr, ◌⊎◌, ◌↔◌}
-use Rattle.std.specs.List.{Contains}
-use Rattle.std.proofs.lemmas.List.Elements.{Contains-push, Contains-push_cases, Contains-append_left}
+use Rattle.std.proofs.Common.{◌≡◌, ℕ, Bool, List, [], ◌∷◌, ◌++◌, sym, subst, ⊎_elim, inl, inr}
 use Rattle.cs_grammar.specs.declared.symbol.Mark.{Mark}
 use Rattle.cs_yacc.specs.Reading.File.{File}
 use Rattle.cs_check.specs.Words.Names.{token_of, nonterminal_of, IsTokenNamed, IsNonterminalNamed, IsBehindNamed}

@@ -1,9 +1,8 @@
 -- The names at places of a file's lists.
-use Rattle.std.proofs.Common.{◌≡◌, ◌≢◌, ℕ, zero, suc, ◌+◌, ◌-◌, ◌<◌, ◌≤◌, List, [], Some, Option, length, get_or, sym, ap, ◌∙◌, subst, arith, unwrap_or}
+use Rattle.std.proofs.Common.{◌≡◌, ◌≢◌, ℕ, ◌+◌, ◌-◌, ◌<◌, ◌≤◌, List, [], Some, Option, length, get_or, sym, ap, ◌∙◌, arith, unwrap_or}
 use Rattle.std.specs.Prelude.{slice_get}
 use Rattle.std.specs.Option.{option_map_or}
 use Rattle.std.proofs.lemmas.Option.{slice_get-get_or, slice_get_past}
-use Rattle.cs_grammar.specs.Grammar.{IsNumberOf}
 use Rattle.cs_yacc.specs.declared.reading.name.TokenName.{TokenName}
 use Rattle.cs_yacc.specs.Reading.File.{File}
 use Rattle.cs_check.specs.Words.Names.{token_text, token_of, nonterminal_of, IsFirstNamed}

@@ -1,19 +1,17 @@
 -- What the lines have told, with one line more.
-use Rattle.std.proofs.Common.{◌≡◌, ℕ, zero, suc, ◌+◌, ◌-◌, ◌<◌, ◌≤◌, Bool, true, false, ◌==◌, List, [], ◌∷◌, ◌++◌, Option, Some, None, length, refl, sym, ap, ◌∙◌, subst, ⊎_elim, inl, inr, ◌⊎◌, append-nil, eq-eqb, arith}
-use Rattle.std.specs.Prelude.{◌||◌, count_by, slice_get, slice_index_or}
-use Rattle.std.specs.List.{AllZip, Contains, filter_map, cons_option, fold}
+use Rattle.std.proofs.Common.{◌≡◌, ℕ, zero, suc, ◌+◌, ◌<◌, ◌≤◌, Bool, true, false, ◌==◌, List, [], ◌∷◌, ◌++◌, Option, Some, None, length, refl, sym, ap, ◌∙◌, subst, ⊎_elim, inl, inr, ◌⊎◌, append-nil, eq-eqb, arith}
+use Rattle.std.specs.Prelude.{◌||◌, count_by}
+use Rattle.std.specs.List.{AllZip, Contains, filter_map, cons_option}
 use Rattle.std.proofs.lemmas.Bool.{false≢true}
 use Rattle.std.proofs.lemmas.List.{length-append, length_push}
 use Rattle.std.proofs.lemmas.List.Elements.{filter_map-append}
 use Rattle.std.proofs.lemmas.List.Sums.{fold-append}
-use Rattle.cs_grammar.specs.Grammar.{PlainGrammar}
-use Rattle.cs_grammar.specs.Leftmost.{IsYield}
 use Rattle.cs_yacc.specs.Reading.File.{File}
-use Rattle.cs_check.specs.Words.Edits.{EditWords, IsEdited}
+use Rattle.cs_check.specs.Words.Edits.{EditWords}
 use Rattle.cs_check.specs.Lines.Line.{GoalWords, VerdictWords, Feasible, Line, CaseLine}
-use Rattle.cs_check.specs.Passing.Above.{size_in, derivation_in, goal_in, verdict_in, base_in, edit_in, case_sizes, derivations, goals_in, verdicts, base_goals, edits, is_feasible, is_infeasible, is_large}
+use Rattle.cs_check.specs.Passing.Above.{size_in, derivation_in, goal_in, verdict_in, base_in, edit_in, case_sizes, derivations, verdicts, base_goals, edits, is_feasible, is_infeasible, is_large}
 use Rattle.cs_check.specs.Passing.Places.{Part, InHead, OfCase, OfDerivation, OfCaseTokens, OfCaseText, OfGoal, OfBase, OfNegative, OfNegativeTokens, OfNegativeText, OfEnd, tokens_part, text_part, part_of, last_part, next_parts}
-use Rattle.cs_check.specs.Passing.Entries.{IsNumbered, IsLast, IsCase, HasCase, IsBase, IsMade, IsNegative, IsTold}
+use Rattle.cs_check.specs.Passing.Entries.{IsNumbered, IsLast, IsCase, IsBase, IsNegative, IsTold}
 use Rattle.cs_check.specs.Passing.DueGoals.{KnowsGoals}
 use Rattle.cs_check.specs.declared.checking.entries.Entries.{Entries}
 use Rattle.cs_check.specs.Lines.Numbers.{IsRead}

@@ -1,5 +1,5 @@
 -- Sets with the same members are closed alike, and exclude the same goals.
-use Rattle.std.proofs.Common.{◌≡◌, ℕ, List, ◌↔◌}
+use Rattle.std.proofs.Common.{ℕ, List}
 use Rattle.std.specs.Prelude.{All}
 use Rattle.std.proofs.lemmas.List.Elements.{All-weaker}
 use Rattle.cs_grammar.specs.declared.symbol.Symbol.{Symbol}
@@ -10,7 +10,7 @@ use Rattle.cs_grammar.specs.Grammar.{Production, PlainGrammar}
 use Rattle.cs_goals.specs.declared.goal.Goal.{Goal}
 use Rattle.cs_goals.specs.declared.goal.Goal.TheVariants.{Rule, Context, Pair}
 use Rattle.cs_check.specs.Closed.Sets.{PlainSets, IsProductive, IsReachable, IsEmpty, IsFirst, IsLast, IsNext, IsProductiveSymbol, IsReachableSymbol, IsEmptySymbol, IsFirstOf, IsLastOf}
-use Rattle.cs_check.specs.Closed.Closed.{IsLive, IsUsed, IsFirstAmong, IsLastAmong, MayMeet, AreClosedUnder, AreClosed, IsLiveRule, IsUsedRule, Allows, Excludes}
+use Rattle.cs_check.specs.Closed.Closed.{IsLive, IsUsed, IsFirstAmong, IsLastAmong, MayMeet, AreClosedUnder, AreClosed, Allows, Excludes}
 
 -- the members of the first sets are members of the second
 pub record AreWithin (s t : PlainSets) : Type 0 where

@@ -1,5 +1,5 @@
 -- What the code knows of the goals above, and what is due by that. Working words of the code's contracts.
-use Rattle.std.specs.Prelude.{◌≡◌, ◌<◌, ◌≤◌, ◌↔◌, ℕ, nat_lt, ◌==◌, Bool, true, false, List, [], ◌∷◌, ◌++◌, drop, length, Option, None, Some, All, IsTrue, slice_get}
+use Rattle.std.specs.Prelude.{◌≡◌, ◌<◌, ◌≤◌, ◌↔◌, ℕ, nat_lt, ◌==◌, Bool, true, false, List, [], ◌∷◌, ◌++◌, drop, length, Option, None, Some, IsTrue, slice_get}
 use Rattle.cs_choices.specs.declared.criteria.Criteria.{Criteria}
 use Rattle.cs_grammar.specs.Grammar.{PlainGrammar}
 use Rattle.cs_goals.specs.declared.goal.Goal.{Goal}

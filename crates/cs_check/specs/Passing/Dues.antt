@@ -1,5 +1,5 @@
 -- What the code's dues tell, and what is due from a line of the head on. Working words of the code's contracts.
-use Rattle.std.specs.Prelude.{ℕ, ◌+◌, List, ◌∷◌, ◌++◌, length, map}
+use Rattle.std.specs.Prelude.{◌+◌, List, ◌∷◌, ◌++◌, length, map}
 use Rattle.std.specs.List.{range_with_len}
 use Rattle.cs_grammar.specs.Grammar.{PlainGrammar}
 use Rattle.cs_check.specs.declared.checking.due.Due as held

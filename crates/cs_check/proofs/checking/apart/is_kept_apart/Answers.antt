@@ -1,4 +1,4 @@
-use Rattle.std.proofs.Common.{◌≡◌, ℕ, ◌+◌, Some, sym, ◌∙◌, arith}
+use Rattle.std.proofs.Common.{◌+◌, sym, ◌∙◌, arith}
 use Rattle.cs_grammar.specs.Sentence.{framed}
 use Rattle.cs_check.specs.Lines.Numbers.{IsRead}
 use Rattle.cs_check.proofs.OnChecking.Apart.{apart_is}

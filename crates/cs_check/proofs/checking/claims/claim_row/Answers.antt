@@ -1,8 +1,8 @@
-use Rattle.std.proofs.Common.{◌≡◌, ℕ, Bool, List, length, sym, ap, subst, arith}
+use Rattle.std.proofs.Common.{Bool, List, sym, ap, subst, arith}
 use Rattle.std.specs.Vec.{with_items}
 use Rattle.std.proofs.lemmas.Bool.{OnTrue_from, OnTrue_at}
 use Rattle.std.proofs.lemmas.List.{with_items_is}
-use Rattle.cs_check.specs.Lines.Line.{RowKind, First, Last, Next}
+use Rattle.cs_check.specs.Lines.Line.{RowKind, First, Last}
 use Rattle.cs_check.specs.Lines.Read.{names_in, row_kind}
 use Rattle.cs_check.specs.Closed.Sets.{PlainSets}
 use Rattle.cs_check.specs.Checking.Claims.{IsTable, AreWholeSets, IsWithTokens, ClaimsRow}

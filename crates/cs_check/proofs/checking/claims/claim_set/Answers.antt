@@ -1,4 +1,4 @@
-use Rattle.std.proofs.Common.{ℕ, List, sym, ap, subst}
+use Rattle.std.proofs.Common.{sym, ap, subst}
 use Rattle.std.proofs.lemmas.Bool.{OnTrue_from, OnTrue_at}
 use Rattle.cs_check.specs.Lines.Line.{SetKind}
 use Rattle.cs_check.specs.Lines.Read.{names_in, set_kind}

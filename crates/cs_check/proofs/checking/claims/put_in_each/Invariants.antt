@@ -1,4 +1,4 @@
-use Rattle.std.proofs.Common.{◌≡◌, ℕ, List, length}
+use Rattle.std.proofs.Common.{ℕ, List, length}
 use Rattle.cs_check.specs.Lines.Read.{names_in}
 use Rattle.cs_check.specs.Passing.Head.{IsTokenName}
 use Rattle.cs_check.specs.Checking.Claims.{IsTable, IsWithTokens}

@@ -1,9 +1,7 @@
 -- The first so many places are those of the lines of this kind, and those behind them are the rest's.
-use Rattle.std.proofs.Common.{◌≡◌, ◌-◌, ◌+◌, ◌<◌, ◌≤◌, ℕ, List, length, sym, ap, ◌∙◌, arith, Some}
+use Rattle.std.proofs.Common.{◌≡◌, ◌-◌, ◌+◌, ◌<◌, ◌≤◌, ℕ, sym, ap, ◌∙◌, arith, Some}
 use Rattle.std.specs.Prelude.{slice_get}
-use Rattle.cs_grammar.specs.Grammar.{Production}
-use Rattle.cs_check.specs.Lines.Line.{First, Last}
-use Rattle.cs_check.specs.Passing.Head.{Due, TheToken, TheRule, TheLexeme, TheRow}
+use Rattle.cs_check.specs.Passing.Head.{TheLexeme}
 use Rattle.cs_check.specs.Passing.Dues.{claims_on}
 use Rattle.cs_check.proofs.OnDues.{in_range, behind_range}
 use Rattle.cs_check.proofs.checking.due.lexeme_at.Goals as goal

@@ -2,8 +2,7 @@
 use Rattle.std.proofs.Common.{◌≡◌, ◌-◌, ◌+◌, ◌<◌, ◌≤◌, ℕ, List, length, sym, ap, ◌∙◌, arith, Some}
 use Rattle.std.specs.Prelude.{slice_get}
 use Rattle.cs_grammar.specs.Grammar.{Production}
-use Rattle.cs_check.specs.Lines.Line.{First, Last}
-use Rattle.cs_check.specs.Passing.Head.{Due, TheToken, TheRule, TheLexeme, TheRow}
+use Rattle.cs_check.specs.Passing.Head.{TheRule}
 use Rattle.cs_check.specs.Passing.Dues.{lexemes_on}
 use Rattle.cs_check.proofs.OnDues.{in_range, behind_range}
 use Rattle.cs_check.proofs.checking.due.rule_at.Goals as goal

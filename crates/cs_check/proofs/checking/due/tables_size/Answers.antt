@@ -1,4 +1,4 @@
-use Rattle.std.proofs.Common.{◌≡◌, List, length, ap, arith}
+use Rattle.std.proofs.Common.{List, length, ap, arith}
 use Rattle.cs_grammar.specs.Grammar.{Production}
 use Rattle.cs_check.proofs.OnDues.{tables_long}
 use Rattle.cs_check.proofs.checking.due.tables_size.Goals as goal

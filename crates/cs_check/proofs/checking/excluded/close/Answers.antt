@@ -1,4 +1,4 @@
-use Rattle.std.proofs.Common.{◌≡◌, sym, subst}
+use Rattle.std.proofs.Common.{sym, subst}
 use Rattle.cs_grammar.specs.Grammar.{PlainGrammar}
 use Rattle.cs_check.specs.Closed.Closed.{AreClosed}
 use Rattle.cs_check.proofs.OnChecking.Agreeing.{claimed_closed}

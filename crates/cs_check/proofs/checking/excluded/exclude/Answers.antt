@@ -1,4 +1,4 @@
-use Rattle.std.proofs.Common.{◌≡◌, sym, subst, Option}
+use Rattle.std.proofs.Common.{sym, subst, Option}
 use Rattle.cs_grammar.specs.Grammar.{PlainGrammar}
 use Rattle.cs_check.specs.Closed.Sets.{PlainSets}
 use Rattle.cs_check.specs.Closed.Closed.{Excludes}

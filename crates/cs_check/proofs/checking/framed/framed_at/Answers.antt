@@ -1,4 +1,4 @@
-use Rattle.std.proofs.Common.{◌≡◌, ◌+◌, ◌<◌, ◌≤◌, length, ⊎_elim, arith}
+use Rattle.std.proofs.Common.{◌<◌, ◌≤◌, length, ⊎_elim, arith}
 use Rattle.std.proofs.lemmas.Bool.{cases_lt}
 use Rattle.cs_check.proofs.OnChecking.Framed.{framed_token, framed_end, framed_past}
 use Rattle.cs_check.proofs.checking.framed.framed_at.Goals as goal

@@ -1,5 +1,4 @@
 use Rattle.cs_scanner.specs.Scan.Compared.{scanning}
-use Rattle.cs_scanner.specs.Scan.Scanned.{IsScanOf}
 use Rattle.cs_check.proofs.checking.scans.scans_to_long.Goals as goal
 
 pub returns-in-Stops : goal.returns-in-Stops

@@ -1,4 +1,4 @@
-use Rattle.std.proofs.Common.{◌≡◌, ℕ, List, map, get_or}
+use Rattle.std.proofs.Common.{◌≡◌, map, get_or}
 use Rattle.std.proofs.lemmas.List.{get_or_default}
 use Rattle.cs_grammar.specs.declared.symbol.Symbol.TheVariants.{Token}
 use Rattle.cs_check.specs.Words.Names.{symbol_text}

@@ -1,6 +1,6 @@
-use Rattle.std.proofs.Common.{ℕ, ◌≡◌, ◌+◌, ◌-◌, ◌<◌, ◌≤◌, ◌≢◌, false, length, get_or, sym, ap, ◌∙◌, below_more, arith}
+use Rattle.std.proofs.Common.{ℕ, ◌≡◌, ◌+◌, ◌<◌, ◌≢◌, length, get_or, sym, ap, ◌∙◌, below_more, arith}
 use Rattle.std.proofs.lemmas.Bool.{false≢true}
-use Rattle.cs_check.specs.Words.Names.{token_text, token_of}
+use Rattle.cs_check.specs.Words.Names.{token_of}
 use Rattle.cs_check.proofs.OnChecking.Texts.{token_at, first_named, none_named}
 use Rattle.cs_check.proofs.naming.finding.find_token.Goals as goal
 

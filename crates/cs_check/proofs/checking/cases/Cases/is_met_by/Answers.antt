@@ -1,5 +1,5 @@
-use Rattle.std.proofs.Common.{◌≡◌, ◌<◌, ◌≤◌, ◌-◌, ℕ, List, Some, length, get_or, sym, ap, ◌∙◌, subst, arith, ◌↔◌}
-use Rattle.std.specs.Prelude.{slice_get, IfOk, IsTrue}
+use Rattle.std.proofs.Common.{◌<◌, ◌-◌, length, ap, ◌∙◌, subst, arith, ◌↔◌}
+use Rattle.std.specs.Prelude.{IfOk, IsTrue}
 use Rattle.std.proofs.lemmas.Option.{slice_get_within}
 use Rattle.std.proofs.lemmas.Result.{IfOk-weaker}
 use Rattle.cs_goals.specs.Meets.{IsMeeting}

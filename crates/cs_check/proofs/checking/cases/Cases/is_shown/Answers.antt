@@ -1,8 +1,6 @@
-use Rattle.std.proofs.Common.{◌≡◌, ◌<◌, ◌+◌, ℕ, true, length, get_or, refl, sym, ap, ◌∙◌, subst, arith, ◌↔◌}
-use Rattle.std.specs.Prelude.{IfOk, IsTrue}
-use Rattle.std.proofs.lemmas.Result.{IfOk-weaker}
-use Rattle.cs_check.specs.Checking.Cases.{PlainCase, PlainCases, Meets, Shows}
-use Rattle.cs_check.proofs.OnChecking.Cases.{other_size, shown_from}
+use Rattle.std.proofs.Common.{◌≡◌, ◌<◌, length, get_or, ap, ◌∙◌, subst, arith}
+use Rattle.cs_check.specs.Checking.Cases.{PlainCase, PlainCases}
+use Rattle.cs_check.proofs.OnChecking.Cases.{other_size}
 use Rattle.cs_check.proofs.checking.cases.Cases.is_shown.Goals as goal
 
 pub index-requires : goal.index-requires

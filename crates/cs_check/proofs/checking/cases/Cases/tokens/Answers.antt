@@ -1,8 +1,7 @@
-use Rattle.std.proofs.Common.{◌≡◌, ◌<◌, ℕ, List, Some, length, get_or, sym, ap, ◌∙◌, subst, arith}
+use Rattle.std.proofs.Common.{◌≡◌, ◌<◌, ℕ, List, Some, length, ap, ◌∙◌, subst, arith}
 use Rattle.std.specs.Prelude.{slice_get, IfOk}
-use Rattle.cs_grammar.specs.Tree.{IsDerivationOf}
 use Rattle.cs_grammar.specs.Leftmost.{IsYield}
-use Rattle.cs_check.specs.Checking.Cases.{PlainCase, PlainCases, cases_of}
+use Rattle.cs_check.specs.Checking.Cases.{PlainCase, PlainCases}
 use Rattle.cs_check.proofs.OnChecking.Cases.{rules_at, same_rules}
 use Rattle.cs_check.proofs.checking.cases.Cases.tokens.Goals as goal
 

@@ -1,4 +1,4 @@
-use Rattle.std.proofs.Common.{◌≡◌, ◌<◌, ◌+◌, arith}
+use Rattle.std.proofs.Common.{arith}
 use Rattle.cs_check.specs.Passing.Above.{size_in}
 use Rattle.cs_check.proofs.OnChecking.Told.{case_taken, few_told}
 use Rattle.cs_check.proofs.checking.entries.Entries.take_case.Goals as goal

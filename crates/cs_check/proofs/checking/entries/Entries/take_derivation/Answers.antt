@@ -1,16 +1,12 @@
-use Rattle.std.proofs.Common.{◌≡◌, ◌<◌, ◌≤◌, ◌++◌, ◌∷◌, [], ◌↔◌, ℕ, List, Some, None, sym, ap, ◌∙◌, subst}
+use Rattle.std.proofs.Common.{◌≡◌, ◌<◌, ◌≤◌, ◌++◌, ◌∷◌, [], ◌↔◌, ℕ, List, sym, ap, ◌∙◌, subst}
 use Rattle.std.specs.Prelude.{All}
-use Rattle.std.specs.Global.{Vec}
 use Rattle.cs_grammar.specs.Grammar.{PlainGrammar, IsGrammar}
 use Rattle.cs_grammar.specs.Leftmost.{IsYield}
-use Rattle.cs_grammar.specs.Weights.{Measure}
-use Rattle.cs_check.specs.declared.checking.entries.Entries.{Entries}
 use Rattle.cs_check.specs.Lines.Line.{DeriveLine}
 use Rattle.cs_check.specs.Lines.Numbers.{greatest}
 use Rattle.cs_check.specs.Lines.Read.{numbers_in}
 use Rattle.cs_check.specs.Passing.Entries.{HasSize}
 use Rattle.cs_check.specs.Checking.Cases.{PlainCases, case_of, cases_of}
-use Rattle.cs_check.specs.Checking.Derivations.{AreRules, IsExpanded}
 use Rattle.cs_check.specs.Checking.Told.{AreEntries}
 use Rattle.cs_check.proofs.OnChecking.Deriving.{high_rule, size_right, size_wrong, derivation_taken}
 use Rattle.cs_check.proofs.checking.entries.Entries.take_derivation.Goals as goal

@@ -1,4 +1,4 @@
-use Rattle.std.proofs.Common.{◌≡◌, ℕ, List, map, ap, ◌∙◌, sym}
+use Rattle.std.proofs.Common.{ℕ, List, map, ap, ◌∙◌, sym}
 use Rattle.cs_check.specs.Words.Names.{token_of}
 use Rattle.cs_check.specs.Passing.Places.{last_part}
 use Rattle.cs_check.proofs.OnChecking.Once.{one_told}

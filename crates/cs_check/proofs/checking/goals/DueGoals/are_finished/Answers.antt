@@ -1,5 +1,5 @@
 -- The list is at its end where no goal comes next.
-use Rattle.std.proofs.Common.{◌≡◌, ◌∷◌, [], List, sym, subst, ◌∙◌}
+use Rattle.std.proofs.Common.{◌≡◌, ◌∷◌, [], List, subst}
 use Rattle.std.specs.Prelude.{IfNone, IfSome}
 use Rattle.cs_goals.specs.declared.goal.Goal.{Goal}
 use Rattle.cs_check.proofs.OnDueGoals.{finished_told}

@@ -1,5 +1,5 @@
 -- The next goal of the last goal's list, or the first of a later criterion's.
-use Rattle.std.proofs.Common.{◌≡◌, ◌∷◌, [], ◌++◌, List, Option, None, Some, true, refl, sym, ap, ◌∙◌, subst}
+use Rattle.std.proofs.Common.{◌≡◌, ◌∷◌, [], List, Option, None, Some, true, refl, sym, ap, ◌∙◌, subst}
 use Rattle.std.specs.Prelude.{IfNone, IfSome}
 use Rattle.cs_grammar.specs.Grammar.{PlainGrammar}
 use Rattle.cs_goals.specs.declared.goal.Goal.{Goal}
@@ -7,7 +7,7 @@ use Rattle.cs_goals.specs.Goals.{goals}
 use Rattle.cs_check.specs.declared.checking.goals.Criterion.{Criterion}
 use Rattle.cs_check.specs.declared.checking.goals.DueGoals.{DueGoals}
 use Rattle.cs_check.specs.Passing.DueGoals.{is_last, is_later, criteria_of, GivesNextOf, GivesNoneOf, TellsFinished}
-use Rattle.cs_check.proofs.OnDueGoals.{next_here, none_here, next_later, none_later, none_may}
+use Rattle.cs_check.proofs.OnDueGoals.{next_here, none_here, next_later, none_later}
 use Rattle.cs_check.proofs.checking.goals.DueGoals.next_of.Goals as goal
 
 given_here : (c : Criterion) (d new : DueGoals) (next : Option Goal) → is_last d.last c ≡ true → new.grammar.now ≡ d.grammar.now → new.last ≡ d.last → IfSome next (λ x. d.left ≡ x ∷ new.left) → IfSome next (GivesNextOf d c new)
