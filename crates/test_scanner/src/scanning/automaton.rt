@@ -106,25 +106,19 @@ fn rules_after(
 
 // Worked by hand.
 const ALL_AFTER: &[(&str, &str)] = &[
-    ("", "[4] no no no yes"),
-    ("a", "[1, 2, 3, 4] yes yes yes yes"),
-    ("ab", "[3] no no yes no"),
-    ("aa", "[2, 4] no yes no yes"),
-    ("abb", "[3] no no yes no"),
+    ("", "[2] no yes"),
+    ("a", "[1, 2] yes yes"),
+    ("aa", "[1, 2] yes yes"),
+    ("aaa", "[2] no yes"),
 ];
 
 #[test]
 fn all_rules_after_texts(rt: HostRuntime) -> Result<(), Fail> {
     let alloc = rt.alloc();
-    let rules = [
-        rule(alloc, "a")?,
-        rule(alloc, "a{1,2}")?,
-        rule(alloc, "ab*")?,
-        rule(alloc, "a*")?,
-    ];
+    let rules = [rule(alloc, "a{1,2}")?, rule(alloc, "a*")?];
     let automaton = Automaton::new(alloc, &rules)?;
     for &(text, want) in ALL_AFTER {
-        let found = rules_after(alloc, &automaton, 4, text.as_bytes())?;
+        let found = rules_after(alloc, &automaton, 2, text.as_bytes())?;
         assert_eq!(rt; found.as_deref(), Some(want), "{text}");
     }
     Ok(())
@@ -142,21 +136,14 @@ fn texts_of(alloc: Global, automaton: &Automaton<'_>) -> Result<String, AllocErr
     Ok(shown)
 }
 
-// Worked by hand: behind `i` an `f` makes the keyword. `x+` is `x` and `x*`, so a second letter or digit leads to another set
-// than the first.
+// Worked by hand: behind `i` an `f` makes the keyword. `x+` is `x` and `x*`, so a second letter leads to another set than the
+// first.
 #[test]
 fn least_texts_of_states(rt: HostRuntime) -> Result<(), Fail> {
     let alloc = rt.alloc();
-    let rules = [
-        rule(alloc, "if")?,
-        rule(alloc, "[a-z]+")?,
-        rule(alloc, "[0-9]+\\.[0-9]")?,
-    ];
+    let rules = [rule(alloc, "if")?, rule(alloc, "[a-z]+")?];
     let automaton = Automaton::new(alloc, &rules)?;
     let found = texts_of(alloc, &automaton)?;
-    assert_eq!(rt;
-        found.as_str(),
-        "a 2\ni 2\n0 0\naa 2\nif 1\n00 0\n0. 0\n0.0 3\n"
-    );
+    assert_eq!(rt; found.as_str(), "a 2\ni 2\naa 2\nif 1\n");
     Ok(())
 }
