@@ -1,6 +1,5 @@
 #!/usr/bin/env python3
-"""Counts the clauses of the crates that are wider than 100 columns, and names them: with their line breaks taken out, or a line as
-it stands in the file, indentation included."""
+"""Counts the clauses of the crates with a line above 100 columns as it stands in the file, indentation included, and names them."""
 import pathlib
 import re
 import sys
@@ -16,7 +15,7 @@ def clauses(text):
             depth += {"{": 1, "}": -1}.get(text[at], 0)
             at += 1
         lines = text[start.start() : at].split("\n")
-        yield text.count("\n", 0, start.start()) + 1, max([" ".join(" ".join(lines).split()), *lines], key=len)
+        yield text.count("\n", 0, start.start()) + 1, max(lines, key=len)
 
 
 wide = [

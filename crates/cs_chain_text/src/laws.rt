@@ -20,7 +20,8 @@ pub fn one_chains_text()
 
 /// No file is without a text of its chains.
 pub fn some_chains_text()
-    ensures { (f : File) (texts : Option Texts) (w : Weigh) → IsNotWithout (IsChainsText f texts w) }
+    ensures { (f : File) (texts : Option Texts) (w : Weigh)
+        → IsNotWithout (IsChainsText f texts w) }
 {
     some_list_of_lexemes();
     some_rendering();

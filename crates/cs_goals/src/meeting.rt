@@ -47,7 +47,8 @@ fn meets_context(
     inner: u16,
 ) -> Result<bool, AllocError>
     requires { IsDerivationOf grammar.now derivation.now }
-    ensures { IfOk result (λ met. IsTrue met ↔ HasChild grammar.now derivation.now outer place inner) }
+    ensures { IfOk result
+        (λ met. IsTrue met ↔ HasChild grammar.now derivation.now outer place inner) }
 {
     let mut pending = vec![in alloc; false]?;
     for number in derivation.rules() {

@@ -19,7 +19,8 @@ pub fn total(alloc: Global, grammar: &Grammar) -> Result<u64, AllocError>
 
 // How many rules each nonterminal has.
 fn count_rules(alloc: Global, grammar: &Grammar) -> Result<Vec<u64>, AllocError>
-    ensures table { IfOk result (λ table. IsTable grammar.now (rules_with grammar.now) table.items) }
+    ensures table { IfOk result
+        (λ table. IsTable grammar.now (rules_with grammar.now) table.items) }
     ensures most { IfOk result (λ table. AreAtMost (2 ^ 13) table.items) }
 {
     let mut table = vec![in alloc; 0; grammar.nonterminals() as usize]?;
@@ -33,7 +34,8 @@ fn count_rules(alloc: Global, grammar: &Grammar) -> Result<Vec<u64>, AllocError>
 fn count_links(alloc: Global, grammar: &Grammar, rules: &[u64]) -> Result<Vec<u64>, AllocError>
     requires table { IsTable grammar.now (rules_with grammar.now) rules.now }
     requires most { AreAtMost (2 ^ 13) rules.now }
-    ensures table { IfOk result (λ table. IsTable grammar.now (links_with grammar.now) table.items) }
+    ensures table { IfOk result
+        (λ table. IsTable grammar.now (links_with grammar.now) table.items) }
     ensures most { IfOk result (λ table. AreAtMost (2 ^ 33) table.items) }
 {
     let mut table = vec![in alloc; 0; grammar.nonterminals() as usize]?;

@@ -11,7 +11,8 @@ ghost use Rattle.cs_least.specs.Embed.Around.{HasContext, HasChosenFor, ChosenCo
 /// Whatever the weights, a chosen context of a nonterminal exists exactly where a context of it exists, however large, and
 /// it is of least size.
 pub fn chosen_context_exists()
-    ensures exists { (w : Measure) (g : PlainGrammar) (n : ℕ) → HasContext g n → HasChosenFor w g n }
+    ensures exists { (w : Measure) (g : PlainGrammar) (n : ℕ)
+        → HasContext g n → HasChosenFor w g n }
     ensures least { (w : Measure) (g : PlainGrammar) (b : Symbol) → ChosenContextIsLeast w g b }
 {}
 

@@ -113,7 +113,8 @@ fn settle(
     requires node { IsNode steps.now.nodes found.node }
     requires table { length table.old ≡ steps.now.nodes }
     requires known { length waiting.old.known.items ≡ steps.now.nodes }
-    ensures { OnOk result (Settles limit steps.now found table.old waiting.old table.new waiting.new) }
+    ensures { OnOk result
+        (Settles limit steps.now found table.old waiting.old table.new waiting.new) }
 {
     let place = place_of(found.node);
     if table[place] == Reach::Never {

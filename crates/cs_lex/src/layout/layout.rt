@@ -224,7 +224,8 @@ fn read_rules(alloc: Global, bytes: &[u8], from: usize) -> Result<Vec<Rule>, Lay
     requires within { from ≤ length bytes.now }
     requires short { length bytes.now ≤ most_bytes }
     ensures answers { AnswersRules bytes.now from result }
-    ensures lies { IfOk result (λ rules. RulesLie (length bytes.now) (length bytes.now) rules.items) }
+    ensures lies { IfOk result
+        (λ rules. RulesLie (length bytes.now) (length bytes.now) rules.items) }
 {
     let mut rules = Vec::new(alloc);
     let mut at = from;

@@ -48,7 +48,8 @@ impl<'a> TokenPieces<'a> {
         lexemes: &'a Lexemes,
     ) -> Result<TokenPieces<'a>, AllocError>
         requires { length lexemes.now ≡ length yacc.now.token_names }
-        ensures { IfOk result (λ pieces. pieces ≡ record { file = yacc.now; lexemes = lexemes.now }) }
+        ensures { IfOk result
+            (λ pieces. pieces ≡ record { file = yacc.now; lexemes = lexemes.now }) }
     {
         let mut speller = Speller::new(alloc);
         let names = name_pieces(alloc, &mut speller, yacc.token_names())?;

@@ -173,7 +173,8 @@ fn insert_named(set: &mut ByteSet, name: &[u8]) -> bool
 
 /// Adds the bytes of a mark that stands alone. Whether it stands for some.
 fn insert_mark(set: &mut ByteSet, mark: BracketMark<'_>) -> bool
-    ensures { Inserts set.old set.new (spec.member_test (brackets.one (mark_of mark.entry))) result }
+    ensures { Inserts set.old set.new
+        (spec.member_test (brackets.one (mark_of mark.entry))) result }
 {
     match mark {
         BracketMark::Class(name) => insert_named(set, name),

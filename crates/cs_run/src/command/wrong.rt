@@ -27,7 +27,8 @@ pub(crate) fn wrong<'f, R: Threads + Sync, O: Sink, G: Gate + Sync>(
     requires weights { weights.now ≡ measure_asked asked work.now }
     requires work { CanRenderAsked asked work.now }
     ensures ok { OnOk result (TookOne O.Sink (IsWrongBy asked.entry work.now) out.old out.new) }
-    ensures part { OnErr result (TookFront O.Sink (IsWrongBy asked.entry work.now) out.old out.new) }
+    ensures part { OnErr result
+        (TookFront O.Sink (IsWrongBy asked.entry work.now) out.old out.new) }
     ensures no_fault { OnOk result (MetNone O.Sink out.old out.new) }
     ensures failed { Stopped Failed result → MetFault O.Sink out.old out.new }
     ensures room { IsCalmForAll O.Sink (IsWrongBy asked.entry work.now) out.old out.new }

@@ -127,7 +127,8 @@ fn add_case(
     goals: &[Goal],
 ) -> Result<(), AllocError>
     requires { Contains (codes_in keys.old.keys) code.items → ⊥ }
-    ensures ok { OnOk result (AreAdded keys.old.keys table.old code goals.now keys.new.keys table.new) }
+    ensures ok { OnOk result
+        (AreAdded keys.old.keys table.old code goals.now keys.new.keys table.new) }
     ensures keys { OnErr result (keys.new.keys ≡ keys.old.keys) }
     ensures table { OnErr result (IsGrown table.old table.new) }
 {

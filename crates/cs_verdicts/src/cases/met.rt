@@ -98,7 +98,8 @@ fn push_context(inner: u16, spots: &mut Vec<Spot>, goals: &mut Vec<Goal>) -> Res
 // Puts the nonterminals of a rule's right side in front of the open ones.
 fn open_children(outer: u16, right: &[Symbol], spots: &mut Vec<Spot>) -> Result<(), AllocError>
     requires { length right.now ≤ 128 }
-    ensures { OnOk result (AreOnTop (spots_from outer 1 right.now) spots.old.items spots.new.items) }
+    ensures { OnOk result
+        (AreOnTop (spots_from outer 1 right.now) spots.old.items spots.new.items) }
 {
     for at in (0..right.len()).rev() {
         if let Symbol::Nonterminal(_) = right[at] {
