@@ -7,7 +7,6 @@ pub mod Taking
 pub mod Trees
 pub mod Sizes
 pub mod Cases
-pub mod Texts
 pub mod Comparing
 pub mod Framed
 pub mod Apart
@@ -15,7 +14,6 @@ pub mod Once
 pub mod Agreeing
 pub mod Judging
 pub mod Kinds
-pub mod Pieces
 pub mod Reading
 pub mod Told
 pub mod Deriving

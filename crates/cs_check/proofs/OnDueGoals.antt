@@ -9,7 +9,7 @@ use Rattle.std.proofs.lemmas.List.{append-nil}
 use Rattle.std.proofs.lemmas.List.Sums.{sum_by_push}
 use Rattle.cs_check.specs.declared.checking.goals.Criterion.{Criterion}
 use Rattle.cs_check.specs.declared.checking.goals.Criterion.TheVariants as criteria
-use Rattle.cs_check.specs.Lines.Line.{GoalWords, OfRule, OfContext, OfPair}
+use Rattle.cs_lines.specs.Lines.Line.{GoalWords, OfRule, OfContext, OfPair}
 use Rattle.cs_check.specs.Passing.Goals.{criterion, is_of, list_of, told, last_goal, AreFinished, AreFinishedBehind, MayFollow}
 use Rattle.cs_check.specs.declared.checking.goals.DueGoals.{DueGoals}
 use Rattle.cs_check.specs.Passing.DueGoals.{number, criteria_of, is_last, is_later, left_of, IsBehind, IsNextOf, IsWithin, KnowsGoals, TellsLast}

@@ -4,10 +4,10 @@ use Rattle.std.specs.Prelude.{slice_get}
 use Rattle.cs_goals.specs.declared.goal.Goal.{Goal}
 use Rattle.cs_yacc.specs.Reading.File.{File}
 use Rattle.cs_check.specs.declared.checking.goals.DueGoals.{DueGoals}
-use Rattle.cs_check.specs.declared.lines.line.GoalWords as held
-use Rattle.cs_check.specs.declared.lines.line.GoalWords.TheVariants as told_goals
-use Rattle.cs_check.specs.Lines.Line.{GoalWords, OfRule, OfContext, OfPair}
-use Rattle.cs_check.specs.Lines.Read.{TellsGoal}
+use Rattle.cs_lines.specs.declared.lines.line.GoalWords as held
+use Rattle.cs_lines.specs.declared.lines.line.GoalWords.TheVariants as told_goals
+use Rattle.cs_lines.specs.Lines.Line.{GoalWords, OfRule, OfContext, OfPair}
+use Rattle.cs_lines.specs.Lines.Read.{TellsGoal}
 use Rattle.cs_check.specs.Passing.Goals.{criterion, list_of, told, words_of}
 use Rattle.cs_check.specs.Passing.DueGoals.{number, criterion_of, GivesNextOf, GivesNoneOf, HasNoneDue, TakesDue, TellsWords}
 

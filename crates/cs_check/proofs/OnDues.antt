@@ -4,7 +4,7 @@ use Rattle.std.specs.Prelude.{slice_get}
 use Rattle.std.specs.List.{range_with_len}
 use Rattle.std.proofs.lemmas.List.FromFn.{length-map-range_with_len}
 use Rattle.cs_grammar.specs.Grammar.{PlainGrammar}
-use Rattle.cs_check.specs.Lines.Line.{Productive, Reachable, Empty, First, Last, Next}
+use Rattle.cs_lines.specs.Lines.Line.{Productive, Reachable, Empty, First, Last, Next}
 use Rattle.cs_check.specs.Passing.Head.{Due, TheOpening, TheWeighing, TheToken, TheRule, TheLexeme, TheSet, TheRow, tables, claims, whole_head}
 
 module _ {X : Type 0} (f : ℕ → X) (rest : List X) where

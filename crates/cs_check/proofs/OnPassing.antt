@@ -1,4 +1,1 @@
 pub mod First
-pub mod Words
-pub mod Quotes
-pub mod OneLine

@@ -1,5 +1,2 @@
-pub mod Closed
-pub mod Words
-pub mod Lines
 pub mod Passing
 pub mod Checking

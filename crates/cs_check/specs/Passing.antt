@@ -1,4 +1,3 @@
-pub mod Pieces
 pub mod First
 pub mod Above
 pub mod Head

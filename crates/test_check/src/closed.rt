@@ -1,4 +1,4 @@
-use cs_check::{Set, Sets};
+use cs_closed::{Set, Sets};
 use cs_goals::Goal;
 use cs_grammar::Mark::{Begin, End, Token};
 use cs_grammar::{Grammar, Symbol};

@@ -1,4 +1,4 @@
-use cs_check::{Line, read_line};
+use cs_lines::{Line, read_line};
 use std::alloc::AllocError;
 use std::test::Fail;
 

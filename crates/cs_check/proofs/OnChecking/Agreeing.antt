@@ -2,11 +2,11 @@
 use Rattle.std.proofs.Common.{List}
 use Rattle.cs_goals.specs.declared.goal.Goal.{Goal}
 use Rattle.cs_yacc.specs.Reading.File.{File}
-use Rattle.cs_check.specs.Lines.Line.{Line}
-use Rattle.cs_check.specs.Closed.Sets.{PlainSets}
-use Rattle.cs_check.specs.Closed.Closed.{AreClosed, Excludes}
+use Rattle.cs_lines.specs.Lines.Line.{Line}
+use Rattle.cs_closed.specs.Closed.Sets.{PlainSets}
+use Rattle.cs_closed.specs.Closed.Closed.{AreClosed, Excludes}
 use Rattle.cs_check.specs.Passing.Head.{AreClaimed}
-use Rattle.cs_check.proofs.OnClosed.Same.{AreWithin, closed_too, excludes_too}
+use Rattle.cs_closed.proofs.OnClosed.Same.{AreWithin, closed_too, excludes_too}
 
 module _ (file : File) (lines : List Line) where
   claimed_within : (s t : PlainSets) → AreClaimed file lines s → AreClaimed file lines t → AreWithin s t

@@ -4,8 +4,8 @@ use Rattle.std.specs.Prelude.{IsTrue, slice_get}
 use Rattle.cs_grammar.specs.declared.symbol.Mark.{Mark}
 use Rattle.cs_goals.specs.declared.goal.Goal.TheVariants.{Pair}
 use Rattle.cs_yacc.specs.Reading.File.{File}
-use Rattle.cs_check.specs.Words.Names.{mark_text}
-use Rattle.cs_check.specs.Lines.Line.{Line}
+use Rattle.cs_lines.specs.Words.Names.{mark_text}
+use Rattle.cs_lines.specs.Lines.Line.{Line}
 use Rattle.cs_check.specs.Passing.Entries.{IsExcluded, IsKeptApart}
 
 module _ (file : File) (lines : List Line) (marks : List Mark) (n : ℕ) (left right : List ℕ) where

@@ -7,9 +7,9 @@ use Rattle.std.proofs.lemmas.List.Elements.{All-weaker, filter_map-append}
 use Rattle.cs_grammar.specs.declared.symbol.Mark.{Mark}
 use Rattle.cs_grammar.specs.declared.symbol.Mark.TheVariants as marks
 use Rattle.cs_yacc.specs.Reading.File.{File}
-use Rattle.cs_check.specs.Words.Names.{IsTokenNamed, IsNonterminalNamed, IsBehindNamed}
-use Rattle.cs_check.specs.Lines.Line.{SetKind, Productive, Reachable, Empty, RowKind, First, Last, Next, Line, SetLine, RowLine}
-use Rattle.cs_check.specs.Closed.Sets.{PlainSets, IsIn, IsPair, IsProductive, IsReachable, IsEmpty, IsFirst, IsLast, IsNext, AreSetsOf}
+use Rattle.cs_lines.specs.Words.Names.{IsTokenNamed, IsNonterminalNamed, IsBehindNamed}
+use Rattle.cs_lines.specs.Lines.Line.{SetKind, Productive, Reachable, Empty, RowKind, First, Last, Next, Line, SetLine, RowLine}
+use Rattle.cs_closed.specs.Closed.Sets.{PlainSets, IsIn, IsPair, IsProductive, IsReachable, IsEmpty, IsFirst, IsLast, IsNext, AreSetsOf}
 use Rattle.cs_check.specs.Passing.Above.{set_in, sets, row_in, rows}
 use Rattle.cs_check.specs.Passing.Head.{mark_at, entry, names_behind, Claims, ClaimsToken, ClaimsNext, AreClaimed}
 use Rattle.cs_check.specs.Checking.Claims.{IsTable, AreWholeSets, IsWithNonterminals, IsWithTokens, IsWithBehind, AreSameButNext, ClaimsSet, ClaimsRow}

@@ -17,9 +17,9 @@ use Rattle.cs_grammar.specs.Weights.{Measure}
 use Rattle.cs_yacc.specs.Reading.File.{File}
 use Rattle.cs_scanner.specs.Scan.Scan.{Scans}
 use Rattle.cs_check.specs.declared.checking.entries.Entries.{Entries}
-use Rattle.cs_check.specs.Words.Edits.{EditWords}
-use Rattle.cs_check.specs.Lines.Numbers.{IsRead, greatest}
-use Rattle.cs_check.specs.Lines.Line.{GoalWords, VerdictWords, Line, DeriveLine, TextLine}
+use Rattle.cs_lines.specs.Words.Edits.{EditWords}
+use Rattle.cs_lines.specs.Lines.Numbers.{IsRead, greatest}
+use Rattle.cs_lines.specs.Lines.Line.{GoalWords, VerdictWords, Line, DeriveLine, TextLine}
 use Rattle.cs_check.specs.Passing.Above.{size_in, derivation_in, goal_in, verdict_in, base_in, edit_in, weighs, lexemes, case_sizes, derivations, is_feasible, is_infeasible, is_large}
 use Rattle.cs_check.specs.Passing.Places.{Part, InHead, OfCase, OfDerivation, OfCaseTokens, OfCaseText, OfGoal, OfBase, OfNegative, OfNegativeTokens, OfNegativeText, OfEnd, last_part, next_parts}
 use Rattle.cs_check.specs.Passing.Entries.{IsLast, IsMeasured, HasSize, AreTold, measured as measured_by}

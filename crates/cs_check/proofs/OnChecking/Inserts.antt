@@ -4,7 +4,7 @@ use Rattle.std.proofs.lemmas.Bool.{cases_eq}
 use Rattle.std.proofs.lemmas.List.{length-set}
 use Rattle.std.proofs.lemmas.List.Elements.{All-set}
 use Rattle.cs_grammar.specs.Entries.{entry_or}
-use Rattle.cs_check.specs.Closed.Sets.{IsWith, IsPair}
+use Rattle.cs_closed.specs.Closed.Sets.{IsWith, IsPair}
 use Rattle.cs_check.specs.Checking.Claims.{IsTable}
 
 -- the table has the pair of a number and a second one, too

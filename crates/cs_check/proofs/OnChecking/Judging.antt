@@ -3,14 +3,14 @@ use Rattle.std.proofs.Common.{◌≡◌, ℕ, ◌<◌, ◌≤◌, List, [], ◌�
 use Rattle.std.proofs.lemmas.Bool.{cases_lt}
 use Rattle.cs_check.specs.declared.passing.fault.ClaimFault.{ClaimFault}
 use Rattle.cs_check.specs.declared.passing.fault.ClaimFault.TheVariants.{Form, Head, Unclosed, Derive, Size, Yield, Scan, Goal, Infeasible, Base, Edit, Pair, Totals}
-use Rattle.cs_check.specs.Lines.Line.{Line}
-use Rattle.cs_check.specs.Lines.Texts.{Says}
+use Rattle.cs_lines.specs.Lines.Line.{Line}
+use Rattle.cs_lines.specs.Lines.Texts.{Says}
 use Rattle.cs_check.specs.Passing.First.{IsFaultless, IsLowest}
 use Rattle.cs_check.specs.Passing.Places.{OfEnd, last_part}
 use Rattle.cs_check.specs.Passing.Faults.{Checked, Has, IsSaid, AreSaid, HasFault}
 use Rattle.cs_check.specs.Passing.Passing.{number}
 use Rattle.cs_check.specs.Checking.Judging.{IsRight, IsWrong}
-use Rattle.cs_check.proofs.OnPassing.OneLine.{one_line}
+use Rattle.cs_lines.proofs.OnTexts.OneLine.{one_line}
 
 one_said : (text : Option (List ℕ)) (l k : Line) → IsSaid text l → IsSaid text k → l ≡ k
 one_said None l k h i = absurd h

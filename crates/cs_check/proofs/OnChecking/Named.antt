@@ -4,7 +4,7 @@ use Rattle.std.specs.Prelude.{All}
 use Rattle.std.specs.List.{Contains}
 use Rattle.std.proofs.lemmas.Bool.{cases_lt}
 use Rattle.std.proofs.lemmas.List.Elements.{All-nil, All-push, All-contains, Contains-push, Contains-push_cases, Contains-append_left, Contains-append_right}
-use Rattle.cs_check.specs.Words.Names.{IsFirstNamed}
+use Rattle.cs_lines.specs.Words.Names.{IsFirstNamed}
 
 -- two numbers with a name that are the first are one
 pub one_named : (many : ℕ) (name_of : ℕ → List ℕ) (name : List ℕ) (a b : ℕ) → IsFirstNamed many name_of name a → IsFirstNamed many name_of name b → a ≡ b

@@ -6,9 +6,9 @@ use Rattle.cs_grammar.specs.Grammar.{PlainGrammar}
 use Rattle.cs_grammar.specs.Tree.{Tree, IsTree, code, yield, IsPrefixFree}
 use Rattle.cs_grammar.specs.Leftmost.{IsYield}
 use Rattle.cs_yacc.specs.Reading.File.{File}
-use Rattle.cs_check.specs.Words.Names.{token_of}
-use Rattle.cs_check.specs.Words.Edits.{EditWords, Deletes, Inserts, Replaces, Swaps, patched, IsEdited}
-use Rattle.cs_check.specs.Lines.Line.{Feasible, Line}
+use Rattle.cs_lines.specs.Words.Names.{token_of}
+use Rattle.cs_lines.specs.Words.Edits.{EditWords, Deletes, Inserts, Replaces, Swaps, patched, IsEdited}
+use Rattle.cs_lines.specs.Lines.Line.{Feasible, Line}
 use Rattle.cs_check.specs.Passing.Above.{derivations, verdicts, base_goals, edits}
 use Rattle.cs_check.specs.Passing.Places.{Part, InHead, OfCase, OfDerivation, OfCaseTokens, OfCaseText, OfGoal, OfBase, OfNegative, OfNegativeTokens, OfNegativeText, OfEnd, last_part}
 use Rattle.cs_check.specs.Passing.Entries.{IsNumbered, IsCase, HasCase, IsBase, IsMade, IsNegative, IsTold, AreTold}

@@ -6,8 +6,8 @@ use Rattle.std.proofs.lemmas.Bool.{false≢true}
 use Rattle.std.proofs.lemmas.List.{length-append}
 use Rattle.cs_yacc.specs.Reading.File.{File}
 use Rattle.cs_check.specs.declared.checking.entries.Entries.{Entries}
-use Rattle.cs_check.specs.Words.Edits.{EditWords}
-use Rattle.cs_check.specs.Lines.Line.{GoalWords, VerdictWords, Line, TokensLine, TextLine, NoLexemeLine, NoScanLine, EndLine, Counts}
+use Rattle.cs_lines.specs.Words.Edits.{EditWords}
+use Rattle.cs_lines.specs.Lines.Line.{GoalWords, VerdictWords, Line, TokensLine, TextLine, NoLexemeLine, NoScanLine, EndLine, Counts}
 use Rattle.cs_check.specs.Passing.Above.{size_in, derivation_in, goal_in, verdict_in, base_in, edit_in, case_sizes, is_feasible, is_infeasible, is_large}
 use Rattle.cs_check.specs.Passing.Places.{Part, InHead, OfCase, OfDerivation, OfCaseTokens, OfCaseText, OfGoal, OfBase, OfNegative, OfNegativeTokens, OfNegativeText, OfEnd, tokens_part, text_part, part_of, last_part, next_parts}
 use Rattle.cs_check.specs.Passing.DueGoals.{KnowsGoals}

@@ -1,7 +1,7 @@
 -- A text that is read line by line, whatever the faults are.
 use Rattle.std.proofs.Common.{◌≡◌, ℕ, ◌+◌, ◌<◌, ◌≤◌, List, [], ◌∷◌, ◌++◌, Option, Some, None, map, take, drop, length, refl, sym, ap, ◌∙◌, subst, append_assoc, append-nil, arith}
 use Rattle.std.proofs.lemmas.List.{drop-drop, drop_all, length-append, length-drop, length-map, map_push, map-append}
-use Rattle.cs_check.specs.Passing.Pieces.{lines_of, ended}
+use Rattle.cs_lines.specs.Lines.Pieces.{lines_of, ended}
 use Rattle.cs_check.specs.Passing.First.{IsFaultless, IsClean, IsLowest, IsFirstFault}
 use Rattle.cs_check.proofs.OnPassing.First.{clean_none, clean_push, first_here}
 

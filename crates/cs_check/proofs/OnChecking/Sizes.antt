@@ -11,7 +11,7 @@ use Rattle.cs_grammar.specs.Grammar.{PlainGrammar, IsGrammar}
 use Rattle.cs_grammar.specs.Tree.{Tree, IsTree, size, code, yield, IsPrefixFree}
 use Rattle.cs_grammar.specs.Leftmost.{IsYield}
 use Rattle.cs_grammar.specs.Weights.{Measure, number}
-use Rattle.cs_check.specs.Lines.Numbers.{greatest}
+use Rattle.cs_lines.specs.Lines.Numbers.{greatest}
 use Rattle.cs_check.specs.Passing.Entries.{HasSize}
 use Rattle.cs_check.proofs.OnChecking.Trees.{size_parts, yield_short}
 

@@ -2,8 +2,8 @@
 use Rattle.std.proofs.Common.{◌≡◌, ℕ, Bool, List, [], ◌∷◌, ◌++◌, sym, subst, ⊎_elim, inl, inr}
 use Rattle.cs_grammar.specs.declared.symbol.Mark.{Mark}
 use Rattle.cs_yacc.specs.Reading.File.{File}
-use Rattle.cs_check.specs.Words.Names.{token_of, nonterminal_of, IsTokenNamed, IsNonterminalNamed, IsBehindNamed}
-use Rattle.cs_check.specs.Closed.Sets.{PlainSets, IsIn, IsWith, IsPair, IsNext}
+use Rattle.cs_lines.specs.Words.Names.{token_of, nonterminal_of, IsTokenNamed, IsNonterminalNamed, IsBehindNamed}
+use Rattle.cs_closed.specs.Closed.Sets.{PlainSets, IsIn, IsWith, IsPair, IsNext}
 use Rattle.cs_check.specs.Checking.Claims.{IsWithNonterminals, IsWithTokens, IsWithNamed, IsWithBehind}
 use Rattle.cs_check.proofs.OnChecking.Inserts.{IsWithPair}
 use Rattle.cs_check.proofs.OnChecking.Named.{one_named, IsAdded, added_none, added_more}

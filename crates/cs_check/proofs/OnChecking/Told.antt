@@ -7,14 +7,14 @@ use Rattle.std.proofs.lemmas.List.{length-append, length_push}
 use Rattle.std.proofs.lemmas.List.Elements.{filter_map-append}
 use Rattle.std.proofs.lemmas.List.Sums.{fold-append}
 use Rattle.cs_yacc.specs.Reading.File.{File}
-use Rattle.cs_check.specs.Words.Edits.{EditWords}
-use Rattle.cs_check.specs.Lines.Line.{GoalWords, VerdictWords, Feasible, Line, CaseLine}
+use Rattle.cs_lines.specs.Words.Edits.{EditWords}
+use Rattle.cs_lines.specs.Lines.Line.{GoalWords, VerdictWords, Feasible, Line, CaseLine}
 use Rattle.cs_check.specs.Passing.Above.{size_in, derivation_in, goal_in, verdict_in, base_in, edit_in, case_sizes, derivations, verdicts, base_goals, edits, is_feasible, is_infeasible, is_large}
 use Rattle.cs_check.specs.Passing.Places.{Part, InHead, OfCase, OfDerivation, OfCaseTokens, OfCaseText, OfGoal, OfBase, OfNegative, OfNegativeTokens, OfNegativeText, OfEnd, tokens_part, text_part, part_of, last_part, next_parts}
 use Rattle.cs_check.specs.Passing.Entries.{IsNumbered, IsLast, IsCase, IsBase, IsNegative, IsTold}
 use Rattle.cs_check.specs.Passing.DueGoals.{KnowsGoals}
 use Rattle.cs_check.specs.declared.checking.entries.Entries.{Entries}
-use Rattle.cs_check.specs.Lines.Numbers.{IsRead}
+use Rattle.cs_lines.specs.Lines.Numbers.{IsRead}
 use Rattle.cs_check.specs.Checking.Cases.{PlainCase}
 use Rattle.cs_check.specs.Checking.Told.{sizes_of, AreSized, IsCaseOf, HasTold, HasBase, AreEntries}
 

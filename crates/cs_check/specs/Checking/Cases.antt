@@ -5,7 +5,7 @@ use Rattle.cs_grammar.specs.Grammar.{PlainGrammar}
 use Rattle.cs_goals.specs.declared.goal.Goal.{Goal}
 use Rattle.cs_grammar.specs.Leftmost.{IsYield}
 use Rattle.cs_goals.specs.Meets.{IsMeeting}
-use Rattle.cs_check.specs.Lines.Numbers.{IsRead, greatest}
+use Rattle.cs_lines.specs.Lines.Numbers.{IsRead, greatest}
 use Rattle.cs_check.specs.Passing.Entries.{IsNumbered}
 
 -- a case: its size and its rule numbers

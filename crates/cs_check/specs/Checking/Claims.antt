@@ -4,13 +4,13 @@ use Rattle.std.specs.List.{Contains}
 use Rattle.cs_grammar.specs.declared.symbol.Mark.{Mark}
 use Rattle.cs_grammar.specs.Grammar.{PlainGrammar, IsNumberOf}
 use Rattle.cs_yacc.specs.Reading.File.{File}
-use Rattle.cs_check.specs.Words.Names.{IsTokenNamed, IsNonterminalNamed, IsBehindNamed}
-use Rattle.cs_check.specs.declared.lines.names.Names.{Names}
-use Rattle.cs_check.specs.declared.lines.line.SetKind as held_sets
-use Rattle.cs_check.specs.declared.lines.line.RowKind as held_rows
-use Rattle.cs_check.specs.Lines.Read.{names_in, set_kind, row_kind}
-use Rattle.cs_check.specs.Lines.Line.{SetKind, RowKind, First, Last, Next, Line, SetLine, RowLine}
-use Rattle.cs_check.specs.Closed.Sets.{PlainSets, IsIn, IsPair, IsNext}
+use Rattle.cs_lines.specs.Words.Names.{IsTokenNamed, IsNonterminalNamed, IsBehindNamed}
+use Rattle.cs_lines.specs.declared.lines.names.Names.{Names}
+use Rattle.cs_lines.specs.declared.lines.line.SetKind as held_sets
+use Rattle.cs_lines.specs.declared.lines.line.RowKind as held_rows
+use Rattle.cs_lines.specs.Lines.Read.{names_in, set_kind, row_kind}
+use Rattle.cs_lines.specs.Lines.Line.{SetKind, RowKind, First, Last, Next, Line, SetLine, RowLine}
+use Rattle.cs_closed.specs.Closed.Sets.{PlainSets, IsIn, IsPair, IsNext}
 use Rattle.cs_check.specs.Passing.Above.{sets, rows}
 use Rattle.cs_check.specs.Passing.Head.{AreClaimed}
 

@@ -6,7 +6,7 @@ use Rattle.cs_grammar.specs.Grammar.{PlainGrammar}
 use Rattle.cs_grammar.specs.Tree.{IsDerivationOf}
 use Rattle.cs_grammar.specs.Leftmost.{IsYield}
 use Rattle.cs_grammar.specs.Weights.{Measure}
-use Rattle.cs_check.specs.Lines.Numbers.{greatest}
+use Rattle.cs_lines.specs.Lines.Numbers.{greatest}
 use Rattle.cs_check.specs.Passing.Entries.{HasSize}
 
 -- they are these, or one of them is above all numbers of rules

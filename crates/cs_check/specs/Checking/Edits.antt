@@ -1,10 +1,10 @@
 -- What the code answers of an edit. Working words of proofs.
 use Rattle.std.specs.Prelude.{◌≡◌, ◌<◌, ◌≤◌, ℕ, Bool, true, false, IfOk, Result, List, Option, Some, None}
 use Rattle.cs_yacc.specs.Reading.File.{File}
-use Rattle.cs_check.specs.Words.Edits.{EditWords, Deletes, Inserts, Replaces, Swaps, IsEdited, FitsList}
-use Rattle.cs_check.specs.declared.lines.line.EditWords as held
-use Rattle.cs_check.specs.Lines.Numbers.{IsRead}
-use Rattle.cs_check.specs.Lines.Read.{TellsEdit}
+use Rattle.cs_lines.specs.Words.Edits.{EditWords, Deletes, Inserts, Replaces, Swaps, IsEdited, FitsList}
+use Rattle.cs_lines.specs.declared.lines.line.EditWords as held
+use Rattle.cs_lines.specs.Lines.Numbers.{IsRead}
+use Rattle.cs_lines.specs.Lines.Read.{TellsEdit}
 
 -- the edit makes y of the list, or else doesn't fit it
 abbrev pub IsEditedIf : Bool → File → List ℕ → EditWords → List ℕ → Type 0

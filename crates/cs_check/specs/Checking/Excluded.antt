@@ -3,10 +3,10 @@ use Rattle.std.specs.Prelude.{◌≡◌, ◌↔◌, ℕ, Bool, true, false, IsTr
 use Rattle.cs_grammar.specs.Sentence.{framed}
 use Rattle.cs_goals.specs.declared.goal.Goal.{Goal}
 use Rattle.cs_yacc.specs.Reading.File.{File}
-use Rattle.cs_check.specs.Lines.Line.{Line}
-use Rattle.cs_check.specs.Lines.Numbers.{IsRead}
-use Rattle.cs_check.specs.Closed.Sets.{PlainSets}
-use Rattle.cs_check.specs.Closed.Closed.{AreClosed}
+use Rattle.cs_lines.specs.Lines.Line.{Line}
+use Rattle.cs_lines.specs.Lines.Numbers.{IsRead}
+use Rattle.cs_closed.specs.Closed.Sets.{PlainSets}
+use Rattle.cs_closed.specs.Closed.Closed.{AreClosed}
 use Rattle.cs_check.specs.Passing.Above.{has_sets}
 use Rattle.cs_check.specs.Passing.Head.{AreClaimed}
 use Rattle.cs_check.specs.Passing.Entries.{IsExcluded, IsKeptApart}

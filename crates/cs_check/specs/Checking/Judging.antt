@@ -1,7 +1,7 @@
 -- What is found out of a line by the lines above. Working words of proofs.
 use Rattle.std.specs.Prelude.{◌<◌, List}
 use Rattle.cs_check.specs.declared.passing.fault.ClaimFault.{ClaimFault}
-use Rattle.cs_check.specs.Lines.Line.{Line}
+use Rattle.cs_lines.specs.Lines.Line.{Line}
 use Rattle.cs_check.specs.Passing.Faults.{Checked, Has}
 use Rattle.cs_check.specs.Passing.Passing.{number}
 

@@ -7,9 +7,9 @@ use Rattle.cs_yacc.specs.Reading.File.{File}
 use Rattle.cs_check.specs.declared.checking.entries.Entries.{Entries}
 use Rattle.cs_check.specs.declared.passing.fault.ClaimFault.{ClaimFault}
 use Rattle.cs_check.specs.declared.passing.fault.ClaimFault.TheVariants.{Derive, Size}
-use Rattle.cs_check.specs.declared.lines.line.Counts as held
-use Rattle.cs_check.specs.Lines.Line.{VerdictWords, Feasible, Infeasible, Large, Line, CaseLine, DeriveLine, TokensLine}
-use Rattle.cs_check.specs.Lines.Numbers.{IsRead, greatest}
+use Rattle.cs_lines.specs.declared.lines.line.Counts as held
+use Rattle.cs_lines.specs.Lines.Line.{VerdictWords, Feasible, Infeasible, Large, Line, CaseLine, DeriveLine, TokensLine}
+use Rattle.cs_lines.specs.Lines.Numbers.{IsRead, greatest}
 use Rattle.cs_check.specs.Passing.Above.{case_sizes, derivations, goals_in, verdicts, base_goals, edits, is_feasible, is_infeasible, is_large}
 use Rattle.cs_check.specs.Passing.Places.{Part, OfCase, OfDerivation, OfCaseTokens, OfBase, OfNegative, OfNegativeTokens, OfNegativeText, last_part, next_parts, tokens_part}
 use Rattle.cs_check.specs.Passing.Entries.{IsCase, IsNegative, IsBase, IsMeasured}

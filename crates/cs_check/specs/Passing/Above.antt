@@ -2,8 +2,8 @@
 use Rattle.std.specs.Prelude.{ℕ, Bool, true, false, List, Option, Some, None}
 use Rattle.std.specs.List.{filter_map, list_any}
 use Rattle.cs_choices.specs.declared.weigh.Weigh.{Weigh}
-use Rattle.cs_check.specs.Words.Edits.{EditWords}
-use Rattle.cs_check.specs.Lines.Line.{SetKind, Productive, Reachable, Empty, RowKind, First, Last, Next, GoalWords, VerdictWords, Feasible, Infeasible, Large, Line, Weighing, LexemeLine, SetLine, RowLine, CaseLine, DeriveLine, GoalLine, BaseLine, NegativeLine}
+use Rattle.cs_lines.specs.Words.Edits.{EditWords}
+use Rattle.cs_lines.specs.Lines.Line.{SetKind, Productive, Reachable, Empty, RowKind, First, Last, Next, GoalWords, VerdictWords, Feasible, Infeasible, Large, Line, Weighing, LexemeLine, SetLine, RowLine, CaseLine, DeriveLine, GoalLine, BaseLine, NegativeLine}
 
 -- what the line of a set names
 abbrev pub set_in : SetKind → Line → Option (List (List ℕ))

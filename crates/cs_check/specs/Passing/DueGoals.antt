@@ -6,11 +6,11 @@ use Rattle.cs_goals.specs.declared.goal.Goal.{Goal}
 use Rattle.cs_check.specs.declared.checking.goals.Criterion.{Criterion}
 use Rattle.cs_check.specs.declared.checking.goals.Criterion.TheVariants as criteria
 use Rattle.cs_check.specs.declared.checking.goals.DueGoals.{DueGoals}
-use Rattle.cs_check.specs.declared.lines.line.GoalWords as held
-use Rattle.cs_check.specs.declared.lines.line.GoalWords.TheVariants as goals
+use Rattle.cs_lines.specs.declared.lines.line.GoalWords as held
+use Rattle.cs_lines.specs.declared.lines.line.GoalWords.TheVariants as goals
 use Rattle.cs_yacc.specs.Reading.File.{File}
-use Rattle.cs_check.specs.Lines.Line.{GoalWords}
-use Rattle.cs_check.specs.Lines.Read.{TellsGoal}
+use Rattle.cs_lines.specs.Lines.Line.{GoalWords}
+use Rattle.cs_lines.specs.Lines.Read.{TellsGoal}
 use Rattle.cs_check.specs.Passing.Goals.{criterion, list_of, told, last_goal, words_of, AreFinished, IsDue, MayFollow}
 
 -- the number of a criterion, in their order

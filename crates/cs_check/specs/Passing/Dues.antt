@@ -4,8 +4,8 @@ use Rattle.std.specs.List.{range_with_len}
 use Rattle.cs_grammar.specs.Grammar.{PlainGrammar}
 use Rattle.cs_check.specs.declared.checking.due.Due as held
 use Rattle.cs_check.specs.declared.checking.due.Due.TheVariants as dues
-use Rattle.cs_check.specs.Lines.Line.{Productive, Reachable, Empty, First, Last, Next}
-use Rattle.cs_check.specs.Lines.Read.{set_kind, row_kind}
+use Rattle.cs_lines.specs.Lines.Line.{Productive, Reachable, Empty, First, Last, Next}
+use Rattle.cs_lines.specs.Lines.Read.{set_kind, row_kind}
 use Rattle.cs_check.specs.Passing.Head.{Due, TheOpening, TheWeighing, TheToken, TheRule, TheLexeme, TheSet, TheRow}
 
 -- which line the code means

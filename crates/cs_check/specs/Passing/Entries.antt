@@ -13,11 +13,11 @@ use Rattle.cs_goals.specs.declared.goal.Goal.TheVariants.{Pair}
 use Rattle.cs_goals.specs.Meets.{IsMeeting}
 use Rattle.cs_yacc.specs.Reading.File.{File}
 use Rattle.std.specs.Option.{option_map}
-use Rattle.cs_check.specs.Closed.Sets.{PlainSets}
-use Rattle.cs_check.specs.Closed.Closed.{Excludes}
-use Rattle.cs_check.specs.Words.Names.{mark_text}
-use Rattle.cs_check.specs.Words.Edits.{EditWords, IsEdited}
-use Rattle.cs_check.specs.Lines.Line.{Feasible, Line}
+use Rattle.cs_closed.specs.Closed.Sets.{PlainSets}
+use Rattle.cs_closed.specs.Closed.Closed.{Excludes}
+use Rattle.cs_lines.specs.Words.Names.{mark_text}
+use Rattle.cs_lines.specs.Words.Edits.{EditWords, IsEdited}
+use Rattle.cs_lines.specs.Lines.Line.{Feasible, Line}
 use Rattle.cs_check.specs.Passing.Above.{has_sets, weighs, lexemes, case_sizes, derivations, verdicts, base_goals, edits}
 use Rattle.cs_check.specs.Passing.Head.{AreClaimed}
 use Rattle.cs_check.specs.Passing.Places.{Part, OfNegative, OfNegativeTokens, last_part}

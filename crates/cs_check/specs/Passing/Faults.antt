@@ -10,12 +10,12 @@ use Rattle.cs_yacc.specs.Reading.File.{File}
 use Rattle.cs_scanner.specs.Scan.Scan.{Scanning, Scans}
 use Rattle.cs_check.specs.declared.passing.fault.ClaimFault.{ClaimFault}
 use Rattle.cs_check.specs.declared.passing.fault.ClaimFault.TheVariants.{Form, Head, Unclosed, Derive, Size, Yield, Scan, Goal as OfGoal, Infeasible as OfInfeasible, Base, Edit, Pair, Totals}
-use Rattle.cs_check.specs.Closed.Sets.{PlainSets}
-use Rattle.cs_check.specs.Closed.Closed.{AreClosed}
-use Rattle.cs_check.specs.Words.Names.{token_of}
-use Rattle.cs_check.specs.Words.Edits.{FitsList}
-use Rattle.cs_check.specs.Lines.Line.{VerdictWords, Feasible, Infeasible, Counts, Line, TokensLine, DeriveLine, TextLine, GoalLine, BaseLine, NegativeLine, EndLine}
-use Rattle.cs_check.specs.Lines.Texts.{Says}
+use Rattle.cs_closed.specs.Closed.Sets.{PlainSets}
+use Rattle.cs_closed.specs.Closed.Closed.{AreClosed}
+use Rattle.cs_lines.specs.Words.Names.{token_of}
+use Rattle.cs_lines.specs.Words.Edits.{FitsList}
+use Rattle.cs_lines.specs.Lines.Line.{VerdictWords, Feasible, Infeasible, Counts, Line, TokensLine, DeriveLine, TextLine, GoalLine, BaseLine, NegativeLine, EndLine}
+use Rattle.cs_lines.specs.Lines.Texts.{Says}
 use Rattle.cs_check.specs.Passing.Above.{case_sizes, goals_in, verdicts, base_goals, edits, is_feasible, is_infeasible, is_large}
 use Rattle.cs_check.specs.Passing.Head.{IsOfFile, AreClaimed, whole_head}
 use Rattle.cs_check.specs.Passing.Places.{OfEnd, last_part, IsInHead, MayCome}

@@ -6,8 +6,8 @@ use Rattle.cs_goals.specs.declared.goal.Goal.{Goal}
 use Rattle.cs_goals.specs.declared.goal.Goal.TheVariants.{Rule, Context, Pair}
 use Rattle.cs_goals.specs.Goals.{rule_goals, context_goals, pair_goals}
 use Rattle.cs_yacc.specs.Reading.File.{File}
-use Rattle.cs_check.specs.Words.Names.{mark_text}
-use Rattle.cs_check.specs.Lines.Line.{GoalWords, OfRule, OfContext, OfPair}
+use Rattle.cs_lines.specs.Words.Names.{mark_text}
+use Rattle.cs_lines.specs.Lines.Line.{GoalWords, OfRule, OfContext, OfPair}
 
 -- the words of a goal
 abbrev pub words_of : File → Goal → GoalWords

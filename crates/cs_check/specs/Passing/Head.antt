@@ -7,9 +7,9 @@ use Rattle.cs_grammar.specs.Entries.{entry_or}
 use Rattle.cs_grammar.specs.Grammar.{PlainGrammar, Production, IsRule}
 use Rattle.cs_choices.specs.declared.weigh.Weigh.{Weigh}
 use Rattle.cs_yacc.specs.Reading.File.{File}
-use Rattle.cs_check.specs.Words.Names.{token_of, nonterminal_of, symbol_text, mark_text, IsTokenNamed, IsNonterminalNamed, IsBehindNamed}
-use Rattle.cs_check.specs.Lines.Line.{SetKind, Productive, Reachable, Empty, RowKind, First, Last, Next, Line, Opening, Weighing, TokenLine, RuleLine, LexemeLine, SetLine, RowLine}
-use Rattle.cs_check.specs.Closed.Sets.{PlainSets, AreSetsOf, IsProductive, IsReachable, IsEmpty, IsFirst, IsLast, IsNext}
+use Rattle.cs_lines.specs.Words.Names.{token_of, nonterminal_of, symbol_text, mark_text, IsTokenNamed, IsNonterminalNamed, IsBehindNamed}
+use Rattle.cs_lines.specs.Lines.Line.{SetKind, Productive, Reachable, Empty, RowKind, First, Last, Next, Line, Opening, Weighing, TokenLine, RuleLine, LexemeLine, SetLine, RowLine}
+use Rattle.cs_closed.specs.Closed.Sets.{PlainSets, AreSetsOf, IsProductive, IsReachable, IsEmpty, IsFirst, IsLast, IsNext}
 use Rattle.cs_check.specs.Passing.Above.{has_sets, sets, rows}
 
 -- ---- which line is due at which place

@@ -4,7 +4,7 @@ use Rattle.cs_check.specs.declared.passing.fault.ClaimFault.{ClaimFault}
 use Rattle.cs_check.specs.declared.passing.fault.ClaimFault.TheVariants.{Form, Head, Unclosed, Derive, Size, Yield, Scan, Goal, Infeasible, Base, Edit, Pair, Totals}
 use Rattle.cs_check.specs.Passing.First as first
 use Rattle.cs_check.specs.Passing.First.{IsFirstFault}
-use Rattle.cs_check.specs.Passing.Pieces.{ended}
+use Rattle.cs_lines.specs.Lines.Pieces.{ended}
 use Rattle.cs_check.specs.Passing.Faults.{Checked, HasFault}
 
 -- the order of faults

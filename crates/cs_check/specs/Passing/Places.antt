@@ -4,7 +4,7 @@ use Rattle.std.specs.List.{Contains, fold}
 use Rattle.cs_grammar.specs.Grammar.{PlainGrammar}
 pub use Rattle.cs_check.specs.declared.checking.part.Part.{Part}
 pub use Rattle.cs_check.specs.declared.checking.part.Part.TheVariants.{InHead, OfCase, OfDerivation, OfCaseTokens, OfCaseText, OfGoal, OfBase, OfNegative, OfNegativeTokens, OfNegativeText, OfEnd}
-use Rattle.cs_check.specs.Lines.Line.{Line, CaseLine, DeriveLine, TokensLine, TextLine, NoLexemeLine, NoScanLine, GoalLine, BaseLine, NegativeLine, EndLine}
+use Rattle.cs_lines.specs.Lines.Line.{Line, CaseLine, DeriveLine, TokensLine, TextLine, NoLexemeLine, NoScanLine, GoalLine, BaseLine, NegativeLine, EndLine}
 use Rattle.cs_check.specs.Passing.Above.{case_sizes, goals_in, base_goals, edits}
 use Rattle.cs_check.specs.Passing.Head.{Due, Takes, whole_head, head_size}
 

@@ -4,9 +4,9 @@ ghost use Rattle.cs_check.specs.Checking.Excluded.{TellsApart};
 
 use crate::checking::excluded::exclude;
 use crate::checking::framed::framed_at;
-use crate::closed::Sets;
-use crate::naming::is_mark;
+use cs_closed::Sets;
 use cs_goals::Goal;
+use cs_lines::is_mark;
 use cs_yacc::YaccFile;
 
 /// Whether the marks with these names stand at the place of the framed tokens, one behind the other, and are kept apart.

@@ -2,7 +2,7 @@
 
 ghost use Rattle.std.specs.Prelude.{◌≡◌, ◌<◌, ◌^◌, ℕ, [], IfOk, OnOk, length};
 ghost use Rattle.cs_grammar.specs.Tree.{IsDerivationOf};
-ghost use Rattle.cs_check.specs.Lines.Numbers.{IsRead};
+ghost use Rattle.cs_lines.specs.Lines.Numbers.{IsRead};
 ghost use Rattle.cs_check.specs.Checking.Cases.{PlainCase, cases_of, IsPlaceOf, IsPushed, IsAt, Yields};
 ghost use Rattle.cs_check.specs.Checking.Cases.{TellsMet, TellsShown};
 

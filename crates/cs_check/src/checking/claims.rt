@@ -3,16 +3,15 @@
 ghost use Rattle.std.specs.Prelude.{◌≡◌, ◌↔◌, IsTrue, All, length};
 ghost use Rattle.std.specs.Bool.{OnTrue};
 ghost use Rattle.cs_grammar.specs.Grammar.{IsNumberOf};
-ghost use Rattle.cs_check.specs.Lines.Read.{names_in, row_kind};
+ghost use Rattle.cs_lines.specs.Lines.Read.{names_in, row_kind};
 ghost use Rattle.cs_check.specs.Passing.Head.{IsTokenName, IsNonterminalName, IsRowName};
 ghost use Rattle.cs_check.specs.Checking.Claims.{IsWithNonterminals, HasTokens, IsTable, AreWholeSets, IsRowNumber};
 ghost use Rattle.cs_check.specs.Checking.Claims.{ClaimsSetLine, ClaimsRowLine};
 
 use crate::checking::marks::put_next;
-use crate::closed::{Set, Sets};
-use crate::lines::{Names, RowKind, SetKind};
-use crate::naming::{find_nonterminal, find_token};
+use cs_closed::{Set, Sets};
 use cs_grammar::place_of;
+use cs_lines::{Names, RowKind, SetKind, find_nonterminal, find_token};
 use cs_yacc::YaccFile;
 
 // Puts the nonterminals with these names into the set; false where there is none with a name.

@@ -2,13 +2,13 @@
 
 ghost use Rattle.std.specs.Prelude.{◌≡◌, ◌↔◌, ◌<◌, ◌≤◌, ◌^◌, ℕ, IfOk, length, All};
 ghost use Rattle.cs_grammar.specs.Leftmost.{IsYield};
-ghost use Rattle.cs_check.specs.Lines.Numbers.{greatest};
-ghost use Rattle.cs_check.specs.Lines.Read.{numbers_in};
+ghost use Rattle.cs_lines.specs.Lines.Numbers.{greatest};
+ghost use Rattle.cs_lines.specs.Lines.Read.{numbers_in};
 ghost use Rattle.cs_check.specs.Checking.Derivations.{AreRules, IsExpanded, TellsSize};
 
 use crate::checking::sizes::size_of;
-use crate::lines::Numbers;
 use cs_grammar::{Derivation, ExpandError, Grammar, expand, one_tree};
+use cs_lines::Numbers;
 use std::alloc::{AllocError, Global};
 
 /// The rule numbers as a list; None where one of them is above all numbers of rules.

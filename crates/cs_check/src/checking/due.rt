@@ -6,8 +6,8 @@ ghost use Rattle.cs_check.specs.Passing.Head.{tables, whole_head};
 ghost use Rattle.cs_check.specs.Passing.Dues.{due_told, tokens_on, rules_on, lexemes_on, claims_on};
 ghost use Rattle.cs_check.specs.Passing.Dues.{first_on, last_on, next_on};
 
-use crate::lines::{RowKind, SetKind};
 use cs_grammar::{Grammar, number_of};
+use cs_lines::{RowKind, SetKind};
 
 /// A line of the head: of a token, a rule or a nonterminal with this number. A `next` line is of the token with this
 /// number, or of the begin mark where it is 0.

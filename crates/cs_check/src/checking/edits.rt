@@ -1,12 +1,11 @@
 // What an edit makes of a list of tokens.
 
 ghost use Rattle.std.specs.Prelude.{◌≡◌, ◌+◌, ◌≤◌, ℕ, OnOk, length};
-ghost use Rattle.cs_check.specs.Words.Edits.{patched};
-ghost use Rattle.cs_check.specs.Lines.Numbers.{IsRead};
+ghost use Rattle.cs_lines.specs.Words.Edits.{patched};
+ghost use Rattle.cs_lines.specs.Lines.Numbers.{IsRead};
 ghost use Rattle.cs_check.specs.Checking.Edits.{IsBelow, DeletesAt, InsertsAt, ReplacesAt, SwapsAt, EditsTold};
 
-use crate::lines;
-use crate::naming::find_token;
+use cs_lines::find_token;
 use cs_yacc::YaccFile;
 use std::alloc::AllocError;
 
@@ -105,15 +104,15 @@ fn swap(base: &[u16], at: u64, edited: &mut Vec<u16>) -> Result<bool, AllocError
 pub(crate) fn edit_into(
     file: &YaccFile,
     base: &[u16],
-    edit: lines::EditWords<'_>,
+    edit: cs_lines::EditWords<'_>,
     edited: &mut Vec<u16>,
 ) -> Result<bool, AllocError>
     ensures { EditsTold file.now edit.entry base.now edited.new.items result }
 {
     match edit {
-        lines::EditWords::Delete(at) => delete(base, at, edited),
-        lines::EditWords::Insert(at, name) => insert(file, base, at, name, edited),
-        lines::EditWords::Replace(at, name) => replace(file, base, at, name, edited),
-        lines::EditWords::Swap(at) => swap(base, at, edited),
+        cs_lines::EditWords::Delete(at) => delete(base, at, edited),
+        cs_lines::EditWords::Insert(at, name) => insert(file, base, at, name, edited),
+        cs_lines::EditWords::Replace(at, name) => replace(file, base, at, name, edited),
+        cs_lines::EditWords::Swap(at) => swap(base, at, edited),
     }
 }

@@ -1,15 +1,15 @@
 // What the lines behind the head have told.
 
 ghost use Rattle.std.specs.Prelude.{◌≡◌, ◌<◌, ◌+◌, ◌^◌, length};
-ghost use Rattle.cs_check.specs.Lines.Read.{names_in, numbers_in};
+ghost use Rattle.cs_lines.specs.Lines.Read.{names_in, numbers_in};
 
 use crate::checking::cases::Cases;
 use crate::checking::derivations::{expanded, read_rules, tree_size};
 use crate::checking::goals::DueGoals;
 use crate::checking::texts::are_tokens;
-use crate::lines::{Counts, Names, Numbers};
 use crate::passing::ClaimFault;
 use cs_grammar::one_tree;
+use cs_lines::{Counts, Names, Numbers};
 use cs_yacc::YaccFile;
 use std::alloc::{AllocError, Global};
 

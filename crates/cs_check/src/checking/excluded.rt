@@ -1,9 +1,9 @@
 // What the sets of a manifest exclude.
 
-ghost use Rattle.cs_check.specs.Closed.Sets.{AreSetsOf};
+ghost use Rattle.cs_closed.specs.Closed.Sets.{AreSetsOf};
 ghost use Rattle.cs_check.specs.Checking.Excluded.{TellsExcluded, TellsClosed};
 
-use crate::closed::Sets;
+use cs_closed::Sets;
 use cs_goals::Goal;
 use cs_yacc::YaccFile;
 

@@ -2,7 +2,7 @@
 
 ghost use Rattle.std.specs.Prelude.{◌≡◌, ℕ, slice_get};
 ghost use Rattle.cs_grammar.specs.Sentence.{framed};
-ghost use Rattle.cs_check.specs.Lines.Numbers.{IsRead};
+ghost use Rattle.cs_lines.specs.Lines.Numbers.{IsRead};
 
 use crate::checking::cases::place_in;
 use cs_grammar::Mark;

@@ -5,11 +5,10 @@ ghost use Rattle.cs_check.specs.Passing.DueGoals.{number, is_last, is_later, cri
 ghost use Rattle.cs_check.specs.Passing.DueGoals.{GivesNextOf, GivesNoneOf, KnowsGoals};
 ghost use Rattle.cs_check.specs.Passing.DueGoals.{HasNoneDue, TakesDue, TellsFinished, TellsWords};
 
-use crate::lines::GoalWords;
-use crate::naming::is_mark;
 use cs_choices::Criteria;
 use cs_goals::{Goal, Goals};
 use cs_grammar::Grammar;
+use cs_lines::{GoalWords, is_mark};
 use cs_yacc::YaccFile;
 
 /// A criterion, in the order of their lists.

@@ -4,15 +4,14 @@ ghost use Rattle.std.specs.Prelude.{◌≡◌, ◌↔◌, ◌≤◌, IsTrue, All
 ghost use Rattle.cs_grammar.specs.declared.symbol.Mark.TheVariants as marks;
 ghost use Rattle.std.specs.Bool.{OnTrue};
 ghost use Rattle.cs_grammar.specs.Grammar.{IsNumberOf};
-ghost use Rattle.cs_check.specs.Lines.Read.{names_in};
+ghost use Rattle.cs_lines.specs.Lines.Read.{names_in};
 ghost use Rattle.cs_check.specs.Passing.Head.{mark_at, IsBehindName};
 ghost use Rattle.cs_check.specs.Checking.Claims.{AreWholeSets, AreSameButNext, IsWithNext, IsWithNamed, HasBehind};
 
-use crate::closed::Sets;
-use crate::lines::Names;
-use crate::naming::find_token;
 use cs_bytes::same_bytes;
+use cs_closed::Sets;
 use cs_grammar::place_of;
+use cs_lines::{Names, find_token};
 use cs_yacc::YaccFile;
 
 // Puts the token behind the mark of this number, which is that of a token, or 0 for the begin mark.

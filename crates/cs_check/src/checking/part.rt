@@ -5,7 +5,7 @@ ghost use Rattle.std.specs.List.{Contains};
 ghost use Rattle.cs_check.specs.Passing.Places as places;
 ghost use Rattle.cs_check.specs.Passing.Told.{IsPartTold};
 
-use crate::lines::Line;
+use cs_lines::Line;
 
 /// What a line behind the head is a part of.
 #[derive(Clone, Copy, Debug, PartialEq, Eq)]

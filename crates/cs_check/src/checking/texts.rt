@@ -1,12 +1,11 @@
 // Whether names are those of symbols, one by one.
 
 ghost use Rattle.std.specs.Prelude.{◌≡◌, ◌↔◌, IsTrue, map};
-ghost use Rattle.cs_check.specs.Words.Names.{token_of, symbol_text};
-ghost use Rattle.cs_check.specs.Lines.Read.{names_in};
+ghost use Rattle.cs_lines.specs.Words.Names.{token_of, symbol_text};
+ghost use Rattle.cs_lines.specs.Lines.Read.{names_in};
 
-use crate::lines::Names;
-use crate::naming::{is_symbol, is_token};
 use cs_grammar::Symbol;
+use cs_lines::{Names, is_symbol, is_token};
 use cs_yacc::YaccFile;
 
 /// Whether these are the names of the symbols.

@@ -1,7 +1,6 @@
 // The laws of faults.
 
 ghost use Rattle.std.specs.Prelude.{ℕ, List};
-ghost use Rattle.cs_check.specs.Lines.Texts.{SaysOne};
 ghost use Rattle.cs_check.specs.Passing.Faults.{Checked};
 ghost use Rattle.cs_check.specs.Passing.Passing.{FailsOnce, FailsOrPasses};
 
@@ -9,9 +8,4 @@ ghost use Rattle.cs_check.specs.Passing.Passing.{FailsOnce, FailsOrPasses};
 pub fn one_failure()
     ensures one { (c : Checked) (text : List ℕ) → FailsOnce c text }
     ensures either { (c : Checked) (text : List ℕ) → FailsOrPasses c text }
-{}
-
-/// Bytes say one line at most: from a line it can be told what it says.
-pub fn one_line()
-    ensures { (bytes : List ℕ) → SaysOne bytes }
 {}

@@ -1,6 +1,6 @@
 use Rattle.std.proofs.Common.{◌+◌, sym, ◌∙◌, arith}
 use Rattle.cs_grammar.specs.Sentence.{framed}
-use Rattle.cs_check.specs.Lines.Numbers.{IsRead}
+use Rattle.cs_lines.specs.Lines.Numbers.{IsRead}
 use Rattle.cs_check.proofs.OnChecking.Apart.{apart_is}
 use Rattle.cs_check.proofs.checking.apart.is_kept_apart.Goals as goal
 

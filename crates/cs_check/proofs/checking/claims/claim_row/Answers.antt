@@ -2,9 +2,9 @@ use Rattle.std.proofs.Common.{Bool, List, sym, ap, subst, arith}
 use Rattle.std.specs.Vec.{with_items}
 use Rattle.std.proofs.lemmas.Bool.{OnTrue_from, OnTrue_at}
 use Rattle.std.proofs.lemmas.List.{with_items_is}
-use Rattle.cs_check.specs.Lines.Line.{RowKind, First, Last}
-use Rattle.cs_check.specs.Lines.Read.{names_in, row_kind}
-use Rattle.cs_check.specs.Closed.Sets.{PlainSets}
+use Rattle.cs_lines.specs.Lines.Line.{RowKind, First, Last}
+use Rattle.cs_lines.specs.Lines.Read.{names_in, row_kind}
+use Rattle.cs_closed.specs.Closed.Sets.{PlainSets}
 use Rattle.cs_check.specs.Checking.Claims.{IsTable, AreWholeSets, IsWithTokens, ClaimsRow}
 use Rattle.cs_check.proofs.OnChecking.Claims.{first_claimed, last_claimed, next_claimed}
 use Rattle.cs_check.proofs.checking.claims.claim_row.Goals as goal

@@ -1,8 +1,8 @@
 use Rattle.std.proofs.Common.{sym, ap, subst}
 use Rattle.std.proofs.lemmas.Bool.{OnTrue_from, OnTrue_at}
-use Rattle.cs_check.specs.Lines.Line.{SetKind}
-use Rattle.cs_check.specs.Lines.Read.{names_in, set_kind}
-use Rattle.cs_check.specs.Closed.Sets.{PlainSets}
+use Rattle.cs_lines.specs.Lines.Line.{SetKind}
+use Rattle.cs_lines.specs.Lines.Read.{names_in, set_kind}
+use Rattle.cs_closed.specs.Closed.Sets.{PlainSets}
 use Rattle.cs_check.specs.Checking.Claims.{AreWholeSets, ClaimsSet}
 use Rattle.cs_check.proofs.OnChecking.Claims.{productive_claimed, reachable_claimed, empty_claimed}
 use Rattle.cs_check.proofs.checking.claims.claim_set.Goals as goal

@@ -1,7 +1,7 @@
 use Rattle.std.proofs.Common.{◌≡◌, ◌<◌, ℕ, Bool, List, [], length, get_or, set, ap, ◌∙◌, subst, refl, arith}
 use Rattle.std.proofs.lemmas.List.{get_or_default}
-use Rattle.cs_check.specs.Lines.Read.{names_in}
-use Rattle.cs_check.specs.Closed.Sets.{IsWith}
+use Rattle.cs_lines.specs.Lines.Read.{names_in}
+use Rattle.cs_closed.specs.Closed.Sets.{IsWith}
 use Rattle.cs_check.specs.Passing.Head.{IsTokenName}
 use Rattle.cs_check.specs.Checking.Claims.{IsWithTokens}
 use Rattle.cs_check.proofs.OnChecking.Inserts.{with_pair, set_table}

@@ -1,5 +1,5 @@
 use Rattle.std.proofs.Common.{ℕ, List, refl, ◌∙◌}
-use Rattle.cs_check.specs.Lines.Read.{names_in}
+use Rattle.cs_lines.specs.Lines.Read.{names_in}
 use Rattle.cs_check.specs.Passing.Head.{IsNonterminalName}
 use Rattle.cs_check.specs.Checking.Claims.{IsWithNonterminals}
 use Rattle.cs_check.proofs.OnChecking.Named.{taken_none, taken_all, taken_not, taken_more}

@@ -1,5 +1,5 @@
 use Rattle.std.proofs.Common.{◌≡◌, ◌++◌, length}
-use Rattle.cs_check.specs.Lines.Read.{numbers_in}
+use Rattle.cs_lines.specs.Lines.Read.{numbers_in}
 use Rattle.cs_check.proofs.checking.derivations.read_rules.Given as goal
 
 abbrev pub invariant-loop-number : goal.invariant-loop-number

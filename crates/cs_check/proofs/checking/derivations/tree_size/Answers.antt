@@ -2,7 +2,7 @@ use Rattle.std.proofs.Common.{ℕ, ◌+◌, ◌-◌, List, length, min, sym, ap,
 use Rattle.std.specs.Prelude.{slice_index_or}
 use Rattle.std.specs.List.{sum_by}
 use Rattle.cs_grammar.specs.Weights.{Measure}
-use Rattle.cs_check.specs.Lines.Numbers.{greatest}
+use Rattle.cs_lines.specs.Lines.Numbers.{greatest}
 use Rattle.cs_check.proofs.OnChecking.Sizes.{has_size, size_low}
 use Rattle.cs_check.proofs.checking.derivations.tree_size.Goals as goal
 

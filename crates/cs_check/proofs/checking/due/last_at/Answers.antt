@@ -1,7 +1,7 @@
 -- The first so many places are those of the lines of this kind, and those behind them are the rest's.
 use Rattle.std.proofs.Common.{◌≡◌, ◌-◌, ◌+◌, ◌<◌, ◌≤◌, ℕ, sym, ap, ◌∙◌, arith, Some}
 use Rattle.std.specs.Prelude.{slice_get}
-use Rattle.cs_check.specs.Lines.Line.{Last}
+use Rattle.cs_lines.specs.Lines.Line.{Last}
 use Rattle.cs_check.specs.Passing.Head.{TheRow}
 use Rattle.cs_check.specs.Passing.Dues.{next_on}
 use Rattle.cs_check.proofs.OnDues.{in_range, behind_range}

@@ -3,7 +3,7 @@ use Rattle.std.proofs.Common.{◌≡◌, ◌+◌, ◌<◌, ◌≤◌, ℕ, List,
 use Rattle.std.specs.Prelude.{slice_get}
 use Rattle.std.specs.List.{range_with_len}
 use Rattle.std.proofs.lemmas.List.{append-nil}
-use Rattle.cs_check.specs.Lines.Line.{Next}
+use Rattle.cs_lines.specs.Lines.Line.{Next}
 use Rattle.cs_check.specs.Passing.Head.{Due, TheRow}
 use Rattle.cs_check.proofs.OnDues.{in_range, behind_range}
 use Rattle.cs_check.proofs.checking.due.next_at.Goals as goal

@@ -1,6 +1,6 @@
 use Rattle.std.proofs.Common.{sym, subst}
 use Rattle.cs_grammar.specs.Grammar.{PlainGrammar}
-use Rattle.cs_check.specs.Closed.Closed.{AreClosed}
+use Rattle.cs_closed.specs.Closed.Closed.{AreClosed}
 use Rattle.cs_check.proofs.OnChecking.Agreeing.{claimed_closed}
 use Rattle.cs_check.proofs.checking.excluded.close.Goals as goal
 

@@ -1,7 +1,7 @@
 use Rattle.std.proofs.Common.{sym, subst, Option}
 use Rattle.cs_grammar.specs.Grammar.{PlainGrammar}
-use Rattle.cs_check.specs.Closed.Sets.{PlainSets}
-use Rattle.cs_check.specs.Closed.Closed.{Excludes}
+use Rattle.cs_closed.specs.Closed.Sets.{PlainSets}
+use Rattle.cs_closed.specs.Closed.Closed.{Excludes}
 use Rattle.cs_check.specs.Checking.Excluded.{AreSetsIn}
 use Rattle.cs_check.proofs.OnChecking.Agreeing.{claimed_exclude}
 use Rattle.cs_check.proofs.checking.excluded.exclude.Goals as goal

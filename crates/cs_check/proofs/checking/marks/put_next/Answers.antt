@@ -1,7 +1,7 @@
 use Rattle.std.proofs.Common.{ℕ, List, refl, sym, ◌∙◌}
 use Rattle.std.proofs.lemmas.Bool.{false≢true}
-use Rattle.cs_check.specs.Lines.Read.{names_in}
-use Rattle.cs_check.specs.Closed.Sets.{PlainSets}
+use Rattle.cs_lines.specs.Lines.Read.{names_in}
+use Rattle.cs_closed.specs.Closed.Sets.{PlainSets}
 use Rattle.cs_check.specs.Passing.Head.{mark_at, IsBehindName}
 use Rattle.cs_check.specs.Checking.Claims.{AreSameButNext, IsWithBehind}
 use Rattle.cs_check.proofs.OnChecking.Named.{taken_none, taken_all, taken_not, taken_more}

@@ -1,5 +1,5 @@
 use Rattle.std.proofs.Common.{ℕ, List, length}
-use Rattle.cs_check.specs.Lines.Read.{names_in}
+use Rattle.cs_lines.specs.Lines.Read.{names_in}
 use Rattle.cs_check.specs.Passing.Head.{mark_at, IsBehindName}
 use Rattle.cs_check.specs.Checking.Claims.{AreWholeSets, AreSameButNext, IsWithBehind}
 use Rattle.cs_check.proofs.OnChecking.Named.{AreTaken}

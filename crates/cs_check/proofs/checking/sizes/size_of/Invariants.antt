@@ -1,7 +1,7 @@
 use Rattle.std.proofs.Common.{ℕ, ◌≡◌, ◌+◌, ◌-◌, take, min}
 use Rattle.std.specs.Prelude.{slice_index_or}
 use Rattle.std.specs.List.{sum_by}
-use Rattle.cs_check.specs.Lines.Numbers.{greatest}
+use Rattle.cs_lines.specs.Lines.Numbers.{greatest}
 use Rattle.cs_check.proofs.checking.sizes.size_of.Given as goal
 
 abbrev pub invariant-loop-token : goal.invariant-loop-token

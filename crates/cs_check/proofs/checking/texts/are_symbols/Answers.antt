@@ -1,8 +1,8 @@
 use Rattle.std.proofs.Common.{◌≡◌, map, get_or}
 use Rattle.std.proofs.lemmas.List.{get_or_default}
 use Rattle.cs_grammar.specs.declared.symbol.Symbol.TheVariants.{Token}
-use Rattle.cs_check.specs.Words.Names.{symbol_text}
-use Rattle.cs_check.specs.Lines.Read.{names_in}
+use Rattle.cs_lines.specs.Words.Names.{symbol_text}
+use Rattle.cs_lines.specs.Lines.Read.{names_in}
 use Rattle.cs_check.proofs.OnChecking.Comparing.{compared_short}
 use Rattle.cs_check.proofs.checking.texts.are_symbols.Goals as goal
 

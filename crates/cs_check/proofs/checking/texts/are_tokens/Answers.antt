@@ -1,7 +1,7 @@
 use Rattle.std.proofs.Common.{◌≡◌, map, get_or}
 use Rattle.std.proofs.lemmas.List.{get_or_default}
-use Rattle.cs_check.specs.Words.Names.{token_of}
-use Rattle.cs_check.specs.Lines.Read.{names_in}
+use Rattle.cs_lines.specs.Words.Names.{token_of}
+use Rattle.cs_lines.specs.Lines.Read.{names_in}
 use Rattle.cs_check.proofs.OnChecking.Comparing.{compared_short}
 use Rattle.cs_check.proofs.checking.texts.are_tokens.Goals as goal
 

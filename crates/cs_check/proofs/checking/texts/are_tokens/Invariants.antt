@@ -1,6 +1,6 @@
 use Rattle.std.proofs.Common.{◌≡◌, map}
-use Rattle.cs_check.specs.Words.Names.{token_of}
-use Rattle.cs_check.specs.Lines.Read.{names_in}
+use Rattle.cs_lines.specs.Words.Names.{token_of}
+use Rattle.cs_lines.specs.Lines.Read.{names_in}
 use Rattle.cs_check.proofs.OnChecking.Comparing.{Compared}
 use Rattle.cs_check.proofs.checking.texts.are_tokens.Given as goal
 

@@ -2,7 +2,7 @@ use Rattle.std.proofs.Common.{◌≡◌, ℕ, [], ◌∷◌, refl, sym, ap, ◌�
 use Rattle.std.specs.Prelude.{slice_index_or}
 use Rattle.cs_check.specs.declared.passing.fault.ClaimFault.{ClaimFault}
 use Rattle.cs_check.specs.declared.passing.fault.ClaimFault.TheVariants.{Form, Head, Unclosed, Derive, Size, Yield, Scan, Goal, Infeasible, Base, Edit, Pair, Totals}
-use Rattle.cs_check.specs.Passing.Pieces.{ended}
+use Rattle.cs_lines.specs.Lines.Pieces.{ended}
 use Rattle.cs_check.specs.Passing.Faults.{HasFault}
 use Rattle.cs_check.specs.Passing.Passing.{number}
 use Rattle.cs_check.proofs.OnPassing.First.{one_first, never_clean}

@@ -2,9 +2,9 @@ use Rattle.std.proofs.Common.{◌≡◌, ◌<◌, ◌≤◌, ◌++◌, ◌∷◌
 use Rattle.std.specs.Prelude.{All}
 use Rattle.cs_grammar.specs.Grammar.{PlainGrammar, IsGrammar}
 use Rattle.cs_grammar.specs.Leftmost.{IsYield}
-use Rattle.cs_check.specs.Lines.Line.{DeriveLine}
-use Rattle.cs_check.specs.Lines.Numbers.{greatest}
-use Rattle.cs_check.specs.Lines.Read.{numbers_in}
+use Rattle.cs_lines.specs.Lines.Line.{DeriveLine}
+use Rattle.cs_lines.specs.Lines.Numbers.{greatest}
+use Rattle.cs_lines.specs.Lines.Read.{numbers_in}
 use Rattle.cs_check.specs.Passing.Entries.{HasSize}
 use Rattle.cs_check.specs.Checking.Cases.{PlainCases, case_of, cases_of}
 use Rattle.cs_check.specs.Checking.Told.{AreEntries}

@@ -1,5 +1,5 @@
 use Rattle.std.proofs.Common.{ℕ, List, map, ap, ◌∙◌, sym}
-use Rattle.cs_check.specs.Words.Names.{token_of}
+use Rattle.cs_lines.specs.Words.Names.{token_of}
 use Rattle.cs_check.specs.Passing.Places.{last_part}
 use Rattle.cs_check.proofs.OnChecking.Once.{one_told}
 use Rattle.cs_check.proofs.OnChecking.Told.{told_now}

@@ -1,5 +1,0 @@
-use Rattle.cs_check.proofs.OnClosed.Held.{allowed}
-use Rattle.cs_check.proofs.closed.laws.closed_sets_exclude.Goals as goal
-
-pub returns : goal.returns
-returns c g s k closed excluded t is_tree met = excluded (allowed s g closed k t is_tree met)

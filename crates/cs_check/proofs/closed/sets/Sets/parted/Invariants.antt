@@ -1,5 +1,0 @@
-use Rattle.cs_check.proofs.OnClosed.Parting.{ArePartedTo}
-use Rattle.cs_check.proofs.closed.sets.Sets.parted.Given as goal
-
-abbrev pub invariant-loop-place : goal.invariant-loop-place
-invariant-loop-place l = ArePartedTo l.self l.token l.place l.parted

@@ -1,5 +1,0 @@
-use Rattle.cs_check.proofs.OnLines.Splits.{split_at}
-use Rattle.cs_check.proofs.lines.words.first_word.Goals as goal
-
-pub returns : goal.returns
-returns c = split_at c.args.text.now _ c.run_len-size.ensures.len

@@ -1,0 +1,4 @@
+pub mod OnTexts
+pub mod OnLines
+pub mod OnNames
+pub mod OnPieces

@@ -1,0 +1,3 @@
+pub mod Words
+pub mod Quotes
+pub mod OneLine
