@@ -1,15 +1,14 @@
 -- The nonterminals with which rules may begin.
-use Rattle.std.proofs.Common.{◌≡◌, ℕ, ◌+◌, ◌%◌, ◌<◌, ◌≤◌, ◌⊎◌, inl, inr, List, [], ◌∷◌, ◌++◌, Bool, true, Some, length, refl, sym, ap, ◌∙◌, subst, arith}
-use Rattle.std.specs.Prelude.{◌↔◌, Contains, slice_get}
+use Rattle.std.proofs.Common.{◌≡◌, ℕ, ◌+◌, ◌%◌, ◌<◌, ◌≤◌, ◌⊎◌, inl, inr, List, [], ◌∷◌, ◌++◌, Bool, true, Some, length, refl, sym, ◌∙◌, subst, arith}
+use Rattle.std.specs.Prelude.{◌↔◌, slice_get}
 use Rattle.std.specs.Global.{Vec}
-use Rattle.std.specs.Int.{bit_at}
 use Rattle.std.proofs.lemmas.Bool.{cases_eq}
 use Rattle.std.proofs.lemmas.Nat.Bits.{bit_at-zero}
 use Rattle.std.proofs.lemmas.Option.{slice_get_within}
 use Rattle.std.proofs.lemmas.List.{length-append}
 use Rattle.cs_member.specs.declared.word.Word.{Word}
 use Rattle.cs_member.specs.Sets.{Has, InWord, InWords}
-use Rattle.cs_member.specs.Expecting.{IsMarked, Marks, IsDescent, IsDescended, AreDescents}
+use Rattle.cs_member.specs.Expecting.{IsMarked, IsDescent, IsDescended, AreDescents}
 use Rattle.cs_member.proofs.Places.{at_push_cases}
 
 -- one number more whose mark is set
