@@ -9,3 +9,5 @@ pub mod DueGoals
 pub mod Entries
 pub mod Faults
 pub mod Passing
+pub mod Manifest
+pub mod Claims

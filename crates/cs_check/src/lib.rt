@@ -26,4 +26,4 @@
 mod checking;
 mod passing;
 
-pub use passing::{ClaimFault, one_failure};
+pub use passing::{ClaimFault, one_failure, passing_claims, right_lines};

@@ -5,8 +5,10 @@
 //! Meaning: all files of `specs/Passing/`, beside `specs/Lines/` (what lines say, and their texts) and `specs/Words/` (names,
 //! escapes, edits). `Faults` says what each fault is, `Passing` when a manifest passes.
 
+mod claims;
 mod fault;
 mod laws;
 
+pub use claims::{passing_claims, right_lines};
 pub use fault::ClaimFault;
-pub use laws::{one_failure, one_line};
+pub use laws::one_failure;
