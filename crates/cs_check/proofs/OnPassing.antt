@@ -5,3 +5,5 @@ pub mod AllGoals
 pub mod Splits
 pub mod Excluding
 pub mod Claiming
+pub mod Alike
+pub mod Changing

@@ -11,3 +11,4 @@ pub mod Faults
 pub mod Passing
 pub mod Manifest
 pub mod Claims
+pub mod Changes

@@ -26,4 +26,6 @@
 mod checking;
 mod passing;
 
-pub use passing::{ClaimFault, one_failure, passing_claims, right_lines};
+pub use passing::{
+    ClaimFault, negatives_may_go, one_failure, passing_claims, right_lines, texts_may_change,
+};

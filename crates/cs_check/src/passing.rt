@@ -5,10 +5,12 @@
 //! Meaning: all files of `specs/Passing/`, beside `specs/Lines/` (what lines say, and their texts) and `specs/Words/` (names,
 //! escapes, edits). `Faults` says what each fault is, `Passing` when a manifest passes.
 
+mod changes;
 mod claims;
 mod fault;
 mod laws;
 
+pub use changes::{negatives_may_go, texts_may_change};
 pub use claims::{passing_claims, right_lines};
 pub use fault::ClaimFault;
 pub use laws::one_failure;
