@@ -11,7 +11,7 @@ use Rattle.cs_check.specs.Passing.First.{IsFaultless}
 use Rattle.cs_check.specs.Passing.Places.{OfEnd, last_part}
 use Rattle.cs_check.specs.Passing.Faults.{Checked, Has, AreSaid, HasFault}
 use Rattle.cs_check.specs.Passing.Passing.{Passes}
-use Rattle.cs_check.specs.Passing.Manifest.{AreLines, AreRight}
+use Rattle.cs_check.specs.Passing.Manifest.{AreLines, HaveAll, AreRight}
 use Rattle.cs_check.specs.Checking.Judging.{IsRight}
 use Rattle.cs_lines.proofs.OnTexts.OneLine.{one_line}
 use Rattle.cs_check.proofs.OnChecking.Judging.{right_faultless, end_faultless}
@@ -113,14 +113,11 @@ right_pass c text lines are right above line below place =
 
 -- ---- and the other way
 
--- these lines are right so far
-abbrev AreRightSoFar : Checked → List Line → Type 0
-AreRightSoFar c lines = (above : List Line) (l : Line) (below : List Line) → lines ≡ above ++ l ∷ below → IsRight c above l
-
-right_none : (c : Checked) → AreRightSoFar c []
+-- lines that are right so far, and one more
+pub right_none : (c : Checked) → HaveAll c []
 right_none c above l below e = absurd (no_line above l below e)
 
-right_more : (c : Checked) (lines : List Line) (line : Line) → AreRightSoFar c lines → IsRight c lines line → AreRightSoFar c (lines ++ line ∷ [])
+pub right_more : (c : Checked) (lines : List Line) (line : Line) → HaveAll c lines → IsRight c lines line → HaveAll c (lines ++ line ∷ [])
 right_more c lines line right here above l below e f =
     elim (back below) [
       | Bare none ↦
@@ -182,7 +179,7 @@ map_some_more (q ∷ before) p behind = ap (λ (s : List (Option (List ℕ))). S
 
 module _ (c : Checked) (text : List ℕ) (passes : Passes c text) (never : (lines : List Line) → AreLines text lines → AreRight c lines → ⊥) where
   -- lines that are right so far go on
-  goes_on : (behind before : List (List ℕ)) (ls : List Line) → lines_of text ≡ before ++ behind → AllZip Says before ls → AreRightSoFar c ls → ⊥
+  goes_on : (behind before : List (List ℕ)) (ls : List Line) → lines_of text ≡ before ++ behind → AllZip Says before ls → HaveAll c ls → ⊥
   goes_on [] before ls is are right =
       let whole : lines_of text ≡ before = is ∙ append-nil before in
       let place : ended text ≡ map Some before ++ None ∷ [] = ap (λ (s : List (List ℕ)). map Some s ++ None ∷ []) whole in

@@ -13,9 +13,13 @@ use Rattle.cs_check.specs.Passing.Passing.{Passes}
 abbrev pub AreLines : List ℕ → List Line → Type 0
 AreLines text lines = AllZip Says (lines_of text) lines
 
--- each line has, by the lines above, what it lacks who has a fault; and the last is the end line
+-- each line has, by the lines above, what it lacks who has a fault
+abbrev pub HaveAll : Checked → List Line → Type 0
+HaveAll c lines = (above : List Line) (l : Line) (below : List Line) → lines ≡ above ++ l ∷ below → (f : ClaimFault) → Has c f above l
+
+-- and the last is the end line
 pub record AreRight (c : Checked) (lines : List Line) : Type 0 where
-  pub each : (above : List Line) (l : Line) (below : List Line) → lines ≡ above ++ l ∷ below → (f : ClaimFault) → Has c f above l
+  pub each : HaveAll c lines
   pub ended : last_part lines ≡ OfEnd
 
 -- the laws: a text says one list of lines at most
