@@ -9,3 +9,6 @@ pub mod DueGoals
 pub mod Entries
 pub mod Faults
 pub mod Passing
+pub mod Manifest
+pub mod Claims
+pub mod Changes

@@ -16,7 +16,8 @@
 //!
 //! # What is proved
 //!
-//! A text fails at one line at most with one lowest fault, and doesn't pass then.
+//! A text fails at one line at most with one lowest fault, and doesn't pass then. What a text that passes claims is so: that it
+//! isn't cannot be. Texts may be exchanged, and negatives taken out.
 //!
 //! # What is only tested
 //!
@@ -26,4 +27,6 @@
 mod checking;
 mod passing;
 
-pub use passing::{ClaimFault, one_failure};
+pub use passing::{
+    ClaimFault, negatives_may_go, one_failure, passing_claims, right_lines, texts_may_change,
+};

@@ -2,11 +2,15 @@
 //!
 //! The laws are functions that do nothing.
 //!
-//! Meaning: all files of `specs/Passing/`, beside `specs/Lines/` (what lines say, and their texts) and `specs/Words/` (names,
-//! escapes, edits). `Faults` says what each fault is, `Passing` when a manifest passes.
+//! Meaning: all files of `specs/Passing/`, beside those of `cs_lines`. `Faults` says what each fault is, `Passing` when a
+//! manifest passes, `Claims` what it claims then, and `Changes` what users may change of it.
 
+mod changes;
+mod claims;
 mod fault;
 mod laws;
 
+pub use changes::{negatives_may_go, texts_may_change};
+pub use claims::{passing_claims, right_lines};
 pub use fault::ClaimFault;
-pub use laws::{one_failure, one_line};
+pub use laws::one_failure;

@@ -3,11 +3,11 @@ use Rattle.std.proofs.Common.{◌≡◌, ℕ, ◌+◌, List, [], ◌∷◌, ◌+
 use Rattle.std.proofs.lemmas.List.{same_from_push}
 use Rattle.cs_check.specs.Passing.First.{IsFaultless, IsClean, IsLowest, IsFirstFault}
 
-data Back {A : Type 0} (l : List A) : Type 0 where
+pub data Back {A : Type 0} (l : List A) : Type 0 where
   Bare : l ≡ [] → Back l
   Ended : (init : List A) → (last : A) → l ≡ init ++ last ∷ [] → Back l
 
-back : {A : Type 0} (l : List A) → Back l
+pub back : {A : Type 0} (l : List A) → Back l
 back [] = Bare refl
 back {A} (x ∷ l) = elim (back l) [
   | Bare e ↦ Ended [] x (ap (λ (s : List A). x ∷ s) e)
