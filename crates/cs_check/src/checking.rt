@@ -2,8 +2,10 @@
 //!
 //! Meaning: `specs/Passing/`. The files of `specs/Checking/` have working words of proofs.
 
+mod above;
 mod apart;
 mod cases;
+mod check;
 mod claims;
 mod derivations;
 pub(crate) mod due;
@@ -16,4 +18,7 @@ mod marks;
 pub(crate) mod part;
 mod scans;
 mod sizes;
+mod taking;
 mod texts;
+
+pub use check::{Outcome, check};

@@ -26,4 +26,5 @@
 mod checking;
 mod passing;
 
+pub use checking::{Outcome, check};
 pub use passing::{ClaimFault, one_failure};
