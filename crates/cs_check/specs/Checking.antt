@@ -6,3 +6,4 @@ pub mod Derivations
 pub mod Judging
 pub mod Told
 pub mod Running
+pub mod Head

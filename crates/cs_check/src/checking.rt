@@ -14,6 +14,7 @@ mod entries;
 mod excluded;
 mod framed;
 pub(crate) mod goals;
+mod head;
 mod marks;
 pub(crate) mod part;
 mod scans;
