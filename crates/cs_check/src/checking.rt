@@ -17,3 +17,4 @@ pub(crate) mod part;
 mod scans;
 mod sizes;
 mod texts;
+mod verdicts;
