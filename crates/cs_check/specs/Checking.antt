@@ -7,3 +7,4 @@ pub mod Judging
 pub mod Told
 pub mod Running
 pub mod Head
+pub mod Verdicts

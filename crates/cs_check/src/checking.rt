@@ -23,3 +23,4 @@ mod taking;
 mod texts;
 
 pub use check::{Outcome, check};
+mod verdicts;
