@@ -5,3 +5,4 @@ pub mod Excluded
 pub mod Derivations
 pub mod Judging
 pub mod Told
+pub mod Negatives
