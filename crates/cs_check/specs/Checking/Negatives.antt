@@ -14,6 +14,7 @@ use Rattle.cs_lines.specs.Lines.Numbers.{IsRead}
 use Rattle.cs_lines.specs.Lines.Read.{IsText, TellsEdit}
 use Rattle.cs_closed.specs.Closed.Sets.{PlainSets}
 use Rattle.cs_check.specs.Passing.Places.{OfBase, OfNegative, text_part, last_part, next_parts}
+use Rattle.cs_check.specs.Passing.Entries.{HasCase}
 use Rattle.cs_check.specs.Passing.Faults.{HasScan, HasGoal, HasBase, HasEdit, HasPair}
 use Rattle.cs_check.specs.Checking.Excluded.{AreSetsIn}
 use Rattle.cs_check.specs.Checking.Told.{AreEntries, checked_by}
@@ -24,6 +25,15 @@ TellsScan scanning e quoted result =
     (file : File) (lines : List Line) (text : List ℕ) → AreEntries file lines e
     → Contains (next_parts (last_part lines)) (text_part (last_part lines)) → IsText quoted text → length text < 2 ^ 32
     → IfOk result (λ so. IsTrue so ↔ HasScan (checked_by file scanning) lines (TextLine text))
+
+-- the place of the case of a goal, if it has one
+abbrev pub IsCasePlace : List Line → ℕ → Option ℕ → Type 0
+IsCasePlace lines goal None = (case : ℕ) → HasCase lines goal case → ⊥
+IsCasePlace lines goal (Some place) = HasCase lines goal (place + 1)
+
+-- the answer is that of the goal with this number
+abbrev pub FindsCase : Entries → ℕ → Option ℕ → Type 0
+FindsCase e told place = (file : File) (lines : List Line) (goal : ℕ) → AreEntries file lines e → IsRead goal told → IsCasePlace lines goal place
 
 -- a base line is right, and taken, or has the fault
 abbrev pub IsBaseJudged : File → List Line → Line → Entries → Option ClaimFault → Type 0

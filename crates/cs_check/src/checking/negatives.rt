@@ -1,5 +1,6 @@
 // Text lines, base lines and negative lines.
 
+ghost use Rattle.std.specs.Prelude.{◌<◌, IfSome, length};
 ghost use Rattle.cs_scanner.specs.Scan.Compared.{scanning};
 
 use crate::checking::apart::is_kept_apart;
@@ -26,7 +27,7 @@ pub(crate) struct Negative<'m> {
 }
 
 impl<'a> Entries<'a> {
-    ghost use Rattle.cs_check.specs.Checking.Negatives.{TellsScan, JudgesBase, JudgesNegative};
+    ghost use Rattle.cs_check.specs.Checking.Negatives.{TellsScan, FindsCase, JudgesBase, JudgesNegative};
 
     /// Whether the text scans to the tokens that were told last.
     pub(crate) fn scans(
@@ -46,9 +47,14 @@ impl<'a> Entries<'a> {
     }
 
     // The place of the case of the goal with this number.
-    fn case_of_goal(&self, goal: u64) -> Option<usize> {
-        let place = place_in(goal, self.goal_cases.len())?;
-        place_in(self.goal_cases[place], self.cases.len())
+    fn case_of_goal(&self, goal: u64) -> Option<usize>
+        ensures finds { FindsCase self.now goal result }
+        ensures within { IfSome result (λ place. place < length self.now.cases.list) }
+    {
+        let Some(place) = place_in(goal, self.goal_cases.len()) else {
+            return None;
+        };
+        self.cases.find(self.goal_cases[place])
     }
 
     /// Takes a base line, which may come here: what is wrong with it, if anything.
