@@ -18,3 +18,4 @@ pub mod Reading
 pub mod Told
 pub mod Deriving
 pub mod Quiet
+pub mod Negatives

@@ -8,3 +8,4 @@ pub mod Told
 pub mod Running
 pub mod Head
 pub mod Verdicts
+pub mod Negatives

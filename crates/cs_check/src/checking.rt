@@ -16,6 +16,7 @@ mod framed;
 pub(crate) mod goals;
 mod head;
 mod marks;
+mod negatives;
 pub(crate) mod part;
 mod scans;
 mod sizes;

@@ -30,6 +30,7 @@ pub(crate) struct Entries<'a> {
 }
 
 // One more.
+/// One more.
 pub(crate) fn more(count: u64) -> u64
     ensures { count < 2 ^ 32 → result ≡ count + 1 }
 {
