@@ -19,3 +19,7 @@ pub mod Told
 pub mod Deriving
 pub mod Quiet
 pub mod Negatives
+pub mod Entering
+pub mod Placing
+pub mod Pieces
+pub mod Pass

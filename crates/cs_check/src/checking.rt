@@ -22,6 +22,6 @@ mod scans;
 mod sizes;
 mod taking;
 mod texts;
+mod verdicts;
 
 pub use check::{Outcome, check};
-mod verdicts;

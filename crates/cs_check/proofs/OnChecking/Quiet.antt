@@ -29,17 +29,17 @@ sized_plain OfNegativeText sizes cases read other h = h
 sized_plain OfEnd sizes cases read other h = h
 
 -- a line that tells nothing of its own
-record IsQuiet (l : Line) : Type 0 where
-  size : size_in l ≡ None
-  derivation : derivation_in l ≡ None
-  goal : goal_in l ≡ None
-  verdict : verdict_in l ≡ None
-  base : base_in l ≡ None
-  edit : edit_in l ≡ None
+pub record IsQuiet (l : Line) : Type 0 where
+  pub size : size_in l ≡ None
+  pub derivation : derivation_in l ≡ None
+  pub goal : goal_in l ≡ None
+  pub verdict : verdict_in l ≡ None
+  pub base : base_in l ≡ None
+  pub edit : edit_in l ≡ None
 
 module _ (file : File) (lines : List Line) (e : Entries) (t : AreEntries file lines e) (few : length lines + 1 < 4294967296) where
   module _ (l : Line) (quiet : IsQuiet l) (before : last_part lines ≡ OfCase → ⊥) (p : Part) (is : part_of (last_part lines) l ≡ p) (after : p ≡ OfCase → ⊥) where
-    quiet_taken : HasTold file (lines ++ l ∷ []) p e.tokens.items → HasBase file.grammar (lines ++ l ∷ []) p e.base.items → AreEntries file (lines ++ l ∷ []) e
+    pub quiet_taken : HasTold file (lines ++ l ∷ []) p e.tokens.items → HasBase file.grammar (lines ++ l ∷ []) p e.base.items → AreEntries file (lines ++ l ∷ []) e
     quiet_taken told base =
         let lines' = lines ++ l ∷ [] in
         let long = length-append lines (l ∷ []) in

@@ -55,11 +55,11 @@ module _ {F : Type 0} (HasFault : List (Option (List ℕ)) → Option (List ℕ)
           (ap (λ n. n + 1) (sym many_above)) read.clean lowest
 
     module _ (past : length text ≤ from) where
-      all : lines_of text ≡ read.lines
-      all = read.place ∙ ap (λ (l : List ℕ). read.lines ++ lines_of l) (drop_all from text past) ∙ append-nil read.lines
+      pub all_lines : lines_of text ≡ read.lines
+      all_lines = read.place ∙ ap (λ (l : List ℕ). read.lines ++ lines_of l) (drop_all from text past) ∙ append-nil read.lines
 
       whole : ended text ≡ map Some read.lines ++ None ∷ []
-      whole = ap (λ (l : List (List ℕ)). map Some l ++ None ∷ []) all
+      whole = ap (λ (l : List (List ℕ)). map Some l ++ None ∷ []) all_lines
 
       pub clean_at_end : IsFaultless HasFault (map Some read.lines) None → IsClean HasFault (ended text)
       clean_at_end faultless = subst (IsClean HasFault) (sym whole) (clean_push HasFault (map Some read.lines) None read.clean faultless)

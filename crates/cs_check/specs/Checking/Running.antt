@@ -16,8 +16,10 @@ use Rattle.cs_check.specs.declared.checking.entries.Entries.{Entries}
 use Rattle.cs_check.specs.declared.checking.above.Above.{Above}
 use Rattle.cs_check.specs.declared.checking.above.Place.{Place}
 use Rattle.cs_check.specs.declared.checking.above.Place.TheVariants as place
+use Rattle.cs_check.specs.declared.checking.check.Outcome.{Outcome}
+use Rattle.cs_check.specs.declared.checking.check.Outcome.TheVariants.{Yes, No}
 use Rattle.cs_check.specs.Passing.Head.{head_size}
-use Rattle.cs_check.specs.Passing.Places.{Part, InHead, part_of, last_part, next_parts, IsNumbered, IsInHead, IsBehindHead, MayCome}
+use Rattle.cs_check.specs.Passing.Places.{Part, InHead, OfEnd, part_of, last_part, next_parts, IsNumbered, IsInHead, IsBehindHead, MayCome}
 use Rattle.cs_check.specs.Passing.Faults.{Checked}
 use Rattle.cs_check.specs.Checking.Head.{KnowsHead, HasEnded}
 use Rattle.cs_check.specs.Checking.Judging.{IsRight, IsWrong}
@@ -129,3 +131,9 @@ IsUnended bytes = (text : List ℕ) → bytes ≡ line text → ⊥
 
 abbrev pub IsEnded : List ℕ → List ℕ → Type 0
 IsEnded bytes text = bytes ≡ line text
+
+-- what is answered at the end of the text, where no line has a fault
+abbrev pub IsEndAnswer : Above → ℕ → Outcome → Type 0
+IsEndAnswer a line (Yes goals negatives) =
+    (a.part ≡ OfEnd) × (goals ≡ a.entries.counts.goals) × (negatives ≡ a.entries.counts.negatives)
+IsEndAnswer a line (No number fault) = (a.part ≡ OfEnd → ⊥) × (number ≡ line) × (fault ≡ Form)

@@ -3,6 +3,7 @@
 ghost use Rattle.std.specs.Prelude.{◌≤◌, IfOk, length};
 ghost use Rattle.cs_scanner.specs.Scan.Compared.{scanning};
 ghost use Rattle.cs_check.specs.Checking.Told.{checked_by};
+ghost use Rattle.cs_check.specs.Checking.Running.{IsEndAnswer};
 ghost use Rattle.cs_check.specs.Passing.Outcomes.{IsOutcome};
 
 use crate::checking::above::Above;
@@ -24,7 +25,7 @@ pub enum Outcome {
 
 // What is found where no line has a fault; the line behind the last has this number.
 fn at_end(above: &Above<'_>, line: u32) -> Outcome
-    ensures { EndsAs above.now line result }
+    ensures { IsEndAnswer above.now line result }
 {
     if above.part != Part::OfEnd {
         return Outcome::No {
