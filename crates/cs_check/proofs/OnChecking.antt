@@ -23,3 +23,4 @@ pub mod Entering
 pub mod Placing
 pub mod Pieces
 pub mod Pass
+pub mod Beginning
