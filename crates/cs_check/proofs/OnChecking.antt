@@ -19,6 +19,8 @@ pub mod Told
 pub mod Deriving
 pub mod Quiet
 pub mod Negatives
+pub mod HeadEnd
+pub mod Past
 pub mod Entering
 pub mod Placing
 pub mod Pieces

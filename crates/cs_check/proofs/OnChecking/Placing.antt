@@ -20,7 +20,8 @@ use Rattle.cs_check.specs.Checking.Running.{IsPast, KnowsPlace, KnowsAbove, MayF
 use Rattle.cs_check.proofs.OnChecking.Kinds.{is_head, taken_head}
 use Rattle.cs_check.proofs.OnChecking.Told.{last_part_more, among_true}
 use Rattle.cs_check.proofs.OnChecking.Quiet.{IsQuiet, quiet_taken}
-use Rattle.cs_check.proofs.OnChecking.HeadEnd.{head_ended, ended_more, ended_past, not_in_head}
+use Rattle.cs_check.proofs.OnChecking.HeadEnd.{head_ended}
+use Rattle.cs_check.proofs.OnChecking.Past.{never_inside, not_in_head, ended_more, ended_past}
 
 -- ---- lines of the head
 
@@ -162,21 +163,8 @@ module _ (c : Checked) (above : List Line) where
 
 -- ---- where the next line may stand
 
-never_inside : (p q : Part) → Contains (next_parts p) q → q ≡ InHead → ⊥
-never_inside p q h is = none p (subst (λ (r : Part). Contains (next_parts p) r) is h)
-  where
-    none : (p : Part) → Contains (next_parts p) InHead → ⊥
-    none InHead h = false≢true (among_true (next_parts InHead) InHead h)
-    none OfCase h = false≢true (among_true (next_parts OfCase) InHead h)
-    none OfDerivation h = false≢true (among_true (next_parts OfDerivation) InHead h)
-    none OfCaseTokens h = false≢true (among_true (next_parts OfCaseTokens) InHead h)
-    none OfCaseText h = false≢true (among_true (next_parts OfCaseText) InHead h)
-    none OfGoal h = false≢true (among_true (next_parts OfGoal) InHead h)
-    none OfBase h = false≢true (among_true (next_parts OfBase) InHead h)
-    none OfNegative h = false≢true (among_true (next_parts OfNegative) InHead h)
-    none OfNegativeTokens h = false≢true (among_true (next_parts OfNegativeTokens) InHead h)
-    none OfNegativeText h = false≢true (among_true (next_parts OfNegativeText) InHead h)
-    none OfEnd h = false≢true (among_true (next_parts OfEnd) InHead h)
+not_inside : (p q : Part) → Contains (next_parts p) q → q ≡ InHead → ⊥
+not_inside p q h is = never_inside p (subst (λ (r : Part). Contains (next_parts p) r) is h)
 
 module _ (file : File) (above : List Line) (head : Head) where
   placed : (p : Part) → (p ≡ InHead → ⊥) → IsPast file above head → KnowsPlace file above head p
@@ -220,16 +208,16 @@ module _ (file : File) (above : List Line) (head : Head) where
 
   inside_at : (l : Line) (p : Part) → KnowsPlace file above head p → IsInHead file.grammar above l → p ≡ InHead
   inside_at l InHead k h = refl
-  inside_at l OfCase k h = absurd (not_in_head file above l k.past h)
-  inside_at l OfDerivation k h = absurd (not_in_head file above l k.past h)
-  inside_at l OfCaseTokens k h = absurd (not_in_head file above l k.past h)
-  inside_at l OfCaseText k h = absurd (not_in_head file above l k.past h)
-  inside_at l OfGoal k h = absurd (not_in_head file above l k.past h)
-  inside_at l OfBase k h = absurd (not_in_head file above l k.past h)
-  inside_at l OfNegative k h = absurd (not_in_head file above l k.past h)
-  inside_at l OfNegativeTokens k h = absurd (not_in_head file above l k.past h)
-  inside_at l OfNegativeText k h = absurd (not_in_head file above l k.past h)
-  inside_at l OfEnd k h = absurd (not_in_head file above l k.past h)
+  inside_at l OfCase k h = absurd (not_in_head file.grammar above l k.past h)
+  inside_at l OfDerivation k h = absurd (not_in_head file.grammar above l k.past h)
+  inside_at l OfCaseTokens k h = absurd (not_in_head file.grammar above l k.past h)
+  inside_at l OfCaseText k h = absurd (not_in_head file.grammar above l k.past h)
+  inside_at l OfGoal k h = absurd (not_in_head file.grammar above l k.past h)
+  inside_at l OfBase k h = absurd (not_in_head file.grammar above l k.past h)
+  inside_at l OfNegative k h = absurd (not_in_head file.grammar above l k.past h)
+  inside_at l OfNegativeTokens k h = absurd (not_in_head file.grammar above l k.past h)
+  inside_at l OfNegativeText k h = absurd (not_in_head file.grammar above l k.past h)
+  inside_at l OfEnd k h = absurd (not_in_head file.grammar above l k.past h)
 
 module _ (file : File) (above : List Line) (a : Above) (k : KnowsAbove file above a) where
   -- as long as all are in the head
@@ -243,7 +231,7 @@ module _ (file : File) (above : List Line) (a : Above) (k : KnowsAbove file abov
   has_ended low = ended_at file above a.head (last_part above) k.place low
 
   pub never_in_head : (a.part ≡ InHead → ⊥) → (l : Line) → IsInHead file.grammar above l → ⊥
-  never_in_head other l h = not_in_head file above l (is_past other).past h
+  never_in_head other l h = not_in_head file.grammar above l (is_past other).past h
 
   module _ (l : Line) where
     pub nowhere_before : (IsInHead file.grammar above l → ⊥) → (head_size file.grammar above ≤ length above → ⊥) → MayCome file.grammar above l → ⊥
@@ -264,10 +252,10 @@ module _ (file : File) (above : List Line) (a : Above) (k : KnowsAbove file abov
           place =
               subst (λ (p : Part). KnowsPlace file lines a.head p) (sym (last_part_more above l))
               (placed file lines a.head (part_of (last_part above) l)
-              (never_inside (last_part above) (part_of (last_part above) l) h.part)
+              (not_inside (last_part above) (part_of (last_part above) l) h.part)
               (record {
-                ended = ended_more file above a.head (last_part above) l ended h.part;
-                past = ended_past file above a.head (last_part above) l ended h.part;
+                ended = ended_more file above (last_part above) l h.part a.head ended;
+                past = ended_past file above (last_part above) l h.part h.behind;
               }));
           entries = t;
         }
