@@ -1,6 +1,10 @@
 -- The pass over the lines of a manifest.
 use Rattle.std.proofs.Common.{◌≡◌, ℕ, ◌+◌, ◌<◌, ◌≤◌, List, [], ◌∷◌, ◌++◌, Option, Some, None, map, take, drop, length, refl, sym, ap, ◌∙◌, subst, ⊎_elim, arith}
-use Rattle.std.proofs.lemmas.List.{map_push, length-map}
+use Rattle.std.proofs.lemmas.List.{map_push, length-map, length-drop}
+use Rattle.cs_bytes.specs.Places.{line_size}
+use Rattle.cs_lines.proofs.OnPieces.{line_in_front}
+use Rattle.cs_check.specs.declared.checking.check.Outcome.{Outcome}
+use Rattle.cs_check.specs.declared.checking.check.Outcome.TheVariants.{Yes, No}
 use Rattle.cs_lines.specs.Lines.Line.{Line}
 use Rattle.cs_lines.specs.Lines.Texts.{Says}
 use Rattle.cs_check.specs.declared.passing.fault.ClaimFault.{ClaimFault}
@@ -11,10 +15,10 @@ use Rattle.cs_check.specs.Passing.Above.{goals_in, edits}
 use Rattle.cs_check.specs.Passing.Places.{OfEnd, last_part}
 use Rattle.cs_check.specs.Passing.Faults.{Checked, AreSaid, HasFault}
 use Rattle.cs_check.specs.Passing.Passing.{number, Passes, Fails}
-use Rattle.cs_check.specs.Passing.Outcomes.{HasCounts}
+use Rattle.cs_check.specs.Passing.Outcomes.{HasCounts, IsOutcome}
 use Rattle.cs_check.specs.Checking.Head.{HasWholeSets}
 use Rattle.cs_check.specs.Checking.Judging.{IsWrong}
-use Rattle.cs_check.specs.Checking.Running.{KnowsAbove, IsPieceJudged}
+use Rattle.cs_check.specs.Checking.Running.{KnowsAbove, IsPieceJudged, IsEndAnswer}
 use Rattle.cs_check.proofs.OnChecking.Judging.{said_push, right_faultless, wrong_lowest, unsaid_lowest, end_faultless, end_lowest}
 use Rattle.cs_check.proofs.OnChecking.Reading.{Read, IsLine, read_none, read_more, fault_here, clean_at_end, fault_at_end, all_lines}
 
@@ -101,3 +105,64 @@ module _ (c : Checked) (text : List ℕ) where
         are_goals = h.knows.entries.counts.goals;
         are_negatives = h.knows.entries.counts.negatives;
       }
+
+-- ---- the loop
+
+-- the line in front
+pub line_here : (text : List ℕ) (from : ℕ) → from < length text → IsLine (drop from text) (line_size (drop from text))
+line_here text from low =
+    let rest = drop from text in
+    let long = length-drop from text in
+    let some : 0 < length rest = omega arith in
+    record { line = line_in_front rest some; above_zero = omega arith; within = omega arith }
+
+module _ (c : Checked) (text : List ℕ) (short : length text ≤ 67108864) (from next : ℕ) (a : Above) (h : IsPassed c text from next a) where
+  module _ (low : from < length text) where
+    pub few_above : length h.read.lines + 1 < 4294967296
+    few_above =
+        let many = many_lines c text from h.many a h.read in
+        let is = h.is_next in
+        let few = h.low in
+        omega arith
+
+    module _ (size : ℕ) (is_size : size ≡ line_size (drop from text)) (piece : List ℕ) (is_piece : piece ≡ take size (drop from text)) (new : Above) where
+      front : IsLine (drop from text) size
+      front = subst (λ (n : ℕ). IsLine (drop from text) n) (sym is_size) (line_here text from low)
+
+      pub passed_more : HasWholeSets c.file.grammar new.head → IsPieceJudged c h.read.lines piece new None → IsPassed c text (from + size) (next + 1) new
+      passed_more whole j = record {
+        many = h.many + 1;
+        is_next = (let is = h.is_next in omega arith);
+        low = (let few = h.low in let some = front.above_zero in omega arith);
+        within = (let most = front.within in let long = length-drop from text in omega arith);
+        read =
+            line_read c text from h.many a h.read size front new
+            (subst (λ (bytes : List ℕ). IsPieceJudged c h.read.lines bytes new None) is_piece j);
+        whole = whole;
+      }
+
+      pub passed_fails : (f : ClaimFault) → IsPieceJudged c h.read.lines piece new (Some f) → Fails c text next f
+      passed_fails f j =
+          subst (λ (n : ℕ). Fails c text n f) (sym h.is_next)
+          (line_fails c text from h.many a h.read size front new f
+          (subst (λ (bytes : List ℕ). IsPieceJudged c h.read.lines bytes new (Some f)) is_piece j))
+
+  pub passed_end : length text ≤ from → (o : Outcome) → IsEndAnswer a next o → IsOutcome c text o
+  passed_end past (Yes goals negatives) e = (
+    end_passes c text from h.many a h.read past e.0,
+    subst (λ (n : ℕ). HasCounts text n negatives) (sym e.1)
+        (subst (λ (n : ℕ). HasCounts text a.entries.counts.goals n) (sym e.2) (end_counts c text from h.many a h.read past)),
+  )
+  passed_end past (No line fault) e =
+      subst (λ (n : ℕ). Fails c text n fault) (sym h.is_next ∙ sym e.1)
+      (subst (λ (f : ClaimFault). Fails c text (h.many + 1) f) (sym e.2) (end_fails c text from h.many a h.read past e.0))
+
+pub passed_none : (c : Checked) (text : List ℕ) (a : Above) → KnowsAbove c.file [] a → HasWholeSets c.file.grammar a.head → IsPassed c text 0 1 a
+passed_none c text a knows whole = record {
+  many = 0;
+  is_next = refl;
+  low = omega arith;
+  within = omega arith;
+  read = begun c text a knows;
+  whole = whole;
+}
