@@ -18,3 +18,12 @@ pub mod Reading
 pub mod Told
 pub mod Deriving
 pub mod Quiet
+pub mod HeadNext
+pub mod HeadDues
+pub mod HeadPlaces
+pub mod HeadMeasure
+pub mod HeadSets
+pub mod HeadKnown
+pub mod HeadEnd
+pub mod HeadClaims
+pub mod HeadJudged
