@@ -26,3 +26,11 @@ pub mod Placing
 pub mod Pieces
 pub mod Pass
 pub mod Beginning
+pub mod HeadNext
+pub mod HeadDues
+pub mod HeadPlaces
+pub mod HeadMeasure
+pub mod HeadSets
+pub mod HeadKnown
+pub mod HeadClaims
+pub mod HeadJudged

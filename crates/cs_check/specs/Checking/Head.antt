@@ -183,7 +183,7 @@ JudgesSet file old kind told new result =
 
 abbrev pub JudgesRow : File → Option PlainSets → RowKind → ℕ → held.Line → Option PlainSets → Bool → Type 0
 JudgesRow file old kind n told new so =
-    (lines : List Line) (l : Line) → AreSetsIn file lines old → IsNextIn (state_of lines) (TheRow kind n)
+    (lines : List Line) (l : Line) → AreSetsIn file lines old → IfNone old (IsUnclaimed lines) → IsNextIn (state_of lines) (TheRow kind n)
     → Tells told l → Takes (TheRow kind n) l → IsClaimJudged file lines (TheRow kind n) l new so
 
 -- with the line counted

@@ -286,6 +286,7 @@ impl Head {
         ensures whole { HasWholeSets file.now.grammar self.new }
         ensures judged { JudgesHead file.now self.old line.now self.new result }
     {
+        let whole = whole_size(file.grammar());
         let Some(due) = due_at(file.grammar(), self.above) else {
             return Ok(Some(ClaimFault::Head));
         };
@@ -293,7 +294,7 @@ impl Head {
             return Ok(Some(ClaimFault::Head));
         }
         self.above += 1;
-        if self.above == whole_size(file.grammar()) && !self.are_closed(file) {
+        if self.above == whole && !self.are_closed(file) {
             return Ok(Some(ClaimFault::Unclosed));
         }
         Ok(None)
