@@ -18,3 +18,5 @@ pub mod Reading
 pub mod Told
 pub mod Deriving
 pub mod Quiet
+pub mod Counting
+pub mod Goaling

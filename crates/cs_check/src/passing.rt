@@ -9,4 +9,4 @@ mod fault;
 mod laws;
 
 pub use fault::ClaimFault;
-pub use laws::{one_failure, one_line};
+pub use laws::one_failure;
