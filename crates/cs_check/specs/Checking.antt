@@ -5,4 +5,5 @@ pub mod Excluded
 pub mod Derivations
 pub mod Judging
 pub mod Told
+pub mod Negatives
 pub mod Verdicts

@@ -13,6 +13,7 @@ mod excluded;
 mod framed;
 pub(crate) mod goals;
 mod marks;
+mod negatives;
 pub(crate) mod part;
 mod scans;
 mod sizes;

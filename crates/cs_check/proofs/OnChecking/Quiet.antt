@@ -60,6 +60,7 @@ module _ (file : File) (lines : List Line) (e : Entries) (t : AreEntries file li
               (sizes_same ∙ plain_sizes (last_part lines) (case_sizes lines) e.cases.list e.size before t.sizes));
           small = t.small;
           verdicts = subst (λ (v : List VerdictWords). AllZip IsCaseOf v e.goal_cases.items) (sym verdicts_same) t.verdicts;
+          shown = t.shown;
           due = subst (λ (x : List GoalWords). KnowsGoals file.grammar x e.due) (sym goals_same) t.due;
           told = subst (λ (q : Part). HasTold file lines' q e.tokens.items) (sym part) told;
           bases = t.bases ∙ sym (ap (λ (x : List ℕ). length x) bases_same);
