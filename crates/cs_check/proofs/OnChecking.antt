@@ -18,9 +18,6 @@ pub mod Reading
 pub mod Told
 pub mod Deriving
 pub mod Quiet
-<<<<<<< HEAD
+pub mod Negatives
 pub mod Counting
 pub mod Goaling
-=======
-pub mod Negatives
->>>>>>> 620956e3c1a16db92ca3d4c256a393b8bd7248df

@@ -1,12 +1,13 @@
 -- Goal lines.
 use Rattle.std.proofs.Common.{◌≡◌, ℕ, ◌+◌, ◌-◌, ◌<◌, ◌≤◌, ◌↔◌, List, [], ◌∷◌, ◌++◌, Option, Some, None, length, map, refl, sym, ap, ◌∙◌, subst, arith}
-use Rattle.std.specs.Prelude.{slice_get}
+use Rattle.std.specs.Prelude.{All, slice_get}
 use Rattle.std.specs.Global.{Vec}
 use Rattle.std.specs.List.{AllZip, Contains}
 use Rattle.std.specs.Option.{option_map}
 use Rattle.std.proofs.lemmas.Bool.{false≢true}
 use Rattle.std.proofs.lemmas.Option.{slice_get-map, slice_get_within}
 use Rattle.std.proofs.lemmas.List.{length-append}
+use Rattle.std.proofs.lemmas.List.Elements.{All-push}
 use Rattle.cs_grammar.specs.Grammar.{PlainGrammar}
 use Rattle.cs_goals.specs.declared.goal.Goal.{Goal}
 use Rattle.cs_goals.specs.Meets.{IsMeeting}
@@ -182,8 +183,8 @@ module _ (file : File) (lines : List Line) (e : Entries) (t : AreEntries file li
   pub cases_known : AreCasesIn file lines e.cases
   cases_known = record { grammar = t.grammar; rules = t.rules; sizes = sizes_now; small = t.small }
 
-  pub goal_taken : (n : ℕ) (w : GoalWords) (v : VerdictWords) (due : DueGoals) (goal_cases : Vec ℕ) (case : ℕ) (counts : held.Counts) → length lines + 1 < 4294967296 → KnowsGoals file.grammar (goals_in lines ++ w ∷ []) due → goal_cases.items ≡ e.goal_cases.items ++ case ∷ [] → IsCaseOf v case → AreCounts (lines ++ GoalLine n w v ∷ []) counts → AreEntries file (lines ++ GoalLine n w v ∷ []) (record e { due = due; goal_cases = goal_cases; counts = counts })
-  goal_taken n w v due goal_cases case counts few knows cases_are is counted =
+  pub goal_taken : (n : ℕ) (w : GoalWords) (v : VerdictWords) (due : DueGoals) (goal_cases : Vec ℕ) (case : ℕ) (counts : held.Counts) → length lines + 1 < 4294967296 → KnowsGoals file.grammar (goals_in lines ++ w ∷ []) due → goal_cases.items ≡ e.goal_cases.items ++ case ∷ [] → IsCaseOf v case → case ≤ length e.cases.list → AreCounts (lines ++ GoalLine n w v ∷ []) counts → AreEntries file (lines ++ GoalLine n w v ∷ []) (record e { due = due; goal_cases = goal_cases; counts = counts })
+  goal_taken n w v due goal_cases case counts few knows cases_are is low counted =
       let l : Line = GoalLine n w v in
       let lines' = lines ++ l ∷ [] in
       let long = length-append lines (l ∷ []) in
@@ -204,6 +205,9 @@ module _ (file : File) (lines : List Line) (e : Entries) (t : AreEntries file li
             subst (λ (x : List VerdictWords). AllZip IsCaseOf x goal_cases.items) (sym verdicts_more)
             (subst (λ (x : List ℕ). AllZip IsCaseOf (verdicts lines ++ v ∷ []) x) (sym cases_are)
             (zip_push IsCaseOf (verdicts lines) e.goal_cases.items v case t.verdicts is));
+        shown =
+            subst (λ (x : List ℕ). All (λ (number : ℕ). number ≤ length e.cases.list) x) (sym cases_are)
+            (All-push (λ (number : ℕ). number ≤ length e.cases.list) e.goal_cases.items case t.shown low);
         due = subst (λ (x : List GoalWords). KnowsGoals file.grammar x due) (sym goals_more) knows;
         told = subst (λ (p : Part). HasTold file lines' p e.tokens.items) (sym part) tt;
         bases = t.bases ∙ sym (ap (λ (x : List ℕ). length x) bases_same);
