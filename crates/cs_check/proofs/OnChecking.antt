@@ -34,3 +34,5 @@ pub mod HeadSets
 pub mod HeadKnown
 pub mod HeadClaims
 pub mod HeadJudged
+pub mod Counting
+pub mod Goaling

@@ -1,26 +1,34 @@
 -- Base lines and negative lines.
-use Rattle.std.proofs.Common.{◌≡◌, ℕ, zero, suc, ◌+◌, ◌-◌, ◌<◌, ◌≤◌, List, [], ◌∷◌, ◌++◌, Option, Some, None, length, refl, sym, ap, ◌∙◌, subst, arith}
-use Rattle.std.specs.Prelude.{All, count_by, slice_get}
+use Rattle.std.proofs.Common.{◌≡◌, ℕ, zero, suc, ◌+◌, ◌-◌, ◌<◌, ◌≤◌, false, List, [], ◌∷◌, ◌++◌, Option, Some, None, length, refl, sym, ap, ◌∙◌, subst, arith}
+use Rattle.std.specs.Prelude.{IfSome, count_by, slice_get}
 use Rattle.std.specs.Global.{Vec}
 use Rattle.std.specs.List.{AllZip, Contains}
 use Rattle.std.specs.Option.{option_map}
 use Rattle.std.proofs.lemmas.Bool.{false≢true}
 use Rattle.std.proofs.lemmas.Option.{slice_get_within, slice_get-map, get_or_from_slice_get}
-use Rattle.std.proofs.lemmas.List.{length-append, length_push}
+use Rattle.std.proofs.lemmas.List.{length-append, length_push, length-map}
 use Rattle.cs_grammar.specs.Grammar.{PlainGrammar}
 use Rattle.cs_grammar.specs.Leftmost.{IsYield}
+use Rattle.cs_grammar.specs.Sentence.{framed}
+use Rattle.cs_grammar.specs.Tree.{Tree, IsTree, IsPrefixFree}
+use Rattle.cs_grammar.specs.declared.symbol.Symbol.{Symbol}
+use Rattle.cs_goals.specs.declared.goal.Goal.{Goal}
 use Rattle.cs_yacc.specs.Reading.File.{File}
-use Rattle.cs_lines.specs.Words.Edits.{EditWords, IsEdited}
+use Rattle.cs_lines.specs.Words.Edits.{EditWords, IsEdited, FitsList}
 use Rattle.cs_lines.specs.Lines.Line.{GoalWords, VerdictWords, Feasible, Infeasible, Large, Line, BaseLine, NegativeLine}
 use Rattle.cs_check.specs.declared.checking.entries.Entries.{Entries}
 use Rattle.cs_check.specs.Passing.Above.{size_in, derivation_in, goal_in, verdict_in, base_in, edit_in, case_sizes, derivations, verdicts, base_goals, edits, is_feasible, is_infeasible, is_large}
 use Rattle.cs_check.specs.Passing.Places.{Part, InHead, OfCase, OfDerivation, OfCaseTokens, OfCaseText, OfGoal, OfBase, OfNegative, OfNegativeTokens, OfNegativeText, OfEnd, last_part, next_parts}
-use Rattle.cs_check.specs.Passing.Entries.{IsNumbered, IsLast, HasCase, IsBase}
+use Rattle.cs_check.specs.Passing.Entries.{IsNumbered, IsLast, HasCase, IsBase, IsMade, IsKeptApart}
 use Rattle.cs_check.specs.Passing.DueGoals.{KnowsGoals}
-use Rattle.cs_check.specs.Checking.Cases.{PlainCase}
+use Rattle.cs_check.specs.Passing.Faults.{HasCases}
+use Rattle.cs_check.specs.Checking.Cases.{PlainCase, IsPlaceOf}
+use Rattle.cs_check.specs.Checking.Edits.{IsEditedIf}
 use Rattle.cs_check.specs.Checking.Told.{rules_of, sizes_of, AreSized, IsCaseOf, HasTold, HasBase, AreEntries}
+use Rattle.cs_check.specs.Checking.Negatives.{IsCasePlace}
 use Rattle.cs_check.proofs.OnChecking.Told.{kept, added, last_part_more, among_true, base_kept, plain_sizes}
 use Rattle.cs_check.proofs.OnChecking.Deriving.{last_push}
+use Rattle.cs_check.proofs.OnChecking.Once.{one_base, one_made}
 
 -- ---- the case of a goal
 
@@ -59,6 +67,32 @@ module _ (file : File) (lines : List Line) (e : Entries) (t : AreEntries file li
       let low = t.shown (goal - 1) on.0 within in
       let is = on.2.0 in
       (on.1 ∙ ap Some is, on.2.1, omega arith)
+
+  pub place_is : (number : ℕ) → 0 < goal → slice_get e.goal_cases.items (goal - 1) ≡ Some number → (place : Option ℕ) → IsPlaceOf number (length e.cases.list) place → IsCasePlace lines goal place
+  place_is number low at None never case h =
+      let told = case_told case h in
+      let both : Some number ≡ Some case = sym at ∙ told.0 in
+      let same : number ≡ case = cc in
+      let more = told.1 in
+      let within = told.2 in
+      absurd (never (omega arith, omega arith))
+  place_is number low at (Some place) is =
+      let more : 0 < number = let same = is.0 in omega arith in
+      subst (λ (n : ℕ). HasCase lines goal n) is.0 (case_found number low at more)
+
+pub place_within : (number many : ℕ) (place : Option ℕ) → IsPlaceOf number many place → IfSome place (λ p. p < many)
+place_within number many None is = tt
+place_within number many (Some place) is = is.1
+
+-- the case of a verdict that is so is one of those that were told
+pub case_within : (file : File) (lines : List Line) (e : Entries) → AreEntries file lines e → (v : VerdictWords) (goal : Goal) (number : ℕ) → HasCases file.grammar lines v goal → IsCaseOf v number → number ≤ length e.cases.list
+case_within file lines e t (Feasible size case first) goal number has is =
+    let within = slice_get_within (derivations lines) (case - 1) has.met.0 has.met.1.1 in
+    let long : length (derivations lines) ≡ length e.cases.list = ap (λ (l : List (List ℕ)). length l) (sym t.rules) ∙ length-map e.cases.list (λ (c : PlainCase). c.rules) in
+    let same = is.0 in
+    omega arith
+case_within file lines e t Infeasible goal number has is = omega arith
+case_within file lines e t Large goal number has is = omega arith
 
 -- ---- a base line
 
@@ -202,3 +236,15 @@ module _ (file : File) (lines : List Line) (e : Entries) (t : AreEntries file li
             cases = t.counts.cases ∙ sym (ap (λ (x : List ℕ). length x) sizes_same);
           };
         }
+
+    module _ (one : (x : Symbol) (t : Tree) → IsTree file.grammar x t → IsPrefixFree file.grammar x t) (edit : EditWords) (tokens : List ℕ) where
+      -- what doesn't fit the last base doesn't fit
+      pub unfit : IsEditedIf false file e.base.items edit tokens → (w : List ℕ) → IsBase file.grammar lines w → FitsList file w edit → ⊥
+      unfit never w is fits =
+          never (subst (λ (x : List ℕ). FitsList file x edit) (one_base file.grammar one lines w e.base.items is base_known) fits)
+
+      -- and what isn't kept apart in the edited list isn't
+      pub together : IsEdited file e.base.items edit tokens → (at : ℕ) (left right : List ℕ) → (IsKeptApart file lines (framed tokens) at left right → ⊥) → (y : List ℕ) → IsMade file lines edit y → IsKeptApart file lines (framed y) at left right → ⊥
+      together edited at left right never y made apart =
+          let same = one_made file one lines edit y tokens made (e.base.items, base_known, edited) in
+          never (subst (λ (x : List ℕ). IsKeptApart file lines (framed x) at left right) same apart)

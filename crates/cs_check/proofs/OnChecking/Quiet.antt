@@ -196,3 +196,17 @@ module _ (file : File) (lines : List Line) (e : Entries) (t : AreEntries file li
   pub no_scan_taken : (after : ℕ) → Contains (next_parts (last_part lines)) (text_part (last_part lines)) → AreEntries file (lines ++ NoScanLine after ∷ []) e
   no_scan_taken after =
       text_taken_of (NoScanLine after) (record { size = refl; derivation = refl; goal = refl; verdict = refl; base = refl; edit = refl }) refl
+
+  -- ---- the end line
+
+  not_case_end : (p : Part) → Contains (next_parts p) OfEnd → p ≡ OfCase → ⊥
+  not_case_end p h same =
+      false≢true (among_true (next_parts OfCase) OfEnd (subst (λ (q : Part). Contains (next_parts q) OfEnd) same h))
+
+  end_other : OfEnd ≡ OfCase → ⊥
+  end_other same = absurd cc
+
+  pub end_taken : (counts : Counts) → Contains (next_parts (last_part lines)) OfEnd → AreEntries file (lines ++ EndLine counts ∷ []) e
+  end_taken counts follows =
+      quiet_taken (EndLine counts) (record { size = refl; derivation = refl; goal = refl; verdict = refl; base = refl; edit = refl })
+      (not_case_end (last_part lines) follows) OfEnd refl end_other tt tt
