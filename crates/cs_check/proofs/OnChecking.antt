@@ -19,13 +19,6 @@ pub mod Told
 pub mod Deriving
 pub mod Quiet
 pub mod Negatives
-pub mod HeadEnd
-pub mod Past
-pub mod Entering
-pub mod Placing
-pub mod Pieces
-pub mod Pass
-pub mod Beginning
 pub mod HeadNext
 pub mod HeadDues
 pub mod HeadPlaces
@@ -33,6 +26,12 @@ pub mod HeadMeasure
 pub mod HeadSets
 pub mod HeadKnown
 pub mod HeadClaims
+pub mod HeadEnd
 pub mod HeadJudged
 pub mod Counting
 pub mod Goaling
+pub mod Entering
+pub mod Placing
+pub mod Pieces
+pub mod Pass
+pub mod Beginning

@@ -316,16 +316,3 @@ module _ (file : File) (s : PlainSets) (whole : AreWholeSets file.grammar s) (na
   pub next_claimed : (s' : PlainSets) (number : ℕ) → AreWholeSets file.grammar s' → IsWithBehind file names (mark_at number) s s' → AreSameButNext s s' → ClaimsRow file Next number names s s'
   next_claimed s' number whole' with same = λ lines name claimed due.
       claims_next file lines s claimed names s' whole' number name due with same
-
--- ---- with a line that claims nothing
-
-pub claims_stay : (file : File) (lines : List Line) (s : PlainSets) → AreClaimed file lines s → (l : Line) → set_in Productive l ≡ None → set_in Reachable l ≡ None → set_in Empty l ≡ None → row_in First l ≡ None → row_in Last l ≡ None → row_in Next l ≡ None → AreClaimed file (lines ++ l ∷ []) s
-claims_stay file lines s claimed l productive reachable empty first last next = record {
-  fit = claimed.fit;
-  productive = kept_productive file lines s claimed l s refl productive;
-  reachable = kept_reachable file lines s claimed l s refl reachable;
-  empty = kept_empty file lines s claimed l s refl empty;
-  first = kept_first file lines s claimed l s refl first;
-  last = kept_last file lines s claimed l s refl last;
-  next = kept_next file lines s claimed l s (λ a b. (λ h. h, λ h. h)) next;
-}

@@ -20,8 +20,7 @@ use Rattle.cs_check.specs.Checking.Running.{IsPast, KnowsPlace, KnowsAbove, MayF
 use Rattle.cs_check.proofs.OnChecking.Kinds.{is_head, taken_head}
 use Rattle.cs_check.proofs.OnChecking.Told.{last_part_more, among_true}
 use Rattle.cs_check.proofs.OnChecking.Quiet.{IsQuiet, quiet_taken}
-use Rattle.cs_check.proofs.OnChecking.HeadEnd.{head_ended}
-use Rattle.cs_check.proofs.OnChecking.Past.{never_inside, not_in_head, ended_more, ended_past}
+use Rattle.cs_check.proofs.OnChecking.HeadEnd.{head_ended, ended_more, ended_past, not_in_head}
 
 -- ---- lines of the head
 
@@ -163,6 +162,19 @@ module _ (c : Checked) (above : List Line) where
 
 -- ---- where the next line may stand
 
+never_inside : (p : Part) → Contains (next_parts p) InHead → ⊥
+never_inside InHead h = false≢true (among_true (next_parts InHead) InHead h)
+never_inside OfCase h = false≢true (among_true (next_parts OfCase) InHead h)
+never_inside OfDerivation h = false≢true (among_true (next_parts OfDerivation) InHead h)
+never_inside OfCaseTokens h = false≢true (among_true (next_parts OfCaseTokens) InHead h)
+never_inside OfCaseText h = false≢true (among_true (next_parts OfCaseText) InHead h)
+never_inside OfGoal h = false≢true (among_true (next_parts OfGoal) InHead h)
+never_inside OfBase h = false≢true (among_true (next_parts OfBase) InHead h)
+never_inside OfNegative h = false≢true (among_true (next_parts OfNegative) InHead h)
+never_inside OfNegativeTokens h = false≢true (among_true (next_parts OfNegativeTokens) InHead h)
+never_inside OfNegativeText h = false≢true (among_true (next_parts OfNegativeText) InHead h)
+never_inside OfEnd h = false≢true (among_true (next_parts OfEnd) InHead h)
+
 not_inside : (p q : Part) → Contains (next_parts p) q → q ≡ InHead → ⊥
 not_inside p q h is = never_inside p (subst (λ (r : Part). Contains (next_parts p) r) is h)
 
@@ -254,8 +266,8 @@ module _ (file : File) (above : List Line) (a : Above) (k : KnowsAbove file abov
               (placed file lines a.head (part_of (last_part above) l)
               (not_inside (last_part above) (part_of (last_part above) l) h.part)
               (record {
-                ended = ended_more file above (last_part above) l h.part a.head ended;
-                past = ended_past file above (last_part above) l h.part h.behind;
+                ended = ended_more file above a.head (last_part above) l ended h.part;
+                past = ended_past file.grammar above (last_part above) l h.behind h.part;
               }));
           entries = t;
         }
