@@ -5,7 +5,6 @@
 mod above;
 mod apart;
 mod cases;
-mod check;
 mod claims;
 mod derivations;
 pub(crate) mod due;
@@ -18,10 +17,11 @@ mod head;
 mod marks;
 mod negatives;
 pub(crate) mod part;
+mod pass;
 mod scans;
 mod sizes;
 mod taking;
 mod texts;
 mod verdicts;
 
-pub use check::{Outcome, check};
+pub use pass::{Outcome, check};

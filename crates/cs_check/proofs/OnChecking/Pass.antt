@@ -3,8 +3,8 @@ use Rattle.std.proofs.Common.{◌≡◌, ℕ, ◌+◌, ◌<◌, ◌≤◌, List,
 use Rattle.std.proofs.lemmas.List.{map_push, length-map, length-drop}
 use Rattle.cs_bytes.specs.Places.{line_size}
 use Rattle.cs_lines.proofs.OnPieces.{line_in_front}
-use Rattle.cs_check.specs.declared.checking.check.Outcome.{Outcome}
-use Rattle.cs_check.specs.declared.checking.check.Outcome.TheVariants.{Yes, No}
+use Rattle.cs_check.specs.declared.checking.pass.Outcome.{Outcome}
+use Rattle.cs_check.specs.declared.checking.pass.Outcome.TheVariants.{Yes, No}
 use Rattle.cs_lines.specs.Lines.Line.{Line}
 use Rattle.cs_lines.specs.Lines.Texts.{Says}
 use Rattle.cs_check.specs.declared.passing.fault.ClaimFault.{ClaimFault}

@@ -16,8 +16,8 @@ use Rattle.cs_check.specs.declared.checking.entries.Entries.{Entries}
 use Rattle.cs_check.specs.declared.checking.above.Above.{Above}
 use Rattle.cs_check.specs.declared.checking.above.Place.{Place}
 use Rattle.cs_check.specs.declared.checking.above.Place.TheVariants as place
-use Rattle.cs_check.specs.declared.checking.check.Outcome.{Outcome}
-use Rattle.cs_check.specs.declared.checking.check.Outcome.TheVariants.{Yes, No}
+use Rattle.cs_check.specs.declared.checking.pass.Outcome.{Outcome}
+use Rattle.cs_check.specs.declared.checking.pass.Outcome.TheVariants.{Yes, No}
 use Rattle.cs_check.specs.Passing.Head.{head_size}
 use Rattle.cs_check.specs.Passing.Places.{Part, InHead, OfEnd, part_of, last_part, next_parts, IsNumbered, IsInHead, IsBehindHead, MayCome}
 use Rattle.cs_check.specs.Passing.Faults.{Checked}

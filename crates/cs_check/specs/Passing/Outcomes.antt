@@ -1,7 +1,7 @@
 -- What the answer of a check tells of a text.
 use Rattle.std.specs.Prelude.{◌≡◌, ℕ, List, length, map, Some}
-use Rattle.cs_check.specs.declared.checking.check.Outcome.{Outcome}
-use Rattle.cs_check.specs.declared.checking.check.Outcome.TheVariants.{Yes, No}
+use Rattle.cs_check.specs.declared.checking.pass.Outcome.{Outcome}
+use Rattle.cs_check.specs.declared.checking.pass.Outcome.TheVariants.{Yes, No}
 use Rattle.cs_lines.specs.Lines.Line.{Line}
 use Rattle.cs_lines.specs.Lines.Pieces.{lines_of}
 use Rattle.cs_check.specs.Passing.Above.{goals_in, edits}
