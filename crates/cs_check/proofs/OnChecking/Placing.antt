@@ -1,5 +1,6 @@
 -- Where a line stands, and what is known with it.
 use Rattle.std.proofs.Common.{◌≡◌, ℕ, ◌+◌, ◌<◌, ◌≤◌, Bool, true, false, List, [], ◌∷◌, ◌++◌, Option, Some, None, length, refl, sym, ap, ◌∙◌, subst, ⊎_elim, inl, inr, arith}
+use Rattle.std.specs.Prelude.{IsTrue, ◌↔◌}
 use Rattle.std.specs.List.{Contains}
 use Rattle.std.proofs.lemmas.Bool.{false≢true}
 use Rattle.cs_yacc.specs.Reading.File.{File}
@@ -244,6 +245,15 @@ module _ (file : File) (above : List Line) (a : Above) (k : KnowsAbove file abov
 
   pub never_in_head : (a.part ≡ InHead → ⊥) → (l : Line) → IsInHead file.grammar above l → ⊥
   never_in_head other l h = not_in_head file.grammar above l (is_past other).past h
+
+  pub knows_inside : (l : Line) → IsInHead file.grammar above l → KnowsHead file above a.head
+  knows_inside l h = knows_head (k.part ∙ inside_at file above a.head l (last_part above) k.place h)
+
+  -- whether the line's part may come, by the part that is told
+  pub follows_by : (l : Line) (part : Part) → part ≡ part_of a.part l → (so : Bool) → IsTrue so ↔ Contains (next_parts a.part) part → IsTrue so ↔ Contains (next_parts (last_part above)) (part_of (last_part above) l)
+  follows_by l part is so told =
+      subst (λ (p : Part). IsTrue so ↔ Contains (next_parts p) (part_of p l)) k.part
+      (subst (λ (q : Part). IsTrue so ↔ Contains (next_parts a.part) q) is told)
 
   module _ (l : Line) where
     pub nowhere_before : (IsInHead file.grammar above l → ⊥) → (head_size file.grammar above ≤ length above → ⊥) → MayCome file.grammar above l → ⊥

@@ -61,21 +61,30 @@ impl<'a> Above<'a> {
     fn is_inside(&self, yacc: &YaccFile, line: &Line<'_>) -> bool
         ensures { TellsInside yacc.now self.now line.now result }
     {
-        self.part == Part::InHead && self.head.has_next(yacc.grammar(), line)
+        match self.part {
+            Part::InHead => self.head.has_next(yacc.grammar(), line),
+            _ => false,
+        }
     }
 
     // Whether the head is at its end.
     fn is_past(&self, yacc: &YaccFile) -> bool
         ensures { TellsPast yacc.now self.now result }
     {
-        self.part != Part::InHead || self.head.is_ended(yacc.grammar())
+        match self.part {
+            Part::InHead => self.head.is_ended(yacc.grammar()),
+            _ => true,
+        }
     }
 
     // Whether the line may come behind the last one, where the head is at its end.
     fn has_following(&self, line: &Line<'_>) -> bool
         ensures { TellsFollowing self.now line.now result }
     {
-        may_follow(self.part, part_of(self.part, line)) && self.entries.is_numbered(line)
+        if !may_follow(self.part, part_of(self.part, line)) {
+            return false;
+        }
+        self.entries.is_numbered(line)
     }
 
     // The place of the next line.
@@ -85,10 +94,14 @@ impl<'a> Above<'a> {
         if self.is_inside(yacc, line) {
             return Place::InHead;
         }
-        if self.is_past(yacc) && self.has_following(line) {
-            return Place::Behind;
+        if !self.is_past(yacc) {
+            return Place::Nowhere;
         }
-        Place::Nowhere
+        if self.has_following(line) {
+            Place::Behind
+        } else {
+            Place::Nowhere
+        }
     }
 
     // Takes a line of the head.

@@ -27,15 +27,15 @@ pub enum Outcome {
 fn at_end(above: &Above<'_>, line: u32) -> Outcome
     ensures { IsEndAnswer above.now line result }
 {
-    if above.part != Part::OfEnd {
-        return Outcome::No {
+    match above.part {
+        Part::OfEnd => Outcome::Yes {
+            goals: above.entries.counts.goals,
+            negatives: above.entries.counts.negatives,
+        },
+        _ => Outcome::No {
             line,
             fault: ClaimFault::Form,
-        };
-    }
-    Outcome::Yes {
-        goals: above.entries.counts.goals,
-        negatives: above.entries.counts.negatives,
+        },
     }
 }
 
