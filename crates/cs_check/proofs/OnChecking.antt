@@ -31,7 +31,7 @@ pub mod HeadJudged
 pub mod Counting
 pub mod Goaling
 pub mod Entering
+pub mod Arms
 pub mod Placing
 pub mod Pieces
 pub mod Pass
-pub mod Beginning

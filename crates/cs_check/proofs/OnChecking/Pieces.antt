@@ -1,8 +1,9 @@
 -- A line of a manifest by its bytes: what it says can be counted, and its judgement is that of the bytes.
 use Rattle.std.proofs.Common.{◌≡◌, ℕ, ◌+◌, ◌<◌, ◌≤◌, List, [], ◌∷◌, ◌++◌, Option, Some, None, length, map, refl, sym, ap, ◌∙◌, subst, inl, inr, arith}
-use Rattle.std.specs.Prelude.{codes}
+use Rattle.std.specs.Prelude.{codes, IfOk, Result}
 use Rattle.std.specs.List.{flat_map}
 use Rattle.std.proofs.lemmas.List.{length-append, length-map}
+use Rattle.std.proofs.lemmas.Result.{IfOk-weaker}
 use Rattle.cs_lines.specs.declared.lines.line.Line as held
 use Rattle.cs_lines.specs.declared.lines.line.Line.TheVariants as lines
 use Rattle.cs_lines.specs.Lines.Line.{Line, Opening, Weighing, TokenLine, RuleLine, LexemeLine, SetLine, RowLine, CaseLine, DeriveLine, TokensLine, TextLine, NoLexemeLine, NoScanLine, GoalLine, BaseLine, NegativeLine, EndLine}
@@ -95,3 +96,9 @@ module _ (c : Checked) (above : List Line) (bytes : List ℕ) (new : Above) wher
 
   pub unsaid_judged : (text : List ℕ) → IsEnded bytes text → SaysNone text → IsPieceJudged c above bytes new (Some Form)
   unsaid_judged text is none = inr (refl, λ l says. none l (subst (λ (b : List ℕ). Says b l) is says))
+
+  pub read_judged : {E : Type 0} (text : List ℕ) → IsEnded bytes text → (told : held.Line) → IsReadAs text told → (result : Result (Option ClaimFault) E) → ((l : Line) → Tells told l → IfOk result (IsLineJudged c above l new)) → IfOk result (IsPieceJudged c above bytes new)
+  read_judged text is told read result judged =
+      IfOk-weaker result (IsLineJudged c above read.0 new) (IsPieceJudged c above bytes new)
+      (piece_judged read.0 (subst (λ (b : List ℕ). Says b read.0) (sym is) read.1))
+      (judged read.0 read.2)
