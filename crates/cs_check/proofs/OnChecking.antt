@@ -27,3 +27,5 @@ pub mod HeadKnown
 pub mod HeadEnd
 pub mod HeadClaims
 pub mod HeadJudged
+pub mod HeadTells
+pub mod HeadTaken

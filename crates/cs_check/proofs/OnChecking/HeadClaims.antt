@@ -47,6 +47,19 @@ row_with_sets lines kind n none h =
     let no = ap (λ (x : List (List (List ℕ))). length x) (none.no_set Productive) in
     omega (arith, one, no)
 
+no_sets_of : (kind : SetKind) → sets kind [] ≡ []
+no_sets_of Productive = refl
+no_sets_of Reachable = refl
+no_sets_of Empty = refl
+
+no_rows_of : (kind : RowKind) → rows kind [] ≡ []
+no_rows_of First = refl
+no_rows_of Last = refl
+no_rows_of Next = refl
+
+pub no_claims : IsUnclaimed []
+no_claims = record { no_set = no_sets_of; no_row = no_rows_of }
+
 -- ---- the line of a set
 
 module _ (file : File) (lines : List Line) (kind : SetKind) (names : List (List ℕ)) (l : Line) (e : l ≡ SetLine kind names) where

@@ -14,7 +14,8 @@ use Rattle.cs_check.specs.Passing.Above.{weigh_in, lexeme_in, weighs, lexemes, i
 use Rattle.cs_check.specs.Passing.Head.{Due, TheSet, tables, whole_head, head_size}
 use Rattle.cs_check.specs.Passing.Places.{Part, InHead, OfCase, OfDerivation, OfCaseTokens, OfCaseText, OfGoal, OfBase, OfNegative, OfNegativeTokens, OfNegativeText, OfEnd, part_of, next_parts, IsInHead}
 use Rattle.cs_check.specs.Passing.Entries.{measured, IsMeasured, IsNumbered}
-use Rattle.cs_check.specs.Checking.Head.{Head, State, state_of, AreNext, KnowsHead, HasEnded}
+use Rattle.cs_check.specs.declared.checking.head.Head.{Head}
+use Rattle.cs_check.specs.Checking.Head.{State, state_of, AreNext, KnowsHead, HasEnded}
 use Rattle.cs_check.proofs.OnChecking.Told.{kept, among_true}
 use Rattle.cs_check.proofs.OnChecking.HeadPlaces.{drop_all, size_with, size_without, tables_within, sets_lack, claims_left}
 use Rattle.cs_check.proofs.OnChecking.HeadMeasure.{measure_known}

@@ -9,7 +9,8 @@ use Rattle.cs_lines.specs.Lines.Line.{SetKind, Productive, Reachable, Empty, Row
 use Rattle.cs_check.specs.Passing.Above.{weigh_in, lexeme_in, is_set, set_in, row_in}
 use Rattle.cs_check.specs.Passing.Head.{Due, TheOpening, TheWeighing, TheToken, TheRule, TheLexeme, TheSet, TheRow, Takes, whole_head}
 use Rattle.cs_check.specs.Passing.Places.{IsInHead}
-use Rattle.cs_check.specs.Checking.Head.{Head, KnowsHead, IsUnclaimed, AreWholeIn, TellsMeasure, counted, number_by, IsNextIn, state_of}
+use Rattle.cs_check.specs.declared.checking.head.Head.{Head}
+use Rattle.cs_check.specs.Checking.Head.{KnowsHead, IsUnclaimed, AreWholeIn, TellsMeasure, counted, number_by, IsNextIn, state_of}
 use Rattle.cs_closed.specs.Closed.Sets.{PlainSets}
 use Rattle.cs_check.specs.Checking.Claims.{AreWholeSets}
 use Rattle.cs_check.specs.Checking.Excluded.{AreSetsIn}

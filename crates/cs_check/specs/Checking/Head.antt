@@ -204,3 +204,9 @@ JudgesDue file old d told new result =
 abbrev pub AnswersClosed : File → Head → Bool → Type 0
 AnswersClosed file h so =
     (lines : List Line) → AreSetsIn file lines h.sets → has_sets lines ≡ true → IsTrue so ↔ ClaimsClosed file lines
+
+-- or so many lines aren't there
+abbrev pub AnswersEnd : File → Head → ℕ → Bool → Type 0
+AnswersEnd file h whole so =
+    (lines : List Line) → AreSetsIn file lines h.sets → (h.above ≡ whole → has_sets lines ≡ true)
+    → IsTrue so ↔ (h.above ≡ whole → ClaimsClosed file lines)
