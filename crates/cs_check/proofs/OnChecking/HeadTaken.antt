@@ -1,21 +1,20 @@
 -- The line that is due, taken.
-use Rattle.std.proofs.Common.{◌≡◌, ℕ, Bool, true, false, List, [], ◌∷◌, ◌++◌, Option, Some, None, length, refl, sym, ap, ◌∙◌, subst, ◌↔◌}
-use Rattle.std.specs.Prelude.{IsTrue, slice_get, Vec}
+use Rattle.std.proofs.Common.{◌≡◌, ℕ, Bool, true, false, List, [], ◌∷◌, ◌++◌, Option, Some, None, refl, sym, ap, ◌∙◌, subst, ◌↔◌}
+use Rattle.std.specs.Prelude.{IsTrue, slice_get}
 use Rattle.cs_choices.specs.declared.weigh.Weigh.{Weigh}
 use Rattle.cs_grammar.specs.Grammar.{PlainGrammar}
 use Rattle.cs_yacc.specs.Reading.File.{File}
-use Rattle.cs_lines.specs.declared.lines.line.Line as held
 use Rattle.cs_lines.specs.declared.lines.line.Line.TheVariants as lines
-use Rattle.cs_lines.specs.Lines.Line.{SetKind, RowKind, Line, Weighing, LexemeLine, SetLine, RowLine}
+use Rattle.cs_lines.specs.Lines.Line.{SetKind, RowKind, Line, Weighing}
 use Rattle.cs_lines.specs.Lines.Read.{Tells}
 use Rattle.cs_closed.specs.Closed.Sets.{PlainSets}
 use Rattle.cs_check.specs.declared.checking.head.Head.{Head}
 use Rattle.cs_check.specs.Passing.Above.{weigh_in, lexeme_in}
-use Rattle.cs_check.specs.Passing.Head.{Due, TheOpening, TheWeighing, TheToken, TheRule, TheLexeme, TheSet, TheRow, Takes, IsOfFile, whole_head}
+use Rattle.cs_check.specs.Passing.Head.{Due, TheOpening, TheWeighing, TheToken, TheRule, TheSet, TheRow, Takes, IsOfFile, whole_head}
 use Rattle.cs_check.specs.Passing.Places.{IsInHead}
-use Rattle.cs_check.specs.Checking.Head.{KnowsHead, IsNextIn, state_of, AreWholeIn, IsClaimJudged, IsDueJudged, counted, number_by}
+use Rattle.cs_check.specs.Checking.Head.{KnowsHead, IsNextIn, state_of, AreWholeIn, IsClaimJudged, IsDueJudged, counted}
 use Rattle.cs_check.proofs.OnChecking.HeadPlaces.{next_here}
-use Rattle.cs_check.proofs.OnChecking.HeadKnown.{opening_known, weighing_known, token_known, rule_known, lexeme_known, claim_known}
+use Rattle.cs_check.proofs.OnChecking.HeadKnown.{opening_known, weighing_known, token_known, rule_known, claim_known}
 
 -- the line that is due, of a grammar that is this one
 pub here_by : (g other : PlainGrammar) → other ≡ g → (place many : ℕ) → place ≡ many → (d : Due) → Some d ≡ slice_get (whole_head other) place → slice_get (whole_head g) many ≡ Some d

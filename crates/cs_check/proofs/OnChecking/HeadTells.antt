@@ -1,5 +1,5 @@
 -- Which line is told, where a token or a rule is.
-use Rattle.std.proofs.Common.{◌≡◌, ℕ, Bool, List, Bor, sym, ap, ◌∙◌, ◌↔◌}
+use Rattle.std.proofs.Common.{◌≡◌, ℕ, Bool, List, Bor, ap, ◌↔◌}
 use Rattle.std.specs.Prelude.{IsTrue}
 use Rattle.cs_lines.specs.declared.lines.names.Names.{Names}
 use Rattle.cs_lines.specs.declared.lines.line.Line.TheVariants as lines

@@ -16,7 +16,7 @@ use Rattle.cs_lines.specs.Lines.Line.{SetKind, Productive, Reachable, Empty, Row
 use Rattle.cs_lines.specs.Lines.Read.{Tells, TellsText}
 use Rattle.cs_closed.specs.Closed.Sets.{PlainSets}
 use Rattle.cs_check.specs.Passing.Above.{weighs, lexemes, sets, rows, has_sets}
-use Rattle.cs_check.specs.Passing.Head.{Due, TheOpening, TheWeighing, TheToken, TheRule, TheLexeme, TheSet, TheRow, Takes, IsOfFile, AreClaimed, head_size, whole_head}
+use Rattle.cs_check.specs.Passing.Head.{Due, TheWeighing, TheToken, TheRule, TheLexeme, TheSet, TheRow, Takes, IsOfFile, AreClaimed, head_size, whole_head}
 use Rattle.cs_check.specs.Passing.Dues.{due_told}
 use Rattle.cs_check.specs.Passing.Places.{IsInHead}
 use Rattle.cs_check.specs.Passing.Entries.{IsMeasured}

@@ -1,7 +1,6 @@
 // The lines of the head.
 
 ghost use Rattle.std.specs.Prelude.{◌≡◌, ◌↔◌, ℕ, IsTrue, [], IfOk};
-ghost use Rattle.cs_grammar.specs.Grammar.{IsNumberOf};
 ghost use Rattle.cs_yacc.specs.Reading.File.{File};
 ghost use Rattle.cs_lines.specs.Lines.Numbers.{IsRead};
 ghost use Rattle.cs_lines.specs.Lines.Read.{set_kind, row_kind};

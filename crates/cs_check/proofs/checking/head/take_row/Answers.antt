@@ -1,6 +1,6 @@
 use Rattle.std.proofs.Common.{◌≡◌, ℕ, List, Option, sym, ap, ◌∙◌, subst}
 use Rattle.cs_lines.specs.declared.lines.line.Line as held
-use Rattle.cs_lines.specs.Lines.Line.{RowKind, Line, RowLine}
+use Rattle.cs_lines.specs.Lines.Line.{Line, RowLine}
 use Rattle.cs_lines.specs.Lines.Read.{Tells, names_in, row_kind}
 use Rattle.cs_closed.specs.Closed.Sets.{PlainSets}
 use Rattle.cs_check.specs.Checking.Excluded.{AreSetsIn}

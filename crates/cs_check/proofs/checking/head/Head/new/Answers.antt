@@ -1,5 +1,4 @@
-use Rattle.std.proofs.Common.{[], refl, inl}
-use Rattle.cs_lines.specs.Lines.Line.{Productive, Reachable, Empty, First, Last, Next}
+use Rattle.std.proofs.Common.{refl, inl}
 use Rattle.cs_check.proofs.OnChecking.HeadPlaces.{no_place}
 use Rattle.cs_check.proofs.OnChecking.HeadClaims.{no_claims}
 use Rattle.cs_check.proofs.checking.head.Head.new.Goals as goal

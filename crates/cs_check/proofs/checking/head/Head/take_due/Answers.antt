@@ -1,10 +1,8 @@
-use Rattle.std.proofs.Common.{◌≡◌, Bool, Option, sym, ap, ◌∙◌, subst}
+use Rattle.std.proofs.Common.{◌≡◌, sym, ap, ◌∙◌, subst}
 use Rattle.std.specs.Prelude.{IfOk}
 use Rattle.std.proofs.lemmas.Result.{IfOk-weaker}
 use Rattle.cs_lines.specs.declared.lines.line.Line as held
-use Rattle.cs_lines.specs.Lines.Line.{Line}
 use Rattle.cs_lines.specs.Lines.Read.{Tells, set_kind, row_kind}
-use Rattle.cs_check.specs.declared.checking.head.Head.{Head}
 use Rattle.cs_check.specs.Passing.Head.{Due, Takes, TheSet, TheRow}
 use Rattle.cs_check.specs.Passing.Dues.{due_told}
 use Rattle.cs_check.specs.Checking.Head.{IsNextIn, state_of, IsClaimJudged, IsDueJudged}

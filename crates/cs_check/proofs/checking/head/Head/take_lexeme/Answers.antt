@@ -1,4 +1,4 @@
-use Rattle.std.proofs.Common.{◌≡◌, ℕ, List, [], ◌∷◌, ◌++◌, Option, sym, ap, ◌∙◌, subst}
+use Rattle.std.proofs.Common.{◌≡◌, ℕ, List, [], ◌∷◌, ◌++◌, sym, ap, ◌∙◌, subst}
 use Rattle.cs_lines.specs.declared.lines.line.Line as held
 use Rattle.cs_lines.specs.Lines.Line.{Line, LexemeLine}
 use Rattle.cs_lines.specs.Lines.Read.{Tells}
