@@ -35,3 +35,5 @@ pub mod Arms
 pub mod Placing
 pub mod Pieces
 pub mod Pass
+pub mod HeadTells
+pub mod HeadTaken

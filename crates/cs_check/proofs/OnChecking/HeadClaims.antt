@@ -1,13 +1,13 @@
 -- The closed lines of the head, judged.
-use Rattle.std.proofs.Common.{◌≡◌, ℕ, ◌+◌, Bool, true, false, List, [], ◌∷◌, ◌++◌, Option, Some, None, length, refl, sym, ap, ◌∙◌, subst, ◌↔◌, arith}
-use Rattle.std.specs.Prelude.{IsTrue, IfNone, All}
+use Rattle.std.proofs.Common.{◌≡◌, ℕ, Bool, true, false, List, [], ◌∷◌, ◌++◌, Some, length, refl, sym, ap, ◌∙◌, subst, ◌↔◌, arith}
+use Rattle.std.specs.Prelude.{IsTrue, All}
 use Rattle.std.specs.Bool.{OnTrue}
 use Rattle.std.proofs.lemmas.Bool.{OnTrue_at}
 use Rattle.cs_yacc.specs.Reading.File.{File}
 use Rattle.cs_lines.specs.Lines.Line.{SetKind, Productive, Reachable, Empty, RowKind, First, Last, Next, Line, SetLine, RowLine}
 use Rattle.cs_closed.specs.Closed.Sets.{PlainSets, no_sets}
 use Rattle.cs_check.specs.Passing.Above.{is_set, sets, rows}
-use Rattle.cs_check.specs.Passing.Head.{Due, TheSet, TheRow, row_name, IsNonterminalName, IsRowName, IsOfFile, AreClaimed}
+use Rattle.cs_check.specs.Passing.Head.{TheSet, TheRow, row_name, IsNonterminalName, IsRowName, IsOfFile, AreClaimed}
 use Rattle.cs_check.specs.Checking.Claims.{ClaimsSet, ClaimsRow, IsNextRow}
 use Rattle.cs_check.specs.Checking.Excluded.{AreSetsIn}
 use Rattle.cs_check.specs.Checking.Head.{IsNextIn, state_of, IsUnclaimed, IsClaimJudged}
@@ -46,6 +46,19 @@ row_with_sets lines kind n none h =
     let one = one_productive lines kind n h in
     let no = ap (λ (x : List (List (List ℕ))). length x) (none.no_set Productive) in
     omega (arith, one, no)
+
+no_sets_of : (kind : SetKind) → sets kind [] ≡ []
+no_sets_of Productive = refl
+no_sets_of Reachable = refl
+no_sets_of Empty = refl
+
+no_rows_of : (kind : RowKind) → rows kind [] ≡ []
+no_rows_of First = refl
+no_rows_of Last = refl
+no_rows_of Next = refl
+
+pub no_claims : IsUnclaimed []
+no_claims = record { no_set = no_sets_of; no_row = no_rows_of }
 
 -- ---- the line of a set
 

@@ -1,22 +1,21 @@
 -- The head at its end, and behind it.
-use Rattle.std.proofs.Common.{◌≡◌, ℕ, ◌+◌, ◌<◌, ◌≤◌, Bool, true, false, List, [], ◌∷◌, ◌++◌, Option, Some, None, length, drop, refl, sym, ap, ◌∙◌, subst, arith}
-use Rattle.std.specs.Prelude.{slice_get, if◌then◌else◌}
+use Rattle.std.proofs.Common.{◌≡◌, ℕ, ◌<◌, ◌≤◌, Bool, true, false, List, [], ◌∷◌, ◌++◌, Option, None, length, drop, refl, sym, ap, ◌∙◌, subst, arith}
+use Rattle.std.specs.Prelude.{if◌then◌else◌}
 use Rattle.std.specs.List.{Contains}
 use Rattle.std.proofs.lemmas.Bool.{false≢true}
 use Rattle.std.proofs.lemmas.List.{length_push}
-use Rattle.std.proofs.lemmas.Option.{slice_get_within}
 use Rattle.cs_choices.specs.declared.weigh.Weigh.{Weigh}
 use Rattle.cs_grammar.specs.Grammar.{PlainGrammar}
-use Rattle.cs_grammar.specs.Weights.{Measure}
 use Rattle.cs_yacc.specs.Reading.File.{File}
-use Rattle.cs_lines.specs.Lines.Line.{SetKind, Productive, Reachable, Empty, RowKind, First, Last, Next, Line, Opening, Weighing, TokenLine, RuleLine, LexemeLine, SetLine, RowLine, CaseLine, DeriveLine, TokensLine, TextLine, NoLexemeLine, NoScanLine, GoalLine, BaseLine, NegativeLine, EndLine}
+use Rattle.cs_lines.specs.Lines.Line.{Productive, Reachable, Empty, First, Last, Next, Line, Opening, Weighing, TokenLine, RuleLine, LexemeLine, SetLine, RowLine, CaseLine, DeriveLine, TokensLine, TextLine, NoLexemeLine, NoScanLine, GoalLine, BaseLine, NegativeLine, EndLine}
 use Rattle.cs_check.specs.Passing.Above.{weigh_in, lexeme_in, weighs, lexemes, is_set, has_sets, set_in, row_in}
-use Rattle.cs_check.specs.Passing.Head.{Due, TheSet, tables, whole_head, head_size}
+use Rattle.cs_check.specs.Passing.Head.{Due, tables, whole_head, head_size}
 use Rattle.cs_check.specs.Passing.Places.{Part, InHead, OfCase, OfDerivation, OfCaseTokens, OfCaseText, OfGoal, OfBase, OfNegative, OfNegativeTokens, OfNegativeText, OfEnd, part_of, next_parts, IsInHead}
-use Rattle.cs_check.specs.Passing.Entries.{measured, IsMeasured, IsNumbered}
-use Rattle.cs_check.specs.Checking.Head.{Head, State, state_of, AreNext, KnowsHead, HasEnded}
+use Rattle.cs_check.specs.Passing.Entries.{measured, IsNumbered}
+use Rattle.cs_check.specs.declared.checking.head.Head.{Head}
+use Rattle.cs_check.specs.Checking.Head.{state_of, AreNext, KnowsHead, HasEnded}
 use Rattle.cs_check.proofs.OnChecking.Told.{kept, among_true}
-use Rattle.cs_check.proofs.OnChecking.HeadPlaces.{drop_all, size_with, size_without, tables_within, sets_lack, claims_left}
+use Rattle.cs_check.proofs.OnChecking.HeadPlaces.{drop_all, size_with, size_without, sets_lack, claims_left}
 use Rattle.cs_check.proofs.OnChecking.HeadMeasure.{measure_known}
 use Rattle.cs_check.proofs.OnChecking.HeadSets.{ClaimsNone, sets_kept}
 use Rattle.cs_check.proofs.OnChecking.HeadKnown.{none_of, no_set_in, no_row_in}

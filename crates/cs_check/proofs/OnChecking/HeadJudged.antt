@@ -1,5 +1,5 @@
 -- The lines of the head, judged.
-use Rattle.std.proofs.Common.{◌≡◌, ℕ, ◌+◌, ◌≤◌, ◌<◌, Bool, true, false, List, [], ◌∷◌, ◌++◌, Option, Some, None, length, refl, sym, ap, ◌∙◌, subst, ◌↔◌, arith}
+use Rattle.std.proofs.Common.{◌≡◌, ℕ, ◌+◌, ◌≤◌, Bool, true, false, List, [], ◌∷◌, ◌++◌, Option, Some, None, length, refl, sym, ◌∙◌, subst, ◌↔◌, arith}
 use Rattle.std.specs.Prelude.{IsTrue, slice_get}
 use Rattle.std.proofs.lemmas.List.{length_push}
 use Rattle.cs_grammar.specs.Grammar.{PlainGrammar}
@@ -11,7 +11,8 @@ use Rattle.cs_check.specs.Passing.Head.{Due, Takes, IsOfFile, tables, whole_head
 use Rattle.cs_check.specs.Passing.Places.{IsInHead}
 use Rattle.cs_check.specs.Passing.Faults.{HasHead, HasClosed}
 use Rattle.cs_check.specs.Checking.Excluded.{AreSetsIn, ClaimsClosed}
-use Rattle.cs_check.specs.Checking.Head.{Head, KnowsHead}
+use Rattle.cs_check.specs.declared.checking.head.Head.{Head}
+use Rattle.cs_check.specs.Checking.Head.{KnowsHead}
 use Rattle.cs_check.proofs.OnChecking.HeadPlaces.{size_with, size_without, tables_within}
 
 -- ---- whether the line is in the head
@@ -57,19 +58,10 @@ module _ (file : File) (above : List Line) (l : Line) (d : Due) (e : slice_get (
   pub has_no_head : (h : IsInHead file.grammar above l) → (IsOfFile file d l → ⊥) → HasHead file above l → ⊥
   has_no_head h other has = other (subst (λ (x : Due). IsOfFile file x l) (same_due file.grammar above l h d e) (has h))
 
-module _ (file : File) (above : List Line) (l : Line) where
-  pub closed_before : (length above + 1 ≡ length (whole_head file.grammar) → ⊥) → HasClosed file above l
-  closed_before other = λ h last. absurd (other last)
-
-  pub has_closed : ClaimsClosed file (above ++ l ∷ []) → HasClosed file above l
-  has_closed closed = λ h last. closed
-
-  pub has_no_closed : IsInHead file.grammar above l → length above + 1 ≡ length (whole_head file.grammar) → (ClaimsClosed file (above ++ l ∷ []) → ⊥) → HasClosed file above l → ⊥
-  has_no_closed h last other has = other (has h last)
-
+module _ (file : File) (above : List Line) (l : Line) (new : Head) (knows : KnowsHead file (above ++ l ∷ []) new) (whole : ℕ) (all : whole ≡ length (whole_head file.grammar)) where
   -- at the end of the whole head there are sets
-  pub sets_at_end : (new : Head) → KnowsHead file (above ++ l ∷ []) new → length above + 1 ≡ length (whole_head file.grammar) → has_sets (above ++ l ∷ []) ≡ true
-  sets_at_end new knows last = at_end (has_sets (above ++ l ∷ [])) refl
+  pub sets_at_end : new.above ≡ whole → has_sets (above ++ l ∷ []) ≡ true
+  sets_at_end last = at_end (has_sets (above ++ l ∷ [])) refl
     where
       at_end : (b : Bool) → has_sets (above ++ l ∷ []) ≡ b → has_sets (above ++ l ∷ []) ≡ true
       at_end true e = e
@@ -77,5 +69,17 @@ module _ (file : File) (above : List Line) (l : Line) where
           let size = size_without file.grammar (above ++ l ∷ []) e in
           let low = tables_within file.grammar in
           let most = knows.place.within in
-          let long = length_push above l in
-          absurd (omega arith)
+          let many = knows.many in
+          absurd (omega (arith, size, low, most, many, last, all))
+
+  module _ (so : Bool) (is : IsTrue so ↔ (new.above ≡ whole → ClaimsClosed file (above ++ l ∷ []))) where
+    last_now : length above + 1 ≡ length (whole_head file.grammar) → new.above ≡ whole
+    last_now last = let many = knows.many in let long = length_push above l in omega (arith, many, long, last, all)
+
+    pub has_closed : so ≡ true → HasClosed file above l
+    has_closed e = λ h last. is.0 e (last_now last)
+
+    pub has_no_closed : so ≡ false → IsInHead file.grammar above l → HasClosed file above l → ⊥
+    has_no_closed e h has =
+        let more : so ≡ true = is.1 (λ last. has h (let many = knows.many in let long = length_push above l in omega (arith, many, long, last, all))) in
+        absurd cc

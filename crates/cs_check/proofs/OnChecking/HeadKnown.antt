@@ -1,5 +1,5 @@
 -- What is known of the head, with one line more.
-use Rattle.std.proofs.Common.{◌≡◌, ℕ, ◌+◌, List, [], ◌∷◌, ◌++◌, Option, Some, None, length, refl, sym, ap, ◌∙◌, subst, inl, ◌⊎◌, arith}
+use Rattle.std.proofs.Common.{◌≡◌, ℕ, List, [], ◌∷◌, ◌++◌, Option, Some, None, length, refl, sym, ap, ◌∙◌, subst, arith}
 use Rattle.std.specs.Prelude.{false, IfNone, slice_get}
 use Rattle.std.specs.Global.{Vec}
 use Rattle.std.proofs.lemmas.List.{length_push}
@@ -7,9 +7,10 @@ use Rattle.cs_choices.specs.declared.weigh.Weigh.{Weigh}
 use Rattle.cs_yacc.specs.Reading.File.{File}
 use Rattle.cs_lines.specs.Lines.Line.{SetKind, Productive, Reachable, Empty, RowKind, First, Last, Next, Line, Opening, Weighing, TokenLine, RuleLine, LexemeLine}
 use Rattle.cs_check.specs.Passing.Above.{weigh_in, lexeme_in, is_set, set_in, row_in}
-use Rattle.cs_check.specs.Passing.Head.{Due, TheOpening, TheWeighing, TheToken, TheRule, TheLexeme, TheSet, TheRow, Takes, whole_head}
+use Rattle.cs_check.specs.Passing.Head.{Due, TheWeighing, TheLexeme, whole_head}
 use Rattle.cs_check.specs.Passing.Places.{IsInHead}
-use Rattle.cs_check.specs.Checking.Head.{Head, KnowsHead, IsUnclaimed, AreWholeIn, TellsMeasure, counted, number_by, IsNextIn, state_of}
+use Rattle.cs_check.specs.declared.checking.head.Head.{Head}
+use Rattle.cs_check.specs.Checking.Head.{KnowsHead, IsUnclaimed, AreWholeIn, TellsMeasure, counted, number_by, IsNextIn, state_of}
 use Rattle.cs_closed.specs.Closed.Sets.{PlainSets}
 use Rattle.cs_check.specs.Checking.Claims.{AreWholeSets}
 use Rattle.cs_check.specs.Checking.Excluded.{AreSetsIn}

@@ -1,5 +1,5 @@
 -- How trees are measured by the lines of the head.
-use Rattle.std.proofs.Common.{◌≡◌, ℕ, zero, suc, ◌+◌, ◌≤◌, List, [], ◌∷◌, ◌++◌, Option, Some, None, length, map, replicate, refl, sym, ap, ◌∙◌, subst, ⊎_elim, inl, inr, ◌⊎◌, arith}
+use Rattle.std.proofs.Common.{◌≡◌, ℕ, ◌≤◌, List, [], ◌∷◌, ◌++◌, Option, Some, None, length, map, replicate, refl, sym, ap, ◌∙◌, subst, ⊎_elim, inl, inr, arith}
 use Rattle.std.specs.Prelude.{All, slice_get}
 use Rattle.std.specs.Option.{option_map}
 use Rattle.std.proofs.lemmas.List.{map_push}
@@ -42,8 +42,8 @@ module _ (above : List Line) (w : Weigh) (ns : List ℕ) (h : TellsMeasure above
       (λ some. inr (
         same ∙ some.0,
         ap (λ (x : List ℕ). x ++ number_by w text ∷ []) some.1
-        ∙ sym (map_push (number_by w) (lexemes above) text)
-        ∙ ap (λ (x : List (Option (List ℕ))). map (number_by w) x) (sym texts),
+            ∙ sym (map_push (number_by w) (lexemes above) text)
+            ∙ ap (λ (x : List (Option (List ℕ))). map (number_by w) x) (sym texts),
       )) h
 
 -- ---- the measure

@@ -1,6 +1,6 @@
 -- What the lines claim, where they claim the same, or no more.
-use Rattle.std.proofs.Common.{◌≡◌, ℕ, List, [], ◌∷◌, ◌++◌, Option, Some, None, length, drop, refl, sym, ap, ◌∙◌, subst, ◌↔◌, arith}
-use Rattle.std.specs.Prelude.{Bool, true, false, IfNone}
+use Rattle.std.proofs.Common.{◌≡◌, ℕ, List, [], ◌∷◌, ◌++◌, Option, Some, None, drop, refl, sym, ap, ◌∙◌, subst, ◌↔◌}
+use Rattle.std.specs.Prelude.{false, IfNone}
 use Rattle.std.specs.List.{Contains}
 use Rattle.cs_grammar.specs.declared.symbol.Mark.{Mark}
 use Rattle.cs_grammar.specs.declared.symbol.Mark.TheVariants as marks
@@ -8,7 +8,7 @@ use Rattle.cs_yacc.specs.Reading.File.{File}
 use Rattle.cs_lines.specs.Words.Names.{IsTokenNamed, IsNonterminalNamed, IsBehindNamed}
 use Rattle.cs_lines.specs.Lines.Line.{SetKind, Productive, Reachable, Empty, RowKind, First, Last, Next, Line}
 use Rattle.cs_closed.specs.Closed.Sets.{PlainSets, IsProductive, IsReachable, IsEmpty, IsFirst, IsLast, IsNext}
-use Rattle.cs_check.specs.Passing.Above.{set_in, row_in, sets, rows, is_set, has_sets}
+use Rattle.cs_check.specs.Passing.Above.{set_in, row_in, sets, rows, is_set}
 use Rattle.cs_check.specs.Passing.Head.{entry, names_behind, Claims, ClaimsToken, ClaimsNext, AreClaimed}
 use Rattle.cs_check.specs.Checking.Head.{IsUnclaimed}
 use Rattle.cs_check.specs.Checking.Excluded.{AreSetsIn}

@@ -16,7 +16,7 @@ use Rattle.cs_lines.specs.Lines.Line.{SetKind, Productive, Reachable, Empty, Row
 use Rattle.cs_lines.specs.Lines.Read.{Tells, TellsText}
 use Rattle.cs_closed.specs.Closed.Sets.{PlainSets}
 use Rattle.cs_check.specs.Passing.Above.{weighs, lexemes, sets, rows, has_sets}
-use Rattle.cs_check.specs.Passing.Head.{Due, TheOpening, TheWeighing, TheToken, TheRule, TheLexeme, TheSet, TheRow, Takes, IsOfFile, AreClaimed, head_size, whole_head}
+use Rattle.cs_check.specs.Passing.Head.{Due, TheWeighing, TheToken, TheRule, TheLexeme, TheSet, TheRow, Takes, IsOfFile, AreClaimed, head_size, whole_head}
 use Rattle.cs_check.specs.Passing.Dues.{due_told}
 use Rattle.cs_check.specs.Passing.Places.{IsInHead}
 use Rattle.cs_check.specs.Passing.Entries.{IsMeasured}
@@ -204,3 +204,9 @@ JudgesDue file old d told new result =
 abbrev pub AnswersClosed : File → Head → Bool → Type 0
 AnswersClosed file h so =
     (lines : List Line) → AreSetsIn file lines h.sets → has_sets lines ≡ true → IsTrue so ↔ ClaimsClosed file lines
+
+-- or so many lines aren't there
+abbrev pub AnswersEnd : File → Head → ℕ → Bool → Type 0
+AnswersEnd file h whole so =
+    (lines : List Line) → AreSetsIn file lines h.sets → (h.above ≡ whole → has_sets lines ≡ true)
+    → IsTrue so ↔ (h.above ≡ whole → ClaimsClosed file lines)

@@ -1,8 +1,8 @@
 // The lines of the head.
 
-ghost use Rattle.std.specs.Prelude.{◌≡◌, ◌↔◌, IsTrue, [], IfOk};
-ghost use Rattle.cs_grammar.specs.Grammar.{IsNumberOf};
+ghost use Rattle.std.specs.Prelude.{◌≡◌, ◌↔◌, ℕ, IsTrue, [], IfOk};
 ghost use Rattle.cs_yacc.specs.Reading.File.{File};
+ghost use Rattle.cs_lines.specs.Lines.Numbers.{IsRead};
 ghost use Rattle.cs_lines.specs.Lines.Read.{set_kind, row_kind};
 ghost use Rattle.cs_check.specs.Passing.Head.{TheToken, TheRule, TheLexeme, row_name};
 ghost use Rattle.cs_check.specs.Passing.Dues.{due_told};
@@ -41,13 +41,20 @@ fn takes(due: Due, line: &Line<'_>) -> bool
     match (due, *line) {
         (Due::Opening, Line::Opening) => true,
         (Due::Weighing, Line::Weighing(_)) => true,
-        (Due::Token(token), Line::Token { number, .. }) => number == token as u64,
-        (Due::Rule(rule), Line::Rule { number, .. }) => number == rule as u64,
+        (Due::Token(token), Line::Token { number, .. }) => is_number(number, token),
+        (Due::Rule(rule), Line::Rule { number, .. }) => is_number(number, rule),
         (Due::Lexeme(_), Line::Lexeme { .. }) => true,
         (Due::Set(wanted), Line::Set { kind, .. }) => is_same_set(wanted, kind),
         (Due::Row(wanted, _), Line::Row { kind, .. }) => is_same_row(wanted, kind),
         _ => false,
     }
+}
+
+// Whether a number that is read is this one.
+fn is_number(number: u64, wanted: u16) -> bool
+    ensures { (n : ℕ) → IsRead n number → IsTrue result ↔ (n ≡ wanted) }
+{
+    number == wanted as u64
 }
 
 fn is_same_set(kind: SetKind, other: SetKind) -> bool
@@ -179,7 +186,7 @@ fn take_row(
 
 impl Head {
     ghost use Rattle.cs_check.specs.Checking.Head.{HasWholeSets, KnowsHead, TellsInHead, TellsEnded};
-    ghost use Rattle.cs_check.specs.Checking.Head.{JudgesHead, JudgesDue, AnswersClosed};
+    ghost use Rattle.cs_check.specs.Checking.Head.{JudgesHead, JudgesDue, AnswersClosed, AnswersEnd};
 
     /// No line is there.
     pub(crate) fn new(alloc: Global) -> Head
@@ -222,6 +229,7 @@ impl Head {
     ) -> Result<bool, AllocError>
         requires { HasWholeSets file.now.grammar self.old }
         ensures whole { HasWholeSets file.now.grammar self.new }
+        ensures above { self.new.above ≡ self.old.above }
         ensures judged { JudgesDue file.now self.old (TheLexeme token) line.now self.new result }
     {
         let Line::Lexeme { name, text } = *line else {
@@ -275,6 +283,17 @@ impl Head {
         }
     }
 
+    // Whether the sets are closed, where the whole head is there.
+    fn ends_closed(&self, file: &YaccFile, whole: usize) -> bool
+        requires { HasWholeSets file.now.grammar self.now }
+        ensures { AnswersEnd file.now self.now whole result }
+    {
+        if self.above != whole {
+            return true;
+        }
+        self.are_closed(file)
+    }
+
     /// Takes the next line of the head, where it is one: what is wrong with it, if anything.
     pub(crate) fn take(
         &mut self,
@@ -294,7 +313,7 @@ impl Head {
             return Ok(Some(ClaimFault::Head));
         }
         self.above += 1;
-        if self.above == whole && !self.are_closed(file) {
+        if !self.ends_closed(file, whole) {
             return Ok(Some(ClaimFault::Unclosed));
         }
         Ok(None)
