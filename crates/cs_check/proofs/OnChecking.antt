@@ -20,4 +20,5 @@ pub mod Deriving
 pub mod Quiet
 pub mod Negatives
 pub mod Counting
+pub mod Numbering
 pub mod Goaling
