@@ -69,7 +69,7 @@ module _ (file : File) (lines : List Line) (e : Entries) (t : AreEntries file li
       (on.1 ∙ ap Some is, on.2.1, omega arith)
 
   pub place_is : (number : ℕ) → 0 < goal → slice_get e.goal_cases.items (goal - 1) ≡ Some number → (place : Option ℕ) → IsPlaceOf number (length e.cases.list) place → IsCasePlace lines goal place
-  place_is number low at None never case h =
+  place_is number low at None never = λ case h.
       let told = case_told case h in
       let both : Some number ≡ Some case = sym at ∙ told.0 in
       let same : number ≡ case = cc in
