@@ -29,6 +29,7 @@ pub mod HeadClaims
 pub mod HeadEnd
 pub mod HeadJudged
 pub mod Counting
+pub mod Numbering
 pub mod Goaling
 pub mod Entering
 pub mod Arms

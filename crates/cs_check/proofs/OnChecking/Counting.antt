@@ -1,10 +1,10 @@
--- Running numbers, and what the end counts.
-use Rattle.std.proofs.Common.{◌≡◌, ℕ, ◌+◌, ◌<◌, ◌≤◌, ◌↔◌, Bool, true, List, [], ◌∷◌, ◌++◌, length, refl, sym, ap, ◌∙◌, subst, arith}
-use Rattle.std.specs.Prelude.{IsTrue, cond, count_by}
+-- What the end counts.
+use Rattle.std.proofs.Common.{◌≡◌, ℕ, ◌+◌, ◌<◌, ◌≤◌, Bool, true, List, [], ◌∷◌, ◌++◌, length, refl, sym, ap, ◌∙◌, subst, arith, eq-eqb}
+use Rattle.std.specs.Prelude.{◌==◌, ◌&&◌, cond, count_by}
+use Rattle.std.proofs.lemmas.Bool.{and_parts, and_from, eqb-true}
 use Rattle.std.proofs.lemmas.List.{length_push}
 use Rattle.std.proofs.lemmas.List.Sums.{sum_by_push, count_by-le-length}
 use Rattle.cs_lines.specs.declared.lines.line.Counts as held
-use Rattle.cs_lines.specs.declared.lines.line.Verdict as held_verdicts
 use Rattle.cs_lines.specs.declared.lines.line.Verdict.TheVariants as told_verdicts
 use Rattle.cs_lines.specs.Words.Edits.{EditWords}
 use Rattle.cs_lines.specs.Lines.Line.{GoalWords, VerdictWords, Feasible, Infeasible, Large, Counts, Line, Opening, Weighing, TokenLine, RuleLine, LexemeLine, SetLine, RowLine, CaseLine, DeriveLine, TokensLine, TextLine, NoLexemeLine, NoScanLine, GoalLine, BaseLine, NegativeLine, EndLine}
@@ -14,10 +14,6 @@ use Rattle.cs_check.specs.Passing.Above.{size_in, goal_in, verdict_in, edit_in, 
 use Rattle.cs_check.specs.Passing.Faults.{counted}
 use Rattle.cs_check.specs.Checking.Told.{AreCounts}
 use Rattle.cs_check.proofs.OnChecking.Told.{kept, added, few_told}
-
--- a number below all that are read as the greatest is the next one where it is read so
-pub next_number : (number read count next : ℕ) → IsRead number read → count < 4294967296 → next ≡ count + 1 → (so : Bool) → IsTrue so ↔ (read ≡ next) → IsTrue so ↔ (number ≡ count + 1)
-next_number number read count next is few same so tells = (λ e. let k = tells.0 e in omega arith, λ h. tells.1 (omega arith))
 
 -- ---- with a goal more
 
@@ -121,6 +117,31 @@ same_held a b goals feasible infeasible large negatives cases =
     ∙ ap (λ (k : ℕ). record b { large = k; negatives = a.negatives; cases = a.cases }) large
     ∙ ap (λ (k : ℕ). record b { negatives = k; cases = a.cases }) negatives
     ∙ ap (λ (k : ℕ). record b { cases = k }) cases
+
+-- that counts are the same, one number after the other
+abbrev pub equal : held.Counts → held.Counts → Bool
+equal a b =
+    (a.goals == b.goals)
+    && ((a.feasible == b.feasible) && ((a.infeasible == b.infeasible) && ((a.large == b.large) && ((a.negatives == b.negatives) && (a.cases == b.cases)))))
+
+pub equal_same : (a b : held.Counts) → equal a b ≡ true → a ≡ b
+equal_same a b is =
+    let goals = and_parts (a.goals == b.goals) _ is in
+    let feasible = and_parts (a.feasible == b.feasible) _ goals.1 in
+    let infeasible = and_parts (a.infeasible == b.infeasible) _ feasible.1 in
+    let large = and_parts (a.large == b.large) _ infeasible.1 in
+    let negatives = and_parts (a.negatives == b.negatives) _ large.1 in
+    same_held a b (eqb-true a.goals b.goals goals.0) (eqb-true a.feasible b.feasible feasible.0)
+    (eqb-true a.infeasible b.infeasible infeasible.0) (eqb-true a.large b.large large.0)
+    (eqb-true a.negatives b.negatives negatives.0) (eqb-true a.cases b.cases negatives.1)
+
+pub same_equal : (a b : held.Counts) → a ≡ b → equal a b ≡ true
+same_equal a b same =
+    subst (λ (x : held.Counts). equal a x ≡ true) same
+    (and_from _ _ (eq-eqb a.goals a.goals refl)
+    (and_from _ _ (eq-eqb a.feasible a.feasible refl)
+    (and_from _ _ (eq-eqb a.infeasible a.infeasible refl)
+    (and_from _ _ (eq-eqb a.large a.large refl) (and_from _ _ (eq-eqb a.negatives a.negatives refl) (eq-eqb a.cases a.cases refl))))))
 
 module _ (lines : List Line) (e : held.Counts) (t : AreCounts lines e) (few : length lines < 4294967296) (told : held.Counts) (counts : Counts) (tells : TellsCounts told counts) where
   -- a number that is counted is told as it is

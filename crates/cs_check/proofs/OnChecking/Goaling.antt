@@ -54,8 +54,8 @@ module _ (g : PlainGrammar) (lines : List Line) (list : List PlainCase) (rules_a
   meets_is n = (
     λ h. (h.0.rules, subst (λ (l : List (List ℕ)). IsNumbered l n h.0.rules) rules_are (numbered_to (λ (c : PlainCase). c.rules) list n h.0 h.1), h.2),
     λ h.
-      let from = numbered_from (λ (c : PlainCase). c.rules) list n h.0 (subst (λ (l : List (List ℕ)). IsNumbered l n h.0) (sym rules_are) h.1) in
-      (from.0, from.1, subst (λ (r : List ℕ). IsMeeting g goal r) from.2 h.2),
+        let from = numbered_from (λ (c : PlainCase). c.rules) list n h.0 (subst (λ (l : List (List ℕ)). IsNumbered l n h.0) (sym rules_are) h.1) in
+        (from.0, from.1, subst (λ (r : List ℕ). IsMeeting g goal r) from.2 h.2),
   )
 
   shown_is : (sizes_are : case_sizes lines ≡ sizes_of list) (s n f : ℕ) → Shows g list goal s n f ↔ IsShown g lines goal s n f
@@ -68,8 +68,8 @@ module _ (g : PlainGrammar) (lines : List Line) (list : List PlainCase) (rules_a
       met_first = (meets_is f).0 h.met_first;
     },
     λ h.
-      let from = numbered_from (λ (c : PlainCase). c.size) list n s (subst (λ (l : List ℕ). IsNumbered l n s) sizes_are h.sized) in
-      record { case = from.0; numbered = from.1; sized = from.2; met = (meets_is n).1 h.met; met_first = (meets_is f).1 h.met_first },
+        let from = numbered_from (λ (c : PlainCase). c.size) list n s (subst (λ (l : List ℕ). IsNumbered l n s) sizes_are h.sized) in
+        record { case = from.0; numbered = from.1; sized = from.2; met = (meets_is n).1 h.met; met_first = (meets_is f).1 h.met_first },
   )
 
 -- ---- a verdict

@@ -9,7 +9,7 @@ use Rattle.cs_lines.specs.declared.lines.line.GoalWords as held_goals
 use Rattle.cs_lines.specs.declared.lines.line.Line as held
 use Rattle.cs_lines.specs.declared.lines.line.Verdict as held_verdicts
 use Rattle.cs_lines.specs.declared.lines.line.Verdict.TheVariants as verdicts
-use Rattle.cs_lines.specs.Lines.Line.{GoalWords, VerdictWords, Feasible, Infeasible, Large, Counts, Line, GoalLine, EndLine}
+use Rattle.cs_lines.specs.Lines.Line.{GoalWords, VerdictWords, Infeasible, Counts, Line, GoalLine, EndLine}
 use Rattle.cs_lines.specs.Lines.Numbers.{greatest}
 use Rattle.cs_lines.specs.Lines.Read.{Tells, TellsCounts, TellsGoal, TellsVerdict}
 use Rattle.cs_check.specs.declared.passing.fault.ClaimFault.{ClaimFault}
