@@ -9,7 +9,7 @@ use Rattle.cs_check.proofs.checking.above.Above.is_inside.Goals as goal
 pub returns-in-InHead : goal.returns-in-InHead
 returns-in-InHead c = λ above l k tells.
     let file = c.args.yacc.now in
-    let same = c.grammar.ensures in
+    let same = c.grammar.ensures.grammar in
     subst (λ (g : PlainGrammar). IsTrue c.has_next.result ↔ IsInHead g above l) same
     (c.has_next.ensures file above l (sym same) (knows_head file above c.args.self.now k c.in-InHead.is) tells)
 

@@ -8,7 +8,7 @@ use Rattle.cs_check.proofs.checking.above.Above.is_past.Goals as goal
 pub returns-in-InHead : goal.returns-in-InHead
 returns-in-InHead c = λ above k.
     let file = c.args.yacc.now in
-    let same = c.grammar.ensures in
+    let same = c.grammar.ensures.grammar in
     subst (λ (g : PlainGrammar). IsTrue c.is_ended.result ↔ (head_size g above ≤ length above)) same
     (c.is_ended.ensures file above (sym same) (knows_head file above c.args.self.now k c.in-InHead.is))
 

@@ -1,7 +1,4 @@
-use Rattle.std.proofs.Common.{sym, subst}
 use Rattle.cs_scanner.specs.Scan.Compared.{scanning}
-use Rattle.cs_check.specs.declared.checking.head.Head.{Head}
-use Rattle.cs_check.specs.Checking.Head.{HasWholeSets}
 use Rattle.cs_check.specs.Checking.Told.{checked_by}
 use Rattle.cs_check.proofs.OnChecking.Placing.{wrong_form}
 use Rattle.cs_check.proofs.checking.above.Above.take_line.Goals as goal
@@ -9,14 +6,6 @@ use Rattle.cs_check.proofs.checking.above.Above.take_line.Goals as goal
 pub returns-in-InHead-clause-judged : goal.returns-in-InHead-clause-judged
 returns-in-InHead-clause-judged c = λ above l k tells few.
     c.take_inside.ensures.judged (scanning c.args.scanner.now) above l k tells (rw c.in-InHead.is at c.place.ensures above l k tells) few
-
-pub returns-in-Behind-clause-judged : goal.returns-in-Behind-clause-judged
-returns-in-Behind-clause-judged c = λ above l k tells few.
-    c.take_behind.ensures.judged above l k tells (rw c.in-Behind.is at c.place.ensures above l k tells) few
-
-pub returns-in-Behind-clause-whole : goal.returns-in-Behind-clause-whole
-returns-in-Behind-clause-whole c =
-    subst (λ (h : Head). HasWholeSets c.args.yacc.now.grammar h) (sym c.take_behind.ensures.same) c.requires.whole
 
 pub returns-in-Nowhere-clause-judged : goal.returns-in-Nowhere-clause-judged
 returns-in-Nowhere-clause-judged c = λ above l k tells few.

@@ -7,7 +7,9 @@ use Rattle.cs_check.proofs.OnChecking.Arms.{case_arm, derive_arm, tokens_arm, te
 use Rattle.cs_check.proofs.checking.taking.Entries.take.Goals as goal
 
 pub returns-in-Case : goal.returns-in-Case
-returns-in-Case c = λ above l t ended tells h few. ?
+returns-in-Case c = λ above l t ended tells h few.
+    case_arm c.args.yacc.now (scanning c.args.scanner.now) above c.args.self.now t few c.take_case.new.self
+    c.in-Case.number c.in-Case.size l (rw c.in-Case.is at tells) h c.take_case.ensures
 
 pub returns-in-Derive : goal.returns-in-Derive
 returns-in-Derive c = λ above l t ended tells h few.
@@ -20,22 +22,33 @@ returns-in-Tokens c = λ above l t ended tells h few.
     subst (λ (o : Option ClaimFault). IsEntryJudged (checked_by file (scanning c.args.scanner.now)) above l c.args.self.now o) (sym c.unless.ensures)
     (tokens_arm file (scanning c.args.scanner.now) above c.args.self.now t few c.in-Tokens.names l (rw c.in-Tokens.is at tells) h c.tells.result c.tells.ensures)
 
+pub returns-in_ok-scans-in-Text : goal.returns-in_ok-scans-in-Text
+returns-in_ok-scans-in-Text c = λ above l t ended tells h few.
+    let file = c.args.yacc.now in
+    subst (λ (o : Option ClaimFault). IsEntryJudged (checked_by file (scanning c.args.scanner.now)) above l c.args.self.now o) (sym c.unless.ensures)
+    (text_arm file (scanning c.args.scanner.now) above c.args.self.now t few c.in-Text.text l (rw c.in-Text.is at tells) (rw c.in-Text.is at c.requires) h ? c.in_ok-scans.ensures)
+
 pub returns-in-NoText : goal.returns-in-NoText
 returns-in-NoText c = λ above l t ended tells h few.
     no_text_arm c.args.yacc.now (scanning c.args.scanner.now) above c.args.self.now t few l (rw c.in-NoText.is at tells) h
 
 pub returns-in-Goal : goal.returns-in-Goal
-returns-in-Goal c = λ above l t ended tells h few. ?
+returns-in-Goal c = λ above l t ended tells h few.
+    goal_arm c.args.yacc.now (scanning c.args.scanner.now) above c.args.self.now t few c.args.head.now.sets ended.sets c.take_goal.new.self
+    c.in-Goal.number c.in-Goal.goal c.in-Goal.verdict l (rw c.in-Goal.is at tells) h c.take_goal.result c.take_goal.ensures
 
 pub returns-in-Base : goal.returns-in-Base
-returns-in-Base c = λ above l t ended tells h few. ?
+returns-in-Base c = λ above l t ended tells h few.
+    base_arm c.args.yacc.now (scanning c.args.scanner.now) above c.args.self.now t few c.take_base.new.self
+    c.in-Base.number c.in-Base.goal l (rw c.in-Base.is at tells) h c.take_base.result c.take_base.ensures
 
 pub returns-in-Negative : goal.returns-in-Negative
-returns-in-Negative c = λ above l t ended tells h few. ?
+returns-in-Negative c = λ above l t ended tells h few.
+    negative_arm c.args.yacc.now (scanning c.args.scanner.now) above c.args.self.now t few c.args.head.now.sets ended.sets c.take_negative.new.self
+    c.in-Negative.number
+    (record { base = c.in-Negative.base; edit = c.in-Negative.edit; left = c.in-Negative.left; right = c.in-Negative.right; at = c.in-Negative.at })
+    l (rw c.in-Negative.is at tells) h c.take_negative.result c.take_negative.ensures
 
 pub returns-in-End : goal.returns-in-End
 returns-in-End c = λ above l t ended tells h few.
     end_arm c.args.yacc.now (scanning c.args.scanner.now) above c.args.self.now t few c.in-End.counts l (rw c.in-End.is at tells) h c.take_end.result c.take_end.ensures
-
-pub returns-in_default : goal.returns-in_default
-returns-in_default c = λ above l t ended tells h few. ?
