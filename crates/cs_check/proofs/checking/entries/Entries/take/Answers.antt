@@ -4,7 +4,7 @@ use Rattle.cs_scanner.specs.Scan.Compared.{scanning}
 use Rattle.cs_check.specs.Checking.Told.{checked_by}
 use Rattle.cs_check.specs.Checking.Running.{IsEntryJudged}
 use Rattle.cs_check.proofs.OnChecking.Arms.{case_arm, derive_arm, tokens_arm, text_arm, no_text_arm, goal_arm, base_arm, negative_arm, end_arm}
-use Rattle.cs_check.proofs.checking.taking.Entries.take.Goals as goal
+use Rattle.cs_check.proofs.checking.entries.Entries.take.Goals as goal
 
 pub returns-in-Case : goal.returns-in-Case
 returns-in-Case c = λ above l t ended tells h few.
