@@ -1,7 +1,8 @@
-use Rattle.std.proofs.Common.{sym, subst, Option}
+use Rattle.std.proofs.Common.{ℕ, List, sym, subst, Option}
 use Rattle.cs_check.specs.declared.passing.fault.ClaimFault.{ClaimFault}
 use Rattle.cs_scanner.specs.Scan.Compared.{scanning}
-use Rattle.cs_check.specs.Checking.Told.{checked_by}
+use Rattle.cs_lines.specs.Lines.Read.{numbers_in}
+use Rattle.cs_check.specs.Checking.Told.{checked_by, JudgesDerivation}
 use Rattle.cs_check.specs.Checking.Running.{IsEntryJudged}
 use Rattle.cs_check.proofs.OnChecking.Arms.{case_arm, derive_arm, tokens_arm, text_arm, no_text_arm, goal_arm, base_arm, negative_arm, end_arm}
 use Rattle.cs_check.proofs.checking.entries.Entries.take.Goals as goal
@@ -14,7 +15,9 @@ returns-in-Case c = λ above l t ended tells h few.
 pub returns-in-Derive : goal.returns-in-Derive
 returns-in-Derive c = λ above l t ended tells h few.
     derive_arm c.args.yacc.now (scanning c.args.scanner.now) above c.args.self.now t few c.args.head.now ended c.take_derivation.new.self
-    c.in-Derive.rules l (rw c.in-Derive.is at tells) h c.take_derivation.result c.take_derivation.ensures
+    c.in-Derive.rules l (rw c.in-Derive.is at tells) h c.take_derivation.result
+    (subst (λ (numbers : List ℕ). JudgesDerivation c.args.self.now numbers (numbers_in c.in-Derive.rules) c.take_derivation.new.self c.take_derivation.result)
+    c.deref.ensures.value c.take_derivation.ensures)
 
 pub returns-in-Tokens : goal.returns-in-Tokens
 returns-in-Tokens c = λ above l t ended tells h few.
@@ -25,8 +28,8 @@ returns-in-Tokens c = λ above l t ended tells h few.
 pub returns-in_ok-scans-in-Text : goal.returns-in_ok-scans-in-Text
 returns-in_ok-scans-in-Text c = λ above l t ended tells h few.
     let file = c.args.yacc.now in
-    subst (λ (o : Option ClaimFault). IsEntryJudged (checked_by file (scanning c.args.scanner.now)) above l c.args.self.now o) (sym c.unless.ensures)
-    (text_arm file (scanning c.args.scanner.now) above c.args.self.now t few c.in-Text.text l (rw c.in-Text.is at tells) (rw c.in-Text.is at c.requires) h ? c.in_ok-scans.ensures)
+    subst (λ (o : Option ClaimFault). IsEntryJudged (checked_by file (scanning c.args.scanner.now)) above l c.args.self.now o) (sym c.unless-in-Text.ensures)
+    (text_arm file (scanning c.args.scanner.now) above c.args.self.now t few c.in-Text.text l (rw c.in-Text.is at tells) (rw c.in-Text.is at c.requires) h c.in_ok-scans-in-Text.field-0 c.in_ok-scans-in-Text.ensures)
 
 pub returns-in-NoText : goal.returns-in-NoText
 returns-in-NoText c = λ above l t ended tells h few.
