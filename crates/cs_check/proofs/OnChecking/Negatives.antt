@@ -24,7 +24,7 @@ use Rattle.cs_check.specs.Passing.DueGoals.{KnowsGoals}
 use Rattle.cs_check.specs.Passing.Faults.{HasCases}
 use Rattle.cs_check.specs.Checking.Cases.{PlainCase, IsPlaceOf}
 use Rattle.cs_check.specs.Checking.Edits.{IsEditedIf}
-use Rattle.cs_check.specs.Checking.Told.{rules_of, sizes_of, AreSized, IsCaseOf, HasTold, HasBase, AreEntries}
+use Rattle.cs_check.specs.Checking.Told.{rules_of, AreSized, IsCaseOf, HasTold, HasBase, AreEntries}
 use Rattle.cs_check.specs.Checking.Negatives.{IsCasePlace}
 use Rattle.cs_check.proofs.OnChecking.Told.{kept, added, last_part_more, among_true, base_kept, plain_sizes}
 use Rattle.cs_check.proofs.OnChecking.Deriving.{last_push}
@@ -125,8 +125,8 @@ module _ (file : File) (lines : List Line) (e : Entries) (t : AreEntries file li
           (subst (λ (l : List (List ℕ)). IsNumbered l number case.rules) t.rules (
             omega arith,
             ap (slice_get (rules_of e.cases.list)) back
-            ∙ slice_get-map (λ (c : PlainCase). c.rules) e.cases.list place
-            ∙ ap (option_map (λ (c : PlainCase). c.rules)) at,
+                ∙ slice_get-map (λ (c : PlainCase). c.rules) e.cases.list place
+                ∙ ap (option_map (λ (c : PlainCase). c.rules)) at,
           ));
       yields = subst (λ (g : PlainGrammar). IsYield g case.rules tokens.items) t.grammar yields;
     }

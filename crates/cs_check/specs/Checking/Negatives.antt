@@ -1,5 +1,5 @@
 -- What is found out of text lines, base lines and negative lines. Working words of the code's contracts.
-use Rattle.std.specs.Prelude.{◌≡◌, ◌↔◌, ◌<◌, ◌+◌, ◌^◌, Bool, IfOk, IsTrue, Result, ℕ, List, [], ◌∷◌, ◌++◌, Option, Some, None, length}
+use Rattle.std.specs.Prelude.{◌↔◌, ◌<◌, ◌+◌, ◌^◌, Bool, IfOk, IsTrue, Result, ℕ, List, [], ◌∷◌, ◌++◌, Option, Some, None, length}
 use Rattle.std.specs.List.{Contains}
 use Rattle.cs_yacc.specs.Reading.File.{File}
 use Rattle.cs_scanner.specs.Scan.Scan.{Scanning}

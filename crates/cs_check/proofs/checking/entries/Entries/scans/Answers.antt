@@ -1,4 +1,4 @@
-use Rattle.std.proofs.Common.{◌≡◌, ℕ, List, ap, ◌∙◌, subst, subst_both, ◌↔◌}
+use Rattle.std.proofs.Common.{◌≡◌, ℕ, List, ◌∙◌, subst, ◌↔◌}
 use Rattle.std.specs.Prelude.{IfOk, IsTrue}
 use Rattle.std.proofs.lemmas.Result.{IfOk-weaker}
 use Rattle.cs_scanner.specs.Scan.Compared.{scanning}
@@ -18,7 +18,7 @@ returns c = λ file lines text t follows is low.
     let told = told_then file lines tokens (last_part lines) follows t.told in
     let bytes : c.deref.result.now ≡ text = c.deref.ensures.value ∙ c.in_ok-bytes.ensures text is in
     let scans = subst (λ (b : List ℕ). IfOk c.scans_to.result (λ so. IsTrue so ↔ Scans by b tokens)) bytes
-        (subst (λ (l : List ℕ). IfOk c.scans_to.result (λ so. IsTrue so ↔ Scans by c.deref.result.now l)) c.deref-2.ensures.value c.scans_to.ensures) in
+    (subst (λ (l : List ℕ). IfOk c.scans_to.result (λ so. IsTrue so ↔ Scans by c.deref.result.now l)) c.deref-2.ensures.value c.scans_to.ensures) in
     IfOk-weaker c.scans_to.result (λ so. IsTrue so ↔ Scans by text tokens) (λ so. IsTrue so ↔ HasScan (checked_by file by) lines (TextLine text))
     (λ so h. scan_told (checked_by file by) (c.one_tree.ensures file.grammar) lines text tokens told so h)
     scans

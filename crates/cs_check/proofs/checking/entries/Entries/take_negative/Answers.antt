@@ -1,8 +1,8 @@
-use Rattle.std.proofs.Common.{◌≡◌, ℕ, List, length, false, Bool, sym, ap, ◌∙◌, subst, arith}
+use Rattle.std.proofs.Common.{ℕ, List, Bool, sym, ◌∙◌, subst, arith}
 use Rattle.std.proofs.lemmas.Bool.{false≢true}
 use Rattle.cs_grammar.specs.Sentence.{framed}
 use Rattle.cs_lines.specs.Words.Edits.{IsEdited}
-use Rattle.cs_check.specs.Passing.Above.{base_in, edit_in, base_goals}
+use Rattle.cs_check.specs.Passing.Above.{base_in, edit_in}
 use Rattle.cs_check.specs.Passing.Entries.{IsKeptApart}
 use Rattle.cs_check.specs.Checking.Edits.{IsEditedIf}
 use Rattle.cs_check.proofs.OnChecking.Told.{few_told}
@@ -37,8 +37,8 @@ returns-then-not-is_kept_apart c = λ lines n base edit at t sets follows few re
     let edited_if = subst (λ (w : List ℕ). IsEditedIf c.in_ok-edit_into.field-0 file w edit tokens) c.deref.ensures.value (c.in_ok-edit_into.ensures edit told_edit) in
     let edited : IsEdited file e.base.items edit tokens = subst (λ (b : Bool). IsEditedIf b file e.base.items edit tokens) c.if-not-branch.false edited_if in
     let apart : IsKeptApart file lines (framed tokens) at left right → ⊥ = λ h.
-        false≢true (sym c.if-not-is_kept_apart.true ∙ (c.is_kept_apart.ensures lines at sets read_at).1
-        (subst (λ (l : List ℕ). IsKeptApart file lines (framed l) at left right) (sym c.deref-2.ensures.value) h)) in (
+    false≢true (sym c.if-not-is_kept_apart.true ∙ (c.is_kept_apart.ensures lines at sets read_at).1
+    (subst (λ (l : List ℕ). IsKeptApart file lines (framed l) at left right) (sym c.deref-2.ensures.value) h)) in (
       omega arith,
       (e.base.items, known, (tokens, edited)),
       λ h. together file lines e t few follows (c.one_tree.ensures file.grammar) edit tokens edited at left right apart h.0 h.1 h.2,
@@ -58,7 +58,7 @@ returns c = λ lines n base edit at t sets follows few read_base told_edit read_
     let edited_if = subst (λ (w : List ℕ). IsEditedIf c.in_ok-edit_into.field-0 file w edit tokens.items) c.deref.ensures.value (c.in_ok-edit_into.ensures edit told_edit) in
     let edited : IsEdited file e.base.items edit tokens.items = subst (λ (b : Bool). IsEditedIf b file e.base.items edit tokens.items) c.if-not-branch.false edited_if in
     let apart = subst (λ (l : List ℕ). IsKeptApart file lines (framed l) at c.args.told.left.now c.args.told.right.now) c.deref-2.ensures.value
-        ((c.is_kept_apart.ensures lines at sets read_at).0 c.if-not-is_kept_apart.false) in (
+    ((c.is_kept_apart.ensures lines at sets read_at).0 c.if-not-is_kept_apart.false) in (
       omega arith,
       (e.base.items, known, (tokens.items, edited)),
       (tokens.items, (e.base.items, known, edited), apart),
