@@ -12,3 +12,4 @@ pub mod Passing
 pub mod Manifest
 pub mod Claims
 pub mod Changes
+pub mod Outcomes

@@ -67,6 +67,7 @@ pub record AreEntries (file : File) (lines : List Line) (e : Entries) : Type 0 w
   pub sizes : AreSized (last_part lines) (case_sizes lines) e.cases.list e.size
   pub small : All (λ (case : PlainCase). case.size < greatest) e.cases.list
   pub verdicts : AllZip IsCaseOf (verdicts lines) e.goal_cases.items
+  pub shown : All (λ (number : ℕ). number ≤ length e.cases.list) e.goal_cases.items
   pub due : KnowsGoals file.grammar (goals_in lines) e.due
   pub told : HasTold file lines (last_part lines) e.tokens.items
   pub bases : e.bases ≡ length (base_goals lines)
