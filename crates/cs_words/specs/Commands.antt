@@ -75,3 +75,8 @@ abbrev pub lists_chains : Command → Bool
 lists_chains (OfGrammar of_grammar.Chains) = true
 lists_chains (OfPair of_pair.Chains) = true
 lists_chains command = false
+
+-- whether it takes the tokens of a text
+abbrev pub takes_tokens : Command → Bool
+takes_tokens Member = true
+takes_tokens command = false

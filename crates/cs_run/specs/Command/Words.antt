@@ -7,13 +7,15 @@ use Rattle.cs_scanner.specs.declared.automaton.error.AutomatonError.{AutomatonEr
 use Rattle.cs_scanner.specs.declared.automaton.error.AutomatonError.TheVariants as automaton
 use Rattle.cs_run.specs.declared.input.refusal.Stop.TheVariants as stop
 use Rattle.cs_run.specs.declared.ending.ending.Ending.{Ending}
-use Rattle.cs_run.specs.declared.ending.ending.Ending.TheVariants.{NoFile, NoMemory, NotWritten, Refused, Written}
+use Rattle.cs_run.specs.declared.ending.ending.Ending.TheVariants.{Denied, NoFile, NoMemory, NotWritten, Refused, Written}
 use Rattle.cs_run.specs.Ending.Ending.{Performs}
 use Rattle.cs_run.specs.Ending.Headline.{KeepsPromises}
 use Rattle.cs_words.specs.Requests.{IsAsked, PlainRequest, files_of}
 use Rattle.cs_words.specs.Words.{IsFirstBad}
 use Rattle.cs_run.specs.declared.writer.halt.SuiteHalt.{SuiteHalt}
 use Rattle.cs_run.specs.declared.writer.halt.SuiteHalt.TheVariants as suite
+use Rattle.cs_check.specs.declared.checking.check.Outcome.{Outcome}
+use Rattle.cs_check.specs.declared.checking.check.Outcome.TheVariants as outcome
 use Rattle.cs_io.specs.declared.halt.Halt.{Halt}
 use Rattle.cs_io.specs.declared.halt.Halt.TheVariants as halt
 
@@ -48,6 +50,12 @@ ending_at halt.Memory = NoMemory
 abbrev pub ending_after : Result Unit Halt → Ending
 ending_after (Ok done) = Written
 ending_after (Err halt) = ending_at halt
+
+-- how a run ends whose check was written, or whose writing stopped
+abbrev pub ending_of_check : Result Outcome Halt → Ending
+ending_of_check (Ok (outcome.Yes goals negatives)) = Written
+ending_of_check (Ok (outcome.No line fault)) = Denied
+ending_of_check (Err halt) = ending_at halt
 
 -- how a run ends whose suite isn't written whole
 abbrev pub ending_of_suite : SuiteHalt → Ending
