@@ -1,18 +1,18 @@
 -- What `check` writes of a manifest: a line that says yes with two counts, or no with a line and its fault.
-use Rattle.std.specs.Prelude.{◌≡◌, ◌↔◌, ℕ, List, ◌++◌, codes, decimal}
+use Rattle.std.specs.Prelude.{◌≡◌, ◌↔◌, ℕ, Bool, true, false, List, ◌++◌, codes, decimal}
 use Rattle.cs_check.specs.declared.checking.check.Outcome.{Outcome}
 use Rattle.cs_check.specs.declared.checking.check.Outcome.TheVariants.{No, Yes}
 use Rattle.cs_check.specs.declared.passing.fault.ClaimFault.{ClaimFault}
 use Rattle.cs_check.specs.declared.passing.fault.ClaimFault.TheVariants.{Form, Head, Unclosed, Derive, Size, Yield, Scan, Goal, Infeasible, Base, Edit, Pair, Totals}
-use Rattle.cs_check.specs.Passing.Faults.{Checked}
 use Rattle.cs_check.specs.Passing.Outcomes.{IsOutcome}
 use Rattle.cs_check.specs.Passing.Passing.{Fails}
 use Rattle.cs_check.specs.Checking.Told.{checked_by}
+use Rattle.cs_io.specs.Asked.{GrewByOne}
 use Rattle.cs_io.specs.declared.sink.Sink as Sink
 use Rattle.cs_scanner.specs.declared.scanning.scanner.Scanner.{Scanner}
 use Rattle.cs_scanner.specs.Scan.Compared.{scanning}
 use Rattle.cs_yacc.specs.Reading.File.{File}
-use Rattle.std.specs.Io.KnownBytes.{append_known}
+use Rattle.cs_scanner.specs.Scan.Scan.{Scanning}
 
 -- ---- lines
 
@@ -46,10 +46,10 @@ outcome_line (No line fault) = no_line line fault
 
 -- ---- texts
 
--- The text says how the check of the manifest ends.
-pub record IsCheckText (c : Checked) (manifest text : List ℕ) : Type 0 where
+-- The text says how the check of the manifest ends, beside a yacc file and what a scanner scans by.
+pub record IsCheckText (file : File) (s : Scanning) (manifest text : List ℕ) : Type 0 where
   pub outcome : Outcome
-  pub is : IsOutcome c manifest outcome
+  pub is : IsOutcome (checked_by file s) manifest outcome
   pub line : text ≡ outcome_line outcome
 
 -- the text says no
@@ -57,19 +57,22 @@ abbrev pub IsDenial : List ℕ → Type 0
 IsDenial text = (line : ℕ) × (fault : ClaimFault) × (text ≡ no_line line fault)
 
 -- the law: where a text is asked for, it says no exactly where some line has a fault
-abbrev pub DeniesWhereItFails : Checked → List ℕ → Type 0
-DeniesWhereItFails c manifest =
-    (text : List ℕ) → IsCheckText c manifest text → IsDenial text ↔ ((line : ℕ) × (fault : ClaimFault) × Fails c manifest line fault)
+abbrev pub DeniesWhereItFails : File → Scanning → List ℕ → Type 0
+DeniesWhereItFails file s manifest =
+    (text : List ℕ) → IsCheckText file s manifest text
+    → IsDenial text ↔ ((line : ℕ) × (fault : ClaimFault) × Fails (checked_by file s) manifest line fault)
 
--- ---- the same by a yacc file and a scanner
+-- a text says yes, or no
+abbrev pub Answers : Bool → List ℕ → Type 0
+Answers true text = ¬ IsDenial text
+Answers false text = IsDenial text
 
-abbrev pub IsOutcomeOf : File → Scanner → List ℕ → Outcome → Type 0
-IsOutcomeOf file scanner manifest outcome = IsOutcome (checked_by file (scanning scanner)) manifest outcome
+-- ---- the same by a scanner
 
 abbrev pub IsTextOf : File → Scanner → List ℕ → List ℕ → Type 0
-IsTextOf file scanner manifest text = IsCheckText (checked_by file (scanning scanner)) manifest text
+IsTextOf file scanner manifest text = IsCheckText file (scanning scanner) manifest text
 
--- the check ended so, and what was taken grew by the line that says it
-abbrev pub TookOutcome : {S : Type 0} → Sink.Ghosts S → File → Scanner → List ℕ → S → S → Outcome → Type 0
-TookOutcome g file scanner manifest old new outcome =
-    IsOutcomeOf file scanner manifest outcome × (g.written new ≡ append_known (g.written old) (outcome_line outcome))
+-- what was taken grew by such a text, which says this
+abbrev pub TookAnswer : {S : Type 0} → Sink.Ghosts S → File → Scanner → List ℕ → S → S → Bool → Type 0
+TookAnswer g file scanner manifest old new answer =
+    GrewByOne (λ text. IsTextOf file scanner manifest text × Answers answer text) (g.written old) (g.written new)

@@ -3,7 +3,7 @@
 //! # What it is for
 //!
 //! The layer above hands in a yacc file, a scanner, a manifest and an output, and gets the text of `check` written:
-//! [`write_check`] tells which [`Outcome`](cs_check::Outcome) the text has.
+//! [`write_check`] tells whether it says yes.
 //!
 //! # What a contract sees
 //!

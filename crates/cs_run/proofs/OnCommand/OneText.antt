@@ -9,8 +9,6 @@ use Rattle.cs_lex.specs.Reading.Reading.{IsLexFile}
 use Rattle.cs_lex.proofs.OnReading.OneFile as lex_files
 use Rattle.cs_manifest.specs.declared.manifest.counts.Counts.{Counts}
 use Rattle.cs_chain_text.specs.Text.{IsChainsText}
-use Rattle.cs_check.specs.Checking.Told.{checked_by}
-use Rattle.cs_check.specs.Passing.Faults.{Checked}
 use Rattle.cs_check_text.specs.Text.{IsCheckText}
 use Rattle.cs_choices.specs.declared.weigh.Weigh.{Weigh}
 use Rattle.cs_choices.specs.declared.weigh.Weigh.TheVariants.{Nodes}
@@ -48,7 +46,7 @@ module _ (one : (choice : Choice) (file : yacc.File) → AtMostOne (IsManifest c
     (one_deep_text : (choice : Choice) (file : yacc.File) → AtMostOne (IsDeepText choice file))
     (one_chains : (file : yacc.File) (texts : Option Texts) (weigh : Weigh) → AtMostOne (IsChainsText file texts weigh))
     (one_wrong : (file : yacc.File) (chosen : Slips) (texts : Option Texts) (weigh : Weigh) → AtMostOne (IsWrongText file texts weigh chosen))
-    (one_checked : (c : Checked) (manifest : List ℕ) → AtMostOne (IsCheckText c manifest)) where
+    (one_checked : (file : yacc.File) (s : Scanning) (manifest : List ℕ) → AtMostOne (IsCheckText file s manifest)) where
   one_suite : (options : Options) (bytes more a b : List ℕ) → IsSuiteText options a bytes more → IsSuiteText options b bytes more → a ≡ b
   unfolding IsSuiteText
   one_suite options bytes more a b x y =
@@ -93,7 +91,7 @@ module _ (one : (choice : Choice) (file : yacc.File) → AtMostOne (IsManifest c
   one_by Check arguments options Nothing other a b x y = absurd x
   one_by Check arguments options (Grammar file) other a b x y = absurd x
   one_by Check arguments options (Pair two) other a b x y = absurd x
-  one_by Check arguments options (Text beside) other a b x y = one_checked (checked_by beside.pair.yacc (scanning_of beside.pair.lex)) beside.text a b x y
+  one_by Check arguments options (Text beside) other a b x y = one_checked beside.pair.yacc (scanning_of beside.pair.lex) beside.text a b x y
   one_by Gen (Names names) options Nothing other a b x y = absurd x
   one_by Gen (Number number) options Nothing other a b x y = one_summary number a b x y
   one_by Gen (Names names) options (Grammar file) other a b x y = absurd x

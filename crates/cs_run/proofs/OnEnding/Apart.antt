@@ -1,7 +1,6 @@
 -- Files that are asked for are accepted or refused, not both; and they are there.
 use Rattle.std.proofs.Common.{◌≡◌, ◌⊎◌, ◌<◌, ℕ, List, [], ◌∷◌, Option, None, Some, Result, Ok, Err, IsOkAnd, length, true, refl, sym, ap, ◌∙◌, subst, inl, inr, arith}
 use Rattle.std.specs.Prelude.{IsSome}
-use Rattle.cs_check.specs.Checking.Told.{checked_by}
 use Rattle.cs_check_text.proofs.OneText.{one_text}
 use Rattle.cs_io.specs.Desk.{Files}
 use Rattle.cs_io.specs.Uses.{Change, HasFailed}
@@ -215,7 +214,7 @@ denies_same Member arguments options meant a b denies x y = absurd denies
 denies_same Check arguments options Nothing a b denies x y = absurd x
 denies_same Check arguments options (Grammar file) a b denies x y = absurd x
 denies_same Check arguments options (Pair two) a b denies x y = absurd x
-denies_same Check arguments options (Text beside) a b denies x y = one_text (checked_by beside.pair.yacc (scanning_of beside.pair.lex)) beside.text a b x y
+denies_same Check arguments options (Text beside) a b denies x y = one_text beside.pair.yacc (scanning_of beside.pair.lex) beside.text a b x y
 denies_same Gen arguments options meant a b denies x y = absurd denies
 
 denied_text : (request : PlainRequest) (contents : List Content) (a b : List ℕ) → Denies request.command b → IsTextOf request contents a → IsTextOf request contents b → a ≡ b

@@ -1,5 +1,5 @@
 -- What is kept by what words ask for.
-use Rattle.std.specs.Prelude.{◌≡◌, ℕ, List, [], Err, Ok, Result}
+use Rattle.std.specs.Prelude.{◌≡◌, ℕ, Bool, true, false, List, [], Err, Ok, Result}
 use Rattle.cs_io.specs.Uses.{DeskUse, SinkUse}
 use Rattle.cs_run.specs.declared.input.refusal.Refusal.TheVariants.{States}
 use Rattle.cs_run.specs.declared.input.refusal.Stop.{Stop}
@@ -14,8 +14,6 @@ use Rattle.cs_words.specs.Requests.{IsAsked, PlainRequest, files_of}
 use Rattle.cs_words.specs.Words.{IsFirstBad}
 use Rattle.cs_run.specs.declared.writer.halt.SuiteHalt.{SuiteHalt}
 use Rattle.cs_run.specs.declared.writer.halt.SuiteHalt.TheVariants as suite
-use Rattle.cs_check.specs.declared.checking.check.Outcome.{Outcome}
-use Rattle.cs_check.specs.declared.checking.check.Outcome.TheVariants as outcome
 use Rattle.cs_io.specs.declared.halt.Halt.{Halt}
 use Rattle.cs_io.specs.declared.halt.Halt.TheVariants as halt
 
@@ -52,9 +50,9 @@ ending_after (Ok done) = Written
 ending_after (Err halt) = ending_at halt
 
 -- how a run ends whose check was written, or whose writing stopped
-abbrev pub ending_of_check : Result Outcome Halt → Ending
-ending_of_check (Ok (outcome.Yes goals negatives)) = Written
-ending_of_check (Ok (outcome.No line fault)) = Denied
+abbrev pub ending_of_check : Result Bool Halt → Ending
+ending_of_check (Ok true) = Written
+ending_of_check (Ok false) = Denied
 ending_of_check (Err halt) = ending_at halt
 
 -- how a run ends whose suite isn't written whole

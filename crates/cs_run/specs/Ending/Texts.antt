@@ -11,7 +11,6 @@ use Rattle.cs_words.specs.declared.command.PairCommand.TheVariants as of_pair
 use Rattle.cs_words.specs.declared.options.Options.{Options}
 use Rattle.cs_words.specs.Requests.{Number, PlainArguments, PlainRequest, files_of}
 use Rattle.cs_chain_text.specs.Text.{IsChainsText}
-use Rattle.cs_check.specs.Checking.Told.{checked_by}
 use Rattle.cs_check_text.specs.Text.{IsCheckText, IsDenial}
 use Rattle.cs_choices.specs.declared.weigh.Weigh.TheVariants.{Nodes}
 use Rattle.cs_deep.specs.Membership.{IsMemberText}
@@ -51,7 +50,7 @@ IsTextBy Member arguments options (Text beside) text =
     (tokens : List ℕ) × Scans (scanning_of beside.pair.lex) beside.text tokens
     × IsMemberText beside.pair.yacc.grammar tokens text
 IsTextBy Check arguments options (Text beside) text =
-    IsCheckText (checked_by beside.pair.yacc (scanning_of beside.pair.lex)) beside.text text
+    IsCheckText beside.pair.yacc (scanning_of beside.pair.lex) beside.text text
 IsTextBy command arguments options meant text = ⊥
 
 -- the contents of the files mean something within the command's limits, by which the text is asked for

@@ -11,7 +11,6 @@ use crate::command::endings::{halted, unmade};
 use crate::command::scanner::scanner_of;
 use crate::ending::Ending;
 use crate::input::PairAndText;
-use cs_check::Outcome;
 use cs_check_text::write_check;
 use cs_io::{Halt, Sink};
 use cs_scanner::Automaton;
@@ -33,14 +32,14 @@ pub(crate) fn checked<O: Sink>(alloc: Global, beside: &PairAndText, out: &mut O)
     answered(write_check(alloc, &beside.pair.yacc, &scanner, manifest, out))
 }
 
-// How a run ends whose check was written, or whose writing stopped.
-fn answered(outcome: Result<Outcome, Halt>) -> Ending
+// How a run ends whose check was written, and whether that says yes; or whose writing stopped.
+fn answered(outcome: Result<bool, Halt>) -> Ending
     ensures ending { result ≡ ending_of_check outcome }
     ensures told { HasLine result }
 {
     match outcome {
-        Ok(Outcome::Yes { .. }) => Ending::Written,
-        Ok(Outcome::No { .. }) => Ending::Denied,
+        Ok(true) => Ending::Written,
+        Ok(false) => Ending::Denied,
         Err(halt) => halted(halt),
     }
 }

@@ -188,7 +188,7 @@ const ROWS: [Row; 9] = [
         MANIFEST,
         1,
         b"",
-        b"conform: yacc: Syntax at 5\n",
+        b"conform: yacc: BadItem at 17\n",
     ),
 ];
 
