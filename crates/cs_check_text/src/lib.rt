@@ -11,9 +11,9 @@
 //!
 //! # What is proved
 //!
-//! The text says yes, with the counts of goals and negatives, exactly where the manifest passes. Else it names the first line that
-//! has a fault, and the lowest fault of that line. A manifest has one such text at most. After a failed write the output has a
-//! prefix of it.
+//! The text says yes, with the counts of goals and negatives, exactly where the manifest passes. Else it names the first
+//! line that has a fault, and the lowest fault of that line. A manifest has one such text at most, and that it has none
+//! cannot be. After a failed write the output has a prefix of it.
 //!
 //! # What is only tested
 //!
@@ -24,5 +24,5 @@ mod laws;
 mod lines;
 mod writing;
 
-pub use laws::{denial_is_failure, one_check_text};
+pub use laws::{denial_is_failure, one_check_text, some_check_text};
 pub use writing::write_check;
