@@ -1,8 +1,8 @@
 -- A manifest has one text of its check, which says no exactly where some line has a fault.
 use Rattle.std.proofs.Common.{◌≡◌, ◌↔◌, ℕ, List, [], ◌∷◌, length, refl, sym, ap, ◌∙◌, subst}
 use Rattle.std.specs.Prelude.{slice_index_or}
-use Rattle.cs_check.specs.declared.checking.check.Outcome.{Outcome}
-use Rattle.cs_check.specs.declared.checking.check.Outcome.TheVariants.{No, Yes}
+use Rattle.cs_check.specs.declared.checking.pass.Outcome.{Outcome}
+use Rattle.cs_check.specs.declared.checking.pass.Outcome.TheVariants.{No, Yes}
 use Rattle.cs_check.specs.declared.passing.fault.ClaimFault.{ClaimFault}
 use Rattle.cs_check.specs.declared.passing.fault.ClaimFault.TheVariants.{Form, Head, Unclosed, Derive, Size, Yield, Scan, Goal, Infeasible, Base, Edit, Pair, Totals}
 use Rattle.cs_check.specs.Checking.Told.{checked_by}

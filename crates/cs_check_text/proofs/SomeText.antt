@@ -1,7 +1,7 @@
 -- That a manifest has no text of its check cannot be: where no line is the first with a fault, it passes.
 use Rattle.std.proofs.Common.{◌≡◌, ◌≤◌, ◌+◌, ℕ, zero, suc, List, [], ◌∷◌, ◌++◌, Option, None, Some, length, map, refl, sym, ◌∙◌, subst, inl, inr, append_assoc, append-nil, arith}
 use Rattle.std.proofs.lemmas.Bool.{cases_lt}
-use Rattle.cs_check.specs.declared.checking.check.Outcome.TheVariants.{No, Yes}
+use Rattle.cs_check.specs.declared.checking.pass.Outcome.TheVariants.{No, Yes}
 use Rattle.cs_check.specs.declared.passing.fault.ClaimFault.{ClaimFault}
 use Rattle.cs_check.specs.declared.passing.fault.ClaimFault.TheVariants.{Form}
 use Rattle.cs_check.specs.Checking.Told.{checked_by}

@@ -1,7 +1,7 @@
 -- What `check` writes of a manifest: a line that says yes with two counts, or no with a line and its fault.
 use Rattle.std.specs.Prelude.{◌≡◌, ◌↔◌, ℕ, Bool, true, false, List, ◌++◌, codes, decimal}
-use Rattle.cs_check.specs.declared.checking.check.Outcome.{Outcome}
-use Rattle.cs_check.specs.declared.checking.check.Outcome.TheVariants.{No, Yes}
+use Rattle.cs_check.specs.declared.checking.pass.Outcome.{Outcome}
+use Rattle.cs_check.specs.declared.checking.pass.Outcome.TheVariants.{No, Yes}
 use Rattle.cs_check.specs.declared.passing.fault.ClaimFault.{ClaimFault}
 use Rattle.cs_check.specs.declared.passing.fault.ClaimFault.TheVariants.{Form, Head, Unclosed, Derive, Size, Yield, Scan, Goal, Infeasible, Base, Edit, Pair, Totals}
 use Rattle.cs_check.specs.Passing.Outcomes.{IsOutcome}

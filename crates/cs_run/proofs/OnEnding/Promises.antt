@@ -6,9 +6,9 @@ use Rattle.cs_words.specs.declared.command.Role.{Role}
 use Rattle.cs_words.specs.Requests.{PlainRequest}
 use Rattle.cs_run.specs.declared.ending.ending.Ending.{Ending}
 use Rattle.cs_run.specs.declared.ending.ending.Ending.TheVariants.{Written, Denied, Refused, BadWord, NoFile, NotWritten, NoMemory}
-use Rattle.cs_run.specs.Ending.Ending.{Ends, IsReported, IsWhole, Performs, Says, WroteDenial, WroteText, WrotePart, WrotePartOfAccepted, line_of, status_of}
+use Rattle.cs_run.specs.Ending.Ending.{Ends, IsReported, Performs, Says, WroteDenial, WroteText, WrotePart, WrotePartOfAccepted, line_of, status_of}
 use Rattle.cs_run.specs.Ending.Files.{AreAccepted, AreRefused, HasNoFileFor}
-use Rattle.cs_run.specs.Ending.Headline.{IsStatusBy, IsWholeStatus, KeepsPromises}
+use Rattle.cs_run.specs.Ending.Headline.{IsStatusBy, KeepsPromises}
 use Rattle.cs_run.specs.Ending.Texts.{AreTold}
 use Rattle.cs_run.proofs.OnEnding.Apart.{asked_accepted, asked_apart, asked_more, asked_no_file, asked_refused_there, asked_there, none_denied}
 
@@ -21,11 +21,6 @@ bad_word_err asked at is = rw is (search rules)
 
 not_failed : (before after : ℕ) → after ≡ before → before < greatest → ¬ HasFailed (record { before = before; after = after })
 not_failed before after same below failed = omega (arith, same, below, failed)
-
--- no status between 0 and 6 is that of a whole output
-not_whole : (n : ℕ) → 0 < n → n < 6 → IsWholeStatus n → ⊥
-not_whole n some few (inl is) = omega (arith, some, is)
-not_whole n some few (inr is) = omega (arith, few, is)
 
 -- on 4 and 5 writes may have failed
 may_fail : (n : ℕ) → 4 ≤ n → n < 6 → (n < 4) ⊎ (n ≡ 6) → ⊥
@@ -55,7 +50,8 @@ module _ (asked : Result PlainRequest ℕ) (desk : DeskUse) (out err : SinkUse) 
     bad_words_end_so : IsErr asked → (status_of ending ≡ 2) ⊎ (status_of ending ≡ 5)
     refused_ends_so : AreTold desk.files asked → IsOkAnd asked (AreRefused desk.files) → ¬ HasFailed desk.faults → (status_of ending ≡ 1) ⊎ (status_of ending ≡ 5)
     complete : AreTold desk.files asked → IsOkAnd asked (AreAccepted desk.files) → ¬ HasFailed desk.faults → ¬ HasFailed out.faults → IsStatusBy asked desk.files (status_of ending) ⊎ (status_of ending ≡ 5)
-    silent : IsWholeStatus (status_of ending) → IsWhole ending
+    silent : status_of ending ≡ 0 → ending ≡ Written
+    denied_silently : status_of ending ≡ 6 → ending ≡ Denied
 
   rest : (ending : Ending) → Ends ending asked desk out → Rest ending
   rest Written ends = record {
@@ -71,7 +67,8 @@ module _ (asked : Result PlainRequest ℕ) (desk : DeskUse) (out err : SinkUse) 
     bad_words_end_so = λ bad. absurd (good_words asked _ ends.0.1 bad);
     refused_ends_so = λ some refused fine. absurd (asked_apart asked desk.files some (asked_accepted asked desk.files ends.0.0 ends.0.1) refused);
     complete = λ some accepted fine good. inl (inl (refl, none_denied asked desk.files ends.0.0 some ends.0.1 ends.0.2));
-    silent = λ is. tt;
+    silent = λ is. refl;
+    denied_silently = λ is. absurd (omega (arith, is));
   }
   rest Denied ends = record {
     whole = λ is. absurd (omega (arith, is));
@@ -86,7 +83,8 @@ module _ (asked : Result PlainRequest ℕ) (desk : DeskUse) (out err : SinkUse) 
     bad_words_end_so = λ bad. absurd (good_words asked _ ends.0.1 bad);
     refused_ends_so = λ some refused fine. absurd (asked_apart asked desk.files some (asked_accepted asked desk.files ends.0.0 ends.0.1) refused);
     complete = λ some accepted fine good. inl (inr (refl, (ends.0.0, ends.0.1, ends.0.2)));
-    silent = λ is. tt;
+    silent = λ is. absurd (omega (arith, is));
+    denied_silently = λ is. refl;
   }
   rest (Refused refusal) ends = record {
     whole = λ is. absurd (omega (arith, is));
@@ -101,7 +99,8 @@ module _ (asked : Result PlainRequest ℕ) (desk : DeskUse) (out err : SinkUse) 
     bad_words_end_so = λ bad. absurd (good_words asked _ ends.0 bad);
     refused_ends_so = λ some refused fine. inl refl;
     complete = λ some accepted fine good. absurd (asked_apart asked desk.files some accepted (asked_more asked ends.0 (λ request r. (refusal, r))));
-    silent = λ is. absurd (not_whole 1 (omega arith) (omega arith) is);
+    silent = λ is. absurd (omega (arith, is));
+    denied_silently = λ is. absurd (omega (arith, is));
   }
   rest (BadWord at) ends = record {
     whole = λ is. absurd (omega (arith, is));
@@ -116,7 +115,8 @@ module _ (asked : Result PlainRequest ℕ) (desk : DeskUse) (out err : SinkUse) 
     bad_words_end_so = λ bad. inl refl;
     refused_ends_so = λ some refused fine. absurd (good_words asked _ refused (bad_word_err asked at ends.0));
     complete = λ some accepted fine good. absurd (good_words asked _ accepted (bad_word_err asked at ends.0));
-    silent = λ is. absurd (not_whole 2 (omega arith) (omega arith) is);
+    silent = λ is. absurd (omega (arith, is));
+    denied_silently = λ is. absurd (omega (arith, is));
   }
   rest (NoFile role) ends = record {
     whole = λ is. absurd (omega (arith, is));
@@ -131,7 +131,8 @@ module _ (asked : Result PlainRequest ℕ) (desk : DeskUse) (out err : SinkUse) 
     bad_words_end_so = λ bad. absurd (good_words asked _ ends.0 bad);
     refused_ends_so = λ some refused fine. absurd (fine (asked_no_file asked desk.files desk.faults role some (asked_refused_there asked desk.files refused) ends.0));
     complete = λ some accepted fine good. absurd (fine (asked_no_file asked desk.files desk.faults role some (asked_there asked desk.files accepted) ends.0));
-    silent = λ is. absurd (not_whole 3 (omega arith) (omega arith) is);
+    silent = λ is. absurd (omega (arith, is));
+    denied_silently = λ is. absurd (omega (arith, is));
   }
   rest NotWritten ends = record {
     whole = λ is. absurd (omega (arith, is));
@@ -146,7 +147,8 @@ module _ (asked : Result PlainRequest ℕ) (desk : DeskUse) (out err : SinkUse) 
     bad_words_end_so = λ bad. absurd (good_words asked _ ends.0 bad);
     refused_ends_so = λ some refused fine. absurd (asked_apart asked desk.files some (part_accepted asked ends.0) refused);
     complete = λ some accepted fine good. absurd (good ends.1);
-    silent = λ is. absurd (not_whole 4 (omega arith) (omega arith) is);
+    silent = λ is. absurd (omega (arith, is));
+    denied_silently = λ is. absurd (omega (arith, is));
   }
   rest NoMemory ends = record {
     whole = λ is. absurd (omega (arith, is));
@@ -161,13 +163,14 @@ module _ (asked : Result PlainRequest ℕ) (desk : DeskUse) (out err : SinkUse) 
     bad_words_end_so = λ bad. inr refl;
     refused_ends_so = λ some refused fine. inr refl;
     complete = λ some accepted fine good. inr refl;
-    silent = λ is. absurd (not_whole 5 (omega arith) (omega arith) is);
+    silent = λ is. absurd (omega (arith, is));
+    denied_silently = λ is. absurd (omega (arith, is));
   }
 
   -- want of memory for the line may take the place of an ending whose output wasn't written
-  memory_ends : (ending : Ending) → ¬ IsWhole ending → Ends ending asked desk out → Ends NoMemory asked desk out
-  memory_ends Written not ends = absurd (not tt)
-  memory_ends Denied not ends = absurd (not tt)
+  memory_ends : (ending : Ending) → (¬ (ending ≡ Written)) × ¬ (ending ≡ Denied) → Ends ending asked desk out → Ends NoMemory asked desk out
+  memory_ends Written not ends = absurd (not.0 refl)
+  memory_ends Denied not ends = absurd (not.1 refl)
   memory_ends (Refused refusal) not ends = inl ends.1
   memory_ends (BadWord at) not ends = inl ends.1
   memory_ends (NoFile role) not ends = inl ends.1
@@ -176,7 +179,7 @@ module _ (asked : Result PlainRequest ℕ) (desk : DeskUse) (out err : SinkUse) 
 
   reported_ends : (ending reported : Ending) → Ends ending asked desk out → IsReported ending reported → Ends reported asked desk out
   reported_ends ending reported ends (inl same) = subst (λ (e : Ending). Ends e asked desk out) (sym same) ends
-  reported_ends ending reported ends (inr none) = subst (λ (e : Ending). Ends e asked desk out) (sym none.0) (memory_ends ending none.1 ends)
+  reported_ends ending reported ends (inr none) = subst (λ (e : Ending). Ends e asked desk out) (sym none.0) (memory_ends ending (none.1, none.2) ends)
 
   prefix : (ending : Ending) → Ends ending asked desk out → (3 < status_of ending) × (status_of ending < 6) → IsUnused out ⊎ WrotePart asked desk out
   prefix Written ends above = absurd (omega (arith, above.0))
@@ -203,8 +206,8 @@ module _ (asked : Result PlainRequest ℕ) (desk : DeskUse) (out err : SinkUse) 
 
   -- An ending is reported, and the status is that of what was reported.
   pub keeps : (ending reported : Ending) (status : ℕ) → Performs ending asked desk out → IsReported ending reported
-      → Says (line_of reported) err → (IsWhole reported → IsUnused err) → status ≡ status_of reported → KeepsPromises asked desk out err status
-  keeps ending reported status performs is said silent status_is =
+      → Says (line_of reported) err → (reported ≡ Written → IsUnused err) → (reported ≡ Denied → IsUnused err) → status ≡ status_of reported → KeepsPromises asked desk out err status
+  keeps ending reported status performs is said silent denied_silently status_is =
       subst (λ (n : ℕ). KeepsPromises asked desk out err n) (sym status_is) (kept (reported_ends ending reported performs.ends is))
     where
       kept : Ends reported asked desk out → KeepsPromises asked desk out err (status_of reported)
@@ -212,7 +215,7 @@ module _ (asked : Result PlainRequest ℕ) (desk : DeskUse) (out err : SinkUse) 
           let all = rest reported ends in record {
             whole = all.whole;
             denied = all.denied;
-            silent = λ whole. silent (all.silent whole);
+            silent = λ whole. elim whole [ inl is ↦ silent (all.silent is) | inr is ↦ denied_silently (all.denied_silently is) ];
             ends = (reported, refl, ends, said);
             range = within reported;
             files_refused = all.files_refused;

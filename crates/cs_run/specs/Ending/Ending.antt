@@ -77,15 +77,9 @@ pub record Performs (ending : Ending) (asked : Result PlainRequest ℕ) (desk : 
   pub steady : IsTrue desk.steady → desk.faults.after ≡ desk.faults.before
   pub room : HasRoomFor out.room asked desk.files → out.faults.after ≡ out.faults.before
 
--- the whole output was written
-abbrev pub IsWhole : Ending → Type 0
-IsWhole Written = Unit {0}
-IsWhole Denied = Unit {0}
-IsWhole ending = ⊥
-
 -- the ending that is reported: the same, or want of memory for the line, which an output that was written needs none of
 abbrev pub IsReported : Ending → Ending → Type 0
-IsReported ending reported = (reported ≡ ending) ⊎ ((reported ≡ NoMemory) × ¬ IsWhole ending)
+IsReported ending reported = (reported ≡ ending) ⊎ ((reported ≡ NoMemory) × (¬ (ending ≡ Written)) × ¬ (ending ≡ Denied))
 
 -- ---- statuses
 

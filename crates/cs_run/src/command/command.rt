@@ -141,12 +141,7 @@ fn of_pair<R: Threads + Sync, O: Sink, G: Gate + Sync>(
 }
 
 // Writes the text that a command asks for by a yacc file, a lex file and a third file.
-fn of_third<O: Sink>(
-    alloc: Global,
-    command: Command,
-    beside: &PairAndText,
-    out: &mut O,
-) -> Ending
+fn of_third<O: Sink>(alloc: Global, command: Command, beside: &PairAndText, out: &mut O) -> Ending
     requires takes { TakesThird command }
     requires short { length beside.now.text ≤ 67108864 }
     requires tokens { HasTokensOfItsFile beside.now }

@@ -2,7 +2,8 @@
 
 ghost use Rattle.std.specs.Prelude.{◌≡◌, IfOk, Result, string_bytes};
 ghost use Rattle.cs_io.specs.Uses.{IsUnused, used};
-ghost use Rattle.cs_run.specs.Ending.Ending.{HasLine, IsReported, IsWhole, Says, line_of, status_of};
+ghost use Rattle.cs_run.specs.declared.ending.ending.Ending.TheVariants.{Denied, Written};
+ghost use Rattle.cs_run.specs.Ending.Ending.{HasLine, IsReported, Says, line_of, status_of};
 ghost use Rattle.cs_run.specs.Ending.Headline.{KeepsWhatPerforms};
 
 use crate::ending::ending::Ending;
@@ -29,10 +30,15 @@ fn report<E: Sink>(alloc: Global, ending: Ending, err: &mut E) -> Ending
     requires { HasLine ending }
     ensures ending { IsReported ending result }
     ensures line { Says (line_of result) (used E.Sink err.old err.new) }
-    ensures silent { IsWhole result
+    ensures silent { result ≡ Written
+        → IsUnused (used E.Sink err.old err.new) }
+    ensures denied_silently { result ≡ Denied
         → IsUnused (used E.Sink err.old err.new) }
 {
-    if ending == Ending::Written || ending == Ending::Denied {
+    if ending == Ending::Written {
+        return ending;
+    }
+    if ending == Ending::Denied {
         return ending;
     }
     match line(alloc, ending) {

@@ -5,7 +5,7 @@ ghost use Rattle.cs_lex.specs.Reading.File.{HasTokensOf};
 ghost use Rattle.cs_run.specs.Input.Files.{IsMeantFor, IsNoFile};
 ghost use Rattle.cs_run.specs.Input.Refusal.{CanBeTold, FileStops, FilesStop};
 ghost use Rattle.cs_run.specs.Input.Read.{AreMeant, HasItsTokens, HasTokensOfItsFile, IsFormOf, IsGrammarIn, IsPairIn, IsTextIn, ReadsFile};
-ghost use Rattle.cs_run.specs.Input.Read.{third_role as spec_third_role};
+ghost use Rattle.cs_run.specs.Input.Read as spec;
 ghost use Rattle.cs_words.specs.Commands.{taken_of};
 ghost use Rattle.cs_words.specs.Words.{texts};
 ghost use Rattle.cs_words.specs.Requests.{Fit, IsFitting, Names, files_in, files_named, one_named, plain_request, three_named, two_named};
@@ -75,7 +75,14 @@ fn read_named<D: Desk>(
         },
         [yacc, lex, text] => {
             let role = third_role(command);
-            match read_text(alloc, yacc.as_str(), lex.as_str(), role, text.as_str(), desk) {
+            match read_text(
+                alloc,
+                yacc.as_str(),
+                lex.as_str(),
+                role,
+                text.as_str(),
+                desk,
+            ) {
                 Ok(beside) => Ok(Meant::Text(beside)),
                 Err(stop) => Err(stop),
             }
@@ -119,7 +126,7 @@ fn read_pair<D: Desk>(alloc: Global, yacc: &str, lex: &str, desk: &mut D) -> Res
 
 // What the third file is to a command that takes three.
 fn third_role(command: Command) -> Role
-    ensures { result ≡ spec_third_role command }
+    ensures { result ≡ spec.third_role command }
 {
     match command {
         Command::Check => Role::Manifest,
