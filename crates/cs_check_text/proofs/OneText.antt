@@ -1,5 +1,5 @@
 -- A manifest has one text of its check, which says no exactly where some line has a fault.
-use Rattle.std.proofs.Common.{◌≡◌, ◌↔◌, ℕ, List, [], ◌∷◌, length, refl, sym, ap, ◌∙◌, subst}
+use Rattle.std.proofs.Common.{◌≡◌, ◌↔◌, ℕ, List, [], ◌∷◌, length, refl, sym, ap, ◌∙◌, subst, arith}
 use Rattle.std.specs.Prelude.{slice_index_or}
 use Rattle.cs_check.specs.declared.checking.pass.Outcome.{Outcome}
 use Rattle.cs_check.specs.declared.checking.pass.Outcome.TheVariants.{No, Yes}
@@ -14,7 +14,7 @@ use Rattle.cs_check.proofs.OnChecking.Judging.{one_list}
 use Rattle.cs_check.proofs.OnPassing.First.{never_clean, one_first}
 use Rattle.cs_scanner.specs.Scan.Scan.{Scanning}
 use Rattle.cs_yacc.specs.Reading.File.{File}
-use Rattle.cs_check_text.specs.Text.{DeniesWhereItFails, IsCheckText, IsDenial, no_line, outcome_line, yes_line}
+use Rattle.cs_check_text.specs.Text.{DeniesWhereItFails, IsCheckText, IsDenial, outcome_line, yes_line}
 
 -- ---- faults by their numbers
 
@@ -70,9 +70,13 @@ one_text file s manifest a b x y = x.line ∙ ap outcome_line (one_outcome (chec
 
 -- ---- denials
 
+first : List ℕ → ℕ
+first [] = 0
+first (x ∷ xs) = x
+
 -- a text that says yes doesn't say no
 pub yes_is_no_denial : (goals negatives : ℕ) → IsDenial (yes_line goals negatives) → ⊥
-yes_is_no_denial goals negatives denial = let same : yes_line goals negatives ≡ no_line denial.0 denial.1 = denial.2 in absurd cc
+yes_is_no_denial goals negatives denial = let letters : 121 ≡ 110 = ap first denial.2 in omega (arith, letters)
 
 denied_by : (c : Checked) (manifest text : List ℕ) (outcome : Outcome) → IsOutcome c manifest outcome → text ≡ outcome_line outcome
     → IsDenial text ↔ ((line : ℕ) × (fault : ClaimFault) × Fails c manifest line fault)

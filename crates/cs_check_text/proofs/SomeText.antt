@@ -19,10 +19,8 @@ use Rattle.cs_check_text.specs.Text.{IsCheckText, no_line, yes_line}
 -- where none of them is the lowest, there is no fault of a line
 none_lowest : (P : ClaimFault → Type 0) → ((g : ClaimFault) → P g → ((h : ClaimFault) → P h → number g ≤ number h) → ⊥) → (n : ℕ) (g : ClaimFault) → number g ≤ n → P g → ⊥
 none_lowest P none zero g low has = none g has (λ h also. omega (arith, low))
-none_lowest P none (suc n) g low has = none g has least
-  where
-    least : (h : ClaimFault) → P h → number g ≤ number h
-    least h also = elim (cases_lt (number h) (number g)) [ inl less ↦ absurd (none_lowest P none n h (omega (arith, low, less)) also) | inr most ↦ most ]
+none_lowest P none (suc n) g low has =
+    none g has (λ h also. elim (cases_lt (number h) (number g)) [ inl less ↦ absurd (none_lowest P none n h (omega (arith, low, less)) also) | inr most ↦ most ])
 
 module _ (c : Checked) (pieces : List (Option (List ℕ))) (none : (n : ℕ) (f : ClaimFault) → IsFirstFault (HasFault c) number pieces n f → ⊥) where
   faultless : (above : List (Option (List ℕ))) (line : Option (List ℕ)) (rest : List (Option (List ℕ))) → pieces ≡ above ++ line ∷ rest → IsClean (HasFault c) above → IsFaultless (HasFault c) above line
