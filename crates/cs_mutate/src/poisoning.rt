@@ -1,6 +1,6 @@
 // The first pair of a list that stands side by side in no sentence.
 
-ghost use Rattle.std.specs.Prelude.{◌≤◌, length, All, IfSome};
+ghost use Rattle.std.specs.Prelude.{◌≤◌, [], ◌∷◌, length, All, IfSome};
 ghost use Rattle.cs_grammar.specs.Grammar.{IsNumberOf};
 ghost use Rattle.cs_grammar.specs.Sentence.{IsSentence, framed};
 ghost use Rattle.cs_goals.specs.Goal.{IsLeft, IsRight};
@@ -66,6 +66,50 @@ pub(crate) fn poison_between(
             left: last,
             right,
         })
+    }
+}
+
+// The same of one token between marks, which most edits put.
+fn poison_around(pairs: &Pairs, left: Mark, token: u16, right: Mark) -> Option<PoisonedPair>
+    requires left { IsLeft pairs.now.grammar.tokens left }
+    requires right { IsRight pairs.now.grammar.tokens right }
+    requires token { IsNumberOf pairs.now.grammar.tokens token }
+    ensures { TellsPair pairs.now.grammar (between left (token ∷ []) right) result }
+{
+    let middle = Mark::Token(token);
+    if !pairs.adjacent(left, middle) {
+        return Some(PoisonedPair {
+            at: 0,
+            left,
+            right: middle,
+        });
+    }
+    if !pairs.adjacent(middle, right) {
+        return Some(PoisonedPair {
+            at: 1,
+            left: middle,
+            right,
+        });
+    }
+    None
+}
+
+// The same of few tokens.
+pub(crate) fn poison_put(
+    pairs: &Pairs,
+    left: Mark,
+    put: &[u16],
+    right: Mark,
+) -> Option<PoisonedPair>
+    requires left { IsLeft pairs.now.grammar.tokens left }
+    requires right { IsRight pairs.now.grammar.tokens right }
+    requires tokens { All (IsNumberOf pairs.now.grammar.tokens) put.now }
+    requires short { length put.now ≤ 1000001 }
+    ensures { TellsPair pairs.now.grammar (between left put.now right) result }
+{
+    match put {
+        [token] => poison_around(pairs, left, *token, right),
+        _ => poison_between(pairs, left, put, right),
     }
 }
 

@@ -11,7 +11,7 @@ ghost use Rattle.cs_mutate.specs.Keeping.{TellsOnly};
 
 use crate::edit::Edit;
 use crate::negative::Negative;
-use crate::poisoning::{PoisonedPair, poison_between, sound_behind};
+use crate::poisoning::{PoisonedPair, poison_put, sound_behind};
 use cs_grammar::Mark;
 use cs_pairs::Pairs;
 
@@ -53,7 +53,7 @@ fn poison_seam(
 {
     let left = mark_at(base, place);
     let right = mark_at(base, place + gone + 1);
-    match poison_between(pairs, left, put, right) {
+    match poison_put(pairs, left, put, right) {
         Some(found) => Some(PoisonedPair {
             at: found.at + place as u32,
             left: found.left,

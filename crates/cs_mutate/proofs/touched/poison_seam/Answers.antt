@@ -2,12 +2,12 @@ use Rattle.std.proofs.Common.{◌+◌, arith}
 use Rattle.cs_mutate.proofs.Seams.{around, mark_left, mark_right, seam_place, sound_behind, poisoned_behind}
 use Rattle.cs_mutate.proofs.touched.poison_seam.Goals as goal
 
-pub poison_between-requires-clause-left : goal.poison_between-requires-clause-left
-poison_between-requires-clause-left c =
+pub poison_put-requires-clause-left : goal.poison_put-requires-clause-left
+poison_put-requires-clause-left c =
     mark_left c.args.pairs.now.grammar.tokens c.args.base.now c.requires.tokens c.args.place c.mark_at-left.result (omega (arith, c.requires.inside)) c.mark_at-left.ensures
 
-pub poison_between-requires-clause-right : goal.poison_between-requires-clause-right
-poison_between-requires-clause-right c =
+pub poison_put-requires-clause-right : goal.poison_put-requires-clause-right
+poison_put-requires-clause-right c =
     mark_right c.args.pairs.now.grammar.tokens c.args.base.now c.requires.tokens (c.args.place + c.args.gone) c.mark_at-right.result c.mark_at-right.ensures
 
 pub overflow_add-result : goal.overflow_add-result
