@@ -70,7 +70,7 @@ one_text file s manifest a b x y = x.line ∙ ap outcome_line (one_outcome (chec
 
 -- ---- denials
 
-first : List ℕ → ℕ
+abbrev first : List ℕ → ℕ
 first [] = 0
 first (x ∷ xs) = x
 
