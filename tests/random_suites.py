@@ -35,7 +35,7 @@ TOP = os.path.dirname(os.path.dirname(os.path.abspath(__file__)))
 PROGRAM = os.path.abspath(sys.argv[1]) if len(sys.argv) > 1 else os.path.join(TOP, "crates", "cs_cli", "out", "cs_cli")
 COUNT = int(sys.argv[2]) if len(sys.argv) > 2 else 200
 # The model also has commands that the program hasn't. One that the program gets is put in here.
-COMPARED = ["rules", "suite", "gen", "lexical", "spell", "member", "deep", "chains", "wrong"]
+COMPARED = ["rules", "suite", "gen", "lexical", "spell", "member", "deep", "chains", "wrong", "check"]
 COMMANDS = sys.argv[3].split(",") if len(sys.argv) > 3 else COMPARED
 SUMMARIES = 2
 TEXT_OPTIONS = ("separator", "weigh")

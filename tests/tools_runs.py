@@ -20,8 +20,9 @@ from calls import BUILT, PROGRAM, TOOLS, TOP, call, marked, written
 sys.path.insert(0, TOOLS)
 
 import plain
-from refusals import SENTENCES
+from refusals import FAULTS, SENTENCES
 from rows import end, in_order
+from suites import SECOND
 
 MADE_UP = """#!/bin/sh
 printf '%s' "$WROTE"
@@ -216,6 +217,8 @@ MADE_UP_LINES = [
     ("text: Stops at 2", 1, ["t:1:3: The scanner takes nothing here", "0 x\n  ^\n"]),
     ("text: Tokens 2001 of 2000", 1, ["t: The text has too many tokens", "2,001, and at most 2,000"]),
     ("read fault: text", 3, ["t: The text can't be read"]),
+    ("manifest: Length above 67108864", 1, ["t: The manifest is too long", "it has 3 bytes"]),
+    ("read fault: manifest", 3, ["t: The manifest can't be read"]),
     ("write fault", 4, ["The output can't be written"]),
     ("out of memory", 5, ["The system gave no more memory"]),
 ]
@@ -249,7 +252,9 @@ ENDINGS = [
         "end rules 1 spelled 1 shadowed 0 foreign 0 literal 0 infeasible 0 large 0\n",
         "of 1 scanner rule 1 spelled; 0 shadowed, 0 foreign, 0 of literals, 0 infeasible and 0 large",
     ),
+    (["check", "g.y", "l.l", "m"], "yes goals 5 negatives 2\n", "of 5 goals all holds, and of 2 negatives"),
 ]
+MANIFEST = re.sub(r"\bx\b", "a", SECOND).replace("a a\"", "aa\"")
 
 
 def from_bison(folder, name):
@@ -418,6 +423,7 @@ def others(folder):
 def good_runs(folder):
     written(folder, "g.y", ERROR_RULES)
     written(folder, "l.l", SCANNER)
+    written(folder, "m", MANIFEST)
     shared = END.replace("\n", " cases 1\n")
     for words, wrote in (["rules", "g.y"], END), (["suite", "g.y", "l.l", "--criteria=rule", "--mutate=none"], shared):
         fault, told = explained(folder, words, None, 0, wrote)
@@ -429,6 +435,21 @@ def good_runs(folder):
             yield fault or f"a good run of {words}: {told!r}"
 
 
+def faults(folder):
+    """The line of a manifest that has a fault, with what it lacks; and the end of one that is cut short."""
+    written(folder, "g.y", ERROR_RULES)
+    written(folder, "l.l", SCANNER)
+    for text, number, line in (("conform 1 suite\n", 1, "conform 1 suite"), ("conform 2 suite\n", 2, "")):
+        written(folder, "m", text)
+        fault, told = explained(folder, ["check", "g.y", "l.l", "m"], None, 6, f"no line {number}: Form\n")
+        if fault or told != f"m:{number}: {FAULTS['Form']}\n{line}\n":
+            yield fault or f"line {number} of a manifest: {told!r}"
+    with open(os.path.join(TOP, "docs", "FORMATS.md")) as file:
+        part = file.read().split("## Checked manifests", 1)[1].split("**Form.**", 1)[0]
+    if re.findall(r"^\| ([A-Z]\w+) \|", part, re.M)[1:] != [*FAULTS]:
+        yield "faults without a sentence, or others"
+
+
 def lines_of_formats():
     """The error lines that docs/FORMATS.md names, without numbers."""
     with open(os.path.join(TOP, "docs", "FORMATS.md")) as file:
@@ -436,7 +457,7 @@ def lines_of_formats():
     part = text.split("## Statuses and lines", 1)[1].split("## C text", 1)[0]
     yield from re.findall(r"`conform: ((?:yacc: Length|read fault: yacc|usage|write fault|out of memory))", part)
     # those of the commands that read a text or count goals before they are made
-    yield from re.findall(r"`conform: ((?:text: [A-Z]\w+|read fault: text|chains: Limit \w+))", part)
+    yield from re.findall(r"`conform: ((?:(?:text|manifest): [A-Z]\w+|read fault: (?:text|manifest)|chains: Limit \w+))", part)
     for name in re.findall(r"NAME is (.*?) \|", part)[0].replace(" or ", ", ").split(", "):
         yield f"yacc: {name}"
     for name in re.findall(r"WHICH is one of (.*?) \|", part)[0].split(", "):
@@ -455,7 +476,7 @@ def sentences(_):
 
 def main():
     failed = []
-    on_files = (plain_rows, not_plain_rows, calls, reports, places, lex_places, long_lines, others, good_runs)
+    on_files = (plain_rows, not_plain_rows, calls, reports, places, lex_places, long_lines, others, good_runs, faults)
     for rows in (*on_files, sentences):
         with tempfile.TemporaryDirectory() as folder:
             os.chmod(written(folder, "program", MADE_UP), 0o755)

@@ -315,6 +315,9 @@ end goals 5 feasible 3 infeasible 2 large 0 negatives 2 cases 1
 # The line of "The generated files" in docs/FORMATS.md.
 SUMMARY = b"gen 1 yacc 1240 lex 378 goals 968 feasible 862 infeasible 106 large 0 negatives 1442 bytes 315463\n"
 EXAMPLES = os.path.join(TOP, "examples")
+# the last line of the marks that may follow has one more: no sentence has `x x`
+FILES["manifest"], FILES["wider"] = ONE_SHARED, ONE_SHARED.replace(b"'x' : <end>", b"'x' : 'x' <end>")
+ONE_FILES = ["one.y", "one.l"]
 G1 = [os.path.join(EXAMPLES, "g1.y"), os.path.join(EXAMPLES, "l1.l")]
 C_EXPRESSIONS = [os.path.join(EXAMPLES, "cexpr.y"), os.path.join(EXAMPLES, "cexpr.l")]
 
@@ -402,6 +405,12 @@ ROWS = [
     (["member", *G1, "missing"], 3, b"", b"conform: read fault: text\n"),
     (["member", *G1], 2, b"", b"conform: usage: word 3\n"),
     (["member", "states.y", "states.l", "stops"], 1, b"", b"conform: lex: States above 16384\n"),
+    (["check", *ONE_FILES, "manifest"], 0, b"yes goals 5 negatives 2\n", b""),
+    (["check", *ONE_FILES, "wider"], 6, b"no line 20: Infeasible\n", b""),
+    (["check", *ONE_FILES, "one.l"], 6, b"no line 1: Form\n", b""),
+    (["check", *ONE_FILES, "missing"], 3, b"", b"conform: read fault: manifest\n"),
+    (["check", *ONE_FILES], 2, b"", b"conform: usage: word 3\n"),
+    (["check", "states.y", "states.l", "manifest"], 1, b"", b"conform: lex: States above 16384\n"),
     (["lexical", "one.y", "one.l"], 0, LEXICAL, b""),
     (["lexical", "states.y", "states.l"], 1, b"", b"conform: lex: States above 16384\n"),
     (["lexical", "g1.y", "g1.l", "--weigh=bytes"], 2, b"", b"conform: usage: word 3\n"),

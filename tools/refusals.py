@@ -92,6 +92,7 @@ SENTENCES = {
         "each of its rules takes."
     ),
     "text: Tokens": "The text has too many tokens: try a shorter one.",
+    "manifest: Length": "The manifest is too long: one that is checked has at most 67,108,864 bytes.",
     "chains: Limit Goals": (
         "The grammar has too many goals of three rules: leave rules out, or write those with many alternatives shorter."
     ),
@@ -99,6 +100,7 @@ SENTENCES = {
     "read fault: yacc": "The yacc file can't be read.",
     "read fault: lex": "The lex file can't be read.",
     "read fault: text": "The text can't be read.",
+    "read fault: manifest": "The manifest can't be read.",
     "write fault": (
         "The output can't be written: look whether the disk is full, or whether who reads it has ended."
     ),
@@ -106,3 +108,19 @@ SENTENCES = {
 }
 # Status 7 has no line.
 NO_WORDS = "The system didn't give the program its words: write the file's name in UTF-8."
+# What a line of a manifest lacks, by the fault that `check` names.
+FAULTS = {
+    "Form": "No such line may stand here, or it has another number than is due.",
+    "Head": "This isn't the yacc file's, or names what isn't there: check the suite beside the files that it is of.",
+    "Unclosed": "The closed lines are no closed sets: a name is missing in one of them.",
+    "Derive": "These rules derive nothing from the start symbol.",
+    "Size": "The case above has another size than this derivation.",
+    "Yield": "These aren't the tokens of the derivation, or of the edited base.",
+    "Scan": "The text doesn't scan to the tokens above it.",
+    "Goal": "This goal isn't due, goals before this line are missing, or what is said of its cases isn't so.",
+    "Infeasible": "The closed lines don't exclude this goal.",
+    "Base": "The goal isn't a feasible one above, or the base isn't the last one.",
+    "Edit": "The edit doesn't fit the base.",
+    "Pair": "The pair doesn't stand at this place, or the closed lines don't exclude it.",
+    "Totals": "The lines above are others in number: put the numbers right.",
+}

@@ -1,3 +1,4 @@
+pub mod Checked
 pub mod OneText
 pub mod Performing
 pub mod Scanned

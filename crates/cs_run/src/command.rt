@@ -5,6 +5,7 @@
 //! texts that a scanner is needed for). What `run` promises stands in `specs/Command/Headline` of `cs_run::ending`.
 
 mod chains;
+mod check;
 mod command;
 mod deep;
 mod endings;

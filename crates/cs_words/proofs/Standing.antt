@@ -5,7 +5,7 @@ use Rattle.std.specs.declared.alloc.Global.{Global}
 use Rattle.std.proofs.lemmas.Bool.{cases_lt}
 use Rattle.std.proofs.lemmas.List.{length-append, length-take-le}
 use Rattle.cs_words.specs.declared.command.Command.{Command}
-use Rattle.cs_words.specs.declared.command.Command.TheVariants.{Gen, Member, OfGrammar, OfPair}
+use Rattle.cs_words.specs.declared.command.Command.TheVariants.{Check, Gen, Member, OfGrammar, OfPair}
 use Rattle.cs_words.specs.declared.command.GrammarCommand.{GrammarCommand}
 use Rattle.cs_words.specs.declared.command.GrammarCommand.TheVariants as of_grammar
 use Rattle.cs_words.specs.declared.command.PairCommand.{PairCommand}
@@ -63,18 +63,27 @@ pub alike : (c d : Command) → command_word c ≡ command_word d → (c ≡ d) 
 alike (OfGrammar c) (OfGrammar d) same = inl (ap OfGrammar (one_grammar c d same))
 alike (OfGrammar c) (OfPair d) same = inr (inr (record { pair = d; grammar = c; is_pair = refl; is_grammar = refl; same = same }))
 alike (OfGrammar c) Member same = absurd (not_grammar c (codes "member") refl same)
+alike (OfGrammar c) Check same = absurd (not_grammar c (codes "check") refl same)
 alike (OfGrammar c) Gen same = absurd (not_grammar c (codes "gen") refl same)
 alike (OfPair c) (OfGrammar d) same = inr (inl (record { pair = c; grammar = d; is_pair = refl; is_grammar = refl; same = sym same }))
 alike (OfPair c) (OfPair d) same = inl (ap OfPair (one_pair c d same))
 alike (OfPair c) Member same = absurd (not_pair c (codes "member") refl same)
+alike (OfPair c) Check same = absurd (not_pair c (codes "check") refl same)
 alike (OfPair c) Gen same = absurd (not_pair c (codes "gen") refl same)
 alike Member (OfGrammar d) same = absurd (not_grammar d (codes "member") refl (sym same))
 alike Member (OfPair d) same = absurd (not_pair d (codes "member") refl (sym same))
 alike Member Member same = inl refl
+alike Member Check same = absurd (let both : true ≡ false = ap (λ word. bytes_eq word (codes "member")) same in cc)
 alike Member Gen same = absurd (let both : true ≡ false = ap (λ word. bytes_eq word (codes "member")) same in cc)
+alike Check (OfGrammar d) same = absurd (not_grammar d (codes "check") refl (sym same))
+alike Check (OfPair d) same = absurd (not_pair d (codes "check") refl (sym same))
+alike Check Member same = absurd (let both : true ≡ false = ap (λ word. bytes_eq word (codes "check")) same in cc)
+alike Check Check same = inl refl
+alike Check Gen same = absurd (let both : true ≡ false = ap (λ word. bytes_eq word (codes "check")) same in cc)
 alike Gen (OfGrammar d) same = absurd (not_grammar d (codes "gen") refl (sym same))
 alike Gen (OfPair d) same = absurd (not_pair d (codes "gen") refl (sym same))
 alike Gen Member same = absurd (let both : false ≡ true = ap (λ word. bytes_eq word (codes "member")) same in cc)
+alike Gen Check same = absurd (let both : false ≡ true = ap (λ word. bytes_eq word (codes "check")) same in cc)
 alike Gen Gen same = inl refl
 
 -- a command that takes a yacc file alone has no options

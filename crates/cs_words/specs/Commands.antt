@@ -1,13 +1,13 @@
 -- The commands: a row for each in these tables. Two may have one word, where one of them takes a lex file besides.
 use Rattle.std.specs.Prelude.{ℕ, Bool, true, false, List, [], ◌∷◌, codes, length}
 use Rattle.cs_words.specs.declared.command.Command.{Command}
-use Rattle.cs_words.specs.declared.command.Command.TheVariants.{Gen, Member, OfGrammar, OfPair}
+use Rattle.cs_words.specs.declared.command.Command.TheVariants.{Check, Gen, Member, OfGrammar, OfPair}
 use Rattle.cs_words.specs.declared.command.GrammarCommand.{GrammarCommand}
 use Rattle.cs_words.specs.declared.command.GrammarCommand.TheVariants as of_grammar
 use Rattle.cs_words.specs.declared.command.PairCommand.{PairCommand}
 use Rattle.cs_words.specs.declared.command.PairCommand.TheVariants as of_pair
 use Rattle.cs_words.specs.declared.command.Role.{Role}
-use Rattle.cs_words.specs.declared.command.Role.TheVariants.{Lex, Text, Yacc}
+use Rattle.cs_words.specs.declared.command.Role.TheVariants.{Lex, Manifest, Text, Yacc}
 use Rattle.cs_words.specs.declared.setting.Kind.{Kind}
 use Rattle.cs_words.specs.declared.setting.Kind.TheVariants as kinds
 
@@ -29,6 +29,7 @@ abbrev pub command_word : Command → List ℕ
 command_word (OfGrammar command) = grammar_word command
 command_word (OfPair command) = pair_word command
 command_word Member = codes "member"
+command_word Check = codes "check"
 command_word Gen = codes "gen"
 
 -- what a command takes behind its word: names of files, each of a role, or a seed
@@ -40,6 +41,7 @@ abbrev pub taken_of : Command → Taken
 taken_of (OfGrammar command) = Files (Yacc ∷ [])
 taken_of (OfPair command) = Files (Yacc ∷ Lex ∷ [])
 taken_of Member = Files (Yacc ∷ Lex ∷ Text ∷ [])
+taken_of Check = Files (Yacc ∷ Lex ∷ Manifest ∷ [])
 taken_of Gen = Seed
 
 -- how many words that are
@@ -73,3 +75,8 @@ abbrev pub lists_chains : Command → Bool
 lists_chains (OfGrammar of_grammar.Chains) = true
 lists_chains (OfPair of_pair.Chains) = true
 lists_chains command = false
+
+-- whether it takes the tokens of a text
+abbrev pub takes_tokens : Command → Bool
+takes_tokens Member = true
+takes_tokens command = false

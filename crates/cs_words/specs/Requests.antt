@@ -3,7 +3,7 @@ use Rattle.std.specs.Prelude.{◌≡◌, ℕ, List, [], ◌∷◌, ◌++◌, Res
 use Rattle.std.specs.declared.alloc.Global.{Global}
 use Rattle.cs_words.specs.declared.command.Command.{Command}
 use Rattle.cs_words.specs.declared.command.Role.{Role}
-use Rattle.cs_words.specs.declared.command.Role.TheVariants.{Lex, Text, Yacc}
+use Rattle.cs_words.specs.declared.command.Role.TheVariants.{Lex, Yacc}
 use Rattle.cs_words.specs.declared.options.Options.{Options}
 use Rattle.cs_words.specs.declared.request.Arguments.{Arguments}
 use Rattle.cs_words.specs.declared.request.Arguments.TheVariants as given
@@ -87,12 +87,12 @@ one_named yacc = yacc_named yacc ∷ []
 abbrev pub two_named : List ℕ → List ℕ → List Named
 two_named yacc lex = yacc_named yacc ∷ lex_named lex ∷ []
 
--- and a text
-abbrev pub text_named : List ℕ → Named
-text_named name = record { role = Text; name = name }
+-- and a third file
+abbrev pub third_named : Role → List ℕ → Named
+third_named role name = record { role = role; name = name }
 
-abbrev pub three_named : List ℕ → List ℕ → List ℕ → List Named
-three_named yacc lex text = yacc_named yacc ∷ lex_named lex ∷ text_named text ∷ []
+abbrev pub three_named : Role → List ℕ → List ℕ → List ℕ → List Named
+three_named role yacc lex third = yacc_named yacc ∷ lex_named lex ∷ third_named role third ∷ []
 
 -- ---- the same of what was read
 

@@ -7,7 +7,7 @@ use Rattle.cs_words.specs.declared.setting.Setting.{Setting}
 use Rattle.cs_words.specs.declared.setting.Setting.TheVariants.{Cover, Mutate, Bases, Separate, Weigh, Format, Slip, First}
 use Rattle.cs_words.specs.Options.{AreNew, IsNewOption, default_options}
 use Rattle.cs_words.specs.Values.{IsSeed, SpellsByte, SpellsSeed}
-use Rattle.cs_words.specs.declared.command.Command.TheVariants.{Gen, Member, OfGrammar, OfPair}
+use Rattle.cs_words.specs.declared.command.Command.TheVariants.{Check, Gen, Member, OfGrammar, OfPair}
 use Rattle.cs_words.specs.declared.command.GrammarCommand.{GrammarCommand}
 use Rattle.cs_words.specs.declared.command.PairCommand.{PairCommand}
 use Rattle.cs_words.specs.Commands.{Taken, grammar_word, pair_word, taken_count, taken_of}
@@ -78,6 +78,7 @@ abbrev pub IsChosenBy : Bool → Command → Type 0
 IsChosenBy long (OfGrammar command) = (other : PairCommand) → grammar_word command ≡ pair_word other → long ≡ false
 IsChosenBy long (OfPair command) = (other : GrammarCommand) → grammar_word other ≡ pair_word command → long ≡ true
 IsChosenBy long Member = Unit {0}
+IsChosenBy long Check = Unit {0}
 IsChosenBy long Gen = Unit {0}
 
 -- by the words behind its own

@@ -18,6 +18,8 @@ pub enum Command {
     OfPair(PairCommand),
     /// A yacc file, a lex file and a text: whether it is a sentence, with a derivation.
     Member,
+    /// A yacc file, a lex file and a manifest: whether it holds what it claims.
+    Check,
     /// A number: the summary of the two files that it stands for.
     Gen,
 }
@@ -55,6 +57,8 @@ pub enum Role {
     Lex,
     /// A text that is to be scanned.
     Text,
+    /// A manifest that is to be checked.
+    Manifest,
 }
 
 impl GrammarCommand {
@@ -139,6 +143,9 @@ impl Command {
         if word == "member" {
             return Some(Command::Member);
         }
+        if word == "check" {
+            return Some(Command::Check);
+        }
         if word == "gen" {
             return Some(Command::Gen);
         }
@@ -154,6 +161,7 @@ impl Command {
             Command::OfGrammar(_) => Some(&[Role::Yacc]),
             Command::OfPair(_) => Some(&[Role::Yacc, Role::Lex]),
             Command::Member => Some(&[Role::Yacc, Role::Lex, Role::Text]),
+            Command::Check => Some(&[Role::Yacc, Role::Lex, Role::Manifest]),
             Command::Gen => None,
         }
     }
@@ -164,7 +172,7 @@ impl Command {
     {
         match self {
             Command::OfPair(command) => command.may_have(kind),
-            Command::OfGrammar(_) | Command::Member | Command::Gen => false,
+            Command::OfGrammar(_) | Command::Member | Command::Check | Command::Gen => false,
         }
     }
 }

@@ -2,6 +2,8 @@
 //! this crate.
 
 #[cfg(test)]
+mod checks;
+#[cfg(test)]
 mod inputs;
 #[cfg(test)]
 mod reports;

@@ -9,6 +9,7 @@ use Rattle.cs_lex.specs.Reading.Reading.{IsLexFile}
 use Rattle.cs_lex.proofs.OnReading.OneFile as lex_files
 use Rattle.cs_manifest.specs.declared.manifest.counts.Counts.{Counts}
 use Rattle.cs_chain_text.specs.Text.{IsChainsText}
+use Rattle.cs_check_text.specs.Text.{IsCheckText}
 use Rattle.cs_choices.specs.declared.weigh.Weigh.{Weigh}
 use Rattle.cs_choices.specs.declared.weigh.Weigh.TheVariants.{Nodes}
 use Rattle.cs_choices.specs.declared.slips.Slips.{Slips}
@@ -20,7 +21,7 @@ use Rattle.cs_wrong.specs.Text.{IsWrongText}
 use Rattle.cs_scanner.specs.Scan.Scan.{Scanning}
 use Rattle.cs_manifest.specs.Manifest.Manifest.{Choice, IsManifest, rules_form}
 use Rattle.cs_words.specs.declared.command.Command.{Command}
-use Rattle.cs_words.specs.declared.command.Command.TheVariants.{Gen, Member, OfGrammar, OfPair}
+use Rattle.cs_words.specs.declared.command.Command.TheVariants.{Check, Gen, Member, OfGrammar, OfPair}
 use Rattle.cs_words.specs.declared.command.GrammarCommand.{GrammarCommand}
 use Rattle.cs_words.specs.declared.command.GrammarCommand.TheVariants as of_grammar
 use Rattle.cs_words.specs.declared.command.PairCommand.{PairCommand}
@@ -44,7 +45,8 @@ module _ (one : (choice : Choice) (file : yacc.File) → AtMostOne (IsManifest c
     (one_spelled : (file : yacc.File) (texts : Texts) (weigh : Weigh) → AtMostOne (IsSpelling file texts weigh))
     (one_deep_text : (choice : Choice) (file : yacc.File) → AtMostOne (IsDeepText choice file))
     (one_chains : (file : yacc.File) (texts : Option Texts) (weigh : Weigh) → AtMostOne (IsChainsText file texts weigh))
-    (one_wrong : (file : yacc.File) (chosen : Slips) (texts : Option Texts) (weigh : Weigh) → AtMostOne (IsWrongText file texts weigh chosen)) where
+    (one_wrong : (file : yacc.File) (chosen : Slips) (texts : Option Texts) (weigh : Weigh) → AtMostOne (IsWrongText file texts weigh chosen))
+    (one_checked : (file : yacc.File) (s : Scanning) (manifest : List ℕ) → AtMostOne (IsCheckText file s manifest)) where
   one_suite : (options : Options) (bytes more a b : List ℕ) → IsSuiteText options a bytes more → IsSuiteText options b bytes more → a ≡ b
   unfolding IsSuiteText
   one_suite options bytes more a b x y =
@@ -86,6 +88,10 @@ module _ (one : (choice : Choice) (file : yacc.File) → AtMostOne (IsManifest c
   one_by Member arguments options (Grammar file) other a b x y = absurd x
   one_by Member arguments options (Pair two) other a b x y = absurd x
   one_by Member arguments options (Text beside) other a b x y = absurd (other refl)
+  one_by Check arguments options Nothing other a b x y = absurd x
+  one_by Check arguments options (Grammar file) other a b x y = absurd x
+  one_by Check arguments options (Pair two) other a b x y = absurd x
+  one_by Check arguments options (Text beside) other a b x y = one_checked beside.pair.yacc (scanning_of beside.pair.lex) beside.text a b x y
   one_by Gen (Names names) options Nothing other a b x y = absurd x
   one_by Gen (Number number) options Nothing other a b x y = one_summary number a b x y
   one_by Gen (Names names) options (Grammar file) other a b x y = absurd x

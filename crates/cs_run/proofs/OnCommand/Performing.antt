@@ -16,19 +16,19 @@ use Rattle.cs_run.specs.Input.Read.{AreMeant}
 use Rattle.cs_run.specs.Input.Refusal.{HasManyStates, Stops}
 use Rattle.cs_yacc.specs.Reading.File.{File}
 use Rattle.cs_words.specs.declared.command.Command.{Command}
-use Rattle.cs_words.specs.declared.command.Command.TheVariants.{Gen, Member, OfGrammar, OfPair}
+use Rattle.cs_words.specs.declared.command.Command.TheVariants.{Check, Gen, Member, OfGrammar, OfPair}
 use Rattle.cs_words.specs.declared.command.GrammarCommand.{GrammarCommand}
 use Rattle.cs_words.specs.declared.command.GrammarCommand.TheVariants as of_grammar
 use Rattle.cs_words.specs.declared.command.PairCommand.{PairCommand}
 use Rattle.cs_words.specs.declared.command.PairCommand.TheVariants as of_pair
 use Rattle.cs_words.specs.declared.command.Role.{Role}
-use Rattle.cs_words.specs.declared.command.Role.TheVariants.{Lex, Text as TextRole, Yacc}
+use Rattle.cs_words.specs.declared.command.Role.TheVariants.{Lex, Manifest, Text as TextRole, Yacc}
 use Rattle.cs_words.specs.declared.options.Options.{Options}
 use Rattle.cs_words.specs.Commands.{lists_chains, taken_of}
 use Rattle.cs_words.specs.Requests.{IsAsked, Named, Names, Number, PlainArguments, PlainRequest, files_of}
 use Rattle.cs_words.proofs.OneRequest.{one_asked}
 use Rattle.cs_run.specs.declared.ending.ending.Ending.{Ending}
-use Rattle.cs_run.specs.declared.ending.ending.Ending.TheVariants.{BadWord, Written, Refused, NoFile, NotWritten, NoMemory}
+use Rattle.cs_run.specs.declared.ending.ending.Ending.TheVariants.{BadWord, Denied, Written, Refused, NoFile, NotWritten, NoMemory}
 use Rattle.cs_run.specs.Ending.Ending.{Ends, GrewAsAsked, Performs}
 use Rattle.cs_run.specs.Ending.Files.{Accepted, HasFewChains, IsBeyond, IsWithin, RefusesFor, scanning_of}
 use Rattle.cs_chain.specs.Chains.Chains.{chains}
@@ -38,10 +38,10 @@ use Rattle.cs_grammar.specs.Grammar.{PlainGrammar}
 use Rattle.cs_scanner.specs.Scan.Scan.{Scans}
 use Rattle.cs_deep.specs.Membership.{GrewByFront, IsMemberText}
 use Rattle.cs_run.specs.Ending.Summary.{IsSummary}
-use Rattle.cs_run.specs.Ending.Texts.{IsTextBy, IsTextOf, IsTextOfPair}
+use Rattle.cs_run.specs.Ending.Texts.{Denies, IsTextBy, IsTextOf, IsTextOfPair, NoneDenies}
 use Rattle.cs_run.specs.Writer.Suite.{IsRules, IsSuite}
 use Rattle.cs_io.specs.Asked.{GrewByPart, HasRoomForAll}
-use Rattle.cs_run.specs.Command.Carrying.{CarriesOut, GrewByEach, HasTooManyChains, HasTooManyStates, TakesGrammar, TakesPair, Writes, WritesBy, WritesByPair, WritesOfGrammar, WritesOfPair, WritesSure, WritingEnds}
+use Rattle.cs_run.specs.Command.Carrying.{CarriesOut, GrewByEach, HasTooManyChains, HasTooManyStates, TakesGrammar, TakesPair, TakesThird, Writes, WritesBy, WritesByPair, WritesOfGrammar, WritesOfPair, WritesSure, WritingEnds}
 use Rattle.cs_run.specs.Command.Words.{AskForNoFiles, PerformsFor, ending_of, ending_of_suite}
 use Rattle.cs_run.specs.declared.writer.halt.SuiteHalt.{SuiteHalt}
 use Rattle.cs_run.specs.declared.writer.halt.SuiteHalt.TheVariants as suite
@@ -57,8 +57,9 @@ IsSteady desk = IsTrue desk.steady → desk.faults.after ≡ desk.faults.before
 -- ---- files that are given
 
 module _ (request : PlainRequest) (contents : List Content) (desk : DeskUse) (out : SinkUse) (are : AreContents desk.files (files_of request) contents) where
-  ends_so : (ending : Ending) → WritingEnds (Accepted request.command contents) (λ refusal. RefusesFor request.command refusal contents) (IsTextOf request contents) (GrewAsAsked request.command (IsTextOf request contents)) ending out → Ends ending (Ok request) desk out
-  ends_so Written ends = ((ends.1.0, (contents, are, ends.1.1), ends.1.2), ends.2)
+  ends_so : (ending : Ending) → WritingEnds (Accepted request.command contents) (λ refusal. RefusesFor request.command refusal contents) (IsTextOf request contents) (GrewAsAsked request.command (IsTextOf request contents)) (Denies request.command) ending out → Ends ending (Ok request) desk out
+  ends_so Written ends = ((ends.1.0, (contents, are, ends.1.1.0), ends.1.1.1, ends.1.2), ends.2)
+  ends_so Denied ends = ((ends.1.0, (contents, are, ends.1.1.0), ends.1.1.1, ends.1.2), ends.2)
   ends_so (Refused refusal) ends = ((contents, are, ends.0), ends.1)
   ends_so NotWritten ends = ((contents, are, (ends.0, ends.1)), ends.2)
   ends_so NoMemory (inl unused) = inl unused
@@ -101,10 +102,11 @@ stopped_so request why desk out ending same stops failed steady unused = record 
 
 -- ---- one text for another
 
-module _ (accepted also : Type 0) (refused refuses : Refusal → Type 0) (Is Are : List ℕ → Type 0) (Part Parts : SinkUse → Type 0) (out : SinkUse)
+module _ (accepted also : Type 0) (refused refuses : Refusal → Type 0) (Is Are : List ℕ → Type 0) (Part Parts : SinkUse → Type 0) (No : List ℕ → Type 0) (out : SinkUse)
     (to : accepted → also) (so : (refusal : Refusal) → refused refusal → refuses refusal) (there : accepted → (text : List ℕ) → Is text → Are text) (parts : accepted → Part out → Parts out) where
-  ends_more : (e : Ending) → WritingEnds accepted refused Is Part e out → WritingEnds also refuses Are Parts e out
-  ends_more Written ends = (to ends.0, (ends.1.0, there ends.0 ends.1.0 ends.1.1, ends.1.2), ends.2)
+  ends_more : (e : Ending) → WritingEnds accepted refused Is Part No e out → WritingEnds also refuses Are Parts No e out
+  ends_more Written ends = (to ends.0, (ends.1.0, (there ends.0 ends.1.0 ends.1.1.0, ends.1.1.1), ends.1.2), ends.2)
+  ends_more Denied ends = (to ends.0, (ends.1.0, (there ends.0 ends.1.0 ends.1.1.0, ends.1.1.1), ends.1.2), ends.2)
   ends_more (Refused refusal) ends = (so refusal ends.0, ends.1)
   ends_more NotWritten ends = (to ends.0, parts ends.0 ends.1, ends.2)
   ends_more NoMemory (inl unused) = inl unused
@@ -112,8 +114,9 @@ module _ (accepted also : Type 0) (refused refuses : Refusal → Type 0) (Is Are
   ends_more (BadWord at) ends = ends
   ends_more (NoFile role) ends = ends
 
-  room_more : (e : Ending) → WritingEnds accepted refused Is Part e out → (HasRoomForAll Is out.room → out.faults.after ≡ out.faults.before) → HasRoomForAll Are out.room → out.faults.after ≡ out.faults.before
+  room_more : (e : Ending) → WritingEnds accepted refused Is Part No e out → (HasRoomForAll Is out.room → out.faults.after ≡ out.faults.before) → HasRoomForAll Are out.room → out.faults.after ≡ out.faults.before
   room_more Written ends room fits = ends.2
+  room_more Denied ends room fits = ends.2
   room_more (Refused refusal) ends room fits = ends.1.1
   room_more NotWritten ends room fits = room (λ text is. fits text (there ends.0 text is))
   room_more NoMemory (inl unused) room fits = unused.1
@@ -121,7 +124,7 @@ module _ (accepted also : Type 0) (refused refuses : Refusal → Type 0) (Is Are
   room_more (BadWord at) ends room fits = absurd ends
   room_more (NoFile role) ends room fits = absurd ends
 
-  writes_more : (e : Ending) → Writes accepted refused Is Part e out → Writes also refuses Are Parts e out
+  writes_more : (e : Ending) → Writes accepted refused Is Part No e out → Writes also refuses Are Parts No e out
   writes_more e writes = record { ends = ends_more e writes.ends; room = room_more e writes.ends writes.room }
 
 -- a part of one text is a part of the other
@@ -130,6 +133,7 @@ part_more Member Is Are out there back (inl same) = inl same
 part_more Member Is Are out there back (inr (text, is, part)) = inr (text, there text is, part)
 part_more (OfGrammar c) Is Are out there back part = λ text is. part text (back text is)
 part_more (OfPair c) Is Are out there back part = λ text is. part text (back text is)
+part_more Check Is Are out there back part = λ text is. part text (back text is)
 part_more Gen Is Are out there back part = λ text is. part text (back text is)
 
 -- ---- by what contents mean
@@ -138,7 +142,7 @@ part_more Gen Is Are out there back part = λ text is. part text (back text is)
 pub carried : (request : PlainRequest) (meant : Meant) (ending : Ending) (out : SinkUse) → WritesBy request.command request.arguments request.options meant ending out → CarriesOut request meant ending out
 carried request meant ending out writes contents mean =
     writes_more (IsWithin meant request.command) (Accepted request.command contents) (λ refusal. IsBeyond meant refusal request.command) (λ refusal. RefusesFor request.command refusal contents)
-    Is Are (GrewAsAsked request.command Is) (GrewAsAsked request.command Are) out
+    Is Are (GrewAsAsked request.command Is) (GrewAsAsked request.command Are) (Denies request.command) out
     (λ within. (meant, mean, within)) (λ refusal beyond. inr (meant, mean, beyond)) there (λ within part. part_more request.command Is Are out (there within) back part) ending writes
   where
     Is : List ℕ → Type 0
@@ -157,15 +161,15 @@ carried request meant ending out writes contents mean =
 
 module _ (ending : Ending) (out : SinkUse) where
   -- where there is a text in any case
-  sure_row : (within : Type 0) (beyond : Refusal → Type 0) (Is : List ℕ → Type 0) → within → WritesSure Is ending out → Writes within beyond Is (GrewByEach Is) ending out
+  sure_row : (within : Type 0) (beyond : Refusal → Type 0) (Is : List ℕ → Type 0) → within → WritesSure Is ending out → Writes within beyond Is (GrewByEach Is) NoneDenies ending out
   sure_row within beyond Is is writes =
-      writes_more (Unit {0}) within (λ refusal. ⊥) beyond Is Is (GrewByEach Is) (GrewByEach Is) out (λ yes. is) (λ refusal none. absurd none) (λ yes text has. has) (λ yes part. part) ending writes
+      writes_more (Unit {0}) within (λ refusal. ⊥) beyond Is Is (GrewByEach Is) (GrewByEach Is) NoneDenies out (λ yes. is) (λ refusal none. absurd none) (λ yes text has. has) (λ yes part. part) ending writes
 
   -- where there is one unless the automaton has too many states
   pair_row : (within : Type 0) (beyond : Refusal → Type 0) (Is : List ℕ → Type 0) (two : pair.Pair) → ((¬ HasManyStates two.lex) → within) → (HasManyStates two.lex → beyond States)
-      → WritesOfPair two Is ending out → Writes within beyond Is (GrewByEach Is) ending out
+      → WritesOfPair two Is ending out → Writes within beyond Is (GrewByEach Is) NoneDenies ending out
   pair_row within beyond Is two few many writes =
-      writes_more (¬ HasManyStates two.lex) within (HasTooManyStates two) beyond Is Is (GrewByEach Is) (GrewByEach Is) out
+      writes_more (¬ HasManyStates two.lex) within (HasTooManyStates two) beyond Is Is (GrewByEach Is) (GrewByEach Is) NoneDenies out
       few (λ refusal why. subst beyond (sym why.0) (many why.1)) (λ yes text has. has) (λ yes part. part) ending writes
 
   -- a command that doesn't list chains is beyond no limit of them
@@ -215,14 +219,14 @@ module _ (ending : Ending) (out : SinkUse) where
     pub listed_so : (Is : List ℕ → Type 0) → WritesChains g Is ending out → WritesOfGrammar c g Is ending out
     listed_so Is writes =
         writes_more (length (chains g) ≤ 1000000) (HasFewChains c g) (λ refusal. (refusal ≡ ManyChains (length (chains g))) × (1000000 < length (chains g))) (HasTooManyChains c g) Is Is
-        (GrewByEach Is) (GrewByEach Is) out few_chains many_chains (λ few text has. has) (λ few part. part) ending writes
+        (GrewByEach Is) (GrewByEach Is) NoneDenies out few_chains many_chains (λ few text has. has) (λ few part. part) ending writes
 
   pub chains_so : (c : Command) (arguments : PlainArguments) (options : Options) (file : File) → c ≡ OfGrammar of_grammar.Chains → WritesChains file.grammar (IsChainsText file None Nodes) ending out
       → WritesBy c arguments options (Grammar file) ending out
   chains_so c arguments options file is writes =
       subst (λ (d : Command). WritesBy d arguments options (Grammar file) ending out) (sym is)
       (writes_more (HasFewChains listing file.grammar) (IsWithin (Grammar file) listing) (HasTooManyChains listing file.grammar) (λ refusal. IsBeyond (Grammar file) refusal listing)
-      (IsChainsText file None Nodes) (IsTextBy listing arguments options (Grammar file)) (GrewByEach (IsChainsText file None Nodes)) (GrewByEach (IsChainsText file None Nodes)) out
+      (IsChainsText file None Nodes) (IsTextBy listing arguments options (Grammar file)) (GrewByEach (IsChainsText file None Nodes)) (GrewByEach (IsChainsText file None Nodes)) NoneDenies out
       (λ few. few) (λ refusal why. subst (λ (r : Refusal). IsBeyond (Grammar file) r listing) (sym why.1) why.2) (λ few text has. has) (λ few part. part) ending
       (listed_so listing file.grammar refl (IsChainsText file None Nodes) writes))
     where
@@ -236,24 +240,20 @@ module _ (ending : Ending) (out : SinkUse) where
       → WritesByPair (OfPair command) options two ending out
   scanned_so command options two few writes = λ arguments.
       writes_more (HasFewChains (OfPair command) two.yacc.grammar) (IsWithin (Pair two) (OfPair command)) (HasTooManyChains (OfPair command) two.yacc.grammar)
-      (λ refusal. IsBeyond (Pair two) refusal (OfPair command)) Is Is (GrewByEach Is) (GrewByEach Is) out (λ listed. (few, listed))
+      (λ refusal. IsBeyond (Pair two) refusal (OfPair command)) Is Is (GrewByEach Is) (GrewByEach Is) NoneDenies out (λ listed. (few, listed))
       (λ refusal why. subst (λ (r : Refusal). IsBeyond (Pair two) r (OfPair command)) (sym why.1) (few, why.2)) (λ listed text has. has) (λ listed part. part) ending writes
     where
       Is : List ℕ → Type 0
       Is text = IsTextOfPair command options two.yacc (scanning_of two.lex) text
-
-module _ (ending : Ending) (out : SinkUse) where
-  pub text_so : (c : Command) (arguments : PlainArguments) (options : Options) (beside : PairAndText) → c ≡ Member → WritesMembership beside ending out → WritesBy c arguments options (Text beside) ending out
-  text_so c arguments options beside is writes = subst (λ (d : Command). WritesBy d arguments options (Text beside) ending out) (sym is) (writes arguments options)
 
 -- what is written of the tokens that a text scans to is written of the text
 pub tokens_so : (beside : PairAndText) (tokens : List ℕ) (ending : Ending) (out : SinkUse) → ¬ HasManyStates beside.pair.lex → Scans (scanning_of beside.pair.lex) beside.text tokens
     → WritesTokens beside.pair.yacc.grammar tokens ending out → WritesMembership beside ending out
 tokens_so beside tokens ending out few scans writes arguments options =
     writes_more (length tokens ≤ 2000) (IsWithin (Text beside) Member) (λ refusal. (refusal ≡ TextTokens (length tokens)) × (2000 < length tokens)) (λ refusal. IsBeyond (Text beside) refusal Member)
-    Is Are (λ sink. GrewByFront Is sink.written.before sink.written.after) (GrewAsAsked Member Are) out
-    (λ short. (few, (length tokens, (tokens, scans, refl), short)))
-    (λ refusal why. subst (λ (r : Refusal). IsBeyond (Text beside) r Member) (sym why.0) (few, (tokens, scans, refl), why.1))
+    Is Are (λ sink. GrewByFront Is sink.written.before sink.written.after) (GrewAsAsked Member Are) NoneDenies out
+    (λ short. (few, (λ takes. (length tokens, (tokens, scans, refl), short))))
+    (λ refusal why. subst (λ (r : Refusal). IsBeyond (Text beside) r Member) (sym why.0) (few, refl, (tokens, scans, refl), why.1))
     (λ short text is. (tokens, scans, is)) (λ short part. fronts part) ending writes
   where
     Is : List ℕ → Type 0
@@ -267,15 +267,16 @@ tokens_so beside tokens ending out few scans writes arguments options =
     fronts (inr (text, is, part)) = inr (text, (tokens, scans, is), part)
 
 -- a text that was read is no longer than it may be
-pub text_short : (files : Option Files) (named : List Named) (meant : Meant) → AreMeant files named meant → (beside : PairAndText) → meant ≡ Text beside → length beside.text < 2 ^ 32
+pub text_short : (files : Option Files) (named : List Named) (meant : Meant) → AreMeant files named meant → (beside : PairAndText) → meant ≡ Text beside → length beside.text ≤ 67108864
 text_short files named meant read beside is = by_contents read.0 (subst (λ (m : Meant). Mean read.0 m) is read.2)
   where
-    at_most : (role : Role) → most_for role ≤ 1048576
+    at_most : (role : Role) → most_for role ≤ 67108864
     at_most Yacc = omega arith
     at_most Lex = omega arith
     at_most TextRole = omega arith
+    at_most Manifest = omega arith
 
-    by_contents : (contents : List Content) → Mean contents (Text beside) → length beside.text < 2 ^ 32
+    by_contents : (contents : List Content) → Mean contents (Text beside) → length beside.text ≤ 67108864
     by_contents [] mean = absurd mean
     by_contents (one ∷ []) mean = absurd mean
     by_contents (one ∷ other ∷ []) mean = absurd mean
@@ -289,7 +290,7 @@ unused_or written faults old new (inr other) = inr other
 
 -- how the writing of a suite ended
 abbrev SuiteEnds : pair.Pair → (List ℕ → Type 0) → SinkUse → Ending → Type 0
-SuiteEnds p Is out ending = WritingEnds (¬ HasManyStates p.lex) (HasTooManyStates p) Is (GrewByEach Is) ending out
+SuiteEnds p Is out ending = WritingEnds (¬ HasManyStates p.lex) (HasTooManyStates p) Is (GrewByEach Is) NoneDenies ending out
 
 -- a writer of a suite that halted
 pub unsuited_so : (p : pair.Pair) (Is : List ℕ → Type 0) (ending : Ending) (why : SuiteHalt) (out : SinkUse) → ending ≡ ending_of_suite why → GrewByEach Is out
@@ -333,6 +334,8 @@ takes_grammar c arguments meant file is form = by_row c arguments (subst (λ (m 
     by_row (OfPair command) (Number number) form = absurd form
     by_row Member (Names names) form = absurd form
     by_row Member (Number number) form = absurd form
+    by_row Check (Names names) form = absurd form
+    by_row Check (Number number) form = absurd form
     by_row Gen (Names names) form = absurd form
     by_row Gen (Number number) form = absurd form
 
@@ -346,19 +349,22 @@ takes_pair c arguments meant two is form = by_row c arguments (subst (λ (m : Me
     by_row (OfPair command) arguments form = refl
     by_row Member (Names names) form = absurd form
     by_row Member (Number number) form = absurd form
+    by_row Check (Names names) form = absurd form
+    by_row Check (Number number) form = absurd form
     by_row Gen (Names names) form = absurd form
     by_row Gen (Number number) form = absurd form
 
--- and both and a text to one that takes three
-pub takes_text : (c : Command) (arguments : PlainArguments) (meant : Meant) (beside : PairAndText) → meant ≡ Text beside → IsMeantFor (taken_of c) arguments meant → c ≡ Member
-takes_text c arguments meant beside is form = by_row c arguments (subst (λ (m : Meant). IsMeantFor (taken_of c) arguments m) is form)
+-- and both and a third file to one that takes three
+pub takes_third : (c : Command) (arguments : PlainArguments) (meant : Meant) (beside : PairAndText) → meant ≡ Text beside → IsMeantFor (taken_of c) arguments meant → TakesThird c
+takes_third c arguments meant beside is form = by_row c arguments (subst (λ (m : Meant). IsMeantFor (taken_of c) arguments m) is form)
   where
-    by_row : (c : Command) (arguments : PlainArguments) → IsMeantFor (taken_of c) arguments (Text beside) → c ≡ Member
+    by_row : (c : Command) (arguments : PlainArguments) → IsMeantFor (taken_of c) arguments (Text beside) → TakesThird c
     by_row (OfGrammar command) (Names names) form = absurd form
     by_row (OfGrammar command) (Number number) form = absurd form
     by_row (OfPair command) (Names names) form = absurd form
     by_row (OfPair command) (Number number) form = absurd form
     by_row Member arguments form = refl
+    by_row Check arguments form = refl
     by_row Gen (Names names) form = absurd form
     by_row Gen (Number number) form = absurd form
 
@@ -373,6 +379,8 @@ takes_seed c arguments meant is form = by_row c arguments (subst (λ (m : Meant)
     by_row (OfPair command) (Number number) form = absurd form
     by_row Member (Names names) form = absurd form
     by_row Member (Number number) form = absurd form
+    by_row Check (Names names) form = absurd form
+    by_row Check (Number number) form = absurd form
     by_row Gen (Names names) form = absurd form
     by_row Gen (Number number) form = (refl, (number, refl))
 

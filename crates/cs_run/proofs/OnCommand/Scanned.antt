@@ -20,6 +20,7 @@ use Rattle.cs_run.specs.Command.Carrying.{GrewByEach, HasTooManyChains, Writes, 
 use Rattle.cs_words.specs.Commands.{lists_chains}
 use Rattle.cs_run.specs.Command.Words.{ending_after, ending_by}
 use Rattle.cs_run.specs.Ending.Files.{HasFewChains, scanning_of}
+use Rattle.cs_run.specs.Ending.Texts.{NoneDenies}
 use Rattle.cs_scanner.specs.Scan.Scan.{Gives, Runs, Scanning, ends, given, goes_on, stops}
 use Rattle.cs_scanner.specs.declared.automaton.error.AutomatonError.{AutomatonError}
 use Rattle.cs_scanner.specs.declared.automaton.error.AutomatonError.TheVariants as automaton
@@ -40,13 +41,13 @@ same_scanning p k l file patterns kinds literals =
 pub ended_so : (accepted : Type 0) (refused : Refusal → Type 0) (Is : List ℕ → Type 0) (Part : SinkUse → Type 0) (outcome : Result Unit Halt) (ending : Ending) (out : SinkUse)
     → accepted → ending ≡ ending_after outcome → OnOk outcome (GrewByOne Is out.written.before out.written.after) → OnErr outcome (Part out)
     → OnOk outcome (out.faults.after ≡ out.faults.before) → (Stopped Failed outcome → HasFailed out.faults) → (HasRoomForAll Is out.room → out.faults.after ≡ out.faults.before)
-    → Writes accepted refused Is Part ending out
+    → Writes accepted refused Is Part NoneDenies ending out
 ended_so accepted refused Is Part (Ok done) ending out within same whole part calm failed room =
-    subst (λ (e : Ending). Writes accepted refused Is Part e out) (sym same) (record { ends = (within, whole, calm); room = room })
+    subst (λ (e : Ending). Writes accepted refused Is Part NoneDenies e out) (sym same) (record { ends = (within, (whole.0, (whole.1, λ none. none), whole.2), calm); room = room })
 ended_so accepted refused Is Part (Err Failed) ending out within same whole part calm failed room =
-    subst (λ (e : Ending). Writes accepted refused Is Part e out) (sym same) (record { ends = (within, part, failed refl); room = room })
+    subst (λ (e : Ending). Writes accepted refused Is Part NoneDenies e out) (sym same) (record { ends = (within, part, failed refl); room = room })
 ended_so accepted refused Is Part (Err Memory) ending out within same whole part calm failed room =
-    subst (λ (e : Ending). Writes accepted refused Is Part e out) (sym same) (record { ends = inr (within, part); room = room })
+    subst (λ (e : Ending). Writes accepted refused Is Part NoneDenies e out) (sym same) (record { ends = inr (within, part); room = room })
 
 -- the text that there is in any case was written, or its writing stopped
 pub ended_sure : (Is : List ℕ → Type 0) (outcome : Result Unit Halt) (ending : Ending) (out : SinkUse)
@@ -64,12 +65,12 @@ ended_of c g none Is outcome ending out same whole part calm failed room =
     ended_so (HasFewChains c g) (HasTooManyChains c g) Is (GrewByEach Is) outcome ending out (λ lists. absurd (let both : true ≡ false = sym lists ∙ none in cc)) same whole part calm failed room
 
 -- there is no automaton
-pub unmade_so : (accepted : Type 0) (refused : Refusal → Type 0) (Is : List ℕ → Type 0) (Part : SinkUse → Type 0) (error : AutomatonError) (ending : Ending) (out : SinkUse)
-    → ending ≡ ending_by error → IsUnused out → ((most : ℕ) → error ≡ automaton.TooManyStates most → refused States) → Writes accepted refused Is Part ending out
-unmade_so accepted refused Is Part (automaton.TooManyStates most) ending out same unused many =
-    subst (λ (e : Ending). Writes accepted refused Is Part e out) (sym same) (record { ends = (many most refl, unused); room = λ fits. unused.1 })
-unmade_so accepted refused Is Part automaton.Memory ending out same unused many =
-    subst (λ (e : Ending). Writes accepted refused Is Part e out) (sym same) (record { ends = inl unused; room = λ fits. unused.1 })
+pub unmade_so : (accepted : Type 0) (refused : Refusal → Type 0) (Is : List ℕ → Type 0) (Part : SinkUse → Type 0) (No : List ℕ → Type 0) (error : AutomatonError) (ending : Ending) (out : SinkUse)
+    → ending ≡ ending_by error → IsUnused out → ((most : ℕ) → error ≡ automaton.TooManyStates most → refused States) → Writes accepted refused Is Part No ending out
+unmade_so accepted refused Is Part No (automaton.TooManyStates most) ending out same unused many =
+    subst (λ (e : Ending). Writes accepted refused Is Part No e out) (sym same) (record { ends = (many most refl, unused); room = λ fits. unused.1 })
+unmade_so accepted refused Is Part No automaton.Memory ending out same unused many =
+    subst (λ (e : Ending). Writes accepted refused Is Part No e out) (sym same) (record { ends = inl unused; room = λ fits. unused.1 })
 
 -- ---- tokens that a scan gives
 

@@ -1,14 +1,17 @@
 -- Files that are asked for are accepted or refused, not both; and they are there.
 use Rattle.std.proofs.Common.{◌≡◌, ◌⊎◌, ◌<◌, ℕ, List, [], ◌∷◌, Option, None, Some, Result, Ok, Err, IsOkAnd, length, true, refl, sym, ap, ◌∙◌, subst, inl, inr, arith}
 use Rattle.std.specs.Prelude.{IsSome}
+use Rattle.cs_check_text.proofs.OneText.{one_text}
 use Rattle.cs_io.specs.Desk.{Files}
 use Rattle.cs_io.specs.Uses.{Change, HasFailed}
 use Rattle.cs_yacc.specs.Reading.File as yacc_file
 use Rattle.cs_yacc.proofs.OnReading.OneFile as yacc
 use Rattle.cs_lex.proofs.OnReading.OneRefusal as lex_refusal
 use Rattle.cs_words.specs.declared.command.Command.{Command}
+use Rattle.cs_words.specs.declared.command.Command.TheVariants.{Check, Gen, Member, OfGrammar, OfPair}
 use Rattle.cs_words.specs.declared.command.Role.{Role}
-use Rattle.cs_words.specs.Requests.{Named, PlainRequest, files_of}
+use Rattle.cs_words.specs.declared.options.Options.{Options}
+use Rattle.cs_words.specs.Requests.{Named, PlainArguments, PlainRequest, files_of}
 use Rattle.cs_run.specs.declared.input.judging.Meant.{Meant}
 use Rattle.cs_run.specs.declared.input.judging.Meant.TheVariants.{Grammar, Nothing, Pair, Text}
 use Rattle.cs_run.specs.declared.input.judging.PairAndText.{PairAndText}
@@ -19,7 +22,7 @@ use Rattle.cs_run.specs.Input.Files.{AreContents, Content, HasNoFile, HaveConten
 use Rattle.cs_run.specs.Input.Refusal.{AreShort, IsFirstLong, Refuses}
 use Rattle.cs_grammar.specs.Grammar.{PlainGrammar}
 use Rattle.cs_run.specs.Ending.Files.{Accepted, AreAccepted, AreRefused, HasFewChains, HasFewTokens, HasManyChains, HasNoFileFor, HasTokens, IsBeyond, IsWithin, RefusesFor, scanning_of}
-use Rattle.cs_run.specs.Ending.Texts.{AreTold, IsAskedText, IsTextOf}
+use Rattle.cs_run.specs.Ending.Texts.{AreTold, Denies, DeniesAsked, IsAskedText, IsDenied, IsTextBy, IsTextOf}
 use Rattle.cs_run.proofs.OnInput.Meanings.{one_meaning}
 use Rattle.cs_scanner.specs.Scan.Scan.{StopsAt}
 use Rattle.cs_scanner.proofs.OnScan.OneMatch.{runs_one}
@@ -164,8 +167,8 @@ within_limits c (Text beside) (OfYacc error) within beyond = beyond
 within_limits c (Text beside) (OfLex error) within beyond = beyond
 within_limits c (Text beside) States within beyond = within.0 beyond
 within_limits c (Text beside) (ManyChains found) within beyond = beyond
-within_limits c (Text beside) (TextStops at) within beyond = within_stops beside at within.1 beyond.1
-within_limits c (Text beside) (TextTokens found) within beyond = within_tokens beside found within.1 beyond.1 beyond.2
+within_limits c (Text beside) (TextStops at) within beyond = within_stops beside at (within.1 beyond.1) beyond.2
+within_limits c (Text beside) (TextTokens found) within beyond = within_tokens beside found (within.1 beyond.1) beyond.2 beyond.3
 
 contents_apart : (c : Command) (contents : List Content) (meant : Meant) (refusal : Refusal) → Mean contents meant → IsWithin meant c → RefusesFor c refusal contents → ⊥
 contents_apart c contents meant refusal mean within (inl read) = meaning_read contents meant refusal mean read
@@ -199,6 +202,34 @@ no_file files (named ∷ more) faults role (inr empty) there none = absurd cc
 
 text_accepted : (request : PlainRequest) (contents : List Content) (text : List ℕ) → IsTextOf request contents text → Accepted request.command contents
 text_accepted request contents text is = (is.0, is.1, is.2)
+
+-- ---- what `check` denies
+
+-- a denial and another text that is asked for by one meaning are the same
+denies_same : (c : Command) (arguments : PlainArguments) (options : Options) (meant : Meant) (a b : List ℕ) → Denies c b
+    → IsTextBy c arguments options meant a → IsTextBy c arguments options meant b → a ≡ b
+denies_same (OfGrammar command) arguments options meant a b denies x y = absurd denies
+denies_same (OfPair command) arguments options meant a b denies x y = absurd denies
+denies_same Member arguments options meant a b denies x y = absurd denies
+denies_same Check arguments options Nothing a b denies x y = absurd x
+denies_same Check arguments options (Grammar file) a b denies x y = absurd x
+denies_same Check arguments options (Pair two) a b denies x y = absurd x
+denies_same Check arguments options (Text beside) a b denies x y = one_text beside.pair.yacc (scanning_of beside.pair.lex) beside.text a b x y
+denies_same Gen arguments options meant a b denies x y = absurd denies
+
+denied_text : (request : PlainRequest) (contents : List Content) (a b : List ℕ) → Denies request.command b → IsTextOf request contents a → IsTextOf request contents b → a ≡ b
+denied_text request contents a b denies x y =
+    let same = one_meaning contents y.0 x.0 y.1 x.1 in
+    denies_same request.command request.arguments request.options x.0 a b denies x.3
+    (subst (λ (m : Meant). IsTextBy request.command request.arguments request.options m b) same y.3)
+
+-- where files are told, and a text is asked for that is no denial, none is
+pub none_denied : (asked : Result PlainRequest ℕ) (files : Option Files) (text : List ℕ) → AreTold files asked → IsAskedText asked files text → ¬ DeniesAsked asked text → ¬ IsDenied asked files
+none_denied (Ok request) files text told is not denied =
+    let contents : denied.1.0 ≡ is.0 = contents_once files request denied.1.0 is.0 told denied.1.1 is.1 in
+    let also : IsTextOf request is.0 denied.0 = subst (λ (xs : List Content). IsTextOf request xs denied.0) contents denied.1.2 in
+    not (subst (λ (t : List ℕ). Denies request.command t) (sym (denied_text request is.0 text denied.0 denied.2 is.2 also)) denied.2)
+none_denied (Err at) files text told is not denied = is
 
 -- ---- the same of words that ask for something
 

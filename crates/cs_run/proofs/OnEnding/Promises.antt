@@ -5,12 +5,12 @@ use Rattle.cs_io.specs.Uses.{DeskUse, SinkUse, HasFailed, IsUnused}
 use Rattle.cs_words.specs.declared.command.Role.{Role}
 use Rattle.cs_words.specs.Requests.{PlainRequest}
 use Rattle.cs_run.specs.declared.ending.ending.Ending.{Ending}
-use Rattle.cs_run.specs.declared.ending.ending.Ending.TheVariants.{Written, Refused, BadWord, NoFile, NotWritten, NoMemory}
-use Rattle.cs_run.specs.Ending.Ending.{Ends, IsReported, Performs, Says, WroteText, WrotePart, WrotePartOfAccepted, line_of, status_of}
+use Rattle.cs_run.specs.declared.ending.ending.Ending.TheVariants.{Written, Denied, Refused, BadWord, NoFile, NotWritten, NoMemory}
+use Rattle.cs_run.specs.Ending.Ending.{Ends, IsReported, Performs, Says, WroteDenial, WroteText, WrotePart, WrotePartOfAccepted, line_of, status_of}
 use Rattle.cs_run.specs.Ending.Files.{AreAccepted, AreRefused, HasNoFileFor}
-use Rattle.cs_run.specs.Ending.Headline.{KeepsPromises}
+use Rattle.cs_run.specs.Ending.Headline.{IsStatusBy, KeepsPromises}
 use Rattle.cs_run.specs.Ending.Texts.{AreTold}
-use Rattle.cs_run.proofs.OnEnding.Apart.{asked_accepted, asked_apart, asked_more, asked_no_file, asked_refused_there, asked_there}
+use Rattle.cs_run.proofs.OnEnding.Apart.{asked_accepted, asked_apart, asked_more, asked_no_file, asked_refused_there, asked_there, none_denied}
 
 good_words : (asked : Result PlainRequest ℕ) (P : PlainRequest → Type 0) → IsOkAnd asked P → IsErr asked → ⊥
 good_words (Ok request) P is bad = absurd cc
@@ -21,6 +21,11 @@ bad_word_err asked at is = rw is (search rules)
 
 not_failed : (before after : ℕ) → after ≡ before → before < greatest → ¬ HasFailed (record { before = before; after = after })
 not_failed before after same below failed = omega (arith, same, below, failed)
+
+-- on 4 and 5 writes may have failed
+may_fail : (n : ℕ) → 4 ≤ n → n < 6 → (n < 4) ⊎ (n ≡ 6) → ⊥
+may_fail n some few (inl below) = omega (arith, some, below)
+may_fail n some few (inr is) = omega (arith, few, is)
 
 -- ---- each ending's status
 
@@ -34,21 +39,24 @@ module _ (asked : Result PlainRequest ℕ) (desk : DeskUse) (out err : SinkUse) 
   -- what is left to say of an ending, once its cause is known
   record Rest (ending : Ending) : Type 0 where
     whole : status_of ending ≡ 0 → WroteText asked desk out
+    denied : status_of ending ≡ 6 → WroteDenial asked desk out
     files_refused : status_of ending ≡ 1 → IsOkAnd asked (AreRefused desk.files)
     bad_words : status_of ending ≡ 2 → IsErr asked
     read_fault : status_of ending ≡ 3 → IsOkAnd asked (λ request. (role : Role) × HasNoFileFor desk.files request desk.faults role)
     write_fault : status_of ending ≡ 4 → HasFailed out.faults
-    no_write_fault : status_of ending < 4 → out.faults.after ≡ out.faults.before
+    no_write_fault : (status_of ending < 4) ⊎ (status_of ending ≡ 6) → out.faults.after ≡ out.faults.before
     write_fault_of_accepted : status_of ending ≡ 4 → IsOkAnd asked (AreAccepted desk.files)
     unused : (0 < status_of ending) × (status_of ending < 4) → IsUnused out
     bad_words_end_so : IsErr asked → (status_of ending ≡ 2) ⊎ (status_of ending ≡ 5)
     refused_ends_so : AreTold desk.files asked → IsOkAnd asked (AreRefused desk.files) → ¬ HasFailed desk.faults → (status_of ending ≡ 1) ⊎ (status_of ending ≡ 5)
-    complete : AreTold desk.files asked → IsOkAnd asked (AreAccepted desk.files) → ¬ HasFailed desk.faults → ¬ HasFailed out.faults → (status_of ending ≡ 0) ⊎ (status_of ending ≡ 5)
+    complete : AreTold desk.files asked → IsOkAnd asked (AreAccepted desk.files) → ¬ HasFailed desk.faults → ¬ HasFailed out.faults → IsStatusBy asked desk.files (status_of ending) ⊎ (status_of ending ≡ 5)
     silent : status_of ending ≡ 0 → ending ≡ Written
+    denied_silently : status_of ending ≡ 6 → ending ≡ Denied
 
   rest : (ending : Ending) → Ends ending asked desk out → Rest ending
   rest Written ends = record {
     whole = λ is. ends.0;
+    denied = λ is. absurd (omega (arith, is));
     files_refused = λ is. absurd (omega (arith, is));
     bad_words = λ is. absurd (omega (arith, is));
     read_fault = λ is. absurd (omega (arith, is));
@@ -58,11 +66,29 @@ module _ (asked : Result PlainRequest ℕ) (desk : DeskUse) (out err : SinkUse) 
     unused = λ is. absurd (omega (arith, is.0, is.1));
     bad_words_end_so = λ bad. absurd (good_words asked _ ends.0.1 bad);
     refused_ends_so = λ some refused fine. absurd (asked_apart asked desk.files some (asked_accepted asked desk.files ends.0.0 ends.0.1) refused);
-    complete = λ some accepted fine good. inl refl;
+    complete = λ some accepted fine good. inl (inl (refl, none_denied asked desk.files ends.0.0 some ends.0.1 ends.0.2));
     silent = λ is. refl;
+    denied_silently = λ is. absurd (omega (arith, is));
+  }
+  rest Denied ends = record {
+    whole = λ is. absurd (omega (arith, is));
+    denied = λ is. ends.0;
+    files_refused = λ is. absurd (omega (arith, is));
+    bad_words = λ is. absurd (omega (arith, is));
+    read_fault = λ is. absurd (omega (arith, is));
+    write_fault = λ is. absurd (omega (arith, is));
+    no_write_fault = λ below. ends.1;
+    write_fault_of_accepted = λ is. absurd (omega (arith, is));
+    unused = λ is. absurd (omega (arith, is.0, is.1));
+    bad_words_end_so = λ bad. absurd (good_words asked _ ends.0.1 bad);
+    refused_ends_so = λ some refused fine. absurd (asked_apart asked desk.files some (asked_accepted asked desk.files ends.0.0 ends.0.1) refused);
+    complete = λ some accepted fine good. inl (inr (refl, (ends.0.0, ends.0.1, ends.0.2)));
+    silent = λ is. absurd (omega (arith, is));
+    denied_silently = λ is. refl;
   }
   rest (Refused refusal) ends = record {
     whole = λ is. absurd (omega (arith, is));
+    denied = λ is. absurd (omega (arith, is));
     files_refused = λ is. asked_more asked ends.0 (λ request r. (refusal, r));
     bad_words = λ is. absurd (omega (arith, is));
     read_fault = λ is. absurd (omega (arith, is));
@@ -74,9 +100,11 @@ module _ (asked : Result PlainRequest ℕ) (desk : DeskUse) (out err : SinkUse) 
     refused_ends_so = λ some refused fine. inl refl;
     complete = λ some accepted fine good. absurd (asked_apart asked desk.files some accepted (asked_more asked ends.0 (λ request r. (refusal, r))));
     silent = λ is. absurd (omega (arith, is));
+    denied_silently = λ is. absurd (omega (arith, is));
   }
   rest (BadWord at) ends = record {
     whole = λ is. absurd (omega (arith, is));
+    denied = λ is. absurd (omega (arith, is));
     files_refused = λ is. absurd (omega (arith, is));
     bad_words = λ is. bad_word_err asked at ends.0;
     read_fault = λ is. absurd (omega (arith, is));
@@ -88,9 +116,11 @@ module _ (asked : Result PlainRequest ℕ) (desk : DeskUse) (out err : SinkUse) 
     refused_ends_so = λ some refused fine. absurd (good_words asked _ refused (bad_word_err asked at ends.0));
     complete = λ some accepted fine good. absurd (good_words asked _ accepted (bad_word_err asked at ends.0));
     silent = λ is. absurd (omega (arith, is));
+    denied_silently = λ is. absurd (omega (arith, is));
   }
   rest (NoFile role) ends = record {
     whole = λ is. absurd (omega (arith, is));
+    denied = λ is. absurd (omega (arith, is));
     files_refused = λ is. absurd (omega (arith, is));
     bad_words = λ is. absurd (omega (arith, is));
     read_fault = λ is. asked_more asked ends.0 (λ request n. (role, n));
@@ -102,39 +132,45 @@ module _ (asked : Result PlainRequest ℕ) (desk : DeskUse) (out err : SinkUse) 
     refused_ends_so = λ some refused fine. absurd (fine (asked_no_file asked desk.files desk.faults role some (asked_refused_there asked desk.files refused) ends.0));
     complete = λ some accepted fine good. absurd (fine (asked_no_file asked desk.files desk.faults role some (asked_there asked desk.files accepted) ends.0));
     silent = λ is. absurd (omega (arith, is));
+    denied_silently = λ is. absurd (omega (arith, is));
   }
   rest NotWritten ends = record {
     whole = λ is. absurd (omega (arith, is));
+    denied = λ is. absurd (omega (arith, is));
     files_refused = λ is. absurd (omega (arith, is));
     bad_words = λ is. absurd (omega (arith, is));
     read_fault = λ is. absurd (omega (arith, is));
     write_fault = λ is. ends.1;
-    no_write_fault = λ below. absurd (omega (arith, below));
+    no_write_fault = λ below. absurd (may_fail 4 (omega arith) (omega arith) below);
     write_fault_of_accepted = λ is. part_accepted asked ends.0;
     unused = λ is. absurd (omega (arith, is.0, is.1));
     bad_words_end_so = λ bad. absurd (good_words asked _ ends.0 bad);
     refused_ends_so = λ some refused fine. absurd (asked_apart asked desk.files some (part_accepted asked ends.0) refused);
     complete = λ some accepted fine good. absurd (good ends.1);
     silent = λ is. absurd (omega (arith, is));
+    denied_silently = λ is. absurd (omega (arith, is));
   }
   rest NoMemory ends = record {
     whole = λ is. absurd (omega (arith, is));
+    denied = λ is. absurd (omega (arith, is));
     files_refused = λ is. absurd (omega (arith, is));
     bad_words = λ is. absurd (omega (arith, is));
     read_fault = λ is. absurd (omega (arith, is));
     write_fault = λ is. absurd (omega (arith, is));
-    no_write_fault = λ below. absurd (omega (arith, below));
+    no_write_fault = λ below. absurd (may_fail 5 (omega arith) (omega arith) below);
     write_fault_of_accepted = λ is. absurd (omega (arith, is));
     unused = λ is. absurd (omega (arith, is.0, is.1));
     bad_words_end_so = λ bad. inr refl;
     refused_ends_so = λ some refused fine. inr refl;
     complete = λ some accepted fine good. inr refl;
     silent = λ is. absurd (omega (arith, is));
+    denied_silently = λ is. absurd (omega (arith, is));
   }
 
   -- want of memory for the line may take the place of an ending whose output wasn't written
-  memory_ends : (ending : Ending) → ¬ (ending ≡ Written) → Ends ending asked desk out → Ends NoMemory asked desk out
-  memory_ends Written not ends = absurd (not refl)
+  memory_ends : (ending : Ending) → (¬ (ending ≡ Written)) × ¬ (ending ≡ Denied) → Ends ending asked desk out → Ends NoMemory asked desk out
+  memory_ends Written not ends = absurd (not.0 refl)
+  memory_ends Denied not ends = absurd (not.1 refl)
   memory_ends (Refused refusal) not ends = inl ends.1
   memory_ends (BadWord at) not ends = inl ends.1
   memory_ends (NoFile role) not ends = inl ends.1
@@ -143,19 +179,21 @@ module _ (asked : Result PlainRequest ℕ) (desk : DeskUse) (out err : SinkUse) 
 
   reported_ends : (ending reported : Ending) → Ends ending asked desk out → IsReported ending reported → Ends reported asked desk out
   reported_ends ending reported ends (inl same) = subst (λ (e : Ending). Ends e asked desk out) (sym same) ends
-  reported_ends ending reported ends (inr none) = subst (λ (e : Ending). Ends e asked desk out) (sym none.0) (memory_ends ending none.1 ends)
+  reported_ends ending reported ends (inr none) = subst (λ (e : Ending). Ends e asked desk out) (sym none.0) (memory_ends ending (none.1, none.2) ends)
 
-  prefix : (ending : Ending) → Ends ending asked desk out → 3 < status_of ending → IsUnused out ⊎ WrotePart asked desk out
-  prefix Written ends above = absurd (omega (arith, above))
-  prefix (Refused refusal) ends above = absurd (omega (arith, above))
-  prefix (BadWord at) ends above = absurd (omega (arith, above))
-  prefix (NoFile role) ends above = absurd (omega (arith, above))
+  prefix : (ending : Ending) → Ends ending asked desk out → (3 < status_of ending) × (status_of ending < 6) → IsUnused out ⊎ WrotePart asked desk out
+  prefix Written ends above = absurd (omega (arith, above.0))
+  prefix Denied ends above = absurd (omega (arith, above.1))
+  prefix (Refused refusal) ends above = absurd (omega (arith, above.0))
+  prefix (BadWord at) ends above = absurd (omega (arith, above.0))
+  prefix (NoFile role) ends above = absurd (omega (arith, above.0))
   prefix NotWritten ends above = inr (part_written asked ends.0)
   prefix NoMemory (inl unused) above = inl unused
   prefix NoMemory (inr part) above = inr (part_written asked part)
 
-  within : (e : Ending) → status_of e ≤ 5
+  within : (e : Ending) → status_of e ≤ 6
   within Written = omega arith
+  within Denied = omega arith
   within (Refused refusal) = omega arith
   within (BadWord at) = omega arith
   within (NoFile role) = omega arith
@@ -168,15 +206,16 @@ module _ (asked : Result PlainRequest ℕ) (desk : DeskUse) (out err : SinkUse) 
 
   -- An ending is reported, and the status is that of what was reported.
   pub keeps : (ending reported : Ending) (status : ℕ) → Performs ending asked desk out → IsReported ending reported
-      → Says (line_of reported) err → (reported ≡ Written → IsUnused err) → status ≡ status_of reported → KeepsPromises asked desk out err status
-  keeps ending reported status performs is said silent status_is =
+      → Says (line_of reported) err → (reported ≡ Written → IsUnused err) → (reported ≡ Denied → IsUnused err) → status ≡ status_of reported → KeepsPromises asked desk out err status
+  keeps ending reported status performs is said silent denied_silently status_is =
       subst (λ (n : ℕ). KeepsPromises asked desk out err n) (sym status_is) (kept (reported_ends ending reported performs.ends is))
     where
       kept : Ends reported asked desk out → KeepsPromises asked desk out err (status_of reported)
       kept ends =
           let all = rest reported ends in record {
             whole = all.whole;
-            silent = λ zero. silent (all.silent zero);
+            denied = all.denied;
+            silent = λ whole. elim whole [ inl is ↦ silent (all.silent is) | inr is ↦ denied_silently (all.denied_silently is) ];
             ends = (reported, refl, ends, said);
             range = within reported;
             files_refused = all.files_refused;

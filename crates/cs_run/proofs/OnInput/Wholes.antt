@@ -11,6 +11,7 @@ use Rattle.cs_lex.specs.Reading.File as lex
 use Rattle.cs_lex.specs.declared.reading.error.LexError.{LexError}
 use Rattle.cs_lex.specs.declared.reading.error.LexError.TheVariants.{Memory as LexMemory}
 use Rattle.cs_lex.specs.Reading.Reading.{RefusesOrMemory}
+use Rattle.cs_words.specs.declared.command.Role.{Role}
 use Rattle.cs_words.specs.Requests.{Named, lex_named, three_named, yacc_named}
 use Rattle.cs_run.specs.declared.input.judging.Meant.{Meant}
 use Rattle.cs_run.specs.declared.input.judging.Meant.TheVariants.{Pair as PairOf, Text}
@@ -19,7 +20,7 @@ use Rattle.cs_run.specs.declared.input.judging.Pair.{Pair}
 use Rattle.cs_run.specs.declared.input.refusal.Refusal.TheVariants.{ManyChains, OfLex, OfYacc, States, TextStops, TextTokens, TooLong}
 use Rattle.cs_run.specs.declared.input.refusal.Stop.{Stop}
 use Rattle.cs_run.specs.declared.input.refusal.Stop.TheVariants.{NoFile, Refused, Memory}
-use Rattle.cs_run.specs.Input.Files.{Content, HasBytes, HaveContents, IsGrammarOf, IsPairOf, IsShort, IsThere, Mean}
+use Rattle.cs_run.specs.Input.Files.{Content, HasBytes, HaveContents, IsGrammarOf, IsPairOf, IsShort, IsThere, Mean, most_for}
 use Rattle.cs_run.specs.Input.Refusal.{Refuses, RefusesRead, Stops, StopsFile, lex_stop, pair_contents, text_contents, yacc_content}
 
 -- The bytes are the whole file, or its beginning where it has more than so many.
@@ -105,40 +106,40 @@ module _ (files : Option Files) (name other bytes more : List ℕ) (read : IsBeg
   pair_stops faults (Refused (TextTokens found)) is = absurd is.1
   pair_stops faults Memory is = tt
 
--- ---- both and a text
+-- ---- both and a third file
 
-module _ (files : Option Files) (name other third bytes more text : List ℕ) (read : IsBeginning files name (1048576 + 1) bytes) (read_more : IsBeginning files other (1048576 + 1) more)
-    (read_text : IsBeginning files third (65536 + 1) text) where
+module _ (role : Role) (files : Option Files) (name other third bytes more text : List ℕ) (read : IsBeginning files name (1048576 + 1) bytes) (read_more : IsBeginning files other (1048576 + 1) more)
+    (read_text : IsBeginning files third (most_for role + 1) text) where
   one : (whole : List ℕ) × HasBytes files name whole × IsFrontOf 1048576 bytes whole
   one = begun 1048576 files name bytes read
 
   two : (whole : List ℕ) × HasBytes files other whole × IsFrontOf 1048576 more whole
   two = begun 1048576 files other more read_more
 
-  three : (whole : List ℕ) × HasBytes files third whole × IsFrontOf 65536 text whole
-  three = begun 65536 files third text read_text
+  three : (whole : List ℕ) × HasBytes files third whole × IsFrontOf (most_for role) text whole
+  three = begun (most_for role) files third text read_text
 
-  whole_text : (P : List Content → Type 0) → P (text_contents one.0 two.0 three.0) → HaveContents files (three_named name other third) P
-  whole_text P is = (text_contents one.0 two.0 three.0, ((refl, one.1), ((refl, two.1), ((refl, three.1), tt))), is)
+  whole_text : (P : List Content → Type 0) → P (text_contents role one.0 two.0 three.0) → HaveContents files (three_named role name other third) P
+  whole_text P is = (text_contents role one.0 two.0 three.0, ((refl, one.1), ((refl, two.1), ((refl, three.1), tt))), is)
 
-  short_text : (P : List Content → Type 0) → length bytes ≤ 1048576 → length more ≤ 1048576 → length text ≤ 65536 → P (text_contents bytes more text) → HaveContents files (three_named name other third) P
+  short_text : (P : List Content → Type 0) → length bytes ≤ 1048576 → length more ≤ 1048576 → length text ≤ most_for role → P (text_contents role bytes more text) → HaveContents files (three_named role name other third) P
   short_text P short short_more short_third is =
       whole_text P
-      (subst (λ w. P (text_contents w two.0 three.0)) (one.2.all short)
-      (subst (λ w. P (text_contents bytes w three.0)) (two.2.all short_more) (subst (λ w. P (text_contents bytes more w)) (three.2.all short_third) is)))
+      (subst (λ w. P (text_contents role w two.0 three.0)) (one.2.all short)
+      (subst (λ w. P (text_contents role bytes w three.0)) (two.2.all short_more) (subst (λ w. P (text_contents role bytes more w)) (three.2.all short_third) is)))
 
-  pub text_read : (beside : PairAndText) → Mean (text_contents bytes more text) (Text beside) → HaveContents files (three_named name other third) (λ contents. Mean contents (Text beside))
+  pub text_read : (beside : PairAndText) → Mean (text_contents role bytes more text) (Text beside) → HaveContents files (three_named role name other third) (λ contents. Mean contents (Text beside))
   text_read beside is = short_text (λ contents. Mean contents (Text beside)) is.0 is.1 is.2 is
 
-  pub text_stops : (faults : Change ℕ) (stop : Stop) → RefusesRead (text_contents bytes more text) stop → Stops files faults (three_named name other third) stop
-  text_stops faults (NoFile role) is = absurd is
-  text_stops faults (Refused (TooLong role)) (inl is) = whole_text (Refuses (TooLong role)) (inl (is.0, one.2.long is.1))
-  text_stops faults (Refused (TooLong role)) (inr (short, inl is)) =
-      whole_text (Refuses (TooLong role)) (inr (subst (λ w. length w ≤ 1048576) (one.2.all short) short, inl (is.0, two.2.long is.1)))
-  text_stops faults (Refused (TooLong role)) (inr (short, inr (short_more, inl is))) =
-      whole_text (Refuses (TooLong role))
+  pub text_stops : (faults : Change ℕ) (stop : Stop) → RefusesRead (text_contents role bytes more text) stop → Stops files faults (three_named role name other third) stop
+  text_stops faults (NoFile which) is = absurd is
+  text_stops faults (Refused (TooLong which)) (inl is) = whole_text (Refuses (TooLong which)) (inl (is.0, one.2.long is.1))
+  text_stops faults (Refused (TooLong which)) (inr (short, inl is)) =
+      whole_text (Refuses (TooLong which)) (inr (subst (λ w. length w ≤ 1048576) (one.2.all short) short, inl (is.0, two.2.long is.1)))
+  text_stops faults (Refused (TooLong which)) (inr (short, inr (short_more, inl is))) =
+      whole_text (Refuses (TooLong which))
       (inr (subst (λ w. length w ≤ 1048576) (one.2.all short) short, inr (subst (λ w. length w ≤ 1048576) (two.2.all short_more) short_more, inl (is.0, three.2.long is.1))))
-  text_stops faults (Refused (TooLong role)) (inr (short, inr (short_more, inr (short_text, is)))) = absurd is
+  text_stops faults (Refused (TooLong which)) (inr (short, inr (short_more, inr (short_text, is)))) = absurd is
   text_stops faults (Refused (OfYacc error)) is = short_text (Refuses (OfYacc error)) is.0.0 is.0.1.0 is.0.1.1.0 is
   text_stops faults (Refused (OfLex error)) is = short_text (Refuses (OfLex error)) is.0.0 is.0.1.0 is.0.1.1.0 is
   text_stops faults (Refused States) is = absurd is.1
@@ -147,19 +148,19 @@ module _ (files : Option Files) (name other third bytes more text : List ℕ) (r
   text_stops faults (Refused (TextTokens found)) is = absurd is.1
   text_stops faults Memory is = tt
 
--- what the pair is refused for, both and a text are refused for
-pub text_refused : (bytes more text : List ℕ) (stop : Stop) → length text ≤ 65536 → RefusesRead (pair_contents bytes more) stop → RefusesRead (text_contents bytes more text) stop
-text_refused bytes more text (NoFile role) short is = is
-text_refused bytes more text (Refused (TooLong role)) short (inl is) = inl is
-text_refused bytes more text (Refused (TooLong role)) short (inr (first, inl is)) = inr (first, inl is)
-text_refused bytes more text (Refused (TooLong role)) short (inr (first, inr (second, is))) = absurd is
-text_refused bytes more text (Refused (OfYacc error)) short is = ((is.0.0, (is.0.1.0, (short, tt))), is.1)
-text_refused bytes more text (Refused (OfLex error)) short is = ((is.0.0, (is.0.1.0, (short, tt))), is.1)
-text_refused bytes more text (Refused States) short is = absurd is.1
-text_refused bytes more text (Refused (ManyChains found)) short is = absurd is.1
-text_refused bytes more text (Refused (TextStops at)) short is = absurd is.1
-text_refused bytes more text (Refused (TextTokens found)) short is = absurd is.1
-text_refused bytes more text Memory short is = tt
+-- what the pair is refused for, both and a third file are refused for
+pub text_refused : (role : Role) (bytes more text : List ℕ) (stop : Stop) → length text ≤ most_for role → RefusesRead (pair_contents bytes more) stop → RefusesRead (text_contents role bytes more text) stop
+text_refused role bytes more text (NoFile which) short is = is
+text_refused role bytes more text (Refused (TooLong which)) short (inl is) = inl is
+text_refused role bytes more text (Refused (TooLong which)) short (inr (first, inl is)) = inr (first, inl is)
+text_refused role bytes more text (Refused (TooLong which)) short (inr (first, inr (second, is))) = absurd is
+text_refused role bytes more text (Refused (OfYacc error)) short is = ((is.0.0, (is.0.1.0, (short, tt))), is.1)
+text_refused role bytes more text (Refused (OfLex error)) short is = ((is.0.0, (is.0.1.0, (short, tt))), is.1)
+text_refused role bytes more text (Refused States) short is = absurd is.1
+text_refused role bytes more text (Refused (ManyChains found)) short is = absurd is.1
+text_refused role bytes more text (Refused (TextStops at)) short is = absurd is.1
+text_refused role bytes more text (Refused (TextTokens found)) short is = absurd is.1
+text_refused role bytes more text Memory short is = tt
 
 -- ---- a file that can't be read
 

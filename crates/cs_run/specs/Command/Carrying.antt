@@ -9,25 +9,27 @@ use Rattle.cs_run.specs.declared.input.judging.PairAndText.{PairAndText}
 use Rattle.cs_run.specs.declared.input.refusal.Refusal.{Refusal}
 use Rattle.cs_run.specs.declared.input.refusal.Refusal.TheVariants.{ManyChains, States}
 use Rattle.cs_run.specs.Input.Files.{Content, Mean}
+use Rattle.cs_run.specs.Input.Read.{third_role}
 use Rattle.cs_run.specs.Input.Refusal.{HasManyStates}
 use Rattle.cs_run.specs.declared.ending.ending.Ending.{Ending}
-use Rattle.cs_run.specs.declared.ending.ending.Ending.TheVariants.{BadWord, NoFile, NoMemory, NotWritten, Refused, Written}
+use Rattle.cs_run.specs.declared.ending.ending.Ending.TheVariants.{BadWord, Denied, NoFile, NoMemory, NotWritten, Refused, Written}
 use Rattle.cs_run.specs.Ending.Ending.{GrewAsAsked}
 use Rattle.cs_run.specs.Ending.Files.{Accepted, HasFewChains, HasManyChains, IsBeyond, IsWithin, RefusesFor}
-use Rattle.cs_run.specs.Ending.Texts.{IsTextBy, IsTextOf}
+use Rattle.cs_run.specs.Ending.Texts.{Denies, IsTextBy, IsTextOf, NoneDenies}
 use Rattle.cs_words.specs.declared.command.Command.{Command}
-use Rattle.cs_words.specs.declared.command.Role.TheVariants.{Lex, Text as TextOf, Yacc}
+use Rattle.cs_words.specs.declared.command.Role.TheVariants.{Lex, Yacc}
 use Rattle.cs_words.specs.declared.options.Options.{Options}
 use Rattle.cs_words.specs.Commands.{Files, taken_of}
 use Rattle.cs_words.specs.Requests.{PlainArguments, PlainRequest}
 use Rattle.cs_yacc.specs.declared.reading.file.YaccFile.{YaccFile}
 use Rattle.cs_io.specs.Asked.{GrewByOne, GrewByPart, HasRoomForAll}
 
--- `accepted` says when there is a text, `refused` why there is none, `Is` which texts are asked for, and `Part` how the output grew
--- where the writing stopped
-module _ (accepted : Type 0) (refused : Refusal → Type 0) (Is : List ℕ → Type 0) (Part : SinkUse → Type 0) where
+-- `accepted` says when there is a text, `refused` why there is none, `Is` which texts are asked for, `Part` how the output grew
+-- where the writing stopped, and `No` which texts are denials
+module _ (accepted : Type 0) (refused : Refusal → Type 0) (Is : List ℕ → Type 0) (Part : SinkUse → Type 0) (No : List ℕ → Type 0) where
   abbrev pub WritingEnds : Ending → SinkUse → Type 0
-  WritingEnds Written out = accepted × GrewByOne Is out.written.before out.written.after × (out.faults.after ≡ out.faults.before)
+  WritingEnds Written out = accepted × GrewByOne (λ text. Is text × ¬ No text) out.written.before out.written.after × (out.faults.after ≡ out.faults.before)
+  WritingEnds Denied out = accepted × GrewByOne (λ text. Is text × No text) out.written.before out.written.after × (out.faults.after ≡ out.faults.before)
   WritingEnds (Refused refusal) out = refused refusal × IsUnused out
   WritingEnds NotWritten out = accepted × Part out × HasFailed out.faults
   WritingEnds NoMemory out = IsUnused out ⊎ (accepted × Part out)
@@ -45,7 +47,7 @@ GrewByEach Is out = GrewByPart Is out.written.before out.written.after
 
 -- there is a text in any case
 abbrev pub WritesSure : (List ℕ → Type 0) → Ending → SinkUse → Type 0
-WritesSure Is ending out = Writes (Unit {0}) (λ refusal. ⊥) Is (GrewByEach Is) ending out
+WritesSure Is ending out = Writes (Unit {0}) (λ refusal. ⊥) Is (GrewByEach Is) NoneDenies ending out
 
 -- the automaton of a pair's lex file has too many states, and the refusal tells that
 abbrev pub HasTooManyStates : Pair → Refusal → Type 0
@@ -53,7 +55,7 @@ HasTooManyStates pair refusal = (refusal ≡ States) × HasManyStates pair.lex
 
 -- a text that is asked for by a pair of files was written, and that ended so
 abbrev pub WritesOfPair : Pair → (List ℕ → Type 0) → Ending → SinkUse → Type 0
-WritesOfPair pair Is ending out = Writes (¬ HasManyStates pair.lex) (HasTooManyStates pair) Is (GrewByEach Is) ending out
+WritesOfPair pair Is ending out = Writes (¬ HasManyStates pair.lex) (HasTooManyStates pair) Is (GrewByEach Is) NoneDenies ending out
 
 -- the grammar has too many chains for the command, and the refusal tells how many
 abbrev pub HasTooManyChains : Command → PlainGrammar → Refusal → Type 0
@@ -61,20 +63,20 @@ HasTooManyChains command g refusal = (found : ℕ) × (refusal ≡ ManyChains fo
 
 -- a text that a command asks for by a grammar was written, and that ended so
 abbrev pub WritesOfGrammar : Command → PlainGrammar → (List ℕ → Type 0) → Ending → SinkUse → Type 0
-WritesOfGrammar command g Is ending out = Writes (HasFewChains command g) (HasTooManyChains command g) Is (GrewByEach Is) ending out
+WritesOfGrammar command g Is ending out = Writes (HasFewChains command g) (HasTooManyChains command g) Is (GrewByEach Is) NoneDenies ending out
 
 -- the text that a command asks for by what its files mean was written, and that ended so
 abbrev pub WritesBy : Command → PlainArguments → Options → Meant → Ending → SinkUse → Type 0
 WritesBy command arguments options meant ending out =
     Writes (IsWithin meant command) (λ refusal. IsBeyond meant refusal command) (IsTextBy command arguments options meant)
-    (GrewAsAsked command (IsTextBy command arguments options meant)) ending out
+    (GrewAsAsked command (IsTextBy command arguments options meant)) (Denies command) ending out
 
 -- whatever contents mean this: the text that the request asks for by them was written, and that ended so
 abbrev pub CarriesOut : PlainRequest → Meant → Ending → SinkUse → Type 0
 CarriesOut request meant ending out =
     (contents : List Content) → Mean contents meant
     → Writes (Accepted request.command contents) (λ refusal. RefusesFor request.command refusal contents) (IsTextOf request contents)
-    (GrewAsAsked request.command (IsTextOf request contents)) ending out
+    (GrewAsAsked request.command (IsTextOf request contents)) (Denies request.command) ending out
 
 -- a command takes a yacc file; a command takes a yacc file and a lex file
 abbrev pub TakesGrammar : Command → Type 0
@@ -83,9 +85,9 @@ TakesGrammar command = taken_of command ≡ Files (Yacc ∷ [])
 abbrev pub TakesPair : Command → Type 0
 TakesPair command = taken_of command ≡ Files (Yacc ∷ Lex ∷ [])
 
--- and a text
-abbrev pub TakesText : Command → Type 0
-TakesText command = taken_of command ≡ Files (Yacc ∷ Lex ∷ TextOf ∷ [])
+-- and a third file
+abbrev pub TakesThird : Command → Type 0
+TakesThird command = taken_of command ≡ Files (Yacc ∷ Lex ∷ third_role command ∷ [])
 
 -- whatever the command was given besides
 abbrev pub WritesByGrammar : Command → YaccFile → Ending → SinkUse → Type 0

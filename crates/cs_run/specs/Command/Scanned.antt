@@ -23,13 +23,13 @@ use Rattle.cs_run.specs.declared.ending.ending.Ending.{Ending}
 use Rattle.cs_run.specs.declared.input.judging.Pair.{Pair}
 use Rattle.cs_run.specs.declared.input.judging.PairAndText.{PairAndText}
 use Rattle.cs_run.specs.declared.input.refusal.Refusal.TheVariants.{ManyChains, TextTokens}
-use Rattle.cs_words.specs.declared.command.Command.TheVariants.{Member, OfPair}
+use Rattle.cs_words.specs.declared.command.Command.TheVariants.{Check, Member, OfPair}
 use Rattle.cs_words.specs.declared.command.PairCommand.{PairCommand}
 use Rattle.cs_words.specs.declared.command.PairCommand.TheVariants as of_pair
 use Rattle.cs_words.specs.declared.options.Options.{Options}
 use Rattle.cs_run.specs.Command.Carrying.{GrewByEach, Writes, WritesByPair, WritesByText, WritesOfGrammar, WritesOfPair}
 use Rattle.cs_run.specs.Ending.Files.{scanning_of}
-use Rattle.cs_run.specs.Ending.Texts.{IsTextOfPair}
+use Rattle.cs_run.specs.Ending.Texts.{IsTextOfPair, NoneDenies}
 use Rattle.cs_scanner.specs.Scan.Scan.{Scanning}
 use Rattle.cs_wrong.specs.Text.{IsWrongOf}
 use Rattle.cs_yacc.specs.Reading.File.{File}
@@ -42,17 +42,21 @@ WritesLexical pair ending out = WritesOfPair pair (IsLexical pair.yacc (scanning
 abbrev pub WritesTokens : PlainGrammar → List ℕ → Ending → SinkUse → Type 0
 WritesTokens g tokens ending out =
     Writes (length tokens ≤ 2000) (λ refusal. (refusal ≡ TextTokens (length tokens)) × (2000 < length tokens)) (IsMemberText g tokens)
-    (λ sink. GrewByFront (IsMemberText g tokens) sink.written.before sink.written.after) ending out
+    (λ sink. GrewByFront (IsMemberText g tokens) sink.written.before sink.written.after) NoneDenies ending out
 
 -- whether the text is a sentence was written, and that ended so
 abbrev pub WritesMembership : PairAndText → Ending → SinkUse → Type 0
 WritesMembership beside ending out = WritesByText Member beside ending out
 
+-- whether the manifest holds what it claims was written, and that ended so
+abbrev pub WritesCheck : PairAndText → Ending → SinkUse → Type 0
+WritesCheck beside ending out = WritesByText Check beside ending out
+
 -- a text of the grammar's chains was written, and that ended so
 abbrev pub WritesChains : PlainGrammar → (List ℕ → Type 0) → Ending → SinkUse → Type 0
 WritesChains g Is ending out =
     Writes (length (chains g) ≤ 1000000) (λ refusal. (refusal ≡ ManyChains (length (chains g))) × (1000000 < length (chains g))) Is
-    (GrewByEach Is) ending out
+    (GrewByEach Is) NoneDenies ending out
 
 -- the text of a file's chains, with texts by the work where there is one, and without any
 abbrev pub WritesChainsBy : File → Option (Bor RenderWork) → Weigh → Ending → SinkUse → Type 0

@@ -1,5 +1,5 @@
 -- What is kept by what words ask for.
-use Rattle.std.specs.Prelude.{◌≡◌, ℕ, List, [], Err, Ok, Result}
+use Rattle.std.specs.Prelude.{◌≡◌, ℕ, Bool, true, false, List, [], Err, Ok, Result}
 use Rattle.cs_io.specs.Uses.{DeskUse, SinkUse}
 use Rattle.cs_run.specs.declared.input.refusal.Refusal.TheVariants.{States}
 use Rattle.cs_run.specs.declared.input.refusal.Stop.{Stop}
@@ -7,7 +7,7 @@ use Rattle.cs_scanner.specs.declared.automaton.error.AutomatonError.{AutomatonEr
 use Rattle.cs_scanner.specs.declared.automaton.error.AutomatonError.TheVariants as automaton
 use Rattle.cs_run.specs.declared.input.refusal.Stop.TheVariants as stop
 use Rattle.cs_run.specs.declared.ending.ending.Ending.{Ending}
-use Rattle.cs_run.specs.declared.ending.ending.Ending.TheVariants.{NoFile, NoMemory, NotWritten, Refused, Written}
+use Rattle.cs_run.specs.declared.ending.ending.Ending.TheVariants.{Denied, NoFile, NoMemory, NotWritten, Refused, Written}
 use Rattle.cs_run.specs.Ending.Ending.{Performs}
 use Rattle.cs_run.specs.Ending.Headline.{KeepsPromises}
 use Rattle.cs_words.specs.Requests.{IsAsked, PlainRequest, files_of}
@@ -48,6 +48,12 @@ ending_at halt.Memory = NoMemory
 abbrev pub ending_after : Result Unit Halt → Ending
 ending_after (Ok done) = Written
 ending_after (Err halt) = ending_at halt
+
+-- how a run ends whose check was written, or whose writing stopped
+abbrev pub ending_of_check : Result Bool Halt → Ending
+ending_of_check (Ok true) = Written
+ending_of_check (Ok false) = Denied
+ending_of_check (Err halt) = ending_at halt
 
 -- how a run ends whose suite isn't written whole
 abbrev pub ending_of_suite : SuiteHalt → Ending

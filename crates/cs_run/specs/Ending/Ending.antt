@@ -13,16 +13,23 @@ use Rattle.cs_run.specs.Input.Files.{Content, HaveContents}
 use Rattle.cs_run.specs.Input.Lines.{refusal_line, role_word}
 use Rattle.cs_run.specs.Input.Refusal.{IsTold}
 use Rattle.cs_run.specs.declared.ending.ending.Ending.{Ending}
-use Rattle.cs_run.specs.declared.ending.ending.Ending.TheVariants.{Written, Refused, BadWord, NoFile, NotWritten, NoMemory}
+use Rattle.cs_run.specs.declared.ending.ending.Ending.TheVariants.{Written, Denied, Refused, BadWord, NoFile, NotWritten, NoMemory}
 use Rattle.cs_run.specs.Ending.Files.{Accepted, AreRefusedSo, HasNoFileFor}
-use Rattle.cs_run.specs.Ending.Texts.{HasRoomFor, IsAskedText, IsTextOf}
+use Rattle.cs_run.specs.Ending.Texts.{DeniesAsked, HasRoomFor, IsAskedText, IsTextOf}
 
 -- ---- causes
 
--- the output grew by the whole text that is asked for
+-- the output grew by the whole text that is asked for, and this is no denial
 abbrev pub WroteText : Result PlainRequest ℕ → DeskUse → SinkUse → Type 0
 WroteText asked desk out =
-    (text : List ℕ) × IsAskedText asked desk.files text × (out.written.after ≡ append_known out.written.before text)
+    (text : List ℕ) × IsAskedText asked desk.files text × (¬ DeniesAsked asked text)
+    × (out.written.after ≡ append_known out.written.before text)
+
+-- it grew by the whole text, and this is a denial
+abbrev pub WroteDenial : Result PlainRequest ℕ → DeskUse → SinkUse → Type 0
+WroteDenial asked desk out =
+    (text : List ℕ) × IsAskedText asked desk.files text × DeniesAsked asked text
+    × (out.written.after ≡ append_known out.written.before text)
 
 -- The output grew by a prefix of each such text. Of a list with several derivations `member` may write each, and the output grew
 -- by nothing, or by a prefix of one that it may write.
@@ -46,6 +53,7 @@ WrotePartOfAccepted asked desk out =
 -- What caused an ending, and what the output holds then, by what the words ask for and how desk and output were used.
 abbrev pub Ends : Ending → Result PlainRequest ℕ → DeskUse → SinkUse → Type 0
 Ends Written asked desk out = WroteText asked desk out × (out.faults.after ≡ out.faults.before)
+Ends Denied asked desk out = WroteDenial asked desk out × (out.faults.after ≡ out.faults.before)
 Ends (Refused refusal) asked desk out = IsOkAnd asked (λ request. AreRefusedSo desk.files request refusal) × IsUnused out
 Ends (BadWord at) asked desk out = (asked ≡ Err at) × IsUnused out
 Ends (NoFile role) asked desk out = IsOkAnd asked (λ request. HasNoFileFor desk.files request desk.faults role) × IsUnused out
@@ -56,6 +64,7 @@ Ends NoMemory asked desk out = IsUnused out ⊎ WrotePartOfAccepted asked desk o
 abbrev pub HasLine : Ending → Type 0
 HasLine (Refused refusal) = IsTold refusal
 HasLine Written = Unit {0}
+HasLine Denied = Unit {0}
 HasLine (BadWord at) = Unit {0}
 HasLine (NoFile role) = Unit {0}
 HasLine NotWritten = Unit {0}
@@ -70,7 +79,7 @@ pub record Performs (ending : Ending) (asked : Result PlainRequest ℕ) (desk : 
 
 -- the ending that is reported: the same, or want of memory for the line, which an output that was written needs none of
 abbrev pub IsReported : Ending → Ending → Type 0
-IsReported ending reported = (reported ≡ ending) ⊎ ((reported ≡ NoMemory) × ¬ (ending ≡ Written))
+IsReported ending reported = (reported ≡ ending) ⊎ ((reported ≡ NoMemory) × (¬ (ending ≡ Written)) × ¬ (ending ≡ Denied))
 
 -- ---- statuses
 
@@ -81,11 +90,13 @@ status_of (BadWord at) = 2
 status_of (NoFile role) = 3
 status_of NotWritten = 4
 status_of NoMemory = 5
+status_of Denied = 6
 
 -- ---- lines on the error output
 
 abbrev pub line_of : Ending → List ℕ
 line_of Written = []
+line_of Denied = []
 line_of (Refused refusal) = refusal_line refusal
 line_of (BadWord at) = codes "conform: usage: word " ++ decimal at ++ codes "\n"
 line_of (NoFile role) = codes "conform: read fault: " ++ role_word role ++ codes "\n"

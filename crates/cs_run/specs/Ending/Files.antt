@@ -10,7 +10,7 @@ use Rattle.cs_lex.specs.Reading.File as lex
 use Rattle.cs_words.specs.declared.command.Command.{Command}
 use Rattle.cs_words.specs.declared.command.Role.{Role}
 use Rattle.cs_words.specs.declared.options.Options.{Options}
-use Rattle.cs_words.specs.Commands.{lists_chains}
+use Rattle.cs_words.specs.Commands.{lists_chains, takes_tokens}
 use Rattle.cs_words.specs.Requests.{PlainRequest, files_of}
 use Rattle.cs_run.specs.declared.input.judging.Meant.{Meant}
 use Rattle.cs_run.specs.declared.input.judging.Meant.TheVariants.{Grammar, Nothing, Pair, Text}
@@ -45,12 +45,16 @@ HasTokens beside count =
 abbrev pub HasFewTokens : PairAndText → Type 0
 HasFewTokens beside = (count : ℕ) × HasTokens beside count × (count ≤ 2000)
 
+-- where the command takes the tokens of the text, these are few
+abbrev pub HasFewTokensFor : Command → PairAndText → Type 0
+HasFewTokensFor command beside = IsTrue (takes_tokens command) → HasFewTokens beside
+
 -- What the files mean is within the command's limits.
 abbrev pub IsWithin : Meant → Command → Type 0
 IsWithin Nothing command = Unit {0}
 IsWithin (Grammar file) command = HasFewChains command file.grammar
 IsWithin (Pair pair) command = (¬ HasManyStates pair.lex) × HasFewChains command pair.yacc.grammar
-IsWithin (Text beside) command = (¬ HasManyStates beside.pair.lex) × HasFewTokens beside
+IsWithin (Text beside) command = (¬ HasManyStates beside.pair.lex) × HasFewTokensFor command beside
 
 -- It is beyond the limit that the refusal tells, and within those before it.
 abbrev pub IsBeyond : Meant → Refusal → Command → Type 0
@@ -59,8 +63,9 @@ IsBeyond (Pair pair) States command = HasManyStates pair.lex
 IsBeyond (Pair pair) (ManyChains found) command = (¬ HasManyStates pair.lex) × HasManyChains command pair.yacc.grammar found
 IsBeyond (Text beside) States command = HasManyStates beside.pair.lex
 IsBeyond (Text beside) (TextStops at) command =
-    (¬ HasManyStates beside.pair.lex) × StopsAt (scanning_of beside.pair.lex) beside.text at
-IsBeyond (Text beside) (TextTokens found) command = (¬ HasManyStates beside.pair.lex) × HasTokens beside found × (2000 < found)
+    (¬ HasManyStates beside.pair.lex) × IsTrue (takes_tokens command) × StopsAt (scanning_of beside.pair.lex) beside.text at
+IsBeyond (Text beside) (TextTokens found) command =
+    (¬ HasManyStates beside.pair.lex) × IsTrue (takes_tokens command) × HasTokens beside found × (2000 < found)
 IsBeyond meant refusal command = ⊥
 
 -- the contents mean something that is within the command's limits

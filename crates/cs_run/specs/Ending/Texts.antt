@@ -3,7 +3,7 @@ use Rattle.std.specs.Prelude.{◌≡◌, ◌⊎◌, ◌≤◌, ℕ, length, List
 use Rattle.cs_grammar.specs.Laws.{AtMostOne}
 use Rattle.cs_io.specs.Desk.{Files}
 use Rattle.cs_words.specs.declared.command.Command.{Command}
-use Rattle.cs_words.specs.declared.command.Command.TheVariants.{Gen, Member, OfGrammar, OfPair}
+use Rattle.cs_words.specs.declared.command.Command.TheVariants.{Check, Gen, Member, OfGrammar, OfPair}
 use Rattle.cs_words.specs.declared.command.GrammarCommand.{GrammarCommand}
 use Rattle.cs_words.specs.declared.command.GrammarCommand.TheVariants as of_grammar
 use Rattle.cs_words.specs.declared.command.PairCommand.{PairCommand}
@@ -11,6 +11,7 @@ use Rattle.cs_words.specs.declared.command.PairCommand.TheVariants as of_pair
 use Rattle.cs_words.specs.declared.options.Options.{Options}
 use Rattle.cs_words.specs.Requests.{Number, PlainArguments, PlainRequest, files_of}
 use Rattle.cs_chain_text.specs.Text.{IsChainsText}
+use Rattle.cs_check_text.specs.Text.{IsCheckText, IsDenial}
 use Rattle.cs_choices.specs.declared.weigh.Weigh.TheVariants.{Nodes}
 use Rattle.cs_deep.specs.Membership.{IsMemberText}
 use Rattle.cs_spell.specs.Spelling.{IsSpelling}
@@ -48,6 +49,8 @@ IsTextBy Gen (Number seed) options Nothing text = IsSummary seed text
 IsTextBy Member arguments options (Text beside) text =
     (tokens : List ℕ) × Scans (scanning_of beside.pair.lex) beside.text tokens
     × IsMemberText beside.pair.yacc.grammar tokens text
+IsTextBy Check arguments options (Text beside) text =
+    IsCheckText beside.pair.yacc (scanning_of beside.pair.lex) beside.text text
 IsTextBy command arguments options meant text = ⊥
 
 -- the contents of the files mean something within the command's limits, by which the text is asked for
@@ -62,6 +65,27 @@ IsTextFor files request text = HaveContents files (files_of request) (λ content
 
 abbrev pub IsAskedText : Result PlainRequest ℕ → Option Files → List ℕ → Type 0
 IsAskedText asked files text = IsOkAnd asked (λ request. IsTextFor files request text)
+
+-- ---- what `check` denies
+
+-- no text does
+abbrev pub NoneDenies : List ℕ → Type 0
+NoneDenies text = ⊥
+
+-- the text says no: one that `check` writes of a manifest that has a line with a fault
+abbrev pub Denies : Command → List ℕ → Type 0
+Denies Check = IsDenial
+Denies command = NoneDenies
+
+-- the text of what the words ask for does
+abbrev pub DeniesAsked : Result PlainRequest ℕ → List ℕ → Type 0
+DeniesAsked asked text = IsOkAnd asked (λ request. Denies request.command text)
+
+-- a text is asked for that does
+abbrev pub IsDenied : Result PlainRequest ℕ → Option Files → Type 0
+IsDenied asked files = (text : List ℕ) × IsAskedText asked files text × DeniesAsked asked text
+
+-- ---- room and laws
 
 -- each text that may be asked for fits
 abbrev pub HasRoomFor : ℕ → Result PlainRequest ℕ → Option Files → Type 0

@@ -49,6 +49,7 @@ abbrev pub most_for : Role → ℕ
 most_for roles.Yacc = most_bytes
 most_for roles.Lex = most_bytes
 most_for roles.Text = 65536
+most_for roles.Manifest = 67108864
 
 -- a yacc file or a lex file has no more
 abbrev pub IsShort : List ℕ → Type 0
@@ -66,7 +67,7 @@ IsGrammarOf file bytes = IsShort bytes × IsYaccFile bytes file
 abbrev pub IsPairOf : yacc.File → lex.File → List ℕ → List ℕ → Type 0
 IsPairOf file scanner bytes more = IsShort bytes × IsShort more × IsYaccFile bytes file × IsLexFile more file scanner
 
--- The contents mean nothing, a yacc file, a yacc file and a lex file beside it, or both and a text. None is too long.
+-- The contents mean nothing, a yacc file, a yacc file and a lex file beside it, or both and a third file's bytes. None is too long.
 abbrev pub Mean : List Content → Meant → Type 0
 Mean [] Nothing = Unit {0}
 Mean (one ∷ []) (Grammar file) = IsWithinLength one × IsYaccFile one.bytes file
@@ -77,7 +78,7 @@ Mean (one ∷ other ∷ third ∷ []) (Text beside) =
     × IsLexFile other.bytes beside.pair.yacc beside.pair.lex × (beside.text ≡ third.bytes)
 Mean contents meant = ⊥
 
--- a command is given a yacc file, a pair, or a pair and a text, by how many files it takes; one that takes a seed nothing
+-- a command is given a yacc file, a pair, or a pair and a third file, by how many files it takes; one that takes a seed nothing
 abbrev pub IsMeantFor : taken.Taken → PlainArguments → Meant → Type 0
 IsMeantFor (taken.Files (one ∷ [])) (Names names) (Grammar file) = Unit {0}
 IsMeantFor (taken.Files (one ∷ other ∷ [])) (Names names) (Pair pair) = Unit {0}

@@ -14,7 +14,7 @@ use Rattle.cs_lex.specs.declared.reading.error.LexLimit.TheVariants as counted_l
 use Rattle.cs_run.specs.declared.input.refusal.Refusal.{Refusal}
 use Rattle.cs_run.specs.declared.input.refusal.Refusal.TheVariants.{ManyChains, OfLex, OfYacc, States, TextStops, TextTokens, TooLong}
 use Rattle.cs_words.specs.declared.command.Role.{Role}
-use Rattle.cs_words.specs.declared.command.Role.TheVariants.{Lex, Text, Yacc}
+use Rattle.cs_words.specs.declared.command.Role.TheVariants.{Lex, Manifest, Text, Yacc}
 
 -- ---- words
 
@@ -22,6 +22,7 @@ abbrev pub role_word : Role → List ℕ
 role_word Yacc = codes "yacc"
 role_word Lex = codes "lex"
 role_word Text = codes "text"
+role_word Manifest = codes "manifest"
 
 -- a word, and a number behind it
 abbrev pub at_word : List ℕ → ℕ → List ℕ

@@ -4,6 +4,9 @@ use Rattle.std.specs.declared.alloc.Global.{Global}
 use Rattle.cs_io.specs.Desk.{Files, IsBeginning}
 use Rattle.cs_run.specs.declared.input.judging.Meant.{Meant}
 use Rattle.cs_run.specs.declared.input.judging.Meant.TheVariants.{Grammar, Pair as PairOf, Text}
+use Rattle.cs_words.specs.declared.command.Command.{Command}
+use Rattle.cs_words.specs.declared.command.Command.TheVariants.{Check}
+use Rattle.cs_words.specs.declared.command.Role.TheVariants as roles
 use Rattle.cs_lex.specs.Reading.File.{HasTokensOf}
 use Rattle.cs_yacc.specs.declared.reading.file.YaccFile.{YaccFile}
 use Rattle.cs_run.specs.declared.input.judging.Pair.{Pair}
@@ -14,6 +17,11 @@ use Rattle.cs_run.specs.Input.Refusal.{text_contents}
 use Rattle.cs_run.specs.Input.Files.{HaveContents, IsMeantFor, Mean, most_for}
 use Rattle.cs_words.specs.Commands.{taken_of}
 use Rattle.cs_words.specs.Requests.{Named, one_named, plain_arguments, three_named, two_named}
+
+-- what the third file is to a command that takes three
+abbrev pub third_role : Command → Role
+third_role Check = roles.Manifest
+third_role command = roles.Text
 
 -- the first bytes of the file, at most one more than a file may have
 abbrev pub ReadsFile : Role → Option Files → List ℕ → Vec ℕ Global → Type 0
@@ -30,8 +38,8 @@ IsGrammarIn files name file = AreMeant files (one_named name) (Grammar file)
 abbrev pub IsPairIn : Option Files → List ℕ → List ℕ → Pair → Type 0
 IsPairIn files name other pair = AreMeant files (two_named name other) (PairOf pair)
 
-abbrev pub IsTextIn : Option Files → List ℕ → List ℕ → List ℕ → PairAndText → Type 0
-IsTextIn files name other third beside = AreMeant files (three_named name other third) (Text beside)
+abbrev pub IsTextIn : Role → Option Files → List ℕ → List ℕ → List ℕ → PairAndText → Type 0
+IsTextIn role files name other third beside = AreMeant files (three_named role name other third) (Text beside)
 
 -- what is meant is what the request's command is given
 abbrev pub IsFormOf : Request → Meant → Type 0
@@ -44,8 +52,8 @@ HasItsTokens (Text beside) = HasTokensOf (length beside.pair.yacc.token_names) b
 HasItsTokens meant = Unit {0}
 
 -- what these bytes mean
-abbrev pub IsTextOfAll : List ℕ → List ℕ → Vec ℕ Global → PairAndText → Type 0
-IsTextOfAll bytes more text beside = Mean (text_contents bytes more text.items) (Text beside)
+abbrev pub IsTextOfAll : Role → List ℕ → List ℕ → Vec ℕ Global → PairAndText → Type 0
+IsTextOfAll role bytes more text beside = Mean (text_contents role bytes more text.items) (Text beside)
 
 abbrev pub HasTokensOfItsFile : PairAndText → Type 0
 HasTokensOfItsFile beside = HasItsTokens (Text beside)

@@ -15,7 +15,7 @@ use Rattle.cs_words.specs.Requests.{Named}
 use Rattle.cs_run.specs.declared.input.refusal.Refusal.{Refusal}
 use Rattle.cs_run.specs.declared.input.refusal.Refusal.TheVariants.{ManyChains, OfLex, OfYacc, States, TextStops, TextTokens, TooLong}
 use Rattle.cs_words.specs.declared.command.Role.{Role}
-use Rattle.cs_words.specs.declared.command.Role.TheVariants.{Lex, Text, Yacc}
+use Rattle.cs_words.specs.declared.command.Role.TheVariants.{Lex, Yacc}
 use Rattle.cs_run.specs.declared.input.refusal.Stop.{Stop}
 use Rattle.cs_run.specs.declared.input.refusal.Stop.TheVariants.{NoFile, Refused, Memory}
 use Rattle.cs_run.specs.Input.Files.{Content, HasNoFile, HaveContents, IsWithinLength, faults_of, most_for}
@@ -70,10 +70,10 @@ yacc_content bytes = record { role = Yacc; bytes = bytes }
 abbrev pub pair_contents : List ℕ → List ℕ → List Content
 pair_contents bytes more = yacc_content bytes ∷ record { role = Lex; bytes = more } ∷ []
 
--- and of a text
-abbrev pub text_contents : List ℕ → List ℕ → List ℕ → List Content
-text_contents bytes more text =
-    yacc_content bytes ∷ record { role = Lex; bytes = more } ∷ record { role = Text; bytes = text } ∷ []
+-- and of a third file of that role
+abbrev pub text_contents : Role → List ℕ → List ℕ → List ℕ → List Content
+text_contents role bytes more text =
+    yacc_content bytes ∷ record { role = Lex; bytes = more } ∷ record { role = role; bytes = text } ∷ []
 
 -- want of memory is no refusal
 abbrev pub IsTold : Refusal → Type 0

@@ -1,21 +1,23 @@
 // What the words ask for, done.
 
-ghost use Rattle.std.specs.Prelude.{◌≡◌};
+ghost use Rattle.std.specs.Prelude.{◌≡◌, ◌≤◌, length};
 ghost use Rattle.cs_run.specs.Ending.Ending.{HasLine};
 ghost use Rattle.cs_run.specs.Ending.Summary.{IsSummary};
+ghost use Rattle.cs_run.specs.Input.Read.{HasTokensOfItsFile};
 ghost use Rattle.cs_io.specs.Uses.{desk_used, used};
-ghost use Rattle.cs_run.specs.Command.Carrying.{TakesGrammar, TakesPair, WritesByGrammar, WritesByPair, WritesOfPair, WritesSure};
+ghost use Rattle.cs_run.specs.Command.Carrying.{TakesGrammar, TakesPair, TakesThird, WritesByGrammar, WritesByPair, WritesByText, WritesOfPair, WritesSure};
 ghost use Rattle.cs_run.specs.Command.Words.{AreBad, AskForNoFiles, KeepsPromisesTo, PerformsFor};
 ghost use Rattle.cs_words.specs.Words.{texts};
 ghost use Rattle.cs_run.specs.Writer.Suite.{IsRules, IsSuite};
 
 use crate::command::chains::chains;
+use crate::command::check::checked;
 use crate::command::endings::{ended, stopped, unsuited};
 use crate::command::lexemes::of_lexemes;
 use crate::command::lexical::lexical;
 use crate::command::text::of_text;
 use crate::ending::{Ending, finish};
-use crate::input::{Meant, Pair, read_files};
+use crate::input::{Meant, Pair, PairAndText, read_files};
 use crate::writer::{write_rules, write_suite, write_summary};
 use cs_fan::Gate;
 use cs_io::{Desk, Sink};
@@ -26,7 +28,7 @@ use std::thread::Threads;
 
 /// Does what the words ask for, says on `err` what went wrong, and gives the status: 0 where the whole output was written,
 /// 1 where the files are refused, 2 where the words aren't accepted, 3 where a file can't be read, 4 where the output can't
-/// be written, 5 for want of memory. The words are the program's arguments without its own name: a command, what it takes,
+/// be written, 5 for want of memory, 6 where it was written and says that a manifest doesn't pass. The words are the program's arguments without its own name: a command, what it takes,
 /// and its options. Workers run by `rt`, and enter the gate with the place of an item in its batch.
 ///
 /// What it promises stands on one page, in `specs/Headline.antt` of `cs_run::ending`.
@@ -79,7 +81,7 @@ fn perform<R: Threads + Sync, D: Desk, O: Sink, G: Gate + Sync>(
         },
         Meant::Grammar(file) => of_grammar(rt, alloc, request.command, file, out, gate),
         Meant::Pair(pair) => of_pair(rt, alloc, request.command, request.options, pair, out, gate),
-        Meant::Text(beside) => of_text(alloc, &beside, out),
+        Meant::Text(beside) => of_third(alloc, request.command, &beside, out),
     }
 }
 
@@ -100,7 +102,7 @@ fn of_grammar<R: Threads + Sync, O: Sink, G: Gate + Sync>(
     match command {
         Command::OfGrammar(GrammarCommand::Rules) => rules(rt, alloc, file, out, gate),
         Command::OfGrammar(GrammarCommand::Chains) => chains(rt, alloc, &file, out, gate),
-        Command::OfPair(_) | Command::Member | Command::Gen => unreachable!(),
+        Command::OfPair(_) | Command::Member | Command::Check | Command::Gen => unreachable!(),
     }
 }
 
@@ -134,7 +136,22 @@ fn of_pair<R: Threads + Sync, O: Sink, G: Gate + Sync>(
         Command::OfPair(PairCommand::Wrong) => {
             of_lexemes(rt, alloc, PairCommand::Wrong, &options, &pair, out, gate)
         }
-        Command::OfGrammar(_) | Command::Member | Command::Gen => unreachable!(),
+        Command::OfGrammar(_) | Command::Member | Command::Check | Command::Gen => unreachable!(),
+    }
+}
+
+// Writes the text that a command asks for by a yacc file, a lex file and a third file.
+fn of_third<O: Sink>(alloc: Global, command: Command, beside: &PairAndText, out: &mut O) -> Ending
+    requires takes { TakesThird command }
+    requires short { length beside.now.text ≤ 67108864 }
+    requires tokens { HasTokensOfItsFile beside.now }
+    ensures writes { WritesByText command beside.now result (used O.Sink out.old out.new) }
+    ensures told { HasLine result }
+{
+    match command {
+        Command::Member => of_text(alloc, beside, out),
+        Command::Check => checked(alloc, beside, out),
+        Command::OfGrammar(_) | Command::OfPair(_) | Command::Gen => unreachable!(),
     }
 }
 

@@ -6,6 +6,7 @@ ghost use Rattle.cs_run.specs.Ending.Texts.{HasOneText};
 ghost use Rattle.cs_io.specs.Desk.{Files};
 
 use cs_chain_text::one_chains_text;
+use cs_check_text::one_check_text;
 use cs_deep::one_deep;
 use cs_lexical::one_lexical_text;
 use cs_manifest::one_manifest;
@@ -23,4 +24,5 @@ pub fn one_asked_text()
     one_deep();
     one_chains_text();
     one_wrong_text();
+    one_check_text();
 }

@@ -1,6 +1,6 @@
 // The text of `member`.
 
-ghost use Rattle.std.specs.Prelude.{◌<◌, ◌^◌, All, length};
+ghost use Rattle.std.specs.Prelude.{◌≤◌, All, length};
 ghost use Rattle.cs_grammar.specs.Grammar.{IsNumberOf};
 ghost use Rattle.cs_io.specs.Uses.{used};
 ghost use Rattle.cs_run.specs.Command.Scanned.{WritesMembership, WritesTokens};
@@ -22,7 +22,7 @@ const MOST_TOKENS: usize = 2_000;
 
 /// Writes whether a text is a sentence, with a derivation.
 pub(crate) fn of_text<O: Sink>(alloc: Global, beside: &PairAndText, out: &mut O) -> Ending
-    requires short { length beside.now.text < 2 ^ 32 }
+    requires short { length beside.now.text ≤ 67108864 }
     requires tokens { HasTokensOfItsFile beside.now }
     ensures writes { WritesMembership beside.now result (used O.Sink out.old out.new) }
     ensures told { HasLine result }

@@ -8,6 +8,8 @@ use cs_words::Role;
 pub enum Ending {
     /// The whole output was written.
     Written,
+    /// The whole output was written, and says no: the manifest that is checked has a line with a fault.
+    Denied,
     /// The files are refused.
     Refused(Refusal),
     /// The words are not accepted; this one, from 0, can't stand where it stands.

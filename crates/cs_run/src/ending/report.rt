@@ -2,7 +2,7 @@
 
 ghost use Rattle.std.specs.Prelude.{◌≡◌, IfOk, Result, string_bytes};
 ghost use Rattle.cs_io.specs.Uses.{IsUnused, used};
-ghost use Rattle.cs_run.specs.declared.ending.ending.Ending.TheVariants.{Written};
+ghost use Rattle.cs_run.specs.declared.ending.ending.Ending.TheVariants.{Denied, Written};
 ghost use Rattle.cs_run.specs.Ending.Ending.{HasLine, IsReported, Says, line_of, status_of};
 ghost use Rattle.cs_run.specs.Ending.Headline.{KeepsWhatPerforms};
 
@@ -13,7 +13,8 @@ use cs_words::Role;
 use std::alloc::{AllocError, Global};
 
 /// Says on `err` how a run ended, and gives the status: 0 where the whole output was written, 1 where the files are refused,
-/// 2 where the words aren't accepted, 3 where a file can't be read, 4 where the output can't be written, 5 for want of memory.
+/// 2 where the words aren't accepted, 3 where a file can't be read, 4 where the output can't be written, 5 for want of memory, 6
+/// where the whole output says no.
 ///
 /// Whatever the words ask for and however desk and output were used: where the run ended so by its cause, it keeps the
 /// promises of `specs/Headline`.
@@ -31,8 +32,13 @@ fn report<E: Sink>(alloc: Global, ending: Ending, err: &mut E) -> Ending
     ensures line { Says (line_of result) (used E.Sink err.old err.new) }
     ensures silent { result ≡ Written
         → IsUnused (used E.Sink err.old err.new) }
+    ensures denied_silently { result ≡ Denied
+        → IsUnused (used E.Sink err.old err.new) }
 {
     if ending == Ending::Written {
+        return ending;
+    }
+    if ending == Ending::Denied {
         return ending;
     }
     match line(alloc, ending) {
@@ -58,6 +64,7 @@ fn status(ending: Ending) -> u8
         Ending::NoFile(_) => 3,
         Ending::NotWritten => 4,
         Ending::NoMemory => 5,
+        Ending::Denied => 6,
     }
 }
 
@@ -66,12 +73,15 @@ fn line(alloc: Global, ending: Ending) -> Result<String, AllocError>
     ensures { IfOk result (λ line. string_bytes line ≡ line_of ending) }
 {
     match ending {
-        Ending::Written => Ok(String::new(alloc)),
+        Ending::Written | Ending::Denied => Ok(String::new(alloc)),
         Ending::Refused(refusal) => refusal_line(alloc, refusal),
         Ending::BadWord { at } => format!(in alloc; "conform: usage: word {at}\n"),
         Ending::NoFile(Role::Yacc) => String::from_str(alloc, "conform: read fault: yacc\n"),
         Ending::NoFile(Role::Lex) => String::from_str(alloc, "conform: read fault: lex\n"),
         Ending::NoFile(Role::Text) => String::from_str(alloc, "conform: read fault: text\n"),
+        Ending::NoFile(Role::Manifest) => {
+            String::from_str(alloc, "conform: read fault: manifest\n")
+        }
         Ending::NotWritten => String::from_str(alloc, "conform: write fault\n"),
         Ending::NoMemory => String::from_str(alloc, "conform: out of memory\n"),
     }

@@ -18,6 +18,9 @@ use std::alloc::Global;
 // A text has no more bytes.
 const MOST_TEXT: usize = 65_536;
 
+// A manifest that is checked has no more.
+const MOST_MANIFEST: usize = 67_108_864;
+
 /// A yacc file, and a lex file beside it.
 #[derive(Drop)]
 pub struct Pair {
@@ -25,7 +28,7 @@ pub struct Pair {
     pub lex: LexFile,
 }
 
-/// A pair, and a text.
+/// A pair, and the bytes of a third file: a text, or a manifest.
 #[derive(Drop)]
 pub struct PairAndText {
     pub pair: Pair,
@@ -49,6 +52,7 @@ pub(crate) fn most_of(role: Role) -> usize
     match role {
         Role::Yacc | Role::Lex => MOST_BYTES,
         Role::Text => MOST_TEXT,
+        Role::Manifest => MOST_MANIFEST,
     }
 }
 
@@ -78,21 +82,23 @@ pub fn judge_pair(alloc: Global, bytes: &[u8], more: &[u8]) -> Result<Pair, Stop
     }
 }
 
-/// The same with a text, which is judged by its length alone.
+/// The same with a third file, which is judged by its length alone.
 pub(crate) fn judge_text(
     alloc: Global,
     bytes: &[u8],
     more: &[u8],
+    role: Role,
     text: Vec<u8>,
 ) -> Result<PairAndText, Stop>
-    ensures read { IfOk result (IsTextOfAll bytes.now more.now text) }
+    ensures read { IfOk result (IsTextOfAll role bytes.now more.now text) }
     ensures tokens { IfOk result HasTokensOfItsFile }
-    ensures refused { IfErr result (RefusesRead (text_contents bytes.now more.now text.items)) }
+    ensures refused { IfErr result
+        (RefusesRead (text_contents role bytes.now more.now text.items)) }
     ensures told { IfErr result CanBeTold }
 {
     check_length(bytes, Role::Yacc)?;
     check_length(more, Role::Lex)?;
-    check_length(&text, Role::Text)?;
+    check_length(&text, role)?;
     match judge_pair(alloc, bytes, more) {
         Ok(pair) => Ok(PairAndText {
             pair,

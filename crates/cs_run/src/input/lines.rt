@@ -51,6 +51,7 @@ fn role_word(role: Role) -> &'static str
         Role::Yacc => "yacc",
         Role::Lex => "lex",
         Role::Text => "text",
+        Role::Manifest => "manifest",
     }
 }
 

@@ -5,6 +5,7 @@ ghost use Rattle.cs_lex.specs.Reading.File.{HasTokensOf};
 ghost use Rattle.cs_run.specs.Input.Files.{IsMeantFor, IsNoFile};
 ghost use Rattle.cs_run.specs.Input.Refusal.{CanBeTold, FileStops, FilesStop};
 ghost use Rattle.cs_run.specs.Input.Read.{AreMeant, HasItsTokens, HasTokensOfItsFile, IsFormOf, IsGrammarIn, IsPairIn, IsTextIn, ReadsFile};
+ghost use Rattle.cs_run.specs.Input.Read as spec;
 ghost use Rattle.cs_words.specs.Commands.{taken_of};
 ghost use Rattle.cs_words.specs.Words.{texts};
 ghost use Rattle.cs_words.specs.Requests.{Fit, IsFitting, Names, files_in, files_named, one_named, plain_request, three_named, two_named};
@@ -73,7 +74,15 @@ fn read_named<D: Desk>(
             Err(stop) => Err(stop),
         },
         [yacc, lex, text] => {
-            match read_text(alloc, yacc.as_str(), lex.as_str(), text.as_str(), desk) {
+            let role = third_role(command);
+            match read_text(
+                alloc,
+                yacc.as_str(),
+                lex.as_str(),
+                role,
+                text.as_str(),
+                desk,
+            ) {
                 Ok(beside) => Ok(Meant::Text(beside)),
                 Err(stop) => Err(stop),
             }
@@ -115,18 +124,29 @@ fn read_pair<D: Desk>(alloc: Global, yacc: &str, lex: &str, desk: &mut D) -> Res
     }
 }
 
-// The yacc file, the lex file and the text of these names. All are read before any is judged.
+// What the third file is to a command that takes three.
+fn third_role(command: Command) -> Role
+    ensures { result ≡ spec.third_role command }
+{
+    match command {
+        Command::Check => Role::Manifest,
+        Command::OfGrammar(_) | Command::OfPair(_) | Command::Member | Command::Gen => Role::Text,
+    }
+}
+
+// The yacc file, the lex file and the third file of these names. All are read before any is judged.
 fn read_text<D: Desk>(
     alloc: Global,
     yacc: &str,
     lex: &str,
+    role: Role,
     text: &str,
     desk: &mut D,
 ) -> Result<PairAndText, Stop>
-    ensures read { IfOk result (IsTextIn (D.files desk.old) yacc.now lex.now text.now) }
+    ensures read { IfOk result (IsTextIn role (D.files desk.old) yacc.now lex.now text.now) }
     ensures tokens { IfOk result HasTokensOfItsFile }
     ensures stops { IfErr result
-        (FilesStop D.Desk desk.old desk.new (three_named yacc.now lex.now text.now)) }
+        (FilesStop D.Desk desk.old desk.new (three_named role yacc.now lex.now text.now)) }
     ensures told { IfErr result CanBeTold }
     ensures failed { ¬ (D.faults desk.new ≡ D.faults desk.old) → IsNoFile result }
     ensures steady { IsTrue (D.steady desk.old) → D.faults desk.new ≡ D.faults desk.old }
@@ -135,8 +155,8 @@ fn read_text<D: Desk>(
 {
     let bytes = read_file(alloc, yacc, Role::Yacc, desk)?;
     let more = read_file(alloc, lex, Role::Lex, desk)?;
-    match read_file(alloc, text, Role::Text, desk) {
-        Ok(text) => judge_text(alloc, &bytes, &more, text),
+    match read_file(alloc, text, role, desk) {
+        Ok(text) => judge_text(alloc, &bytes, &more, role, text),
         Err(stop) => Err(stop),
     }
 }

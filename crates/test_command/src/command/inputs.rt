@@ -20,6 +20,7 @@ fn said(alloc: Global, yacc: Option<&[u8]>, lex: Option<&[u8]>) -> Result<String
         Err(Stop::NoFile(Role::Yacc)) => String::from_str(alloc, "no yacc file"),
         Err(Stop::NoFile(Role::Lex)) => String::from_str(alloc, "no lex file"),
         Err(Stop::NoFile(Role::Text)) => String::from_str(alloc, "no text"),
+        Err(Stop::NoFile(Role::Manifest)) => String::from_str(alloc, "no manifest"),
         Err(Stop::Refused(refusal)) => line(alloc, refusal),
         Err(Stop::Memory) => String::from_str(alloc, "no memory"),
     }

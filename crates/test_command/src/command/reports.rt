@@ -10,7 +10,12 @@ use std::test::Fail;
 use std::thread::Threads;
 
 // A desk with the files `y`, `l` and `t`.
-fn desk(alloc: Global, yacc: &[u8], lex: &[u8], text: &[u8]) -> Result<MemoryDesk, AllocError> {
+pub(crate) fn desk(
+    alloc: Global,
+    yacc: &[u8],
+    lex: &[u8],
+    text: &[u8],
+) -> Result<MemoryDesk, AllocError> {
     let mut files = Vec::new(alloc);
     files.push((String::from_str(alloc, "y")?, yacc.to_vec(alloc)?))?;
     files.push((String::from_str(alloc, "l")?, lex.to_vec(alloc)?))?;
@@ -19,7 +24,7 @@ fn desk(alloc: Global, yacc: &[u8], lex: &[u8], text: &[u8]) -> Result<MemoryDes
 }
 
 // Words, a text, a status, the output and the error output.
-type Row = (
+pub(crate) type Row = (
     &'static [&'static str],
     &'static [u8],
     u8,
@@ -28,7 +33,7 @@ type Row = (
 );
 
 // Whether the run of a row on these files ends as it says.
-fn is_ended<R: Threads + Sync>(
+pub(crate) fn is_ended<R: Threads + Sync>(
     rt: &R,
     alloc: Global,
     yacc: &[u8],

@@ -66,6 +66,10 @@ const REFUSALS: &[(Refusal, &[u8])] = &[
         Refusal::TooLong(Role::Text),
         b"conform: text: Length above 65536\n",
     ),
+    (
+        Refusal::TooLong(Role::Manifest),
+        b"conform: manifest: Length above 67108864\n",
+    ),
     (Refusal::TextStops { at: 2 }, b"conform: text: Stops at 2\n"),
     (
         Refusal::TextTokens { found: 2_001 },
@@ -108,10 +112,17 @@ const ENDINGS: &[(Ending, usize, u8, &[u8])] = &[
         3,
         b"conform: read fault: lex\n",
     ),
+    (
+        Ending::NoFile(Role::Manifest),
+        99,
+        3,
+        b"conform: read fault: manifest\n",
+    ),
     (Ending::NotWritten, 99, 4, b"conform: write fault\n"),
     (Ending::NoMemory, 99, 5, b"conform: out of memory\n"),
     (Ending::NotWritten, 7, 4, b"conform"),
     (Ending::NotWritten, 0, 4, b""),
+    (Ending::Denied, 0, 6, b""),
 ];
 
 #[test]

@@ -4,7 +4,7 @@ use Rattle.cs_words.specs.Words.{texts}
 use Rattle.cs_run.specs.declared.input.judging.Meant.TheVariants.{Grammar, Nothing, Pair, Text}
 use Rattle.cs_run.specs.Input.Read.{HasItsTokens}
 use Rattle.cs_words.proofs.OneBad.{bad_not_accepted}
-use Rattle.cs_run.proofs.OnCommand.Performing.{gen_so, names_no_seed, no_files_so, performs_as, stopped_so, takes_grammar, takes_pair, takes_seed, takes_text, text_short, text_so}
+use Rattle.cs_run.proofs.OnCommand.Performing.{gen_so, names_no_seed, no_files_so, performs_as, stopped_so, takes_grammar, takes_pair, takes_seed, takes_third, text_short}
 use Rattle.cs_run.proofs.command.command.perform.Goals as goal
 
 pub returns-in-Err-read_files-clause-performs : goal.returns-in-Err-read_files-clause-performs
@@ -63,18 +63,21 @@ pub of_pair-requires-clause-takes : goal.of_pair-requires-clause-takes
 of_pair-requires-clause-takes g c = λ κs met.
     takes_pair c.in-Ok.request.command (plain_arguments c.in-Ok.request.arguments) c.in-Ok-read_files.meant c.in-Pair.pair c.in-Pair.is c.in-Ok-read_files.ensures.form
 
-pub of_text-requires-clause-short : goal.of_text-requires-clause-short
-of_text-requires-clause-short g c = text_short (g.D.Desk.files c.args.desk.now) (files_in c.in-Ok.request) c.in-Ok-read_files.meant c.in-Ok-read_files.ensures.read c.in-Text.beside c.in-Text.is
+pub of_third-requires-clause-takes : goal.of_third-requires-clause-takes
+of_third-requires-clause-takes g c =
+    takes_third c.in-Ok.request.command (plain_arguments c.in-Ok.request.arguments) c.in-Ok-read_files.meant c.in-Text.beside c.in-Text.is c.in-Ok-read_files.ensures.form
 
-pub of_text-requires-clause-tokens : goal.of_text-requires-clause-tokens
-of_text-requires-clause-tokens g c = subst HasItsTokens c.in-Text.is c.in-Ok-read_files.ensures.tokens
+pub of_third-requires-clause-short : goal.of_third-requires-clause-short
+of_third-requires-clause-short g c = text_short (g.D.Desk.files c.args.desk.now) (files_in c.in-Ok.request) c.in-Ok-read_files.meant c.in-Ok-read_files.ensures.read c.in-Text.beside c.in-Text.is
+
+pub of_third-requires-clause-tokens : goal.of_third-requires-clause-tokens
+of_third-requires-clause-tokens g c = subst HasItsTokens c.in-Text.is c.in-Ok-read_files.ensures.tokens
 
 pub returns-in-Text-clause-performs : goal.returns-in-Text-clause-performs
 returns-in-Text-clause-performs g c =
-    performs_as (texts c.args.words.now) (plain_request c.in-Ok.request) (c.in-Ok.ensures.accepted, c.in-Ok.ensures.asked) c.in-Ok-read_files.meant _ _ c.of_text.result
+    performs_as (texts c.args.words.now) (plain_request c.in-Ok.request) (c.in-Ok.ensures.accepted, c.in-Ok.ensures.asked) c.in-Ok-read_files.meant _ _ c.of_third.result
     c.in-Ok-read_files.ensures.read c.in-Ok-read_files.ensures.failed c.read_files.ensures.steady (Text c.in-Text.beside) c.in-Text.is
-    (text_so c.of_text.result _ c.in-Ok.request.command (plain_arguments c.in-Ok.request.arguments) c.in-Ok.request.options c.in-Text.beside
-    (takes_text c.in-Ok.request.command (plain_arguments c.in-Ok.request.arguments) c.in-Ok-read_files.meant c.in-Text.beside c.in-Text.is c.in-Ok-read_files.ensures.form) c.of_text.ensures.writes)
+    (c.of_third.ensures.writes (plain_arguments c.in-Ok.request.arguments) c.in-Ok.request.options)
 
 pub returns-in-Text-clause-bad_words_ask_nothing : goal.returns-in-Text-clause-bad_words_ask_nothing
 returns-in-Text-clause-bad_words_ask_nothing g c = λ bad. absurd (bad_not_accepted _ bad.0 bad.1 c.in-Ok.ensures.accepted)

@@ -3,4 +3,4 @@ use Rattle.cs_run.proofs.ending.report.finish.Goals as goal
 
 pub returns : goal.returns
 returns g c = λ asked desk out performs.
-    keeps asked desk out _ _ c.report.result c.status.result performs c.report.ensures.ending c.report.ensures.line c.report.ensures.silent c.status.ensures
+    keeps asked desk out _ _ c.report.result c.status.result performs c.report.ensures.ending c.report.ensures.line c.report.ensures.silent c.report.ensures.denied_silently c.status.ensures

@@ -64,4 +64,4 @@ returns-in-Ok-read_text-clause-some g c = λ none.
     let same =
     three_named_in c.args.names.now c.yacc-item-then-names-lt4.result c.lex-item-then-names-lt4.result c.text-item.result name other third (omega arith) (omega arith)
     c.yacc-item-then-names-lt4.is c.lex-item-then-names-lt4.is c.text-item.is c.as_str-in-len3.ensures.value c.as_str-in-len3-2.ensures.value c.as_str-in-len3-3.ensures.value in
-    three_not_none name other third _ (three_files name other third c.args.command (Names (texts c.args.names.now)) same c.requires) none
+    three_not_none name other third _ _ (three_files name other third c.args.command (Names (texts c.args.names.now)) same c.requires) none

@@ -1,0 +1,5 @@
+use Rattle.cs_check_text.proofs.OneText.{denies_where_it_fails}
+use Rattle.cs_check_text.proofs.laws.denial_is_failure.Goals as goal
+
+pub returns : goal.returns
+returns c = denies_where_it_fails

@@ -1,0 +1,5 @@
+use Rattle.cs_check_text.proofs.SomeText.{some_text}
+use Rattle.cs_check_text.proofs.laws.some_check_text.Goals as goal
+
+pub returns : goal.returns
+returns c = some_text
