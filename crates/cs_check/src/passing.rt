@@ -3,7 +3,8 @@
 //! The laws are functions that do nothing.
 //!
 //! Meaning: all files of `specs/Passing/`, beside those of `cs_lines`. `Faults` says what each fault is, `Passing` when a
-//! manifest passes, `Claims` what it claims then, and `Changes` what users may change of it.
+//! manifest passes, `Outcomes` what the answer of a check tells, `Claims` what a manifest that passes claims, and `Changes` what
+//! users may change of it.
 
 mod changes;
 mod claims;

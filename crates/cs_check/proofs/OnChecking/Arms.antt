@@ -1,5 +1,5 @@
 -- A line behind the head, by what the code is told of it.
-use Rattle.std.proofs.Common.{◌≡◌, ℕ, ◌+◌, ◌<◌, Bool, List, [], ◌∷◌, ◌++◌, Option, Some, None, length, refl, sym, ap, ◌∙◌, subst, inr, ◌↔◌}
+use Rattle.std.proofs.Common.{ℕ, ◌+◌, ◌<◌, Bool, List, Option, Some, None, length, subst, inr, ◌↔◌}
 use Rattle.std.specs.Prelude.{IsTrue, IfOk, Result, if◌then◌else◌}
 use Rattle.std.specs.List.{Contains}
 use Rattle.std.proofs.lemmas.Result.{IfOk-weaker}
@@ -98,6 +98,6 @@ module _ (file : File) (scanning : Scanning) (above : List Line) (old : Entries)
       IfOk-weaker result (IsNegativeJudged file above l new) (IsEntryJudged (checked_by file scanning) above l new)
       (negative_judged (checked_by file scanning) above new number base edit left right at (inr h))
       (subst (λ (x : List ℕ). IfOk result (IsNegativeJudged file above (NegativeLine number base edit left x at) new)) tells.4
-          (subst (λ (x : List ℕ). IfOk result (IsNegativeJudged file above (NegativeLine number base edit x told.right.now at) new)) tells.3
-          (judges above number base edit at t in_lines h.part few tells.1 tells.2 tells.5)))
+      (subst (λ (x : List ℕ). IfOk result (IsNegativeJudged file above (NegativeLine number base edit x told.right.now at) new)) tells.3
+      (judges above number base edit at t in_lines h.part few tells.1 tells.2 tells.5)))
   negative_arm sets in_lines new n told l tells h result judges = absurd tells

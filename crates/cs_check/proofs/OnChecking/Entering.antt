@@ -1,9 +1,9 @@
 -- What the steps find out of lines behind the head is their judgement.
-use Rattle.std.proofs.Common.{◌≡◌, ℕ, Bool, true, false, List, [], ◌∷◌, ◌++◌, Option, Some, None, refl, ◌↔◌}
+use Rattle.std.proofs.Common.{ℕ, Bool, true, false, List, [], ◌∷◌, ◌++◌, Option, Some, None, refl, ◌↔◌}
 use Rattle.std.specs.Prelude.{IsTrue, if◌then◌else◌}
 use Rattle.std.proofs.lemmas.Bool.{false≢true}
 use Rattle.cs_check.specs.declared.passing.fault.ClaimFault.{ClaimFault}
-use Rattle.cs_check.specs.declared.passing.fault.ClaimFault.TheVariants.{Form, Head, Unclosed, Derive, Size, Yield, Scan, Goal, Infeasible, Base, Edit, Pair, Totals}
+use Rattle.cs_check.specs.declared.passing.fault.ClaimFault.TheVariants.{Form, Derive, Size, Yield, Scan, Goal, Infeasible, Base, Edit, Pair, Totals}
 use Rattle.cs_check.specs.declared.checking.entries.Entries.{Entries}
 use Rattle.cs_lines.specs.Words.Edits.{EditWords}
 use Rattle.cs_lines.specs.Lines.Line.{GoalWords, VerdictWords, Counts, Line, CaseLine, DeriveLine, TokensLine, TextLine, NoLexemeLine, NoScanLine, GoalLine, BaseLine, NegativeLine, EndLine}

@@ -1,5 +1,5 @@
 -- The pass over the lines of a manifest.
-use Rattle.std.proofs.Common.{◌≡◌, ℕ, ◌+◌, ◌<◌, ◌≤◌, List, [], ◌∷◌, ◌++◌, Option, Some, None, map, take, drop, length, refl, sym, ap, ◌∙◌, subst, ⊎_elim, arith}
+use Rattle.std.proofs.Common.{◌≡◌, ℕ, ◌+◌, ◌<◌, ◌≤◌, List, [], ◌∷◌, ◌++◌, Option, Some, None, map, take, drop, length, refl, sym, ◌∙◌, subst, ⊎_elim, arith}
 use Rattle.std.proofs.lemmas.List.{map_push, length-map, length-drop}
 use Rattle.cs_bytes.specs.Places.{line_size}
 use Rattle.cs_lines.proofs.OnPieces.{line_in_front}
@@ -10,9 +10,8 @@ use Rattle.cs_lines.specs.Lines.Texts.{Says}
 use Rattle.cs_check.specs.declared.passing.fault.ClaimFault.{ClaimFault}
 use Rattle.cs_check.specs.declared.passing.fault.ClaimFault.TheVariants.{Form}
 use Rattle.cs_check.specs.declared.checking.above.Above.{Above}
-use Rattle.cs_check.specs.Passing.First.{IsFaultless, IsLowest}
-use Rattle.cs_check.specs.Passing.Above.{goals_in, edits}
-use Rattle.cs_check.specs.Passing.Places.{OfEnd, last_part}
+use Rattle.cs_check.specs.Passing.First.{IsLowest}
+use Rattle.cs_check.specs.Passing.Places.{OfEnd}
 use Rattle.cs_check.specs.Passing.Faults.{Checked, AreSaid, HasFault}
 use Rattle.cs_check.specs.Passing.Passing.{number, Passes, Fails}
 use Rattle.cs_check.specs.Passing.Outcomes.{HasCounts, IsOutcome}

@@ -6,11 +6,11 @@ use Rattle.std.proofs.lemmas.List.{length-append, length-map}
 use Rattle.std.proofs.lemmas.Result.{IfOk-weaker}
 use Rattle.cs_lines.specs.declared.lines.line.Line as held
 use Rattle.cs_lines.specs.declared.lines.line.Line.TheVariants as lines
-use Rattle.cs_lines.specs.Lines.Line.{Line, Opening, Weighing, TokenLine, RuleLine, LexemeLine, SetLine, RowLine, CaseLine, DeriveLine, TokensLine, TextLine, NoLexemeLine, NoScanLine, GoalLine, BaseLine, NegativeLine, EndLine}
+use Rattle.cs_lines.specs.Lines.Line.{Line, DeriveLine, TextLine}
 use Rattle.cs_lines.specs.Words.Words.{line, text_byte, numeral, quoted}
 use Rattle.cs_lines.specs.Lines.Texts.{joined, words, Says}
 use Rattle.cs_lines.specs.Lines.Spelled.{Spells}
-use Rattle.cs_lines.specs.Lines.Read.{Tells, IsReadAs, IsText, SaysNone}
+use Rattle.cs_lines.specs.Lines.Read.{Tells, IsReadAs, SaysNone}
 use Rattle.cs_lines.proofs.OnLines.Forms.{says_text}
 use Rattle.cs_lines.proofs.OnTexts.Quotes.{some_bytes}
 use Rattle.cs_check.specs.declared.passing.fault.ClaimFault.{ClaimFault}

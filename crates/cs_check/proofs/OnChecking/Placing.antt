@@ -1,5 +1,5 @@
 -- Where a line stands, and what is known with it.
-use Rattle.std.proofs.Common.{◌≡◌, ℕ, ◌+◌, ◌<◌, ◌≤◌, Bool, true, false, List, [], ◌∷◌, ◌++◌, Option, Some, None, length, refl, sym, ap, ◌∙◌, subst, ⊎_elim, inl, inr, arith}
+use Rattle.std.proofs.Common.{◌≡◌, ◌+◌, ◌<◌, ◌≤◌, Bool, true, false, List, [], ◌∷◌, ◌++◌, Option, Some, None, length, refl, sym, ap, ◌∙◌, subst, ⊎_elim, inl, arith}
 use Rattle.std.specs.Prelude.{IsTrue, ◌↔◌}
 use Rattle.std.specs.List.{Contains}
 use Rattle.std.proofs.lemmas.Bool.{false≢true}
@@ -15,7 +15,7 @@ use Rattle.cs_check.specs.Passing.Places.{Part, InHead, OfCase, OfDerivation, Of
 use Rattle.cs_check.specs.Passing.Faults.{Checked, Has, HasHead, HasClosed}
 use Rattle.cs_check.specs.Passing.Passing.{number}
 use Rattle.cs_check.specs.Checking.Judging.{IsRight, IsWrong}
-use Rattle.cs_check.specs.Checking.Told.{AreEntries, checked_by}
+use Rattle.cs_check.specs.Checking.Told.{AreEntries}
 use Rattle.cs_check.specs.Checking.Head.{KnowsHead, HasEnded, IsHeadJudged}
 use Rattle.cs_check.specs.Checking.Running.{IsPast, KnowsPlace, KnowsAbove, MayFollow, IsEntryJudged, IsLineJudged}
 use Rattle.cs_check.proofs.OnChecking.Kinds.{is_head, taken_head}

@@ -128,7 +128,8 @@ impl<'a> Above<'a> {
     ) -> Result<Option<ClaimFault>, AllocError>
         requires { IsShort line }
         ensures same { self.new.head ≡ self.old.head }
-        ensures judged { JudgesBehind yacc.now (scanning scanner.now) self.old line.entry self.new result }
+        ensures judged { JudgesBehind yacc.now (scanning scanner.now)
+            self.old line.entry self.new result }
     {
         self.part = part_of(self.part, &line);
         self.entries.take(alloc, yacc, scanner, &self.head, line)
@@ -145,7 +146,8 @@ impl<'a> Above<'a> {
         requires short { IsShort line }
         requires whole { HasWholeSets yacc.now.grammar self.old.head }
         ensures whole { HasWholeSets yacc.now.grammar self.new.head }
-        ensures judged { JudgesLine yacc.now (scanning scanner.now) self.old line.entry self.new result }
+        ensures judged { JudgesLine yacc.now (scanning scanner.now)
+            self.old line.entry self.new result }
     {
         match self.place(yacc, &line) {
             Place::InHead => self.take_inside(alloc, yacc, line),
@@ -165,7 +167,8 @@ impl<'a> Above<'a> {
         requires short { length bytes.now < 2 ^ 32 }
         requires whole { HasWholeSets yacc.now.grammar self.old.head }
         ensures whole { HasWholeSets yacc.now.grammar self.new.head }
-        ensures judged { JudgesPiece yacc.now (scanning scanner.now) self.old bytes.now self.new result }
+        ensures judged { JudgesPiece yacc.now (scanning scanner.now)
+            self.old bytes.now self.new result }
     {
         let Some(text) = text_of(bytes) else {
             return Ok(Some(ClaimFault::Form));

@@ -2,9 +2,8 @@
 
 ghost use Rattle.std.specs.Prelude.{◌≤◌, IfOk, length};
 ghost use Rattle.cs_scanner.specs.Scan.Compared.{scanning};
-ghost use Rattle.cs_check.specs.Checking.Told.{checked_by};
 ghost use Rattle.cs_check.specs.Checking.Running.{IsEndAnswer};
-ghost use Rattle.cs_check.specs.Passing.Outcomes.{IsOutcome};
+ghost use Rattle.cs_check.specs.Passing.Outcomes.{checked_by, IsOutcome};
 
 use crate::checking::above::Above;
 use crate::checking::part::Part;

@@ -59,7 +59,8 @@ impl<'a> Entries<'a> {
         line: Line<'_>,
     ) -> Result<Option<ClaimFault>, AllocError>
         requires { IsShort line }
-        ensures { JudgesEntry yacc.now (scanning scanner.now) self.old head.now line.entry self.new result }
+        ensures { JudgesEntry yacc.now (scanning scanner.now)
+            self.old head.now line.entry self.new result }
     {
         match line {
             Line::Case { size, .. } => {

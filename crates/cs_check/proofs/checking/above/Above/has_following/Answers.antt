@@ -1,7 +1,5 @@
-use Rattle.std.proofs.Common.{ap, sym, ◌∙◌, subst}
-use Rattle.std.specs.List.{Contains}
+use Rattle.std.proofs.Common.{sym, ◌∙◌}
 use Rattle.std.proofs.lemmas.Bool.{false≢true}
-use Rattle.cs_check.specs.Passing.Places.{Part, part_of, last_part, next_parts}
 use Rattle.cs_check.proofs.OnChecking.Placing.{follows_by}
 use Rattle.cs_check.proofs.checking.above.Above.has_following.Goals as goal
 

@@ -1,4 +1,3 @@
-use Rattle.std.specs.Prelude.{IfOk}
 use Rattle.std.proofs.lemmas.Result.{IfOk-weaker}
 use Rattle.cs_check.specs.Checking.Head.{IsHeadJudged}
 use Rattle.cs_check.specs.Checking.Running.{IsLineJudged}
