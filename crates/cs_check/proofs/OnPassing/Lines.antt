@@ -30,13 +30,13 @@ one_list (p ∷ pieces) (l ∷ ls) (k ∷ ks) h i =
 
 -- ---- lines and pieces
 
-said : (pieces : List (List ℕ)) (ls : List Line) → AllZip Says pieces ls → AreSaid (map Some pieces) ls
+pub said : (pieces : List (List ℕ)) (ls : List Line) → AllZip Says pieces ls → AreSaid (map Some pieces) ls
 said [] [] h = tt
 said [] (l ∷ ls) h = absurd h
 said (p ∷ pieces) [] h = absurd h
 said (p ∷ pieces) (l ∷ ls) h = (h.0, said pieces ls h.1)
 
-unsaid : (pieces : List (List ℕ)) (ls : List Line) → AreSaid (map Some pieces) ls → AllZip Says pieces ls
+pub unsaid : (pieces : List (List ℕ)) (ls : List Line) → AreSaid (map Some pieces) ls → AllZip Says pieces ls
 unsaid [] [] h = tt
 unsaid [] (l ∷ ls) h = absurd h
 unsaid (p ∷ pieces) [] h = absurd h
