@@ -21,12 +21,12 @@
 //! # What is proved
 //!
 //! A text fails at one line at most with one lowest fault, and doesn't pass then. `check` answers `Yes` only where the manifest
-//! passes, with the counts of its goals and negatives, and `No` only with the line and the fault at which it fails. What a text
-//! that passes claims is so: that it isn't cannot be. Texts may be exchanged, and negatives taken out.
+//! passes, with the counts of its goals and negatives, and `No` only with the line and the fault at which it fails. Where it
+//! answers `Yes` the manifest's claims hold. Texts may be exchanged, and negatives taken out.
 //!
 //! # What is only tested
 //!
-//! That `check` answers where memory is ample.
+//! That `check` answers where memory is ample: by `test_command`.
 #![tactic(auto)]
 
 mod checking;

@@ -7,6 +7,7 @@ use Rattle.cs_check.specs.declared.checking.pass.Outcome.{Outcome}
 use Rattle.cs_check.specs.declared.checking.pass.Outcome.TheVariants.{Yes, No}
 use Rattle.cs_lines.specs.Lines.Line.{Line}
 use Rattle.cs_lines.specs.Lines.Texts.{Says}
+use Rattle.cs_lines.specs.Lines.Pieces.{lines_of}
 use Rattle.cs_check.specs.declared.passing.fault.ClaimFault.{ClaimFault}
 use Rattle.cs_check.specs.declared.passing.fault.ClaimFault.TheVariants.{Form}
 use Rattle.cs_check.specs.declared.checking.above.Above.{Above}
@@ -14,11 +15,15 @@ use Rattle.cs_check.specs.Passing.First.{IsLowest}
 use Rattle.cs_check.specs.Passing.Places.{OfEnd}
 use Rattle.cs_check.specs.Passing.Faults.{Checked, AreSaid, HasFault}
 use Rattle.cs_check.specs.Passing.Passing.{number, Passes, Fails}
-use Rattle.cs_check.specs.Passing.Outcomes.{HasCounts, IsOutcome}
+use Rattle.cs_check.specs.Passing.Manifest.{HaveAll}
+use Rattle.cs_check.specs.Passing.Claims.{Claims}
+use Rattle.cs_check.specs.Passing.Outcomes.{HasCounts, HasClaims, IsOutcome}
 use Rattle.cs_check.specs.Checking.Head.{HasWholeSets}
 use Rattle.cs_check.specs.Checking.Judging.{IsWrong}
 use Rattle.cs_check.specs.Checking.Running.{KnowsAbove, IsPieceJudged, IsEndAnswer}
 use Rattle.cs_check.proofs.OnChecking.Judging.{said_push, right_faultless, wrong_lowest, unsaid_lowest, end_faultless, end_lowest}
+use Rattle.cs_check.proofs.OnPassing.Lines.{right_none, right_more, unsaid}
+use Rattle.cs_check.proofs.OnPassing.Claiming.{lines_true}
 use Rattle.cs_check.proofs.OnChecking.Reading.{Read, IsLine, read_none, read_more, fault_here, clean_at_end, fault_at_end, all_lines}
 
 -- so many lines are read, up to an offset, and this is known of them
@@ -26,6 +31,7 @@ pub record IsRead (c : Checked) (text : List ℕ) (from many : ℕ) (a : Above) 
   pub read : Read (HasFault c) text from many
   pub lines : List Line
   pub said : AreSaid (map Some read.lines) lines
+  pub right : HaveAll c lines
   pub knows : KnowsAbove c.file lines a
 
 -- up to the line of this number, which is the next
@@ -45,7 +51,7 @@ same_many (t ∷ texts) (l ∷ lines) h = let more = same_many texts lines h.1 i
 
 module _ (c : Checked) (text : List ℕ) where
   pub begun : (a : Above) → KnowsAbove c.file [] a → IsRead c text 0 0 a
-  begun a knows = record { read = read_none (HasFault c) text; lines = []; said = tt; knows = knows }
+  begun a knows = record { read = read_none (HasFault c) text; lines = []; said = tt; right = right_none c; knows = knows }
 
   module _ (from many : ℕ) (a : Above) (h : IsRead c text from many a) where
     pub many_lines : length h.lines ≡ many
@@ -66,6 +72,7 @@ module _ (c : Checked) (text : List ℕ) where
             said =
                 subst (λ (t : List (Option (List ℕ))). AreSaid t (h.lines ++ j.0 ∷ [])) (sym (map_push Some h.read.lines piece))
                 (said_push (map Some h.read.lines) h.lines piece j.0 h.said j.1);
+            right = right_more c h.lines j.0 h.right j.2;
             knows = j.3;
           }
 
@@ -95,6 +102,12 @@ module _ (c : Checked) (text : List ℕ) where
       end_passes is =
           clean_at_end (HasFault c) text from many h.read past
           (end_faultless c (map Some h.read.lines) h.lines h.said (sym h.knows.part ∙ is))
+
+      pub end_claims : a.part ≡ OfEnd → Claims c text
+      end_claims is =
+          let said =
+          subst (λ (t : List (List ℕ)). AreSaid (map Some t) h.lines) (sym (all_lines (HasFault c) text from many h.read past)) h.said in
+          (h.lines, unsaid (lines_of text) h.lines said, lines_true c h.lines (record { each = h.right; ended = sym h.knows.part ∙ is }))
 
       pub end_counts : HasCounts text a.entries.counts.goals a.entries.counts.negatives
       end_counts = record {
@@ -155,6 +168,10 @@ module _ (c : Checked) (text : List ℕ) (short : length text ≤ 67108864) (fro
   passed_end past (No line fault) e =
       subst (λ (n : ℕ). Fails c text n fault) (sym h.is_next ∙ sym e.1)
       (subst (λ (f : ClaimFault). Fails c text (h.many + 1) f) (sym e.2) (end_fails c text from h.many a h.read past e.0))
+
+  pub passed_claims : length text ≤ from → (o : Outcome) → IsEndAnswer a next o → HasClaims c text o
+  passed_claims past (Yes goals negatives) e = end_claims c text from h.many a h.read past e.0
+  passed_claims past (No line fault) e = tt
 
 pub passed_none : (c : Checked) (text : List ℕ) (a : Above) → KnowsAbove c.file [] a → HasWholeSets c.file.grammar a.head → IsPassed c text 0 1 a
 passed_none c text a knows whole = record {

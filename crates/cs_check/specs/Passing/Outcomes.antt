@@ -9,6 +9,7 @@ use Rattle.cs_lines.specs.Lines.Pieces.{lines_of}
 use Rattle.cs_check.specs.Passing.Above.{goals_in, edits}
 use Rattle.cs_check.specs.Passing.Faults.{Checked, AreSaid}
 use Rattle.cs_check.specs.Passing.Passing.{Passes, Fails}
+use Rattle.cs_check.specs.Passing.Claims.{Claims}
 
 -- what is checked, by what the calls are given
 abbrev pub checked_by : File → Scanning → Checked
@@ -25,3 +26,8 @@ pub record HasCounts (text : List ℕ) (goals negatives : ℕ) : Type 0 where
 abbrev pub IsOutcome : Checked → List ℕ → Outcome → Type 0
 IsOutcome c text (Yes goals negatives) = Passes c text × HasCounts text goals negatives
 IsOutcome c text (No line fault) = Fails c text line fault
+
+-- what a manifest claims of which it is said that it passes
+abbrev pub HasClaims : Checked → List ℕ → Outcome → Type 0
+HasClaims c text (Yes goals negatives) = Claims c text
+HasClaims c text (No line fault) = Unit {0}

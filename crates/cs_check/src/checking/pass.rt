@@ -3,7 +3,7 @@
 ghost use Rattle.std.specs.Prelude.{◌≤◌, IfOk, length};
 ghost use Rattle.cs_scanner.specs.Scan.Compared.{scanning};
 ghost use Rattle.cs_check.specs.Checking.Running.{IsEndAnswer};
-ghost use Rattle.cs_check.specs.Passing.Outcomes.{checked_by, IsOutcome};
+ghost use Rattle.cs_check.specs.Passing.Outcomes.{checked_by, HasClaims, IsOutcome};
 
 use crate::checking::above::Above;
 use crate::checking::part::Part;
@@ -47,7 +47,10 @@ pub fn check(
     manifest: &[u8],
 ) -> Result<Outcome, AllocError>
     requires { length manifest.now ≤ 67108864 }
-    ensures { IfOk result (IsOutcome (checked_by yacc.now (scanning scanner.now)) manifest.now) }
+    ensures outcome { IfOk result
+        (IsOutcome (checked_by yacc.now (scanning scanner.now)) manifest.now) }
+    ensures claims { IfOk result
+        (HasClaims (checked_by yacc.now (scanning scanner.now)) manifest.now) }
 {
     let mut above = Above::new(alloc, yacc);
     let mut from = 0;

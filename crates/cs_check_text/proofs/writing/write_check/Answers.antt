@@ -16,7 +16,7 @@ returns-in_err-write_all-clause-part g c =
     let s = scanning c.args.scanner.now in
     let manifest = c.args.manifest.now in
     let outcome = c.in_ok-outcome.outcome in
-    let is : IsCheckText file s manifest (outcome_line outcome) = record { outcome = outcome; is = c.in_ok-outcome.ensures; line = refl } in
+    let is : IsCheckText file s manifest (outcome_line outcome) = record { outcome = outcome; is = c.in_ok-outcome.ensures.outcome; line = refl } in
     let part : GrewByPart (IsCheckText file s manifest) old new =
     λ text also.
     subst (λ (t : List ℕ). GrewByPrefix old new t) (c.as_bytes.ensures.value ∙ c.in_ok-line.ensures ∙ one_text file s manifest (outcome_line outcome) text is also) c.in_err-write_all.ensures.err

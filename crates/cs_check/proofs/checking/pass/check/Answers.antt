@@ -2,7 +2,7 @@ use Rattle.std.proofs.Common.{ℕ, ◌∙◌, List, ap, take}
 use Rattle.cs_bytes.specs.Places.{line_size}
 use Rattle.cs_scanner.specs.Scan.Compared.{scanning}
 use Rattle.cs_check.specs.Checking.Told.{checked_by}
-use Rattle.cs_check.proofs.OnChecking.Pass.{few_above, passed_more, passed_fails, passed_end, passed_none}
+use Rattle.cs_check.proofs.OnChecking.Pass.{few_above, passed_more, passed_fails, passed_end, passed_claims, passed_none}
 use Rattle.cs_check.proofs.checking.pass.check.Goals as goal
 
 pub loop-from-init : goal.loop-from-init
@@ -24,8 +24,8 @@ loop-from-preserved c =
     c.take.new.self c.in_ok-fault.ensures.whole
     (rw c.in_default.is at c.in_ok-fault.ensures.judged h.read.lines h.read.knows few)
 
-pub returns-in-Some : goal.returns-in-Some
-returns-in-Some c =
+pub returns-in-Some-clause-outcome : goal.returns-in-Some-clause-outcome
+returns-in-Some-clause-outcome c =
     let checked = checked_by c.args.yacc.now (scanning c.args.scanner.now) in
     let manifest = c.args.manifest.now in
     let from = c.loop-from.from in
@@ -39,7 +39,12 @@ returns-in-Some c =
     c.take.new.self c.in-Some.fault
     (rw c.in-Some.is at c.in_ok-fault.ensures.judged h.read.lines h.read.knows few)
 
-pub returns : goal.returns
-returns c =
+pub returns-clause-outcome : goal.returns-clause-outcome
+returns-clause-outcome c =
     passed_end (checked_by c.args.yacc.now (scanning c.args.scanner.now)) c.args.manifest.now c.requires c.loop-from.from c.loop-from.line c.loop-from.above
+    c.loop-from.invariant c.loop-from-test.false c.at_end.result c.at_end.ensures
+
+pub returns-clause-claims : goal.returns-clause-claims
+returns-clause-claims c =
+    passed_claims (checked_by c.args.yacc.now (scanning c.args.scanner.now)) c.args.manifest.now c.requires c.loop-from.from c.loop-from.line c.loop-from.above
     c.loop-from.invariant c.loop-from-test.false c.at_end.result c.at_end.ensures
