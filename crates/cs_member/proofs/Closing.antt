@@ -11,7 +11,7 @@ use Rattle.cs_member.specs.declared.item.Item.{Item}
 use Rattle.cs_member.specs.declared.now.Span.{Span}
 use Rattle.cs_member.specs.declared.chart.Position.{Position}
 use Rattle.cs_member.specs.declared.tables.Tables.{Tables}
-use Rattle.cs_member.specs.Item.{Awaits, IsFront, over}
+use Rattle.cs_member.specs.Item.{Awaits, IsFront, MayCome, over}
 use Rattle.cs_member.specs.Closed.{IsMet, IsClosed}
 use Rattle.cs_member.specs.Now.{StandsIn, SpansIn, IsKept}
 use Rattle.cs_member.specs.Tables.{IsQuestion}
@@ -35,7 +35,7 @@ module _ (g : PlainGrammar) (tables : Tables) (tokens : List ℕ) (chart : List 
       let stands : StandsIn made.now.origins.items x j → (q : Position) × (slice_get chart i ≡ Some q) × StandsAt q x j = λ h. (p, at, made.rows.stand x j h) in
       record {
         token = λ t w next. stands (kept.token t w (ap (λ n. slice_get tokens n) long ∙ next));
-        nonterminal = λ a w. stands (kept.nonterminal a w);
+        nonterminal = λ a w comes. stands (kept.nonterminal a w (subst (λ n. MayCome g (slice_get tokens n) a) (sym long) comes));
         done = λ a d. (p, at, subst (λ (l : List Span). SpansIn l a j) (sym made.spans) (kept.done a d));
       }
 

@@ -10,7 +10,7 @@ use Rattle.cs_grammar.specs.Tree.{Tree, Leaf, Node, Forest, Bare, Grown, IsTree,
 use Rattle.cs_grammar.specs.Sentence.{IsSentence}
 use Rattle.cs_grammar.proofs.OneTree.{one_rule}
 use Rattle.cs_member.specs.declared.item.Item.{Item}
-use Rattle.cs_member.specs.Item.{Awaits, IsFront, IsEmpty, over}
+use Rattle.cs_member.specs.Item.{Awaits, IsFront, IsEmpty, MayCome, over}
 use Rattle.cs_member.specs.Closed.{Sets, IsMet, IsClosed}
 use Rattle.cs_member.proofs.Places.{begins, past_end}
 
@@ -38,6 +38,14 @@ module _ (g : PlainGrammar) (tokens : List ℕ) (c : Sets) (closed : IsClosed g 
   -- the same, if it isn't empty
   abbrev Found : ℕ → ℕ → List ℕ → List ℕ → Type 0
   Found a i given rest = (given ≡ []) ⊎ Ended a i rest
+
+  -- the list goes on with the yield of a tree, so it is empty, or a token comes
+  begun : (y l rest : List ℕ) (i : ℕ) → drop i tokens ≡ (y ++ l) ++ rest → (y ≡ []) ⊎ ((t : ℕ) × (slice_get tokens i ≡ Some t))
+  begun [] l rest i e = inl refl
+  begun (n ∷ y) l rest i e = inr (n, (begins tokens i n ((y ++ l) ++ rest) e).at)
+
+  comes : (b : ℕ) (t : Tree) (l rest : List ℕ) (i : ℕ) → IsTree g (Nonterminal b) t → drop i tokens ≡ (yield t ++ l) ++ rest → MayCome g (slice_get tokens i) b
+  comes b t l rest i tree e = ⊎_elim (λ empty. inl (t, tree, empty)) (λ some. inr some) (begun (yield t) l rest i e)
 
   mutual
     over_tree : (t : Tree) (a i : ℕ) (rest : List ℕ) → IsTree g (Nonterminal a) t → c.Expected i a → drop i tokens ≡ yield t ++ rest → Found a i (yield t) rest
@@ -95,7 +103,7 @@ module _ (g : PlainGrammar) (tokens : List ℕ) (c : Sets) (closed : IsClosed g 
     over_rest (Grown (Node r h) f) (Nonterminal b ∷ xs) x p a i j rest number left is trees met e le =
         let at = begins p.right x.place (Nonterminal b) xs is in
         let w : Awaits g x (Nonterminal b) = record { rule = p; number = number; at = at.at } in
-        let stands = met.nonterminal b w in
+        let stands = met.nonterminal b w (comes b (Node r h) (yields f) rest i trees.0 e) in
         let lt = slice_get_within p.right x.place (Nonterminal b) at.at in
         ⊎_elim
         (λ empty.

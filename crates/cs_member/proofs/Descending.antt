@@ -1,15 +1,15 @@
 -- The nonterminals with which rules may begin.
-use Rattle.std.proofs.Common.{◌≡◌, ℕ, ◌+◌, ◌%◌, ◌<◌, ◌≤◌, ◌⊎◌, inl, inr, List, [], ◌∷◌, ◌++◌, Bool, true, Some, length, refl, sym, ap, ◌∙◌, subst, arith}
-use Rattle.std.specs.Prelude.{◌↔◌, Contains, slice_get}
+use Rattle.std.proofs.Common.{◌≡◌, ℕ, ◌+◌, ◌%◌, ◌<◌, ◌≤◌, ◌⊎◌, inl, inr, List, [], ◌∷◌, ◌++◌, Bool, true, Some, length, refl, sym, ◌∙◌, subst, arith}
+use Rattle.std.specs.Prelude.{◌↔◌, slice_get}
 use Rattle.std.specs.Global.{Vec}
-use Rattle.std.specs.Int.{bit_at}
 use Rattle.std.proofs.lemmas.Bool.{cases_eq}
 use Rattle.std.proofs.lemmas.Nat.Bits.{bit_at-zero}
 use Rattle.std.proofs.lemmas.Option.{slice_get_within}
 use Rattle.std.proofs.lemmas.List.{length-append}
+use Rattle.smallvec.specs.SmallVec.{SmallVec}
 use Rattle.cs_member.specs.declared.word.Word.{Word}
 use Rattle.cs_member.specs.Sets.{Has, InWord, InWords}
-use Rattle.cs_member.specs.Expecting.{IsMarked, Marks, IsDescent, IsDescended, AreDescents}
+use Rattle.cs_member.specs.Expecting.{IsMarked, IsDescent, IsDescended, AreDescents}
 use Rattle.cs_member.proofs.Places.{at_push_cases}
 
 -- one number more whose mark is set
@@ -54,14 +54,14 @@ descent corners a marks words is marked closed = record {
   closed = λ b c list here at has. (is c).1 (closed b c list ((is b).0 here) at has);
 }
 
-pub descents_push : (many : ℕ) (corners : List (Vec ℕ)) (descents : List (Vec Word)) (words : Vec Word) → AreDescents many corners descents → IsDescent corners many words.items → AreDescents (many + 1) corners (descents ++ words ∷ [])
+pub descents_push : (many : ℕ) (corners : List (Vec ℕ)) (descents : List (SmallVec Word)) (words : SmallVec Word) → AreDescents many corners descents → IsDescent corners many words.items → AreDescents (many + 1) corners (descents ++ words ∷ [])
 descents_push many corners descents words before one = record {
   size = (let long = length-append descents (words ∷ []) in let was = before.size in omega arith);
   each = λ a list at. elim (at_push_cases descents words a list at) [
     | inl was ↦ before.each a list was
     | inr last ↦
         let same : a ≡ many = last.0 ∙ before.size in
-        subst (λ n. IsDescent corners n list.items) (sym same) (subst (λ (v : Vec Word). IsDescent corners many v.items) last.1 one)
+        subst (λ n. IsDescent corners n list.items) (sym same) (subst (λ (v : SmallVec Word). IsDescent corners many v.items) last.1 one)
   ];
 }
 

@@ -13,7 +13,7 @@ use Rattle.cs_grammar.proofs.OneTree.{one_rule}
 use Rattle.cs_member.specs.declared.item.Item.{Item}
 use Rattle.cs_member.specs.declared.now.Now.{Now}
 use Rattle.cs_member.specs.declared.now.Span.{Span}
-use Rattle.cs_member.specs.Item.{Awaits, IsDone, IsEmpty, over}
+use Rattle.cs_member.specs.Item.{Awaits, IsDone, IsEmpty, NeverComes, over}
 use Rattle.cs_member.specs.Now.{StandsIn, SpansIn, Ends, Stood, IsKept, IsPast, IsPut, IsStep, IsPutTo}
 use Rattle.cs_member.proofs.Rows.{spans_left, all_more}
 
@@ -38,7 +38,7 @@ one_done g x a b d e = sym d.left ∙ ap (λ (p : Production). p.left) (one_rule
 pub kept_more : (g : PlainGrammar) (ahead : Option ℕ) (old new : Now) (more : List Span) (x : Item) (j : ℕ) → ((y : Item) (i : ℕ) → StandsIn old.origins.items y i → StandsIn new.origins.items y i) → new.spans.items ≡ old.spans.items ++ more → IsKept g ahead old x j → IsKept g ahead new x j
 kept_more g ahead old new more x j stood grown kept = record {
   token = λ t w is. stood x j (kept.token t w is);
-  nonterminal = λ a w. stood x j (kept.nonterminal a w);
+  nonterminal = λ a w comes. stood x j (kept.nonterminal a w comes);
   done = λ a d. spans_left old.spans.items more new.spans.items a j grown (kept.done a d);
 }
 
@@ -48,7 +48,7 @@ pub step_end : (g : PlainGrammar) (ahead cause : Option ℕ) (x : Item) (From : 
 step_end g ahead cause x From old new left done same ends = record {
   kept = λ j from. record {
     token = λ t w is. absurd (not_both g x (Token t) left w done);
-    nonterminal = λ a w. absurd (not_both g x (Nonterminal a) left w done);
+    nonterminal = λ a w comes. absurd (not_both g x (Nonterminal a) left w done);
     done = λ a d. subst (λ n. SpansIn new.spans.items n j) (one_done g x left a done d) (ends.found j from);
   };
   next = λ was y j t h w. was y j t (subst (λ l. StandsIn l y j) same h) w;
@@ -67,7 +67,7 @@ step_stand g ahead cause x From old new s awaits comes same stood = record {
       let here = (stood x j).1 (inr (refl, from)) in
       record {
         token = λ t w is. here;
-        nonterminal = λ a w. here;
+        nonterminal = λ a w comes. here;
         done = λ a d. absurd (not_both g x s a awaits d);
       };
   next = λ was y j t h w. elim ((stood y j).0 h) [
@@ -86,8 +86,30 @@ pub step_none : (g : PlainGrammar) (ahead cause : Option ℕ) (x : Item) (From :
 step_none g ahead cause x From now t awaits other = record {
   kept = λ j from. record {
     token = λ u w is. absurd (let same = one_awaited g x (Token t) (Token u) awaits w in other (let one : t ≡ u = cc in is ∙ ap Some (sym one)));
-    nonterminal = λ a w. absurd (let same = one_awaited g x (Token t) (Nonterminal a) awaits w in cc);
+    nonterminal = λ a w comes. absurd (let same = one_awaited g x (Token t) (Nonterminal a) awaits w in cc);
     done = λ a d. absurd (not_both g x (Token t) a awaits d);
+  };
+  next = λ was. was;
+  stood = λ y j h. h;
+  stand = λ y j h. inl h;
+  more = [];
+  grown = sym (append-nil now.spans.items);
+  are = All-nil (λ s. (s.cause ≡ cause) × From s.from × IsDone g x s.nonterminal);
+}
+
+-- an item that awaits a nonterminal that never comes isn't kept
+pub step_last : (g : PlainGrammar) (ahead cause : Option ℕ) (x : Item) (From : ℕ → Type 0) (now : Now) (b : ℕ) → Awaits g x (Nonterminal b) → NeverComes g ahead b → IsStep g ahead cause x From now now
+step_last g ahead cause x From now b awaits never = record {
+  kept = λ j from. record {
+    token = λ t w is. absurd (let same = one_awaited g x (Nonterminal b) (Token t) awaits w in cc);
+    nonterminal = λ a w comes. absurd (
+        let same = one_awaited g x (Nonterminal b) (Nonterminal a) awaits w in
+        let one : b ≡ a = cc in
+        elim comes [
+          | inl empty ↦ never.1 (subst (λ n. IsEmpty g n) (sym one) empty)
+          | inr some ↦ (let none = never.0 in let is = some.1 in cc)
+        ]);
+    done = λ a d. absurd (not_both g x (Nonterminal b) a awaits d);
   };
   next = λ was. was;
   stood = λ y j h. h;

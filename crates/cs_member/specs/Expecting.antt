@@ -1,6 +1,7 @@
 -- Which nonterminals are expected at a position.
 use Rattle.std.specs.Prelude.{◌≡◌, ◌<◌, ◌++◌, ℕ, List, Bool, Some, true, All, Contains, length, slice_get}
 use Rattle.std.specs.Global.{Vec}
+use Rattle.smallvec.specs.SmallVec.{SmallVec}
 use Rattle.cs_grammar.specs.declared.symbol.Symbol.TheVariants.{Nonterminal}
 use Rattle.cs_grammar.specs.Grammar.{PlainGrammar}
 use Rattle.cs_member.specs.declared.now.Origins.{Origins}
@@ -38,9 +39,9 @@ pub record IsDescent (corners : List (Vec ℕ)) (a : ℕ) (words : List Word) : 
   pub closed : IsDescended corners (InWords words)
 
 -- by nonterminal: those with which its rules may begin
-pub record AreDescents (many : ℕ) (corners : List (Vec ℕ)) (descents : List (Vec Word)) : Type 0 where
+pub record AreDescents (many : ℕ) (corners : List (Vec ℕ)) (descents : List (SmallVec Word)) : Type 0 where
   pub size : length descents ≡ many
-  pub each : (a : ℕ) (words : Vec Word) → slice_get descents a ≡ Some words → IsDescent corners a words.items
+  pub each : (a : ℕ) (words : SmallVec Word) → slice_get descents a ≡ Some words → IsDescent corners a words.items
 
 -- what is expected stays so
 abbrev pub Stays : List ℕ → List ℕ → Type 0

@@ -1,5 +1,5 @@
 -- Items, and what stands behind their places.
-use Rattle.std.specs.Prelude.{◌≡◌, ℕ, ◌≤◌, ◌<◌, ◌+◌, [], Some, length, slice_get}
+use Rattle.std.specs.Prelude.{◌≡◌, ℕ, ◌≤◌, ◌<◌, ◌+◌, ◌⊎◌, [], Option, None, Some, length, slice_get}
 use Rattle.cs_grammar.specs.declared.symbol.Symbol.{Symbol}
 use Rattle.cs_grammar.specs.declared.symbol.Symbol.TheVariants.{Nonterminal}
 use Rattle.cs_grammar.specs.Grammar.{Production, PlainGrammar, IsRule}
@@ -38,6 +38,14 @@ over x = record { rule = x.rule; place = x.place + 1 }
 -- some tree of the nonterminal has an empty yield
 abbrev pub IsEmpty : PlainGrammar → ℕ → Type 0
 IsEmpty g a = (t : Tree) × IsTree g (Nonterminal a) t × (yield t ≡ [])
+
+-- the nonterminal has an empty tree, or a token comes with which another may begin
+abbrev pub MayCome : PlainGrammar → Option ℕ → ℕ → Type 0
+MayCome g ahead a = IsEmpty g a ⊎ ((t : ℕ) × (ahead ≡ Some t))
+
+-- neither
+abbrev pub NeverComes : PlainGrammar → Option ℕ → ℕ → Type 0
+NeverComes g ahead a = (ahead ≡ None) × (IsEmpty g a → ⊥)
 
 -- an item of a rule of this left side; each symbol before its place has a tree with an empty yield
 pub record IsFront (g : PlainGrammar) (a : ℕ) (x : Item) : Type 0 where

@@ -8,7 +8,7 @@ use Rattle.cs_member.specs.declared.item.Item.{Item}
 use Rattle.cs_member.specs.declared.now.Now.{Now}
 use Rattle.cs_member.specs.declared.now.Origins.{Origins}
 use Rattle.cs_member.specs.declared.now.Span.{Span}
-use Rattle.cs_member.specs.Item.{Awaits, IsDone, IsEmpty, over}
+use Rattle.cs_member.specs.Item.{Awaits, IsDone, IsEmpty, MayCome, over}
 use Rattle.cs_member.specs.Sets.{Has}
 
 -- the item stands here with this origin
@@ -60,7 +60,7 @@ Stood item From old new = (x : Item) (j : ℕ) →
 -- what is kept where an item is found here with an origin
 pub record IsKept (g : PlainGrammar) (ahead : Option ℕ) (now : Now) (x : Item) (j : ℕ) : Type 0 where
   pub token : (t : ℕ) → Awaits g x (Token t) → ahead ≡ Some t → StandsIn now.origins.items x j
-  pub nonterminal : (a : ℕ) → Awaits g x (Nonterminal a) → StandsIn now.origins.items x j
+  pub nonterminal : (a : ℕ) → Awaits g x (Nonterminal a) → MayCome g ahead a → StandsIn now.origins.items x j
   pub done : (a : ℕ) → IsDone g x a → SpansIn now.spans.items a j
 
 -- the tokens that items await come next

@@ -92,7 +92,7 @@ fn find_row(
     ensures { FindsRow question.now sought rows.now begin from result }
 {
     for row in rows {
-        if has(&row.words, from) {
+        if has(row.words.as_slice(), from) {
             if let Some(found) = lead(question, over(row.item), sought) {
                 return Some(Back {
                     before: row.item,

@@ -21,13 +21,14 @@ use crate::item::{Item, Next, next_of, over};
 use crate::now::{Now, Origins, Question, Span, Way, put};
 use crate::word::{Word, add_all, pack, stands, word_of};
 use cs_grammar::Symbol;
+use smallvec::SmallVec;
 use std::alloc::{AllocError, Global};
 
 // An item at a position, with its origins.
 #[derive(Debug, Drop)]
 pub(crate) struct Row {
     pub(crate) item: Item,
-    pub(crate) words: Vec<Word>,
+    pub(crate) words: SmallVec<Word, 1>,
 }
 
 #[derive(Debug, Drop)]
@@ -64,7 +65,7 @@ fn put_rows(
             guesses,
             way,
             over(row.item),
-            &row.words,
+            row.words.as_slice(),
         )?;
     }
     Ok(())
@@ -251,7 +252,8 @@ fn expect(question: &Question, expected: &mut Vec<u64>, nonterminal: u16) -> Res
     if stands(expected, nonterminal) {
         return Ok(());
     }
-    add_all(expected, &question.tables.descents[nonterminal as usize])?;
+    let descent = &question.tables.descents[nonterminal as usize];
+    add_all(expected, descent.as_slice())?;
     Ok(())
 }
 

@@ -6,6 +6,7 @@ ghost use Rattle.cs_member.specs.Expecting.{AreMarked, AreCorners, AreDescents, 
 ghost use Rattle.cs_member.specs.Asked.{HasMarked, MarksIn};
 
 use crate::word::{Word, add, pack, word_of};
+use smallvec::SmallVec;
 use std::alloc::{AllocError, Global};
 
 // Expects a nonterminal.
@@ -80,7 +81,7 @@ fn none_expected(alloc: Global, last: u16) -> Result<Vec<bool>, AllocError>
 }
 
 // The numbers of the marks.
-fn words_of(alloc: Global, marks: &[bool]) -> Result<Vec<Word>, AllocError>
+fn words_of(alloc: Global, marks: &[bool]) -> Result<SmallVec<Word, 1>, AllocError>
     requires { length marks.now ≤ 65536 }
     ensures { IfOk result (λ words. (n : ℕ) → InWords words.items n ↔ IsMarked marks.now n) }
 {
@@ -100,7 +101,7 @@ fn descent_of(
     corners: &[Vec<u16>],
     last: u16,
     nonterminal: u16,
-) -> Result<Vec<Word>, AllocError>
+) -> Result<SmallVec<Word, 1>, AllocError>
     requires corners { AreCorners (last + 1) corners.now }
     requires nonterminal { nonterminal ≤ last }
     ensures { IfOk result (λ words. IsDescent corners.now nonterminal words.items) }
@@ -118,7 +119,7 @@ pub(crate) fn descents_of(
     alloc: Global,
     corners: &[Vec<u16>],
     last: u16,
-) -> Result<Vec<Vec<Word>>, AllocError>
+) -> Result<Vec<SmallVec<Word, 1>>, AllocError>
     requires { AreCorners (last + 1) corners.now }
     ensures { IfOk result (λ descents. AreDescents (last + 1) corners.now descents.items) }
 {

@@ -1,8 +1,8 @@
 // The position that is being made.
 
-ghost use Rattle.std.specs.Prelude.{◌≡◌, ◌≤◌, ◌<◌, ◌+◌, ◌*◌, [], Some, All, IfOk, OnOk, length};
+ghost use Rattle.std.specs.Prelude.{◌≡◌, ◌≤◌, ◌<◌, ◌+◌, ◌*◌, ◌↔◌, [], Some, All, IfOk, IsTrue, OnOk, length};
 ghost use Rattle.cs_member.specs.declared.now.Origins.{Origins};
-ghost use Rattle.cs_member.specs.Item.{IsItem};
+ghost use Rattle.cs_member.specs.Item.{IsItem, NeverComes};
 ghost use Rattle.cs_member.specs.Tables.{IsQuestion};
 ghost use Rattle.cs_member.specs.Sets.{InWord, InWords};
 ghost use Rattle.cs_member.specs.Now.{IsNow, AreEnds, Ends, Stood, AreShort};
@@ -209,6 +209,9 @@ fn end_word(
         at: word.at,
         bits: word.bits & !bits_at(&now.ends, place),
     };
+    if fresh.bits == 0 {
+        return Ok(());
+    }
     end_bits(&mut now.spans, left, cause, fresh)?;
     add_bits(&mut now.ends, place, word.bits)?;
     Ok(())
@@ -240,6 +243,15 @@ fn end(
 pub(crate) struct Way {
     pub(crate) ahead: Option<u16>,
     pub(crate) cause: Option<u32>,
+}
+
+// Whether no tree of a nonterminal can begin: it has no empty one, and no token comes.
+fn never_comes(question: &Question, ahead: Option<u16>, nonterminal: u16) -> bool
+    requires question { IsQuestion question.now.grammar.now question.now.tables.now }
+    requires nonterminal { nonterminal ≤ question.now.grammar.now.nonterminals }
+    ensures { IsTrue result ↔ NeverComes question.now.grammar.now ahead nonterminal }
+{
+    ahead.is_none() && question.tables.empties[nonterminal as usize] == 0
 }
 
 // Puts an item with origins, and also it behind further symbols that have empty trees.
@@ -280,6 +292,9 @@ pub(crate) fn put(
                 return Ok(());
             }
             Next::Awaited(Symbol::Nonterminal(nonterminal)) => {
+                if never_comes(question, way.ahead, nonterminal) {
+                    return Ok(());
+                }
                 let guess = question.place(item);
                 stand(alloc, &mut now.origins, guesses, guess, item, words)?;
                 if question.tables.empties[nonterminal as usize] == 0 {

@@ -9,6 +9,7 @@ use crate::empties::empties_of;
 use crate::fronts::{Front, fronts_of};
 use crate::word::Word;
 use cs_grammar::Grammar;
+use smallvec::SmallVec;
 use std::alloc::{AllocError, Global};
 
 // What membership needs to know of a grammar.
@@ -23,7 +24,7 @@ pub(crate) struct Tables {
     // By nonterminal: what its rules begin with behind symbols that have empty trees.
     pub(crate) corners: Vec<Vec<u16>>,
     // By nonterminal: those with which its rules may begin, itself among them.
-    pub(crate) descents: Vec<Vec<Word>>,
+    pub(crate) descents: Vec<SmallVec<Word, 1>>,
     // By rule: how many items are before its own.
     pub(crate) bases: Vec<usize>,
     pub(crate) items: usize,

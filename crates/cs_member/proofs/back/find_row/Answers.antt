@@ -15,7 +15,7 @@ pub returns-in-Some : goal.returns-in-Some
 returns-in-Some c =
     let g = c.args.question.now.grammar.now in
     let row = c.row-item.result in (
-      (row, (c.loop-row.row-index, c.loop-row-test.true, sym c.row-item.is), refl, subst (λ (l : List Word). InWords l c.args.from) c.deref.ensures.value (c.if-has.ensures.0 refl)),
+      (row, (c.loop-row.row-index, c.loop-row-test.true, sym c.row-item.is), refl, subst (λ (l : List Word). InWords l c.args.from) c.as_slice.ensures (c.if-has.ensures.0 refl)),
       refl,
       subst (λ (y : Item). LeadsTo g c.args.sought y c.in-Some.found) c.over.ensures c.in-Some.ensures,
     )
@@ -27,7 +27,7 @@ loop-row-preserved c =
     rows_lead_more g c.args.sought c.args.rows.now c.loop-row.row-index c.args.from row c.loop-row-test.true c.row-item.is
     (λ in_it x leads. elim c.if-has.branch [
       | then-has+in_default w ↦ w.in_default.ensures w.over.result x refl (subst (λ (y : Item). LeadsTo g c.args.sought y x) (sym w.over.ensures) leads)
-      | else-has w ↦ false≢true (w.if-has.ensures.1 (subst (λ (l : List Word). InWords l c.args.from) (sym c.deref.ensures.value) in_it))
+      | else-has w ↦ false≢true (w.if-has.ensures.1 (subst (λ (l : List Word). InWords l c.args.from) (sym c.as_slice.ensures) in_it))
     ])
     c.loop-row.invariant
 

@@ -17,7 +17,7 @@ pub loop-row-preserved : goal.loop-row-preserved
 loop-row-preserved c = record {
   now = c.in_ok-put.ensures.now;
   guesses = c.in_ok-put.ensures.guesses;
-  put = puts_rows c.args.question.now.grammar.now c.args.way.ahead c.args.way.cause c.args.rows.now c.loop-row.row-index c.row-item.result c.over.result c.deref.result.now c.args.now.now c.loop-row.now c.put.new.now c.loop-row-test.true c.row-item.is c.over.ensures c.deref.ensures.value c.loop-row.invariant.put c.in_ok-put.ensures.put;
+  put = puts_rows c.args.question.now.grammar.now c.args.way.ahead c.args.way.cause c.args.rows.now c.loop-row.row-index c.row-item.result c.over.result c.as_slice.result.now c.args.now.now c.loop-row.now c.put.new.now c.loop-row-test.true c.row-item.is c.over.ensures c.as_slice.ensures c.loop-row.invariant.put c.in_ok-put.ensures.put;
 }
 
 pub returns-clause-put : goal.returns-clause-put

@@ -1,12 +1,12 @@
 use Rattle.std.proofs.Common.{◌≡◌, ◌+◌, List, sym, subst, arith}
-use Rattle.std.specs.Global.{Vec}
+use Rattle.smallvec.specs.SmallVec.{SmallVec}
 use Rattle.cs_member.specs.declared.word.Word.{Word}
 use Rattle.cs_member.specs.Expecting.{AreDescents}
 use Rattle.cs_member.proofs.Descending.{descents_none, descents_push}
 use Rattle.cs_member.proofs.descents.descents_of.Goals as goal
 
 pub loop-nonterminal-init : goal.loop-nonterminal-init
-loop-nonterminal-init c = subst (λ (l : List (Vec Word)). AreDescents 0 c.args.corners.now l) (sym c.in_ok-descents.ensures.items) (descents_none c.args.corners.now)
+loop-nonterminal-init c = subst (λ (l : List (SmallVec Word)). AreDescents 0 c.args.corners.now l) (sym c.in_ok-descents.ensures.items) (descents_none c.args.corners.now)
 
 pub descent_of-requires-clause-nonterminal : goal.descent_of-requires-clause-nonterminal
 descent_of-requires-clause-nonterminal c = (let lt = c.loop-nonterminal-test.true in let size = c.requires.size in omega arith)
@@ -14,7 +14,7 @@ descent_of-requires-clause-nonterminal c = (let lt = c.loop-nonterminal-test.tru
 pub loop-nonterminal-preserved : goal.loop-nonterminal-preserved
 loop-nonterminal-preserved c =
     let many = c.loop-nonterminal.nonterminal in
-    subst (λ (l : List (Vec Word)). AreDescents (many + 1) c.args.corners.now l) (sym c.in_ok-push.ensures.items)
+    subst (λ (l : List (SmallVec Word)). AreDescents (many + 1) c.args.corners.now l) (sym c.in_ok-push.ensures.items)
     (descents_push many c.args.corners.now c.loop-nonterminal.descents.items c.in_ok-words.words c.loop-nonterminal.invariant c.in_ok-words.ensures)
 
 pub returns : goal.returns

@@ -8,7 +8,7 @@ use Rattle.cs_grammar.proofs.OneTree.{one_rule}
 use Rattle.cs_member.specs.declared.item.Item.{Item}
 use Rattle.cs_member.specs.declared.now.Now.{Now}
 use Rattle.cs_member.specs.Sets.{InWords}
-use Rattle.cs_member.proofs.Putting.{not_both, one_awaited, step_end, step_stand, step_none, put_none, put_step, put_last, past_more, awaited_within, other_token, same_token, past_whole}
+use Rattle.cs_member.proofs.Putting.{not_both, one_awaited, step_end, step_stand, step_none, step_last, put_none, put_step, put_last, past_more, awaited_within, other_token, same_token, past_whole}
 use Rattle.cs_member.proofs.now.put.Goals as goal
 
 pub loop-place-init : goal.loop-place-init
@@ -49,6 +49,21 @@ returns-else-eq-clause-put c =
     put_last g c.args.way.ahead c.args.way.cause c.args.first (InWords c.args.words.now) k c.args.now.now c.loop-place.now c.loop-place.now c.loop-place.invariant.put
     (step_none g c.args.way.ahead c.args.way.cause item (InWords c.args.words.now) c.loop-place.now t (subst (λ (s : Symbol). Awaits g item s) c.in-Awaited-Token.field-0-is c.in-Awaited-Token.ensures) (other_token c.args.way.ahead t c.if-eq.ensures))
     (λ a w empty. let same = one_awaited g item (Token t) (Nonterminal a) (subst (λ (s : Symbol). Awaits g item s) c.in-Awaited-Token.field-0-is c.in-Awaited-Token.ensures) w in cc)
+
+pub returns-then-never_comes-clause-put : goal.returns-then-never_comes-clause-put
+returns-then-never_comes-clause-put c =
+    let g = c.args.question.now.grammar.now in
+    let k = c.loop-place.place in
+    let item : Item = record { rule = c.args.first.rule; place = k } in
+    let n = c.in-Awaited-Nonterminal.nonterminal in
+    let awaits : Awaits g item (Nonterminal n) = subst (λ (s : Symbol). Awaits g item s) c.in-Awaited-Nonterminal.field-0-is c.in-Awaited-Nonterminal.ensures in
+    let never = c.if-never_comes.ensures.0 refl in
+    put_last g c.args.way.ahead c.args.way.cause c.args.first (InWords c.args.words.now) k c.args.now.now c.loop-place.now c.loop-place.now c.loop-place.invariant.put
+    (step_last g c.args.way.ahead c.args.way.cause item (InWords c.args.words.now) c.loop-place.now n awaits never)
+    (λ a w empty.
+    let same = one_awaited g item (Nonterminal n) (Nonterminal a) awaits w in
+    let one : a ≡ n = cc in
+    never.1 (subst (λ m. IsEmpty g m) one empty))
 
 pub index-requires : goal.index-requires
 index-requires c =

@@ -15,7 +15,7 @@ loop-at-preserved c =
     let inv = c.loop-at.invariant in
     elim c.if-bits-ne0.branch [
       | then-bits-ne0+in_ok-push w ↦
-          let is = sym (ap (λ v. v.items) w.words-is ∙ w.in_ok-push.ensures.items) in
+          let is = sym (ap (λ v. v.items) w.words-is ∙ w.in_ok-push.ensures.ok) in
           record {
             short = subst (λ (l : List Word). All (λ word. word.at < 1024) l) is (All-push (λ word. word.at < 1024) words (record { at = at; bits = get_or set at 0 }) inv.short (let lt = c.loop-at-test.true in let most = c.requires in omega arith));
             has = λ n. subst (λ (l : List Word). InWords l n ↔ ((n / 64 < at + 1) × Has set n)) is (packed set words at n (inv.has n));
