@@ -36,7 +36,7 @@ module _ (g : PlainGrammar) where
       let x = length-map-range_with_len TheLexeme 1 g.tokens in
       omega (arith, all, front, t, r, x)
 
-  claims_long : length (claims g) ≡ 4 + 2 * g.nonterminals + g.tokens
+  pub claims_long : length (claims g) ≡ 4 + 2 * g.nonterminals + g.tokens
   claims_long =
       let first : List Due = TheSet Productive ∷ TheSet Reachable ∷ TheSet Empty ∷ map (TheRow First) (range_with_len 1 g.nonterminals) in
       let last = map (TheRow Last) (range_with_len 1 g.nonterminals) in

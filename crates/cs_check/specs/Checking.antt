@@ -5,3 +5,7 @@ pub mod Excluded
 pub mod Derivations
 pub mod Judging
 pub mod Told
+pub mod Running
+pub mod Head
+pub mod Verdicts
+pub mod Negatives

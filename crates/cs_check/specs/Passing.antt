@@ -9,3 +9,4 @@ pub mod DueGoals
 pub mod Entries
 pub mod Faults
 pub mod Passing
+pub mod Outcomes

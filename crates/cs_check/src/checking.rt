@@ -2,6 +2,7 @@
 //!
 //! Meaning: `specs/Passing/`. The files of `specs/Checking/` have working words of proofs.
 
+mod above;
 mod apart;
 mod cases;
 mod claims;
@@ -12,8 +13,15 @@ mod entries;
 mod excluded;
 mod framed;
 pub(crate) mod goals;
+mod head;
 mod marks;
+mod negatives;
 pub(crate) mod part;
+mod pass;
 mod scans;
 mod sizes;
+mod taking;
 mod texts;
+mod verdicts;
+
+pub use pass::{Outcome, check};

@@ -6,7 +6,7 @@ use Rattle.std.specs.List.{AllZip, Contains}
 use Rattle.std.proofs.lemmas.Bool.{false≢true}
 use Rattle.std.proofs.lemmas.Option.{slice_get-get_or}
 use Rattle.std.proofs.lemmas.List.{length-append, length_push, get_or_push, map_push}
-use Rattle.std.proofs.lemmas.List.Elements.{All-push, All-contains}
+use Rattle.std.proofs.lemmas.List.Elements.{All-push, All-weaker, All-contains}
 use Rattle.cs_choices.specs.declared.weigh.Weigh.{Weigh}
 use Rattle.cs_grammar.specs.declared.symbol.Symbol.{Symbol}
 use Rattle.cs_grammar.specs.declared.symbol.Symbol.TheVariants.{Nonterminal}
@@ -116,6 +116,10 @@ module _ (file : File) (lines : List Line) (e : Entries) (t : AreEntries file li
               (sizes_same ∙ told.1 ∙ ap (λ (n : ℕ). sizes_of e.cases.list ++ n ∷ []) is ∙ sym (map_push (λ (c : PlainCase). c.size) e.cases.list new));
           small = All-push (λ (c : PlainCase). c.size < greatest) e.cases.list new t.small low;
           verdicts = subst (λ (v : List VerdictWords). AllZip IsCaseOf v e.goal_cases.items) (sym verdicts_same) t.verdicts;
+          shown =
+              let more = length_push e.cases.list new in
+              All-weaker (λ (number : ℕ). number ≤ length e.cases.list) (λ (number : ℕ). number ≤ length (e.cases.list ++ new ∷ []))
+              (λ number low. omega arith) e.goal_cases.items t.shown;
           due = subst (λ (x : List GoalWords). KnowsGoals file.grammar x e.due) (sym goals_same) t.due;
           told =
               subst (λ (p : Part). HasTold file lines' p tokens.items) (sym part)

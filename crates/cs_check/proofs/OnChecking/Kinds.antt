@@ -12,7 +12,7 @@ use Rattle.cs_check.specs.Passing.Passing.{number}
 use Rattle.cs_check.specs.Checking.Judging.{IsRight, IsWrong}
 
 -- a line of the head
-abbrev is_head : Line → Bool
+abbrev pub is_head : Line → Bool
 is_head Opening = true
 is_head (Weighing weigh) = true
 is_head (TokenLine n name) = true
@@ -22,7 +22,7 @@ is_head (SetLine kind names) = true
 is_head (RowLine kind name names) = true
 is_head l = false
 
-taken_head : (d : Due) (l : Line) → Takes d l → is_head l ≡ true
+pub taken_head : (d : Due) (l : Line) → Takes d l → is_head l ≡ true
 taken_head TheOpening l e = ap is_head e
 taken_head TheWeighing l e = ap is_head e.1
 taken_head (TheToken t) l e = ap is_head e.1

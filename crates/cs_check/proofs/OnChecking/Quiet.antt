@@ -29,17 +29,17 @@ sized_plain OfNegativeText sizes cases read other h = h
 sized_plain OfEnd sizes cases read other h = h
 
 -- a line that tells nothing of its own
-record IsQuiet (l : Line) : Type 0 where
-  size : size_in l ≡ None
-  derivation : derivation_in l ≡ None
-  goal : goal_in l ≡ None
-  verdict : verdict_in l ≡ None
-  base : base_in l ≡ None
-  edit : edit_in l ≡ None
+pub record IsQuiet (l : Line) : Type 0 where
+  pub size : size_in l ≡ None
+  pub derivation : derivation_in l ≡ None
+  pub goal : goal_in l ≡ None
+  pub verdict : verdict_in l ≡ None
+  pub base : base_in l ≡ None
+  pub edit : edit_in l ≡ None
 
 module _ (file : File) (lines : List Line) (e : Entries) (t : AreEntries file lines e) (few : length lines + 1 < 4294967296) where
   module _ (l : Line) (quiet : IsQuiet l) (before : last_part lines ≡ OfCase → ⊥) (p : Part) (is : part_of (last_part lines) l ≡ p) (after : p ≡ OfCase → ⊥) where
-    quiet_taken : HasTold file (lines ++ l ∷ []) p e.tokens.items → HasBase file.grammar (lines ++ l ∷ []) p e.base.items → AreEntries file (lines ++ l ∷ []) e
+    pub quiet_taken : HasTold file (lines ++ l ∷ []) p e.tokens.items → HasBase file.grammar (lines ++ l ∷ []) p e.base.items → AreEntries file (lines ++ l ∷ []) e
     quiet_taken told base =
         let lines' = lines ++ l ∷ [] in
         let long = length-append lines (l ∷ []) in
@@ -60,6 +60,7 @@ module _ (file : File) (lines : List Line) (e : Entries) (t : AreEntries file li
               (sizes_same ∙ plain_sizes (last_part lines) (case_sizes lines) e.cases.list e.size before t.sizes));
           small = t.small;
           verdicts = subst (λ (v : List VerdictWords). AllZip IsCaseOf v e.goal_cases.items) (sym verdicts_same) t.verdicts;
+          shown = t.shown;
           due = subst (λ (x : List GoalWords). KnowsGoals file.grammar x e.due) (sym goals_same) t.due;
           told = subst (λ (q : Part). HasTold file lines' q e.tokens.items) (sym part) told;
           bases = t.bases ∙ sym (ap (λ (x : List ℕ). length x) bases_same);
@@ -195,3 +196,17 @@ module _ (file : File) (lines : List Line) (e : Entries) (t : AreEntries file li
   pub no_scan_taken : (after : ℕ) → Contains (next_parts (last_part lines)) (text_part (last_part lines)) → AreEntries file (lines ++ NoScanLine after ∷ []) e
   no_scan_taken after =
       text_taken_of (NoScanLine after) (record { size = refl; derivation = refl; goal = refl; verdict = refl; base = refl; edit = refl }) refl
+
+  -- ---- the end line
+
+  not_case_end : (p : Part) → Contains (next_parts p) OfEnd → p ≡ OfCase → ⊥
+  not_case_end p h same =
+      false≢true (among_true (next_parts OfCase) OfEnd (subst (λ (q : Part). Contains (next_parts q) OfEnd) same h))
+
+  end_other : OfEnd ≡ OfCase → ⊥
+  end_other same = absurd cc
+
+  pub end_taken : (counts : Counts) → Contains (next_parts (last_part lines)) OfEnd → AreEntries file (lines ++ EndLine counts ∷ []) e
+  end_taken counts follows =
+      quiet_taken (EndLine counts) (record { size = refl; derivation = refl; goal = refl; verdict = refl; base = refl; edit = refl })
+      (not_case_end (last_part lines) follows) OfEnd refl end_other tt tt

@@ -21,7 +21,7 @@ pub record IsLine (text : List ℕ) (size : ℕ) : Type 0 where
   pub within : size ≤ length text
 
 module _ {F : Type 0} (HasFault : List (Option (List ℕ)) → Option (List ℕ) → F → Type 0) (text : List ℕ) where
-  pub read_none : Read HasFault text 0 0
+  abbrev pub read_none : Read HasFault text 0 0
   read_none = record { lines = []; place = refl; many = refl; few = omega arith; within = omega arith; clean = clean_none HasFault }
 
   module _ (from above : ℕ) (read : Read HasFault text from above) where
@@ -29,7 +29,7 @@ module _ {F : Type 0} (HasFault : List (Option (List ℕ)) → Option (List ℕ)
     many_above = length-map read.lines Some ∙ read.many
 
     module _ (size : ℕ) (is : IsLine (drop from text) size) where
-      pub read_more : IsFaultless HasFault (map Some read.lines) (Some (take size (drop from text))) → Read HasFault text (from + size) (above + 1)
+      abbrev pub read_more : IsFaultless HasFault (map Some read.lines) (Some (take size (drop from text))) → Read HasFault text (from + size) (above + 1)
       read_more faultless =
           let line = take size (drop from text) in
           record {
@@ -55,11 +55,11 @@ module _ {F : Type 0} (HasFault : List (Option (List ℕ)) → Option (List ℕ)
           (ap (λ n. n + 1) (sym many_above)) read.clean lowest
 
     module _ (past : length text ≤ from) where
-      all : lines_of text ≡ read.lines
-      all = read.place ∙ ap (λ (l : List ℕ). read.lines ++ lines_of l) (drop_all from text past) ∙ append-nil read.lines
+      pub all_lines : lines_of text ≡ read.lines
+      all_lines = read.place ∙ ap (λ (l : List ℕ). read.lines ++ lines_of l) (drop_all from text past) ∙ append-nil read.lines
 
       whole : ended text ≡ map Some read.lines ++ None ∷ []
-      whole = ap (λ (l : List (List ℕ)). map Some l ++ None ∷ []) all
+      whole = ap (λ (l : List (List ℕ)). map Some l ++ None ∷ []) all_lines
 
       pub clean_at_end : IsFaultless HasFault (map Some read.lines) None → IsClean HasFault (ended text)
       clean_at_end faultless = subst (IsClean HasFault) (sym whole) (clean_push HasFault (map Some read.lines) None read.clean faultless)

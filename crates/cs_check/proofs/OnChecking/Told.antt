@@ -176,6 +176,7 @@ module _ (file : File) (lines : List Line) (e : Entries) (t : AreEntries file li
             (s, sizes_more ∙ ap (λ (x : List ℕ). x ++ s ∷ []) before, read);
         small = t.small;
         verdicts = subst (λ (v : List VerdictWords). AllZip IsCaseOf v e.goal_cases.items) (sym verdicts_same) t.verdicts;
+        shown = t.shown;
         due = subst (λ (w : List GoalWords). KnowsGoals file.grammar w e.due) (sym goals_same) t.due;
         told = subst (λ (p : Part). HasTold file lines' p e.tokens.items) (sym part) tt;
         bases = t.bases ∙ sym (ap (λ (x : List ℕ). length x) bases_same);

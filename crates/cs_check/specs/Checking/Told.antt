@@ -14,8 +14,8 @@ use Rattle.cs_check.specs.Passing.Above.{case_sizes, derivations, goals_in, verd
 use Rattle.cs_check.specs.Passing.Places.{Part, OfCase, OfDerivation, OfCaseTokens, OfBase, OfNegative, OfNegativeTokens, OfNegativeText, last_part, next_parts, tokens_part}
 use Rattle.cs_check.specs.Passing.Entries.{IsCase, IsNegative, IsBase, IsMeasured}
 use Rattle.cs_check.specs.Passing.DueGoals.{KnowsGoals}
-use Rattle.cs_scanner.specs.Scan.Scan.{Scanning}
-use Rattle.cs_check.specs.Passing.Faults.{Checked, HasDerivation, HasCaseSize, HasTokens}
+pub use Rattle.cs_check.specs.Passing.Outcomes.{checked_by}
+use Rattle.cs_check.specs.Passing.Faults.{HasDerivation, HasCaseSize, HasTokens}
 use Rattle.cs_check.specs.Checking.Cases.{PlainCase}
 
 abbrev pub sizes_of : List PlainCase → List ℕ
@@ -67,14 +67,12 @@ pub record AreEntries (file : File) (lines : List Line) (e : Entries) : Type 0 w
   pub sizes : AreSized (last_part lines) (case_sizes lines) e.cases.list e.size
   pub small : All (λ (case : PlainCase). case.size < greatest) e.cases.list
   pub verdicts : AllZip IsCaseOf (verdicts lines) e.goal_cases.items
+  pub shown : All (λ (number : ℕ). number ≤ length e.cases.list) e.goal_cases.items
   pub due : KnowsGoals file.grammar (goals_in lines) e.due
   pub told : HasTold file lines (last_part lines) e.tokens.items
   pub bases : e.bases ≡ length (base_goals lines)
   pub base : HasBase file.grammar lines (last_part lines) e.base.items
   pub counts : AreCounts lines e.counts
-
-abbrev pub checked_by : File → Scanning → Checked
-checked_by file scanning = record { file = file; scanning = scanning }
 
 -- a derive line is right, and taken, or has the fault
 abbrev pub IsDerivationJudged : File → List Line → List ℕ → Entries → Option ClaimFault → Type 0

@@ -83,6 +83,13 @@ impl<'g> Cases<'g> {
         self.list.len()
     }
 
+    /// The place of the case of this number.
+    pub(crate) fn find(&self, number: u64) -> Option<usize>
+        ensures { (n : ℕ) → IsRead n number → IsPlaceOf n (length self.now.list) result }
+    {
+        place_in(number, self.list.len())
+    }
+
     /// Adds a case.
     pub(crate) fn push(&mut self, size: u64, derivation: Derivation) -> Result<(), AllocError>
         requires { IsDerivationOf self.old.grammar derivation }

@@ -16,21 +16,21 @@ use std::alloc::{AllocError, Global};
 /// What the lines behind the head have told.
 #[derive(Debug, Drop)]
 pub(crate) struct Entries<'a> {
-    cases: Cases<'a>,
+    pub(crate) cases: Cases<'a>,
     // Of each goal the number of its case, or 0.
-    goal_cases: Vec<u64>,
-    due: DueGoals<'a>,
+    pub(crate) goal_cases: Vec<u64>,
+    pub(crate) due: DueGoals<'a>,
     // How many bases there were, and the tokens of the last.
-    bases: u64,
-    base: Vec<u16>,
+    pub(crate) bases: u64,
+    pub(crate) base: Vec<u16>,
     // The size of the last case, and the tokens of the last case or negative.
-    size: u64,
-    tokens: Vec<u16>,
-    counts: Counts,
+    pub(crate) size: u64,
+    pub(crate) tokens: Vec<u16>,
+    pub(crate) counts: Counts,
 }
 
-// One more.
-fn more(count: u64) -> u64
+/// One more.
+pub(crate) fn more(count: u64) -> u64
     ensures { count < 2 ^ 32 → result ≡ count + 1 }
 {
     count.saturating_add(1)
