@@ -28,8 +28,9 @@ use std::thread::Threads;
 
 /// Does what the words ask for, says on `err` what went wrong, and gives the status: 0 where the whole output was written,
 /// 1 where the files are refused, 2 where the words aren't accepted, 3 where a file can't be read, 4 where the output can't
-/// be written, 5 for want of memory, 6 where it was written and says that a manifest doesn't pass. The words are the program's arguments without its own name: a command, what it takes,
-/// and its options. Workers run by `rt`, and enter the gate with the place of an item in its batch.
+/// be written, 5 for want of memory, 6 where it was written and says that a manifest doesn't pass. The words are the
+/// program's arguments without its own name: a command, what it takes, and its options. Workers run by `rt`, and enter the
+/// gate with the place of an item in its batch.
 ///
 /// What it promises stands on one page, in `specs/Headline.antt` of `cs_run::ending`.
 pub fn run<R: Threads + Sync, D: Desk, O: Sink, E: Sink, G: Gate + Sync>(
