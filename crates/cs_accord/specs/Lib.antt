@@ -1,0 +1,3 @@
+pub mod Accord
+pub mod Named
+pub mod Suite
