@@ -46,6 +46,10 @@ returns-in-Grammar-clause-performs g c =
 pub returns-in-Grammar-clause-bad_words_ask_nothing : goal.returns-in-Grammar-clause-bad_words_ask_nothing
 returns-in-Grammar-clause-bad_words_ask_nothing g c = λ bad. absurd (bad_not_accepted _ bad.0 bad.1 c.in-Ok.ensures.accepted)
 
+pub returns-in-Grammar-clause-no_files_ask_nothing : goal.returns-in-Grammar-clause-no_files_ask_nothing
+returns-in-Grammar-clause-no_files_ask_nothing g c =
+    no_files_so (texts c.args.words.now) (plain_request c.in-Ok.request) c.args.desk.now c.read_files.new.desk (c.in-Ok.ensures.accepted, c.in-Ok.ensures.asked) c.read_files.ensures.no_files
+
 pub returns-in-Pair-clause-performs : goal.returns-in-Pair-clause-performs
 returns-in-Pair-clause-performs g c =
     performs_as (texts c.args.words.now) (plain_request c.in-Ok.request) (c.in-Ok.ensures.accepted, c.in-Ok.ensures.asked) c.in-Ok-read_files.meant _ _ c.of_pair.result
