@@ -31,7 +31,7 @@ fn bad_option(alloc: Global, texts: &[&str]) -> Result<Option<usize>, AllocError
     }
 }
 
-const COMMANDS: [Row; 77] = [
+const COMMANDS: [Row; 80] = [
     (&[], Some(0)),
     (&[""], Some(0)),
     (&["--help"], Some(0)),
