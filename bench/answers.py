@@ -29,7 +29,8 @@ MAIN = """\
 //! Judges the goals of a kind of the grammar in a file, and makes a checksum of their verdicts.
 #![tactic(auto)]
 
-use cs_goals::{Criteria, Goal, Goals, fits_goal};
+use cs_choices::Criteria;
+use cs_goals::{Goal, Goals, fits_goal};
 use cs_grammar::Weights;
 use cs_io::{Desk, DeskError, FolderDesk};
 use cs_verdicts::{Tables, Verdict, judge};

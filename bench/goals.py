@@ -20,7 +20,8 @@ MAIN = """\
 //! Judges the goals of a kind of the grammar in each file, and counts their verdicts.
 #![tactic(auto)]
 
-use cs_goals::{Criteria, Goal, Goals, fits_goal};
+use cs_choices::Criteria;
+use cs_goals::{Goal, Goals, fits_goal};
 use cs_grammar::Weights;
 use cs_io::{Desk, FolderDesk};
 use cs_verdicts::{Tables, Verdict, judge};

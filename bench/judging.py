@@ -1,6 +1,6 @@
 """What the programs share that judge goals: pieces of their text, and the crates that they stand on."""
 
-LIBRARIES = "cs_verdicts cs_goals cs_yacc cs_io cs_grammar"
+LIBRARIES = "cs_verdicts cs_goals cs_yacc cs_choices cs_io cs_grammar"
 
 HELPERS = """\
 fn verdict(alloc: Global, tables: &Tables, goal: &Goal) -> Option<Verdict> {

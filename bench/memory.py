@@ -70,8 +70,9 @@ def example(name):
     return os.path.join(TOP, "examples", name)
 
 
-# a text for `member`, in a folder that each script has
+# A text for `member` and a suite for `check`, in a folder that each script has.
 TEXT = os.path.join(TOP, "bench", "out", "text")
+SUITE = os.path.join(TOP, "bench", "out", "suite")
 COMMANDS = [
     ["rules", example("g1.y")],
     ["rules", example("calculator.y")],
@@ -85,6 +86,7 @@ COMMANDS = [
     ["wrong", example("g1.y"), example("l1.l")],
     ["chains", example("g1.y")],
     ["chains", example("g1.y"), example("l1.l")],
+    ["check", example("g1.y"), example("l1.l"), SUITE],
     ["gen", "1"],
 ]
 
@@ -112,6 +114,14 @@ def tried(path, library, words, counter):
     return count, wanting, wrong
 
 
+def put_files(path):
+    os.makedirs(os.path.dirname(TEXT), exist_ok=True)
+    with open(TEXT, "w") as file:
+        file.write("( 0 + 0 )")
+    with open(SUITE, "wb") as file:
+        subprocess.run([path, "suite", example("g1.y"), example("l1.l"), "--bases=2"], stdout=file, check=True)
+
+
 def main():
     path, bounds = program(), Bounds()
     with tempfile.TemporaryDirectory() as folder:
@@ -119,9 +129,7 @@ def main():
         with open(source, "w") as file:
             file.write(SHIM)
         subprocess.run(["cc", "-O1", "-shared", "-fPIC", "-o", library, source, "-ldl"], check=True)
-        os.makedirs(os.path.dirname(TEXT), exist_ok=True)
-        with open(TEXT, "w") as file:
-            file.write("( 0 + 0 )")
+        put_files(path)
         for words in COMMANDS:
             number, wanting, wrong = tried(path, library, words, os.path.join(folder, "count"))
             names = " ".join(os.path.basename(word) for word in words)
