@@ -2,6 +2,7 @@ pub mod Definitions
 pub mod Grammar
 pub mod Depth
 pub mod Operations
+pub mod PuttingIn
 pub mod Trees
 pub mod Postfix
 pub mod Evaluation

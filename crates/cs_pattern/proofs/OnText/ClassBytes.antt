@@ -146,9 +146,9 @@ module _ (P : List ℕ → Type 0) (one : (b : ℕ) → b < 256 → P (bytes_whe
           let j = subst (λ (x : Atom). StandForBytes (atom_items x)) p.1 k in
           one_of (branch_parts no_names t) (branches t p.0 p.2 (left (tree_items p.0) (closing ∷ []) j.1))
       atom (Group t) w (inr p) k =
-          let def = p.4 in
-          let stand = spelled_stand p.1.text p.2 (definition_bytes ds def.index p.1 h def.is) p.5 in
-          one_of (branch_parts no_names t) (branches t p.2 p.6 stand)
+          let def = p.2.2 in
+          let stand = spelled_stand p.2.0.text p.2.1 (definition_bytes ds def.index p.2.0 h def.is) p.2.3 in
+          one_of (branch_parts no_names t) (branches t p.2.1 p.2.4 stand)
 
   pub each_class : (ds : List Definition) (text : List ℕ) (pattern : Regex) → AreBytes text → HaveByteTexts ds → IsPatternOf ds text pattern → EachClass P pattern
   each_class ds text pattern h k is =

@@ -94,8 +94,8 @@ module _ (ds : List Definition) where
           ]
         ]
     atom_smaller (Group u) w i (inr p) h =
-        let e = p.3 in
-        name_smaller p.0 p.1 u p.2 i p.4 p.5 p.6 (subst (λ (x : Atom). Uses ds (atom_items x) i) e h)
+        let e = p.1 in
+        name_smaller p.0 p.2.0 u p.2.1 i p.2.2 p.2.3 p.2.4 (subst (λ (x : Atom). Uses ds (atom_items x) i) e h)
 
   used_smaller : (i j : ℕ) (d : Definition) (u : Tree) → slice_get ds i ≡ Some d → IsTreeOf ds d.text u → UsesDefinition ds i j → Smaller ds j (tree_size u)
   used_smaller i j d u at t link =

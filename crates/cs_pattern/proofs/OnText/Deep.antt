@@ -64,10 +64,10 @@ module _ (ds : List Definition) (most : ℕ) where
         let h = tree_deep u p.0 p.2 (left (tree_items p.0) (closing ∷ []) (right (opening ∷ []) (tree_items p.0 ++ closing ∷ []) j)) in
         subst (λ (x : Atom). depth u + 1 ≤ length (atom_items x) + most) (sym e) (omega (arith, h, length-append (tree_items p.0) (closing ∷ [])))
     atom_deep (Group u) w (inr p) k =
-        let e = p.3 in
+        let e = p.1 in
         let j = subst (λ (x : Atom). AreShallow (atom_items x)) e k in
-        let defines = p.4 in
-        let h : depth u ≤ most = j defines.index (inl defines.found) p.1 u defines.is (record { spelled = p.2; is_spelled = p.5; put_in = p.6 }) in
+        let defines = p.2.2 in
+        let h : depth u ≤ most = j defines.index (inl defines.found) p.2.0 u defines.is (record { spelled = p.2.1; is_spelled = p.2.3; put_in = p.2.4 }) in
         subst (λ (x : Atom). depth u + 1 ≤ length (atom_items x) + most) (sym e) (omega (arith, h))
 
 -- how deep the tree of a text is that has so many items

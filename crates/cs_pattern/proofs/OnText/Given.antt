@@ -64,7 +64,7 @@ module _ (ds : List Definition) (Has : ℕ → Tree → Type 0) where
         let j = subst (λ (x : Atom). AreSo (atom_items x)) p.1 k in
         inl (p.0, p.1, tree_given u p.0 p.2 (left (tree_items p.0) (closing ∷ []) (right (opening ∷ []) (tree_items p.0 ++ closing ∷ []) j)))
     atom_given (Group u) w (inr p) k =
-        inr (p.0, p.3, name_given p.0 p.1 u p.2 p.4 p.5 p.6 (subst (λ (x : Atom). AreSo (atom_items x)) p.3 k))
+        inr (p.0, p.1, name_given p.0 p.2.0 u p.2.1 p.2.2 p.2.3 p.2.4 (subst (λ (x : Atom). AreSo (atom_items x)) p.1 k))
 
   pub given : (ops : List Op) (tree spelled : Tree) → PutIn ds tree spelled → AreSo (tree_items spelled) → ops ≡ tree_ops (number_of ds) spelled → GiveTree Has ops tree
   given ops tree spelled put k e = record { number = number_of ds; spelled = spelled; are = e; put_in = tree_given tree spelled put k }

@@ -58,7 +58,7 @@ module _ (ds : List Definition) where
         let e = p.1 in
         subst (λ (x : Atom). AllDefined (atom_items x)) (sym e) (refl, both (tree_items p.0) (closing ∷ []) (tree_defined u p.0 p.2) (refl, tt))
     atom_defined (Group u) w (inr p) =
-        let e = p.3 in let def = p.4 in
+        let e = p.1 in let def = p.2.2 in
         subst (λ (x : Atom). AllDefined (atom_items x)) (sym e) (ap (λ o. not (is_some o)) def.found, tt)
 
   none_undefined : (xs : List Placed) → AllDefined (items_of xs) → first_undefined ds xs ≡ None

@@ -65,30 +65,30 @@ module _ (ds : List Definition) where
     one_atom (Bytes s) (Quote t) w p q = absurd (cc (p, q))
     one_atom (Bytes s) (Name n) w p q = absurd q
     one_atom (Bytes s) (Group u) w p (inl q) = let g = q.1 in absurd (cc (p, g))
-    one_atom (Bytes s) (Group u) w p (inr q) = let g = q.3 in absurd (cc (p, g))
+    one_atom (Bytes s) (Group u) w p (inr q) = let g = q.1 in absurd (cc (p, g))
     one_atom (Quote s) (Bytes t) w p q = absurd (cc (p, q))
     one_atom (Quote s) (Quote t) w p q = let e : s ≡ t = cc (p, q) in ap Quote e
     one_atom (Quote s) (Name n) w p q = absurd q
     one_atom (Quote s) (Group u) w p (inl q) = let g = q.1 in absurd (cc (p, g))
-    one_atom (Quote s) (Group u) w p (inr q) = let g = q.3 in absurd (cc (p, g))
+    one_atom (Quote s) (Group u) w p (inr q) = let g = q.1 in absurd (cc (p, g))
     one_atom (Name n) b w p q = absurd p
     one_atom (Group t) (Bytes s) w (inl p) q = let f = p.1 in absurd (cc (f, q))
-    one_atom (Group t) (Bytes s) w (inr p) q = let f = p.3 in absurd (cc (f, q))
+    one_atom (Group t) (Bytes s) w (inr p) q = let f = p.1 in absurd (cc (f, q))
     one_atom (Group t) (Quote s) w (inl p) q = let f = p.1 in absurd (cc (f, q))
-    one_atom (Group t) (Quote s) w (inr p) q = let f = p.3 in absurd (cc (f, q))
+    one_atom (Group t) (Quote s) w (inr p) q = let f = p.1 in absurd (cc (f, q))
     one_atom (Group t) (Name n) w p q = absurd q
     one_atom (Group t) (Group u) w (inl p) (inl q) =
         let f = p.1 in let g = q.1 in
         let e : p.0 ≡ q.0 = cc (f, g) in
         ap Group (one_tree t u q.0 (subst (PutIn ds t) e p.2) q.2)
-    one_atom (Group t) (Group u) w (inl p) (inr q) = let f = p.1 in let g = q.3 in absurd (cc (f, g))
-    one_atom (Group t) (Group u) w (inr p) (inl q) = let f = p.3 in let g = q.1 in absurd (cc (f, g))
+    one_atom (Group t) (Group u) w (inl p) (inr q) = let f = p.1 in let g = q.1 in absurd (cc (f, g))
+    one_atom (Group t) (Group u) w (inr p) (inl q) = let f = p.1 in let g = q.1 in absurd (cc (f, g))
     one_atom (Group t) (Group u) w (inr p) (inr q) =
-        let f = p.3 in let g = q.3 in
+        let f = p.1 in let g = q.1 in
         let e : p.0 ≡ q.0 = cc (f, g) in
-        let d = one_definition ds p.0 q.0 p.1 q.1 e p.4 q.4 in
-        let s = one_spelled p.1.text q.1.text p.2 q.2 (ap (λ (x : Definition). x.text) d) p.5 q.5 in
-        ap Group (one_tree t u q.2 (subst (PutIn ds t) s p.6) q.6)
+        let d = one_definition ds p.0 q.0 p.2.0 q.2.0 e p.2.2 q.2.2 in
+        let s = one_spelled p.2.0.text q.2.0.text p.2.1 q.2.1 (ap (λ (x : Definition). x.text) d) p.2.3 q.2.3 in
+        ap Group (one_tree t u q.2.1 (subst (PutIn ds t) s p.2.4) q.2.4)
 
   -- a text has one tree with the definitions put in
   pub one_tree_of : (text : List ℕ) (t u : Tree) → IsTreeOf ds text t → IsTreeOf ds text u → t ≡ u
@@ -150,7 +150,7 @@ module _ (ds : List Definition) where
     put_atom : (a : Atom) → HaveTrees (atom_items a) → (b : Atom) × AtomPutIn ds b a
     put_atom (Bytes set) h = (Bytes set, refl)
     put_atom (Quote bytes) h = (Quote bytes, refl)
-    put_atom (Name name) h = (Group h.0.tree, inr (name, h.0.definition, h.0.is_tree.spelled, refl, h.0.defines, h.0.is_tree.is_spelled, h.0.is_tree.put_in))
+    put_atom (Name name) h = (Group h.0.tree, inr (name, refl, (h.0.definition, h.0.is_tree.spelled, h.0.defines, h.0.is_tree.is_spelled, h.0.is_tree.put_in)))
     put_atom (Group t) h =
         let x = put_tree t (split (tree_items t) (closing ∷ []) h).0 in
         (Group x.0, inl (t, refl, x.1))

@@ -12,6 +12,7 @@ use Rattle.cs_pattern.specs.declared.operations.operations.Op as op_code
 use Rattle.cs_pattern.specs.Operations.Definitions.{definitions_of}
 use Rattle.cs_pattern.specs.Operations.Depth.{depth, pattern_of, measure_of, leaf}
 use Rattle.cs_pattern.specs.Operations.Grammar.{Tree, LastBranch, Or, Branch, LastPiece, Beside, Piece, Repeated, Atom, Bytes, Quote, Name, Group, IsDerivation}
+use Rattle.cs_pattern.specs.Operations.PuttingIn as put_in
 use Rattle.cs_pattern.specs.Operations.Operations.{Op, ops_of, number_of, tree_ops}
 
 -- the number of a name among the entries
@@ -24,24 +25,17 @@ AreOperationsOf entries items ops =
     (tree : Tree) → IsDerivation (items_of (placed_all items)) tree → ops_of ops ≡ tree_ops (entry_number entries) tree
 
 -- the first tree is the second with a group in place of each name, of a tree that is for it
-module _ (IsFor : List ℕ → Tree → Type 0) where
-  abbrev mutual
-    pub PutIn : Tree → Tree → Type 0
-    PutIn (LastBranch b) whole = (c : Branch) × (whole ≡ LastBranch c) × BranchPutIn b c
-    PutIn (Or b t) whole = (c : Branch) × (u : Tree) × (whole ≡ Or c u) × BranchPutIn b c × PutIn t u
+abbrev pub PutIn : (List ℕ → Tree → Type 0) → Tree → Tree → Type 0
+PutIn IsFor = put_in.PutIn (λ name tree _. IsFor name tree)
 
-    pub BranchPutIn : Branch → Branch → Type 0
-    BranchPutIn (LastPiece p) whole = (q : Piece) × (whole ≡ LastPiece q) × PiecePutIn p q
-    BranchPutIn (Beside p b) whole = (q : Piece) × (c : Branch) × (whole ≡ Beside q c) × PiecePutIn p q × BranchPutIn b c
+abbrev pub BranchPutIn : (List ℕ → Tree → Type 0) → Branch → Branch → Type 0
+BranchPutIn IsFor = put_in.BranchPutIn (λ name tree _. IsFor name tree)
 
-    pub PiecePutIn : Piece → Piece → Type 0
-    PiecePutIn (Repeated a rs) whole = (x : Atom) × (whole ≡ Repeated x rs) × AtomPutIn a x
+abbrev pub PiecePutIn : (List ℕ → Tree → Type 0) → Piece → Piece → Type 0
+PiecePutIn IsFor = put_in.PiecePutIn (λ name tree _. IsFor name tree)
 
-    pub AtomPutIn : Atom → Atom → Type 0
-    AtomPutIn (Bytes set) whole = whole ≡ Bytes set
-    AtomPutIn (Quote bytes) whole = whole ≡ Quote bytes
-    AtomPutIn (Name name) whole = ⊥
-    AtomPutIn (Group t) whole = ((u : Tree) × (whole ≡ Group u) × PutIn t u) ⊎ ((name : List ℕ) × (whole ≡ Name name) × IsFor name t)
+abbrev pub AtomPutIn : (List ℕ → Tree → Type 0) → Atom → Atom → Type 0
+AtomPutIn IsFor = put_in.AtomPutIn (λ name tree _. IsFor name tree)
 
 -- The operations are those of a tree in which each name has a number, and this is the tree with trees put in that are for
 -- these numbers.

@@ -4,7 +4,8 @@ use Rattle.std.specs.Prelude.{◌≡◌, ◌⊎◌, ℕ, List, Some, slice_get}
 use Rattle.cs_pattern_parts.specs.Items.Items.{Placed, items_of}
 use Rattle.cs_pattern.specs.Text.Table.{Reads}
 use Rattle.cs_pattern.specs.Operations.Definitions.{Definition, index_of}
-use Rattle.cs_pattern.specs.Operations.Grammar.{Tree, LastBranch, Or, Branch, LastPiece, Beside, Piece, Repeated, Atom, Bytes, Quote, Name, Group, IsDerivation}
+use Rattle.cs_pattern.specs.Operations.Grammar.{Tree, Branch, Piece, Atom, IsDerivation}
+use Rattle.cs_pattern.specs.Operations.PuttingIn as put_in
 
 -- the text is read to its end, and its items have this derivation
 pub record SpellsTree (text : List ℕ) (tree : Tree) : Type 0 where
@@ -18,29 +19,24 @@ pub record Defines (ds : List Definition) (name : List ℕ) (d : Definition) : T
   pub found : index_of name ds ≡ Some index
   pub is : slice_get ds index ≡ Some d
 
+-- the name stands for a tree that the text of its definition has with definitions put in
+abbrev pub StandsFor : List Definition → List ℕ → Tree → (Tree → Type 0) → Type 0
+StandsFor ds name tree Is = (d : Definition) × (spelled : Tree) × Defines ds name d × SpellsTree d.text spelled × Is spelled
+
 -- The first tree is the second with definitions put in for its names: where the second has a name, the first has a group of
 -- the tree of the name's definition, in which definitions are put in likewise. Such a tree is finite, so there is none where
 -- a definition that is used reaches itself.
-module _ (ds : List Definition) where
-  abbrev mutual
-    pub PutIn : Tree → Tree → Type 0
-    PutIn (LastBranch b) whole = (c : Branch) × (whole ≡ LastBranch c) × BranchPutIn b c
-    PutIn (Or b t) whole = (c : Branch) × (u : Tree) × (whole ≡ Or c u) × BranchPutIn b c × PutIn t u
+abbrev pub PutIn : List Definition → Tree → Tree → Type 0
+PutIn ds = put_in.PutIn (StandsFor ds)
 
-    pub BranchPutIn : Branch → Branch → Type 0
-    BranchPutIn (LastPiece p) whole = (q : Piece) × (whole ≡ LastPiece q) × PiecePutIn p q
-    BranchPutIn (Beside p b) whole = (q : Piece) × (c : Branch) × (whole ≡ Beside q c) × PiecePutIn p q × BranchPutIn b c
+abbrev pub BranchPutIn : List Definition → Branch → Branch → Type 0
+BranchPutIn ds = put_in.BranchPutIn (StandsFor ds)
 
-    pub PiecePutIn : Piece → Piece → Type 0
-    PiecePutIn (Repeated a rs) whole = (x : Atom) × (whole ≡ Repeated x rs) × AtomPutIn a x
+abbrev pub PiecePutIn : List Definition → Piece → Piece → Type 0
+PiecePutIn ds = put_in.PiecePutIn (StandsFor ds)
 
-    pub AtomPutIn : Atom → Atom → Type 0
-    AtomPutIn (Bytes set) whole = whole ≡ Bytes set
-    AtomPutIn (Quote bytes) whole = whole ≡ Quote bytes
-    AtomPutIn (Name name) whole = ⊥
-    AtomPutIn (Group t) whole =
-        ((u : Tree) × (whole ≡ Group u) × PutIn t u)
-        ⊎ ((name : List ℕ) × (d : Definition) × (u : Tree) × (whole ≡ Name name) × Defines ds name d × SpellsTree d.text u × PutIn t u)
+abbrev pub AtomPutIn : List Definition → Atom → Atom → Type 0
+AtomPutIn ds = put_in.AtomPutIn (StandsFor ds)
 
 -- the tree of a text with the definitions put in
 pub record IsTreeOf (ds : List Definition) (text : List ℕ) (tree : Tree) : Type 0 where
