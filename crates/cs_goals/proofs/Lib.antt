@@ -7,3 +7,4 @@ pub mod Decided
 pub mod Members
 pub mod Once
 pub mod Cut
+pub mod Placing

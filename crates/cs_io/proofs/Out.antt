@@ -1,5 +1,6 @@
 -- From the sink over an output to the output.
 use Rattle.std.proofs.Common.{◌≡◌, ℕ, ◌<◌, ◌≤◌, ◌⊎◌, List, [], length, inl, inr, ap, sym, ◌∙◌, subst, Option, Result, Ok, Err, OnErr, arith}
+use Rattle.std.specs.Prelude.{OnOk}
 use Rattle.std.proofs.lemmas.Bool.{cases_lt}
 use Rattle.std.proofs.Math.Seq.{take-length}
 use Rattle.std.specs.Io.KnownBytes.{append_known}
@@ -8,8 +9,7 @@ use Rattle.cs_io.specs.Faults.{Rose, next_count}
 use Rattle.cs_io.specs.Sink.{GrewByPrefix}
 use Rattle.cs_io.specs.declared.buffered_sink.BufferedSink.{BufferedSink}
 use Rattle.cs_io.proofs.Known.{known_none, lent_prefix}
-use Rattle.cs_io.specs.Asked.{IsNotWithout}
-use Rattle.cs_io.specs.Asked.{GrewByPart}
+use Rattle.cs_io.specs.Asked.{GrewByOne, GrewByPart, IsNotWithout}
 
 -- nothing is a part of each text
 pub no_part : (Is : List ℕ → Type 0) (known : Option (List ℕ)) → GrewByPart Is known known
@@ -19,6 +19,15 @@ no_part Is known = λ text is. record { count = 0; grew = sym (known_none known)
 pub on_err : {A E : Type 0} (P : Type 0) (result : Result A E) → P → OnErr result P
 on_err P (Ok value) holds = tt
 on_err P (Err error) holds = holds
+
+-- what is said of the sink's output is said of the output
+pub grown : {T E : Type 0} (result : Result T E) (Is : List ℕ → Type 0) (a b now new : Option (List ℕ)) → a ≡ b → new ≡ now → OnOk result (GrewByOne Is a now) → OnOk result (GrewByOne Is b new)
+grown result Is a b now new first second grew =
+    subst (λ (k : Option (List ℕ)). OnOk result (GrewByOne Is k new)) first (subst (λ (k : Option (List ℕ)). OnOk result (GrewByOne Is a k)) (sym second) grew)
+
+pub part_grown : {T E : Type 0} (result : Result T E) (Is : List ℕ → Type 0) (a b now new : Option (List ℕ)) → a ≡ b → new ≡ now → OnErr result (GrewByPart Is a now) → OnErr result (GrewByPart Is b new)
+part_grown result Is a b now new first second grew =
+    subst (λ (k : Option (List ℕ)). OnErr result (GrewByPart Is k new)) first (subst (λ (k : Option (List ℕ)). OnErr result (GrewByPart Is a k)) (sym second) grew)
 
 module _ {S : Type 0} (written : S → Option (List ℕ)) (old new : BufferedSink S) (text : List ℕ) (empty : waiting_bytes old ≡ []) where
   same : buffered_written written old ≡ written (lent_sink old)

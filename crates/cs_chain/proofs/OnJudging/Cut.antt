@@ -7,20 +7,17 @@ use Rattle.cs_grammar.specs.declared.symbol.Symbol.TheVariants.{Nonterminal}
 use Rattle.cs_grammar.specs.Grammar.{Production, PlainGrammar, IsRule}
 use Rattle.cs_grammar.specs.Weights.{Measure}
 use Rattle.cs_grammar.specs.Context.{Context as TreeContext, context_size}
-use Rattle.cs_grammar.proofs.OneTree.{one_rule}
 use Rattle.cs_least.specs.Embed.Around.{IsContextOf, HasLeastContext}
 use Rattle.cs_least.proofs.OnEmbed.ChosenContexts.{chosen_context_exists, IsContext-chosen}
 use Rattle.cs_least.proofs.OnEmbed.Steps.{split_at}
 use Rattle.cs_goals.specs.Goal.{IsOccurrence}
 pub use Rattle.cs_goals.proofs.Cut.{Cut, cut_at}
+use Rattle.cs_goals.proofs.Placing.{stands_in}
 
 -- the inner nonterminal stands at its place of the outer rule
 pub placed_in : (g : PlainGrammar) (p i q : ℕ) (outer inner : Production) → IsOccurrence g p i q → IsRule g p outer → IsRule g q inner → (outer.right ≡ take (i - 1) outer.right ++ Nonterminal inner.left ∷ drop i outer.right) × (length (take (i - 1) outer.right) + 1 ≡ i)
 placed_in g p i q outer inner o is_outer is_inner =
-    let outers = one_rule g p p o.outer outer refl o.is_outer is_outer in
-    let inners = one_rule g q q o.inner inner refl o.is_inner is_inner in
-    let at : slice_get outer.right (i - 1) ≡ Some (Nonterminal inner.left) =
-    ap (λ (v : Production). slice_get v.right (i - 1)) (sym outers) ∙ o.at ∙ ap (λ (v : Production). Some (Nonterminal v.left)) inners in
+    let at = stands_in g p i q outer inner o is_outer is_inner in
     let next : i - 1 + 1 ≡ i = omega (arith, o.above_zero) in
     let short : length (take (i - 1) outer.right) ≡ i - 1 = length-take-le (i - 1) outer.right (omega (arith, slice_get_within outer.right (i - 1) (Nonterminal inner.left) at)) in
     (split_at outer.right (i - 1) (Nonterminal inner.left) at ∙ ap (λ k. take (i - 1) outer.right ++ Nonterminal inner.left ∷ drop k outer.right) next, omega (arith, short, o.above_zero))

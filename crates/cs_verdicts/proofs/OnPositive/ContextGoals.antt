@@ -28,6 +28,7 @@ use Rattle.cs_least.proofs.OnEmbed.Steps.{one_split, split_at, siblings_exact}
 use Rattle.cs_goals.specs.declared.goal.Goal.TheVariants.{Context}
 use Rattle.cs_goals.specs.Goal.{IsOccurrence}
 use Rattle.cs_goals.proofs.Cut.{cut_at}
+use Rattle.cs_goals.proofs.Placing.{stands_in}
 use Rattle.cs_goals.specs.Meets.{trees, IsChild, UsesRuleIn, SomeUsesRuleIn}
 use Rattle.cs_verdicts.specs.Positive.Verdict.{IsMet, ContextGoalParts, IsChosenOfContext, IsCodeOf}
 use Rattle.cs_verdicts.proofs.OnPositive.RuleGoals.{least_context}
@@ -162,10 +163,7 @@ module _ (w : Measure) (g : PlainGrammar) (p i q : ℕ) (outer inner : Productio
 -- the inner nonterminal stands at its place of the outer rule
 pub placed_in : (g : PlainGrammar) (p i q : ℕ) (outer inner : Production) → IsOccurrence g p i q → IsRule g p outer → IsRule g q inner → (outer.right ≡ take (i - 1) outer.right ++ Nonterminal inner.left ∷ drop i outer.right) × (length (take (i - 1) outer.right) + 1 ≡ i)
 placed_in g p i q outer inner o is_outer is_inner =
-    let outers = one_rule g p p o.outer outer refl o.is_outer is_outer in
-    let inners = one_rule g q q o.inner inner refl o.is_inner is_inner in
-    let at : slice_get outer.right (i - 1) ≡ Some (Nonterminal inner.left) =
-    ap (λ (v : Production). slice_get v.right (i - 1)) (sym outers) ∙ o.at ∙ ap (λ (v : Production). Some (Nonterminal v.left)) inners in
+    let at = stands_in g p i q outer inner o is_outer is_inner in
     let next : i - 1 + 1 ≡ i = omega (arith, o.above_zero) in
     let short : length (take (i - 1) outer.right) ≡ i - 1 = length-take-le (i - 1) outer.right (omega (arith, slice_get_within outer.right (i - 1) (Nonterminal inner.left) at)) in
     (split_at outer.right (i - 1) (Nonterminal inner.left) at ∙ ap (λ k. take (i - 1) outer.right ++ Nonterminal inner.left ∷ drop k outer.right) next, omega (arith, short, o.above_zero))

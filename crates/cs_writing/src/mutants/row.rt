@@ -21,6 +21,7 @@ pub(crate) struct Row {
 
 impl Row {
     /// The row of these negatives of a base. None where a token of the base has no lexeme.
+    #[inline(never)]
     pub fn new(
         alloc: Global,
         maker: &Maker<'_>,

@@ -80,24 +80,6 @@ impl Rows {
         if self.has(edit, pair) {
             return Ok(true);
         }
-        self.renew(alloc, maker, edit, pair)
-    }
-
-    // Makes the row of these negatives of a base, in place of that of pairs as this one. False where they have none.
-    #[inline(never)]
-    fn renew(
-        &mut self,
-        alloc: Global,
-        maker: &Maker<'_>,
-        edit: OpenEdit,
-        pair: OpenPair,
-    ) -> Result<bool, AllocError>
-        requires placed { IsOpenPlaced (length maker.now.base) edit }
-        requires named { IsNamedMark maker.now.tools.file (mark_in pair) }
-        requires rows { AreRows maker.now self.old }
-        ensures rows { AreRows maker.now self.new }
-        ensures has { IfOk result (λ has. IsTrue has → HasRow self.new edit pair) }
-    {
         let row = Row::new(alloc, maker, edit, pair)?;
         let has = row.is_some();
         self.put(row, pair);
