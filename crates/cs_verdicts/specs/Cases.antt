@@ -3,4 +3,5 @@ pub mod Laws
 pub mod Met
 pub mod Firsts
 pub mod KeyHash
+pub mod CodeHash
 pub mod Table

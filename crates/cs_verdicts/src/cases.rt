@@ -5,10 +5,11 @@
 //! does nothing.
 //!
 //! Of the files in `specs/Cases/` these say what is meant: `Cases` (what cases are, and what is told when a derivation is placed) and
-//! `Laws`. `Met` has the list of goals that a tree meets, `Firsts` and `Table` what is known of goals that were met, `KeyHash` what
-//! a goal gives a hasher: working words of proofs.
+//! `Laws`. `Met` has the list of goals that a tree meets, `Firsts` and `Table` what is known of goals that were met, `KeyHash` and
+//! `CodeHash` what a goal and a code give a hasher: working words of proofs.
 
 mod cases;
+mod code;
 mod firsts;
 mod laws;
 mod met;

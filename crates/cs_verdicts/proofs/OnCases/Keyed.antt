@@ -1,15 +1,14 @@
 -- Goals and codes as the keys of tables.
-use Rattle.std.proofs.Common.{◌≡◌, ℕ, ◌+◌, ◌-◌, ◌<◌, ◌||◌, Bool, true, false, cond, List, [], ◌∷◌, ◌++◌, length, get_or, refl, sym, ap, ◌∙◌, arith}
-use Rattle.std.specs.Prelude.{Option, Some, None, is_some, position, slice_get, Contains}
+use Rattle.std.proofs.Common.{◌≡◌, ℕ, ◌+◌, ◌-◌, ◌<◌, ◌||◌, ⊎_elim, Bool, true, false, cond, List, [], ◌∷◌, ◌++◌, length, get_or, refl, sym, ap, ◌∙◌, subst, arith}
+use Rattle.std.specs.Prelude.{Option, Some, None, is_some, slice_get, Contains}
 use Rattle.std.specs.Bool.{OnTrue}
 use Rattle.std.specs.Cmp.{IsEquivalence}
-use Rattle.std.specs.Global.{Vec}
 use Rattle.std.specs.List.{list_any, position_or_len}
 use Rattle.std.specs.Map.{lookup, keys_of}
 use Rattle.std.specs.Str.{bytes_eq}
-use Rattle.std.proofs.lemmas.Bool.{false≢true, eq-eqb}
+use Rattle.std.proofs.lemmas.Bool.{cases_lt, false≢true, eq-eqb}
 use Rattle.std.proofs.lemmas.List.{length-map, get_or-map, map_push}
-use Rattle.std.proofs.lemmas.List.Quantifiers.{position-Some}
+use Rattle.std.proofs.lemmas.List.Sums.{fails_before_first, passes_at_first, position_or_len_is}
 use Rattle.std.proofs.lemmas.Map.Views.{Contains-from_lookup, IsSome-lookup_from_Contains, Contains-from_any, list_any-from_Contains}
 use Rattle.std.proofs.lemmas.Option.{slice_get-get_or, get_or_from_slice_get}
 use Rattle.std.proofs.lemmas.Slice.Eq.{bytes_eq-Decides}
@@ -18,12 +17,14 @@ use Rattle.cs_grammar.specs.declared.symbol.Mark.{Mark}
 use Rattle.cs_grammar.specs.declared.symbol.Mark.TheVariants as mark
 use Rattle.cs_goals.specs.declared.goal.Goal.{Goal}
 use Rattle.cs_goals.specs.declared.goal.Goal.TheVariants as goal
+use Rattle.cs_verdicts.specs.declared.cases.code.Code.{Code}
 use Rattle.cs_verdicts.specs.declared.cases.firsts.Key.{Key}
 use Rattle.cs_verdicts.specs.declared.cases.firsts.Key.TheVariants.{Rule, Context, Pair}
 use Rattle.cs_verdicts.specs.declared.cases.firsts.MarkKey.{MarkKey}
 use Rattle.cs_verdicts.specs.declared.cases.firsts.MarkKey.TheVariants.{Begin, Token, End}
 use Rattle.cs_verdicts.specs.contracts.cases.firsts.KeyPartialEq.TheImpl as keys
 use Rattle.cs_verdicts.specs.contracts.cases.firsts.MarkKeyPartialEq.TheImpl as marks
+use Rattle.cs_verdicts.specs.contracts.cases.code.CodePartialEq.TheImpl as derived
 use Rattle.cs_verdicts.specs.Cases.Cases.{IsLowest}
 use Rattle.cs_verdicts.specs.Cases.KeyHash.{same_key}
 use Rattle.cs_verdicts.specs.Cases.Firsts.{mark_key, key_of, mark_of, goal_of, first_in, firsts_in}
@@ -132,50 +133,85 @@ new_key q key es new n is absent put =
 
 -- ---- codes
 
-module _ (code : List ℕ) where
-  abbrev pub has_code : Vec ℕ → Bool
-  has_code v = bytes_eq code v.items
+same_code : (x y : List ℕ) → bytes_eq x y ≡ true → x ≡ y
+same_code x y = (bytes_eq-Decides x y).0
 
-  any_in : (vs : List (Vec ℕ)) → list_any has_code vs ≡ list_any (bytes_eq code) (codes_in vs)
-  any_in [] = refl
-  any_in (v ∷ vs) = ap (λ b. bytes_eq code v.items || b) (any_in vs)
+self_code : (x : List ℕ) → bytes_eq x x ≡ true
+self_code x = (bytes_eq-Decides x x).1 refl
 
-  same_code : (x y : List ℕ) → bytes_eq x y ≡ true → x ≡ y
-  same_code x y = (bytes_eq-Decides x y).0
+-- the first place of a code in a list
+module _ (code : List ℕ) (codes : List (List ℕ)) where
+  abbrev place : ℕ
+  place = position_or_len (bytes_eq code) codes
 
-  pub known_code : (vs : List (Vec ℕ)) → list_any has_code vs ≡ true → Contains (codes_in vs) code
-  known_code vs h = Contains-from_any same_code code (codes_in vs) (sym (any_in vs) ∙ h)
+  within_there : Contains codes code → place < length codes
+  within_there c =
+      ⊎_elim (λ within. within)
+      (λ past. let no = fails_before_first (bytes_eq code) codes c.0 code (omega (arith, c.1, past)) in
+      absurd (false≢true (sym no ∙ ap (bytes_eq code) c.2 ∙ self_code code)))
+      (cases_lt place (length codes))
 
-  pub new_code : (vs : List (Vec ℕ)) → list_any has_code vs ≡ false → Contains (codes_in vs) code → ⊥
-  new_code vs h c = false≢true (sym h ∙ any_in vs ∙ list_any-from_Contains (equivalence bytes_eq same_code (λ x. (bytes_eq-Decides x x).1 refl)) code (codes_in vs) c)
-
-  place_in : (vs : List (Vec ℕ)) → position_or_len has_code vs ≡ position_or_len (bytes_eq code) (codes_in vs)
-  place_in [] = refl
-  place_in (v ∷ vs) = rw (place_in vs) refl
-
-  position_in : (vs : List (Vec ℕ)) → position has_code vs ≡ position (bytes_eq code) (codes_in vs)
-  position_in vs = rw (place_in vs, sym (length-map vs (λ (v : Vec ℕ). v.items))) refl
-
-  -- a code that is found has this number
-  pub own_number : (vs : List (Vec ℕ)) (i : ℕ) → position has_code vs ≡ Some i → IsLowest (λ other. other ≡ code) (codes_in vs) (i + 1)
-  own_number vs i e =
-      let p = position-Some (bytes_eq code) (codes_in vs) i code (sym (position_in vs) ∙ e) in
-      let is : code ≡ get_or (codes_in vs) i code = same_code code (get_or (codes_in vs) i code) p.1 in
-      let back : i + 1 - 1 ≡ i = omega arith in
+  own_place : Contains codes code → IsLowest (λ other. other ≡ code) codes (place + 1)
+  own_place c =
+      let within = within_there c in
+      let is = same_code code (get_or codes place code) (passes_at_first (bytes_eq code) codes code within) in
+      let back : place + 1 - 1 ≡ place = omega arith in
       record {
         code = code;
         above_zero = omega arith;
-        at = ap (λ k. slice_get (codes_in vs) k) back ∙ slice_get-get_or (codes_in vs) i code p.0 ∙ ap Some (sym is);
+        at = ap (λ k. slice_get codes k) back ∙ slice_get-get_or codes place code within ∙ ap Some (sym is);
         is_one = refl;
         lowest = λ k other lt at same.
-            let before : k < i = omega (arith, lt) in
-            let other_is = get_or_from_slice_get (codes_in vs) k other code at in
-            false≢true (sym (p.2 k before) ∙ ap (bytes_eq code) (other_is ∙ same) ∙ (bytes_eq-Decides code code).1 refl);
+            let before : k < place = omega (arith, lt) in
+            let other_is = get_or_from_slice_get codes k other code at in
+            false≢true (sym (fails_before_first (bytes_eq code) codes k code before) ∙ ap (bytes_eq code) (other_is ∙ same) ∙ self_code code);
       }
 
-  pub codes_in-insert : (vs : List (Vec ℕ)) (v : Vec ℕ) → v.items ≡ code → (Contains (codes_in vs) code → ⊥) → codes_in (insert_key (λ (x y : Vec ℕ). bytes_eq x.items y.items) vs v) ≡ codes_in vs ++ code ∷ []
-  codes_in-insert vs v is new = by (list_any (λ (y : Vec ℕ). bytes_eq v.items y.items) vs) refl
-    where
-      by : (b : Bool) → list_any (λ (y : Vec ℕ). bytes_eq v.items y.items) vs ≡ b → codes_in (cond b vs (vs ++ v ∷ [])) ≡ codes_in vs ++ code ∷ []
-      by true e = absurd (new (known_code vs (ap (λ (c : List ℕ). list_any (λ (y : Vec ℕ). bytes_eq c y.items) vs) (sym is) ∙ e)))
-      by false e = map_push (λ (x : Vec ℕ). x.items) vs v ∙ ap (λ (c : List ℕ). codes_in vs ++ c ∷ []) is
+  fails_at : (Contains codes code → ⊥) → (k : ℕ) → k < length codes → (b : Bool) → bytes_eq code (get_or codes k code) ≡ b → b ≡ false
+  fails_at new k lt true e = absurd (new (k, lt, sym (same_code code (get_or codes k code) e)))
+  fails_at new k lt false e = refl
+
+  last_place : (Contains codes code → ⊥) → place ≡ length codes
+  last_place new =
+      position_or_len_is (bytes_eq code) codes (length codes) code (omega arith)
+      (λ k lt. fails_at new k lt (bytes_eq code (get_or codes k code)) refl) (λ lt. absurd (omega (arith, lt)))
+
+-- a code among those of a table
+module _ (v : Code) where
+  abbrev pub is_code : Code → Bool
+  is_code = derived.eq-value.it v
+
+  abbrev code : List ℕ
+  code = v.rules.items
+
+  any_in : (vs : List Code) → list_any is_code vs ≡ list_any (bytes_eq code) (codes_in vs)
+  any_in [] = refl
+  any_in (w ∷ vs) = ap (λ b. bytes_eq code w.rules.items || b) (any_in vs)
+
+  place_in : (vs : List Code) → position_or_len is_code vs ≡ place code (codes_in vs)
+  place_in [] = refl
+  place_in (w ∷ vs) = rw (place_in vs) refl
+
+  pub known_code : (vs : List Code) → list_any is_code vs ≡ true → Contains (codes_in vs) code
+  known_code vs h = Contains-from_any same_code code (codes_in vs) (sym (any_in vs) ∙ h)
+
+  pub new_code : (vs : List Code) → list_any is_code vs ≡ false → Contains (codes_in vs) code → ⊥
+  new_code vs h c = false≢true (sym h ∙ any_in vs ∙ list_any-from_Contains (equivalence bytes_eq same_code self_code) code (codes_in vs) c)
+
+  -- a code that is found has this number
+  pub own_number : (vs : List Code) → list_any is_code vs ≡ true → IsLowest (λ other. other ≡ code) (codes_in vs) (position_or_len is_code vs + 1)
+  own_number vs h =
+      subst (λ k. IsLowest (λ other. other ≡ code) (codes_in vs) (k + 1)) (sym (place_in vs)) (own_place code (codes_in vs) (known_code vs h))
+
+  -- and another the one behind the last
+  pub last_number : (vs : List Code) → list_any is_code vs ≡ false → position_or_len is_code vs ≡ length vs
+  last_number vs h = place_in vs ∙ last_place code (codes_in vs) (new_code vs h) ∙ length-map vs (λ (w : Code). w.rules.items)
+
+  pub insert_known : (vs : List Code) → list_any is_code vs ≡ true → insert_key derived.eq-value.it vs v ≡ vs
+  insert_known vs h = ap (λ b. cond b vs (vs ++ v ∷ [])) h
+
+  pub insert_new : (vs : List Code) → list_any is_code vs ≡ false → insert_key derived.eq-value.it vs v ≡ vs ++ v ∷ []
+  insert_new vs h = ap (λ b. cond b vs (vs ++ v ∷ [])) h
+
+pub codes_in-push : (vs : List Code) (v : Code) → codes_in (vs ++ v ∷ []) ≡ codes_in vs ++ v.rules.items ∷ []
+codes_in-push vs v = map_push (λ (x : Code). x.rules.items) vs v

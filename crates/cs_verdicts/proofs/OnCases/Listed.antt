@@ -28,7 +28,7 @@ module _ {A : Type 0} where
   there : (x : A) (xs : List A) (y : A) → Contains xs y → Contains (x ∷ xs) y
   there x xs y h = Contains-append_right (x ∷ []) xs y h
 
-  nothing : (y : A) → Contains [] y → ⊥
+  pub nothing : (y : A) → Contains [] y → ⊥
   nothing y h = let lt = h.1 in omega (arith, lt)
 
   head_or_tail : (x : A) (xs : List A) (y : A) → Contains (x ∷ xs) y → (x ≡ y) ⊎ Contains xs y

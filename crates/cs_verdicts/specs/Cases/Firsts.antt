@@ -1,5 +1,5 @@
 -- Goals as the keys of a table.
-use Rattle.std.specs.Prelude.{ℕ, List, Option, IfSome, All, map}
+use Rattle.std.specs.Prelude.{◌≡◌, ℕ, ◌<◌, ◌⊎◌, List, All, map}
 use Rattle.cs_grammar.specs.declared.symbol.Mark.{Mark}
 use Rattle.cs_grammar.specs.declared.symbol.Mark.TheVariants as mark
 use Rattle.cs_goals.specs.declared.goal.Goal.{Goal}
@@ -8,7 +8,8 @@ use Rattle.cs_verdicts.specs.declared.cases.firsts.Key.{Key}
 use Rattle.cs_verdicts.specs.declared.cases.firsts.Key.TheVariants.{Rule, Context, Pair}
 use Rattle.cs_verdicts.specs.declared.cases.firsts.MarkKey.{MarkKey}
 use Rattle.cs_verdicts.specs.declared.cases.firsts.MarkKey.TheVariants.{Begin, Token, End}
-use Rattle.cs_verdicts.specs.Cases.Table.{HasNumber}
+use Rattle.cs_verdicts.specs.Cases.KeyHash.{hash_number}
+use Rattle.cs_verdicts.specs.Cases.Table.{AreRuled, HasNumber}
 
 abbrev pub mark_key : Mark → MarkKey
 mark_key mark.Begin = Begin
@@ -38,9 +39,29 @@ first_in entry = (goal_of entry.0, entry.1)
 abbrev pub firsts_in : List (Key × ℕ) → List (Goal × ℕ)
 firsts_in entries = map first_in entries
 
--- the key of a slot that has one is that of a goal with a number
-abbrev pub IsKnown : List (Goal × ℕ) → Option Key → Type 0
-IsKnown firsts slot = IfSome slot (λ key. HasNumber firsts (goal_of key))
+-- the parts of a goal have 16 bits
+abbrev pub IsSmallMark : MarkKey → Type 0
+IsSmallMark Begin = Unit {0}
+IsSmallMark (Token t) = t < 65536
+IsSmallMark End = Unit {0}
 
-abbrev pub AreKnown : List (Goal × ℕ) → List (Option Key) → Type 0
-AreKnown firsts slots = All (IsKnown firsts) slots
+abbrev pub IsSmall : Key → Type 0
+IsSmall (Rule r) = r < 65536
+IsSmall (Context p i q) = (p < 65536) × (i < 65536) × (q < 65536)
+IsSmall (Pair a b) = IsSmallMark a × IsSmallMark b
+
+-- the slot has the number of a goal that is known
+pub record IsRecent (firsts : List (Goal × ℕ)) (slot : ℕ) : Type 0 where
+  pub key : Key
+  pub small : IsSmall key
+  pub number : hash_number key ≡ slot
+  pub known : HasNumber firsts (goal_of key)
+
+-- and so each slot that isn't 0
+abbrev pub IsSlot : List (Goal × ℕ) → ℕ → Type 0
+IsSlot firsts slot = (slot ≡ 0) ⊎ IsRecent firsts slot
+
+-- a table of goals, with its slots
+pub record AreFirsts (firsts : List (Goal × ℕ)) (slots : List ℕ) : Type 0 where
+  pub ruled : AreRuled firsts
+  pub known : All (IsSlot firsts) slots

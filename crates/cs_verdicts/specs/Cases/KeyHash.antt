@@ -1,4 +1,4 @@
--- What a goal gives a hasher: one number, in one write.
+-- What a goal gives a hasher: one number, in one write. No two goals whose parts have 16 bits have one number.
 use Rattle.std.specs.Prelude.{◌≡◌, ℕ, ◌+◌, ◌*◌, ◌&&◌, Bool, true, false, List, IsTrue}
 use Rattle.std.proofs.Common.{ap, refl, ◌∙◌, arith}
 use Rattle.std.proofs.lemmas.Bool.{false≢true, eqb-true}
@@ -12,14 +12,14 @@ use Rattle.cs_verdicts.specs.contracts.cases.firsts.KeyPartialEq.TheImpl as keys
 use Rattle.cs_verdicts.specs.contracts.cases.firsts.MarkKeyPartialEq.TheImpl as marks
 
 abbrev pub mark_number : MarkKey → ℕ
-mark_number Begin = 0
+mark_number Begin = 65536
 mark_number (Token t) = t
-mark_number End = 65535
+mark_number End = 65537
 
 abbrev pub hash_number : Key → ℕ
-hash_number (Rule r) = r
-hash_number (Context p i q) = (p * 65536 + i) * 65536 + q
-hash_number (Pair a b) = mark_number a * 65536 + mark_number b
+hash_number (Rule r) = 65536 + r
+hash_number (Context p i q) = ((65536 + p) * 65536 + i) * 65536 + q
+hash_number (Pair a b) = (131072 + mark_number a) * 131072 + mark_number b
 
 abbrev pub writes_of : Key → List (List ℕ)
 writes_of key = fed.u64 (hash_number key)

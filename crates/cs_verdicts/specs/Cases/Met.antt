@@ -1,6 +1,5 @@
--- The goals that a tree meets, as one list.
-use Rattle.std.specs.Prelude.{◌≡◌, ℕ, ◌+◌, List, [], ◌∷◌, ◌++◌, reverse}
-use Rattle.std.specs.Global.{Vec}
+-- The goals that a tree meets, as one list, each of which gets a number where it has none.
+use Rattle.std.specs.Prelude.{◌≡◌, ℕ, ◌+◌, List, [], ◌∷◌, ◌++◌, map}
 use Rattle.cs_grammar.specs.declared.symbol.Symbol.{Symbol}
 use Rattle.cs_grammar.specs.declared.symbol.Symbol.TheVariants as symbol
 use Rattle.cs_grammar.specs.declared.symbol.Symbol.TheVariants.{Nonterminal}
@@ -9,14 +8,11 @@ use Rattle.cs_grammar.specs.declared.symbol.Mark.TheVariants.{Begin, Token, End}
 use Rattle.cs_grammar.specs.Grammar.{PlainGrammar}
 use Rattle.cs_grammar.specs.Tree.{Tree, Leaf, Node, Forest, Bare, Grown, IsTree, code}
 use Rattle.cs_goals.specs.declared.goal.Goal.{Goal}
-use Rattle.cs_goals.specs.declared.goal.Goal.TheVariants.{Context, Pair}
+use Rattle.cs_goals.specs.declared.goal.Goal.TheVariants.{Rule, Context, Pair}
 use Rattle.cs_goals.specs.Goals.{HasExactly}
 use Rattle.cs_goals.specs.Meets.{IsMeeting}
 use Rattle.cs_verdicts.specs.declared.cases.met.Spot.{Spot}
-
--- the list has the goals that the tree of this code meets, and no others
-abbrev pub AreMet : PlainGrammar → List ℕ → Vec Goal → Type 0
-AreMet g rules goals = HasExactly goals.items (λ goal. IsMeeting g goal rules)
+use Rattle.cs_verdicts.specs.Cases.Table.{AreAllAdded}
 
 -- the pairs of a mark, the tokens behind it and the end mark
 abbrev pub pairs_after : Mark → List ℕ → List Goal
@@ -59,6 +55,25 @@ abbrev pub TakesFirst : List Spot → List Spot → ℕ → List Goal → List G
 TakesFirst [] spots r old new = (spots ≡ []) × (new ≡ old)
 TakesFirst (spot ∷ others) spots r old new = (spots ≡ others) × (new ≡ old ++ Context spot.outer spot.place r ∷ [])
 
--- so where the open nonterminals stand in reverse
-abbrev pub TakesTop : ℕ → Vec Spot → Vec Spot → Vec Goal → Vec Goal → Type 0
-TakesTop r old new given shown = TakesFirst (reverse old.items) (reverse new.items) r given.items shown.items
+-- the open nonterminals below the first, and its context with this rule
+abbrev pub below : List Spot → List Spot
+below [] = []
+below (spot ∷ others) = others
+
+abbrev pub context_on : List Spot → ℕ → List Goal
+context_on [] r = []
+context_on (spot ∷ others) r = Context spot.outer spot.place r ∷ []
+
+-- ---- what gets a number where it has none
+
+-- the rules and the contexts of the tree of this code
+pub record AreInsideAdded (g : PlainGrammar) (rules : List ℕ) (n : ℕ) (old new : List (Goal × ℕ)) : Type 0 where
+  pub contexts : List Goal
+  pub are : AreContexts g rules [] contexts
+  pub added : AreAllAdded old (map Rule rules ++ contexts) n new
+
+-- all goals that the tree of this code meets, and no others
+pub record AreMetAdded (g : PlainGrammar) (rules : List ℕ) (n : ℕ) (old new : List (Goal × ℕ)) : Type 0 where
+  pub goals : List Goal
+  pub are : HasExactly goals (λ goal. IsMeeting g goal rules)
+  pub added : AreAllAdded old goals n new

@@ -1,13 +1,14 @@
 -- What is known of the goals that cases meet: each with the number of the first case that does.
 use Rattle.std.specs.Prelude.{◌≡◌, ℕ, ◌+◌, ◌⊎◌, ◌↔◌, Bool, List, [], ◌∷◌, ◌++◌, Option, Some, None, length, map, slice_get, Contains, IsTrue, if◌then◌else◌}
-use Rattle.std.specs.Global.{Vec}
 use Rattle.cs_grammar.specs.Grammar.{PlainGrammar}
 use Rattle.cs_goals.specs.declared.goal.Goal.{Goal}
+use Rattle.cs_goals.specs.declared.goal.Goal.TheVariants.{Rule, Context, Pair}
 use Rattle.cs_goals.specs.Meets.{IsMeeting}
+use Rattle.cs_verdicts.specs.declared.cases.code.Code.{Code}
 use Rattle.cs_verdicts.specs.Cases.Cases.{PlainCases, IsLowest, IsNew, IsCaseOf, with_case}
 
-abbrev pub codes_in : List (Vec ℕ) → List (List ℕ)
-codes_in codes = map (λ (code : Vec ℕ). code.items) codes
+abbrev pub codes_in : List Code → List (List ℕ)
+codes_in codes = map (λ (code : Code). code.rules.items) codes
 
 -- a goal has a number, and has none
 abbrev pub HasNumber : List (Goal × ℕ) → Goal → Type 0
@@ -15,6 +16,15 @@ HasNumber firsts goal = (n : ℕ) × Contains firsts (goal, n)
 
 abbrev pub HasNone : List (Goal × ℕ) → Goal → Type 0
 HasNone firsts goal = (n : ℕ) → Contains firsts (goal, n) → ⊥
+
+-- where the goal is a context, the rule that it shows has a number
+abbrev pub IsRuled : List (Goal × ℕ) → Goal → Type 0
+IsRuled firsts (Rule r) = Unit {0}
+IsRuled firsts (Context p i q) = HasNumber firsts (Rule q)
+IsRuled firsts (Pair a b) = Unit {0}
+
+abbrev pub AreRuled : List (Goal × ℕ) → Type 0
+AreRuled firsts = (goal : Goal) → HasNumber firsts goal → IsRuled firsts goal
 
 -- the numbers are those of the first cases, and each goal that a case meets has one
 pub record AreFirstCases (g : PlainGrammar) (codes : List (List ℕ)) (firsts : List (Goal × ℕ)) : Type 0 where
@@ -43,11 +53,6 @@ pub record AreAllAdded (old : List (Goal × ℕ)) (goals : List Goal) (n : ℕ) 
   pub grown : IsGrown old new
   pub only : (goal : Goal) → (m : ℕ) → Contains new (goal, m) → IsOldOrNew old goals n goal m
   pub every : (goal : Goal) → Contains goals goal → HasNumber new goal
-
--- one more code, which stands last, and its number for the goals that have none
-pub record AreAdded (old : List (Vec ℕ)) (before : List (Goal × ℕ)) (code : Vec ℕ) (goals : List Goal) (new : List (Vec ℕ)) (after : List (Goal × ℕ)) : Type 0 where
-  pub codes : codes_in new ≡ codes_in old ++ code.items ∷ []
-  pub firsts : AreAllAdded before goals (length old + 1) after
 
 -- the number of a code's own case, which is new or not, and the cases with it
 pub record IsOwn (old : PlainCases) (code : List ℕ) (new : PlainCases) (own : ℕ × Bool) : Type 0 where

@@ -1,13 +1,14 @@
 // Derivations in the order in which they came, each once.
 
-ghost use Rattle.std.specs.Prelude.{◌≡◌, IfOk, OnOk, OnErr, Contains};
-ghost use Rattle.cs_grammar.specs.Tree.{IsDerivationOf};
+ghost use Rattle.std.specs.Prelude.{◌≡◌, IfOk, OnErr};
+ghost use Rattle.cs_grammar.specs.Leftmost.{IsYield};
 ghost use Rattle.cs_goals.specs.Meets.{IsMeeting};
-ghost use Rattle.cs_verdicts.specs.Cases.Cases.{IsPlaced, IsNew, IsFirstMet, HasMeeting, no_cases, with_case};
-ghost use Rattle.cs_verdicts.specs.Cases.Table.{codes_in, IsGrown, AreAdded, IsOwn};
+ghost use Rattle.cs_verdicts.specs.Cases.Cases.{IsPlaced, IsFirstMet, HasMeeting, no_cases};
+ghost use Rattle.cs_verdicts.specs.Cases.Table.{IsOwn};
 
+use crate::cases::code::Code;
 use crate::cases::firsts::Firsts;
-use crate::cases::met::goals_met;
+use crate::cases::met::{Spot, add_met};
 use cs_goals::Goal;
 use cs_grammar::{Derivation, Grammar};
 use indexmap::IndexSet;
@@ -28,8 +29,11 @@ pub struct Named {
 pub struct Cases<'g> {
     alloc: Global,
     grammar: &'g Grammar,
-    codes: IndexSet<Vec<u16>>,
+    codes: IndexSet<Code>,
     firsts: Firsts,
+
+    // Memory for walks over codes.
+    spots: Vec<Spot>,
 }
 
 impl<'g> Model for Cases<'g> {
@@ -53,6 +57,7 @@ impl<'g> Cases<'g> {
             grammar,
             codes: IndexSet::new(alloc),
             firsts: Firsts::new(alloc),
+            spots: Vec::new(alloc),
         }
     }
 
@@ -63,31 +68,54 @@ impl<'g> Cases<'g> {
         self.grammar
     }
 
-    /// Places the derivation of a goal that its tree meets. A derivation that no case has is a new case and stands last. After
-    /// a refusal, which is want of memory, the cases are as before.
-    pub fn place(&mut self, goal: &Goal, derivation: &Derivation) -> Result<Named, AllocError>
-        requires { IsMeeting self.old.grammar goal.now derivation.now }
+    /// Places the derivation of a goal that its tree meets, with the tokens that it yields. A derivation that no case has is a
+    /// new case and stands last. After a refusal, which is want of memory, the cases are as before.
+    pub fn place(
+        &mut self,
+        goal: &Goal,
+        derivation: &Derivation,
+        tokens: &[u16],
+    ) -> Result<Named, AllocError>
+        requires met { IsMeeting self.old.grammar goal.now derivation.now }
+        requires tokens { IsYield self.old.grammar derivation.now tokens.now }
         ensures placed { IfOk result (IsPlaced self.old goal.now derivation.now self.new) }
         ensures grammar { self.new.grammar ≡ self.old.grammar }
         ensures refused { OnErr result (self.new ≡ self.old) }
     {
-        let (case, fresh) = self.own(derivation)?;
+        let (case, fresh) = self.own(derivation, tokens)?;
         let first = self.first(goal);
         Ok(Named { case, first, fresh })
     }
 
-    // The number of a derivation's own case, which is made where there is none, and whether it is new.
-    fn own(&mut self, derivation: &Derivation) -> Result<(u64, bool), AllocError>
-        requires { IsDerivationOf self.old.grammar derivation.now }
+    // The number of a derivation's own case, which is made where there is none, and whether it is new. A new case has the
+    // goals that its tree is the first to meet. A refusal takes all back.
+    fn own(&mut self, derivation: &Derivation, tokens: &[u16]) -> Result<(u64, bool), AllocError>
+        requires { IsYield self.old.grammar derivation.now tokens.now }
         ensures own { IfOk result (IsOwn self.old derivation.now self.new) }
         ensures refused { OnErr result (self.new ≡ self.old) }
     {
-        let count = self.codes.len() as u64;
-        if let Some(index) = self.codes.get_index_of(derivation.rules()) {
-            return Ok((index as u64 + 1, false));
+        let code = Code::of(self.alloc, derivation)?;
+        let (index, fresh) = self.codes.insert_full(code)?;
+        let _count = self.codes.len();
+        let case = index as u64 + 1;
+        if !fresh {
+            return Ok((case, false));
         }
-        self.add(derivation)?;
-        Ok((count + 1, true))
+        let before = self.firsts.len();
+        let added = add_met(
+            self.grammar,
+            derivation,
+            tokens,
+            case,
+            &mut self.spots,
+            &mut self.firsts,
+        );
+        if added.is_err() {
+            self.codes.truncate(index);
+            self.firsts.truncate(before);
+            return Err(AllocError);
+        }
+        Ok((case, true))
     }
 
     // The first case whose tree meets a goal, where some tree does.
@@ -100,39 +128,4 @@ impl<'g> Cases<'g> {
             None => unreachable!(),
         }
     }
-
-    // One more case, and the goals that its tree is the first to meet. A refusal takes these back.
-    fn add(&mut self, derivation: &Derivation) -> Result<(), AllocError>
-        requires derivation { IsDerivationOf self.old.grammar derivation.now }
-        requires new { IsNew self.old derivation.now }
-        ensures added { OnOk result (self.new ≡ with_case self.old derivation.now) }
-        ensures refused { OnErr result (self.new ≡ self.old) }
-    {
-        let goals = goals_met(self.alloc, self.grammar, derivation)?;
-        let code = Vec::from_slice(self.alloc, derivation.rules())?;
-        let before = self.firsts.len();
-        let added = add_case(&mut self.codes, &mut self.firsts, code, &goals);
-        if added.is_err() {
-            self.firsts.truncate(before);
-        }
-        added
-    }
-}
-
-// One more code at the end, and its number for the goals that have no case yet. After a refusal there may be some goals more.
-fn add_case(
-    keys: &mut IndexSet<Vec<u16>>,
-    table: &mut Firsts,
-    code: Vec<u16>,
-    goals: &[Goal],
-) -> Result<(), AllocError>
-    requires { Contains (codes_in keys.old.keys) code.items → ⊥ }
-    ensures ok { OnOk result
-        (AreAdded keys.old.keys table.old code goals.now keys.new.keys table.new) }
-    ensures keys { OnErr result (keys.new.keys ≡ keys.old.keys) }
-    ensures table { OnErr result (IsGrown table.old table.new) }
-{
-    table.add_all(goals, keys.len() as u64 + 1)?;
-    keys.insert(code)?;
-    Ok(())
 }

@@ -1,19 +1,17 @@
-// The goals that a derivation's tree meets.
+// The goals that a derivation's tree meets, each of which gets a number where it has none.
 
-ghost use Rattle.std.specs.Prelude.{◌≡◌, ◌++◌, ◌≤◌, IfOk, OnOk, length, map};
+ghost use Rattle.std.specs.Prelude.{◌≡◌, ◌∷◌, ◌≤◌, OnOk, length, reverse};
+ghost use Rattle.cs_grammar.specs.Leftmost.{IsYield};
 ghost use Rattle.cs_grammar.specs.Stack.{AreOnTop};
 ghost use Rattle.cs_grammar.specs.Tree.{IsDerivationOf};
 ghost use Rattle.cs_goals.specs.declared.goal.Goal.TheVariants.{Rule};
-ghost use Rattle.cs_verdicts.specs.Cases.Met.{AreMet, AreContexts, framed_pairs, spots_from, TakesTop};
+ghost use Rattle.cs_grammar.specs.declared.symbol.Mark.TheVariants.{Token};
+ghost use Rattle.cs_verdicts.specs.Cases.Met.{AreMetAdded, AreInsideAdded, below, context_on, framed_pairs, pairs_after, spots_from};
+ghost use Rattle.cs_verdicts.specs.Cases.Table.{AreAllAdded, IsGrown};
 
-use cs_goals::Goal;
-use cs_grammar::{Derivation, Grammar, Mark, Symbol, number_of, yield_of};
-use std::alloc::{AllocError, Global};
-
-// Room for as many goals and open nonterminals is made at once.
-const USUAL_GOALS: usize = 128;
-
-const USUAL_SPOTS: usize = 32;
+use crate::cases::firsts::Firsts;
+use cs_grammar::{Derivation, Grammar, Mark, Symbol, number_of};
+use std::alloc::AllocError;
 
 // Where an open nonterminal stands: the rule around it and its place there, counted from 1.
 #[derive(Clone, Copy)]
@@ -22,77 +20,97 @@ pub(crate) struct Spot {
     pub(crate) place: u16,
 }
 
-// The goals that the tree of a derivation meets, which may come several times.
-pub(crate) fn goals_met(
-    alloc: Global,
+// Adds the goals that the tree of a derivation meets. The tokens are its yield. The spots are memory alone.
+pub(crate) fn add_met(
     grammar: &Grammar,
     derivation: &Derivation,
-) -> Result<Vec<Goal>, AllocError>
-    requires { IsDerivationOf grammar.now derivation.now }
-    ensures { IfOk result (AreMet grammar.now derivation.now) }
+    tokens: &[u16],
+    case: u64,
+    spots: &mut Vec<Spot>,
+    firsts: &mut Firsts,
+) -> Result<(), AllocError>
+    requires { IsYield grammar.now derivation.now tokens.now }
+    ensures added { OnOk result
+        (AreMetAdded grammar.now derivation.now case firsts.old firsts.new) }
+    ensures grown { IsGrown firsts.old firsts.new }
 {
-    let mut goals = Vec::with_capacity(alloc, USUAL_GOALS)?;
-    push_rules(derivation.rules(), &mut goals)?;
-    push_contexts(alloc, grammar, derivation, &mut goals)?;
-    let tokens = yield_of(alloc, grammar, derivation)?;
-    push_pairs(&tokens, &mut goals)?;
-    Ok(goals)
+    firsts.make_slots()?;
+    add_inside(grammar, derivation, case, spots, firsts)?;
+    add_pairs(tokens, case, firsts)
 }
 
-fn push_rules(rules: &[u16], goals: &mut Vec<Goal>) -> Result<(), AllocError>
-    ensures { OnOk result (goals.new.items ≡ goals.old.items ++ map Rule rules.now) }
+// Adds the pairs of a framed list.
+fn add_pairs(tokens: &[u16], case: u64, firsts: &mut Firsts) -> Result<(), AllocError>
+    ensures added { OnOk result
+        (AreAllAdded firsts.old (framed_pairs tokens.now) case firsts.new) }
+    ensures grown { IsGrown firsts.old firsts.new }
 {
-    for rule in rules {
-        goals.push(Goal::Rule(*rule))?;
+    match tokens.split_first() {
+        None => firsts.add_pair(Mark::Begin, Mark::End, case),
+        Some((first, rest)) => {
+            firsts.add_pair(Mark::Begin, Mark::Token(*first), case)?;
+            add_pairs_after(*first, rest, case, firsts)
+        }
     }
-    Ok(())
 }
 
-fn push_pairs(tokens: &[u16], goals: &mut Vec<Goal>) -> Result<(), AllocError>
-    ensures { OnOk result (goals.new.items ≡ goals.old.items ++ framed_pairs tokens.now) }
+// Adds the pairs of a token, those behind it and the end.
+fn add_pairs_after(
+    first: u16,
+    tokens: &[u16],
+    case: u64,
+    firsts: &mut Firsts,
+) -> Result<(), AllocError>
+    ensures added { OnOk result
+        (AreAllAdded firsts.old (pairs_after (Token first) tokens.now) case firsts.new) }
+    ensures grown { IsGrown firsts.old firsts.new }
 {
-    let mut left = Mark::Begin;
-    for token in tokens {
-        let right = Mark::Token(*token);
-        goals.push(Goal::Pair { left, right })?;
-        left = right;
+    let mut left = first;
+    for right in tokens {
+        firsts.add_pair(Mark::Token(left), Mark::Token(*right), case)?;
+        left = *right;
     }
-    let right = Mark::End;
-    goals.push(Goal::Pair { left, right })?;
-    Ok(())
+    firsts.add_pair(Mark::Token(left), Mark::End, case)
 }
 
-// The rules of all nodes but the root, each with the rule of the node above and its place there. The stack has the open
-// nonterminals, which stand in reverse.
-fn push_contexts(
-    alloc: Global,
+// Adds the rules of all nodes, and but for the root each with the rule of the node above and its place there. The stack has
+// the open nonterminals, which stand in reverse.
+fn add_inside(
     grammar: &Grammar,
     derivation: &Derivation,
-    goals: &mut Vec<Goal>,
+    case: u64,
+    spots: &mut Vec<Spot>,
+    firsts: &mut Firsts,
 ) -> Result<(), AllocError>
     requires { IsDerivationOf grammar.now derivation.now }
-    ensures { OnOk result (AreContexts grammar.now derivation.now goals.old.items goals.new.items) }
+    ensures added { OnOk result
+        (AreInsideAdded grammar.now derivation.now case firsts.old firsts.new) }
+    ensures grown { IsGrown firsts.old firsts.new }
 {
-    let mut spots = Vec::with_capacity(alloc, USUAL_SPOTS)?;
+    spots.clear();
     for number in derivation.rules() {
-        push_context(*number, &mut spots, goals)?;
-        open_children(*number, grammar.rule(*number).right(), &mut spots)?;
+        add_node(*number, case, spots, firsts)?;
+        open_children(*number, grammar.rule(*number).right(), spots)?;
     }
     Ok(())
 }
 
-// Takes the first open nonterminal, for which the rule was put in. The root stands nowhere.
-fn push_context(inner: u16, spots: &mut Vec<Spot>, goals: &mut Vec<Goal>) -> Result<(), AllocError>
-    ensures { OnOk result (TakesTop inner spots.old spots.new goals.old goals.new) }
+// Takes the first open nonterminal, for which the rule was put in, and adds both. The root stands nowhere.
+fn add_node(
+    rule: u16,
+    case: u64,
+    spots: &mut Vec<Spot>,
+    firsts: &mut Firsts,
+) -> Result<(), AllocError>
+    ensures spots { reverse spots.new.items ≡ below (reverse spots.old.items) }
+    ensures added { OnOk result
+        (AreAllAdded firsts.old (Rule rule ∷ context_on (reverse spots.old.items) rule) case firsts.new) }
+    ensures grown { IsGrown firsts.old firsts.new }
 {
-    if let Some(Spot { outer, place }) = spots.pop() {
-        goals.push(Goal::Context {
-            outer,
-            place,
-            inner,
-        })?;
+    match spots.pop() {
+        Some(Spot { outer, place }) => firsts.add_context(outer, place, rule, case),
+        None => firsts.add_rule(rule, case),
     }
-    Ok(())
 }
 
 // Puts the nonterminals of a rule's right side in front of the open ones.

@@ -81,8 +81,8 @@ fn place(
         (IsPlacedAs grammar.now format cases.old positive cases.new) }
     ensures grammar { cases.new.grammar ≡ cases.old.grammar }
 {
-    let shared = shared_in(format, &positive, cases)?;
     let tokens = tokens_of(alloc, grammar, &positive.verdict)?;
+    let shared = shared_in(format, &positive, &tokens, cases)?;
     let Positive { goal, verdict } = positive;
     Ok(Placed {
         goal,
@@ -96,27 +96,34 @@ fn place(
 fn shared_in(
     format: Format,
     positive: &Positive,
+    tokens: &[u16],
     cases: &mut Cases<'_>,
 ) -> Result<Option<SharedVerdict>, AllocError>
-    requires { IsMetBy cases.old.grammar positive.now.goal positive.now.verdict }
+    requires met { IsMetBy cases.old.grammar positive.now.goal positive.now.verdict }
+    requires tokens { AreTokensOf cases.old.grammar positive.now.verdict tokens.now }
     ensures verdict { IfOk result (IsSharedOf format positive.now cases.old cases.new) }
     ensures grammar { cases.new.grammar ≡ cases.old.grammar }
 {
     match format {
         Format::One => Ok(None),
-        Format::Two => Ok(Some(shared_verdict(positive, cases)?)),
+        Format::Two => Ok(Some(shared_verdict(positive, tokens, cases)?)),
     }
 }
 
 // A feasible goal's derivation is placed.
-fn shared_verdict(positive: &Positive, cases: &mut Cases<'_>) -> Result<SharedVerdict, AllocError>
-    requires { IsMetBy cases.old.grammar positive.now.goal positive.now.verdict }
+fn shared_verdict(
+    positive: &Positive,
+    tokens: &[u16],
+    cases: &mut Cases<'_>,
+) -> Result<SharedVerdict, AllocError>
+    requires met { IsMetBy cases.old.grammar positive.now.goal positive.now.verdict }
+    requires tokens { AreTokensOf cases.old.grammar positive.now.verdict tokens.now }
     ensures verdict { IfOk result (IsSharedVerdictOf positive.now cases.old cases.new) }
     ensures grammar { cases.new.grammar ≡ cases.old.grammar }
 {
     match &positive.verdict {
         Verdict::Feasible { size, derivation } => {
-            let named = cases.place(&positive.goal, derivation)?;
+            let named = cases.place(&positive.goal, derivation, tokens)?;
             Ok(SharedVerdict::Feasible { size: *size, named })
         }
         Verdict::Infeasible => Ok(SharedVerdict::Infeasible),

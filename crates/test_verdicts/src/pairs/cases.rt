@@ -5,7 +5,7 @@ ghost use Rattle.cs_goals.specs.Meets.{IsMeeting};
 
 use cs_goals::{Goal, meets};
 use cs_grammar::Mark::{Begin, End, Token};
-use cs_grammar::{Derivation, Grammar, Mark, expand};
+use cs_grammar::{Derivation, Grammar, Mark, expand, yield_of};
 use cs_samples::grammar_of_sums;
 use cs_verdicts::{Cases, Named};
 use std::alloc::{AllocError, Global};
@@ -33,12 +33,18 @@ fn is_met(
 }
 
 // Want of memory is met by a second try.
-fn place(cases: &mut Cases, goal: &Goal, derivation: &Derivation) -> Result<Named, AllocError>
+fn place(
+    alloc: Global,
+    cases: &mut Cases,
+    goal: &Goal,
+    derivation: &Derivation,
+) -> Result<Named, AllocError>
     requires { IsMeeting cases.old.grammar goal.now derivation.now }
 {
-    match cases.place(goal, derivation) {
+    let tokens = yield_of(alloc, cases.grammar(), derivation)?;
+    match cases.place(goal, derivation, &tokens) {
         Ok(told) => Ok(told),
-        Err(_) => cases.place(goal, derivation),
+        Err(_) => cases.place(goal, derivation, &tokens),
     }
 }
 
@@ -58,7 +64,7 @@ fn check(
         "{goal:?}"
     );
     let want = Named { case, first, fresh };
-    assert!(rt; place(cases, &goal, &derivation)? == want, "{goal:?}");
+    assert!(rt; place(alloc, cases, &goal, &derivation)? == want, "{goal:?}");
     Ok(())
 }
 

@@ -1,37 +1,53 @@
-use Rattle.std.proofs.Common.{◌≡◌, ℕ, List, false, length, sym, ap, subst, ◌∙◌, arith, ◌+◌}
-use Rattle.std.specs.List.{list_any}
-use Rattle.std.specs.Prelude.{Some, is_some, position}
-use Rattle.std.proofs.lemmas.List.{length-map}
-use Rattle.std.specs.Global.{Vec}
-use Rattle.cs_verdicts.specs.Cases.Cases.{PlainCases, IsNew}
-use Rattle.cs_verdicts.specs.Cases.Table.{IsOwn, codes_in}
-use Rattle.cs_verdicts.proofs.OnCases.Keyed.{has_code, own_number, new_code}
-use Rattle.cs_verdicts.proofs.OnCases.Lowest.{known_own, new_own}
+use Rattle.std.proofs.Common.{◌≡◌, ℕ, ◌+◌, Bool, true, false, List, length, sym, ap, subst, ◌∙◌, arith}
+use Rattle.cs_goals.specs.declared.goal.Goal.{Goal}
+use Rattle.cs_verdicts.specs.declared.cases.code.Code.{Code}
+use Rattle.cs_verdicts.specs.Cases.Cases.{PlainCases}
+use Rattle.cs_verdicts.specs.Cases.Met.{AreMetAdded}
+use Rattle.cs_verdicts.specs.Cases.Table.{AreFirstCases, IsOwn, codes_in}
+use Rattle.cs_verdicts.proofs.OnCases.Placed.{cut_back, on_ok, placed_known, placed_new, plain, taken_back, tells_new}
 use Rattle.cs_verdicts.proofs.cases.cases.Cases.own.Goals as goal
 
-pub overflow_add-result : goal.overflow_add-result
-overflow_add-result c = omega (arith, c.len-count.ensures.len, c.len-count.ensures.small, c.in-Some.ensures.within)
+pub overflow_add-case : goal.overflow_add-case
+overflow_add-case c = omega (arith, c.len-count.ensures.small, c.len-count.ensures.len, c.in_ok-index.ensures.within)
 
-pub returns-in-Some-clause-own : goal.returns-in-Some-clause-own
-returns-in-Some-clause-own c =
+pub returns-then-not-fresh-clause-own : goal.returns-then-not-fresh-clause-own
+returns-then-not-fresh-clause-own c =
+    let g = c.self.inside.grammar.now in
     let keys = c.self.inside.codes.keys in
-    let code = c.args.derivation.now in
-    let at : position (has_code code) keys ≡ Some c.in-Some.index = ap (λ (r : List ℕ). position (has_code r) keys) (sym c.rules.ensures) ∙ sym c.get_index_of.ensures.index ∙ c.in-Some.is in
-    let old : PlainCases = record { grammar = c.self.inside.grammar.now; codes = codes_in keys } in
-    subst (λ (v : PlainCases). IsOwn v code v (c.in-Some.index + 1, false)) c.self.view_is (known_own old code (c.in-Some.index + 1) (own_number code keys c.in-Some.index at))
+    let new = c.insert_full.new.self.keys in
+    let own = placed_known g keys new c.in_ok-code.code c.in_ok-index.index c.in_ok-index.fresh c.in_ok-index.ensures.added c.in_ok-index.ensures.keys c.in_ok-index.ensures.index c.if-not-fresh.true in
+    subst (λ (old : PlainCases). IsOwn old c.args.derivation.now (plain g new) (c.in_ok-index.index + 1, false)) c.self.view_is
+    (subst (λ (code : List ℕ). IsOwn (plain g keys) code (plain g new) (c.in_ok-index.index + 1, false)) c.in_ok-code.ensures own)
 
-pub add-requires-clause-new : goal.add-requires-clause-new
-add-requires-clause-new c =
+pub invariant_of-self-then-is_err : goal.invariant_of-self-then-is_err
+invariant_of-self-then-is_err c =
+    let g = c.self.inside.grammar.now in
     let keys = c.self.inside.codes.keys in
-    let code = c.args.derivation.now in
-    let absent : list_any (has_code code) keys ≡ false = ap (λ (r : List ℕ). list_any (has_code r) keys) (sym c.rules.ensures) ∙ sym c.get_index_of.ensures.found ∙ ap is_some c.in_default.is in
-    subst (λ (v : PlainCases). IsNew v code) c.self.view_is (new_code code keys absent)
+    let codes = taken_back g keys c.insert_full.new.self.keys c.in_ok-code.code c.in_ok-index.index c.in_ok-index.fresh c.in_ok-index.ensures.added c.in_ok-index.ensures.keys c.in_ok-index.ensures.index c.if-not-fresh.false c.truncate.new.self.keys c.truncate.ensures.keys in
+    let firsts = cut_back c.self.inside.firsts c.add_met-added.new.firsts c.truncate-then-is_err.new.self c.len-before.result c.len-before.ensures.len c.add_met-added.ensures.grown c.truncate-then-is_err.ensures in
+    subst (λ (l : List (Goal × ℕ)). AreFirstCases g (codes_in c.truncate.new.self.keys) l) (sym firsts)
+    (subst (λ (ks : List Code). AreFirstCases g (codes_in ks) c.self.inside.firsts) (sym codes) c.self.invariant)
+
+pub returns-then-is_err-clause-refused : goal.returns-then-is_err-clause-refused
+returns-then-is_err-clause-refused c =
+    let g = c.self.inside.grammar.now in
+    let keys = c.self.inside.codes.keys in
+    let codes = taken_back g keys c.insert_full.new.self.keys c.in_ok-code.code c.in_ok-index.index c.in_ok-index.fresh c.in_ok-index.ensures.added c.in_ok-index.ensures.keys c.in_ok-index.ensures.index c.if-not-fresh.false c.truncate.new.self.keys c.truncate.ensures.keys in
+    ap (plain g) codes ∙ c.self.view_is
+
+pub invariant_of-self-else-is_err : goal.invariant_of-self-else-is_err
+invariant_of-self-else-is_err c =
+    let g = c.self.inside.grammar.now in
+    let after = c.add_met-added.new.firsts in
+    let met = on_ok c.add_met-added.result (sym c.is_err.ensures.value ∙ c.if-is_err.false) c.add_met-added.ensures.added in
+    tells_new g c.self.inside.codes.keys c.insert_full.new.self.keys c.in_ok-code.code c.in_ok-index.index c.in_ok-index.fresh c.in_ok-index.ensures.added c.in_ok-index.ensures.keys c.in_ok-index.ensures.index c.if-not-fresh.false c.self.inside.firsts after c.self.invariant
+    (subst (λ (code : List ℕ). AreMetAdded g code (c.in_ok-index.index + 1) c.self.inside.firsts after) (sym c.in_ok-code.ensures) met)
 
 pub returns-clause-own : goal.returns-clause-own
 returns-clause-own c =
+    let g = c.self.inside.grammar.now in
     let keys = c.self.inside.codes.keys in
-    let code = c.args.derivation.now in
-    let absent : list_any (has_code code) keys ≡ false = ap (λ (r : List ℕ). list_any (has_code r) keys) (sym c.rules.ensures) ∙ sym c.get_index_of.ensures.found ∙ ap is_some c.in_default.is in
-    let is_new = subst (λ (v : PlainCases). IsNew v code) c.self.view_is (new_code code keys absent) in
-    let long : c.len-count.result ≡ length c.args.self.now.codes = c.len-count.ensures.len ∙ sym (length-map keys (λ (v : Vec ℕ). v.items)) ∙ ap (λ (v : PlainCases). length v.codes) c.self.view_is in
-    new_own c.args.self.now c.add.new.self code (c.len-count.result + 1) is_new c.in_ok-add.ensures.added (ap (λ n. n + 1) long)
+    let new = c.insert_full.new.self.keys in
+    let own = placed_new g keys new c.in_ok-code.code c.in_ok-index.index c.in_ok-index.fresh c.in_ok-index.ensures.added c.in_ok-index.ensures.keys c.in_ok-index.ensures.index c.if-not-fresh.false in
+    subst (λ (old : PlainCases). IsOwn old c.args.derivation.now (plain g new) (c.in_ok-index.index + 1, true)) c.self.view_is
+    (subst (λ (code : List ℕ). IsOwn (plain g keys) code (plain g new) (c.in_ok-index.index + 1, true)) c.in_ok-code.ensures own)
