@@ -1,11 +1,11 @@
 -- Goals that get a number where they have none.
-use Rattle.std.proofs.Common.{◌≡◌, ℕ, ◌⊎◌, inl, inr, ⊎_elim, List, [], ◌∷◌, ◌++◌, map, refl, sym, ap, ◌∙◌, subst, append_assoc, append-nil}
+use Rattle.std.proofs.Common.{◌≡◌, ℕ, inl, inr, ⊎_elim, List, [], ◌∷◌, ◌++◌, refl, sym, ap, ◌∙◌, subst, append_assoc, append-nil}
 use Rattle.std.specs.Prelude.{Contains}
 use Rattle.std.proofs.lemmas.List.Elements.{All-weaker, Contains-append_left, Contains-append_right, Contains-append_cases, Contains-push, Contains-push_cases}
 use Rattle.cs_goals.specs.declared.goal.Goal.{Goal}
 use Rattle.cs_goals.specs.declared.goal.Goal.TheVariants.{Rule, Context, Pair}
-use Rattle.cs_verdicts.specs.Cases.Firsts.{AreFirsts, IsRecent, IsSlot}
-use Rattle.cs_verdicts.specs.Cases.Table.{AreAllAdded, AreRuled, HasNone, HasNumber, IsAdded, IsGrown, IsOldOrNew, IsRuled}
+use Rattle.cs_verdicts.specs.Cases.Firsts.{AreFirsts, IsSlot}
+use Rattle.cs_verdicts.specs.Cases.Table.{AreAllAdded, AreRuled, HasNone, HasNumber, IsAdded, IsGrown, IsRuled}
 use Rattle.cs_verdicts.proofs.OnCases.Listed.{nothing}
 
 abbrev Table : Type 0

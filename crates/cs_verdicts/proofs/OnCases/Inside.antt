@@ -1,8 +1,8 @@
 -- The goals that a tree meets get numbers as a walk comes to them.
 use Rattle.std.proofs.Common.{◌≡◌, ℕ, ◌+◌, ◌<◌, List, [], ◌∷◌, ◌++◌, map, drop, take, length, get_or, refl, sym, ap, ◌∙◌, subst, append_assoc, append-nil}
-use Rattle.std.proofs.lemmas.List.{drop_more, take_more, map_push}
+use Rattle.std.proofs.lemmas.List.{take_more, map_push}
 use Rattle.cs_grammar.specs.declared.symbol.Mark.TheVariants.{Begin, Token, End}
-use Rattle.cs_grammar.specs.Grammar.{Production, PlainGrammar}
+use Rattle.cs_grammar.specs.Grammar.{PlainGrammar}
 use Rattle.cs_grammar.specs.Tree.{IsDerivationOf}
 use Rattle.cs_goals.specs.declared.goal.Goal.{Goal}
 use Rattle.cs_goals.specs.declared.goal.Goal.TheVariants.{Rule, Pair}

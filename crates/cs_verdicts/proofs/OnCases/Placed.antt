@@ -12,7 +12,7 @@ use Rattle.cs_goals.specs.declared.goal.Goal.TheVariants.{Rule}
 use Rattle.cs_verdicts.specs.declared.cases.code.Code.{Code}
 use Rattle.cs_verdicts.specs.contracts.cases.code.CodePartialEq.TheImpl as derived
 use Rattle.cs_verdicts.specs.Cases.Cases.{PlainCases}
-use Rattle.cs_verdicts.specs.Cases.Met.{AreContexts, AreInsideAdded, AreMetAdded, contexts_of, framed_pairs}
+use Rattle.cs_verdicts.specs.Cases.Met.{AreContexts, AreInsideAdded, AreMetAdded, framed_pairs}
 use Rattle.cs_verdicts.specs.Cases.Table.{AreAllAdded, AreFirstCases, IsGrown, IsOwn, codes_in}
 use Rattle.cs_verdicts.proofs.OnCases.Adding.{added_both}
 use Rattle.cs_verdicts.proofs.OnCases.Keyed.{codes_in-push, insert_known, insert_new, is_code, last_number, new_code, own_number}

@@ -1,4 +1,4 @@
-use Rattle.std.proofs.Common.{sym, subst}
+use Rattle.std.proofs.Common.{subst}
 use Rattle.cs_verdicts.specs.Cases.Met.{AreInsideAdded}
 use Rattle.cs_verdicts.proofs.OnCases.Placed.{OnOk_then, all_added}
 use Rattle.cs_verdicts.proofs.cases.met.add_met.Goals as goal

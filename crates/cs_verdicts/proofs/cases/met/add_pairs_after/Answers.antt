@@ -1,4 +1,4 @@
-use Rattle.std.proofs.Common.{◌≡◌, ◌+◌, ◌∷◌, get_or, drop}
+use Rattle.std.proofs.Common.{get_or}
 use Rattle.std.proofs.lemmas.List.{drop_all, drop_more}
 use Rattle.cs_verdicts.proofs.OnCases.Inside.{pairs_all, pairs_next}
 use Rattle.cs_verdicts.proofs.OnCases.Placed.{OnOk_then}

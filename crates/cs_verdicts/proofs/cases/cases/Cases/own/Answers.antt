@@ -1,4 +1,4 @@
-use Rattle.std.proofs.Common.{◌≡◌, ℕ, ◌+◌, Bool, true, false, List, length, sym, ap, subst, ◌∙◌, arith}
+use Rattle.std.proofs.Common.{ℕ, ◌+◌, true, false, List, sym, ap, subst, ◌∙◌, arith}
 use Rattle.cs_goals.specs.declared.goal.Goal.{Goal}
 use Rattle.cs_verdicts.specs.declared.cases.code.Code.{Code}
 use Rattle.cs_verdicts.specs.Cases.Cases.{PlainCases}

@@ -1,4 +1,3 @@
-use Rattle.std.proofs.Common.{◌∷◌, []}
 use Rattle.cs_goals.specs.declared.goal.Goal.TheVariants.{Rule}
 use Rattle.cs_verdicts.proofs.OnCases.Adding.{added_one}
 use Rattle.cs_verdicts.proofs.OnCases.Placed.{OnOk_then}
