@@ -126,7 +126,7 @@ fn slot_of(number: u64) -> usize {
 
 // Goals, each with the number of a case. Trees share most of what they meet, so most goals that come are known: for each slot
 // `recent` has the number of the last goal with this slot, which is in the table, so that one look tells of most goals that
-// they are. No goal has number 0, which stands in the other slots. Behind a context the table has the rule that it shows, so
+// they are. No goal has number 0, which stands in the other slots. With a context the table has the rule that it shows, so
 // that a context which is known tells of its rule too.
 #[derive(Drop)]
 pub(crate) struct Firsts {
