@@ -9,6 +9,7 @@ pub mod Flattened
 pub mod FirstLeast
 pub mod KindsSettled
 pub mod Placing
+pub mod Dear
 pub mod Roots
 pub mod Written
 pub mod Numbers

@@ -17,4 +17,5 @@ pub mod ChosenKind
 pub mod Flat
 pub mod Parts
 pub mod Clauses
+pub mod Beside
 pub mod Laws

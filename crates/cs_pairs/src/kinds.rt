@@ -20,6 +20,7 @@ mod laws;
 mod lefts;
 mod nets;
 mod rims;
+mod roots;
 mod row;
 mod rows;
 mod side;

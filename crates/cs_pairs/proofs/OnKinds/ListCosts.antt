@@ -1,5 +1,5 @@
 -- What lists of trees of a kind cost: no list costs less than is said, and one costs no more.
-use Rattle.std.proofs.Common.{◌≡◌, ℕ, ◌+◌, ◌≤◌, ◌⊎◌, [], ◌∷◌, refl, ap, sym, subst, ⊎_elim, arith}
+use Rattle.std.proofs.Common.{◌≡◌, ℕ, ◌+◌, ◌<◌, ◌≤◌, ◌⊎◌, [], ◌∷◌, refl, ap, sym, subst, ⊎_elim, arith}
 use Rattle.std.proofs.lemmas.Bool.Decides.{nat_tests}
 use Rattle.cs_grammar.specs.declared.symbol.Symbol.TheVariants.{Token}
 use Rattle.cs_grammar.specs.Grammar.{PlainGrammar}
@@ -35,6 +35,12 @@ module _ (w : Measure) where
 
   pub lesser_either : (a b : Cost) → (lesser w.limit a b ≡ a) ⊎ (lesser w.limit a b ≡ b)
   lesser_either a b = grind (arith, nat_tests)
+
+  pub lesser_first : (a b : Cost) → rank w.limit a ≤ rank w.limit b → lesser w.limit a b ≡ a
+  lesser_first a b h = grind (arith, nat_tests)
+
+  pub lesser_second : (a b : Cost) → rank w.limit b < rank w.limit a → lesser w.limit a b ≡ b
+  lesser_second a b h = grind (arith, nat_tests)
 
   pub IsCapped-lesser : (a b : Cost) → IsCapped w.limit a → IsCapped w.limit b → IsCapped w.limit (lesser w.limit a b)
   IsCapped-lesser a b ha hb = ⊎_elim (λ e. subst (IsCapped w.limit) (sym e) ha) (λ e. subst (IsCapped w.limit) (sym e) hb) (lesser_either a b)

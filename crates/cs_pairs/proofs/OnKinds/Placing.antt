@@ -3,25 +3,30 @@ use Rattle.std.proofs.Common.{◌≡◌, ℕ, ◌+◌, ◌<◌, ◌≤◌, Bool,
 use Rattle.std.specs.Prelude.{◌↔◌, IsTrue, All, nat_lt, nat_eq, if◌then◌else◌}
 use Rattle.std.proofs.lemmas.Bool.{cases_lt}
 use Rattle.std.proofs.lemmas.Bool.Decides.{nat_tests}
-use Rattle.std.proofs.lemmas.List.{at_drop_more}
+use Rattle.std.proofs.lemmas.List.{at_drop_more, drop_all}
 use Rattle.std.proofs.lemmas.List.Elements.{All-nil, All-cons, All-head, All-tail}
 use Rattle.cs_grammar.specs.declared.symbol.Symbol.{Symbol}
 use Rattle.cs_grammar.specs.Grammar.{PlainGrammar, IsSymbol}
-use Rattle.cs_grammar.specs.Weights.{Measure}
+use Rattle.cs_grammar.specs.Weights.{Measure, Weighed}
 use Rattle.cs_grammar.specs.Tree.{Forest, Bare, Grown, sizes}
 use Rattle.cs_grammar.specs.Context.{join}
 use Rattle.cs_least.specs.declared.cost.cost.Cost.{Cost}
 use Rattle.cs_least.specs.Cost.Least.{IsCost}
-use Rattle.cs_least.specs.Cost.Rank.{rank}
-use Rattle.cs_least.proofs.OnCost.Ranks.{cost_low, cost_least}
+use Rattle.cs_least.specs.Cost.Rank.{rank, plus, IsCapped}
+use Rattle.cs_least.proofs.OnCost.Ranks.{cost_low, cost_least, cost_capped}
 use Rattle.cs_pairs.specs.declared.kinds.kind.TreeKind.{TreeKind}
 use Rattle.cs_pairs.specs.declared.kinds.kind.TreeKind.TheVariants.{Any, Empty, Begins, Ends}
+use Rattle.cs_pairs.specs.declared.kinds.roots.Placed.{Placed}
 use Rattle.cs_pairs.specs.declared.kinds.writing.Part.{Part}
 use Rattle.cs_pairs.specs.Kinds.Kinds.{before, behind, IsKind}
+use Rattle.cs_pairs.specs.Kinds.KindCost.{IsKindCost, AreKindCost}
+use Rattle.cs_pairs.specs.Kinds.ListCost.{lesser, bare_cost}
 use Rattle.cs_pairs.specs.Kinds.Ways.{AreHere, AreLater, joint_size}
 use Rattle.cs_pairs.specs.Kinds.ChosenKind.{IsChosenOfKind, AreChosenOfKind}
 use Rattle.cs_pairs.specs.Kinds.Parts.{kind_at, parts_from, AreChosenParts, IsPartOf}
-use Rattle.cs_pairs.proofs.OnKinds.ListCosts.{IsKind-before, IsKind-behind}
+use Rattle.cs_pairs.specs.Kinds.Beside.{IsPlacedFrom, IsPlacedOver}
+use Rattle.cs_pairs.proofs.OnKinds.ListCosts.{IsKind-before, IsKind-behind, lesser_first, lesser_second}
+use Rattle.cs_pairs.proofs.OnKinds.Sweeping.{swept_none, here_cost, later_cost, lesser_way, behind_cost}
 use Rattle.cs_pairs.proofs.OnKinds.ChosenKinds.{IsTree-of_kind, AreTrees-of_kind}
 
 at_before : (k : TreeKind) (place i : ℕ) → i < place → kind_at k place i ≡ before k
@@ -42,7 +47,7 @@ not_at_most false m n is_no h = ⊎_elim (λ less. less) (λ no_less. let yes = 
 pub left_from : (xs : List Symbol) (i next : ℕ) (d : Symbol) → i + 1 ≡ next → i < length xs → get_or xs i d ∷ drop next xs ≡ drop i xs
 left_from xs i next d is_next within = sym (at_drop_more (λ (l : List Symbol). l) xs i d within ∙ ap (λ n. get_or xs i d ∷ drop n xs) is_next)
 
-behind_twice : (k : TreeKind) → (before (behind k) ≡ behind k) × (behind (behind k) ≡ behind k)
+pub behind_twice : (k : TreeKind) → (before (behind k) ≡ behind k) × (behind (behind k) ≡ behind k)
 behind_twice Any = (refl, refl)
 behind_twice Empty = (refl, refl)
 behind_twice (Begins b) = (refl, refl)
@@ -117,28 +122,62 @@ module _ (w : Measure) (g : PlainGrammar) where
   AreChosenParts-join (Grown t f) h [] qs hf hh = absurd hf
   AreChosenParts-join (Grown t f) h (p ∷ ps) qs hf hh = (hf.0, AreChosenParts-join f h ps qs hf.1 hh)
 
--- in the names of the code
-module _ (w : Measure) (g : PlainGrammar) (k j : TreeKind) (xs : List Symbol) (i next : ℕ) (d : Symbol) (place : ℕ) (here later : Cost) (is_next : i + 1 ≡ next) (within : i < length xs) (is_kind : j ≡ k) (is_here : IsCost w.limit (AreHere g j (get_or xs i d) (drop next xs)) (joint_size w) here) (is_later : IsCost w.limit (AreLater g j (get_or xs i d) (drop next xs)) (joint_size w) later) where
-  front : drop i xs ≡ get_or xs i d ∷ drop next xs
-  front = sym (left_from xs i next d is_next within)
+-- one symbol more in front of those that are swept, in the names of the code
+module _ (v : Weighed) (k : TreeKind) (x : Symbol) (i : ℕ) (placed : Placed) (own first others here later rest : Cost) (is_own : IsKindCost v k x own) (is_first : IsKindCost v (before k) x first) (is_others : IsKindCost v (behind k) x others) (here_is : here ≡ plus v.weights.limit own placed.rest) (later_is : later ≡ plus v.weights.limit first placed.whole) (rest_is : rest ≡ plus v.weights.limit others placed.rest) (xs : List Symbol) (swept : IsPlacedFrom v k (i + 1) xs placed) where
+  abbrev w : Measure
+  w = v.weights
 
-  pub place_taken : rank w.limit here ≤ rank w.limit later → (f : Forest) → AreChosenOfKind w g k (drop i xs) f → sizes w f ≤ w.limit → AreChosenParts w g (parts_from k i i (drop i xs)) f
-  place_taken cheap =
-      let is_here' = subst (λ m. IsCost w.limit (AreHere g m (get_or xs i d) (drop next xs)) (joint_size w) here) is_kind is_here in
-      let is_later' = subst (λ m. IsCost w.limit (AreLater g m (get_or xs i d) (drop next xs)) (joint_size w) later) is_kind is_later in
-      subst (λ (l : List Symbol). (f : Forest) → AreChosenOfKind w g k l f → sizes w f ≤ w.limit → AreChosenParts w g (parts_from k i i l) f) (sym front)
-      (placed_here w g k (get_or xs i d) (drop next xs) i here later is_here' is_later' cheap)
+  abbrev g : PlainGrammar
+  g = v.grammar
 
-  pub place_passed : next ≤ place → rank w.limit later < rank w.limit here → ((f : Forest) → AreChosenOfKind w g k (drop next xs) f → sizes w f ≤ w.limit → AreChosenParts w g (parts_from k place next (drop next xs)) f) → (f : Forest) → AreChosenOfKind w g k (drop i xs) f → sizes w f ≤ w.limit → AreChosenParts w g (parts_from k place i (drop i xs)) f
-  place_passed above cheap so_far =
-      let is_here' = subst (λ m. IsCost w.limit (AreHere g m (get_or xs i d) (drop next xs)) (joint_size w) here) is_kind is_here in
-      let is_later' = subst (λ m. IsCost w.limit (AreLater g m (get_or xs i d) (drop next xs)) (joint_size w) later) is_kind is_later in
-      let so_far' = subst (λ n. (f : Forest) → AreChosenOfKind w g k (drop next xs) f → sizes w f ≤ w.limit → AreChosenParts w g (parts_from k place n (drop next xs)) f) (sym is_next) so_far in
-      subst (λ (l : List Symbol). (f : Forest) → AreChosenOfKind w g k l f → sizes w f ≤ w.limit → AreChosenParts w g (parts_from k place i l) f) (sym front)
-      (placed_later w g k (get_or xs i d) (drop next xs) i here later is_here' is_later' place (omega (arith, above, is_next)) cheap so_far')
+  is_here : IsCost w.limit (AreHere g k x xs) (joint_size w) here
+  is_here = subst (IsCost w.limit (AreHere g k x xs) (joint_size w)) (sym here_is) (here_cost w g k x xs own placed.rest is_own swept.is_rest)
+
+  is_later : IsCost w.limit (AreLater g k x xs) (joint_size w) later
+  is_later = subst (IsCost w.limit (AreLater g k x xs) (joint_size w)) (sym later_is) (later_cost w g k x xs first placed.whole is_first swept.is_whole)
+
+  is_rest : AreKindCost v (behind k) (x ∷ xs) rest
+  is_rest = subst (AreKindCost v (behind k) (x ∷ xs)) (sym rest_is) (behind_cost w g k x xs others placed.rest is_others swept.is_rest)
+
+  is_whole : AreKindCost v k (x ∷ xs) (lesser w.limit here later)
+  is_whole = lesser_way w g k x xs here later is_here is_later
+
+  pub caps : IsCapped w.limit here × IsCapped w.limit later
+  caps = (cost_capped w.limit (AreHere g k x xs) (joint_size w) here is_here, cost_capped w.limit (AreLater g k x xs) (joint_size w) later is_later)
+
+  pub place_taken : rank w.limit here ≤ rank w.limit later → IsPlacedFrom v k i (x ∷ xs) (record { whole = here; rest = rest; place = i })
+  place_taken cheap = record {
+    is_whole = subst (AreKindCost v k (x ∷ xs)) (lesser_first w here later cheap) is_whole;
+    is_rest = is_rest;
+    within = omega arith;
+    is_place = placed_here w g k x xs i here later is_here is_later cheap;
+  }
+
+  pub place_passed : rank w.limit later < rank w.limit here → IsPlacedFrom v k i (x ∷ xs) (record { whole = later; rest = rest; place = placed.place })
+  place_passed cheap = record {
+    is_whole = subst (AreKindCost v k (x ∷ xs)) (lesser_second w here later cheap) is_whole;
+    is_rest = is_rest;
+    within = omega (arith, swept.within);
+    is_place = placed_later w g k x xs i here later is_here is_later placed.place (omega (arith, swept.within)) cheap swept.is_place;
+  }
 
 -- no symbol is swept
 pub place_none : (w : Measure) (g : PlainGrammar) (k : TreeKind) (place i : ℕ) (ys : List Symbol) → ys ≡ [] → (f : Forest) → AreChosenOfKind w g k ys f → sizes w f ≤ w.limit → AreChosenParts w g (parts_from k place i ys) f
 place_none w g k place i [] e Bare h small = tt
 place_none w g k place i [] e (Grown t f) h small = absurd h
 place_none w g k place i (y ∷ ys) e f h small = absurd cc
+
+pub placed_none : (v : Weighed) (k : TreeKind) (xs : List Symbol) (whole rest : Cost) → whole ≡ bare_cost k → rest ≡ bare_cost (behind k) → IsPlacedFrom v k (length xs) (drop (length xs) xs) (record { whole = whole; rest = rest; place = length xs })
+placed_none v k xs whole rest is_whole is_rest =
+    subst (λ (l : List Symbol). IsPlacedFrom v k (length xs) l (record { whole = whole; rest = rest; place = length xs })) (sym (drop_all (length xs) xs (omega arith)))
+    (record {
+      is_whole = subst (AreKindCost v k []) (sym is_whole) (swept_none v.weights v.grammar k);
+      is_rest = subst (AreKindCost v (behind k) []) (sym is_rest) (swept_none v.weights v.grammar (behind k));
+      within = omega arith;
+      is_place = place_none v.weights v.grammar k (length xs) (length xs) [] refl;
+    })
+
+pub placed_next : (v : Weighed) (k : TreeKind) (xs : List Symbol) (i next : ℕ) (d : Symbol) (placed new : Placed) → i + 1 ≡ next → i < length xs → IsPlacedOver v k i placed (get_or xs i d) new → IsPlacedFrom v k next (drop next xs) placed → IsPlacedFrom v k i (drop i xs) new
+placed_next v k xs i next d placed new is_next within over swept =
+    subst (λ (l : List Symbol). IsPlacedFrom v k i l new) (left_from xs i next d is_next within)
+    (over (drop next xs) (subst (λ n. IsPlacedFrom v k n (drop next xs) placed) (sym is_next) swept))

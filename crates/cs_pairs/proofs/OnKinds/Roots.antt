@@ -1,11 +1,12 @@
 -- The rule at the root of the chosen tree of a kind and a nonterminal.
-use Rattle.std.proofs.Common.{◌≡◌, ℕ, ◌+◌, ◌-◌, ◌<◌, ◌≤◌, List, Some, length, sym, ap, ◌∙◌, subst, ⊎_elim, arith, below_more}
+use Rattle.std.proofs.Common.{◌≡◌, ℕ, ◌+◌, ◌-◌, ◌<◌, ◌≤◌, List, Some, length, refl, sym, ap, ◌∙◌, subst, ⊎_elim, arith, below_more}
 use Rattle.std.specs.Prelude.{slice_get}
 use Rattle.std.proofs.lemmas.Bool.{cases_eq, cases_lt}
 use Rattle.std.proofs.lemmas.Option.{slice_get_within}
+use Rattle.cs_grammar.specs.declared.symbol.Symbol.{Symbol}
 use Rattle.cs_grammar.specs.declared.symbol.Symbol.TheVariants.{Nonterminal}
 use Rattle.cs_grammar.specs.Grammar.{Production, PlainGrammar, IsRule}
-use Rattle.cs_grammar.specs.Weights.{Measure}
+use Rattle.cs_grammar.specs.Weights.{Measure, Weighed}
 use Rattle.cs_grammar.specs.Tree.{Tree, Leaf, Node, Forest, size}
 use Rattle.cs_grammar.proofs.OneTree.{one_rule}
 use Rattle.cs_least.specs.declared.cost.cost.Cost.{Cost}
@@ -19,6 +20,8 @@ use Rattle.cs_pairs.specs.Kinds.ChosenKind.{IsChosenOfKind}
 use Rattle.cs_pairs.specs.Kinds.Sweep.{node_size}
 use Rattle.cs_pairs.specs.Kinds.Parts.{IsRootOf}
 use Rattle.cs_pairs.specs.Kinds.Lefts.{AreRulesWith}
+use Rattle.cs_pairs.specs.Kinds.Clauses.{IsPlaceIn}
+use Rattle.cs_pairs.specs.Kinds.Beside.{IsRootIn}
 use Rattle.cs_pairs.proofs.OnKinds.ChosenKinds.{IsTree-of_kind, AreTrees-of_kind}
 
 -- nodes with a rule of the left side at an index below i have more than n nodes
@@ -55,17 +58,16 @@ module _ (w : Measure) (g : PlainGrammar) (k : TreeKind) (left : ℕ) (numbers :
 pub no_root_none : (w : Measure) (g : PlainGrammar) (k : TreeKind) (numbers : List ℕ) (n : ℕ) → NoRootIn w g k numbers n 0
 no_root_none w g k numbers n = record { larger = λ j r o within. absurd (omega (arith, within)) }
 
-pub no_root_more : (w : Measure) (g : PlainGrammar) (k : TreeKind) (numbers : List ℕ) (i r : ℕ) (q : Production) (cost node : Cost) → slice_get numbers i ≡ Some r → IsRule g r q → IsCost w.limit (AreTreesOfKind g k q.right) (node_size w) node → rank w.limit cost < rank w.limit node → NoRootIn w g k numbers (rank w.limit cost) i → NoRootIn w g k numbers (rank w.limit cost) (i + 1)
-no_root_more w g k numbers i r q cost node at rule is_node dear so_far = record {
+pub no_root_more : (w : Measure) (g : PlainGrammar) (k : TreeKind) (numbers : List ℕ) (n i r : ℕ) (q : Production) → slice_get numbers i ≡ Some r → IsRule g r q → ((f : Forest) → AreTreesOfKind g k q.right f → n < node_size w f) → NoRootIn w g k numbers n i → NoRootIn w g k numbers n (i + 1)
+no_root_more w g k numbers n i r q at rule dear so_far = record {
   larger = λ j s o within.
-      below_more (λ m. (t : ℕ) (u : Production) → slice_get numbers m ≡ Some t → IsRule g t u → (f : Forest) → AreTreesOfKind g k u.right f → rank w.limit cost < node_size w f) i
+      below_more (λ m. (t : ℕ) (u : Production) → slice_get numbers m ≡ Some t → IsRule g t u → (f : Forest) → AreTreesOfKind g k u.right f → n < node_size w f) i
       (λ m lt t u. so_far.larger m t u lt)
       (λ t u there is_rule f is.
       let e : Some r ≡ Some t = sym at ∙ there in
       let is_r : t ≡ r = cc in
       let same = one_rule g t r u q is_r is_rule rule in
-      let is' = subst (λ (z : Production). AreTreesOfKind g k z.right f) same is in
-      omega (arith, dear, cost_low w.limit (AreTreesOfKind g k q.right) (node_size w) node is_node f is'))
+      dear f (subst (λ (z : Production). AreTreesOfKind g k z.right f) same is))
       j within s o;
 }
 
@@ -111,3 +113,12 @@ some_root w g k left i cost all so_far told small =
 -- in the names of the code
 pub root_number : (w : Measure) (g : PlainGrammar) (k : TreeKind) (left r : ℕ) → 0 < r → IsRootOf w g k left (r - 1 + 1) → IsRootOf w g k left r
 root_number w g k left r above root = let e : r - 1 + 1 ≡ r = omega (arith, above) in subst (IsRootOf w g k left) e root
+
+-- the place in the right side of the rule at hand
+pub root_place : (v : Weighed) (k : TreeKind) (left r place : ℕ) (q : Production) (right : List Symbol) → IsRule v.grammar r q → right ≡ q.right → IsPlaceIn v k right place → IsRootOf v.weights v.grammar k left r → IsRootIn v k left (record { number = r; place = place })
+root_place v k left r place q right rule is_right placed root =
+    let same = one_rule v.grammar r r q root.rule refl rule root.number in
+    record {
+      is_root = root;
+      is_place = subst (λ (xs : List Symbol). IsPlaceIn v k xs place) (is_right ∙ ap (λ (o : Production). o.right) same) placed;
+    }

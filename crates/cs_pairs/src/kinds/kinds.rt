@@ -7,6 +7,7 @@ ghost use Rattle.cs_least.specs.Cost.Rank.{IsCapped, cost_of, plus};
 ghost use Rattle.cs_pairs.specs.Kinds.ListCost.{IsAtMost, lesser};
 ghost use Rattle.cs_pairs.specs.Kinds.Kinds.{IsKind};
 ghost use Rattle.cs_pairs.specs.Kinds.RowsOf.{AreTablesOf};
+ghost use Rattle.cs_pairs.specs.Kinds.Beside.{AreRowsBeside};
 ghost use Rattle.cs_pairs.specs.Kinds.Tables.{AreCosts};
 ghost use Rattle.cs_pairs.specs.Kinds.KindCost.{IsKindCost};
 ghost use Rattle.cs_pairs.specs.Kinds.Lefts.{AreLefts, AreRulesWith};
@@ -32,6 +33,15 @@ pub struct Kinds<'g> {
     weights: &'g Weights,
     rows: Rows,
     lefts: Vec<Vec<u16>>,
+}
+
+// What the least trees of each nonterminal cost that are of a kind, of the kind before it, and of the kind behind it.
+#[derive(Clone, Copy, Debug)]
+pub(crate) struct KindRows<'k> {
+    pub(crate) kind: TreeKind,
+    pub(crate) own: &'k [Cost],
+    pub(crate) before: &'k [Cost],
+    pub(crate) behind: &'k [Cost],
 }
 
 // What they cost of any trees, of those of empty yield, and of those that begin or end with each token.
@@ -170,6 +180,34 @@ impl<'g> Kinds<'g> {
         match symbol {
             Symbol::Token(token) => leaf_cost(self.weights, kind, token),
             Symbol::Nonterminal(number) => self.row(kind)[place_of(number)],
+        }
+    }
+
+    // What the least tree of a kind and a symbol costs, by the row of the kind.
+    #[inline(always)]
+    pub(crate) fn told_by(&self, row: &[Cost], kind: TreeKind, symbol: Symbol) -> Cost
+        requires row { AreCosts self.now.weights self.now.grammar kind row.now }
+        requires symbol { IsSymbolOf self.now.grammar symbol }
+        ensures { IsKindCost self.now kind symbol result }
+    {
+        match symbol {
+            Symbol::Token(token) => leaf_cost(self.weights, kind, token),
+            Symbol::Nonterminal(number) => row[place_of(number)],
+        }
+    }
+
+    // The rows of a kind and of those beside it.
+    #[inline(always)]
+    pub(crate) fn rows_beside(&self, kind: TreeKind) -> KindRows<'_>
+        requires { IsKind self.now.grammar.tokens kind }
+        ensures kind { result.kind ≡ kind }
+        ensures rows { AreRowsBeside self.now result }
+    {
+        KindRows {
+            kind,
+            own: self.row(kind),
+            before: self.row(kind.before()),
+            behind: self.row(kind.behind()),
         }
     }
 

@@ -5,14 +5,14 @@ ghost use Rattle.cs_grammar.specs.Grammar.{IsSymbolOf, IsNumberOf};
 ghost use Rattle.cs_grammar.specs.Weights.{IsMeasure};
 ghost use Rattle.cs_least.specs.Cost.Parts.{IsGrown};
 ghost use Rattle.cs_pairs.specs.Kinds.Kinds.{IsKind};
-ghost use Rattle.cs_pairs.specs.Kinds.Parts.{kind_at, IsPartOf, HaveSmallOfKind, IsRootOf};
-ghost use Rattle.cs_pairs.specs.Kinds.Clauses.{ArePutFirst, IsPlaceIn, IsNodeCost, OpensUp, HasSmallIn, TakesOnIn, HaveSmallParts, Writes, AppendsIn};
+ghost use Rattle.cs_pairs.specs.Kinds.Parts.{kind_at, IsPartOf, HaveSmallOfKind};
+ghost use Rattle.cs_pairs.specs.Kinds.Clauses.{ArePutFirst, OpensUp, HasSmallIn, TakesOnIn, HaveSmallParts, Writes, AppendsIn};
 
 use crate::kinds::kind::TreeKind;
 use crate::kinds::kinds::Kinds;
-use crate::kinds::sweep::Sweep;
+use crate::kinds::roots::{placed_in, root_of};
 use cs_grammar::{Derivation, Symbol};
-use cs_least::{Cost, Costs};
+use cs_least::Costs;
 use std::alloc::{AllocError, Global};
 
 // Room for as many pending parts is made at once.
@@ -56,54 +56,6 @@ fn put_first(
     Ok(())
 }
 
-// Where the tree of the kind itself stands in the chosen trees of symbols; behind all where there is none.
-fn place_of_kind(kinds: &Kinds, kind: TreeKind, symbols: &[Symbol]) -> usize
-    requires kind { IsKind kinds.now.grammar.tokens kind }
-    requires symbols { All (IsSymbolOf kinds.now.grammar) symbols.now }
-    ensures { IsPlaceIn kinds.now kind symbols.now result }
-{
-    let mut place = symbols.len();
-    let mut sweep = Sweep::new(kind);
-    for index in (0..symbols.len()).rev() {
-        let ways = sweep.ways(kinds, symbols[index]);
-        if kinds.at_most(ways.here, ways.later) {
-            place = index;
-        }
-        sweep = sweep.over(kinds, symbols[index]);
-    }
-    place
-}
-
-// What a node costs above trees of these symbols that are of a kind together.
-fn node_cost(kinds: &Kinds, kind: TreeKind, symbols: &[Symbol]) -> Cost
-    requires kind { IsKind kinds.now.grammar.tokens kind }
-    requires symbols { All (IsSymbolOf kinds.now.grammar) symbols.now }
-    ensures { IsNodeCost kinds.now kind symbols.now result }
-{
-    let mut sweep = Sweep::new(kind);
-    for index in (0..symbols.len()).rev() {
-        sweep = sweep.over(kinds, symbols[index]);
-    }
-    kinds.plus(kinds.one(), sweep.whole)
-}
-
-// The rule at the root of the chosen tree of a kind and a nonterminal.
-fn root_of(kinds: &Kinds, kind: TreeKind, left: u16) -> u16
-    requires kind { IsKind kinds.now.grammar.tokens kind }
-    requires left { IsNumberOf kinds.now.grammar.nonterminals left }
-    requires small { HasSmallIn kinds.now kind (Symbol.Nonterminal left) }
-    ensures { IsRootOf kinds.now.weights kinds.now.grammar kind left result }
-{
-    let cost = kinds.told(kind, Symbol::Nonterminal(left));
-    for number in kinds.rules_with(left) {
-        let rule = kinds.grammar().rule(*number);
-        if kinds.at_most(node_cost(kinds, kind, rule.right()), cost) {
-            return *number;
-        }
-    }
-    unreachable!()
-}
-
 // Writes the rule at the root, and puts its children in front of what is pending.
 fn open_part(
     kinds: &Kinds,
@@ -119,10 +71,10 @@ fn open_part(
         (OpensUp kinds.now kind left pending.old pending.new into.old into.new) }
     ensures grown { IsGrown into.old into.new }
 {
-    let number = root_of(kinds, kind, left);
-    into.push(number)?;
-    let right = kinds.grammar().rule(number).right();
-    put_first(pending, kind, place_of_kind(kinds, kind, right), right)
+    let root = root_of(kinds, &kinds.rows_beside(kind), left);
+    into.push(root.number)?;
+    let right = kinds.grammar().rule(root.number).right();
+    put_first(pending, kind, root.place, right)
 }
 
 // Writes a part, or what stands at the root of its tree.
@@ -212,12 +164,8 @@ pub fn kind_into(
     ensures ok { OnOk result (AppendsIn kinds.now kind symbols.now into.old into.new) }
     ensures err { OnErr result (into.new ≡ into.old) }
 {
+    let placed = placed_in(kinds, &kinds.rows_beside(kind), symbols);
     let mut pending = Vec::with_capacity(alloc, USUAL_PARTS)?;
-    put_first(
-        &mut pending,
-        kind,
-        place_of_kind(kinds, kind, symbols),
-        symbols,
-    )?;
+    put_first(&mut pending, kind, placed.place, symbols)?;
     write(kinds, costs, &mut pending, into)
 }
