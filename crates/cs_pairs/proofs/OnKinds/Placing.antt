@@ -6,9 +6,10 @@ use Rattle.std.proofs.lemmas.Bool.Decides.{nat_tests}
 use Rattle.std.proofs.lemmas.List.{at_drop_more, drop_all}
 use Rattle.std.proofs.lemmas.List.Elements.{All-nil, All-cons, All-head, All-tail}
 use Rattle.cs_grammar.specs.declared.symbol.Symbol.{Symbol}
+use Rattle.cs_grammar.specs.declared.symbol.Symbol.TheVariants.{Token, Nonterminal}
 use Rattle.cs_grammar.specs.Grammar.{PlainGrammar, IsSymbol}
 use Rattle.cs_grammar.specs.Weights.{Measure, Weighed}
-use Rattle.cs_grammar.specs.Tree.{Forest, Bare, Grown, sizes}
+use Rattle.cs_grammar.specs.Tree.{Tree, Leaf, Node, Forest, Bare, Grown, sizes, code, codes_of}
 use Rattle.cs_grammar.specs.Context.{join}
 use Rattle.cs_least.specs.declared.cost.cost.Cost.{Cost}
 use Rattle.cs_least.specs.Cost.Least.{IsCost}
@@ -23,7 +24,7 @@ use Rattle.cs_pairs.specs.Kinds.KindCost.{IsKindCost, AreKindCost}
 use Rattle.cs_pairs.specs.Kinds.ListCost.{lesser, bare_cost}
 use Rattle.cs_pairs.specs.Kinds.Ways.{AreHere, AreLater, joint_size}
 use Rattle.cs_pairs.specs.Kinds.ChosenKind.{IsChosenOfKind, AreChosenOfKind}
-use Rattle.cs_pairs.specs.Kinds.Parts.{kind_at, parts_from, AreChosenParts, IsPartOf}
+use Rattle.cs_pairs.specs.Kinds.Parts.{kind_at, parts_from, in_front, inner, AreChosenParts, IsPartOf}
 use Rattle.cs_pairs.specs.Kinds.Beside.{IsPlacedFrom, IsPlacedOver}
 use Rattle.cs_pairs.proofs.OnKinds.ListCosts.{IsKind-before, IsKind-behind, lesser_first, lesser_second}
 use Rattle.cs_pairs.proofs.OnKinds.Sweeping.{swept_none, here_cost, later_cost, lesser_way, behind_cost}
@@ -114,6 +115,37 @@ module _ (w : Measure) (g : PlainGrammar) where
           cases true same = IsKind-before g.tokens k fits
           cases false true = fits
           cases false false = IsKind-behind g.tokens k fits
+
+  -- without the tokens
+  pub inner_fit : (ps : List Part) → All (IsPartOf g) ps → All (IsPartOf g) (inner ps)
+  inner_fit [] each = each
+  inner_fit (p ∷ ps) each = front p.symbol (inner_fit ps (All-tail (IsPartOf g) p ps each))
+    where
+      front : (x : Symbol) → All (IsPartOf g) (inner ps) → All (IsPartOf g) (in_front x p (inner ps))
+      front (Token t) rest = rest
+      front (Nonterminal n) rest = All-cons (IsPartOf g) p (inner ps) (All-head (IsPartOf g) p ps each) rest
+
+  -- their trees have the same codes
+  pub record InnerTrees (ps : List Part) (f : Forest) : Type 0 where
+    pub trees : Forest
+    pub chosen : AreChosenParts w g (inner ps) trees
+    pub small : sizes w trees ≤ sizes w f
+    pub text : codes_of trees ≡ codes_of f
+
+  pub inner_trees : (f : Forest) (ps : List Part) → AreChosenParts w g ps f → InnerTrees ps f
+  inner_trees Bare [] h = record { trees = Bare; chosen = tt; small = omega arith; text = refl }
+  inner_trees Bare (p ∷ ps) h = absurd h
+  inner_trees (Grown t f) [] h = absurd h
+  inner_trees (Grown t f) (p ∷ ps) h =
+      let o = front (inner_trees f ps h.1) p.symbol t h.0 h.0 in
+      record { trees = o.0; chosen = o.1; small = o.2; text = o.3 }
+    where
+      front : InnerTrees ps f → (x : Symbol) (u : Tree) → IsChosenOfKind w g p.kind x u → IsChosenOfKind w g p.kind p.symbol u → (e : Forest) × AreChosenParts w g (in_front x p (inner ps)) e × (sizes w e ≤ sizes w (Grown u f)) × (codes_of e ≡ codes_of (Grown u f))
+      front rest (Token s) (Leaf r) c own = (rest.trees, rest.chosen, omega (arith, rest.small), rest.text)
+      front rest (Token s) (Node r l) c own = let e = c.2 in absurd cc
+      front rest (Nonterminal n) (Leaf r) c own = let e = c.0 in absurd cc
+      front rest (Nonterminal n) (Node r l) c own =
+          (Grown (Node r l) rest.trees, (own, rest.chosen), omega (arith, rest.small), ap (λ (s : List ℕ). code (Node r l) ++ s) rest.text)
 
   -- parts one after another
   pub AreChosenParts-join : (f h : Forest) (ps qs : List Part) → AreChosenParts w g ps f → AreChosenParts w g qs h → AreChosenParts w g (ps ++ qs) (join f h)

@@ -21,9 +21,9 @@ use Rattle.cs_pairs.specs.declared.kinds.kind.TreeKind.TheVariants.{Any}
 use Rattle.cs_pairs.specs.declared.kinds.writing.Part.{Part}
 use Rattle.cs_pairs.specs.Kinds.Kinds.{IsKind}
 use Rattle.cs_pairs.specs.Kinds.ChosenKind.{IsChosenOfKind, AreChosenOfKind}
-use Rattle.cs_pairs.specs.Kinds.Parts.{parts_from, AreChosenParts, IsPartOf, HasSmallOfKind, IsRootOf, TakesOn}
+use Rattle.cs_pairs.specs.Kinds.Parts.{parts_from, inner, AreChosenParts, IsPartOf, HasSmallOfKind, IsRootOf, TakesOn}
 use Rattle.cs_pairs.proofs.OnKinds.ChosenKinds.{IsTree-of_kind, any_chosen}
-use Rattle.cs_pairs.proofs.OnKinds.Placing.{parts_fit, AreChosenParts-join}
+use Rattle.cs_pairs.proofs.OnKinds.Placing.{parts_fit, inner_fit, inner_trees, AreChosenParts-join}
 
 module _ (w : Measure) (g : PlainGrammar) where
   -- a token's part is its leaf, of which nothing is written
@@ -50,9 +50,9 @@ module _ (w : Measure) (g : PlainGrammar) where
 
   -- of another part the rule at the root is written
   module _ (k : TreeKind) (left r place : ℕ) (right : List Symbol) (root : IsRootOf w g k left r) (is_right : right ≡ root.rule.right) (placed : (f : Forest) → AreChosenOfKind w g k right f → sizes w f ≤ w.limit → AreChosenParts w g (parts_from k place 0 right) f) where
-    pub takes_root : (old_pending new_pending : List Part) (old new : List ℕ) → IsKind g.tokens k → All (IsSymbol g.tokens g.nonterminals) right → new ≡ old ++ r ∷ [] → reverse new_pending ≡ parts_from k place 0 right ++ reverse old_pending → TakesOn w g (record { kind = k; symbol = Nonterminal left }) old_pending new_pending old new
+    pub takes_root : (old_pending new_pending : List Part) (old new : List ℕ) → IsKind g.tokens k → All (IsSymbol g.tokens g.nonterminals) right → new ≡ old ++ r ∷ [] → reverse new_pending ≡ inner (parts_from k place 0 right) ++ reverse old_pending → TakesOn w g (record { kind = k; symbol = Nonterminal left }) old_pending new_pending old new
     takes_root old_pending new_pending old new fits each text pending = record {
-      fits = λ h. subst (All (IsPartOf g)) (sym pending) (All-append (IsPartOf g) (parts_from k place 0 right) (reverse old_pending) (parts_fit w g k place 0 right fits each) h);
+      fits = λ h. subst (All (IsPartOf g)) (sym pending) (All-append (IsPartOf g) (inner (parts_from k place 0 right)) (reverse old_pending) (inner_fit w g (parts_from k place 0 right) (parts_fit w g k place 0 right fits each)) h);
       rest = λ u f c small h. node u f c small h;
     }
       where
@@ -62,11 +62,12 @@ module _ (w : Measure) (g : PlainGrammar) where
             let number = root.root q l c in
             let same = one_rule g q r c.0 root.rule number c.1 root.number in
             let children = subst (λ (xs : List Symbol). AreChosenOfKind w g k xs l) (ap (λ (p : Production). p.right) same ∙ sym is_right) c.4 in
-            let parts = placed l children (omega (arith, small)) in
-            let is : AreChosenParts w g (reverse new_pending) (join l f) = subst (λ (ps : List Part). AreChosenParts w g ps (join l f)) (sym pending) (AreChosenParts-join w g l f (parts_from k place 0 right) (reverse old_pending) parts h) in
-            let codes : new ++ codes_of (join l f) ≡ old ++ (code (Node q l) ++ codes_of f) =
-            ap (λ (s : List ℕ). s ++ codes_of (join l f)) text ∙ append_assoc old (r ∷ []) (codes_of (join l f)) ∙ ap (λ (s : List ℕ). old ++ r ∷ s) (codes_of-join l f) ∙ ap (λ n. old ++ n ∷ (codes_of l ++ codes_of f)) (sym number) in
-            (join l f, is, omega (arith, sizes-join w l f), codes)
+            let parts = inner_trees w g l (parts_from k place 0 right) (placed l children (omega (arith, small))) in
+            let m = parts.trees in
+            let is : AreChosenParts w g (reverse new_pending) (join m f) = subst (λ (ps : List Part). AreChosenParts w g ps (join m f)) (sym pending) (AreChosenParts-join w g m f (inner (parts_from k place 0 right)) (reverse old_pending) parts.chosen h) in
+            let codes : new ++ codes_of (join m f) ≡ old ++ (code (Node q l) ++ codes_of f) =
+            ap (λ (s : List ℕ). s ++ codes_of (join m f)) text ∙ append_assoc old (r ∷ []) (codes_of (join m f)) ∙ ap (λ (s : List ℕ). old ++ r ∷ s) (codes_of-join m f ∙ ap (λ (s : List ℕ). s ++ codes_of f) parts.text) ∙ ap (λ n. old ++ n ∷ (codes_of l ++ codes_of f)) (sym number) in
+            (join m f, is, omega (arith, sizes-join w m f, parts.small), codes)
 
   -- where a writer stands after so many steps: what is pending, and what is written, of what was pending at its start
   pub record Writes (start_parts : List Part) (start : List ℕ) (parts : List Part) (out : List ℕ) (i : ℕ) : Type 0 where

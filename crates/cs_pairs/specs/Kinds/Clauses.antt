@@ -14,7 +14,7 @@ use Rattle.cs_pairs.specs.declared.kinds.writing.Part.{Part}
 use Rattle.cs_pairs.specs.Kinds.Kinds.{AreTreesOfKind}
 use Rattle.cs_pairs.specs.Kinds.Sweep.{IsSwept, AreWays, node_size}
 use Rattle.cs_pairs.specs.Kinds.ChosenKind.{AreChosenOfKind, AppendsOfKind}
-use Rattle.cs_pairs.specs.Kinds.Parts.{parts_from, AreChosenParts, HasSmallOfKind, TakesOn}
+use Rattle.cs_pairs.specs.Kinds.Parts.{parts_from, inner, AreChosenParts, HasSmallOfKind, TakesOn}
 
 -- some symbols are swept
 abbrev pub HasSwept : Weighed → Sweep → Type 0
@@ -31,9 +31,9 @@ IsSweptOver v s x new = (xs : List Symbol) → IsSwept v.weights v.grammar xs s 
 abbrev pub IsNodeCost : Weighed → TreeKind → List Symbol → Cost → Type 0
 IsNodeCost v k xs cost = IsCost v.weights.limit (AreTreesOfKind v.grammar k xs) (node_size v.weights) cost
 
--- the parts of these symbols stand in front of what was pending, which stands in reverse
+-- the parts of the nonterminals among these symbols stand in front of what was pending, which stands in reverse
 abbrev pub ArePutFirst : TreeKind → ℕ → List Symbol → Vec Part → Vec Part → Type 0
-ArePutFirst k i xs old new = reverse new.items ≡ parts_from k i 0 xs ++ reverse old.items
+ArePutFirst k i xs old new = reverse new.items ≡ inner (parts_from k i 0 xs) ++ reverse old.items
 
 -- with this place of the tree of the kind itself, the chosen trees of the symbols are those of their parts
 abbrev pub IsPlaceIn : Weighed → TreeKind → List Symbol → ℕ → Type 0

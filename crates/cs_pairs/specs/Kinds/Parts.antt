@@ -1,7 +1,7 @@
 -- Parts of a code that is still to be written: kinds and symbols whose chosen trees follow.
 use Rattle.std.specs.Prelude.{◌≡◌, ℕ, ◌+◌, ◌<◌, ◌≤◌, List, [], ◌∷◌, ◌++◌, reverse, All, nat_lt, nat_eq, if◌then◌else◌}
 use Rattle.cs_grammar.specs.declared.symbol.Symbol.{Symbol}
-use Rattle.cs_grammar.specs.declared.symbol.Symbol.TheVariants.{Nonterminal}
+use Rattle.cs_grammar.specs.declared.symbol.Symbol.TheVariants.{Token, Nonterminal}
 use Rattle.cs_grammar.specs.Grammar.{Production, PlainGrammar, IsRule, IsSymbol}
 use Rattle.cs_grammar.specs.Weights.{Measure}
 use Rattle.cs_grammar.specs.Tree.{Tree, Node, Forest, Bare, Grown, size, sizes, code, codes_of}
@@ -18,6 +18,16 @@ kind_at k place i = if nat_lt i place then before k else (if nat_eq i place then
 abbrev pub parts_from : TreeKind → ℕ → ℕ → List Symbol → List Part
 parts_from k place i [] = []
 parts_from k place i (x ∷ xs) = record { kind = kind_at k place i; symbol = x } ∷ parts_from k place (i + 1) xs
+
+-- a part in front of others, where its symbol is a nonterminal
+abbrev pub in_front : Symbol → Part → List Part → List Part
+in_front (Token t) part parts = parts
+in_front (Nonterminal n) part parts = part ∷ parts
+
+-- the parts that aren't tokens: a leaf has no code
+abbrev pub inner : List Part → List Part
+inner [] = []
+inner (part ∷ parts) = in_front part.symbol part (inner parts)
 
 -- the trees are the chosen ones of the parts
 abbrev pub AreChosenParts : Measure → PlainGrammar → List Part → Forest → Type 0

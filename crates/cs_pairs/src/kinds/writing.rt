@@ -1,6 +1,6 @@
 // The codes of chosen trees of kinds, written from left to right.
 
-ghost use Rattle.std.specs.Prelude.{◌≡◌, reverse, OnOk, OnErr, All};
+ghost use Rattle.std.specs.Prelude.{◌≡◌, [], reverse, IfOk, OnOk, OnErr, All};
 ghost use Rattle.cs_grammar.specs.Grammar.{IsSymbolOf, IsNumberOf};
 ghost use Rattle.cs_grammar.specs.Weights.{IsMeasure};
 ghost use Rattle.cs_least.specs.Cost.Parts.{IsGrown};
@@ -38,7 +38,8 @@ fn kind_at(kind: TreeKind, place: usize, index: usize) -> TreeKind
     }
 }
 
-// Puts the parts of a list of trees in front of what is pending, which stands in reverse.
+// Puts the parts of a list of trees in front of what is pending, which stands in reverse. Tokens have none: their leaves have no
+// code.
 fn put_first(
     pending: &mut Vec<Part>,
     kind: TreeKind,
@@ -48,10 +49,13 @@ fn put_first(
     ensures { OnOk result (ArePutFirst kind place symbols.now pending.old pending.new) }
 {
     for index in (0..symbols.len()).rev() {
-        pending.push(Part {
-            kind: kind_at(kind, place, index),
-            symbol: symbols[index],
-        })?;
+        let symbol = symbols[index];
+        if let Symbol::Nonterminal(_) = symbol {
+            pending.push(Part {
+                kind: kind_at(kind, place, index),
+                symbol,
+            })?;
+        }
     }
     Ok(())
 }
@@ -147,6 +151,35 @@ fn write(
     written
 }
 
+// Room for pending parts.
+pub(crate) fn no_parts(alloc: Global) -> Result<Vec<Part>, AllocError>
+    ensures { IfOk result (λ parts. parts.items ≡ []) }
+{
+    Vec::with_capacity(alloc, USUAL_PARTS)
+}
+
+// What `kind_into` does, with room for pending parts that is kept. What is in it is left out.
+pub(crate) fn kind_onto(
+    kinds: &Kinds,
+    costs: &Costs,
+    kind: TreeKind,
+    symbols: &[Symbol],
+    pending: &mut Vec<Part>,
+    into: &mut Derivation,
+) -> Result<(), AllocError>
+    requires costs { costs.now ≡ kinds.now }
+    requires kind { IsKind kinds.now.grammar.tokens kind }
+    requires symbols { All (IsSymbolOf kinds.now.grammar) symbols.now }
+    requires small { HaveSmallOfKind kinds.now.weights kinds.now.grammar kind symbols.now }
+    ensures ok { OnOk result (AppendsIn kinds.now kind symbols.now into.old into.new) }
+    ensures err { OnErr result (into.new ≡ into.old) }
+{
+    let placed = placed_in(kinds, &kinds.rows_beside(kind), symbols);
+    pending.clear();
+    put_first(pending, kind, placed.place, symbols)?;
+    write(kinds, costs, pending, into)
+}
+
 /// Appends the codes of the chosen trees of these symbols that are of the kind together, from left to right. Some such trees
 /// are within the limit of the weights. After a refusal `into` is unchanged.
 pub fn kind_into(
@@ -164,8 +197,6 @@ pub fn kind_into(
     ensures ok { OnOk result (AppendsIn kinds.now kind symbols.now into.old into.new) }
     ensures err { OnErr result (into.new ≡ into.old) }
 {
-    let placed = placed_in(kinds, &kinds.rows_beside(kind), symbols);
-    let mut pending = Vec::with_capacity(alloc, USUAL_PARTS)?;
-    put_first(&mut pending, kind, placed.place, symbols)?;
-    write(kinds, costs, &mut pending, into)
+    let mut pending = no_parts(alloc)?;
+    kind_onto(kinds, costs, kind, symbols, &mut pending, into)
 }

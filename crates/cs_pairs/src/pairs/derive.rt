@@ -8,11 +8,14 @@ ghost use Rattle.cs_pairs.specs.Kinds.Parts.{HasSmallOfKind};
 ghost use Rattle.cs_pairs.specs.Pairs.ChosenPair.{IsCodeOfKind};
 ghost use Rattle.cs_pairs.specs.Pairs.Clauses.{IsMeetingOf, IsCodeOfTokens};
 
-use crate::kinds::{Kinds, TreeKind, kind_into};
+use crate::kinds::{Kinds, TreeKind, kind_into, kind_onto, no_parts};
 use crate::pairs::meeting::{Meeting, TokenPair};
 use cs_grammar::{Derivation, Symbol};
 use cs_least::{Costs, Embeds};
 use std::alloc::{AllocError, Global};
+
+// Room for as many rule numbers is made at once.
+const USUAL_RULES: usize = 64;
 
 // The code of the chosen tree of a kind and a symbol.
 pub(crate) fn kind_code(
@@ -28,7 +31,7 @@ pub(crate) fn kind_code(
     requires small { HasSmallOfKind kinds.now.weights kinds.now.grammar kind symbol }
     ensures { IfOk result (IsCodeOfKind kinds.now.weights kinds.now.grammar kind symbol) }
 {
-    let mut derivation = Derivation::new(alloc);
+    let mut derivation = Derivation::with_capacity(alloc, USUAL_RULES)?;
     kind_into(alloc, kinds, costs, kind, &[symbol], &mut derivation)?;
     Ok(derivation)
 }
@@ -73,25 +76,26 @@ pub(crate) fn seam_code<'g>(
     let rule = kinds.grammar().rule(at.rule);
     let parts = split_at(rule.right(), at.place as usize);
     let context = embeds.around(costs, rule.left())?;
-    let mut derivation = Derivation::new(alloc);
+    let mut derivation = Derivation::with_capacity(alloc, USUAL_RULES)?;
     derivation.extend_from_slice(&context.before)?;
     derivation.push(at.rule)?;
     costs.all_into(parts.before, &mut derivation)?;
     let last = [parts.symbol];
-    kind_into(
-        alloc,
+    let mut pending = no_parts(alloc)?;
+    kind_onto(
         kinds,
         costs,
         TreeKind::Ends(tokens.first),
         &last,
+        &mut pending,
         &mut derivation,
     )?;
-    kind_into(
-        alloc,
+    kind_onto(
         kinds,
         costs,
         TreeKind::Begins(tokens.second),
         parts.behind,
+        &mut pending,
         &mut derivation,
     )?;
     derivation.extend_from_slice(&context.after)?;

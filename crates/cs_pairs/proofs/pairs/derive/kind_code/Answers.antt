@@ -5,4 +5,4 @@ pub kind_into-requires-clause-small : goal.kind_into-requires-clause-small
 kind_into-requires-clause-small c = small_one c.args.kinds.now.weights c.args.kinds.now.grammar c.args.kind c.args.symbol c.requires.small
 
 pub returns : goal.returns
-returns c = code_of_one c.args.kinds.now.weights c.args.kinds.now.grammar c.args.kind c.args.symbol _ _ c.requires.small c.new-derivation.ensures c.in_ok-kind_into.ensures.ok
+returns c = code_of_one c.args.kinds.now.weights c.args.kinds.now.grammar c.args.kind c.args.symbol _ _ c.requires.small c.in_ok-derivation.ensures c.in_ok-kind_into.ensures.ok

@@ -52,33 +52,33 @@ all_into-requires-clause-small c =
     let small = laid_lefts c.args.kinds.now.weights c.args.kinds.now.grammar c.args.tokens.first c.args.tokens.second c.args.at.rule c.args.at.place c.rule-rule.result.now _ (parts (goal.at.all_into-requires-clause-small c).After-right) in
     subst (λ (v : Weighed). HaveSmall v.weights v.grammar c.split_at-parts.result.before.now) (sym c.requires.costs) (subst (HaveSmall c.args.kinds.now.weights c.args.kinds.now.grammar) (sym is) small)
 
-pub kind_into-requires-clause-symbols : goal.kind_into-requires-clause-symbols
-kind_into-requires-clause-symbols c =
+pub kind_onto-requires-clause-symbols : goal.kind_onto-requires-clause-symbols
+kind_onto-requires-clause-symbols c =
     let g = c.args.kinds.now.grammar in
     let is = c.split_at-parts.ensures.symbol (Token 0) ∙ ap (λ (l : List Symbol). get_or l c.args.at.place (Token 0)) c.right.ensures in
-    let within = (parts (goal.at.kind_into-requires-clause-symbols c).After-right).within in
-    let here = symbols (goal.at.kind_into-requires-clause-symbols c).After-right c.args.at.place (Token 0) within in
+    let within = (parts (goal.at.kind_onto-requires-clause-symbols c).After-right).within in
+    let here = symbols (goal.at.kind_onto-requires-clause-symbols c).After-right c.args.at.place (Token 0) within in
     All-cons (IsSymbol g.tokens g.nonterminals) c.split_at-parts.result.symbol [] (subst (IsSymbol g.tokens g.nonterminals) (sym is) here) (All-nil (IsSymbol g.tokens g.nonterminals))
 
-pub kind_into-requires-clause-small : goal.kind_into-requires-clause-small
-kind_into-requires-clause-small c =
+pub kind_onto-requires-clause-small : goal.kind_onto-requires-clause-small
+kind_onto-requires-clause-small c =
     let g = c.args.kinds.now.grammar in
     let is = c.split_at-parts.ensures.symbol (Token 0) ∙ ap (λ (l : List Symbol). get_or l c.args.at.place (Token 0)) c.right.ensures in
-    let small = laid_last c.args.kinds.now.weights g c.args.tokens.first c.args.tokens.second c.args.at.rule c.args.at.place c.rule-rule.result.now _ (parts (goal.at.kind_into-requires-clause-small c).After-right) in
+    let small = laid_last c.args.kinds.now.weights g c.args.tokens.first c.args.tokens.second c.args.at.rule c.args.at.place c.rule-rule.result.now _ (parts (goal.at.kind_onto-requires-clause-small c).After-right) in
     subst (λ x. HaveSmallOfKind c.args.kinds.now.weights g (Ends c.args.tokens.first) (x ∷ [])) (sym is) small
 
-pub kind_into-requires-2-clause-symbols : goal.kind_into-requires-2-clause-symbols
-kind_into-requires-2-clause-symbols c =
+pub kind_onto-requires-2-clause-symbols : goal.kind_onto-requires-2-clause-symbols
+kind_onto-requires-2-clause-symbols c =
     let g = c.args.kinds.now.grammar in
     let is = c.split_at-parts.ensures.behind ∙ ap (λ (l : List Symbol). drop (c.args.at.place + 1) l) c.right.ensures in
     subst (λ (l : List Symbol). All (IsSymbol g.tokens g.nonterminals) l) (sym is)
-    (All-drop (IsSymbol g.tokens g.nonterminals) (c.args.at.place + 1) c.rule-rule.result.now.right (symbols (goal.at.kind_into-requires-2-clause-symbols c).After-right))
+    (All-drop (IsSymbol g.tokens g.nonterminals) (c.args.at.place + 1) c.rule-rule.result.now.right (symbols (goal.at.kind_onto-requires-2-clause-symbols c).After-right))
 
-pub kind_into-requires-2-clause-small : goal.kind_into-requires-2-clause-small
-kind_into-requires-2-clause-small c =
+pub kind_onto-requires-2-clause-small : goal.kind_onto-requires-2-clause-small
+kind_onto-requires-2-clause-small c =
     let g = c.args.kinds.now.grammar in
     let is = c.split_at-parts.ensures.behind ∙ ap (λ (l : List Symbol). drop (c.args.at.place + 1) l) c.right.ensures in
-    let small = laid_rights c.args.kinds.now.weights g c.args.tokens.first c.args.tokens.second c.args.at.rule c.args.at.place c.rule-rule.result.now _ (parts (goal.at.kind_into-requires-2-clause-small c).After-right) in
+    let small = laid_rights c.args.kinds.now.weights g c.args.tokens.first c.args.tokens.second c.args.at.rule c.args.at.place c.rule-rule.result.now _ (parts (goal.at.kind_onto-requires-2-clause-small c).After-right) in
     subst (HaveSmallOfKind c.args.kinds.now.weights g (Begins c.args.tokens.second)) (sym is) small
 
 pub returns : goal.returns
@@ -91,11 +91,11 @@ returns c =
     (subst (λ (v : Weighed). IsAround v.weights v.grammar c.left.result c.in_ok-context.context.before.items c.in_ok-context.context.after.items) c.requires.embeds c.in_ok-context.ensures.chosen) in
     let lefts = subst (λ (l : List Symbol). AppendsAllChosen c.args.kinds.now.weights g l c.push.new.self c.all_into.new.into) before
     (subst (λ (v : Weighed). AppendsAllChosen v.weights v.grammar c.split_at-parts.result.before.now c.push.new.self c.all_into.new.into) c.requires.costs c.in_ok-all_into.ensures.ok) in
-    let last = subst (λ x. AppendsOfKind c.args.kinds.now.weights g (Ends c.args.tokens.first) (x ∷ []) c.all_into.new.into c.kind_into.new.into) symbol c.in_ok-kind_into.ensures.ok in
-    let rights = subst (λ (l : List Symbol). AppendsOfKind c.args.kinds.now.weights g (Begins c.args.tokens.second) l c.kind_into.new.into c.kind_into-2.new.into) behind c.in_ok-kind_into-2.ensures.ok in
+    let last = subst (λ x. AppendsOfKind c.args.kinds.now.weights g (Ends c.args.tokens.first) (x ∷ []) c.all_into.new.into c.kind_onto.new.into) symbol c.in_ok-kind_onto.ensures.ok in
+    let rights = subst (λ (l : List Symbol). AppendsOfKind c.args.kinds.now.weights g (Begins c.args.tokens.second) l c.kind_onto.new.into c.kind_onto-2.new.into) behind c.in_ok-kind_onto-2.ensures.ok in
     laid_code c.args.kinds.now.weights g c.args.tokens.first c.args.tokens.second c.args.at.rule c.args.at.place c.rule-rule.result.now _ (parts (goal.at.returns c).After-right)
-    c.in_ok-context.context.before.items c.in_ok-context.context.after.items c.new-derivation.result c.extend_from_slice.new.self c.push.new.self c.all_into.new.into c.kind_into.new.into c.kind_into-2.new.into c.extend_from_slice-2.new.self
-    around c.new-derivation.ensures
-    (c.in_ok-extend_from_slice.ensures.ok ∙ ap (λ (l : List ℕ). c.new-derivation.result ++ l) c.deref.ensures.value)
+    c.in_ok-context.context.before.items c.in_ok-context.context.after.items c.in_ok-derivation.derivation c.extend_from_slice.new.self c.push.new.self c.all_into.new.into c.kind_onto.new.into c.kind_onto-2.new.into c.extend_from_slice-2.new.self
+    around c.in_ok-derivation.ensures
+    (c.in_ok-extend_from_slice.ensures.ok ∙ ap (λ (l : List ℕ). c.in_ok-derivation.derivation ++ l) c.deref.ensures.value)
     c.in_ok-push.ensures.ok lefts last rights
-    (c.in_ok-extend_from_slice-2.ensures.ok ∙ ap (λ (l : List ℕ). c.kind_into-2.new.into ++ l) c.deref-2.ensures.value)
+    (c.in_ok-extend_from_slice-2.ensures.ok ∙ ap (λ (l : List ℕ). c.kind_onto-2.new.into ++ l) c.deref-2.ensures.value)
