@@ -64,6 +64,10 @@ abbrev pub context_on : List Spot → ℕ → List Goal
 context_on [] r = []
 context_on (spot ∷ others) r = Context spot.outer spot.place r ∷ []
 
+-- what a node with this rule shows, where these are open before it
+abbrev pub goals_on : List Spot → ℕ → List Goal
+goals_on spots r = Rule r ∷ context_on spots r
+
 -- ---- what gets a number where it has none
 
 -- the rules and the contexts of the tree of this code

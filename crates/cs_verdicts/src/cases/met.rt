@@ -1,12 +1,11 @@
 // The goals that a derivation's tree meets, each of which gets a number where it has none.
 
-ghost use Rattle.std.specs.Prelude.{◌≡◌, ◌∷◌, ◌≤◌, OnOk, length, reverse};
+ghost use Rattle.std.specs.Prelude.{◌≡◌, ◌≤◌, OnOk, length, reverse};
 ghost use Rattle.cs_grammar.specs.Leftmost.{IsYield};
 ghost use Rattle.cs_grammar.specs.Stack.{AreOnTop};
 ghost use Rattle.cs_grammar.specs.Tree.{IsDerivationOf};
-ghost use Rattle.cs_goals.specs.declared.goal.Goal.TheVariants.{Rule};
 ghost use Rattle.cs_grammar.specs.declared.symbol.Mark.TheVariants.{Token};
-ghost use Rattle.cs_verdicts.specs.Cases.Met.{AreMetAdded, AreInsideAdded, below, context_on, framed_pairs, pairs_after, spots_from};
+ghost use Rattle.cs_verdicts.specs.Cases.Met.{AreMetAdded, AreInsideAdded, below, framed_pairs, goals_on, pairs_after, spots_from};
 ghost use Rattle.cs_verdicts.specs.Cases.Table.{AreAllAdded, IsGrown};
 
 use crate::cases::firsts::Firsts;
@@ -104,7 +103,7 @@ fn add_node(
 ) -> Result<(), AllocError>
     ensures spots { reverse spots.new.items ≡ below (reverse spots.old.items) }
     ensures added { OnOk result
-        (AreAllAdded firsts.old (Rule rule ∷ context_on (reverse spots.old.items) rule) case firsts.new) }
+        (AreAllAdded firsts.old (goals_on (reverse spots.old.items) rule) case firsts.new) }
     ensures grown { IsGrown firsts.old firsts.new }
 {
     match spots.pop() {
