@@ -4,7 +4,7 @@ use Rattle.std.specs.Prelude.{All, Contains, MatchOption, slice_get}
 use Rattle.std.specs.Global.{Vec}
 use Rattle.std.proofs.lemmas.List.{length-take-le, take_more}
 use Rattle.std.proofs.lemmas.List.Elements.{Contains-push_cases, Contains-get_or}
-use Rattle.std.proofs.lemmas.Option.{slice_get_within, same_Some}
+use Rattle.std.proofs.lemmas.Option.{slice_get_read, slice_get_within, same_Some}
 use Rattle.cs_grammar.specs.declared.symbol.Symbol.{Symbol}
 use Rattle.cs_grammar.specs.declared.symbol.Symbol.TheVariants.{Token, Nonterminal}
 use Rattle.cs_grammar.specs.Grammar.{PlainGrammar, IsGrammar}
@@ -70,6 +70,14 @@ fronts_fit g symbol_of last lists n list are at k d lt =
     let entry = are.entries n f (list, at, Contains-get_or list.items k d lt) in
     let place : f.item.place ≡ entry.0.place + 1 = ap (λ (z : Item). z.place) entry.3 in
     ((are.items n list at k d lt).0, omega arith)
+
+-- a position, and a span of it, as they are read of a chart
+pub span_read : (chart : List Position) (i n : ℕ) (p : Position) (s : Span) → IsChild chart i (Some n) → p ≡ get_or chart i p → s ≡ get_or (get_or chart i p).spans.items n s → (slice_get chart i ≡ Some p) × (slice_get p.spans.items n ≡ Some s)
+span_read chart i n p s child p_is s_is =
+    let at : slice_get chart i ≡ Some p = slice_get_read chart _ i p refl (slice_get_within chart i child.0 child.1) p_is in
+    let size = ap (λ (q : Position). length q.spans.items) (same_Some child.0 p (sym child.1 ∙ at)) in
+    let below = child.2 in
+    (at, slice_get_read p.spans.items _ n s refl (omega arith) (s_is ∙ ap (λ (q : Position). get_or q.spans.items n s) (sym p_is)))
 
 module _ (g : PlainGrammar) (tables : Tables) (tokens : List ℕ) (chart : List Position) (grammar : IsGrammar g) (is_tables : IsTables g tables) (is : IsChart g tables tokens (length tokens + 1) chart) where
   pub front_long : (i : ℕ) (p : Position) → slice_get chart i ≡ Some p → length (take i chart) ≡ i

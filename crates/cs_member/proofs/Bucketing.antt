@@ -1,5 +1,5 @@
 -- Rows in buckets, by what their items await.
-use Rattle.std.proofs.Common.{◌≡◌, ℕ, ◌+◌, ◌<◌, ◌≤◌, inl, inr, List, [], ◌∷◌, ◌++◌, Some, length, refl, sym, ap, ◌∙◌, subst, arith}
+use Rattle.std.proofs.Common.{◌≡◌, ℕ, ◌+◌, ◌<◌, ◌≤◌, inl, inr, List, [], ◌∷◌, ◌++◌, Some, length, get_or, refl, sym, ap, ◌∙◌, subst, arith}
 use Rattle.std.specs.Prelude.{◌↔◌, Contains, slice_get}
 use Rattle.std.specs.Global.{Vec}
 use Rattle.std.proofs.Math.ListN.{length-set}
@@ -16,7 +16,7 @@ use Rattle.cs_member.specs.declared.now.Origins.{Origins}
 use Rattle.cs_member.specs.declared.chart.Row.{Row}
 use Rattle.cs_member.specs.Item.{IsItem, IsNext, over}
 use Rattle.cs_member.specs.Sets.{Has, InWords}
-use Rattle.cs_member.specs.Now.{StandsIn, IsHere}
+use Rattle.cs_member.specs.Now.{AreHere, StandsIn, IsHere}
 use Rattle.cs_member.specs.Adding.{IsAdded}
 use Rattle.cs_member.specs.Chart.{IsRow, BucketOf, bucket_of, IsHeld, AreRows}
 use Rattle.cs_member.proofs.Places.{at_left, at_end, at_push_cases, at_set, at_set_cases}
@@ -113,3 +113,10 @@ here_item g x here =
     let w = here.1 in
     let lt = slice_get_within w.rule.right x.place here.0 w.at in
     record { rule = w.rule; number = w.number; within = omega arith }
+
+-- the item at a place of those that stand here, and its bucket
+pub here_at : (g : PlainGrammar) (origins : List Origins) (k : ℕ) (o : Origins) → AreHere g origins → k < length origins → o ≡ get_or origins k o → IsHere g o.item
+here_at g origins k o here lt is = subst (λ (r : Origins). IsHere g r.item) (sym is) (here k o lt)
+
+pub bucket_at : (g : PlainGrammar) (x : Item) (next : Next) (b : ℕ) → IsGrammar g → IsNext g x next → IsHere g x → b ≡ bucket_of next → BucketOf g b x
+bucket_at g x next b grammar next_is here is = subst (λ n. BucketOf g n x) (sym is) (bucket_next g x next grammar next_is here)

@@ -1,6 +1,6 @@
 -- An item is put, and so it is behind symbols that have empty trees.
-use Rattle.std.proofs.Common.{◌≡◌, ℕ, ◌+◌, ◌<◌, ◌≤◌, inl, inr, List, [], ◌++◌, Option, Some, length, refl, sym, ap, ◌∙◌, subst, arith, append_assoc, append-nil, eqb, eq-eqb, true, false, None}
-use Rattle.std.specs.Prelude.{slice_get}
+use Rattle.std.proofs.Common.{◌≡◌, ◌⊎◌, ℕ, ◌+◌, ◌<◌, ◌≤◌, inl, inr, List, [], ◌++◌, Option, Some, length, refl, sym, ap, ◌∙◌, subst, arith, append_assoc, append-nil, eqb, eq-eqb, true, false, None}
+use Rattle.std.specs.Prelude.{All, slice_get}
 use Rattle.std.specs.Option.{option_eq}
 use Rattle.std.proofs.lemmas.Bool.{cases_eq, false≢true, eqb-true}
 use Rattle.cs_grammar.proofs.Measures.{All-at}
@@ -164,6 +164,18 @@ module _ (g : PlainGrammar) (ahead cause : Option ℕ) (first : Item) (From : �
     are = All-nil AreOf;
   }
 
+  module _ (k : ℕ) (old mid new : Now) (before : IsPutTo g ahead cause first From k old mid) (step : IsStep g ahead cause (at k) From mid new) where
+    stand_then : (x : Item) (j : ℕ) → StandsIn new.origins.items x j → StandsIn old.origins.items x j ⊎ (IsPast g first x × From j)
+    stand_then x j h = elim (step.stand x j h) [
+      | inl was ↦ before.stand x j was
+      | inr now ↦ inr (subst (λ (y : Item). IsPast g first y) now.0 before.past, now.1)
+    ]
+
+    are_then : All AreOf (before.more ++ step.more)
+    are_then =
+        All-append AreOf before.more step.more before.are
+        (all_more (λ s. (s.cause ≡ cause) × From s.from × IsDone g (at k) s.nonterminal) AreOf step.more (λ s h. (h.0, h.1, at k, before.past, h.2)) step.are)
+
   -- one place further
   pub put_step : (k : ℕ) (old mid new : Now) → IsPutTo g ahead cause first From k old mid → IsStep g ahead cause (at k) From mid new → ((n : ℕ) → n ≡ k + 1 → IsPast g first (at n)) → IsPutTo g ahead cause first From (k + 1) old new
   put_step k old mid new before step past = record {
@@ -181,14 +193,10 @@ module _ (g : PlainGrammar) (ahead cause : Option ℕ) (first : Item) (From : �
     ];
     next = λ was. step.next (before.next was);
     stood = λ x j h. step.stood x j (before.stood x j h);
-    stand = λ x j h. elim (step.stand x j h) [
-      | inl was ↦ before.stand x j was
-      | inr now ↦ inr (subst (λ (y : Item). IsPast g first y) now.0 before.past, now.1)
-    ];
+    stand = stand_then k old mid new before step;
     more = before.more ++ step.more;
     grown = step.grown ∙ (ap (λ (l : List Span). l ++ step.more) before.grown ∙ append_assoc old.spans.items before.more step.more);
-    are = All-append AreOf before.more step.more before.are
-        (all_more (λ s. (s.cause ≡ cause) × From s.from × IsDone g (at k) s.nonterminal) AreOf step.more (λ s h. (h.0, h.1, at k, before.past, h.2)) step.are);
+    are = are_then k old mid new before step;
   }
 
   -- the last place
@@ -209,14 +217,10 @@ module _ (g : PlainGrammar) (ahead cause : Option ℕ) (first : Item) (From : �
       next = step.next (before.next passed.next);
     };
     stood = λ x j h. step.stood x j (before.stood x j h);
-    stand = λ x j h. elim (step.stand x j h) [
-      | inl was ↦ before.stand x j was
-      | inr now ↦ inr (subst (λ (y : Item). IsPast g first y) now.0 before.past, now.1)
-    ];
+    stand = stand_then k old mid new before step;
     more = before.more ++ step.more;
     grown = step.grown ∙ (ap (λ (l : List Span). l ++ step.more) before.grown ∙ append_assoc old.spans.items before.more step.more);
-    are = All-append AreOf before.more step.more before.are
-        (all_more (λ s. (s.cause ≡ cause) × From s.from × IsDone g (at k) s.nonterminal) AreOf step.more (λ s h. (h.0, h.1, at k, before.past, h.2)) step.are);
+    are = are_then k old mid new before step;
   }
 
   pub past_more : (k b : ℕ) → IsPast g first (at k) → Awaits g (at k) (Nonterminal b) → IsEmpty g b → (n : ℕ) → n ≡ k + 1 → IsPast g first (at n)

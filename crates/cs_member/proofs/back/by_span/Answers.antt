@@ -1,4 +1,4 @@
-use Rattle.std.proofs.Common.{◌≡◌, ◌<◌, get_or, List, Some, length, take, refl, sym, ap, ◌∙◌, subst, arith}
+use Rattle.std.proofs.Common.{◌≡◌, ◌<◌, List, Some, length, take, refl, sym, ap, ◌∙◌, subst, arith}
 use Rattle.std.specs.Prelude.{All, MatchOption, slice_get}
 use Rattle.std.proofs.lemmas.Option.{slice_get_read, slice_get_within, same_Some}
 use Rattle.cs_grammar.specs.declared.symbol.Symbol.TheVariants.{Nonterminal}
@@ -8,143 +8,83 @@ use Rattle.cs_member.specs.declared.chart.Position.{Position}
 use Rattle.cs_member.specs.declared.now.Span.{Span}
 use Rattle.cs_member.specs.Item.{IsItem}
 use Rattle.cs_member.specs.Chart.{IsSpan, OfSpan}
-use Rattle.cs_member.specs.Back.{NoneLeads, OfSymbol, IsBefore, IsBehind, IsChild, IsFound}
-use Rattle.cs_member.proofs.Backing.{match_both, fronts_fit, position_at, span_at, span_back, span_none}
+use Rattle.cs_member.specs.Back.{NoneLeads, OfSymbol, IsBefore, IsBehind, IsFound}
+use Rattle.cs_member.proofs.Backing.{match_both, fronts_fit, position_at, span_at, span_back, span_none, span_read}
 use Rattle.cs_member.proofs.back.by_span.Goals as goal
+use Rattle.cs_member.proofs.back.by_span.Goals.{After-index-chart-span, After-index-fronts, After-index-span}
+
+-- the position of the span, and the span
+read : (c : After-index-span) → (slice_get c.args.chart.now c.args.at ≡ Some c.index-chart-at.result) × (slice_get c.index-chart-at.result.spans.items c.args.number ≡ Some c.index-span.result.now)
+read c = span_read c.args.chart.now c.args.at c.args.number c.index-chart-at.result c.index-span.result.now c.requires.child c.index-chart-at.is c.index-span.ensures
+
+fits : (c : After-index-span) → IsSpan c.args.question.now.grammar.now c.args.at c.index-span.result.now
+fits c =
+    let q = c.args.question.now in
+    let at = read c in
+    span_at q.grammar.now q.tables.now q.tokens.now c.args.chart.now c.rules-well_formed.ensures.well_formed c.requires.tables c.requires.chart c.args.at c.args.number c.index-chart-at.result c.index-span.result.now at.0 at.1
+
+-- the span begins at a position of the chart
+within : (c : After-index-span) → c.index-span.result.now.from < length c.args.chart.now
+within c =
+    let from = (fits c).from in
+    let at = slice_get_within c.args.chart.now c.args.at c.index-chart-at.result (read c).0 in
+    omega arith
 
 pub index-fronts-requires : goal.index-fronts-requires
 index-fronts-requires c =
-    let q = c.args.question.now in
-    let g = q.grammar.now in
-    let chart = c.args.chart.now in
-    let grammar = c.rules-well_formed.ensures.well_formed in
-    let s = c.index-span.result.now in
-    let child : IsChild chart c.args.at (Some c.args.number) = c.requires.child in
-    let here = c.index-chart-at.result in
-    let inside = slice_get_within chart c.args.at child.0 child.1 in
-    let at_here : slice_get chart c.args.at ≡ Some here = slice_get_read chart _ c.args.at here refl inside c.index-chart-at.is in
-    let one : child.0 ≡ here = same_Some child.0 here (sym child.1 ∙ at_here) in
-    let many = ap (λ (p : Position). length p.spans.items) one in
-    let below = child.2 in
-    let at_s : slice_get here.spans.items c.args.number ≡ Some s = slice_get_read here.spans.items _ c.args.number s refl (omega arith) (c.index-span.ensures ∙ ap (λ (p : Position). get_or p.spans.items c.args.number s) (sym c.index-chart-at.is)) in
-    let fits : IsSpan g c.args.at s = span_at g q.tables.now q.tokens.now chart grammar c.requires.tables c.requires.chart c.args.at c.args.number here s at_here at_s in
-    let from = fits.from in
-    let low = fits.nonterminal in
+    let low = (fits (goal.at.index-fronts-requires c).After-index-span).nonterminal in
     let size = c.requires.tables.question.nonterminals.size in
-    let long = q.tables.now.nonterminals.ok.0 in
+    let long = c.args.question.now.tables.now.nonterminals.ok.0 in
     omega arith
 
 pub bounds-chart-span : goal.bounds-chart-span
-bounds-chart-span c =
-    let q = c.args.question.now in
-    let g = q.grammar.now in
-    let chart = c.args.chart.now in
-    let grammar = c.rules-well_formed.ensures.well_formed in
-    let s = c.index-span.result.now in
-    let child : IsChild chart c.args.at (Some c.args.number) = c.requires.child in
-    let here = c.index-chart-at.result in
-    let inside = slice_get_within chart c.args.at child.0 child.1 in
-    let at_here : slice_get chart c.args.at ≡ Some here = slice_get_read chart _ c.args.at here refl inside c.index-chart-at.is in
-    let one : child.0 ≡ here = same_Some child.0 here (sym child.1 ∙ at_here) in
-    let many = ap (λ (p : Position). length p.spans.items) one in
-    let below = child.2 in
-    let at_s : slice_get here.spans.items c.args.number ≡ Some s = slice_get_read here.spans.items _ c.args.number s refl (omega arith) (c.index-span.ensures ∙ ap (λ (p : Position). get_or p.spans.items c.args.number s) (sym c.index-chart-at.is)) in
-    let fits : IsSpan g c.args.at s = span_at g q.tables.now q.tokens.now chart grammar c.requires.tables c.requires.chart c.args.at c.args.number here s at_here at_s in
-    let from = fits.from in
-    let low = fits.nonterminal in
-    let size = c.requires.tables.question.nonterminals.size in
-    omega arith
+bounds-chart-span c = within (goal.at.bounds-chart-span c).After-index-span
+
+-- the position where the span begins
+begun : (c : After-index-chart-span) → c.index-span.result.now.from < length c.args.chart.now → slice_get c.args.chart.now c.index-span.result.now.from ≡ Some c.index-chart-span.result
+begun c lt = slice_get_read c.args.chart.now _ c.index-span.result.now.from c.index-chart-span.result refl lt c.index-chart-span.is
 
 pub find_at-requires-clause-position : goal.find_at-requires-clause-position
 find_at-requires-clause-position c =
     let q = c.args.question.now in
-    let g = q.grammar.now in
-    let chart = c.args.chart.now in
-    let grammar = c.rules-well_formed.ensures.well_formed in
-    let s = c.index-span.result.now in
-    let child : IsChild chart c.args.at (Some c.args.number) = c.requires.child in
-    let here = c.index-chart-at.result in
-    let inside = slice_get_within chart c.args.at child.0 child.1 in
-    let at_here : slice_get chart c.args.at ≡ Some here = slice_get_read chart _ c.args.at here refl inside c.index-chart-at.is in
-    let one : child.0 ≡ here = same_Some child.0 here (sym child.1 ∙ at_here) in
-    let many = ap (λ (p : Position). length p.spans.items) one in
-    let below = child.2 in
-    let at_s : slice_get here.spans.items c.args.number ≡ Some s = slice_get_read here.spans.items _ c.args.number s refl (omega arith) (c.index-span.ensures ∙ ap (λ (p : Position). get_or p.spans.items c.args.number s) (sym c.index-chart-at.is)) in
-    let fits : IsSpan g c.args.at s = span_at g q.tables.now q.tokens.now chart grammar c.requires.tables c.requires.chart c.args.at c.args.number here s at_here at_s in
-    let from = fits.from in
-    let low = fits.nonterminal in
-    let size = c.requires.tables.question.nonterminals.size in
-    let p = c.index-chart-span.result in
-    let at : slice_get chart s.from ≡ Some p = slice_get_read chart _ s.from p refl (omega arith) c.index-chart-span.is in
-    position_at g q.tables.now q.tokens.now chart grammar c.requires.tables c.requires.chart s.from p at
+    let at = goal.at.find_at-requires-clause-position c in
+    position_at q.grammar.now q.tables.now q.tokens.now c.args.chart.now c.rules-well_formed.ensures.well_formed c.requires.tables c.requires.chart c.index-span.result.now.from c.index-chart-span.result
+    (begun at.After-index-chart-span (within at.After-index-span))
 
 pub find_at-requires-clause-bucket : goal.find_at-requires-clause-bucket
-find_at-requires-clause-bucket c =
-    let q = c.args.question.now in
-    let g = q.grammar.now in
-    let chart = c.args.chart.now in
-    let grammar = c.rules-well_formed.ensures.well_formed in
-    let s = c.index-span.result.now in
-    let child : IsChild chart c.args.at (Some c.args.number) = c.requires.child in
-    let here = c.index-chart-at.result in
-    let inside = slice_get_within chart c.args.at child.0 child.1 in
-    let at_here : slice_get chart c.args.at ≡ Some here = slice_get_read chart _ c.args.at here refl inside c.index-chart-at.is in
-    let one : child.0 ≡ here = same_Some child.0 here (sym child.1 ∙ at_here) in
-    let many = ap (λ (p : Position). length p.spans.items) one in
-    let below = child.2 in
-    let at_s : slice_get here.spans.items c.args.number ≡ Some s = slice_get_read here.spans.items _ c.args.number s refl (omega arith) (c.index-span.ensures ∙ ap (λ (p : Position). get_or p.spans.items c.args.number s) (sym c.index-chart-at.is)) in
-    let fits : IsSpan g c.args.at s = span_at g q.tables.now q.tokens.now chart grammar c.requires.tables c.requires.chart c.args.at c.args.number here s at_here at_s in
-    let from = fits.from in
-    let low = fits.nonterminal in
+find_at-requires-clause-bucket c = (fits (goal.at.find_at-requires-clause-bucket c).After-index-span).nonterminal
+
+-- the fronts of its nonterminal
+listed : (c : After-index-fronts) → IsSpan c.args.question.now.grammar.now c.args.at c.index-span.result.now
+    → slice_get c.args.question.now.tables.now.nonterminals.items c.index-span.result.now.nonterminal ≡ Some c.index-fronts.result.now
+listed c span =
+    let low = span.nonterminal in
     let size = c.requires.tables.question.nonterminals.size in
-    low
+    slice_get_read c.args.question.now.tables.now.nonterminals.items _ c.index-span.result.now.nonterminal c.index-fronts.result.now refl (omega arith) c.index-fronts.ensures
 
 pub find_at-requires-clause-fronts : goal.find_at-requires-clause-fronts
 find_at-requires-clause-fronts c =
+    let at = goal.at.find_at-requires-clause-fronts c in
     let q = c.args.question.now in
     let g = q.grammar.now in
-    let chart = c.args.chart.now in
-    let grammar = c.rules-well_formed.ensures.well_formed in
-    let s = c.index-span.result.now in
-    let child : IsChild chart c.args.at (Some c.args.number) = c.requires.child in
-    let here = c.index-chart-at.result in
-    let inside = slice_get_within chart c.args.at child.0 child.1 in
-    let at_here : slice_get chart c.args.at ≡ Some here = slice_get_read chart _ c.args.at here refl inside c.index-chart-at.is in
-    let one : child.0 ≡ here = same_Some child.0 here (sym child.1 ∙ at_here) in
-    let many = ap (λ (p : Position). length p.spans.items) one in
-    let below = child.2 in
-    let at_s : slice_get here.spans.items c.args.number ≡ Some s = slice_get_read here.spans.items _ c.args.number s refl (omega arith) (c.index-span.ensures ∙ ap (λ (p : Position). get_or p.spans.items c.args.number s) (sym c.index-chart-at.is)) in
-    let fits : IsSpan g c.args.at s = span_at g q.tables.now q.tokens.now chart grammar c.requires.tables c.requires.chart c.args.at c.args.number here s at_here at_s in
-    let from = fits.from in
-    let low = fits.nonterminal in
-    let size = c.requires.tables.question.nonterminals.size in
-    let list = c.index-fronts.result.now in
-    let at_list : slice_get q.tables.now.nonterminals.items s.nonterminal ≡ Some list = slice_get_read q.tables.now.nonterminals.items _ s.nonterminal list refl (omega arith) c.index-fronts.ensures in
-    subst (λ (l : List Front). All (λ f. IsItem g f.item × (0 < f.item.place)) l) (sym c.deref.ensures.value) (fronts_fit g Nonterminal g.nonterminals q.tables.now.nonterminals.items s.nonterminal list c.requires.tables.question.nonterminals at_list)
+    subst (λ (l : List Front). All (λ f. IsItem g f.item × (0 < f.item.place)) l) (sym c.deref.ensures.value)
+    (fronts_fit g Nonterminal g.nonterminals q.tables.now.nonterminals.items c.index-span.result.now.nonterminal c.index-fronts.result.now c.requires.tables.question.nonterminals (listed at.After-index-fronts (fits at.After-index-span)))
 
 pub returns : goal.returns
 returns c = λ r u at_r at_u.
+    let was = goal.at.returns c in
     let q = c.args.question.now in
     let g = q.grammar.now in
     let chart = c.args.chart.now in
     let grammar = c.rules-well_formed.ensures.well_formed in
     let s = c.index-span.result.now in
-    let child : IsChild chart c.args.at (Some c.args.number) = c.requires.child in
     let here = c.index-chart-at.result in
-    let inside = slice_get_within chart c.args.at child.0 child.1 in
-    let at_here : slice_get chart c.args.at ≡ Some here = slice_get_read chart _ c.args.at here refl inside c.index-chart-at.is in
-    let one : child.0 ≡ here = same_Some child.0 here (sym child.1 ∙ at_here) in
-    let many = ap (λ (p : Position). length p.spans.items) one in
-    let below = child.2 in
-    let at_s : slice_get here.spans.items c.args.number ≡ Some s = slice_get_read here.spans.items _ c.args.number s refl (omega arith) (c.index-span.ensures ∙ ap (λ (p : Position). get_or p.spans.items c.args.number s) (sym c.index-chart-at.is)) in
-    let fits : IsSpan g c.args.at s = span_at g q.tables.now q.tokens.now chart grammar c.requires.tables c.requires.chart c.args.at c.args.number here s at_here at_s in
-    let from = fits.from in
-    let low = fits.nonterminal in
-    let size = c.requires.tables.question.nonterminals.size in
+    let at_here = (read was.After-index-span).0 in
+    let at_s = (read was.After-index-span).1 in
     let p = c.index-chart-span.result in
-    let at : slice_get chart s.from ≡ Some p = slice_get_read chart _ s.from p refl (omega arith) c.index-chart-span.is in
+    let at = begun was.After-index-chart-span (within was.After-index-span) in
     let list = c.index-fronts.result.now in
-    let at_list : slice_get q.tables.now.nonterminals.items s.nonterminal ≡ Some list = slice_get_read q.tables.now.nonterminals.items _ s.nonterminal list refl (omega arith) c.index-fronts.ensures in
+    let at_list = listed was.After-index-fronts (fits was.After-index-span) in
     let same_p : r ≡ here = same_Some r here (sym at_r ∙ at_here) in
     let same_s : s ≡ u = same_Some s u (sym at_s ∙ (ap (λ (x : Position). slice_get x.spans.items c.args.number) (sym same_p) ∙ at_u)) in
     match_both c.find_at.result

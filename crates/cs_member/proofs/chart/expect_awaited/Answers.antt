@@ -2,10 +2,8 @@ use Rattle.std.proofs.Common.{[], List, sym, subst, arith}
 use Rattle.std.proofs.lemmas.List.{take_all}
 use Rattle.std.proofs.lemmas.Option.{slice_get_within}
 use Rattle.cs_member.specs.declared.now.Origins.{Origins}
-use Rattle.cs_member.specs.Now.{IsHere}
-use Rattle.cs_member.specs.Chart.{BucketOf}
 use Rattle.cs_member.specs.Expecting.{AreAwaited}
-use Rattle.cs_member.proofs.Bucketing.{bucket_next, bucket_within, here_item}
+use Rattle.cs_member.proofs.Bucketing.{bucket_at, bucket_within, here_at, here_item}
 use Rattle.cs_member.proofs.Marking.{awaited_more}
 use Rattle.cs_member.proofs.chart.expect_awaited.Goals as goal
 
@@ -19,11 +17,7 @@ loop-origin-init c = record {
 pub next_of-requires : goal.next_of-requires
 next_of-requires c =
     let g = c.args.question.now.grammar.now in
-    let origins = c.args.origins.now in
-    let k = c.loop-origin.origin-index in
-    let o = c.origin-item.result in
-    let here : IsHere g o.item = subst (λ (r : Origins). IsHere g r.item) (sym c.origin-item.is) (c.requires.here k o c.loop-origin-test.true) in
-    here_item g o.item here
+    here_item g c.origin-item.result.item (here_at g c.args.origins.now c.loop-origin.origin-index c.origin-item.result c.requires.here c.loop-origin-test.true c.origin-item.is)
 
 pub expect-requires-clause-nonterminal : goal.expect-requires-clause-nonterminal
 expect-requires-clause-nonterminal c =
@@ -31,9 +25,9 @@ expect-requires-clause-nonterminal c =
     let origins = c.args.origins.now in
     let k = c.loop-origin.origin-index in
     let o = c.origin-item.result in
-    let here : IsHere g o.item = subst (λ (r : Origins). IsHere g r.item) (sym c.origin-item.is) (c.requires.here k o c.loop-origin-test.true) in
+    let here = here_at g origins k o c.requires.here c.loop-origin-test.true c.origin-item.is in
     let grammar = c.rules-well_formed.ensures.well_formed in
-    let bucket : BucketOf g c.awaited-nonterminal.result o.item = subst (λ n. BucketOf g n o.item) (sym c.awaited-nonterminal.ensures) (bucket_next g o.item c.next_of.result grammar c.next_of.ensures here) in
+    let bucket = bucket_at g o.item c.next_of.result c.awaited-nonterminal.result grammar c.next_of.ensures here c.awaited-nonterminal.ensures in
     let low = bucket_within g c.awaited-nonterminal.result o.item grammar bucket in
     low
 
@@ -43,9 +37,9 @@ loop-origin-preserved c =
     let origins = c.args.origins.now in
     let k = c.loop-origin.origin-index in
     let o = c.origin-item.result in
-    let here : IsHere g o.item = subst (λ (r : Origins). IsHere g r.item) (sym c.origin-item.is) (c.requires.here k o c.loop-origin-test.true) in
+    let here = here_at g origins k o c.requires.here c.loop-origin-test.true c.origin-item.is in
     let grammar = c.rules-well_formed.ensures.well_formed in
-    let bucket : BucketOf g c.awaited-nonterminal.result o.item = subst (λ n. BucketOf g n o.item) (sym c.awaited-nonterminal.ensures) (bucket_next g o.item c.next_of.result grammar c.next_of.ensures here) in
+    let bucket = bucket_at g o.item c.next_of.result c.awaited-nonterminal.result grammar c.next_of.ensures here c.awaited-nonterminal.ensures in
     let said = c.in_ok-expect.ensures in
     let inv = c.loop-origin.invariant in
     record {

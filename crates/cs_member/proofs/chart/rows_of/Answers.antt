@@ -5,9 +5,8 @@ use Rattle.cs_member.specs.Buckets.{rows_in}
 use Rattle.cs_member.specs.declared.now.Origins.{Origins}
 use Rattle.cs_member.specs.declared.chart.Row.{Row}
 use Rattle.cs_member.specs.Sets.{Has, InWords}
-use Rattle.cs_member.specs.Now.{IsHere}
-use Rattle.cs_member.specs.Chart.{BucketOf, AreRows}
-use Rattle.cs_member.proofs.Bucketing.{bucket_next, bucket_within, here_item, moved, rows_push, rows_none}
+use Rattle.cs_member.specs.Chart.{AreRows}
+use Rattle.cs_member.proofs.Bucketing.{bucket_at, bucket_within, here_at, here_item, moved, rows_push, rows_none}
 use Rattle.cs_member.proofs.chart.rows_of.Goals as goal
 
 pub loop-origin-init : goal.loop-origin-init
@@ -19,11 +18,7 @@ loop-origin-init c = record {
 pub next_of-requires : goal.next_of-requires
 next_of-requires c =
     let g = c.args.question.now.grammar.now in
-    let origins = c.args.origins.now in
-    let k = c.loop-origin.origin-index in
-    let o = c.origin-item.result in
-    let here : IsHere g o.item = subst (λ (r : Origins). IsHere g r.item) (sym c.origin-item.is) (c.requires.here k o c.loop-origin-test.true) in
-    here_item g o.item here
+    here_item g c.origin-item.result.item (here_at g c.args.origins.now c.loop-origin.origin-index c.origin-item.result c.requires.here c.loop-origin-test.true c.origin-item.is)
 
 pub add-requires-clause-number : goal.add-requires-clause-number
 add-requires-clause-number c =
@@ -31,9 +26,9 @@ add-requires-clause-number c =
     let origins = c.args.origins.now in
     let k = c.loop-origin.origin-index in
     let o = c.origin-item.result in
-    let here : IsHere g o.item = subst (λ (r : Origins). IsHere g r.item) (sym c.origin-item.is) (c.requires.here k o c.loop-origin-test.true) in
+    let here = here_at g origins k o c.requires.here c.loop-origin-test.true c.origin-item.is in
     let grammar = c.rules-well_formed.ensures.well_formed in
-    let bucket : BucketOf g c.awaited-bucket.result o.item = subst (λ n. BucketOf g n o.item) (sym c.awaited-bucket.ensures) (bucket_next g o.item c.next_of.result grammar c.next_of.ensures here) in
+    let bucket = bucket_at g o.item c.next_of.result c.awaited-bucket.result grammar c.next_of.ensures here c.awaited-bucket.ensures in
     let low = bucket_within g c.awaited-bucket.result o.item grammar bucket in
     let size = c.loop-origin.invariant.rows.size in
     omega arith
@@ -44,9 +39,9 @@ loop-origin-preserved c =
     let origins = c.args.origins.now in
     let k = c.loop-origin.origin-index in
     let o = c.origin-item.result in
-    let here : IsHere g o.item = subst (λ (r : Origins). IsHere g r.item) (sym c.origin-item.is) (c.requires.here k o c.loop-origin-test.true) in
+    let here = here_at g origins k o c.requires.here c.loop-origin-test.true c.origin-item.is in
     let grammar = c.rules-well_formed.ensures.well_formed in
-    let bucket : BucketOf g c.awaited-bucket.result o.item = subst (λ n. BucketOf g n o.item) (sym c.awaited-bucket.ensures) (bucket_next g o.item c.next_of.result grammar c.next_of.ensures here) in
+    let bucket = bucket_at g o.item c.next_of.result c.awaited-bucket.result grammar c.next_of.ensures here c.awaited-bucket.ensures in
     let row : Row = record { item = o.item; words = c.in_ok-words.words } in
     let can = moved g o.item grammar here in
     let more : take (k + 1) origins ≡ take k origins ++ o ∷ [] = take_more origins k o c.loop-origin-test.true ∙ ap (λ (r : Origins). take k origins ++ r ∷ []) (sym c.origin-item.is) in
