@@ -1,13 +1,13 @@
 -- Chains that were counted, and their lines.
-use Rattle.std.proofs.Common.{◌≡◌, ◌≤◌, ◌<◌, ℕ, ◌+◌, Bool, List, [], ◌∷◌, ◌++◌, length, length-append, take, get_or, sym, ap, ◌∙◌, subst, arith, cond, append_assoc, Option}
-use Rattle.std.specs.Prelude.{All, codes}
+use Rattle.std.proofs.Common.{◌≡◌, ◌≤◌, ◌<◌, ℕ, ◌+◌, Bool, List, [], ◌∷◌, ◌++◌, length, length-append, take, get_or, sym, ap, ◌∙◌, subst, arith, cond, Option}
+use Rattle.std.specs.Prelude.{codes}
 use Rattle.std.proofs.lemmas.List.{append-nil, take_more, length-take-le}
 use Rattle.std.proofs.lemmas.List.Sums.{count_by-le-length, sum_by-append}
-use Rattle.std.proofs.lemmas.List.Elements.{All-get_or}
 use Rattle.cs_verdicts.specs.declared.positive.verdict.Verdict.{Verdict}
 use Rattle.cs_texts.specs.Rendering.Rendering.{Rendering}
 use Rattle.cs_yacc.specs.Reading.File.{File}
 use Rattle.cs_manifest.specs.Manifest.Lines.{is_feasible, is_infeasible, is_large, numbered_word}
+use Rattle.cs_manifest.proofs.OnOutput.Numbered.{numbered_both}
 use Rattle.cs_manifest.specs.Output.Words.{line, numbered_from}
 use Rattle.cs_chain.specs.declared.chains.chain.Chain.{Chain}
 use Rattle.cs_chain.specs.declared.judging.verdict.ChainVerdict.{ChainVerdict}
@@ -69,18 +69,6 @@ room_within es i a b within can counted =
     }
 
 -- ---- lines
-
--- the lines of two lists, one behind the other
-numbered_both : {A : Type 0} (f : ℕ → A → List ℕ) (n : ℕ) (xs ys : List A) → numbered_from n f (xs ++ ys) ≡ numbered_from n f xs ++ numbered_from (n + length xs) f ys
-numbered_both f n [] ys = let e : n ≡ n + 0 = omega arith in ap (λ (k : ℕ). numbered_from k f ys) e
-numbered_both {A} f n (x ∷ xs) ys =
-    let e : n + 1 + length xs ≡ n + length (x ∷ xs) = omega arith in
-    ap (λ (l : List ℕ). f n x ++ l) (numbered_both f (n + 1) xs ys ∙ ap (λ (k : ℕ). numbered_from (n + 1) f xs ++ numbered_from k f ys) e)
-    ∙ sym (append_assoc (f n x) (numbered_from (n + 1) f xs) (numbered_from (n + length (x ∷ xs)) f ys))
-
--- what holds of each holds of the one at a place
-pub at_place : {A : Type 0} (P : A → Type 0) (list : List A) (i : ℕ) (x : A) → i < length list → x ≡ get_or list i x → All P list → P x
-at_place P list i x within is all = subst P (sym is) (All-get_or P list i x within all)
 
 module _ (file : File) where
   -- the lines of two lists of entries, one behind the other

@@ -2,10 +2,7 @@
 
 ghost use Rattle.std.specs.Prelude.{All, length, option_map};
 ghost use Rattle.cs_io.specs.Lines.{Writes};
-ghost use Rattle.cs_manifest.specs.Manifest.Below.{texts_below};
-ghost use Rattle.cs_manifest.specs.Manifest.Entry.{rendering_of};
 ghost use Rattle.cs_manifest.specs.Manifest.Lines.{table_lines};
-ghost use Rattle.cs_manifest.specs.Manifest.Named.{AreNamedRenderings};
 ghost use Rattle.cs_manifest.specs.Output.Names.{AreNamedTokens};
 ghost use Rattle.cs_manifest.specs.Output.Putting.{Puts};
 ghost use Rattle.cs_yacc.specs.Reading.File.{File};
@@ -17,9 +14,10 @@ use crate::tally::Tally;
 use cs_chain::{Chain, ChainVerdict};
 use cs_io::{Sink, SinkError};
 use cs_manifest::{
-    LINE_LENGTH, Output, put_count, put_derivation, put_file, put_lexemes, put_rendered, put_yield,
+    LINE_LENGTH, Output, put_count, put_derivation, put_file, put_lexemes, put_text_lines,
+    put_yield,
 };
-use cs_texts::{RenderWork, Rendered};
+use cs_texts::RenderWork;
 use cs_yacc::YaccFile;
 
 /// Writes the head.
@@ -95,7 +93,7 @@ fn put_entry<S: Sink>(output: &mut Output<'_, S>, file: &YaccFile, number: u64, 
     put_count(output, b"goal ", number);
     put_chain(output, told.chain);
     put_verdict(output, file, &told.verdict, &told.tokens);
-    put_text(output, file, told.rendered.as_ref());
+    put_text_lines(output, file, told.rendered.as_ref());
 }
 
 fn put_chain<S: Sink>(output: &mut Output<'_, S>, chain: Chain)
@@ -127,18 +125,6 @@ fn put_verdict<S: Sink>(
             put_derivation(output, derivation.rules());
             put_yield(output, file, tokens);
         }
-    }
-}
-
-// Puts the newline, and what came of the rendering.
-fn put_text<S: Sink>(output: &mut Output<'_, S>, file: &YaccFile, rendered: Option<&Rendered>)
-    requires { AreNamedRenderings file.now (rendering_of rendered) }
-    ensures { Puts S.Sink (texts_below file.now (rendering_of rendered.entry))
-        output.old output.new }
-{
-    match rendered {
-        None => output.put(b"\n"),
-        Some(rendered) => put_rendered(output, file, rendered.parts()),
     }
 }
 

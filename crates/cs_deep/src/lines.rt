@@ -6,29 +6,23 @@ ghost use Rattle.cs_deep.specs.Lines.{CanCount, IsNamedEntry, PutsEdits, WritesE
 ghost use Rattle.cs_deep.specs.Lines.{end_with, lines_if_outside};
 ghost use Rattle.cs_deep.specs.Tally.{IsCounted};
 ghost use Rattle.cs_io.specs.Lines.{Writes};
-ghost use Rattle.cs_manifest.specs.Manifest.Below.{texts_below};
-ghost use Rattle.cs_manifest.specs.Manifest.Entry.{rendering_of};
 ghost use Rattle.cs_manifest.specs.Manifest.Lines.{base_line};
-ghost use Rattle.cs_manifest.specs.Manifest.Named.{AreNamedRenderings};
 ghost use Rattle.cs_manifest.specs.Output.Putting.{Puts};
 ghost use Rattle.cs_manifest.specs.Output.Words as words;
 
 use crate::judging::Judged;
 use crate::tally::Tally;
 use cs_io::{Sink, SinkError};
-use cs_manifest::{LINE_LENGTH, Output, put_count, put_edit, put_rendered, put_yield};
-use cs_texts::Rendered;
+use cs_manifest::{
+    LINE_LENGTH, Output, put_count, put_edit, put_text_lines, put_yield, write_line,
+};
 use cs_yacc::YaccFile;
 
 /// Writes the head.
 pub(crate) fn write_head<S: Sink>(sink: &mut S) -> Result<(), SinkError>
     ensures { Writes S.Sink result (words.line (codes "conform deep")) sink.old sink.new }
 {
-    let mut line = [0u8; LINE_LENGTH];
-    let mut output = Output::new(sink, &mut line, 0);
-    output.put(b"conform deep\n");
-    output.end()?;
-    Ok(())
+    write_line(sink, b"conform deep\n")
 }
 
 /// Writes `base B goal N`.
@@ -117,18 +111,7 @@ fn put_deep<S: Sink>(
     put_count(output, b" base ", base as u64);
     put_edit(output, file, judged.edit);
     put_yield(output, file, &judged.tokens);
-    put_text(output, file, judged.rendered.as_ref());
-}
-
-fn put_text<S: Sink>(output: &mut Output<'_, S>, file: &YaccFile, rendered: Option<&Rendered>)
-    requires { AreNamedRenderings file.now (rendering_of rendered) }
-    ensures { Puts S.Sink (texts_below file.now (rendering_of rendered.entry))
-        output.old output.new }
-{
-    match rendered {
-        None => output.put(b"\n"),
-        Some(rendered) => put_rendered(output, file, rendered.parts()),
-    }
+    put_text_lines(output, file, judged.rendered.as_ref());
 }
 
 /// Writes the end line.

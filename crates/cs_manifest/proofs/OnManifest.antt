@@ -9,3 +9,4 @@ pub mod Bases
 pub mod SomeManifest
 pub mod Holes
 pub mod Rendered
+pub mod Lent

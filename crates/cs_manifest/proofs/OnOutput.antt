@@ -3,3 +3,5 @@ pub mod Pieces
 pub mod Runs
 pub mod Written
 pub mod Lines
+pub mod Growing
+pub mod Numbered

@@ -31,10 +31,10 @@ mod output;
 pub use manifest::{
     Counts, Entry, FilledNegative, Form, Head, Manifest, NumberedNegative, OpenEdit, OpenLines,
     OpenNegative, OpenPair, SharedVerdict, TokenPieces, few_negatives, one_manifest, one_text,
-    put_count, put_derivation, put_edit, put_file, put_lexemes, put_names, put_rendered, put_yield,
-    some_manifest,
+    put_count, put_derivation, put_edit, put_file, put_lexemes, put_names, put_rendered,
+    put_text_lines, put_yield, some_manifest,
 };
 pub use output::{
     LINE_LENGTH, Numeral, Output, Piece, put_quoted, put_spaced_mark, put_spaced_token, put_symbol,
-    put_text_bytes, put_token_name, spelled_piece,
+    put_text_bytes, put_token_name, spelled_piece, write_line,
 };

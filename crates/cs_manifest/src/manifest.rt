@@ -31,6 +31,8 @@ pub use head::{Form, Head};
 pub use laws::{few_negatives, one_manifest, one_text, some_manifest};
 pub use manifest::Manifest;
 pub use open::{OpenEdit, OpenLines, OpenNegative, OpenPair};
-pub use put_entry::{put_count, put_derivation, put_edit, put_names, put_rendered, put_yield};
+pub use put_entry::{
+    put_count, put_derivation, put_edit, put_names, put_rendered, put_text_lines, put_yield,
+};
 pub use put_head::{put_file, put_lexemes};
 pub use token_pieces::TokenPieces;

@@ -6,18 +6,20 @@
 //! no memory.
 //!
 //! A [`Numeral`] counts up and keeps its digits. A [`Piece`] has bytes that are put often. A [`Speller`] lends an output whose
-//! sink is memory, so that what is put there can be kept as a piece.
+//! sink is memory, so that what is put there can be kept as a piece. A line that stands alone is written by [`write_line`].
 //!
 //! All files of `specs/Output/` are meaning: `Putting` (what a text that was put did to an output and its sink), `Words` (words, lines
 //! and escapes), `Names` (the names of symbols and marks, and which numbers have one), `Spelled` (pieces that are spelled in
 //! memory).
 
+mod line;
 mod names;
 mod numeral;
 mod output;
 mod piece;
 mod speller;
 
+pub use line::write_line;
 pub use names::{
     put_nonterminal, put_quoted, put_spaced_mark, put_spaced_name, put_spaced_token, put_symbol,
     put_text_bytes, put_token_name,

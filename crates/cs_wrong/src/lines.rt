@@ -2,9 +2,6 @@
 
 ghost use Rattle.std.specs.Prelude.{All, length};
 ghost use Rattle.cs_io.specs.Lines.{Writes};
-ghost use Rattle.cs_manifest.specs.Manifest.Below.{texts_below};
-ghost use Rattle.cs_manifest.specs.Manifest.Entry.{rendering_of};
-ghost use Rattle.cs_manifest.specs.Manifest.Named.{AreNamedRenderings};
 ghost use Rattle.cs_manifest.specs.Output.Putting.{Puts};
 ghost use Rattle.cs_wrong.specs.Entries.{IsNamedClass, IsNamedEntry, head_line, lines_by, lines_if_wrong};
 ghost use Rattle.cs_wrong.specs.Tally.{CanCount, IsCounted, end_with};
@@ -15,19 +12,16 @@ use crate::judging::Judged;
 use crate::slip::{Change, Slip};
 use crate::tally::Tally;
 use cs_io::{Sink, SinkError};
-use cs_manifest::{LINE_LENGTH, Output, put_count, put_rendered, put_spaced_mark, put_yield};
-use cs_texts::Rendered;
+use cs_manifest::{
+    LINE_LENGTH, Output, put_count, put_spaced_mark, put_text_lines, put_yield, write_line,
+};
 use cs_yacc::YaccFile;
 
 /// Writes `conform wrong`.
 pub(crate) fn write_head<S: Sink>(sink: &mut S) -> Result<(), SinkError>
     ensures { Writes S.Sink result head_line sink.old sink.new }
 {
-    let mut line = [0u8; LINE_LENGTH];
-    let mut output = Output::new(sink, &mut line, 0);
-    output.put(b"conform wrong\n");
-    output.end()?;
-    Ok(())
+    write_line(sink, b"conform wrong\n")
 }
 
 /// Writes those of the slips whose lists are written, and counts all.
@@ -45,12 +39,13 @@ pub(crate) fn write_entries<S: Sink>(
 {
     let mut line = [0u8; LINE_LENGTH];
     let mut output = Output::new(sink, &mut line, 0);
-    put_entries(&mut output, file, tally, entries);
+    put_all_judged(&mut output, file, tally, entries);
     output.end()?;
     Ok(())
 }
 
-fn put_entries<S: Sink>(
+// Counts each slip, and puts the lines of those whose lists are written.
+fn put_all_judged<S: Sink>(
     output: &mut Output<'_, S>,
     file: &YaccFile,
     tally: &mut Tally,
@@ -88,7 +83,7 @@ fn put_wrong<S: Sink>(output: &mut Output<'_, S>, file: &YaccFile, number: u64, 
     put_slip(output, judged.slip);
     put_class(output, file, judged.class);
     put_yield(output, file, &judged.tokens);
-    put_text(output, file, judged.rendered.as_ref());
+    put_text_lines(output, file, judged.rendered.as_ref());
 }
 
 fn put_slip<S: Sink>(output: &mut Output<'_, S>, slip: Slip)
@@ -130,18 +125,6 @@ fn put_class<S: Sink>(output: &mut Output<'_, S>, file: &YaccFile, class: SlipCl
         SlipClass::Again => {}
         SlipClass::Long => {}
         SlipClass::Sentence => {}
-    }
-}
-
-// Puts the newline, and what came of the rendering.
-fn put_text<S: Sink>(output: &mut Output<'_, S>, file: &YaccFile, rendered: Option<&Rendered>)
-    requires { AreNamedRenderings file.now (rendering_of rendered) }
-    ensures { Puts S.Sink (texts_below file.now (rendering_of rendered.entry))
-        output.old output.new }
-{
-    match rendered {
-        None => output.put(b"\n"),
-        Some(rendered) => put_rendered(output, file, rendered.parts()),
     }
 }
 

@@ -173,8 +173,13 @@ fn put_shared_verdict<S: Sink>(output: &mut Output<'_, S>, verdict: SharedVerdic
     }
 }
 
+/// Puts the newline, and below it what came of the rendering of a list, where there is one.
 #[inline(never)]
-fn put_text_lines<S: Sink>(output: &mut Output<'_, S>, file: &YaccFile, rendered: Option<&Rendered>)
+pub fn put_text_lines<S: Sink>(
+    output: &mut Output<'_, S>,
+    file: &YaccFile,
+    rendered: Option<&Rendered>,
+)
     requires { AreNamedRenderings file.now (rendering_of rendered) }
     ensures { Puts S.Sink (texts_below file.now (rendering_of rendered.entry))
         output.old output.new }

@@ -1,6 +1,7 @@
 use Rattle.cs_manifest.proofs.OnOutput.Pieces.{nothing, spelled, then}
 use Rattle.cs_chain_text.specs.Progress.{IsNamedEntry}
-use Rattle.cs_chain_text.proofs.Counting.{at_place, counted_more, counted_none, lines_more, room_within}
+use Rattle.cs_manifest.proofs.OnOutput.Numbered.{at_place}
+use Rattle.cs_chain_text.proofs.Counting.{counted_more, counted_none, lines_more, room_within}
 use Rattle.cs_chain_text.proofs.lines.put_entries.Goals as goal
 
 pub loop-told-init : goal.loop-told-init

@@ -3,7 +3,8 @@ use Rattle.cs_manifest.proofs.OnOutput.Pieces.{nothing, spelled, then}
 use Rattle.cs_chain_text.specs.declared.tally.Tally.{Tally}
 use Rattle.cs_chain_text.specs.Progress.{lines_from}
 use Rattle.cs_chain_text.specs.Rows.{IsRow, row_entries, row_entry, row_lines}
-use Rattle.cs_chain_text.proofs.Counting.{at_place, counted_more, counted_none, lines_more}
+use Rattle.cs_manifest.proofs.OnOutput.Numbered.{at_place}
+use Rattle.cs_chain_text.proofs.Counting.{counted_more, counted_none, lines_more}
 use Rattle.cs_chain_text.proofs.OnRows.{counts_one, counts_same, entry_at, room, within}
 use Rattle.cs_chain_text.proofs.rows.put_rows.Goals as goal
 

@@ -1,23 +1,16 @@
-use Rattle.std.proofs.Common.{◌≡◌, ◌∷◌, ◌++◌, List, [], ℕ, codes, refl, ap, ◌∙◌, subst, Option, None, Some}
-use Rattle.std.specs.Borrow.{Bor}
-use Rattle.std.specs.Option.{option_copied}
+use Rattle.std.proofs.Common.{◌≡◌, ◌∷◌, ◌++◌, List, [], ℕ, codes, ap, ◌∙◌, subst, Option}
 use Rattle.std.specs.Prelude.{option_map}
 use Rattle.cs_bytes.specs.Names.{space}
 use Rattle.cs_texts.specs.declared.rendering.rendered.Rendered.{Rendered}
 use Rattle.cs_texts.specs.Rendering.Rendering.{Rendering, rendering}
+use Rattle.cs_manifest.proofs.OnManifest.Lent.{copied}
 use Rattle.cs_manifest.proofs.OnOutput.Pieces.{spelled, then, then_below}
 use Rattle.cs_manifest.specs.Manifest.Below.{texts_below, tokens_below, tokens_words}
-use Rattle.cs_manifest.specs.Manifest.Entry.{rendering_of}
 use Rattle.cs_manifest.specs.Manifest.Lines.{edit_text, numbered_word, text_lines}
 use Rattle.cs_manifest.specs.Output.Putting.{Puts}
 use Rattle.cs_manifest.specs.Output.Words.{line}
 use Rattle.cs_deep.specs.Deep.{EditEntry, deep_lines}
 use Rattle.cs_deep.proofs.lines.put_deep.Goals as goal
-
--- what came of the rendering, lent and as it stands
-copied : (r : Option (Bor Rendered)) → rendering_of r ≡ option_map rendering (option_copied r)
-copied None = refl
-copied (Some b) = refl
 
 pub returns : goal.returns
 returns g c =
@@ -28,7 +21,7 @@ returns g c =
     let rendered = option_map rendering inside.rendered in
     let put_yield = spelled _ (ap (λ (ts : List ℕ). tokens_below file ts) c.deref.ensures.value) c.put_yield.ensures in
     let same = copied c.as_ref.result ∙ ap (λ (r : Option Rendered). option_map rendering r) c.as_ref.ensures.value in
-    let put_text = spelled _ (ap (λ (r : Option Rendering). texts_below file r) same) c.put_text.ensures in
+    let put_texts = spelled _ (ap (λ (r : Option Rendering). texts_below file r) same) c.put_text_lines.ensures in
     let above = then_below [] words (tokens_words file tokens) (then (then c.put_count.ensures c.put_count-2.ensures) c.put_edit.ensures) put_yield in
-    let put = then_below (line words) (tokens_words file tokens) (text_lines file rendered) above put_text in
-    subst (λ (t : EditEntry). Puts g.S.Sink (deep_lines file c.args.base c.args.number t) c.args.output.now c.put_text.new.output) c.judged.view_is put
+    let put = then_below (line words) (tokens_words file tokens) (text_lines file rendered) above put_texts in
+    subst (λ (t : EditEntry). Puts g.S.Sink (deep_lines file c.args.base c.args.number t) c.args.output.now c.put_text_lines.new.output) c.judged.view_is put

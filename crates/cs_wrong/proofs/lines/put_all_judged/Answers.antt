@@ -1,11 +1,12 @@
 -- One slip more is counted, and its lines are put.
 use Rattle.std.proofs.Common.{ap, ◌∙◌}
 use Rattle.cs_manifest.proofs.OnOutput.Pieces.{nothing, spelled, then}
-use Rattle.cs_wrong.proofs.Counting.{at_place, counted_more, counted_none, lines_more, room_within}
+use Rattle.cs_manifest.proofs.OnOutput.Numbered.{at_place}
+use Rattle.cs_wrong.proofs.Counting.{counted_more, counted_none, lines_more, room_within}
 use Rattle.cs_wrong.specs.Entries.{IsNamedEntry}
 use Rattle.cs_wrong.specs.Tally.{with_class}
 use Rattle.cs_wrong.specs.Text.{SlipEntry}
-use Rattle.cs_wrong.proofs.lines.put_entries.Goals as goal
+use Rattle.cs_wrong.proofs.lines.put_all_judged.Goals as goal
 
 pub loop-judged-init : goal.loop-judged-init
 loop-judged-init g c = record { lines = nothing _; counted = counted_none c.args.tally.now }

@@ -2,7 +2,7 @@ use Rattle.std.proofs.Common.{take}
 use Rattle.cs_manifest.specs.Output.Putting.{Puts}
 use Rattle.cs_wrong.specs.Entries.{lines_from}
 use Rattle.cs_wrong.specs.Tally.{IsCounted}
-use Rattle.cs_wrong.proofs.lines.put_entries.Given as goal
+use Rattle.cs_wrong.proofs.lines.put_all_judged.Given as goal
 
 abbrev pub invariant-loop-judged : goal.invariant-loop-judged
 invariant-loop-judged g l = record {
