@@ -57,3 +57,36 @@ raised n len digits small within is below =
     ∙ ap (λ (q : ℕ). tens q ++ (get_or digits (len - 1) 0 + 1) ∷ []) same
     ∙ ap (λ (d : ℕ). tens ((n + 1) / 10) ++ d ∷ []) next
     ∙ sym (last_behind (n + 1) small)
+
+-- the digits of small numbers; the tens of a number's tens are its hundreds
+two : (n : ℕ) → 10 ≤ n → n < 100 → decimal n ≡ (48 + n / 10 % 10) ∷ (48 + n % 10) ∷ []
+two n more small =
+    let digit : n / 10 ≡ n / 10 % 10 = omega (arith, small) in
+    decimal_step n more (omega (arith, small))
+    ∙ ap (λ (ds : List ℕ). ds ++ (48 + n % 10) ∷ []) (decimal_digit (n / 10) (omega (arith, small)) ∙ ap (λ (d : ℕ). (48 + d) ∷ []) digit)
+
+three : (n : ℕ) → 100 ≤ n → n < 1000 → decimal n ≡ (48 + n / 10 / 10 % 10) ∷ (48 + n / 10 % 10) ∷ (48 + n % 10) ∷ []
+three n more small =
+    decimal_step n (omega (arith, more)) (omega (arith, small))
+    ∙ ap (λ (ds : List ℕ). ds ++ (48 + n % 10) ∷ []) (two (n / 10) (omega (arith, more)) (omega (arith, small)))
+
+four : (n : ℕ) → 1000 ≤ n → n < 10000 → decimal n ≡ (48 + n / 10 / 10 / 10 % 10) ∷ (48 + n / 10 / 10 % 10) ∷ (48 + n / 10 % 10) ∷ (48 + n % 10) ∷ []
+four n more small =
+    decimal_step n (omega (arith, more)) (omega (arith, small))
+    ∙ ap (λ (ds : List ℕ). ds ++ (48 + n % 10) ∷ []) (three (n / 10) (omega (arith, more)) (omega (arith, small)))
+
+-- the same of bytes that are known to be these digits
+pub one_digit : {a : ℕ} (n : ℕ) → n < 10 → a ≡ 48 + n % 10 → a ∷ [] ≡ decimal n
+one_digit n small first =
+    let digit : n % 10 ≡ n = omega (arith, small) in
+    ap (λ (d : ℕ). d ∷ []) first ∙ ap (λ (d : ℕ). (48 + d) ∷ []) digit ∙ sym (decimal_digit n small)
+
+pub two_digits : {a b : ℕ} (n : ℕ) → 10 ≤ n → n < 100 → a ≡ 48 + n / 10 % 10 → b ≡ 48 + n % 10 → a ∷ b ∷ [] ≡ decimal n
+two_digits n more small first second = rw first (rw second (sym (two n more small)))
+
+pub three_digits : {a b c : ℕ} (n : ℕ) → 100 ≤ n → n < 1000 → a ≡ 48 + n / 10 / 10 % 10 → b ≡ 48 + n / 10 % 10 → c ≡ 48 + n % 10 → a ∷ b ∷ c ∷ [] ≡ decimal n
+three_digits n more small first second third = rw first (rw second (rw third (sym (three n more small))))
+
+pub four_digits : {a b c d : ℕ} (n : ℕ) → 1000 ≤ n → n < 10000 → a ≡ 48 + n / 10 / 10 / 10 % 10 → b ≡ 48 + n / 10 / 10 % 10 → c ≡ 48 + n / 10 % 10 → d ≡ 48 + n % 10
+    → a ∷ b ∷ c ∷ d ∷ [] ≡ decimal n
+four_digits n more small first second third fourth = rw first (rw second (rw third (rw fourth (sym (four n more small)))))

@@ -1,5 +1,5 @@
 -- A text that is put run by run: the bytes that stand for themselves in one piece.
-use Rattle.std.proofs.Common.{◌≡◌, refl, subst, cond, arith, ℕ, suc, ◌+◌, List, [], ◌∷◌, ◌++◌, take, drop, ap, sym, ◌∙◌, append_assoc, true, false, Bool}
+use Rattle.std.proofs.Common.{◌≡◌, refl, subst, cond, arith, ℕ, suc, ◌+◌, ◌/◌, ◌%◌, List, [], ◌∷◌, ◌++◌, take, drop, ap, sym, ◌∙◌, append_assoc, true, false, Bool}
 use Rattle.std.proofs.Math.Seq.{take-add}
 use Rattle.std.specs.Prelude.{◌&&◌}
 use Rattle.std.specs.List.{flat_map, list_all, prefix_len}
@@ -7,7 +7,7 @@ use Rattle.std.proofs.lemmas.Grind.{flat_map-append}
 use Rattle.cs_io.specs.declared.sink.Sink as Sink
 use Rattle.cs_manifest.specs.declared.output.output.Output.{Output}
 use Rattle.cs_manifest.specs.Output.Putting.{Puts}
-use Rattle.cs_manifest.specs.Output.Words.{is_plain_text, text_byte}
+use Rattle.cs_manifest.specs.Output.Words.{hexadecimal_digit, is_plain_literal, is_plain_text, literal, text_byte}
 use Rattle.cs_manifest.proofs.OnOutput.Pieces.{spelled, then}
 
 -- one more byte that stands for itself
@@ -42,6 +42,14 @@ plain_all (b ∷ text) all = by (is_plain_text b) refl (plain_all text)
     by : (plain : Bool) → is_plain_text b ≡ plain → (list_all is_plain_text text ≡ true → text ≡ flat_map text_byte text) → b ∷ text ≡ flat_map text_byte (b ∷ text)
     by true e rest = rw e (ap (λ (bs : List ℕ). b ∷ bs) (rest (subst (λ (t : Bool). (t && list_all is_plain_text text) ≡ true) e all)))
     by false e rest = let none : false ≡ true = subst (λ (t : Bool). (t && list_all is_plain_text text) ≡ true) e all in absurd (cc)
+
+-- a byte that stands for itself between single quotes, and one that doesn't
+pub plain_literal : (b : ℕ) → is_plain_literal b ≡ true → 39 ∷ b ∷ 39 ∷ [] ≡ literal b
+plain_literal b plain = rw plain refl
+
+pub other_literal : {high low : ℕ} (b : ℕ) → is_plain_literal b ≡ false → high ≡ hexadecimal_digit (b / 16) → low ≡ hexadecimal_digit (b % 16)
+    → 39 ∷ 92 ∷ 120 ∷ high ∷ low ∷ 39 ∷ [] ≡ literal b
+other_literal b plain first second = rw first (rw second (rw plain refl))
 
 -- a text spelled part by part, and what stands behind it
 pub parts_spelled : (front middle back : List ℕ)

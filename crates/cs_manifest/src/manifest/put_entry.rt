@@ -73,29 +73,27 @@ fn put_goal_words<S: Sink>(output: &mut Output<'_, S>, file: &YaccFile, number: 
     requires { IsNamedGoal file.now goal.now }
     ensures { Puts S.Sink (lines.goal_words file.now number goal.now) output.old output.new }
 {
-    output.put(b"goal ");
-    output.put_number(number);
-    output.put(b" ");
-    put_goal(output, file, goal);
+    put_count(output, b"goal ", number);
+    put_spaced_goal(output, file, goal);
 }
 
-fn put_goal<S: Sink>(output: &mut Output<'_, S>, file: &YaccFile, goal: &Goal)
+fn put_spaced_goal<S: Sink>(output: &mut Output<'_, S>, file: &YaccFile, goal: &Goal)
     requires { IsNamedGoal file.now goal.now }
-    ensures { Puts S.Sink (lines.goal_text file.now goal.now) output.old output.new }
+    ensures { Puts S.Sink (space ∷ lines.goal_text file.now goal.now) output.old output.new }
 {
     match *goal {
-        Goal::Rule(rule) => put_count(output, b"rule ", rule as u64),
+        Goal::Rule(rule) => put_count(output, b" rule ", rule as u64),
         Goal::Context {
             outer,
             place,
             inner,
         } => {
-            put_count(output, b"context ", outer as u64);
-            put_count(output, b" ", place as u64);
-            put_count(output, b" ", inner as u64);
+            put_count(output, b" context ", outer as u64);
+            output.put_spaced_number(place as u64);
+            output.put_spaced_number(inner as u64);
         }
         Goal::Pair { left, right } => {
-            output.put(b"pair");
+            output.put(b" pair");
             put_pair(output, file, left, right);
         }
     }
@@ -202,8 +200,7 @@ fn put_numbers<S: Sink>(output: &mut Output<'_, S>, numbers: &[u16])
     ensures { Puts S.Sink (words.spaced decimal numbers.now) output.old output.new }
 {
     for number in numbers {
-        output.put(b" ");
-        output.put_number(*number as u64);
+        output.put_spaced_number(*number as u64);
     }
 }
 

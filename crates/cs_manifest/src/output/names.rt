@@ -65,10 +65,7 @@ pub fn put_spaced_name<S: Sink>(output: &mut Output<'_, S>, name: &TokenName)
 {
     match name {
         TokenName::Word(name) => output.put_spaced(name.bytes()),
-        TokenName::Byte(byte) => {
-            output.put(b" ");
-            put_literal(output, *byte);
-        }
+        TokenName::Byte(byte) => put_spaced_literal(output, *byte),
     }
 }
 
@@ -82,17 +79,35 @@ pub fn put_token_name<S: Sink>(output: &mut Output<'_, S>, name: &TokenName)
     }
 }
 
+// A space, and a byte between single quotes.
+fn put_spaced_literal<S: Sink>(output: &mut Output<'_, S>, byte: u8)
+    ensures { Puts S.Sink (space ∷ words.literal byte) output.old output.new }
+{
+    if is_plain_literal(byte) {
+        output.put(&[b' ', b'\'', byte, b'\'']);
+    } else {
+        output.put(b" ");
+        put_literal(output, byte);
+    }
+}
+
 // A byte between single quotes.
 fn put_literal<S: Sink>(output: &mut Output<'_, S>, byte: u8)
     ensures { Puts S.Sink (words.literal byte) output.old output.new }
 {
-    if (b'!'..=b'~').contains(&byte) && byte != b'\'' && byte != b'\\' {
+    if is_plain_literal(byte) {
         output.put(&[b'\'', byte, b'\'']);
-        return;
+    } else {
+        let high = hexadecimal_digit(byte / 16);
+        let low = hexadecimal_digit(byte % 16);
+        output.put(&[b'\'', b'\\', b'x', high, low, b'\'']);
     }
-    let high = hexadecimal_digit(byte / 16);
-    let low = hexadecimal_digit(byte % 16);
-    output.put(&[b'\'', b'\\', b'x', high, low, b'\'']);
+}
+
+fn is_plain_literal(byte: u8) -> bool
+    ensures { result ≡ words.is_plain_literal byte }
+{
+    (b'!'..=b'~').contains(&byte) && byte != b'\'' && byte != b'\\'
 }
 
 /// A text between double quotes.

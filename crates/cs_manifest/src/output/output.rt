@@ -1,6 +1,6 @@
 // An output: a lent sink behind a lent line of bytes that wait for it, with a count of the bytes that it got.
 
-ghost use Rattle.std.specs.Prelude.{◌≡◌, ◌+◌, ◌++◌, ◌∷◌, ◌<◌, ◌≤◌, IfOk, OnErr, OnOk, false, true, [], decimal, length, take};
+ghost use Rattle.std.specs.Prelude.{◌≡◌, ◌%◌, ◌+◌, ◌++◌, ◌∷◌, ◌<◌, ◌≤◌, IfOk, OnErr, OnOk, false, true, [], decimal, length, take};
 ghost use Rattle.cs_bytes.specs.Names.{space};
 ghost use Rattle.cs_io.specs.Lines.{Writes};
 
@@ -11,6 +11,11 @@ use itoa::Buffer;
 
 /// How many bytes may wait.
 pub const LINE_LENGTH: usize = 1024;
+
+// Smaller numbers have at most so many digits, which are put at once.
+const SMALL_NUMBERS: u64 = 10_000;
+
+const SMALL_DIGITS: usize = 4;
 
 /// A lent sink behind a lent line of bytes that wait for it.
 ///
@@ -124,8 +129,8 @@ impl<'s, S: Sink> Output<'s, S> {
         requires { self.old.used + length word.now < 1024 }
         ensures { Puts S.Sink (space ∷ word.now) self.old self.new }
     {
-        self.keep(b" ");
-        self.keep(word);
+        put_spaced_at(&mut *self.line, self.used, word);
+        self.used += word.len() + 1;
     }
 
     // Passes on what waits, and puts a space and a word behind it.
@@ -194,8 +199,62 @@ impl<'s, S: Sink> Output<'s, S> {
     pub fn put_number(&mut self, number: u64)
         ensures { Puts S.Sink (decimal number) self.old self.new }
     {
+        if number < SMALL_NUMBERS && self.used <= LINE_LENGTH - SMALL_DIGITS {
+            self.keep_small(number as u16);
+        } else {
+            self.put_large(number);
+        }
+    }
+
+    /// Puts a space and a number behind it, decimal.
+    #[inline(always)]
+    pub(crate) fn put_spaced_number(&mut self, number: u64)
+        ensures { Puts S.Sink (space ∷ decimal number) self.old self.new }
+    {
+        if number < SMALL_NUMBERS && self.used < LINE_LENGTH - SMALL_DIGITS {
+            self.keep_spaced_small(number as u16);
+        } else {
+            self.put_spaced_large(number);
+        }
+    }
+
+    // Lets the digits of a small number wait, for which the line has room.
+    #[inline(always)]
+    fn keep_small(&mut self, number: u16)
+        requires small { number < 10000 }
+        requires room { self.old.used + 4 ≤ 1024 }
+        ensures { Puts S.Sink (decimal number) self.old self.new }
+    {
+        self.used = put_digits(&mut *self.line, self.used, number);
+    }
+
+    // Lets a space and the digits of a small number wait, for which the line has room.
+    #[inline(always)]
+    fn keep_spaced_small(&mut self, number: u16)
+        requires small { number < 10000 }
+        requires room { self.old.used + 5 ≤ 1024 }
+        ensures { Puts S.Sink (space ∷ decimal number) self.old self.new }
+    {
+        put_front::<1>(&mut *self.line, self.used, b" ");
+        self.used = put_digits(&mut *self.line, self.used + 1, number);
+    }
+
+    // Puts a number of any size.
+    #[inline(never)]
+    fn put_large(&mut self, number: u64)
+        ensures { Puts S.Sink (decimal number) self.old self.new }
+    {
         let mut digits = Buffer::new();
         self.put(digits.format(number).as_bytes());
+    }
+
+    // Puts a space and a number of any size.
+    #[inline(never)]
+    fn put_spaced_large(&mut self, number: u64)
+        ensures { Puts S.Sink (space ∷ decimal number) self.old self.new }
+    {
+        self.put(b" ");
+        self.put_large(number);
     }
 
     /// Puts a number that counts up.
@@ -226,6 +285,55 @@ impl<'s, S: Sink> Output<'s, S> {
     }
 }
 
+// Puts the digits of a small number into a line, and answers where they end.
+#[inline(always)]
+fn put_digits(line: &mut [u8; LINE_LENGTH], at: usize, number: u16) -> usize
+    requires small { number < 10000 }
+    requires room { at + 4 ≤ 1024 }
+    ensures { take result line.new ≡ take at line.old ++ decimal number }
+{
+    let tens = number / 10;
+    let hundreds = tens / 10;
+    if number < 10 {
+        put_front::<1>(line, at, &[digit(number)]);
+        at + 1
+    } else if number < 100 {
+        put_front::<2>(line, at, &[digit(tens), digit(number)]);
+        at + 2
+    } else if number < 1000 {
+        put_front::<3>(line, at, &[digit(hundreds), digit(tens), digit(number)]);
+        at + 3
+    } else {
+        let thousands = hundreds / 10;
+        let digits = [
+            digit(thousands),
+            digit(hundreds),
+            digit(tens),
+            digit(number),
+        ];
+        put_front::<4>(line, at, &digits);
+        at + 4
+    }
+}
+
+// The last digit of a number.
+#[inline(always)]
+fn digit(number: u16) -> u8
+    ensures { result ≡ 48 + number % 10 }
+{
+    b'0' + (number % 10) as u8
+}
+
+// Puts a space and a word behind it into a line.
+#[inline(always)]
+fn put_spaced_at(line: &mut [u8; LINE_LENGTH], at: usize, word: &[u8])
+    requires { at + length word.now < 1024 }
+    ensures { take (at + (length word.now + 1)) line.new ≡ take at line.old ++ space ∷ word.now }
+{
+    put_front::<1>(line, at, b" ");
+    put_at(line, at + 1, word);
+}
+
 // Puts a piece into a line. Most are shorter than what a call to copy them takes.
 #[inline(always)]
 fn put_at(line: &mut [u8; LINE_LENGTH], at: usize, piece: &[u8])
@@ -233,25 +341,25 @@ fn put_at(line: &mut [u8; LINE_LENGTH], at: usize, piece: &[u8])
     ensures { take (at + length piece.now) line.new ≡ take at line.old ++ piece.now }
 {
     match piece.len() {
-        1 => put_ends(line, at, piece, 1),
-        2..=3 => put_ends(line, at, piece, 2),
-        4..=7 => put_ends(line, at, piece, 4),
-        8..=16 => put_ends(line, at, piece, 8),
+        1 => put_ends::<1>(line, at, piece),
+        2..=3 => put_ends::<2>(line, at, piece),
+        4..=7 => put_ends::<4>(line, at, piece),
+        8..=16 => put_ends::<8>(line, at, piece),
         _ => line[at..at + piece.len()].copy_from_slice(piece),
     }
 }
 
 // Puts a piece into a line by its first bytes and its last, so many of each; those between are put twice.
 #[inline(always)]
-fn put_ends(line: &mut [u8; LINE_LENGTH], at: usize, piece: &[u8], count: usize)
+fn put_ends<const N: usize>(line: &mut [u8; LINE_LENGTH], at: usize, piece: &[u8])
     requires room { at + length piece.now ≤ 1024 }
-    requires some { count ≤ length piece.now }
-    requires all { length piece.now ≤ count + count }
+    requires some { N ≤ length piece.now }
+    requires all { length piece.now ≤ N + N }
     ensures { take (at + length piece.now) line.new ≡ take at line.old ++ piece.now }
 {
-    let back = piece.len() - count;
-    line[at..at + count].copy_from_slice(&piece[..count]);
-    line[at + back..at + back + count].copy_from_slice(&piece[back..]);
+    let back = piece.len() - N;
+    put_front::<N>(line, at, piece);
+    put_front::<N>(line, at + back, &piece[back..]);
 }
 
 // Puts the first bytes of a text into a line. By way of an array, which can't overlap the line, the copy is a few moves.

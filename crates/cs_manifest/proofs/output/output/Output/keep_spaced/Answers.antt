@@ -1,5 +1,6 @@
-use Rattle.cs_manifest.proofs.OnOutput.Pieces.{then}
+use Rattle.std.proofs.Common.{refl}
+use Rattle.cs_manifest.proofs.OnOutput.Pieces.{kept}
 use Rattle.cs_manifest.proofs.output.output.Output.keep_spaced.Goals as goal
 
 pub returns : goal.returns
-returns g c = then c.keep.ensures.puts c.keep-2.ensures.puts
+returns g c = kept refl refl refl refl refl c.put_spaced_at.ensures

@@ -1,0 +1,6 @@
+use Rattle.std.proofs.Common.{refl}
+use Rattle.cs_manifest.proofs.OnOutput.Pieces.{kept}
+use Rattle.cs_manifest.proofs.output.output.Output.keep_small.Goals as goal
+
+pub returns : goal.returns
+returns g c = kept refl refl refl refl refl c.put_digits-self.ensures

@@ -1,0 +1,5 @@
+use Rattle.cs_manifest.proofs.OnOutput.Pieces.{then}
+use Rattle.cs_manifest.proofs.output.output.Output.put_spaced_large.Goals as goal
+
+pub returns : goal.returns
+returns g c = then c.put.ensures c.put_large.ensures
