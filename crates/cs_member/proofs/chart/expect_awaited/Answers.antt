@@ -1,4 +1,4 @@
-use Rattle.std.proofs.Common.{[], List, sym, subst, arith}
+use Rattle.std.proofs.Common.{[], List, subst, arith}
 use Rattle.std.proofs.lemmas.List.{take_all}
 use Rattle.std.proofs.lemmas.Option.{slice_get_within}
 use Rattle.cs_member.specs.declared.now.Origins.{Origins}

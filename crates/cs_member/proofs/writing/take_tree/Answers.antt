@@ -1,4 +1,4 @@
-use Rattle.std.proofs.Common.{◌≡◌, ℕ, Option, Some, length, take, sym, ◌∙◌, subst, arith, ◌+◌, ◌*◌, ◌^◌}
+use Rattle.std.proofs.Common.{◌≡◌, ℕ, Option, Some, take, sym, ◌∙◌, subst, arith, ◌+◌, ◌*◌, ◌^◌}
 use Rattle.std.specs.Prelude.{slice_get}
 use Rattle.std.proofs.lemmas.Option.{slice_get_within}
 use Rattle.cs_member.specs.Back.{IsChild, NoneLeads, OfChild}
