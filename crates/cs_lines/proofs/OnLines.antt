@@ -5,3 +5,4 @@ pub mod Forms
 pub mod Indented
 pub mod First
 pub mod Parts
+pub mod Visible

@@ -1,9 +1,10 @@
 -- The lines of a text, one after another.
 use Rattle.std.proofs.Common.{◌≡◌, ℕ, ◌+◌, ◌<◌, ◌≤◌, Bool, List, [], ◌∷◌, ◌++◌, take, drop, length, get_or, refl, sym, ap, ◌∙◌, subst, ⊎_elim, eq-eqb, arith, cond}
-use Rattle.std.specs.Prelude.{All, ◌≢◌}
-use Rattle.std.proofs.lemmas.Bool.{ne_eqb, eqb-true, false≢true, cases_lt}
+use Rattle.std.specs.Prelude.{All, ◌≢◌, ◌==◌}
+use Rattle.std.proofs.lemmas.Bool.{ne_eqb, eqb-true, false_from_ne_true, false≢true, cases_lt}
 use Rattle.std.proofs.lemmas.List.{drop_more, take_more, take-append-drop, take_all, drop_all, length-take, get_or-take}
-use Rattle.std.proofs.lemmas.List.Sums.{fails_before_first, passes_at_first}
+use Rattle.std.proofs.lemmas.List.Sums.{position_or_len_is, fails_before_first, passes_at_first}
+use Rattle.memchr.specs.Find.{Nowhere, NoneBefore, Passes, is_byte}
 use Rattle.cs_bytes.specs.Classes.{is_newline}
 use Rattle.cs_bytes.specs.Places.{line_len, line_size}
 use Rattle.std.proofs.lemmas.List.Elements.{All-head, All-tail}
@@ -67,3 +68,14 @@ line_in_front text some =
     only_line text some (subst AreInner (take_all (line_len text) text past) (len_inner text))
     ∙ ap (λ (n : ℕ). take n text ∷ lines_of (drop n text)) (sym is))
     (cases_lt (line_len text) (length text))
+
+-- ---- by the place of the first newline, as a search finds it
+
+pub len_found : (text : List ℕ) (k : ℕ) → NoneBefore (Passes (is_byte 10) text) 0 (length text) k → Passes (is_byte 10) text k → line_len text ≡ k
+len_found text k before here =
+    let low = before.high in
+    position_or_len_is is_newline text k 0 (omega arith) (λ j lt. false_from_ne_true (get_or text j 0 == 10) (before.before j (omega arith) lt)) (λ lt. here)
+
+pub len_none : (text : List ℕ) → Nowhere (Passes (is_byte 10) text) 0 (length text) → line_len text ≡ length text
+len_none text none =
+    position_or_len_is is_newline text (length text) 0 (omega arith) (λ j lt. false_from_ne_true (get_or text j 0 == 10) (none j (omega arith) lt)) (λ lt. absurd (omega arith))

@@ -8,7 +8,8 @@
 //!
 //! # What it is for
 //!
-//! The checker takes a manifest line by line: `read_line` tells what a line says, with its names and numbers where they stand.
+//! The checker takes a manifest line by line: `line_size` tells how long the line in front is, and `read_line` what it says,
+//! with its names and numbers where they stand.
 //! `find_token`, `is_mark` and the others compare names with those of a yacc file. No call takes memory but `Quoted::bytes`.
 //!
 //! # What a contract sees
@@ -34,6 +35,6 @@ mod naming;
 pub use laws::one_line;
 pub use lines::{
     Counts, EditWords, GoalWords, Line, Names, Numbers, Quoted, RowKind, SetKind, Verdict,
-    read_line,
+    line_size, read_line,
 };
 pub use naming::{find_nonterminal, find_token, is_mark, is_nonterminal, is_symbol, is_token};

@@ -1,32 +1,11 @@
 -- The digits of small numbers are their numerals.
-use Rattle.std.proofs.Common.{◌≡◌, ℕ, zero, suc, ◌+◌, ◌/◌, ◌%◌, ◌^◌, ◌<◌, ◌≤◌, List, [], ◌∷◌, ◌++◌, refl, sym, ap, ◌∙◌, arith, inl, inr}
-use Rattle.std.specs.Prelude.{decimal, nat_lt}
+use Rattle.std.proofs.Common.{◌≡◌, ℕ, suc, ◌+◌, ◌/◌, ◌%◌, ◌^◌, ◌<◌, ◌≤◌, List, [], ◌∷◌, ◌++◌, refl, sym, ap, ◌∙◌, arith}
+use Rattle.std.specs.Prelude.{decimal}
 use Rattle.std.specs.List.{AllByRecursion}
-use Rattle.std.proofs.lemmas.Bool.{cond-true, cond-false, cases_lt, lt-ltb, le-ltb}
 use Rattle.std.proofs.lemmas.Fmt.{decimal_by_steps}
 use Rattle.cs_lines.specs.Words.Words.{digits_within, numeral}
+use Rattle.cs_lines.proofs.OnLines.Numerals.{small_digits, large_digits, same_digits}
 use Rattle.cs_manifest.specs.Output.Words.{spaced}
-
-small_digits : (s n : ℕ) → n < 10 → digits_within (suc s) n ≡ (48 + n) ∷ []
-small_digits s n small = cond-true (nat_lt n 10) ((48 + n) ∷ []) (digits_within s (n / 10) ++ (48 + n % 10) ∷ []) (lt-ltb n 10 small)
-
-large_digits : (s n : ℕ) → 10 ≤ n → digits_within (suc s) n ≡ digits_within s (n / 10) ++ (48 + n % 10) ∷ []
-large_digits s n large = cond-false (nat_lt n 10) ((48 + n) ∷ []) (digits_within s (n / 10) ++ (48 + n % 10) ∷ []) (le-ltb n 10 large)
-
--- more steps than enough change nothing
-same_digits : (s t n : ℕ) → n < s → n < t → digits_within s n ≡ digits_within t n
-same_digits zero t n low lower = absurd (omega (arith, low))
-same_digits (suc s) zero n low lower = absurd (omega (arith, lower))
-same_digits (suc s) (suc t) n low lower =
-    elim (cases_lt n 10) [
-      | inl small ↦ small_digits s n small ∙ sym (small_digits t n small)
-      | inr large ↦
-          (let less : n / 10 < s = omega (arith, low, large) in
-          let lesser : n / 10 < t = omega (arith, lower, large) in
-          large_digits s n large
-          ∙ ap (λ (ds : List ℕ). ds ++ (48 + n % 10) ∷ []) (same_digits s t (n / 10) less lesser)
-          ∙ sym (large_digits t n large))
-    ]
 
 digits_more : (n : ℕ) (ds : List ℕ) → 10 ≤ n → ds ≡ numeral (n / 10) → ds ++ (48 + n % 10) ∷ [] ≡ numeral n
 digits_more n ds large is =

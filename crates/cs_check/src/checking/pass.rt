@@ -8,7 +8,8 @@ ghost use Rattle.cs_check.specs.Passing.Outcomes.{checked_by, HasClaims, IsOutco
 use crate::checking::above::Above;
 use crate::checking::part::Part;
 use crate::passing::ClaimFault;
-use cs_bytes::{from_offset, line_size};
+use cs_bytes::from_offset;
+use cs_lines::line_size;
 use cs_scanner::Scanner;
 use cs_yacc::YaccFile;
 use std::alloc::{AllocError, Global};

@@ -1,5 +1,5 @@
 -- What words a line of each form has, and that such words are the line.
-use Rattle.std.proofs.Common.{◌≡◌, ℕ, cond, ◌⊎◌, inl, inr, List, [], ◌∷◌, ◌++◌, Option, None, Some, refl, sym, ap, ◌∙◌, subst, arith}
+use Rattle.std.proofs.Common.{◌≡◌, ℕ, true, cond, ◌⊎◌, inl, inr, List, [], ◌∷◌, ◌++◌, Option, None, Some, refl, sym, ap, ◌∙◌, subst, arith}
 use Rattle.std.specs.Prelude.{codes, All}
 use Rattle.std.proofs.lemmas.Bool.{cases_cond}
 use Rattle.std.proofs.lemmas.List.{same_from_push}
@@ -11,7 +11,7 @@ use Rattle.cs_lines.specs.Words.Edits.{EditWords}
 use Rattle.cs_lines.specs.Lines.Line.{SetKind, RowKind, GoalWords, VerdictWords, Counts, Line, Opening, Weighing, TokenLine, RuleLine, LexemeLine, SetLine, RowLine, CaseLine, GoalLine, BaseLine, NegativeLine, EndLine}
 use Rattle.cs_lines.specs.Lines.Texts.{joined, weigh_word, set_word, row_word, goal_words, verdict_words, edit_words, words, edit_names, goal_names, names, text_in, Says}
 use Rattle.cs_lines.specs.Lines.Spelled.{spelled_or_none, bytes_in}
-use Rattle.cs_lines.proofs.OnTexts.Words.{AreFree, joined_same, word_free, words_free, numeral_free}
+use Rattle.cs_lines.proofs.OnTexts.Words.{free, AreFree, joined_same, word_free, words_free, numeral_free}
 use Rattle.cs_lines.proofs.OnTexts.OneLine.{at, is_set_byte, rank, tag, tagged, weigh_free, set_free, row_free, goal_free, verdict_free, negative_free, pair_words, counts_free, one_name, lexeme_text, tail_of}
 use Rattle.cs_lines.proofs.OnLines.Splits.{tail, joined_tail, next_word}
 use Rattle.cs_lines.proofs.OnLines.Parts.{same_front, same_behind, set_not_row}
@@ -206,18 +206,22 @@ row_words kind ws l f h =
 
 -- ---- lines behind the head
 
-pub record OfCase (ws : List (List ℕ)) : Type 0 where
-  pub number : ℕ
-  pub size : ℕ
-  pub is : ws ≡ numeral number ∷ codes "size" ∷ numeral size ∷ []
+-- two numbers with a word between them
+pub record OfTwo (word : List ℕ) (ws : List (List ℕ)) : Type 0 where
+  pub first : ℕ
+  pub second : ℕ
+  pub is : ws ≡ numeral first ∷ word ∷ numeral second ∷ []
 
-case_from : (ws : List (List ℕ)) (l : Line) → rank l ≡ 7 → AreFree ws → joined (codes "case" ∷ ws) ≡ joined (words l) → OfCase ws
-case_from ws (CaseLine n size) r f e =
-    let same = joined_same (codes "case") ws (codes "case") (numeral n ∷ codes "size" ∷ numeral size ∷ []) (refl, f) (refl, (numeral_free n, (refl, (numeral_free size, tt)))) e in
-    record { number = n; size = size; is = cc }
+two_from : (front word : List ℕ) (n m : ℕ) (ws : List (List ℕ)) → free front ≡ true → free word ≡ true → AreFree ws → joined (front ∷ ws) ≡ joined (front ∷ numeral n ∷ word ∷ numeral m ∷ []) → OfTwo word ws
+two_from front word n m ws front_free word_free f e =
+    let same = joined_same front ws front (numeral n ∷ word ∷ numeral m ∷ []) (front_free, f) (front_free, (numeral_free n, (word_free, (numeral_free m, tt)))) e in
+    record { first = n; second = m; is = cc }
+
+case_from : (ws : List (List ℕ)) (l : Line) → rank l ≡ 7 → AreFree ws → joined (codes "case" ∷ ws) ≡ joined (words l) → OfTwo (codes "size") ws
+case_from ws (CaseLine n size) r f e = two_from (codes "case") (codes "size") n size ws refl refl f e
 case_from ws l r f e = absurd (omega (arith, r))
 
-pub case_words : (ws : List (List ℕ)) (l : Line) → AreFree ws → Says (line (joined (codes "case" ∷ ws))) l → OfCase ws
+pub case_words : (ws : List (List ℕ)) (l : Line) → AreFree ws → Says (line (joined (codes "case" ∷ ws))) l → OfTwo (codes "size") ws
 case_words ws l f h = case_from ws l (ranked (codes "case") ws l 7 refl h) f (says_text (joined (codes "case" ∷ ws)) l h)
 
 pub record OfGoalLine (ws : List (List ℕ)) : Type 0 where
@@ -236,18 +240,11 @@ goal_from ws l r f h e = absurd (omega (arith, r))
 pub goal_line_words : (ws : List (List ℕ)) (l : Line) → AreFree ws → Says (line (joined (codes "goal" ∷ ws))) l → OfGoalLine ws
 goal_line_words ws l f h = goal_from ws l (ranked (codes "goal") ws l 13 refl h) f h.are_words (says_text (joined (codes "goal" ∷ ws)) l h)
 
-pub record OfBase (ws : List (List ℕ)) : Type 0 where
-  pub number : ℕ
-  pub goal : ℕ
-  pub is : ws ≡ numeral number ∷ codes "goal" ∷ numeral goal ∷ []
-
-base_from : (ws : List (List ℕ)) (l : Line) → rank l ≡ 14 → AreFree ws → joined (codes "base" ∷ ws) ≡ joined (words l) → OfBase ws
-base_from ws (BaseLine n goal) r f e =
-    let same = joined_same (codes "base") ws (codes "base") (numeral n ∷ codes "goal" ∷ numeral goal ∷ []) (refl, f) (refl, (numeral_free n, (refl, (numeral_free goal, tt)))) e in
-    record { number = n; goal = goal; is = cc }
+base_from : (ws : List (List ℕ)) (l : Line) → rank l ≡ 14 → AreFree ws → joined (codes "base" ∷ ws) ≡ joined (words l) → OfTwo (codes "goal") ws
+base_from ws (BaseLine n goal) r f e = two_from (codes "base") (codes "goal") n goal ws refl refl f e
 base_from ws l r f e = absurd (omega (arith, r))
 
-pub base_words : (ws : List (List ℕ)) (l : Line) → AreFree ws → Says (line (joined (codes "base" ∷ ws))) l → OfBase ws
+pub base_words : (ws : List (List ℕ)) (l : Line) → AreFree ws → Says (line (joined (codes "base" ∷ ws))) l → OfTwo (codes "goal") ws
 base_words ws l f h = base_from ws l (ranked (codes "base") ws l 14 refl h) f (says_text (joined (codes "base" ∷ ws)) l h)
 
 pub record OfNegative (ws : List (List ℕ)) : Type 0 where

@@ -7,7 +7,7 @@ use Rattle.cs_pattern_parts.specs.Items.StandsFor.{AreBytes}
 use Rattle.cs_lines.specs.Words.Words.{line, numeral, quoted, IsWord}
 use Rattle.cs_lines.specs.Lines.Line.{Line, LexemeLine, DeriveLine, TokensLine, TextLine, NoLexemeLine, NoScanLine}
 use Rattle.cs_lines.specs.Lines.Texts.{joined, words, names, text_in, Says}
-use Rattle.cs_lines.proofs.OnTexts.Words.{free, AreFree, joined_same, words_free, numeral_free, numerals_free}
+use Rattle.cs_lines.proofs.OnTexts.Words.{AreFree, joined_same, words_free, numeral_free, numerals_free}
 use Rattle.cs_lines.proofs.OnTexts.OneLine.{at, rank, tag, tagged, apart, one_name}
 use Rattle.cs_lines.proofs.OnLines.Splits.{tail, joined_tail, next_word}
 use Rattle.cs_lines.proofs.OnLines.Forms.{says_text}

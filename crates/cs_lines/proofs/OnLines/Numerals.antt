@@ -13,14 +13,14 @@ use Rattle.cs_lines.proofs.OnTexts.Words.{same_numeral}
 
 -- ---- digits of a number, one more or one fewer
 
-small_digits : (s n : ℕ) → n < 10 → digits_within (suc s) n ≡ (48 + n) ∷ []
+pub small_digits : (s n : ℕ) → n < 10 → digits_within (suc s) n ≡ (48 + n) ∷ []
 small_digits s n small = cond-true (nat_lt n 10) ((48 + n) ∷ []) (digits_within s (n / 10) ++ (48 + n % 10) ∷ []) (lt-ltb n 10 small)
 
-large_digits : (s n : ℕ) → 10 ≤ n → digits_within (suc s) n ≡ digits_within s (n / 10) ++ (48 + n % 10) ∷ []
+pub large_digits : (s n : ℕ) → 10 ≤ n → digits_within (suc s) n ≡ digits_within s (n / 10) ++ (48 + n % 10) ∷ []
 large_digits s n large = cond-false (nat_lt n 10) ((48 + n) ∷ []) (digits_within s (n / 10) ++ (48 + n % 10) ∷ []) (le-ltb n 10 large)
 
 -- more steps than enough change nothing
-same_digits : (s t n : ℕ) → n < s → n < t → digits_within s n ≡ digits_within t n
+pub same_digits : (s t n : ℕ) → n < s → n < t → digits_within s n ≡ digits_within t n
 same_digits zero t n low lower = absurd (omega (arith, low))
 same_digits (suc s) zero n low lower = absurd (omega (arith, lower))
 same_digits (suc s) (suc t) n low lower =

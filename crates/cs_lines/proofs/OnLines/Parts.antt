@@ -8,7 +8,7 @@ use Rattle.cs_lines.specs.Words.Words.{numeral, IsWord}
 use Rattle.cs_lines.specs.Words.Edits.{EditWords, Deletes, Inserts, Replaces, Swaps}
 use Rattle.cs_lines.specs.Lines.Line.{SetKind, Productive, Reachable, Empty, RowKind, First, Last, Next, GoalWords, OfRule, OfContext, OfPair, VerdictWords, Feasible, Infeasible, Large}
 use Rattle.cs_lines.specs.Lines.Texts.{weigh_word, set_word, row_word, goal_words, verdict_words, edit_words, goal_names, edit_names}
-use Rattle.cs_lines.proofs.OnTexts.OneLine.{apart, lists_apart}
+use Rattle.cs_lines.proofs.OnTexts.OneLine.{apart, lists_apart, same_edit}
 
 -- ---- lists of words with one front
 
@@ -186,6 +186,10 @@ insert_edit edit others behind all h p q = absurd (lists_apart (codes "insert" �
 pub replace_edit : (edit : EditWords) (others behind all : List (List ℕ)) → All IsWord (edit_names edit) → all ≡ codes "replace" ∷ behind → all ≡ edit_words edit others → NameEdit behind others
 replace_edit (Replaces i a) others behind all h p q = record { place = i; name = a; is_word = All-head IsWord a [] h; is = same_behind p q }
 replace_edit edit others behind all h p q = absurd (lists_apart (codes "replace" ∷ behind) (edit_words edit others) refl (sym p ∙ q))
+
+-- what stands behind the words of an edit
+pub behind_edit : (a b : EditWords) {x y all : List (List ℕ)} → all ≡ edit_words a x → all ≡ edit_words b y → x ≡ y
+behind_edit a b {x} {y} p q = (same_edit a b x y (sym p ∙ q)).1
 
 pub no_edit : (word : List ℕ) (behind all : List (List ℕ)) → all ≡ word ∷ behind → (word ≡ codes "delete" → ⊥) → (word ≡ codes "insert" → ⊥) → (word ≡ codes "replace" → ⊥) → (word ≡ codes "swap" → ⊥) → (edit : EditWords) (others : List (List ℕ)) → all ≡ edit_words edit others → ⊥
 no_edit word behind all p d i r s (Deletes k) others q = d (same_front p q)

@@ -5,13 +5,13 @@ use Rattle.std.specs.List.{prefix_len}
 use Rattle.std.proofs.lemmas.List.{take_rest}
 use Rattle.std.proofs.lemmas.Bool.{cond_both, eqb-true, and_from, not_from_false}
 use Rattle.cs_lines.specs.Lines.Pieces.{onto}
-use Rattle.cs_lines.specs.Lines.Splits.{split, words_behind}
+use Rattle.cs_lines.specs.Lines.Splits.{in_word, split, words_behind}
 use Rattle.cs_lines.specs.Lines.Texts.{joined}
 use Rattle.cs_lines.proofs.OnTexts.Words.{free, AreFree, first_word, not_alone}
 
 -- ---- a text has a word at least
 
-record HasWord (ws : List (List ℕ)) : Type 0 where
+pub record HasWord (ws : List (List ℕ)) : Type 0 where
   pub word : List ℕ
   pub others : List (List ℕ)
   pub is : ws ≡ word ∷ others
@@ -20,7 +20,7 @@ onto_some : (b : ℕ) (ws : List (List ℕ)) → HasWord (onto b ws)
 onto_some b [] = record { word = b ∷ []; others = []; is = refl }
 onto_some b (w ∷ ws) = record { word = b ∷ w; others = ws; is = refl }
 
-split_some : (text : List ℕ) → HasWord (split text)
+pub split_some : (text : List ℕ) → HasWord (split text)
 split_some [] = record { word = []; others = []; is = refl }
 split_some (b ∷ text) =
     cond_both (b == 32) ([] ∷ split text) (onto b (split text)) HasWord
@@ -66,9 +66,6 @@ behind_free [] = tt
 behind_free (b ∷ text) = cond_both (b == 32) (split text) [] AreFree (λ is. split_free text) (λ is. tt)
 
 -- ---- the first word, and what stands behind it
-
-abbrev pub in_word : ℕ → Bool
-in_word b = not (b == 32)
 
 -- the first n bytes are the first word
 abbrev IsFirst : List ℕ → ℕ → Type 0

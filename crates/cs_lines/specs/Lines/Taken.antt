@@ -1,9 +1,12 @@
 -- What the code takes of the words that are left of a line. These are working words of contracts inside `lines`.
-use Rattle.std.specs.Prelude.{◌≡◌, ◌/◌, ◌%◌, ◌<◌, ℕ, List, [], ◌∷◌, ◌++◌, All, map, drop, Option, codes}
+use Rattle.std.specs.Prelude.{◌≡◌, ◌/◌, ◌%◌, ◌<◌, ◌==◌, ℕ, Bool, false, List, [], ◌∷◌, ◌++◌, All, map, drop, Option, codes}
+use Rattle.std.specs.Bool.{MatchBool}
+use Rattle.cs_bytes.specs.Names.{space}
 use Rattle.cs_pattern_parts.specs.Items.StandsFor.{AreBytes}
 use Rattle.cs_choices.specs.declared.weigh.Weigh.{Weigh}
 use Rattle.cs_lines.specs.declared.lines.words.Words.{Words}
 use Rattle.cs_lines.specs.declared.lines.steps.TwoNames.{TwoNames}
+use Rattle.cs_lines.specs.declared.lines.steps.TwoNumbers.{TwoNumbers}
 use Rattle.cs_lines.specs.declared.lines.spelled.SpelledByte.{SpelledByte}
 use Rattle.cs_lines.specs.declared.lines.names.Names.{Names}
 use Rattle.cs_lines.specs.declared.lines.numbers.Numbers.{Numbers}
@@ -11,7 +14,7 @@ use Rattle.cs_lines.specs.declared.lines.quoted.Quoted.{Quoted}
 use Rattle.cs_lines.specs.declared.lines.line.GoalWords as goals
 use Rattle.cs_lines.specs.declared.lines.line.Verdict as verdicts
 use Rattle.cs_lines.specs.declared.lines.line.EditWords as edits
-use Rattle.cs_lines.specs.Words.Words.{numeral, quoted, escaped, IsWord}
+use Rattle.cs_lines.specs.Words.Words.{numeral, quoted, escaped, IsVisible, IsWord}
 use Rattle.cs_lines.specs.Words.Edits.{EditWords}
 use Rattle.cs_lines.specs.Lines.Line.{SetKind, RowKind, GoalWords, VerdictWords}
 use Rattle.cs_lines.specs.Lines.Texts.{weigh_word, set_word, row_word, goal_words, verdict_words, edit_words, goal_names, edit_names}
@@ -64,7 +67,19 @@ Counted word before after read = (n : ℕ) × IsRead n read × (words_in before 
 abbrev pub HasNoCount : List ℕ → Words → Type 0
 HasNoCount word words = (n : ℕ) (others : List (List ℕ)) → words_in words ≡ word ∷ numeral n ∷ others → ⊥
 
+-- two numbers with a word between them are all that is left
+abbrev pub AreTwoNumbers : List ℕ → Words → TwoNumbers → Type 0
+AreTwoNumbers word words two =
+    (n : ℕ) × (m : ℕ) × IsRead n two.first × IsRead m two.second × (words_in words ≡ numeral n ∷ word ∷ numeral m ∷ [])
+
+abbrev pub AreNotTwoNumbers : List ℕ → Words → Type 0
+AreNotTwoNumbers word words = (n m : ℕ) → words_in words ≡ numeral n ∷ word ∷ numeral m ∷ [] → ⊥
+
 -- ---- one word
+
+-- the byte may be the next of names: a space where no byte of one is due, or a byte of one
+abbrev pub MayFollow : Bool → ℕ → Type 0
+MayFollow is_due byte = MatchBool (byte == space) (is_due ≡ false) (IsVisible byte)
 
 -- the word is a number, which is read as this one
 abbrev pub IsNumberRead : List ℕ → ℕ → Type 0

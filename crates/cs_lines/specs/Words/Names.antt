@@ -1,5 +1,5 @@
 -- Which symbol or mark has a name; the names themselves are those of `Names` of cs_yacc.
-use Rattle.std.specs.Prelude.{◌≡◌, ◌≢◌, ◌<◌, ℕ, ◌-◌, List, codes}
+use Rattle.std.specs.Prelude.{◌≡◌, ◌≢◌, ◌<◌, ℕ, List, codes}
 use Rattle.cs_grammar.specs.declared.symbol.Mark.{Mark}
 use Rattle.cs_grammar.specs.declared.symbol.Mark.TheVariants as marks
 use Rattle.cs_grammar.specs.Grammar.{IsNumberOf}

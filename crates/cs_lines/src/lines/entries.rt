@@ -11,14 +11,11 @@ use crate::lines::words::Words;
 pub(crate) fn read_case(line: Words<'_>) -> Option<Line<'_>>
     ensures { Answers (codes "case" ∷ words_in line.entry) result }
 {
-    let mut words = line;
-    let number = words.number()?;
-    let size = words.counted(b"size")?;
-    if words.is_done() {
-        Some(Line::Case { number, size })
-    } else {
-        None
-    }
+    let two = line.two_numbers(b"size")?;
+    Some(Line::Case {
+        number: two.first,
+        size: two.second,
+    })
 }
 
 pub(crate) fn read_goal(line: Words<'_>) -> Option<Line<'_>>
@@ -42,14 +39,11 @@ pub(crate) fn read_goal(line: Words<'_>) -> Option<Line<'_>>
 pub(crate) fn read_base(line: Words<'_>) -> Option<Line<'_>>
     ensures { Answers (codes "base" ∷ words_in line.entry) result }
 {
-    let mut words = line;
-    let number = words.number()?;
-    let goal = words.counted(b"goal")?;
-    if words.is_done() {
-        Some(Line::Base { number, goal })
-    } else {
-        None
-    }
+    let two = line.two_numbers(b"goal")?;
+    Some(Line::Base {
+        number: two.first,
+        goal: two.second,
+    })
 }
 
 pub(crate) fn read_negative(line: Words<'_>) -> Option<Line<'_>>

@@ -1,6 +1,6 @@
 // Names behind a space each, up to the end of a line.
 
-use crate::lines::word::is_name;
+use crate::lines::word::are_names;
 use crate::lines::words::Words;
 
 /// Names that are still to be given, one by one.
@@ -20,13 +20,14 @@ impl<'m> Names<'m> {
         ensures { MatchOption result (All IsWord (words_in words.entry) → ⊥)
             (AreNamesOf words.entry) }
     {
-        let mut rest = words;
-        while let Some(word) = rest.next() {
-            if !is_name(word) {
-                return None;
-            }
+        let [b' ', text @ ..] = words.rest else {
+            return Some(Names { words });
+        };
+        if are_names(text) {
+            Some(Names { words })
+        } else {
+            None
         }
-        Some(Names { words })
     }
 
     /// Takes the next name away.

@@ -2,7 +2,7 @@
 
 ghost use Rattle.std.specs.Prelude.{◌≡◌, [], ◌↔◌, IsTrue, MatchOption};
 ghost use Rattle.cs_lines.specs.Lines.Splits.{split};
-ghost use Rattle.cs_lines.specs.Lines.Taken.{words_in, Takes, IsNotNext, TakesName, HasNoName, TakesNames, HasNoNames, TakesNumber, HasNoNumber, Counted, HasNoCount};
+ghost use Rattle.cs_lines.specs.Lines.Taken.{words_in, Takes, IsNotNext, TakesName, HasNoName, TakesNames, HasNoNames, TakesNumber, HasNoNumber, Counted, HasNoCount, AreTwoNumbers, AreNotTwoNumbers};
 
 use crate::lines::word::{is_name, number_of, same_word};
 use crate::lines::words::Words;
@@ -12,6 +12,13 @@ use crate::lines::words::Words;
 pub(crate) struct TwoNames<'m> {
     pub(crate) left: &'m [u8],
     pub(crate) right: &'m [u8],
+}
+
+/// Two numbers.
+#[derive(Clone, Copy)]
+pub(crate) struct TwoNumbers {
+    pub(crate) first: u64,
+    pub(crate) second: u64,
 }
 
 impl<'m> Words<'m> {
@@ -82,5 +89,20 @@ impl<'m> Words<'m> {
         let left = self.name()?;
         let right = self.name()?;
         Some(TwoNames { left, right })
+    }
+
+    /// The two numbers that are left, with the word between them, where nothing else is left.
+    pub(crate) fn two_numbers(self, word: &[u8]) -> Option<TwoNumbers>
+        ensures { MatchOption result (AreNotTwoNumbers word.now self.entry)
+            (AreTwoNumbers word.now self.entry) }
+    {
+        let mut words = self;
+        let first = words.number()?;
+        let second = words.counted(word)?;
+        if words.is_done() {
+            Some(TwoNumbers { first, second })
+        } else {
+            None
+        }
     }
 }

@@ -1,10 +1,11 @@
 // Which words are names and numbers.
 
-ghost use Rattle.std.specs.Prelude.{◌≡◌, ◌↔◌, IsTrue, All, MatchOption, min};
+ghost use Rattle.std.specs.Prelude.{◌≡◌, ◌↔◌, ◌<◌, ◌≤◌, ◌^◌, IsTrue, All, MatchOption, length, min};
 ghost use Rattle.cs_bytes.specs.Digits as spec;
 ghost use Rattle.cs_lines.specs.Words.Words.{IsVisible, IsWord};
+ghost use Rattle.cs_lines.specs.Lines.Splits.{split};
 ghost use Rattle.cs_lines.specs.Lines.Numbers.{IsDigit, IsNumeral, greatest};
-ghost use Rattle.cs_lines.specs.Lines.Taken.{IsNumberRead, IsNoNumber};
+ghost use Rattle.cs_lines.specs.Lines.Taken.{MayFollow, IsNumberRead, IsNoNumber};
 
 use cs_bytes::{digit_of, same_bytes};
 
@@ -27,6 +28,34 @@ pub(crate) fn is_name(word: &[u8]) -> bool
     ensures { IsTrue result ↔ IsWord word.now }
 {
     !word.is_empty() && word.iter().all(|byte| is_visible(*byte))
+}
+
+// Whether the byte may be the next of words, each with one space behind it: a space where no byte of a word is due, or a byte
+// of a word.
+fn may_follow(is_due: bool, byte: u8) -> bool
+    ensures { IsTrue result ↔ MayFollow is_due byte }
+{
+    if byte == b' ' {
+        !is_due
+    } else {
+        is_visible(byte)
+    }
+}
+
+/// Whether all words of the text may stand for names or marks. Each byte is looked at once.
+pub(crate) fn are_names(text: &[u8]) -> bool
+    ensures { IsTrue result ↔ All IsWord (split text.now) }
+{
+    let mut is_due = true;
+    let mut left = text;
+    while let [byte, rest @ ..] = left {
+        if !may_follow(is_due, *byte) {
+            return false;
+        }
+        is_due = *byte == b' ';
+        left = rest;
+    }
+    !is_due
 }
 
 /// The number that decimal digits spell, or the greatest where it is larger.
@@ -68,13 +97,30 @@ fn is_numeral(word: &[u8]) -> bool
     are_digits && word[0] != b'0'
 }
 
+// The number that a few decimal digits spell.
+fn few_digits(digits: &[u8]) -> u64
+    requires digits { All IsDigit digits.now }
+    requires few { length digits.now ≤ 19 }
+    ensures value { result ≡ spec.number_of 10 digits.now }
+    ensures small { result < 10 ^ 19 }
+{
+    let mut number: u64 = 0;
+    for digit in digits {
+        number = number * 10 + u64::from(*digit - b'0');
+    }
+    number
+}
+
 /// The number that the word is.
 pub(crate) fn number_of(word: &[u8]) -> Option<u64>
     ensures { MatchOption result (IsNoNumber word.now) (IsNumberRead word.now) }
 {
-    if is_numeral(word) {
-        Some(number_in(word))
+    if !is_numeral(word) {
+        return None;
+    }
+    if word.len() <= 19 {
+        Some(few_digits(word))
     } else {
-        None
+        Some(number_in(word))
     }
 }

@@ -1,10 +1,9 @@
 // What is left of a line, taken word by word.
 
-ghost use Rattle.std.specs.Prelude.{◌≡◌, [], ◌∷◌, MatchOption};
-ghost use Rattle.cs_lines.specs.Lines.Splits.{split};
+ghost use Rattle.std.specs.Prelude.{◌≡◌, ◌≤◌, [], ◌∷◌, length, MatchOption};
+ghost use Rattle.std.specs.List.{prefix_len};
+ghost use Rattle.cs_lines.specs.Lines.Splits.{in_word, split};
 ghost use Rattle.cs_lines.specs.Lines.Taken.{words_in, Takes};
-
-use cs_bytes::{ByteClass, run_len};
 
 /// The rest of a line: nothing, or a space and what stands behind it.
 #[derive(Clone, Copy)]
@@ -19,11 +18,19 @@ pub(crate) struct FirstWord<'m> {
     pub(crate) behind: Words<'m>,
 }
 
+// How many bytes the first word of a text has.
+fn word_len(text: &[u8]) -> usize
+    ensures len { result ≡ prefix_len in_word text.now }
+    ensures within { result ≤ length text.now }
+{
+    text.iter().take_while(|byte| **byte != b' ').count()
+}
+
 /// The first word of a text.
 pub(crate) fn first_word(text: &[u8]) -> FirstWord<'_>
     ensures { split text.now ≡ result.word.now ∷ words_in result.behind }
 {
-    let size = run_len(text, ByteClass::Not(b' '));
+    let size = word_len(text);
     FirstWord {
         word: &text[..size],
         behind: Words {

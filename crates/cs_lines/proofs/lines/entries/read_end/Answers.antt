@@ -22,61 +22,31 @@ pub returns-in_err-feasible : goal.returns-in_err-feasible
 returns-in_err-feasible c =
     rw c.from_residual-in_err-feasible.ensures (λ l h.
     let p = end_words (words_behind c.args.line.rest.now) l (behind_free c.args.line.rest.now) h in
-    let one = c.in_ok-goals.ensures in
-    let rest1 = same_behind_two one.2 p.is in
-    c.in_err-feasible.ensures p.counts.feasible (codes "infeasible" ∷ numeral p.counts.infeasible ∷ codes "large" ∷ numeral p.counts.large ∷ codes "negatives" ∷ numeral p.counts.negatives ∷ codes "cases" ∷ numeral p.counts.cases ∷ []) rest1)
+    c.in_err-feasible.ensures p.counts.feasible (codes "infeasible" ∷ numeral p.counts.infeasible ∷ codes "large" ∷ numeral p.counts.large ∷ codes "negatives" ∷ numeral p.counts.negatives ∷ codes "cases" ∷ numeral p.counts.cases ∷ []) (same_behind_two c.in_ok-goals.ensures.2 p.is))
 
 pub returns-in_err-infeasible : goal.returns-in_err-infeasible
 returns-in_err-infeasible c =
     rw c.from_residual-in_err-infeasible.ensures (λ l h.
     let p = end_words (words_behind c.args.line.rest.now) l (behind_free c.args.line.rest.now) h in
-    let one = c.in_ok-goals.ensures in
-    let rest1 = same_behind_two one.2 p.is in
-    let two = c.in_ok-feasible.ensures in
-    let rest2 = same_behind_two two.2 rest1 in
-    c.in_err-infeasible.ensures p.counts.infeasible (codes "large" ∷ numeral p.counts.large ∷ codes "negatives" ∷ numeral p.counts.negatives ∷ codes "cases" ∷ numeral p.counts.cases ∷ []) rest2)
+    c.in_err-infeasible.ensures p.counts.infeasible (codes "large" ∷ numeral p.counts.large ∷ codes "negatives" ∷ numeral p.counts.negatives ∷ codes "cases" ∷ numeral p.counts.cases ∷ []) (same_behind_two c.in_ok-feasible.ensures.2 (same_behind_two c.in_ok-goals.ensures.2 p.is)))
 
 pub returns-in_err-large : goal.returns-in_err-large
 returns-in_err-large c =
     rw c.from_residual-in_err-large.ensures (λ l h.
     let p = end_words (words_behind c.args.line.rest.now) l (behind_free c.args.line.rest.now) h in
-    let one = c.in_ok-goals.ensures in
-    let rest1 = same_behind_two one.2 p.is in
-    let two = c.in_ok-feasible.ensures in
-    let rest2 = same_behind_two two.2 rest1 in
-    let three = c.in_ok-infeasible.ensures in
-    let rest3 = same_behind_two three.2 rest2 in
-    c.in_err-large.ensures p.counts.large (codes "negatives" ∷ numeral p.counts.negatives ∷ codes "cases" ∷ numeral p.counts.cases ∷ []) rest3)
+    c.in_err-large.ensures p.counts.large (codes "negatives" ∷ numeral p.counts.negatives ∷ codes "cases" ∷ numeral p.counts.cases ∷ []) (same_behind_two c.in_ok-infeasible.ensures.2 (same_behind_two c.in_ok-feasible.ensures.2 (same_behind_two c.in_ok-goals.ensures.2 p.is))))
 
 pub returns-in_err-negatives : goal.returns-in_err-negatives
 returns-in_err-negatives c =
     rw c.from_residual-in_err-negatives.ensures (λ l h.
     let p = end_words (words_behind c.args.line.rest.now) l (behind_free c.args.line.rest.now) h in
-    let one = c.in_ok-goals.ensures in
-    let rest1 = same_behind_two one.2 p.is in
-    let two = c.in_ok-feasible.ensures in
-    let rest2 = same_behind_two two.2 rest1 in
-    let three = c.in_ok-infeasible.ensures in
-    let rest3 = same_behind_two three.2 rest2 in
-    let four = c.in_ok-large.ensures in
-    let rest4 = same_behind_two four.2 rest3 in
-    c.in_err-negatives.ensures p.counts.negatives (codes "cases" ∷ numeral p.counts.cases ∷ []) rest4)
+    c.in_err-negatives.ensures p.counts.negatives (codes "cases" ∷ numeral p.counts.cases ∷ []) (same_behind_two c.in_ok-large.ensures.2 (same_behind_two c.in_ok-infeasible.ensures.2 (same_behind_two c.in_ok-feasible.ensures.2 (same_behind_two c.in_ok-goals.ensures.2 p.is)))))
 
 pub returns-in_err-cases : goal.returns-in_err-cases
 returns-in_err-cases c =
     rw c.from_residual-in_err-cases.ensures (λ l h.
     let p = end_words (words_behind c.args.line.rest.now) l (behind_free c.args.line.rest.now) h in
-    let one = c.in_ok-goals.ensures in
-    let rest1 = same_behind_two one.2 p.is in
-    let two = c.in_ok-feasible.ensures in
-    let rest2 = same_behind_two two.2 rest1 in
-    let three = c.in_ok-infeasible.ensures in
-    let rest3 = same_behind_two three.2 rest2 in
-    let four = c.in_ok-large.ensures in
-    let rest4 = same_behind_two four.2 rest3 in
-    let five = c.in_ok-negatives.ensures in
-    let rest5 = same_behind_two five.2 rest4 in
-    c.in_err-cases.ensures p.counts.cases ([]) rest5)
+    c.in_err-cases.ensures p.counts.cases ([]) (same_behind_two c.in_ok-negatives.ensures.2 (same_behind_two c.in_ok-large.ensures.2 (same_behind_two c.in_ok-infeasible.ensures.2 (same_behind_two c.in_ok-feasible.ensures.2 (same_behind_two c.in_ok-goals.ensures.2 p.is))))))
 
 pub returns-then-is_done : goal.returns-then-is_done
 returns-then-is_done c =
@@ -93,16 +63,4 @@ returns-then-is_done c =
 pub returns-else-is_done : goal.returns-else-is_done
 returns-else-is_done c l h =
     let p = end_words (words_behind c.args.line.rest.now) l (behind_free c.args.line.rest.now) h in
-    let one = c.in_ok-goals.ensures in
-    let rest1 = same_behind_two one.2 p.is in
-    let two = c.in_ok-feasible.ensures in
-    let rest2 = same_behind_two two.2 rest1 in
-    let three = c.in_ok-infeasible.ensures in
-    let rest3 = same_behind_two three.2 rest2 in
-    let four = c.in_ok-large.ensures in
-    let rest4 = same_behind_two four.2 rest3 in
-    let five = c.in_ok-negatives.ensures in
-    let rest5 = same_behind_two five.2 rest4 in
-    let six = c.in_ok-cases.ensures in
-    let rest6 = same_behind_two six.2 rest5 in
-    false≢true ((c.if-is_done.ensures).1 rest6)
+    false≢true (c.if-is_done.ensures.1 (same_behind_two c.in_ok-cases.ensures.2 (same_behind_two c.in_ok-negatives.ensures.2 (same_behind_two c.in_ok-large.ensures.2 (same_behind_two c.in_ok-infeasible.ensures.2 (same_behind_two c.in_ok-feasible.ensures.2 (same_behind_two c.in_ok-goals.ensures.2 p.is)))))))

@@ -1,12 +1,12 @@
-use Rattle.std.proofs.Common.{[], ◌∷◌, refl, sym, ap, ◌∙◌}
+use Rattle.std.proofs.Common.{[], ◌∷◌, refl, ap, ◌∙◌}
 use Rattle.std.proofs.lemmas.Bool.{false≢true}
 use Rattle.std.proofs.lemmas.List.Elements.{All-nil, All-cons}
 use Rattle.std.specs.Prelude.{codes}
 use Rattle.cs_lines.proofs.OnLines.Forms.{says_words, negative_words}
-use Rattle.cs_lines.proofs.OnLines.Parts.{same_behind, same_behind_two, on, step, step_two}
+use Rattle.cs_lines.proofs.OnLines.Parts.{same_behind, same_behind_two, behind_edit, on, step, step_two}
 use Rattle.cs_lines.proofs.OnLines.Spelled.{IsByte}
 use Rattle.cs_lines.proofs.OnLines.Splits.{behind_free}
-use Rattle.cs_lines.proofs.OnTexts.OneLine.{pair_words, same_edit}
+use Rattle.cs_lines.proofs.OnTexts.OneLine.{pair_words}
 use Rattle.cs_lines.specs.Lines.Line.{NegativeLine}
 use Rattle.cs_lines.specs.Lines.Splits.{words_behind}
 use Rattle.cs_lines.specs.Lines.Texts.{edit_words, edit_names}
@@ -23,61 +23,31 @@ pub returns-in_err-base : goal.returns-in_err-base
 returns-in_err-base c =
     rw c.from_residual-in_err-base.ensures (λ l h.
     let p = negative_words (words_behind c.args.line.rest.now) l (behind_free c.args.line.rest.now) h in
-    let one = c.in_ok-number.ensures in
-    let rest1 = same_behind one.2 p.is in
-    c.in_err-base.ensures p.base (edit_words p.edit (pair_words p.left p.right p.place)) rest1)
+    c.in_err-base.ensures p.base (edit_words p.edit (pair_words p.left p.right p.place)) (same_behind c.in_ok-number.ensures.2 p.is))
 
 pub returns-in_err-edit : goal.returns-in_err-edit
 returns-in_err-edit c =
     rw c.from_residual-in_err-edit.ensures (λ l h.
     let p = negative_words (words_behind c.args.line.rest.now) l (behind_free c.args.line.rest.now) h in
-    let one = c.in_ok-number.ensures in
-    let rest1 = same_behind one.2 p.is in
-    let two = c.in_ok-base.ensures in
-    let rest2 = same_behind_two two.2 rest1 in
-    c.in_err-edit.ensures p.edit (pair_words p.left p.right p.place) p.are_words rest2)
+    c.in_err-edit.ensures p.edit (pair_words p.left p.right p.place) p.are_words (same_behind_two c.in_ok-base.ensures.2 (same_behind c.in_ok-number.ensures.2 p.is)))
 
 pub returns-in_err-keyword : goal.returns-in_err-keyword
 returns-in_err-keyword c =
     rw c.from_residual-in_err-keyword.ensures (λ l h.
     let p = negative_words (words_behind c.args.line.rest.now) l (behind_free c.args.line.rest.now) h in
-    let one = c.in_ok-number.ensures in
-    let rest1 = same_behind one.2 p.is in
-    let two = c.in_ok-base.ensures in
-    let rest2 = same_behind_two two.2 rest1 in
-    let three = c.in_ok-edit.ensures in
-    let rest3 = (same_edit three.0 p.edit _ (pair_words p.left p.right p.place) (sym three.3 ∙ rest2)).1 in
-    c.in_err-keyword.ensures (p.left ∷ p.right ∷ codes "at" ∷ numeral p.place ∷ []) rest3)
+    c.in_err-keyword.ensures (p.left ∷ p.right ∷ codes "at" ∷ numeral p.place ∷ []) (behind_edit c.in_ok-edit.ensures.0 p.edit c.in_ok-edit.ensures.3 (same_behind_two c.in_ok-base.ensures.2 (same_behind c.in_ok-number.ensures.2 p.is))))
 
 pub returns-in_err-names : goal.returns-in_err-names
 returns-in_err-names c =
     rw c.from_residual-in_err-names.ensures (λ l h.
     let p = negative_words (words_behind c.args.line.rest.now) l (behind_free c.args.line.rest.now) h in
-    let one = c.in_ok-number.ensures in
-    let rest1 = same_behind one.2 p.is in
-    let two = c.in_ok-base.ensures in
-    let rest2 = same_behind_two two.2 rest1 in
-    let three = c.in_ok-edit.ensures in
-    let rest3 = (same_edit three.0 p.edit _ (pair_words p.left p.right p.place) (sym three.3 ∙ rest2)).1 in
-    let four = c.in_ok-keyword.ensures in
-    let rest4 = same_behind four rest3 in
-    c.in_err-names.ensures p.left p.right (codes "at" ∷ numeral p.place ∷ []) p.left_word p.right_word rest4)
+    c.in_err-names.ensures p.left p.right (codes "at" ∷ numeral p.place ∷ []) p.left_word p.right_word (same_behind c.in_ok-keyword.ensures (behind_edit c.in_ok-edit.ensures.0 p.edit c.in_ok-edit.ensures.3 (same_behind_two c.in_ok-base.ensures.2 (same_behind c.in_ok-number.ensures.2 p.is)))))
 
 pub returns-in_err-at : goal.returns-in_err-at
 returns-in_err-at c =
     rw c.from_residual-in_err-at.ensures (λ l h.
     let p = negative_words (words_behind c.args.line.rest.now) l (behind_free c.args.line.rest.now) h in
-    let one = c.in_ok-number.ensures in
-    let rest1 = same_behind one.2 p.is in
-    let two = c.in_ok-base.ensures in
-    let rest2 = same_behind_two two.2 rest1 in
-    let three = c.in_ok-edit.ensures in
-    let rest3 = (same_edit three.0 p.edit _ (pair_words p.left p.right p.place) (sym three.3 ∙ rest2)).1 in
-    let four = c.in_ok-keyword.ensures in
-    let rest4 = same_behind four rest3 in
-    let five = c.in_ok-names.ensures in
-    let rest5 = same_behind_two five.2 rest4 in
-    c.in_err-at.ensures p.place [] rest5)
+    c.in_err-at.ensures p.place [] (same_behind_two c.in_ok-names.ensures.2 (same_behind c.in_ok-keyword.ensures (behind_edit c.in_ok-edit.ensures.0 p.edit c.in_ok-edit.ensures.3 (same_behind_two c.in_ok-base.ensures.2 (same_behind c.in_ok-number.ensures.2 p.is))))))
 
 pub returns-then-is_done : goal.returns-then-is_done
 returns-then-is_done c =
@@ -98,16 +68,4 @@ returns-then-is_done c =
 pub returns-else-is_done : goal.returns-else-is_done
 returns-else-is_done c l h =
     let p = negative_words (words_behind c.args.line.rest.now) l (behind_free c.args.line.rest.now) h in
-    let one = c.in_ok-number.ensures in
-    let rest1 = same_behind one.2 p.is in
-    let two = c.in_ok-base.ensures in
-    let rest2 = same_behind_two two.2 rest1 in
-    let three = c.in_ok-edit.ensures in
-    let rest3 = (same_edit three.0 p.edit _ (pair_words p.left p.right p.place) (sym three.3 ∙ rest2)).1 in
-    let four = c.in_ok-keyword.ensures in
-    let rest4 = same_behind four rest3 in
-    let five = c.in_ok-names.ensures in
-    let rest5 = same_behind_two five.2 rest4 in
-    let six = c.in_ok-at.ensures in
-    let rest6 = same_behind_two six.2 rest5 in
-    false≢true ((c.if-is_done.ensures).1 rest6)
+    false≢true (c.if-is_done.ensures.1 (same_behind_two c.in_ok-at.ensures.2 (same_behind_two c.in_ok-names.ensures.2 (same_behind c.in_ok-keyword.ensures (behind_edit c.in_ok-edit.ensures.0 p.edit c.in_ok-edit.ensures.3 (same_behind_two c.in_ok-base.ensures.2 (same_behind c.in_ok-number.ensures.2 p.is)))))))

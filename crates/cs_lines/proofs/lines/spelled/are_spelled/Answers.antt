@@ -1,5 +1,4 @@
 use Rattle.std.proofs.Common.{sym, subst}
-use Rattle.cs_lines.proofs.OnLines.Parts.{front}
 use Rattle.cs_lines.proofs.OnLines.Spelled.{spelled_at_end, spelled_more, spelled_less}
 use Rattle.cs_lines.specs.Lines.Spelled.{AreSpelled}
 use Rattle.cs_lines.proofs.lines.spelled.are_spelled.Goals as goal

@@ -1,5 +1,4 @@
 use Rattle.std.proofs.Common.{ℕ, List, [], ◌∷◌, ◌++◌, sym, ap, ◌∙◌, subst, append_assoc, append-nil}
-use Rattle.cs_lines.proofs.OnLines.Parts.{front}
 use Rattle.cs_lines.proofs.OnLines.Spelled.{spells_less, spells_end}
 use Rattle.cs_lines.specs.Lines.Spelled.{Spells}
 use Rattle.cs_lines.proofs.lines.quoted.Quoted.bytes.Goals as goal

@@ -1,5 +1,4 @@
 use Rattle.std.proofs.Common.{ℕ, List, sym, ap, subst, length, drop, arith, length-drop}
-use Rattle.cs_lines.proofs.OnLines.Parts.{front}
 use Rattle.cs_lines.proofs.OnLines.Spelled.{spells_less, spells_end}
 use Rattle.cs_lines.specs.Lines.Spelled.{Spells}
 use Rattle.cs_lines.proofs.lines.quoted.Quoted.len.Goals as goal
