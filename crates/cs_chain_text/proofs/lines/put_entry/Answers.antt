@@ -1,4 +1,4 @@
-use Rattle.std.proofs.Common.{◌≡◌, ◌++◌, List, ℕ, codes, ap, ◌∙◌, subst, Option}
+use Rattle.std.proofs.Common.{◌++◌, List, ℕ, codes, ap, ◌∙◌, subst, Option}
 use Rattle.std.specs.Prelude.{option_map}
 use Rattle.cs_texts.specs.declared.rendering.rendered.Rendered.{Rendered}
 use Rattle.cs_texts.specs.Rendering.Rendering.{Rendering, rendering}

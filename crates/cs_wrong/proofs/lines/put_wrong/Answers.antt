@@ -1,5 +1,5 @@
 -- The words of the slip and its class, and below them the list and its text.
-use Rattle.std.proofs.Common.{◌≡◌, ◌++◌, List, [], ℕ, codes, ap, ◌∙◌, subst, Option}
+use Rattle.std.proofs.Common.{◌++◌, List, [], ℕ, codes, ap, ◌∙◌, subst, Option}
 use Rattle.std.specs.Prelude.{option_map}
 use Rattle.cs_manifest.proofs.OnManifest.Lent.{copied}
 use Rattle.cs_manifest.proofs.OnOutput.Pieces.{spelled, then, then_below}
