@@ -9,6 +9,7 @@ pub mod Sizes
 pub mod Cases
 pub mod Comparing
 pub mod Framed
+pub mod Finding
 pub mod Apart
 pub mod Once
 pub mod Agreeing

@@ -11,6 +11,7 @@ pub(crate) mod due;
 mod edits;
 mod entries;
 mod excluded;
+mod finding;
 mod framed;
 pub(crate) mod goals;
 mod head;

@@ -26,7 +26,7 @@
 //!
 //! # What is only tested
 //!
-//! That `check` answers where memory is ample: by `test_command`.
+//! That `check` answers where memory is ample: by `test_check`.
 #![tactic(auto)]
 
 mod checking;

@@ -6,7 +6,6 @@ use Rattle.std.proofs.lemmas.Result.{IfOk-weaker}
 use Rattle.cs_yacc.specs.Reading.File.{File}
 use Rattle.cs_scanner.specs.Scan.Scan.{Scanning}
 use Rattle.cs_closed.specs.Closed.Sets.{PlainSets}
-use Rattle.cs_lines.specs.declared.lines.line.Line as held
 use Rattle.cs_lines.specs.declared.lines.line.Line.TheVariants as lines
 use Rattle.cs_lines.specs.declared.lines.line.Counts as held_counts
 use Rattle.cs_lines.specs.declared.lines.line.GoalWords as held_goals

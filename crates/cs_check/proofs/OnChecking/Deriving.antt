@@ -1,11 +1,10 @@
 -- Derive lines and text lines.
-use Rattle.std.proofs.Common.{◌≡◌, ℕ, ◌+◌, ◌-◌, ◌<◌, ◌≤◌, ◌↔◌, Bool, List, [], ◌∷◌, ◌++◌, Some, length, refl, sym, ap, ◌∙◌, subst, arith}
-use Rattle.std.specs.Prelude.{IsTrue, count_by, slice_get}
+use Rattle.std.proofs.Common.{◌≡◌, ℕ, ◌+◌, ◌<◌, ◌≤◌, ◌↔◌, Bool, List, [], ◌∷◌, ◌++◌, length, refl, sym, ap, ◌∙◌, subst, arith}
+use Rattle.std.specs.Prelude.{IsTrue, count_by}
 use Rattle.std.specs.Global.{Vec}
 use Rattle.std.specs.List.{AllZip, Contains}
 use Rattle.std.proofs.lemmas.Bool.{false≢true}
-use Rattle.std.proofs.lemmas.Option.{slice_get-get_or}
-use Rattle.std.proofs.lemmas.List.{length-append, length_push, get_or_push, map_push}
+use Rattle.std.proofs.lemmas.List.{length-append, length_push, map_push}
 use Rattle.std.proofs.lemmas.List.Elements.{All-push, All-weaker, All-contains}
 use Rattle.cs_choices.specs.declared.weigh.Weigh.{Weigh}
 use Rattle.cs_grammar.specs.declared.symbol.Symbol.{Symbol}
@@ -28,7 +27,7 @@ use Rattle.cs_check.specs.Passing.Faults.{Checked, HasCaseSize, HasScan}
 use Rattle.cs_check.specs.Checking.Cases.{PlainCase, case_of, cases_of}
 use Rattle.cs_check.specs.Checking.Told.{sizes_of, AreSized, IsCaseOf, HasTold, HasBase, AreEntries}
 use Rattle.cs_check.proofs.OnChecking.Trees.{code_rules}
-use Rattle.cs_check.proofs.OnChecking.Once.{one_numbered, one_told}
+use Rattle.cs_check.proofs.OnChecking.Once.{one_numbered, last_push, one_told}
 use Rattle.cs_check.proofs.OnChecking.Told.{kept, added, last_part_more, among_true}
 
 -- ---- a text line
@@ -40,13 +39,6 @@ scan_told c one lines text tokens told so is = (
 )
 
 -- ---- a derive line
-
-pub last_push : {A : Type 0} (xs : List A) (x : A) → IsLast (xs ++ x ∷ []) x
-last_push xs x =
-    let long = length_push xs x in
-    let low : length xs < length (xs ++ x ∷ []) = omega arith in
-    let back : length (xs ++ x ∷ []) - 1 ≡ length xs = omega arith in
-    (omega arith, ap (slice_get (xs ++ x ∷ [])) back ∙ slice_get-get_or (xs ++ x ∷ []) (length xs) x low ∙ ap Some (get_or_push xs x x (length xs) refl))
 
 -- only a case line may stand before it
 only_case : (p : Part) → Contains (next_parts p) OfDerivation → p ≡ OfCase

@@ -6,7 +6,7 @@ use Rattle.cs_check.specs.declared.passing.fault.ClaimFault.TheVariants.{Form, H
 use Rattle.cs_lines.specs.Words.Edits.{EditWords}
 use Rattle.cs_lines.specs.Lines.Line.{GoalWords, VerdictWords, Counts, Line, Opening, Weighing, TokenLine, RuleLine, LexemeLine, SetLine, RowLine, CaseLine, DeriveLine, TokensLine, TextLine, NoLexemeLine, NoScanLine, GoalLine, BaseLine, NegativeLine, EndLine}
 use Rattle.cs_check.specs.Passing.Head.{Due, TheOpening, TheWeighing, TheToken, TheRule, TheLexeme, TheSet, TheRow, Takes}
-use Rattle.cs_check.specs.Passing.Places.{IsInHead, MayCome}
+use Rattle.cs_check.specs.Passing.Places.{IsInHead}
 use Rattle.cs_check.specs.Passing.Faults.{Checked, Has}
 use Rattle.cs_check.specs.Passing.Passing.{number}
 use Rattle.cs_check.specs.Checking.Judging.{IsRight, IsWrong}

@@ -27,8 +27,7 @@ use Rattle.cs_check.specs.Checking.Edits.{IsEditedIf}
 use Rattle.cs_check.specs.Checking.Told.{rules_of, AreSized, IsCaseOf, HasTold, HasBase, AreEntries}
 use Rattle.cs_check.specs.Checking.Negatives.{IsCasePlace}
 use Rattle.cs_check.proofs.OnChecking.Told.{kept, added, last_part_more, among_true, base_kept, plain_sizes}
-use Rattle.cs_check.proofs.OnChecking.Deriving.{last_push}
-use Rattle.cs_check.proofs.OnChecking.Once.{one_base, one_made}
+use Rattle.cs_check.proofs.OnChecking.Once.{last_push, one_base, one_made}
 
 -- ---- the case of a goal
 

@@ -1,13 +1,12 @@
 -- No line claims nothing.
-use Rattle.std.proofs.Common.{◌≡◌, ℕ, zero, suc, Bool, false, List, [], ◌∷◌, replicate, length, refl, subst, ◌↔◌, arith}
-use Rattle.std.specs.Prelude.{All}
+use Rattle.std.proofs.Common.{◌≡◌, ℕ, zero, suc, Bool, false, List, [], replicate, length}
 use Rattle.std.proofs.lemmas.List.{length-replicate}
 use Rattle.std.proofs.lemmas.List.Elements.{All-replicate}
 use Rattle.cs_grammar.specs.declared.symbol.Mark.{Mark}
 use Rattle.cs_grammar.specs.declared.symbol.Mark.TheVariants as marks
 use Rattle.cs_yacc.specs.Reading.File.{File}
 use Rattle.cs_lines.specs.Words.Names.{IsTokenNamed, IsNonterminalNamed, IsBehindNamed}
-use Rattle.cs_closed.specs.Closed.Sets.{IsPair, IsNext, no_set, no_sets}
+use Rattle.cs_closed.specs.Closed.Sets.{IsPair, IsNext, no_sets}
 use Rattle.cs_check.specs.Passing.Head.{entry, AreClaimed, ClaimsNext}
 use Rattle.cs_check.specs.Checking.Claims.{IsTable, AreWholeSets}
 use Rattle.cs_closed.proofs.OnClosed.Members.{none_in_falses}

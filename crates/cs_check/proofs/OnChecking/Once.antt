@@ -1,5 +1,8 @@
 -- What lines tell of tokens they tell once.
-use Rattle.std.proofs.Common.{◌≡◌, ℕ, List, [], ◌∷◌, ◌++◌, Some, length, sym, ap, ◌∙◌, subst, append-nil}
+use Rattle.std.proofs.Common.{◌≡◌, ℕ, ◌-◌, ◌<◌, List, [], ◌∷◌, ◌++◌, Some, length, refl, sym, ap, ◌∙◌, subst, append-nil, arith}
+use Rattle.std.specs.Prelude.{slice_get}
+use Rattle.std.proofs.lemmas.Option.{slice_get-get_or}
+use Rattle.std.proofs.lemmas.List.{length_push, get_or_push}
 use Rattle.cs_grammar.specs.declared.symbol.Symbol.{Symbol}
 use Rattle.cs_grammar.specs.declared.symbol.Symbol.TheVariants.{Nonterminal}
 use Rattle.cs_grammar.specs.Grammar.{PlainGrammar}
@@ -11,11 +14,18 @@ use Rattle.cs_lines.specs.Words.Edits.{EditWords, Deletes, Inserts, Replaces, Sw
 use Rattle.cs_lines.specs.Lines.Line.{Feasible, Line}
 use Rattle.cs_check.specs.Passing.Above.{derivations, verdicts, base_goals, edits}
 use Rattle.cs_check.specs.Passing.Places.{Part, InHead, OfCase, OfDerivation, OfCaseTokens, OfCaseText, OfGoal, OfBase, OfNegative, OfNegativeTokens, OfNegativeText, OfEnd, last_part}
-use Rattle.cs_check.specs.Passing.Entries.{IsNumbered, IsCase, HasCase, IsBase, IsMade, IsNegative, IsTold, AreTold}
+use Rattle.cs_check.specs.Passing.Entries.{IsNumbered, IsLast, IsCase, HasCase, IsBase, IsMade, IsNegative, IsTold, AreTold}
 use Rattle.cs_check.proofs.OnChecking.Named.{one_named}
 
 pub one_numbered : {A : Type 0} (list : List A) (number : ℕ) (a b : A) → IsNumbered list number a → IsNumbered list number b → a ≡ b
 one_numbered list number a b h k = let same : Some a ≡ Some b = sym h.1 ∙ k.1 in cc
+
+pub last_push : {A : Type 0} (xs : List A) (x : A) → IsLast (xs ++ x ∷ []) x
+last_push xs x =
+    let long = length_push xs x in
+    let low : length xs < length (xs ++ x ∷ []) = omega arith in
+    let back : length (xs ++ x ∷ []) - 1 ≡ length xs = omega arith in
+    (omega arith, ap (slice_get (xs ++ x ∷ [])) back ∙ slice_get-get_or (xs ++ x ∷ []) (length xs) x low ∙ ap Some (get_or_push xs x x (length xs) refl))
 
 -- an edit makes one list
 pub one_edit : (file : File) (w : List ℕ) (edit : EditWords) (a b : List ℕ) → IsEdited file w edit a → IsEdited file w edit b → a ≡ b

@@ -1,5 +1,5 @@
 -- A line of a manifest by its bytes: what it says can be counted, and its judgement is that of the bytes.
-use Rattle.std.proofs.Common.{◌≡◌, ℕ, ◌+◌, ◌<◌, ◌≤◌, List, [], ◌∷◌, ◌++◌, Option, Some, None, length, map, refl, sym, ap, ◌∙◌, subst, inl, inr, arith}
+use Rattle.std.proofs.Common.{◌≡◌, ℕ, ◌<◌, ◌≤◌, List, [], ◌∷◌, ◌++◌, Option, Some, None, length, map, refl, sym, ap, ◌∙◌, subst, inl, inr, arith}
 use Rattle.std.specs.Prelude.{codes, IfOk, Result}
 use Rattle.std.specs.List.{flat_map}
 use Rattle.std.proofs.lemmas.List.{length-append, length-map}
@@ -7,7 +7,7 @@ use Rattle.std.proofs.lemmas.Result.{IfOk-weaker}
 use Rattle.cs_lines.specs.declared.lines.line.Line as held
 use Rattle.cs_lines.specs.declared.lines.line.Line.TheVariants as lines
 use Rattle.cs_lines.specs.Lines.Line.{Line, DeriveLine, TextLine}
-use Rattle.cs_lines.specs.Words.Words.{line, text_byte, numeral, quoted}
+use Rattle.cs_lines.specs.Words.Words.{text_byte, numeral, quoted}
 use Rattle.cs_lines.specs.Lines.Texts.{joined, words, Says}
 use Rattle.cs_lines.specs.Lines.Spelled.{Spells}
 use Rattle.cs_lines.specs.Lines.Read.{Tells, IsReadAs, SaysNone}

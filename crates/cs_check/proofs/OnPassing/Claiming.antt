@@ -1,5 +1,5 @@
 -- The claims of right lines.
-use Rattle.std.proofs.Common.{◌≡◌, ℕ, zero, suc, ◌+◌, ◌≤◌, false, List, [], ◌∷◌, ◌++◌, Some, None, length, map, refl, sym, ap, ◌∙◌, subst, append_assoc, append-nil, arith}
+use Rattle.std.proofs.Common.{◌≡◌, ℕ, suc, ◌+◌, ◌≤◌, false, List, [], ◌∷◌, ◌++◌, Some, None, length, map, refl, sym, ap, ◌∙◌, subst, append_assoc, append-nil, arith}
 use Rattle.std.specs.Prelude.{slice_get}
 use Rattle.std.specs.List.{Contains}
 use Rattle.std.proofs.lemmas.Bool.{false≢true}
@@ -8,7 +8,7 @@ use Rattle.cs_grammar.specs.declared.symbol.Symbol.TheVariants.{Nonterminal}
 use Rattle.cs_grammar.specs.Grammar.{PlainGrammar}
 use Rattle.cs_grammar.specs.Tree.{Tree, IsTree, code, yield, size, IsPrefixFree}
 use Rattle.cs_grammar.specs.Leftmost.{IsYield}
-use Rattle.cs_grammar.specs.Sentence.{framed, IsFollowed}
+use Rattle.cs_grammar.specs.Sentence.{framed}
 use Rattle.cs_grammar.specs.Weights.{Measure}
 use Rattle.cs_grammar.proofs.OneTree.{one_tree}
 use Rattle.cs_choices.specs.declared.weigh.Weigh.{Weigh}
@@ -26,6 +26,7 @@ use Rattle.cs_check.specs.Passing.Faults.{Checked, HasScan}
 use Rattle.cs_check.specs.Passing.Passing.{Passes}
 use Rattle.cs_check.specs.Passing.Manifest.{AreRight}
 use Rattle.cs_check.specs.Passing.Claims.{IsTextOf, AreShown, IsTrueCase, AreAllGoals, IsTrueGoal, IsTrulyInfeasible, IsTrueNegative, AreTrue, Claims}
+use Rattle.cs_check.proofs.OnChecking.Framed.{followed_at}
 use Rattle.cs_check.proofs.OnChecking.Once.{one_made, one_yield}
 use Rattle.cs_check.proofs.OnChecking.Told.{kept, added, last_part_more, among_true, base_kept}
 use Rattle.cs_check.proofs.OnPassing.Behind.{is_head, IsPast, AreBody, told_stays, past_more, body_behind, behind_all, follower}
@@ -83,17 +84,6 @@ measured_below above body are w h = (
 )
 
 -- ---- a pair at a place
-
-followed : {A : Type 0} (list : List A) (at : ℕ) (a b : A) → slice_get list at ≡ Some a → slice_get list (suc at) ≡ Some b → IsFollowed a b list
-followed [] at a b h k = absurd cc
-followed (x ∷ []) zero a b h k = absurd cc
-followed {A} (x ∷ (y ∷ list)) zero a b h k =
-    let first : x ≡ a = cc in
-    let second : y ≡ b = cc in
-    ([], list, ap (λ (z : A). z ∷ y ∷ list) first ∙ ap (λ (z : A). a ∷ z ∷ list) second)
-followed {A} (x ∷ list) (suc at) a b h k =
-    let inner = followed list at a b h k in
-    (x ∷ inner.0, inner.1, ap (λ (s : List A). x ∷ s) inner.2)
 
 one_code : (g : PlainGrammar) (x : Symbol) (t : Tree) → IsTree g x t → IsPrefixFree g x t
 one_code g x t is u more other e =
@@ -265,7 +255,7 @@ module _ (c : Checked) (lines : List Line) (right : AreRight c lines) where
           first = apart.first;
           second = apart.second;
           poisoned = poisoned;
-          outside = λ sentence. poisoned tokens sentence (followed (framed tokens) at apart.a apart.b apart.first second);
+          outside = λ sentence. poisoned tokens sentence (followed_at (framed tokens) at apart.a apart.b apart.first second);
           shown = are_shown tokens OfNegative OfNegativeTokens (above ++ l ∷ []) below (record {
             past = past_more g above l refl behind;
             place = place ∙ sym (append_assoc above (l ∷ []) below);

@@ -6,7 +6,7 @@ use Rattle.cs_goals.specs.declared.goal.Goal.{Goal}
 use Rattle.cs_grammar.specs.Leftmost.{IsYield}
 use Rattle.cs_goals.specs.Meets.{IsMeeting}
 use Rattle.cs_lines.specs.Lines.Numbers.{IsRead, greatest}
-use Rattle.cs_check.specs.Passing.Entries.{IsNumbered}
+use Rattle.cs_check.specs.Passing.Entries.{IsNumbered, IsLast}
 
 -- a case: its size and its rule numbers
 pub record PlainCase : Type 0 where
@@ -52,7 +52,15 @@ IsAt cases place case = slice_get cases.list place ≡ Some case
 abbrev pub Yields : PlainCases → PlainCase → Vec ℕ → Type 0
 Yields cases case tokens = IsYield cases.grammar case.rules tokens.items
 
--- the answer tells whether the case of this number meets the goal
+-- these are the rules and the tokens of the last case, if there is one
+abbrev pub HoldsLast : PlainGrammar → List PlainCase → List ℕ → List ℕ → Type 0
+HoldsLast g cases rules tokens = (case : PlainCase) → IsLast cases case → (rules ≡ case.rules) × IsYield g rules tokens
+
+-- the answer tells whether the case meets the goal
+abbrev pub DecidesMeeting : PlainCases → Goal → PlainCase → Bool → Type 0
+DecidesMeeting cases goal case met = IsTrue met ↔ IsMeeting cases.grammar goal case.rules
+
+-- and whether the case of this number does
 abbrev pub TellsMet : PlainCases → Goal → ℕ → Bool → Type 0
 TellsMet cases goal number met = IsTrue met ↔ Meets cases.grammar cases.list goal number
 

@@ -22,11 +22,11 @@ pub(crate) enum Place {
 }
 
 /// What the lines above have told.
-#[derive(Debug, Drop)]
-pub(crate) struct Above<'a> {
+#[derive(Drop)]
+pub(crate) struct Above<'a, 'm> {
     pub(crate) head: Head,
     pub(crate) part: Part,
-    pub(crate) entries: Entries<'a>,
+    pub(crate) entries: Entries<'a, 'm>,
 }
 
 // The text in front of the newline, if there is one.
@@ -39,14 +39,14 @@ fn text_of(bytes: &[u8]) -> Option<&[u8]>
     }
 }
 
-impl<'a> Above<'a> {
+impl<'a, 'm> Above<'a, 'm> {
     ghost use Rattle.cs_check.specs.Checking.Head.{HasWholeSets};
     ghost use Rattle.cs_check.specs.Checking.Running.{IsShort, KnowsAbove};
     ghost use Rattle.cs_check.specs.Checking.Running.{TellsInside, TellsPast, TellsFollowing, TellsPlace};
     ghost use Rattle.cs_check.specs.Checking.Running.{JudgesInside, JudgesBehind, JudgesLine, JudgesPiece};
 
     /// What no line has told.
-    pub(crate) fn new(alloc: Global, yacc: &'a YaccFile) -> Above<'a>
+    pub(crate) fn new(alloc: Global, yacc: &'a YaccFile) -> Above<'a, 'm>
         ensures knows { KnowsAbove yacc.now [] result }
         ensures whole { HasWholeSets yacc.now.grammar result.head }
     {
@@ -124,7 +124,7 @@ impl<'a> Above<'a> {
         alloc: Global,
         yacc: &YaccFile,
         scanner: &Scanner<'_>,
-        line: Line<'_>,
+        line: Line<'m>,
     ) -> Result<Option<ClaimFault>, AllocError>
         requires { IsShort line }
         ensures same { self.new.head ≡ self.old.head }
@@ -141,7 +141,7 @@ impl<'a> Above<'a> {
         alloc: Global,
         yacc: &YaccFile,
         scanner: &Scanner<'_>,
-        line: Line<'_>,
+        line: Line<'m>,
     ) -> Result<Option<ClaimFault>, AllocError>
         requires short { IsShort line }
         requires whole { HasWholeSets yacc.now.grammar self.old.head }
@@ -162,7 +162,7 @@ impl<'a> Above<'a> {
         alloc: Global,
         yacc: &YaccFile,
         scanner: &Scanner<'_>,
-        bytes: &[u8],
+        bytes: &'m [u8],
     ) -> Result<Option<ClaimFault>, AllocError>
         requires short { length bytes.now < 2 ^ 32 }
         requires whole { HasWholeSets yacc.now.grammar self.old.head }

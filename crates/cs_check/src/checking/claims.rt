@@ -8,10 +8,11 @@ ghost use Rattle.cs_check.specs.Passing.Head.{IsTokenName, IsNonterminalName, Is
 ghost use Rattle.cs_check.specs.Checking.Claims.{IsWithNonterminals, HasTokens, IsTable, AreWholeSets, IsRowNumber};
 ghost use Rattle.cs_check.specs.Checking.Claims.{ClaimsSetLine, ClaimsRowLine};
 
+use crate::checking::finding::{look_for_nonterminal, look_up_token};
 use crate::checking::marks::put_next;
 use cs_closed::{Set, Sets};
 use cs_grammar::place_of;
-use cs_lines::{Names, RowKind, SetKind, find_nonterminal, find_token};
+use cs_lines::{Names, RowKind, SetKind};
 use cs_yacc::YaccFile;
 
 // Puts the nonterminals with these names into the set; false where there is none with a name.
@@ -23,9 +24,13 @@ fn put_nonterminals(file: &YaccFile, set: &mut Set, names: Names<'_>) -> bool
     ensures length { length set.new ≡ length set.old }
 {
     let mut rest = names;
+    let mut likely = 0;
     while let Some(name) = rest.next() {
-        match find_nonterminal(file, name) {
-            Some(nonterminal) => set.insert(nonterminal),
+        match look_for_nonterminal(file, likely, name) {
+            Some(nonterminal) => {
+                set.insert(nonterminal);
+                likely = nonterminal as usize;
+            }
             None => return false,
         }
     }
@@ -43,7 +48,7 @@ fn put_in_each(file: &YaccFile, table: &mut [Set], nonterminal: u16, names: Name
 {
     let mut rest = names;
     while let Some(name) = rest.next() {
-        match find_token(file, name) {
+        match look_up_token(file, name) {
             Some(token) => table[place_of(token)].insert(nonterminal),
             None => return false,
         }

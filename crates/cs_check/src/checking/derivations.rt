@@ -11,6 +11,9 @@ use cs_grammar::{Derivation, ExpandError, Grammar, expand, one_tree};
 use cs_lines::Numbers;
 use std::alloc::{AllocError, Global};
 
+// Room for as many rule numbers is made at once.
+const USUAL_RULES: usize = 32;
+
 /// The rule numbers as a list; None where one of them is above all numbers of rules.
 pub(crate) fn read_rules(
     alloc: Global,
@@ -18,7 +21,7 @@ pub(crate) fn read_rules(
 ) -> Result<Option<Derivation>, AllocError>
     ensures { IfOk result (AreRules (numbers_in numbers.entry)) }
 {
-    let mut derivation = Derivation::new(alloc);
+    let mut derivation = Derivation::with_capacity(alloc, USUAL_RULES)?;
     let mut rest = numbers;
     while let Some(number) = rest.next() {
         if number > 65_535 {

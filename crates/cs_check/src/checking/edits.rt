@@ -5,7 +5,7 @@ ghost use Rattle.cs_lines.specs.Words.Edits.{patched};
 ghost use Rattle.cs_lines.specs.Lines.Numbers.{IsRead};
 ghost use Rattle.cs_check.specs.Checking.Edits.{IsBelow, DeletesAt, InsertsAt, ReplacesAt, SwapsAt, EditsTold};
 
-use cs_lines::find_token;
+use crate::checking::finding::look_up_token;
 use cs_yacc::YaccFile;
 use std::alloc::AllocError;
 
@@ -60,7 +60,7 @@ fn insert(
     let Some(place) = below(at, base.len() + 1) else {
         return Ok(false);
     };
-    let Some(token) = find_token(file, name) else {
+    let Some(token) = look_up_token(file, name) else {
         return Ok(false);
     };
     patch(base, place, &[token], 0, edited)?;
@@ -79,7 +79,7 @@ fn replace(
     let Some(place) = below(at, base.len()) else {
         return Ok(false);
     };
-    let Some(token) = find_token(file, name) else {
+    let Some(token) = look_up_token(file, name) else {
         return Ok(false);
     };
     patch(base, place, &[token], 1, edited)?;

@@ -1,6 +1,6 @@
 // What the lines behind the head have told.
 
-ghost use Rattle.std.specs.Prelude.{◌≡◌, ◌<◌, ◌+◌, ◌^◌, length};
+ghost use Rattle.std.specs.Prelude.{◌≡◌, ◌<◌, ◌+◌, ◌^◌, OnOk, length};
 ghost use Rattle.cs_lines.specs.Lines.Read.{names_in, numbers_in};
 
 use crate::checking::cases::Cases;
@@ -14,9 +14,9 @@ use cs_yacc::YaccFile;
 use std::alloc::{AllocError, Global};
 
 /// What the lines behind the head have told.
-#[derive(Debug, Drop)]
-pub(crate) struct Entries<'a> {
-    pub(crate) cases: Cases<'a>,
+#[derive(Drop)]
+pub(crate) struct Entries<'a, 'm> {
+    pub(crate) cases: Cases<'a, 'm>,
     // Of each goal the number of its case, or 0.
     pub(crate) goal_cases: Vec<u64>,
     pub(crate) due: DueGoals<'a>,
@@ -36,7 +36,16 @@ pub(crate) fn more(count: u64) -> u64
     count.saturating_add(1)
 }
 
-impl<'a> Entries<'a> {
+// Puts tokens in place of others.
+fn copy_into(tokens: &[u16], told: &mut Vec<u16>) -> Result<(), AllocError>
+    ensures { OnOk result (told.new.items ≡ tokens.now) }
+{
+    told.truncate(0);
+    told.extend_from_slice(tokens)?;
+    Ok(())
+}
+
+impl<'a, 'm> Entries<'a, 'm> {
     ghost use Rattle.cs_check.specs.Checking.Told.{TakesCase, TellsTokens, JudgesDerivation};
 
     /// Takes a case line, which may come here.
@@ -60,7 +69,7 @@ impl<'a> Entries<'a> {
         &mut self,
         alloc: Global,
         numbers: &[u32],
-        rules: Numbers<'_>,
+        rules: Numbers<'m>,
     ) -> Result<Option<ClaimFault>, AllocError>
         requires { length (numbers_in rules) < 2 ^ 32 }
         ensures { JudgesDerivation self.old numbers.now (numbers_in rules.entry) self.new result }
@@ -78,8 +87,8 @@ impl<'a> Entries<'a> {
         if size != self.size {
             return Ok(Some(ClaimFault::Size));
         }
-        self.cases.push(size, derivation)?;
-        self.tokens = tokens;
+        copy_into(&tokens, &mut self.tokens)?;
+        self.cases.push(size, rules, derivation, tokens)?;
         Ok(None)
     }
 }

@@ -8,10 +8,11 @@ ghost use Rattle.cs_lines.specs.Lines.Read.{names_in};
 ghost use Rattle.cs_check.specs.Passing.Head.{mark_at, IsBehindName};
 ghost use Rattle.cs_check.specs.Checking.Claims.{AreWholeSets, AreSameButNext, IsWithNext, IsWithNamed, HasBehind};
 
+use crate::checking::finding::look_up_token;
 use cs_bytes::same_bytes;
 use cs_closed::Sets;
 use cs_grammar::place_of;
-use cs_lines::{Names, find_token};
+use cs_lines::Names;
 use cs_yacc::YaccFile;
 
 // Puts the token behind the mark of this number, which is that of a token, or 0 for the begin mark.
@@ -58,7 +59,7 @@ fn put_behind(file: &YaccFile, sets: &mut Sets, mark: u16, name: &[u8]) -> bool
     if is_end {
         put_end(file, sets, mark);
     }
-    match find_token(file, name) {
+    match look_up_token(file, name) {
         Some(token) => {
             put_token(file, sets, mark, token);
             true

@@ -26,7 +26,7 @@ pub(crate) struct Negative<'m> {
     pub at: u64,
 }
 
-impl<'a> Entries<'a> {
+impl<'a, 'm> Entries<'a, 'm> {
     ghost use Rattle.cs_check.specs.Checking.Negatives.{TellsScan, FindsCase, JudgesBase, JudgesNegative};
 
     /// Whether the text scans to the tokens that were told last.

@@ -24,7 +24,7 @@ pub enum Outcome {
 }
 
 // What is found where no line has a fault; the line behind the last has this number.
-fn at_end(above: &Above<'_>, line: u32) -> Outcome
+fn at_end(above: &Above<'_, '_>, line: u32) -> Outcome
     ensures { IsEndAnswer above.now line result }
 {
     match above.part {

@@ -21,12 +21,12 @@ fn unless(is_so: bool, fault: ClaimFault) -> Option<ClaimFault>
     if is_so { None } else { Some(fault) }
 }
 
-impl<'a> Entries<'a> {
+impl<'a, 'm> Entries<'a, 'm> {
     ghost use Rattle.cs_check.specs.Checking.Told.{AreEntries};
     ghost use Rattle.cs_check.specs.Checking.Running.{IsShort, JudgesEntry};
 
     /// What no line has told.
-    pub(crate) fn new(alloc: Global, yacc: &'a YaccFile) -> Entries<'a>
+    pub(crate) fn new(alloc: Global, yacc: &'a YaccFile) -> Entries<'a, 'm>
         ensures { AreEntries yacc.now [] result }
     {
         let grammar = yacc.grammar();
@@ -56,7 +56,7 @@ impl<'a> Entries<'a> {
         yacc: &YaccFile,
         scanner: &Scanner<'_>,
         head: &Head,
-        line: Line<'_>,
+        line: Line<'m>,
     ) -> Result<Option<ClaimFault>, AllocError>
         requires { IsShort line }
         ensures { JudgesEntry yacc.now (scanning scanner.now)

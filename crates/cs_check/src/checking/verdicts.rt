@@ -27,7 +27,7 @@ fn case_in(verdict: Verdict) -> u64
 fn judge(
     alloc: Global,
     file: &YaccFile,
-    cases: &Cases<'_>,
+    cases: &Cases<'_, '_>,
     sets: &Option<Sets>,
     goal: &Goal,
     verdict: Verdict,
@@ -67,7 +67,7 @@ fn with_goal(counts: Counts, verdict: Verdict) -> Counts
     new
 }
 
-impl<'a> Entries<'a> {
+impl<'a, 'm> Entries<'a, 'm> {
     ghost use Rattle.cs_check.specs.Checking.Verdicts.{JudgesEnd, JudgesGoal, TellsNumbered};
 
     /// Whether the line has its running number.

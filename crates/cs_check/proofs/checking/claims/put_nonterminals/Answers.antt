@@ -21,8 +21,8 @@ loop-name-preserved c =
     let mid = c.loop-name.set in
     let new = c.insert.new.self in
     let name = c.in-Some.name.now in
-    let number = c.in-Some-find_nonterminal.nonterminal in
-    let named = c.in-Some-find_nonterminal.ensures.some in
+    let number = c.in-Some-look_for_nonterminal.nonterminal in
+    let named = c.in-Some-look_for_nonterminal.ensures.some in
     record {
       long = c.insert.ensures.length ∙ c.loop-name.invariant.long;
       taken =

@@ -1,4 +1,4 @@
-use Rattle.std.proofs.Common.{◌≡◌, ◌<◌, ◌≤◌, ◌++◌, ◌∷◌, [], ◌↔◌, ℕ, List, sym, ap, ◌∙◌, subst}
+use Rattle.std.proofs.Common.{◌≡◌, ◌<◌, ◌≤◌, ◌++◌, ◌∷◌, [], ◌↔◌, ℕ, List, sym, ◌∙◌, subst}
 use Rattle.std.specs.Prelude.{All}
 use Rattle.cs_grammar.specs.Grammar.{PlainGrammar, IsGrammar}
 use Rattle.cs_grammar.specs.Leftmost.{IsYield}
@@ -6,7 +6,7 @@ use Rattle.cs_lines.specs.Lines.Line.{DeriveLine}
 use Rattle.cs_lines.specs.Lines.Numbers.{greatest}
 use Rattle.cs_lines.specs.Lines.Read.{numbers_in}
 use Rattle.cs_check.specs.Passing.Entries.{HasSize}
-use Rattle.cs_check.specs.Checking.Cases.{PlainCases, case_of, cases_of}
+use Rattle.cs_check.specs.Checking.Cases.{PlainCases}
 use Rattle.cs_check.specs.Checking.Told.{AreEntries}
 use Rattle.cs_check.proofs.OnChecking.Deriving.{high_rule, size_right, size_wrong, derivation_taken}
 use Rattle.cs_check.proofs.checking.entries.Entries.take_derivation.Goals as goal
@@ -49,10 +49,11 @@ returns c = λ file lines w t follows few measured numbers small.
     (subst (λ (r : List ℕ). (n : ℕ) → HasSize c.grammar-grammar.result.now w r n ↔ (n ≡ size)) read (c.tree_size-size.ensures.size w numbers small)) in
     let low : size < greatest = c.tree_size-size.ensures.below (subst (λ (l : List ℕ). All (λ (n : ℕ). n ≤ 1000000) l) numbers small) in
     let same = c.if-size-self.false in
-    let taken = derivation_taken file lines e t follows rules size low w measured has tokens yields_too same few in
-    let pushed : cases_of e.cases.grammar (e.cases.list ++ case_of size rules ∷ []) ≡ c.push.new.self =
-    ap (λ (r : List ℕ). cases_of e.cases.grammar (e.cases.list ++ case_of size r ∷ [])) (sym read) ∙ sym c.in_ok-push.ensures in (
+    let whole = c.copy_into.new.told in
+    let items : whole.items ≡ tokens.items = c.in_ok-copy_into.ensures ∙ c.deref-2.ensures.value in
+    let yields_whole : IsYield file.grammar rules whole.items = subst (λ (l : List ℕ). IsYield file.grammar rules l) (sym items) yields_too in
+    let taken = derivation_taken file lines e t follows rules size low w measured has whole yields_whole same few in (
       (yields_too.tree, yields_too.is_tree, yields_too.code),
       size_right file lines e t follows rules size low w measured has same,
-      subst (λ (x : PlainCases). AreEntries file (lines ++ DeriveLine rules ∷ []) (record e { cases = x; tokens = tokens })) pushed taken,
+      subst (λ (x : PlainCases). AreEntries file (lines ++ DeriveLine rules ∷ []) (record e { cases = x; tokens = whole })) (sym c.in_ok-push.ensures) taken,
     )
