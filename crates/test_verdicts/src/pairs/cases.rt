@@ -64,7 +64,10 @@ fn check(
         "{goal:?}"
     );
     let want = Named { case, first, fresh };
-    assert!(rt; place(alloc, cases, &goal, &derivation)? == want, "{goal:?}");
+    assert!(rt;
+        place(alloc, cases, &goal, &derivation)? == want,
+        "{goal:?}"
+    );
     Ok(())
 }
 
