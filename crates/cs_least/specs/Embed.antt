@@ -1,5 +1,6 @@
 pub mod ChosenContext
 pub mod Around
+pub mod Contexts
 pub mod Embeds
 pub mod Ways
 pub mod Kept

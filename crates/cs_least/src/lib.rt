@@ -34,5 +34,8 @@ mod embed;
 mod ways;
 
 pub use cost::{Cost, Costs, chosen_tree_exists, cost_of, is_below, one_chosen_tree, plus};
-pub use embed::{Context, Embeds, RulePlace, chosen_context_exists, one_chosen_context, told_cost};
+pub use embed::{
+    Around, Context, Contexts, Embeds, RulePlace, chosen_context_exists, one_chosen_context,
+    told_cost,
+};
 pub use ways::{Reach, Source, Step, Steps, first_steps, least_ways, turned};

@@ -2,5 +2,4 @@ pub mod Verdict
 pub mod Judges
 pub mod Positives
 pub mod Occurrences
-pub mod Kept
 pub mod Sums

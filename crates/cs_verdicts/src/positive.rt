@@ -6,12 +6,11 @@
 //! are functions that do nothing.
 //!
 //! Of the files of `specs/Positive/`, these say what is meant: `Verdict` (a verdict, and the chosen tree of a goal) and `Positives` (the
-//! goals with their verdicts, in order). `Judges`, `Kept`, `Occurrences` and `Sums` have working words of proofs.
+//! goals with their verdicts, in order). `Judges`, `Occurrences` and `Sums` have working words of proofs.
 
 mod contexts;
 mod judges;
 mod judging;
-mod kept;
 mod laws;
 mod pairs;
 mod positive;

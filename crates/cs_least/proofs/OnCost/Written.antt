@@ -1,5 +1,5 @@
 -- The chosen trees' codes are written.
-use Rattle.std.proofs.Common.{◌≡◌, ℕ, ◌+◌, ◌-◌, ◌<◌, ◌≤◌, List, [], ◌∷◌, ◌++◌, get_or, reverse, true, refl, sym, ap, ◌∙◌, subst, ⊎_elim, arith, append_assoc}
+use Rattle.std.proofs.Common.{◌≡◌, ℕ, ◌+◌, ◌-◌, ◌<◌, ◌≤◌, List, [], ◌∷◌, ◌++◌, get_or, reverse, true, refl, sym, ap, ◌∙◌, subst, ⊎_elim, arith, append_assoc, append-nil}
 use Rattle.std.specs.Prelude.{All}
 use Rattle.std.specs.List.{list_all, sum_by}
 use Rattle.std.proofs.lemmas.Bool.{cases_lt, false≢true}
@@ -18,7 +18,7 @@ use Rattle.cs_least.specs.declared.cost.cost.Cost.{Cost}
 use Rattle.cs_least.specs.Cost.Rank.{rank, cost_of, plus, sum_from, entry}
 use Rattle.cs_least.specs.Cost.Chosen.{IsChosen, AreChosen}
 use Rattle.cs_least.specs.Cost.Trees.{IsTreeOf, cost_in, node_cost, IsCostTable, IsFirstRule}
-use Rattle.cs_least.specs.Cost.Parts.{is_token, IsText, IsWithin, IsGrown, Opens}
+use Rattle.cs_least.specs.Cost.Parts.{is_token, IsText, IsWithin, IsGrown, IsRoot, Opens}
 use Rattle.cs_least.proofs.OnCost.Ranks.{rank-cost_of, plus_written, cost_least}
 use Rattle.cs_least.proofs.OnCost.TreeCosts.{forest_at_most, node_reached}
 use Rattle.cs_least.proofs.OnCost.ChosenTrees.{IsTree-chosen, AreTrees-chosen}
@@ -63,10 +63,15 @@ IsText-whole w g (Grown t f) (x ∷ xs) parts rest cf h =
     (t, codes_of f ++ rest, cf.0, IsText-whole w g f xs parts rest cf.1 h, append_assoc (code t) (codes_of f) rest)
 
 -- the chosen trees of tokens have no code
-pub tokens_chosen : (w : Measure) (g : PlainGrammar) (xs : List Symbol) → list_all is_token xs ≡ true → (f : Forest) × AreChosen w g xs f × (codes_of f ≡ [])
-tokens_chosen w g [] e = (Bare, tt, refl)
-tokens_chosen w g (Token t ∷ xs) e = let f = tokens_chosen w g xs e in (Grown (Leaf t) f.0, (refl, f.1), f.2)
-tokens_chosen w g (Nonterminal n ∷ xs) e = absurd (false≢true e)
+leaf_text : (w : Measure) (g : PlainGrammar) (t : ℕ) (u : Tree) → IsChosen w g (Token t) u → code u ≡ []
+leaf_text w g t (Leaf s) c = refl
+leaf_text w g t (Node q f) c = let d = c.2 in absurd cc
+
+pub tokens_text : (w : Measure) (g : PlainGrammar) (xs : List Symbol) (text : List ℕ) → list_all is_token xs ≡ true → IsText w g xs text → text ≡ []
+tokens_text w g [] text e is = is
+tokens_text w g (Token t ∷ xs) text e is =
+    is.4 ∙ ap (λ (l : List ℕ). l ++ is.1) (leaf_text w g t is.0 is.2) ∙ tokens_text w g xs is.1 e is.3
+tokens_text w g (Nonterminal n ∷ xs) text e is = absurd (false≢true e)
 
 -- trees within the limit together are so each
 pub forest_within : (w : Measure) (g : PlainGrammar) (f : Forest) (xs : List Symbol) → AreTrees g xs f → sizes w f ≤ w.limit → All (IsSymbol g.tokens g.nonterminals) xs → All (IsWithin w g) (xs)
@@ -153,6 +158,49 @@ module _ (w : Measure) (g : PlainGrammar) (table : List Cost) (start_parts : Lis
               (All-tail (IsWithin w g) (Nonterminal left) parts so_far.within);
           rest = λ text is. let m = so_far.rest text is in node_written parts out (start ++ text) m.0 m.1.1 m.1.0 small m.1.2 m.1.3 m.1.4 m.2;
         }
+
+  -- one more tree is written
+  pub writes_tree : (left : ℕ) (parts : List Symbol) (out new : List ℕ) → ((text : List ℕ) → IsText w g (Nonterminal left ∷ []) text → new ≡ out ++ text) → Writes w g table start_parts start (Nonterminal left ∷ parts) out → Writes w g table start_parts start parts new
+  writes_tree left parts out new tree so_far = record {
+    within = All-tail (IsWithin w g) (Nonterminal left) parts so_far.within;
+    rest = λ text is.
+        let m = so_far.rest text is in
+        let u = m.1.0 in
+        let written = tree (code u) (u, [], m.1.2, refl, sym (append-nil (code u))) in
+        (m.1.1, m.1.3, ap (λ (l : List ℕ). l ++ m.1.1) written ∙ append_assoc out (code u) m.1.1 ∙ ap (λ (l : List ℕ). out ++ l) (sym m.1.4) ∙ m.2);
+  }
+
+  -- all are
+  pub writes_whole : (out : List ℕ) → Writes w g table start_parts start [] out → (text : List ℕ) → IsText w g start_parts text → out ≡ start ++ text
+  writes_whole out so_far text is = let m = so_far.rest text is in sym (append-nil out) ∙ ap (λ (l : List ℕ). out ++ l) (sym m.1) ∙ m.2
+
+-- none is yet
+pub writes_begin : (w : Measure) (g : PlainGrammar) (table : List Cost) (parts : List Symbol) (start : List ℕ) → All (IsWithin w g) parts → Writes w g table parts start parts start
+writes_begin w g table parts start within = record { within = within; rest = λ text is. (text, is, refl) }
+
+module _ (w : Measure) (g : PlainGrammar) (table : List Cost) (exact : IsCostTable w g table) (left : ℕ) (within : IsWithin w g (Nonterminal left)) where
+  pub left_small : IsNumberOf g.nonterminals left × (rank w.limit (entry table left) ≤ w.limit)
+  left_small = (within.0, omega (arith, symbol_low w g table exact (Nonterminal left) within.1.0 within.1.1, within.1.2))
+
+  module _ (right : List Symbol) (old out : List ℕ) (root : IsRoot w g table left right old out) where
+    -- behind a root that is written comes the text of its right side
+    begun : Writes w g table (Nonterminal left ∷ []) old right out
+    begun =
+        let alone = All-cons (IsWithin w g) (Nonterminal left) [] within (All-nil (IsWithin w g)) in
+        let next = writes_node w g table (Nonterminal left ∷ []) old exact left root.number root.first [] old (writes_begin w g table (Nonterminal left ∷ []) old alone) in
+        subst (λ (l : List ℕ). Writes w g table (Nonterminal left ∷ []) old right l) (sym root.text)
+        (subst (λ (l : List Symbol). Writes w g table (Nonterminal left ∷ []) old l (old ++ root.number ∷ [])) (append-nil root.first.rule.right ∙ sym root.of_rule) next)
+
+    pub right_within : All (IsWithin w g) right
+    right_within = begun.within
+
+    pub tree_above_tokens : list_all is_token right ≡ true → (text : List ℕ) → IsText w g (Nonterminal left ∷ []) text → out ≡ old ++ text
+    tree_above_tokens tokens text is =
+        let m = begun.rest text is in
+        sym (append-nil out) ∙ ap (λ (l : List ℕ). out ++ l) (sym (tokens_text w g right m.0 tokens m.1)) ∙ m.2
+
+    pub tree_written : (new : List ℕ) → ((text : List ℕ) → IsText w g right text → new ≡ out ++ text) → (text : List ℕ) → IsText w g (Nonterminal left ∷ []) text → new ≡ old ++ text
+    tree_written new writes text is = let m = begun.rest text is in writes m.0 m.1 ∙ m.2
 
 -- the front of what stood in reverse
 pub pending_front : (items rest : List Symbol) (part : Symbol) → items ≡ rest ++ part ∷ [] → reverse items ≡ part ∷ reverse rest

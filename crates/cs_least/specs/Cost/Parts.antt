@@ -36,6 +36,16 @@ IsSmallIn kept left = rank kept.weights.limit (entry kept.table left) ≤ kept.w
 abbrev pub AreSmallIn : Kept → Vec Symbol → Type 0
 AreSmallIn kept pending = All (IsWithin kept.weights kept.grammar) (reverse pending.items)
 
+-- the first rule of a nonterminal is written, and has this right side
+pub record IsRoot (w : Measure) (g : PlainGrammar) (table : List Cost) (left : ℕ) (right : List Symbol) (old new : List ℕ) : Type 0 where
+  pub number : ℕ
+  pub first : IsFirstRule w g table left number
+  pub of_rule : right ≡ first.rule.right
+  pub text : new ≡ old ++ number ∷ []
+
+abbrev pub IsRootIn : Kept → ℕ → List Symbol → List ℕ → List ℕ → Type 0
+IsRootIn kept left right old new = IsRoot kept.weights kept.grammar kept.table left right old new
+
 -- the first rule of a nonterminal is written, and its right side is pending
 pub record Opens (w : Measure) (g : PlainGrammar) (table : List Cost) (left : ℕ) (pending_old pending_new : List Symbol) (old new : List ℕ) : Type 0 where
   pub number : ℕ
@@ -51,6 +61,13 @@ OpensIn kept left pending_old pending_new old new =
 abbrev pub WritesTexts : Kept → Vec Symbol → List ℕ → List ℕ → Type 0
 WritesTexts kept pending old new =
     (text : List ℕ) → IsText kept.weights kept.grammar (reverse pending.items) text → new ≡ old ++ text
+
+-- the same of symbols, and of a nonterminal
+abbrev pub WritesAll : Kept → List Symbol → List ℕ → List ℕ → Type 0
+WritesAll kept xs old new = (text : List ℕ) → IsText kept.weights kept.grammar xs text → new ≡ old ++ text
+
+abbrev pub WritesTree : Kept → ℕ → List ℕ → List ℕ → Type 0
+WritesTree kept left old new = WritesAll kept (Nonterminal left ∷ []) old new
 
 -- rule numbers came behind those that stood there
 abbrev pub IsGrown : List ℕ → List ℕ → Type 0

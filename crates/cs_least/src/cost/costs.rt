@@ -10,13 +10,10 @@ ghost use Rattle.cs_least.specs.Cost.Trees.{IsTreeCost, AreTreesCost, HasLeast, 
 use crate::cost::cost::{Cost, cost_of, plus};
 use crate::cost::sums::{cost_in, sum_from};
 use crate::cost::trees::{Trees, trees_of};
-use crate::cost::writing::{are_tokens, write};
-use cs_grammar::{Derivation, Grammar, Symbol, Weights, put_on_top};
+use crate::cost::writing::write;
+use cs_grammar::{Derivation, Grammar, Symbol, Weights};
 use std::alloc::{AllocError, Global};
 use std::marker::Model;
-
-// Room for as many pending symbols is made at once.
-const USUAL_SYMBOLS: usize = 32;
 
 /// What the least tree of each symbol of a grammar costs by some weights, and which tree is chosen.
 #[derive(Debug, Drop)]
@@ -106,10 +103,7 @@ impl<'g> Costs<'g> {
         ensures ok { OnOk result (WritesChosen self.now symbol into.old into.new) }
         ensures err { OnErr result (into.new ≡ into.old) }
     {
-        let alloc = *self.trees.table.allocator();
-        let mut pending = Vec::with_capacity(alloc, USUAL_SYMBOLS)?;
-        pending.push(symbol)?;
-        write(&self.trees, &mut pending, into)
+        write(&self.trees, &[symbol], into)
     }
 
     /// Appends the codes of the chosen trees of symbols, in their order, where some trees of them are together within the
@@ -120,12 +114,6 @@ impl<'g> Costs<'g> {
         ensures ok { OnOk result (WritesAllChosen self.now symbols.now into.old into.new) }
         ensures err { OnErr result (into.new ≡ into.old) }
     {
-        if are_tokens(symbols) {
-            return Ok(());
-        }
-        let alloc = *self.trees.table.allocator();
-        let mut pending = Vec::with_capacity(alloc, USUAL_SYMBOLS)?;
-        put_on_top(&mut pending, symbols)?;
-        write(&self.trees, &mut pending, into)
+        write(&self.trees, symbols, into)
     }
 }

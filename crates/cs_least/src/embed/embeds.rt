@@ -57,6 +57,11 @@ impl<'g> Embeds<'g> {
         self.grammar
     }
 
+    // What the tables were made with.
+    pub(crate) fn allocator(&self) -> Global {
+        *self.tables.reaches.allocator()
+    }
+
     /// What the least context of a nonterminal costs: `Never` where it has none, `Large` where each of its contexts is
     /// larger than the limit, else the least size, the hole not counted. A context is a tree of the start symbol with a
     /// hole; the start symbol's is the hole alone and costs 0. A nonterminal may have contexts and no tree.
@@ -78,7 +83,7 @@ impl<'g> Embeds<'g> {
         ensures chosen { IfOk result (IsChosenAround self.now nonterminal) }
         ensures filled { IfOk result (FillsEach self.now nonterminal) }
     {
-        let alloc = *self.tables.reaches.allocator();
+        let alloc = self.allocator();
         let Outward { mut places, after } = lead_out(alloc, costs, &self.tables, nonterminal)?;
         let mut before = Derivation::with_capacity(alloc, USUAL_RULES)?;
         write_lead(costs, &mut places, &mut before)?;

@@ -1,5 +1,5 @@
 -- What the contracts of parts say, of a grammar and its weights. They are the other modules' facts, with what the parts hold.
-use Rattle.std.specs.Prelude.{◌≡◌, ℕ, ◌≤◌, List, ◌∷◌, ◌++◌, reverse}
+use Rattle.std.specs.Prelude.{◌≡◌, ℕ, ◌≤◌, List, ◌∷◌, ◌++◌, reverse, All}
 use Rattle.std.specs.Global.{Vec}
 use Rattle.cs_grammar.specs.declared.symbol.Symbol.{Symbol}
 use Rattle.cs_grammar.specs.declared.symbol.Symbol.TheVariants.{Nonterminal}
@@ -14,7 +14,7 @@ use Rattle.cs_pairs.specs.declared.kinds.writing.Part.{Part}
 use Rattle.cs_pairs.specs.Kinds.Kinds.{AreTreesOfKind}
 use Rattle.cs_pairs.specs.Kinds.Sweep.{IsSwept, AreWays, node_size}
 use Rattle.cs_pairs.specs.Kinds.ChosenKind.{AreChosenOfKind, AppendsOfKind}
-use Rattle.cs_pairs.specs.Kinds.Parts.{parts_from, inner, AreChosenParts, HasSmallOfKind, TakesOn}
+use Rattle.cs_pairs.specs.Kinds.Parts.{parts_from, inner, AreChosenParts, HasSmallOfKind, IsPartOf, TakesOn}
 
 -- some symbols are swept
 abbrev pub HasSwept : Weighed → Sweep → Type 0
@@ -53,6 +53,10 @@ OpensUp v k left pending new_pending old new = TakesOnIn v (record { kind = k; s
 -- the chosen trees of what is pending are within the limit together, and their codes are appended
 abbrev pub HaveSmallParts : Weighed → Vec Part → Type 0
 HaveSmallParts v pending = (f : Forest) × AreChosenParts v.weights v.grammar (reverse pending.items) f × (sizes v.weights f ≤ v.weights.limit)
+
+-- the pending parts are of the grammar, and within the limit together
+abbrev pub ArePending : Weighed → Vec Part → Type 0
+ArePending v pending = All (IsPartOf v.grammar) (reverse pending.items) × HaveSmallParts v pending
 
 abbrev pub Writes : Weighed → Vec Part → List ℕ → List ℕ → Type 0
 Writes v pending old new = (f : Forest) → AreChosenParts v.weights v.grammar (reverse pending.items) f → sizes v.weights f ≤ v.weights.limit → new ≡ old ++ codes_of f

@@ -177,10 +177,7 @@ impl<'g> Kinds<'g> {
         requires symbol { IsSymbolOf self.now.grammar symbol }
         ensures { IsKindCost self.now kind symbol result }
     {
-        match symbol {
-            Symbol::Token(token) => leaf_cost(self.weights, kind, token),
-            Symbol::Nonterminal(number) => self.row(kind)[place_of(number)],
-        }
+        self.told_by(self.row(kind), kind, symbol)
     }
 
     // What the least tree of a kind and a symbol costs, by the row of the kind.

@@ -6,7 +6,7 @@ ghost use Rattle.cs_grammar.specs.Weights.{IsMeasure};
 ghost use Rattle.cs_least.specs.Cost.Parts.{IsGrown};
 ghost use Rattle.cs_pairs.specs.Kinds.Kinds.{IsKind};
 ghost use Rattle.cs_pairs.specs.Kinds.Parts.{kind_at, IsPartOf, HaveSmallOfKind};
-ghost use Rattle.cs_pairs.specs.Kinds.Clauses.{ArePutFirst, OpensUp, HasSmallIn, TakesOnIn, HaveSmallParts, Writes, AppendsIn};
+ghost use Rattle.cs_pairs.specs.Kinds.Clauses.{ArePutFirst, OpensUp, HasSmallIn, TakesOnIn, ArePending, Writes, AppendsIn};
 
 use crate::kinds::kind::TreeKind;
 use crate::kinds::kinds::Kinds;
@@ -115,8 +115,7 @@ fn write_some(
     into: &mut Derivation,
 ) -> Result<(), AllocError>
     requires costs { costs.now ≡ kinds.now }
-    requires parts { All (IsPartOf kinds.now.grammar) (reverse pending.old.items) }
-    requires small { HaveSmallParts kinds.now pending.old }
+    requires pending { ArePending kinds.now pending.old }
     ensures written { OnOk result (Writes kinds.now pending.old into.old into.new) }
     ensures grown { IsGrown into.old into.new }
 {
@@ -138,8 +137,7 @@ fn write(
     into: &mut Derivation,
 ) -> Result<(), AllocError>
     requires costs { costs.now ≡ kinds.now }
-    requires parts { All (IsPartOf kinds.now.grammar) (reverse pending.old.items) }
-    requires small { HaveSmallParts kinds.now pending.old }
+    requires pending { ArePending kinds.now pending.old }
     ensures written { OnOk result (Writes kinds.now pending.old into.old into.new) }
     ensures refused { OnErr result (into.new ≡ into.old) }
 {

@@ -3,6 +3,7 @@
 ghost use Rattle.std.specs.Prelude.{◌≡◌, ◌<◌, ◌+◌, IfOk, length, take, drop, slice_index_or};
 ghost use Rattle.cs_grammar.specs.declared.symbol.Symbol.{Symbol};
 ghost use Rattle.cs_grammar.specs.Grammar.{IsNumberOf, IsSymbolOf};
+ghost use Rattle.cs_least.specs.Embed.Contexts.{AreContextsOf};
 ghost use Rattle.cs_pairs.specs.Kinds.Kinds.{IsKind};
 ghost use Rattle.cs_pairs.specs.Kinds.Parts.{HasSmallOfKind};
 ghost use Rattle.cs_pairs.specs.Pairs.ChosenPair.{IsCodeOfKind};
@@ -11,11 +12,11 @@ ghost use Rattle.cs_pairs.specs.Pairs.Clauses.{IsMeetingOf, IsCodeOfTokens};
 use crate::kinds::{Kinds, TreeKind, kind_into, kind_onto, no_parts};
 use crate::pairs::meeting::{Meeting, TokenPair};
 use cs_grammar::{Derivation, Symbol};
-use cs_least::{Costs, Embeds};
+use cs_least::{Contexts, Costs, Embeds};
 use std::alloc::{AllocError, Global};
 
 // Room for as many rule numbers is made at once.
-const USUAL_RULES: usize = 64;
+const USUAL_RULES: usize = 32;
 
 // The code of the chosen tree of a kind and a symbol.
 pub(crate) fn kind_code(
@@ -63,21 +64,24 @@ pub(crate) fn seam_code<'g>(
     kinds: &Kinds<'g>,
     costs: &Costs<'g>,
     embeds: &Embeds<'g>,
+    contexts: &mut Contexts,
     tokens: TokenPair,
     at: Meeting,
 ) -> Result<Derivation, AllocError>
     requires costs { costs.now ≡ kinds.now }
     requires embeds { embeds.now ≡ kinds.now }
+    requires contexts { AreContextsOf kinds.now contexts.old }
     requires first { IsNumberOf kinds.now.grammar.tokens tokens.first }
     requires second { IsNumberOf kinds.now.grammar.tokens tokens.second }
     requires meeting { IsMeetingOf kinds.now tokens at }
-    ensures { IfOk result (IsCodeOfTokens kinds.now tokens) }
+    ensures code { IfOk result (IsCodeOfTokens kinds.now tokens) }
+    ensures contexts { AreContextsOf kinds.now contexts.new }
 {
     let rule = kinds.grammar().rule(at.rule);
     let parts = split_at(rule.right(), at.place as usize);
-    let context = embeds.around(costs, rule.left())?;
+    let around = contexts.take(costs, embeds, rule.left())?;
     let mut derivation = Derivation::with_capacity(alloc, USUAL_RULES)?;
-    derivation.extend_from_slice(&context.before)?;
+    derivation.extend_from_slice(&around.context.before)?;
     derivation.push(at.rule)?;
     costs.all_into(parts.before, &mut derivation)?;
     let last = [parts.symbol];
@@ -98,6 +102,7 @@ pub(crate) fn seam_code<'g>(
         &mut pending,
         &mut derivation,
     )?;
-    derivation.extend_from_slice(&context.after)?;
+    derivation.extend_from_slice(&around.context.after)?;
+    contexts.keep(around)?;
     Ok(derivation)
 }

@@ -3,6 +3,7 @@
 ghost use Rattle.std.specs.Prelude.{◌≡◌, ◌↔◌, IsTrue, IfOk};
 ghost use Rattle.cs_grammar.specs.Grammar.{IsNumberOf};
 ghost use Rattle.cs_goals.specs.Goal.{IsLeft, IsRight};
+ghost use Rattle.cs_least.specs.Embed.Contexts.{AreContextsOf};
 ghost use Rattle.cs_pairs.specs.Kinds.Kinds.{IsKind};
 ghost use Rattle.cs_pairs.specs.Kinds.Laws.{HasTreeIn};
 ghost use Rattle.cs_pairs.specs.Pairs.ChosenPair.{HasLeastPair, IsCodeOfPair};
@@ -16,7 +17,7 @@ use crate::pairs::follows::{FollowRows, follow_rows};
 use crate::pairs::fronts::around_rules;
 use crate::pairs::meeting::TokenPair;
 use cs_grammar::{Derivation, Grammar, Mark, Symbol, place_of};
-use cs_least::{Cost, Costs, Embeds};
+use cs_least::{Contexts, Cost, Costs, Embeds};
 use std::alloc::{AllocError, Global};
 use std::marker::Model;
 
@@ -95,21 +96,25 @@ impl<'g> Pairs<'g> {
     /// trees that have it the chosen one of two tokens is that in which they meet under the lowest rule, and then the first of
     /// them ends a child at the lowest place, and then the second begins one; what stands between is empty, all parts are
     /// chosen ones, and the node stands in the chosen context of its rule's left side. Of a pair with a mark it is the start
-    /// symbol's chosen tree that begins with the token, ends with it or is empty.
+    /// symbol's chosen tree that begins with the token, ends with it or is empty. Contexts that were made are kept, so that
+    /// the next pairs have them.
     pub fn derive(
         &self,
         alloc: Global,
         costs: &Costs<'g>,
         embeds: &Embeds<'g>,
+        contexts: &mut Contexts,
         left: Mark,
         right: Mark,
     ) -> Result<Derivation, AllocError>
         requires costs { costs.now ≡ self.now }
         requires embeds { embeds.now ≡ self.now }
+        requires contexts { AreContextsOf self.now contexts.old }
         requires left { IsLeft self.now.grammar.tokens left }
         requires right { IsRight self.now.grammar.tokens right }
         requires least { HasLeastPair self.now.weights self.now.grammar left right }
-        ensures { IfOk result (IsCodeOfPair self.now.weights self.now.grammar left right) }
+        ensures code { IfOk result (IsCodeOfPair self.now.weights self.now.grammar left right) }
+        ensures contexts { AreContextsOf self.now contexts.new }
     {
         match (left, right) {
             (Mark::Begin, Mark::Token(second)) => self.derive_whole(
@@ -118,7 +123,8 @@ impl<'g> Pairs<'g> {
                 TreeKind::Begins(second),
             ),
             (Mark::Token(first), Mark::Token(second)) => {
-                self.derive_tokens(alloc, costs, embeds, TokenPair { first, second })
+                let tokens = TokenPair { first, second };
+                self.derive_tokens(alloc, costs, embeds, contexts, tokens)
             }
             (Mark::Token(first), Mark::End) => self.derive_whole(
                 alloc,
@@ -190,20 +196,23 @@ impl<'g> Pairs<'g> {
         alloc: Global,
         costs: &Costs<'g>,
         embeds: &Embeds<'g>,
+        contexts: &mut Contexts,
         tokens: TokenPair,
     ) -> Result<Derivation, AllocError>
         requires costs { costs.now ≡ self.now }
         requires embeds { embeds.now ≡ self.now }
+        requires contexts { AreContextsOf self.now contexts.old }
         requires first { IsNumberOf self.now.grammar.tokens tokens.first }
         requires second { IsNumberOf self.now.grammar.tokens tokens.second }
         requires least { HasLeastOf self.now tokens }
-        ensures { IfOk result (IsCodeOfTokens self.now tokens) }
+        ensures code { IfOk result (IsCodeOfTokens self.now tokens) }
+        ensures contexts { AreContextsOf self.now contexts.new }
     {
         let meetings = self.rows.meetings[place_of(tokens.second)].places();
         let Some(at) = meetings[place_of(tokens.first)] else {
             unreachable!()
         };
-        seam_code(alloc, &self.kinds, costs, embeds, tokens, at)
+        seam_code(alloc, &self.kinds, costs, embeds, contexts, tokens, at)
     }
 
     // What the least tree of the start symbol costs that is of a kind.

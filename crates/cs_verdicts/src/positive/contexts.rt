@@ -1,17 +1,16 @@
 // The least trees of context goals.
 
-ghost use Rattle.std.specs.Prelude.{◌≡◌, IfOk, IfSome, All};
+ghost use Rattle.std.specs.Prelude.{◌≡◌, IfOk, All};
 ghost use Rattle.cs_grammar.specs.Grammar.{IsRuleOf, IsSymbolOf};
 ghost use Rattle.cs_goals.specs.Goal.{IsOccurrence};
-ghost use Rattle.cs_verdicts.specs.Positive.Kept.{IsKeptIn};
+ghost use Rattle.cs_least.specs.Embed.Contexts.{AreContextsOf};
 ghost use Rattle.cs_verdicts.specs.Positive.Occurrences.{IsCutAt};
 ghost use Rattle.cs_verdicts.specs.Positive.Verdict.{IsGoalCost, HasLeastIn, IsCodeIn};
 
-use crate::positive::kept::{Kept, USUAL_RULES, take_around};
-use crate::positive::sums::node_cost;
+use crate::positive::sums::{USUAL_RULES, node_cost};
 use cs_goals::Goal;
 use cs_grammar::{Derivation, Grammar, Rule, Symbol, place_of};
-use cs_least::{Cost, Costs, Embeds};
+use cs_least::{Contexts, Cost, Costs, Embeds};
 use std::alloc::{AllocError, Global};
 
 // The rules of a context goal, and the symbols beside the inner one's left side in the outer one's right side.
@@ -69,17 +68,17 @@ pub(crate) fn derive_context(
     outer: u16,
     place: u16,
     inner: u16,
-    kept: &mut Option<Kept>,
+    contexts: &mut Contexts,
 ) -> Result<Derivation, AllocError>
     requires embeds { embeds.now ≡ costs.now }
     requires goal { IsOccurrence costs.now.grammar outer place inner }
     requires feasible { HasLeastIn costs.now (Goal.Context outer place inner) }
-    requires kept { IfSome kept.old (IsKeptIn costs.now) }
+    requires contexts { AreContextsOf costs.now contexts.old }
     ensures code { IfOk result (IsCodeIn costs.now (Goal.Context outer place inner)) }
-    ensures kept { IfSome kept.new (IsKeptIn costs.now) }
+    ensures contexts { AreContextsOf costs.now contexts.new }
 {
     let parts = occurrence_of(costs.grammar(), outer, place, inner);
-    let around = take_around(costs, embeds, parts.outer.left(), kept)?;
+    let around = contexts.take(costs, embeds, parts.outer.left())?;
     let mut derivation = Derivation::with_capacity(alloc, USUAL_RULES)?;
     derivation.extend_from_slice(&around.context.before)?;
     derivation.push(outer)?;
@@ -88,6 +87,6 @@ pub(crate) fn derive_context(
     costs.all_into(parts.inner.right(), &mut derivation)?;
     costs.all_into(parts.behind, &mut derivation)?;
     derivation.extend_from_slice(&around.context.after)?;
-    *kept = Some(around);
+    contexts.keep(around)?;
     Ok(derivation)
 }

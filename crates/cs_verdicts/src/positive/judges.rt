@@ -1,17 +1,16 @@
 // What verdicts come from.
 
-ghost use Rattle.std.specs.Prelude.{IfOk, IfSome};
+ghost use Rattle.std.specs.Prelude.{IfOk};
 ghost use Rattle.cs_goals.specs.Goal.{IsGoal};
 ghost use Rattle.cs_verdicts.specs.Positive.Judges.{judged_by, CanJudge, IsJudge};
-ghost use Rattle.cs_verdicts.specs.Positive.Kept.{IsKeptIn};
+ghost use Rattle.cs_least.specs.Embed.Contexts.{AreContextsOf};
 ghost use Rattle.cs_verdicts.specs.Positive.Verdict.{IsVerdictIn};
 
 use crate::positive::judging::{judge_keeping, judge_tree_keeping};
-use crate::positive::kept::Kept;
 use crate::positive::tables::Tables;
 use crate::positive::verdict::Verdict;
 use cs_goals::Goal;
-use cs_least::{Costs, Embeds};
+use cs_least::{Contexts, Costs, Embeds};
 use std::alloc::{AllocError, Global};
 
 // All tables, or those that rule and context goals need.
@@ -29,18 +28,20 @@ impl<'t> Judge<'t> {
         &self,
         alloc: Global,
         goal: &Goal,
-        kept: &mut Option<Kept>,
+        contexts: &mut Contexts,
     ) -> Result<Verdict, AllocError>
         requires judge { IsJudge self.now }
         requires goal { IsGoal (judged_by self.now).grammar goal.now }
         requires kind { CanJudge self.now goal.now }
-        requires kept { IfSome kept.old (IsKeptIn (judged_by self.now)) }
+        requires contexts { AreContextsOf (judged_by self.now) contexts.old }
         ensures verdict { IfOk result (IsVerdictIn (judged_by self.now) goal.now) }
-        ensures kept { IfSome kept.new (IsKeptIn (judged_by self.now)) }
+        ensures contexts { AreContextsOf (judged_by self.now) contexts.new }
     {
         match *self {
-            Judge::Tables(tables) => judge_keeping(alloc, tables, goal, kept),
-            Judge::Trees { costs, embeds } => judge_tree_keeping(alloc, costs, embeds, goal, kept),
+            Judge::Tables(tables) => judge_keeping(alloc, tables, goal, contexts),
+            Judge::Trees { costs, embeds } => judge_tree_keeping(
+                alloc, costs, embeds, goal, contexts,
+            ),
         }
     }
 }

@@ -1,19 +1,18 @@
 // The verdict of a goal.
 
-ghost use Rattle.std.specs.Prelude.{◌≡◌, IfOk, IfSome};
+ghost use Rattle.std.specs.Prelude.{◌≡◌, IfOk};
 ghost use Rattle.cs_goals.specs.Goal.{IsGoal};
-ghost use Rattle.cs_verdicts.specs.Positive.Kept.{IsKeptIn};
+ghost use Rattle.cs_least.specs.Embed.Contexts.{AreContextsOf};
 ghost use Rattle.cs_verdicts.specs.Positive.Verdict.{IsVerdictIn, IsTreeGoal, IsGoalCost, HasLeastIn, IsCodeIn};
 
 use crate::positive::contexts::{context_cost, derive_context};
-use crate::positive::kept::Kept;
 use crate::positive::pairs::judge_pair;
 use crate::positive::rules::{derive_rule, rule_cost};
 use crate::positive::tables::Tables;
 use crate::positive::verdict::Verdict;
 use cs_goals::Goal;
 use cs_grammar::Derivation;
-use cs_least::{Cost, Costs, Embeds};
+use cs_least::{Contexts, Cost, Costs, Embeds};
 use std::alloc::{AllocError, Global};
 
 /// The verdict of a goal of the grammar, over all trees of the start symbol: `Infeasible` exactly where none meets the goal,
@@ -23,25 +22,25 @@ pub fn judge(alloc: Global, tables: &Tables, goal: &Goal) -> Result<Verdict, All
     requires { IsGoal tables.now.grammar goal.now }
     ensures { IfOk result (IsVerdictIn tables.now goal.now) }
 {
-    let mut kept = None;
-    judge_keeping(alloc, tables, goal, &mut kept)
+    let mut contexts = Contexts::new(&tables.embeds);
+    judge_keeping(alloc, tables, goal, &mut contexts)
 }
 
-// The same, by a context that is kept from goal to goal.
+// The same, by contexts that are kept from goal to goal.
 pub(crate) fn judge_keeping(
     alloc: Global,
     tables: &Tables,
     goal: &Goal,
-    kept: &mut Option<Kept>,
+    contexts: &mut Contexts,
 ) -> Result<Verdict, AllocError>
     requires goal { IsGoal tables.now.grammar goal.now }
-    requires kept { IfSome kept.old (IsKeptIn tables.now) }
+    requires contexts { AreContextsOf tables.now contexts.old }
     ensures verdict { IfOk result (IsVerdictIn tables.now goal.now) }
-    ensures kept { IfSome kept.new (IsKeptIn tables.now) }
+    ensures contexts { AreContextsOf tables.now contexts.new }
 {
     match *goal {
-        Goal::Pair { left, right } => judge_pair(alloc, tables, left, right),
-        _ => judge_tree_keeping(alloc, &tables.costs, &tables.embeds, goal, kept),
+        Goal::Pair { left, right } => judge_pair(alloc, tables, contexts, left, right),
+        _ => judge_tree_keeping(alloc, &tables.costs, &tables.embeds, goal, contexts),
     }
 }
 
@@ -57,30 +56,30 @@ pub fn judge_tree_goal(
     requires kind { IsTreeGoal goal.now }
     ensures { IfOk result (IsVerdictIn costs.now goal.now) }
 {
-    let mut kept = None;
-    judge_tree_keeping(alloc, costs, embeds, goal, &mut kept)
+    let mut contexts = Contexts::new(embeds);
+    judge_tree_keeping(alloc, costs, embeds, goal, &mut contexts)
 }
 
-// The same, by a context that is kept from goal to goal.
+// The same, by contexts that are kept from goal to goal.
 pub(crate) fn judge_tree_keeping(
     alloc: Global,
     costs: &Costs,
     embeds: &Embeds,
     goal: &Goal,
-    kept: &mut Option<Kept>,
+    contexts: &mut Contexts,
 ) -> Result<Verdict, AllocError>
     requires embeds { embeds.now ≡ costs.now }
     requires goal { IsGoal costs.now.grammar goal.now }
     requires kind { IsTreeGoal goal.now }
-    requires kept { IfSome kept.old (IsKeptIn costs.now) }
+    requires contexts { AreContextsOf costs.now contexts.old }
     ensures verdict { IfOk result (IsVerdictIn costs.now goal.now) }
-    ensures kept { IfSome kept.new (IsKeptIn costs.now) }
+    ensures contexts { AreContextsOf costs.now contexts.new }
 {
     match goal_cost(costs, embeds, goal) {
         Cost::Never => Ok(Verdict::Infeasible),
         Cost::Large => Ok(Verdict::Large),
         Cost::Least(size) => {
-            let derivation = derive_goal(alloc, costs, embeds, goal, kept)?;
+            let derivation = derive_goal(alloc, costs, embeds, goal, contexts)?;
             Ok(Verdict::Feasible { size, derivation })
         }
     }
@@ -110,23 +109,23 @@ fn derive_goal(
     costs: &Costs,
     embeds: &Embeds,
     goal: &Goal,
-    kept: &mut Option<Kept>,
+    contexts: &mut Contexts,
 ) -> Result<Derivation, AllocError>
     requires embeds { embeds.now ≡ costs.now }
     requires goal { IsGoal costs.now.grammar goal.now }
     requires kind { IsTreeGoal goal.now }
     requires feasible { HasLeastIn costs.now goal.now }
-    requires kept { IfSome kept.old (IsKeptIn costs.now) }
+    requires contexts { AreContextsOf costs.now contexts.old }
     ensures code { IfOk result (IsCodeIn costs.now goal.now) }
-    ensures kept { IfSome kept.new (IsKeptIn costs.now) }
+    ensures contexts { AreContextsOf costs.now contexts.new }
 {
     match *goal {
-        Goal::Rule(rule) => derive_rule(alloc, costs, embeds, rule, kept),
+        Goal::Rule(rule) => derive_rule(alloc, costs, embeds, rule, contexts),
         Goal::Context {
             outer,
             place,
             inner,
-        } => derive_context(alloc, costs, embeds, outer, place, inner, kept),
+        } => derive_context(alloc, costs, embeds, outer, place, inner, contexts),
         Goal::Pair { .. } => unreachable!(),
     }
 }

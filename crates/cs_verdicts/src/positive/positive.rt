@@ -4,12 +4,11 @@ ghost use Rattle.std.specs.Prelude.{◌≡◌, false, IfOk, OnErr};
 ghost use Rattle.cs_verdicts.specs.Positive.Positives.{positives_of, GivesGoalOf, GivesNext};
 
 use crate::positive::judges::Judge;
-use crate::positive::kept::Kept;
 use crate::positive::tables::Tables;
 use crate::positive::verdict::Verdict;
 use cs_choices::Criteria;
 use cs_goals::{Goal, Goals};
-use cs_least::{Costs, Embeds};
+use cs_least::{Contexts, Costs, Embeds};
 use std::alloc::{AllocError, Global};
 use std::marker::Model;
 
@@ -25,13 +24,13 @@ pub struct Positive {
 pub struct Positives<'t> {
     judge: Judge<'t>,
     goals: Goals<'t>,
-    kept: Option<Kept>,
+    contexts: Contexts,
 }
 
 impl<'t> Model for Positives<'t> {
-    ghost use Rattle.std.specs.Prelude.{All, IfSome};
+    ghost use Rattle.std.specs.Prelude.{All};
     ghost use Rattle.cs_verdicts.specs.Positive.Judges.{judged_by, CanJudge, IsJudge};
-    ghost use Rattle.cs_verdicts.specs.Positive.Kept.{IsKeptIn};
+    ghost use Rattle.cs_least.specs.Embed.Contexts.{AreContextsOf};
     ghost use Rattle.cs_verdicts.specs.Positive.Positives.{ToJudge, AreOfGrammar};
 
     ghost Value = { ToJudge };
@@ -41,7 +40,7 @@ impl<'t> Model for Positives<'t> {
     ghost invariant = { λ p. IsJudge p.judge
         × AreOfGrammar (judged_by p.judge).grammar p.goals
         × All (CanJudge p.judge) p.goals
-        × IfSome p.kept (IsKeptIn (judged_by p.judge)) };
+        × AreContextsOf (judged_by p.judge) p.contexts };
 }
 
 impl<'t> Positives<'t> {
@@ -52,7 +51,7 @@ impl<'t> Positives<'t> {
         Positives {
             judge: Judge::Tables(tables),
             goals: Goals::new(tables.grammar(), criteria),
-            kept: None,
+            contexts: Contexts::new(&tables.embeds),
         }
     }
 
@@ -69,7 +68,7 @@ impl<'t> Positives<'t> {
         Positives {
             judge: Judge::Trees { costs, embeds },
             goals: Goals::new(costs.grammar(), criteria),
-            kept: None,
+            contexts: Contexts::new(embeds),
         }
     }
 
@@ -85,7 +84,7 @@ impl<'t> Positives<'t> {
         let Some(goal) = goals.next() else {
             return Ok(None);
         };
-        let verdict = self.judge.verdict(alloc, &goal, &mut self.kept)?;
+        let verdict = self.judge.verdict(alloc, &goal, &mut self.contexts)?;
         self.goals = goals;
         Ok(Some(Positive { goal, verdict }))
     }

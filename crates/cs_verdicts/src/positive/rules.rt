@@ -1,15 +1,14 @@
 // The least trees of rule goals.
 
-ghost use Rattle.std.specs.Prelude.{◌≡◌, IfOk, IfSome, length};
+ghost use Rattle.std.specs.Prelude.{◌≡◌, IfOk, length};
 ghost use Rattle.cs_grammar.specs.Grammar.{IsNumberOf};
-ghost use Rattle.cs_verdicts.specs.Positive.Kept.{IsKeptIn};
+ghost use Rattle.cs_least.specs.Embed.Contexts.{AreContextsOf};
 ghost use Rattle.cs_verdicts.specs.Positive.Verdict.{IsGoalCost, HasLeastIn, IsCodeIn};
 
-use crate::positive::kept::{Kept, USUAL_RULES, take_around};
-use crate::positive::sums::node_cost;
+use crate::positive::sums::{USUAL_RULES, node_cost};
 use cs_goals::Goal;
 use cs_grammar::Derivation;
-use cs_least::{Cost, Costs, Embeds};
+use cs_least::{Contexts, Cost, Costs, Embeds};
 use std::alloc::{AllocError, Global};
 
 // What the least tree costs that meets a rule goal.
@@ -30,22 +29,22 @@ pub(crate) fn derive_rule(
     costs: &Costs,
     embeds: &Embeds,
     number: u16,
-    kept: &mut Option<Kept>,
+    contexts: &mut Contexts,
 ) -> Result<Derivation, AllocError>
     requires embeds { embeds.now ≡ costs.now }
     requires number { IsNumberOf (length costs.now.grammar.rules) number }
     requires feasible { HasLeastIn costs.now (Goal.Rule number) }
-    requires kept { IfSome kept.old (IsKeptIn costs.now) }
+    requires contexts { AreContextsOf costs.now contexts.old }
     ensures code { IfOk result (IsCodeIn costs.now (Goal.Rule number)) }
-    ensures kept { IfSome kept.new (IsKeptIn costs.now) }
+    ensures contexts { AreContextsOf costs.now contexts.new }
 {
     let rule = costs.grammar().rule(number);
-    let around = take_around(costs, embeds, rule.left(), kept)?;
+    let around = contexts.take(costs, embeds, rule.left())?;
     let mut derivation = Derivation::with_capacity(alloc, USUAL_RULES)?;
     derivation.extend_from_slice(&around.context.before)?;
     derivation.push(number)?;
     costs.all_into(rule.right(), &mut derivation)?;
     derivation.extend_from_slice(&around.context.after)?;
-    *kept = Some(around);
+    contexts.keep(around)?;
     Ok(derivation)
 }

@@ -11,22 +11,18 @@ use Rattle.cs_pairs.proofs.OnKinds.KindsSettled.{list_exists}
 use Rattle.cs_pairs.specs.Kinds.Parts.{parts_from, inner}
 use Rattle.cs_pairs.proofs.kinds.writing.kind_onto.Goals as goal
 
-pub write-requires-clause-parts : goal.write-requires-clause-parts
-write-requires-clause-parts c =
-    let g = c.args.kinds.now.grammar in
-    let is = c.in_ok-put_first.ensures ∙ ap (λ (l : List Part). inner (parts_from c.args.kind c.placed_in-placed.result.place 0 c.args.symbols.now) ++ reverse l) c.clear.ensures.items ∙ append-nil _ in
-    subst (All (IsPartOf g)) (sym is) (inner_fit c.args.kinds.now.weights g _ (parts_fit c.args.kinds.now.weights g c.args.kind c.placed_in-placed.result.place 0 c.args.symbols.now c.requires.kind c.requires.symbols))
-
-pub write-requires-clause-small : goal.write-requires-clause-small
-write-requires-clause-small c =
+pub write-requires-clause-pending : goal.write-requires-clause-pending
+write-requires-clause-pending c =
     let g = c.args.kinds.now.grammar in
     let is = c.in_ok-put_first.ensures ∙ ap (λ (l : List Part). inner (parts_from c.args.kind c.placed_in-placed.result.place 0 c.args.symbols.now) ++ reverse l) c.clear.ensures.items ∙ append-nil _ in
     let f = c.requires.small in
     let placed = subst (λ (k : TreeKind). IsPlaceIn c.args.kinds.now k c.args.symbols.now c.placed_in-placed.result.place) c.rows_beside.ensures.kind c.placed_in-placed.ensures.is_place in
     let h = list_exists c.args.kinds.now.weights g c.args.kind c.args.symbols.now f.0 f.1 in
     let small = list_least c.args.kinds.now.weights g h.0 f.0 c.args.kind c.args.symbols.now f.1 h.1 in
-    let m = inner_trees c.args.kinds.now.weights g h.0 _ (placed h.0 h.1 (omega (arith, small, f.2))) in
-    (m.trees, subst (λ (l : List Part). AreChosenParts c.args.kinds.now.weights g l m.trees) (sym is) m.chosen, omega (arith, small, f.2, m.small))
+    let m = inner_trees c.args.kinds.now.weights g h.0 _ (placed h.0 h.1 (omega (arith, small, f.2))) in (
+      subst (All (IsPartOf g)) (sym is) (inner_fit c.args.kinds.now.weights g _ (parts_fit c.args.kinds.now.weights g c.args.kind c.placed_in-placed.result.place 0 c.args.symbols.now c.requires.kind c.requires.symbols)),
+      (m.trees, subst (λ (l : List Part). AreChosenParts c.args.kinds.now.weights g l m.trees) (sym is) m.chosen, omega (arith, small, f.2, m.small)),
+    )
 
 pub returns-clause-ok : goal.returns-clause-ok
 returns-clause-ok c =

@@ -9,6 +9,7 @@ use Rattle.cs_grammar.specs.Weights.{Weighed}
 use Rattle.cs_least.specs.Cost.Chosen.{AppendsAllChosen}
 use Rattle.cs_least.specs.Cost.Trees.{HaveSmall}
 use Rattle.cs_least.specs.Embed.Around.{HasLeastContext, IsAround}
+use Rattle.cs_least.specs.Embed.Contexts.{AreContextsOf}
 use Rattle.cs_pairs.specs.declared.kinds.kind.TreeKind.TheVariants.{Begins, Ends}
 use Rattle.cs_pairs.specs.Kinds.ChosenKind.{AppendsOfKind}
 use Rattle.cs_pairs.specs.Kinds.Parts.{HaveSmallOfKind}
@@ -34,10 +35,13 @@ symbols c = subst (λ (s : PlainGrammar). All (IsSymbolOf s) c.rule-rule.result.
 pub split_at-parts-requires : goal.split_at-parts-requires
 split_at-parts-requires c = subst (λ (l : List Symbol). c.args.at.place < length l) (sym c.right.ensures) (parts (goal.at.split_at-parts-requires c).After-right).within
 
-pub around-requires-clause-least : goal.around-requires-clause-least
-around-requires-clause-least c =
-    let least = laid_context c.args.kinds.now.weights c.args.kinds.now.grammar c.args.tokens.first c.args.tokens.second c.args.at.rule c.args.at.place c.rule-rule.result.now _ (parts (goal.at.around-requires-clause-least c).After-right) in
-    subst (λ (v : Weighed). HasLeastContext v.weights v.grammar c.left.result) (sym c.requires.embeds) (subst (HasLeastContext c.args.kinds.now.weights c.args.kinds.now.grammar) (sym c.left.ensures) least)
+pub take-requires-clause-contexts : goal.take-requires-clause-contexts
+take-requires-clause-contexts c = subst (λ (v : Weighed). AreContextsOf v c.args.contexts.now) (sym c.requires.costs) c.requires.contexts
+
+pub take-requires-clause-least : goal.take-requires-clause-least
+take-requires-clause-least c =
+    let least = laid_context c.args.kinds.now.weights c.args.kinds.now.grammar c.args.tokens.first c.args.tokens.second c.args.at.rule c.args.at.place c.rule-rule.result.now _ (parts (goal.at.take-requires-clause-least c).After-right) in
+    subst (λ (v : Weighed). HasLeastContext v.weights v.grammar c.left.result) (sym c.requires.costs) (subst (HasLeastContext c.args.kinds.now.weights c.args.kinds.now.grammar) (sym c.left.ensures) least)
 
 pub all_into-requires-clause-symbols : goal.all_into-requires-clause-symbols
 all_into-requires-clause-symbols c =
@@ -81,20 +85,24 @@ kind_onto-requires-2-clause-small c =
     let small = laid_rights c.args.kinds.now.weights g c.args.tokens.first c.args.tokens.second c.args.at.rule c.args.at.place c.rule-rule.result.now _ (parts (goal.at.kind_onto-requires-2-clause-small c).After-right) in
     subst (HaveSmallOfKind c.args.kinds.now.weights g (Begins c.args.tokens.second)) (sym is) small
 
-pub returns : goal.returns
-returns c =
+pub returns-clause-contexts : goal.returns-clause-contexts
+returns-clause-contexts c = ?
+
+pub returns-clause-code : goal.returns-clause-code
+returns-clause-code c =
     let g = c.args.kinds.now.grammar in
     let before = c.split_at-parts.ensures.before ∙ ap (λ (l : List Symbol). take c.args.at.place l) c.right.ensures in
     let symbol = c.split_at-parts.ensures.symbol (Token 0) ∙ ap (λ (l : List Symbol). get_or l c.args.at.place (Token 0)) c.right.ensures in
     let behind = c.split_at-parts.ensures.behind ∙ ap (λ (l : List Symbol). drop (c.args.at.place + 1) l) c.right.ensures in
-    let around = subst (λ n. IsAround c.args.kinds.now.weights g n c.in_ok-context.context.before.items c.in_ok-context.context.after.items) c.left.ensures
-    (subst (λ (v : Weighed). IsAround v.weights v.grammar c.left.result c.in_ok-context.context.before.items c.in_ok-context.context.after.items) c.requires.embeds c.in_ok-context.ensures.chosen) in
+    let context = c.in_ok-around.around.context in
+    let around = subst (λ n. IsAround c.args.kinds.now.weights g n context.before.items context.after.items) (c.in_ok-around.ensures.nonterminal ∙ c.left.ensures)
+    (subst (λ (v : Weighed). IsAround v.weights v.grammar c.in_ok-around.around.nonterminal context.before.items context.after.items) c.requires.costs c.in_ok-around.ensures.chosen) in
     let lefts = subst (λ (l : List Symbol). AppendsAllChosen c.args.kinds.now.weights g l c.push.new.self c.all_into.new.into) before
     (subst (λ (v : Weighed). AppendsAllChosen v.weights v.grammar c.split_at-parts.result.before.now c.push.new.self c.all_into.new.into) c.requires.costs c.in_ok-all_into.ensures.ok) in
     let last = subst (λ x. AppendsOfKind c.args.kinds.now.weights g (Ends c.args.tokens.first) (x ∷ []) c.all_into.new.into c.kind_onto.new.into) symbol c.in_ok-kind_onto.ensures.ok in
     let rights = subst (λ (l : List Symbol). AppendsOfKind c.args.kinds.now.weights g (Begins c.args.tokens.second) l c.kind_onto.new.into c.kind_onto-2.new.into) behind c.in_ok-kind_onto-2.ensures.ok in
-    laid_code c.args.kinds.now.weights g c.args.tokens.first c.args.tokens.second c.args.at.rule c.args.at.place c.rule-rule.result.now _ (parts (goal.at.returns c).After-right)
-    c.in_ok-context.context.before.items c.in_ok-context.context.after.items c.in_ok-derivation.derivation c.extend_from_slice.new.self c.push.new.self c.all_into.new.into c.kind_onto.new.into c.kind_onto-2.new.into c.extend_from_slice-2.new.self
+    laid_code c.args.kinds.now.weights g c.args.tokens.first c.args.tokens.second c.args.at.rule c.args.at.place c.rule-rule.result.now _ (parts (goal.at.returns-clause-code c).After-right)
+    context.before.items context.after.items c.in_ok-derivation.derivation c.extend_from_slice.new.self c.push.new.self c.all_into.new.into c.kind_onto.new.into c.kind_onto-2.new.into c.extend_from_slice-2.new.self
     around c.in_ok-derivation.ensures
     (c.in_ok-extend_from_slice.ensures.ok ∙ ap (λ (l : List ℕ). c.in_ok-derivation.derivation ++ l) c.deref.ensures.value)
     c.in_ok-push.ensures.ok lefts last rights

@@ -17,9 +17,9 @@ parts : (c : After-occurrence_of-parts) → ContextParts c.args.costs.now.weight
 parts c =
     small_parts c.args.costs.now.weights c.args.costs.now.grammar c.args.outer c.args.place c.args.inner _ _ (cut c).is_outer (cut c).is_inner _ _ (cut c).right_side (cut c).place c.requires.feasible.0 c.requires.feasible.1
 
-pub take_around-requires-clause-least : goal.take_around-requires-clause-least
-take_around-requires-clause-least c =
-    let context = outer_context _ _ _ _ _ _ (parts (goal.at.take_around-requires-clause-least c).After-occurrence_of-parts) in
+pub take-requires-clause-least : goal.take-requires-clause-least
+take-requires-clause-least c =
+    let context = outer_context _ _ _ _ _ _ (parts (goal.at.take-requires-clause-least c).After-occurrence_of-parts) in
     subst (λ n. HasLeastContext c.args.costs.now.weights c.args.costs.now.grammar n) (sym c.left.ensures) context
 
 pub all_into-requires-clause-small : goal.all_into-requires-clause-small

@@ -7,8 +7,8 @@ use Rattle.cs_least.specs.Embed.Around.{HasLeastContext, IsAround}
 use Rattle.cs_verdicts.proofs.OnPositive.RuleGoals.{has_context, has_children, rule_code}
 use Rattle.cs_verdicts.proofs.positive.rules.derive_rule.Goals as goal
 
-pub take_around-requires-clause-least : goal.take_around-requires-clause-least
-take_around-requires-clause-least c =
+pub take-requires-clause-least : goal.take-requires-clause-least
+take-requires-clause-least c =
     let w = c.args.costs.now.weights in
     let g = c.args.costs.now.grammar in
     let rule = subst (λ (s : PlainGrammar). IsRule s c.args.number c.rule-rule.result.now) c.grammar.ensures c.rule-rule.ensures.rule in

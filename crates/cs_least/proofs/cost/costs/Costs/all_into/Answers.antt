@@ -1,4 +1,4 @@
-use Rattle.std.proofs.Common.{◌++◌, List, ℕ, [], reverse, refl, sym, ap, ◌∙◌, subst, append-nil}
+use Rattle.std.proofs.Common.{◌++◌, List, ℕ, [], refl, sym, ap, ◌∙◌, subst, append-nil}
 use Rattle.std.specs.Prelude.{All}
 use Rattle.std.proofs.lemmas.Result.{on_ok_weaker}
 use Rattle.cs_grammar.specs.Grammar.{IsSymbol}
@@ -7,19 +7,10 @@ use Rattle.cs_grammar.specs.Tree.{codes_of}
 use Rattle.cs_grammar.specs.declared.symbol.Symbol.{Symbol}
 use Rattle.cs_least.specs.Cost.Chosen.{AreChosen}
 use Rattle.cs_least.specs.Cost.Trees.{HaveSmall}
-use Rattle.cs_least.specs.Cost.Parts.{IsText, IsWithin}
+use Rattle.cs_least.specs.Cost.Parts.{IsText}
 use Rattle.cs_least.proofs.OnCost.ChosenTrees.{chosen_forest}
-use Rattle.cs_least.proofs.OnCost.Written.{IsText-whole, forest_within, tokens_chosen}
+use Rattle.cs_least.proofs.OnCost.Written.{IsText-whole, forest_within}
 use Rattle.cs_least.proofs.cost.costs.Costs.all_into.Goals as goal
-
-pub returns-then-are_tokens-clause-ok : goal.returns-then-are_tokens-clause-ok
-returns-then-are_tokens-clause-ok c =
-    let f = tokens_chosen c.args.self.now.weights c.args.self.now.grammar c.args.symbols.now (sym c.are_tokens.ensures ∙ c.if-are_tokens.true) in
-    record {
-      trees = f.0;
-      chosen = f.1;
-      text = sym (ap (λ (l : List ℕ). c.args.into.now ++ l) f.2 ∙ append-nil c.args.into.now);
-    }
 
 pub write-requires : goal.write-requires
 write-requires c =
@@ -28,8 +19,7 @@ write-requires c =
     let g = c.self.inside.trees.grammar in
     let f = subst (λ (v : Weighed). HaveSmall v.weights v.grammar xs) (sym c.self.view_is) c.requires.small in
     let each = subst (λ (v : Weighed). All (IsSymbol v.grammar.tokens v.grammar.nonterminals) xs) (sym c.self.view_is) c.requires.symbols in
-    let is = c.in_ok-put_on_top.ensures.ok ∙ ap (λ (l : List Symbol). xs ++ reverse l) c.in_ok-pending.ensures.items ∙ append-nil xs in
-    record { small = subst (λ (l : List Symbol). All (IsWithin w g) l) (sym is) (forest_within w g f.0 xs f.1 f.2 each) }
+    record { small = forest_within w g f.0 xs f.1 f.2 each }
 
 pub returns-clause-ok : goal.returns-clause-ok
 returns-clause-ok c =
@@ -38,13 +28,11 @@ returns-clause-ok c =
     let g = c.self.inside.trees.grammar in
     let f = subst (λ (v : Weighed). HaveSmall v.weights v.grammar xs) (sym c.self.view_is) c.requires.small in
     let h = chosen_forest w g f.0 xs f.1 in
-    let is = c.in_ok-put_on_top.ensures.ok ∙ ap (λ (l : List Symbol). xs ++ reverse l) c.in_ok-pending.ensures.items in
     let text : IsText w g (xs ++ []) (codes_of h.0 ++ []) = IsText-whole w g h.0 xs [] [] h.1 refl in
-    let pending = subst (λ (l : List Symbol). IsText w g l (codes_of h.0 ++ [])) (sym is) text in
     on_ok_weaker c.write.result
     (λ e. record {
       trees = h.0;
       chosen = subst (λ (v : Weighed). AreChosen v.weights v.grammar xs h.0) c.self.view_is h.1;
-      text = e (codes_of h.0 ++ []) pending ∙ ap (λ (s : List ℕ). c.args.into.now ++ s) (append-nil (codes_of h.0));
+      text = e (codes_of h.0) (subst (λ (l : List ℕ). IsText w g xs l) (append-nil (codes_of h.0)) (subst (λ (l : List Symbol). IsText w g l (codes_of h.0 ++ [])) (append-nil xs) text));
     })
     c.write.ensures.written

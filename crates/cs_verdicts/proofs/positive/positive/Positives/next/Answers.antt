@@ -7,7 +7,7 @@ use Rattle.cs_verdicts.specs.Positive.Judges.{judged_by, CanJudge}
 use Rattle.cs_verdicts.proofs.positive.positive.Positives.next.Goals as goal
 
 pub invariant_of-self : goal.invariant_of-self
-invariant_of-self c = (c.self.invariant.0, c.self.invariant.1, c.self.invariant.2, c.verdict.ensures.kept)
+invariant_of-self c = (c.self.invariant.0, c.self.invariant.1, c.self.invariant.2, c.verdict.ensures.contexts)
 
 pub invariant_of-self-2 : goal.invariant_of-self-2
 invariant_of-self-2 c =
@@ -16,5 +16,5 @@ invariant_of-self-2 c =
       c.self.invariant.0,
       (first_goal (judged_by judge).grammar _ c.in-Some.goal c.next.new.self split c.self.invariant.1).1,
       All-tail (CanJudge judge) c.in-Some.goal c.next.new.self (subst (λ (l : List Goal). All (CanJudge judge) l) split c.self.invariant.2),
-      c.verdict.ensures.kept,
+      c.verdict.ensures.contexts,
     )
