@@ -30,7 +30,8 @@ fn work_off<T, U: Drop, W: Work<T, U>, G: Gate>(
     ensures workers { seat.new.workers ≡ seat.old.workers }
     ensures ok { Works (W.answers all.now.work.now) all.now.items.now seat.new result }
 {
-    let mut answers = Vec::new(alloc);
+    let share = all.items.len() / all.counter.workers().max(1) as usize;
+    let mut answers = Vec::with_capacity(alloc, share)?;
     while let Some(i) = all.counter.draw(seat) {
         all.gate.enter(i);
         let answer = all.work.one(alloc, &all.items[i as usize])?;

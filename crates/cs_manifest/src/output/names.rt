@@ -123,6 +123,9 @@ pub fn put_quoted<S: Sink>(output: &mut Output<'_, S>, text: &[u8])
 pub fn put_text_bytes<S: Sink>(output: &mut Output<'_, S>, text: &[u8])
     ensures { Puts S.Sink (flat_map words.text_byte text.now) output.old output.new }
 {
+    if text.is_empty() {
+        return;
+    }
     if is_plain(text) {
         output.put(text);
     } else {

@@ -19,17 +19,29 @@ pub(crate) fn bare_cost(kind: TreeKind) -> Cost
     }
 }
 
+// What the leaf of a token costs.
+fn token_cost(weights: &Weights, token: u16) -> Cost
+    requires { IsNumberOf (length weights.now.numbers) token }
+    ensures cost { result ≡ leaf_cost weights.now TreeKind.Any token }
+    ensures capped { IsCapped weights.now.limit result }
+{
+    cost_of(weights.number(token), weights.limit())
+}
+
 pub(crate) fn leaf_cost(weights: &Weights, kind: TreeKind, token: u16) -> Cost
     requires { IsNumberOf (length weights.now.numbers) token }
     ensures cost { result ≡ leaf_cost weights.now kind token }
     ensures capped { IsCapped weights.now.limit result }
 {
-    let leaf = cost_of(weights.number(token), weights.limit());
     match kind {
-        TreeKind::Any => leaf,
+        TreeKind::Any => token_cost(weights, token),
         TreeKind::Empty => Cost::Never,
         TreeKind::Begins(only) | TreeKind::Ends(only) => {
-            if token == only { leaf } else { Cost::Never }
+            if token == only {
+                token_cost(weights, token)
+            } else {
+                Cost::Never
+            }
         }
     }
 }

@@ -1,6 +1,6 @@
 // The text of a list of tokens.
 
-ghost use Rattle.std.specs.Prelude.{◌<◌, ◌≤◌, All, IfErr, IfOk, length};
+ghost use Rattle.std.specs.Prelude.{◌≡◌, ◌<◌, ◌≤◌, ◌++◌, All, IfErr, IfOk, length};
 ghost use Rattle.cs_texts.specs.Rendering.Rendering.{AreTokens, HasLexeme, IsFirstWithout, IsRuleText, Renders};
 ghost use Rattle.cs_texts.specs.Rendering.Parts.{PutsLexeme};
 
@@ -38,6 +38,18 @@ fn put_lexeme(text: &mut Vec<u8>, lexemes: &Lexemes, token: u16) -> Result<(), A
     Ok(())
 }
 
+// Puts the separator, which mostly is one byte.
+fn put_separator(text: &mut Vec<u8>, separator: &[u8]) -> Result<(), AllocError>
+    ensures { IfOk result (λ _. text.new.items ≡ text.old.items ++ separator.now) }
+{
+    if separator.len() == 1 {
+        text.push(separator[0])?;
+    } else {
+        text.extend_from_slice(separator)?;
+    }
+    Ok(())
+}
+
 // The lexemes of the tokens, with the separator between them, put into as much room.
 fn join(
     alloc: Global,
@@ -53,7 +65,7 @@ fn join(
     let mut text = Vec::with_capacity(alloc, room)?;
     for i in 0..tokens.len() {
         if i > 0 {
-            text.extend_from_slice(separator)?;
+            put_separator(&mut text, separator)?;
         }
         put_lexeme(&mut text, lexemes, tokens[i])?;
     }

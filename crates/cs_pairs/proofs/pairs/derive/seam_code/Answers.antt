@@ -9,7 +9,7 @@ use Rattle.cs_grammar.specs.Weights.{Weighed}
 use Rattle.cs_least.specs.Cost.Chosen.{AppendsAllChosen}
 use Rattle.cs_least.specs.Cost.Trees.{HaveSmall}
 use Rattle.cs_least.specs.Embed.Around.{HasLeastContext, IsAround}
-use Rattle.cs_least.specs.Embed.Contexts.{AreContextsOf}
+use Rattle.cs_least.specs.Embed.Contexts.{AreContextsOf, IsAroundIn}
 use Rattle.cs_pairs.specs.declared.kinds.kind.TreeKind.TheVariants.{Begins, Ends}
 use Rattle.cs_pairs.specs.Kinds.ChosenKind.{AppendsOfKind}
 use Rattle.cs_pairs.specs.Kinds.Parts.{HaveSmallOfKind}
@@ -86,7 +86,10 @@ kind_onto-requires-2-clause-small c =
     subst (HaveSmallOfKind c.args.kinds.now.weights g (Begins c.args.tokens.second)) (sym is) small
 
 pub returns-clause-contexts : goal.returns-clause-contexts
-returns-clause-contexts c = ?
+returns-clause-contexts c =
+    let chosen = subst (λ (v : Weighed). IsAroundIn v c.in_ok-around.around) c.requires.costs c.in_ok-around.ensures.chosen in
+    let others = subst (λ (v : Weighed). AreContextsOf v c.take.new.self) c.requires.costs c.take.ensures.contexts in
+    c.keep.ensures c.args.kinds.now chosen others
 
 pub returns-clause-code : goal.returns-clause-code
 returns-clause-code c =
