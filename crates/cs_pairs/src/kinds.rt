@@ -34,4 +34,4 @@ pub use rims::{step_cost, symbol_number};
 pub use row::Row;
 pub use sweep::Sweep;
 pub use writing::kind_into;
-pub(crate) use writing::{kind_onto, no_parts};
+pub(crate) use writing::{Part, kind_onto};

@@ -35,4 +35,4 @@ pub use kinds::{
     Kinds, Row, Sweep, TreeKind, chosen_of_kind_exists, flat_of_kind, kind_into,
     one_chosen_of_kind, step_cost, symbol_number,
 };
-pub use pairs::{Pairs, chosen_pair_exists, one_chosen_pair};
+pub use pairs::{Kept, Pairs, chosen_pair_exists, one_chosen_pair};

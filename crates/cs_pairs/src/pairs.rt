@@ -13,10 +13,12 @@
 mod derive;
 mod follows;
 mod fronts;
+mod kept;
 mod laws;
 mod meeting;
 mod pairs;
 mod sources;
 
+pub use kept::Kept;
 pub use laws::{chosen_pair_exists, one_chosen_pair};
 pub use pairs::Pairs;

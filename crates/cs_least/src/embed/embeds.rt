@@ -57,8 +57,8 @@ impl<'g> Embeds<'g> {
         self.grammar
     }
 
-    // What the tables were made with.
-    pub(crate) fn allocator(&self) -> Global {
+    /// What the tables were made with.
+    pub fn allocator(&self) -> Global {
         *self.tables.reaches.allocator()
     }
 

@@ -150,7 +150,7 @@ fn write(
 }
 
 // Room for pending parts.
-pub(crate) fn no_parts(alloc: Global) -> Result<Vec<Part>, AllocError>
+fn no_parts(alloc: Global) -> Result<Vec<Part>, AllocError>
     ensures { IfOk result (λ parts. parts.items ≡ []) }
 {
     Vec::with_capacity(alloc, USUAL_PARTS)

@@ -9,10 +9,11 @@ ghost use Rattle.cs_pairs.specs.Kinds.Parts.{HasSmallOfKind};
 ghost use Rattle.cs_pairs.specs.Pairs.ChosenPair.{IsCodeOfKind};
 ghost use Rattle.cs_pairs.specs.Pairs.Clauses.{IsMeetingOf, IsCodeOfTokens};
 
-use crate::kinds::{Kinds, TreeKind, kind_into, kind_onto, no_parts};
+use crate::kinds::{Kinds, TreeKind, kind_into, kind_onto};
+use crate::pairs::kept::Kept;
 use crate::pairs::meeting::{Meeting, TokenPair};
 use cs_grammar::{Derivation, Symbol};
-use cs_least::{Contexts, Costs, Embeds};
+use cs_least::{Costs, Embeds};
 use std::alloc::{AllocError, Global};
 
 // Room for as many rule numbers is made at once.
@@ -64,34 +65,33 @@ pub(crate) fn seam_code<'g>(
     kinds: &Kinds<'g>,
     costs: &Costs<'g>,
     embeds: &Embeds<'g>,
-    contexts: &mut Contexts,
+    kept: &mut Kept,
     tokens: TokenPair,
     at: Meeting,
 ) -> Result<Derivation, AllocError>
     requires costs { costs.now ≡ kinds.now }
     requires embeds { embeds.now ≡ kinds.now }
-    requires contexts { AreContextsOf kinds.now contexts.old }
+    requires contexts { AreContextsOf kinds.now kept.old.contexts }
     requires first { IsNumberOf kinds.now.grammar.tokens tokens.first }
     requires second { IsNumberOf kinds.now.grammar.tokens tokens.second }
     requires meeting { IsMeetingOf kinds.now tokens at }
     ensures code { IfOk result (IsCodeOfTokens kinds.now tokens) }
-    ensures contexts { AreContextsOf kinds.now contexts.new }
+    ensures contexts { AreContextsOf kinds.now kept.new.contexts }
 {
     let rule = kinds.grammar().rule(at.rule);
     let parts = split_at(rule.right(), at.place as usize);
-    let around = contexts.take(costs, embeds, rule.left())?;
+    let around = kept.contexts.take(costs, embeds, rule.left())?;
     let mut derivation = Derivation::with_capacity(alloc, USUAL_RULES)?;
     derivation.extend_from_slice(&around.context.before)?;
     derivation.push(at.rule)?;
     costs.all_into(parts.before, &mut derivation)?;
     let last = [parts.symbol];
-    let mut pending = no_parts(alloc)?;
     kind_onto(
         kinds,
         costs,
         TreeKind::Ends(tokens.first),
         &last,
-        &mut pending,
+        &mut kept.pending,
         &mut derivation,
     )?;
     kind_onto(
@@ -99,10 +99,10 @@ pub(crate) fn seam_code<'g>(
         costs,
         TreeKind::Begins(tokens.second),
         parts.behind,
-        &mut pending,
+        &mut kept.pending,
         &mut derivation,
     )?;
     derivation.extend_from_slice(&around.context.after)?;
-    contexts.keep(around)?;
+    kept.contexts.keep(around)?;
     Ok(derivation)
 }

@@ -15,9 +15,10 @@ use crate::kinds::{Kinds, TreeKind};
 use crate::pairs::derive::{kind_code, seam_code};
 use crate::pairs::follows::{FollowRows, follow_rows};
 use crate::pairs::fronts::around_rules;
+use crate::pairs::kept::Kept;
 use crate::pairs::meeting::TokenPair;
 use cs_grammar::{Derivation, Grammar, Mark, Symbol, place_of};
-use cs_least::{Contexts, Cost, Costs, Embeds};
+use cs_least::{Cost, Costs, Embeds};
 use std::alloc::{AllocError, Global};
 use std::marker::Model;
 
@@ -103,18 +104,18 @@ impl<'g> Pairs<'g> {
         alloc: Global,
         costs: &Costs<'g>,
         embeds: &Embeds<'g>,
-        contexts: &mut Contexts,
+        kept: &mut Kept,
         left: Mark,
         right: Mark,
     ) -> Result<Derivation, AllocError>
         requires costs { costs.now ≡ self.now }
         requires embeds { embeds.now ≡ self.now }
-        requires contexts { AreContextsOf self.now contexts.old }
+        requires contexts { AreContextsOf self.now kept.old.contexts }
         requires left { IsLeft self.now.grammar.tokens left }
         requires right { IsRight self.now.grammar.tokens right }
         requires least { HasLeastPair self.now.weights self.now.grammar left right }
         ensures code { IfOk result (IsCodeOfPair self.now.weights self.now.grammar left right) }
-        ensures contexts { AreContextsOf self.now contexts.new }
+        ensures contexts { AreContextsOf self.now kept.new.contexts }
     {
         match (left, right) {
             (Mark::Begin, Mark::Token(second)) => self.derive_whole(
@@ -124,7 +125,7 @@ impl<'g> Pairs<'g> {
             ),
             (Mark::Token(first), Mark::Token(second)) => {
                 let tokens = TokenPair { first, second };
-                self.derive_tokens(alloc, costs, embeds, contexts, tokens)
+                self.derive_tokens(alloc, costs, embeds, kept, tokens)
             }
             (Mark::Token(first), Mark::End) => self.derive_whole(
                 alloc,
@@ -196,23 +197,23 @@ impl<'g> Pairs<'g> {
         alloc: Global,
         costs: &Costs<'g>,
         embeds: &Embeds<'g>,
-        contexts: &mut Contexts,
+        kept: &mut Kept,
         tokens: TokenPair,
     ) -> Result<Derivation, AllocError>
         requires costs { costs.now ≡ self.now }
         requires embeds { embeds.now ≡ self.now }
-        requires contexts { AreContextsOf self.now contexts.old }
+        requires contexts { AreContextsOf self.now kept.old.contexts }
         requires first { IsNumberOf self.now.grammar.tokens tokens.first }
         requires second { IsNumberOf self.now.grammar.tokens tokens.second }
         requires least { HasLeastOf self.now tokens }
         ensures code { IfOk result (IsCodeOfTokens self.now tokens) }
-        ensures contexts { AreContextsOf self.now contexts.new }
+        ensures contexts { AreContextsOf self.now kept.new.contexts }
     {
         let meetings = self.rows.meetings[place_of(tokens.second)].places();
         let Some(at) = meetings[place_of(tokens.first)] else {
             unreachable!()
         };
-        seam_code(alloc, &self.kinds, costs, embeds, contexts, tokens, at)
+        seam_code(alloc, &self.kinds, costs, embeds, kept, tokens, at)
     }
 
     // What the least tree of the start symbol costs that is of a kind.

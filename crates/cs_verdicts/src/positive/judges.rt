@@ -10,7 +10,8 @@ use crate::positive::judging::{judge_keeping, judge_tree_keeping};
 use crate::positive::tables::Tables;
 use crate::positive::verdict::Verdict;
 use cs_goals::Goal;
-use cs_least::{Contexts, Costs, Embeds};
+use cs_least::{Costs, Embeds};
+use cs_pairs::Kept;
 use std::alloc::{AllocError, Global};
 
 // All tables, or those that rule and context goals need.
@@ -28,19 +29,23 @@ impl<'t> Judge<'t> {
         &self,
         alloc: Global,
         goal: &Goal,
-        contexts: &mut Contexts,
+        kept: &mut Kept,
     ) -> Result<Verdict, AllocError>
         requires judge { IsJudge self.now }
         requires goal { IsGoal (judged_by self.now).grammar goal.now }
         requires kind { CanJudge self.now goal.now }
-        requires contexts { AreContextsOf (judged_by self.now) contexts.old }
+        requires contexts { AreContextsOf (judged_by self.now) kept.old.contexts }
         ensures verdict { IfOk result (IsVerdictIn (judged_by self.now) goal.now) }
-        ensures contexts { AreContextsOf (judged_by self.now) contexts.new }
+        ensures contexts { AreContextsOf (judged_by self.now) kept.new.contexts }
     {
         match *self {
-            Judge::Tables(tables) => judge_keeping(alloc, tables, goal, contexts),
+            Judge::Tables(tables) => judge_keeping(alloc, tables, goal, kept),
             Judge::Trees { costs, embeds } => judge_tree_keeping(
-                alloc, costs, embeds, goal, contexts,
+                alloc,
+                costs,
+                embeds,
+                goal,
+                &mut kept.contexts,
             ),
         }
     }

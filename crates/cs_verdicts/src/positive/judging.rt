@@ -13,6 +13,7 @@ use crate::positive::verdict::Verdict;
 use cs_goals::Goal;
 use cs_grammar::Derivation;
 use cs_least::{Contexts, Cost, Costs, Embeds};
+use cs_pairs::Kept;
 use std::alloc::{AllocError, Global};
 
 /// The verdict of a goal of the grammar, over all trees of the start symbol: `Infeasible` exactly where none meets the goal,
@@ -22,8 +23,8 @@ pub fn judge(alloc: Global, tables: &Tables, goal: &Goal) -> Result<Verdict, All
     requires { IsGoal tables.now.grammar goal.now }
     ensures { IfOk result (IsVerdictIn tables.now goal.now) }
 {
-    let mut contexts = Contexts::new(&tables.embeds);
-    judge_keeping(alloc, tables, goal, &mut contexts)
+    let mut kept = Kept::new(&tables.embeds);
+    judge_keeping(alloc, tables, goal, &mut kept)
 }
 
 // The same, by contexts that are kept from goal to goal.
@@ -31,16 +32,22 @@ pub(crate) fn judge_keeping(
     alloc: Global,
     tables: &Tables,
     goal: &Goal,
-    contexts: &mut Contexts,
+    kept: &mut Kept,
 ) -> Result<Verdict, AllocError>
     requires goal { IsGoal tables.now.grammar goal.now }
-    requires contexts { AreContextsOf tables.now contexts.old }
+    requires contexts { AreContextsOf tables.now kept.old.contexts }
     ensures verdict { IfOk result (IsVerdictIn tables.now goal.now) }
-    ensures contexts { AreContextsOf tables.now contexts.new }
+    ensures contexts { AreContextsOf tables.now kept.new.contexts }
 {
     match *goal {
-        Goal::Pair { left, right } => judge_pair(alloc, tables, contexts, left, right),
-        _ => judge_tree_keeping(alloc, &tables.costs, &tables.embeds, goal, contexts),
+        Goal::Pair { left, right } => judge_pair(alloc, tables, kept, left, right),
+        _ => judge_tree_keeping(
+            alloc,
+            &tables.costs,
+            &tables.embeds,
+            goal,
+            &mut kept.contexts,
+        ),
     }
 }
 

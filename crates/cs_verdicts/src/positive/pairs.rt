@@ -9,34 +9,30 @@ use crate::positive::tables::Tables;
 use crate::positive::verdict::Verdict;
 use cs_goals::Goal;
 use cs_grammar::Mark;
-use cs_least::{Contexts, Cost};
+use cs_least::Cost;
+use cs_pairs::Kept;
 use std::alloc::{AllocError, Global};
 
 pub(crate) fn judge_pair(
     alloc: Global,
     tables: &Tables,
-    contexts: &mut Contexts,
+    kept: &mut Kept,
     left: Mark,
     right: Mark,
 ) -> Result<Verdict, AllocError>
     requires left { IsLeft tables.now.grammar.tokens left }
     requires right { IsRight tables.now.grammar.tokens right }
-    requires contexts { AreContextsOf tables.now contexts.old }
+    requires contexts { AreContextsOf tables.now kept.old.contexts }
     ensures verdict { IfOk result (IsVerdictIn tables.now (Goal.Pair left right)) }
-    ensures contexts { AreContextsOf tables.now contexts.new }
+    ensures contexts { AreContextsOf tables.now kept.new.contexts }
 {
     match tables.pairs.cost(left, right) {
         Cost::Never => Ok(Verdict::Infeasible),
         Cost::Large => Ok(Verdict::Large),
         Cost::Least(size) => {
-            let derivation = tables.pairs.derive(
-                alloc,
-                &tables.costs,
-                &tables.embeds,
-                contexts,
-                left,
-                right,
-            )?;
+            let derivation = tables
+                .pairs
+                .derive(alloc, &tables.costs, &tables.embeds, kept, left, right)?;
             Ok(Verdict::Feasible { size, derivation })
         }
     }

@@ -8,7 +8,8 @@ use crate::positive::tables::Tables;
 use crate::positive::verdict::Verdict;
 use cs_choices::Criteria;
 use cs_goals::{Goal, Goals};
-use cs_least::{Contexts, Costs, Embeds};
+use cs_least::{Costs, Embeds};
+use cs_pairs::Kept;
 use std::alloc::{AllocError, Global};
 use std::marker::Model;
 
@@ -24,7 +25,7 @@ pub struct Positive {
 pub struct Positives<'t> {
     judge: Judge<'t>,
     goals: Goals<'t>,
-    contexts: Contexts,
+    kept: Kept,
 }
 
 impl<'t> Model for Positives<'t> {
@@ -40,7 +41,7 @@ impl<'t> Model for Positives<'t> {
     ghost invariant = { λ p. IsJudge p.judge
         × AreOfGrammar (judged_by p.judge).grammar p.goals
         × All (CanJudge p.judge) p.goals
-        × AreContextsOf (judged_by p.judge) p.contexts };
+        × AreContextsOf (judged_by p.judge) p.kept.contexts };
 }
 
 impl<'t> Positives<'t> {
@@ -51,7 +52,7 @@ impl<'t> Positives<'t> {
         Positives {
             judge: Judge::Tables(tables),
             goals: Goals::new(tables.grammar(), criteria),
-            contexts: Contexts::new(&tables.embeds),
+            kept: Kept::new(&tables.embeds),
         }
     }
 
@@ -68,7 +69,7 @@ impl<'t> Positives<'t> {
         Positives {
             judge: Judge::Trees { costs, embeds },
             goals: Goals::new(costs.grammar(), criteria),
-            contexts: Contexts::new(embeds),
+            kept: Kept::new(embeds),
         }
     }
 
@@ -84,7 +85,7 @@ impl<'t> Positives<'t> {
         let Some(goal) = goals.next() else {
             return Ok(None);
         };
-        let verdict = self.judge.verdict(alloc, &goal, &mut self.contexts)?;
+        let verdict = self.judge.verdict(alloc, &goal, &mut self.kept)?;
         self.goals = goals;
         Ok(Some(Positive { goal, verdict }))
     }

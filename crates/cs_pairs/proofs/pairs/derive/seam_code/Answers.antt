@@ -36,7 +36,7 @@ pub split_at-parts-requires : goal.split_at-parts-requires
 split_at-parts-requires c = subst (λ (l : List Symbol). c.args.at.place < length l) (sym c.right.ensures) (parts (goal.at.split_at-parts-requires c).After-right).within
 
 pub take-requires-clause-contexts : goal.take-requires-clause-contexts
-take-requires-clause-contexts c = subst (λ (v : Weighed). AreContextsOf v c.args.contexts.now) (sym c.requires.costs) c.requires.contexts
+take-requires-clause-contexts c = subst (λ (v : Weighed). AreContextsOf v c.args.kept.now.contexts) (sym c.requires.costs) c.requires.contexts
 
 pub take-requires-clause-least : goal.take-requires-clause-least
 take-requires-clause-least c =
