@@ -13,6 +13,6 @@ use Rattle.cs_verdicts.proofs.positive.positive.Positives.of_trees.Goals as goal
 pub invariant_of-result : goal.invariant_of-result
 invariant_of-result c =
     let g = c.args.costs.now.grammar in
-    let contexts = subst (λ (v : Weighed). AreContextsOf v c.new-2.result) c.requires.embeds c.new-2.ensures in
+    let contexts = subst (λ (v : Weighed). AreContextsOf v c.new-2.result.contexts) c.requires.embeds c.new-2.ensures in
     let is = c.new.ensures ∙ ap (λ (m : PlainGrammar). goals m c.args.criteria) c.grammar.ensures in
     (c.requires.embeds, subst (λ (l : List Goal). AreOfGrammar g l) (sym is) (of_grammar g c.args.criteria), subst (λ (l : List Goal). All IsTreeGoal l) (sym is) (tree_goals g c.args.criteria c.requires.criteria), contexts)
