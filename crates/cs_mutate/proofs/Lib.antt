@@ -4,6 +4,7 @@ pub mod Patches
 pub mod Distinct
 pub mod Mutants
 pub mod Marks
+pub mod Judging
 pub mod Seams
 pub mod Searching
 pub mod Listed

@@ -12,9 +12,9 @@
 //!
 //! [`Edits`] and [`Negatives`] as the lists of what is still to be given. Of the files of `specs/`, these say what is
 //! meant: `Edit` (what an edit makes of a list), `Edits` (the list of a list's edits), `Mutant` (which lists come from
-//! a list by a mutation), `Poison` (poisoned pairs), `Negatives` (the edits that give one), `Kept` (which of them are
-//! kept) and `Tells` of `Keeping` (what a keeper knows of those before). `Rest` and the others of `Keeping` are working
-//! words of proofs: what is left of the list of edits, what comes next.
+//! a list by a mutation), `Poison` (poisoned pairs), `Judged` (lists without one, by their length), `Negatives` (the
+//! edits that give one), `Kept` (which of them are kept) and `Tells` of `Keeping` (what a keeper knows of those before).
+//! `Rest` and the others of `Keeping` are working words of proofs: what is left of the list of edits, what comes next.
 //!
 //! # What is proved
 //!
