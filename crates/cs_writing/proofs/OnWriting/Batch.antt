@@ -1,8 +1,9 @@
 -- The entries of a batch, written one after another.
-use Rattle.std.proofs.Common.{◌≡◌, ℕ, ◌+◌, ◌<◌, List, [], ◌∷◌, ◌++◌, length, get_or, map, take, drop, sym, ap, ◌∙◌, subst, arith, append-nil, length-take-le, take-append-drop}
-use Rattle.std.specs.Prelude.{All}
+use Rattle.std.proofs.Common.{◌≡◌, ℕ, ◌+◌, ◌<◌, List, [], ◌∷◌, ◌++◌, Some, length, get_or, map, take, drop, sym, ap, ◌∙◌, subst, arith, append-nil, length-take-le, take-append-drop}
+use Rattle.std.specs.Prelude.{All, slice_get}
 use Rattle.std.proofs.lemmas.List.{map-append, take_more}
 use Rattle.std.proofs.lemmas.List.Elements.{All-get_or}
+use Rattle.std.proofs.lemmas.Option.{get_or_from_slice_get, slice_get_within}
 use Rattle.cs_io.specs.declared.sink.Sink as Sink
 use Rattle.cs_io.specs.Lines.{IsCutShort, IsWritten}
 use Rattle.cs_manifest.proofs.OnOutput.Written.{written_then, written_cut, cut_longer}
@@ -13,6 +14,14 @@ use Rattle.cs_writing.proofs.OnWriting.Ones.{numbered_both}
 -- what holds of each holds of the one at a place
 pub at_place : {A : Type 0} (P : A → Type 0) (batch : List A) (i : ℕ) (made : A) → i < length batch → made ≡ get_or batch i made → All P batch → P made
 at_place P batch i made within is all = subst P (sym is) (All-get_or P batch i made within all)
+
+-- what is read at a place stands there
+pub record StandsAt {A : Type 0} (list : List A) (i : ℕ) (made : A) : Type 0 where
+  pub within : i < length list
+  pub is : made ≡ get_or list i made
+
+pub stands_at : {A : Type 0} (list : List A) (i : ℕ) (made : A) → slice_get list i ≡ Some made → StandsAt list i made
+stands_at list i made at = record { within = slice_get_within list i made at; is = sym (get_or_from_slice_get list i made made at) }
 
 -- the next member's lines, as they are and as they are told
 pub lines_are : {A : Type 0} (f : File → ℕ → A → List ℕ) (file now : File) (first i number : ℕ) (made : A) (lines : List ℕ) → now ≡ file → number ≡ first + i → lines ≡ f now number made

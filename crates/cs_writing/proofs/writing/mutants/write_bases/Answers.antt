@@ -1,7 +1,7 @@
-use Rattle.std.proofs.Common.{rules, ◌≡◌, ◌+◌, ◌<◌, ◌≤◌, List, ℕ, get_or, length, refl, subst, sym, ap, ◌∙◌, arith}
-use Rattle.std.proofs.lemmas.Option.{get_or_from_slice_get, slice_get_within}
+use Rattle.std.proofs.Common.{rules, ◌≡◌, ◌+◌, ◌≤◌, List, ℕ, refl, subst, sym, ap, ◌∙◌, arith}
 use Rattle.std.proofs.lemmas.Result.{err_from_is_err_and}
 use Rattle.cs_io.specs.Lines.{IsWritten}
+use Rattle.cs_grammar.proofs.Measures.{All-at}
 use Rattle.cs_grammar.specs.Grammar.{PlainGrammar}
 use Rattle.cs_manifest.specs.Manifest.Lines.{base_line}
 use Rattle.cs_manifest.specs.Manifest.Manifest.{kept_in}
@@ -15,7 +15,7 @@ use Rattle.cs_texts.specs.declared.work.work.RenderWork.{RenderWork}
 use Rattle.cs_io.specs.declared.halt.Halt.TheVariants.{Failed, Memory}
 use Rattle.cs_mutate.specs.Negatives.{Search}
 use Rattle.cs_writing.specs.Writing.Mutants.{IsEditable, negatives_in}
-use Rattle.cs_writing.proofs.OnWriting.Batch.{at_place}
+use Rattle.cs_writing.proofs.OnWriting.Batch.{StandsAt, stands_at}
 use Rattle.cs_io.proofs.Called.{is_cut, is_written}
 use Rattle.cs_writing.proofs.OnWriting.Mutated.{base_cut, base_memory, base_stops, bases_all, bases_counted, bases_more, bases_none, bases_refused, without_bases}
 use Rattle.cs_writing.proofs.OnWriting.OneBase.{one_base_stops, one_base_written}
@@ -31,15 +31,11 @@ use Rattle.cs_writing.proofs.writing.mutants.write_bases.Goals.{After-get-goal, 
 abbrev base_of : (g : Over) (c : After-get-goal g) → ℕ × List ℕ
 base_of g c = (c.get-goal.result.0, c.get-goal.result.1.now)
 
-within : (g : Over) (c : After-get-goal g) → c.loop-index.index < length c.args.bases.now.list
-within g c = slice_get_within c.args.bases.now.list c.loop-index.index (base_of g c) c.get-goal.ensures
-
-is_base : (g : Over) (c : After-get-goal g) → base_of g c ≡ get_or c.args.bases.now.list c.loop-index.index (base_of g c)
-is_base g c = sym (get_or_from_slice_get c.args.bases.now.list c.loop-index.index (base_of g c) (base_of g c) c.get-goal.ensures)
+stands : (g : Over) (c : After-get-goal g) → StandsAt c.args.bases.now.list c.loop-index.index (base_of g c)
+stands g c = stands_at c.args.bases.now.list c.loop-index.index (base_of g c) c.get-goal.ensures
 
 editable : (g : Over) (c : After-get-goal g) → IsEditable c.args.plan.now.yacc.now.grammar.tokens (base_of g c)
-editable g c =
-    at_place (IsEditable c.args.plan.now.yacc.now.grammar.tokens) c.args.bases.now.list c.loop-index.index (base_of g c) (within g c) (is_base g c) c.requires.bases
+editable g c = All-at (IsEditable c.args.plan.now.yacc.now.grammar.tokens) c.args.bases.now.list c.loop-index.index (base_of g c) c.requires.bases c.get-goal.ensures
 
 -- its line was written
 first : (g : Over) (c : In_ok-entry g) → IsWritten g.S.Sink (base_line (c.loop-index.index + 1) c.get-goal.result.0) c.loop-index.sink c.entry.new.sink
@@ -88,7 +84,7 @@ returns-in_err-maker-clause-text g c =
     let p = err_from_is_err_and c.from_residual-in_err-maker.result c.from_residual-in_err-maker.ensures.1 in
     let at = (goal.at.returns-in_err-maker-clause-text g c).After-get-goal in
     let plan = c.args.plan.now in
-    let stopped = base_memory plan (c.one_text.ensures (texts_in plan)) c.args.bases.now.list c.loop-index.index (base_of g at) (within g at) (is_base g at)
+    let stopped = base_memory plan (c.one_text.ensures (texts_in plan)) c.args.bases.now.list c.loop-index.index (base_of g at) (stands g at).within (stands g at).is
     c.loop-index.keeper c.args.sink.now c.loop-index.sink c.args.manifest.now.counts c.loop-index.manifest.counts c.loop-index.invariant.so_far in
     rw (p.1, p.2) (bases_text_stop plan c.args.bases.now c.args.sink.now c.loop-index.sink Memory stopped)
 
@@ -118,7 +114,7 @@ returns-in_err-entry-clause-text g c =
     let i = c.loop-index.index in
     let line = base_line (i + 1) c.get-goal.result.0 in
     let cut = is_cut g.S.Sink line c.loop-index.sink c.entry.new.sink e.err e.fault e.faults_never_fall (λ fits. let no = e.ok_with_room fits in cc) e.same_lent e.passed_never_falls in
-    let stopped = base_cut plan (c.one_text.ensures (texts_in plan)) c.args.bases.now.list i (base_of g at) (within g at) (is_base g at)
+    let stopped = base_cut plan (c.one_text.ensures (texts_in plan)) c.args.bases.now.list i (base_of g at) (stands g at).within (stands g at).is
     c.loop-index.keeper c.args.sink.now c.loop-index.sink c.args.manifest.now.counts c.loop-index.manifest.counts c.loop-index.invariant.so_far c.entry.new.sink cut in
     rw (p.1, p.2) (bases_text_stop plan c.args.bases.now c.args.sink.now c.entry.new.sink Failed stopped)
 
@@ -156,7 +152,7 @@ returns-in_err-write_negatives-clause-text g c =
     c.in_ok-tools.tools c.in_ok-tools.ensures c.in_ok-maker.maker c.in_ok-maker.ensures c.entry.new.self (negatives_in so_far.mutants) (file_is g at.In_ok-entry) (many g at.In_ok-entry)
     c.loop-index.keeper c.loop-index.invariant.first (kept_in so_far.mutants) so_far.told
     c.entry.new.sink c.write_negatives.new.sink halt (c.in_err-write_negatives.ensures.text (kept_in so_far.mutants) so_far.told) in
-    let stopped = base_stops plan (c.one_text.ensures (texts_in plan)) c.args.bases.now.list i base (within g at.After-get-goal) (is_base g at.After-get-goal)
+    let stopped = base_stops plan (c.one_text.ensures (texts_in plan)) c.args.bases.now.list i base (stands g at.After-get-goal).within (stands g at.After-get-goal).is
     c.loop-index.keeper c.args.sink.now c.loop-index.sink c.args.manifest.now.counts c.loop-index.manifest.counts so_far c.entry.new.sink c.write_negatives.new.sink halt (first g at.In_ok-entry) stops in
     rw (p.1, p.2) (bases_text_stop plan c.args.bases.now c.args.sink.now c.write_negatives.new.sink halt stopped)
 
@@ -179,7 +175,7 @@ loop-index-preserved g c =
       number = more.number;
       first = c.write_negatives.ensures.first ∙ c.loop-index.invariant.first;
       tokens = c.write_negatives.ensures.tokens ∙ c.loop-index.invariant.tokens;
-      so_far = bases_more plan (c.one_text.ensures (texts_in plan)) c.args.bases.now.list i base (within g at.After-get-goal) (is_base g at.After-get-goal)
+      so_far = bases_more plan (c.one_text.ensures (texts_in plan)) c.args.bases.now.list i base (stands g at.After-get-goal).within (stands g at.After-get-goal).is
           c.loop-index.keeper c.args.sink.now c.loop-index.sink c.args.manifest.now.counts c.loop-index.manifest.counts so_far c.write_negatives.new.keeper c.entry.new.sink c.write_negatives.new.sink
           c.entry.new.self.counts c.write_negatives.new.manifest.counts has.negatives (first g at.In_ok-entry) counted has.of has.told has.written has.counted has.few;
     }
