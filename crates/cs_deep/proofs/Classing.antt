@@ -1,8 +1,7 @@
 -- An edited list has exactly one class, and the counts of the classes add up.
-use Rattle.std.proofs.Common.{◌≡◌, ◌≤◌, ◌<◌, ◌⊎◌, ℕ, ◌+◌, List, [], ◌∷◌, length, inl, inr, refl, arith, Option, cond, suc}
-use Rattle.std.proofs.lemmas.Bool.{cases_lt}
+use Rattle.std.proofs.Common.{◌≡◌, ◌⊎◌, ℕ, ◌+◌, List, [], ◌∷◌, inl, inr, refl, arith, Option, cond, suc}
 use Rattle.std.proofs.lemmas.List.Sums.{sum_by-cons}
-use Rattle.cs_deep.specs.Classes.{IsJudged, IsListClass, IsPoisoned, is_long, is_negative, is_outside, is_sentence}
+use Rattle.cs_deep.specs.Classes.{IsListClass, IsPoisoned, is_long, is_negative, is_outside, is_sentence}
 use Rattle.cs_deep.specs.Deep.{AddsUp, EditEntry}
 use Rattle.cs_deep.specs.declared.class.EditClass.{EditClass}
 use Rattle.cs_deep.specs.declared.class.EditClass.TheVariants.{Negative, Long, Sentence, Outside}
@@ -11,6 +10,7 @@ use Rattle.cs_grammar.specs.Sentence.{framed}
 use Rattle.cs_grammar.specs.declared.symbol.Mark.{Mark}
 use Rattle.cs_io.specs.Asked.{IsNotWithout}
 use Rattle.cs_manifest.proofs.OnManifest.SomeManifest.{poisoned_or_not}
+use Rattle.cs_mutate.proofs.Judging.{some_judged}
 use Rattle.cs_mutate.specs.Poison.{HasNoPoison, IsFirstPoisoned}
 use Rattle.cs_mutate.specs.declared.edit.Edit.{Edit}
 use Rattle.cs_texts.specs.Rendering.Rendering.{Rendering}
@@ -41,15 +41,8 @@ module _ (g : PlainGrammar) (list : List ℕ) where
   pub some_class_of : IsNotWithout (IsListClass g list)
   some_class_of none = poisoned_or_not g (framed list) known
     where
-      judged : IsJudged g list → ⊥
-      judged is = none Outside (is, (λ sentence. none Sentence (is, sentence)))
-
-      by_length : HasNoPoison g (framed list) → (2000 < length list) ⊎ (length list ≤ 2000) → ⊥
-      by_length harmless (inl long) = none Long (record { harmless = harmless; long = long })
-      by_length harmless (inr short) = judged (record { harmless = harmless; short = short })
-
       known : HasNoPoison g (framed list) ⊎ ((at : ℕ) × (a : Mark) × (b : Mark) × IsFirstPoisoned g (framed list) at a b) → ⊥
-      known (inl harmless) = by_length harmless (cases_lt 2000 (length list))
+      known (inl harmless) = some_judged g list (none Long) (λ is inside. none Sentence (is, inside)) (λ is outside. none Outside (is, outside)) harmless
       known (inr found) = none Negative (found.0, (found.1, found.2, found.3))
 
 -- the counts of one more, of whichever class

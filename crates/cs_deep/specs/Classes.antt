@@ -1,6 +1,6 @@
 -- The classes of edits of a base: those with a poisoned pair, and of the others those that are too long to be judged by trees,
 -- sentences, and edits outside the language.
-use Rattle.std.specs.Prelude.{ℕ, ◌<◌, ◌≤◌, Bool, true, false, List, length}
+use Rattle.std.specs.Prelude.{ℕ, Bool, true, false, List}
 use Rattle.cs_deep.specs.declared.class.EditClass.{EditClass}
 use Rattle.cs_deep.specs.declared.class.EditClass.TheVariants.{Negative, Long, Sentence, Outside}
 use Rattle.cs_grammar.specs.Grammar.{PlainGrammar}
@@ -8,22 +8,13 @@ use Rattle.cs_grammar.specs.Laws.{AtMostOne}
 use Rattle.cs_grammar.specs.Sentence.{IsSentence, framed}
 use Rattle.cs_io.specs.Asked.{IsNotWithout}
 use Rattle.cs_mutate.specs.Edit.{edited}
-use Rattle.cs_mutate.specs.Poison.{HasNoPoison, IsPoisonedAt}
+use Rattle.cs_mutate.specs.Judged.{IsJudged, IsLong}
+use Rattle.cs_mutate.specs.Poison.{IsPoisonedAt}
 use Rattle.cs_mutate.specs.declared.edit.Edit.{Edit}
 
 -- some pair of the framed list is poisoned
 abbrev pub IsPoisoned : PlainGrammar → List ℕ → Type 0
 IsPoisoned g list = (at : ℕ) × IsPoisonedAt g (framed list) at
-
--- no pair of the framed list is, and the list is short enough for trees to be sought
-pub record IsJudged (g : PlainGrammar) (list : List ℕ) : Type 0 where
-  pub harmless : HasNoPoison g (framed list)
-  pub short : length list ≤ 2000
-
--- no pair of the framed list is poisoned, and the list is longer
-pub record IsLong (g : PlainGrammar) (list : List ℕ) : Type 0 where
-  pub harmless : HasNoPoison g (framed list)
-  pub long : 2000 < length list
 
 -- the class of an edited list
 abbrev pub IsListClass : PlainGrammar → List ℕ → EditClass → Type 0

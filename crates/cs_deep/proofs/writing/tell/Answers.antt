@@ -1,4 +1,4 @@
-use Rattle.std.proofs.Common.{◌≤◌, List, ℕ, length, subst, sym, ap, ◌∙◌}
+use Rattle.std.proofs.Common.{◌≡◌, ◌≤◌, List, ℕ, length, subst, sym, ap, ◌∙◌}
 use Rattle.std.proofs.lemmas.Result.{err_from_is_err_and}
 use Rattle.cs_deep.proofs.Telling.{bases_stop, editable, end_cut, few_goals_of, head_cut, kept_list, memory_first, whole}
 use Rattle.cs_deep.specs.Bases.{GivesBases}
@@ -10,7 +10,7 @@ use Rattle.cs_io.specs.Stops.{HasSomeText, HasText}
 use Rattle.cs_verdicts.specs.Positive.Positives.{ToJudge, positives_of}
 use Rattle.cs_deep.proofs.writing.tell.Given.{Over}
 use Rattle.cs_deep.proofs.writing.tell.Goals as goal
-use Rattle.cs_deep.proofs.writing.tell.Goals.{In_ok-bases, In_ok-write_head, In_ok-write_bases}
+use Rattle.cs_deep.proofs.writing.tell.Goals.{In_ok-bases, In_ok-write_bases}
 
 -- the bases that were kept
 gives : (g : Over) (c : In_ok-bases g) → GivesBases (most_by c.args.deep.now.means) (positives_of c.args.deep.now.tables.now c.args.deep.now.criteria) c.in_ok-bases.bases
@@ -53,6 +53,13 @@ returns-in_err-write_bases-clause-text g c =
     (kept_list d c.requires c.in_ok-bases.bases is) c.in_err-write_bases.ensures.text in
     rw (p.1, p.2) (bases_stop d c.requires c.one_text.ensures is.entries is.are g.S.Sink c.args.sink.now c.write_head.new.sink c.in_ok-write_head.ensures c.write_bases.new.sink halt stops)
 
+-- what was written of the bases, and counted, by their list
+by_bases : (g : Over) (c : In_ok-write_bases g) (l : List (ℕ × List ℕ)) → c.in_ok-bases.bases.list ≡ l → HasText g.S.Sink (IsBasesText c.args.deep.now l) c.write_head.new.sink c.write_bases.new.sink × CountsBases c.args.deep.now l c.write_bases.new.tally
+by_bases g c l same = (
+  subst (λ (k : List (ℕ × List ℕ)). HasText g.S.Sink (IsBasesText c.args.deep.now k) c.write_head.new.sink c.write_bases.new.sink) same c.in_ok-write_bases.ensures.text,
+  subst (λ (k : List (ℕ × List ℕ)). CountsBases c.args.deep.now k c.write_bases.new.tally) same c.in_ok-write_bases.ensures.counted,
+)
+
 pub returns-in_err-write_end-clause-text : goal.returns-in_err-write_end-clause-text
 returns-in_err-write_end-clause-text g c =
     let p = err_from_is_err_and c.from_residual-in_err-write_end.result c.from_residual-in_err-write_end.ensures.1 in
@@ -60,14 +67,11 @@ returns-in_err-write_end-clause-text g c =
     let d = c.args.deep.now in
     let is = gives g at.In_ok-bases in
     let same = kept_list d c.requires c.in_ok-bases.bases is in
-    let head = c.write_head.new.sink in
-    let begun = c.write_bases.new.sink in
+    let told = by_bases g at.In_ok-write_bases _ same in
     let tally = c.write_bases.new.tally in
-    let text = subst (λ (l : List (ℕ × List ℕ)). HasText g.S.Sink (IsBasesText d l) head begun) same c.in_ok-write_bases.ensures.text in
-    let counts = subst (λ (l : List (ℕ × List ℕ)). CountsBases d l tally) same c.in_ok-write_bases.ensures.counted in
     let many = c.len.ensures ∙ ap (λ (l : List (ℕ × List ℕ)). length l) same in
-    let cut = subst (λ (n : ℕ). IsCutShort g.S.Sink (end_with n tally) begun c.write_end.new.sink) many c.in_err-write_end.ensures in
-    rw (p.1, p.2) (end_cut d c.requires c.one_text.ensures is.entries is.are g.S.Sink c.args.sink.now head c.in_ok-write_head.ensures begun tally text counts c.write_end.new.sink cut)
+    let cut = subst (λ (n : ℕ). IsCutShort g.S.Sink (end_with n tally) c.write_bases.new.sink c.write_end.new.sink) many c.in_err-write_end.ensures in
+    rw (p.1, p.2) (end_cut d c.requires c.one_text.ensures is.entries is.are g.S.Sink c.args.sink.now c.write_head.new.sink c.in_ok-write_head.ensures c.write_bases.new.sink tally told.0 told.1 c.write_end.new.sink cut)
 
 pub returns-clause-text : goal.returns-clause-text
 returns-clause-text g c =
@@ -75,11 +79,8 @@ returns-clause-text g c =
     let d = c.args.deep.now in
     let is = gives g at.In_ok-bases in
     let same = kept_list d c.requires c.in_ok-bases.bases is in
-    let head = c.write_head.new.sink in
-    let begun = c.write_bases.new.sink in
+    let told = by_bases g at.In_ok-write_bases _ same in
     let tally = c.write_bases.new.tally in
-    let text = subst (λ (l : List (ℕ × List ℕ)). HasText g.S.Sink (IsBasesText d l) head begun) same c.in_ok-write_bases.ensures.text in
-    let counts = subst (λ (l : List (ℕ × List ℕ)). CountsBases d l tally) same c.in_ok-write_bases.ensures.counted in
     let many = c.len.ensures ∙ ap (λ (l : List (ℕ × List ℕ)). length l) same in
-    let end = subst (λ (n : ℕ). IsWritten g.S.Sink (end_with n tally) begun c.write_end.new.sink) many c.in_ok-write_end.ensures in
-    whole d c.requires c.one_text.ensures is.entries is.are g.S.Sink c.args.sink.now head c.in_ok-write_head.ensures begun tally text counts c.write_end.new.sink end
+    let end = subst (λ (n : ℕ). IsWritten g.S.Sink (end_with n tally) c.write_bases.new.sink c.write_end.new.sink) many c.in_ok-write_end.ensures in
+    whole d c.requires c.one_text.ensures is.entries is.are g.S.Sink c.args.sink.now c.write_head.new.sink c.in_ok-write_head.ensures c.write_bases.new.sink tally told.0 told.1 c.write_end.new.sink end

@@ -1,20 +1,20 @@
 use Rattle.std.proofs.Common.{◌≡◌, ◌+◌, ◌<◌, ◌≤◌, List, [], ◌∷◌, ℕ, drop, get_or, length, length-drop, refl, subst, sym, ap, ◌∙◌, arith, suc, add-one}
 use Rattle.std.specs.Prelude.{Some}
 use Rattle.std.proofs.Math.Seq.{drop-cons}
-use Rattle.std.proofs.lemmas.Option.{get_or_from_slice_get, slice_get_within}
 use Rattle.std.proofs.lemmas.Result.{err_from_is_err_and}
 use Rattle.cs_deep.proofs.Basing.{base_more, bases_all, bases_counted, bases_none, edits_stop, many_done, opening_cut}
 use Rattle.cs_deep.proofs.Counting.{none_within, within_counted}
 use Rattle.cs_deep.specs.Deep.{IsEditOf}
 use Rattle.cs_deep.specs.Lines.{IsWithin}
 use Rattle.cs_deep.specs.declared.tally.Tally.{Tally}
+use Rattle.cs_grammar.proofs.Measures.{All-at}
 use Rattle.cs_writing.specs.Plan.Plans.{texts_of}
 use Rattle.cs_writing.proofs.OnWriting.Ones.{nothing_in, zip_length}
 use Rattle.cs_deep.specs.Progress.{edits_by}
 use Rattle.cs_deep.proofs.writing.write_bases.Given.{Over}
 use Rattle.cs_deep.proofs.writing.write_bases.Goals as goal
 use Rattle.cs_deep.proofs.writing.write_bases.Goals.{After-get-goal}
-use Rattle.cs_writing.proofs.OnWriting.Batch.{at_place}
+use Rattle.cs_writing.proofs.OnWriting.Batch.{StandsAt, stands_at}
 use Rattle.cs_writing.proofs.OnWriting.Edits.{few_edits}
 use Rattle.cs_writing.specs.Writing.Mutants.{IsEditable}
 
@@ -22,15 +22,11 @@ use Rattle.cs_writing.specs.Writing.Mutants.{IsEditable}
 abbrev base_of : (g : Over) (c : After-get-goal g) → ℕ × List ℕ
 base_of g c = (c.get-goal.result.0, c.get-goal.result.1.now)
 
-within : (g : Over) (c : After-get-goal g) → c.loop-index.index < length c.args.bases.now.list
-within g c = slice_get_within c.args.bases.now.list c.loop-index.index (base_of g c) c.get-goal.ensures
-
-is_base : (g : Over) (c : After-get-goal g) → base_of g c ≡ get_or c.args.bases.now.list c.loop-index.index (base_of g c)
-is_base g c = sym (get_or_from_slice_get c.args.bases.now.list c.loop-index.index (base_of g c) (base_of g c) c.get-goal.ensures)
+stands : (g : Over) (c : After-get-goal g) → StandsAt c.args.bases.now.list c.loop-index.index (base_of g c)
+stands g c = stands_at c.args.bases.now.list c.loop-index.index (base_of g c) c.get-goal.ensures
 
 editable : (g : Over) (c : After-get-goal g) → IsEditable c.args.deep.now.yacc.now.grammar.tokens (base_of g c)
-editable g c =
-    at_place (IsEditable c.args.deep.now.yacc.now.grammar.tokens) c.args.bases.now.list c.loop-index.index (base_of g c) (within g c) (is_base g c) c.requires.bases
+editable g c = All-at (IsEditable c.args.deep.now.yacc.now.grammar.tokens) c.args.bases.now.list c.loop-index.index (base_of g c) c.requires.bases c.get-goal.ensures
 
 -- it stands in front of those that are left
 left_is : (list : List (ℕ × List ℕ)) (i : ℕ) (base : ℕ × List ℕ) → i < length list → base ≡ get_or list i base → drop i list ≡ base ∷ drop (i + 1) list
@@ -47,12 +43,12 @@ loop-index-init g c = record {
 -- the first bases and this one
 done_is : (g : Over) (c : After-get-goal g) → length c.loop-index.invariant.so_far.done ≡ c.loop-index.index
 done_is g c =
-    let below = within g c in
+    let below = (stands g c).within in
     many_done g.S.Sink c.args.deep.now c.one_text.ensures c.args.bases.now.list c.args.sink.now (drop c.loop-index.index c.args.bases.now.list) c.loop-index.sink c.loop-index.tally
     c.loop-index.invariant.so_far c.loop-index.index refl (omega (arith, below))
 
 next_is : (g : Over) (c : After-get-goal g) → drop c.loop-index.index c.args.bases.now.list ≡ base_of g c ∷ drop (c.loop-index.index + 1) c.args.bases.now.list
-next_is g c = left_is c.args.bases.now.list c.loop-index.index (base_of g c) (within g c) (is_base g c)
+next_is g c = left_is c.args.bases.now.list c.loop-index.index (base_of g c) (stands g c).within (stands g c).is
 
 -- its edits are few
 few_of : (g : Over) (c : After-get-goal g) → length (edits_by c.args.deep.now (base_of g c).1) ≤ 1100000000
