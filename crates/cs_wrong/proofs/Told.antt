@@ -13,11 +13,13 @@ use Rattle.cs_io.specs.Asked.{IsNotWithout}
 use Rattle.cs_least.proofs.OnCost.ChosenTrees.{AreTrees-chosen, chosen_forest, forest_least}
 use Rattle.cs_least.proofs.OnEmbed.ChosenContexts.{IsContext-chosen, chosen_context_exists, chosen_context_least}
 use Rattle.cs_manifest.proofs.OnManifest.SomeManifest.{poisoned_or_not}
+use Rattle.cs_mutate.proofs.Judging.{some_judged}
 use Rattle.cs_mutate.proofs.Marks.{outside}
+use Rattle.cs_mutate.specs.Judged.{IsJudged, IsLong}
 use Rattle.cs_mutate.specs.Poison.{HasNoPoison, IsFirstPoisoned}
 use Rattle.cs_wrong.proofs.Meeting.{large_no_list, none_no_list, none_not_large}
 use Rattle.cs_wrong.proofs.Placing.{one_list}
-use Rattle.cs_wrong.specs.Classes.{IsJudged, IsListClass, IsLong, IsMet, IsNew, IsTold, is_wrong}
+use Rattle.cs_wrong.specs.Classes.{IsListClass, IsMet, IsNew, IsTold, is_wrong}
 use Rattle.cs_wrong.specs.Lists.{ArePlaced, HasLarge, HasNone, IsListOf, placed_size}
 use Rattle.cs_wrong.specs.Slips.{changed}
 use Rattle.cs_wrong.specs.declared.class.SlipClass.{SlipClass}
@@ -82,15 +84,8 @@ module _ (g : PlainGrammar) (list : List ℕ) where
   pub some_list_class : IsNotWithout (IsListClass g list)
   some_list_class none = poisoned_or_not g (framed list) known
     where
-      judged : IsJudged g list → ⊥
-      judged is = none Outside (is, (λ sentence. none Sentence (is, sentence)))
-
-      by_length : HasNoPoison g (framed list) → (2000 < length list) ⊎ (length list ≤ 2000) → ⊥
-      by_length harmless (inl long) = none Long (record { harmless = harmless; long = long })
-      by_length harmless (inr short) = judged (record { harmless = harmless; short = short })
-
       known : HasNoPoison g (framed list) ⊎ ((at : ℕ) × (a : Mark) × (b : Mark) × IsFirstPoisoned g (framed list) at a b) → ⊥
-      known (inl harmless) = by_length harmless (cases_lt 2000 (length list))
+      known (inl harmless) = some_judged g list (none Long) (λ is inside. none Sentence (is, inside)) (λ is beyond. none Outside (is, beyond)) harmless
       known (inr found) = none (Pair found.1 found.2 found.0) found.3
 
 -- ---- the class of a slip

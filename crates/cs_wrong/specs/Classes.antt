@@ -1,9 +1,10 @@
 -- The classes of slips, and which of their lists are outside the language for sure.
-use Rattle.std.specs.Prelude.{◌≡◌, ◌⊎◌, ℕ, ◌<◌, ◌≤◌, Any, Bool, true, false, IsTrue, List, [], ◌∷◌, ◌++◌, length}
+use Rattle.std.specs.Prelude.{◌≡◌, ◌⊎◌, ℕ, ◌≤◌, Any, Bool, true, false, IsTrue, List, [], ◌∷◌, ◌++◌, length}
 use Rattle.cs_grammar.specs.Grammar.{PlainGrammar}
 use Rattle.cs_grammar.specs.Sentence.{IsSentence, framed}
 use Rattle.cs_grammar.specs.Weights.{Weighed}
-use Rattle.cs_mutate.specs.Poison.{HasNoPoison, IsFirstPoisoned, IsPoisonedAt}
+use Rattle.cs_mutate.specs.Judged.{IsJudged, IsLong}
+use Rattle.cs_mutate.specs.Poison.{IsFirstPoisoned, IsPoisonedAt}
 use Rattle.cs_wrong.specs.Lists.{HasLarge, HasNone, IsListOf}
 use Rattle.cs_wrong.specs.declared.class.SlipClass.{SlipClass}
 use Rattle.cs_wrong.specs.declared.class.SlipClass.TheVariants.{Nothing, Large, Again, Pair, Long, Sentence, Outside}
@@ -17,16 +18,6 @@ behind before (x ∷ xs) = (before, x) ∷ behind (before ++ x ∷ []) xs
 -- an earlier slip has the same list
 abbrev pub IsMet : Weighed → List Slip → List ℕ → Type 0
 IsMet v earlier list = Any (λ slip. IsListOf v slip list) earlier
-
--- no pair of the framed list is poisoned, and the list is short enough for trees to be sought
-pub record IsJudged (g : PlainGrammar) (list : List ℕ) : Type 0 where
-  pub harmless : HasNoPoison g (framed list)
-  pub short : length list ≤ 2000
-
--- no pair of the framed list is poisoned, and the list is longer
-pub record IsLong (g : PlainGrammar) (list : List ℕ) : Type 0 where
-  pub harmless : HasNoPoison g (framed list)
-  pub long : 2000 < length list
 
 -- the class of a list that no earlier slip has
 abbrev pub IsListClass : PlainGrammar → List ℕ → SlipClass → Type 0

@@ -32,46 +32,51 @@ fn put_slips(
     requires { length right.now ≤ 128 }
     ensures { OnOk result (PutsRule rule chosen right.now list.old.items list.new.items) }
 {
-    put_drops(rule, right, chosen.drops, list)?;
-    put_doubles(rule, right, chosen.doubles, list)?;
-    put_swaps(rule, right, chosen.swaps, list)
+    let side = Side { rule, right };
+    put_drops(&side, chosen.drops, list)?;
+    put_doubles(&side, chosen.doubles, list)?;
+    put_swaps(&side, chosen.swaps, list)
 }
 
-fn put_drops(
+// The right side of the rule with this number.
+#[derive(Clone, Copy)]
+struct Side<'s> {
     rule: u16,
-    right: &[Symbol],
-    chosen: bool,
-    list: &mut Vec<Slip>,
-) -> Result<(), AllocError>
-    requires { length right.now ≤ 128 }
-    ensures { OnOk result (PutsIf rule chosen (drops_of right.now) list.old.items list.new.items) }
-{
-    if !chosen {
-        return Ok(());
-    }
-    for place in 0..right.len() {
-        let change = Change::Drop(number_of(place));
-        list.push(Slip::Of { rule, change })?;
-    }
-    Ok(())
+    right: &'s [Symbol],
 }
 
-fn put_doubles(
-    rule: u16,
-    right: &[Symbol],
-    chosen: bool,
-    list: &mut Vec<Slip>,
-) -> Result<(), AllocError>
-    requires { length right.now ≤ 128 }
-    ensures { OnOk result (PutsIf rule chosen (doubles_of right.now)
+fn put_drops(side: &Side<'_>, chosen: bool, list: &mut Vec<Slip>) -> Result<(), AllocError>
+    requires { length side.now.right.now ≤ 128 }
+    ensures { OnOk result (PutsIf side.now.rule chosen (drops_of side.now.right.now)
         list.old.items list.new.items) }
 {
     if !chosen {
         return Ok(());
     }
-    for place in 0..right.len() {
+    for place in 0..side.right.len() {
+        let change = Change::Drop(number_of(place));
+        list.push(Slip::Of {
+            rule: side.rule,
+            change,
+        })?;
+    }
+    Ok(())
+}
+
+fn put_doubles(side: &Side<'_>, chosen: bool, list: &mut Vec<Slip>) -> Result<(), AllocError>
+    requires { length side.now.right.now ≤ 128 }
+    ensures { OnOk result (PutsIf side.now.rule chosen (doubles_of side.now.right.now)
+        list.old.items list.new.items) }
+{
+    if !chosen {
+        return Ok(());
+    }
+    for place in 0..side.right.len() {
         let change = Change::Double(number_of(place));
-        list.push(Slip::Of { rule, change })?;
+        list.push(Slip::Of {
+            rule: side.rule,
+            change,
+        })?;
     }
     Ok(())
 }
@@ -87,22 +92,21 @@ fn differ(left: Symbol, right: Symbol) -> bool
     }
 }
 
-fn put_swaps(
-    rule: u16,
-    right: &[Symbol],
-    chosen: bool,
-    list: &mut Vec<Slip>,
-) -> Result<(), AllocError>
-    requires { length right.now ≤ 128 }
-    ensures { OnOk result (PutsIf rule chosen (swaps_of right.now) list.old.items list.new.items) }
+fn put_swaps(side: &Side<'_>, chosen: bool, list: &mut Vec<Slip>) -> Result<(), AllocError>
+    requires { length side.now.right.now ≤ 128 }
+    ensures { OnOk result (PutsIf side.now.rule chosen (swaps_of side.now.right.now)
+        list.old.items list.new.items) }
 {
     if !chosen {
         return Ok(());
     }
-    for place in 1..right.len() {
-        if differ(right[place - 1], right[place]) {
+    for place in 1..side.right.len() {
+        if differ(side.right[place - 1], side.right[place]) {
             let change = Change::Swap(place as u16);
-            list.push(Slip::Of { rule, change })?;
+            list.push(Slip::Of {
+                rule: side.rule,
+                change,
+            })?;
         }
     }
     Ok(())

@@ -5,4 +5,4 @@ use Rattle.cs_wrong.specs.declared.slip.Slip.TheVariants.{Of}
 use Rattle.cs_wrong.proofs.slips.put_drops.Given as goal
 
 abbrev pub invariant-loop-place : goal.invariant-loop-place
-invariant-loop-place l = l.list.items ≡ l.fn.list.items ++ map (Of l.rule) (map Drop (range_with_len 1 l.place))
+invariant-loop-place l = l.list.items ≡ l.fn.list.items ++ map (Of l.side.rule) (map Drop (range_with_len 1 l.place))

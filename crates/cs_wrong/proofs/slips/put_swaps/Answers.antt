@@ -12,18 +12,18 @@ use Rattle.cs_wrong.proofs.slips.put_swaps.Goals.{then-differ+in_ok-push, else-d
 
 pub loop-place-preserved : goal.loop-place-preserved
 loop-place-preserved c = (
-  swap_more c.args.right.now c.args.rule c.loop-place.place c.args.list.now.items c.loop-place.list.items c.if-differ.list.items c.loop-place.auto.place c.loop-place.invariant.0
+  swap_more c.args.side.now.right.now c.args.side.now.rule c.loop-place.place c.args.list.now.items c.loop-place.list.items c.if-differ.list.items c.loop-place.auto.place c.loop-place.invariant.0
       (elim c.if-differ.branch [
-        | then-differ+in_ok-push w ↦ swap_put c.args.right.now c.args.rule c.loop-place.place c.loop-place.list.items c.if-differ.list.items true (sym c.differ.ensures ∙ w.if-differ.true) (ap (λ (v : Vec Slip). v.items) w.list-is ∙ w.in_ok-push.ensures.items)
-        | else-differ w ↦ swap_put c.args.right.now c.args.rule c.loop-place.place c.loop-place.list.items c.if-differ.list.items false (sym c.differ.ensures ∙ w.if-differ.false) (ap (λ (v : Vec Slip). v.items) w.list-is ∙ sym (append-nil c.loop-place.list.items))
+        | then-differ+in_ok-push w ↦ swap_put c.args.side.now.right.now c.args.side.now.rule c.loop-place.place c.loop-place.list.items c.if-differ.list.items true (sym c.differ.ensures ∙ w.if-differ.true) (ap (λ (v : Vec Slip). v.items) w.list-is ∙ w.in_ok-push.ensures.items)
+        | else-differ w ↦ swap_put c.args.side.now.right.now c.args.side.now.rule c.loop-place.place c.loop-place.list.items c.if-differ.list.items false (sym c.differ.ensures ∙ w.if-differ.false) (ap (λ (v : Vec Slip). v.items) w.list-is ∙ sym (append-nil c.loop-place.list.items))
       ]),
-  (let within : c.loop-place.place < length c.args.right.now = c.loop-place-test.true in omega arith),
+  (let within : c.loop-place.place < length c.args.side.now.right.now = c.loop-place-test.true in omega arith),
 )
 
 pub returns : goal.returns
 returns c =
-    let low : c.loop-place.place - 1 ≤ length c.args.right.now - 1 = c.loop-place.invariant.1 in
-    let high : length c.args.right.now ≤ c.loop-place.place = c.loop-place-test.false in
-    let all : c.loop-place.place - 1 ≡ length c.args.right.now - 1 = omega arith in
-    c.loop-place.invariant.0 ∙ ap (λ (k : ℕ). c.args.list.now.items ++ map (Of c.args.rule) (map Swap (filter (differ_at c.args.right.now) (range_with_len 1 k)))) all
-    ∙ ap (λ (b : Bool). c.args.list.now.items ++ map (Of c.args.rule) (cond b (swaps_of c.args.right.now) [])) (sym c.if-not-chosen.false)
+    let low : c.loop-place.place - 1 ≤ length c.args.side.now.right.now - 1 = c.loop-place.invariant.1 in
+    let high : length c.args.side.now.right.now ≤ c.loop-place.place = c.loop-place-test.false in
+    let all : c.loop-place.place - 1 ≡ length c.args.side.now.right.now - 1 = omega arith in
+    c.loop-place.invariant.0 ∙ ap (λ (k : ℕ). c.args.list.now.items ++ map (Of c.args.side.now.rule) (map Swap (filter (differ_at c.args.side.now.right.now) (range_with_len 1 k)))) all
+    ∙ ap (λ (b : Bool). c.args.list.now.items ++ map (Of c.args.side.now.rule) (cond b (swaps_of c.args.side.now.right.now) [])) (sym c.if-not-chosen.false)

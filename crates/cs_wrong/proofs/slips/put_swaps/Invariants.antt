@@ -7,5 +7,5 @@ use Rattle.cs_wrong.proofs.slips.put_swaps.Given as goal
 
 abbrev pub invariant-loop-place : goal.invariant-loop-place
 invariant-loop-place l =
-    (l.list.items ≡ l.fn.list.items ++ map (Of l.rule) (map Swap (filter (differ_at l.right) (range_with_len 1 (l.place - 1)))))
-    × (l.place - 1 ≤ length l.right - 1)
+    (l.list.items ≡ l.fn.list.items ++ map (Of l.side.rule) (map Swap (filter (differ_at l.side.right.now) (range_with_len 1 (l.place - 1)))))
+    × (l.place - 1 ≤ length l.side.right.now - 1)
