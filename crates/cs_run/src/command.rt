@@ -14,7 +14,6 @@ mod lexemes;
 mod lexical;
 mod scanner;
 mod text;
-mod wrong;
 
 pub use command::run;
 pub use laws::one_asked_text;

@@ -27,6 +27,11 @@ may_fail : (n : ℕ) → 4 ≤ n → n < 6 → (n < 4) ⊎ (n ≡ 6) → ⊥
 may_fail n some few (inl below) = omega (arith, some, below)
 may_fail n some few (inr is) = omega (arith, few, is)
 
+-- 0 and 6 are none of those between
+not_among : (n k : ℕ) → (n ≡ 0) ⊎ (n ≡ 6) → 0 < k → k < 6 → n ≡ k → ⊥
+not_among n k (inl is) some few same = omega (arith, is, some, same)
+not_among n k (inr is) some few same = omega (arith, is, few, same)
+
 -- ---- each ending's status
 
 module _ (asked : Result PlainRequest ℕ) (desk : DeskUse) (out err : SinkUse) where
@@ -53,39 +58,35 @@ module _ (asked : Result PlainRequest ℕ) (desk : DeskUse) (out err : SinkUse) 
     silent : status_of ending ≡ 0 → ending ≡ Written
     denied_silently : status_of ending ≡ 6 → ending ≡ Denied
 
+  -- the same of an ending on 0 or 6, which come with a whole output
+  rest_whole : (ending : Ending) → (status_of ending ≡ 0) ⊎ (status_of ending ≡ 6) → IsOkAnd asked (AreAccepted desk.files) → out.faults.after ≡ out.faults.before → (status_of ending ≡ 0 → WroteText asked desk out) → (status_of ending ≡ 6 → WroteDenial asked desk out)
+      → (AreTold desk.files asked → IsStatusBy asked desk.files (status_of ending)) → (status_of ending ≡ 0 → ending ≡ Written) → (status_of ending ≡ 6 → ending ≡ Denied) → Rest ending
+  rest_whole ending is_whole accepted same whole denied status silent denied_silently =
+      let n = status_of ending in
+      record {
+        whole = whole;
+        denied = denied;
+        files_refused = λ is. absurd (not_among n 1 is_whole (omega arith) (omega arith) is);
+        bad_words = λ is. absurd (not_among n 2 is_whole (omega arith) (omega arith) is);
+        read_fault = λ is. absurd (not_among n 3 is_whole (omega arith) (omega arith) is);
+        write_fault = λ is. absurd (not_among n 4 is_whole (omega arith) (omega arith) is);
+        no_write_fault = λ below. same;
+        write_fault_of_accepted = λ is. absurd (not_among n 4 is_whole (omega arith) (omega arith) is);
+        unused = λ is. absurd (not_among n n is_whole is.0 (let few = is.1 in omega arith) refl);
+        bad_words_end_so = λ bad. absurd (good_words asked _ accepted bad);
+        refused_ends_so = λ some refused fine. absurd (asked_apart asked desk.files some accepted refused);
+        complete = λ some are fine good. inl (status some);
+        silent = silent;
+        denied_silently = denied_silently;
+      }
+
   rest : (ending : Ending) → Ends ending asked desk out → Rest ending
-  rest Written ends = record {
-    whole = λ is. ends.0;
-    denied = λ is. absurd (omega (arith, is));
-    files_refused = λ is. absurd (omega (arith, is));
-    bad_words = λ is. absurd (omega (arith, is));
-    read_fault = λ is. absurd (omega (arith, is));
-    write_fault = λ is. absurd (omega (arith, is));
-    no_write_fault = λ below. ends.1;
-    write_fault_of_accepted = λ is. absurd (omega (arith, is));
-    unused = λ is. absurd (omega (arith, is.0, is.1));
-    bad_words_end_so = λ bad. absurd (good_words asked _ ends.0.1 bad);
-    refused_ends_so = λ some refused fine. absurd (asked_apart asked desk.files some (asked_accepted asked desk.files ends.0.0 ends.0.1) refused);
-    complete = λ some accepted fine good. inl (inl (refl, none_denied asked desk.files ends.0.0 some ends.0.1 ends.0.2));
-    silent = λ is. refl;
-    denied_silently = λ is. absurd (omega (arith, is));
-  }
-  rest Denied ends = record {
-    whole = λ is. absurd (omega (arith, is));
-    denied = λ is. ends.0;
-    files_refused = λ is. absurd (omega (arith, is));
-    bad_words = λ is. absurd (omega (arith, is));
-    read_fault = λ is. absurd (omega (arith, is));
-    write_fault = λ is. absurd (omega (arith, is));
-    no_write_fault = λ below. ends.1;
-    write_fault_of_accepted = λ is. absurd (omega (arith, is));
-    unused = λ is. absurd (omega (arith, is.0, is.1));
-    bad_words_end_so = λ bad. absurd (good_words asked _ ends.0.1 bad);
-    refused_ends_so = λ some refused fine. absurd (asked_apart asked desk.files some (asked_accepted asked desk.files ends.0.0 ends.0.1) refused);
-    complete = λ some accepted fine good. inl (inr (refl, (ends.0.0, ends.0.1, ends.0.2)));
-    silent = λ is. absurd (omega (arith, is));
-    denied_silently = λ is. refl;
-  }
+  rest Written ends =
+      rest_whole Written (inl refl) (asked_accepted asked desk.files ends.0.0 ends.0.1) ends.1 (λ is. ends.0) (λ is. absurd (omega (arith, is)))
+      (λ some. inl (refl, none_denied asked desk.files ends.0.0 some ends.0.1 ends.0.2)) (λ is. refl) (λ is. absurd (omega (arith, is)))
+  rest Denied ends =
+      rest_whole Denied (inr refl) (asked_accepted asked desk.files ends.0.0 ends.0.1) ends.1 (λ is. absurd (omega (arith, is))) (λ is. ends.0)
+      (λ some. inr (refl, (ends.0.0, ends.0.1, ends.0.2))) (λ is. absurd (omega (arith, is))) (λ is. refl)
   rest (Refused refusal) ends = record {
     whole = λ is. absurd (omega (arith, is));
     denied = λ is. absurd (omega (arith, is));

@@ -31,7 +31,6 @@ use Rattle.cs_run.specs.Command.Carrying.{GrewByEach, Writes, WritesByPair, Writ
 use Rattle.cs_run.specs.Ending.Files.{scanning_of}
 use Rattle.cs_run.specs.Ending.Texts.{IsTextOfPair, NoneDenies}
 use Rattle.cs_scanner.specs.Scan.Scan.{Scanning}
-use Rattle.cs_wrong.specs.Text.{IsWrongOf}
 use Rattle.cs_yacc.specs.Reading.File.{File}
 
 -- the report on the rules of the pair's lex file was written, and that ended so
@@ -73,10 +72,6 @@ WritesByScanner command options file s ending out =
 -- the text is that of `deep` by the options and these texts
 abbrev pub IsDeepBy : Asked → RenderWork → List ℕ → Type 0
 IsDeepBy a work text = IsDeepText (record (choice_with a.options.now work) { format = One }) a.yacc.now text
-
--- the text is that of `wrong` by the options and these texts
-abbrev pub IsWrongBy : Asked → RenderWork → List ℕ → Type 0
-IsWrongBy a work text = IsWrongOf a.yacc.now work a.options.now.weigh a.options.now.slips text
 
 -- the same of a command that needs the lexemes of tokens, by a scanner, and by what renders texts
 abbrev pub WritesScanned : Asked → Scanner → Ending → SinkUse → Type 0

@@ -9,7 +9,6 @@ use crate::command::chains::chains_by;
 use crate::command::deep::deep;
 use crate::command::endings::{ended, unmade};
 use crate::command::scanner::scanner_of;
-use crate::command::wrong::wrong;
 use crate::ending::Ending;
 use crate::input::Pair;
 use crate::writer::weights_of;
@@ -20,6 +19,7 @@ use cs_scanner::{Automaton, Lexemes, Scanner};
 use cs_spell::write_spell;
 use cs_texts::RenderWork;
 use cs_words::{Options, PairCommand};
+use cs_wrong::{Wrong, write_wrong};
 use cs_yacc::YaccFile;
 use std::alloc::Global;
 use std::thread::Threads;
@@ -114,7 +114,16 @@ fn by_work<'f, R: Threads + Sync, O: Sink, G: Gate + Sync>(
         }
         PairCommand::Spell => ended(write_spell(alloc, asked.yacc, weights, weigh, work, out)),
         PairCommand::Deep => ended(deep(rt, alloc, asked, weights, work, out, gate)),
-        PairCommand::Wrong => ended(wrong(rt, alloc, asked, weights, work, out, gate)),
+        PairCommand::Wrong => {
+            let wrong = Wrong {
+                yacc: asked.yacc,
+                weights,
+                weigh,
+                chosen: asked.options.slips,
+                work,
+            };
+            ended(write_wrong(rt, alloc, &wrong, out, gate))
+        }
         PairCommand::Suite | PairCommand::Lexical => unreachable!(),
     }
 }

@@ -61,9 +61,9 @@ returns-in-Wrong-clause-writes g c =
     let file = c.args.asked.yacc.now in
     let options = c.args.asked.options.now in
     let s = scanning c.args.work.now.scanner.now in
-    let out = used g.O.Sink c.args.out.now c.wrong.new.out in
+    let out = used g.O.Sink c.args.out.now c.write_wrong.new.out in
     let Is : List ℕ → List ℕ → Type 0 = λ separator text. IsWrongText file (Some (record { scanning = s; separator = separator })) options.weigh options.slips text in
-    let writes = ended_of (OfPair of_pair.Wrong) file.grammar refl (Is c.args.work.now.separator.now) c.wrong.result c.ended-in-Wrong.result out c.ended-in-Wrong.ensures.ending c.wrong.ensures.ok c.wrong.ensures.part
-    c.wrong.ensures.no_fault c.wrong.ensures.failed c.wrong.ensures.room in
+    let writes = ended_of (OfPair of_pair.Wrong) file.grammar refl (Is c.args.work.now.separator.now) c.write_wrong.result c.ended-in-Wrong.result out c.ended-in-Wrong.ensures.ending c.write_wrong.ensures.ok c.write_wrong.ensures.part
+    c.write_wrong.ensures.no_fault c.write_wrong.ensures.failed c.write_wrong.ensures.room in
     subst (λ (command : PairCommand). WritesByScanner command options file s c.ended-in-Wrong.result out) (sym c.in-Wrong.is)
     (subst (λ (separator : List ℕ). WritesOfGrammar (OfPair of_pair.Wrong) file.grammar (Is separator) c.ended-in-Wrong.result out) c.requires.work.separator writes)

@@ -6,7 +6,9 @@ use Rattle.cs_words.specs.Requests.{lex_named, third_named, three_named, yacc_na
 use Rattle.cs_run.specs.Input.Files.{faults_of, most_for}
 use Rattle.cs_run.specs.Input.Refusal.{Stops, StopsFile}
 use Rattle.cs_run.proofs.OnInput.Wholes.{if_err, if_ok, if_residual, second_stops, text_read, text_stops, there_by_read, third_stops}
+use Rattle.cs_run.proofs.input.reading.read_text.Given.{Over}
 use Rattle.cs_run.proofs.input.reading.read_text.Goals as goal
+use Rattle.cs_run.proofs.input.reading.read_text.Goals.{After-judge_text}
 
 pub returns-in_err-more-clause-stops : goal.returns-in_err-more-clause-stops
 returns-in_err-more-clause-stops g c =
@@ -20,27 +22,31 @@ returns-in_err-more-clause-stops g c =
     (second_stops files faults (yacc_named c.args.yacc.now) (lex_named c.args.lex.now) (third_named c.args.role c.args.text.now ∷ []) error
     (there_by_read files c.args.yacc.now _ c.in_ok-bytes.ensures.read) why)
 
+-- the files began with what was read of them
+yacc_read : (g : Over) (c : After-judge_text g) → IsBeginning (g.D.Desk.files c.args.desk.now) c.args.yacc.now (MOST_BYTES + 1) c.deref.result.now
+yacc_read g c = subst (λ b. IsBeginning (g.D.Desk.files c.args.desk.now) c.args.yacc.now (MOST_BYTES + 1) b) (sym c.deref.ensures.value) c.in_ok-bytes.ensures.read
+
+lex_read : (g : Over) (c : After-judge_text g) → IsBeginning (g.D.Desk.files c.args.desk.now) c.args.lex.now (MOST_BYTES + 1) c.deref-in-Ok.result.now
+lex_read g c =
+    subst (λ f. IsBeginning f c.args.lex.now (MOST_BYTES + 1) c.deref-in-Ok.result.now) c.in_ok-bytes.ensures.same_files
+    (subst (λ b. IsBeginning (g.D.Desk.files c.read_file.new.desk) c.args.lex.now (MOST_BYTES + 1) b) (sym c.deref-in-Ok.ensures.value) c.in_ok-more.ensures.read)
+
+third_read : (g : Over) (c : After-judge_text g) → IsBeginning (g.D.Desk.files c.args.desk.now) c.args.text.now (most_for c.args.role + 1) c.in-Ok.text.items
+third_read g c = subst (λ f. IsBeginning f c.args.text.now (most_for c.args.role + 1) c.in-Ok.text.items) (c.in_ok-more.ensures.same_files ∙ c.in_ok-bytes.ensures.same_files) c.in-Ok.ensures.read
+
 pub returns-in-Ok-clause-read : goal.returns-in-Ok-clause-read
 returns-in-Ok-clause-read g c =
+    let at = (goal.at.returns-in-Ok-clause-read g c).After-judge_text in
     let files = g.D.Desk.files c.args.desk.now in
-    let read : IsBeginning files c.args.yacc.now (MOST_BYTES + 1) c.deref.result.now = subst (λ b. IsBeginning files c.args.yacc.now (MOST_BYTES + 1) b) (sym c.deref.ensures.value) c.in_ok-bytes.ensures.read in
-    let more : IsBeginning files c.args.lex.now (MOST_BYTES + 1) c.deref-in-Ok.result.now = subst (λ f. IsBeginning f c.args.lex.now (MOST_BYTES + 1) c.deref-in-Ok.result.now) c.in_ok-bytes.ensures.same_files
-    (subst (λ b. IsBeginning (g.D.Desk.files c.read_file.new.desk) c.args.lex.now (MOST_BYTES + 1) b) (sym c.deref-in-Ok.ensures.value) c.in_ok-more.ensures.read) in
-    let text : IsBeginning files c.args.text.now (most_for c.args.role + 1) c.in-Ok.text.items =
-    subst (λ f. IsBeginning f c.args.text.now (most_for c.args.role + 1) c.in-Ok.text.items) (c.in_ok-more.ensures.same_files ∙ c.in_ok-bytes.ensures.same_files) c.in-Ok.ensures.read in
     if_ok c.judge_text.result c.judge_text.ensures.read
-    (λ beside is. text_read c.args.role files c.args.yacc.now c.args.lex.now c.args.text.now c.deref.result.now c.deref-in-Ok.result.now c.in-Ok.text.items read more text beside is)
+    (λ beside is. text_read c.args.role files c.args.yacc.now c.args.lex.now c.args.text.now c.deref.result.now c.deref-in-Ok.result.now c.in-Ok.text.items (yacc_read g at) (lex_read g at) (third_read g at) beside is)
 
 pub returns-in-Ok-clause-stops : goal.returns-in-Ok-clause-stops
 returns-in-Ok-clause-stops g c =
+    let at = (goal.at.returns-in-Ok-clause-stops g c).After-judge_text in
     let files = g.D.Desk.files c.args.desk.now in
-    let read : IsBeginning files c.args.yacc.now (MOST_BYTES + 1) c.deref.result.now = subst (λ b. IsBeginning files c.args.yacc.now (MOST_BYTES + 1) b) (sym c.deref.ensures.value) c.in_ok-bytes.ensures.read in
-    let more : IsBeginning files c.args.lex.now (MOST_BYTES + 1) c.deref-in-Ok.result.now = subst (λ f. IsBeginning f c.args.lex.now (MOST_BYTES + 1) c.deref-in-Ok.result.now) c.in_ok-bytes.ensures.same_files
-    (subst (λ b. IsBeginning (g.D.Desk.files c.read_file.new.desk) c.args.lex.now (MOST_BYTES + 1) b) (sym c.deref-in-Ok.ensures.value) c.in_ok-more.ensures.read) in
-    let text : IsBeginning files c.args.text.now (most_for c.args.role + 1) c.in-Ok.text.items =
-    subst (λ f. IsBeginning f c.args.text.now (most_for c.args.role + 1) c.in-Ok.text.items) (c.in_ok-more.ensures.same_files ∙ c.in_ok-bytes.ensures.same_files) c.in-Ok.ensures.read in
     if_err c.judge_text.result c.judge_text.ensures.refused
-    (λ stop is. text_stops c.args.role files c.args.yacc.now c.args.lex.now c.args.text.now c.deref.result.now c.deref-in-Ok.result.now c.in-Ok.text.items read more text
+    (λ stop is. text_stops c.args.role files c.args.yacc.now c.args.lex.now c.args.text.now c.deref.result.now c.deref-in-Ok.result.now c.in-Ok.text.items (yacc_read g at) (lex_read g at) (third_read g at)
     (faults_of g.D.Desk.faults c.args.desk.now c.read_file-3.new.desk) stop is)
 
 pub returns-clause-stops : goal.returns-clause-stops
