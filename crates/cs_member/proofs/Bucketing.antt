@@ -118,5 +118,12 @@ here_item g x here =
 pub here_at : (g : PlainGrammar) (origins : List Origins) (k : ℕ) (o : Origins) → AreHere g origins → k < length origins → o ≡ get_or origins k o → IsHere g o.item
 here_at g origins k o here lt is = subst (λ (r : Origins). IsHere g r.item) (sym is) (here k o lt)
 
-pub bucket_at : (g : PlainGrammar) (x : Item) (next : Next) (b : ℕ) → IsGrammar g → IsNext g x next → IsHere g x → b ≡ bucket_of next → BucketOf g b x
+bucket_at : (g : PlainGrammar) (x : Item) (next : Next) (b : ℕ) → IsGrammar g → IsNext g x next → IsHere g x → b ≡ bucket_of next → BucketOf g b x
 bucket_at g x next b grammar next_is here is = subst (λ n. BucketOf g n x) (sym is) (bucket_next g x next grammar next_is here)
+
+-- the bucket of the item at a place of those that stand here, and that there is one
+pub bucket_here : (g : PlainGrammar) (origins : List Origins) (k : ℕ) (o : Origins) (next : Next) (b : ℕ) → IsGrammar g → AreHere g origins → k < length origins → o ≡ get_or origins k o → IsNext g o.item next → b ≡ bucket_of next → BucketOf g b o.item
+bucket_here g origins k o next b grammar here lt is next_is same = bucket_at g o.item next b grammar next_is (here_at g origins k o here lt is) same
+
+pub bucket_low : (g : PlainGrammar) (origins : List Origins) (k : ℕ) (o : Origins) (next : Next) (b : ℕ) → IsGrammar g → AreHere g origins → k < length origins → o ≡ get_or origins k o → IsNext g o.item next → b ≡ bucket_of next → b ≤ g.nonterminals
+bucket_low g origins k o next b grammar here lt is next_is same = bucket_within g b o.item grammar (bucket_here g origins k o next b grammar here lt is next_is same)

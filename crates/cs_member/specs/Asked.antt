@@ -102,8 +102,8 @@ FollowsBegun begun x j = OfFronts begun.expected.now begun.fronts.now begun.from
 abbrev pub AreFrontsOf : Question → List Front → Type 0
 AreFrontsOf q fronts = All (λ f. IsItem q.grammar.now f.item × (f.left ≤ q.grammar.now.nonterminals)) fronts
 
-abbrev pub ScanPuts : Question → Option ℕ → List Position → Now → Now → Type 0
-ScanPuts q ahead chart old new = ArePut q.grammar.now ahead None (OfScan chart q.tables.now.tokens.items q.tokens.now) old new
+abbrev pub ScanPuts : Question → Way → List Position → Now → Now → Type 0
+ScanPuts q way chart old new = ArePutBy q way (OfScan chart q.tables.now.tokens.items q.tokens.now) old new
 
 abbrev pub FollowPuts : Question → Option ℕ → ℕ → List Position → Now → Now → Type 0
 FollowPuts q ahead number chart old new =

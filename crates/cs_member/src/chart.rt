@@ -112,7 +112,7 @@ fn scan(
     chart: &[Position],
     now: &mut Now,
     guesses: &mut [usize],
-    ahead: Option<u16>,
+    way: Way,
 ) -> Result<(), AllocError>
     requires now { IsNow question.now.grammar.now now.old }
     requires question { IsQuestion question.now.grammar.now question.now.tables.now }
@@ -126,13 +126,12 @@ fn scan(
     ensures now { OnOk result (IsNow question.now.grammar.now now.new) }
     ensures guesses { OnOk result (length guesses.new ≡ question.now.tables.now.items) }
     ensures before { OnOk result (AreBefore question.now.grammar.now (length chart.now) now.new) }
-    ensures put { OnOk result (ScanPuts question.now ahead chart.now now.old now.new) }
+    ensures put { OnOk result (ScanPuts question.now way chart.now now.old now.new) }
 {
     let _well_formed = question.grammar.rules();
     let last = chart.len() - 1;
     let token = question.tokens[last];
     let position = &chart[last];
-    let way = Way { ahead, cause: None };
     put_rows(alloc, question, now, guesses, way, position.rows.rows(0))?;
     let begun = Begun {
         expected: &position.expected,
@@ -375,7 +374,8 @@ fn begin(
         return Ok(());
     }
     let ahead = token_at(question, chart.len());
-    scan(alloc, question, chart, now, guesses, ahead)?;
+    let way = Way { ahead, cause: None };
+    scan(alloc, question, chart, now, guesses, way)?;
     Ok(())
 }
 

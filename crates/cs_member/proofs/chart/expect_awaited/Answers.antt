@@ -3,7 +3,7 @@ use Rattle.std.proofs.lemmas.List.{take_all}
 use Rattle.std.proofs.lemmas.Option.{slice_get_within}
 use Rattle.cs_member.specs.declared.now.Origins.{Origins}
 use Rattle.cs_member.specs.Expecting.{AreAwaited}
-use Rattle.cs_member.proofs.Bucketing.{bucket_at, bucket_within, here_at, here_item}
+use Rattle.cs_member.proofs.Bucketing.{bucket_here, bucket_low, here_at, here_item}
 use Rattle.cs_member.proofs.Marking.{awaited_more}
 use Rattle.cs_member.proofs.chart.expect_awaited.Goals as goal
 
@@ -21,15 +21,8 @@ next_of-requires c =
 
 pub expect-requires-clause-nonterminal : goal.expect-requires-clause-nonterminal
 expect-requires-clause-nonterminal c =
-    let g = c.args.question.now.grammar.now in
-    let origins = c.args.origins.now in
-    let k = c.loop-origin.origin-index in
-    let o = c.origin-item.result in
-    let here = here_at g origins k o c.requires.here c.loop-origin-test.true c.origin-item.is in
-    let grammar = c.rules-well_formed.ensures.well_formed in
-    let bucket = bucket_at g o.item c.next_of.result c.awaited-nonterminal.result grammar c.next_of.ensures here c.awaited-nonterminal.ensures in
-    let low = bucket_within g c.awaited-nonterminal.result o.item grammar bucket in
-    low
+    bucket_low c.args.question.now.grammar.now c.args.origins.now c.loop-origin.origin-index c.origin-item.result c.next_of.result c.awaited-nonterminal.result c.rules-well_formed.ensures.well_formed c.requires.here c.loop-origin-test.true c.origin-item.is
+    c.next_of.ensures c.awaited-nonterminal.ensures
 
 pub loop-origin-preserved : goal.loop-origin-preserved
 loop-origin-preserved c =
@@ -37,9 +30,7 @@ loop-origin-preserved c =
     let origins = c.args.origins.now in
     let k = c.loop-origin.origin-index in
     let o = c.origin-item.result in
-    let here = here_at g origins k o c.requires.here c.loop-origin-test.true c.origin-item.is in
-    let grammar = c.rules-well_formed.ensures.well_formed in
-    let bucket = bucket_at g o.item c.next_of.result c.awaited-nonterminal.result grammar c.next_of.ensures here c.awaited-nonterminal.ensures in
+    let bucket = bucket_here g origins k o c.next_of.result c.awaited-nonterminal.result c.rules-well_formed.ensures.well_formed c.requires.here c.loop-origin-test.true c.origin-item.is c.next_of.ensures c.awaited-nonterminal.ensures in
     let said = c.in_ok-expect.ensures in
     let inv = c.loop-origin.invariant in
     record {

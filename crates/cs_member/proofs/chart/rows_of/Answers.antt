@@ -6,7 +6,7 @@ use Rattle.cs_member.specs.declared.now.Origins.{Origins}
 use Rattle.cs_member.specs.declared.chart.Row.{Row}
 use Rattle.cs_member.specs.Sets.{Has, InWords}
 use Rattle.cs_member.specs.Chart.{AreRows}
-use Rattle.cs_member.proofs.Bucketing.{bucket_at, bucket_within, here_at, here_item, moved, rows_push, rows_none}
+use Rattle.cs_member.proofs.Bucketing.{bucket_here, bucket_low, here_at, here_item, moved, rows_push, rows_none}
 use Rattle.cs_member.proofs.chart.rows_of.Goals as goal
 
 pub loop-origin-init : goal.loop-origin-init
@@ -22,14 +22,9 @@ next_of-requires c =
 
 pub add-requires-clause-number : goal.add-requires-clause-number
 add-requires-clause-number c =
-    let g = c.args.question.now.grammar.now in
-    let origins = c.args.origins.now in
-    let k = c.loop-origin.origin-index in
-    let o = c.origin-item.result in
-    let here = here_at g origins k o c.requires.here c.loop-origin-test.true c.origin-item.is in
-    let grammar = c.rules-well_formed.ensures.well_formed in
-    let bucket = bucket_at g o.item c.next_of.result c.awaited-bucket.result grammar c.next_of.ensures here c.awaited-bucket.ensures in
-    let low = bucket_within g c.awaited-bucket.result o.item grammar bucket in
+    let low =
+    bucket_low c.args.question.now.grammar.now c.args.origins.now c.loop-origin.origin-index c.origin-item.result c.next_of.result c.awaited-bucket.result c.rules-well_formed.ensures.well_formed c.requires.here c.loop-origin-test.true c.origin-item.is
+    c.next_of.ensures c.awaited-bucket.ensures in
     let size = c.loop-origin.invariant.rows.size in
     omega arith
 
@@ -39,11 +34,10 @@ loop-origin-preserved c =
     let origins = c.args.origins.now in
     let k = c.loop-origin.origin-index in
     let o = c.origin-item.result in
-    let here = here_at g origins k o c.requires.here c.loop-origin-test.true c.origin-item.is in
     let grammar = c.rules-well_formed.ensures.well_formed in
-    let bucket = bucket_at g o.item c.next_of.result c.awaited-bucket.result grammar c.next_of.ensures here c.awaited-bucket.ensures in
+    let bucket = bucket_here g origins k o c.next_of.result c.awaited-bucket.result grammar c.requires.here c.loop-origin-test.true c.origin-item.is c.next_of.ensures c.awaited-bucket.ensures in
     let row : Row = record { item = o.item; words = c.in_ok-words.words } in
-    let can = moved g o.item grammar here in
+    let can = moved g o.item grammar (here_at g origins k o c.requires.here c.loop-origin-test.true c.origin-item.is) in
     let more : take (k + 1) origins ≡ take k origins ++ o ∷ [] = take_more origins k o c.loop-origin-test.true ∙ ap (λ (r : Origins). take k origins ++ r ∷ []) (sym c.origin-item.is) in
     let rows = subst (λ (l : List Origins). AreRows g l (rows_in c.add.new.self)) (sym more)
     (rows_push g (take k origins) o (rows_in c.loop-origin.rows) (rows_in c.add.new.self) c.awaited-bucket.result row c.loop-origin.invariant.rows c.in_ok-add.ensures.added refl

@@ -1,4 +1,4 @@
-use Rattle.std.proofs.Common.{◌≡◌, ℕ, ◌-◌, ◌<◌, ◌≤◌, length, get_or, List, None, Some, refl, sym, subst, arith}
+use Rattle.std.proofs.Common.{◌≡◌, ℕ, ◌-◌, ◌<◌, ◌≤◌, length, get_or, List, Some, refl, sym, subst, arith}
 use Rattle.std.specs.Prelude.{All, slice_get}
 use Rattle.std.proofs.lemmas.Option.{slice_get_read, slice_get-get_or}
 use Rattle.cs_member.specs.declared.chart.Row.{Row}
@@ -67,13 +67,13 @@ returns c =
     let t : ℕ = get_or tokens last_at 0 in
     let fronts = c.args.question.now.tables.now.tokens.items in
     let list = c.index.result.now in
-    let put = scan_puts g c.args.ahead None chart fronts tokens t position bucket list (last was.After-index-chart-last) (slice_get-get_or tokens last_at 0 lt) c.rows.ensures.1 (listed was.After-index lt) c.args.now.now c.put_rows.new.now c.put_fronts.new.now
-    (subst (λ (l : List Row). ArePut g c.args.ahead None (OfRows l) c.args.now.now c.put_rows.new.now) c.rows.ensures.2 c.in_ok-put_rows.ensures.put)
-    (subst (λ (l : List Front). ArePut g c.args.ahead None (OfFronts position.expected.items l last_at) c.put_rows.new.now c.put_fronts.new.now) c.deref-2.ensures.value
-    (subst (λ (l : List ℕ). ArePut g c.args.ahead None (OfFronts l c.deref-2.result.now last_at) c.put_rows.new.now c.put_fronts.new.now) c.deref.ensures.value c.in_ok-put_fronts.ensures.put)) in
+    let put = scan_puts g c.args.way.ahead c.args.way.cause chart fronts tokens t position bucket list (last was.After-index-chart-last) (slice_get-get_or tokens last_at 0 lt) c.rows.ensures.1 (listed was.After-index lt) c.args.now.now c.put_rows.new.now c.put_fronts.new.now
+    (subst (λ (l : List Row). ArePut g c.args.way.ahead c.args.way.cause (OfRows l) c.args.now.now c.put_rows.new.now) c.rows.ensures.2 c.in_ok-put_rows.ensures.put)
+    (subst (λ (l : List Front). ArePut g c.args.way.ahead c.args.way.cause (OfFronts position.expected.items l last_at) c.put_rows.new.now c.put_fronts.new.now) c.deref-2.ensures.value
+    (subst (λ (l : List ℕ). ArePut g c.args.way.ahead c.args.way.cause (OfFronts l c.deref-2.result.now last_at) c.put_rows.new.now c.put_fronts.new.now) c.deref.ensures.value c.in_ok-put_fronts.ensures.put)) in
     record {
       now = c.in_ok-put_fronts.ensures.now;
       guesses = c.in_ok-put_fronts.ensures.guesses;
-      before = before_follow g c.args.ahead None (length chart) (OfScan chart fronts tokens) c.args.now.now c.put_fronts.new.now c.rules-well_formed.ensures.well_formed (λ x j h. scan_before g chart fronts tokens x j c.requires.chart h) put c.requires.before;
+      before = before_follow g c.args.way.ahead c.args.way.cause (length chart) (OfScan chart fronts tokens) c.args.now.now c.put_fronts.new.now c.rules-well_formed.ensures.well_formed (λ x j h. scan_before g chart fronts tokens x j c.requires.chart h) put c.requires.before;
       put = put;
     }
