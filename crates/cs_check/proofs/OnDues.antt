@@ -1,5 +1,5 @@
 -- What stands at a place of the head: numbered lines of a kind, and then the others.
-use Rattle.std.proofs.Common.{◌≡◌, ℕ, zero, suc, ◌+◌, ◌-◌, ◌*◌, ◌<◌, ◌≤◌, List, ◌∷◌, ◌++◌, length, length-append, map, ap, ◌∙◌, arith, Some}
+use Rattle.std.proofs.Common.{◌≡◌, ℕ, zero, suc, ◌+◌, ◌-◌, ◌*◌, ◌<◌, ◌≤◌, List, ◌∷◌, ◌++◌, length, length-append, map, sym, ap, ◌∙◌, arith, Some}
 use Rattle.std.specs.Prelude.{slice_get}
 use Rattle.std.specs.List.{range_with_len}
 use Rattle.std.proofs.lemmas.List.FromFn.{length-map-range_with_len}
@@ -21,6 +21,17 @@ module _ {X : Type 0} (f : ℕ → X) (rest : List X) where
   behind_range first (suc many) (suc place) less =
       let e : place - many ≡ suc place - suc many = omega arith in
       behind_range (first + 1) many place (omega (arith, less)) ∙ ap (slice_get rest) e
+
+-- the line of a kind at one of so many places, and the place among the rest behind them
+module _ (kind : ℕ → Due) (rest : List Due) (told many place : ℕ) (same : told ≡ many) where
+  pub due_within : (number : ℕ) → number ≡ place + 1 → place < told → Some (kind number) ≡ slice_get (map kind (range_with_len 1 many) ++ rest) place
+  due_within number is low =
+      let one : number ≡ 1 + place = omega arith in
+      ap (λ (n : ℕ). Some (kind n)) one ∙ sym (in_range kind rest 1 many place (omega arith))
+
+  pub due_behind : told ≤ place → slice_get rest (place - told) ≡ slice_get (map kind (range_with_len 1 many) ++ rest) place
+  due_behind past =
+      ap (λ (n : ℕ). slice_get rest (place - n)) same ∙ sym (behind_range kind rest 1 many place (omega arith))
 
 -- how many lines there are
 module _ (g : PlainGrammar) where

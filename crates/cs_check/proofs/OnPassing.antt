@@ -6,4 +6,10 @@ pub mod Splits
 pub mod Excluding
 pub mod Claiming
 pub mod Alike
+pub mod Changed
+pub mod Kin
+pub mod Left
+pub mod Staying
+pub mod Going
+pub mod AllRight
 pub mod Changing

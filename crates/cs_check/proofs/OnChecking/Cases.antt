@@ -12,11 +12,20 @@ use Rattle.cs_goals.specs.declared.goal.Goal.{Goal}
 use Rattle.cs_goals.specs.declared.goal.Goal.TheVariants.{Pair}
 use Rattle.cs_goals.specs.Meets.{IsMeeting}
 use Rattle.cs_check.specs.Passing.Entries.{IsNumbered, IsLast}
-use Rattle.cs_check.specs.Checking.Cases.{PlainCase, case_of, HoldsLast, Meets, Shows}
+use Rattle.cs_check.specs.Checking.Cases.{PlainCase, PlainCases, case_of, cases_of, IsAt, HoldsLast, Meets, Shows}
 use Rattle.cs_check.proofs.OnChecking.Once.{one_numbered, last_push, one_yield}
 
 pub rules_at : (g : PlainGrammar) (cases : List PlainCase) (place : ℕ) (d : PlainCase) (rules : List ℕ) → place < length cases → All (λ (case : PlainCase). IsDerivationOf g case.rules) cases → rules ≡ (get_or cases place d).rules → IsDerivationOf g rules
 rules_at g cases place d rules low all is = subst (λ (r : List ℕ). IsDerivationOf g r) (sym is) (all place d low)
+
+-- those of a case of a whole value, too
+pub derived_at : (g : PlainGrammar) (cases : List PlainCase) (told : PlainCases) → cases_of g cases ≡ told → (place : ℕ) → place < length told.list → All (λ (case : PlainCase). IsDerivationOf g case.rules) cases → (rules : List ℕ) → ((case : PlainCase) → IsAt told place case → rules ≡ case.rules) → IsDerivationOf g rules
+derived_at g cases told is place low all rules same =
+    let long = ap (λ (c : PlainCases). length c.list) is in
+    let within : place < length cases = omega (arith, low, long) in
+    let d = case_of 0 [] in
+    let at = subst (λ (c : PlainCases). IsAt c place (get_or cases place d)) is (slice_get-get_or cases place d within) in
+    rules_at g cases place d rules within all (same (get_or cases place d) at)
 
 pub same_rules : (cases : List PlainCase) (place : ℕ) (d case : PlainCase) (rules : List ℕ) → rules ≡ (get_or cases place d).rules → slice_get cases place ≡ Some case → rules ≡ case.rules
 same_rules cases place d case rules is at =

@@ -1,7 +1,8 @@
 -- Sets that the lines claim, with one more closed line.
-use Rattle.std.proofs.Common.{◌≡◌, ◌≢◌, ℕ, zero, suc, ◌+◌, ◌≤◌, Bool, List, [], ◌∷◌, ◌++◌, length, get_or, drop, refl, sym, ap, ◌∙◌, subst, ⊎_elim, inl, inr, ◌⊎◌, ◌↔◌, arith, Option, Some, None}
+use Rattle.std.proofs.Common.{◌≡◌, ◌≢◌, ℕ, zero, suc, ◌+◌, ◌≤◌, Bool, true, List, [], ◌∷◌, ◌++◌, length, get_or, drop, refl, sym, ap, ◌∙◌, subst, ⊎_elim, inl, inr, ◌⊎◌, ◌↔◌, arith, Option, Some, None}
 use Rattle.std.specs.List.{cons_option}
-use Rattle.std.proofs.lemmas.Bool.{cases_eq}
+use Rattle.std.specs.Bool.{OnTrue}
+use Rattle.std.proofs.lemmas.Bool.{cases_eq, OnTrue_from}
 use Rattle.std.proofs.lemmas.List.{append-nil, get_or-drop}
 use Rattle.std.proofs.lemmas.List.Elements.{All-weaker, filter_map-append}
 use Rattle.cs_grammar.specs.declared.symbol.Mark.{Mark}
@@ -316,3 +317,23 @@ module _ (file : File) (s : PlainSets) (whole : AreWholeSets file.grammar s) (na
   pub next_claimed : (s' : PlainSets) (number : ℕ) → AreWholeSets file.grammar s' → IsWithBehind file names (mark_at number) s s' → AreSameButNext s s' → ClaimsRow file Next number names s s'
   next_claimed s' number whole' with same = λ lines name claimed due.
       claims_next file lines s claimed names s' whole' number name due with same
+
+-- ---- by the sets that were told, of which these are the parts
+
+module _ (file : File) (s old new : PlainSets) (same : s ≡ old) (whole : AreWholeSets file.grammar old) (so : Bool) (names : List (List ℕ)) where
+  whole_parts : AreWholeSets file.grammar s
+  whole_parts = subst (λ (t : PlainSets). AreWholeSets file.grammar t) (sym same) whole
+
+  pub set_claims : (kind told : SetKind) → told ≡ kind → (AreWholeSets file.grammar s → so ≡ true → ClaimsSet file kind names s new) → OnTrue so (ClaimsSet file told names old new)
+  set_claims kind told is claims =
+      OnTrue_from so (ClaimsSet file told names old new)
+      (λ holds.
+      subst (λ (t : PlainSets). ClaimsSet file told names t new) same
+      (subst (λ (k : SetKind). ClaimsSet file k names s new) (sym is) (claims whole_parts holds)))
+
+  pub row_claims : (kind told : RowKind) (number : ℕ) → told ≡ kind → (AreWholeSets file.grammar s → so ≡ true → ClaimsRow file kind number names s new) → OnTrue so (ClaimsRow file told number names old new)
+  row_claims kind told number is claims =
+      OnTrue_from so (ClaimsRow file told number names old new)
+      (λ holds.
+      subst (λ (t : PlainSets). ClaimsRow file told number names t new) same
+      (subst (λ (k : RowKind). ClaimsRow file k number names s new) (sym is) (claims whole_parts holds)))

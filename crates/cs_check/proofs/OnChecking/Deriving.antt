@@ -1,6 +1,6 @@
 -- Derive lines and text lines.
 use Rattle.std.proofs.Common.{◌≡◌, ℕ, ◌+◌, ◌<◌, ◌≤◌, ◌↔◌, Bool, List, [], ◌∷◌, ◌++◌, length, refl, sym, ap, ◌∙◌, subst, arith}
-use Rattle.std.specs.Prelude.{IsTrue, count_by}
+use Rattle.std.specs.Prelude.{IsTrue}
 use Rattle.std.specs.Global.{Vec}
 use Rattle.std.specs.List.{AllZip, Contains}
 use Rattle.std.proofs.lemmas.Bool.{false≢true}
@@ -19,7 +19,7 @@ use Rattle.cs_check.specs.declared.checking.entries.Entries.{Entries}
 use Rattle.cs_lines.specs.Words.Edits.{EditWords}
 use Rattle.cs_lines.specs.Lines.Numbers.{IsRead, greatest}
 use Rattle.cs_lines.specs.Lines.Line.{GoalWords, VerdictWords, Line, DeriveLine, TextLine}
-use Rattle.cs_check.specs.Passing.Above.{size_in, derivation_in, goal_in, verdict_in, base_in, edit_in, weighs, lexemes, case_sizes, derivations, is_feasible, is_infeasible, is_large}
+use Rattle.cs_check.specs.Passing.Above.{size_in, derivation_in, goal_in, verdict_in, base_in, edit_in, weighs, lexemes, case_sizes, derivations}
 use Rattle.cs_check.specs.Passing.Places.{Part, InHead, OfCase, OfDerivation, OfCaseTokens, OfCaseText, OfGoal, OfBase, OfNegative, OfNegativeTokens, OfNegativeText, OfEnd, last_part, next_parts}
 use Rattle.cs_check.specs.Passing.Entries.{IsLast, IsMeasured, HasSize, AreTold, measured as measured_by}
 use Rattle.cs_check.specs.Passing.DueGoals.{KnowsGoals}
@@ -28,7 +28,7 @@ use Rattle.cs_check.specs.Checking.Cases.{PlainCase, case_of, cases_of}
 use Rattle.cs_check.specs.Checking.Told.{sizes_of, AreSized, IsCaseOf, HasTold, HasBase, AreEntries}
 use Rattle.cs_check.proofs.OnChecking.Trees.{code_rules}
 use Rattle.cs_check.proofs.OnChecking.Once.{one_numbered, last_push, one_told}
-use Rattle.cs_check.proofs.OnChecking.Told.{kept, added, last_part_more, among_true}
+use Rattle.cs_check.proofs.OnChecking.Told.{kept, added, counts_with, last_part_more, among_true}
 
 -- ---- a text line
 
@@ -118,14 +118,10 @@ module _ (file : File) (lines : List Line) (e : Entries) (t : AreEntries file li
               (rules, subst (λ (x : List (List ℕ)). IsLast x rules) (sym rules_more) (last_push (derivations lines) rules), yields);
           bases = t.bases ∙ sym (ap (λ (x : List ℕ). length x) bases_same);
           base = subst (λ (p : Part). HasBase file.grammar lines' p e.base.items) (sym part) tt;
-          counts = record {
-            goals = t.counts.goals ∙ sym (ap (λ (x : List GoalWords). length x) goals_same);
-            feasible = t.counts.feasible ∙ sym (ap (λ (x : List VerdictWords). count_by is_feasible x) verdicts_same);
-            infeasible = t.counts.infeasible ∙ sym (ap (λ (x : List VerdictWords). count_by is_infeasible x) verdicts_same);
-            large = t.counts.large ∙ sym (ap (λ (x : List VerdictWords). count_by is_large x) verdicts_same);
-            negatives = t.counts.negatives ∙ sym (ap (λ (x : List EditWords). length x) edits_same);
-            cases = t.counts.cases ∙ sym (ap (λ (x : List ℕ). length x) sizes_same);
-          };
+          counts =
+              counts_with lines lines' e.counts t.counts goals_same verdicts_same e.counts refl refl refl refl
+              (t.counts.negatives ∙ sym (ap (λ (x : List EditWords). length x) edits_same))
+              (t.counts.cases ∙ sym (ap (λ (x : List ℕ). length x) sizes_same));
         }
 
 -- no derivation has a number above all rules'

@@ -7,8 +7,8 @@ use Rattle.std.proofs.lemmas.List.{length-append, length_push}
 use Rattle.std.proofs.lemmas.List.Folds.{list_any-append}
 use Rattle.std.proofs.lemmas.Option.{slice_get_within}
 use Rattle.cs_grammar.specs.Grammar.{PlainGrammar}
-use Rattle.cs_lines.specs.Lines.Line.{Productive, Reachable, Empty, First, Last, Next, Line}
-use Rattle.cs_check.specs.Passing.Above.{weigh_in, set_in, row_in, weighs, sets, rows, is_set, has_sets}
+use Rattle.cs_lines.specs.Lines.Line.{Productive, Reachable, Empty, First, Last, Next, Line, Opening, Weighing, TokenLine, RuleLine, LexemeLine, SetLine, RowLine}
+use Rattle.cs_check.specs.Passing.Above.{weigh_in, set_in, row_in, is_set, has_sets}
 use Rattle.cs_check.specs.Passing.Head.{Due, TheOpening, TheWeighing, TheToken, TheRule, TheLexeme, TheSet, TheRow, Takes, tables, claims, whole_head, head_size}
 use Rattle.cs_check.specs.Passing.Places.{IsInHead}
 use Rattle.cs_check.specs.Checking.Head.{State, state_of, after, IsNextIn, AreNext, IsPlace}
@@ -21,119 +21,50 @@ use Rattle.cs_check.proofs.OnChecking.HeadNext.{state, all_next}
 same_state : (w p r e f l n w' p' r' e' f' l' n' : ℕ) → w ≡ w' → p ≡ p' → r ≡ r' → e ≡ e' → f ≡ f' → l ≡ l' → n ≡ n' → state w p r e f l n ≡ state w' p' r' e' f' l' n'
 same_state w p r e f l n w' p' r' e' f' l' n' a b c d x y z = cc
 
+-- one more, where a line tells something of a kind
+abbrev with_told : {X : Type 0} → Option X → ℕ → ℕ
+with_told None n = n
+with_told (Some x) n = n + 1
+
+abbrev with_line : Line → State → State
+with_line l s =
+    state (with_told (weigh_in l) s.weighs) (with_told (set_in Productive l) s.productive) (with_told (set_in Reachable l) s.reachable)
+    (with_told (set_in Empty l) s.empty) (with_told (row_in First l) s.firsts) (with_told (row_in Last l) s.lasts) (with_told (row_in Next l) s.nexts)
+
 module _ (lines : List Line) (l : Line) where
-  same : {X : Type 0} (in_line : Line → Option X) → in_line l ≡ None → length (filter_map in_line (lines ++ l ∷ [])) ≡ length (filter_map in_line lines)
-  same {X} in_line none = ap (λ (x : List X). length x) (kept in_line lines l none)
+  count : {X : Type 0} (in_line : Line → Option X) (o : Option X) → in_line l ≡ o → length (filter_map in_line (lines ++ l ∷ [])) ≡ with_told o (length (filter_map in_line lines))
+  count {X} in_line None none = ap (λ (x : List X). length x) (kept in_line lines l none)
+  count {X} in_line (Some x) some = ap (λ (y : List X). length y) (added in_line lines l x some) ∙ length_push (filter_map in_line lines) x
 
-  more : {X : Type 0} (in_line : Line → Option X) (x : X) → in_line l ≡ Some x → length (filter_map in_line (lines ++ l ∷ [])) ≡ length (filter_map in_line lines) + 1
-  more {X} in_line x some = ap (λ (y : List X). length y) (added in_line lines l x some) ∙ length_push (filter_map in_line lines) x
-
-  counts : (s : State) → length (weighs (lines ++ l ∷ [])) ≡ s.weighs → length (sets Productive (lines ++ l ∷ [])) ≡ s.productive → length (sets Reachable (lines ++ l ∷ [])) ≡ s.reachable → length (sets Empty (lines ++ l ∷ [])) ≡ s.empty → length (rows First (lines ++ l ∷ [])) ≡ s.firsts → length (rows Last (lines ++ l ∷ [])) ≡ s.lasts → length (rows Next (lines ++ l ∷ [])) ≡ s.nexts → state_of (lines ++ l ∷ []) ≡ s
-  counts s a b c d x y z =
+  state_with : state_of (lines ++ l ∷ []) ≡ with_line l (state_of lines)
+  state_with =
       let t = state_of (lines ++ l ∷ []) in
-      same_state t.weighs t.productive t.reachable t.empty t.firsts t.lasts t.nexts s.weighs s.productive s.reachable s.empty s.firsts s.lasts s.nexts a b c d x y z
+      let s = with_line l (state_of lines) in
+      same_state t.weighs t.productive t.reachable t.empty t.firsts t.lasts t.nexts s.weighs s.productive s.reachable s.empty s.firsts s.lasts s.nexts
+      (count weigh_in (weigh_in l) refl)
+      (count (set_in Productive) (set_in Productive l) refl)
+      (count (set_in Reachable) (set_in Reachable l) refl)
+      (count (set_in Empty) (set_in Empty l) refl)
+      (count (row_in First) (row_in First l) refl)
+      (count (row_in Last) (row_in Last l) refl)
+      (count (row_in Next) (row_in Next l) refl)
+
+  state_by : (same : Line) → l ≡ same → state_of (lines ++ l ∷ []) ≡ with_line same (state_of lines)
+  state_by same e = state_with ∙ ap (λ (k : Line). with_line k (state_of lines)) e
 
 -- the line of each place
 pub state_of_line : (lines : List Line) (d : Due) (l : Line) → Takes d l → state_of (lines ++ l ∷ []) ≡ after (state_of lines) d
-state_of_line lines TheOpening l h =
-    counts lines l (after (state_of lines) TheOpening)
-    (same lines l weigh_in (ap weigh_in h))
-    (same lines l (set_in Productive) (ap (set_in Productive) h))
-    (same lines l (set_in Reachable) (ap (set_in Reachable) h))
-    (same lines l (set_in Empty) (ap (set_in Empty) h))
-    (same lines l (row_in First) (ap (row_in First) h))
-    (same lines l (row_in Last) (ap (row_in Last) h))
-    (same lines l (row_in Next) (ap (row_in Next) h))
-state_of_line lines TheWeighing l h =
-    counts lines l (after (state_of lines) TheWeighing)
-    (more lines l weigh_in h.0 (ap weigh_in h.1))
-    (same lines l (set_in Productive) (ap (set_in Productive) h.1))
-    (same lines l (set_in Reachable) (ap (set_in Reachable) h.1))
-    (same lines l (set_in Empty) (ap (set_in Empty) h.1))
-    (same lines l (row_in First) (ap (row_in First) h.1))
-    (same lines l (row_in Last) (ap (row_in Last) h.1))
-    (same lines l (row_in Next) (ap (row_in Next) h.1))
-state_of_line lines (TheToken t) l h =
-    counts lines l (after (state_of lines) (TheToken t))
-    (same lines l weigh_in (ap weigh_in h.1))
-    (same lines l (set_in Productive) (ap (set_in Productive) h.1))
-    (same lines l (set_in Reachable) (ap (set_in Reachable) h.1))
-    (same lines l (set_in Empty) (ap (set_in Empty) h.1))
-    (same lines l (row_in First) (ap (row_in First) h.1))
-    (same lines l (row_in Last) (ap (row_in Last) h.1))
-    (same lines l (row_in Next) (ap (row_in Next) h.1))
-state_of_line lines (TheRule r) l h =
-    counts lines l (after (state_of lines) (TheRule r))
-    (same lines l weigh_in (ap weigh_in h.2))
-    (same lines l (set_in Productive) (ap (set_in Productive) h.2))
-    (same lines l (set_in Reachable) (ap (set_in Reachable) h.2))
-    (same lines l (set_in Empty) (ap (set_in Empty) h.2))
-    (same lines l (row_in First) (ap (row_in First) h.2))
-    (same lines l (row_in Last) (ap (row_in Last) h.2))
-    (same lines l (row_in Next) (ap (row_in Next) h.2))
-state_of_line lines (TheLexeme t) l h =
-    counts lines l (after (state_of lines) (TheLexeme t))
-    (same lines l weigh_in (ap weigh_in h.2))
-    (same lines l (set_in Productive) (ap (set_in Productive) h.2))
-    (same lines l (set_in Reachable) (ap (set_in Reachable) h.2))
-    (same lines l (set_in Empty) (ap (set_in Empty) h.2))
-    (same lines l (row_in First) (ap (row_in First) h.2))
-    (same lines l (row_in Last) (ap (row_in Last) h.2))
-    (same lines l (row_in Next) (ap (row_in Next) h.2))
-state_of_line lines (TheSet Productive) l h =
-    counts lines l (after (state_of lines) (TheSet Productive))
-    (same lines l weigh_in (ap weigh_in h.1))
-    (more lines l (set_in Productive) h.0 (ap (set_in Productive) h.1))
-    (same lines l (set_in Reachable) (ap (set_in Reachable) h.1))
-    (same lines l (set_in Empty) (ap (set_in Empty) h.1))
-    (same lines l (row_in First) (ap (row_in First) h.1))
-    (same lines l (row_in Last) (ap (row_in Last) h.1))
-    (same lines l (row_in Next) (ap (row_in Next) h.1))
-state_of_line lines (TheSet Reachable) l h =
-    counts lines l (after (state_of lines) (TheSet Reachable))
-    (same lines l weigh_in (ap weigh_in h.1))
-    (same lines l (set_in Productive) (ap (set_in Productive) h.1))
-    (more lines l (set_in Reachable) h.0 (ap (set_in Reachable) h.1))
-    (same lines l (set_in Empty) (ap (set_in Empty) h.1))
-    (same lines l (row_in First) (ap (row_in First) h.1))
-    (same lines l (row_in Last) (ap (row_in Last) h.1))
-    (same lines l (row_in Next) (ap (row_in Next) h.1))
-state_of_line lines (TheSet Empty) l h =
-    counts lines l (after (state_of lines) (TheSet Empty))
-    (same lines l weigh_in (ap weigh_in h.1))
-    (same lines l (set_in Productive) (ap (set_in Productive) h.1))
-    (same lines l (set_in Reachable) (ap (set_in Reachable) h.1))
-    (more lines l (set_in Empty) h.0 (ap (set_in Empty) h.1))
-    (same lines l (row_in First) (ap (row_in First) h.1))
-    (same lines l (row_in Last) (ap (row_in Last) h.1))
-    (same lines l (row_in Next) (ap (row_in Next) h.1))
-state_of_line lines (TheRow First number) l h =
-    counts lines l (after (state_of lines) (TheRow First number))
-    (same lines l weigh_in (ap weigh_in h.2))
-    (same lines l (set_in Productive) (ap (set_in Productive) h.2))
-    (same lines l (set_in Reachable) (ap (set_in Reachable) h.2))
-    (same lines l (set_in Empty) (ap (set_in Empty) h.2))
-    (more lines l (row_in First) h.1 (ap (row_in First) h.2))
-    (same lines l (row_in Last) (ap (row_in Last) h.2))
-    (same lines l (row_in Next) (ap (row_in Next) h.2))
-state_of_line lines (TheRow Last number) l h =
-    counts lines l (after (state_of lines) (TheRow Last number))
-    (same lines l weigh_in (ap weigh_in h.2))
-    (same lines l (set_in Productive) (ap (set_in Productive) h.2))
-    (same lines l (set_in Reachable) (ap (set_in Reachable) h.2))
-    (same lines l (set_in Empty) (ap (set_in Empty) h.2))
-    (same lines l (row_in First) (ap (row_in First) h.2))
-    (more lines l (row_in Last) h.1 (ap (row_in Last) h.2))
-    (same lines l (row_in Next) (ap (row_in Next) h.2))
-state_of_line lines (TheRow Next number) l h =
-    counts lines l (after (state_of lines) (TheRow Next number))
-    (same lines l weigh_in (ap weigh_in h.2))
-    (same lines l (set_in Productive) (ap (set_in Productive) h.2))
-    (same lines l (set_in Reachable) (ap (set_in Reachable) h.2))
-    (same lines l (set_in Empty) (ap (set_in Empty) h.2))
-    (same lines l (row_in First) (ap (row_in First) h.2))
-    (same lines l (row_in Last) (ap (row_in Last) h.2))
-    (more lines l (row_in Next) h.1 (ap (row_in Next) h.2))
+state_of_line lines TheOpening l h = state_by lines l Opening h
+state_of_line lines TheWeighing l h = state_by lines l (Weighing h.0) h.1
+state_of_line lines (TheToken t) l h = state_by lines l (TokenLine t h.0) h.1
+state_of_line lines (TheRule r) l h = state_by lines l (RuleLine r h.0 h.1) h.2
+state_of_line lines (TheLexeme t) l h = state_by lines l (LexemeLine h.0 h.1) h.2
+state_of_line lines (TheSet Productive) l h = state_by lines l (SetLine Productive h.0) h.1
+state_of_line lines (TheSet Reachable) l h = state_by lines l (SetLine Reachable h.0) h.1
+state_of_line lines (TheSet Empty) l h = state_by lines l (SetLine Empty h.0) h.1
+state_of_line lines (TheRow First number) l h = state_by lines l (RowLine First h.0 h.1) h.2
+state_of_line lines (TheRow Last number) l h = state_by lines l (RowLine Last h.0 h.1) h.2
+state_of_line lines (TheRow Next number) l h = state_by lines l (RowLine Next h.0 h.1) h.2
 
 -- ---- what is left of the head
 

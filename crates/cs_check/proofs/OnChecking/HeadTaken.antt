@@ -1,9 +1,10 @@
 -- The line that is due, taken.
-use Rattle.std.proofs.Common.{◌≡◌, ℕ, Bool, true, false, List, [], ◌∷◌, ◌++◌, Option, Some, None, refl, sym, ap, ◌∙◌, subst, ◌↔◌}
+use Rattle.std.proofs.Common.{◌≡◌, ℕ, Bool, true, false, List, [], ◌∷◌, ◌++◌, Option, Some, None, length, refl, sym, ap, ◌∙◌, subst, ◌↔◌}
 use Rattle.std.specs.Prelude.{IsTrue, slice_get}
 use Rattle.cs_choices.specs.declared.weigh.Weigh.{Weigh}
 use Rattle.cs_grammar.specs.Grammar.{PlainGrammar}
 use Rattle.cs_yacc.specs.Reading.File.{File}
+use Rattle.cs_lines.specs.declared.lines.line.Line as held
 use Rattle.cs_lines.specs.declared.lines.line.Line.TheVariants as lines
 use Rattle.cs_lines.specs.Lines.Line.{SetKind, RowKind, Line, Weighing}
 use Rattle.cs_lines.specs.Lines.Read.{Tells}
@@ -12,8 +13,11 @@ use Rattle.cs_check.specs.declared.checking.head.Head.{Head}
 use Rattle.cs_check.specs.Passing.Above.{weigh_in, lexeme_in}
 use Rattle.cs_check.specs.Passing.Head.{Due, TheOpening, TheWeighing, TheToken, TheRule, TheSet, TheRow, Takes, IsOfFile, whole_head}
 use Rattle.cs_check.specs.Passing.Places.{IsInHead}
-use Rattle.cs_check.specs.Checking.Head.{KnowsHead, IsNextIn, state_of, AreWholeIn, IsClaimJudged, IsDueJudged, counted}
+use Rattle.cs_check.specs.Passing.Faults.{HasHead, HasClosed}
+use Rattle.cs_check.specs.Checking.Excluded.{ClaimsClosed}
+use Rattle.cs_check.specs.Checking.Head.{KnowsHead, IsNextIn, state_of, AreWholeIn, IsClaimJudged, IsDueJudged, AnswersEnd, counted}
 use Rattle.cs_check.proofs.OnChecking.HeadPlaces.{next_here}
+use Rattle.cs_check.proofs.OnChecking.HeadJudged.{same_due, has_head, has_no_head, has_closed, has_no_closed, sets_at_end}
 use Rattle.cs_check.proofs.OnChecking.HeadKnown.{opening_known, weighing_known, token_known, rule_known, claim_known}
 
 -- the line that is due, of a grammar that is this one
@@ -74,3 +78,41 @@ module _ (file : File) (above : List Line) (h : Head) (knows : KnowsHead file ab
   row_line_judged kind n e new so judged whole =
       let takes = subst (λ (x : Due). Takes x l) e taken in
       claim_judged (ap weigh_in takes.2) (ap lexeme_in takes.2) new so (subst (λ (x : Due). IsClaimJudged file above x l new so) (sym e) judged) whole
+
+-- ---- and the next line of the head, judged by what the code found
+
+module _ (file : File) (other : PlainGrammar) (same : other ≡ file.grammar) (old : Head) (d : Due) (is_due : Some d ≡ slice_get (whole_head other) old.above)
+    (told : held.Line) (new : Head) (so : Bool) (judged : (above : List Line) (l : Line) (h : IsInHead file.grammar above l) → h.due ≡ d → KnowsHead file above old → Tells told l → IsDueJudged file above d l new so)
+    (above : List Line) (l : Line) (knows : KnowsHead file above old) (tells : Tells told l) (i : IsInHead file.grammar above l) where
+  due_here : slice_get (whole_head file.grammar) (length above) ≡ Some d
+  due_here = here_by file.grammar other same old.above (length above) knows.many d is_due
+
+  judged_here : (b : Bool) → so ≡ b → IsDueJudged file above d l new b
+  judged_here b is =
+      subst (λ (x : Bool). IsDueJudged file above d l new x) is
+      (judged above l i (same_due file.grammar above l i d due_here) knows tells)
+
+  -- it isn't the file's
+  pub lacks_head : so ≡ false → HasHead file above l → ⊥
+  lacks_head is = has_no_head file above l d due_here i (judged_here false is)
+
+  -- it is, and what is claimed at the end of the head is closed, or it isn't
+  module _ (is : so ≡ true) (whole : ℕ) (all : whole ≡ length (whole_head file.grammar)) (closed : Bool) (answers : AnswersEnd file (counted new) whole closed) where
+    known : KnowsHead file (above ++ l ∷ []) (counted new)
+    known = (judged_here true is).1
+
+    closed_is : IsTrue closed ↔ ((counted new).above ≡ whole → ClaimsClosed file (above ++ l ∷ []))
+    closed_is = answers (above ++ l ∷ []) known.sets (sets_at_end file above l (counted new) known whole all)
+
+    pub line_judged : closed ≡ true → HasHead file above l × HasClosed file above l × KnowsHead file (above ++ l ∷ []) (counted new)
+    line_judged e = (
+      has_head file above l d due_here (judged_here true is).0,
+      has_closed file above l (counted new) known whole all closed closed_is e,
+      known,
+    )
+
+    pub line_unclosed : closed ≡ false → HasHead file above l × (HasClosed file above l → ⊥)
+    line_unclosed e = (
+      has_head file above l d due_here (judged_here true is).0,
+      has_no_closed file above l (counted new) known whole all closed closed_is e i,
+    )

@@ -11,6 +11,22 @@ use Rattle.cs_check.specs.Passing.Faults.{Checked, Has}
 use Rattle.cs_check.specs.Passing.Passing.{number}
 use Rattle.cs_check.specs.Checking.Judging.{IsRight, IsWrong}
 
+-- what holds of each fault holds of all
+pub all_faults : (P : ClaimFault → Type 0) → P Form → P Head → P Unclosed → P Derive → P Size → P Yield → P Scan → P Goal → P Infeasible → P Base → P Edit → P Pair → P Totals → (f : ClaimFault) → P f
+all_faults P at_form at_head at_unclosed at_derive at_size at_yield at_scan at_goal at_infeasible at_base at_edit at_pair at_totals Form = at_form
+all_faults P at_form at_head at_unclosed at_derive at_size at_yield at_scan at_goal at_infeasible at_base at_edit at_pair at_totals Head = at_head
+all_faults P at_form at_head at_unclosed at_derive at_size at_yield at_scan at_goal at_infeasible at_base at_edit at_pair at_totals Unclosed = at_unclosed
+all_faults P at_form at_head at_unclosed at_derive at_size at_yield at_scan at_goal at_infeasible at_base at_edit at_pair at_totals Derive = at_derive
+all_faults P at_form at_head at_unclosed at_derive at_size at_yield at_scan at_goal at_infeasible at_base at_edit at_pair at_totals Size = at_size
+all_faults P at_form at_head at_unclosed at_derive at_size at_yield at_scan at_goal at_infeasible at_base at_edit at_pair at_totals Yield = at_yield
+all_faults P at_form at_head at_unclosed at_derive at_size at_yield at_scan at_goal at_infeasible at_base at_edit at_pair at_totals Scan = at_scan
+all_faults P at_form at_head at_unclosed at_derive at_size at_yield at_scan at_goal at_infeasible at_base at_edit at_pair at_totals Goal = at_goal
+all_faults P at_form at_head at_unclosed at_derive at_size at_yield at_scan at_goal at_infeasible at_base at_edit at_pair at_totals Infeasible = at_infeasible
+all_faults P at_form at_head at_unclosed at_derive at_size at_yield at_scan at_goal at_infeasible at_base at_edit at_pair at_totals Base = at_base
+all_faults P at_form at_head at_unclosed at_derive at_size at_yield at_scan at_goal at_infeasible at_base at_edit at_pair at_totals Edit = at_edit
+all_faults P at_form at_head at_unclosed at_derive at_size at_yield at_scan at_goal at_infeasible at_base at_edit at_pair at_totals Pair = at_pair
+all_faults P at_form at_head at_unclosed at_derive at_size at_yield at_scan at_goal at_infeasible at_base at_edit at_pair at_totals Totals = at_totals
+
 -- a line of the head
 abbrev pub is_head : Line → Bool
 is_head Opening = true
@@ -35,396 +51,127 @@ module _ (c : Checked) (lines : List Line) where
   behind : (l : Line) → is_head l ≡ false → IsInHead c.file.grammar lines l → ⊥
   behind l never h = false≢true (sym never ∙ taken_head h.due l h.takes)
 
+  -- a line of the head lacks each fault, where it lacks the first three
+  pub right_head : (l : Line) → is_head l ≡ true → Has c Form lines l → Has c Head lines l → Has c Unclosed lines l → IsRight c lines l
+  right_head Opening is form head unclosed =
+      all_faults (λ (f : ClaimFault). Has c f lines Opening) form head unclosed tt tt tt tt tt tt tt tt tt tt
+  right_head (Weighing weigh) is form head unclosed =
+      all_faults (λ (f : ClaimFault). Has c f lines (Weighing weigh)) form head unclosed tt tt tt tt tt tt tt tt tt tt
+  right_head (TokenLine n name) is form head unclosed =
+      all_faults (λ (f : ClaimFault). Has c f lines (TokenLine n name)) form head unclosed tt tt tt tt tt tt tt tt tt tt
+  right_head (RuleLine n left right) is form head unclosed =
+      all_faults (λ (f : ClaimFault). Has c f lines (RuleLine n left right)) form head unclosed tt tt tt tt tt tt tt tt tt tt
+  right_head (LexemeLine name text) is form head unclosed =
+      all_faults (λ (f : ClaimFault). Has c f lines (LexemeLine name text)) form head unclosed tt tt tt tt tt tt tt tt tt tt
+  right_head (SetLine kind names) is form head unclosed =
+      all_faults (λ (f : ClaimFault). Has c f lines (SetLine kind names)) form head unclosed tt tt tt tt tt tt tt tt tt tt
+  right_head (RowLine kind name names) is form head unclosed =
+      all_faults (λ (f : ClaimFault). Has c f lines (RowLine kind name names)) form head unclosed tt tt tt tt tt tt tt tt tt tt
+  right_head l is form head unclosed = absurd cc
+
+  -- a line behind the head lacks each fault, where it lacks these
+  module _ (l : Line) (never : is_head l ≡ false) (form : Has c Form lines l) where
+    right_where : Has c Derive lines l → Has c Size lines l → Has c Yield lines l → Has c Scan lines l → Has c Goal lines l → Has c Infeasible lines l → Has c Base lines l → Has c Edit lines l → Has c Pair lines l → Has c Totals lines l → IsRight c lines l
+    right_where has_derive has_size has_yield has_scan has_goal has_infeasible has_base has_edit has_pair has_totals =
+        all_faults (λ (f : ClaimFault). Has c f lines l) form (λ h. absurd (behind l never h)) (λ h. absurd (behind l never h)) has_derive has_size has_yield has_scan has_goal has_infeasible has_base has_edit has_pair has_totals
+
+    -- and has one that it has, where it lacks the lower ones of these
+    wrong_where : (f : ClaimFault) → (Has c f lines l → ⊥) → (number Derive < number f → Has c Derive lines l) → (number Size < number f → Has c Size lines l) → (number Yield < number f → Has c Yield lines l) → (number Scan < number f → Has c Scan lines l) → (number Goal < number f → Has c Goal lines l) → (number Infeasible < number f → Has c Infeasible lines l) → (number Base < number f → Has c Base lines l) → (number Edit < number f → Has c Edit lines l) → (number Pair < number f → Has c Pair lines l) → (number Totals < number f → Has c Totals lines l) → IsWrong c lines l f
+    wrong_where f has_not has_derive has_size has_yield has_scan has_goal has_infeasible has_base has_edit has_pair has_totals = record {
+      wrong = has_not;
+      lower =
+          all_faults (λ (g : ClaimFault). number g < number f → Has c g lines l) (λ less. form) (λ less h. absurd (behind l never h)) (λ less h. absurd (behind l never h))
+          has_derive has_size has_yield has_scan has_goal has_infeasible has_base has_edit has_pair has_totals;
+    }
+
   module _ (n size : ℕ) (form : Has c Form lines (CaseLine n size)) where
     pub right_case : IsRight c lines (CaseLine n size)
-    right_case Form = form
-    right_case Head = λ h. absurd (behind (CaseLine n size) refl h)
-    right_case Unclosed = λ h. absurd (behind (CaseLine n size) refl h)
-    right_case Derive = tt
-    right_case Size = tt
-    right_case Yield = tt
-    right_case Scan = tt
-    right_case Goal = tt
-    right_case Infeasible = tt
-    right_case Base = tt
-    right_case Edit = tt
-    right_case Pair = tt
-    right_case Totals = tt
+    right_case = right_where (CaseLine n size) refl form tt tt tt tt tt tt tt tt tt tt
 
   module _ (rules : List ℕ) (form : Has c Form lines (DeriveLine rules)) where
     pub right_derive : Has c Derive lines (DeriveLine rules) → Has c Size lines (DeriveLine rules) → IsRight c lines (DeriveLine rules)
-    right_derive has_derive has_size Form = form
-    right_derive has_derive has_size Head = λ h. absurd (behind (DeriveLine rules) refl h)
-    right_derive has_derive has_size Unclosed = λ h. absurd (behind (DeriveLine rules) refl h)
-    right_derive has_derive has_size Derive = has_derive
-    right_derive has_derive has_size Size = has_size
-    right_derive has_derive has_size Yield = tt
-    right_derive has_derive has_size Scan = tt
-    right_derive has_derive has_size Goal = tt
-    right_derive has_derive has_size Infeasible = tt
-    right_derive has_derive has_size Base = tt
-    right_derive has_derive has_size Edit = tt
-    right_derive has_derive has_size Pair = tt
-    right_derive has_derive has_size Totals = tt
+    right_derive has_derive has_size = right_where (DeriveLine rules) refl form has_derive has_size tt tt tt tt tt tt tt tt
 
     pub wrong_derive_derive : (Has c Derive lines (DeriveLine rules) → ⊥) → IsWrong c lines (DeriveLine rules) Derive
-    wrong_derive_derive never = record { wrong = never; lower = lower }
-      where
-        lower : (g : ClaimFault) → number g < number Derive → Has c g lines (DeriveLine rules)
-        lower Form less = form
-        lower Head less = λ h. absurd (behind (DeriveLine rules) refl h)
-        lower Unclosed less = λ h. absurd (behind (DeriveLine rules) refl h)
-        lower Derive less = absurd (omega arith)
-        lower Size less = absurd (omega arith)
-        lower Yield less = tt
-        lower Scan less = tt
-        lower Goal less = tt
-        lower Infeasible less = tt
-        lower Base less = tt
-        lower Edit less = tt
-        lower Pair less = tt
-        lower Totals less = tt
+    wrong_derive_derive never =
+        wrong_where (DeriveLine rules) refl form Derive never (λ less. absurd (omega arith)) (λ less. absurd (omega arith)) (λ less. tt) (λ less. tt) (λ less. tt) (λ less. tt) (λ less. tt) (λ less. tt) (λ less. tt) (λ less. tt)
 
     pub wrong_derive_size : Has c Derive lines (DeriveLine rules) → (Has c Size lines (DeriveLine rules) → ⊥) → IsWrong c lines (DeriveLine rules) Size
-    wrong_derive_size has_derive never = record { wrong = never; lower = lower }
-      where
-        lower : (g : ClaimFault) → number g < number Size → Has c g lines (DeriveLine rules)
-        lower Form less = form
-        lower Head less = λ h. absurd (behind (DeriveLine rules) refl h)
-        lower Unclosed less = λ h. absurd (behind (DeriveLine rules) refl h)
-        lower Derive less = has_derive
-        lower Size less = absurd (omega arith)
-        lower Yield less = tt
-        lower Scan less = tt
-        lower Goal less = tt
-        lower Infeasible less = tt
-        lower Base less = tt
-        lower Edit less = tt
-        lower Pair less = tt
-        lower Totals less = tt
+    wrong_derive_size has_derive never =
+        wrong_where (DeriveLine rules) refl form Size never (λ less. has_derive) (λ less. absurd (omega arith)) (λ less. tt) (λ less. tt) (λ less. tt) (λ less. tt) (λ less. tt) (λ less. tt) (λ less. tt) (λ less. tt)
 
   module _ (names : List (List ℕ)) (form : Has c Form lines (TokensLine names)) where
     pub right_tokens : Has c Yield lines (TokensLine names) → IsRight c lines (TokensLine names)
-    right_tokens has_yield Form = form
-    right_tokens has_yield Head = λ h. absurd (behind (TokensLine names) refl h)
-    right_tokens has_yield Unclosed = λ h. absurd (behind (TokensLine names) refl h)
-    right_tokens has_yield Derive = tt
-    right_tokens has_yield Size = tt
-    right_tokens has_yield Yield = has_yield
-    right_tokens has_yield Scan = tt
-    right_tokens has_yield Goal = tt
-    right_tokens has_yield Infeasible = tt
-    right_tokens has_yield Base = tt
-    right_tokens has_yield Edit = tt
-    right_tokens has_yield Pair = tt
-    right_tokens has_yield Totals = tt
+    right_tokens has_yield = right_where (TokensLine names) refl form tt tt has_yield tt tt tt tt tt tt tt
 
     pub wrong_tokens_yield : (Has c Yield lines (TokensLine names) → ⊥) → IsWrong c lines (TokensLine names) Yield
-    wrong_tokens_yield never = record { wrong = never; lower = lower }
-      where
-        lower : (g : ClaimFault) → number g < number Yield → Has c g lines (TokensLine names)
-        lower Form less = form
-        lower Head less = λ h. absurd (behind (TokensLine names) refl h)
-        lower Unclosed less = λ h. absurd (behind (TokensLine names) refl h)
-        lower Derive less = tt
-        lower Size less = tt
-        lower Yield less = absurd (omega arith)
-        lower Scan less = tt
-        lower Goal less = tt
-        lower Infeasible less = tt
-        lower Base less = tt
-        lower Edit less = tt
-        lower Pair less = tt
-        lower Totals less = tt
+    wrong_tokens_yield never =
+        wrong_where (TokensLine names) refl form Yield never (λ less. tt) (λ less. tt) (λ less. absurd (omega arith)) (λ less. tt) (λ less. tt) (λ less. tt) (λ less. tt) (λ less. tt) (λ less. tt) (λ less. tt)
 
   module _ (text : List ℕ) (form : Has c Form lines (TextLine text)) where
     pub right_text : Has c Scan lines (TextLine text) → IsRight c lines (TextLine text)
-    right_text has_scan Form = form
-    right_text has_scan Head = λ h. absurd (behind (TextLine text) refl h)
-    right_text has_scan Unclosed = λ h. absurd (behind (TextLine text) refl h)
-    right_text has_scan Derive = tt
-    right_text has_scan Size = tt
-    right_text has_scan Yield = tt
-    right_text has_scan Scan = has_scan
-    right_text has_scan Goal = tt
-    right_text has_scan Infeasible = tt
-    right_text has_scan Base = tt
-    right_text has_scan Edit = tt
-    right_text has_scan Pair = tt
-    right_text has_scan Totals = tt
+    right_text has_scan = right_where (TextLine text) refl form tt tt tt has_scan tt tt tt tt tt tt
 
     pub wrong_text_scan : (Has c Scan lines (TextLine text) → ⊥) → IsWrong c lines (TextLine text) Scan
-    wrong_text_scan never = record { wrong = never; lower = lower }
-      where
-        lower : (g : ClaimFault) → number g < number Scan → Has c g lines (TextLine text)
-        lower Form less = form
-        lower Head less = λ h. absurd (behind (TextLine text) refl h)
-        lower Unclosed less = λ h. absurd (behind (TextLine text) refl h)
-        lower Derive less = tt
-        lower Size less = tt
-        lower Yield less = tt
-        lower Scan less = absurd (omega arith)
-        lower Goal less = tt
-        lower Infeasible less = tt
-        lower Base less = tt
-        lower Edit less = tt
-        lower Pair less = tt
-        lower Totals less = tt
+    wrong_text_scan never =
+        wrong_where (TextLine text) refl form Scan never (λ less. tt) (λ less. tt) (λ less. tt) (λ less. absurd (omega arith)) (λ less. tt) (λ less. tt) (λ less. tt) (λ less. tt) (λ less. tt) (λ less. tt)
 
   module _ (name : List ℕ) (form : Has c Form lines (NoLexemeLine name)) where
     pub right_no_lexeme : IsRight c lines (NoLexemeLine name)
-    right_no_lexeme Form = form
-    right_no_lexeme Head = λ h. absurd (behind (NoLexemeLine name) refl h)
-    right_no_lexeme Unclosed = λ h. absurd (behind (NoLexemeLine name) refl h)
-    right_no_lexeme Derive = tt
-    right_no_lexeme Size = tt
-    right_no_lexeme Yield = tt
-    right_no_lexeme Scan = tt
-    right_no_lexeme Goal = tt
-    right_no_lexeme Infeasible = tt
-    right_no_lexeme Base = tt
-    right_no_lexeme Edit = tt
-    right_no_lexeme Pair = tt
-    right_no_lexeme Totals = tt
+    right_no_lexeme = right_where (NoLexemeLine name) refl form tt tt tt tt tt tt tt tt tt tt
 
   module _ (after : ℕ) (form : Has c Form lines (NoScanLine after)) where
     pub right_no_scan : IsRight c lines (NoScanLine after)
-    right_no_scan Form = form
-    right_no_scan Head = λ h. absurd (behind (NoScanLine after) refl h)
-    right_no_scan Unclosed = λ h. absurd (behind (NoScanLine after) refl h)
-    right_no_scan Derive = tt
-    right_no_scan Size = tt
-    right_no_scan Yield = tt
-    right_no_scan Scan = tt
-    right_no_scan Goal = tt
-    right_no_scan Infeasible = tt
-    right_no_scan Base = tt
-    right_no_scan Edit = tt
-    right_no_scan Pair = tt
-    right_no_scan Totals = tt
+    right_no_scan = right_where (NoScanLine after) refl form tt tt tt tt tt tt tt tt tt tt
 
   module _ (n : ℕ) (words : GoalWords) (verdict : VerdictWords) (form : Has c Form lines (GoalLine n words verdict)) where
     pub right_goal : Has c Goal lines (GoalLine n words verdict) → Has c Infeasible lines (GoalLine n words verdict) → IsRight c lines (GoalLine n words verdict)
-    right_goal has_goal has_infeasible Form = form
-    right_goal has_goal has_infeasible Head = λ h. absurd (behind (GoalLine n words verdict) refl h)
-    right_goal has_goal has_infeasible Unclosed = λ h. absurd (behind (GoalLine n words verdict) refl h)
-    right_goal has_goal has_infeasible Derive = tt
-    right_goal has_goal has_infeasible Size = tt
-    right_goal has_goal has_infeasible Yield = tt
-    right_goal has_goal has_infeasible Scan = tt
-    right_goal has_goal has_infeasible Goal = has_goal
-    right_goal has_goal has_infeasible Infeasible = has_infeasible
-    right_goal has_goal has_infeasible Base = tt
-    right_goal has_goal has_infeasible Edit = tt
-    right_goal has_goal has_infeasible Pair = tt
-    right_goal has_goal has_infeasible Totals = tt
+    right_goal has_goal has_infeasible = right_where (GoalLine n words verdict) refl form tt tt tt tt has_goal has_infeasible tt tt tt tt
 
     pub wrong_goal_goal : (Has c Goal lines (GoalLine n words verdict) → ⊥) → IsWrong c lines (GoalLine n words verdict) Goal
-    wrong_goal_goal never = record { wrong = never; lower = lower }
-      where
-        lower : (g : ClaimFault) → number g < number Goal → Has c g lines (GoalLine n words verdict)
-        lower Form less = form
-        lower Head less = λ h. absurd (behind (GoalLine n words verdict) refl h)
-        lower Unclosed less = λ h. absurd (behind (GoalLine n words verdict) refl h)
-        lower Derive less = tt
-        lower Size less = tt
-        lower Yield less = tt
-        lower Scan less = tt
-        lower Goal less = absurd (omega arith)
-        lower Infeasible less = absurd (omega arith)
-        lower Base less = tt
-        lower Edit less = tt
-        lower Pair less = tt
-        lower Totals less = tt
+    wrong_goal_goal never =
+        wrong_where (GoalLine n words verdict) refl form Goal never (λ less. tt) (λ less. tt) (λ less. tt) (λ less. tt) (λ less. absurd (omega arith)) (λ less. absurd (omega arith)) (λ less. tt) (λ less. tt) (λ less. tt) (λ less. tt)
 
     pub wrong_goal_infeasible : Has c Goal lines (GoalLine n words verdict) → (Has c Infeasible lines (GoalLine n words verdict) → ⊥) → IsWrong c lines (GoalLine n words verdict) Infeasible
-    wrong_goal_infeasible has_goal never = record { wrong = never; lower = lower }
-      where
-        lower : (g : ClaimFault) → number g < number Infeasible → Has c g lines (GoalLine n words verdict)
-        lower Form less = form
-        lower Head less = λ h. absurd (behind (GoalLine n words verdict) refl h)
-        lower Unclosed less = λ h. absurd (behind (GoalLine n words verdict) refl h)
-        lower Derive less = tt
-        lower Size less = tt
-        lower Yield less = tt
-        lower Scan less = tt
-        lower Goal less = has_goal
-        lower Infeasible less = absurd (omega arith)
-        lower Base less = tt
-        lower Edit less = tt
-        lower Pair less = tt
-        lower Totals less = tt
+    wrong_goal_infeasible has_goal never =
+        wrong_where (GoalLine n words verdict) refl form Infeasible never (λ less. tt) (λ less. tt) (λ less. tt) (λ less. tt) (λ less. has_goal) (λ less. absurd (omega arith)) (λ less. tt) (λ less. tt) (λ less. tt) (λ less. tt)
 
   module _ (n goal : ℕ) (form : Has c Form lines (BaseLine n goal)) where
     pub right_base : Has c Goal lines (BaseLine n goal) → Has c Base lines (BaseLine n goal) → IsRight c lines (BaseLine n goal)
-    right_base has_goal has_base Form = form
-    right_base has_goal has_base Head = λ h. absurd (behind (BaseLine n goal) refl h)
-    right_base has_goal has_base Unclosed = λ h. absurd (behind (BaseLine n goal) refl h)
-    right_base has_goal has_base Derive = tt
-    right_base has_goal has_base Size = tt
-    right_base has_goal has_base Yield = tt
-    right_base has_goal has_base Scan = tt
-    right_base has_goal has_base Goal = has_goal
-    right_base has_goal has_base Infeasible = tt
-    right_base has_goal has_base Base = has_base
-    right_base has_goal has_base Edit = tt
-    right_base has_goal has_base Pair = tt
-    right_base has_goal has_base Totals = tt
+    right_base has_goal has_base = right_where (BaseLine n goal) refl form tt tt tt tt has_goal tt has_base tt tt tt
 
     pub wrong_base_goal : (Has c Goal lines (BaseLine n goal) → ⊥) → IsWrong c lines (BaseLine n goal) Goal
-    wrong_base_goal never = record { wrong = never; lower = lower }
-      where
-        lower : (g : ClaimFault) → number g < number Goal → Has c g lines (BaseLine n goal)
-        lower Form less = form
-        lower Head less = λ h. absurd (behind (BaseLine n goal) refl h)
-        lower Unclosed less = λ h. absurd (behind (BaseLine n goal) refl h)
-        lower Derive less = tt
-        lower Size less = tt
-        lower Yield less = tt
-        lower Scan less = tt
-        lower Goal less = absurd (omega arith)
-        lower Infeasible less = tt
-        lower Base less = absurd (omega arith)
-        lower Edit less = tt
-        lower Pair less = tt
-        lower Totals less = tt
+    wrong_base_goal never =
+        wrong_where (BaseLine n goal) refl form Goal never (λ less. tt) (λ less. tt) (λ less. tt) (λ less. tt) (λ less. absurd (omega arith)) (λ less. tt) (λ less. absurd (omega arith)) (λ less. tt) (λ less. tt) (λ less. tt)
 
     pub wrong_base_base : Has c Goal lines (BaseLine n goal) → (Has c Base lines (BaseLine n goal) → ⊥) → IsWrong c lines (BaseLine n goal) Base
-    wrong_base_base has_goal never = record { wrong = never; lower = lower }
-      where
-        lower : (g : ClaimFault) → number g < number Base → Has c g lines (BaseLine n goal)
-        lower Form less = form
-        lower Head less = λ h. absurd (behind (BaseLine n goal) refl h)
-        lower Unclosed less = λ h. absurd (behind (BaseLine n goal) refl h)
-        lower Derive less = tt
-        lower Size less = tt
-        lower Yield less = tt
-        lower Scan less = tt
-        lower Goal less = has_goal
-        lower Infeasible less = tt
-        lower Base less = absurd (omega arith)
-        lower Edit less = tt
-        lower Pair less = tt
-        lower Totals less = tt
+    wrong_base_base has_goal never =
+        wrong_where (BaseLine n goal) refl form Base never (λ less. tt) (λ less. tt) (λ less. tt) (λ less. tt) (λ less. has_goal) (λ less. tt) (λ less. absurd (omega arith)) (λ less. tt) (λ less. tt) (λ less. tt)
 
   module _ (n base : ℕ) (edit : EditWords) (left right : List ℕ) (at : ℕ) (form : Has c Form lines (NegativeLine n base edit left right at)) where
     pub right_negative : Has c Base lines (NegativeLine n base edit left right at) → Has c Edit lines (NegativeLine n base edit left right at) → Has c Pair lines (NegativeLine n base edit left right at) → IsRight c lines (NegativeLine n base edit left right at)
-    right_negative has_base has_edit has_pair Form = form
-    right_negative has_base has_edit has_pair Head = λ h. absurd (behind (NegativeLine n base edit left right at) refl h)
-    right_negative has_base has_edit has_pair Unclosed = λ h. absurd (behind (NegativeLine n base edit left right at) refl h)
-    right_negative has_base has_edit has_pair Derive = tt
-    right_negative has_base has_edit has_pair Size = tt
-    right_negative has_base has_edit has_pair Yield = tt
-    right_negative has_base has_edit has_pair Scan = tt
-    right_negative has_base has_edit has_pair Goal = tt
-    right_negative has_base has_edit has_pair Infeasible = tt
-    right_negative has_base has_edit has_pair Base = has_base
-    right_negative has_base has_edit has_pair Edit = has_edit
-    right_negative has_base has_edit has_pair Pair = has_pair
-    right_negative has_base has_edit has_pair Totals = tt
+    right_negative has_base has_edit has_pair = right_where (NegativeLine n base edit left right at) refl form tt tt tt tt tt tt has_base has_edit has_pair tt
 
     pub wrong_negative_base : (Has c Base lines (NegativeLine n base edit left right at) → ⊥) → IsWrong c lines (NegativeLine n base edit left right at) Base
-    wrong_negative_base never = record { wrong = never; lower = lower }
-      where
-        lower : (g : ClaimFault) → number g < number Base → Has c g lines (NegativeLine n base edit left right at)
-        lower Form less = form
-        lower Head less = λ h. absurd (behind (NegativeLine n base edit left right at) refl h)
-        lower Unclosed less = λ h. absurd (behind (NegativeLine n base edit left right at) refl h)
-        lower Derive less = tt
-        lower Size less = tt
-        lower Yield less = tt
-        lower Scan less = tt
-        lower Goal less = tt
-        lower Infeasible less = tt
-        lower Base less = absurd (omega arith)
-        lower Edit less = absurd (omega arith)
-        lower Pair less = absurd (omega arith)
-        lower Totals less = tt
+    wrong_negative_base never =
+        wrong_where (NegativeLine n base edit left right at) refl form Base never (λ less. tt) (λ less. tt) (λ less. tt) (λ less. tt) (λ less. tt) (λ less. tt) (λ less. absurd (omega arith)) (λ less. absurd (omega arith)) (λ less. absurd (omega arith)) (λ less. tt)
 
     pub wrong_negative_edit : Has c Base lines (NegativeLine n base edit left right at) → (Has c Edit lines (NegativeLine n base edit left right at) → ⊥) → IsWrong c lines (NegativeLine n base edit left right at) Edit
-    wrong_negative_edit has_base never = record { wrong = never; lower = lower }
-      where
-        lower : (g : ClaimFault) → number g < number Edit → Has c g lines (NegativeLine n base edit left right at)
-        lower Form less = form
-        lower Head less = λ h. absurd (behind (NegativeLine n base edit left right at) refl h)
-        lower Unclosed less = λ h. absurd (behind (NegativeLine n base edit left right at) refl h)
-        lower Derive less = tt
-        lower Size less = tt
-        lower Yield less = tt
-        lower Scan less = tt
-        lower Goal less = tt
-        lower Infeasible less = tt
-        lower Base less = has_base
-        lower Edit less = absurd (omega arith)
-        lower Pair less = absurd (omega arith)
-        lower Totals less = tt
+    wrong_negative_edit has_base never =
+        wrong_where (NegativeLine n base edit left right at) refl form Edit never (λ less. tt) (λ less. tt) (λ less. tt) (λ less. tt) (λ less. tt) (λ less. tt) (λ less. has_base) (λ less. absurd (omega arith)) (λ less. absurd (omega arith)) (λ less. tt)
 
     pub wrong_negative_pair : Has c Base lines (NegativeLine n base edit left right at) → Has c Edit lines (NegativeLine n base edit left right at) → (Has c Pair lines (NegativeLine n base edit left right at) → ⊥) → IsWrong c lines (NegativeLine n base edit left right at) Pair
-    wrong_negative_pair has_base has_edit never = record { wrong = never; lower = lower }
-      where
-        lower : (g : ClaimFault) → number g < number Pair → Has c g lines (NegativeLine n base edit left right at)
-        lower Form less = form
-        lower Head less = λ h. absurd (behind (NegativeLine n base edit left right at) refl h)
-        lower Unclosed less = λ h. absurd (behind (NegativeLine n base edit left right at) refl h)
-        lower Derive less = tt
-        lower Size less = tt
-        lower Yield less = tt
-        lower Scan less = tt
-        lower Goal less = tt
-        lower Infeasible less = tt
-        lower Base less = has_base
-        lower Edit less = has_edit
-        lower Pair less = absurd (omega arith)
-        lower Totals less = tt
+    wrong_negative_pair has_base has_edit never =
+        wrong_where (NegativeLine n base edit left right at) refl form Pair never (λ less. tt) (λ less. tt) (λ less. tt) (λ less. tt) (λ less. tt) (λ less. tt) (λ less. has_base) (λ less. has_edit) (λ less. absurd (omega arith)) (λ less. tt)
 
   module _ (counts : Counts) (form : Has c Form lines (EndLine counts)) where
     pub right_end : Has c Goal lines (EndLine counts) → Has c Totals lines (EndLine counts) → IsRight c lines (EndLine counts)
-    right_end has_goal has_totals Form = form
-    right_end has_goal has_totals Head = λ h. absurd (behind (EndLine counts) refl h)
-    right_end has_goal has_totals Unclosed = λ h. absurd (behind (EndLine counts) refl h)
-    right_end has_goal has_totals Derive = tt
-    right_end has_goal has_totals Size = tt
-    right_end has_goal has_totals Yield = tt
-    right_end has_goal has_totals Scan = tt
-    right_end has_goal has_totals Goal = has_goal
-    right_end has_goal has_totals Infeasible = tt
-    right_end has_goal has_totals Base = tt
-    right_end has_goal has_totals Edit = tt
-    right_end has_goal has_totals Pair = tt
-    right_end has_goal has_totals Totals = has_totals
+    right_end has_goal has_totals = right_where (EndLine counts) refl form tt tt tt tt has_goal tt tt tt tt has_totals
 
     pub wrong_end_goal : (Has c Goal lines (EndLine counts) → ⊥) → IsWrong c lines (EndLine counts) Goal
-    wrong_end_goal never = record { wrong = never; lower = lower }
-      where
-        lower : (g : ClaimFault) → number g < number Goal → Has c g lines (EndLine counts)
-        lower Form less = form
-        lower Head less = λ h. absurd (behind (EndLine counts) refl h)
-        lower Unclosed less = λ h. absurd (behind (EndLine counts) refl h)
-        lower Derive less = tt
-        lower Size less = tt
-        lower Yield less = tt
-        lower Scan less = tt
-        lower Goal less = absurd (omega arith)
-        lower Infeasible less = tt
-        lower Base less = tt
-        lower Edit less = tt
-        lower Pair less = tt
-        lower Totals less = absurd (omega arith)
+    wrong_end_goal never =
+        wrong_where (EndLine counts) refl form Goal never (λ less. tt) (λ less. tt) (λ less. tt) (λ less. tt) (λ less. absurd (omega arith)) (λ less. tt) (λ less. tt) (λ less. tt) (λ less. tt) (λ less. absurd (omega arith))
 
     pub wrong_end_totals : Has c Goal lines (EndLine counts) → (Has c Totals lines (EndLine counts) → ⊥) → IsWrong c lines (EndLine counts) Totals
-    wrong_end_totals has_goal never = record { wrong = never; lower = lower }
-      where
-        lower : (g : ClaimFault) → number g < number Totals → Has c g lines (EndLine counts)
-        lower Form less = form
-        lower Head less = λ h. absurd (behind (EndLine counts) refl h)
-        lower Unclosed less = λ h. absurd (behind (EndLine counts) refl h)
-        lower Derive less = tt
-        lower Size less = tt
-        lower Yield less = tt
-        lower Scan less = tt
-        lower Goal less = has_goal
-        lower Infeasible less = tt
-        lower Base less = tt
-        lower Edit less = tt
-        lower Pair less = tt
-        lower Totals less = absurd (omega arith)
+    wrong_end_totals has_goal never =
+        wrong_where (EndLine counts) refl form Totals never (λ less. tt) (λ less. tt) (λ less. tt) (λ less. tt) (λ less. has_goal) (λ less. tt) (λ less. tt) (λ less. tt) (λ less. tt) (λ less. absurd (omega arith))

@@ -1,6 +1,6 @@
 -- Base lines and negative lines.
 use Rattle.std.proofs.Common.{◌≡◌, ℕ, zero, suc, ◌+◌, ◌-◌, ◌<◌, ◌≤◌, false, List, [], ◌∷◌, ◌++◌, Option, Some, None, length, refl, sym, ap, ◌∙◌, subst, arith}
-use Rattle.std.specs.Prelude.{IfSome, count_by, slice_get}
+use Rattle.std.specs.Prelude.{IfSome, slice_get}
 use Rattle.std.specs.Global.{Vec}
 use Rattle.std.specs.List.{AllZip, Contains}
 use Rattle.std.specs.Option.{option_map}
@@ -15,10 +15,11 @@ use Rattle.cs_grammar.specs.declared.symbol.Symbol.{Symbol}
 use Rattle.cs_goals.specs.declared.goal.Goal.{Goal}
 use Rattle.cs_yacc.specs.Reading.File.{File}
 use Rattle.cs_lines.specs.Words.Edits.{EditWords, IsEdited, FitsList}
+use Rattle.cs_lines.specs.declared.lines.line.Counts as held
 use Rattle.cs_lines.specs.Lines.Line.{GoalWords, VerdictWords, Feasible, Infeasible, Large, Line, BaseLine, NegativeLine}
 use Rattle.cs_check.specs.declared.checking.entries.Entries.{Entries}
-use Rattle.cs_check.specs.Passing.Above.{size_in, derivation_in, goal_in, verdict_in, base_in, edit_in, case_sizes, derivations, verdicts, base_goals, edits, is_feasible, is_infeasible, is_large}
-use Rattle.cs_check.specs.Passing.Places.{Part, InHead, OfCase, OfDerivation, OfCaseTokens, OfCaseText, OfGoal, OfBase, OfNegative, OfNegativeTokens, OfNegativeText, OfEnd, last_part, next_parts}
+use Rattle.cs_check.specs.Passing.Above.{size_in, derivation_in, goal_in, verdict_in, base_in, edit_in, case_sizes, derivations, verdicts, base_goals, edits}
+use Rattle.cs_check.specs.Passing.Places.{Part, InHead, OfCase, OfDerivation, OfCaseTokens, OfCaseText, OfGoal, OfBase, OfNegative, OfNegativeTokens, OfNegativeText, OfEnd, part_of, last_part, next_parts}
 use Rattle.cs_check.specs.Passing.Entries.{IsNumbered, IsLast, HasCase, IsBase, IsMade, IsKeptApart}
 use Rattle.cs_check.specs.Passing.DueGoals.{KnowsGoals}
 use Rattle.cs_check.specs.Passing.Faults.{HasCases}
@@ -26,7 +27,7 @@ use Rattle.cs_check.specs.Checking.Cases.{PlainCase, IsPlaceOf}
 use Rattle.cs_check.specs.Checking.Edits.{IsEditedIf}
 use Rattle.cs_check.specs.Checking.Told.{rules_of, AreSized, IsCaseOf, HasTold, HasBase, AreEntries}
 use Rattle.cs_check.specs.Checking.Negatives.{IsCasePlace}
-use Rattle.cs_check.proofs.OnChecking.Told.{kept, added, last_part_more, among_true, base_kept, plain_sizes}
+use Rattle.cs_check.proofs.OnChecking.Told.{kept, added, counts_with, last_part_more, among_true, base_kept, plain_sizes}
 use Rattle.cs_check.proofs.OnChecking.Once.{last_push, one_base, one_made}
 
 -- ---- the case of a goal
@@ -93,6 +94,36 @@ case_within file lines e t (Feasible size case first) goal number has is =
 case_within file lines e t Infeasible goal number has is = omega arith
 case_within file lines e t Large goal number has is = omega arith
 
+-- ---- a line that tells nothing of cases and goals
+
+module _ (file : File) (lines : List Line) (e : Entries) (t : AreEntries file lines e) (few : length lines + 1 < 4294967296) (l : Line) where
+  entries_with : derivation_in l ≡ None → verdict_in l ≡ None → goal_in l ≡ None → size_in l ≡ None → (tokens base : Vec ℕ) (bases : ℕ) (counts : held.Counts) → AreSized (part_of (last_part lines) l) (case_sizes lines) e.cases.list e.size → HasTold file (lines ++ l ∷ []) (part_of (last_part lines) l) tokens.items → bases ≡ length (base_goals (lines ++ l ∷ [])) → HasBase file.grammar (lines ++ l ∷ []) (part_of (last_part lines) l) base.items → counts.negatives ≡ length (edits (lines ++ l ∷ [])) → counts.goals ≡ e.counts.goals → counts.feasible ≡ e.counts.feasible → counts.infeasible ≡ e.counts.infeasible → counts.large ≡ e.counts.large → counts.cases ≡ e.counts.cases → AreEntries file (lines ++ l ∷ []) (record e { tokens = tokens; base = base; bases = bases; counts = counts })
+  entries_with no_rules no_verdict no_goal no_size tokens base bases counts sized told many based negatives goals feasible infeasible large cases =
+      let lines' = lines ++ l ∷ [] in
+      let long = length-append lines (l ∷ []) in
+      let verdicts_same = kept verdict_in lines l no_verdict in
+      let goals_same = kept goal_in lines l no_goal in
+      let sizes_same = kept size_in lines l no_size in
+      let part = last_part_more lines l in
+      record {
+        few = omega arith;
+        grammar = t.grammar;
+        rules = t.rules ∙ sym (kept derivation_in lines l no_rules);
+        sizes =
+            subst (λ (p : Part). AreSized p (case_sizes lines') e.cases.list e.size) (sym part)
+            (subst (λ (s : List ℕ). AreSized (part_of (last_part lines) l) s e.cases.list e.size) (sym sizes_same) sized);
+        small = t.small;
+        verdicts = subst (λ (v : List VerdictWords). AllZip IsCaseOf v e.goal_cases.items) (sym verdicts_same) t.verdicts;
+        shown = t.shown;
+        due = subst (λ (x : List GoalWords). KnowsGoals file.grammar x e.due) (sym goals_same) t.due;
+        told = subst (λ (p : Part). HasTold file lines' p tokens.items) (sym part) told;
+        bases = many;
+        base = subst (λ (p : Part). HasBase file.grammar lines' p base.items) (sym part) based;
+        counts =
+            counts_with lines lines' e.counts t.counts goals_same verdicts_same counts goals feasible infeasible large negatives
+            (cases ∙ t.counts.cases ∙ sym (ap (λ (x : List ℕ). length x) sizes_same));
+      }
+
 -- ---- a base line
 
 module _ (p : Part) where
@@ -134,42 +165,17 @@ module _ (file : File) (lines : List Line) (e : Entries) (t : AreEntries file li
     base_taken k follows count =
         let l : Line = BaseLine n goal in
         let lines' = lines ++ l ∷ [] in
-        let long = length-append lines (l ∷ []) in
         let rules_same = kept derivation_in lines l refl in
         let verdicts_same = kept verdict_in lines l refl in
-        let goals_same = kept goal_in lines l refl in
         let bases_more = added base_in lines l goal refl in
         let edits_same = kept edit_in lines l refl in
-        let sizes_same = kept size_in lines l refl in
-        let part = last_part_more lines l in
-        record {
-          few = omega arith;
-          grammar = t.grammar;
-          rules = t.rules ∙ sym rules_same;
-          sizes =
-              subst (λ (p : Part). AreSized p (case_sizes lines') e.cases.list e.size) (sym part)
-              (sizes_same ∙ plain_sizes (last_part lines) (case_sizes lines) e.cases.list e.size
-              (no_case_before (last_part lines) OfBase follows base_behind_case) t.sizes);
-          small = t.small;
-          verdicts = subst (λ (v : List VerdictWords). AllZip IsCaseOf v e.goal_cases.items) (sym verdicts_same) t.verdicts;
-          shown = t.shown;
-          due = subst (λ (x : List GoalWords). KnowsGoals file.grammar x e.due) (sym goals_same) t.due;
-          told = subst (λ (p : Part). HasTold file lines' p e.tokens.items) (sym part) tt;
-          bases =
-              count ∙ ap (λ (i : ℕ). i + 1) t.bases
-              ∙ sym (ap (λ (x : List ℕ). length x) bases_more ∙ length_push (base_goals lines) goal);
-          base =
-              subst (λ (p : Part). HasBase file.grammar lines' p tokens.items) (sym part)
-              (based lines' rules_same verdicts_same bases_more);
-          counts = record {
-            goals = t.counts.goals ∙ sym (ap (λ (x : List GoalWords). length x) goals_same);
-            feasible = t.counts.feasible ∙ sym (ap (λ (x : List VerdictWords). count_by is_feasible x) verdicts_same);
-            infeasible = t.counts.infeasible ∙ sym (ap (λ (x : List VerdictWords). count_by is_infeasible x) verdicts_same);
-            large = t.counts.large ∙ sym (ap (λ (x : List VerdictWords). count_by is_large x) verdicts_same);
-            negatives = t.counts.negatives ∙ sym (ap (λ (x : List EditWords). length x) edits_same);
-            cases = t.counts.cases ∙ sym (ap (λ (x : List ℕ). length x) sizes_same);
-          };
-        }
+        entries_with file lines e t few l refl refl refl refl e.tokens tokens k e.counts
+        (plain_sizes (last_part lines) (case_sizes lines) e.cases.list e.size (no_case_before (last_part lines) OfBase follows base_behind_case) t.sizes)
+        tt
+        (count ∙ ap (λ (i : ℕ). i + 1) t.bases ∙ sym (ap (λ (x : List ℕ). length x) bases_more ∙ length_push (base_goals lines) goal))
+        (based lines' rules_same verdicts_same bases_more)
+        (t.counts.negatives ∙ sym (ap (λ (x : List EditWords). length x) edits_same))
+        refl refl refl refl refl
 
   -- ---- a negative line
 
@@ -195,46 +201,16 @@ module _ (file : File) (lines : List Line) (e : Entries) (t : AreEntries file li
     negative_taken n base at k edit left right tokens edited count =
         let l : Line = NegativeLine n base edit left right at in
         let lines' = lines ++ l ∷ [] in
-        let long = length-append lines (l ∷ []) in
-        let rules_same = kept derivation_in lines l refl in
-        let verdicts_same = kept verdict_in lines l refl in
-        let goals_same = kept goal_in lines l refl in
         let bases_same = kept base_in lines l refl in
         let edits_more = added edit_in lines l edit refl in
-        let sizes_same = kept size_in lines l refl in
-        let part = last_part_more lines l in
-        let base_then = base_kept file lines lines' rules_same verdicts_same bases_same e.base.items base_known in
-        record {
-          few = omega arith;
-          grammar = t.grammar;
-          rules = t.rules ∙ sym rules_same;
-          sizes =
-              subst (λ (p : Part). AreSized p (case_sizes lines') e.cases.list e.size) (sym part)
-              (sizes_same ∙ plain_sizes (last_part lines) (case_sizes lines) e.cases.list e.size
-              (no_case_before (last_part lines) OfNegative follows negative_behind_case) t.sizes);
-          small = t.small;
-          verdicts = subst (λ (v : List VerdictWords). AllZip IsCaseOf v e.goal_cases.items) (sym verdicts_same) t.verdicts;
-          shown = t.shown;
-          due = subst (λ (x : List GoalWords). KnowsGoals file.grammar x e.due) (sym goals_same) t.due;
-          told =
-              subst (λ (p : Part). HasTold file lines' p tokens.items) (sym part) (
-                edit,
-                subst (λ (x : List EditWords). IsLast x edit) (sym edits_more) (last_push (edits lines) edit),
-                (e.base.items, base_then, edited),
-              );
-          bases = t.bases ∙ sym (ap (λ (x : List ℕ). length x) bases_same);
-          base = subst (λ (p : Part). HasBase file.grammar lines' p e.base.items) (sym part) base_then;
-          counts = record {
-            goals = t.counts.goals ∙ sym (ap (λ (x : List GoalWords). length x) goals_same);
-            feasible = t.counts.feasible ∙ sym (ap (λ (x : List VerdictWords). count_by is_feasible x) verdicts_same);
-            infeasible = t.counts.infeasible ∙ sym (ap (λ (x : List VerdictWords). count_by is_infeasible x) verdicts_same);
-            large = t.counts.large ∙ sym (ap (λ (x : List VerdictWords). count_by is_large x) verdicts_same);
-            negatives =
-                count ∙ ap (λ (i : ℕ). i + 1) t.counts.negatives
-                ∙ sym (ap (λ (x : List EditWords). length x) edits_more ∙ length_push (edits lines) edit);
-            cases = t.counts.cases ∙ sym (ap (λ (x : List ℕ). length x) sizes_same);
-          };
-        }
+        let base_then = base_kept file lines lines' (kept derivation_in lines l refl) (kept verdict_in lines l refl) bases_same e.base.items base_known in
+        entries_with file lines e t few l refl refl refl refl tokens e.base e.bases (record e.counts { negatives = k })
+        (plain_sizes (last_part lines) (case_sizes lines) e.cases.list e.size (no_case_before (last_part lines) OfNegative follows negative_behind_case) t.sizes)
+        (edit, subst (λ (x : List EditWords). IsLast x edit) (sym edits_more) (last_push (edits lines) edit), (e.base.items, base_then, edited))
+        (t.bases ∙ sym (ap (λ (x : List ℕ). length x) bases_same))
+        base_then
+        (count ∙ ap (λ (i : ℕ). i + 1) t.counts.negatives ∙ sym (ap (λ (x : List EditWords). length x) edits_more ∙ length_push (edits lines) edit))
+        refl refl refl refl refl
 
     module _ (one : (x : Symbol) (t : Tree) → IsTree file.grammar x t → IsPrefixFree file.grammar x t) (edit : EditWords) (tokens : List ℕ) where
       -- what doesn't fit the last base doesn't fit

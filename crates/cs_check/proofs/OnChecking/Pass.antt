@@ -130,34 +130,36 @@ line_here text from low =
 
 module _ (c : Checked) (text : List ℕ) (short : length text ≤ 67108864) (from next : ℕ) (a : Above) (h : IsPassed c text from next a) where
   module _ (low : from < length text) where
-    pub few_above : length h.read.lines + 1 < 4294967296
+    few_above : length h.read.lines + 1 < 4294967296
     few_above =
         let many = many_lines c text from h.many a h.read in
         let is = h.is_next in
         let few = h.low in
         omega arith
 
-    module _ (size : ℕ) (is_size : size ≡ line_size (drop from text)) (piece : List ℕ) (is_piece : piece ≡ take size (drop from text)) (new : Above) where
+    module _ (size : ℕ) (is_size : size ≡ line_size (drop from text)) (bytes : List ℕ) (is_bytes : bytes ≡ drop from text) (new : Above) (told : Option ClaimFault)
+        (judged : (lines : List Line) → KnowsAbove c.file lines a → length lines + 1 < 4294967296 → IsPieceJudged c lines (take size bytes) new told) where
       front : IsLine (drop from text) size
       front = subst (λ (n : ℕ). IsLine (drop from text) n) (sym is_size) (line_here text from low)
 
-      pub passed_more : HasWholeSets c.file.grammar new.head → IsPieceJudged c h.read.lines piece new None → IsPassed c text (from + size) (next + 1) new
-      passed_more whole j = record {
+      judged_here : (f : Option ClaimFault) → told ≡ f → IsPieceJudged c h.read.lines (take size (drop from text)) new f
+      judged_here f is =
+          subst (λ (g : Option ClaimFault). IsPieceJudged c h.read.lines (take size (drop from text)) new g) is
+          (subst (λ (b : List ℕ). IsPieceJudged c h.read.lines (take size b) new told) is_bytes (judged h.read.lines h.read.knows few_above))
+
+      pub passed_more : told ≡ None → HasWholeSets c.file.grammar new.head → IsPassed c text (from + size) (next + 1) new
+      passed_more is whole = record {
         many = h.many + 1;
         is_next = (let is = h.is_next in omega arith);
         low = (let few = h.low in let some = front.above_zero in omega arith);
         within = (let most = front.within in let long = length-drop from text in omega arith);
-        read =
-            line_read c text from h.many a h.read size front new
-            (subst (λ (bytes : List ℕ). IsPieceJudged c h.read.lines bytes new None) is_piece j);
+        read = line_read c text from h.many a h.read size front new (judged_here None is);
         whole = whole;
       }
 
-      pub passed_fails : (f : ClaimFault) → IsPieceJudged c h.read.lines piece new (Some f) → Fails c text next f
-      passed_fails f j =
-          subst (λ (n : ℕ). Fails c text n f) (sym h.is_next)
-          (line_fails c text from h.many a h.read size front new f
-          (subst (λ (bytes : List ℕ). IsPieceJudged c h.read.lines bytes new (Some f)) is_piece j))
+      pub passed_fails : (f : ClaimFault) → told ≡ Some f → Fails c text next f
+      passed_fails f is =
+          subst (λ (n : ℕ). Fails c text n f) (sym h.is_next) (line_fails c text from h.many a h.read size front new f (judged_here (Some f) is))
 
   pub passed_end : length text ≤ from → (o : Outcome) → IsEndAnswer a next o → IsOutcome c text o
   passed_end past (Yes goals negatives) e = (

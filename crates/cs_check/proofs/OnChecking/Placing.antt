@@ -18,8 +18,8 @@ use Rattle.cs_check.specs.Checking.Judging.{IsRight, IsWrong}
 use Rattle.cs_check.specs.Checking.Told.{AreEntries}
 use Rattle.cs_check.specs.Checking.Head.{KnowsHead, HasEnded, IsHeadJudged}
 use Rattle.cs_check.specs.Checking.Running.{IsPast, KnowsPlace, KnowsAbove, MayFollow, IsEntryJudged, IsLineJudged}
-use Rattle.cs_check.proofs.OnChecking.Kinds.{is_head, taken_head}
-use Rattle.cs_check.proofs.OnChecking.Told.{last_part_more, among_true}
+use Rattle.cs_check.proofs.OnChecking.Kinds.{all_faults, is_head, taken_head, right_head}
+use Rattle.cs_check.proofs.OnChecking.Told.{last_part_more, never_inside}
 use Rattle.cs_check.proofs.OnChecking.Quiet.{IsQuiet, quiet_taken}
 use Rattle.cs_check.proofs.OnChecking.HeadEnd.{head_ended, ended_more, ended_past, not_in_head}
 
@@ -64,117 +64,31 @@ head_quiet (NegativeLine n base edit left right at) e = absurd (false≢true e)
 head_quiet (EndLine counts) e = absurd (false≢true e)
 
 module _ (c : Checked) (above : List Line) where
-  -- they have nothing to say of what stands behind it
-  head_has : (l : Line) → is_head l ≡ true → (f : ClaimFault) → 3 ≤ number f → Has c f above l
-  head_has Opening e faults.Form low = absurd (omega arith)
-  head_has Opening e faults.Head low = absurd (omega arith)
-  head_has Opening e faults.Unclosed low = absurd (omega arith)
-  head_has Opening e f low = tt
-  head_has (Weighing weigh) e faults.Form low = absurd (omega arith)
-  head_has (Weighing weigh) e faults.Head low = absurd (omega arith)
-  head_has (Weighing weigh) e faults.Unclosed low = absurd (omega arith)
-  head_has (Weighing weigh) e f low = tt
-  head_has (TokenLine n name) e faults.Form low = absurd (omega arith)
-  head_has (TokenLine n name) e faults.Head low = absurd (omega arith)
-  head_has (TokenLine n name) e faults.Unclosed low = absurd (omega arith)
-  head_has (TokenLine n name) e f low = tt
-  head_has (RuleLine n left right) e faults.Form low = absurd (omega arith)
-  head_has (RuleLine n left right) e faults.Head low = absurd (omega arith)
-  head_has (RuleLine n left right) e faults.Unclosed low = absurd (omega arith)
-  head_has (RuleLine n left right) e f low = tt
-  head_has (LexemeLine name text) e faults.Form low = absurd (omega arith)
-  head_has (LexemeLine name text) e faults.Head low = absurd (omega arith)
-  head_has (LexemeLine name text) e faults.Unclosed low = absurd (omega arith)
-  head_has (LexemeLine name text) e f low = tt
-  head_has (SetLine kind names) e faults.Form low = absurd (omega arith)
-  head_has (SetLine kind names) e faults.Head low = absurd (omega arith)
-  head_has (SetLine kind names) e faults.Unclosed low = absurd (omega arith)
-  head_has (SetLine kind names) e f low = tt
-  head_has (RowLine kind name names) e faults.Form low = absurd (omega arith)
-  head_has (RowLine kind name names) e faults.Head low = absurd (omega arith)
-  head_has (RowLine kind name names) e faults.Unclosed low = absurd (omega arith)
-  head_has (RowLine kind name names) e f low = tt
-  head_has (CaseLine n size) e f low = absurd (false≢true e)
-  head_has (DeriveLine rules) e f low = absurd (false≢true e)
-  head_has (TokensLine names) e f low = absurd (false≢true e)
-  head_has (TextLine text) e f low = absurd (false≢true e)
-  head_has (NoLexemeLine name) e f low = absurd (false≢true e)
-  head_has (NoScanLine after) e f low = absurd (false≢true e)
-  head_has (GoalLine n goal verdict) e f low = absurd (false≢true e)
-  head_has (BaseLine n goal) e f low = absurd (false≢true e)
-  head_has (NegativeLine n base edit left right at) e f low = absurd (false≢true e)
-  head_has (EndLine counts) e f low = absurd (false≢true e)
-
   module _ (l : Line) (inside : IsInHead c.file.grammar above l) where
-    right_head : HasHead c.file above l → HasClosed c.file above l → IsRight c above l
-    right_head head closed faults.Form = inl inside
-    right_head head closed faults.Head = head
-    right_head head closed faults.Unclosed = closed
-    right_head head closed faults.Derive = head_has l (taken_head inside.due l inside.takes) faults.Derive (omega arith)
-    right_head head closed faults.Size = head_has l (taken_head inside.due l inside.takes) faults.Size (omega arith)
-    right_head head closed faults.Yield = head_has l (taken_head inside.due l inside.takes) faults.Yield (omega arith)
-    right_head head closed faults.Scan = head_has l (taken_head inside.due l inside.takes) faults.Scan (omega arith)
-    right_head head closed faults.Goal = head_has l (taken_head inside.due l inside.takes) faults.Goal (omega arith)
-    right_head head closed faults.Infeasible = head_has l (taken_head inside.due l inside.takes) faults.Infeasible (omega arith)
-    right_head head closed faults.Base = head_has l (taken_head inside.due l inside.takes) faults.Base (omega arith)
-    right_head head closed faults.Edit = head_has l (taken_head inside.due l inside.takes) faults.Edit (omega arith)
-    right_head head closed faults.Pair = head_has l (taken_head inside.due l inside.takes) faults.Pair (omega arith)
-    right_head head closed faults.Totals = head_has l (taken_head inside.due l inside.takes) faults.Totals (omega arith)
+    right_inside : HasHead c.file above l → HasClosed c.file above l → IsRight c above l
+    right_inside head closed = right_head c above l (taken_head inside.due l inside.takes) (inl inside) head closed
 
     wrong_head : (HasHead c.file above l → ⊥) → IsWrong c above l faults.Head
-    wrong_head never = record { wrong = never; lower = lower }
-      where
-        lower : (g : ClaimFault) → number g < number faults.Head → Has c g above l
-        lower faults.Form less = inl inside
-        lower faults.Head less = absurd (omega arith)
-        lower faults.Unclosed less = absurd (omega arith)
-        lower faults.Derive less = absurd (omega arith)
-        lower faults.Size less = absurd (omega arith)
-        lower faults.Yield less = absurd (omega arith)
-        lower faults.Scan less = absurd (omega arith)
-        lower faults.Goal less = absurd (omega arith)
-        lower faults.Infeasible less = absurd (omega arith)
-        lower faults.Base less = absurd (omega arith)
-        lower faults.Edit less = absurd (omega arith)
-        lower faults.Pair less = absurd (omega arith)
-        lower faults.Totals less = absurd (omega arith)
+    wrong_head never = record {
+      wrong = never;
+      lower =
+          all_faults (λ (g : ClaimFault). number g < number faults.Head → Has c g above l) (λ less. inl inside)
+          (λ less. absurd (omega arith)) (λ less. absurd (omega arith)) (λ less. absurd (omega arith)) (λ less. absurd (omega arith)) (λ less. absurd (omega arith)) (λ less. absurd (omega arith)) (λ less. absurd (omega arith)) (λ less. absurd (omega arith)) (λ less. absurd (omega arith)) (λ less. absurd (omega arith)) (λ less. absurd (omega arith)) (λ less. absurd (omega arith));
+    }
 
     wrong_closed : HasHead c.file above l → (HasClosed c.file above l → ⊥) → IsWrong c above l faults.Unclosed
-    wrong_closed head never = record { wrong = never; lower = lower }
-      where
-        lower : (g : ClaimFault) → number g < number faults.Unclosed → Has c g above l
-        lower faults.Form less = inl inside
-        lower faults.Head less = head
-        lower faults.Unclosed less = absurd (omega arith)
-        lower faults.Derive less = absurd (omega arith)
-        lower faults.Size less = absurd (omega arith)
-        lower faults.Yield less = absurd (omega arith)
-        lower faults.Scan less = absurd (omega arith)
-        lower faults.Goal less = absurd (omega arith)
-        lower faults.Infeasible less = absurd (omega arith)
-        lower faults.Base less = absurd (omega arith)
-        lower faults.Edit less = absurd (omega arith)
-        lower faults.Pair less = absurd (omega arith)
-        lower faults.Totals less = absurd (omega arith)
+    wrong_closed head never = record {
+      wrong = never;
+      lower =
+          all_faults (λ (g : ClaimFault). number g < number faults.Unclosed → Has c g above l) (λ less. inl inside) (λ less. head)
+          (λ less. absurd (omega arith)) (λ less. absurd (omega arith)) (λ less. absurd (omega arith)) (λ less. absurd (omega arith)) (λ less. absurd (omega arith)) (λ less. absurd (omega arith)) (λ less. absurd (omega arith)) (λ less. absurd (omega arith)) (λ less. absurd (omega arith)) (λ less. absurd (omega arith)) (λ less. absurd (omega arith));
+    }
 
   -- a line that may not come
   pub wrong_form : (l : Line) → (MayCome c.file.grammar above l → ⊥) → IsWrong c above l faults.Form
   wrong_form l never = record { wrong = never; lower = λ g less. absurd (omega arith) }
 
 -- ---- where the next line may stand
-
-never_inside : (p : Part) → Contains (next_parts p) InHead → ⊥
-never_inside InHead h = false≢true (among_true (next_parts InHead) InHead h)
-never_inside OfCase h = false≢true (among_true (next_parts OfCase) InHead h)
-never_inside OfDerivation h = false≢true (among_true (next_parts OfDerivation) InHead h)
-never_inside OfCaseTokens h = false≢true (among_true (next_parts OfCaseTokens) InHead h)
-never_inside OfCaseText h = false≢true (among_true (next_parts OfCaseText) InHead h)
-never_inside OfGoal h = false≢true (among_true (next_parts OfGoal) InHead h)
-never_inside OfBase h = false≢true (among_true (next_parts OfBase) InHead h)
-never_inside OfNegative h = false≢true (among_true (next_parts OfNegative) InHead h)
-never_inside OfNegativeTokens h = false≢true (among_true (next_parts OfNegativeTokens) InHead h)
-never_inside OfNegativeText h = false≢true (among_true (next_parts OfNegativeText) InHead h)
-never_inside OfEnd h = false≢true (among_true (next_parts OfEnd) InHead h)
 
 not_inside : (p q : Part) → Contains (next_parts p) q → q ≡ InHead → ⊥
 not_inside p q h is = never_inside p (subst (λ (r : Part). Contains (next_parts p) r) is h)
@@ -301,7 +215,7 @@ module _ (file : File) (above : List Line) (a : Above) (k : KnowsAbove file abov
 
 module _ (c : Checked) (above : List Line) (a : Above) (k : KnowsAbove c.file above a) (l : Line) where
   pub head_judged : IsInHead c.file.grammar above l → length above + 1 < 4294967296 → (new : Head) (o : Option ClaimFault) → IsHeadJudged c.file above l new o → IsLineJudged c above l (record a { head = new }) o
-  head_judged h few new None j = (right_head c above l h j.0 j.1, inside_known c.file above a k l h few new j.2)
+  head_judged h few new None j = (right_inside c above l h j.0 j.1, inside_known c.file above a k l h few new j.2)
   head_judged h few new (Some faults.Head) j = wrong_head c above l h j
   head_judged h few new (Some faults.Unclosed) j = wrong_closed c above l h j.0 j.1
   head_judged h few new (Some f) j = absurd j

@@ -1,6 +1,5 @@
 -- Lines that tell no more than of what the lines above speak: of tokens, texts and the end.
 use Rattle.std.proofs.Common.{◌≡◌, ℕ, ◌+◌, ◌<◌, List, [], ◌∷◌, ◌++◌, None, length, refl, sym, ap, ◌∙◌, subst, arith}
-use Rattle.std.specs.Prelude.{count_by}
 use Rattle.std.specs.List.{AllZip, Contains}
 use Rattle.std.proofs.lemmas.Bool.{false≢true}
 use Rattle.std.proofs.lemmas.List.{length-append}
@@ -8,12 +7,12 @@ use Rattle.cs_yacc.specs.Reading.File.{File}
 use Rattle.cs_check.specs.declared.checking.entries.Entries.{Entries}
 use Rattle.cs_lines.specs.Words.Edits.{EditWords}
 use Rattle.cs_lines.specs.Lines.Line.{GoalWords, VerdictWords, Line, TokensLine, TextLine, NoLexemeLine, NoScanLine, EndLine, Counts}
-use Rattle.cs_check.specs.Passing.Above.{size_in, derivation_in, goal_in, verdict_in, base_in, edit_in, case_sizes, is_feasible, is_infeasible, is_large}
+use Rattle.cs_check.specs.Passing.Above.{size_in, derivation_in, goal_in, verdict_in, base_in, edit_in, case_sizes}
 use Rattle.cs_check.specs.Passing.Places.{Part, InHead, OfCase, OfDerivation, OfCaseTokens, OfCaseText, OfGoal, OfBase, OfNegative, OfNegativeTokens, OfNegativeText, OfEnd, tokens_part, text_part, part_of, last_part, next_parts}
 use Rattle.cs_check.specs.Passing.DueGoals.{KnowsGoals}
 use Rattle.cs_check.specs.Checking.Cases.{PlainCase}
 use Rattle.cs_check.specs.Checking.Told.{sizes_of, AreSized, IsCaseOf, HasTold, HasBase, AreEntries}
-use Rattle.cs_check.proofs.OnChecking.Told.{kept, last_part_more, among_true, case_kept, base_kept, negative_kept, plain_sizes}
+use Rattle.cs_check.proofs.OnChecking.Told.{kept, counts_with, last_part_more, among_true, case_kept, base_kept, negative_kept, plain_sizes}
 
 sized_plain : (p : Part) (sizes : List ℕ) (cases : List PlainCase) (read : ℕ) → (p ≡ OfCase → ⊥) → sizes ≡ sizes_of cases → AreSized p sizes cases read
 sized_plain InHead sizes cases read other h = h
@@ -65,14 +64,10 @@ module _ (file : File) (lines : List Line) (e : Entries) (t : AreEntries file li
           told = subst (λ (q : Part). HasTold file lines' q e.tokens.items) (sym part) told;
           bases = t.bases ∙ sym (ap (λ (x : List ℕ). length x) bases_same);
           base = subst (λ (q : Part). HasBase file.grammar lines' q e.base.items) (sym part) base;
-          counts = record {
-            goals = t.counts.goals ∙ sym (ap (λ (x : List GoalWords). length x) goals_same);
-            feasible = t.counts.feasible ∙ sym (ap (λ (x : List VerdictWords). count_by is_feasible x) verdicts_same);
-            infeasible = t.counts.infeasible ∙ sym (ap (λ (x : List VerdictWords). count_by is_infeasible x) verdicts_same);
-            large = t.counts.large ∙ sym (ap (λ (x : List VerdictWords). count_by is_large x) verdicts_same);
-            negatives = t.counts.negatives ∙ sym (ap (λ (x : List EditWords). length x) edits_same);
-            cases = t.counts.cases ∙ sym (ap (λ (x : List ℕ). length x) sizes_same);
-          };
+          counts =
+              counts_with lines lines' e.counts t.counts goals_same verdicts_same e.counts refl refl refl refl
+              (t.counts.negatives ∙ sym (ap (λ (x : List EditWords). length x) edits_same))
+              (t.counts.cases ∙ sym (ap (λ (x : List ℕ). length x) sizes_same));
         }
 
   -- ---- a tokens line

@@ -8,15 +8,16 @@ use Rattle.std.proofs.lemmas.List.Elements.{filter_map-append}
 use Rattle.std.proofs.lemmas.List.Sums.{fold-append}
 use Rattle.cs_yacc.specs.Reading.File.{File}
 use Rattle.cs_lines.specs.Words.Edits.{EditWords}
+use Rattle.cs_lines.specs.declared.lines.line.Counts as held
 use Rattle.cs_lines.specs.Lines.Line.{GoalWords, VerdictWords, Feasible, Line, CaseLine}
-use Rattle.cs_check.specs.Passing.Above.{size_in, derivation_in, goal_in, verdict_in, base_in, edit_in, case_sizes, derivations, verdicts, base_goals, edits, is_feasible, is_infeasible, is_large}
+use Rattle.cs_check.specs.Passing.Above.{size_in, derivation_in, goal_in, verdict_in, base_in, edit_in, case_sizes, derivations, goals_in, verdicts, base_goals, edits, is_feasible, is_infeasible, is_large}
 use Rattle.cs_check.specs.Passing.Places.{Part, InHead, OfCase, OfDerivation, OfCaseTokens, OfCaseText, OfGoal, OfBase, OfNegative, OfNegativeTokens, OfNegativeText, OfEnd, tokens_part, text_part, part_of, last_part, next_parts}
 use Rattle.cs_check.specs.Passing.Entries.{IsNumbered, IsLast, IsCase, IsBase, IsNegative, IsTold}
 use Rattle.cs_check.specs.Passing.DueGoals.{KnowsGoals}
 use Rattle.cs_check.specs.declared.checking.entries.Entries.{Entries}
 use Rattle.cs_lines.specs.Lines.Numbers.{IsRead}
 use Rattle.cs_check.specs.Checking.Cases.{PlainCase}
-use Rattle.cs_check.specs.Checking.Told.{sizes_of, AreSized, IsCaseOf, HasTold, HasBase, AreEntries}
+use Rattle.cs_check.specs.Checking.Told.{sizes_of, AreSized, IsCaseOf, HasTold, HasBase, AreCounts, AreEntries}
 
 -- ---- what is told of a kind
 
@@ -74,6 +75,18 @@ module _ (file : File) (lines lines' : List Line) (same_rules : derivations line
         (h.2.0, base_kept h.2.0 h.2.1, h.2.2),
       )
 
+-- what is counted, where neither goals nor verdicts are more
+module _ (lines lines' : List Line) (old : held.Counts) (t : AreCounts lines old) (goals_same : goals_in lines' ≡ goals_in lines) (verdicts_same : verdicts lines' ≡ verdicts lines) where
+  pub counts_with : (new : held.Counts) → new.goals ≡ old.goals → new.feasible ≡ old.feasible → new.infeasible ≡ old.infeasible → new.large ≡ old.large → new.negatives ≡ length (edits lines') → new.cases ≡ length (case_sizes lines') → AreCounts lines' new
+  counts_with new goals feasible infeasible large negatives cases = record {
+    goals = goals ∙ t.goals ∙ sym (ap (λ (x : List GoalWords). length x) goals_same);
+    feasible = feasible ∙ t.feasible ∙ sym (ap (λ (x : List VerdictWords). count_by is_feasible x) verdicts_same);
+    infeasible = infeasible ∙ t.infeasible ∙ sym (ap (λ (x : List VerdictWords). count_by is_infeasible x) verdicts_same);
+    large = large ∙ t.large ∙ sym (ap (λ (x : List VerdictWords). count_by is_large x) verdicts_same);
+    negatives = negatives;
+    cases = cases;
+  }
+
 -- ---- which parts may follow
 
 abbrev rank : Part → ℕ
@@ -104,6 +117,20 @@ among_true (q ∷ parts) p h =
     (λ (here : q ≡ p). ap (λ (t : Bool). t || among parts p) (eq-eqb (rank q) (rank p) (ap rank here)))
     (λ (later : Contains parts p). ap (λ (t : Bool). (rank q == rank p) || t) (among_true parts p later) ∙ or_true (rank q == rank p))
     (in_more q parts p h)
+
+-- no line of the head
+pub never_inside : (p : Part) → Contains (next_parts p) InHead → ⊥
+never_inside InHead h = false≢true (among_true (next_parts InHead) InHead h)
+never_inside OfCase h = false≢true (among_true (next_parts OfCase) InHead h)
+never_inside OfDerivation h = false≢true (among_true (next_parts OfDerivation) InHead h)
+never_inside OfCaseTokens h = false≢true (among_true (next_parts OfCaseTokens) InHead h)
+never_inside OfCaseText h = false≢true (among_true (next_parts OfCaseText) InHead h)
+never_inside OfGoal h = false≢true (among_true (next_parts OfGoal) InHead h)
+never_inside OfBase h = false≢true (among_true (next_parts OfBase) InHead h)
+never_inside OfNegative h = false≢true (among_true (next_parts OfNegative) InHead h)
+never_inside OfNegativeTokens h = false≢true (among_true (next_parts OfNegativeTokens) InHead h)
+never_inside OfNegativeText h = false≢true (among_true (next_parts OfNegativeText) InHead h)
+never_inside OfEnd h = false≢true (among_true (next_parts OfEnd) InHead h)
 
 -- the tokens of which a tokens line tells are known
 module _ (file : File) (lines : List Line) (tokens : List ℕ) where
@@ -181,16 +208,10 @@ module _ (file : File) (lines : List Line) (e : Entries) (t : AreEntries file li
         told = subst (λ (p : Part). HasTold file lines' p e.tokens.items) (sym part) tt;
         bases = t.bases ∙ sym (ap (λ (x : List ℕ). length x) bases_same);
         base = subst (λ (p : Part). HasBase file.grammar lines' p e.base.items) (sym part) tt;
-        counts = record {
-          goals = t.counts.goals ∙ sym (ap (λ (x : List GoalWords). length x) goals_same);
-          feasible = t.counts.feasible ∙ sym (ap (λ (x : List VerdictWords). count_by is_feasible x) verdicts_same);
-          infeasible = t.counts.infeasible ∙ sym (ap (λ (x : List VerdictWords). count_by is_infeasible x) verdicts_same);
-          large = t.counts.large ∙ sym (ap (λ (x : List VerdictWords). count_by is_large x) verdicts_same);
-          negatives = t.counts.negatives ∙ sym (ap (λ (x : List EditWords). length x) edits_same);
-          cases =
-              count ∙ ap (λ (i : ℕ). i + 1) t.counts.cases
-              ∙ sym (ap (λ (x : List ℕ). length x) sizes_more ∙ length_push (case_sizes lines) s);
-        };
+        counts =
+            counts_with lines lines' e.counts t.counts goals_same verdicts_same (record e.counts { cases = k }) refl refl refl refl
+            (t.counts.negatives ∙ sym (ap (λ (x : List EditWords). length x) edits_same))
+            (count ∙ ap (λ (i : ℕ). i + 1) t.counts.cases ∙ sym (ap (λ (x : List ℕ). length x) sizes_more ∙ length_push (case_sizes lines) s));
       }
 
 -- no more is told of a kind than there are lines

@@ -10,45 +10,23 @@ use Rattle.cs_grammar.specs.Grammar.{PlainGrammar}
 use Rattle.cs_lines.specs.Lines.Line.{Line, Opening, Weighing, TokenLine, RuleLine, LexemeLine, SetLine, RowLine, CaseLine, DeriveLine, TokensLine, TextLine, NoLexemeLine, NoScanLine, GoalLine, BaseLine, NegativeLine, EndLine}
 use Rattle.cs_check.specs.declared.passing.fault.ClaimFault.TheVariants.{Form}
 use Rattle.cs_check.specs.Passing.Above.{is_set, has_sets}
-use Rattle.cs_check.specs.Passing.Head.{Due, TheOpening, TheWeighing, TheToken, TheRule, TheLexeme, TheSet, TheRow, tables, whole_head, head_size, Takes}
-use Rattle.cs_check.specs.Passing.Places.{Part, InHead, OfCase, OfDerivation, OfCaseTokens, OfCaseText, OfGoal, OfBase, OfNegative, OfNegativeTokens, OfNegativeText, OfEnd, part_of, last_part, next_parts, IsInHead, IsBehindHead, MayCome}
+use Rattle.cs_check.specs.Passing.Head.{tables, whole_head, head_size}
+use Rattle.cs_check.specs.Passing.Places.{Part, OfEnd, part_of, last_part, next_parts, IsInHead, IsBehindHead, MayCome}
 use Rattle.cs_check.specs.Passing.Faults.{Checked}
 use Rattle.cs_check.specs.Passing.Manifest.{AreRight}
-use Rattle.cs_check.proofs.OnChecking.Told.{kept, among_true}
+use Rattle.cs_check.proofs.OnChecking.Kinds.{is_head, taken_head}
+use Rattle.cs_check.proofs.OnChecking.Told.{kept, never_inside}
 
--- ---- lines of the head, and others
-
-abbrev pub is_head : Line → Bool
-is_head Opening = true
-is_head (Weighing weigh) = true
-is_head (TokenLine n name) = true
-is_head (RuleLine n left right) = true
-is_head (LexemeLine name text) = true
-is_head (SetLine kind names) = true
-is_head (RowLine kind name names) = true
-is_head l = false
-
-never_head : (p : Part) → Contains (next_parts p) InHead → ⊥
-never_head InHead h = false≢true (among_true (next_parts InHead) InHead h)
-never_head OfCase h = false≢true (among_true (next_parts OfCase) InHead h)
-never_head OfDerivation h = false≢true (among_true (next_parts OfDerivation) InHead h)
-never_head OfCaseTokens h = false≢true (among_true (next_parts OfCaseTokens) InHead h)
-never_head OfCaseText h = false≢true (among_true (next_parts OfCaseText) InHead h)
-never_head OfGoal h = false≢true (among_true (next_parts OfGoal) InHead h)
-never_head OfBase h = false≢true (among_true (next_parts OfBase) InHead h)
-never_head OfNegative h = false≢true (among_true (next_parts OfNegative) InHead h)
-never_head OfNegativeTokens h = false≢true (among_true (next_parts OfNegativeTokens) InHead h)
-never_head OfNegativeText h = false≢true (among_true (next_parts OfNegativeText) InHead h)
-never_head OfEnd h = false≢true (among_true (next_parts OfEnd) InHead h)
+-- ---- lines of the body
 
 behind_no_head : (p : Part) (l : Line) → Contains (next_parts p) (part_of p l) → is_head l ≡ false
-behind_no_head p Opening h = absurd (never_head p h)
-behind_no_head p (Weighing weigh) h = absurd (never_head p h)
-behind_no_head p (TokenLine n name) h = absurd (never_head p h)
-behind_no_head p (RuleLine n left right) h = absurd (never_head p h)
-behind_no_head p (LexemeLine name text) h = absurd (never_head p h)
-behind_no_head p (SetLine kind names) h = absurd (never_head p h)
-behind_no_head p (RowLine kind name names) h = absurd (never_head p h)
+behind_no_head p Opening h = absurd (never_inside p h)
+behind_no_head p (Weighing weigh) h = absurd (never_inside p h)
+behind_no_head p (TokenLine n name) h = absurd (never_inside p h)
+behind_no_head p (RuleLine n left right) h = absurd (never_inside p h)
+behind_no_head p (LexemeLine name text) h = absurd (never_inside p h)
+behind_no_head p (SetLine kind names) h = absurd (never_inside p h)
+behind_no_head p (RowLine kind name names) h = absurd (never_inside p h)
 behind_no_head p (CaseLine n size) h = refl
 behind_no_head p (DeriveLine rules) h = refl
 behind_no_head p (TokensLine names) h = refl
@@ -59,15 +37,6 @@ behind_no_head p (GoalLine n words verdict) h = refl
 behind_no_head p (BaseLine n goal) h = refl
 behind_no_head p (NegativeLine n base edit left right at) h = refl
 behind_no_head p (EndLine counts) h = refl
-
-taken_head : (due : Due) (l : Line) → Takes due l → is_head l ≡ true
-taken_head TheOpening l h = ap is_head h
-taken_head TheWeighing l h = ap is_head h.1
-taken_head (TheToken t) l h = ap is_head h.1
-taken_head (TheRule r) l h = ap is_head h.2
-taken_head (TheLexeme t) l h = ap is_head h.2
-taken_head (TheSet kind) l h = ap is_head h.1
-taken_head (TheRow kind n) l h = ap is_head h.2
 
 -- a line of the body isn't one of a set
 no_set_line : (l : Line) → is_head l ≡ false → is_set l ≡ false

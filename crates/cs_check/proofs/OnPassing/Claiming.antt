@@ -29,7 +29,8 @@ use Rattle.cs_check.specs.Passing.Claims.{IsTextOf, AreShown, IsTrueCase, AreAll
 use Rattle.cs_check.proofs.OnChecking.Framed.{followed_at}
 use Rattle.cs_check.proofs.OnChecking.Once.{one_made, one_yield}
 use Rattle.cs_check.proofs.OnChecking.Told.{kept, added, last_part_more, among_true, base_kept}
-use Rattle.cs_check.proofs.OnPassing.Behind.{is_head, IsPast, AreBody, told_stays, past_more, body_behind, behind_all, follower}
+use Rattle.cs_check.proofs.OnChecking.Kinds.{is_head}
+use Rattle.cs_check.proofs.OnPassing.Behind.{IsPast, AreBody, told_stays, past_more, body_behind, behind_all, follower}
 use Rattle.cs_check.proofs.OnPassing.Splits.{last_is, goal_line, tells_at, ends_so}
 use Rattle.cs_check.proofs.OnPassing.AllGoals.{AreDue, all_goals}
 use Rattle.cs_check.proofs.OnPassing.Excluding.{excluded_none, excluded_apart}

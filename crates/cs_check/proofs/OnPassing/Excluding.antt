@@ -25,7 +25,8 @@ use Rattle.cs_check.specs.Passing.Faults.{Checked}
 use Rattle.cs_check.specs.Passing.Manifest.{AreRight}
 use Rattle.cs_check.proofs.OnDues.{whole_long}
 use Rattle.cs_check.proofs.OnPassing.First.{Bare, Ended, back}
-use Rattle.cs_check.proofs.OnPassing.Behind.{is_head, told_stays, sets_stay_all, IsPast, past_more, body_line, body_behind, behind_all, behind_whole}
+use Rattle.cs_check.proofs.OnChecking.Kinds.{is_head}
+use Rattle.cs_check.proofs.OnPassing.Behind.{told_stays, sets_stay_all, IsPast, past_more, body_line, body_behind, behind_all, behind_whole}
 
 -- ---- lines of the body tell of no sets
 

@@ -1,12 +1,10 @@
-use Rattle.std.proofs.Common.{◌≡◌, [], ◌∷◌, ◌++◌, Bool, length, refl, ap, ◌∙◌, subst, arith}
+use Rattle.std.proofs.Common.{◌≡◌, length, refl, ap, ◌∙◌, arith}
 use Rattle.std.proofs.lemmas.Option.{slice_get_within}
 use Rattle.cs_grammar.specs.Grammar.{PlainGrammar}
 use Rattle.cs_check.specs.Passing.Head.{whole_head}
 use Rattle.cs_check.specs.Passing.Dues.{due_told}
-use Rattle.cs_check.specs.Checking.Head.{IsDueJudged, counted}
 use Rattle.cs_check.proofs.OnChecking.HeadDues.{due_of}
-use Rattle.cs_check.proofs.OnChecking.HeadTaken.{here_by}
-use Rattle.cs_check.proofs.OnChecking.HeadJudged.{same_due, has_head, has_no_head, has_closed, has_no_closed, sets_at_end}
+use Rattle.cs_check.proofs.OnChecking.HeadTaken.{here_by, lacks_head, line_judged, line_unclosed}
 use Rattle.cs_check.proofs.checking.head.Head.take.Goals as goal
 
 pub take_due-requires-clause-due : goal.take_due-requires-clause-due
@@ -16,13 +14,10 @@ take_due-requires-clause-due c =
     due_of g c.args.self.now.above d (here_by g c.grammar-2.result.now c.grammar-2.ensures.grammar c.args.self.now.above c.args.self.now.above refl d c.in-Some.ensures)
 
 pub returns-then-not-branch-clause-judged : goal.returns-then-not-branch-clause-judged
-returns-then-not-branch-clause-judged c = λ above l knows tells i has.
-    let file = c.args.file.now in
-    let d = due_told c.in-Some.due in
-    let e = here_by file.grammar c.grammar-2.result.now c.grammar-2.ensures.grammar c.args.self.now.above (length above) knows.many d c.in-Some.ensures in
-    let due = same_due file.grammar above l i d e in
-    let judged = c.in_ok-take_due.ensures.judged above l i due knows tells in
-    has_no_head file above l d e i (subst (λ (b : Bool). IsDueJudged file above d l c.take_due.new.self b) c.if-not-branch.true judged) has
+returns-then-not-branch-clause-judged c = λ above l knows tells i.
+    lacks_head c.args.file.now c.grammar-2.result.now c.grammar-2.ensures.grammar c.args.self.now (due_told c.in-Some.due) c.in-Some.ensures
+    c.args.line.now c.take_due.new.self _ c.in_ok-take_due.ensures.judged above l knows tells i
+    c.if-not-branch.true
 
 pub overflow_add-self : goal.overflow_add-self
 overflow_add-self c =
@@ -36,28 +31,14 @@ overflow_add-self c =
 
 pub returns-then-not-ends_closed-clause-judged : goal.returns-then-not-ends_closed-clause-judged
 returns-then-not-ends_closed-clause-judged c = λ above l knows tells i.
-    let file = c.args.file.now in
-    let d = due_told c.in-Some.due in
-    let e = here_by file.grammar c.grammar-2.result.now c.grammar-2.ensures.grammar c.args.self.now.above (length above) knows.many d c.in-Some.ensures in
-    let due = same_due file.grammar above l i d e in
-    let judged = c.in_ok-take_due.ensures.judged above l i due knows tells in
-    let right = subst (λ (b : Bool). IsDueJudged file above d l c.take_due.new.self b) c.if-not-branch.false judged in
-    let whole : c.whole_size-whole.result ≡ length (whole_head file.grammar) = c.whole_size-whole.ensures ∙ ap (λ (x : PlainGrammar). length (whole_head x)) c.grammar.ensures.grammar in
-    let new = right.1 in
-    let after = counted c.take_due.new.self in
-    let is = c.ends_closed.ensures (above ++ l ∷ []) new.sets (sets_at_end file above l after new c.whole_size-whole.result whole) in
-    (has_head file above l d e right.0, has_no_closed file above l after new c.whole_size-whole.result whole c.ends_closed.result is c.if-not-ends_closed.true i)
+    line_unclosed c.args.file.now c.grammar-2.result.now c.grammar-2.ensures.grammar c.args.self.now (due_told c.in-Some.due) c.in-Some.ensures
+    c.args.line.now c.take_due.new.self _ c.in_ok-take_due.ensures.judged above l knows tells i
+    c.if-not-branch.false c.whole_size-whole.result (c.whole_size-whole.ensures ∙ ap (λ (x : PlainGrammar). length (whole_head x)) c.grammar.ensures.grammar)
+    c.ends_closed.result c.ends_closed.ensures c.if-not-ends_closed.true
 
 pub returns-clause-judged : goal.returns-clause-judged
 returns-clause-judged c = λ above l knows tells i.
-    let file = c.args.file.now in
-    let d = due_told c.in-Some.due in
-    let e = here_by file.grammar c.grammar-2.result.now c.grammar-2.ensures.grammar c.args.self.now.above (length above) knows.many d c.in-Some.ensures in
-    let due = same_due file.grammar above l i d e in
-    let judged = c.in_ok-take_due.ensures.judged above l i due knows tells in
-    let right = subst (λ (b : Bool). IsDueJudged file above d l c.take_due.new.self b) c.if-not-branch.false judged in
-    let whole : c.whole_size-whole.result ≡ length (whole_head file.grammar) = c.whole_size-whole.ensures ∙ ap (λ (x : PlainGrammar). length (whole_head x)) c.grammar.ensures.grammar in
-    let new = right.1 in
-    let after = counted c.take_due.new.self in
-    let is = c.ends_closed.ensures (above ++ l ∷ []) new.sets (sets_at_end file above l after new c.whole_size-whole.result whole) in
-    (has_head file above l d e right.0, has_closed file above l after new c.whole_size-whole.result whole c.ends_closed.result is c.if-not-ends_closed.false, new)
+    line_judged c.args.file.now c.grammar-2.result.now c.grammar-2.ensures.grammar c.args.self.now (due_told c.in-Some.due) c.in-Some.ensures
+    c.args.line.now c.take_due.new.self _ c.in_ok-take_due.ensures.judged above l knows tells i
+    c.if-not-branch.false c.whole_size-whole.result (c.whole_size-whole.ensures ∙ ap (λ (x : PlainGrammar). length (whole_head x)) c.grammar.ensures.grammar)
+    c.ends_closed.result c.ends_closed.ensures c.if-not-ends_closed.false
