@@ -1,5 +1,5 @@
 -- A slip has one class and one list, and some; no list that is written is a sentence.
-use Rattle.std.proofs.Common.{◌≡◌, ◌≤◌, ◌<◌, ◌⊎◌, ℕ, ◌+◌, List, [], inl, inr, refl, sym, ap, ◌∙◌, subst, ⊎_elim, arith, length, Some}
+use Rattle.std.proofs.Common.{◌≡◌, ◌<◌, ◌⊎◌, ℕ, ◌+◌, List, [], inl, inr, refl, sym, ap, ◌∙◌, subst, ⊎_elim, arith, Some}
 use Rattle.std.specs.Prelude.{IsTrue, slice_get}
 use Rattle.std.proofs.lemmas.Bool.{cases_lt}
 use Rattle.cs_grammar.specs.Context.{Context, plug}

@@ -22,12 +22,12 @@ use Rattle.cs_check.specs.Passing.Entries.{IsNumbered as IsEntry, IsCase, IsLast
 use Rattle.cs_check.specs.Passing.Goals.{words_of, IsDue}
 use Rattle.cs_check.specs.Passing.Places.{part_of, last_part, next_parts, IsNumbered, MayCome}
 use Rattle.cs_check.proofs.OnChecking.Kinds.{right_case, right_derive, right_tokens, right_text, right_no_lexeme, right_no_scan, right_goal}
+use Rattle.cs_check.proofs.OnChecking.HeadPlaces.{size_with}
 use Rattle.cs_accord.specs.Accord.{checked}
 use Rattle.cs_accord.specs.Named.{IsNamedFile}
 use Rattle.cs_accord.specs.Suite.{case_lines, text_line, tokens_line}
 use Rattle.cs_accord.proofs.OnSuite.Claims.{made, made_exact, made_claimed}
 use Rattle.cs_accord.proofs.OnSuite.Fine.{AreFine}
-use Rattle.cs_accord.proofs.OnSuite.HeadLines.{size_with}
 use Rattle.cs_accord.proofs.OnSuite.HeadTold.{IsBelow, below_more}
 use Rattle.cs_accord.proofs.OnSuite.Telling.{of_case, of_derivation, of_tokens, of_text, of_goal, Told, told_case, told_derivation, told_tokens, told_text, told_no_lexeme, told_no_scan, told_goal, is_last}
 

@@ -26,13 +26,14 @@ use Rattle.cs_lines.specs.Lines.Line.{SetKind, Productive, Reachable, Empty, Fir
 use Rattle.cs_check.specs.Passing.Above.{size_in, derivation_in, goal_in, verdict_in, base_in, edit_in}
 use Rattle.cs_check.specs.Passing.Head.{Due, TheOpening, TheWeighing, TheToken, TheRule, TheLexeme, TheSet, TheRow, IsNonterminalName, IsTokenName, IsBehindName, mark_at, rule_of, tables, claims, whole_head}
 use Rattle.cs_check.specs.Passing.Places.{part_of, last_part}
+use Rattle.cs_check.proofs.OnChecking.Kinds.{is_head, taken_head}
 use Rattle.cs_accord.specs.Named.{IsNamedFile}
 use Rattle.cs_accord.specs.Suite.{token_lines, rule_lines, lexeme_lines, table_lines, set_line, edge_lines, next_line, next_lines, closed_lines, head_lines}
 use Rattle.cs_accord.proofs.OnSuite.Lists.{told_none, none_in, none_numbered, zip_numbered, zip_at}
 use Rattle.cs_accord.proofs.OnSuite.Naming.{token_named, nonterminal_named}
 use Rattle.cs_accord.proofs.OnSuite.Sets.{those_in}
 use Rattle.cs_accord.proofs.OnSuite.Claims.{mark_named}
-use Rattle.cs_accord.proofs.OnSuite.HeadLines.{IsHeadLine, is_head, head_line}
+use Rattle.cs_accord.proofs.OnSuite.HeadLines.{IsHeadLine}
 
 -- ---- lines of the head tell nothing else
 
@@ -40,7 +41,7 @@ heads_of : (file : File) (dues : List Due) (lines : List Line) → AllZip (IsHea
 heads_of file [] [] zip = tt
 heads_of file [] (l ∷ lines) zip = absurd zip
 heads_of file (due ∷ dues) [] zip = absurd zip
-heads_of file (due ∷ dues) (l ∷ lines) zip = (head_line due l zip.0.takes, heads_of file dues lines zip.1)
+heads_of file (due ∷ dues) (l ∷ lines) zip = (taken_head due l zip.0.takes, heads_of file dues lines zip.1)
 
 stays : (l : Line) → is_head l ≡ true → part_of (last_part []) l ≡ last_part []
 stays (CaseLine n size) e = absurd cc

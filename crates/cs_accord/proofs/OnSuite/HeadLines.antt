@@ -2,85 +2,25 @@
 use Rattle.std.proofs.Common.{◌≡◌, ◌<◌, ◌≤◌, Bool, true, false, List, [], ◌∷◌, ◌++◌, Some, length, length-append, refl, sym, ap, ◌∙◌, subst, append_assoc, inl, ⊎_elim, arith}
 use Rattle.std.specs.Prelude.{◌||◌, slice_get}
 use Rattle.std.specs.List.{AllZip, list_any}
-use Rattle.std.proofs.lemmas.Bool.{cases_Bool, cases_lt, cond-true, cond-false}
+use Rattle.std.proofs.lemmas.Bool.{cases_Bool, cases_lt}
 use Rattle.std.proofs.lemmas.Option.{same_Some}
 use Rattle.cs_grammar.specs.Grammar.{PlainGrammar}
-use Rattle.cs_check.specs.declared.passing.fault.ClaimFault.TheVariants.{Form, Head, Unclosed}
 use Rattle.cs_yacc.specs.Reading.File.{File}
-use Rattle.cs_lines.specs.Lines.Line.{Line, Opening, Weighing, TokenLine, RuleLine, LexemeLine, SetLine, RowLine, CaseLine, DeriveLine, TokensLine, TextLine, NoLexemeLine, NoScanLine, GoalLine, BaseLine, NegativeLine, EndLine}
+use Rattle.cs_lines.specs.Lines.Line.{Line}
 use Rattle.cs_closed.specs.Closed.Sets.{PlainSets}
 use Rattle.cs_closed.specs.Closed.Closed.{AreClosed}
 use Rattle.cs_check.specs.Passing.Above.{is_set, has_sets}
-use Rattle.cs_check.specs.Passing.Head.{Due, TheOpening, TheWeighing, TheToken, TheRule, TheLexeme, TheSet, TheRow, Takes, IsOfFile, AreClaimed, tables, claims, whole_head, head_size}
-use Rattle.cs_check.specs.Passing.Faults.{Checked, Has}
+use Rattle.cs_check.specs.Passing.Head.{Due, Takes, IsOfFile, AreClaimed, tables, whole_head, head_size}
+use Rattle.cs_check.specs.Passing.Faults.{Checked}
 use Rattle.cs_check.specs.Checking.Judging.{IsRight}
+use Rattle.cs_check.proofs.OnChecking.HeadPlaces.{size_with, size_without, tables_within}
+use Rattle.cs_check.proofs.OnChecking.Kinds.{taken_head, right_head}
 use Rattle.cs_accord.proofs.OnSuite.Fine.{AreFine}
 
 -- the line is one for this place, and the file's
 pub record IsHeadLine (file : File) (due : Due) (l : Line) : Type 0 where
   pub takes : Takes due l
   pub of_file : IsOfFile file due l
-
--- a line of the head has only these three to say
-abbrev pub is_head : Line → Bool
-is_head Opening = true
-is_head (Weighing weigh) = true
-is_head (TokenLine n name) = true
-is_head (RuleLine n left right) = true
-is_head (LexemeLine name text) = true
-is_head (SetLine kind names) = true
-is_head (RowLine kind name names) = true
-is_head l = false
-
-pub head_line : (d : Due) (l : Line) → Takes d l → is_head l ≡ true
-head_line TheOpening l e = ap is_head e
-head_line TheWeighing l e = ap is_head e.1
-head_line (TheToken t) l e = ap is_head e.1
-head_line (TheRule r) l e = ap is_head e.2
-head_line (TheLexeme t) l e = ap is_head e.2
-head_line (TheSet kind) l e = ap is_head e.1
-head_line (TheRow kind n) l e = ap is_head e.2
-
-module _ (c : Checked) (above : List Line) where
-  right_head : (l : Line) → is_head l ≡ true → Has c Form above l → Has c Head above l → Has c Unclosed above l → IsRight c above l
-  right_head Opening is form head unclosed Form = form
-  right_head Opening is form head unclosed Head = head
-  right_head Opening is form head unclosed Unclosed = unclosed
-  right_head Opening is form head unclosed f = tt
-  right_head (Weighing weigh) is form head unclosed Form = form
-  right_head (Weighing weigh) is form head unclosed Head = head
-  right_head (Weighing weigh) is form head unclosed Unclosed = unclosed
-  right_head (Weighing weigh) is form head unclosed f = tt
-  right_head (TokenLine n name) is form head unclosed Form = form
-  right_head (TokenLine n name) is form head unclosed Head = head
-  right_head (TokenLine n name) is form head unclosed Unclosed = unclosed
-  right_head (TokenLine n name) is form head unclosed f = tt
-  right_head (RuleLine n left right) is form head unclosed Form = form
-  right_head (RuleLine n left right) is form head unclosed Head = head
-  right_head (RuleLine n left right) is form head unclosed Unclosed = unclosed
-  right_head (RuleLine n left right) is form head unclosed f = tt
-  right_head (LexemeLine name text) is form head unclosed Form = form
-  right_head (LexemeLine name text) is form head unclosed Head = head
-  right_head (LexemeLine name text) is form head unclosed Unclosed = unclosed
-  right_head (LexemeLine name text) is form head unclosed f = tt
-  right_head (SetLine kind names) is form head unclosed Form = form
-  right_head (SetLine kind names) is form head unclosed Head = head
-  right_head (SetLine kind names) is form head unclosed Unclosed = unclosed
-  right_head (SetLine kind names) is form head unclosed f = tt
-  right_head (RowLine kind name names) is form head unclosed Form = form
-  right_head (RowLine kind name names) is form head unclosed Head = head
-  right_head (RowLine kind name names) is form head unclosed Unclosed = unclosed
-  right_head (RowLine kind name names) is form head unclosed f = tt
-  right_head (CaseLine n size) is form head unclosed f = absurd cc
-  right_head (DeriveLine rules) is form head unclosed f = absurd cc
-  right_head (TokensLine names) is form head unclosed f = absurd cc
-  right_head (TextLine text) is form head unclosed f = absurd cc
-  right_head (NoLexemeLine name) is form head unclosed f = absurd cc
-  right_head (NoScanLine after) is form head unclosed f = absurd cc
-  right_head (GoalLine n goal verdict) is form head unclosed f = absurd cc
-  right_head (BaseLine n goal) is form head unclosed f = absurd cc
-  right_head (NegativeLine n base edit left right at) is form head unclosed f = absurd cc
-  right_head (EndLine counts) is form head unclosed f = absurd cc
 
 -- ---- how many lines the head has, by those above
 
@@ -99,17 +39,11 @@ sets_behind (y ∷ front) set rest (x ∷ pre) post is e less =
     ap (λ (b : Bool). is_set x || b) (sets_behind front set rest pre post is others (omega (arith, less))) ∙ or_true (is_set x)
 
 module _ (g : PlainGrammar) where
-  tables_within : length (tables g) ≤ length (whole_head g)
-  tables_within = let all = length-append (tables g) (claims g) in omega (arith, all)
-
-  pub size_with : (pre : List Line) → has_sets pre ≡ true → head_size g pre ≡ length (whole_head g)
-  size_with pre has = cond-true (has_sets pre) (length (whole_head g)) (length (tables g)) has
-
   size_least : (pre : List Line) → length (tables g) ≤ head_size g pre
   size_least pre =
       ⊎_elim
-      (λ (has : has_sets pre ≡ true). let is = size_with pre has in omega (arith, is, tables_within))
-      (λ (none : has_sets pre ≡ false). let is = cond-false (has_sets pre) (length (whole_head g)) (length (tables g)) none in omega (arith, is))
+      (λ (has : has_sets pre ≡ true). let is = size_with g pre has in let less = tables_within g in omega (arith, is, less))
+      (λ (none : has_sets pre ≡ false). let is = size_without g pre none in omega (arith, is))
       (cases_Bool (has_sets pre))
 
   -- no front of the head is longer than it says
@@ -118,7 +52,7 @@ module _ (g : PlainGrammar) where
   head_within front set rest pre post many all is e =
       ⊎_elim
       (λ (less : length front < length pre).
-      let size = size_with pre (sets_behind front set rest pre post is e less) in
+      let size = size_with g pre (sets_behind front set rest pre post is e less) in
       let whole = ap (λ (l : List Line). length l) e in
       let long = length-append pre post in
       omega (arith, size, whole, all, long))
@@ -141,7 +75,7 @@ module _ (c : Checked) (head : List Line)
 
   head_right : (above : List Line) (l : Line) (below : List Line) (due : Due) → head ≡ above ++ l ∷ below → IsHeadLine c.file due l → slice_get (whole_head c.file.grammar) (length above) ≡ Some due → IsRight c above l
   head_right above l below due place is at =
-      right_head c above l (head_line due l is.takes)
+      right_head c above l (taken_head due l is.takes)
       (inl (record { within = within above l below place; due = due; is_due = at; takes = is.takes }))
       (λ h. subst (λ (d : Due). IsOfFile c.file d l) (same_Some due h.due (sym at ∙ h.is_due)) is.of_file)
       (λ h last s claimed.

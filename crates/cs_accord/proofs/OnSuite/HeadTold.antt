@@ -14,11 +14,12 @@ use Rattle.cs_lines.specs.Lines.Line.{SetKind, Productive, Reachable, Empty, Row
 use Rattle.cs_check.specs.Passing.Above.{set_in, row_in, weigh_in, lexeme_in as text_in, is_set, has_sets, weighs, lexemes as texts_in}
 use Rattle.cs_check.specs.Passing.Head.{rule_of, tables, whole_head}
 use Rattle.cs_check.proofs.OnChecking.Told.{kept}
+use Rattle.cs_check.proofs.OnChecking.Kinds.{is_head}
 use Rattle.cs_accord.specs.Named.{IsNamedFile}
 use Rattle.cs_accord.specs.Suite.{token_lines, rule_lines, lexeme_lines, table_lines, set_lines, edge_lines, next_line, next_lines, row_lines, closed_lines, head_lines}
 use Rattle.cs_accord.proofs.OnSuite.Lists.{told_both, told_none, told_each, told_numbers, none_numbered, entries_are}
 use Rattle.cs_accord.proofs.OnSuite.Claims.{AreTold}
-use Rattle.cs_accord.proofs.OnSuite.HeadLines.{IsHeadLine, is_head, sets_behind}
+use Rattle.cs_accord.proofs.OnSuite.HeadLines.{IsHeadLine, sets_behind}
 use Rattle.cs_accord.proofs.OnSuite.Head.{tables_none, head_zip, tables_zip}
 
 module _ (file : File) (weigh : Weigh) (lexemes : LexemeList) (closed : ClosedSets) where
