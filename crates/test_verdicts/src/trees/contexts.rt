@@ -1,9 +1,11 @@
 ghost use Rattle.std.specs.Prelude.{◌≡◌};
 ghost use Rattle.cs_grammar.specs.Grammar.{IsNumberOf};
+ghost use Rattle.cs_least.specs.Embed.Around.{HasLeastContext};
+ghost use Rattle.cs_least.specs.Embed.Contexts.{AreContextsOf};
 
 use crate::trees::prepared::chain;
 use cs_grammar::{Grammar, Symbol, Weights, number_of};
-use cs_least::{Cost, Costs, Embeds};
+use cs_least::{Context, Contexts, Cost, Costs, Embeds};
 use cs_samples::{Lines, SampleError, grammar_of, rules, weights_of};
 use std::alloc::{AllocError, Global};
 use std::process::Abort;
@@ -19,6 +21,46 @@ enum Want<'w> {
 
 use Want::{Around, Nowhere, TooLarge};
 
+// Whether the context that is taken of the nonterminal's is this one. It is kept then.
+fn is_taken(
+    costs: &Costs,
+    embeds: &Embeds,
+    contexts: &mut Contexts,
+    number: u16,
+    context: &Context,
+) -> Result<bool, AllocError>
+    requires costs { costs.now ≡ embeds.now }
+    requires contexts { AreContextsOf embeds.now contexts.old }
+    requires number { IsNumberOf embeds.now.grammar.nonterminals number }
+    requires least { HasLeastContext embeds.now.weights embeds.now.grammar number }
+    ensures { AreContextsOf embeds.now contexts.new }
+{
+    let around = contexts.take(costs, embeds, number)?;
+    let same = around.nonterminal == number
+        && around.context.before.as_slice() == context.before.as_slice()
+        && around.context.after.as_slice() == context.after.as_slice();
+    contexts.keep(around)?;
+    Ok(same)
+}
+
+// The same of one that isn't kept yet, and of one that is.
+fn is_kept(
+    costs: &Costs,
+    embeds: &Embeds,
+    number: u16,
+    context: &Context,
+) -> Result<bool, AllocError>
+    requires costs { costs.now ≡ embeds.now }
+    requires number { IsNumberOf embeds.now.grammar.nonterminals number }
+    requires least { HasLeastContext embeds.now.weights embeds.now.grammar number }
+{
+    let mut contexts = Contexts::new(embeds);
+    Ok(
+        is_taken(costs, embeds, &mut contexts, number, context)?
+            && is_taken(costs, embeds, &mut contexts, number, context)?,
+    )
+}
+
 // Whether what is told of the nonterminal is what is wanted.
 fn is_told(costs: &Costs, embeds: &Embeds, number: u16, want: Want<'_>) -> Result<bool, AllocError>
     requires costs { costs.now ≡ embeds.now }
@@ -29,7 +71,7 @@ fn is_told(costs: &Costs, embeds: &Embeds, number: u16, want: Want<'_>) -> Resul
             let context = embeds.around(costs, number)?;
             let is_placed = context.before.as_slice() == before
                 && context.after.as_slice() == after;
-            Ok(size == least && is_placed)
+            Ok(size == least && is_placed && is_kept(costs, embeds, number, &context)?)
         }
         (Cost::Never, Nowhere) | (Cost::Large, TooLarge) => Ok(true),
         _ => Ok(false),
