@@ -1,6 +1,6 @@
 // Contexts that are kept for when they are asked for again.
 
-ghost use Rattle.std.specs.Prelude.{◌≡◌, ◌<◌, ◌≤◌, IfOk, IfSome, length};
+ghost use Rattle.std.specs.Prelude.{◌≡◌, IfOk, IfSome};
 ghost use Rattle.cs_grammar.specs.Grammar.{IsNumberOf};
 ghost use Rattle.cs_grammar.specs.Weights.{Weighed};
 ghost use Rattle.cs_least.specs.Embed.Around.{HasLeastContext};
@@ -28,14 +28,12 @@ pub struct Contexts {
     slots: Vec<Option<Around>>,
 }
 
-fn slot_of(nonterminal: u16) -> usize
-    ensures { result < 64 }
-{
+fn slot_of(nonterminal: u16) -> usize {
     nonterminal as usize % SLOTS
 }
 
 impl Contexts {
-    /// No contexts, which take no memory.
+    /// No contexts, and no room for any: none is kept until `make_room`.
     pub fn new(embeds: &Embeds) -> Contexts
         ensures { AreContextsOf embeds.now result }
     {
@@ -87,20 +85,19 @@ impl Contexts {
         }
     }
 
-    /// Keeps a chosen context. After a refusal it isn't kept.
-    pub fn keep(&mut self, around: Around) -> Result<(), AllocError>
+    /// Keeps a chosen context, where room was made for it.
+    pub fn keep(&mut self, around: Around)
         ensures { KeepsContexts around self.old self.new }
     {
-        self.make_slots()?;
         let slot = slot_of(around.nonterminal);
-        self.slots[slot] = Some(around);
-        Ok(())
+        if slot < self.slots.len() {
+            self.slots[slot] = Some(around);
+        }
     }
 
-    // Makes all slots, where they aren't there.
-    fn make_slots(&mut self) -> Result<(), AllocError>
-        ensures same { (v : Weighed) → AreContextsOf v self.old → AreContextsOf v self.new }
-        ensures all { IfOk result (λ _. 64 ≤ length self.new.slots.items) }
+    /// Makes room for contexts to be kept, where there is none yet.
+    pub fn make_room(&mut self) -> Result<(), AllocError>
+        ensures { (v : Weighed) → AreContextsOf v self.old → AreContextsOf v self.new }
     {
         for _ in self.slots.len()..SLOTS {
             self.slots.push(None)?;

@@ -103,6 +103,6 @@ pub(crate) fn seam_code<'g>(
         &mut derivation,
     )?;
     derivation.extend_from_slice(&around.context.after)?;
-    kept.contexts.keep(around)?;
+    kept.contexts.keep(around);
     Ok(derivation)
 }

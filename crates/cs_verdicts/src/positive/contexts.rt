@@ -87,6 +87,6 @@ pub(crate) fn derive_context(
     costs.all_into(parts.inner.right(), &mut derivation)?;
     costs.all_into(parts.behind, &mut derivation)?;
     derivation.extend_from_slice(&around.context.after)?;
-    contexts.keep(around)?;
+    contexts.keep(around);
     Ok(derivation)
 }

@@ -85,6 +85,7 @@ impl<'t> Positives<'t> {
         let Some(goal) = goals.next() else {
             return Ok(None);
         };
+        self.kept.contexts.make_room()?;
         let verdict = self.judge.verdict(alloc, &goal, &mut self.kept)?;
         self.goals = goals;
         Ok(Some(Positive { goal, verdict }))

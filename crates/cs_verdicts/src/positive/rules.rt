@@ -45,6 +45,6 @@ pub(crate) fn derive_rule(
     derivation.push(number)?;
     costs.all_into(rule.right(), &mut derivation)?;
     derivation.extend_from_slice(&around.context.after)?;
-    contexts.keep(around)?;
+    contexts.keep(around);
     Ok(derivation)
 }

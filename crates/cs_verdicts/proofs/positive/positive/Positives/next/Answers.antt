@@ -7,7 +7,10 @@ use Rattle.cs_verdicts.specs.Positive.Judges.{judged_by, CanJudge}
 use Rattle.cs_verdicts.proofs.positive.positive.Positives.next.Goals as goal
 
 pub invariant_of-self : goal.invariant_of-self
-invariant_of-self c = (c.self.invariant.0, c.self.invariant.1, c.self.invariant.2, c.verdict.ensures.contexts)
+invariant_of-self c = (c.self.invariant.0, c.self.invariant.1, c.self.invariant.2, c.make_room.ensures (judged_by c.self.inside.judge) c.self.invariant.3)
+
+pub invariant_of-self-in_err-verdict : goal.invariant_of-self-in_err-verdict
+invariant_of-self-in_err-verdict c = (c.self.invariant.0, c.self.invariant.1, c.self.invariant.2, c.verdict.ensures.contexts)
 
 pub invariant_of-self-2 : goal.invariant_of-self-2
 invariant_of-self-2 c =
