@@ -39,7 +39,7 @@ fn is_taken(
     let same = around.nonterminal == number
         && around.context.before.as_slice() == context.before.as_slice()
         && around.context.after.as_slice() == context.after.as_slice();
-    contexts.keep(around)?;
+    contexts.keep(around);
     Ok(same)
 }
 
@@ -55,6 +55,7 @@ fn is_kept(
     requires least { HasLeastContext embeds.now.weights embeds.now.grammar number }
 {
     let mut contexts = Contexts::new(embeds);
+    contexts.make_room()?;
     Ok(
         is_taken(costs, embeds, &mut contexts, number, context)?
             && is_taken(costs, embeds, &mut contexts, number, context)?,
