@@ -5,7 +5,7 @@
 //! The layers above say what is to be done to an item by an implementation of [`Work`], make a [`Counter`] of as many
 //! items as they have and for as many workers as they want, and lend it with its [`Seat`] to [`fan`], which answers
 //! what one worker would have answered. What a worker does before it works on an item is a [`Gate`]; [`OpenGate`] does
-//! nothing.
+//! nothing. The threads and the gate go from call to call as one [`Crew`].
 //!
 //! They may also hand out seats themselves, by `split`, `draw` and `join`.
 //!
@@ -35,4 +35,4 @@ mod work;
 
 pub use counter::{Counter, Seat};
 pub use fans::fan;
-pub use work::{Gate, OpenGate, Work};
+pub use work::{Crew, Gate, OpenGate, Work};

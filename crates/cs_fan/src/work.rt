@@ -32,3 +32,10 @@ pub struct OpenGate;
 impl Gate for OpenGate {
     fn enter(&self, _index: u32) {}
 }
+
+/// What work is shared out with: the threads that workers run in, and the gate that they pass.
+#[derive(Clone, Copy)]
+pub struct Crew<'c, R, G> {
+    pub rt: &'c R,
+    pub gate: &'c G,
+}
