@@ -16,7 +16,7 @@
 //!
 //! # What is only tested
 //!
-//! That the call answers where memory is ample, and what it writes of worked rows: by `test_chain`.
+//! That the call answers where memory is ample, and what it writes of worked rows: by `test_chain_text`.
 #![tactic(auto)]
 
 mod around;
@@ -31,4 +31,4 @@ mod tally;
 mod writing;
 
 pub use laws::{one_chains_text, some_chains_text};
-pub use writing::write_chains;
+pub use writing::{Chained, write_chains};

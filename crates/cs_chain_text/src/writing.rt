@@ -8,9 +8,8 @@ ghost use Rattle.cs_io.specs.Asked.{IsCalmForAll, LentCalm, LentOne, LentPart, M
 ghost use Rattle.cs_io.specs.BufferedSink.{buffered_room, lent_name, lent_sink, waiting_bytes};
 ghost use Rattle.cs_io.specs.Stops.{PutsOne};
 ghost use Rattle.cs_io.specs.declared.halt.Halt.TheVariants.{Failed};
-ghost use Rattle.cs_manifest.specs.Manifest.Manifest.{measure_of};
-ghost use Rattle.cs_chain_text.specs.Progress.{CanCount, CanTell, CountsAll, HaveLexemes, IsAsked, IsBodyText, IsReady, IsText, IsToldBy, IsWorkOf};
-ghost use Rattle.cs_chain_text.specs.Progress.{AreFrameLinesIn, PutsBatch, TakesBatch, lexemes_by, no_chains, told_in};
+ghost use Rattle.cs_chain_text.specs.Progress.{CanCount, CanTell, CountsAll, IsAsked, IsBodyText, IsReady, IsToldBy, IsWorkOf};
+ghost use Rattle.cs_chain_text.specs.Progress.{AreFrameLinesIn, PutsBatch, TakesBatch, no_chains, told_in};
 ghost use Rattle.cs_chain_text.specs.Around.{Finds};
 ghost use Rattle.cs_chain_text.specs.Rows.{AreRowsOf};
 
@@ -23,7 +22,7 @@ use crate::rows::{Row, rows_of, write_rows};
 use crate::tally::Tally;
 use cs_chain::{Chain, Chains, each_chain_once};
 use cs_choices::Weigh;
-use cs_fan::{Counter, Gate, Work, fan};
+use cs_fan::{Counter, Crew, Gate, Work, fan};
 use cs_grammar::Weights;
 use cs_io::{BufferedSink, Halt, Sink};
 use cs_least::{Costs, Embeds};
@@ -44,58 +43,41 @@ const WORKERS: u16 = 4;
 // One worker tells fewer.
 const FEW: usize = 64;
 
-// What the text of chains is made by.
+/// What the text of chains is made by: a yacc file, the weights of what sizes count, and where there is a lex file what texts are
+/// rendered with.
 #[derive(Clone, Copy)]
-struct Chained<'a> {
-    yacc: &'a YaccFile,
-    weights: &'a Weights,
-    weigh: Weigh,
-    work: Option<&'a RenderWork<'a>>,
+pub struct Chained<'a> {
+    pub yacc: &'a YaccFile,
+    pub weights: &'a Weights,
+    pub weigh: Weigh,
+    pub work: Option<&'a RenderWork<'a>>,
 }
 
-/// Writes the text of the chains of a file to the output, each batch as it is judged. The weights are those of what sizes count;
-/// where there is a lex file, texts are rendered by the work.
+/// Writes the text of the chains of a file to the output, each batch as it is judged.
 pub fn write_chains<R: Threads + Sync, O: Sink, G: Gate + Sync>(
-    rt: &R,
+    crew: &Crew<'_, R, G>,
     alloc: Global,
-    file: &YaccFile,
-    weights: &Weights,
-    weigh: Weigh,
-    work: Option<&RenderWork<'_>>,
+    chained: &Chained<'_>,
     out: &mut O,
-    gate: &G,
 ) -> Result<(), Halt>
-    requires weights { weights.now
-        ≡ measure_of weigh file.now.grammar.tokens (lexemes_by work) }
-    requires lexemes { HaveLexemes file.now work }
-    requires few { length (chains file.now.grammar) ≤ 1000000 }
-    ensures ok { OnOk result (TookOne O.Sink
-        (IsText file.now work.entry weigh) out.old out.new) }
-    ensures part { OnErr result (TookFront O.Sink
-        (IsText file.now work.entry weigh) out.old out.new) }
+    requires { IsReady chained.now }
+    ensures ok { OnOk result (TookOne O.Sink (IsAsked chained.now) out.old out.new) }
+    ensures part { OnErr result (TookFront O.Sink (IsAsked chained.now) out.old out.new) }
     ensures no_fault { OnOk result (MetNone O.Sink out.old out.new) }
     ensures failed { Stopped Failed result → MetFault O.Sink out.old out.new }
-    ensures room { IsCalmForAll O.Sink
-        (IsText file.now work.entry weigh) out.old out.new }
+    ensures room { IsCalmForAll O.Sink (IsAsked chained.now) out.old out.new }
 {
-    let chained = Chained {
-        yacc: file,
-        weights,
-        weigh,
-        work,
-    };
     let mut buffer = Vec::with_capacity(alloc, PIECE)?;
     let mut sink = BufferedSink::new(out, &mut buffer);
-    write_through(rt, alloc, &chained, &mut sink, gate)
+    write_through(crew, alloc, chained, &mut sink)
 }
 
 // Writes the text, and then what waits.
 fn write_through<R: Threads + Sync, O: Sink, G: Gate + Sync>(
-    rt: &R,
+    crew: &Crew<'_, R, G>,
     alloc: Global,
     chained: &Chained<'_>,
     sink: &mut BufferedSink<'_, '_, O>,
-    gate: &G,
 ) -> Result<(), Halt>
     requires ready { IsReady chained.now }
     requires waiting { waiting_bytes sink.old ≡ [] }
@@ -110,17 +92,16 @@ fn write_through<R: Threads + Sync, O: Sink, G: Gate + Sync>(
 {
     one_chains_text();
     some_chains_text();
-    tell(rt, alloc, chained, sink, gate)?;
+    tell(crew, alloc, chained, sink)?;
     sink.flush()?;
     Ok(())
 }
 
 fn tell<R: Threads + Sync, S: Sink, G: Gate + Sync>(
-    rt: &R,
+    crew: &Crew<'_, R, G>,
     alloc: Global,
     chained: &Chained<'_>,
     sink: &mut S,
-    gate: &G,
 ) -> Result<(), Halt>
     requires { IsReady chained.now }
     ensures text { PutsOne S.Sink (IsAsked chained.now) sink.old sink.new result }
@@ -138,23 +119,20 @@ fn tell<R: Threads + Sync, S: Sink, G: Gate + Sync>(
     let mut cores = Cores::new(alloc, chained.yacc, &costs)?;
     write_head(sink, chained.yacc, chained.work)?;
     let mut tally = Tally::new();
-    write_goals(
-        rt, alloc, chained, &work, &mut cores, &mut tally, sink, gate,
-    )?;
+    write_goals(crew, alloc, chained, &work, &mut cores, &mut tally, sink)?;
     write_end(sink, &tally)?;
     Ok(())
 }
 
 // Writes the chains, numbered from 1, and counts them.
 fn write_goals<R: Threads + Sync, S: Sink, G: Gate + Sync>(
-    rt: &R,
+    crew: &Crew<'_, R, G>,
     alloc: Global,
     chained: &Chained<'_>,
     work: &TellWork<'_>,
     cores: &mut Cores<'_>,
     tally: &mut Tally,
     sink: &mut S,
-    gate: &G,
 ) -> Result<(), Halt>
     requires ready { IsReady chained.now }
     requires work { IsWorkOf chained.now work.now }
@@ -172,7 +150,7 @@ fn write_goals<R: Threads + Sync, S: Sink, G: Gate + Sync>(
         if batch.is_empty() {
             return Ok(());
         }
-        write_batch(rt, alloc, chained, work, cores, tally, &batch, sink, gate)?;
+        write_batch(crew, alloc, chained, work, cores, tally, &batch, sink)?;
     }
 }
 
@@ -213,7 +191,7 @@ fn next_with(chains: &mut Chains<'_>, first: &Chain, beside: bool) -> Option<Cha
 
 // Writes the chains of a batch, and counts them: by the parts of their lines, where these are kept.
 fn write_batch<R: Threads + Sync, S: Sink, G: Gate + Sync>(
-    rt: &R,
+    crew: &Crew<'_, R, G>,
     alloc: Global,
     chained: &Chained<'_>,
     work: &TellWork<'_>,
@@ -221,7 +199,6 @@ fn write_batch<R: Threads + Sync, S: Sink, G: Gate + Sync>(
     tally: &mut Tally,
     batch: &[Chain],
     sink: &mut S,
-    gate: &G,
 ) -> Result<(), Halt>
     requires ready { IsReady chained.now }
     requires work { IsWorkOf chained.now work.now }
@@ -239,7 +216,7 @@ fn write_batch<R: Threads + Sync, S: Sink, G: Gate + Sync>(
             return write_kept(chained, cores, tally, batch, &rows, sink);
         }
     }
-    write_told(rt, alloc, chained, work, tally, batch, sink, gate)
+    write_told(crew, alloc, chained, work, tally, batch, sink)
 }
 
 // What the chains of a batch have in common, where no texts are rendered. Their inner nodes are kept.
@@ -317,14 +294,13 @@ fn write_kept<S: Sink>(
 
 // Writes what the workers tell of a batch.
 fn write_told<R: Threads + Sync, S: Sink, G: Gate + Sync>(
-    rt: &R,
+    crew: &Crew<'_, R, G>,
     alloc: Global,
     chained: &Chained<'_>,
     work: &TellWork<'_>,
     tally: &mut Tally,
     batch: &[Chain],
     sink: &mut S,
-    gate: &G,
 ) -> Result<(), Halt>
     requires work { IsWorkOf chained.now work.now }
     requires chains { All (IsChain work.now.costs.now.grammar) batch.now }
@@ -335,34 +311,32 @@ fn write_told<R: Threads + Sync, S: Sink, G: Gate + Sync>(
     ensures lent { S.lent sink.new ≡ S.lent sink.old }
 {
     let _named = chained.yacc.grammar();
-    let entries = tell_batch(rt, alloc, work, batch, gate)?;
+    let entries = tell_batch(crew, alloc, work, batch)?;
     write_entries(sink, chained.yacc, tally, &entries)?;
     Ok(())
 }
 
 // What is told of the chains of a batch, in order.
 fn tell_batch<R: Threads + Sync, G: Gate + Sync>(
-    rt: &R,
+    crew: &Crew<'_, R, G>,
     alloc: Global,
     work: &TellWork<'_>,
     batch: &[Chain],
-    gate: &G,
 ) -> Result<Vec<Told>, AllocError>
     requires can { CanTell work.now }
     requires chains { All (IsChain work.now.costs.now.grammar) batch.now }
     requires few { length batch.now ≤ 1024 }
     ensures { IfOk result (λ entries. AllZip (IsToldBy work.now) batch.now entries.items) }
 {
-    share(rt, alloc, work, batch, gate)
+    share(crew, alloc, work, batch)
 }
 
 // What the work makes of the chains of a batch, by workers.
 fn share<R: Threads + Sync, W: Work<Chain, Told> + Sync, G: Gate + Sync>(
-    rt: &R,
+    crew: &Crew<'_, R, G>,
     alloc: Global,
     work: &W,
     batch: &[Chain],
-    gate: &G,
 ) -> Result<Vec<Told>, AllocError>
     requires takes { All (W.takes work.now) batch.now }
     requires few { length batch.now ≤ 1024 }
@@ -370,7 +344,7 @@ fn share<R: Threads + Sync, W: Work<Chain, Told> + Sync, G: Gate + Sync>(
 {
     let workers = workers_for(batch.len());
     let (counter, mut seat) = Counter::new(alloc, batch.len() as u32, workers)?;
-    fan(rt, alloc, batch, work, gate, &counter, &mut seat)
+    fan(crew.rt, alloc, batch, work, crew.gate, &counter, &mut seat)
 }
 
 // How many workers share so many chains: to start one takes longer than to tell a few.

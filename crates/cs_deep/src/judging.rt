@@ -7,7 +7,7 @@ ghost use Rattle.cs_mutate.specs.Edit.{IsPlaced};
 
 use crate::candidates::Candidate;
 use crate::class::EditClass;
-use cs_fan::{Counter, Gate, Work, fan};
+use cs_fan::{Counter, Crew, Gate, Work, fan};
 use cs_member::{MOST_LENGTH, Recognizer};
 use cs_mutate::{Edit, apply};
 use cs_texts::{RenderWork, Rendered, render};
@@ -114,11 +114,10 @@ impl<'a> Work<Candidate, Judged> for DeepWork<'a> {
 
 /// What becomes of a base by each candidate, in order.
 pub(crate) fn judge_batch<R: Threads + Sync, G: Gate + Sync>(
-    rt: &R,
+    crew: &Crew<'_, R, G>,
     alloc: Global,
     work: &DeepWork<'_>,
     batch: &[Candidate],
-    gate: &G,
 ) -> Result<Vec<Judged>, AllocError>
     requires takes { All (CanJudge work.now) batch.now }
     requires few { length batch.now ≤ 1024 }
@@ -127,5 +126,5 @@ pub(crate) fn judge_batch<R: Threads + Sync, G: Gate + Sync>(
 {
     let workers = if batch.len() < FULL { 1 } else { WORKERS };
     let (counter, mut seat) = Counter::new(alloc, batch.len() as u32, workers)?;
-    fan(rt, alloc, batch, work, gate, &counter, &mut seat)
+    fan(crew.rt, alloc, batch, work, crew.gate, &counter, &mut seat)
 }

@@ -18,7 +18,7 @@ use crate::laws::{one_deep, some_deep};
 use crate::lines::{write_edits, write_end, write_head, write_opening};
 use crate::tally::Tally;
 use cs_choices::Criteria;
-use cs_fan::Gate;
+use cs_fan::{Crew, Gate};
 use cs_io::{BufferedSink, Halt, Sink};
 use cs_manifest::one_text;
 use cs_member::Recognizer;
@@ -41,13 +41,19 @@ pub struct Deep<'a> {
     pub means: Means<'a>,
 }
 
+// A base with its number.
+#[derive(Clone, Copy)]
+struct Base<'b> {
+    number: u32,
+    tokens: &'b [u16],
+}
+
 /// Writes the text of `deep` to the output, each batch of edits as it is classed.
 pub fn write_deep<R: Threads + Sync, O: Sink, G: Gate + Sync>(
-    rt: &R,
+    crew: &Crew<'_, R, G>,
     alloc: Global,
     deep: &Deep<'_>,
     out: &mut O,
-    gate: &G,
 ) -> Result<(), Halt>
     requires { IsReady deep.now }
     ensures ok { OnOk result (TookOne O.Sink (IsDeepOf deep.now) out.old out.new) }
@@ -58,16 +64,15 @@ pub fn write_deep<R: Threads + Sync, O: Sink, G: Gate + Sync>(
 {
     let mut buffer = Vec::with_capacity(alloc, PIECE)?;
     let mut sink = BufferedSink::new(out, &mut buffer);
-    write_through(rt, alloc, deep, &mut sink, gate)
+    write_through(crew, alloc, deep, &mut sink)
 }
 
 // Writes the text, and then what waits.
 fn write_through<R: Threads + Sync, O: Sink, G: Gate + Sync>(
-    rt: &R,
+    crew: &Crew<'_, R, G>,
     alloc: Global,
     deep: &Deep<'_>,
     sink: &mut BufferedSink<'_, '_, O>,
-    gate: &G,
 ) -> Result<(), Halt>
     requires ready { IsReady deep.now }
     requires waiting { waiting_bytes sink.old ≡ [] }
@@ -82,17 +87,16 @@ fn write_through<R: Threads + Sync, O: Sink, G: Gate + Sync>(
 {
     one_deep();
     some_deep();
-    tell(rt, alloc, deep, sink, gate)?;
+    tell(crew, alloc, deep, sink)?;
     sink.flush()?;
     Ok(())
 }
 
 fn tell<R: Threads + Sync, S: Sink, G: Gate + Sync>(
-    rt: &R,
+    crew: &Crew<'_, R, G>,
     alloc: Global,
     deep: &Deep<'_>,
     sink: &mut S,
-    gate: &G,
 ) -> Result<(), Halt>
     requires { IsReady deep.now }
     ensures text { PutsOne S.Sink (IsDeepOf deep.now) sink.old sink.new result }
@@ -105,7 +109,7 @@ fn tell<R: Threads + Sync, S: Sink, G: Gate + Sync>(
     let bases = bases_of(alloc, grammar, most_bases(&deep.means), &mut positives)?;
     write_head(sink)?;
     let mut tally = Tally::new();
-    write_bases(rt, alloc, deep, &recognizer, &bases, &mut tally, sink, gate)?;
+    write_bases(crew, alloc, deep, &recognizer, &bases, &mut tally, sink)?;
     write_end(sink, bases.len(), &tally)?;
     Ok(())
 }
@@ -124,14 +128,13 @@ fn most_bases(means: &Means<'_>) -> u32
 
 // Writes the bases, numbered from 1, and behind each those of its edits that are outside, numbered from 1 through all bases.
 fn write_bases<R: Threads + Sync, S: Sink, G: Gate + Sync>(
-    rt: &R,
+    crew: &Crew<'_, R, G>,
     alloc: Global,
     deep: &Deep<'_>,
     recognizer: &Recognizer<'_>,
     bases: &Bases,
     tally: &mut Tally,
     sink: &mut S,
-    gate: &G,
 ) -> Result<(), Halt>
     requires ready { CanTell deep.now recognizer.now }
     requires bases { All (IsEditable deep.now.yacc.now.grammar.tokens) bases.now.list }
@@ -144,39 +147,31 @@ fn write_bases<R: Threads + Sync, S: Sink, G: Gate + Sync>(
     for index in 0..bases.len() {
         let (goal, tokens) = bases.get(index);
         write_opening(sink, index + 1, goal)?;
-        write_base(
-            rt,
-            alloc,
-            deep,
-            recognizer,
-            index + 1,
+        let base = Base {
+            number: index + 1,
             tokens,
-            tally,
-            sink,
-            gate,
-        )?;
+        };
+        write_base(crew, alloc, deep, recognizer, &base, tally, sink)?;
     }
     Ok(())
 }
 
 // Writes those of a base's edits that are outside, and counts all.
 fn write_base<R: Threads + Sync, S: Sink, G: Gate + Sync>(
-    rt: &R,
+    crew: &Crew<'_, R, G>,
     alloc: Global,
     deep: &Deep<'_>,
     recognizer: &Recognizer<'_>,
-    number: u32,
-    tokens: &[u16],
+    base: &Base<'_>,
     tally: &mut Tally,
     sink: &mut S,
-    gate: &G,
 ) -> Result<(), Halt>
     requires ready { CanTell deep.now recognizer.now }
-    requires base { CanEdit deep.now.yacc.now.grammar.tokens tokens.now }
-    requires few { HasFew deep.now tokens.now tally.old }
+    requires base { CanEdit deep.now.yacc.now.grammar.tokens base.now.tokens.now }
+    requires few { HasFew deep.now base.now.tokens.now tally.old }
     ensures text { PutsEditsText S.Sink
-        deep.now number tokens.now tally.old sink.old sink.new result }
-    ensures counted { OnOk result (CountsEdits deep.now tokens.now tally.old tally.new) }
+        deep.now base.now.number base.now.tokens.now tally.old sink.old sink.new result }
+    ensures counted { OnOk result (CountsEdits deep.now base.now.tokens.now tally.old tally.new) }
     ensures lent { S.lent sink.new ≡ S.lent sink.old }
 {
     one_text();
@@ -184,15 +179,15 @@ fn write_base<R: Threads + Sync, S: Sink, G: Gate + Sync>(
     let work = DeepWork {
         recognizer,
         render: deep.means.work,
-        base: tokens,
+        base: base.tokens,
     };
-    let mut candidates = Candidates::new(alloc, mutation.pairs, tokens, mutation.operators);
+    let mut candidates = Candidates::new(alloc, mutation.pairs, base.tokens, mutation.operators);
     'batches: loop {
         let batch = next_batch(alloc, &mut candidates)?;
         if batch.is_empty() {
             return Ok(());
         }
-        let judged = judge_batch(rt, alloc, &work, &batch, gate)?;
-        write_edits(sink, deep.yacc, number, tally, &judged)?;
+        let judged = judge_batch(crew, alloc, &work, &batch)?;
+        write_edits(sink, deep.yacc, base.number, tally, &judged)?;
     }
 }

@@ -10,7 +10,7 @@ use crate::classing::class_of;
 use crate::coming::Candidate;
 use crate::lists::SlipList;
 use crate::slip::Slip;
-use cs_fan::{Counter, Gate, Work, fan};
+use cs_fan::{Counter, Crew, Gate, Work, fan};
 use cs_member::Recognizer;
 use cs_texts::{RenderWork, Rendered, render};
 use std::alloc::{AllocError, Global};
@@ -124,11 +124,10 @@ impl<'a> Work<Candidate, Judged> for WrongWork<'a> {
 
 /// What becomes of each candidate, in order.
 pub(crate) fn judge_batch<R: Threads + Sync, G: Gate + Sync>(
-    rt: &R,
+    crew: &Crew<'_, R, G>,
     alloc: Global,
     work: &WrongWork<'_>,
     batch: &[Candidate],
-    gate: &G,
 ) -> Result<Vec<Judged>, AllocError>
     requires takes { All (CanJudge work.now) batch.now }
     requires few { length batch.now ≤ 1024 }
@@ -136,5 +135,5 @@ pub(crate) fn judge_batch<R: Threads + Sync, G: Gate + Sync>(
 {
     let workers = if batch.len() < FULL { 1 } else { WORKERS };
     let (counter, mut seat) = Counter::new(alloc, batch.len() as u32, workers)?;
-    fan(rt, alloc, batch, work, gate, &counter, &mut seat)
+    fan(crew.rt, alloc, batch, work, crew.gate, &counter, &mut seat)
 }

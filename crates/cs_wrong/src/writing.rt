@@ -17,7 +17,7 @@ use crate::slip::Slip;
 use crate::slips::slips_of;
 use crate::tally::Tally;
 use cs_choices::{Slips, Weigh};
-use cs_fan::Gate;
+use cs_fan::{Crew, Gate};
 use cs_grammar::Weights;
 use cs_io::{BufferedSink, Halt, Sink};
 use cs_least::{Costs, Embeds};
@@ -54,11 +54,10 @@ struct Making<'a> {
 
 /// Writes the text of `wrong` to the output, each batch of slips as it is classed.
 pub fn write_wrong<R: Threads + Sync, O: Sink, G: Gate + Sync>(
-    rt: &R,
+    crew: &Crew<'_, R, G>,
     alloc: Global,
     asked: &Wrong<'_>,
     out: &mut O,
-    gate: &G,
 ) -> Result<(), Halt>
     requires { IsReady asked.now }
     ensures ok { OnOk result (TookOne O.Sink (IsAsked asked.now) out.old out.new) }
@@ -69,16 +68,15 @@ pub fn write_wrong<R: Threads + Sync, O: Sink, G: Gate + Sync>(
 {
     let mut buffer = Vec::with_capacity(alloc, PIECE)?;
     let mut sink = BufferedSink::new(out, &mut buffer);
-    write_through(rt, alloc, asked, &mut sink, gate)
+    write_through(crew, alloc, asked, &mut sink)
 }
 
 // Writes the text, and then what waits.
 fn write_through<R: Threads + Sync, O: Sink, G: Gate + Sync>(
-    rt: &R,
+    crew: &Crew<'_, R, G>,
     alloc: Global,
     asked: &Wrong<'_>,
     sink: &mut BufferedSink<'_, '_, O>,
-    gate: &G,
 ) -> Result<(), Halt>
     requires ready { IsReady asked.now }
     requires waiting { waiting_bytes sink.old ≡ [] }
@@ -93,17 +91,16 @@ fn write_through<R: Threads + Sync, O: Sink, G: Gate + Sync>(
 {
     one_wrong_text();
     some_wrong_text();
-    tell(rt, alloc, asked, sink, gate)?;
+    tell(crew, alloc, asked, sink)?;
     sink.flush()?;
     Ok(())
 }
 
 fn tell<R: Threads + Sync, S: Sink, G: Gate + Sync>(
-    rt: &R,
+    crew: &Crew<'_, R, G>,
     alloc: Global,
     asked: &Wrong<'_>,
     sink: &mut S,
-    gate: &G,
 ) -> Result<(), Halt>
     requires { IsReady asked.now }
     ensures text { PutsOne S.Sink (IsAsked asked.now) sink.old sink.new result }
@@ -125,17 +122,16 @@ fn tell<R: Threads + Sync, S: Sink, G: Gate + Sync>(
         pairs: &pairs,
         judging,
     };
-    tell_by(rt, alloc, asked, &making, sink, gate)
+    tell_by(crew, alloc, asked, &making, sink)
 }
 
 // Writes the head, the slips and the end.
 fn tell_by<R: Threads + Sync, S: Sink, G: Gate + Sync>(
-    rt: &R,
+    crew: &Crew<'_, R, G>,
     alloc: Global,
     asked: &Wrong<'_>,
     making: &Making<'_>,
     sink: &mut S,
-    gate: &G,
 ) -> Result<(), Halt>
     requires ready { IsReady asked.now }
     requires making { IsMakingOf asked.now making.now }
@@ -146,21 +142,20 @@ fn tell_by<R: Threads + Sync, S: Sink, G: Gate + Sync>(
     let slips = slips_of(alloc, asked.yacc.grammar(), asked.chosen)?;
     write_head(sink)?;
     let mut tally = Tally::new();
-    write_slips(rt, alloc, asked, making, &slips, &mut tally, sink, gate)?;
+    write_slips(crew, alloc, asked, making, &slips, &mut tally, sink)?;
     write_end(sink, &tally)?;
     Ok(())
 }
 
 // Writes those of the slips whose lists are written, numbered from 1, and counts all.
 fn write_slips<R: Threads + Sync, S: Sink, G: Gate + Sync>(
-    rt: &R,
+    crew: &Crew<'_, R, G>,
     alloc: Global,
     asked: &Wrong<'_>,
     making: &Making<'_>,
     slips: &[Slip],
     tally: &mut Tally,
     sink: &mut S,
-    gate: &G,
 ) -> Result<(), Halt>
     requires ready { IsReady asked.now }
     requires making { IsMakingOf asked.now making.now }
@@ -185,7 +180,7 @@ fn write_slips<R: Threads + Sync, S: Sink, G: Gate + Sync>(
         if batch.is_empty() {
             return Ok(());
         }
-        let entries = judge_batch(rt, alloc, &making.judging, &batch, gate)?;
+        let entries = judge_batch(crew, alloc, &making.judging, &batch)?;
         write_entries(sink, asked.yacc, tally, &entries)?;
     }
 }

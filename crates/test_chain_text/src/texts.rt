@@ -7,9 +7,9 @@ ghost use Rattle.cs_scanner.specs.Lexeme.Lexeme.{AreLexemes};
 ghost use Rattle.cs_scanner.specs.Scan.Compared.{scanning};
 
 use cs_chain::total;
-use cs_chain_text::write_chains;
+use cs_chain_text::{Chained, write_chains};
 use cs_choices::Weigh;
-use cs_fan::OpenGate;
+use cs_fan::{Crew, OpenGate};
 use cs_grammar::Weights;
 use cs_io::{Halt, MemorySink};
 use cs_lex::LexFile;
@@ -141,15 +141,20 @@ fn write<'f, R: Threads + Sync>(
     requires few { length (chains yacc.now.grammar) ≤ 1000000 }
 {
     let weights = Weights::nodes(alloc, yacc.grammar().tokens())?;
-    Ok(write_chains(
-        rt,
-        alloc,
+    let chained = Chained {
         yacc,
-        &weights,
-        Weigh::Nodes,
+        weights: &weights,
+        weigh: Weigh::Nodes,
         work,
+    };
+    Ok(write_chains(
+        &Crew {
+            rt,
+            gate: &OpenGate,
+        },
+        alloc,
+        &chained,
         out,
-        &OpenGate,
     ))
 }
 

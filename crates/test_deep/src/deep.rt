@@ -6,7 +6,7 @@ ghost use Rattle.cs_writing.specs.Plan.Plans.{CanRender};
 
 use cs_choices::{Criteria, Operators, Weigh};
 use cs_deep::{Deep, write_deep};
-use cs_fan::OpenGate;
+use cs_fan::{Crew, OpenGate};
 use cs_grammar::Weights;
 use cs_io::{Halt, MemorySink};
 use cs_lex::LexFile;
@@ -133,7 +133,15 @@ fn write<'f, R: Threads + Sync>(
             weigh: Weigh::Nodes,
         },
     };
-    Ok(write_deep(rt, alloc, &deep, out, &OpenGate))
+    Ok(write_deep(
+        &Crew {
+            rt,
+            gate: &OpenGate,
+        },
+        alloc,
+        &deep,
+        out,
+    ))
 }
 
 // The same by the texts of a lex file.

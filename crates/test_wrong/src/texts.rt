@@ -3,7 +3,7 @@
 ghost use Rattle.cs_wrong.specs.Text.{HaveLexemes};
 
 use cs_choices::{Slips, Weigh};
-use cs_fan::OpenGate;
+use cs_fan::{Crew, OpenGate};
 use cs_grammar::Weights;
 use cs_io::{Halt, MemorySink};
 use cs_lex::LexFile;
@@ -232,7 +232,15 @@ fn write<'f, R: Threads + Sync>(
         chosen,
         work,
     };
-    Ok(write_wrong(rt, alloc, &asked, out, &OpenGate))
+    Ok(write_wrong(
+        &Crew {
+            rt,
+            gate: &OpenGate,
+        },
+        alloc,
+        &asked,
+        out,
+    ))
 }
 
 // The same by what was read of both files.

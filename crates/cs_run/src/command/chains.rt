@@ -11,9 +11,9 @@ use crate::command::endings::ended;
 use crate::ending::Ending;
 use crate::input::Refusal;
 use cs_chain::total;
-use cs_chain_text::write_chains;
+use cs_chain_text::{Chained, write_chains};
 use cs_choices::Weigh;
-use cs_fan::Gate;
+use cs_fan::{Crew, Gate};
 use cs_grammar::Weights;
 use cs_io::Sink;
 use cs_texts::RenderWork;
@@ -26,31 +26,29 @@ const MOST_CHAINS: u64 = 1_000_000;
 
 /// Writes the chains of a yacc file's grammar, without texts.
 pub(crate) fn chains<R: Threads + Sync, O: Sink, G: Gate + Sync>(
-    rt: &R,
+    crew: &Crew<'_, R, G>,
     alloc: Global,
     file: &YaccFile,
     out: &mut O,
-    gate: &G,
 ) -> Ending
     ensures writes { WritesChainsOf file.now result (used O.Sink out.old out.new) }
     ensures told { HasLine result }
 {
     match Weights::nodes(alloc, file.grammar().tokens()) {
-        Ok(weights) => chains_by(rt, alloc, file, &weights, Weigh::Nodes, None, out, gate),
+        Ok(weights) => chains_by(crew, alloc, file, &weights, Weigh::Nodes, None, out),
         Err(_) => Ending::NoMemory,
     }
 }
 
 /// The same by these weights; with texts, where there is a lex file.
 pub(crate) fn chains_by<R: Threads + Sync, O: Sink, G: Gate + Sync>(
-    rt: &R,
+    crew: &Crew<'_, R, G>,
     alloc: Global,
     file: &YaccFile,
     weights: &Weights,
     weigh: Weigh,
     work: Option<&RenderWork<'_>>,
     out: &mut O,
-    gate: &G,
 ) -> Ending
     requires weights { weights.now
         ≡ measure_of weigh file.now.grammar.tokens (lexemes_by work) }
@@ -66,5 +64,11 @@ pub(crate) fn chains_by<R: Threads + Sync, O: Sink, G: Gate + Sync>(
     if found > MOST_CHAINS {
         return Ending::Refused(Refusal::ManyChains { found });
     }
-    ended(write_chains(rt, alloc, file, weights, weigh, work, out, gate))
+    let chained = Chained {
+        yacc: file,
+        weights,
+        weigh,
+        work,
+    };
+    ended(write_chains(crew, alloc, &chained, out))
 }

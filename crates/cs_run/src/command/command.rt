@@ -19,7 +19,7 @@ use crate::command::text::of_text;
 use crate::ending::{Ending, finish};
 use crate::input::{Meant, Pair, PairAndText, read_files};
 use crate::writer::{write_rules, write_suite, write_summary};
-use cs_fan::Gate;
+use cs_fan::{Crew, Gate};
 use cs_io::{Desk, Sink};
 use cs_words::{Arguments, Command, GrammarCommand, Options, PairCommand, read_words};
 use cs_yacc::YaccFile;
@@ -47,18 +47,18 @@ pub fn run<R: Threads + Sync, D: Desk, O: Sink, E: Sink, G: Gate + Sync>(
     ensures bad_words_ask_nothing { AreBad (texts words.now) → desk.new ≡ desk.old }
     ensures no_files_ask_nothing { AskForNoFiles (texts words.now) → desk.new ≡ desk.old }
 {
-    let ending = perform(rt, alloc, words, desk, out, gate);
+    let crew = Crew { rt, gate };
+    let ending = perform(&crew, alloc, words, desk, out);
     finish(alloc, ending, err)
 }
 
 // Does what the words ask for.
 fn perform<R: Threads + Sync, D: Desk, O: Sink, G: Gate + Sync>(
-    rt: &R,
+    crew: &Crew<'_, R, G>,
     alloc: Global,
     words: &[String],
     desk: &mut D,
     out: &mut O,
-    gate: &G,
 ) -> Ending
     ensures performs { PerformsFor (texts words.now) result
         (desk_used D.Desk desk.old desk.new)
@@ -77,23 +77,22 @@ fn perform<R: Threads + Sync, D: Desk, O: Sink, G: Gate + Sync>(
     };
     match meant {
         Meant::Nothing => match request.arguments {
-            Arguments::Seed(seed) => summary(rt, alloc, seed, out, gate),
+            Arguments::Seed(seed) => summary(crew, alloc, seed, out),
             Arguments::Files(_) => unreachable!(),
         },
-        Meant::Grammar(file) => of_grammar(rt, alloc, request.command, file, out, gate),
-        Meant::Pair(pair) => of_pair(rt, alloc, request.command, request.options, pair, out, gate),
+        Meant::Grammar(file) => of_grammar(crew, alloc, request.command, file, out),
+        Meant::Pair(pair) => of_pair(crew, alloc, request.command, request.options, pair, out),
         Meant::Text(beside) => of_third(alloc, request.command, &beside, out),
     }
 }
 
 // Writes the text that a command asks for by a yacc file.
 fn of_grammar<R: Threads + Sync, O: Sink, G: Gate + Sync>(
-    rt: &R,
+    crew: &Crew<'_, R, G>,
     alloc: Global,
     command: Command,
     file: YaccFile,
     out: &mut O,
-    gate: &G,
 ) -> Ending
     requires takes { TakesGrammar command }
     ensures writes { WritesByGrammar command file result
@@ -101,21 +100,20 @@ fn of_grammar<R: Threads + Sync, O: Sink, G: Gate + Sync>(
     ensures told { HasLine result }
 {
     match command {
-        Command::OfGrammar(GrammarCommand::Rules) => rules(rt, alloc, file, out, gate),
-        Command::OfGrammar(GrammarCommand::Chains) => chains(rt, alloc, &file, out, gate),
+        Command::OfGrammar(GrammarCommand::Rules) => rules(crew, alloc, file, out),
+        Command::OfGrammar(GrammarCommand::Chains) => chains(crew, alloc, &file, out),
         Command::OfPair(_) | Command::Member | Command::Check | Command::Gen => unreachable!(),
     }
 }
 
 // Writes the text that a command asks for by a yacc file and a lex file.
 fn of_pair<R: Threads + Sync, O: Sink, G: Gate + Sync>(
-    rt: &R,
+    crew: &Crew<'_, R, G>,
     alloc: Global,
     command: Command,
     options: Options,
     pair: Pair,
     out: &mut O,
-    gate: &G,
 ) -> Ending
     requires takes { TakesPair command }
     ensures writes { WritesByPair command options pair result
@@ -123,19 +121,19 @@ fn of_pair<R: Threads + Sync, O: Sink, G: Gate + Sync>(
     ensures told { HasLine result }
 {
     match command {
-        Command::OfPair(PairCommand::Suite) => suite(rt, alloc, pair, options, out, gate),
+        Command::OfPair(PairCommand::Suite) => suite(crew, alloc, pair, options, out),
         Command::OfPair(PairCommand::Lexical) => lexical(alloc, &pair, out),
         Command::OfPair(PairCommand::Chains) => {
-            of_lexemes(rt, alloc, PairCommand::Chains, &options, &pair, out, gate)
+            of_lexemes(crew, alloc, PairCommand::Chains, &options, &pair, out)
         }
         Command::OfPair(PairCommand::Spell) => {
-            of_lexemes(rt, alloc, PairCommand::Spell, &options, &pair, out, gate)
+            of_lexemes(crew, alloc, PairCommand::Spell, &options, &pair, out)
         }
         Command::OfPair(PairCommand::Deep) => {
-            of_lexemes(rt, alloc, PairCommand::Deep, &options, &pair, out, gate)
+            of_lexemes(crew, alloc, PairCommand::Deep, &options, &pair, out)
         }
         Command::OfPair(PairCommand::Wrong) => {
-            of_lexemes(rt, alloc, PairCommand::Wrong, &options, &pair, out, gate)
+            of_lexemes(crew, alloc, PairCommand::Wrong, &options, &pair, out)
         }
         Command::OfGrammar(_) | Command::Member | Command::Check | Command::Gen => unreachable!(),
     }
@@ -158,33 +156,31 @@ fn of_third<O: Sink>(alloc: Global, command: Command, beside: &PairAndText, out:
 
 // Writes the rule goals of a yacc file.
 fn rules<R: Threads + Sync, O: Sink, G: Gate + Sync>(
-    rt: &R,
+    crew: &Crew<'_, R, G>,
     alloc: Global,
     file: YaccFile,
     out: &mut O,
-    gate: &G,
 ) -> Ending
     ensures writes { WritesSure (IsRules file) result
         (used O.Sink out.old out.new) }
     ensures told { HasLine result }
 {
-    ended(write_rules(rt, alloc, &file, out, gate))
+    ended(write_rules(crew, alloc, &file, out))
 }
 
 // Writes the suite of a yacc file and a lex file.
 fn suite<R: Threads + Sync, O: Sink, G: Gate + Sync>(
-    rt: &R,
+    crew: &Crew<'_, R, G>,
     alloc: Global,
     pair: Pair,
     options: Options,
     out: &mut O,
-    gate: &G,
 ) -> Ending
     ensures writes { WritesOfPair pair (IsSuite pair options) result
         (used O.Sink out.old out.new) }
     ensures told { HasLine result }
 {
-    match write_suite(rt, alloc, pair, options, out, gate) {
+    match write_suite(crew, alloc, pair, options, out) {
         Ok(_) => Ending::Written,
         Err(halt) => unsuited(halt),
     }
@@ -192,15 +188,14 @@ fn suite<R: Threads + Sync, O: Sink, G: Gate + Sync>(
 
 // Writes the summary of a number.
 fn summary<R: Threads + Sync, O: Sink, G: Gate + Sync>(
-    rt: &R,
+    crew: &Crew<'_, R, G>,
     alloc: Global,
     seed: u64,
     out: &mut O,
-    gate: &G,
 ) -> Ending
     ensures writes { WritesSure (IsSummary seed) result
         (used O.Sink out.old out.new) }
     ensures told { HasLine result }
 {
-    ended(write_summary(rt, alloc, seed, out, gate))
+    ended(write_summary(crew, alloc, seed, out))
 }

@@ -8,7 +8,7 @@ ghost use Rattle.cs_run.specs.Command.Scanned.{CanRenderAsked, IsDeepBy, measure
 use crate::command::lexemes::Asked;
 use crate::writer::means_of;
 use cs_deep::{Deep, write_deep};
-use cs_fan::Gate;
+use cs_fan::{Crew, Gate};
 use cs_grammar::Weights;
 use cs_io::{Halt, Sink};
 use cs_texts::RenderWork;
@@ -18,13 +18,12 @@ use std::thread::Threads;
 
 /// Writes the edits that hold no poisoned pair and are outside the language, by these weights and what renders texts.
 pub(crate) fn deep<'f, R: Threads + Sync, O: Sink, G: Gate + Sync>(
-    rt: &R,
+    crew: &Crew<'_, R, G>,
     alloc: Global,
     asked: Asked<'f>,
     weights: &'f Weights,
     work: &'f RenderWork<'f>,
     out: &mut O,
-    gate: &G,
 ) -> Result<(), Halt>
     requires weights { weights.now ≡ measure_asked asked work.now }
     requires work { CanRenderAsked asked work.now }
@@ -41,5 +40,5 @@ pub(crate) fn deep<'f, R: Threads + Sync, O: Sink, G: Gate + Sync>(
         tables: &tables,
         means: means_of(asked.options, work, tables.pairs()),
     };
-    write_deep(rt, alloc, &deep, out, gate)
+    write_deep(crew, alloc, &deep, out)
 }

@@ -12,7 +12,7 @@ use crate::command::scanner::scanner_of;
 use crate::ending::Ending;
 use crate::input::Pair;
 use crate::writer::weights_of;
-use cs_fan::Gate;
+use cs_fan::{Crew, Gate};
 use cs_grammar::Weights;
 use cs_io::Sink;
 use cs_scanner::{Automaton, Lexemes, Scanner};
@@ -34,13 +34,12 @@ pub(crate) struct Asked<'a> {
 
 /// Writes the text that a command asks for by a yacc file and a lex file.
 pub(crate) fn of_lexemes<R: Threads + Sync, O: Sink, G: Gate + Sync>(
-    rt: &R,
+    crew: &Crew<'_, R, G>,
     alloc: Global,
     command: PairCommand,
     options: &Options,
     pair: &Pair,
     out: &mut O,
-    gate: &G,
 ) -> Ending
     requires needs { NeedsLexemes command }
     ensures writes { WritesPair command options.now pair.now result
@@ -57,17 +56,16 @@ pub(crate) fn of_lexemes<R: Threads + Sync, O: Sink, G: Gate + Sync>(
         options,
         yacc: &pair.yacc,
     };
-    by_scanner(rt, alloc, asked, &scanner, out, gate)
+    by_scanner(crew, alloc, asked, &scanner, out)
 }
 
 // The same by what the lex file's texts are scanned by.
 fn by_scanner<R: Threads + Sync, O: Sink, G: Gate + Sync>(
-    rt: &R,
+    crew: &Crew<'_, R, G>,
     alloc: Global,
     asked: Asked<'_>,
     scanner: &Scanner<'_>,
     out: &mut O,
-    gate: &G,
 ) -> Ending
     requires needs { NeedsLexemes asked.command }
     requires few { length scanner.now.kinds.now ≤ 2048 }
@@ -85,20 +83,19 @@ fn by_scanner<R: Threads + Sync, O: Sink, G: Gate + Sync>(
         separator: asked.options.separator.bytes(),
     };
     match weights_of(alloc, asked.options.weigh, &lexemes, tokens) {
-        Ok(weights) => by_work(rt, alloc, asked, &weights, &work, out, gate),
+        Ok(weights) => by_work(crew, alloc, asked, &weights, &work, out),
         Err(_) => Ending::NoMemory,
     }
 }
 
 // The same by these weights and what renders texts.
 fn by_work<'f, R: Threads + Sync, O: Sink, G: Gate + Sync>(
-    rt: &R,
+    crew: &Crew<'_, R, G>,
     alloc: Global,
     asked: Asked<'f>,
     weights: &'f Weights,
     work: &'f RenderWork<'f>,
     out: &mut O,
-    gate: &G,
 ) -> Ending
     requires needs { NeedsLexemes asked.command }
     requires few { length work.now.scanner.now.kinds.now ≤ 2048 }
@@ -110,10 +107,10 @@ fn by_work<'f, R: Threads + Sync, O: Sink, G: Gate + Sync>(
     let weigh = asked.options.weigh;
     match asked.command {
         PairCommand::Chains => {
-            chains_by(rt, alloc, asked.yacc, weights, weigh, Some(work), out, gate)
+            chains_by(crew, alloc, asked.yacc, weights, weigh, Some(work), out)
         }
         PairCommand::Spell => ended(write_spell(alloc, asked.yacc, weights, weigh, work, out)),
-        PairCommand::Deep => ended(deep(rt, alloc, asked, weights, work, out, gate)),
+        PairCommand::Deep => ended(deep(crew, alloc, asked, weights, work, out)),
         PairCommand::Wrong => {
             let wrong = Wrong {
                 yacc: asked.yacc,
@@ -122,7 +119,7 @@ fn by_work<'f, R: Threads + Sync, O: Sink, G: Gate + Sync>(
                 chosen: asked.options.slips,
                 work,
             };
-            ended(write_wrong(rt, alloc, &wrong, out, gate))
+            ended(write_wrong(crew, alloc, &wrong, out))
         }
         PairCommand::Suite | PairCommand::Lexical => unreachable!(),
     }

@@ -7,7 +7,7 @@ ghost use Rattle.cs_io.specs.declared.halt.Halt.TheVariants.{Failed};
 ghost use Rattle.cs_io.specs.Asked.{IsCalmForAll, MetFault, MetNone, Stopped, TookFront, TookOne};
 
 use cs_choices::Criteria;
-use cs_fan::Gate;
+use cs_fan::{Crew, Gate};
 use cs_grammar::Weights;
 use cs_io::{Halt, Sink};
 use cs_least::{Costs, Embeds};
@@ -26,11 +26,10 @@ const RULE_GOALS: Criteria = Criteria {
 
 /// Writes the manifest of a yacc file in the form of `rules`: its rule goals, without texts.
 pub fn write_rules<R: Threads + Sync, O: Sink, G: Gate + Sync>(
-    rt: &R,
+    crew: &Crew<'_, R, G>,
     alloc: Global,
     file: &YaccFile,
     out: &mut O,
-    gate: &G,
 ) -> Result<(), Halt>
     ensures ok { OnOk result (TookOne O.Sink (IsRules file.now) out.old out.new) }
     ensures part { OnErr result (TookFront O.Sink (IsRules file.now) out.old out.new) }
@@ -39,17 +38,16 @@ pub fn write_rules<R: Threads + Sync, O: Sink, G: Gate + Sync>(
     ensures room { IsCalmForAll O.Sink (IsRules file.now) out.old out.new }
 {
     let weights = Weights::nodes(alloc, file.grammar().tokens())?;
-    write_rule_goals(rt, alloc, file, &weights, out, gate)
+    write_rule_goals(crew, alloc, file, &weights, out)
 }
 
 // The same by weights that count nodes.
 fn write_rule_goals<'f, R: Threads + Sync, O: Sink, G: Gate + Sync>(
-    rt: &R,
+    crew: &Crew<'_, R, G>,
     alloc: Global,
     file: &'f YaccFile,
     weights: &'f Weights,
     out: &mut O,
-    gate: &G,
 ) -> Result<(), Halt>
     requires { weights.now ≡ nodes file.now.grammar.tokens }
     ensures ok { OnOk result (TookOne O.Sink (IsRules file.now) out.old out.new) }
@@ -66,6 +64,6 @@ fn write_rule_goals<'f, R: Threads + Sync, O: Sink, G: Gate + Sync>(
         form: PlanForm::Rules,
     };
     let positives = Positives::of_trees(&costs, &embeds, RULE_GOALS);
-    write_out(rt, alloc, &plan, positives, out, gate)?;
+    write_out(crew, alloc, &plan, positives, out)?;
     Ok(())
 }

@@ -17,7 +17,7 @@ use crate::input::Pair;
 use crate::writer::halt::SuiteHalt;
 use crate::writer::weights::weights_of;
 use cs_choices::Format;
-use cs_fan::Gate;
+use cs_fan::{Crew, Gate};
 use cs_grammar::Weights;
 use cs_io::{Halt, Sink};
 use cs_manifest::Counts;
@@ -34,12 +34,11 @@ use std::thread::Threads;
 /// Writes the manifest of a yacc file and a lex file by what the options choose, and answers the
 /// counts of its end line and the length of all lines.
 pub fn write_suite<R: Threads + Sync, O: Sink, G: Gate + Sync>(
-    rt: &R,
+    crew: &Crew<'_, R, G>,
     alloc: Global,
     pair: Pair,
     options: Options,
     out: &mut O,
-    gate: &G,
 ) -> Result<Counts, SuiteHalt>
     ensures ok { OnOk result (TookOne O.Sink (IsSuite pair options) out.old out.new) }
     ensures counts { IfOk result (CountsOfAll (IsSuite pair options)) }
@@ -74,19 +73,18 @@ pub fn write_suite<R: Threads + Sync, O: Sink, G: Gate + Sync>(
         separator: options.separator.bytes(),
     };
     let weights = weights_of(alloc, options.weigh, &lexemes, tokens)?;
-    Ok(write_goals(rt, alloc, &yacc, &weights, &options, &work, out, gate)?)
+    Ok(write_goals(crew, alloc, &yacc, &weights, &options, &work, out)?)
 }
 
 // The same by these texts and weights.
 fn write_goals<'f, R: Threads + Sync, O: Sink, G: Gate + Sync>(
-    rt: &R,
+    crew: &Crew<'_, R, G>,
     alloc: Global,
     file: &'f YaccFile,
     weights: &'f Weights,
     options: &Options,
     work: &'f RenderWork<'f>,
     out: &mut O,
-    gate: &G,
 ) -> Result<Counts, Halt>
     requires weights { weights.now ≡ measure_by options.now file.now work.now }
     requires work { CanRender file.now work.now }
@@ -109,7 +107,7 @@ fn write_goals<'f, R: Threads + Sync, O: Sink, G: Gate + Sync>(
                 criteria: options.criteria,
                 form: PlanForm::Suite(means_of(options, work, tables.pairs())),
             };
-            write_out(rt, alloc, &plan, positives, out, gate)
+            write_out(crew, alloc, &plan, positives, out)
         }
         Format::Two => {
             let closed = Closed::new(alloc, &tables)?;
@@ -118,7 +116,7 @@ fn write_goals<'f, R: Threads + Sync, O: Sink, G: Gate + Sync>(
                 criteria: options.criteria,
                 form: PlanForm::Shared(means_of(options, work, tables.pairs()), &closed),
             };
-            write_out(rt, alloc, &plan, positives, out, gate)
+            write_out(crew, alloc, &plan, positives, out)
         }
     }
 }

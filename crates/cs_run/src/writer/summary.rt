@@ -14,7 +14,7 @@ use crate::input::{Pair, Stop, judge_pair};
 use crate::writer::halt::SuiteHalt;
 use crate::writer::suite::write_suite;
 use cs_choices::Format;
-use cs_fan::Gate;
+use cs_fan::{Crew, Gate};
 use cs_gen::{Generated, make};
 use cs_io::{Halt, NullSink, Sink, write_all};
 use cs_manifest::Counts;
@@ -25,11 +25,10 @@ use std::thread::Threads;
 /// Writes the summary of a number: the lengths of the two files that stand for it, and the counts
 /// and the length of their manifest by default options, in the first format.
 pub fn write_summary<R: Threads + Sync, O: Sink, G: Gate + Sync>(
-    rt: &R,
+    crew: &Crew<'_, R, G>,
     alloc: Global,
     seed: u64,
     out: &mut O,
-    gate: &G,
 ) -> Result<(), Halt>
     ensures ok { OnOk result (TookOne O.Sink (IsSummary seed) out.old out.new) }
     ensures part { OnErr result (TookFront O.Sink (IsSummary seed) out.old out.new) }
@@ -37,17 +36,16 @@ pub fn write_summary<R: Threads + Sync, O: Sink, G: Gate + Sync>(
     ensures failed { Stopped Failed result → MetFault O.Sink out.old out.new }
     ensures room { IsCalmForAll O.Sink (IsSummary seed) out.old out.new }
 {
-    let line = summary(rt, alloc, seed, gate)?;
+    let line = summary(crew, alloc, seed)?;
     write_all(out, line.as_bytes())?;
     Ok(())
 }
 
 // The summary of a number. The readers refuse neither of its files.
 fn summary<R: Threads + Sync, G: Gate + Sync>(
-    rt: &R,
+    crew: &Crew<'_, R, G>,
     alloc: Global,
     seed: u64,
-    gate: &G,
 ) -> Result<String, AllocError>
     ensures { IfOk result (λ line. IsOnlySummary seed (string_bytes line)) }
 {
@@ -58,16 +56,15 @@ fn summary<R: Threads + Sync, G: Gate + Sync>(
         Err(Stop::Refused(_)) => unreachable!(),
         Err(Stop::NoFile(_)) => unreachable!(),
     };
-    let counts = count(rt, alloc, pair, gate)?;
+    let counts = count(crew, alloc, pair)?;
     line(alloc, seed, &files, counts)
 }
 
 // The counts of the manifest of a pair by default options, in the first format. Its lines are kept nowhere.
 fn count<R: Threads + Sync, G: Gate + Sync>(
-    rt: &R,
+    crew: &Crew<'_, R, G>,
     alloc: Global,
     pair: Pair,
-    gate: &G,
 ) -> Result<Counts, AllocError>
     requires { ¬ HasManyStates pair.lex }
     ensures some { OnOk result (HasSuite pair) }
@@ -79,7 +76,7 @@ fn count<R: Threads + Sync, G: Gate + Sync>(
         format: Format::One,
         ..Options::defaults()
     };
-    match write_suite(rt, alloc, pair, options, &mut sink, gate) {
+    match write_suite(crew, alloc, pair, options, &mut sink) {
         Ok(counts) => Ok(counts),
         Err(SuiteHalt::Memory) => Err(AllocError),
         Err(SuiteHalt::States) => unreachable!(),

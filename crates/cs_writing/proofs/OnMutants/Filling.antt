@@ -11,13 +11,16 @@ use Rattle.cs_manifest.specs.declared.manifest.open.OpenEdit.{OpenEdit}
 use Rattle.cs_manifest.specs.declared.manifest.open.OpenEdit.TheVariants.{Insert, Replace}
 use Rattle.cs_manifest.specs.declared.manifest.open.OpenPair.{OpenPair}
 use Rattle.cs_manifest.specs.declared.manifest.open.OpenPair.TheVariants.{Behind, Before}
+use Rattle.cs_grammar.specs.declared.symbol.Mark.TheVariants.{Token}
 use Rattle.cs_mutate.specs.Edit.{edited}
+use Rattle.cs_mutate.specs.declared.negative.Negative.{Negative}
 use Rattle.cs_texts.specs.Rendering.Rendering.{IsRuleText, Text}
 use Rattle.cs_scanner.specs.Scan.Compared.{scanning}
 use Rattle.cs_scanner.specs.Scan.Scan.{Scans}
 use Rattle.cs_texts.specs.Splice.Apart.{AreApart, IsApart}
 use Rattle.cs_writing.specs.Mutants.Makers.{Making}
-use Rattle.cs_writing.specs.Mutants.Rows.{AreRows, IsFilled, IsRow, IsRowOf, IsTextBehind, IsTextInFront, IsTold, behind_place, row_for}
+use Rattle.cs_writing.specs.Mutants.Rows.{AreRows, IsFilled, IsInPair, IsOpenPairOf, IsRow, IsRowOf, IsTextBehind, IsTextInFront, IsTold, Opens, behind_place, row_for}
+use Rattle.cs_writing.specs.declared.mutants.opened.Opened.{Opened}
 use Rattle.cs_writing.specs.declared.mutants.row.Row.{Row}
 use Rattle.cs_writing.specs.declared.mutants.rows.Rows.{Rows}
 use Rattle.cs_writing.specs.declared.mutants.tools.ToldToken.{ToldToken}
@@ -32,6 +35,25 @@ edited_open w (Replace place) token = append_assoc (take place w) (token ∷ [])
 pub edit_of : (edit : OpenEdit) (pair : OpenPair) (token : ℕ) → (negative_by edit pair token).edit ≡ edit_with edit token
 edit_of edit (Behind left) token = refl
 edit_of edit (Before right) token = refl
+
+-- with a token the negative has the pair that this makes
+pair_of : (edit : OpenEdit) (pair : OpenPair) (token place t : ℕ) → place_of edit ≡ place → token ≡ t → IsOpenPairOf (negative_by edit pair token) place t pair
+pair_of edit (Behind left) token place t at is = (refl, ap Token is, at)
+pair_of edit (Before right) token place t at is = (ap Token is, refl, ap (λ (n : ℕ). n + 1) at)
+
+-- edits that put a token at one place are told apart by place and token
+same_open : (a b : OpenEdit) (s t : ℕ) → edit_with a s ≡ edit_with b t → (place_of a ≡ place_of b) × (s ≡ t)
+same_open (Insert p) (Insert q) s t e = (cc, cc)
+same_open (Replace p) (Replace q) s t e = (cc, cc)
+same_open (Insert p) (Replace q) s t e = absurd (cc)
+same_open (Replace p) (Insert q) s t e = absurd (cc)
+
+-- the token of a negative that can be told without it is in its pair
+pub in_pair : (negative : Negative) (edit : OpenEdit) (token : ℕ) → negative.edit ≡ edit_with edit token → Opens negative → IsInPair negative (place_of edit) token
+in_pair negative edit token put opens =
+    let o : Opened = opens.0 in
+    let same = same_open o.edit edit o.token token (sym (edit_of o.edit o.pair o.token) ∙ ap (λ (n : Negative). n.edit) (sym opens.1) ∙ put) in
+    (o.pair, subst (λ (n : Negative). IsOpenPairOf n (place_of edit) token o.pair) (sym opens.1) (pair_of o.edit o.pair o.token (place_of edit) token same.0 same.1))
 
 module _ (making : Making) (edit : OpenEdit) (pair : OpenPair) (token : ℕ) (row : Row) (told : ToldToken) where
   pub filled_row : AreApart making.tools.apart making.base → IsTold making.tools token told → IsRowOf making edit pair row → IsFilled making (negative_by edit pair token) row.lines told.name.now told.lexeme.now

@@ -1,11 +1,18 @@
 -- The rule's text around a lexeme.
-use Rattle.std.proofs.Common.{◌≡◌, ℕ, ◌<◌, List, [], ◌∷◌, ◌++◌, Option, Some, refl, sym, subst, arith, length, length-append, append_assoc, append-nil}
+use Rattle.std.proofs.Common.{◌≡◌, ℕ, ◌<◌, List, [], ◌∷◌, ◌++◌, Option, None, Some, refl, sym, ap, ◌∙◌, subst, arith, get_or, length, length-append, append_assoc, append-nil}
+use Rattle.std.specs.Prelude.{All, is_some}
+use Rattle.std.proofs.lemmas.Bool.{false≢true}
+use Rattle.std.proofs.lemmas.List.Elements.{All-get_or}
 use Rattle.cs_scanner.specs.Lexeme.Lexeme.{lexeme_in}
-use Rattle.cs_texts.specs.Rendering.Rendering.{IsRuleText}
+use Rattle.cs_texts.specs.Rendering.Rendering.{HasLexeme, IsRuleText}
 use Rattle.cs_texts.proofs.OnSplice.Aligning.{rule_join}
 use Rattle.cs_writing.specs.Mutants.Rows.{IsTextBehind, IsTextBeside, IsTextInFront, with_separator}
 use Rattle.cs_writing.specs.declared.mutants.row.Side.{Side}
 use Rattle.cs_writing.specs.declared.mutants.row.Side.TheVariants.{Before, Behind}
+
+-- where a token has no lexeme not each has one
+pub none_at : (lexemes : List (Option (List ℕ))) (tokens : List ℕ) (i : ℕ) → i < length tokens → lexeme_in lexemes (get_or tokens i 0) ≡ None → ¬ All (HasLexeme lexemes) tokens
+none_at lexemes tokens i within none all = false≢true (ap is_some (sym none ∙ (All-get_or (HasLexeme lexemes) tokens i 0 within all).1))
 
 module _ (lexemes : List (Option (List ℕ))) (sep : List ℕ) where
   abbrev Rule : List ℕ → List ℕ → Type 0

@@ -1,5 +1,5 @@
 -- The negatives of a base that differ in the token that their edit puts alone. Working words of proofs.
-use Rattle.std.specs.Prelude.{◌≡◌, ℕ, ◌+◌, ◌<◌, ◌≤◌, List, ◌∷◌, ◌++◌, Bool, Option, None, Some, IfSome, IsTrue, length, take, drop, option_map}
+use Rattle.std.specs.Prelude.{◌≡◌, ℕ, ◌+◌, ◌<◌, ◌≤◌, List, ◌∷◌, ◌++◌, All, Bool, Option, None, Some, IfSome, IsTrue, length, take, drop, option_map}
 use Rattle.std.specs.Borrow.{Bor}
 use Rattle.cs_bytes.specs.Names.{space}
 use Rattle.cs_manifest.specs.Output.Names.{AreNamedTokens, token_of}
@@ -19,7 +19,7 @@ use Rattle.cs_manifest.specs.declared.manifest.open.OpenPair.TheVariants.{Behind
 use Rattle.cs_grammar.specs.declared.symbol.Mark.TheVariants.{Token}
 use Rattle.cs_mutate.specs.Edit.{edited}
 use Rattle.cs_mutate.specs.declared.negative.Negative.{Negative}
-use Rattle.cs_texts.specs.Rendering.Rendering.{IsRuleText, Text}
+use Rattle.cs_texts.specs.Rendering.Rendering.{HasLexeme, IsRuleText, Text}
 use Rattle.cs_texts.specs.Work.Renders.{IsRenderedBy}
 use Rattle.cs_texts.specs.declared.work.work.RenderWork.{RenderWork}
 use Rattle.cs_texts.specs.Splice.Apart.{IsApart, ScanBack}
@@ -44,14 +44,27 @@ pub record IsTold (tools : PlainTools) (token : ℕ) (told : ToldToken) : Type 0
   pub apart : IsApart tools.apart token
   pub scan : ScanBack (near_of tools.work) tools.apart
 
+-- the token stands apart and has a lexeme
+pub record CanTell (tools : PlainTools) (token : ℕ) : Type 0 where
+  pub apart : IsApart tools.apart token
+  pub lexeme : HasLexeme tools.work.lexemes.now token
+
 -- with its token it is the negative
 abbrev pub IsOpened : Negative → Opened → Type 0
 IsOpened negative o = negative ≡ negative_by o.edit o.pair o.token
+
+-- it can be told without its token
+abbrev pub Opens : Negative → Type 0
+Opens negative = (opened : Opened) × IsOpened negative opened
 
 -- the token at the place of an edit and the mark make the negative's pair
 abbrev pub IsOpenPairOf : Negative → ℕ → ℕ → OpenPair → Type 0
 IsOpenPairOf negative place token (Behind left) = (negative.left ≡ left) × (negative.right ≡ Token token) × (negative.at ≡ place)
 IsOpenPairOf negative place token (Before right) = (negative.left ≡ Token token) × (negative.right ≡ right) × (negative.at ≡ place + 1)
+
+-- the token at the place of an edit is in the negative's pair
+abbrev pub IsInPair : Negative → ℕ → ℕ → Type 0
+IsInPair negative place token = (pair : OpenPair) × IsOpenPairOf negative place token pair
 
 -- the edit's place is one of a list with so many tokens
 abbrev pub IsOpenPlaced : ℕ → OpenEdit → Type 0
@@ -83,7 +96,11 @@ module _ (lexemes : List (Option (List ℕ))) (separator : List ℕ) where
   IsTextBeside stands.Before tokens text = IsTextBehind tokens text
   IsTextBeside stands.Behind tokens text = IsTextInFront tokens text
 
--- it was put, where each token has a lexeme
+-- each token has a lexeme
+abbrev pub HaveAllLexemes : RenderWork → List ℕ → Type 0
+HaveAllLexemes work tokens = All (HasLexeme work.lexemes.now) tokens
+
+-- where it was put it stands beside a lexeme
 abbrev pub PutsText : RenderWork → Side → List ℕ → List ℕ → Bool → Type 0
 PutsText work side tokens text has = IsTrue has → IsTextBeside work.lexemes.now work.separator.now side tokens text
 
@@ -107,6 +124,11 @@ pub record IsRowOf (making : Making) (edit : OpenEdit) (pair : OpenPair) (row : 
       → filled row.lines number (space ∷ token_of making.tools.file token) (between_quotes lexeme)
       ≡ negative_lines making.tools.file number making.number (negative_by edit pair token)
       (take (place_of edit) making.base ++ token ∷ drop (behind_place edit) making.base) (Some (Text (text_front ++ lexeme ++ text_back)))
+
+-- each token of the base beside the one that the edit puts has a lexeme
+pub record HasTexts (making : Making) (edit : OpenEdit) : Type 0 where
+  pub in_front : HaveAllLexemes making.tools.work (take (place_of edit) making.base)
+  pub behind : HaveAllLexemes making.tools.work (drop (behind_place edit) making.base)
 
 -- it is one of the base
 abbrev pub IsRow : Making → Row → Type 0

@@ -1,6 +1,6 @@
 // A base, ready for the making of its negatives.
 
-ghost use Rattle.std.specs.Prelude.{◌≤◌, IfOk, IsTrue, length};
+ghost use Rattle.std.specs.Prelude.{◌↔◌, ◌≤◌, IfOk, IsTrue, length};
 ghost use Rattle.cs_texts.specs.Work.Renders.{TakesTokens};
 ghost use Rattle.cs_texts.specs.Splice.Apart.{AreApart};
 ghost use Rattle.cs_writing.specs.Mutants.Makers.{IsMakerOf};
@@ -62,7 +62,7 @@ impl<'a> Maker<'a> {
 
 // Whether each of the tokens stands apart in texts.
 fn stand_apart(tools: &Tools<'_>, tokens: &[u16]) -> bool
-    ensures { IsTrue result → AreApart tools.now.apart tokens.now }
+    ensures { IsTrue result ↔ AreApart tools.now.apart tokens.now }
 {
     tokens.iter().all(|token| tools.is_apart(*token))
 }

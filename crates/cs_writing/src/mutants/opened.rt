@@ -1,7 +1,7 @@
 // The negatives whose edit puts a token, told without it.
 
-ghost use Rattle.std.specs.Prelude.{IfSome};
-ghost use Rattle.cs_writing.specs.Mutants.Rows.{IsOpened, IsOpenPairOf};
+ghost use Rattle.std.specs.Prelude.{IfSome, IsTrue, is_some};
+ghost use Rattle.cs_writing.specs.Mutants.Rows.{IsInPair, IsOpened, IsOpenPairOf, Opens};
 
 use cs_grammar::Mark;
 use cs_manifest::{OpenEdit, OpenPair};
@@ -18,7 +18,8 @@ pub(crate) struct Opened {
 /// The negative without its token. None where its edit puts none, or where its pair is another than those that the token makes.
 #[inline(always)]
 pub(crate) fn open_negative(negative: &Negative) -> Option<Opened>
-    ensures { IfSome result (IsOpened negative.now) }
+    ensures opened { IfSome result (IsOpened negative.now) }
+    ensures there { Opens negative.now → IsTrue (is_some result) }
 {
     let (edit, place, token) = match negative.edit {
         Edit::Insert(place, token) => (OpenEdit::Insert(place), place, token),
@@ -32,7 +33,8 @@ pub(crate) fn open_negative(negative: &Negative) -> Option<Opened>
 // The negative's pair without the token that stands at the place of its edit. None where it isn't in the pair.
 #[inline(always)]
 fn open_pair(negative: &Negative, place: u32, token: u16) -> Option<OpenPair>
-    ensures { IfSome result (IsOpenPairOf negative.now place token) }
+    ensures pair { IfSome result (IsOpenPairOf negative.now place token) }
+    ensures there { IsInPair negative.now place token → IsTrue (is_some result) }
 {
     if negative.at == place && negative.right == Mark::Token(token) {
         Some(OpenPair::Behind(negative.left))

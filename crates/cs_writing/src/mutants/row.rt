@@ -1,10 +1,11 @@
 // The lines of negatives of a base that differ in the token that their edit puts alone.
 
-ghost use Rattle.std.specs.Prelude.{◌≡◌, ◌++◌, [], IfOk, IfSome, drop, length, take};
+ghost use Rattle.std.specs.Prelude.{◌≡◌, ◌++◌, [], IfOk, IfSome, IsTrue, drop, is_some, length, take};
 ghost use Rattle.cs_manifest.specs.Output.Names.{IsNamedMark};
 ghost use Rattle.cs_manifest.specs.Manifest.Open.{mark_in, place_of};
 ghost use Rattle.cs_texts.specs.Rendering.Rendering.{AreTokens};
-ghost use Rattle.cs_writing.specs.Mutants.Rows.{IsOpenPlaced, IsRowOf, PutsText, behind_place, with_separator};
+ghost use Rattle.cs_writing.specs.Mutants.Rows.{HasTexts, HaveAllLexemes, IsOpenPlaced, IsRowOf, PutsText, behind_place};
+ghost use Rattle.cs_writing.specs.Mutants.Rows.{with_separator};
 
 use crate::mutants::maker::Maker;
 use cs_manifest::{OpenEdit, OpenLines, OpenNegative, OpenPair};
@@ -20,7 +21,7 @@ pub(crate) struct Row {
 }
 
 impl Row {
-    /// The row of these negatives of a base. None where a token of the base has no lexeme.
+    /// The row of these negatives of a base. None where a token of the base beside the one that the edit puts has no lexeme.
     #[inline(never)]
     pub fn new(
         alloc: Global,
@@ -30,7 +31,8 @@ impl Row {
     ) -> Result<Option<Row>, AllocError>
         requires placed { IsOpenPlaced (length maker.now.base) edit }
         requires named { IsNamedMark maker.now.tools.file (mark_in pair) }
-        ensures { IfOk result (λ row. IfSome row (IsRowOf maker.now edit pair)) }
+        ensures row { IfOk result (λ row. IfSome row (IsRowOf maker.now edit pair)) }
+        ensures there { IfOk result (λ row. HasTexts maker.now edit → IsTrue (is_some row)) }
     {
         let tools = maker.tools;
         let work = tools.work;
@@ -95,7 +97,8 @@ fn put_text(
 ) -> Result<bool, AllocError>
     requires empty { out.old.items ≡ [] }
     requires tokens { AreTokens work.now.lexemes.now tokens.now }
-    ensures { IfOk result (PutsText work.now side tokens.now out.new.items) }
+    ensures text { IfOk result (PutsText work.now side tokens.now out.new.items) }
+    ensures there { IfOk result (λ has. HaveAllLexemes work.now tokens.now → IsTrue has) }
 {
     for token in tokens {
         let Some(lexeme) = work.lexemes.get(*token) else {

@@ -1,9 +1,10 @@
 // The rows that negatives are filled in.
 
-ghost use Rattle.std.specs.Prelude.{IfOk, IsTrue, length};
+ghost use Rattle.std.specs.Prelude.{◌↔◌, IfOk, IsTrue, length};
 ghost use Rattle.cs_manifest.specs.Output.Names.{IsNamedMark};
 ghost use Rattle.cs_manifest.specs.Manifest.Open.{mark_in};
-ghost use Rattle.cs_writing.specs.Mutants.Rows.{AreNoRows, AreRows, HasRow, IsLentRow, IsOpenPlaced, IsPutIn, row_for};
+ghost use Rattle.cs_writing.specs.Mutants.Rows.{AreNoRows, AreRows, HasRow, HasTexts, IsLentRow, IsOpenPlaced, IsPutIn};
+ghost use Rattle.cs_writing.specs.Mutants.Rows.{row_for};
 
 use crate::mutants::maker::Maker;
 use crate::mutants::row::Row;
@@ -54,7 +55,7 @@ impl Rows {
     // Whether the row of pairs as this one is that of these negatives.
     #[inline(always)]
     fn has(&self, edit: OpenEdit, pair: OpenPair) -> bool
-        ensures { IsTrue result → HasRow self.now edit pair }
+        ensures { IsTrue result ↔ HasRow self.now edit pair }
     {
         match self.get(pair) {
             Some(row) => row.edit == edit && row.pair == pair,
@@ -62,7 +63,7 @@ impl Rows {
         }
     }
 
-    /// Sees to it that the row of these negatives of a base is there. False where they have none.
+    /// Sees to it that the row of these negatives of a base is there. False where they have none, as `Row::new` tells.
     #[inline(always)]
     pub fn settle(
         &mut self,
@@ -76,6 +77,7 @@ impl Rows {
         requires rows { AreRows maker.now self.old }
         ensures rows { AreRows maker.now self.new }
         ensures has { IfOk result (λ has. IsTrue has → HasRow self.new edit pair) }
+        ensures there { IfOk result (λ has. HasTexts maker.now edit → IsTrue has) }
     {
         if self.has(edit, pair) {
             return Ok(true);

@@ -1,10 +1,10 @@
 // What the negatives of all bases of a file are made by.
 
-ghost use Rattle.std.specs.Prelude.{◌↔◌, IfOk, IfSome, IsTrue, length};
+ghost use Rattle.std.specs.Prelude.{◌↔◌, IfOk, IfSome, IsTrue, is_some, length};
 ghost use Rattle.cs_manifest.specs.Output.Names.{IsNamedToken};
 ghost use Rattle.cs_texts.specs.Splice.Apart.{IsApart};
 ghost use Rattle.cs_writing.specs.Mutants.Makers.{AreToolsOf, CanRender};
-ghost use Rattle.cs_writing.specs.Mutants.Rows.{IsTold};
+ghost use Rattle.cs_writing.specs.Mutants.Rows.{CanTell, IsTold};
 
 use cs_manifest::{Piece, TokenPieces};
 use cs_texts::{Apart, RenderWork};
@@ -76,7 +76,8 @@ impl<'a> Tools<'a> {
     #[inline(always)]
     pub(crate) fn told(&self, token: u16) -> Option<ToldToken<'_>>
         requires { IsNamedToken self.now.file token }
-        ensures { IfSome result (IsTold self.now token) }
+        ensures told { IfSome result (IsTold self.now token) }
+        ensures there { CanTell self.now token → IsTrue (is_some result) }
     {
         if !self.apart.has(token) {
             return None;

@@ -11,7 +11,7 @@ use crate::plan::made::Made;
 use crate::plan::placing::{Placed, place_next};
 use crate::plan::plan::Plan;
 use crate::plan::texts::render_placed;
-use cs_fan::Gate;
+use cs_fan::{Crew, Gate};
 use cs_texts::Rendered;
 use cs_verdicts::{Cases, Positives};
 use std::alloc::{AllocError, Global};
@@ -22,12 +22,11 @@ use std::vec::IntoIter;
 /// derivations of feasible goals are placed among the cases; the first leaves these as they are. Four workers render
 /// the tokens. After a refusal, which is want of memory, goals may be lost that were placed: no later call is of use.
 pub fn next_entries<R: Threads + Sync, G: Gate + Sync>(
-    rt: &R,
+    crew: &Crew<'_, R, G>,
     alloc: Global,
     plan: &Plan<'_>,
     positives: &mut Positives<'_>,
     cases: &mut Cases<'_>,
-    gate: &G,
 ) -> Result<Vec<Made>, AllocError>
     requires plan { IsPlan plan.now }
     requires positives { IsOfPlan plan.now positives.old }
@@ -47,7 +46,7 @@ pub fn next_entries<R: Threads + Sync, G: Gate + Sync>(
         positives,
         cases,
     )?;
-    let rendered = render_placed(rt, alloc, plan.form.means(), &placed, gate)?;
+    let rendered = render_placed(crew, alloc, plan.form.means(), &placed)?;
     let mut rendered = rendered.into_iter();
     let mut entries = Vec::with_capacity(alloc, placed.len())?;
     for placed in placed {

@@ -5,7 +5,7 @@ ghost use Rattle.cs_writing.specs.Plan.Placing.{AreRendered, AreTaken};
 
 use crate::plan::placing::Placed;
 use crate::plan::plan::Means;
-use cs_fan::{Counter, Gate, Work, fan};
+use cs_fan::{Counter, Crew, Gate, Work, fan};
 use cs_texts::{RenderWork, Rendered, render};
 use std::alloc::{AllocError, Global};
 use std::thread::Threads;
@@ -40,11 +40,10 @@ impl<'a> Work<Placed, Option<Rendered>> for RenderWork<'a> {
 
 /// What comes of the rendering of each goal's tokens, in order. Without means nothing is rendered, and nothing comes.
 pub(crate) fn render_placed<R: Threads + Sync, G: Gate + Sync>(
-    rt: &R,
+    crew: &Crew<'_, R, G>,
     alloc: Global,
     means: Option<Means<'_>>,
     placed: &[Placed],
-    gate: &G,
 ) -> Result<Vec<Option<Rendered>>, AllocError>
     requires takes { AreTaken means placed.now }
     requires few { length placed.now ≤ 1024 }
@@ -54,7 +53,9 @@ pub(crate) fn render_placed<R: Threads + Sync, G: Gate + Sync>(
         None => Ok(Vec::new(alloc)),
         Some(means) => {
             let (counter, mut seat) = Counter::new(alloc, placed.len() as u32, WORKERS)?;
-            fan(rt, alloc, placed, means.work, gate, &counter, &mut seat)
+            fan(
+                crew.rt, alloc, placed, means.work, crew.gate, &counter, &mut seat,
+            )
         }
     }
 }

@@ -9,7 +9,7 @@ ghost use Rattle.cs_io.specs.Stops.{PutsOne};
 use crate::bases::Bases;
 use crate::plan::{Made, Plan, next_entries};
 use crate::writing::bases::keep_bases;
-use cs_fan::Gate;
+use cs_fan::{Crew, Gate};
 use cs_io::{Halt, Sink, SinkError};
 use cs_manifest::{Manifest, one_text};
 use cs_verdicts::{Cases, Positives};
@@ -19,13 +19,12 @@ use std::thread::Threads;
 /// Writes the entries of all goals in the plan's form, numbered from 1, each behind its case where that is new, and
 /// answers their bases.
 pub(crate) fn write_goals<R: Threads + Sync, S: Sink, G: Gate + Sync>(
-    rt: &R,
+    crew: &Crew<'_, R, G>,
     alloc: Global,
     plan: &Plan<'_>,
     positives: &mut Positives<'_>,
     manifest: &mut Manifest<'_>,
     sink: &mut S,
-    gate: &G,
 ) -> Result<Bases, Halt>
     requires ready { IsReady plan.now positives.old manifest.old }
     ensures text { PutsOne S.Sink (IsGoalsText plan.now positives.old) sink.old sink.new result }
@@ -37,7 +36,7 @@ pub(crate) fn write_goals<R: Threads + Sync, S: Sink, G: Gate + Sync>(
     let mut cases = Cases::new(alloc, plan.yacc.grammar());
     let mut number = 0u64;
     'batches: loop {
-        let batch = next_entries(rt, alloc, plan, positives, &mut cases, gate)?;
+        let batch = next_entries(crew, alloc, plan, positives, &mut cases)?;
         if batch.is_empty() {
             return Ok(bases);
         }

@@ -14,7 +14,7 @@ ghost use Rattle.cs_io.specs.Stops.{PutsOne};
 use crate::plan::Plan;
 use crate::writing::goals::write_goals;
 use crate::writing::mutants::write_bases;
-use cs_fan::Gate;
+use cs_fan::{Crew, Gate};
 use cs_io::{BufferedSink, Halt, Sink};
 use cs_manifest::{Counts, Manifest, one_manifest, one_text, some_manifest};
 use cs_verdicts::Positives;
@@ -28,12 +28,11 @@ const PIECE: usize = 524_288;
 /// the counts of its end line and the length of all lines. The positives are those of all goals of
 /// the plan.
 pub fn write_out<R: Threads + Sync, O: Sink, G: Gate + Sync>(
-    rt: &R,
+    crew: &Crew<'_, R, G>,
     alloc: Global,
     plan: &Plan<'_>,
     positives: Positives<'_>,
     out: &mut O,
-    gate: &G,
 ) -> Result<Counts, Halt>
     requires plan { IsPlan plan.now }
     requires grammar { IsOfPlan plan.now positives }
@@ -49,17 +48,16 @@ pub fn write_out<R: Threads + Sync, O: Sink, G: Gate + Sync>(
 {
     let mut buffer = Vec::with_capacity(alloc, PIECE)?;
     let mut sink = BufferedSink::new(out, &mut buffer);
-    write_through(rt, alloc, plan, positives, &mut sink, gate)
+    write_through(crew, alloc, plan, positives, &mut sink)
 }
 
 // Writes the manifest, and then what waits.
 fn write_through<R: Threads + Sync, O: Sink, G: Gate + Sync>(
-    rt: &R,
+    crew: &Crew<'_, R, G>,
     alloc: Global,
     plan: &Plan<'_>,
     positives: Positives<'_>,
     sink: &mut BufferedSink<'_, '_, O>,
-    gate: &G,
 ) -> Result<Counts, Halt>
     requires plan { IsPlan plan.now }
     requires grammar { IsOfPlan plan.now positives }
@@ -81,18 +79,17 @@ fn write_through<R: Threads + Sync, O: Sink, G: Gate + Sync>(
 {
     one_manifest();
     some_manifest();
-    let counts = write_manifest(rt, alloc, plan, positives, sink, gate)?;
+    let counts = write_manifest(crew, alloc, plan, positives, sink)?;
     sink.flush()?;
     Ok(counts)
 }
 
 fn write_manifest<R: Threads + Sync, S: Sink, G: Gate + Sync>(
-    rt: &R,
+    crew: &Crew<'_, R, G>,
     alloc: Global,
     plan: &Plan<'_>,
     mut positives: Positives<'_>,
     sink: &mut S,
-    gate: &G,
 ) -> Result<Counts, Halt>
     requires plan { IsPlan plan.now }
     requires grammar { IsOfPlan plan.now positives }
@@ -104,7 +101,7 @@ fn write_manifest<R: Threads + Sync, S: Sink, G: Gate + Sync>(
 {
     one_text();
     let mut manifest = Manifest::begin(sink, &plan.head())?;
-    let bases = write_goals(rt, alloc, plan, &mut positives, &mut manifest, sink, gate)?;
+    let bases = write_goals(crew, alloc, plan, &mut positives, &mut manifest, sink)?;
     write_bases(alloc, plan, &bases, &mut manifest, sink)?;
     Ok(manifest.finish(sink)?)
 }

@@ -1,7 +1,7 @@
 // The entries of goals, batch by batch.
 
 use cs_choices::Criteria;
-use cs_fan::OpenGate;
+use cs_fan::{Crew, OpenGate};
 use cs_grammar::Weights;
 use cs_sample_files::{Trouble, sums};
 use cs_verdicts::{Cases, Positives, Tables};
@@ -42,8 +42,26 @@ fn two_batches<R: Threads + Sync>(
     };
     let mut positives = Positives::new(&tables, RULE_GOALS);
     let mut cases = Cases::new(alloc, yacc.grammar());
-    let first = next_entries(rt, alloc, &plan, &mut positives, &mut cases, &OpenGate)?;
-    let second = next_entries(rt, alloc, &plan, &mut positives, &mut cases, &OpenGate)?;
+    let first = next_entries(
+        &Crew {
+            rt,
+            gate: &OpenGate,
+        },
+        alloc,
+        &plan,
+        &mut positives,
+        &mut cases,
+    )?;
+    let second = next_entries(
+        &Crew {
+            rt,
+            gate: &OpenGate,
+        },
+        alloc,
+        &plan,
+        &mut positives,
+        &mut cases,
+    )?;
     Ok((first, second))
 }
 

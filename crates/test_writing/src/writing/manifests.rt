@@ -7,7 +7,7 @@ ghost use Rattle.cs_writing.specs.Plan.Plans.{CanRender};
 
 use crate::writing::writers::letter_counts;
 use cs_choices::{Criteria, Format, Operators, Weigh};
-use cs_fan::OpenGate;
+use cs_fan::{Crew, OpenGate};
 use cs_grammar::Weights;
 use cs_io::{Halt, MemorySink};
 use cs_manifest::Counts;
@@ -148,7 +148,16 @@ fn write_plan<'f, R: Threads + Sync>(
                 criteria: options.criteria,
                 form: PlanForm::Suite(means),
             };
-            write_out(rt, alloc, &plan, positives, out, &OpenGate)
+            write_out(
+                &Crew {
+                    rt,
+                    gate: &OpenGate,
+                },
+                alloc,
+                &plan,
+                positives,
+                out,
+            )
         }
         Some(closed) => {
             let plan = Plan {
@@ -156,7 +165,16 @@ fn write_plan<'f, R: Threads + Sync>(
                 criteria: options.criteria,
                 form: PlanForm::Shared(means, closed),
             };
-            write_out(rt, alloc, &plan, positives, out, &OpenGate)
+            write_out(
+                &Crew {
+                    rt,
+                    gate: &OpenGate,
+                },
+                alloc,
+                &plan,
+                positives,
+                out,
+            )
         }
     }
 }

@@ -1,6 +1,6 @@
 // The public calls of `cs_run::writer`, each by itself.
 
-use cs_fan::OpenGate;
+use cs_fan::{Crew, OpenGate};
 use cs_io::{Halt, MemorySink};
 use cs_manifest::Counts;
 use cs_run::{Pair, SuiteHalt, write_rules, write_suite, write_summary};
@@ -42,7 +42,15 @@ fn rules<R: Threads + Sync>(
 ) -> Result<(Result<(), Halt>, MemorySink), Trouble> {
     let yacc = yacc_of(alloc, LETTER)?;
     let mut out = output(alloc, room)?;
-    let answer = write_rules(rt, alloc, &yacc, &mut out, &OpenGate);
+    let answer = write_rules(
+        &Crew {
+            rt,
+            gate: &OpenGate,
+        },
+        alloc,
+        &yacc,
+        &mut out,
+    );
     Ok((answer, out))
 }
 
@@ -56,7 +64,16 @@ fn suite<R: Threads + Sync>(
     let (yacc, lex) = read_files(alloc, files.0, files.1)?;
     let pair = Pair { yacc, lex };
     let mut out = output(alloc, room)?;
-    let answer = write_suite(rt, alloc, pair, Options::defaults(), &mut out, &OpenGate);
+    let answer = write_suite(
+        &Crew {
+            rt,
+            gate: &OpenGate,
+        },
+        alloc,
+        pair,
+        Options::defaults(),
+        &mut out,
+    );
     Ok((answer, out))
 }
 
@@ -67,7 +84,15 @@ fn summary<R: Threads + Sync>(
     room: usize,
 ) -> Result<(Result<(), Halt>, MemorySink), Trouble> {
     let mut out = output(alloc, room)?;
-    let answer = write_summary(rt, alloc, 1, &mut out, &OpenGate);
+    let answer = write_summary(
+        &Crew {
+            rt,
+            gate: &OpenGate,
+        },
+        alloc,
+        1,
+        &mut out,
+    );
     Ok((answer, out))
 }
 

@@ -25,6 +25,6 @@ returns-then-branch-clause-fills c =
     let fills : FillsRow making rows filling = record {
       row = has.row;
       there = has.there;
-      fills = filled_row making o.edit o.pair o.token has.row told (c.maker.invariant.all c.if-not-maker.false) c.in-Some-told.ensures of;
+      fills = filled_row making o.edit o.pair o.token has.row told (c.maker.invariant.all c.if-not-maker.false) c.in-Some-told.ensures.told of;
     } in
     subst (λ (k : Making). FillsRow k rows filling) c.maker.view_is fills

@@ -2,7 +2,7 @@ use Rattle.std.proofs.Common.{◌≡◌, Some, ◌+◌, ◌++◌, [], List, ℕ,
 use Rattle.std.proofs.lemmas.List.{take_more}
 use Rattle.cs_scanner.specs.Lexeme.Lexeme.{lexeme_in}
 use Rattle.cs_writing.specs.Mutants.Rows.{IsTextBeside, with_separator}
-use Rattle.cs_writing.proofs.OnMutants.Texts.{beside_more, beside_none}
+use Rattle.cs_writing.proofs.OnMutants.Texts.{beside_more, beside_none, none_at}
 use Rattle.cs_writing.proofs.mutants.row.put_text.Goals as goal
 
 pub loop-token-init : goal.loop-token-init
@@ -29,3 +29,8 @@ loop-token-preserved c =
     subst (λ (t : List ℕ). IsTextBeside lexemes sep side (take (i + 1) tokens) t) (sym put)
     (subst (λ (l : List ℕ). IsTextBeside lexemes sep side l (so_far ++ with_separator sep side lexeme)) (sym (take_more tokens i 0 c.loop-token-test.true))
     (beside_more lexemes sep side (take i tokens) so_far token lexeme c.loop-token.invariant has))
+
+-- a token has no lexeme
+pub returns-in_default-clause-there : goal.returns-in_default-clause-there
+returns-in_default-clause-there c = λ all.
+    absurd (none_at c.args.work.now.lexemes.now c.args.tokens.now c.loop-token.token-index c.loop-token-test.true (sym c.in_default.ensures) all)

@@ -7,8 +7,8 @@ use Rattle.cs_writing.specs.Mutants.Rows.{IsTold}
 use Rattle.cs_writing.specs.declared.mutants.tools.ToldToken.{ToldToken}
 use Rattle.cs_writing.proofs.mutants.tools.Tools.told.Goals as goal
 
-pub returns : goal.returns
-returns c =
+pub returns-clause-told : goal.returns-clause-told
+returns-clause-told c =
     let h = c.self.invariant in
     let token = c.args.token in
     let lexeme = c.in_ok-lexeme.field-0 in
