@@ -128,28 +128,41 @@ fn find_front(question: &Question, fronts: &[Front], begin: u16, sought: Sought)
     None
 }
 
+// The bucket of a symbol, and its fronts.
+#[derive(Clone, Copy, Debug)]
+struct Over<'f> {
+    bucket: u16,
+    fronts: &'f [Front],
+}
+
 // The item with this origin that leads to what is sought over a symbol that begins at a position: it stands there in the
 // symbol's bucket, or it begins its rule there.
 fn find_at(
     question: &Question,
     position: &Position,
-    bucket: u16,
-    fronts: &[Front],
+    over: &Over<'_>,
     begin: u16,
     from: u16,
     sought: Sought,
 ) -> Option<Back>
     requires question { IsQuestion question.now.grammar.now question.now.tables.now }
     requires position { IsPosition question.now.grammar.now begin position.now }
-    requires bucket { bucket ≤ question.now.grammar.now.nonterminals }
-    requires fronts { AreOver question.now fronts.now }
+    requires bucket { over.now.bucket ≤ question.now.grammar.now.nonterminals }
+    requires fronts { AreOver question.now over.now.fronts.now }
     requires sought { IsSought question.now.grammar.now sought }
-    ensures { FindsAt question.now sought position.now bucket fronts.now begin from result }
+    ensures { FindsAt question.now sought position.now over.now.bucket over.now.fronts.now
+        begin from result }
 {
     if from == begin {
-        return find_front(question, fronts, begin, sought);
+        return find_front(question, over.fronts, begin, sought);
     }
-    find_row(question, position.rows.rows(bucket), begin, from, sought)
+    find_row(
+        question,
+        position.rows.rows(over.bucket),
+        begin,
+        from,
+        sought,
+    )
 }
 
 // The way back over the token before a position.
@@ -172,15 +185,8 @@ fn by_token(
     let begin = at - 1;
     let token = question.tokens[begin as usize];
     let fronts = &question.tables.tokens[token as usize];
-    find_at(
-        question,
-        &chart[begin as usize],
-        0,
-        fronts,
-        begin,
-        from,
-        sought,
-    )
+    let over = Over { bucket: 0, fronts };
+    find_at(question, &chart[begin as usize], &over, begin, from, sought)
 }
 
 // The way back over a span up to a position.
@@ -201,16 +207,12 @@ fn by_span(
     let _well_formed = question.grammar.rules();
     let span = chart[at as usize].spans[number];
     let fronts = &question.tables.nonterminals[span.nonterminal as usize];
-    let position = &chart[span.from as usize];
-    find_at(
-        question,
-        position,
-        span.nonterminal,
+    let over = Over {
+        bucket: span.nonterminal,
         fronts,
-        span.from,
-        from,
-        sought,
-    )
+    };
+    let position = &chart[span.from as usize];
+    find_at(question, position, &over, span.from, from, sought)
 }
 
 // The way back over a child up to a position: the token before it, or the span of a number.

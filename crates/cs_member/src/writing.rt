@@ -12,7 +12,7 @@ ghost use Rattle.cs_member.specs.Back.{IsAt, IsChild};
 ghost use Rattle.cs_member.specs.Writing.{IsTask, LeavesFront, empty_tasks};
 ghost use Rattle.cs_member.specs.Asked.{IsChartOf, IsBackOf, WritesOf, Takes, TakesBack};
 
-use crate::back::{Back, Sought, find_by, find_way};
+use crate::back::{Sought, WayBack, find_by, find_way};
 use crate::chart::Position;
 use crate::item::Item;
 use crate::now::Question;
@@ -63,26 +63,25 @@ fn leave_back(
     tasks: &mut Vec<Task>,
     from: u16,
     at: u16,
-    child: Option<usize>,
-    back: Back,
+    way: WayBack,
 ) -> Result<(), AllocError>
     requires tables { IsTables question.now.grammar.now question.now.tables.now }
-    requires back { IsBackOf question.now chart.now at from child back }
-    ensures { OnOk result (TakesBack question.now chart.now from at child back
+    requires back { IsBackOf question.now chart.now at from way.child way.back }
+    ensures { OnOk result (TakesBack question.now chart.now from at way.child way.back
         tasks.old tasks.new) }
 {
     let _well_formed = question.grammar.rules();
     tasks.push(Task::Trees {
-        item: back.before,
+        item: way.back.before,
         from,
-        at: back.begin,
+        at: way.back.begin,
     })?;
-    if let Some(number) = child {
+    if let Some(number) = way.child {
         tasks.push(Task::Tree { number, at })?;
     }
-    let right = question.grammar.rule(back.found.rule).right();
-    let start = back.before.place as usize + 1;
-    leave_empties(tasks, &right[start..back.found.place as usize])?;
+    let right = question.grammar.rule(way.back.found.rule).right();
+    let start = way.back.before.place as usize + 1;
+    leave_empties(tasks, &right[start..way.back.found.place as usize])?;
     Ok(())
 }
 
@@ -127,7 +126,7 @@ fn take_trees(
         return Ok(());
     }
     let way = find_way(question, chart, at, from, item);
-    leave_back(question, chart, tasks, from, at, way.child, way.back)?;
+    leave_back(question, chart, tasks, from, at, way)?;
     Ok(())
 }
 
@@ -162,7 +161,8 @@ fn take_tree(
     let sought = Sought::End(span.nonterminal);
     match find_by(question, chart, at, child, span.from, sought) {
         Some(back) => {
-            leave_back(question, chart, tasks, span.from, at, child, back)?;
+            let way = WayBack { child, back };
+            leave_back(question, chart, tasks, span.from, at, way)?;
             Ok(())
         }
         None => unreachable!(),
