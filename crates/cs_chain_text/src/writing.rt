@@ -53,6 +53,13 @@ pub struct Chained<'a> {
     pub work: Option<&'a RenderWork<'a>>,
 }
 
+// What the text is made by, and what makes what is told of its chains.
+#[derive(Clone, Copy)]
+struct Telling<'c, 'w> {
+    chained: Chained<'c>,
+    work: TellWork<'w>,
+}
+
 /// Writes the text of the chains of a file to the output, each batch as it is judged.
 pub fn write_chains<R: Threads + Sync, O: Sink, G: Gate + Sync>(
     crew: &Crew<'_, R, G>,
@@ -111,15 +118,18 @@ fn tell<R: Threads + Sync, S: Sink, G: Gate + Sync>(
     let costs = Costs::new(alloc, chained.yacc.grammar(), chained.weights)?;
     let _weighs = costs.weights();
     let embeds = Embeds::new(alloc, &costs)?;
-    let work = TellWork {
-        costs: &costs,
-        embeds: &embeds,
-        work: chained.work,
+    let telling = Telling {
+        chained: *chained,
+        work: TellWork {
+            costs: &costs,
+            embeds: &embeds,
+            work: chained.work,
+        },
     };
     let mut cores = Cores::new(alloc, chained.yacc, &costs)?;
     write_head(sink, chained.yacc, chained.work)?;
     let mut tally = Tally::new();
-    write_goals(crew, alloc, chained, &work, &mut cores, &mut tally, sink)?;
+    write_goals(crew, alloc, &telling, &mut cores, &mut tally, sink)?;
     write_end(sink, &tally)?;
     Ok(())
 }
@@ -128,29 +138,28 @@ fn tell<R: Threads + Sync, S: Sink, G: Gate + Sync>(
 fn write_goals<R: Threads + Sync, S: Sink, G: Gate + Sync>(
     crew: &Crew<'_, R, G>,
     alloc: Global,
-    chained: &Chained<'_>,
-    work: &TellWork<'_>,
+    telling: &Telling<'_, '_>,
     cores: &mut Cores<'_>,
     tally: &mut Tally,
     sink: &mut S,
 ) -> Result<(), Halt>
-    requires ready { IsReady chained.now }
-    requires work { IsWorkOf chained.now work.now }
-    requires cores { cores.old ≡ told_in chained.now }
+    requires ready { IsReady telling.now.chained }
+    requires work { IsWorkOf telling.now.chained telling.now.work }
+    requires cores { cores.old ≡ told_in telling.now.chained }
     requires tally { tally.old ≡ no_chains }
-    ensures text { PutsOne S.Sink (IsBodyText chained.now) sink.old sink.new result }
-    ensures counted { OnOk result (CountsAll chained.now tally.new) }
+    ensures text { PutsOne S.Sink (IsBodyText telling.now.chained) sink.old sink.new result }
+    ensures counted { OnOk result (CountsAll telling.now.chained tally.new) }
     ensures lent { S.lent sink.new ≡ S.lent sink.old }
 {
     one_text();
     each_chain_once();
-    let mut chains = Chains::new(chained.yacc.grammar());
+    let mut chains = Chains::new(telling.chained.yacc.grammar());
     'batches: loop {
-        let batch = next_batch(alloc, &mut chains, chained.work.is_none())?;
+        let batch = next_batch(alloc, &mut chains, telling.chained.work.is_none())?;
         if batch.is_empty() {
             return Ok(());
         }
-        write_batch(crew, alloc, chained, work, cores, tally, &batch, sink)?;
+        write_batch(crew, alloc, telling, cores, tally, &batch, sink)?;
     }
 }
 
@@ -193,71 +202,74 @@ fn next_with(chains: &mut Chains<'_>, first: &Chain, beside: bool) -> Option<Cha
 fn write_batch<R: Threads + Sync, S: Sink, G: Gate + Sync>(
     crew: &Crew<'_, R, G>,
     alloc: Global,
-    chained: &Chained<'_>,
-    work: &TellWork<'_>,
+    telling: &Telling<'_, '_>,
     cores: &mut Cores<'_>,
     tally: &mut Tally,
     batch: &[Chain],
     sink: &mut S,
 ) -> Result<(), Halt>
-    requires ready { IsReady chained.now }
-    requires work { IsWorkOf chained.now work.now }
-    requires cores { cores.old ≡ told_in chained.now }
-    requires chains { All (IsChain work.now.costs.now.grammar) batch.now }
+    requires ready { IsReady telling.now.chained }
+    requires work { IsWorkOf telling.now.chained telling.now.work }
+    requires cores { cores.old ≡ told_in telling.now.chained }
+    requires chains { All (IsChain telling.now.work.costs.now.grammar) batch.now }
     requires few { length batch.now ≤ 1024 }
     requires count { CanCount tally.old (length batch.now) }
     ensures cores { cores.new ≡ cores.old }
-    ensures put { PutsBatch S.Sink chained.now batch.now
+    ensures put { PutsBatch S.Sink telling.now.chained batch.now
         tally.old tally.new sink.old sink.new result }
     ensures lent { S.lent sink.new ≡ S.lent sink.old }
 {
-    if let Some(frame) = frame_of(alloc, chained, work, cores, batch)? {
+    if let Some(frame) = frame_of(alloc, telling, cores, batch)? {
         if let Some(rows) = rows_of(alloc, &*cores, &frame, batch)? {
-            return write_kept(chained, cores, tally, batch, &rows, sink);
+            return write_kept(&telling.chained, cores, tally, batch, &rows, sink);
         }
     }
-    write_told(crew, alloc, chained, work, tally, batch, sink)
+    write_told(crew, alloc, telling, tally, batch, sink)
 }
 
 // What the chains of a batch have in common, where no texts are rendered. Their inner nodes are kept.
 fn frame_of(
     alloc: Global,
-    chained: &Chained<'_>,
-    work: &TellWork<'_>,
+    telling: &Telling<'_, '_>,
     cores: &mut Cores<'_>,
     batch: &[Chain],
 ) -> Result<Option<FrameLines>, AllocError>
-    requires work { IsWorkOf chained.now work.now }
-    requires chains { All (IsChain work.now.costs.now.grammar) batch.now }
+    requires work { IsWorkOf telling.now.chained telling.now.work }
+    requires chains { All (IsChain telling.now.work.costs.now.grammar) batch.now }
     ensures cores { cores.new ≡ cores.old }
-    ensures frame { Finds (AreFrameLinesIn chained.now) result }
+    ensures frame { Finds (AreFrameLinesIn telling.now.chained) result }
 {
     if batch.is_empty() {
         return Ok(None);
     }
-    match chained.work {
+    match telling.chained.work {
         Some(_) => Ok(None),
-        None => frame_with(alloc, chained, work, cores, batch),
+        None => frame_with(alloc, telling, cores, batch),
     }
 }
 
 // The same of a batch that has chains.
 fn frame_with(
     alloc: Global,
-    chained: &Chained<'_>,
-    work: &TellWork<'_>,
+    telling: &Telling<'_, '_>,
     cores: &mut Cores<'_>,
     batch: &[Chain],
 ) -> Result<Option<FrameLines>, AllocError>
-    requires none { chained.now.work ≡ None }
+    requires none { telling.now.chained.work ≡ None }
     requires some { 0 < length batch.now }
-    requires work { IsWorkOf chained.now work.now }
-    requires chains { All (IsChain work.now.costs.now.grammar) batch.now }
+    requires work { IsWorkOf telling.now.chained telling.now.work }
+    requires chains { All (IsChain telling.now.work.costs.now.grammar) batch.now }
     ensures cores { cores.new ≡ cores.old }
-    ensures frame { Finds (AreFrameLinesIn chained.now) result }
+    ensures frame { Finds (AreFrameLinesIn telling.now.chained) result }
 {
     keep_all(alloc, cores, batch)?;
-    FrameLines::new(alloc, chained.yacc, work.costs, work.embeds, &batch[0])
+    FrameLines::new(
+        alloc,
+        telling.chained.yacc,
+        telling.work.costs,
+        telling.work.embeds,
+        &batch[0],
+    )
 }
 
 // Keeps the inner nodes of chains.
@@ -296,23 +308,22 @@ fn write_kept<S: Sink>(
 fn write_told<R: Threads + Sync, S: Sink, G: Gate + Sync>(
     crew: &Crew<'_, R, G>,
     alloc: Global,
-    chained: &Chained<'_>,
-    work: &TellWork<'_>,
+    telling: &Telling<'_, '_>,
     tally: &mut Tally,
     batch: &[Chain],
     sink: &mut S,
 ) -> Result<(), Halt>
-    requires work { IsWorkOf chained.now work.now }
-    requires chains { All (IsChain work.now.costs.now.grammar) batch.now }
+    requires work { IsWorkOf telling.now.chained telling.now.work }
+    requires chains { All (IsChain telling.now.work.costs.now.grammar) batch.now }
     requires few { length batch.now ≤ 1024 }
     requires count { CanCount tally.old (length batch.now) }
-    ensures put { PutsBatch S.Sink chained.now batch.now
+    ensures put { PutsBatch S.Sink telling.now.chained batch.now
         tally.old tally.new sink.old sink.new result }
     ensures lent { S.lent sink.new ≡ S.lent sink.old }
 {
-    let _named = chained.yacc.grammar();
-    let entries = tell_batch(crew, alloc, work, batch)?;
-    write_entries(sink, chained.yacc, tally, &entries)?;
+    let _named = telling.chained.yacc.grammar();
+    let entries = tell_batch(crew, alloc, &telling.work, batch)?;
+    write_entries(sink, telling.chained.yacc, tally, &entries)?;
     Ok(())
 }
 

@@ -13,10 +13,10 @@ use Rattle.cs_chain_text.proofs.writing.write_goals.Goals as goal
 use Rattle.cs_chain_text.proofs.writing.write_goals.Goals.{In_ok-batch, Then-is_empty}
 
 -- the chains of the batch are the grammar's
-each : (g : Over) (c : In_ok-batch g) → All (IsChain c.args.work.now.costs.now.grammar) c.in_ok-batch.batch.items
+each : (g : Over) (c : In_ok-batch g) → All (IsChain c.args.telling.now.work.costs.now.grammar) c.in_ok-batch.batch.items
 each g c =
     let far = c.batches.invariant.far in
-    let d = c.args.chained.now in
+    let d = c.args.telling.now.chained in
     let own = ap (λ (v : Weighed). v.grammar) c.requires.work.costs in
     let whole = far.split ∙ ap (λ (l : List Chain). far.done ++ l) c.in_ok-batch.ensures.split in
     subst (λ (h : PlainGrammar). All (IsChain h) c.in_ok-batch.batch.items) (sym own)
@@ -31,7 +31,7 @@ none_left g c =
 pub batches-init : goal.batches-init
 batches-init g c =
     record {
-      far = goals_none g.S.Sink c.args.chained.now c.args.sink.now c.new-chains.result c.args.tally.now (c.new-chains.ensures ∙ ap chains c.grammar.ensures.grammar) c.requires.tally;
+      far = goals_none g.S.Sink c.args.telling.now.chained c.args.sink.now c.new-chains.result c.args.tally.now (c.new-chains.ensures ∙ ap chains c.grammar.ensures.grammar) c.requires.tally;
       cores = c.requires.cores;
     }
 
@@ -43,7 +43,7 @@ batches-smaller g c =
 pub write_batch-requires-clause-chains : goal.write_batch-requires-clause-chains
 write_batch-requires-clause-chains g c = λ κs met.
     let at = (goal.at.write_batch-requires-clause-chains g c).In_ok-batch in
-    subst (λ (l : List Chain). All (IsChain c.args.work.now.costs.now.grammar) l) (sym c.deref.ensures.value) (each g at)
+    subst (λ (l : List Chain). All (IsChain c.args.telling.now.work.costs.now.grammar) l) (sym c.deref.ensures.value) (each g at)
 
 pub write_batch-requires-clause-few : goal.write_batch-requires-clause-few
 write_batch-requires-clause-few g c = λ κs met.
@@ -51,7 +51,7 @@ write_batch-requires-clause-few g c = λ κs met.
 
 pub write_batch-requires-clause-count : goal.write_batch-requires-clause-count
 write_batch-requires-clause-count g c = λ κs met.
-    let d = c.args.chained.now in
+    let d = c.args.telling.now.chained in
     let batch = c.in_ok-batch.batch.items in
     let rest = c.next_batch.new.chains in
     let far = subst (λ (l : List Chain). GoalsSoFar g.S.Sink d c.args.sink.now l c.batches.sink c.batches.tally) c.in_ok-batch.ensures.split c.batches.invariant.far in
@@ -62,13 +62,13 @@ write_batch-requires-clause-count g c = λ κs met.
 pub returns-in_err-batch-clause-text : goal.returns-in_err-batch-clause-text
 returns-in_err-batch-clause-text g c =
     let p = err_from_is_err_and c.from_residual.result c.from_residual.ensures.1 in
-    rw (p.1, p.2) (goals_memory g.S.Sink c.args.chained.now c.args.sink.now c.one_text.ensures c.batches.chains c.batches.sink c.batches.tally c.batches.invariant.far)
+    rw (p.1, p.2) (goals_memory g.S.Sink c.args.telling.now.chained c.args.sink.now c.one_text.ensures c.batches.chains c.batches.sink c.batches.tally c.batches.invariant.far)
 
 -- the batch wasn't written
 pub returns-in_err-write_batch-clause-text : goal.returns-in_err-write_batch-clause-text
 returns-in_err-write_batch-clause-text g c =
     let p = err_from_is_err_and c.from_residual-in_err-write_batch.result c.from_residual-in_err-write_batch.ensures.1 in
-    let d = c.args.chained.now in
+    let d = c.args.telling.now.chained in
     let halt = c.in_err-write_batch.field-0.0 in
     let stops = subst (λ (l : List Chain). StopsBatch g.S.Sink d l c.batches.tally c.write_batch.new.tally c.batches.sink c.write_batch.new.sink halt) c.deref.ensures.value c.in_err-write_batch.ensures.put in
     rw (p.1, p.2) (goals_halted g.S.Sink d c.args.sink.now c.one_text.ensures c.batches.chains c.in_ok-batch.batch.items c.next_batch.new.chains c.batches.sink c.write_batch.new.sink c.batches.tally c.write_batch.new.tally
@@ -77,17 +77,17 @@ returns-in_err-write_batch-clause-text g c =
 -- no chain was left
 pub returns-then-is_empty-clause-text : goal.returns-then-is_empty-clause-text
 returns-then-is_empty-clause-text g c =
-    goals_all g.S.Sink c.args.chained.now c.args.sink.now c.one_text.ensures c.batches.chains c.batches.sink c.batches.tally c.batches.invariant.far
+    goals_all g.S.Sink c.args.telling.now.chained c.args.sink.now c.one_text.ensures c.batches.chains c.batches.sink c.batches.tally c.batches.invariant.far
     (none_left g (goal.at.returns-then-is_empty-clause-text g c).Then-is_empty)
 
 pub returns-then-is_empty-clause-counted : goal.returns-then-is_empty-clause-counted
 returns-then-is_empty-clause-counted g c =
-    goals_counted g.S.Sink c.args.chained.now c.args.sink.now c.one_text.ensures c.batches.chains c.batches.sink c.batches.tally c.batches.invariant.far
+    goals_counted g.S.Sink c.args.telling.now.chained c.args.sink.now c.one_text.ensures c.batches.chains c.batches.sink c.batches.tally c.batches.invariant.far
     (none_left g (goal.at.returns-then-is_empty-clause-counted g c).Then-is_empty)
 
 pub batches-preserved : goal.batches-preserved
 batches-preserved g c =
-    let d = c.args.chained.now in
+    let d = c.args.telling.now.chained in
     let e = c.in_ok-write_batch.ensures in
     let batch = c.in_ok-batch.batch.items in
     let w = subst (λ (l : List Chain). WroteBatch g.S.Sink d l c.batches.tally c.write_batch.new.tally c.batches.sink c.write_batch.new.sink) c.deref.ensures.value e.put in

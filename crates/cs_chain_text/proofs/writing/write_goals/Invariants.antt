@@ -5,8 +5,8 @@ use Rattle.cs_chain_text.proofs.writing.write_goals.Given as goal
 
 abbrev pub invariant-batches : goal.invariant-batches
 invariant-batches g l = record {
-  far : GoalsSoFar g.S.Sink l.chained l.fn.sink l.chains l.sink l.tally;
-  cores : l.cores ≡ told_in l.chained;
+  far : GoalsSoFar g.S.Sink l.telling.chained l.fn.sink l.chains l.sink l.tally;
+  cores : l.cores ≡ told_in l.telling.chained;
 }
 
 abbrev pub decreases-batches : goal.decreases-batches

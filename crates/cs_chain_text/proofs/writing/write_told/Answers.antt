@@ -12,8 +12,8 @@ use Rattle.cs_chain_text.proofs.writing.write_told.Goals as goal
 use Rattle.cs_chain_text.proofs.writing.write_told.Goals.{In_ok-entries}
 
 -- what was told of them
-told : (g : Over) (c : In_ok-entries g) → AreEntries c.args.chained.now c.args.batch.now c.in_ok-entries.entries.items
-told g c = told_are c.args.chained.now c.args.work.now c.requires.work c.args.batch.now c.in_ok-entries.entries.items c.in_ok-entries.ensures
+told : (g : Over) (c : In_ok-entries g) → AreEntries c.args.telling.now.chained c.args.batch.now c.in_ok-entries.entries.items
+told g c = told_are c.args.telling.now.chained c.args.telling.now.work c.requires.work c.args.batch.now c.in_ok-entries.entries.items c.in_ok-entries.ensures
 
 pub tell_batch-requires-clause-can : goal.tell_batch-requires-clause-can
 tell_batch-requires-clause-can g c = λ κs met. c.requires.work.can
@@ -21,14 +21,14 @@ tell_batch-requires-clause-can g c = λ κs met. c.requires.work.can
 pub write_entries-requires-clause-named : goal.write_entries-requires-clause-named
 write_entries-requires-clause-named g c =
     let at = (goal.at.write_entries-requires-clause-named g c).In_ok-entries in
-    let d = c.args.chained.now in
+    let d = c.args.telling.now.chained in
     subst (λ (l : List ChainEntry). All (IsNamedEntry d.yacc.now) l) (sym c.deref.ensures.value)
     (named_entries d.yacc.now c.grammar-named.ensures.named (texts_by d.work) (lexemes_by d.work) (weighed_in d) refl c.args.batch.now c.in_ok-entries.entries.items (told g at))
 
 pub write_entries-requires-clause-few : goal.write_entries-requires-clause-few
 write_entries-requires-clause-few g c =
     let at = (goal.at.write_entries-requires-clause-few g c).In_ok-entries in
-    let d = c.args.chained.now in
+    let d = c.args.telling.now.chained in
     let many = length_zip (IsEntryOf (weighed_in d) (texts_by d.work) (lexemes_by d.work)) c.args.batch.now c.in_ok-entries.entries.items (told g at) in
     let own = subst (λ (n : ℕ). CanCount c.args.tally.now n) (sym many) c.requires.count in
     subst (λ (l : List ChainEntry). CanCount c.args.tally.now (length l)) (sym c.deref.ensures.value) own
@@ -43,14 +43,14 @@ pub returns-in_err-write_entries-clause-put : goal.returns-in_err-write_entries-
 returns-in_err-write_entries-clause-put g c =
     let p = err_from_is_err_and c.from_residual-in_err-write_entries.result c.from_residual-in_err-write_entries.ensures.1 in
     let at = (goal.at.returns-in_err-write_entries-clause-put g c).In_ok-entries in
-    let d = c.args.chained.now in
+    let d = c.args.telling.now.chained in
     let cut = subst (λ (l : List ChainEntry). IsCutShort g.S.Sink (lines_of d.yacc.now c.args.tally.now l) c.args.sink.now c.write_entries.new.sink) c.deref.ensures.value c.in_err-write_entries.ensures.text in
     rw (p.1, p.2) (record { entries = c.in_ok-entries.entries.items; are = told g at; cut = cut })
 
 pub returns-clause-put : goal.returns-clause-put
 returns-clause-put g c =
     let at = (goal.at.returns-clause-put g c).In_ok-entries in
-    let d = c.args.chained.now in
+    let d = c.args.telling.now.chained in
     let e = c.in_ok-write_entries.ensures in
     record {
       entries = c.in_ok-entries.entries.items;
