@@ -5,8 +5,8 @@ use Rattle.cs_deep.proofs.writing.write_base.Given as goal
 abbrev pub invariant-batches : goal.invariant-batches
 invariant-batches g l = record {
   grammar : l.candidates.grammar ≡ l.deep.yacc.now.grammar;
-  base : l.candidates.base ≡ l.base.now.tokens;
-  so_far : EditsSoFar g.S.Sink l.deep l.base.now.number l.base.now.tokens l.fn.tally l.fn.sink l.candidates.edits l.sink l.tally;
+  base : l.candidates.base ≡ l.base.tokens.now;
+  so_far : EditsSoFar g.S.Sink l.deep l.base.number l.base.tokens.now l.fn.tally l.fn.sink l.candidates.edits l.sink l.tally;
 }
 
 abbrev pub decreases-batches : goal.decreases-batches
