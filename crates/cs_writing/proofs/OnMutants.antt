@@ -2,4 +2,3 @@ pub mod Entries
 pub mod Filling
 pub mod Naming
 pub mod Taking
-pub mod Texts

@@ -3,3 +3,4 @@ pub mod Making
 pub mod Placings
 pub mod Joining
 pub mod Telling
+pub mod Texts

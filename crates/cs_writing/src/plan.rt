@@ -13,11 +13,13 @@
 //! `proofs/OnPlan/Telling` are for the layer above.
 
 mod entries;
+mod joining;
 mod made;
 mod placing;
 mod plan;
 mod texts;
 
 pub use entries::next_entries;
+pub(crate) use joining::{Side, put_text};
 pub use made::Made;
 pub use plan::{Means, Mutation, Plan, PlanForm};

@@ -24,7 +24,7 @@ use Rattle.cs_writing.specs.declared.mutants.opened.Opened.{Opened}
 use Rattle.cs_writing.specs.declared.mutants.row.Row.{Row}
 use Rattle.cs_writing.specs.declared.mutants.rows.Rows.{Rows}
 use Rattle.cs_writing.specs.declared.mutants.tools.ToldToken.{ToldToken}
-use Rattle.cs_writing.proofs.OnMutants.Texts.{whole_text}
+use Rattle.cs_writing.proofs.OnPlan.Texts.{whole_text}
 
 -- the edited list around the token
 pub edited_open : (w : List ℕ) (edit : OpenEdit) (token : ℕ) → edited w (edit_with edit token) ≡ take (place_of edit) w ++ token ∷ drop (behind_place edit) w

@@ -30,8 +30,8 @@ use Rattle.cs_writing.specs.declared.mutants.made.Filling.{Filling}
 use Rattle.cs_writing.specs.declared.mutants.made.Rendering.{Rendering}
 use Rattle.cs_writing.specs.declared.mutants.opened.Opened.{Opened}
 use Rattle.cs_writing.specs.declared.mutants.row.Row.{Row}
-use Rattle.cs_writing.specs.declared.mutants.row.Side.{Side}
-use Rattle.cs_writing.specs.declared.mutants.row.Side.TheVariants as stands
+use Rattle.cs_writing.specs.declared.plan.joining.Side.{Side}
+use Rattle.cs_writing.specs.declared.plan.joining.Side.TheVariants as stands
 use Rattle.cs_writing.specs.declared.mutants.rows.Rows.{Rows}
 use Rattle.cs_writing.specs.declared.mutants.tools.ToldToken.{ToldToken}
 

@@ -1,5 +1,5 @@
 -- Goals that are placed among cases, and what came of rendering their tokens. Working words of proofs.
-use Rattle.std.specs.Prelude.{◌≡◌, ℕ, Bool, true, false, List, [], ◌∷◌, ◌++◌, All, Option, None, Some, IfSome, IsSomeAnd}
+use Rattle.std.specs.Prelude.{◌≡◌, ◌≤◌, ℕ, Bool, true, false, List, [], ◌∷◌, ◌++◌, All, Option, None, Some, IfSome, IsSomeAnd, length}
 use Rattle.std.specs.Global.{Vec}
 use Rattle.std.specs.List.{AllZip}
 use Rattle.cs_grammar.specs.Grammar.{PlainGrammar}
@@ -17,11 +17,14 @@ use Rattle.cs_verdicts.specs.declared.positive.verdict.Verdict.TheVariants.{Feas
 use Rattle.cs_verdicts.specs.Positive.Positives.{ToJudge}
 use Rattle.cs_verdicts.specs.Positive.Verdict.{IsVerdictIn}
 use Rattle.cs_texts.specs.declared.rendering.rendered.Rendered.{Rendered}
-use Rattle.cs_texts.specs.Rendering.Rendering.{rendering}
+use Rattle.cs_texts.specs.Rendering.Rendering.{Text, rendering}
+use Rattle.cs_texts.specs.Splice.Apart.{ScanBack}
 use Rattle.cs_texts.specs.declared.work.work.RenderWork.{RenderWork}
 use Rattle.cs_texts.specs.Work.Renders.{IsRenderedBy, TakesTokens}
 use Rattle.cs_writing.specs.declared.plan.placing.Placed.{Placed}
 use Rattle.cs_writing.specs.declared.plan.plan.Means.{Means}
+use Rattle.cs_writing.specs.declared.plan.texts.TextWork.{TextWork}
+use Rattle.cs_writing.specs.Mutants.Makers.{near_of}
 use Rattle.cs_writing.specs.Plan.Entries.{IsSharedIn}
 use Rattle.cs_writing.specs.Plan.Made.{is_asked}
 use Rattle.cs_writing.specs.Plan.Steps.{AllSteps}
@@ -67,6 +70,19 @@ PlacesNext format old before new after placed = ArePlacedNext format old before 
 -- where lists are rendered, these can be
 abbrev pub AreTaken : Option Means → List Placed → Type 0
 AreTaken means placed = IfSome means (λ m. All (λ p. TakesTokens m.work.now p.tokens.items) placed)
+
+-- so many tokens have entries among the lexemes
+abbrev pub HaveSoMany : Option Means → ℕ → Type 0
+HaveSoMany means tokens = IfSome means (λ m. tokens ≤ length m.work.now.lexemes.now)
+
+-- the list can be rendered, and texts of tokens that stand apart scan back
+pub record CanTake (texts : TextWork) (tokens : List ℕ) : Type 0 where
+  pub takes : TakesTokens texts.work.now tokens
+  pub scan : ScanBack (near_of texts.work.now) texts.apart.now
+
+-- the rendering of the tokens is this text
+abbrev pub IsTextBy : RenderWork → List ℕ → Vec ℕ → Type 0
+IsTextBy work tokens text = IsRenderedBy work tokens (Text text.items)
 
 -- this came of the tokens, where their rendering is asked for
 abbrev pub IsRenderedIf : Bool → RenderWork → List ℕ → Option Rendered → Type 0

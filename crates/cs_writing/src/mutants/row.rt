@@ -1,15 +1,13 @@
 // The lines of negatives of a base that differ in the token that their edit puts alone.
 
-ghost use Rattle.std.specs.Prelude.{◌≡◌, ◌++◌, [], IfOk, IfSome, IsTrue, drop, is_some, length, take};
+ghost use Rattle.std.specs.Prelude.{◌≡◌, IfOk, IfSome, IsTrue, drop, is_some, length, take};
 ghost use Rattle.cs_manifest.specs.Output.Names.{IsNamedMark};
 ghost use Rattle.cs_manifest.specs.Manifest.Open.{mark_in, place_of};
-ghost use Rattle.cs_texts.specs.Rendering.Rendering.{AreTokens};
-ghost use Rattle.cs_writing.specs.Mutants.Rows.{HasTexts, HaveAllLexemes, IsOpenPlaced, IsRowOf, PutsText, behind_place};
-ghost use Rattle.cs_writing.specs.Mutants.Rows.{with_separator};
+ghost use Rattle.cs_writing.specs.Mutants.Rows.{HasTexts, IsOpenPlaced, IsRowOf, behind_place};
 
 use crate::mutants::maker::Maker;
+use crate::plan::{Side, put_text};
 use cs_manifest::{OpenEdit, OpenLines, OpenNegative, OpenPair};
-use cs_texts::RenderWork;
 use std::alloc::{AllocError, Global};
 
 /// The lines of the negatives with this edit and this pair, whatever token stands apart there.
@@ -77,46 +75,5 @@ fn tokens_behind(base: &[u16], edit: OpenEdit) -> &[u16]
     match edit {
         OpenEdit::Insert(place) => &base[place as usize..],
         OpenEdit::Replace(place) => &base[place as usize + 1..],
-    }
-}
-
-// On which side of each lexeme its separator stands: behind those in front of the lexeme that the edit puts, and before those
-// behind it.
-#[derive(Clone, Copy)]
-enum Side {
-    Before,
-    Behind,
-}
-
-// Puts the lexemes of the tokens, each with a separator on this side of it. False where a token has none.
-fn put_text(
-    out: &mut Vec<u8>,
-    work: &RenderWork<'_>,
-    side: Side,
-    tokens: &[u16],
-) -> Result<bool, AllocError>
-    requires empty { out.old.items ≡ [] }
-    requires tokens { AreTokens work.now.lexemes.now tokens.now }
-    ensures text { IfOk result (PutsText work.now side tokens.now out.new.items) }
-    ensures there { IfOk result (λ has. HaveAllLexemes work.now tokens.now → IsTrue has) }
-{
-    for token in tokens {
-        let Some(lexeme) = work.lexemes.get(*token) else {
-            return Ok(false);
-        };
-        let (first, second) = in_order(work.separator, side, lexeme);
-        out.extend_from_slice(first)?;
-        out.extend_from_slice(second)?;
-    }
-    Ok(true)
-}
-
-// A lexeme and the separator on this side of it, in the order of the text.
-fn in_order<'t>(separator: &'t [u8], side: Side, lexeme: &'t [u8]) -> (&'t [u8], &'t [u8])
-    ensures { result.0.now ++ result.1.now ≡ with_separator separator.now side lexeme.now }
-{
-    match side {
-        Side::Before => (separator, lexeme),
-        Side::Behind => (lexeme, separator),
     }
 }

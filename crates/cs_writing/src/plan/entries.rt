@@ -39,14 +39,9 @@ pub fn next_entries<R: Threads + Sync, G: Gate + Sync>(
     ensures grammar { cases.new.grammar ≡ cases.old.grammar }
     ensures refused { OnErr result (AreStillLeft positives.old positives.new) }
 {
-    let placed = place_next(
-        alloc,
-        plan.yacc.grammar(),
-        plan.form.format(),
-        positives,
-        cases,
-    )?;
-    let rendered = render_placed(crew, alloc, plan.form.means(), &placed)?;
+    let grammar = plan.yacc.grammar();
+    let placed = place_next(alloc, grammar, plan.form.format(), positives, cases)?;
+    let rendered = render_placed(crew, alloc, plan.form.means(), grammar.tokens(), &placed)?;
     let mut rendered = rendered.into_iter();
     let mut entries = Vec::with_capacity(alloc, placed.len())?;
     for placed in placed {

@@ -2,8 +2,8 @@ use Rattle.std.proofs.Common.{◌≡◌, Some, ◌+◌, ◌++◌, [], List, ℕ,
 use Rattle.std.proofs.lemmas.List.{take_more}
 use Rattle.cs_scanner.specs.Lexeme.Lexeme.{lexeme_in}
 use Rattle.cs_writing.specs.Mutants.Rows.{IsTextBeside, with_separator}
-use Rattle.cs_writing.proofs.OnMutants.Texts.{beside_more, beside_none, none_at}
-use Rattle.cs_writing.proofs.mutants.row.put_text.Goals as goal
+use Rattle.cs_writing.proofs.OnPlan.Texts.{beside_more, beside_none, none_at}
+use Rattle.cs_writing.proofs.plan.joining.put_text.Goals as goal
 
 pub loop-token-init : goal.loop-token-init
 loop-token-init c =
@@ -23,8 +23,8 @@ loop-token-preserved c =
     let first = c.in_order.result.0.now in
     let second = c.in_order.result.1.now in
     let has : lexeme_in lexemes token ≡ Some lexeme = sym c.in-Some.ensures in
-    let put : c.extend_from_slice-in-loop-token.new.self.items ≡ so_far ++ with_separator sep side lexeme =
-    c.in_ok-extend_from_slice-2.ensures.items ∙ ap (λ (t : List ℕ). t ++ second) c.in_ok-extend_from_slice.ensures.items
+    let put : c.put_piece-in-loop-token.new.out.items ≡ so_far ++ with_separator sep side lexeme =
+    c.in_ok-put_piece-2.ensures ∙ ap (λ (t : List ℕ). t ++ second) c.in_ok-put_piece.ensures
     ∙ append_assoc so_far first second ∙ ap (λ (t : List ℕ). so_far ++ t) c.in_order.ensures in
     subst (λ (t : List ℕ). IsTextBeside lexemes sep side (take (i + 1) tokens) t) (sym put)
     (subst (λ (l : List ℕ). IsTextBeside lexemes sep side l (so_far ++ with_separator sep side lexeme)) (sym (take_more tokens i 0 c.loop-token-test.true))

@@ -7,8 +7,8 @@ use Rattle.cs_scanner.specs.Lexeme.Lexeme.{lexeme_in}
 use Rattle.cs_texts.specs.Rendering.Rendering.{HasLexeme, IsRuleText}
 use Rattle.cs_texts.proofs.OnSplice.Aligning.{rule_join}
 use Rattle.cs_writing.specs.Mutants.Rows.{IsTextBehind, IsTextBeside, IsTextInFront, with_separator}
-use Rattle.cs_writing.specs.declared.mutants.row.Side.{Side}
-use Rattle.cs_writing.specs.declared.mutants.row.Side.TheVariants.{Before, Behind}
+use Rattle.cs_writing.specs.declared.plan.joining.Side.{Side}
+use Rattle.cs_writing.specs.declared.plan.joining.Side.TheVariants.{Before, Behind}
 
 -- where a token has no lexeme not each has one
 pub none_at : (lexemes : List (Option (List ℕ))) (tokens : List ℕ) (i : ℕ) → i < length tokens → lexeme_in lexemes (get_or tokens i 0) ≡ None → ¬ All (HasLexeme lexemes) tokens
@@ -20,6 +20,10 @@ module _ (lexemes : List (Option (List ℕ))) (sep : List ℕ) where
 
   one_text : (token : ℕ) (lexeme : List ℕ) → lexeme_in lexemes token ≡ Some lexeme → Rule (token ∷ []) lexeme
   one_text token lexeme has = record { texts = lexeme ∷ []; each = (has, tt); is = refl }
+
+  -- a token's lexeme behind the others' text
+  pub text_to_last : (front text : List ℕ) (last : ℕ) (lexeme : List ℕ) → IsTextInFront lexemes sep front text → lexeme_in lexemes last ≡ Some lexeme → Rule (front ++ last ∷ []) (text ++ lexeme)
+  text_to_last front text last lexeme in_front has = in_front (last ∷ []) lexeme (omega arith) (one_text last lexeme has)
 
   front_none : IsTextInFront lexemes sep [] []
   front_none others more some rule = rule
