@@ -209,16 +209,20 @@ impl Firsts {
             (AreAllAdded self.old (Rule inner ∷ Context outer place inner ∷ []) case self.new) }
         ensures grown { IsGrown self.old self.new }
     {
+        let number = goal_number(Goal::Context {
+            outer,
+            place,
+            inner,
+        });
+        if self.is_recent(number) {
+            return Ok(());
+        }
+        self.put(Goal::Rule(inner), case)?;
         let goal = Goal::Context {
             outer,
             place,
             inner,
         };
-        let number = goal_number(goal);
-        if self.is_recent(number) {
-            return Ok(());
-        }
-        self.put(Goal::Rule(inner), case)?;
         self.put(goal, case)?;
         self.keep_recent(number);
         Ok(())
@@ -229,12 +233,11 @@ impl Firsts {
         ensures added { OnOk result (AreAllAdded self.old (Pair left right ∷ []) case self.new) }
         ensures grown { IsGrown self.old self.new }
     {
-        let goal = Goal::Pair { left, right };
-        let number = goal_number(goal);
+        let number = goal_number(Goal::Pair { left, right });
         if self.is_recent(number) {
             return Ok(());
         }
-        self.put(goal, case)?;
+        self.put(Goal::Pair { left, right }, case)?;
         self.keep_recent(number);
         Ok(())
     }
