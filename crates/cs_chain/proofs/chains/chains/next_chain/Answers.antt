@@ -1,3 +1,4 @@
+-- Where nothing is open, no chain is left.
 use Rattle.std.proofs.Common.{◌∙◌}
 use Rattle.cs_chain.proofs.OnChains.Left.{ended}
 use Rattle.cs_chain.proofs.chains.chains.next_chain.Goals as goal

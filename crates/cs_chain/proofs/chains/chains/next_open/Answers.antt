@@ -1,3 +1,4 @@
+-- All chains of a context goal are left when it is opened, and one whose inner rule isn't there has none.
 use Rattle.std.proofs.Common.{◌≡◌, ◌∷◌, ◌++◌, List, length, ap, ◌∙◌, arith}
 use Rattle.std.specs.List.{flat_map}
 use Rattle.cs_goals.specs.declared.goal.Goal.{Goal}

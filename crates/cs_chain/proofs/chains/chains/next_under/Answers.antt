@@ -1,3 +1,4 @@
+-- The places of a right side and the rules of a grammar are few enough for their numbers.
 use Rattle.std.proofs.Common.{arith}
 use Rattle.cs_grammar.proofs.Measures.{IsRuleOf-rule}
 use Rattle.cs_chain.proofs.chains.chains.next_under.Goals as goal

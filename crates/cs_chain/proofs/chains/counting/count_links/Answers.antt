@@ -1,3 +1,4 @@
+-- One rule's context goals are added to those of its left side, and there are few enough for the sum to fit.
 use Rattle.std.proofs.Common.{◌≡◌, ◌+◌, ◌-◌, ◌*◌, ◌^◌, ◌<◌, ◌≤◌, ℕ, List, length, get_or, set, sym, ap, ◌∙◌, subst, arith}
 use Rattle.std.proofs.lemmas.List.{get_or_default, length-set}
 use Rattle.cs_grammar.specs.declared.symbol.Symbol.{Symbol}

@@ -1,3 +1,4 @@
+-- A chain shows both of its context goals, and the list of context goals has each of them once.
 use Rattle.cs_chain.proofs.OnChains.Exact.{chains_once, chains_exact}
 use Rattle.cs_chain.proofs.chains.laws.each_chain_once.Goals as goal
 

@@ -1,3 +1,4 @@
+-- What meets the chain is a frame around a core: their costs together tell the verdict, and their codes its code.
 use Rattle.std.proofs.Common.{List, ℕ, ◌++◌, sym, subst}
 use Rattle.cs_least.specs.declared.cost.cost.Cost.{Cost}
 use Rattle.cs_chain.specs.declared.judging.verdict.ChainVerdict.TheVariants.{Feasible}

@@ -1,3 +1,4 @@
+-- A chosen tree is the chain's nodes with chosen parts around them, each the only one and a least one.
 use Rattle.cs_chain.proofs.OnJudging.Chosen.{chosen_met, chosen_least, one_chosen}
 use Rattle.cs_chain.proofs.judging.laws.chosen_tree_meets_chain.Goals as goal
 

@@ -1,3 +1,4 @@
+-- Unlike verdicts contradict each other, and feasible ones have the least size and the one chosen tree's code.
 use Rattle.cs_chain.proofs.OnJudging.Verdicts.{one_verdict}
 use Rattle.cs_chain.proofs.judging.laws.one_chain_verdict.Goals as goal
 

@@ -1,3 +1,4 @@
+-- Lexemes, entries of goals and negatives of bases are each decided by those before, and decide the text.
 use Rattle.cs_manifest.proofs.OnManifest.OneManifest.{one_manifest_by}
 use Rattle.cs_manifest.proofs.manifest.laws.one_manifest.Goals as goal
 

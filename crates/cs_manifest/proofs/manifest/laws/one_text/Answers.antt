@@ -1,3 +1,4 @@
+-- There is one list of lexemes and one rendering where there are texts, and neither where there are none.
 use Rattle.cs_manifest.proofs.OnManifest.Texts.{text_is_one}
 use Rattle.cs_manifest.proofs.manifest.laws.one_text.Goals as goal
 

@@ -1,3 +1,4 @@
+-- The word, and behind it the mark that stands in front of the token.
 use Rattle.cs_manifest.proofs.OnOutput.Pieces.{then}
 use Rattle.cs_manifest.proofs.manifest.open.put_left.Goals as goal
 

@@ -1,3 +1,4 @@
+-- The base's number and the place of the edit, each behind its word.
 use Rattle.cs_manifest.proofs.OnOutput.Pieces.{then}
 use Rattle.cs_manifest.proofs.manifest.open.put_open_edit.Goals as goal
 

@@ -1,3 +1,4 @@
+-- The list's part, the text's and the end's are two or three texts each, one behind the other.
 use Rattle.cs_manifest.proofs.OnOutput.Pieces.{then}
 use Rattle.cs_manifest.proofs.manifest.open.put_part.Goals as goal
 

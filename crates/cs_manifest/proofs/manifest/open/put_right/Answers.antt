@@ -1,3 +1,4 @@
+-- The mark that stands behind the token, and behind it the place, which is one further.
 use Rattle.cs_manifest.proofs.OnOutput.Pieces.{then}
 use Rattle.cs_manifest.proofs.manifest.open.put_right.Goals as goal
 

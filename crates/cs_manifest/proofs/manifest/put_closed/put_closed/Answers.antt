@@ -1,3 +1,4 @@
+-- The closed sets are of the file's grammar, so each number in them has a name, and their lines follow one another.
 use Rattle.std.proofs.Common.{◌≡◌, ◌<◌, All, List, ℕ, ap, codes, length, subst, sym}
 use Rattle.cs_grammar.specs.declared.symbol.Mark.{Mark}
 use Rattle.cs_grammar.specs.declared.symbol.Mark.TheVariants.{Begin}

@@ -1,3 +1,4 @@
+-- The set's words, the nonterminal's name and the tokens' names, one behind the other.
 use Rattle.cs_manifest.proofs.OnOutput.Pieces.{then}
 use Rattle.cs_manifest.proofs.manifest.put_closed.put_edge.Goals as goal
 

@@ -1,3 +1,4 @@
+-- One mark more, behind a space.
 use Rattle.cs_manifest.specs.Output.Names.{mark_text}
 use Rattle.cs_manifest.proofs.OnOutput.Pieces.{nothing, spaced_next}
 use Rattle.cs_manifest.proofs.manifest.put_closed.put_marks.Goals as goal

@@ -1,3 +1,4 @@
+-- The words, the mark, and the marks that follow it, one behind the other.
 use Rattle.cs_manifest.proofs.OnOutput.Pieces.{then}
 use Rattle.cs_manifest.proofs.manifest.put_closed.put_next.Goals as goal
 

@@ -1,3 +1,4 @@
+-- One nonterminal's name more, behind a space.
 use Rattle.cs_manifest.specs.Output.Names.{nonterminal_of}
 use Rattle.cs_manifest.proofs.OnOutput.Pieces.{nothing, spaced_more}
 use Rattle.cs_manifest.proofs.manifest.put_closed.put_nonterminals.Goals as goal

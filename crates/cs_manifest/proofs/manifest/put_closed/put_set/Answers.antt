@@ -1,3 +1,4 @@
+-- The set's words, the nonterminals' names and the newline, one behind the other.
 use Rattle.cs_manifest.proofs.OnOutput.Pieces.{then}
 use Rattle.cs_manifest.proofs.manifest.put_closed.put_set.Goals as goal
 

@@ -1,3 +1,4 @@
+-- The line of the productive, that of the reachable and that of the empty, each by its own list.
 use Rattle.std.proofs.Common.{ap, codes}
 use Rattle.cs_manifest.proofs.OnOutput.Pieces.{spelled, then}
 use Rattle.cs_manifest.specs.Manifest.SharedLines.{set_line}

@@ -1,3 +1,4 @@
+-- One token's marks more; the token's number is that of the list's place.
 use Rattle.std.proofs.Common.{ap, ◌∙◌, ℕ}
 use Rattle.cs_manifest.proofs.OnOutput.Pieces.{nothing, numbered_more, spelled}
 use Rattle.cs_manifest.specs.Manifest.SharedLines.{token_next_line}

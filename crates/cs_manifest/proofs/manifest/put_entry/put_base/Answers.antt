@@ -1,3 +1,4 @@
+-- The base's number and the goal's, each behind its word, and the newline.
 use Rattle.cs_manifest.proofs.OnOutput.Pieces.{then}
 use Rattle.cs_manifest.proofs.manifest.put_entry.put_base.Goals as goal
 

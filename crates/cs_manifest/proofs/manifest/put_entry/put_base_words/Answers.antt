@@ -1,3 +1,4 @@
+-- The negative's number and the base's, each behind its word.
 use Rattle.cs_manifest.proofs.OnOutput.Pieces.{then}
 use Rattle.cs_manifest.proofs.manifest.put_entry.put_base_words.Goals as goal
 

@@ -1,3 +1,4 @@
+-- Where there is no count of cases, nothing is put.
 use Rattle.cs_manifest.proofs.OnOutput.Pieces.{nothing}
 use Rattle.cs_manifest.proofs.manifest.put_entry.put_cases.Goals as goal
 

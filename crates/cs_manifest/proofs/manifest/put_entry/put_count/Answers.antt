@@ -1,3 +1,4 @@
+-- The word, and behind it the number.
 use Rattle.cs_manifest.proofs.OnOutput.Pieces.{then}
 use Rattle.cs_manifest.proofs.manifest.put_entry.put_count.Goals as goal
 

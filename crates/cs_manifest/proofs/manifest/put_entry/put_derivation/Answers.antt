@@ -1,3 +1,4 @@
+-- The newline above and the word, and behind them the numbers.
 use Rattle.cs_manifest.proofs.OnOutput.Pieces.{then}
 use Rattle.cs_manifest.proofs.manifest.put_entry.put_derivation.Goals as goal
 

@@ -1,3 +1,4 @@
+-- An edit that puts a token has its place, and behind it the token's name.
 use Rattle.cs_manifest.proofs.OnOutput.Pieces.{then}
 use Rattle.cs_manifest.proofs.manifest.put_entry.put_edit.Goals as goal
 

@@ -1,3 +1,4 @@
+-- The counts, each behind its word, in the order of the end line, and the newline.
 use Rattle.cs_manifest.proofs.OnOutput.Pieces.{then}
 use Rattle.cs_manifest.proofs.manifest.put_entry.put_end.Goals as goal
 

@@ -1,3 +1,4 @@
+-- The newline above a text is put with the text, so the lines of a goal or a case are the same, cut elsewhere.
 use Rattle.std.proofs.Common.{◌++◌, ap, codes, List, ℕ}
 use Rattle.cs_manifest.specs.Manifest.Below.{text_below, tree_words, verdict_words}
 use Rattle.cs_texts.specs.Rendering.Rendering.{rendering}

@@ -1,3 +1,4 @@
+-- The edit, the pair's marks and the place, one behind the other.
 use Rattle.cs_manifest.proofs.OnOutput.Pieces.{then}
 use Rattle.cs_manifest.proofs.manifest.put_entry.put_fault.Goals as goal
 

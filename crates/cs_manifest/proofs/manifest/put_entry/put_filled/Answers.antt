@@ -1,3 +1,4 @@
+-- The number and the five parts of the lines, and between the parts the name three times and the lexeme once.
 use Rattle.cs_manifest.proofs.OnOutput.Pieces.{then}
 use Rattle.cs_manifest.proofs.manifest.put_entry.put_filled.Goals as goal
 

@@ -1,3 +1,4 @@
+-- The goal's number behind its word, and behind it the goal.
 use Rattle.cs_manifest.proofs.OnOutput.Pieces.{then}
 use Rattle.cs_manifest.proofs.manifest.put_entry.put_goal_words.Goals as goal
 

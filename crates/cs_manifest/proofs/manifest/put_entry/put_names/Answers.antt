@@ -1,3 +1,4 @@
+-- One name more, behind a space.
 use Rattle.cs_manifest.specs.Output.Names.{token_of}
 use Rattle.cs_manifest.proofs.OnOutput.Pieces.{nothing, spaced_next}
 use Rattle.cs_manifest.proofs.manifest.put_entry.put_names.Goals as goal

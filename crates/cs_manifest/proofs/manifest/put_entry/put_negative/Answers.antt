@@ -1,3 +1,4 @@
+-- The newline above each line is put with that line, so four parts, one behind the other, are the lines.
 use Rattle.std.proofs.Common.{◌++◌}
 use Rattle.cs_manifest.proofs.OnOutput.Pieces.{then, then_below}
 use Rattle.cs_manifest.specs.Manifest.Below.{fault_words, tokens_words}

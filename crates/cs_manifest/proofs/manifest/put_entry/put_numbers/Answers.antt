@@ -1,3 +1,4 @@
+-- One number more, behind a space.
 use Rattle.std.proofs.Common.{decimal}
 use Rattle.cs_manifest.proofs.OnOutput.Pieces.{nothing, spaced_next}
 use Rattle.cs_manifest.proofs.manifest.put_entry.put_numbers.Goals as goal

@@ -1,3 +1,4 @@
+-- The left mark, and behind it the right one.
 use Rattle.cs_manifest.proofs.OnOutput.Pieces.{then}
 use Rattle.cs_manifest.proofs.manifest.put_entry.put_pair.Goals as goal
 

@@ -1,3 +1,4 @@
+-- Where there is no text, the token's name or the number stands behind the words and in front of the newline.
 use Rattle.cs_manifest.proofs.OnOutput.Pieces.{then}
 use Rattle.cs_manifest.proofs.manifest.put_entry.put_rendered.Goals as goal
 

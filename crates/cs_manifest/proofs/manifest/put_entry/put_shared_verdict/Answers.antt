@@ -1,3 +1,4 @@
+-- A feasible goal has its size, its case and the first case that meets it, each behind its word, and the newline.
 use Rattle.cs_manifest.proofs.OnOutput.Pieces.{then}
 use Rattle.cs_manifest.proofs.manifest.put_entry.put_shared_verdict.Goals as goal
 

@@ -1,3 +1,4 @@
+-- Each goal's word, and behind it what the goal has: one number, three numbers, or two marks.
 use Rattle.cs_manifest.proofs.OnOutput.Pieces.{then}
 use Rattle.cs_manifest.proofs.manifest.put_entry.put_spaced_goal.Goals as goal
 

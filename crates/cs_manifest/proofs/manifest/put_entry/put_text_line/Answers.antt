@@ -1,3 +1,4 @@
+-- What stands for the bytes of the whole text is what stands for its three parts, one behind the other.
 use Rattle.std.proofs.Common.{ap, codes, List, ℕ, ◌∷◌, ◌++◌}
 use Rattle.cs_manifest.proofs.OnOutput.Pieces.{spelled, then}
 use Rattle.cs_manifest.proofs.OnOutput.Runs.{parts_spelled}

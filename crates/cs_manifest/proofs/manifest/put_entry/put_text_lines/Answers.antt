@@ -1,3 +1,4 @@
+-- The newline alone where nothing was rendered, else what came of the rendering, by its parts.
 use Rattle.std.proofs.Common.{ap}
 use Rattle.cs_manifest.proofs.OnOutput.Pieces.{spelled}
 use Rattle.cs_manifest.specs.Manifest.Below.{text_below}

@@ -1,3 +1,4 @@
+-- The size, the derivation and the tokens, each line behind the newline above it.
 use Rattle.std.proofs.Common.{◌++◌, [], ap, codes, decimal}
 use Rattle.cs_manifest.specs.Output.Words.{spaced}
 use Rattle.cs_manifest.proofs.OnOutput.Pieces.{spelled, then_below}

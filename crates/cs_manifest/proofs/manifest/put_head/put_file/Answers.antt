@@ -1,3 +1,4 @@
+-- The lines of the file's tokens, and behind them those of its grammar's rules.
 use Rattle.std.proofs.Common.{ap, ◌∙◌}
 use Rattle.cs_grammar.specs.Grammar.{PlainGrammar}
 use Rattle.cs_manifest.specs.Output.Words.{with_numbers}

@@ -1,3 +1,4 @@
+-- Each form's line, and behind it the parts that the form has, in their order.
 use Rattle.cs_manifest.proofs.OnOutput.Pieces.{then}
 use Rattle.cs_manifest.proofs.manifest.put_head.put_head.Goals as goal
 

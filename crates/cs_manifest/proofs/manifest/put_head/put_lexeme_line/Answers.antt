@@ -1,3 +1,4 @@
+-- The word, the token's name, its lexeme and the newline, one behind the other.
 use Rattle.cs_manifest.proofs.OnOutput.Pieces.{then}
 use Rattle.cs_manifest.proofs.manifest.put_head.put_lexeme_line.Goals as goal
 

@@ -1,3 +1,4 @@
+-- One lexeme's line more, by the number of the token's place.
 use Rattle.std.proofs.Common.{ap, ℕ}
 use Rattle.cs_manifest.proofs.OnOutput.Pieces.{nothing, numbered_more, spelled}
 use Rattle.cs_manifest.specs.Manifest.Lines.{lexeme_line}

@@ -1,3 +1,4 @@
+-- The word, the number, the left side's name and the right side's symbols, one behind the other.
 use Rattle.std.proofs.Common.{ap}
 use Rattle.cs_manifest.specs.Output.Names.{nonterminal_of}
 use Rattle.cs_manifest.proofs.OnOutput.Pieces.{spelled, then}

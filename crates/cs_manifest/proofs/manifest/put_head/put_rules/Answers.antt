@@ -1,3 +1,4 @@
+-- One rule's line more, by its number.
 use Rattle.cs_manifest.proofs.OnOutput.Pieces.{nothing, numbered_more}
 use Rattle.cs_manifest.specs.Manifest.Lines.{rule_line}
 use Rattle.cs_manifest.proofs.manifest.put_head.put_rules.Goals as goal

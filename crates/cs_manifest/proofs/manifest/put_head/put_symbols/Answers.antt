@@ -1,3 +1,4 @@
+-- One symbol more, behind a space.
 use Rattle.cs_manifest.specs.Output.Names.{symbol_text}
 use Rattle.cs_manifest.proofs.OnOutput.Pieces.{nothing, spaced_more}
 use Rattle.cs_manifest.proofs.manifest.put_head.put_symbols.Goals as goal

@@ -1,3 +1,4 @@
+-- The lines of the tokens and the rules, and behind them those of the lexemes, by the file's own names.
 use Rattle.std.proofs.Common.{ap}
 use Rattle.cs_manifest.specs.Output.Words.{with_numbers}
 use Rattle.cs_manifest.proofs.OnOutput.Pieces.{spelled, then}

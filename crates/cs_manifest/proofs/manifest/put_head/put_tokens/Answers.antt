@@ -1,3 +1,4 @@
+-- One token's line more, by its number.
 use Rattle.cs_manifest.proofs.OnOutput.Pieces.{nothing, numbered_more}
 use Rattle.cs_manifest.specs.Manifest.Lines.{token_line}
 use Rattle.cs_manifest.proofs.manifest.put_head.put_tokens.Goals as goal

@@ -1,3 +1,4 @@
+-- The line of what is weighed is one text, for nodes and for bytes.
 use Rattle.cs_manifest.proofs.manifest.put_head.put_weigh.Goals as goal
 
 pub returns-in-Nodes : goal.returns-in-Nodes

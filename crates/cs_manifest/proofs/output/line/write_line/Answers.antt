@@ -1,3 +1,4 @@
+-- The sink got all of the line; or it failed behind a prefix, and then it had no room for the whole.
 use Rattle.std.proofs.Common.{◌≡◌, ◌≤◌, ◌+◌, ℕ, List, length, inl, inr, Result, Ok, Err, OnErr, OnOk}
 use Rattle.std.specs.Prelude.{IsOk}
 use Rattle.std.specs.Io.KnownBytes.{append_known}

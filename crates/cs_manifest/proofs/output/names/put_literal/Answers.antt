@@ -1,3 +1,4 @@
+-- A plain byte stands for itself, and another is spelled by its two hexadecimal digits.
 use Rattle.std.proofs.Common.{◌∙◌, sym}
 use Rattle.cs_manifest.proofs.OnOutput.Pieces.{spelled}
 use Rattle.cs_manifest.proofs.OnOutput.Runs.{other_literal, plain_literal}

@@ -1,3 +1,4 @@
+-- A quote, what stands for the bytes, and a quote.
 use Rattle.cs_manifest.proofs.OnOutput.Pieces.{then}
 use Rattle.cs_manifest.proofs.output.names.put_quoted.Goals as goal
 

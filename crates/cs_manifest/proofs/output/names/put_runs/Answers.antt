@@ -1,3 +1,4 @@
+-- What is put of the rest stands behind what was put of the text, and it is no more than the rest has.
 use Rattle.std.proofs.Common.{◌≡◌, ◌-◌, arith, drop, length, take}
 use Rattle.std.proofs.lemmas.List.{length-drop, take_all}
 use Rattle.cs_manifest.proofs.OnOutput.Runs.{more_bytes}

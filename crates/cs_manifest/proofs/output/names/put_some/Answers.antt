@@ -1,3 +1,4 @@
+-- The plain bytes in front stand for themselves.
 use Rattle.cs_manifest.proofs.OnOutput.Pieces.{spelled}
 use Rattle.cs_manifest.proofs.OnOutput.Runs.{plain_run}
 use Rattle.cs_manifest.proofs.output.names.put_some.Goals as goal

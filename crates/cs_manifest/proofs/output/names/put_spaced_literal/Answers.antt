@@ -1,3 +1,4 @@
+-- The space and a plain byte between quotes are one text; the space and another byte are two.
 use Rattle.std.proofs.Common.{◌∷◌, ◌∙◌, List, ap, sym, ℕ}
 use Rattle.cs_manifest.proofs.OnOutput.Pieces.{spelled, then}
 use Rattle.cs_manifest.proofs.OnOutput.Runs.{plain_literal}

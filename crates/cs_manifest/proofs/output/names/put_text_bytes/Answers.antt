@@ -1,3 +1,4 @@
+-- An empty text puts nothing, and bytes that are all plain stand for themselves.
 use Rattle.std.proofs.Common.{◌≡◌, List, ℕ, length, sym, subst, ◌∙◌, arith}
 use Rattle.std.specs.List.{flat_map}
 use Rattle.std.proofs.lemmas.List.{nil_from_length}

@@ -1,3 +1,4 @@
+-- A number has at least one digit.
 use Rattle.std.proofs.Common.{◌∙◌, ap, arith, length}
 use Rattle.std.proofs.lemmas.Fmt.{decimal_nonempty}
 use Rattle.cs_manifest.proofs.output.numeral.spell.Goals as goal

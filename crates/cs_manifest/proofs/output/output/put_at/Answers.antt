@@ -1,3 +1,4 @@
+-- A piece that is copied whole stands behind the bytes in front of its place.
 use Rattle.std.proofs.Common.{length, ◌≡◌, ◌≤◌, ◌+◌, arith, refl}
 use Rattle.cs_manifest.proofs.OnOutput.Pieces.{put_in}
 use Rattle.cs_manifest.proofs.output.output.put_at.Goals as goal

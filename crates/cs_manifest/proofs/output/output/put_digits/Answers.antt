@@ -1,3 +1,4 @@
+-- A number below ten has one digit, one below a hundred two, one below a thousand three, and the others four.
 use Rattle.std.proofs.Common.{◌++◌, ◌∙◌, List, ap, arith, take, ℕ}
 use Rattle.cs_manifest.proofs.OnOutput.Numerals.{four_digits, one_digit, three_digits, two_digits}
 use Rattle.cs_manifest.proofs.output.output.put_digits.Goals as goal

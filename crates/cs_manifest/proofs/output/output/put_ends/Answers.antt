@@ -1,3 +1,4 @@
+-- The first bytes reach the last ones, so the line has the whole piece, though some of it was put twice.
 use Rattle.std.proofs.Common.{length, ◌≡◌, ◌+◌, ◌-◌, ◌++◌, ◌∙◌, List, ap, arith, drop, subst, take, ℕ}
 use Rattle.std.proofs.lemmas.List.{length-drop, take_all}
 use Rattle.cs_manifest.proofs.OnOutput.Pieces.{put_by_ends}

@@ -1,3 +1,4 @@
+-- The space is one byte more in front of the word.
 use Rattle.std.proofs.Common.{length, ◌≡◌, ◌+◌, ◌++◌, ◌∷◌, [], ◌∙◌, List, ap, append_assoc, arith, subst, take, ℕ}
 use Rattle.cs_manifest.proofs.output.output.put_spaced_at.Goals as goal
 

@@ -1,3 +1,4 @@
+-- States are met by least texts, in order, so the first place whose kind names a token has the token's least.
 use Rattle.std.proofs.Common.{subst, List, length, Vec, Global}
 use Rattle.cs_scanner.specs.declared.lexeme.search.Visit.{Visit}
 use Rattle.cs_scanner.specs.declared.lexeme.steps.Step.{Step}

@@ -1,3 +1,4 @@
+-- States behind the byte are met by least texts, in order, so the first that gives its own byte is the least.
 use Rattle.std.proofs.Common.{◌≡◌, ap, ◌∙◌, subst, List, ◌∷◌, [], ◌++◌, IfOk, length, Vec, Global}
 use Rattle.cs_scanner.specs.declared.lexeme.search.Visit.{Visit}
 use Rattle.cs_scanner.specs.declared.lexeme.steps.Step.{Step}

@@ -1,3 +1,4 @@
+-- The entry of the token keeps the lesser text, and the other entries stay.
 use Rattle.std.proofs.Common.{◌<◌, Option, None, List, ℕ, length, ap, ◌∙◌, sym, subst, arith}
 use Rattle.std.specs.Prelude.{slice_index_or, slice_set}
 use Rattle.std.proofs.lemmas.List.{map-set, length-map}

@@ -1,3 +1,4 @@
+-- One token more that has no text.
 use Rattle.std.proofs.Common.{◌∷◌, [], None}
 use Rattle.std.proofs.lemmas.List.{map-append}
 use Rattle.cs_scanner.specs.Lexeme.Texts.{texts_of, text_of}

@@ -1,3 +1,4 @@
+-- The first place whose kind names a token puts its text, and behind that place the token isn't open.
 use Rattle.std.proofs.Common.{arith, Some, refl, ℕ, ◌+◌, List, Option, Vec, Global, ◌-◌, subst, sym, ◌∙◌, ap}
 use Rattle.std.specs.Prelude.{slice_set}
 use Rattle.std.proofs.lemmas.List.{length-set}

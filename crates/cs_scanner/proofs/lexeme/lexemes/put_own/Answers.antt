@@ -1,3 +1,4 @@
+-- The byte has no token that is asked for, or the token's lesser text is kept, or no text gives the byte.
 use Rattle.std.proofs.Common.{subst, arith, ℕ, ◌<◌, Option, Vec, Global}
 use Rattle.std.specs.Prelude.{slice_index}
 use Rattle.std.proofs.lemmas.List.{length-map}

@@ -1,3 +1,4 @@
+-- The first bytes that differ decide by their ranks; texts in which none differ don't come before each other.
 use Rattle.std.proofs.Common.{arith}
 use Rattle.cs_scanner.proofs.OnLexeme.Differing.{differs_at, same_if_taken, test_is_less, less_is_test}
 use Rattle.cs_scanner.proofs.lexeme.order.is_before.Goals as goal

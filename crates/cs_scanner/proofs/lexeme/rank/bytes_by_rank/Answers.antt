@@ -1,3 +1,4 @@
+-- No byte has a rank below 0.
 use Rattle.cs_scanner.proofs.OnLexeme.Ranking.{none_by_rank}
 use Rattle.cs_scanner.proofs.lexeme.rank.bytes_by_rank.Goals as goal
 

@@ -1,3 +1,4 @@
+-- A byte of the class comes behind those of lower rank, and a byte of another class isn't put.
 use Rattle.cs_scanner.proofs.OnLexeme.Ranking.{by_rank_more, by_rank_same}
 use Rattle.cs_scanner.proofs.lexeme.rank.put_class.Goals as goal
 use Rattle.cs_scanner.proofs.lexeme.rank.put_class.Goals.{then-class_of-class+in_ok-push, else-class_of-class}

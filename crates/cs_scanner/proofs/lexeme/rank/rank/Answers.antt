@@ -1,3 +1,4 @@
+-- There are few classes, so the rank is a small number, and it is computed as it is defined.
 use Rattle.std.proofs.Common.{arith}
 use Rattle.cs_scanner.specs.Lexeme.Rank.{rank}
 use Rattle.cs_scanner.proofs.OnLexeme.Ranking.{few_classes}

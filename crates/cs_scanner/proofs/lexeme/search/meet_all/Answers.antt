@@ -1,3 +1,4 @@
+-- The states behind one place more are met; no state is met twice, so there are no more places than states.
 use Rattle.std.proofs.Common.{arith, ◌≡◌, sym, length}
 use Rattle.cs_scanner.specs.Lexeme.Table.{step_rows}
 use Rattle.cs_scanner.proofs.OnLexeme.Lists.{written}

@@ -1,3 +1,4 @@
+-- A step to a known state changes nothing, and one to a new state meets it, until the whole row was walked.
 use Rattle.std.proofs.Common.{arith, ◌≡◌, ◌∙◌, sym, ap, refl, Some, true, false}
 use Rattle.std.specs.Prelude.{slice_get, slice_index_or}
 use Rattle.std.proofs.lemmas.Option.{slice_get-get_or}

@@ -1,3 +1,4 @@
+-- Origin by origin back to the start, the bytes are those of the text from its end.
 use Rattle.cs_scanner.proofs.OnLexeme.Standing.{visit_at, is_visit}
 use Rattle.cs_scanner.proofs.OnLexeme.Meeting.{text_next, text_done, mid_text}
 use Rattle.cs_scanner.proofs.lexeme.search.text_at.Goals as goal

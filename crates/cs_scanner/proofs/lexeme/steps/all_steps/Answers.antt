@@ -1,3 +1,4 @@
+-- One state's row more, and there are still as many places as states.
 use Rattle.std.proofs.Common.{arith, ◌≡◌, ◌∷◌, [], length, sym}
 use Rattle.std.proofs.lemmas.List.{map-append}
 use Rattle.cs_scanner.specs.Lexeme.Steps.{rows_of}

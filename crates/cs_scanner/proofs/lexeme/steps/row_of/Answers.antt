@@ -1,3 +1,4 @@
+-- One byte more by rank, whose step is put, or which leads nowhere, until the row has the steps of all bytes.
 use Rattle.std.proofs.Common.{arith, ◌≡◌, ◌<◌, Some, ℕ, length, subst}
 use Rattle.std.specs.Prelude.{slice_get, slice_index}
 use Rattle.std.proofs.lemmas.Option.{slice_get-get_or}

@@ -1,3 +1,4 @@
+-- Neither the cost nor the codes depend on the inner rule, so they are those of any chain that differs in it alone.
 use Rattle.std.proofs.Common.{ℕ, List, sym, subst}
 use Rattle.cs_grammar.specs.Grammar.{PlainGrammar}
 use Rattle.cs_chain.specs.Judging.Cuts.{AreRulesOf}

@@ -1,3 +1,4 @@
+-- Nothing waited before the head, so where a write failed the sink grew by a prefix of the head's lines.
 use Rattle.std.proofs.Common.{arith}
 use Rattle.std.proofs.lemmas.Grind.{common_steps}
 use Rattle.cs_manifest.proofs.OnOutput.Pieces.{failed_part}

@@ -1,3 +1,4 @@
+-- Nothing waited before the end line, so where a write failed the sink grew by a prefix of it, by the same counts.
 use Rattle.std.proofs.Common.{◌≡◌, ap, arith, subst, List, ℕ}
 use Rattle.std.specs.Result.{OnErr}
 use Rattle.std.proofs.lemmas.Grind.{common_steps}

@@ -1,3 +1,4 @@
+-- Each of the five pieces is a part of the lines, and the parts, filled, are the lines of a negative.
 use Rattle.cs_manifest.proofs.OnManifest.Holes.{parts_fill}
 use Rattle.cs_manifest.proofs.manifest.open.OpenLines.new.Goals as goal
 

@@ -1,3 +1,4 @@
+-- The piece at the token's place is its lexeme between quotes, and each token of the file has a place.
 use Rattle.std.proofs.Common.{◌≡◌, ℕ, ◌<◌, List, Option, None, Some, IfSome, arith, ap, refl, get_or, length, option_map, subst, sym, ◌∙◌}
 use Rattle.std.proofs.lemmas.List.{get_or-map}
 use Rattle.std.specs.Borrow.{Bor}

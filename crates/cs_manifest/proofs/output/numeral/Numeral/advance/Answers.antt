@@ -1,3 +1,4 @@
+-- A last digit below nine is raised by one; where it is nine, the whole number is spelled again.
 use Rattle.std.proofs.Common.{◌≡◌, arith, length}
 use Rattle.cs_manifest.proofs.OnOutput.Numerals.{raised}
 use Rattle.cs_manifest.proofs.output.numeral.Numeral.advance.Goals as goal

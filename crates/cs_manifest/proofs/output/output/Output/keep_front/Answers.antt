@@ -1,3 +1,4 @@
+-- Of the bytes that were copied behind what waits, the first are the text, and the others don't count.
 use Rattle.std.proofs.Common.{◌≡◌, arith, length, refl}
 use Rattle.cs_manifest.proofs.OnOutput.Pieces.{kept, put_front}
 use Rattle.cs_manifest.proofs.output.output.Output.keep_front.Goals as goal

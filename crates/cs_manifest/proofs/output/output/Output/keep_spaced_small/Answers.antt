@@ -1,3 +1,4 @@
+-- The space and the number's digits stand in the line behind what waits.
 use Rattle.std.proofs.Common.{refl, ◌++◌, ◌∷◌, [], ◌∙◌, List, ap, append_assoc, decimal, take, ℕ}
 use Rattle.cs_manifest.proofs.OnOutput.Pieces.{kept}
 use Rattle.cs_manifest.proofs.output.output.Output.keep_spaced_small.Goals as goal

@@ -1,3 +1,4 @@
+-- The front of the line goes from what waits to the sink, so both together have the same bytes.
 use Rattle.std.proofs.Common.{◌≡◌, arith, length}
 use Rattle.std.proofs.lemmas.Grind.{common_steps}
 use Rattle.std.proofs.lemmas.List.{append-nil, take_min, length-take}

@@ -1,3 +1,4 @@
+-- Behind what was passed on the piece waits, or is written, or is lost where a write has failed.
 use Rattle.cs_manifest.proofs.OnOutput.Pieces.{lost, then}
 use Rattle.cs_manifest.proofs.output.output.Output.put_behind.Goals as goal
 

@@ -1,3 +1,4 @@
+-- The space behind what waited, and behind it the word.
 use Rattle.cs_manifest.proofs.OnOutput.Pieces.{then}
 use Rattle.cs_manifest.proofs.output.output.Output.put_spaced_behind.Goals as goal
 

@@ -1,3 +1,4 @@
+-- To the texts of the named kinds each byte adds its own where it is lesser, and after all bytes all are least.
 use Rattle.std.proofs.Common.{arith, ℕ, subst}
 use Rattle.cs_scanner.specs.declared.scanning.scanner.Scanner.{Scanner}
 use Rattle.cs_scanner.specs.Scan.Compared.{scanning}

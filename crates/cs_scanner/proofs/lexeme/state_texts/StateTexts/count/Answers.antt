@@ -1,3 +1,4 @@
+-- Each visit but the start's is an entry.
 use Rattle.std.proofs.Common.{◌≡◌, ◌-◌, List, subst, arith, length}
 use Rattle.cs_scanner.specs.Lexeme.StateTexts.{StateText}
 use Rattle.cs_scanner.proofs.OnLexeme.Seeing.{length-seen}

@@ -1,3 +1,4 @@
+-- The start's visit stands in front, so the entry's text is that of the visit one place further.
 use Rattle.std.proofs.Common.{◌≡◌, ◌+◌, ◌<◌, List, IfOk, sym, ap, subst, arith, length}
 use Rattle.std.proofs.lemmas.Result.{IfOk-weaker}
 use Rattle.cs_scanner.specs.declared.lexeme.search.Visit.{Visit}
