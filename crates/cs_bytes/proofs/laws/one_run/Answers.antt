@@ -1,3 +1,4 @@
+-- The longest run has the size of the prefix, and a run of that size is the longest.
 use Rattle.std.proofs.Common.{sym, subst}
 use Rattle.cs_bytes.specs.Places.{IsRun}
 use Rattle.cs_bytes.proofs.Runs.{IsRun-prefix_len, run_is}

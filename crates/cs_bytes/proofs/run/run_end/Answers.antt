@@ -1,3 +1,4 @@
+-- A run from a later offset on ends where the known one does.
 use Rattle.cs_bytes.specs.Classes.{is_in}
 use Rattle.cs_bytes.proofs.RunEnds.{end_stays}
 use Rattle.cs_bytes.proofs.run.run_end.Goals as goal

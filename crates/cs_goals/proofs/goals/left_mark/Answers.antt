@@ -1,3 +1,4 @@
+-- The begin mark comes first, and then the tokens by their numbers.
 use Rattle.std.proofs.Common.{sym}
 use Rattle.cs_goals.proofs.Remaining.{left_mark_first, left_mark_token}
 use Rattle.cs_goals.proofs.goals.left_mark.Goals as goal

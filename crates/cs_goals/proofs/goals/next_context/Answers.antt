@@ -1,3 +1,4 @@
+-- No context goal is left, and none past the last rule.
 use Rattle.std.proofs.Common.{List, length, ap, arith}
 use Rattle.std.proofs.lemmas.Option.{MatchOption-at_none}
 use Rattle.cs_grammar.specs.Grammar.{Production}

@@ -1,3 +1,4 @@
+-- The next token behind the left mark, or the end mark as the last; past the last left mark no pair is left.
 use Rattle.std.proofs.Common.{◌+◌, ◌∷◌, sym, ap, ◌∙◌, arith}
 use Rattle.cs_grammar.specs.declared.symbol.Mark.{Mark}
 use Rattle.cs_grammar.specs.declared.symbol.Mark.TheVariants.{Token, End}

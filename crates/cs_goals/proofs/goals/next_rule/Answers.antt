@@ -1,3 +1,4 @@
+-- One rule more, or none is left past the last one.
 use Rattle.std.proofs.Common.{List, ◌<◌, ◌≤◌, length, subst}
 use Rattle.cs_grammar.specs.Grammar.{Production}
 use Rattle.cs_goals.proofs.Remaining.{rules_left_more, rules_left_past}

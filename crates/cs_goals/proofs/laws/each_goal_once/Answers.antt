@@ -1,3 +1,4 @@
+-- Goals of one criterion differ, and so do those of two; each that fits has its place in the list.
 use Rattle.cs_goals.proofs.Once.{once, all}
 use Rattle.cs_goals.proofs.laws.each_goal_once.Goals as goal
 

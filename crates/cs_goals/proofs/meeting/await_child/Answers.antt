@@ -1,3 +1,4 @@
+-- From the last symbol to the first, each nonterminal is put with whether it is the awaited one.
 use Rattle.std.proofs.Common.{◌≡◌, ◌-◌, ◌++◌, List, [], drop, length, reverse, sym, ap, ◌∙◌, arith}
 use Rattle.std.proofs.lemmas.List.{drop_all}
 use Rattle.cs_grammar.specs.declared.symbol.Symbol.{Symbol}

@@ -1,3 +1,4 @@
+-- The rule numbers are those of the nodes, and the yield tells which marks follow one another.
 use Rattle.std.proofs.Common.{◌↔◌, ℕ, List, ap, sym, subst, ◌∙◌}
 use Rattle.std.specs.Prelude.{IsTrue}
 use Rattle.cs_grammar.specs.Sentence.{framed, IsFollowed}

@@ -1,3 +1,4 @@
+-- An open nonterminal is awaited where it stands at the place below a node with the outer rule.
 use Rattle.std.proofs.Common.{◌≡◌, ◌+◌, ◌++◌, ◌∷◌, [], ℕ, List, Bool, true, false, drop, get_or, reverse, refl, sym, ap, subst, ◌∙◌}
 use Rattle.std.proofs.lemmas.List.{drop_all}
 use Rattle.cs_grammar.specs.declared.symbol.Symbol.{Symbol}

@@ -1,3 +1,4 @@
+-- Token by token, no pair before the last mark is the one; the pair with the end mark is the last.
 use Rattle.std.proofs.Common.{refl}
 use Rattle.std.proofs.lemmas.List.{take_all}
 use Rattle.std.proofs.Common.{ℕ, List, subst}

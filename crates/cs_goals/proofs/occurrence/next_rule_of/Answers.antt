@@ -1,3 +1,4 @@
+-- Rule by rule, one of another left side is passed over.
 use Rattle.std.proofs.Common.{sym, ap, ◌∙◌}
 use Rattle.cs_grammar.specs.Grammar.{Production}
 use Rattle.cs_goals.proofs.Remaining.{rules_of_hit, rules_of_miss, rules_of_past}

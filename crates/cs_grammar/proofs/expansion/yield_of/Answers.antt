@@ -1,3 +1,4 @@
+-- Step by step, the rules so far lead to the tokens that are done and the symbols that are ahead.
 use Rattle.std.proofs.Common.{ℕ, List, Some, ◌+◌, ◌++◌, get_or, take, refl, sym, ap, ◌∙◌, subst}
 use Rattle.std.proofs.lemmas.List.{take_all}
 use Rattle.cs_grammar.specs.declared.symbol.Symbol.{Symbol}

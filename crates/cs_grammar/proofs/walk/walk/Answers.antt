@@ -1,3 +1,4 @@
+-- Step by step, the rules so far lead to the tokens that are done and the symbols that are open.
 use Rattle.std.proofs.Common.{List, ◌+◌, ◌++◌, take, ap, subst}
 use Rattle.cs_grammar.specs.declared.symbol.Symbol.{Symbol}
 use Rattle.cs_grammar.specs.Leftmost.{Derives, from_start}

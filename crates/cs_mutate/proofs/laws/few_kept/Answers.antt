@@ -1,3 +1,4 @@
+-- One more is kept where fewer are alike, and those are alike that have one operator and one left mark.
 use Rattle.cs_mutate.proofs.Alike.{bounded, stays_few}
 use Rattle.cs_mutate.proofs.laws.few_kept.Goals as goal
 

@@ -1,3 +1,4 @@
+-- Whether a negative is kept depends on those before it alone.
 use Rattle.cs_mutate.proofs.KeptLists.{are_of_those, are_outside, keeps_all, one_kept, some_kept}
 use Rattle.cs_mutate.proofs.laws.one_list_of_kept.Goals as goal
 

@@ -1,3 +1,4 @@
+-- An edit has one negative or is harmless, and a list with a poisoned pair is no sentence.
 use Rattle.cs_mutate.proofs.Marks.{outside}
 use Rattle.cs_mutate.proofs.Listed.{next, done, one_list, members}
 use Rattle.cs_mutate.specs.Edit.{edited}

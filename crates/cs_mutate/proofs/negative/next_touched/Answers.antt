@@ -1,3 +1,4 @@
+-- An edit that makes no poisoned pair is passed over.
 use Rattle.std.proofs.lemmas.Option.{MatchOption-at_none}
 use Rattle.cs_mutate.proofs.Searching.{passed_more, passed_all}
 use Rattle.cs_mutate.proofs.negative.next_touched.Goals as goal

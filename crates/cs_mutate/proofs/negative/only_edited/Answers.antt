@@ -1,3 +1,4 @@
+-- The pair is the first poisoned one, so it is the only one where all behind it are adjacent.
 use Rattle.std.proofs.Common.{◌↔◌, ◌+◌, List, ℕ, length, sym, ap, ◌∙◌, subst, arith}
 use Rattle.std.specs.List.{All}
 use Rattle.std.specs.Prelude.{IsTrue}

@@ -1,3 +1,4 @@
+-- The result of an edit has tokens of the grammar, and is read between the begin and the end mark.
 use Rattle.std.proofs.Common.{List, ℕ, sym, ◌∙◌, subst}
 use Rattle.std.specs.List.{All}
 use Rattle.std.specs.Prelude.{MatchOption}

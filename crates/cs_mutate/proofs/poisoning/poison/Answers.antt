@@ -1,3 +1,4 @@
+-- A list with a poisoned pair is no sentence.
 use Rattle.cs_mutate.proofs.Marks.{outside}
 use Rattle.cs_mutate.proofs.poisoning.poison.Goals as goal
 

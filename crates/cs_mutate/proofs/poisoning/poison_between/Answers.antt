@@ -1,3 +1,4 @@
+-- Mark by mark, the pairs so far are adjacent, and the first that isn't is the poisoned one.
 use Rattle.std.proofs.Common.{◌≡◌, true, refl, arith}
 use Rattle.cs_mutate.proofs.Marks.{looked_more, poisoned_here, poisoned_last, sound_all}
 use Rattle.cs_mutate.proofs.poisoning.poison_between.Goals as goal

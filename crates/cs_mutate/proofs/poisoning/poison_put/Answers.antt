@@ -1,3 +1,4 @@
+-- A list of one token is its first token alone, so all its pairs are around that one.
 use Rattle.std.proofs.Common.{◌≡◌, ℕ, ◌<◌, ◌≤◌, List, [], ◌∷◌, length, refl, subst, arith}
 use Rattle.std.specs.Prelude.{slice_index_or}
 use Rattle.cs_mutate.specs.Poison.{TellsPair, between}

@@ -1,3 +1,4 @@
+-- The pairs behind the place are those of its token, the tokens behind it and the right mark.
 use Rattle.std.proofs.Common.{◌≡◌, ◌+◌, ◌-◌, ◌<◌, ℕ, List, length, length-drop, take, drop, get_or, refl, subst, arith}
 use Rattle.std.proofs.lemmas.List.{take_all}
 use Rattle.cs_grammar.specs.declared.symbol.Mark.TheVariants.{Token}

@@ -1,3 +1,4 @@
+-- Poisoned pairs stand in the seam alone, so the first is the only one where the seam behind it is sound.
 use Rattle.std.proofs.Common.{◌+◌}
 use Rattle.cs_mutate.proofs.Behind.{only_by_seam, place_in_seam}
 use Rattle.cs_mutate.proofs.Seams.{mark_right}

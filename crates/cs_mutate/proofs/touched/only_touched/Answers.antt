@@ -1,3 +1,4 @@
+-- Each edit puts some tokens in place of others, so its seam tells it.
 use Rattle.std.proofs.Common.{◌↔◌, sym, subst}
 use Rattle.std.specs.Prelude.{IsTrue}
 use Rattle.cs_grammar.specs.Sentence.{framed}

@@ -1,3 +1,4 @@
+-- All pairs before and behind the seam are adjacent, so the first poisoned one is the seam's first.
 use Rattle.std.proofs.Common.{◌+◌, arith}
 use Rattle.cs_mutate.proofs.Seams.{around, mark_left, mark_right, seam_place, sound_behind, poisoned_behind}
 use Rattle.cs_mutate.proofs.touched.poison_seam.Goals as goal

@@ -1,3 +1,4 @@
+-- Each edit puts some tokens in place of others, and the first poisoned pair is that of its seam.
 use Rattle.std.proofs.Common.{sym, subst}
 use Rattle.std.specs.Prelude.{MatchOption}
 use Rattle.cs_grammar.specs.Sentence.{framed}

@@ -1,3 +1,4 @@
+-- The marks stand at the place and the next one, have these names, and their pair is excluded or isn't.
 use Rattle.std.proofs.Common.{◌+◌, sym, ◌∙◌, arith}
 use Rattle.cs_grammar.specs.Sentence.{framed}
 use Rattle.cs_lines.specs.Lines.Numbers.{IsRead}

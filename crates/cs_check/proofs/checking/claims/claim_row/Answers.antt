@@ -1,3 +1,4 @@
+-- The names of a first, last or next line are put into its table, and the other sets stay.
 use Rattle.std.proofs.Common.{Bool, List, refl, sym, ap, subst, arith}
 use Rattle.std.specs.Vec.{with_items}
 use Rattle.std.proofs.lemmas.Bool.{OnTrue_at}

@@ -1,3 +1,4 @@
+-- The names of the line are put into the set of its kind, and the other sets stay.
 use Rattle.std.proofs.Common.{ap}
 use Rattle.std.proofs.lemmas.Bool.{OnTrue_at}
 use Rattle.cs_lines.specs.Lines.Line.{Productive, Reachable, Empty}

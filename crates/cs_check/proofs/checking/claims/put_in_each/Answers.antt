@@ -1,3 +1,4 @@
+-- Name by name, the set of its token gets the nonterminal; a name of no token ends it.
 use Rattle.std.proofs.Common.{◌≡◌, ◌<◌, ℕ, Bool, List, [], length, get_or, set, ap, ◌∙◌, subst, refl, arith}
 use Rattle.std.proofs.lemmas.List.{get_or_default}
 use Rattle.cs_lines.specs.Lines.Read.{names_in}

@@ -1,3 +1,4 @@
+-- Name by name, the set gets its nonterminal; a name of none ends it.
 use Rattle.std.proofs.Common.{ℕ, List, refl, ◌∙◌}
 use Rattle.cs_lines.specs.Lines.Read.{names_in}
 use Rattle.cs_check.specs.Passing.Head.{IsNonterminalName}

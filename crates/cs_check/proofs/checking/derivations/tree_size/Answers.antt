@@ -1,3 +1,4 @@
+-- The one tree has a node for each rule number, and each of its tokens counts as its number says.
 use Rattle.std.proofs.Common.{ℕ, ◌+◌, ◌-◌, List, length, min, sym, ap, ◌∙◌}
 use Rattle.std.specs.Prelude.{slice_index_or}
 use Rattle.std.specs.List.{sum_by}

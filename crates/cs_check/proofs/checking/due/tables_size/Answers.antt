@@ -1,3 +1,4 @@
+-- There are two lines, two of each token and one of each rule.
 use Rattle.std.proofs.Common.{List, length, ap, arith}
 use Rattle.cs_grammar.specs.Grammar.{Production}
 use Rattle.cs_check.proofs.OnDues.{tables_long}

@@ -1,3 +1,4 @@
+-- Behind the tables stand three sets, two rows of each nonterminal, and one of the begin mark and each token.
 use Rattle.std.proofs.Common.{List, length, ap, arith}
 use Rattle.cs_grammar.specs.Grammar.{Production}
 use Rattle.cs_check.proofs.OnDues.{whole_long}

@@ -1,3 +1,4 @@
+-- The place is that of a token, or the end of the list.
 use Rattle.std.proofs.Common.{arith}
 use Rattle.cs_check.proofs.checking.edits.insert.Goals as goal
 

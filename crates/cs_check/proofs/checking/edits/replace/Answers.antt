@@ -1,3 +1,4 @@
+-- The token that is replaced stands in the list.
 use Rattle.std.proofs.Common.{arith}
 use Rattle.cs_check.proofs.checking.edits.replace.Goals as goal
 

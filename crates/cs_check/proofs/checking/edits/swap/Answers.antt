@@ -1,3 +1,4 @@
+-- A token stands at the place, and another behind it.
 use Rattle.std.proofs.Common.{arith}
 use Rattle.cs_check.proofs.checking.edits.swap.Goals as goal
 

@@ -1,3 +1,4 @@
+-- All sets that the same lines claim have the same members, so one is closed where another is.
 use Rattle.std.proofs.Common.{sym, subst}
 use Rattle.cs_grammar.specs.Grammar.{PlainGrammar}
 use Rattle.cs_closed.specs.Closed.Closed.{AreClosed}

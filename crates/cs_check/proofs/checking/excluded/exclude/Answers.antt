@@ -1,3 +1,4 @@
+-- All sets that the same lines claim have the same members, so they exclude the same goals.
 use Rattle.std.proofs.Common.{sym, subst, Option}
 use Rattle.cs_grammar.specs.Grammar.{PlainGrammar}
 use Rattle.cs_closed.specs.Closed.Sets.{PlainSets}

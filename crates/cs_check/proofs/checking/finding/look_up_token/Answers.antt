@@ -1,3 +1,4 @@
+-- A name that isn't quoted is a word, and the file's table tells whether a token has it.
 use Rattle.std.proofs.Common.{sym, ◌∙◌}
 use Rattle.std.proofs.lemmas.Bool.{false≢true}
 use Rattle.cs_check.proofs.OnChecking.Finding.{looked_up, not_found}

@@ -1,3 +1,4 @@
+-- Behind the begin mark stand the tokens, then the end mark, and past it nothing.
 use Rattle.std.proofs.Common.{◌<◌, ◌≤◌, length, ⊎_elim, arith}
 use Rattle.std.proofs.lemmas.Bool.{cases_lt}
 use Rattle.cs_check.proofs.OnChecking.Framed.{framed_token, framed_end, framed_past}

@@ -1,3 +1,4 @@
+-- Place by place, the one mark stands there with the other behind it, or the pair isn't there.
 use Rattle.std.proofs.Common.{◌≡◌, ℕ, suc, ◌+◌, Some, refl, sym, ap, ◌∙◌, below_more, arith}
 use Rattle.std.specs.Prelude.{slice_get}
 use Rattle.std.proofs.lemmas.Bool.{false≢true}

@@ -1,3 +1,4 @@
+-- Where no line claims anything, the sets with nothing in them are claimed.
 use Rattle.std.proofs.Common.{◌≡◌, Option, sym, ap, ◌∙◌, subst}
 use Rattle.std.specs.Prelude.{IfNone}
 use Rattle.std.proofs.lemmas.Result.{IfOk-weaker}

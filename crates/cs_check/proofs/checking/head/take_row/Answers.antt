@@ -1,3 +1,4 @@
+-- The row has the name that is due, and its names are put into the sets that were claimed before.
 use Rattle.std.proofs.Common.{◌≡◌, ℕ, List, Option, sym, ap, ◌∙◌, subst}
 use Rattle.cs_lines.specs.declared.lines.line.Line as held
 use Rattle.cs_lines.specs.Lines.Line.{Line, RowLine}

@@ -1,3 +1,4 @@
+-- The names of the line are put into the sets that were claimed before, or into those with nothing in them.
 use Rattle.std.proofs.Common.{◌≡◌, ℕ, List, Option, sym, ap, ◌∙◌, subst}
 use Rattle.std.specs.Prelude.{IfNone}
 use Rattle.cs_lines.specs.declared.lines.line.Line as held

@@ -1,3 +1,4 @@
+-- The line of a token or a rule is for this place where it has its number.
 use Rattle.std.proofs.Common.{sym, ap, subst, ◌↔◌}
 use Rattle.std.specs.Prelude.{IsTrue}
 use Rattle.cs_lines.specs.declared.lines.line.Line as held

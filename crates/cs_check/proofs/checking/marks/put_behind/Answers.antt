@@ -1,3 +1,4 @@
+-- The name of a token is that of a mark.
 use Rattle.std.proofs.Common.{refl}
 use Rattle.cs_grammar.specs.declared.symbol.Mark.TheVariants as marks
 use Rattle.cs_check.proofs.checking.marks.put_behind.Goals as goal

@@ -1,3 +1,4 @@
+-- Name by name, its marks are put behind the mark, and the other sets stay; a name of none ends it.
 use Rattle.std.proofs.Common.{ℕ, List, refl, sym, ◌∙◌}
 use Rattle.std.proofs.lemmas.Bool.{false≢true}
 use Rattle.cs_lines.specs.Lines.Read.{names_in}

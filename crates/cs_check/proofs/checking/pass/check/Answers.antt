@@ -1,3 +1,4 @@
+-- Line by line, each is right up to the first one with a fault, or to the end.
 use Rattle.std.proofs.Common.{◌∙◌, ap}
 use Rattle.cs_bytes.specs.Places.{line_size}
 use Rattle.cs_scanner.specs.Scan.Compared.{scanning}

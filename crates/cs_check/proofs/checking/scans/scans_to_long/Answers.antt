@@ -1,3 +1,4 @@
+-- A text in which the scan stops scans to no list.
 use Rattle.cs_scanner.specs.Scan.Compared.{scanning}
 use Rattle.cs_check.proofs.checking.scans.scans_to_long.Goals as goal
 

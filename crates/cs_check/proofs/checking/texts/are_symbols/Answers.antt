@@ -1,3 +1,4 @@
+-- Where the names end before the symbols, they aren't the names of them all.
 use Rattle.std.proofs.Common.{◌≡◌, map, get_or}
 use Rattle.std.proofs.lemmas.List.{get_or_default}
 use Rattle.cs_grammar.specs.declared.symbol.Symbol.TheVariants.{Token}

@@ -1,3 +1,4 @@
+-- A feasible goal is shown by the cases or isn't; an infeasible one is excluded by the sets or isn't.
 use Rattle.std.proofs.Common.{subst}
 use Rattle.std.proofs.lemmas.Bool.{both_ways}
 use Rattle.cs_lines.specs.declared.lines.line.Verdict as held

@@ -1,3 +1,4 @@
+-- One goal more is counted, and one more of its verdict.
 use Rattle.std.proofs.Common.{subst}
 use Rattle.cs_lines.specs.declared.lines.line.Verdict as held
 use Rattle.cs_lines.specs.Lines.Read.{TellsVerdict}

@@ -1,3 +1,4 @@
+-- What right lines claim is so, and a text that passes can't but say right lines.
 use Rattle.cs_check.proofs.OnPassing.Claiming.{lines_true, passing_true}
 use Rattle.cs_check.proofs.passing.claims.passing_claims.Goals as goal
 

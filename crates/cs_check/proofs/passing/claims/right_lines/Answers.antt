@@ -1,3 +1,4 @@
+-- A piece of a text says one line at most, and that line is right where the piece has no fault.
 use Rattle.cs_lines.specs.Lines.Pieces.{lines_of}
 use Rattle.cs_check.proofs.OnPassing.Lines.{one_list, right_pass, pass_right}
 use Rattle.cs_check.proofs.passing.claims.right_lines.Goals as goal

@@ -1,3 +1,4 @@
+-- No line above the first fault has one, and no two faults have the same number.
 use Rattle.std.proofs.Common.{◌≡◌, ℕ, [], ◌∷◌, refl, sym, ap, ◌∙◌}
 use Rattle.std.specs.Prelude.{slice_index_or}
 use Rattle.cs_check.specs.declared.passing.fault.ClaimFault.{ClaimFault}

@@ -1,3 +1,4 @@
+-- All goals of a criterion are left where it is chosen, and none where it isn't.
 use Rattle.std.proofs.Common.{◌≡◌, ◌+◌, List, [], cond, length, ap, ◌∙◌}
 use Rattle.cs_grammar.specs.Grammar.{Production}
 use Rattle.cs_goals.specs.Goals.{rule_goals, context_goals, pair_goals}

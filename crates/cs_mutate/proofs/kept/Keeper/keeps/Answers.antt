@@ -1,3 +1,4 @@
+-- Fewer alike ones were counted than are kept, and the pair is the only one; then it is counted too.
 use Rattle.std.proofs.Common.{◌≡◌, ◌↔◌, ◌+◌, ◌<◌, ℕ, List, true, length, sym, ap, ◌∙◌, subst, Option, arith}
 use Rattle.std.specs.Prelude.{IsTrue, slice_index}
 use Rattle.std.proofs.lemmas.Grind.{get_or_default_zero}

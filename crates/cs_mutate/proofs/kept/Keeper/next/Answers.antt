@@ -1,3 +1,4 @@
+-- A negative that isn't kept is passed over, with the edits up to it.
 use Rattle.std.proofs.Common.{Bool, ◌∙◌, subst, Option, arith}
 use Rattle.cs_mutate.specs.declared.negative.Negative.{Negative}
 use Rattle.cs_mutate.specs.Negatives.{FindsNext}

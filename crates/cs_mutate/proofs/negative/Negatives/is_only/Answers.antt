@@ -1,3 +1,4 @@
+-- The pairs that the edit makes tell it where the base is sound, and else all behind the pair.
 use Rattle.std.proofs.Common.{◌↔◌, subst}
 use Rattle.std.specs.Prelude.{IfOk, IsTrue}
 use Rattle.cs_mutate.specs.Kept.{IsOnly}

@@ -1,3 +1,4 @@
+-- The base is sound where it has no poisoned pair, and its edits fit it.
 use Rattle.std.proofs.Common.{◌≡◌, length, ap, ◌∙◌, subst}
 use Rattle.std.specs.List.{All}
 use Rattle.cs_grammar.specs.Grammar.{PlainGrammar}

@@ -1,3 +1,4 @@
+-- The negative is that of an edit that fits the base, and the edits that are left fit it too.
 use Rattle.std.proofs.Common.{List, subst}
 use Rattle.std.specs.Prelude.{IfSome}
 use Rattle.cs_goals.specs.Goal.{IsLeft}

@@ -1,3 +1,4 @@
+-- A line may follow where its part may come and its running number is the next one.
 use Rattle.std.proofs.Common.{sym, ◌∙◌}
 use Rattle.std.proofs.lemmas.Bool.{false≢true}
 use Rattle.cs_check.proofs.OnChecking.Placing.{follows_by}

@@ -1,3 +1,4 @@
+-- In the head the head tells it; behind the head no line stands in it.
 use Rattle.std.proofs.Common.{sym, subst}
 use Rattle.cs_grammar.specs.Grammar.{PlainGrammar}
 use Rattle.std.specs.Prelude.{IsTrue, ◌↔◌}

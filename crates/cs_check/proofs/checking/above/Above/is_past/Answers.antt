@@ -1,3 +1,4 @@
+-- In the head the head tells whether it has ended; behind it the head is at its end.
 use Rattle.std.proofs.Common.{◌≤◌, length, refl, sym, subst, arith}
 use Rattle.cs_grammar.specs.Grammar.{PlainGrammar}
 use Rattle.std.specs.Prelude.{IsTrue, ◌↔◌}

@@ -1,3 +1,4 @@
+-- Head and entries know what no line tells.
 use Rattle.std.proofs.Common.{refl}
 use Rattle.cs_check.proofs.checking.above.Above.new.Goals as goal
 

@@ -1,3 +1,4 @@
+-- A line that isn't the head's may follow behind the head's end, or stands nowhere.
 use Rattle.std.proofs.Common.{sym, ◌∙◌}
 use Rattle.std.proofs.lemmas.Bool.{false≢true}
 use Rattle.cs_check.proofs.OnChecking.Placing.{nowhere_before, nowhere_behind}

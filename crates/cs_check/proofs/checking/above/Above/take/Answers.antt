@@ -1,3 +1,4 @@
+-- The line was read from the bytes, so its judgement is that of the bytes.
 use Rattle.cs_scanner.specs.Scan.Compared.{scanning}
 use Rattle.cs_check.specs.Checking.Told.{checked_by}
 use Rattle.cs_check.proofs.OnChecking.Pieces.{short_told, text_low, read_judged}

@@ -1,3 +1,4 @@
+-- The entries judge the line, whose part is the last one from then on.
 use Rattle.std.specs.Prelude.{IfOk}
 use Rattle.std.proofs.Common.{sym, subst}
 use Rattle.std.proofs.lemmas.Result.{IfOk-weaker}

@@ -1,3 +1,4 @@
+-- The head judges the line, and the part and the entries stay.
 use Rattle.std.proofs.lemmas.Result.{IfOk-weaker}
 use Rattle.cs_check.specs.Checking.Head.{IsHeadJudged}
 use Rattle.cs_check.specs.Checking.Running.{IsLineJudged}

@@ -1,3 +1,4 @@
+-- The head takes the lines that stand in it, and a line that stands nowhere has the wrong form.
 use Rattle.cs_scanner.specs.Scan.Compared.{scanning}
 use Rattle.cs_check.specs.Checking.Told.{checked_by}
 use Rattle.cs_check.proofs.OnChecking.Placing.{wrong_form}

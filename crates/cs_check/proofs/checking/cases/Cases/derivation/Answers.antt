@@ -1,3 +1,4 @@
+-- No derivation has a number above all rules', so the rules of the case are read as they stand.
 use Rattle.std.proofs.Common.{◌≡◌, ◌<◌, Some, length, sym, ap, ◌∙◌, subst, arith}
 use Rattle.std.specs.Prelude.{slice_get}
 use Rattle.cs_lines.specs.Lines.Read.{numbers_in}

@@ -1,3 +1,4 @@
+-- What is read of the case is a derivation of the start symbol.
 use Rattle.std.proofs.Common.{length, ap, arith}
 use Rattle.cs_check.specs.Checking.Cases.{PlainCases}
 use Rattle.cs_check.proofs.OnChecking.Cases.{derived_at}

@@ -1,3 +1,4 @@
+-- The number is that of the case at its place, or no case has it.
 use Rattle.std.proofs.Common.{◌<◌, ◌-◌, [], length, get_or, refl, ap, arith, ◌↔◌}
 use Rattle.std.specs.Prelude.{IsTrue}
 use Rattle.std.proofs.lemmas.Option.{slice_get_within, slice_get-get_or}

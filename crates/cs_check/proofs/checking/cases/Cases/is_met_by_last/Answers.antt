@@ -1,3 +1,4 @@
+-- The tokens that are held tell which pairs the last case meets; its derivation tells the other goals.
 use Rattle.std.proofs.Common.{◌<◌, ◌↔◌, ℕ, Bool, List, length, sym, ap, subst, arith}
 use Rattle.std.specs.Prelude.{IfOk, IsTrue}
 use Rattle.cs_grammar.specs.Sentence.{framed, IsFollowed}

@@ -1,3 +1,4 @@
+-- One case has the number, and where its size is another the goal isn't shown.
 use Rattle.std.proofs.Common.{◌≡◌, ◌<◌, length, get_or, ap, ◌∙◌, subst, arith}
 use Rattle.cs_check.specs.Checking.Cases.{PlainCase, PlainCases}
 use Rattle.cs_check.proofs.OnChecking.Cases.{other_size}

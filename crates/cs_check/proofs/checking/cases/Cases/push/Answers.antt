@@ -1,3 +1,4 @@
+-- The new case is a derivation, as those before it are, and the last one, whose tokens are held.
 use Rattle.std.proofs.Common.{List, sym, ap, ◌∙◌, subst}
 use Rattle.std.specs.Prelude.{All}
 use Rattle.std.proofs.lemmas.List.Elements.{All-push}

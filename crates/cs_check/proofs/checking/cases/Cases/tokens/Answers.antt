@@ -1,3 +1,4 @@
+-- The derivation that was read is the case's, and so is its yield.
 use Rattle.std.proofs.Common.{List, ℕ, subst}
 use Rattle.std.specs.Prelude.{IfOk}
 use Rattle.cs_grammar.specs.Leftmost.{IsYield}

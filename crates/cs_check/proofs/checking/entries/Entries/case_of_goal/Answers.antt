@@ -1,3 +1,4 @@
+-- The case of a goal is that whose number was told with its verdict; a goal that wasn't told has none.
 use Rattle.std.proofs.Common.{◌≡◌, ◌-◌, ◌<◌, Some, length, sym, ap, ◌∙◌, arith}
 use Rattle.std.specs.Prelude.{slice_get}
 use Rattle.std.proofs.lemmas.Option.{slice_get_within, slice_get-get_or}

@@ -1,3 +1,4 @@
+-- A case, a goal, a base or a negative is numbered where it has the next number of its kind.
 use Rattle.std.proofs.Common.{subst}
 use Rattle.cs_lines.specs.declared.lines.line.Line as held
 use Rattle.cs_lines.specs.Lines.Read.{Tells}

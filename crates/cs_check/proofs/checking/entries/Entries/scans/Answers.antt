@@ -1,3 +1,4 @@
+-- The tokens that are held are those of which the text line tells.
 use Rattle.std.proofs.Common.{◌≡◌, ℕ, List, ◌∙◌, subst, ◌↔◌}
 use Rattle.std.specs.Prelude.{IfOk, IsTrue}
 use Rattle.std.proofs.lemmas.Result.{IfOk-weaker}

@@ -1,3 +1,4 @@
+-- Kind by kind, a line behind the head is judged by what its own check found.
 use Rattle.std.proofs.Common.{ℕ, List, sym, subst, Option}
 use Rattle.cs_check.specs.declared.passing.fault.ClaimFault.{ClaimFault}
 use Rattle.cs_scanner.specs.Scan.Compared.{scanning}

@@ -1,3 +1,4 @@
+-- All goals were told, and the base has the tokens of its goal's case, or that goal has none.
 use Rattle.std.proofs.Common.{[], ◌+◌, get_or, refl, arith}
 use Rattle.std.proofs.lemmas.Option.{slice_get-get_or}
 use Rattle.cs_check.specs.Passing.Above.{base_in, goals_in}

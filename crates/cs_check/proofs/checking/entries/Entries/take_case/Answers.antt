@@ -1,3 +1,4 @@
+-- One case more is counted, and its size is told.
 use Rattle.std.proofs.Common.{arith}
 use Rattle.cs_check.specs.Passing.Above.{size_in}
 use Rattle.cs_check.proofs.OnChecking.Told.{case_taken, few_told}

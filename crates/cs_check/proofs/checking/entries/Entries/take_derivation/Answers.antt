@@ -1,3 +1,4 @@
+-- No derivation has a number above all rules'; the size of the one tree is the told one, or another.
 use Rattle.std.proofs.Common.{◌≡◌, ◌<◌, ◌≤◌, ◌++◌, ◌∷◌, [], ◌↔◌, ℕ, List, sym, ◌∙◌, subst}
 use Rattle.std.specs.Prelude.{All}
 use Rattle.cs_grammar.specs.Grammar.{PlainGrammar, IsGrammar}

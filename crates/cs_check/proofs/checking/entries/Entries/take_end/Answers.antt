@@ -1,3 +1,4 @@
+-- All goals were told, and the totals are right where each is the number that was counted.
 use Rattle.std.proofs.Common.{sym, ◌∙◌}
 use Rattle.std.proofs.lemmas.Bool.{both_ways, not-true, not-false}
 use Rattle.cs_check.specs.Passing.Above.{goals_in}

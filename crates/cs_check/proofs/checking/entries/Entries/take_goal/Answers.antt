@@ -1,3 +1,4 @@
+-- The goal is the one that is due, and a fault of its verdict is the line's; else it is counted.
 use Rattle.std.proofs.Common.{ℕ, Option, sym, subst}
 use Rattle.cs_check.specs.declared.passing.fault.ClaimFault.{ClaimFault}
 use Rattle.cs_check.specs.Passing.Above.{goals_in}

@@ -1,3 +1,4 @@
+-- The edit fits the last base or doesn't, and in its result the marks are kept apart or aren't.
 use Rattle.std.proofs.Common.{ℕ, List, Bool, sym, ◌∙◌, subst, arith}
 use Rattle.std.proofs.lemmas.Bool.{false≢true}
 use Rattle.cs_grammar.specs.Sentence.{framed}

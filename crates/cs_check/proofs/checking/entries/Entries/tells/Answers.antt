@@ -1,3 +1,4 @@
+-- The lines tell of one list of tokens, which is the one that is held.
 use Rattle.std.proofs.Common.{ℕ, List, map, ap, ◌∙◌, sym}
 use Rattle.cs_lines.specs.Words.Names.{token_of}
 use Rattle.cs_check.specs.Passing.Places.{last_part}

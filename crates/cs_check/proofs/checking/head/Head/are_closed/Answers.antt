@@ -1,3 +1,4 @@
+-- The sets that are held are those that the lines claim.
 use Rattle.std.proofs.Common.{Option, subst}
 use Rattle.cs_closed.specs.Closed.Sets.{PlainSets}
 use Rattle.cs_check.specs.Checking.Excluded.{AreSetsIn}

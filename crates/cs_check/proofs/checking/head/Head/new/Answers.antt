@@ -1,3 +1,4 @@
+-- Above the first line nothing is counted, nothing is claimed and nothing is weighed.
 use Rattle.std.proofs.Common.{refl, inl}
 use Rattle.cs_check.proofs.OnChecking.HeadPlaces.{no_place}
 use Rattle.cs_check.proofs.OnChecking.HeadClaims.{no_claims}

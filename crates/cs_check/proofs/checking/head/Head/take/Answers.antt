@@ -1,3 +1,4 @@
+-- The line that is due is the file's or isn't, and at the head's end the sets are closed or aren't.
 use Rattle.std.proofs.Common.{◌≡◌, length, refl, ap, ◌∙◌, arith}
 use Rattle.std.proofs.lemmas.Option.{slice_get_within}
 use Rattle.cs_grammar.specs.Grammar.{PlainGrammar}

@@ -1,3 +1,4 @@
+-- What is due says what the line must tell, and a set or a row leaves the sets with its claims.
 use Rattle.std.proofs.Common.{◌≡◌, sym, ap, ◌∙◌, subst}
 use Rattle.std.specs.Prelude.{IfOk}
 use Rattle.std.proofs.lemmas.Result.{IfOk-weaker}

@@ -1,3 +1,4 @@
+-- The line has the token's name, and the number of its text stands behind those before it.
 use Rattle.std.proofs.Common.{◌≡◌, ℕ, List, [], ◌∷◌, ◌++◌, sym, ap, ◌∙◌, subst}
 use Rattle.cs_lines.specs.declared.lines.line.Line as held
 use Rattle.cs_lines.specs.Lines.Line.{Line, LexemeLine}
