@@ -1,3 +1,4 @@
+-- One row more adds what has a text in it and what has none.
 use Rattle.std.proofs.Common.{◌≤◌, [], List, ℕ, Vec, Global, ap, arith, length}
 use Rattle.std.specs.Prelude.{count_by, is_none, is_some, slice_index_or}
 use Rattle.std.proofs.lemmas.List.{length-map}

@@ -1,3 +1,4 @@
+-- Each number has a text and is counted, or has none and is of the rest.
 use Rattle.std.proofs.Common.{◌≡◌, ◌∙◌, List, ℕ, None, ap, sym, arith, cond, Bool}
 use Rattle.std.specs.Prelude.{count_by, is_some, slice_index, slice_index_or}
 use Rattle.std.proofs.lemmas.List.{length-map, take_all}

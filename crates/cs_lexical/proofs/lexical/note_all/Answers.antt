@@ -1,3 +1,4 @@
+-- The rules of one state more are noted, and its text is kept where it is new to a rule or a pair.
 use Rattle.std.proofs.Common.{◌≡◌, ◌⊎◌, ◌<◌, ◌∙◌, ℕ, List, [], ◌∷◌, Some, Vec, Global, sym, subst, inl, inr, arith, length, ⊎_elim}
 use Rattle.std.specs.Prelude.{IsTrue}
 use Rattle.std.proofs.lemmas.List.{map-append, length-map}

@@ -1,3 +1,4 @@
+-- One row of zeros more, an entry shorter than the row before it.
 use Rattle.std.proofs.Common.{rules, [], ◌∷◌}
 use Rattle.std.proofs.lemmas.List.{map-append}
 use Rattle.cs_lexical.specs.Least.{lists}

@@ -1,3 +1,4 @@
+-- The entry of one rule more is noted where it is behind this one, and where none is new the row stays.
 use Rattle.std.proofs.Common.{◌≡◌, ◌⊎◌, ◌-◌, ap, ◌∙◌, inl, inr, List, ℕ, ⊎_elim, false, Bool}
 use Rattle.std.specs.Prelude.{IsTrue, slice_index, slice_set}
 use Rattle.std.proofs.lemmas.List.{set-get_or}

@@ -1,3 +1,4 @@
+-- The row of one rule more is noted for the rules behind it, and where none is new the rows stay.
 use Rattle.std.proofs.Common.{◌≡◌, ◌⊎◌, ◌-◌, [], ap, sym, ◌∙◌, inl, inr, List, ℕ, arith, length, ⊎_elim, subst, false, Bool, refl, Vec, Global, ◌<◌}
 use Rattle.std.specs.Prelude.{IsTrue, slice_index, slice_index_or, slice_set}
 use Rattle.std.proofs.lemmas.List.{map-set, length-map, set-get_or}

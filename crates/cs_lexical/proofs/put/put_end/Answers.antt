@@ -1,3 +1,4 @@
+-- Each of the four counts is put behind its words.
 use Rattle.std.proofs.Common.{ap}
 use Rattle.std.specs.Prelude.{codes}
 use Rattle.cs_manifest.proofs.OnOutput.Pieces.{spelled, then}

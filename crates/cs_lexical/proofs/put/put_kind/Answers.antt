@@ -1,3 +1,4 @@
+-- There is no kind past the last, and before it the words of the one at the place are put.
 use Rattle.std.proofs.Common.{ap, sym}
 use Rattle.std.proofs.lemmas.Option.{slice_get-get_or, slice_get_past}
 use Rattle.cs_manifest.proofs.OnOutput.Pieces.{nothing, spelled}

@@ -1,3 +1,4 @@
+-- A token's kind is a word, and the token's name behind it.
 use Rattle.cs_manifest.proofs.OnOutput.Pieces.{then}
 use Rattle.cs_lexical.proofs.put.put_kind_words.Goals as goal
 

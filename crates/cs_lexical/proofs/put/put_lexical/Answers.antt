@@ -1,3 +1,4 @@
+-- The head, the rules, the pairs and the end, one behind the other.
 use Rattle.cs_manifest.proofs.OnOutput.Pieces.{then}
 use Rattle.cs_lexical.proofs.put.put_lexical.Goals as goal
 

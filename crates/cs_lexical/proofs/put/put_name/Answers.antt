@@ -1,3 +1,4 @@
+-- The name stands one place below the token's number, or past the last there is none.
 use Rattle.std.proofs.Common.{◌≡◌, ◌∙◌, ◌-◌, [], List, ℕ, Option, None, Some, ap, sym}
 use Rattle.std.specs.Option.{option_map_or}
 use Rattle.std.specs.Prelude.{slice_get}

@@ -1,3 +1,4 @@
+-- Both numbers and the text in quotes, or nothing where there is no text.
 use Rattle.cs_manifest.proofs.OnOutput.Pieces.{nothing, then}
 use Rattle.cs_lexical.proofs.put.put_overlap.Goals as goal
 

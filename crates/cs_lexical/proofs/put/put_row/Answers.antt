@@ -1,3 +1,4 @@
+-- The line of one entry more of the row, under the number of the other rule.
 use Rattle.std.proofs.Common.{◌≡◌, ◌+◌, ◌-◌, ◌<◌, ◌∙◌, [], None, Option, List, ℕ, ap, arith, length}
 use Rattle.std.specs.Prelude.{option_map, slice_index_or}
 use Rattle.cs_manifest.proofs.OnOutput.Pieces.{nothing, numbered_more, spelled}

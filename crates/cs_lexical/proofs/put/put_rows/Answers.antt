@@ -1,3 +1,4 @@
+-- The lines of one row more are put behind those before.
 use Rattle.std.proofs.Common.{◌≡◌, ◌-◌, ◌<◌, ◌∙◌, [], ℕ, ap, arith, length}
 use Rattle.std.specs.Prelude.{slice_index_or}
 use Rattle.cs_manifest.proofs.OnOutput.Pieces.{nothing, numbered_more, spelled}

@@ -1,3 +1,4 @@
+-- The number, the kind at the rule's place, and what the rule wins.
 use Rattle.std.proofs.Common.{ap}
 use Rattle.std.specs.Prelude.{slice_get}
 use Rattle.cs_manifest.proofs.OnOutput.Pieces.{spelled, then}

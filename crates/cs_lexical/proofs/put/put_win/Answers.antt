@@ -1,3 +1,4 @@
+-- Nothing is won, or a text is put in quotes.
 use Rattle.cs_manifest.proofs.OnOutput.Pieces.{then}
 use Rattle.cs_lexical.proofs.put.put_win.Goals as goal
 

@@ -1,3 +1,4 @@
+-- The file and the scanner have one report.
 use Rattle.cs_scanner.specs.Scan.Compared.{scanning}
 use Rattle.cs_lexical.proofs.text.write_lexical.Goals as goal
 

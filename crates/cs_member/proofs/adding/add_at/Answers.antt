@@ -1,3 +1,4 @@
+-- The number's list has the entry last, and the other lists stay.
 use Rattle.std.proofs.Common.{Some, sym, ap, ◌∙◌, refl}
 use Rattle.std.proofs.lemmas.Option.{slice_get-get_or}
 use Rattle.cs_member.proofs.adding.add_at.Goals as goal

@@ -1,3 +1,4 @@
+-- What awaits the token stands at the position before it, or its rule begins there with the token.
 use Rattle.std.proofs.Common.{◌≡◌, ℕ, ◌+◌, ◌-◌, ◌<◌, get_or, List, None, Some, length, take, refl, sym, subst, arith}
 use Rattle.std.specs.Prelude.{All, MatchOption, slice_get}
 use Rattle.std.proofs.lemmas.Option.{slice_get_read, slice_get-get_or}

@@ -1,3 +1,4 @@
+-- An item that begins at the position is a front, and one that began before is in the bucket.
 use Rattle.std.proofs.Common.{◌≡◌, inl, inr, List, Some, sym, ap, ◌∙◌, subst, arith}
 use Rattle.std.specs.Prelude.{All, slice_get}
 use Rattle.std.specs.Global.{Vec}

@@ -1,3 +1,4 @@
+-- By the token, or by the span with the number.
 use Rattle.std.proofs.Common.{◌≡◌, ℕ, ◌<◌, Option, Some, length, take, sym, ◌∙◌, subst}
 use Rattle.std.specs.Prelude.{MatchOption}
 use Rattle.std.proofs.lemmas.Option.{same_Some}

@@ -1,3 +1,4 @@
+-- One front more doesn't lead to what is sought, up to the last.
 use Rattle.std.proofs.Common.{List, subst}
 use Rattle.std.proofs.lemmas.List.{take_all}
 use Rattle.cs_member.specs.declared.fronts.Front.{Front}

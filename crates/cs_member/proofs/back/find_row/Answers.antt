@@ -1,3 +1,4 @@
+-- A row has the origin and leads to what is sought, or one row more doesn't.
 use Rattle.std.proofs.Common.{List, refl, sym, subst}
 use Rattle.std.proofs.lemmas.List.{take_all}
 use Rattle.std.proofs.lemmas.Bool.{false≢true}

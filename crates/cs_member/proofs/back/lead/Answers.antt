@@ -1,3 +1,4 @@
+-- Behind the item the place is reached just where the symbols up to it have empty trees.
 use Rattle.std.proofs.Common.{◌≡◌, ℕ, List, refl, sym, subst, arith}
 use Rattle.std.specs.Prelude.{All}
 use Rattle.std.specs.List.{slice_range}

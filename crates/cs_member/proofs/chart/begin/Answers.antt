@@ -1,3 +1,4 @@
+-- Nothing is found yet, and then what follows from the token before.
 use Rattle.std.proofs.Common.{ℕ, Option, subst}
 use Rattle.cs_member.specs.Now.{ArePassed, IsKept}
 use Rattle.cs_member.proofs.Making.{none_passed, from_scan}

@@ -1,3 +1,4 @@
+-- What follows from one span more is put, and what followed from those before stays.
 use Rattle.std.proofs.Common.{◌<◌, length, Some, arith}
 use Rattle.cs_member.specs.Chart.{OfSpan}
 use Rattle.cs_member.proofs.Places.{there_at}

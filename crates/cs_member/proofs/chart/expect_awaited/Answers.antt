@@ -1,3 +1,4 @@
+-- What one item more awaits is expected, and what was expected stays so.
 use Rattle.std.proofs.Common.{[], List, subst, arith}
 use Rattle.std.proofs.lemmas.List.{take_all}
 use Rattle.std.proofs.lemmas.Option.{slice_get_within}

@@ -1,3 +1,4 @@
+-- Rows that await the span's nonterminal, and fronts that begin with it, give all that follows from the span.
 use Rattle.std.proofs.Common.{◌≡◌, ℕ, ◌<◌, ◌≤◌, length, List, Some, refl, sym, ◌∙◌, subst, arith}
 use Rattle.std.specs.Prelude.{All, slice_get}
 use Rattle.std.proofs.lemmas.Option.{slice_get_read, same_Some}

@@ -1,3 +1,4 @@
+-- What the token gave stays while spans add to it, and the position has all of that.
 use Rattle.std.proofs.Common.{ℕ, ◌<◌, Option, subst, ◌∙◌, length, eq-eqb}
 use Rattle.std.specs.Prelude.{slice_get}
 use Rattle.cs_member.specs.Chart.{Grows, IsFollowed}

@@ -1,3 +1,4 @@
+-- One position more is made from those before it.
 use Rattle.std.proofs.Common.{◌≡◌, ◌+◌, List, length, subst, sym, ap, arith}
 use Rattle.cs_member.specs.declared.chart.Position.{Position}
 use Rattle.cs_member.specs.Made.{IsMade, IsChart}

@@ -1,3 +1,4 @@
+-- The item of one front more is put where its left side is expected, and otherwise nothing.
 use Rattle.std.proofs.Common.{[], ◌+◌, ◌<◌, take, length, List, ◌∷◌, refl, sym, ap, ◌∙◌, subst, arith}
 use Rattle.std.proofs.lemmas.List.{take_all}
 use Rattle.std.proofs.lemmas.Bool.{false≢true}

@@ -1,3 +1,4 @@
+-- The item of one row more is put, with the awaited symbol taken.
 use Rattle.std.proofs.Common.{take, List, sym, subst, arith}
 use Rattle.std.proofs.lemmas.List.{take_all}
 use Rattle.cs_member.specs.declared.chart.Row.{Row}

@@ -1,3 +1,4 @@
+-- The nonterminal stays marked, and with each that is marked those that its rules begin with.
 use Rattle.std.proofs.Common.{ℕ, List, Bool, subst}
 use Rattle.std.specs.Prelude.{◌↔◌}
 use Rattle.cs_member.specs.Sets.{InWords}

@@ -1,3 +1,4 @@
+-- The descent of one nonterminal more stands last.
 use Rattle.std.proofs.Common.{◌≡◌, ◌+◌, List, sym, subst, arith}
 use Rattle.smallvec.specs.SmallVec.{SmallVec}
 use Rattle.cs_member.specs.declared.word.Word.{Word}

@@ -1,3 +1,4 @@
+-- The nonterminal is marked already, or is marked and listed now.
 use Rattle.std.proofs.Common.{ap, ◌∙◌, Some, true, refl}
 use Rattle.std.proofs.lemmas.Option.{slice_get_read}
 use Rattle.cs_member.proofs.Places.{at_set}

@@ -1,3 +1,4 @@
+-- What the rules of one pending nonterminal more begin with is marked, until none is pending.
 use Rattle.std.proofs.Common.{◌≡◌, ℕ, ◌<◌, List, Some, length, refl, sym, subst, arith}
 use Rattle.std.specs.Prelude.{All, slice_get}
 use Rattle.std.proofs.lemmas.Option.{slice_get_read, slice_get_within}

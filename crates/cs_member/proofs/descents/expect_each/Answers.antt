@@ -1,3 +1,4 @@
+-- One nonterminal more is marked, and those before it stay so.
 use Rattle.std.proofs.Common.{subst, List, ℕ, arith}
 use Rattle.std.specs.Prelude.{All}
 use Rattle.std.proofs.lemmas.List.{take_all}

@@ -1,3 +1,4 @@
+-- The set has the numbers of all marks, and the words have those of the set.
 use Rattle.std.proofs.Common.{ℕ, List, subst, arith}
 use Rattle.std.specs.Prelude.{◌↔◌}
 use Rattle.cs_member.specs.Sets.{Has, InWords}

@@ -1,3 +1,4 @@
+-- One symbol more has an empty tree, up to the last.
 use Rattle.std.proofs.Common.{List, refl, subst}
 use Rattle.std.specs.Prelude.{All}
 use Rattle.std.proofs.lemmas.List.{take_all}

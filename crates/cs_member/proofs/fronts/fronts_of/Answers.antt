@@ -1,3 +1,4 @@
+-- One rule's fronts more are entered, from those of none up to those of all.
 use Rattle.std.proofs.Common.{◌+◌, ◌<◌, ap, ◌∙◌, sym, subst, List, length, arith}
 use Rattle.cs_grammar.specs.Grammar.{Production}
 use Rattle.cs_member.specs.Fronts.{AreEntered}

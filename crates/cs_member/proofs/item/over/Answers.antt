@@ -1,0 +1,1 @@
+-- The rule stays, and the place is the next one.

@@ -1,3 +1,4 @@
+-- A span of the start symbol over the whole list has a tree, and without one there is none.
 use Rattle.std.proofs.Common.{◌≡◌, List, Some, length, refl, sym, ap, ◌∙◌, subst, arith}
 use Rattle.std.specs.Prelude.{slice_get}
 use Rattle.std.proofs.lemmas.Option.{slice_get_read}

@@ -1,3 +1,4 @@
+-- The spans of one word more are added to those before.
 use Rattle.std.proofs.Common.{take, refl, ◌∙◌, subst, arith, List}
 use Rattle.std.proofs.lemmas.List.{take_all}
 use Rattle.cs_member.specs.declared.word.Word.{Word}

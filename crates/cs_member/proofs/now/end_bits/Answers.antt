@@ -1,3 +1,4 @@
+-- The span of the lowest bit is added and that bit taken away, until none is left.
 use Rattle.std.proofs.Common.{ℕ, ◌+◌, ◌*◌, ◌%◌, ◌^◌, refl, arith, w64, ap, ◌∙◌}
 use Rattle.std.specs.Prelude.{bit_and}
 use Rattle.std.specs.Int.{bit_at, bit_not, trailing_zeros}

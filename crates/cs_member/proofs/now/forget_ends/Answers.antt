@@ -1,3 +1,4 @@
+-- The bits of one span more are taken away, and behind the last none is left.
 use Rattle.std.proofs.Common.{◌≡◌, ◌≤◌, ℕ, ◌+◌, None, length, arith, ◌∙◌, get_or, subst}
 use Rattle.std.specs.Prelude.{Some, slice_get}
 use Rattle.std.proofs.lemmas.Option.{slice_get-get_or}

@@ -1,3 +1,4 @@
+-- One place more behind a symbol that has an empty tree; the first without one is the last, or the rule's end.
 use Rattle.std.proofs.Common.{◌≡◌, refl, ap, ◌∙◌, subst, arith, length, Some}
 use Rattle.cs_grammar.specs.declared.symbol.Symbol.TheVariants.{Token, Nonterminal}
 use Rattle.cs_grammar.specs.declared.symbol.Symbol.{Symbol}

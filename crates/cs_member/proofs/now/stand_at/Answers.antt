@@ -1,3 +1,4 @@
+-- The origins at the place have the numbers of the words too, and their item stays.
 use Rattle.std.proofs.Common.{◌≡◌, ap, subst, sym, ◌∙◌, ◌⊎◌}
 use Rattle.std.specs.Prelude.{◌↔◌}
 use Rattle.std.proofs.lemmas.List.Elements.{All-set}

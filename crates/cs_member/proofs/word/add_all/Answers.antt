@@ -1,3 +1,4 @@
+-- One word more: a number was in the set, or is in one of the words so far.
 use Rattle.std.proofs.Common.{subst, ◌⊎◌, List}
 use Rattle.std.specs.Prelude.{◌↔◌}
 use Rattle.std.proofs.lemmas.List.{take_all}

@@ -1,3 +1,4 @@
+-- What stands at the place has the bits too, and the rest stays.
 use Rattle.cs_member.proofs.Bits.{or_bits_read}
 use Rattle.cs_member.proofs.word.add_bits.Goals as goal
 

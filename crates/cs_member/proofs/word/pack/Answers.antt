@@ -1,3 +1,4 @@
+-- One place more: its bits make a word, or are 0 and no number is there.
 use Rattle.std.proofs.Common.{arith, subst, sym, ap, ◌∙◌, ◌+◌, ◌/◌, ◌<◌, List, get_or}
 use Rattle.std.specs.Prelude.{All, ◌↔◌}
 use Rattle.std.proofs.lemmas.List.Elements.{All-push}

@@ -1,3 +1,4 @@
+-- The trees before the child, the child's where it is a span, and the empty ones behind are left in that order.
 use Rattle.std.proofs.Common.{◌≡◌, ℕ, ◌+◌, List, Option, [], ◌∷◌, ◌++◌, length, sym, ap, ◌∙◌, arith, append-nil}
 use Rattle.std.specs.List.{slice_range}
 use Rattle.std.specs.Global.{Vec}

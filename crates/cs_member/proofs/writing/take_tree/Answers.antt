@@ -1,3 +1,4 @@
+-- The span was found over its cause, so a way leads back over that, which is earlier.
 use Rattle.std.proofs.Common.{◌≡◌, ℕ, Option, Some, take, sym, ◌∙◌, subst, arith, ◌+◌, ◌*◌, ◌^◌}
 use Rattle.std.specs.Prelude.{slice_get}
 use Rattle.std.proofs.lemmas.Option.{slice_get_within}

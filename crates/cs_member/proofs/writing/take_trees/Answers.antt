@@ -1,3 +1,4 @@
+-- An item that begins at this position has empty trees alone, and from any other a way leads back over a child.
 use Rattle.std.proofs.Common.{inl, inr, None, subst, arith, ◌+◌, ◌*◌, ◌^◌, ℕ}
 use Rattle.std.proofs.lemmas.Option.{slice_get_within}
 use Rattle.cs_member.specs.declared.item.Item.{Item}

@@ -1,3 +1,4 @@
+-- The last task gives way to tasks that, with the rule that is written, write the same and weigh less.
 use Rattle.std.proofs.Common.{◌≡◌, ◌++◌, [], ◌∷◌, ℕ, List, Some, arith, sym, subst, reverse}
 use Rattle.std.proofs.lemmas.List.Elements.{All-append, All-cons, All-nil, All-pop, All-same}
 use Rattle.cs_member.specs.Writing.{IsTask, Writes}

@@ -1,3 +1,4 @@
+-- Each name adds its criterion; where one can't, no criteria have these names.
 use Rattle.std.proofs.Common.{length, take, lit<, rules, sym, subst}
 use Rattle.std.proofs.lemmas.List.{length_push}
 use Rattle.std.proofs.lemmas.Iterator.Splits.{YieldsList-from_str_split}

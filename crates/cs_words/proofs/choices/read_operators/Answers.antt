@@ -1,3 +1,4 @@
+-- The value isn't `none`, and each name adds its operator; where one can't, no operators have these names.
 use Rattle.std.proofs.Common.{length, take, lit<, rules, sym, subst, inr}
 use Rattle.std.proofs.lemmas.List.{length_push}
 use Rattle.std.proofs.lemmas.Iterator.Splits.{YieldsList-from_str_split}

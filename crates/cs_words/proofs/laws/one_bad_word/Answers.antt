@@ -1,3 +1,4 @@
+-- The words before a bad place stand there, so none of them is bad, and accepted words all stand.
 use Rattle.cs_words.proofs.OneBad.{one_bad, bad_not_accepted}
 use Rattle.cs_words.proofs.laws.one_bad_word.Goals as goal
 

@@ -1,3 +1,4 @@
+-- What the command takes stands and its options do, or the first word that doesn't is bad.
 use Rattle.cs_words.specs.Words.{texts}
 use Rattle.cs_words.specs.Commands.{taken_of}
 use Rattle.cs_words.proofs.Standing.{arguments_fit, lacks_bad, option_bad, words_accepted}

@@ -1,3 +1,4 @@
+-- There are fewer names than roles, and no name behind them.
 use Rattle.cs_words.specs.Words.{texts}
 use Rattle.cs_words.proofs.Standing.{names_lack}
 use Rattle.cs_words.proofs.request.read_names.Goals as goal

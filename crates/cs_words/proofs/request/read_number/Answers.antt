@@ -1,3 +1,4 @@
+-- The command takes a seed, and the first word is one.
 use Rattle.cs_words.specs.Words.{texts}
 use Rattle.cs_words.proofs.Standing.{seed_begins}
 use Rattle.cs_words.proofs.request.read_number.Goals as goal

@@ -1,3 +1,4 @@
+-- One option more is new, or no option, or none of the command's, or given before.
 use Rattle.std.proofs.Common.{◌≡◌, false, [], take, sym, ap, ◌∙◌, subst, arith}
 use Rattle.std.specs.Prelude.{string_bytes}
 use Rattle.cs_words.specs.Options.{AreNew, IsNewOption, IsOption, kind_of}

@@ -1,3 +1,4 @@
+-- The word is the mark and a value, or doesn't begin with the mark.
 use Rattle.std.proofs.Common.{◌≡◌, ℕ, List, Option, Some, None, ◌++◌, sym, ap, ◌∙◌}
 use Rattle.std.specs.Prelude.{MatchOption, IfSome, IfNone}
 use Rattle.std.specs.Str.Pattern.{FindsTextPrefix, StripsPrefix}

@@ -1,3 +1,4 @@
+-- A word without a mark is no option, nor is one with a mark before what isn't a value of that mark.
 use Rattle.std.proofs.Common.{◌≡◌, ℕ, List, rules, subst}
 use Rattle.cs_words.specs.declared.setting.Setting.{Setting}
 use Rattle.cs_words.specs.Options.{IsOption}

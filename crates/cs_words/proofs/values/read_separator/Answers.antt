@@ -1,3 +1,4 @@
+-- The bytes so far are spelled in front, and one more is behind them, or none is spelled there.
 use Rattle.std.proofs.Common.{◌<◌, ℕ, List, length, take, drop, ap, ◌∙◌, subst, arith, length-drop}
 use Rattle.std.proofs.lemmas.List.{drop_all}
 use Rattle.cs_words.specs.Values.{IsSeparator, SpellsByte}

@@ -1,3 +1,4 @@
+-- One number more is in the set where it was in it or is in the other.
 use Rattle.std.proofs.Common.{◌<◌, ◌+◌, Bool, List, length, sym, subst, arith}
 use Rattle.cs_closed.proofs.OnClosed.Members.{AreJoinedTo, joined_none, joined_all, joined_true, joined_false}
 use Rattle.cs_closed.proofs.closed.keeping.add.Goals as goal

@@ -1,3 +1,4 @@
+-- A goal that a tree of the start symbol meets is allowed by closed sets.
 use Rattle.cs_closed.proofs.OnClosed.Held.{allowed}
 use Rattle.cs_closed.proofs.closed.laws.closed_sets_exclude.Goals as goal
 

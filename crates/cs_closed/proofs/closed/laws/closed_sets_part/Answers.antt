@@ -1,3 +1,4 @@
+-- Of two neighbours in a framed sentence the second is in the first one's line of closed sets.
 use Rattle.std.proofs.Common.{List, ℕ, subst}
 use Rattle.cs_grammar.specs.Sentence.{framed, IsFollowed}
 use Rattle.cs_closed.proofs.OnClosed.Held.{held_framed}

@@ -1,3 +1,4 @@
+-- Exact sets hold just what trees show, which rules keep, and a goal that such sets allow is met by a tree.
 use Rattle.cs_closed.proofs.OnClosed.Exact.{exact_closed, exact_exclude}
 use Rattle.cs_closed.proofs.closed.laws.exact_sets_pass.Goals as goal
 

@@ -1,3 +1,4 @@
+-- The row of a rule has an entry for each rule behind it.
 use Rattle.std.proofs.Common.{◌≡◌, ◌-◌, ◌<◌, ◌∙◌, [], List, Vec, Global, ap, sym, subst, ℕ, arith, length}
 use Rattle.std.specs.Prelude.{slice_index_or}
 use Rattle.std.proofs.lemmas.List.{length-map}

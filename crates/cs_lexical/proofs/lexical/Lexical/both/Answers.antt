@@ -1,3 +1,4 @@
+-- The number stands in the lower rule's row, at the distance between both rules.
 use Rattle.std.proofs.Common.{◌≡◌, ◌-◌, ◌<◌, ◌∙◌, [], List, Vec, Global, Option, None, ap, sym, subst, ℕ, arith, length}
 use Rattle.std.specs.Prelude.{option_map, slice_index, slice_index_or}
 use Rattle.std.proofs.lemmas.List.{get_or_read, length-map}

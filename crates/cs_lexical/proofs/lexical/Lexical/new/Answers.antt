@@ -1,3 +1,4 @@
+-- All states were noted in the order of their texts, so the first text that was noted is the least.
 use Rattle.std.proofs.Common.{sym, arith}
 use Rattle.cs_scanner.proofs.OnLexeme.Lists.{written}
 use Rattle.cs_scanner.specs.Lexeme.Texts.{texts_of}

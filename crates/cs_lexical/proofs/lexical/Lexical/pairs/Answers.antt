@@ -1,3 +1,4 @@
+-- There is a row for each rule, and an entry in it has a text where two rules overlap.
 use Rattle.std.proofs.Common.{◌≡◌, ◌∙◌, List, ℕ, Option, Vec, Global, ap, sym, subst, arith, length}
 use Rattle.std.specs.Prelude.{count_by, is_none, is_some, map, sum_by}
 use Rattle.std.proofs.lemmas.List.{length-map}

@@ -1,3 +1,4 @@
+-- There is a row for each rule.
 use Rattle.std.proofs.Common.{◌≡◌, subst, arith, length}
 use Rattle.std.proofs.lemmas.List.{length-map}
 use Rattle.cs_scanner.specs.Lexeme.Texts.{texts_of}

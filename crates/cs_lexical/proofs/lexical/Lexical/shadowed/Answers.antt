@@ -1,3 +1,4 @@
+-- The rules that win nothing are those whose numbers have no text.
 use Rattle.std.proofs.Common.{◌≡◌, ◌∙◌, List, ℕ, Option, Vec, Global, ap, subst}
 use Rattle.std.specs.Prelude.{count_by, is_none}
 use Rattle.cs_scanner.specs.Lexeme.Texts.{texts_of}

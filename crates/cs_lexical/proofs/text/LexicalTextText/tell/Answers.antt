@@ -1,3 +1,4 @@
+-- The lines of the least texts are told, all or a front of them, or none where there is no memory for them.
 use Rattle.std.proofs.Common.{List, ℕ, refl, subst}
 use Rattle.std.proofs.lemmas.Result.{err_from_is_err_and}
 use Rattle.cs_io.proofs.Stops.{stopped_by_cut, stopped_by_memory}

@@ -1,3 +1,4 @@
+-- The row is put last in the number's list, or is the first of a list of its own.
 use Rattle.std.proofs.Common.{◌≡◌, Some, refl, ap, ◌∙◌, arith}
 use Rattle.std.specs.Prelude.{slice_get}
 use Rattle.std.proofs.lemmas.Option.{slice_get_read}

@@ -1,3 +1,4 @@
+-- Each number has the first list, which is empty.
 use Rattle.std.proofs.Common.{◌≡◌, ◌+◌, ℕ, List, [], ◌∷◌, length, replicate, sym, ap, ◌∙◌, subst, arith, ◌++◌}
 use Rattle.std.specs.Global.{Vec}
 use Rattle.std.proofs.lemmas.List.{length-replicate}

@@ -1,3 +1,4 @@
+-- The number has a place among the lists, and the list there has its rows.
 use Rattle.std.proofs.Common.{◌≡◌, Some, refl, arith}
 use Rattle.std.specs.Prelude.{slice_get}
 use Rattle.std.proofs.lemmas.Option.{slice_get_read}

@@ -1,0 +1,1 @@
+-- From a rule's base on there is room for each of its items.

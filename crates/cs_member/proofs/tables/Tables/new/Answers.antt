@@ -1,3 +1,4 @@
+-- The fronts of all rules are entered, and the descents are those of their corners.
 use Rattle.std.proofs.Common.{◌+◌, ℕ, List, refl, sym, subst}
 use Rattle.std.specs.Global.{Vec}
 use Rattle.cs_member.specs.Expecting.{AreCorners, AreDescents}

@@ -1,3 +1,4 @@
+-- One token more is kept, up to the last, and nonterminals are kept too.
 use Rattle.std.proofs.Common.{ℕ, ◌<◌, ◌≤◌, ◌≡◌, ◌+◌, refl, subst, ⊎_elim, arith}
 use Rattle.std.proofs.lemmas.Bool.{cases_lt}
 use Rattle.cs_closed.specs.Closed.Keeping.{KeepsTokenIn}

@@ -1,3 +1,4 @@
+-- The token begins the first symbol, or that may be empty and the token begins the rest.
 use Rattle.std.proofs.Common.{◌+◌, refl, ⊎_elim, inr}
 use Rattle.cs_closed.proofs.OnClosed.Steps.{first_step}
 use Rattle.cs_closed.proofs.closed.sets.Sets.begin_with.Goals as goal

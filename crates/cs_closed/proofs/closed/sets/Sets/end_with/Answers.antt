@@ -1,3 +1,4 @@
+-- The token ends the last symbol, or that may be empty and the token ends those before it.
 use Rattle.std.proofs.Common.{◌-◌, ⊎_elim, inr, arith}
 use Rattle.cs_closed.proofs.OnClosed.Steps.{last_step}
 use Rattle.cs_closed.proofs.closed.sets.Sets.end_with.Goals as goal

@@ -1,3 +1,4 @@
+-- One rule more keeps the token, up to the last.
 use Rattle.std.proofs.Common.{subst, List}
 use Rattle.std.specs.Prelude.{All}
 use Rattle.std.proofs.lemmas.List.{take_all}

@@ -1,3 +1,4 @@
+-- One symbol more from the right: it isn't parted where the token may stand first behind it.
 use Rattle.std.proofs.Common.{◌-◌, ⊎_elim, inl, inr, arith}
 use Rattle.cs_closed.proofs.OnClosed.Steps.{first_step, keeps_step, breaks, first_end, keeps_end}
 use Rattle.cs_closed.proofs.closed.sets.Sets.keeps_meetings.Goals as goal

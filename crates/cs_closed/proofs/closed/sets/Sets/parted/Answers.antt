@@ -1,3 +1,4 @@
+-- One token more, with the nonterminals that end with it where the other isn't in its line.
 use Rattle.std.proofs.Common.{◌≡◌, ◌+◌, ◌<◌, ◌≤◌, Bool, List, [], length, get_or, sym, ap, ◌∙◌, subst}
 use Rattle.std.proofs.lemmas.List.{get_or_default}
 use Rattle.cs_closed.specs.Closed.Sets.{PlainSets, IsPair}
