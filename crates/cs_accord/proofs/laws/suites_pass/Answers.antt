@@ -1,3 +1,4 @@
+-- An accepted yacc file is one with names, and each suite of a file with names passes.
 use Rattle.cs_accord.proofs.OnSuite.Accords.{suite_passes}
 use Rattle.cs_accord.proofs.OnSuite.ReadNames.{read_named}
 use Rattle.cs_accord.proofs.laws.suites_pass.Goals as goal

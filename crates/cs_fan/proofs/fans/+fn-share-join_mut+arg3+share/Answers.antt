@@ -1,3 +1,4 @@
+-- Both lists hold answers to their seats' numbers, and so does the one behind the other for the joined seat.
 use Rattle.std.proofs.Common.{sym, subst, rules, arith}
 use Rattle.std.proofs.lemmas.Grind.{common_steps}
 use Rattle.std.proofs.lemmas.List.Elements.{All-append}

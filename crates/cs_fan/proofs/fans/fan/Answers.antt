@@ -1,3 +1,4 @@
+-- Each number below the items was drawn once, so the answers in the numbers' order are those of the items.
 use Rattle.std.proofs.Common.{length, map, sym, ap, ◌∙◌, subst}
 use Rattle.std.proofs.lemmas.Result.{IfOk-weaker}
 use Rattle.cs_fan.specs.Numbers.{IsEachOnceBelow}

@@ -1,3 +1,4 @@
+-- The number that is drawn is an item's, and its answer is put last, as the number is among those drawn.
 use Rattle.std.proofs.Common.{ℕ, ◌++◌, ◌∷◌, [], sym, ap, ◌∙◌, subst, arith}
 use Rattle.std.proofs.lemmas.List.{map-append}
 use Rattle.std.proofs.lemmas.List.Elements.{All-push}

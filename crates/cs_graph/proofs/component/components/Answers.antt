@@ -1,3 +1,4 @@
+-- The search starts with nothing seen; when all nodes are seen and no group is open, it has the components.
 use Rattle.std.proofs.Common.{◌≡◌, [], List, sym, ap, ◌∙◌, subst, arith, map, length, replicate}
 use Rattle.std.proofs.lemmas.List.{length-replicate}
 use Rattle.std.proofs.lemmas.Result.{IfOk-weaker}

@@ -1,3 +1,4 @@
+-- A group that begins behind the place is dropped, and the first that doesn't ends the joining.
 use Rattle.std.proofs.Common.{List, sym, subst}
 use Rattle.cs_graph.specs.declared.component.Group.{Group}
 use Rattle.cs_graph.specs.Groups.{IsJoined}

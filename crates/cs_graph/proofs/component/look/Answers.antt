@@ -1,3 +1,4 @@
+-- A successor on the stack joins the groups behind its place, and a closed one changes nothing.
 use Rattle.std.proofs.Common.{◌≡◌, ◌<◌, ◌∙◌, refl, ap, arith, length}
 use Rattle.std.specs.Prelude.{Some, slice_get}
 use Rattle.std.proofs.lemmas.Option.{slice_get_read}

@@ -1,3 +1,4 @@
+-- One node more has the number.
 use Rattle.std.proofs.Common.{arith}
 use Rattle.std.proofs.lemmas.List.{take_more}
 use Rattle.cs_graph.proofs.Closing.{none_numbered, one_numbered}

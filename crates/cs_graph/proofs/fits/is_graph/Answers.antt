@@ -1,3 +1,4 @@
+-- The successors of each row are all nodes, or one of them is none.
 use Rattle.std.proofs.Common.{◌≡◌, ◌<◌, ℕ, List, refl, sym, ◌∙◌, subst, length, inl, inr, arith}
 use Rattle.std.specs.Prelude.{Contains, All, slice_get, Some}
 use Rattle.std.proofs.lemmas.Bool.{false≢true}

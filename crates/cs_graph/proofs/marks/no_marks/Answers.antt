@@ -1,3 +1,4 @@
+-- A list that repeats false marks no node.
 use Rattle.cs_graph.proofs.Counting.{unmarked-replicate}
 use Rattle.std.proofs.lemmas.Grind.{common_steps}
 use Rattle.std.proofs.Common.{arith}

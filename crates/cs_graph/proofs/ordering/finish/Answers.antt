@@ -1,3 +1,4 @@
+-- Each step keeps the walk and leaves less work, and an empty path is its end.
 use Rattle.std.proofs.Common.{◌≡◌, ◌<◌, ◌∙◌, [], List, arith, sym, subst, length}
 use Rattle.std.proofs.lemmas.Bool.{false≢true}
 use Rattle.std.proofs.lemmas.List.{nil_from_length, append-nil}

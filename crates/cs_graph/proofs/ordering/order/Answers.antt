@@ -1,3 +1,4 @@
+-- When each node is seen and nothing is on the path, all stand in the order.
 use Rattle.std.proofs.Common.{List, arith, subst}
 use Rattle.cs_graph.specs.declared.ordering.Open.{Open}
 use Rattle.cs_graph.specs.Walk.{IsWalk}

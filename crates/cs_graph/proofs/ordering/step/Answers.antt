@@ -1,3 +1,4 @@
+-- The last node is closed, or looks at a successor: it is ready, is new, or stands on the path and reaches itself.
 use Rattle.std.proofs.Common.{◌≡◌, ◌<◌, ◌-◌, ◌++◌, ◌∷◌, [], ℕ, List, arith, refl, sym, ap, ◌∙◌, length, get_or, subst, false, true}
 use Rattle.std.specs.Prelude.{slice_get, Some}
 use Rattle.std.proofs.lemmas.Option.{slice_get_read}

@@ -1,3 +1,4 @@
+-- A seat that hasn't seen the end may draw once more by the rule.
 use Rattle.std.proofs.Common.{sym, ap, ◌∙◌, arith}
 use Rattle.cs_fan.specs.Seen.{PlainSeat, PlainCounter}
 use Rattle.cs_fan.proofs.Ends.{none_over}

@@ -1,3 +1,4 @@
+-- Joining the other seat keeps the rule, and so does a look, as the seat stands for some worker.
 use Rattle.std.proofs.Common.{sym, ap, ◌∙◌, arith}
 use Rattle.cs_fan.specs.Seen.{PlainSeat, PlainCounter}
 use Rattle.cs_fan.proofs.Steps.{joins, looks}

@@ -1,3 +1,4 @@
+-- The rule lets a seat be split that stands for two workers at least and hasn't seen the end.
 use Rattle.std.proofs.Common.{sym, ap, ◌∙◌, arith}
 use Rattle.cs_fan.specs.Seen.{PlainSeat, PlainCounter}
 use Rattle.cs_fan.proofs.Ends.{none_over}

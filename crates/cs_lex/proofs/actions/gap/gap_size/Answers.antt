@@ -1,3 +1,4 @@
+-- Spacing by spacing, and where none stands next the gap ends.
 use Rattle.std.proofs.Common.{ap, arith, length}
 use Rattle.std.proofs.lemmas.List.{length-drop}
 use Rattle.cs_lex.specs.Layout.Steps.{here}

@@ -1,3 +1,4 @@
+-- What is neither a byte of the class nor a closed comment is no spacing.
 use Rattle.std.proofs.Common.{sym, ◌∙◌}
 use Rattle.cs_bytes.specs.Classes.{is_in}
 use Rattle.cs_lex.proofs.OnActions.GapEnds.{no_spacing_there}

@@ -1,3 +1,4 @@
+-- An action that isn't `|` alone has the kind of its first mark, or without one the kind that its words give.
 use Rattle.cs_lex.specs.Actions.Kinds.{is_marked, by_words}
 use Rattle.cs_lex.specs.Actions.MarkViews.{mark_of}
 use Rattle.cs_lex.proofs.actions.kind.action_kind.Goals as goal

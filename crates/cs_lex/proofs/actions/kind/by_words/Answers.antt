@@ -1,3 +1,4 @@
+-- Several returns are foreign, and a single one gives what it names, or is foreign where it names nothing.
 use Rattle.cs_lex.specs.Actions.Views.{named_of}
 use Rattle.cs_lex.proofs.OnActions.KindsFound.{several, one_named, one_unnamed}
 use Rattle.cs_lex.proofs.actions.kind.by_words.Goals as goal

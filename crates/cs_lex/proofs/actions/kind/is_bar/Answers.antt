@@ -1,3 +1,4 @@
+-- Where the sign isn't in front, or more than a gap stands behind it, the action is no bar.
 use Rattle.cs_lex.proofs.OnActions.BarsFound.{no_bar_sign, more_than_bar}
 use Rattle.cs_lex.proofs.actions.kind.is_bar.Goals as goal
 

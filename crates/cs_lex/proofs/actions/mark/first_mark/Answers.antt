@@ -1,3 +1,4 @@
+-- Only parts without a mark were passed, so a mark that is met is the first; an open comment hides the rest.
 use Rattle.std.proofs.Common.{List, ℕ, ◌-◌, ◌∙◌, ap, arith, drop, length, refl, subst}
 use Rattle.cs_ctext.specs.Blocks.{BeginsPart}
 use Rattle.cs_ctext.specs.Comments.{IsOpenComment}

@@ -1,3 +1,4 @@
+-- The literal in front has one size, and where that isn't the text's, no literal fills the text.
 use Rattle.std.proofs.Common.{length}
 use Rattle.cs_lex.proofs.OnActions.MarksFound.{other_size}
 use Rattle.cs_lex.proofs.actions.mark.literal_of.Goals as goal

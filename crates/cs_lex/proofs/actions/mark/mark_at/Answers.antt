@@ -1,3 +1,4 @@
+-- An open comment is no mark, and a closed one in front is the mark that its text says.
 use Rattle.cs_lex.proofs.OnActions.MarksFound.{no_mark_open, front_found}
 use Rattle.cs_lex.proofs.actions.mark.mark_at.Goals as goal
 

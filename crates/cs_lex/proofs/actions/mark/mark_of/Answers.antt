@@ -1,3 +1,4 @@
+-- A token mark says what is spelled behind its blanks and before the two bytes that close it.
 use Rattle.std.proofs.Common.{sym, ◌∙◌, ap, take, List, ℕ}
 use Rattle.std.specs.List.{prefix_len}
 use Rattle.cs_bytes.specs.Classes.{is_blank}

@@ -1,3 +1,4 @@
+-- A text that is no name spells the literal that fills it, or nothing.
 use Rattle.std.proofs.Common.{sym, ◌∙◌}
 use Rattle.cs_lex.proofs.OnActions.MarksFound.{not_spelled, literal_spelled}
 use Rattle.cs_lex.proofs.actions.mark.spelled.Goals as goal

@@ -1,3 +1,4 @@
+-- Where no other form stands in front, the literal there is named, and without one nothing is.
 use Rattle.std.proofs.Common.{sym, ◌∙◌}
 use Rattle.cs_lex.proofs.OnActions.NamesBehind.{no_named, literal_named}
 use Rattle.cs_lex.proofs.actions.named.named_at.Goals as goal

@@ -1,3 +1,4 @@
+-- Each part ends at one place, so without the name, the closing signs or the `;` there nothing is returned.
 use Rattle.cs_lex.specs.Actions.Views.{named_of}
 use Rattle.cs_lex.proofs.OnActions.ReturnsFound.{unnamed, unclosed, unended, returned_is}
 use Rattle.cs_lex.proofs.actions.returns.returned.Goals as goal

@@ -1,3 +1,4 @@
+-- Sign by sign, and where one is missing, so many don't stand in front.
 use Rattle.std.proofs.Common.{ap, arith, length}
 use Rattle.std.proofs.lemmas.List.{length-drop}
 use Rattle.cs_lex.proofs.OnActions.SignRuns.{no_signs, signs_none, signs_push}

@@ -1,3 +1,4 @@
+-- Each sign is one more, and behind the last none stands.
 use Rattle.std.proofs.Common.{ap, arith, length}
 use Rattle.std.proofs.lemmas.List.{length-drop}
 use Rattle.cs_lex.proofs.OnActions.SignRuns.{signs_push, signs_none, no_sign_there}

@@ -1,3 +1,4 @@
+-- The gap in front has one end, and where the sign isn't there, none stands behind a gap.
 use Rattle.std.proofs.Common.{sym, ◌∙◌}
 use Rattle.cs_bytes.specs.Classes.{is_in}
 use Rattle.cs_lex.proofs.OnActions.GapEnds.{no_sign}

@@ -1,3 +1,4 @@
+-- Each word lies within the text; a `return` is one more, another adds none, and in the end all were given.
 use Rattle.std.proofs.Common.{refl, sym, ◌∙◌}
 use Rattle.cs_lex.proofs.OnActions.WordsFound.{this_within, gives_return, gives_other, whole, gave_all}
 use Rattle.cs_lex.proofs.actions.words.words_of.Goals as goal

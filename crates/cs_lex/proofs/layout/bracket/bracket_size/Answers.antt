@@ -1,3 +1,4 @@
+-- The members end at one place: a `]` there closes the bracket, and without it none is closed.
 use Rattle.std.proofs.Common.{sym, ◌∙◌}
 use Rattle.cs_lex.proofs.OnLayout.Units.{bracket_is, no_bracket}
 use Rattle.cs_lex.proofs.layout.bracket.bracket_size.Goals as goal

@@ -1,3 +1,4 @@
+-- One member more, and the inner run's end moves along with it.
 use Rattle.std.proofs.Common.{◌∙◌, ◌+◌, ap, arith, length}
 use Rattle.std.proofs.lemmas.List.{length-drop}
 use Rattle.cs_bytes.specs.Classes.{is_inner}

@@ -1,3 +1,4 @@
+-- A line without a blank behind its name, without a substitute or without a tail is no definition.
 use Rattle.std.proofs.Common.{inl, inr}
 use Rattle.cs_lex.proofs.OnLayout.Extents.{no_definition, no_tail_there}
 use Rattle.cs_lex.proofs.layout.forms.definition_form.Goals as goal

@@ -1,3 +1,4 @@
+-- What isn't empty and doesn't begin with a closed comment is no such tail.
 use Rattle.std.proofs.Common.{sym, ◌∙◌}
 use Rattle.cs_lex.proofs.OnLayout.Tails.{no_tail}
 use Rattle.cs_lex.proofs.layout.forms.is_comment_tail.Goals as goal

@@ -1,3 +1,4 @@
+-- One run of blanks or known word more.
 use Rattle.std.proofs.Common.{◌∙◌, ◌+◌, ap, arith, length}
 use Rattle.std.proofs.lemmas.List.{length-drop}
 use Rattle.cs_lex.specs.Layout.Lines.{option_size}

@@ -1,3 +1,4 @@
+-- The rule is open where the run behind its pattern and blanks is.
 use Rattle.cs_lex.proofs.OnLayout.OpenRules.{open_rule}
 use Rattle.cs_lex.proofs.layout.forms.rule_form.Goals as goal
 

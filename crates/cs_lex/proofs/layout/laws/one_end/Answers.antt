@@ -1,3 +1,4 @@
+-- The lines lead on in one way and not past the end, and lines with new names are such lines too.
 use Rattle.cs_lex.proofs.OnLayout.Ending as lemmas
 use Rattle.cs_lex.proofs.layout.laws.one_end.Goals as goal
 

@@ -1,3 +1,4 @@
+-- Where the rest begins with no closed block, the block at the offset is open.
 use Rattle.std.proofs.Common.{refl}
 use Rattle.cs_lex.proofs.OnLayout.Reading.{no_block_there}
 use Rattle.cs_lex.proofs.layout.layout.block_at.Goals as goal

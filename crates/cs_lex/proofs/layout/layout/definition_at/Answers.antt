@@ -1,3 +1,4 @@
+-- Where the first line of the rest has no form of a definition, none is at the offset.
 use Rattle.std.proofs.Common.{refl}
 use Rattle.cs_lex.proofs.OnLayout.Reading.{no_definition_there}
 use Rattle.cs_lex.proofs.layout.layout.definition_at.Goals as goal

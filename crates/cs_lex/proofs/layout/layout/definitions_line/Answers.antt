@@ -1,3 +1,4 @@
+-- An `%option` line has seven bytes, and an unknown option or a comment left open is the line's fault.
 use Rattle.std.proofs.Common.{sym, ap, ◌∙◌, arith, length}
 use Rattle.std.proofs.lemmas.List.{length-drop}
 use Rattle.std.proofs.lemmas.Result.{err_from_is_err_and}

@@ -1,3 +1,4 @@
+-- The definitions and their names grow together, line by line, and the first fault stops layout.
 use Rattle.std.proofs.Common.{ap, sym, ◌∙◌, length, arith}
 use Rattle.std.proofs.lemmas.Result.{err_from_is_err_and}
 use Rattle.cs_lex.specs.Layout.Names.{texts_of}

@@ -1,3 +1,4 @@
+-- Where the rules behind the definitions stop, layout stops.
 use Rattle.std.proofs.lemmas.Result.{err_from_is_err_and}
 use Rattle.cs_lex.proofs.OnLayout.Reading.{rules_stop}
 use Rattle.cs_lex.proofs.layout.layout.read_layout.Goals as goal

@@ -1,3 +1,4 @@
+-- A line that is passed adds nothing, and a rule is put last, behind all that lie before it.
 use Rattle.std.proofs.Common.{length, arith}
 use Rattle.cs_lex.proofs.OnLayout.Lying.{no_rules_lie, rules_lie_on, rules_lie_more}
 use Rattle.cs_lex.proofs.OnLayout.Reading.{rule_passed, rule_more, rules_start}

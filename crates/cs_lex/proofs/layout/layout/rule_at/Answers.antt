@@ -1,3 +1,4 @@
+-- What is open in the rest is open at that place in the bytes.
 use Rattle.cs_lex.proofs.OnLayout.Reading.{open_there}
 use Rattle.cs_lex.proofs.layout.layout.rule_at.Goals as goal
 

@@ -1,3 +1,4 @@
+-- A comment that isn't closed is the fault of its loose line.
 use Rattle.std.proofs.Common.{sym, ap, ◌∙◌}
 use Rattle.std.proofs.lemmas.Result.{err_from_is_err_and}
 use Rattle.cs_lex.specs.Layout.Lines.{rules_kind}

@@ -1,3 +1,4 @@
+-- The set takes a name as new where no name before it is the same.
 use Rattle.std.proofs.Common.{◌∙◌, ap, not}
 use Rattle.cs_lex.proofs.OnLayout.NameTables.{has_is}
 use Rattle.cs_lex.proofs.layout.names.add_name.Goals as goal

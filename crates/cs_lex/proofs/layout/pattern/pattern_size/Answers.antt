@@ -1,3 +1,4 @@
+-- One unit more, which lies within the text.
 use Rattle.std.proofs.Common.{ap, arith, length}
 use Rattle.std.proofs.lemmas.List.{length-drop}
 use Rattle.cs_lex.specs.Layout.Patterns.{IsUnit}

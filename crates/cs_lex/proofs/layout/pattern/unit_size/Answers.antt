@@ -1,3 +1,4 @@
+-- Closed or not, a quoted text or bracket takes one byte at least, and none behind the text.
 use Rattle.cs_lex.proofs.OnLayout.Pieces.{line_within}
 use Rattle.cs_lex.proofs.layout.pattern.unit_size.Goals as goal
 

@@ -1,3 +1,4 @@
+-- One escape or byte more.
 use Rattle.std.proofs.Common.{◌∙◌, ◌+◌, ap, arith, length}
 use Rattle.std.proofs.lemmas.List.{length-drop}
 use Rattle.cs_lex.specs.Layout.Patterns.{quoted_unit_size}

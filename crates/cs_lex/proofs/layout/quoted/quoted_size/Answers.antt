@@ -1,3 +1,4 @@
+-- The bytes inside end at one place: a quote there closes the text, and without it none is closed.
 use Rattle.std.proofs.Common.{sym, ◌∙◌}
 use Rattle.cs_lex.proofs.OnLayout.Units.{quoted_is, no_quoted}
 use Rattle.cs_lex.proofs.layout.quoted.quoted_size.Goals as goal

@@ -1,3 +1,4 @@
+-- One piece more, and the text that is walked over stays as it is.
 use Rattle.std.proofs.Common.{List, ℕ, ◌-◌, ◌∙◌, ap, arith, drop, length, subst}
 use Rattle.cs_lex.specs.Layout.Runs.{IsPiece}
 use Rattle.cs_lex.specs.Layout.Steps.{here}

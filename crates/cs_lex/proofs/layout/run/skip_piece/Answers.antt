@@ -1,3 +1,4 @@
+-- The brace that was read at the offset is what a block begins with.
 use Rattle.std.proofs.Common.{◌≡◌, sym, true, ◌∙◌}
 use Rattle.cs_bytes.specs.Places.{has_at}
 use Rattle.cs_bytes.proofs.Fronts.{got_at}

@@ -1,3 +1,4 @@
+-- Lines lead on in one way, so a fault on it, or the end of the bytes, leaves a section that never ends.
 use Rattle.std.proofs.Common.{[], arith}
 use Rattle.cs_lex.specs.Layout.Steps.{here}
 use Rattle.cs_lex.proofs.OnLayout.Ending.{ends_or_stops, passed_on, defined_on, fault_never_ends, fault_stops, out_never_ends, out_stops}

@@ -1,3 +1,4 @@
+-- Behind the end of the definitions the rules end or stop, and the whole does as they do.
 use Rattle.cs_lex.proofs.OnLayout.SettledTexts.{both_settled}
 use Rattle.cs_lex.proofs.layout.settled.layout_or_stop.Goals as goal
 

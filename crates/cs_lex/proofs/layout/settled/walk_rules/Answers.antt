@@ -1,3 +1,4 @@
+-- One line more without a fault, with a rule or without one.
 use Rattle.cs_lex.proofs.OnLayout.SettledTexts.{rules_walk_start, rules_walk_on, rules_walk_rule}
 use Rattle.cs_lex.proofs.layout.settled.walk_rules.Goals as goal
 

@@ -1,3 +1,4 @@
+-- The fault's index is that of a definition, and the error is at the substitute of that one.
 use Rattle.cs_lex.proofs.OnReading.DefinitionsFound.{refused_there}
 use Rattle.cs_lex.proofs.reading.definitions.checked_definitions.Goals as goal
 

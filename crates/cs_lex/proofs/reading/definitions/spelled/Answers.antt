@@ -1,3 +1,4 @@
+-- Together the texts are no longer than the bytes, and a new name is none of those before it.
 use Rattle.std.proofs.Common.{get_or, ap, Err}
 use Rattle.std.proofs.lemmas.List.{get_or_default}
 use Rattle.cs_lex.specs.declared.layout.parts.Definition.{Definition}

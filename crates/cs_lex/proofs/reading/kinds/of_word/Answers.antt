@@ -1,3 +1,4 @@
+-- The word's name gives the token that it has in the yacc file, or none.
 use Rattle.cs_yacc.specs.declared.reading.name.TokenName.TheVariants.{Word}
 use Rattle.cs_lex.proofs.OnReading.KindsFound.{given_name}
 use Rattle.cs_lex.proofs.reading.kinds.of_word.Goals as goal

@@ -1,3 +1,4 @@
+-- The kind of one rule more, in front of those that have theirs, by the kind next behind it.
 use Rattle.std.proofs.Common.{◌-◌, ◌+◌, ◌≡◌, ◌<◌, ℕ, arith, length, get_or, subst}
 use Rattle.std.proofs.lemmas.List.{get_or_default}
 use Rattle.cs_lex.specs.declared.layout.parts.Rule.{Rule}

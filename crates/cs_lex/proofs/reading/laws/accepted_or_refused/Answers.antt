@@ -1,3 +1,4 @@
+-- Where the definitions end, the rules settle it; where they don't, layout stops and the bytes are refused.
 use Rattle.cs_lex.proofs.OnReading.AcceptedOrRefused.{settled, stopped}
 use Rattle.cs_lex.proofs.reading.laws.accepted_or_refused.Goals as goal
 

@@ -1,3 +1,4 @@
+-- Layout stops in one way or never, and one layout has one fault that is told.
 use Rattle.cs_lex.proofs.OnReading.OneRefusal as lemmas
 use Rattle.cs_lex.proofs.reading.laws.one_refusal.Goals as goal
 

@@ -1,3 +1,4 @@
+-- One rule's pattern and positions more, and a pattern that is refused refuses the rules.
 use Rattle.std.proofs.Common.{get_or}
 use Rattle.std.proofs.lemmas.List.{get_or_default}
 use Rattle.std.proofs.lemmas.Result.{err_from_is_err_and}

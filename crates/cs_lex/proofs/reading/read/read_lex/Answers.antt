@@ -1,3 +1,4 @@
+-- What one step refuses refuses the bytes, and what all steps find is the file that the bytes mean.
 use Rattle.std.proofs.lemmas.Result.{err_from_is_err_and}
 use Rattle.std.proofs.Common.{ap, length}
 use Rattle.cs_lex.proofs.OnLayout.NewNames.{new_names}

@@ -1,3 +1,4 @@
+-- The rule that is read is the last one, and unless it is `|`, the rules end with a kind.
 use Rattle.std.proofs.Common.{◌∙◌, arith, refl, sym}
 use Rattle.cs_lex.specs.Reading.Reading.{dangling_bar, many_rules}
 use Rattle.cs_lex.proofs.OnReading.LastRules.{last_is, ends_there, some_there}

@@ -1,3 +1,4 @@
+-- One line more without a fault, and where it is a rule, its action has a kind.
 use Rattle.std.proofs.Common.{ℕ, List, subst}
 use Rattle.cs_lex.specs.Actions.Kinds.{IsKind}
 use Rattle.cs_lex.specs.Actions.Views.{kind_of}

@@ -1,3 +1,4 @@
+-- The node that is next has a rule of the grammar, whose open children go in front of the other open ones.
 use Rattle.std.proofs.Common.{ℕ, ◌+◌, ◌++◌, ◌≡◌, List, get_or, reverse, refl, sym, ap, subst, ◌∙◌}
 use Rattle.std.proofs.lemmas.List.{drop_all, take_all}
 use Rattle.cs_grammar.specs.declared.symbol.Symbol.{Symbol}

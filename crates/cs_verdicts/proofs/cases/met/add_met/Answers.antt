@@ -1,3 +1,4 @@
+-- The goals inside the tree and the pairs of its yield are all that it meets.
 use Rattle.std.proofs.Common.{subst}
 use Rattle.cs_verdicts.specs.Cases.Met.{AreInsideAdded}
 use Rattle.cs_verdicts.proofs.OnCases.Placed.{OnOk_then, all_added}

@@ -1,3 +1,4 @@
+-- The first token's pair with the begin, and then the pairs behind that token.
 use Rattle.cs_verdicts.proofs.OnCases.Inside.{framed_one}
 use Rattle.cs_verdicts.proofs.OnCases.Placed.{OnOk_then}
 use Rattle.cs_verdicts.proofs.cases.met.add_pairs.Goals as goal

@@ -1,3 +1,4 @@
+-- One pair more at each token, and at last the pair with the end.
 use Rattle.std.proofs.Common.{get_or}
 use Rattle.std.proofs.lemmas.List.{drop_all, drop_more}
 use Rattle.cs_verdicts.proofs.OnCases.Inside.{pairs_all, pairs_next}

@@ -1,3 +1,4 @@
+-- One nonterminal more, with the tokens of the grammar that are at its edge.
 use Rattle.std.proofs.Common.{◌+◌, List, ℕ, ap, sym, ◌∙◌, subst}
 use Rattle.cs_grammar.specs.Grammar.{PlainGrammar}
 use Rattle.cs_verdicts.specs.Closed.Closed.{AreThose, numbers}

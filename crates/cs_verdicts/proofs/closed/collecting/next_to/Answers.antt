@@ -1,3 +1,4 @@
+-- The end stands behind the tokens exactly where it is adjacent to the mark.
 use Rattle.std.proofs.Common.{◌≡◌, ◌↔◌, List, true, false, refl, sym, ap, ◌∙◌, subst}
 use Rattle.std.specs.Global.{Vec}
 use Rattle.std.specs.Prelude.{IsTrue}

@@ -1,3 +1,4 @@
+-- One token more, with the marks that are adjacent behind it.
 use Rattle.std.proofs.Common.{◌+◌, List, ℕ}
 use Rattle.cs_grammar.specs.declared.symbol.Mark.{Mark}
 use Rattle.cs_grammar.specs.declared.symbol.Mark.TheVariants.{Token}

@@ -1,3 +1,4 @@
+-- One number more, which is listed exactly where it has the property.
 use Rattle.std.proofs.Common.{◌≡◌, ◌+◌, ℕ, true, false, sym, ap, ◌∙◌, subst}
 use Rattle.std.specs.Global.{Vec}
 use Rattle.cs_verdicts.specs.Closed.Closed.{AreThose, numbers}

@@ -1,3 +1,4 @@
+-- One token more, which is listed exactly where it is adjacent behind the mark.
 use Rattle.std.proofs.Common.{◌≡◌, ◌↔◌, ◌+◌, true, false, sym, ap, ◌∙◌, subst}
 use Rattle.std.specs.Global.{Vec}
 use Rattle.std.specs.Prelude.{IsTrue}

@@ -1,3 +1,4 @@
+-- Be it for a rule, a context or a pair, the chosen tree is one, and no tree that meets the goal is smaller.
 use Rattle.cs_verdicts.proofs.OnPositive.Verdicts.{chosen_met, chosen_least_of, one_chosen_of}
 use Rattle.cs_verdicts.proofs.positive.laws.chosen_tree_meets.Goals as goal
 

@@ -1,3 +1,4 @@
+-- The positives are in the goals' order, and each goal has one verdict.
 use Rattle.cs_verdicts.proofs.OnPositive.Judged.{next, one_list}
 use Rattle.cs_verdicts.proofs.positive.laws.one_list_of_positives.Goals as goal
 

@@ -1,3 +1,4 @@
+-- A feasible goal has a least context and small children, and their chosen codes around the rule are its code.
 use Rattle.std.proofs.Common.{◌++◌, List, ℕ, sym, ap, ◌∙◌, subst}
 use Rattle.cs_grammar.specs.declared.symbol.Symbol.{Symbol}
 use Rattle.cs_grammar.specs.Grammar.{PlainGrammar, IsRule}

@@ -1,3 +1,4 @@
+-- A least tree of the goal is a least node of the rule in a least context.
 use Rattle.std.proofs.Common.{List, sym, ap, ◌∙◌, subst}
 use Rattle.cs_grammar.specs.declared.symbol.Symbol.{Symbol}
 use Rattle.cs_grammar.specs.Grammar.{PlainGrammar, IsRule}

@@ -1,3 +1,4 @@
+-- A goal that the tree of some case meets has a number.
 use Rattle.std.proofs.Common.{sym, subst}
 use Rattle.cs_verdicts.specs.Cases.Cases.{PlainCases, HasMeeting}
 use Rattle.cs_verdicts.proofs.cases.cases.Cases.first.Goals as goal

@@ -1,3 +1,4 @@
+-- A known code tells its place; a new one stands last with its goals, and a refusal cuts both lists back.
 use Rattle.std.proofs.Common.{ℕ, ◌+◌, true, false, List, sym, ap, subst, ◌∙◌, arith}
 use Rattle.cs_goals.specs.declared.goal.Goal.{Goal}
 use Rattle.cs_verdicts.specs.declared.cases.code.Code.{Code}

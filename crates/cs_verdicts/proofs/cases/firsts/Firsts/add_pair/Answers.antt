@@ -1,3 +1,4 @@
+-- A recent pair has a number already, and any other has one once it is put.
 use Rattle.std.proofs.Common.{ℕ, List, [], ◌∷◌, refl, sym, subst}
 use Rattle.cs_verdicts.proofs.OnCases.Adding.{added_has, added_one, added_there}
 use Rattle.cs_verdicts.proofs.OnCases.Keyed.{on_true}

@@ -1,3 +1,4 @@
+-- The rule is the one goal of the list.
 use Rattle.cs_goals.specs.declared.goal.Goal.TheVariants.{Rule}
 use Rattle.cs_verdicts.proofs.OnCases.Adding.{added_one}
 use Rattle.cs_verdicts.proofs.OnCases.Placed.{OnOk_then}

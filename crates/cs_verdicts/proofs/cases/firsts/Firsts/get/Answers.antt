@@ -1,3 +1,4 @@
+-- The number of the goal is what the table has at the goal's key.
 use Rattle.std.proofs.Common.{ℕ, List, ap, subst, ◌∙◌}
 use Rattle.std.specs.Map.{lookup}
 use Rattle.cs_goals.specs.declared.goal.Goal.{Goal}

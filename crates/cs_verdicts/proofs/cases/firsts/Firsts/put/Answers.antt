@@ -1,3 +1,4 @@
+-- A goal whose key is there has a number, and one with a new key stands last; the slots stay true.
 use Rattle.std.proofs.Common.{◌≡◌, ℕ, List, [], ◌∷◌, ◌++◌, inl, inr, refl, sym, subst, ◌∙◌}
 use Rattle.indexmap.proofs.CallerLemmas.{insert_entry-new}
 use Rattle.cs_goals.specs.declared.goal.Goal.{Goal}

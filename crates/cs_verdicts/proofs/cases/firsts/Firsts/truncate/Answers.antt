@@ -1,3 +1,4 @@
+-- The goals of the first entries are the first goals, and no slot is left that could lose its goal.
 use Rattle.std.proofs.Common.{ℕ, List, take, sym, ap, subst, ◌∙◌}
 use Rattle.std.specs.Prelude.{All}
 use Rattle.std.proofs.lemmas.List.{take-map}

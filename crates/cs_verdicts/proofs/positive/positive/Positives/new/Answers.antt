@@ -1,3 +1,4 @@
+-- The goals of the chosen criteria are the grammar's, and tables can judge all of them.
 use Rattle.std.proofs.Common.{List, sym, ap, ◌∙◌, subst}
 use Rattle.cs_grammar.specs.Grammar.{PlainGrammar}
 use Rattle.cs_grammar.specs.Weights.{Weighed}

@@ -1,3 +1,4 @@
+-- The goals behind the first are the grammar's and can be judged too, and a verdict keeps true contexts.
 use Rattle.std.proofs.Common.{List, sym, ◌∙◌, subst}
 use Rattle.std.specs.Prelude.{All}
 use Rattle.std.proofs.lemmas.List.Elements.{All-tail}

@@ -1,3 +1,4 @@
+-- The goals of criteria without pairs are the grammar's, and trees alone can judge them.
 use Rattle.std.proofs.Common.{List, sym, ap, ◌∙◌, subst}
 use Rattle.std.specs.Prelude.{All}
 use Rattle.cs_grammar.specs.Grammar.{PlainGrammar}
