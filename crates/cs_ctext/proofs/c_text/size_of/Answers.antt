@@ -1,3 +1,4 @@
+-- A mark among those known isn't closed; another is closed where the rest behind it is.
 use Rattle.std.proofs.Common.{false, sym, ap, ◌∙◌, subst}
 use Rattle.cs_bytes.proofs.Fronts.{has_at-got}
 use Rattle.cs_ctext.specs.Scans.{quoted_rest}

@@ -1,3 +1,4 @@
+-- Behind `/*` the first `*/` ends the comment; where the text has none, it is open.
 use Rattle.std.proofs.Common.{sym, ◌∙◌, subst}
 use Rattle.cs_bytes.specs.Places.{IsFirstPair, HasNoPair}
 use Rattle.cs_ctext.proofs.CommentSizes.{comment_size-closed, comment_size-open}

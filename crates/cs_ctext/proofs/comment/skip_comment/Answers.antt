@@ -1,3 +1,4 @@
+-- The comment is as long as its size tells; without opener or size no comment stands there.
 use Rattle.std.proofs.Common.{sym, ◌∙◌, ap}
 use Rattle.std.proofs.lemmas.Bool.{false≢true}
 use Rattle.cs_ctext.specs.Scans.{comment_size}

@@ -1,3 +1,4 @@
+-- Both sizes are the size that the scan of the text gives.
 use Rattle.cs_ctext.proofs.QuotedSizes.{quoted_size-quoted}
 use Rattle.cs_ctext.proofs.laws.one_quoted.Goals as goal
 

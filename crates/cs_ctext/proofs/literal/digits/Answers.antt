@@ -1,3 +1,4 @@
+-- The digits taken are those of the run, up to the most; their number is its value.
 use Rattle.std.proofs.Common.{ap, ◌∙◌, min}
 use Rattle.cs_ctext.proofs.FewDigits.{digits_found}
 use Rattle.cs_ctext.proofs.literal.digits.Goals as goal

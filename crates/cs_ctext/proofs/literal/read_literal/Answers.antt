@@ -1,3 +1,4 @@
+-- A quote, a character of a value from 1 to 255 and a quote are a literal, and nothing else is.
 use Rattle.std.proofs.Common.{Some, None, drop, sym, ◌∙◌, inl, inr}
 use Rattle.cs_ctext.proofs.LiteralValues.{literal_read, literal_refused, no_quote}
 use Rattle.cs_ctext.proofs.literal.read_literal.Goals as goal

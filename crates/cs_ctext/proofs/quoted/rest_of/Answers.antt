@@ -1,3 +1,4 @@
+-- The first bare mark closes the rest; a bare newline before it, or the end, leaves it open.
 use Rattle.std.proofs.Common.{sym, ◌∙◌, refl, arith}
 use Rattle.cs_ctext.proofs.Ahead.{rest-start, rest-goes, rest-closes, rest-ends_line, rest-ends}
 use Rattle.cs_ctext.proofs.quoted.rest_of.Goals as goal

@@ -1,3 +1,4 @@
+-- The words that the scan gives for the part are the words that it has.
 use Rattle.std.proofs.Common.{◌≡◌, ℕ, List, take, drop, sym, subst, ◌∙◌}
 use Rattle.cs_ctext.specs.Words.{HasWords}
 use Rattle.cs_ctext.specs.Scans.{words_of}

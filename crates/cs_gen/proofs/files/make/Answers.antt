@@ -1,3 +1,4 @@
+-- For each seed both texts are short and accepted, and the lex file's patterns have few sets.
 use Rattle.std.proofs.Common.{◌≤◌, ℕ, List, length, sym, subst}
 use Rattle.cs_yacc.specs.Reading.Reading.{IsAccepted}
 use Rattle.cs_gen.proofs.Accepted.{yacc_accepted, yacc_short, lex_short}

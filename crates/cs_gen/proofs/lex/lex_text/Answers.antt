@@ -1,3 +1,4 @@
+-- The first line, a rule for each of the 24 tokens, and the last line.
 use Rattle.std.proofs.Common.{◌≡◌, arith}
 use Rattle.cs_gen.proofs.Drawing.{lex-written}
 use Rattle.cs_gen.proofs.lex.lex_text.Goals as goal

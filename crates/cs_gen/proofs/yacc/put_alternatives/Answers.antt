@@ -1,3 +1,4 @@
+-- One alternative more, until there are as many as were drawn.
 use Rattle.std.proofs.Common.{◌≡◌, ◌∙◌, refl, arith}
 use Rattle.cs_gen.specs.Rules.{body}
 use Rattle.cs_gen.specs.Texts.{alternative}

@@ -1,3 +1,4 @@
+-- One symbol more, until there are as many as were drawn.
 use Rattle.std.proofs.Common.{◌≡◌, ◌∙◌, arith}
 use Rattle.cs_gen.specs.Rules.{symbol}
 use Rattle.cs_gen.specs.Texts.{spaced_name}

@@ -1,3 +1,4 @@
+-- The left side, the first body and the alternatives; the numbers go on behind the alternatives.
 use Rattle.cs_gen.proofs.Drawing.{line-written, line-behind}
 use Rattle.cs_gen.proofs.yacc.put_line.Goals as goal
 

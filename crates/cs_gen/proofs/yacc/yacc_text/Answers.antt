@@ -1,3 +1,4 @@
+-- The declaration, and then one line more, until there are 40.
 use Rattle.std.proofs.Common.{◌≡◌, ◌++◌, List, ℕ, ap, ◌∙◌, refl, arith}
 use Rattle.cs_gen.specs.Rules.{line}
 use Rattle.cs_gen.specs.Texts.{declaration, line_text}

@@ -1,3 +1,4 @@
+-- The best so far stays, unless the rule at the place is the first candidate, or a better one.
 use Rattle.std.proofs.Common.{◌≡◌, true, false, refl, sym, subst, arith}
 use Rattle.cs_spell.specs.Chosen.{IsBetter, RuleVerdict}
 use Rattle.cs_spell.specs.Choosing.{IsBestAt, IsBestBelow, verdict_at}

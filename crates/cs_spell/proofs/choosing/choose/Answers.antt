@@ -1,3 +1,4 @@
+-- No rule is looked at yet; when all are, the best of them is the choice.
 use Rattle.std.proofs.Common.{arith}
 use Rattle.cs_spell.proofs.OnChoosing.{best_all, best_none}
 use Rattle.cs_spell.proofs.choosing.choose.Goals as goal

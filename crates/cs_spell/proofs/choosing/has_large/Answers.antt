@@ -1,3 +1,4 @@
+-- The first place with a large goal tells that there is one; past all places there is none.
 use Rattle.std.proofs.Common.{◌≡◌, true, false, refl, arith, below_more}
 use Rattle.cs_spell.proofs.OnChoosing.{large_at, large_none}
 use Rattle.cs_spell.proofs.choosing.has_large.Goals as goal

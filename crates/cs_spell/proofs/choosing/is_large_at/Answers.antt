@@ -1,3 +1,4 @@
+-- The rule and its verdict are those at the place; the one is wanted and the other large.
 use Rattle.std.proofs.Common.{arith, ap, length, ◌∙◌}
 use Rattle.cs_manifest.specs.Manifest.Lines.{is_large}
 use Rattle.cs_spell.proofs.OnChoosing.{flagged}

@@ -1,3 +1,4 @@
+-- One rule more is counted by its kind; no count is above the number of rules so far.
 use Rattle.std.proofs.Common.{◌∙◌, ap, ◌+◌, subst, sym, arith, take}
 use Rattle.std.proofs.lemmas.List.{get_or-map, length-map}
 use Rattle.cs_spell.specs.Counting.{added}

@@ -1,3 +1,4 @@
+-- The rule at the place is one of the grammar, so that its number makes a goal.
 use Rattle.cs_spell.proofs.Judging.{goal_at}
 use Rattle.cs_spell.proofs.judged.judge_rule.Goals as goal
 

@@ -1,3 +1,4 @@
+-- One verdict more; the tokens of each are few, since its derivation is within the limit.
 use Rattle.std.proofs.Common.{◌≡◌, ap, arith, length}
 use Rattle.std.proofs.lemmas.List.{length_push}
 use Rattle.cs_grammar.specs.Grammar.{PlainGrammar}

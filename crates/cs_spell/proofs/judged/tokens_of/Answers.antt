@@ -1,3 +1,4 @@
+-- The derivation of a feasible goal is one of the grammar.
 use Rattle.std.proofs.Common.{sym, subst}
 use Rattle.cs_goals.specs.declared.goal.Goal.TheVariants.{Rule}
 use Rattle.cs_grammar.specs.Grammar.{PlainGrammar}

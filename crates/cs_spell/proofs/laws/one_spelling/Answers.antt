@@ -1,3 +1,4 @@
+-- The lexemes, the verdicts and what is told of each rule are each one, and so is the text.
 use Rattle.cs_spell.proofs.OneSpelling.{one_spelling_by}
 use Rattle.cs_spell.proofs.laws.one_spelling.Goals as goal
 

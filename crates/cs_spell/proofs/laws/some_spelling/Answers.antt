@@ -1,3 +1,4 @@
+-- None of the lexemes, the verdicts and what is told is without one, so neither is the text.
 use Rattle.cs_spell.proofs.SomeSpelling.{some_spelling_by}
 use Rattle.cs_spell.proofs.laws.some_spelling.Goals as goal
 

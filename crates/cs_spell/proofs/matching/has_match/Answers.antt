@@ -1,3 +1,4 @@
+-- Each match of the scan is looked at in turn, up to the first that is the piece by the rule.
 use Rattle.std.proofs.Common.{◌≡◌, true, false, refl, arith, length-drop}
 use Rattle.cs_scanner.specs.Scan.Compared.{scanning}
 use Rattle.cs_spell.proofs.OnMatching.{search_ends, search_found, search_next, search_none, search_starts}

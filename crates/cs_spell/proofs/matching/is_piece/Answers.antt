@@ -1,3 +1,4 @@
+-- The bytes that are compared are those from the place on, as many as the size.
 use Rattle.std.proofs.Common.{◌≡◌, ℕ, List, subst, take}
 use Rattle.std.specs.Prelude.{Decides}
 use Rattle.std.proofs.lemmas.Bool.Decides.{Decides-eqb}

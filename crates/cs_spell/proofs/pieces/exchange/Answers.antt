@@ -1,3 +1,4 @@
+-- Past the last piece nothing is set; before it the piece at the place is the spelling.
 use Rattle.std.proofs.Common.{arith}
 use Rattle.cs_spell.proofs.OnPieces.{values_past, values_set}
 use Rattle.cs_spell.proofs.pieces.exchange.Goals as goal

@@ -1,3 +1,4 @@
+-- One lexeme more; the first token without one has tokens with lexemes in front of it.
 use Rattle.std.proofs.Common.{List, ℕ, suc, sym, subst, arith, take, drop}
 use Rattle.std.proofs.lemmas.List.{take_all}
 use Rattle.cs_spell.specs.Pieces.{AreLexemesOf, values}

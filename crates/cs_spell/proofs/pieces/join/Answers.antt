@@ -1,3 +1,4 @@
+-- One piece more, with the separator before it unless it is the first.
 use Rattle.std.proofs.Common.{◌++◌, List, ℕ, ap, ◌∙◌, sym, arith, take}
 use Rattle.std.proofs.lemmas.List.{length-map, take_all}
 use Rattle.cs_spell.specs.Pieces.{values}

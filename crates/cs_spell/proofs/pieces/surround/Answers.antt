@@ -1,3 +1,4 @@
+-- One piece more, and the spelling behind it.
 use Rattle.std.proofs.Common.{◌++◌, List, ℕ, ap, ◌∙◌, arith}
 use Rattle.std.proofs.lemmas.List.{length-map, take_all}
 use Rattle.cs_spell.specs.Pieces.{followed, values}

@@ -1,3 +1,4 @@
+-- The seven counts in their order, and the end of the line.
 use Rattle.cs_manifest.proofs.OnOutput.Pieces.{then}
 use Rattle.cs_spell.proofs.putting.put_end.Goals as goal
 

@@ -1,3 +1,4 @@
+-- The goal, and then the size.
 use Rattle.cs_manifest.proofs.OnOutput.Pieces.{then}
 use Rattle.cs_spell.proofs.putting.put_goal.Goals as goal
 

@@ -1,3 +1,4 @@
+-- The first line, the spellings, and the end.
 use Rattle.cs_manifest.proofs.OnOutput.Pieces.{then}
 use Rattle.cs_spell.proofs.putting.put_spell.Goals as goal
 

@@ -1,3 +1,4 @@
+-- The number of the rule, and then what is told of it.
 use Rattle.cs_manifest.proofs.OnOutput.Pieces.{then}
 use Rattle.cs_spell.proofs.putting.put_spelling.Goals as goal
 

@@ -1,3 +1,4 @@
+-- One spelling more, with its number.
 use Rattle.cs_manifest.proofs.OnOutput.Pieces.{nothing, numbered_more}
 use Rattle.cs_spell.specs.Putting.{told_text}
 use Rattle.cs_spell.proofs.putting.put_spellings.Goals as goal

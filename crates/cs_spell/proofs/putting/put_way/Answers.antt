@@ -1,3 +1,4 @@
+-- The token, the goal and the place, or the goal of a skip.
 use Rattle.cs_manifest.proofs.OnOutput.Pieces.{then}
 use Rattle.cs_spell.proofs.putting.put_way.Goals as goal
 

@@ -1,3 +1,4 @@
+-- The token stands at none of the places before, and at this one or at none.
 use Rattle.std.proofs.Common.{arith, below_more, ap, ◌∙◌, Some}
 use Rattle.std.proofs.lemmas.Option.{get_or_from_slice_get, slice_get-get_or, slice_get_within}
 use Rattle.cs_spell.proofs.telling.first_place.Goals as goal

@@ -1,3 +1,4 @@
+-- A text that scans to the tokens has them all in common, also where no match is the spelling.
 use Rattle.std.proofs.Common.{◌≡◌, ℕ, List, true, false, sym, subst}
 use Rattle.cs_scanner.specs.Scan.Compared.{scanning}
 use Rattle.cs_scanner.specs.Scan.Scan.{Scans}

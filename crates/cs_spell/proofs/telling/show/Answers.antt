@@ -1,3 +1,4 @@
+-- The verdict at the place chosen is feasible, and what is shown is of its derivation and tokens.
 use Rattle.std.proofs.Common.{◌≡◌, ap, ◌∙◌, sym}
 use Rattle.cs_spell.specs.Chosen.{RuleVerdict}
 use Rattle.cs_spell.proofs.Showing.{shown_of}

@@ -1,3 +1,4 @@
+-- A rule that wins a text is told of by its least one; a rule that wins none is shadowed.
 use Rattle.std.proofs.lemmas.Result.{IfOk-weaker}
 use Rattle.cs_spell.proofs.Showing.{tells_none, tells_some}
 use Rattle.cs_spell.proofs.telling.tell.Goals as goal

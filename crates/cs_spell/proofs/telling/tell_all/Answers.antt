@@ -1,3 +1,4 @@
+-- One rule more is told of, with the kind at its place.
 use Rattle.std.proofs.Common.{arith}
 use Rattle.std.proofs.lemmas.List.{length_push}
 use Rattle.std.proofs.lemmas.Option.{slice_get-get_or}

@@ -1,3 +1,4 @@
+-- A chosen rule is shown; where none is chosen, a large goal tells large, and no such goal infeasible.
 use Rattle.std.proofs.Common.{◌≡◌, ℕ, true, false, Option, refl, sym, subst}
 use Rattle.cs_grammar.specs.Grammar.{PlainGrammar}
 use Rattle.cs_spell.specs.Chosen.{HasLarge}

@@ -1,3 +1,4 @@
+-- What was written is the text, or its front where the sink failed, or nothing where memory ran out.
 use Rattle.std.proofs.Common.{List, ℕ, sym, subst}
 use Rattle.std.proofs.lemmas.Result.{err_from_is_err_and}
 use Rattle.cs_io.proofs.Stops.{stopped_by_cut, stopped_by_memory}

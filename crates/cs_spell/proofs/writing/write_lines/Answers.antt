@@ -1,3 +1,4 @@
+-- All lines went to the sink, or were cut short there, with the counts of what is told.
 use Rattle.std.proofs.Common.{List, ℕ, subst, ◌∙◌, rules, arith}
 use Rattle.std.proofs.lemmas.Grind.{common_steps}
 use Rattle.std.proofs.lemmas.Result.{err_from_is_err_and}

@@ -1,3 +1,4 @@
+-- The file and what texts are made by have one text of spellings, and aren't without one.
 use Rattle.cs_spell.specs.Writing.{texts_of}
 use Rattle.cs_spell.proofs.writing.write_spell.Goals as goal
 

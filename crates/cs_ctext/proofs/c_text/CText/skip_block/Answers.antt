@@ -1,3 +1,4 @@
+-- Braces make the depth one more or one less, parts leave it as it is; the block ends where it is 0.
 use Rattle.std.proofs.Common.{◌≡◌, ◌-◌, ◌+◌, ℕ, List, Some, None, drop, length, sym, ◌∙◌, ap, refl, subst, arith}
 use Rattle.std.specs.Prelude.{slice_get}
 use Rattle.std.proofs.lemmas.List.{length-drop}

@@ -1,3 +1,4 @@
+-- The part is as long as its size tells; no size stands only for an open comment.
 use Rattle.std.proofs.Common.{sym, ◌∙◌, arith}
 use Rattle.std.proofs.lemmas.List.{length-drop}
 use Rattle.cs_ctext.proofs.Fronts.{behind}

@@ -1,3 +1,4 @@
+-- The construct is as long as its size tells; where there is no size, nothing closes it.
 use Rattle.std.proofs.Common.{sym, ◌∙◌}
 use Rattle.cs_ctext.proofs.Fronts.{behind}
 use Rattle.cs_ctext.proofs.QuotedSizes.{IsQuoted-from_size, no_quoted_from_size}

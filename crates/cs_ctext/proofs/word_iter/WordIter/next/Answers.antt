@@ -1,3 +1,4 @@
+-- A piece that begins a word is the next word, any other gives none, and at the end no word is left.
 use Rattle.std.proofs.Common.{◌≡◌, ◌+◌, ℕ, List, ◌∷◌, length, drop, refl, sym, ap, ◌∙◌, arith}
 use Rattle.cs_ctext.specs.Words.{word_at}
 use Rattle.cs_ctext.specs.Scans.{piece_size, words_of}

@@ -1,3 +1,4 @@
+-- Where 0 is drawn the symbol is a token, else a nonterminal; the numbers go on behind the second draw.
 use Rattle.cs_gen.proofs.Drawing.{token-drawn, nonterminal-drawn}
 use Rattle.cs_gen.proofs.numbers.Numbers.symbol.Goals as goal
 

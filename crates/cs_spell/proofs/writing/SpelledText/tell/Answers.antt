@@ -1,3 +1,4 @@
+-- Where memory runs out before the verdicts are made, nothing was written.
 use Rattle.std.proofs.lemmas.Result.{err_from_is_err_and}
 use Rattle.cs_io.proofs.Stops.{stopped_by_memory}
 use Rattle.cs_manifest.proofs.OnOutput.Written.{written_none}

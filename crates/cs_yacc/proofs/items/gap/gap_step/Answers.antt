@@ -1,3 +1,4 @@
+-- A blank or a closed comment is a gap; where neither stands, there is no gap.
 use Rattle.std.proofs.Common.{sym, ap, ◌∙◌}
 use Rattle.cs_bytes.specs.Classes.{is_white_space}
 use Rattle.cs_bytes.specs.Places.{front}

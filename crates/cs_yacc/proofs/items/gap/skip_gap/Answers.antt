@@ -1,3 +1,4 @@
+-- One blank or comment more, until none stands at the offset.
 use Rattle.std.proofs.Common.{arith}
 use Rattle.cs_yacc.proofs.OnItems.Gaps.{gap_none, gap_more}
 use Rattle.cs_yacc.proofs.items.gap.skip_gap.Goals as goal

@@ -1,3 +1,4 @@
+-- The word behind `%` is that of a directive, or an unknown one, or empty and no item.
 use Rattle.cs_yacc.proofs.OnItems.Begin.{directive_is, unknown_is, no_directive}
 use Rattle.cs_yacc.proofs.items.item.directive_at.Goals as goal
 

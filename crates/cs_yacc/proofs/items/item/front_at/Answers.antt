@@ -1,3 +1,4 @@
+-- An opening brace begins a block that is closed at its end, or is open.
 use Rattle.std.proofs.Common.{◌≡◌, List, ℕ, Bool, drop, sym, ◌∙◌, subst, arith, true}
 use Rattle.std.proofs.lemmas.List.{length-drop}
 use Rattle.cs_bytes.specs.Places.{begins_with, has_at}

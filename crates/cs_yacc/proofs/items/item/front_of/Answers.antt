@@ -1,3 +1,4 @@
+-- Where no gap stands a slash begins no closed comment; a byte that begins no item begins nothing.
 use Rattle.std.proofs.Common.{arith, get_or, refl}
 use Rattle.cs_yacc.proofs.OnItems.Gaps.{no_gap_no_comment}
 use Rattle.cs_yacc.proofs.OnItems.Begin.{nothing_at, no_brace}

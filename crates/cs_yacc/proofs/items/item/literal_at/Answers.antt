@@ -1,3 +1,4 @@
+-- What the quote begins is a literal where one can be read, and nothing otherwise.
 use Rattle.cs_yacc.proofs.OnItems.Begin.{literal_is, no_literal}
 use Rattle.cs_yacc.proofs.items.item.literal_at.Goals as goal
 

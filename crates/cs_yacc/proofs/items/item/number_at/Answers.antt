@@ -1,3 +1,4 @@
+-- The number is the longest run of digits.
 use Rattle.cs_yacc.proofs.OnItems.Begin.{number_is}
 use Rattle.cs_yacc.proofs.items.item.number_at.Goals as goal
 

@@ -1,3 +1,4 @@
+-- Two percent signs are a mark.
 use Rattle.std.proofs.Common.{sym, ◌∙◌}
 use Rattle.cs_yacc.proofs.OnItems.Begin.{mark_is}
 use Rattle.cs_yacc.proofs.items.item.percent_at.Goals as goal

@@ -1,3 +1,4 @@
+-- The first `%}` behind the opener ends the prologue; without one it is open.
 use Rattle.cs_yacc.proofs.OnItems.Begin.{prologue_is, prologue_open}
 use Rattle.cs_yacc.proofs.items.item.prologue_at.Goals as goal
 

@@ -1,3 +1,4 @@
+-- A slash that opens a comment that isn't closed is open; any other begins no item.
 use Rattle.cs_yacc.proofs.OnItems.Begin.{slash_open, slash_nothing}
 use Rattle.cs_yacc.proofs.items.item.slash_at.Goals as goal
 

@@ -1,3 +1,4 @@
+-- The run of other bytes on the line ends at a `>`, or there is no tag.
 use Rattle.std.proofs.Common.{sym, ◌∙◌}
 use Rattle.cs_yacc.proofs.OnItems.Begin.{tag_is, no_tag}
 use Rattle.cs_yacc.proofs.items.item.tag_at.Goals as goal

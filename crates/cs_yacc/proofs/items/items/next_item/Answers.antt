@@ -1,3 +1,4 @@
+-- Where the gap goes up to the end of the bytes, reading ends.
 use Rattle.std.proofs.Common.{ℕ, ◌<◌, List, subst}
 use Rattle.cs_yacc.specs.Items.Items.{ReadingEnds}
 use Rattle.cs_yacc.proofs.OnItems.Reading.{end_is}

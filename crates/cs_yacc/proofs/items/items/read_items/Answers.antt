@@ -1,3 +1,4 @@
+-- One item more, up to the second mark, or a stop that reading meets.
 use Rattle.std.proofs.Common.{ap, ◌∙◌, subst, List, ℕ}
 use Rattle.std.proofs.lemmas.List.{map_push}
 use Rattle.cs_yacc.specs.Items.Items.{Follows}

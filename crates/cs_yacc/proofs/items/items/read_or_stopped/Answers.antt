@@ -1,3 +1,4 @@
+-- The items so far are read; the end or the second mark ends reading, anything else stops it.
 use Rattle.std.proofs.Common.{◌∙◌, ◌++◌, ◌∷◌, [], List, ℕ, ◌<◌, refl, subst, inl, inr}
 use Rattle.cs_yacc.specs.Items.Items.{Follows, ReadingEnds}
 use Rattle.cs_yacc.specs.Items.Finds.{StopsWith}

@@ -1,3 +1,4 @@
+-- Both readings walk to the same place and stop there behind the same gap.
 use Rattle.cs_yacc.proofs.OnItems.Reading as lemmas
 use Rattle.cs_yacc.proofs.items.laws.one_stop.Goals as goal
 

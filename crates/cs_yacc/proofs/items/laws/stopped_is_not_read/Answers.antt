@@ -1,3 +1,4 @@
+-- Both walks halt at one place, where reading can't both end and stop.
 use Rattle.cs_yacc.proofs.OnItems.Reading as lemmas
 use Rattle.cs_yacc.proofs.items.laws.stopped_is_not_read.Goals as goal
 

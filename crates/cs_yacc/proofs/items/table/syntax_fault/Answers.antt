@@ -1,3 +1,4 @@
+-- The table stops at the item that may not come, or at the end where the list may not end.
 use Rattle.std.proofs.Common.{sym, ◌∙◌}
 use Rattle.cs_yacc.specs.declared.items.item.Item.TheVariants.{Mark}
 use Rattle.cs_yacc.specs.Items.PlaceView.{place_of}

@@ -1,3 +1,4 @@
+-- The items before are no `%start`; this one is, or none is.
 use Rattle.cs_yacc.specs.Reading.Meaning.{is_start}
 use Rattle.cs_yacc.proofs.OnReading.Loops.{first_more, first_found, first_none, no_item}
 use Rattle.cs_yacc.proofs.reading.fault.first_start.Goals as goal

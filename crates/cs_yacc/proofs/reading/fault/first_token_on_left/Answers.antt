@@ -1,3 +1,4 @@
+-- The items before are no declared left side; this one is, or none is.
 use Rattle.cs_yacc.specs.Reading.Meaning.{is_token_on_left}
 use Rattle.cs_yacc.proofs.OnReading.Loops.{passes_not, passes, first_none}
 use Rattle.cs_yacc.proofs.reading.fault.first_token_on_left.Goals as goal

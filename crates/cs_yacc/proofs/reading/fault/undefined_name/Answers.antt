@@ -1,3 +1,4 @@
+-- The spellings of all items are among these; where none is unknown, no name is undefined.
 use Rattle.std.proofs.Common.{sym, ◌∙◌}
 use Rattle.cs_yacc.specs.Items.Views.{placed_all}
 use Rattle.cs_yacc.proofs.OnReading.Unknown.{all_known}

@@ -1,3 +1,4 @@
+-- The list begins with `error`, and each item adds what it declares.
 use Rattle.std.proofs.Common.{◌∷◌, [], refl, ap, ◌∙◌}
 use Rattle.cs_yacc.specs.Reading.SpellingView.{and_one}
 use Rattle.cs_yacc.specs.Reading.Meaning.{declared_at, error_spelling}

@@ -1,3 +1,4 @@
+-- One mark more, which is that of one spelling, since the spellings differ.
 use Rattle.std.proofs.Common.{◌∙◌, length, ap, arith}
 use Rattle.std.proofs.lemmas.Grind.{common_steps}
 use Rattle.std.proofs.lemmas.List.{length-map}

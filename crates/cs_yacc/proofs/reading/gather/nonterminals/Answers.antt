@@ -1,3 +1,4 @@
+-- Each item that is a left side is added, if it is missing.
 use Rattle.cs_yacc.specs.Reading.Meaning.{left_at}
 use Rattle.cs_yacc.proofs.OnReading.Loops.{gather_step, gather_ends}
 use Rattle.cs_yacc.proofs.reading.gather.nonterminals.Goals as goal

@@ -1,3 +1,4 @@
+-- One spelling more is added, where its mark tells that it is used and it is no left side.
 use Rattle.cs_yacc.specs.Reading.Meaning.{is_in_use}
 use Rattle.cs_yacc.proofs.OnReading.Loops.{tokens_more}
 use Rattle.cs_yacc.proofs.OnReading.Marks.{in_use_as_told}

@@ -1,3 +1,4 @@
+-- No spelling is marked yet; one rule more marks those of its right side.
 use Rattle.std.proofs.Common.{◌≡◌, false, length, replicate, refl, ap, ◌∙◌, arith}
 use Rattle.std.proofs.lemmas.Grind.{common_steps}
 use Rattle.std.proofs.lemmas.List.{length-replicate}

@@ -1,3 +1,4 @@
+-- The right sides of the parts are short, and this rule is one of theirs.
 use Rattle.std.proofs.Common.{◌<◌, ◌^◌, List, length, subst, sym}
 use Rattle.std.specs.List.{All}
 use Rattle.cs_yacc.specs.Reading.Meaning.{SpelledRule}

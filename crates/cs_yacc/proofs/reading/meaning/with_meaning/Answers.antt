@@ -1,3 +1,4 @@
+-- One item more is kept in front, with its place, or left out; its spelling is gathered either way.
 use Rattle.std.proofs.Common.{◌≡◌, ◌+◌, ◌++◌, ◌∷◌, [], take, drop, refl, sym, subst, ap, ◌∙◌, arith}
 use Rattle.std.specs.Prelude.{List}
 use Rattle.std.proofs.lemmas.Grind.{common_steps}

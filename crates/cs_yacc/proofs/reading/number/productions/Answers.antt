@@ -1,3 +1,4 @@
+-- One rule more, whose right side takes its symbols from the table.
 use Rattle.std.proofs.Common.{◌∙◌, arith}
 use Rattle.std.proofs.lemmas.Grind.{common_steps}
 use Rattle.cs_yacc.proofs.OnReading.Numbers.{rule_symbols}

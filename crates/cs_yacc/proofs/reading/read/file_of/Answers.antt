@@ -1,3 +1,4 @@
+-- The rules kept, the tokens in use and the left sides are the parts, and there are few of each.
 use Rattle.std.proofs.Common.{◌≡◌, ◌<◌, ◌≤◌, ◌^◌, ◌∙◌, map, length, ap, subst, sym, refl, arith}
 use Rattle.std.specs.Prelude.{List, None}
 use Rattle.std.specs.List.{All}

@@ -1,3 +1,4 @@
+-- Parts that pass no limit have few tokens and nonterminals, and make a file.
 use Rattle.cs_yacc.specs.Reading.PartsView.{parts_in}
 use Rattle.cs_yacc.proofs.OnReading.Fits.{few_symbols}
 use Rattle.cs_yacc.proofs.reading.read.file_or_limit.Goals as goal

@@ -1,3 +1,4 @@
+-- A second `%start` is the first fault, then one in names; where there is none, the parts give the file.
 use Rattle.std.proofs.Common.{◌∙◌, ◌≡◌, take, length, ap, sym, subst, arith}
 use Rattle.std.specs.Prelude.{List, None}
 use Rattle.cs_yacc.specs.declared.items.item.Placed as held

@@ -1,3 +1,4 @@
+-- Reading stops, or the table is stuck, or the items give what they mean.
 use Rattle.std.proofs.Common.{arith}
 use Rattle.std.proofs.lemmas.List.{length-map}
 use Rattle.cs_yacc.specs.Items.Views.{placed_of, placed_all}

@@ -1,3 +1,4 @@
+-- The body is no longer than the items, and there is a place for each item.
 use Rattle.std.proofs.Common.{arith}
 use Rattle.std.proofs.lemmas.List.{length-take}
 use Rattle.cs_yacc.specs.Reading.SpellingView.{items_in}

@@ -1,3 +1,4 @@
+-- One item more may open a body; the places behind it are those of the items behind it.
 use Rattle.std.proofs.Common.{◌+◌, ◌≤◌, length, arith}
 use Rattle.cs_yacc.specs.Reading.Meaning.{error_spelling}
 use Rattle.cs_yacc.proofs.OnReading.Numbers.{place_within}

@@ -1,3 +1,4 @@
+-- The body holds `error` exactly where its places hold the place of `error`.
 use Rattle.std.proofs.Common.{◌≡◌, ◌<◌, List, ℕ, eqb, length, ap, sym, ◌∙◌}
 use Rattle.std.specs.List.{list_any}
 use Rattle.std.proofs.lemmas.List.Elements.{All-same}

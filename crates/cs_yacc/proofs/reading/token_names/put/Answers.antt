@@ -1,3 +1,4 @@
+-- The number stands at the name that was put, and all others stand as before.
 use Rattle.std.proofs.Common.{◌≡◌, ◌∙◌}
 use Rattle.cs_yacc.proofs.OnReading.TokenTables.{at_word_put, at_byte_put}
 use Rattle.cs_yacc.proofs.reading.token_names.put.Goals as goal

@@ -1,3 +1,4 @@
+-- Components are asked for only where there is a graph.
 use Rattle.test_scanner.proofs.scanning.graph.first_nodes.Goals as goal
 
 pub components-requires : goal.components-requires

@@ -1,3 +1,4 @@
+-- An order is asked for only where there is a graph.
 use Rattle.test_scanner.proofs.scanning.graph.shown.Goals as goal
 
 pub order-requires : goal.order-requires

@@ -1,3 +1,4 @@
+-- The set puts a missing key last, and its keys are the spellings.
 use Rattle.std.proofs.Common.{◌∙◌, ap}
 use Rattle.cs_yacc.specs.Reading.SpellingView.{spelling_of, spellings_of, and_one}
 use Rattle.cs_yacc.proofs.OnReading.Gathering.{insert_is}

@@ -1,3 +1,4 @@
+-- The place of the spelling is that of its key in the set, or the count of keys where there is none.
 use Rattle.std.proofs.Common.{◌∙◌, ap}
 use Rattle.cs_yacc.specs.Reading.Places.{place_in}
 use Rattle.cs_yacc.specs.Reading.SpellingView.{spelling_of}

@@ -1,3 +1,4 @@
+-- The spelling is one of the keys of the set.
 use Rattle.std.proofs.Common.{◌∙◌, ap}
 use Rattle.cs_yacc.specs.Reading.Meaning.{has_spelling}
 use Rattle.cs_yacc.specs.Reading.SpellingView.{spelling_of}

@@ -1,3 +1,4 @@
+-- The number is one more than the place, which is at most the count of spellings.
 use Rattle.std.proofs.Common.{◌∙◌, refl, arith, add-one}
 use Rattle.cs_yacc.specs.Reading.SpellingView.{spelling_of}
 use Rattle.cs_yacc.proofs.OnReading.Numbers.{place_within}

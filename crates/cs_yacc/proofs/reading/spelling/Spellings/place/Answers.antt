@@ -1,3 +1,4 @@
+-- The key at the place that the set gives is equal to the spelling.
 use Rattle.std.proofs.Common.{Some, sym, ap, ◌∙◌, length, arith}
 use Rattle.std.specs.Prelude.{not, option_map}
 use Rattle.std.proofs.lemmas.List.{length-map}

@@ -1,3 +1,4 @@
+-- The place is that of the item's spelling; where the item has none, any place will do.
 use Rattle.std.proofs.lemmas.Result.{IfOk-weaker}
 use Rattle.cs_yacc.specs.Items.Views.{item_of}
 use Rattle.cs_yacc.specs.Reading.SpellingView.{spelling_of}

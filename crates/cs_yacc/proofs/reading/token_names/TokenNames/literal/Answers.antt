@@ -1,3 +1,4 @@
+-- The table of literals finds the number of each byte that is a name, and of no other.
 use Rattle.std.proofs.Common.{◌∙◌}
 use Rattle.cs_yacc.specs.declared.reading.name.TokenName.TheVariants.{Byte}
 use Rattle.cs_yacc.specs.Reading.TokenNumbers.{number_at_byte}

@@ -1,3 +1,4 @@
+-- One name more is put with its number, in the table of its kind.
 use Rattle.std.proofs.Common.{◌≡◌, ℕ, List, length, refl, subst, arith}
 use Rattle.std.proofs.lemmas.Option.{slice_get_read}
 use Rattle.cs_yacc.specs.declared.reading.name.TokenName.{TokenName}

@@ -1,3 +1,4 @@
+-- The table of words finds the number of each word that is a name, and of no other.
 use Rattle.std.proofs.Common.{◌∙◌}
 use Rattle.cs_yacc.specs.declared.reading.name.TokenName.TheVariants.{Word}
 use Rattle.cs_yacc.specs.Reading.TokenNumbers.{number_at_word}
