@@ -1,3 +1,4 @@
+-- A symbol with a tree has a chosen tree, which is a tree of it, and no tree of it is smaller.
 use Rattle.cs_least.proofs.OnCost.ChosenTrees.{chosen_exists, IsTree-chosen, chosen_least}
 use Rattle.cs_least.proofs.cost.laws.chosen_tree_exists.Goals as goal
 

@@ -1,3 +1,4 @@
+-- Two chosen trees of a symbol are the same tree.
 use Rattle.cs_least.proofs.OnCost.ChosenTrees.{one_chosen}
 use Rattle.cs_least.proofs.cost.laws.one_chosen_tree.Goals as goal
 

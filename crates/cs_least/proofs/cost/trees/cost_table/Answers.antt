@@ -1,3 +1,4 @@
+-- Each cost in the table is one of a tree, and no rule makes a nonterminal cost less than it says.
 use Rattle.cs_least.proofs.OnCost.TreeCosts.{exact_table}
 use Rattle.cs_least.proofs.cost.trees.cost_table.Goals as goal
 

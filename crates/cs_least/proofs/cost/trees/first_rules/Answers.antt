@@ -1,3 +1,4 @@
+-- A rule is taken where its left side has none yet and it costs what the table says, else it is passed.
 use Rattle.std.proofs.Common.{◌≡◌, ◌≤◌, ℕ, List, Option, None, length, get_or, replicate, refl, sym, ap, ◌∙◌, subst, rules}
 use Rattle.std.specs.Prelude.{slice_get}
 use Rattle.std.proofs.lemmas.Bool.{false≢true}

@@ -1,3 +1,4 @@
+-- A token changes no list; the list of a nonterminal gets the rule once more.
 use Rattle.std.proofs.Common.{ℕ, ◌+◌, List, [], ◌∷◌, ◌++◌, length, sym, ap, ◌∙◌, subst}
 use Rattle.std.specs.Global.{Vec}
 use Rattle.cs_grammar.specs.Grammar.{IsSymbol}

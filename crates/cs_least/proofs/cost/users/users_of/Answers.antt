@@ -1,3 +1,4 @@
+-- The lists of the rules before get one rule more, until they are those of all rules.
 use Rattle.std.proofs.Common.{◌+◌, List, length, refl, sym, ap, ◌∙◌, subst, arith}
 use Rattle.std.specs.Prelude.{slice_get}
 use Rattle.std.proofs.lemmas.Option.{slice_get_read}

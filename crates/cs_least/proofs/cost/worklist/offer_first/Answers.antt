@@ -1,3 +1,4 @@
+-- A rule without nonterminals joins the candidates, and any other is passed, as it has open ones.
 use Rattle.std.proofs.Common.{◌≡◌, ◌∷◌, List, refl, sym, ap, ◌∙◌, subst}
 use Rattle.std.specs.Prelude.{slice_get}
 use Rattle.std.specs.BinaryHeap.{heap_items}

@@ -1,3 +1,4 @@
+-- Each time a rule is told it has one open nonterminal fewer; with none left its node joins the candidates.
 use Rattle.std.proofs.Common.{◌≡◌, ◌∷◌, ℕ, ◌+◌, ◌-◌, ◌<◌, List, length, get_or, sym, ap, ◌∙◌, subst, arith}
 use Rattle.std.specs.Prelude.{All, slice_get}
 use Rattle.std.specs.BinaryHeap.{heap_items}

@@ -1,3 +1,4 @@
+-- A candidate whose nonterminal was settled before is dropped; with none left no rule leads below the table.
 use Rattle.std.proofs.Common.{◌∙◌, sym, subst, arith}
 use Rattle.cs_grammar.specs.Grammar.{IsNumberOf}
 use Rattle.cs_least.proofs.OnCost.Settling.{the_candidate, take_least, at_dropped, closed_at_end, read_entry}

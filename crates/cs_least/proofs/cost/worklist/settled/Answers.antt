@@ -1,3 +1,4 @@
+-- At the start nothing is settled and no candidate waits, and each rule counts all its nonterminals as open.
 use Rattle.std.proofs.Common.{List, [], sym, ap, ◌∙◌, subst, replicate}
 use Rattle.std.specs.BinaryHeap.{heap_items}
 use Rattle.cs_least.specs.declared.cost.cost.Cost.{Cost}

@@ -1,3 +1,4 @@
+-- The number of the root is written, and its right side stands on top of what was pending.
 use Rattle.std.proofs.Common.{◌++◌, List, reverse, ap, ◌∙◌}
 use Rattle.std.proofs.lemmas.Result.{on_ok_weaker}
 use Rattle.cs_grammar.specs.declared.symbol.Symbol.{Symbol}

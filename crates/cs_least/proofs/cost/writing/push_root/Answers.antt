@@ -1,3 +1,4 @@
+-- The number that is read is that of the first rule, and the grammar has one rule of that number.
 use Rattle.std.proofs.Common.{◌≡◌, [], ℕ, ◌∷◌, Option, get_or, ap, ◌∙◌, subst, refl, sym, append-nil}
 use Rattle.cs_grammar.specs.Grammar.{Production, IsRule}
 use Rattle.cs_grammar.proofs.OneTree.{one_rule}

@@ -1,3 +1,4 @@
+-- Symbol by symbol: a token adds nothing, and a nonterminal adds the code of its chosen tree.
 use Rattle.std.proofs.Common.{◌≡◌, ◌∷◌, ◌+◌, [], List, drop, sym, ap, ◌∙◌, subst, append-nil}
 use Rattle.std.proofs.lemmas.List.{drop_all, drop_more}
 use Rattle.cs_grammar.specs.declared.symbol.Symbol.{Symbol}

@@ -1,3 +1,4 @@
+-- On top is a token, which has no code, or a nonterminal, whose root is written and which leaves less to write.
 use Rattle.std.proofs.Common.{◌++◌, [], ◌∷◌, ap, ◌∙◌, subst}
 use Rattle.cs_grammar.specs.declared.symbol.Symbol.{Symbol}
 use Rattle.cs_least.specs.Cost.Tables.{HasTables}

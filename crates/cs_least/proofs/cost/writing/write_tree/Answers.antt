@@ -1,3 +1,4 @@
+-- Behind the number of the root stand the codes of its right side's trees, of which tokens have none.
 use Rattle.std.proofs.Common.{◌≡◌, ◌++◌, List, reverse, sym, ap, ◌∙◌, subst, append-nil}
 use Rattle.std.specs.Prelude.{All}
 use Rattle.std.proofs.lemmas.Result.{on_ok_weaker}

@@ -1,3 +1,4 @@
+-- Each step leads by the first place to a left side that costs less, until the start symbol is reached.
 use Rattle.std.proofs.Common.{◌≢◌, ◌+◌, ◌≤◌, List, length, drop, sym, ap, ◌∙◌, subst, arith}
 use Rattle.std.specs.Prelude.{All}
 use Rattle.std.proofs.lemmas.List.Elements.{All-drop}

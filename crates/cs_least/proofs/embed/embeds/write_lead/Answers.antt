@@ -1,3 +1,4 @@
+-- The outermost place that is left adds its rule's number and the chosen trees of the symbols before it.
 use Rattle.std.proofs.Common.{List, take, sym, subst}
 use Rattle.cs_grammar.specs.declared.symbol.Symbol.{Symbol}
 use Rattle.cs_least.specs.Cost.Chosen.{AppendsAllChosen}

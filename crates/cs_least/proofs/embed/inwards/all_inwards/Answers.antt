@@ -1,3 +1,4 @@
+-- Behind the last rule the steps so far are those of all rules.
 use Rattle.std.proofs.Common.{◌≡◌, ◌+◌, List, length, ap, ◌∙◌, subst, arith}
 use Rattle.cs_grammar.specs.Grammar.{Production, PlainGrammar}
 use Rattle.cs_least.specs.Embed.Ways.{AreInwardsTo}

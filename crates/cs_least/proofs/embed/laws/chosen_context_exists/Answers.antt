@@ -1,3 +1,4 @@
+-- A nonterminal with a context has a chosen one, and a chosen context is a context of least size.
 use Rattle.cs_least.proofs.OnEmbed.ChosenContexts.{chosen_context_exists, chosen_context_least, IsContext-chosen}
 use Rattle.cs_least.proofs.embed.laws.chosen_context_exists.Goals as goal
 

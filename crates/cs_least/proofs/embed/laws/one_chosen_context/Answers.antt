@@ -1,3 +1,4 @@
+-- Two chosen contexts of a symbol are the same context.
 use Rattle.cs_least.proofs.OnEmbed.ChosenContexts.{one_chosen_context}
 use Rattle.cs_least.proofs.embed.laws.one_chosen_context.Goals as goal
 

@@ -1,3 +1,4 @@
+-- The steps inwards lead between nonterminals, and the tables tell their least ways from the start symbol.
 use Rattle.std.proofs.Common.{◌≡◌, ℕ, List, [], ◌∷◌, sym, ap, ◌∙◌, subst}
 use Rattle.cs_grammar.specs.Grammar.{PlainGrammar, IsGrammar}
 use Rattle.cs_grammar.specs.Weights.{Measure}

@@ -1,3 +1,4 @@
+-- One source more: its beginning is kept where it comes before all that is known of its node.
 use Rattle.std.proofs.Common.{get_or, arith, sym, ◌∙◌, subst}
 use Rattle.std.proofs.lemmas.Option.{slice_get-get_or}
 use Rattle.cs_least.specs.declared.ways.step.Source.{Source}

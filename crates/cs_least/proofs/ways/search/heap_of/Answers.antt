@@ -1,3 +1,4 @@
+-- An entry that is known joins what waits, and an empty one is passed.
 use Rattle.std.proofs.Common.{◌+◌, sym, subst}
 use Rattle.std.specs.BinaryHeap.{heap_items, IsHeap}
 use Rattle.std.specs.declared.collections.BinaryHeap.{BinaryHeap}

@@ -1,3 +1,4 @@
+-- The least that waits is settled, which leaves less to do, and where nothing waits the table is whole.
 use Rattle.std.proofs.Common.{◌≡◌, List, [], ◌∷◌, Option, ◌++◌, length, take, drop, replicate, sym, ap, ◌∙◌, subst, arith, rules}
 use Rattle.std.specs.BinaryHeap.{heap_items}
 use Rattle.std.specs.declared.cmp.Reverse.{Reverse}

@@ -1,3 +1,4 @@
+-- One step more: what is found goes on by it and is offered.
 use Rattle.std.proofs.Common.{get_or, arith, sym, subst}
 use Rattle.std.specs.BinaryHeap.{heap_items}
 use Rattle.std.proofs.lemmas.List.{take_more}

@@ -1,3 +1,4 @@
+-- Steps that are turned round lead between the same nodes.
 use Rattle.std.proofs.Common.{List, sym, ap, ◌∙◌, subst, map}
 use Rattle.cs_least.specs.declared.ways.step.Step.{Step}
 use Rattle.cs_least.specs.Ways.Ways.{IsNet, net_of}

@@ -1,3 +1,4 @@
+-- The words of a base are two numbers with `goal` between them.
 use Rattle.std.proofs.lemmas.List.Elements.{All-nil}
 use Rattle.std.specs.Prelude.{codes}
 use Rattle.cs_lines.proofs.OnLines.Forms.{says_words, base_words}

@@ -1,3 +1,4 @@
+-- The words of a case are two numbers with `size` between them.
 use Rattle.std.proofs.lemmas.List.Elements.{All-nil}
 use Rattle.std.specs.Prelude.{codes}
 use Rattle.cs_lines.proofs.OnLines.Forms.{says_words, case_words}

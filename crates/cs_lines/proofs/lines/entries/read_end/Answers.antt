@@ -1,3 +1,4 @@
+-- The words of the end line are six counts, each behind its word, and nothing more.
 use Rattle.std.proofs.Common.{[], ◌∷◌, refl}
 use Rattle.std.proofs.lemmas.Bool.{false≢true}
 use Rattle.std.proofs.lemmas.List.Elements.{All-nil}

@@ -1,3 +1,4 @@
+-- The words are a number, a base, an edit, a pair of names and a place, and nothing more.
 use Rattle.std.proofs.Common.{[], ◌∷◌, refl, ap, ◌∙◌}
 use Rattle.std.proofs.lemmas.Bool.{false≢true}
 use Rattle.std.proofs.lemmas.List.Elements.{All-nil, All-cons}

@@ -1,3 +1,4 @@
+-- The word behind `closed` names a set or a row, which says how the words behind it are read.
 use Rattle.std.proofs.Common.{◌≡◌, ℕ, List, [], ◌∷◌, sym, ◌∙◌, subst, inl, inr}
 use Rattle.std.specs.Prelude.{codes}
 use Rattle.cs_lines.proofs.OnLines.Forms.{closed_words}

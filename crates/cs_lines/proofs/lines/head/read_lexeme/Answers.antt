@@ -1,3 +1,4 @@
+-- Behind the name the rest is taken whole, spaces and all, and is `none` or a quoted text.
 use Rattle.std.proofs.Common.{◌≡◌, [], refl, sym, ap, ◌∙◌}
 use Rattle.cs_lines.proofs.OnLines.Forms.{lexeme_words, says_lexeme}
 use Rattle.cs_lines.proofs.OnLines.Parts.{same_behind}

@@ -1,3 +1,4 @@
+-- Behind `conform` stand `2` and `suite`, and nothing more.
 use Rattle.std.proofs.Common.{[], ◌∷◌, refl}
 use Rattle.std.proofs.lemmas.Bool.{false≢true}
 use Rattle.std.proofs.lemmas.List.Elements.{All-nil}

@@ -1,3 +1,4 @@
+-- Behind the word of the row stand a name, `:` and names.
 use Rattle.std.proofs.Common.{◌∷◌, refl, sym, subst}
 use Rattle.std.proofs.lemmas.List.Elements.{All-nil, All-cons}
 use Rattle.std.specs.Prelude.{codes, All}

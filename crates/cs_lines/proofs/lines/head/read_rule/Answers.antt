@@ -1,3 +1,4 @@
+-- The words of a rule are a number, a name, `:` and names.
 use Rattle.std.proofs.Common.{◌∷◌, refl, sym, subst}
 use Rattle.std.proofs.lemmas.List.Elements.{All-nil, All-cons}
 use Rattle.std.specs.Prelude.{codes, All}

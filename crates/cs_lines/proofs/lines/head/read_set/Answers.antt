@@ -1,3 +1,4 @@
+-- Behind the word of the set stand names alone.
 use Rattle.std.proofs.Common.{refl, sym}
 use Rattle.std.proofs.lemmas.List.Elements.{All-nil}
 use Rattle.std.specs.Prelude.{codes}

@@ -1,3 +1,4 @@
+-- The word `none` says that there is no text, and anything else is a quoted text or says nothing.
 use Rattle.std.proofs.Common.{refl, Some, None}
 use Rattle.std.proofs.lemmas.Bool.{false≢true}
 use Rattle.std.proofs.lemmas.List.Elements.{All-nil}

@@ -1,3 +1,4 @@
+-- Behind two empty words stands one of four words, which says how the words behind it are read.
 use Rattle.std.proofs.Common.{◌≡◌, ℕ, List, [], ◌∷◌, refl, sym, ◌∙◌, subst}
 use Rattle.std.proofs.lemmas.Bool.{false≢true}
 use Rattle.cs_lines.proofs.OnLines.Indented.{IsKnown, indented_words, not_known}

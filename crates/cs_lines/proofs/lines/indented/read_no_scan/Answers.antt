@@ -1,3 +1,4 @@
+-- Behind `scan` stands one number, and nothing more.
 use Rattle.std.proofs.Common.{[], refl}
 use Rattle.std.proofs.lemmas.Bool.{false≢true}
 use Rattle.std.proofs.lemmas.List.Elements.{All-nil}

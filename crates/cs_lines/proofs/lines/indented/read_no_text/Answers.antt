@@ -1,3 +1,4 @@
+-- Behind `no` stands `text`, and behind that one of two words, `lexeme` or `scan`.
 use Rattle.std.proofs.Common.{ℕ, List, [], ◌∷◌, refl, sym, subst}
 use Rattle.std.proofs.lemmas.Bool.{false≢true}
 use Rattle.std.specs.Prelude.{codes}

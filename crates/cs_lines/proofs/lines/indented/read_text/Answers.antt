@@ -1,3 +1,4 @@
+-- Behind `text` the rest is taken whole, spaces and all, and is a quoted text.
 use Rattle.std.proofs.Common.{◌≡◌, [], sym, ap, ◌∙◌}
 use Rattle.cs_lines.proofs.OnLines.Indented.{text_words, says_text_line}
 use Rattle.cs_lines.proofs.OnLines.Splits.{behind_free, joined_split, split_not_none}

@@ -1,3 +1,4 @@
+-- Behind `tokens` stand names alone.
 use Rattle.std.proofs.Common.{[], refl, sym, subst}
 use Rattle.std.proofs.lemmas.List.Elements.{All-nil}
 use Rattle.std.specs.Prelude.{codes, All}

@@ -1,3 +1,4 @@
+-- The word is compared with each of the twelve, and is none of them where none is the same.
 use Rattle.std.proofs.Common.{refl}
 use Rattle.std.proofs.lemmas.Bool.{false≢true}
 use Rattle.cs_lines.specs.declared.lines.keyword.Keyword.TheVariants as first

@@ -1,3 +1,4 @@
+-- The word is `first`, `last` or `next`, or no row has it.
 use Rattle.std.proofs.Common.{refl}
 use Rattle.std.proofs.lemmas.Bool.{false≢true}
 use Rattle.cs_lines.proofs.OnLines.Parts.{no_row}

@@ -1,3 +1,4 @@
+-- The word is `productive`, `reachable` or `empty`, or no set has it.
 use Rattle.std.proofs.Common.{refl}
 use Rattle.std.proofs.lemmas.Bool.{false≢true}
 use Rattle.cs_lines.proofs.OnLines.Parts.{no_set}

@@ -1,3 +1,4 @@
+-- The first word says which of four edits it is, and so which numbers and names stand behind it.
 use Rattle.std.proofs.Common.{[], ◌∷◌, refl}
 use Rattle.std.proofs.lemmas.Bool.{false≢true}
 use Rattle.std.proofs.lemmas.List.Elements.{All-nil, All-cons}

@@ -1,3 +1,4 @@
+-- `infeasible` and `large` stand alone; behind `size` stand its number, the goal's own case and the first one.
 use Rattle.std.proofs.Common.{◌∷◌, refl}
 use Rattle.std.proofs.lemmas.Bool.{false≢true}
 use Rattle.std.specs.Prelude.{codes}

@@ -1,3 +1,4 @@
+-- The word is `nodes` or `bytes`, or it says nothing of sizes.
 use Rattle.std.proofs.Common.{refl}
 use Rattle.std.proofs.lemmas.Bool.{false≢true}
 use Rattle.cs_lines.proofs.OnLines.Parts.{no_weigh}

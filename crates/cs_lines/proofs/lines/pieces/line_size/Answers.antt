@@ -1,3 +1,4 @@
+-- The line ends with the first newline, or with the text where there is none.
 use Rattle.std.proofs.Common.{arith}
 use Rattle.cs_lines.proofs.OnPieces.{len_found, len_none}
 use Rattle.cs_lines.proofs.lines.pieces.line_size.Goals as goal

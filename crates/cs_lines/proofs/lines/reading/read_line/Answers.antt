@@ -1,3 +1,4 @@
+-- The first word is one of twelve, or no line begins with it, and its reader answers for the words behind.
 use Rattle.std.proofs.Common.{ap, ◌∙◌}
 use Rattle.cs_lines.proofs.OnLines.First.{no_keyword, answered}
 use Rattle.cs_lines.specs.Lines.Keywords.{keyword}

@@ -1,3 +1,4 @@
+-- What is left behind one byte spells a text where the whole does, and at the end nothing may be left.
 use Rattle.std.proofs.Common.{sym, subst}
 use Rattle.cs_lines.proofs.OnLines.Spelled.{spelled_at_end, spelled_more, spelled_less}
 use Rattle.cs_lines.specs.Lines.Spelled.{AreSpelled}

@@ -1,3 +1,4 @@
+-- Each byte may follow or the words aren't all names, and at the end they are where no byte is due.
 use Rattle.std.proofs.Common.{get_or, refl, sym, ◌∙◌}
 use Rattle.std.proofs.lemmas.Bool.{false≢true}
 use Rattle.cs_lines.proofs.OnLines.Visible.{walk_step, walk_stop, walk_end, first_and_rest, none_where_short}

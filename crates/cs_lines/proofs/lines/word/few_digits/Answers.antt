@@ -1,3 +1,4 @@
+-- Eighteen digits spell less than 10 ^ 18, so there is room for ten times as much and one digit more.
 use Rattle.std.proofs.Common.{◌^◌, ◌≤◌, arith, lit<}
 use native.Mathlib.Nat.{pow-le-pow_right}
 use Rattle.cs_lines.proofs.lines.word.few_digits.Goals as goal

@@ -1,3 +1,4 @@
+-- Digits are a numeral where there is one of them, or more and the first isn't 0.
 use Rattle.std.proofs.Common.{refl, sym, ◌∙◌, inl, inr, length, arith, get_or}
 use Rattle.std.proofs.lemmas.Bool.{false≢true, not-true, eqb-false, ne_eqb, not_from_false}
 use Rattle.std.specs.Prelude.{◌==◌}

@@ -1,3 +1,4 @@
+-- Behind the last digit the number is that of all digits, or the greatest.
 use Rattle.std.proofs.Common.{ℕ, List, ap, ◌∙◌, min}
 use Rattle.std.proofs.lemmas.List.{take_all}
 use Rattle.cs_bytes.specs.Digits.{number_of}

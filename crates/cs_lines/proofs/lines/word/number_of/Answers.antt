@@ -1,3 +1,4 @@
+-- The digits of a numeral spell its number, and up to nineteen of them spell none above the greatest.
 use Rattle.std.proofs.Common.{◌≡◌, ap, ◌∙◌, min, arith}
 use Rattle.cs_bytes.specs.Digits.{number_of}
 use Rattle.cs_lines.proofs.OnLines.Numerals.{number_numeral, numeral_all}

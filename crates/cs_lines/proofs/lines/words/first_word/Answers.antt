@@ -1,3 +1,4 @@
+-- The bytes before the first space are the first word.
 use Rattle.cs_lines.proofs.OnLines.Splits.{split_at}
 use Rattle.cs_lines.proofs.lines.words.first_word.Goals as goal
 

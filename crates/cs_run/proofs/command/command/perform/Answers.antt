@@ -1,3 +1,4 @@
+-- The command takes what its files mean, what is written of it is asked for, and bad words are no request.
 use Rattle.std.proofs.Common.{Ok, ap, refl, subst}
 use Rattle.cs_words.specs.Requests.{files_in, plain_arguments, plain_request}
 use Rattle.cs_words.specs.Words.{texts}

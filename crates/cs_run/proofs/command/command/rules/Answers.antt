@@ -1,3 +1,4 @@
+-- The rule goals were written or their writing stopped, and the run ends as that did.
 use Rattle.cs_io.specs.Uses.{used}
 use Rattle.cs_run.specs.Writer.Suite.{IsRules}
 use Rattle.cs_run.proofs.OnCommand.Scanned.{ended_sure}

@@ -1,3 +1,4 @@
+-- A writer that halted tells of too many states, of a write that failed or of want of memory.
 use Rattle.std.proofs.Common.{Err, ap}
 use Rattle.cs_io.specs.Uses.{used}
 use Rattle.cs_run.specs.Writer.Suite.{IsSuite}

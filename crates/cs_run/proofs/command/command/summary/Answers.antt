@@ -1,3 +1,4 @@
+-- The summary was written or its writing stopped, and the run ends as that did.
 use Rattle.cs_io.specs.Uses.{used}
 use Rattle.cs_run.specs.Ending.Summary.{IsSummary}
 use Rattle.cs_run.proofs.OnCommand.Scanned.{ended_sure}

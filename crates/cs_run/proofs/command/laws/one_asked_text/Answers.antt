@@ -1,3 +1,4 @@
+-- Files have one list of contents with one meaning, and of that a command but `member` has one text at most.
 use Rattle.cs_run.proofs.OnCommand.OneText.{one_text}
 use Rattle.cs_run.proofs.command.laws.one_asked_text.Goals as goal
 

@@ -1,3 +1,4 @@
+-- The automaton has few states, and what was written by its scanner was written by the pair.
 use Rattle.std.proofs.Common.{sym, subst, List}
 use Rattle.cs_io.specs.Uses.{used}
 use Rattle.cs_lexical.specs.Lines.{IsLexical}

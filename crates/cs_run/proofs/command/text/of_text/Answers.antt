@@ -1,3 +1,4 @@
+-- The text scans to tokens of the yacc file, and what is written of them is written of the text.
 use Rattle.std.proofs.Common.{◌≡◌, ◌∙◌, ℕ, ap, sym, subst, List, length}
 use Rattle.std.specs.Prelude.{All}
 use Rattle.cs_grammar.specs.Grammar.{IsNumberOf, PlainGrammar}

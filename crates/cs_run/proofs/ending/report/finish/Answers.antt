@@ -1,3 +1,4 @@
+-- An ending that is reported, with the status of what was reported, keeps the promises.
 use Rattle.cs_run.proofs.OnEnding.Promises.{keeps}
 use Rattle.cs_run.proofs.ending.report.finish.Goals as goal
 

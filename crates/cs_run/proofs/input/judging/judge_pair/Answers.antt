@@ -1,3 +1,4 @@
+-- Both files are short enough and the yacc file is read, so a lex file that is refused is the first cause.
 use Rattle.std.proofs.Common.{sym, subst}
 use Rattle.cs_run.specs.Input.Refusal.{RefusesRead, pair_contents}
 use Rattle.cs_run.proofs.OnInput.Wholes.{lex_stops}

@@ -1,3 +1,4 @@
+-- The third file is short enough, so that all three are refused for what the pair is refused for.
 use Rattle.std.proofs.Common.{◌≤◌, ℕ, List, length, subst}
 use Rattle.cs_run.specs.Input.Files.{most_for}
 use Rattle.cs_run.proofs.OnInput.Wholes.{text_refused}

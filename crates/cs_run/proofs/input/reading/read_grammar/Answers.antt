@@ -1,3 +1,4 @@
+-- The file begins with the bytes that were read, and is what they mean or is refused as they are.
 use Rattle.std.proofs.Common.{◌+◌, sym, subst}
 use Rattle.cs_io.specs.Desk.{IsBeginning}
 use Rattle.cs_yacc.specs.declared.reading.TheConstants.{MOST_BYTES}

@@ -1,3 +1,4 @@
+-- Both files begin with what was read of them, and where the lex file can't be read the yacc file is there.
 use Rattle.std.proofs.Common.{◌+◌, [], ℕ, Option, sym, subst}
 use Rattle.cs_io.specs.Desk.{Files, IsBeginning}
 use Rattle.cs_yacc.specs.declared.reading.TheConstants.{MOST_BYTES}

@@ -1,3 +1,4 @@
+-- The three files begin with what was read of them, and where one can't be read those before it are there.
 use Rattle.std.proofs.Common.{◌+◌, ◌∷◌, ◌∙◌, [], ℕ, Option, sym, subst}
 use Rattle.cs_io.specs.Desk.{Files, IsBeginning}
 use Rattle.cs_yacc.specs.declared.reading.TheConstants.{MOST_BYTES}

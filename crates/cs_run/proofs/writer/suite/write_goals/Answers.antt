@@ -1,3 +1,4 @@
+-- In either format the means choose what the options choose.
 use Rattle.std.proofs.Common.{subst}
 use Rattle.std.specs.Prelude.{IfOk, OnErr, OnOk}
 use Rattle.cs_choices.specs.declared.format.Format.TheVariants.{One, Two}

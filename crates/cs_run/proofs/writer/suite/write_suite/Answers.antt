@@ -1,3 +1,4 @@
+-- The manifest by the parts of the pair is the pair's suite, and what stops before it has written nothing.
 use Rattle.std.proofs.Common.{◌∙◌, ap, subst, List, Err}
 use Rattle.cs_scanner.specs.Automaton.Counted.{IsAbove}
 use Rattle.cs_scanner.specs.Automaton.Meaning.{res}

@@ -1,3 +1,4 @@
+-- The files that were made are accepted, so none is refused, and their counts are those of the summary.
 use Rattle.std.proofs.Common.{List, ℕ, subst, rules}
 use Rattle.std.specs.Prelude.{string_bytes}
 use Rattle.cs_run.specs.declared.input.refusal.Stop.{Stop}

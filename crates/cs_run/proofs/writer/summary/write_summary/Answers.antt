@@ -1,3 +1,4 @@
+-- A part of the line is a part of the summary, as there is no other one.
 use Rattle.std.proofs.Common.{◌∙◌, List, ℕ, sym, subst}
 use Rattle.cs_run.specs.Ending.Summary.{IsSummary}
 use Rattle.cs_io.specs.Sink.{GrewByPrefix}

@@ -1,3 +1,4 @@
+-- The number of a lexeme is at least 1 and at most 1000000.
 use Rattle.std.proofs.Common.{ℕ, List, sym, subst, take}
 use Rattle.std.specs.Prelude.{All}
 use Rattle.cs_grammar.specs.Grammar.{IsNumberOf}

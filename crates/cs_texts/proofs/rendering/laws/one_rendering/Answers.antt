@@ -1,3 +1,4 @@
+-- Two renderings of the tokens are of one kind, and have the same text, token or count.
 use Rattle.cs_texts.proofs.OnRendering.OneRendering.{rendering_one}
 use Rattle.cs_texts.proofs.rendering.laws.one_rendering.Goals as goal
 

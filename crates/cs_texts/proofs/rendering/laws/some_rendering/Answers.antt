@@ -1,3 +1,4 @@
+-- All tokens have lexemes or a first one has none, and the text scans to the tokens or differs from them.
 use Rattle.cs_texts.proofs.OnRendering.SomeRendering.{rendering_some}
 use Rattle.cs_texts.proofs.rendering.laws.some_rendering.Goals as goal
 

@@ -1,3 +1,4 @@
+-- The first lexeme stands at the start, and each next one behind the separator.
 use Rattle.std.proofs.Common.{ℕ, List, ◌+◌, ◌++◌, take, sym, subst, arith}
 use Rattle.cs_texts.specs.Rendering.Rendering.{IsRuleText}
 use Rattle.cs_texts.proofs.OnRendering.Pieces.{at_first, at_next}

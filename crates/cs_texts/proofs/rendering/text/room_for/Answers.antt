@@ -1,3 +1,4 @@
+-- The tokens before have lexemes, so one that has none is the first, and at the end all have one.
 use Rattle.std.proofs.Common.{arith, take, drop, suc, sym}
 use Rattle.cs_texts.proofs.OnRendering.Pieces.{split_at, have_more, have_all}
 use Rattle.cs_texts.proofs.rendering.text.room_for.Goals as goal

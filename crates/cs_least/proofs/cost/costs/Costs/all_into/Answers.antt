@@ -1,3 +1,4 @@
+-- Symbols with trees within the limit have chosen trees together, whose codes are what is written.
 use Rattle.std.proofs.Common.{◌++◌, List, ℕ, [], refl, sym, ap, ◌∙◌, subst, append-nil}
 use Rattle.std.specs.Prelude.{All}
 use Rattle.std.proofs.lemmas.Result.{on_ok_weaker}

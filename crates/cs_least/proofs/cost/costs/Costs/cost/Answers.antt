@@ -1,3 +1,4 @@
+-- The table says what the least tree of each nonterminal costs, and the cost of a symbol is read from it.
 use Rattle.std.proofs.Common.{List, sym, ap, ◌∙◌, subst}
 use Rattle.cs_grammar.specs.Tree.{IsTree, size}
 use Rattle.cs_grammar.specs.Weights.{Weighed, weighed}

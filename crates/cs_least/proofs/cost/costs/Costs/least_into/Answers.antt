@@ -1,3 +1,4 @@
+-- The symbol's least tree is within the limit, so it has a chosen tree, whose code alone is written.
 use Rattle.std.proofs.Common.{[], refl, sym, subst, append-nil, arith}
 use Rattle.std.proofs.lemmas.List.Elements.{All-nil, All-cons}
 use Rattle.std.proofs.lemmas.Result.{on_ok_weaker}

@@ -1,3 +1,4 @@
+-- What the table says of each symbol adds up to what the least trees of all of them cost together.
 use Rattle.std.proofs.Common.{List, sym, ap, ◌∙◌, subst}
 use Rattle.cs_grammar.specs.Tree.{AreTrees, sizes}
 use Rattle.cs_grammar.specs.Weights.{Weighed, weighed}

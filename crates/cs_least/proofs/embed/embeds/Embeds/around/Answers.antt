@@ -1,3 +1,4 @@
+-- The way outwards gives what stands behind the hole of the chosen context, and the way back what is before.
 use Rattle.std.proofs.Common.{◌++◌, List, ℕ, sym, ap, ◌∙◌, subst}
 use Rattle.cs_grammar.specs.Weights.{Weighed}
 use Rattle.cs_grammar.specs.Context.{code_before}

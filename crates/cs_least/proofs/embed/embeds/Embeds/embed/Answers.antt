@@ -1,3 +1,4 @@
+-- What is told of a nonterminal in the table is what its least context costs.
 use Rattle.std.proofs.Common.{◌≡◌, sym, ◌∙◌, subst}
 use Rattle.cs_grammar.specs.Grammar.{IsNumberOf}
 use Rattle.cs_grammar.specs.Weights.{Weighed}

@@ -1,3 +1,4 @@
+-- The row of a node has steps of the net alone, and each leads to a node.
 use Rattle.std.proofs.Common.{List, refl, sym, subst, arith}
 use Rattle.std.specs.Prelude.{All}
 use Rattle.std.proofs.lemmas.Option.{slice_get_read}

@@ -1,3 +1,4 @@
+-- All words are numerals where the next one is and those behind it are.
 use Rattle.std.proofs.Common.{[]}
 use Rattle.cs_lines.proofs.OnLines.Numerals.{numerals_more, numerals_front, numerals_less, numerals_back}
 use Rattle.cs_lines.specs.Lines.Splits.{words_behind}

@@ -1,3 +1,4 @@
+-- The bytes so far and those that are still spelled are the text, and at the end none is spelled.
 use Rattle.std.proofs.Common.{ℕ, List, [], ◌∷◌, ◌++◌, sym, ap, ◌∙◌, subst, append_assoc, append-nil}
 use Rattle.cs_lines.proofs.OnLines.Spelled.{spells_less, spells_end}
 use Rattle.cs_lines.specs.Lines.Spelled.{Spells}

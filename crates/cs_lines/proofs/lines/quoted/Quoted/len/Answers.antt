@@ -1,3 +1,4 @@
+-- The count so far and the length of what is still spelled are that of the text, and at the end none is spelled.
 use Rattle.std.proofs.Common.{ℕ, List, sym, ap, subst, length, drop, arith, length-drop}
 use Rattle.cs_lines.proofs.OnLines.Spelled.{spells_less, spells_end}
 use Rattle.cs_lines.specs.Lines.Spelled.{Spells}

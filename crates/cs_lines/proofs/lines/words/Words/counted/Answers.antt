@@ -1,3 +1,4 @@
+-- The word, and a number behind it.
 use Rattle.std.proofs.Common.{◌∷◌}
 use Rattle.cs_lines.proofs.OnLines.Parts.{same_behind, step}
 use Rattle.cs_lines.specs.Words.Words.{numeral}

@@ -1,3 +1,4 @@
+-- The next word is the same, or the words don't begin with it.
 use Rattle.std.proofs.Common.{◌≡◌, [], ◌∷◌, refl, sym, ◌∙◌}
 use Rattle.std.proofs.lemmas.Bool.{false≢true}
 use Rattle.cs_lines.proofs.OnLines.Parts.{same_front, front}

@@ -1,3 +1,4 @@
+-- The next word is a name, or the words don't begin with one.
 use Rattle.std.proofs.Common.{◌≡◌, [], ◌∷◌, refl, sym, ◌∙◌, subst}
 use Rattle.std.proofs.lemmas.Bool.{false≢true}
 use Rattle.cs_lines.proofs.OnLines.Parts.{same_front}

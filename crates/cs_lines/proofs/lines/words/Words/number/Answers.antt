@@ -1,3 +1,4 @@
+-- The next word is a numeral, or the words don't begin with one.
 use Rattle.std.proofs.Common.{◌≡◌, [], ◌∷◌, sym, ◌∙◌}
 use Rattle.cs_lines.proofs.OnLines.Parts.{same_front, front}
 use Rattle.cs_lines.specs.Words.Words.{numeral}

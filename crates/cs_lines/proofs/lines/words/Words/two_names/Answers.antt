@@ -1,3 +1,4 @@
+-- A name, and another behind it.
 use Rattle.std.proofs.Common.{◌∷◌}
 use Rattle.cs_lines.proofs.OnLines.Parts.{same_behind, step}
 use Rattle.cs_lines.proofs.lines.words.Words.two_names.Goals as goal

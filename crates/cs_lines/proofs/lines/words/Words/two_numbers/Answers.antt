@@ -1,3 +1,4 @@
+-- A number, the word and another number, and nothing more.
 use Rattle.std.proofs.Common.{[], ◌∷◌, refl}
 use Rattle.std.proofs.lemmas.Bool.{false≢true}
 use Rattle.cs_lines.proofs.OnLines.Parts.{same_behind, same_behind_two, step, step_two}

@@ -1,3 +1,4 @@
+-- A text is its front alone, as its middle and its back are empty.
 use Rattle.std.proofs.Common.{ap, ◌∙◌}
 use Rattle.std.proofs.lemmas.List.{append-nil}
 use Rattle.cs_texts.specs.Rendering.Rendering.{Text}
