@@ -1,3 +1,4 @@
+-- Rule by rule: each one that is put in takes the derivation one step on, until all are.
 use Rattle.std.proofs.Common.{ℕ, List, subst}
 use Rattle.std.proofs.lemmas.List.{take_all}
 use Rattle.cs_grammar.specs.Leftmost.{Derives}

@@ -1,3 +1,4 @@
+-- Settled tokens stand in front of the leftmost nonterminal, and the rule's right side takes its place.
 use Rattle.std.proofs.Common.{List, ◌++◌, reverse, sym, ap, ◌∙◌}
 use Rattle.cs_grammar.specs.declared.symbol.Symbol.{Symbol}
 use Rattle.cs_grammar.specs.Walk.{in_hand}

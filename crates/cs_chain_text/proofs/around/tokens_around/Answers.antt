@@ -1,3 +1,4 @@
+-- The rules before lead from the start to the node, and those behind turn what follows it into tokens.
 use Rattle.std.proofs.Common.{ℕ, List, [], ◌∷◌, ◌++◌, map, reverse, ap, ◌∙◌}
 use Rattle.cs_grammar.specs.declared.symbol.Symbol.TheVariants.{Token, Nonterminal}
 use Rattle.cs_grammar.specs.Walk.{in_hand}

@@ -1,3 +1,4 @@
+-- The code starts with the node's nonterminal alone, and when it ends no nonterminal is left.
 use Rattle.cs_grammar.specs.Walk.{in_hand}
 use Rattle.cs_grammar.proofs.Leading.{front_none}
 use Rattle.cs_chain_text.proofs.OnAround.{inside_is, opened}

@@ -1,3 +1,4 @@
+-- The tokens that were found are those inside the core, and with its parts they make its lines.
 use Rattle.std.proofs.Common.{ℕ, Option, subst}
 use Rattle.std.specs.Prelude.{IfSome}
 use Rattle.std.specs.Global.{Vec}

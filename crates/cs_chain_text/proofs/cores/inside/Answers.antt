@@ -1,3 +1,4 @@
+-- A core with a least size has the tokens of its code; of any other nothing is asked.
 use Rattle.std.proofs.Common.{List, ℕ, subst}
 use Rattle.cs_grammar.specs.Grammar.{PlainGrammar}
 use Rattle.cs_chain_text.specs.Around.{AreTokensIn}

@@ -1,3 +1,4 @@
+-- Neither lexemes nor a rendering can be wanting, so a text of the chains can't be either.
 use Rattle.cs_manifest.proofs.OnManifest.Texts.{some_lexemes_by, some_rendering_by}
 use Rattle.cs_chain_text.proofs.SomeText.{some_text_of}
 use Rattle.cs_chain_text.proofs.laws.some_chains_text.Goals as goal

@@ -1,3 +1,4 @@
+-- The five numbers of the chain, one after another.
 use Rattle.cs_manifest.proofs.OnOutput.Pieces.{then}
 use Rattle.cs_chain_text.proofs.lines.put_chain.Goals as goal
 

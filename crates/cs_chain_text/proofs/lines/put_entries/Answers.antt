@@ -1,3 +1,4 @@
+-- One chain more is counted, and its lines are put.
 use Rattle.cs_manifest.proofs.OnOutput.Pieces.{nothing, spelled, then}
 use Rattle.cs_chain_text.specs.Progress.{IsNamedEntry}
 use Rattle.cs_manifest.proofs.OnOutput.Numbered.{at_place}

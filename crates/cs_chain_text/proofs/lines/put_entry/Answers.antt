@@ -1,3 +1,4 @@
+-- The goal's number and its chain, the verdict's words, and the lines of the text below.
 use Rattle.std.proofs.Common.{◌++◌, List, ℕ, codes, ap, ◌∙◌, subst, Option}
 use Rattle.std.specs.Prelude.{option_map}
 use Rattle.cs_texts.specs.declared.rendering.rendered.Rendered.{Rendered}

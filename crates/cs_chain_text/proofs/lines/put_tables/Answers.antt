@@ -1,3 +1,4 @@
+-- The file's tables, and behind them the lexemes, where there are some.
 use Rattle.std.proofs.Common.{List, ap}
 use Rattle.cs_manifest.proofs.OnOutput.Pieces.{spelled, then}
 use Rattle.cs_manifest.specs.Manifest.Lines.{lexeme_lines}

@@ -1,3 +1,4 @@
+-- A feasible chain's size comes first, below it the derivation, and below that the tokens.
 use Rattle.std.proofs.Common.{◌++◌, [], ap, codes, decimal}
 use Rattle.cs_manifest.specs.Output.Words.{spaced}
 use Rattle.cs_manifest.proofs.OnOutput.Pieces.{spelled, then_below}

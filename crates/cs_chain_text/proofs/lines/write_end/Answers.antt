@@ -1,3 +1,4 @@
+-- The four counts are put one after another, and the line is written or cut short.
 use Rattle.std.proofs.Common.{rules, arith}
 use Rattle.std.proofs.lemmas.Grind.{common_steps}
 use Rattle.std.proofs.lemmas.Result.{err_from_is_err_and}

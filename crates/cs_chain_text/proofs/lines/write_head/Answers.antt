@@ -1,3 +1,4 @@
+-- The title and the tables behind it are written, or cut short where the output fails.
 use Rattle.std.proofs.Common.{rules, arith}
 use Rattle.std.proofs.lemmas.Grind.{common_steps}
 use Rattle.std.proofs.lemmas.Result.{err_from_is_err_and}

@@ -1,3 +1,4 @@
+-- The first four numbers of the chain, one after another.
 use Rattle.cs_manifest.proofs.OnOutput.Pieces.{then}
 use Rattle.cs_chain_text.proofs.parts.put_head.Goals as goal
 

@@ -1,3 +1,4 @@
+-- One number more, with a space before it.
 use Rattle.std.proofs.Common.{decimal}
 use Rattle.cs_manifest.proofs.OnOutput.Pieces.{nothing, spaced_more}
 use Rattle.cs_chain_text.proofs.parts.put_numbers.Goals as goal

@@ -1,3 +1,4 @@
+-- The parts of two pieces are the one piece and then the other.
 use Rattle.cs_manifest.proofs.OnOutput.Pieces.{then}
 use Rattle.cs_chain_text.proofs.parts.put_part.Goals as goal
 

@@ -1,3 +1,4 @@
+-- The head stands in front, and behind it what the cost says: no tree, a large one, or the tree's lines.
 use Rattle.std.proofs.Common.{ℕ, refl, subst}
 use Rattle.cs_least.specs.declared.cost.cost.Cost.TheVariants.{Never, Large, Least}
 use Rattle.cs_manifest.proofs.OnOutput.Pieces.{spelled, then}

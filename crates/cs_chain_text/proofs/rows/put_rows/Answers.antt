@@ -1,3 +1,4 @@
+-- One row more is counted under the number that comes next, and its lines are put.
 use Rattle.std.proofs.Common.{◌≡◌, ◌+◌, ap, ◌∙◌, arith, take}
 use Rattle.cs_manifest.proofs.OnOutput.Pieces.{nothing, spelled, then}
 use Rattle.cs_chain_text.specs.declared.tally.Tally.{Tally}

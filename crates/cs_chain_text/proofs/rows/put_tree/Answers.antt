@@ -1,3 +1,4 @@
+-- The size, and the five pieces behind it.
 use Rattle.cs_manifest.proofs.OnOutput.Pieces.{then}
 use Rattle.cs_chain_text.proofs.rows.put_tree.Goals as goal
 

@@ -1,3 +1,4 @@
+-- The frame and the core are kept, their costs add up, and the chain is theirs.
 use Rattle.cs_chain_text.proofs.rows.row_of.Goals as goal
 
 pub returns : goal.returns

@@ -1,3 +1,4 @@
+-- One row more for one chain more, until all chains have theirs.
 use Rattle.std.proofs.Common.{List, [], sym, subst}
 use Rattle.std.proofs.lemmas.List.{take_all}
 use Rattle.cs_chain.specs.declared.chains.chain.Chain.{Chain}

@@ -1,3 +1,4 @@
+-- The frame's lines are those of the file at the weights of the work, and no text is asked for.
 use Rattle.std.proofs.Common.{subst}
 use Rattle.cs_grammar.specs.Weights.{Weighed}
 use Rattle.cs_chain_text.specs.Rows.{AreFrameLines}

@@ -1,3 +1,4 @@
+-- The chains that were left are those of the batch and those that are left now.
 use Rattle.std.proofs.Common.{◌≡◌, List, [], ◌∷◌, ◌++◌, append_assoc, length, length-append, sym, ap, ◌∙◌, arith}
 use Rattle.cs_chain.specs.declared.chains.chain.Chain.{Chain}
 use Rattle.cs_chain_text.proofs.writing.next_batch.Goals as goal

@@ -1,3 +1,4 @@
+-- The head, the goals and the end make up the text, and a stop at any of them leaves a front of it.
 use Rattle.std.proofs.Common.{refl, sym, ap, ◌∙◌}
 use Rattle.std.proofs.lemmas.Result.{err_from_is_err_and}
 use Rattle.cs_grammar.specs.Grammar.{PlainGrammar}

@@ -1,3 +1,4 @@
+-- The output that was lent to the buffer is the one at hand, so it took what was written of the chains.
 use Rattle.std.proofs.Common.{ap, rules, arith}
 use Rattle.std.proofs.lemmas.Grind.{common_steps}
 use Rattle.cs_io.proofs.Out.{grown, no_part, on_err, part_grown}

@@ -1,3 +1,4 @@
+-- The rows of a batch are the entries of its chains, as many as there are chains.
 use Rattle.std.proofs.Common.{ℕ, subst, sym}
 use Rattle.std.proofs.lemmas.Result.{err_from_is_err_and}
 use Rattle.cs_io.specs.Lines.{IsCutShort, IsWritten}

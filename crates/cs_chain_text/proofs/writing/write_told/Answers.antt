@@ -1,3 +1,4 @@
+-- What the workers tell is an entry of each chain, in the order of the batch.
 use Rattle.std.proofs.Common.{List, ℕ, length, refl, subst, sym}
 use Rattle.std.specs.Prelude.{All}
 use Rattle.std.proofs.lemmas.Result.{err_from_is_err_and}

@@ -1,3 +1,4 @@
+-- Goal by goal, what was kept and what the goals that are left would give make up the bases.
 use Rattle.std.proofs.Common.{◌+◌, ◌-◌, ◌^◌, ◌≤◌, length, refl, subst, sym, ap, ◌∙◌, arith, List}
 use Rattle.std.specs.Prelude.{Option}
 use Rattle.cs_goals.specs.declared.goal.Goal.{Goal}

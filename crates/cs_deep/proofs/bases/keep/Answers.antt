@@ -1,3 +1,4 @@
+-- A feasible goal offers the tokens of its derivation, and any other leaves the bases as they are.
 use Rattle.cs_deep.proofs.Keeping.{keeps_feasible, keeps_infeasible, keeps_large}
 use Rattle.std.proofs.Common.{List, ℕ, subst, sym}
 use Rattle.cs_grammar.specs.Leftmost.{IsYield}

@@ -1,3 +1,4 @@
+-- Each candidate that is taken stands last, until no edit is left or as many as are taken at once.
 use Rattle.std.proofs.Common.{◌≡◌, List, [], ◌∷◌, length, length-append, subst, ap, arith}
 use Rattle.std.specs.Prelude.{Option, Some}
 use Rattle.cs_deep.specs.Candidates.{TakesNext}

@@ -1,3 +1,4 @@
+-- Neither lexemes nor a rendering can be wanting, so a text of the bases can't be either.
 use Rattle.cs_deep.proofs.SomeDeep.{some_text_of}
 use Rattle.cs_manifest.proofs.OnManifest.Texts.{some_lexemes_by, some_rendering_by}
 use Rattle.cs_deep.proofs.laws.some_deep.Goals as goal

@@ -1,3 +1,4 @@
+-- A list that has a tree is inside by the tree's code, and one that has none is outside.
 use Rattle.std.proofs.Common.{◌≡◌, ◌↔◌, ℕ, List, refl, sym, ◌∙◌}
 use Rattle.cs_deep.specs.Membership.{membership_lines, outside_line}
 use Rattle.cs_grammar.specs.Grammar.{PlainGrammar}

@@ -1,3 +1,4 @@
+-- The numbers of the edit and its base, the edit, its tokens below, and the lines of its text.
 use Rattle.std.proofs.Common.{◌∷◌, ◌++◌, List, [], ℕ, codes, ap, ◌∙◌, subst, Option}
 use Rattle.std.specs.Prelude.{option_map}
 use Rattle.cs_bytes.specs.Names.{space}

@@ -1,3 +1,4 @@
+-- One edit more is counted in its class, and its lines are put where it is outside.
 use Rattle.std.proofs.Common.{ap, ◌∙◌}
 use Rattle.cs_deep.proofs.Counting.{counted_more, counted_none, lines_more, room_within}
 use Rattle.cs_deep.specs.Deep.{EditEntry}

@@ -1,3 +1,4 @@
+-- An edit that is outside has its lines, and any other has none.
 use Rattle.std.proofs.Common.{Bool, [], ap, ◌∙◌}
 use Rattle.std.specs.Prelude.{if◌then◌else◌}
 use Rattle.cs_deep.specs.Classes.{is_outside}

@@ -1,3 +1,4 @@
+-- The numbers of the base and its goal are put, and the line is written or cut short.
 use Rattle.std.proofs.Common.{rules, arith}
 use Rattle.std.proofs.lemmas.Grind.{common_steps}
 use Rattle.std.proofs.lemmas.Result.{err_from_is_err_and}

@@ -1,3 +1,4 @@
+-- Inside, the derivation stands behind the word; outside, the word is all.
 use Rattle.std.proofs.Common.{List, ℕ, ap}
 use Rattle.cs_deep.specs.Membership.{membership_lines}
 use Rattle.cs_manifest.proofs.OnOutput.Pieces.{spelled, then}

@@ -1,3 +1,4 @@
+-- The head, the bases and the end make up the text, and a stop at any of them leaves a front of it.
 use Rattle.std.proofs.Common.{◌≡◌, ◌≤◌, List, ℕ, length, subst, sym, ap, ◌∙◌}
 use Rattle.std.proofs.lemmas.Result.{err_from_is_err_and}
 use Rattle.cs_deep.proofs.Telling.{bases_stop, editable, end_cut, few_goals_of, head_cut, kept_list, memory_first, whole}

@@ -1,3 +1,4 @@
+-- Batch by batch, the edits that were classed and those that are left are all edits of the base.
 use Rattle.std.proofs.Common.{◌≡◌, ◌<◌, List, [], ◌++◌, ℕ, length, refl, subst, sym, ap, ◌∙◌, arith}
 use Rattle.std.specs.Borrow.{Bor}
 use Rattle.std.specs.Prelude.{All, Some}

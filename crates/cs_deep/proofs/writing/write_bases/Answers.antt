@@ -1,3 +1,4 @@
+-- Base by base, its opening and its edits stand behind those of the bases before it.
 use Rattle.std.proofs.Common.{◌≡◌, ◌+◌, ◌<◌, ◌≤◌, List, [], ◌∷◌, ℕ, drop, get_or, length, length-drop, refl, subst, sym, ap, ◌∙◌, arith, suc, add-one}
 use Rattle.std.specs.Prelude.{Some}
 use Rattle.std.proofs.Math.Seq.{drop-cons}

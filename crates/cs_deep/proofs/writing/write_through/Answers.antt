@@ -1,3 +1,4 @@
+-- The text of the bases is told and then flushed whole, and a stop leaves a part of it.
 use Rattle.std.proofs.Common.{◌∙◌, arith}
 use Rattle.std.proofs.lemmas.Result.{err_from_is_err_and}
 use Rattle.cs_deep.specs.Progress.{IsDeepOf, choice_of}

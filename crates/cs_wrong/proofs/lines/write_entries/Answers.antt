@@ -1,3 +1,4 @@
+-- What was put of the slips is written, or cut short where the output fails.
 use Rattle.std.proofs.Common.{rules, arith}
 use Rattle.std.proofs.lemmas.Grind.{common_steps}
 use Rattle.std.proofs.lemmas.Result.{err_from_is_err_and}

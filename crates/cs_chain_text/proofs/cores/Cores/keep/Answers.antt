@@ -1,3 +1,4 @@
+-- The lines that are pushed stand last, and their place is noted at the rule.
 use Rattle.cs_chain_text.proofs.OnParts.{cores_more}
 use Rattle.cs_chain_text.proofs.cores.Cores.keep.Goals as goal
 

@@ -1,3 +1,4 @@
+-- The verdict has a derivation, so its tokens can be told, and they are few enough for a text.
 use Rattle.std.proofs.Common.{List, ℕ, refl, sym, subst}
 use Rattle.std.specs.Prelude.{IfSome, option_map}
 use Rattle.cs_grammar.specs.Grammar.{IsGrammar, PlainGrammar}

@@ -1,3 +1,4 @@
+-- The tokens that were found are those around the frame, and with its parts they make its lines.
 use Rattle.std.proofs.Common.{Option, subst}
 use Rattle.std.specs.Prelude.{IfSome}
 use Rattle.cs_chain_text.specs.declared.around.Around.{Around}

@@ -1,3 +1,4 @@
+-- No edit is taken yet, and the walk over the negatives has the same edits in front of it.
 use Rattle.std.proofs.Common.{ap, ◌∙◌}
 use Rattle.cs_deep.proofs.Taking.{begun, begun_is}
 use Rattle.cs_grammar.specs.Grammar.{PlainGrammar}

@@ -1,3 +1,4 @@
+-- The first edit is marked exactly where it is the negative that stands ahead, and else that stays ahead.
 use Rattle.std.proofs.Common.{ap, sym, ◌∙◌}
 use Rattle.cs_mutate.specs.Negatives.{Search}
 use Rattle.cs_deep.proofs.Taking.{looked_so, met_left, met_taken, no_edit, none_ahead, passed_left, passed_taken, refused_so}

@@ -1,3 +1,4 @@
+-- The tokens of an edited list are those of the grammar, and each of them has a lexeme.
 use Rattle.std.proofs.Common.{List, ℕ, sym, subst, ◌∙◌}
 use Rattle.std.specs.Prelude.{All}
 use Rattle.cs_grammar.specs.Grammar.{IsNumberOf}

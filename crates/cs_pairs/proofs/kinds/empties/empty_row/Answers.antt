@@ -1,3 +1,4 @@
+-- Trees of empty yield are those of the grammar of empty yields, which is well formed as well.
 use Rattle.std.proofs.Common.{◌≡◌, ℕ, List, map, sym, ap, ◌∙◌, subst}
 use Rattle.std.proofs.lemmas.Result.{IfOk-weaker}
 use Rattle.cs_grammar.specs.Grammar.{Production, PlainGrammar, IsGrammar, grammar_of}

@@ -1,3 +1,4 @@
+-- One nonterminal more has its entry, which is what any tree of it costs at least.
 use Rattle.std.proofs.Common.{◌+◌, sym, ap, ◌∙◌, subst}
 use Rattle.cs_grammar.specs.declared.symbol.Symbol.TheVariants.{Nonterminal}
 use Rattle.cs_grammar.specs.Grammar.{PlainGrammar, IsGrammar}

@@ -1,3 +1,4 @@
+-- Trees are settled size by size, so there is a chosen one, and no tree of its kind is smaller.
 use Rattle.cs_pairs.proofs.OnKinds.ChosenKinds.{IsTree-of_kind, of_kind_least}
 use Rattle.cs_pairs.proofs.OnKinds.KindsSettled.{of_kind_exists}
 use Rattle.cs_pairs.proofs.kinds.laws.chosen_of_kind_exists.Goals as goal

@@ -1,3 +1,4 @@
+-- The first tree is that of the kind itself, or it stands before it and the rest of the list is alike.
 use Rattle.cs_pairs.proofs.OnKinds.Flattened.{flat_of_kind}
 use Rattle.cs_pairs.proofs.kinds.laws.flat_of_kind.Goals as goal
 

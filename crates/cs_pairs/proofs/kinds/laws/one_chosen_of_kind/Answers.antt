@@ -1,3 +1,4 @@
+-- Two chosen trees have the same root and chosen children alike, and of any yield they are the symbol's.
 use Rattle.cs_pairs.proofs.OnKinds.ChosenKinds.{one_of_kind, any_chosen, chosen_any}
 use Rattle.cs_pairs.proofs.kinds.laws.one_chosen_of_kind.Goals as goal
 

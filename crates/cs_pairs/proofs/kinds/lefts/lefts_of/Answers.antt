@@ -1,3 +1,4 @@
+-- One rule more stands last in the list of its left side.
 use Rattle.std.proofs.Common.{◌≡◌, ◌-◌, List, Some, length, refl, ap, ◌∙◌, subst, arith}
 use Rattle.std.specs.Prelude.{slice_get}
 use Rattle.std.proofs.lemmas.Option.{slice_get_read}

@@ -1,3 +1,4 @@
+-- The steps lead from symbols of the grammar to symbols of the grammar, which are the nodes.
 use Rattle.std.proofs.Common.{◌+◌, ap, ◌∙◌, subst, arith}
 use Rattle.cs_grammar.specs.Grammar.{PlainGrammar, IsGrammar}
 use Rattle.cs_grammar.specs.Weights.{Weighed}

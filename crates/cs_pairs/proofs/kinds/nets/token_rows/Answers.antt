@@ -1,3 +1,4 @@
+-- One token more has its row.
 use Rattle.std.proofs.Common.{◌+◌, sym, subst}
 use Rattle.cs_pairs.specs.Kinds.Sides.{kind_on}
 use Rattle.cs_pairs.specs.Kinds.Tables.{AreCostRows}

@@ -1,3 +1,4 @@
+-- No place comes before those of the first rule, so there is no step yet.
 use Rattle.std.proofs.Common.{[], refl, ⊎_elim, arith}
 use Rattle.cs_least.specs.Embed.Ways.{at_rule, at_place}
 use Rattle.cs_grammar.specs.Places.{IsEarlier}

@@ -1,3 +1,4 @@
+-- Trees of any kind are all trees, so they cost what the sum of the costs says, which is capped.
 use Rattle.std.proofs.Common.{subst}
 use Rattle.cs_grammar.specs.Weights.{Weighed}
 use Rattle.cs_grammar.specs.Tree.{AreTrees, sizes}

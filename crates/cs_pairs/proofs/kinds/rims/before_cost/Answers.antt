@@ -1,3 +1,4 @@
+-- Empty trees stand before the first token, and any trees before the last.
 use Rattle.std.proofs.Common.{sym, subst}
 use Rattle.cs_pairs.specs.Kinds.KindCost.{AreKindCost}
 use Rattle.cs_pairs.specs.Kinds.Sides.{before_on}

@@ -1,3 +1,4 @@
+-- Any trees stand behind the first token, and empty ones behind the last.
 use Rattle.std.proofs.Common.{sym, subst}
 use Rattle.cs_pairs.specs.Kinds.KindCost.{AreKindCost}
 use Rattle.cs_pairs.specs.Kinds.Sides.{behind_on}

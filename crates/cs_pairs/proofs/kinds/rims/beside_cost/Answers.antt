@@ -1,3 +1,4 @@
+-- The node costs one, and to it come the trees before the child and those behind it.
 use Rattle.std.proofs.Common.{◌≡◌, sym, ap, ◌∙◌, subst}
 use Rattle.cs_grammar.specs.Weights.{Weighed}
 use Rattle.cs_least.specs.declared.cost.cost.Cost.{Cost}

@@ -1,3 +1,4 @@
+-- A token's yield is never empty, and a nonterminal has its entry in the row of empty trees.
 use Rattle.std.proofs.Common.{get_or, sym, subst}
 use Rattle.cs_grammar.specs.declared.symbol.Symbol.{Symbol}
 use Rattle.cs_grammar.specs.Weights.{Weighed}

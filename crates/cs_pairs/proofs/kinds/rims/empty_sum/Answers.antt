@@ -1,3 +1,4 @@
+-- From the last symbol to the first, the cost of one empty tree more is added to that of those behind it.
 use Rattle.std.proofs.Common.{◌≡◌, ◌+◌, ◌-◌, ◌<◌, List, ◌∷◌, length, get_or, drop, sym, ap, ◌∙◌, subst, arith}
 use Rattle.std.proofs.lemmas.List.{drop_all}
 use Rattle.cs_grammar.specs.declared.symbol.Symbol.{Symbol}

@@ -1,3 +1,4 @@
+-- From the last symbol to the first, one stands in front of those that are swept.
 use Rattle.std.proofs.Common.{◌≡◌, ◌+◌, ◌-◌, ◌<◌, length, drop, ap, sym, subst, ◌∙◌, arith}
 use Rattle.cs_grammar.specs.declared.symbol.Symbol.TheVariants.{Token}
 use Rattle.cs_pairs.specs.Kinds.ListCost.{bare_cost}

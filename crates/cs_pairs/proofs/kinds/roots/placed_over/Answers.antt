@@ -1,3 +1,4 @@
+-- The tree of the kind stands at this symbol where that costs at most what a later place costs.
 use Rattle.std.proofs.Common.{subst}
 use Rattle.cs_pairs.specs.declared.kinds.kind.TreeKind.{TreeKind}
 use Rattle.cs_pairs.specs.Kinds.KindCost.{IsKindCost}

@@ -1,3 +1,4 @@
+-- A tree at the rim alone costs as much, whichever kind it has there, and the node costs one more.
 use Rattle.std.proofs.Common.{◌-◌, ◌<◌, length, get_or, subst, arith}
 use Rattle.cs_grammar.specs.declared.symbol.Symbol.TheVariants.{Token}
 use Rattle.cs_least.specs.Cost.Rank.{rank}

@@ -1,3 +1,4 @@
+-- The place that was found is that of the chosen list, so the parts that are pending are those of its trees.
 use Rattle.std.proofs.Common.{◌++◌, ℕ, List, reverse, sym, ap, subst, ◌∙◌, arith, append-nil}
 use Rattle.std.specs.Prelude.{All}
 use Rattle.std.proofs.lemmas.Result.{on_ok_weaker}

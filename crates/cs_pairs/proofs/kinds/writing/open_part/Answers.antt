@@ -1,3 +1,4 @@
+-- The rule at the root is written, and its children stand in front with the kinds that the chosen tree gives.
 use Rattle.std.proofs.Common.{List, [], ◌∷◌, refl, sym, ap, subst, ◌∙◌}
 use Rattle.std.specs.Prelude.{All}
 use Rattle.std.proofs.lemmas.Result.{on_ok_weaker}

@@ -1,3 +1,4 @@
+-- A token has no code, a tree of any yield is written whole, and of any other the root is written.
 use Rattle.std.proofs.Common.{sym, subst}
 use Rattle.std.proofs.lemmas.Result.{on_ok_weaker}
 use Rattle.cs_grammar.specs.Weights.{Weighed}

@@ -1,3 +1,4 @@
+-- The steps and the trees that are pending stay within the limit, so no code is left when the steps end.
 use Rattle.std.proofs.Common.{[], inr, sym, subst, append-nil, ◌≤◌}
 use Rattle.cs_least.proofs.OnCost.Written.{grown_more}
 use Rattle.cs_pairs.proofs.OnKinds.Written.{writes_none, taken_fits, taken_small, writes_more, writes_all}

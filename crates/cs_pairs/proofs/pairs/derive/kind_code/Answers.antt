@@ -1,3 +1,4 @@
+-- The code of the list of one symbol is that of its one tree.
 use Rattle.cs_pairs.proofs.OnPairs.Laying.{code_of_one, small_one}
 use Rattle.cs_pairs.proofs.pairs.derive.kind_code.Goals as goal
 

@@ -1,3 +1,4 @@
+-- One second token more has its row of costs and its row of meetings.
 use Rattle.std.proofs.Common.{◌≡◌, List, Option, sym, ap, ◌∙◌, subst, arith}
 use Rattle.cs_grammar.specs.Grammar.{PlainGrammar}
 use Rattle.cs_least.specs.declared.cost.cost.Cost.{Cost}

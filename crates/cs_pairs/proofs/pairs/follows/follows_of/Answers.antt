@@ -1,3 +1,4 @@
+-- The least way inwards and the first token cost what the pair costs, and the way begins where they meet.
 use Rattle.std.proofs.Common.{◌≡◌, ◌+◌, ◌<◌, List, length, sym, ap, ◌∙◌, subst, arith}
 use Rattle.std.specs.Prelude.{All}
 use Rattle.cs_grammar.specs.declared.symbol.Mark.TheVariants.{Token}

@@ -1,3 +1,4 @@
+-- One rule more has its row of fronts and its row of what stands behind.
 use Rattle.std.proofs.Common.{◌≡◌, ◌+◌, List, Some, refl, ap, subst, ◌∙◌}
 use Rattle.std.specs.Prelude.{slice_get}
 use Rattle.std.proofs.lemmas.Option.{slice_get_read}

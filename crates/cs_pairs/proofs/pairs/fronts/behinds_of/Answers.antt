@@ -1,3 +1,4 @@
+-- What stands behind one place more is the rest of the right side, and the sum is what it costs.
 use Rattle.std.proofs.Common.{◌+◌, ◌∙◌, ap, drop, List}
 use Rattle.cs_grammar.specs.declared.symbol.Symbol.{Symbol}
 use Rattle.cs_least.proofs.OnEmbed.Lists.{rest_is}

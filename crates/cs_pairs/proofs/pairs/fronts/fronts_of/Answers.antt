@@ -1,3 +1,4 @@
+-- The front of the next place is that of this one with a tree of the symbol between them.
 use Rattle.std.proofs.Common.{◌+◌, ◌-◌, ◌<◌, List, length, get_or, take, refl, ap, sym, ◌∙◌, subst}
 use Rattle.cs_grammar.specs.declared.symbol.Symbol.{Symbol}
 use Rattle.cs_grammar.specs.declared.symbol.Symbol.TheVariants.{Token}

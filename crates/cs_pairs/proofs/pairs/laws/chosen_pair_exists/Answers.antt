@@ -1,3 +1,4 @@
+-- A tree of two tokens is cut where they meet, and one of a pair with an end is the start symbol's of a kind.
 use Rattle.cs_pairs.proofs.OnPairs.ChosenPairs.{pair_exists, pair_has, pair_least}
 use Rattle.cs_pairs.proofs.pairs.laws.chosen_pair_exists.Goals as goal
 

@@ -1,3 +1,4 @@
+-- From the last rule to the first, the sources of one rule more stand before those of the rules behind it.
 use Rattle.std.proofs.Common.{◌≡◌, ◌+◌, ◌-◌, List, length, get_or, reverse, sym, ap, ◌∙◌, subst, arith}
 use Rattle.cs_grammar.specs.Grammar.{Production, PlainGrammar}
 use Rattle.cs_least.specs.declared.ways.step.Source.{Source}

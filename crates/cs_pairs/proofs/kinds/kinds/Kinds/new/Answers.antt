@@ -1,3 +1,4 @@
+-- Each row that was made holds the costs of its kind: all trees, empty ones, and those by a token at a side.
 use Rattle.std.proofs.Common.{sym, subst}
 use Rattle.cs_grammar.specs.Grammar.{PlainGrammar}
 use Rattle.cs_grammar.specs.Weights.{Measure}

@@ -1,3 +1,4 @@
+-- Each kind has its own row, which stands at the token's place where the kind has a token.
 use Rattle.std.proofs.Common.{get_or, ap, ◌∙◌}
 use Rattle.cs_pairs.specs.declared.kinds.kind.TreeKind.TheVariants.{Any, Empty}
 use Rattle.cs_pairs.proofs.OnKinds.KindCosts.{costs_held, begins_held, ends_held}

@@ -1,3 +1,4 @@
+-- A token is a leaf, and a nonterminal has its entry in the row of the kind.
 use Rattle.std.proofs.Common.{sym, subst}
 use Rattle.cs_grammar.specs.declared.symbol.Symbol.{Symbol}
 use Rattle.cs_grammar.specs.declared.symbol.Symbol.TheVariants.{Token}

@@ -1,3 +1,4 @@
+-- No symbol is swept, so the whole and the rest cost what no trees of their kinds cost.
 use Rattle.std.proofs.Common.{ap, ◌∙◌}
 use Rattle.cs_pairs.specs.Kinds.Kinds.{behind}
 use Rattle.cs_pairs.specs.Kinds.ListCost.{bare_cost}

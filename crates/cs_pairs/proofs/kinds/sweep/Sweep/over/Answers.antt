@@ -1,3 +1,4 @@
+-- The symbol is the token that is swept.
 use Rattle.std.proofs.Common.{◌∷◌, sym, subst}
 use Rattle.cs_grammar.specs.declared.symbol.Symbol.{Symbol}
 use Rattle.cs_pairs.specs.Kinds.Sweep.{IsSwept}

@@ -1,3 +1,4 @@
+-- The whole costs the lesser of the two ways, and the rest costs the symbol's tree and the rest behind it.
 use Rattle.std.proofs.Common.{◌∷◌, sym, subst}
 use Rattle.cs_grammar.specs.Tree.{size, sizes}
 use Rattle.cs_least.specs.Cost.Least.{IsCost}

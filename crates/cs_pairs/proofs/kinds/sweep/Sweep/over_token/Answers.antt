@@ -1,3 +1,4 @@
+-- Behind the first token itself anything may stand, and a list with another in front doesn't begin with it.
 use Rattle.cs_pairs.proofs.OnKinds.Sweeping.{swept_first, swept_other}
 use Rattle.cs_pairs.proofs.kinds.sweep.Sweep.over_token.Goals as goal
 

@@ -1,3 +1,4 @@
+-- The tree of the kind has the rest behind it here, and later a tree that may stand before has the whole.
 use Rattle.std.proofs.Common.{sym, subst}
 use Rattle.cs_grammar.specs.Tree.{size}
 use Rattle.cs_least.specs.Cost.Least.{IsCost}

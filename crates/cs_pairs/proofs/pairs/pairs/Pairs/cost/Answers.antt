@@ -1,3 +1,4 @@
+-- Two tokens have their entry in the row of the second, and a pair with an end costs the least tree of a kind.
 use Rattle.std.proofs.Common.{get_or, ap, ◌∙◌, arith}
 use Rattle.cs_grammar.specs.declared.symbol.Mark.TheVariants.{Begin, Token, End}
 use Rattle.cs_grammar.specs.Grammar.{IsNumberOf}

@@ -1,3 +1,4 @@
+-- The least tree of a pair with an end is a small tree of its kind, and the start symbol's.
 use Rattle.cs_pairs.proofs.OnPairs.Derived.{first_small, last_small, none_small}
 use Rattle.cs_pairs.proofs.pairs.pairs.Pairs.derive.Goals as goal
 

@@ -1,3 +1,4 @@
+-- The tokens have a least tree, so the row of the second tells where the first meets it.
 use Rattle.std.proofs.Common.{◌≡◌, Some, None, get_or, sym, ap, ◌∙◌, subst, arith}
 use Rattle.cs_grammar.specs.declared.symbol.Mark.TheVariants.{Token}
 use Rattle.cs_grammar.specs.Grammar.{IsNumberOf}
