@@ -1,3 +1,4 @@
+-- What is said of the sink's output is said of the output, and nothing is a part of each text.
 use Rattle.std.proofs.Common.{ap, rules, arith}
 use Rattle.std.proofs.lemmas.Grind.{common_steps}
 use Rattle.cs_io.proofs.Out.{grown, no_part, on_err, part_grown}

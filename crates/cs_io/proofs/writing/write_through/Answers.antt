@@ -1,3 +1,4 @@
+-- What the sink took a part of, its output took a part of; and what holds by each text holds, as there is one.
 use Rattle.std.proofs.Common.{List, ℕ, ◌∙◌, subst, arith}
 use Rattle.std.proofs.lemmas.Result.{err_from_is_err_and}
 use Rattle.cs_io.specs.Sink.{GrewByPrefix}

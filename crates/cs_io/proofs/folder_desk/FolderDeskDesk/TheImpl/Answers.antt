@@ -1,3 +1,4 @@
+-- Its reading says what a desk's does, as it tells no files and is never steady.
 use Rattle.std.proofs.Common.{arith, rules}
 use Rattle.cs_io.proofs.folder_desk.FolderDeskDesk.TheImpl.Goals as goal
 

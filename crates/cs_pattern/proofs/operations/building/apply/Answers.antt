@@ -1,3 +1,4 @@
+-- A definition that is put in stands last on the next stack, all of whose patterns are shallow.
 use Rattle.std.proofs.Common.{subst}
 use Rattle.std.specs.Prelude.{All}
 use Rattle.cs_pattern.specs.declared.operations.operations.Op.{Op}

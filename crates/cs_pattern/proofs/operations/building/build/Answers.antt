@@ -1,3 +1,4 @@
+-- Operation by operation the stack is that of the run, whose patterns stay shallow, and the tree's pattern ends on top.
 use Rattle.std.proofs.Common.{◌+◌, ◌∙◌, List, [], refl, ap, arith}
 use Rattle.std.proofs.lemmas.List.{take_all}
 use Rattle.cs_pattern.specs.declared.operations.operations.Op as code

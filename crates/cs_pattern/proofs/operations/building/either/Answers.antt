@@ -1,3 +1,4 @@
+-- Where there isn't one part alone, the parts stay an either.
 use Rattle.std.proofs.Common.{◌≡◌, ◌∙◌, arith}
 use Rattle.cs_pattern_parts.specs.Tree.Pattern.{Either}
 use Rattle.cs_pattern.proofs.OnOperations.Stacks.{several_parts}

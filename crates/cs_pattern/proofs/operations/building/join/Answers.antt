@@ -1,3 +1,4 @@
+-- Where there isn't one part alone, the parts stay a join.
 use Rattle.std.proofs.Common.{◌≡◌, ◌∙◌, arith}
 use Rattle.cs_pattern_parts.specs.Tree.Pattern.{Join}
 use Rattle.cs_pattern.proofs.OnOperations.Stacks.{several_parts}

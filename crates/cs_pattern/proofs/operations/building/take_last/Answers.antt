@@ -1,3 +1,4 @@
+-- The stack is split as many patterns before its end as are taken, or at its start where it has fewer.
 use Rattle.std.proofs.Common.{◌≡◌, ◌-◌, length, arith}
 use Rattle.cs_pattern.proofs.OnOperations.Stacks.{taken, kept}
 use Rattle.cs_pattern.proofs.operations.building.take_last.Goals as goal

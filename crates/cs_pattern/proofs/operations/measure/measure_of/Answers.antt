@@ -1,3 +1,4 @@
+-- Operation by operation the stack is that of the run, and the tree's measure ends on top.
 use Rattle.std.proofs.Common.{◌∙◌, List, [], ap, arith}
 use Rattle.std.proofs.lemmas.List.{take_all}
 use Rattle.cs_pattern.specs.declared.operations.operations.Op as code

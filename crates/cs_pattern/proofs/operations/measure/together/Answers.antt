@@ -1,3 +1,4 @@
+-- One part more: the greater depth, and the leaves added.
 use Rattle.cs_pattern.proofs.OnOperations.Measuring.{together_more}
 use Rattle.cs_pattern.proofs.operations.measure.together.Goals as goal
 

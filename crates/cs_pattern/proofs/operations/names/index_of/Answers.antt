@@ -1,3 +1,4 @@
+-- An entry stands at the position of its definition, as both have one name.
 use Rattle.std.proofs.Common.{◌∙◌, sym}
 use Rattle.std.specs.Str.{bytes_eq}
 use Rattle.cs_pattern.specs.Operations.Definitions.{definition_of}

@@ -1,3 +1,4 @@
+-- Item by item the reader's state is that of the steps, and after all items of a tree it has the tree's operations.
 use Rattle.std.proofs.Common.{◌≡◌, ◌≤◌, ◌∙◌, List, [], length, take, ap, arith}
 use Rattle.std.proofs.lemmas.List.{length-map, take_all}
 use Rattle.cs_pattern_parts.specs.Items.Items.{items_of}

@@ -1,3 +1,4 @@
+-- Measure by measure those before are within the limits, so the first that passes one is the definition refused.
 use Rattle.std.proofs.Common.{◌<◌, length, sym, arith}
 use Rattle.std.proofs.lemmas.Option.{slice_get-get_or, slice_get_within}
 use Rattle.cs_pattern.proofs.OnText.Staged.{too_large_at, limits_more}

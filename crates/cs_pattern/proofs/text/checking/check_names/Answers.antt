@@ -1,3 +1,4 @@
+-- Text by text the names before are defined, so the first name that isn't refuses the definitions.
 use Rattle.std.proofs.Common.{◌≡◌, ◌∙◌, List, refl, sym, ap, subst, arith, inl, inr}
 use Rattle.std.specs.Prelude.{Some, slice_get}
 use Rattle.std.specs.Global.{Vec}

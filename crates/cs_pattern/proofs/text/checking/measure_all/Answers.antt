@@ -1,3 +1,4 @@
+-- What a definition uses stands before it in the order, so its measure is its tree's, as theirs are known.
 use Rattle.std.proofs.Common.{◌≡◌, ◌<◌, ◌∙◌, List, length, get_or, take, drop, suc, refl, subst, arith}
 use Rattle.std.specs.Prelude.{Some, Contains, slice_get}
 use Rattle.std.proofs.Math.ListN.{length-set}

@@ -1,3 +1,4 @@
+-- One definition more has the operations of its items, and those before keep theirs.
 use Rattle.std.proofs.Common.{◌≡◌, ◌∙◌, List, refl, sym, ap, subst, arith, inl, inr, ◌∷◌, [], length-append}
 use Rattle.std.specs.Prelude.{Some, slice_get}
 use Rattle.std.proofs.lemmas.Option.{slice_get_read, slice_get_within}

@@ -1,3 +1,4 @@
+-- Each index stands once in the order, so a later place is set at another index.
 use Rattle.std.proofs.Common.{◌∙◌, List, sym, arith}
 use Rattle.std.proofs.Math.ListN.{length-set}
 use Rattle.std.proofs.lemmas.List.{length-map}

@@ -1,3 +1,4 @@
+-- Text by text those before are read, so the first that stops refuses the definitions.
 use Rattle.std.proofs.Common.{◌≡◌, ◌≤◌, ◌∷◌, [], ◌∙◌, ℕ, List, length, sym, ap, subst, arith, inl, inr, length-append}
 use Rattle.std.specs.Prelude.{Some, slice_get}
 use Rattle.std.proofs.lemmas.List.{length-map}

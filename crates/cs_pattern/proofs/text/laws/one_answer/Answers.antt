@@ -1,3 +1,4 @@
+-- A text has one reading, its items one derivation, and with definitions put in one tree, so one pattern or fault.
 use Rattle.cs_pattern.proofs.OnText.OneAnswer.{one_pattern_of, one_fault, no_fault}
 use Rattle.cs_pattern.proofs.OnText.PuttingIn.{one_tree_of}
 use Rattle.cs_pattern.proofs.text.laws.one_answer.Goals as goal

@@ -1,3 +1,4 @@
+-- A text is read into one list of items, and that has one derivation.
 use Rattle.std.proofs.Common.{◌∙◌, ap}
 use Rattle.cs_pattern_parts.specs.Items.Items.{items_of}
 use Rattle.cs_pattern.proofs.OnText.Readings.{one_reading}

@@ -1,3 +1,4 @@
+-- Two readings take the same items from the beginning on, so they end or stop at the same place.
 use Rattle.cs_pattern.proofs.OnText.Readings as readings
 use Rattle.cs_pattern.proofs.OnText.Pairs.{pair_is}
 use Rattle.cs_pattern.proofs.text.laws.one_reading.Goals as goal

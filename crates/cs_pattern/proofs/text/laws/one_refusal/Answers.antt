@@ -1,3 +1,4 @@
+-- Of two refusals neither index is the lower one, and at one index there is one fault; accepted texts have none.
 use Rattle.cs_pattern.proofs.OnText.OneRefusal.{one_refusal, no_refusal}
 use Rattle.cs_pattern.proofs.OnText.Pairs.{pair_is}
 use Rattle.cs_pattern.proofs.text.laws.one_refusal.Goals as goal

@@ -1,3 +1,4 @@
+-- One operation more adds the place of what it puts in.
 use Rattle.cs_pattern.proofs.OnText.Pending.{used_more}
 use Rattle.cs_pattern.proofs.text.needed.add_used.Goals as goal
 

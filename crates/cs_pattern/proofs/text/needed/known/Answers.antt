@@ -1,3 +1,4 @@
+-- The last needed comes first, so what a definition puts in is known before it, and its tree isn't deep.
 use Rattle.std.proofs.Common.{suc, ◌≡◌, ◌-◌, subst, arith}
 use Rattle.cs_pattern.proofs.OnText.Knowing.{AreKnownFrom, known_none, known_step, shallow_next}
 use Rattle.cs_pattern.proofs.text.needed.known.Goals as goal

@@ -1,3 +1,4 @@
+-- The last that waits uses only what stands before it in the order, so all that waits then stands lower.
 use Rattle.std.proofs.Common.{◌≡◌, ℕ, [], List, ap, ◌∙◌, subst, arith}
 use Rattle.std.proofs.lemmas.Bool.{false≢true}
 use Rattle.cs_pattern.specs.Operations.Operations.{ops_of}

@@ -1,3 +1,4 @@
+-- The measure is that of the text's tree, so it tells whether there is a pattern or a limit is passed.
 use Rattle.std.proofs.Common.{◌≡◌, ℕ, List, sym, subst}
 use Rattle.std.specs.Prelude.{Some, None}
 use Rattle.cs_pattern_parts.specs.Items.Views.{placed_all}

@@ -1,3 +1,4 @@
+-- The needed definitions are known by their patterns, and within the depth, so what is built is the tree's pattern.
 use Rattle.std.proofs.Common.{List, sym, subst}
 use Rattle.cs_pattern.specs.Text.Checked.{AreChecked}
 use Rattle.cs_pattern.specs.Text.Needed.{AreNeeded, KnowNeeded}

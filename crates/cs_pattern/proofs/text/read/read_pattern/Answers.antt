@@ -1,3 +1,4 @@
+-- The items are read and their names defined, and what holds of each pattern of the text holds of the one returned.
 use Rattle.std.proofs.Common.{◌≤◌, subst, rules, arith, ap, length}
 use Rattle.std.specs.Prelude.{IfOk}
 use Rattle.std.proofs.lemmas.List.{length-map}

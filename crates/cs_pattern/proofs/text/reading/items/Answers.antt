@@ -1,3 +1,4 @@
+-- One item more, where it may stand, and each takes a byte or more.
 use Rattle.std.proofs.Common.{length, arith, ap}
 use Rattle.std.proofs.lemmas.List.{map_push, length-drop}
 use Rattle.cs_pattern_parts.specs.Items.Views.{item_of, placed_of}

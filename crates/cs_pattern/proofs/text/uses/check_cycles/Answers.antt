@@ -1,3 +1,4 @@
+-- A definition none of whose items leads to it doesn't reach itself, so the first that has one is the one refused.
 use Rattle.std.proofs.Common.{◌≡◌, ℕ, List, length, refl, sym, ap, subst, arith, inl, inr}
 use Rattle.std.specs.Prelude.{Some, slice_get}
 use Rattle.std.specs.List.{AllByRecursion}

@@ -1,3 +1,4 @@
+-- No item before leads to the definition, so the one that does is the first.
 use Rattle.std.proofs.Common.{arith}
 use Rattle.cs_pattern.specs.Operations.Definitions.{definitions_of}
 use Rattle.cs_pattern.proofs.OnText.Listing.{first_there, item_used}

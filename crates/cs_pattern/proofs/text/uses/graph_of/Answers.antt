@@ -1,3 +1,4 @@
+-- The row of each definition is what its items use.
 use Rattle.std.proofs.Common.{◌≡◌, ◌∷◌, [], ◌∙◌, List, refl, ap, arith, length-append}
 use Rattle.std.specs.Prelude.{Some, slice_get}
 use Rattle.std.specs.List.{filter_map}

@@ -1,3 +1,4 @@
+-- The definition uses what the item names, so that reaches back exactly where both are of one component.
 use Rattle.std.proofs.Common.{◌≡◌, sym, subst, inr, arith}
 use Rattle.std.specs.Prelude.{Some}
 use Rattle.std.proofs.lemmas.Bool.Decides.{Decides-eqb}

@@ -1,3 +1,4 @@
+-- An order of the graph is one of the definitions, which then have no cycle; where there is none, they have one.
 use Rattle.cs_pattern.specs.Operations.Definitions.{definitions_of}
 use Rattle.cs_pattern.proofs.OnText.Linked.{is_graph, order_of_uses, no_cycle_of_uses, cycle_of_uses}
 use Rattle.cs_pattern.proofs.text.uses.order_of.Goals as goal

@@ -1,3 +1,4 @@
+-- One item more is put behind the others where it names a definition.
 use Rattle.std.proofs.Common.{arith}
 use Rattle.cs_pattern.specs.Operations.Definitions.{definitions_of}
 use Rattle.cs_pattern.proofs.OnText.Listing.{more_uses}

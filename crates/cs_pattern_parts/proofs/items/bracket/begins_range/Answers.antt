@@ -1,3 +1,4 @@
+-- Where two marks stand behind it, the next is a dash or not; else there are too few for a range.
 use Rattle.std.proofs.Common.{◌+◌, ◌∙◌, sym, ap, arith}
 use Rattle.std.proofs.lemmas.List.{get_or-map, length-map}
 use Rattle.cs_pattern_parts.specs.Items.Brackets.{collating}

@@ -1,3 +1,4 @@
+-- Byte by byte the set has those before that are in the class, and after 256 all.
 use Rattle.std.proofs.Common.{arith, ◌∙◌, sym}
 use Rattle.cs_pattern_parts.specs.Items.NamedClasses.{is_in_class}
 use Rattle.cs_pattern_parts.proofs.OnItems.Picked.{below_none, below_in, below_out, below_all}

@@ -1,3 +1,4 @@
+-- The test of a byte refuses none, and that byte alone passes it.
 use Rattle.std.proofs.Common.{refl}
 use Rattle.cs_pattern_parts.proofs.items.bracket.insert_byte.Goals as goal
 

@@ -1,3 +1,4 @@
+-- A range takes three marks, any other member one, and it is added or refused where it begins.
 use Rattle.std.proofs.Common.{arith, sym}
 use Rattle.std.proofs.lemmas.List.{get_or-map, length-map}
 use Rattle.cs_pattern_parts.specs.Items.Brackets.{collating}

@@ -1,3 +1,4 @@
+-- The class has the bytes that pass its test, and they join those that were there.
 use Rattle.std.proofs.Common.{◌≡◌, ◌∙◌, sym, ap, Some}
 use Rattle.std.specs.Prelude.{◌||◌}
 use Rattle.cs_pattern_parts.specs.Items.Members.{has}

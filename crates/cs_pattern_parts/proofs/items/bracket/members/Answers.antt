@@ -1,3 +1,4 @@
+-- Member by member the set has what the marks before give, so at the end it has what all give.
 use Rattle.std.proofs.Common.{arith}
 use Rattle.std.proofs.lemmas.List.{length-map}
 use Rattle.cs_pattern_parts.specs.Items.Views.{mark_of}

@@ -1,3 +1,4 @@
+-- The members as they are, or their complement where the bracket is inverted.
 use Rattle.std.proofs.Common.{◌∙◌, ap, sym}
 use Rattle.cs_pattern_parts.specs.Items.Bracket.{turned, member_bytes}
 use Rattle.cs_pattern_parts.specs.Items.Views.{marks_of}

@@ -1,3 +1,4 @@
+-- The first byte is an octal digit, so the run has one or more.
 use Rattle.std.proofs.Common.{arith}
 use Rattle.cs_bytes.specs.Classes.{is_octal_digit}
 use Rattle.cs_pattern_parts.proofs.OnItems.Moving.{run_some}

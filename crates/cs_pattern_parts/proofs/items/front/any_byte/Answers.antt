@@ -1,3 +1,4 @@
+-- The set into which a newline was put has it alone, so the complement has every other byte.
 use Rattle.std.proofs.Common.{◌∙◌, ap}
 use Rattle.std.specs.Prelude.{not}
 use Rattle.cs_pattern_parts.specs.Items.Items.{class}

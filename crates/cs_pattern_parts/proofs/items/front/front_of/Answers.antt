@@ -1,3 +1,4 @@
+-- What the front tells is what the text spells there, or why it spells none.
 use Rattle.cs_pattern_parts.proofs.OnItems.Fronts.{front_spelled_ok}
 use Rattle.cs_pattern_parts.proofs.items.front.front_of.Goals as goal
 

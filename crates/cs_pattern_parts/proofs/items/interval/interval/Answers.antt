@@ -1,3 +1,4 @@
+-- No digits, a closing brace behind them, no comma behind them, or what stands behind the comma.
 use Rattle.std.proofs.Common.{◌≡◌, ◌≤◌, ◌+◌, ℕ, length, ◌∙◌, sym, arith, ap}
 use Rattle.std.proofs.lemmas.List.{length-drop}
 use Rattle.cs_pattern_parts.specs.declared.items.item.Repetition.{Repetition}

@@ -1,3 +1,4 @@
+-- No closing brace behind the digits; no digits, and so no most; or the digits as the most.
 use Rattle.std.proofs.Common.{◌≡◌, ◌≤◌, ◌+◌, ℕ, length, ◌∙◌, sym, arith, ap}
 use Rattle.cs_pattern_parts.specs.declared.items.item.Repetition.{Repetition}
 use Rattle.cs_pattern_parts.specs.Items.Interval.{sized}

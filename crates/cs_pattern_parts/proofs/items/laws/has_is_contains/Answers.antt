@@ -1,3 +1,4 @@
+-- To have a byte is to contain it, either way.
 use Rattle.cs_pattern_parts.proofs.OnItems.Picked.{has-contains, contains-has}
 use Rattle.cs_pattern_parts.proofs.items.laws.has_is_contains.Goals as goal
 

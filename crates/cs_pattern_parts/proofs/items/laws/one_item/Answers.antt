@@ -1,3 +1,4 @@
+-- Whatever a text spells in front, the front finds, with its size, and the front is one.
 use Rattle.cs_pattern_parts.proofs.OnItems.Fronts.{one_spelled}
 use Rattle.cs_pattern_parts.proofs.items.laws.one_item.Goals as goal
 

@@ -1,3 +1,4 @@
+-- Sets ascend, and ascending lists with the same members are one.
 use Rattle.cs_pattern_parts.proofs.OnItems.Picked.{same_set}
 use Rattle.cs_pattern_parts.proofs.items.laws.one_set.Goals as goal
 

@@ -1,3 +1,4 @@
+-- The end of the run of the whole text is that of the rest, as many bytes on.
 use Rattle.cs_bytes.specs.Classes.{is_inner}
 use Rattle.cs_bytes.proofs.RunEnds.{end_left}
 use Rattle.cs_pattern_parts.proofs.items.mark.mark_at.Goals as goal

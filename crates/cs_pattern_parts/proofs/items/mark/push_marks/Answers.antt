@@ -1,3 +1,4 @@
+-- Mark by mark, each of a byte or more, up to where none stands; the end of the inner run moves on.
 use Rattle.std.proofs.Common.{ℕ, List, ◌+◌, ◌++◌, ◌∷◌, [], ◌∙◌, ap, arith, refl, sym, append_assoc}
 use Rattle.std.proofs.lemmas.List.{map_push}
 use Rattle.cs_bytes.specs.Classes.{is_inner}

@@ -1,3 +1,4 @@
+-- Byte by byte up to where none stands, and there is a closing quote or not.
 use Rattle.std.proofs.Common.{◌≡◌, ◌+◌, ◌∙◌, ap, sym, arith, List, ℕ}
 use Rattle.std.specs.Prelude.{Some, None, if◌then◌else◌}
 use Rattle.cs_bytes.specs.Places.{has_at}

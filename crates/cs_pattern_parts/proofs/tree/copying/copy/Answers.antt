@@ -1,3 +1,4 @@
+-- The nodes left, made again upon the stack, give the pattern at each step.
 use Rattle.std.proofs.Common.{[], ◌∷◌, map}
 use Rattle.cs_pattern_parts.specs.Tree.Nodes.{values}
 use Rattle.cs_pattern_parts.specs.Tree.Pattern.{regex}

@@ -1,3 +1,4 @@
+-- As many copies as the node has parts are on top of the stack, and give way to the node.
 use Rattle.std.proofs.Common.{◌≡◌, ◌∙◌, length, map, arith}
 use Rattle.std.proofs.lemmas.Result.{on_ok_weaker}
 use Rattle.cs_pattern_parts.specs.Tree.Pattern.{regex}

@@ -1,3 +1,4 @@
+-- The copies are the patterns from where the stack is split, and what is left stands before.
 use Rattle.std.proofs.Common.{◌≡◌, ◌-◌, length, arith}
 use Rattle.cs_pattern_parts.proofs.OnTree.Listing.{taken, kept}
 use Rattle.cs_pattern_parts.proofs.tree.copying.take_last.Goals as goal

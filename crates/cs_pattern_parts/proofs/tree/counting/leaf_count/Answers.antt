@@ -1,3 +1,4 @@
+-- Node by node, each adding its own leaves, never more than the pattern has.
 use Rattle.std.proofs.Common.{Bor, ◌∙◌, ◌+◌, ap, arith}
 use Rattle.std.proofs.lemmas.List.{take_all}
 use Rattle.cs_pattern_parts.specs.declared.tree.pattern.Pattern.{Pattern}

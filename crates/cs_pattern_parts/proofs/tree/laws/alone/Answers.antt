@@ -1,3 +1,4 @@
+-- One part with nothing behind it is the part, and so is one of one part; none and more stay as they are.
 use Rattle.cs_pattern_parts.proofs.OnTree.Matching.{join_to, join_from, either_to, either_from}
 use Rattle.cs_pattern_parts.proofs.tree.laws.alone.Goals as goal
 

@@ -1,3 +1,4 @@
+-- The least copies, and then as many optional parts as are between.
 use Rattle.cs_pattern_parts.proofs.OnTree.Matching.{between_to, between_from}
 use Rattle.cs_pattern_parts.proofs.tree.laws.between_counts.Goals as goal
 

@@ -1,3 +1,4 @@
+-- Copy by copy.
 use Rattle.cs_pattern_parts.proofs.OnTree.Matching.{exactly_to, exactly_from}
 use Rattle.cs_pattern_parts.proofs.tree.laws.exact_counts.Goals as goal
 

@@ -1,3 +1,4 @@
+-- The least copies, and then any number.
 use Rattle.cs_pattern_parts.proofs.OnTree.Matching.{least_to, least_from}
 use Rattle.cs_pattern_parts.proofs.tree.laws.least_counts.Goals as goal
 

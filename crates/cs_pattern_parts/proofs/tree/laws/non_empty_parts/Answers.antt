@@ -1,3 +1,4 @@
+-- Parts without a byte can be left out.
 use Rattle.cs_pattern_parts.specs.Tree.Pattern.{Matches}
 use Rattle.cs_pattern_parts.proofs.OnTree.Matching.{non_empty, any_parts}
 use Rattle.cs_pattern_parts.proofs.tree.laws.non_empty_parts.Goals as goal

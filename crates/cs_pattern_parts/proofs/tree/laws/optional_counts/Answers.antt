@@ -1,3 +1,4 @@
+-- The part once, or the empty text.
 use Rattle.cs_pattern_parts.proofs.OnTree.Matching.{optional_to, optional_from}
 use Rattle.cs_pattern_parts.proofs.tree.laws.optional_counts.Goals as goal
 

@@ -1,3 +1,4 @@
+-- The top of the stack gives way to its parts, so the nodes listed and those left are all, and fewer are left.
 use Rattle.cs_pattern_parts.specs.Tree.Nodes.{nodes_of}
 use Rattle.cs_pattern_parts.specs.Tree.Pattern.{regex}
 use Rattle.cs_pattern_parts.proofs.OnTree.Listing.{less_left, one_more}

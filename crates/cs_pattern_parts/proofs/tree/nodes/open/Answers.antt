@@ -1,3 +1,4 @@
+-- The parts of a join, an either or a many are put behind those that wait.
 use Rattle.std.proofs.Common.{◌∙◌, ◌++◌, ap}
 use Rattle.std.proofs.lemmas.Result.{on_ok_weaker}
 use Rattle.cs_pattern_parts.specs.Tree.Nodes.{values}

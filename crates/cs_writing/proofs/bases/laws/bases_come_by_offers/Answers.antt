@@ -1,3 +1,4 @@
+-- The tokens of one entry more are a new base's where it is feasible and they are free; else the bases stay.
 use Rattle.cs_writing.proofs.OnBases.Offers.{takes_free, passes_others}
 use Rattle.cs_writing.proofs.bases.laws.bases_come_by_offers.Goals as goal
 

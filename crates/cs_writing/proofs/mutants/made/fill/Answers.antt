@@ -1,3 +1,4 @@
+-- The row that is there has the opened edit and pair, and every token stands apart, so the token fills it.
 use Rattle.std.proofs.Common.{sym, subst}
 use Rattle.cs_manifest.specs.declared.manifest.open.OpenEdit.{OpenEdit}
 use Rattle.cs_manifest.specs.declared.manifest.open.OpenPair.{OpenPair}

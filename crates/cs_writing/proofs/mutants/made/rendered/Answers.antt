@@ -1,3 +1,4 @@
+-- The number is the numeral's, the base the maker's, and the text the parts around the middle.
 use Rattle.std.proofs.Common.{ap}
 use Rattle.cs_writing.specs.Mutants.Makers.{Making}
 use Rattle.cs_writing.proofs.OnMutants.Entries.{rendered_entry}

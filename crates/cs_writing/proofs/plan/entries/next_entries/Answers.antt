@@ -1,3 +1,4 @@
+-- The goals are placed in the plan's format, and each is joined with its own text, until all are made.
 use Rattle.std.proofs.Common.{List, Option, sym, subst, arith}
 use Rattle.std.specs.Vec.Iter.{into_iter_items}
 use Rattle.cs_choices.specs.declared.format.Format.{Format}

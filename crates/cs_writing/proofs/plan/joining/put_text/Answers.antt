@@ -1,3 +1,4 @@
+-- Token by token, its lexeme and the separator are put; where a token has no lexeme, not all have one.
 use Rattle.std.proofs.Common.{◌≡◌, Some, ◌+◌, ◌++◌, [], List, ℕ, ap, sym, ◌∙◌, subst, take, get_or, append_assoc}
 use Rattle.std.proofs.lemmas.List.{take_more}
 use Rattle.cs_scanner.specs.Lexeme.Lexeme.{lexeme_in}

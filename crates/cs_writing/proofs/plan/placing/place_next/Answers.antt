@@ -1,3 +1,4 @@
+-- Goal by goal, each placed among the cases as the goals before it left them, until none is left or there are 1,024.
 use Rattle.std.proofs.Common.{◌≡◌, List, [], ◌∷◌, Option, length, length-append, refl, sym, ap, ◌∙◌, subst, arith}
 use Rattle.cs_grammar.specs.Grammar.{PlainGrammar}
 use Rattle.cs_grammar.specs.Weights.{Weighed}

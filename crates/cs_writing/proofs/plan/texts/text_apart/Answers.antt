@@ -1,3 +1,4 @@
+-- The text up to the last token and then its lexeme is the rule's text, and of tokens that stand apart it scans back.
 use Rattle.std.proofs.Common.{◌≡◌, List, [], ◌∷◌, ◌++◌, ℕ, Some, sym, subst}
 use Rattle.cs_scanner.specs.Lexeme.Lexeme.{lexeme_in}
 use Rattle.cs_texts.specs.Rendering.Rendering.{IsRuleText}

@@ -1,3 +1,4 @@
+-- An entry whose tokens are there is feasible and offers them; one without isn't, and leaves the bases.
 use Rattle.std.proofs.Common.{subst}
 use Rattle.cs_writing.proofs.OnWriting.Kept.{keeps_one, keeps_other}
 use Rattle.cs_writing.specs.Writing.Mutants.{AreItsTokens}

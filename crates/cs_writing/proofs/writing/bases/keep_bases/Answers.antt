@@ -1,3 +1,4 @@
+-- One entry more keeps its base, behind as many as stand before it.
 use Rattle.std.proofs.Common.{◌+◌, ◌∙◌, arith, take}
 use Rattle.std.proofs.lemmas.List.{length-map}
 use Rattle.cs_writing.specs.Plan.Made.{entries_of, entry_of}

@@ -1,3 +1,4 @@
+-- Entry by entry with the next number, written and counted behind those before; where one is cut short, the batch is.
 use Rattle.std.proofs.Common.{rules, ◌≡◌, ◌+◌, List, ℕ, refl, subst, sym, ap, ◌∙◌, arith}
 use Rattle.std.proofs.lemmas.List.{length-map, take_all}
 use Rattle.std.proofs.lemmas.Result.{err_from_is_err_and}

@@ -1,3 +1,4 @@
+-- A new case is written and counted with its lines, and one that isn't new has none.
 use Rattle.std.proofs.Common.{Bool, List, ℕ, subst, sym, ap, ◌∙◌}
 use Rattle.std.specs.Prelude.{if◌then◌else◌}
 use Rattle.std.proofs.lemmas.Result.{err_from_is_err_and}

@@ -1,3 +1,4 @@
+-- The lines of the case and behind them the goal's, or where either's are cut short, those of the entry are.
 use Rattle.std.proofs.Common.{◌≡◌, List, ℕ, subst, sym, ap, ◌∙◌}
 use Rattle.std.proofs.lemmas.Result.{err_from_is_err_and}
 use Rattle.cs_io.specs.Lines.{IsCutShort, IsWritten}

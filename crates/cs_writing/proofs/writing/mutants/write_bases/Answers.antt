@@ -1,3 +1,4 @@
+-- Base by base, its line and behind it its negatives, numbered on from those before, and where their writing stops.
 use Rattle.std.proofs.Common.{rules, ◌≡◌, ◌+◌, ◌≤◌, List, ℕ, refl, subst, sym, ap, ◌∙◌, arith}
 use Rattle.std.proofs.lemmas.Result.{err_from_is_err_and}
 use Rattle.cs_io.specs.Lines.{IsWritten}

@@ -1,3 +1,4 @@
+-- Each negative that the search finds next is made, numbered, written and counted, and fewer edits are left.
 use Rattle.std.proofs.Common.{◌+◌, ◌≤◌, List, ℕ, length, refl, subst, sym, ap, ◌∙◌, arith}
 use Rattle.std.specs.Prelude.{All, IfSome, Option, Some}
 use Rattle.std.proofs.lemmas.Result.{err_from_is_err_and}

@@ -1,3 +1,4 @@
+-- The head, the entries, the bases and the end, and where their writing stops.
 use Rattle.std.proofs.Common.{◌≡◌, length, subst, sym, ap, ◌∙◌}
 use Rattle.cs_io.specs.Lines.{IsWritten}
 use Rattle.std.proofs.lemmas.Result.{err_from_is_err_and}

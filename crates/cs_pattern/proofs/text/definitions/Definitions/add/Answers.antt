@@ -1,3 +1,4 @@
+-- A name that has no index is the name of no definition, so its entry is put behind the others.
 use Rattle.std.proofs.Common.{subst, ◌+◌, length, arith, ◌≡◌, ◌∙◌, ap, sym, ◌++◌, ◌∷◌, [], ℕ, List, Bool, false, true, refl}
 use Rattle.std.specs.Prelude.{is_some, position, Result, Err, IsErrOf, IsTrue, ◌↔◌}
 use Rattle.std.specs.Str.{bytes_eq}

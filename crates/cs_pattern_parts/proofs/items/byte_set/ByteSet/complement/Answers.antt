@@ -1,3 +1,4 @@
+-- Byte by byte the others are those before that aren't members, and after 256 all.
 use Rattle.std.proofs.Common.{arith, ◌∙◌, ap, sym}
 use Rattle.std.specs.Prelude.{not}
 use Rattle.cs_pattern_parts.specs.Items.Members.{has}

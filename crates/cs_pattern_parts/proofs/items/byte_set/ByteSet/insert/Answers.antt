@@ -1,3 +1,4 @@
+-- The byte's bit is set, and the other bits are as before.
 use Rattle.std.proofs.Common.{◌∙◌, sym, ap, arith}
 use Rattle.std.specs.Prelude.{◌==◌, ◌||◌}
 use Rattle.cs_pattern_parts.specs.Items.Bits.{has_bit}

@@ -1,3 +1,4 @@
+-- One byte more of the range, beside the members that were there before.
 use Rattle.std.proofs.Common.{arith}
 use Rattle.std.proofs.lemmas.Bool.{le-leb}
 use Rattle.cs_pattern_parts.specs.Items.Bits.{has_bit}

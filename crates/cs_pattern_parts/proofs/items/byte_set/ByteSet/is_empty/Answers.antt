@@ -1,3 +1,4 @@
+-- A set with a member isn't empty, and one in which no byte is picked is.
 use Rattle.std.proofs.Common.{arith, refl, ◌∙◌, sym}
 use Rattle.std.proofs.lemmas.Bool.{false≢true}
 use Rattle.cs_pattern_parts.specs.Items.Bits.{has_bit}

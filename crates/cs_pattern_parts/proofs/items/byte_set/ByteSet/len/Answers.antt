@@ -1,3 +1,4 @@
+-- One more for each byte that is a member, and none for the others.
 use Rattle.std.proofs.Common.{arith, ◌≡◌, ◌+◌, ◌∙◌, sym, ap, refl, length}
 use Rattle.cs_pattern_parts.specs.Items.Bits.{has_bit}
 use Rattle.cs_pattern_parts.specs.Items.Members.{has, picked}

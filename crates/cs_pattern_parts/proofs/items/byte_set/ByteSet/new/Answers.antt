@@ -1,3 +1,4 @@
+-- No bit of four zeros is set, so no byte is picked.
 use Rattle.std.proofs.Common.{refl, ◌∷◌, []}
 use Rattle.cs_pattern_parts.specs.Items.Members.{picked}
 use Rattle.cs_pattern_parts.specs.Items.Bits.{has_bit}

@@ -1,3 +1,4 @@
+-- A bit of joined words is set exactly where it is set in one of them.
 use Rattle.std.proofs.Common.{◌∙◌, sym, ap}
 use Rattle.std.specs.Prelude.{◌||◌}
 use Rattle.cs_pattern_parts.specs.Items.Bits.{has_bit}

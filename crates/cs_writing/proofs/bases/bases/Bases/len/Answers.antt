@@ -1,3 +1,4 @@
+-- There are no more bases than there is room for, which is less than 2 ^ 32.
 use Rattle.std.proofs.Common.{arith}
 use Rattle.std.proofs.lemmas.List.{length-map}
 use Rattle.cs_writing.specs.Bases.Bases.{base_in}

@@ -1,3 +1,4 @@
+-- A base has the tokens exactly where the map has them as a key, and the entry of a new key is put last.
 use Rattle.std.proofs.Common.{◌≡◌, ◌∙◌, ℕ, List, ◌∷◌, [], ◌++◌, false, refl, sym, ap, subst, arith}
 use Rattle.std.specs.Prelude.{Option, None, Some, is_some}
 use Rattle.std.specs.Global.{Vec}

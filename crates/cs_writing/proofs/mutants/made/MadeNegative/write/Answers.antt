@@ -1,3 +1,4 @@
+-- The lines of the row filled with the token, or of the rendered entry, are those of the negative.
 use Rattle.std.proofs.Common.{◌≡◌, ap, sym, ◌∙◌, subst}
 use Rattle.std.specs.Prelude.{IfSome, None, OnOk, Option, Some, option_copied, option_map, unwrap_or}
 use Rattle.std.specs.Borrow.{Bor}

@@ -1,3 +1,4 @@
+-- The texts stand in front of the token and behind it; where one isn't there, a token beside has no lexeme.
 use Rattle.std.proofs.Common.{◌≡◌, List, ℕ, sym, ap, ◌∙◌, subst}
 use Rattle.cs_writing.specs.Mutants.Makers.{Making, PlainTools}
 use Rattle.std.specs.Prelude.{IsTrue}

@@ -1,3 +1,4 @@
+-- The pieces are of the file's names and of the lexemes, and the token stands apart.
 use Rattle.std.proofs.Common.{◌∷◌, ap, ◌∙◌, subst}
 use Rattle.cs_bytes.specs.Names.{space}
 use Rattle.cs_manifest.specs.Output.Names.{token_of}
