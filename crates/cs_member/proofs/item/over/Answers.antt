@@ -1,1 +1,0 @@
--- The rule stays, and the place is the next one.

@@ -1,1 +1,0 @@
--- From a rule's base on there is room for each of its items.
