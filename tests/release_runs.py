@@ -45,7 +45,7 @@ DIGEST = digest(program("built"))
 IS_RELEASED = f"conform: {BUILT} is the released program, byte for byte: its SHA-256 is {DIGEST}\n"
 IS_ANOTHER = f"conform: {BUILT} isn't the released program: its SHA-256 is "
 IS_OF_OTHERS = f"conform: {BUILT} isn't compared: the sources aren't those of {SOURCES}\n"
-KITS = "conform: it was built with other kit of tests, the released one with kit of tests\n"
+IS_OF_ANOTHER_KIT = f"conform: {BUILT} isn't compared: it was built with other kit of tests, and the released one with kit of tests\n"
 FAILING_KIT = KIT.replace("cp ", "false ")
 OTHER_KIT = KIT.replace("kit of", "other kit of")
 # What becomes of a tree; the status of --build, parts of its output, and what is said.
@@ -56,7 +56,8 @@ BUILDS = [
     ("a failed build", command("rt", FAILING_KIT), 70, [], [BUILDING, "conform: the build failed; its log is "]),
     ("another kit", command("rt", OTHER_KIT), 0, [IS_RELEASED], [BUILDING]),
     ("a changed source", source("new"), 0, [IS_OF_OTHERS], [BUILDING]),
-    ("another release", all_of(source("low"), Tree.release), 70, [IS_ANOTHER, KITS], [BUILDING]),
+    ("another release of another kit", all_of(source("low"), Tree.release), 0, [IS_OF_ANOTHER_KIT], [BUILDING]),
+    ("another release", command("rt", KIT), 70, [IS_ANOTHER], [BUILDING]),
 ]
 
 

@@ -102,19 +102,21 @@ build() {
   keep_built
 }
 
-# Whether the program that was built is the released one, where it was built of the same sources.
+# Whether the program that was built is the released one, where it was built of the same sources with the same kit.
 compare() {
-  local ours theirs
+  local ours theirs our_kit their_kit
   ours=$(told program "$built_of") theirs=$(told program "$released_of")
+  our_kit=$(told kit "$built_of") their_kit=$(told kit "$released_of")
   if [ ! -e "$top/$released_of" ]; then
     echo "conform: $built isn't compared: there is no $released_of"
   elif [ "$(told sources "$built_of")" != "$(told sources "$released_of")" ]; then
     echo "conform: $built isn't compared: the sources aren't those of $released_of"
   elif [ "$ours" = "$theirs" ]; then
     echo "conform: $built is the released program, byte for byte: its SHA-256 is $ours"
+  elif [ "$our_kit" != "$their_kit" ]; then
+    echo "conform: $built isn't compared: it was built with $our_kit, and the released one with $their_kit"
   else
     echo "conform: $built isn't the released program: its SHA-256 is $ours, and $released_of has $theirs"
-    echo "conform: it was built with $(told kit "$built_of"), the released one with $(told kit "$released_of")"
     return 70
   fi
 }
