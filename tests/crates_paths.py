@@ -12,7 +12,7 @@ import re
 import sys
 
 TOP = pathlib.Path(__file__).resolve().parent.parent
-MOST = 1650
+MOST = 1500
 
 
 def read_needs(text):

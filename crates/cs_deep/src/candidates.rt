@@ -6,8 +6,7 @@ ghost use Rattle.cs_grammar.specs.Grammar.{IsNumberOf};
 ghost use Rattle.cs_mutate.specs.Negatives.{search_of};
 
 use cs_choices::Operators;
-use cs_mutate::{Edit, Edits, Negative, Negatives};
-use cs_pairs::Pairs;
+use cs_mutate::{Edit, Edits, Negative, Negatives, Pairs};
 use std::alloc::{AllocError, Global};
 use std::marker::Model;
 

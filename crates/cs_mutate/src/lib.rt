@@ -6,7 +6,7 @@
 //! edited list by [`apply`] or [`apply_into`], and ask [`poison`] for the first pair of a framed list that stands side
 //! by side in no sentence. [`Negatives`] gives the edits whose results have such a pair, one after another. Of these a
 //! [`Keeper`] gives those that are kept: of the ones with one such pair the first so many of each operator and left
-//! mark.
+//! mark. `Pairs`, which poison is judged by, are those of `cs_pairs`.
 //!
 //! # What a contract sees
 //!
@@ -37,6 +37,7 @@ mod negative;
 mod poisoning;
 mod touched;
 
+pub use cs_pairs::Pairs;
 pub use edit::{Edit, apply, apply_into, edit_fits};
 pub use edits::Edits;
 pub use kept::Keeper;

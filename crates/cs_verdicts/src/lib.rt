@@ -36,6 +36,7 @@ mod positive;
 
 pub use cases::{Cases, Named, one_placing};
 pub use closed::{Closed, Marks, Tokens, one_list_of_sets};
+pub use cs_pairs::Pairs;
 pub use positive::{
     Positive, Positives, Tables, Verdict, chosen_tree_exists_for_goal, chosen_tree_meets, judge,
     judge_tree_goal, one_list_of_positives, one_verdict,

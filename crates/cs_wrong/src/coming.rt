@@ -8,8 +8,7 @@ use crate::lists::{SlipList, list_of};
 use crate::met::Met;
 use crate::slip::Slip;
 use cs_least::{Costs, Embeds};
-use cs_mutate::poison;
-use cs_pairs::Pairs;
+use cs_mutate::{Pairs, poison};
 use std::alloc::{AllocError, Global};
 use std::marker::Model;
 

@@ -23,7 +23,7 @@ use cs_io::{BufferedSink, Halt, Sink};
 use cs_least::{Costs, Embeds};
 use cs_manifest::one_text;
 use cs_member::Recognizer;
-use cs_pairs::Pairs;
+use cs_mutate::Pairs;
 use cs_texts::RenderWork;
 use cs_yacc::YaccFile;
 use std::alloc::Global;

@@ -7,10 +7,8 @@ use Rattle.std.proofs.lemmas.Slice.Zip.{AllZip-long}
 use Rattle.cs_grammar.specs.declared.symbol.Mark.TheVariants.{Begin, Token, End}
 use Rattle.cs_grammar.specs.Grammar.{IsNumberOf}
 use Rattle.cs_goals.specs.Goals.{right_marks}
-use Rattle.cs_pairs.specs.Pairs.Closed.{IsFirstOf, IsLastOf, YieldsNothing}
-use Rattle.cs_pairs.specs.Pairs.Pairs.{IsAdjacent}
 use Rattle.cs_yacc.specs.Reading.File.{File, IsFile}
-use Rattle.cs_verdicts.specs.Closed.Closed.{AreClosedSets, AreEdges, AreThose, ClosedSets, HasContext, HasTree, numbers}
+use Rattle.cs_verdicts.specs.Closed.Closed.{AreClosedSets, AreEdges, AreThose, ClosedSets, HasContext, HasTree, IsAdjacent, IsFirstOf, IsLastOf, YieldsNothing, numbers}
 use Rattle.cs_manifest.specs.Output.Names.{AreNamedMarks, AreNamedNonterminals, AreNamedTokens, IsNamedMark, IsNamedToken}
 use Rattle.cs_manifest.specs.Manifest.Named.{AreNamedSets}
 

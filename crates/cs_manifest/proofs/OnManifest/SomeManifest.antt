@@ -23,7 +23,7 @@ use Rattle.cs_mutate.specs.Negatives.{AreNegatives}
 use Rattle.cs_mutate.specs.Poison.{HasNoPoison, IsFirstPoisoned, IsPair}
 use Rattle.cs_mutate.proofs.Marks.{one_pair}
 use Rattle.cs_mutate.proofs.KeptLists.{some_kept}
-use Rattle.cs_pairs.specs.Pairs.Pairs.{IsAdjacent}
+use Rattle.cs_verdicts.specs.Closed.Closed.{IsAdjacent}
 use Rattle.cs_verdicts.specs.declared.positive.verdict.Verdict.{Verdict}
 use Rattle.cs_verdicts.specs.declared.positive.verdict.Verdict.TheVariants.{Feasible, Infeasible, Large}
 use Rattle.cs_verdicts.specs.Positive.Verdict.{IsVerdict, IsChosenOf, IsMet}

@@ -11,8 +11,6 @@ use Rattle.cs_grammar.specs.Weights.{Weighed}
 use Rattle.cs_goals.specs.declared.goal.Goal.{Goal}
 use Rattle.cs_goals.specs.Goals.{right_marks}
 use Rattle.cs_goals.specs.Meets.{IsMeeting}
-use Rattle.cs_pairs.specs.Pairs.Closed.{IsFirstOf, IsLastOf, YieldsNothing}
-use Rattle.cs_pairs.specs.Pairs.Pairs.{IsAdjacent}
 use Rattle.cs_verdicts.specs.declared.cases.cases.Named.{Named}
 use Rattle.cs_verdicts.specs.Cases.Cases.{IsLowest, IsNew, IsPlaced, PlainCases, with_case}
 use Rattle.cs_verdicts.specs.declared.positive.verdict.Verdict.{Verdict}
@@ -21,7 +19,7 @@ use Rattle.cs_verdicts.specs.Positive.Verdict.{IsVerdict}
 use Rattle.cs_verdicts.proofs.OnPositive.Verdicts.{chosen_met}
 use Rattle.cs_manifest.specs.declared.manifest.entry.SharedVerdict.{SharedVerdict}
 use Rattle.cs_manifest.specs.declared.manifest.entry.SharedVerdict.TheVariants as shared
-use Rattle.cs_verdicts.specs.Closed.Closed.{AreClosedSets, AreEdges, AreNext, AreThose, HasContext, HasTree, numbers}
+use Rattle.cs_verdicts.specs.Closed.Closed.{AreClosedSets, AreEdges, AreNext, AreThose, HasContext, HasTree, IsAdjacent, IsFirstOf, IsLastOf, YieldsNothing, numbers}
 use Rattle.cs_manifest.specs.Manifest.Manifest.{AreShared, GoalEntry, IsEntryOf, IsRenderedBy, IsRenderedIf, IsShared, IsSharedVerdict, SharedEntry, Texts, is_new}
 use Rattle.cs_io.specs.Asked.{IsNotWithout}
 use Rattle.cs_manifest.proofs.OnManifest.Zips.{some_zip}

@@ -9,8 +9,8 @@ use Rattle.cs_grammar.specs.Grammar.{PlainGrammar}
 use Rattle.cs_least.specs.Cost.Chosen as chosen
 pub use Rattle.cs_least.specs.Embed.Around.{HasContext}
 use Rattle.cs_goals.specs.Goals.{right_marks}
-use Rattle.cs_pairs.specs.Pairs.Closed.{IsFirstOf, IsLastOf, YieldsNothing}
-use Rattle.cs_pairs.specs.Pairs.Pairs.{IsAdjacent}
+pub use Rattle.cs_pairs.specs.Pairs.Closed.{IsFirstOf, IsLastOf, YieldsNothing}
+pub use Rattle.cs_pairs.specs.Pairs.Pairs.{IsAdjacent}
 
 -- The lists of such sets, in the order of numbers; lists of lists have one for each nonterminal, or for each token.
 pub record ClosedSets : Type 0 where

@@ -8,7 +8,7 @@ ghost use Rattle.cs_writing.specs.Plan.Plans.{choice_in, format_by, lexemes_in, 
 
 use cs_choices::{Criteria, Format, Operators, Weigh};
 use cs_manifest::{Form, Head};
-use cs_pairs::Pairs;
+use cs_mutate::Pairs;
 use cs_texts::RenderWork;
 use cs_verdicts::Closed;
 use cs_yacc::YaccFile;
