@@ -187,7 +187,7 @@ use Rattle.std.proofs.Common.{◌≡◌, ◌<◌, ◌≤◌, List, ℕ, length, 
 use Rattle.std.proofs.lemmas.List.{length-replicate}
 use Rattle.std.proofs.lemmas.List.Elements.{All-replicate}
 use Rattle.cs_texts.specs.Work.Renders.{TakesTokens}
-use Rattle.cs_texts.specs.declared.work.work.RenderWork.{RenderWork}
+use Rattle.cs_texts.specs.declared.rendering.render_work.RenderWork.{RenderWork}
 
 pub takes : (work : RenderWork) (tokens : List ℕ) (count : ℕ) → length work.lexemes.now ≡ 4 → count ≤ 1000 → tokens ≡ replicate count 1 → TakesTokens work tokens
 takes work tokens count four few ones =

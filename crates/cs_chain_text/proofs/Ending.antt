@@ -13,7 +13,7 @@ use Rattle.cs_io.specs.declared.halt.Halt.TheVariants.{Failed, Memory}
 use Rattle.cs_io.specs.declared.sink.Sink as Sink
 use Rattle.cs_manifest.proofs.OnOutput.Written.{written_none, written_then}
 use Rattle.cs_manifest.specs.Manifest.Manifest.{AreLexemesBy, HasOneText, Texts, measure_of}
-use Rattle.cs_texts.specs.declared.work.work.RenderWork.{RenderWork}
+use Rattle.cs_texts.specs.declared.rendering.render_work.RenderWork.{RenderWork}
 use Rattle.cs_yacc.specs.Reading.File.{File}
 use Rattle.cs_chain.specs.Chains.Chains.{chains}
 use Rattle.cs_choices.specs.declared.weigh.Weigh.{Weigh}

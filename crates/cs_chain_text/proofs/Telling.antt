@@ -13,7 +13,7 @@ use Rattle.cs_grammar.proofs.Measures.{length-yield, IsNumberOf-IsYield}
 use Rattle.cs_grammar.proofs.OneTree.{one_tree}
 use Rattle.cs_texts.specs.Rendering.Rendering.{Rendering}
 use Rattle.cs_texts.specs.Work.Renders.{TakesTokens}
-use Rattle.cs_texts.specs.declared.work.work.RenderWork.{RenderWork}
+use Rattle.cs_texts.specs.declared.rendering.render_work.RenderWork.{RenderWork}
 use Rattle.cs_yacc.specs.Reading.File.{File, IsFile}
 use Rattle.cs_verdicts.specs.declared.positive.verdict.Verdict.{Verdict}
 use Rattle.cs_verdicts.specs.declared.positive.verdict.Verdict.TheVariants as goals

@@ -9,7 +9,7 @@ use Rattle.cs_scanner.specs.Lexeme.Lexeme.{AreLexemes}
 use Rattle.cs_scanner.specs.Scan.Compared.{scanning}
 use Rattle.cs_texts.specs.Rendering.Rendering.{rendering}
 use Rattle.cs_texts.specs.declared.rendering.rendered.Rendered.{Rendered}
-use Rattle.cs_texts.specs.declared.work.work.RenderWork.{RenderWork}
+use Rattle.cs_texts.specs.declared.rendering.render_work.RenderWork.{RenderWork}
 use Rattle.cs_choices.specs.declared.weigh.Weigh.{Weigh}
 use Rattle.cs_manifest.specs.Manifest.Below as below
 use Rattle.cs_yacc.specs.Reading.File.{File}

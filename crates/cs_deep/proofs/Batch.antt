@@ -27,7 +27,7 @@ use Rattle.cs_mutate.specs.Edit.{Fits, HasToken, edited}
 use Rattle.cs_choices.specs.declared.operators.Operators.{Operators}
 use Rattle.cs_mutate.specs.Edits.{edits}
 use Rattle.cs_mutate.specs.Negatives.{Search, search_of}
-use Rattle.cs_texts.specs.declared.work.work.RenderWork.{RenderWork}
+use Rattle.cs_texts.specs.declared.rendering.render_work.RenderWork.{RenderWork}
 use Rattle.std.proofs.lemmas.List.{length-map}
 use Rattle.cs_mutate.specs.declared.edit.Edit.{Edit}
 use Rattle.cs_mutate.specs.declared.edit.Edit.TheVariants.{Delete, Insert, Replace, Swap}

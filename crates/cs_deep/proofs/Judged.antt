@@ -19,7 +19,7 @@ use Rattle.cs_mutate.specs.Poison.{HasNoPoison}
 use Rattle.cs_mutate.specs.declared.edit.Edit.{Edit}
 use Rattle.cs_mutate.specs.declared.edit.Edit.TheVariants.{Delete, Insert, Replace, Swap}
 use Rattle.cs_texts.specs.Rendering.Rendering.{AreTokens, Rendering}
-use Rattle.cs_texts.specs.Work.Renders.{IsRenderedBy}
+use Rattle.cs_texts.specs.Rendering.ByWork.{IsRenderedBy}
 use Rattle.cs_writing.specs.Plan.Plans.{texts_of}
 
 -- the length of an edited list

@@ -8,7 +8,7 @@ use Rattle.cs_scanner.specs.Scan.Compared.{scanning}
 use Rattle.cs_spell.specs.Chosen.{AreRuleVerdicts, RuleVerdict}
 use Rattle.cs_spell.specs.Spelling.{IsSpelling}
 use Rattle.cs_spell.specs.declared.writing.Spelled.{Spelled}
-use Rattle.cs_texts.specs.declared.work.work.RenderWork.{RenderWork}
+use Rattle.cs_texts.specs.declared.rendering.render_work.RenderWork.{RenderWork}
 use Rattle.cs_yacc.specs.Reading.File.{File}
 
 -- what texts are made by

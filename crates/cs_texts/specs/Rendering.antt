@@ -1,4 +1,5 @@
 pub mod Rendering
+pub mod ByWork
 pub mod Joined
 pub mod Parts
 pub mod Laws

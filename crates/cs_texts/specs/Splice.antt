@@ -2,7 +2,6 @@ pub mod Settled
 pub mod Marks
 pub mod Lists
 pub mod Middle
-pub mod Near
 pub mod Spliced
 pub mod Marked
 pub mod Apart

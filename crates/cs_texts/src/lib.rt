@@ -32,6 +32,5 @@ mod rendering;
 mod splice;
 mod work;
 
-pub use rendering::{Rendered, RenderedParts, one_rendering, render, some_rendering};
+pub use rendering::{RenderWork, Rendered, RenderedParts, one_rendering, render, some_rendering};
 pub use splice::{Apart, Prepared, Spliced};
-pub use work::RenderWork;

@@ -5,11 +5,11 @@
 //! `crate::rendering::render` does: the text in three parts, whose middle is in a buffer of the caller. They ask `Apart`, made of what
 //! lists are rendered by, whether a token is known to stand apart: where each token of a list is, the list has a text.
 //!
-//! Meaning: `specs/Splice/Spliced.antt` (what an answer says), `specs/Splice/Near.antt` (what lists are rendered by), `specs/Splice/Apart.antt` (that
-//! tokens that stand apart have lexemes, and that their lists scan back). Working words of proofs: `specs/Splice/Settled.antt` (what the
-//! first bytes of a text settle of its scan), `specs/Splice/Marks.antt`, `specs/Splice/Marked.antt`, `specs/Splice/Middle.antt`, `specs/Splice/Lists.antt`,
-//! `IsTextNear` and `IfTold` of `specs/Splice/Spliced.antt`, and `IsTakenFirst`, `IsPassedBefore`, `StandsApart` and `MarkApart` of
-//! `specs/Splice/Apart.antt`.
+//! Meaning: `specs/Splice/Spliced.antt` (what an answer says), `specs/Splice/Apart.antt` (that tokens that stand apart have
+//! lexemes, and that their lists scan back). Working words of proofs: `specs/Splice/Settled.antt` (what the first bytes of a
+//! text settle of its scan), `specs/Splice/Marks.antt`, `specs/Splice/Marked.antt`, `specs/Splice/Middle.antt`,
+//! `specs/Splice/Lists.antt`, `IsTextNear` and `IfTold` of `specs/Splice/Spliced.antt`, and `IsTakenFirst`, `IsPassedBefore`,
+//! `StandsApart` and `MarkApart` of `specs/Splice/Apart.antt`.
 
 mod apart;
 mod common;

@@ -6,7 +6,7 @@
 //! edited list is told by that of the base where it can be.
 //!
 //! Meaning: `specs/Mutants/Makers` (what makes negatives), `specs/Mutants/Mutants` (what is made of a negative, and what its writing does). Working
-//! words of proofs: `near_of`, `AreSound` and `IsReady` of `Makers`, and `Rows`.
+//! words of proofs: `AreSound` and `IsReady` of `Makers`, and `Rows`.
 
 mod made;
 mod maker;

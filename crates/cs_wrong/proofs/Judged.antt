@@ -12,7 +12,7 @@ use Rattle.cs_grammar.specs.declared.symbol.Mark.TheVariants as marks
 use Rattle.cs_manifest.proofs.OnManifest.Rendered.{named_if}
 use Rattle.cs_manifest.specs.Manifest.Manifest.{IsRenderedIf, Texts}
 use Rattle.cs_manifest.specs.Output.Names.{AreNamedTokens, IsNamedMark}
-use Rattle.cs_texts.specs.declared.work.work.RenderWork.{RenderWork}
+use Rattle.cs_texts.specs.declared.rendering.render_work.RenderWork.{RenderWork}
 use Rattle.cs_wrong.specs.Classes.{IsListClass, IsMet, IsTold, is_wrong}
 use Rattle.cs_wrong.specs.Coming.{IsCandidate, TellsAgain, TellsAt}
 use Rattle.cs_wrong.specs.Entries.{IsNamedClass, IsNamedEntry}

@@ -4,7 +4,7 @@ use Rattle.cs_grammar.specs.Grammar.{PlainGrammar}
 use Rattle.cs_manifest.specs.Manifest.Manifest.{IsRenderedIf}
 use Rattle.cs_texts.specs.Rendering.Rendering.{AreTokens, rendering}
 use Rattle.cs_texts.specs.declared.rendering.rendered.Rendered.{Rendered}
-use Rattle.cs_texts.specs.declared.work.work.RenderWork.{RenderWork}
+use Rattle.cs_texts.specs.declared.rendering.render_work.RenderWork.{RenderWork}
 use Rattle.cs_wrong.specs.Classes.{IsListClass, is_wrong}
 use Rattle.cs_wrong.specs.Coming.{TellsAt}
 use Rattle.cs_wrong.specs.Found.{AreTokensOf, tokens_in}

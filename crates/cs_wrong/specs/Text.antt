@@ -13,7 +13,7 @@ use Rattle.cs_manifest.specs.Output.Words.{line, with_numbers}
 use Rattle.cs_scanner.specs.Lexeme.Lexeme.{AreLexemes}
 use Rattle.cs_scanner.specs.Scan.Compared.{scanning}
 use Rattle.cs_texts.specs.Rendering.Rendering.{Rendering}
-use Rattle.cs_texts.specs.declared.work.work.RenderWork.{RenderWork}
+use Rattle.cs_texts.specs.declared.rendering.render_work.RenderWork.{RenderWork}
 use Rattle.cs_yacc.specs.Reading.File.{File}
 use Rattle.cs_wrong.specs.Classes.{IsOutsideForSure, IsTold, behind, is_again, is_large, is_long, is_nothing, is_sentence, is_wrong}
 use Rattle.cs_wrong.specs.Lists.{IsListOf}

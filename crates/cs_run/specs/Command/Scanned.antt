@@ -14,7 +14,7 @@ use Rattle.cs_run.specs.declared.command.lexemes.Asked.{Asked}
 use Rattle.cs_scanner.specs.declared.scanning.scanner.Scanner.{Scanner}
 use Rattle.cs_scanner.specs.Scan.Compared.{scanning}
 use Rattle.cs_writing.specs.Plan.Plans.{CanRender}
-use Rattle.cs_texts.specs.declared.work.work.RenderWork.{RenderWork}
+use Rattle.cs_texts.specs.declared.rendering.render_work.RenderWork.{RenderWork}
 use Rattle.cs_deep.specs.Membership.{GrewByFront, IsMemberText}
 use Rattle.cs_grammar.specs.Grammar.{PlainGrammar}
 use Rattle.cs_io.specs.Uses.{SinkUse}

@@ -7,7 +7,7 @@ use Rattle.cs_grammar.specs.Weights.{Measure, Weighed}
 use Rattle.cs_manifest.specs.Manifest.Manifest.{Choice, IsManifest, measure_of, rules_form}
 use Rattle.cs_writing.specs.declared.plan.plan.Means.{Means}
 use Rattle.cs_writing.specs.Plan.Plans.{texts_of}
-use Rattle.cs_texts.specs.declared.work.work.RenderWork.{RenderWork}
+use Rattle.cs_texts.specs.declared.rendering.render_work.RenderWork.{RenderWork}
 use Rattle.cs_words.specs.declared.options.Options.{Options}
 use Rattle.cs_yacc.specs.Reading.File.{File}
 

@@ -12,10 +12,10 @@ use Rattle.cs_scanner.specs.Scan.Scan.{Scanning, Gives, IsMatch, Scans, ends, go
 use Rattle.cs_scanner.proofs.OnScan.Together.{begun_more, tail_is}
 use Rattle.cs_scanner.specs.Lexeme.Lexeme.{lexeme_in}
 use Rattle.cs_texts.specs.Rendering.Rendering.{IsRuleText}
+use Rattle.cs_texts.specs.declared.rendering.render_work.RenderWork.{RenderWork}
 use Rattle.cs_texts.specs.Splice.Apart.{IsApart, IsPassedBefore, IsTakenFirst, MarkApart, ScanBack, StandsApart}
 use Rattle.cs_texts.specs.declared.splice.step.GivenToken.TheVariants as variants
 use Rattle.cs_texts.specs.declared.splice.step.Step.{Step}
-use Rattle.cs_texts.specs.Splice.Near.{Near}
 use Rattle.cs_texts.specs.Splice.Settled.{IsSettledBy, IsStep, tokens_of}
 use Rattle.cs_texts.proofs.OnSplice.Aligning.{begins, goes_on, nil_text, one_text}
 use Rattle.cs_texts.proofs.OnSplice.Lists.{pushed}
@@ -93,44 +93,44 @@ module _ (s : Scanning) (lexeme sep : List ℕ) (token : ℕ) (taken : IsTakenFi
       ap (drop (length lexeme)) (append_assoc lexeme sep later) ∙ drop_at lexeme (sep ++ later) (length lexeme) refl in
       after_match ((lexeme ++ sep) ++ later) (token ∷ tokens) true (length lexeme) (token ∷ []) tokens (taken later) (subst (λ t. Scans s t tokens) (sym cut) run) refl
 
-module _ (near : Near) where
+module _ (work : RenderWork) where
   abbrev s : Scanning
-  s = scanning near.scanner
+  s = scanning work.scanner.now
 
-  pub stand_apart : (token : ℕ) (lexeme : List ℕ) → 0 < length lexeme → lexeme_in near.lexemes token ≡ Some lexeme → IsTakenFirst s lexeme near.separator token → IsPassedBefore s near.separator (get_or lexeme 0 0) → StandsApart near token
+  pub stand_apart : (token : ℕ) (lexeme : List ℕ) → 0 < length lexeme → lexeme_in work.lexemes.now token ≡ Some lexeme → IsTakenFirst s lexeme work.separator.now token → IsPassedBefore s work.separator.now (get_or lexeme 0 0) → StandsApart work token
   stand_apart token [] some has taken passed = absurd (omega (arith, some))
   stand_apart token (b ∷ rest) some has taken passed = record { first = b; rest = rest; has = has; taken = taken; passed = passed }
 
   -- token by token: behind its lexeme the separator is passed over, up to the next one's
-  scans_back : (tokens text : List ℕ) → All (StandsApart near) tokens → IsRuleText near.lexemes near.separator tokens text → Scans s text tokens
-  scans_back [] text all rule = ends text [] true (nil_text near.lexemes near.separator text rule) refl refl
+  scans_back : (tokens text : List ℕ) → All (StandsApart work) tokens → IsRuleText work.lexemes.now work.separator.now tokens text → Scans s text tokens
+  scans_back [] text all rule = ends text [] true (nil_text work.lexemes.now work.separator.now text rule) refl refl
   scans_back (t ∷ []) text all rule =
-      let a = All-head (StandsApart near) t [] all in
+      let a = All-head (StandsApart work) t [] all in
       let lexeme = a.first ∷ a.rest in
-      let is : text ≡ lexeme = one_text near.lexemes near.separator t text lexeme a.has rule in
-      subst (λ x. Scans s x (t ∷ [])) (sym is) (scans_alone s lexeme near.separator t a.taken)
+      let is : text ≡ lexeme = one_text work.lexemes.now work.separator.now t text lexeme a.has rule in
+      subst (λ x. Scans s x (t ∷ [])) (sym is) (scans_alone s lexeme work.separator.now t a.taken)
   scans_back (t ∷ u ∷ more) text all rule =
-      let a = All-head (StandsApart near) t (u ∷ more) all in
-      let others = All-tail (StandsApart near) t (u ∷ more) all in
-      let b = All-head (StandsApart near) u more others in
+      let a = All-head (StandsApart work) t (u ∷ more) all in
+      let others = All-tail (StandsApart work) t (u ∷ more) all in
+      let b = All-head (StandsApart work) u more others in
       let lexeme = a.first ∷ a.rest in
-      let on = goes_on near.lexemes near.separator t (u ∷ more) text lexeme (omega arith) a.has rule in
-      let next = begins near.lexemes near.separator u more on.0 (b.first ∷ b.rest) b.has on.2 in
+      let on = goes_on work.lexemes.now work.separator.now t (u ∷ more) text lexeme (omega arith) a.has rule in
+      let next = begins work.lexemes.now work.separator.now u more on.0 (b.first ∷ b.rest) b.has on.2 in
       let later : List ℕ = b.rest ++ next.0 in
       let run : Scans s (b.first ∷ later) (u ∷ more) = subst (λ x. Scans s x (u ∷ more)) next.1 (scans_back (u ∷ more) on.0 others on.2) in
-      let behind : Scans s (near.separator ++ b.first ∷ later) (u ∷ more) = (b.passed later).back (u ∷ more) true run in
-      let is : text ≡ (lexeme ++ near.separator) ++ b.first ∷ later = on.1 ∙ ap (λ r. (lexeme ++ near.separator) ++ r) next.1 in
-      subst (λ x. Scans s x (t ∷ u ∷ more)) (sym is) (scans_before s lexeme near.separator t a.taken (b.first ∷ later) (u ∷ more) behind)
+      let behind : Scans s (work.separator.now ++ b.first ∷ later) (u ∷ more) = (b.passed later).back (u ∷ more) true run in
+      let is : text ≡ (lexeme ++ work.separator.now) ++ b.first ∷ later = on.1 ∙ ap (λ r. (lexeme ++ work.separator.now) ++ r) next.1 in
+      subst (λ x. Scans s x (t ∷ u ∷ more)) (sym is) (scans_before s lexeme work.separator.now t a.taken (b.first ∷ later) (u ∷ more) behind)
 
-  pub scan_back : (marks : List Bool) → MarkApart near marks → ScanBack near marks
-  scan_back marks each tokens text apart rule = scans_back tokens text (All-weaker (IsApart marks) (StandsApart near) each tokens apart) rule
+  pub scan_back : (marks : List Bool) → MarkApart work marks → ScanBack work marks
+  scan_back marks each tokens text apart rule = scans_back tokens text (All-weaker (IsApart marks) (StandsApart work) each tokens apart) rule
 
   -- one mark more, that of the next token
-  pub mark_more : (marks : List Bool) (mark : Bool) → MarkApart near marks → (mark ≡ true → StandsApart near (length marks + 1)) → MarkApart near (marks ++ mark ∷ [])
+  pub mark_more : (marks : List Bool) (mark : Bool) → MarkApart work marks → (mark ≡ true → StandsApart work (length marks + 1)) → MarkApart work (marks ++ mark ∷ [])
   mark_more marks mark each here token apart =
       elim (pushed marks mark true (token - 1) apart.1) [
         | inl there ↦ each token (apart.0, there)
         | inr last ↦
             let place : length marks + 1 ≡ token = omega (arith, last.0, apart.0) in
-            subst (λ n. StandsApart near n) place (here last.1)
+            subst (λ n. StandsApart work n) place (here last.1)
       ]

@@ -13,7 +13,7 @@ use Rattle.cs_texts.specs.Splice.Lists.{IsSameBack, IsSameFront}
 use Rattle.cs_texts.specs.Splice.Marks.{IsMark}
 use Rattle.cs_texts.specs.Splice.Middle.{IsMiddle}
 use Rattle.cs_texts.specs.Splice.Settled.{IsPassed, IsSettledBy}
-use Rattle.cs_texts.specs.Splice.Marked.{IsBack, IsFrontFor, IsMarkAt, IsMarkedList, near_of}
+use Rattle.cs_texts.specs.Splice.Marked.{IsBack, IsFrontFor, IsMarkAt, IsMarkedList}
 use Rattle.cs_texts.specs.Splice.Spliced.{IsTextNear}
 use Rattle.cs_texts.proofs.OnSplice.Aligning.{nil_rule}
 use Rattle.cs_texts.proofs.OnSplice.Marking.{settled_at}
@@ -59,12 +59,12 @@ module _ (p : Marked) where
   pub front_none : (count : ℕ) (put front : List ℕ) → count ≡ 0 → front ≡ [] → IsFrontFor p count put front
   front_none count put front none is =
       let F : ℕ → List ℕ → Type 0 = λ n f. IsFrontFor p n put f in
-      let made : F 0 [] = record { rule = nil_rule p.lexemes.now p.separator.now; passes = λ rest. begun_none (scanning p.scanner.now) (put ++ rest) } in
+      let made : F 0 [] = record { rule = nil_rule p.work.now.lexemes.now p.work.now.separator.now; passes = λ rest. begun_none (scanning p.work.now.scanner.now) (put ++ rest) } in
       subst (λ n. F n front) (sym none) (subst (λ f. F 0 f) (sym is) made)
 
   pub front_some : (count n : ℕ) (put front : List ℕ) (mark : TextMark) → 0 < count → IsMarkAt p (count - 1) mark → mark.read ≡ Some n → take (n - mark.end) put ≡ take (n - mark.end) (drop mark.end p.text.items) → front ≡ take mark.end p.text.items → IsFrontFor p count put front
   front_some count n put front mark some is read same front_is =
-      let s = scanning p.scanner.now in
+      let s = scanning p.work.now.scanner.now in
       let text = p.text.items in
       let e = mark.end in
       let m = n - e in
@@ -74,7 +74,7 @@ module _ (p : Marked) where
       let within : e + m ≤ length text = omega (arith, sum, known.1.0) in
       let F : List ℕ → Type 0 = λ f. IsFrontFor p count put f in
       subst F (sym front_is) (record {
-        rule = subst (λ k. IsRuleText p.lexemes.now p.separator.now (take k p.tokens.now) (take e text)) number is.aligned.front;
+        rule = subst (λ k. IsRuleText p.work.now.lexemes.now p.work.now.separator.now (take k p.tokens.now) (take e text)) number is.aligned.front;
         passes = λ rest.
             let t = (take e text ++ put) ++ rest in
             let first : take n t ≡ take n text = subst (λ k. take k t ≡ take k text) sum (same_first text put rest e m within same) in
@@ -87,14 +87,14 @@ module _ (p : Marked) where
       let tokens = p.tokens.now in
       let nothing : drop (length tokens - count) tokens ≡ [] = drop_all (length tokens - count) tokens (omega (arith, none)) in
       record {
-        rule = subst (λ ts. IsRuleText p.lexemes.now p.separator.now ts back) (sym nothing) (subst (λ t. IsRuleText p.lexemes.now p.separator.now [] t) (sym is) (nil_rule p.lexemes.now p.separator.now));
+        rule = subst (λ ts. IsRuleText p.work.now.lexemes.now p.work.now.separator.now ts back) (sym nothing) (subst (λ t. IsRuleText p.work.now.lexemes.now p.work.now.separator.now [] t) (sym is) (nil_rule p.work.now.lexemes.now p.work.now.separator.now));
         scans = ends back (drop (length tokens - count) tokens) true is nothing refl;
       }
 
   -- behind a match, the rest of the text scans to the rest of the tokens
   pub back_some : (count : ℕ) (back : List ℕ) (mark : TextMark) → IsMarkedList p → IsMarkAt p (length p.tokens.now - count) mark → back ≡ drop mark.start p.text.items → IsBack p count back
   back_some count back mark marked is back_is =
-      let s = scanning p.scanner.now in
+      let s = scanning p.work.now.scanner.now in
       let tokens = p.tokens.now in
       let k = length tokens - count in
       let later = is.is_mark.starts.forth tokens true marked.rendered.1 in
@@ -103,9 +103,9 @@ module _ (p : Marked) where
       subst B (sym back_is) (record { rule = is.aligned.back; scans = subst (λ ts. Runs s (drop mark.start p.text.items) ts true) rest later.2 })
 
   -- the three parts make the text
-  pub told : (tokens front middle back : List ℕ) (stays behind from to : ℕ) → IsSameFront p.tokens.now tokens stays → IsSameBack p.tokens.now tokens stays behind → from ≤ stays → to ≡ length tokens - behind → IsMiddle p.lexemes.now p.separator.now tokens from to middle → IsFrontFor p from middle front → IsBack p behind back → IsBegunBy (scanning p.scanner.now) (middle ++ back) (take (to - from) (drop from tokens)) back → IsTextNear (near_of p) tokens ((front ++ middle) ++ back)
+  pub told : (tokens front middle back : List ℕ) (stays behind from to : ℕ) → IsSameFront p.tokens.now tokens stays → IsSameBack p.tokens.now tokens stays behind → from ≤ stays → to ≡ length tokens - behind → IsMiddle p.work.now.lexemes.now p.work.now.separator.now tokens from to middle → IsFrontFor p from middle front → IsBack p behind back → IsBegunBy (scanning p.work.now.scanner.now) (middle ++ back) (take (to - from) (drop from tokens)) back → IsTextNear p.work.now tokens ((front ++ middle) ++ back)
   told tokens front middle back stays behind from to same_front same_back le to_is is_middle is_front is_back arrives =
-      let s = scanning p.scanner.now in
+      let s = scanning p.work.now.scanner.now in
       let base = p.tokens.now in
       let firsts : take from base ≡ take from tokens = sym (take-take from stays base le) ∙ ap (take from) same_front.same ∙ take-take from stays tokens le in
       let lasts : drop (length base - behind) base ≡ drop to tokens = same_back.same ∙ ap (λ n. drop n tokens) (sym to_is) in
@@ -116,6 +116,6 @@ module _ (p : Marked) where
       let whole : take from base ++ (part ++ drop (length base - behind) base) ≡ tokens =
       ap (λ f. f ++ (part ++ drop (length base - behind) base)) firsts ∙ ap (λ l. take from tokens ++ (part ++ l)) (lasts ∙ sym later) ∙ ap (λ l. take from tokens ++ l) (take-append-drop (to - from) (drop from tokens)) ∙ take-append-drop from tokens in
       let scans = (is_front.passes back).back (part ++ drop (length base - behind) base) true (arrives.back (drop (length base - behind) base) true is_back.scans) in (
-        is_middle front back (subst (λ ts. IsRuleText p.lexemes.now p.separator.now ts front) firsts is_front.rule) (subst (λ ts. IsRuleText p.lexemes.now p.separator.now ts back) lasts is_back.rule),
+        is_middle front back (subst (λ ts. IsRuleText p.work.now.lexemes.now p.work.now.separator.now ts front) firsts is_front.rule) (subst (λ ts. IsRuleText p.work.now.lexemes.now p.work.now.separator.now ts back) lasts is_back.rule),
         subst (λ ts. Runs s ((front ++ middle) ++ back) ts true) whole scans,
       )

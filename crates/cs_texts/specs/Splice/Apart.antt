@@ -5,7 +5,7 @@ use Rattle.cs_scanner.specs.Scan.Compared.{scanning}
 use Rattle.cs_scanner.specs.Scan.Going.{IsBegunBy}
 use Rattle.cs_scanner.specs.Scan.Scan.{Scanning, Gives, Scans}
 use Rattle.cs_texts.specs.Rendering.Rendering.{HasLexeme, IsRuleText}
-use Rattle.cs_texts.specs.Splice.Near.{Near}
+use Rattle.cs_texts.specs.declared.rendering.render_work.RenderWork.{RenderWork}
 
 -- the token, which counts from 1, is one of those that are marked
 abbrev pub IsApart : List Bool → ℕ → Type 0
@@ -19,10 +19,10 @@ abbrev pub HaveLexemes : List (Option (List ℕ)) → List Bool → Type 0
 HaveLexemes lexemes marks = (token : ℕ) → IsApart marks token → HasLexeme lexemes token
 
 -- the rule's text of each list of marked tokens scans to the list
-abbrev pub ScanBack : Near → List Bool → Type 0
-ScanBack near marks =
-    (tokens text : List ℕ) → AreApart marks tokens → IsRuleText near.lexemes near.separator tokens text
-    → Scans (scanning near.scanner) text tokens
+abbrev pub ScanBack : RenderWork → List Bool → Type 0
+ScanBack work marks =
+    (tokens text : List ℕ) → AreApart marks tokens → IsRuleText work.lexemes.now work.separator.now tokens text
+    → Scans (scanning work.scanner.now) text tokens
 
 -- ---- working words of proofs
 
@@ -35,13 +35,13 @@ abbrev pub IsPassedBefore : Scanning → List ℕ → ℕ → Type 0
 IsPassedBefore s separator first = (later : List ℕ) → IsBegunBy s (separator ++ first ∷ later) [] (first ∷ later)
 
 -- the token has a lexeme, which is taken first, and the separator in front of its first byte is passed over
-pub record StandsApart (near : Near) (token : ℕ) : Type 0 where
+pub record StandsApart (work : RenderWork) (token : ℕ) : Type 0 where
   pub first : ℕ
   pub rest : List ℕ
-  pub has : lexeme_in near.lexemes token ≡ Some (first ∷ rest)
-  pub taken : IsTakenFirst (scanning near.scanner) (first ∷ rest) near.separator token
-  pub passed : IsPassedBefore (scanning near.scanner) near.separator first
+  pub has : lexeme_in work.lexemes.now token ≡ Some (first ∷ rest)
+  pub taken : IsTakenFirst (scanning work.scanner.now) (first ∷ rest) work.separator.now token
+  pub passed : IsPassedBefore (scanning work.scanner.now) work.separator.now first
 
 -- each token that is marked stands apart
-abbrev pub MarkApart : Near → List Bool → Type 0
-MarkApart near marks = (token : ℕ) → IsApart marks token → StandsApart near token
+abbrev pub MarkApart : RenderWork → List Bool → Type 0
+MarkApart work marks = (token : ℕ) → IsApart marks token → StandsApart work token

@@ -3,10 +3,10 @@
 ghost use Rattle.std.specs.Prelude.{◌<◌, ◌≤◌, ◌↔◌, IfOk, IsTrue, length};
 ghost use Rattle.cs_scanner.specs.Scan.Compared.{scanning};
 ghost use Rattle.cs_texts.specs.Splice.Apart.{HaveLexemes, IsApart, IsPassedBefore, IsTakenFirst, ScanBack, StandsApart};
-ghost use Rattle.cs_texts.specs.Splice.Spliced.{near_by};
 
+use crate::rendering::RenderWork;
 use crate::splice::step::{GivenToken, step_over};
-use cs_scanner::{Lexemes, Scanner};
+use cs_scanner::Scanner;
 use std::alloc::{AllocError, Global};
 use std::marker::Model;
 
@@ -60,40 +60,33 @@ fn is_passed_before(scanner: &Scanner<'_>, separator: &[u8], first: u8) -> bool
 }
 
 // Whether the token's lexeme stands apart.
-fn stands_apart(scanner: &Scanner<'_>, lexemes: &Lexemes, separator: &[u8], token: u16) -> bool
+fn stands_apart(work: &RenderWork<'_>, token: u16) -> bool
     requires some { 0 < token }
-    requires within { token ≤ length lexemes.now }
-    ensures { IsTrue result
-        → StandsApart (near_by scanner.now lexemes.now separator.now) token }
+    requires within { token ≤ length work.now.lexemes.now }
+    ensures { IsTrue result → StandsApart work.now token }
 {
-    let Some(lexeme) = lexemes.get(token) else {
+    let Some(lexeme) = work.lexemes.get(token) else {
         return false;
     };
     if lexeme.is_empty() {
         return false;
     }
-    is_taken_first(scanner, lexeme, separator, token)
-        && is_passed_before(scanner, separator, lexeme[0])
+    is_taken_first(work.scanner, lexeme, work.separator, token)
+        && is_passed_before(work.scanner, work.separator, lexeme[0])
 }
 
 impl Apart {
     /// Finds such tokens among those from 1 to so many. It is enough that the separator behind a token's lexeme settles the match
     /// of that, and that the first byte of the lexeme settles the matches of the separator, which give nothing. Others that
     /// stand apart may be missed.
-    pub fn new(
-        alloc: Global,
-        scanner: &Scanner<'_>,
-        lexemes: &Lexemes,
-        separator: &[u8],
-        tokens: u16,
-    ) -> Result<Apart, AllocError>
-        requires tokens { tokens ≤ length lexemes.now }
-        ensures lexemes { IfOk result (HaveLexemes lexemes.now) }
-        ensures scan { IfOk result (ScanBack (near_by scanner.now lexemes.now separator.now)) }
+    pub fn new(alloc: Global, work: &RenderWork<'_>, tokens: u16) -> Result<Apart, AllocError>
+        requires tokens { tokens ≤ length work.now.lexemes.now }
+        ensures lexemes { IfOk result (HaveLexemes work.now.lexemes.now) }
+        ensures scan { IfOk result (ScanBack work.now) }
     {
         let mut marks = Vec::new(alloc);
         for place in 0..tokens {
-            marks.push(stands_apart(scanner, lexemes, separator, place + 1))?;
+            marks.push(stands_apart(work, place + 1))?;
         }
         Ok(Apart { marks })
     }

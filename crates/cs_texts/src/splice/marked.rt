@@ -2,24 +2,21 @@
 
 ghost use Rattle.std.specs.Prelude.{◌<◌, ◌≤◌, IfOk, IfSome, length};
 ghost use Rattle.cs_texts.specs.Rendering.Rendering.{AreTokens};
-ghost use Rattle.cs_texts.specs.Splice.Marked.{IfMarkedList, IsBack, IsFrontFor, IsMarkAt, IsMarkedList, near_of};
+ghost use Rattle.cs_texts.specs.Splice.Marked.{IfMarkedList, IsBack, IsFrontFor, IsMarkAt, IsMarkedList};
 ghost use Rattle.cs_texts.specs.Splice.Spliced.{IfTold};
 
-use crate::rendering::{Rendered, render};
+use crate::rendering::{RenderWork, Rendered, render};
 use crate::splice::common::{same_back, same_front};
 use crate::splice::marks::{TextMark, are_lexemes, marks_of};
 use crate::splice::middle::put_middle;
 use crate::splice::parts::{begins_with_part, from_place, up_to};
 use crate::splice::step::arrives;
-use cs_scanner::{Lexemes, Scanner};
 use std::alloc::{AllocError, Global};
 
 /// A list of tokens with its text, and for each token the mark of the match that gives it.
 #[derive(Drop)]
 pub(crate) struct Marked<'a> {
-    scanner: &'a Scanner<'a>,
-    lexemes: &'a Lexemes,
-    separator: &'a [u8],
+    work: &'a RenderWork<'a>,
     tokens: &'a [u16],
     text: Vec<u8>,
     marks: Vec<TextMark>,
@@ -36,28 +33,25 @@ impl<'a> Marked<'a> {
     /// The list with its text. None where it has no text, or where a match of the text's scan isn't a lexeme.
     pub(crate) fn new(
         alloc: Global,
-        scanner: &'a Scanner<'a>,
-        lexemes: &'a Lexemes,
-        separator: &'a [u8],
+        work: &'a RenderWork<'a>,
         tokens: &'a [u16],
     ) -> Result<Option<Marked<'a>>, AllocError>
-        requires tokens { AreTokens lexemes.now tokens.now }
+        requires tokens { AreTokens work.now.lexemes.now tokens.now }
         requires few { length tokens.now ≤ 1000001 }
-        ensures { IfOk result (IfMarkedList scanner.now lexemes.now separator.now) }
+        ensures { IfOk result (IfMarkedList work.now) }
     {
-        let Rendered::Text(text) = render(alloc, scanner, lexemes, separator, tokens)? else {
+        let rendered = render(alloc, work.scanner, work.lexemes, work.separator, tokens)?;
+        let Rendered::Text(text) = rendered else {
             return Ok(None);
         };
-        let Some(marks) = marks_of(alloc, scanner, &text, tokens)? else {
+        let Some(marks) = marks_of(alloc, work.scanner, &text, tokens)? else {
             return Ok(None);
         };
-        if !are_lexemes(lexemes, separator, tokens, &text, &marks) {
+        if !are_lexemes(work.lexemes, work.separator, tokens, &text, &marks) {
             return Ok(None);
         }
         Ok(Some(Marked {
-            scanner,
-            lexemes,
-            separator,
+            work,
             tokens,
             text,
             marks,
@@ -84,7 +78,7 @@ impl<'a> Marked<'a> {
         }
         let mut most = self.mark(stays - 1).end;
         if stays < fewer {
-            most = most.saturating_add(self.separator.len());
+            most = most.saturating_add(self.work.separator.len());
         }
         for count in 0..stays {
             match self.mark(stays - 1 - count).read {
@@ -138,21 +132,22 @@ impl<'a> Marked<'a> {
         tokens: &[u16],
     ) -> Result<Option<Splice<'_>>, AllocError>
         requires marked { IsMarkedList self.now }
-        requires tokens { AreTokens self.now.lexemes.now tokens.now }
-        ensures { IfOk result (IfTold (near_of self.now) tokens.now middle.new.items) }
+        requires tokens { AreTokens self.now.work.now.lexemes.now tokens.now }
+        ensures { IfOk result (IfTold self.now.work.now tokens.now middle.new.items) }
     {
+        let work = self.work;
         let stays = same_front(self.tokens, tokens);
         let behind = same_back(self.tokens, tokens, stays);
         let from = self.kept(stays, self.tokens.len().min(tokens.len()));
         let to = tokens.len() - behind;
-        if !put_middle(middle, self.lexemes, self.separator, tokens, from, to)? {
+        if !put_middle(middle, work.lexemes, work.separator, tokens, from, to)? {
             return Ok(None);
         }
         let Some(front) = self.front(from, middle) else {
             return Ok(None);
         };
         let back = self.back(behind);
-        if arrives(self.scanner, middle, back, &tokens[from..to]) {
+        if arrives(work.scanner, middle, back, &tokens[from..to]) {
             Ok(Some(Splice { front, back }))
         } else {
             Ok(None)

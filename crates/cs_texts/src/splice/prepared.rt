@@ -2,12 +2,11 @@
 
 ghost use Rattle.std.specs.Prelude.{◌≡◌, ◌≤◌, IfOk, length};
 ghost use Rattle.cs_texts.specs.Rendering.Rendering.{AreTokens};
-ghost use Rattle.cs_texts.specs.Splice.Spliced.{RendersNear, near_by};
+ghost use Rattle.cs_texts.specs.Splice.Spliced.{RendersNear};
 
-use crate::rendering::render;
+use crate::rendering::{RenderWork, render};
 use crate::splice::marked::{Marked, Splice};
 use crate::splice::spliced::Spliced;
-use cs_scanner::{Lexemes, Scanner};
 use std::alloc::{AllocError, Global};
 use std::marker::Model;
 
@@ -15,9 +14,7 @@ use std::marker::Model;
 #[derive(Drop)]
 pub struct Prepared<'a> {
     alloc: Global,
-    scanner: &'a Scanner<'a>,
-    lexemes: &'a Lexemes,
-    separator: &'a [u8],
+    work: &'a RenderWork<'a>,
 
     // None where the list has no text, or where a match of its scan isn't a lexeme.
     list: Option<Marked<'a>>,
@@ -26,41 +23,32 @@ pub struct Prepared<'a> {
 impl<'a> Model for Prepared<'a> {
     ghost use Rattle.std.specs.Coded.{codes};
     ghost use Rattle.cs_pattern_parts.specs.contracts.tree.pattern.Pattern as pattern;
-    ghost use Rattle.cs_texts.specs.Splice.Near.{Near};
+    ghost use Rattle.cs_texts.specs.declared.rendering.render_work.RenderWork.{RenderWork};
 
-    ghost Value = { Near };
+    ghost Value = { RenderWork };
 
     ghost coded = { Prim.hlevel (codes, pattern.the_row.coded) };
 
-    ghost use Rattle.cs_texts.specs.Splice.Spliced.{near_by};
     ghost use Rattle.cs_texts.specs.Splice.Marked.{IfMarkedList};
 
-    ghost view = { λ p. near_by p.scanner.now p.lexemes.now p.separator.now };
+    ghost view = { λ p. p.work.now };
 
-    ghost invariant = { λ p. IfMarkedList p.scanner.now p.lexemes.now p.separator.now p.list };
+    ghost invariant = { λ p. IfMarkedList p.work.now p.list };
 }
 
 impl<'a> Prepared<'a> {
     /// Renders the list, and keeps what renders those that are near it.
     pub fn new(
         alloc: Global,
-        scanner: &'a Scanner<'a>,
-        lexemes: &'a Lexemes,
-        separator: &'a [u8],
+        work: &'a RenderWork<'a>,
         tokens: &'a [u16],
     ) -> Result<Prepared<'a>, AllocError>
-        requires tokens { AreTokens lexemes.now tokens.now }
+        requires tokens { AreTokens work.now.lexemes.now tokens.now }
         requires few { length tokens.now ≤ 1000001 }
-        ensures { IfOk result (λ near. near ≡ near_by scanner.now lexemes.now separator.now) }
+        ensures { IfOk result (λ prepared. prepared ≡ work.now) }
     {
-        let list = Marked::new(alloc, scanner, lexemes, separator, tokens)?;
-        Ok(Prepared {
-            alloc,
-            scanner,
-            lexemes,
-            separator,
-            list,
-        })
+        let list = Marked::new(alloc, work, tokens)?;
+        Ok(Prepared { alloc, work, list })
     }
 
     /// Renders a list of tokens; the middle of a text is put in place of what the buffer holds. The answer is that of
@@ -68,7 +56,7 @@ impl<'a> Prepared<'a> {
     ///
     /// Where the list is near the prepared one, it mostly scans what isn't as there alone, and takes no memory but the buffer's.
     pub fn render(&self, middle: &mut Vec<u8>, tokens: &[u16]) -> Result<Spliced<'_>, AllocError>
-        requires tokens { AreTokens self.now.lexemes tokens.now }
+        requires tokens { AreTokens self.now.lexemes.now tokens.now }
         requires few { length tokens.now ≤ 1000001 }
         ensures { IfOk result (RendersNear self.now tokens.now middle.new.items) }
     {
@@ -77,11 +65,12 @@ impl<'a> Prepared<'a> {
                 return Ok(Spliced::Around { front, back });
             }
         }
+        let work = self.work;
         let rendered = render(
             self.alloc,
-            self.scanner,
-            self.lexemes,
-            self.separator,
+            work.scanner,
+            work.lexemes,
+            work.separator,
             tokens,
         )?;
         Ok(Spliced::Whole(rendered))

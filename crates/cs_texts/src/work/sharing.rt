@@ -1,6 +1,6 @@
 // What threads may share.
 
-use crate::work::work::RenderWork;
+use crate::rendering::RenderWork;
 use cs_pattern_parts::take_shared;
 
 /// Threads may share the rendering of lists.

@@ -1,23 +1,14 @@
 // The rendering of a list of tokens, as work on an item.
 
-use crate::rendering::{Rendered, render};
+use crate::rendering::{RenderWork, Rendered, render};
 use cs_fan::Work;
-use cs_scanner::{Lexemes, Scanner};
 use std::alloc::{AllocError, Global};
-
-/// What each list of tokens is rendered with: a scanner, a lexeme for each token that has one, and the separator between two
-/// lexemes.
-#[derive(Clone, Copy)]
-pub struct RenderWork<'a> {
-    pub scanner: &'a Scanner<'a>,
-    pub lexemes: &'a Lexemes,
-    pub separator: &'a [u8],
-}
 
 /// The work takes the lists that `render` can be called with, and a list's answer is that call's.
 impl<'a> Work<Vec<u16>, Rendered> for RenderWork<'a> {
+    ghost use Rattle.cs_texts.specs.Rendering.ByWork.{IsRenderedBy};
     ghost use Rattle.cs_texts.specs.Rendering.Rendering.{rendering};
-    ghost use Rattle.cs_texts.specs.Work.Renders.{IsRenderedBy, TakesTokens};
+    ghost use Rattle.cs_texts.specs.Work.Renders.{TakesTokens};
 
     ghost takes = { λ work tokens. TakesTokens work tokens.items };
 

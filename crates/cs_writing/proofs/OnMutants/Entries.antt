@@ -19,7 +19,7 @@ use Rattle.cs_mutate.specs.Edit.{edited}
 use Rattle.cs_mutate.specs.declared.negative.Negative.{Negative}
 use Rattle.cs_texts.specs.Rendering.Rendering.{rendering_in}
 use Rattle.cs_texts.specs.declared.rendering.rendered.RenderedParts.{RenderedParts}
-use Rattle.cs_texts.specs.Work.Renders.{IsRenderedBy}
+use Rattle.cs_texts.specs.Rendering.ByWork.{IsRenderedBy}
 use Rattle.cs_texts.specs.Splice.Spliced.{rendering_around}
 use Rattle.cs_yacc.specs.Reading.File.{File}
 use Rattle.cs_manifest.specs.Manifest.Named.{IsNamedRendering}

@@ -8,7 +8,7 @@ use Rattle.cs_mutate.specs.declared.edit.Edit.TheVariants.{Delete, Insert, Repla
 use Rattle.cs_mutate.proofs.Patches.{length-patched}
 use Rattle.cs_mutate.proofs.Searching.{edited_tokens}
 use Rattle.cs_texts.specs.Work.Renders.{TakesTokens}
-use Rattle.cs_texts.specs.declared.work.work.RenderWork.{RenderWork}
+use Rattle.cs_texts.specs.declared.rendering.render_work.RenderWork.{RenderWork}
 use Rattle.cs_writing.specs.Mutants.Makers.{CanRender}
 
 -- an edit adds one token at most

@@ -12,7 +12,7 @@ use Rattle.cs_verdicts.specs.declared.positive.verdict.Verdict.TheVariants.{Feas
 use Rattle.cs_verdicts.specs.Positive.Positives.{ToJudge}
 use Rattle.cs_texts.specs.declared.rendering.rendered.Rendered.{Rendered}
 use Rattle.cs_texts.specs.Rendering.Rendering.{rendering}
-use Rattle.cs_texts.specs.declared.work.work.RenderWork.{RenderWork}
+use Rattle.cs_texts.specs.declared.rendering.render_work.RenderWork.{RenderWork}
 use Rattle.cs_writing.specs.declared.plan.placing.Placed.{Placed}
 use Rattle.cs_writing.specs.declared.plan.plan.Means.{Means}
 use Rattle.cs_writing.specs.declared.plan.plan.Plan.{Plan}

@@ -21,7 +21,7 @@ use Rattle.cs_mutate.specs.declared.edit.Edit.{Edit}
 use Rattle.cs_mutate.specs.declared.negative.Negative.{Negative}
 use Rattle.cs_mutate.proofs.KeptLists.{kept_both, kept_done, kept_next, kept_none, kept_split, one_kept_of}
 use Rattle.cs_texts.specs.Rendering.Rendering.{Rendering}
-use Rattle.cs_texts.specs.declared.work.work.RenderWork.{RenderWork}
+use Rattle.cs_texts.specs.declared.rendering.render_work.RenderWork.{RenderWork}
 use Rattle.cs_yacc.specs.Reading.File.{File}
 use Rattle.cs_io.specs.declared.halt.Halt.TheVariants.{Failed, Memory}
 use Rattle.cs_writing.specs.Writing.Mutants.{AreMade, IsCounted, negatives_from}

@@ -7,7 +7,7 @@ use Rattle.cs_manifest.specs.Manifest.Manifest.{AreNegativesOf, NegativeEntry, n
 use Rattle.cs_manifest.specs.Manifest.Progress.{Progress}
 use Rattle.cs_writing.specs.Mutants.Makers.{AreToolsOf, IsMakerOf, Making, PlainTools}
 use Rattle.cs_mutate.specs.Negatives.{Search, search_of}
-use Rattle.cs_texts.specs.declared.work.work.RenderWork.{RenderWork}
+use Rattle.cs_texts.specs.declared.rendering.render_work.RenderWork.{RenderWork}
 use Rattle.cs_yacc.specs.Reading.File.{File}
 use Rattle.cs_writing.specs.declared.plan.plan.Means.{Means}
 use Rattle.cs_writing.specs.declared.plan.plan.Plan.{Plan}

@@ -14,7 +14,7 @@ use Rattle.cs_mutate.specs.declared.negative.Negative.{Negative}
 use Rattle.cs_writing.specs.declared.plan.plan.Plan.{Plan}
 use Rattle.cs_writing.specs.Plan.Plans.{choice_in}
 use Rattle.cs_verdicts.specs.Positive.Positives.{ToJudge}
-use Rattle.cs_texts.specs.declared.work.work.RenderWork.{RenderWork}
+use Rattle.cs_texts.specs.declared.rendering.render_work.RenderWork.{RenderWork}
 use Rattle.cs_yacc.specs.Reading.File.{File}
 use Rattle.cs_io.specs.declared.halt.Halt.{Halt}
 use Rattle.cs_writing.specs.Writing.Mutants.{AreBasesIn, AreMade, CountsBases, IsBasesText, IsCounted, IsMade, negatives_from, negatives_in}

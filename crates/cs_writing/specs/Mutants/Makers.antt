@@ -4,10 +4,8 @@ use Rattle.cs_manifest.specs.Manifest.Open.{TokenTable}
 use Rattle.cs_mutate.specs.Edit.{edited}
 use Rattle.cs_mutate.specs.declared.edit.Edit.{Edit}
 use Rattle.cs_texts.specs.Work.Renders.{TakesTokens}
-use Rattle.cs_texts.specs.declared.work.work.RenderWork.{RenderWork}
+use Rattle.cs_texts.specs.declared.rendering.render_work.RenderWork.{RenderWork}
 use Rattle.cs_texts.specs.Splice.Apart.{AreApart, ScanBack}
-use Rattle.cs_texts.specs.Splice.Near.{Near}
-use Rattle.cs_texts.specs.Splice.Spliced.{near_by}
 use Rattle.cs_yacc.specs.Reading.File.{File}
 
 -- lists of tokens from 1 to so many can be rendered
@@ -40,19 +38,15 @@ TakesEdited making edit = TakesTokens making.tools.work (edited making.base edit
 
 -- ---- working words of proofs
 
--- what lists are rendered by, near a list that was prepared
-abbrev pub near_of : RenderWork → Near
-near_of work = near_by work.scanner.now work.lexemes.now work.separator.now
-
 -- the pieces are those of the file's tokens, and texts of tokens that stand apart scan back
 pub record AreSound (file : File) (work : RenderWork) (pieces : TokenTable) (apart : List Bool) : Type 0 where
   pub can : CanRender work (length file.token_names)
   pub pieces_are : pieces ≡ record { file = file; lexemes = work.lexemes.now }
-  pub scan : ScanBack (near_of work) apart
+  pub scan : ScanBack work apart
 
 -- the base can be rendered, and where that is known its tokens stand apart
-pub record IsReady (making : Making) (near : Near) (apart : Bool) : Type 0 where
-  pub near_is : near ≡ near_of making.tools.work
+pub record IsReady (making : Making) (near : RenderWork) (apart : Bool) : Type 0 where
+  pub near_is : near ≡ making.tools.work
   pub takes : TakesTokens making.tools.work making.base
   pub names : length making.tools.work.lexemes.now ≡ length making.tools.file.token_names
   pub short : length making.base ≤ 1000000

@@ -20,11 +20,11 @@ use Rattle.cs_grammar.specs.declared.symbol.Mark.TheVariants.{Token}
 use Rattle.cs_mutate.specs.Edit.{edited}
 use Rattle.cs_mutate.specs.declared.negative.Negative.{Negative}
 use Rattle.cs_texts.specs.Rendering.Rendering.{HasLexeme, IsRuleText, Text}
-use Rattle.cs_texts.specs.Work.Renders.{IsRenderedBy}
-use Rattle.cs_texts.specs.declared.work.work.RenderWork.{RenderWork}
+use Rattle.cs_texts.specs.Rendering.ByWork.{IsRenderedBy}
+use Rattle.cs_texts.specs.declared.rendering.render_work.RenderWork.{RenderWork}
 use Rattle.cs_texts.specs.Splice.Apart.{IsApart, ScanBack}
 use Rattle.cs_texts.specs.Splice.Spliced.{rendering_around}
-use Rattle.cs_writing.specs.Mutants.Makers.{Making, PlainTools, near_of}
+use Rattle.cs_writing.specs.Mutants.Makers.{Making, PlainTools}
 use Rattle.cs_writing.specs.Mutants.Mutants.{IsOfNegative, made_lines}
 use Rattle.cs_writing.specs.declared.mutants.made.Filling.{Filling}
 use Rattle.cs_writing.specs.declared.mutants.made.Rendering.{Rendering}
@@ -42,7 +42,7 @@ pub record IsTold (tools : PlainTools) (token : ℕ) (told : ToldToken) : Type 0
   pub name : told.name.now ≡ space ∷ token_of tools.file token
   pub lexeme : IsQuotedLexeme tools.work.lexemes.now token told.lexeme
   pub apart : IsApart tools.apart token
-  pub scan : ScanBack (near_of tools.work) tools.apart
+  pub scan : ScanBack tools.work tools.apart
 
 -- the token stands apart and has a lexeme
 pub record CanTell (tools : PlainTools) (token : ℕ) : Type 0 where

@@ -19,12 +19,12 @@ use Rattle.cs_verdicts.specs.Positive.Verdict.{IsVerdictIn}
 use Rattle.cs_texts.specs.declared.rendering.rendered.Rendered.{Rendered}
 use Rattle.cs_texts.specs.Rendering.Rendering.{Text, rendering}
 use Rattle.cs_texts.specs.Splice.Apart.{ScanBack}
-use Rattle.cs_texts.specs.declared.work.work.RenderWork.{RenderWork}
-use Rattle.cs_texts.specs.Work.Renders.{IsRenderedBy, TakesTokens}
+use Rattle.cs_texts.specs.declared.rendering.render_work.RenderWork.{RenderWork}
+use Rattle.cs_texts.specs.Rendering.ByWork.{IsRenderedBy}
+use Rattle.cs_texts.specs.Work.Renders.{TakesTokens}
 use Rattle.cs_writing.specs.declared.plan.placing.Placed.{Placed}
 use Rattle.cs_writing.specs.declared.plan.plan.Means.{Means}
 use Rattle.cs_writing.specs.declared.plan.texts.TextWork.{TextWork}
-use Rattle.cs_writing.specs.Mutants.Makers.{near_of}
 use Rattle.cs_writing.specs.Plan.Entries.{IsSharedIn}
 use Rattle.cs_writing.specs.Plan.Made.{is_asked}
 use Rattle.cs_writing.specs.Plan.Steps.{AllSteps}
@@ -78,7 +78,7 @@ HaveSoMany means tokens = IfSome means (λ m. tokens ≤ length m.work.now.lexem
 -- the list can be rendered, and texts of tokens that stand apart scan back
 pub record CanTake (texts : TextWork) (tokens : List ℕ) : Type 0 where
   pub takes : TakesTokens texts.work.now tokens
-  pub scan : ScanBack (near_of texts.work.now) texts.apart.now
+  pub scan : ScanBack texts.work.now texts.apart.now
 
 -- the rendering of the tokens is this text
 abbrev pub IsTextBy : RenderWork → List ℕ → Vec ℕ → Type 0

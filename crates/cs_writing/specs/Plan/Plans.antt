@@ -13,7 +13,7 @@ use Rattle.cs_manifest.specs.Manifest.Head.{Sharing}
 use Rattle.cs_manifest.specs.Manifest.Manifest.{Choice, GoalEntry, IsEntryOf, IsManifest, Texts, goal_texts, measure_of}
 use Rattle.cs_choices.specs.declared.operators.Operators.{Operators}
 use Rattle.cs_verdicts.specs.Positive.Positives.{ToJudge}
-use Rattle.cs_texts.specs.declared.work.work.RenderWork.{RenderWork}
+use Rattle.cs_texts.specs.declared.rendering.render_work.RenderWork.{RenderWork}
 use Rattle.cs_scanner.specs.Scan.Compared.{scanning}
 use Rattle.cs_yacc.specs.Reading.File.{File, IsFile}
 use Rattle.cs_writing.specs.declared.plan.plan.Means.{Means}

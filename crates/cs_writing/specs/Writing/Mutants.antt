@@ -20,7 +20,7 @@ use Rattle.cs_mutate.specs.Keeping.{AreKeptOf, Counters, Tells}
 use Rattle.cs_mutate.specs.declared.negative.Negative.{Negative}
 use Rattle.cs_writing.specs.declared.plan.plan.Plan.{Plan}
 use Rattle.cs_writing.specs.Plan.Plans.{choice_in, lexemes_in}
-use Rattle.cs_texts.specs.declared.work.work.RenderWork.{RenderWork}
+use Rattle.cs_texts.specs.declared.rendering.render_work.RenderWork.{RenderWork}
 use Rattle.cs_yacc.specs.Reading.File.{File}
 
 -- ---- bases of entries

@@ -48,8 +48,7 @@ impl<'a> Maker<'a> {
         requires short { length base.now ≤ 1000000 }
         ensures { IfOk result (IsMakerOf tools.now number base.now) }
     {
-        let work = tools.work;
-        let near = Prepared::new(alloc, work.scanner, work.lexemes, work.separator, base)?;
+        let near = Prepared::new(alloc, tools.work, base)?;
         Ok(Maker {
             tools,
             number,

@@ -56,7 +56,7 @@ impl<'a> Tools<'a> {
     {
         let pieces = TokenPieces::new(alloc, yacc, work.lexemes)?;
         let tokens = yacc.token_names().len() as u16;
-        let apart = Apart::new(alloc, work.scanner, work.lexemes, work.separator, tokens)?;
+        let apart = Apart::new(alloc, work, tokens)?;
         Ok(Tools {
             yacc,
             work,

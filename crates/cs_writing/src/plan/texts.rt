@@ -1,10 +1,10 @@
 // The texts of goals that were placed.
 
 ghost use Rattle.std.specs.Prelude.{◌≤◌, IfOk, IfSome, length};
+ghost use Rattle.cs_texts.specs.Rendering.ByWork.{IsRenderedBy};
 ghost use Rattle.cs_texts.specs.Rendering.Rendering.{AreTokens, rendering};
 ghost use Rattle.cs_texts.specs.Splice.Apart.{AreApart, ScanBack};
-ghost use Rattle.cs_texts.specs.Work.Renders.{IsRenderedBy, TakesTokens};
-ghost use Rattle.cs_writing.specs.Mutants.Makers.{near_of};
+ghost use Rattle.cs_texts.specs.Work.Renders.{TakesTokens};
 ghost use Rattle.cs_writing.specs.Plan.Placing.{AreRendered, AreTaken, HaveSoMany, IsTextBy};
 
 use crate::plan::joining::{Side, put_text};
@@ -47,7 +47,7 @@ impl<'a> Work<Placed, Option<Rendered>> for TextWork<'a> {
 // The rendering of tokens. Where each of them stands apart no scan is needed.
 fn rendered_by(alloc: Global, texts: &TextWork<'_>, tokens: &[u16]) -> Result<Rendered, AllocError>
     requires takes { TakesTokens texts.now.work.now tokens.now }
-    requires scan { ScanBack (near_of texts.now.work.now) texts.now.apart.now }
+    requires scan { ScanBack texts.now.work.now texts.now.apart.now }
     ensures { IfOk result (λ r. IsRenderedBy texts.now.work.now tokens.now (rendering r)) }
 {
     if let Some(text) = text_apart(alloc, texts, tokens)? {
@@ -64,7 +64,7 @@ fn text_apart(
     tokens: &[u16],
 ) -> Result<Option<Vec<u8>>, AllocError>
     requires tokens { AreTokens texts.now.work.now.lexemes.now tokens.now }
-    requires scan { ScanBack (near_of texts.now.work.now) texts.now.apart.now }
+    requires scan { ScanBack texts.now.work.now texts.now.apart.now }
     ensures { IfOk result (λ text. IfSome text (IsTextBy texts.now.work.now tokens.now)) }
 {
     let Some(room) = room_apart(texts, tokens) else {
@@ -118,7 +118,7 @@ pub(crate) fn render_placed<R: Threads + Sync, G: Gate + Sync>(
         None => Ok(Vec::new(alloc)),
         Some(means) => {
             let work = means.work;
-            let apart = Apart::new(alloc, work.scanner, work.lexemes, work.separator, tokens)?;
+            let apart = Apart::new(alloc, work, tokens)?;
             let texts = TextWork {
                 work,
                 apart: &apart,

@@ -10,7 +10,7 @@ use std::test::Fail;
 // Whether these tokens of sums stand apart with this between two lexemes, and those beside them don't.
 fn stand_apart(alloc: Global, separator: &[u8], tokens: &[u16]) -> Result<bool, Trouble> {
     with_work(alloc, (SUMS, SCANNER), separator, |_yacc, work, most| {
-        let apart = Apart::new(alloc, work.scanner, work.lexemes, separator, most)?;
+        let apart = Apart::new(alloc, work, most)?;
         Ok((0..10).all(|token| apart.has(token) == tokens.contains(&token)))
     })
 }

@@ -75,7 +75,7 @@ fn compare(
     list: &[u16],
     counts: &mut Counts,
 ) -> Result<(), AllocError>
-    requires tokens { AreTokens prepared.now.lexemes list.now }
+    requires tokens { AreTokens prepared.now.lexemes.now list.now }
     requires taken { TakesTokens work.now list.now }
 {
     let mut middle = Vec::new(alloc);
@@ -99,7 +99,7 @@ fn compare_all(
     lists: &[Vec<u16>],
 ) -> Result<Counts, Trouble>
     requires work { CanRender work.now most }
-    requires near { prepared.now.lexemes ≡ work.now.lexemes.now }
+    requires near { prepared.now ≡ work.now }
 {
     let mut counts = Counts {
         texts: 0,
@@ -128,7 +128,7 @@ fn compare_by(
         return Err(Trouble::TooLong);
     }
     let lists = near_lists(alloc, tokens, most)?;
-    let prepared = Prepared::new(alloc, work.scanner, work.lexemes, work.separator, tokens)?;
+    let prepared = Prepared::new(alloc, work, tokens)?;
     compare_all(alloc, work, &prepared, most, &lists)
 }
 

@@ -6,7 +6,7 @@ use Rattle.std.proofs.lemmas.Result.{err_from_is_err_and}
 use Rattle.cs_grammar.specs.Weights.{Weighed}
 use Rattle.cs_io.specs.Faults.{greatest}
 use Rattle.cs_io.specs.Lines.{IsCutShort, IsWritten}
-use Rattle.cs_texts.specs.declared.work.work.RenderWork.{RenderWork}
+use Rattle.cs_texts.specs.declared.rendering.render_work.RenderWork.{RenderWork}
 use Rattle.cs_wrong.proofs.Batches.{SlipsSoFar, fewer_left, nothing_in, slips_all, slips_count, slips_counted, slips_cut, slips_memory, slips_more, slips_none}
 use Rattle.cs_wrong.proofs.Behind.{length-behind}
 use Rattle.cs_wrong.proofs.Few.{few_slips}

@@ -12,7 +12,7 @@ use Rattle.cs_writing.specs.Mutants.Makers.{CanRender}
 use Rattle.cs_writing.proofs.OnMutants.Taking.{takes_base}
 use Rattle.cs_writing.specs.Plan.Plans.{texts_in}
 use Rattle.cs_texts.specs.Work.Renders.{TakesTokens}
-use Rattle.cs_texts.specs.declared.work.work.RenderWork.{RenderWork}
+use Rattle.cs_texts.specs.declared.rendering.render_work.RenderWork.{RenderWork}
 use Rattle.cs_io.specs.declared.halt.Halt.TheVariants.{Failed, Memory}
 use Rattle.cs_mutate.specs.Negatives.{Search}
 use Rattle.cs_writing.specs.Writing.Mutants.{IsEditable, negatives_in}

@@ -17,6 +17,6 @@ returns-then-arrives c =
     let back = c.back-back.result.now in
     let front = c.in-Some.front.now in
     let F : List ℕ → Type 0 = λ t. IsFrontFor p from t front in
-    let A : List ℕ → Type 0 = λ t. IsBegunBy (scanning p.scanner.now) (t ++ back) (take (to - from) (drop from tokens)) back in
+    let A : List ℕ → Type 0 = λ t. IsBegunBy (scanning p.work.now.scanner.now) (t ++ back) (take (to - from) (drop from tokens)) back in
     told p tokens front middle back c.same_front-stays.result behind from to c.same_front-stays.ensures c.same_back-behind.ensures c.kept-from.ensures refl
     (c.in_ok-put_middle.ensures c.if-not-branch.false) (subst F c.deref.ensures.value c.in-Some.ensures) c.back-back.ensures (subst A c.deref-2.ensures.value (c.if-arrives.ensures refl))
