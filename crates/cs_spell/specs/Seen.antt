@@ -34,8 +34,8 @@ all_told = map told_of
 abbrev pub making_of : Tools → Making
 making_of t = record {
   file = t.file.now;
-  scanning = scanning t.scanner.now;
-  lexemes = t.lexemes.now;
-  separator = t.separator.now;
+  scanning = scanning t.work.now.scanner.now;
+  lexemes = t.work.now.lexemes.now;
+  separator = t.work.now.separator.now;
   judged = t.judged.now;
 }

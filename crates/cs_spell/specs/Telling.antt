@@ -1,9 +1,11 @@
 -- What is told of rules, one after another. Working words of proofs.
 use Rattle.std.specs.Prelude.{◌≡◌, ℕ, ◌≤◌, All, List, Option, Some, length, slice_get}
 use Rattle.cs_grammar.specs.Grammar.{IsGrammar, IsNumberOf}
+use Rattle.cs_lexical.specs.Least.{AreLeastTexts, LeastTexts}
 use Rattle.cs_manifest.specs.Manifest.Named.{IsNamedRendering}
 use Rattle.cs_manifest.specs.Output.Names.{AreNamedTokens, IsNamedToken}
 use Rattle.cs_pattern_parts.specs.declared.tree.kind.Kind.{Kind}
+use Rattle.cs_scanner.specs.Automaton.Machine.{patterns_of}
 use Rattle.cs_scanner.specs.Scan.Compared.{IsInCommon, scanning}
 use Rattle.cs_scanner.specs.declared.scanning.scanner.Scanner.{Scanner}
 use Rattle.cs_spell.specs.Chosen.{RuleVerdict}
@@ -28,9 +30,13 @@ AreFewTokens tokens judged = (k : ℕ) (j : RuleVerdict) → slice_get judged k 
 pub record AreTools (t : Tools) : Type 0 where
   pub grammar : IsGrammar t.file.now.grammar
   pub names : length t.file.now.token_names ≡ t.file.now.grammar.tokens
-  pub lexemes : length t.lexemes.now ≡ t.file.now.grammar.tokens
+  pub lexemes : length t.work.now.lexemes.now ≡ t.file.now.grammar.tokens
   pub rules : length t.judged.now ≡ length t.file.now.grammar.rules
   pub few : AreFewTokens t.file.now.grammar.tokens t.judged.now
+
+-- these are the least texts of the rules of the tools' scanner
+abbrev pub AreTextsFor : Tools → LeastTexts → Type 0
+AreTextsFor t lexical = AreLeastTexts (patterns_of t.work.now.scanner.now.automaton.now) lexical
 
 -- the place is that of the chosen rule
 abbrev pub IsChoiceOf : Tools → Option ℕ → ℕ → Type 0
@@ -46,7 +52,7 @@ IsJudgedText scanner text tokens rule spelling (Differs after) =
 -- what came of tokens with the spelling
 abbrev pub IsRenderedBy : Tools → List ℕ → Way → ℕ → List ℕ → Rendered → Type 0
 IsRenderedBy t tokens way rule spelling r =
-    IsRenderedWith (scanning t.scanner.now) t.lexemes.now t.separator.now way rule spelling tokens (rendering r)
+    IsRenderedWith (scanning t.work.now.scanner.now) t.work.now.lexemes.now t.work.now.separator.now way rule spelling tokens (rendering r)
 
 -- what is told of a spelling, by what the tools make
 abbrev pub TellsOf : Tools → Option ℕ → ℕ → List ℕ → Told → Type 0

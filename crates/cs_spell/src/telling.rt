@@ -1,11 +1,10 @@
 // What is told of each scanner rule.
 
 ghost use Rattle.std.specs.Prelude.{◌≡◌, ◌+◌, ◌<◌, ◌≤◌, IfOk, Some, length, slice_get};
-ghost use Rattle.cs_lexical.specs.Least.{AreLeastTexts, rules_of};
-ghost use Rattle.cs_scanner.specs.Automaton.Machine.{patterns_of};
+ghost use Rattle.cs_lexical.specs.Least.{rules_of};
 ghost use Rattle.cs_spell.specs.Seen.{all_told, making_of};
 ghost use Rattle.cs_spell.specs.Spelling.{AreTold};
-ghost use Rattle.cs_spell.specs.Telling.{AreTools, IsChoiceOf, IsJudgedText, IsRenderedBy, Tells, TellsBy, TellsOf};
+ghost use Rattle.cs_spell.specs.Telling.{AreTextsFor, AreTools, IsChoiceOf, IsJudgedText, IsRenderedBy, Tells, TellsBy, TellsOf};
 ghost use Rattle.cs_spell.specs.Texts.{IsFirstPlace, IsWayOf};
 ghost use Rattle.cs_texts.specs.Rendering.Rendering.{AreTokens, rendering};
 
@@ -18,8 +17,8 @@ use crate::way::Way;
 use cs_grammar::number_of;
 use cs_lexical::Lexical;
 use cs_pattern_parts::Kind;
-use cs_scanner::{Agreement, Lexemes, Scanner, agrees};
-use cs_texts::Rendered;
+use cs_scanner::{Agreement, Scanner, agrees};
+use cs_texts::{RenderWork, Rendered};
 use cs_verdicts::Verdict;
 use cs_yacc::YaccFile;
 use std::alloc::{AllocError, Global};
@@ -28,9 +27,7 @@ use std::alloc::{AllocError, Global};
 #[derive(Clone, Copy)]
 pub struct Tools<'a> {
     pub(crate) file: &'a YaccFile,
-    pub(crate) scanner: &'a Scanner<'a>,
-    pub(crate) lexemes: &'a Lexemes,
-    pub(crate) separator: &'a [u8],
+    pub(crate) work: &'a RenderWork<'a>,
     pub(crate) judged: &'a [Judged],
 }
 
@@ -93,16 +90,17 @@ fn render_with(
     rule: u16,
     spelling: &[u8],
 ) -> Result<Rendered, AllocError>
-    requires tokens { AreTokens tools.now.lexemes.now tokens.now }
+    requires tokens { AreTokens tools.now.work.now.lexemes.now tokens.now }
     requires few { length tokens.now ≤ 1000000 }
     ensures { IfOk result (IsRenderedBy tools.now tokens.now way rule spelling.now) }
 {
-    let pieces = match gather(alloc, tools.lexemes, tokens)? {
+    let work = tools.work;
+    let pieces = match gather(alloc, work.lexemes, tokens)? {
         Gathered::All(pieces) => pieces,
         Gathered::Without(token) => return Ok(Rendered::NoLexeme(token)),
     };
-    let text = spell(alloc, way, tools.separator, spelling, pieces)?;
-    Ok(judge_text(tools.scanner, text, tokens, rule, spelling))
+    let text = spell(alloc, way, work.separator, spelling, pieces)?;
+    Ok(judge_text(work.scanner, text, tokens, rule, spelling))
 }
 
 // The spelling of a rule, shown in the goal of the rule at the place.
@@ -187,7 +185,7 @@ fn tell<'a>(
     rule: u16,
 ) -> Result<Told<'a>, AllocError>
     requires tools { AreTools tools.now }
-    requires lexical { AreLeastTexts (patterns_of tools.now.scanner.now.automaton.now) lexical.now }
+    requires lexical { AreTextsFor tools.now lexical.now }
     requires from_1 { 0 < rule }
     requires within { rule ≤ rules_of lexical.now }
     ensures { IfOk result (Tells tools.now rule kind) }
@@ -205,11 +203,11 @@ pub(crate) fn tell_all<'a>(
     lexical: &Lexical,
 ) -> Result<Vec<Told<'a>>, AllocError>
     requires tools { AreTools tools.now }
-    requires lexical { AreLeastTexts (patterns_of tools.now.scanner.now.automaton.now) lexical.now }
-    requires few { length tools.now.scanner.now.kinds.now ≤ 2048 }
+    requires lexical { AreTextsFor tools.now lexical.now }
+    requires few { length tools.now.work.now.scanner.now.kinds.now ≤ 2048 }
     ensures { IfOk result (λ told. AreTold (making_of tools.now) (all_told told.items)) }
 {
-    let kinds = tools.scanner.kinds;
+    let kinds = tools.work.scanner.kinds;
     let mut told = Vec::new(alloc);
     for place in 0..kinds.len() {
         told.push(tell(alloc, tools, lexical, kinds[place], number_of(place))?)?;

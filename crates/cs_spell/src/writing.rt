@@ -67,9 +67,7 @@ fn tell_judged<S: Sink>(
     let work = spelled.work;
     let tools = Tools {
         file: spelled.file,
-        scanner: work.scanner,
-        lexemes: work.lexemes,
-        separator: work.separator,
+        work,
         judged,
     };
     let rules = work.scanner.kinds.len() as u16;

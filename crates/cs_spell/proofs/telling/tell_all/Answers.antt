@@ -15,5 +15,5 @@ loop-place-preserved c =
     let h = c.loop-place.invariant in
     rw c.in_ok-push.ensures.items (record {
       all = omega (arith, h.all, length_push list c.in_ok-tell.field-0);
-      each = tell_more t list c.in_ok-tell.field-0 _ c.loop-place.place c.number_of.result h.all (slice_get-get_or t.scanner.now.kinds.now c.loop-place.place _ c.loop-place-test.true) c.number_of.ensures c.in_ok-tell.ensures h.each;
+      each = tell_more t list c.in_ok-tell.field-0 _ c.loop-place.place c.number_of.result h.all (slice_get-get_or t.work.now.scanner.now.kinds.now c.loop-place.place _ c.loop-place-test.true) c.number_of.ensures c.in_ok-tell.ensures h.each;
     })

@@ -9,5 +9,5 @@ use Rattle.cs_spell.proofs.telling.tell_all.Given as goal
 abbrev pub invariant-loop-place : goal.invariant-loop-place
 invariant-loop-place l = record {
   all : length l.told.items ≡ l.place;
-  each : (k : ℕ) (kind : Kind) (t : spec.Told) → slice_get l.tools.scanner.now.kinds.now k ≡ Some kind → slice_get (all_told l.told.items) k ≡ Some t → IsTold (making_of l.tools) (suc k) kind t;
+  each : (k : ℕ) (kind : Kind) (t : spec.Told) → slice_get l.tools.work.now.scanner.now.kinds.now k ≡ Some kind → slice_get (all_told l.told.items) k ≡ Some t → IsTold (making_of l.tools) (suc k) kind t;
 }
