@@ -151,7 +151,7 @@ chains_are g exact done batch rest split = λ k d within.
 pub told_are : (d : Chained) (tell : TellWork) → IsWorkOf d tell → (batch : List Chain) (entries : List ChainEntry) → AllZip (IsToldBy tell) batch entries → AreEntries d batch entries
 told_are d tell is batch entries zip =
     subst (λ (w : Option (Bor RenderWork)). AllZip (IsEntryOf (weighed_in d) (texts_by w) (lexemes_by w)) batch entries) is.work
-    (subst (λ (v : Weighed). AllZip (IsEntryOf v (texts_by tell.work) (lexemes_by tell.work)) batch entries) is.costs zip)
+    (subst (λ (v : Weighed). AllZip (IsEntryOf v (texts_by tell.work) (lexemes_by tell.work)) batch entries) is.embeds zip)
 
 -- a list without members
 pub nothing_in : {A : Type 0} (xs : List A) → length xs ≡ 0 → xs ≡ []

@@ -46,18 +46,17 @@ pub weights_many : (d : Chained) → IsReady d → length d.weights.now.numbers 
 weights_many d ready =
     ap (λ (w : Measure). length w.numbers) ready.weights ∙ measure_many d.weigh d.yacc.now.grammar.tokens d.work (have_many d.yacc.now d.work ready.lexemes)
 
--- the work that is made of the costs and the contexts
-pub work_of : (d : Chained) → IsReady d → (tell : TellWork) → tell.embeds.now ≡ tell.costs.now → tell.costs.now ≡ weighed_in d → IsMeasure tell.costs.now.weights → tell.work ≡ d.work → IsWorkOf d tell
-work_of d ready tell embeds costs measure work =
+-- the work that is made of the least contexts
+pub work_of : (d : Chained) → IsReady d → (tell : TellWork) → tell.embeds.now ≡ weighed_in d → IsMeasure tell.embeds.now.weights → tell.work ≡ d.work → IsWorkOf d tell
+work_of d ready tell embeds measure work =
     let many = have_many d.yacc.now d.work ready.lexemes in
     let own = subst (λ (k : Option (Bor RenderWork)). IfSome k (λ r. length r.now.lexemes.now ≡ d.yacc.now.grammar.tokens)) (sym work) many in
     record {
       can = record {
-        embeds = embeds;
         measure = measure;
-        lexemes = subst (λ (v : Weighed). IfSome tell.work (λ r. length r.now.lexemes.now ≡ v.grammar.tokens)) (sym costs) own;
+        lexemes = subst (λ (v : Weighed). IfSome tell.work (λ r. length r.now.lexemes.now ≡ v.grammar.tokens)) (sym embeds) own;
       };
-      costs = costs;
+      embeds = embeds;
       work = work;
     }
 

@@ -62,15 +62,14 @@ HasDerivation g (Feasible size derivation) = IsDerivationOf g derivation
 HasDerivation g Infeasible = Unit {0}
 HasDerivation g Large = Unit {0}
 
--- the parts of the work are of one grammar
+-- the texts and the sizes are by the lexemes of the grammar's tokens
 pub record CanTell (tell : TellWork) : Type 0 where
-  pub embeds : tell.embeds.now ≡ tell.costs.now
-  pub measure : IsMeasure tell.costs.now.weights
-  pub lexemes : IfSome tell.work (λ r. length r.now.lexemes.now ≡ tell.costs.now.grammar.tokens)
+  pub measure : IsMeasure tell.embeds.now.weights
+  pub lexemes : IfSome tell.work (λ r. length r.now.lexemes.now ≡ tell.embeds.now.grammar.tokens)
 
 -- the entry of the chain by the work
 abbrev pub IsToldBy : TellWork → Chain → ChainEntry → Type 0
-IsToldBy tell chain entry = IsEntryOf tell.costs.now (texts_by tell.work) (lexemes_by tell.work) chain entry
+IsToldBy tell chain entry = IsEntryOf tell.embeds.now (texts_by tell.work) (lexemes_by tell.work) chain entry
 
 -- all numbers of tokens in it are of the file
 pub record IsNamedEntry (file : File) (entry : ChainEntry) : Type 0 where
@@ -153,7 +152,7 @@ weighed_in d = weighed d.yacc.now.grammar d.weights.now
 -- the work is of these
 pub record IsWorkOf (d : Chained) (tell : TellWork) : Type 0 where
   pub can : CanTell tell
-  pub costs : tell.costs.now ≡ weighed_in d
+  pub embeds : tell.embeds.now ≡ weighed_in d
   pub work : tell.work ≡ d.work
 
 -- the text that is asked for

@@ -9,7 +9,7 @@ ghost use Rattle.cs_chain_text.specs.Progress.{HasDerivation, IsTextBy};
 use cs_chain::{Chain, ChainVerdict, judge_chain};
 use cs_fan::Work;
 use cs_grammar::{Grammar, yield_of};
-use cs_least::{Costs, Embeds};
+use cs_least::Embeds;
 use cs_texts::{RenderWork, Rendered, render};
 use std::alloc::{AllocError, Global};
 use std::marker::Model;
@@ -76,10 +76,9 @@ fn text_of(
     }
 }
 
-/// What is told of chains, by the costs and the contexts of a grammar, and by what texts are rendered with.
+/// What is told of chains, by the least contexts of a grammar, and by what texts are rendered with.
 #[derive(Clone, Copy)]
 pub(crate) struct TellWork<'a> {
-    pub(crate) costs: &'a Costs<'a>,
     pub(crate) embeds: &'a Embeds<'a>,
     pub(crate) work: Option<&'a RenderWork<'a>>,
 }
@@ -88,14 +87,14 @@ impl<'a> Work<Chain, Told> for TellWork<'a> {
     ghost use Rattle.cs_chain.specs.Chains.Chain.{IsChain};
     ghost use Rattle.cs_chain_text.specs.Progress.{CanTell, IsToldBy};
 
-    ghost takes = { λ tell chain. CanTell tell × IsChain tell.costs.now.grammar chain };
+    ghost takes = { λ tell chain. CanTell tell × IsChain tell.embeds.now.grammar chain };
 
     ghost answers = { λ tell chain told. IsToldBy tell chain told };
 
     fn one(&self, alloc: Global, item: &Chain) -> Result<Told, AllocError> {
-        let grammar = self.costs.grammar();
+        let grammar = self.embeds.grammar();
         let _well_formed = grammar.rules();
-        let verdict = judge_chain(alloc, self.costs, self.embeds, item)?;
+        let verdict = judge_chain(alloc, self.embeds, item)?;
         let tokens = tokens_of(alloc, grammar, &verdict)?;
         let rendered = text_of(alloc, self.work, &verdict, &tokens)?;
         Ok(Told {

@@ -1,6 +1,5 @@
 // The lines of chains that differ in the inner rule alone, but for their numbers, that rule and its node.
 
-ghost use Rattle.std.specs.Prelude.{◌≡◌};
 ghost use Rattle.cs_chain.specs.Chains.Chain.{IsChain};
 ghost use Rattle.cs_chain_text.specs.Around.{Finds};
 ghost use Rattle.cs_chain_text.specs.Rows.{AreAround, AreFrameLines, HasFrameParts};
@@ -8,7 +7,7 @@ ghost use Rattle.cs_chain_text.specs.Rows.{AreAround, AreFrameLines, HasFramePar
 use crate::around::{Around, tokens_around};
 use crate::parts::{are_named, before_piece, end_piece, head_piece, middle_piece};
 use cs_chain::{Chain, Frame};
-use cs_least::{Cost, Costs, Embeds};
+use cs_least::{Cost, Embeds};
 use cs_manifest::Piece;
 use cs_yacc::YaccFile;
 use std::alloc::{AllocError, Global};
@@ -33,13 +32,13 @@ pub(crate) struct FrameLines {
 }
 
 // The tokens around the inner node, where the frame has a size.
-fn around_of(alloc: Global, costs: &Costs, frame: &Frame) -> Result<Option<Around>, AllocError>
-    ensures { Finds (AreAround costs.now.grammar frame.now) result }
+fn around_of(alloc: Global, embeds: &Embeds, frame: &Frame) -> Result<Option<Around>, AllocError>
+    ensures { Finds (AreAround embeds.now.grammar frame.now) result }
 {
     match frame.cost {
         Cost::Least(_) => tokens_around(
             alloc,
-            costs.grammar(),
+            embeds.grammar(),
             frame.before.rules(),
             frame.behind.rules(),
         ),
@@ -56,16 +55,14 @@ impl FrameLines {
     pub(crate) fn new(
         alloc: Global,
         file: &YaccFile,
-        costs: &Costs,
         embeds: &Embeds,
         chain: &Chain,
     ) -> Result<Option<FrameLines>, AllocError>
-        requires embeds { embeds.now ≡ costs.now }
-        requires chain { IsChain costs.now.grammar chain.now }
-        ensures { Finds (AreFrameLines file.now costs.now) result }
+        requires { IsChain embeds.now.grammar chain.now }
+        ensures { Finds (AreFrameLines file.now embeds.now) result }
     {
-        let frame = Frame::new(alloc, costs, embeds, chain)?;
-        let Some(around) = around_of(alloc, costs, &frame)? else {
+        let frame = Frame::new(alloc, embeds, chain)?;
+        let Some(around) = around_of(alloc, embeds, &frame)? else {
             return Ok(None);
         };
         with_parts(alloc, file, *chain, frame, around)

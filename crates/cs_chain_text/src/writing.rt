@@ -117,16 +117,15 @@ fn tell<R: Threads + Sync, S: Sink, G: Gate + Sync>(
     one_text();
     let costs = Costs::new(alloc, chained.yacc.grammar(), chained.weights)?;
     let _weighs = costs.weights();
-    let embeds = Embeds::new(alloc, &costs)?;
+    let embeds = Embeds::new(alloc, costs)?;
     let telling = Telling {
         chained: *chained,
         work: TellWork {
-            costs: &costs,
             embeds: &embeds,
             work: chained.work,
         },
     };
-    let mut cores = Cores::new(alloc, chained.yacc, &costs)?;
+    let mut cores = Cores::new(alloc, chained.yacc, embeds.costs())?;
     write_head(sink, chained.yacc, chained.work)?;
     let mut tally = Tally::new();
     write_goals(crew, alloc, &telling, &mut cores, &mut tally, sink)?;
@@ -211,7 +210,7 @@ fn write_batch<R: Threads + Sync, S: Sink, G: Gate + Sync>(
     requires ready { IsReady telling.now.chained }
     requires work { IsWorkOf telling.now.chained telling.now.work }
     requires cores { cores.old ≡ told_in telling.now.chained }
-    requires chains { All (IsChain telling.now.work.costs.now.grammar) batch.now }
+    requires chains { All (IsChain telling.now.work.embeds.now.grammar) batch.now }
     requires few { length batch.now ≤ 1024 }
     requires count { CanCount tally.old (length batch.now) }
     ensures cores { cores.new ≡ cores.old }
@@ -235,7 +234,7 @@ fn frame_of(
     batch: &[Chain],
 ) -> Result<Option<FrameLines>, AllocError>
     requires work { IsWorkOf telling.now.chained telling.now.work }
-    requires chains { All (IsChain telling.now.work.costs.now.grammar) batch.now }
+    requires chains { All (IsChain telling.now.work.embeds.now.grammar) batch.now }
     ensures cores { cores.new ≡ cores.old }
     ensures frame { Finds (AreFrameLinesIn telling.now.chained) result }
 {
@@ -258,18 +257,12 @@ fn frame_with(
     requires none { telling.now.chained.work ≡ None }
     requires some { 0 < length batch.now }
     requires work { IsWorkOf telling.now.chained telling.now.work }
-    requires chains { All (IsChain telling.now.work.costs.now.grammar) batch.now }
+    requires chains { All (IsChain telling.now.work.embeds.now.grammar) batch.now }
     ensures cores { cores.new ≡ cores.old }
     ensures frame { Finds (AreFrameLinesIn telling.now.chained) result }
 {
     keep_all(alloc, cores, batch)?;
-    FrameLines::new(
-        alloc,
-        telling.chained.yacc,
-        telling.work.costs,
-        telling.work.embeds,
-        &batch[0],
-    )
+    FrameLines::new(alloc, telling.chained.yacc, telling.work.embeds, &batch[0])
 }
 
 // Keeps the inner nodes of chains.
@@ -314,7 +307,7 @@ fn write_told<R: Threads + Sync, S: Sink, G: Gate + Sync>(
     sink: &mut S,
 ) -> Result<(), Halt>
     requires work { IsWorkOf telling.now.chained telling.now.work }
-    requires chains { All (IsChain telling.now.work.costs.now.grammar) batch.now }
+    requires chains { All (IsChain telling.now.work.embeds.now.grammar) batch.now }
     requires few { length batch.now ≤ 1024 }
     requires count { CanCount tally.old (length batch.now) }
     ensures put { PutsBatch S.Sink telling.now.chained batch.now
@@ -335,7 +328,7 @@ fn tell_batch<R: Threads + Sync, G: Gate + Sync>(
     batch: &[Chain],
 ) -> Result<Vec<Told>, AllocError>
     requires can { CanTell work.now }
-    requires chains { All (IsChain work.now.costs.now.grammar) batch.now }
+    requires chains { All (IsChain work.now.embeds.now.grammar) batch.now }
     requires few { length batch.now ≤ 1024 }
     ensures { IfOk result (λ entries. AllZip (IsToldBy work.now) batch.now entries.items) }
 {

@@ -1,7 +1,7 @@
 //! Kinds of trees by what they yield: what the least tree of a kind and a symbol costs, and which one is chosen.
 //!
 //! A kind is any tree, one of empty yield, one that begins with a token, one that ends with it. The layers above make `Kinds` of
-//! the `Costs` of a grammar, ask them by `told` what the least tree of a kind and a symbol costs, get by `Sweep` what trees of
+//! the `Embeds` of a grammar, ask them by `told` what the least tree of a kind and a symbol costs, get by `Sweep` what trees of
 //! the symbols of a right side cost that are of a kind together, and the codes of the chosen ones by `kind_into`; `Kinds::plus`
 //! adds such costs. `Row` is a list of costs by number. The laws are functions that do nothing.
 //!

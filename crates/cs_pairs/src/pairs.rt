@@ -1,7 +1,7 @@
 //! Pairs of neighbours in framed sentences: which marks may stand side by side, over all trees, and what the least tree costs
 //! that shows it.
 //!
-//! The layers above make `Pairs` of `Costs` and `Embeds` of one grammar and equal weights, ask them by `adjacent` whether some
+//! The layers above make `Pairs` of the `Embeds` of a grammar, ask them by `adjacent` whether some
 //! sentence has one mark directly followed by another, by `cost` what the least tree with such a sentence costs, and get the
 //! code of the chosen one by `derive`. Whether a nonterminal yields nothing, and which tokens its yields begin and end with,
 //! they ask by `empty`, `first` and `last`. The laws are functions that do nothing.

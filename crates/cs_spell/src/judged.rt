@@ -9,7 +9,7 @@ ghost use Rattle.cs_verdicts.specs.Positive.Verdict.{IsVerdictIn};
 
 use cs_goals::Goal;
 use cs_grammar::{Grammar, number_of, yield_of};
-use cs_least::{Costs, Embeds};
+use cs_least::Embeds;
 use cs_verdicts::{Verdict, judge_tree_goal};
 use std::alloc::{AllocError, Global};
 use std::marker::Model;
@@ -52,52 +52,41 @@ impl Judged {
 // The tokens of a rule goal's derivation. Where it has none, there are none.
 fn tokens_of(
     alloc: Global,
-    costs: &Costs<'_>,
+    embeds: &Embeds<'_>,
     rule: u16,
     verdict: &Verdict,
 ) -> Result<Vec<u16>, AllocError>
-    requires { IsVerdictIn costs.now (goals.Rule rule) verdict.now }
-    ensures { IfOk result (λ tokens. AreTokensOf costs.now.grammar verdict.now tokens.items) }
+    requires { IsVerdictIn embeds.now (goals.Rule rule) verdict.now }
+    ensures { IfOk result (λ tokens. AreTokensOf embeds.now.grammar verdict.now tokens.items) }
 {
     match verdict {
-        Verdict::Feasible { derivation, .. } => yield_of(alloc, costs.grammar(), derivation),
+        Verdict::Feasible { derivation, .. } => yield_of(alloc, embeds.grammar(), derivation),
         Verdict::Infeasible | Verdict::Large => Ok(Vec::new(alloc)),
     }
 }
 
 // The verdict of the rule at the place.
-fn judge_rule(
-    alloc: Global,
-    costs: &Costs<'_>,
-    embeds: &Embeds<'_>,
-    place: usize,
-) -> Result<Judged, AllocError>
-    requires embeds { embeds.now ≡ costs.now }
-    requires place { place < length costs.now.grammar.rules }
+fn judge_rule(alloc: Global, embeds: &Embeds<'_>, place: usize) -> Result<Judged, AllocError>
+    requires place { place < length embeds.now.grammar.rules }
     requires few { place < 65535 }
-    ensures { IfOk result (IsRuleVerdict costs.now (place + 1)) }
+    ensures { IfOk result (IsRuleVerdict embeds.now (place + 1)) }
 {
     let rule = number_of(place);
-    let verdict = judge_tree_goal(alloc, costs, embeds, &Goal::Rule(rule))?;
-    let tokens = tokens_of(alloc, costs, rule, &verdict)?;
+    let verdict = judge_tree_goal(alloc, embeds, &Goal::Rule(rule))?;
+    let tokens = tokens_of(alloc, embeds, rule, &verdict)?;
     Ok(Judged::new(verdict, tokens))
 }
 
 /// The verdicts of all rule goals, in order.
-pub(crate) fn judge_rules(
-    alloc: Global,
-    costs: &Costs<'_>,
-    embeds: &Embeds<'_>,
-) -> Result<Vec<Judged>, AllocError>
-    requires embeds { embeds.now ≡ costs.now }
-    ensures judged { IfOk result (λ judged. AreRuleVerdicts costs.now judged.items) }
-    ensures few { IfOk result (λ judged. AreFewTokens costs.now.grammar.tokens judged.items) }
+pub(crate) fn judge_rules(alloc: Global, embeds: &Embeds<'_>) -> Result<Vec<Judged>, AllocError>
+    ensures judged { IfOk result (λ judged. AreRuleVerdicts embeds.now judged.items) }
+    ensures few { IfOk result (λ judged. AreFewTokens embeds.now.grammar.tokens judged.items) }
 {
-    let _weighs = costs.weights();
+    let _weighs = embeds.costs().weights();
     let mut judged = Vec::new(alloc);
-    let rules = costs.grammar().rules().len();
+    let rules = embeds.grammar().rules().len();
     for place in 0..rules {
-        judged.push(judge_rule(alloc, costs, embeds, place)?)?;
+        judged.push(judge_rule(alloc, embeds, place)?)?;
     }
     Ok(judged)
 }

@@ -43,8 +43,8 @@ impl Text for Spelled<'_> {
 
     fn tell<S: Sink>(&self, alloc: Global, sink: &mut S) -> Result<(), Halt> {
         let costs = Costs::new(alloc, self.file.grammar(), self.weights)?;
-        let embeds = Embeds::new(alloc, &costs)?;
-        let judged = judge_rules(alloc, &costs, &embeds)?;
+        let embeds = Embeds::new(alloc, costs)?;
+        let judged = judge_rules(alloc, &embeds)?;
         tell_judged(alloc, self, &judged, sink)
     }
 }

@@ -2,7 +2,7 @@
 //!
 //! The layers above make the `Tables` of a grammar and its weights, and get the verdict of a goal by `judge`: `Infeasible`,
 //! `Large`, or the least size and the chosen derivation. `judge_tree_goal` gives the verdicts of rule and context goals from
-//! `Costs` and `Embeds` alone. `Positives` gives the goals of the chosen criteria with their verdicts, one at a time. The laws
+//! `Embeds` alone. `Positives` gives the goals of the chosen criteria with their verdicts, one at a time. The laws
 //! are functions that do nothing.
 //!
 //! Of the files of `specs/Positive/`, these say what is meant: `Verdict` (a verdict, and the chosen tree of a goal) and `Positives` (the

@@ -31,9 +31,7 @@ weighed_in d = weighed d.yacc.now.grammar d.weights.now
 
 -- the lists and the classes are made by these
 pub record IsMakingOf (d : Wrong) (m : Making) : Type 0 where
-  pub costs : m.costs.now ≡ weighed_in d
-  pub embeds : m.embeds.now ≡ m.costs.now
-  pub pairs : m.pairs.now ≡ m.costs.now
+  pub pairs : m.pairs.now ≡ weighed_in d
   pub recognizer : m.judging.recognizer.now ≡ d.yacc.now.grammar
   pub render : m.judging.render.now ≡ d.work.now
   pub weighs : Weighs d.weights.now d.yacc.now.grammar

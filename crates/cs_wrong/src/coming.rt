@@ -7,7 +7,6 @@ ghost use Rattle.cs_wrong.specs.Found.{AreTokensOf, tokens_in};
 use crate::lists::{SlipList, list_of};
 use crate::met::Met;
 use crate::slip::Slip;
-use cs_least::{Costs, Embeds};
 use cs_mutate::{Pairs, poison};
 use std::alloc::{AllocError, Global};
 use std::marker::Model;
@@ -61,24 +60,16 @@ impl<'s> Coming<'s> {
     }
 
     /// Takes the first slip away, with its list. None where there is none.
-    fn next(
-        &mut self,
-        alloc: Global,
-        costs: &Costs,
-        embeds: &Embeds,
-        pairs: &Pairs,
-    ) -> Result<Option<Candidate>, AllocError>
-        requires embeds { embeds.now ≡ costs.now }
-        requires pairs { pairs.now ≡ costs.now }
-        requires slips { CanTake costs.now self.old }
-        ensures found { IfOk result (λ found. TakesNext costs.now self.old found self.new) }
-        ensures slips { IfOk result (λ _. CanTake costs.now self.new) }
+    fn next(&mut self, alloc: Global, pairs: &Pairs) -> Result<Option<Candidate>, AllocError>
+        requires { CanTake pairs.now self.old }
+        ensures found { IfOk result (λ found. TakesNext pairs.now self.old found self.new) }
+        ensures slips { IfOk result (λ _. CanTake pairs.now self.new) }
     {
         if self.at == self.slips.len() {
             return Ok(None);
         }
         let slip = self.slips[self.at];
-        let list = list_of(alloc, costs, embeds, slip)?;
+        let list = list_of(alloc, pairs.embeds(), slip)?;
         let again = meet_list(&mut self.met, &list)?;
         let at = place_in(pairs, &list);
         self.at += 1;
@@ -116,23 +107,19 @@ fn place_in(pairs: &Pairs, list: &SlipList) -> Option<u32>
 /// Takes the next slips: at most 1,024. None where no slip is left.
 pub(crate) fn next_batch(
     alloc: Global,
-    costs: &Costs,
-    embeds: &Embeds,
     pairs: &Pairs,
     coming: &mut Coming<'_>,
 ) -> Result<Vec<Candidate>, AllocError>
-    requires embeds { embeds.now ≡ costs.now }
-    requires pairs { pairs.now ≡ costs.now }
-    requires slips { CanTake costs.now coming.old }
+    requires { CanTake pairs.now coming.old }
     ensures takes { IfOk result (λ batch.
-        Takes costs.now coming.old batch.items coming.new) }
-    ensures slips { IfOk result (λ _. CanTake costs.now coming.new) }
+        Takes pairs.now coming.old batch.items coming.new) }
+    ensures slips { IfOk result (λ _. CanTake pairs.now coming.new) }
     ensures some { IfOk result (λ batch. batch.items ≡ [] → coming.old.left ≡ []) }
     ensures few { IfOk result (λ batch. length batch.items ≤ 1024) }
 {
     let mut batch = Vec::new(alloc);
     for _ in 0..MOST {
-        let Some(candidate) = coming.next(alloc, costs, embeds, pairs)? else {
+        let Some(candidate) = coming.next(alloc, pairs)? else {
             return Ok(batch);
         };
         batch.push(candidate)?;

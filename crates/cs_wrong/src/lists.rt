@@ -10,7 +10,7 @@ ghost use Rattle.cs_wrong.specs.Slips.{IsChangeOf, changed};
 use crate::slip::{Change, Slip};
 use crate::walk::{read, settle};
 use cs_grammar::{Derivation, Grammar, Symbol, put_on_top};
-use cs_least::{Cost, Costs, Embeds};
+use cs_least::{Cost, Embeds};
 use std::alloc::{AllocError, Global};
 
 // Room for as many symbols, and for as many rule numbers, is made at once.
@@ -26,23 +26,17 @@ pub enum SlipList {
 
 /// The list of a slip of the grammar: the tokens of the chosen context of the rule's left side before its hole, those of the
 /// chosen trees of the changed right side, and the context's tokens behind the hole.
-pub fn list_of(
-    alloc: Global,
-    costs: &Costs,
-    embeds: &Embeds,
-    slip: Slip,
-) -> Result<SlipList, AllocError>
-    requires embeds { embeds.now ≡ costs.now }
-    requires slip { IsFitting costs.now.grammar slip }
-    ensures list { IfOk result (TellsList costs.now slip) }
-    ensures tokens { IfOk result (AreTokensOf costs.now.grammar) }
+pub fn list_of(alloc: Global, embeds: &Embeds, slip: Slip) -> Result<SlipList, AllocError>
+    requires { IsFitting embeds.now.grammar slip }
+    ensures list { IfOk result (TellsList embeds.now slip) }
+    ensures tokens { IfOk result (AreTokensOf embeds.now.grammar) }
     ensures few { IfOk result (λ list. length (tokens_in list) ≤ 1000000) }
 {
     match slip {
         Slip::Empty => Ok(SlipList::Tokens(Vec::new(alloc))),
         Slip::Of { rule, change } => {
-            let symbols = changed_symbols(alloc, costs.grammar().rule(rule).right(), change)?;
-            list_by(alloc, costs, embeds, rule, &symbols)
+            let symbols = changed_symbols(alloc, embeds.grammar().rule(rule).right(), change)?;
+            list_by(alloc, embeds, rule, &symbols)
         }
     }
 }
@@ -79,36 +73,34 @@ fn changed_symbols(
 // The list of a rule whose right side these symbols take the place of.
 fn list_by(
     alloc: Global,
-    costs: &Costs,
     embeds: &Embeds,
     rule: u16,
     symbols: &[Symbol],
 ) -> Result<SlipList, AllocError>
-    requires embeds { embeds.now ≡ costs.now }
-    requires rule { IsNumberOf (length costs.now.grammar.rules) rule }
-    requires symbols { All (IsSymbolOf costs.now.grammar) symbols.now }
-    ensures list { IfOk result (TellsRule costs.now rule symbols.now) }
-    ensures tokens { IfOk result (AreTokensOf costs.now.grammar) }
+    requires rule { IsNumberOf (length embeds.now.grammar.rules) rule }
+    requires symbols { All (IsSymbolOf embeds.now.grammar) symbols.now }
+    ensures list { IfOk result (TellsRule embeds.now rule symbols.now) }
+    ensures tokens { IfOk result (AreTokensOf embeds.now.grammar) }
     ensures few { IfOk result (λ list. length (tokens_in list) ≤ 1000000) }
 {
-    let left = costs.grammar().rule(rule).left();
-    match placed_cost(costs, embeds, left, symbols) {
+    let left = embeds.grammar().rule(rule).left();
+    match placed_cost(embeds, left, symbols) {
         Cost::Never => Ok(SlipList::Nothing),
         Cost::Large => Ok(SlipList::Large),
         Cost::Least(_) => {
-            let tokens = tokens_of(alloc, costs, embeds, left, symbols)?;
+            let tokens = tokens_of(alloc, embeds, left, symbols)?;
             Ok(SlipList::Tokens(tokens))
         }
     }
 }
 
 // What the least context of a left side costs, with a node and least trees of symbols in its hole.
-fn placed_cost(costs: &Costs, embeds: &Embeds, left: u16, symbols: &[Symbol]) -> Cost
-    requires embeds { embeds.now ≡ costs.now }
-    requires left { IsNumberOf costs.now.grammar.nonterminals left }
-    requires symbols { All (IsSymbolOf costs.now.grammar) symbols.now }
-    ensures { IsPlacedCost costs.now left symbols.now result }
+fn placed_cost(embeds: &Embeds, left: u16, symbols: &[Symbol]) -> Cost
+    requires left { IsNumberOf embeds.now.grammar.nonterminals left }
+    requires symbols { All (IsSymbolOf embeds.now.grammar) symbols.now }
+    ensures { IsPlacedCost embeds.now left symbols.now result }
 {
+    let costs = embeds.costs();
     let node = costs.plus(costs.node(), costs.sum(symbols));
     costs.plus(embeds.embed(left), node)
 }
@@ -116,29 +108,28 @@ fn placed_cost(costs: &Costs, embeds: &Embeds, left: u16, symbols: &[Symbol]) ->
 // The tokens of the chosen context of a left side and of the chosen trees of symbols in its hole.
 fn tokens_of(
     alloc: Global,
-    costs: &Costs,
     embeds: &Embeds,
     left: u16,
     symbols: &[Symbol],
 ) -> Result<Vec<u16>, AllocError>
-    requires embeds { embeds.now ≡ costs.now }
-    requires left { IsNumberOf costs.now.grammar.nonterminals left }
-    requires symbols { All (IsSymbolOf costs.now.grammar) symbols.now }
-    requires least { HasLeastPlaced costs.now left symbols.now }
+    requires left { IsNumberOf embeds.now.grammar.nonterminals left }
+    requires symbols { All (IsSymbolOf embeds.now.grammar) symbols.now }
+    requires least { HasLeastPlaced embeds.now left symbols.now }
     ensures placed { IfOk result (λ tokens.
-        ArePlacedTokens costs.now left symbols.now tokens.items) }
+        ArePlacedTokens embeds.now left symbols.now tokens.items) }
     ensures tokens { IfOk result (λ tokens.
-        All (IsNumberOf costs.now.grammar.tokens) tokens.items) }
+        All (IsNumberOf embeds.now.grammar.tokens) tokens.items) }
     ensures few { IfOk result (λ tokens. length tokens.items ≤ 1000000) }
 {
+    let costs = embeds.costs();
     let _weighs = costs.weights();
-    let around = embeds.around(costs, left)?;
+    let around = embeds.around(left)?;
     let mut behind = Derivation::with_capacity(alloc, USUAL)?;
     costs.all_into(symbols, &mut behind)?;
     behind.extend_from_slice(&around.after)?;
     let tokens = tokens_by(
         alloc,
-        costs.grammar(),
+        embeds.grammar(),
         &around.before,
         symbols,
         behind.rules(),

@@ -46,8 +46,6 @@ pub struct Wrong<'a> {
 // What the lists of slips and their classes are made by.
 #[derive(Clone, Copy)]
 struct Making<'a> {
-    costs: &'a Costs<'a>,
-    embeds: &'a Embeds<'a>,
     pairs: &'a Pairs<'a>,
     judging: WrongWork<'a>,
 }
@@ -109,16 +107,14 @@ fn tell<R: Threads + Sync, S: Sink, G: Gate + Sync>(
     let grammar = asked.yacc.grammar();
     let costs = Costs::new(alloc, grammar, asked.weights)?;
     let _weighs = costs.weights();
-    let embeds = Embeds::new(alloc, &costs)?;
-    let pairs = Pairs::new(alloc, &costs, &embeds)?;
+    let embeds = Embeds::new(alloc, costs)?;
+    let pairs = Pairs::new(alloc, embeds)?;
     let recognizer = Recognizer::new(alloc, grammar)?;
     let judging = WrongWork {
         recognizer: &recognizer,
         render: asked.work,
     };
     let making = Making {
-        costs: &costs,
-        embeds: &embeds,
         pairs: &pairs,
         judging,
     };
@@ -170,13 +166,7 @@ fn write_slips<R: Threads + Sync, S: Sink, G: Gate + Sync>(
     let _named = asked.yacc.grammar();
     let mut coming = Coming::new(alloc, slips);
     'batches: loop {
-        let batch = next_batch(
-            alloc,
-            making.costs,
-            making.embeds,
-            making.pairs,
-            &mut coming,
-        )?;
+        let batch = next_batch(alloc, making.pairs, &mut coming)?;
         if batch.is_empty() {
             return Ok(());
         }

@@ -1,6 +1,6 @@
 // The verdicts of chains of small grammars, and workers that share them.
 
-ghost use Rattle.std.specs.Prelude.{◌≡◌, ◌≤◌, ◌<◌};
+ghost use Rattle.std.specs.Prelude.{◌≤◌, ◌<◌};
 ghost use Rattle.cs_chain.specs.Chains.Chain.{IsChain};
 
 use crate::judged::Want::{Code, Nowhere, TooLarge};
@@ -104,7 +104,7 @@ fn check(rt: &impl Abort, alloc: Global, row: Row) -> Result<(), SampleError> {
     let grammar = grammar_of(2, 2, rules(alloc, lines)?)?;
     let weights = weights_of(alloc, &[1, 1], limit)?;
     let costs = Costs::new(alloc, &grammar, &weights)?;
-    let embeds = Embeds::new(alloc, &costs)?;
+    let embeds = Embeds::new(alloc, costs)?;
     for &([outer, place, middle, spot, inner], want) in wants {
         let chain = Chain {
             outer,
@@ -114,7 +114,7 @@ fn check(rt: &impl Abort, alloc: Global, row: Row) -> Result<(), SampleError> {
             inner,
         };
         assert!(rt; fits_chain(&grammar, &chain));
-        let verdict = judge_chain(alloc, &costs, &embeds, &chain)?;
+        let verdict = judge_chain(alloc, &embeds, &chain)?;
         assert!(rt; is_wanted(&verdict, want), "{chain:?}");
     }
     Ok(())
@@ -138,9 +138,8 @@ fn judged<R: Threads + Sync>(
     second: Chain,
     workers: u16,
 ) -> Result<Vec<ChainVerdict>, AllocError>
-    requires embeds { work.now.embeds.now ≡ work.now.costs.now }
-    requires first { IsChain work.now.costs.now.grammar first }
-    requires second { IsChain work.now.costs.now.grammar second }
+    requires first { IsChain work.now.embeds.now.grammar first }
+    requires second { IsChain work.now.embeds.now.grammar second }
     requires some { 0 < workers }
     requires few { workers ≤ 64 }
 {
@@ -156,11 +155,8 @@ fn workers_judge_chains(rt: HostRuntime) -> Result<(), Fail> {
     let grammar = grammar_of(2, 2, rules(alloc, OWN.lines)?)?;
     let weights = weights_of(alloc, &[1, 1], 10_000)?;
     let costs = Costs::new(alloc, &grammar, &weights)?;
-    let embeds = Embeds::new(alloc, &costs)?;
-    let work = ChainWork {
-        costs: &costs,
-        embeds: &embeds,
-    };
+    let embeds = Embeds::new(alloc, costs)?;
+    let work = ChainWork { embeds: &embeds };
     let mut chains = Chains::new(&grammar);
     let first = chains.next().ok_or("none")?;
     let second = chains.next().ok_or("one")?;

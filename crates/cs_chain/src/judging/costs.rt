@@ -26,12 +26,12 @@ pub(crate) fn node_cost(costs: &Costs, children: Cost) -> Cost
 }
 
 // What all but the inner node costs.
-pub(crate) fn frame_cost(costs: &Costs, embeds: &Embeds, rules: &Rules<'_>) -> Cost
-    requires embeds { embeds.now ≡ costs.now }
-    requires fits { FitsRules costs.now.grammar rules.now }
-    ensures cost { IsFrameCost costs.now (symbols_of rules.now) result }
-    ensures capped { IsCapped costs.now.weights.limit result }
+pub(crate) fn frame_cost(embeds: &Embeds, rules: &Rules<'_>) -> Cost
+    requires { FitsRules embeds.now.grammar rules.now }
+    ensures cost { IsFrameCost embeds.now (symbols_of rules.now) result }
+    ensures capped { IsCapped embeds.now.weights.limit result }
 {
+    let costs = embeds.costs();
     let high = costs.plus(costs.sum(rules.outer.before), costs.sum(rules.outer.behind));
     let low = costs.plus(
         costs.sum(rules.middle.before),
@@ -45,17 +45,16 @@ pub(crate) fn frame_cost(costs: &Costs, embeds: &Embeds, rules: &Rules<'_>) -> C
 // The rule numbers of the chosen tree of a chain before its inner node and behind it.
 pub(crate) fn frame_codes(
     alloc: Global,
-    costs: &Costs,
     embeds: &Embeds,
     chain: &Chain,
     rules: &Rules<'_>,
 ) -> Result<(Derivation, Derivation), AllocError>
-    requires embeds { embeds.now ≡ costs.now }
-    requires fits { FitsRules costs.now.grammar rules.now }
-    requires small { IsSmallFrame costs.now (symbols_of rules.now) }
-    ensures { IfOk result (AreCodesAround costs.now chain.now rules.now) }
+    requires fits { FitsRules embeds.now.grammar rules.now }
+    requires small { IsSmallFrame embeds.now (symbols_of rules.now) }
+    ensures { IfOk result (AreCodesAround embeds.now chain.now rules.now) }
 {
-    let around = embeds.around(costs, rules.outer.rule.left())?;
+    let costs = embeds.costs();
+    let around = embeds.around(rules.outer.rule.left())?;
     let mut before = Derivation::with_capacity(alloc, USUAL_RULES)?;
     before.extend_from_slice(&around.before)?;
     before.push(chain.outer)?;

@@ -31,21 +31,15 @@ pub struct Core {
 
 impl Frame {
     /// That of a chain of the grammar, and of each that differs in the inner rule alone.
-    pub fn new(
-        alloc: Global,
-        costs: &Costs,
-        embeds: &Embeds,
-        chain: &Chain,
-    ) -> Result<Frame, AllocError>
-        requires embeds { embeds.now ≡ costs.now }
-        requires chain { IsChain costs.now.grammar chain.now }
-        ensures frame { IfOk result (FitsFrames costs.now chain.now) }
-        ensures capped { IfOk result (λ frame. IsCapped costs.now.weights.limit frame.cost) }
+    pub fn new(alloc: Global, embeds: &Embeds, chain: &Chain) -> Result<Frame, AllocError>
+        requires { IsChain embeds.now.grammar chain.now }
+        ensures frame { IfOk result (FitsFrames embeds.now chain.now) }
+        ensures capped { IfOk result (λ frame. IsCapped embeds.now.weights.limit frame.cost) }
     {
-        let rules = rules_of(costs.grammar(), chain);
-        let cost = frame_cost(costs, embeds, &rules);
+        let rules = rules_of(embeds.grammar(), chain);
+        let cost = frame_cost(embeds, &rules);
         let (before, behind) = match cost {
-            Cost::Least(_) => frame_codes(alloc, costs, embeds, chain, &rules)?,
+            Cost::Least(_) => frame_codes(alloc, embeds, chain, &rules)?,
             _ => (Derivation::new(alloc), Derivation::new(alloc)),
         };
         Ok(Frame {

@@ -8,7 +8,7 @@ use crate::chains::Chain;
 use crate::judging::frame::{Core, Frame};
 use crate::judging::verdict::ChainVerdict;
 use cs_grammar::Derivation;
-use cs_least::{Cost, Costs, Embeds};
+use cs_least::{Cost, Embeds};
 use std::alloc::{AllocError, Global};
 
 /// The verdict of a chain of the grammar, over all trees of the start symbol: `Infeasible` exactly where none meets the chain,
@@ -16,15 +16,14 @@ use std::alloc::{AllocError, Global};
 /// chosen tree.
 pub fn judge_chain(
     alloc: Global,
-    costs: &Costs,
     embeds: &Embeds,
     chain: &Chain,
 ) -> Result<ChainVerdict, AllocError>
-    requires embeds { embeds.now ≡ costs.now }
-    requires chain { IsChain costs.now.grammar chain.now }
-    ensures { IfOk result (IsVerdictIn costs.now chain.now) }
+    requires { IsChain embeds.now.grammar chain.now }
+    ensures { IfOk result (IsVerdictIn embeds.now chain.now) }
 {
-    let frame = Frame::new(alloc, costs, embeds, chain)?;
+    let costs = embeds.costs();
+    let frame = Frame::new(alloc, embeds, chain)?;
     let core = Core::new(alloc, costs, chain.inner)?;
     match costs.plus(frame.cost, core.cost) {
         Cost::Never => Ok(ChainVerdict::Infeasible),

@@ -6,7 +6,6 @@ ghost use Rattle.cs_grammar.specs.Weights.{Weighed};
 ghost use Rattle.cs_least.specs.Embed.Around.{HasLeastContext};
 ghost use Rattle.cs_least.specs.Embed.Contexts.{AreContextsOf, IsAroundIn, KeepsContexts, KeepsOthers};
 
-use crate::cost::Costs;
 use crate::embed::context::Context;
 use crate::embed::embeds::Embeds;
 use std::alloc::AllocError;
@@ -44,24 +43,18 @@ impl Contexts {
 
     /// The chosen context of a nonterminal whose least context is within the limit. It is kept no more: `keep` keeps it
     /// again.
-    pub fn take(
-        &mut self,
-        costs: &Costs,
-        embeds: &Embeds,
-        nonterminal: u16,
-    ) -> Result<Around, AllocError>
-        requires embeds { embeds.now ≡ costs.now }
-        requires contexts { AreContextsOf costs.now self.old }
-        requires nonterminal { IsNumberOf costs.now.grammar.nonterminals nonterminal }
-        requires least { HasLeastContext costs.now.weights costs.now.grammar nonterminal }
+    pub fn take(&mut self, embeds: &Embeds, nonterminal: u16) -> Result<Around, AllocError>
+        requires contexts { AreContextsOf embeds.now self.old }
+        requires nonterminal { IsNumberOf embeds.now.grammar.nonterminals nonterminal }
+        requires least { HasLeastContext embeds.now.weights embeds.now.grammar nonterminal }
         ensures nonterminal { IfOk result (λ around. around.nonterminal ≡ nonterminal) }
-        ensures chosen { IfOk result (IsAroundIn costs.now) }
-        ensures contexts { AreContextsOf costs.now self.new }
+        ensures chosen { IfOk result (IsAroundIn embeds.now) }
+        ensures contexts { AreContextsOf embeds.now self.new }
     {
         if let Some(around) = self.take_kept(nonterminal) {
             return Ok(around);
         }
-        let context = embeds.around(costs, nonterminal)?;
+        let context = embeds.around(nonterminal)?;
         Ok(Around {
             nonterminal,
             context,

@@ -9,7 +9,7 @@ use crate::cost::{Cost, Costs};
 use crate::embed::context::Context;
 use crate::embed::inwards::RulePlace;
 use crate::embed::table::{Tables, tables_of, told_cost};
-use cs_grammar::{Derivation, Grammar, Weights, place_of};
+use cs_grammar::{Derivation, Grammar, place_of};
 use std::alloc::{AllocError, Global};
 use std::marker::Model;
 
@@ -18,43 +18,46 @@ const USUAL_PLACES: usize = 16;
 
 const USUAL_RULES: usize = 32;
 
-/// What the least context of each nonterminal of a grammar costs, and which context is chosen.
+/// What the least context of each nonterminal of a grammar costs, and which context is chosen: least contexts over the least
+/// trees that they are made of.
 #[derive(Debug, Drop)]
 pub struct Embeds<'g> {
-    grammar: &'g Grammar,
-    weights: &'g Weights,
+    costs: Costs<'g>,
     tables: Tables,
 }
 
 impl<'g> Model for Embeds<'g> {
-    ghost use Rattle.cs_grammar.specs.Weights.{Weighed, weighed};
-    ghost use Rattle.cs_least.specs.Embed.Kept.{AreEmbeds};
+    ghost use Rattle.cs_grammar.specs.Weights.{Weighed};
+    ghost use Rattle.cs_least.specs.Embed.Kept.{AreTablesOf};
 
     ghost Value = { Weighed };
 
-    ghost view = { λ e. weighed e.grammar.now e.weights.now };
+    ghost view = { λ e. e.costs };
 
-    ghost invariant = { λ e. AreEmbeds e.weights.now e.grammar.now
-        e.tables.places.items e.tables.reaches.items e.tables.firsts.items };
+    ghost invariant = { λ e. AreTablesOf e.costs e.tables };
 }
 
 impl<'g> Embeds<'g> {
-    /// The contexts of the grammar whose trees cost this.
-    pub fn new(alloc: Global, costs: &Costs<'g>) -> Result<Embeds<'g>, AllocError>
-        ensures { IfOk result (λ embeds. embeds ≡ costs.now) }
+    /// The contexts of the grammar whose trees cost this. The costs are kept with them.
+    pub fn new(alloc: Global, costs: Costs<'g>) -> Result<Embeds<'g>, AllocError>
+        ensures { IfOk result (λ embeds. embeds ≡ costs.entry) }
     {
-        Ok(Embeds {
-            grammar: costs.grammar(),
-            weights: costs.weights(),
-            tables: tables_of(alloc, costs)?,
-        })
+        let tables = tables_of(alloc, &costs)?;
+        Ok(Embeds { costs, tables })
+    }
+
+    /// What the least trees cost, and which trees are chosen.
+    pub fn costs(&self) -> &Costs<'g>
+        ensures { result.now ≡ self.now }
+    {
+        &self.costs
     }
 
     /// The grammar that these are the contexts of.
     pub fn grammar(&self) -> &'g Grammar
         ensures { result.now ≡ self.now.grammar }
     {
-        self.grammar
+        self.costs.grammar()
     }
 
     /// What the tables were made with.
@@ -76,17 +79,21 @@ impl<'g> Embeds<'g> {
     /// the lowest rule, at its lowest place, among chosen trees, in the chosen context of the rule's left side. The code of
     /// any tree of the nonterminal, put between the two lists, is the code of a tree of the start symbol, whose size is that
     /// of both together.
-    pub fn around(&self, costs: &Costs<'g>, nonterminal: u16) -> Result<Context, AllocError>
-        requires costs { costs.now ≡ self.now }
+    pub fn around(&self, nonterminal: u16) -> Result<Context, AllocError>
         requires nonterminal { IsNumberOf self.now.grammar.nonterminals nonterminal }
         requires least { HasLeastContext self.now.weights self.now.grammar nonterminal }
         ensures chosen { IfOk result (IsChosenAround self.now nonterminal) }
         ensures filled { IfOk result (FillsEach self.now nonterminal) }
     {
         let alloc = self.allocator();
-        let Outward { mut places, after } = lead_out(alloc, costs, &self.tables, nonterminal)?;
+        let Outward { mut places, after } = lead_out(
+            alloc,
+            &self.costs,
+            &self.tables,
+            nonterminal,
+        )?;
         let mut before = Derivation::with_capacity(alloc, USUAL_RULES)?;
-        write_lead(costs, &mut places, &mut before)?;
+        write_lead(&self.costs, &mut places, &mut before)?;
         Ok(Context {
             before: before.into_rules(),
             after: after.into_rules(),

@@ -2,7 +2,7 @@
 
 ghost use Rattle.std.specs.Prelude.{◌≡◌, ◌↔◌, IsTrue, IfOk};
 ghost use Rattle.cs_grammar.specs.Grammar.{IsNumberOf, IsSymbolOf};
-ghost use Rattle.cs_grammar.specs.Weights.{Weighs, weighed};
+ghost use Rattle.cs_grammar.specs.Weights.{Weighs};
 ghost use Rattle.cs_least.specs.Cost.Rank.{IsCapped, cost_of, plus};
 ghost use Rattle.cs_pairs.specs.Kinds.ListCost.{IsAtMost, lesser};
 ghost use Rattle.cs_pairs.specs.Kinds.Kinds.{IsKind};
@@ -22,15 +22,15 @@ use crate::kinds::row::Row;
 use crate::kinds::rows::leaf_cost;
 use crate::kinds::side::Side;
 use cs_grammar::{Grammar, Symbol, Weights, place_of};
-use cs_least::{Cost, Costs, Steps, cost_of, is_below, plus, turned};
+use cs_least::{Cost, Costs, Embeds, Steps, cost_of, is_below, plus, turned};
 use std::alloc::{AllocError, Global};
 use std::marker::Model;
 
-/// What the least trees of each kind and symbol of a grammar cost, by some weights, and the rules of each nonterminal.
+/// What the least trees of each kind and symbol of a grammar cost, by some weights, and the rules of each nonterminal, over
+/// the least contexts and the least trees of any kind.
 #[derive(Debug, Drop)]
 pub struct Kinds<'g> {
-    grammar: &'g Grammar,
-    weights: &'g Weights,
+    embeds: Embeds<'g>,
     rows: Rows,
     lefts: Vec<Vec<u16>>,
 }
@@ -59,40 +59,44 @@ impl<'g> Model for Kinds<'g> {
 
     ghost Value = { Weighed };
 
-    ghost view = { λ k. record { grammar = k.grammar.now; weights = k.weights.now } };
+    ghost view = { λ k. k.embeds };
 
-    ghost invariant = { λ k. AreKindsOf k.weights.now k.grammar.now k.rows k.lefts.items };
+    ghost invariant = { λ k. AreKindsOf k.embeds.weights k.embeds.grammar k.rows k.lefts.items };
 }
 
 impl<'g> Kinds<'g> {
-    /// The kinds of trees of a grammar, whose trees cost this.
-    pub fn new(alloc: Global, costs: &Costs<'g>) -> Result<Kinds<'g>, AllocError>
-        ensures { IfOk result (λ kinds. kinds ≡ costs.now) }
+    /// The kinds of trees of a grammar, whose trees and contexts cost this. The costs are kept with them.
+    pub fn new(alloc: Global, embeds: Embeds<'g>) -> Result<Kinds<'g>, AllocError>
+        ensures { IfOk result (λ kinds. kinds ≡ embeds.entry) }
     {
-        let any = any_row(alloc, costs)?;
-        let empty = empty_row(alloc, costs)?;
-        let bases = Bases {
-            costs,
-            empty: empty.costs(),
-        };
-        let begins = token_rows(alloc, costs, &net_of(alloc, &bases, Side::First)?)?;
-        let ends = token_rows(alloc, costs, &net_of(alloc, &bases, Side::Last)?)?;
-        let rows = Rows {
-            any,
-            empty,
-            begins,
-            ends,
-        };
-        let grammar = costs.grammar();
-        let lefts = lefts_of(alloc, grammar)?;
-        Ok(kinds_of(grammar, costs.weights(), rows, lefts))
+        let rows = rows_of(alloc, embeds.costs())?;
+        let lefts = lefts_of(alloc, embeds.grammar())?;
+        Ok(Kinds {
+            embeds,
+            rows,
+            lefts,
+        })
     }
 
     /// The grammar that these are the kinds of trees of.
     pub fn grammar(&self) -> &'g Grammar
         ensures { result.now ≡ self.now.grammar }
     {
-        self.grammar
+        self.embeds.grammar()
+    }
+
+    /// What the least contexts cost, and which contexts are chosen.
+    pub fn embeds(&self) -> &Embeds<'g>
+        ensures { result.now ≡ self.now }
+    {
+        &self.embeds
+    }
+
+    /// What the least trees of any kind cost, and which trees are chosen.
+    pub fn costs(&self) -> &Costs<'g>
+        ensures { result.now ≡ self.now }
+    {
+        self.embeds.costs()
     }
 
     // The lower of two costs, the first where they are as low. Both are capped by the limit of the weights.
@@ -120,7 +124,7 @@ impl<'g> Kinds<'g> {
         requires b { IsCapped self.now.weights.limit b }
         ensures { result ≡ plus self.now.weights.limit a b }
     {
-        plus(a, b, self.weights.limit())
+        plus(a, b, self.weights().limit())
     }
 
     // The numbers of the rules of a nonterminal, in ascending order.
@@ -136,18 +140,17 @@ impl<'g> Kinds<'g> {
         ensures weights { result.now ≡ self.now.weights }
         ensures weighs { Weighs self.now.weights self.now.grammar }
     {
-        self.weights
+        self.costs().weights()
     }
 
     /// The steps inwards from each node of a tree that ends with a token to its child that does so too, between all symbols of
     /// the grammar: a step leads from a rule's left side to a symbol of its right side behind which all can be empty, and costs
     /// the node and the least trees beside the child.
-    pub fn steps_to_ends(&self, alloc: Global, costs: &Costs) -> Result<Steps, AllocError>
-        requires { costs.now ≡ self.now }
+    pub fn steps_to_ends(&self, alloc: Global) -> Result<Steps, AllocError>
         ensures { IfOk result (AreStepsToEnds self.now) }
     {
         let bases = Bases {
-            costs,
+            costs: self.costs(),
             empty: self.row(TreeKind::Empty),
         };
         let net = net_of(alloc, &bases, Side::Last)?;
@@ -158,7 +161,7 @@ impl<'g> Kinds<'g> {
     pub(crate) fn one(&self) -> Cost
         ensures { result ≡ cost_of self.now.weights.limit 1 }
     {
-        cost_of(1, self.weights.limit())
+        cost_of(1, self.weights().limit())
     }
 
     // Above this size no tree is written out.
@@ -166,7 +169,7 @@ impl<'g> Kinds<'g> {
         ensures limit { result ≡ self.now.weights.limit }
         ensures weighs { Weighs self.now.weights self.now.grammar }
     {
-        self.weights.limit()
+        self.weights().limit()
     }
 
     /// What the least tree of a kind and a symbol costs: `Never` where there is none, `Large` where each is larger than the
@@ -188,7 +191,7 @@ impl<'g> Kinds<'g> {
         ensures { IsKindCost self.now kind symbol result }
     {
         match symbol {
-            Symbol::Token(token) => leaf_cost(self.weights, kind, token),
+            Symbol::Token(token) => leaf_cost(self.weights(), kind, token),
             Symbol::Nonterminal(number) => row[place_of(number)],
         }
     }
@@ -223,22 +226,25 @@ impl<'g> Kinds<'g> {
     }
 }
 
-fn kinds_of<'g>(
-    grammar: &'g Grammar,
-    weights: &'g Weights,
-    rows: Rows,
-    lefts: Vec<Vec<u16>>,
-) -> Kinds<'g>
-    requires rows { AreTablesOf weights.now grammar.now rows }
-    requires lefts { AreLefts grammar.now lefts.items }
-    ensures { result ≡ weighed grammar.now weights.now }
+// The rows of all kinds.
+fn rows_of(alloc: Global, costs: &Costs) -> Result<Rows, AllocError>
+    ensures { IfOk result (AreTablesOf costs.now.weights costs.now.grammar) }
 {
-    Kinds {
-        grammar,
-        weights,
-        rows,
-        lefts,
-    }
+    let _weights = costs.weights();
+    let any = any_row(alloc, costs)?;
+    let empty = empty_row(alloc, costs)?;
+    let bases = Bases {
+        costs,
+        empty: empty.costs(),
+    };
+    let begins = token_rows(alloc, costs, &net_of(alloc, &bases, Side::First)?)?;
+    let ends = token_rows(alloc, costs, &net_of(alloc, &bases, Side::Last)?)?;
+    Ok(Rows {
+        any,
+        empty,
+        begins,
+        ends,
+    })
 }
 
 // What any trees cost, as `Costs` says.

@@ -12,7 +12,6 @@ use crate::kinds::kind::TreeKind;
 use crate::kinds::kinds::Kinds;
 use crate::kinds::roots::{placed_in, root_of};
 use cs_grammar::{Derivation, Symbol};
-use cs_least::Costs;
 use std::alloc::{AllocError, Global};
 
 // Room for as many pending parts is made at once.
@@ -84,12 +83,10 @@ fn open_part(
 // Writes a part, or what stands at the root of its tree.
 fn take_on(
     kinds: &Kinds,
-    costs: &Costs,
     part: Part,
     pending: &mut Vec<Part>,
     into: &mut Derivation,
 ) -> Result<(), AllocError>
-    requires costs { costs.now ≡ kinds.now }
     requires measure { IsMeasure kinds.now.weights }
     requires part { IsPartOf kinds.now.grammar part }
     requires small { HasSmallIn kinds.now part.kind part.symbol }
@@ -100,7 +97,7 @@ fn take_on(
     match part.symbol {
         Symbol::Token(_) => Ok(()),
         Symbol::Nonterminal(left) => match part.kind {
-            TreeKind::Any => costs.least_into(part.symbol, into),
+            TreeKind::Any => kinds.costs().least_into(part.symbol, into),
             _ => open_part(kinds, part.kind, left, pending, into),
         },
     }
@@ -110,12 +107,10 @@ fn take_on(
 // refusal a part of it may be there.
 fn write_some(
     kinds: &Kinds,
-    costs: &Costs,
     pending: &mut Vec<Part>,
     into: &mut Derivation,
 ) -> Result<(), AllocError>
-    requires costs { costs.now ≡ kinds.now }
-    requires pending { ArePending kinds.now pending.old }
+    requires { ArePending kinds.now pending.old }
     ensures written { OnOk result (Writes kinds.now pending.old into.old into.new) }
     ensures grown { IsGrown into.old into.new }
 {
@@ -124,25 +119,19 @@ fn write_some(
         let Some(part) = pending.pop() else {
             return Ok(());
         };
-        take_on(kinds, costs, part, pending, into)?;
+        take_on(kinds, part, pending, into)?;
     }
     Ok(())
 }
 
 // Writes what is pending, which stands in reverse. A refusal takes back what was written.
-fn write(
-    kinds: &Kinds,
-    costs: &Costs,
-    pending: &mut Vec<Part>,
-    into: &mut Derivation,
-) -> Result<(), AllocError>
-    requires costs { costs.now ≡ kinds.now }
-    requires pending { ArePending kinds.now pending.old }
+fn write(kinds: &Kinds, pending: &mut Vec<Part>, into: &mut Derivation) -> Result<(), AllocError>
+    requires { ArePending kinds.now pending.old }
     ensures written { OnOk result (Writes kinds.now pending.old into.old into.new) }
     ensures refused { OnErr result (into.new ≡ into.old) }
 {
     let before = into.rules().len();
-    let written = write_some(kinds, costs, pending, into);
+    let written = write_some(kinds, pending, into);
     if written.is_err() {
         into.truncate(before);
     }
@@ -159,13 +148,11 @@ fn no_parts(alloc: Global) -> Result<Vec<Part>, AllocError>
 // What `kind_into` does, with room for pending parts that is kept. What is in it is left out.
 pub(crate) fn kind_onto(
     kinds: &Kinds,
-    costs: &Costs,
     kind: TreeKind,
     symbols: &[Symbol],
     pending: &mut Vec<Part>,
     into: &mut Derivation,
 ) -> Result<(), AllocError>
-    requires costs { costs.now ≡ kinds.now }
     requires kind { IsKind kinds.now.grammar.tokens kind }
     requires symbols { All (IsSymbolOf kinds.now.grammar) symbols.now }
     requires small { HaveSmallOfKind kinds.now.weights kinds.now.grammar kind symbols.now }
@@ -175,7 +162,7 @@ pub(crate) fn kind_onto(
     let placed = placed_in(kinds, &kinds.rows_beside(kind), symbols);
     pending.clear();
     put_first(pending, kind, placed.place, symbols)?;
-    write(kinds, costs, pending, into)
+    write(kinds, pending, into)
 }
 
 /// Appends the codes of the chosen trees of these symbols that are of the kind together, from left to right. Some such trees
@@ -183,12 +170,10 @@ pub(crate) fn kind_onto(
 pub fn kind_into(
     alloc: Global,
     kinds: &Kinds,
-    costs: &Costs,
     kind: TreeKind,
     symbols: &[Symbol],
     into: &mut Derivation,
 ) -> Result<(), AllocError>
-    requires costs { costs.now ≡ kinds.now }
     requires kind { IsKind kinds.now.grammar.tokens kind }
     requires symbols { All (IsSymbolOf kinds.now.grammar) symbols.now }
     requires small { HaveSmallOfKind kinds.now.weights kinds.now.grammar kind symbols.now }
@@ -196,5 +181,5 @@ pub fn kind_into(
     ensures err { OnErr result (into.new ≡ into.old) }
 {
     let mut pending = no_parts(alloc)?;
-    kind_onto(kinds, costs, kind, symbols, &mut pending, into)
+    kind_onto(kinds, kind, symbols, &mut pending, into)
 }

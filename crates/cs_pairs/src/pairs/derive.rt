@@ -13,7 +13,6 @@ use crate::kinds::{Kinds, TreeKind, kind_into, kind_onto};
 use crate::pairs::kept::Kept;
 use crate::pairs::meeting::{Meeting, TokenPair};
 use cs_grammar::{Derivation, Symbol};
-use cs_least::{Costs, Embeds};
 use std::alloc::{AllocError, Global};
 
 // Room for as many rule numbers is made at once.
@@ -23,18 +22,16 @@ const USUAL_RULES: usize = 32;
 pub(crate) fn kind_code(
     alloc: Global,
     kinds: &Kinds,
-    costs: &Costs,
     kind: TreeKind,
     symbol: Symbol,
 ) -> Result<Derivation, AllocError>
-    requires costs { costs.now ≡ kinds.now }
     requires kind { IsKind kinds.now.grammar.tokens kind }
     requires symbol { IsSymbolOf kinds.now.grammar symbol }
     requires small { HasSmallOfKind kinds.now.weights kinds.now.grammar kind symbol }
     ensures { IfOk result (IsCodeOfKind kinds.now.weights kinds.now.grammar kind symbol) }
 {
     let mut derivation = Derivation::with_capacity(alloc, USUAL_RULES)?;
-    kind_into(alloc, kinds, costs, kind, &[symbol], &mut derivation)?;
+    kind_into(alloc, kinds, kind, &[symbol], &mut derivation)?;
     Ok(derivation)
 }
 
@@ -60,17 +57,13 @@ fn split_at(right: &[Symbol], place: usize) -> Split<'_>
 }
 
 // The code of the chosen tree of two tokens, which meet in it at this rule and place.
-pub(crate) fn seam_code<'g>(
+pub(crate) fn seam_code(
     alloc: Global,
-    kinds: &Kinds<'g>,
-    costs: &Costs<'g>,
-    embeds: &Embeds<'g>,
+    kinds: &Kinds,
     kept: &mut Kept,
     tokens: TokenPair,
     at: Meeting,
 ) -> Result<Derivation, AllocError>
-    requires costs { costs.now ≡ kinds.now }
-    requires embeds { embeds.now ≡ kinds.now }
     requires contexts { AreContextsOf kinds.now kept.old.contexts }
     requires first { IsNumberOf kinds.now.grammar.tokens tokens.first }
     requires second { IsNumberOf kinds.now.grammar.tokens tokens.second }
@@ -80,15 +73,14 @@ pub(crate) fn seam_code<'g>(
 {
     let rule = kinds.grammar().rule(at.rule);
     let parts = split_at(rule.right(), at.place as usize);
-    let around = kept.contexts.take(costs, embeds, rule.left())?;
+    let around = kept.contexts.take(kinds.embeds(), rule.left())?;
     let mut derivation = Derivation::with_capacity(alloc, USUAL_RULES)?;
     derivation.extend_from_slice(&around.context.before)?;
     derivation.push(at.rule)?;
-    costs.all_into(parts.before, &mut derivation)?;
+    kinds.costs().all_into(parts.before, &mut derivation)?;
     let last = [parts.symbol];
     kind_onto(
         kinds,
-        costs,
         TreeKind::Ends(tokens.first),
         &last,
         &mut kept.pending,
@@ -96,7 +88,6 @@ pub(crate) fn seam_code<'g>(
     )?;
     kind_onto(
         kinds,
-        costs,
         TreeKind::Begins(tokens.second),
         parts.behind,
         &mut kept.pending,

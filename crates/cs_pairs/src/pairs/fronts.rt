@@ -1,6 +1,6 @@
 // What stands before and behind the places of a rule.
 
-ghost use Rattle.std.specs.Prelude.{◌≡◌, IfOk};
+ghost use Rattle.std.specs.Prelude.{IfOk};
 ghost use Rattle.cs_grammar.specs.Grammar.{IsSomeRule};
 ghost use Rattle.cs_pairs.specs.Pairs.Fronts.{AreFrontsIn, AreBehindsIn, IsAround};
 
@@ -11,12 +11,12 @@ use std::alloc::{AllocError, Global};
 
 // What stands before each place of a rule's right side costs: a context of the left side, the node, and trees of the symbols
 // before the place.
-fn fronts_of(alloc: Global, costs: &Costs, embeds: &Embeds, rule: &Rule) -> Result<Row, AllocError>
-    requires embeds { embeds.now ≡ costs.now }
-    requires rule { IsSomeRule costs.now.grammar rule.now }
-    ensures { IfOk result (AreFrontsIn costs.now rule.now) }
+fn fronts_of(alloc: Global, embeds: &Embeds, rule: &Rule) -> Result<Row, AllocError>
+    requires { IsSomeRule embeds.now.grammar rule.now }
+    ensures { IfOk result (AreFrontsIn embeds.now rule.now) }
 {
-    let _rules = costs.grammar().rules();
+    let costs = embeds.costs();
+    let _rules = embeds.grammar().rules();
     let mut fronts = Vec::new(alloc);
     let mut front = costs.plus(costs.node(), embeds.embed(rule.left()));
     for symbol in rule.right() {
@@ -47,21 +47,18 @@ pub(crate) struct Around {
     pub(crate) behinds: Vec<Row>,
 }
 
-pub(crate) fn around_rules(
-    alloc: Global,
-    costs: &Costs,
-    embeds: &Embeds,
-) -> Result<Around, AllocError>
-    requires { embeds.now ≡ costs.now }
-    ensures { IfOk result (IsAround costs.now) }
+pub(crate) fn around_rules(alloc: Global, embeds: &Embeds) -> Result<Around, AllocError>
+    ensures { IfOk result (IsAround embeds.now) }
 {
     let mut around = Around {
         fronts: Vec::new(alloc),
         behinds: Vec::new(alloc),
     };
-    for rule in costs.grammar().rules() {
-        around.fronts.push(fronts_of(alloc, costs, embeds, rule)?)?;
-        around.behinds.push(behinds_of(alloc, costs, rule)?)?;
+    for rule in embeds.grammar().rules() {
+        around.fronts.push(fronts_of(alloc, embeds, rule)?)?;
+        around
+            .behinds
+            .push(behinds_of(alloc, embeds.costs(), rule)?)?;
     }
     Ok(around)
 }

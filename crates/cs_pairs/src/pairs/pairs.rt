@@ -41,18 +41,13 @@ impl<'g> Model for Pairs<'g> {
 }
 
 impl<'g> Pairs<'g> {
-    /// The pairs of a grammar, whose trees and contexts cost this.
-    pub fn new(
-        alloc: Global,
-        costs: &Costs<'g>,
-        embeds: &Embeds<'g>,
-    ) -> Result<Pairs<'g>, AllocError>
-        requires { embeds.now ≡ costs.now }
-        ensures { IfOk result (λ pairs. pairs ≡ costs.now) }
+    /// The pairs of a grammar, whose trees and contexts cost this. The costs are kept with them.
+    pub fn new(alloc: Global, embeds: Embeds<'g>) -> Result<Pairs<'g>, AllocError>
+        ensures { IfOk result (λ pairs. pairs ≡ embeds.entry) }
     {
-        let kinds = Kinds::new(alloc, costs)?;
-        let around = around_rules(alloc, costs, embeds)?;
-        let steps = kinds.steps_to_ends(alloc, costs)?;
+        let kinds = Kinds::new(alloc, embeds)?;
+        let around = around_rules(alloc, kinds.embeds())?;
+        let steps = kinds.steps_to_ends(alloc)?;
         let rows = follow_rows(alloc, &kinds, &steps, &around)?;
         Ok(Pairs { kinds, rows })
     }
@@ -62,6 +57,20 @@ impl<'g> Pairs<'g> {
         ensures { result.now ≡ self.now.grammar }
     {
         self.kinds.grammar()
+    }
+
+    /// What the least contexts of its nonterminals cost, and which contexts are chosen.
+    pub fn embeds(&self) -> &Embeds<'g>
+        ensures { result.now ≡ self.now }
+    {
+        self.kinds.embeds()
+    }
+
+    /// What the least trees of its symbols cost, and which trees are chosen.
+    pub fn costs(&self) -> &Costs<'g>
+        ensures { result.now ≡ self.now }
+    {
+        self.kinds.costs()
     }
 
     /// Whether some framed sentence has one mark directly followed by the other, whatever the size of its trees. The left one
@@ -102,14 +111,10 @@ impl<'g> Pairs<'g> {
     pub fn derive(
         &self,
         alloc: Global,
-        costs: &Costs<'g>,
-        embeds: &Embeds<'g>,
         kept: &mut Kept,
         left: Mark,
         right: Mark,
     ) -> Result<Derivation, AllocError>
-        requires costs { costs.now ≡ self.now }
-        requires embeds { embeds.now ≡ self.now }
         requires contexts { AreContextsOf self.now kept.old.contexts }
         requires left { IsLeft self.now.grammar.tokens left }
         requires right { IsRight self.now.grammar.tokens right }
@@ -118,21 +123,15 @@ impl<'g> Pairs<'g> {
         ensures contexts { AreContextsOf self.now kept.new.contexts }
     {
         match (left, right) {
-            (Mark::Begin, Mark::Token(second)) => self.derive_whole(
-                alloc,
-                costs,
-                TreeKind::Begins(second),
-            ),
+            (Mark::Begin, Mark::Token(second)) => {
+                self.derive_whole(alloc, TreeKind::Begins(second))
+            }
             (Mark::Token(first), Mark::Token(second)) => {
                 let tokens = TokenPair { first, second };
-                self.derive_tokens(alloc, costs, embeds, kept, tokens)
+                self.derive_tokens(alloc, kept, tokens)
             }
-            (Mark::Token(first), Mark::End) => self.derive_whole(
-                alloc,
-                costs,
-                TreeKind::Ends(first),
-            ),
-            (Mark::Begin, Mark::End) => self.derive_whole(alloc, costs, TreeKind::Empty),
+            (Mark::Token(first), Mark::End) => self.derive_whole(alloc, TreeKind::Ends(first)),
+            (Mark::Begin, Mark::End) => self.derive_whole(alloc, TreeKind::Empty),
             _ => unreachable!(),
         }
     }
@@ -174,13 +173,7 @@ impl<'g> Pairs<'g> {
     }
 
     // The code of the chosen tree of the start symbol that is of a kind.
-    fn derive_whole(
-        &self,
-        alloc: Global,
-        costs: &Costs,
-        kind: TreeKind,
-    ) -> Result<Derivation, AllocError>
-        requires costs { costs.now ≡ self.now }
+    fn derive_whole(&self, alloc: Global, kind: TreeKind) -> Result<Derivation, AllocError>
         requires kind { IsKind self.now.grammar.tokens kind }
         requires small { HasSmallWhole self.now kind }
         ensures { IfOk result (IsCodeOfWhole self.now kind) }
@@ -188,20 +181,16 @@ impl<'g> Pairs<'g> {
         let grammar = self.kinds.grammar();
         let _rules = grammar.rules();
         let start = Symbol::Nonterminal(grammar.start());
-        kind_code(alloc, &self.kinds, costs, kind, start)
+        kind_code(alloc, &self.kinds, kind, start)
     }
 
     // The code of the chosen tree of two tokens.
     fn derive_tokens(
         &self,
         alloc: Global,
-        costs: &Costs<'g>,
-        embeds: &Embeds<'g>,
         kept: &mut Kept,
         tokens: TokenPair,
     ) -> Result<Derivation, AllocError>
-        requires costs { costs.now ≡ self.now }
-        requires embeds { embeds.now ≡ self.now }
         requires contexts { AreContextsOf self.now kept.old.contexts }
         requires first { IsNumberOf self.now.grammar.tokens tokens.first }
         requires second { IsNumberOf self.now.grammar.tokens tokens.second }
@@ -213,7 +202,7 @@ impl<'g> Pairs<'g> {
         let Some(at) = meetings[place_of(tokens.first)] else {
             unreachable!()
         };
-        seam_code(alloc, &self.kinds, costs, embeds, kept, tokens, at)
+        seam_code(alloc, &self.kinds, kept, tokens, at)
     }
 
     // What the least tree of the start symbol costs that is of a kind.

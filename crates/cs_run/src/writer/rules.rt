@@ -57,13 +57,13 @@ fn write_rule_goals<'f, R: Threads + Sync, O: Sink, G: Gate + Sync>(
     ensures room { IsCalmForAll O.Sink (IsRules file.now) out.old out.new }
 {
     let costs = Costs::new(alloc, file.grammar(), weights)?;
-    let embeds = Embeds::new(alloc, &costs)?;
+    let embeds = Embeds::new(alloc, costs)?;
     let plan = Plan {
         yacc: file,
         criteria: RULE_GOALS,
         form: PlanForm::Rules,
     };
-    let positives = Positives::of_trees(&costs, &embeds, RULE_GOALS);
+    let positives = Positives::of_trees(&embeds, RULE_GOALS);
     write_out(crew, alloc, &plan, positives, out)?;
     Ok(())
 }

@@ -10,7 +10,7 @@ ghost use Rattle.cs_verdicts.specs.Positive.Verdict.{IsGoalCost, HasLeastIn, IsC
 use crate::positive::sums::{USUAL_RULES, node_cost};
 use cs_goals::Goal;
 use cs_grammar::{Derivation, Grammar, Rule, Symbol, place_of};
-use cs_least::{Contexts, Cost, Costs, Embeds};
+use cs_least::{Contexts, Cost, Embeds};
 use std::alloc::{AllocError, Global};
 
 // The rules of a context goal, and the symbols beside the inner one's left side in the outer one's right side.
@@ -41,18 +41,12 @@ fn occurrence_of<'g>(grammar: &'g Grammar, outer: u16, place: u16, inner: u16) -
 }
 
 // What the least tree costs that meets a context goal.
-pub(crate) fn context_cost(
-    costs: &Costs,
-    embeds: &Embeds,
-    outer: u16,
-    place: u16,
-    inner: u16,
-) -> Cost
-    requires embeds { embeds.now ≡ costs.now }
-    requires goal { IsOccurrence costs.now.grammar outer place inner }
-    ensures { IsGoalCost costs.now (Goal.Context outer place inner) result }
+pub(crate) fn context_cost(embeds: &Embeds, outer: u16, place: u16, inner: u16) -> Cost
+    requires { IsOccurrence embeds.now.grammar outer place inner }
+    ensures { IsGoalCost embeds.now (Goal.Context outer place inner) result }
 {
-    let parts = occurrence_of(costs.grammar(), outer, place, inner);
+    let costs = embeds.costs();
+    let parts = occurrence_of(embeds.grammar(), outer, place, inner);
     let siblings = costs.plus(costs.sum(parts.before), costs.sum(parts.behind));
     let context = embeds.embed(parts.outer.left());
     let around = costs.plus(context, node_cost(costs, siblings));
@@ -63,22 +57,21 @@ pub(crate) fn context_cost(
 // The code of the chosen tree of a context goal.
 pub(crate) fn derive_context(
     alloc: Global,
-    costs: &Costs,
     embeds: &Embeds,
     outer: u16,
     place: u16,
     inner: u16,
     contexts: &mut Contexts,
 ) -> Result<Derivation, AllocError>
-    requires embeds { embeds.now ≡ costs.now }
-    requires goal { IsOccurrence costs.now.grammar outer place inner }
-    requires feasible { HasLeastIn costs.now (Goal.Context outer place inner) }
-    requires contexts { AreContextsOf costs.now contexts.old }
-    ensures code { IfOk result (IsCodeIn costs.now (Goal.Context outer place inner)) }
-    ensures contexts { AreContextsOf costs.now contexts.new }
+    requires goal { IsOccurrence embeds.now.grammar outer place inner }
+    requires feasible { HasLeastIn embeds.now (Goal.Context outer place inner) }
+    requires contexts { AreContextsOf embeds.now contexts.old }
+    ensures code { IfOk result (IsCodeIn embeds.now (Goal.Context outer place inner)) }
+    ensures contexts { AreContextsOf embeds.now contexts.new }
 {
-    let parts = occurrence_of(costs.grammar(), outer, place, inner);
-    let around = contexts.take(costs, embeds, parts.outer.left())?;
+    let costs = embeds.costs();
+    let parts = occurrence_of(embeds.grammar(), outer, place, inner);
+    let around = contexts.take(embeds, parts.outer.left())?;
     let mut derivation = Derivation::with_capacity(alloc, USUAL_RULES)?;
     derivation.extend_from_slice(&around.context.before)?;
     derivation.push(outer)?;

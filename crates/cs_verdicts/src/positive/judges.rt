@@ -2,7 +2,7 @@
 
 ghost use Rattle.std.specs.Prelude.{IfOk};
 ghost use Rattle.cs_goals.specs.Goal.{IsGoal};
-ghost use Rattle.cs_verdicts.specs.Positive.Judges.{judged_by, CanJudge, IsJudge};
+ghost use Rattle.cs_verdicts.specs.Positive.Judges.{judged_by, CanJudge};
 ghost use Rattle.cs_least.specs.Embed.Contexts.{AreContextsOf};
 ghost use Rattle.cs_verdicts.specs.Positive.Verdict.{IsVerdictIn};
 
@@ -10,7 +10,7 @@ use crate::positive::judging::{judge_keeping, judge_tree_keeping};
 use crate::positive::tables::Tables;
 use crate::positive::verdict::Verdict;
 use cs_goals::Goal;
-use cs_least::{Costs, Embeds};
+use cs_least::Embeds;
 use cs_pairs::Kept;
 use std::alloc::{AllocError, Global};
 
@@ -18,10 +18,7 @@ use std::alloc::{AllocError, Global};
 #[derive(Clone, Copy, Debug)]
 pub(crate) enum Judge<'t> {
     Tables(&'t Tables<'t>),
-    Trees {
-        costs: &'t Costs<'t>,
-        embeds: &'t Embeds<'t>,
-    },
+    Trees(&'t Embeds<'t>),
 }
 
 impl<'t> Judge<'t> {
@@ -31,7 +28,6 @@ impl<'t> Judge<'t> {
         goal: &Goal,
         kept: &mut Kept,
     ) -> Result<Verdict, AllocError>
-        requires judge { IsJudge self.now }
         requires goal { IsGoal (judged_by self.now).grammar goal.now }
         requires kind { CanJudge self.now goal.now }
         requires contexts { AreContextsOf (judged_by self.now) kept.old.contexts }
@@ -40,13 +36,7 @@ impl<'t> Judge<'t> {
     {
         match *self {
             Judge::Tables(tables) => judge_keeping(alloc, tables, goal, kept),
-            Judge::Trees { costs, embeds } => judge_tree_keeping(
-                alloc,
-                costs,
-                embeds,
-                goal,
-                &mut kept.contexts,
-            ),
+            Judge::Trees(embeds) => judge_tree_keeping(alloc, embeds, goal, &mut kept.contexts),
         }
     }
 }

@@ -1,6 +1,6 @@
 // The verdict of a goal.
 
-ghost use Rattle.std.specs.Prelude.{◌≡◌, IfOk};
+ghost use Rattle.std.specs.Prelude.{IfOk};
 ghost use Rattle.cs_goals.specs.Goal.{IsGoal};
 ghost use Rattle.cs_least.specs.Embed.Contexts.{AreContextsOf};
 ghost use Rattle.cs_verdicts.specs.Positive.Verdict.{IsVerdictIn, IsTreeGoal, IsGoalCost, HasLeastIn, IsCodeIn};
@@ -12,7 +12,7 @@ use crate::positive::tables::Tables;
 use crate::positive::verdict::Verdict;
 use cs_goals::Goal;
 use cs_grammar::Derivation;
-use cs_least::{Contexts, Cost, Costs, Embeds};
+use cs_least::{Contexts, Cost, Embeds};
 use cs_pairs::Kept;
 use std::alloc::{AllocError, Global};
 
@@ -23,7 +23,7 @@ pub fn judge(alloc: Global, tables: &Tables, goal: &Goal) -> Result<Verdict, All
     requires { IsGoal tables.now.grammar goal.now }
     ensures { IfOk result (IsVerdictIn tables.now goal.now) }
 {
-    let mut kept = Kept::new(&tables.embeds);
+    let mut kept = Kept::new(tables.embeds());
     judge_keeping(alloc, tables, goal, &mut kept)
 }
 
@@ -41,71 +41,56 @@ pub(crate) fn judge_keeping(
 {
     match *goal {
         Goal::Pair { left, right } => judge_pair(alloc, tables, kept, left, right),
-        _ => judge_tree_keeping(
-            alloc,
-            &tables.costs,
-            &tables.embeds,
-            goal,
-            &mut kept.contexts,
-        ),
+        _ => judge_tree_keeping(alloc, tables.embeds(), goal, &mut kept.contexts),
     }
 }
 
 /// The verdict of a rule goal or a context goal, as `judge` gives it, without the tables of pairs.
-pub fn judge_tree_goal(
-    alloc: Global,
-    costs: &Costs,
-    embeds: &Embeds,
-    goal: &Goal,
-) -> Result<Verdict, AllocError>
-    requires embeds { embeds.now ≡ costs.now }
-    requires goal { IsGoal costs.now.grammar goal.now }
+pub fn judge_tree_goal(alloc: Global, embeds: &Embeds, goal: &Goal) -> Result<Verdict, AllocError>
+    requires goal { IsGoal embeds.now.grammar goal.now }
     requires kind { IsTreeGoal goal.now }
-    ensures { IfOk result (IsVerdictIn costs.now goal.now) }
+    ensures { IfOk result (IsVerdictIn embeds.now goal.now) }
 {
     let mut contexts = Contexts::new(embeds);
-    judge_tree_keeping(alloc, costs, embeds, goal, &mut contexts)
+    judge_tree_keeping(alloc, embeds, goal, &mut contexts)
 }
 
 // The same, by contexts that are kept from goal to goal.
 pub(crate) fn judge_tree_keeping(
     alloc: Global,
-    costs: &Costs,
     embeds: &Embeds,
     goal: &Goal,
     contexts: &mut Contexts,
 ) -> Result<Verdict, AllocError>
-    requires embeds { embeds.now ≡ costs.now }
-    requires goal { IsGoal costs.now.grammar goal.now }
+    requires goal { IsGoal embeds.now.grammar goal.now }
     requires kind { IsTreeGoal goal.now }
-    requires contexts { AreContextsOf costs.now contexts.old }
-    ensures verdict { IfOk result (IsVerdictIn costs.now goal.now) }
-    ensures contexts { AreContextsOf costs.now contexts.new }
+    requires contexts { AreContextsOf embeds.now contexts.old }
+    ensures verdict { IfOk result (IsVerdictIn embeds.now goal.now) }
+    ensures contexts { AreContextsOf embeds.now contexts.new }
 {
-    match goal_cost(costs, embeds, goal) {
+    match goal_cost(embeds, goal) {
         Cost::Never => Ok(Verdict::Infeasible),
         Cost::Large => Ok(Verdict::Large),
         Cost::Least(size) => {
-            let derivation = derive_goal(alloc, costs, embeds, goal, contexts)?;
+            let derivation = derive_goal(alloc, embeds, goal, contexts)?;
             Ok(Verdict::Feasible { size, derivation })
         }
     }
 }
 
 // What the least tree costs that meets a rule goal or a context goal.
-fn goal_cost(costs: &Costs, embeds: &Embeds, goal: &Goal) -> Cost
-    requires embeds { embeds.now ≡ costs.now }
-    requires goal { IsGoal costs.now.grammar goal.now }
+fn goal_cost(embeds: &Embeds, goal: &Goal) -> Cost
+    requires goal { IsGoal embeds.now.grammar goal.now }
     requires kind { IsTreeGoal goal.now }
-    ensures { IsGoalCost costs.now goal.now result }
+    ensures { IsGoalCost embeds.now goal.now result }
 {
     match *goal {
-        Goal::Rule(rule) => rule_cost(costs, embeds, rule),
+        Goal::Rule(rule) => rule_cost(embeds, rule),
         Goal::Context {
             outer,
             place,
             inner,
-        } => context_cost(costs, embeds, outer, place, inner),
+        } => context_cost(embeds, outer, place, inner),
         Goal::Pair { .. } => unreachable!(),
     }
 }
@@ -113,26 +98,24 @@ fn goal_cost(costs: &Costs, embeds: &Embeds, goal: &Goal) -> Cost
 // The code of the chosen tree of a rule goal or a context goal.
 fn derive_goal(
     alloc: Global,
-    costs: &Costs,
     embeds: &Embeds,
     goal: &Goal,
     contexts: &mut Contexts,
 ) -> Result<Derivation, AllocError>
-    requires embeds { embeds.now ≡ costs.now }
-    requires goal { IsGoal costs.now.grammar goal.now }
+    requires goal { IsGoal embeds.now.grammar goal.now }
     requires kind { IsTreeGoal goal.now }
-    requires feasible { HasLeastIn costs.now goal.now }
-    requires contexts { AreContextsOf costs.now contexts.old }
-    ensures code { IfOk result (IsCodeIn costs.now goal.now) }
-    ensures contexts { AreContextsOf costs.now contexts.new }
+    requires feasible { HasLeastIn embeds.now goal.now }
+    requires contexts { AreContextsOf embeds.now contexts.old }
+    ensures code { IfOk result (IsCodeIn embeds.now goal.now) }
+    ensures contexts { AreContextsOf embeds.now contexts.new }
 {
     match *goal {
-        Goal::Rule(rule) => derive_rule(alloc, costs, embeds, rule, contexts),
+        Goal::Rule(rule) => derive_rule(alloc, embeds, rule, contexts),
         Goal::Context {
             outer,
             place,
             inner,
-        } => derive_context(alloc, costs, embeds, outer, place, inner, contexts),
+        } => derive_context(alloc, embeds, outer, place, inner, contexts),
         Goal::Pair { .. } => unreachable!(),
     }
 }

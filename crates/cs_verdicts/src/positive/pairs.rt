@@ -30,9 +30,7 @@ pub(crate) fn judge_pair(
         Cost::Never => Ok(Verdict::Infeasible),
         Cost::Large => Ok(Verdict::Large),
         Cost::Least(size) => {
-            let derivation = tables
-                .pairs
-                .derive(alloc, &tables.costs, &tables.embeds, kept, left, right)?;
+            let derivation = tables.pairs.derive(alloc, kept, left, right)?;
             Ok(Verdict::Feasible { size, derivation })
         }
     }

@@ -8,7 +8,7 @@ use crate::positive::tables::Tables;
 use crate::positive::verdict::Verdict;
 use cs_choices::Criteria;
 use cs_goals::{Goal, Goals};
-use cs_least::{Costs, Embeds};
+use cs_least::Embeds;
 use cs_pairs::Kept;
 use std::alloc::{AllocError, Global};
 use std::marker::Model;
@@ -30,7 +30,7 @@ pub struct Positives<'t> {
 
 impl<'t> Model for Positives<'t> {
     ghost use Rattle.std.specs.Prelude.{All};
-    ghost use Rattle.cs_verdicts.specs.Positive.Judges.{judged_by, CanJudge, IsJudge};
+    ghost use Rattle.cs_verdicts.specs.Positive.Judges.{judged_by, CanJudge};
     ghost use Rattle.cs_least.specs.Embed.Contexts.{AreContextsOf};
     ghost use Rattle.cs_verdicts.specs.Positive.Positives.{ToJudge, AreOfGrammar};
 
@@ -38,8 +38,7 @@ impl<'t> Model for Positives<'t> {
 
     ghost view = { λ p. record { tables = judged_by p.judge; goals = p.goals } };
 
-    ghost invariant = { λ p. IsJudge p.judge
-        × AreOfGrammar (judged_by p.judge).grammar p.goals
+    ghost invariant = { λ p. AreOfGrammar (judged_by p.judge).grammar p.goals
         × All (CanJudge p.judge) p.goals
         × AreContextsOf (judged_by p.judge) p.kept.contexts };
 }
@@ -52,23 +51,18 @@ impl<'t> Positives<'t> {
         Positives {
             judge: Judge::Tables(tables),
             goals: Goals::new(tables.grammar(), criteria),
-            kept: Kept::new(&tables.embeds),
+            kept: Kept::new(tables.embeds()),
         }
     }
 
     /// The same without the tables of pairs, where no pair goals are chosen.
-    pub fn of_trees(
-        costs: &'t Costs<'t>,
-        embeds: &'t Embeds<'t>,
-        criteria: Criteria,
-    ) -> Positives<'t>
-        requires embeds { embeds.now ≡ costs.now }
-        requires criteria { criteria.pair ≡ false }
-        ensures { result ≡ positives_of costs.now criteria }
+    pub fn of_trees(embeds: &'t Embeds<'t>, criteria: Criteria) -> Positives<'t>
+        requires { criteria.pair ≡ false }
+        ensures { result ≡ positives_of embeds.now criteria }
     {
         Positives {
-            judge: Judge::Trees { costs, embeds },
-            goals: Goals::new(costs.grammar(), criteria),
+            judge: Judge::Trees(embeds),
+            goals: Goals::new(embeds.grammar(), criteria),
             kept: Kept::new(embeds),
         }
     }

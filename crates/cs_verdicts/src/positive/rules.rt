@@ -8,16 +8,16 @@ ghost use Rattle.cs_verdicts.specs.Positive.Verdict.{IsGoalCost, HasLeastIn, IsC
 use crate::positive::sums::{USUAL_RULES, node_cost};
 use cs_goals::Goal;
 use cs_grammar::Derivation;
-use cs_least::{Contexts, Cost, Costs, Embeds};
+use cs_least::{Contexts, Cost, Embeds};
 use std::alloc::{AllocError, Global};
 
 // What the least tree costs that meets a rule goal.
-pub(crate) fn rule_cost(costs: &Costs, embeds: &Embeds, number: u16) -> Cost
-    requires embeds { embeds.now ≡ costs.now }
-    requires number { IsNumberOf (length costs.now.grammar.rules) number }
-    ensures { IsGoalCost costs.now (Goal.Rule number) result }
+pub(crate) fn rule_cost(embeds: &Embeds, number: u16) -> Cost
+    requires { IsNumberOf (length embeds.now.grammar.rules) number }
+    ensures { IsGoalCost embeds.now (Goal.Rule number) result }
 {
-    let rule = costs.grammar().rule(number);
+    let costs = embeds.costs();
+    let rule = embeds.grammar().rule(number);
     let around = embeds.embed(rule.left());
     let node = node_cost(costs, costs.sum(rule.right()));
     costs.plus(around, node)
@@ -26,20 +26,19 @@ pub(crate) fn rule_cost(costs: &Costs, embeds: &Embeds, number: u16) -> Cost
 // The code of the chosen tree of a rule goal.
 pub(crate) fn derive_rule(
     alloc: Global,
-    costs: &Costs,
     embeds: &Embeds,
     number: u16,
     contexts: &mut Contexts,
 ) -> Result<Derivation, AllocError>
-    requires embeds { embeds.now ≡ costs.now }
-    requires number { IsNumberOf (length costs.now.grammar.rules) number }
-    requires feasible { HasLeastIn costs.now (Goal.Rule number) }
-    requires contexts { AreContextsOf costs.now contexts.old }
-    ensures code { IfOk result (IsCodeIn costs.now (Goal.Rule number)) }
-    ensures contexts { AreContextsOf costs.now contexts.new }
+    requires number { IsNumberOf (length embeds.now.grammar.rules) number }
+    requires feasible { HasLeastIn embeds.now (Goal.Rule number) }
+    requires contexts { AreContextsOf embeds.now contexts.old }
+    ensures code { IfOk result (IsCodeIn embeds.now (Goal.Rule number)) }
+    ensures contexts { AreContextsOf embeds.now contexts.new }
 {
-    let rule = costs.grammar().rule(number);
-    let around = contexts.take(costs, embeds, rule.left())?;
+    let costs = embeds.costs();
+    let rule = embeds.grammar().rule(number);
+    let around = contexts.take(embeds, rule.left())?;
     let mut derivation = Derivation::with_capacity(alloc, USUAL_RULES)?;
     derivation.extend_from_slice(&around.context.before)?;
     derivation.push(number)?;

@@ -11,20 +11,15 @@ use std::marker::Model;
 /// What the least trees and the least contexts of a grammar cost by some weights, and what its pairs of neighbours do.
 #[derive(Debug, Drop)]
 pub struct Tables<'g> {
-    pub(crate) costs: Costs<'g>,
-    pub(crate) embeds: Embeds<'g>,
     pub(crate) pairs: Pairs<'g>,
 }
 
 impl<'g> Model for Tables<'g> {
-    ghost use Rattle.std.specs.Prelude.{◌≡◌};
     ghost use Rattle.cs_grammar.specs.Weights.{Weighed};
 
     ghost Value = { Weighed };
 
-    ghost view = { λ t. t.costs };
-
-    ghost invariant = { λ t. (t.embeds ≡ t.costs) × (t.pairs ≡ t.costs) };
+    ghost view = { λ t. t.pairs };
 }
 
 impl<'g> Tables<'g> {
@@ -39,34 +34,30 @@ impl<'g> Tables<'g> {
             tables ≡ record { grammar = grammar.now; weights = weights.now }) }
     {
         let costs = Costs::new(alloc, grammar, weights)?;
-        let embeds = Embeds::new(alloc, &costs)?;
-        let pairs = Pairs::new(alloc, &costs, &embeds)?;
-        Ok(Tables {
-            costs,
-            embeds,
-            pairs,
-        })
+        let embeds = Embeds::new(alloc, costs)?;
+        let pairs = Pairs::new(alloc, embeds)?;
+        Ok(Tables { pairs })
     }
 
     /// The grammar that these are the tables of.
     pub fn grammar(&self) -> &'g Grammar
         ensures { result.now ≡ self.now.grammar }
     {
-        self.costs.grammar()
+        self.pairs.grammar()
     }
 
     /// What the least trees of its symbols cost, and which trees are chosen.
     pub fn costs(&self) -> &Costs<'g>
         ensures { result.now ≡ self.now }
     {
-        &self.costs
+        self.pairs.costs()
     }
 
     /// What the least contexts of its nonterminals cost, and which contexts are chosen.
     pub fn embeds(&self) -> &Embeds<'g>
         ensures { result.now ≡ self.now }
     {
-        &self.embeds
+        self.pairs.embeds()
     }
 
     /// Which marks may stand side by side, and what the least trees cost that show it.

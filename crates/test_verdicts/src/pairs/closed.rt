@@ -80,8 +80,8 @@ fn check(
     let grammar = grammar_of(2, 2, rules(alloc, lines)?)?;
     let weights = weights_of(alloc, &[1, 1], limit)?;
     let costs = Costs::new(alloc, &grammar, &weights)?;
-    let embeds = Embeds::new(alloc, &costs)?;
-    compare_all(rt, &Pairs::new(alloc, &costs, &embeds)?, &wants);
+    let embeds = Embeds::new(alloc, costs)?;
+    compare_all(rt, &Pairs::new(alloc, embeds)?, &wants);
     Ok(())
 }
 
@@ -130,12 +130,8 @@ fn check_sums(rt: &impl Abort, alloc: Global) -> Result<(), SampleError> {
     let grammar = grammar_of_sums(alloc)?;
     let weights = Weights::nodes(alloc, 4)?;
     let costs = Costs::new(alloc, &grammar, &weights)?;
-    let embeds = Embeds::new(alloc, &costs)?;
-    compare_all(
-        rt,
-        &Pairs::new(alloc, &costs, &embeds)?,
-        &[OF_SUMS, OF_SUMS],
-    );
+    let embeds = Embeds::new(alloc, costs)?;
+    compare_all(rt, &Pairs::new(alloc, embeds)?, &[OF_SUMS, OF_SUMS]);
     Ok(())
 }
 

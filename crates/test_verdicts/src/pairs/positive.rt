@@ -1,4 +1,4 @@
-ghost use Rattle.std.specs.Prelude.{◌≡◌, ◌<◌};
+ghost use Rattle.std.specs.Prelude.{◌<◌};
 
 use crate::pairs::prepared::Want::{Code, Nowhere, OfSize, TooLarge};
 use crate::pairs::prepared::{A, FIRST, FOURTH, SECOND, THIRD, Want, X, Y, Z, is_wanted};
@@ -140,22 +140,15 @@ const CONTEXTS: [((u16, u16, u16), Want); 9] = [
     ((5, 1, 5), Nowhere),
 ];
 
-fn check_contexts(
-    rt: &impl Abort,
-    alloc: Global,
-    costs: &Costs,
-    embeds: &Embeds,
-) -> Result<(), AllocError>
-    requires { embeds.now ≡ costs.now }
-{
+fn check_contexts(rt: &impl Abort, alloc: Global, embeds: &Embeds) -> Result<(), AllocError> {
     for ((outer, place, inner), want) in CONTEXTS {
         let goal = Goal::Context {
             outer,
             place,
             inner,
         };
-        assert!(rt; fits_goal(costs.grammar(), &goal));
-        let verdict = judge_tree_goal(alloc, costs, embeds, &goal)?;
+        assert!(rt; fits_goal(embeds.grammar(), &goal));
+        let verdict = judge_tree_goal(alloc, embeds, &goal)?;
         assert!(rt; is_wanted(&verdict, want), "{goal:?}");
     }
     Ok(())
@@ -172,8 +165,8 @@ fn check_context_goals(rt: &impl Abort, alloc: Global) -> Result<(), SampleError
     let grammar = grammar_of(4, 3, sums_and_one(alloc)?)?;
     let weights = Weights::nodes(alloc, 4)?;
     let costs = Costs::new(alloc, &grammar, &weights)?;
-    let embeds = Embeds::new(alloc, &costs)?;
-    Ok(check_contexts(rt, alloc, &costs, &embeds)?)
+    let embeds = Embeds::new(alloc, costs)?;
+    Ok(check_contexts(rt, alloc, &embeds)?)
 }
 
 #[test]

@@ -23,19 +23,17 @@ use Want::{Around, Nowhere, TooLarge};
 
 // Whether the context that is taken of the nonterminal's is this one. It is kept then.
 fn is_taken(
-    costs: &Costs,
     embeds: &Embeds,
     contexts: &mut Contexts,
     number: u16,
     context: &Context,
 ) -> Result<bool, AllocError>
-    requires costs { costs.now ≡ embeds.now }
     requires contexts { AreContextsOf embeds.now contexts.old }
     requires number { IsNumberOf embeds.now.grammar.nonterminals number }
     requires least { HasLeastContext embeds.now.weights embeds.now.grammar number }
     ensures { AreContextsOf embeds.now contexts.new }
 {
-    let around = contexts.take(costs, embeds, number)?;
+    let around = contexts.take(embeds, number)?;
     let same = around.nonterminal == number
         && around.context.before.as_slice() == context.before.as_slice()
         && around.context.after.as_slice() == context.after.as_slice();
@@ -44,35 +42,28 @@ fn is_taken(
 }
 
 // The same of one that isn't kept yet, and of one that is.
-fn is_kept(
-    costs: &Costs,
-    embeds: &Embeds,
-    number: u16,
-    context: &Context,
-) -> Result<bool, AllocError>
-    requires costs { costs.now ≡ embeds.now }
+fn is_kept(embeds: &Embeds, number: u16, context: &Context) -> Result<bool, AllocError>
     requires number { IsNumberOf embeds.now.grammar.nonterminals number }
     requires least { HasLeastContext embeds.now.weights embeds.now.grammar number }
 {
     let mut contexts = Contexts::new(embeds);
     contexts.make_room()?;
     Ok(
-        is_taken(costs, embeds, &mut contexts, number, context)?
-            && is_taken(costs, embeds, &mut contexts, number, context)?,
+        is_taken(embeds, &mut contexts, number, context)?
+            && is_taken(embeds, &mut contexts, number, context)?,
     )
 }
 
 // Whether what is told of the nonterminal is what is wanted.
-fn is_told(costs: &Costs, embeds: &Embeds, number: u16, want: Want<'_>) -> Result<bool, AllocError>
-    requires costs { costs.now ≡ embeds.now }
-    requires number { IsNumberOf embeds.now.grammar.nonterminals number }
+fn is_told(embeds: &Embeds, number: u16, want: Want<'_>) -> Result<bool, AllocError>
+    requires { IsNumberOf embeds.now.grammar.nonterminals number }
 {
     match (embeds.embed(number), want) {
         (Cost::Least(size), Around(least, before, after)) => {
-            let context = embeds.around(costs, number)?;
+            let context = embeds.around(number)?;
             let is_placed = context.before.as_slice() == before
                 && context.after.as_slice() == after;
-            Ok(size == least && is_placed && is_kept(costs, embeds, number, &context)?)
+            Ok(size == least && is_placed && is_kept(embeds, number, &context)?)
         }
         (Cost::Never, Nowhere) | (Cost::Large, TooLarge) => Ok(true),
         _ => Ok(false),
@@ -80,18 +71,11 @@ fn is_told(costs: &Costs, embeds: &Embeds, number: u16, want: Want<'_>) -> Resul
 }
 
 // What is told of each nonterminal is what is wanted.
-fn check_all(
-    rt: &impl Abort,
-    costs: &Costs,
-    embeds: &Embeds,
-    wants: &[Want<'_>],
-) -> Result<(), AllocError>
-    requires { costs.now ≡ embeds.now }
-{
+fn check_all(rt: &impl Abort, embeds: &Embeds, wants: &[Want<'_>]) -> Result<(), AllocError> {
     for (place, want) in wants.iter().enumerate() {
         assert!(rt; place < embeds.grammar().nonterminals() as usize);
         let number = number_of(place);
-        assert!(rt; is_told(costs, embeds, number, *want)?, "{number}");
+        assert!(rt; is_told(embeds, number, *want)?, "{number}");
     }
     Ok(())
 }
@@ -104,8 +88,8 @@ fn check(rt: &impl Abort, alloc: Global, row: Row) -> Result<(), SampleError> {
     let grammar = grammar_of(4, 14, rules(alloc, lines)?)?;
     let weights = weights_of(alloc, &numbers, 200)?;
     let costs = Costs::new(alloc, &grammar, &weights)?;
-    let embeds = Embeds::new(alloc, &costs)?;
-    Ok(check_all(rt, &costs, &embeds, &wants)?)
+    let embeds = Embeds::new(alloc, costs)?;
+    Ok(check_all(rt, &embeds, &wants)?)
 }
 
 const A: Symbol = Symbol::Nonterminal(2);
@@ -200,9 +184,9 @@ fn check_chain(
 {
     let weights = Weights::nodes(alloc, 1)?;
     let costs = Costs::new(alloc, grammar, &weights)?;
-    let embeds = Embeds::new(alloc, &costs)?;
+    let embeds = Embeds::new(alloc, costs)?;
     let want = Around(1023, outer, &[]);
-    assert!(rt; is_told(&costs, &embeds, 1024, want)?);
+    assert!(rt; is_told(&embeds, 1024, want)?);
     Ok(())
 }
 

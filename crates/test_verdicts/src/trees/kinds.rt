@@ -7,7 +7,7 @@ ghost use Rattle.cs_pairs.specs.Kinds.Kinds.{IsKind};
 use cs_grammar::Symbol::{Nonterminal, Token};
 use cs_grammar::{Derivation, Grammar, Symbol, Weights};
 use cs_least::Cost::{Large, Least, Never};
-use cs_least::{Cost, Costs, Reach, Step, told_cost};
+use cs_least::{Cost, Costs, Embeds, Reach, Step, told_cost};
 use cs_pairs::TreeKind::{Any, Begins, Empty, Ends};
 use cs_pairs::{
     Kinds, Row, Sweep, TreeKind, chosen_of_kind_exists, kind_into, one_chosen_of_kind, step_cost,
@@ -54,11 +54,8 @@ fn check_both(
     rt: &impl Abort,
     alloc: Global,
     kinds: &Kinds,
-    costs: &Costs,
     both: &Both,
-) -> Result<(), AllocError>
-    requires { costs.now ≡ kinds.now }
-{
+) -> Result<(), AllocError> {
     let (kind, [first, second], want, code) = *both;
     assert!(rt; is_kind(kinds.grammar().tokens(), kind));
     assert!(rt; is_symbol(kinds.grammar(), first));
@@ -67,7 +64,7 @@ fn check_both(
     assert!(rt; sweep.whole == want);
     let mut into = Derivation::new(alloc);
     if let Least(_) = sweep.whole {
-        kind_into(alloc, kinds, costs, kind, &[first, second], &mut into)?;
+        kind_into(alloc, kinds, kind, &[first, second], &mut into)?;
     }
     assert!(rt; into.rules() == code);
     Ok(())
@@ -85,10 +82,10 @@ fn check(
 {
     let weights = weights_of(alloc, &[1, 1, 1, 1], limit)?;
     let costs = Costs::new(alloc, grammar, &weights)?;
-    let kinds = Kinds::new(alloc, &costs)?;
+    let kinds = Kinds::new(alloc, Embeds::new(alloc, costs)?)?;
     check_told(rt, &kinds, told);
     for row in both {
-        check_both(rt, alloc, &kinds, &costs, row)?;
+        check_both(rt, alloc, &kinds, row)?;
     }
     Ok(())
 }
@@ -175,7 +172,8 @@ fn kinds_over_empty_trees(rt: HostRuntime) -> Result<(), Fail> {
 }
 
 // Sizes are added up to the limit.
-fn check_sums_of_costs(rt: &impl Abort, kinds: &Kinds, costs: &Costs) {
+fn check_sums_of_costs(rt: &impl Abort, kinds: &Kinds) {
+    let costs = kinds.costs();
     assert!(rt; kinds.weights().limit() == 10_000 && costs.weights().limit() == 10_000);
     assert!(rt; kinds.plus(Least(3), Least(4)) == Least(7));
     assert!(rt; kinds.plus(Least(6_000), Least(6_000)) == Large);
@@ -206,15 +204,8 @@ const STEPS: [Step; 4] = [
     },
 ];
 
-fn check_steps(
-    rt: &impl Abort,
-    alloc: Global,
-    kinds: &Kinds,
-    costs: &Costs,
-) -> Result<(), AllocError>
-    requires { costs.now ≡ kinds.now }
-{
-    let steps = kinds.steps_to_ends(alloc, costs)?;
+fn check_steps(rt: &impl Abort, alloc: Global, kinds: &Kinds) -> Result<(), AllocError> {
+    let steps = kinds.steps_to_ends(alloc)?;
     assert!(rt; steps.list() == STEPS.as_slice());
     Ok(())
 }
@@ -223,9 +214,9 @@ fn check_sums(rt: &impl Abort, alloc: Global) -> Result<(), SampleError> {
     let grammar = grammar_of_sums(alloc)?;
     let weights = Weights::nodes(alloc, 4)?;
     let costs = Costs::new(alloc, &grammar, &weights)?;
-    let kinds = Kinds::new(alloc, &costs)?;
-    check_sums_of_costs(rt, &kinds, &costs);
-    Ok(check_steps(rt, alloc, &kinds, &costs)?)
+    let kinds = Kinds::new(alloc, Embeds::new(alloc, costs)?)?;
+    check_sums_of_costs(rt, &kinds);
+    Ok(check_steps(rt, alloc, &kinds)?)
 }
 
 // Each leads from a left side to the last symbol of a right side, and costs the node and the least trees beside it.

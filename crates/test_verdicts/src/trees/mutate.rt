@@ -126,8 +126,8 @@ fn check_cases(
 ) -> Result<(), AllocError> {
     let weights = Weights::nodes(alloc, grammar.tokens())?;
     let costs = Costs::new(alloc, grammar, &weights)?;
-    let embeds = Embeds::new(alloc, &costs)?;
-    let pairs = Pairs::new(alloc, &costs, &embeds)?;
+    let embeds = Embeds::new(alloc, costs)?;
+    let pairs = Pairs::new(alloc, embeds)?;
     for case in cases {
         check_case(rt, alloc, &pairs, *case)?;
     }
@@ -326,8 +326,8 @@ fn kept_negatives_of_sums(rt: HostRuntime) -> Result<(), Fail> {
     let sums = grammar_of_sums(alloc)?;
     let weights = Weights::nodes(alloc, 4)?;
     let costs = Costs::new(alloc, &sums, &weights)?;
-    let embeds = Embeds::new(alloc, &costs)?;
-    let pairs = Pairs::new(alloc, &costs, &embeds)?;
+    let embeds = Embeds::new(alloc, costs)?;
+    let pairs = Pairs::new(alloc, embeds)?;
     for (first, once, again) in COUNTS {
         let mut keeper = Keeper::new(alloc, first, pairs.grammar().tokens())?;
         let kept = keep(&rt, alloc, &pairs, THREE.base, &mut keeper)?;

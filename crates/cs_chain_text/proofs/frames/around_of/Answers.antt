@@ -8,7 +8,7 @@ use Rattle.cs_chain_text.proofs.frames.around_of.Goals as goal
 pub returns-in-Least : goal.returns-in-Least
 returns-in-Least c =
     let frame = c.args.frame.now in
-    let g = c.args.costs.now.grammar in
+    let g = c.args.embeds.now.grammar in
     found_as _ _
     (λ a h n e.
     subst (λ (l : List ℕ). AreTokensAround g frame.before l a.left a.first.items a.last.items) c.rules-in-Least.ensures

@@ -7,5 +7,5 @@ use Rattle.cs_chain_text.proofs.writing.frame_with.Goals as goal
 
 pub returns-clause-frame : goal.returns-clause-frame
 returns-clause-frame c =
-    found_as _ _ (λ a h. record { none = c.requires.none; are = subst (λ (v : Weighed). AreFrameLines c.args.telling.now.chained.yacc.now v a) c.requires.work.costs h })
+    found_as _ _ (λ a h. record { none = c.requires.none; are = subst (λ (v : Weighed). AreFrameLines c.args.telling.now.chained.yacc.now v a) c.requires.work.embeds h })
     c.new.result c.new.ensures

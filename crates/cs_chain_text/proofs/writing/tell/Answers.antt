@@ -1,8 +1,8 @@
 -- The head, the goals and the end make up the text, and a stop at any of them leaves a front of it.
-use Rattle.std.proofs.Common.{refl, sym, ap, ◌∙◌}
+use Rattle.std.proofs.Common.{refl, sym, ap, ◌∙◌, subst}
 use Rattle.std.proofs.lemmas.Result.{err_from_is_err_and}
 use Rattle.cs_grammar.specs.Grammar.{PlainGrammar}
-use Rattle.cs_grammar.specs.Weights.{weighed}
+use Rattle.cs_grammar.specs.Weights.{IsMeasure, Weighed, weighed}
 use Rattle.cs_chain_text.specs.Progress.{IsAsked}
 use Rattle.cs_chain_text.specs.Rows.{told_by}
 use Rattle.cs_chain_text.proofs.Ending.{all_written, end_cut, goals_stopped, head_cut, memory_first, weights_many, work_of}
@@ -34,12 +34,13 @@ returns-in_err-write_head-clause-text g c =
 pub write_goals-requires-clause-work : goal.write_goals-requires-clause-work
 write_goals-requires-clause-work g c = λ κs met.
     let d = c.args.chained.now in
-    work_of d c.requires _ c.in_ok-embeds.ensures (c.in_ok-costs.ensures ∙ ap (λ (h : PlainGrammar). weighed h d.weights.now) c.grammar.ensures.grammar) c.weights-weighs.ensures.weighs.weights refl
+    let measure = subst (λ (v : Weighed). IsMeasure v.weights) (sym c.in_ok-embeds.ensures) c.weights-weighs.ensures.weighs.weights in
+    work_of d c.requires _ (c.in_ok-embeds.ensures ∙ c.in_ok-costs.ensures ∙ ap (λ (h : PlainGrammar). weighed h d.weights.now) c.grammar.ensures.grammar) measure refl
 
 pub write_goals-requires-clause-cores : goal.write_goals-requires-clause-cores
 write_goals-requires-clause-cores g c = λ κs met.
     let d = c.args.chained.now in
-    c.in_ok-cores.ensures ∙ ap (told_by d.yacc.now) (c.in_ok-costs.ensures ∙ ap (λ (h : PlainGrammar). weighed h d.weights.now) c.grammar.ensures.grammar)
+    c.in_ok-cores.ensures ∙ ap (told_by d.yacc.now) (c.costs.ensures ∙ c.in_ok-embeds.ensures ∙ c.in_ok-costs.ensures ∙ ap (λ (h : PlainGrammar). weighed h d.weights.now) c.grammar.ensures.grammar)
 
 pub returns-in_err-write_goals-clause-text : goal.returns-in_err-write_goals-clause-text
 returns-in_err-write_goals-clause-text g c =

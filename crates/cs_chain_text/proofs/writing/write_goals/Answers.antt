@@ -14,11 +14,11 @@ use Rattle.cs_chain_text.proofs.writing.write_goals.Goals as goal
 use Rattle.cs_chain_text.proofs.writing.write_goals.Goals.{In_ok-batch, Then-is_empty}
 
 -- the chains of the batch are the grammar's
-each : (g : Over) (c : In_ok-batch g) → All (IsChain c.args.telling.now.work.costs.now.grammar) c.in_ok-batch.batch.items
+each : (g : Over) (c : In_ok-batch g) → All (IsChain c.args.telling.now.work.embeds.now.grammar) c.in_ok-batch.batch.items
 each g c =
     let far = c.batches.invariant.far in
     let d = c.args.telling.now.chained in
-    let own = ap (λ (v : Weighed). v.grammar) c.requires.work.costs in
+    let own = ap (λ (v : Weighed). v.grammar) c.requires.work.embeds in
     let whole = far.split ∙ ap (λ (l : List Chain). far.done ++ l) c.in_ok-batch.ensures.split in
     subst (λ (h : PlainGrammar). All (IsChain h) c.in_ok-batch.batch.items) (sym own)
     (chains_are d.yacc.now.grammar (c.each_chain_once.ensures.all d.yacc.now.grammar) far.done c.in_ok-batch.batch.items c.next_batch.new.chains whole)
@@ -44,7 +44,7 @@ batches-smaller g c =
 pub write_batch-requires-clause-chains : goal.write_batch-requires-clause-chains
 write_batch-requires-clause-chains g c = λ κs met.
     let at = (goal.at.write_batch-requires-clause-chains g c).In_ok-batch in
-    subst (λ (l : List Chain). All (IsChain c.args.telling.now.work.costs.now.grammar) l) (sym c.deref.ensures.value) (each g at)
+    subst (λ (l : List Chain). All (IsChain c.args.telling.now.work.embeds.now.grammar) l) (sym c.deref.ensures.value) (each g at)
 
 pub write_batch-requires-clause-few : goal.write_batch-requires-clause-few
 write_batch-requires-clause-few g c = λ κs met.

@@ -3,4 +3,4 @@ use Rattle.cs_spell.proofs.Judging.{goal_at}
 use Rattle.cs_spell.proofs.judged.judge_rule.Goals as goal
 
 pub judge_tree_goal-requires-clause-goal : goal.judge_tree_goal-requires-clause-goal
-judge_tree_goal-requires-clause-goal c = goal_at c.args.costs.now.grammar c.args.place c.number_of-rule.result c.requires.place c.number_of-rule.ensures
+judge_tree_goal-requires-clause-goal c = goal_at c.args.embeds.now.grammar c.args.place c.number_of-rule.result c.requires.place c.number_of-rule.ensures

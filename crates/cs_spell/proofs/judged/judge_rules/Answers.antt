@@ -1,7 +1,8 @@
 -- One verdict more; the tokens of each are few, since its derivation is within the limit.
-use Rattle.std.proofs.Common.{◌≡◌, ap, arith, length}
+use Rattle.std.proofs.Common.{◌≡◌, ap, arith, length, subst}
 use Rattle.std.proofs.lemmas.List.{length_push}
 use Rattle.cs_grammar.specs.Grammar.{PlainGrammar}
+use Rattle.cs_grammar.specs.Weights.{Weighed, Weighs}
 use Rattle.cs_spell.proofs.Judging.{judge_more}
 use Rattle.cs_spell.proofs.Naming.{few_judged}
 use Rattle.cs_spell.proofs.judged.judge_rules.Goals as goal
@@ -11,7 +12,7 @@ loop-place-init c = rw c.new-judged.ensures.items (record { all = omega arith; e
 
 pub loop-place-preserved : goal.loop-place-preserved
 loop-place-preserved c =
-    let v = c.args.costs.now in
+    let v = c.args.embeds.now in
     let judged = c.loop-place.judged.items in
     let h = c.loop-place.invariant in
     rw c.in_ok-push.ensures.items (record {
@@ -21,9 +22,9 @@ loop-place-preserved c =
 
 pub returns-clause-few : goal.returns-clause-few
 returns-clause-few c =
-    let v = c.args.costs.now in
+    let v = c.args.embeds.now in
     let judged = c.loop-place.judged.items in
-    let weighs = c.weights-weighs.ensures.weighs in
+    let weighs = subst (λ (w : Weighed). Weighs w.weights w.grammar) c.costs.ensures c.weights-weighs.ensures.weighs in
     let all : length judged ≡ length v.grammar.rules =
     omega (arith, c.loop-place.invariant.all, ap length c.rules-rules.ensures.rules, ap (λ (g : PlainGrammar). length g.rules) c.grammar.ensures)
     in

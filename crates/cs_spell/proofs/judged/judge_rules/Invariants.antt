@@ -6,5 +6,5 @@ use Rattle.cs_spell.proofs.judged.judge_rules.Given as goal
 abbrev pub invariant-loop-place : goal.invariant-loop-place
 invariant-loop-place l = record {
   all : length l.judged.items ≡ l.place;
-  each : (k : ℕ) (j : RuleVerdict) → slice_get l.judged.items k ≡ Some j → IsRuleVerdict l.costs (suc k) j;
+  each : (k : ℕ) (j : RuleVerdict) → slice_get l.judged.items k ≡ Some j → IsRuleVerdict l.embeds (suc k) j;
 }

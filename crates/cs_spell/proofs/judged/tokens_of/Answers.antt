@@ -9,4 +9,4 @@ use Rattle.cs_spell.proofs.judged.tokens_of.Goals as goal
 pub yield_of-requires : goal.yield_of-requires
 yield_of-requires c =
     subst (λ (g : PlainGrammar). IsDerivationOf g c.in-Feasible.derivation) (sym c.grammar.ensures)
-    (derivation_of c.args.costs.now (Rule c.args.rule) c.args.verdict.now c.in-Feasible.size c.in-Feasible.derivation c.in-Feasible.is c.requires)
+    (derivation_of c.args.embeds.now (Rule c.args.rule) c.args.verdict.now c.in-Feasible.size c.in-Feasible.derivation c.in-Feasible.is c.requires)

@@ -4,7 +4,7 @@ use Rattle.cs_wrong.proofs.coming.next_batch.Given as goal
 
 abbrev pub invariant-loop : goal.invariant-loop
 invariant-loop l = record {
-  takes : Takes l.costs l.fn.coming l.batch.items l.coming;
-  can : CanTake l.costs l.coming;
+  takes : Takes l.pairs l.fn.coming l.batch.items l.coming;
+  can : CanTake l.pairs l.coming;
   many : length l.batch.items ≡ l.counter;
 }

@@ -9,7 +9,7 @@ use Rattle.cs_wrong.proofs.lists.list_of.Goals as goal
 
 pub list_by-requires-clause-symbols : goal.list_by-requires-clause-symbols
 list_by-requires-clause-symbols c =
-    let g = c.args.costs.now.grammar in
+    let g = c.args.embeds.now.grammar in
     let is = subst (λ (h : PlainGrammar). All (IsSymbolOf h) c.rule.result.now.right) c.grammar.ensures c.rule.ensures.fits.right in
     subst (λ (l : List Symbol). All (IsSymbolOf g) l) (sym (c.deref.ensures.value ∙ c.in_ok-symbols-in-Of.ensures ∙ ap (λ (l : List Symbol). changed c.in-Of.change l) c.right.ensures))
     (changed_within (IsSymbolOf g) c.in-Of.change c.rule.result.now.right is)

@@ -34,9 +34,7 @@ pub tell_by-requires-clause-making : goal.tell_by-requires-clause-making
 tell_by-requires-clause-making g c = λ κs met.
     let costs = c.in_ok-costs.ensures ∙ ap (λ (h : PlainGrammar). weighed h c.args.asked.now.weights.now) c.grammar-grammar.ensures.grammar in
     record {
-      costs = costs;
-      embeds = c.in_ok-embeds.ensures;
-      pairs = c.in_ok-pairs.ensures;
+      pairs = c.in_ok-pairs.ensures ∙ c.in_ok-embeds.ensures ∙ costs;
       recognizer = c.in_ok-recognizer.ensures ∙ c.grammar-grammar.ensures.grammar;
       render = refl;
       weighs = subst (λ (v : Weighed). Weighs v.weights v.grammar) costs c.weights-weighs.ensures.weighs;

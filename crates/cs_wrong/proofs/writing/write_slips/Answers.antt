@@ -28,7 +28,7 @@ use Rattle.cs_wrong.proofs.writing.write_slips.Goals.{In_ok-batch, In_ok-entries
 
 -- what was taken, by the weights of the file
 takes : (g : Over) (c : In_ok-batch g) → Takes (weighed_in c.args.asked.now) c.batches.coming c.in_ok-batch.batch.items c.next_batch.new.coming
-takes g c = subst (λ (v : Weighed). Takes v c.batches.coming c.in_ok-batch.batch.items c.next_batch.new.coming) c.requires.making.costs c.in_ok-batch.ensures.takes
+takes g c = subst (λ (v : Weighed). Takes v c.batches.coming c.in_ok-batch.batch.items c.next_batch.new.coming) c.requires.making.pairs c.in_ok-batch.ensures.takes
 
 -- what was judged of them
 judged : (g : Over) (c : In_ok-entries g) → AllZip (Judges c.args.making.now.judging) c.in_ok-batch.batch.items c.in_ok-entries.entries.items
@@ -36,7 +36,7 @@ judged g c = subst (λ (l : List Candidate). AllZip (Judges c.args.making.now.ju
 
 -- which are entries
 taken : (g : Over) (c : In_ok-entries g) → Takes (weighed_in c.args.asked.now) c.batches.coming c.in_ok-batch.batch.items c.next_batch.new.coming
-taken g c = subst (λ (v : Weighed). Takes v c.batches.coming c.in_ok-batch.batch.items c.next_batch.new.coming) c.requires.making.costs c.in_ok-batch.ensures.takes
+taken g c = subst (λ (v : Weighed). Takes v c.batches.coming c.in_ok-batch.batch.items c.next_batch.new.coming) c.requires.making.pairs c.in_ok-batch.ensures.takes
 
 told : (g : Over) (c : In_ok-entries g) → AreEntries c.args.asked.now (behind c.batches.coming.earlier (slips_in c.in_ok-batch.batch.items)) c.in_ok-entries.entries.items
 told g c =
@@ -64,8 +64,8 @@ batches-smaller g c =
     let some : 0 < length c.in_ok-batch.batch.items = (let e = c.is_empty.ensures in let t = c.if-is_empty.false in let o = c.in_ok-batch.batch.ok in grind arith) in
     fewer_left c.batches.coming.left c.in_ok-batch.batch.items c.next_batch.new.coming.left c.in_ok-batch.ensures.takes.left some
 
-pub next_batch-requires-clause-slips : goal.next_batch-requires-clause-slips
-next_batch-requires-clause-slips g c = subst (λ (v : Weighed). CanTake v c.batches.coming) (sym c.requires.making.costs) c.batches.invariant.can
+pub next_batch-requires : goal.next_batch-requires
+next_batch-requires g c = subst (λ (v : Weighed). CanTake v c.batches.coming) (sym c.requires.making.pairs) c.batches.invariant.can
 
 pub judge_batch-requires-clause-takes : goal.judge_batch-requires-clause-takes
 judge_batch-requires-clause-takes g c = λ κs met.
@@ -118,7 +118,7 @@ batches-preserved g c =
     entries c.batches.invariant.far took.left (told g at.In_ok-entries) written counted in
     record {
       far = subst (λ (l : List Slip). SlipsSoFar g.S.Sink d c.args.sink.now l new.left c.write_entries.new.sink c.write_entries.new.tally) (sym took.earlier) far;
-      can = subst (λ (v : Weighed). CanTake v new) c.requires.making.costs c.in_ok-batch.ensures.slips;
+      can = subst (λ (v : Weighed). CanTake v new) c.requires.making.pairs c.in_ok-batch.ensures.slips;
     }
 
 pub write_entries-requires-clause-named : goal.write_entries-requires-clause-named

@@ -12,21 +12,21 @@ use Rattle.cs_chain_text.proofs.entry.TellWorkWorkChainTold.one.Goals as goal
 
 pub tokens_of-requires : goal.tokens_of-requires
 tokens_of-requires c =
-    let costs = c.args.self.now.costs.now in
+    let v = c.args.self.now.embeds.now in
     subst (λ (h : PlainGrammar). HasDerivation h c.in_ok-verdict.verdict) (sym c.grammar-grammar.ensures)
-    (derived costs.weights costs.grammar c.args.item.now c.in_ok-verdict.verdict c.in_ok-verdict.ensures)
+    (derived v.weights v.grammar c.args.item.now c.in_ok-verdict.verdict c.in_ok-verdict.ensures)
 
 pub text_of-requires : goal.text_of-requires
 text_of-requires c =
-    let costs = c.args.self.now.costs.now in
+    let v = c.args.self.now.embeds.now in
     let work = c.args.self.now.work in
     let verdict = c.in_ok-verdict.verdict in
     let tokens = c.in_ok-tokens.tokens.items in
     let are = subst (λ (h : PlainGrammar). AreTokensOf h (as_goal verdict) tokens) c.grammar-grammar.ensures c.in_ok-tokens.ensures in
     let grammar = subst IsGrammar c.grammar-grammar.ensures c.rules-well_formed.ensures.well_formed in
-    let few = few_tokens costs.weights c.requires.0.measure costs.grammar c.args.item.now verdict tokens c.in_ok-verdict.ensures are in
+    let few = few_tokens v.weights c.requires.0.measure v.grammar c.args.item.now verdict tokens c.in_ok-verdict.ensures are in
     subst (λ (ts : List ℕ). IfSome work (λ r. TakesTokens r.now ts)) (sym c.deref.ensures.value)
-    (can_render costs.grammar grammar work (as_goal verdict) tokens c.requires.0.lexemes are few)
+    (can_render v.grammar grammar work (as_goal verdict) tokens c.requires.0.lexemes are few)
 
 pub returns : goal.returns
 returns c =

@@ -12,8 +12,8 @@ use Rattle.cs_pairs.proofs.OnKinds.KindsSettled.{list_exists}
 use Rattle.cs_pairs.specs.Kinds.Parts.{parts_from, inner}
 use Rattle.cs_pairs.proofs.kinds.writing.kind_onto.Goals as goal
 
-pub write-requires-clause-pending : goal.write-requires-clause-pending
-write-requires-clause-pending c =
+pub write-requires : goal.write-requires
+write-requires c =
     let g = c.args.kinds.now.grammar in
     let is = c.in_ok-put_first.ensures ∙ ap (λ (l : List Part). inner (parts_from c.args.kind c.placed_in-placed.result.place 0 c.args.symbols.now) ++ reverse l) c.clear.ensures.items ∙ append-nil _ in
     let f = c.requires.small in

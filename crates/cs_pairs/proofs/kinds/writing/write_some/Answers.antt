@@ -5,14 +5,14 @@ use Rattle.cs_pairs.proofs.OnKinds.Written.{writes_none, taken_fits, taken_small
 use Rattle.cs_pairs.proofs.kinds.writing.write_some.Goals as goal
 
 pub loop-init : goal.loop-init
-loop-init c = (writes_none c.args.kinds.now.weights c.args.kinds.now.grammar _ _ c.requires.pending.0, ([], sym (append-nil c.args.into.now)))
+loop-init c = (writes_none c.args.kinds.now.weights c.args.kinds.now.grammar _ _ c.requires.0, ([], sym (append-nil c.args.into.now)))
 
 pub take_on-requires-clause-part : goal.take_on-requires-clause-part
 take_on-requires-clause-part c = taken_fits c.args.kinds.now.weights c.args.kinds.now.grammar _ _ _ _ _ _ _ c.in-Some.ensures.items c.loop.invariant.0
 
 pub take_on-requires-clause-small : goal.take_on-requires-clause-small
 take_on-requires-clause-small c =
-    let f = c.requires.pending.1 in
+    let f = c.requires.1 in
     taken_small c.args.kinds.now.weights c.args.kinds.now.grammar _ _ _ _ _ _ _ c.in-Some.ensures.items c.loop.invariant.0 f.0 f.1 f.2
 
 pub loop-preserved : goal.loop-preserved

@@ -37,17 +37,17 @@ pub split_at-parts-requires : goal.split_at-parts-requires
 split_at-parts-requires c = subst (λ (l : List Symbol). c.args.at.place < length l) (sym c.right.ensures) (parts (goal.at.split_at-parts-requires c).After-right).within
 
 pub take-requires-clause-contexts : goal.take-requires-clause-contexts
-take-requires-clause-contexts c = subst (λ (v : Weighed). AreContextsOf v c.args.kept.now.contexts) (sym c.requires.costs) c.requires.contexts
+take-requires-clause-contexts c = subst (λ (v : Weighed). AreContextsOf v c.args.kept.now.contexts) (sym c.embeds.ensures) c.requires.contexts
 
 pub take-requires-clause-least : goal.take-requires-clause-least
 take-requires-clause-least c =
     let least = laid_context c.args.kinds.now.weights c.args.kinds.now.grammar c.args.tokens.first c.args.tokens.second c.args.at.rule c.args.at.place c.rule-rule.result.now _ (parts (goal.at.take-requires-clause-least c).After-right) in
-    subst (λ (v : Weighed). HasLeastContext v.weights v.grammar c.left.result) (sym c.requires.costs) (subst (HasLeastContext c.args.kinds.now.weights c.args.kinds.now.grammar) (sym c.left.ensures) least)
+    subst (λ (v : Weighed). HasLeastContext v.weights v.grammar c.left.result) (sym c.embeds.ensures) (subst (HasLeastContext c.args.kinds.now.weights c.args.kinds.now.grammar) (sym c.left.ensures) least)
 
 pub all_into-requires-clause-symbols : goal.all_into-requires-clause-symbols
 all_into-requires-clause-symbols c =
     let is = c.split_at-parts.ensures.before ∙ ap (λ (l : List Symbol). take c.args.at.place l) c.right.ensures in
-    subst (λ (v : Weighed). All (IsSymbolOf v.grammar) c.split_at-parts.result.before.now) (sym c.requires.costs)
+    subst (λ (v : Weighed). All (IsSymbolOf v.grammar) c.split_at-parts.result.before.now) (sym c.costs.ensures)
     (subst (λ (l : List Symbol). All (IsSymbol c.args.kinds.now.grammar.tokens c.args.kinds.now.grammar.nonterminals) l) (sym is)
     (All-take (IsSymbol c.args.kinds.now.grammar.tokens c.args.kinds.now.grammar.nonterminals) c.args.at.place c.rule-rule.result.now.right (symbols (goal.at.all_into-requires-clause-symbols c).After-right)))
 
@@ -55,7 +55,7 @@ pub all_into-requires-clause-small : goal.all_into-requires-clause-small
 all_into-requires-clause-small c =
     let is = c.split_at-parts.ensures.before ∙ ap (λ (l : List Symbol). take c.args.at.place l) c.right.ensures in
     let small = laid_lefts c.args.kinds.now.weights c.args.kinds.now.grammar c.args.tokens.first c.args.tokens.second c.args.at.rule c.args.at.place c.rule-rule.result.now _ (parts (goal.at.all_into-requires-clause-small c).After-right) in
-    subst (λ (v : Weighed). HaveSmall v.weights v.grammar c.split_at-parts.result.before.now) (sym c.requires.costs) (subst (HaveSmall c.args.kinds.now.weights c.args.kinds.now.grammar) (sym is) small)
+    subst (λ (v : Weighed). HaveSmall v.weights v.grammar c.split_at-parts.result.before.now) (sym c.costs.ensures) (subst (HaveSmall c.args.kinds.now.weights c.args.kinds.now.grammar) (sym is) small)
 
 pub kind_onto-requires-clause-symbols : goal.kind_onto-requires-clause-symbols
 kind_onto-requires-clause-symbols c =
@@ -88,8 +88,8 @@ kind_onto-requires-2-clause-small c =
 
 pub returns-clause-contexts : goal.returns-clause-contexts
 returns-clause-contexts c =
-    let chosen = subst (λ (v : Weighed). IsAroundIn v c.in_ok-around.around) c.requires.costs c.in_ok-around.ensures.chosen in
-    let others = subst (λ (v : Weighed). AreContextsOf v c.take.new.self) c.requires.costs c.take.ensures.contexts in
+    let chosen = subst (λ (v : Weighed). IsAroundIn v c.in_ok-around.around) c.embeds.ensures c.in_ok-around.ensures.chosen in
+    let others = subst (λ (v : Weighed). AreContextsOf v c.take.new.self) c.embeds.ensures c.take.ensures.contexts in
     c.keep.ensures c.args.kinds.now chosen others
 
 pub returns-clause-code : goal.returns-clause-code
@@ -100,9 +100,9 @@ returns-clause-code c =
     let behind = c.split_at-parts.ensures.behind ∙ ap (λ (l : List Symbol). drop (c.args.at.place + 1) l) c.right.ensures in
     let context = c.in_ok-around.around.context in
     let around = subst (λ n. IsAround c.args.kinds.now.weights g n context.before.items context.after.items) (c.in_ok-around.ensures.nonterminal ∙ c.left.ensures)
-    (subst (λ (v : Weighed). IsAround v.weights v.grammar c.in_ok-around.around.nonterminal context.before.items context.after.items) c.requires.costs c.in_ok-around.ensures.chosen) in
+    (subst (λ (v : Weighed). IsAround v.weights v.grammar c.in_ok-around.around.nonterminal context.before.items context.after.items) c.embeds.ensures c.in_ok-around.ensures.chosen) in
     let lefts = subst (λ (l : List Symbol). AppendsAllChosen c.args.kinds.now.weights g l c.push.new.self c.all_into.new.into) before
-    (subst (λ (v : Weighed). AppendsAllChosen v.weights v.grammar c.split_at-parts.result.before.now c.push.new.self c.all_into.new.into) c.requires.costs c.in_ok-all_into.ensures.ok) in
+    (subst (λ (v : Weighed). AppendsAllChosen v.weights v.grammar c.split_at-parts.result.before.now c.push.new.self c.all_into.new.into) c.costs.ensures c.in_ok-all_into.ensures.ok) in
     let last = subst (λ x. AppendsOfKind c.args.kinds.now.weights g (Ends c.args.tokens.first) (x ∷ []) c.all_into.new.into c.kind_onto.new.into) symbol c.in_ok-kind_onto.ensures.ok in
     let rights = subst (λ (l : List Symbol). AppendsOfKind c.args.kinds.now.weights g (Begins c.args.tokens.second) l c.kind_onto.new.into c.kind_onto-2.new.into) behind c.in_ok-kind_onto-2.ensures.ok in
     laid_code c.args.kinds.now.weights g c.args.tokens.first c.args.tokens.second c.args.at.rule c.args.at.place c.rule-rule.result.now _ (parts (goal.at.returns-clause-code c).After-right)

@@ -6,6 +6,6 @@ use Rattle.cs_pairs.proofs.pairs.fronts.fronts_of.Given as goal
 
 abbrev pub invariant-loop-symbol : goal.invariant-loop-symbol
 invariant-loop-symbol l = record {
-  so_far : IsFilled l.costs.weights.limit (λ n. AreFront l.costs.grammar l.rule.left (take (n - 1) l.rule.right)) (front_size l.costs.weights) l.symbol-index l.fronts.items;
-  is_front : IsCost l.costs.weights.limit (AreFront l.costs.grammar l.rule.left (take l.symbol-index l.rule.right)) (front_size l.costs.weights) l.front;
+  so_far : IsFilled l.embeds.weights.limit (λ n. AreFront l.embeds.grammar l.rule.left (take (n - 1) l.rule.right)) (front_size l.embeds.weights) l.symbol-index l.fronts.items;
+  is_front : IsCost l.embeds.weights.limit (AreFront l.embeds.grammar l.rule.left (take l.symbol-index l.rule.right)) (front_size l.embeds.weights) l.front;
 }

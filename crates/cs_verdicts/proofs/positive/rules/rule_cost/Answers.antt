@@ -16,13 +16,15 @@ use Rattle.cs_verdicts.proofs.positive.rules.rule_cost.Goals as goal
 
 pub returns : goal.returns
 returns c =
-    let w = c.args.costs.now.weights in
-    let g = c.args.costs.now.grammar in
+    let w = c.costs-costs.result.now.weights in
+    let g = c.costs-costs.result.now.grammar in
     let p = c.rule-rule.result.now in
-    let rule = subst (λ (s : PlainGrammar). IsRule s c.args.number p) c.grammar.ensures c.rule-rule.ensures.rule in
-    let around = subst (λ (v : Weighed). IsCost v.weights.limit (IsContextOf v.grammar p.left) (context_size v.weights) c.embed-around.result) c.requires.embeds
+    let grammar = c.grammar.ensures ∙ ap (λ (v : Weighed). v.grammar) (sym c.costs-costs.ensures) in
+    let rule = subst (λ (s : PlainGrammar). IsRule s c.args.number p) grammar c.rule-rule.ensures.rule in
+    let around = subst (λ (v : Weighed). IsCost v.weights.limit (IsContextOf v.grammar p.left) (context_size v.weights) c.embed-around.result) (sym c.costs-costs.ensures)
     (subst (λ n. IsCost c.args.embeds.now.weights.limit (IsContextOf c.args.embeds.now.grammar n) (context_size c.args.embeds.now.weights) c.embed-around.result) c.left.ensures c.embed-around.ensures) in
     let children = subst (λ (l : List Symbol). IsCost w.limit (AreTrees g l) (sizes w) c.sum.result) c.right.ensures c.sum.ensures in
     let sum = c.plus.ensures.cost ∙ ap (λ (k : Cost). plus w.limit c.embed-around.result k) c.node_cost-node.ensures.cost in
-    subst (IsCost w.limit (IsMet g (Rule c.args.number)) (size w)) (sym sum)
-    (rule_cost w g c.args.number p rule c.embed-around.result c.sum.result around children)
+    subst (λ (v : Weighed). IsCost v.weights.limit (IsMet v.grammar (Rule c.args.number)) (size v.weights) c.plus.result) c.costs-costs.ensures
+    (subst (IsCost w.limit (IsMet g (Rule c.args.number)) (size w)) (sym sum)
+    (rule_cost w g c.args.number p rule c.embed-around.result c.sum.result around children))

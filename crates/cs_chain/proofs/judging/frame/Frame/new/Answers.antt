@@ -10,11 +10,11 @@ use Rattle.cs_chain.proofs.judging.frame.Frame.new.Goals.{in-Least+in_ok-frame_c
 
 pub frame_codes-requires-clause-small : goal.frame_codes-requires-clause-small
 frame_codes-requires-clause-small c =
-    frame_small c.args.costs.now (symbols_of c.rules_of-rules.result) c.frame_cost-cost.result c.in-Least.field-0 c.frame_cost-cost.ensures.cost c.in-Least.is
+    frame_small c.args.embeds.now (symbols_of c.rules_of-rules.result) c.frame_cost-cost.result c.in-Least.field-0 c.frame_cost-cost.ensures.cost c.in-Least.is
 
 pub returns-clause-frame : goal.returns-clause-frame
 returns-clause-frame c = λ r is.
-    let v = c.args.costs.now in
+    let v = c.args.embeds.now in
     let chain = c.args.chain.now in
     let rules = c.rules_of-rules.result in
     let are = subst (λ (s : PlainGrammar). AreRulesOf s chain rules) c.grammar.ensures c.rules_of-rules.ensures.rules in

@@ -2,4 +2,4 @@
 use Rattle.cs_least.proofs.embed.contexts.Contexts.take.Goals as goal
 
 pub returns-in-Some-clause-contexts : goal.returns-in-Some-clause-contexts
-returns-in-Some-clause-contexts c = (c.take_kept.ensures.taken c.args.costs.now c.requires.contexts).1
+returns-in-Some-clause-contexts c = (c.take_kept.ensures.taken c.args.embeds.now c.requires.contexts).1

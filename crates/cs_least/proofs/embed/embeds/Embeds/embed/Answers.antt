@@ -12,8 +12,8 @@ use Rattle.cs_least.proofs.embed.embeds.Embeds.embed.Goals as goal
 pub returns : goal.returns
 returns c =
     let n = c.args.nonterminal in
-    let w = c.self.inside.weights.now in
-    let g = c.self.inside.grammar.now in
+    let w = c.self.inside.costs.weights in
+    let g = c.self.inside.costs.grammar in
     let table = c.self.inside.tables.reaches.items in
     let exact = embed_table w g _ _ _ c.self.invariant in
     let number = subst (λ (v : Weighed). IsNumberOf v.grammar.nonterminals n) (sym c.self.view_is) c.requires in

@@ -12,6 +12,6 @@ use Rattle.cs_verdicts.proofs.positive.positive.Positives.new.Goals as goal
 pub invariant_of-result : goal.invariant_of-result
 invariant_of-result c =
     let g = c.args.tables.now.grammar in
-    let contexts = subst (λ (v : Weighed). AreContextsOf v c.new-2.result.contexts) (c.tables.invariant.0 ∙ c.tables.view_is) c.new-2.ensures in
+    let contexts = subst (λ (v : Weighed). AreContextsOf v c.new-2.result.contexts) c.embeds.ensures c.new-2.ensures in
     let is = c.new.ensures ∙ ap (λ (m : PlainGrammar). goals m c.args.criteria) c.grammar.ensures in
-    (tt, subst (λ (l : List Goal). AreOfGrammar g l) (sym is) (of_grammar g c.args.criteria), (λ k d within. tt), contexts)
+    (subst (λ (l : List Goal). AreOfGrammar g l) (sym is) (of_grammar g c.args.criteria), (λ k d within. tt), contexts)
