@@ -1,3 +1,2 @@
 pub mod Suite
-pub mod Refusals
 pub mod Summary

@@ -12,7 +12,6 @@ mod endings;
 mod laws;
 mod lexemes;
 mod lexical;
-mod scanner;
 mod text;
 
 pub use command::run;

@@ -38,4 +38,4 @@ mod writer;
 pub use command::{one_asked_text, run};
 pub use ending::{Ending, finish};
 pub use input::{Pair, Refusal, Stop, judge_pair, line, read_files};
-pub use writer::{SuiteHalt, write_rules, write_suite, write_summary};
+pub use writer::{write_rules, write_suite, write_summary};

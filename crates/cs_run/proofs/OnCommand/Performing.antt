@@ -1,6 +1,7 @@
 -- How a run ends that writes what was asked for, from what its calls did.
 use Rattle.std.proofs.Common.{◌≡◌, ◌⊎◌, ◌<◌, ◌≤◌, ◌^◌, ℕ, List, [], ◌∷◌, IsTrue, true, false, Option, None, Ok, Err, length, refl, sym, ap, ◌∙◌, subst, inl, inr, arith}
-use Rattle.cs_io.specs.Uses.{DeskUse, SinkUse, HasFailed, IsUnused}
+use Rattle.cs_io.specs.Uses.{DeskUse, SinkUse, IsUnused}
+use Rattle.cs_io.specs.declared.halt.Halt.TheVariants.{Failed, Memory}
 use Rattle.cs_run.specs.declared.input.judging.Meant.{Meant}
 use Rattle.cs_run.specs.declared.input.judging.Meant.TheVariants.{Grammar, Nothing, Pair, Text}
 use Rattle.cs_run.specs.declared.input.judging.PairAndText.{PairAndText}
@@ -28,7 +29,7 @@ use Rattle.cs_words.specs.Commands.{lists_chains, taken_of}
 use Rattle.cs_words.specs.Requests.{IsAsked, Named, Names, Number, PlainArguments, PlainRequest, files_of}
 use Rattle.cs_words.proofs.OneRequest.{one_asked}
 use Rattle.cs_run.specs.declared.ending.ending.Ending.{Ending}
-use Rattle.cs_run.specs.declared.ending.ending.Ending.TheVariants.{BadWord, Denied, Written, Refused, NoFile, NotWritten, NoMemory}
+use Rattle.cs_run.specs.declared.ending.ending.Ending.TheVariants.{BadWord, Denied, Halted, Written, Refused, NoFile}
 use Rattle.cs_run.specs.Ending.Ending.{Ends, GrewAsAsked, Performs}
 use Rattle.cs_run.specs.Ending.Files.{Accepted, HasFewChains, IsBeyond, IsWithin, RefusesFor, scanning_of}
 use Rattle.cs_chain.specs.Chains.Chains.{chains}
@@ -42,9 +43,7 @@ use Rattle.cs_run.specs.Ending.Texts.{Denies, IsTextBy, IsTextOf, IsTextOfPair, 
 use Rattle.cs_run.specs.Writer.Suite.{IsRules, IsSuite}
 use Rattle.cs_io.specs.Asked.{GrewByPart, HasRoomForAll}
 use Rattle.cs_run.specs.Command.Carrying.{CarriesOut, GrewByEach, HasTooManyChains, HasTooManyStates, TakesGrammar, TakesPair, TakesThird, Writes, WritesBy, WritesByPair, WritesOfGrammar, WritesOfPair, WritesSure, WritingEnds}
-use Rattle.cs_run.specs.Command.Words.{AskForNoFiles, PerformsFor, ending_of, ending_of_suite}
-use Rattle.cs_run.specs.declared.writer.halt.SuiteHalt.{SuiteHalt}
-use Rattle.cs_run.specs.declared.writer.halt.SuiteHalt.TheVariants as suite
+use Rattle.cs_run.specs.Command.Words.{AskForNoFiles, PerformsFor, ending_of}
 use Rattle.cs_run.proofs.OnInput.Meanings.{one_meaning}
 
 -- a read of the desk failed
@@ -61,9 +60,9 @@ module _ (request : PlainRequest) (contents : List Content) (desk : DeskUse) (ou
   ends_so Written ends = ((ends.1.0, (contents, are, ends.1.1.0), ends.1.1.1, ends.1.2), ends.2)
   ends_so Denied ends = ((ends.1.0, (contents, are, ends.1.1.0), ends.1.1.1, ends.1.2), ends.2)
   ends_so (Refused refusal) ends = ((contents, are, ends.0), ends.1)
-  ends_so NotWritten ends = ((contents, are, (ends.0, ends.1)), ends.2)
-  ends_so NoMemory (inl unused) = inl unused
-  ends_so NoMemory (inr part) = inr (contents, are, (part.0, part.1))
+  ends_so (Halted Failed) ends = ((contents, are, (ends.0, ends.1)), ends.2)
+  ends_so (Halted Memory) (inl unused) = inl unused
+  ends_so (Halted Memory) (inr part) = inr (contents, are, (part.0, part.1))
   ends_so (BadWord at) ends = absurd ends
   ends_so (NoFile role) ends = absurd ends
 
@@ -108,9 +107,9 @@ module _ (accepted also : Type 0) (refused refuses : Refusal → Type 0) (Is Are
   ends_more Written ends = (to ends.0, (ends.1.0, (there ends.0 ends.1.0 ends.1.1.0, ends.1.1.1), ends.1.2), ends.2)
   ends_more Denied ends = (to ends.0, (ends.1.0, (there ends.0 ends.1.0 ends.1.1.0, ends.1.1.1), ends.1.2), ends.2)
   ends_more (Refused refusal) ends = (so refusal ends.0, ends.1)
-  ends_more NotWritten ends = (to ends.0, parts ends.0 ends.1, ends.2)
-  ends_more NoMemory (inl unused) = inl unused
-  ends_more NoMemory (inr part) = inr (to part.0, parts part.0 part.1)
+  ends_more (Halted Failed) ends = (to ends.0, parts ends.0 ends.1, ends.2)
+  ends_more (Halted Memory) (inl unused) = inl unused
+  ends_more (Halted Memory) (inr part) = inr (to part.0, parts part.0 part.1)
   ends_more (BadWord at) ends = ends
   ends_more (NoFile role) ends = ends
 
@@ -118,9 +117,9 @@ module _ (accepted also : Type 0) (refused refuses : Refusal → Type 0) (Is Are
   room_more Written ends room fits = ends.2
   room_more Denied ends room fits = ends.2
   room_more (Refused refusal) ends room fits = ends.1.1
-  room_more NotWritten ends room fits = room (λ text is. fits text (there ends.0 text is))
-  room_more NoMemory (inl unused) room fits = unused.1
-  room_more NoMemory (inr part) room fits = room (λ text is. fits text (there part.0 text is))
+  room_more (Halted Failed) ends room fits = room (λ text is. fits text (there ends.0 text is))
+  room_more (Halted Memory) (inl unused) room fits = unused.1
+  room_more (Halted Memory) (inr part) room fits = room (λ text is. fits text (there part.0 text is))
   room_more (BadWord at) ends room fits = absurd ends
   room_more (NoFile role) ends room fits = absurd ends
 
@@ -282,27 +281,6 @@ text_short files named meant read beside is = by_contents read.0 (subst (λ (m :
     by_contents (one ∷ other ∷ []) mean = absurd mean
     by_contents (one ∷ other ∷ third ∷ []) mean = omega (arith, mean.2, at_most third.role, ap length mean.5)
     by_contents (one ∷ other ∷ third ∷ more ∷ contents) mean = absurd mean
-
--- what is equal before and after a call is so by each meaning of a sink
-pub unused_or : {S : Type 0} {A : Type 0} (written : S → Option (List ℕ)) (faults : S → ℕ) (old new : S) → (new ≡ old) ⊎ A → ((written new ≡ written old) × (faults new ≡ faults old)) ⊎ A
-unused_or written faults old new (inl same) = inl (ap written same, ap faults same)
-unused_or written faults old new (inr other) = inr other
-
--- how the writing of a suite ended
-abbrev SuiteEnds : pair.Pair → (List ℕ → Type 0) → SinkUse → Ending → Type 0
-SuiteEnds p Is out ending = WritingEnds (¬ HasManyStates p.lex) (HasTooManyStates p) Is (GrewByEach Is) NoneDenies ending out
-
--- a writer of a suite that halted
-pub unsuited_so : (p : pair.Pair) (Is : List ℕ → Type 0) (ending : Ending) (why : SuiteHalt) (out : SinkUse) → ending ≡ ending_of_suite why → GrewByEach Is out
-    → (why ≡ suite.States → HasManyStates p.lex × IsUnused out) → (why ≡ suite.Failed → (¬ HasManyStates p.lex) × HasFailed out.faults)
-    → (why ≡ suite.Memory → IsUnused out ⊎ (¬ HasManyStates p.lex)) → (HasRoomForAll Is out.room → out.faults.after ≡ out.faults.before) → WritesOfPair p Is ending out
-unsuited_so p Is ending why out same part many rose few room = record { ends = subst (λ (e : Ending). SuiteEnds p Is out e) (sym same) (by_cause why many rose few); room = room }
-  where
-    by_cause : (why : SuiteHalt) → (why ≡ suite.States → HasManyStates p.lex × IsUnused out) → (why ≡ suite.Failed → (¬ HasManyStates p.lex) × HasFailed out.faults)
-        → (why ≡ suite.Memory → IsUnused out ⊎ (¬ HasManyStates p.lex)) → SuiteEnds p Is out (ending_of_suite why)
-    by_cause suite.States many rose few = let h = many refl in ((refl, h.0), h.1)
-    by_cause suite.Failed many rose few = let h = rose refl in (h.0, part, h.1)
-    by_cause suite.Memory many rose few = elim (few refl) [ inl unused ↦ inl unused | inr fits ↦ inr (fits, part) ]
 
 -- ---- by what was read
 

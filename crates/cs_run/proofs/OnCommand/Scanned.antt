@@ -12,6 +12,7 @@ use Rattle.cs_pattern_parts.specs.Tree.Pattern.{Regex}
 use Rattle.cs_pattern_parts.specs.declared.tree.kind.Kind.{Kind}
 use Rattle.cs_pattern_parts.specs.declared.tree.kind.Kind.TheVariants.{Foreign, OwnByte, Skip, Token}
 use Rattle.cs_run.specs.declared.ending.ending.Ending.{Ending}
+use Rattle.cs_run.specs.declared.ending.ending.Ending.TheVariants.{Halted, Written}
 use Rattle.cs_run.specs.declared.input.judging.Pair as pair
 use Rattle.cs_run.specs.declared.input.refusal.Refusal.{Refusal}
 use Rattle.cs_run.specs.declared.input.refusal.Refusal.TheVariants.{States}
@@ -37,17 +38,25 @@ same_scanning p k l file patterns kinds literals =
 
 -- ---- endings
 
+module _ (accepted : Type 0) (refused : Refusal → Type 0) (Is : List ℕ → Type 0) (Part : SinkUse → Type 0) (out : SinkUse) (within : accepted) (room : HasRoomForAll Is out.room → out.faults.after ≡ out.faults.before) where
+  -- the text was written
+  pub written_so : GrewByOne Is out.written.before out.written.after → out.faults.after ≡ out.faults.before → Writes accepted refused Is Part NoneDenies Written out
+  written_so whole calm = record { ends = (within, (whole.0, (whole.1, λ none. none), whole.2), calm); room = room }
+
+  -- its writing stopped
+  pub halted_so : (halt : Halt) → Part out → (halt ≡ Failed → HasFailed out.faults) → Writes accepted refused Is Part NoneDenies (Halted halt) out
+  halted_so Failed part failed = record { ends = (within, part, failed refl); room = room }
+  halted_so Memory part failed = record { ends = inr (within, part); room = room }
+
 -- the text was written, or its writing stopped
 pub ended_so : (accepted : Type 0) (refused : Refusal → Type 0) (Is : List ℕ → Type 0) (Part : SinkUse → Type 0) (outcome : Result Unit Halt) (ending : Ending) (out : SinkUse)
     → accepted → ending ≡ ending_after outcome → OnOk outcome (GrewByOne Is out.written.before out.written.after) → OnErr outcome (Part out)
     → OnOk outcome (out.faults.after ≡ out.faults.before) → (Stopped Failed outcome → HasFailed out.faults) → (HasRoomForAll Is out.room → out.faults.after ≡ out.faults.before)
     → Writes accepted refused Is Part NoneDenies ending out
 ended_so accepted refused Is Part (Ok done) ending out within same whole part calm failed room =
-    subst (λ (e : Ending). Writes accepted refused Is Part NoneDenies e out) (sym same) (record { ends = (within, (whole.0, (whole.1, λ none. none), whole.2), calm); room = room })
-ended_so accepted refused Is Part (Err Failed) ending out within same whole part calm failed room =
-    subst (λ (e : Ending). Writes accepted refused Is Part NoneDenies e out) (sym same) (record { ends = (within, part, failed refl); room = room })
-ended_so accepted refused Is Part (Err Memory) ending out within same whole part calm failed room =
-    subst (λ (e : Ending). Writes accepted refused Is Part NoneDenies e out) (sym same) (record { ends = inr (within, part); room = room })
+    subst (λ (e : Ending). Writes accepted refused Is Part NoneDenies e out) (sym same) (written_so accepted refused Is Part out within room whole calm)
+ended_so accepted refused Is Part (Err halt) ending out within same whole part calm failed room =
+    subst (λ (e : Ending). Writes accepted refused Is Part NoneDenies e out) (sym same) (halted_so accepted refused Is Part out within room halt part (λ is. failed (ap Err is)))
 
 -- the text that there is in any case was written, or its writing stopped
 pub ended_sure : (Is : List ℕ → Type 0) (outcome : Result Unit Halt) (ending : Ending) (out : SinkUse)

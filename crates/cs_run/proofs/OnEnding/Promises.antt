@@ -2,10 +2,11 @@
 use Rattle.std.proofs.Common.{◌≡◌, ◌⊎◌, ◌<◌, ◌≤◌, ℕ, Ok, Err, IsErr, IsOkAnd, Result, ap, sym, ◌∙◌, subst, inl, inr, refl, arith, rules}
 use Rattle.cs_io.specs.Faults.{greatest}
 use Rattle.cs_io.specs.Uses.{DeskUse, SinkUse, HasFailed, IsUnused}
+use Rattle.cs_io.specs.declared.halt.Halt.TheVariants.{Failed, Memory}
 use Rattle.cs_words.specs.declared.command.Role.{Role}
 use Rattle.cs_words.specs.Requests.{PlainRequest}
 use Rattle.cs_run.specs.declared.ending.ending.Ending.{Ending}
-use Rattle.cs_run.specs.declared.ending.ending.Ending.TheVariants.{Written, Denied, Refused, BadWord, NoFile, NotWritten, NoMemory}
+use Rattle.cs_run.specs.declared.ending.ending.Ending.TheVariants.{Written, Denied, Refused, BadWord, NoFile, Halted}
 use Rattle.cs_run.specs.Ending.Ending.{Ends, IsReported, Performs, Says, WroteDenial, WroteText, WrotePart, WrotePartOfAccepted, line_of, status_of}
 use Rattle.cs_run.specs.Ending.Files.{AreAccepted, AreRefused, HasNoFileFor}
 use Rattle.cs_run.specs.Ending.Headline.{IsStatusBy, KeepsPromises}
@@ -135,7 +136,7 @@ module _ (asked : Result PlainRequest ℕ) (desk : DeskUse) (out err : SinkUse) 
     silent = λ is. absurd (omega (arith, is));
     denied_silently = λ is. absurd (omega (arith, is));
   }
-  rest NotWritten ends = record {
+  rest (Halted Failed) ends = record {
     whole = λ is. absurd (omega (arith, is));
     denied = λ is. absurd (omega (arith, is));
     files_refused = λ is. absurd (omega (arith, is));
@@ -151,7 +152,7 @@ module _ (asked : Result PlainRequest ℕ) (desk : DeskUse) (out err : SinkUse) 
     silent = λ is. absurd (omega (arith, is));
     denied_silently = λ is. absurd (omega (arith, is));
   }
-  rest NoMemory ends = record {
+  rest (Halted Memory) ends = record {
     whole = λ is. absurd (omega (arith, is));
     denied = λ is. absurd (omega (arith, is));
     files_refused = λ is. absurd (omega (arith, is));
@@ -169,14 +170,14 @@ module _ (asked : Result PlainRequest ℕ) (desk : DeskUse) (out err : SinkUse) 
   }
 
   -- want of memory for the line may take the place of an ending whose output wasn't written
-  memory_ends : (ending : Ending) → (¬ (ending ≡ Written)) × ¬ (ending ≡ Denied) → Ends ending asked desk out → Ends NoMemory asked desk out
+  memory_ends : (ending : Ending) → (¬ (ending ≡ Written)) × ¬ (ending ≡ Denied) → Ends ending asked desk out → Ends (Halted Memory) asked desk out
   memory_ends Written not ends = absurd (not.0 refl)
   memory_ends Denied not ends = absurd (not.1 refl)
   memory_ends (Refused refusal) not ends = inl ends.1
   memory_ends (BadWord at) not ends = inl ends.1
   memory_ends (NoFile role) not ends = inl ends.1
-  memory_ends NotWritten not ends = inr ends.0
-  memory_ends NoMemory not ends = ends
+  memory_ends (Halted Failed) not ends = inr ends.0
+  memory_ends (Halted Memory) not ends = ends
 
   reported_ends : (ending reported : Ending) → Ends ending asked desk out → IsReported ending reported → Ends reported asked desk out
   reported_ends ending reported ends (inl same) = subst (λ (e : Ending). Ends e asked desk out) (sym same) ends
@@ -188,9 +189,9 @@ module _ (asked : Result PlainRequest ℕ) (desk : DeskUse) (out err : SinkUse) 
   prefix (Refused refusal) ends above = absurd (omega (arith, above.0))
   prefix (BadWord at) ends above = absurd (omega (arith, above.0))
   prefix (NoFile role) ends above = absurd (omega (arith, above.0))
-  prefix NotWritten ends above = inr (part_written asked ends.0)
-  prefix NoMemory (inl unused) above = inl unused
-  prefix NoMemory (inr part) above = inr (part_written asked part)
+  prefix (Halted Failed) ends above = inr (part_written asked ends.0)
+  prefix (Halted Memory) (inl unused) above = inl unused
+  prefix (Halted Memory) (inr part) above = inr (part_written asked part)
 
   within : (e : Ending) → status_of e ≤ 6
   within Written = omega arith
@@ -198,8 +199,8 @@ module _ (asked : Result PlainRequest ℕ) (desk : DeskUse) (out err : SinkUse) 
   within (Refused refusal) = omega arith
   within (BadWord at) = omega arith
   within (NoFile role) = omega arith
-  within NotWritten = omega arith
-  within NoMemory = omega arith
+  within (Halted Failed) = omega arith
+  within (Halted Memory) = omega arith
 
   failed_status : (ending reported : Ending) → (role : Role) × (ending ≡ NoFile role) → IsReported ending reported → (status_of reported ≡ 3) ⊎ (status_of reported ≡ 5)
   failed_status ending reported failed (inl same) = inl (ap status_of (same ∙ failed.1))

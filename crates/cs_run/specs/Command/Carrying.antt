@@ -2,6 +2,7 @@
 use Rattle.std.specs.Prelude.{◌≡◌, ◌⊎◌, ◌∷◌, [], ℕ, List}
 use Rattle.cs_grammar.specs.Grammar.{PlainGrammar}
 use Rattle.cs_io.specs.Uses.{HasFailed, IsUnused, SinkUse}
+use Rattle.cs_io.specs.declared.halt.Halt.TheVariants.{Failed, Memory}
 use Rattle.cs_run.specs.declared.input.judging.Meant.{Meant}
 use Rattle.cs_run.specs.declared.input.judging.Meant.TheVariants.{Grammar, Pair as PairOf, Text}
 use Rattle.cs_run.specs.declared.input.judging.Pair.{Pair}
@@ -12,7 +13,7 @@ use Rattle.cs_run.specs.Input.Files.{Content, Mean}
 use Rattle.cs_run.specs.Input.Read.{third_role}
 use Rattle.cs_run.specs.Input.Refusal.{HasManyStates}
 use Rattle.cs_run.specs.declared.ending.ending.Ending.{Ending}
-use Rattle.cs_run.specs.declared.ending.ending.Ending.TheVariants.{BadWord, Denied, NoFile, NoMemory, NotWritten, Refused, Written}
+use Rattle.cs_run.specs.declared.ending.ending.Ending.TheVariants.{BadWord, Denied, Halted, NoFile, Refused, Written}
 use Rattle.cs_run.specs.Ending.Ending.{GrewAsAsked}
 use Rattle.cs_run.specs.Ending.Files.{Accepted, HasFewChains, HasManyChains, IsBeyond, IsWithin, RefusesFor}
 use Rattle.cs_run.specs.Ending.Texts.{Denies, IsTextBy, IsTextOf, NoneDenies}
@@ -31,8 +32,8 @@ module _ (accepted : Type 0) (refused : Refusal → Type 0) (Is : List ℕ → T
   WritingEnds Written out = accepted × GrewByOne (λ text. Is text × ¬ No text) out.written.before out.written.after × (out.faults.after ≡ out.faults.before)
   WritingEnds Denied out = accepted × GrewByOne (λ text. Is text × No text) out.written.before out.written.after × (out.faults.after ≡ out.faults.before)
   WritingEnds (Refused refusal) out = refused refusal × IsUnused out
-  WritingEnds NotWritten out = accepted × Part out × HasFailed out.faults
-  WritingEnds NoMemory out = IsUnused out ⊎ (accepted × Part out)
+  WritingEnds (Halted Failed) out = accepted × Part out × HasFailed out.faults
+  WritingEnds (Halted Memory) out = IsUnused out ⊎ (accepted × Part out)
   WritingEnds (BadWord at) out = ⊥
   WritingEnds (NoFile role) out = ⊥
 

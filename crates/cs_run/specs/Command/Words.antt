@@ -7,13 +7,11 @@ use Rattle.cs_scanner.specs.declared.automaton.error.AutomatonError.{AutomatonEr
 use Rattle.cs_scanner.specs.declared.automaton.error.AutomatonError.TheVariants as automaton
 use Rattle.cs_run.specs.declared.input.refusal.Stop.TheVariants as stop
 use Rattle.cs_run.specs.declared.ending.ending.Ending.{Ending}
-use Rattle.cs_run.specs.declared.ending.ending.Ending.TheVariants.{Denied, NoFile, NoMemory, NotWritten, Refused, Written}
+use Rattle.cs_run.specs.declared.ending.ending.Ending.TheVariants.{Denied, Halted, NoFile, Refused, Written}
 use Rattle.cs_run.specs.Ending.Ending.{Performs}
 use Rattle.cs_run.specs.Ending.Headline.{KeepsPromises}
 use Rattle.cs_words.specs.Requests.{IsAsked, PlainRequest, files_of}
 use Rattle.cs_words.specs.Words.{IsFirstBad}
-use Rattle.cs_run.specs.declared.writer.halt.SuiteHalt.{SuiteHalt}
-use Rattle.cs_run.specs.declared.writer.halt.SuiteHalt.TheVariants as suite
 use Rattle.cs_io.specs.declared.halt.Halt.{Halt}
 use Rattle.cs_io.specs.declared.halt.Halt.TheVariants as halt
 
@@ -37,31 +35,20 @@ PerformsFor words ending desk out = (asked : Result PlainRequest ℕ) × IsAsked
 abbrev pub ending_of : Stop → Ending
 ending_of (stop.NoFile role) = NoFile role
 ending_of (stop.Refused refusal) = Refused refusal
-ending_of stop.Memory = NoMemory
-
--- how a run ends whose writing stopped
-abbrev pub ending_at : Halt → Ending
-ending_at halt.Failed = NotWritten
-ending_at halt.Memory = NoMemory
+ending_of stop.Memory = Halted halt.Memory
 
 -- how a run ends whose text was written, or whose writing stopped
 abbrev pub ending_after : Result Unit Halt → Ending
 ending_after (Ok done) = Written
-ending_after (Err halt) = ending_at halt
+ending_after (Err halt) = Halted halt
 
 -- how a run ends whose check was written, or whose writing stopped
 abbrev pub ending_of_check : Result Bool Halt → Ending
 ending_of_check (Ok true) = Written
 ending_of_check (Ok false) = Denied
-ending_of_check (Err halt) = ending_at halt
-
--- how a run ends whose suite isn't written whole
-abbrev pub ending_of_suite : SuiteHalt → Ending
-ending_of_suite suite.States = Refused States
-ending_of_suite suite.Failed = NotWritten
-ending_of_suite suite.Memory = NoMemory
+ending_of_check (Err halt) = Halted halt
 
 -- how a run ends where a lex file has no automaton
 abbrev pub ending_by : AutomatonError → Ending
 ending_by (automaton.TooManyStates most) = Refused States
-ending_by automaton.Memory = NoMemory
+ending_by automaton.Memory = Halted halt.Memory

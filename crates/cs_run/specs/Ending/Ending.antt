@@ -5,6 +5,7 @@ use Rattle.cs_deep.specs.Membership.{GrewByFront}
 use Rattle.cs_io.specs.Sink.{GrewByPrefix}
 use Rattle.cs_io.specs.Asked.{GrewByPart}
 use Rattle.cs_io.specs.Uses.{DeskUse, SinkUse, HasFailed, IsUnused}
+use Rattle.cs_io.specs.declared.halt.Halt.TheVariants.{Failed, Memory}
 use Rattle.cs_words.specs.declared.command.Command.{Command}
 use Rattle.cs_words.specs.declared.command.Command.TheVariants.{Member}
 use Rattle.cs_words.specs.declared.command.Role.{Role}
@@ -13,7 +14,7 @@ use Rattle.cs_run.specs.Input.Files.{Content, HaveContents}
 use Rattle.cs_run.specs.Input.Lines.{refusal_line, role_word}
 use Rattle.cs_run.specs.Input.Refusal.{IsTold}
 use Rattle.cs_run.specs.declared.ending.ending.Ending.{Ending}
-use Rattle.cs_run.specs.declared.ending.ending.Ending.TheVariants.{Written, Denied, Refused, BadWord, NoFile, NotWritten, NoMemory}
+use Rattle.cs_run.specs.declared.ending.ending.Ending.TheVariants.{Written, Denied, Refused, BadWord, NoFile, Halted}
 use Rattle.cs_run.specs.Ending.Files.{Accepted, AreRefusedSo, HasNoFileFor}
 use Rattle.cs_run.specs.Ending.Texts.{DeniesAsked, HasRoomFor, IsAskedText, IsTextOf}
 
@@ -57,8 +58,8 @@ Ends Denied asked desk out = WroteDenial asked desk out × (out.faults.after ≡
 Ends (Refused refusal) asked desk out = IsOkAnd asked (λ request. AreRefusedSo desk.files request refusal) × IsUnused out
 Ends (BadWord at) asked desk out = (asked ≡ Err at) × IsUnused out
 Ends (NoFile role) asked desk out = IsOkAnd asked (λ request. HasNoFileFor desk.files request desk.faults role) × IsUnused out
-Ends NotWritten asked desk out = WrotePartOfAccepted asked desk out × HasFailed out.faults
-Ends NoMemory asked desk out = IsUnused out ⊎ WrotePartOfAccepted asked desk out
+Ends (Halted Failed) asked desk out = WrotePartOfAccepted asked desk out × HasFailed out.faults
+Ends (Halted Memory) asked desk out = IsUnused out ⊎ WrotePartOfAccepted asked desk out
 
 -- want of memory is an ending of its own, and no refusal
 abbrev pub HasLine : Ending → Type 0
@@ -67,8 +68,7 @@ HasLine Written = Unit {0}
 HasLine Denied = Unit {0}
 HasLine (BadWord at) = Unit {0}
 HasLine (NoFile role) = Unit {0}
-HasLine NotWritten = Unit {0}
-HasLine NoMemory = Unit {0}
+HasLine (Halted halt) = Unit {0}
 
 -- A run ended so. Where a read failed, it ended by that.
 pub record Performs (ending : Ending) (asked : Result PlainRequest ℕ) (desk : DeskUse) (out : SinkUse) : Type 0 where
@@ -79,7 +79,7 @@ pub record Performs (ending : Ending) (asked : Result PlainRequest ℕ) (desk : 
 
 -- the ending that is reported: the same, or want of memory for the line, which an output that was written needs none of
 abbrev pub IsReported : Ending → Ending → Type 0
-IsReported ending reported = (reported ≡ ending) ⊎ ((reported ≡ NoMemory) × (¬ (ending ≡ Written)) × ¬ (ending ≡ Denied))
+IsReported ending reported = (reported ≡ ending) ⊎ ((reported ≡ Halted Memory) × (¬ (ending ≡ Written)) × ¬ (ending ≡ Denied))
 
 -- ---- statuses
 
@@ -88,8 +88,8 @@ status_of Written = 0
 status_of (Refused refusal) = 1
 status_of (BadWord at) = 2
 status_of (NoFile role) = 3
-status_of NotWritten = 4
-status_of NoMemory = 5
+status_of (Halted Failed) = 4
+status_of (Halted Memory) = 5
 status_of Denied = 6
 
 -- ---- lines on the error output
@@ -100,8 +100,8 @@ line_of Denied = []
 line_of (Refused refusal) = refusal_line refusal
 line_of (BadWord at) = codes "conform: usage: word " ++ decimal at ++ codes "\n"
 line_of (NoFile role) = codes "conform: read fault: " ++ role_word role ++ codes "\n"
-line_of NotWritten = codes "conform: write fault\n"
-line_of NoMemory = codes "conform: out of memory\n"
+line_of (Halted Failed) = codes "conform: write fault\n"
+line_of (Halted Memory) = codes "conform: out of memory\n"
 
 -- The error output grew by a line, or by a prefix of it where a write failed.
 abbrev pub Says : List ℕ → SinkUse → Type 0

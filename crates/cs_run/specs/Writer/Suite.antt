@@ -1,12 +1,13 @@
 -- The manifests that `rules` and `suite` write.
 use Rattle.std.specs.Prelude.{ℕ, List, Some}
 use Rattle.std.specs.Borrow.{Bor}
-use Rattle.cs_run.specs.Ending.Files.{choice_of}
+use Rattle.cs_run.specs.Ending.Files.{choice_by, choice_of}
 use Rattle.cs_run.specs.declared.input.judging.Pair.{Pair}
 use Rattle.cs_grammar.specs.Weights.{Measure, Weighed}
 use Rattle.cs_manifest.specs.Manifest.Manifest.{Choice, IsManifest, measure_of, rules_form}
 use Rattle.cs_writing.specs.declared.plan.plan.Means.{Means}
 use Rattle.cs_writing.specs.Plan.Plans.{texts_of}
+use Rattle.cs_scanner.specs.Scan.Scan.{Scanning}
 use Rattle.cs_texts.specs.declared.rendering.render_work.RenderWork.{RenderWork}
 use Rattle.cs_words.specs.declared.options.Options.{Options}
 use Rattle.cs_yacc.specs.Reading.File.{File}
@@ -18,6 +19,10 @@ IsRules file text = IsManifest rules_form file text
 -- the text is the manifest of the pair by the options
 abbrev pub IsSuite : Pair → Options → List ℕ → Type 0
 IsSuite pair options text = IsManifest (choice_of pair.lex options) pair.yacc text
+
+-- the same of a yacc file, and of what its texts are scanned by
+abbrev pub IsSuiteBy : File → Scanning → Options → List ℕ → Type 0
+IsSuiteBy file s options text = IsManifest (choice_by options s) file text
 
 -- what the options choose, with these texts
 abbrev pub choice_with : Options → RenderWork → Choice

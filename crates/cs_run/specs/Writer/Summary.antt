@@ -6,7 +6,9 @@ use Rattle.cs_gen.specs.declared.files.Generated.{Generated}
 use Rattle.cs_run.specs.declared.input.judging.Pair.{Pair}
 use Rattle.cs_manifest.specs.declared.manifest.counts.Counts.{Counts}
 use Rattle.cs_manifest.specs.Manifest.Lines.{numbered_word}
-use Rattle.cs_run.specs.Writer.Suite.{IsSuite}
+use Rattle.cs_run.specs.Writer.Suite.{IsSuite, IsSuiteBy}
+use Rattle.cs_scanner.specs.Scan.Scan.{Scanning}
+use Rattle.cs_yacc.specs.Reading.File.{File}
 
 -- the text is the summary of the number, and no other text is
 pub record IsOnlySummary (seed : ℕ) (text : List ℕ) : Type 0 where
@@ -16,6 +18,10 @@ pub record IsOnlySummary (seed : ℕ) (text : List ℕ) : Type 0 where
 -- the pair has a manifest by the options of summaries
 abbrev pub HasSuite : Pair → Type 0
 HasSuite pair = (text : List ℕ) × IsSuite pair summary_options text
+
+-- so has a yacc file, and what its texts are scanned by
+abbrev pub HasSuiteBy : File → Scanning → Type 0
+HasSuiteBy file s = (text : List ℕ) × IsSuiteBy file s summary_options text
 
 -- the lengths of two files
 abbrev pub lengths : Generated → Lengths

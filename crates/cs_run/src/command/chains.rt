@@ -15,7 +15,7 @@ use cs_chain_text::{Chained, write_chains};
 use cs_choices::Weigh;
 use cs_fan::{Crew, Gate};
 use cs_grammar::Weights;
-use cs_io::Sink;
+use cs_io::{Halt, Sink};
 use cs_texts::RenderWork;
 use cs_yacc::YaccFile;
 use std::alloc::Global;
@@ -36,7 +36,7 @@ pub(crate) fn chains<R: Threads + Sync, O: Sink, G: Gate + Sync>(
 {
     match Weights::nodes(alloc, file.grammar().tokens()) {
         Ok(weights) => chains_by(crew, alloc, file, &weights, Weigh::Nodes, None, out),
-        Err(_) => Ending::NoMemory,
+        Err(_) => Ending::Halted(Halt::Memory),
     }
 }
 
@@ -59,7 +59,7 @@ pub(crate) fn chains_by<R: Threads + Sync, O: Sink, G: Gate + Sync>(
 {
     let found = match total(alloc, file.grammar()) {
         Ok(found) => found,
-        Err(_) => return Ending::NoMemory,
+        Err(_) => return Ending::Halted(Halt::Memory),
     };
     if found > MOST_CHAINS {
         return Ending::Refused(Refusal::ManyChains { found });

@@ -7,10 +7,10 @@ ghost use Rattle.cs_run.specs.Command.Words.{ending_of_check};
 ghost use Rattle.cs_run.specs.Ending.Ending.{HasLine};
 ghost use Rattle.cs_run.specs.Input.Read.{HasTokensOfItsFile};
 
-use crate::command::endings::{halted, unmade};
-use crate::command::scanner::scanner_of;
+use crate::command::endings::unmade;
 use crate::ending::Ending;
 use crate::input::PairAndText;
+use crate::writer::scanner_of;
 use cs_check_text::write_check;
 use cs_io::{Halt, Sink};
 use cs_scanner::Automaton;
@@ -40,6 +40,6 @@ fn answered(outcome: Result<bool, Halt>) -> Ending
     match outcome {
         Ok(true) => Ending::Written,
         Ok(false) => Ending::Denied,
-        Err(halt) => halted(halt),
+        Err(halt) => Ending::Halted(halt),
     }
 }

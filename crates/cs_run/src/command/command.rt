@@ -12,15 +12,16 @@ ghost use Rattle.cs_run.specs.Writer.Suite.{IsRules, IsSuite};
 
 use crate::command::chains::chains;
 use crate::command::check::checked;
-use crate::command::endings::{ended, stopped, unsuited};
+use crate::command::endings::{ended, stopped, unmade};
 use crate::command::lexemes::of_lexemes;
 use crate::command::lexical::lexical;
 use crate::command::text::of_text;
 use crate::ending::{Ending, finish};
 use crate::input::{Meant, Pair, PairAndText, read_files};
-use crate::writer::{write_rules, write_suite, write_summary};
+use crate::writer::{scanner_of, write_rules, write_suite, write_summary};
 use cs_fan::{Crew, Gate};
 use cs_io::{Desk, Sink};
+use cs_scanner::Automaton;
 use cs_words::{Arguments, Command, GrammarCommand, Options, PairCommand, read_words};
 use cs_yacc::YaccFile;
 use std::alloc::Global;
@@ -121,7 +122,7 @@ fn of_pair<R: Threads + Sync, O: Sink, G: Gate + Sync>(
     ensures told { HasLine result }
 {
     match command {
-        Command::OfPair(PairCommand::Suite) => suite(crew, alloc, pair, options, out),
+        Command::OfPair(PairCommand::Suite) => suite(crew, alloc, &options, &pair, out),
         Command::OfPair(PairCommand::Lexical) => lexical(alloc, &pair, out),
         Command::OfPair(PairCommand::Chains) => {
             of_lexemes(crew, alloc, PairCommand::Chains, &options, &pair, out)
@@ -172,17 +173,22 @@ fn rules<R: Threads + Sync, O: Sink, G: Gate + Sync>(
 fn suite<R: Threads + Sync, O: Sink, G: Gate + Sync>(
     crew: &Crew<'_, R, G>,
     alloc: Global,
-    pair: Pair,
-    options: Options,
+    options: &Options,
+    pair: &Pair,
     out: &mut O,
 ) -> Ending
-    ensures writes { WritesOfPair pair (IsSuite pair options) result
+    ensures writes { WritesOfPair pair.now (IsSuite pair.now options.now) result
         (used O.Sink out.old out.new) }
     ensures told { HasLine result }
 {
-    match write_suite(crew, alloc, pair, options, out) {
+    let automaton = match Automaton::new(alloc, pair.lex.patterns()) {
+        Ok(automaton) => automaton,
+        Err(error) => return unmade(error),
+    };
+    let scanner = scanner_of(&pair.lex, &automaton);
+    match write_suite(crew, alloc, &pair.yacc, &scanner, options, out) {
         Ok(_) => Ending::Written,
-        Err(halt) => unsuited(halt),
+        Err(halt) => Ending::Halted(halt),
     }
 }
 

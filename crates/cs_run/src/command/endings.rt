@@ -1,13 +1,12 @@
 // How a run ends, by how its calls ended.
 
 ghost use Rattle.std.specs.Prelude.{◌≡◌};
-ghost use Rattle.cs_run.specs.Command.Words.{ending_after, ending_at, ending_by, ending_of, ending_of_suite};
+ghost use Rattle.cs_run.specs.Command.Words.{ending_after, ending_by, ending_of};
 ghost use Rattle.cs_run.specs.Ending.Ending.{HasLine};
 ghost use Rattle.cs_run.specs.Input.Refusal.{CanBeTold};
 
 use crate::ending::Ending;
 use crate::input::{Refusal, Stop};
-use crate::writer::SuiteHalt;
 use cs_io::Halt;
 use cs_scanner::AutomatonError;
 
@@ -18,18 +17,7 @@ pub(crate) fn ended(outcome: Result<(), Halt>) -> Ending
 {
     match outcome {
         Ok(()) => Ending::Written,
-        Err(halt) => halted(halt),
-    }
-}
-
-/// How a run ends whose writing stopped.
-pub(crate) fn halted(halt: Halt) -> Ending
-    ensures ending { result ≡ ending_at halt }
-    ensures told { HasLine result }
-{
-    match halt {
-        Halt::Failed => Ending::NotWritten,
-        Halt::Memory => Ending::NoMemory,
+        Err(halt) => Ending::Halted(halt),
     }
 }
 
@@ -42,19 +30,7 @@ pub(crate) fn stopped(stop: Stop) -> Ending
     match stop {
         Stop::NoFile(role) => Ending::NoFile(role),
         Stop::Refused(refusal) => Ending::Refused(refusal),
-        Stop::Memory => Ending::NoMemory,
-    }
-}
-
-/// How a run ends whose suite isn't written whole.
-pub(crate) fn unsuited(halt: SuiteHalt) -> Ending
-    ensures ending { result ≡ ending_of_suite halt }
-    ensures told { HasLine result }
-{
-    match halt {
-        SuiteHalt::States => Ending::Refused(Refusal::States),
-        SuiteHalt::Failed => Ending::NotWritten,
-        SuiteHalt::Memory => Ending::NoMemory,
+        Stop::Memory => Ending::Halted(Halt::Memory),
     }
 }
 
@@ -65,6 +41,6 @@ pub(crate) fn unmade(error: AutomatonError) -> Ending
 {
     match error {
         AutomatonError::TooManyStates { .. } => Ending::Refused(Refusal::States),
-        AutomatonError::Memory => Ending::NoMemory,
+        AutomatonError::Memory => Ending::Halted(Halt::Memory),
     }
 }

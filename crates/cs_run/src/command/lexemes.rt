@@ -8,13 +8,12 @@ ghost use Rattle.cs_run.specs.Ending.Ending.{HasLine};
 use crate::command::chains::chains_by;
 use crate::command::deep::deep;
 use crate::command::endings::{ended, unmade};
-use crate::command::scanner::scanner_of;
 use crate::ending::Ending;
 use crate::input::Pair;
-use crate::writer::weights_of;
+use crate::writer::{scanner_of, weights_of};
 use cs_fan::{Crew, Gate};
 use cs_grammar::Weights;
-use cs_io::Sink;
+use cs_io::{Halt, Sink};
 use cs_scanner::{Automaton, Lexemes, Scanner};
 use cs_spell::write_spell;
 use cs_texts::RenderWork;
@@ -75,7 +74,7 @@ fn by_scanner<R: Threads + Sync, O: Sink, G: Gate + Sync>(
     let tokens = asked.yacc.grammar().tokens();
     let lexemes = match Lexemes::new(alloc, scanner, tokens) {
         Ok(lexemes) => lexemes,
-        Err(_) => return Ending::NoMemory,
+        Err(_) => return Ending::Halted(Halt::Memory),
     };
     let work = RenderWork {
         scanner,
@@ -84,7 +83,7 @@ fn by_scanner<R: Threads + Sync, O: Sink, G: Gate + Sync>(
     };
     match weights_of(alloc, asked.options.weigh, &lexemes, tokens) {
         Ok(weights) => by_work(crew, alloc, asked, &weights, &work, out),
-        Err(_) => Ending::NoMemory,
+        Err(_) => Ending::Halted(Halt::Memory),
     }
 }
 

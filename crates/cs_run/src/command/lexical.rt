@@ -5,9 +5,9 @@ ghost use Rattle.cs_run.specs.Command.Scanned.{WritesLexical};
 ghost use Rattle.cs_run.specs.Ending.Ending.{HasLine};
 
 use crate::command::endings::{ended, unmade};
-use crate::command::scanner::scanner_of;
 use crate::ending::Ending;
 use crate::input::Pair;
+use crate::writer::scanner_of;
 use cs_io::Sink;
 use cs_lexical::write_lexical;
 use cs_scanner::Automaton;

@@ -8,12 +8,12 @@ ghost use Rattle.cs_run.specs.Ending.Ending.{HasLine};
 ghost use Rattle.cs_run.specs.Input.Read.{HasTokensOfItsFile};
 
 use crate::command::endings::{ended, unmade};
-use crate::command::scanner::scanner_of;
 use crate::ending::Ending;
 use crate::input::{PairAndText, Refusal};
+use crate::writer::scanner_of;
 use cs_deep::write_member;
 use cs_grammar::Grammar;
-use cs_io::Sink;
+use cs_io::{Halt, Sink};
 use cs_scanner::{Automaton, Scanned, scan};
 use std::alloc::Global;
 
@@ -35,7 +35,7 @@ pub(crate) fn of_text<O: Sink>(alloc: Global, beside: &PairAndText, out: &mut O)
     match scan(alloc, &scanner, beside.text.bytes()) {
         Ok(Scanned::Tokens(tokens)) => of_tokens(alloc, beside.pair.yacc.grammar(), &tokens, out),
         Ok(Scanned::Stops { at }) => Ending::Refused(Refusal::TextStops { at }),
-        Err(_) => Ending::NoMemory,
+        Err(_) => Ending::Halted(Halt::Memory),
     }
 }
 

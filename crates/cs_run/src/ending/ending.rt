@@ -1,6 +1,7 @@
 // How a run ends.
 
 use crate::input::Refusal;
+use cs_io::Halt;
 use cs_words::Role;
 
 /// How a run ends.
@@ -16,7 +17,6 @@ pub enum Ending {
     BadWord { at: usize },
     /// The file could not be read.
     NoFile(Role),
-    /// The output could not be written.
-    NotWritten,
-    NoMemory,
+    /// A write of the output failed, or memory ran out.
+    Halted(Halt),
 }

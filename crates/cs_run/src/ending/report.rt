@@ -8,7 +8,7 @@ ghost use Rattle.cs_run.specs.Ending.Headline.{KeepsWhatPerforms};
 
 use crate::ending::ending::Ending;
 use crate::input::line as refusal_line;
-use cs_io::{Sink, write_all};
+use cs_io::{Halt, Sink, write_all};
 use cs_words::Role;
 use std::alloc::{AllocError, Global};
 
@@ -48,7 +48,7 @@ fn report<E: Sink>(alloc: Global, ending: Ending, err: &mut E) -> Ending
         }
         Err(_) => {
             let _ = write_all(err, b"conform: out of memory\n");
-            Ending::NoMemory
+            Ending::Halted(Halt::Memory)
         }
     }
 }
@@ -62,8 +62,8 @@ fn status(ending: Ending) -> u8
         Ending::Refused(_) => 1,
         Ending::BadWord { .. } => 2,
         Ending::NoFile(_) => 3,
-        Ending::NotWritten => 4,
-        Ending::NoMemory => 5,
+        Ending::Halted(Halt::Failed) => 4,
+        Ending::Halted(Halt::Memory) => 5,
         Ending::Denied => 6,
     }
 }
@@ -82,7 +82,7 @@ fn line(alloc: Global, ending: Ending) -> Result<String, AllocError>
         Ending::NoFile(Role::Manifest) => {
             String::from_str(alloc, "conform: read fault: manifest\n")
         }
-        Ending::NotWritten => String::from_str(alloc, "conform: write fault\n"),
-        Ending::NoMemory => String::from_str(alloc, "conform: out of memory\n"),
+        Ending::Halted(Halt::Failed) => String::from_str(alloc, "conform: write fault\n"),
+        Ending::Halted(Halt::Memory) => String::from_str(alloc, "conform: out of memory\n"),
     }
 }

@@ -3,22 +3,25 @@
 ghost use Rattle.std.specs.Prelude.{IfOk, OnErr, OnOk, string_bytes};
 ghost use Rattle.cs_run.specs.Ending.Summary.{IsSummary, summary_options};
 ghost use Rattle.cs_run.specs.Input.Refusal.{HasManyStates};
-ghost use Rattle.cs_run.specs.Writer.Suite.{IsSuite};
-ghost use Rattle.cs_run.specs.Writer.Summary.{AreShort, HasSuite, HasNumberMore, IsLineOf, IsOnlySummary};
+ghost use Rattle.cs_run.specs.Writer.Suite.{IsSuite, IsSuiteBy};
+ghost use Rattle.cs_run.specs.Writer.Summary.{AreShort, HasSuite, HasSuiteBy, HasNumberMore, IsLineOf, IsOnlySummary};
 ghost use Rattle.cs_io.specs.declared.halt.Halt.TheVariants.{Failed};
 ghost use Rattle.cs_writing.specs.Writing.Writing.{CountsOfAll, HasNoCases};
 ghost use Rattle.cs_io.specs.Asked.{IsCalmForAll, MetFault, MetNone};
 ghost use Rattle.cs_io.specs.Asked.{Stopped, TookFront, TookOne};
+ghost use Rattle.cs_scanner.specs.Scan.Compared.{scanning};
 
 use crate::input::{Pair, Stop, judge_pair};
-use crate::writer::halt::SuiteHalt;
+use crate::writer::scanner::scanner_of;
 use crate::writer::suite::write_suite;
 use cs_choices::Format;
 use cs_fan::{Crew, Gate};
 use cs_gen::{Generated, make};
 use cs_io::{Halt, NullSink, Sink, write_all};
 use cs_manifest::Counts;
+use cs_scanner::{Automaton, AutomatonError, Scanner};
 use cs_words::Options;
+use cs_yacc::YaccFile;
 use std::alloc::{AllocError, Global};
 use std::thread::Threads;
 
@@ -60,7 +63,7 @@ fn summary<R: Threads + Sync, G: Gate + Sync>(
     line(alloc, seed, &files, counts)
 }
 
-// The counts of the manifest of a pair by default options, in the first format. Its lines are kept nowhere.
+// The counts of the manifest of a pair by default options, in the first format. Its automaton hasn't too many states.
 fn count<R: Threads + Sync, G: Gate + Sync>(
     crew: &Crew<'_, R, G>,
     alloc: Global,
@@ -71,16 +74,36 @@ fn count<R: Threads + Sync, G: Gate + Sync>(
     ensures counts { IfOk result (CountsOfAll (IsSuite pair summary_options)) }
     ensures first { IfOk result HasNoCases }
 {
+    let automaton = match Automaton::new(alloc, pair.lex.patterns()) {
+        Ok(automaton) => automaton,
+        Err(AutomatonError::Memory) => return Err(AllocError),
+        Err(AutomatonError::TooManyStates { .. }) => unreachable!(),
+    };
+    let scanner = scanner_of(&pair.lex, &automaton);
+    count_by(crew, alloc, &pair.yacc, &scanner)
+}
+
+// The same of a yacc file, with texts for this scanner. The lines of the manifest are kept nowhere.
+fn count_by<R: Threads + Sync, G: Gate + Sync>(
+    crew: &Crew<'_, R, G>,
+    alloc: Global,
+    yacc: &YaccFile,
+    scanner: &Scanner<'_>,
+) -> Result<Counts, AllocError>
+    ensures some { OnOk result (HasSuiteBy yacc.now (scanning scanner.now)) }
+    ensures counts { IfOk result
+        (CountsOfAll (IsSuiteBy yacc.now (scanning scanner.now) summary_options)) }
+    ensures first { IfOk result HasNoCases }
+{
     let mut sink = NullSink::new();
     let options = Options {
         format: Format::One,
         ..Options::defaults()
     };
-    match write_suite(crew, alloc, pair, options, &mut sink) {
+    match write_suite(crew, alloc, yacc, scanner, &options, &mut sink) {
         Ok(counts) => Ok(counts),
-        Err(SuiteHalt::Memory) => Err(AllocError),
-        Err(SuiteHalt::States) => unreachable!(),
-        Err(SuiteHalt::Failed) => unreachable!(),
+        Err(Halt::Memory) => Err(AllocError),
+        Err(Halt::Failed) => unreachable!(),
     }
 }
 

@@ -3,7 +3,7 @@
 ghost use Rattle.std.specs.Prelude.{IsTrue};
 ghost use Rattle.cs_run.specs.Ending.Ending.{HasLine};
 
-use cs_io::MemorySink;
+use cs_io::{Halt, MemorySink};
 use cs_lex::LexError;
 use cs_run::{Ending, Refusal, finish};
 use cs_words::Role;
@@ -118,10 +118,20 @@ const ENDINGS: &[(Ending, usize, u8, &[u8])] = &[
         3,
         b"conform: read fault: manifest\n",
     ),
-    (Ending::NotWritten, 99, 4, b"conform: write fault\n"),
-    (Ending::NoMemory, 99, 5, b"conform: out of memory\n"),
-    (Ending::NotWritten, 7, 4, b"conform"),
-    (Ending::NotWritten, 0, 4, b""),
+    (
+        Ending::Halted(Halt::Failed),
+        99,
+        4,
+        b"conform: write fault\n",
+    ),
+    (
+        Ending::Halted(Halt::Memory),
+        99,
+        5,
+        b"conform: out of memory\n",
+    ),
+    (Ending::Halted(Halt::Failed), 7, 4, b"conform"),
+    (Ending::Halted(Halt::Failed), 0, 4, b""),
     (Ending::Denied, 0, 6, b""),
 ];
 

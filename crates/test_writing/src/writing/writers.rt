@@ -3,9 +3,10 @@
 use cs_fan::{Crew, OpenGate};
 use cs_io::{Halt, MemorySink};
 use cs_manifest::Counts;
-use cs_run::{Pair, SuiteHalt, write_rules, write_suite, write_summary};
+use cs_run::{write_rules, write_suite, write_summary};
 use cs_sample_files::{Trouble, read_files, yacc_of};
-use cs_samples::{LETTER, LETTER_SCANNER, LETTER_SUITE_TWO, NUMBER};
+use cs_samples::{LETTER, LETTER_SCANNER, LETTER_SUITE_TWO};
+use cs_scanner::{Automaton, Scanner};
 use cs_words::Options;
 use std::alloc::{AllocError, Global};
 use std::test::Fail;
@@ -25,9 +26,6 @@ end goals 1 feasible 1 infeasible 0 large 0 negatives 0
 // The summary of 1 in `docs/FORMATS.md`; crates/test_command/src/command says where its numbers come from.
 const SUMMARY: &[u8] =
     b"gen 1 yacc 1240 lex 378 goals 968 feasible 862 infeasible 106 large 0 negatives 1442 bytes 315463\n";
-
-// The least automaton of this pattern has two to the 15th states, as textbooks have it.
-const MANY_STATES: &[u8] = b"%%\n(a|b)*a(a|b){14} return NUM;\n";
 
 // An empty output for so many bytes, which takes at most 7 in a call.
 fn output(alloc: Global, room: usize) -> Result<MemorySink, AllocError> {
@@ -54,15 +52,19 @@ fn rules<R: Threads + Sync>(
     Ok((answer, out))
 }
 
-// The same of the writer of `suite` by default options, for a yacc file and a lex file.
+// The same of the writer of `suite` by default options, for the letter and its scanner.
 fn suite<R: Threads + Sync>(
     rt: &R,
     alloc: Global,
-    files: (&[u8], &[u8]),
     room: usize,
-) -> Result<(Result<Counts, SuiteHalt>, MemorySink), Trouble> {
-    let (yacc, lex) = read_files(alloc, files.0, files.1)?;
-    let pair = Pair { yacc, lex };
+) -> Result<(Result<Counts, Halt>, MemorySink), Trouble> {
+    let (yacc, lex) = read_files(alloc, LETTER, LETTER_SCANNER)?;
+    let automaton = Automaton::new(alloc, lex.patterns())?;
+    let scanner = Scanner {
+        automaton: &automaton,
+        kinds: lex.kinds(),
+        literals: lex.literals(),
+    };
     let mut out = output(alloc, room)?;
     let answer = write_suite(
         &Crew {
@@ -70,8 +72,9 @@ fn suite<R: Threads + Sync>(
             gate: &OpenGate,
         },
         alloc,
-        pair,
-        Options::defaults(),
+        &yacc,
+        &scanner,
+        &Options::defaults(),
         &mut out,
     );
     Ok((answer, out))
@@ -135,7 +138,7 @@ pub(crate) fn letter_counts() -> Counts {
 
 #[test]
 fn the_suite_of_the_letter(rt: HostRuntime) -> Result<(), Fail> {
-    let (answer, out) = suite(&rt, rt.alloc(), (LETTER, LETTER_SCANNER), 999)?;
+    let (answer, out) = suite(&rt, rt.alloc(), 999)?;
     assert_eq!(rt; answer, Ok(letter_counts()));
     assert_eq!(rt; out.written(), LETTER_SUITE_TWO);
     Ok(())
@@ -145,18 +148,10 @@ fn the_suite_of_the_letter(rt: HostRuntime) -> Result<(), Fail> {
 #[test]
 fn no_room_for_a_suite(rt: HostRuntime) -> Result<(), Fail> {
     for room in [0, 20, 682] {
-        let (answer, out) = suite(&rt, rt.alloc(), (LETTER, LETTER_SCANNER), room)?;
-        assert_eq!(rt; answer, Err(SuiteHalt::Failed));
+        let (answer, out) = suite(&rt, rt.alloc(), room)?;
+        assert_eq!(rt; answer, Err(Halt::Failed));
         assert!(rt; is_full_of(&out, room, LETTER_SUITE_TWO), "{room}");
     }
-    Ok(())
-}
-
-#[test]
-fn too_many_states_for_a_suite(rt: HostRuntime) -> Result<(), Fail> {
-    let (answer, out) = suite(&rt, rt.alloc(), (NUMBER, MANY_STATES), 999)?;
-    assert_eq!(rt; answer, Err(SuiteHalt::States));
-    assert_eq!(rt; out.written(), b"".as_slice());
     Ok(())
 }
 

@@ -1,13 +1,37 @@
--- A writer that halted tells of too many states, of a write that failed or of want of memory.
-use Rattle.std.proofs.Common.{Err, ap}
+-- The automaton has few states, and what was written by its scanner was written by the pair.
+use Rattle.std.proofs.Common.{Err, ap, sym, subst, List, ℕ}
 use Rattle.cs_io.specs.Uses.{used}
-use Rattle.cs_run.specs.Writer.Suite.{IsSuite}
-use Rattle.cs_run.proofs.OnCommand.Performing.{unsuited_so, unused_or}
+use Rattle.cs_pattern_parts.specs.Tree.Pattern.{Regex}
+use Rattle.cs_scanner.specs.Automaton.Counted.{IsAbove}
+use Rattle.cs_scanner.specs.Automaton.Meaning.{res}
+use Rattle.cs_scanner.specs.Automaton.Places.{InSet}
+use Rattle.cs_scanner.specs.Scan.Compared.{scanning}
+use Rattle.cs_scanner.specs.Scan.Scan.{Scanning}
+use Rattle.cs_run.specs.declared.ending.ending.Ending.TheVariants.{Halted, Written}
+use Rattle.cs_run.specs.Command.Carrying.{GrewByEach, HasTooManyStates, WritesOfPair}
+use Rattle.cs_run.specs.Input.Refusal.{HasManyStates}
+use Rattle.cs_run.specs.Writer.Suite.{IsSuiteBy}
+use Rattle.cs_run.proofs.OnCommand.Scanned.{halted_so, written_so}
 use Rattle.cs_run.proofs.command.command.suite.Goals as goal
 
-pub returns-in-Err-clause-writes : goal.returns-in-Err-clause-writes
-returns-in-Err-clause-writes g c =
-    unsuited_so c.args.pair (IsSuite c.args.pair c.args.options) c.unsuited.result c.in-Err.halt (used g.O.Sink c.args.out.now c.write_suite.new.out) c.unsuited.ensures.ending c.in-Err.ensures.part
-    (λ why. (c.in-Err.ensures.states (ap Err why), (ap g.O.Sink.written (c.in-Err.ensures.unused (ap Err why)), ap g.O.Sink.faults (c.in-Err.ensures.unused (ap Err why)))))
-    (λ why. (c.in-Err.ensures.few_on_failed (ap Err why), c.in-Err.ensures.failed (ap Err why)))
-    (λ why. unused_or g.O.Sink.written g.O.Sink.faults _ _ (c.in-Err.ensures.few_on_memory (ap Err why))) c.write_suite.ensures.room
+pub returns-in-Ok-write_suite-clause-writes : goal.returns-in-Ok-write_suite-clause-writes
+returns-in-Ok-write_suite-clause-writes g c =
+    let pair = c.args.pair.now in
+    let options = c.args.options.now in
+    let out = used g.O.Sink c.args.out.now c.write_suite.new.out in
+    let few : ¬ HasManyStates pair.lex = λ many. c.in-Ok.ensures.few (subst (λ (p : List Regex). IsAbove (InSet (res p)) 16384) (sym c.patterns.ensures.patterns) many) in
+    let Is : List ℕ → Type 0 = IsSuiteBy pair.yacc (scanning c.scanner_of-scanner.result) options in
+    subst (λ (s : Scanning). WritesOfPair pair (IsSuiteBy pair.yacc s options) Written out) c.scanner_of-scanner.ensures.scanning
+    (written_so (¬ HasManyStates pair.lex) (HasTooManyStates pair) Is (GrewByEach Is) out few c.write_suite.ensures.room c.in-Ok-write_suite.ensures.ok c.in-Ok-write_suite.ensures.no_fault)
+
+pub returns-clause-writes : goal.returns-clause-writes
+returns-clause-writes g c =
+    let pair = c.args.pair.now in
+    let options = c.args.options.now in
+    let halt = c.in-Err-write_suite.halt in
+    let out = used g.O.Sink c.args.out.now c.write_suite.new.out in
+    let few : ¬ HasManyStates pair.lex = λ many. c.in-Ok.ensures.few (subst (λ (p : List Regex). IsAbove (InSet (res p)) 16384) (sym c.patterns.ensures.patterns) many) in
+    let Is : List ℕ → Type 0 = IsSuiteBy pair.yacc (scanning c.scanner_of-scanner.result) options in
+    subst (λ (s : Scanning). WritesOfPair pair (IsSuiteBy pair.yacc s options) (Halted halt) out) c.scanner_of-scanner.ensures.scanning
+    (halted_so (¬ HasManyStates pair.lex) (HasTooManyStates pair) Is (GrewByEach Is) out few c.write_suite.ensures.room halt c.in-Err-write_suite.ensures.part
+    (λ is. c.in-Err-write_suite.ensures.failed (ap Err is)))
