@@ -10,8 +10,8 @@ use Rattle.cs_mutate.specs.declared.negative.Negative.{Negative}
 use Rattle.cs_mutate.specs.Edit.{edited}
 use Rattle.cs_texts.specs.Rendering.Rendering.{Rendering, Text, NoLexeme, Differs}
 use Rattle.cs_verdicts.specs.Closed.Closed.{ClosedSets}
-use Rattle.cs_manifest.specs.declared.manifest.entry.SharedVerdict.{SharedVerdict}
-use Rattle.cs_manifest.specs.declared.manifest.entry.SharedVerdict.TheVariants as shared
+use Rattle.cs_manifest.specs.declared.manifest.verdict.SharedVerdict.{SharedVerdict}
+use Rattle.cs_manifest.specs.declared.manifest.verdict.SharedVerdict.TheVariants as shared
 use Rattle.cs_manifest.specs.Manifest.Lines as verdicts
 use Rattle.cs_manifest.specs.Manifest.Manifest.{BaseEntry, GoalEntry, LexemeList, NegativeEntry, SharedEntry, derivation_in}
 use Rattle.cs_scanner.specs.Lexeme.Lexeme.{lexeme_in}

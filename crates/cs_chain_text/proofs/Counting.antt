@@ -6,9 +6,9 @@ use Rattle.std.proofs.lemmas.List.Sums.{count_by-le-length, sum_by-append}
 use Rattle.cs_verdicts.specs.declared.positive.verdict.Verdict.{Verdict}
 use Rattle.cs_texts.specs.Rendering.Rendering.{Rendering}
 use Rattle.cs_yacc.specs.Reading.File.{File}
-use Rattle.cs_manifest.specs.Manifest.Lines.{is_feasible, is_infeasible, is_large, numbered_word}
+use Rattle.cs_manifest.specs.Manifest.Lines.{is_feasible, is_infeasible, is_large}
 use Rattle.cs_manifest.proofs.OnOutput.Numbered.{numbered_both}
-use Rattle.cs_manifest.specs.Output.Words.{line, numbered_from}
+use Rattle.cs_manifest.specs.Output.Words.{line, numbered_from, numbered_word}
 use Rattle.cs_chain.specs.declared.chains.chain.Chain.{Chain}
 use Rattle.cs_chain.specs.declared.judging.verdict.ChainVerdict.{ChainVerdict}
 use Rattle.cs_chain.specs.declared.judging.verdict.ChainVerdict.TheVariants.{Feasible, Infeasible, Large}

@@ -7,11 +7,11 @@ use Rattle.std.proofs.lemmas.List.{get_or-map, length-map, take_more}
 use Rattle.std.proofs.lemmas.List.Elements.{All-cons, All-head, All-nil, All-tail}
 use Rattle.cs_least.specs.declared.cost.cost.Cost.{Cost}
 use Rattle.cs_least.specs.declared.cost.cost.Cost.TheVariants.{Never, Large, Least}
-use Rattle.cs_manifest.specs.Manifest.Below.{derive_below, tokens_below}
-use Rattle.cs_manifest.specs.Manifest.Lines.{numbered_word, token_words, verdict_lines}
+use Rattle.cs_manifest.specs.Writer.Below.{derive_below}
+use Rattle.cs_manifest.specs.Manifest.Lines.{verdict_lines}
 use Rattle.cs_manifest.specs.Manifest.Manifest.{AreTokensOf, IsTextOf}
-use Rattle.cs_manifest.specs.Output.Names.{token_of}
-use Rattle.cs_manifest.specs.Output.Words.{line, spaced}
+use Rattle.cs_manifest.specs.Output.Names.{token_of, token_words, tokens_below}
+use Rattle.cs_manifest.specs.Output.Words.{line, numbered_word, spaced}
 use Rattle.cs_chain.specs.declared.chains.chain.Chain.{Chain}
 use Rattle.cs_chain.specs.Chains.Chain.{IsChain}
 use Rattle.cs_chain.specs.Judging.Frame.{verdict_by}

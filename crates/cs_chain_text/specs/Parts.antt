@@ -1,10 +1,9 @@
 -- Parts of the lines of chains. Working words of proofs.
 use Rattle.std.specs.Prelude.{ℕ, List, ◌++◌, codes, decimal}
 use Rattle.cs_yacc.specs.Reading.File.{File}
-use Rattle.cs_manifest.specs.Output.Names.{AreNamedTokens}
-use Rattle.cs_manifest.specs.Output.Words.{line, spaced}
-use Rattle.cs_manifest.specs.Manifest.Below.{derive_below, tokens_below}
-use Rattle.cs_manifest.specs.Manifest.Lines.{numbered_word, token_words}
+use Rattle.cs_manifest.specs.Output.Names.{AreNamedTokens, token_words, tokens_below}
+use Rattle.cs_manifest.specs.Output.Words.{line, numbered_word, spaced}
+use Rattle.cs_manifest.specs.Writer.Below.{derive_below}
 use Rattle.cs_chain.specs.declared.chains.chain.Chain.{Chain}
 use Rattle.cs_chain_text.specs.declared.parts.Part.{Part}
 use Rattle.cs_chain_text.specs.declared.parts.Part.TheVariants.{Head, Number, Before, Code, Middle, Names, End}

@@ -11,11 +11,11 @@ use Rattle.cs_texts.specs.Rendering.Rendering.{rendering}
 use Rattle.cs_texts.specs.declared.rendering.rendered.Rendered.{Rendered}
 use Rattle.cs_texts.specs.declared.rendering.render_work.RenderWork.{RenderWork}
 use Rattle.cs_choices.specs.declared.weigh.Weigh.{Weigh}
-use Rattle.cs_manifest.specs.Manifest.Below as below
+use Rattle.cs_manifest.specs.Writer.Below as below
 use Rattle.cs_yacc.specs.Reading.File.{File}
 use Rattle.cs_manifest.specs.Output.Names.{AreNamedTokens}
-use Rattle.cs_manifest.specs.Output.Words.{line, numbered_from}
-use Rattle.cs_manifest.specs.Manifest.Lines.{is_feasible, is_infeasible, is_large, numbered_word}
+use Rattle.cs_manifest.specs.Output.Words.{line, numbered_from, numbered_word}
+use Rattle.cs_manifest.specs.Manifest.Lines.{is_feasible, is_infeasible, is_large}
 use Rattle.cs_manifest.specs.Manifest.Manifest.{IsTextOf, Texts, measure_of}
 use Rattle.cs_manifest.specs.Manifest.Named.{AreNamedRenderings}
 use Rattle.cs_chain.specs.declared.chains.chain.Chain.{Chain}

@@ -7,9 +7,9 @@ use Rattle.cs_least.specs.declared.cost.cost.Cost.{Cost}
 use Rattle.cs_least.specs.declared.cost.cost.Cost.TheVariants as costs
 use Rattle.cs_least.specs.Cost.Rank.{IsCapped, plus}
 use Rattle.cs_yacc.specs.Reading.File.{File}
-use Rattle.cs_manifest.specs.Manifest.Below.{derive_below}
-use Rattle.cs_manifest.specs.Output.Words.{line, spaced}
-use Rattle.cs_manifest.specs.Manifest.Lines.{numbered_word, token_words}
+use Rattle.cs_manifest.specs.Writer.Below.{derive_below}
+use Rattle.cs_manifest.specs.Output.Words.{line, numbered_word, spaced}
+use Rattle.cs_manifest.specs.Output.Names.{token_words}
 use Rattle.cs_chain.specs.declared.chains.chain.Chain.{Chain}
 use Rattle.cs_chain.specs.declared.judging.frame.Core.{Core}
 use Rattle.cs_chain.specs.declared.judging.frame.Frame.{Frame}

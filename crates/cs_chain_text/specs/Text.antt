@@ -7,8 +7,8 @@ use Rattle.cs_verdicts.specs.declared.positive.verdict.Verdict.TheVariants as go
 use Rattle.cs_texts.specs.Rendering.Rendering.{Rendering}
 use Rattle.cs_yacc.specs.Reading.File.{File}
 use Rattle.cs_choices.specs.declared.weigh.Weigh.{Weigh}
-use Rattle.cs_manifest.specs.Output.Words.{line, with_numbers}
-use Rattle.cs_manifest.specs.Manifest.Lines.{is_feasible, is_infeasible, is_large, numbered_word, table_lines, text_lines, verdict_lines}
+use Rattle.cs_manifest.specs.Output.Words.{line, numbered_word, with_numbers}
+use Rattle.cs_manifest.specs.Manifest.Lines.{is_feasible, is_infeasible, is_large, table_lines, text_lines, verdict_lines}
 use Rattle.cs_manifest.specs.Manifest.Manifest.{AreLexemesBy, AreTokensOf, IsTextOf, Texts, measure_of}
 use Rattle.cs_chain.specs.declared.chains.chain.Chain.{Chain}
 use Rattle.cs_chain.specs.declared.judging.verdict.ChainVerdict.{ChainVerdict}

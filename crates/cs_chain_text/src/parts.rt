@@ -3,11 +3,10 @@
 ghost use Rattle.std.specs.Prelude.{◌≡◌, ◌↔◌, IsTrue, codes, decimal};
 ghost use Rattle.cs_grammar.specs.Grammar.{IsNumberOf};
 ghost use Rattle.cs_io.specs.Lines.{Writes};
-ghost use Rattle.cs_manifest.specs.Output.Names.{AreNamedTokens};
+ghost use Rattle.cs_manifest.specs.Output.Names.{AreNamedTokens, token_words};
 ghost use Rattle.cs_manifest.specs.Output.Putting.{Puts};
-ghost use Rattle.cs_manifest.specs.Output.Words.{line, spaced};
-ghost use Rattle.cs_manifest.specs.Manifest.Below.{derive_below};
-ghost use Rattle.cs_manifest.specs.Manifest.Lines.{numbered_word, token_words};
+ghost use Rattle.cs_manifest.specs.Output.Words.{line, numbered_word, spaced};
+ghost use Rattle.cs_manifest.specs.Writer.Below.{derive_below};
 ghost use Rattle.cs_chain_text.specs.Around.{Finds};
 ghost use Rattle.cs_chain_text.specs.Parts.{IsNamedPart, head_words, middle_words, part_words};
 

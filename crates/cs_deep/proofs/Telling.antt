@@ -24,9 +24,8 @@ use Rattle.cs_io.specs.declared.halt.Halt.TheVariants.{Failed, Memory}
 use Rattle.cs_io.specs.declared.sink.Sink as Sink
 use Rattle.cs_manifest.proofs.OnManifest.OneManifest.{one_entry, one_zip}
 use Rattle.cs_manifest.proofs.OnOutput.Written.{written_none, written_then}
-use Rattle.cs_manifest.specs.Manifest.Lines.{numbered_word}
 use Rattle.cs_manifest.specs.Manifest.Manifest.{EntriesOf, GoalEntry, HasOneText, IsEntryOf, Texts, weighed_by}
-use Rattle.cs_manifest.specs.Output.Words.{line}
+use Rattle.cs_manifest.specs.Output.Words.{line, numbered_word}
 use Rattle.cs_verdicts.specs.Positive.Positives.{positives_of}
 use Rattle.cs_writing.proofs.OnWriting.Few.{few_goals}
 use Rattle.cs_writing.proofs.OnWriting.Kept.{editable_bases}

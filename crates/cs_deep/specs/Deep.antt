@@ -6,9 +6,9 @@ use Rattle.cs_deep.specs.Classes.{IsClass, is_long, is_negative, is_outside, is_
 use Rattle.cs_deep.specs.declared.class.EditClass.{EditClass}
 use Rattle.cs_goals.specs.Goals.{goals}
 use Rattle.cs_grammar.specs.Grammar.{PlainGrammar}
-use Rattle.cs_manifest.specs.Manifest.Lines.{base_line, edit_text, numbered_word, text_lines, tokens_line}
+use Rattle.cs_manifest.specs.Manifest.Lines.{base_line, edit_text, text_lines, tokens_line}
 use Rattle.cs_manifest.specs.Manifest.Manifest.{AreLexemesBy, Choice, EntriesOf, GoalEntry, IsRenderedIf, Texts, bases, most_bases, weighed_by}
-use Rattle.cs_manifest.specs.Output.Words.{line, numbered_from}
+use Rattle.cs_manifest.specs.Output.Words.{line, numbered_from, numbered_word}
 use Rattle.cs_mutate.specs.Edit.{edited}
 use Rattle.cs_mutate.specs.Edits.{edits}
 use Rattle.cs_mutate.specs.declared.edit.Edit.{Edit}

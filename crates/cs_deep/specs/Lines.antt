@@ -7,11 +7,10 @@ use Rattle.cs_io.specs.Faults.{greatest}
 use Rattle.cs_io.specs.Lines.{Writes}
 use Rattle.cs_io.specs.declared.sink.Sink as Sink
 use Rattle.cs_io.specs.declared.sink.SinkError.{SinkError}
-use Rattle.cs_manifest.specs.Manifest.Lines.{numbered_word}
 use Rattle.cs_manifest.specs.Manifest.Named.{AreNamedRenderings, IsNamedEdit}
 use Rattle.cs_manifest.specs.Output.Names.{AreNamedTokens}
 use Rattle.cs_manifest.specs.Output.Putting.{Puts}
-use Rattle.cs_manifest.specs.Output.Words.{line}
+use Rattle.cs_manifest.specs.Output.Words.{line, numbered_word}
 use Rattle.cs_manifest.specs.declared.output.output.Output.{Output}
 use Rattle.cs_yacc.specs.Reading.File.{File}
 

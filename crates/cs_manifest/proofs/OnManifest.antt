@@ -1,4 +1,3 @@
-pub mod Ends
 pub mod Texts
 pub mod Zips
 pub mod Naming
@@ -7,6 +6,4 @@ pub mod SomeShared
 pub mod OneManifest
 pub mod Bases
 pub mod SomeManifest
-pub mod Holes
 pub mod Rendered
-pub mod Lent

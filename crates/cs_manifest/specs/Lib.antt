@@ -1,2 +1,4 @@
 pub mod Output
 pub mod Manifest
+pub mod Filling
+pub mod Writer

@@ -2,11 +2,5 @@ pub mod Named
 pub mod Lines
 pub mod SharedLines
 pub mod Head
-pub mod Open
-pub mod Entry
 pub mod Counts
-pub mod Progress
 pub mod Manifest
-pub mod Below
-pub mod Holes
-pub mod ByToken

@@ -3,7 +3,9 @@
 //! The parts, from the bottom up; none stands on one behind it:
 //!
 //! - `output`: what lines are put with: an output in front of a sink, the names of symbols, and escaped texts.
-//! - `manifest`: what stands in a manifest, in both formats, and how its lines are put.
+//! - `manifest`: what a manifest is, in both formats.
+//! - `filling`: the lines of negatives but for what each has alone, and tokens as these lines have them.
+//! - `writer`: the lines of a manifest, written to a sink as they are made.
 //!
 //! # What it is for
 //!
@@ -25,16 +27,21 @@
 //! That the calls answer where memory is ample, and the lines of worked rows: by `test_manifest`.
 #![tactic(auto)]
 
+mod filling;
 mod manifest;
 mod output;
+mod writer;
 
+pub use filling::{OpenEdit, OpenLines, OpenNegative, OpenPair, TokenPieces};
 pub use manifest::{
-    Counts, Entry, FilledNegative, Form, Head, Manifest, NumberedNegative, OpenEdit, OpenLines,
-    OpenNegative, OpenPair, SharedVerdict, TokenPieces, few_negatives, one_manifest, one_text,
-    put_count, put_derivation, put_edit, put_file, put_lexemes, put_names, put_rendered,
-    put_text_lines, put_yield, some_manifest,
+    Counts, Form, Head, SharedVerdict, few_negatives, one_manifest, one_text, some_manifest,
 };
 pub use output::{
-    LINE_LENGTH, Numeral, Output, Piece, put_quoted, put_spaced_mark, put_spaced_token, put_symbol,
-    put_text_bytes, put_token_name, spelled_piece, write_line,
+    LINE_LENGTH, Numeral, Output, Piece, put_count, put_names, put_quoted, put_spaced_mark,
+    put_spaced_token, put_symbol, put_text_bytes, put_token_name, put_yield, spelled_piece,
+    write_line,
+};
+pub use writer::{
+    Entry, FilledNegative, Manifest, NumberedNegative, put_derivation, put_edit, put_file,
+    put_lexemes, put_rendered, put_text_lines,
 };

@@ -9,8 +9,8 @@
 //! sink is memory, so that what is put there can be kept as a piece. A line that stands alone is written by [`write_line`].
 //!
 //! All files of `specs/Output/` are meaning: `Putting` (what a text that was put did to an output and its sink), `Words` (words, lines
-//! and escapes), `Names` (the names of symbols and marks, and which numbers have one), `Spelled` (pieces that are spelled in
-//! memory).
+//! and escapes), `Names` (the names of symbols and marks, which numbers have one, and the names of tokens, one behind another),
+//! `Spelled` (pieces that are spelled in memory).
 
 mod line;
 mod names;
@@ -18,6 +18,7 @@ mod numeral;
 mod output;
 mod piece;
 mod speller;
+mod words;
 
 pub use line::write_line;
 pub use names::{
@@ -28,3 +29,4 @@ pub use numeral::Numeral;
 pub use output::{LINE_LENGTH, Output};
 pub use piece::Piece;
 pub use speller::{SpelledBytes, Speller, spelled_piece};
+pub use words::{put_count, put_names, put_yield};

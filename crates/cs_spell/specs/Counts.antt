@@ -1,7 +1,6 @@
 -- The end line by its counts.
 use Rattle.std.specs.Prelude.{◌≡◌, ℕ, List, ◌++◌, codes, count_by, length}
-use Rattle.cs_manifest.specs.Manifest.Lines.{numbered_word}
-use Rattle.cs_manifest.specs.Output.Words.{line}
+use Rattle.cs_manifest.specs.Output.Words.{line, numbered_word}
 use Rattle.cs_spell.specs.Told.{Told, is_foreign, is_infeasible, is_large, is_literal, is_shadowed, is_shown}
 use Rattle.cs_spell.specs.declared.counting.Counts.{Counts}
 

@@ -1,10 +1,9 @@
 -- The lines of spellings.
 use Rattle.std.specs.Prelude.{ℕ, List, ◌∷◌, ◌++◌, codes, count_by, length}
 use Rattle.cs_bytes.specs.Names.{space}
-use Rattle.cs_manifest.specs.Manifest.Below.{derive_below, text_below, tokens_below}
-use Rattle.cs_manifest.specs.Manifest.Lines.{numbered_word}
-use Rattle.cs_manifest.specs.Output.Names.{token_of}
-use Rattle.cs_manifest.specs.Output.Words.{line, with_numbers}
+use Rattle.cs_manifest.specs.Writer.Below.{derive_below, text_below}
+use Rattle.cs_manifest.specs.Output.Names.{token_of, tokens_below}
+use Rattle.cs_manifest.specs.Output.Words.{line, numbered_word, with_numbers}
 use Rattle.cs_spell.specs.Told.{Showing, Told, Shadowed, Foreign, Literal, Infeasible, Large, Shown, is_foreign, is_infeasible, is_large, is_literal, is_shadowed, is_shown}
 use Rattle.cs_spell.specs.declared.way.Way.{Way}
 use Rattle.cs_spell.specs.declared.way.Way.TheVariants.{Gives, Skips}

@@ -4,9 +4,8 @@ use Rattle.std.specs.Prelude.{codes}
 use Rattle.std.proofs.lemmas.List.{append-nil, take_more, length-take-le}
 use Rattle.std.proofs.lemmas.List.Elements.{filter-append}
 use Rattle.std.proofs.lemmas.List.Sums.{count_by-le-length, length-filter, sum_by-append}
-use Rattle.cs_manifest.specs.Manifest.Lines.{numbered_word}
 use Rattle.cs_manifest.proofs.OnOutput.Numbered.{numbered_both}
-use Rattle.cs_manifest.specs.Output.Words.{line, numbered_from}
+use Rattle.cs_manifest.specs.Output.Words.{line, numbered_from, numbered_word}
 use Rattle.cs_texts.specs.Rendering.Rendering.{Rendering}
 use Rattle.cs_wrong.specs.Classes.{is_again, is_large, is_long, is_nothing, is_sentence, is_wrong}
 use Rattle.cs_wrong.specs.Entries.{lines_from, lines_if_wrong}

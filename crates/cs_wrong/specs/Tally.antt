@@ -1,8 +1,7 @@
 -- How many slips there are of each class. Working words of proofs.
 use Rattle.std.specs.Prelude.{◌≡◌, ◌+◌, ◌<◌, ◌≤◌, ℕ, List, ◌++◌, codes, length}
 use Rattle.cs_io.specs.Faults.{greatest}
-use Rattle.cs_manifest.specs.Manifest.Lines.{numbered_word}
-use Rattle.cs_manifest.specs.Output.Words.{line}
+use Rattle.cs_manifest.specs.Output.Words.{line, numbered_word}
 use Rattle.cs_wrong.specs.Classes.{is_again, is_large, is_long, is_nothing, is_sentence, is_wrong}
 use Rattle.cs_wrong.specs.Text.{SlipEntry, many_with}
 use Rattle.cs_wrong.specs.declared.class.SlipClass.{SlipClass}

@@ -7,9 +7,9 @@ use Rattle.cs_choices.specs.declared.weigh.Weigh.{Weigh}
 use Rattle.cs_grammar.specs.Sentence.{IsSentence}
 use Rattle.cs_grammar.specs.Weights.{Measure, Weighed, weighed}
 use Rattle.cs_io.specs.Asked.{IsNotWithout, IsOne}
-use Rattle.cs_manifest.specs.Manifest.Lines.{numbered_word, pair_words, text_lines, tokens_line}
+use Rattle.cs_manifest.specs.Manifest.Lines.{pair_words, text_lines, tokens_line}
 use Rattle.cs_manifest.specs.Manifest.Manifest.{AreLexemesBy, IsRenderedIf, Texts, measure_of}
-use Rattle.cs_manifest.specs.Output.Words.{line, with_numbers}
+use Rattle.cs_manifest.specs.Output.Words.{line, numbered_word, with_numbers}
 use Rattle.cs_scanner.specs.Lexeme.Lexeme.{AreLexemes}
 use Rattle.cs_scanner.specs.Scan.Compared.{scanning}
 use Rattle.cs_texts.specs.Rendering.Rendering.{Rendering}

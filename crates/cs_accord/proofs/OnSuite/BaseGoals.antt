@@ -11,8 +11,8 @@ use Rattle.cs_verdicts.specs.declared.positive.verdict.Verdict.TheVariants as ve
 use Rattle.cs_verdicts.specs.declared.cases.cases.Named.{Named}
 use Rattle.cs_verdicts.specs.Positive.Verdict.{IsVerdict}
 use Rattle.cs_verdicts.specs.Cases.Cases.{PlainCases}
-use Rattle.cs_manifest.specs.declared.manifest.entry.SharedVerdict.{SharedVerdict}
-use Rattle.cs_manifest.specs.declared.manifest.entry.SharedVerdict.TheVariants as shared
+use Rattle.cs_manifest.specs.declared.manifest.verdict.SharedVerdict.{SharedVerdict}
+use Rattle.cs_manifest.specs.declared.manifest.verdict.SharedVerdict.TheVariants as shared
 use Rattle.cs_manifest.specs.Manifest.Lines as put
 use Rattle.cs_manifest.specs.Manifest.Manifest.{AreShared, AreTokensOf, GoalEntry, IsEntryOf, IsSharedVerdict, LexemeList, SharedEntry, Texts, bases, distinct, yields}
 use Rattle.cs_manifest.proofs.OnManifest.Rendered.{few_tokens}

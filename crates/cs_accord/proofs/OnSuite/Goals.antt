@@ -15,8 +15,8 @@ use Rattle.cs_verdicts.specs.Positive.Verdict.{IsVerdict}
 use Rattle.cs_verdicts.specs.Cases.Cases.{PlainCases, IsPlaced}
 use Rattle.cs_verdicts.specs.Closed.Closed.{AreClosedSets, ClosedSets}
 use Rattle.cs_yacc.specs.Reading.File.{File}
-use Rattle.cs_manifest.specs.declared.manifest.entry.SharedVerdict.{SharedVerdict}
-use Rattle.cs_manifest.specs.declared.manifest.entry.SharedVerdict.TheVariants as shared
+use Rattle.cs_manifest.specs.declared.manifest.verdict.SharedVerdict.{SharedVerdict}
+use Rattle.cs_manifest.specs.declared.manifest.verdict.SharedVerdict.TheVariants as shared
 use Rattle.cs_manifest.specs.Manifest.Manifest.{AreShared, AreTokensOf, GoalEntry, IsEntryOf, IsRenderedIf, IsShared, IsSharedVerdict, LexemeList, SharedEntry, Texts, is_new, measure_of}
 use Rattle.cs_lines.specs.Lines.Line.{GoalWords, VerdictWords, Feasible, Line, GoalLine}
 use Rattle.cs_check.specs.Passing.Entries.{HasSize, measured}

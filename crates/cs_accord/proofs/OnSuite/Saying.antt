@@ -14,9 +14,9 @@ use Rattle.cs_mutate.specs.declared.negative.Negative.{Negative}
 use Rattle.cs_texts.specs.Rendering.Rendering.{Rendering, Text, NoLexeme, Differs}
 use Rattle.cs_yacc.specs.declared.reading.name.TokenName.{TokenName}
 use Rattle.cs_yacc.specs.Reading.File.{File}
-use Rattle.cs_manifest.specs.Output.Words.{spaced, numbered_from}
-use Rattle.cs_manifest.specs.declared.manifest.entry.SharedVerdict.{SharedVerdict}
-use Rattle.cs_manifest.specs.declared.manifest.entry.SharedVerdict.TheVariants as shared
+use Rattle.cs_manifest.specs.Output.Words.{spaced, numbered_from, numbered_word}
+use Rattle.cs_manifest.specs.declared.manifest.verdict.SharedVerdict.{SharedVerdict}
+use Rattle.cs_manifest.specs.declared.manifest.verdict.SharedVerdict.TheVariants as shared
 use Rattle.cs_manifest.specs.Manifest.Lines as put
 use Rattle.cs_manifest.specs.Manifest.SharedLines as put_shared
 use Rattle.cs_lines.specs.Words.Names.{token_text, token_of, nonterminal_of, symbol_text, mark_text}
@@ -156,7 +156,7 @@ says_derivation rules small =
 pub says_tokens : (file : File) (tokens : List ℕ) → put.tokens_line file tokens ≡ text_of (tokens_line file tokens)
 says_tokens file tokens = ap (λ (l : List ℕ). line (32 ∷ 32 ∷ l)) (sym (joined_spaced (codes "tokens") (token_of file) tokens))
 
-says_case : (n size : ℕ) → IsSmall n → IsSmall size → put.numbered_word (codes "case ") n ++ put.size_words size ≡ text_of (CaseLine n size)
+says_case : (n size : ℕ) → IsSmall n → IsSmall size → numbered_word (codes "case ") n ++ put.size_words size ≡ text_of (CaseLine n size)
 says_case n size small fits =
     ap (λ (d : List ℕ). (codes "case " ++ d) ++ put.size_words size) (digits_are n small)
     ∙ ap (λ (d : List ℕ). codes "case " ++ (numeral n ++ line (codes " size " ++ d))) (digits_are size fits)
@@ -174,8 +174,8 @@ module _ (file : File) where
       → AreSayable (case_lines file n size rules tokens rendered) → Writes (put_shared.case_lines file n size rules tokens rendered) (case_lines file n size rules tokens rendered)
   writes_case n size rules tokens rendered small fits few fine sayable =
       writes_as (put_shared.case_lines file n size rules tokens rendered) _ (case_lines file n size rules tokens rendered)
-      (rearranged (put.numbered_word (codes "case ") n) (put.size_words size) (put.derive_line rules) (put.tokens_line file tokens) (put.text_lines file rendered))
-      (writes_more (put.numbered_word (codes "case ") n ++ put.size_words size) _ (CaseLine n size) _ (says_case n size small fits) sayable.0
+      (rearranged (numbered_word (codes "case ") n) (put.size_words size) (put.derive_line rules) (put.tokens_line file tokens) (put.text_lines file rendered))
+      (writes_more (numbered_word (codes "case ") n ++ put.size_words size) _ (CaseLine n size) _ (says_case n size small fits) sayable.0
       (writes_more (put.derive_line rules) _ (DeriveLine rules) _ (says_derivation rules few) sayable.1.0
       (writes_more (put.tokens_line file tokens) _ (tokens_line file tokens) _ (says_tokens file tokens) sayable.1.1.0
       (writes_texts rendered fine sayable.1.1.1))))
@@ -261,7 +261,7 @@ module _ (file : File) where
   abbrev pair_words : Negative → List (List ℕ)
   pair_words n = codes "pair" ∷ mark_text file n.left ∷ mark_text file n.right ∷ codes "at" ∷ numeral n.at ∷ []
 
-  at_words : (n : Negative) → IsSmall n.at → put.pair_words file n.left n.right ++ put.numbered_word (codes " at ") n.at ≡ joined (pair_words n)
+  at_words : (n : Negative) → IsSmall n.at → put.pair_words file n.left n.right ++ numbered_word (codes " at ") n.at ≡ joined (pair_words n)
   at_words n small =
       ap (λ (d : List ℕ). put.pair_words file n.left n.right ++ (codes " at " ++ d)) (digits_are n.at small)
       ∙ ap (λ (l : List ℕ). codes "pair " ++ l) (flat3 (mark_text file n.left) (32 ∷ mark_text file n.right) (codes " at " ++ numeral n.at))
@@ -277,7 +277,7 @@ module _ (file : File) where
       ap (λ (d : List ℕ). ((codes "negative " ++ d) ++ (codes " base " ++ decimal base)) ++ put.fault_line file n) (digits_are number small)
       ∙ ap (λ (d : List ℕ). ((codes "negative " ++ numeral number) ++ (codes " base " ++ d)) ++ put.fault_line file n) (digits_are base fits)
       ∙ ap (λ (l : List ℕ). ((codes "negative " ++ numeral number) ++ (codes " base " ++ numeral base)) ++ line l)
-      (fault_is edit (put.pair_words file n.left n.right) (put.numbered_word (codes " at ") n.at) ∙ ap (λ (l : List ℕ). 32 ∷ (edit ++ 32 ∷ l)) (at_words n low))
+      (fault_is edit (put.pair_words file n.left n.right) (numbered_word (codes " at ") n.at) ∙ ap (λ (l : List ℕ). 32 ∷ (edit ++ 32 ∷ l)) (at_words n low))
       ∙ ap (λ (l : List ℕ). codes "negative " ++ l) (flat3 (numeral number) (codes " base " ++ numeral base) (line (32 ∷ (edit ++ 32 ∷ pair))))
       ∙ ap (λ (l : List ℕ). codes "negative " ++ (numeral number ++ (codes " base " ++ l))) (sym (flat3 (numeral base) (32 ∷ (edit ++ 32 ∷ pair)) (10 ∷ [])))
       ∙ ap (λ (l : List ℕ). codes "negative " ++ l) (sym (flat3 (numeral number) (codes " base " ++ (numeral base ++ 32 ∷ (edit ++ 32 ∷ pair))) (10 ∷ [])))

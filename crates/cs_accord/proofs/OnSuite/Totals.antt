@@ -8,7 +8,7 @@ use Rattle.cs_goals.specs.declared.goal.Goal.{Goal}
 use Rattle.cs_verdicts.specs.declared.positive.verdict.Verdict.{Verdict}
 use Rattle.cs_verdicts.specs.declared.positive.verdict.Verdict.TheVariants as verdict
 use Rattle.cs_verdicts.specs.Cases.Cases.{PlainCases}
-use Rattle.cs_manifest.specs.declared.manifest.entry.SharedVerdict.{SharedVerdict}
+use Rattle.cs_manifest.specs.declared.manifest.verdict.SharedVerdict.{SharedVerdict}
 use Rattle.cs_manifest.specs.Manifest.Lines as put
 use Rattle.cs_manifest.specs.Manifest.Manifest.{AreShared, BaseEntry, GoalEntry, IsSharedVerdict, LexemeList, SharedEntry, Texts}
 use Rattle.cs_lines.specs.Lines.Line.{VerdictWords, Counts, Line}

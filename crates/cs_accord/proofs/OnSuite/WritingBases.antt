@@ -30,7 +30,7 @@ use Rattle.cs_verdicts.specs.Cases.Cases.{PlainCases, no_cases}
 use Rattle.cs_verdicts.specs.Closed.Closed.{AreClosedSets, ClosedSets}
 use Rattle.cs_yacc.specs.Reading.File.{File}
 use Rattle.cs_manifest.specs.Output.Words.{numbered_from}
-use Rattle.cs_manifest.specs.declared.manifest.entry.SharedVerdict.{SharedVerdict}
+use Rattle.cs_manifest.specs.declared.manifest.verdict.SharedVerdict.{SharedVerdict}
 use Rattle.cs_manifest.specs.Manifest.Manifest.{AreNegativesOf, AreShared, BaseEntry, BasesOf, Choice, GoalEntry, IsEntryOf, IsNegativeOf, IsRenderedBy, IsSharedVerdict, LexemeList, NegativeEntry, SharedEntry, Texts, base_entry_lines, bases, distinct, end_line_with, measure_of, most_bases, negative_entry_lines, negatives_of, shared_text, yields}
 use Rattle.cs_manifest.specs.Manifest.Lines as put
 use Rattle.cs_manifest.proofs.OnManifest.Zips.{length_zip}

@@ -28,8 +28,8 @@ use Rattle.cs_verdicts.specs.Positive.Verdict.{IsVerdict}
 use Rattle.cs_verdicts.specs.Cases.Cases.{PlainCases, IsPlaced}
 use Rattle.cs_yacc.specs.Reading.File.{File}
 use Rattle.cs_manifest.specs.Output.Words.{numbered_from}
-use Rattle.cs_manifest.specs.declared.manifest.entry.SharedVerdict.{SharedVerdict}
-use Rattle.cs_manifest.specs.declared.manifest.entry.SharedVerdict.TheVariants as shared
+use Rattle.cs_manifest.specs.declared.manifest.verdict.SharedVerdict.{SharedVerdict}
+use Rattle.cs_manifest.specs.declared.manifest.verdict.SharedVerdict.TheVariants as shared
 use Rattle.cs_manifest.specs.Manifest.Manifest.{AreShared, AreTokensOf, GoalEntry, IsEntryOf, IsRenderedBy, IsRenderedIf, IsSharedVerdict, LexemeList, SharedEntry, Texts, case_lines_by, is_new, measure_of, shared_entry_lines}
 use Rattle.cs_manifest.specs.Manifest.SharedLines as put_shared
 use Rattle.cs_manifest.proofs.OnManifest.Rendered.{few_tokens}

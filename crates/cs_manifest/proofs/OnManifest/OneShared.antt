@@ -7,8 +7,8 @@ use Rattle.cs_verdicts.proofs.OnCases.Lowest.{one_placing}
 use Rattle.cs_verdicts.specs.declared.positive.verdict.Verdict.{Verdict}
 use Rattle.cs_verdicts.specs.declared.positive.verdict.Verdict.TheVariants.{Feasible, Infeasible, Large}
 use Rattle.cs_texts.specs.Rendering.Rendering.{Rendering}
-use Rattle.cs_manifest.specs.declared.manifest.entry.SharedVerdict.{SharedVerdict}
-use Rattle.cs_manifest.specs.declared.manifest.entry.SharedVerdict.TheVariants as shared
+use Rattle.cs_manifest.specs.declared.manifest.verdict.SharedVerdict.{SharedVerdict}
+use Rattle.cs_manifest.specs.declared.manifest.verdict.SharedVerdict.TheVariants as shared
 use Rattle.cs_manifest.specs.Manifest.Manifest.{AreShared, GoalEntry, IsRenderedIf, IsShared, IsSharedVerdict, SharedEntry, Texts, is_new}
 
 one_verdict : (old new other : PlainCases) (goal : Goal) (verdict : Verdict) (a b : SharedVerdict) → IsSharedVerdict old goal verdict new a → IsSharedVerdict old goal verdict other b → (new ≡ other) × (a ≡ b)

@@ -17,8 +17,8 @@ use Rattle.cs_verdicts.specs.declared.positive.verdict.Verdict.{Verdict}
 use Rattle.cs_verdicts.specs.declared.positive.verdict.Verdict.TheVariants.{Feasible, Infeasible, Large}
 use Rattle.cs_verdicts.specs.Positive.Verdict.{IsVerdict}
 use Rattle.cs_verdicts.proofs.OnPositive.Verdicts.{chosen_met}
-use Rattle.cs_manifest.specs.declared.manifest.entry.SharedVerdict.{SharedVerdict}
-use Rattle.cs_manifest.specs.declared.manifest.entry.SharedVerdict.TheVariants as shared
+use Rattle.cs_manifest.specs.declared.manifest.verdict.SharedVerdict.{SharedVerdict}
+use Rattle.cs_manifest.specs.declared.manifest.verdict.SharedVerdict.TheVariants as shared
 use Rattle.cs_verdicts.specs.Closed.Closed.{AreClosedSets, AreEdges, AreNext, AreThose, HasContext, HasTree, IsAdjacent, IsFirstOf, IsLastOf, YieldsNothing, numbers}
 use Rattle.cs_manifest.specs.Manifest.Manifest.{AreShared, GoalEntry, IsEntryOf, IsRenderedBy, IsRenderedIf, IsShared, IsSharedVerdict, SharedEntry, Texts, is_new}
 use Rattle.cs_io.specs.Asked.{IsNotWithout}

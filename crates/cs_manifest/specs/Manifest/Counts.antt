@@ -2,14 +2,10 @@
 use Rattle.std.specs.Prelude.{ℕ, ◌+◌, List, length, Bool, if◌then◌else◌, true, false, None, option_map}
 use Rattle.cs_io.specs.Faults.{next_count}
 use Rattle.cs_verdicts.specs.declared.positive.verdict.Verdict.{Verdict}
-use Rattle.cs_yacc.specs.Reading.File.{File}
 use Rattle.cs_manifest.specs.Output.Putting.{shown}
 use Rattle.cs_manifest.specs.declared.manifest.counts.Counts.{Counts}
-use Rattle.cs_manifest.specs.declared.manifest.entry.Entry.{Entry}
-use Rattle.cs_manifest.specs.declared.manifest.entry.Entry.TheVariants.{Goal, Case, Shared, Base, Negative, Filled}
-use Rattle.cs_manifest.specs.declared.manifest.entry.SharedVerdict.{SharedVerdict}
-use Rattle.cs_manifest.specs.declared.manifest.entry.SharedVerdict.TheVariants.{Feasible, Infeasible, Large}
-use Rattle.cs_manifest.specs.Manifest.Entry.{lines_of}
+use Rattle.cs_manifest.specs.declared.manifest.verdict.SharedVerdict.{SharedVerdict}
+use Rattle.cs_manifest.specs.declared.manifest.verdict.SharedVerdict.TheVariants.{Feasible, Infeasible, Large}
 use Rattle.cs_manifest.specs.Manifest.Lines.{end_words, is_feasible, is_infeasible, is_large}
 
 -- no entries, and so many bytes; in the first format, which has no cases
@@ -53,19 +49,6 @@ with_shared_verdict counts Large = with_goal counts false false true
 -- with one more case, where there are some
 abbrev pub with_case : Counts → Counts
 with_case counts = record counts { cases = option_map next_count counts.cases }
-
--- with one more entry, its lines not yet
-abbrev pub with_entry : Counts → Entry → Counts
-with_entry counts (Goal number goal verdict tokens rendered) = with_verdict counts verdict.now
-with_entry counts (Case number size derivation tokens rendered) = with_case counts
-with_entry counts (Shared number goal verdict) = with_shared_verdict counts verdict
-with_entry counts (Base number goal) = counts
-with_entry counts (Negative numbered) = record counts { negatives = next_count counts.negatives }
-with_entry counts (Filled negative) = record counts { negatives = next_count counts.negatives }
-
--- behind one more entry
-abbrev pub behind_entry : File → Counts → Entry → Counts
-behind_entry file counts entry = with_lines (with_entry counts entry) (lines_of file entry)
 
 -- behind the end
 abbrev pub behind_end : Counts → Counts

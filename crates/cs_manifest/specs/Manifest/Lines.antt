@@ -15,12 +15,8 @@ use Rattle.cs_mutate.specs.declared.edit.Edit.TheVariants.{Delete, Insert, Repla
 use Rattle.cs_mutate.specs.declared.negative.Negative.{Negative}
 use Rattle.cs_scanner.specs.Lexeme.Lexeme.{lexeme_in}
 use Rattle.cs_texts.specs.Rendering.Rendering.{Rendering, Text, NoLexeme, Differs}
-use Rattle.cs_manifest.specs.Output.Words.{line, spaced, with_numbers, quoted}
-use Rattle.cs_manifest.specs.Output.Names.{token_text, token_of, nonterminal_of, symbol_text, mark_text}
-
--- a number behind its word
-abbrev pub numbered_word : List ℕ → ℕ → List ℕ
-numbered_word word number = word ++ decimal number
+use Rattle.cs_manifest.specs.Output.Words.{line, numbered_word, spaced, with_numbers, quoted}
+use Rattle.cs_manifest.specs.Output.Names.{token_text, token_of, token_words, nonterminal_of, symbol_text, mark_text}
 
 -- ---- the head
 
@@ -31,10 +27,6 @@ token_line number name = line (codes "token " ++ decimal number ++ space ∷ tok
 -- the names of symbols, each behind a space
 abbrev pub symbol_words : File → List Symbol → List ℕ
 symbol_words file symbols = spaced (symbol_text file) symbols
-
--- the names of tokens, each behind a space
-abbrev pub token_words : File → List ℕ → List ℕ
-token_words file tokens = spaced (token_of file) tokens
 
 -- `rule N LEFT :` and the names of the right side
 abbrev pub rule_line : File → ℕ → Production → List ℕ

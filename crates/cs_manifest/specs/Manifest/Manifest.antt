@@ -25,8 +25,8 @@ use Rattle.cs_mutate.specs.Edit.{edited}
 use Rattle.cs_mutate.specs.Edits.{edits}
 use Rattle.cs_mutate.specs.Negatives.{AreNegatives}
 use Rattle.cs_mutate.specs.Kept.{AreKept}
-use Rattle.cs_manifest.specs.declared.manifest.entry.SharedVerdict.{SharedVerdict}
-use Rattle.cs_manifest.specs.declared.manifest.entry.SharedVerdict.TheVariants as shared
+use Rattle.cs_manifest.specs.declared.manifest.verdict.SharedVerdict.{SharedVerdict}
+use Rattle.cs_manifest.specs.declared.manifest.verdict.SharedVerdict.TheVariants as shared
 use Rattle.cs_choices.specs.declared.format.Format.{Format}
 use Rattle.cs_choices.specs.declared.format.Format.TheVariants.{One, Two}
 use Rattle.cs_choices.specs.declared.weigh.Weigh.{Weigh}

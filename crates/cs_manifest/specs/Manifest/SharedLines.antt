@@ -5,14 +5,14 @@ use Rattle.cs_grammar.specs.declared.symbol.Mark.TheVariants.{Begin, Token}
 use Rattle.cs_yacc.specs.Reading.File.{File}
 use Rattle.cs_goals.specs.declared.goal.Goal.{Goal}
 use Rattle.cs_texts.specs.Rendering.Rendering.{Rendering}
-use Rattle.cs_manifest.specs.Output.Words.{line, spaced, with_numbers}
-use Rattle.cs_manifest.specs.Output.Names.{nonterminal_of, mark_text}
-use Rattle.cs_manifest.specs.declared.manifest.entry.SharedVerdict.{SharedVerdict}
-use Rattle.cs_manifest.specs.declared.manifest.entry.SharedVerdict.TheVariants.{Feasible, Infeasible, Large}
+use Rattle.cs_manifest.specs.Output.Words.{line, numbered_word, spaced, with_numbers}
+use Rattle.cs_manifest.specs.Output.Names.{nonterminal_of, mark_text, token_words}
+use Rattle.cs_manifest.specs.declared.manifest.verdict.SharedVerdict.{SharedVerdict}
+use Rattle.cs_manifest.specs.declared.manifest.verdict.SharedVerdict.TheVariants.{Feasible, Infeasible, Large}
 use Rattle.cs_choices.specs.declared.weigh.Weigh.{Weigh}
 use Rattle.cs_choices.specs.declared.weigh.Weigh.TheVariants.{Nodes, Bytes}
 use Rattle.cs_verdicts.specs.Closed.Closed.{ClosedSets}
-use Rattle.cs_manifest.specs.Manifest.Lines.{numbered_word, token_words, table_lines, tree_lines, text_lines, goal_words}
+use Rattle.cs_manifest.specs.Manifest.Lines.{table_lines, tree_lines, text_lines, goal_words}
 
 -- ---- the head
 

@@ -1,5 +1,5 @@
--- Words and lines of a manifest; its escapes are those of `Escapes` of cs_bytes.
-use Rattle.std.specs.Prelude.{ℕ, ◌+◌, List, [], ◌∷◌, ◌++◌}
+-- Words and lines; their escapes are those of `Escapes` of cs_bytes.
+use Rattle.std.specs.Prelude.{ℕ, ◌+◌, List, [], ◌∷◌, ◌++◌, decimal}
 use Rattle.std.specs.List.{flat_map, enumerate_from}
 pub use Rattle.cs_bytes.specs.Escapes.{exclamation_mark, tilde, hexadecimal_digit, escaped, is_plain_literal, is_plain_text, literal_byte, text_byte, literal, quoted}
 use Rattle.cs_bytes.specs.Names.{newline, space}
@@ -7,6 +7,10 @@ use Rattle.cs_bytes.specs.Names.{newline, space}
 -- each line ends with a newline
 abbrev pub line : List ℕ → List ℕ
 line words = words ++ newline ∷ []
+
+-- a number behind its word
+abbrev pub numbered_word : List ℕ → ℕ → List ℕ
+numbered_word word number = word ++ decimal number
 
 -- the text of each member, in order, each behind a space
 abbrev pub spaced : {A : Type 0} → (A → List ℕ) → List A → List ℕ

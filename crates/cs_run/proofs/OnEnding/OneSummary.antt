@@ -5,10 +5,10 @@ use Rattle.std.specs.List.{AllByRecursion}
 use Rattle.std.proofs.lemmas.Fmt.{decimal_by_steps, decimal_injective}
 use Rattle.std.proofs.lemmas.List.{append_cancel_right}
 use Rattle.cs_gen.proofs.Digits.{all_push}
-use Rattle.cs_manifest.specs.Output.Words.{line}
+use Rattle.cs_manifest.specs.Output.Words.{line, numbered_word}
 use Rattle.cs_manifest.specs.declared.manifest.counts.Counts.{Counts}
 use Rattle.cs_manifest.specs.Manifest.Counts.{end_of}
-use Rattle.cs_manifest.specs.Manifest.Lines.{end_words, numbered_word}
+use Rattle.cs_manifest.specs.Manifest.Lines.{end_words}
 use Rattle.cs_run.specs.Ending.Summary.{HasCounts}
 
 -- ---- a number behind its word

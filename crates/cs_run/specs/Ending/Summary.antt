@@ -2,10 +2,9 @@
 use Rattle.std.specs.Prelude.{◌≡◌, ◌<◌, ◌^◌, ℕ, List, ◌++◌, None, codes, length}
 use Rattle.cs_gen.specs.Texts.{lex_text, yacc_text}
 use Rattle.cs_manifest.specs.Output.Putting.{shown}
-use Rattle.cs_manifest.specs.Output.Words.{line}
+use Rattle.cs_manifest.specs.Output.Words.{line, numbered_word}
 use Rattle.cs_manifest.specs.declared.manifest.counts.Counts.{Counts}
 use Rattle.cs_manifest.specs.Manifest.Counts.{end_of}
-use Rattle.cs_manifest.specs.Manifest.Lines.{numbered_word}
 use Rattle.cs_choices.specs.declared.format.Format.TheVariants.{One}
 use Rattle.cs_words.specs.declared.options.Options.{Options}
 use Rattle.cs_words.specs.Options.{default_options}

@@ -5,7 +5,7 @@ use Rattle.cs_run.specs.Ending.Summary.{IsSummary, Lengths, summary_line, summar
 use Rattle.cs_gen.specs.declared.files.Generated.{Generated}
 use Rattle.cs_run.specs.declared.input.judging.Pair.{Pair}
 use Rattle.cs_manifest.specs.declared.manifest.counts.Counts.{Counts}
-use Rattle.cs_manifest.specs.Manifest.Lines.{numbered_word}
+use Rattle.cs_manifest.specs.Output.Words.{numbered_word}
 use Rattle.cs_run.specs.Writer.Suite.{IsSuite, IsSuiteBy}
 use Rattle.cs_scanner.specs.Scan.Scan.{Scanning}
 use Rattle.cs_yacc.specs.Reading.File.{File}

@@ -8,13 +8,13 @@ use Rattle.cs_io.specs.declared.sink.SinkError.{SinkError}
 use Rattle.cs_io.specs.Lines.{HasRoom, IsCutShort, IsWritten, LeavesRoom, Took, TookPart}
 use Rattle.cs_io.proofs.Called.{is_cut, is_written}
 use Rattle.cs_manifest.specs.Manifest.Counts.{with_lines}
-use Rattle.cs_manifest.specs.Manifest.Entry.{lines_of}
+use Rattle.cs_manifest.specs.Writer.Entry.{lines_of}
 use Rattle.cs_manifest.specs.Manifest.Lines.{negative_lines}
 use Rattle.cs_manifest.specs.Manifest.Manifest.{NegativeEntry}
-use Rattle.cs_manifest.specs.Manifest.Progress.{Progress, behind, lines_in}
+use Rattle.cs_manifest.specs.Writer.Progress.{Progress, behind, lines_in}
 use Rattle.cs_manifest.specs.declared.manifest.counts.Counts.{Counts}
-use Rattle.cs_manifest.specs.declared.manifest.entry.Entry.{Entry}
-use Rattle.cs_manifest.specs.declared.manifest.entry.Entry.TheVariants.{Negative as numbered}
+use Rattle.cs_manifest.specs.declared.writer.entry.Entry.{Entry}
+use Rattle.cs_manifest.specs.declared.writer.entry.Entry.TheVariants.{Negative as numbered}
 use Rattle.cs_mutate.specs.Edit.{edited}
 use Rattle.cs_mutate.specs.declared.negative.Negative.{Negative}
 use Rattle.cs_texts.specs.Rendering.Rendering.{rendering_in}

@@ -6,11 +6,11 @@ use Rattle.std.proofs.lemmas.List.Elements.{All-append, All-cons, All-drop, All-
 use Rattle.cs_bytes.specs.Names.{space}
 use Rattle.cs_manifest.specs.Output.Names.{token_of}
 use Rattle.cs_manifest.specs.Manifest.Lines.{negative_lines}
-use Rattle.cs_manifest.specs.Manifest.Open.{AreLinesOf, edit_with, filled, negative_by, place_of}
-use Rattle.cs_manifest.specs.declared.manifest.open.OpenEdit.{OpenEdit}
-use Rattle.cs_manifest.specs.declared.manifest.open.OpenEdit.TheVariants.{Insert, Replace}
-use Rattle.cs_manifest.specs.declared.manifest.open.OpenPair.{OpenPair}
-use Rattle.cs_manifest.specs.declared.manifest.open.OpenPair.TheVariants.{Behind, Before}
+use Rattle.cs_manifest.specs.Filling.Open.{AreLinesOf, edit_with, filled, negative_by, place_of}
+use Rattle.cs_manifest.specs.declared.filling.open.OpenEdit.{OpenEdit}
+use Rattle.cs_manifest.specs.declared.filling.open.OpenEdit.TheVariants.{Insert, Replace}
+use Rattle.cs_manifest.specs.declared.filling.open.OpenPair.{OpenPair}
+use Rattle.cs_manifest.specs.declared.filling.open.OpenPair.TheVariants.{Behind, Before}
 use Rattle.cs_grammar.specs.declared.symbol.Mark.TheVariants.{Token}
 use Rattle.cs_mutate.specs.Edit.{edited}
 use Rattle.cs_mutate.specs.declared.negative.Negative.{Negative}

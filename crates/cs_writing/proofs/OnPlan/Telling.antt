@@ -7,7 +7,7 @@ use Rattle.cs_grammar.specs.Weights.{Weighed}
 use Rattle.cs_goals.specs.declared.goal.Goal.{Goal}
 use Rattle.cs_verdicts.specs.declared.cases.cases.Named.{Named}
 use Rattle.cs_verdicts.specs.Cases.Cases.{PlainCases, with_case}
-use Rattle.cs_manifest.specs.declared.manifest.entry.SharedVerdict.{SharedVerdict}
+use Rattle.cs_manifest.specs.declared.manifest.verdict.SharedVerdict.{SharedVerdict}
 use Rattle.cs_choices.specs.declared.format.Format.{Format}
 use Rattle.cs_choices.specs.declared.format.Format.TheVariants.{One, Two}
 use Rattle.cs_manifest.specs.Manifest.Lines.{is_feasible}

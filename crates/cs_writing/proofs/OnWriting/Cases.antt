@@ -4,8 +4,8 @@ use Rattle.std.specs.Prelude.{if◌then◌else◌, map}
 use Rattle.std.proofs.lemmas.List.{length-map}
 use Rattle.cs_verdicts.specs.Cases.Cases.{PlainCases}
 use Rattle.cs_manifest.specs.declared.manifest.counts.Counts.{Counts}
-use Rattle.cs_manifest.specs.declared.manifest.entry.SharedVerdict.{SharedVerdict}
-use Rattle.cs_manifest.specs.declared.manifest.entry.SharedVerdict.TheVariants as shared
+use Rattle.cs_manifest.specs.declared.manifest.verdict.SharedVerdict.{SharedVerdict}
+use Rattle.cs_manifest.specs.declared.manifest.verdict.SharedVerdict.TheVariants as shared
 use Rattle.cs_manifest.specs.Manifest.Manifest.{AreShared, GoalEntry, SharedEntry, Texts, case_lines_by, derivation_in, is_new}
 use Rattle.cs_manifest.specs.Manifest.SharedLines.{case_lines}
 use Rattle.cs_texts.specs.Rendering.Rendering.{Rendering}

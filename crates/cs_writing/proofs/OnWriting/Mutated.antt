@@ -13,7 +13,7 @@ use Rattle.cs_manifest.specs.Manifest.Lines.{base_line}
 use Rattle.cs_manifest.specs.Manifest.Manifest.{AreNegativesOf, BaseEntry, BasesOf, HasOneText, NegativeEntry, base_entry_lines, has_operator, kept_in, most_bases, negatives_of}
 use Rattle.cs_mutate.specs.Keeping.{Counters, Tells}
 use Rattle.cs_mutate.specs.declared.negative.Negative.{Negative}
-use Rattle.cs_manifest.specs.Manifest.Progress.{Progress}
+use Rattle.cs_manifest.specs.Writer.Progress.{Progress}
 use Rattle.cs_manifest.proofs.OnManifest.Bases.{bases_both, bases_length, bases_split, kept_in_both}
 use Rattle.cs_manifest.proofs.OnManifest.OneManifest.{one_list_of_bases}
 use Rattle.cs_yacc.specs.Reading.File.{File}

@@ -9,7 +9,7 @@ use Rattle.cs_manifest.specs.Output.Words.{numbered_from}
 use Rattle.cs_manifest.proofs.OnOutput.Written.{written_none, written_then, written_cut, cut_longer}
 use Rattle.cs_manifest.specs.declared.manifest.counts.Counts.{Counts}
 use Rattle.cs_manifest.specs.Manifest.Manifest.{HasOneText, NegativeEntry, negative_entry_lines, negatives_of}
-use Rattle.cs_manifest.specs.Manifest.Progress.{Progress}
+use Rattle.cs_manifest.specs.Writer.Progress.{Progress}
 use Rattle.cs_manifest.proofs.OnManifest.Bases.{negatives_are}
 use Rattle.cs_manifest.proofs.OnManifest.OneManifest.{one_zip}
 use Rattle.cs_writing.specs.Mutants.Makers.{Making}

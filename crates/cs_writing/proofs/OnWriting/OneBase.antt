@@ -4,7 +4,7 @@ use Rattle.cs_io.specs.declared.sink.Sink as Sink
 use Rattle.cs_io.specs.Lines.{IsWritten}
 use Rattle.cs_manifest.specs.declared.manifest.counts.Counts.{Counts}
 use Rattle.cs_manifest.specs.Manifest.Manifest.{AreNegativesOf, NegativeEntry, negatives_of}
-use Rattle.cs_manifest.specs.Manifest.Progress.{Progress}
+use Rattle.cs_manifest.specs.Writer.Progress.{Progress}
 use Rattle.cs_writing.specs.Mutants.Makers.{AreToolsOf, IsMakerOf, Making, PlainTools}
 use Rattle.cs_mutate.specs.Negatives.{Search, search_of}
 use Rattle.cs_texts.specs.declared.rendering.render_work.RenderWork.{RenderWork}

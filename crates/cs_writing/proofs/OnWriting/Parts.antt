@@ -7,7 +7,7 @@ use Rattle.cs_io.specs.declared.sink.Sink as Sink
 use Rattle.cs_io.specs.Lines.{IsWritten}
 use Rattle.cs_manifest.specs.declared.manifest.counts.Counts.{Counts}
 use Rattle.cs_manifest.specs.Manifest.Manifest.{BaseEntry, GoalEntry, NegativeEntry, base_entry_lines, most_bases}
-use Rattle.cs_manifest.specs.Manifest.Progress.{Progress}
+use Rattle.cs_manifest.specs.Writer.Progress.{Progress}
 use Rattle.cs_writing.specs.Mutants.Makers.{Making}
 use Rattle.cs_mutate.specs.Negatives.{Search}
 use Rattle.cs_mutate.specs.declared.negative.Negative.{Negative}

@@ -15,7 +15,7 @@ use Rattle.cs_manifest.proofs.OnOutput.Written.{written_none, written_then, writ
 use Rattle.cs_manifest.specs.declared.manifest.counts.Counts.{Counts}
 use Rattle.cs_manifest.specs.Manifest.Head.{Sharing, first_cases}
 use Rattle.cs_manifest.specs.Manifest.Manifest.{GoalEntry, HasOneText, Texts, most_bases}
-use Rattle.cs_manifest.specs.Manifest.Progress.{Progress}
+use Rattle.cs_manifest.specs.Writer.Progress.{Progress}
 use Rattle.cs_verdicts.specs.Positive.Positives.{ToJudge}
 use Rattle.cs_writing.specs.declared.plan.plan.Plan.{Plan}
 use Rattle.cs_writing.specs.Plan.Entries.{AreNext}

@@ -19,7 +19,7 @@ use Rattle.cs_manifest.specs.declared.manifest.head.Head.{Head}
 use Rattle.cs_manifest.specs.Manifest.Head.{Sharing, yacc_of, head_of, lexemes_of, head_with, first_cases, sharing_of}
 use Rattle.cs_manifest.specs.Manifest.Lines.{end_words, is_feasible, is_infeasible, is_large}
 use Rattle.cs_manifest.specs.Manifest.Manifest.{AreLexemesBy, BaseEntry, BasesOf, EntriesOf, GoalEntry, HasOneText, IsTextIn, Texts, base_entry_lines, bases, end_line_with, goal_texts, most_bases, shared_text, weighed_by}
-use Rattle.cs_manifest.specs.Manifest.Progress.{begun}
+use Rattle.cs_manifest.specs.Writer.Progress.{begun}
 use Rattle.cs_manifest.proofs.OnManifest.OneManifest.{one_manifest_by}
 use Rattle.cs_yacc.specs.Reading.File.{File}
 use Rattle.cs_writing.specs.declared.plan.plan.Plan.{Plan}

@@ -1,6 +1,6 @@
 -- What makes the negatives of a base.
 use Rattle.std.specs.Prelude.{◌≡◌, ◌≤◌, ℕ, List, Bool, true, length}
-use Rattle.cs_manifest.specs.Manifest.Open.{TokenTable}
+use Rattle.cs_manifest.specs.Filling.Open.{TokenTable}
 use Rattle.cs_mutate.specs.Edit.{edited}
 use Rattle.cs_mutate.specs.declared.edit.Edit.{Edit}
 use Rattle.cs_texts.specs.Work.Renders.{TakesTokens}

@@ -6,7 +6,7 @@ use Rattle.cs_io.specs.declared.sink.SinkError.{SinkError}
 use Rattle.cs_io.specs.Lines.{Writes}
 use Rattle.cs_manifest.specs.Manifest.Counts.{with_lines}
 use Rattle.cs_manifest.specs.Manifest.Manifest.{IsNegativeOf, NegativeEntry, Texts, negative_entry_lines}
-use Rattle.cs_manifest.specs.Manifest.Progress.{Progress}
+use Rattle.cs_manifest.specs.Writer.Progress.{Progress}
 use Rattle.cs_mutate.specs.declared.negative.Negative.{Negative}
 use Rattle.cs_texts.specs.declared.rendering.render_work.RenderWork.{RenderWork}
 use Rattle.cs_scanner.specs.Scan.Compared.{scanning}

@@ -4,18 +4,18 @@ use Rattle.std.specs.Borrow.{Bor}
 use Rattle.cs_bytes.specs.Names.{space}
 use Rattle.cs_manifest.specs.Output.Names.{AreNamedTokens, token_of}
 use Rattle.cs_io.specs.Faults.{next_count}
-use Rattle.cs_manifest.specs.Manifest.Counts.{with_entry}
-use Rattle.cs_manifest.specs.Manifest.Entry.{IsNamedEntry, lines_of}
+use Rattle.cs_manifest.specs.Writer.Progress.{with_entry}
+use Rattle.cs_manifest.specs.Writer.Entry.{IsNamedEntry, lines_of}
 use Rattle.cs_manifest.specs.declared.manifest.counts.Counts.{Counts}
-use Rattle.cs_manifest.specs.declared.manifest.entry.Entry.{Entry}
+use Rattle.cs_manifest.specs.declared.writer.entry.Entry.{Entry}
 use Rattle.cs_manifest.specs.Manifest.Lines.{negative_lines}
 use Rattle.cs_manifest.specs.Manifest.Manifest.{NegativeEntry, negative_entry_lines}
 use Rattle.cs_manifest.specs.Manifest.Named.{IsNamedNegative, IsNamedRendering}
-use Rattle.cs_manifest.specs.Manifest.Open.{IsQuotedLexeme, LineParts, between_quotes, filled, negative_by, place_of}
-use Rattle.cs_manifest.specs.declared.manifest.open.OpenEdit.{OpenEdit}
-use Rattle.cs_manifest.specs.declared.manifest.open.OpenEdit.TheVariants.{Insert, Replace}
-use Rattle.cs_manifest.specs.declared.manifest.open.OpenPair.{OpenPair}
-use Rattle.cs_manifest.specs.declared.manifest.open.OpenPair.TheVariants.{Behind, Before}
+use Rattle.cs_manifest.specs.Filling.Open.{IsQuotedLexeme, LineParts, between_quotes, filled, negative_by, place_of}
+use Rattle.cs_manifest.specs.declared.filling.open.OpenEdit.{OpenEdit}
+use Rattle.cs_manifest.specs.declared.filling.open.OpenEdit.TheVariants.{Insert, Replace}
+use Rattle.cs_manifest.specs.declared.filling.open.OpenPair.{OpenPair}
+use Rattle.cs_manifest.specs.declared.filling.open.OpenPair.TheVariants.{Behind, Before}
 use Rattle.cs_grammar.specs.declared.symbol.Mark.TheVariants.{Token}
 use Rattle.cs_mutate.specs.Edit.{edited}
 use Rattle.cs_mutate.specs.declared.negative.Negative.{Negative}

@@ -3,11 +3,12 @@ use Rattle.std.specs.Prelude.{◌≡◌, ℕ, Bool, true, false, List, [], ◌++
 use Rattle.cs_goals.specs.declared.goal.Goal.{Goal}
 use Rattle.cs_manifest.specs.Output.Names.{AreNamedTokens}
 use Rattle.cs_manifest.specs.declared.manifest.counts.Counts.{Counts}
-use Rattle.cs_manifest.specs.declared.manifest.entry.Entry.{Entry}
-use Rattle.cs_manifest.specs.declared.manifest.entry.SharedVerdict.{SharedVerdict}
-use Rattle.cs_manifest.specs.declared.manifest.entry.SharedVerdict.TheVariants as shared
-use Rattle.cs_manifest.specs.Manifest.Counts.{with_case, with_entry, with_verdict}
-use Rattle.cs_manifest.specs.Manifest.Entry.{IsNamedEntry, lines_of}
+use Rattle.cs_manifest.specs.declared.writer.entry.Entry.{Entry}
+use Rattle.cs_manifest.specs.declared.manifest.verdict.SharedVerdict.{SharedVerdict}
+use Rattle.cs_manifest.specs.declared.manifest.verdict.SharedVerdict.TheVariants as shared
+use Rattle.cs_manifest.specs.Writer.Progress.{with_entry}
+use Rattle.cs_manifest.specs.Manifest.Counts.{with_case, with_verdict}
+use Rattle.cs_manifest.specs.Writer.Entry.{IsNamedEntry, lines_of}
 use Rattle.cs_manifest.specs.Manifest.Lines.{goal_lines, is_feasible}
 use Rattle.cs_manifest.specs.Manifest.Manifest.{GoalEntry, case_lines_by, is_new}
 use Rattle.cs_manifest.specs.Manifest.SharedLines.{shared_goal_line}

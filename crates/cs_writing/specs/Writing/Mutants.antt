@@ -12,7 +12,7 @@ use Rattle.cs_manifest.specs.Output.Words.{numbered_from}
 use Rattle.cs_manifest.specs.declared.manifest.counts.Counts.{Counts}
 use Rattle.cs_manifest.specs.Manifest.Lines.{is_feasible}
 use Rattle.cs_manifest.specs.Manifest.Manifest.{BaseEntry, BasesOf, GoalEntry, NegativeEntry, base_entry_lines, negative_entry_lines, negatives_of}
-use Rattle.cs_manifest.specs.Manifest.Progress.{Progress}
+use Rattle.cs_manifest.specs.Writer.Progress.{Progress}
 use Rattle.cs_writing.specs.Mutants.Makers.{Making}
 use Rattle.cs_writing.specs.Mutants.Mutants.{IsOfNegative}
 use Rattle.cs_mutate.specs.Negatives.{Search}

@@ -17,7 +17,7 @@ use Rattle.cs_manifest.specs.Manifest.Counts.{first_counts, with_case, with_line
 use Rattle.cs_manifest.specs.Manifest.Head.{first_cases}
 use Rattle.cs_manifest.specs.Manifest.Lines.{is_feasible, is_infeasible, is_large}
 use Rattle.cs_manifest.specs.Manifest.Manifest.{AreShared, EntriesOf, GoalEntry, SharedEntry, goal_entry_lines, goal_texts, most_bases, shared_entry_lines}
-use Rattle.cs_manifest.specs.Manifest.Progress.{Progress}
+use Rattle.cs_manifest.specs.Writer.Progress.{Progress}
 use Rattle.cs_verdicts.specs.Positive.Positives.{ToJudge}
 use Rattle.cs_yacc.specs.Reading.File.{File}
 use Rattle.cs_writing.specs.declared.plan.plan.Plan.{Plan}

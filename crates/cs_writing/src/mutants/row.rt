@@ -2,7 +2,7 @@
 
 ghost use Rattle.std.specs.Prelude.{◌≡◌, IfOk, IfSome, IsTrue, drop, is_some, length, take};
 ghost use Rattle.cs_manifest.specs.Output.Names.{IsNamedMark};
-ghost use Rattle.cs_manifest.specs.Manifest.Open.{mark_in, place_of};
+ghost use Rattle.cs_manifest.specs.Filling.Open.{mark_in, place_of};
 ghost use Rattle.cs_writing.specs.Mutants.Rows.{HasTexts, IsOpenPlaced, IsRowOf, behind_place};
 
 use crate::mutants::maker::Maker;

@@ -2,7 +2,7 @@
 
 ghost use Rattle.std.specs.Prelude.{◌↔◌, IfOk, IsTrue, length};
 ghost use Rattle.cs_manifest.specs.Output.Names.{IsNamedMark};
-ghost use Rattle.cs_manifest.specs.Manifest.Open.{mark_in};
+ghost use Rattle.cs_manifest.specs.Filling.Open.{mark_in};
 ghost use Rattle.cs_writing.specs.Mutants.Rows.{AreNoRows, AreRows, HasRow, HasTexts, IsLentRow, IsOpenPlaced, IsPutIn};
 ghost use Rattle.cs_writing.specs.Mutants.Rows.{row_for};
 

@@ -3,7 +3,7 @@
 ghost use Rattle.std.specs.Prelude.{◌≡◌, All, IsTrue, length};
 ghost use Rattle.cs_grammar.specs.Grammar.{IsNumberOf};
 ghost use Rattle.cs_manifest.specs.Output.Names.{IsNamedMark, IsNamedToken};
-ghost use Rattle.cs_manifest.specs.Manifest.Open.{mark_in};
+ghost use Rattle.cs_manifest.specs.Filling.Open.{mark_in};
 
 use cs_grammar::Mark;
 use cs_io::MemorySink;

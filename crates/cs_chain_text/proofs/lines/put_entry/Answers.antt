@@ -3,11 +3,12 @@ use Rattle.std.proofs.Common.{◌++◌, List, ℕ, codes, ap, ◌∙◌, subst, 
 use Rattle.std.specs.Prelude.{option_map}
 use Rattle.cs_texts.specs.declared.rendering.rendered.Rendered.{Rendered}
 use Rattle.cs_texts.specs.Rendering.Rendering.{Rendering, rendering}
-use Rattle.cs_manifest.proofs.OnManifest.Ends.{verdict_ends}
-use Rattle.cs_manifest.proofs.OnManifest.Lent.{copied}
+use Rattle.cs_manifest.proofs.OnWriter.Ends.{verdict_ends}
+use Rattle.cs_manifest.proofs.OnWriter.Lent.{copied}
 use Rattle.cs_manifest.proofs.OnOutput.Pieces.{spelled, then, then_below}
-use Rattle.cs_manifest.specs.Manifest.Below.{texts_below, verdict_words}
-use Rattle.cs_manifest.specs.Manifest.Lines.{numbered_word, text_lines}
+use Rattle.cs_manifest.specs.Writer.Below.{texts_below, verdict_words}
+use Rattle.cs_manifest.specs.Output.Words.{numbered_word}
+use Rattle.cs_manifest.specs.Manifest.Lines.{text_lines}
 use Rattle.cs_manifest.specs.Output.Putting.{Puts}
 use Rattle.cs_chain_text.specs.Text.{ChainEntry, as_goal, chain_words, entry_lines}
 use Rattle.cs_chain_text.proofs.lines.put_entry.Goals as goal

@@ -2,7 +2,8 @@
 use Rattle.std.proofs.Common.{◌++◌, [], ap, codes, decimal}
 use Rattle.cs_manifest.specs.Output.Words.{spaced}
 use Rattle.cs_manifest.proofs.OnOutput.Pieces.{spelled, then_below}
-use Rattle.cs_manifest.specs.Manifest.Below.{derive_below, tokens_words}
+use Rattle.cs_manifest.specs.Output.Names.{tokens_words}
+use Rattle.cs_manifest.specs.Writer.Below.{derive_below}
 use Rattle.cs_manifest.specs.Manifest.Lines.{size_words}
 use Rattle.cs_chain_text.proofs.lines.put_verdict.Goals as goal
 

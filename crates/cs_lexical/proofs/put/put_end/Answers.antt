@@ -2,7 +2,7 @@
 use Rattle.std.proofs.Common.{ap}
 use Rattle.std.specs.Prelude.{codes}
 use Rattle.cs_manifest.proofs.OnOutput.Pieces.{spelled, then}
-use Rattle.cs_manifest.specs.Manifest.Lines.{numbered_word}
+use Rattle.cs_manifest.specs.Output.Words.{numbered_word}
 use Rattle.cs_lexical.proofs.put.put_end.Goals as goal
 
 pub returns : goal.returns

@@ -1,6 +1,6 @@
 -- The way, the derivation, the yield and the rendered text, one behind the other.
 use Rattle.std.proofs.Common.{ap}
-use Rattle.cs_manifest.specs.Manifest.Below.{derive_below, text_below}
+use Rattle.cs_manifest.specs.Writer.Below.{derive_below, text_below}
 use Rattle.cs_manifest.proofs.OnOutput.Pieces.{spelled, then}
 use Rattle.cs_spell.proofs.putting.put_shown.Goals as goal
 

@@ -1,12 +1,13 @@
 -- The words of the slip and its class, and below them the list and its text.
 use Rattle.std.proofs.Common.{◌++◌, List, [], ℕ, codes, ap, ◌∙◌, subst, Option}
 use Rattle.std.specs.Prelude.{option_map}
-use Rattle.cs_manifest.proofs.OnManifest.Lent.{copied}
+use Rattle.cs_manifest.proofs.OnWriter.Lent.{copied}
 use Rattle.cs_manifest.proofs.OnOutput.Pieces.{spelled, then, then_below}
-use Rattle.cs_manifest.specs.Manifest.Below.{texts_below, tokens_below, tokens_words}
-use Rattle.cs_manifest.specs.Manifest.Lines.{numbered_word, text_lines}
+use Rattle.cs_manifest.specs.Output.Names.{tokens_below, tokens_words}
+use Rattle.cs_manifest.specs.Writer.Below.{texts_below}
+use Rattle.cs_manifest.specs.Manifest.Lines.{text_lines}
 use Rattle.cs_manifest.specs.Output.Putting.{Puts}
-use Rattle.cs_manifest.specs.Output.Words.{line}
+use Rattle.cs_manifest.specs.Output.Words.{line, numbered_word}
 use Rattle.cs_texts.specs.Rendering.Rendering.{Rendering, rendering}
 use Rattle.cs_texts.specs.declared.rendering.rendered.Rendered.{Rendered}
 use Rattle.cs_wrong.specs.Text.{SlipEntry, class_words, slip_words, wrong_lines}

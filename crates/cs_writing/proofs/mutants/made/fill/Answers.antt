@@ -1,7 +1,7 @@
 -- The row that is there has the opened edit and pair, and every token stands apart, so the token fills it.
 use Rattle.std.proofs.Common.{sym, subst}
-use Rattle.cs_manifest.specs.declared.manifest.open.OpenEdit.{OpenEdit}
-use Rattle.cs_manifest.specs.declared.manifest.open.OpenPair.{OpenPair}
+use Rattle.cs_manifest.specs.declared.filling.open.OpenEdit.{OpenEdit}
+use Rattle.cs_manifest.specs.declared.filling.open.OpenPair.{OpenPair}
 use Rattle.cs_writing.specs.Mutants.Makers.{Making}
 use Rattle.cs_writing.specs.Mutants.Rows.{AreRows, FillsRow, IsRowOf}
 use Rattle.cs_writing.specs.declared.mutants.made.Filling.{Filling}

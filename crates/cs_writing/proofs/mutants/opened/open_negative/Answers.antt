@@ -1,8 +1,8 @@
 -- The token that the edit puts is in the pair, where the negative can be told without it.
 use Rattle.std.proofs.Common.{◌≡◌, ℕ, Option, sym, subst}
 use Rattle.std.specs.Prelude.{IsTrue, is_some}
-use Rattle.cs_manifest.specs.declared.manifest.open.OpenEdit.{OpenEdit}
-use Rattle.cs_manifest.specs.declared.manifest.open.OpenEdit.TheVariants.{Insert, Replace}
+use Rattle.cs_manifest.specs.declared.filling.open.OpenEdit.{OpenEdit}
+use Rattle.cs_manifest.specs.declared.filling.open.OpenEdit.TheVariants.{Insert, Replace}
 use Rattle.cs_writing.specs.Mutants.Rows.{IsInPair}
 use Rattle.cs_writing.specs.declared.mutants.opened.Opened.{Opened}
 use Rattle.cs_writing.proofs.OnMutants.Filling.{in_pair}

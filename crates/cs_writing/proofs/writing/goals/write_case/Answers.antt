@@ -5,9 +5,9 @@ use Rattle.std.proofs.lemmas.Result.{err_from_is_err_and}
 use Rattle.cs_io.specs.Lines.{IsCutShort, IsWritten}
 use Rattle.cs_manifest.proofs.OnOutput.Written.{written_none}
 use Rattle.cs_manifest.specs.Manifest.Counts.{with_case, with_lines}
-use Rattle.cs_manifest.specs.Manifest.Entry.{lines_of}
+use Rattle.cs_manifest.specs.Writer.Entry.{lines_of}
 use Rattle.cs_writing.specs.Plan.Made.{case_lines_in}
-use Rattle.cs_manifest.specs.Manifest.Progress.{Progress}
+use Rattle.cs_manifest.specs.Writer.Progress.{Progress}
 use Rattle.cs_manifest.specs.declared.manifest.counts.Counts.{Counts}
 use Rattle.cs_io.proofs.Called.{is_cut, is_written}
 use Rattle.cs_writing.proofs.writing.goals.write_case.Goals as goal

@@ -4,8 +4,8 @@ use Rattle.std.proofs.lemmas.Result.{err_from_is_err_and}
 use Rattle.cs_io.specs.Lines.{IsCutShort, IsWritten}
 use Rattle.cs_manifest.proofs.OnOutput.Written.{cut_longer, written_cut, written_then}
 use Rattle.cs_manifest.specs.Manifest.Counts.{with_lines, with_verdict}
-use Rattle.cs_manifest.specs.Manifest.Entry.{lines_of}
-use Rattle.cs_manifest.specs.Manifest.Progress.{Progress}
+use Rattle.cs_manifest.specs.Writer.Entry.{lines_of}
+use Rattle.cs_manifest.specs.Writer.Progress.{Progress}
 use Rattle.cs_manifest.specs.declared.manifest.counts.Counts.{Counts}
 use Rattle.cs_writing.specs.Plan.Made.{IsNamedMade, goal_lines_in}
 use Rattle.cs_yacc.specs.Reading.File.{File}

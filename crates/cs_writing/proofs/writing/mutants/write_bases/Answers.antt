@@ -6,7 +6,7 @@ use Rattle.cs_grammar.proofs.Measures.{All-at}
 use Rattle.cs_grammar.specs.Grammar.{PlainGrammar}
 use Rattle.cs_manifest.specs.Manifest.Lines.{base_line}
 use Rattle.cs_manifest.specs.Manifest.Manifest.{kept_in}
-use Rattle.cs_manifest.specs.Manifest.Progress.{Progress}
+use Rattle.cs_manifest.specs.Writer.Progress.{Progress}
 use Rattle.cs_manifest.specs.declared.manifest.counts.Counts.{Counts}
 use Rattle.cs_writing.specs.Mutants.Makers.{CanRender}
 use Rattle.cs_writing.proofs.OnMutants.Taking.{takes_base}

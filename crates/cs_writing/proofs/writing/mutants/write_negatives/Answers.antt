@@ -7,7 +7,7 @@ use Rattle.cs_io.specs.Faults.{greatest}
 use Rattle.cs_io.specs.Lines.{IsCutShort, IsWritten}
 use Rattle.cs_manifest.specs.Manifest.Manifest.{negative_entry_lines}
 use Rattle.cs_manifest.specs.Manifest.Named.{IsNamedNegative}
-use Rattle.cs_manifest.specs.Manifest.Progress.{Progress}
+use Rattle.cs_manifest.specs.Writer.Progress.{Progress}
 use Rattle.cs_manifest.specs.declared.manifest.counts.Counts.{Counts}
 use Rattle.cs_writing.specs.Mutants.Makers.{Making}
 use Rattle.cs_writing.specs.Mutants.Mutants.{behind_negative, texts_of}

@@ -7,7 +7,7 @@ use Rattle.cs_manifest.specs.declared.manifest.counts.Counts.{Counts}
 use Rattle.cs_manifest.specs.Manifest.Counts.{end_of}
 use Rattle.cs_manifest.specs.Manifest.Head.{head_of}
 use Rattle.cs_manifest.specs.Manifest.Manifest.{most_bases, weighed_by}
-use Rattle.cs_manifest.specs.Manifest.Progress.{Progress}
+use Rattle.cs_manifest.specs.Writer.Progress.{Progress}
 use Rattle.cs_writing.specs.Plan.Plans.{IsOfPlan, IsPlanned, choice_in, lexemes_in}
 use Rattle.cs_writing.specs.declared.plan.plan.Plan.{Plan}
 use Rattle.cs_verdicts.specs.Positive.Positives.{ToJudge}

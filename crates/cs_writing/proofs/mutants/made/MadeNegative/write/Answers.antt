@@ -2,8 +2,8 @@
 use Rattle.std.proofs.Common.{◌≡◌, ap, sym, ◌∙◌, subst}
 use Rattle.std.specs.Prelude.{IfSome, None, OnOk, Option, Some, option_copied, option_map, unwrap_or}
 use Rattle.std.specs.Borrow.{Bor}
-use Rattle.cs_manifest.specs.Manifest.Open.{filled}
-use Rattle.cs_manifest.specs.Manifest.Progress.{Progress, lines_in}
+use Rattle.cs_manifest.specs.Filling.Open.{filled}
+use Rattle.cs_manifest.specs.Writer.Progress.{Progress, lines_in}
 use Rattle.cs_writing.specs.Mutants.Mutants.{Mutant}
 use Rattle.cs_writing.specs.Mutants.Rows.{FillsRow, IsFilled, negative_in, negative_of}
 use Rattle.cs_writing.specs.declared.mutants.made.Filling.{Filling}

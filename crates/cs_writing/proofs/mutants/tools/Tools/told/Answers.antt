@@ -2,7 +2,7 @@
 use Rattle.std.proofs.Common.{◌∷◌, ap, ◌∙◌, subst}
 use Rattle.cs_bytes.specs.Names.{space}
 use Rattle.cs_manifest.specs.Output.Names.{token_of}
-use Rattle.cs_manifest.specs.Manifest.Open.{IsQuotedLexeme, TokenTable}
+use Rattle.cs_manifest.specs.Filling.Open.{IsQuotedLexeme, TokenTable}
 use Rattle.cs_writing.specs.Mutants.Makers.{PlainTools}
 use Rattle.cs_writing.specs.Mutants.Rows.{IsTold}
 use Rattle.cs_writing.specs.declared.mutants.tools.ToldToken.{ToldToken}

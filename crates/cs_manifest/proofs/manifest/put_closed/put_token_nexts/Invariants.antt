@@ -1,8 +1,0 @@
-use Rattle.std.proofs.Common.{take}
-use Rattle.cs_manifest.specs.Output.Words.{with_numbers}
-use Rattle.cs_manifest.specs.Output.Putting.{Puts}
-use Rattle.cs_manifest.specs.Manifest.SharedLines.{token_next_line}
-use Rattle.cs_manifest.proofs.manifest.put_closed.put_token_nexts.Given as goal
-
-abbrev pub invariant-loop-place : goal.invariant-loop-place
-invariant-loop-place g l = Puts g.S.Sink (with_numbers (token_next_line l.file) (take l.place l.nexts)) l.initial.output l.output

@@ -1,8 +1,0 @@
-use Rattle.std.proofs.Common.{take}
-use Rattle.cs_manifest.specs.Output.Words.{with_numbers}
-use Rattle.cs_manifest.specs.Output.Putting.{Puts}
-use Rattle.cs_manifest.specs.Manifest.Lines.{rule_line}
-use Rattle.cs_manifest.proofs.manifest.put_head.put_rules.Given as goal
-
-abbrev pub invariant-loop-place : goal.invariant-loop-place
-invariant-loop-place g l = Puts g.S.Sink (with_numbers (rule_line l.file) (take l.place l.rules)) l.initial.output l.output

@@ -1,6 +1,0 @@
-use Rattle.std.proofs.Common.{◌≡◌, map, take}
-use Rattle.cs_manifest.specs.Manifest.ByToken.{spaced_name}
-use Rattle.cs_manifest.proofs.manifest.token_pieces.name_pieces.Given as goal
-
-abbrev pub invariant-loop-name : goal.invariant-loop-name
-invariant-loop-name l = l.pieces.items ≡ map spaced_name (take l.name-index l.names)

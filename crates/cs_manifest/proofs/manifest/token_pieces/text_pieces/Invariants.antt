@@ -1,6 +1,0 @@
-use Rattle.std.proofs.Common.{◌≡◌, map, option_map, take}
-use Rattle.cs_manifest.specs.Manifest.Open.{between_quotes}
-use Rattle.cs_manifest.proofs.manifest.token_pieces.text_pieces.Given as goal
-
-abbrev pub invariant-loop-place : goal.invariant-loop-place
-invariant-loop-place l = l.pieces.items ≡ map (option_map between_quotes) (take l.place l.lexemes)
