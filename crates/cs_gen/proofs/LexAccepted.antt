@@ -10,8 +10,8 @@ use Rattle.cs_bytes.specs.Classes.{is_word_byte, is_space, is_newline}
 use Rattle.cs_bytes.specs.Places.{front_or_end}
 use Rattle.cs_bytes.proofs.Fronts.{and_true}
 use Rattle.cs_lex.specs.Layout.Runs.{IsPiece}
-use Rattle.cs_pattern_parts.specs.declared.tree.kind.Kind.{Kind}
-use Rattle.cs_pattern_parts.specs.declared.tree.kind.Kind.TheVariants.{Token, Foreign, Skip}
+use Rattle.cs_pattern_parts.specs.declared.kind.Kind.{Kind}
+use Rattle.cs_pattern_parts.specs.declared.kind.Kind.TheVariants.{Token, Foreign, Skip}
 use Rattle.cs_pattern_parts.specs.Tree.Pattern.{Regex, leaves}
 use Rattle.cs_pattern.specs.Text.Answers.{IsPatternOf}
 use Rattle.cs_pattern_parts.specs.Items.ByteKind.{is_plain}

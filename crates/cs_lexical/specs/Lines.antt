@@ -2,8 +2,8 @@
 use Rattle.std.specs.Prelude.{◌≡◌, ℕ, ◌+◌, ◌-◌, List, [], ◌++◌, codes, count_by, is_none, is_some, sum_by, Option, None, Some, slice_get}
 use Rattle.cs_manifest.specs.Output.Names.{token_of}
 use Rattle.cs_manifest.specs.Output.Words.{line, numbered_word, quoted, with_numbers}
-use Rattle.cs_pattern_parts.specs.declared.tree.kind.Kind.{Kind}
-use Rattle.cs_pattern_parts.specs.declared.tree.kind.Kind.TheVariants.{Foreign, OwnByte, Skip, Token}
+use Rattle.cs_pattern_parts.specs.declared.kind.Kind.{Kind}
+use Rattle.cs_pattern_parts.specs.declared.kind.Kind.TheVariants.{Foreign, OwnByte, Skip, Token}
 use Rattle.cs_scanner.specs.Scan.Compared.{scanning}
 use Rattle.cs_scanner.specs.Scan.Scan.{Scanning}
 use Rattle.cs_scanner.specs.declared.scanning.scanner.Scanner.{Scanner}

@@ -1,4 +1,4 @@
-//! What patterns are made of: the items of their texts, and trees with what they match.
+//! What patterns are made of: the items of their texts, and trees with what they match; and what a match gives.
 //!
 //! The parts, from the bottom up; none stands on one behind it:
 //!
@@ -6,6 +6,7 @@
 //!   expressions in lex").
 //! - `tree`: patterns as trees over sets of bytes (POSIX.1-2017, lex, "Regular expressions in lex"): what each matches,
 //!   what a repetition makes of one, how many leaves it has and how deep it is.
+//! - `kind`: what a rule's action gives for a match.
 //!
 //! # What it is for
 //!
@@ -30,13 +31,15 @@
 #![tactic(auto)]
 
 mod items;
+mod kind;
 mod tree;
 
 pub use items::{
     ByteSet, Front, Item, Placed, Repetition, Stop, front_of, has_is_contains, one_item, one_set,
     one_stop, stopped_spells_nothing,
 };
+pub use kind::Kind;
 pub use tree::{
-    Kind, Pattern, alone, between_counts, bytes_alone, copy, exact_counts, leaf_count,
-    least_counts, non_empty_parts, optional_counts, some_text, take_shared,
+    Pattern, alone, between_counts, bytes_alone, copy, exact_counts, leaf_count, least_counts,
+    non_empty_parts, optional_counts, some_text,
 };

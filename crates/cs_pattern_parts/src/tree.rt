@@ -5,28 +5,22 @@
 //! count the leaves of a pattern and copy it, both on a stack in memory. A copy is asked for only of a pattern that is not
 //! deeper than 1,000: to let a pattern go takes as many calls within one another as it is deep.
 //! An automaton is made of patterns that are `AreScannable`. The laws say what `Matches` means of repetitions and of joins and
-//! eithers of one part, and which lists a pattern matches. `Kind` says what a match of a rule gives: it stands here for the
-//! readers of lex files and for the scanners. By `take_shared` this crate and those above show that threads may share their
-//! values.
+//! eithers of one part, and which lists a pattern matches.
 //!
 //! Meaning: `specs/Tree/Pattern.antt` (values, `Matches`, leaves, nesting), `specs/Tree/Repeated.antt` (what a repetition makes),
 //! `specs/Tree/Counting.antt` (so many parts, one after another), `specs/Tree/Scannable.antt`. Working words of proofs: `specs/Tree/Nodes.antt`.
 
 mod copying;
 mod counting;
-mod kind;
 mod laws;
 mod nodes;
 mod pattern;
-mod sharing;
 
 pub use crate::items::{ByteSet, Repetition};
 pub use copying::copy;
 pub use counting::leaf_count;
-pub use kind::Kind;
 pub use laws::{
     alone, between_counts, bytes_alone, exact_counts, least_counts, non_empty_parts,
     optional_counts, some_text,
 };
 pub use pattern::Pattern;
-pub use sharing::take_shared;

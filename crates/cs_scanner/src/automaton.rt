@@ -19,7 +19,6 @@ mod op;
 mod program;
 mod running;
 mod sets;
-mod sharing;
 mod states;
 
 pub use automaton::Automaton;

@@ -17,7 +17,6 @@ mod lexemes;
 mod order;
 mod rank;
 mod search;
-mod sharing;
 mod state_texts;
 mod steps;
 

@@ -14,8 +14,8 @@ use Rattle.cs_goals.specs.declared.goal.Goal.TheVariants.{Rule}
 use Rattle.cs_manifest.specs.Manifest.Manifest.{AreTokensOf}
 use Rattle.cs_manifest.specs.Manifest.Named.{IsNamedRendering}
 use Rattle.cs_manifest.specs.Output.Names.{AreNamedTokens, IsNamedToken}
-use Rattle.cs_pattern_parts.specs.declared.tree.kind.Kind.{Kind}
-use Rattle.cs_pattern_parts.specs.declared.tree.kind.Kind.TheVariants as kinds
+use Rattle.cs_pattern_parts.specs.declared.kind.Kind.{Kind}
+use Rattle.cs_pattern_parts.specs.declared.kind.Kind.TheVariants as kinds
 use Rattle.cs_scanner.specs.Scan.Scan.{Scanning}
 use Rattle.cs_spell.specs.Chosen.{AreRuleVerdicts, IsWanted, RuleVerdict}
 use Rattle.cs_spell.specs.Putting.{AreNamed}

@@ -13,8 +13,8 @@ use Rattle.cs_goals.specs.declared.goal.Goal.TheVariants.{Rule}
 use Rattle.cs_lexical.specs.Winning.{Wins}
 use Rattle.cs_lexical.proofs.LawProofs.{one_entry}
 use Rattle.cs_manifest.specs.Manifest.Manifest.{AreTokensOf, Texts}
-use Rattle.cs_pattern_parts.specs.declared.tree.kind.Kind.{Kind}
-use Rattle.cs_pattern_parts.specs.declared.tree.kind.Kind.TheVariants as kinds
+use Rattle.cs_pattern_parts.specs.declared.kind.Kind.{Kind}
+use Rattle.cs_pattern_parts.specs.declared.kind.Kind.TheVariants as kinds
 use Rattle.cs_scanner.specs.Lexeme.Lexeme.{lexeme_in}
 use Rattle.cs_scanner.specs.Scan.Compared.{IsInCommon}
 use Rattle.cs_scanner.specs.Scan.Scan.{HasScan, Scanning}

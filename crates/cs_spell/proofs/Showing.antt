@@ -5,7 +5,7 @@ use Rattle.std.proofs.lemmas.List.{length-map, map-append}
 use Rattle.cs_lexical.specs.Least.{LeastTexts, rules_of, win_in}
 use Rattle.cs_lexical.specs.Winning.{IsLeastIfAny, Wins}
 use Rattle.cs_manifest.specs.Manifest.Lines.{is_feasible}
-use Rattle.cs_pattern_parts.specs.declared.tree.kind.Kind.{Kind}
+use Rattle.cs_pattern_parts.specs.declared.kind.Kind.{Kind}
 use Rattle.cs_scanner.specs.Automaton.Machine.{patterns_of}
 use Rattle.cs_scanner.specs.Scan.Compared.{scanning}
 use Rattle.cs_scanner.proofs.OnLexeme.Lists.{at_pushed}

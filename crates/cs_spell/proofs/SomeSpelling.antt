@@ -14,8 +14,8 @@ use Rattle.cs_lexical.specs.Winning.{Wins}
 use Rattle.cs_lexical.proofs.LawProofs.{some_entry}
 use Rattle.cs_manifest.specs.Manifest.Manifest.{Texts}
 use Rattle.cs_manifest.proofs.OnManifest.SomeManifest.{some_verdict}
-use Rattle.cs_pattern_parts.specs.declared.tree.kind.Kind.{Kind}
-use Rattle.cs_pattern_parts.specs.declared.tree.kind.Kind.TheVariants as kinds
+use Rattle.cs_pattern_parts.specs.declared.kind.Kind.{Kind}
+use Rattle.cs_pattern_parts.specs.declared.kind.Kind.TheVariants as kinds
 use Rattle.cs_scanner.specs.Scan.Scan.{Scanning, in_common}
 use Rattle.cs_scanner.proofs.OnLexeme.LawProofs as lexeme_laws
 use Rattle.cs_scanner.proofs.OnScan.OneMatch.{runs_one}

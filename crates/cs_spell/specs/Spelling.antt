@@ -4,8 +4,8 @@ use Rattle.cs_choices.specs.declared.weigh.Weigh.{Weigh}
 use Rattle.cs_grammar.specs.Weights.{Weighed, weighed}
 use Rattle.cs_lexical.specs.Winning.{IsLeastIfAny, Wins}
 use Rattle.cs_manifest.specs.Manifest.Manifest.{Texts, measure_of}
-use Rattle.cs_pattern_parts.specs.declared.tree.kind.Kind.{Kind}
-use Rattle.cs_pattern_parts.specs.declared.tree.kind.Kind.TheVariants as kinds
+use Rattle.cs_pattern_parts.specs.declared.kind.Kind.{Kind}
+use Rattle.cs_pattern_parts.specs.declared.kind.Kind.TheVariants as kinds
 use Rattle.cs_scanner.specs.Lexeme.Lexeme.{AreLexemes}
 use Rattle.cs_scanner.specs.Scan.Scan.{Scanning}
 use Rattle.cs_spell.specs.Chosen.{AreRuleVerdicts, HasLarge, HasNoCandidate, IsChosen, RuleVerdict}

@@ -4,7 +4,7 @@ use Rattle.cs_grammar.specs.Grammar.{IsGrammar, IsNumberOf}
 use Rattle.cs_lexical.specs.Least.{AreLeastTexts, LeastTexts}
 use Rattle.cs_manifest.specs.Manifest.Named.{IsNamedRendering}
 use Rattle.cs_manifest.specs.Output.Names.{AreNamedTokens, IsNamedToken}
-use Rattle.cs_pattern_parts.specs.declared.tree.kind.Kind.{Kind}
+use Rattle.cs_pattern_parts.specs.declared.kind.Kind.{Kind}
 use Rattle.cs_scanner.specs.Automaton.Machine.{patterns_of}
 use Rattle.cs_scanner.specs.Scan.Compared.{IsInCommon, scanning}
 use Rattle.cs_scanner.specs.declared.scanning.scanner.Scanner.{Scanner}

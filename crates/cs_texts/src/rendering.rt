@@ -9,7 +9,6 @@
 mod laws;
 mod render_work;
 mod rendered;
-mod sharing;
 mod text;
 
 pub use laws::{one_rendering, some_rendering};

@@ -5,5 +5,4 @@
 //!
 //! Meaning: `specs/Work/Renders.antt` (the lists that the work takes).
 
-mod sharing;
 mod work;

@@ -6,7 +6,7 @@ use Rattle.std.proofs.lemmas.Bool.{cases_lt}
 use Rattle.std.proofs.Math.Seq.{drop-cons, drop-length}
 use Rattle.cs_lex.specs.Reading.Reading.{EndsWithKind}
 use Rattle.cs_lex.proofs.OnReading.LastRules.{last_same}
-use Rattle.cs_pattern_parts.specs.declared.tree.kind.Kind.{Kind}
+use Rattle.cs_pattern_parts.specs.declared.kind.Kind.{Kind}
 use Rattle.cs_yacc.specs.declared.reading.name.TokenName.{TokenName}
 use Rattle.cs_yacc.specs.Reading.File as tokens
 use Rattle.cs_yacc.specs.Reading.File.{IsNamed, NoneNamed}

@@ -1,6 +1,6 @@
 -- Accepted bytes mean one file.
 use Rattle.std.proofs.Common.{◌≡◌, ℕ, List, sym, ap, subst, ◌∙◌}
-use Rattle.cs_pattern_parts.specs.declared.tree.kind.Kind.{Kind}
+use Rattle.cs_pattern_parts.specs.declared.kind.Kind.{Kind}
 use Rattle.cs_pattern_parts.specs.Tree.Pattern.{Regex}
 use Rattle.cs_yacc.specs.Reading.File as tokens
 use Rattle.cs_lex.specs.declared.layout.parts.Definition.{Definition}

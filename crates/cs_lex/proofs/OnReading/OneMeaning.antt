@@ -1,6 +1,6 @@
 -- Rules have one list of patterns, and one list of kinds.
 use Rattle.std.proofs.Common.{◌≡◌, ℕ, List, [], ◌∷◌, sym, subst, ◌∙◌}
-use Rattle.cs_pattern_parts.specs.declared.tree.kind.Kind.{Kind}
+use Rattle.cs_pattern_parts.specs.declared.kind.Kind.{Kind}
 use Rattle.cs_pattern.specs.Operations.Definitions as definitions
 use Rattle.cs_pattern_parts.specs.Tree.Pattern.{Regex}
 use Rattle.cs_pattern.proofs.OnText.OneAnswer.{one_pattern_of}

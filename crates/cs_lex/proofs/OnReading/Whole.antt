@@ -1,7 +1,7 @@
 -- The whole of reading.
 use Rattle.std.proofs.Common.{◌≡◌, ℕ, suc, ◌≤◌, List, [], ◌∷◌, length, refl, sym, ap, subst, ◌∙◌, arith}
 use Rattle.std.specs.Prelude.{All}
-use Rattle.cs_pattern_parts.specs.declared.tree.kind.Kind.{Kind}
+use Rattle.cs_pattern_parts.specs.declared.kind.Kind.{Kind}
 use Rattle.cs_pattern.specs.Text.Checking.{AreAccepted}
 use Rattle.cs_pattern.specs.Operations.Definitions as definitions
 use Rattle.cs_pattern_parts.specs.Tree.Pattern.{Regex, regexes}

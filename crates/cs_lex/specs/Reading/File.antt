@@ -1,7 +1,7 @@
 -- A lex file as contracts see it.
 use Rattle.std.specs.Prelude.{◌≡◌, ℕ, ◌<◌, ◌≤◌, List, All, length}
-use Rattle.cs_pattern_parts.specs.declared.tree.kind.Kind.{Kind}
-use Rattle.cs_pattern_parts.specs.declared.tree.kind.Kind.TheVariants.{Token, OwnByte, Skip, Foreign}
+use Rattle.cs_pattern_parts.specs.declared.kind.Kind.{Kind}
+use Rattle.cs_pattern_parts.specs.declared.kind.Kind.TheVariants.{Token, OwnByte, Skip, Foreign}
 use Rattle.cs_pattern_parts.specs.declared.tree.pattern.Pattern.{Pattern}
 use Rattle.cs_pattern_parts.specs.Tree.Pattern.{Regex, regexes}
 use Rattle.cs_pattern_parts.specs.Tree.Scannable.{AreScannable}

@@ -1,7 +1,7 @@
 -- What the steps of reading answer.
 use Rattle.std.specs.Prelude.{◌≡◌, ℕ, ◌*◌, ◌<◌, ◌≤◌, Option, Some, None, List, [], ◌∷◌, ◌++◌, All, length}
 use Rattle.cs_pattern_parts.specs.declared.tree.pattern.Pattern.{Pattern}
-use Rattle.cs_pattern_parts.specs.declared.tree.kind.Kind.{Kind}
+use Rattle.cs_pattern_parts.specs.declared.kind.Kind.{Kind}
 use Rattle.cs_pattern.specs.Text.Answers.{IsPatternOf, IsFault}
 use Rattle.cs_pattern.specs.Operations.Definitions as definitions
 use Rattle.cs_pattern_parts.specs.Tree.Pattern.{Regex, regex, regexes, leaves}
@@ -15,7 +15,7 @@ use Rattle.cs_lex.specs.declared.reading.error.LexLimit.TheVariants.{Positions}
 use Rattle.std.specs.Global.{Vec}
 use Rattle.cs_lex.specs.declared.reading.error.LexError.TheVariants as errors
 use Rattle.cs_lex.specs.declared.reading.patterns.Collected as code
-use Rattle.cs_pattern_parts.specs.declared.tree.kind.Kind.TheVariants.{Token, Foreign}
+use Rattle.cs_pattern_parts.specs.declared.kind.Kind.TheVariants.{Token, Foreign}
 use Rattle.cs_lex.specs.Reading.Kinds.{action_of, Gives}
 use Rattle.cs_lex.specs.Reading.Patterns.{pattern_of, HavePatterns, positions}
 use Rattle.cs_lex.specs.Reading.Reading.{IsFaulty, IsFaultyDefinition, IsFirstFaulty}

@@ -1,7 +1,7 @@
 -- The kinds of the rules of a lex file (POSIX lex, actions): `|` takes the kind of the next rule.
 use Rattle.std.specs.Prelude.{◌≡◌, ℕ, List, [], ◌∷◌}
-use Rattle.cs_pattern_parts.specs.declared.tree.kind.Kind.{Kind}
-use Rattle.cs_pattern_parts.specs.declared.tree.kind.Kind.TheVariants.{OwnByte, Skip, Foreign}
+use Rattle.cs_pattern_parts.specs.declared.kind.Kind.{Kind}
+use Rattle.cs_pattern_parts.specs.declared.kind.Kind.TheVariants.{OwnByte, Skip, Foreign}
 use Rattle.cs_yacc.specs.declared.reading.name.TokenName.TheVariants.{Word, Byte}
 use Rattle.cs_yacc.specs.Reading.File as tokens
 use Rattle.cs_lex.specs.Actions.Kinds.{ActionKind, bar, skip, word, literal, own_byte, foreign, IsKind}

@@ -1,7 +1,7 @@
 -- The tokens in use of a yacc file, by their names.
 use Rattle.std.specs.Prelude.{◌≡◌, ℕ, ◌<◌, List, slice_index, length}
-use Rattle.cs_pattern_parts.specs.declared.tree.kind.Kind.{Kind}
-use Rattle.cs_pattern_parts.specs.declared.tree.kind.Kind.TheVariants.{Token, Foreign}
+use Rattle.cs_pattern_parts.specs.declared.kind.Kind.{Kind}
+use Rattle.cs_pattern_parts.specs.declared.kind.Kind.TheVariants.{Token, Foreign}
 use Rattle.cs_yacc.specs.declared.reading.name.TokenName.{TokenName}
 use Rattle.cs_yacc.specs.declared.reading.name.TokenName.TheVariants.{Byte}
 use Rattle.cs_yacc.specs.Reading.File as tokens

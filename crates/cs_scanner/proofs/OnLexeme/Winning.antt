@@ -6,8 +6,8 @@ use Rattle.std.proofs.lemmas.Bool.Decides.{nat_tests}
 use Rattle.std.proofs.lemmas.List.{take_all, get_or-set_same, get_or-set_other, length-set, get_or_append_left, get_or_push, get_or_past}
 use Rattle.std.proofs.lemmas.Option.{slice_get_within}
 use Rattle.cs_pattern_parts.specs.Items.StandsFor.{AreBytes}
-use Rattle.cs_pattern_parts.specs.declared.tree.kind.Kind.{Kind}
-use Rattle.cs_pattern_parts.specs.declared.tree.kind.Kind.TheVariants.{Token, OwnByte, Skip, Foreign}
+use Rattle.cs_pattern_parts.specs.declared.kind.Kind.{Kind}
+use Rattle.cs_pattern_parts.specs.declared.kind.Kind.TheVariants.{Token, OwnByte, Skip, Foreign}
 use Rattle.cs_scanner.specs.Automaton.Machine.{Machine, StateOf, IsBegun, MatchesRule, patterns_of}
 use Rattle.cs_scanner.specs.Scan.Scan.{Scanning, literal_token, given, IsMatch}
 use Rattle.cs_scanner.specs.declared.lexeme.steps.Step.{Step}

@@ -4,8 +4,8 @@ use Rattle.std.specs.Prelude.{Option, None, Some, slice_get, slice_index}
 use Rattle.std.proofs.lemmas.Bool.{cases_lt}
 use Rattle.std.proofs.lemmas.Option.{slice_get_within, slice_get-get_or}
 use Rattle.cs_pattern_parts.specs.Tree.Pattern.{Regex}
-use Rattle.cs_pattern_parts.specs.declared.tree.kind.Kind.{Kind}
-use Rattle.cs_pattern_parts.specs.declared.tree.kind.Kind.TheVariants.{Token, OwnByte, Skip, Foreign}
+use Rattle.cs_pattern_parts.specs.declared.kind.Kind.{Kind}
+use Rattle.cs_pattern_parts.specs.declared.kind.Kind.TheVariants.{Token, OwnByte, Skip, Foreign}
 use Rattle.cs_scanner.specs.Automaton.Machine.{MatchesRule}
 use Rattle.cs_scanner.specs.Scan.Scan.{Scanning, Gives, GivesNone, IsMatch, IsStop, StopsThere, StopsThereAlone, nothing_matches, is_foreign, has_no_literal, given, literal_token}
 use Rattle.cs_scanner.proofs.OnScan.OneMatch.{match_one}

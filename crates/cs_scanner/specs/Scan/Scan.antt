@@ -2,8 +2,8 @@
 -- bytes is chosen, and of those that match as many, the rule given first).
 use Rattle.std.specs.Prelude.{◌≡◌, ◌≢◌, ℕ, suc, ◌+◌, ◌-◌, ◌<◌, ◌≤◌, Bool, true, false, List, [], ◌∷◌, ◌++◌, Option, Some, None, length, take, drop, slice_get, slice_index, if◌then◌else◌, nat_lt, ◌==◌}
 use Rattle.cs_pattern_parts.specs.Tree.Pattern.{Regex}
-use Rattle.cs_pattern_parts.specs.declared.tree.kind.Kind.{Kind}
-use Rattle.cs_pattern_parts.specs.declared.tree.kind.Kind.TheVariants.{Token, OwnByte, Skip, Foreign}
+use Rattle.cs_pattern_parts.specs.declared.kind.Kind.{Kind}
+use Rattle.cs_pattern_parts.specs.declared.kind.Kind.TheVariants.{Token, OwnByte, Skip, Foreign}
 use Rattle.cs_scanner.specs.Automaton.Machine.{MatchesRule}
 
 -- A match at the front of the text: some rule matches so many bytes, at least 1, none matches more, and this is the lowest

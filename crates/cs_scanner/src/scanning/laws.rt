@@ -5,7 +5,6 @@ ghost use Rattle.cs_pattern_parts.specs.Tree.Pattern.{Regex};
 ghost use Rattle.cs_scanner.specs.Scan.Scan.{AreOneMatch, AreOneScan, AreOneStop, HasScan, IsStopOrWhole, Scanning, StopsThere, StopsThereAlone};
 
 use crate::scanning::scanner::Scanner;
-use cs_pattern_parts::take_shared;
 
 /// A text has at most one match at its front.
 pub fn one_match()
@@ -39,7 +38,10 @@ pub fn three_stops()
     ensures alone { (s : Scanning) (text : List ℕ) → StopsThereAlone s text }
 {}
 
-/// Threads may share a scanner, and so its automaton.
+// Takes what threads may share.
+fn take_shared<T: Sync>(_value: &T) {}
+
+/// Threads may share a scanner, and so its automaton with its patterns, and its kinds.
 pub fn shared_scanner(scanner: &Scanner<'_>) {
     take_shared(scanner);
 }

@@ -3,7 +3,7 @@ use Rattle.std.proofs.Common.{◌≡◌, ℕ, zero, suc, ◌+◌, ◌-◌, ◌<�
 use Rattle.std.specs.Prelude.{Option, IfSome, slice_get}
 use Rattle.std.proofs.lemmas.List.{length-take-le, take-take, take-append-le}
 use Rattle.cs_pattern_parts.specs.Tree.Pattern.{Regex}
-use Rattle.cs_pattern_parts.specs.declared.tree.kind.Kind.{Kind}
+use Rattle.cs_pattern_parts.specs.declared.kind.Kind.{Kind}
 use Rattle.cs_scanner.specs.Automaton.Machine.{MatchesRule, IsBegun}
 use Rattle.cs_scanner.specs.Scan.Scan.{Scanning, IsLongest, IsMatch, Gives, given}
 use Rattle.cs_scanner.specs.Scan.Best.{IsBest}

@@ -3,8 +3,8 @@ use Rattle.std.proofs.Common.{◌≡◌, ℕ, ◌+◌, ◌-◌, ◌<◌, ◌≤�
 use Rattle.std.specs.Prelude.{All, IfSome}
 use Rattle.std.proofs.lemmas.List.Elements.{All-head, All-tail, All-weaker}
 use Rattle.std.proofs.lemmas.List.{drop_all, drop_at, drop-append-le, take-append-le}
-use Rattle.cs_pattern_parts.specs.declared.tree.kind.Kind.{Kind}
-use Rattle.cs_pattern_parts.specs.declared.tree.kind.Kind.TheVariants.{Token, OwnByte, Skip, Foreign}
+use Rattle.cs_pattern_parts.specs.declared.kind.Kind.{Kind}
+use Rattle.cs_pattern_parts.specs.declared.kind.Kind.TheVariants.{Token, OwnByte, Skip, Foreign}
 use Rattle.cs_scanner.specs.Automaton.Machine.{MatchesRule}
 use Rattle.cs_scanner.specs.Scan.Compared.{scanning}
 use Rattle.cs_scanner.specs.Scan.Going.{IsBegunBy}

@@ -1,7 +1,7 @@
 -- What the first bytes of a text settle of its scan, whatever comes behind them.
 use Rattle.std.specs.Prelude.{◌≡◌, ◌⊎◌, ℕ, ◌+◌, ◌≤◌, List, [], ◌∷◌, ◌++◌, Option, Some, None, IfSome, length, take, drop, slice_index}
 use Rattle.cs_pattern_parts.specs.Tree.Pattern.{Regex}
-use Rattle.cs_pattern_parts.specs.declared.tree.kind.Kind.{Kind}
+use Rattle.cs_pattern_parts.specs.declared.kind.Kind.{Kind}
 use Rattle.cs_scanner.specs.Scan.Scan.{Scanning, IsLongest, Gives, given}
 use Rattle.cs_scanner.specs.Scan.Going.{IsBegunBy}
 use Rattle.cs_texts.specs.declared.splice.step.GivenToken.{GivenToken}

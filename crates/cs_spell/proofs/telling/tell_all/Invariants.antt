@@ -1,6 +1,6 @@
 use Rattle.std.proofs.Common.{◌≡◌, ℕ, suc, Some, length}
 use Rattle.std.specs.Prelude.{slice_get}
-use Rattle.cs_pattern_parts.specs.declared.tree.kind.Kind.{Kind}
+use Rattle.cs_pattern_parts.specs.declared.kind.Kind.{Kind}
 use Rattle.cs_spell.specs.Seen.{all_told, making_of}
 use Rattle.cs_spell.specs.Spelling.{IsTold}
 use Rattle.cs_spell.specs.Told as spec

@@ -1,6 +1,6 @@
 -- One place more that doesn't give its own byte, or the first that does.
 use Rattle.std.proofs.Common.{arith, rules, ◌≡◌, Some, ℕ, List, Option, subst}
-use Rattle.cs_pattern_parts.specs.declared.tree.kind.Kind.{Kind}
+use Rattle.cs_pattern_parts.specs.declared.kind.Kind.{Kind}
 use Rattle.cs_scanner.specs.Automaton.Machine.{StateOf}
 use Rattle.cs_scanner.specs.Scan.Compared.{scanning}
 use Rattle.cs_scanner.specs.Lexeme.Kinds.{own_byte, IsKindOf}

@@ -1,8 +1,8 @@
 -- A match that gives tokens is the longest match, and its kind gives none.
 use Rattle.std.proofs.Common.{◌≡◌, ℕ, ◌-◌, List, Some, None, slice_get, subst, ap, sym, ◌∙◌}
 use Rattle.std.proofs.lemmas.Option.{get_or_from_slice_get}
-use Rattle.cs_pattern_parts.specs.declared.tree.kind.Kind.{Kind}
-use Rattle.cs_pattern_parts.specs.declared.tree.kind.Kind.TheVariants.{Token}
+use Rattle.cs_pattern_parts.specs.declared.kind.Kind.{Kind}
+use Rattle.cs_pattern_parts.specs.declared.kind.Kind.TheVariants.{Token}
 use Rattle.cs_scanner.specs.declared.scanning.comparing.GivenOrStop.{GivenOrStop}
 use Rattle.cs_scanner.specs.declared.scanning.comparing.GivenOrStop.TheVariants.{Stop}
 use Rattle.cs_scanner.specs.Scan.Going.{tokens_of}

@@ -4,8 +4,8 @@ use Rattle.std.specs.Prelude.{slice_get}
 use Rattle.std.proofs.lemmas.List.{get_or_append_left, length-map}
 use Rattle.std.proofs.lemmas.Option.{slice_get-get_or, slice_get_within}
 use Rattle.cs_pattern_parts.specs.Tree.Pattern.{regex}
-use Rattle.cs_pattern_parts.specs.declared.tree.kind.Kind.{Kind}
-use Rattle.cs_pattern_parts.specs.declared.tree.kind.Kind.TheVariants.{Token}
+use Rattle.cs_pattern_parts.specs.declared.kind.Kind.{Kind}
+use Rattle.cs_pattern_parts.specs.declared.kind.Kind.TheVariants.{Token}
 use Rattle.cs_scanner.specs.Scan.Compared.{scanning}
 use Rattle.cs_scanner.specs.Scan.Scan.{IsLongest, IsMatch}
 use Rattle.cs_texts.proofs.OnSplice.Settling.{step_made}

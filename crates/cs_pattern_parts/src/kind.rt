@@ -1,4 +1,7 @@
-// What a rule's action does with a match.
+//! What a rule's action gives for a match.
+//!
+//! The readers of lex files settle the [`Kind`] of each rule, and the scanners act by it. There is no folder of `specs/`: definitions
+//! above say what a kind means.
 
 /// What a match of a rule gives.
 #[derive(Clone, Copy, Debug, PartialEq, Eq)]
