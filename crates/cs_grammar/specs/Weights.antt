@@ -20,9 +20,9 @@ pub record IsMeasure (w : Measure) : Type 0 where
 abbrev pub capped : ℕ → ℕ → ℕ
 capped limit n = min n (limit + 1)
 
--- nodes are counted: each of so many tokens has the number 1
-abbrev pub nodes : ℕ → Measure
-nodes tokens = record { numbers = replicate tokens 1; limit = 10000 }
+-- nodes are counted, up to a limit: each of so many tokens has the number 1
+abbrev pub nodes : ℕ → ℕ → Measure
+nodes tokens limit = record { numbers = replicate tokens 1; limit = limit }
 
 -- the number of a token whose text has this length, or that has no text: short texts are cheap, and none is dear
 abbrev pub byte_weight : Option ℕ → ℕ

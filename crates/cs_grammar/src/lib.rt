@@ -45,10 +45,6 @@ pub use stack::put_on_top;
 pub use symbol::{Mark, Symbol};
 pub use weights::{Weights, byte_weight};
 
-/// The most nodes that a derivation tree may have to be written out, where nodes are counted. A larger one is only known
-/// to exist.
-pub const LIMIT: u32 = 10_000;
-
 /// The most that the number of a token or the limit of weights may be.
 pub const MOST_WEIGHT: u32 = 1_000_000;
 

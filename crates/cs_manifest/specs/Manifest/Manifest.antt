@@ -29,6 +29,7 @@ use Rattle.cs_manifest.specs.declared.manifest.verdict.SharedVerdict.{SharedVerd
 use Rattle.cs_manifest.specs.declared.manifest.verdict.SharedVerdict.TheVariants as shared
 use Rattle.cs_choices.specs.declared.format.Format.{Format}
 use Rattle.cs_choices.specs.declared.format.Format.TheVariants.{One, Two}
+use Rattle.cs_choices.specs.Limits.{byte_limit, node_limit}
 use Rattle.cs_choices.specs.declared.weigh.Weigh.{Weigh}
 use Rattle.cs_choices.specs.declared.weigh.Weigh.TheVariants.{Nodes, Bytes}
 use Rattle.cs_verdicts.specs.Closed.Closed.{AreClosedSets, ClosedSets}
@@ -72,12 +73,12 @@ LexemeList = List (Option (List ℕ))
 
 -- bytes are counted: each token has the number of its lexeme's length
 abbrev pub byte_measure : LexemeList → Measure
-byte_measure lexemes = record { numbers = map (λ text. byte_weight (option_map length text)) lexemes; limit = 100000 }
+byte_measure lexemes = record { numbers = map (λ text. byte_weight (option_map length text)) lexemes; limit = byte_limit }
 
 -- how trees are measured where there are so many tokens: by their nodes, or by the bytes of these lexemes, where there are some
 abbrev pub measure_of : Weigh → ℕ → Option LexemeList → Measure
-measure_of Nodes tokens lexemes = nodes tokens
-measure_of Bytes tokens None = nodes tokens
+measure_of Nodes tokens lexemes = nodes tokens node_limit
+measure_of Bytes tokens None = nodes tokens node_limit
 measure_of Bytes tokens (Some lexemes) = byte_measure lexemes
 
 -- what goals' own texts are made by: in the second format cases have texts, and goals have none

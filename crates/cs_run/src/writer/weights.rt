@@ -5,13 +5,10 @@ ghost use Rattle.cs_grammar.specs.Weights.{byte_weight};
 ghost use Rattle.cs_scanner.specs.Lexeme.Lexeme.{lexeme_in};
 ghost use Rattle.cs_manifest.specs.Manifest.Manifest.{byte_measure, measure_of};
 
-use cs_choices::Weigh;
+use cs_choices::{BYTE_LIMIT, NODE_LIMIT, Weigh};
 use cs_grammar::{Weights, byte_weight};
 use cs_scanner::Lexemes;
 use std::alloc::{AllocError, Global};
-
-// The size above which a tree is only known to exist, where bytes are counted.
-const BYTE_LIMIT: u32 = 100_000;
 
 /// The weights of what sizes count, for so many tokens with these lexemes.
 pub(crate) fn weights_of(
@@ -24,7 +21,7 @@ pub(crate) fn weights_of(
     ensures { IfOk result (λ weights. weights ≡ measure_of weigh tokens (Some lexemes.now)) }
 {
     match weigh {
-        Weigh::Nodes => Weights::nodes(alloc, tokens),
+        Weigh::Nodes => Weights::nodes(alloc, tokens, NODE_LIMIT),
         Weigh::Bytes => byte_weights(alloc, lexemes, tokens),
     }
 }
