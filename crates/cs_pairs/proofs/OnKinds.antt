@@ -10,6 +10,7 @@ pub mod FirstLeast
 pub mod KindsSettled
 pub mod Placing
 pub mod Dear
+pub mod Alone
 pub mod Roots
 pub mod Written
 pub mod Numbers

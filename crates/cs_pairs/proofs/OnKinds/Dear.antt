@@ -12,7 +12,7 @@ use Rattle.cs_pairs.proofs.OnKinds.Joined.{joined_cases}
 use Rattle.cs_pairs.proofs.OnKinds.Placing.{behind_twice}
 
 -- where no tree at all is of a kind, the trees before one of the kind are of it too
-bare_kind : (k : TreeKind) → IsOfKind k [] → before k ≡ k
+pub bare_kind : (k : TreeKind) → IsOfKind k [] → before k ≡ k
 bare_kind Any h = refl
 bare_kind Empty h = refl
 bare_kind (Begins b) h = let e = h.1 in absurd cc

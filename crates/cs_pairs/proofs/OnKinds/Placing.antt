@@ -33,7 +33,7 @@ use Rattle.cs_pairs.proofs.OnKinds.ChosenKinds.{IsTree-of_kind, AreTrees-of_kind
 at_before : (k : TreeKind) (place i : ℕ) → i < place → kind_at k place i ≡ before k
 at_before k place i h = grind (arith, nat_tests)
 
-at_own : (k : TreeKind) (i : ℕ) → kind_at k i i ≡ k
+pub at_own : (k : TreeKind) (i : ℕ) → kind_at k i i ≡ k
 at_own k i = grind (arith, nat_tests)
 
 at_behind : (k : TreeKind) (place i : ℕ) → place < i → kind_at k place i ≡ behind k

@@ -1,6 +1,6 @@
 // The rule at the root of a chosen tree of a kind, and where in its right side the kind itself goes on.
 
-ghost use Rattle.std.specs.Prelude.{◌≡◌, ◌+◌, ◌<◌, All, length};
+ghost use Rattle.std.specs.Prelude.{◌≡◌, ◌+◌, ◌<◌, ◌∷◌, [], All, length};
 ghost use Rattle.cs_grammar.specs.Grammar.{IsNumberOf, IsSymbolOf};
 ghost use Rattle.cs_least.specs.Cost.Rank.{IsCapped};
 ghost use Rattle.cs_pairs.specs.Kinds.Tables.{AreCosts};
@@ -64,8 +64,37 @@ fn placed_over(
     }
 }
 
-// All symbols, swept from the last to the first.
+// One symbol alone: its tree is of the kind itself.
+#[inline(always)]
+fn placed_alone(kinds: &Kinds, rows: &KindRows, symbol: Symbol) -> Placed
+    requires rows { AreRowsBeside kinds.now rows.now }
+    requires symbol { IsSymbolOf kinds.now.grammar symbol }
+    ensures { IsPlacedIn kinds.now rows.now.kind (symbol ∷ []) result }
+{
+    Placed {
+        whole: kinds.told_by(rows.own, rows.kind, symbol),
+        rest: kinds.told_by(rows.behind, rows.kind.behind(), symbol),
+        place: 0,
+    }
+}
+
+// All symbols. Most often there is one.
+#[inline(always)]
 pub(crate) fn placed_in(kinds: &Kinds, rows: &KindRows, symbols: &[Symbol]) -> Placed
+    requires rows { AreRowsBeside kinds.now rows.now }
+    requires symbols { All (IsSymbolOf kinds.now.grammar) symbols.now }
+    ensures { IsPlacedIn kinds.now rows.now.kind symbols.now result }
+{
+    if symbols.len() == 1 {
+        placed_alone(kinds, rows, symbols[0])
+    } else {
+        placed_among(kinds, rows, symbols)
+    }
+}
+
+// All symbols, swept from the last to the first.
+#[inline(never)]
+fn placed_among(kinds: &Kinds, rows: &KindRows, symbols: &[Symbol]) -> Placed
     requires rows { AreRowsBeside kinds.now rows.now }
     requires symbols { All (IsSymbolOf kinds.now.grammar) symbols.now }
     ensures { IsPlacedIn kinds.now rows.now.kind symbols.now result }
@@ -142,6 +171,7 @@ fn place_within(kinds: &Kinds, rows: &KindRows, right: &[Symbol], cost: Cost) ->
 }
 
 // The root of the chosen tree of a kind and a nonterminal.
+#[inline(never)]
 pub(crate) fn root_of(kinds: &Kinds, rows: &KindRows, left: u16) -> Root
     requires rows { AreRowsBeside kinds.now rows.now }
     requires left { IsNumberOf kinds.now.grammar.nonterminals left }

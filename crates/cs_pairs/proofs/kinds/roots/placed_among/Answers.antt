@@ -4,7 +4,7 @@ use Rattle.cs_grammar.specs.declared.symbol.Symbol.TheVariants.{Token}
 use Rattle.cs_pairs.specs.Kinds.ListCost.{bare_cost}
 use Rattle.cs_pairs.specs.Kinds.Beside.{IsPlacedFrom}
 use Rattle.cs_pairs.proofs.OnKinds.Placing.{placed_none, placed_next}
-use Rattle.cs_pairs.proofs.kinds.roots.placed_in.Goals as goal
+use Rattle.cs_pairs.proofs.kinds.roots.placed_among.Goals as goal
 
 pub loop-index-init : goal.loop-index-init
 loop-index-init c = placed_none c.args.kinds.now c.args.rows.now.kind c.args.symbols.now _ _ c.bare_cost.ensures (c.bare_cost-2.ensures ∙ ap bare_cost c.behind.ensures)
