@@ -18,4 +18,5 @@ pub mod Flat
 pub mod Parts
 pub mod Clauses
 pub mod Beside
+pub mod Known
 pub mod Laws

@@ -10,12 +10,13 @@
 //!
 //! Of the files in `specs/Kinds/` these say what is meant: `Kinds`, `KindCost`, `ChosenKind`, `Flat`, `Numbers` and `Laws`; and of others
 //! `IsSwept` (`Sweep`), `HasSwept`, `IsSweptOver` and `AppendsIn` (`Clauses`), `HasSmallOfKind` and `HaveSmallOfKind` (`Parts`),
-//! `AreStepsToEnds` (`Nets`) and `IsStepCost` (`RimsOf`). The rest has working words of proofs: what rows, rims, sweeps and
-//! pending parts hold.
+//! `AreStepsToEnds` (`Nets`) and `IsStepCost` (`RimsOf`). The rest has working words of proofs: what rows, rims, sweeps,
+//! known roots and pending parts hold.
 
 mod empties;
 mod kind;
 mod kinds;
+mod known;
 mod laws;
 mod lefts;
 mod nets;

@@ -10,11 +10,13 @@ ghost use Rattle.cs_pairs.specs.Kinds.RowsOf.{AreTablesOf};
 ghost use Rattle.cs_pairs.specs.Kinds.Beside.{AreRowsBeside};
 ghost use Rattle.cs_pairs.specs.Kinds.Tables.{AreCosts};
 ghost use Rattle.cs_pairs.specs.Kinds.KindCost.{IsKindCost};
+ghost use Rattle.cs_pairs.specs.Kinds.Known.{AreKnownIn};
 ghost use Rattle.cs_pairs.specs.Kinds.Lefts.{AreLefts, AreRulesWith};
 ghost use Rattle.cs_pairs.specs.Kinds.Nets.{AreStepsToEnds};
 
 use crate::kinds::empties::empty_row;
 use crate::kinds::kind::TreeKind;
+use crate::kinds::known::{KnownRoot, known_roots};
 use crate::kinds::lefts::lefts_of;
 use crate::kinds::nets::{net_of, token_rows};
 use crate::kinds::rims::Bases;
@@ -26,13 +28,14 @@ use cs_least::{Cost, Costs, Embeds, Steps, cost_of, is_below, plus, turned};
 use std::alloc::{AllocError, Global};
 use std::marker::Model;
 
-/// What the least trees of each kind and symbol of a grammar cost, by some weights, and the rules of each nonterminal, over
-/// the least contexts and the least trees of any kind.
+/// What the least trees of each kind and symbol of a grammar cost, by some weights, the rules of each nonterminal, and roots of
+/// chosen trees that were found ahead, over the least contexts and the least trees of any kind.
 #[derive(Debug, Drop)]
 pub struct Kinds<'g> {
     embeds: Embeds<'g>,
     rows: Rows,
     lefts: Vec<Vec<u16>>,
+    known: Vec<Option<KnownRoot>>,
 }
 
 // What the least trees of each nonterminal cost that are of a kind, of the kind before it, and of the kind behind it.
@@ -61,7 +64,7 @@ impl<'g> Model for Kinds<'g> {
 
     ghost view = { λ k. k.embeds };
 
-    ghost invariant = { λ k. AreKindsOf k.embeds.weights k.embeds.grammar k.rows k.lefts.items };
+    ghost invariant = { λ k. AreKindsOf k.embeds k.rows k.lefts.items k.known.items };
 }
 
 impl<'g> Kinds<'g> {
@@ -71,11 +74,15 @@ impl<'g> Kinds<'g> {
     {
         let rows = rows_of(alloc, embeds.costs())?;
         let lefts = lefts_of(alloc, embeds.grammar())?;
-        Ok(Kinds {
+        let mut kinds = Kinds {
             embeds,
             rows,
             lefts,
-        })
+            known: Vec::new(alloc),
+        };
+        let known = known_roots(alloc, &kinds)?;
+        kinds.known = known;
+        Ok(kinds)
     }
 
     /// The grammar that these are the kinds of trees of.
@@ -133,6 +140,14 @@ impl<'g> Kinds<'g> {
         ensures { AreRulesWith self.now.grammar left result.now }
     {
         &self.lefts[place_of(left)]
+    }
+
+    // Roots of chosen trees that were found ahead.
+    #[inline(always)]
+    pub(crate) fn known(&self) -> &[Option<KnownRoot>]
+        ensures { AreKnownIn self.now result.now }
+    {
+        &self.known
     }
 
     /// The weights by which trees are measured here.

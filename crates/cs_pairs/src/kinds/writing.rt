@@ -10,7 +10,8 @@ ghost use Rattle.cs_pairs.specs.Kinds.Clauses.{ArePutFirst, OpensUp, HasSmallIn,
 
 use crate::kinds::kind::TreeKind;
 use crate::kinds::kinds::Kinds;
-use crate::kinds::roots::{placed_in, root_of};
+use crate::kinds::known::chosen_root;
+use crate::kinds::roots::placed_in;
 use cs_grammar::{Derivation, Symbol};
 use std::alloc::{AllocError, Global};
 
@@ -74,7 +75,7 @@ fn open_part(
         (OpensUp kinds.now kind left pending.old pending.new into.old into.new) }
     ensures grown { IsGrown into.old into.new }
 {
-    let root = root_of(kinds, &kinds.rows_beside(kind), left);
+    let root = chosen_root(kinds, kind, left);
     into.push(root.number)?;
     let right = kinds.grammar().rule(root.number).right();
     put_first(pending, kind, root.place, right)
