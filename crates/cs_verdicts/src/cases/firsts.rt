@@ -194,7 +194,7 @@ impl Firsts {
         ensures added { OnOk result (AreAllAdded self.old (Rule rule ∷ []) case self.new) }
         ensures grown { IsGrown self.old self.new }
     {
-        self.put(Goal::Rule(rule), case)
+        self.add(Goal::Rule(rule), case)
     }
 
     // Adds a context and the rule that it shows, where they have no number.
@@ -217,7 +217,7 @@ impl Firsts {
         if self.is_recent(number) {
             return Ok(());
         }
-        self.put(Goal::Rule(inner), case)?;
+        self.add(Goal::Rule(inner), case)?;
         let goal = Goal::Context {
             outer,
             place,
@@ -233,11 +233,21 @@ impl Firsts {
         ensures added { OnOk result (AreAllAdded self.old (Pair left right ∷ []) case self.new) }
         ensures grown { IsGrown self.old self.new }
     {
-        let number = goal_number(Goal::Pair { left, right });
+        self.add(Goal::Pair { left, right }, case)
+    }
+
+    // Adds a goal where it has no number.
+    #[inline(always)]
+    fn add(&mut self, goal: Goal, case: u64) -> Result<(), AllocError>
+        requires { IsRuled self.old goal }
+        ensures added { OnOk result (AreAllAdded self.old (goal ∷ []) case self.new) }
+        ensures grown { IsGrown self.old self.new }
+    {
+        let number = goal_number(goal);
         if self.is_recent(number) {
             return Ok(());
         }
-        self.put(Goal::Pair { left, right }, case)?;
+        self.put(goal, case)?;
         self.keep_recent(number);
         Ok(())
     }
