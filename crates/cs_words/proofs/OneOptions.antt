@@ -151,24 +151,35 @@ one_format value Two Two one other = refl
 
 -- ---- all options
 
-abbrev options_of : Criteria → Operators → ℕ → List ℕ → Weigh → Format → Slips → Option ℕ → Options
-options_of criteria operators bases separator weigh format slips first =
-    record { criteria = criteria; operators = operators; bases = bases; separator = separator; weigh = weigh; format = format; slips = slips; first = first }
+-- each field of both is the same
+record AreAlike (a b : Options) : Type 0 where
+  criteria : a.criteria ≡ b.criteria
+  operators : a.operators ≡ b.operators
+  bases : a.bases ≡ b.bases
+  separator : a.separator ≡ b.separator
+  weigh : a.weigh ≡ b.weigh
+  format : a.format ≡ b.format
+  slips : a.slips ≡ b.slips
+  first : a.first ≡ b.first
 
-by_fields : (c d : Criteria) (o p : Operators) (m n : ℕ) (s t : List ℕ) (w v : Weigh) (f g : Format) (k l : Slips) (i j : Option ℕ) → c ≡ d → o ≡ p → m ≡ n → s ≡ t → w ≡ v → f ≡ g → k ≡ l → i ≡ j → options_of c o m s w f k i ≡ options_of d p n t v g l j
-by_fields c d o p m n s t w v f g k l i j e1 e2 e3 e4 e5 e6 e7 e8 = rw (e1, e2, e3, e4, e5, e6, e7, e8) refl
+alike_are_one : (a b : Options) → AreAlike a b → a ≡ b
+alike_are_one a b same =
+    let by_fields : a ≡ record { criteria = b.criteria; operators = b.operators; bases = b.bases; separator = b.separator; weigh = b.weigh; format = b.format; slips = b.slips; first = b.first } =
+    rw (← same.criteria, ← same.operators, ← same.bases, ← same.separator, ← same.weigh, ← same.format, ← same.slips, ← same.first) refl in by_fields
 
 pub one_options : (c : Command) (words : List (List ℕ)) → AreNew c [] words → (a b : Options) → AreOptions words a → AreOptions words b → a ≡ b
 one_options c words new a b one other =
-    by_fields a.criteria b.criteria a.operators b.operators a.bases b.bases a.separator b.separator a.weigh b.weigh a.format b.format a.slips b.slips a.first b.first
-    (one_or kind.Cover (codes "--criteria=") (λ x. refl) one_criteria c words new default_options.criteria a.criteria b.criteria one.criteria other.criteria)
-    (one_or kind.Mutate (codes "--mutate=") (λ x. refl) one_operators c words new default_options.operators a.operators b.operators one.operators other.operators)
-    (one_or kind.Bases (codes "--bases=") (λ x. refl) (λ value x y is also. is.number ∙ sym also.number) c words new default_options.bases a.bases b.bases one.bases other.bases)
-    (one_or kind.Separate (codes "--separator=") (λ x. refl) (λ value x y is also. one_spelling x y value is.0 also.0) c words new default_options.separator a.separator b.separator one.separator other.separator)
-    (one_or kind.Weigh (codes "--weigh=") (λ x. refl) one_weigh c words new default_options.weigh a.weigh b.weigh one.weigh other.weigh)
-    (one_or kind.Format (codes "--format=") (λ x. refl) one_format c words new default_options.format a.format b.format one.format other.format)
-    (one_or kind.Slip (codes "--slips=") (λ x. refl) one_slips c words new default_options.slips a.slips b.slips one.slips other.slips)
-    (one_given kind.First (codes "--first=") (λ x. refl) (λ value x y is also. is.spelled.number ∙ sym also.spelled.number) c words new a.first b.first one.first other.first)
+    alike_are_one a b (record {
+      criteria = one_or kind.Cover (codes "--criteria=") (λ x. refl) one_criteria c words new default_options.criteria a.criteria b.criteria one.criteria other.criteria;
+      operators = one_or kind.Mutate (codes "--mutate=") (λ x. refl) one_operators c words new default_options.operators a.operators b.operators one.operators other.operators;
+      bases = one_or kind.Bases (codes "--bases=") (λ x. refl) (λ value x y is also. is.number ∙ sym also.number) c words new default_options.bases a.bases b.bases one.bases other.bases;
+      separator =
+          one_or kind.Separate (codes "--separator=") (λ x. refl) (λ value x y is also. one_spelling x y value is.0 also.0) c words new default_options.separator a.separator b.separator one.separator other.separator;
+      weigh = one_or kind.Weigh (codes "--weigh=") (λ x. refl) one_weigh c words new default_options.weigh a.weigh b.weigh one.weigh other.weigh;
+      format = one_or kind.Format (codes "--format=") (λ x. refl) one_format c words new default_options.format a.format b.format one.format other.format;
+      slips = one_or kind.Slip (codes "--slips=") (λ x. refl) one_slips c words new default_options.slips a.slips b.slips one.slips other.slips;
+      first = one_given kind.First (codes "--first=") (λ x. refl) (λ value x y is also. is.spelled.number ∙ sym also.spelled.number) c words new a.first b.first one.first other.first;
+    })
 
 -- ---- seeds
 
