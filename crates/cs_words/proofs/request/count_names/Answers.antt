@@ -1,5 +1,5 @@
 -- One word more may be a name, up to the most or up to one that may not be.
-use Rattle.std.proofs.Common.{◌≡◌, ◌+◌, false, take, sym, ap, ◌∙◌, subst, arith}
+use Rattle.std.proofs.Common.{◌≡◌, false, take, sym, ap, ◌∙◌, subst, arith}
 use Rattle.std.specs.Prelude.{IsTrue, string_bytes}
 use Rattle.cs_words.specs.Steps.{AreNames}
 use Rattle.cs_words.specs.Words.{is_name, texts}
