@@ -1,6 +1,6 @@
 // An output: a lent sink behind a lent line of bytes that wait for it, with a count of the bytes that it got.
 
-ghost use Rattle.std.specs.Prelude.{◌≡◌, ◌%◌, ◌+◌, ◌++◌, ◌∷◌, ◌<◌, ◌≤◌, IfOk, OnErr, OnOk, false, true, [], decimal, length, take};
+ghost use Rattle.std.specs.Prelude.{◌≡◌, ◌/◌, ◌%◌, ◌+◌, ◌++◌, ◌∷◌, ◌<◌, ◌≤◌, IfOk, OnErr, OnOk, false, true, [], decimal, length, take};
 ghost use Rattle.cs_bytes.specs.Names.{space};
 ghost use Rattle.cs_io.specs.Lines.{Writes};
 
@@ -295,33 +295,39 @@ fn put_digits(line: &mut [u8; LINE_LENGTH], at: usize, number: u16) -> usize
     let tens = number / 10;
     let hundreds = tens / 10;
     if number < 10 {
-        put_front::<1>(line, at, &[digit(number)]);
+        put_front::<1>(line, at, &[digit(number, 0)]);
         at + 1
     } else if number < 100 {
-        put_front::<2>(line, at, &[digit(tens), digit(number)]);
+        put_front::<2>(line, at, &[digit(tens, 0), digit(number, tens)]);
         at + 2
     } else if number < 1000 {
-        put_front::<3>(line, at, &[digit(hundreds), digit(tens), digit(number)]);
+        let digits = [
+            digit(hundreds, 0),
+            digit(tens, hundreds),
+            digit(number, tens),
+        ];
+        put_front::<3>(line, at, &digits);
         at + 3
     } else {
         let thousands = hundreds / 10;
         let digits = [
-            digit(thousands),
-            digit(hundreds),
-            digit(tens),
-            digit(number),
+            digit(thousands, 0),
+            digit(hundreds, thousands),
+            digit(tens, hundreds),
+            digit(number, tens),
         ];
         put_front::<4>(line, at, &digits);
         at + 4
     }
 }
 
-// The last digit of a number.
+// The last digit of a number, by its tens, which are worked out once.
 #[inline(always)]
-fn digit(number: u16) -> u8
+fn digit(number: u16, tens: u16) -> u8
+    requires { tens ≡ number / 10 }
     ensures { result ≡ 48 + number % 10 }
 {
-    b'0' + (number % 10) as u8
+    b'0' + (number - 10 * tens) as u8
 }
 
 // Puts a space and a word behind it into a line.
