@@ -40,6 +40,7 @@ pub fn put_symbol<S: Sink>(output: &mut Output<'_, S>, file: &YaccFile, symbol: 
 }
 
 /// A token's name behind a space.
+#[inline(always)]
 pub fn put_spaced_token<S: Sink>(output: &mut Output<'_, S>, file: &YaccFile, token: u16)
     requires { names.IsNamedToken file.now token }
     ensures { Puts S.Sink (space ∷ names.token_of file.now token) output.old output.new }
