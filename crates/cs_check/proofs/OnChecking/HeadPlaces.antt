@@ -18,8 +18,20 @@ use Rattle.cs_check.proofs.OnChecking.HeadNext.{state, all_next}
 
 -- ---- how many lines there are
 
-same_state : (w p r e f l n w' p' r' e' f' l' n' : ℕ) → w ≡ w' → p ≡ p' → r ≡ r' → e ≡ e' → f ≡ f' → l ≡ l' → n ≡ n' → state w p r e f l n ≡ state w' p' r' e' f' l' n'
-same_state w p r e f l n w' p' r' e' f' l' n' a b c d x y z = cc
+-- both count the same of each kind
+record HaveSameCounts (s t : State) : Type 0 where
+  weighs : s.weighs ≡ t.weighs
+  productive : s.productive ≡ t.productive
+  reachable : s.reachable ≡ t.reachable
+  empty : s.empty ≡ t.empty
+  firsts : s.firsts ≡ t.firsts
+  lasts : s.lasts ≡ t.lasts
+  nexts : s.nexts ≡ t.nexts
+
+same_state : (s t : State) → HaveSameCounts s t → s ≡ t
+same_state s t same =
+    let by_kinds : s ≡ record { weighs = t.weighs; productive = t.productive; reachable = t.reachable; empty = t.empty; firsts = t.firsts; lasts = t.lasts; nexts = t.nexts } =
+    rw (← same.weighs, ← same.productive, ← same.reachable, ← same.empty, ← same.firsts, ← same.lasts, ← same.nexts) refl in by_kinds
 
 -- one more, where a line tells something of a kind
 abbrev with_told : {X : Type 0} → Option X → ℕ → ℕ
@@ -38,16 +50,15 @@ module _ (lines : List Line) (l : Line) where
 
   state_with : state_of (lines ++ l ∷ []) ≡ with_line l (state_of lines)
   state_with =
-      let t = state_of (lines ++ l ∷ []) in
-      let s = with_line l (state_of lines) in
-      same_state t.weighs t.productive t.reachable t.empty t.firsts t.lasts t.nexts s.weighs s.productive s.reachable s.empty s.firsts s.lasts s.nexts
-      (count weigh_in (weigh_in l) refl)
-      (count (set_in Productive) (set_in Productive l) refl)
-      (count (set_in Reachable) (set_in Reachable l) refl)
-      (count (set_in Empty) (set_in Empty l) refl)
-      (count (row_in First) (row_in First l) refl)
-      (count (row_in Last) (row_in Last l) refl)
-      (count (row_in Next) (row_in Next l) refl)
+      same_state (state_of (lines ++ l ∷ [])) (with_line l (state_of lines)) (record {
+        weighs = count weigh_in (weigh_in l) refl;
+        productive = count (set_in Productive) (set_in Productive l) refl;
+        reachable = count (set_in Reachable) (set_in Reachable l) refl;
+        empty = count (set_in Empty) (set_in Empty l) refl;
+        firsts = count (row_in First) (row_in First l) refl;
+        lasts = count (row_in Last) (row_in Last l) refl;
+        nexts = count (row_in Next) (row_in Next l) refl;
+      })
 
   state_by : (same : Line) → l ≡ same → state_of (lines ++ l ∷ []) ≡ with_line same (state_of lines)
   state_by same e = state_with ∙ ap (λ (k : Line). with_line k (state_of lines)) e
