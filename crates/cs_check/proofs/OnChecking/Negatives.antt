@@ -15,7 +15,6 @@ use Rattle.cs_grammar.specs.declared.symbol.Symbol.{Symbol}
 use Rattle.cs_goals.specs.declared.goal.Goal.{Goal}
 use Rattle.cs_yacc.specs.Reading.File.{File}
 use Rattle.cs_lines.specs.Words.Edits.{EditWords, IsEdited, FitsList}
-use Rattle.cs_lines.specs.declared.lines.line.Counts as held
 use Rattle.cs_lines.specs.Lines.Line.{GoalWords, VerdictWords, Feasible, Infeasible, Large, Line, BaseLine, NegativeLine}
 use Rattle.cs_check.specs.declared.checking.entries.Entries.{Entries}
 use Rattle.cs_check.specs.Passing.Above.{size_in, derivation_in, goal_in, verdict_in, base_in, edit_in, case_sizes, derivations, verdicts, base_goals, edits}
@@ -96,19 +95,25 @@ case_within file lines e t Large goal number has is = omega arith
 
 -- ---- a line that tells nothing of cases and goals
 
-module _ (file : File) (lines : List Line) (e : Entries) (t : AreEntries file lines e) (few : length lines + 1 < 4294967296) (l : Line) where
-  entries_with : derivation_in l ≡ None → verdict_in l ≡ None → goal_in l ≡ None → size_in l ≡ None → (tokens base : Vec ℕ) (bases : ℕ) (counts : held.Counts) → AreSized (part_of (last_part lines) l) (case_sizes lines) e.cases.list e.size → HasTold file (lines ++ l ∷ []) (part_of (last_part lines) l) tokens.items → bases ≡ length (base_goals (lines ++ l ∷ [])) → HasBase file.grammar (lines ++ l ∷ []) (part_of (last_part lines) l) base.items → counts.negatives ≡ length (edits (lines ++ l ∷ [])) → counts.goals ≡ e.counts.goals → counts.feasible ≡ e.counts.feasible → counts.infeasible ≡ e.counts.infeasible → counts.large ≡ e.counts.large → counts.cases ≡ e.counts.cases → AreEntries file (lines ++ l ∷ []) (record e { tokens = tokens; base = base; bases = bases; counts = counts })
-  entries_with no_rules no_verdict no_goal no_size tokens base bases counts sized told many based negatives goals feasible infeasible large cases =
+record TellsNoGoal (l : Line) : Type 0 where
+  derivation : derivation_in l ≡ None
+  verdict : verdict_in l ≡ None
+  goal : goal_in l ≡ None
+  size : size_in l ≡ None
+
+module _ (file : File) (lines : List Line) (e : Entries) (t : AreEntries file lines e) (few : length lines + 1 < 4294967296) (l : Line) (tells : TellsNoGoal l) where
+  entries_with : (tokens base : Vec ℕ) (bases negatives : ℕ) → AreSized (part_of (last_part lines) l) (case_sizes lines) e.cases.list e.size → HasTold file (lines ++ l ∷ []) (part_of (last_part lines) l) tokens.items → bases ≡ length (base_goals (lines ++ l ∷ [])) → HasBase file.grammar (lines ++ l ∷ []) (part_of (last_part lines) l) base.items → negatives ≡ length (edits (lines ++ l ∷ [])) → AreEntries file (lines ++ l ∷ []) (record e { tokens = tokens; base = base; bases = bases; counts = record e.counts { negatives = negatives } })
+  entries_with tokens base bases negatives sized told many based counted =
       let lines' = lines ++ l ∷ [] in
       let long = length-append lines (l ∷ []) in
-      let verdicts_same = kept verdict_in lines l no_verdict in
-      let goals_same = kept goal_in lines l no_goal in
-      let sizes_same = kept size_in lines l no_size in
+      let verdicts_same = kept verdict_in lines l tells.verdict in
+      let goals_same = kept goal_in lines l tells.goal in
+      let sizes_same = kept size_in lines l tells.size in
       let part = last_part_more lines l in
       record {
         few = omega arith;
         grammar = t.grammar;
-        rules = t.rules ∙ sym (kept derivation_in lines l no_rules);
+        rules = t.rules ∙ sym (kept derivation_in lines l tells.derivation);
         sizes =
             subst (λ (p : Part). AreSized p (case_sizes lines') e.cases.list e.size) (sym part)
             (subst (λ (s : List ℕ). AreSized (part_of (last_part lines) l) s e.cases.list e.size) (sym sizes_same) sized);
@@ -120,8 +125,8 @@ module _ (file : File) (lines : List Line) (e : Entries) (t : AreEntries file li
         bases = many;
         base = subst (λ (p : Part). HasBase file.grammar lines' p base.items) (sym part) based;
         counts =
-            counts_with lines lines' e.counts t.counts goals_same verdicts_same counts goals feasible infeasible large negatives
-            (cases ∙ t.counts.cases ∙ sym (ap (λ (x : List ℕ). length x) sizes_same));
+            counts_with lines lines' e.counts t.counts goals_same verdicts_same negatives e.counts.cases counted
+            (t.counts.cases ∙ sym (ap (λ (x : List ℕ). length x) sizes_same));
       }
 
 -- ---- a base line
@@ -169,13 +174,12 @@ module _ (file : File) (lines : List Line) (e : Entries) (t : AreEntries file li
         let verdicts_same = kept verdict_in lines l refl in
         let bases_more = added base_in lines l goal refl in
         let edits_same = kept edit_in lines l refl in
-        entries_with file lines e t few l refl refl refl refl e.tokens tokens k e.counts
+        entries_with file lines e t few l (record { derivation = refl; verdict = refl; goal = refl; size = refl }) e.tokens tokens k e.counts.negatives
         (plain_sizes (last_part lines) (case_sizes lines) e.cases.list e.size (no_case_before (last_part lines) OfBase follows base_behind_case) t.sizes)
         tt
         (count ∙ ap (λ (i : ℕ). i + 1) t.bases ∙ sym (ap (λ (x : List ℕ). length x) bases_more ∙ length_push (base_goals lines) goal))
         (based lines' rules_same verdicts_same bases_more)
         (t.counts.negatives ∙ sym (ap (λ (x : List EditWords). length x) edits_same))
-        refl refl refl refl refl
 
   -- ---- a negative line
 
@@ -204,13 +208,12 @@ module _ (file : File) (lines : List Line) (e : Entries) (t : AreEntries file li
         let bases_same = kept base_in lines l refl in
         let edits_more = added edit_in lines l edit refl in
         let base_then = base_kept file lines lines' (kept derivation_in lines l refl) (kept verdict_in lines l refl) bases_same e.base.items base_known in
-        entries_with file lines e t few l refl refl refl refl tokens e.base e.bases (record e.counts { negatives = k })
+        entries_with file lines e t few l (record { derivation = refl; verdict = refl; goal = refl; size = refl }) tokens e.base e.bases k
         (plain_sizes (last_part lines) (case_sizes lines) e.cases.list e.size (no_case_before (last_part lines) OfNegative follows negative_behind_case) t.sizes)
         (edit, subst (λ (x : List EditWords). IsLast x edit) (sym edits_more) (last_push (edits lines) edit), (e.base.items, base_then, edited))
         (t.bases ∙ sym (ap (λ (x : List ℕ). length x) bases_same))
         base_then
         (count ∙ ap (λ (i : ℕ). i + 1) t.counts.negatives ∙ sym (ap (λ (x : List EditWords). length x) edits_more ∙ length_push (edits lines) edit))
-        refl refl refl refl refl
 
     module _ (one : (x : Symbol) (t : Tree) → IsTree file.grammar x t → IsPrefixFree file.grammar x t) (edit : EditWords) (tokens : List ℕ) where
       -- what doesn't fit the last base doesn't fit

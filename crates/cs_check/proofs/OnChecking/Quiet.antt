@@ -65,7 +65,7 @@ module _ (file : File) (lines : List Line) (e : Entries) (t : AreEntries file li
           bases = t.bases ∙ sym (ap (λ (x : List ℕ). length x) bases_same);
           base = subst (λ (q : Part). HasBase file.grammar lines' q e.base.items) (sym part) base;
           counts =
-              counts_with lines lines' e.counts t.counts goals_same verdicts_same e.counts refl refl refl refl
+              counts_with lines lines' e.counts t.counts goals_same verdicts_same e.counts.negatives e.counts.cases
               (t.counts.negatives ∙ sym (ap (λ (x : List EditWords). length x) edits_same))
               (t.counts.cases ∙ sym (ap (λ (x : List ℕ). length x) sizes_same));
         }

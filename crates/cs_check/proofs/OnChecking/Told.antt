@@ -77,14 +77,14 @@ module _ (file : File) (lines lines' : List Line) (same_rules : derivations line
 
 -- what is counted, where neither goals nor verdicts are more
 module _ (lines lines' : List Line) (old : held.Counts) (t : AreCounts lines old) (goals_same : goals_in lines' ≡ goals_in lines) (verdicts_same : verdicts lines' ≡ verdicts lines) where
-  pub counts_with : (new : held.Counts) → new.goals ≡ old.goals → new.feasible ≡ old.feasible → new.infeasible ≡ old.infeasible → new.large ≡ old.large → new.negatives ≡ length (edits lines') → new.cases ≡ length (case_sizes lines') → AreCounts lines' new
-  counts_with new goals feasible infeasible large negatives cases = record {
-    goals = goals ∙ t.goals ∙ sym (ap (λ (x : List GoalWords). length x) goals_same);
-    feasible = feasible ∙ t.feasible ∙ sym (ap (λ (x : List VerdictWords). count_by is_feasible x) verdicts_same);
-    infeasible = infeasible ∙ t.infeasible ∙ sym (ap (λ (x : List VerdictWords). count_by is_infeasible x) verdicts_same);
-    large = large ∙ t.large ∙ sym (ap (λ (x : List VerdictWords). count_by is_large x) verdicts_same);
-    negatives = negatives;
-    cases = cases;
+  pub counts_with : (negatives cases : ℕ) → negatives ≡ length (edits lines') → cases ≡ length (case_sizes lines') → AreCounts lines' (record old { negatives = negatives; cases = cases })
+  counts_with negatives cases negatives_are cases_are = record {
+    goals = t.goals ∙ sym (ap (λ (x : List GoalWords). length x) goals_same);
+    feasible = t.feasible ∙ sym (ap (λ (x : List VerdictWords). count_by is_feasible x) verdicts_same);
+    infeasible = t.infeasible ∙ sym (ap (λ (x : List VerdictWords). count_by is_infeasible x) verdicts_same);
+    large = t.large ∙ sym (ap (λ (x : List VerdictWords). count_by is_large x) verdicts_same);
+    negatives = negatives_are;
+    cases = cases_are;
   }
 
 -- ---- which parts may follow
@@ -209,7 +209,7 @@ module _ (file : File) (lines : List Line) (e : Entries) (t : AreEntries file li
         bases = t.bases ∙ sym (ap (λ (x : List ℕ). length x) bases_same);
         base = subst (λ (p : Part). HasBase file.grammar lines' p e.base.items) (sym part) tt;
         counts =
-            counts_with lines lines' e.counts t.counts goals_same verdicts_same (record e.counts { cases = k }) refl refl refl refl
+            counts_with lines lines' e.counts t.counts goals_same verdicts_same e.counts.negatives k
             (t.counts.negatives ∙ sym (ap (λ (x : List EditWords). length x) edits_same))
             (count ∙ ap (λ (i : ℕ). i + 1) t.counts.cases ∙ sym (ap (λ (x : List ℕ). length x) sizes_more ∙ length_push (case_sizes lines) s));
       }
