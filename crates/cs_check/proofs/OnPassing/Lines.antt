@@ -15,6 +15,7 @@ use Rattle.cs_check.specs.Passing.Manifest.{AreLines, HaveAll, AreRight}
 use Rattle.cs_check.specs.Checking.Judging.{IsRight}
 use Rattle.cs_lines.proofs.OnTexts.OneLine.{one_line}
 use Rattle.cs_check.proofs.OnChecking.Judging.{right_faultless, end_faultless}
+use Rattle.cs_check.proofs.OnChecking.Kinds.{all_faults}
 use Rattle.cs_check.proofs.OnPassing.First.{Bare, Ended, back}
 
 -- ---- one list
@@ -129,27 +130,12 @@ right_more c lines line right here above l below e f =
     ]
 
 module _ (c : Checked) (above : List Line) (l : Line) where
-  by_fault : Has c Form above l → Has c Head above l → Has c Unclosed above l → Has c Derive above l → Has c Size above l → Has c Yield above l → Has c Scan above l → Has c Goal above l → Has c Infeasible above l → Has c Base above l → Has c Edit above l → Has c Pair above l → Has c Totals above l → IsRight c above l
-  by_fault h1 h2 h3 h4 h5 h6 h7 h8 h9 h10 h11 h12 h13 Form = h1
-  by_fault h1 h2 h3 h4 h5 h6 h7 h8 h9 h10 h11 h12 h13 Head = h2
-  by_fault h1 h2 h3 h4 h5 h6 h7 h8 h9 h10 h11 h12 h13 Unclosed = h3
-  by_fault h1 h2 h3 h4 h5 h6 h7 h8 h9 h10 h11 h12 h13 Derive = h4
-  by_fault h1 h2 h3 h4 h5 h6 h7 h8 h9 h10 h11 h12 h13 Size = h5
-  by_fault h1 h2 h3 h4 h5 h6 h7 h8 h9 h10 h11 h12 h13 Yield = h6
-  by_fault h1 h2 h3 h4 h5 h6 h7 h8 h9 h10 h11 h12 h13 Scan = h7
-  by_fault h1 h2 h3 h4 h5 h6 h7 h8 h9 h10 h11 h12 h13 Goal = h8
-  by_fault h1 h2 h3 h4 h5 h6 h7 h8 h9 h10 h11 h12 h13 Infeasible = h9
-  by_fault h1 h2 h3 h4 h5 h6 h7 h8 h9 h10 h11 h12 h13 Base = h10
-  by_fault h1 h2 h3 h4 h5 h6 h7 h8 h9 h10 h11 h12 h13 Edit = h11
-  by_fault h1 h2 h3 h4 h5 h6 h7 h8 h9 h10 h11 h12 h13 Pair = h12
-  by_fault h1 h2 h3 h4 h5 h6 h7 h8 h9 h10 h11 h12 h13 Totals = h13
-
   -- what is so of each fault, as it can't be otherwise, is so of all
   right_of : ((f : ClaimFault) → (Has c f above l → ⊥) → ⊥) → (IsRight c above l → ⊥) → ⊥
   right_of h never =
       h Form (λ h1. h Head (λ h2. h Unclosed (λ h3. h Derive (λ h4. h Size (λ h5. h Yield (λ h6. h Scan (λ h7. h Goal (λ h8.
       h Infeasible (λ h9. h Base (λ h10. h Edit (λ h11. h Pair (λ h12. h Totals (λ h13.
-      never (by_fault h1 h2 h3 h4 h5 h6 h7 h8 h9 h10 h11 h12 h13))))))))))))))
+      never (all_faults (λ (f : ClaimFault). Has c f above l) h1 h2 h3 h4 h5 h6 h7 h8 h9 h10 h11 h12 h13))))))))))))))
 
   -- a line with no fault is right
   module _ (pieces : List (List ℕ)) (piece : List ℕ) (are : AllZip Says pieces above) (says : Says piece l) where
