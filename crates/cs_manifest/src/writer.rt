@@ -5,8 +5,8 @@
 //! seen as its head and the counts of what was written so far. An entry that is filled has the lines of that negative, and is put
 //! by copying.
 //!
-//! Meaning: `specs/Writer/Progress` (what contracts see of a manifest) and `Entry` (which lines stand for an entry). Working words
-//! of proofs: `Below`.
+//! Meaning: `specs/Writer/Progress` (what contracts see of a manifest, and of a sink that lines were written to) and `Entry` (which
+//! lines stand for an entry). Working words of proofs: `Below`.
 
 mod entry;
 mod manifest;

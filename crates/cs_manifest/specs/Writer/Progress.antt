@@ -1,6 +1,9 @@
 -- What contracts see of a manifest.
-use Rattle.std.specs.Prelude.{ℕ, List, Option}
+use Rattle.std.specs.Prelude.{ℕ, List, MatchResult, Option, Result}
 use Rattle.cs_io.specs.Faults.{next_count}
+use Rattle.cs_io.specs.Lines.{IsCutShort, IsWritten}
+use Rattle.cs_io.specs.declared.sink.Sink as Sink
+use Rattle.cs_io.specs.declared.sink.SinkError.{SinkError}
 use Rattle.cs_yacc.specs.Reading.File.{File}
 use Rattle.cs_manifest.specs.declared.manifest.counts.Counts.{Counts}
 use Rattle.cs_manifest.specs.declared.writer.entry.Entry.{Entry}
@@ -44,3 +47,8 @@ behind_entry file counts entry = with_lines (with_entry counts entry) (lines_of 
 -- the manifest behind one more entry
 abbrev pub behind : Progress → Entry → Progress
 behind progress entry = record progress { counts = behind_entry progress.file progress.counts entry }
+
+module _ {S : Type 0} (g : Sink.Ghosts S) where
+  -- The answer says what the writing of these lines did to a sink: it took them whole, or a prefix of them and had no room for all.
+  abbrev pub TellsLines : {A : Type 0} → Result A SinkError → List ℕ → S → S → Type 0
+  TellsLines result lines old new = MatchResult result (λ _. IsWritten g lines old new) (λ _. IsCutShort g lines old new)

@@ -1,13 +1,12 @@
 // The manifest, written part by part.
 
-ghost use Rattle.std.specs.Prelude.{◌≡◌, ◌≤◌, IfOk, IsOk, OnErr, OnOk, option_map};
-ghost use Rattle.cs_io.specs.Faults.{Rose, next_count};
-ghost use Rattle.cs_io.specs.Lines.{HasRoom, LeavesRoom, Took, TookPart};
+ghost use Rattle.std.specs.Prelude.{◌≡◌, IfOk, OnErr, OnOk, option_map};
+ghost use Rattle.cs_io.specs.Faults.{next_count};
 ghost use Rattle.cs_manifest.specs.Manifest.Counts as spec;
 ghost use Rattle.cs_manifest.specs.Manifest.Counts.{behind_end, end_of, with_shared_verdict, with_verdict};
 ghost use Rattle.cs_manifest.specs.Writer.Entry.{IsNamedEntry};
 ghost use Rattle.cs_manifest.specs.Manifest.Head.{IsNamedHead, first_cases, head_of, sharing_in};
-ghost use Rattle.cs_manifest.specs.Writer.Progress.{begun, behind, lines_in, with_entry as counted};
+ghost use Rattle.cs_manifest.specs.Writer.Progress.{TellsLines, begun, behind, lines_in, with_entry as counted};
 
 use crate::manifest::{Counts, Form, Head, SharedVerdict};
 use crate::output::{LINE_LENGTH, Output};
@@ -46,23 +45,7 @@ impl<'a> Manifest<'a> {
     pub fn begin<S: Sink>(sink: &mut S, head: &Head<'a>) -> Result<Manifest<'a>, SinkError>
         requires { IsNamedHead head.now }
         ensures value { IfOk result (λ manifest. manifest ≡ begun head.now) }
-
-        // What the sink got.
-        ensures ok { OnOk result (Took S.written sink.old sink.new (head_of head.now)) }
-        ensures err { OnErr result (TookPart S.written sink.old sink.new (head_of head.now)) }
-
-        // The faults.
-        ensures no_fault { OnOk result (S.faults sink.new ≡ S.faults sink.old) }
-        ensures fault { OnErr result (Rose (S.faults sink.old) (S.faults sink.new)) }
-        ensures faults_never_fall { S.faults sink.old ≤ S.faults sink.new }
-
-        // A sink with room for the lines takes them.
-        ensures ok_with_room { HasRoom S.room sink.old (head_of head.now) → IsOk result }
-        ensures room { OnOk result (LeavesRoom S.room sink.old sink.new (head_of head.now)) }
-
-        // The lent sink.
-        ensures same_lent { S.lent sink.new ≡ S.lent sink.old }
-        ensures passed_never_falls { S.passed sink.old ≤ S.passed sink.new }
+        ensures lines { TellsLines S.Sink result (head_of head.now) sink.old sink.new }
     {
         let mut line = [0u8; LINE_LENGTH];
         let mut output = Output::new(sink, &mut line, 0);
@@ -81,26 +64,7 @@ impl<'a> Manifest<'a> {
         requires { IsNamedEntry self.old.file entry.now }
         ensures value { OnOk result (self.new ≡ behind self.old entry.now) }
         ensures unchanged { OnErr result (self.new ≡ self.old) }
-
-        // What the sink got.
-        ensures ok { OnOk result (Took S.written sink.old sink.new (lines_in self.old entry.now)) }
-        ensures err { OnErr result (
-            TookPart S.written sink.old sink.new (lines_in self.old entry.now)) }
-
-        // The faults.
-        ensures no_fault { OnOk result (S.faults sink.new ≡ S.faults sink.old) }
-        ensures fault { OnErr result (Rose (S.faults sink.old) (S.faults sink.new)) }
-        ensures faults_never_fall { S.faults sink.old ≤ S.faults sink.new }
-
-        // A sink with room for the lines takes them.
-        ensures ok_with_room { HasRoom S.room sink.old (lines_in self.old entry.now)
-            → IsOk result }
-        ensures room { OnOk result (
-            LeavesRoom S.room sink.old sink.new (lines_in self.old entry.now)) }
-
-        // The lent sink.
-        ensures same_lent { S.lent sink.new ≡ S.lent sink.old }
-        ensures passed_never_falls { S.passed sink.old ≤ S.passed sink.new }
+        ensures lines { TellsLines S.Sink result (lines_in self.old entry.now) sink.old sink.new }
     {
         let mut output = Output::new(sink, &mut self.line, self.counts.bytes);
         put_entry(&mut output, self.head.yacc, entry);
@@ -112,25 +76,7 @@ impl<'a> Manifest<'a> {
     /// Writes the end, with the counts of the entries, and answers these and the length of all lines.
     pub fn finish<S: Sink>(self, sink: &mut S) -> Result<Counts, SinkError>
         ensures counts { IfOk result (λ counts. counts ≡ behind_end self.entry.counts) }
-
-        // What the sink got.
-        ensures ok { OnOk result (Took S.written sink.old sink.new (end_of self.entry.counts)) }
-        ensures err { OnErr result (
-            TookPart S.written sink.old sink.new (end_of self.entry.counts)) }
-
-        // The faults.
-        ensures no_fault { OnOk result (S.faults sink.new ≡ S.faults sink.old) }
-        ensures fault { OnErr result (Rose (S.faults sink.old) (S.faults sink.new)) }
-        ensures faults_never_fall { S.faults sink.old ≤ S.faults sink.new }
-
-        // A sink with room for the lines takes them.
-        ensures ok_with_room { HasRoom S.room sink.old (end_of self.entry.counts) → IsOk result }
-        ensures room { OnOk result (
-            LeavesRoom S.room sink.old sink.new (end_of self.entry.counts)) }
-
-        // The lent sink.
-        ensures same_lent { S.lent sink.new ≡ S.lent sink.old }
-        ensures passed_never_falls { S.passed sink.old ≤ S.passed sink.new }
+        ensures lines { TellsLines S.Sink result (end_of self.entry.counts) sink.old sink.new }
     {
         let mut line = [0u8; LINE_LENGTH];
         let mut output = Output::new(sink, &mut line, self.counts.bytes);

@@ -1,17 +1,15 @@
 -- What the writing of a negative did, from what is known of its lines.
-use Rattle.std.proofs.Common.{◌≡◌, ◌≤◌, ℕ, List, refl, sym, ap, ◌∙◌, subst}
-use Rattle.std.specs.Prelude.{Err, IsOk, Ok, OnErr, OnOk, Option, Result, Some, unwrap_or}
+use Rattle.std.proofs.Common.{◌≡◌, ℕ, List, refl, sym, ap, ◌∙◌, subst}
+use Rattle.std.specs.Prelude.{Err, Ok, OnErr, OnOk, Option, Result, Some, unwrap_or}
 use Rattle.std.specs.Borrow.{Bor}
-use Rattle.cs_io.specs.Faults.{Rose}
 use Rattle.cs_io.specs.declared.sink.Sink as Sink
 use Rattle.cs_io.specs.declared.sink.SinkError.{SinkError}
-use Rattle.cs_io.specs.Lines.{HasRoom, IsCutShort, IsWritten, LeavesRoom, Took, TookPart}
-use Rattle.cs_io.proofs.Called.{is_cut, is_written}
+use Rattle.cs_io.specs.Lines.{IsCutShort, IsWritten}
 use Rattle.cs_manifest.specs.Manifest.Counts.{with_lines}
 use Rattle.cs_manifest.specs.Writer.Entry.{lines_of}
 use Rattle.cs_manifest.specs.Manifest.Lines.{negative_lines}
 use Rattle.cs_manifest.specs.Manifest.Manifest.{NegativeEntry}
-use Rattle.cs_manifest.specs.Writer.Progress.{Progress, behind, lines_in}
+use Rattle.cs_manifest.specs.Writer.Progress.{Progress, TellsLines, behind, lines_in}
 use Rattle.cs_manifest.specs.declared.manifest.counts.Counts.{Counts}
 use Rattle.cs_manifest.specs.declared.writer.entry.Entry.{Entry}
 use Rattle.cs_manifest.specs.declared.writer.entry.Entry.TheVariants.{Negative as numbered}
@@ -59,22 +57,18 @@ entry_behind making n number entry old is = ap (λ (k : Counts). record old { co
 module _ {S : Type 0} (g : Sink.Ghosts S) (making : Making) (n : Negative) (number : ℕ) (old new : Progress) (before after : S) where
   -- what a manifest says of the writing of these lines
   pub writes_lines : (told : NegativeEntry) (lines : List ℕ) → IsOfNegative making.tools.work making.base n told → lines ≡ made_lines making number told
-      → (result : Result Unit SinkError) → OnOk result (new ≡ behind_negative old lines) → OnErr result (new ≡ old)
-      → OnOk result (Took g.written before after lines) → OnErr result (TookPart g.written before after lines)
-      → OnErr result (Rose (g.faults before) (g.faults after)) → g.faults before ≤ g.faults after
-      → (HasRoom g.room before lines → IsOk result) → OnOk result (g.faults after ≡ g.faults before) → OnOk result (LeavesRoom g.room before after lines)
-      → g.lent after ≡ g.lent before → g.passed before ≤ g.passed after
+      → (result : Result Unit SinkError) → OnOk result (new ≡ behind_negative old lines) → OnErr result (new ≡ old) → TellsLines g result lines before after
       → WritesNegative g making n number old before new after result
-  writes_lines told lines of is (Ok x) value unchanged ok err fault faults fits no_fault room lent passed = record {
+  writes_lines told lines of is (Ok x) value unchanged written = record {
     told = told;
     of = of;
-    lines = subst (λ (l : List ℕ). IsWritten g l before after) is (is_written g lines before after ok no_fault room lent passed);
+    lines = subst (λ (l : List ℕ). IsWritten g l before after) is written;
     counts = value ∙ ap (behind_negative old) is;
   }
-  writes_lines told lines of is (Err e) value unchanged ok err fault faults fits no_fault room lent passed = record {
+  writes_lines told lines of is (Err e) value unchanged cut = record {
     told = told;
     of = of;
-    lines = subst (λ (l : List ℕ). IsCutShort g l before after) is (is_cut g lines before after err fault faults (λ has. let no = fits has in cc) lent passed);
+    lines = subst (λ (l : List ℕ). IsCutShort g l before after) is cut;
     counts = unchanged;
   }
 

@@ -9,7 +9,6 @@ use Rattle.cs_manifest.specs.Writer.Entry.{lines_of}
 use Rattle.cs_writing.specs.Plan.Made.{case_lines_in}
 use Rattle.cs_manifest.specs.Writer.Progress.{Progress}
 use Rattle.cs_manifest.specs.declared.manifest.counts.Counts.{Counts}
-use Rattle.cs_io.proofs.Called.{is_cut, is_written}
 use Rattle.cs_writing.proofs.writing.goals.write_case.Goals as goal
 
 pub returns-in-None-clause-counted : goal.returns-in-None-clause-counted
@@ -27,12 +26,9 @@ entry-requires g c = c.in-Some.ensures.named c.args.manifest.now.file c.requires
 
 pub returns-in_err-entry-in-Some-clause-lines : goal.returns-in_err-entry-in-Some-clause-lines
 returns-in_err-entry-in-Some-clause-lines g c =
-    let e = c.in_err-entry-in-Some.ensures in
     let file = c.args.manifest.now.file in
-    let lines = lines_of file c.in-Some.case in
-    let cut = is_cut g.S.Sink lines c.args.sink.now c.entry.new.sink e.err e.fault e.faults_never_fall (λ fits. let no = e.ok_with_room fits in cc) e.same_lent e.passed_never_falls in
     let p = err_from_is_err_and c.from_residual.result c.from_residual.ensures.1 in
-    rw p.1 (subst (λ (l : List ℕ). IsCutShort g.S.Sink l c.args.sink.now c.entry.new.sink) (c.in-Some.ensures.lines file) cut)
+    rw p.1 (subst (λ (l : List ℕ). IsCutShort g.S.Sink l c.args.sink.now c.entry.new.sink) (c.in-Some.ensures.lines file) c.in_err-entry-in-Some.ensures.lines)
 
 pub returns-in_ok-entry-in-Some-clause-counted : goal.returns-in_ok-entry-in-Some-clause-counted
 returns-in_ok-entry-in-Some-clause-counted g c =
@@ -46,8 +42,5 @@ returns-in_ok-entry-in-Some-clause-counted g c =
 
 pub returns-in_ok-entry-in-Some-clause-lines : goal.returns-in_ok-entry-in-Some-clause-lines
 returns-in_ok-entry-in-Some-clause-lines g c =
-    let e = c.in_ok-entry-in-Some.ensures in
     let file = c.args.manifest.now.file in
-    let lines = lines_of file c.in-Some.case in
-    let written = is_written g.S.Sink lines c.args.sink.now c.entry.new.sink e.ok e.no_fault e.room e.same_lent e.passed_never_falls in
-    subst (λ (l : List ℕ). IsWritten g.S.Sink l c.args.sink.now c.entry.new.sink) (c.in-Some.ensures.lines file) written
+    subst (λ (l : List ℕ). IsWritten g.S.Sink l c.args.sink.now c.entry.new.sink) (c.in-Some.ensures.lines file) c.in_ok-entry-in-Some.ensures.lines

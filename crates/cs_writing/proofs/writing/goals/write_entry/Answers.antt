@@ -9,7 +9,6 @@ use Rattle.cs_manifest.specs.Writer.Progress.{Progress}
 use Rattle.cs_manifest.specs.declared.manifest.counts.Counts.{Counts}
 use Rattle.cs_writing.specs.Plan.Made.{IsNamedMade, goal_lines_in}
 use Rattle.cs_yacc.specs.Reading.File.{File}
-use Rattle.cs_io.proofs.Called.{is_cut, is_written}
 use Rattle.cs_writing.proofs.writing.goals.write_entry.Goals as goal
 
 pub returns-in_err-write_case-clause-lines : goal.returns-in_err-write_case-clause-lines
@@ -28,14 +27,12 @@ line_is now file lines line same is = is ∙ ap lines same
 
 pub returns-in_err-entry-clause-lines : goal.returns-in_err-entry-clause-lines
 returns-in_err-entry-clause-lines g c =
-    let e = c.in_err-entry.ensures in
     let now = c.write_case.new.manifest.file in
     let made = c.args.made.now in
     let line = lines_of now c.goal.result in
     let is = line_is now c.args.manifest.now.file (λ (f : File). goal_lines_in f c.args.number made made.shared) line c.in_ok-write_case.ensures.file (c.goal.ensures.lines now) in
-    let cut = is_cut g.S.Sink line c.write_case.new.sink c.entry.new.sink e.err e.fault e.faults_never_fall (λ fits. let no = e.ok_with_room fits in cc) e.same_lent e.passed_never_falls in
     let p = err_from_is_err_and c.from_residual-in_err-entry.result c.from_residual-in_err-entry.ensures.1 in
-    rw p.1 (written_cut c.in_ok-write_case.ensures.lines (subst (λ (l : List ℕ). IsCutShort g.S.Sink l c.write_case.new.sink c.entry.new.sink) is cut))
+    rw p.1 (written_cut c.in_ok-write_case.ensures.lines (subst (λ (l : List ℕ). IsCutShort g.S.Sink l c.write_case.new.sink c.entry.new.sink) is c.in_err-entry.ensures.lines))
 
 pub returns-clause-counted : goal.returns-clause-counted
 returns-clause-counted g c =
@@ -50,10 +47,8 @@ returns-clause-counted g c =
 
 pub returns-clause-lines : goal.returns-clause-lines
 returns-clause-lines g c =
-    let e = c.in_ok-entry.ensures in
     let now = c.write_case.new.manifest.file in
     let made = c.args.made.now in
     let line = lines_of now c.goal.result in
     let is = line_is now c.args.manifest.now.file (λ (f : File). goal_lines_in f c.args.number made made.shared) line c.in_ok-write_case.ensures.file (c.goal.ensures.lines now) in
-    let written = is_written g.S.Sink line c.write_case.new.sink c.entry.new.sink e.ok e.no_fault e.room e.same_lent e.passed_never_falls in
-    written_then c.in_ok-write_case.ensures.lines (subst (λ (l : List ℕ). IsWritten g.S.Sink l c.write_case.new.sink c.entry.new.sink) is written)
+    written_then c.in_ok-write_case.ensures.lines (subst (λ (l : List ℕ). IsWritten g.S.Sink l c.write_case.new.sink c.entry.new.sink) is c.in_ok-entry.ensures.lines)

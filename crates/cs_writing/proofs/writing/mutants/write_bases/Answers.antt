@@ -17,7 +17,6 @@ use Rattle.cs_io.specs.declared.halt.Halt.TheVariants.{Failed, Memory}
 use Rattle.cs_mutate.specs.Negatives.{Search}
 use Rattle.cs_writing.specs.Writing.Mutants.{IsEditable, negatives_in}
 use Rattle.cs_writing.proofs.OnWriting.Batch.{StandsAt, stands_at}
-use Rattle.cs_io.proofs.Called.{is_cut, is_written}
 use Rattle.cs_writing.proofs.OnWriting.Mutated.{base_cut, base_memory, base_stops, bases_all, bases_counted, bases_more, bases_none, bases_refused, without_bases}
 use Rattle.cs_writing.proofs.OnWriting.OneBase.{one_base_stops, one_base_written}
 use Rattle.cs_writing.proofs.OnWriting.Parts.{bases_text_stop}
@@ -40,9 +39,7 @@ editable g c = All-at (IsEditable c.args.plan.now.yacc.now.grammar.tokens) c.arg
 
 -- its line was written
 first : (g : Over) (c : In_ok-entry g) → IsWritten g.S.Sink (base_line (c.loop-index.index + 1) c.get-goal.result.0) c.loop-index.sink c.entry.new.sink
-first g c =
-    let e = c.in_ok-entry.ensures in
-    is_written g.S.Sink (base_line (c.loop-index.index + 1) c.get-goal.result.0) c.loop-index.sink c.entry.new.sink e.ok e.no_fault e.room e.same_lent e.passed_never_falls
+first g c = c.in_ok-entry.ensures.lines
 
 file_is : (g : Over) (c : In_ok-entry g) → c.entry.new.self.file ≡ c.args.plan.now.yacc.now
 file_is g c = ap (λ (q : Progress). q.file) c.in_ok-entry.ensures.value ∙ c.loop-index.invariant.file ∙ c.requires.file
@@ -110,13 +107,10 @@ pub returns-in_err-entry-clause-text : goal.returns-in_err-entry-clause-text
 returns-in_err-entry-clause-text g c =
     let p = err_from_is_err_and c.from_residual-in_err-entry.result c.from_residual-in_err-entry.ensures.1 in
     let at = (goal.at.returns-in_err-entry-clause-text g c).After-get-goal in
-    let e = c.in_err-entry.ensures in
     let plan = c.args.plan.now in
     let i = c.loop-index.index in
-    let line = base_line (i + 1) c.get-goal.result.0 in
-    let cut = is_cut g.S.Sink line c.loop-index.sink c.entry.new.sink e.err e.fault e.faults_never_fall (λ fits. let no = e.ok_with_room fits in cc) e.same_lent e.passed_never_falls in
     let stopped = base_cut plan (c.one_text.ensures (texts_in plan)) c.args.bases.now.list i (base_of g at) (stands g at).within (stands g at).is
-    c.loop-index.keeper c.args.sink.now c.loop-index.sink c.args.manifest.now.counts c.loop-index.manifest.counts c.loop-index.invariant.so_far c.entry.new.sink cut in
+    c.loop-index.keeper c.args.sink.now c.loop-index.sink c.args.manifest.now.counts c.loop-index.manifest.counts c.loop-index.invariant.so_far c.entry.new.sink c.in_err-entry.ensures.lines in
     rw (p.1, p.2) (bases_text_stop plan c.args.bases.now c.args.sink.now c.entry.new.sink Failed stopped)
 
 pub new-search-requires-clause-short : goal.new-search-requires-clause-short

@@ -4,8 +4,6 @@ use Rattle.cs_io.specs.Lines.{IsWritten}
 use Rattle.std.proofs.lemmas.Result.{err_from_is_err_and}
 use Rattle.cs_manifest.specs.Output.Putting.{shown}
 use Rattle.cs_manifest.specs.declared.manifest.counts.Counts.{Counts}
-use Rattle.cs_manifest.specs.Manifest.Counts.{end_of}
-use Rattle.cs_manifest.specs.Manifest.Head.{head_of}
 use Rattle.cs_manifest.specs.Manifest.Manifest.{most_bases, weighed_by}
 use Rattle.cs_manifest.specs.Writer.Progress.{Progress}
 use Rattle.cs_writing.specs.Plan.Plans.{IsOfPlan, IsPlanned, choice_in, lexemes_in}
@@ -13,7 +11,6 @@ use Rattle.cs_writing.specs.declared.plan.plan.Plan.{Plan}
 use Rattle.cs_verdicts.specs.Positive.Positives.{ToJudge}
 use Rattle.cs_writing.specs.Writing.Writing.{CountsOfAll}
 use Rattle.cs_writing.specs.Writing.Written.{IsFresh}
-use Rattle.cs_io.proofs.Called.{is_cut, is_written}
 use Rattle.cs_writing.proofs.OnWriting.Kept.{editable_bases, few_bases}
 use Rattle.cs_writing.proofs.OnWriting.Parts.{HasBases, HasEntries, has_bases, has_entries, some_bases, some_entries}
 use Rattle.cs_writing.proofs.OnWriting.Texts.{bases_stop, counts_are, end_cut, entries_stop, fresh_behind, head_counted, head_cut, head_in, head_written, no_cases_are, weighed_so, whole_text}
@@ -32,9 +29,7 @@ first g c =
     let weighs = weighed_as plan c.args.positives c.requires.grammar in
     let h = c.head.result in
     let is = c.head.ensures in
-    let e = c.in_ok-manifest.ensures in
-    head_written plan c.args.positives.tables c.one_text.ensures c.requires.plan weighs h is.file is.lexemes is.sharing c.args.sink.now c.begin.new.sink
-    (is_written g.S.Sink (head_of h) c.args.sink.now c.begin.new.sink e.ok e.no_fault e.room e.same_lent e.passed_never_falls)
+    head_written plan c.args.positives.tables c.one_text.ensures c.requires.plan weighs h is.file is.lexemes is.sharing c.args.sink.now c.begin.new.sink c.in_ok-manifest.ensures.lines
 
 -- nothing else was counted
 fresh : (g : Over) (c : In_ok-manifest g) → IsFresh c.args.plan.now c.in_ok-manifest.manifest.counts
@@ -66,15 +61,13 @@ mutants g c =
 pub returns-in_err-manifest-clause-text : goal.returns-in_err-manifest-clause-text
 returns-in_err-manifest-clause-text g c =
     let p = err_from_is_err_and c.from_residual.result c.from_residual.ensures.1 in
-    let e = c.in_err-manifest.ensures in
     let plan = c.args.plan.now in
     let of = c.args.positives.tables in
     let one = c.one_text.ensures in
     let weighs = weighed_as plan c.args.positives c.requires.grammar in
     let h = c.head.result in
     let is = c.head.ensures in
-    let cut = is_cut g.S.Sink (head_of h) c.args.sink.now c.begin.new.sink e.err e.fault e.faults_never_fall (λ fits. let no = e.ok_with_room fits in cc) e.same_lent e.passed_never_falls in
-    rw (p.1, p.2) (head_cut plan of one c.requires.plan weighs h is.file is.lexemes is.sharing c.args.sink.now c.begin.new.sink cut)
+    rw (p.1, p.2) (head_cut plan of one c.requires.plan weighs h is.file is.lexemes is.sharing c.args.sink.now c.begin.new.sink c.in_err-manifest.ensures.lines)
 
 pub returns-in_err-bases-clause-text : goal.returns-in_err-bases-clause-text
 returns-in_err-bases-clause-text g c =
@@ -117,27 +110,23 @@ returns-in_err-write_bases-clause-text g c =
 pub returns-in_err-finish-clause-text : goal.returns-in_err-finish-clause-text
 returns-in_err-finish-clause-text g c =
     let p = err_from_is_err_and c.from_residual-in_err-finish.result c.from_residual-in_err-finish.ensures.1 in
-    let f = c.in_err-finish.ensures in
     let at = goal.at.returns-in_err-finish-clause-text g c in
     let plan = c.args.plan.now in
     let of = c.args.positives.tables in
     let one = c.one_text.ensures in
     let weighs = weighed_as plan c.args.positives c.requires.grammar in
-    let cut = is_cut g.S.Sink (end_of c.write_bases.new.manifest.counts) c.write_bases.new.sink c.finish.new.sink f.err f.fault f.faults_never_fall (λ fits. let no = f.ok_with_room fits in cc) f.same_lent f.passed_never_falls in
     rw (p.1, p.2) (end_cut plan of one c.requires.plan weighs c.in_ok-manifest.manifest.counts c.write_goals.new.manifest.counts c.write_bases.new.manifest.counts c.begin.new.sink c.write_goals.new.sink c.write_bases.new.sink
-    c.in_ok-bases.bases (fresh g at.In_ok-manifest) (bytes g at.In_ok-manifest) (goals_of g at.In_ok-bases) (mutants g at.In_ok-write_bases) c.args.sink.now c.finish.new.sink (first g at.In_ok-manifest) cut)
+    c.in_ok-bases.bases (fresh g at.In_ok-manifest) (bytes g at.In_ok-manifest) (goals_of g at.In_ok-bases) (mutants g at.In_ok-write_bases) c.args.sink.now c.finish.new.sink (first g at.In_ok-manifest) c.in_err-finish.ensures.lines)
 
 pub returns-clause-text : goal.returns-clause-text
 returns-clause-text g c =
-    let f = c.in_ok-finish.ensures in
     let at = goal.at.returns-clause-text g c in
     let plan = c.args.plan.now in
     let of = c.args.positives.tables in
     let one = c.one_text.ensures in
     let weighs = weighed_as plan c.args.positives c.requires.grammar in
-    let end = is_written g.S.Sink (end_of c.write_bases.new.manifest.counts) c.write_bases.new.sink c.finish.new.sink f.ok f.no_fault f.room f.same_lent f.passed_never_falls in
     whole_text plan of one c.requires.plan weighs c.in_ok-manifest.manifest.counts c.write_goals.new.manifest.counts c.write_bases.new.manifest.counts c.begin.new.sink c.write_goals.new.sink c.write_bases.new.sink
-    c.in_ok-bases.bases (fresh g at.In_ok-manifest) (bytes g at.In_ok-manifest) (goals_of g at.In_ok-bases) (mutants g at.In_ok-write_bases) c.args.sink.now c.finish.new.sink (first g at.In_ok-manifest) end
+    c.in_ok-bases.bases (fresh g at.In_ok-manifest) (bytes g at.In_ok-manifest) (goals_of g at.In_ok-bases) (mutants g at.In_ok-write_bases) c.args.sink.now c.finish.new.sink (first g at.In_ok-manifest) c.in_ok-finish.ensures.lines
 
 pub returns-clause-counts : goal.returns-clause-counts
 returns-clause-counts g c =

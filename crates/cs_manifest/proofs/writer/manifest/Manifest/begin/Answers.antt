@@ -1,10 +1,17 @@
--- Nothing waited before the head, so where a write failed the sink grew by a prefix of the head's lines.
-use Rattle.std.proofs.Common.{arith}
+-- Nothing waited before the head, so its lines are what the sink took, or where a write failed a prefix of them.
+use Rattle.std.proofs.Common.{rules, arith}
 use Rattle.std.proofs.lemmas.Grind.{common_steps}
-use Rattle.cs_manifest.proofs.OnOutput.Pieces.{failed_part}
+use Rattle.std.proofs.lemmas.Result.{err_from_is_err_and}
+use Rattle.cs_manifest.proofs.OnOutput.Lines.{cut_at, lines_cut, lines_written, written_at}
 use Rattle.cs_manifest.proofs.writer.manifest.Manifest.begin.Goals as goal
 
-pub returns-in_err-bytes-clause-err : goal.returns-in_err-bytes-clause-err
-returns-in_err-bytes-clause-err g c =
-    let part = failed_part c.new-output.ensures.fine c.new-output.ensures.waiting c.put_head.ensures c.end.ensures.puts c.in_err-bytes.ensures.err in
-    grind (arith, common_steps, part)
+pub returns-in_err-bytes-clause-lines : goal.returns-in_err-bytes-clause-lines
+returns-in_err-bytes-clause-lines g c =
+    let p = err_from_is_err_and c.from_residual.result c.from_residual.ensures.1 in
+    let cut = lines_cut c.new-output.ensures.fine c.new-output.ensures.waiting c.put_head.ensures c.end.ensures.puts c.in_err-bytes.ensures.err in
+    rw p.1 (cut_at _ _ _ _ c.new-output.ensures.sink (first_of (search rules, grind (arith, common_steps))) cut)
+
+pub returns-clause-lines : goal.returns-clause-lines
+returns-clause-lines g c =
+    let written = lines_written c.new-output.ensures.fine c.new-output.ensures.waiting c.put_head.ensures c.end.ensures.puts c.end.ensures.waiting c.in_ok-bytes.ensures.ok in
+    written_at _ _ _ _ c.new-output.ensures.sink (first_of (search rules, grind (arith, common_steps))) written

@@ -32,8 +32,7 @@ returns-in-Some g c =
     let fills : IsFilled making n row.lines name lexeme = subst (λ (r : Row). IsFilled making n r.lines name lexeme) (ap (λ (o : Option Row). unwrap_or o row) there) has.fills in
     let same : record { making = making; negative = Some n } ≡ c.args.self.now = ap (λ (o : Option Filling). record { making = making; negative = negative_in o m.rendering }) (sym c.in-Some.is) ∙ c.self.view_is in
     writes_made g.S.Sink making n number old new before after c.args.self.now c.entry.result same
-    (writes_lines g.S.Sink making n number old new before after fills.told (filled row.lines number name lexeme) fills.of (fills.lines number) c.entry.result
-    e.value e.unchanged e.ok e.err e.fault e.faults_never_fall e.ok_with_room e.no_fault e.room e.same_lent e.passed_never_falls)
+    (writes_lines g.S.Sink making n number old new before after fills.told (filled row.lines number name lexeme) fills.of (fills.lines number) c.entry.result e.value e.unchanged e.lines)
 
 pub returns-in-None : goal.returns-in-None
 returns-in-None g c =
@@ -57,5 +56,4 @@ returns-in-None g c =
     let file = c.requires.file ∙ ap (λ (k : Mutant). k.making.tools.file) (sym c.self.view_is) in
     let value = subst (λ (p : Progress). OnOk result (new ≡ p)) (entry_behind making n number entry old is) e.value in
     writes_made g.S.Sink making n number old new before after c.args.self.now result same
-    (writes_lines g.S.Sink making n number old new before after is.told (lines_in old entry) is.of (entry_lines making n number entry old is file) result
-    value e.unchanged e.ok e.err e.fault e.faults_never_fall e.ok_with_room e.no_fault e.room e.same_lent e.passed_never_falls)
+    (writes_lines g.S.Sink making n number old new before after is.told (lines_in old entry) is.of (entry_lines making n number entry old is file) result value e.unchanged e.lines)
