@@ -16,6 +16,7 @@ use Rattle.cs_yacc.specs.Reading.File.{File}
 use Rattle.cs_manifest.specs.Output.Names.{AreNamedTokens}
 use Rattle.cs_manifest.specs.Output.Words.{line, numbered_from, numbered_word}
 use Rattle.cs_manifest.specs.Manifest.Lines.{is_feasible, is_infeasible, is_large}
+use Rattle.cs_manifest.specs.Manifest.ByWork.{texts_of}
 use Rattle.cs_manifest.specs.Manifest.Manifest.{IsTextOf, Texts, measure_of}
 use Rattle.cs_manifest.specs.Manifest.Named.{AreNamedRenderings}
 use Rattle.cs_chain.specs.declared.chains.chain.Chain.{Chain}
@@ -35,10 +36,6 @@ use Rattle.cs_chain_text.specs.Rows.{AreFrameLines, Told, row_entries, told_by}
 use Rattle.cs_chain_text.specs.Text.{ChainEntry, IsChainsText, IsEntryOf, as_goal, entry_lines, many_with}
 
 -- ---- what is told of a chain
-
--- what texts are made by
-abbrev pub texts_of : RenderWork → Texts
-texts_of work = record { scanning = scanning work.scanner.now; separator = work.separator.now }
 
 -- these, and the lexemes, where texts are rendered
 abbrev pub texts_by : Option (Bor RenderWork) → Option Texts

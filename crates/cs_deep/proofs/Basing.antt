@@ -6,7 +6,7 @@ use Rattle.std.proofs.lemmas.List.Elements.{filter-append}
 use Rattle.cs_deep.proofs.Counting.{counted_none, counted_then, many_outside}
 use Rattle.cs_deep.proofs.OneDeep.{one_deep_base}
 use Rattle.cs_deep.proofs.Zips.{zip_first}
-use Rattle.cs_writing.proofs.OnWriting.Ones.{zip_both, zip_length, zip_split}
+use Rattle.cs_manifest.proofs.OnManifest.Zips.{length_zip, zip_both, zip_split}
 use Rattle.cs_deep.specs.Deep.{DeepBase, EditEntry, IsDeepBaseOf, all_edits, deep_base_lines, edit_lines, outside}
 use Rattle.cs_deep.specs.Progress.{AreDeepBases, CountsBases, CountsEdits, IsBasesText, IsEditsText, choice_of}
 use Rattle.cs_deep.specs.Tally.{IsCounted, no_edits}
@@ -18,11 +18,11 @@ use Rattle.cs_io.specs.Stops.{HasSomeText, HasText, IsStopped}
 use Rattle.cs_io.specs.declared.halt.Halt.{Halt}
 use Rattle.cs_io.specs.declared.halt.Halt.TheVariants.{Failed}
 use Rattle.cs_io.specs.declared.sink.Sink as Sink
+use Rattle.cs_manifest.specs.Manifest.ByWork.{texts_of}
 use Rattle.cs_manifest.proofs.OnManifest.OneManifest.{one_zip}
 use Rattle.cs_manifest.proofs.OnOutput.Written.{written_none, written_then}
 use Rattle.cs_manifest.specs.Manifest.Lines.{base_line}
 use Rattle.cs_manifest.specs.Manifest.Manifest.{HasOneText, Texts}
-use Rattle.cs_writing.specs.Plan.Plans.{texts_of}
 use Rattle.cs_yacc.specs.Reading.File.{File}
 
 -- the lines of two lists of bases, one behind the other
@@ -81,7 +81,7 @@ module _ {S : Type 0} (g : Sink.Ghosts S) (d : Deep) (one : (texts : Option Text
     many = far.counted.deep ∙ ap (λ (n : ℕ). 0 + n) (sym (many_outside (all_edits far.bases)))
 
     numbered : 0 + length far.bases ≡ i
-    numbered = omega (arith, at, zip_length Of far.done far.bases far.are)
+    numbered = omega (arith, at, length_zip Of far.done far.bases far.are)
 
     -- the lines of the base and of what follows it
     behind : DeepBase → List DeepBase → List ℕ
@@ -97,11 +97,11 @@ module _ {S : Type 0} (g : Sink.Ghosts S) (d : Deep) (one : (texts : Option Text
     next_of : (text : List ℕ) → IsBasesText d list text → HasNext text
     next_of text is =
         let parts = zip_split Of far.done (base ∷ rest) is.bases (subst (λ (l : List (ℕ × List ℕ)). AreDeepBases d l is.bases) split is.are) in
-        let same : parts.0 ≡ far.bases = same_bases far.done parts.0 far.bases parts.3 far.are in
-        let first = zip_first Of base rest parts.1 parts.4 in
+        let same : parts.front ≡ far.bases = same_bases far.done parts.front far.bases parts.first far.are in
+        let first = zip_first Of base rest parts.behind parts.second in
         let next = first.next in
         let whole : is.bases ≡ far.bases ++ next ∷ first.rest =
-        parts.2 ∙ ap (λ (l : List DeepBase). l ++ parts.1) same ∙ ap (λ (l : List DeepBase). far.bases ++ l) first.whole in
+        parts.whole ∙ ap (λ (l : List DeepBase). l ++ parts.behind) same ∙ ap (λ (l : List DeepBase). far.bases ++ l) first.whole in
         let front = deep_base_lines d.yacc.now 0 0 far.bases in
         let k = 0 + length (outside (all_edits far.bases)) in
         let n = 0 + length far.bases in

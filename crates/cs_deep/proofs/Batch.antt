@@ -5,7 +5,7 @@ use Rattle.std.specs.List.{AllZip}
 use Rattle.std.proofs.lemmas.List.Elements.{All-cons, All-head, All-nil, All-tail}
 use Rattle.cs_deep.proofs.Counting.{within_counted}
 use Rattle.cs_deep.proofs.Zips.{zip_of}
-use Rattle.cs_writing.proofs.OnWriting.Ones.{zip_length}
+use Rattle.cs_manifest.proofs.OnManifest.Zips.{length_zip}
 use Rattle.cs_deep.specs.Candidates.{IsCandidate, edits_in}
 use Rattle.cs_deep.specs.Classes.{is_outside}
 use Rattle.cs_deep.specs.Deep.{EditEntry, IsEditOf}
@@ -19,6 +19,7 @@ use Rattle.cs_deep.specs.declared.tally.Tally.{Tally}
 use Rattle.cs_deep.specs.declared.writing.Deep.{Deep}
 use Rattle.cs_grammar.specs.Grammar.{IsNumberOf, PlainGrammar}
 use Rattle.cs_io.specs.Faults.{greatest}
+use Rattle.cs_manifest.specs.Manifest.ByWork.{texts_of}
 use Rattle.cs_manifest.specs.Manifest.Manifest.{Texts}
 use Rattle.cs_manifest.specs.Manifest.Named.{IsNamedEdit}
 use Rattle.cs_manifest.specs.Output.Names.{AreNamedTokens, IsNamedToken}
@@ -32,7 +33,6 @@ use Rattle.std.proofs.lemmas.List.{length-map}
 use Rattle.cs_mutate.specs.declared.edit.Edit.{Edit}
 use Rattle.cs_mutate.specs.declared.edit.Edit.TheVariants.{Delete, Insert, Replace, Swap}
 use Rattle.cs_manifest.proofs.OnManifest.Rendered.{named_if}
-use Rattle.cs_writing.specs.Plan.Plans.{texts_of}
 use Rattle.cs_yacc.specs.Reading.File.{File, IsFile}
 
 -- what holds of each, of another kind
@@ -94,7 +94,7 @@ can_count d base before tally done more rest entries judged few split are also c
     let total : before.edits + length (edits_by d base) ≤ greatest = few.few in
     record {
       within = within_counted entries before tally few.within counted;
-      few = omega (arith, counted.edits, all, total, length-append done (more ++ rest), length-append more rest, zip_length R done entries are, zip_length R more judged also);
+      few = omega (arith, counted.edits, all, total, length-append done (more ++ rest), length-append more rest, length_zip R done entries are, length_zip R more judged also);
     }
 
 -- what was judged of candidates are the entries of their edits

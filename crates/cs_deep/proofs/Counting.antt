@@ -14,7 +14,7 @@ use Rattle.cs_deep.specs.declared.tally.Tally.{Tally}
 use Rattle.cs_manifest.specs.Output.Words.{numbered_from}
 use Rattle.cs_mutate.specs.declared.edit.Edit.{Edit}
 use Rattle.cs_texts.specs.Rendering.Rendering.{Rendering}
-use Rattle.cs_writing.proofs.OnWriting.Ones.{numbered_both}
+use Rattle.cs_manifest.proofs.OnOutput.Numbered.{numbered_both}
 use Rattle.cs_yacc.specs.Reading.File.{File}
 
 pub counted_none : (t : Tally) → IsCounted [] t t

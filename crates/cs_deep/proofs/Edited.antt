@@ -3,7 +3,7 @@ use Rattle.std.proofs.Common.{◌≡◌, ℕ, ◌+◌, List, [], ◌++◌, appen
 use Rattle.std.proofs.lemmas.List.{append-nil}
 use Rattle.cs_deep.proofs.Counting.{counted_none, counted_then, lines_both, many_outside}
 use Rattle.cs_deep.proofs.OneDeep.{one_edit}
-use Rattle.cs_writing.proofs.OnWriting.Ones.{zip_both, zip_split}
+use Rattle.cs_manifest.proofs.OnManifest.Zips.{zip_both, zip_split}
 use Rattle.cs_deep.specs.Deep.{EditEntry, IsEditOf, edit_lines, outside}
 use Rattle.cs_deep.specs.Progress.{AreEditsBy, CountsEdits, IsEditsText, edits_by}
 use Rattle.cs_deep.specs.Tally.{IsCounted}
@@ -14,11 +14,11 @@ use Rattle.cs_io.specs.Lines.{IsCutShort, IsWritten}
 use Rattle.cs_io.specs.Stops.{HasSomeText, HasText, IsStopped}
 use Rattle.cs_io.specs.declared.halt.Halt.TheVariants.{Failed, Memory}
 use Rattle.cs_io.specs.declared.sink.Sink as Sink
+use Rattle.cs_manifest.specs.Manifest.ByWork.{texts_of}
 use Rattle.cs_manifest.proofs.OnManifest.OneManifest.{one_zip}
 use Rattle.cs_manifest.proofs.OnOutput.Written.{written_none, written_then}
 use Rattle.cs_manifest.specs.Manifest.Manifest.{HasOneText, Texts}
 use Rattle.cs_mutate.specs.declared.edit.Edit.{Edit}
-use Rattle.cs_writing.specs.Plan.Plans.{texts_of}
 
 -- ---- edits of a base
 
@@ -56,12 +56,12 @@ module _ {S : Type 0} (g : Sink.Ghosts S) (d : Deep) (one : (texts : Option Text
   rest_of left now tally far text is =
       let R = IsEditOf d.yacc.now.grammar (Some (texts_of d.means.work.now)) (Some d.means.work.now.lexemes.now) base in
       let parts = zip_split R far.done left is.entries (subst (λ (l : List Edit). AreEditsBy d base l is.entries) far.split is.are) in
-      let same : parts.0 ≡ far.entries = same_entries far.done parts.0 far.entries parts.3 far.are in
-      let whole : is.entries ≡ far.entries ++ parts.1 = parts.2 ∙ ap (λ (l : List EditEntry). l ++ parts.1) same in
+      let same : parts.front ≡ far.entries = same_entries far.done parts.front far.entries parts.first far.are in
+      let whole : is.entries ≡ far.entries ++ parts.behind = parts.whole ∙ ap (λ (l : List EditEntry). l ++ parts.behind) same in
       record {
-        others = parts.1;
-        are = parts.4;
-        whole = is.lines ∙ ap (λ (l : List EditEntry). edit_lines d.yacc.now number before.deep l) whole ∙ lines_both d.yacc.now number before.deep far.entries parts.1;
+        others = parts.behind;
+        are = parts.second;
+        whole = is.lines ∙ ap (λ (l : List EditEntry). edit_lines d.yacc.now number before.deep l) whole ∙ lines_both d.yacc.now number before.deep far.entries parts.behind;
       }
 
   -- memory ran out behind them
@@ -95,12 +95,12 @@ module _ {S : Type 0} (g : Sink.Ghosts S) (d : Deep) (one : (texts : Option Text
       let many : tally.deep ≡ before.deep + length (outside far.entries) = far.counted.deep ∙ ap (λ (n : ℕ). before.deep + n) (sym (many_outside far.entries)) in
       let cut_behind = subst (λ (n : ℕ). IsCutShort g (edit_lines d.yacc.now number n judged) mid now) many cut in
       let parts = zip_split R more rest follows.others (subst (λ (l : List Edit). AreEditsBy d base l follows.others) split follows.are) in
-      let same : parts.0 ≡ judged = same_entries more parts.0 judged parts.3 are in
-      let others : follows.others ≡ judged ++ parts.1 = parts.2 ∙ ap (λ (l : List EditEntry). l ++ parts.1) same in
+      let same : parts.front ≡ judged = same_entries more parts.front judged parts.first are in
+      let others : follows.others ≡ judged ++ parts.behind = parts.whole ∙ ap (λ (l : List EditEntry). l ++ parts.behind) same in
       let at = before.deep + length (outside far.entries) in
       let stopped = subst (λ (l : List ℕ). IsStopped g l mid now Failed)
-      (sym (ap (λ (l : List EditEntry). edit_lines d.yacc.now number at l) others ∙ lines_both d.yacc.now number at judged parts.1))
-      (stopped_longer (edit_lines d.yacc.now number (at + length (outside judged)) parts.1) (stopped_by_cut cut_behind)) in
+      (sym (ap (λ (l : List EditEntry). edit_lines d.yacc.now number at l) others ∙ lines_both d.yacc.now number at judged parts.behind))
+      (stopped_longer (edit_lines d.yacc.now number (at + length (outside judged)) parts.behind) (stopped_by_cut cut_behind)) in
       subst (λ (l : List ℕ). IsStopped g l old now Failed) (sym follows.whole) (stopped_behind far.written stopped)
 
   -- all were written and counted

@@ -11,6 +11,7 @@ use Rattle.cs_deep.specs.declared.class.EditClass.TheVariants.{Outside}
 use Rattle.cs_deep.specs.declared.judging.DeepWork.{DeepWork}
 use Rattle.cs_grammar.specs.Grammar.{IsNumberOf}
 use Rattle.cs_grammar.specs.Sentence.{framed}
+use Rattle.cs_manifest.specs.Manifest.ByWork.{texts_of}
 use Rattle.cs_manifest.specs.Manifest.Manifest.{IsRenderedIf}
 use Rattle.cs_mutate.proofs.Patches.{length-patched}
 use Rattle.cs_mutate.proofs.Searching.{edited_tokens}
@@ -20,7 +21,6 @@ use Rattle.cs_mutate.specs.declared.edit.Edit.{Edit}
 use Rattle.cs_mutate.specs.declared.edit.Edit.TheVariants.{Delete, Insert, Replace, Swap}
 use Rattle.cs_texts.specs.Rendering.Rendering.{AreTokens, Rendering}
 use Rattle.cs_texts.specs.Rendering.ByWork.{IsRenderedBy}
-use Rattle.cs_writing.specs.Plan.Plans.{texts_of}
 
 -- the length of an edited list
 pub length_is : (w : List ℕ) (e : Edit) (n : ℕ) → IsPlaced (length w) e → HasLength (length w) e n → length (edited w e) ≡ n

@@ -2,7 +2,7 @@
 use Rattle.std.proofs.Common.{◌≡◌, ◌↔◌, Bool, ℕ, ◌+◌, ◌≤◌, List, [], ◌∷◌, ◌++◌, append_assoc, length, length-append, refl, sym, ap, ◌∙◌, subst, arith, None}
 use Rattle.std.specs.Prelude.{IsTrue}
 use Rattle.std.proofs.lemmas.List.{append-nil}
-use Rattle.cs_writing.proofs.OnWriting.Ones.{zip_both, zip_length}
+use Rattle.cs_manifest.proofs.OnManifest.Zips.{length_zip, zip_both}
 use Rattle.cs_deep.specs.Bases.{GivesBases, KeepsPositive, entry_with}
 use Rattle.cs_goals.specs.declared.goal.Goal.{Goal}
 use Rattle.cs_grammar.specs.Grammar.{PlainGrammar}
@@ -58,7 +58,7 @@ module _ (most : ℕ) (all old : ToJudge) (number : ℕ) (kept : PlainBases) (fa
   pub few_next : (p : Positive) (new : ToJudge) → IsNext old p new → number + 1 ≤ length all.goals
   few_next p new next =
       let whole = ap (λ (l : List Goal). length l) (far.split ∙ ap (λ (l : List Goal). far.done ++ l) next.goals) in
-      omega (arith, far.number_is, zip_length (IsEntryOf all.tables None None) far.done far.entries far.are, whole, length-append far.done (p.goal ∷ new.goals))
+      omega (arith, far.number_is, length_zip (IsEntryOf all.tables None None) far.done far.entries far.are, whole, length-append far.done (p.goal ∷ new.goals))
 
 pub kept_all : (most : ℕ) (all : ToJudge) (left : List Goal) (number : ℕ) (kept : PlainBases) → KeptSoFar most all left number kept → left ≡ [] → GivesBases most all kept
 kept_all most all left number kept far none =

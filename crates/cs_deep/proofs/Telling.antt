@@ -3,7 +3,7 @@ use Rattle.std.proofs.Common.{◌≡◌, ◌≤◌, ℕ, List, ◌++◌, codes, 
 use Rattle.std.specs.List.{AllZip}
 use Rattle.std.specs.Prelude.{All, count_by}
 use Rattle.cs_deep.proofs.OneDeep.{one_deep_base}
-use Rattle.cs_writing.proofs.OnWriting.Ones.{zip_length}
+use Rattle.cs_manifest.proofs.OnManifest.Zips.{length_zip}
 use Rattle.cs_deep.specs.Bases.{GivesBases}
 use Rattle.cs_deep.specs.Classes.{is_long, is_negative, is_outside, is_sentence}
 use Rattle.cs_deep.specs.Deep.{DeepBase, EditEntry, IsDeepBaseOf, all_edits, bases_by, deep_base_lines, deep_end, deep_text}
@@ -127,7 +127,7 @@ module _ (d : Deep) (ready : IsReady d) (one : (texts : Option Texts) → HasOne
         -- the end is that of any entries of the bases
         end_is : (bases : List DeepBase) → AreDeepBases d list bases → end_with (length list) tally ≡ deep_end (length bases) (all_edits bases)
         end_is bases of =
-            let many : length bases ≡ length list = zip_length _ list bases of in
+            let many : length bases ≡ length list = length_zip _ list bases of in
             end_same (length list) tally (all_edits bases) (counts bases of) ∙ ap (λ (n : ℕ). deep_end n (all_edits bases)) (sym many)
 
         pub end_cut : (now : S) → IsCutShort g (end_with (length list) tally) begun now → HasSomeText g (IsDeepOf d) old now Failed

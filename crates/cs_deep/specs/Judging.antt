@@ -8,7 +8,7 @@ use Rattle.cs_deep.specs.declared.judging.DeepWork.{DeepWork}
 use Rattle.cs_grammar.specs.Grammar.{IsNumberOf}
 use Rattle.cs_mutate.specs.declared.edit.Edit.{Edit}
 use Rattle.cs_mutate.specs.declared.edit.Edit.TheVariants.{Delete, Insert, Replace, Swap}
-use Rattle.cs_writing.specs.Plan.Plans.{texts_of}
+use Rattle.cs_manifest.specs.Manifest.ByWork.{texts_of}
 
 -- the candidate can be judged: the base is a list of the grammar's tokens, all of which have their place among the lexemes
 pub record CanJudge (work : DeepWork) (c : Candidate) : Type 0 where

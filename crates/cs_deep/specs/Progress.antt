@@ -11,11 +11,12 @@ use Rattle.cs_io.specs.Faults.{greatest}
 use Rattle.cs_io.specs.Stops.{PutsOne}
 use Rattle.cs_io.specs.declared.halt.Halt.{Halt}
 use Rattle.cs_io.specs.declared.sink.Sink as Sink
+use Rattle.cs_manifest.specs.Manifest.ByWork.{texts_of}
 use Rattle.cs_manifest.specs.Manifest.Manifest.{Choice, has_operator}
 use Rattle.cs_mutate.specs.Edits.{edits}
 use Rattle.cs_mutate.specs.declared.edit.Edit.{Edit}
 use Rattle.cs_verdicts.specs.Positive.Positives.{positives_of}
-use Rattle.cs_writing.specs.Plan.Plans.{IsOfPlan, IsPlan, choice_in, texts_of}
+use Rattle.cs_writing.specs.Plan.Plans.{IsOfPlan, IsPlan, choice_in}
 use Rattle.cs_writing.specs.declared.plan.plan.Means.{Means}
 use Rattle.cs_writing.specs.declared.plan.plan.Plan.{Plan}
 use Rattle.cs_writing.specs.declared.plan.plan.PlanForm.TheVariants.{Suite}

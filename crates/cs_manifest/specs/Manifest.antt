@@ -4,3 +4,4 @@ pub mod SharedLines
 pub mod Head
 pub mod Counts
 pub mod Manifest
+pub mod ByWork

@@ -5,8 +5,9 @@
 //!
 //! Meaning, in `specs/Manifest/`, from the top down: `Manifest` (the manifest of a file by a choice; closed sets are those of
 //! `cs_verdicts::closed`), `Head` and `Counts` (which lines stand for a head and for the end), `SharedLines` and `Lines` (the lines
-//! that the second format has of its own, and those of the first and of both, in their order), `Named` (what has names). The words
-//! of lines and the names of symbols are those of `cs_manifest::output`.
+//! that the second format has of its own, and those of the first and of both, in their order), `Named` (what has names), `ByWork`
+//! (what texts are made by, of the work that renders them). The words of lines and the names of symbols are those of
+//! `cs_manifest::output`.
 
 mod counts;
 mod head;

@@ -5,7 +5,8 @@ use Rattle.cs_spell.specs.Chosen.{AreRuleVerdicts, RuleVerdict}
 use Rattle.cs_spell.specs.Lines.{spell_text}
 use Rattle.cs_spell.specs.Spelling.{AreTold, making_with}
 use Rattle.cs_spell.specs.Told.{Told}
-use Rattle.cs_spell.specs.Writing.{AreJudgedFor, IsAsked, IsReady, texts_of}
+use Rattle.cs_manifest.specs.Manifest.ByWork.{texts_of}
+use Rattle.cs_spell.specs.Writing.{AreJudgedFor, IsAsked, IsReady}
 use Rattle.cs_spell.specs.declared.writing.Spelled.{Spelled}
 
 module _ (s : Spelled) (ready : IsReady s) (judged : List RuleVerdict) (are : AreJudgedFor s judged) where

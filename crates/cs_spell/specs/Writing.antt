@@ -2,7 +2,8 @@
 use Rattle.std.specs.Prelude.{◌≡◌, ◌≤◌, ℕ, List, Some, length}
 use Rattle.cs_choices.specs.declared.weigh.Weigh.{Weigh}
 use Rattle.cs_grammar.specs.Weights.{Measure, Weighed, weighed}
-use Rattle.cs_manifest.specs.Manifest.Manifest.{Texts, measure_of}
+use Rattle.cs_manifest.specs.Manifest.ByWork.{texts_of}
+use Rattle.cs_manifest.specs.Manifest.Manifest.{measure_of}
 use Rattle.cs_scanner.specs.Lexeme.Lexeme.{AreLexemes}
 use Rattle.cs_scanner.specs.Scan.Compared.{scanning}
 use Rattle.cs_spell.specs.Chosen.{AreRuleVerdicts, RuleVerdict}
@@ -10,10 +11,6 @@ use Rattle.cs_spell.specs.Spelling.{IsSpelling}
 use Rattle.cs_spell.specs.declared.writing.Spelled.{Spelled}
 use Rattle.cs_texts.specs.declared.rendering.render_work.RenderWork.{RenderWork}
 use Rattle.cs_yacc.specs.Reading.File.{File}
-
--- what texts are made by
-abbrev pub texts_of : RenderWork → Texts
-texts_of work = record { scanning = scanning work.scanner.now; separator = work.separator.now }
 
 -- the lexemes are those of the file's tokens
 abbrev pub HaveLexemes : File → RenderWork → Type 0

@@ -9,6 +9,7 @@ use Rattle.cs_grammar.specs.Grammar.{IsNumberOf, PlainGrammar}
 use Rattle.cs_grammar.specs.Sentence.{framed}
 use Rattle.cs_grammar.specs.Weights.{Weighed}
 use Rattle.cs_grammar.specs.declared.symbol.Mark.TheVariants as marks
+use Rattle.cs_manifest.specs.Manifest.ByWork.{texts_of}
 use Rattle.cs_manifest.proofs.OnManifest.Rendered.{named_if}
 use Rattle.cs_manifest.specs.Manifest.Manifest.{IsRenderedIf, Texts}
 use Rattle.cs_manifest.specs.Output.Names.{AreNamedTokens, IsNamedMark}
@@ -19,7 +20,7 @@ use Rattle.cs_wrong.specs.Entries.{IsNamedClass, IsNamedEntry}
 use Rattle.cs_wrong.specs.Found.{TellsList, tokens_in}
 use Rattle.cs_wrong.specs.Judging.{CanJudge, IsClassBy, IsClassIf, Judges}
 use Rattle.cs_wrong.specs.Lists.{IsListOf}
-use Rattle.cs_wrong.specs.Text.{IsEntryOf, SlipEntry, texts_of}
+use Rattle.cs_wrong.specs.Text.{IsEntryOf, SlipEntry}
 use Rattle.cs_wrong.specs.declared.class.SlipClass.{SlipClass}
 use Rattle.cs_wrong.specs.declared.class.SlipClass.TheVariants as classes
 use Rattle.cs_wrong.specs.declared.coming.Candidate.{Candidate}

@@ -1,6 +1,7 @@
 -- Slips that are judged. Working words of proofs.
 use Rattle.std.specs.Prelude.{◌≡◌, ℕ, ◌≤◌, Bool, List, Option, Some, length, option_map, true, false}
 use Rattle.cs_grammar.specs.Grammar.{PlainGrammar}
+use Rattle.cs_manifest.specs.Manifest.ByWork.{texts_of}
 use Rattle.cs_manifest.specs.Manifest.Manifest.{IsRenderedIf}
 use Rattle.cs_texts.specs.Rendering.Rendering.{AreTokens, rendering}
 use Rattle.cs_texts.specs.declared.rendering.rendered.Rendered.{Rendered}
@@ -8,7 +9,7 @@ use Rattle.cs_texts.specs.declared.rendering.render_work.RenderWork.{RenderWork}
 use Rattle.cs_wrong.specs.Classes.{IsListClass, is_wrong}
 use Rattle.cs_wrong.specs.Coming.{TellsAt}
 use Rattle.cs_wrong.specs.Found.{AreTokensOf, tokens_in}
-use Rattle.cs_wrong.specs.Text.{SlipEntry, texts_of}
+use Rattle.cs_wrong.specs.Text.{SlipEntry}
 use Rattle.cs_wrong.specs.declared.class.SlipClass.{SlipClass}
 use Rattle.cs_wrong.specs.declared.class.SlipClass.TheVariants as classes
 use Rattle.cs_wrong.specs.declared.coming.Candidate.{Candidate}

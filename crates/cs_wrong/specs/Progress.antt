@@ -2,12 +2,13 @@
 use Rattle.std.specs.Prelude.{◌≡◌, ℕ, List, [], Option, Some}
 use Rattle.std.specs.List.{AllZip}
 use Rattle.cs_grammar.specs.Weights.{Weighed, Weighs, weighed}
+use Rattle.cs_manifest.specs.Manifest.ByWork.{texts_of}
 use Rattle.cs_manifest.specs.Manifest.Manifest.{Texts}
 use Rattle.cs_wrong.specs.Classes.{behind}
 use Rattle.cs_wrong.specs.Entries.{lines_from}
 use Rattle.cs_wrong.specs.Slips.{slips}
 use Rattle.cs_wrong.specs.Tally.{IsCounted, no_slips}
-use Rattle.cs_wrong.specs.Text.{HaveLexemes, IsEntryOf, IsWeighedBy, IsWrongOf, SlipEntry, texts_of}
+use Rattle.cs_wrong.specs.Text.{HaveLexemes, IsEntryOf, IsWeighedBy, IsWrongOf, SlipEntry}
 use Rattle.cs_wrong.specs.declared.slip.Slip.{Slip}
 use Rattle.cs_wrong.specs.declared.tally.Tally.{Tally}
 use Rattle.cs_wrong.specs.declared.writing.Making.{Making}

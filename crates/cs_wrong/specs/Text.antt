@@ -8,6 +8,7 @@ use Rattle.cs_grammar.specs.Sentence.{IsSentence}
 use Rattle.cs_grammar.specs.Weights.{Measure, Weighed, weighed}
 use Rattle.cs_io.specs.Asked.{IsNotWithout, IsOne}
 use Rattle.cs_manifest.specs.Manifest.Lines.{pair_words, text_lines, tokens_line}
+use Rattle.cs_manifest.specs.Manifest.ByWork.{texts_of}
 use Rattle.cs_manifest.specs.Manifest.Manifest.{AreLexemesBy, IsRenderedIf, Texts, measure_of}
 use Rattle.cs_manifest.specs.Output.Words.{line, numbered_word, with_numbers}
 use Rattle.cs_scanner.specs.Lexeme.Lexeme.{AreLexemes}
@@ -115,10 +116,6 @@ pub record IsWrongText (file : File) (texts : Option Texts) (weigh : Weigh) (cho
   pub lines : text ≡ wrong_text file entries
 
 -- ---- the text by what it is made by
-
--- what texts are made by
-abbrev pub texts_of : RenderWork → Texts
-texts_of work = record { scanning = scanning work.scanner.now; separator = work.separator.now }
 
 -- the lexemes are those of the file's tokens
 abbrev pub HaveLexemes : File → RenderWork → Type 0

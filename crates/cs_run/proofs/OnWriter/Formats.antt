@@ -4,9 +4,9 @@ use Rattle.std.specs.Borrow.{Bor}
 use Rattle.cs_grammar.specs.Weights.{Weighed}
 use Rattle.cs_choices.specs.declared.format.Format.{Format}
 use Rattle.cs_choices.specs.declared.format.Format.TheVariants.{One}
+use Rattle.cs_manifest.specs.Manifest.ByWork.{texts_of}
 use Rattle.cs_manifest.specs.Manifest.Manifest.{Choice}
 use Rattle.cs_writing.specs.declared.plan.plan.Means.{Means}
-use Rattle.cs_writing.specs.Plan.Plans.{texts_of}
 use Rattle.cs_texts.specs.declared.rendering.render_work.RenderWork.{RenderWork}
 use Rattle.cs_words.specs.declared.options.Options.{Options}
 use Rattle.cs_run.specs.Writer.Suite.{choice_with, means_by}

@@ -4,9 +4,9 @@ use Rattle.std.specs.Borrow.{Bor}
 use Rattle.cs_run.specs.Ending.Files.{choice_by, choice_of}
 use Rattle.cs_run.specs.declared.input.judging.Pair.{Pair}
 use Rattle.cs_grammar.specs.Weights.{Measure, Weighed}
+use Rattle.cs_manifest.specs.Manifest.ByWork.{texts_of}
 use Rattle.cs_manifest.specs.Manifest.Manifest.{Choice, IsManifest, measure_of, rules_form}
 use Rattle.cs_writing.specs.declared.plan.plan.Means.{Means}
-use Rattle.cs_writing.specs.Plan.Plans.{texts_of}
 use Rattle.cs_scanner.specs.Scan.Scan.{Scanning}
 use Rattle.cs_texts.specs.declared.rendering.render_work.RenderWork.{RenderWork}
 use Rattle.cs_words.specs.declared.options.Options.{Options}

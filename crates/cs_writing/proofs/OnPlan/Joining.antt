@@ -5,6 +5,7 @@ use Rattle.std.proofs.lemmas.List.{append_assoc}
 use Rattle.cs_grammar.specs.Weights.{Weighed}
 use Rattle.cs_goals.specs.declared.goal.Goal.{Goal}
 use Rattle.cs_verdicts.specs.Cases.Cases.{PlainCases}
+use Rattle.cs_manifest.specs.Manifest.ByWork.{texts_of}
 use Rattle.cs_manifest.specs.declared.manifest.verdict.SharedVerdict.{SharedVerdict}
 use Rattle.cs_manifest.specs.Manifest.Manifest.{IsRenderedIf as IsTextIf, IsSharedVerdict, is_new}
 use Rattle.cs_verdicts.specs.declared.positive.verdict.Verdict.{Verdict}
@@ -21,7 +22,7 @@ use Rattle.cs_writing.specs.declared.plan.plan.PlanForm.TheVariants.{Rules, Suit
 use Rattle.cs_writing.specs.Plan.Entries.{AreMade, AreNext, IsMadeIn, IsSharedIn}
 use Rattle.cs_writing.specs.Plan.Made.{AreOfOneKind, HasItsCase, IsThereIf, MadeEntry, is_asked, made_of}
 use Rattle.cs_writing.specs.Plan.Placing.{ArePlacedNext, AreRendered, IsPlacedGoal, IsRenderedIf, first_in, rest_of}
-use Rattle.cs_writing.specs.Plan.Plans.{format_by, means_in, texts_of}
+use Rattle.cs_writing.specs.Plan.Plans.{format_by, means_in}
 use Rattle.cs_writing.specs.Plan.Steps.{AllSteps}
 use Rattle.cs_writing.proofs.OnPlan.Steps.{first_step, no_step, steps_length, steps_push}
 

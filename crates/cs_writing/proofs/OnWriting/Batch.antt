@@ -1,19 +1,14 @@
 -- The entries of a batch, written one after another.
 use Rattle.std.proofs.Common.{◌≡◌, ℕ, ◌+◌, ◌<◌, List, [], ◌∷◌, ◌++◌, Some, length, get_or, map, take, drop, sym, ap, ◌∙◌, subst, arith, append-nil, length-take-le, take-append-drop}
-use Rattle.std.specs.Prelude.{All, slice_get}
+use Rattle.std.specs.Prelude.{slice_get}
 use Rattle.std.proofs.lemmas.List.{map-append, take_more}
-use Rattle.std.proofs.lemmas.List.Elements.{All-get_or}
 use Rattle.std.proofs.lemmas.Option.{get_or_from_slice_get, slice_get_within}
 use Rattle.cs_io.specs.declared.sink.Sink as Sink
 use Rattle.cs_io.specs.Lines.{IsCutShort, IsWritten}
 use Rattle.cs_manifest.proofs.OnOutput.Written.{written_then, written_cut, cut_longer}
 use Rattle.cs_manifest.specs.Output.Words.{numbered_from}
 use Rattle.cs_yacc.specs.Reading.File.{File}
-use Rattle.cs_writing.proofs.OnWriting.Ones.{numbered_both}
-
--- what holds of each holds of the one at a place
-pub at_place : {A : Type 0} (P : A → Type 0) (batch : List A) (i : ℕ) (made : A) → i < length batch → made ≡ get_or batch i made → All P batch → P made
-at_place P batch i made within is all = subst P (sym is) (All-get_or P batch i made within all)
+use Rattle.cs_manifest.proofs.OnOutput.Numbered.{numbered_both}
 
 -- what is read at a place stands there
 pub record StandsAt {A : Type 0} (list : List A) (i : ℕ) (made : A) : Type 0 where

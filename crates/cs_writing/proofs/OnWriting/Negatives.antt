@@ -5,6 +5,7 @@ use Rattle.std.specs.List.{AllZip}
 use Rattle.cs_grammar.specs.Grammar.{PlainGrammar}
 use Rattle.cs_io.specs.declared.sink.Sink as Sink
 use Rattle.cs_io.specs.Lines.{IsCutShort, IsWritten}
+use Rattle.cs_manifest.specs.Manifest.ByWork.{texts_of}
 use Rattle.cs_manifest.specs.Output.Words.{numbered_from}
 use Rattle.cs_manifest.proofs.OnOutput.Written.{written_none, written_then, written_cut, cut_longer}
 use Rattle.cs_manifest.specs.declared.manifest.counts.Counts.{Counts}
@@ -13,7 +14,7 @@ use Rattle.cs_manifest.specs.Writer.Progress.{Progress}
 use Rattle.cs_manifest.proofs.OnManifest.Bases.{negatives_are}
 use Rattle.cs_manifest.proofs.OnManifest.OneManifest.{one_zip}
 use Rattle.cs_writing.specs.Mutants.Makers.{Making}
-use Rattle.cs_writing.specs.Mutants.Mutants.{IsOfNegative, made_lines, texts_of}
+use Rattle.cs_writing.specs.Mutants.Mutants.{IsOfNegative, made_lines}
 use Rattle.cs_mutate.specs.Edit.{Fits, edited}
 use Rattle.cs_mutate.specs.Negatives.{FitsBase, IsNegative, Search}
 use Rattle.cs_mutate.specs.Keeping.{AreKeptOf, Counters, FindsKept, FindsNextKept, IsNextKept, Tells, TellsFound}
@@ -26,7 +27,9 @@ use Rattle.cs_yacc.specs.Reading.File.{File}
 use Rattle.cs_io.specs.declared.halt.Halt.TheVariants.{Failed, Memory}
 use Rattle.cs_writing.specs.Writing.Mutants.{AreMade, IsCounted, negatives_from}
 use Rattle.cs_io.specs.Stops.{IsStopped}
-use Rattle.cs_writing.proofs.OnWriting.Ones.{numbered_both, zip_both, zip_front}
+use Rattle.cs_manifest.proofs.OnOutput.Numbered.{numbered_both}
+use Rattle.cs_manifest.proofs.OnManifest.Zips.{zip_both}
+use Rattle.cs_writing.proofs.OnWriting.Ones.{zip_front}
 use Rattle.cs_writing.proofs.OnWriting.Parts.{HasNegatives, HasSomeNegatives}
 use Rattle.cs_io.proofs.Stops.{stopped_by_memory, stopped_by_cut}
 use Rattle.cs_writing.proofs.OnWriting.Tallies.{counted_none, counted_then}

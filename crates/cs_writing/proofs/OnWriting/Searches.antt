@@ -4,6 +4,7 @@ use Rattle.std.specs.Prelude.{All, option_map}
 use Rattle.std.specs.List.{AllZip}
 use Rattle.std.specs.Option.{option_map_or}
 use Rattle.cs_grammar.specs.Grammar.{IsNumberOf, PlainGrammar}
+use Rattle.cs_manifest.specs.Manifest.ByWork.{texts_of}
 use Rattle.cs_manifest.specs.Manifest.Manifest.{AreNegativesOf, IsNegativeOf, NegativeEntry, Texts}
 use Rattle.cs_mutate.specs.Negatives.{Search, search_of}
 use Rattle.cs_texts.specs.declared.rendering.render_work.RenderWork.{RenderWork}
@@ -12,13 +13,13 @@ use Rattle.cs_writing.specs.declared.plan.plan.Plan.{Plan}
 use Rattle.cs_writing.specs.declared.plan.plan.PlanForm.{PlanForm}
 use Rattle.cs_writing.specs.declared.plan.plan.PlanForm.TheVariants.{Rules, Suite, Shared}
 use Rattle.cs_writing.specs.Mutants.Makers.{CanRender}
-use Rattle.cs_writing.specs.Plan.Plans.{AreMeansOf, IsFormOf, IsPlan, choice_in, first_by, lexemes_in, means_in, no_operator, texts_in, texts_of}
+use Rattle.cs_writing.specs.Plan.Plans.{AreMeansOf, IsFormOf, IsPlan, choice_in, first_by, lexemes_in, means_in, no_operator, texts_in}
 use Rattle.cs_yacc.specs.Reading.File.{File}
 use Rattle.cs_writing.specs.Writing.Mutants.{AreMade, IsEditable}
 use Rattle.cs_mutate.specs.declared.negative.Negative.{Negative}
 use Rattle.cs_mutate.proofs.KeptLists.{few_kept_of}
 use Rattle.cs_writing.proofs.OnWriting.Edits.{few_edits}
-use Rattle.cs_writing.proofs.OnWriting.Ones.{zip_length}
+use Rattle.cs_manifest.proofs.OnManifest.Zips.{length_zip}
 
 -- the means of a form are of its file
 means_of : (file : File) (form : PlanForm) → IsFormOf file form → (means : Means) → means_in form ≡ Some means → AreMeansOf file means
@@ -95,7 +96,7 @@ module _ (plan : Plan) (is_plan : IsPlan plan) (means : Means) (is : means_in pl
         omega (
           arith,
           few_searched editable,
-          zip_length (IsNegativeOf (Some (texts_of work)) (Some work.lexemes.now) search.base) made.kept entries made.each,
+          length_zip (IsNegativeOf (Some (texts_of work)) (Some work.lexemes.now) search.base) made.kept entries made.each,
           few_kept_of search.grammar search.base means.mutation.first before search.edits made.kept made.all,
         )
 

@@ -29,7 +29,8 @@ use Rattle.cs_io.specs.Stops.{IsStopped}
 use Rattle.cs_writing.proofs.OnWriting.Counted.{goals_none, goals_then, within_more}
 use Rattle.cs_writing.proofs.OnWriting.Few.{few_goals}
 use Rattle.cs_writing.proofs.OnWriting.Kept.{kept_more}
-use Rattle.cs_writing.proofs.OnWriting.Ones.{nothing_in, zip_both, zip_front, zip_length}
+use Rattle.cs_manifest.proofs.OnManifest.Zips.{length_zip, zip_both}
+use Rattle.cs_writing.proofs.OnWriting.Ones.{nothing_in, zip_front}
 use Rattle.cs_writing.proofs.OnWriting.Parts.{HasEntries, HasSomeEntries}
 use Rattle.cs_io.proofs.Stops.{stopped_by_memory, stopped_by_cut}
 use Rattle.cs_writing.proofs.OnWriting.Told.{lines_both, lines_none, one_goals, one_in, one_list, told_front}
@@ -68,7 +69,7 @@ pub record IsBatch (plan : Plan) (number : ℕ) (left : ToJudge) (cases : PlainC
 -- where something came, fewer are left
 pub fewer_left : {plan : Plan} {old new : ToJudge} {made : List GoalEntry} → ComeNext plan old made new → 0 < length made → length new.goals < length old.goals
 fewer_left {plan} {old} {new} {made} next some =
-    omega (arith, some, zip_length (IsEntryIn plan old.tables) next.goals made next.each, ap length next.split, length-append next.goals new.goals)
+    omega (arith, some, length_zip (IsEntryIn plan old.tables) next.goals made next.each, ap length next.split, length-append next.goals new.goals)
 
 module _ (plan : Plan) (of : Weighed) where
   first_more : (old new : ToJudge) (entries made : List GoalEntry) → old.tables ≡ of → ComeNext plan old made new → FirstEntries plan of old.goals entries → FirstEntries plan of new.goals (entries ++ made)
@@ -88,7 +89,7 @@ module _ (plan : Plan) (of : Weighed) where
   first_few left entries is first =
       let all = few_goals of.grammar is plan.criteria in
       let whole : length (goals of.grammar plan.criteria) ≡ length (first.done ++ left) = ap length first.whole in
-      omega (arith, all, whole, length-append first.done left, zip_length (IsEntryIn plan of) first.done entries first.each)
+      omega (arith, all, whole, length-append first.done left, length_zip (IsEntryIn plan of) first.done entries first.each)
 
   -- whichever the entries of all goals are, their lines begin with the lines of these
   first_lines : (one : (texts : Option Texts) → HasOneText texts) (left : List Goal) (entries others : List GoalEntry) (cases other : PlainCases) (lines whole : List ℕ) → FirstEntries plan of left entries

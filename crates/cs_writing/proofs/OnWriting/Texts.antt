@@ -9,6 +9,7 @@ use Rattle.cs_verdicts.specs.Cases.Cases.{PlainCases, no_cases}
 use Rattle.cs_verdicts.specs.Closed.Closed.{ClosedSets}
 use Rattle.cs_verdicts.proofs.OnClosed.OneClosed.{one_closed}
 use Rattle.cs_io.specs.declared.sink.Sink as Sink
+use Rattle.cs_manifest.specs.Manifest.ByWork.{texts_of}
 use Rattle.cs_manifest.specs.Output.Putting.{shown}
 use Rattle.cs_io.specs.Lines.{IsCutShort, IsWritten}
 use Rattle.cs_manifest.proofs.OnOutput.Written.{written_then, written_cut, cut_longer}
@@ -25,7 +26,7 @@ use Rattle.cs_yacc.specs.Reading.File.{File}
 use Rattle.cs_writing.specs.declared.plan.plan.Plan.{Plan}
 use Rattle.cs_writing.specs.declared.plan.plan.PlanForm.{PlanForm}
 use Rattle.cs_writing.specs.declared.plan.plan.PlanForm.TheVariants.{Rules, Suite, Shared}
-use Rattle.cs_writing.specs.Plan.Plans.{IsFormOf, IsPlan, IsPlanned, choice_in, format_by, lexemes_in, means_in, measure_in, sharing_by, sharing_in, texts_in, texts_of}
+use Rattle.cs_writing.specs.Plan.Plans.{IsFormOf, IsPlan, IsPlanned, choice_in, format_by, lexemes_in, means_in, measure_in, sharing_by, sharing_in, texts_in}
 use Rattle.cs_io.specs.declared.halt.Halt.{Halt}
 use Rattle.cs_io.specs.declared.halt.Halt.TheVariants.{Failed}
 use Rattle.cs_writing.specs.Writing.Mutants.{negatives_in}

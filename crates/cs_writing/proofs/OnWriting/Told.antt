@@ -13,7 +13,7 @@ use Rattle.cs_writing.specs.declared.plan.plan.Plan.{Plan}
 use Rattle.cs_writing.specs.Plan.Plans.{IsEntryIn, choice_in, format_by, lexemes_in, texts_in}
 use Rattle.cs_writing.specs.Writing.Written.{AreEntriesIn, AreGoals, AreLinesOf, lines_from, shared_lines_from}
 use Rattle.cs_writing.proofs.OnWriting.Cases.{as_many, shared_append, shared_split}
-use Rattle.cs_writing.proofs.OnWriting.Ones.{numbered_both}
+use Rattle.cs_manifest.proofs.OnOutput.Numbered.{numbered_both}
 
 module _ (plan : Plan) where
   -- lines of entries and of more

@@ -5,11 +5,11 @@ use Rattle.cs_io.specs.declared.sink.Sink as Sink
 use Rattle.cs_io.specs.declared.sink.SinkError.{SinkError}
 use Rattle.cs_io.specs.Lines.{Writes}
 use Rattle.cs_manifest.specs.Manifest.Counts.{with_lines}
-use Rattle.cs_manifest.specs.Manifest.Manifest.{IsNegativeOf, NegativeEntry, Texts, negative_entry_lines}
+use Rattle.cs_manifest.specs.Manifest.ByWork.{texts_of}
+use Rattle.cs_manifest.specs.Manifest.Manifest.{IsNegativeOf, NegativeEntry, negative_entry_lines}
 use Rattle.cs_manifest.specs.Writer.Progress.{Progress}
 use Rattle.cs_mutate.specs.declared.negative.Negative.{Negative}
 use Rattle.cs_texts.specs.declared.rendering.render_work.RenderWork.{RenderWork}
-use Rattle.cs_scanner.specs.Scan.Compared.{scanning}
 use Rattle.cs_writing.specs.Mutants.Makers.{Making}
 
 -- what makes a base's negatives, and the one that is made, if one is
@@ -20,10 +20,6 @@ pub record Mutant : Type 0 where
 -- none is made
 abbrev pub starts : Making → Mutant
 starts making = record { making = making; negative = None }
-
--- what texts are made by
-abbrev pub texts_of : RenderWork → Texts
-texts_of work = record { scanning = scanning work.scanner.now; separator = work.separator.now }
 
 -- what the manifest is to say of this negative of a base: the negative, and what comes of the rendering of its edited list
 abbrev pub IsOfNegative : RenderWork → List ℕ → Negative → NegativeEntry → Type 0

@@ -10,6 +10,7 @@ use Rattle.cs_choices.specs.declared.format.Format.TheVariants.{One, Two}
 use Rattle.cs_choices.specs.declared.weigh.Weigh.{Weigh}
 use Rattle.cs_choices.specs.declared.weigh.Weigh.TheVariants.{Nodes}
 use Rattle.cs_manifest.specs.Manifest.Head.{Sharing}
+use Rattle.cs_manifest.specs.Manifest.ByWork.{texts_of}
 use Rattle.cs_manifest.specs.Manifest.Manifest.{Choice, GoalEntry, IsEntryOf, IsManifest, Texts, goal_texts, measure_of}
 use Rattle.cs_choices.specs.declared.operators.Operators.{Operators}
 use Rattle.cs_verdicts.specs.Positive.Positives.{ToJudge}
@@ -20,10 +21,6 @@ use Rattle.cs_writing.specs.declared.plan.plan.Means.{Means}
 use Rattle.cs_writing.specs.declared.plan.plan.Plan.{Plan}
 use Rattle.cs_writing.specs.declared.plan.plan.PlanForm.{PlanForm}
 use Rattle.cs_writing.specs.declared.plan.plan.PlanForm.TheVariants.{Rules, Suite, Shared}
-
--- what texts are made by
-abbrev pub texts_of : RenderWork → Texts
-texts_of work = record { scanning = scanning work.scanner.now; separator = work.separator.now }
 
 -- ---- by the form
 

@@ -5,7 +5,7 @@ use Rattle.cs_deep.specs.Deep.{EditEntry}
 use Rattle.cs_deep.specs.Lines.{IsNamedEntry}
 use Rattle.cs_deep.specs.Tally.{with_class}
 use Rattle.cs_manifest.proofs.OnOutput.Pieces.{nothing, spelled, then}
-use Rattle.cs_writing.proofs.OnWriting.Batch.{at_place}
+use Rattle.cs_manifest.proofs.OnOutput.Numbered.{at_place}
 use Rattle.cs_deep.proofs.lines.put_edits.Goals as goal
 
 pub loop-judged-init : goal.loop-judged-init

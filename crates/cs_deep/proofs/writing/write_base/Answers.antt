@@ -20,7 +20,7 @@ use Rattle.cs_io.specs.Lines.{IsCutShort, IsWritten}
 use Rattle.cs_mutate.specs.Negatives.{Search}
 use Rattle.cs_mutate.specs.declared.edit.Edit.{Edit}
 use Rattle.cs_writing.proofs.OnWriting.Ones.{nothing_in}
-use Rattle.cs_writing.specs.Plan.Plans.{texts_of}
+use Rattle.cs_manifest.specs.Manifest.ByWork.{texts_of}
 use Rattle.cs_deep.proofs.writing.write_base.Given.{Over}
 use Rattle.cs_deep.proofs.writing.write_base.Goals as goal
 use Rattle.cs_deep.proofs.writing.write_base.Goals.{In_ok-batch, In_ok-judged, Then-is_empty}

@@ -9,8 +9,9 @@ use Rattle.cs_deep.specs.Deep.{IsEditOf}
 use Rattle.cs_deep.specs.Lines.{IsWithin}
 use Rattle.cs_deep.specs.declared.tally.Tally.{Tally}
 use Rattle.cs_grammar.proofs.Measures.{All-at}
-use Rattle.cs_writing.specs.Plan.Plans.{texts_of}
-use Rattle.cs_writing.proofs.OnWriting.Ones.{nothing_in, zip_length}
+use Rattle.cs_manifest.specs.Manifest.ByWork.{texts_of}
+use Rattle.cs_manifest.proofs.OnManifest.Zips.{length_zip}
+use Rattle.cs_writing.proofs.OnWriting.Ones.{nothing_in}
 use Rattle.cs_deep.specs.Progress.{edits_by}
 use Rattle.cs_deep.proofs.writing.write_bases.Given.{Over}
 use Rattle.cs_deep.proofs.writing.write_bases.Goals as goal
@@ -98,7 +99,7 @@ loop-index-preserved g c =
     let few = few_of g at in
     record {
       within = within_counted is.entries c.loop-index.tally c.write_base.new.tally c.loop-index.invariant.within counted;
-      few = omega (arith, counted.edits, few, zip_length R (edits_by d (base_of g at).1) is.entries is.are, c.loop-index.invariant.few);
+      few = omega (arith, counted.edits, few, length_zip R (edits_by d (base_of g at).1) is.entries is.are, c.loop-index.invariant.few);
       so_far = base_more g.S.Sink d c.one_text.ensures list c.args.sink.now (base_of g at) (drop (i + 1) list) (drop i list) (next_is g at) c.loop-index.sink c.loop-index.tally
           c.loop-index.invariant.so_far i (done_is g at) c.write_opening.new.sink c.write_base.new.sink c.write_base.new.tally c.in_ok-write_opening.ensures more.text more.counted;
     }

@@ -5,12 +5,12 @@ use Rattle.cs_io.proofs.Stops.{stopped_by_cut, stopped_by_memory}
 use Rattle.cs_io.specs.Lines.{IsCutShort, IsWritten}
 use Rattle.cs_io.specs.Stops.{IsStopped}
 use Rattle.cs_io.specs.declared.halt.Halt.TheVariants.{Failed}
+use Rattle.cs_manifest.specs.Manifest.ByWork.{texts_of}
 use Rattle.cs_manifest.proofs.OnOutput.Written.{written_none}
 use Rattle.cs_spell.specs.Lines.{spell_text}
 use Rattle.cs_spell.specs.Putting.{AreNamed, told_lines_of}
 use Rattle.cs_spell.specs.Seen.{all_told}
 use Rattle.cs_spell.specs.Spelling.{making_with}
-use Rattle.cs_spell.specs.Writing.{texts_of}
 use Rattle.cs_spell.specs.declared.told.Told.{Told}
 use Rattle.cs_spell.proofs.Naming.{named_all}
 use Rattle.cs_spell.proofs.OnWriting.{asked_of}

@@ -1,5 +1,5 @@
 -- The file and what texts are made by have one text of spellings, and aren't without one.
-use Rattle.cs_spell.specs.Writing.{texts_of}
+use Rattle.cs_manifest.specs.Manifest.ByWork.{texts_of}
 use Rattle.cs_spell.proofs.writing.write_spell.Goals as goal
 
 pub write_text-requires-clause-one : goal.write_text-requires-clause-one

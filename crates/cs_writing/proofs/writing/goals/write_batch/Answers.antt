@@ -7,7 +7,8 @@ use Rattle.cs_manifest.proofs.OnOutput.Written.{written_none}
 use Rattle.cs_writing.specs.Plan.Made.{IsNamedMade, MadeEntry, entries_of, entry_of, made_lines, new_cases}
 use Rattle.cs_yacc.specs.Reading.File.{File}
 use Rattle.cs_writing.specs.Writing.Written.{AreCounted, made_lines_from}
-use Rattle.cs_writing.proofs.OnWriting.Batch.{at_place, cut_within, lines_are, written_more}
+use Rattle.cs_manifest.proofs.OnOutput.Numbered.{at_place}
+use Rattle.cs_writing.proofs.OnWriting.Batch.{cut_within, lines_are, written_more}
 use Rattle.cs_writing.proofs.OnWriting.Cases.{behind_at, old_case_lines}
 use Rattle.cs_writing.proofs.OnWriting.Counted.{goals_none}
 use Rattle.cs_writing.proofs.OnWriting.Counting.{entry_counted}

@@ -5,12 +5,13 @@ use Rattle.std.proofs.lemmas.Result.{err_from_is_err_and}
 use Rattle.cs_grammar.specs.Grammar.{IsNumberOf, PlainGrammar}
 use Rattle.cs_io.specs.Faults.{greatest}
 use Rattle.cs_io.specs.Lines.{IsCutShort, IsWritten}
+use Rattle.cs_manifest.specs.Manifest.ByWork.{texts_of}
 use Rattle.cs_manifest.specs.Manifest.Manifest.{negative_entry_lines}
 use Rattle.cs_manifest.specs.Manifest.Named.{IsNamedNegative}
 use Rattle.cs_manifest.specs.Writer.Progress.{Progress}
 use Rattle.cs_manifest.specs.declared.manifest.counts.Counts.{Counts}
 use Rattle.cs_writing.specs.Mutants.Makers.{Making}
-use Rattle.cs_writing.specs.Mutants.Mutants.{behind_negative, texts_of}
+use Rattle.cs_writing.specs.Mutants.Mutants.{behind_negative}
 use Rattle.cs_writing.proofs.OnMutants.Naming.{named_negative}
 use Rattle.cs_writing.proofs.OnMutants.Taking.{takes_edited}
 use Rattle.cs_mutate.specs.Edit.{Fits, IsPlaced, edited}
