@@ -38,8 +38,7 @@ pub use manifest::{
 };
 pub use output::{
     LINE_LENGTH, Numeral, Output, Piece, put_count, put_names, put_quoted, put_spaced_mark,
-    put_spaced_token, put_symbol, put_text_bytes, put_token_name, put_yield, spelled_piece,
-    write_line,
+    put_spaced_token, put_symbol, put_text_bytes, put_token_name, put_yield, write_line,
 };
 pub use writer::{
     Entry, FilledNegative, Manifest, NumberedNegative, put_derivation, put_edit, put_file,

@@ -21,12 +21,12 @@ mod speller;
 mod words;
 
 pub use line::write_line;
+pub(crate) use names::{put_nonterminal, put_spaced_name};
 pub use names::{
-    put_nonterminal, put_quoted, put_spaced_mark, put_spaced_name, put_spaced_token, put_symbol,
-    put_text_bytes, put_token_name,
+    put_quoted, put_spaced_mark, put_spaced_token, put_symbol, put_text_bytes, put_token_name,
 };
 pub use numeral::Numeral;
 pub use output::{LINE_LENGTH, Output};
 pub use piece::Piece;
-pub use speller::{SpelledBytes, Speller, spelled_piece};
+pub(crate) use speller::{Speller, spelled_piece};
 pub use words::{put_count, put_names, put_yield};

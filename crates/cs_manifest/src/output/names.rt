@@ -21,7 +21,11 @@ fn put_token<S: Sink>(output: &mut Output<'_, S>, file: &YaccFile, token: u16)
 }
 
 /// A nonterminal's name.
-pub fn put_nonterminal<S: Sink>(output: &mut Output<'_, S>, file: &YaccFile, nonterminal: u16)
+pub(crate) fn put_nonterminal<S: Sink>(
+    output: &mut Output<'_, S>,
+    file: &YaccFile,
+    nonterminal: u16,
+)
     requires { IsNumberOf (length file.now.nonterminal_names) nonterminal }
     ensures { Puts S.Sink (names.nonterminal_of file.now nonterminal) output.old output.new }
 {
@@ -61,7 +65,7 @@ pub fn put_spaced_mark<S: Sink>(output: &mut Output<'_, S>, file: &YaccFile, mar
 }
 
 /// A token's name behind a space, by the name.
-pub fn put_spaced_name<S: Sink>(output: &mut Output<'_, S>, name: &TokenName)
+pub(crate) fn put_spaced_name<S: Sink>(output: &mut Output<'_, S>, name: &TokenName)
     ensures { Puts S.Sink (space ∷ names.token_text name.now) output.old output.new }
 {
     match name {

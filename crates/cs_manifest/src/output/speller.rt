@@ -10,9 +10,9 @@ use std::alloc::{AllocError, Global};
 
 /// A sink that keeps its bytes. Want of memory is its fault.
 #[derive(Drop)]
-pub struct SpelledBytes {
-    pub bytes: Vec<u8>,
-    pub faults: u64,
+pub(crate) struct SpelledBytes {
+    pub(crate) bytes: Vec<u8>,
+    pub(crate) faults: u64,
 }
 
 impl Sink for SpelledBytes {
@@ -35,7 +35,7 @@ impl Sink for SpelledBytes {
 
 /// Where one piece after another is spelled.
 #[derive(Drop)]
-pub struct Speller {
+pub(crate) struct Speller {
     sink: SpelledBytes,
 
     // Lent to the output of each piece.
@@ -44,7 +44,7 @@ pub struct Speller {
 
 impl Speller {
     /// It takes no memory.
-    pub fn new(alloc: Global) -> Speller {
+    pub(crate) fn new(alloc: Global) -> Speller {
         Speller {
             sink: SpelledBytes {
                 bytes: Vec::new(alloc),
@@ -55,7 +55,7 @@ impl Speller {
     }
 
     /// An output for one piece.
-    pub fn output(&mut self) -> Output<'_, SpelledBytes>
+    pub(crate) fn output(&mut self) -> Output<'_, SpelledBytes>
         ensures { IsBlank result }
     {
         self.sink.bytes.clear();
@@ -64,7 +64,7 @@ impl Speller {
 }
 
 /// The piece that was put to its output.
-pub fn spelled_piece(
+pub(crate) fn spelled_piece(
     alloc: Global,
     output: &mut Output<'_, SpelledBytes>,
 ) -> Result<Piece, AllocError>
