@@ -5,12 +5,18 @@ use crate::workers::two_flags::TwoFlags;
 use cs_io::MemorySink;
 use cs_run::run;
 use cs_sample_files::{desk, suite_words};
-use cs_samples::{LETTER_SCANNER, SCANNER, SUMS, SUMS_SUITE_ONE};
+use cs_samples::{LETTER_SCANNER, SCANNER, SUMS, SUMS_SUITE_ONE, words};
 use std::alloc::{AllocError, Global};
 use std::test::Fail;
 use std::thread::Threads;
 
 const CHOICE: &[u8] = b"%%\na : a | 'x' ;\n";
+
+// The symbol a stands six times on right sides, each time for four rules: it has 6 * 6 * 4 chains.
+const REPEATED: &[u8] = b"%%\na : a a a | a a | a | 'x' ;\n";
+
+// Each of these has a tree.
+const CHAINS_END: &[u8] = b"\nend goals 144 feasible 144 infeasible 0 large 0\n";
 
 // The suite of `CHOICE` by rules alone.
 const CHOICE_RULES: &[u8] = b"conform 1 suite
@@ -94,5 +100,19 @@ fn four_goals_meet(rt: HostRuntime) -> Result<(), Fail> {
     let mut err = MemorySink::new(alloc, 99, 99, Vec::new(alloc))?;
     let status = run(&rt, alloc, &words, &mut desk, &mut out, &mut err, &gate);
     assert!(rt; status == 0 && gate.have_met() && out.written() == whole);
+    Ok(())
+}
+
+// The chains are one batch, which workers share.
+#[test]
+fn two_chains_meet(rt: HostRuntime) -> Result<(), Fail> {
+    let alloc = rt.alloc();
+    let gate = Meeting::of(2);
+    let words = words(alloc, &["chains", "y", "l"])?;
+    let mut desk = desk(alloc, Some(REPEATED), Some(LETTER_SCANNER))?;
+    let mut out = MemorySink::new(alloc, 20_000, 20_000, Vec::new(alloc))?;
+    let mut err = MemorySink::new(alloc, 99, 99, Vec::new(alloc))?;
+    let status = run(&rt, alloc, &words, &mut desk, &mut out, &mut err, &gate);
+    assert!(rt; status == 0 && gate.have_met() && out.written().ends_with(CHAINS_END));
     Ok(())
 }
